@@ -1,0 +1,5 @@
+pub use Rattle.mcs_sets.specs.Sets
+pub use Rattle.mcs_sets.specs.Orders
+pub mod StateOrder
+pub mod Listings
+pub mod Words

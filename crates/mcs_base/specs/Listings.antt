@@ -1,0 +1,17 @@
+-- What a listing is: exactly the values for which something holds, each once, in an order.
+use Rattle.std.specs.Prelude.{◌≡◌, List, [], ◌∷◌, ◌⊎◌, ◌↔◌}
+use Rattle.std.specs.List.{AllByRecursion}
+
+-- strictly ascending: each comes before all later ones
+abbrev pub IsAscending : {A : Type 0} → (A → A → Type 0) → List A → Type 0
+IsAscending before [] = Unit {0}
+IsAscending before (x ∷ xs) = AllByRecursion (before x) xs × IsAscending before xs
+
+abbrev pub IsAmong : {A : Type 0} → A → List A → Type 0
+IsAmong x [] = ⊥
+IsAmong x (y ∷ ys) = (x ≡ y) ⊎ IsAmong x ys
+
+-- the list has exactly the values for which P holds, each once, strictly ascending
+pub record IsListing {A : Type 0} (P : A → Type 0) (before : A → A → Type 0) (xs : List A) : Type 0 where
+  pub exactly : (x : A) → IsAmong x xs ↔ P x
+  pub ascending : IsAscending before xs

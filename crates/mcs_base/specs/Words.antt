@@ -1,0 +1,37 @@
+-- Words and names, as a system text spells them.
+use Rattle.std.specs.Prelude.{ℕ, Bool, true, false, not, nat_le, nat_lt, nat_eq, ◌&&◌, ◌||◌, List, [], ◌∷◌, length, codes}
+use Rattle.std.specs.List.{list_any, list_all}
+use Rattle.std.specs.Str.{bytes_eq}
+
+abbrev pub is_between : ℕ → ℕ → ℕ → Bool
+is_between low high b = nat_le low b && nat_le b high
+
+-- a to z, A to Z, or _
+abbrev pub is_letter : ℕ → Bool
+is_letter b = is_between 97 122 b || (is_between 65 90 b || nat_eq b 95)
+
+-- a letter or a digit
+abbrev pub is_word_byte : ℕ → Bool
+is_word_byte b = is_letter b || is_between 48 57 b
+
+-- a letter, and letters and digits after it
+abbrev pub is_word : List ℕ → Bool
+is_word [] = false
+is_word (b ∷ bs) = is_letter b && list_all is_word_byte bs
+
+-- the words that are no names
+unfoldable pub reserved_words : List (List ℕ)
+reserved_words =
+    codes "context" ∷ codes "bridge" ∷ codes "classical" ∷ codes "default" ∷ codes "program" ∷ codes "not" ∷ codes "if" ∷ codes "true" ∷ codes "false"
+    ∷ codes "version" ∷ codes "keep" ∷ codes "closed" ∷ codes "weight" ∷ codes "autoepistemic" ∷ codes "know" ∷ []
+
+abbrev pub is_reserved : List ℕ → Bool
+is_reserved word = list_any (bytes_eq word) reserved_words
+
+-- the most bytes of a name
+abbrev pub most_name_bytes : ℕ
+most_name_bytes = 64
+
+-- a word that is not reserved and is not too long
+abbrev pub is_name : List ℕ → Bool
+is_name bytes = is_word bytes && (not (is_reserved bytes) && nat_le (length bytes) most_name_bytes)

@@ -1,0 +1,132 @@
+//! A set of numbers of bridge rules, each below 64.
+
+ghost use Rattle.std.specs.Prelude.{◌≡◌, ℕ, ◌^◌, ◌<◌, ◌↔◌, IsTrue, IfSome, IfNone};
+ghost use Rattle.mcs_sets.specs.Sets.{has, size, single, union, common, minus, Within, Meets, IsLeast};
+
+use mcs_sets::SmallSet;
+use std::marker::Model;
+
+/// A set of numbers of bridge rules, each below 64.
+#[derive(Clone, Copy, PartialEq, Eq)]
+pub struct Active {
+    set: SmallSet,
+}
+
+impl Model for Active {
+    ghost use Rattle.std.specs.Prelude.{ℕ, ◌<◌, ◌^◌};
+
+    ghost Value = { ℕ };
+
+    ghost view = { λ s. s.set };
+
+    ghost invariant = { λ s. s.set < 2 ^ 64 };
+
+    ghost inverse = { λ n. record { set = n } };
+}
+
+impl Active {
+    /// The empty set.
+    pub fn empty() -> Self
+        ensures { result ≡ 0 }
+    {
+        Active {
+            set: SmallSet::empty(),
+        }
+    }
+
+    /// The set of this one number, which is below 64.
+    pub fn one(n: u32) -> Self
+        requires { n < 64 }
+        ensures { result ≡ single n }
+    {
+        Active {
+            set: SmallSet::one(n),
+        }
+    }
+
+    /// Whether the number, which is below 64, is in the set.
+    pub fn has(self, n: u32) -> bool
+        requires { n < 64 }
+        ensures value { result ≡ has self n }
+        ensures in_range { self < 2 ^ 64 }
+    {
+        self.set.has(n)
+    }
+
+    /// The set and this number, which is below 64.
+    pub fn with(self, n: u32) -> Self
+        requires { n < 64 }
+        ensures { result ≡ union self (single n) }
+    {
+        Active {
+            set: self.set.with(n),
+        }
+    }
+
+    /// The set without this number, which is below 64.
+    pub fn without(self, n: u32) -> Self
+        requires { n < 64 }
+        ensures { result ≡ minus self (single n) }
+    {
+        Active {
+            set: self.set.without(n),
+        }
+    }
+
+    /// What is in one of the sets.
+    pub fn union(self, other: Self) -> Self
+        ensures { result ≡ union self other }
+    {
+        Active {
+            set: self.set.union(other.set),
+        }
+    }
+
+    /// What is in both sets.
+    pub fn common(self, other: Self) -> Self
+        ensures { result ≡ common self other }
+    {
+        Active {
+            set: self.set.common(other.set),
+        }
+    }
+
+    /// What is in this set and not in the other.
+    pub fn minus(self, other: Self) -> Self
+        ensures { result ≡ minus self other }
+    {
+        Active {
+            set: self.set.minus(other.set),
+        }
+    }
+
+    /// Whether some number is in both sets.
+    pub fn meets(self, other: Self) -> bool
+        ensures { IsTrue result ↔ Meets self other }
+    {
+        self.set.meets(other.set)
+    }
+
+    /// Whether each number of this set is in the other.
+    pub fn within(self, other: Self) -> bool
+        ensures { IsTrue result ↔ Within self other }
+    {
+        self.set.within(other.set)
+    }
+
+    /// How many numbers are in the set.
+    pub fn count(self) -> u32
+        ensures number { result ≡ size self }
+        ensures in_range { self < 2 ^ 64 }
+    {
+        self.set.count()
+    }
+
+    /// The least number of the set; `None` exactly for the empty set.
+    pub fn first(self) -> Option<u32>
+        ensures least { IfSome result (IsLeast self) }
+        ensures empty { IfNone result (self ≡ 0) }
+    {
+        self.set.first()
+    }
+}

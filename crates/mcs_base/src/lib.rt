@@ -1,0 +1,13 @@
+//! The ground of the evaluator: small sets of variables, rules and marks, the orders in which they are
+//! listed, and what a listing is.
+#![tactic(auto, using(mcs_sets::proofs::SetLemmas::sets_fit))]
+
+mod active;
+mod marks;
+mod memory;
+mod vars;
+
+pub use active::Active;
+pub use marks::{Marks, pair_before};
+pub use memory::Memory;
+pub use vars::{Vars, state_before};

@@ -1,0 +1,145 @@
+-- Consequence is decided, since only the atoms that occur matter.
+use Rattle.std.proofs.Common.{◌≡◌, Bool, true, false, not, ◌&&◌, ◌||◌, List, [], ◌∷◌, ◌++◌, map, filter, cond, refl, sym, ap, ◌∙◌, inl, inr, ◌⊎◌, arith, IsTrue, true≢false}
+use Rattle.std.proofs.lemmas.Bool.{and_parts}
+use Rattle.std.proofs.lemmas.Bool.Decides.{nat_tests}
+use Rattle.std.specs.List.{list_all}
+use Rattle.mcs_system.specs.Plain.{Name, Formula, Truth, Falsity, Atom, Not, And, Or, Implies, Iff}
+use Rattle.mcs_system.specs.Logic.{atoms, same_name, is_in, holds, holds_all, Entails}
+
+pub same_name-is : (x y : Name) → same_name x y ≡ true → x ≡ y
+same_name-is [] [] e = refl
+same_name-is [] (y ∷ ys) e = absurd (true≢false (sym e))
+same_name-is (x ∷ xs) [] e = absurd (true≢false (sym e))
+same_name-is (x ∷ xs) (y ∷ ys) e =
+    let first : x ≡ y = grind (arith, nat_tests) in
+    let rest : same_name xs ys ≡ true = grind (arith, nat_tests) in
+    ap (λ z. z ∷ xs) first ∙ ap (λ zs. y ∷ zs) (same_name-is xs ys rest)
+
+pub same_name-itself : (x : Name) → same_name x x ≡ true
+same_name-itself [] = refl
+same_name-itself (x ∷ xs) = let rest = same_name-itself xs in grind (arith, nat_tests)
+
+abbrev pub all_atoms : List Formula → List Name
+all_atoms [] = []
+all_atoms (f ∷ fs) = atoms f ++ all_atoms fs
+
+is_in-append : (n : Name) (xs ys : List Name) → is_in n (xs ++ ys) ≡ (is_in n xs || is_in n ys)
+is_in-append n [] ys = refl
+is_in-append n (x ∷ xs) ys = let rest = is_in-append n xs ys in grind (arith, nat_tests)
+
+-- two assignments agree on these names
+pub Agree : List Name → List Name → List Name → Type 0
+Agree names a b = (n : Name) → is_in n names ≡ true → is_in n a ≡ is_in n b
+
+agree_left : (xs ys a b : List Name) → Agree (xs ++ ys) a b → Agree xs a b
+unfolding Agree
+agree_left xs ys a b same n in_xs = same n (is_in-append n xs ys ∙ rw in_xs refl)
+
+agree_right : (xs ys a b : List Name) → Agree (xs ++ ys) a b → Agree ys a b
+unfolding Agree
+agree_right xs ys a b same n in_ys = same n (is_in-append n xs ys ∙ rw in_ys (or_true (is_in n xs)))
+  where
+    or_true : (v : Bool) → (v || true) ≡ true
+    or_true true = refl
+    or_true false = refl
+
+pub same_truth : (a b : List Name) (f : Formula) → Agree (atoms f) a b → holds a f ≡ holds b f
+unfolding Agree
+same_truth a b Truth same = refl
+same_truth a b Falsity same = refl
+same_truth a b (Atom n) same = same n (rw (same_name-itself n) refl)
+same_truth a b (Not f) same = ap not (same_truth a b f same)
+same_truth a b (And f g) same = rw (same_truth a b f (agree_left (atoms f) (atoms g) a b same), same_truth a b g (agree_right (atoms f) (atoms g) a b same)) refl
+same_truth a b (Or f g) same = rw (same_truth a b f (agree_left (atoms f) (atoms g) a b same), same_truth a b g (agree_right (atoms f) (atoms g) a b same)) refl
+same_truth a b (Implies f g) same = rw (same_truth a b f (agree_left (atoms f) (atoms g) a b same), same_truth a b g (agree_right (atoms f) (atoms g) a b same)) refl
+same_truth a b (Iff f g) same = rw (same_truth a b f (agree_left (atoms f) (atoms g) a b same), same_truth a b g (agree_right (atoms f) (atoms g) a b same)) refl
+
+pub same_truths : (a b : List Name) (fs : List Formula) → Agree (all_atoms fs) a b → holds_all a fs ≡ holds_all b fs
+same_truths a b [] same = refl
+same_truths a b (f ∷ fs) same = rw (same_truth a b f (agree_left (atoms f) (all_atoms fs) a b same), same_truths a b fs (agree_right (atoms f) (all_atoms fs) a b same)) refl
+
+is_in-filter : (a : List Name) (n : Name) (names : List Name) → is_in n (filter (λ x. is_in x a) names) ≡ (is_in n names && is_in n a)
+is_in-filter a n [] = refl
+is_in-filter a n (x ∷ xs) = at (is_in-filter a n xs) (is_in x a) refl (same_name n x) refl
+  where
+    kept : List Name
+    kept = filter (λ x. is_in x a) xs
+
+    and-false : (v : Bool) → (v && false) ≡ false
+    and-false true = refl
+    and-false false = refl
+
+    at : is_in n kept ≡ (is_in n xs && is_in n a) → (u : Bool) → is_in x a ≡ u → (v : Bool) → same_name n x ≡ v → is_in n (cond u (x ∷ kept) kept) ≡ ((same_name n x || is_in n xs) && is_in n a)
+    at rest true e true e' = let same : is_in n a ≡ true = ap (λ z. is_in z a) (same_name-is n x e') ∙ e in rw (e', same) refl
+    at rest true e false e' = rw e' rest
+    at rest false e true e' = let same : is_in n a ≡ false = ap (λ z. is_in z a) (same_name-is n x e') ∙ e in rw e' (rest ∙ rw same (and-false (is_in n xs)))
+    at rest false e false e' = rw e' rest
+
+-- an assignment, as far as these names go
+agree_filter : (a names : List Name) → Agree names a (filter (λ x. is_in x a) names)
+unfolding Agree
+agree_filter a names n known = sym (is_in-filter a n names ∙ rw known refl)
+
+abbrev sublists : List Name → List (List Name)
+sublists [] = [] ∷ []
+sublists (n ∷ ns) = sublists ns ++ map (λ xs. n ∷ xs) (sublists ns)
+
+-- a test that every sublist passes
+all_append : (p : List Name → Bool) (xs ys : List (List Name)) → list_all p (xs ++ ys) ≡ (list_all p xs && list_all p ys)
+all_append p [] ys = refl
+all_append p (x ∷ xs) ys = let rest = all_append p xs ys in grind (arith, nat_tests)
+
+all_map : (p : List Name → Bool) (h : List Name → List Name) (xs : List (List Name)) → list_all p (map h xs) ≡ list_all (λ x. p (h x)) xs
+all_map p h [] = refl
+all_map p h (x ∷ xs) = ap (λ v. p (h x) && v) (all_map p h xs)
+
+passes_filter : (q : Name → Bool) (names : List Name) (p : List Name → Bool) → list_all p (sublists names) ≡ true → p (filter q names) ≡ true
+passes_filter q [] p all = grind (arith, nat_tests)
+passes_filter q (n ∷ ns) p all = at (q n) (passes_filter q ns p both.0) (passes_filter q ns (λ xs. p (n ∷ xs)) (sym (all_map p (λ xs. n ∷ xs) (sublists ns)) ∙ both.1))
+  where
+    both : (list_all p (sublists ns) ≡ true) × (list_all p (map (λ xs. n ∷ xs) (sublists ns)) ≡ true)
+    both = and_parts _ _ (sym (all_append p (sublists ns) (map (λ xs. n ∷ xs) (sublists ns))) ∙ all)
+
+    at : (v : Bool) → p (filter q ns) ≡ true → p (n ∷ filter q ns) ≡ true → p (cond v (n ∷ filter q ns) (filter q ns)) ≡ true
+    at true without with = with
+    at false without with = without
+
+-- and one that some sublist fails
+some_fails : (p : List Name → Bool) (xs : List (List Name)) → list_all p xs ≡ false → (x : List Name) × (p x ≡ false)
+some_fails p [] e = absurd (true≢false e)
+some_fails p (x ∷ xs) e = at (p x) refl (some_fails p xs)
+  where
+    at : (v : Bool) → p x ≡ v → (list_all p xs ≡ false → (x : List Name) × (p x ≡ false)) → (x : List Name) × (p x ≡ false)
+    at true is rest = rest (grind (arith, nat_tests))
+    at false is rest = (x, is)
+
+-- whether p follows: yes, or an assignment that shows the contrary
+pub decide : (fs : List Formula) (p : Formula) → Entails fs p ⊎ ((a : List Name) × IsTrue (holds_all a fs) × (holds a p ≡ false))
+decide fs p = at (list_all test (sublists names)) refl
+  where
+    names : List Name
+    names = all_atoms fs ++ atoms p
+
+    test : List Name → Bool
+    test a = not (holds_all a fs) || holds a p
+
+    at : (v : Bool) → list_all test (sublists names) ≡ v → Entails fs p ⊎ ((a : List Name) × IsTrue (holds_all a fs) × (holds a p ≡ false))
+    at true all = inl (λ a h. follows a h)
+      where
+        follows : (a : List Name) → holds_all a fs ≡ true → holds a p ≡ true
+        follows a h =
+            let b : List Name = filter (λ x. is_in x a) names in
+            let agree : Agree names a b = agree_filter a names in
+            let passed : test b ≡ true = passes_filter (λ x. is_in x a) names test all in
+            let e1 : holds_all a fs ≡ holds_all b fs = same_truths a b fs (agree_left (all_atoms fs) (atoms p) a b agree) in
+            let e2 : holds a p ≡ holds b p = same_truth a b p (agree_right (all_atoms fs) (atoms p) a b agree) in
+            implied (holds_all b fs) (holds b p) passed (sym e1 ∙ h) e2
+          where
+            implied : (u v : Bool) → (not u || v) ≡ true → u ≡ true → holds a p ≡ v → holds a p ≡ true
+            implied true v h e e2 = e2 ∙ h
+            implied false v h e e2 = absurd (true≢false (sym e))
+    at false some = let (a, fails) = some_fails test (sublists names) some in let both : (holds_all a fs ≡ true) × (holds a p ≡ false) = refuted (holds_all a fs) (holds a p) fails in inr (a, both.0, both.1)
+      where
+        refuted : (u v : Bool) → (not u || v) ≡ false → (u ≡ true) × (v ≡ false)
+        refuted true v e = (refl, e)
+        refuted false v e = absurd (true≢false e)

@@ -1,0 +1,10 @@
+pub mod Small
+pub mod Members
+pub mod Projections
+pub mod Counting
+pub mod Deciding
+pub mod Choices
+pub mod Tiny
+pub mod Questions
+pub mod Transversals
+pub mod Gluing

@@ -1,0 +1,259 @@
+-- Equilibria by their projections: what the parts accept one by one.
+use Rattle.std.proofs.Common.{◌≡◌, ℕ, ◌+◌, ◌<◌, zero, suc, Bool, true, false, not, ◌&&◌, ◌||◌, eqb, ltb, List, [], ◌∷◌, ◌++◌, filter, length, Some, refl, sym, ap, ◌∙◌, subst, inl, inr, ◌⊎◌, ◌↔◌, arith, IsTrue, true≢false, slice_get}
+use Rattle.std.proofs.lemmas.Bool.{and_parts}
+use Rattle.std.proofs.lemmas.Bool.Decides.{nat_tests}
+use Rattle.std.specs.List.{range_with_len, list_all, list_any, enumerate_from, AllByRecursion}
+use Rattle.mcs_sets.specs.Sets.{has, common, Within}
+use Rattle.mcs_sets.proofs.SetLemmas.{has-such_that, has-common, has-union}
+use Rattle.mcs_system.specs.Plain.{Formula, Truth, Falsity, Atom, Not, And, Or, Implies, Iff, Read, Bridge, System}
+use Rattle.mcs_system.specs.Logic.{BeliefSet, Believes, Accepts, with_heads}
+use Rattle.mcs_system.specs.Systems.{same_formula, same_read, occurrences, firsts, context_variables, variables, variables_of, all_variables, BelievesIn, Applies, heads_from, heads_into, AcceptsWith, IsVariable, IsProjection, IsProjected, IsAcceptedPart, believed_at, applies_at, applicable, acting_at}
+use Rattle.mcs_base.specs.Listings.{IsAmong}
+use Rattle.mcs_laws.proofs.Deciding.{same_name-is, same_name-itself}
+use Rattle.mcs_laws.proofs.Members.{among_left, among_right, among_filter, filter_among, get_among, among_get, get-lt, get_below, all_by_test, among_flat_map, flat_map_among, among_range, range_among, choose}
+
+pub same_formula-is : (f g : Formula) → same_formula f g ≡ true → f ≡ g
+same_formula-is Truth Truth e = refl
+same_formula-is Falsity Falsity e = refl
+same_formula-is (Atom m) (Atom n) e = ap (λ x. Atom x) (same_name-is m n e)
+same_formula-is (Not f) (Not g) e = ap (λ x. Not x) (same_formula-is f g e)
+same_formula-is (And f f') (And g g') e = let parts = and_parts (same_formula f g) (same_formula f' g') e in let a = same_formula-is f g parts.0 in let b = same_formula-is f' g' parts.1 in cc
+same_formula-is (Or f f') (Or g g') e = let parts = and_parts (same_formula f g) (same_formula f' g') e in let a = same_formula-is f g parts.0 in let b = same_formula-is f' g' parts.1 in cc
+same_formula-is (Implies f f') (Implies g g') e = let parts = and_parts (same_formula f g) (same_formula f' g') e in let a = same_formula-is f g parts.0 in let b = same_formula-is f' g' parts.1 in cc
+same_formula-is (Iff f f') (Iff g g') e = let parts = and_parts (same_formula f g) (same_formula f' g') e in let a = same_formula-is f g parts.0 in let b = same_formula-is f' g' parts.1 in cc
+same_formula-is f g e = absurd (true≢false (sym e))
+
+pub same_formula-itself : (f : Formula) → same_formula f f ≡ true
+same_formula-itself Truth = refl
+same_formula-itself Falsity = refl
+same_formula-itself (Atom n) = same_name-itself n
+same_formula-itself (Not f) = same_formula-itself f
+same_formula-itself (And f g) = rw (same_formula-itself f, same_formula-itself g) refl
+same_formula-itself (Or f g) = rw (same_formula-itself f, same_formula-itself g) refl
+same_formula-itself (Implies f g) = rw (same_formula-itself f, same_formula-itself g) refl
+same_formula-itself (Iff f g) = rw (same_formula-itself f, same_formula-itself g) refl
+
+abbrev read_at : ℕ → Formula → Read
+read_at c f = record { context = c; belief = f }
+
+pub same_read-is : (q r : Read) → same_read q r ≡ true → q ≡ r
+same_read-is q r e =
+    let parts = and_parts (eqb q.context r.context) (same_formula q.belief r.belief) e in
+    let a : q.context ≡ r.context = grind (arith, nat_tests) in
+    let b : q.belief ≡ r.belief = same_formula-is q.belief r.belief parts.1 in
+    ap (λ c. read_at c q.belief) a ∙ ap (λ f. read_at r.context f) b
+
+pub same_read-itself : (r : Read) → same_read r r ≡ true
+same_read-itself r = rw (same_formula-itself r.belief) (grind (arith, nat_tests))
+
+-- ---- the variables
+among_firsts : (r : Read) (xs : List Read) → IsAmong r xs → IsAmong r (firsts xs)
+among_firsts r [] h = absurd h
+among_firsts r (x ∷ xs) (inl e) = inl e
+among_firsts r (x ∷ xs) (inr h) = at (same_read x r) refl (among_firsts r xs h)
+  where
+    at : (v : Bool) → same_read x r ≡ v → IsAmong r (firsts xs) → (r ≡ x) ⊎ IsAmong r (filter (λ q. not (same_read x q)) (firsts xs))
+    at true e rest = inl (sym (same_read-is x r e))
+    at false e rest = inr (among_filter (λ q. not (same_read x q)) r (firsts xs) rest (ap not e))
+
+firsts_among : (r : Read) (xs : List Read) → IsAmong r (firsts xs) → IsAmong r xs
+firsts_among r [] h = absurd h
+firsts_among r (x ∷ xs) (inl e) = inl e
+firsts_among r (x ∷ xs) (inr h) = inr (firsts_among r xs (filter_among (λ q. not (same_read x q)) r (firsts xs) h).0)
+
+-- a variable belongs to a context of the system
+pub variable_in_range : (m : System) (v : ℕ) (r : Read) → IsVariable m v r → r.context < length m.contexts
+unfolding variables
+variable_in_range m v r is =
+    let (i, in_range, here) = flat_map_among (context_variables m) r (range_with_len 0 (length m.contexts)) (among_get r _ v is) in
+    let own : eqb r.context i ≡ true = (filter_among (λ q. eqb q.context i) r (occurrences m) (firsts_among r _ here)).1 in
+    let less = range_among i 0 (length m.contexts) in_range in
+    let same : r.context ≡ i = grind (arith, nat_tests) in omega arith
+
+-- and what a rule reads of a context of the system is a variable
+pub read_is_variable : (m : System) (k : ℕ) (b : Bridge) (r : Read) → slice_get m.bridges k ≡ Some b → IsAmong r (b.pos ++ b.neg) → r.context < length m.contexts → (v : ℕ) × IsVariable m v r
+unfolding variables
+read_is_variable m k b r is here less =
+    get_among r _ (among_flat_map (context_variables m) r.context r (range_with_len 0 (length m.contexts))
+    (among_range r.context 0 (length m.contexts) (omega arith) (omega arith))
+    (among_firsts r _ (among_filter (λ q. eqb q.context r.context) r (occurrences m)
+    (among_flat_map (λ (c : Bridge). c.pos ++ c.neg) b r m.bridges (among_get b m.bridges k is) here)
+    (grind (arith, nat_tests)))))
+
+-- ---- what is believed at a set of variables
+believed_from : (σ k : ℕ) (r : Read) (xs : List Read) → list_any (λ v. has σ v.0 && same_read v.1 r) (enumerate_from k xs) ≡ true → (v : ℕ) × (slice_get xs v ≡ Some r) × (has σ (k + v) ≡ true)
+believed_from σ k r [] e = absurd (true≢false (sym e))
+believed_from σ k r (x ∷ xs) e = at (has σ k) refl (same_read x r) refl e (believed_from σ (k + 1) r xs)
+  where
+    later : ((v : ℕ) × (slice_get xs v ≡ Some r) × (has σ (k + 1 + v) ≡ true)) → (v : ℕ) × (slice_get (x ∷ xs) v ≡ Some r) × (has σ (k + v) ≡ true)
+    later found = (suc found.0, found.1, ap (has σ) (omega arith) ∙ found.2)
+
+    at : (u : Bool) → has σ k ≡ u → (v : Bool) → same_read x r ≡ v → ((u && v) || list_any (λ v. has σ v.0 && same_read v.1 r) (enumerate_from (k + 1) xs)) ≡ true → (list_any (λ v. has σ v.0 && same_read v.1 r) (enumerate_from (k + 1) xs) ≡ true → (v : ℕ) × (slice_get xs v ≡ Some r) × (has σ (k + 1 + v) ≡ true)) → (v : ℕ) × (slice_get (x ∷ xs) v ≡ Some r) × (has σ (k + v) ≡ true)
+    at true is true same e rest = (0, ap (λ y. Some y) (same_read-is x r same), ap (has σ) (omega arith) ∙ is)
+    at true is false same e rest = later (rest e)
+    at false is v same e rest = later (rest e)
+
+from_believed : (σ k : ℕ) (r : Read) (xs : List Read) (v : ℕ) → slice_get xs v ≡ Some r → has σ (k + v) ≡ true → list_any (λ v. has σ v.0 && same_read v.1 r) (enumerate_from k xs) ≡ true
+from_believed σ k r [] v is member = cc
+from_believed σ k r (x ∷ xs) zero is member =
+    let same : r ≡ x = cc in
+    let known : has σ k ≡ true = ap (has σ) (omega arith) ∙ member in
+    let alike : same_read x r ≡ true = ap (λ y. same_read x y) same ∙ same_read-itself x in
+    rw (known, alike) refl
+from_believed σ k r (x ∷ xs) (suc v) is member =
+    let rest = from_believed σ (k + 1) r xs v is (ap (has σ) (omega arith) ∙ member) in
+    rw rest (or-true (has σ k && same_read x r))
+  where
+    or-true : (u : Bool) → (u || true) ≡ true
+    or-true true = refl
+    or-true false = refl
+
+believed-same : (m : System) (s : List BeliefSet) (σ : ℕ) → length s ≡ length m.contexts → IsProjection m s σ → (k : ℕ) (b : Bridge) (r : Read) → slice_get m.bridges k ≡ Some b → IsAmong r (b.pos ++ b.neg) → BelievesIn s r ↔ (believed_at m σ r ≡ true)
+believed-same m s σ long projection k b r is here = (
+  λ believes.
+      let in_range : r.context < length s = get-lt believes.0 s r.context believes.1 in
+      let (v, var) = read_is_variable m k b r is here (omega arith) in
+      let member : has σ v ≡ true = (projection v).1 (r, var, believes) in
+      from_believed σ 0 r (variables m) v var (ap (has σ) (omega arith) ∙ member),
+  λ test.
+      let (v, var, member) = believed_from σ 0 r (variables m) test in
+      let (q, var', believes) = (projection v).0 (ap (has σ) (omega arith) ∙ member) in
+      let same : q ≡ r = cc in subst (BelievesIn s) same believes,
+)
+
+applies-same : (m : System) (s : List BeliefSet) (σ : ℕ) → length s ≡ length m.contexts → IsProjection m s σ → (k : ℕ) (b : Bridge) → slice_get m.bridges k ≡ Some b → Applies b s ↔ (applies_at m σ b ≡ true)
+applies-same m s σ long projection k b is = (
+  λ h. both_true (pos.0 h.all_believed) (neg.0 h.none_believed),
+  λ test. let parts = and_parts (list_all (believed_at m σ) b.pos) (list_all (λ r. not (believed_at m σ r)) b.neg) test in
+      record { all_believed = pos.1 parts.0; none_believed = neg.1 parts.1 },
+)
+  where
+    both_true : {u v : Bool} → u ≡ true → v ≡ true → (u && v) ≡ true
+    both_true e e' = rw (e, e') refl
+
+    pos : AllByRecursion (BelievesIn s) b.pos ↔ (list_all (believed_at m σ) b.pos ≡ true)
+    pos = all_by_test (BelievesIn s) (believed_at m σ) b.pos (λ r here. believed-same m s σ long projection k b r is (among_left r b.pos b.neg here))
+
+    negated : (P : Type 0) (v : Bool) → P ↔ (v ≡ true) → (¬ P) ↔ (not v ≡ true)
+    negated P true same = (λ no. absurd (no (same.1 refl)), λ e p. true≢false (sym e))
+    negated P false same = (λ no. refl, λ e p. true≢false (sym (same.0 p)))
+
+    neg : AllByRecursion (λ r. ¬ BelievesIn s r) b.neg ↔ (list_all (λ r. not (believed_at m σ r)) b.neg ≡ true)
+    neg = all_by_test (λ r. ¬ BelievesIn s r) (λ r. not (believed_at m σ r)) b.neg (λ r here. negated (BelievesIn s r) (believed_at m σ r) (believed-same m s σ long projection k b r is (among_right r b.pos b.neg here)))
+
+-- ---- the rules that act
+pub has-applicable : (m : System) (σ k : ℕ) (b : Bridge) → slice_get m.bridges k ≡ Some b → has (applicable m σ) k ≡ applies_at m σ b
+unfolding applicable
+has-applicable m σ k b is = has-such_that _ _ k ∙ (let less = get-lt b m.bridges k is in let e : ltb k (length m.bridges) ≡ true = grind (arith, nat_tests) in rw (e, is) refl)
+
+pub acting_at-is : (m : System) (r1 r2 : ℕ) (s : List BeliefSet) (σ : ℕ) → length s ≡ length m.contexts → IsProjection m s σ
+    → (k : ℕ) (b : Bridge) → slice_get m.bridges k ≡ Some b → IsTrue (has (acting_at m σ r1 r2) k) ↔ ((IsTrue (has r1 k) × Applies b s) ⊎ IsTrue (has r2 k))
+acting_at-is m r1 r2 s σ long projection k b is = join (applies-same m s σ long projection k b is) (has r1 k) (has r2 k) (applies_at m σ b) refl (has-union _ _ k ∙ rw (has-common, has-applicable m σ k b is) refl)
+  where
+    parts : (w u v : Bool) → ((w && u) || v) ≡ true → ((u ≡ true) × (w ≡ true)) ⊎ (v ≡ true)
+    parts true true v e = inl (refl, refl)
+    parts true false v e = inr e
+    parts false u v e = inr e
+
+    joined : (w u v : Bool) → ((u ≡ true) × (w ≡ true)) ⊎ (v ≡ true) → ((w && u) || v) ≡ true
+    joined true true v h = refl
+    joined true false v (inl h) = absurd (true≢false (sym h.0))
+    joined true false v (inr h) = h
+    joined false u v (inl h) = absurd (true≢false (sym h.1))
+    joined false u v (inr h) = h
+
+    join : Applies b s ↔ (applies_at m σ b ≡ true) → (u v w : Bool) → w ≡ applies_at m σ b → has (acting_at m σ r1 r2) k ≡ ((w && u) || v) → IsTrue (has (acting_at m σ r1 r2) k) ↔ (((u ≡ true) × Applies b s) ⊎ (v ≡ true))
+    join same u v w is_w e = (
+      λ is. elim (parts w u v (sym e ∙ is)) [ inl h ↦ inl (h.0, same.1 (sym is_w ∙ h.1)) | inr h ↦ inr h ],
+      λ h. e ∙ elim h [ inl h ↦ joined w u v (inl (h.0, is_w ∙ same.0 h.1)) | inr h ↦ joined w u v (inr h) ],
+    )
+
+same_bool : (u v : Bool) (P : Type 0) → (u ≡ true) ↔ P → (v ≡ true) ↔ P → u ≡ v
+same_bool true v P a b = sym (b.1 (a.0 refl))
+same_bool false true P a b = a.1 (b.0 refl)
+same_bool false false P a b = refl
+
+acting-same : (m : System) (r1 r2 : ℕ) (s : List BeliefSet) (σ acting : ℕ) → length s ≡ length m.contexts → IsProjection m s σ
+    → ((k : ℕ) (b : Bridge) → slice_get m.bridges k ≡ Some b → IsTrue (has acting k) ↔ ((IsTrue (has r1 k) × Applies b s) ⊎ IsTrue (has r2 k)))
+    → (k : ℕ) (b : Bridge) → slice_get m.bridges k ≡ Some b → has acting k ≡ has (acting_at m σ r1 r2) k
+acting-same m r1 r2 s σ acting long projection acts k b is = same_bool _ _ _ (acts k b is) (acting_at-is m r1 r2 s σ long projection k b is)
+
+-- the heads are those of the rules that act
+heads-same : (k : ℕ) (bs : List Bridge) (i x y : ℕ) → ((j : ℕ) (b : Bridge) → slice_get bs j ≡ Some b → has x (k + j) ≡ has y (k + j)) → heads_from k bs i x ≡ heads_from k bs i y
+heads-same k [] i x y same = refl
+heads-same k (b ∷ bs) i x y same =
+    let here : has x k ≡ has y k = ap (has x) (omega arith) ∙ same 0 b refl ∙ ap (has y) (omega arith) in
+    let rest : heads_from (k + 1) bs i x ≡ heads_from (k + 1) bs i y = heads-same (k + 1) bs i x y (λ j c is. ap (has x) (omega arith) ∙ same (suc j) c is ∙ ap (has y) (omega arith)) in
+    rw (here, rest) refl
+
+-- ---- equilibria by their projections
+pub has-variables_of : (m : System) (i v : ℕ) (r : Read) → IsVariable m v r → has (variables_of m i) v ≡ eqb r.context i
+unfolding variables_of
+has-variables_of m i v r is = has-such_that _ _ v ∙ (let less = get-lt r (variables m) v is in let e : ltb v (length (variables m)) ≡ true = grind (arith, nat_tests) in rw (e, is) refl)
+
+pub parts_of : (m : System) (r1 r2 σ : ℕ) → IsProjected m r1 r2 σ → Within σ (all_variables m) × ((i : ℕ) → i < length m.contexts → IsAcceptedPart m i (acting_at m σ r1 r2) (common σ (variables_of m i)))
+parts_of m r1 r2 σ p = (within, part)
+  where
+    within : (v : ℕ) → has σ v ≡ true → has (all_variables m) v ≡ true
+    within v member = let (r, var, believes) = (p.projection v).0 member in let less = get-lt r (variables m) v var in has-such_that _ _ v ∙ grind (arith, nat_tests)
+
+    heads : (i : ℕ) → heads_into m i p.balanced.acting ≡ heads_into m i (acting_at m σ r1 r2)
+    heads i = heads-same 0 m.bridges i _ _ (λ j b is. ap (has p.balanced.acting) (omega arith) ∙ acting-same m r1 r2 p.state σ p.balanced.acting p.balanced.one_each p.projection p.balanced.acting_is j b is ∙ ap (has (acting_at m σ r1 r2)) (omega arith))
+
+    split : (i v : ℕ) → has (common σ (variables_of m i)) v ≡ true → (has σ v ≡ true) × (has (variables_of m i) v ≡ true)
+    split i v member = and_parts _ _ (sym (has-common σ (variables_of m i) v) ∙ member)
+
+    to : (i : ℕ) (b : BeliefSet) → slice_get p.state i ≡ Some b → (v : ℕ) → has (common σ (variables_of m i)) v ≡ true → (r : Read) × IsVariable m v r × (r.context ≡ i) × Believes b r.belief
+    to i b is_b v member =
+        let both = split i v member in
+        let (r, var, believes) = (p.projection v).0 both.0 in
+        let own : eqb r.context i ≡ true = sym (has-variables_of m i v r var) ∙ both.1 in
+        let same : r.context ≡ i = grind (arith, nat_tests) in
+        let there : slice_get p.state i ≡ Some believes.0 = ap (slice_get p.state) (sym same) ∙ believes.1 in
+        let one : believes.0 ≡ b = cc in
+        (r, var, same, subst (λ (c : BeliefSet). Believes c r.belief) one believes.2)
+
+    from : (i : ℕ) (b : BeliefSet) → slice_get p.state i ≡ Some b → (v : ℕ) → ((r : Read) × IsVariable m v r × (r.context ≡ i) × Believes b r.belief) → has (common σ (variables_of m i)) v ≡ true
+    from i b is_b v (r, var, same, believes) =
+        let member : has σ v ≡ true = (p.projection v).1 (r, var, (b, ap (slice_get p.state) same ∙ is_b, believes)) in
+        let own : has (variables_of m i) v ≡ true = has-variables_of m i v r var ∙ grind (arith, nat_tests) in
+        has-common σ (variables_of m i) v ∙ rw (member, own) refl
+
+    part : (i : ℕ) → i < length m.contexts → IsAcceptedPart m i (acting_at m σ r1 r2) (common σ (variables_of m i))
+    part i less =
+        let (b, is_b) = get_below p.state i (omega (arith, p.balanced.one_each)) in
+        let (c, is_c, accepts) = p.balanced.accepted i b is_b in
+        record {
+          belief = b;
+          accepted = (c, is_c, subst (λ (hs : List Formula). Accepts (with_heads c.kb hs) b) (heads i) accepts);
+          part = λ v. (to i b is_b v, from i b is_b v);
+        }
+
+pub from_parts : (m : System) (r1 r2 σ : ℕ) → Within σ (all_variables m) → ((i : ℕ) → i < length m.contexts → IsAcceptedPart m i (acting_at m σ r1 r2) (common σ (variables_of m i))) → IsProjected m r1 r2 σ
+from_parts m r1 r2 σ within each = let (s, long, all) = choose Q (length m.contexts) (λ i less. ((each i less).belief, ((each i less).accepted, (each i less).part))) in made s long all
+  where
+    Q : ℕ → BeliefSet → Type 0
+    Q i b = AcceptsWith m i (acting_at m σ r1 r2) b × ((v : ℕ) → IsTrue (has (common σ (variables_of m i)) v) ↔ ((r : Read) × IsVariable m v r × (r.context ≡ i) × Believes b r.belief))
+
+    to : (s : List BeliefSet) → length s ≡ length m.contexts → ((i : ℕ) (b : BeliefSet) → slice_get s i ≡ Some b → Q i b) → (v : ℕ) → has σ v ≡ true → (r : Read) × IsVariable m v r × BelievesIn s r
+    to s long all v member =
+        let known : ltb v (length (variables m)) ≡ true = (and_parts _ _ (sym (has-such_that (length (variables m)) (λ k. true) v) ∙ within v member)).0 in
+        let (r, var) = get_below (variables m) v (grind (arith, nat_tests)) in
+        let less = variable_in_range m v r var in
+        let (b, is_b) = get_below s r.context (omega (arith, long)) in
+        let own : has (variables_of m r.context) v ≡ true = has-variables_of m r.context v r var ∙ grind (arith, nat_tests) in
+        let both : has (common σ (variables_of m r.context)) v ≡ true = has-common σ (variables_of m r.context) v ∙ rw (member, own) refl in
+        let (r', var', same, believes) = ((all r.context b is_b).1 v).0 both in
+        (r', var', (b, ap (slice_get s) same ∙ is_b, believes))
+
+    from : (s : List BeliefSet) → ((i : ℕ) (b : BeliefSet) → slice_get s i ≡ Some b → Q i b) → (v : ℕ) → ((r : Read) × IsVariable m v r × BelievesIn s r) → has σ v ≡ true
+    from s all v (r, var, (b, is_b, believes)) =
+        let both = ((all r.context b is_b).1 v).1 (r, var, refl, believes) in
+        (and_parts _ _ (sym (has-common σ (variables_of m r.context) v) ∙ both)).0
+
+    made : (s : List BeliefSet) → length s ≡ length m.contexts → ((i : ℕ) (b : BeliefSet) → slice_get s i ≡ Some b → Q i b) → IsProjected m r1 r2 σ
+    made s long all = let projection : IsProjection m s σ = (λ v. (to s long all v, from s all v)) in record {
+      state = s;
+      balanced = record { one_each = long; acting = acting_at m σ r1 r2; acting_is = acting_at-is m r1 r2 s σ long projection; accepted = λ i b is. (all i b is).0 };
+      projection = projection;
+    }

@@ -1,0 +1,7 @@
+//! Finite sets of small numbers: what they mean, the orders in which they are listed, and one type that
+//! the sets of the crates above are thin wrappers of.
+#![tactic(auto)]
+
+mod small_set;
+
+pub use small_set::{SmallSet, pair_before, state_before};

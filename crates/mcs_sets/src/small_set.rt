@@ -1,0 +1,157 @@
+//! A set of small numbers as one word of bits, and the orders of such sets.
+
+ghost use Rattle.std.specs.Prelude.{◌≡◌, ℕ, ◌^◌, ◌<◌, ◌↔◌, IsTrue, IfSome, IfNone};
+ghost use Rattle.mcs_sets.specs.Sets.{has, single, union, common, minus, Within, Meets, IsLeast, size};
+ghost use Rattle.mcs_sets.specs.Orders.{StateBefore, PairBefore};
+
+use std::marker::Model;
+
+/// A set of numbers below 128.
+#[derive(Clone, Copy, PartialEq, Eq)]
+pub struct SmallSet {
+    bits: u128,
+}
+
+impl Model for SmallSet {
+    ghost use Rattle.std.specs.Prelude.{ℕ, ◌<◌, ◌^◌};
+
+    ghost Value = { ℕ };
+
+    ghost view = { λ s. s.bits };
+
+    ghost invariant = { λ s. s.bits < 2 ^ 128 };
+
+    ghost inverse = { λ n. record { bits = n } };
+}
+
+impl SmallSet {
+    /// The empty set.
+    pub fn empty() -> Self
+        ensures { result ≡ 0 }
+    {
+        SmallSet { bits: 0 }
+    }
+
+    /// The set of this one number.
+    #[tactic(auto, unfolding(crate::specs::Sets::single))]
+    pub fn one(n: u32) -> Self
+        requires { n < 128 }
+        ensures { result ≡ single n }
+    {
+        SmallSet { bits: 1 << n }
+    }
+
+    /// Whether the number is in the set.
+    #[tactic(auto, using(std::proofs::lemmas::Nat::Bits::shr_and_one), unfolding(crate::specs::Sets::has))]
+    pub fn has(self, n: u32) -> bool
+        requires { n < 128 }
+        ensures value { result ≡ has self n }
+        ensures in_range { self < 2 ^ 128 }
+    {
+        (self.bits >> n) & 1 == 1
+    }
+
+    /// The set and this number.
+    #[tactic(auto, using(crate::proofs::SetLemmas::fits), unfolding(crate::specs::Sets::single, crate::specs::Sets::union))]
+    pub fn with(self, n: u32) -> Self
+        requires { n < 128 }
+        ensures { result ≡ union self (single n) }
+    {
+        SmallSet {
+            bits: self.bits | (1 << n),
+        }
+    }
+
+    /// The set without this number.
+    #[tactic(auto, using(crate::proofs::SetLemmas::fits), unfolding(crate::specs::Sets::single, crate::specs::Sets::minus))]
+    pub fn without(self, n: u32) -> Self
+        requires { n < 128 }
+        ensures { result ≡ minus self (single n) }
+    {
+        SmallSet {
+            bits: self.bits ^ (self.bits & (1 << n)),
+        }
+    }
+
+    /// What is in one of the sets.
+    #[tactic(auto, using(crate::proofs::SetLemmas::fits), unfolding(crate::specs::Sets::union))]
+    pub fn union(self, other: Self) -> Self
+        ensures { result ≡ union self other }
+    {
+        SmallSet {
+            bits: self.bits | other.bits,
+        }
+    }
+
+    /// What is in both sets.
+    #[tactic(auto, using(crate::proofs::SetLemmas::fits), unfolding(crate::specs::Sets::common))]
+    pub fn common(self, other: Self) -> Self
+        ensures { result ≡ common self other }
+    {
+        SmallSet {
+            bits: self.bits & other.bits,
+        }
+    }
+
+    /// What is in this set and not in the other.
+    #[tactic(auto, using(crate::proofs::SetLemmas::fits), unfolding(crate::specs::Sets::minus))]
+    pub fn minus(self, other: Self) -> Self
+        ensures { result ≡ minus self other }
+    {
+        SmallSet {
+            bits: self.bits ^ (self.bits & other.bits),
+        }
+    }
+
+    /// Whether some number is in both sets.
+    pub fn meets(self, other: Self) -> bool
+        ensures { IsTrue result ↔ Meets self other }
+    {
+        self.bits & other.bits != 0
+    }
+
+    /// Whether each number of this set is in the other.
+    pub fn within(self, other: Self) -> bool
+        ensures { IsTrue result ↔ Within self other }
+    {
+        self.bits & other.bits == self.bits
+    }
+
+    /// How many numbers are in the set.
+    pub fn count(self) -> u32
+        ensures number { result ≡ size self }
+        ensures in_range { self < 2 ^ 128 }
+    {
+        self.bits.count_ones()
+    }
+
+    /// The least number of the set, if it has one.
+    pub fn first(self) -> Option<u32>
+        ensures least { IfSome result (IsLeast self) }
+        ensures empty { IfNone result (self ≡ 0) }
+    {
+        if self.bits == 0 {
+            None
+        } else {
+            Some(self.bits.trailing_zeros())
+        }
+    }
+}
+
+/// Whether `a` comes before `b` in the order of states: of two different sets, the one that holds the
+/// least number in which they differ comes first.
+pub fn state_before(a: SmallSet, b: SmallSet) -> bool
+    ensures { IsTrue result ↔ StateBefore a b }
+{
+    let differ = a.bits ^ b.bits;
+    differ != 0 && a.has(differ.trailing_zeros())
+}
+
+/// Whether `a` comes before `b` in the order of pairs: the one with fewer members first; with equally
+/// many, the one whose ascending list of members is lexicographically less.
+pub fn pair_before(a: SmallSet, b: SmallSet) -> bool
+    ensures { IsTrue result ↔ PairBefore a b }
+{
+    let (m, n) = (a.count(), b.count());
+    m < n || m == n && state_before(a, b)
+}

@@ -1,0 +1,44 @@
+-- The atoms of a context.
+use Rattle.std.specs.Prelude.{ℕ, not, Bool, List, [], ◌∷◌, ◌++◌, map, filter, Option, Some, None, slice_get, nat_eq}
+use Rattle.std.specs.List.{flat_map}
+use Rattle.mcs_system.specs.Plain.{Name, Formula, Default, ProgramRule, Item, Fact, Rule, Kb, Classical, DefaultTheory, Program, Context, Read, Bridge, System}
+use Rattle.mcs_system.specs.Logic.{same_name, atoms}
+use Rattle.mcs_system.specs.Systems.{context_variables}
+
+-- of a default: prerequisite, justifications, conclusion
+abbrev pub default_atoms : Default → List Name
+default_atoms d = atoms d.pre ++ (flat_map atoms d.justs ++ atoms d.conclusion)
+
+abbrev pub item_atoms : Item → List Name
+item_atoms (Fact f) = atoms f
+item_atoms (Rule d) = default_atoms d
+
+-- of a rule: head, positive body, negative body
+abbrev pub rule_atoms : ProgramRule → List Name
+rule_atoms r = r.head ++ (r.pos ++ r.neg)
+
+abbrev pub kb_atoms : Kb → List Name
+kb_atoms (Classical fs) = flat_map atoms fs
+kb_atoms (DefaultTheory is) = flat_map item_atoms is
+kb_atoms (Program rs) = flat_map rule_atoms rs
+
+abbrev pub own_atoms : Option Context → List Name
+own_atoms None = []
+own_atoms (Some c) = kb_atoms c.kb
+
+-- the heads of all rules into the context, in rule order
+abbrev pub all_heads_into : System → ℕ → List Formula
+all_heads_into m i = map (λ (b : Bridge). b.head) (filter (λ (b : Bridge). nat_eq b.target i) m.bridges)
+
+-- every occurrence: in the items, in the heads into the context, in its variables
+abbrev pub atom_occurrences : System → ℕ → List Name
+atom_occurrences m i = own_atoms (slice_get m.contexts i) ++ (flat_map atoms (all_heads_into m i) ++ flat_map (λ (r : Read). atoms r.belief) (context_variables m i))
+
+-- each name at its first occurrence
+abbrev pub first_names : List Name → List Name
+first_names [] = []
+first_names (n ∷ ns) = n ∷ filter (λ x. not (same_name n x)) (first_names ns)
+
+-- the atoms of the context, by first occurrence
+unfoldable pub atoms_of : System → ℕ → List Name
+atoms_of m i = first_names (atom_occurrences m i)

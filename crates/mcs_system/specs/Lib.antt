@@ -1,0 +1,10 @@
+pub mod Plain
+pub mod Seen
+pub mod Logic
+pub mod Systems
+pub mod Repairs
+pub mod Imports
+pub mod Rows
+pub mod Atoms
+pub mod Faults
+pub mod Codes

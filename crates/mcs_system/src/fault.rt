@@ -1,0 +1,26 @@
+//! Why lists of contexts and bridge rules make no system.
+
+/// A limit of a system.
+#[derive(Clone, Copy, Debug, PartialEq, Eq)]
+pub enum Limit {
+    Contexts,
+    Bridges,
+    RulesPerContext,
+    Variables,
+    InputsPerContext,
+    AtomsPerContext,
+    DefaultsPerContext,
+    ItemsPerContext,
+    FormulaSize,
+    OpenParentheses,
+    NameBytes,
+}
+
+/// Why no system was built. The numbers are: 2, a context number is out of range; 3, two contexts or two
+/// bridge rules have one name; 4, the head into a program or a belief of a program is not an atom, or a
+/// default has no justification; 5, the limit is exceeded. `limit` is there exactly for number 5.
+#[derive(Clone, Copy, Debug, PartialEq, Eq)]
+pub enum BuildFault {
+    Fault { number: u8, limit: Option<Limit> },
+    Memory,
+}

@@ -1,0 +1,51 @@
+//! Formulas of propositional logic.
+
+ghost use Rattle.std.specs.Prelude.{◌≡◌, IfOk};
+ghost use Rattle.mcs_system.specs.Seen.{formula_of};
+
+use crate::name::Name;
+use mcs_base::Memory;
+use std::alloc::Global;
+
+/// A formula over atoms, each a name.
+#[derive(Drop)]
+pub enum Formula {
+    True,
+    False,
+    Atom(Name),
+    Not(Box<Formula>),
+    And(Box<Formula>, Box<Formula>),
+    Or(Box<Formula>, Box<Formula>),
+    Implies(Box<Formula>, Box<Formula>),
+    Iff(Box<Formula>, Box<Formula>),
+}
+
+impl Formula {
+    /// An equal formula.
+    pub fn copy(&self, alloc: Global) -> Result<Formula, Memory>
+        ensures { IfOk result (λ f. formula_of f ≡ formula_of self.now) }
+    {
+        Ok(match self {
+            Formula::True => Formula::True,
+            Formula::False => Formula::False,
+            Formula::Atom(name) => Formula::Atom(name.copy(alloc)?),
+            Formula::Not(g) => Formula::Not(Box::new(alloc, g.copy(alloc)?)?),
+            Formula::And(g, h) => Formula::And(
+                Box::new(alloc, g.copy(alloc)?)?,
+                Box::new(alloc, h.copy(alloc)?)?,
+            ),
+            Formula::Or(g, h) => Formula::Or(
+                Box::new(alloc, g.copy(alloc)?)?,
+                Box::new(alloc, h.copy(alloc)?)?,
+            ),
+            Formula::Implies(g, h) => Formula::Implies(
+                Box::new(alloc, g.copy(alloc)?)?,
+                Box::new(alloc, h.copy(alloc)?)?,
+            ),
+            Formula::Iff(g, h) => Formula::Iff(
+                Box::new(alloc, g.copy(alloc)?)?,
+                Box::new(alloc, h.copy(alloc)?)?,
+            ),
+        })
+    }
+}

@@ -1,0 +1,18 @@
+//! Multi-context systems: their data, and what it means.
+#![tactic(auto)]
+
+mod bridge;
+mod fault;
+mod formula;
+mod knowledge;
+mod name;
+mod same;
+mod truth;
+
+pub use bridge::{Bridge, Read};
+pub use fault::{BuildFault, Limit};
+pub use formula::Formula;
+pub use knowledge::{Context, Default, Kb, ProgRule, TheoryItem};
+pub use name::Name;
+pub use same::{same_formula, same_read};
+pub use truth::{all_hold_at, holds_at};

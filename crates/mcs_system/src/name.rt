@@ -1,0 +1,52 @@
+//! Names of contexts, rules and atoms.
+
+ghost use Rattle.std.specs.Prelude.{◌≡◌, IfOk, IfSome, IfNone, IsTrue, false};
+ghost use Rattle.mcs_base.specs.Words.{is_name};
+ghost use Rattle.mcs_system.specs.Logic.{same_name};
+
+use mcs_base::Memory;
+use std::alloc::Global;
+use std::marker::Model;
+
+/// A name: a letter or `_`, then letters, digits and `_`, at most 64 bytes, and no reserved word.
+#[derive(Drop)]
+pub struct Name {
+    bytes: Vec<u8>,
+}
+
+impl Model for Name {
+    ghost use Rattle.std.specs.Prelude.{List, ℕ, IsTrue};
+    ghost use Rattle.mcs_base.specs.Words.{is_name};
+
+    ghost Value = { List ℕ };
+
+    ghost view = { λ n. n.bytes.items };
+
+    ghost invariant = { λ n. IsTrue (is_name n.bytes.items) };
+}
+
+impl Name {
+    /// The bytes of the name.
+    pub fn bytes(&self) -> &[u8]
+        ensures value { result.now ≡ self.now }
+        ensures name { IsTrue (is_name self.now) }
+    {
+        &self.bytes
+    }
+
+    /// Whether both names have the same bytes.
+    pub fn is(&self, other: &Name) -> bool
+        ensures { result ≡ same_name self.now other.now }
+    {
+        self.bytes() == other.bytes()
+    }
+
+    /// An equal name.
+    pub fn copy(&self, alloc: Global) -> Result<Name, Memory>
+        ensures { IfOk result (λ n. n ≡ self.now) }
+    {
+        Ok(Name {
+            bytes: self.bytes.to_vec(alloc)?,
+        })
+    }
+}

@@ -1,0 +1,54 @@
+//! What a formula says under an assignment of its atoms.
+
+ghost use Rattle.std.specs.Prelude.{◌≡◌, ◌≤◌, length, map};
+ghost use Rattle.std.specs.List.{list_all};
+ghost use Rattle.mcs_system.specs.Logic.{holds, holds_all, true_names};
+ghost use Rattle.mcs_system.specs.Seen.{formula_of};
+ghost use Rattle.mcs_system.specs.Logic.{is_in};
+
+use crate::formula::Formula;
+use crate::name::Name;
+use mcs_base::Vars;
+
+/// Whether the name is one of those at a place that is in the set.
+fn is_true_at(atoms: &[Name], values: Vars, name: &Name) -> bool
+    requires { length atoms.now ≤ 64 }
+    ensures { result ≡ is_in name.now (true_names 0 atoms.now values) }
+{
+    for (k, atom) in atoms.iter().enumerate() {
+        if values.has(k as u32) && name.is(atom) {
+            return true;
+        }
+    }
+    false
+}
+
+/// Whether the formula holds where exactly those of the atoms are true whose places are in the set.
+pub fn holds_at(atoms: &[Name], values: Vars, f: &Formula) -> bool
+    requires { length atoms.now ≤ 64 }
+    ensures { result ≡ holds (true_names 0 atoms.now values) (formula_of f.now) }
+{
+    match f {
+        Formula::True => true,
+        Formula::False => false,
+        Formula::Atom(name) => is_true_at(atoms, values, name),
+        Formula::Not(g) => !holds_at(atoms, values, g),
+        Formula::And(g, h) => holds_at(atoms, values, g) && holds_at(atoms, values, h),
+        Formula::Or(g, h) => holds_at(atoms, values, g) || holds_at(atoms, values, h),
+        Formula::Implies(g, h) => !holds_at(atoms, values, g) || holds_at(atoms, values, h),
+        Formula::Iff(g, h) => holds_at(atoms, values, g) == holds_at(atoms, values, h),
+    }
+}
+
+/// Whether all the formulas hold there.
+pub fn all_hold_at(atoms: &[Name], values: Vars, formulas: &[Formula]) -> bool
+    requires { length atoms.now ≤ 64 }
+    ensures { result ≡ holds_all (true_names 0 atoms.now values) (map formula_of formulas.now) }
+{
+    for f in formulas {
+        if !holds_at(atoms, values, f) {
+            return false;
+        }
+    }
+    true
+}
