@@ -1,5 +1,5 @@
 -- The plain data that the code's values stand for.
-use Rattle.std.specs.Prelude.{ℕ, ◌+◌, map}
+use Rattle.std.specs.Prelude.{ℕ, ◌+◌, List, map}
 use Rattle.mcs_system.specs.Plain as plain
 use Rattle.mcs_system.specs.declared.formula.Formula as code
 use Rattle.mcs_system.specs.declared.knowledge.Default as code_default
@@ -55,3 +55,7 @@ context_of c = record { name = c.name; kb = kb_of c.kb }
 
 abbrev pub bridge_of : code_bridge.Bridge → plain.Bridge
 bridge_of b = record { name = b.name; target = b.target; head = formula_of b.head; pos = map read_of b.pos.items; neg = map read_of b.neg.items }
+
+-- the system that these contexts and rules would make
+abbrev pub system_of : List code_context.Context → List code_bridge.Bridge → plain.System
+system_of contexts bridges = record { contexts = map context_of contexts; bridges = map bridge_of bridges }
