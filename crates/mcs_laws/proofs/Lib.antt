@@ -8,3 +8,5 @@ pub mod Tiny
 pub mod Questions
 pub mod Transversals
 pub mod Gluing
+pub mod Tables
+pub mod Classical

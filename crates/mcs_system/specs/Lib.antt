@@ -7,4 +7,5 @@ pub mod Imports
 pub mod Rows
 pub mod Atoms
 pub mod Faults
+pub mod Texts
 pub mod Codes
