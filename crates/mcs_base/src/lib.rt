@@ -5,9 +5,11 @@
 mod active;
 mod marks;
 mod memory;
+mod text;
 mod vars;
 
 pub use active::Active;
 pub use marks::{Marks, pair_before};
 pub use memory::Memory;
+pub use text::Text;
 pub use vars::{Vars, state_before};
