@@ -8,6 +8,14 @@ use Rattle.mcs_base.specs.Listings.{IsListing}
 use Rattle.mcs_system.specs.Plain.{Name, Formula, Truth, Falsity, Atom, Not, And, Or, Implies, Iff, Context, Read, Bridge, System}
 use Rattle.mcs_system.specs.Systems.{variables, all_rules, applicable, IsProjected}
 
+-- the sign of a formula of two parts
+abbrev pub sign_of : Formula → List ℕ
+sign_of (And f g) = codes " & "
+sign_of (Or f g) = codes " | "
+sign_of (Implies f g) = codes " -> "
+sign_of (Iff f g) = codes " <-> "
+sign_of f = []
+
 -- a formula of two parts, in parentheses
 abbrev pub in_parentheses : List ℕ → List ℕ → List ℕ → List ℕ
 in_parentheses left sign right = codes "(" ++ (left ++ (sign ++ (right ++ codes ")")))

@@ -3,6 +3,7 @@
 #![tactic(auto)]
 
 mod ending;
+mod lines;
 mod words;
 
 pub use ending::Status;
