@@ -7,7 +7,7 @@ use mcs_sets::SmallSet;
 use std::marker::Model;
 
 /// A set of numbers of bridge rules, each below 64.
-#[derive(Clone, Copy, PartialEq, Eq)]
+#[derive(Clone, Copy, Debug, PartialEq, Eq, PartialOrd, Ord)]
 pub struct Active {
     set: SmallSet,
 }

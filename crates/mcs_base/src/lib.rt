@@ -3,12 +3,14 @@
 #![tactic(auto, using(mcs_sets::proofs::SetLemmas::sets_fit))]
 
 mod active;
+mod listed;
 mod marks;
 mod memory;
 mod text;
 mod vars;
 
 pub use active::Active;
+pub use listed::{list_pairs, list_rule_sets, list_states};
 pub use marks::{Marks, pair_before};
 pub use memory::Memory;
 pub use text::Text;

@@ -5,10 +5,11 @@ ghost use Rattle.mcs_sets.specs.Sets.{has, size, single, union, common, minus, W
 ghost use Rattle.mcs_sets.specs.Orders.{PairBefore};
 
 use mcs_sets::SmallSet;
+use std::cmp::Ordering;
 use std::marker::Model;
 
 /// A set of marks, each a number below 128.
-#[derive(Clone, Copy, PartialEq, Eq)]
+#[derive(Clone, Copy, Debug, PartialEq, Eq)]
 pub struct Marks {
     set: SmallSet,
 }
@@ -129,6 +130,43 @@ impl Marks {
         ensures empty { IfNone result (self ≡ 0) }
     {
         self.set.first()
+    }
+}
+
+/// Marks come in the order of pairs, so that std's sort lists them in it.
+impl PartialOrd for Marks {
+    ghost use Rattle.std.specs.Ordering.{as_partial_cmp};
+    ghost use Rattle.mcs_base.specs.PairOrder.{pair_cmp, pair_po};
+
+    ghost partial_cmp = { as_partial_cmp pair_cmp };
+
+    ghost laws = { pair_po };
+
+    fn partial_cmp(&self, other: &Marks) -> Option<Ordering> {
+        Some(self.cmp(other))
+    }
+}
+
+impl Ord for Marks {
+    ghost use Rattle.std.specs.Prelude.{refl};
+    ghost use Rattle.mcs_base.specs.PairOrder.{pair_cmp, pair_cmp_total, pair_tie};
+
+    ghost cmp = { pair_cmp };
+
+    ghost total = { pair_cmp_total };
+
+    ghost matches_partial_cmp = { λ x y. refl };
+
+    ghost matches_eq = { pair_tie };
+
+    fn cmp(&self, other: &Marks) -> Ordering {
+        if self == other {
+            Ordering::Equal
+        } else if pair_before(*self, *other) {
+            Ordering::Less
+        } else {
+            Ordering::Greater
+        }
     }
 }
 

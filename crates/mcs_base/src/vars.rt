@@ -9,7 +9,7 @@ use std::cmp::Ordering;
 use std::marker::Model;
 
 /// A set of numbers below 64: variables, or places in a list.
-#[derive(Clone, Copy)]
+#[derive(Clone, Copy, Debug, PartialEq, Eq)]
 pub struct Vars {
     set: SmallSet,
 }
@@ -134,25 +134,6 @@ impl Vars {
 }
 
 /// Vars come in the order of states, so that std's sort lists them in it.
-impl PartialEq for Vars {
-    ghost use Rattle.std.specs.Ordering.{eq_by_cmp};
-    ghost use Rattle.mcs_base.specs.StateOrder.{state_cmp, state_eq_laws};
-
-    ghost eq = { eq_by_cmp state_cmp };
-
-    ghost laws = { state_eq_laws };
-
-    fn eq(&self, other: &Vars) -> bool {
-        self.set == other.set
-    }
-}
-
-impl Eq for Vars {
-    ghost use Rattle.mcs_base.specs.StateOrder.{state_eq};
-
-    ghost laws = { state_eq };
-}
-
 impl PartialOrd for Vars {
     ghost use Rattle.std.specs.Ordering.{as_partial_cmp};
     ghost use Rattle.mcs_base.specs.StateOrder.{state_cmp, state_po};
@@ -168,7 +149,7 @@ impl PartialOrd for Vars {
 
 impl Ord for Vars {
     ghost use Rattle.std.specs.Prelude.{refl};
-    ghost use Rattle.mcs_base.specs.StateOrder.{state_cmp, state_cmp_total};
+    ghost use Rattle.mcs_base.specs.StateOrder.{state_cmp, state_cmp_total, state_tie};
 
     ghost cmp = { state_cmp };
 
@@ -176,12 +157,12 @@ impl Ord for Vars {
 
     ghost matches_partial_cmp = { λ x y. refl };
 
-    ghost matches_eq = { λ x y. refl };
+    ghost matches_eq = { state_tie };
 
     fn cmp(&self, other: &Vars) -> Ordering {
-        if self.set == other.set {
+        if self == other {
             Ordering::Equal
-        } else if mcs_sets::state_before(self.set, other.set) {
+        } else if state_before(*self, *other) {
             Ordering::Less
         } else {
             Ordering::Greater

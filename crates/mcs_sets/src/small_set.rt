@@ -6,8 +6,9 @@ ghost use Rattle.mcs_sets.specs.Orders.{StateBefore, PairBefore};
 
 use std::marker::Model;
 
-/// A set of numbers below 128.
-#[derive(Clone, Copy, PartialEq, Eq)]
+/// A set of numbers below 128. Its own order is that of the numbers that stand for the sets: the set that
+/// holds the greatest number in which they differ is the greater one.
+#[derive(Clone, Copy, Debug, PartialEq, Eq, PartialOrd, Ord)]
 pub struct SmallSet {
     bits: u128,
 }
