@@ -1,5 +1,4 @@
 pub mod Small
-pub mod Members
 pub mod Projections
 pub mod Counting
 pub mod Deciding
