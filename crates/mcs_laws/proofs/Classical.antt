@@ -9,7 +9,7 @@ use Rattle.mcs_system.specs.Plain.{Name, Formula, Kb, Classical, DefaultTheory, 
 use Rattle.mcs_system.specs.Logic.{BeliefSet, Theory, Atoms, Believes, SameModels, Accepts, Entails, with_heads, IsClassical}
 use Rattle.mcs_system.specs.Systems.{variables, heads_into, IsVariable, Follows, AcceptsWith, IsAcceptedPart}
 use Rattle.mcs_laws.proofs.Deciding.{decide}
-use Rattle.mcs_laws.proofs.Members.{get-lt}
+use Rattle.mcs_system.proofs.Members.{get-lt}
 
 believes_same : (e fs : List Formula) (p : Formula) → SameModels e fs → Entails e p ↔ Entails fs p
 believes_same e fs p same = (λ h a holds. h a (same a ∙ holds), λ h a holds. h a (sym (same a) ∙ holds))

@@ -5,19 +5,7 @@ use Rattle.std.proofs.lemmas.Bool.Decides.{nat_tests}
 use Rattle.std.specs.List.{list_all}
 use Rattle.mcs_system.specs.Plain.{Name, Formula, Truth, Falsity, Atom, Not, And, Or, Implies, Iff}
 use Rattle.mcs_system.specs.Logic.{atoms, all_atoms, same_name, is_in, holds, holds_all, Entails}
-
-pub same_name-is : (x y : Name) → same_name x y ≡ true → x ≡ y
-same_name-is [] [] e = refl
-same_name-is [] (y ∷ ys) e = absurd (true≢false (sym e))
-same_name-is (x ∷ xs) [] e = absurd (true≢false (sym e))
-same_name-is (x ∷ xs) (y ∷ ys) e =
-    let first : x ≡ y = grind (arith, nat_tests) in
-    let rest : same_name xs ys ≡ true = grind (arith, nat_tests) in
-    ap (λ z. z ∷ xs) first ∙ ap (λ zs. y ∷ zs) (same_name-is xs ys rest)
-
-pub same_name-itself : (x : Name) → same_name x x ≡ true
-same_name-itself [] = refl
-same_name-itself (x ∷ xs) = let rest = same_name-itself xs in grind (arith, nat_tests)
+use Rattle.mcs_system.proofs.Sameness.{same_name-is, same_name-itself}
 
 pub is_in-append : (n : Name) (xs ys : List Name) → is_in n (xs ++ ys) ≡ (is_in n xs || is_in n ys)
 is_in-append n [] ys = refl

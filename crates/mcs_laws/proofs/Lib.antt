@@ -1,5 +1,4 @@
 pub mod Small
-pub mod Members
 pub mod Projections
 pub mod Counting
 pub mod Deciding
@@ -10,3 +9,4 @@ pub mod Transversals
 pub mod Gluing
 pub mod Tables
 pub mod Classical
+pub mod Existence

@@ -7,7 +7,7 @@ use Rattle.mcs_system.specs.Plain.{Name, Formula}
 use Rattle.mcs_system.specs.Logic.{is_in, holds, holds_all, atoms, all_atoms, true_names, Entails}
 use Rattle.mcs_laws.specs.Laws.{Covers, PassesTable}
 use Rattle.mcs_laws.proofs.Deciding.{Agree, agree_left, agree_right, agree_filter, same_truth, same_truths}
-use Rattle.mcs_laws.proofs.Members.{get-lt}
+use Rattle.mcs_system.proofs.Members.{get-lt}
 
 -- the names at the places in the set are those that pass the test, where the set has just their places
 true_names-filter : (q : Name → Bool) (s k : ℕ) (names : List Name) → ((j : ℕ) (n : Name) → slice_get names j ≡ Some n → has s (k + j) ≡ q n) → true_names k names s ≡ filter q names

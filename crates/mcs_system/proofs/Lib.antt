@@ -1,1 +1,4 @@
 pub mod SeenLemmas
+pub mod Members
+pub mod Sameness
+pub mod VariableLemmas

@@ -9,8 +9,8 @@ use Rattle.mcs_system.specs.Logic.{holds, holds_all, true_names, Entails}
 use Rattle.mcs_system.specs.Systems.{variables, variables_of, IsVariable, Follows}
 use Rattle.mcs_laws.specs.Laws.{Covers, PassesTable}
 use Rattle.mcs_laws.proofs.Tables.{table_decides}
-use Rattle.mcs_laws.proofs.Members.{get-lt, get_below}
-use Rattle.mcs_laws.proofs.Projections.{has-variables_of}
+use Rattle.mcs_system.proofs.Members.{get-lt, get_below}
+use Rattle.mcs_system.proofs.VariableLemmas.{has-variables_of}
 use Rattle.mcs_top.specs.Tables.{read_holds, passes_below, read_passes, unrefuted, holding}
 
 same_such_that : (n : ℕ) (p q : ℕ → Bool) → ((v : ℕ) → v < n → p v ≡ q v) → such_that n p ≡ such_that n q
