@@ -1,5 +1,5 @@
 -- What holds of listings: there is at most one, sorting makes one, and one exists of each test of numbers.
-use Rattle.std.proofs.Common.{◌≡◌, ◌+◌, ◌^◌, ◌<◌, ℕ, zero, suc, Bool, true, false, IsTrue, eqb, ltb, length, get_or, arith, List, [], ◌∷◌, ◌++◌, map, filter, cond, refl, sym, ap, ◌∙◌, subst, inl, inr, ◌⊎◌, ◌↔◌, true≢false}
+use Rattle.std.proofs.Common.{◌≡◌, ◌+◌, ◌^◌, ◌<◌, ℕ, zero, suc, Bool, true, false, IsTrue, eqb, length, get_or, arith, List, [], ◌∷◌, ◌++◌, map, filter, cond, refl, sym, ap, ◌∙◌, subst, inl, inr, ◌⊎◌, ◌↔◌, true≢false}
 use Rattle.std.proofs.lemmas.Bool.Decides.{nat_tests}
 use Rattle.std.proofs.lemmas.Cmp.{ranked, nat_cmp_total, eq_by_cmp_equiv}
 use Rattle.std.proofs.lemmas.List.Filters.{dedup_is}
@@ -7,12 +7,14 @@ use Rattle.std.proofs.lemmas.List.Kept.{Contains-dedup, Contains-from_dedup, IsS
 use Rattle.std.proofs.lemmas.List.Sorted.{Contains-permutation, IsPermutation-sym}
 use Rattle.std.specs.declared.cmp.Ordering.{Ordering}
 use Rattle.std.specs.declared.cmp.Ordering.TheVariants.{Less, Equal, Greater}
-use Rattle.std.specs.Cmp.{IsTotalOrder, IsEquivalence, Equal-is, tied_itself, both_ways}
+use Rattle.std.specs.Cmp.{IsTotalOrder, IsEquivalence, Equal-is}
 use Rattle.std.specs.List.{AllByRecursion, Contains, dedup}
 use Rattle.std.specs.List.Retain.{IsFiltered, DiffersFromLast}
 use Rattle.std.specs.List.Sorted.{IsPermutation, IsSorted, IsStrictlySortedBy}
 use Rattle.std.specs.Ordering.{MatchOrdering, nat_cmp, eq_by_cmp}
+use Rattle.mcs_sets.specs.Sets.{has, members, members_from}
 use Rattle.mcs_sets.specs.Orders.{StateBefore, PairBefore}
+use Rattle.mcs_sets.proofs.SetLemmas.{members_from-each, members-contains}
 use Rattle.mcs_base.specs.StateOrder.{state_cmp, state_cmp_total, less_is, equal_is, StateBefore-transitive, StateBefore-total}
 use Rattle.mcs_base.specs.PairOrder.{pair_cmp, pair_cmp_total, pair_less_is, pair_equal_is, PairBefore-transitive, PairBefore-total}
 use Rattle.mcs_base.specs.Listings.{IsAscending, IsAmong, IsListing}
@@ -304,3 +306,23 @@ states_of_test n p = listing_below StateBefore StateBefore-transitive StateBefor
 
 pub pairs_of_test : (n : ℕ) (p : ℕ → Bool) → (xs : List ℕ) × IsListing (λ s. (s < 2 ^ n) × IsTrue (p s)) PairBefore xs
 pairs_of_test n p = listing_below PairBefore PairBefore-transitive PairBefore-total p (2 ^ n)
+
+-- ---- the members of a set are a listing
+members_from-ascending : (w i s : ℕ) → IsAscending (λ (a b : ℕ). a < b) (members_from i w s)
+unfolding members_from
+members_from-ascending zero i s = tt
+members_from-ascending (suc w) i s = at (has s i) (members_from-ascending w (i + 1) s)
+  where
+    at : (b : Bool) → IsAscending (λ (x y : ℕ). x < y) (members_from (i + 1) w s) → IsAscending (λ (x y : ℕ). x < y) (cond b (i ∷ members_from (i + 1) w s) (members_from (i + 1) w s))
+    at true rest = (members_from-each (λ k. i < k) w (i + 1) s (λ k from is. omega arith), rest)
+    at false rest = rest
+
+pub members_listing : (s : ℕ) → IsListing (λ k. IsTrue (has s k)) (λ a b. a < b) (members s)
+unfolding members
+members_listing s = record {
+  exactly = λ k. (
+    λ among. (members-contains s k).0 (contains_from_among k (members s) among),
+    λ is. among_from_contains k (members s) ((members-contains s k).1 is),
+  );
+  ascending = members_from-ascending s 0 s;
+}

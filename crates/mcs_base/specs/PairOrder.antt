@@ -1,5 +1,5 @@
 -- The order of pairs as an order of std.
-use Rattle.std.specs.Prelude.{◌≡◌, ℕ, ◌+◌, ◌^◌, ◌<◌, Bool, true, nat_eq}
+use Rattle.std.specs.Prelude.{◌≡◌, ℕ, ◌+◌, ◌^◌, ◌<◌, true, nat_eq}
 use Rattle.std.proofs.Common.{refl, sym, ◌∙◌, ap, subst, inl, inr, ◌⊎◌, arith}
 use Rattle.std.proofs.lemmas.Bool.Decides.{nat_tests}
 use Rattle.std.proofs.lemmas.Cmp.{ranked, on_total, then_total, nat_cmp_total}
@@ -9,7 +9,7 @@ use Rattle.std.specs.Ordering.{ordering_reverse, ordering_then, MatchOrdering, n
 use Rattle.std.specs.Cmp.{IsTotalOrder, IsPartialOrder, Equal-is, tied_itself, both_ways, po}
 use Rattle.mcs_sets.specs.Sets.{size}
 use Rattle.mcs_sets.specs.Orders.{PairBefore}
-use Rattle.mcs_sets.proofs.SetLemmas.{below_power, lex_where_state_before, state_before_where_lex, PairBefore-asymmetric}
+use Rattle.mcs_sets.proofs.SetLemmas.{below_power, lex_where_state_before, state_before_where_lex}
 use Rattle.mcs_base.specs.StateOrder.{state_cmp, state_cmp_total, less_is, equal_is, cmp-before}
 
 -- the one with fewer marks is the lesser; with equally many, the lesser state

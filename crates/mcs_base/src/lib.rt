@@ -12,6 +12,7 @@ mod vars;
 pub use active::Active;
 pub use listed::{list_pairs, list_rule_sets, list_states};
 pub use marks::{Marks, pair_before};
+pub use mcs_sets::Members;
 pub use memory::Memory;
 pub use text::Text;
 pub use vars::{Vars, state_before};

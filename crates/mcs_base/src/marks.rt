@@ -1,10 +1,10 @@
 //! A set of marks, each a number below 128.
 
-ghost use Rattle.std.specs.Prelude.{◌≡◌, ℕ, ◌^◌, ◌<◌, ◌↔◌, IsTrue, IfSome, IfNone};
-ghost use Rattle.mcs_sets.specs.Sets.{has, size, single, union, common, minus, Within, Meets, IsLeast};
+ghost use Rattle.std.specs.Prelude.{◌≡◌, ℕ, ◌^◌, ◌<◌, ◌≤◌, ◌↔◌, IsTrue, IfSome, IfNone, All, length};
+ghost use Rattle.mcs_sets.specs.Sets.{has, size, single, union, common, minus, members, Within, Meets, IsLeast};
 ghost use Rattle.mcs_sets.specs.Orders.{PairBefore};
 
-use mcs_sets::SmallSet;
+use mcs_sets::{Members, SmallSet};
 use std::cmp::Ordering;
 use std::marker::Model;
 
@@ -119,6 +119,7 @@ impl Marks {
     /// How many numbers are in the set.
     pub fn count(self) -> u32
         ensures number { result ≡ size self }
+        ensures few { result ≤ 128 }
         ensures in_range { self < 2 ^ 128 }
     {
         self.set.count()
@@ -127,9 +128,19 @@ impl Marks {
     /// The least number of the set; `None` exactly for the empty set.
     pub fn first(self) -> Option<u32>
         ensures least { IfSome result (IsLeast self) }
+        ensures below { IfSome result (λ k. k < 128) }
         ensures empty { IfNone result (self ≡ 0) }
     {
         self.set.first()
+    }
+
+    /// The members, ascending.
+    pub fn members(self) -> Members
+        ensures list { result ≡ members self }
+        ensures below { All (λ k. k < 128) result }
+        ensures few { length result ≤ 128 }
+    {
+        self.set.members()
     }
 }
 

@@ -1,9 +1,10 @@
 //! A set of small numbers as one word of bits, and the orders of such sets.
 
 ghost use Rattle.std.specs.Prelude.{◌≡◌, ℕ, ◌^◌, ◌<◌, ◌↔◌, IsTrue, IfSome, IfNone};
-ghost use Rattle.mcs_sets.specs.Sets.{has, single, union, common, minus, Within, Meets, IsLeast, size};
+ghost use Rattle.mcs_sets.specs.Sets.{has, single, union, common, minus, Within, Meets, IsLeast, size, members};
 ghost use Rattle.mcs_sets.specs.Orders.{StateBefore, PairBefore};
 
+use crate::members::Members;
 use std::marker::Model;
 
 /// A set of numbers below 128. Its own order is that of the numbers that stand for the sets: the set that
@@ -129,6 +130,7 @@ impl SmallSet {
     /// The least number of the set, if it has one.
     pub fn first(self) -> Option<u32>
         ensures least { IfSome result (IsLeast self) }
+        ensures below { IfSome result (λ k. k < 128) }
         ensures empty { IfNone result (self ≡ 0) }
     {
         if self.bits == 0 {
@@ -136,6 +138,13 @@ impl SmallSet {
         } else {
             Some(self.bits.trailing_zeros())
         }
+    }
+
+    /// The members, ascending.
+    pub fn members(self) -> Members
+        ensures { result ≡ members self }
+    {
+        Members { left: self }
     }
 }
 

@@ -1,5 +1,5 @@
 use Rattle.mcs_base.proofs.ListingLemmas.{listing_of_sorted, pairs_sort}
-use Rattle.mcs_base.specs.PairOrder.{pair_cmp, pair_tie}
+use Rattle.mcs_base.specs.PairOrder.{pair_tie}
 use Rattle.mcs_base.proofs.listed.list_pairs.Goals as goal
 
 pub returns : goal.returns

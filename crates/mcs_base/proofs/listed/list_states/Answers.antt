@@ -1,5 +1,5 @@
 use Rattle.mcs_base.proofs.ListingLemmas.{listing_of_sorted, states_sort}
-use Rattle.mcs_base.specs.StateOrder.{state_cmp, state_tie}
+use Rattle.mcs_base.specs.StateOrder.{state_tie}
 use Rattle.mcs_base.proofs.listed.list_states.Goals as goal
 
 pub returns : goal.returns
