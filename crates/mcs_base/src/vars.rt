@@ -36,6 +36,15 @@ impl Vars {
         }
     }
 
+    /// The set whose number this is, so that every set of numbers below `n` is one of the first `2^n`.
+    pub fn numbered(number: u64) -> Self
+        ensures { result ≡ number }
+    {
+        Vars {
+            set: SmallSet::numbered(number),
+        }
+    }
+
     /// The set of this one number, which is below 64.
     pub fn one(n: u32) -> Self
         requires { n < 64 }

@@ -34,6 +34,15 @@ impl SmallSet {
         SmallSet { bits: 0 }
     }
 
+    /// The set whose number this is: it has `k` where bit `k` of the number is set.
+    pub fn numbered(number: u64) -> Self
+        ensures { result ≡ number }
+    {
+        SmallSet {
+            bits: number as u128,
+        }
+    }
+
     /// The set of this one number.
     #[tactic(auto, unfolding(crate::specs::Sets::single))]
     pub fn one(n: u32) -> Self
