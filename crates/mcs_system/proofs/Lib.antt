@@ -2,3 +2,4 @@ pub mod SeenLemmas
 pub mod Members
 pub mod Sameness
 pub mod VariableLemmas
+pub mod GatherLemmas

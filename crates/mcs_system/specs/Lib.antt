@@ -8,3 +8,4 @@ pub mod Rows
 pub mod Atoms
 pub mod Faults
 pub mod Codes
+pub mod Gathered

@@ -8,6 +8,7 @@ mod knowledge;
 mod name;
 mod same;
 mod truth;
+mod variables;
 
 pub use bridge::{Bridge, Read};
 pub use fault::{BuildFault, Limit};
