@@ -1,6 +1,7 @@
 //! Multi-context systems: their data, and what it means.
 #![tactic(auto)]
 
+mod atoms;
 mod bridge;
 mod fault;
 mod formula;
