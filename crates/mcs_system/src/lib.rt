@@ -3,6 +3,7 @@
 
 mod bridge;
 mod fault;
+mod faults;
 mod formula;
 mod knowledge;
 mod name;
