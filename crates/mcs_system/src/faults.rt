@@ -1,15 +1,18 @@
 //! The tests by which lists of contexts and bridge rules make a system or not.
 
-ghost use Rattle.std.specs.Prelude.{◌≡◌, ◌&&◌, List, not, nat_eq, nat_lt, count_by, length, map, min, slice_get};
+ghost use Rattle.std.specs.Prelude.{◌≡◌, ◌&&◌, IfOk, List, not, nat_eq, nat_lt, count_by, length, map, min, slice_get};
 ghost use Rattle.std.specs.List.{list_any};
 ghost use Rattle.mcs_system.specs.declared.bridge.Bridge.{Bridge};
 ghost use Rattle.mcs_system.specs.declared.fault.Limit.TheVariants.{RulesPerContext, DefaultsPerContext, ItemsPerContext, FormulaSize};
-ghost use Rattle.mcs_system.specs.Faults.{exceeds, has_large_formula, has_large_item, has_large_part, has_misfit, has_misfits, has_unjustified, has_unknown_context, is_atom, is_default, is_large, is_large_rule, is_program, is_unjustified, item_count, points_outside};
+ghost use Rattle.mcs_system.specs.Faults.{exceeds, has_large_formula, has_large_item, has_large_part, has_misfit, has_misfits, has_twins, has_twin_names, has_unjustified, has_unknown_context, is_atom, is_default, is_large, is_large_rule, is_program, is_unjustified, item_count, points_outside};
 ghost use Rattle.mcs_system.specs.Seen.{bridge_of, context_of, formula_of, formula_size, item_of, kb_of, read_of, rule_of, system_of};
 
 use crate::bridge::{Bridge, Read};
 use crate::formula::Formula;
 use crate::knowledge::{Context, Kb, ProgRule, TheoryItem};
+use mcs_base::Memory;
+use std::alloc::Global;
+use std::collections::BTreeSet;
 
 /// The most rules into one context.
 const MOST_RULES: usize = 12;
@@ -54,6 +57,56 @@ pub(crate) fn has_unknown_context(contexts: &[Context], bridges: &[Bridge]) -> b
         }
     }
     false
+}
+
+/// The names of the contexts.
+fn context_names(alloc: Global, contexts: &[Context]) -> Result<Vec<&[u8]>, Memory>
+    ensures { IfOk result
+        (λ names. map (λ n. n.now) names.items ≡ map (λ c. c.name) (map context_of contexts.now)) }
+{
+    let mut names = Vec::new(alloc);
+    for context in contexts {
+        names.push(context.name.bytes())?;
+    }
+    Ok(names)
+}
+
+/// The names of the bridge rules.
+fn bridge_names(alloc: Global, bridges: &[Bridge]) -> Result<Vec<&[u8]>, Memory>
+    ensures { IfOk result
+        (λ names. map (λ n. n.now) names.items ≡ map (λ b. b.name) (map bridge_of bridges.now)) }
+{
+    let mut names = Vec::new(alloc);
+    for bridge in bridges {
+        names.push(bridge.name.bytes())?;
+    }
+    Ok(names)
+}
+
+/// Whether two of the names are the same.
+fn has_twins(alloc: Global, names: &[&[u8]]) -> Result<bool, Memory>
+    ensures { IfOk result (λ b. b ≡ has_twins (map (λ n. n.now) names.now)) }
+{
+    let mut seen = BTreeSet::new(alloc);
+    for name in names {
+        if !seen.insert(*name)? {
+            return Ok(true);
+        }
+    }
+    Ok(false)
+}
+
+/// Whether two contexts, or two bridge rules, have one name.
+pub(crate) fn has_twin_names(
+    alloc: Global,
+    contexts: &[Context],
+    bridges: &[Bridge],
+) -> Result<bool, Memory>
+    ensures { IfOk result (λ b. b ≡ has_twin_names (system_of contexts.now bridges.now)) }
+{
+    let contexts = context_names(alloc, contexts)?;
+    let bridges = bridge_names(alloc, bridges)?;
+    Ok(has_twins(alloc, &contexts)? || has_twins(alloc, &bridges)?)
 }
 
 /// Whether the formula is an atom.
