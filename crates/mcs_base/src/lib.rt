@@ -6,8 +6,10 @@ mod active;
 mod marks;
 mod memory;
 mod vars;
+mod words;
 
 pub use active::Active;
 pub use marks::{Marks, pair_before};
 pub use memory::Memory;
 pub use vars::{Vars, state_before};
+pub use words::{is_letter, is_name, is_reserved, is_word, is_word_byte};

@@ -3,3 +3,5 @@ pub mod Members
 pub mod Sameness
 pub mod VariableLemmas
 pub mod GatherLemmas
+pub mod FaultLemmas
+pub mod Twins

@@ -4,6 +4,7 @@
 mod atoms;
 mod bridge;
 mod fault;
+mod faults;
 mod formula;
 mod knowledge;
 mod name;
