@@ -1,11 +1,15 @@
 -- What the variables of a system are, and the sets that are made of them.
-use Rattle.std.proofs.Common.{◌≡◌, ℕ, ◌+◌, ◌<◌, zero, suc, Bool, true, false, not, ◌&&◌, ◌||◌, eqb, ltb, List, [], ◌∷◌, ◌++◌, filter, length, Some, refl, sym, ap, ◌∙◌, inl, inr, ◌⊎◌, arith, true≢false, slice_get}
+use Rattle.std.proofs.Common.{◌≡◌, ℕ, ◌+◌, ◌-◌, ◌<◌, ◌≤◌, map, zero, suc, Bool, true, false, not, ◌&&◌, ◌||◌, eqb, ltb, List, [], ◌∷◌, ◌++◌, filter, length, Some, refl, sym, ap, ◌∙◌, inl, inr, ◌⊎◌, arith, true≢false, slice_get}
 use Rattle.std.proofs.lemmas.Bool.Decides.{nat_tests}
-use Rattle.std.specs.List.{range_with_len, list_any, enumerate_from}
+use Rattle.std.proofs.lemmas.List.{length-map}
+use Rattle.std.specs.List.{range_with_len, list_any, enumerate_from, flat_map}
 use Rattle.mcs_sets.specs.Sets.{has}
 use Rattle.mcs_sets.proofs.SetLemmas.{has-such_that}
 use Rattle.mcs_base.specs.Listings.{IsAmong}
+use Rattle.mcs_system.specs.declared.knowledge.Context as code
+use Rattle.mcs_system.specs.declared.bridge.Bridge as code'
 use Rattle.mcs_system.specs.Plain.{Read, Bridge, System}
+use Rattle.mcs_system.specs.Seen.{context_of, system_of}
 use Rattle.mcs_system.specs.Systems.{same_read, occurrences, firsts, context_variables, variables, variables_of, IsVariable, applies_at, applicable}
 use Rattle.mcs_system.specs.Imports.{rules_into}
 use Rattle.mcs_system.specs.Rows.{inputs_of}
@@ -92,3 +96,24 @@ unfolding inputs_of
 has-inputs_of m i k v b r q is target here var alike = has-such_that _ _ v ∙ (let less = get-lt q (variables m) v var in let e : ltb v (length (variables m)) ≡ true = grind (arith, nat_tests) in rw (e, var)
     (get_any (λ (c : Bridge). eqb c.target i && list_any (λ (p : Read). same_read q p) (c.pos ++ c.neg)) m.bridges k b is
     (let t : eqb b.target i ≡ true = grind (arith, nat_tests) in let a = among_any (λ (p : Read). same_read q p) (b.pos ++ b.neg) r here alike in rw (t, a) refl)))
+
+-- ---- the walk over the contexts
+pub range_step : (i n : ℕ) → i < n → range_with_len i (n - i) ≡ i ∷ range_with_len (i + 1) (n - (i + 1))
+range_step i n less = let e : n - i ≡ suc (n - (i + 1)) = omega arith in ap (range_with_len i) e
+
+pub range_over : (i n : ℕ) → n ≤ i → range_with_len i (n - i) ≡ []
+range_over i n over = let e : n - i ≡ 0 = omega arith in ap (range_with_len i) e
+
+-- the variables of context i and of those after it
+abbrev pub variables_from : List code.Context → List code'.Bridge → ℕ → List Read
+variables_from cs bs i = flat_map (context_variables (system_of [] bs)) (range_with_len i (length cs - i))
+
+pub variables_from-step : (cs : List code.Context) (bs : List code'.Bridge) (i : ℕ) → i < length cs → variables_from cs bs i ≡ context_variables (system_of [] bs) i ++ variables_from cs bs (i + 1)
+variables_from-step cs bs i less = ap (flat_map (context_variables (system_of [] bs))) (range_step i (length cs) less)
+
+pub variables_from-over : (cs : List code.Context) (bs : List code'.Bridge) (i : ℕ) → length cs ≤ i → variables_from cs bs i ≡ []
+variables_from-over cs bs i over = ap (flat_map (context_variables (system_of [] bs))) (range_over i (length cs) over)
+
+pub variables-all : (cs : List code.Context) (bs : List code'.Bridge) → variables (system_of cs bs) ≡ variables_from cs bs 0
+unfolding variables
+variables-all cs bs = let e : length (map context_of cs) ≡ length cs - 0 = omega (arith, length-map cs context_of) in ap (λ n. flat_map (context_variables (system_of [] bs)) (range_with_len 0 n)) e

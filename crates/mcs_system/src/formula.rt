@@ -1,6 +1,6 @@
 //! Formulas of propositional logic.
 
-ghost use Rattle.std.specs.Prelude.{◌≡◌, IfOk};
+ghost use Rattle.std.specs.Prelude.{◌≡◌, IfOk, map};
 ghost use Rattle.mcs_system.specs.Seen.{formula_of};
 
 use crate::name::Name;
@@ -48,4 +48,15 @@ impl Formula {
             ),
         })
     }
+}
+
+/// Equal formulas, in the same order.
+pub(crate) fn copy_formulas(alloc: Global, formulas: &[Formula]) -> Result<Vec<Formula>, Memory>
+    ensures { IfOk result (λ copies. map formula_of copies.items ≡ map formula_of formulas.now) }
+{
+    let mut copies = Vec::new(alloc);
+    for formula in formulas {
+        copies.push(formula.copy(alloc)?)?;
+    }
+    Ok(copies)
 }

@@ -1,13 +1,16 @@
 //! Multi-context systems: their data, and what it means.
 #![tactic(auto)]
 
+mod atoms;
 mod bridge;
 mod fault;
+mod faults;
 mod formula;
 mod knowledge;
 mod name;
 mod same;
 mod truth;
+mod variables;
 
 pub use bridge::{Bridge, Read};
 pub use fault::{BuildFault, Limit};
