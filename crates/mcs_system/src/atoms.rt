@@ -66,10 +66,7 @@ fn add_atoms(alloc: Global, formula: &Formula, found: &mut Vec<Name>) -> Result<
         Formula::True | Formula::False => Ok(found.len() <= MOST_ATOMS),
         Formula::Atom(name) => add_name(alloc, name, found),
         Formula::Not(g) => add_atoms(alloc, g, found),
-        Formula::And(g, h)
-        | Formula::Or(g, h)
-        | Formula::Implies(g, h)
-        | Formula::Iff(g, h) => {
+        Formula::And(g, h) | Formula::Or(g, h) | Formula::Implies(g, h) | Formula::Iff(g, h) => {
             Ok(add_atoms(alloc, g, found)? && add_atoms(alloc, h, found)?)
         }
     }

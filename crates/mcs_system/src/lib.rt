@@ -8,7 +8,9 @@ mod faults;
 mod formula;
 mod knowledge;
 mod name;
+mod parts;
 mod same;
+mod system;
 mod truth;
 mod variables;
 
@@ -18,4 +20,5 @@ pub use formula::Formula;
 pub use knowledge::{Context, Default, Kb, ProgRule, TheoryItem};
 pub use name::Name;
 pub use same::{same_formula, same_read};
+pub use system::System;
 pub use truth::{all_hold_at, holds_at};
