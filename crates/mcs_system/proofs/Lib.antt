@@ -1,3 +1,4 @@
 pub mod SeenLemmas
 pub mod FaultLemmas
 pub mod Twins
+pub mod ValidLemmas

@@ -342,7 +342,8 @@ fn is_large_rule(rule: &ProgRule) -> bool
     ensures { result ≡ is_large_rule (rule_of rule.now) }
 {
     let most = MOST_SIZE as usize;
-    rule.head.len().min(most + 1) + rule.pos.len().min(most + 1) + rule.neg.len().min(most + 1) > most
+    rule.head.len().min(most + 1) + rule.pos.len().min(most + 1) + rule.neg.len().min(most + 1)
+        > most
 }
 
 /// Whether some rule has too many names.
@@ -417,4 +418,18 @@ pub(crate) fn has_large_formula(contexts: &[Context], bridges: &[Bridge]) -> boo
     ensures { result ≡ exceeds (system_of contexts.now bridges.now) FormulaSize }
 {
     any_large_kb(contexts) || any_large_bridge(bridges)
+}
+
+#[cfg(test)]
+mod tests {
+    use super::*;
+    use std::test::Fail;
+
+    #[test]
+    fn finds_twins(rt: HostRuntime) -> Result<(), Fail> {
+        assert!(rt; !has_twins(rt.alloc(), &[b"b", b"a", b"ab"])?);
+        assert!(rt; has_twins(rt.alloc(), &[b"b", b"a", b"ab", b"a"])?);
+        assert!(rt; !has_twin_names(rt.alloc(), &[], &[])?);
+        Ok(())
+    }
 }
