@@ -6,3 +6,5 @@ pub mod GatherLemmas
 pub mod FaultLemmas
 pub mod Twins
 pub mod ValidLemmas
+pub mod Distinct
+pub mod AppliesLemmas
