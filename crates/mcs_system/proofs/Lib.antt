@@ -5,3 +5,4 @@ pub mod VariableLemmas
 pub mod GatherLemmas
 pub mod FaultLemmas
 pub mod Twins
+pub mod AtomLemmas

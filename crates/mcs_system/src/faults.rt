@@ -342,7 +342,8 @@ fn is_large_rule(rule: &ProgRule) -> bool
     ensures { result ≡ is_large_rule (rule_of rule.now) }
 {
     let most = MOST_SIZE as usize;
-    rule.head.len().min(most + 1) + rule.pos.len().min(most + 1) + rule.neg.len().min(most + 1) > most
+    rule.head.len().min(most + 1) + rule.pos.len().min(most + 1) + rule.neg.len().min(most + 1)
+        > most
 }
 
 /// Whether some rule has too many names.

@@ -43,7 +43,12 @@ fn add_read(alloc: Global, read: &Read, found: &mut Vec<Read>) -> Result<bool, M
 /// Adds those of the reads that are of the context and not found already; whether there are few enough
 /// still.
 #[tactic(auto, using(crate::proofs::GatherLemmas::gathered_more))]
-fn add_reads(alloc: Global, reads: &[Read], context: usize, found: &mut Vec<Read>) -> Result<bool, Memory>
+fn add_reads(
+    alloc: Global,
+    reads: &[Read],
+    context: usize,
+    found: &mut Vec<Read>,
+) -> Result<bool, Memory>
     ensures found { IfOk result (λ few. IsTrue few → map read_of found.new.items ≡ with_reads (map read_of found.old.items) context (map read_of reads.now)) }
     ensures few { IfOk result (λ few. few ≡ nat_le (length (with_reads (map read_of found.old.items) context (map read_of reads.now))) 64) }
 {
@@ -58,15 +63,27 @@ fn add_reads(alloc: Global, reads: &[Read], context: usize, found: &mut Vec<Read
 /// Adds what the rule reads of the context and is not found already, the positive reads first; whether
 /// there are few enough still.
 #[tactic(auto, using(crate::proofs::GatherLemmas::gathered_more))]
-fn add_reads_of(alloc: Global, bridge: &Bridge, context: usize, found: &mut Vec<Read>) -> Result<bool, Memory>
+fn add_reads_of(
+    alloc: Global,
+    bridge: &Bridge,
+    context: usize,
+    found: &mut Vec<Read>,
+) -> Result<bool, Memory>
     ensures found { IfOk result (λ few. IsTrue few → map read_of found.new.items ≡ with_reads (map read_of found.old.items) context (reads_of (bridge_of bridge.now))) }
     ensures few { IfOk result (λ few. few ≡ nat_le (length (with_reads (map read_of found.old.items) context (reads_of (bridge_of bridge.now)))) 64) }
 {
-    Ok(add_reads(alloc, &bridge.pos, context, found)? && add_reads(alloc, &bridge.neg, context, found)?)
+    Ok(
+        add_reads(alloc, &bridge.pos, context, found)?
+            && add_reads(alloc, &bridge.neg, context, found)?,
+    )
 }
 
 /// The variables of one context, by first occurrence; `None` where they are too many.
-fn variables_of_context(alloc: Global, bridges: &[Bridge], context: usize) -> Result<Option<Vec<Read>>, Memory>
+fn variables_of_context(
+    alloc: Global,
+    bridges: &[Bridge],
+    context: usize,
+) -> Result<Option<Vec<Read>>, Memory>
     ensures { IfOk result (λ found. let all = context_variables (system_of [] bridges.now) context in MatchOption found (64 < length all) (λ v. map read_of v.items ≡ all)) }
 {
     let mut found = Vec::new(alloc);
@@ -80,7 +97,11 @@ fn variables_of_context(alloc: Global, bridges: &[Bridge], context: usize) -> Re
 
 /// The variables of the system of these contexts and rules, by context and within a context by first
 /// occurrence; `None` where there are more than 64.
-pub(crate) fn variables_of(alloc: Global, contexts: &[Context], bridges: &[Bridge]) -> Result<Option<Vec<Read>>, Memory>
+pub(crate) fn variables_of(
+    alloc: Global,
+    contexts: &[Context],
+    bridges: &[Bridge],
+) -> Result<Option<Vec<Read>>, Memory>
     ensures { IfOk result (λ found. let all = variables (system_of contexts.now bridges.now) in MatchOption found (64 < length all) (λ v. (map read_of v.items ≡ all) × (length v.items ≤ 64))) }
 {
     let mut variables = Vec::new(alloc);
