@@ -6,3 +6,4 @@ pub mod GatherLemmas
 pub mod FaultLemmas
 pub mod Twins
 pub mod AtomLemmas
+pub mod PartLemmas

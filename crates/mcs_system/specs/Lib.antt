@@ -9,3 +9,4 @@ pub mod Atoms
 pub mod Faults
 pub mod Codes
 pub mod Gathered
+pub mod Parts

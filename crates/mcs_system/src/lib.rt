@@ -8,6 +8,7 @@ mod faults;
 mod formula;
 mod knowledge;
 mod name;
+mod parts;
 mod same;
 mod truth;
 mod variables;
