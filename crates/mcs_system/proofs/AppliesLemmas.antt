@@ -4,16 +4,18 @@ use Rattle.std.proofs.lemmas.Bool.{and_parts}
 use Rattle.std.proofs.lemmas.Bool.Decides.{nat_tests}
 use Rattle.std.specs.List.{list_any, list_all, AllByRecursion}
 use Rattle.mcs_sets.specs.Sets.{has, single, union, common, members, such_that, Within, Meets}
-use Rattle.mcs_sets.proofs.SetLemmas.{has-such_that, has-union, has-single, has-common, has-empty, same_set}
+use Rattle.mcs_sets.proofs.SetLemmas.{members_below, such_that-lt, has-such_that, has-union, has-single, has-common, has-empty, same_set}
 use Rattle.mcs_base.specs.Listings.{IsAmong}
-use Rattle.mcs_base.proofs.ListingLemmas.{members_listing}
+use Rattle.mcs_base.proofs.ListingLemmas.{members_listing, all_from_among}
 use Rattle.mcs_system.specs.Plain.{Read, Bridge, System}
 use Rattle.mcs_system.specs.Imports.{rules_into}
 use Rattle.mcs_system.specs.Systems.{same_read, variables, IsVariable, believed_among, applies_among, applies_at, applies_there, is_applicable, applicable}
-use Rattle.mcs_system.specs.Parts.{is_among_reads, read_set}
-use Rattle.mcs_system.proofs.Members.{get-lt, get_below, get_any, among_any, all_by_test}
+use Rattle.mcs_system.specs.Parts.{is_read_among, variables_read}
+use Rattle.mcs_system.specs.Faults.{reads_of, IsValid}
+use Rattle.mcs_system.proofs.ValidLemmas.{read_in_range}
+use Rattle.mcs_system.proofs.Members.{get-lt, among_any, among_left, get_among}
 use Rattle.mcs_system.proofs.Sameness.{same_read-is, same_read-itself}
-use Rattle.mcs_system.proofs.VariableLemmas.{believed_from, from_believed}
+use Rattle.mcs_system.proofs.VariableLemmas.{believed_from, from_believed, read_is_variable}
 use Rattle.mcs_system.proofs.Distinct.{one_number}
 
 -- ---- gathering the rules that apply
@@ -117,14 +119,14 @@ among_read r (q ∷ qs) e = at (same_read r q) refl e (among_read r qs)
     at true is e rest = inl (same_read-is r q is)
     at false is e rest = inr (rest e)
 
-has-read_set : (vars reads : List Read) (v : ℕ) → (has (read_set vars reads) v ≡ true) ↔ ((r : Read) × (slice_get vars v ≡ Some r) × IsAmong r reads)
-unfolding read_set
-has-read_set vars reads v = (
-  λ h. let parts = and_parts _ _ (sym (has-such_that (length vars) (λ w. is_among_reads reads (slice_get vars w)) v) ∙ h) in to (slice_get vars v) refl parts.1,
-  λ (r, is, among). has-such_that (length vars) (λ w. is_among_reads reads (slice_get vars w)) v ∙ both_true _ _ (let less = get-lt r vars v is in grind (arith, nat_tests)) (ap (is_among_reads reads) is ∙ among_any (same_read r) reads r among (same_read-itself r)),
+has-variables_read : (vars reads : List Read) (v : ℕ) → (has (variables_read vars reads) v ≡ true) ↔ ((r : Read) × (slice_get vars v ≡ Some r) × IsAmong r reads)
+unfolding variables_read
+has-variables_read vars reads v = (
+  λ h. let parts = and_parts _ _ (sym (has-such_that (length vars) (λ w. is_read_among reads (slice_get vars w)) v) ∙ h) in to (slice_get vars v) refl parts.1,
+  λ (r, is, among). has-such_that (length vars) (λ w. is_read_among reads (slice_get vars w)) v ∙ both_true _ _ (let less = get-lt r vars v is in grind (arith, nat_tests)) (ap (is_read_among reads) is ∙ among_any (same_read r) reads r among (same_read-itself r)),
 )
   where
-    to : (o : Option Read) → slice_get vars v ≡ o → is_among_reads reads o ≡ true → (r : Read) × (slice_get vars v ≡ Some r) × IsAmong r reads
+    to : (o : Option Read) → slice_get vars v ≡ o → is_read_among reads o ≡ true → (r : Read) × (slice_get vars v ≡ Some r) × IsAmong r reads
     to None e h = absurd (true≢false (sym h))
     to (Some r) e h = (r, e, among_read r reads h)
 
@@ -135,12 +137,12 @@ believed_where vars σ r = (
 )
 
 -- all reads are believed where the variables that they are lie within the state
-pub all_believed : (m : System) (σ : ℕ) (reads : List Read) → ((r : Read) → IsAmong r reads → (v : ℕ) × IsVariable m v r) → (list_all (believed_among (variables m) σ) reads ≡ true) ↔ Within (read_set (variables m) reads) σ
+pub all_believed : (m : System) (σ : ℕ) (reads : List Read) → ((r : Read) → IsAmong r reads → (v : ℕ) × IsVariable m v r) → (list_all (believed_among (variables m) σ) reads ≡ true) ↔ Within (variables_read (variables m) reads) σ
 all_believed m σ reads known = (
-  λ all v member. let (r, is, among) = (has-read_set (variables m) reads v).0 member in
+  λ all v member. let (r, is, among) = (has-variables_read (variables m) reads v).0 member in
       let (w, is', holds) = (believed_where (variables m) σ r).0 (at_each reads all r among) in
       let same : w ≡ v = one_number m w v r is' is in ap (has σ) (sym same) ∙ holds,
-  λ within. by_each reads (λ r among. let (v, is) = known r among in (believed_where (variables m) σ r).1 (v, is, within v ((has-read_set (variables m) reads v).1 (r, is, among)))),
+  λ within. by_each reads (λ r among. let (v, is) = known r among in (believed_where (variables m) σ r).1 (v, is, within v ((has-variables_read (variables m) reads v).1 (r, is, among)))),
 )
   where
     at_each : (rs : List Read) → list_all (believed_among (variables m) σ) rs ≡ true → (r : Read) → IsAmong r rs → believed_among (variables m) σ r ≡ true
@@ -153,11 +155,11 @@ all_believed m σ reads known = (
     by_each (q ∷ qs) each = both_true _ _ (each q (inl refl)) (by_each qs (λ r h. each r (inr h)))
 
 -- none is believed where these variables do not meet the state
-pub none_believed : (m : System) (σ : ℕ) (reads : List Read) → (list_all (λ r. not (believed_among (variables m) σ r)) reads ≡ true) ↔ (¬ Meets (read_set (variables m) reads) σ)
+pub none_believed : (m : System) (σ : ℕ) (reads : List Read) → (list_all (λ r. not (believed_among (variables m) σ r)) reads ≡ true) ↔ (¬ Meets (variables_read (variables m) reads) σ)
 none_believed m σ reads = (
-  λ all meets. let (r, is, among) = (has-read_set (variables m) reads meets.member).0 meets.in_first in
+  λ all meets. let (r, is, among) = (has-variables_read (variables m) reads meets.member).0 meets.in_first in
       clash (believed_among (variables m) σ r) (at_each reads all r among) ((believed_where (variables m) σ r).1 (meets.member, is, meets.in_second)),
-  λ never. by_each reads (λ r among. negative (believed_among (variables m) σ r) (λ h. let (v, is, member) = (believed_where (variables m) σ r).0 h in never (record { member = v; in_first = (has-read_set (variables m) reads v).1 (r, is, among); in_second = member }))),
+  λ never. by_each reads (λ r among. negative (believed_among (variables m) σ r) (λ h. let (v, is, member) = (believed_where (variables m) σ r).0 h in never (record { member = v; in_first = (has-variables_read (variables m) reads v).1 (r, is, among); in_second = member }))),
 )
   where
     clash : (u : Bool) → not u ≡ true → u ≡ true → ⊥
@@ -176,3 +178,54 @@ none_believed m σ reads = (
     by_each : (rs : List Read) → ((r : Read) → IsAmong r rs → not (believed_among (variables m) σ r) ≡ true) → list_all (λ r. not (believed_among (variables m) σ r)) rs ≡ true
     by_each [] each = refl
     by_each (q ∷ qs) each = both_true _ _ (each q (inl refl)) (by_each qs (λ r h. each r (inr h)))
+
+positive : (m : System) → IsValid m → (σ k : ℕ) (b : Bridge) → slice_get m.bridges k ≡ Some b → (within : Bool) → (within ≡ true) ↔ Within (variables_read (variables m) b.pos) σ → within ≡ list_all (believed_among (variables m) σ) b.pos
+positive m valid σ k b is within w = alike _ _ (λ e. (all_believed m σ b.pos known).1 (w.0 e)) (λ e. w.1 ((all_believed m σ b.pos known).0 e))
+  where
+    known : (r : Read) → IsAmong r b.pos → (v : ℕ) × IsVariable m v r
+    known r h =
+        let whole = among_left r b.pos b.neg h in
+        let (j, at_j) = get_among r (reads_of b) whole in
+        read_is_variable m k b r is whole (read_in_range m valid k j b r is at_j)
+
+-- a rule applies where its positive variables lie within the state and its negative ones do not meet it
+pub applies_by_sets : (m : System) → IsValid m → (σ k : ℕ) (b : Bridge) → slice_get m.bridges k ≡ Some b → (within meets : Bool)
+    → (within ≡ true) ↔ Within (variables_read (variables m) b.pos) σ → (meets ≡ true) ↔ Meets (variables_read (variables m) b.neg) σ
+    → (within && not meets) ≡ is_applicable m σ (slice_get m.bridges k)
+applies_by_sets m valid σ k b is within meets w n = pairwise within (list_all (believed_among (variables m) σ) b.pos) (not meets) (list_all (λ r. not (believed_among (variables m) σ r)) b.neg) pos neg ∙ ap (is_applicable m σ) (sym is)
+  where
+    pairwise : (u u' v v' : Bool) → u ≡ u' → v ≡ v' → (u && v) ≡ (u' && v')
+    pairwise u u' v v' e e' = rw (e, e') refl
+
+    pos : within ≡ list_all (believed_among (variables m) σ) b.pos
+    pos = positive m valid σ k b is within w
+
+    negated : (u : Bool) → (not u ≡ true) ↔ (¬ (u ≡ true))
+    negated true = ((λ e h. true≢false (sym e)), λ h. absurd (h refl))
+    negated false = ((λ e h. true≢false (sym h)), λ h. refl)
+
+    neg : not meets ≡ list_all (λ r. not (believed_among (variables m) σ r)) b.neg
+    neg = alike _ _ (λ e. (none_believed m σ b.neg).1 (λ h. (negated meets).0 e (n.1 h))) (λ e. (negated meets).1 (λ h. (none_believed m σ b.neg).0 e (n.0 h)))
+
+-- and it does not where they do not lie within it
+pub applies_not : (m : System) → IsValid m → (σ k : ℕ) (b : Bridge) → slice_get m.bridges k ≡ Some b → (within : Bool)
+    → (within ≡ true) ↔ Within (variables_read (variables m) b.pos) σ → within ≡ false → within ≡ is_applicable m σ (slice_get m.bridges k)
+applies_not m valid σ k b is within w out =
+    let none : list_all (believed_among (variables m) σ) b.pos ≡ false = sym (positive m valid σ k b is within w) ∙ out in
+    out ∙ sym (ap (is_applicable m σ) is ∙ ap (λ u. u && list_all (λ r. not (believed_among (variables m) σ r)) b.neg) none)
+
+pub rules_known : (m : System) (i : ℕ) → AllByRecursion (λ k. k < length m.bridges) (members (rules_into m i))
+unfolding rules_into
+rules_known m i = all_from_among (λ k. k < length m.bridges) (members (rules_into m i)) (λ k among. members_below (rules_into m i) (length m.bridges) k (such_that-lt (length m.bridges) _) (((members_listing (rules_into m i)).exactly k).0 among))
+
+pub applying-step : (m : System) (σ found r : ℕ) (rs : List ℕ) → is_applicable m σ (slice_get m.bridges r) ≡ true → applying m σ (union found (single r)) rs ≡ applying m σ found (r ∷ rs)
+unfolding applying
+applying-step m σ found r rs e = rw e refl
+
+pub applying-skip : (m : System) (σ found r : ℕ) (rs : List ℕ) → is_applicable m σ (slice_get m.bridges r) ≡ false → applying m σ found rs ≡ applying m σ found (r ∷ rs)
+unfolding applying
+applying-skip m σ found r rs e = rw e refl
+
+pub applying-none : (m : System) (σ found : ℕ) → applying m σ found [] ≡ found
+unfolding applying
+applying-none m σ found = refl

@@ -8,3 +8,6 @@ pub mod Twins
 pub mod ValidLemmas
 pub mod Distinct
 pub mod AppliesLemmas
+pub mod AtomLemmas
+pub mod PartLemmas
+pub mod KeptLemmas

@@ -1,13 +1,15 @@
 //! Multi-context systems.
 
-ghost use Rattle.std.specs.Prelude.{◌≡◌, ◌<◌, ◌≤◌, length, map};
+ghost use Rattle.std.specs.Prelude.{◌≡◌, ◌<◌, ◌≤◌, length, map, Some, slice_get};
 ghost use Rattle.mcs_sets.specs.Sets.{common};
 ghost use Rattle.mcs_system.specs.Atoms.{atoms_of};
 ghost use Rattle.mcs_system.specs.Faults.{IsValid};
 ghost use Rattle.mcs_system.specs.Imports.{rules_into};
+ghost use Rattle.mcs_system.specs.Parts.{context_part, context_part_of, rule_part, rule_part_of};
+ghost use Rattle.mcs_system.specs.Plain as plain;
 ghost use Rattle.mcs_system.specs.Rows.{inputs_of};
 ghost use Rattle.mcs_system.specs.Seen.{context_of, bridge_of, read_of};
-ghost use Rattle.mcs_system.specs.Systems.{variables, variables_of, applicable};
+ghost use Rattle.mcs_system.specs.Systems.{variables, variables_of, applicable, is_applicable};
 
 use crate::bridge::{Bridge, Read};
 use crate::knowledge::Context;
@@ -32,7 +34,7 @@ impl Model for System {
     ghost use Rattle.mcs_system.specs.Codes.{coded_system};
     ghost use Rattle.mcs_system.specs.Seen.{system_of, read_of};
     ghost use Rattle.mcs_system.specs.Faults.{IsValid};
-    ghost use Rattle.mcs_system.specs.Parts.{KeepsParts};
+    ghost use Rattle.mcs_system.specs.Kept.{KeepsParts};
 
     ghost Value = { plain.System };
 
@@ -69,6 +71,33 @@ impl System {
         &self.variables
     }
 
+    /// What is kept of a context of the system.
+    fn parts_of(&self, context: u32) -> &ContextParts
+        requires { context < length self.now.contexts }
+        ensures part { context_part_of result.now ≡ context_part self.now context }
+        ensures valid { IsValid self.now }
+    {
+        &self.parts[context as usize]
+    }
+
+    /// What is kept of a rule of the system.
+    fn reads_of(&self, rule: u32) -> &RuleReads
+        requires { rule < length self.now.bridges }
+        ensures part { (b : plain.Bridge) → slice_get self.now.bridges rule ≡ Some b → rule_part_of result.now ≡ rule_part (variables self.now) b }
+        ensures valid { IsValid self.now }
+    {
+        &self.reads[rule as usize]
+    }
+
+    /// Whether a rule of the system applies in the state.
+    fn is_applicable(&self, rule: u32, state: Vars) -> bool
+        requires { rule < length self.now.bridges }
+        ensures { result ≡ is_applicable self.now state (slice_get self.now.bridges rule) }
+    {
+        let reads = self.reads_of(rule);
+        reads.positive.within(state) && !reads.negative.meets(state)
+    }
+
     /// The atoms of a context of the system, by first occurrence: in its items, in the heads of the rules
     /// into it, in its variables.
     pub fn atoms_of(&self, context: u32) -> &[Name]
@@ -76,7 +105,7 @@ impl System {
         ensures value { result.now ≡ atoms_of self.now context }
         ensures few { length result.now ≤ 64 }
     {
-        &self.parts[context as usize].atoms
+        &self.parts_of(context).atoms
     }
 
     /// The variables of a context of the system.
@@ -84,7 +113,7 @@ impl System {
         requires { context < length self.now.contexts }
         ensures { result ≡ variables_of self.now context }
     {
-        self.parts[context as usize].variables
+        self.parts_of(context).variables
     }
 
     /// The variables that rules into a context of the system read.
@@ -92,7 +121,7 @@ impl System {
         requires { context < length self.now.contexts }
         ensures { result ≡ inputs_of self.now context }
     {
-        self.parts[context as usize].inputs
+        self.parts_of(context).inputs
     }
 
     /// The rules into a context of the system.
@@ -100,7 +129,7 @@ impl System {
         requires { context < length self.now.contexts }
         ensures { result ≡ rules_into self.now context }
     {
-        self.parts[context as usize].rules
+        self.parts_of(context).rules
     }
 
     /// The rules into a context of the system that apply in the state.
@@ -109,9 +138,8 @@ impl System {
         ensures { result ≡ common (applicable self.now state) (rules_into self.now context) }
     {
         let mut rules = Active::empty();
-        for r in self.parts[context as usize].rules.members() {
-            let reads = self.reads[r as usize];
-            if reads.positive.within(state) && !reads.negative.meets(state) {
+        for r in self.rules_of(context).members() {
+            if self.is_applicable(r, state) {
                 rules = rules.with(r);
             }
         }

@@ -1,0 +1,103 @@
+//! What a system keeps of its contexts and rules, so that no later call reads formulas again.
+
+ghost use Rattle.std.specs.Prelude.{◌≡◌, ◌≤◌, ◌<◌, ℕ, List, [], map, length, IfOk, MatchOption};
+ghost use Rattle.mcs_sets.specs.Sets.{size};
+ghost use Rattle.mcs_system.specs.declared.knowledge.Context.{Context};
+ghost use Rattle.mcs_system.specs.Imports.{rules_into};
+ghost use Rattle.mcs_system.specs.Parts.{context_part, context_part_of, variables_among, inputs_among, variables_read, read_into, rule_part, rule_part_of};
+ghost use Rattle.mcs_system.specs.Seen.{read_of, bridge_of, system_of};
+ghost use Rattle.mcs_system.specs.Systems.{variables};
+
+use crate::atoms::atoms_of;
+use crate::bridge::{Bridge, Read};
+use crate::knowledge::Context;
+use crate::name::Name;
+use crate::variables::is_among;
+use mcs_base::{Active, Memory, Vars};
+use std::alloc::Global;
+
+/// What is kept of a context: its atoms, its variables, the variables that rules into it read, and these
+/// rules.
+#[derive(Drop)]
+pub(crate) struct ContextParts {
+    pub atoms: Vec<Name>,
+    pub variables: Vars,
+    pub inputs: Vars,
+    pub rules: Active,
+}
+
+/// What is kept of a rule: the variables that it reads positively, and those that it reads negatively.
+#[derive(Drop)]
+pub(crate) struct RuleReads {
+    pub positive: Vars,
+    pub negative: Vars,
+}
+
+/// Those of the variables that are among the reads.
+#[tactic(auto, using(crate::proofs::SeenLemmas::loops), unfolding(crate::specs::Parts::variables_read))]
+fn variables_read(known: &[Read], reads: &[Read]) -> Vars
+    requires { length known.now ≤ 64 }
+    ensures { result ≡ variables_read (map read_of known.now) (map read_of reads.now) }
+{
+    let mut set = Vars::empty();
+    for (v, variable) in known.iter().enumerate() {
+        if is_among(reads, variable) {
+            set = set.with(v as u32);
+        }
+    }
+    set
+}
+
+/// Those of the variables that are of the context.
+#[tactic(auto, using(crate::proofs::SeenLemmas::loops), unfolding(crate::specs::Parts::variables_among))]
+fn variables_among(known: &[Read], context: u32) -> Vars
+    requires { length known.now ≤ 64 }
+    ensures { result ≡ variables_among (map read_of known.now) context }
+{
+    let mut set = Vars::empty();
+    for (v, variable) in known.iter().enumerate() {
+        if variable.context == context {
+            set = set.with(v as u32);
+        }
+    }
+    set
+}
+
+/// The rules into the context.
+#[tactic(auto, using(crate::proofs::SeenLemmas::loops), unfolding(crate::specs::Imports::rules_into))]
+fn rules_into(bridges: &[Bridge], context: u32) -> Active
+    requires { length bridges.now ≤ 64 }
+    ensures { (contexts : List Context) → result ≡ rules_into (system_of contexts bridges.now) context }
+{
+    let mut set = Active::empty();
+    for (k, bridge) in bridges.iter().enumerate() {
+        if bridge.target == context {
+            set = set.with(k as u32);
+        }
+    }
+    set
+}
+
+/// Those of the variables that the rule reads, if it goes into the context.
+fn read_into(known: &[Read], bridge: &Bridge, context: u32) -> Vars
+    requires { length known.now ≤ 64 }
+    ensures { result ≡ read_into (map read_of known.now) context (bridge_of bridge.now) }
+{
+    if bridge.target == context {
+        variables_read(known, &bridge.pos).union(variables_read(known, &bridge.neg))
+    } else {
+        Vars::empty()
+    }
+}
+
+/// Those of the variables that rules into the context read.
+fn inputs_among(known: &[Read], bridges: &[Bridge], context: u32) -> Vars
+    requires { length known.now ≤ 64 }
+    ensures { result ≡ inputs_among (map read_of known.now) (map bridge_of bridges.now) context }
+{
+    let mut inputs = Vars::empty();
+    for bridge in bridges {
+        inputs = inputs.union(read_into(known, bridge, context));
+    }
+    inputs
+}
