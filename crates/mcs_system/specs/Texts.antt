@@ -59,10 +59,14 @@ rule_text m r = name_of_rule (slice_get m.bridges r)
 abbrev pub further : List (List ℕ) → List ℕ
 further texts = flat_map (λ t. codes ", " ++ t) texts
 
--- members, separated, between braces
+-- members, separated
+abbrev pub separated : List (List ℕ) → List ℕ
+separated [] = []
+separated (t ∷ ts) = t ++ further ts
+
+-- the same between braces
 abbrev pub braced : List (List ℕ) → List ℕ
-braced [] = codes "{}"
-braced (t ∷ ts) = codes "{" ++ (t ++ (further ts ++ codes "}"))
+braced texts = codes "{" ++ (separated texts ++ codes "}")
 
 -- a set of variables
 abbrev pub state_text : System → ℕ → List ℕ

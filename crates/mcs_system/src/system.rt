@@ -49,6 +49,7 @@ impl System {
     /// The contexts, in the order of the text.
     pub fn contexts(&self) -> &[Context]
         ensures value { map context_of result.now ≡ self.now.contexts }
+        ensures few { length result.now ≤ 64 }
         ensures valid { IsValid self.now }
     {
         &self.contexts
@@ -57,6 +58,7 @@ impl System {
     /// The bridge rules, in the order of the text.
     pub fn bridges(&self) -> &[Bridge]
         ensures value { map bridge_of result.now ≡ self.now.bridges }
+        ensures few { length result.now ≤ 64 }
         ensures valid { IsValid self.now }
     {
         &self.bridges
@@ -139,6 +141,20 @@ impl System {
     {
         let mut rules = Active::empty();
         for r in self.rules_of(context).members() {
+            if self.is_applicable(r, state) {
+                rules = rules.with(r);
+            }
+        }
+        rules
+    }
+
+    /// All rules that apply in the state.
+    #[tactic(auto, using(crate::proofs::SeenLemmas::loops), unfolding(crate::specs::Systems::applicable))]
+    pub fn applicable_rules(&self, state: Vars) -> Active
+        ensures { result ≡ applicable self.now state }
+    {
+        let mut rules = Active::empty();
+        for r in 0..self.bridges().len() as u32 {
             if self.is_applicable(r, state) {
                 rules = rules.with(r);
             }
