@@ -97,6 +97,7 @@ fn heads_hold(system: &System, context: u32, rules: Active, atoms: &[Name], valu
 }
 
 /// Those of the variables whose beliefs hold in the row of the table.
+#[tactic(auto, using(mcs_system::proofs::SeenLemmas::loops), unfolding(crate::specs::Tables::holding))]
 fn those_that_hold(system: &System, among: Vars, atoms: &[Name], values: Vars) -> Vars
     requires { length atoms.now ≤ 64 }
     ensures { result ≡ holding system.now among (true_names 0 atoms.now values) }

@@ -3,8 +3,8 @@
 ghost use Rattle.std.specs.Prelude.{◌≡◌, ◌<◌, ◌++◌, [], length, codes, OnOk, if◌then◌else◌};
 ghost use Rattle.mcs_sets.specs.Sets.{Within};
 ghost use Rattle.mcs_system.specs.Seen.{formula_of, read_of};
-ghost use Rattle.mcs_system.specs.Systems.{all_variables, all_rules, applicable};
-ghost use Rattle.mcs_system.specs.Texts.{primary, sign_of, read_text, state_text, rules_text, heading, equilibrium_line, verdict, equilibria_end};
+ghost use Rattle.mcs_system.specs.Systems.{variables, all_variables, all_rules};
+ghost use Rattle.mcs_system.specs.Texts.{primary, sign_of, read_text, variable_text, rule_text, state_text, rules_text, heading, equilibrium_line, verdict, equilibria_end};
 
 use mcs_base::{Active, Memory, Text, Vars};
 use mcs_system::{Formula, Read, System};
@@ -64,6 +64,24 @@ fn push_separator(text: &mut Text, is_first: bool) -> Result<(), Memory>
     text.push(b", ")
 }
 
+/// Appends the variable of this number.
+#[tactic(auto, using(mcs_system::proofs::SeenLemmas::loops))]
+fn push_variable(text: &mut Text, system: &System, v: u32) -> Result<(), Memory>
+    requires { v < length (variables system.now) }
+    ensures { OnOk result (text.new ≡ text.old ++ variable_text system.now v) }
+{
+    push_read(text, system, &system.variables()[v as usize])
+}
+
+/// Appends the name of the rule of this number.
+#[tactic(auto, using(mcs_system::proofs::SeenLemmas::loops))]
+fn push_rule(text: &mut Text, system: &System, r: u32) -> Result<(), Memory>
+    requires { r < length system.now.bridges }
+    ensures { OnOk result (text.new ≡ text.old ++ rule_text system.now r) }
+{
+    text.push(system.bridges()[r as usize].name.bytes())
+}
+
 /// Appends a set of variables of the system.
 pub(crate) fn push_state(text: &mut Text, system: &System, state: Vars) -> Result<(), Memory>
     requires { Within state (all_variables system.now) }
@@ -73,7 +91,7 @@ pub(crate) fn push_state(text: &mut Text, system: &System, state: Vars) -> Resul
     let mut is_first = true;
     for v in state.members() {
         push_separator(text, is_first)?;
-        push_read(text, system, &system.variables()[v as usize])?;
+        push_variable(text, system, v)?;
         is_first = false;
     }
     text.push(b"}")
@@ -88,13 +106,14 @@ pub(crate) fn push_rules(text: &mut Text, system: &System, rules: Active) -> Res
     let mut is_first = true;
     for r in rules.members() {
         push_separator(text, is_first)?;
-        text.push(system.bridges()[r as usize].name.bytes())?;
+        push_rule(text, system, r)?;
         is_first = false;
     }
     text.push(b"}")
 }
 
 /// Appends the heading: how many contexts, rules and variables the system has.
+#[tactic(auto, unfolding(mcs_system::specs::Texts::heading))]
 pub(crate) fn push_heading(text: &mut Text, system: &System) -> Result<(), Memory>
     ensures { OnOk result (text.new ≡ text.old ++ heading system.now) }
 {
@@ -108,6 +127,7 @@ pub(crate) fn push_heading(text: &mut Text, system: &System) -> Result<(), Memor
 }
 
 /// Appends the line of the equilibrium of this number: the state and the rules that apply in it.
+#[tactic(auto, unfolding(mcs_system::specs::Texts::equilibrium_line))]
 pub(crate) fn push_equilibrium(
     text: &mut Text,
     system: &System,
@@ -122,19 +142,8 @@ pub(crate) fn push_equilibrium(
     text.push(b": ")?;
     push_state(text, system, state)?;
     text.push(b" applicable ")?;
-    push_rules(text, system, applicable(system, state))?;
+    push_rules(text, system, system.applicable_rules(state))?;
     text.push(b"\n")
-}
-
-/// All rules that apply in the state.
-fn applicable(system: &System, state: Vars) -> Active
-    ensures { result ≡ applicable system.now state }
-{
-    let mut rules = Active::empty();
-    for context in 0..system.contexts().len() {
-        rules = rules.union(system.applicable(context as u32, state));
-    }
-    rules
 }
 
 /// Appends the verdict: whether there is an equilibrium.
@@ -149,6 +158,7 @@ pub(crate) fn push_verdict(text: &mut Text, states: &[Vars]) -> Result<(), Memor
 }
 
 /// Appends the last line: how many equilibria there are.
+#[tactic(auto, unfolding(mcs_system::specs::Texts::equilibria_end))]
 pub(crate) fn push_equilibria_end(text: &mut Text, states: &[Vars]) -> Result<(), Memory>
     ensures { OnOk result (text.new ≡ text.old ++ equilibria_end states.now) }
 {
