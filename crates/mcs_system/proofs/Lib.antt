@@ -3,7 +3,8 @@ pub mod Members
 pub mod Sameness
 pub mod VariableLemmas
 pub mod GatherLemmas
-pub mod FaultLemmas
-pub mod Twins
 pub mod AtomLemmas
 pub mod PartLemmas
+pub mod FaultLemmas
+pub mod Twins
+pub mod ValidLemmas

@@ -1,5 +1,5 @@
 -- Twins among names, found by a set of the names seen so far.
-use Rattle.std.proofs.Common.{◌≡◌, ℕ, Bool, true, false, ◌||◌, List, [], ◌∷◌, refl, sym, ap, ◌∙◌, subst, Bor, Ordering, ◌+◌, ◌<◌, not, length, map, drop, get_or, true≢false, arith, add-one, drop-cons}
+use Rattle.std.proofs.Common.{◌≡◌, ℕ, Bool, true, false, ◌||◌, List, [], ◌∷◌, refl, sym, ap, ◌∙◌, Bor, Ordering, ◌+◌, ◌<◌, not, length, map, drop, get_or, true≢false, add-one, drop-cons}
 use Rattle.std.proofs.lemmas.Bool.Decides.{same_from_decides, Decides-like}
 use Rattle.std.proofs.lemmas.Map.Text.{is_eq-slice_cmp}
 use Rattle.std.proofs.lemmas.Slice.Eq.{bytes_eq-Decides}

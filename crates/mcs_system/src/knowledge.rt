@@ -130,3 +130,65 @@ fn copy_rules(alloc: Global, rules: &[ProgRule]) -> Result<Vec<ProgRule>, Memory
     }
     Ok(copies)
 }
+
+#[cfg(test)]
+mod tests {
+    use super::*;
+    use std::test::Fail;
+
+    fn theory(alloc: Global) -> Result<Kb, Memory> {
+        let default = Default {
+            pre: Formula::True,
+            justs: vec![in alloc; Formula::True]?,
+            conclusion: Formula::False,
+        };
+        Ok(Kb::DefaultTheory(vec![in alloc;
+            TheoryItem::Fact(Formula::True),
+            TheoryItem::Rule(default),
+        ]?))
+    }
+
+    fn program(alloc: Global, name: &Name) -> Result<Kb, Memory> {
+        let rule = ProgRule {
+            head: vec![in alloc; name.copy(alloc)?]?,
+            pos: vec![in alloc; name.copy(alloc)?, name.copy(alloc)?]?,
+            neg: Vec::new(alloc),
+        };
+        Ok(Kb::Program(vec![in alloc; rule]?))
+    }
+
+    /// How many atoms stand in the parts of the one rule.
+    fn rule_lens(kb: &Kb) -> Option<[usize; 3]> {
+        let Kb::Program(rules) = kb else {
+            return None;
+        };
+        let rule = rules.first()?;
+        Some([rule.head.len(), rule.pos.len(), rule.neg.len()])
+    }
+
+    /// How many justifications the second item has.
+    fn justification_count(kb: &Kb) -> Option<usize> {
+        let Kb::DefaultTheory(items) = kb else {
+            return None;
+        };
+        match items.as_slice() {
+            [TheoryItem::Fact(Formula::True), TheoryItem::Rule(default)] => Some(
+                default.justs.len(),
+            ),
+            _ => None,
+        }
+    }
+
+    #[test]
+    fn copies_contexts(rt: HostRuntime) -> Result<(), Fail> {
+        let alloc = rt.alloc();
+        let name = Name::read(alloc, b"c1")?.ok_or("no name")?;
+        let kb = program(alloc, &name)?;
+        let copy = Context { name, kb }.copy(alloc)?;
+        assert!(rt; copy.name.bytes() == b"c1".as_slice());
+        assert_eq!(rt; rule_lens(&copy.kb), Some([1, 2, 0]));
+        let copy = theory(alloc)?.copy(alloc)?;
+        assert_eq!(rt; justification_count(&copy), Some(1));
+        Ok(())
+    }
+}

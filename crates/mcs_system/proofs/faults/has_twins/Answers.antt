@@ -1,4 +1,4 @@
-use Rattle.std.proofs.Common.{arith, ◌≡◌, sym, ◌∙◌}
+use Rattle.std.proofs.Common.{arith, sym, ◌∙◌}
 use Rattle.std.proofs.lemmas.Grind.{common_steps}
 use Rattle.mcs_system.proofs.Twins.{none_seen, seen_twin, seen_next}
 use Rattle.mcs_system.proofs.faults.has_twins.Goals as goal

@@ -1,7 +1,7 @@
-use Rattle.std.proofs.Common.{◌≡◌, ◌&&◌, not, nat_lt, map, drop, length, slice_get}
+use Rattle.std.proofs.Common.{◌≡◌, map, drop}
 use Rattle.std.specs.List.{list_any}
-use Rattle.mcs_system.specs.Faults.{has_misfit, has_unjustified, is_atom, is_program, is_unjustified, points_outside}
-use Rattle.mcs_system.specs.Seen.{bridge_of, context_of, item_of, read_of}
+use Rattle.mcs_system.specs.Faults.{is_unjustified}
+use Rattle.mcs_system.specs.Seen.{item_of}
 use Rattle.mcs_system.proofs.faults.has_unjustified.Given as goal
 
 abbrev pub invariant-loop-item : goal.invariant-loop-item
