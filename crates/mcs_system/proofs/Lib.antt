@@ -8,3 +8,4 @@ pub mod PartLemmas
 pub mod FaultLemmas
 pub mod Twins
 pub mod ValidLemmas
+pub mod BuildLemmas

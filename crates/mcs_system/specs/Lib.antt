@@ -10,3 +10,4 @@ pub mod Faults
 pub mod Codes
 pub mod Gathered
 pub mod Parts
+pub mod Built

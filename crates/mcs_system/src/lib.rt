@@ -3,6 +3,7 @@
 
 mod atoms;
 mod bridge;
+mod build;
 mod fault;
 mod faults;
 mod formula;
@@ -10,6 +11,7 @@ mod knowledge;
 mod name;
 mod parts;
 mod same;
+mod system;
 mod truth;
 mod variables;
 
@@ -19,4 +21,5 @@ pub use formula::Formula;
 pub use knowledge::{Context, Default, Kb, ProgRule, TheoryItem};
 pub use name::Name;
 pub use same::{same_formula, same_read};
+pub use system::System;
 pub use truth::{all_hold_at, holds_at};

@@ -39,6 +39,15 @@ pub(crate) struct RuleReads {
     pub negative: Vars,
 }
 
+/// What a system keeps beside its contexts and rules: its variables, and the parts of each context and of
+/// each rule.
+#[derive(Drop)]
+pub(crate) struct Kept {
+    pub known: Vec<Read>,
+    pub parts: Vec<ContextParts>,
+    pub reads: Vec<RuleReads>,
+}
+
 /// Those of the variables that are among the reads.
 #[tactic(auto, using(crate::proofs::SeenLemmas::loops), unfolding(crate::specs::Parts::variables_read))]
 fn variables_read(known: &[Read], reads: &[Read]) -> Vars
