@@ -11,3 +11,4 @@ pub mod AppliesLemmas
 pub mod AtomLemmas
 pub mod PartLemmas
 pub mod KeptLemmas
+pub mod BuildLemmas

@@ -1,17 +1,23 @@
 -- The sets that a system keeps of its contexts and rules.
-use Rattle.std.proofs.Common.{◌≡◌, ◌≢◌, ℕ, ◌+◌, ◌<◌, ◌≤◌, Bool, true, false, not, ◌&&◌, ◌||◌, cond, eqb, ltb, get_or, drop, List, [], ◌∷◌, ◌++◌, map, length, Option, Some, None, refl, sym, ap, ◌∙◌, arith, slice_get}
+use Rattle.std.proofs.Common.{◌≡◌, ◌≢◌, ℕ, ◌+◌, ◌-◌, ◌<◌, ◌≤◌, Bool, true, false, not, ◌&&◌, ◌||◌, cond, eqb, ltb, get_or, drop, List, [], ◌∷◌, ◌++◌, map, length, Option, Some, None, refl, sym, ap, ◌∙◌, arith, slice_get}
 use Rattle.std.proofs.lemmas.Bool.Decides.{nat_tests}
-use Rattle.std.proofs.lemmas.List.{at_drop_more, at_drop_all}
+use Rattle.std.proofs.lemmas.List.{at_drop_more, at_drop_all, length-map}
 use Rattle.std.proofs.lemmas.List.Folds.{list_any-append}
-use Rattle.std.specs.List.{list_any}
-use Rattle.mcs_sets.specs.Sets.{has, union}
+use Rattle.std.specs.List.{list_any, range_with_len}
+use Rattle.mcs_sets.specs.Sets.{has, union, size}
 use Rattle.mcs_sets.proofs.SetLemmas.{same_set, has-such_that, has-union, has-empty}
 use Rattle.mcs_system.specs.declared.bridge.Bridge as code
-use Rattle.mcs_system.specs.Plain.{Read, Bridge, System}
-use Rattle.mcs_system.specs.Seen.{read_of, bridge_of}
-use Rattle.mcs_system.specs.Systems.{same_read}
-use Rattle.mcs_system.specs.Rows.{is_read_into}
-use Rattle.mcs_system.specs.Parts.{variables_read, inputs_among, is_read_among, read_into}
+use Rattle.mcs_system.specs.declared.knowledge.Context as code'
+use Rattle.mcs_system.specs.declared.fault.Limit.TheVariants.{InputsPerContext, AtomsPerContext}
+use Rattle.mcs_system.specs.Plain.{Name, Read, Bridge, System}
+use Rattle.mcs_system.specs.Seen.{context_of, bridge_of, system_of}
+use Rattle.mcs_system.specs.Systems.{same_read, variables, variables_of}
+use Rattle.mcs_system.specs.Rows.{inputs_of, is_read_into}
+use Rattle.mcs_system.specs.Imports.{rules_into}
+use Rattle.mcs_system.specs.Atoms.{atoms_of}
+use Rattle.mcs_system.specs.Faults.{exceeds}
+use Rattle.mcs_system.specs.Parts.{ContextPart, context_part, variables_among, variables_read, inputs_among, is_read_among, read_into}
+use Rattle.mcs_system.proofs.VariableLemmas.{range_step, range_over}
 
 abbrev of_rules : List Bridge → System
 of_rules bs = record { contexts = []; bridges = bs }
@@ -91,3 +97,46 @@ inputs_go_on vs bs k b less is i s whole e = union-next s (read_into vs i (bridg
 
 pub inputs_end : (vs : List Read) (bs : List code.Bridge) (k i s whole : ℕ) → length bs ≤ k → union s (inputs_from vs bs k i) ≡ whole → s ≡ whole
 inputs_end vs bs k i s whole over e = sym (union-none s) ∙ ap (union s) (sym (at_drop_all (λ (cs : List code.Bridge). inputs_among vs (map bridge_of cs) i) bs k over ∙ inputs-none vs i)) ∙ e
+
+-- ---- whether something holds of some context
+-- of a number from i on, below n
+abbrev pub some_from : (ℕ → Bool) → ℕ → ℕ → Bool
+some_from p i n = list_any p (range_with_len i (n - i))
+
+pub some_next : (p : ℕ → Bool) (i n : ℕ) (whole : Bool) → i < n → p i ≡ false → some_from p i n ≡ whole → some_from p (i + 1) n ≡ whole
+some_next p i n whole less fails e = sym (ap (list_any p) (range_step i n less) ∙ rw fails refl) ∙ e
+
+pub some_here : (p : ℕ → Bool) (i n : ℕ) (whole : Bool) → i < n → p i ≡ true → some_from p i n ≡ whole → whole ≡ true
+some_here p i n whole less holds e = sym e ∙ ap (list_any p) (range_step i n less) ∙ rw holds refl
+
+pub some_end : (p : ℕ → Bool) (i n : ℕ) (whole : Bool) → n ≤ i → some_from p i n ≡ whole → whole ≡ false
+some_end p i n whole over e = sym e ∙ ap (list_any p) (range_over i n over)
+
+-- ---- of the system
+pub variables_of-is : (m : System) (i : ℕ) → variables_of m i ≡ variables_among (variables m) i
+unfolding variables_of variables_among
+variables_of-is m i = refl
+
+pub inputs_of-is : (m : System) (i : ℕ) → inputs_of m i ≡ inputs_among (variables m) m.bridges i
+unfolding inputs_of inputs_among
+inputs_of-is m i = refl
+
+pub inputs-exceed : (cs : List code'.Context) (bs : List code.Bridge) → exceeds (system_of cs bs) InputsPerContext ≡ some_from (λ i. ltb 16 (size (inputs_of (system_of cs bs) i))) 0 (length cs)
+unfolding exceeds
+inputs-exceed cs bs = let e : length (map context_of cs) ≡ length cs - 0 = omega (arith, length-map cs context_of) in ap (λ n. list_any (λ i. ltb 16 (size (inputs_of (system_of cs bs) i))) (range_with_len 0 n)) e
+
+pub atoms-exceed : (cs : List code'.Context) (bs : List code.Bridge) → exceeds (system_of cs bs) AtomsPerContext ≡ some_from (λ i. ltb 64 (length (atoms_of (system_of cs bs) i))) 0 (length cs)
+unfolding exceeds
+atoms-exceed cs bs = let e : length (map context_of cs) ≡ length cs - 0 = omega (arith, length-map cs context_of) in ap (λ n. list_any (λ i. ltb 64 (length (atoms_of (system_of cs bs) i))) (range_with_len 0 n)) e
+
+pub variables_known : (m : System) (vs : List Read) (i v : ℕ) → vs ≡ variables m → v ≡ variables_among vs i → v ≡ variables_of m i
+variables_known m vs i v all e = e ∙ ap (λ us. variables_among us i) all ∙ sym (variables_of-is m i)
+
+pub inputs_known : (m : System) (vs : List Read) (i v : ℕ) → vs ≡ variables m → v ≡ inputs_among vs m.bridges i → v ≡ inputs_of m i
+inputs_known m vs i v all e = e ∙ ap (λ us. inputs_among us m.bridges i) all ∙ sym (inputs_of-is m i)
+
+abbrev part_with : List Name → ℕ → ℕ → ℕ → ContextPart
+part_with a v n r = record { atoms = a; variables = v; inputs = n; rules = r }
+
+pub part_made : (m : System) (i : ℕ) (a : List Name) (v n r : ℕ) → a ≡ atoms_of m i → v ≡ variables_of m i → n ≡ inputs_of m i → r ≡ rules_into m i → part_with a v n r ≡ context_part m i
+part_made m i a v n r ea ev en er = ap (λ x. part_with x v n r) ea ∙ ap (λ x. part_with (atoms_of m i) x n r) ev ∙ ap (λ x. part_with (atoms_of m i) (variables_of m i) x r) en ∙ ap (λ x. part_with (atoms_of m i) (variables_of m i) (inputs_of m i) x) er

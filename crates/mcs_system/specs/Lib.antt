@@ -11,4 +11,4 @@ pub mod Texts
 pub mod Codes
 pub mod Gathered
 pub mod Parts
-pub mod Kept
+pub mod Built

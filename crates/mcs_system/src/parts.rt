@@ -1,8 +1,11 @@
 //! What a system keeps of its contexts and rules, so that no later call reads formulas again.
 
-ghost use Rattle.std.specs.Prelude.{◌≡◌, ◌≤◌, ◌<◌, ℕ, List, [], map, length, IfOk, MatchOption};
-ghost use Rattle.mcs_sets.specs.Sets.{size};
+ghost use Rattle.std.specs.Prelude.{◌≡◌, ◌≤◌, ◌<◌, ℕ, List, map, length, true, false, IfOk, MatchOption};
+ghost use Rattle.std.specs.List.{range_with_len};
 ghost use Rattle.mcs_system.specs.declared.knowledge.Context.{Context};
+ghost use Rattle.mcs_system.specs.declared.fault.Limit.TheVariants.{InputsPerContext, AtomsPerContext};
+ghost use Rattle.mcs_system.specs.Atoms.{atoms_of};
+ghost use Rattle.mcs_system.specs.Faults.{exceeds};
 ghost use Rattle.mcs_system.specs.Imports.{rules_into};
 ghost use Rattle.mcs_system.specs.Parts.{context_part, context_part_of, variables_among, inputs_among, variables_read, read_into, rule_part, rule_part_of};
 ghost use Rattle.mcs_system.specs.Seen.{read_of, bridge_of, system_of};
@@ -15,6 +18,9 @@ use crate::name::Name;
 use crate::variables::is_among;
 use mcs_base::{Active, Memory, Vars};
 use std::alloc::Global;
+
+/// The most variables that rules into one context read.
+const MOST_INPUTS: u32 = 16;
 
 /// What is kept of a context: its atoms, its variables, the variables that rules into it read, and these
 /// rules.
@@ -31,6 +37,15 @@ pub(crate) struct ContextParts {
 pub(crate) struct RuleReads {
     pub positive: Vars,
     pub negative: Vars,
+}
+
+/// What a system keeps beside its contexts and rules: its variables, and the parts of each context and of
+/// each rule.
+#[derive(Drop)]
+pub(crate) struct Kept {
+    pub known: Vec<Read>,
+    pub parts: Vec<ContextParts>,
+    pub reads: Vec<RuleReads>,
 }
 
 /// Those of the variables that are among the reads.
@@ -100,4 +115,88 @@ fn inputs_among(known: &[Read], bridges: &[Bridge], context: u32) -> Vars
         inputs = inputs.union(read_into(known, bridge, context));
     }
     inputs
+}
+
+/// What is kept of the rules.
+pub(crate) fn rule_reads(
+    alloc: Global,
+    known: &[Read],
+    bridges: &[Bridge],
+) -> Result<Vec<RuleReads>, Memory>
+    requires { length known.now ≤ 64 }
+    ensures { IfOk result (λ reads. map rule_part_of reads.items ≡ map (rule_part (map read_of known.now)) (map bridge_of bridges.now)) }
+{
+    let mut reads = Vec::new(alloc);
+    for bridge in bridges {
+        reads.push(RuleReads {
+            positive: variables_read(known, &bridge.pos),
+            negative: variables_read(known, &bridge.neg),
+        })?;
+    }
+    Ok(reads)
+}
+
+/// Whether rules into one context read too many variables. `known` are the variables of the system.
+pub(crate) fn has_many_inputs(contexts: &[Context], bridges: &[Bridge], known: &[Read]) -> bool
+    requires few_contexts { length contexts.now ≤ 64 }
+    requires few { length known.now ≤ 64 }
+    requires variables { map read_of known.now ≡ variables (system_of contexts.now bridges.now) }
+    ensures { result ≡ exceeds (system_of contexts.now bridges.now) InputsPerContext }
+{
+    for context in 0..contexts.len() as u32 {
+        if inputs_among(known, bridges, context).count() > MOST_INPUTS {
+            return true;
+        }
+    }
+    false
+}
+
+/// What is kept of one context; `None` where it has too many atoms. `known` are the variables of the
+/// system.
+fn parts_of_context(
+    alloc: Global,
+    contexts: &[Context],
+    bridges: &[Bridge],
+    known: &[Read],
+    context: u32,
+) -> Result<Option<ContextParts>, Memory>
+    requires in_range { context < length contexts.now }
+    requires few_rules { length bridges.now ≤ 64 }
+    requires few { length known.now ≤ 64 }
+    requires variables { map read_of known.now ≡ variables (system_of contexts.now bridges.now) }
+    ensures { IfOk result (λ found. let m = system_of contexts.now bridges.now in MatchOption found (64 < length (atoms_of m context)) (λ p. (context_part_of p ≡ context_part m context) × (length (atoms_of m context) ≤ 64))) }
+{
+    let Some(atoms) = atoms_of(alloc, contexts, bridges, known, context)? else {
+        return Ok(None);
+    };
+    Ok(Some(ContextParts {
+        atoms,
+        variables: variables_among(known, context),
+        inputs: inputs_among(known, bridges, context),
+        rules: rules_into(bridges, context),
+    }))
+}
+
+/// What is kept of the contexts; `None` where one of them has too many atoms. `known` are the variables of
+/// the system.
+pub(crate) fn parts_of_contexts(
+    alloc: Global,
+    contexts: &[Context],
+    bridges: &[Bridge],
+    known: &[Read],
+) -> Result<Option<Vec<ContextParts>>, Memory>
+    requires few_contexts { length contexts.now ≤ 64 }
+    requires few_rules { length bridges.now ≤ 64 }
+    requires few { length known.now ≤ 64 }
+    requires variables { map read_of known.now ≡ variables (system_of contexts.now bridges.now) }
+    ensures { IfOk result (λ found. let m = system_of contexts.now bridges.now in MatchOption found (exceeds m AtomsPerContext ≡ true) (λ parts. (map context_part_of parts.items ≡ map (context_part m) (range_with_len 0 (length contexts.now))) × (exceeds m AtomsPerContext ≡ false))) }
+{
+    let mut parts = Vec::new(alloc);
+    for context in 0..contexts.len() as u32 {
+        let Some(own) = parts_of_context(alloc, contexts, bridges, known, context)? else {
+            return Ok(None);
+        };
+        parts.push(own)?;
+    }
+    Ok(Some(parts))
 }

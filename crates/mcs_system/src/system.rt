@@ -1,40 +1,40 @@
 //! Multi-context systems.
 
-ghost use Rattle.std.specs.Prelude.{◌≡◌, ◌<◌, ◌≤◌, length, map, Some, slice_get};
+ghost use Rattle.std.specs.Prelude.{◌≡◌, ◌<◌, ◌≤◌, length, map, Some, slice_get, IfOk, IfErr};
 ghost use Rattle.mcs_sets.specs.Sets.{common};
 ghost use Rattle.mcs_system.specs.Atoms.{atoms_of};
+ghost use Rattle.mcs_system.specs.Built.{IsFaultOf};
 ghost use Rattle.mcs_system.specs.Faults.{IsValid};
 ghost use Rattle.mcs_system.specs.Imports.{rules_into};
 ghost use Rattle.mcs_system.specs.Parts.{context_part, context_part_of, rule_part, rule_part_of};
 ghost use Rattle.mcs_system.specs.Plain as plain;
 ghost use Rattle.mcs_system.specs.Rows.{inputs_of};
-ghost use Rattle.mcs_system.specs.Seen.{context_of, bridge_of, read_of};
+ghost use Rattle.mcs_system.specs.Seen.{context_of, bridge_of, read_of, system_of};
 ghost use Rattle.mcs_system.specs.Systems.{variables, variables_of, applicable, is_applicable};
 
 use crate::bridge::{Bridge, Read};
+use crate::build::keep;
+use crate::fault::BuildFault;
 use crate::knowledge::Context;
 use crate::name::Name;
-use crate::parts::{ContextParts, RuleReads};
+use crate::parts::{ContextParts, Kept, RuleReads};
 use mcs_base::{Active, Vars};
+use std::alloc::Global;
 use std::marker::Model;
 
 /// A multi-context system (Brewka & Eiter 2007): contexts and bridge rules, none of whose faults holds.
 #[derive(Drop)]
 pub struct System {
-    pub(crate) contexts: Vec<Context>,
-    pub(crate) bridges: Vec<Bridge>,
-    pub(crate) variables: Vec<Read>,
-    pub(crate) parts: Vec<ContextParts>,
-    pub(crate) reads: Vec<RuleReads>,
+    contexts: Vec<Context>,
+    bridges: Vec<Bridge>,
+    kept: Kept,
 }
 
 impl Model for System {
-    ghost use Rattle.std.specs.Prelude.{◌≡◌, map};
-    ghost use Rattle.mcs_system.specs.Plain as plain;
+    ghost use Rattle.mcs_system.specs.Built.{IsKept};
     ghost use Rattle.mcs_system.specs.Codes.{coded_system};
-    ghost use Rattle.mcs_system.specs.Seen.{system_of, read_of};
-    ghost use Rattle.mcs_system.specs.Faults.{IsValid};
-    ghost use Rattle.mcs_system.specs.Kept.{KeepsParts};
+    ghost use Rattle.mcs_system.specs.Plain as plain;
+    ghost use Rattle.mcs_system.specs.Seen.{system_of};
 
     ghost Value = { plain.System };
 
@@ -42,10 +42,28 @@ impl Model for System {
 
     ghost view = { λ s. system_of s.contexts.items s.bridges.items };
 
-    ghost invariant = { λ s. KeepsParts (system_of s.contexts.items s.bridges.items) (map read_of s.variables.items) s.parts.items s.reads.items };
+    ghost invariant = { λ s. IsKept s.contexts.items s.bridges.items s.kept };
 }
 
 impl System {
+    /// The system of these contexts and bridge rules, or the first of their faults: the lowest number that
+    /// holds, and for number 5 the first limit in the order of `Limit`.
+    pub fn build(
+        alloc: Global,
+        contexts: Vec<Context>,
+        bridges: Vec<Bridge>,
+    ) -> Result<System, BuildFault>
+        ensures ok { IfOk result (λ s. (s ≡ system_of contexts.items bridges.items) × IsValid s) }
+        ensures fault { IfErr result (IsFaultOf (system_of contexts.items bridges.items)) }
+    {
+        let kept = keep(alloc, &contexts, &bridges)?;
+        Ok(System {
+            contexts,
+            bridges,
+            kept,
+        })
+    }
+
     /// The contexts, in the order of the text.
     pub fn contexts(&self) -> &[Context]
         ensures value { map context_of result.now ≡ self.now.contexts }
@@ -70,7 +88,7 @@ impl System {
         ensures few { length result.now ≤ 64 }
         ensures valid { IsValid self.now }
     {
-        &self.variables
+        &self.kept.known
     }
 
     /// What is kept of a context of the system.
@@ -79,7 +97,7 @@ impl System {
         ensures part { context_part_of result.now ≡ context_part self.now context }
         ensures valid { IsValid self.now }
     {
-        &self.parts[context as usize]
+        &self.kept.parts[context as usize]
     }
 
     /// What is kept of a rule of the system.
@@ -88,7 +106,7 @@ impl System {
         ensures part { (b : plain.Bridge) → slice_get self.now.bridges rule ≡ Some b → rule_part_of result.now ≡ rule_part (variables self.now) b }
         ensures valid { IsValid self.now }
     {
-        &self.reads[rule as usize]
+        &self.kept.reads[rule as usize]
     }
 
     /// Whether a rule of the system applies in the state.

@@ -7,4 +7,4 @@ use Rattle.mcs_system.proofs.system.System.reads_of.Goals as goal
 
 pub returns-clause-part : goal.returns-clause-part
 returns-clause-part c = rw (← c.self.view_is) (λ b is. ap rule_part_of c.index.ensures
-    ∙ at_same_place rule_part_of (rule_part (variables (system_of c.self.inside.contexts.items c.self.inside.bridges.items))) c.self.inside.reads.items _ c.args.rule _ b c.self.invariant.rules_are is)
+    ∙ at_same_place rule_part_of (rule_part (variables (system_of c.self.inside.contexts.items c.self.inside.bridges.items))) c.self.inside.kept.reads.items _ c.args.rule _ b c.self.invariant.rules_are is)
