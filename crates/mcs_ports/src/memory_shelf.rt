@@ -1,6 +1,6 @@
 //! A shelf in memory, which tells what it holds and fails where it is told to.
 
-ghost use Rattle.std.specs.Prelude.{◌≡◌, ◌↔◌, ◌⊎◌, ◌<◌, ◌≤◌, ◌++◌, [], ℕ, List, Some, None, min, length, take, drop, is_ok, if◌then◌else◌, refl, IsTrue, IsErr, IsNone, IsSome, IfOk, OnOk, OnErr, MatchResult, Contains};
+ghost use Rattle.std.specs.Prelude.{◌≡◌, ◌↔◌, ◌⊎◌, ◌<◌, ◌≤◌, ◌++◌, [], ℕ, List, Some, None, min, length, take, drop, refl, IsTrue, IsErr, IsNone, IsSome, IfOk, OnOk, OnErr, MatchResult, Contains};
 ghost use Rattle.mcs_ports.specs.Causes.{HasCause, counted};
 ghost use Rattle.mcs_ports.specs.Pieces.{TakesNext};
 ghost use Rattle.mcs_ports.specs.Fakes.{file_of};
@@ -99,18 +99,25 @@ impl Shelf for MemoryShelf {
     ghost held_and_left = { λ s _. refl };
 
     fn open(&mut self, name: &str) -> Result<(), Failed>
+        // What the trait asks, of what this shelf holds.
         ensures cause { HasCause self.old.faults self.new.faults result }
         ensures same_held { Some (file_of self.new.files) ≡ Some (file_of self.old.files) }
         ensures opened { OnOk result ((Some self.new.left ≡ file_of self.old.files name.now)
             × IsSome (file_of self.old.files name.now)) }
         ensures closed { OnErr result (self.new.left ≡ []) }
 
-        // It fails exactly here, and nothing but these counts changes.
+        // It fails exactly here, and nothing else changes.
         ensures fails { IsErr result ↔ (Contains self.old.fails (counted self.old.calls)
             ⊎ IsNone (file_of self.old.files name.now)) }
-        ensures after { self.new ≡ record self.old {
-            calls = counted self.old.calls; faults = self.new.faults; left = self.new.left } }
-        ensures counts { self.new.faults ≡ (if is_ok result then self.old.faults else counted self.old.faults) }
+        ensures ok { OnOk result (self.new ≡ record self.old {
+          calls = counted self.old.calls;
+          left = self.new.left;
+        }) }
+        ensures err { OnErr result (self.new ≡ record self.old {
+          calls = counted self.old.calls;
+          faults = counted self.old.faults;
+          left = [];
+        }) }
     {
         let call = self.calls.saturating_add(1);
         self.calls = call;
@@ -127,21 +134,27 @@ impl Shelf for MemoryShelf {
 
     fn read(&mut self, buf: &mut [u8]) -> Result<usize, Failed>
         requires { 0 < length buf.old }
+        // What the trait asks, of what this shelf holds.
         ensures cause { HasCause self.old.faults self.new.faults result }
         ensures same_held { Some (file_of self.new.files) ≡ Some (file_of self.old.files) }
         ensures bound { IfOk result (λ n. n ≤ length buf.new) }
         ensures bytes { IfOk result (λ n. TakesNext n buf.new self.old.left (Some self.new.left)) }
         ensures failed { OnErr result (Some self.new.left ≡ Some self.old.left) }
 
-        // It fails exactly here, gives as many bytes as fit, and nothing but these counts changes.
+        // It fails exactly here, gives as many bytes as fit, and nothing else changes.
         ensures fails { IsErr result ↔ Contains self.old.fails (counted self.old.calls) }
         ensures count { IfOk result (λ n. n ≡ min (length buf.old) (length self.old.left)) }
         ensures buffer { MatchResult result
             (λ n. buf.new ≡ take n self.old.left ++ drop n buf.old)
             (λ _. buf.new ≡ buf.old) }
-        ensures after { self.new ≡ record self.old {
-            calls = counted self.old.calls; faults = self.new.faults; left = self.new.left } }
-        ensures counts { self.new.faults ≡ (if is_ok result then self.old.faults else counted self.old.faults) }
+        ensures ok { OnOk result (self.new ≡ record self.old {
+          calls = counted self.old.calls;
+          left = self.new.left;
+        }) }
+        ensures err { OnErr result (self.new ≡ record self.old {
+          calls = counted self.old.calls;
+          faults = counted self.old.faults;
+        }) }
     {
         let call = self.calls.saturating_add(1);
         self.calls = call;

@@ -64,7 +64,7 @@ pub fn read_whole<H: Shelf>(
         (λ files. (bytes : List ℕ) × (files name.now ≡ Some bytes) × (limit < length bytes)) }
     ensures stops { IsErrOf result ReadAnswer.TooLong → IfSome (H.held shelf.old)
         (λ files. IfSome (files name.now)
-            (λ bytes. H.left shelf.new ≡ Some (drop (limit + 1) bytes))) }
+        (λ bytes. H.left shelf.new ≡ Some (drop (limit + 1) bytes))) }
     ensures missing { IfSome (H.held shelf.old)
         (λ files. IsNone (files name.now) → IsErrOf result ReadAnswer.Fault) }
     ensures at_end { OnOk result (IfSome (H.left shelf.new) (λ l. l ≡ [])) }
@@ -76,11 +76,7 @@ pub fn read_whole<H: Shelf>(
 }
 
 // Reads what is left of the open file, if that is at most `limit` bytes.
-fn read_rest<H: Shelf>(
-    shelf: &mut H,
-    alloc: Global,
-    limit: usize,
-) -> Result<Vec<u8>, ReadAnswer>
+fn read_rest<H: Shelf>(shelf: &mut H, alloc: Global, limit: usize) -> Result<Vec<u8>, ReadAnswer>
     ensures later { H.faults shelf.old ≤ H.faults shelf.new }
     ensures fault { IsErrOf result ReadAnswer.Fault → Rose (H.faults shelf.old) (H.faults shelf.new) }
     ensures within { IfOk result (λ bytes. length bytes.items ≤ limit) }
