@@ -44,7 +44,11 @@ impl From<AllocError> for ReadAnswer {
 // The most bytes that one read asks for.
 const PIECE: usize = 4096;
 
-/// Reads the file of this name whole, if it has at most `limit` bytes.
+/// Reads the file of this name whole, if it has at most `limit` bytes, which may be any number.
+///
+/// `Fault` comes only where the shelf's count of faults rose, as it does where the file is not there.
+/// `TooLong` comes exactly where the file has more than `limit` bytes; one more than those is read.
+/// `Memory` comes where memory ran out.
 pub fn read_whole<H: Shelf>(
     shelf: &mut H,
     alloc: Global,
@@ -104,7 +108,8 @@ fn read_rest<H: Shelf>(shelf: &mut H, alloc: Global, limit: usize) -> Result<Vec
 }
 
 /// Writes the piece whole. It takes no memory.
-/// `Failed` only where the sink's count of faults rose; then a front of the piece was written.
+///
+/// `Failed` comes only where the sink's count of faults rose; then a front of the piece was written.
 pub fn write_whole<K: Sink>(sink: &mut K, bytes: &[u8]) -> Result<(), Failed>
     ensures cause { HasCause (K.faults sink.old) (K.faults sink.new) result }
     ensures written { OnOk result (K.written sink.new ≡ appended (K.written sink.old) bytes.now) }
