@@ -1,3 +1,5 @@
 pub mod TableLemmas
 pub mod EquilibriumLemmas
 pub mod LineLemmas
+pub mod CoverLemmas
+pub mod SmallLemmas

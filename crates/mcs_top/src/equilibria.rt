@@ -1,7 +1,7 @@
 //! The equilibria of a small system of classical contexts: every state is tried, and each context is asked
 //! by a truth table.
 
-ghost use Rattle.std.specs.Prelude.{◌≡◌, ℕ, ◌^◌, ◌<◌, ◌≤◌, ◌↔◌, ◌++◌, length, map, slice_get, IfOk, IsTrue};
+ghost use Rattle.std.specs.Prelude.{◌≡◌, ℕ, ◌^◌, ◌<◌, ◌≤◌, ◌↔◌, ◌++◌, length, map, slice_get, Some, IfOk, IsTrue};
 ghost use Rattle.mcs_sets.specs.Orders.{StateBefore};
 ghost use Rattle.mcs_base.specs.Listings.{IsListing};
 ghost use Rattle.mcs_system.specs.Logic.{IsClassical, holds, holds_all, true_names};
@@ -59,17 +59,39 @@ fn accepted_part(system: &System, context: u32, rules: Active) -> Vars
     ensures { (τ : ℕ) → IsAcceptedPart system.now context rules τ ↔ (τ ≡ result) }
 {
     let atoms = system.atoms_of(context);
-    let formulas = formulas_of(&system.contexts()[context as usize]);
+    let formulas = classical_formulas(system, context);
     let mut part = system.vars_of(context);
     for row in 0..1u64 << atoms.len() {
         let values = Vars::numbered(row);
-        if all_hold_at(atoms, values, formulas)
-            && heads_hold(system, context, rules, atoms, values)
-        {
+        if is_model(system, context, rules, formulas, atoms, values) {
             part = those_that_hold(system, part, atoms, values);
         }
     }
     part
+}
+
+/// Whether the formulas and the heads of the rules that go into the context hold in the row of the table.
+fn is_model(
+    system: &System,
+    context: u32,
+    rules: Active,
+    formulas: &[Formula],
+    atoms: &[Name],
+    values: Vars,
+) -> bool
+    requires { length atoms.now ≤ 64 }
+    ensures { result ≡ holds_all (true_names 0 atoms.now values) (map formula_of formulas.now ++ heads_into system.now context rules) }
+{
+    all_hold_at(atoms, values, formulas) && heads_hold(system, context, rules, atoms, values)
+}
+
+/// The formulas of a context, which is classical.
+fn classical_formulas(system: &System, context: u32) -> &[Formula]
+    requires printable { IsPrintable system.now }
+    requires context { context < length system.now.contexts }
+    ensures { (c : plain.Context) → slice_get system.now.contexts context ≡ Some c → c.kb ≡ plain.Classical (map formula_of result.now) }
+{
+    formulas_of(&system.contexts()[context as usize])
 }
 
 /// The formulas of a classical context.
