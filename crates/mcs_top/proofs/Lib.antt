@@ -3,3 +3,4 @@ pub mod EquilibriumLemmas
 pub mod LineLemmas
 pub mod CoverLemmas
 pub mod SmallLemmas
+pub mod PrintLemmas

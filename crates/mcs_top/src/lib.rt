@@ -5,6 +5,7 @@
 mod ending;
 mod equilibria;
 mod lines;
+mod printing;
 mod words;
 
 pub use ending::Status;
