@@ -174,3 +174,63 @@ pub fn pair_before(a: SmallSet, b: SmallSet) -> bool
     let (m, n) = (a.count(), b.count());
     m < n || m == n && state_before(a, b)
 }
+
+#[cfg(test)]
+mod tests {
+    use super::*;
+
+    #[test]
+    fn makes_and_compares_sets(rt: HostRuntime) {
+        let none = SmallSet::empty();
+        let (outer, inner) = (SmallSet::one(0).with(3), SmallSet::one(1).with(2));
+        let ends = SmallSet::one(127).with(64).with(0);
+        assert!(rt; ends.has(0) && !ends.has(63) && ends.has(64) && ends.has(127));
+
+        for (set, number) in [
+            (none, 0b0000),
+            (outer, 0b1001),
+            (outer.without(3), 0b0001),
+            (outer.union(inner), 0b1111),
+            (outer.common(ends), 0b0001),
+            (outer.minus(ends), 0b1000),
+        ] {
+            assert_eq!(rt; set, SmallSet::numbered(number));
+        }
+        for (set, count, first) in [
+            (none, 0, None),
+            (ends, 3, Some(0)),
+            (ends.without(0), 2, Some(64)),
+        ] {
+            assert_eq!(rt; set.count(), count);
+            assert_eq!(rt; set.first(), first);
+        }
+        for (set, other, meets, within) in [
+            (none, ends, false, true),
+            (outer, inner, false, false),
+            (outer, ends, true, false),
+            (ends.without(64), ends, true, true),
+        ] {
+            assert_eq!(rt; set.meets(other), meets);
+            assert_eq!(rt; set.within(other), within);
+        }
+    }
+
+    #[test]
+    fn orders_sets(rt: HostRuntime) {
+        let none = SmallSet::empty();
+        let (zero, one) = (SmallSet::one(0), SmallSet::one(1));
+        let (outer, inner) = (zero.with(3), one.with(2));
+        for (set, other, as_states, as_pairs) in [
+            (zero, one, true, true),
+            (one, none, true, false),
+            (zero.with(1), zero, true, false),
+            (one, outer, false, true),
+            (outer, inner, true, true),
+            (inner, outer, false, false),
+            (inner, inner, false, false),
+        ] {
+            assert_eq!(rt; state_before(set, other), as_states);
+            assert_eq!(rt; pair_before(set, other), as_pairs);
+        }
+    }
+}
