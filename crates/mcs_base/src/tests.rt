@@ -6,24 +6,20 @@ use std::test::Fail;
 /// Each call of one kind of sets, whose greatest number is `$top`.
 macro_rules! assert_calls {
     ($rt:ident, $Set:ident, $top:literal) => {
-        let (none, low, high) = ($Set::empty(), $Set::one(0), $Set::one($top));
+        let (low, high) = ($Set::one(0), $Set::one($top));
         let ends = low.with($top);
         assert!($rt; ends.has(0) && !ends.has(7) && ends.has($top));
-
-        for (set, other, meets, within) in [
-            (none, ends, false, true),
-            (low, high, false, false),
-            (ends.without(0), ends, true, true),
-            (low.union(high), high, true, false),
-            (ends.common(high), low, false, false),
-            (ends.minus(high), low, true, true),
+        for (set, count, first, meets_high, within_high) in [
+            ($Set::empty(), 0, None, false, true),
+            (low.union(high), 2, Some(0), true, false),
+            (ends.without(0), 1, Some($top), true, true),
+            (ends.common(high), 1, Some($top), true, true),
+            (ends.minus(high), 1, Some(0), false, false),
         ] {
-            assert_eq!($rt; set.meets(other), meets);
-            assert_eq!($rt; set.within(other), within);
-        }
-        for (set, count, first) in [(none, 0, None), (high, 1, Some($top)), (ends, 2, Some(0))] {
-            assert_eq!($rt; set.count(), count);
-            assert_eq!($rt; set.first(), first);
+            assert_eq!($rt; set.count(), count, "{set:?}");
+            assert_eq!($rt; set.first(), first, "{set:?}");
+            assert_eq!($rt; set.meets(high), meets_high, "{set:?}");
+            assert_eq!($rt; set.within(high), within_high, "{set:?}");
         }
         let members: Vec<u32> = ends.members().collect($rt.alloc())?;
         assert_eq!($rt; members.as_slice(), [0, $top].as_slice());
@@ -31,16 +27,23 @@ macro_rules! assert_calls {
 }
 
 #[test]
-fn sets_hold_their_ends(rt: HostRuntime) -> Result<(), Fail> {
+fn vars_reach_63(rt: HostRuntime) -> Result<(), Fail> {
     assert_calls!(rt, Vars, 63);
+    let (last, none) = (Vars::one(63), Vars::empty());
+    assert!(rt; state_before(last, none) && !state_before(none, last));
+    Ok(())
+}
+
+#[test]
+fn active_reaches_63(rt: HostRuntime) -> Result<(), Fail> {
     assert_calls!(rt, Active, 63);
+    Ok(())
+}
+
+#[test]
+fn marks_reach_127(rt: HostRuntime) -> Result<(), Fail> {
     assert_calls!(rt, Marks, 127);
-    assert!(rt;
-        state_before(Vars::one(63), Vars::empty()) && !state_before(Vars::empty(), Vars::one(63))
-    );
-    assert!(rt;
-        pair_before(Marks::empty(), Marks::one(127))
-            && !pair_before(Marks::one(127), Marks::empty())
-    );
+    let (last, none) = (Marks::one(127), Marks::empty());
+    assert!(rt; pair_before(none, last) && !pair_before(last, none));
     Ok(())
 }

@@ -181,37 +181,30 @@ mod tests {
 
     #[test]
     fn makes_and_compares_sets(rt: HostRuntime) {
-        let none = SmallSet::empty();
         let (outer, inner) = (SmallSet::one(0).with(3), SmallSet::one(1).with(2));
         let ends = SmallSet::one(127).with(64).with(0);
         assert!(rt; ends.has(0) && !ends.has(63) && ends.has(64) && ends.has(127));
 
-        for (set, number) in [
-            (none, 0b0000),
-            (outer, 0b1001),
-            (outer.without(3), 0b0001),
-            (outer.union(inner), 0b1111),
-            (outer.common(ends), 0b0001),
-            (outer.minus(ends), 0b1000),
+        for (set, number, meets_ends, within_ends) in [
+            (SmallSet::empty(), 0b0000, false, true),
+            (outer, 0b1001, true, false),
+            (outer.without(3), 0b0001, true, true),
+            (outer.union(inner), 0b1111, true, false),
+            (outer.common(ends), 0b0001, true, true),
+            (outer.minus(ends), 0b1000, false, false),
         ] {
-            assert_eq!(rt; set, SmallSet::numbered(number));
+            assert_eq!(rt; set, SmallSet::numbered(number), "{set:?}");
+            assert_eq!(rt; set.meets(ends), meets_ends, "{set:?}");
+            assert_eq!(rt; set.within(ends), within_ends, "{set:?}");
         }
         for (set, count, first) in [
-            (none, 0, None),
+            (SmallSet::empty(), 0, None),
             (ends, 3, Some(0)),
             (ends.without(0), 2, Some(64)),
+            (SmallSet::one(127), 1, Some(127)),
         ] {
-            assert_eq!(rt; set.count(), count);
-            assert_eq!(rt; set.first(), first);
-        }
-        for (set, other, meets, within) in [
-            (none, ends, false, true),
-            (outer, inner, false, false),
-            (outer, ends, true, false),
-            (ends.without(64), ends, true, true),
-        ] {
-            assert_eq!(rt; set.meets(other), meets);
-            assert_eq!(rt; set.within(other), within);
+            assert_eq!(rt; set.count(), count, "{set:?}");
+            assert_eq!(rt; set.first(), first, "{set:?}");
         }
     }
 
@@ -229,8 +222,8 @@ mod tests {
             (inner, outer, false, false),
             (inner, inner, false, false),
         ] {
-            assert_eq!(rt; state_before(set, other), as_states);
-            assert_eq!(rt; pair_before(set, other), as_pairs);
+            assert_eq!(rt; state_before(set, other), as_states, "{set:?}, {other:?}");
+            assert_eq!(rt; pair_before(set, other), as_pairs, "{set:?}, {other:?}");
         }
     }
 }
