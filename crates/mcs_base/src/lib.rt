@@ -10,6 +10,7 @@ mod memory;
 mod tests;
 mod text;
 mod vars;
+mod words;
 
 pub use active::Active;
 pub use listed::{list_pairs, list_rule_sets, list_states};
@@ -18,3 +19,4 @@ pub use mcs_sets::Members;
 pub use memory::Memory;
 pub use text::Text;
 pub use vars::{Vars, state_before};
+pub use words::{is_letter, is_name, is_reserved, is_word, is_word_byte};

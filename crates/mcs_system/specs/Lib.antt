@@ -9,3 +9,6 @@ pub mod Atoms
 pub mod Faults
 pub mod Texts
 pub mod Codes
+pub mod Gathered
+pub mod Parts
+pub mod Built

@@ -1,2 +1,3 @@
 pub mod TableLemmas
 pub mod EquilibriumLemmas
+pub mod LineLemmas

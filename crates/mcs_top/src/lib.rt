@@ -3,6 +3,7 @@
 #![tactic(auto)]
 
 mod ending;
+mod equilibria;
 mod lines;
 mod words;
 
