@@ -1,13 +1,16 @@
 -- What was written of a text, and what is still to be.
-use Rattle.std.proofs.Common.{◌≡◌, ℕ, ◌+◌, ◌≤◌, zero, suc, List, [], ◌∷◌, ◌++◌, take, drop, length, Option, Some, None, refl, sym, ap, ◌∙◌, append_assoc, arith, length-append}
+use Rattle.std.proofs.Common.{◌≡◌, ℕ, ◌+◌, ◌<◌, ◌≤◌, zero, suc, List, [], ◌∷◌, ◌++◌, take, drop, get_or, length, inl, inr, Option, Some, None, refl, sym, ap, ◌∙◌, append_assoc, add-one, arith, length-append}
 use Rattle.std.specs.Option.{option_map}
 use Rattle.mcs_sets.specs.Orders.{StateBefore}
-use Rattle.mcs_base.specs.Listings.{IsListing}
+use Rattle.mcs_base.specs.Listings.{IsListing, IsAmong}
+use Rattle.mcs_ports.specs.Causes.{Rose}
 use Rattle.mcs_ports.specs.Pieces.{appended}
 use Rattle.mcs_system.specs.Plain.{System}
 use Rattle.mcs_system.specs.Systems.{all_rules, IsProjected}
 use Rattle.mcs_system.specs.Texts.{heading, equilibrium_line, equilibrium_lines, verdict, equilibria_end, equilibria_text, IsEquilibriaText}
-use Rattle.mcs_top.specs.Promise.{Prints, PrintsInPart, WritesFront}
+use Rattle.mcs_top.specs.Promise.{Prints, PrintsInPart, WritesFront, StopsWriting}
+use Rattle.mcs_top.specs.declared.ending.Stop.{Stop}
+use Rattle.mcs_top.specs.declared.ending.Stop.TheVariants as stops
 
 -- ---- texts one after the other
 pub appended-append : (told : Option (List ℕ)) (a b : List ℕ) → appended (appended told a) b ≡ appended told (a ++ b)
@@ -56,6 +59,12 @@ front_second before mid now a b is w = record {
 pub prints : (m : System) (states : List ℕ) (before now : Option (List ℕ)) → IsListing (IsProjected m (all_rules m) 0) StateBefore states → now ≡ appended before (equilibria_text m states) → Prints m before now
 prints m states before now listing is = record { listing = equilibria_text m states; lists = record { states = states; listing = listing; text_is = refl }; written = is }
 
+-- the heading, and then the rest
+pub prints_both : (m : System) (states : List ℕ) (before mid now : Option (List ℕ)) → IsListing (IsProjected m (all_rules m) 0) StateBefore states
+    → mid ≡ appended before (heading m) → now ≡ appended mid (equilibrium_lines m 1 states ++ (verdict states ++ equilibria_end states)) → Prints m before now
+prints_both m states before mid now listing first second =
+    prints m states before now listing (second ∙ ap (λ o. appended o (equilibrium_lines m 1 states ++ (verdict states ++ equilibria_end states))) first ∙ appended-append before (heading m) _)
+
 pub prints_in_part : (m : System) (states : List ℕ) (before now : Option (List ℕ)) → IsListing (IsProjected m (all_rules m) 0) StateBefore states → WritesFront before now (equilibria_text m states) → PrintsInPart m before now
 prints_in_part m states before now listing w = record {
   listing = equilibria_text m states;
@@ -65,11 +74,38 @@ prints_in_part m states before now listing w = record {
   written = w.written ∙ ap (appended before) (sym (take-front w.front w.rest) ∙ ap (take (length w.front)) w.parts);
 }
 
--- ---- the lines of the equilibria
-pub lines-more : (m : System) (k : ℕ) (xs : List ℕ) (x : ℕ) → equilibrium_lines m k (xs ++ x ∷ []) ≡ equilibrium_lines m k xs ++ equilibrium_line m (k + length xs) x
-lines-more m k [] x = append-empty (equilibrium_line m k x) ∙ ap (λ j. equilibrium_line m j x) (omega arith)
-lines-more m k (y ∷ ys) x = ap (λ t. equilibrium_line m k y ++ t) (lines-more m (k + 1) ys x ∙ ap (λ j. equilibrium_lines m (k + 1) ys ++ equilibrium_line m j x) (omega arith)) ∙ sym (append_assoc (equilibrium_line m k y) _ _)
+-- ---- causes
+pub later_rose : (a b c : ℕ) → a ≤ b → Rose b c → Rose a c
+later_rose a b c later rose = omega arith
 
-pub lines-append : (m : System) (k : ℕ) (xs ys : List ℕ) → equilibrium_lines m k (xs ++ ys) ≡ equilibrium_lines m k xs ++ equilibrium_lines m (k + length xs) ys
-lines-append m k [] ys = ap (λ j. equilibrium_lines m j ys) (omega arith)
-lines-append m k (x ∷ xs) ys = ap (λ t. equilibrium_line m k x ++ t) (lines-append m (k + 1) xs ys ∙ ap (λ j. equilibrium_lines m (k + 1) xs ++ equilibrium_lines m j ys) (omega arith)) ∙ sym (append_assoc (equilibrium_line m k x) _ _)
+pub stops_weaker : (s : Stop) (P Q : Type 0) → (P → Q) → StopsWriting s P → StopsWriting s Q
+stops_weaker stops.WriteFault P Q f h = f h
+stops_weaker stops.Memory P Q f h = h
+stops_weaker stops.Usage P Q f h = absurd h
+stops_weaker (stops.Refused r) P Q f h = absurd h
+stops_weaker stops.ReadFault P Q f h = absurd h
+
+-- ---- the line in the midst of others
+pub lines-split : (m : System) (j : ℕ) (xs : List ℕ) (k d : ℕ) → k < length xs
+    → equilibrium_lines m j xs ≡ equilibrium_lines m j (take k xs) ++ (equilibrium_line m (j + k) (get_or xs k d) ++ equilibrium_lines m (j + k + 1) (drop (suc k) xs))
+lines-split m j [] k d less = absurd (omega arith)
+lines-split m j (x ∷ xs) zero d less = ap (λ i. equilibrium_line m i x ++ equilibrium_lines m (i + 1) xs) (omega arith)
+lines-split m j (x ∷ xs) (suc k) d less =
+    ap (λ t. equilibrium_line m j x ++ t) (lines-split m (j + 1) xs k d (omega arith)
+    ∙ ap (λ i. equilibrium_lines m (j + 1) (take k xs) ++ (equilibrium_line m i (get_or xs k d) ++ equilibrium_lines m (i + 1) (drop (suc k) xs))) (omega arith))
+    ∙ sym (append_assoc (equilibrium_line m j x) (equilibrium_lines m (j + 1) (take k xs)) _)
+
+lines-take_suc : (m : System) (j : ℕ) (xs : List ℕ) (k d : ℕ) → k < length xs → equilibrium_lines m j (take (suc k) xs) ≡ equilibrium_lines m j (take k xs) ++ equilibrium_line m (j + k) (get_or xs k d)
+lines-take_suc m j [] k d less = absurd (omega arith)
+lines-take_suc m j (x ∷ xs) zero d less = append-empty (equilibrium_line m j x) ∙ ap (λ i. equilibrium_line m i x) (omega arith)
+lines-take_suc m j (x ∷ xs) (suc k) d less =
+    ap (λ t. equilibrium_line m j x ++ t) (lines-take_suc m (j + 1) xs k d (omega arith) ∙ ap (λ i. equilibrium_lines m (j + 1) (take k xs) ++ equilibrium_line m i (get_or xs k d)) (omega arith))
+    ∙ sym (append_assoc (equilibrium_line m j x) (equilibrium_lines m (j + 1) (take k xs)) _)
+
+pub lines-take : (m : System) (j : ℕ) (xs : List ℕ) (k d : ℕ) → k < length xs → equilibrium_lines m j (take (k + 1) xs) ≡ equilibrium_lines m j (take k xs) ++ equilibrium_line m (j + k) (get_or xs k d)
+lines-take m j xs k d less = ap (λ n. equilibrium_lines m j (take n xs)) (add-one k) ∙ lines-take_suc m j xs k d less
+
+pub among_at : (xs : List ℕ) (k d : ℕ) → k < length xs → IsAmong (get_or xs k d) xs
+among_at [] k d less = absurd (omega arith)
+among_at (x ∷ xs) zero d less = inl refl
+among_at (x ∷ xs) (suc k) d less = inr (among_at xs k d (omega arith))

@@ -37,8 +37,27 @@ pub(crate) fn print_equilibria<K: Sink, G: Gate>(
     let mut line = Text::new(alloc);
     print_heading(&mut line, system, sink)?;
     let states = equilibria(alloc, system, gate)?;
-    print_states(&mut line, system, &states, sink)?;
-    print_end(&mut line, &states, sink)
+    print_listing(&mut line, system, &states, sink)
+}
+
+/// Prints what comes after the heading: a line for each state, the verdict and the last line.
+fn print_listing<K: Sink>(
+    line: &mut Text,
+    system: &System,
+    states: &[Vars],
+    sink: &mut K,
+) -> Result<(), Stop>
+    requires { IsListing (IsProjected system.now (all_rules system.now) 0) StateBefore states.now }
+    ensures later { K.faults sink.old ≤ K.faults sink.new }
+    ensures notes { K.notes sink.new ≡ K.notes sink.old }
+    ensures ok { OnOk result (K.written sink.new ≡ appended (K.written sink.old)
+        (equilibrium_lines system.now 1 states.now ++ (verdict states.now ++ equilibria_end states.now))) }
+    ensures err { IfErr result (λ stop. StopsWriting stop (Rose (K.faults sink.old) (K.faults sink.new))
+        × WritesFront (K.written sink.old) (K.written sink.new)
+        (equilibrium_lines system.now 1 states.now ++ (verdict states.now ++ equilibria_end states.now))) }
+{
+    print_states(line, system, states, sink)?;
+    print_end(line, states, sink)
 }
 
 /// Prints the heading.
@@ -105,9 +124,31 @@ fn print_end<K: Sink>(line: &mut Text, states: &[Vars], sink: &mut K) -> Result<
     ensures err { IfErr result (λ stop. StopsWriting stop (Rose (K.faults sink.old) (K.faults sink.new))
         × WritesFront (K.written sink.old) (K.written sink.new) (verdict states.now ++ equilibria_end states.now)) }
 {
+    print_verdict(line, states, sink)?;
+    print_last(line, states, sink)
+}
+
+/// Prints the verdict.
+fn print_verdict<K: Sink>(line: &mut Text, states: &[Vars], sink: &mut K) -> Result<(), Stop>
+    ensures later { K.faults sink.old ≤ K.faults sink.new }
+    ensures notes { K.notes sink.new ≡ K.notes sink.old }
+    ensures ok { OnOk result (K.written sink.new ≡ appended (K.written sink.old) (verdict states.now)) }
+    ensures err { IfErr result (λ stop. StopsWriting stop (Rose (K.faults sink.old) (K.faults sink.new))
+        × WritesFront (K.written sink.old) (K.written sink.new) (verdict states.now)) }
+{
     line.clear();
     push_verdict(line, states)?;
-    write_line(line, sink)?;
+    write_line(line, sink)
+}
+
+/// Prints the last line.
+fn print_last<K: Sink>(line: &mut Text, states: &[Vars], sink: &mut K) -> Result<(), Stop>
+    ensures later { K.faults sink.old ≤ K.faults sink.new }
+    ensures notes { K.notes sink.new ≡ K.notes sink.old }
+    ensures ok { OnOk result (K.written sink.new ≡ appended (K.written sink.old) (equilibria_end states.now)) }
+    ensures err { IfErr result (λ stop. StopsWriting stop (Rose (K.faults sink.old) (K.faults sink.new))
+        × WritesFront (K.written sink.old) (K.written sink.new) (equilibria_end states.now)) }
+{
     line.clear();
     push_equilibria_end(line, states)?;
     write_line(line, sink)
