@@ -1,49 +1,22 @@
 -- Rows that fit together are the parts of a choice.
-use Rattle.std.proofs.Common.{◌≡◌, ◌≢◌, ℕ, ◌+◌, ◌*◌, ◌^◌, ◌<◌, ◌≤◌, Bool, true, false, not, ◌&&◌, ◌||◌, cond, eqb, ltb, zero, suc, List, [], ◌∷◌, ◌++◌, length, Option, Some, None, refl, sym, ap, ◌∙◌, subst, inl, inr, ◌⊎◌, ◌↔◌, arith, IsTrue, true≢false, slice_get}
+use Rattle.std.proofs.Common.{◌≡◌, ℕ, ◌+◌, ◌<◌, Bool, true, false, not, ◌&&◌, ◌||◌, eqb, ltb, suc, List, [], ◌∷◌, ◌++◌, length, Some, refl, sym, ap, ◌∙◌, subst, inl, inr, arith, slice_get}
 use Rattle.std.proofs.lemmas.Bool.{and_parts}
 use Rattle.std.proofs.lemmas.Bool.Decides.{nat_tests}
 use Rattle.std.specs.List.{list_any, list_all, enumerate_from}
-use Rattle.mcs_sets.specs.Sets.{has, common, union, minus, such_that, Within}
-use Rattle.mcs_sets.proofs.SetLemmas.{same_set, has-such_that, has-common, has-union, has-minus}
-use Rattle.mcs_system.specs.Plain.{Formula, Context, Read, Bridge, System}
+use Rattle.mcs_sets.specs.Sets.{has, common, minus, such_that, Within}
+use Rattle.mcs_sets.proofs.SetLemmas.{same_set, has-such_that, has-common, has-union}
+use Rattle.mcs_system.specs.Plain.{Formula, Read, Bridge, System}
 use Rattle.mcs_system.specs.Logic.{Accepts, with_heads}
-use Rattle.mcs_system.specs.Systems.{same_read, variables, variables_of, all_variables, all_rules, applicable, heads_into, believed_among, applies_among, applies_there, IsVariable, IsAcceptedPart}
+use Rattle.mcs_system.specs.Systems.{same_read, variables, variables_of, all_variables, all_rules, applicable, heads_into, believed_among, applies_among, IsAcceptedPart}
 use Rattle.mcs_system.specs.Repairs.{IsChoice, marks_of}
 use Rattle.mcs_base.specs.Listings.{IsAmong}
 use Rattle.mcs_system.specs.Imports.{rules_into}
-use Rattle.mcs_system.specs.Rows.{inputs_of, is_read_into, local_of, marks_at, IsRow, FitTogether, HasParts}
+use Rattle.mcs_system.specs.Rows.{inputs_of, local_of, marks_at, FitTogether, HasParts}
 use Rattle.mcs_laws.specs.Laws.{RowsMakeChoices}
 use Rattle.mcs_laws.proofs.Transversals.{has-all_rules}
-use Rattle.mcs_laws.proofs.Members.{get-lt, get_below, among_left, among_right, among_get, choose}
-use Rattle.mcs_laws.proofs.Projections.{same_read-itself, has-applicable}
-use Rattle.mcs_laws.proofs.Questions.{has-rules_into, heads-own}
-
-module _ {A : Type 0} (p : A → Bool) where
-  any_get : (xs : List A) → list_any p xs ≡ true → (i : ℕ) × (x : A) × (slice_get xs i ≡ Some x) × (p x ≡ true)
-  any_get [] e = absurd (true≢false (sym e))
-  any_get (x ∷ xs) e = at (p x) refl e (any_get xs)
-    where
-      at : (v : Bool) → p x ≡ v → (v || list_any p xs) ≡ true → (list_any p xs ≡ true → (i : ℕ) × (y : A) × (slice_get xs i ≡ Some y) × (p y ≡ true)) → (i : ℕ) × (y : A) × (slice_get (x ∷ xs) i ≡ Some y) × (p y ≡ true)
-      at true is e rest = (0, x, refl, is)
-      at false is e rest = let (i, y, there, passes) = rest e in (suc i, y, there, passes)
-
-  get_any : (xs : List A) (i : ℕ) (x : A) → slice_get xs i ≡ Some x → p x ≡ true → list_any p xs ≡ true
-  get_any [] i x there passes = cc
-  get_any (y ∷ ys) zero x there passes = let same : x ≡ y = cc in let e : p y ≡ true = ap p (sym same) ∙ passes in rw e refl
-  get_any (y ∷ ys) (suc i) x there passes = let rest = get_any ys i x there passes in rw rest (or-true (p y))
-    where
-      or-true : (u : Bool) → (u || true) ≡ true
-      or-true true = refl
-      or-true false = refl
-
-  among_any : (xs : List A) (x : A) → IsAmong x xs → p x ≡ true → list_any p xs ≡ true
-  among_any [] x here passes = absurd here
-  among_any (y ∷ ys) x (inl same) passes = let e : p y ≡ true = ap p (sym same) ∙ passes in rw e refl
-  among_any (y ∷ ys) x (inr later) passes = let rest = among_any ys x later passes in rw rest (or-true (p y))
-    where
-      or-true : (u : Bool) → (u || true) ≡ true
-      or-true true = refl
-      or-true false = refl
+use Rattle.mcs_system.proofs.Members.{any_get, get_any, get-lt, get_below, among_left, among_right, choose}
+use Rattle.mcs_system.proofs.VariableLemmas.{has-applicable, has-rules_into, has-inputs_of}
+use Rattle.mcs_laws.proofs.Questions.{heads-own}
 
 same_all : {A : Type 0} (p q : A → Bool) (xs : List A) → ((x : A) → IsAmong x xs → p x ≡ q x) → list_all p xs ≡ list_all q xs
 same_all p q [] same = refl
@@ -62,12 +35,6 @@ same_believed σ τ r (x ∷ xs) k same = at (same_read x r) refl (same_believed
         → ((has σ k && v) || list_any (λ v. has σ v.0 && same_read v.1 r) (enumerate_from (k + 1) xs)) ≡ ((has τ k && v) || list_any (λ v. has τ v.0 && same_read v.1 r) (enumerate_from (k + 1) xs))
     at true is rest = let e : k ≡ k + 0 = omega arith in let here : has σ k ≡ has τ k = ap (has σ) e ∙ same 0 x refl is ∙ ap (has τ) (sym e) in rw (here, rest) refl
     at false is rest = rw (and-false (has σ k), and-false (has τ k)) rest
-
-has-inputs_of : (m : System) (i k v : ℕ) (b : Bridge) (r q : Read) → slice_get m.bridges k ≡ Some b → b.target ≡ i → IsAmong r (b.pos ++ b.neg) → IsVariable m v q → same_read q r ≡ true → has (inputs_of m i) v ≡ true
-unfolding inputs_of
-has-inputs_of m i k v b r q is target here var alike = has-such_that _ _ v ∙ (let less = get-lt q (variables m) v var in let e : ltb v (length (variables m)) ≡ true = grind (arith, nat_tests) in rw (e, var)
-    (get_any (λ (c : Bridge). eqb c.target i && list_any (λ (p : Read). same_read q p) (c.pos ++ c.neg)) m.bridges k b is
-    (let t : eqb b.target i ≡ true = grind (arith, nat_tests) in let a = among_any (λ (p : Read). same_read q p) (b.pos ++ b.neg) r here alike in rw (t, a) refl)))
 
 same_applies : (m : System) (i k σ τ : ℕ) (b : Bridge) → slice_get m.bridges k ≡ Some b → b.target ≡ i → common σ (local_of m i) ≡ common τ (local_of m i) → applies_among (variables m) σ b ≡ applies_among (variables m) τ b
 same_applies m i k σ τ b is target same =

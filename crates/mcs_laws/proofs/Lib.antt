@@ -1,5 +1,4 @@
 pub mod Small
-pub mod Members
 pub mod Projections
 pub mod Counting
 pub mod Deciding
@@ -8,3 +7,6 @@ pub mod Tiny
 pub mod Questions
 pub mod Transversals
 pub mod Gluing
+pub mod Tables
+pub mod Classical
+pub mod Existence

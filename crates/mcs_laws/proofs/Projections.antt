@@ -1,112 +1,16 @@
 -- Equilibria by their projections: what the parts accept one by one.
-use Rattle.std.proofs.Common.{◌≡◌, ℕ, ◌+◌, ◌<◌, zero, suc, Bool, true, false, not, ◌&&◌, ◌||◌, eqb, ltb, List, [], ◌∷◌, ◌++◌, filter, length, Some, refl, sym, ap, ◌∙◌, subst, inl, inr, ◌⊎◌, ◌↔◌, arith, IsTrue, true≢false, slice_get}
+use Rattle.std.proofs.Common.{◌≡◌, ℕ, ◌+◌, ◌<◌, suc, Bool, true, false, not, ◌&&◌, ◌||◌, eqb, ltb, List, [], ◌∷◌, ◌++◌, length, Some, refl, sym, ap, ◌∙◌, subst, inl, inr, ◌⊎◌, ◌↔◌, arith, IsTrue, true≢false, slice_get}
 use Rattle.std.proofs.lemmas.Bool.{and_parts}
 use Rattle.std.proofs.lemmas.Bool.Decides.{nat_tests}
-use Rattle.std.specs.List.{range_with_len, list_all, list_any, enumerate_from, AllByRecursion}
+use Rattle.std.specs.List.{list_all, AllByRecursion}
 use Rattle.mcs_sets.specs.Sets.{has, common, Within}
 use Rattle.mcs_sets.proofs.SetLemmas.{has-such_that, has-common, has-union}
-use Rattle.mcs_system.specs.Plain.{Formula, Truth, Falsity, Atom, Not, And, Or, Implies, Iff, Read, Bridge, System}
+use Rattle.mcs_system.specs.Plain.{Formula, Read, Bridge, System}
 use Rattle.mcs_system.specs.Logic.{BeliefSet, Believes, Accepts, with_heads}
-use Rattle.mcs_system.specs.Systems.{same_formula, same_read, occurrences, firsts, context_variables, variables, variables_of, all_variables, BelievesIn, Applies, heads_from, heads_into, AcceptsWith, IsVariable, IsProjection, IsProjected, IsAcceptedPart, believed_at, applies_at, applicable, acting_at}
+use Rattle.mcs_system.specs.Systems.{variables, variables_of, all_variables, BelievesIn, Applies, heads_from, heads_into, AcceptsWith, IsVariable, IsProjection, IsProjected, IsAcceptedPart, believed_at, applies_at, acting_at}
 use Rattle.mcs_base.specs.Listings.{IsAmong}
-use Rattle.mcs_laws.proofs.Deciding.{same_name-is, same_name-itself}
-use Rattle.mcs_laws.proofs.Members.{among_left, among_right, among_filter, filter_among, get_among, among_get, get-lt, get_below, all_by_test, among_flat_map, flat_map_among, among_range, range_among, choose}
-
-pub same_formula-is : (f g : Formula) → same_formula f g ≡ true → f ≡ g
-same_formula-is Truth Truth e = refl
-same_formula-is Falsity Falsity e = refl
-same_formula-is (Atom m) (Atom n) e = ap (λ x. Atom x) (same_name-is m n e)
-same_formula-is (Not f) (Not g) e = ap (λ x. Not x) (same_formula-is f g e)
-same_formula-is (And f f') (And g g') e = let parts = and_parts (same_formula f g) (same_formula f' g') e in let a = same_formula-is f g parts.0 in let b = same_formula-is f' g' parts.1 in cc
-same_formula-is (Or f f') (Or g g') e = let parts = and_parts (same_formula f g) (same_formula f' g') e in let a = same_formula-is f g parts.0 in let b = same_formula-is f' g' parts.1 in cc
-same_formula-is (Implies f f') (Implies g g') e = let parts = and_parts (same_formula f g) (same_formula f' g') e in let a = same_formula-is f g parts.0 in let b = same_formula-is f' g' parts.1 in cc
-same_formula-is (Iff f f') (Iff g g') e = let parts = and_parts (same_formula f g) (same_formula f' g') e in let a = same_formula-is f g parts.0 in let b = same_formula-is f' g' parts.1 in cc
-same_formula-is f g e = absurd (true≢false (sym e))
-
-pub same_formula-itself : (f : Formula) → same_formula f f ≡ true
-same_formula-itself Truth = refl
-same_formula-itself Falsity = refl
-same_formula-itself (Atom n) = same_name-itself n
-same_formula-itself (Not f) = same_formula-itself f
-same_formula-itself (And f g) = rw (same_formula-itself f, same_formula-itself g) refl
-same_formula-itself (Or f g) = rw (same_formula-itself f, same_formula-itself g) refl
-same_formula-itself (Implies f g) = rw (same_formula-itself f, same_formula-itself g) refl
-same_formula-itself (Iff f g) = rw (same_formula-itself f, same_formula-itself g) refl
-
-abbrev read_at : ℕ → Formula → Read
-read_at c f = record { context = c; belief = f }
-
-pub same_read-is : (q r : Read) → same_read q r ≡ true → q ≡ r
-same_read-is q r e =
-    let parts = and_parts (eqb q.context r.context) (same_formula q.belief r.belief) e in
-    let a : q.context ≡ r.context = grind (arith, nat_tests) in
-    let b : q.belief ≡ r.belief = same_formula-is q.belief r.belief parts.1 in
-    ap (λ c. read_at c q.belief) a ∙ ap (λ f. read_at r.context f) b
-
-pub same_read-itself : (r : Read) → same_read r r ≡ true
-same_read-itself r = rw (same_formula-itself r.belief) (grind (arith, nat_tests))
-
--- ---- the variables
-among_firsts : (r : Read) (xs : List Read) → IsAmong r xs → IsAmong r (firsts xs)
-among_firsts r [] h = absurd h
-among_firsts r (x ∷ xs) (inl e) = inl e
-among_firsts r (x ∷ xs) (inr h) = at (same_read x r) refl (among_firsts r xs h)
-  where
-    at : (v : Bool) → same_read x r ≡ v → IsAmong r (firsts xs) → (r ≡ x) ⊎ IsAmong r (filter (λ q. not (same_read x q)) (firsts xs))
-    at true e rest = inl (sym (same_read-is x r e))
-    at false e rest = inr (among_filter (λ q. not (same_read x q)) r (firsts xs) rest (ap not e))
-
-firsts_among : (r : Read) (xs : List Read) → IsAmong r (firsts xs) → IsAmong r xs
-firsts_among r [] h = absurd h
-firsts_among r (x ∷ xs) (inl e) = inl e
-firsts_among r (x ∷ xs) (inr h) = inr (firsts_among r xs (filter_among (λ q. not (same_read x q)) r (firsts xs) h).0)
-
--- a variable belongs to a context of the system
-pub variable_in_range : (m : System) (v : ℕ) (r : Read) → IsVariable m v r → r.context < length m.contexts
-unfolding variables
-variable_in_range m v r is =
-    let (i, in_range, here) = flat_map_among (context_variables m) r (range_with_len 0 (length m.contexts)) (among_get r _ v is) in
-    let own : eqb r.context i ≡ true = (filter_among (λ q. eqb q.context i) r (occurrences m) (firsts_among r _ here)).1 in
-    let less = range_among i 0 (length m.contexts) in_range in
-    let same : r.context ≡ i = grind (arith, nat_tests) in omega arith
-
--- and what a rule reads of a context of the system is a variable
-pub read_is_variable : (m : System) (k : ℕ) (b : Bridge) (r : Read) → slice_get m.bridges k ≡ Some b → IsAmong r (b.pos ++ b.neg) → r.context < length m.contexts → (v : ℕ) × IsVariable m v r
-unfolding variables
-read_is_variable m k b r is here less =
-    get_among r _ (among_flat_map (context_variables m) r.context r (range_with_len 0 (length m.contexts))
-    (among_range r.context 0 (length m.contexts) (omega arith) (omega arith))
-    (among_firsts r _ (among_filter (λ q. eqb q.context r.context) r (occurrences m)
-    (among_flat_map (λ (c : Bridge). c.pos ++ c.neg) b r m.bridges (among_get b m.bridges k is) here)
-    (grind (arith, nat_tests)))))
-
--- ---- what is believed at a set of variables
-believed_from : (σ k : ℕ) (r : Read) (xs : List Read) → list_any (λ v. has σ v.0 && same_read v.1 r) (enumerate_from k xs) ≡ true → (v : ℕ) × (slice_get xs v ≡ Some r) × (has σ (k + v) ≡ true)
-believed_from σ k r [] e = absurd (true≢false (sym e))
-believed_from σ k r (x ∷ xs) e = at (has σ k) refl (same_read x r) refl e (believed_from σ (k + 1) r xs)
-  where
-    later : ((v : ℕ) × (slice_get xs v ≡ Some r) × (has σ (k + 1 + v) ≡ true)) → (v : ℕ) × (slice_get (x ∷ xs) v ≡ Some r) × (has σ (k + v) ≡ true)
-    later found = (suc found.0, found.1, ap (has σ) (omega arith) ∙ found.2)
-
-    at : (u : Bool) → has σ k ≡ u → (v : Bool) → same_read x r ≡ v → ((u && v) || list_any (λ v. has σ v.0 && same_read v.1 r) (enumerate_from (k + 1) xs)) ≡ true → (list_any (λ v. has σ v.0 && same_read v.1 r) (enumerate_from (k + 1) xs) ≡ true → (v : ℕ) × (slice_get xs v ≡ Some r) × (has σ (k + 1 + v) ≡ true)) → (v : ℕ) × (slice_get (x ∷ xs) v ≡ Some r) × (has σ (k + v) ≡ true)
-    at true is true same e rest = (0, ap (λ y. Some y) (same_read-is x r same), ap (has σ) (omega arith) ∙ is)
-    at true is false same e rest = later (rest e)
-    at false is v same e rest = later (rest e)
-
-from_believed : (σ k : ℕ) (r : Read) (xs : List Read) (v : ℕ) → slice_get xs v ≡ Some r → has σ (k + v) ≡ true → list_any (λ v. has σ v.0 && same_read v.1 r) (enumerate_from k xs) ≡ true
-from_believed σ k r [] v is member = cc
-from_believed σ k r (x ∷ xs) zero is member =
-    let same : r ≡ x = cc in
-    let known : has σ k ≡ true = ap (has σ) (omega arith) ∙ member in
-    let alike : same_read x r ≡ true = ap (λ y. same_read x y) same ∙ same_read-itself x in
-    rw (known, alike) refl
-from_believed σ k r (x ∷ xs) (suc v) is member =
-    let rest = from_believed σ (k + 1) r xs v is (ap (has σ) (omega arith) ∙ member) in
-    rw rest (or-true (has σ k && same_read x r))
-  where
-    or-true : (u : Bool) → (u || true) ≡ true
-    or-true true = refl
-    or-true false = refl
+use Rattle.mcs_system.proofs.Members.{among_left, among_right, get-lt, get_below, all_by_test, choose}
+use Rattle.mcs_system.proofs.VariableLemmas.{variable_in_range, read_is_variable, believed_from, from_believed, has-applicable, has-variables_of}
 
 believed-same : (m : System) (s : List BeliefSet) (σ : ℕ) → length s ≡ length m.contexts → IsProjection m s σ → (k : ℕ) (b : Bridge) (r : Read) → slice_get m.bridges k ≡ Some b → IsAmong r (b.pos ++ b.neg) → BelievesIn s r ↔ (believed_at m σ r ≡ true)
 believed-same m s σ long projection k b r is here = (
@@ -142,10 +46,6 @@ applies-same m s σ long projection k b is = (
     neg = all_by_test (λ r. ¬ BelievesIn s r) (λ r. not (believed_at m σ r)) b.neg (λ r here. negated (BelievesIn s r) (believed_at m σ r) (believed-same m s σ long projection k b r is (among_right r b.pos b.neg here)))
 
 -- ---- the rules that act
-pub has-applicable : (m : System) (σ k : ℕ) (b : Bridge) → slice_get m.bridges k ≡ Some b → has (applicable m σ) k ≡ applies_at m σ b
-unfolding applicable
-has-applicable m σ k b is = has-such_that _ _ k ∙ (let less = get-lt b m.bridges k is in let e : ltb k (length m.bridges) ≡ true = grind (arith, nat_tests) in rw (e, is) refl)
-
 pub acting_at-is : (m : System) (r1 r2 : ℕ) (s : List BeliefSet) (σ : ℕ) → length s ≡ length m.contexts → IsProjection m s σ
     → (k : ℕ) (b : Bridge) → slice_get m.bridges k ≡ Some b → IsTrue (has (acting_at m σ r1 r2) k) ↔ ((IsTrue (has r1 k) × Applies b s) ⊎ IsTrue (has r2 k))
 acting_at-is m r1 r2 s σ long projection k b is = join (applies-same m s σ long projection k b is) (has r1 k) (has r2 k) (applies_at m σ b) refl (has-union _ _ k ∙ rw (has-common, has-applicable m σ k b is) refl)
@@ -187,10 +87,6 @@ heads-same k (b ∷ bs) i x y same =
     rw (here, rest) refl
 
 -- ---- equilibria by their projections
-pub has-variables_of : (m : System) (i v : ℕ) (r : Read) → IsVariable m v r → has (variables_of m i) v ≡ eqb r.context i
-unfolding variables_of
-has-variables_of m i v r is = has-such_that _ _ v ∙ (let less = get-lt r (variables m) v is in let e : ltb v (length (variables m)) ≡ true = grind (arith, nat_tests) in rw (e, is) refl)
-
 pub parts_of : (m : System) (r1 r2 σ : ℕ) → IsProjected m r1 r2 σ → Within σ (all_variables m) × ((i : ℕ) → i < length m.contexts → IsAcceptedPart m i (acting_at m σ r1 r2) (common σ (variables_of m i)))
 parts_of m r1 r2 σ p = (within, part)
   where

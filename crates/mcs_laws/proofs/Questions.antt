@@ -1,22 +1,20 @@
 -- Questions of growing levels, and the questions that a choice asks.
-use Rattle.std.proofs.Common.{◌≡◌, ◌≢◌, ℕ, ◌+◌, ◌*◌, ◌^◌, ◌<◌, ◌≤◌, Bool, true, false, not, ◌&&◌, ◌||◌, cond, eqb, ltb, zero, suc, List, [], ◌∷◌, ◌++◌, length, reverse, Option, Some, None, refl, sym, ap, ◌∙◌, subst, inl, inr, ◌⊎◌, ◌↔◌, arith, IsTrue, true≢false, slice_get, bit_xor}
+use Rattle.std.proofs.Common.{◌≡◌, ℕ, ◌+◌, ◌^◌, ◌<◌, ◌≤◌, Bool, true, false, ◌&&◌, cond, eqb, suc, List, [], ◌∷◌, length, reverse, Some, refl, sym, ap, ◌∙◌, subst, inl, inr, ◌⊎◌, arith, slice_get, bit_xor}
 use Rattle.std.proofs.lemmas.Bool.Decides.{nat_tests}
 use mathlib.Core.List.{reverse_aux}
-use Rattle.std.specs.List.{AllByRecursion}
-use Rattle.mcs_sets.specs.Sets.{has, size, common, union, minus, such_that, Within}
-use Rattle.mcs_sets.proofs.SetLemmas.{has-such_that, has-common, has-union, has-minus, has-differ, size-le, size-union, Within-le, such_that-lt, union-lt}
-use Rattle.mcs_system.specs.Plain.{Formula, Context, Bridge, System}
+use Rattle.mcs_sets.specs.Sets.{has, size, common, union, minus, Within}
+use Rattle.mcs_sets.proofs.SetLemmas.{has-common, has-union, has-minus, has-differ, size-le, size-union, Within-le, such_that-lt, union-lt}
+use Rattle.mcs_system.specs.Plain.{Formula, Bridge, System}
 use Rattle.mcs_system.specs.Logic.{Accepts, with_heads}
-use Rattle.mcs_system.specs.Systems.{all_rules, all_variables, variables_of, applicable, heads_from, heads_into, IsAcceptedPart}
-use Rattle.mcs_system.specs.Repairs.{IsChoice, choice_marks, marks_of}
+use Rattle.mcs_system.specs.Systems.{all_rules, variables_of, applicable, heads_from, heads_into, IsAcceptedPart}
+use Rattle.mcs_system.specs.Repairs.{IsChoice, choice_marks}
 use Rattle.mcs_base.specs.Listings.{IsAmong}
-use Rattle.mcs_system.specs.Imports.{imports, before_in, rules_into, IsQuestionAfter, IsPossibleFrom, IsQuestion}
+use Rattle.mcs_system.specs.Imports.{before_in, rules_into, IsQuestionAfter, IsPossibleFrom}
 use Rattle.mcs_laws.specs.Laws.{QuestionsGrow, ChoicesAskQuestions}
-use Rattle.mcs_laws.proofs.Transversals.{has-all_rules}
 use Rattle.mcs_laws.proofs.Choices.{applicable_within}
 use Rattle.mcs_laws.proofs.Counting.{size-marks_of}
 use Rattle.mcs_base.proofs.ListingLemmas.{all_among}
-use Rattle.mcs_laws.proofs.Members.{get-lt}
+use Rattle.mcs_system.proofs.VariableLemmas.{has-rules_into}
 
 question_grows : (m : System) (level : ℕ) (cs : List ℕ) (P Q : ℕ → ℕ → Type 0) (i x : ℕ) → ((j τ : ℕ) → P j τ → Q j τ) → IsQuestionAfter m level cs P i x → IsQuestionAfter m (level + 1) cs Q i x
 question_grows m level cs P Q i x grows h = record { of_rules = h.of_rules; state = h.state; of_variables = h.of_variables; supplies = λ j among imported. grows j _ (h.supplies j among imported); near = (let n = h.near in omega arith) }
@@ -30,10 +28,6 @@ pub questions_grow : QuestionsGrow
 questions_grow m order level i x h = question_grows m level (reverse (before_in order i)) _ _ i x (possible_grows m level (reverse (before_in order i))) h
 
 -- ---- the heads into a context come from the rules into it
-pub has-rules_into : (m : System) (i k : ℕ) (b : Bridge) → slice_get m.bridges k ≡ Some b → has (rules_into m i) k ≡ eqb b.target i
-unfolding rules_into
-has-rules_into m i k b is = has-such_that _ _ k ∙ (let less = get-lt b m.bridges k is in let e : ltb k (length m.bridges) ≡ true = grind (arith, nat_tests) in rw (e, is) refl)
-
 heads-alike : (k : ℕ) (bs : List Bridge) (i x y : ℕ) → ((j : ℕ) (b : Bridge) → slice_get bs j ≡ Some b → (has x (k + j) && eqb b.target i) ≡ (has y (k + j) && eqb b.target i)) → heads_from k bs i x ≡ heads_from k bs i y
 heads-alike k [] i x y same = refl
 heads-alike k (b ∷ bs) i x y same =

@@ -1,17 +1,18 @@
 -- Small contexts, evaluated, and the projection of a belief state.
-use Rattle.std.proofs.Common.{◌≡◌, ◌≢◌, ℕ, ◌+◌, ◌<◌, ◌≤◌, zero, suc, Bool, true, false, not, cond, ◌&&◌, ◌||◌, eqb, ltb, List, [], ◌∷◌, ◌++◌, length, Option, Some, None, refl, sym, ap, ◌∙◌, subst, inl, inr, ◌⊎◌, ◌↔◌, arith, IsTrue, true≢false, slice_get}
+use Rattle.std.proofs.Common.{◌≡◌, ℕ, Bool, true, false, not, ◌&&◌, ◌||◌, ltb, List, [], ◌∷◌, length, Option, Some, None, refl, sym, ap, ◌∙◌, subst, inl, inr, ◌⊎◌, ◌↔◌, arith, true≢false, slice_get}
 use Rattle.std.proofs.lemmas.Bool.{and_parts}
 use Rattle.std.proofs.lemmas.Bool.Decides.{nat_tests}
 use Rattle.std.specs.List.{list_all}
 use Rattle.mcs_sets.specs.Sets.{has, such_that}
 use Rattle.mcs_sets.proofs.SetLemmas.{same_set, has-such_that}
-use Rattle.mcs_system.specs.Plain.{Name, Formula, Truth, Falsity, Atom, Not, And, Or, Implies, Iff, Read, System}
-use Rattle.mcs_system.specs.Logic.{same_name, is_in, holds, holds_all, Entails, BeliefSet, Theory, Atoms, Believes, satisfies, reduct, IsProperSubset, IsAnswerSet, IsExtension}
+use Rattle.mcs_system.specs.Plain.{Name, Formula, Atom, Read, System}
+use Rattle.mcs_system.specs.Logic.{same_name, is_in, BeliefSet, Theory, Atoms, Believes, satisfies, IsProperSubset}
 use Rattle.mcs_system.specs.Systems.{variables, BelievesIn, IsVariable, IsProjection}
 use Rattle.mcs_laws.specs.Laws.{StatesHaveOneProjection, DisjunctionChooses, BirdFlies}
-use Rattle.mcs_laws.specs.Examples.{a_or_b, name_a, name_b, birds, bird, flies}
-use Rattle.mcs_laws.proofs.Deciding.{decide, same_name-is}
-use Rattle.mcs_laws.proofs.Members.{get-lt, get_below}
+use Rattle.mcs_laws.specs.Examples.{name_a, name_b}
+use Rattle.mcs_laws.proofs.Deciding.{decide}
+use Rattle.mcs_system.proofs.Sameness.{same_name-is}
+use Rattle.mcs_system.proofs.Members.{get-lt}
 
 -- ---- whether a belief is believed is decided
 decided : (b : BeliefSet) (p : Formula) → Believes b p ⊎ (¬ Believes b p)

@@ -1,13 +1,15 @@
 //! A set of small numbers as one word of bits, and the orders of such sets.
 
 ghost use Rattle.std.specs.Prelude.{◌≡◌, ℕ, ◌^◌, ◌<◌, ◌↔◌, IsTrue, IfSome, IfNone};
-ghost use Rattle.mcs_sets.specs.Sets.{has, single, union, common, minus, Within, Meets, IsLeast, size};
+ghost use Rattle.mcs_sets.specs.Sets.{has, single, union, common, minus, Within, Meets, IsLeast, size, members};
 ghost use Rattle.mcs_sets.specs.Orders.{StateBefore, PairBefore};
 
+use crate::members::Members;
 use std::marker::Model;
 
-/// A set of numbers below 128.
-#[derive(Clone, Copy, PartialEq, Eq)]
+/// A set of numbers below 128. Its own order is that of the numbers that stand for the sets: the set that
+/// holds the greatest number in which they differ is the greater one.
+#[derive(Clone, Copy, Debug, PartialEq, Eq, PartialOrd, Ord)]
 pub struct SmallSet {
     bits: u128,
 }
@@ -30,6 +32,15 @@ impl SmallSet {
         ensures { result ≡ 0 }
     {
         SmallSet { bits: 0 }
+    }
+
+    /// The set whose number this is: it has `k` where bit `k` of the number is set.
+    pub fn numbered(number: u64) -> Self
+        ensures { result ≡ number }
+    {
+        SmallSet {
+            bits: number as u128,
+        }
     }
 
     /// The set of this one number.
@@ -128,6 +139,7 @@ impl SmallSet {
     /// The least number of the set, if it has one.
     pub fn first(self) -> Option<u32>
         ensures least { IfSome result (IsLeast self) }
+        ensures below { IfSome result (λ k. k < 128) }
         ensures empty { IfNone result (self ≡ 0) }
     {
         if self.bits == 0 {
@@ -135,6 +147,13 @@ impl SmallSet {
         } else {
             Some(self.bits.trailing_zeros())
         }
+    }
+
+    /// The members, ascending.
+    pub fn members(self) -> Members
+        ensures { result ≡ members self }
+    {
+        Members { left: self }
     }
 }
 

@@ -1,5 +1,5 @@
 -- Steps of loops over plain data.
-use Rattle.std.proofs.Common.{◌≡◌, ℕ, ◌+◌, ◌<◌, zero, suc, Bool, cond, List, [], ◌∷◌, map, length, Option, Some, get_or, slice_get, refl, add-one, arith}
+use Rattle.std.proofs.Common.{◌≡◌, ℕ, ◌+◌, ◌<◌, zero, suc, Bool, cond, List, [], ◌∷◌, map, length, Some, get_or, slice_get, refl, add-one, arith}
 use Rattle.mcs_sets.specs.Sets.{such_that, union, single}
 
 pub such_that-more : (n : ℕ) (p : ℕ → Bool) → such_that (n + 1) p ≡ cond (p n) (union (such_that n p) (single n)) (such_that n p)

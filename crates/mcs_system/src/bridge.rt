@@ -1,13 +1,30 @@
 //! Bridge rules, by which contexts read each other.
 
+ghost use Rattle.std.specs.Prelude.{◌≡◌, IfOk, map};
+ghost use Rattle.mcs_system.specs.Seen.{bridge_of, read_of};
+
 use crate::formula::Formula;
 use crate::name::Name;
+use mcs_base::Memory;
+use std::alloc::Global;
 
 /// A belief of a context, as a bridge rule reads it.
 #[derive(Drop)]
 pub struct Read {
     pub context: u32,
     pub belief: Formula,
+}
+
+impl Read {
+    /// An equal read.
+    pub fn copy(&self, alloc: Global) -> Result<Read, Memory>
+        ensures { IfOk result (λ r. read_of r ≡ read_of self.now) }
+    {
+        Ok(Read {
+            context: self.context,
+            belief: self.belief.copy(alloc)?,
+        })
+    }
 }
 
 /// A bridge rule: the head goes into the target where each positive read is believed and no negative one.
@@ -18,4 +35,64 @@ pub struct Bridge {
     pub head: Formula,
     pub pos: Vec<Read>,
     pub neg: Vec<Read>,
+}
+
+impl Bridge {
+    /// An equal bridge rule.
+    pub fn copy(&self, alloc: Global) -> Result<Bridge, Memory>
+        ensures { IfOk result (λ b. bridge_of b ≡ bridge_of self.now) }
+    {
+        Ok(Bridge {
+            name: self.name.copy(alloc)?,
+            target: self.target,
+            head: self.head.copy(alloc)?,
+            pos: copy_reads(alloc, &self.pos)?,
+            neg: copy_reads(alloc, &self.neg)?,
+        })
+    }
+}
+
+/// Equal reads, in the same order.
+fn copy_reads(alloc: Global, reads: &[Read]) -> Result<Vec<Read>, Memory>
+    ensures { IfOk result (λ copies. map read_of copies.items ≡ map read_of reads.now) }
+{
+    let mut copies = Vec::new(alloc);
+    for read in reads {
+        copies.push(read.copy(alloc)?)?;
+    }
+    Ok(copies)
+}
+
+#[cfg(test)]
+mod tests {
+    use super::*;
+    use std::test::Fail;
+
+    fn read(context: u32) -> Read {
+        Read {
+            context,
+            belief: Formula::True,
+        }
+    }
+
+    #[test]
+    fn copies_rules(rt: HostRuntime) -> Result<(), Fail> {
+        let alloc = rt.alloc();
+        let rule = Bridge {
+            name: Name::read(alloc, b"r1")?.ok_or("no name")?,
+            target: 3,
+            head: Formula::False,
+            pos: Vec::new(alloc),
+            neg: vec![in alloc; read(1), read(2)]?,
+        };
+        let copy = rule.copy(alloc)?;
+        assert!(rt; copy.name.bytes() == b"r1".as_slice());
+        assert_eq!(rt; copy.target, 3);
+        assert!(rt; matches!(copy.head, Formula::False));
+        assert_eq!(rt; copy.pos.len(), 0);
+        assert_eq!(rt; copy.neg.len(), 2);
+        assert_eq!(rt; copy.neg[0].context, 1);
+        assert_eq!(rt; copy.neg[1].context, 2);
+        Ok(())
+    }
 }

@@ -1,7 +1,12 @@
 //! What a context knows: formulas, a default theory or a program.
 
-use crate::formula::Formula;
-use crate::name::Name;
+ghost use Rattle.std.specs.Prelude.{◌≡◌, IfOk, map};
+ghost use Rattle.mcs_system.specs.Seen.{context_of, default_of, item_of, kb_of, rule_of};
+
+use crate::formula::{Formula, copy_formulas};
+use crate::name::{Name, copy_names};
+use mcs_base::Memory;
+use std::alloc::Global;
 
 /// A default: where the prerequisite follows and no justification is refuted, the conclusion follows.
 #[derive(Drop)]
@@ -9,6 +14,19 @@ pub struct Default {
     pub pre: Formula,
     pub justs: Vec<Formula>,
     pub conclusion: Formula,
+}
+
+impl Default {
+    /// An equal default.
+    pub fn copy(&self, alloc: Global) -> Result<Default, Memory>
+        ensures { IfOk result (λ d. default_of d ≡ default_of self.now) }
+    {
+        Ok(Default {
+            pre: self.pre.copy(alloc)?,
+            justs: copy_formulas(alloc, &self.justs)?,
+            conclusion: self.conclusion.copy(alloc)?,
+        })
+    }
 }
 
 /// A rule of a program: one of the head atoms holds where each positive atom does and no negative one.
@@ -19,11 +37,36 @@ pub struct ProgRule {
     pub neg: Vec<Name>,
 }
 
+impl ProgRule {
+    /// An equal rule.
+    pub fn copy(&self, alloc: Global) -> Result<ProgRule, Memory>
+        ensures { IfOk result (λ r. rule_of r ≡ rule_of self.now) }
+    {
+        Ok(ProgRule {
+            head: copy_names(alloc, &self.head)?,
+            pos: copy_names(alloc, &self.pos)?,
+            neg: copy_names(alloc, &self.neg)?,
+        })
+    }
+}
+
 /// An item of a default theory.
 #[derive(Drop)]
 pub enum TheoryItem {
     Fact(Formula),
     Rule(Default),
+}
+
+impl TheoryItem {
+    /// An equal item.
+    pub fn copy(&self, alloc: Global) -> Result<TheoryItem, Memory>
+        ensures { IfOk result (λ i. item_of i ≡ item_of self.now) }
+    {
+        Ok(match self {
+            TheoryItem::Fact(formula) => TheoryItem::Fact(formula.copy(alloc)?),
+            TheoryItem::Rule(default) => TheoryItem::Rule(default.copy(alloc)?),
+        })
+    }
 }
 
 /// A knowledge base, by its logic.
@@ -34,9 +77,118 @@ pub enum Kb {
     Program(Vec<ProgRule>),
 }
 
+impl Kb {
+    /// An equal knowledge base.
+    pub fn copy(&self, alloc: Global) -> Result<Kb, Memory>
+        ensures { IfOk result (λ k. kb_of k ≡ kb_of self.now) }
+    {
+        Ok(match self {
+            Kb::Classical(formulas) => Kb::Classical(copy_formulas(alloc, formulas)?),
+            Kb::DefaultTheory(items) => Kb::DefaultTheory(copy_items(alloc, items)?),
+            Kb::Program(rules) => Kb::Program(copy_rules(alloc, rules)?),
+        })
+    }
+}
+
 /// A context: a name and what it knows.
 #[derive(Drop)]
 pub struct Context {
     pub name: Name,
     pub kb: Kb,
+}
+
+impl Context {
+    /// An equal context.
+    pub fn copy(&self, alloc: Global) -> Result<Context, Memory>
+        ensures { IfOk result (λ c. context_of c ≡ context_of self.now) }
+    {
+        Ok(Context {
+            name: self.name.copy(alloc)?,
+            kb: self.kb.copy(alloc)?,
+        })
+    }
+}
+
+/// Equal items, in the same order.
+fn copy_items(alloc: Global, items: &[TheoryItem]) -> Result<Vec<TheoryItem>, Memory>
+    ensures { IfOk result (λ copies. map item_of copies.items ≡ map item_of items.now) }
+{
+    let mut copies = Vec::new(alloc);
+    for item in items {
+        copies.push(item.copy(alloc)?)?;
+    }
+    Ok(copies)
+}
+
+/// Equal rules, in the same order.
+fn copy_rules(alloc: Global, rules: &[ProgRule]) -> Result<Vec<ProgRule>, Memory>
+    ensures { IfOk result (λ copies. map rule_of copies.items ≡ map rule_of rules.now) }
+{
+    let mut copies = Vec::new(alloc);
+    for rule in rules {
+        copies.push(rule.copy(alloc)?)?;
+    }
+    Ok(copies)
+}
+
+#[cfg(test)]
+mod tests {
+    use super::*;
+    use std::test::Fail;
+
+    fn theory(alloc: Global) -> Result<Kb, Memory> {
+        let default = Default {
+            pre: Formula::True,
+            justs: vec![in alloc; Formula::True]?,
+            conclusion: Formula::False,
+        };
+        Ok(Kb::DefaultTheory(vec![in alloc;
+            TheoryItem::Fact(Formula::True),
+            TheoryItem::Rule(default),
+        ]?))
+    }
+
+    fn program(alloc: Global, name: &Name) -> Result<Kb, Memory> {
+        let rule = ProgRule {
+            head: vec![in alloc; name.copy(alloc)?]?,
+            pos: vec![in alloc; name.copy(alloc)?, name.copy(alloc)?]?,
+            neg: Vec::new(alloc),
+        };
+        Ok(Kb::Program(vec![in alloc; rule]?))
+    }
+
+    /// How many atoms stand in the parts of the one rule.
+    fn rule_lens(kb: &Kb) -> Option<[usize; 3]> {
+        let Kb::Program(rules) = kb else {
+            return None;
+        };
+        let rule = rules.first()?;
+        Some([rule.head.len(), rule.pos.len(), rule.neg.len()])
+    }
+
+    /// How many justifications the second item has.
+    fn justification_count(kb: &Kb) -> Option<usize> {
+        let Kb::DefaultTheory(items) = kb else {
+            return None;
+        };
+        match items.as_slice() {
+            [TheoryItem::Fact(Formula::True), TheoryItem::Rule(default)] => Some(
+                default.justs.len(),
+            ),
+            _ => None,
+        }
+    }
+
+    #[test]
+    fn copies_contexts(rt: HostRuntime) -> Result<(), Fail> {
+        let alloc = rt.alloc();
+        let name = Name::read(alloc, b"c1")?.ok_or("no name")?;
+        let kb = program(alloc, &name)?;
+        let copy = Context { name, kb }.copy(alloc)?;
+        assert!(rt; copy.name.bytes() == b"c1".as_slice());
+        assert_eq!(rt; rule_lens(&copy.kb), Some([1, 2, 0]));
+        let copy = theory(alloc)?.copy(alloc)?;
+        assert_eq!(rt; justification_count(&copy), Some(1));
+        Ok(())
+    }
 }

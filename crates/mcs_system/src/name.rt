@@ -1,10 +1,10 @@
 //! Names of contexts, rules and atoms.
 
-ghost use Rattle.std.specs.Prelude.{◌≡◌, IfOk, IfSome, IfNone, IsTrue, false};
+ghost use Rattle.std.specs.Prelude.{◌≡◌, IfOk, IfSome, IsTrue, is_some};
 ghost use Rattle.mcs_base.specs.Words.{is_name};
 ghost use Rattle.mcs_system.specs.Logic.{same_name};
 
-use mcs_base::Memory;
+use mcs_base::{Memory, is_name};
 use std::alloc::Global;
 use std::marker::Model;
 
@@ -26,6 +26,19 @@ impl Model for Name {
 }
 
 impl Name {
+    /// The name that these bytes spell; `None` exactly where they spell none.
+    pub fn read(alloc: Global, bytes: &[u8]) -> Result<Option<Name>, Memory>
+        ensures some { IfOk result (λ o. IfSome o (λ n. n ≡ bytes.now)) }
+        ensures test { IfOk result (λ o. is_some o ≡ is_name bytes.now) }
+    {
+        if !is_name(bytes) {
+            return Ok(None);
+        }
+        Ok(Some(Name {
+            bytes: bytes.to_vec(alloc)?,
+        }))
+    }
+
     /// The bytes of the name.
     pub fn bytes(&self) -> &[u8]
         ensures value { result.now ≡ self.now }
@@ -48,5 +61,45 @@ impl Name {
         Ok(Name {
             bytes: self.bytes.to_vec(alloc)?,
         })
+    }
+}
+
+/// Equal names, in the same order.
+pub(crate) fn copy_names(alloc: Global, names: &[Name]) -> Result<Vec<Name>, Memory>
+    ensures { IfOk result (λ copies. copies.items ≡ names.now) }
+{
+    let mut copies = Vec::new(alloc);
+    for name in names {
+        copies.push(name.copy(alloc)?)?;
+    }
+    Ok(copies)
+}
+
+#[cfg(test)]
+mod tests {
+    use super::*;
+    use std::test::Fail;
+
+    #[test]
+    fn reads_names(rt: HostRuntime) -> Result<(), Fail> {
+        let longest = [b'a'; 64];
+        let too_long = [b'a'; 65];
+        let table: [(&[u8], bool); 7] = [
+            (b"", false),
+            (b"a", true),
+            (b"_9", true),
+            (b"9a", false),
+            (b"if", false),
+            (&longest, true),
+            (&too_long, false),
+        ];
+        for (bytes, spells) in table {
+            let name = Name::read(rt.alloc(), bytes)?;
+            assert_eq!(rt; name.is_some(), spells);
+            if let Some(name) = name {
+                assert!(rt; name.bytes() == bytes);
+            }
+        }
+        Ok(())
     }
 }

@@ -1,8 +1,8 @@
 -- What is among the elements of a list.
-use Rattle.std.proofs.Common.{◌≡◌, ◌≢◌, ℕ, ◌+◌, ◌<◌, ◌≤◌, zero, suc, Bool, true, false, cond, ◌&&◌, eqb, List, [], ◌∷◌, ◌++◌, filter, length, Some, refl, sym, ap, ◌∙◌, subst, inl, inr, ◌⊎◌, ◌↔◌, arith, add-one, slice_get}
+use Rattle.std.proofs.Common.{◌≡◌, ◌≢◌, ℕ, ◌+◌, ◌<◌, ◌≤◌, zero, suc, Bool, true, false, cond, ◌&&◌, eqb, List, [], ◌∷◌, ◌++◌, ◌||◌, filter, length, Some, refl, true≢false, sym, ap, ◌∙◌, subst, inl, inr, ◌⊎◌, ◌↔◌, arith, add-one, slice_get}
 use Rattle.std.proofs.lemmas.Bool.{and_parts}
 use Rattle.std.proofs.lemmas.Bool.Decides.{nat_tests}
-use Rattle.std.specs.List.{flat_map, range_with_len, list_all, AllByRecursion}
+use Rattle.std.specs.List.{flat_map, range_with_len, list_any, list_all, AllByRecursion}
 use Rattle.mcs_base.specs.Listings.{IsAmong}
 
 module _ {A : Type 0} where
@@ -104,3 +104,31 @@ choose {B} Q (suc n) each = let (b, q) = each 0 (omega arith) in let (xs, long, 
     at : (i : ℕ) (c b : B) → Q 0 b → (xs : List B) → ((i : ℕ) (b : B) → slice_get xs i ≡ Some b → Q (i + 1) b) → slice_get (b ∷ xs) i ≡ Some c → Q i c
     at zero c b q xs rest is = let e : b ≡ c = cc in subst (Q 0) e q
     at (suc i) c b q xs rest is = rw (← add-one i) (rest i c is)
+
+-- ---- a test that some element passes
+module _ {A : Type 0} (p : A → Bool) where
+  pub any_get : (xs : List A) → list_any p xs ≡ true → (i : ℕ) × (x : A) × (slice_get xs i ≡ Some x) × (p x ≡ true)
+  any_get [] e = absurd (true≢false (sym e))
+  any_get (x ∷ xs) e = at (p x) refl e (any_get xs)
+    where
+      at : (v : Bool) → p x ≡ v → (v || list_any p xs) ≡ true → (list_any p xs ≡ true → (i : ℕ) × (y : A) × (slice_get xs i ≡ Some y) × (p y ≡ true)) → (i : ℕ) × (y : A) × (slice_get (x ∷ xs) i ≡ Some y) × (p y ≡ true)
+      at true is e rest = (0, x, refl, is)
+      at false is e rest = let (i, y, there, passes) = rest e in (suc i, y, there, passes)
+
+  pub get_any : (xs : List A) (i : ℕ) (x : A) → slice_get xs i ≡ Some x → p x ≡ true → list_any p xs ≡ true
+  get_any [] i x there passes = cc
+  get_any (y ∷ ys) zero x there passes = let same : x ≡ y = cc in let e : p y ≡ true = ap p (sym same) ∙ passes in rw e refl
+  get_any (y ∷ ys) (suc i) x there passes = let rest = get_any ys i x there passes in rw rest (or-true (p y))
+    where
+      or-true : (u : Bool) → (u || true) ≡ true
+      or-true true = refl
+      or-true false = refl
+
+  pub among_any : (xs : List A) (x : A) → IsAmong x xs → p x ≡ true → list_any p xs ≡ true
+  among_any [] x here passes = absurd here
+  among_any (y ∷ ys) x (inl same) passes = let e : p y ≡ true = ap p (sym same) ∙ passes in rw e refl
+  among_any (y ∷ ys) x (inr later) passes = let rest = among_any ys x later passes in rw rest (or-true (p y))
+    where
+      or-true : (u : Bool) → (u || true) ≡ true
+      or-true true = refl
+      or-true false = refl

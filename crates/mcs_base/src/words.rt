@@ -1,0 +1,80 @@
+//! Words and names, as a system text spells them.
+
+ghost use Rattle.std.specs.Prelude.{◌≡◌};
+ghost use Rattle.std.specs.List.{list_all, list_any};
+ghost use Rattle.std.specs.Str.{bytes_eq};
+ghost use Rattle.mcs_base.specs.Words.{is_letter, is_word_byte, is_word, is_reserved, is_name};
+
+/// The words that are no names.
+const RESERVED: [&[u8]; 15] = [
+    b"context",
+    b"bridge",
+    b"classical",
+    b"default",
+    b"program",
+    b"not",
+    b"if",
+    b"true",
+    b"false",
+    b"version",
+    b"keep",
+    b"closed",
+    b"weight",
+    b"autoepistemic",
+    b"know",
+];
+
+/// The most bytes of a name.
+const MOST_BYTES: usize = 64;
+
+/// Whether the byte is one of `a` to `z`, `A` to `Z` and `_`.
+pub fn is_letter(byte: u8) -> bool
+    ensures { result ≡ is_letter byte }
+{
+    matches!(byte, b'a'..=b'z' | b'A'..=b'Z' | b'_')
+}
+
+/// Whether the byte is a letter or a digit.
+pub fn is_word_byte(byte: u8) -> bool
+    ensures { result ≡ is_word_byte byte }
+{
+    is_letter(byte) || byte.is_ascii_digit()
+}
+
+/// Whether all these are letters and digits.
+fn are_word_bytes(bytes: &[u8]) -> bool
+    ensures { result ≡ list_all is_word_byte bytes.now }
+{
+    bytes.iter().all(|byte| is_word_byte(*byte))
+}
+
+/// Whether these are a letter, and letters and digits after it.
+pub fn is_word(bytes: &[u8]) -> bool
+    ensures { result ≡ is_word bytes.now }
+{
+    match bytes {
+        [] => false,
+        [first, rest @ ..] => is_letter(*first) && are_word_bytes(rest),
+    }
+}
+
+/// Whether the word is among these.
+fn is_one_of(word: &[u8], words: &[&[u8]]) -> bool
+    ensures { result ≡ list_any (λ w. bytes_eq word.now w.now) words.now }
+{
+    words.iter().any(|other| word == *other)
+}
+
+/// Whether the word is reserved, and so no name.
+pub fn is_reserved(word: &[u8]) -> bool
+    ensures { result ≡ is_reserved word.now }
+{
+    is_one_of(word, &RESERVED)
+}
+
+/// Whether these spell a name: a word that is not reserved and has at most 64 bytes.
+pub fn is_name(bytes: &[u8]) -> bool
+    ensures { result ≡ is_name bytes.now }
+{
+    is_word(bytes) && !is_reserved(bytes) && bytes.len() <= MOST_BYTES
+}

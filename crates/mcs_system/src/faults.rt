@@ -1,0 +1,435 @@
+//! The tests by which lists of contexts and bridge rules make a system or not.
+
+ghost use Rattle.std.specs.Prelude.{◌≡◌, ◌&&◌, IfOk, List, not, nat_eq, nat_lt, count_by, length, map, min, slice_get};
+ghost use Rattle.std.specs.List.{list_any};
+ghost use Rattle.mcs_system.specs.declared.bridge.Bridge.{Bridge};
+ghost use Rattle.mcs_system.specs.declared.fault.Limit.TheVariants.{RulesPerContext, DefaultsPerContext, ItemsPerContext, FormulaSize};
+ghost use Rattle.mcs_system.specs.Faults.{exceeds, has_large_formula, has_large_item, has_large_part, has_misfit, has_misfits, has_twins, has_twin_names, has_unjustified, has_unknown_context, is_atom, is_default, is_large, is_large_rule, is_program, is_unjustified, item_count, points_outside};
+ghost use Rattle.mcs_system.specs.Seen.{bridge_of, context_of, formula_of, formula_size, item_of, kb_of, read_of, rule_of, system_of};
+
+use crate::bridge::{Bridge, Read};
+use crate::formula::Formula;
+use crate::knowledge::{Context, Kb, ProgRule, TheoryItem};
+use mcs_base::Memory;
+use std::alloc::Global;
+use std::collections::BTreeSet;
+
+/// The most rules into one context.
+const MOST_RULES: usize = 12;
+
+/// The most defaults of one context.
+const MOST_DEFAULTS: usize = 10;
+
+/// The most formulas, items or rules of one context.
+const MOST_ITEMS: usize = 4096;
+
+/// The most atoms, constants and connectives of one formula, and names of one program rule.
+const MOST_SIZE: u32 = 512;
+
+/// Whether some read is of no context, where there are so many.
+fn any_outside(count: usize, reads: &[Read]) -> bool
+    ensures { result ≡ list_any (λ r. not (nat_lt r.context count)) (map read_of reads.now) }
+{
+    for read in reads {
+        if read.context as usize >= count {
+            return true;
+        }
+    }
+    false
+}
+
+/// Whether the rule has a target or a read that is no context, where there are so many.
+fn points_outside(count: usize, bridge: &Bridge) -> bool
+    ensures { result ≡ points_outside count (bridge_of bridge.now) }
+{
+    bridge.target as usize >= count
+        || any_outside(count, &bridge.pos)
+        || any_outside(count, &bridge.neg)
+}
+
+/// Whether some rule has a target or a read that is no context.
+pub(crate) fn has_unknown_context(contexts: &[Context], bridges: &[Bridge]) -> bool
+    ensures { result ≡ has_unknown_context (system_of contexts.now bridges.now) }
+{
+    for bridge in bridges {
+        if points_outside(contexts.len(), bridge) {
+            return true;
+        }
+    }
+    false
+}
+
+/// The names of the contexts.
+fn context_names(alloc: Global, contexts: &[Context]) -> Result<Vec<&[u8]>, Memory>
+    ensures { IfOk result
+        (λ names. map (λ n. n.now) names.items ≡ map (λ c. c.name) (map context_of contexts.now)) }
+{
+    let mut names = Vec::new(alloc);
+    for context in contexts {
+        names.push(context.name.bytes())?;
+    }
+    Ok(names)
+}
+
+/// The names of the bridge rules.
+fn bridge_names(alloc: Global, bridges: &[Bridge]) -> Result<Vec<&[u8]>, Memory>
+    ensures { IfOk result
+        (λ names. map (λ n. n.now) names.items ≡ map (λ b. b.name) (map bridge_of bridges.now)) }
+{
+    let mut names = Vec::new(alloc);
+    for bridge in bridges {
+        names.push(bridge.name.bytes())?;
+    }
+    Ok(names)
+}
+
+/// Whether two of the names are the same.
+fn has_twins(alloc: Global, names: &[&[u8]]) -> Result<bool, Memory>
+    ensures { IfOk result (λ b. b ≡ has_twins (map (λ n. n.now) names.now)) }
+{
+    let mut seen = BTreeSet::new(alloc);
+    for name in names {
+        if !seen.insert(*name)? {
+            return Ok(true);
+        }
+    }
+    Ok(false)
+}
+
+/// Whether two contexts, or two bridge rules, have one name.
+pub(crate) fn has_twin_names(
+    alloc: Global,
+    contexts: &[Context],
+    bridges: &[Bridge],
+) -> Result<bool, Memory>
+    ensures { IfOk result (λ b. b ≡ has_twin_names (system_of contexts.now bridges.now)) }
+{
+    let contexts = context_names(alloc, contexts)?;
+    let bridges = bridge_names(alloc, bridges)?;
+    Ok(has_twins(alloc, &contexts)? || has_twins(alloc, &bridges)?)
+}
+
+/// Whether the formula is an atom.
+fn is_atom(formula: &Formula) -> bool
+    ensures { result ≡ is_atom (formula_of formula.now) }
+{
+    matches!(formula, Formula::Atom(_))
+}
+
+/// Whether the formula is no atom and goes into, or is read of, a program.
+fn is_misfit(contexts: &[Context], number: u32, formula: &Formula) -> bool
+    ensures { result ≡ (is_program (slice_get (map context_of contexts.now) number)
+        && not (is_atom (formula_of formula.now))) }
+{
+    match contexts.get(number as usize) {
+        Some(context) => matches!(context.kb, Kb::Program(_)) && !is_atom(formula),
+        None => false,
+    }
+}
+
+/// Whether some read is of a program and reads no atom.
+fn any_misfit(contexts: &[Context], reads: &[Read]) -> bool
+    ensures { result ≡ list_any
+        (λ r. is_program (slice_get (map context_of contexts.now) r.context) && not (is_atom r.belief))
+        (map read_of reads.now) }
+{
+    for read in reads {
+        if is_misfit(contexts, read.context, &read.belief) {
+            return true;
+        }
+    }
+    false
+}
+
+/// Whether the rule puts into a program, or reads of one, what is no atom.
+fn has_misfit(contexts: &[Context], bridge: &Bridge) -> bool
+    ensures { result ≡ has_misfit (map context_of contexts.now) (bridge_of bridge.now) }
+{
+    is_misfit(contexts, bridge.target, &bridge.head)
+        || any_misfit(contexts, &bridge.pos)
+        || any_misfit(contexts, &bridge.neg)
+}
+
+/// Whether some rule puts into a program, or reads of one, what is no atom.
+fn any_rule_misfit(contexts: &[Context], bridges: &[Bridge]) -> bool
+    ensures { result ≡ list_any (has_misfit (map context_of contexts.now)) (map bridge_of bridges.now) }
+{
+    for bridge in bridges {
+        if has_misfit(contexts, bridge) {
+            return true;
+        }
+    }
+    false
+}
+
+/// Whether some default has no justification.
+fn has_unjustified(items: &[TheoryItem]) -> bool
+    ensures { result ≡ list_any is_unjustified (map item_of items.now) }
+{
+    for item in items {
+        if let TheoryItem::Rule(default) = item
+            && default.justs.is_empty()
+        {
+            return true;
+        }
+    }
+    false
+}
+
+/// Whether some default of some context has no justification.
+fn any_unjustified(contexts: &[Context]) -> bool
+    ensures { result ≡ list_any (λ c. has_unjustified c.kb) (map context_of contexts.now) }
+{
+    for context in contexts {
+        if let Kb::DefaultTheory(items) = &context.kb
+            && has_unjustified(items)
+        {
+            return true;
+        }
+    }
+    false
+}
+
+/// Whether a default has no justification, or a rule puts into a program, or reads of one, what is no
+/// atom.
+pub(crate) fn has_misfits(contexts: &[Context], bridges: &[Bridge]) -> bool
+    ensures { result ≡ has_misfits (system_of contexts.now bridges.now) }
+{
+    any_unjustified(contexts) || any_rule_misfit(contexts, bridges)
+}
+
+/// How many rules go into the context.
+fn rules_into(bridges: &[Bridge], context: usize) -> usize
+    ensures { result ≡ count_by (λ b. nat_eq b.target context) (map bridge_of bridges.now) }
+{
+    let mut count = 0;
+    for bridge in bridges {
+        if bridge.target as usize == context {
+            count += 1;
+        }
+    }
+    count
+}
+
+/// Whether too many rules go into one context.
+#[tactic(auto, using(crate::proofs::FaultLemmas::list_any_range), unfolding(crate::specs::Faults::exceeds))]
+pub(crate) fn has_crowded_context(contexts: &[Context], bridges: &[Bridge]) -> bool
+    ensures { result ≡ exceeds (system_of contexts.now bridges.now) RulesPerContext }
+{
+    for context in 0..contexts.len() {
+        if rules_into(bridges, context) > MOST_RULES {
+            return true;
+        }
+    }
+    false
+}
+
+/// How many of the items are defaults.
+fn default_count(items: &[TheoryItem]) -> usize
+    ensures { result ≡ count_by is_default (map item_of items.now) }
+{
+    let mut count = 0;
+    for item in items {
+        if let TheoryItem::Rule(_) = item {
+            count += 1;
+        }
+    }
+    count
+}
+
+/// Whether some context has too many defaults.
+#[tactic(auto, unfolding(crate::specs::Faults::exceeds))]
+pub(crate) fn has_many_defaults(contexts: &[Context]) -> bool
+    ensures { (bridges : List Bridge) →
+        result ≡ exceeds (system_of contexts.now bridges) DefaultsPerContext }
+{
+    for context in contexts {
+        if let Kb::DefaultTheory(items) = &context.kb
+            && default_count(items) > MOST_DEFAULTS
+        {
+            return true;
+        }
+    }
+    false
+}
+
+/// How many formulas, items or rules these are.
+fn item_count(kb: &Kb) -> usize
+    ensures { result ≡ item_count (kb_of kb.now) }
+{
+    match kb {
+        Kb::Classical(formulas) => formulas.len(),
+        Kb::DefaultTheory(items) => items.len(),
+        Kb::Program(rules) => rules.len(),
+    }
+}
+
+/// Whether some context has too many formulas, items or rules.
+#[tactic(auto, unfolding(crate::specs::Faults::exceeds))]
+pub(crate) fn has_many_items(contexts: &[Context]) -> bool
+    ensures { (bridges : List Bridge) →
+        result ≡ exceeds (system_of contexts.now bridges) ItemsPerContext }
+{
+    for context in contexts {
+        if item_count(&context.kb) > MOST_ITEMS {
+            return true;
+        }
+    }
+    false
+}
+
+/// How many atoms, constants and connectives the formula has, or one more than the most where they are
+/// too many.
+fn capped_size(formula: &Formula) -> u32
+    ensures { result ≡ min (formula_size (formula_of formula.now)) 513 }
+{
+    let size = match formula {
+        Formula::True | Formula::False | Formula::Atom(_) => 1,
+        Formula::Not(part) => capped_size(part) + 1,
+        Formula::And(left, right)
+        | Formula::Or(left, right)
+        | Formula::Implies(left, right)
+        | Formula::Iff(left, right) => capped_size(left) + capped_size(right) + 1,
+    };
+    size.min(MOST_SIZE + 1)
+}
+
+/// Whether the formula is too large.
+fn is_large(formula: &Formula) -> bool
+    ensures { result ≡ is_large (formula_of formula.now) }
+{
+    capped_size(formula) > MOST_SIZE
+}
+
+/// Whether some formula is too large.
+fn any_large(formulas: &[Formula]) -> bool
+    ensures { result ≡ list_any is_large (map formula_of formulas.now) }
+{
+    for formula in formulas {
+        if is_large(formula) {
+            return true;
+        }
+    }
+    false
+}
+
+/// Whether the item has a formula that is too large.
+fn is_large_item(item: &TheoryItem) -> bool
+    ensures { result ≡ has_large_formula (item_of item.now) }
+{
+    match item {
+        TheoryItem::Fact(formula) => is_large(formula),
+        TheoryItem::Rule(default) => {
+            is_large(&default.pre) || any_large(&default.justs) || is_large(&default.conclusion)
+        }
+    }
+}
+
+/// Whether some item has a formula that is too large.
+fn any_large_item(items: &[TheoryItem]) -> bool
+    ensures { result ≡ list_any has_large_formula (map item_of items.now) }
+{
+    for item in items {
+        if is_large_item(item) {
+            return true;
+        }
+    }
+    false
+}
+
+/// Whether the rule has too many names.
+fn is_large_rule(rule: &ProgRule) -> bool
+    ensures { result ≡ is_large_rule (rule_of rule.now) }
+{
+    let most = MOST_SIZE as usize;
+    rule.head.len().min(most + 1) + rule.pos.len().min(most + 1) + rule.neg.len().min(most + 1)
+        > most
+}
+
+/// Whether some rule has too many names.
+fn any_large_rule(rules: &[ProgRule]) -> bool
+    ensures { result ≡ list_any is_large_rule (map rule_of rules.now) }
+{
+    for rule in rules {
+        if is_large_rule(rule) {
+            return true;
+        }
+    }
+    false
+}
+
+/// Whether the knowledge base has a formula or a rule that is too large.
+fn has_large_item(kb: &Kb) -> bool
+    ensures { result ≡ has_large_item (kb_of kb.now) }
+{
+    match kb {
+        Kb::Classical(formulas) => any_large(formulas),
+        Kb::DefaultTheory(items) => any_large_item(items),
+        Kb::Program(rules) => any_large_rule(rules),
+    }
+}
+
+/// Whether some context has a formula or a rule that is too large.
+fn any_large_kb(contexts: &[Context]) -> bool
+    ensures { result ≡ list_any (λ c. has_large_item c.kb) (map context_of contexts.now) }
+{
+    for context in contexts {
+        if has_large_item(&context.kb) {
+            return true;
+        }
+    }
+    false
+}
+
+/// Whether some read is of a belief that is too large.
+fn any_large_read(reads: &[Read]) -> bool
+    ensures { result ≡ list_any (λ r. is_large r.belief) (map read_of reads.now) }
+{
+    for read in reads {
+        if is_large(&read.belief) {
+            return true;
+        }
+    }
+    false
+}
+
+/// Whether the rule has a head or reads a belief that is too large.
+fn has_large_part(bridge: &Bridge) -> bool
+    ensures { result ≡ has_large_part (bridge_of bridge.now) }
+{
+    is_large(&bridge.head) || any_large_read(&bridge.pos) || any_large_read(&bridge.neg)
+}
+
+/// Whether some rule has a head or reads a belief that is too large.
+fn any_large_bridge(bridges: &[Bridge]) -> bool
+    ensures { result ≡ list_any has_large_part (map bridge_of bridges.now) }
+{
+    for bridge in bridges {
+        if has_large_part(bridge) {
+            return true;
+        }
+    }
+    false
+}
+
+/// Whether some formula, or some rule of a program, is too large.
+#[tactic(auto, unfolding(crate::specs::Faults::exceeds))]
+pub(crate) fn has_large_formula(contexts: &[Context], bridges: &[Bridge]) -> bool
+    ensures { result ≡ exceeds (system_of contexts.now bridges.now) FormulaSize }
+{
+    any_large_kb(contexts) || any_large_bridge(bridges)
+}
+
+#[cfg(test)]
+mod tests {
+    use super::*;
+    use std::test::Fail;
+
+    #[test]
+    fn finds_twins(rt: HostRuntime) -> Result<(), Fail> {
+        assert!(rt; !has_twins(rt.alloc(), &[b"b", b"a", b"ab"])?);
+        assert!(rt; has_twins(rt.alloc(), &[b"b", b"a", b"ab", b"a"])?);
+        assert!(rt; !has_twin_names(rt.alloc(), &[], &[])?);
+        Ok(())
+    }
+}
