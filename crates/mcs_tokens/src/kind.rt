@@ -4,8 +4,8 @@ ghost use Rattle.std.specs.Prelude.{◌≡◌};
 ghost use Rattle.mcs_tokens.specs.Kinds.{IsKind};
 
 use crate::keyword::Keyword;
-use crate::letters::is_word;
 use crate::sign::Sign;
+use mcs_base::is_word;
 
 /// The most bytes of a name.
 const MOST_NAME_BYTES: usize = 64;

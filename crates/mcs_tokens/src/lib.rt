@@ -4,7 +4,6 @@
 mod keyword;
 mod kind;
 pub mod laws;
-mod letters;
 mod scan;
 mod sign;
 

@@ -5,9 +5,8 @@ ghost use Rattle.std.specs.List.{list_all};
 ghost use Rattle.mcs_tokens.specs.Tokens.{IsNext, IsGap, IsGapByte, IsToken, AreTokens, IsSpanOf, is_separator, hash};
 ghost use Rattle.mcs_base.specs.Words.{is_letter, is_word_byte};
 
-use crate::letters::{is_letter, is_word_byte};
 use crate::sign::first_sign;
-use mcs_base::Memory;
+use mcs_base::{Memory, is_letter, is_word_byte};
 use std::alloc::Global;
 
 /// Where a token stands: from the first offset up to the second.
