@@ -6,6 +6,8 @@ mod active;
 mod listed;
 mod marks;
 mod memory;
+#[cfg(test)]
+mod tests;
 mod text;
 mod vars;
 mod words;

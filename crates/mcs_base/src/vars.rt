@@ -1,6 +1,6 @@
 //! A set of numbers below 64: variables, or places in a list.
 
-ghost use Rattle.std.specs.Prelude.{◌≡◌, ℕ, ◌^◌, ◌<◌, ◌≤◌, ◌↔◌, IsTrue, IfSome, IfNone, IfOk, All, length};
+ghost use Rattle.std.specs.Prelude.{◌≡◌, ℕ, ◌^◌, ◌<◌, ◌≤◌, ◌↔◌, IsTrue, IfSome, IfNone, All, length};
 ghost use Rattle.mcs_sets.specs.Sets.{has, size, single, union, common, minus, members, Within, Meets, IsLeast};
 ghost use Rattle.mcs_sets.specs.Orders.{StateBefore};
 
@@ -196,32 +196,4 @@ pub fn state_before(a: Vars, b: Vars) -> bool
     ensures { IsTrue result ↔ StateBefore a b }
 {
     mcs_sets::state_before(a.set, b.set)
-}
-
-#[cfg(test)]
-mod tests {
-    use super::*;
-    use crate::active::Active;
-    use crate::marks::Marks;
-    use std::alloc::{AllocError, Global};
-    use std::test::Fail;
-
-    fn listed(alloc: Global, set: Vars) -> Result<Vec<u32>, AllocError>
-        ensures { IfOk result (λ numbers. numbers.items ≡ members set) }
-    {
-        set.members().collect(alloc)
-    }
-
-    #[test]
-    fn goes_over_the_members(rt: HostRuntime) -> Result<(), Fail> {
-        let set = Vars::one(63).with(0).with(7);
-        assert_eq!(rt; listed(rt.alloc(), set)?.as_slice(), [0, 7, 63].as_slice());
-        assert_eq!(rt; listed(rt.alloc(), Vars::empty())?.len(), 0);
-
-        let rules: Vec<u32> = Active::one(40).with(3).members().collect(rt.alloc())?;
-        assert_eq!(rt; rules.as_slice(), [3, 40].as_slice());
-        let marks: Vec<u32> = Marks::one(127).with(64).members().collect(rt.alloc())?;
-        assert_eq!(rt; marks.as_slice(), [64, 127].as_slice());
-        Ok(())
-    }
 }

@@ -1,6 +1,6 @@
 //! A sink in memory, which tells what it was given and fails where it is told to.
 
-ghost use Rattle.std.specs.Prelude.{◌≡◌, ◌↔◌, ◌⊎◌, ◌<◌, ◌≤◌, ◌+◌, ◌-◌, ◌++◌, [], ℕ, Some, None, min, length, take, vec_len, vec_capacity, is_ok, if◌then◌else◌, IsTrue, IsErr, IfOk, OnErr, Contains};
+ghost use Rattle.std.specs.Prelude.{◌≡◌, ◌↔◌, ◌⊎◌, ◌<◌, ◌≤◌, ◌+◌, ◌-◌, ◌++◌, [], ℕ, Some, None, min, length, take, vec_len, vec_capacity, IsTrue, IsErr, IfOk, OnOk, OnErr, Contains};
 ghost use Rattle.mcs_ports.specs.Causes.{HasCause, counted};
 ghost use Rattle.mcs_ports.specs.Pieces.{most_noted};
 
@@ -102,6 +102,7 @@ impl Sink for MemorySink {
     ghost faults = { λ s. s.faults };
 
     fn write(&mut self, bytes: &[u8]) -> Result<usize, Failed>
+        // What the trait asks, of what this sink was given.
         ensures cause { HasCause self.old.faults self.new.faults result }
         ensures bound { IfOk result (λ n. n ≤ length bytes.now) }
         ensures progress { IfOk result (λ n. 0 < length bytes.now → 0 < n) }
@@ -109,14 +110,19 @@ impl Sink for MemorySink {
         ensures unwritten { OnErr result (Some self.new.written ≡ Some self.old.written) }
         ensures notes { Some self.new.noted ≡ Some self.old.noted }
 
-        // It fails exactly here, takes as many bytes as it may, and nothing but these counts changes.
+        // It fails exactly here, takes as many bytes as it may, and nothing else changes.
         ensures fails { IsErr result ↔ (Contains self.old.fails (counted self.old.writes)
             ⊎ ((0 < length bytes.now) × (length self.old.written ≡ self.old.room))) }
         ensures count { IfOk result (λ n. n ≡ min (length bytes.now)
             (min self.old.most (self.old.room - length self.old.written))) }
-        ensures after { self.new ≡ record self.old {
-            writes = counted self.old.writes; faults = self.new.faults; written = self.new.written } }
-        ensures counts { self.new.faults ≡ (if is_ok result then self.old.faults else counted self.old.faults) }
+        ensures ok { OnOk result (self.new ≡ record self.old {
+          writes = counted self.old.writes;
+          written = self.new.written;
+        }) }
+        ensures err { OnErr result (self.new ≡ record self.old {
+          writes = counted self.old.writes;
+          faults = counted self.old.faults;
+        }) }
     {
         let call = self.writes.saturating_add(1);
         self.writes = call;
@@ -124,7 +130,9 @@ impl Sink for MemorySink {
             self.faults = self.faults.saturating_add(1);
             return Err(Failed);
         }
-        let count = bytes.len().min(self.most.min(self.room - self.written.len()));
+        let count = bytes
+            .len()
+            .min(self.most.min(self.room - self.written.len()));
         append(&mut self.written, &bytes[..count]);
         Ok(count)
     }

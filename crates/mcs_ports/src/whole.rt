@@ -44,7 +44,11 @@ impl From<AllocError> for ReadAnswer {
 // The most bytes that one read asks for.
 const PIECE: usize = 4096;
 
-/// Reads the file of this name whole, if it has at most `limit` bytes.
+/// Reads the file of this name whole, if it has at most `limit` bytes, which may be any number.
+///
+/// `Fault` comes only where the shelf's count of faults rose, as it does where the file is not there.
+/// `TooLong` comes exactly where the file has more than `limit` bytes; one more than those is read.
+/// `Memory` comes where memory ran out.
 pub fn read_whole<H: Shelf>(
     shelf: &mut H,
     alloc: Global,
@@ -64,7 +68,7 @@ pub fn read_whole<H: Shelf>(
         (λ files. (bytes : List ℕ) × (files name.now ≡ Some bytes) × (limit < length bytes)) }
     ensures stops { IsErrOf result ReadAnswer.TooLong → IfSome (H.held shelf.old)
         (λ files. IfSome (files name.now)
-            (λ bytes. H.left shelf.new ≡ Some (drop (limit + 1) bytes))) }
+        (λ bytes. H.left shelf.new ≡ Some (drop (limit + 1) bytes))) }
     ensures missing { IfSome (H.held shelf.old)
         (λ files. IsNone (files name.now) → IsErrOf result ReadAnswer.Fault) }
     ensures at_end { OnOk result (IfSome (H.left shelf.new) (λ l. l ≡ [])) }
@@ -76,11 +80,7 @@ pub fn read_whole<H: Shelf>(
 }
 
 // Reads what is left of the open file, if that is at most `limit` bytes.
-fn read_rest<H: Shelf>(
-    shelf: &mut H,
-    alloc: Global,
-    limit: usize,
-) -> Result<Vec<u8>, ReadAnswer>
+fn read_rest<H: Shelf>(shelf: &mut H, alloc: Global, limit: usize) -> Result<Vec<u8>, ReadAnswer>
     ensures later { H.faults shelf.old ≤ H.faults shelf.new }
     ensures fault { IsErrOf result ReadAnswer.Fault → Rose (H.faults shelf.old) (H.faults shelf.new) }
     ensures within { IfOk result (λ bytes. length bytes.items ≤ limit) }
@@ -108,7 +108,8 @@ fn read_rest<H: Shelf>(
 }
 
 /// Writes the piece whole. It takes no memory.
-/// `Failed` only where the sink's count of faults rose; then a front of the piece was written.
+///
+/// `Failed` comes only where the sink's count of faults rose; then a front of the piece was written.
 pub fn write_whole<K: Sink>(sink: &mut K, bytes: &[u8]) -> Result<(), Failed>
     ensures cause { HasCause (K.faults sink.old) (K.faults sink.new) result }
     ensures written { OnOk result (K.written sink.new ≡ appended (K.written sink.old) bytes.now) }

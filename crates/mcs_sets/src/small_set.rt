@@ -174,3 +174,56 @@ pub fn pair_before(a: SmallSet, b: SmallSet) -> bool
     let (m, n) = (a.count(), b.count());
     m < n || m == n && state_before(a, b)
 }
+
+#[cfg(test)]
+mod tests {
+    use super::*;
+
+    #[test]
+    fn makes_and_compares_sets(rt: HostRuntime) {
+        let (outer, inner) = (SmallSet::one(0).with(3), SmallSet::one(1).with(2));
+        let ends = SmallSet::one(127).with(64).with(0);
+        assert!(rt; ends.has(0) && !ends.has(63) && ends.has(64) && ends.has(127));
+
+        for (set, number, meets_ends, within_ends) in [
+            (SmallSet::empty(), 0b0000, false, true),
+            (outer, 0b1001, true, false),
+            (outer.without(3), 0b0001, true, true),
+            (outer.union(inner), 0b1111, true, false),
+            (outer.common(ends), 0b0001, true, true),
+            (outer.minus(ends), 0b1000, false, false),
+        ] {
+            assert_eq!(rt; set, SmallSet::numbered(number), "{set:?}");
+            assert_eq!(rt; set.meets(ends), meets_ends, "{set:?}");
+            assert_eq!(rt; set.within(ends), within_ends, "{set:?}");
+        }
+        for (set, count, first) in [
+            (SmallSet::empty(), 0, None),
+            (ends, 3, Some(0)),
+            (ends.without(0), 2, Some(64)),
+            (SmallSet::one(127), 1, Some(127)),
+        ] {
+            assert_eq!(rt; set.count(), count, "{set:?}");
+            assert_eq!(rt; set.first(), first, "{set:?}");
+        }
+    }
+
+    #[test]
+    fn orders_sets(rt: HostRuntime) {
+        let none = SmallSet::empty();
+        let (zero, one) = (SmallSet::one(0), SmallSet::one(1));
+        let (outer, inner) = (zero.with(3), one.with(2));
+        for (set, other, as_states, as_pairs) in [
+            (zero, one, true, true),
+            (one, none, true, false),
+            (zero.with(1), zero, true, false),
+            (one, outer, false, true),
+            (outer, inner, true, true),
+            (inner, outer, false, false),
+            (inner, inner, false, false),
+        ] {
+            assert_eq!(rt; state_before(set, other), as_states, "{set:?}, {other:?}");
+            assert_eq!(rt; pair_before(set, other), as_pairs, "{set:?}, {other:?}");
+        }
+    }
+}

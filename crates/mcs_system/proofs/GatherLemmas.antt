@@ -1,10 +1,10 @@
 -- What a walk gathers: it never loses what it found, and what it finds from nothing are the first occurrences.
-use Rattle.std.proofs.Common.{◌≡◌, ℕ, ◌+◌, ◌<◌, ◌≤◌, nat_eq, get_or, drop, Bool, true, false, not, ◌&&◌, ◌||◌, cond, List, [], ◌∷◌, ◌++◌, filter, length, refl, sym, ap, ◌∙◌, arith, append_assoc}
+use Rattle.std.proofs.Common.{◌≡◌, ℕ, ◌+◌, ◌<◌, ◌≤◌, nat_eq, leb, map, IsTrue, true≢false, get_or, drop, Bool, true, false, not, ◌&&◌, ◌||◌, cond, List, [], ◌∷◌, ◌++◌, filter, length, refl, sym, ap, ◌∙◌, arith, append_assoc}
 use Rattle.std.proofs.lemmas.Bool.Decides.{nat_tests}
 use Rattle.std.proofs.lemmas.List.{append-nil, length-append, at_drop_more}
 use Rattle.std.proofs.lemmas.List.Elements.{filter-append}
 use Rattle.std.proofs.lemmas.List.Folds.{list_any-append}
-use Rattle.std.specs.List.{list_any}
+use Rattle.std.specs.List.{list_any, flat_map}
 use Rattle.mcs_system.specs.Plain.{Name, Read}
 use Rattle.mcs_system.specs.declared.bridge.Bridge as code
 use Rattle.mcs_system.specs.Logic.{same_name}
@@ -12,7 +12,7 @@ use Rattle.mcs_system.specs.Seen.{bridge_of, system_of}
 use Rattle.mcs_system.specs.Faults.{reads_of}
 use Rattle.mcs_system.specs.Systems.{same_read, firsts, occurrences, context_variables}
 use Rattle.mcs_system.specs.Atoms.{first_names}
-use Rattle.mcs_system.specs.Gathered.{gathered, with_reads}
+use Rattle.mcs_system.specs.Gathered.{gathered, with_names, with_reads}
 use Rattle.mcs_system.proofs.Sameness.{same_name-is, same_name-itself, same_read-is, same_read-itself}
 
 module _ {A : Type 0} (same : A → A → Bool) where
@@ -125,3 +125,22 @@ with_reads-grows found i xs = gathered-grows same_read found (filter (λ (r : Re
 
 pub context_variables-gathered : (bs : List code.Bridge) (i : ℕ) → context_variables (system_of [] bs) i ≡ with_reads [] i (occurrences (system_of [] bs))
 context_variables-gathered bs i = firsts-gathered _
+
+-- ---- the walk over parts that have atoms
+module _ {X Y : Type 0} (view : X → Y) (part : Y → List Name) where
+  names_step : (found : List Name) (xs : List X) (k : ℕ) (x : X) → k < length xs → x ≡ get_or xs k x
+      → with_names found (flat_map part (map view (drop k xs))) ≡ with_names (with_names found (part (view x))) (flat_map part (map view (drop (k + 1) xs)))
+  names_step found xs k x less is =
+      at_drop_more (λ (zs : List X). with_names found (flat_map part (map view zs))) xs k x less
+      ∙ ap (λ (z : X). with_names found (part (view z) ++ flat_map part (map view (drop (k + 1) xs)))) (sym is)
+      ∙ gathered-append same_name found (part (view x)) (flat_map part (map view (drop (k + 1) xs)))
+
+  pub names_go_on : (found : List Name) (xs : List X) (k : ℕ) (x : X) → k < length xs → x ≡ get_or xs k x → (few : Bool) → few ≡ true → (after : List Name) → (IsTrue few → after ≡ with_names found (part (view x)))
+      → (whole : List Name) → with_names found (flat_map part (map view (drop k xs))) ≡ whole → with_names after (flat_map part (map view (drop (k + 1) xs))) ≡ whole
+  names_go_on found xs k x less is few known after grew whole e = ap (λ ns. with_names ns (flat_map part (map view (drop (k + 1) xs)))) (grew known) ∙ sym (names_step found xs k x less is) ∙ e
+
+  pub names_too_many : (found : List Name) (xs : List X) (k : ℕ) (x : X) → k < length xs → x ≡ get_or xs k x → (few : Bool) → few ≡ false → few ≡ leb (length (with_names found (part (view x)))) 64
+      → (whole : List Name) → with_names found (flat_map part (map view (drop k xs))) ≡ whole → false ≡ leb (length whole) 64
+  names_too_many found xs k x less is few known many whole e =
+      let grows = gathered-grows same_name (with_names found (part (view x))) (flat_map part (map view (drop (k + 1) xs))) in
+      let step = names_step found xs k x less is in rw (← e, step) (grind (arith, nat_tests))

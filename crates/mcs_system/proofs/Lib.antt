@@ -6,3 +6,9 @@ pub mod GatherLemmas
 pub mod FaultLemmas
 pub mod Twins
 pub mod ValidLemmas
+pub mod Distinct
+pub mod AppliesLemmas
+pub mod AtomLemmas
+pub mod PartLemmas
+pub mod KeptLemmas
+pub mod BuildLemmas

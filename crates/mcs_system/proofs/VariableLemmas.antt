@@ -1,7 +1,8 @@
 -- What the variables of a system are, and the sets that are made of them.
-use Rattle.std.proofs.Common.{◌≡◌, ℕ, ◌+◌, ◌-◌, ◌<◌, ◌≤◌, map, zero, suc, Bool, true, false, not, ◌&&◌, ◌||◌, eqb, ltb, List, [], ◌∷◌, ◌++◌, filter, length, Some, refl, sym, ap, ◌∙◌, inl, inr, ◌⊎◌, arith, true≢false, slice_get}
+use Rattle.std.proofs.Common.{◌≡◌, ◌≢◌, ℕ, ◌+◌, ◌-◌, ◌<◌, ◌≤◌, cond, map, zero, suc, Bool, true, false, not, ◌&&◌, ◌||◌, eqb, ltb, List, [], ◌∷◌, ◌++◌, filter, length, Some, refl, sym, ap, ◌∙◌, inl, inr, ◌⊎◌, arith, true≢false, slice_get}
 use Rattle.std.proofs.lemmas.Bool.Decides.{nat_tests}
-use Rattle.std.proofs.lemmas.List.{length-map}
+use Rattle.std.proofs.lemmas.List.{append-nil, length-map}
+use Rattle.std.proofs.lemmas.List.Elements.{filter-append}
 use Rattle.std.specs.List.{range_with_len, list_any, enumerate_from, flat_map}
 use Rattle.mcs_sets.specs.Sets.{has}
 use Rattle.mcs_sets.proofs.SetLemmas.{has-such_that}
@@ -117,3 +118,53 @@ variables_from-over cs bs i over = ap (flat_map (context_variables (system_of []
 pub variables-all : (cs : List code.Context) (bs : List code'.Bridge) → variables (system_of cs bs) ≡ variables_from cs bs 0
 unfolding variables
 variables-all cs bs = let e : length (map context_of cs) ≡ length cs - 0 = omega (arith, length-map cs context_of) in ap (λ n. flat_map (context_variables (system_of [] bs)) (range_with_len 0 n)) e
+
+-- ---- the variables of one context are those of the system that are of it
+module _ {A : Type 0} (p : A → Bool) where
+  filter_pass : (xs : List A) → ((x : A) → IsAmong x xs → p x ≡ true) → filter p xs ≡ xs
+  filter_pass [] pass = refl
+  filter_pass (x ∷ xs) pass = rw (pass x (inl refl)) (ap (λ ys. x ∷ ys) (filter_pass xs (λ y here. pass y (inr here))))
+
+  filter_none : (xs : List A) → ((x : A) → IsAmong x xs → p x ≡ false) → filter p xs ≡ []
+  filter_none [] none = refl
+  filter_none (x ∷ xs) none = rw (none x (inl refl)) (filter_none xs (λ y here. none y (inr here)))
+
+  filter-flat_map : {B : Type 0} (f : B → List A) (xs : List B) → filter p (flat_map f xs) ≡ flat_map (λ x. filter p (f x)) xs
+  filter-flat_map f [] = refl
+  filter-flat_map f (x ∷ xs) = filter-append p (f x) (flat_map f xs) ∙ ap (λ ys. filter p (f x) ++ ys) (filter-flat_map f xs)
+
+flat_map-same : {A B : Type 0} (f g : A → List B) (xs : List A) → ((x : A) → f x ≡ g x) → flat_map f xs ≡ flat_map g xs
+flat_map-same f g [] same = refl
+flat_map-same f g (x ∷ xs) same = rw (same x, flat_map-same f g xs same) refl
+
+none_past : {A : Type 0} (f : ℕ → List A) (i k n : ℕ) → i < k → flat_map (λ j. cond (eqb j i) (f j) []) (range_with_len k n) ≡ []
+none_past f i k zero less = refl
+none_past f i k (suc n) less = let other : eqb k i ≡ false = grind (arith, nat_tests) in rw other (none_past f i (k + 1) n (omega arith))
+
+only_at : {A : Type 0} (f : ℕ → List A) (i k n : ℕ) → k ≤ i → i < k + n → flat_map (λ j. cond (eqb j i) (f j) []) (range_with_len k n) ≡ f i
+only_at f i k zero from below = absurd (omega arith)
+only_at f i k (suc n) from below = at (eqb k i) refl (only_at f i (k + 1) n)
+  where
+    at : (v : Bool) → eqb k i ≡ v → (k + 1 ≤ i → i < k + 1 + n → flat_map (λ j. cond (eqb j i) (f j) []) (range_with_len (k + 1) n) ≡ f i)
+        → cond v (f k) [] ++ flat_map (λ j. cond (eqb j i) (f j) []) (range_with_len (k + 1) n) ≡ f i
+    at true e rest = let same : k ≡ i = grind (arith, nat_tests) in rw (none_past f i (k + 1) n (omega arith)) (append-nil (f k) ∙ ap f same)
+    at false e rest = let differ : k ≢ i = grind (arith, nat_tests) in rest (omega arith) (omega arith)
+
+of_context : (m : System) (i j : ℕ) (r : Read) → IsAmong r (context_variables m j) → eqb r.context i ≡ eqb j i
+of_context m i j r here =
+    let own : eqb r.context j ≡ true = (filter_among (λ q. eqb q.context j) r (occurrences m) (firsts_among r _ here)).1 in
+    let same : r.context ≡ j = grind (arith, nat_tests) in ap (λ n. eqb n i) same
+
+own_part : (m : System) (i j : ℕ) → filter (λ (r : Read). eqb r.context i) (context_variables m j) ≡ cond (eqb j i) (context_variables m j) []
+own_part m i j = at (eqb j i) refl
+  where
+    at : (v : Bool) → eqb j i ≡ v → filter (λ (r : Read). eqb r.context i) (context_variables m j) ≡ cond v (context_variables m j) []
+    at true e = filter_pass (λ (r : Read). eqb r.context i) (context_variables m j) (λ r here. of_context m i j r here ∙ e)
+    at false e = filter_none (λ (r : Read). eqb r.context i) (context_variables m j) (λ r here. of_context m i j r here ∙ e)
+
+pub variables_own : (m : System) (i : ℕ) → i < length m.contexts → filter (λ (r : Read). eqb r.context i) (variables m) ≡ context_variables m i
+unfolding variables
+variables_own m i less =
+    filter-flat_map (λ (r : Read). eqb r.context i) (context_variables m) (range_with_len 0 (length m.contexts))
+    ∙ flat_map-same (λ j. filter (λ (r : Read). eqb r.context i) (context_variables m j)) (λ j. cond (eqb j i) (context_variables m j) []) (range_with_len 0 (length m.contexts)) (own_part m i)
+    ∙ only_at (context_variables m) i 0 (length m.contexts) (omega arith) (omega arith)

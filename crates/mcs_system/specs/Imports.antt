@@ -43,13 +43,13 @@ before_in (j ∷ js) i = cond (nat_eq j i) [] (j ∷ before_in js i)
 abbrev pub supplied : System → List ℕ → ℕ → List ℕ
 supplied m order i = filter (imports m i) (before_in order i)
 
+abbrev pub goes_into : ℕ → Option Bridge → Bool
+goes_into i None = false
+goes_into i (Some b) = nat_eq b.target i
+
 -- the rules into i
 unfoldable pub rules_into : System → ℕ → ℕ
-rules_into m i = such_that (length m.bridges) (λ k. goes_to i (slice_get m.bridges k))
-  where
-    goes_to : ℕ → Option Bridge → Bool
-    goes_to i None = false
-    goes_to i (Some b) = nat_eq b.target i
+rules_into m i = such_that (length m.bridges) (λ k. goes_into i (slice_get m.bridges k))
 
 -- x is a question to i, where `earlier` are the contexts that stand before i, and poss j holds of what j may supply
 pub record IsQuestionAfter (m : System) (level : ℕ) (earlier : List ℕ) (poss : ℕ → ℕ → Type 0) (i x : ℕ) : Type 0 where

@@ -11,3 +11,4 @@ pub mod Texts
 pub mod Codes
 pub mod Gathered
 pub mod Parts
+pub mod Built

@@ -1,52 +1,55 @@
--- What a system keeps beside its contexts and rules, so that its calls take no memory.
-use Rattle.std.specs.Prelude.{◌≡◌, ℕ, ◌<◌, Bool, false, List, map, length, Option, Some, None, slice_get, Vec}
+-- What a system keeps of its contexts and rules, so that no later call reads formulas again.
+use Rattle.std.specs.Prelude.{ℕ, nat_eq, cond, Bool, false, List, [], length, map, slice_get, Option, Some, None}
 use Rattle.std.specs.List.{list_any}
-use Rattle.mcs_sets.specs.Sets.{such_that}
-use Rattle.mcs_system.specs.Plain.{Read, System}
-use Rattle.mcs_system.specs.Plain as plain
-use Rattle.mcs_system.specs.Seen.{read_of}
-use Rattle.mcs_system.specs.Systems.{same_read, variables, variables_of}
+use Rattle.mcs_sets.specs.Sets.{such_that, union}
+use Rattle.mcs_system.specs.declared.parts.ContextParts as code_parts
+use Rattle.mcs_system.specs.declared.parts.RuleReads as code_reads
+use Rattle.mcs_system.specs.Plain.{Name, Read, Bridge, System}
+use Rattle.mcs_system.specs.Systems.{same_read, is_of_context, variables_of}
 use Rattle.mcs_system.specs.Imports.{rules_into}
-use Rattle.mcs_system.specs.Rows.{inputs_of}
+use Rattle.mcs_system.specs.Rows.{inputs_of, is_read_into}
 use Rattle.mcs_system.specs.Atoms.{atoms_of}
-use Rattle.mcs_system.specs.Faults.{IsValid}
-use Rattle.mcs_system.specs.declared.parts.ContextParts.{ContextParts}
-use Rattle.mcs_system.specs.declared.parts.RuleReads.{RuleReads}
 
--- a read of the list is this variable
-abbrev pub is_among_reads : List Read → Option Read → Bool
-is_among_reads reads None = false
-is_among_reads reads (Some r) = list_any (same_read r) reads
+-- ---- of a context
+pub record ContextPart : Type 0 where
+  pub atoms : List Name
+  pub variables : ℕ
+  pub inputs : ℕ
+  pub rules : ℕ
 
--- the variables that the reads are
-unfoldable pub read_set : List Read → List Read → ℕ
-read_set vars reads = such_that (length vars) (λ v. is_among_reads reads (slice_get vars v))
+abbrev pub context_part : System → ℕ → ContextPart
+context_part m i = record { atoms = atoms_of m i; variables = variables_of m i; inputs = inputs_of m i; rules = rules_into m i }
 
--- what is kept of a context
-pub record IsPartsOf (m : System) (i : ℕ) (p : ContextParts) : Type 0 where
-  pub atoms : p.atoms.items ≡ atoms_of m i
-  pub variables : p.variables ≡ variables_of m i
-  pub inputs : p.inputs ≡ inputs_of m i
-  pub rules : p.rules ≡ rules_into m i
+abbrev pub context_part_of : code_parts.ContextParts → ContextPart
+context_part_of p = record { atoms = p.atoms.items; variables = p.variables; inputs = p.inputs; rules = p.rules }
 
--- what is kept of a rule
-pub record IsReadsOf (m : System) (b : plain.Bridge) (r : RuleReads) : Type 0 where
-  pub positive : r.positive ≡ read_set (variables m) b.pos
-  pub negative : r.negative ≡ read_set (variables m) b.neg
+-- those of the variables that are of context i
+unfoldable pub variables_among : List Read → ℕ → ℕ
+variables_among vs i = such_that (length vs) (λ v. is_of_context i (slice_get vs v))
 
--- of each context, in order
-pub record ArePartsOf (m : System) (parts : List ContextParts) : Type 0 where
-  pub one_each : length parts ≡ length m.contexts
-  pub each : (i : ℕ) (p : ContextParts) → slice_get parts i ≡ Some p → IsPartsOf m i p
+-- those of the variables that rules into context i read, where these are the rules
+unfoldable pub inputs_among : List Read → List Bridge → ℕ → ℕ
+inputs_among vs bs i = such_that (length vs) (λ v. is_read_into (record { contexts = []; bridges = bs }) i (slice_get vs v))
 
--- of each rule, in order
-pub record AreReadsOf (m : System) (reads : List RuleReads) : Type 0 where
-  pub one_each : length reads ≡ length m.bridges
-  pub each : (k : ℕ) (b : plain.Bridge) (r : RuleReads) → slice_get m.bridges k ≡ Some b → slice_get reads k ≡ Some r → IsReadsOf m b r
+-- ---- of a rule
+pub record RulePart : Type 0 where
+  pub positive : ℕ
+  pub negative : ℕ
 
--- all that is kept beside the contexts and rules of a system
-pub record KeepsParts (m : System) (vars : List Read) (parts : List ContextParts) (reads : List RuleReads) : Type 0 where
-  pub valid : IsValid m
-  pub variables : vars ≡ variables m
-  pub contexts : ArePartsOf m parts
-  pub rules : AreReadsOf m reads
+abbrev pub is_read_among : List Read → Option Read → Bool
+is_read_among reads None = false
+is_read_among reads (Some r) = list_any (same_read r) reads
+
+-- those of the variables that are among the reads
+unfoldable pub variables_read : List Read → List Read → ℕ
+variables_read vs reads = such_that (length vs) (λ v. is_read_among reads (slice_get vs v))
+
+abbrev pub rule_part : List Read → Bridge → RulePart
+rule_part vs b = record { positive = variables_read vs b.pos; negative = variables_read vs b.neg }
+
+abbrev pub rule_part_of : code_reads.RuleReads → RulePart
+rule_part_of r = record { positive = r.positive; negative = r.negative }
+
+-- those of the variables that the rule reads, if it goes into context i
+abbrev pub read_into : List Read → ℕ → Bridge → ℕ
+read_into vs i b = cond (nat_eq b.target i) (union (variables_read vs b.pos) (variables_read vs b.neg)) 0

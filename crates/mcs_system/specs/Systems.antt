@@ -35,13 +35,13 @@ context_variables m i = firsts (filter (λ r. nat_eq r.context i) (occurrences m
 unfoldable pub variables : System → List Read
 variables m = flat_map (context_variables m) (range_with_len 0 (length m.contexts))
 
+abbrev pub is_of_context : ℕ → Option Read → Bool
+is_of_context i None = false
+is_of_context i (Some r) = nat_eq r.context i
+
 -- the variables of the context
 unfoldable pub variables_of : System → ℕ → ℕ
-variables_of m i = such_that (length (variables m)) (λ v. is_of i (slice_get (variables m) v))
-  where
-    is_of : ℕ → Option Read → Bool
-    is_of i None = false
-    is_of i (Some r) = nat_eq r.context i
+variables_of m i = such_that (length (variables m)) (λ v. is_of_context i (slice_get (variables m) v))
 
 -- all rules
 abbrev pub all_rules : System → ℕ

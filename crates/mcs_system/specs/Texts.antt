@@ -59,10 +59,14 @@ rule_text m r = name_of_rule (slice_get m.bridges r)
 abbrev pub further : List (List ℕ) → List ℕ
 further texts = flat_map (λ t. codes ", " ++ t) texts
 
--- members, separated, between braces
+-- members, separated
+abbrev pub separated : List (List ℕ) → List ℕ
+separated [] = []
+separated (t ∷ ts) = t ++ further ts
+
+-- the same between braces
 abbrev pub braced : List (List ℕ) → List ℕ
-braced [] = codes "{}"
-braced (t ∷ ts) = codes "{" ++ (t ++ (further ts ++ codes "}"))
+braced texts = codes "{" ++ (separated texts ++ codes "}")
 
 -- a set of variables
 abbrev pub state_text : System → ℕ → List ℕ
@@ -72,20 +76,17 @@ state_text m σ = braced (map (variable_text m) (members σ))
 abbrev pub rules_text : System → ℕ → List ℕ
 rules_text m x = braced (map (rule_text m) (members x))
 
--- ---- lines
-abbrev pub line_feed : List ℕ
-line_feed = 10 ∷ []
-
+-- ---- lines, each with its line feed
 -- mcs 1: N contexts, R rules, V variables
 unfoldable pub heading : System → List ℕ
 heading m =
     codes "mcs 1: " ++ (decimal (length m.contexts) ++ (codes " contexts, " ++ (decimal (length m.bridges)
-    ++ (codes " rules, " ++ (decimal (length (variables m)) ++ (codes " variables" ++ line_feed))))))
+    ++ (codes " rules, " ++ (decimal (length (variables m)) ++ (codes " variables\n"))))))
 
 -- equilibrium K: STATE applicable RULES
 unfoldable pub equilibrium_line : System → ℕ → ℕ → List ℕ
 equilibrium_line m k σ =
-    codes "equilibrium " ++ (decimal k ++ (codes ": " ++ (state_text m σ ++ (codes " applicable " ++ (rules_text m (applicable m σ) ++ line_feed)))))
+    codes "equilibrium " ++ (decimal k ++ (codes ": " ++ (state_text m σ ++ (codes " applicable " ++ (rules_text m (applicable m σ) ++ codes "\n")))))
 
 -- a line for each state, numbered from k on
 abbrev pub equilibrium_lines : System → ℕ → List ℕ → List ℕ
@@ -94,12 +95,12 @@ equilibrium_lines m k (σ ∷ σs) = equilibrium_line m k σ ++ equilibrium_line
 
 -- whether there is an equilibrium
 abbrev pub verdict : List ℕ → List ℕ
-verdict [] = codes "inconsistent" ++ line_feed
-verdict (σ ∷ σs) = codes "consistent" ++ line_feed
+verdict [] = codes "inconsistent\n"
+verdict (σ ∷ σs) = codes "consistent\n"
 
 -- end: E equilibria
 unfoldable pub equilibria_end : List ℕ → List ℕ
-equilibria_end states = codes "end: " ++ (decimal (length states) ++ (codes " equilibria" ++ line_feed))
+equilibria_end states = codes "end: " ++ (decimal (length states) ++ (codes " equilibria\n"))
 
 -- what is printed where these are the projected equilibria
 abbrev pub equilibria_text : System → List ℕ → List ℕ

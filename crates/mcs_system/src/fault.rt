@@ -1,5 +1,8 @@
 //! Why lists of contexts and bridge rules make no system.
 
+ghost use Rattle.std.specs.Prelude.{◌≡◌, Some};
+ghost use Rattle.mcs_system.specs.declared.fault.BuildFault.TheVariants.{Fault, Memory};
+
 /// A limit of a system.
 #[derive(Clone, Copy, Debug, PartialEq, Eq)]
 pub enum Limit {
@@ -23,4 +26,24 @@ pub enum Limit {
 pub enum BuildFault {
     Fault { number: u8, limit: Option<Limit> },
     Memory,
+}
+
+impl BuildFault {
+    /// The fault that the limit is exceeded.
+    pub(crate) fn exceeded(limit: Limit) -> BuildFault
+        ensures { result ≡ Fault 5 (Some limit) }
+    {
+        BuildFault::Fault {
+            number: 5,
+            limit: Some(limit),
+        }
+    }
+}
+
+impl From<mcs_base::Memory> for BuildFault {
+    ghost from_gives = { λ _ e. e ≡ Memory };
+
+    fn from(_want: mcs_base::Memory) -> BuildFault {
+        BuildFault::Memory
+    }
 }

@@ -3,6 +3,7 @@
 
 mod atoms;
 mod bridge;
+mod build;
 mod fault;
 mod faults;
 mod formula;

@@ -1,20 +1,202 @@
-//! What a system keeps of its contexts and rules beside their data.
+//! What a system keeps of its contexts and rules, so that no later call reads formulas again.
 
+ghost use Rattle.std.specs.Prelude.{◌≡◌, ◌≤◌, ◌<◌, ℕ, List, map, length, true, false, IfOk, MatchOption};
+ghost use Rattle.std.specs.List.{range_with_len};
+ghost use Rattle.mcs_system.specs.declared.knowledge.Context.{Context};
+ghost use Rattle.mcs_system.specs.declared.fault.Limit.TheVariants.{InputsPerContext, AtomsPerContext};
+ghost use Rattle.mcs_system.specs.Atoms.{atoms_of};
+ghost use Rattle.mcs_system.specs.Faults.{exceeds};
+ghost use Rattle.mcs_system.specs.Imports.{rules_into};
+ghost use Rattle.mcs_system.specs.Parts.{context_part, context_part_of, variables_among, inputs_among, variables_read, read_into, rule_part, rule_part_of};
+ghost use Rattle.mcs_system.specs.Seen.{read_of, bridge_of, system_of};
+ghost use Rattle.mcs_system.specs.Systems.{variables};
+
+use crate::atoms::atoms_of;
+use crate::bridge::{Bridge, Read};
+use crate::knowledge::Context;
 use crate::name::Name;
-use mcs_base::{Active, Vars};
+use crate::variables::is_among;
+use mcs_base::{Active, Memory, Vars};
+use std::alloc::Global;
 
-/// Of a context: its atoms, its variables, the variables that rules into it read, and these rules.
+/// The most variables that rules into one context read.
+const MOST_INPUTS: u32 = 16;
+
+/// What is kept of a context: its atoms, its variables, the variables that rules into it read, and these
+/// rules.
 #[derive(Drop)]
 pub(crate) struct ContextParts {
-    pub(crate) atoms: Vec<Name>,
-    pub(crate) variables: Vars,
-    pub(crate) inputs: Vars,
-    pub(crate) rules: Active,
+    pub atoms: Vec<Name>,
+    pub variables: Vars,
+    pub inputs: Vars,
+    pub rules: Active,
 }
 
-/// Of a rule: the variables that it reads positively, and those that it reads negatively.
-#[derive(Clone, Copy)]
+/// What is kept of a rule: the variables that it reads positively, and those that it reads negatively.
+#[derive(Drop)]
 pub(crate) struct RuleReads {
-    pub(crate) positive: Vars,
-    pub(crate) negative: Vars,
+    pub positive: Vars,
+    pub negative: Vars,
+}
+
+/// What a system keeps beside its contexts and rules: its variables, and the parts of each context and of
+/// each rule.
+#[derive(Drop)]
+pub(crate) struct Kept {
+    pub known: Vec<Read>,
+    pub parts: Vec<ContextParts>,
+    pub reads: Vec<RuleReads>,
+}
+
+/// Those of the variables that are among the reads.
+#[tactic(auto, using(crate::proofs::SeenLemmas::loops), unfolding(crate::specs::Parts::variables_read))]
+fn variables_read(known: &[Read], reads: &[Read]) -> Vars
+    requires { length known.now ≤ 64 }
+    ensures { result ≡ variables_read (map read_of known.now) (map read_of reads.now) }
+{
+    let mut set = Vars::empty();
+    for (v, variable) in known.iter().enumerate() {
+        if is_among(reads, variable) {
+            set = set.with(v as u32);
+        }
+    }
+    set
+}
+
+/// Those of the variables that are of the context.
+#[tactic(auto, using(crate::proofs::SeenLemmas::loops), unfolding(crate::specs::Parts::variables_among))]
+fn variables_among(known: &[Read], context: u32) -> Vars
+    requires { length known.now ≤ 64 }
+    ensures { result ≡ variables_among (map read_of known.now) context }
+{
+    let mut set = Vars::empty();
+    for (v, variable) in known.iter().enumerate() {
+        if variable.context == context {
+            set = set.with(v as u32);
+        }
+    }
+    set
+}
+
+/// The rules into the context.
+#[tactic(auto, using(crate::proofs::SeenLemmas::loops), unfolding(crate::specs::Imports::rules_into))]
+fn rules_into(bridges: &[Bridge], context: u32) -> Active
+    requires { length bridges.now ≤ 64 }
+    ensures { (contexts : List Context) → result ≡ rules_into (system_of contexts bridges.now) context }
+{
+    let mut set = Active::empty();
+    for (k, bridge) in bridges.iter().enumerate() {
+        if bridge.target == context {
+            set = set.with(k as u32);
+        }
+    }
+    set
+}
+
+/// Those of the variables that the rule reads, if it goes into the context.
+fn read_into(known: &[Read], bridge: &Bridge, context: u32) -> Vars
+    requires { length known.now ≤ 64 }
+    ensures { result ≡ read_into (map read_of known.now) context (bridge_of bridge.now) }
+{
+    if bridge.target == context {
+        variables_read(known, &bridge.pos).union(variables_read(known, &bridge.neg))
+    } else {
+        Vars::empty()
+    }
+}
+
+/// Those of the variables that rules into the context read.
+fn inputs_among(known: &[Read], bridges: &[Bridge], context: u32) -> Vars
+    requires { length known.now ≤ 64 }
+    ensures { result ≡ inputs_among (map read_of known.now) (map bridge_of bridges.now) context }
+{
+    let mut inputs = Vars::empty();
+    for bridge in bridges {
+        inputs = inputs.union(read_into(known, bridge, context));
+    }
+    inputs
+}
+
+/// What is kept of the rules.
+pub(crate) fn rule_reads(
+    alloc: Global,
+    known: &[Read],
+    bridges: &[Bridge],
+) -> Result<Vec<RuleReads>, Memory>
+    requires { length known.now ≤ 64 }
+    ensures { IfOk result (λ reads. map rule_part_of reads.items ≡ map (rule_part (map read_of known.now)) (map bridge_of bridges.now)) }
+{
+    let mut reads = Vec::new(alloc);
+    for bridge in bridges {
+        reads.push(RuleReads {
+            positive: variables_read(known, &bridge.pos),
+            negative: variables_read(known, &bridge.neg),
+        })?;
+    }
+    Ok(reads)
+}
+
+/// Whether rules into one context read too many variables. `known` are the variables of the system.
+pub(crate) fn has_many_inputs(contexts: &[Context], bridges: &[Bridge], known: &[Read]) -> bool
+    requires few_contexts { length contexts.now ≤ 64 }
+    requires few { length known.now ≤ 64 }
+    requires variables { map read_of known.now ≡ variables (system_of contexts.now bridges.now) }
+    ensures { result ≡ exceeds (system_of contexts.now bridges.now) InputsPerContext }
+{
+    for context in 0..contexts.len() as u32 {
+        if inputs_among(known, bridges, context).count() > MOST_INPUTS {
+            return true;
+        }
+    }
+    false
+}
+
+/// What is kept of one context; `None` where it has too many atoms. `known` are the variables of the
+/// system.
+fn parts_of_context(
+    alloc: Global,
+    contexts: &[Context],
+    bridges: &[Bridge],
+    known: &[Read],
+    context: u32,
+) -> Result<Option<ContextParts>, Memory>
+    requires in_range { context < length contexts.now }
+    requires few_rules { length bridges.now ≤ 64 }
+    requires few { length known.now ≤ 64 }
+    requires variables { map read_of known.now ≡ variables (system_of contexts.now bridges.now) }
+    ensures { IfOk result (λ found. let m = system_of contexts.now bridges.now in MatchOption found (64 < length (atoms_of m context)) (λ p. (context_part_of p ≡ context_part m context) × (length (atoms_of m context) ≤ 64))) }
+{
+    let Some(atoms) = atoms_of(alloc, contexts, bridges, known, context)? else {
+        return Ok(None);
+    };
+    Ok(Some(ContextParts {
+        atoms,
+        variables: variables_among(known, context),
+        inputs: inputs_among(known, bridges, context),
+        rules: rules_into(bridges, context),
+    }))
+}
+
+/// What is kept of the contexts; `None` where one of them has too many atoms. `known` are the variables of
+/// the system.
+pub(crate) fn parts_of_contexts(
+    alloc: Global,
+    contexts: &[Context],
+    bridges: &[Bridge],
+    known: &[Read],
+) -> Result<Option<Vec<ContextParts>>, Memory>
+    requires few_contexts { length contexts.now ≤ 64 }
+    requires few_rules { length bridges.now ≤ 64 }
+    requires few { length known.now ≤ 64 }
+    requires variables { map read_of known.now ≡ variables (system_of contexts.now bridges.now) }
+    ensures { IfOk result (λ found. let m = system_of contexts.now bridges.now in MatchOption found (exceeds m AtomsPerContext ≡ true) (λ parts. (map context_part_of parts.items ≡ map (context_part m) (range_with_len 0 (length contexts.now))) × (exceeds m AtomsPerContext ≡ false))) }
+{
+    let mut parts = Vec::new(alloc);
+    for context in 0..contexts.len() as u32 {
+        let Some(own) = parts_of_context(alloc, contexts, bridges, known, context)? else {
+            return Ok(None);
+        };
+        parts.push(own)?;
+    }
+    Ok(Some(parts))
 }

@@ -1,38 +1,40 @@
 //! Multi-context systems.
 
-ghost use Rattle.std.specs.Prelude.{◌≡◌, ◌<◌, ◌≤◌, length, map};
+ghost use Rattle.std.specs.Prelude.{◌≡◌, ◌<◌, ◌≤◌, length, map, Some, slice_get, IfOk, IfErr};
 ghost use Rattle.mcs_sets.specs.Sets.{common};
 ghost use Rattle.mcs_system.specs.Atoms.{atoms_of};
+ghost use Rattle.mcs_system.specs.Built.{IsFaultOf};
 ghost use Rattle.mcs_system.specs.Faults.{IsValid};
 ghost use Rattle.mcs_system.specs.Imports.{rules_into};
+ghost use Rattle.mcs_system.specs.Parts.{context_part, context_part_of, rule_part, rule_part_of};
+ghost use Rattle.mcs_system.specs.Plain as plain;
 ghost use Rattle.mcs_system.specs.Rows.{inputs_of};
-ghost use Rattle.mcs_system.specs.Seen.{context_of, bridge_of, read_of};
-ghost use Rattle.mcs_system.specs.Systems.{variables, variables_of, applicable};
+ghost use Rattle.mcs_system.specs.Seen.{context_of, bridge_of, read_of, system_of};
+ghost use Rattle.mcs_system.specs.Systems.{variables, variables_of, applicable, is_applicable};
 
 use crate::bridge::{Bridge, Read};
+use crate::build::keep;
+use crate::fault::BuildFault;
 use crate::knowledge::Context;
 use crate::name::Name;
-use crate::parts::{ContextParts, RuleReads};
+use crate::parts::{ContextParts, Kept, RuleReads};
 use mcs_base::{Active, Vars};
+use std::alloc::Global;
 use std::marker::Model;
 
 /// A multi-context system (Brewka & Eiter 2007): contexts and bridge rules, none of whose faults holds.
 #[derive(Drop)]
 pub struct System {
-    pub(crate) contexts: Vec<Context>,
-    pub(crate) bridges: Vec<Bridge>,
-    pub(crate) variables: Vec<Read>,
-    pub(crate) parts: Vec<ContextParts>,
-    pub(crate) reads: Vec<RuleReads>,
+    contexts: Vec<Context>,
+    bridges: Vec<Bridge>,
+    kept: Kept,
 }
 
 impl Model for System {
-    ghost use Rattle.std.specs.Prelude.{◌≡◌, map};
-    ghost use Rattle.mcs_system.specs.Plain as plain;
+    ghost use Rattle.mcs_system.specs.Built.{IsKept};
     ghost use Rattle.mcs_system.specs.Codes.{coded_system};
-    ghost use Rattle.mcs_system.specs.Seen.{system_of, read_of};
-    ghost use Rattle.mcs_system.specs.Faults.{IsValid};
-    ghost use Rattle.mcs_system.specs.Parts.{KeepsParts};
+    ghost use Rattle.mcs_system.specs.Plain as plain;
+    ghost use Rattle.mcs_system.specs.Seen.{system_of};
 
     ghost Value = { plain.System };
 
@@ -40,13 +42,32 @@ impl Model for System {
 
     ghost view = { λ s. system_of s.contexts.items s.bridges.items };
 
-    ghost invariant = { λ s. KeepsParts (system_of s.contexts.items s.bridges.items) (map read_of s.variables.items) s.parts.items s.reads.items };
+    ghost invariant = { λ s. IsKept s.contexts.items s.bridges.items s.kept };
 }
 
 impl System {
+    /// The system of these contexts and bridge rules, or the first of their faults: the lowest number that
+    /// holds, and for number 5 the first limit in the order of `Limit`.
+    pub fn build(
+        alloc: Global,
+        contexts: Vec<Context>,
+        bridges: Vec<Bridge>,
+    ) -> Result<System, BuildFault>
+        ensures ok { IfOk result (λ s. (s ≡ system_of contexts.items bridges.items) × IsValid s) }
+        ensures fault { IfErr result (IsFaultOf (system_of contexts.items bridges.items)) }
+    {
+        let kept = keep(alloc, &contexts, &bridges)?;
+        Ok(System {
+            contexts,
+            bridges,
+            kept,
+        })
+    }
+
     /// The contexts, in the order of the text.
     pub fn contexts(&self) -> &[Context]
         ensures value { map context_of result.now ≡ self.now.contexts }
+        ensures few { length result.now ≤ 64 }
         ensures valid { IsValid self.now }
     {
         &self.contexts
@@ -55,6 +76,7 @@ impl System {
     /// The bridge rules, in the order of the text.
     pub fn bridges(&self) -> &[Bridge]
         ensures value { map bridge_of result.now ≡ self.now.bridges }
+        ensures few { length result.now ≤ 64 }
         ensures valid { IsValid self.now }
     {
         &self.bridges
@@ -66,7 +88,34 @@ impl System {
         ensures few { length result.now ≤ 64 }
         ensures valid { IsValid self.now }
     {
-        &self.variables
+        &self.kept.known
+    }
+
+    /// What is kept of a context of the system.
+    fn parts_of(&self, context: u32) -> &ContextParts
+        requires { context < length self.now.contexts }
+        ensures part { context_part_of result.now ≡ context_part self.now context }
+        ensures valid { IsValid self.now }
+    {
+        &self.kept.parts[context as usize]
+    }
+
+    /// What is kept of a rule of the system.
+    fn reads_of(&self, rule: u32) -> &RuleReads
+        requires { rule < length self.now.bridges }
+        ensures part { (b : plain.Bridge) → slice_get self.now.bridges rule ≡ Some b → rule_part_of result.now ≡ rule_part (variables self.now) b }
+        ensures valid { IsValid self.now }
+    {
+        &self.kept.reads[rule as usize]
+    }
+
+    /// Whether a rule of the system applies in the state.
+    fn is_applicable(&self, rule: u32, state: Vars) -> bool
+        requires { rule < length self.now.bridges }
+        ensures { result ≡ is_applicable self.now state (slice_get self.now.bridges rule) }
+    {
+        let reads = self.reads_of(rule);
+        reads.positive.within(state) && !reads.negative.meets(state)
     }
 
     /// The atoms of a context of the system, by first occurrence: in its items, in the heads of the rules
@@ -76,7 +125,7 @@ impl System {
         ensures value { result.now ≡ atoms_of self.now context }
         ensures few { length result.now ≤ 64 }
     {
-        &self.parts[context as usize].atoms
+        &self.parts_of(context).atoms
     }
 
     /// The variables of a context of the system.
@@ -84,7 +133,7 @@ impl System {
         requires { context < length self.now.contexts }
         ensures { result ≡ variables_of self.now context }
     {
-        self.parts[context as usize].variables
+        self.parts_of(context).variables
     }
 
     /// The variables that rules into a context of the system read.
@@ -92,7 +141,7 @@ impl System {
         requires { context < length self.now.contexts }
         ensures { result ≡ inputs_of self.now context }
     {
-        self.parts[context as usize].inputs
+        self.parts_of(context).inputs
     }
 
     /// The rules into a context of the system.
@@ -100,7 +149,7 @@ impl System {
         requires { context < length self.now.contexts }
         ensures { result ≡ rules_into self.now context }
     {
-        self.parts[context as usize].rules
+        self.parts_of(context).rules
     }
 
     /// The rules into a context of the system that apply in the state.
@@ -109,9 +158,22 @@ impl System {
         ensures { result ≡ common (applicable self.now state) (rules_into self.now context) }
     {
         let mut rules = Active::empty();
-        for r in self.parts[context as usize].rules.members() {
-            let reads = self.reads[r as usize];
-            if reads.positive.within(state) && !reads.negative.meets(state) {
+        for r in self.rules_of(context).members() {
+            if self.is_applicable(r, state) {
+                rules = rules.with(r);
+            }
+        }
+        rules
+    }
+
+    /// All rules that apply in the state.
+    #[tactic(auto, using(crate::proofs::SeenLemmas::loops), unfolding(crate::specs::Systems::applicable))]
+    pub fn applicable_rules(&self, state: Vars) -> Active
+        ensures { result ≡ applicable self.now state }
+    {
+        let mut rules = Active::empty();
+        for r in 0..self.bridges().len() as u32 {
+            if self.is_applicable(r, state) {
                 rules = rules.with(r);
             }
         }

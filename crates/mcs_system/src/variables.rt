@@ -17,11 +17,11 @@ use std::alloc::Global;
 /// The most variables of a system.
 pub(crate) const MOST_VARIABLES: usize = 64;
 
-/// Whether the read is the same as one of those that were found.
-fn is_found(found: &[Read], read: &Read) -> bool
-    ensures { result ≡ list_any (same_read (read_of read.now)) (map read_of found.now) }
+/// Whether the read is the same as one of the others.
+pub(crate) fn is_among(others: &[Read], read: &Read) -> bool
+    ensures { result ≡ list_any (same_read (read_of read.now)) (map read_of others.now) }
 {
-    for other in found {
+    for other in others {
         if same_read(read, other) {
             return true;
         }
@@ -34,7 +34,7 @@ fn add_read(alloc: Global, read: &Read, found: &mut Vec<Read>) -> Result<bool, M
     ensures found { IfOk result (λ _. map read_of found.new.items ≡ gathered same_read (map read_of found.old.items) (read_of read.now ∷ [])) }
     ensures few { IfOk result (λ few. few ≡ nat_le (length found.new.items) 64) }
 {
-    if !is_found(found, read) {
+    if !is_among(found, read) {
         found.push(read.copy(alloc)?)?;
     }
     Ok(found.len() <= MOST_VARIABLES)

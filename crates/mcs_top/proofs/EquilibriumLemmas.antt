@@ -8,7 +8,10 @@ use Rattle.mcs_system.specs.Plain.{Formula, Kb, Classical, Context, Bridge, Syst
 use Rattle.mcs_system.specs.Logic.{Accepts, with_heads}
 use Rattle.mcs_system.specs.Imports.{rules_into}
 use Rattle.mcs_system.specs.Systems.{variables, all_variables, all_rules, variables_of, applicable, acting_at, heads_from, heads_into, Follows, IsAcceptedPart, IsProjected}
-use Rattle.mcs_system.proofs.Members.{get-lt}
+use Rattle.mcs_sets.specs.Orders.{StateBefore}
+use Rattle.mcs_base.specs.Listings.{IsAmong, IsListing}
+use Rattle.mcs_base.proofs.ListingLemmas.{IsListing-same}
+use Rattle.mcs_system.proofs.Members.{get-lt, among_left, among_right, among_either}
 use Rattle.mcs_system.proofs.VariableLemmas.{has-rules_into}
 use Rattle.mcs_laws.proofs.Projections.{parts_of, from_parts}
 
@@ -78,3 +81,29 @@ balanced m σ small all = from_parts m (all_rules m) 0 σ (in_range m σ small) 
 
 pub accepted_where_balanced : (m : System) (σ i : ℕ) → IsProjected m (all_rules m) 0 σ → i < length m.contexts → IsAcceptedPart m i (common (applicable m σ) (rules_into m i)) (common σ (variables_of m i))
 accepted_where_balanced m σ i h less = part-alike m i _ _ _ (λ k b is own. sym (acting-into m i σ k b is own)) ((parts_of m (all_rules m) 0 σ h).1 i less)
+
+-- ---- trying one number more
+pub one_more : (P : ℕ → Type 0) (xs ys : List ℕ) (n : ℕ) → ((σ : ℕ) → IsAmong σ xs ↔ ((σ < n) × P σ)) → ys ≡ xs ++ n ∷ [] → P n → (σ : ℕ) → IsAmong σ ys ↔ ((σ < n + 1) × P σ)
+one_more P xs ys n known is here σ = (λ h. to (among_either σ xs (n ∷ []) (subst (IsAmong σ) is h)), λ h. subst (IsAmong σ) (sym is) (from h (eqb σ n) refl))
+  where
+    to : IsAmong σ xs ⊎ IsAmong σ (n ∷ []) → (σ < n + 1) × P σ
+    to (inl old) = let both = (known σ).0 old in (omega arith, both.1)
+    to (inr (inl same)) = (omega arith, subst P (sym same) here)
+    to (inr (inr none)) = absurd none
+
+    from : (σ < n + 1) × P σ → (b : Bool) → eqb σ n ≡ b → IsAmong σ (xs ++ n ∷ [])
+    from h true e = among_right σ xs (n ∷ []) (inl (grind (arith, nat_tests)))
+    from h false e = let less : σ < n = (let low = h.0 in grind (arith, nat_tests)) in among_left σ xs (n ∷ []) ((known σ).1 (less, h.1))
+
+pub none_more : (P : ℕ → Type 0) (xs ys : List ℕ) (n : ℕ) → ((σ : ℕ) → IsAmong σ xs ↔ ((σ < n) × P σ)) → ys ≡ xs → ¬ P n → (σ : ℕ) → IsAmong σ ys ↔ ((σ < n + 1) × P σ)
+none_more P xs ys n known is never σ = (λ h. let both = (known σ).0 (subst (IsAmong σ) is h) in (omega arith, both.1), λ h. subst (IsAmong σ) (sym is) ((known σ).1 (from h (eqb σ n) refl, h.1)))
+  where
+    from : (σ < n + 1) × P σ → (b : Bool) → eqb σ n ≡ b → σ < n
+    from h true e = absurd (never (subst P (let same : σ ≡ n = grind (arith, nat_tests) in same) h.1))
+    from h false e = let low = h.0 in grind (arith, nat_tests)
+
+-- the states that were found are all of them
+pub all_tried : (m : System) (xs ys : List ℕ) (n : ℕ) → n ≡ 2 ^ length (variables m) → ((σ : ℕ) → IsAmong σ xs ↔ ((σ < n) × IsProjected m (all_rules m) 0 σ))
+    → IsListing (λ σ. IsAmong σ xs) StateBefore ys → IsListing (IsProjected m (all_rules m) 0) StateBefore ys
+all_tried m xs ys n whole known listing = IsListing-same StateBefore (λ σ. IsAmong σ xs) (IsProjected m (all_rules m) 0) ys
+    (λ σ. (λ h. ((known σ).0 h).1, λ h. (known σ).1 (let low = below_all m σ (parts_of m (all_rules m) 0 σ h).0 in omega arith, h))) listing

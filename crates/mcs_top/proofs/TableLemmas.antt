@@ -93,7 +93,7 @@ passes_where_all names fs p (suc k) all = rw (passes_where_all names fs p k (λ 
     at false e = refl
 
 -- the names have every atom of the formulas and of the beliefs of the context
-pub CoversContext : System → ℕ → List Name → List Formula → Type 0
+unfoldable pub CoversContext : System → ℕ → List Name → List Formula → Type 0
 CoversContext m i names fs = (v : ℕ) (r : Read) → IsVariable m v r → r.context ≡ i → Covers names fs r.belief
 
 -- what no row refutes is what follows

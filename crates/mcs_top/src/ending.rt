@@ -2,6 +2,7 @@
 
 ghost use Rattle.std.specs.Prelude.{◌≡◌};
 ghost use Rattle.mcs_top.specs.Endings.{line_of, status_of};
+ghost use Rattle.mcs_top.specs.declared.ending.Stop.TheVariants.{Memory};
 
 /// The status of a run, by the number that the program ends with.
 #[derive(Clone, Copy, Debug, PartialEq, Eq)]
@@ -37,6 +38,14 @@ pub(crate) enum Stop {
     ReadFault,
     WriteFault,
     Memory,
+}
+
+impl From<mcs_base::Memory> for Stop {
+    ghost from_gives = { λ _ stop. stop ≡ Memory };
+
+    fn from(_want: mcs_base::Memory) -> Stop {
+        Stop::Memory
+    }
 }
 
 impl Stop {

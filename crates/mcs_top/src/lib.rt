@@ -3,7 +3,9 @@
 #![tactic(auto)]
 
 mod ending;
+mod equilibria;
 mod lines;
+mod printing;
 mod words;
 
 pub use ending::Status;

@@ -8,6 +8,6 @@ loop-taken-preserved g c =
       within = search rules;
       later = omega (arith, c.in_ok-taken.ensures.cause.later);
       written = c.in_ok-taken.ensures.written
-        ∙ appended-more (g.K.Sink.written c.args.sink.now) (g.K.Sink.written c.loop-taken.sink) c.args.bytes.now c.loop-taken.taken c.in_ok-taken.field-0 c.loop-taken.invariant.written;
-      notes = search rules
+          ∙ appended-more (g.K.Sink.written c.args.sink.now) (g.K.Sink.written c.loop-taken.sink) c.args.bytes.now c.loop-taken.taken c.in_ok-taken.field-0 c.loop-taken.invariant.written;
+      notes = search rules;
     }

@@ -8,7 +8,7 @@ invariant-loop-taken g l =
       within : l.taken ≤ length l.bytes;
       later : g.K.Sink.faults l.initial.sink ≤ g.K.Sink.faults l.sink;
       written : g.K.Sink.written l.sink ≡ appended (g.K.Sink.written l.initial.sink) (take l.taken l.bytes);
-      notes : g.K.Sink.notes l.sink ≡ g.K.Sink.notes l.initial.sink
+      notes : g.K.Sink.notes l.sink ≡ g.K.Sink.notes l.initial.sink;
     }
 
 abbrev pub decreases-loop-taken : goal.decreases-loop-taken

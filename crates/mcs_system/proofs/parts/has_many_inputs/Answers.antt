@@ -1,0 +1,22 @@
+use Rattle.std.proofs.Common.{◌≡◌, ℕ, ◌<◌, Bool, true, false, ltb, length, map, sym, ap, ◌∙◌, arith}
+use Rattle.std.proofs.lemmas.Bool.Decides.{nat_tests}
+use Rattle.mcs_sets.specs.Sets.{size}
+use Rattle.mcs_system.specs.Rows.{inputs_of}
+use Rattle.mcs_system.specs.Seen.{read_of, system_of}
+use Rattle.mcs_system.proofs.PartLemmas.{inputs_known, inputs-exceed, some_next, some_here, some_end}
+use Rattle.mcs_system.proofs.parts.has_many_inputs.Goals as goal
+
+pub returns-then-count-gt-MOST_INPUTS : goal.returns-then-count-gt-MOST_INPUTS
+returns-then-count-gt-MOST_INPUTS c =
+    let own = inputs_known (system_of c.args.contexts.now c.args.bridges.now) (map read_of c.args.known.now) c.loop-context.context c.inputs_among.result c.requires.variables c.inputs_among.ensures in
+    let many : ltb 16 (size (inputs_of (system_of c.args.contexts.now c.args.bridges.now) c.loop-context.context)) ≡ true = rw (← own, ← c.count.ensures.number) (grind (arith, nat_tests)) in
+    sym (inputs-exceed c.args.contexts.now c.args.bridges.now ∙ some_here (λ i. ltb 16 (size (inputs_of (system_of c.args.contexts.now c.args.bridges.now) i))) c.loop-context.context (length c.args.contexts.now) _ (omega arith) many c.loop-context.invariant)
+
+pub loop-context-preserved : goal.loop-context-preserved
+loop-context-preserved c =
+    let own = inputs_known (system_of c.args.contexts.now c.args.bridges.now) (map read_of c.args.known.now) c.loop-context.context c.inputs_among.result c.requires.variables c.inputs_among.ensures in
+    let few : ltb 16 (size (inputs_of (system_of c.args.contexts.now c.args.bridges.now) c.loop-context.context)) ≡ false = rw (← own, ← c.count.ensures.number) (grind (arith, nat_tests)) in
+    some_next (λ i. ltb 16 (size (inputs_of (system_of c.args.contexts.now c.args.bridges.now) i))) c.loop-context.context (length c.args.contexts.now) _ (omega arith) few c.loop-context.invariant
+
+pub returns : goal.returns
+returns c = sym (inputs-exceed c.args.contexts.now c.args.bridges.now ∙ some_end (λ i. ltb 16 (size (inputs_of (system_of c.args.contexts.now c.args.bridges.now) i))) c.loop-context.context (length c.args.contexts.now) _ (omega arith) c.loop-context.invariant)

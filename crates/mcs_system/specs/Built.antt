@@ -1,0 +1,38 @@
+-- What building a system answers, and what a system keeps.
+use Rattle.std.specs.Prelude.{◌≡◌, ℕ, cond, List, [], ◌∷◌, length, map, Option, Some, None}
+use Rattle.std.specs.List.{range_with_len}
+use Rattle.mcs_system.specs.declared.bridge.Bridge as code_bridge
+use Rattle.mcs_system.specs.declared.fault.BuildFault.{BuildFault}
+use Rattle.mcs_system.specs.declared.fault.BuildFault.TheVariants.{Fault, Memory}
+use Rattle.mcs_system.specs.declared.fault.Limit.{Limit}
+use Rattle.mcs_system.specs.declared.fault.Limit.TheVariants.{Contexts, Bridges, RulesPerContext, DefaultsPerContext, ItemsPerContext, FormulaSize}
+use Rattle.mcs_system.specs.declared.knowledge.Context as code_context
+use Rattle.mcs_system.specs.declared.parts.Kept as code_kept
+use Rattle.mcs_system.specs.Plain.{System}
+use Rattle.mcs_system.specs.Seen.{read_of, bridge_of, system_of}
+use Rattle.mcs_system.specs.Systems.{variables}
+use Rattle.mcs_system.specs.Faults.{has_unknown_context, has_twin_names, has_misfits, fault, fault_of, IsValid}
+use Rattle.mcs_system.specs.Parts.{context_part, context_part_of, rule_part, rule_part_of}
+
+-- the answer tells the system's fault; want of memory may come in place of any answer
+abbrev pub IsFaultOf : System → BuildFault → Type 0
+IsFaultOf m (Fault n l) = fault_of m ≡ Some (fault n l)
+IsFaultOf m Memory = Unit {0}
+
+-- the lowest number below 5 that holds
+abbrev pub first_number : System → Option ℕ
+first_number m = cond (has_unknown_context m) (Some 2) (cond (has_twin_names m) (Some 3) (cond (has_misfits m) (Some 4) None))
+
+-- the limits before those that are counted over variables, and the limits after them
+abbrev pub first_limits : List Limit
+first_limits = Contexts ∷ Bridges ∷ RulesPerContext ∷ []
+
+abbrev pub last_limits : List Limit
+last_limits = DefaultsPerContext ∷ ItemsPerContext ∷ FormulaSize ∷ []
+
+-- the system is valid, and what is kept is of it
+pub record IsKept (contexts : List code_context.Context) (bridges : List code_bridge.Bridge) (kept : code_kept.Kept) : Type 0 where
+  pub valid : IsValid (system_of contexts bridges)
+  pub variables_are : map read_of kept.known.items ≡ variables (system_of contexts bridges)
+  pub parts_are : map context_part_of kept.parts.items ≡ map (context_part (system_of contexts bridges)) (range_with_len 0 (length contexts))
+  pub rules_are : map rule_part_of kept.reads.items ≡ map (rule_part (variables (system_of contexts bridges))) (map bridge_of bridges)
