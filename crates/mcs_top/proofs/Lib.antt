@@ -4,3 +4,7 @@ pub mod LineLemmas
 pub mod CoverLemmas
 pub mod SmallLemmas
 pub mod PrintLemmas
+pub mod TokenTexts
+pub mod GrammarLemmas
+pub mod ReadingLemmas
+pub mod TextLemmas

@@ -2,5 +2,7 @@ pub mod Jobs
 pub mod Endings
 pub mod Tables
 pub mod SmallGrammar
+pub mod Reading
+pub mod Readers
 pub mod SmallTexts
 pub mod Promise

@@ -6,6 +6,8 @@ mod ending;
 mod equilibria;
 mod lines;
 mod printing;
+mod reader;
 mod words;
 
 pub use ending::Status;
+pub use reader::texts_spell_one_system;

@@ -1,0 +1,16 @@
+//! The tokens of a system text: words, signs, and bytes that begin neither.
+#![tactic(auto)]
+
+mod keyword;
+mod kind;
+pub mod laws;
+mod scan;
+mod sign;
+
+pub use keyword::Keyword;
+pub use kind::{TokenKind, kind_of};
+pub use scan::{Span, next_token, token_list};
+pub use sign::Sign;
+
+#[cfg(test)]
+mod tests;
