@@ -4,7 +4,7 @@ ghost use Rattle.std.specs.Prelude.{◌≡◌, ◌&&◌, IfOk, List, not, nat_eq
 ghost use Rattle.std.specs.List.{list_any};
 ghost use Rattle.mcs_system.specs.declared.bridge.Bridge.{Bridge};
 ghost use Rattle.mcs_system.specs.declared.fault.Limit.TheVariants.{RulesPerContext, DefaultsPerContext, ItemsPerContext, FormulaSize};
-ghost use Rattle.mcs_system.specs.Faults.{exceeds, has_large_formula, has_large_item, has_large_part, has_misfit, has_misfits, has_twins, has_twin_names, has_unjustified, has_unknown_context, is_atom, is_default, is_large, is_large_rule, is_program, is_unjustified, item_count, points_outside};
+ghost use Rattle.mcs_system.specs.Faults.{exceeds, has_large_formula, has_large_item, has_large_part, has_misfit, has_misfits, has_twins, has_twin_names, has_unjustified, has_unknown_context, is_atom, is_default, is_large, is_large_rule, is_program, is_unjustified, points_outside};
 ghost use Rattle.mcs_system.specs.Seen.{bridge_of, context_of, formula_of, formula_size, item_of, kb_of, read_of, rule_of, system_of};
 
 use crate::bridge::{Bridge, Read};
@@ -253,17 +253,6 @@ pub(crate) fn has_many_defaults(contexts: &[Context]) -> bool
     false
 }
 
-/// How many formulas, items or rules these are.
-fn item_count(kb: &Kb) -> usize
-    ensures { result ≡ item_count (kb_of kb.now) }
-{
-    match kb {
-        Kb::Classical(formulas) => formulas.len(),
-        Kb::DefaultTheory(items) => items.len(),
-        Kb::Program(rules) => rules.len(),
-    }
-}
-
 /// Whether some context has too many formulas, items or rules.
 #[tactic(auto, unfolding(crate::specs::Faults::exceeds))]
 pub(crate) fn has_many_items(contexts: &[Context]) -> bool
@@ -271,7 +260,7 @@ pub(crate) fn has_many_items(contexts: &[Context]) -> bool
         result ≡ exceeds (system_of contexts.now bridges) ItemsPerContext }
 {
     for context in contexts {
-        if item_count(&context.kb) > MOST_ITEMS {
+        if context.kb.item_count() > MOST_ITEMS {
             return true;
         }
     }

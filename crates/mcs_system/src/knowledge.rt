@@ -1,6 +1,7 @@
 //! What a context knows: formulas, a default theory or a program.
 
 ghost use Rattle.std.specs.Prelude.{◌≡◌, IfOk, map};
+ghost use Rattle.mcs_system.specs.Faults.{item_count};
 ghost use Rattle.mcs_system.specs.Seen.{context_of, default_of, item_of, kb_of, rule_of};
 
 use crate::formula::{Formula, copy_formulas};
@@ -87,6 +88,17 @@ impl Kb {
             Kb::DefaultTheory(items) => Kb::DefaultTheory(copy_items(alloc, items)?),
             Kb::Program(rules) => Kb::Program(copy_rules(alloc, rules)?),
         })
+    }
+
+    /// How many formulas, items or rules it has.
+    pub fn item_count(&self) -> usize
+        ensures { result ≡ item_count (kb_of self.now) }
+    {
+        match self {
+            Kb::Classical(formulas) => formulas.len(),
+            Kb::DefaultTheory(items) => items.len(),
+            Kb::Program(rules) => rules.len(),
+        }
     }
 }
 

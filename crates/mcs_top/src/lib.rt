@@ -7,6 +7,7 @@ mod equilibria;
 mod lines;
 mod printing;
 mod reader;
+mod small;
 mod words;
 
 pub use ending::Status;
