@@ -9,3 +9,4 @@ pub mod FaultLemmas
 pub mod Twins
 pub mod ValidLemmas
 pub mod BuildLemmas
+pub mod ApplicableLemmas

@@ -6,6 +6,7 @@ ghost use Rattle.mcs_system.specs.Atoms.{atoms_of};
 ghost use Rattle.mcs_system.specs.Built.{IsFaultOf};
 ghost use Rattle.mcs_system.specs.Faults.{IsValid};
 ghost use Rattle.mcs_system.specs.Imports.{rules_into};
+ghost use Rattle.mcs_system.specs.Parts.{context_part, context_part_of};
 ghost use Rattle.mcs_system.specs.Rows.{inputs_of};
 ghost use Rattle.mcs_system.specs.Seen.{read_of, context_of, bridge_of, system_of};
 ghost use Rattle.mcs_system.specs.Systems.{variables, variables_of, applicable};
@@ -15,7 +16,7 @@ use crate::build::keep;
 use crate::fault::BuildFault;
 use crate::knowledge::Context;
 use crate::name::Name;
-use crate::parts::Kept;
+use crate::parts::{ContextParts, Kept, applicable_among};
 use mcs_base::{Active, Vars};
 use std::alloc::Global;
 use std::marker::Model;
@@ -80,5 +81,62 @@ impl System {
         ensures valid { IsValid self.now }
     {
         &self.kept.known
+    }
+
+    /// What is kept of the context.
+    fn part(&self, context: u32) -> &ContextParts
+        requires { context < length self.now.contexts }
+        ensures part { context_part_of result.now ≡ context_part self.now context }
+        ensures valid { IsValid self.now }
+    {
+        &self.kept.parts[context as usize]
+    }
+
+    /// The atoms of the context, by first occurrence: in its items, in the heads of the rules into it, in
+    /// its variables. The context's number is in range.
+    pub fn atoms_of(&self, context: u32) -> &[Name]
+        requires { context < length self.now.contexts }
+        ensures atoms { result.now ≡ atoms_of self.now context }
+        ensures few { length result.now ≤ 64 }
+        ensures valid { IsValid self.now }
+    {
+        &self.part(context).atoms
+    }
+
+    /// The variables of the context, whose number is in range.
+    pub fn vars_of(&self, context: u32) -> Vars
+        requires { context < length self.now.contexts }
+        ensures variables { result ≡ variables_of self.now context }
+        ensures valid { IsValid self.now }
+    {
+        self.part(context).variables
+    }
+
+    /// The variables that rules into the context read. The context's number is in range.
+    pub fn inputs_of(&self, context: u32) -> Vars
+        requires { context < length self.now.contexts }
+        ensures inputs { result ≡ inputs_of self.now context }
+        ensures valid { IsValid self.now }
+    {
+        self.part(context).inputs
+    }
+
+    /// The rules into the context, whose number is in range.
+    pub fn rules_of(&self, context: u32) -> Active
+        requires { context < length self.now.contexts }
+        ensures rules { result ≡ rules_into self.now context }
+        ensures valid { IsValid self.now }
+    {
+        self.part(context).rules
+    }
+
+    /// The rules into the context that are applicable in the state. The context's number is in range.
+    pub fn applicable(&self, context: u32, state: Vars) -> Active
+        requires { context < length self.now.contexts }
+        ensures applicable { result ≡ common (applicable self.now state) (rules_into self.now context) }
+        ensures valid { IsValid self.now }
+    {
+        let rules = self.rules_of(context);
+        applicable_among(&self.kept.reads, rules, state)
     }
 }
