@@ -137,7 +137,7 @@ read_of_member m reads v member =
     let (r, var) = get_below (variables m) v (grind (arith, nat_tests)) in
     let found : list_any (same_read r) reads ≡ true = ap (is_read_among reads) (sym var) ∙ parts.1 in
     let (j, q, there, alike) = any_get (same_read r) reads found in
-    (r, var, subst {x = q} (λ (x : Read). IsAmong x reads) (sym (same_read-is r q alike)) (among_get q reads j there))
+    (r, var, subst (λ (x : Read). IsAmong x reads) {x = q} (sym (same_read-is r q alike)) (among_get q reads j there))
 
 member_of_read : (m : System) (reads : List Read) (v : ℕ) (r : Read) → IsVariable m v r → IsAmong r reads → has (variables_read (variables m) reads) v ≡ true
 member_of_read m reads v r var here =
@@ -159,9 +159,9 @@ module _ (m : System) (valid : IsValid m) (σ k : ℕ) (b : Bridge) (at : slice_
 
   positive_same : list_all (believed_at m σ) b.pos ≡ eqb (minus (variables_read (variables m) b.pos) σ) 0
   positive_same = same_bool _ _ (Within (variables_read (variables m) b.pos) σ) (
-      λ all v member. let (r, var, here) = read_of_member m b.pos v member in believed_member r v var (all_here (believed_at m σ) b.pos all r here),
-      λ within. each_here (believed_at m σ) b.pos (λ r here. let (v, var) = numbered r (among_left r b.pos b.neg here) in member_believed r v var (within v (member_of_read m b.pos v r var here))),
-    ) (nothing_missing (variables_read (variables m) b.pos) σ)
+    λ all v member. let (r, var, here) = read_of_member m b.pos v member in believed_member r v var (all_here (believed_at m σ) b.pos all r here),
+    λ within. each_here (believed_at m σ) b.pos (λ r here. let (v, var) = numbered r (among_left r b.pos b.neg here) in member_believed r v var (within v (member_of_read m b.pos v r var here))),
+  ) (nothing_missing (variables_read (variables m) b.pos) σ)
 
   not_true : (u : Bool) → not u ≡ true → u ≡ true → ⊥
   not_true true e e' = true≢false (sym e)
@@ -179,9 +179,9 @@ module _ (m : System) (valid : IsValid m) (σ k : ℕ) (b : Bridge) (at : slice_
 
   negative_same : list_all (λ r. not (believed_at m σ r)) b.neg ≡ eqb (common (variables_read (variables m) b.neg) σ) 0
   negative_same = same_bool _ _ (IsApart (variables_read (variables m) b.neg) σ) (
-      λ all v member. let (r, var, here) = read_of_member m b.neg v member in apart_at r v var (all_here (λ r. not (believed_at m σ r)) b.neg all r here) (has σ v) refl,
-      λ apart. each_here (λ r. not (believed_at m σ r)) b.neg (λ r here. unbelieved_at r here apart (believed_at m σ r) refl),
-    ) (nothing_common (variables_read (variables m) b.neg) σ)
+    λ all v member. let (r, var, here) = read_of_member m b.neg v member in apart_at r v var (all_here (λ r. not (believed_at m σ r)) b.neg all r here) (has σ v) refl,
+    λ apart. each_here (λ r. not (believed_at m σ r)) b.neg (λ r here. unbelieved_at r here apart (believed_at m σ r) refl),
+  ) (nothing_common (variables_read (variables m) b.neg) σ)
 
   applies_same : applies_by σ (Some (rule_part (variables m) b)) ≡ applies_at m σ b
   applies_same = rw (positive_same, negative_same) refl

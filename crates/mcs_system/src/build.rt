@@ -24,7 +24,11 @@ const MOST_CONTEXTS: usize = 64;
 const MOST_BRIDGES: usize = 64;
 
 /// The lowest of the faults 2, 3 and 4 that holds.
-fn first_number(alloc: Global, contexts: &[Context], bridges: &[Bridge]) -> Result<Option<u8>, Memory>
+fn first_number(
+    alloc: Global,
+    contexts: &[Context],
+    bridges: &[Bridge],
+) -> Result<Option<u8>, Memory>
     ensures { IfOk result (λ number. number ≡ first_number (system_of contexts.now bridges.now)) }
 {
     Ok(if has_unknown_context(contexts, bridges) {
@@ -70,7 +74,11 @@ fn last_limit(contexts: &[Context], bridges: &[Bridge]) -> Option<Limit>
 }
 
 /// What a system of these contexts and rules keeps, or the first of their faults.
-pub(crate) fn keep(alloc: Global, contexts: &[Context], bridges: &[Bridge]) -> Result<Kept, BuildFault>
+pub(crate) fn keep(
+    alloc: Global,
+    contexts: &[Context],
+    bridges: &[Bridge],
+) -> Result<Kept, BuildFault>
     ensures ok { IfOk result (IsKept contexts.now bridges.now) }
     ensures fault { IfErr result (IsFaultOf (system_of contexts.now bridges.now)) }
 {

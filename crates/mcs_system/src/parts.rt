@@ -119,7 +119,11 @@ fn inputs_among(known: &[Read], bridges: &[Bridge], context: u32) -> Vars
 }
 
 /// What is kept of the rules.
-pub(crate) fn rule_reads(alloc: Global, known: &[Read], bridges: &[Bridge]) -> Result<Vec<RuleReads>, Memory>
+pub(crate) fn rule_reads(
+    alloc: Global,
+    known: &[Read],
+    bridges: &[Bridge],
+) -> Result<Vec<RuleReads>, Memory>
     requires { length known.now ≤ 64 }
     ensures { IfOk result (λ reads. map rule_part_of reads.items ≡ map (rule_part (map read_of known.now)) (map bridge_of bridges.now)) }
 {

@@ -47,7 +47,11 @@ impl Model for System {
 impl System {
     /// The system of these contexts and bridge rules, or the first of their faults: the lowest number that
     /// holds, and for number 5 the first limit in the order of `Limit`.
-    pub fn build(alloc: Global, contexts: Vec<Context>, bridges: Vec<Bridge>) -> Result<System, BuildFault>
+    pub fn build(
+        alloc: Global,
+        contexts: Vec<Context>,
+        bridges: Vec<Bridge>,
+    ) -> Result<System, BuildFault>
         ensures ok { IfOk result (λ s. (s ≡ system_of contexts.items bridges.items) × IsValid s) }
         ensures fault { IfErr result (IsFaultOf (system_of contexts.items bridges.items)) }
     {

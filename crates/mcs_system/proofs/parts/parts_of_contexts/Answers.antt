@@ -30,6 +30,7 @@ loop-context-preserved c =
 
 pub returns : goal.returns
 returns c =
-    let over : c.loop-context.context ≡ length c.args.contexts.now = omega arith in
-    (c.loop-context.invariant.parts ∙ ap (λ n. map (context_part (system_of c.args.contexts.now c.args.bridges.now)) (range_with_len 0 n)) over,
-      atoms-exceed c.args.contexts.now c.args.bridges.now ∙ some_end (λ i. ltb 64 (length (atoms_of (system_of c.args.contexts.now c.args.bridges.now) i))) c.loop-context.context (length c.args.contexts.now) _ (omega arith) c.loop-context.invariant.left)
+    let over : c.loop-context.context ≡ length c.args.contexts.now = omega arith in (
+      c.loop-context.invariant.parts ∙ ap (λ n. map (context_part (system_of c.args.contexts.now c.args.bridges.now)) (range_with_len 0 n)) over,
+      atoms-exceed c.args.contexts.now c.args.bridges.now ∙ some_end (λ i. ltb 64 (length (atoms_of (system_of c.args.contexts.now c.args.bridges.now) i))) c.loop-context.context (length c.args.contexts.now) _ (omega arith) c.loop-context.invariant.left,
+    )

@@ -11,6 +11,6 @@ invariant-loop-context l =
     record {
       parts : map context_part_of l.parts.items ≡ map (context_part (system_of l.contexts l.bridges)) (range_with_len 0 l.context);
       left :
-        some_from (λ i. nat_lt 64 (length (atoms_of (system_of l.contexts l.bridges) i))) l.context (length l.contexts)
-        ≡ some_from (λ i. nat_lt 64 (length (atoms_of (system_of l.contexts l.bridges) i))) 0 (length l.contexts);
+          some_from (λ i. nat_lt 64 (length (atoms_of (system_of l.contexts l.bridges) i))) l.context (length l.contexts)
+          ≡ some_from (λ i. nat_lt 64 (length (atoms_of (system_of l.contexts l.bridges) i))) 0 (length l.contexts);
     }
