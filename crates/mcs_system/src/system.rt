@@ -144,3 +144,134 @@ impl System {
         applicable_among(&self.kept.reads, rules, state)
     }
 }
+
+#[cfg(test)]
+mod tests {
+    use super::*;
+    use crate::fault::Limit;
+    use crate::formula::Formula;
+    use crate::knowledge::{Default, Kb, ProgRule, TheoryItem};
+    use crate::same::same_read;
+    use std::test::Fail;
+
+    fn named(alloc: Global, text: &str) -> Result<Name, Fail> {
+        Ok(Name::read(alloc, text.as_bytes())?.ok_or("no name")?)
+    }
+
+    fn atom(alloc: Global, text: &str) -> Result<Formula, Fail> {
+        Ok(Formula::Atom(named(alloc, text)?))
+    }
+
+    fn read(alloc: Global, context: u32, text: &str) -> Result<Read, Fail> {
+        Ok(Read {
+            context,
+            belief: atom(alloc, text)?,
+        })
+    }
+
+    fn rule(
+        alloc: Global,
+        text: &str,
+        target: u32,
+        head: &str,
+        pos: Vec<Read>,
+        neg: Vec<Read>,
+    ) -> Result<Bridge, Fail> {
+        Ok(Bridge {
+            name: named(alloc, text)?,
+            target,
+            head: atom(alloc, head)?,
+            pos,
+            neg,
+        })
+    }
+
+    fn context(alloc: Global, text: &str, kb: Kb) -> Result<Context, Fail> {
+        Ok(Context {
+            name: named(alloc, text)?,
+            kb,
+        })
+    }
+
+    /// A classical context, a default theory and a program.
+    fn contexts(alloc: Global) -> Result<Vec<Context>, Fail> {
+        let both = Formula::And(
+            Box::new(alloc, atom(alloc, "a")?)?,
+            Box::new(alloc, atom(alloc, "b")?)?,
+        );
+        let default = Default {
+            pre: atom(alloc, "q")?,
+            justs: vec![in alloc; atom(alloc, "r")?]?,
+            conclusion: atom(alloc, "s")?,
+        };
+        let rule = ProgRule {
+            head: vec![in alloc; named(alloc, "x")?]?,
+            pos: vec![in alloc; named(alloc, "y")?]?,
+            neg: vec![in alloc; named(alloc, "z")?]?,
+        };
+        let items = vec![in alloc; TheoryItem::Fact(atom(alloc, "p")?), TheoryItem::Rule(default)]?;
+        Ok(vec![in alloc;
+            context(alloc, "facts", Kb::Classical(vec![in alloc; both]?))?,
+            context(alloc, "theory", Kb::DefaultTheory(items))?,
+            context(alloc, "rules", Kb::Program(vec![in alloc; rule]?))?,
+        ]?)
+    }
+
+    /// Rules by which the three contexts read each other.
+    fn rules(alloc: Global) -> Result<Vec<Bridge>, Fail> {
+        let none = || Vec::new(alloc);
+        let first = vec![in alloc; read(alloc, 2, "x")?, read(alloc, 0, "a")?]?;
+        Ok(vec![in alloc;
+            rule(alloc, "r0", 1, "q", first, vec![in alloc; read(alloc, 2, "w")?]?)?,
+            rule(alloc, "r1", 0, "e", vec![in alloc; read(alloc, 1, "s")?]?, vec![in alloc; read(alloc, 0, "a")?]?)?,
+            rule(alloc, "r2", 2, "y", vec![in alloc; read(alloc, 0, "b")?]?, vec![in alloc; read(alloc, 2, "x")?]?)?,
+            rule(alloc, "r3", 1, "t", none(), none())?,
+        ]?)
+    }
+
+    /// Whether these are the names.
+    fn are_named(names: &[Name], texts: &[&str]) -> bool {
+        names.len() == texts.len()
+            && names
+                .iter()
+                .zip(texts)
+                .all(|(name, text)| name.bytes() == text.as_bytes())
+    }
+
+    #[test]
+    fn tells_of_contexts(rt: HostRuntime) -> Result<(), Fail> {
+        let alloc = rt.alloc();
+        let system = System::build(alloc, contexts(alloc)?, rules(alloc)?)?;
+        assert_eq!(rt; system.contexts().len(), 3);
+        assert_eq!(rt; system.bridges().len(), 4);
+        let variables = system.variables();
+        assert_eq!(rt; variables.len(), 5);
+        for (number, (context, text)) in [(0, "a"), (0, "b"), (1, "s"), (2, "x"), (2, "w")].iter().enumerate() {
+            assert!(rt; same_read(&variables[number], &read(alloc, *context, text)?));
+        }
+        assert!(rt; are_named(system.atoms_of(0), &["a", "b", "e"]));
+        assert!(rt; are_named(system.atoms_of(1), &["p", "q", "r", "s", "t"]));
+        assert!(rt; are_named(system.atoms_of(2), &["x", "y", "z", "w"]));
+        assert!(rt; system.vars_of(0) == Vars::one(0).with(1));
+        assert!(rt; system.vars_of(2) == Vars::one(3).with(4));
+        assert!(rt; system.inputs_of(0) == Vars::one(0).with(2));
+        assert!(rt; system.inputs_of(1) == Vars::one(0).with(3).with(4));
+        assert!(rt; system.rules_of(1) == Active::one(0).with(3));
+        assert!(rt; system.rules_of(2) == Active::one(2));
+        Ok(())
+    }
+
+    #[test]
+    fn tells_applicable_rules(rt: HostRuntime) -> Result<(), Fail> {
+        let alloc = rt.alloc();
+        let system = System::build(alloc, contexts(alloc)?, rules(alloc)?)?;
+        assert_eq!(rt; system.contexts().len(), 3);
+        let state = Vars::one(0).with(3);
+        assert!(rt; system.applicable(1, state) == Active::one(0).with(3));
+        assert!(rt; system.applicable(1, state.with(4)) == Active::one(3));
+        assert!(rt; system.applicable(0, Vars::one(2)) == Active::one(1));
+        assert!(rt; system.applicable(0, state.with(2)) == Active::empty());
+        assert!(rt; system.applicable(2, Vars::one(1)) == Active::one(2));
+        Ok(())
+    }
+}
