@@ -1,16 +1,16 @@
 -- Which rules are applicable, by what is kept of them.
 use Rattle.std.proofs.Common.{◌≡◌, ◌≢◌, ℕ, ◌+◌, ◌<◌, ◌≤◌, zero, suc, Bool, true, false, not, ◌&&◌, ◌||◌, cond, eqb, ltb, List, [], ◌∷◌, ◌++◌, map, filter, length, Option, Some, None, option_map, refl, sym, ap, ◌∙◌, subst, inl, inr, ◌⊎◌, ◌↔◌, arith, IsTrue, true≢false, slice_get}
-use Rattle.std.proofs.lemmas.Bool.{and_parts}
+use Rattle.std.proofs.lemmas.Bool.{and_parts, cases_lt}
 use Rattle.std.proofs.lemmas.Bool.Decides.{nat_tests}
 use Rattle.std.proofs.lemmas.List.{length-map}
 use Rattle.std.proofs.lemmas.Option.{slice_get-map}
 use Rattle.std.specs.List.{flat_map, range_with_len, list_all, list_any}
-use Rattle.mcs_sets.specs.Sets.{has, common, minus, such_that, Within, Meets}
-use Rattle.mcs_sets.proofs.SetLemmas.{same_set, has-such_that, has-common, has-minus, has-empty}
+use Rattle.mcs_sets.specs.Sets.{has, single, common, minus, such_that, Within, Meets}
+use Rattle.mcs_sets.proofs.SetLemmas.{same_set, has-such_that, has-common, has-minus, has-empty, has-single, Within-le}
 use Rattle.mcs_base.specs.Listings.{IsAmong}
 use Rattle.mcs_system.specs.Plain.{Read, Bridge, System}
 use Rattle.mcs_system.specs.Systems.{same_read, occurrences, firsts, context_variables, variables, IsVariable, believed_at, applies_at, is_applicable, applicable}
-use Rattle.mcs_system.specs.Imports.{rules_into}
+use Rattle.mcs_system.specs.Imports.{goes_into, rules_into}
 use Rattle.mcs_system.specs.Faults.{IsValid}
 use Rattle.mcs_system.specs.Parts.{RulePart, rule_part, variables_read, is_read_among, applies_by}
 use Rattle.mcs_system.proofs.Members.{among_left, among_right, among_either, among_filter, filter_among, get_among, among_get, get-lt, get_below, flat_map_among, range_among, any_get, among_any}
@@ -215,3 +215,65 @@ applicable_kept m valid rs is i σ = same_set _ _ (λ k.
     each : (k : ℕ) (o : Option Bridge) → slice_get m.bridges k ≡ o → (ltb k (length rs) && (has (rules_into m i) k && applies_by σ (slice_get rs k))) ≡ ((ltb k (length m.bridges) && is_applicable m σ (slice_get m.bridges k)) && has (rules_into m i) k)
     each k None at = rw (kept k None at, at, long) (turn (ltb k (length m.bridges)) (has (rules_into m i) k) false)
     each k (Some b) at = rw (kept k (Some b) at, applies_same m valid σ k b at, at, long) (turn (ltb k (length m.bridges)) (has (rules_into m i) k) (applies_at m σ b))
+
+-- ---- the walk over the rules of a context
+pub less_without : (s k : ℕ) → has s k ≡ true → minus s (single k) < s
+less_without s k is = elim (cases_lt (minus s (single k)) s) [
+  | inl less ↦ less
+  | inr past ↦ absurd (let same : minus s (single k) ≡ s = omega (arith, Within-le (minus s (single k)) s (λ j inside. (and_parts (has s j) (not (has (single k) j)) (sym (has-minus s (single k) j) ∙ inside)).0)) in
+      let gone : has (minus s (single k)) k ≡ (has s k && not (eqb k k)) = has-minus s (single k) k ∙ rw (has-single k k) refl in
+      let there : has (minus s (single k)) k ≡ true = ap (λ t. has t k) same ∙ is in grind (arith, nat_tests))
+]
+
+has-without : (s k j : ℕ) → has (minus s (single k)) j ≡ (has s j && not (eqb j k))
+has-without s k j = has-minus s (single k) j ∙ rw (has-single k j) refl
+
+pub within_without : (s k j : ℕ) → has (minus s (single k)) j ≡ true → has s j ≡ true
+within_without s k j inside = (and_parts (has s j) (not (eqb j k)) (sym (has-without s k j) ∙ inside)).0
+
+same_number : (j k : ℕ) → eqb j k ≡ true → j ≡ k
+same_number j k e = grind (arith, nat_tests)
+
+-- what was found of the rules, where the rest is still to be tested
+abbrev pub IsSifted : ℕ → (ℕ → Bool) → ℕ → ℕ → Type 0
+IsSifted rules test found rest = (j : ℕ) → has found j ≡ (has rules j && (has rest j || test j))
+
+module _ (rules left k : ℕ) (test : ℕ → Bool) where
+  pub sifted_keep : (found : ℕ) → test k ≡ true → IsSifted rules test found left → IsSifted rules test found (minus left (single k))
+  sifted_keep found passes sifted j = sifted j ∙ sym (rw (has-without left k j) (at (has rules j) (has left j) (test j) (eqb j k) (λ e. ap test (same_number j k e) ∙ passes)))
+    where
+      at : (r l t e : Bool) → (e ≡ true → t ≡ true) → (r && ((l && not e) || t)) ≡ (r && (l || t))
+      at r true t true is = ap (λ x. r && x) (is refl)
+      at r false t true is = refl
+      at r true t false is = refl
+      at r false t false is = refl
+
+  pub sifted_drop : (found : ℕ) → test k ≡ false → IsSifted rules test found left → IsSifted rules test (minus found (single k)) (minus left (single k))
+  sifted_drop found fails sifted j = has-without found k j ∙ rw (sifted j, has-without left k j) (at (has rules j) (has left j) (test j) (eqb j k) (λ e. ap test (same_number j k e) ∙ fails))
+    where
+      at : (r l t e : Bool) → (e ≡ true → t ≡ false) → ((r && (l || t)) && not e) ≡ (r && ((l && not e) || t))
+      at true true t true is = sym (is refl)
+      at true false true true is = sym (is refl)
+      at true false false true is = refl
+      at false l t true is = refl
+      at true true t false is = refl
+      at true false true false is = refl
+      at true false false false is = refl
+      at false l t false is = refl
+
+pub sifted_end : (rules : ℕ) (test : ℕ → Bool) (found n : ℕ) → ((j : ℕ) → has rules j ≡ true → j < n) → IsSifted rules test found 0 → found ≡ such_that n (λ j. has rules j && test j)
+sifted_end rules test found n numbered sifted = same_set _ _ (λ j. sifted j ∙ rw (has-empty j) (at j (has rules j) refl) ∙ sym (has-such_that n (λ j. has rules j && test j) j))
+  where
+    at : (j : ℕ) (r : Bool) → has rules j ≡ r → (r && (false || test j)) ≡ (ltb j n && (has rules j && test j))
+    at j true e = let less : ltb j n ≡ true = (let small = numbered j e in grind (arith, nat_tests)) in rw (less, e) refl
+    at j false e = rw e (none (ltb j n))
+      where
+        none : (u : Bool) → false ≡ (u && false)
+        none true = refl
+        none false = refl
+
+pub rules_numbered : (m : System) (i k : ℕ) → has (rules_into m i) k ≡ true → k < length m.bridges
+unfolding rules_into
+rules_numbered m i k inside =
+    let known : ltb k (length m.bridges) ≡ true = (and_parts (ltb k (length m.bridges)) (goes_into i (slice_get m.bridges k)) (sym (has-such_that (length m.bridges) (λ j. goes_into i (slice_get m.bridges j)) k) ∙ inside)).0 in
+    grind (arith, nat_tests)

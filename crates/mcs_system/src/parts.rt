@@ -1,6 +1,6 @@
 //! What a system keeps of its contexts and rules, so that no later call reads formulas again.
 
-ghost use Rattle.std.specs.Prelude.{◌≡◌, ◌≤◌, ◌<◌, ◌&&◌, ℕ, List, map, length, slice_get, true, false, Some, IfOk, MatchOption};
+ghost use Rattle.std.specs.Prelude.{◌≡◌, ◌≤◌, ◌<◌, ◌&&◌, ℕ, List, map, length, slice_get, true, false, Some, IsTrue, IfOk, MatchOption};
 ghost use Rattle.std.specs.List.{range_with_len};
 ghost use Rattle.mcs_system.specs.declared.knowledge.Context.{Context};
 ghost use Rattle.mcs_system.specs.declared.fault.Limit.TheVariants.{InputsPerContext, AtomsPerContext};
@@ -210,17 +210,20 @@ fn applies(reads: &RuleReads, state: Vars) -> bool
     reads.positive.within(state) && !reads.negative.meets(state)
 }
 
-/// Those of the rules that apply in the state.
-#[tactic(auto, using(crate::proofs::SeenLemmas::loops))]
+/// Those of the rules that apply in the state. Each has its number among the reads.
 pub(crate) fn applicable_among(reads: &[RuleReads], rules: Active, state: Vars) -> Active
-    requires { length reads.now ≤ 64 }
-    ensures { result ≡ such_that (length reads.now) (λ k. has rules k && applies_by state (slice_get (map rule_part_of reads.now) k)) }
+    requires few { length reads.now ≤ 64 }
+    requires numbered { (k : ℕ) → IsTrue (has rules k) → k < length reads.now }
+    ensures { result ≡ such_that (length reads.now)
+        (λ k. has rules k && applies_by state (slice_get (map rule_part_of reads.now) k)) }
 {
-    let mut applicable = Active::empty();
-    for (k, own) in reads.iter().enumerate() {
-        if rules.has(k as u32) && applies(own, state) {
-            applicable = applicable.with(k as u32);
+    let mut applicable = rules;
+    let mut left = rules;
+    while let Some(k) = left.first() {
+        if !applies(&reads[k as usize], state) {
+            applicable = applicable.without(k);
         }
+        left = left.without(k);
     }
     applicable
 }

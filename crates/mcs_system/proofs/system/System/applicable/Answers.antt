@@ -7,7 +7,7 @@ use Rattle.mcs_system.specs.Faults.{IsValid}
 use Rattle.mcs_system.specs.Imports.{rules_into}
 use Rattle.mcs_system.specs.Parts.{rule_part, rule_part_of, applies_by}
 use Rattle.mcs_system.specs.Systems.{variables, applicable}
-use Rattle.mcs_system.proofs.ApplicableLemmas.{applicable_kept}
+use Rattle.mcs_system.proofs.ApplicableLemmas.{applicable_kept, rules_numbered}
 use Rattle.mcs_system.proofs.ValidLemmas.{few_bridges}
 use Rattle.mcs_system.proofs.system.System.applicable.Goals as goal
 
@@ -18,10 +18,18 @@ by_kept m valid reads are rules i state e =
     ∙ ap (λ n. such_that n (λ k. has (rules_into m i) k && applies_by state (slice_get (map rule_part_of reads) k))) (sym (length-map reads rule_part_of))
     ∙ applicable_kept m valid (map rule_part_of reads) are i state
 
-pub applicable_among-requires : goal.applicable_among-requires
-applicable_among-requires c =
+long : (m : System) (reads : List code.RuleReads) → map rule_part_of reads ≡ map (rule_part (variables m)) m.bridges → length reads ≡ length m.bridges
+long m reads are = sym (length-map reads rule_part_of) ∙ ap length are ∙ length-map m.bridges (rule_part (variables m))
+
+pub applicable_among-requires-clause-few : goal.applicable_among-requires-clause-few
+applicable_among-requires-clause-few c =
     let are = ap (map rule_part_of) c.deref.ensures.value ∙ c.self.invariant.rules_are ∙ ap (λ (m : System). map (rule_part (variables m)) m.bridges) c.self.view_is in
-    omega (arith, ap length are, length-map c.deref.result.now rule_part_of, length-map c.args.self.now.bridges (rule_part (variables c.args.self.now)), few_bridges c.args.self.now c.rules_of-rules.ensures.valid)
+    omega (arith, long c.args.self.now c.deref.result.now are, few_bridges c.args.self.now c.rules_of-rules.ensures.valid)
+
+pub applicable_among-requires-clause-numbered : goal.applicable_among-requires-clause-numbered
+applicable_among-requires-clause-numbered c =
+    let are = ap (map rule_part_of) c.deref.ensures.value ∙ c.self.invariant.rules_are ∙ ap (λ (m : System). map (rule_part (variables m)) m.bridges) c.self.view_is in
+    λ k inside. omega (arith, long c.args.self.now c.deref.result.now are, rules_numbered c.args.self.now c.args.context k (rw c.rules_of-rules.ensures.rules at inside))
 
 pub returns-clause-applicable : goal.returns-clause-applicable
 returns-clause-applicable c =
