@@ -1,6 +1,22 @@
--- There is at most one listing.
-use Rattle.std.proofs.Common.{◌≡◌, ◌<◌, ℕ, length, get_or, arith, List, [], ◌∷◌, refl, sym, ap, ◌∙◌, subst, inl, inr, ◌⊎◌}
-use Rattle.std.specs.List.{AllByRecursion}
+-- What holds of listings: there is at most one, sorting makes one, and one exists of each test of numbers.
+use Rattle.std.proofs.Common.{◌≡◌, ◌+◌, ◌^◌, ◌<◌, ℕ, zero, suc, Bool, true, false, IsTrue, eqb, length, get_or, arith, List, [], ◌∷◌, ◌++◌, map, filter, cond, refl, sym, ap, ◌∙◌, subst, inl, inr, ◌⊎◌, ◌↔◌, true≢false}
+use Rattle.std.proofs.lemmas.Bool.Decides.{nat_tests}
+use Rattle.std.proofs.lemmas.Cmp.{ranked, nat_cmp_total, eq_by_cmp_equiv}
+use Rattle.std.proofs.lemmas.List.Filters.{dedup_is}
+use Rattle.std.proofs.lemmas.List.Kept.{Contains-dedup, Contains-from_dedup, IsStrictlySortedBy-dedup}
+use Rattle.std.proofs.lemmas.List.Sorted.{Contains-permutation, IsPermutation-sym}
+use Rattle.std.specs.declared.cmp.Ordering.{Ordering}
+use Rattle.std.specs.declared.cmp.Ordering.TheVariants.{Less, Equal, Greater}
+use Rattle.std.specs.Cmp.{IsTotalOrder, IsEquivalence, Equal-is}
+use Rattle.std.specs.List.{AllByRecursion, Contains, dedup}
+use Rattle.std.specs.List.Retain.{IsFiltered, DiffersFromLast}
+use Rattle.std.specs.List.Sorted.{IsPermutation, IsSorted, IsStrictlySortedBy}
+use Rattle.std.specs.Ordering.{MatchOrdering, nat_cmp, eq_by_cmp}
+use Rattle.mcs_sets.specs.Sets.{has, members, members_from}
+use Rattle.mcs_sets.specs.Orders.{StateBefore, PairBefore}
+use Rattle.mcs_sets.proofs.SetLemmas.{members_from-each, members-contains}
+use Rattle.mcs_base.specs.StateOrder.{state_cmp, state_cmp_total, less_is, equal_is, StateBefore-transitive, StateBefore-total}
+use Rattle.mcs_base.specs.PairOrder.{pair_cmp, pair_cmp_total, pair_less_is, pair_equal_is, PairBefore-transitive, PairBefore-total}
 use Rattle.mcs_base.specs.Listings.{IsAscending, IsAmong, IsListing}
 
 pub all_among : {A : Type 0} (P : A → Type 0) (xs : List A) (x : A) → AllByRecursion P xs → IsAmong x xs → P x
@@ -45,3 +61,268 @@ first_listed P before (y ∷ ys) d some l x p = at ((l.exactly x).1 p) l.ascendi
     at : IsAmong x (y ∷ ys) → IsAscending before (y ∷ ys) → (y ≡ x) ⊎ before y x
     at (inl e) up = inl (sym e)
     at (inr h) up = inr (all_among (before y) ys x up.0 h)
+
+-- ---- what is among a list
+pub all_from_among : {A : Type 0} (P : A → Type 0) (xs : List A) → ((x : A) → IsAmong x xs → P x) → AllByRecursion P xs
+all_from_among P [] each = tt
+all_from_among P (x ∷ xs) each = (each x (inl refl), all_from_among P xs (λ y among. each y (inr among)))
+
+pub among_from_contains : {A : Type 0} (x : A) (xs : List A) → Contains xs x → IsAmong x xs
+among_from_contains x [] (k, less, is) = absurd (omega arith)
+among_from_contains x (y ∷ ys) (zero, less, is) = inl (sym is)
+among_from_contains x (y ∷ ys) (suc k, less, is) = inr (among_from_contains x ys (k, omega arith, is))
+
+pub contains_from_among : {A : Type 0} (x : A) (xs : List A) → IsAmong x xs → Contains xs x
+contains_from_among x [] among = absurd among
+contains_from_among x (y ∷ ys) (inl e) = (0, omega arith, sym e)
+contains_from_among x (y ∷ ys) (inr among) = let (k, less, is) = contains_from_among x ys among in (suc k, omega arith, is)
+
+-- ---- sorting makes a listing
+-- an order of std that has the same sense as `before`
+pub record Sorts {A : Type 0} (before : A → A → Type 0) (cmp : A → A → Ordering) : Type 0 where
+  pub total : IsTotalOrder cmp
+  pub less : (x y : A) → cmp x y ≡ Less → before x y
+  pub equal : (x y : A) → cmp x y ≡ Equal → x ≡ y
+
+module _ {A : Type 0} (before : A → A → Type 0) (cmp : A → A → Ordering) (sorts : Sorts before cmp) where
+  ascending : (xs : List A) → IsStrictlySortedBy cmp xs → IsAscending before xs
+  unfolding IsStrictlySortedBy
+  ascending [] up = tt
+  ascending (x ∷ xs) up = (all_from_among (before x) xs (λ y among. sorts.less x y (all_among (λ y. cmp x y ≡ Less) xs y up.0 among)), ascending xs up.1)
+
+  same_values : (same : A → A → Bool) → ((x y : A) → same x y ≡ eq_by_cmp cmp x y) → IsEquivalence same
+  same_values same ties =
+      let equal = eq_by_cmp_equiv sorts.total in
+      record {
+        refl = λ x. ties x x ∙ equal.refl x;
+        symm = λ x y. ties x y ∙ equal.symm x y ∙ sym (ties y x);
+        congr = λ x y z e. ties x z ∙ equal.congr x y z (sym (ties x y) ∙ e) ∙ sym (ties y z);
+      }
+
+  -- what `sort_unstable` and then `dedup` leave of a list is the listing of its members
+  pub listing_of_sorted : (same : A → A → Bool) → ((x y : A) → same x y ≡ eq_by_cmp cmp x y) → (xs ys zs : List A) → IsPermutation xs ys → IsSorted cmp ys → IsFiltered (DiffersFromLast same) [] ys zs → IsListing (λ x. IsAmong x xs) before zs
+  listing_of_sorted same ties xs ys zs moved up kept =
+      let is : zs ≡ dedup same ys = dedup_is same ys zs kept in
+      let values : (x y : A) → same x y ≡ true → x ≡ y = λ x y e. sorts.equal x y ((Equal-is (cmp x y)).0 (sym (ties x y) ∙ e)) in
+      rw is (record {
+        exactly = λ x. (
+          λ among. among_from_contains x xs (Contains-permutation ys xs x (IsPermutation-sym xs ys moved) (Contains-from_dedup same ys x (contains_from_among x _ among))),
+          λ among. among_from_contains x _ (Contains-dedup (same_values same ties) values ys x (Contains-permutation xs ys x moved (contains_from_among x xs among))),
+        );
+        ascending = ascending _ (IsStrictlySortedBy-dedup sorts.total ties ys up);
+      })
+
+pub states_sort : Sorts StateBefore state_cmp
+states_sort = record { total = state_cmp_total; less = less_is; equal = equal_is }
+
+pub pairs_sort : Sorts PairBefore pair_cmp
+pairs_sort = record { total = pair_cmp_total; less = pair_less_is; equal = pair_equal_is }
+
+pub numbers_sort : Sorts (λ (x y : ℕ). x < y) nat_cmp
+numbers_sort = record { total = nat_cmp_total; less = λ x y. less x y (nat_cmp x y) (ranked x y _ refl); equal = λ x y. equal x y (nat_cmp x y) (ranked x y _ refl) }
+  where
+    less : (x y : ℕ) (o : Ordering) → MatchOrdering o (x < y) (x ≡ y) (y < x) → o ≡ Less → x < y
+    less x y Less m e = m
+    less x y Equal m e = absurd (cc)
+    less x y Greater m e = absurd (cc)
+
+    equal : (x y : ℕ) (o : Ordering) → MatchOrdering o (x < y) (x ≡ y) (y < x) → o ≡ Equal → x ≡ y
+    equal x y Less m e = absurd (cc)
+    equal x y Equal m e = m
+    equal x y Greater m e = absurd (cc)
+
+pub number_tie : (x y : ℕ) → eqb x y ≡ eq_by_cmp nat_cmp x y
+number_tie x y = grind (arith, nat_tests)
+
+-- ---- new listings from others
+module _ {A : Type 0} (before : A → A → Type 0) where
+  pub IsListing-same : (P Q : A → Type 0) (xs : List A) → ((x : A) → P x ↔ Q x) → IsListing P before xs → IsListing Q before xs
+  IsListing-same P Q xs same l = record {
+    exactly = λ x. (λ among. (same x).0 ((l.exactly x).0 among), λ q. (l.exactly x).1 ((same x).1 q));
+    ascending = l.ascending;
+  }
+
+  pub IsListing-nil : (P : A → Type 0) → ((x : A) → ¬ P x) → IsListing P before []
+  IsListing-nil P none = record { exactly = λ x. (λ among. absurd among, λ p. none x p); ascending = tt }
+
+  pub IsListing-cons : (P : A → Type 0) (x : A) (xs : List A) → ((y : A) → P y → before x y) → IsListing P before xs → IsListing (λ y. (y ≡ x) ⊎ P y) before (x ∷ xs)
+  IsListing-cons P x xs first l = record {
+    exactly = λ y. (
+      λ among. elim among [ inl e ↦ inl e | inr h ↦ inr ((l.exactly y).0 h) ],
+      λ either. elim either [ inl e ↦ inl e | inr p ↦ inr ((l.exactly y).1 p) ],
+    );
+    ascending = (all_from_among (before x) xs (λ y among. first y ((l.exactly y).0 among)), l.ascending);
+  }
+
+  all_append : (P : A → Type 0) (xs ys : List A) → AllByRecursion P xs → AllByRecursion P ys → AllByRecursion P (xs ++ ys)
+  all_append P [] ys all all' = all'
+  all_append P (x ∷ xs) ys all all' = (all.0, all_append P xs ys all.1 all')
+
+  ascending-append : (xs ys : List A) → ((x y : A) → IsAmong x xs → IsAmong y ys → before x y) → IsAscending before xs → IsAscending before ys → IsAscending before (xs ++ ys)
+  ascending-append [] ys apart up up' = up'
+  ascending-append (x ∷ xs) ys apart up up' = (
+    all_append (before x) xs ys up.0 (all_from_among (before x) ys (λ y among. apart x y (inl refl) among)),
+    ascending-append xs ys (λ z y there among. apart z y (inr there) among) up.1 up',
+  )
+
+  among_in_both : (x : A) (xs ys : List A) → IsAmong x (xs ++ ys) ↔ (IsAmong x xs ⊎ IsAmong x ys)
+  among_in_both x [] ys = (λ h. inr h, λ h. elim h [ inl h' ↦ absurd h' | inr h' ↦ h' ])
+  among_in_both x (z ∷ zs) ys = let rest = among_in_both x zs ys in (
+    λ h. elim h [ inl e ↦ inl (inl e) | inr h' ↦ elim (rest.0 h') [ inl a ↦ inl (inr a) | inr b ↦ inr b ] ],
+    λ h. elim h [ inl h' ↦ elim h' [ inl e ↦ inl e | inr a ↦ inr (rest.1 (inl a)) ] | inr b ↦ inr (rest.1 (inr b)) ],
+  )
+
+  -- each value of the first comes before each of the second
+  pub IsListing-append : (P Q : A → Type 0) (xs ys : List A) → ((x y : A) → P x → Q y → before x y) → IsListing P before xs → IsListing Q before ys → IsListing (λ x. P x ⊎ Q x) before (xs ++ ys)
+  IsListing-append P Q xs ys apart l l' = record {
+    exactly = λ x. (
+      λ among. elim ((among_in_both x xs ys).0 among) [ inl a ↦ inl ((l.exactly x).0 a) | inr b ↦ inr ((l'.exactly x).0 b) ],
+      λ either. (among_in_both x xs ys).1 (elim either [ inl p ↦ inl ((l.exactly x).1 p) | inr q ↦ inr ((l'.exactly x).1 q) ]),
+    );
+    ascending = ascending-append xs ys (λ x y a b. apart x y ((l.exactly x).0 a) ((l'.exactly y).0 b)) l.ascending l'.ascending;
+  }
+
+  -- one more at the end
+  pub IsListing-push : (P : A → Type 0) (xs : List A) (x : A) → ((y : A) → P y → before y x) → IsListing P before xs → IsListing (λ y. P y ⊎ (y ≡ x)) before (xs ++ x ∷ [])
+  IsListing-push P xs x last l = IsListing-append P (λ y. y ≡ x) xs (x ∷ []) (λ y z p e. subst (before y) (sym e) (last y p)) l
+      (record { exactly = λ y. (λ among. elim among [ inl e ↦ e | inr none ↦ absurd none ], λ e. inl e); ascending = (tt, tt) })
+
+  among_filter : (p : A → Bool) (x : A) (xs : List A) → IsAmong x (filter p xs) ↔ (IsAmong x xs × IsTrue (p x))
+  among_filter p x [] = (λ h. absurd h, λ h. absurd h.0)
+  among_filter p x (z ∷ zs) = at (p z) refl (among_filter p x zs)
+    where
+      at : (b : Bool) → p z ≡ b → IsAmong x (filter p zs) ↔ (IsAmong x zs × IsTrue (p x)) → IsAmong x (cond b (z ∷ filter p zs) (filter p zs)) ↔ (((x ≡ z) ⊎ IsAmong x zs) × IsTrue (p x))
+      at true is rest = (
+        λ h. elim h [ inl e ↦ (inl e, ap p e ∙ is) | inr h' ↦ (inr (rest.0 h').0, (rest.0 h').1) ],
+        λ h. elim h.0 [ inl e ↦ inl e | inr h' ↦ inr (rest.1 (h', h.1)) ],
+      )
+      at false is rest = (
+        λ h. (inr (rest.0 h).0, (rest.0 h).1),
+        λ h. elim h.0 [ inl e ↦ absurd (true≢false (sym h.1 ∙ ap p e ∙ is)) | inr h' ↦ rest.1 (h', h.1) ],
+      )
+
+  ascending-filter : (p : A → Bool) (xs : List A) → IsAscending before xs → IsAscending before (filter p xs)
+  ascending-filter p [] up = tt
+  ascending-filter p (x ∷ xs) up = at (p x) (ascending-filter p xs up.1)
+    where
+      at : (b : Bool) → IsAscending before (filter p xs) → IsAscending before (cond b (x ∷ filter p xs) (filter p xs))
+      at true rest = (all_from_among (before x) (filter p xs) (λ y among. all_among (before x) xs y up.0 ((among_filter p y xs).0 among).0), rest)
+      at false rest = rest
+
+  -- those that pass a test
+  pub IsListing-filter : (P : A → Type 0) (p : A → Bool) (xs : List A) → IsListing P before xs → IsListing (λ x. P x × IsTrue (p x)) before (filter p xs)
+  IsListing-filter P p xs l = record {
+    exactly = λ x. (
+      λ among. let both = (among_filter p x xs).0 among in ((l.exactly x).0 both.0, both.1),
+      λ both. (among_filter p x xs).1 ((l.exactly x).1 both.0, both.1),
+    );
+    ascending = ascending-filter p xs l.ascending;
+  }
+
+module _ {A B : Type 0} (f : A → B) where
+  among_map : (y : B) (xs : List A) → IsAmong y (map f xs) → (x : A) × IsAmong x xs × (y ≡ f x)
+  among_map y [] h = absurd h
+  among_map y (x ∷ xs) (inl e) = (x, inl refl, e)
+  among_map y (x ∷ xs) (inr h) = let (z, among, e) = among_map y xs h in (z, inr among, e)
+
+  pub map_among : (x : A) (xs : List A) → IsAmong x xs → IsAmong (f x) (map f xs)
+  map_among x [] h = absurd h
+  map_among x (z ∷ zs) (inl e) = inl (ap f e)
+  map_among x (z ∷ zs) (inr h) = inr (map_among x zs h)
+
+  ascending-map : (before : A → A → Type 0) (before' : B → B → Type 0) → ((x y : A) → before x y → before' (f x) (f y)) → (xs : List A) → IsAscending before xs → IsAscending before' (map f xs)
+  ascending-map before before' keeps [] up = tt
+  ascending-map before before' keeps (x ∷ xs) up = (
+    all_from_among (before' (f x)) (map f xs) (λ y among. let (z, there, e) = among_map y xs among in subst (before' (f x)) (sym e) (keeps x z (all_among (before x) xs z up.0 there))),
+    ascending-map before before' keeps xs up.1,
+  )
+
+  -- what a function that keeps the order makes of a listing
+  pub IsListing-map : (before : A → A → Type 0) (before' : B → B → Type 0) → ((x y : A) → before x y → before' (f x) (f y)) → (P : A → Type 0) (xs : List A) → IsListing P before xs → IsListing (λ y. (x : A) × P x × (y ≡ f x)) before' (map f xs)
+  IsListing-map before before' keeps P xs l = record {
+    exactly = λ y. (
+      λ among. let (x, there, e) = among_map y xs among in (x, (l.exactly x).0 there, e),
+      λ (x, p, e). subst (λ (z : B). IsAmong z (map f xs)) (sym e) (map_among x xs ((l.exactly x).1 p)),
+    );
+    ascending = ascending-map before before' keeps xs l.ascending;
+  }
+
+-- ---- there is a listing of the numbers below a bound that pass a test
+module _ {A : Type 0} (before : A → A → Type 0) (transitive : (x y z : A) → before x y → before y z → before x z) (total : (x y : A) → (x ≡ y) ⊎ (before x y ⊎ before y x)) where
+  -- an ascending list with one more value
+  pub with_one : (x : A) (xs : List A) → IsAscending before xs → (ys : List A) × IsAscending before ys × ((z : A) → IsAmong z ys ↔ ((z ≡ x) ⊎ IsAmong z xs))
+  with_one x [] up = (x ∷ [], (tt, tt), λ z. (λ h. h, λ h. h))
+  with_one x (y ∷ ys) up = elim (total x y) [
+    | inl same ↦ (y ∷ ys, up, λ z. (λ h. inr h, λ h. elim h [ inl e ↦ inl (e ∙ same) | inr h' ↦ h' ]))
+    | inr (inl first) ↦ (x ∷ (y ∷ ys), ((first, all_from_among (before x) ys (λ z among. transitive x y z first (all_among (before y) ys z up.0 among))), up), λ z. (λ h. h, λ h. h))
+    | inr (inr later) ↦ let (zs, up', is) = with_one x ys up.1 in (
+      y ∷ zs,
+      (all_from_among (before y) zs (λ z among. elim ((is z).0 among) [ inl e ↦ subst (before y) (sym e) later | inr h ↦ all_among (before y) ys z up.0 h ]), up'),
+      λ z. (
+        λ h. elim h [ inl e ↦ inr (inl e) | inr h' ↦ elim ((is z).0 h') [ inl e ↦ inl e | inr h'' ↦ inr (inr h'') ] ],
+        λ h. elim h [ inl e ↦ inr ((is z).1 (inl e)) | inr h' ↦ elim h' [ inl e ↦ inl e | inr h'' ↦ inr ((is z).1 (inr h'')) ] ],
+      ),
+    )
+  ]
+
+  pub listing_with_one : (P : A → Type 0) (x : A) (xs : List A) → IsListing P before xs → (ys : List A) × IsListing (λ z. (z ≡ x) ⊎ P z) before ys
+  listing_with_one P x xs l = let (ys, up, is) = with_one x xs l.ascending in (
+    ys,
+    record {
+      exactly = λ z. (
+        λ among. elim ((is z).0 among) [ inl e ↦ inl e | inr h ↦ inr ((l.exactly z).0 h) ],
+        λ either. (is z).1 (elim either [ inl e ↦ inl e | inr p ↦ inr ((l.exactly z).1 p) ]),
+      );
+      ascending = up;
+    },
+  )
+
+pub listing_below : (before : ℕ → ℕ → Type 0) → ((x y z : ℕ) → before x y → before y z → before x z) → ((x y : ℕ) → (x ≡ y) ⊎ (before x y ⊎ before y x)) → (p : ℕ → Bool) (bound : ℕ) → (xs : List ℕ) × IsListing (λ x. (x < bound) × IsTrue (p x)) before xs
+listing_below before transitive total p zero = ([], IsListing-nil before _ (λ x h. absurd (omega (arith, h.0))))
+listing_below before transitive total p (suc n) = let (xs, l) = listing_below before transitive total p n in at (p n) refl xs l
+  where
+    last : (x : ℕ) (b : Bool) → eqb x n ≡ b → x < suc n → (x ≡ n) ⊎ (x < n)
+    last x true e less = inl (grind (arith, nat_tests))
+    last x false e less = inr (grind (arith, nat_tests))
+
+    at : (b : Bool) → p n ≡ b → (xs : List ℕ) → IsListing (λ x. (x < n) × IsTrue (p x)) before xs → (ys : List ℕ) × IsListing (λ x. (x < suc n) × IsTrue (p x)) before ys
+    at true is xs l = let (ys, l') = listing_with_one before transitive total _ n xs l in (
+      ys,
+      IsListing-same before _ _ ys (λ x. (
+        λ h. elim h [ inl e ↦ (omega arith, ap p e ∙ is) | inr h' ↦ (omega (arith, h'.0), h'.1) ],
+        λ h. elim (last x (eqb x n) refl h.0) [ inl e ↦ inl e | inr less ↦ inr (less, h.1) ],
+      )) l',
+    )
+    at false is xs l = (
+      xs,
+      IsListing-same before _ _ xs (λ x. (
+        λ h. (omega (arith, h.0), h.1),
+        λ h. elim (last x (eqb x n) refl h.0) [ inl e ↦ absurd (true≢false (sym h.1 ∙ ap p e ∙ is)) | inr less ↦ (less, h.1) ],
+      )) l,
+    )
+
+pub states_of_test : (n : ℕ) (p : ℕ → Bool) → (xs : List ℕ) × IsListing (λ s. (s < 2 ^ n) × IsTrue (p s)) StateBefore xs
+states_of_test n p = listing_below StateBefore StateBefore-transitive StateBefore-total p (2 ^ n)
+
+pub pairs_of_test : (n : ℕ) (p : ℕ → Bool) → (xs : List ℕ) × IsListing (λ s. (s < 2 ^ n) × IsTrue (p s)) PairBefore xs
+pairs_of_test n p = listing_below PairBefore PairBefore-transitive PairBefore-total p (2 ^ n)
+
+-- ---- the members of a set are a listing
+members_from-ascending : (w i s : ℕ) → IsAscending (λ (a b : ℕ). a < b) (members_from i w s)
+unfolding members_from
+members_from-ascending zero i s = tt
+members_from-ascending (suc w) i s = at (has s i) (members_from-ascending w (i + 1) s)
+  where
+    at : (b : Bool) → IsAscending (λ (x y : ℕ). x < y) (members_from (i + 1) w s) → IsAscending (λ (x y : ℕ). x < y) (cond b (i ∷ members_from (i + 1) w s) (members_from (i + 1) w s))
+    at true rest = (members_from-each (λ k. i < k) w (i + 1) s (λ k from is. omega arith), rest)
+    at false rest = rest
+
+pub members_listing : (s : ℕ) → IsListing (λ k. IsTrue (has s k)) (λ a b. a < b) (members s)
+unfolding members
+members_listing s = record {
+  exactly = λ k. (
+    λ among. (members-contains s k).0 (contains_from_among k (members s) among),
+    λ is. among_from_contains k (members s) ((members-contains s k).1 is),
+  );
+  ascending = members_from-ascending s 0 s;
+}

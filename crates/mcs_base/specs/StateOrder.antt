@@ -1,12 +1,12 @@
 -- The order of states as an order of std.
-use Rattle.std.specs.Prelude.{◌≡◌, ℕ, ◌+◌, ◌^◌, ◌<◌, ◌≤◌, Bool, true, false, cond, IsTrue, nat_eq, ◌↔◌}
+use Rattle.std.specs.Prelude.{◌≡◌, ℕ, ◌+◌, ◌<◌, ◌≤◌, Bool, true, false, nat_eq}
 use Rattle.std.proofs.Common.{zero, suc, refl, sym, ap, ◌∙◌, subst, inl, inr, ◌⊎◌, arith, true≢false, add_comm}
 use Rattle.std.proofs.lemmas.Bool.{cases_lt}
 use Rattle.std.proofs.lemmas.Bool.Decides.{nat_tests}
 use Rattle.std.specs.declared.cmp.Ordering.{Ordering}
 use Rattle.std.specs.declared.cmp.Ordering.TheVariants.{Less, Equal, Greater}
-use Rattle.std.specs.Ordering.{ordering_reverse, eq_by_cmp, is_eq, as_partial_cmp}
-use Rattle.std.specs.Cmp.{IsTotalOrder, IsEquivalence, IsPartialEquivalence, IsPartialOrder, Equal-is, tied_itself, both_ways, equiv, po}
+use Rattle.std.specs.Ordering.{ordering_reverse, eq_by_cmp, as_partial_cmp}
+use Rattle.std.specs.Cmp.{IsTotalOrder, IsPartialOrder, Equal-is, tied_itself, both_ways, po}
 use Rattle.mcs_sets.specs.Sets.{has}
 use Rattle.mcs_sets.specs.Orders.{StateBefore}
 use Rattle.mcs_sets.proofs.SetLemmas.{before_total, below_power, members_below, StateBefore-asymmetric, not_before_itself}
@@ -108,23 +108,16 @@ state_cmp_total = record {
   congr = λ a b c h. ap (λ x. compare_from (x + c) 0 x c) (equal_is a b h);
 }
 
-same_tie : (a b : ℕ) → eq_by_cmp state_cmp a b ≡ true → a ≡ b
-same_tie a b e = equal_is a b ((Equal-is (state_cmp a b)).0 e)
-
 tie_itself : (a : ℕ) → eq_by_cmp state_cmp a a ≡ true
 tie_itself a = (Equal-is (state_cmp a a)).1 (tied_itself state_cmp_total a)
 
-pub state_eq_laws : IsPartialEquivalence (eq_by_cmp state_cmp)
-state_eq_laws = record {
-  symm = λ a b. both_ways _ _ (λ e. subst (λ (c : ℕ). eq_by_cmp state_cmp c a ≡ true) (same_tie a b e) (tie_itself a)) (λ e. subst (λ (c : ℕ). eq_by_cmp state_cmp c b ≡ true) (same_tie b a e) (tie_itself b));
-  trans = λ a b c h k. subst (λ (d : ℕ). eq_by_cmp state_cmp a d ≡ true) (same_tie b c k) h;
-}
+pub state_tie : (a b : ℕ) → nat_eq a b ≡ eq_by_cmp state_cmp a b
+state_tie a b = both_ways _ _
+    (λ e. subst (λ (c : ℕ). eq_by_cmp state_cmp a c ≡ true) (let same : a ≡ b = grind (arith, nat_tests) in same) (tie_itself a))
+    (λ e. let same : a ≡ b = equal_is a b ((Equal-is (state_cmp a b)).0 e) in grind (arith, nat_tests))
 
-pub state_eq : IsEquivalence (eq_by_cmp state_cmp)
-state_eq = equiv state_eq_laws tie_itself
-
-pub state_po : IsPartialOrder (eq_by_cmp state_cmp) (as_partial_cmp state_cmp)
-state_po = po state_cmp_total (λ a b. refl)
+pub state_po : IsPartialOrder nat_eq (as_partial_cmp state_cmp)
+state_po = po state_cmp_total state_tie
 
 pub cmp-same : (a b : ℕ) → a ≡ b → Equal ≡ state_cmp a b
 cmp-same a b e = subst (λ (c : ℕ). Equal ≡ state_cmp a c) e (sym (tied_itself state_cmp_total a))
@@ -143,5 +136,6 @@ cmp-after a b differ not = elim (compared a b) [
   | inr (inr (e, h)) ↦ sym e
 ]
 
-pub tie-eqb : (a b : ℕ) → nat_eq a b ≡ eq_by_cmp state_cmp a b
-tie-eqb a b = both_ways _ _ (λ e. subst (λ (c : ℕ). eq_by_cmp state_cmp a c ≡ true) (let same : a ≡ b = grind (arith, nat_tests) in same) (tie_itself a)) (λ e. let same = same_tie a b e in grind (arith, nat_tests))
+-- of two different sets one comes before the other
+pub StateBefore-total : (a b : ℕ) → (a ≡ b) ⊎ (StateBefore a b ⊎ StateBefore b a)
+StateBefore-total a b = before_total (a + b) a b (let p = below_power (a + b) in omega arith) (let p = below_power (a + b) in omega arith)

@@ -1,13 +1,13 @@
 //! A set of numbers of bridge rules, each below 64.
 
-ghost use Rattle.std.specs.Prelude.{◌≡◌, ℕ, ◌^◌, ◌<◌, ◌↔◌, IsTrue, IfSome, IfNone};
-ghost use Rattle.mcs_sets.specs.Sets.{has, size, single, union, common, minus, Within, Meets, IsLeast};
+ghost use Rattle.std.specs.Prelude.{◌≡◌, ℕ, ◌^◌, ◌<◌, ◌≤◌, ◌↔◌, IsTrue, IfSome, IfNone, All, length};
+ghost use Rattle.mcs_sets.specs.Sets.{has, size, single, union, common, minus, members, Within, Meets, IsLeast};
 
-use mcs_sets::SmallSet;
+use mcs_sets::{Members, SmallSet};
 use std::marker::Model;
 
 /// A set of numbers of bridge rules, each below 64.
-#[derive(Clone, Copy, PartialEq, Eq)]
+#[derive(Clone, Copy, Debug, PartialEq, Eq, PartialOrd, Ord)]
 pub struct Active {
     set: SmallSet,
 }
@@ -117,6 +117,7 @@ impl Active {
     /// How many numbers are in the set.
     pub fn count(self) -> u32
         ensures number { result ≡ size self }
+        ensures few { result ≤ 64 }
         ensures in_range { self < 2 ^ 64 }
     {
         self.set.count()
@@ -125,8 +126,18 @@ impl Active {
     /// The least number of the set; `None` exactly for the empty set.
     pub fn first(self) -> Option<u32>
         ensures least { IfSome result (IsLeast self) }
+        ensures below { IfSome result (λ k. k < 64) }
         ensures empty { IfNone result (self ≡ 0) }
     {
         self.set.first()
+    }
+
+    /// The members, ascending.
+    pub fn members(self) -> Members
+        ensures list { result ≡ members self }
+        ensures below { All (λ k. k < 64) result }
+        ensures few { length result ≤ 64 }
+    {
+        self.set.members()
     }
 }

@@ -3,13 +3,20 @@
 #![tactic(auto, using(mcs_sets::proofs::SetLemmas::sets_fit))]
 
 mod active;
+mod listed;
 mod marks;
 mod memory;
+#[cfg(test)]
+mod tests;
+mod text;
 mod vars;
 mod words;
 
 pub use active::Active;
+pub use listed::{list_pairs, list_rule_sets, list_states};
 pub use marks::{Marks, pair_before};
+pub use mcs_sets::Members;
 pub use memory::Memory;
+pub use text::Text;
 pub use vars::{Vars, state_before};
 pub use words::{is_letter, is_name, is_reserved, is_word, is_word_byte};

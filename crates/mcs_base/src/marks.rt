@@ -1,14 +1,15 @@
 //! A set of marks, each a number below 128.
 
-ghost use Rattle.std.specs.Prelude.{◌≡◌, ℕ, ◌^◌, ◌<◌, ◌↔◌, IsTrue, IfSome, IfNone};
-ghost use Rattle.mcs_sets.specs.Sets.{has, size, single, union, common, minus, Within, Meets, IsLeast};
+ghost use Rattle.std.specs.Prelude.{◌≡◌, ℕ, ◌^◌, ◌<◌, ◌≤◌, ◌↔◌, IsTrue, IfSome, IfNone, All, length};
+ghost use Rattle.mcs_sets.specs.Sets.{has, size, single, union, common, minus, members, Within, Meets, IsLeast};
 ghost use Rattle.mcs_sets.specs.Orders.{PairBefore};
 
-use mcs_sets::SmallSet;
+use mcs_sets::{Members, SmallSet};
+use std::cmp::Ordering;
 use std::marker::Model;
 
 /// A set of marks, each a number below 128.
-#[derive(Clone, Copy, PartialEq, Eq)]
+#[derive(Clone, Copy, Debug, PartialEq, Eq)]
 pub struct Marks {
     set: SmallSet,
 }
@@ -118,6 +119,7 @@ impl Marks {
     /// How many numbers are in the set.
     pub fn count(self) -> u32
         ensures number { result ≡ size self }
+        ensures few { result ≤ 128 }
         ensures in_range { self < 2 ^ 128 }
     {
         self.set.count()
@@ -126,9 +128,56 @@ impl Marks {
     /// The least number of the set; `None` exactly for the empty set.
     pub fn first(self) -> Option<u32>
         ensures least { IfSome result (IsLeast self) }
+        ensures below { IfSome result (λ k. k < 128) }
         ensures empty { IfNone result (self ≡ 0) }
     {
         self.set.first()
+    }
+
+    /// The members, ascending.
+    pub fn members(self) -> Members
+        ensures list { result ≡ members self }
+        ensures below { All (λ k. k < 128) result }
+        ensures few { length result ≤ 128 }
+    {
+        self.set.members()
+    }
+}
+
+/// Marks come in the order of pairs, so that std's sort lists them in it.
+impl PartialOrd for Marks {
+    ghost use Rattle.std.specs.Ordering.{as_partial_cmp};
+    ghost use Rattle.mcs_base.specs.PairOrder.{pair_cmp, pair_po};
+
+    ghost partial_cmp = { as_partial_cmp pair_cmp };
+
+    ghost laws = { pair_po };
+
+    fn partial_cmp(&self, other: &Marks) -> Option<Ordering> {
+        Some(self.cmp(other))
+    }
+}
+
+impl Ord for Marks {
+    ghost use Rattle.std.specs.Prelude.{refl};
+    ghost use Rattle.mcs_base.specs.PairOrder.{pair_cmp, pair_cmp_total, pair_tie};
+
+    ghost cmp = { pair_cmp };
+
+    ghost total = { pair_cmp_total };
+
+    ghost matches_partial_cmp = { λ x y. refl };
+
+    ghost matches_eq = { pair_tie };
+
+    fn cmp(&self, other: &Marks) -> Ordering {
+        if self == other {
+            Ordering::Equal
+        } else if pair_before(*self, *other) {
+            Ordering::Less
+        } else {
+            Ordering::Greater
+        }
     }
 }
 

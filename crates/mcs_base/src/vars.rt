@@ -1,15 +1,15 @@
 //! A set of numbers below 64: variables, or places in a list.
 
-ghost use Rattle.std.specs.Prelude.{◌≡◌, ℕ, ◌^◌, ◌<◌, ◌↔◌, IsTrue, IfSome, IfNone};
-ghost use Rattle.mcs_sets.specs.Sets.{has, size, single, union, common, minus, Within, Meets, IsLeast};
+ghost use Rattle.std.specs.Prelude.{◌≡◌, ℕ, ◌^◌, ◌<◌, ◌≤◌, ◌↔◌, IsTrue, IfSome, IfNone, All, length};
+ghost use Rattle.mcs_sets.specs.Sets.{has, size, single, union, common, minus, members, Within, Meets, IsLeast};
 ghost use Rattle.mcs_sets.specs.Orders.{StateBefore};
 
-use mcs_sets::SmallSet;
+use mcs_sets::{Members, SmallSet};
 use std::cmp::Ordering;
 use std::marker::Model;
 
 /// A set of numbers below 64: variables, or places in a list.
-#[derive(Clone, Copy)]
+#[derive(Clone, Copy, Debug, PartialEq, Eq)]
 pub struct Vars {
     set: SmallSet,
 }
@@ -33,6 +33,15 @@ impl Vars {
     {
         Vars {
             set: SmallSet::empty(),
+        }
+    }
+
+    /// The set whose number this is, so that every set of numbers below `n` is one of the first `2^n`.
+    pub fn numbered(number: u64) -> Self
+        ensures { result ≡ number }
+    {
+        Vars {
+            set: SmallSet::numbered(number),
         }
     }
 
@@ -119,6 +128,7 @@ impl Vars {
     /// How many numbers are in the set.
     pub fn count(self) -> u32
         ensures number { result ≡ size self }
+        ensures few { result ≤ 64 }
         ensures in_range { self < 2 ^ 64 }
     {
         self.set.count()
@@ -127,32 +137,23 @@ impl Vars {
     /// The least number of the set; `None` exactly for the empty set.
     pub fn first(self) -> Option<u32>
         ensures least { IfSome result (IsLeast self) }
+        ensures below { IfSome result (λ k. k < 64) }
         ensures empty { IfNone result (self ≡ 0) }
     {
         self.set.first()
     }
-}
 
-/// Vars come in the order of states, so that std's sort lists them in it.
-impl PartialEq for Vars {
-    ghost use Rattle.std.specs.Ordering.{eq_by_cmp};
-    ghost use Rattle.mcs_base.specs.StateOrder.{state_cmp, state_eq_laws};
-
-    ghost eq = { eq_by_cmp state_cmp };
-
-    ghost laws = { state_eq_laws };
-
-    fn eq(&self, other: &Vars) -> bool {
-        self.set == other.set
+    /// The members, ascending.
+    pub fn members(self) -> Members
+        ensures list { result ≡ members self }
+        ensures below { All (λ k. k < 64) result }
+        ensures few { length result ≤ 64 }
+    {
+        self.set.members()
     }
 }
 
-impl Eq for Vars {
-    ghost use Rattle.mcs_base.specs.StateOrder.{state_eq};
-
-    ghost laws = { state_eq };
-}
-
+/// Vars come in the order of states, so that std's sort lists them in it.
 impl PartialOrd for Vars {
     ghost use Rattle.std.specs.Ordering.{as_partial_cmp};
     ghost use Rattle.mcs_base.specs.StateOrder.{state_cmp, state_po};
@@ -168,7 +169,7 @@ impl PartialOrd for Vars {
 
 impl Ord for Vars {
     ghost use Rattle.std.specs.Prelude.{refl};
-    ghost use Rattle.mcs_base.specs.StateOrder.{state_cmp, state_cmp_total};
+    ghost use Rattle.mcs_base.specs.StateOrder.{state_cmp, state_cmp_total, state_tie};
 
     ghost cmp = { state_cmp };
 
@@ -176,12 +177,12 @@ impl Ord for Vars {
 
     ghost matches_partial_cmp = { λ x y. refl };
 
-    ghost matches_eq = { λ x y. refl };
+    ghost matches_eq = { state_tie };
 
     fn cmp(&self, other: &Vars) -> Ordering {
-        if self.set == other.set {
+        if self == other {
             Ordering::Equal
-        } else if mcs_sets::state_before(self.set, other.set) {
+        } else if state_before(*self, *other) {
             Ordering::Less
         } else {
             Ordering::Greater

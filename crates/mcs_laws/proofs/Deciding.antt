@@ -4,26 +4,22 @@ use Rattle.std.proofs.lemmas.Bool.{and_parts}
 use Rattle.std.proofs.lemmas.Bool.Decides.{nat_tests}
 use Rattle.std.specs.List.{list_all}
 use Rattle.mcs_system.specs.Plain.{Name, Formula, Truth, Falsity, Atom, Not, And, Or, Implies, Iff}
-use Rattle.mcs_system.specs.Logic.{atoms, same_name, is_in, holds, holds_all, Entails}
+use Rattle.mcs_system.specs.Logic.{atoms, all_atoms, same_name, is_in, holds, holds_all, Entails}
 use Rattle.mcs_system.proofs.Sameness.{same_name-is, same_name-itself}
 
-abbrev pub all_atoms : List Formula → List Name
-all_atoms [] = []
-all_atoms (f ∷ fs) = atoms f ++ all_atoms fs
-
-is_in-append : (n : Name) (xs ys : List Name) → is_in n (xs ++ ys) ≡ (is_in n xs || is_in n ys)
+pub is_in-append : (n : Name) (xs ys : List Name) → is_in n (xs ++ ys) ≡ (is_in n xs || is_in n ys)
 is_in-append n [] ys = refl
 is_in-append n (x ∷ xs) ys = let rest = is_in-append n xs ys in grind (arith, nat_tests)
 
 -- two assignments agree on these names
-pub Agree : List Name → List Name → List Name → Type 0
+unfoldable pub Agree : List Name → List Name → List Name → Type 0
 Agree names a b = (n : Name) → is_in n names ≡ true → is_in n a ≡ is_in n b
 
-agree_left : (xs ys a b : List Name) → Agree (xs ++ ys) a b → Agree xs a b
+pub agree_left : (xs ys a b : List Name) → Agree (xs ++ ys) a b → Agree xs a b
 unfolding Agree
 agree_left xs ys a b same n in_xs = same n (is_in-append n xs ys ∙ rw in_xs refl)
 
-agree_right : (xs ys a b : List Name) → Agree (xs ++ ys) a b → Agree ys a b
+pub agree_right : (xs ys a b : List Name) → Agree (xs ++ ys) a b → Agree ys a b
 unfolding Agree
 agree_right xs ys a b same n in_ys = same n (is_in-append n xs ys ∙ rw in_ys (or_true (is_in n xs)))
   where
@@ -64,7 +60,7 @@ is_in-filter a n (x ∷ xs) = at (is_in-filter a n xs) (is_in x a) refl (same_na
     at rest false e false e' = rw e' rest
 
 -- an assignment, as far as these names go
-agree_filter : (a names : List Name) → Agree names a (filter (λ x. is_in x a) names)
+pub agree_filter : (a names : List Name) → Agree names a (filter (λ x. is_in x a) names)
 unfolding Agree
 agree_filter a names n known = sym (is_in-filter a n names ∙ rw known refl)
 

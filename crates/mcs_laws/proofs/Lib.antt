@@ -7,3 +7,6 @@ pub mod Tiny
 pub mod Questions
 pub mod Transversals
 pub mod Gluing
+pub mod Tables
+pub mod Classical
+pub mod Existence

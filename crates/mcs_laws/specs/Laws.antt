@@ -1,13 +1,13 @@
 -- What the definitions have in common with the literature: each is the contract of a function of `laws`.
-use Rattle.std.specs.Prelude.{◌≡◌, ℕ, ◌+◌, ◌<◌, ◌≤◌, List, [], ◌∷◌, ◌↔◌, slice_get, Some, ◌⊎◌, length}
-use Rattle.mcs_sets.specs.Sets.{size, common, Within}
+use Rattle.std.specs.Prelude.{◌≡◌, ℕ, ◌+◌, ◌^◌, IsTrue, ◌++◌, ◌<◌, ◌≤◌, List, [], ◌∷◌, ◌↔◌, slice_get, Some, ◌⊎◌, length}
+use Rattle.mcs_sets.specs.Sets.{has, size, common, Within}
 use Rattle.mcs_sets.specs.Orders.{StateBefore, PairBefore}
 use Rattle.std.specs.List.{AllByRecursion}
 use Rattle.mcs_system.specs.Rows.{IsRow, FitTogether, HasParts}
 use Rattle.mcs_system.specs.Imports.{IsQuestion, rules_into}
-use Rattle.mcs_system.specs.Plain.{Formula, System}
-use Rattle.mcs_system.specs.Logic.{Entails, BeliefSet, IsAnswerSet, IsExtension}
-use Rattle.mcs_system.specs.Systems.{IsProjection, IsProjected, IsAcceptedPart, acting_at, variables_of, all_variables, all_rules}
+use Rattle.mcs_system.specs.Plain.{Name, Formula, Kb, Classical, DefaultTheory, Program, Context, System}
+use Rattle.mcs_system.specs.Logic.{is_in, atoms, all_atoms, true_names, holds, holds_all, Entails, BeliefSet, IsAnswerSet, IsExtension, IsClassical}
+use Rattle.mcs_system.specs.Systems.{heads_into, Follows, IsConsistent, IsProjection, IsProjected, IsAcceptedPart, acting_at, variables_of, all_variables, all_rules}
 use Rattle.mcs_laws.specs.Examples.{self_support, against_itself, a_or_b, name_a, name_b, birds, bird, flies}
 use Rattle.mcs_system.specs.Repairs.{IsDiagnosis, IsExplanation, IsMinimal, IsTransversal, IsChoice, choice_marks}
 use Rattle.mcs_base.specs.Listings.{IsListing}
@@ -35,6 +35,31 @@ EquilibriaAreByParts = (m : System) (r1 r2 σ : ℕ)
 -- whether a formula follows is decided
 abbrev pub ConsequenceIsDecided : Type 0
 ConsequenceIsDecided = (formulas : List Formula) (p : Formula) → Entails formulas p ⊎ (¬ Entails formulas p)
+
+-- the names have every atom of the formulas
+abbrev pub Covers : List Name → List Formula → Formula → Type 0
+Covers names formulas p = (n : Name) → IsTrue (is_in n (all_atoms formulas ++ atoms p)) → IsTrue (is_in n names)
+
+-- in each row of the truth table over the names in which all of the list holds, p holds
+abbrev pub PassesTable : List Name → List Formula → Formula → Type 0
+PassesTable names formulas p = (row : ℕ) → row < 2 ^ length names → IsTrue (holds_all (true_names 0 names row) formulas) → IsTrue (holds (true_names 0 names row) p)
+
+-- the truth table over the atoms decides for all assignments, also for those that name other atoms
+abbrev pub TablesDecide : Type 0
+TablesDecide = (names : List Name) (formulas : List Formula) (p : Formula) → Covers names formulas p → Entails formulas p ↔ PassesTable names formulas p
+
+-- a classical context accepts one part alone: the variables that follow
+abbrev pub ClassicalContextsAcceptWhatFollows : Type 0
+ClassicalContextsAcceptWhatFollows = (m : System) (i x τ : ℕ) (c : Context) (formulas : List Formula) → slice_get m.contexts i ≡ Some c → c.kb ≡ Classical formulas
+    → IsAcceptedPart m i x τ ↔ ((v : ℕ) → IsTrue (has τ v) ↔ Follows m i (formulas ++ heads_into m i x) v)
+
+-- the projected equilibria of a system of classical contexts have a listing
+abbrev pub ClassicalStatesHaveAListing : Type 0
+ClassicalStatesHaveAListing = (m : System) (r1 r2 : ℕ) → AllByRecursion (λ (c : Context). IsClassical c.kb) m.contexts → (xs : List ℕ) × IsListing (IsProjected m r1 r2) StateBefore xs
+
+-- the verdict says that there is an equilibrium exactly where there is one
+abbrev pub ConsistencyIsListed : Type 0
+ConsistencyIsListed = (m : System) (xs : List ℕ) → IsListing (IsProjected m (all_rules m) 0) StateBefore xs → IsConsistent m ↔ (0 < length xs)
 
 -- a positive cycle may support itself: exactly the two states, the one that holds the variable first
 abbrev pub SelfSupportHasTwo : Type 0

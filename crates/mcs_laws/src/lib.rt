@@ -1,7 +1,7 @@
 //! Laws over the definitions of multi-context systems. The functions do nothing: each contract is a law.
 #![tactic(auto)]
 
-ghost use Rattle.mcs_laws.specs.Laws.{StatesHaveOneListing, DiagnosesHaveOneListing, ExplanationsAreTransversals, MinimalExplanationsAreMinimalTransversals, EquilibriaAreByParts, ConsequenceIsDecided, SelfSupportHasTwo, AgainstItselfHasNone, ChoicesAreDiagnoses, MinimalDiagnosesAreChoices, ConsistentNeedsNothing, StatesHaveOneProjection, MinimalDiagnosesAreSmall, QuestionsGrow, RowsMakeChoices, ChoicesAskQuestions, DisjunctionChooses, BirdFlies};
+ghost use Rattle.mcs_laws.specs.Laws.{StatesHaveOneListing, DiagnosesHaveOneListing, ExplanationsAreTransversals, MinimalExplanationsAreMinimalTransversals, EquilibriaAreByParts, ConsequenceIsDecided, SelfSupportHasTwo, AgainstItselfHasNone, ChoicesAreDiagnoses, MinimalDiagnosesAreChoices, ConsistentNeedsNothing, StatesHaveOneProjection, MinimalDiagnosesAreSmall, QuestionsGrow, RowsMakeChoices, ChoicesAskQuestions, DisjunctionChooses, BirdFlies, TablesDecide, ClassicalContextsAcceptWhatFollows, ClassicalStatesHaveAListing, ConsistencyIsListed};
 
 pub fn listings_are_unique()
     ensures states { StatesHaveOneListing }
@@ -19,6 +19,22 @@ pub fn equilibria_are_by_parts()
 
 pub fn consequence_is_decided()
     ensures { ConsequenceIsDecided }
+{}
+
+/// The truth table over the atoms decides consequence for all assignments.
+pub fn tables_decide()
+    ensures { TablesDecide }
+{}
+
+/// A classical context accepts what follows from its formulas, and nothing else.
+pub fn classical_contexts_accept_what_follows()
+    ensures { ClassicalContextsAcceptWhatFollows }
+{}
+
+/// The equilibria of classical contexts have a listing, and it is empty exactly where there is none.
+pub fn listings_exist()
+    ensures classical { ClassicalStatesHaveAListing }
+    ensures consistent { ConsistencyIsListed }
 {}
 
 pub fn tiny_systems()

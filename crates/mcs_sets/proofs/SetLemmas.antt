@@ -1,11 +1,13 @@
 -- What holds of sets that are kept as numbers.
-use Rattle.std.proofs.Common.{◌≡◌, ◌≢◌, ℕ, ◌+◌, ◌-◌, ◌*◌, ◌/◌, ◌%◌, ◌^◌, ◌<◌, ◌≤◌, Bool, true, false, cond, not, ◌&&◌, ◌||◌, eqb, ltb, zero, suc, refl, sym, ap, ◌∙◌, subst, inl, inr, ◌⊎◌, add-one, div-one, arith, ◌↔◌, true≢false, IsTrue, min, max, bit_and, bit_or, bit_xor, count_ones, length, List, [], ◌∷◌, ◌++◌}
+use Rattle.std.proofs.Common.{◌≡◌, ◌≢◌, ℕ, ◌+◌, ◌-◌, ◌/◌, ◌^◌, ◌<◌, ◌≤◌, Bool, true, false, cond, not, ◌&&◌, ◌||◌, eqb, ltb, zero, suc, refl, sym, ap, ◌∙◌, inl, inr, ◌⊎◌, add-one, div-one, arith, ◌↔◌, true≢false, IsTrue, bit_and, bit_or, bit_xor, count_ones, length, List, [], ◌∷◌, ◌++◌}
 use Rattle.std.proofs.lemmas.Bool.{cases_lt}
 use Rattle.std.proofs.lemmas.Bool.Decides.{nat_tests}
 use Rattle.std.proofs.lemmas.Grind.{common_steps}
-use Rattle.std.proofs.lemmas.Nat.Bits.{bit_at_or, bit_at_and, bit_at_xor, bit_at-lt, bit_at-pow_same, bit_at-pow_other, bit_at-zero, same_from_bits, bit_at_above, shr_and_one, bit_at-trailing_zeros}
+use Rattle.std.proofs.lemmas.Nat.Bits.{bit_at_or, bit_at_and, bit_at_xor, bit_at-lt, bit_at-pow_same, bit_at-pow_other, bit_at-zero, same_from_bits, bit_at_above, bit_at-trailing_zeros}
 use mir.Val.{bits}
 use Rattle.std.proofs.lemmas.List.{append-nil}
+use Rattle.std.proofs.lemmas.List.Elements.{All-from_recursion, All-contains}
+use Rattle.std.specs.List.{All, AllByRecursion, Contains}
 use Rattle.std.proofs.lemmas.Nat.{or_lt, xor_lt, and_le_l, and_le_r, shr-shr}
 use Rattle.std.proofs.Math.Pow.{shr_lt, pow-lt}
 use Rattle.std.proofs.Math.Nat.{two-pow-succ}
@@ -404,6 +406,125 @@ meets_or_not a b n small = elim (first_below n (λ k. has a k && has b k)) [
   | inr (k, less, is, before) ↦ inl (record { member = k; in_first = grind (arith, nat_tests); in_second = grind (arith, nat_tests) })
   | inl none ↦ inr (λ k is. let less : k < n = members_below a n k small is in let e = none k less in grind (arith, nat_tests))
 ]
+
+-- ---- going over the members
+pub members-empty : members 0 ≡ []
+unfolding members members_from
+members-empty = refl
+
+members_from-same : (w i a b : ℕ) → ((k : ℕ) → i ≤ k → has a k ≡ has b k) → members_from i w a ≡ members_from i w b
+unfolding members_from
+members_from-same zero i a b same = refl
+members_from-same (suc w) i a b same = at (has a i) (has b i) (same i (omega arith)) (members_from-same w (i + 1) a b (λ k past. same k (omega arith)))
+  where
+    at : (u v : Bool) → u ≡ v → members_from (i + 1) w a ≡ members_from (i + 1) w b → cond u (i ∷ members_from (i + 1) w a) (members_from (i + 1) w a) ≡ cond v (i ∷ members_from (i + 1) w b) (members_from (i + 1) w b)
+    at true true e rest = ap (λ ks. i ∷ ks) rest
+    at true false e rest = absurd (true≢false e)
+    at false true e rest = absurd (true≢false (sym e))
+    at false false e rest = rest
+
+-- k is the first member of a, and b has the others
+members_from-first : (w i k a b : ℕ) → i ≤ k → k < i + w → has a k ≡ true → ((j : ℕ) → j < k → has a j ≡ false) → has b k ≡ false → ((j : ℕ) → j ≢ k → has a j ≡ has b j) → members_from i w a ≡ k ∷ members_from i w b
+unfolding members_from
+members_from-first zero i k a b from below is none not same = absurd (omega arith)
+members_from-first (suc w) i k a b from below is none not same = elim (cases_lt i k) [
+  | inl less ↦ later (has a i) (has b i) (none i less) (sym (same i (λ e. omega arith)) ∙ none i less) (members_from-first w (i + 1) k a b (omega arith) (omega arith) is none not same)
+  | inr past ↦ let here : i ≡ k = omega arith in now here (has a i) (has b i) (ap (has a) here ∙ is) (ap (has b) here ∙ not) (members_from-same w (i + 1) a b (λ j after. same j (λ e. omega arith)))
+]
+  where
+    later : (u v : Bool) → u ≡ false → v ≡ false → members_from (i + 1) w a ≡ k ∷ members_from (i + 1) w b → cond u (i ∷ members_from (i + 1) w a) (members_from (i + 1) w a) ≡ k ∷ cond v (i ∷ members_from (i + 1) w b) (members_from (i + 1) w b)
+    later false false e e' rest = rest
+    later true v e e' rest = absurd (true≢false e)
+    later false true e e' rest = absurd (true≢false e')
+
+    now : i ≡ k → (u v : Bool) → u ≡ true → v ≡ false → members_from (i + 1) w a ≡ members_from (i + 1) w b → cond u (i ∷ members_from (i + 1) w a) (members_from (i + 1) w a) ≡ k ∷ cond v (i ∷ members_from (i + 1) w b) (members_from (i + 1) w b)
+    now here true false e e' rest = ap (λ (j : ℕ). j ∷ members_from (i + 1) w a) here ∙ ap (λ ks. k ∷ ks) rest
+    now here false v e e' rest = absurd (true≢false (sym e))
+    now here true true e e' rest = absurd (true≢false e')
+
+pub minus-le : (a b : ℕ) → minus a b ≤ a
+minus-le a b = Within-le (minus a b) a (λ k is. let e = has-minus a b k in grind (arith, nat_tests))
+
+-- the least member, and then the others
+pub members-least : (s k : ℕ) → IsLeast s k → members s ≡ k ∷ members (minus s (single k))
+members-least s k least =
+    let small : s < 2 ^ s = below_power s in
+    let others : minus s (single k) < 2 ^ s = let le = minus-le s (single k) in omega arith in
+    rw (members-width s s small, members-width (minus s (single k)) s others)
+    (members_from-first s 0 k s (minus s (single k)) (omega arith) (omega (arith, members_below s s k small least.in_set)) least.in_set least.none_below gone (λ j differ. other j (has s j) (eqb j k) refl differ))
+  where
+    gone : has (minus s (single k)) k ≡ false
+    gone = rw (has-minus, has-single) (here (has s k) (eqb k k) (grind (arith, nat_tests)))
+      where
+        here : (u v : Bool) → v ≡ true → (u && not v) ≡ false
+        here true true e = refl
+        here false true e = refl
+        here u false e = absurd (true≢false (sym e))
+
+    other : (j : ℕ) (u v : Bool) → eqb j k ≡ v → j ≢ k → has s j ≡ has (minus s (single k)) j
+    other j u true e differ = absurd (differ (grind (arith, nat_tests)))
+    other j u false e differ = let e' = has-minus s (single k) j in let e'' = has-single k j in grind (arith, nat_tests)
+
+-- what holds of each member from i on
+pub members_from-each : (P : ℕ → Type 0) (w i s : ℕ) → ((k : ℕ) → i ≤ k → has s k ≡ true → P k) → AllByRecursion P (members_from i w s)
+unfolding members_from
+members_from-each P zero i s each = tt
+members_from-each P (suc w) i s each = at (has s i) refl (members_from-each P w (i + 1) s (λ k past. each k (omega arith)))
+  where
+    at : (b : Bool) → has s i ≡ b → AllByRecursion P (members_from (i + 1) w s) → AllByRecursion P (cond b (i ∷ members_from (i + 1) w s) (members_from (i + 1) w s))
+    at true is rest = (each i (omega arith) is, rest)
+    at false is rest = rest
+
+-- what holds of each member
+pub members-each : (P : ℕ → Type 0) (s : ℕ) → ((k : ℕ) → has s k ≡ true → P k) → All P (members s)
+unfolding members
+members-each P s each = All-from_recursion P (members s) (members_from-each P s 0 s (λ k from. each k))
+
+pub members-below : (s n : ℕ) → s < 2 ^ n → All (λ k. k < n) (members s)
+members-below s n small = members-each (λ k. k < n) s (λ k. members_below s n k small)
+
+length-members_from-le : (w i s : ℕ) → length (members_from i w s) ≤ w
+unfolding members_from
+length-members_from-le zero i s = omega arith
+length-members_from-le (suc w) i s = at (has s i) (length-members_from-le w (i + 1) s)
+  where
+    at : (b : Bool) → length (members_from (i + 1) w s) ≤ w → length (cond b (i ∷ members_from (i + 1) w s) (members_from (i + 1) w s)) ≤ suc w
+    at true rest = omega arith
+    at false rest = omega arith
+
+-- a set of numbers below n has at most n of them
+pub size-below : (s n : ℕ) → s < 2 ^ n → size s ≤ n
+size-below s n small = rw (members-width s n small) (length-members_from-le n 0 s)
+
+members_from-contains : (w i s k : ℕ) → i ≤ k → k < i + w → has s k ≡ true → Contains (members_from i w s) k
+unfolding members_from
+members_from-contains zero i s k from below is = absurd (omega arith)
+members_from-contains (suc w) i s k from below is = elim (cases_lt i k) [
+  | inl less ↦ later (has s i) (members_from-contains w (i + 1) s k (omega arith) (omega arith) is)
+  | inr past ↦ let here : i ≡ k = omega arith in now here (has s i) (ap (has s) here ∙ is)
+]
+  where
+    later : (b : Bool) → Contains (members_from (i + 1) w s) k → Contains (cond b (i ∷ members_from (i + 1) w s) (members_from (i + 1) w s)) k
+    later true (at, less, there) = (suc at, omega arith, there)
+    later false rest = rest
+
+    now : i ≡ k → (b : Bool) → b ≡ true → Contains (cond b (i ∷ members_from (i + 1) w s) (members_from (i + 1) w s)) k
+    now here true e = (0, omega arith, here)
+    now here false e = absurd (true≢false (sym e))
+
+-- the list of the members has what the set has
+pub members-contains : (s k : ℕ) → Contains (members s) k ↔ IsTrue (has s k)
+unfolding members
+members-contains s k = (
+  λ there. All-contains (λ j. IsTrue (has s j)) (members s) k (members-each (λ j. IsTrue (has s j)) s (λ j is. is)) there,
+  λ is. members_from-contains s 0 s k (omega arith) (omega (arith, members_below s s k (below_power s) is)) is,
+)
+
+pub Within-members : (a b : ℕ) → Within a b ↔ All (λ k. IsTrue (has b k)) (members a)
+Within-members a b = (
+  λ within. members-each (λ k. IsTrue (has b k)) a within,
+  λ all k is. All-contains (λ j. IsTrue (has b j)) (members a) k all ((members-contains a k).1 is),
+)
 
 -- ---- the words of the code stay within their width
 pub or_of_64 : (a b : ℕ) → a < 2 ^ 64 → b < 2 ^ 64 → bit_or a b < 2 ^ 64

@@ -1,5 +1,5 @@
 -- A finite set of numbers, kept as one number: k is in the set where bit k is set.
-use Rattle.std.specs.Prelude.{◌≡◌, ℕ, ◌+◌, ◌^◌, ◌<◌, Bool, true, false, nat_eq, bit_or, bit_and, bit_xor, IsTrue, List, [], ◌∷◌, cond, zero, suc, length}
+use Rattle.std.specs.Prelude.{◌≡◌, ℕ, ◌+◌, ◌^◌, ◌<◌, Bool, false, nat_eq, bit_or, bit_and, bit_xor, IsTrue, List, [], ◌∷◌, cond, zero, suc, length}
 use Rattle.std.specs.Int.{bit_at}
 
 -- whether k is in the set

@@ -2,6 +2,8 @@
 //! the sets of the crates above are thin wrappers of.
 #![tactic(auto)]
 
+mod members;
 mod small_set;
 
+pub use members::Members;
 pub use small_set::{SmallSet, pair_before, state_before};

@@ -1,13 +1,15 @@
 //! A set of small numbers as one word of bits, and the orders of such sets.
 
 ghost use Rattle.std.specs.Prelude.{◌≡◌, ℕ, ◌^◌, ◌<◌, ◌↔◌, IsTrue, IfSome, IfNone};
-ghost use Rattle.mcs_sets.specs.Sets.{has, single, union, common, minus, Within, Meets, IsLeast, size};
+ghost use Rattle.mcs_sets.specs.Sets.{has, single, union, common, minus, Within, Meets, IsLeast, size, members};
 ghost use Rattle.mcs_sets.specs.Orders.{StateBefore, PairBefore};
 
+use crate::members::Members;
 use std::marker::Model;
 
-/// A set of numbers below 128.
-#[derive(Clone, Copy, PartialEq, Eq)]
+/// A set of numbers below 128. Its own order is that of the numbers that stand for the sets: the set that
+/// holds the greatest number in which they differ is the greater one.
+#[derive(Clone, Copy, Debug, PartialEq, Eq, PartialOrd, Ord)]
 pub struct SmallSet {
     bits: u128,
 }
@@ -30,6 +32,15 @@ impl SmallSet {
         ensures { result ≡ 0 }
     {
         SmallSet { bits: 0 }
+    }
+
+    /// The set whose number this is: it has `k` where bit `k` of the number is set.
+    pub fn numbered(number: u64) -> Self
+        ensures { result ≡ number }
+    {
+        SmallSet {
+            bits: number as u128,
+        }
     }
 
     /// The set of this one number.
@@ -128,6 +139,7 @@ impl SmallSet {
     /// The least number of the set, if it has one.
     pub fn first(self) -> Option<u32>
         ensures least { IfSome result (IsLeast self) }
+        ensures below { IfSome result (λ k. k < 128) }
         ensures empty { IfNone result (self ≡ 0) }
     {
         if self.bits == 0 {
@@ -135,6 +147,13 @@ impl SmallSet {
         } else {
             Some(self.bits.trailing_zeros())
         }
+    }
+
+    /// The members, ascending.
+    pub fn members(self) -> Members
+        ensures { result ≡ members self }
+    {
+        Members { left: self }
     }
 }
 
@@ -154,4 +173,57 @@ pub fn pair_before(a: SmallSet, b: SmallSet) -> bool
 {
     let (m, n) = (a.count(), b.count());
     m < n || m == n && state_before(a, b)
+}
+
+#[cfg(test)]
+mod tests {
+    use super::*;
+
+    #[test]
+    fn makes_and_compares_sets(rt: HostRuntime) {
+        let (outer, inner) = (SmallSet::one(0).with(3), SmallSet::one(1).with(2));
+        let ends = SmallSet::one(127).with(64).with(0);
+        assert!(rt; ends.has(0) && !ends.has(63) && ends.has(64) && ends.has(127));
+
+        for (set, number, meets_ends, within_ends) in [
+            (SmallSet::empty(), 0b0000, false, true),
+            (outer, 0b1001, true, false),
+            (outer.without(3), 0b0001, true, true),
+            (outer.union(inner), 0b1111, true, false),
+            (outer.common(ends), 0b0001, true, true),
+            (outer.minus(ends), 0b1000, false, false),
+        ] {
+            assert_eq!(rt; set, SmallSet::numbered(number), "{set:?}");
+            assert_eq!(rt; set.meets(ends), meets_ends, "{set:?}");
+            assert_eq!(rt; set.within(ends), within_ends, "{set:?}");
+        }
+        for (set, count, first) in [
+            (SmallSet::empty(), 0, None),
+            (ends, 3, Some(0)),
+            (ends.without(0), 2, Some(64)),
+            (SmallSet::one(127), 1, Some(127)),
+        ] {
+            assert_eq!(rt; set.count(), count, "{set:?}");
+            assert_eq!(rt; set.first(), first, "{set:?}");
+        }
+    }
+
+    #[test]
+    fn orders_sets(rt: HostRuntime) {
+        let none = SmallSet::empty();
+        let (zero, one) = (SmallSet::one(0), SmallSet::one(1));
+        let (outer, inner) = (zero.with(3), one.with(2));
+        for (set, other, as_states, as_pairs) in [
+            (zero, one, true, true),
+            (one, none, true, false),
+            (zero.with(1), zero, true, false),
+            (one, outer, false, true),
+            (outer, inner, true, true),
+            (inner, outer, false, false),
+            (inner, inner, false, false),
+        ] {
+            assert_eq!(rt; state_before(set, other), as_states, "{set:?}, {other:?}");
+            assert_eq!(rt; pair_before(set, other), as_pairs, "{set:?}, {other:?}");
+        }
+    }
 }

@@ -3,10 +3,12 @@ pub mod Members
 pub mod Sameness
 pub mod VariableLemmas
 pub mod GatherLemmas
-pub mod AtomLemmas
-pub mod PartLemmas
 pub mod FaultLemmas
 pub mod Twins
 pub mod ValidLemmas
+pub mod Distinct
+pub mod AppliesLemmas
+pub mod AtomLemmas
+pub mod PartLemmas
+pub mod KeptLemmas
 pub mod BuildLemmas
-pub mod ApplicableLemmas

@@ -2,14 +2,12 @@
 use Rattle.std.proofs.Common.{◌≡◌, ◌≢◌, ℕ, ◌+◌, ◌-◌, ◌<◌, ◌≤◌, Bool, true, false, not, ◌&&◌, ◌||◌, cond, eqb, ltb, get_or, drop, List, [], ◌∷◌, ◌++◌, map, length, Option, Some, None, refl, sym, ap, ◌∙◌, arith, slice_get}
 use Rattle.std.proofs.lemmas.Bool.Decides.{nat_tests}
 use Rattle.std.proofs.lemmas.List.{at_drop_more, at_drop_all, length-map}
-use Rattle.std.proofs.lemmas.List.FromFn.{length-range_with_len, get_or-range_with_len}
 use Rattle.std.proofs.lemmas.List.Folds.{list_any-append}
 use Rattle.std.specs.List.{list_any, range_with_len}
 use Rattle.mcs_sets.specs.Sets.{has, union, size}
 use Rattle.mcs_sets.proofs.SetLemmas.{same_set, has-such_that, has-union, has-empty}
 use Rattle.mcs_system.specs.declared.bridge.Bridge as code
 use Rattle.mcs_system.specs.declared.knowledge.Context as code'
-use Rattle.mcs_system.specs.declared.parts.ContextParts as code_parts
 use Rattle.mcs_system.specs.declared.fault.Limit.TheVariants.{InputsPerContext, AtomsPerContext}
 use Rattle.mcs_system.specs.Plain.{Name, Read, Bridge, System}
 use Rattle.mcs_system.specs.Seen.{context_of, bridge_of, system_of}
@@ -18,8 +16,7 @@ use Rattle.mcs_system.specs.Rows.{inputs_of, is_read_into}
 use Rattle.mcs_system.specs.Imports.{rules_into}
 use Rattle.mcs_system.specs.Atoms.{atoms_of}
 use Rattle.mcs_system.specs.Faults.{exceeds}
-use Rattle.mcs_system.specs.Parts.{ContextPart, context_part, context_part_of, variables_among, variables_read, inputs_among, is_read_among, read_into}
-use Rattle.mcs_system.proofs.SeenLemmas.{slice_get-map}
+use Rattle.mcs_system.specs.Parts.{ContextPart, context_part, variables_among, variables_read, inputs_among, is_read_among, read_into}
 use Rattle.mcs_system.proofs.VariableLemmas.{range_step, range_over}
 
 abbrev of_rules : List Bridge → System
@@ -143,18 +140,3 @@ part_with a v n r = record { atoms = a; variables = v; inputs = n; rules = r }
 
 pub part_made : (m : System) (i : ℕ) (a : List Name) (v n r : ℕ) → a ≡ atoms_of m i → v ≡ variables_of m i → n ≡ inputs_of m i → r ≡ rules_into m i → part_with a v n r ≡ context_part m i
 part_made m i a v n r ea ev en er = ap (λ x. part_with x v n r) ea ∙ ap (λ x. part_with (atoms_of m i) x n r) ev ∙ ap (λ x. part_with (atoms_of m i) (variables_of m i) x r) en ∙ ap (λ x. part_with (atoms_of m i) (variables_of m i) (inputs_of m i) x) er
-
--- ---- what is kept of a context, at its number
-pub parts_long : (m : System) (parts : List code_parts.ContextParts) (n : ℕ) → map context_part_of parts ≡ map (context_part m) (range_with_len 0 n) → length parts ≡ n
-parts_long m parts n are = omega (arith, length-map parts context_part_of, ap length are, length-map (range_with_len 0 n) (context_part m), length-range_with_len 0 n)
-
-pub part_at : (m : System) (parts : List code_parts.ContextParts) (n i : ℕ) (p : code_parts.ContextParts) → i < n → map context_part_of parts ≡ map (context_part m) (range_with_len 0 n) → p ≡ get_or parts i p → context_part_of p ≡ context_part m i
-part_at m parts n i p less are is = some_same (context_part_of p) (context_part m i) (
-    ap (λ (q : code_parts.ContextParts). Some (context_part_of q)) is
-    ∙ sym (slice_get-map context_part_of parts i p (omega (arith, parts_long m parts n are)))
-    ∙ ap (λ ps. slice_get ps i) are
-    ∙ slice_get-map (context_part m) (range_with_len 0 n) i i (omega (arith, length-range_with_len 0 n))
-    ∙ ap (λ j. Some (context_part m j)) (get_or-range_with_len 0 n i i less ∙ omega arith))
-  where
-    some_same : (x y : ContextPart) → Some x ≡ Some y → x ≡ y
-    some_same x y e = cc

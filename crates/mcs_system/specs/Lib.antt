@@ -7,6 +7,7 @@ pub mod Imports
 pub mod Rows
 pub mod Atoms
 pub mod Faults
+pub mod Texts
 pub mod Codes
 pub mod Gathered
 pub mod Parts

@@ -1,7 +1,7 @@
 -- Assignments, consequence, belief sets and what each kind of context accepts.
 use Rattle.std.specs.Prelude.{◌≡◌, ℕ, ◌+◌, cond, Bool, true, false, not, ◌&&◌, ◌||◌, IsTrue, List, [], ◌∷◌, ◌++◌, map, filter}
 use Rattle.std.specs.Str.{bytes_eq}
-use Rattle.std.specs.List.{list_any, list_all, AllByRecursion, filter_map}
+use Rattle.std.specs.List.{list_any, list_all, AllByRecursion, filter_map, flat_map}
 use Rattle.std.specs.Prelude.{Option, Some, None}
 use Rattle.mcs_sets.specs.Sets.{has}
 use Rattle.mcs_system.specs.Plain.{Name, Formula, Truth, Falsity, Atom, Not, And, Or, Implies, Iff, ProgramRule, Item, Fact, Rule, Kb, Classical, DefaultTheory, Program}
@@ -38,6 +38,9 @@ atoms (And f g) = atoms f ++ atoms g
 atoms (Or f g) = atoms f ++ atoms g
 atoms (Implies f g) = atoms f ++ atoms g
 atoms (Iff f g) = atoms f ++ atoms g
+
+abbrev pub all_atoms : List Formula → List Name
+all_atoms fs = flat_map atoms fs
 
 -- those of the names whose places, the first one being k, are in the set
 abbrev pub true_names : ℕ → List Name → ℕ → List Name
@@ -116,3 +119,9 @@ abbrev pub with_heads : Kb → List Formula → Kb
 with_heads (Classical formulas) heads = Classical (formulas ++ heads)
 with_heads (DefaultTheory items) heads = DefaultTheory (items ++ map Fact heads)
 with_heads (Program rules) heads = Program (rules ++ filter_map fact_of heads)
+
+-- the context is classical
+abbrev pub IsClassical : Kb → Type 0
+IsClassical (Classical formulas) = Unit {0}
+IsClassical (DefaultTheory items) = ⊥
+IsClassical (Program rules) = ⊥

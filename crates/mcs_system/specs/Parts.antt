@@ -1,7 +1,7 @@
 -- What a system keeps of its contexts and rules, so that no later call reads formulas again.
-use Rattle.std.specs.Prelude.{ℕ, nat_eq, cond, Bool, false, ◌&&◌, List, [], length, map, slice_get, Option, Some, None}
+use Rattle.std.specs.Prelude.{ℕ, nat_eq, cond, Bool, false, List, [], length, map, slice_get, Option, Some, None}
 use Rattle.std.specs.List.{list_any}
-use Rattle.mcs_sets.specs.Sets.{such_that, union, common, minus}
+use Rattle.mcs_sets.specs.Sets.{such_that, union}
 use Rattle.mcs_system.specs.declared.parts.ContextParts as code_parts
 use Rattle.mcs_system.specs.declared.parts.RuleReads as code_reads
 use Rattle.mcs_system.specs.Plain.{Name, Read, Bridge, System}
@@ -53,8 +53,3 @@ rule_part_of r = record { positive = r.positive; negative = r.negative }
 -- those of the variables that the rule reads, if it goes into context i
 abbrev pub read_into : List Read → ℕ → Bridge → ℕ
 read_into vs i b = cond (nat_eq b.target i) (union (variables_read vs b.pos) (variables_read vs b.neg)) 0
-
--- whether a rule of which this is kept applies in the state: it holds what is read positively, and nothing of what is read negatively
-abbrev pub applies_by : ℕ → Option RulePart → Bool
-applies_by state None = false
-applies_by state (Some p) = nat_eq (minus p.positive state) 0 && nat_eq (common p.negative state) 0

@@ -3,7 +3,7 @@ use Rattle.std.specs.Prelude.{◌≡◌, ℕ, ◌+◌, nat_eq, Bool, true, false
 use Rattle.std.specs.List.{list_any, list_all, AllByRecursion, flat_map, range_with_len, enumerate_from}
 use Rattle.mcs_sets.specs.Sets.{has, common, union, such_that}
 use Rattle.mcs_system.specs.Plain.{Formula, Truth, Falsity, Atom, Not, And, Or, Implies, Iff, Context, Read, Bridge, System}
-use Rattle.mcs_system.specs.Logic.{same_name, BeliefSet, Believes, Accepts, with_heads}
+use Rattle.mcs_system.specs.Logic.{same_name, Entails, BeliefSet, Believes, Accepts, with_heads}
 
 abbrev pub same_formula : Formula → Formula → Bool
 same_formula Truth Truth = true
@@ -88,11 +88,20 @@ pub record IsProjected (m : System) (r1 r2 σ : ℕ) : Type 0 where
   pub balanced : IsEquilibrium m r1 r2 state
   pub projection : IsProjection m state σ
 
+-- a system is consistent where it has an equilibrium
+pub record IsConsistent (m : System) : Type 0 where
+  pub equilibrium : ℕ
+  pub balanced : IsProjected m (all_rules m) 0 equilibrium
+
 -- τ is the projection of a belief set that context i accepts with the heads of x
 pub record IsAcceptedPart (m : System) (i x τ : ℕ) : Type 0 where
   pub belief : BeliefSet
   pub accepted : AcceptsWith m i x belief
   pub part : (v : ℕ) → IsTrue (has τ v) ↔ ((r : Read) × IsVariable m v r × (r.context ≡ i) × Believes belief r.belief)
+
+-- v is a variable of context i that follows from the formulas
+abbrev pub Follows : System → ℕ → List Formula → ℕ → Type 0
+Follows m i formulas v = (r : Read) × IsVariable m v r × (r.context ≡ i) × Entails formulas r.belief
 
 -- ---- the same over a set of variables
 abbrev pub believed_among : List Read → ℕ → Read → Bool

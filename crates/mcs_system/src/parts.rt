@@ -1,14 +1,13 @@
 //! What a system keeps of its contexts and rules, so that no later call reads formulas again.
 
-ghost use Rattle.std.specs.Prelude.{◌≡◌, ◌≤◌, ◌<◌, ◌&&◌, ℕ, List, map, length, slice_get, true, false, Some, IsTrue, IfOk, MatchOption};
+ghost use Rattle.std.specs.Prelude.{◌≡◌, ◌≤◌, ◌<◌, ℕ, List, map, length, true, false, IfOk, MatchOption};
 ghost use Rattle.std.specs.List.{range_with_len};
 ghost use Rattle.mcs_system.specs.declared.knowledge.Context.{Context};
 ghost use Rattle.mcs_system.specs.declared.fault.Limit.TheVariants.{InputsPerContext, AtomsPerContext};
 ghost use Rattle.mcs_system.specs.Atoms.{atoms_of};
 ghost use Rattle.mcs_system.specs.Faults.{exceeds};
 ghost use Rattle.mcs_system.specs.Imports.{rules_into};
-ghost use Rattle.mcs_system.specs.Parts.{context_part, context_part_of, variables_among, inputs_among, variables_read, read_into, rule_part, rule_part_of, applies_by};
-ghost use Rattle.mcs_sets.specs.Sets.{has, such_that};
+ghost use Rattle.mcs_system.specs.Parts.{context_part, context_part_of, variables_among, inputs_among, variables_read, read_into, rule_part, rule_part_of};
 ghost use Rattle.mcs_system.specs.Seen.{read_of, bridge_of, system_of};
 ghost use Rattle.mcs_system.specs.Systems.{variables};
 
@@ -210,30 +209,4 @@ pub(crate) fn parts_of_contexts(
         parts.push(own)?;
     }
     Ok(Some(parts))
-}
-
-/// Whether the rule applies in the state: it holds what is read positively, and nothing of what is read
-/// negatively.
-fn applies(reads: &RuleReads, state: Vars) -> bool
-    ensures { result ≡ applies_by state (Some (rule_part_of reads.now)) }
-{
-    reads.positive.within(state) && !reads.negative.meets(state)
-}
-
-/// Those of the rules that apply in the state. Each has its number among the reads.
-pub(crate) fn applicable_among(reads: &[RuleReads], rules: Active, state: Vars) -> Active
-    requires few { length reads.now ≤ 64 }
-    requires numbered { (k : ℕ) → IsTrue (has rules k) → k < length reads.now }
-    ensures { result ≡ such_that (length reads.now)
-        (λ k. has rules k && applies_by state (slice_get (map rule_part_of reads.now) k)) }
-{
-    let mut applicable = rules;
-    let mut left = rules;
-    while let Some(k) = left.first() {
-        if !applies(&reads[k as usize], state) {
-            applicable = applicable.without(k);
-        }
-        left = left.without(k);
-    }
-    applicable
 }

@@ -1,27 +1,28 @@
-//! A multi-context system: contexts and bridge rules that fit together and keep the limits.
+//! Multi-context systems.
 
-ghost use Rattle.std.specs.Prelude.{◌≡◌, ◌≤◌, ◌<◌, map, length, IfOk, IfErr};
+ghost use Rattle.std.specs.Prelude.{◌≡◌, ◌<◌, ◌≤◌, length, map, Some, slice_get, IfOk, IfErr};
 ghost use Rattle.mcs_sets.specs.Sets.{common};
 ghost use Rattle.mcs_system.specs.Atoms.{atoms_of};
 ghost use Rattle.mcs_system.specs.Built.{IsFaultOf};
 ghost use Rattle.mcs_system.specs.Faults.{IsValid};
 ghost use Rattle.mcs_system.specs.Imports.{rules_into};
-ghost use Rattle.mcs_system.specs.Parts.{context_part, context_part_of};
+ghost use Rattle.mcs_system.specs.Parts.{context_part, context_part_of, rule_part, rule_part_of};
+ghost use Rattle.mcs_system.specs.Plain as plain;
 ghost use Rattle.mcs_system.specs.Rows.{inputs_of};
-ghost use Rattle.mcs_system.specs.Seen.{read_of, context_of, bridge_of, system_of};
-ghost use Rattle.mcs_system.specs.Systems.{variables, variables_of, applicable};
+ghost use Rattle.mcs_system.specs.Seen.{context_of, bridge_of, read_of, system_of};
+ghost use Rattle.mcs_system.specs.Systems.{variables, variables_of, applicable, is_applicable};
 
 use crate::bridge::{Bridge, Read};
 use crate::build::keep;
 use crate::fault::BuildFault;
 use crate::knowledge::Context;
 use crate::name::Name;
-use crate::parts::{ContextParts, Kept, applicable_among};
+use crate::parts::{ContextParts, Kept, RuleReads};
 use mcs_base::{Active, Vars};
 use std::alloc::Global;
 use std::marker::Model;
 
-/// A multi-context system. It keeps that none of the faults of `BuildFault` holds of it.
+/// A multi-context system (Brewka & Eiter 2007): contexts and bridge rules, none of whose faults holds.
 #[derive(Drop)]
 pub struct System {
     contexts: Vec<Context>,
@@ -63,32 +64,35 @@ impl System {
         })
     }
 
-    /// The contexts, in text order.
+    /// The contexts, in the order of the text.
     pub fn contexts(&self) -> &[Context]
-        ensures contexts { map context_of result.now ≡ self.now.contexts }
+        ensures value { map context_of result.now ≡ self.now.contexts }
+        ensures few { length result.now ≤ 64 }
         ensures valid { IsValid self.now }
     {
         &self.contexts
     }
 
-    /// The bridge rules, in text order.
+    /// The bridge rules, in the order of the text.
     pub fn bridges(&self) -> &[Bridge]
-        ensures bridges { map bridge_of result.now ≡ self.now.bridges }
+        ensures value { map bridge_of result.now ≡ self.now.bridges }
+        ensures few { length result.now ≤ 64 }
         ensures valid { IsValid self.now }
     {
         &self.bridges
     }
 
-    /// The variables, by context and within a context by first occurrence.
+    /// The variables: what bridge rules read, by context, and within a context by first occurrence.
     pub fn variables(&self) -> &[Read]
-        ensures variables { map read_of result.now ≡ variables self.now }
+        ensures value { map read_of result.now ≡ variables self.now }
+        ensures few { length result.now ≤ 64 }
         ensures valid { IsValid self.now }
     {
         &self.kept.known
     }
 
-    /// What is kept of the context.
-    fn part(&self, context: u32) -> &ContextParts
+    /// What is kept of a context of the system.
+    fn parts_of(&self, context: u32) -> &ContextParts
         requires { context < length self.now.contexts }
         ensures part { context_part_of result.now ≡ context_part self.now context }
         ensures valid { IsValid self.now }
@@ -96,52 +100,84 @@ impl System {
         &self.kept.parts[context as usize]
     }
 
-    /// The atoms of the context, by first occurrence: in its items, in the heads of the rules into it, in
-    /// its variables. The context's number is in range.
+    /// What is kept of a rule of the system.
+    fn reads_of(&self, rule: u32) -> &RuleReads
+        requires { rule < length self.now.bridges }
+        ensures part { (b : plain.Bridge) → slice_get self.now.bridges rule ≡ Some b → rule_part_of result.now ≡ rule_part (variables self.now) b }
+        ensures valid { IsValid self.now }
+    {
+        &self.kept.reads[rule as usize]
+    }
+
+    /// Whether a rule of the system applies in the state.
+    fn is_applicable(&self, rule: u32, state: Vars) -> bool
+        requires { rule < length self.now.bridges }
+        ensures { result ≡ is_applicable self.now state (slice_get self.now.bridges rule) }
+    {
+        let reads = self.reads_of(rule);
+        reads.positive.within(state) && !reads.negative.meets(state)
+    }
+
+    /// The atoms of a context of the system, by first occurrence: in its items, in the heads of the rules
+    /// into it, in its variables.
     pub fn atoms_of(&self, context: u32) -> &[Name]
         requires { context < length self.now.contexts }
-        ensures atoms { result.now ≡ atoms_of self.now context }
+        ensures value { result.now ≡ atoms_of self.now context }
         ensures few { length result.now ≤ 64 }
-        ensures valid { IsValid self.now }
     {
-        &self.part(context).atoms
+        &self.parts_of(context).atoms
     }
 
-    /// The variables of the context, whose number is in range.
+    /// The variables of a context of the system.
     pub fn vars_of(&self, context: u32) -> Vars
         requires { context < length self.now.contexts }
-        ensures variables { result ≡ variables_of self.now context }
-        ensures valid { IsValid self.now }
+        ensures { result ≡ variables_of self.now context }
     {
-        self.part(context).variables
+        self.parts_of(context).variables
     }
 
-    /// The variables that rules into the context read. The context's number is in range.
+    /// The variables that rules into a context of the system read.
     pub fn inputs_of(&self, context: u32) -> Vars
         requires { context < length self.now.contexts }
-        ensures inputs { result ≡ inputs_of self.now context }
-        ensures valid { IsValid self.now }
+        ensures { result ≡ inputs_of self.now context }
     {
-        self.part(context).inputs
+        self.parts_of(context).inputs
     }
 
-    /// The rules into the context, whose number is in range.
+    /// The rules into a context of the system.
     pub fn rules_of(&self, context: u32) -> Active
         requires { context < length self.now.contexts }
-        ensures rules { result ≡ rules_into self.now context }
-        ensures valid { IsValid self.now }
+        ensures { result ≡ rules_into self.now context }
     {
-        self.part(context).rules
+        self.parts_of(context).rules
     }
 
-    /// The rules into the context that are applicable in the state. The context's number is in range.
+    /// The rules into a context of the system that apply in the state.
     pub fn applicable(&self, context: u32, state: Vars) -> Active
         requires { context < length self.now.contexts }
-        ensures applicable { result ≡ common (applicable self.now state) (rules_into self.now context) }
-        ensures valid { IsValid self.now }
+        ensures { result ≡ common (applicable self.now state) (rules_into self.now context) }
     {
-        let rules = self.rules_of(context);
-        applicable_among(&self.kept.reads, rules, state)
+        let mut rules = Active::empty();
+        for r in self.rules_of(context).members() {
+            if self.is_applicable(r, state) {
+                rules = rules.with(r);
+            }
+        }
+        rules
+    }
+
+    /// All rules that apply in the state.
+    #[tactic(auto, using(crate::proofs::SeenLemmas::loops), unfolding(crate::specs::Systems::applicable))]
+    pub fn applicable_rules(&self, state: Vars) -> Active
+        ensures { result ≡ applicable self.now state }
+    {
+        let mut rules = Active::empty();
+        for r in 0..self.bridges().len() as u32 {
+            if self.is_applicable(r, state) {
+                rules = rules.with(r);
+            }
+        }
+        rules
     }
 }
 

@@ -1,4 +1,4 @@
-use Rattle.std.proofs.Common.{arith, inl, inr, sym, ◌∙◌, ◌≡◌}
+use Rattle.std.proofs.Common.{arith, inl, inr, ◌≡◌}
 use Rattle.mcs_sets.specs.Sets.{size}
 use Rattle.mcs_sets.proofs.SetLemmas.{pair_before_is}
 use Rattle.mcs_sets.proofs.small_set.pair_before.Goals as goal

@@ -1,6 +1,5 @@
-use Rattle.std.proofs.Common.{arith, sym, subst}
+use Rattle.std.proofs.Common.{sym}
 use Rattle.mcs_sets.proofs.SetLemmas.{length-members}
-use Rattle.std.proofs.Math.Pow.{pow-lt}
 use Rattle.mcs_sets.proofs.small_set.SmallSet.count.Goals as goal
 
 pub returns-clause-number : goal.returns-clause-number

@@ -1,5 +1,4 @@
-use Rattle.std.proofs.Common.{arith, subst, ◌≡◌}
-use Rattle.mcs_sets.specs.Sets.{IsLeast}
+use Rattle.std.proofs.Common.{arith}
 use Rattle.std.specs.Int.{w128}
 use Rattle.mcs_sets.proofs.SetLemmas.{least_at_trailing}
 use Rattle.mcs_sets.proofs.small_set.SmallSet.first.Goals as goal

@@ -1,0 +1,84 @@
+//! A growing text.
+
+ghost use Rattle.std.specs.Prelude.{◌≡◌, List, ℕ, [], ◌++◌, OnOk, OnErr, decimal};
+
+use crate::memory::Memory;
+use itoa::Buffer;
+use std::alloc::Global;
+use std::marker::Model;
+
+/// A growing text of bytes, which keeps the allocator that it was made with.
+#[derive(Debug, Drop)]
+pub struct Text {
+    bytes: Vec<u8>,
+}
+
+impl Model for Text {
+    ghost use Rattle.std.specs.Prelude.{List, ℕ};
+
+    ghost Value = { List ℕ };
+
+    ghost view = { λ t. t.bytes.items };
+}
+
+impl Text {
+    /// The empty text. It takes no memory.
+    pub fn new(alloc: Global) -> Text
+        ensures { result ≡ [] }
+    {
+        Text {
+            bytes: Vec::new(alloc),
+        }
+    }
+
+    /// Puts the bytes at the end. Without the memory for all of them the text stays as it was.
+    pub fn push(&mut self, bytes: &[u8]) -> Result<(), Memory>
+        ensures ok { OnOk result (self.new ≡ self.old ++ bytes.now) }
+        ensures err { OnErr result (self.new ≡ self.old) }
+    {
+        self.bytes.extend_from_slice(bytes)?;
+        Ok(())
+    }
+
+    /// Puts the number at the end, in decimal digits. Without the memory for all of them the text stays
+    /// as it was.
+    pub fn push_number(&mut self, n: u64) -> Result<(), Memory>
+        ensures ok { OnOk result (self.new ≡ self.old ++ decimal n) }
+        ensures err { OnErr result (self.new ≡ self.old) }
+    {
+        self.push(Buffer::new().format(n).as_bytes())
+    }
+
+    /// The bytes so far.
+    pub fn bytes(&self) -> &[u8]
+        ensures { result.now ≡ self.now }
+    {
+        self.bytes.as_slice()
+    }
+
+    /// Makes the text empty. It keeps its memory.
+    pub fn clear(&mut self)
+        ensures { self.new ≡ [] }
+    {
+        self.bytes.clear();
+    }
+}
+
+#[cfg(test)]
+mod tests {
+    use super::*;
+    use std::test::Fail;
+
+    #[test]
+    fn grows(rt: HostRuntime) -> Result<(), Fail> {
+        let mut text = Text::new(rt.alloc());
+        text.push(b"n = ")?;
+        text.push_number(1204)?;
+        assert_eq!(rt; text.bytes(), b"n = 1204".as_slice());
+        text.clear();
+        text.push_number(0)?;
+        text.push_number(u64::MAX)?;
+        assert_eq!(rt; text.bytes(), b"018446744073709551615".as_slice());
+        Ok(())
+    }
+}

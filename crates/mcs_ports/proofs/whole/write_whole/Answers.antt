@@ -1,0 +1,13 @@
+use Rattle.std.proofs.Common.{rules, ◌∙◌, arith}
+use Rattle.mcs_ports.proofs.PieceLemmas.{appended-more}
+use Rattle.mcs_ports.proofs.whole.write_whole.Goals as goal
+
+pub loop-taken-preserved : goal.loop-taken-preserved
+loop-taken-preserved g c =
+    record {
+      within = search rules;
+      later = omega (arith, c.in_ok-taken.ensures.cause.later);
+      written = c.in_ok-taken.ensures.written
+          ∙ appended-more (g.K.Sink.written c.args.sink.now) (g.K.Sink.written c.loop-taken.sink) c.args.bytes.now c.loop-taken.taken c.in_ok-taken.field-0 c.loop-taken.invariant.written;
+      notes = search rules;
+    }

@@ -1,0 +1,125 @@
+//! Whole reads and whole writes over the devices.
+
+ghost use Rattle.std.specs.Prelude.{◌≡◌, ℕ, ◌<◌, ◌≤◌, ◌+◌, [], List, Some, length, take, drop, is_some, IsNone, IfSome, IfOk, OnOk, OnErr, IsErrOf};
+ghost use Rattle.mcs_ports.specs.Causes.{Rose, HasCause};
+ghost use Rattle.mcs_ports.specs.Pieces.{appended};
+ghost use Rattle.mcs_ports.specs.declared.whole.ReadAnswer.TheVariants.{Memory};
+
+use crate::{Failed, Shelf, Sink};
+use std::alloc::{AllocError, Global};
+use std::error::Error;
+use std::fmt;
+
+/// Why a file could not be read whole.
+#[derive(Clone, Copy, Debug, PartialEq, Eq)]
+pub enum ReadAnswer {
+    /// The shelf failed; a file that is not there is such a failure.
+    Fault,
+    /// The file is longer than the limit.
+    TooLong,
+    /// Memory ran out.
+    Memory,
+}
+
+impl fmt::Display for ReadAnswer {
+    fn fmt<W: fmt::Write>(&self, f: &mut fmt::Formatter<W>) -> fmt::Result {
+        match self {
+            ReadAnswer::Fault => write!(f, "a read failed"),
+            ReadAnswer::TooLong => write!(f, "the file is too long"),
+            ReadAnswer::Memory => write!(f, "out of memory"),
+        }
+    }
+}
+
+impl Error for ReadAnswer {}
+
+impl From<AllocError> for ReadAnswer {
+    ghost from_gives = { λ _ answer. answer ≡ Memory };
+
+    fn from(_refused: AllocError) -> ReadAnswer {
+        ReadAnswer::Memory
+    }
+}
+
+// The most bytes that one read asks for.
+const PIECE: usize = 4096;
+
+/// Reads the file of this name whole, if it has at most `limit` bytes, which may be any number.
+///
+/// `Fault` comes only where the shelf's count of faults rose, as it does where the file is not there.
+/// `TooLong` comes exactly where the file has more than `limit` bytes; one more than those is read.
+/// `Memory` comes where memory ran out.
+pub fn read_whole<H: Shelf>(
+    shelf: &mut H,
+    alloc: Global,
+    name: &str,
+    limit: usize,
+) -> Result<Vec<u8>, ReadAnswer>
+    ensures later { H.faults shelf.old ≤ H.faults shelf.new }
+    ensures fault { IsErrOf result ReadAnswer.Fault → Rose (H.faults shelf.old) (H.faults shelf.new) }
+    ensures within { IfOk result (λ bytes. length bytes.items ≤ limit) }
+    ensures same_held { H.held shelf.new ≡ H.held shelf.old }
+    ensures tells { is_some (H.left shelf.new) ≡ is_some (H.left shelf.old) }
+
+    // Where the shelf tells what it holds, the answer is the file's, and says when it is refused.
+    ensures whole { IfOk result (λ bytes. IfSome (H.held shelf.old)
+        (λ files. files name.now ≡ Some bytes.items)) }
+    ensures too_long { IsErrOf result ReadAnswer.TooLong → IfSome (H.held shelf.old)
+        (λ files. (bytes : List ℕ) × (files name.now ≡ Some bytes) × (limit < length bytes)) }
+    ensures stops { IsErrOf result ReadAnswer.TooLong → IfSome (H.held shelf.old)
+        (λ files. IfSome (files name.now)
+        (λ bytes. H.left shelf.new ≡ Some (drop (limit + 1) bytes))) }
+    ensures missing { IfSome (H.held shelf.old)
+        (λ files. IsNone (files name.now) → IsErrOf result ReadAnswer.Fault) }
+    ensures at_end { OnOk result (IfSome (H.left shelf.new) (λ l. l ≡ [])) }
+{
+    if shelf.open(name).is_err() {
+        return Err(ReadAnswer::Fault);
+    }
+    read_rest(shelf, alloc, limit)
+}
+
+// Reads what is left of the open file, if that is at most `limit` bytes.
+fn read_rest<H: Shelf>(shelf: &mut H, alloc: Global, limit: usize) -> Result<Vec<u8>, ReadAnswer>
+    ensures later { H.faults shelf.old ≤ H.faults shelf.new }
+    ensures fault { IsErrOf result ReadAnswer.Fault → Rose (H.faults shelf.old) (H.faults shelf.new) }
+    ensures within { IfOk result (λ bytes. length bytes.items ≤ limit) }
+    ensures same_held { H.held shelf.new ≡ H.held shelf.old }
+    ensures tells { is_some (H.left shelf.new) ≡ is_some (H.left shelf.old) }
+    ensures whole { IfOk result (λ bytes. IfSome (H.left shelf.old) (λ l. l ≡ bytes.items)) }
+    ensures too_long { IsErrOf result ReadAnswer.TooLong
+        → IfSome (H.left shelf.old) (λ l. limit < length l) }
+    ensures stops { IsErrOf result ReadAnswer.TooLong
+        → IfSome (H.left shelf.old) (λ l. H.left shelf.new ≡ Some (drop (limit + 1) l)) }
+    ensures at_end { OnOk result (IfSome (H.left shelf.new) (λ l. l ≡ [])) }
+{
+    let mut bytes = Vec::new(alloc);
+    let mut buffer = [0u8; PIECE];
+    loop {
+        let room = limit - bytes.len();
+        let most = room.min(PIECE - 1) + 1;
+        match shelf.read(&mut buffer[..most]) {
+            Err(_) => return Err(ReadAnswer::Fault),
+            Ok(0) => return Ok(bytes),
+            Ok(count) if count > room => return Err(ReadAnswer::TooLong),
+            Ok(count) => bytes.extend_from_slice(&buffer[..count])?,
+        }
+    }
+}
+
+/// Writes the piece whole. It takes no memory.
+///
+/// `Failed` comes only where the sink's count of faults rose; then a front of the piece was written.
+pub fn write_whole<K: Sink>(sink: &mut K, bytes: &[u8]) -> Result<(), Failed>
+    ensures cause { HasCause (K.faults sink.old) (K.faults sink.new) result }
+    ensures written { OnOk result (K.written sink.new ≡ appended (K.written sink.old) bytes.now) }
+    ensures prefix { OnErr result ((n : ℕ) × (n ≤ length bytes.now)
+        × (K.written sink.new ≡ appended (K.written sink.old) (take n bytes.now))) }
+    ensures notes { K.notes sink.new ≡ K.notes sink.old }
+{
+    let mut taken = 0;
+    while taken < bytes.len() {
+        taken += sink.write(&bytes[taken..])?;
+    }
+    Ok(())
+}

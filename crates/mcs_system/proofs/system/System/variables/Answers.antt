@@ -1,0 +1,15 @@
+use Rattle.std.proofs.Common.{◌≡◌, ◌≤◌, length, map, sym, ap, ◌∙◌, arith}
+use Rattle.std.proofs.lemmas.List.{length-map}
+use Rattle.mcs_system.specs.Seen.{read_of, system_of}
+use Rattle.mcs_system.specs.Systems.{variables}
+use Rattle.mcs_system.proofs.ValidLemmas.{few_variables}
+use Rattle.mcs_system.proofs.system.System.variables.Goals as goal
+
+pub returns-clause-few : goal.returns-clause-few
+returns-clause-few c = omega (
+  arith,
+  ap length c.self.invariant.variables_are,
+  length-map c.self.inside.kept.known.items read_of,
+  ap length c.deref.ensures.value,
+  few_variables (system_of c.self.inside.contexts.items c.self.inside.bridges.items) c.self.invariant.valid,
+)

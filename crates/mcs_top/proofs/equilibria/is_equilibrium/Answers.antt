@@ -1,0 +1,41 @@
+use Rattle.std.proofs.Common.{◌≡◌, ℕ, length, map, nat_eq, true, false, sym, ap, subst, ◌∙◌, refl, arith, true≢false}
+use Rattle.std.proofs.lemmas.Bool.Decides.{nat_tests}
+use Rattle.std.proofs.lemmas.List.{length-map}
+use Rattle.mcs_sets.specs.Sets.{common}
+use Rattle.mcs_system.specs.Plain.{System}
+use Rattle.mcs_system.specs.Seen.{context_of}
+use Rattle.mcs_system.specs.Systems.{variables_of, IsAcceptedPart}
+use Rattle.mcs_top.proofs.EquilibriumLemmas.{AcceptsBelow, accepts_none, accepts_more, balanced, accepted_where_balanced}
+use Rattle.mcs_top.proofs.equilibria.is_equilibrium.Goals as goal
+
+pub loop-i-init : goal.loop-i-init
+loop-i-init g c = accepts_none c.args.system.now c.args.state
+
+pub returns-then-ne : goal.returns-then-ne
+returns-then-ne g c = (
+  (λ e. absurd (true≢false (sym e))),
+  λ h.
+      let many : length c.contexts-i-end.result.now ≡ length c.args.system.now.contexts = sym (length-map c.contexts-i-end.result.now context_of) ∙ ap length c.contexts-i-end.ensures.value in
+      let accepted = accepted_where_balanced c.args.system.now c.args.state c.loop-i.i h (omega (arith, many, c.loop-i-test.true)) in
+      let accepted' = subst (λ (x : ℕ). IsAcceptedPart c.args.system.now c.loop-i.i x (common c.args.state (variables_of c.args.system.now c.loop-i.i))) (sym c.applicable-rules.ensures) accepted in
+      let same : common c.args.state (variables_of c.args.system.now c.loop-i.i) ≡ c.accepted_part.result = (c.accepted_part.ensures _).0 accepted' in
+      let shown : c.common.result ≡ c.accepted_part.result = c.common.ensures ∙ ap (common c.args.state) c.vars_of.ensures ∙ same in
+      let told = c.ne.ensures in
+      let yes = c.if-ne.true in
+      grind (arith, nat_tests),
+)
+
+pub loop-i-preserved : goal.loop-i-preserved
+loop-i-preserved g c =
+    let told = c.ne.ensures in
+    let equal = c.if-ne.false in
+    let same : c.common.result ≡ c.accepted_part.result = grind (arith, nat_tests) in
+    let shown : common c.args.state (variables_of c.args.system.now c.loop-i.i) ≡ c.accepted_part.result = ap (common c.args.state) (sym c.vars_of.ensures) ∙ sym c.common.ensures ∙ same in
+    let accepted = (c.accepted_part.ensures (common c.args.state (variables_of c.args.system.now c.loop-i.i))).1 shown in
+    accepts_more c.args.system.now c.args.state c.loop-i.i c.loop-i.invariant (subst (λ (x : ℕ). IsAcceptedPart c.args.system.now c.loop-i.i x (common c.args.state (variables_of c.args.system.now c.loop-i.i))) c.applicable-rules.ensures accepted)
+
+pub returns : goal.returns
+returns g c =
+    let many : length c.contexts-i-end.result.now ≡ length c.args.system.now.contexts = sym (length-map c.contexts-i-end.result.now context_of) ∙ ap length c.contexts-i-end.ensures.value in
+    let end : c.loop-i.i ≡ length c.args.system.now.contexts = omega (arith, many, c.loop-i-test.false, c.loop-i.auto.i-end) in
+    ((λ e. balanced c.args.system.now c.args.state c.requires.state (subst (AcceptsBelow c.args.system.now c.args.state) end c.loop-i.invariant)), λ h. refl)

@@ -1,0 +1,5 @@
+use Rattle.mcs_top.proofs.EquilibriumLemmas.{AcceptsBelow}
+use Rattle.mcs_top.proofs.equilibria.is_equilibrium.Given as goal
+
+abbrev pub invariant-loop-i : goal.invariant-loop-i
+invariant-loop-i g l = AcceptsBelow l.system l.state l.i

@@ -1,0 +1,168 @@
+//! The lines of a listing.
+
+ghost use Rattle.std.specs.Prelude.{◌≡◌, ◌<◌, ◌++◌, [], length, codes, OnOk, if◌then◌else◌};
+ghost use Rattle.mcs_sets.specs.Sets.{Within};
+ghost use Rattle.mcs_system.specs.Seen.{formula_of, read_of};
+ghost use Rattle.mcs_system.specs.Systems.{variables, all_variables, all_rules};
+ghost use Rattle.mcs_system.specs.Texts.{primary, sign_of, read_text, variable_text, rule_text, state_text, rules_text, heading, equilibrium_line, verdict, equilibria_end};
+
+use mcs_base::{Active, Memory, Text, Vars};
+use mcs_system::{Formula, Read, System};
+
+/// The sign of a formula of two parts, between spaces; empty for another.
+fn sign(f: &Formula) -> &'static [u8]
+    ensures { result.now ≡ sign_of (formula_of f.now) }
+{
+    match f {
+        Formula::And(_, _) => b" & ",
+        Formula::Or(_, _) => b" | ",
+        Formula::Implies(_, _) => b" -> ",
+        Formula::Iff(_, _) => b" <-> ",
+        _ => b"",
+    }
+}
+
+/// Appends a formula as a belief is printed: what has two parts stands in parentheses.
+pub(crate) fn push_primary(text: &mut Text, f: &Formula) -> Result<(), Memory>
+    ensures { OnOk result (text.new ≡ text.old ++ primary (formula_of f.now)) }
+{
+    match f {
+        Formula::True => text.push(b"true"),
+        Formula::False => text.push(b"false"),
+        Formula::Atom(name) => text.push(name.bytes()),
+        Formula::Not(g) => {
+            text.push(b"~")?;
+            push_primary(text, g)
+        }
+        Formula::And(g, h) | Formula::Or(g, h) | Formula::Implies(g, h) | Formula::Iff(g, h) => {
+            text.push(b"(")?;
+            push_primary(text, g)?;
+            text.push(sign(f))?;
+            push_primary(text, h)?;
+            text.push(b")")
+        }
+    }
+}
+
+/// Appends a belief of a context: the context's name, a colon, the belief.
+pub(crate) fn push_read(text: &mut Text, system: &System, read: &Read) -> Result<(), Memory>
+    requires { read.now.context < length system.now.contexts }
+    ensures { OnOk result (text.new ≡ text.old ++ read_text system.now (read_of read.now)) }
+{
+    text.push(system.contexts()[read.context as usize].name.bytes())?;
+    text.push(b":")?;
+    push_primary(text, &read.belief)
+}
+
+/// Appends what separates a member of a set from the one before it, if there is one.
+fn push_separator(text: &mut Text, is_first: bool) -> Result<(), Memory>
+    ensures { OnOk result (text.new ≡ text.old ++ (if is_first then [] else codes ", ")) }
+{
+    if is_first {
+        return Ok(());
+    }
+    text.push(b", ")
+}
+
+/// Appends the variable of this number.
+#[tactic(auto, using(mcs_system::proofs::SeenLemmas::loops))]
+fn push_variable(text: &mut Text, system: &System, v: u32) -> Result<(), Memory>
+    requires { v < length (variables system.now) }
+    ensures { OnOk result (text.new ≡ text.old ++ variable_text system.now v) }
+{
+    push_read(text, system, &system.variables()[v as usize])
+}
+
+/// Appends the name of the rule of this number.
+#[tactic(auto, using(mcs_system::proofs::SeenLemmas::loops))]
+fn push_rule(text: &mut Text, system: &System, r: u32) -> Result<(), Memory>
+    requires { r < length system.now.bridges }
+    ensures { OnOk result (text.new ≡ text.old ++ rule_text system.now r) }
+{
+    text.push(system.bridges()[r as usize].name.bytes())
+}
+
+/// Appends a set of variables of the system.
+pub(crate) fn push_state(text: &mut Text, system: &System, state: Vars) -> Result<(), Memory>
+    requires { Within state (all_variables system.now) }
+    ensures { OnOk result (text.new ≡ text.old ++ state_text system.now state) }
+{
+    text.push(b"{")?;
+    let mut is_first = true;
+    for v in state.members() {
+        push_separator(text, is_first)?;
+        push_variable(text, system, v)?;
+        is_first = false;
+    }
+    text.push(b"}")
+}
+
+/// Appends a set of rules of the system, by their names.
+pub(crate) fn push_rules(text: &mut Text, system: &System, rules: Active) -> Result<(), Memory>
+    requires { Within rules (all_rules system.now) }
+    ensures { OnOk result (text.new ≡ text.old ++ rules_text system.now rules) }
+{
+    text.push(b"{")?;
+    let mut is_first = true;
+    for r in rules.members() {
+        push_separator(text, is_first)?;
+        push_rule(text, system, r)?;
+        is_first = false;
+    }
+    text.push(b"}")
+}
+
+/// Appends the heading: how many contexts, rules and variables the system has.
+#[tactic(auto, unfolding(mcs_system::specs::Texts::heading))]
+pub(crate) fn push_heading(text: &mut Text, system: &System) -> Result<(), Memory>
+    ensures { OnOk result (text.new ≡ text.old ++ heading system.now) }
+{
+    text.push(b"mcs 1: ")?;
+    text.push_number(system.contexts().len() as u64)?;
+    text.push(b" contexts, ")?;
+    text.push_number(system.bridges().len() as u64)?;
+    text.push(b" rules, ")?;
+    text.push_number(system.variables().len() as u64)?;
+    text.push(b" variables\n")
+}
+
+/// Appends the line of the equilibrium of this number: the state and the rules that apply in it.
+#[tactic(auto, unfolding(mcs_system::specs::Texts::equilibrium_line))]
+pub(crate) fn push_equilibrium(
+    text: &mut Text,
+    system: &System,
+    number: u64,
+    state: Vars,
+) -> Result<(), Memory>
+    requires { Within state (all_variables system.now) }
+    ensures { OnOk result (text.new ≡ text.old ++ equilibrium_line system.now number state) }
+{
+    text.push(b"equilibrium ")?;
+    text.push_number(number)?;
+    text.push(b": ")?;
+    push_state(text, system, state)?;
+    text.push(b" applicable ")?;
+    push_rules(text, system, system.applicable_rules(state))?;
+    text.push(b"\n")
+}
+
+/// Appends the verdict: whether there is an equilibrium.
+pub(crate) fn push_verdict(text: &mut Text, states: &[Vars]) -> Result<(), Memory>
+    ensures { OnOk result (text.new ≡ text.old ++ verdict states.now) }
+{
+    if states.is_empty() {
+        text.push(b"inconsistent\n")
+    } else {
+        text.push(b"consistent\n")
+    }
+}
+
+/// Appends the last line: how many equilibria there are.
+#[tactic(auto, unfolding(mcs_system::specs::Texts::equilibria_end))]
+pub(crate) fn push_equilibria_end(text: &mut Text, states: &[Vars]) -> Result<(), Memory>
+    ensures { OnOk result (text.new ≡ text.old ++ equilibria_end states.now) }
+{
+    text.push(b"end: ")?;
+    text.push_number(states.len() as u64)?;
+    text.push(b" equilibria\n")
+}
