@@ -1,12 +1,11 @@
 //! The atoms of a context: in its items, in the heads of the rules into it, in its variables.
 
-ghost use Rattle.std.specs.Prelude.{◌≡◌, ◌<◌, ◌≤◌, ℕ, ◌++◌, map, filter, length, nat_eq, nat_le, IsTrue, IfOk, MatchOption, List, [], ◌∷◌, slice_index_or};
-ghost use Rattle.std.specs.List.{list_any, flat_map};
-ghost use Rattle.mcs_system.specs.Atoms.{default_atoms, item_atoms, rule_atoms, kb_atoms, atoms_of};
+ghost use Rattle.std.specs.Prelude.{◌≡◌, ◌<◌, ◌≤◌, map, length, nat_le, IsTrue, IfOk, MatchOption, [], ◌∷◌};
+ghost use Rattle.std.specs.List.{flat_map};
+ghost use Rattle.mcs_system.specs.Atoms.{item_atoms, rule_atoms, kb_atoms, atoms_of};
 ghost use Rattle.mcs_system.specs.Gathered.{with_names, head_atoms, belief_atoms, context_atoms};
 ghost use Rattle.mcs_system.specs.Logic.{is_in, atoms};
-ghost use Rattle.mcs_system.specs.Plain as plain;
-ghost use Rattle.mcs_system.specs.Seen.{formula_of, default_of, rule_of, item_of, kb_of, read_of, bridge_of, system_of};
+ghost use Rattle.mcs_system.specs.Seen.{formula_of, rule_of, item_of, kb_of, read_of, bridge_of, system_of};
 ghost use Rattle.mcs_system.specs.Systems.{variables};
 
 use crate::bridge::{Bridge, Read};

@@ -1,6 +1,6 @@
 //! What a system keeps of its contexts and rules, so that no later call reads formulas again.
 
-ghost use Rattle.std.specs.Prelude.{◌≡◌, ◌≤◌, ◌<◌, ℕ, List, map, length, true, false, IfOk, MatchOption};
+ghost use Rattle.std.specs.Prelude.{◌≡◌, ◌≤◌, ◌<◌, List, map, length, true, false, IfOk, MatchOption};
 ghost use Rattle.std.specs.List.{range_with_len};
 ghost use Rattle.mcs_system.specs.declared.knowledge.Context.{Context};
 ghost use Rattle.mcs_system.specs.declared.fault.Limit.TheVariants.{InputsPerContext, AtomsPerContext};

@@ -334,6 +334,7 @@ mod tests {
         assert!(rt; system.applicable(0, Vars::one(2)) == Active::one(1));
         assert!(rt; system.applicable(0, state.with(2)) == Active::empty());
         assert!(rt; system.applicable(2, Vars::one(1)) == Active::one(2));
+        assert!(rt; system.applicable_rules(state.with(1)) == Active::one(0).with(3));
         Ok(())
     }
 

@@ -1,12 +1,11 @@
 //! The variables of a system: what its bridge rules read, each once.
 
-ghost use Rattle.std.specs.Prelude.{◌≡◌, ◌<◌, ◌≤◌, ℕ, map, filter, length, nat_eq, nat_le, IsTrue, IfOk, MatchOption, [], ◌∷◌};
-ghost use Rattle.std.specs.List.{list_any, flat_map};
+ghost use Rattle.std.specs.Prelude.{◌≡◌, ◌<◌, ◌≤◌, map, length, nat_le, IsTrue, IfOk, MatchOption, [], ◌∷◌};
+ghost use Rattle.std.specs.List.{list_any};
 ghost use Rattle.mcs_system.specs.Faults.{reads_of};
 ghost use Rattle.mcs_system.specs.Gathered.{gathered, with_reads};
-ghost use Rattle.mcs_system.specs.Plain as plain;
 ghost use Rattle.mcs_system.specs.Seen.{read_of, bridge_of, system_of};
-ghost use Rattle.mcs_system.specs.Systems.{same_read, firsts, context_variables, variables};
+ghost use Rattle.mcs_system.specs.Systems.{same_read, context_variables, variables};
 
 use crate::bridge::{Bridge, Read};
 use crate::knowledge::Context;
