@@ -1,15 +1,15 @@
 -- Which rules apply, by the sets of variables that they read.
-use Rattle.std.proofs.Common.{◌≡◌, ℕ, ◌+◌, ◌<◌, ◌≤◌, zero, suc, Bool, true, false, not, ◌&&◌, ◌||◌, cond, eqb, ltb, List, [], ◌∷◌, ◌++◌, map, length, Option, Some, None, refl, sym, ap, ◌∙◌, subst, inl, inr, ◌⊎◌, ◌↔◌, arith, IsTrue, true≢false, slice_get}
+use Rattle.std.proofs.Common.{◌≡◌, ℕ, ◌<◌, Bool, true, false, not, ◌&&◌, ◌||◌, cond, eqb, ltb, List, [], ◌∷◌, length, Option, Some, None, refl, sym, ap, ◌∙◌, inl, inr, ◌⊎◌, ◌↔◌, arith, true≢false, slice_get}
 use Rattle.std.proofs.lemmas.Bool.{and_parts}
 use Rattle.std.proofs.lemmas.Bool.Decides.{nat_tests}
 use Rattle.std.specs.List.{list_any, list_all, AllByRecursion}
-use Rattle.mcs_sets.specs.Sets.{has, single, union, common, members, such_that, Within, Meets}
+use Rattle.mcs_sets.specs.Sets.{has, single, union, common, members, Within, Meets}
 use Rattle.mcs_sets.proofs.SetLemmas.{members_below, such_that-lt, has-such_that, has-union, has-single, has-common, has-empty, same_set}
 use Rattle.mcs_base.specs.Listings.{IsAmong}
 use Rattle.mcs_base.proofs.ListingLemmas.{members_listing, all_from_among}
 use Rattle.mcs_system.specs.Plain.{Read, Bridge, System}
 use Rattle.mcs_system.specs.Imports.{rules_into}
-use Rattle.mcs_system.specs.Systems.{same_read, variables, IsVariable, believed_among, applies_among, applies_at, applies_there, is_applicable, applicable}
+use Rattle.mcs_system.specs.Systems.{same_read, variables, IsVariable, believed_among, applies_there, is_applicable, applicable}
 use Rattle.mcs_system.specs.Parts.{is_read_among, variables_read}
 use Rattle.mcs_system.specs.Faults.{reads_of, IsValid}
 use Rattle.mcs_system.proofs.ValidLemmas.{read_in_range}

@@ -1,14 +1,14 @@
 -- The atoms of a context are what a walk over its parts gathers.
-use Rattle.std.proofs.Common.{◌≡◌, ℕ, ◌<◌, Bool, true, false, cond, eqb, get_or, List, [], ◌∷◌, ◌++◌, map, filter, length, Some, refl, sym, ap, ◌∙◌, slice_get}
+use Rattle.std.proofs.Common.{◌≡◌, ℕ, ◌<◌, Bool, true, false, cond, eqb, get_or, List, [], ◌∷◌, ◌++◌, map, filter, length, refl, sym, ap, ◌∙◌, slice_get}
 use Rattle.std.proofs.lemmas.List.{length-map}
 use Rattle.std.specs.List.{flat_map}
 use Rattle.mcs_system.specs.declared.knowledge.Context as code
 use Rattle.mcs_system.specs.declared.bridge.Bridge as code'
-use Rattle.mcs_system.specs.Plain.{Name, Read, Bridge, System}
+use Rattle.mcs_system.specs.Plain.{Read, Bridge}
 use Rattle.mcs_system.specs.Seen.{context_of, kb_of, bridge_of, system_of}
 use Rattle.mcs_system.specs.Logic.{atoms}
 use Rattle.mcs_system.specs.Systems.{context_variables, variables}
-use Rattle.mcs_system.specs.Atoms.{kb_atoms, own_atoms, all_heads_into, atom_occurrences, atoms_of}
+use Rattle.mcs_system.specs.Atoms.{kb_atoms, own_atoms, atom_occurrences, atoms_of}
 use Rattle.mcs_system.specs.Gathered.{with_names, head_atoms, belief_atoms}
 use Rattle.mcs_system.proofs.SeenLemmas.{slice_get-map}
 use Rattle.mcs_system.proofs.GatherLemmas.{first_names-gathered}

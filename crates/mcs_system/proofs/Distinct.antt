@@ -1,12 +1,12 @@
 -- Lists without repeats, and that the variables of a system are one.
-use Rattle.std.proofs.Common.{◌≡◌, ℕ, ◌+◌, ◌<◌, ◌≤◌, zero, suc, Bool, true, false, not, eqb, cond, List, [], ◌∷◌, ◌++◌, filter, length, Some, refl, sym, ap, ◌∙◌, subst, inl, inr, ◌⊎◌, arith, true≢false, slice_get}
+use Rattle.std.proofs.Common.{◌≡◌, ℕ, ◌+◌, ◌≤◌, zero, suc, Bool, true, false, not, eqb, cond, List, [], ◌∷◌, ◌++◌, filter, length, Some, refl, sym, ◌∙◌, subst, inl, inr, arith, true≢false, slice_get}
 use Rattle.std.proofs.lemmas.Bool.Decides.{nat_tests}
 use Rattle.std.specs.List.{range_with_len, flat_map}
 use Rattle.mcs_base.specs.Listings.{IsAmong}
 use Rattle.mcs_system.specs.Plain.{Read, System}
 use Rattle.mcs_system.specs.Systems.{same_read, occurrences, firsts, context_variables, variables, IsVariable}
 use Rattle.mcs_system.proofs.Sameness.{same_read-itself}
-use Rattle.mcs_system.proofs.Members.{among_either, filter_among, among_get, flat_map_among, range_among}
+use Rattle.mcs_system.proofs.Members.{among_either, filter_among, among_get, flat_map_among}
 use Rattle.mcs_system.proofs.VariableLemmas.{firsts_among}
 
 -- no element comes again

@@ -1,5 +1,5 @@
 -- What a walk gathers: it never loses what it found, and what it finds from nothing are the first occurrences.
-use Rattle.std.proofs.Common.{◌≡◌, ℕ, ◌+◌, ◌<◌, ◌≤◌, nat_eq, leb, map, IsTrue, true≢false, get_or, drop, Bool, true, false, not, ◌&&◌, ◌||◌, cond, List, [], ◌∷◌, ◌++◌, filter, length, refl, sym, ap, ◌∙◌, arith, append_assoc}
+use Rattle.std.proofs.Common.{◌≡◌, ℕ, ◌+◌, ◌<◌, ◌≤◌, nat_eq, leb, map, IsTrue, get_or, drop, Bool, true, false, not, ◌&&◌, ◌||◌, cond, List, [], ◌∷◌, ◌++◌, filter, length, refl, sym, ap, ◌∙◌, arith, append_assoc}
 use Rattle.std.proofs.lemmas.Bool.Decides.{nat_tests}
 use Rattle.std.proofs.lemmas.List.{append-nil, length-append, at_drop_more}
 use Rattle.std.proofs.lemmas.List.Elements.{filter-append}
@@ -13,7 +13,7 @@ use Rattle.mcs_system.specs.Faults.{reads_of}
 use Rattle.mcs_system.specs.Systems.{same_read, firsts, occurrences, context_variables}
 use Rattle.mcs_system.specs.Atoms.{first_names}
 use Rattle.mcs_system.specs.Gathered.{gathered, with_names, with_reads}
-use Rattle.mcs_system.proofs.Sameness.{same_name-is, same_name-itself, same_read-is, same_read-itself}
+use Rattle.mcs_system.proofs.Sameness.{same_name-is, same_read-is}
 
 module _ {A : Type 0} (same : A → A → Bool) where
   pub gathered-append : (found xs ys : List A) → gathered same found (xs ++ ys) ≡ gathered same (gathered same found xs) ys

@@ -1,5 +1,5 @@
 -- The atoms of a context.
-use Rattle.std.specs.Prelude.{ℕ, not, Bool, List, [], ◌∷◌, ◌++◌, map, filter, Option, Some, None, slice_get, nat_eq}
+use Rattle.std.specs.Prelude.{ℕ, not, List, [], ◌∷◌, ◌++◌, map, filter, Option, Some, None, slice_get, nat_eq}
 use Rattle.std.specs.List.{flat_map}
 use Rattle.mcs_system.specs.Plain.{Name, Formula, Default, ProgramRule, Item, Fact, Rule, Kb, Classical, DefaultTheory, Program, Context, Read, Bridge, System}
 use Rattle.mcs_system.specs.Logic.{same_name, atoms}

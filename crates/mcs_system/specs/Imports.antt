@@ -1,5 +1,5 @@
 -- Which context imports which, in what order they are asked, and what they are asked.
-use Rattle.std.specs.Prelude.{◌≡◌, ℕ, ◌<◌, ◌≤◌, nat_eq, cond, Bool, true, false, ◌&&◌, IsTrue, List, [], ◌∷◌, ◌++◌, filter, length, reverse, ◌⊎◌, bit_xor, slice_get, Some, None, Option}
+use Rattle.std.specs.Prelude.{◌≡◌, ℕ, ◌<◌, ◌≤◌, nat_eq, cond, Bool, false, ◌&&◌, IsTrue, List, [], ◌∷◌, ◌++◌, filter, length, reverse, ◌⊎◌, bit_xor, slice_get, Some, None, Option}
 use Rattle.std.specs.List.{list_any}
 use Rattle.mcs_sets.specs.Sets.{common, such_that, size, Within}
 use Rattle.mcs_system.specs.Plain.{Read, Bridge, System}

@@ -1,5 +1,5 @@
 -- What a system keeps of its contexts and rules, so that no later call reads formulas again.
-use Rattle.std.specs.Prelude.{ℕ, nat_eq, cond, Bool, false, List, [], length, map, slice_get, Option, Some, None}
+use Rattle.std.specs.Prelude.{ℕ, nat_eq, cond, Bool, false, List, [], length, slice_get, Option, Some, None}
 use Rattle.std.specs.List.{list_any}
 use Rattle.mcs_sets.specs.Sets.{such_that, union}
 use Rattle.mcs_system.specs.declared.parts.ContextParts as code_parts

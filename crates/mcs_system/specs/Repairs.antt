@@ -1,6 +1,5 @@
 -- Diagnoses, explanations and listings.
-use Rattle.std.specs.Prelude.{◌≡◌, ℕ, ◌+◌, ◌*◌, ◌/◌, ◌%◌, ◌<◌, cond, nat_eq, Bool, true, List, [], ◌∷◌, length, ◌⊎◌, ◌↔◌}
-use Rattle.std.specs.List.{AllByRecursion}
+use Rattle.std.specs.Prelude.{◌≡◌, ℕ, ◌+◌, ◌*◌, ◌/◌, ◌%◌, ◌<◌, cond, nat_eq, Bool, true, length}
 use Rattle.mcs_sets.specs.Sets.{has, common, minus, such_that, Within, Meets}
 use Rattle.mcs_system.specs.Plain.{System}
 use Rattle.mcs_system.specs.Systems.{all_rules, all_variables, variables_of, applicable, IsAcceptedPart, IsProjected}

@@ -1,10 +1,10 @@
 -- The rows of a context: what it accepts on its local variables, with the marks that this takes.
-use Rattle.std.specs.Prelude.{◌≡◌, ℕ, ◌<◌, ◌≤◌, nat_eq, Bool, false, ◌&&◌, IsTrue, List, ◌++◌, length, slice_get, Option, Some, None}
+use Rattle.std.specs.Prelude.{◌≡◌, ℕ, ◌≤◌, nat_eq, Bool, false, ◌&&◌, IsTrue, List, ◌++◌, length, slice_get, Option, Some, None}
 use Rattle.std.specs.List.{list_any}
 use Rattle.mcs_sets.specs.Sets.{common, union, minus, such_that, size, Within}
 use Rattle.mcs_system.specs.Plain.{Read, Bridge, System}
 use Rattle.mcs_system.specs.Systems.{same_read, variables, variables_of, all_variables, applicable, IsAcceptedPart}
-use Rattle.mcs_system.specs.Repairs.{marks_of, IsChoice}
+use Rattle.mcs_system.specs.Repairs.{marks_of}
 use Rattle.mcs_base.specs.Listings.{IsAmong}
 use Rattle.mcs_system.specs.Imports.{imports, before_in, rules_into, IsPossible}
 

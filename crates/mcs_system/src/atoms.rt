@@ -1,12 +1,11 @@
 //! The atoms of a context: in its items, in the heads of the rules into it, in its variables.
 
-ghost use Rattle.std.specs.Prelude.{◌≡◌, ◌<◌, ◌≤◌, ℕ, ◌++◌, map, filter, length, nat_eq, nat_le, IsTrue, IfOk, MatchOption, List, [], ◌∷◌, slice_index_or};
-ghost use Rattle.std.specs.List.{list_any, flat_map};
-ghost use Rattle.mcs_system.specs.Atoms.{default_atoms, item_atoms, rule_atoms, kb_atoms, atoms_of};
-ghost use Rattle.mcs_system.specs.Gathered.{with_names, head_atoms, belief_atoms};
+ghost use Rattle.std.specs.Prelude.{◌≡◌, ◌<◌, ◌≤◌, map, length, nat_le, IsTrue, IfOk, MatchOption, [], ◌∷◌};
+ghost use Rattle.std.specs.List.{flat_map};
+ghost use Rattle.mcs_system.specs.Atoms.{item_atoms, rule_atoms, kb_atoms, atoms_of};
+ghost use Rattle.mcs_system.specs.Gathered.{with_names, head_atoms, belief_atoms, context_atoms};
 ghost use Rattle.mcs_system.specs.Logic.{is_in, atoms};
-ghost use Rattle.mcs_system.specs.Plain as plain;
-ghost use Rattle.mcs_system.specs.Seen.{formula_of, default_of, rule_of, item_of, kb_of, read_of, bridge_of, system_of};
+ghost use Rattle.mcs_system.specs.Seen.{formula_of, rule_of, item_of, kb_of, read_of, bridge_of, system_of};
 ghost use Rattle.mcs_system.specs.Systems.{variables};
 
 use crate::bridge::{Bridge, Read};
@@ -59,8 +58,10 @@ fn add_names(alloc: Global, names: &[Name], found: &mut Vec<Name>) -> Result<boo
 /// Adds the atoms of the formula that are not found already; whether there are few enough still.
 #[tactic(auto, using(crate::proofs::GatherLemmas::gathered_more))]
 fn add_atoms(alloc: Global, formula: &Formula, found: &mut Vec<Name>) -> Result<bool, Memory>
-    ensures found { IfOk result (λ few. IsTrue few → found.new.items ≡ with_names found.old.items (atoms (formula_of formula.now))) }
-    ensures few { IfOk result (λ few. few ≡ nat_le (length (with_names found.old.items (atoms (formula_of formula.now)))) 64) }
+    ensures found { IfOk result
+        (λ few. IsTrue few → found.new.items ≡ with_names found.old.items (atoms (formula_of formula.now))) }
+    ensures few { IfOk result
+        (λ few. few ≡ nat_le (length (with_names found.old.items (atoms (formula_of formula.now)))) 64) }
 {
     match formula {
         Formula::True | Formula::False => Ok(found.len() <= MOST_ATOMS),
@@ -75,8 +76,12 @@ fn add_atoms(alloc: Global, formula: &Formula, found: &mut Vec<Name>) -> Result<
 /// Adds the atoms of the formulas that are not found already; whether there are few enough still.
 #[tactic(auto, using(crate::proofs::GatherLemmas::gathered_more))]
 fn add_formulas(alloc: Global, formulas: &[Formula], found: &mut Vec<Name>) -> Result<bool, Memory>
-    ensures found { IfOk result (λ few. IsTrue few → found.new.items ≡ with_names found.old.items (flat_map atoms (map formula_of formulas.now))) }
-    ensures few { IfOk result (λ few. few ≡ nat_le (length (with_names found.old.items (flat_map atoms (map formula_of formulas.now)))) 64) }
+    ensures found { IfOk result
+        (λ few. IsTrue few → found.new.items
+        ≡ with_names found.old.items (flat_map atoms (map formula_of formulas.now))) }
+    ensures few { IfOk result
+        (λ few. few ≡ nat_le (length
+        (with_names found.old.items (flat_map atoms (map formula_of formulas.now)))) 64) }
 {
     for formula in formulas {
         if !add_atoms(alloc, formula, found)? {
@@ -89,8 +94,10 @@ fn add_formulas(alloc: Global, formulas: &[Formula], found: &mut Vec<Name>) -> R
 /// Adds the atoms of the item that are not found already; whether there are few enough still.
 #[tactic(auto, using(crate::proofs::GatherLemmas::gathered_more))]
 fn add_item(alloc: Global, item: &TheoryItem, found: &mut Vec<Name>) -> Result<bool, Memory>
-    ensures found { IfOk result (λ few. IsTrue few → found.new.items ≡ with_names found.old.items (item_atoms (item_of item.now))) }
-    ensures few { IfOk result (λ few. few ≡ nat_le (length (with_names found.old.items (item_atoms (item_of item.now)))) 64) }
+    ensures found { IfOk result
+        (λ few. IsTrue few → found.new.items ≡ with_names found.old.items (item_atoms (item_of item.now))) }
+    ensures few { IfOk result
+        (λ few. few ≡ nat_le (length (with_names found.old.items (item_atoms (item_of item.now)))) 64) }
 {
     match item {
         TheoryItem::Fact(formula) => add_atoms(alloc, formula, found),
@@ -107,8 +114,12 @@ fn add_item(alloc: Global, item: &TheoryItem, found: &mut Vec<Name>) -> Result<b
 /// Adds the atoms of the items that are not found already; whether there are few enough still.
 #[tactic(auto, using(crate::proofs::GatherLemmas::gathered_more))]
 fn add_items(alloc: Global, items: &[TheoryItem], found: &mut Vec<Name>) -> Result<bool, Memory>
-    ensures found { IfOk result (λ few. IsTrue few → found.new.items ≡ with_names found.old.items (flat_map item_atoms (map item_of items.now))) }
-    ensures few { IfOk result (λ few. few ≡ nat_le (length (with_names found.old.items (flat_map item_atoms (map item_of items.now)))) 64) }
+    ensures found { IfOk result
+        (λ few. IsTrue few → found.new.items
+        ≡ with_names found.old.items (flat_map item_atoms (map item_of items.now))) }
+    ensures few { IfOk result
+        (λ few. few ≡ nat_le (length
+        (with_names found.old.items (flat_map item_atoms (map item_of items.now)))) 64) }
 {
     for item in items {
         if !add_item(alloc, item, found)? {
@@ -121,8 +132,10 @@ fn add_items(alloc: Global, items: &[TheoryItem], found: &mut Vec<Name>) -> Resu
 /// Adds the atoms of the rule that are not found already; whether there are few enough still.
 #[tactic(auto, using(crate::proofs::GatherLemmas::gathered_more))]
 fn add_rule(alloc: Global, rule: &ProgRule, found: &mut Vec<Name>) -> Result<bool, Memory>
-    ensures found { IfOk result (λ few. IsTrue few → found.new.items ≡ with_names found.old.items (rule_atoms (rule_of rule.now))) }
-    ensures few { IfOk result (λ few. few ≡ nat_le (length (with_names found.old.items (rule_atoms (rule_of rule.now)))) 64) }
+    ensures found { IfOk result
+        (λ few. IsTrue few → found.new.items ≡ with_names found.old.items (rule_atoms (rule_of rule.now))) }
+    ensures few { IfOk result
+        (λ few. few ≡ nat_le (length (with_names found.old.items (rule_atoms (rule_of rule.now)))) 64) }
 {
     Ok(
         add_names(alloc, &rule.head, found)?
@@ -134,8 +147,12 @@ fn add_rule(alloc: Global, rule: &ProgRule, found: &mut Vec<Name>) -> Result<boo
 /// Adds the atoms of the rules that are not found already; whether there are few enough still.
 #[tactic(auto, using(crate::proofs::GatherLemmas::gathered_more))]
 fn add_rules(alloc: Global, rules: &[ProgRule], found: &mut Vec<Name>) -> Result<bool, Memory>
-    ensures found { IfOk result (λ few. IsTrue few → found.new.items ≡ with_names found.old.items (flat_map rule_atoms (map rule_of rules.now))) }
-    ensures few { IfOk result (λ few. few ≡ nat_le (length (with_names found.old.items (flat_map rule_atoms (map rule_of rules.now)))) 64) }
+    ensures found { IfOk result
+        (λ few. IsTrue few → found.new.items
+        ≡ with_names found.old.items (flat_map rule_atoms (map rule_of rules.now))) }
+    ensures few { IfOk result
+        (λ few. few ≡ nat_le (length
+        (with_names found.old.items (flat_map rule_atoms (map rule_of rules.now)))) 64) }
 {
     for rule in rules {
         if !add_rule(alloc, rule, found)? {
@@ -147,8 +164,10 @@ fn add_rules(alloc: Global, rules: &[ProgRule], found: &mut Vec<Name>) -> Result
 
 /// Adds the atoms of the knowledge base that are not found already; whether there are few enough still.
 fn add_knowledge(alloc: Global, kb: &Kb, found: &mut Vec<Name>) -> Result<bool, Memory>
-    ensures found { IfOk result (λ few. IsTrue few → found.new.items ≡ with_names found.old.items (kb_atoms (kb_of kb.now))) }
-    ensures few { IfOk result (λ few. few ≡ nat_le (length (with_names found.old.items (kb_atoms (kb_of kb.now)))) 64) }
+    ensures found { IfOk result
+        (λ few. IsTrue few → found.new.items ≡ with_names found.old.items (kb_atoms (kb_of kb.now))) }
+    ensures few { IfOk result
+        (λ few. few ≡ nat_le (length (with_names found.old.items (kb_atoms (kb_of kb.now)))) 64) }
 {
     match kb {
         Kb::Classical(formulas) => add_formulas(alloc, formulas, found),
@@ -165,8 +184,12 @@ fn add_head(
     context: u32,
     found: &mut Vec<Name>,
 ) -> Result<bool, Memory>
-    ensures found { IfOk result (λ few. IsTrue few → found.new.items ≡ with_names found.old.items (head_atoms context (bridge_of bridge.now))) }
-    ensures few { IfOk result (λ few. few ≡ nat_le (length (with_names found.old.items (head_atoms context (bridge_of bridge.now)))) 64) }
+    ensures found { IfOk result
+        (λ few. IsTrue few → found.new.items
+        ≡ with_names found.old.items (head_atoms context (bridge_of bridge.now))) }
+    ensures few { IfOk result
+        (λ few. few ≡ nat_le (length
+        (with_names found.old.items (head_atoms context (bridge_of bridge.now)))) 64) }
 {
     if bridge.target == context {
         add_atoms(alloc, &bridge.head, found)
@@ -183,8 +206,12 @@ fn add_heads(
     context: u32,
     found: &mut Vec<Name>,
 ) -> Result<bool, Memory>
-    ensures found { IfOk result (λ few. IsTrue few → found.new.items ≡ with_names found.old.items (flat_map (head_atoms context) (map bridge_of bridges.now))) }
-    ensures few { IfOk result (λ few. few ≡ nat_le (length (with_names found.old.items (flat_map (head_atoms context) (map bridge_of bridges.now)))) 64) }
+    ensures found { IfOk result
+        (λ few. IsTrue few → found.new.items
+        ≡ with_names found.old.items (flat_map (head_atoms context) (map bridge_of bridges.now))) }
+    ensures few { IfOk result
+        (λ few. few ≡ nat_le (length
+        (with_names found.old.items (flat_map (head_atoms context) (map bridge_of bridges.now)))) 64) }
 {
     for bridge in bridges {
         if !add_head(alloc, bridge, context, found)? {
@@ -202,8 +229,12 @@ fn add_belief(
     context: u32,
     found: &mut Vec<Name>,
 ) -> Result<bool, Memory>
-    ensures found { IfOk result (λ few. IsTrue few → found.new.items ≡ with_names found.old.items (belief_atoms context (read_of read.now))) }
-    ensures few { IfOk result (λ few. few ≡ nat_le (length (with_names found.old.items (belief_atoms context (read_of read.now)))) 64) }
+    ensures found { IfOk result
+        (λ few. IsTrue few → found.new.items
+        ≡ with_names found.old.items (belief_atoms context (read_of read.now))) }
+    ensures few { IfOk result
+        (λ few. few ≡ nat_le (length
+        (with_names found.old.items (belief_atoms context (read_of read.now)))) 64) }
 {
     if read.context == context {
         add_atoms(alloc, &read.belief, found)
@@ -220,8 +251,12 @@ fn add_beliefs(
     context: u32,
     found: &mut Vec<Name>,
 ) -> Result<bool, Memory>
-    ensures found { IfOk result (λ few. IsTrue few → found.new.items ≡ with_names found.old.items (flat_map (belief_atoms context) (map read_of reads.now))) }
-    ensures few { IfOk result (λ few. few ≡ nat_le (length (with_names found.old.items (flat_map (belief_atoms context) (map read_of reads.now)))) 64) }
+    ensures found { IfOk result
+        (λ few. IsTrue few → found.new.items
+        ≡ with_names found.old.items (flat_map (belief_atoms context) (map read_of reads.now))) }
+    ensures few { IfOk result
+        (λ few. few ≡ nat_le (length
+        (with_names found.old.items (flat_map (belief_atoms context) (map read_of reads.now)))) 64) }
 {
     for read in reads {
         if !add_belief(alloc, read, context, found)? {
@@ -242,8 +277,14 @@ fn add_context(
     number: u32,
     found: &mut Vec<Name>,
 ) -> Result<bool, Memory>
-    ensures found { IfOk result (λ few. IsTrue few → found.new.items ≡ with_names found.old.items (kb_atoms (kb_of context.now.kb) ++ (flat_map (head_atoms number) (map bridge_of bridges.now) ++ flat_map (belief_atoms number) (map read_of variables.now)))) }
-    ensures few { IfOk result (λ few. few ≡ nat_le (length (with_names found.old.items (kb_atoms (kb_of context.now.kb) ++ (flat_map (head_atoms number) (map bridge_of bridges.now) ++ flat_map (belief_atoms number) (map read_of variables.now))))) 64) }
+    ensures found { IfOk result
+        (λ few. IsTrue few → found.new.items
+        ≡ with_names found.old.items (context_atoms number (kb_of context.now.kb) (map bridge_of bridges.now)
+        (map read_of variables.now))) }
+    ensures few { IfOk result
+        (λ few. few ≡ nat_le (length
+        (with_names found.old.items (context_atoms number (kb_of context.now.kb) (map bridge_of bridges.now)
+        (map read_of variables.now)))) 64) }
 {
     Ok(
         add_knowledge(alloc, &context.kb, found)?
@@ -263,7 +304,10 @@ pub(crate) fn atoms_of(
 ) -> Result<Option<Vec<Name>>, Memory>
     requires in_range { context < length contexts.now }
     requires variables { map read_of known.now ≡ variables (system_of contexts.now bridges.now) }
-    ensures { IfOk result (λ found. let all = atoms_of (system_of contexts.now bridges.now) context in MatchOption found (64 < length all) (λ v. (v.items ≡ all) × (length v.items ≤ 64))) }
+    ensures { IfOk result
+        (λ found. let all = atoms_of (system_of contexts.now bridges.now) context in
+        MatchOption found (64 < length all)
+        (λ v. (v.items ≡ all) × (length v.items ≤ 64))) }
 {
     let mut found = Vec::new(alloc);
     let own = &contexts[context as usize];

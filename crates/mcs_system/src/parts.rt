@@ -1,6 +1,6 @@
 //! What a system keeps of its contexts and rules, so that no later call reads formulas again.
 
-ghost use Rattle.std.specs.Prelude.{◌≡◌, ◌≤◌, ◌<◌, ℕ, List, map, length, true, false, IfOk, MatchOption};
+ghost use Rattle.std.specs.Prelude.{◌≡◌, ◌≤◌, ◌<◌, List, map, length, true, false, IfOk, MatchOption};
 ghost use Rattle.std.specs.List.{range_with_len};
 ghost use Rattle.mcs_system.specs.declared.knowledge.Context.{Context};
 ghost use Rattle.mcs_system.specs.declared.fault.Limit.TheVariants.{InputsPerContext, AtomsPerContext};
@@ -124,7 +124,9 @@ pub(crate) fn rule_reads(
     bridges: &[Bridge],
 ) -> Result<Vec<RuleReads>, Memory>
     requires { length known.now ≤ 64 }
-    ensures { IfOk result (λ reads. map rule_part_of reads.items ≡ map (rule_part (map read_of known.now)) (map bridge_of bridges.now)) }
+    ensures { IfOk result
+        (λ reads. map rule_part_of reads.items
+        ≡ map (rule_part (map read_of known.now)) (map bridge_of bridges.now)) }
 {
     let mut reads = Vec::new(alloc);
     for bridge in bridges {
@@ -164,7 +166,10 @@ fn parts_of_context(
     requires few_rules { length bridges.now ≤ 64 }
     requires few { length known.now ≤ 64 }
     requires variables { map read_of known.now ≡ variables (system_of contexts.now bridges.now) }
-    ensures { IfOk result (λ found. let m = system_of contexts.now bridges.now in MatchOption found (64 < length (atoms_of m context)) (λ p. (context_part_of p ≡ context_part m context) × (length (atoms_of m context) ≤ 64))) }
+    ensures { IfOk result
+        (λ found. let m = system_of contexts.now bridges.now in
+        MatchOption found (64 < length (atoms_of m context))
+        (λ p. (context_part_of p ≡ context_part m context) × (length (atoms_of m context) ≤ 64))) }
 {
     let Some(atoms) = atoms_of(alloc, contexts, bridges, known, context)? else {
         return Ok(None);
@@ -189,7 +194,12 @@ pub(crate) fn parts_of_contexts(
     requires few_rules { length bridges.now ≤ 64 }
     requires few { length known.now ≤ 64 }
     requires variables { map read_of known.now ≡ variables (system_of contexts.now bridges.now) }
-    ensures { IfOk result (λ found. let m = system_of contexts.now bridges.now in MatchOption found (exceeds m AtomsPerContext ≡ true) (λ parts. (map context_part_of parts.items ≡ map (context_part m) (range_with_len 0 (length contexts.now))) × (exceeds m AtomsPerContext ≡ false))) }
+    ensures { IfOk result
+        (λ found. let m = system_of contexts.now bridges.now in
+        MatchOption found (exceeds m AtomsPerContext ≡ true)
+        (λ parts. (map context_part_of parts.items
+        ≡ map (context_part m) (range_with_len 0 (length contexts.now)))
+        × (exceeds m AtomsPerContext ≡ false))) }
 {
     let mut parts = Vec::new(alloc);
     for context in 0..contexts.len() as u32 {

@@ -180,3 +180,355 @@ impl System {
         rules
     }
 }
+
+#[cfg(test)]
+mod tests {
+    use super::*;
+    use crate::fault::Limit;
+    use crate::formula::Formula;
+    use crate::knowledge::{Default, Kb, ProgRule, TheoryItem};
+    use crate::same::same_read;
+    use std::test::Fail;
+
+    fn named(alloc: Global, text: &str) -> Result<Name, Fail> {
+        Ok(Name::read(alloc, text.as_bytes())?.ok_or("no name")?)
+    }
+
+    fn atom(alloc: Global, text: &str) -> Result<Formula, Fail> {
+        Ok(Formula::Atom(named(alloc, text)?))
+    }
+
+    fn read(alloc: Global, context: u32, text: &str) -> Result<Read, Fail> {
+        Ok(Read {
+            context,
+            belief: atom(alloc, text)?,
+        })
+    }
+
+    fn rule(
+        alloc: Global,
+        text: &str,
+        target: u32,
+        head: &str,
+        pos: Vec<Read>,
+        neg: Vec<Read>,
+    ) -> Result<Bridge, Fail> {
+        Ok(Bridge {
+            name: named(alloc, text)?,
+            target,
+            head: atom(alloc, head)?,
+            pos,
+            neg,
+        })
+    }
+
+    fn context(alloc: Global, text: &str, kb: Kb) -> Result<Context, Fail> {
+        Ok(Context {
+            name: named(alloc, text)?,
+            kb,
+        })
+    }
+
+    /// A classical context, a default theory and a program.
+    fn contexts(alloc: Global) -> Result<Vec<Context>, Fail> {
+        let both = Formula::And(
+            Box::new(alloc, atom(alloc, "a")?)?,
+            Box::new(alloc, atom(alloc, "b")?)?,
+        );
+        let default = Default {
+            pre: atom(alloc, "q")?,
+            justs: vec![in alloc; atom(alloc, "r")?]?,
+            conclusion: atom(alloc, "s")?,
+        };
+        let rule = ProgRule {
+            head: vec![in alloc; named(alloc, "x")?]?,
+            pos: vec![in alloc; named(alloc, "y")?]?,
+            neg: vec![in alloc; named(alloc, "z")?]?,
+        };
+        let items = vec![in alloc;
+            TheoryItem::Fact(atom(alloc, "p")?),
+            TheoryItem::Rule(default),
+        ]?;
+        Ok(vec![in alloc;
+            context(alloc, "facts", Kb::Classical(vec![in alloc; both]?))?,
+            context(alloc, "theory", Kb::DefaultTheory(items))?,
+            context(alloc, "rules", Kb::Program(vec![in alloc; rule]?))?,
+        ]?)
+    }
+
+    /// Rules by which the three contexts read each other.
+    fn rules(alloc: Global) -> Result<Vec<Bridge>, Fail> {
+        let first = vec![in alloc; read(alloc, 2, "x")?, read(alloc, 0, "a")?]?;
+        Ok(vec![in alloc;
+            rule(
+                alloc,
+                "r0",
+                1,
+                "q",
+                first,
+                vec![in alloc; read(alloc, 2, "w")?]?
+            )?,
+            rule(
+                alloc,
+                "r1",
+                0,
+                "e",
+                vec![in alloc; read(alloc, 1, "s")?]?,
+                vec![in alloc; read(alloc, 0, "a")?]?
+            )?,
+            rule(
+                alloc,
+                "r2",
+                2,
+                "y",
+                vec![in alloc; read(alloc, 0, "b")?]?,
+                vec![in alloc; read(alloc, 2, "x")?]?
+            )?,
+            rule(alloc, "r3", 1, "t", Vec::new(alloc), Vec::new(alloc))?,
+        ]?)
+    }
+
+    /// Whether these are the names.
+    fn are_named(names: &[Name], texts: &[&str]) -> bool {
+        names.len() == texts.len()
+            && names
+                .iter()
+                .zip(texts)
+                .all(|(name, text)| name.bytes() == text.as_bytes())
+    }
+
+    #[test]
+    fn tells_of_contexts(rt: HostRuntime) -> Result<(), Fail> {
+        let alloc = rt.alloc();
+        let system = System::build(alloc, contexts(alloc)?, rules(alloc)?)?;
+        assert_eq!(rt; system.contexts().len(), 3);
+        assert_eq!(rt; system.bridges().len(), 4);
+        let variables = system.variables();
+        assert_eq!(rt; variables.len(), 5);
+        for (number, (context, text)) in [(0, "a"), (0, "b"), (1, "s"), (2, "x"), (2, "w")]
+            .iter()
+            .enumerate()
+        {
+            assert!(rt; same_read(&variables[number], &read(alloc, *context, text)?));
+        }
+        assert!(rt; are_named(system.atoms_of(0), &["a", "b", "e"]));
+        assert!(rt; are_named(system.atoms_of(1), &["p", "q", "r", "s", "t"]));
+        assert!(rt; are_named(system.atoms_of(2), &["x", "y", "z", "w"]));
+        assert!(rt; system.vars_of(0) == Vars::one(0).with(1));
+        assert!(rt; system.vars_of(2) == Vars::one(3).with(4));
+        assert!(rt; system.inputs_of(0) == Vars::one(0).with(2));
+        assert!(rt; system.inputs_of(1) == Vars::one(0).with(3).with(4));
+        assert!(rt; system.rules_of(1) == Active::one(0).with(3));
+        assert!(rt; system.rules_of(2) == Active::one(2));
+        Ok(())
+    }
+
+    #[test]
+    fn tells_applicable_rules(rt: HostRuntime) -> Result<(), Fail> {
+        let alloc = rt.alloc();
+        let system = System::build(alloc, contexts(alloc)?, rules(alloc)?)?;
+        assert_eq!(rt; system.contexts().len(), 3);
+        let state = Vars::one(0).with(3);
+        assert!(rt; system.applicable(1, state) == Active::one(0).with(3));
+        assert!(rt; system.applicable(1, state.with(4)) == Active::one(3));
+        assert!(rt; system.applicable(0, Vars::one(2)) == Active::one(1));
+        assert!(rt; system.applicable(0, state.with(2)) == Active::empty());
+        assert!(rt; system.applicable(2, Vars::one(1)) == Active::one(2));
+        assert!(rt; system.applicable_rules(state.with(1)) == Active::one(0).with(3));
+        Ok(())
+    }
+
+    fn numbered(alloc: Global, number: u32) -> Result<Name, Fail> {
+        named(alloc, format!(in alloc; "n{number}")?.as_str())
+    }
+
+    /// Contexts without formulas, and one with the others' knowledge in front of them.
+    fn many_contexts(alloc: Global, first: Kb, count: u32) -> Result<Vec<Context>, Fail> {
+        let mut contexts = vec![in alloc;
+            Context {
+                name: numbered(alloc, 0)?,
+                kb: first
+            },
+        ]?;
+        for number in 1..count {
+            let kb = Kb::Classical(Vec::new(alloc));
+            contexts.push(Context {
+                name: numbered(alloc, number)?,
+                kb,
+            })?;
+        }
+        Ok(contexts)
+    }
+
+    /// As many rules, by turns into so many contexts; the k-th reads the k-th share of so many variables.
+    fn many_rules(
+        alloc: Global,
+        count: u32,
+        targets: u32,
+        share: u32,
+        variables: u32,
+    ) -> Result<Vec<Bridge>, Fail>
+        requires shares { 0 < share }
+        requires turns { 0 < targets }
+    {
+        let mut rules = Vec::new(alloc);
+        for number in 0..count {
+            let mut pos = Vec::new(alloc);
+            for variable in 0..variables {
+                if variable / share == number {
+                    pos.push(Read {
+                        context: variable % 5,
+                        belief: Formula::Atom(numbered(alloc, variable)?),
+                    })?;
+                }
+            }
+            rules.push(Bridge {
+                name: numbered(alloc, number)?,
+                target: number % targets,
+                head: Formula::True,
+                pos,
+                neg: Vec::new(alloc),
+            })?;
+        }
+        Ok(rules)
+    }
+
+    /// As many atoms, each a formula.
+    fn many_atoms(alloc: Global, count: u32) -> Result<Kb, Fail> {
+        let mut atoms = Vec::new(alloc);
+        for number in 0..count {
+            atoms.push(Formula::Atom(numbered(alloc, number)?))?;
+        }
+        Ok(Kb::Classical(atoms))
+    }
+
+    /// As many defaults.
+    fn many_defaults(alloc: Global, count: u32) -> Result<Kb, Fail> {
+        let mut items = Vec::new(alloc);
+        for _ in 0..count {
+            items.push(TheoryItem::Rule(Default {
+                pre: Formula::True,
+                justs: vec![in alloc; Formula::True]?,
+                conclusion: Formula::True,
+            }))?;
+        }
+        Ok(Kb::DefaultTheory(items))
+    }
+
+    /// As many formulas.
+    fn many_items(alloc: Global, count: u32) -> Result<Kb, Fail> {
+        let mut formulas = Vec::new(alloc);
+        for _ in 0..count {
+            formulas.push(Formula::True)?;
+        }
+        Ok(Kb::Classical(formulas))
+    }
+
+    /// One formula of this size.
+    fn large_formula(alloc: Global, size: u32) -> Result<Kb, Fail> {
+        let mut formula = Formula::True;
+        for _ in 1..size {
+            formula = Formula::Not(Box::new(alloc, formula)?);
+        }
+        Ok(Kb::Classical(vec![in alloc; formula]?))
+    }
+
+    /// What reaches the limit where `count` is its number, and nothing else.
+    fn reaching(
+        alloc: Global,
+        limit: Limit,
+        count: u32,
+    ) -> Result<(Vec<Context>, Vec<Bridge>), Fail> {
+        let empty = Kb::Classical(Vec::new(alloc));
+        let kb = match limit {
+            Limit::AtomsPerContext => many_atoms(alloc, count)?,
+            Limit::DefaultsPerContext => many_defaults(alloc, count)?,
+            Limit::ItemsPerContext => many_items(alloc, count)?,
+            Limit::FormulaSize => large_formula(alloc, count)?,
+            _ => Kb::Classical(Vec::new(alloc)),
+        };
+        let rules = match limit {
+            Limit::Bridges => many_rules(alloc, count, 6, 1, 0)?,
+            Limit::RulesPerContext => many_rules(alloc, count, 1, 1, 0)?,
+            Limit::Variables => many_rules(alloc, 6, 6, 13, count)?,
+            Limit::InputsPerContext => many_rules(alloc, 1, 1, 20, count)?,
+            _ => Vec::new(alloc),
+        };
+        let contexts = match limit {
+            Limit::Contexts => count,
+            _ => 6,
+        };
+        Ok((many_contexts(alloc, kb, contexts)?, rules))
+    }
+
+    /// The fault of building, if there is one.
+    fn fault_of(alloc: Global, contexts: Vec<Context>, rules: Vec<Bridge>) -> Option<BuildFault> {
+        System::build(alloc, contexts, rules).err()
+    }
+
+    #[test]
+    fn keeps_limits(rt: HostRuntime) -> Result<(), Fail> {
+        let limits = [
+            (Limit::Contexts, 64),
+            (Limit::Bridges, 64),
+            (Limit::RulesPerContext, 12),
+            (Limit::Variables, 64),
+            (Limit::InputsPerContext, 16),
+            (Limit::AtomsPerContext, 64),
+            (Limit::DefaultsPerContext, 10),
+            (Limit::ItemsPerContext, 4096),
+            (Limit::FormulaSize, 512),
+        ];
+        for (limit, number) in limits {
+            let (contexts, rules) = reaching(rt.alloc(), limit, number)?;
+            assert_eq!(rt; fault_of(rt.alloc(), contexts, rules), None);
+            let (contexts, rules) = reaching(rt.alloc(), limit, number + 1)?;
+            assert_eq!(rt;
+                fault_of(rt.alloc(), contexts, rules),
+                Some(BuildFault::exceeded(limit))
+            );
+        }
+        Ok(())
+    }
+
+    /// The rules, and after them one for each of the faults 4, 3 and 2 down to this one.
+    fn faulty_rules(alloc: Global, number: u8) -> Result<Vec<Bridge>, Fail> {
+        let mut all = rules(alloc)?;
+        if number <= 4 {
+            all.push(Bridge {
+                name: named(alloc, "r")?,
+                target: 2,
+                head: Formula::True,
+                pos: Vec::new(alloc),
+                neg: Vec::new(alloc),
+            })?;
+        }
+        if number <= 3 {
+            all.push(rule(alloc, "r0", 1, "q", Vec::new(alloc), Vec::new(alloc))?)?;
+        }
+        if number <= 2 {
+            all.push(rule(alloc, "r9", 3, "q", Vec::new(alloc), Vec::new(alloc))?)?;
+        }
+        Ok(all)
+    }
+
+    #[test]
+    fn tells_lowest_number(rt: HostRuntime) -> Result<(), Fail> {
+        let alloc = rt.alloc();
+        assert_eq!(rt;
+            fault_of(alloc, contexts(alloc)?, faulty_rules(alloc, 5)?),
+            None
+        );
+        for number in [2, 3, 4] {
+            let fault = fault_of(alloc, contexts(alloc)?, faulty_rules(alloc, number)?);
+            assert_eq!(rt;
+                fault,
+                Some(BuildFault::Fault {
+                    number,
+                    limit: None
+                })
+            );
+        }
+        Ok(())
+    }
+}

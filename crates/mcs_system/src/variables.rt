@@ -1,12 +1,11 @@
 //! The variables of a system: what its bridge rules read, each once.
 
-ghost use Rattle.std.specs.Prelude.{◌≡◌, ◌<◌, ◌≤◌, ℕ, map, filter, length, nat_eq, nat_le, IsTrue, IfOk, MatchOption, [], ◌∷◌};
-ghost use Rattle.std.specs.List.{list_any, flat_map};
+ghost use Rattle.std.specs.Prelude.{◌≡◌, ◌<◌, ◌≤◌, map, length, nat_le, IsTrue, IfOk, MatchOption, [], ◌∷◌};
+ghost use Rattle.std.specs.List.{list_any};
 ghost use Rattle.mcs_system.specs.Faults.{reads_of};
 ghost use Rattle.mcs_system.specs.Gathered.{gathered, with_reads};
-ghost use Rattle.mcs_system.specs.Plain as plain;
 ghost use Rattle.mcs_system.specs.Seen.{read_of, bridge_of, system_of};
-ghost use Rattle.mcs_system.specs.Systems.{same_read, firsts, context_variables, variables};
+ghost use Rattle.mcs_system.specs.Systems.{same_read, context_variables, variables};
 
 use crate::bridge::{Bridge, Read};
 use crate::knowledge::Context;
@@ -31,7 +30,9 @@ pub(crate) fn is_among(others: &[Read], read: &Read) -> bool
 
 /// Adds the read unless it is found already; whether there are few enough still.
 fn add_read(alloc: Global, read: &Read, found: &mut Vec<Read>) -> Result<bool, Memory>
-    ensures found { IfOk result (λ _. map read_of found.new.items ≡ gathered same_read (map read_of found.old.items) (read_of read.now ∷ [])) }
+    ensures found { IfOk result
+        (λ _. map read_of found.new.items
+        ≡ gathered same_read (map read_of found.old.items) (read_of read.now ∷ [])) }
     ensures few { IfOk result (λ few. few ≡ nat_le (length found.new.items) 64) }
 {
     if !is_among(found, read) {
@@ -49,8 +50,12 @@ fn add_reads(
     context: usize,
     found: &mut Vec<Read>,
 ) -> Result<bool, Memory>
-    ensures found { IfOk result (λ few. IsTrue few → map read_of found.new.items ≡ with_reads (map read_of found.old.items) context (map read_of reads.now)) }
-    ensures few { IfOk result (λ few. few ≡ nat_le (length (with_reads (map read_of found.old.items) context (map read_of reads.now))) 64) }
+    ensures found { IfOk result
+        (λ few. IsTrue few → map read_of found.new.items
+        ≡ with_reads (map read_of found.old.items) context (map read_of reads.now)) }
+    ensures few { IfOk result
+        (λ few. few ≡ nat_le (length
+        (with_reads (map read_of found.old.items) context (map read_of reads.now))) 64) }
 {
     for read in reads {
         if read.context as usize == context && !add_read(alloc, read, found)? {
@@ -69,8 +74,12 @@ fn add_reads_of(
     context: usize,
     found: &mut Vec<Read>,
 ) -> Result<bool, Memory>
-    ensures found { IfOk result (λ few. IsTrue few → map read_of found.new.items ≡ with_reads (map read_of found.old.items) context (reads_of (bridge_of bridge.now))) }
-    ensures few { IfOk result (λ few. few ≡ nat_le (length (with_reads (map read_of found.old.items) context (reads_of (bridge_of bridge.now)))) 64) }
+    ensures found { IfOk result
+        (λ few. IsTrue few → map read_of found.new.items
+        ≡ with_reads (map read_of found.old.items) context (reads_of (bridge_of bridge.now))) }
+    ensures few { IfOk result
+        (λ few. few ≡ nat_le (length
+        (with_reads (map read_of found.old.items) context (reads_of (bridge_of bridge.now)))) 64) }
 {
     Ok(
         add_reads(alloc, &bridge.pos, context, found)?
@@ -84,7 +93,10 @@ fn variables_of_context(
     bridges: &[Bridge],
     context: usize,
 ) -> Result<Option<Vec<Read>>, Memory>
-    ensures { IfOk result (λ found. let all = context_variables (system_of [] bridges.now) context in MatchOption found (64 < length all) (λ v. map read_of v.items ≡ all)) }
+    ensures { IfOk result
+        (λ found. let all = context_variables (system_of [] bridges.now) context in
+        MatchOption found (64 < length all)
+        (λ v. map read_of v.items ≡ all)) }
 {
     let mut found = Vec::new(alloc);
     for bridge in bridges {
@@ -102,7 +114,10 @@ pub(crate) fn variables_of(
     contexts: &[Context],
     bridges: &[Bridge],
 ) -> Result<Option<Vec<Read>>, Memory>
-    ensures { IfOk result (λ found. let all = variables (system_of contexts.now bridges.now) in MatchOption found (64 < length all) (λ v. (map read_of v.items ≡ all) × (length v.items ≤ 64))) }
+    ensures { IfOk result
+        (λ found. let all = variables (system_of contexts.now bridges.now) in
+        MatchOption found (64 < length all)
+        (λ v. (map read_of v.items ≡ all) × (length v.items ≤ 64))) }
 {
     let mut variables = Vec::new(alloc);
     for context in 0..contexts.len() {

@@ -1,7 +1,5 @@
-use Rattle.std.proofs.Common.{◌≡◌, ◌++◌, [], map, refl, arith}
+use Rattle.std.proofs.Common.{map, refl, arith}
 use Rattle.std.proofs.lemmas.Bool.Decides.{nat_tests}
-use Rattle.std.proofs.lemmas.Grind.{common_steps}
-use Rattle.std.specs.List.{flat_map}
 use Rattle.mcs_system.specs.Seen.{read_of}
 use Rattle.mcs_system.proofs.AtomLemmas.{atoms_of-gathered}
 use Rattle.mcs_system.proofs.atoms.atoms_of.Goals as goal

@@ -1,10 +1,9 @@
-use Rattle.std.proofs.Common.{◌≡◌, ◌≤◌, None, length, map, sym, ap, ◌∙◌, arith}
+use Rattle.std.proofs.Common.{◌≡◌, ◌≤◌, None, length, sym, ◌∙◌, arith}
 use Rattle.std.proofs.lemmas.List.{length-map}
-use Rattle.mcs_system.specs.declared.fault.Limit.TheVariants.{InputsPerContext}
-use Rattle.mcs_system.specs.Faults.{exceeds, first_exceeded}
+use Rattle.mcs_system.specs.Faults.{first_exceeded}
 use Rattle.mcs_system.specs.Built.{first_number, first_limits}
 use Rattle.mcs_system.specs.Plain.{System}
-use Rattle.mcs_system.specs.Seen.{read_of, context_of, bridge_of, system_of}
+use Rattle.mcs_system.specs.Seen.{context_of, bridge_of, system_of}
 use Rattle.mcs_system.specs.Systems.{variables}
 use Rattle.mcs_system.proofs.BuildLemmas.{number_told, limit_told, variables_told, inputs_told, atoms_told, last_told, none_told, few_contexts_first, PassesFirst}
 use Rattle.mcs_system.proofs.build.keep.Goals as goal

@@ -1,4 +1,4 @@
-use Rattle.std.proofs.Common.{map, arith, sym, ◌∙◌, ap}
+use Rattle.std.proofs.Common.{map, arith, ◌∙◌, ap}
 use Rattle.mcs_sets.specs.Sets.{union}
 use Rattle.mcs_system.specs.Seen.{read_of}
 use Rattle.mcs_system.proofs.PartLemmas.{inputs_from, inputs_go_on, inputs_end, none-union}

@@ -1,8 +1,6 @@
-use Rattle.std.proofs.Common.{◌≡◌, map, filter, nat_eq, drop}
+use Rattle.std.proofs.Common.{◌≡◌, map, drop}
 use Rattle.mcs_system.specs.Gathered.{with_reads}
-use Rattle.mcs_system.specs.Plain.{Read}
 use Rattle.mcs_system.specs.Seen.{read_of}
-use Rattle.mcs_system.specs.Systems.{same_read}
 use Rattle.mcs_system.proofs.variables.add_reads.Given as goal
 
 abbrev pub invariant-loop-read : goal.invariant-loop-read

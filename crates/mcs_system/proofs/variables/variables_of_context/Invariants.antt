@@ -1,8 +1,7 @@
-use Rattle.std.proofs.Common.{◌≡◌, map, filter, nat_eq, drop, []}
+use Rattle.std.proofs.Common.{◌≡◌, map, drop, []}
 use Rattle.mcs_system.specs.Gathered.{with_reads}
-use Rattle.mcs_system.specs.Plain.{Read}
 use Rattle.mcs_system.specs.Seen.{read_of, system_of}
-use Rattle.mcs_system.specs.Systems.{same_read, occurrences}
+use Rattle.mcs_system.specs.Systems.{occurrences}
 use Rattle.mcs_system.proofs.variables.variables_of_context.Given as goal
 
 abbrev pub invariant-loop-bridge : goal.invariant-loop-bridge

@@ -1,4 +1,4 @@
-use Rattle.std.proofs.Common.{◌≡◌, ◌≤◌, length, map, sym, ap, ◌∙◌, arith}
+use Rattle.std.proofs.Common.{length, ap, arith}
 use Rattle.mcs_system.specs.Parts.{ContextPart}
 use Rattle.mcs_system.proofs.ValidLemmas.{few_atoms}
 use Rattle.mcs_system.proofs.system.System.atoms_of.Goals as goal

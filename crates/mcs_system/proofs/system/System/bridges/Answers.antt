@@ -1,4 +1,4 @@
-use Rattle.std.proofs.Common.{◌≡◌, ◌≤◌, length, map, ap, arith}
+use Rattle.std.proofs.Common.{length, ap, arith}
 use Rattle.std.proofs.lemmas.List.{length-map}
 use Rattle.mcs_system.specs.Seen.{bridge_of, system_of}
 use Rattle.mcs_system.proofs.ValidLemmas.{few_bridges}

@@ -1,4 +1,4 @@
-use Rattle.std.proofs.Common.{◌≡◌, ◌&&◌, ℕ, not, sym, ap, subst, ◌∙◌, ◌↔◌, IsTrue}
+use Rattle.std.proofs.Common.{◌&&◌, ℕ, not, sym, ap, subst, ◌∙◌, ◌↔◌, IsTrue}
 use Rattle.mcs_sets.specs.Sets.{Within, Meets}
 use Rattle.mcs_system.specs.Parts.{RulePart}
 use Rattle.mcs_system.proofs.Members.{get_below}

@@ -1,6 +1,5 @@
-use Rattle.std.proofs.Common.{◌≡◌, ◌<◌, ◌+◌, ℕ, length, ap, sym, subst, ◌∙◌, arith}
+use Rattle.std.proofs.Common.{◌<◌, length, ap, sym, subst, ◌∙◌, arith}
 use Rattle.std.proofs.lemmas.List.{length-map}
-use Rattle.std.specs.List.{range_with_len}
 use Rattle.mcs_system.specs.Plain.{System}
 use Rattle.mcs_system.specs.Seen.{context_of, system_of}
 use Rattle.mcs_system.specs.Parts.{context_part, context_part_of}

@@ -1,7 +1,6 @@
-use Rattle.std.proofs.Common.{◌≡◌, ◌≤◌, length, map, sym, ap, ◌∙◌, arith}
+use Rattle.std.proofs.Common.{length, ap, arith}
 use Rattle.std.proofs.lemmas.List.{length-map}
 use Rattle.mcs_system.specs.Seen.{read_of, system_of}
-use Rattle.mcs_system.specs.Systems.{variables}
 use Rattle.mcs_system.proofs.ValidLemmas.{few_variables}
 use Rattle.mcs_system.proofs.system.System.variables.Goals as goal
 
