@@ -8,3 +8,4 @@ pub mod TokenTexts
 pub mod GrammarLemmas
 pub mod ReadingLemmas
 pub mod TextLemmas
+pub mod SmallReading

@@ -2,13 +2,16 @@
 //! list of equilibria.
 #![tactic(auto)]
 
+mod command;
 mod ending;
 mod equilibria;
+mod job;
 mod lines;
 mod printing;
 mod reader;
 mod small;
 mod words;
 
+pub use command::run;
 pub use ending::Status;
 pub use reader::texts_spell_one_system;

@@ -57,6 +57,7 @@ fn is_small(system: &System) -> bool
         && has_few_atoms(system)
 }
 
+#[tactic(auto, using(crate::proofs::SmallReading::spells_classical, crate::proofs::SmallReading::no_text_of_fault, crate::proofs::SmallReading::no_text_of_large))]
 /// The system whose text the bytes are; `None` exactly where no system has this text.
 pub(crate) fn read_small(alloc: Global, bytes: &[u8]) -> Result<Option<System>, Memory>
     requires { length bytes.now ≤ most_text_bytes }
