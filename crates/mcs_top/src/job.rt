@@ -8,9 +8,9 @@ ghost use Rattle.mcs_top.specs.SmallTexts.{IsPrintable, IsTextOf};
 use crate::ending::{Refusal, Stop};
 use crate::printing::print_equilibria;
 use crate::small::read_small;
+use mcs_base::Memory;
 use mcs_ports::{Gate, ReadAnswer, Shelf, Sink, read_whole};
 use mcs_system::System;
-use mcs_base::Memory;
 use std::alloc::Global;
 
 /// The most bytes of a system text.

@@ -15,3 +15,6 @@ mod words;
 pub use command::run;
 pub use ending::Status;
 pub use reader::texts_spell_one_system;
+
+#[cfg(test)]
+mod tests;

@@ -69,7 +69,11 @@ pub(crate) fn read_small(alloc: Global, bytes: &[u8]) -> Result<Option<System>, 
         return Ok(None);
     };
     match System::build(alloc, contexts, bridges) {
-        Ok(system) => Ok(if is_small(&system) { Some(system) } else { None }),
+        Ok(system) => Ok(if is_small(&system) {
+            Some(system)
+        } else {
+            None
+        }),
         Err(BuildFault::Fault { .. }) => Ok(None),
         Err(BuildFault::Memory) => Err(Memory),
     }
