@@ -3,9 +3,8 @@
 
 use mcs_ports::{FileShelf, IdleGate, StdSink};
 use mcs_top::run;
-use std::env;
-use std::io;
 use std::process::ExitCode;
+use std::{env, io};
 
 /// The words after the program's name.
 fn words(rt: &HostRuntime) -> io::Result<Vec<String>> {

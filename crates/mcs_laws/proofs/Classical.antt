@@ -1,12 +1,11 @@
 -- What classical contexts accept.
-use Rattle.std.proofs.Common.{◌≡◌, ℕ, ◌+◌, ◌^◌, ◌<◌, zero, suc, Bool, true, false, ◌&&◌, ◌||◌, ltb, eqb, List, [], ◌∷◌, ◌++◌, filter, map, not, cond, length, Option, Some, None, slice_get, refl, sym, ap, ◌∙◌, subst, inl, inr, ◌⊎◌, ◌↔◌, arith, add-one, IsTrue, true≢false}
+use Rattle.std.proofs.Common.{◌≡◌, ℕ, Bool, true, false, ◌&&◌, ltb, eqb, List, ◌++◌, length, Option, Some, None, slice_get, refl, sym, ap, ◌∙◌, subst, inl, inr, ◌⊎◌, ◌↔◌, arith, IsTrue, true≢false}
 use Rattle.std.proofs.lemmas.Bool.Decides.{nat_tests}
 use Rattle.std.proofs.lemmas.Bool.{and_parts}
-use Rattle.std.specs.List.{flat_map, AllByRecursion}
 use Rattle.mcs_sets.specs.Sets.{has, such_that}
-use Rattle.mcs_sets.proofs.SetLemmas.{has-such_that, same_set}
-use Rattle.mcs_system.specs.Plain.{Name, Formula, Kb, Classical, DefaultTheory, Program, Context, Read, Bridge, System}
-use Rattle.mcs_system.specs.Logic.{BeliefSet, Theory, Atoms, Believes, SameModels, Accepts, Entails, with_heads, IsClassical}
+use Rattle.mcs_sets.proofs.SetLemmas.{has-such_that}
+use Rattle.mcs_system.specs.Plain.{Formula, Kb, Classical, Context, Read, System}
+use Rattle.mcs_system.specs.Logic.{BeliefSet, Theory, Atoms, Believes, SameModels, Accepts, Entails, with_heads}
 use Rattle.mcs_system.specs.Systems.{variables, heads_into, IsVariable, Follows, AcceptsWith, IsAcceptedPart}
 use Rattle.mcs_laws.proofs.Deciding.{decide}
 use Rattle.mcs_system.proofs.Members.{get-lt}

@@ -1,11 +1,11 @@
 -- How many marks a pair has.
-use Rattle.std.proofs.Common.{◌≡◌, ℕ, ◌+◌, ◌*◌, ◌^◌, ◌<◌, ◌≤◌, Bool, true, false, not, ◌&&◌, ◌||◌, cond, eqb, ltb, zero, suc, length, refl, sym, ap, ◌∙◌, arith, IsTrue, true≢false}
+use Rattle.std.proofs.Common.{◌≡◌, ℕ, ◌+◌, ◌*◌, ◌^◌, ◌<◌, ◌≤◌, Bool, true, false, cond, ltb, zero, suc, length, refl, ap, ◌∙◌, arith}
 use Rattle.std.proofs.lemmas.Bool.Decides.{nat_tests}
-use Rattle.mcs_sets.specs.Sets.{has, size, union, minus, such_that, Within}
-use Rattle.mcs_sets.proofs.SetLemmas.{count_from, size-count, size-union, size-le, such_that-lt, union-lt, has-minus, has-union, Within-le}
+use Rattle.mcs_sets.specs.Sets.{has, size, union, minus, Within}
+use Rattle.mcs_sets.proofs.SetLemmas.{count_from, size-count, size-union, size-le, such_that-lt, has-minus, has-union, Within-le}
 use Rattle.mcs_system.specs.Plain.{System}
-use Rattle.mcs_system.specs.Systems.{all_rules, applicable, acting_at, IsProjected}
-use Rattle.mcs_system.specs.Repairs.{first_part, second_part, mark_of, marks_of, choice_marks, IsChoice, IsDiagnosis, IsMinimal}
+use Rattle.mcs_system.specs.Systems.{all_rules, applicable}
+use Rattle.mcs_system.specs.Repairs.{mark_of, marks_of, choice_marks, IsDiagnosis, IsMinimal}
 use Rattle.mcs_laws.proofs.Transversals.{has-all_rules, has-marks_of, mark-even, mark-odd}
 use Rattle.mcs_laws.proofs.Choices.{applicable_within, state_is_choice, minimal_from_choice}
 

@@ -1,5 +1,5 @@
 -- The truth table over some names decides consequence for all assignments.
-use Rattle.std.proofs.Common.{◌≡◌, ℕ, ◌+◌, ◌^◌, ◌<◌, zero, suc, Bool, true, false, ◌&&◌, ◌||◌, ltb, List, [], ◌∷◌, ◌++◌, filter, cond, length, Option, Some, None, slice_get, refl, sym, ap, ◌∙◌, arith, add-one, IsTrue, true≢false}
+use Rattle.std.proofs.Common.{◌≡◌, ℕ, ◌+◌, Bool, true, false, ltb, List, [], ◌∷◌, ◌++◌, filter, cond, length, Option, Some, None, slice_get, refl, sym, ap, ◌∙◌, arith, add-one, true≢false}
 use Rattle.std.proofs.lemmas.Bool.Decides.{nat_tests}
 use Rattle.mcs_sets.specs.Sets.{has, such_that}
 use Rattle.mcs_sets.proofs.SetLemmas.{has-such_that, such_that-lt}

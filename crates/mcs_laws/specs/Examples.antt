@@ -1,6 +1,6 @@
 -- Two tiny systems.
-use Rattle.std.specs.Prelude.{ℕ, List, [], ◌∷◌}
-use Rattle.mcs_system.specs.Plain.{Name, Formula, Atom, ProgramRule, Item, Fact, Rule, Kb, Classical, Context, Read, Bridge, System}
+use Rattle.std.specs.Prelude.{List, [], ◌∷◌}
+use Rattle.mcs_system.specs.Plain.{Name, Formula, Atom, ProgramRule, Item, Fact, Rule, Classical, Context, Read, System}
 
 -- the belief p of context 0
 abbrev pub p : Formula

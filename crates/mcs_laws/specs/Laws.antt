@@ -5,7 +5,7 @@ use Rattle.mcs_sets.specs.Orders.{StateBefore, PairBefore}
 use Rattle.std.specs.List.{AllByRecursion}
 use Rattle.mcs_system.specs.Rows.{IsRow, FitTogether, HasParts}
 use Rattle.mcs_system.specs.Imports.{IsQuestion, rules_into}
-use Rattle.mcs_system.specs.Plain.{Name, Formula, Kb, Classical, DefaultTheory, Program, Context, System}
+use Rattle.mcs_system.specs.Plain.{Name, Formula, Classical, Context, System}
 use Rattle.mcs_system.specs.Logic.{is_in, atoms, all_atoms, true_names, holds, holds_all, Entails, BeliefSet, IsAnswerSet, IsExtension, IsClassical}
 use Rattle.mcs_system.specs.Systems.{heads_into, Follows, IsConsistent, IsProjection, IsProjected, IsAcceptedPart, acting_at, variables_of, all_variables, all_rules}
 use Rattle.mcs_laws.specs.Examples.{self_support, against_itself, a_or_b, name_a, name_b, birds, bird, flies}

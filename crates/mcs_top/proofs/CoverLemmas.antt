@@ -1,17 +1,16 @@
 -- The atoms of a context are all that its truth table needs.
-use Rattle.std.proofs.Common.{◌≡◌, ℕ, ◌+◌, ◌<◌, Bool, true, false, not, ◌&&◌, ◌||◌, cond, eqb, List, [], ◌∷◌, ◌++◌, filter, map, length, Some, refl, sym, ap, ◌∙◌, subst, inl, inr, ◌⊎◌, arith, append_assoc, true≢false, slice_get}
+use Rattle.std.proofs.Common.{◌≡◌, ℕ, ◌+◌, Bool, true, false, not, ◌&&◌, ◌||◌, cond, eqb, List, [], ◌∷◌, ◌++◌, filter, map, length, Some, refl, sym, ap, ◌∙◌, subst, inl, inr, ◌⊎◌, arith, append_assoc, true≢false, slice_get}
 use Rattle.std.proofs.lemmas.Bool.Decides.{nat_tests}
 use Rattle.std.specs.List.{flat_map, range_with_len}
 use Rattle.mcs_sets.specs.Sets.{has}
 use Rattle.mcs_base.specs.Listings.{IsAmong}
-use Rattle.mcs_system.specs.Plain.{Name, Formula, Kb, Classical, Context, Read, Bridge, System}
+use Rattle.mcs_system.specs.Plain.{Name, Formula, Classical, Context, Read, Bridge, System}
 use Rattle.mcs_system.specs.Logic.{same_name, is_in, atoms, all_atoms}
 use Rattle.mcs_system.specs.Systems.{context_variables, variables, occurrences, heads_from, heads_into, IsVariable}
 use Rattle.mcs_system.specs.Atoms.{kb_atoms, own_atoms, all_heads_into, atom_occurrences, first_names, atoms_of}
 use Rattle.mcs_system.proofs.Sameness.{same_name-is, same_name-itself}
 use Rattle.mcs_system.proofs.Members.{among_get, flat_map_among, filter_among}
 use Rattle.mcs_system.proofs.VariableLemmas.{firsts_among}
-use Rattle.mcs_laws.specs.Laws.{Covers}
 use Rattle.mcs_laws.proofs.Deciding.{is_in-append}
 use Rattle.mcs_top.proofs.TableLemmas.{CoversContext}
 

@@ -1,13 +1,12 @@
 -- States that are tried one by one.
-use Rattle.std.proofs.Common.{◌≡◌, ℕ, ◌+◌, ◌^◌, ◌<◌, ◌≤◌, zero, suc, Bool, true, false, ◌&&◌, ◌||◌, eqb, ltb, cond, List, [], ◌∷◌, ◌++◌, length, Option, Some, None, slice_get, refl, sym, ap, ◌∙◌, subst, inl, inr, ◌⊎◌, ◌↔◌, arith, add-one, IsTrue, true≢false}
-use Rattle.std.proofs.lemmas.Bool.{and_parts}
+use Rattle.std.proofs.Common.{◌≡◌, ℕ, ◌+◌, ◌^◌, ◌<◌, suc, Bool, true, false, ◌&&◌, ◌||◌, eqb, cond, List, [], ◌∷◌, ◌++◌, length, Some, slice_get, refl, sym, ap, ◌∙◌, subst, inl, inr, ◌⊎◌, ◌↔◌, arith}
 use Rattle.std.proofs.lemmas.Bool.Decides.{nat_tests}
-use Rattle.mcs_sets.specs.Sets.{has, common, union, such_that, Within}
-use Rattle.mcs_sets.proofs.SetLemmas.{has-such_that, has-common, has-union, has-empty, such_that-lt, same_set, members_below, Within-le}
-use Rattle.mcs_system.specs.Plain.{Formula, Kb, Classical, Context, Bridge, System}
+use Rattle.mcs_sets.specs.Sets.{has, common, Within}
+use Rattle.mcs_sets.proofs.SetLemmas.{has-such_that, has-common, has-union, has-empty, such_that-lt, members_below, Within-le}
+use Rattle.mcs_system.specs.Plain.{Formula, Bridge, System}
 use Rattle.mcs_system.specs.Logic.{Accepts, with_heads}
 use Rattle.mcs_system.specs.Imports.{rules_into}
-use Rattle.mcs_system.specs.Systems.{variables, all_variables, all_rules, variables_of, applicable, acting_at, heads_from, heads_into, Follows, IsAcceptedPart, IsProjected}
+use Rattle.mcs_system.specs.Systems.{variables, all_variables, all_rules, variables_of, applicable, acting_at, heads_from, heads_into, IsAcceptedPart, IsProjected}
 use Rattle.mcs_sets.specs.Orders.{StateBefore}
 use Rattle.mcs_base.specs.Listings.{IsAmong, IsListing}
 use Rattle.mcs_base.proofs.ListingLemmas.{IsListing-same}

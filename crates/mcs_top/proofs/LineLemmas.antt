@@ -1,8 +1,8 @@
 -- The members of a set, printed one after the other.
-use Rattle.std.proofs.Common.{◌≡◌, ℕ, ◌+◌, ◌<◌, ◌^◌, Bool, true, false, cond, List, [], ◌∷◌, ◌++◌, map, length, codes, Result, Ok, Err, OnOk, refl, sym, ap, ◌∙◌, append_assoc, arith}
+use Rattle.std.proofs.Common.{◌≡◌, ℕ, ◌<◌, ◌^◌, Bool, true, false, cond, List, [], ◌∷◌, ◌++◌, codes, Result, Ok, Err, OnOk, refl, ap, ◌∙◌, append_assoc, arith}
 use Rattle.std.proofs.lemmas.List.{append-nil}
 use Rattle.std.specs.List.{AllByRecursion}
-use Rattle.mcs_sets.specs.Sets.{has, members, such_that, Within}
+use Rattle.mcs_sets.specs.Sets.{members, such_that, Within}
 use Rattle.mcs_sets.proofs.SetLemmas.{members_below, such_that-lt, Within-le}
 use Rattle.mcs_base.proofs.ListingLemmas.{members_listing, all_from_among}
 use Rattle.mcs_system.specs.Texts.{further, separated}

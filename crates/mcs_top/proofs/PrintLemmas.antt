@@ -1,13 +1,12 @@
 -- What was written of a text, and what is still to be.
 use Rattle.std.proofs.Common.{◌≡◌, ℕ, ◌+◌, ◌<◌, ◌≤◌, zero, suc, List, [], ◌∷◌, ◌++◌, take, drop, get_or, length, inl, inr, Option, Some, None, refl, sym, ap, ◌∙◌, append_assoc, add-one, arith, length-append}
-use Rattle.std.specs.Option.{option_map}
 use Rattle.mcs_sets.specs.Orders.{StateBefore}
 use Rattle.mcs_base.specs.Listings.{IsListing, IsAmong}
 use Rattle.mcs_ports.specs.Causes.{Rose}
 use Rattle.mcs_ports.specs.Pieces.{appended}
 use Rattle.mcs_system.specs.Plain.{System}
 use Rattle.mcs_system.specs.Systems.{all_rules, IsProjected}
-use Rattle.mcs_system.specs.Texts.{heading, equilibrium_line, equilibrium_lines, verdict, equilibria_end, equilibria_text, IsEquilibriaText}
+use Rattle.mcs_system.specs.Texts.{heading, equilibrium_line, equilibrium_lines, verdict, equilibria_end, equilibria_text}
 use Rattle.mcs_top.specs.Promise.{Prints, PrintsInPart, WritesFront, StopsWriting}
 use Rattle.mcs_top.specs.declared.ending.Stop.{Stop}
 use Rattle.mcs_top.specs.declared.ending.Stop.TheVariants as stops

@@ -1,10 +1,9 @@
 -- What is known of a small system, and that a truth table shows what one of its contexts accepts.
-use Rattle.std.proofs.Common.{◌≡◌, ℕ, ◌^◌, ◌<◌, ◌≤◌, ◌++◌, List, map, length, Some, slice_get, refl, sym, ◌∙◌, ap, subst, ◌↔◌, arith, IsTrue, true, false, Bool, true≢false}
-use Rattle.std.specs.List.{AllByRecursion}
+use Rattle.std.proofs.Common.{◌≡◌, ℕ, ◌^◌, ◌++◌, List, length, Some, slice_get, refl, sym, subst, ◌↔◌, IsTrue, true, false, Bool}
 use Rattle.mcs_sets.specs.Sets.{has}
 use Rattle.mcs_sets.proofs.SetLemmas.{same_set}
 use Rattle.mcs_base.proofs.ListingLemmas.{all_among}
-use Rattle.mcs_system.specs.Plain.{Formula, Kb, Classical, Context, System}
+use Rattle.mcs_system.specs.Plain.{Formula, Classical, Context, System}
 use Rattle.mcs_system.specs.Logic.{IsClassical}
 use Rattle.mcs_system.specs.Systems.{heads_into, Follows, IsAcceptedPart}
 use Rattle.mcs_system.specs.Atoms.{atoms_of}

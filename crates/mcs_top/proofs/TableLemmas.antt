@@ -1,13 +1,13 @@
 -- A truth table, row by row.
-use Rattle.std.proofs.Common.{◌≡◌, ℕ, ◌+◌, ◌^◌, ◌<◌, ◌≤◌, zero, suc, Bool, true, false, not, ◌&&◌, ◌||◌, ltb, eqb, cond, List, [], ◌∷◌, ◌++◌, length, Option, Some, None, slice_get, refl, sym, ap, ◌∙◌, inl, inr, ◌⊎◌, ◌↔◌, arith, add-one, IsTrue, true≢false}
-use Rattle.std.proofs.lemmas.Bool.{and_parts, cases_lt}
+use Rattle.std.proofs.Common.{◌≡◌, ℕ, ◌+◌, ◌^◌, ◌<◌, ◌≤◌, zero, suc, Bool, true, false, not, ◌&&◌, ◌||◌, ltb, eqb, List, length, Option, Some, None, slice_get, refl, sym, ap, ◌∙◌, ◌↔◌, arith, add-one, IsTrue, true≢false}
+use Rattle.std.proofs.lemmas.Bool.{and_parts}
 use Rattle.std.proofs.lemmas.Bool.Decides.{nat_tests}
 use Rattle.mcs_sets.specs.Sets.{has, such_that}
 use Rattle.mcs_sets.proofs.SetLemmas.{has-such_that, has_above, such_that-lt, same_set}
 use Rattle.mcs_system.specs.Plain.{Name, Formula, Read, System}
 use Rattle.mcs_system.specs.Logic.{holds, holds_all, true_names, Entails}
 use Rattle.mcs_system.specs.Systems.{variables, variables_of, IsVariable, Follows}
-use Rattle.mcs_laws.specs.Laws.{Covers, PassesTable}
+use Rattle.mcs_laws.specs.Laws.{Covers}
 use Rattle.mcs_laws.proofs.Tables.{table_decides}
 use Rattle.mcs_system.proofs.Members.{get-lt, get_below}
 use Rattle.mcs_system.proofs.VariableLemmas.{has-variables_of}

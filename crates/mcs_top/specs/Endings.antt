@@ -1,6 +1,5 @@
 -- How a run ends: what it notes, and its status.
-use Rattle.std.specs.Prelude.{◌≡◌, ℕ, ◌++◌, List, [], ◌∷◌, codes, Option, Some, None}
-use Rattle.mcs_top.specs.declared.ending.Refusal.{Refusal}
+use Rattle.std.specs.Prelude.{ℕ, List, codes}
 use Rattle.mcs_top.specs.declared.ending.Refusal.TheVariants as refusals
 use Rattle.mcs_top.specs.declared.ending.Stop.{Stop}
 use Rattle.mcs_top.specs.declared.ending.Stop.TheVariants as stops

@@ -1,7 +1,6 @@
 -- What a run promises.
 use Rattle.std.specs.Prelude.{◌≡◌, ◌⊎◌, ℕ, ◌≤◌, ◌++◌, List, take, length, cond, nat_lt, Option, Some, None, IfSome}
 use Rattle.std.specs.Option.{option_map, option_and_then}
-use Rattle.mcs_ports.specs.Causes.{Rose}
 use Rattle.mcs_ports.specs.Pieces.{appended, noted}
 use Rattle.mcs_system.specs.Plain.{System}
 use Rattle.mcs_system.specs.Texts.{IsEquilibriaText}

@@ -1,5 +1,5 @@
 -- What a truth table shows of the variables of a context.
-use Rattle.std.specs.Prelude.{ℕ, ◌+◌, Bool, true, false, not, ◌&&◌, ◌||◌, zero, suc, List, length, Option, Some, None, slice_get}
+use Rattle.std.specs.Prelude.{ℕ, Bool, true, false, not, ◌&&◌, ◌||◌, zero, suc, List, length, Option, Some, None, slice_get}
 use Rattle.mcs_sets.specs.Sets.{has, such_that}
 use Rattle.mcs_system.specs.Plain.{Name, Formula, Read, System}
 use Rattle.mcs_system.specs.Logic.{holds, holds_all, true_names}

@@ -1,6 +1,6 @@
-use Rattle.std.proofs.Common.{◌≡◌, ◌<◌, Some, map, length, slice_get, get_or, sym, ap, subst, ◌∙◌, arith}
+use Rattle.std.proofs.Common.{◌≡◌, ◌<◌, Some, length, slice_get, sym, ap, ◌∙◌, arith}
 use Rattle.std.proofs.lemmas.List.{length-map}
-use Rattle.mcs_system.specs.Plain.{Context, Kb}
+use Rattle.mcs_system.specs.Plain.{Context}
 use Rattle.mcs_system.specs.Seen.{context_of}
 use Rattle.mcs_system.proofs.SeenLemmas.{slice_get-map}
 use Rattle.mcs_top.proofs.SmallLemmas.{classical_at}

@@ -1,4 +1,4 @@
-use Rattle.std.proofs.Common.{◌≡◌, ◌<◌, ◌↔◌, ℕ}
+use Rattle.std.proofs.Common.{◌<◌, ◌↔◌, ℕ}
 use Rattle.mcs_base.specs.Listings.{IsAmong}
 use Rattle.mcs_system.specs.Systems.{all_rules, IsProjected}
 use Rattle.mcs_top.proofs.equilibria.equilibria.Given as goal

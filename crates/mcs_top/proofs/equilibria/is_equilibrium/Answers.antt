@@ -1,8 +1,7 @@
-use Rattle.std.proofs.Common.{◌≡◌, ℕ, length, map, nat_eq, true, false, sym, ap, subst, ◌∙◌, refl, arith, true≢false}
+use Rattle.std.proofs.Common.{◌≡◌, ℕ, length, sym, ap, subst, ◌∙◌, refl, arith, true≢false}
 use Rattle.std.proofs.lemmas.Bool.Decides.{nat_tests}
 use Rattle.std.proofs.lemmas.List.{length-map}
 use Rattle.mcs_sets.specs.Sets.{common}
-use Rattle.mcs_system.specs.Plain.{System}
 use Rattle.mcs_system.specs.Seen.{context_of}
 use Rattle.mcs_system.specs.Systems.{variables_of, IsAcceptedPart}
 use Rattle.mcs_top.proofs.EquilibriumLemmas.{AcceptsBelow, accepts_none, accepts_more, balanced, accepted_where_balanced}

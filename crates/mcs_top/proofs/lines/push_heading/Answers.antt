@@ -1,4 +1,4 @@
-use Rattle.std.proofs.Common.{◌≡◌, length, map, decimal, sym, ap, append_assoc, ◌∙◌}
+use Rattle.std.proofs.Common.{◌≡◌, length, sym, ap, append_assoc, ◌∙◌}
 use Rattle.std.proofs.lemmas.List.{length-map}
 use Rattle.mcs_system.specs.Seen.{context_of, bridge_of, read_of}
 use Rattle.mcs_system.specs.Systems.{variables}

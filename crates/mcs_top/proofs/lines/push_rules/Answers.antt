@@ -1,6 +1,5 @@
-use Rattle.std.proofs.Common.{◌≡◌, ◌++◌, ap, map, append_assoc, ◌∙◌}
+use Rattle.std.proofs.Common.{◌≡◌, append_assoc, ◌∙◌}
 use Rattle.mcs_sets.specs.Sets.{members}
-use Rattle.mcs_system.specs.Texts.{rule_text, separated}
 use Rattle.mcs_top.proofs.LineLemmas.{each_below, within_below}
 use Rattle.mcs_top.proofs.lines.push_rules.Goals as goal
 

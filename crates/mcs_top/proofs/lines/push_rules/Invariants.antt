@@ -1,7 +1,6 @@
 use Rattle.std.proofs.Common.{◌≡◌, ◌<◌, ◌++◌, length, map, codes}
 use Rattle.std.specs.List.{AllByRecursion}
 use Rattle.mcs_sets.specs.Sets.{members}
-use Rattle.mcs_system.specs.Systems.{variables}
 use Rattle.mcs_system.specs.Texts.{rule_text, separated}
 use Rattle.mcs_top.proofs.LineLemmas.{left}
 use Rattle.mcs_top.proofs.lines.push_rules.Given as goal

@@ -1,8 +1,7 @@
-use Rattle.std.proofs.Common.{◌≡◌, ◌<◌, ◌++◌, Option, Some, map, length, slice_get, get_or, refl, sym, ap, subst, ◌∙◌, arith}
+use Rattle.std.proofs.Common.{◌≡◌, ◌<◌, ◌++◌, Some, length, slice_get, sym, ap, ◌∙◌, arith}
 use Rattle.std.proofs.lemmas.List.{length-map}
-use Rattle.mcs_system.specs.Plain.{Read}
 use Rattle.mcs_system.specs.Seen.{read_of}
-use Rattle.mcs_system.specs.Systems.{variables, IsVariable}
+use Rattle.mcs_system.specs.Systems.{variables}
 use Rattle.mcs_system.specs.Texts.{text_of_variable}
 use Rattle.mcs_system.proofs.SeenLemmas.{slice_get-map}
 use Rattle.mcs_system.proofs.VariableLemmas.{variable_in_range}

@@ -1,4 +1,3 @@
-use Rattle.std.proofs.Common.{◌∙◌}
 use Rattle.std.proofs.lemmas.Result.{err_from_is_err_and, IfErr-weaker}
 use Rattle.mcs_system.specs.Texts.{verdict, equilibria_end}
 use Rattle.mcs_top.proofs.PrintLemmas.{front_first, front_second, later_rose, stops_weaker}

@@ -1,12 +1,11 @@
-use Rattle.std.proofs.Common.{◌≡◌, ◌++◌, ℕ, List, sym, ap, refl, subst, ◌∙◌}
+use Rattle.std.proofs.Common.{refl}
 use Rattle.std.proofs.lemmas.Result.{err_from_is_err_and, IfErr-weaker}
 use Rattle.mcs_sets.specs.Orders.{StateBefore}
 use Rattle.mcs_base.specs.Listings.{IsListing}
-use Rattle.mcs_ports.specs.Pieces.{appended}
 use Rattle.mcs_system.specs.Systems.{all_rules, IsProjected}
 use Rattle.mcs_system.specs.Texts.{heading}
 use Rattle.mcs_laws.proofs.Existence.{classical_states_listed}
-use Rattle.mcs_top.proofs.PrintLemmas.{prints_both, prints_in_part, front_none, front_first, front_second, later_rose, stops_weaker, appended-append}
+use Rattle.mcs_top.proofs.PrintLemmas.{prints_both, prints_in_part, front_none, front_first, front_second, later_rose, stops_weaker}
 use Rattle.mcs_top.proofs.LineLemmas.{on_ok}
 use Rattle.mcs_top.proofs.printing.print_equilibria.Goals as goal
 
