@@ -1,2 +1,4 @@
 pub mod OrderLemmas
 pub mod ClashLemmas
+pub mod JoinLemmas
+pub mod ResolventLemmas

@@ -133,16 +133,20 @@ near l c i up less small h = elim (among_drop-more l c i (pos 0) less h) [
         absurd (omega (arith, place-size l, place-size x))
     ]
 
--- the test for the second of the two
-pub is_second : (l : ℤ) (c : List ℤ) (i : ℕ) → FitsSigned w64 l → FitsSigned w64 (get_or c (i + 1) (pos 0)) → IsAscending LiteralBefore c → i + 1 < length c → unsigned_abs l ≤ unsigned_abs (get_or c i (pos 0)) → (l ≡ get_or c i (pos 0) → ⊥)
-    → IsTrue (nat_eq (of_z w64 (get_or c (i + 1) (pos 0))) (of_z w64 l)) ↔ IsAmong l (drop i c)
-is_second l c i fits fits' up more small differs = (
-    λ e. let same : of_z w64 (get_or c (i + 1) (pos 0)) ≡ of_z w64 l = grind (arith, nat_tests) in
-        subst (λ (k : ℤ). IsAmong k (drop i c)) (same_literal (get_or c (i + 1) (pos 0)) l fits' fits same) (among_drop-later (get_or c (i + 1) (pos 0)) c i (pos 0) (omega arith) (among_drop-first c (i + 1) (pos 0) more)),
-    λ h. elim (near l c i up (omega arith) small h) [
-      | inl e ↦ absurd (differs e)
-      | inr (_, e) ↦ let same : of_z w64 (get_or c (i + 1) (pos 0)) ≡ of_z w64 l = ap (of_z w64) (sym e) in grind (arith, nat_tests)
-    ])
+-- what the tests for both of them tell
+pub at_next : (l : ℤ) (c : List ℤ) (i : ℕ) → IsAscending LiteralBefore c → i ≤ length c → (i < length c → unsigned_abs l ≤ unsigned_abs (get_or c i (pos 0)))
+    → (((i < length c) × (get_or c i (pos 0) ≡ l)) ⊎ ((i + 1 < length c) × (get_or c (i + 1) (pos 0) ≡ l))) ↔ IsAmong l (drop i c)
+at_next l c i up bound small = (to, from)
+  where
+    to : ((i < length c) × (get_or c i (pos 0) ≡ l)) ⊎ ((i + 1 < length c) × (get_or c (i + 1) (pos 0) ≡ l)) → IsAmong l (drop i c)
+    to (inl (here, e)) = subst (λ (k : ℤ). IsAmong k (drop i c)) e (among_drop-first c i (pos 0) here)
+    to (inr (more, e)) = subst (λ (k : ℤ). IsAmong k (drop i c)) e (among_drop-later (get_or c (i + 1) (pos 0)) c i (pos 0) (omega arith) (among_drop-first c (i + 1) (pos 0) more))
+
+    from : IsAmong l (drop i c) → ((i < length c) × (get_or c i (pos 0) ≡ l)) ⊎ ((i + 1 < length c) × (get_or c (i + 1) (pos 0) ≡ l))
+    from h = elim (cases_lt i (length c)) [
+      | inr past ↦ absurd (among_drop-all l c i past h)
+      | inl here ↦ elim (near l c i up here (small here) h) [ inl e ↦ inl (here, sym e) | inr (more, e) ↦ inr (more, sym e) ]
+    ]
 
 zero-minus : (l : ℤ) → pos 0 -ℤ l ≡ neg_ℤ l
 zero-minus l = omega (arith, ints)

@@ -30,7 +30,7 @@ pub record ClauseList : Type 0 where
   pub clauses : List (List ℤ)
 
 abbrev pub IsClauseList : ClauseList → Type 0
-IsClauseList f = (f.vars < 2 ^ 63) × AllByRecursion (IsWithin f.vars) f.clauses
+IsClauseList f = (f.vars < 2 ^ 63) × AllByRecursion (λ c. IsClause c × IsWithin f.vars c) f.clauses
 
 -- ---- truth under an assignment, which says of each variable whether it is true
 abbrev pub literal_holds : (ℕ → Bool) → ℤ → Bool

@@ -1,6 +1,8 @@
 -- Chains of resolvents and traces. Clauses are numbered from 1 on, and the steps of a trace go on with the
 -- next numbers.
 use Rattle.std.specs.Prelude.{◌≡◌, ℕ, zero, suc, ◌-◌, List, [], ◌∷◌, ◌++◌, length, map, ℤ, Option, Some, None, slice_get}
+use Rattle.std.specs.List.{AllByRecursion}
+use Rattle.mcs_trace.specs.Clauses.{IsClause, IsUnsatisfiable}
 use Rattle.mcs_trace.specs.Resolution.{IsResolvent}
 use Rattle.mcs_trace.specs.declared.trace.Step.{Step}
 use Rattle.mcs_trace.specs.declared.trace.Trace.{Trace}
@@ -37,9 +39,16 @@ EndsEmpty steps = (s : Inference) × (slice_get steps (length steps - 1) ≡ Som
 abbrev pub IsAcceptedTrace : List (List ℤ) → List Inference → Type 0
 IsAcceptedTrace clauses steps = AreRightSteps clauses steps × EndsEmpty steps
 
+-- no assignment satisfies the clauses of an accepted trace
+abbrev pub AcceptedTracesRefute : Type 0
+AcceptedTracesRefute = (clauses : List (List ℤ)) (steps : List Inference) → AllByRecursion IsClause clauses → IsAcceptedTrace clauses steps → IsUnsatisfiable clauses
+
 -- ---- the plain data of the code's values
 abbrev pub inference_of : Step → Inference
 inference_of s = record { clause = s.clause; chain = s.chain.items }
+
+abbrev pub clauses_of : List Step → List (List ℤ)
+clauses_of steps = map (λ (s : Step). s.clause) steps
 
 abbrev pub inferences_of : Trace → List Inference
 inferences_of t = map inference_of t.steps.items

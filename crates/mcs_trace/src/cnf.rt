@@ -72,6 +72,7 @@ impl Cnf {
         ensures ok { OnOk result (self.new ≡ record self.old { clauses = self.old.clauses ++ clause ∷ [] }) }
         ensures err { OnErr result (self.new ≡ self.old) }
     {
+        let _ = clause.literals();
         self.clauses.push(clause)?;
         Ok(())
     }

@@ -2,12 +2,14 @@
 //! assignment satisfies the clauses that it is resolved from.
 #![tactic(auto)]
 
+mod checker;
 mod clause;
 mod cnf;
 mod literal;
 mod resolvent;
 mod trace;
 
+pub use checker::check;
 pub use clause::Clause;
 pub use cnf::Cnf;
 pub use resolvent::resolve;

@@ -3,7 +3,7 @@
 ghost use Rattle.std.specs.Prelude.{◌≡◌, [], ◌+◌, ◌<◌, ◌≤◌, ◌^◌, ◌↔◌, ℤ, List, neg_ℤ, unsigned_abs, length, drop, slice_index_or, pos, IsTrue, IfOk, MatchOption, OnOk};
 ghost use Rattle.std.specs.Bool.{MatchBool};
 ghost use Rattle.mcs_base.specs.Listings.{IsAmong, IsListing};
-ghost use Rattle.mcs_trace.specs.Clauses.{IsClause, LiteralBefore};
+ghost use Rattle.mcs_trace.specs.Clauses.{IsClause, IsLiteral, LiteralBefore, place};
 ghost use Rattle.mcs_trace.specs.Resolution.{IsOnlyClash, IsLeft, IsResolvent};
 
 use crate::literal::place;
@@ -23,6 +23,13 @@ fn skip_smaller(lits: &[i64], start: usize, size: u64) -> usize
     index
 }
 
+/// Whether the literal is at the index.
+fn is_at(lits: &[i64], index: usize, literal: i64) -> bool
+    ensures { IsTrue result ↔ ((index < length lits.now) × (slice_index_or lits.now index (pos 0) ≡ literal)) }
+{
+    index < lits.len() && lits[index] == literal
+}
+
 /// Whether the literal is in the rest of the clause, none of whose literals is smaller.
 fn is_next(lits: &[i64], start: usize, literal: i64) -> bool
     requires clause { IsClause lits.now }
@@ -30,10 +37,7 @@ fn is_next(lits: &[i64], start: usize, literal: i64) -> bool
     requires large { start < length lits.now → unsigned_abs literal ≤ unsigned_abs (slice_index_or lits.now start (pos 0)) }
     ensures { IsTrue result ↔ IsAmong literal (drop start lits.now) }
 {
-    if start == lits.len() {
-        return false;
-    }
-    lits[start] == literal || (start + 1 < lits.len() && lits[start + 1] == literal)
+    is_at(lits, start, literal) || is_at(lits, start + 1, literal)
 }
 
 /// The one literal of the first clause whose negation is in the second; `None` where there is none, or more
@@ -57,29 +61,43 @@ fn only_clash(first: &[i64], second: &[i64]) -> Option<i64>
     found
 }
 
+/// Whether the first clause has a literal at `i` that is before the one of the second at `j`, if that has
+/// one.
+fn comes_first(first: &[i64], i: usize, second: &[i64], j: usize) -> bool
+    requires first { IsClause first.now }
+    requires second { IsClause second.now }
+    ensures { IsTrue result
+        ↔ ((i < length first.now)
+        × (j < length second.now → place (slice_index_or first.now i (pos 0)) < place (slice_index_or second.now j (pos 0)))) }
+{
+    i < first.len() && (j >= second.len() || place(first[i]) < place(second[j]))
+}
+
 /// Appends the first clause without the literal, joined with the second without its negation.
 fn join(first: &[i64], second: &[i64], literal: i64, out: &mut Vec<i64>) -> Result<(), Memory>
     requires first { IsClause first.now }
     requires second { IsClause second.now }
-    requires fits { unsigned_abs literal < 2 ^ 63 }
+    requires literal { IsLiteral literal }
     requires empty { out.old.items ≡ [] }
     ensures { OnOk result (IsListing (IsLeft first.now second.now literal) LiteralBefore out.new.items) }
 {
+    let negated = -literal;
     let mut i = 0;
     let mut j = 0;
     while i < first.len() || j < second.len() {
-        if i < first.len() && first[i] == literal {
+        if is_at(first, i, literal) {
             i += 1;
-        } else if j < second.len() && second[j] == -literal {
+        } else if is_at(second, j, negated) {
             j += 1;
-        } else if j == second.len() || (i < first.len() && place(first[i]) < place(second[j])) {
+        } else if comes_first(first, i, second, j) {
             out.push(first[i])?;
             i += 1;
-        } else {
-            if i < first.len() && first[i] == second[j] {
-                i += 1;
-            }
+        } else if comes_first(second, j, first, i) {
             out.push(second[j])?;
+            j += 1;
+        } else {
+            out.push(second[j])?;
+            i += 1;
             j += 1;
         }
     }

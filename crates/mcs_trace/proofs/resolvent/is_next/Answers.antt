@@ -1,9 +1,14 @@
-use Rattle.std.proofs.Common.{◌≡◌, ◌+◌, ℤ, get_or, pos, ap, sym, rules, arith, w64, of_z, FitsSigned}
-use Rattle.mcs_trace.proofs.OrderLemmas.{is_second}
+use Rattle.std.proofs.Common.{◌≡◌, ◌∙◌, sym, inl, inr, w64, to_z, of_z, to_z-of_z, ℤ}
+use Rattle.mcs_trace.proofs.OrderLemmas.{at_next}
+use Rattle.mcs_trace.proofs.JoinLemmas.{false-not}
 use Rattle.mcs_trace.proofs.resolvent.is_next.Goals as goal
 
-pub returns-then-start-lits-2 : goal.returns-then-start-lits-2
-returns-then-start-lits-2 c =
-    let fits : FitsSigned w64 (get_or c.args.lits.now (c.args.start + 1) (pos 0)) = search rules in
-    is_second c.args.literal c.args.lits.now c.args.start c.ranges.literal fits c.requires.clause.1 c.if-start-lits-2.true (c.requires.large (omega arith))
-        (λ e. c.if-lits-start.false (ap (of_z w64) (sym e)))
+pub returns-else-is_at : goal.returns-else-is_at
+returns-else-is_at c =
+    let read : to_z w64 (of_z w64 c.args.literal) ≡ c.args.literal = to_z-of_z c.ranges.literal in
+    let next = at_next c.args.literal c.args.lits.now c.args.start c.requires.clause.1 c.requires.start c.requires.large in (
+        λ e. let (here, is) = c.is_at-else-is_at.ensures.0 e in next.0 (inr (here, is ∙ read)),
+        λ among. elim (next.1 among) [
+          | inl (here, is) ↦ absurd (false-not _ c.is_at.result c.is_at.ensures.1 c.if-is_at.false (here, is ∙ sym read))
+          | inr (here, is) ↦ c.is_at-else-is_at.ensures.1 (here, is ∙ sym read)
+        ])
