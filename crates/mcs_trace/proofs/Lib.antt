@@ -2,3 +2,4 @@ pub mod OrderLemmas
 pub mod ClashLemmas
 pub mod JoinLemmas
 pub mod ResolventLemmas
+pub mod TraceLemmas

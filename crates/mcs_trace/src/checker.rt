@@ -24,8 +24,11 @@ fn numbered<'a>(clauses: &'a [Clause], steps: &'a [Step], number: u64) -> Option
     if index < clauses.len() {
         return Some(&clauses[index]);
     }
-    let step = steps.get(index - clauses.len())?;
-    Some(&step.clause)
+    let later = index - clauses.len();
+    if later < steps.len() {
+        return Some(&steps[later].clause);
+    }
+    None
 }
 
 /// Whether the clause in `current`, resolved with those of the numbers in turn, gives the last one. What was
