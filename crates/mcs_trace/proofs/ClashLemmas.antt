@@ -29,11 +29,11 @@ pub clash-skip : (first second : List ℤ) (i j j' size : ℕ) (found : Option �
     → ((k : ℤ) → size ≤ unsigned_abs k → IsAmong k (drop j second) → IsAmong k (drop j' second))
     → ClashSoFar first second i j found → ClashSoFar first second i j' found
 clash-skip first second i j j' size found is less e bound kept h = record {
-    bound = bound;
-    near = λ l in_first in_second. kept (neg_ℤ l) (large l in_first) (h.near l in_first in_second);
-    found = h.found;
-    all = h.all;
-  }
+  bound = bound;
+  near = λ l in_first in_second. kept (neg_ℤ l) (large l in_first) (h.near l in_first in_second);
+  found = h.found;
+  all = h.all;
+}
   where
     same : size ≡ unsigned_abs (get_or first i (pos 0))
     same = e ∙ ap unsigned_abs (to_z-of_z (fits_literal (get_or first i (pos 0)) (literal_at first i is less)))
@@ -42,19 +42,19 @@ clash-skip first second i j j' size found is less e bound kept h = record {
     large l among = elim (among_drop-more l first i (pos 0) less among) [
       | inl e ↦ let e' : unsigned_abs l ≡ unsigned_abs (get_or first i (pos 0)) = ap unsigned_abs e in omega (arith, size-neg l, same)
       | inr later ↦
-        let after : place (get_or first i (pos 0)) < place l = all_among (LiteralBefore (get_or first i (pos 0))) (drop (i + 1) first) l (first_before first i (pos 0) less is.1) later in
-        omega (arith, same, size-neg l, place-size l, place-size (get_or first i (pos 0)))
+          let after : place (get_or first i (pos 0)) < place l = all_among (LiteralBefore (get_or first i (pos 0))) (drop (i + 1) first) l (first_before first i (pos 0) less is.1) later in
+          omega (arith, same, size-neg l, place-size l, place-size (get_or first i (pos 0)))
     ]
 
 -- a literal whose negation is not there
 pub clash-none : (first second : List ℤ) (i j : ℕ) (found : Option ℤ) → i < length first → ClashSoFar first second i j found
     → (IsAmong (neg_ℤ (get_or first i (pos 0))) (drop j second) → ⊥) → ClashSoFar first second (i + 1) j found
 clash-none first second i j found less h not = record {
-    bound = h.bound;
-    near = λ l later. h.near l (among_drop-later l first i (pos 0) less later);
-    found = later_found found h.found;
-    all = λ l in_first in_second. further l in_second (h.all l in_first in_second);
-  }
+  bound = h.bound;
+  near = λ l later. h.near l (among_drop-later l first i (pos 0) less later);
+  found = later_found found h.found;
+  all = λ l in_first in_second. further l in_second (h.all l in_first in_second);
+}
   where
     later_found : (o : Option ℤ) → IfSome o (IsFound first second i) → IfSome o (IsFound first second (i + 1))
     later_found None f = tt
@@ -72,11 +72,11 @@ pub clash-one : (first second : List ℤ) (i j : ℕ) (found : Option ℤ) → I
     → IsAmong (neg_ℤ (get_or first i (pos 0))) (drop j second) → ClashSoFar first second (i + 1) j (Some (get_or first i (pos 0)))
 clash-one first second i j (Some p) is less none h here = absurd (cc)
 clash-one first second i j None is less none h here = record {
-    bound = h.bound;
-    near = λ l later. h.near l (among_drop-later l first i (pos 0) less later);
-    found = record { in_first = among_get first i (pos 0) less; in_second = among_drop (neg_ℤ (get_or first i (pos 0))) j second here; before = first_before first i (pos 0) less is.1 };
-    all = λ l in_first in_second. further l (h.all l in_first in_second);
-  }
+  bound = h.bound;
+  near = λ l later. h.near l (among_drop-later l first i (pos 0) less later);
+  found = record { in_first = among_get first i (pos 0) less; in_second = among_drop (neg_ℤ (get_or first i (pos 0))) j second here; before = first_before first i (pos 0) less is.1 };
+  all = λ l in_first in_second. further l (h.all l in_first in_second);
+}
   where
     further : (l : ℤ) → (None ≡ Some l) ⊎ IsAmong l (drop i first) → (Some (get_or first i (pos 0)) ≡ Some l) ⊎ IsAmong l (drop (i + 1) first)
     further l (inl e) = absurd (cc)

@@ -43,7 +43,12 @@ pub record JoinSoFar (first second : List ℤ) (p : ℤ) (i j : ℕ) (out : List
 
 pub join-start : (first second : List ℤ) (p : ℤ) (out : List ℤ) → out ≡ [] → JoinSoFar first second p 0 0 out
 join-start first second p [] e = record {
-  first_bound = omega arith; second_bound = omega arith; ascending = tt; below = λ k m h r. absurd h; sound = λ k h. absurd h; complete = λ k h. inr h;
+  first_bound = omega arith;
+  second_bound = omega arith;
+  ascending = tt;
+  below = λ k m h r. absurd h;
+  sound = λ k h. absurd h;
+  complete = λ k h. inr h;
 }
 join-start first second p (l ∷ c) e = absurd (cc)
 
@@ -56,13 +61,13 @@ join-push : (first second : List ℤ) (p : ℤ) (i j i' j' : ℕ) (out : List �
     → IsAmong x (drop i first) ⊎ IsAmong x (drop j second) → IsLeft first second p x
     → JoinSoFar first second p i j out → JoinSoFar first second p i' j' (out ++ x ∷ [])
 join-push first second p i j i' j' out x bound bound' sub sub' cover cover' here left h = record {
-    first_bound = bound;
-    second_bound = bound';
-    ascending = ascending-push out x h.ascending (λ k among. h.below k x among here);
-    below = λ k m among rest. elim (among_push k x out among) [ inl old ↦ h.below k m old (earlier m rest) | inr e ↦ let same : place k ≡ place x = ap place e in after m k same rest ];
-    sound = λ k among. elim (among_push k x out among) [ inl old ↦ h.sound k old | inr e ↦ subst (IsLeft first second p) (sym e) left ];
-    complete = λ k left'. further k (h.complete k left');
-  }
+  first_bound = bound;
+  second_bound = bound';
+  ascending = ascending-push out x h.ascending (λ k among. h.below k x among here);
+  below = λ k m among rest. elim (among_push k x out among) [ inl old ↦ h.below k m old (earlier m rest) | inr e ↦ let same : place k ≡ place x = ap place e in after m k same rest ];
+  sound = λ k among. elim (among_push k x out among) [ inl old ↦ h.sound k old | inr e ↦ subst (IsLeft first second p) (sym e) left ];
+  complete = λ k left'. further k (h.complete k left');
+}
   where
     earlier : (m : ℤ) → IsAmong m (drop i' first) ⊎ IsAmong m (drop j' second) → IsAmong m (drop i first) ⊎ IsAmong m (drop j second)
     earlier m (inl r) = inl (sub m r).0
@@ -97,11 +102,13 @@ after_first c i up here m later = (among_drop-later m c i (pos 0) here later, al
 -- ---- the turns
 pub join-skip_first : (first second : List ℤ) (p : ℤ) (i j : ℕ) (out : List ℤ) → i < length first → get_or first i (pos 0) ≡ p → JoinSoFar first second p i j out → JoinSoFar first second p (i + 1) j out
 join-skip_first first second p i j out here e h = record {
-    first_bound = omega arith; second_bound = h.second_bound; ascending = h.ascending;
-    below = λ k m among rest. h.below k m among (elim rest [ inl r ↦ inl (among_drop-later m first i (pos 0) here r) | inr r ↦ inr r ]);
-    sound = h.sound;
-    complete = λ k left. further k (h.complete k left);
-  }
+  first_bound = omega arith;
+  second_bound = h.second_bound;
+  ascending = h.ascending;
+  below = λ k m among rest. h.below k m among (elim rest [ inl r ↦ inl (among_drop-later m first i (pos 0) here r) | inr r ↦ inr r ]);
+  sound = h.sound;
+  complete = λ k left. further k (h.complete k left);
+}
   where
     further : (k : ℤ) → IsAmong k out ⊎ ((IsAmong k (drop i first) × (k ≢ p)) ⊎ (IsAmong k (drop j second) × (k ≢ neg_ℤ p)))
         → IsAmong k out ⊎ ((IsAmong k (drop (i + 1) first) × (k ≢ p)) ⊎ (IsAmong k (drop j second) × (k ≢ neg_ℤ p)))
@@ -111,11 +118,13 @@ join-skip_first first second p i j out here e h = record {
 
 pub join-skip_second : (first second : List ℤ) (p : ℤ) (i j : ℕ) (out : List ℤ) → j < length second → get_or second j (pos 0) ≡ neg_ℤ p → JoinSoFar first second p i j out → JoinSoFar first second p i (j + 1) out
 join-skip_second first second p i j out here e h = record {
-    first_bound = h.first_bound; second_bound = omega arith; ascending = h.ascending;
-    below = λ k m among rest. h.below k m among (elim rest [ inl r ↦ inl r | inr r ↦ inr (among_drop-later m second j (pos 0) here r) ]);
-    sound = h.sound;
-    complete = λ k left. further k (h.complete k left);
-  }
+  first_bound = h.first_bound;
+  second_bound = omega arith;
+  ascending = h.ascending;
+  below = λ k m among rest. h.below k m among (elim rest [ inl r ↦ inl r | inr r ↦ inr (among_drop-later m second j (pos 0) here r) ]);
+  sound = h.sound;
+  complete = λ k left. further k (h.complete k left);
+}
   where
     further : (k : ℤ) → IsAmong k out ⊎ ((IsAmong k (drop i first) × (k ≢ p)) ⊎ (IsAmong k (drop j second) × (k ≢ neg_ℤ p)))
         → IsAmong k out ⊎ ((IsAmong k (drop i first) × (k ≢ p)) ⊎ (IsAmong k (drop (j + 1) second) × (k ≢ neg_ℤ p)))
@@ -128,31 +137,31 @@ pub join-take_first : (first second : List ℤ) (p : ℤ) (i j : ℕ) (out : Lis
 join-take_first first second p i j out up up' here differs less h =
     let x : ℤ = get_or first i (pos 0) in
     join-push first second p i j (i + 1) j out x (omega arith) h.second_bound (after_first first i up here) (λ m rest. (rest, before_rest (place x) second j up' less m rest))
-        (λ k rest. among_drop-more k first i (pos 0) here rest) (λ k rest. inr rest)
-        (inl (among_drop-first first i (pos 0) here)) (inl (among_get first i (pos 0) here, differs)) h
+    (λ k rest. among_drop-more k first i (pos 0) here rest) (λ k rest. inr rest)
+    (inl (among_drop-first first i (pos 0) here)) (inl (among_get first i (pos 0) here, differs)) h
 
 pub join-take_second : (first second : List ℤ) (p : ℤ) (i j : ℕ) (out : List ℤ) → IsAscending LiteralBefore first → IsAscending LiteralBefore second → j < length second → get_or second j (pos 0) ≢ neg_ℤ p
     → (i < length first → place (get_or second j (pos 0)) < place (get_or first i (pos 0))) → JoinSoFar first second p i j out → JoinSoFar first second p i (j + 1) (out ++ get_or second j (pos 0) ∷ [])
 join-take_second first second p i j out up up' here differs less h =
     let x : ℤ = get_or second j (pos 0) in
     join-push first second p i j i (j + 1) out x h.first_bound (omega arith) (λ m rest. (rest, before_rest (place x) first i up less m rest)) (after_first second j up' here)
-        (λ k rest. inr rest) (λ k rest. among_drop-more k second j (pos 0) here rest)
-        (inr (among_drop-first second j (pos 0) here)) (inr (among_get second j (pos 0) here, differs)) h
+    (λ k rest. inr rest) (λ k rest. among_drop-more k second j (pos 0) here rest)
+    (inr (among_drop-first second j (pos 0) here)) (inr (among_get second j (pos 0) here, differs)) h
 
 pub join-take_both : (first second : List ℤ) (p : ℤ) (i j : ℕ) (out : List ℤ) → IsAscending LiteralBefore first → IsAscending LiteralBefore second → i < length first → j < length second → get_or second j (pos 0) ≢ neg_ℤ p
     → get_or first i (pos 0) ≡ get_or second j (pos 0) → JoinSoFar first second p i j out → JoinSoFar first second p (i + 1) (j + 1) (out ++ get_or second j (pos 0) ∷ [])
 join-take_both first second p i j out up up' here here' differs same h =
     let x : ℤ = get_or second j (pos 0) in
     join-push first second p i j (i + 1) (j + 1) out x (omega arith) (omega arith)
-        (subst (λ (y : ℤ). (m : ℤ) → IsAmong m (drop (i + 1) first) → IsAmong m (drop i first) × (place y < place m)) same (after_first first i up here)) (after_first second j up' here')
-        (subst (λ (y : ℤ). (k : ℤ) → IsAmong k (drop i first) → (k ≡ y) ⊎ IsAmong k (drop (i + 1) first)) same (λ k rest. among_drop-more k first i (pos 0) here rest)) (λ k rest. among_drop-more k second j (pos 0) here' rest)
-        (inr (among_drop-first second j (pos 0) here')) (inr (among_get second j (pos 0) here', differs)) h
+    (subst (λ (y : ℤ). (m : ℤ) → IsAmong m (drop (i + 1) first) → IsAmong m (drop i first) × (place y < place m)) same (after_first first i up here)) (after_first second j up' here')
+    (subst (λ (y : ℤ). (k : ℤ) → IsAmong k (drop i first) → (k ≡ y) ⊎ IsAmong k (drop (i + 1) first)) same (λ k rest. among_drop-more k first i (pos 0) here rest)) (λ k rest. among_drop-more k second j (pos 0) here' rest)
+    (inr (among_drop-first second j (pos 0) here')) (inr (among_get second j (pos 0) here', differs)) h
 
 pub join-end : (first second : List ℤ) (p : ℤ) (i j : ℕ) (out : List ℤ) → length first ≤ i → length second ≤ j → JoinSoFar first second p i j out → IsListing (IsLeft first second p) LiteralBefore out
 join-end first second p i j out past past' h = record {
-    exactly = λ k. (h.sound k, λ left. done k (h.complete k left));
-    ascending = h.ascending;
-  }
+  exactly = λ k. (h.sound k, λ left. done k (h.complete k left));
+  ascending = h.ascending;
+}
   where
     done : (k : ℤ) → IsAmong k out ⊎ ((IsAmong k (drop i first) × (k ≢ p)) ⊎ (IsAmong k (drop j second) × (k ≢ neg_ℤ p))) → IsAmong k out
     done k (inl old) = old

@@ -3,3 +3,4 @@ pub mod ClashLemmas
 pub mod JoinLemmas
 pub mod ResolventLemmas
 pub mod TraceLemmas
+pub mod InsertLemmas

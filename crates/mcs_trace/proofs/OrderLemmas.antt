@@ -48,7 +48,7 @@ after-cons n l c is less =
 pub clause_after-more : (n m : ℕ) (c : List ℤ) (i : ℕ) (d : ℤ) → i < length c → IsLiteral (get_or c i d) → n < m → m ≡ place (get_or c i d) → IsClauseAfter n (drop i c) ↔ IsClauseAfter m (drop (i + 1) c)
 clause_after-more n m c i d less is after e =
     subst (λ (x : List ℤ). IsClauseAfter n x ↔ IsClauseAfter m (drop (i + 1) c)) (sym (drop_more c i d less))
-        (subst (λ (p : ℕ). IsClauseAfter n (get_or c i d ∷ drop (i + 1) c) ↔ IsClauseAfter p (drop (i + 1) c)) (sym e) (after-cons n (get_or c i d) (drop (i + 1) c) is (omega arith)))
+    (subst (λ (p : ℕ). IsClauseAfter n (get_or c i d ∷ drop (i + 1) c) ↔ IsClauseAfter p (drop (i + 1) c)) (sym e) (after-cons n (get_or c i d) (drop (i + 1) c) is (omega arith)))
 
 -- ---- rests of clauses
 pub ascending-drop : (n : ℕ) (c : List ℤ) → IsAscending LiteralBefore c → IsAscending LiteralBefore (drop n c)
@@ -126,11 +126,11 @@ near l c i up less small h = elim (among_drop-more l c i (pos 0) less h) [
     second (inl more) later = elim (among_drop-more l c (i + 1) (pos 0) more later) [
       | inl e ↦ inr (more, e)
       | inr last ↦
-        let x : ℤ = get_or c i (pos 0) in
-        let y : ℤ = get_or c (i + 1) (pos 0) in
-        let first : place x < place y = all_among (LiteralBefore x) (drop (i + 1) c) y (first_before c i (pos 0) less up) (among_drop-first c (i + 1) (pos 0) more) in
-        let then : place y < place l = all_among (LiteralBefore y) (drop (i + 1 + 1) c) l (first_before c (i + 1) (pos 0) more up) last in
-        absurd (omega (arith, place-size l, place-size x))
+          let x : ℤ = get_or c i (pos 0) in
+          let y : ℤ = get_or c (i + 1) (pos 0) in
+          let first : place x < place y = all_among (LiteralBefore x) (drop (i + 1) c) y (first_before c i (pos 0) less up) (among_drop-first c (i + 1) (pos 0) more) in
+          let then : place y < place l = all_among (LiteralBefore y) (drop (i + 1 + 1) c) l (first_before c (i + 1) (pos 0) more up) last in
+          absurd (omega (arith, place-size l, place-size x))
     ]
 
 -- what the tests for both of them tell

@@ -85,8 +85,9 @@ chain-more known c ns last i d m less is r = (to, from)
 
 pub chain-end : (known : List (List ℤ)) (c : List ℤ) (ns : List ℕ) (last : List ℤ) (i : ℕ) → length ns ≤ i → ResolvesTo known c (drop i ns) last ↔ (c ≡ last)
 chain-end known c ns last i past = (
-    λ h. subst (λ (xs : List ℕ). ResolvesTo known c xs last) (drop_all i ns past) h,
-    λ e. subst (λ (xs : List ℕ). ResolvesTo known c xs last) (sym (drop_all i ns past)) e)
+  λ h. subst (λ (xs : List ℕ). ResolvesTo known c xs last) (drop_all i ns past) h,
+  λ e. subst (λ (xs : List ℕ). ResolvesTo known c xs last) (sym (drop_all i ns past)) e,
+)
 
 pub chain-first : (known : List (List ℤ)) (ns : List ℕ) (n : ℕ) (rest : List ℕ) (c last : List ℤ) → ns ≡ n ∷ rest → numbered known n ≡ Some c → IsChainResolvent known ns last ↔ ResolvesTo known c rest last
 chain-first known ns n rest c last e is = (to, from)
@@ -143,8 +144,9 @@ same-inference o s t e e' = cc
 
 pub ends-last : (steps : List Step) (s : Step) → slice_get steps (length steps - 1) ≡ Some s → EndsEmpty (map inference_of steps) ↔ (s.clause ≡ [])
 ends-last steps s e = (
-    λ (t, is, empty). ap (λ (x : Inference). x.clause) (same-inference (slice_get (map inference_of steps) (length (map inference_of steps) - 1)) (inference_of s) t at is) ∙ empty,
-    λ empty. (inference_of s, at, empty))
+  λ (t, is, empty). ap (λ (x : Inference). x.clause) (same-inference (slice_get (map inference_of steps) (length (map inference_of steps) - 1)) (inference_of s) t at is) ∙ empty,
+  λ empty. (inference_of s, at, empty),
+)
   where
     at : slice_get (map inference_of steps) (length (map inference_of steps) - 1) ≡ Some (inference_of s)
     at = ap (λ n. slice_get (map inference_of steps) (n - 1)) (length-inferences steps) ∙ inference-at steps (length steps - 1) s e

@@ -76,7 +76,14 @@ fn is_right(
     };
     current.clear();
     current.extend_from_slice(first.literals())?;
-    resolves_to(clauses, steps, numbers, current, spare, step.clause.literals())
+    resolves_to(
+        clauses,
+        steps,
+        numbers,
+        current,
+        spare,
+        step.clause.literals(),
+    )
 }
 
 /// Whether each step's clause is the resolvent of its chain.

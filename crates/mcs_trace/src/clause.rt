@@ -1,9 +1,11 @@
 //! Clauses: sets of literals, in order.
 
-ghost use Rattle.std.specs.Prelude.{◌≡◌, ◌↔◌, IsTrue, MatchOption, [], length};
-ghost use Rattle.mcs_trace.specs.Clauses.{IsClause};
+ghost use Rattle.std.specs.Prelude.{◌≡◌, ◌⊎◌, ◌↔◌, ◌<◌, ◌≤◌, ℕ, pos, IsTrue, MatchOption, OnOk, OnErr, [], length, slice_index_or};
+ghost use Rattle.mcs_base.specs.Listings.{IsAmong, IsListing};
+ghost use Rattle.mcs_trace.specs.Clauses.{IsClause, IsLiteral, LiteralBefore, place};
 
-use crate::literal::{is_literal, place};
+use crate::literal::{is_at, is_literal, place};
+use mcs_base::Memory;
 use std::alloc::Global;
 use std::marker::Model;
 
@@ -39,11 +41,26 @@ fn is_clause(lits: &[i64]) -> bool
     true
 }
 
+/// How many literals of the clause are before the literal.
+fn place_in(lits: &[i64], literal: i64) -> usize
+    requires clause { IsClause lits.now }
+    requires literal { IsLiteral literal }
+    ensures bound { result ≤ length lits.now }
+    ensures before { (k : ℕ) → k < result → place (slice_index_or lits.now k (pos 0)) < place literal }
+    ensures after { result < length lits.now → place literal ≤ place (slice_index_or lits.now result (pos 0)) }
+{
+    let mut index = 0;
+    while index < lits.len() && place(lits[index]) < place(literal) {
+        index += 1;
+    }
+    index
+}
+
 impl Clause {
     /// The clause of these literals; `None` exactly where they are not in order, or one of them is no
     /// literal.
     pub fn new(lits: Vec<i64>) -> Option<Clause>
-        ensures { MatchOption result (¬ IsClause lits.items) (λ c. c ≡ lits.items) }
+        ensures { MatchOption result (¬ IsClause lits.items) (λ c. (c ≡ lits.items) × IsClause c) }
     {
         if is_clause(&lits) {
             Some(Clause { lits })
@@ -59,6 +76,20 @@ impl Clause {
         Clause {
             lits: Vec::new(alloc),
         }
+    }
+
+    /// Adds the literal, in time linear in those that are there. Where memory runs out, the clause is as
+    /// before.
+    pub fn insert(&mut self, literal: i64) -> Result<(), Memory>
+        requires { IsLiteral literal }
+        ensures ok { OnOk result (IsListing (λ l. (l ≡ literal) ⊎ IsAmong l self.old) LiteralBefore self.new) }
+        ensures err { OnErr result (self.new ≡ self.old) }
+    {
+        let index = place_in(&self.lits, literal);
+        if !is_at(&self.lits, index, literal) {
+            self.lits.insert(index, literal)?;
+        }
+        Ok(())
     }
 
     /// The literals, in order.

@@ -2,15 +2,22 @@
 //! assignment satisfies the clauses that it is resolved from.
 #![tactic(auto)]
 
+mod certificate;
 mod checker;
 mod clause;
 mod cnf;
+mod laws;
 mod literal;
 mod resolvent;
+#[cfg(test)]
+mod tests;
 mod trace;
 
+pub use certificate::{ClassicalCert, Entail};
 pub use checker::check;
 pub use clause::Clause;
 pub use cnf::Cnf;
+pub use laws::accepted_traces_refute;
+pub use literal::is_literal;
 pub use resolvent::resolve;
 pub use trace::{Step, Trace};

@@ -1,6 +1,6 @@
 //! Literals.
 
-ghost use Rattle.std.specs.Prelude.{◌≡◌, ◌<◌, ◌^◌, ◌↔◌, IsTrue};
+ghost use Rattle.std.specs.Prelude.{◌≡◌, ◌<◌, ◌^◌, ◌↔◌, IsTrue, length, slice_index_or, pos};
 ghost use Rattle.std.specs.Int.RustNames.{unsigned_abs};
 ghost use Rattle.mcs_trace.specs.Clauses.{IsLiteral, place};
 
@@ -17,4 +17,11 @@ pub fn is_literal(number: i64) -> bool
     ensures { IsTrue result ↔ IsLiteral number }
 {
     number != 0 && number != i64::MIN
+}
+
+/// Whether the literal is at the index.
+pub(crate) fn is_at(lits: &[i64], index: usize, literal: i64) -> bool
+    ensures { IsTrue result ↔ ((index < length lits.now) × (slice_index_or lits.now index (pos 0) ≡ literal)) }
+{
+    index < lits.len() && lits[index] == literal
 }

@@ -6,7 +6,7 @@ ghost use Rattle.mcs_base.specs.Listings.{IsAmong, IsListing};
 ghost use Rattle.mcs_trace.specs.Clauses.{IsClause, IsLiteral, LiteralBefore, place};
 ghost use Rattle.mcs_trace.specs.Resolution.{IsOnlyClash, IsLeft, IsResolvent};
 
-use crate::literal::place;
+use crate::literal::{is_at, place};
 use mcs_base::Memory;
 
 /// The first index from `start` on at which a literal has at least the size.
@@ -21,13 +21,6 @@ fn skip_smaller(lits: &[i64], start: usize, size: u64) -> usize
         index += 1;
     }
     index
-}
-
-/// Whether the literal is at the index.
-fn is_at(lits: &[i64], index: usize, literal: i64) -> bool
-    ensures { IsTrue result ↔ ((index < length lits.now) × (slice_index_or lits.now index (pos 0) ≡ literal)) }
-{
-    index < lits.len() && lits[index] == literal
 }
 
 /// Whether the literal is in the rest of the clause, none of whose literals is smaller.

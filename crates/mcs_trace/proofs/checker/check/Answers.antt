@@ -22,5 +22,5 @@ returns-clause-refutes c =
     let ends : EndsEmpty steps = subst (λ (xs : List Step). EndsEmpty (map inference_of xs)) c.deref.ensures.value (c.if-not-ends_empty.ensures.0 refl) in
     let right : IfOk c.are_right.result (λ b. IsTrue b ↔ AreRightSteps c.clauses.result.now (map inference_of c.deref-2.result.now)) = c.are_right.ensures in
     told c.are_right.result (AreRightSteps clauses steps) (IsUnsatisfiable clauses) (λ h. refutes clauses steps (all_clauses c.args.cnf.now.vars clauses c.clauses.ensures.kept.1) (h, ends))
-        (subst (λ (xs : List (List ℤ)). IfOk c.are_right.result (λ b. IsTrue b ↔ AreRightSteps xs steps)) c.clauses.ensures.value
-            (subst (λ (xs : List Step). IfOk c.are_right.result (λ b. IsTrue b ↔ AreRightSteps c.clauses.result.now (map inference_of xs))) c.deref-2.ensures.value right))
+    (subst (λ (xs : List (List ℤ)). IfOk c.are_right.result (λ b. IsTrue b ↔ AreRightSteps xs steps)) c.clauses.ensures.value
+    (subst (λ (xs : List Step). IfOk c.are_right.result (λ b. IsTrue b ↔ AreRightSteps c.clauses.result.now (map inference_of xs))) c.deref-2.ensures.value right))

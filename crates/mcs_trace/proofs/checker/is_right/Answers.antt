@@ -18,6 +18,6 @@ returns c =
     let copied : c.extend_from_slice.new.self.items ≡ first = c.in_ok-extend_from_slice.ensures.items ∙ ap (λ xs. xs ++ c.literals.result.now) c.clear.ensures.items ∙ c.literals.ensures.value in
     let resolves : IfOk c.resolves_to.result (λ b. IsTrue b ↔ ResolvesTo known c.extend_from_slice.new.self.items numbers c.literals-2.result.now) = c.resolves_to.ensures in
     told c.resolves_to.result (IsChainResolvent known c.args.step.now.chain.items last) (ResolvesTo known first numbers last)
-        (chain-first known c.args.step.now.chain.items c.in-Some.number.now numbers first last chain (sym c.in-Some-numbered.ensures))
-        (subst (λ (x : List ℤ). IfOk c.resolves_to.result (λ b. IsTrue b ↔ ResolvesTo known x numbers last)) copied
-            (subst (λ (x : List ℤ). IfOk c.resolves_to.result (λ b. IsTrue b ↔ ResolvesTo known c.extend_from_slice.new.self.items numbers x)) c.literals-2.ensures.value resolves))
+    (chain-first known c.args.step.now.chain.items c.in-Some.number.now numbers first last chain (sym c.in-Some-numbered.ensures))
+    (subst (λ (x : List ℤ). IfOk c.resolves_to.result (λ b. IsTrue b ↔ ResolvesTo known x numbers last)) copied
+    (subst (λ (x : List ℤ). IfOk c.resolves_to.result (λ b. IsTrue b ↔ ResolvesTo known c.extend_from_slice.new.self.items numbers x)) c.literals-2.ensures.value resolves))

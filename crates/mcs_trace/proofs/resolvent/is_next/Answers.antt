@@ -7,8 +7,9 @@ pub returns-else-is_at : goal.returns-else-is_at
 returns-else-is_at c =
     let read : to_z w64 (of_z w64 c.args.literal) ≡ c.args.literal = to_z-of_z c.ranges.literal in
     let next = at_next c.args.literal c.args.lits.now c.args.start c.requires.clause.1 c.requires.start c.requires.large in (
-        λ e. let (here, is) = c.is_at-else-is_at.ensures.0 e in next.0 (inr (here, is ∙ read)),
-        λ among. elim (next.1 among) [
-          | inl (here, is) ↦ absurd (false-not _ c.is_at.result c.is_at.ensures.1 c.if-is_at.false (here, is ∙ sym read))
-          | inr (here, is) ↦ c.is_at-else-is_at.ensures.1 (here, is ∙ sym read)
-        ])
+      λ e. let (here, is) = c.is_at-else-is_at.ensures.0 e in next.0 (inr (here, is ∙ read)),
+      λ among. elim (next.1 among) [
+        | inl (here, is) ↦ absurd (false-not _ c.is_at.result c.is_at.ensures.1 c.if-is_at.false (here, is ∙ sym read))
+        | inr (here, is) ↦ c.is_at-else-is_at.ensures.1 (here, is ∙ sym read)
+      ],
+    )

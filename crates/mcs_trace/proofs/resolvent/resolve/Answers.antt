@@ -21,5 +21,5 @@ returns-clause-clause c = λ e.
     let l : ℤ = c.in-Some.literal in
     let is : IsLiteral l = all_among IsLiteral c.args.first.now l c.requires.first.0 c.in-Some.ensures.in_first in
     let left : IsListing (IsLeft c.args.first.now c.args.second.now l) LiteralBefore c.join.new.out.items =
-        subst (λ (k : ℤ). IsListing (IsLeft c.args.first.now c.args.second.now k) LiteralBefore c.join.new.out.items) (to_z-of_z (fits_literal l is)) c.in_ok-join.ensures in
+    subst (λ (k : ℤ). IsListing (IsLeft c.args.first.now c.args.second.now k) LiteralBefore c.join.new.out.items) (to_z-of_z (fits_literal l is)) c.in_ok-join.ensures in
     IsResolvent-clause c.args.first.now c.args.second.now c.join.new.out.items c.requires.first c.requires.second (record { literal = l; clash = c.in-Some.ensures; left = left })
