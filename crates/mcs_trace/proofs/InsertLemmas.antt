@@ -1,6 +1,5 @@
 -- A clause with one more literal.
-use Rattle.std.proofs.Common.{◌≡◌, ℕ, ◌+◌, ◌<◌, ◌≤◌, zero, suc, List, [], ◌∷◌, ◌++◌, ◌⊎◌, inl, inr, refl, sym, ap, ◌∙◌, subst, arith, Bool, true, false, true≢false, ℤ, pos, length, take, drop, get_or}
-use Rattle.std.specs.List.{AllByRecursion}
+use Rattle.std.proofs.Common.{◌≡◌, ℕ, ◌<◌, ◌≤◌, zero, suc, List, [], ◌∷◌, ◌++◌, ◌⊎◌, inl, inr, sym, ap, ◌∙◌, subst, arith, Bool, true, false, true≢false, ℤ, pos, length, take, drop, get_or}
 use Rattle.mcs_base.specs.Listings.{IsAscending, IsAmong, IsListing}
 use Rattle.mcs_base.proofs.ListingLemmas.{all_among, all_from_among}
 use Rattle.mcs_trace.specs.Clauses.{IsLiteral, IsClause, place, LiteralBefore}

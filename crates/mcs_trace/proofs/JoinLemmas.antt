@@ -1,12 +1,12 @@
 -- How two clauses are joined.
-use Rattle.std.proofs.Common.{◌≡◌, ◌≢◌, ℕ, ◌+◌, ◌<◌, ◌≤◌, zero, suc, List, [], ◌∷◌, ◌++◌, ◌⊎◌, inl, inr, refl, sym, ap, ◌∙◌, subst, arith, ℤ, pos, neg_ℤ, ◌-ℤ◌, Bool, true, false, true≢false, w64, to_z, of_z, to_z-of_z, length, drop, get_or}
+use Rattle.std.proofs.Common.{◌≡◌, ◌≢◌, ℕ, ◌+◌, ◌<◌, ◌≤◌, List, [], ◌∷◌, ◌++◌, ◌⊎◌, inl, inr, refl, sym, ap, ◌∙◌, subst, arith, ℤ, pos, neg_ℤ, ◌-ℤ◌, Bool, true, false, true≢false, w64, to_z, of_z, to_z-of_z, length, drop, get_or}
 use Rattle.std.specs.List.{AllByRecursion}
 use Rattle.std.proofs.lemmas.Bool.{cases_lt}
 use Rattle.mcs_base.specs.Listings.{IsAscending, IsAmong, IsListing}
 use Rattle.mcs_base.proofs.ListingLemmas.{all_among}
 use Rattle.mcs_trace.specs.Clauses.{IsLiteral, place, LiteralBefore}
 use Rattle.mcs_trace.specs.Resolution.{IsLeft}
-use Rattle.mcs_trace.proofs.OrderLemmas.{among_drop, among_get, among_drop-more, among_drop-all, among_drop-first, among_drop-later, first_before, fits_literal, turned}
+use Rattle.mcs_trace.proofs.OrderLemmas.{among_get, among_drop-more, among_drop-all, among_drop-first, among_drop-later, first_before, fits_literal, turned}
 
 -- ---- a list with one more at the end
 among_push : (k x : ℤ) (c : List ℤ) → IsAmong k (c ++ x ∷ []) → IsAmong k c ⊎ (k ≡ x)

@@ -1,14 +1,13 @@
 -- The order of literals, and clauses that are read from the front.
-use Rattle.std.proofs.Common.{◌≡◌, ℕ, ◌+◌, ◌*◌, ◌^◌, ◌<◌, ◌≤◌, zero, suc, List, [], ◌∷◌, ◌↔◌, ◌⊎◌, inl, inr, refl, sym, ap, ◌∙◌, subst, arith, ℤ, pos, negsuc, neg_ℤ, ◌-ℤ◌, length, drop, get_or, w64, to_z, of_z, to_z-of_z, FitsSigned, IsTrue, nat_eq}
+use Rattle.std.proofs.Common.{◌≡◌, ℕ, ◌+◌, ◌*◌, ◌^◌, ◌<◌, ◌≤◌, zero, suc, List, [], ◌∷◌, ◌↔◌, ◌⊎◌, inl, inr, refl, sym, ap, ◌∙◌, subst, arith, ℤ, pos, negsuc, neg_ℤ, ◌-ℤ◌, length, drop, get_or, w64, to_z, of_z, to_z-of_z, FitsSigned}
 use Rattle.std.specs.Int.RustNames.{unsigned_abs}
 use Rattle.std.specs.List.{AllByRecursion}
 use Rattle.std.proofs.lemmas.List.{drop_more, drop_all}
 use Rattle.std.proofs.lemmas.Int.{ints}
 use Rattle.std.proofs.lemmas.Bool.{cases_lt}
-use Rattle.std.proofs.lemmas.Bool.Decides.{nat_tests}
 use Rattle.mcs_base.specs.Listings.{IsAscending, IsAmong}
 use Rattle.mcs_base.proofs.ListingLemmas.{all_among}
-use Rattle.mcs_trace.specs.Clauses.{IsLiteral, place, LiteralBefore, IsClause, IsWithin}
+use Rattle.mcs_trace.specs.Clauses.{IsLiteral, place, LiteralBefore, IsClause}
 
 -- ---- places
 pub place-injective : (a b : ℤ) → place a ≡ place b → a ≡ b

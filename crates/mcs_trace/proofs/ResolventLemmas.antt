@@ -1,12 +1,10 @@
 -- Resolvents are clauses, there is at most one, and it holds where both clauses do.
-use Rattle.std.proofs.Common.{◌≡◌, ◌≢◌, ℕ, ◌+◌, Bool, true, false, not, ◌&&◌, ◌||◌, List, [], ◌∷◌, ◌++◌, ◌⊎◌, inl, inr, refl, sym, ap, ◌∙◌, subst, arith, ℤ, pos, negsuc, zero, suc, neg_ℤ, true≢false, IsTrue, int_eq}
-use Rattle.std.specs.List.{AllByRecursion, list_any, list_all}
-use Rattle.std.proofs.lemmas.Bool.{and_parts}
+use Rattle.std.proofs.Common.{◌≡◌, ◌≢◌, ℕ, Bool, true, false, not, ◌||◌, List, [], ◌∷◌, ◌⊎◌, inl, inr, refl, sym, ap, ◌∙◌, subst, arith, ℤ, pos, negsuc, zero, suc, neg_ℤ, true≢false, int_eq}
 use Rattle.std.proofs.lemmas.Bool.Decides.{Decides-int_eq}
 use Rattle.mcs_base.specs.Listings.{IsAmong, IsListing}
 use Rattle.mcs_base.proofs.ListingLemmas.{all_among, all_from_among, same_listing}
-use Rattle.mcs_trace.specs.Clauses.{IsLiteral, LiteralBefore, IsClause, literal_holds, clause_holds, all_hold}
-use Rattle.mcs_trace.specs.Resolution.{IsOnlyClash, IsLeft, IsResolvent}
+use Rattle.mcs_trace.specs.Clauses.{IsLiteral, LiteralBefore, IsClause, literal_holds, clause_holds}
+use Rattle.mcs_trace.specs.Resolution.{IsLeft, IsResolvent}
 use Rattle.mcs_trace.proofs.OrderLemmas.{before_asymmetric}
 
 pub IsLeft-literal : (c d : List ℤ) (p k : ℤ) → IsClause c → IsClause d → IsLeft c d p k → IsLiteral k

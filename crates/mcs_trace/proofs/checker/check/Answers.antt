@@ -1,4 +1,4 @@
-use Rattle.std.proofs.Common.{ℕ, refl, ◌≡◌, ◌↔◌, IsTrue, IfOk, Bool, Result, Ok, Err, ℤ, List, [], ◌∷◌, map, sym, ap, ◌∙◌, subst}
+use Rattle.std.proofs.Common.{ℕ, refl, ◌↔◌, IsTrue, IfOk, Bool, Result, Ok, Err, ℤ, List, [], ◌∷◌, map, subst}
 use Rattle.std.specs.List.{AllByRecursion}
 use Rattle.mcs_base.specs.declared.memory.Memory.{Memory}
 use Rattle.mcs_trace.specs.declared.trace.Step.{Step}

@@ -1,4 +1,4 @@
-use Rattle.std.proofs.Common.{◌≡◌, ◌++◌, ◌↔◌, IsTrue, IfOk, Bool, Result, Ok, Err, ℕ, ℤ, List, [], ◌∷◌, sym, ap, ◌∙◌, subst}
+use Rattle.std.proofs.Common.{◌≡◌, ◌++◌, ◌↔◌, IsTrue, IfOk, Bool, Result, Ok, Err, ℕ, ℤ, List, ◌∷◌, sym, ap, ◌∙◌, subst}
 use Rattle.mcs_base.specs.declared.memory.Memory.{Memory}
 use Rattle.mcs_trace.specs.Traces.{ResolvesTo, clauses_of, IsChainResolvent}
 use Rattle.mcs_trace.proofs.TraceLemmas.{chain-first}

@@ -1,4 +1,4 @@
-use Rattle.std.proofs.Common.{◌≡◌, ◌++◌, ◌+◌, ◌↔◌, drop, ℤ, List, sym, ap, ◌∙◌, subst, true≢false, int_eq}
+use Rattle.std.proofs.Common.{◌≡◌, ◌++◌, ◌+◌, ◌↔◌, drop, ℤ, List, sym, ap, ◌∙◌, subst, true≢false}
 use Rattle.std.proofs.lemmas.Bool.Decides.{when_true, when_false}
 use Rattle.std.specs.Cmp.Rules.{signed_items}
 use Rattle.mcs_trace.specs.Clauses.{IsClause}

@@ -1,4 +1,4 @@
-use Rattle.std.proofs.Common.{◌≡◌, ◌∙◌, sym, inl, inr, w64, to_z, of_z, to_z-of_z, ℤ}
+use Rattle.std.proofs.Common.{◌≡◌, ◌∙◌, sym, inl, inr, w64, to_z, of_z, to_z-of_z}
 use Rattle.mcs_trace.proofs.OrderLemmas.{at_next}
 use Rattle.mcs_trace.proofs.JoinLemmas.{false-not}
 use Rattle.mcs_trace.proofs.resolvent.is_next.Goals as goal

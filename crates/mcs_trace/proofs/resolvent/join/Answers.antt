@@ -1,4 +1,4 @@
-use Rattle.std.proofs.Common.{◌≡◌, [], ◌∷◌, ◌++◌, ◌+◌, ◌<◌, ◌⊎◌, inl, inr, ℤ, neg_ℤ, ◌-ℤ◌, List, length, get_or, pos, sym, ap, ◌∙◌, subst, w64, to_z, of_z, to_z-of_z}
+use Rattle.std.proofs.Common.{◌≡◌, ◌+◌, ◌<◌, ◌⊎◌, inl, inr, ℤ, ◌-ℤ◌, length, get_or, pos, sym, ◌∙◌, subst, w64, to_z, of_z, to_z-of_z}
 use Rattle.mcs_base.specs.Listings.{IsListing}
 use Rattle.mcs_trace.specs.Clauses.{LiteralBefore, place}
 use Rattle.mcs_trace.specs.Resolution.{IsLeft}

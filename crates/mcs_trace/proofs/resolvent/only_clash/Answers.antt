@@ -1,4 +1,4 @@
-use Rattle.std.proofs.Common.{◌≡◌, ◌+◌, ℤ, neg_ℤ, drop, get_or, pos, sym, ap, ◌∙◌, subst, true, false, Option, Some, is_some, to_z-of_z}
+use Rattle.std.proofs.Common.{◌≡◌, ◌+◌, ℤ, neg_ℤ, drop, get_or, pos, sym, ap, ◌∙◌, subst, true, false, Some, to_z-of_z}
 use Rattle.mcs_base.specs.Listings.{IsAmong}
 use Rattle.mcs_trace.specs.Clauses.{IsLiteral}
 use Rattle.mcs_trace.proofs.OrderLemmas.{literal_at, fits_literal, turned}

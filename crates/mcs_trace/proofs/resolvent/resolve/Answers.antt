@@ -1,7 +1,7 @@
-use Rattle.std.proofs.Common.{ℤ, sym, subst, w64, to_z, of_z, to_z-of_z, rules, FitsSigned, ◌≡◌}
+use Rattle.std.proofs.Common.{ℤ, sym, subst, to_z-of_z}
 use Rattle.mcs_base.specs.Listings.{IsListing}
 use Rattle.mcs_base.proofs.ListingLemmas.{all_among}
-use Rattle.mcs_trace.specs.Clauses.{IsLiteral, LiteralBefore, IsClause}
+use Rattle.mcs_trace.specs.Clauses.{IsLiteral, LiteralBefore}
 use Rattle.mcs_trace.specs.Resolution.{IsLeft}
 use Rattle.mcs_trace.proofs.OrderLemmas.{fits_literal}
 use Rattle.mcs_trace.proofs.ResolventLemmas.{IsResolvent-clause}

@@ -1,4 +1,4 @@
-use Rattle.std.proofs.Common.{◌≡◌, ◌⊎◌, ◌∙◌, ap, subst, ℤ, List, w64, to_z, of_z, to_z-of_z}
+use Rattle.std.proofs.Common.{◌≡◌, ◌⊎◌, subst, ℤ, List, w64, to_z, of_z, to_z-of_z}
 use Rattle.mcs_base.specs.Listings.{IsAmong, IsListing}
 use Rattle.mcs_trace.specs.Clauses.{LiteralBefore}
 use Rattle.mcs_trace.proofs.InsertLemmas.{inserted, had}
