@@ -104,6 +104,7 @@ pub fn resolve(first: &[i64], second: &[i64], out: &mut Vec<i64>) -> Result<bool
     ensures resolvent { IfOk result (λ yes. MatchBool yes
         (IsResolvent first.now second.now out.new.items)
         ((clause : List ℤ) → ¬ IsResolvent first.now second.now clause)) }
+    ensures clash { IfOk result (λ yes. (l : ℤ) → IsOnlyClash first.now second.now l → IsTrue yes) }
     ensures clause { IfOk result (λ yes. IsTrue yes → IsClause out.new.items) }
 {
     let Some(literal) = only_clash(first, second) else {

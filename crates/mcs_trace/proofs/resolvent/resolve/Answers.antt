@@ -23,3 +23,6 @@ returns-clause-clause c = λ e.
     let left : IsListing (IsLeft c.args.first.now c.args.second.now l) LiteralBefore c.join.new.out.items =
     subst (λ (k : ℤ). IsListing (IsLeft c.args.first.now c.args.second.now k) LiteralBefore c.join.new.out.items) (to_z-of_z (fits_literal l is)) c.in_ok-join.ensures in
     IsResolvent-clause c.args.first.now c.args.second.now c.join.new.out.items c.requires.first c.requires.second (record { literal = l; clash = c.in-Some.ensures; left = left })
+
+pub returns-in_default-clause-clash : goal.returns-in_default-clause-clash
+returns-in_default-clause-clash c = λ l clash. absurd (c.in_default.ensures l clash)
