@@ -13,8 +13,9 @@ use mcs_base::Memory;
 use std::alloc::Global;
 use std::mem;
 
-/// The clause of the number: those of the list come first, then those of the steps.
-fn numbered<'a>(clauses: &'a [Clause], steps: &'a [Step], number: u64) -> Option<&'a Clause>
+/// The clause of the number, counted from 1: those of the list come first, then those of the steps. `None`
+/// where there are not so many.
+pub fn numbered<'a>(clauses: &'a [Clause], steps: &'a [Step], number: u64) -> Option<&'a Clause>
     ensures { option_copied result ≡ numbered (clauses.now ++ clauses_of steps.now) number }
 {
     if number == 0 {

@@ -14,7 +14,7 @@ mod tests;
 mod trace;
 
 pub use certificate::{ClassicalCert, Entail};
-pub use checker::check;
+pub use checker::{check, numbered};
 pub use clause::Clause;
 pub use cnf::Cnf;
 pub use laws::accepted_traces_refute;

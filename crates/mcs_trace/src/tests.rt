@@ -38,6 +38,9 @@ fn two_units_are_refuted_by_one_step(rt: HostRuntime) -> Result<(), Fail> {
     let cnf = unit_clauses(alloc)?.ok_or("clauses")?;
     assert_eq!(rt; cnf.vars(), 1);
     assert_eq!(rt; cnf.clauses().len(), 2);
+    let trace = one_step(alloc, &[1, 2])?;
+    assert!(rt; numbered(cnf.clauses(), &trace.steps, 3).is_some());
+    assert!(rt; numbered(cnf.clauses(), &trace.steps, 4).is_none());
     assert!(rt; check(alloc, &cnf, &one_step(alloc, &[1, 2])?)?);
     assert!(rt; check(alloc, &cnf, &one_step(alloc, &[2, 1])?)?);
     assert!(rt; !check(alloc, &cnf, &one_step(alloc, &[1, 1])?)?);
