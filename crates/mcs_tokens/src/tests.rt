@@ -57,6 +57,28 @@ fn words_and_signs(rt: HostRuntime) -> Result<(), Fail> {
 }
 
 #[test]
+fn pairs_of_signs(rt: HostRuntime) -> Result<(), Fail> {
+    let signs: [&[u8]; 14] = [
+        b"{", b"}", b".", b",", b":", b":-", b"/", b"|", b"&", b"~", b"->", b"<->", b"(", b")",
+    ];
+    for first in signs {
+        for second in signs {
+            let mut text = Vec::from_slice(rt.alloc(), first)?;
+            text.extend_from_slice(second)?;
+            // `:->` begins with `:-`, which is the longest sign there.
+            let middle = if text.as_slice() == b":->".as_slice() {
+                2
+            } else {
+                first.len()
+            };
+            let pair = [(0, middle), (middle, text.len())];
+            expect_tokens(&rt, rt.alloc(), &text, &pair)?;
+        }
+    }
+    Ok(())
+}
+
+#[test]
 fn long_words(rt: HostRuntime) -> Result<(), Fail> {
     let word = vec![in rt.alloc(); b'x'; 65]?;
     assert_eq!(rt; next_token(&word, 0), (0, 65));
