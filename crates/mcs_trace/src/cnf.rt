@@ -72,6 +72,7 @@ impl Cnf {
         ensures ok { OnOk result (self.new ≡ record self.old { clauses = self.old.clauses ++ clause ∷ [] }) }
         ensures err { OnErr result (self.new ≡ self.old) }
     {
+        // That it is a clause, which the list keeps, is told by its literals.
         let _ = clause.literals();
         self.clauses.push(clause)?;
         Ok(())
