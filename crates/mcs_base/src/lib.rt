@@ -6,6 +6,7 @@ mod active;
 mod listed;
 mod marks;
 mod memory;
+mod partial;
 #[cfg(test)]
 mod tests;
 mod text;
@@ -17,6 +18,7 @@ pub use listed::{list_pairs, list_rule_sets, list_states};
 pub use marks::{Marks, pair_before};
 pub use mcs_sets::Members;
 pub use memory::Memory;
+pub use partial::Partial;
 pub use text::Text;
 pub use vars::{Vars, state_before};
 pub use words::{is_letter, is_name, is_reserved, is_word, is_word_byte};

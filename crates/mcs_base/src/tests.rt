@@ -1,6 +1,6 @@
 //! The calls of the three kinds of sets, at the least and the greatest numbers that they may hold.
 
-use crate::{Active, Marks, Vars, pair_before, state_before};
+use crate::{Active, Marks, Partial, Vars, pair_before, state_before};
 use std::test::Fail;
 
 /// Each call of one kind of sets, whose greatest number is `$top`.
@@ -45,5 +45,28 @@ fn marks_reach_127(rt: HostRuntime) -> Result<(), Fail> {
     assert_calls!(rt, Marks, 127);
     let (last, none) = (Marks::one(127), Marks::empty());
     assert!(rt; pair_before(none, last) && !pair_before(last, none));
+    Ok(())
+}
+
+fn partial(mask: Vars, values: Vars) -> Result<Partial, Fail> {
+    if values.within(mask) {
+        Ok(Partial::new(mask, values))
+    } else {
+        Err(Fail::from("values outside the mask"))
+    }
+}
+
+#[test]
+fn partial_states_agree_on_common_variables(rt: HostRuntime) -> Result<(), Fail> {
+    let (zero, one) = (Vars::one(0), Vars::one(1));
+    let first = partial(zero.with(1), one)?;
+    let second = partial(one.with(2), one.with(2))?;
+    assert!(rt; first.fits(&second) && !first.fits(&partial(one, Vars::empty())?));
+    if first.fits(&second) {
+        let both = first.union(&second);
+        assert!(rt; both.mask() == zero.with(1).with(2) && both.values() == one.with(2));
+    }
+    assert!(rt; second.restrict(one) == partial(one, one)?);
+    assert!(rt; second.restrict(zero).mask() == Vars::empty());
     Ok(())
 }
