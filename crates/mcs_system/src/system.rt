@@ -198,11 +198,24 @@ mod tests {
         Ok(Formula::Atom(named(alloc, text)?))
     }
 
-    fn read(alloc: Global, context: u32, text: &str) -> Result<Read, Fail> {
-        Ok(Read {
-            context,
-            belief: atom(alloc, text)?,
-        })
+    fn atoms(alloc: Global, texts: &[&str]) -> Result<Vec<Name>, Fail> {
+        let mut names = Vec::new(alloc);
+        for text in texts {
+            names.push(named(alloc, text)?)?;
+        }
+        Ok(names)
+    }
+
+    /// Reads of atoms, each of the context of this number.
+    fn reads(alloc: Global, texts: &[(u32, &str)]) -> Result<Vec<Read>, Fail> {
+        let mut reads = Vec::new(alloc);
+        for (context, text) in texts {
+            reads.push(Read {
+                context: *context,
+                belief: atom(alloc, text)?,
+            })?;
+        }
+        Ok(reads)
     }
 
     fn rule(
@@ -222,70 +235,72 @@ mod tests {
         })
     }
 
-    fn context(alloc: Global, text: &str, kb: Kb) -> Result<Context, Fail> {
-        Ok(Context {
-            name: named(alloc, text)?,
-            kb,
+    fn conjunction(alloc: Global) -> Result<Kb, Fail> {
+        let left = Box::new(alloc, atom(alloc, "a")?)?;
+        let right = Box::new(alloc, atom(alloc, "b")?)?;
+        let mut formulas = Vec::new(alloc);
+        formulas.push(Formula::And(left, right))?;
+        Ok(Kb::Classical(formulas))
+    }
+
+    fn default(alloc: Global) -> Result<Default, Fail> {
+        let mut justs = Vec::new(alloc);
+        justs.push(atom(alloc, "r")?)?;
+        Ok(Default {
+            pre: atom(alloc, "q")?,
+            justs,
+            conclusion: atom(alloc, "s")?,
         })
+    }
+
+    fn theory(alloc: Global) -> Result<Kb, Fail> {
+        let mut items = Vec::new(alloc);
+        items.push(TheoryItem::Fact(atom(alloc, "p")?))?;
+        items.push(TheoryItem::Rule(default(alloc)?))?;
+        Ok(Kb::DefaultTheory(items))
+    }
+
+    fn program(alloc: Global) -> Result<Kb, Fail> {
+        let mut rules = Vec::new(alloc);
+        rules.push(ProgRule {
+            head: atoms(alloc, &["x"])?,
+            pos: atoms(alloc, &["y"])?,
+            neg: atoms(alloc, &["z"])?,
+        })?;
+        Ok(Kb::Program(rules))
     }
 
     /// A classical context, a default theory and a program.
     fn contexts(alloc: Global) -> Result<Vec<Context>, Fail> {
-        let both = Formula::And(
-            Box::new(alloc, atom(alloc, "a")?)?,
-            Box::new(alloc, atom(alloc, "b")?)?,
-        );
-        let default = Default {
-            pre: atom(alloc, "q")?,
-            justs: vec![in alloc; atom(alloc, "r")?]?,
-            conclusion: atom(alloc, "s")?,
-        };
-        let rule = ProgRule {
-            head: vec![in alloc; named(alloc, "x")?]?,
-            pos: vec![in alloc; named(alloc, "y")?]?,
-            neg: vec![in alloc; named(alloc, "z")?]?,
-        };
-        let items = vec![in alloc;
-            TheoryItem::Fact(atom(alloc, "p")?),
-            TheoryItem::Rule(default),
-        ]?;
-        Ok(vec![in alloc;
-            context(alloc, "facts", Kb::Classical(vec![in alloc; both]?))?,
-            context(alloc, "theory", Kb::DefaultTheory(items))?,
-            context(alloc, "rules", Kb::Program(vec![in alloc; rule]?))?,
-        ]?)
+        let mut contexts = Vec::new(alloc);
+        for (number, text) in ["facts", "theory", "rules"].iter().enumerate() {
+            let kb = match number {
+                0 => conjunction(alloc)?,
+                1 => theory(alloc)?,
+                _ => program(alloc)?,
+            };
+            contexts.push(Context {
+                name: named(alloc, text)?,
+                kb,
+            })?;
+        }
+        Ok(contexts)
     }
 
     /// Rules by which the three contexts read each other.
     fn rules(alloc: Global) -> Result<Vec<Bridge>, Fail> {
-        let first = vec![in alloc; read(alloc, 2, "x")?, read(alloc, 0, "a")?]?;
-        Ok(vec![in alloc;
-            rule(
-                alloc,
-                "r0",
-                1,
-                "q",
-                first,
-                vec![in alloc; read(alloc, 2, "w")?]?
-            )?,
-            rule(
-                alloc,
-                "r1",
-                0,
-                "e",
-                vec![in alloc; read(alloc, 1, "s")?]?,
-                vec![in alloc; read(alloc, 0, "a")?]?
-            )?,
-            rule(
-                alloc,
-                "r2",
-                2,
-                "y",
-                vec![in alloc; read(alloc, 0, "b")?]?,
-                vec![in alloc; read(alloc, 2, "x")?]?
-            )?,
-            rule(alloc, "r3", 1, "t", Vec::new(alloc), Vec::new(alloc))?,
-        ]?)
+        let table: [(u32, &str, &[(u32, &str)], &[(u32, &str)]); 4] = [
+            (1, "q", &[(2, "x"), (0, "a")], &[(2, "w")]),
+            (0, "e", &[(1, "s")], &[(0, "a")]),
+            (2, "y", &[(0, "b")], &[(2, "x")]),
+            (1, "t", &[], &[]),
+        ];
+        let mut rules = Vec::new(alloc);
+        for (text, (target, head, pos, neg)) in ["r0", "r1", "r2", "r3"].iter().zip(&table) {
+            let (pos, neg) = (reads(alloc, pos)?, reads(alloc, neg)?);
+            rules.push(rule(alloc, text, *target, head, pos, neg)?)?;
+        }
+        Ok(rules)
     }
 
     /// Whether these are the names.
@@ -305,11 +320,9 @@ mod tests {
         assert_eq!(rt; system.bridges().len(), 4);
         let variables = system.variables();
         assert_eq!(rt; variables.len(), 5);
-        for (number, (context, text)) in [(0, "a"), (0, "b"), (1, "s"), (2, "x"), (2, "w")]
-            .iter()
-            .enumerate()
-        {
-            assert!(rt; same_read(&variables[number], &read(alloc, *context, text)?));
+        let wanted = reads(alloc, &[(0, "a"), (0, "b"), (1, "s"), (2, "x"), (2, "w")])?;
+        for (variable, read) in variables.iter().zip(&wanted) {
+            assert!(rt; same_read(variable, read));
         }
         assert!(rt; are_named(system.atoms_of(0), &["a", "b", "e"]));
         assert!(rt; are_named(system.atoms_of(1), &["p", "q", "r", "s", "t"]));
