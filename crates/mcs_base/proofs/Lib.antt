@@ -1,2 +1,4 @@
 pub mod ListingLemmas
 pub mod PartialLemmas
+pub mod PairLemmas
+pub mod AntichainLemmas

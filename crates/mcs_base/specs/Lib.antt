@@ -4,4 +4,7 @@ pub mod StateOrder
 pub mod PairOrder
 pub mod Listings
 pub mod Partials
+pub mod Minimal
+pub mod Pairs
+pub mod Antichains
 pub mod Words

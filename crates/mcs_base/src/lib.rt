@@ -3,9 +3,11 @@
 #![tactic(auto, using(mcs_sets::proofs::SetLemmas::sets_fit))]
 
 mod active;
+mod antichain;
 mod listed;
 mod marks;
 mod memory;
+mod pair;
 mod partial;
 #[cfg(test)]
 mod tests;
@@ -14,10 +16,12 @@ mod vars;
 mod words;
 
 pub use active::Active;
+pub use antichain::Antichain;
 pub use listed::{list_pairs, list_rule_sets, list_states};
 pub use marks::{Marks, pair_before};
 pub use mcs_sets::Members;
 pub use memory::Memory;
+pub use pair::Pair;
 pub use partial::Partial;
 pub use text::Text;
 pub use vars::{Vars, state_before};

@@ -5,7 +5,8 @@ use Rattle.mcs_sets.specs.Sets.{has, common, minus, Within}
 use Rattle.mcs_sets.proofs.SetLemmas.{same_set, has-empty, has-such_that, has-minus, has-union, has-common}
 use Rattle.mcs_system.specs.Plain.{System}
 use Rattle.mcs_system.specs.Systems.{all_rules, applicable, acting_at, is_applicable, IsProjected}
-use Rattle.mcs_system.specs.Repairs.{first_part, second_part, all_marks, marks_of, choice_marks, IsChoice, IsDiagnosis, IsExplanation, IsMinimal}
+use Rattle.mcs_base.specs.Minimal.{IsMinimal}
+use Rattle.mcs_system.specs.Repairs.{first_part, second_part, all_marks, marks_of, choice_marks, IsChoice, IsDiagnosis, IsExplanation}
 use Rattle.mcs_laws.proofs.Transversals.{has-all_rules, has-all_marks, has-first, has-second, has-marks_of, first-marks_of, second-marks_of, mark-even, mark-odd, meets_each}
 use Rattle.mcs_laws.proofs.Projections.{parts_of, from_parts}
 

@@ -5,7 +5,8 @@ use Rattle.mcs_sets.specs.Sets.{has, size, union, minus, Within}
 use Rattle.mcs_sets.proofs.SetLemmas.{count_from, size-count, size-union, size-le, such_that-lt, has-minus, has-union, Within-le}
 use Rattle.mcs_system.specs.Plain.{System}
 use Rattle.mcs_system.specs.Systems.{all_rules, applicable}
-use Rattle.mcs_system.specs.Repairs.{mark_of, marks_of, choice_marks, IsDiagnosis, IsMinimal}
+use Rattle.mcs_base.specs.Minimal.{IsMinimal}
+use Rattle.mcs_system.specs.Repairs.{mark_of, marks_of, choice_marks, IsDiagnosis}
 use Rattle.mcs_laws.proofs.Transversals.{has-all_rules, has-marks_of, mark-even, mark-odd}
 use Rattle.mcs_laws.proofs.Choices.{applicable_within, state_is_choice, minimal_from_choice}
 

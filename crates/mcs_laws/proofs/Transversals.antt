@@ -5,7 +5,8 @@ use Rattle.mcs_sets.specs.Sets.{has, minus, Within, Meets}
 use Rattle.mcs_sets.proofs.SetLemmas.{same_set, has-such_that, has-minus, such_that-lt, meets_or_not, Within-le}
 use Rattle.mcs_system.specs.Plain.{System}
 use Rattle.mcs_system.specs.Systems.{all_rules, IsProjected}
-use Rattle.mcs_system.specs.Repairs.{first_part, second_part, all_marks, mark_of, marks_of, IsDiagnosis, IsExplanation, IsMinimal, IsTransversal}
+use Rattle.mcs_base.specs.Minimal.{IsMinimal}
+use Rattle.mcs_system.specs.Repairs.{first_part, second_part, all_marks, mark_of, marks_of, IsDiagnosis, IsExplanation, IsTransversal}
 
 -- pairs of sets of rules and sets of marks
 pub has-first : (m : System) (pair r : ℕ) → has (first_part m pair) r ≡ (ltb r (length m.bridges) && has pair (2 * r))

@@ -9,7 +9,8 @@ use Rattle.mcs_system.specs.Plain.{Name, Formula, Classical, Context, System}
 use Rattle.mcs_system.specs.Logic.{is_in, atoms, all_atoms, true_names, holds, holds_all, Entails, BeliefSet, IsAnswerSet, IsExtension, IsClassical}
 use Rattle.mcs_system.specs.Systems.{heads_into, Follows, IsConsistent, IsProjection, IsProjected, IsAcceptedPart, acting_at, variables_of, all_variables, all_rules}
 use Rattle.mcs_laws.specs.Examples.{self_support, against_itself, a_or_b, name_a, name_b, birds, bird, flies}
-use Rattle.mcs_system.specs.Repairs.{IsDiagnosis, IsExplanation, IsMinimal, IsTransversal, IsChoice, choice_marks}
+use Rattle.mcs_base.specs.Minimal.{IsMinimal}
+use Rattle.mcs_system.specs.Repairs.{IsDiagnosis, IsExplanation, IsTransversal, IsChoice, choice_marks}
 use Rattle.mcs_base.specs.Listings.{IsListing}
 
 -- the projected equilibria have at most one listing

@@ -1,5 +1,5 @@
 -- Diagnoses, explanations and listings.
-use Rattle.std.specs.Prelude.{◌≡◌, ℕ, ◌+◌, ◌*◌, ◌/◌, ◌%◌, ◌<◌, cond, nat_eq, Bool, true, length}
+use Rattle.std.specs.Prelude.{ℕ, ◌+◌, ◌*◌, ◌/◌, ◌%◌, ◌<◌, cond, nat_eq, Bool, true, length}
 use Rattle.mcs_sets.specs.Sets.{has, common, minus, such_that, Within, Meets}
 use Rattle.mcs_system.specs.Plain.{System}
 use Rattle.mcs_system.specs.Systems.{all_rules, all_variables, variables_of, applicable, IsAcceptedPart, IsProjected}
@@ -29,11 +29,6 @@ pub record IsDiagnosis (m : System) (pair : ℕ) : Type 0 where
 pub record IsExplanation (m : System) (pair : ℕ) : Type 0 where
   pub of_rules : Within pair (all_marks m)
   pub none : (r1 r2 : ℕ) → Within (first_part m pair) r1 → Within r1 (all_rules m) → Within r2 (all_rules m) → ¬ Meets r2 (second_part m pair) → (σ : ℕ) → ¬ IsProjected m r1 r2 σ
-
--- no other one lies within it
-pub record IsMinimal (P : ℕ → Type 0) (s : ℕ) : Type 0 where
-  pub one : P s
-  pub least : (t : ℕ) → P t → Within t s → t ≡ s
 
 -- a set of marks that meets every set of the kind
 pub record IsTransversal (m : System) (P : ℕ → Type 0) (t : ℕ) : Type 0 where

@@ -1,0 +1,107 @@
+//! Lists of sets of which none lies within another.
+
+ghost use Rattle.std.specs.Prelude.{◌≡◌, ◌≤◌, ◌<◌, ◌+◌, ◌++◌, [], ◌∷◌, ◌↔◌, IsTrue, OnOk, OnErr, IfOk};
+ghost use Rattle.std.specs.Bool.{MatchBool};
+ghost use Rattle.mcs_base.specs.Antichains.{IsAntichain, HasOneWithin, not_containing};
+
+use crate::marks::Marks;
+use crate::memory::Memory;
+use std::alloc::Global;
+use std::marker::Model;
+
+/// The minimal ones of the sets that were put in, each once. It is seen as the list of them, none of which
+/// lies within another, and as the number of sets for which there is room without more memory.
+#[derive(Debug, Drop)]
+pub struct Antichain {
+    sets: Vec<Marks>,
+}
+
+impl Model for Antichain {
+    ghost use Rattle.std.specs.Prelude.{◌-◌};
+    ghost use Rattle.mcs_base.specs.Antichains.{IsAntichain, SpareAntichain};
+
+    ghost Value = { SpareAntichain };
+
+    ghost view = { λ a. record { members = a.sets.items; spare = a.sets.cap - a.sets.len } };
+
+    ghost invariant = { λ a. IsAntichain a.sets.items };
+}
+
+/// Whether one of the sets lies within this one.
+fn has_one_within(sets: &[Marks], m: Marks) -> bool
+    ensures { IsTrue result ↔ HasOneWithin sets.now m }
+{
+    for set in sets {
+        if set.within(m) {
+            return true;
+        }
+    }
+    false
+}
+
+impl Antichain {
+    /// The antichain without members. It takes no memory.
+    pub fn new(alloc: Global) -> Antichain
+        ensures { result ≡ record { members = []; spare = 0 } }
+    {
+        Antichain {
+            sets: Vec::new(alloc),
+        }
+    }
+
+    /// Makes room for at least `n` more members. Without the memory for them all is as before.
+    pub fn reserve(&mut self, n: usize) -> Result<(), Memory>
+        ensures members { self.new.members ≡ self.old.members }
+        ensures ok { OnOk result (n ≤ self.new.spare) }
+        ensures grows { self.old.spare ≤ self.new.spare }
+        ensures err { OnErr result ((self.new ≡ self.old) × (self.old.spare < n)) }
+    {
+        self.sets.reserve(n)?;
+        Ok(())
+    }
+
+    /// Puts the set in at the end, and lets go those that contain it; the others stay in their order. It
+    /// answers false exactly where a member lies within the set, and then nothing changes. Memory is wanted
+    /// only where there is no room to spare, and where it is refused all is as before.
+    pub fn insert_min(&mut self, m: Marks) -> Result<bool, Memory>
+        ensures answer { IfOk result (λ added. MatchBool added
+            ((¬ HasOneWithin self.old.members m) × (self.new.members ≡ not_containing m self.old.members ++ m ∷ []))
+            (HasOneWithin self.old.members m × (self.new ≡ self.old))) }
+        ensures spare { self.old.spare ≤ self.new.spare + 1 }
+        ensures err { OnErr result ((self.new ≡ self.old) × (self.old.spare ≡ 0)) }
+    {
+        if has_one_within(&self.sets, m) {
+            return Ok(false);
+        }
+        self.sets.reserve(1)?;
+        self.sets.retain(|set| !m.within(*set));
+        self.sets.push(m)?;
+        Ok(true)
+    }
+
+    /// The members, in the order in which they were put in.
+    pub fn members(&self) -> &[Marks]
+        ensures value { result.now ≡ self.now.members }
+        ensures antichain { IsAntichain self.now.members }
+    {
+        &self.sets
+    }
+}
+
+#[cfg(test)]
+mod tests {
+    use super::*;
+    use std::test::Fail;
+
+    #[test]
+    fn keeps_the_minimal_ones(rt: HostRuntime) -> Result<(), Fail> {
+        let mut antichain = Antichain::new(rt.alloc());
+        assert!(rt; antichain.members().is_empty());
+        antichain.reserve(2)?;
+        assert!(rt; antichain.insert_min(Marks::one(0).with(2))?);
+        assert!(rt; antichain.insert_min(Marks::one(2))?);
+        assert!(rt; !antichain.insert_min(Marks::one(2).with(4))?);
+        assert_eq!(rt; antichain.members(), [Marks::one(2)].as_slice());
+        Ok(())
+    }
+}
