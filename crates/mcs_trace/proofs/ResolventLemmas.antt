@@ -1,6 +1,8 @@
 -- Resolvents are clauses, there is at most one, and it holds where both clauses do.
-use Rattle.std.proofs.Common.{◌≡◌, ◌≢◌, ℕ, Bool, true, false, not, ◌||◌, List, [], ◌∷◌, ◌⊎◌, inl, inr, refl, sym, ap, ◌∙◌, subst, arith, ℤ, pos, negsuc, zero, suc, neg_ℤ, true≢false, int_eq}
+use Rattle.std.proofs.Common.{◌≡◌, ◌≢◌, ◌<◌, ℕ, Bool, true, false, not, ◌||◌, List, [], ◌∷◌, ◌⊎◌, inl, inr, refl, sym, ap, ◌∙◌, subst, arith, ℤ, pos, negsuc, zero, suc, neg_ℤ, true≢false, int_eq}
 use Rattle.std.proofs.lemmas.Bool.Decides.{Decides-int_eq}
+use Rattle.std.specs.Int.RustNames.{unsigned_abs}
+use Rattle.std.specs.List.{AllByRecursion}
 use Rattle.mcs_base.specs.Listings.{IsAmong, IsListing}
 use Rattle.mcs_base.proofs.ListingLemmas.{all_among, all_from_among, same_listing}
 use Rattle.mcs_trace.specs.Clauses.{IsLiteral, LiteralBefore, IsClause, literal_holds, clause_holds}
@@ -42,8 +44,23 @@ some-holds v (l ∷ c) k (inr among) h = at (literal_holds v l) (some-holds v c 
     at true h = refl
     at false h = h
 
-not_both : (v : ℕ → Bool) (k : ℤ) → IsLiteral k → literal_holds v k ≡ true → literal_holds v (neg_ℤ k) ≡ true → ⊥
-not_both v (pos zero) is h h' = absurd (omega (arith, is.0))
+-- no literal is 0, which is its own negation
+abbrev pub HasNoZero : List ℤ → Type 0
+HasNoZero c = AllByRecursion (λ k. 0 < unsigned_abs k) c
+
+pub clause-no_zero : (c : List ℤ) → AllByRecursion IsLiteral c → HasNoZero c
+clause-no_zero [] h = tt
+clause-no_zero (k ∷ c) h = (h.0.0, clause-no_zero c h.1)
+
+IsLeft-size : (c d : List ℤ) (p k : ℤ) → HasNoZero c → HasNoZero d → IsLeft c d p k → 0 < unsigned_abs k
+IsLeft-size c d p k is is' (inl (among, _)) = all_among (λ k. 0 < unsigned_abs k) c k is among
+IsLeft-size c d p k is is' (inr (among, _)) = all_among (λ k. 0 < unsigned_abs k) d k is' among
+
+pub IsResolvent-no_zero : (c d e : List ℤ) → HasNoZero c → HasNoZero d → IsResolvent c d e → HasNoZero e
+IsResolvent-no_zero c d e is is' r = all_from_among (λ k. 0 < unsigned_abs k) e (λ k among. IsLeft-size c d r.literal k is is' ((r.left.exactly k).0 among))
+
+not_both : (v : ℕ → Bool) (k : ℤ) → 0 < unsigned_abs k → literal_holds v k ≡ true → literal_holds v (neg_ℤ k) ≡ true → ⊥
+not_both v (pos zero) is h h' = absurd (omega (arith, is))
 not_both v (pos (suc n)) is h h' = at (v (suc n)) h (ap (λ m. not (v m)) (omega arith) ∙ h')
   where
     at : (b : Bool) → b ≡ true → not b ≡ true → ⊥
@@ -63,7 +80,7 @@ differ k l = at (int_eq k l) (Decides-int_eq k l).0 (Decides-int_eq k l).1
     at false to from = inr (λ e. true≢false (sym (from e)))
 
 -- the resolvent of two clauses that hold does too
-pub IsResolvent-holds : (v : ℕ → Bool) (c d e : List ℤ) → IsClause c → IsResolvent c d e → clause_holds v c ≡ true → clause_holds v d ≡ true → clause_holds v e ≡ true
+pub IsResolvent-holds : (v : ℕ → Bool) (c d e : List ℤ) → HasNoZero c → IsResolvent c d e → clause_holds v c ≡ true → clause_holds v d ≡ true → clause_holds v e ≡ true
 unfolding Holds
 IsResolvent-holds v c d e is r h h' = at (holds-some v c h) (holds-some v d h')
   where
@@ -72,6 +89,6 @@ IsResolvent-holds v c d e is r h h' = at (holds-some v c h) (holds-some v d h')
       | inr other ↦ some-holds v e k ((r.left.exactly k).1 (inl (among, other))) holds
       | inl same ↦ elim (differ l (neg_ℤ r.literal)) [
         | inr other' ↦ some-holds v e l ((r.left.exactly l).1 (inr (among', other'))) holds'
-        | inl same' ↦ absurd (not_both v r.literal (all_among IsLiteral c r.literal is.0 r.clash.in_first) (ap (literal_holds v) (sym same) ∙ holds) (ap (literal_holds v) (sym same') ∙ holds'))
+        | inl same' ↦ absurd (not_both v r.literal (all_among (λ k. 0 < unsigned_abs k) c r.literal is r.clash.in_first) (ap (literal_holds v) (sym same) ∙ holds) (ap (literal_holds v) (sym same') ∙ holds'))
       ]
     ]

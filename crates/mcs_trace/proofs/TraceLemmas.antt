@@ -7,7 +7,7 @@ use Rattle.mcs_trace.specs.Clauses.{IsClause, clause_holds, all_hold, IsUnsatisf
 use Rattle.mcs_trace.specs.Resolution.{IsResolvent}
 use Rattle.mcs_trace.specs.Traces.{Inference, numbered, ResolvesTo, IsChainResolvent, AreRightSteps, EndsEmpty, IsAcceptedTrace, inference_of, clauses_of}
 use Rattle.mcs_trace.specs.declared.trace.Step.{Step}
-use Rattle.mcs_trace.proofs.ResolventLemmas.{same_resolvent, IsResolvent-clause, IsResolvent-holds}
+use Rattle.mcs_trace.proofs.ResolventLemmas.{same_resolvent, HasNoZero, clause-no_zero, IsResolvent-no_zero, IsResolvent-holds}
 
 -- ---- numbered clauses
 slice_get-left : {A : Type 0} (xs ys : List A) (k : ℕ) → k < length xs → slice_get (xs ++ ys) k ≡ slice_get xs k
@@ -154,7 +154,7 @@ ends-last steps s e = (
 -- ---- an accepted trace refutes
 -- a clause that holds
 abbrev pub IsKnown : (ℕ → Bool) → List ℤ → Type 0
-IsKnown v c = IsClause c × (clause_holds v c ≡ true)
+IsKnown v c = HasNoZero c × (clause_holds v c ≡ true)
 
 known-at : (v : ℕ → Bool) (known : List (List ℤ)) (n : ℕ) (c : List ℤ) → AllByRecursion (IsKnown v) known → numbered known n ≡ Some c → IsKnown v c
 known-at v known zero c all e = absurd (cc)
@@ -166,7 +166,7 @@ chain-holds : (v : ℕ → Bool) (known : List (List ℤ)) (c : List ℤ) (ns : 
 chain-holds v known c [] last all is e = subst (IsKnown v) e is
 chain-holds v known c (n ∷ ns) last all is (d, e, (m, r, rest)) =
     let is' : IsKnown v d = known-at v known n d all e in
-    chain-holds v known m ns last all (IsResolvent-clause c d m is.0 is'.0 r, IsResolvent-holds v c d m is.0 r is.1 is'.1) rest
+    chain-holds v known m ns last all (IsResolvent-no_zero c d m is.0 is'.0 r, IsResolvent-holds v c d m is.0 r is.1 is'.1) rest
 
 resolvent-holds : (v : ℕ → Bool) (known : List (List ℤ)) (ns : List ℕ) (last : List ℤ) → AllByRecursion (IsKnown v) known → IsChainResolvent known ns last → IsKnown v last
 resolvent-holds v known [] last all h = absurd h
@@ -183,11 +183,19 @@ step-holds v known (t ∷ steps) zero s all right e =
 step-holds v known (t ∷ steps) (suc k) s all right e =
     step-holds v (known ++ t.clause ∷ []) steps k s (known-push v known t.clause all (resolvent-holds v known t.chain t.clause all right.0)) right.1 e
 
-all-known : (v : ℕ → Bool) (clauses : List (List ℤ)) → AllByRecursion IsClause clauses → all_hold v clauses ≡ true → AllByRecursion (IsKnown v) clauses
+all-known : (v : ℕ → Bool) (clauses : List (List ℤ)) → AllByRecursion HasNoZero clauses → all_hold v clauses ≡ true → AllByRecursion (IsKnown v) clauses
 all-known v [] all h = tt
 all-known v (c ∷ clauses) all h = let (here, rest) = and_parts (clause_holds v c) (all_hold v clauses) h in ((all.0, here), all-known v clauses all.1 rest)
 
-pub refutes : (clauses : List (List ℤ)) (steps : List Inference) → AllByRecursion IsClause clauses → IsAcceptedTrace clauses steps → IsUnsatisfiable clauses
-refutes clauses steps all (right, (s, e, empty)) v h =
+-- this needs neither the order of the literals nor a bound on their size
+pub refutes-any : (clauses : List (List ℤ)) (steps : List Inference) → AllByRecursion HasNoZero clauses → IsAcceptedTrace clauses steps → IsUnsatisfiable clauses
+refutes-any clauses steps all (right, (s, e, empty)) v h =
     let is = step-holds v clauses steps (length steps - 1) s (all-known v clauses all h) right e in
     true≢false (sym is.1 ∙ ap (clause_holds v) empty)
+
+no_zeros : (clauses : List (List ℤ)) → AllByRecursion IsClause clauses → AllByRecursion HasNoZero clauses
+no_zeros [] all = tt
+no_zeros (c ∷ clauses) all = (clause-no_zero c all.0.0, no_zeros clauses all.1)
+
+pub refutes : (clauses : List (List ℤ)) (steps : List Inference) → AllByRecursion IsClause clauses → IsAcceptedTrace clauses steps → IsUnsatisfiable clauses
+refutes clauses steps all accepted = refutes-any clauses steps (no_zeros clauses all) accepted

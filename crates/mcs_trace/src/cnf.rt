@@ -1,6 +1,7 @@
 //! Lists of clauses.
 
-ghost use Rattle.std.specs.Prelude.{◌≡◌, ◌<◌, ◌≤◌, ◌^◌, ◌++◌, [], ◌∷◌, ◌↔◌, IsTrue};
+ghost use Rattle.std.specs.Prelude.{◌≡◌, ◌+◌, ◌<◌, ◌≤◌, ◌^◌, ◌++◌, [], ◌∷◌, ◌↔◌, IsTrue, take};
+ghost use Rattle.std.specs.List.{AllByRecursion};
 ghost use Rattle.std.specs.Result.{OnOk, OnErr};
 ghost use Rattle.mcs_trace.specs.Clauses.{IsWithin, IsClauseList};
 
@@ -76,5 +77,26 @@ impl Cnf {
         let _ = clause.literals();
         self.clauses.push(clause)?;
         Ok(())
+    }
+
+    /// Adds a variable, which no clause has yet; its number is the next one.
+    pub fn add_variable(&mut self) -> u64
+        requires { self.old.vars + 1 < 2 ^ 63 }
+        ensures number { result ≡ self.old.vars + 1 }
+        ensures added { self.new ≡ record self.old { vars = self.old.vars + 1 } }
+    {
+        self.vars += 1;
+        self.vars
+    }
+
+    /// Leaves the first `count` clauses, over the variables 1 to `vars`, which have to be those of the clauses
+    /// that are left.
+    pub fn cut(&mut self, vars: u64, count: usize)
+        requires fewer { vars ≤ self.old.vars }
+        requires within { AllByRecursion (IsWithin vars) (take count self.old.clauses) }
+        ensures { self.new ≡ record { vars = vars; clauses = take count self.old.clauses } }
+    {
+        self.vars = vars;
+        self.clauses.truncate(count);
     }
 }

@@ -103,3 +103,16 @@ fn certificates_are_plain_data(rt: HostRuntime) -> Result<(), Fail> {
     accepted_traces_refute();
     Ok(())
 }
+
+#[test]
+fn clause_lists_grow_and_are_cut(rt: HostRuntime) -> Result<(), Fail> {
+    let alloc = rt.alloc();
+    let mut cnf = Cnf::new(alloc, 0);
+    assert_eq!(rt; cnf.add_variable(), 1);
+    cnf.push(Clause::empty(alloc))?;
+    assert_eq!(rt; cnf.clauses().len(), 1);
+    cnf.cut(0, 0);
+    assert_eq!(rt; cnf.vars(), 0);
+    assert!(rt; cnf.clauses().is_empty());
+    Ok(())
+}
