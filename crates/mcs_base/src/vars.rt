@@ -45,6 +45,13 @@ impl Vars {
         }
     }
 
+    /// The number of the set, as `numbered` takes it.
+    pub fn number(self) -> u64
+        ensures { result ≡ self }
+    {
+        self.set.number()
+    }
+
     /// The set of this one number, which is below 64.
     pub fn one(n: u32) -> Self
         requires { n < 64 }

@@ -43,6 +43,14 @@ impl SmallSet {
         }
     }
 
+    /// The number of the set, as `numbered` takes it, of a set of numbers below 64.
+    pub fn number(self) -> u64
+        requires { self < 2 ^ 64 }
+        ensures { result ≡ self }
+    {
+        self.bits as u64
+    }
+
     /// The set of this one number.
     #[tactic(auto, unfolding(crate::specs::Sets::single))]
     pub fn one(n: u32) -> Self
