@@ -29,6 +29,7 @@ macro_rules! assert_calls {
 #[test]
 fn vars_reach_63(rt: HostRuntime) -> Result<(), Fail> {
     assert_calls!(rt, Vars, 63);
+    assert_eq!(rt; Vars::numbered(0b101).number(), 0b101);
     let (last, none) = (Vars::one(63), Vars::empty());
     assert!(rt; state_before(last, none) && !state_before(none, last));
     Ok(())
