@@ -1,0 +1,2 @@
+pub mod CriticalLemmas
+pub mod BergeLemmas

@@ -1,0 +1,12 @@
+use Rattle.std.proofs.Common.{ℕ, ◌<◌, ◌⊎◌, ◌↔◌}
+use Rattle.std.specs.List.{AllByRecursion}
+use Rattle.mcs_sets.specs.Sets.{members}
+use Rattle.mcs_base.specs.Listings.{IsAmong}
+use Rattle.mcs_transversal.proofs.BergeLemmas.{GrowsBy}
+use Rattle.mcs_transversal.proofs.berge.extend.Given as goal
+
+abbrev pub invariant-loop-mark : goal.invariant-loop-mark
+invariant-loop-mark l = record {
+  below : AllByRecursion (λ k. k < 128) l.mark-iterator;
+  put : (x : ℕ) → (IsAmong x l.fn.out.items ⊎ GrowsBy l.edges l.t (members l.fn.edge) x) ↔ (IsAmong x l.out.items ⊎ GrowsBy l.edges l.t l.mark-iterator x);
+}

@@ -1,0 +1,2 @@
+pub use Rattle.mcs_base.specs.Listings
+pub mod Transversals

@@ -1,0 +1,69 @@
+//! The edges that meet a set in one mark alone.
+
+ghost use Rattle.std.specs.Prelude.{◌≡◌, ◌<◌, ◌⊎◌, ◌↔◌, ℕ, IsTrue, MatchOption, IfSome, length, slice_index_or};
+ghost use Rattle.mcs_sets.specs.Sets.{has, single, common};
+ghost use Rattle.mcs_transversal.specs.Transversals.{MeetAloneAt, IsCritical, IsFirstCritical};
+
+use mcs_base::Marks;
+
+/// The one mark that is in both sets; `None` exactly where there is none, or more than one.
+fn only_common(a: Marks, b: Marks) -> Option<u32>
+    ensures value { MatchOption result ((k : ℕ) → ¬ MeetAloneAt a b k) (λ k. MeetAloneAt a b k) }
+    ensures below { IfSome result (λ k. k < 128) }
+{
+    let both = a.common(b);
+    let Some(first) = both.first() else {
+        return None;
+    };
+    if both == Marks::one(first) {
+        Some(first)
+    } else {
+        None
+    }
+}
+
+/// Whether the edge meets the set in this mark alone.
+fn meet_alone_at(edge: Marks, t: Marks, mark: u32) -> bool
+    ensures { IsTrue result ↔ MeetAloneAt edge t mark }
+{
+    match only_common(edge, t) {
+        Some(only) => only == mark,
+        None => false,
+    }
+}
+
+/// The index of the first edge that meets the set in this mark alone; `None` exactly where there is none.
+/// It takes no memory.
+pub fn critical(edges: &[Marks], t: Marks, mark: u32) -> Option<usize>
+    ensures { MatchOption result
+        ((j : ℕ) → j < length edges.now → ¬ MeetAloneAt (slice_index_or edges.now j 0) t mark)
+        (IsFirstCritical edges.now t mark) }
+{
+    for (index, edge) in edges.iter().enumerate() {
+        if meet_alone_at(*edge, t, mark) {
+            return Some(index);
+        }
+    }
+    None
+}
+
+/// The marks, and the one in which the edge meets the set, if it is one alone.
+fn with_critical(marks: Marks, edge: Marks, t: Marks) -> Marks
+    ensures { (k : ℕ) → IsTrue (has result k) ↔ (IsTrue (has marks k) ⊎ MeetAloneAt edge t k) }
+{
+    match only_common(edge, t) {
+        Some(mark) => marks.with(mark),
+        None => marks,
+    }
+}
+
+/// Whether each mark of the set has an edge that meets the set in this mark alone.
+pub(crate) fn is_critical(edges: &[Marks], t: Marks) -> bool
+    ensures { IsTrue result ↔ IsCritical edges.now t }
+{
+    let mut marks = Marks::empty();
+    for edge in edges {
+        marks = with_critical(marks, *edge, t);
+    }
+    t.within(marks)
+}

@@ -1,0 +1,12 @@
+//! Minimal transversals of a hypergraph: the minimal sets of marks that meet each of its edges.
+#![tactic(auto)]
+
+mod berge;
+mod critical_edges;
+mod laws;
+#[cfg(test)]
+mod tests;
+
+pub use berge::minimal_transversals;
+pub use critical_edges::critical;
+pub use laws::minimality_is_critical;
