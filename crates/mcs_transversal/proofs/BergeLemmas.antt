@@ -1,8 +1,7 @@
 -- Berge's rule: the minimal transversals of one edge more come of those of the edges before.
-use Rattle.std.proofs.Common.{◌≡◌, ℕ, ◌+◌, ◌<◌, ◌≤◌, suc, Bool, true, false, ◌||◌, eqb, List, [], ◌∷◌, ◌++◌, ◌⊎◌, ◌↔◌, inl, inr, IsTrue, length, get_or, drop, refl, sym, ap, ◌∙◌, subst, true≢false, arith}
+use Rattle.std.proofs.Common.{◌≡◌, ℕ, ◌+◌, ◌<◌, ◌≤◌, suc, Bool, true, false, eqb, List, [], ◌∷◌, ◌++◌, ◌⊎◌, ◌↔◌, inl, inr, length, get_or, drop, refl, sym, ap, ◌∙◌, subst, true≢false, arith}
 use Rattle.std.proofs.lemmas.List.{drop_more, drop_all}
 use Rattle.std.proofs.lemmas.Bool.Decides.{nat_tests}
-use Rattle.std.specs.List.{AllByRecursion}
 use Rattle.mcs_sets.specs.Sets.{has, single, union, members, Within, Meets}
 use Rattle.mcs_sets.proofs.SetLemmas.{same_set, has-union, has-single, has-empty, below_power, meets_or_not}
 use Rattle.mcs_base.specs.Listings.{IsAmong}
@@ -51,11 +50,14 @@ transversal-push (f ∷ fs) e t all last = (all.0, transversal-push fs e t all.1
 module _ (edges : List ℕ) (e : ℕ) where
   comes_of_minimal : (x : ℕ) → IsMinimal (IsTransversalOf (edges ++ e ∷ [])) x → (t : ℕ) × IsMinimal (IsTransversalOf edges) t × ComesOf (edges ++ e ∷ []) e x t
   comes_of_minimal x minimal =
-      let (t, least, within) = minimal_within (suc x) edges x (omega arith) (front_transversal edges e x minimal.one) in
-      (t, least, elim (meets_or_not t e t (below_power t)) [
-        | inl meets ↦ inl (meets, sym (minimal.least t (transversal-push edges e t least.one meets) within))
-        | inr none ↦ inr (λ meets. true≢false (sym meets.in_second ∙ none meets.member meets.in_first), grown t least within)
-      ])
+      let (t, least, within) = minimal_within (suc x) edges x (omega arith) (front_transversal edges e x minimal.one) in (
+        t,
+        least,
+        elim (meets_or_not t e t (below_power t)) [
+          | inl meets ↦ inl (meets, sym (minimal.least t (transversal-push edges e t least.one meets) within))
+          | inr none ↦ inr (λ meets. true≢false (sym meets.in_second ∙ none meets.member meets.in_first), grown t least within)
+        ],
+      )
     where
       grown : (t : ℕ) → IsMinimal (IsTransversalOf edges) t → Within t x → IsGrown (edges ++ e ∷ []) e t x
       grown t least within =
@@ -121,7 +123,7 @@ pub grows-end : (edges out : List ℕ) (t x : ℕ) → (IsAmong x out ⊎ GrowsB
 grows-end edges out t x = (λ h. elim h [ inl a ↦ a | inr g ↦ absurd g.among ], λ a. inl a)
 
 pub grows-more : (edges out : List ℕ) (t m : ℕ) (rest : List ℕ) → IsCritical edges (union t (single m)) → (x : ℕ)
-  → (IsAmong x out ⊎ GrowsBy edges t (m ∷ rest) x) ↔ (IsAmong x (out ++ union t (single m) ∷ []) ⊎ GrowsBy edges t rest x)
+    → (IsAmong x out ⊎ GrowsBy edges t (m ∷ rest) x) ↔ (IsAmong x (out ++ union t (single m) ∷ []) ⊎ GrowsBy edges t rest x)
 grows-more edges out t m rest critical x = let both = among-push x (union t (single m)) out in (
   λ h. elim h [ inl a ↦ inl (both.1 (inl a)) | inr g ↦ at g g.among ],
   λ h. elim h [
@@ -135,7 +137,7 @@ grows-more edges out t m rest critical x = let both = among-push x (union t (sin
     at g (inr later) = inr (record { mark = g.mark; among = later; with_mark = g.with_mark; critical = g.critical })
 
 pub grows-skip : (edges out : List ℕ) (t m : ℕ) (rest : List ℕ) → ¬ IsCritical edges (union t (single m)) → (x : ℕ)
-  → (IsAmong x out ⊎ GrowsBy edges t (m ∷ rest) x) ↔ (IsAmong x out ⊎ GrowsBy edges t rest x)
+    → (IsAmong x out ⊎ GrowsBy edges t (m ∷ rest) x) ↔ (IsAmong x out ⊎ GrowsBy edges t rest x)
 grows-skip edges out t m rest not x = (
   λ h. elim h [ inl a ↦ inl a | inr g ↦ at g g.among ],
   λ h. elim h [ inl a ↦ inl a | inr g ↦ inr (record { mark = g.mark; among = inr g.among; with_mark = g.with_mark; critical = g.critical }) ],
@@ -156,7 +158,7 @@ grows-all edges out e t none x = (
 
 -- the next set of the list
 pub comes-more : (edges out out' : List ℕ) (e : ℕ) (ts : List ℕ) (i t : ℕ) → i < length ts → t ≡ get_or ts i t → ((x : ℕ) → IsAmong x out' ↔ (IsAmong x out ⊎ ComesOf edges e x t)) → (x : ℕ)
-  → (IsAmong x out ⊎ ComesOfOne edges e (drop i ts) x) ↔ (IsAmong x out' ⊎ ComesOfOne edges e (drop (i + 1) ts) x)
+    → (IsAmong x out ⊎ ComesOfOne edges e (drop i ts) x) ↔ (IsAmong x out' ⊎ ComesOfOne edges e (drop (i + 1) ts) x)
 comes-more edges out out' e ts i t less is put x = rw (drop_more ts i t less) (
   λ h. elim h [ inl a ↦ inl ((put x).1 (inl a)) | inr one ↦ at one.source one.comes one.among ],
   λ h. elim h [

@@ -1,13 +1,12 @@
 -- Minimal transversals are those of which each mark has a critical edge.
-use Rattle.std.proofs.Common.{◌≡◌, ◌≢◌, ℕ, ◌+◌, ◌^◌, ◌<◌, ◌≤◌, zero, suc, Bool, true, false, not, ◌&&◌, ◌||◌, eqb, List, [], ◌∷◌, ◌++◌, ◌⊎◌, ◌↔◌, inl, inr, IsTrue, length, get_or, drop, refl, sym, ap, ◌∙◌, subst, true≢false, arith}
+use Rattle.std.proofs.Common.{◌≡◌, ◌≢◌, ℕ, ◌+◌, ◌<◌, zero, suc, Bool, true, false, ◌&&◌, eqb, List, [], ◌∷◌, ◌⊎◌, ◌↔◌, inl, inr, IsTrue, length, get_or, drop, refl, sym, ap, ◌∙◌, subst, true≢false, arith}
 use Rattle.std.proofs.lemmas.Bool.Decides.{nat_tests}
 use Rattle.std.proofs.lemmas.List.{drop_more}
-use Rattle.std.specs.List.{AllByRecursion}
 use Rattle.mcs_sets.specs.Sets.{has, single, union, common, minus, Within, Meets, IsLeast}
-use Rattle.mcs_sets.proofs.SetLemmas.{same_set, has-single, has-union, has-common, has-minus, has-empty, minus-le, below_power, members_below, meets_or_not, not_empty}
+use Rattle.mcs_sets.proofs.SetLemmas.{same_set, has-single, has-union, has-common, has-minus, minus-le, below_power, members_below, meets_or_not, not_empty}
 use Rattle.mcs_base.specs.Listings.{IsAmong}
 use Rattle.mcs_base.specs.Minimal.{IsMinimal}
-use Rattle.mcs_base.proofs.ListingLemmas.{all_among, all_from_among}
+use Rattle.mcs_base.proofs.ListingLemmas.{all_among}
 use Rattle.mcs_transversal.specs.Transversals.{IsTransversalOf, MeetAloneAt, HasCriticalEdge, IsCritical, MinimalityIsCritical}
 
 -- ---- the one mark in which two sets meet
@@ -71,8 +70,8 @@ all_critical_or_not zero edges t = inl (λ k less is. absurd (omega arith))
 all_critical_or_not (suc n) edges t = at (all_critical_or_not n edges t) (has t n) refl (critical_or_not edges t n)
   where
     at : ((k : ℕ) → k < n → has t k ≡ true → HasCriticalEdge edges t k) ⊎ ((k : ℕ) × (has t k ≡ true) × ((e : ℕ) → IsAmong e edges → ¬ MeetAloneAt e t k))
-      → (b : Bool) → has t n ≡ b → HasCriticalEdge edges t n ⊎ ((e : ℕ) → IsAmong e edges → ¬ MeetAloneAt e t n)
-      → ((k : ℕ) → k < suc n → has t k ≡ true → HasCriticalEdge edges t k) ⊎ ((k : ℕ) × (has t k ≡ true) × ((e : ℕ) → IsAmong e edges → ¬ MeetAloneAt e t k))
+        → (b : Bool) → has t n ≡ b → HasCriticalEdge edges t n ⊎ ((e : ℕ) → IsAmong e edges → ¬ MeetAloneAt e t n)
+        → ((k : ℕ) → k < suc n → has t k ≡ true → HasCriticalEdge edges t k) ⊎ ((k : ℕ) × (has t k ≡ true) × ((e : ℕ) → IsAmong e edges → ¬ MeetAloneAt e t k))
     at (inr found) b is last = inr found
     at (inl all) true is (inr none) = inr (n, is, none)
     at (inl all) true is (inl h) = inl (λ k less in_t. upto k less in_t (eqb k n) refl)

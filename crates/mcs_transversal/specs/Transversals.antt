@@ -1,5 +1,5 @@
 -- Transversals of a hypergraph (Berge 1989): its edges are sets of marks, and so are its transversals.
-use Rattle.std.specs.Prelude.{◌≡◌, ℕ, ◌+◌, ◌<◌, List, [], ◌∷◌, ◌⊎◌, ◌↔◌, IsTrue, length, slice_index_or}
+use Rattle.std.specs.Prelude.{◌≡◌, ℕ, ◌<◌, List, ◌⊎◌, ◌↔◌, IsTrue, length, slice_index_or}
 use Rattle.std.specs.List.{AllByRecursion}
 use Rattle.mcs_sets.specs.Sets.{has, single, union, common, Meets}
 use Rattle.mcs_base.specs.Listings.{IsAmong}

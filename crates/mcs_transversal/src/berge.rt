@@ -32,7 +32,12 @@ fn extend(t: Marks, edge: Marks, edges: &[Marks], out: &mut Vec<Marks>) -> Resul
 }
 
 /// Puts in what comes of all of them. What was in `out` is lost.
-fn extend_each(ts: &[Marks], edge: Marks, edges: &[Marks], out: &mut Vec<Marks>) -> Result<(), Memory>
+fn extend_each(
+    ts: &[Marks],
+    edge: Marks,
+    edges: &[Marks],
+    out: &mut Vec<Marks>,
+) -> Result<(), Memory>
     ensures { OnOk result ((x : ℕ) → IsAmong x out.new.items ↔ ComesOfOne edges.now edge ts.now x) }
 {
     out.clear();

@@ -1,10 +1,9 @@
-use Rattle.std.proofs.Common.{◌≡◌, ◌∙◌, ◌<◌, ◌⊎◌, ◌↔◌, ℕ, List, ◌∷◌, inl, inr, sym, ap, subst, true≢false}
+use Rattle.std.proofs.Common.{◌≡◌, ◌∙◌, ◌<◌, ℕ, List, sym, subst, true≢false}
 use Rattle.std.proofs.lemmas.List.Elements.{recursion_from_All}
 use Rattle.std.specs.List.{AllByRecursion}
 use Rattle.mcs_sets.specs.Sets.{members, union, single, Meets}
-use Rattle.mcs_base.specs.Listings.{IsAmong}
 use Rattle.mcs_transversal.specs.Transversals.{IsCritical}
-use Rattle.mcs_transversal.proofs.BergeLemmas.{GrowsBy, comes-kept, grows-more, grows-skip, grows-end, grows-all}
+use Rattle.mcs_transversal.proofs.BergeLemmas.{comes-kept, grows-more, grows-skip, grows-end, grows-all}
 use Rattle.mcs_transversal.proofs.berge.extend.Goals as goal
 
 pub returns-then-meets : goal.returns-then-meets

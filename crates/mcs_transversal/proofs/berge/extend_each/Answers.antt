@@ -1,4 +1,3 @@
-use Rattle.std.proofs.Common.{◌≡◌, ◌∙◌, ℕ, inl, inr, sym, ap, subst}
 use Rattle.mcs_transversal.proofs.BergeLemmas.{comes-more, comes-end}
 use Rattle.mcs_transversal.proofs.berge.extend_each.Goals as goal
 

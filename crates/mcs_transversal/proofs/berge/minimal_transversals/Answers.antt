@@ -1,8 +1,6 @@
-use Rattle.std.proofs.Common.{◌≡◌, ◌∙◌, ◌+◌, ◌++◌, [], ◌∷◌, ℕ, List, take, get_or, sym, ap, subst}
+use Rattle.std.proofs.Common.{◌≡◌, ◌∙◌, ◌+◌, ◌++◌, [], ◌∷◌, ℕ, List, take, sym, ap}
 use Rattle.std.proofs.lemmas.List.{take_more, take_all}
-use Rattle.mcs_base.specs.Listings.{IsAmong}
-use Rattle.mcs_transversal.specs.Transversals.{ComesOfOne}
-use Rattle.mcs_transversal.proofs.BergeLemmas.{AreMinimalOnes, berge, none_before}
+use Rattle.mcs_transversal.proofs.BergeLemmas.{berge, none_before}
 use Rattle.mcs_transversal.proofs.berge.minimal_transversals.Goals as goal
 
 pub loop-index-init : goal.loop-index-init

@@ -1,4 +1,4 @@
-use Rattle.std.proofs.Common.{◌≡◌, ◌∙◌, ℕ, inl, inr, sym, ap, subst, true≢false}
+use Rattle.std.proofs.Common.{◌∙◌, inl, inr, sym, ap, true≢false}
 use Rattle.mcs_sets.specs.Sets.{has}
 use Rattle.mcs_sets.proofs.SetLemmas.{has-empty}
 use Rattle.mcs_transversal.proofs.CriticalLemmas.{critical-more}

@@ -1,4 +1,3 @@
-use Rattle.std.proofs.Common.{◌≡◌, ◌∙◌, sym, subst}
 use Rattle.mcs_transversal.proofs.CriticalLemmas.{critical-with}
 use Rattle.mcs_transversal.proofs.critical_edges.with_critical.Goals as goal
 
