@@ -1,7 +1,7 @@
 -- What holds of antichains, and of the loop that looks for a member within a set.
-use Rattle.std.proofs.Common.{◌≡◌, ℕ, ◌+◌, ◌<◌, ◌≤◌, Bool, true, false, not, cond, List, [], ◌∷◌, ◌++◌, ◌⊎◌, ◌↔◌, inl, inr, length, get_or, drop, filter, refl, sym, ap, ◌∙◌, subst, true≢false, arith, nat_eq}
+use Rattle.std.proofs.Common.{◌≡◌, ℕ, ◌+◌, ◌<◌, Bool, true, false, not, cond, List, [], ◌∷◌, ◌++◌, ◌⊎◌, ◌↔◌, inl, inr, length, get_or, drop, filter, refl, sym, ◌∙◌, subst, true≢false, arith}
 use Rattle.std.proofs.lemmas.Bool.Decides.{nat_tests}
-use Rattle.std.proofs.lemmas.List.{drop_more, drop_all}
+use Rattle.std.proofs.lemmas.List.{drop_more}
 use Rattle.std.specs.List.{AllByRecursion}
 use Rattle.mcs_sets.specs.Sets.{common, Within}
 use Rattle.mcs_sets.proofs.SetLemmas.{within_where_common, common_where_within}

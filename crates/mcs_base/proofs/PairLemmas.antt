@@ -1,5 +1,5 @@
 -- The two parts of a pair.
-use Rattle.std.proofs.Common.{◌≡◌, ℕ, ◌+◌, ◌*◌, ◌^◌, ◌<◌, ◌≤◌, Bool, true, false, ◌&&◌, cond, ltb, eqb, refl, sym, ◌∙◌, add-one, add-zero, arith}
+use Rattle.std.proofs.Common.{◌≡◌, ℕ, ◌+◌, ◌*◌, ◌^◌, ◌<◌, ◌≤◌, Bool, true, false, ◌&&◌, cond, ltb, refl, sym, ◌∙◌, add-one, add-zero, arith}
 use Rattle.std.proofs.lemmas.Bool.Decides.{nat_tests}
 use Rattle.mcs_sets.specs.Sets.{has, such_that, union, single}
 use Rattle.mcs_sets.proofs.SetLemmas.{same_set, has-such_that, members_below}

@@ -1,5 +1,5 @@
 -- Lists of sets of which none lies within another.
-use Rattle.std.specs.Prelude.{◌≡◌, ℕ, List, [], ◌∷◌, Bool, not, nat_eq, filter}
+use Rattle.std.specs.Prelude.{ℕ, List, [], ◌∷◌, Bool, not, nat_eq, filter}
 use Rattle.std.specs.List.{AllByRecursion}
 use Rattle.mcs_sets.specs.Sets.{common, Within}
 use Rattle.mcs_base.specs.Listings.{IsAmong}

@@ -1,7 +1,7 @@
 use Rattle.std.proofs.Common.{◌≡◌, ◌++◌, [], ◌∷◌, ℕ, List, sym, ap, ◌∙◌, subst, true≢false, rules}
 use Rattle.std.proofs.lemmas.Fn.{filter_same}
 use Rattle.mcs_base.proofs.AntichainLemmas.{antichain-insert, answers_not}
-use Rattle.mcs_base.specs.Antichains.{IsAntichain, HasOneWithin, not_containing, lies_within}
+use Rattle.mcs_base.specs.Antichains.{HasOneWithin, not_containing}
 use Rattle.mcs_base.proofs.antichain.Antichain.insert_min.Goals as goal
 
 -- what is there after the insert, and that no member lay within the new set
