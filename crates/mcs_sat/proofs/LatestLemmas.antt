@@ -1,0 +1,109 @@
+-- How the latest of the literals of a false clause is found.
+use Rattle.std.proofs.Common.{◌≡◌, ℕ, ◌+◌, ◌<◌, ◌≤◌, List, [], ◌∷◌, ◌⊎◌, inl, inr, refl, sym, ap, ◌∙◌, subst, arith, ℤ, pos, neg_ℤ, unsigned_abs, length, drop, get_or, Option, Some, None, MatchOption, Bool, true, false, IsTrue, ◌↔◌, true≢false}
+use Rattle.std.proofs.lemmas.Bool.{cases_lt}
+use Rattle.mcs_base.specs.Listings.{IsAmong}
+use Rattle.mcs_base.proofs.ListingLemmas.{all_from_among}
+use Rattle.mcs_trace.proofs.OrderLemmas.{size-neg, neg-neg, among_get, among_drop-more, among_drop-all}
+use Rattle.mcs_sat.specs.declared.trail.Entry.{Entry}
+use Rattle.mcs_sat.specs.Trails.{literal_at, ArePlaced, AreCovered, StandsAt, StandsNowhere, IsOn, IsOnBelow, IsFalse, IsFalseBelow, IsLatest}
+use Rattle.mcs_sat.proofs.LearnLemmas.{same_place}
+
+-- each literal of the clause below i, or all of them where there is none, is false since place p or earlier
+abbrev pub LatestSoFar : List Entry → List ℤ → ℕ → Option ℕ → Type 0
+LatestSoFar es c i None = (k : ℤ) → IsAmong k c → IsAmong k (drop i c)
+LatestSoFar es c i (Some p) = (p < length es) × IsAmong (neg_ℤ (literal_at es p)) c × ((k : ℤ) → IsAmong k c → ((k ≡ neg_ℤ (literal_at es p)) ⊎ IsOnBelow es p (neg_ℤ k)) ⊎ IsAmong k (drop i c))
+
+pub latest-start : (es : List Entry) (c : List ℤ) → LatestSoFar es c 0 None
+latest-start es c k among = among
+
+pub covered-false : (es : List Entry) (ps : List ℕ) (c : List ℤ) → ArePlaced es ps → IsFalse es c → AreCovered ps c
+covered-false es ps c placed false' = all_from_among (λ (l : ℤ). unsigned_abs l < length ps) c (λ k among.
+    let (p, less, e) = false' k among in
+    let same : unsigned_abs (literal_at es p) ≡ unsigned_abs k = ap unsigned_abs e ∙ size-neg k in
+    let within : unsigned_abs (literal_at es p) < length ps = (placed p less).1 in
+    omega arith)
+
+-- the variable of a literal that is false stands somewhere
+pub false-somewhere : (es : List Entry) (k : ℤ) → IsOn es (neg_ℤ k) → StandsNowhere es (unsigned_abs k) → ⊥
+false-somewhere es k (p, less, e) nowhere = nowhere p (less, ap unsigned_abs e ∙ size-neg k)
+
+-- it is the negation that stands there
+false-place : (es : List Entry) (ps : List ℕ) (k : ℤ) (q : ℕ) → ArePlaced es ps → IsOn es (neg_ℤ k) → StandsAt es (unsigned_abs k) q → k ≡ neg_ℤ (literal_at es q)
+false-place es ps k q placed (p, less, e) (less', size) =
+    let same : p ≡ q = same_place es ps p q placed less less' (ap unsigned_abs e ∙ size-neg k ∙ sym size) in
+    sym (neg-neg k) ∙ ap neg_ℤ (sym e ∙ ap (literal_at es) same)
+
+module _ (es : List Entry) (ps : List ℕ) (c : List ℤ) (i q : ℕ) (placed : ArePlaced es ps) (false' : IsFalse es c) (less : i < length c) (stands : StandsAt es (unsigned_abs (get_or c i (pos 0))) q) where
+  abbrev here : get_or c i (pos 0) ≡ neg_ℤ (literal_at es q)
+  here = false-place es ps (get_or c i (pos 0)) q placed (false' (get_or c i (pos 0)) (among_get c i (pos 0) less)) stands
+
+  abbrev has : IsAmong (neg_ℤ (literal_at es q)) c
+  has = subst (λ (k : ℤ). IsAmong k c) here (among_get c i (pos 0) less)
+
+  pub latest-first : LatestSoFar es c i None → LatestSoFar es c (i + 1) (Some q)
+  latest-first h = (
+    stands.0,
+    has,
+    λ k among. elim (among_drop-more k c i (pos 0) less (h k among)) [
+      | inl e ↦ inl (inl (e ∙ here))
+      | inr later ↦ inr later
+    ],
+  )
+
+  pub latest-later : (p : ℕ) → p < q → LatestSoFar es c i (Some p) → LatestSoFar es c (i + 1) (Some q)
+  latest-later p before (bound, among', h) = (
+    stands.0,
+    has,
+    λ k among. elim (h k among) [
+      | inl (inl e) ↦ inl (inr (p, before, sym (neg-neg (literal_at es p)) ∙ ap neg_ℤ (sym e)))
+      | inl (inr (j, less', on)) ↦ inl (inr (j, omega arith, on))
+      | inr rest ↦ elim (among_drop-more k c i (pos 0) less rest) [ inl e ↦ inl (inl (e ∙ here)) | inr later ↦ inr later ]
+    ],
+  )
+
+  pub latest-earlier : (p : ℕ) → q ≤ p → LatestSoFar es c i (Some p) → LatestSoFar es c (i + 1) (Some p)
+  latest-earlier p after (bound, among', h) = (
+    bound,
+    among',
+    λ k among. elim (h k among) [
+      | inl found ↦ inl found
+      | inr rest ↦ elim (among_drop-more k c i (pos 0) less rest) [
+        | inl e ↦ elim (cases_lt q p) [
+          | inl before ↦ inl (inr (q, before, sym (neg-neg (literal_at es q)) ∙ ap neg_ℤ (sym (e ∙ here))))
+          | inr past ↦ let same : q ≡ p = omega arith in inl (inl (e ∙ here ∙ ap (λ j. neg_ℤ (literal_at es j)) same))
+        ]
+        | inr later ↦ inr later
+      ]
+    ],
+  )
+
+  pub latest-taken : (found : Option ℕ) (b : Bool) → MatchOption found (IsTrue b) (λ p. IsTrue b ↔ (p < q)) → b ≡ true → LatestSoFar es c i found → LatestSoFar es c (i + 1) (Some q)
+  latest-taken None b test e h = latest-first h
+  latest-taken (Some p) b test e h = latest-later p (test.0 e) h
+
+  pub latest-kept : (found : Option ℕ) (b : Bool) → MatchOption found (IsTrue b) (λ p. IsTrue b ↔ (p < q)) → b ≡ false → LatestSoFar es c i found → LatestSoFar es c (i + 1) found
+  latest-kept None b test e h = absurd (true≢false (sym test ∙ e))
+  latest-kept (Some p) b test e h = latest-earlier p (elim (cases_lt p q) [ inl before ↦ absurd (true≢false (sym (test.1 before) ∙ e)) | inr past ↦ past ]) h
+
+pub latest-end : (es : List Entry) (c : List ℤ) (i : ℕ) (found : Option ℕ) → length c ≤ i → LatestSoFar es c i found → MatchOption found (c ≡ []) (IsLatest es c)
+latest-end es c i None past h = empty c (λ k among. among_drop-all k c i past (h k among))
+  where
+    empty : (xs : List ℤ) → ((k : ℤ) → IsAmong k xs → ⊥) → xs ≡ []
+    empty [] none = refl
+    empty (x ∷ xs) none = absurd (none x (inl refl))
+latest-end es c i (Some p) past (bound, among', h) = record {
+  here = bound;
+  has = among';
+  others = λ k among. elim (h k among) [ inl found ↦ found | inr rest ↦ absurd (among_drop-all k c i past rest) ];
+}
+
+-- ---- what is false before a place
+pub none_below : (es : List Entry) (c : List ℤ) (n : ℕ) → n ≤ 0 → IsFalseBelow es n c → c ≡ []
+none_below es [] n none h = refl
+none_below es (x ∷ c) n none h = let (p, less, e) = h x (inl refl) in absurd (omega arith)
+
+pub latest_below : (es : List Entry) (ps : List ℕ) (c : List ℤ) (n p : ℕ) → ArePlaced es ps → n ≤ length es → IsFalseBelow es n c → IsLatest es c p → p < n
+latest_below es ps c n p placed bound h l =
+    let (j, less, e) = h (neg_ℤ (literal_at es p)) l.has in
+    let same : j ≡ p = same_place es ps j p placed (omega arith) l.here (ap unsigned_abs (e ∙ neg-neg (literal_at es p))) in
+    omega arith

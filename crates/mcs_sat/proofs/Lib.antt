@@ -1,0 +1,10 @@
+pub mod FindingLemmas
+pub mod KnownLemmas
+pub mod LatestLemmas
+pub mod LearnLemmas
+pub mod ModelLemmas
+pub mod OccurrenceLemmas
+pub mod PlaceLemmas
+pub mod SearchLemmas
+pub mod TrailLemmas
+pub mod WorkLemmas

@@ -1,0 +1,147 @@
+-- Trails that grow and are taken back.
+use Rattle.std.proofs.Common.{◌≡◌, ℕ, ◌+◌, ◌-◌, ◌<◌, ◌≤◌, zero, suc, List, [], ◌∷◌, ◌++◌, ◌⊎◌, inl, inr, refl, sym, ap, ◌∙◌, subst, arith, ℤ, pos, neg_ℤ, unsigned_abs, length, length-append, take, drop, get_or, Some, append-nil, append_assoc}
+use Rattle.std.proofs.lemmas.Bool.{cases_lt}
+use Rattle.std.proofs.lemmas.List.{get_or_append_left, get_or_push, get_or-take, length_push, length-take, length-drop, get_or-drop, get_or_read}
+use Rattle.mcs_base.specs.Listings.{IsAmong}
+use Rattle.mcs_trace.specs.Clauses.{IsClause, IsLiteral}
+use Rattle.mcs_trace.specs.Traces.{numbered}
+use Rattle.mcs_sat.specs.declared.trail.Entry.{Entry}
+use Rattle.mcs_sat.specs.Trails.{literal_at, reason_at, ArePlaced, IsOn, IsOnBelow, IsFalse, IsFalseBelow, IsReason, AreExplained, Extends}
+use Rattle.mcs_sat.proofs.PlaceLemmas.{covers}
+use Rattle.mcs_sat.proofs.KnownLemmas.{numbered-more}
+
+abbrev pub entry_at : List Entry → ℕ → Entry
+entry_at entries i = get_or entries i (record { literal = pos 0; reason = 0 })
+
+pub entry-old : (es more : List Entry) (i : ℕ) → i < length es → entry_at (es ++ more) i ≡ entry_at es i
+entry-old es more i less = get_or_append_left es more (record { literal = pos 0; reason = 0 }) i less
+
+pub entry-new : (es : List Entry) (e : Entry) → entry_at (es ++ e ∷ []) (length es) ≡ e
+entry-new es e = get_or_push es e (record { literal = pos 0; reason = 0 }) (length es) refl
+
+pub entry-back : (es : List Entry) (n i : ℕ) → i < n → entry_at (take n es) i ≡ entry_at es i
+entry-back es n i less = get_or-take n es i (record { literal = pos 0; reason = 0 }) less
+
+-- what the code reads at a place
+pub entry-read : (es : List Entry) (i : ℕ) (e : Entry) → i < length es → e ≡ get_or es i e → e ≡ entry_at es i
+entry-read es i e less is = get_or_read es i e less is (record { literal = pos 0; reason = 0 })
+
+pub literal-read : (es : List Entry) (i : ℕ) (e : Entry) → i < length es → e ≡ get_or es i e → e.literal ≡ literal_at es i
+literal-read es i e less is = ap (λ (x : Entry). x.literal) (entry-read es i e less is)
+
+pub reason-read : (es : List Entry) (i : ℕ) (e : Entry) → i < length es → e ≡ get_or es i e → e.reason ≡ reason_at es i
+reason-read es i e less is = ap (λ (x : Entry). x.reason) (entry-read es i e less is)
+
+-- ---- literals that stay true
+pub below-same : (es es' : List Entry) (n : ℕ) (k : ℤ) → ((j : ℕ) → j < n → entry_at es' j ≡ entry_at es j) → IsOnBelow es n k → IsOnBelow es' n k
+below-same es es' n k same (p, less, e) = (p, less, ap (λ (x : Entry). x.literal) (same p less) ∙ e)
+
+pub on-more : (es more : List Entry) (k : ℤ) → IsOn es k → IsOn (es ++ more) k
+on-more es more k (p, less, e) = (p, omega (arith, length-append es more), ap (λ (x : Entry). x.literal) (entry-old es more p less) ∙ e)
+
+pub on_below : (es : List Entry) (n : ℕ) (k : ℤ) → n ≤ length es → IsOnBelow es n k → IsOn es k
+on_below es n k bound (p, less, e) = (p, omega arith, e)
+
+pub on-back : (es : List Entry) (n : ℕ) (k : ℤ) → n ≤ length es → IsOnBelow es n k → IsOn (take n es) k
+on-back es n k bound (p, less, e) = (p, omega (arith, length-take n es), ap (λ (x : Entry). x.literal) (entry-back es n p less) ∙ e)
+
+pub false_below : (es : List Entry) (n : ℕ) (c : List ℤ) → n ≤ length es → IsFalseBelow es n c → IsFalse es c
+false_below es n c bound h k among = on_below es n (neg_ℤ k) bound (h k among)
+
+pub false_below-all : (es : List Entry) (c : List ℤ) → IsFalse es c → IsFalseBelow es (length es) c
+false_below-all es c h k among = h k among
+
+pub false-more : (es more : List Entry) (c : List ℤ) → IsFalse es c → IsFalse (es ++ more) c
+false-more es more c h k among = on-more es more (neg_ℤ k) (h k among)
+
+-- ---- reasons
+reason-same : (es es' : List Entry) (i : ℕ) (c : List ℤ) → ((j : ℕ) → j ≤ i → entry_at es' j ≡ entry_at es j) → IsReason es i c → IsReason es' i c
+reason-same es es' i c same r =
+    let here : literal_at es' i ≡ literal_at es i = ap (λ (x : Entry). x.literal) (same i (omega arith)) in
+    record {
+      clause = r.clause;
+      has = subst (λ (l : ℤ). IsAmong l c) (sym here) r.has;
+      others = λ k among. elim (r.others k among) [
+        | inl e ↦ inl (e ∙ sym here)
+        | inr below ↦ inr (below-same es es' i (neg_ℤ k) (λ j less. same j (omega arith)) below)
+      ];
+    }
+
+explained-same : (known : List (List ℤ)) (es es' : List Entry) (i : ℕ) → ((j : ℕ) → j ≤ i → entry_at es' j ≡ entry_at es j)
+    → (reason_at es i ≡ 0) ⊎ ((c : List ℤ) × (numbered known (reason_at es i) ≡ Some c) × IsReason es i c)
+    → (reason_at es' i ≡ 0) ⊎ ((c : List ℤ) × (numbered known (reason_at es' i) ≡ Some c) × IsReason es' i c)
+explained-same known es es' i same (inl e) = inl (ap (λ (x : Entry). x.reason) (same i (omega arith)) ∙ e)
+explained-same known es es' i same (inr (c, e, r)) = inr (c, ap (λ (x : Entry). numbered known x.reason) (same i (omega arith)) ∙ e, reason-same es es' i c same r)
+
+pub explained-back : (known : List (List ℤ)) (es : List Entry) (n : ℕ) → AreExplained known es → AreExplained known (take n es)
+explained-back known es n h i less =
+    let bound : length (take n es) ≤ n = omega (arith, length-take n es) in
+    let bound' : length (take n es) ≤ length es = omega (arith, length-take n es) in
+    explained-same known es (take n es) i (λ j at_most. entry-back es n j (omega arith)) (h i (omega arith))
+
+-- what an entry with a reason has
+abbrev pub IsForced : List (List ℤ) → List Entry → Entry → Type 0
+IsForced known es e = (c : List ℤ) × (numbered known e.reason ≡ Some c) × IsClause c × IsAmong e.literal c × ((k : ℤ) → IsAmong k c → (k ≡ e.literal) ⊎ IsOn es (neg_ℤ k))
+
+pub explained-push : (known : List (List ℤ)) (es : List Entry) (e : Entry) → AreExplained known es → (e.reason ≡ 0) ⊎ IsForced known es e → AreExplained known (es ++ e ∷ [])
+explained-push known es e h new i less = elim (cases_lt i (length es)) [
+  | inl old ↦ explained-same known es (es ++ e ∷ []) i (λ j at_most. entry-old es (e ∷ []) j (omega arith)) (h i old)
+  | inr past ↦ last i (omega (arith, length_push es e)) new
+]
+  where
+    last : (i : ℕ) → i ≡ length es → (e.reason ≡ 0) ⊎ IsForced known es e → (reason_at (es ++ e ∷ []) i ≡ 0) ⊎ ((c : List ℤ) × (numbered known (reason_at (es ++ e ∷ []) i) ≡ Some c) × IsReason (es ++ e ∷ []) i c)
+    last i at (inl none) = inl (ap (reason_at (es ++ e ∷ [])) at ∙ ap (λ (x : Entry). x.reason) (entry-new es e) ∙ none)
+    last i at (inr (c, is, clause, has, others)) =
+        let same : entry_at (es ++ e ∷ []) i ≡ e = ap (entry_at (es ++ e ∷ [])) at ∙ entry-new es e in
+        let here : literal_at (es ++ e ∷ []) i ≡ e.literal = ap (λ (x : Entry). x.literal) same in
+        inr (
+          c,
+          ap (λ (x : Entry). numbered known x.reason) same ∙ is,
+          record {
+            clause = clause;
+            has = subst (λ (l : ℤ). IsAmong l c) (sym here) has;
+            others = λ k among. elim (others k among) [
+              | inl e' ↦ inl (e' ∙ sym here)
+              | inr (p, less, on) ↦ inr (p, omega arith, ap (λ (x : Entry). x.literal) (entry-old es (e ∷ []) p less) ∙ on)
+            ];
+          },
+        )
+
+pub explained-known : (known more : List (List ℤ)) (es : List Entry) → AreExplained known es → AreExplained (known ++ more) es
+explained-known known more es h i less = elim (h i less) [
+  | inl e ↦ inl e
+  | inr (c, e, r) ↦ inr (c, numbered-more known more (reason_at es i) c e, r)
+]
+
+-- ---- places
+pub placed-back : (es : List Entry) (ps : List ℕ) (n : ℕ) → ArePlaced es ps → ArePlaced (take n es) ps
+placed-back es ps n h i less =
+    let bound : length (take n es) ≤ n = omega (arith, length-take n es) in
+    let bound' : length (take n es) ≤ length es = omega (arith, length-take n es) in
+    let same : literal_at (take n es) i ≡ literal_at es i = ap (λ (x : Entry). x.literal) (entry-back es n i (omega arith)) in
+    subst (λ (l : ℤ). IsLiteral l × (unsigned_abs l < length ps) × (get_or ps (unsigned_abs l) 0 ≡ i)) (sym same) (h i (omega arith))
+
+among_get : (xs : List ℕ) (i d : ℕ) → i < length xs → IsAmong (get_or xs i d) xs
+among_get [] i d less = absurd (omega arith)
+among_get (x ∷ xs) zero d less = inl refl
+among_get (x ∷ xs) (suc i) d less = inr (among_get xs i d (omega arith))
+
+-- there are no more literals than variables
+pub placed-bound : (es : List Entry) (ps : List ℕ) (n : ℕ) → ArePlaced es ps → length ps ≡ n + 1 → length es ≤ n
+placed-bound es ps n h size = let all = covers (length es) (drop 1 ps) there in omega (arith, length-drop 1 ps)
+  where
+    there : (i : ℕ) → i < length es → IsAmong i (drop 1 ps)
+    there i less =
+        let (literal, within, at) = h i less in
+        let v : ℕ = unsigned_abs (literal_at es i) in
+        let some : 0 < v = literal.0 in
+        let back : 1 + (v - 1) ≡ v = omega arith in
+        let e : get_or (drop 1 ps) (v - 1) 0 ≡ i = get_or-drop 1 ps (v - 1) 0 ∙ ap (λ j. get_or ps j 0) back ∙ at in
+        subst (λ (x : ℕ). IsAmong x (drop 1 ps)) e (among_get (drop 1 ps) (v - 1) 0 (omega (arith, length-drop 1 ps)))
+
+-- ---- trails that grow
+pub extends-none : (es : List Entry) → Extends es es
+extends-none es = ([], sym (append-nil es))
+
+pub extends-more : (es es' es'' : List Entry) → Extends es es' → Extends es' es'' → Extends es es''
+extends-more es es' es'' (more, e) (more', e') = (more ++ more', e' ∙ ap (λ (x : List Entry). x ++ more') e ∙ append_assoc es more more')

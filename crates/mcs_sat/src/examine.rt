@@ -1,0 +1,40 @@
+//! What the true literals make of a clause.
+
+ghost use Rattle.mcs_trace.specs.Clauses.{IsClause};
+ghost use Rattle.mcs_sat.specs.Trails.{ArePlaced, AreCovered, IsFinding};
+
+use crate::trail::Trail;
+
+/// What is known of a clause: a literal of it is true or two are free; all but this one are false, and it is
+/// free; all are false.
+#[derive(Drop)]
+pub(crate) enum Finding {
+    Open,
+    Forced(i64),
+    Conflict,
+}
+
+pub(crate) fn examine(trail: &Trail, literals: &[i64]) -> Finding
+    requires placed { ArePlaced trail.now.entries.items trail.now.positions.items }
+    requires clause { IsClause literals.now }
+    requires covered { AreCovered trail.now.positions.items literals.now }
+    ensures { IsFinding trail.now.entries.items literals.now result }
+{
+    let mut free = None;
+    for literal in literals {
+        match trail.value(*literal) {
+            Some(true) => return Finding::Open,
+            Some(false) => {}
+            None => {
+                if free.is_some() {
+                    return Finding::Open;
+                }
+                free = Some(*literal);
+            }
+        }
+    }
+    match free {
+        Some(literal) => Finding::Forced(literal),
+        None => Finding::Conflict,
+    }
+}

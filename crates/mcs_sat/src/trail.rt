@@ -1,0 +1,147 @@
+//! The literals that are made true, in their order.
+
+ghost use Rattle.std.specs.Prelude.{◌≡◌, ◌++◌, ◌∷◌, [], ◌<◌, ◌≤◌, ◌+◌, ◌^◌, length, unsigned_abs, neg_ℤ, take, ◌↔◌, IsTrue, MatchOption, IfOk, OnOk};
+ghost use Rattle.std.specs.Bool.{MatchBool};
+ghost use Rattle.mcs_trace.specs.Clauses.{IsLiteral};
+ghost use Rattle.mcs_sat.specs.Trails.{ArePlaced, AreAssigned, StandsAt, StandsNowhere, IsOn, literal_at};
+
+use mcs_base::Memory;
+use std::alloc::Global;
+
+/// A literal that is true, and why: 0 for a decision, else the number of a clause whose other literals were
+/// false before it.
+#[derive(Clone, Copy)]
+pub(crate) struct Entry {
+    pub literal: i64,
+    pub reason: u64,
+}
+
+/// The literals that are true, and for each variable where it was put last.
+#[derive(Drop)]
+pub(crate) struct Trail {
+    pub entries: Vec<Entry>,
+    pub positions: Vec<usize>,
+}
+
+impl Trail {
+    /// No literals, with a place for each of the variables 1 to `vars`.
+    pub fn new(alloc: Global, vars: u64) -> Result<Trail, Memory>
+        requires { vars < 2 ^ 63 }
+        ensures entries { IfOk result (λ t. t.entries.items ≡ []) }
+        ensures positions { IfOk result (λ t. length t.positions.items ≡ vars + 1) }
+    {
+        Ok(Trail {
+            entries: Vec::new(alloc),
+            positions: vec![in alloc; 0; vars as usize + 1]?,
+        })
+    }
+
+    /// Where the literal's variable stands.
+    pub fn position(&self, literal: i64) -> Option<usize>
+        requires placed { ArePlaced self.now.entries.items self.now.positions.items }
+        requires within { unsigned_abs literal < length self.now.positions.items }
+        ensures { MatchOption result
+            (StandsNowhere self.now.entries.items (unsigned_abs literal))
+            (StandsAt self.now.entries.items (unsigned_abs literal)) }
+    {
+        let position = self.positions[literal.unsigned_abs() as usize];
+        if position >= self.entries.len() {
+            return None;
+        }
+        if self.entries[position].literal.unsigned_abs() == literal.unsigned_abs() {
+            Some(position)
+        } else {
+            None
+        }
+    }
+
+    /// The value of the literal.
+    pub fn value(&self, literal: i64) -> Option<bool>
+        requires placed { ArePlaced self.now.entries.items self.now.positions.items }
+        requires literal { IsLiteral literal }
+        requires within { unsigned_abs literal < length self.now.positions.items }
+        ensures { MatchOption result
+            (StandsNowhere self.now.entries.items (unsigned_abs literal))
+            (λ value. MatchBool value (IsOn self.now.entries.items literal) (IsOn self.now.entries.items (neg_ℤ literal))) }
+    {
+        let position = self.position(literal)?;
+        Some(self.entries[position].literal == literal)
+    }
+
+    /// Whether the literal is true.
+    pub fn is_true(&self, literal: i64) -> bool
+        requires placed { ArePlaced self.now.entries.items self.now.positions.items }
+        requires literal { IsLiteral literal }
+        requires within { unsigned_abs literal < length self.now.positions.items }
+        ensures { IsTrue result ↔ IsOn self.now.entries.items literal }
+    {
+        self.value(literal).unwrap_or(false)
+    }
+
+    /// The negation of the literal at the place.
+    pub fn negated(&self, place: usize) -> i64
+        requires placed { ArePlaced self.now.entries.items self.now.positions.items }
+        requires within { place < length self.now.entries.items }
+        ensures { result ≡ neg_ℤ (literal_at self.now.entries.items place) }
+    {
+        -self.entries[place].literal
+    }
+
+    /// Makes the literal true, whose variable is free.
+    pub fn push(&mut self, literal: i64, reason: u64) -> Result<(), Memory>
+        requires placed { ArePlaced self.old.entries.items self.old.positions.items }
+        requires literal { IsLiteral literal }
+        requires within { unsigned_abs literal < length self.old.positions.items }
+        requires free { StandsNowhere self.old.entries.items (unsigned_abs literal) }
+        ensures entries { OnOk result
+            (self.new.entries.items ≡ self.old.entries.items ++ record { literal = literal; reason = reason } ∷ []) }
+        ensures placed { OnOk result (ArePlaced self.new.entries.items self.new.positions.items) }
+        ensures positions { length self.new.positions.items ≡ length self.old.positions.items }
+    {
+        let position = self.entries.len();
+        self.entries.push(Entry { literal, reason })?;
+        self.positions[literal.unsigned_abs() as usize] = position;
+        Ok(())
+    }
+
+    /// Takes back the literals from the place on.
+    pub fn back(&mut self, place: usize)
+        ensures entries { self.new.entries.items ≡ take place self.old.entries.items }
+        ensures positions { self.new.positions.items ≡ self.old.positions.items }
+    {
+        self.entries.truncate(place);
+    }
+
+    /// The first variable from the number on that is free.
+    pub fn first_free(&self, from: usize) -> Option<i64>
+        requires placed { ArePlaced self.now.entries.items self.now.positions.items }
+        requires vars { length self.now.positions.items ≤ 2 ^ 63 }
+        requires from { 0 < from }
+        ensures { MatchOption result
+            (AreAssigned self.now.entries.items from (length self.now.positions.items))
+            (λ l. IsLiteral l × (unsigned_abs l < length self.now.positions.items) × StandsNowhere self.now.entries.items (unsigned_abs l)) }
+    {
+        for variable in from..self.positions.len() {
+            let literal = variable as i64;
+            if self.position(literal).is_none() {
+                return Some(literal);
+            }
+        }
+        None
+    }
+
+    /// A free variable, looked for first from the number on.
+    pub fn free(&self, from: usize) -> Option<i64>
+        requires placed { ArePlaced self.now.entries.items self.now.positions.items }
+        requires vars { length self.now.positions.items ≤ 2 ^ 63 }
+        requires from { 0 < from }
+        ensures { MatchOption result
+            (AreAssigned self.now.entries.items 1 (length self.now.positions.items))
+            (λ l. IsLiteral l × (unsigned_abs l < length self.now.positions.items) × StandsNowhere self.now.entries.items (unsigned_abs l)) }
+    {
+        match self.first_free(from) {
+            Some(variable) => Some(variable),
+            None => self.first_free(1),
+        }
+    }
+}
