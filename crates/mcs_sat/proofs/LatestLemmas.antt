@@ -1,17 +1,19 @@
 -- How the latest of the literals of a false clause is found.
-use Rattle.std.proofs.Common.{◌≡◌, ℕ, ◌+◌, ◌<◌, ◌≤◌, List, [], ◌∷◌, ◌⊎◌, inl, inr, refl, sym, ap, ◌∙◌, subst, arith, ℤ, pos, neg_ℤ, unsigned_abs, length, drop, get_or, Option, Some, None, MatchOption, Bool, true, false, IsTrue, ◌↔◌, true≢false}
+use Rattle.std.proofs.Common.{◌≡◌, ℕ, ◌+◌, ◌<◌, ◌≤◌, List, [], ◌∷◌, ◌⊎◌, inl, inr, refl, sym, ap, ◌∙◌, subst, arith, ℤ, pos, neg_ℤ, unsigned_abs, length, drop, get_or, Option, Some, None, MatchOption}
 use Rattle.std.proofs.lemmas.Bool.{cases_lt}
 use Rattle.mcs_base.specs.Listings.{IsAmong}
 use Rattle.mcs_base.proofs.ListingLemmas.{all_from_among}
 use Rattle.mcs_trace.proofs.OrderLemmas.{size-neg, neg-neg, among_get, among_drop-more, among_drop-all}
+use Rattle.mcs_sat.specs.declared.learn.Latest.{Latest}
 use Rattle.mcs_sat.specs.declared.trail.Entry.{Entry}
-use Rattle.mcs_sat.specs.Trails.{literal_at, ArePlaced, AreCovered, StandsAt, StandsNowhere, IsOn, IsOnBelow, IsFalse, IsFalseBelow, IsLatest}
+use Rattle.mcs_sat.specs.Trails.{literal_at, IsJoined, ArePlaced, AreCovered, StandsAt, StandsNowhere, IsOn, IsOnBelow, IsFalse, IsFalseBelow, IsLatest}
 use Rattle.mcs_sat.proofs.LearnLemmas.{same_place}
 
--- each literal of the clause below i, or all of them where there is none, is false since place p or earlier
-abbrev pub LatestSoFar : List Entry → List ℤ → ℕ → Option ℕ → Type 0
+-- each literal of the clause below i, or none where there is none, was false at the latest place or before
+abbrev pub LatestSoFar : List Entry → List ℤ → ℕ → Option Latest → Type 0
 LatestSoFar es c i None = (k : ℤ) → IsAmong k c → IsAmong k (drop i c)
-LatestSoFar es c i (Some p) = (p < length es) × IsAmong (neg_ℤ (literal_at es p)) c × ((k : ℤ) → IsAmong k c → ((k ≡ neg_ℤ (literal_at es p)) ⊎ IsOnBelow es p (neg_ℤ k)) ⊎ IsAmong k (drop i c))
+LatestSoFar es c i (Some l) =
+    (l.place < length es) × (l.others ≤ l.place) × IsAmong (neg_ℤ (literal_at es l.place)) c × ((k : ℤ) → IsAmong k c → ((k ≡ neg_ℤ (literal_at es l.place)) ⊎ IsOnBelow es l.others (neg_ℤ k)) ⊎ IsAmong k (drop i c))
 
 pub latest-start : (es : List Entry) (c : List ℤ) → LatestSoFar es c 0 None
 latest-start es c k among = among
@@ -40,59 +42,54 @@ module _ (es : List Entry) (ps : List ℕ) (c : List ℤ) (i q : ℕ) (placed : 
   abbrev has : IsAmong (neg_ℤ (literal_at es q)) c
   has = subst (λ (k : ℤ). IsAmong k c) here (among_get c i (pos 0) less)
 
-  pub latest-first : LatestSoFar es c i None → LatestSoFar es c (i + 1) (Some q)
-  latest-first h = (
+  pub latest-joined : (found : Option Latest) (new : Latest) → MatchOption found (new ≡ record { place = q; others = 0 }) (λ l. IsJoined l q new) → LatestSoFar es c i found → LatestSoFar es c (i + 1) (Some new)
+  latest-joined None new e h = subst (λ (l : Latest). LatestSoFar es c (i + 1) (Some l)) (sym e) (
     stands.0,
+    omega arith,
     has,
     λ k among. elim (among_drop-more k c i (pos 0) less (h k among)) [
-      | inl e ↦ inl (inl (e ∙ here))
+      | inl e' ↦ inl (inl (e' ∙ here))
       | inr later ↦ inr later
     ],
   )
+  latest-joined (Some l) new (inl (after, place, others)) (bound, ordered, among', h) =
+      let here' : get_or c i (pos 0) ≡ neg_ℤ (literal_at es new.place) = here ∙ ap (λ j. neg_ℤ (literal_at es j)) (sym place) in (
+        (let b = stands.0 in omega arith),
+        omega arith,
+        subst (λ (k : ℤ). IsAmong k c) here' (among_get c i (pos 0) less),
+        λ k among. elim (h k among) [
+          | inl (inl e) ↦ inl (inr (l.place, omega arith, sym (neg-neg (literal_at es l.place)) ∙ ap neg_ℤ (sym e)))
+          | inl (inr (j, less', on)) ↦ inl (inr (j, omega arith, on))
+          | inr rest ↦ elim (among_drop-more k c i (pos 0) less rest) [ inl e ↦ inl (inl (e ∙ here')) | inr later ↦ inr later ]
+        ],
+      )
+  latest-joined (Some l) new (inr (before, place, more, ordered', taken)) (bound, ordered, among', h) =
+      let same : neg_ℤ (literal_at es l.place) ≡ neg_ℤ (literal_at es new.place) = ap (λ j. neg_ℤ (literal_at es j)) (sym place) in (
+        omega arith,
+        (let o = ordered' ordered in omega arith),
+        subst (λ (k : ℤ). IsAmong k c) same among',
+        λ k among. elim (h k among) [
+          | inl (inl e) ↦ inl (inl (e ∙ same))
+          | inl (inr (j, less', on)) ↦ inl (inr (j, omega arith, on))
+          | inr rest ↦ elim (among_drop-more k c i (pos 0) less rest) [
+            | inl e ↦ elim (cases_lt q l.place) [
+              | inl earlier ↦ inl (inr (q, taken earlier, sym (neg-neg (literal_at es q)) ∙ ap neg_ℤ (sym (e ∙ here))))
+              | inr past ↦ let at : q ≡ l.place = omega arith in inl (inl (e ∙ here ∙ ap (λ j. neg_ℤ (literal_at es j)) at ∙ same))
+            ]
+            | inr later ↦ inr later
+          ]
+        ],
+      )
 
-  pub latest-later : (p : ℕ) → p < q → LatestSoFar es c i (Some p) → LatestSoFar es c (i + 1) (Some q)
-  latest-later p before (bound, among', h) = (
-    stands.0,
-    has,
-    λ k among. elim (h k among) [
-      | inl (inl e) ↦ inl (inr (p, before, sym (neg-neg (literal_at es p)) ∙ ap neg_ℤ (sym e)))
-      | inl (inr (j, less', on)) ↦ inl (inr (j, omega arith, on))
-      | inr rest ↦ elim (among_drop-more k c i (pos 0) less rest) [ inl e ↦ inl (inl (e ∙ here)) | inr later ↦ inr later ]
-    ],
-  )
-
-  pub latest-earlier : (p : ℕ) → q ≤ p → LatestSoFar es c i (Some p) → LatestSoFar es c (i + 1) (Some p)
-  latest-earlier p after (bound, among', h) = (
-    bound,
-    among',
-    λ k among. elim (h k among) [
-      | inl found ↦ inl found
-      | inr rest ↦ elim (among_drop-more k c i (pos 0) less rest) [
-        | inl e ↦ elim (cases_lt q p) [
-          | inl before ↦ inl (inr (q, before, sym (neg-neg (literal_at es q)) ∙ ap neg_ℤ (sym (e ∙ here))))
-          | inr past ↦ let same : q ≡ p = omega arith in inl (inl (e ∙ here ∙ ap (λ j. neg_ℤ (literal_at es j)) same))
-        ]
-        | inr later ↦ inr later
-      ]
-    ],
-  )
-
-  pub latest-taken : (found : Option ℕ) (b : Bool) → MatchOption found (IsTrue b) (λ p. IsTrue b ↔ (p < q)) → b ≡ true → LatestSoFar es c i found → LatestSoFar es c (i + 1) (Some q)
-  latest-taken None b test e h = latest-first h
-  latest-taken (Some p) b test e h = latest-later p (test.0 e) h
-
-  pub latest-kept : (found : Option ℕ) (b : Bool) → MatchOption found (IsTrue b) (λ p. IsTrue b ↔ (p < q)) → b ≡ false → LatestSoFar es c i found → LatestSoFar es c (i + 1) found
-  latest-kept None b test e h = absurd (true≢false (sym test ∙ e))
-  latest-kept (Some p) b test e h = latest-earlier p (elim (cases_lt p q) [ inl before ↦ absurd (true≢false (sym (test.1 before) ∙ e)) | inr past ↦ past ]) h
-
-pub latest-end : (es : List Entry) (c : List ℤ) (i : ℕ) (found : Option ℕ) → length c ≤ i → LatestSoFar es c i found → MatchOption found (c ≡ []) (IsLatest es c)
+pub latest-end : (es : List Entry) (c : List ℤ) (i : ℕ) (found : Option Latest) → length c ≤ i → LatestSoFar es c i found → MatchOption found (c ≡ []) (IsLatest es c)
 latest-end es c i None past h = empty c (λ k among. among_drop-all k c i past (h k among))
   where
     empty : (xs : List ℤ) → ((k : ℤ) → IsAmong k xs → ⊥) → xs ≡ []
     empty [] none = refl
     empty (x ∷ xs) none = absurd (none x (inl refl))
-latest-end es c i (Some p) past (bound, among', h) = record {
+latest-end es c i (Some l) past (bound, ordered, among', h) = record {
   here = bound;
+  before = ordered;
   has = among';
   others = λ k among. elim (h k among) [ inl found ↦ found | inr rest ↦ absurd (among_drop-all k c i past rest) ];
 }
@@ -102,8 +99,8 @@ pub none_below : (es : List Entry) (c : List ℤ) (n : ℕ) → n ≤ 0 → IsFa
 none_below es [] n none h = refl
 none_below es (x ∷ c) n none h = let (p, less, e) = h x (inl refl) in absurd (omega arith)
 
-pub latest_below : (es : List Entry) (ps : List ℕ) (c : List ℤ) (n p : ℕ) → ArePlaced es ps → n ≤ length es → IsFalseBelow es n c → IsLatest es c p → p < n
-latest_below es ps c n p placed bound h l =
-    let (j, less, e) = h (neg_ℤ (literal_at es p)) l.has in
-    let same : j ≡ p = same_place es ps j p placed (omega arith) l.here (ap unsigned_abs (e ∙ neg-neg (literal_at es p))) in
+pub latest_below : (es : List Entry) (ps : List ℕ) (c : List ℤ) (n : ℕ) (latest : Latest) → ArePlaced es ps → n ≤ length es → IsFalseBelow es n c → IsLatest es c latest → latest.place < n
+latest_below es ps c n latest placed bound h l =
+    let (j, less, e) = h (neg_ℤ (literal_at es latest.place)) l.has in
+    let same : j ≡ latest.place = same_place es ps j latest.place placed (omega arith) l.here (ap unsigned_abs (e ∙ neg-neg (literal_at es latest.place))) in
     omega arith

@@ -5,8 +5,10 @@ use Rattle.mcs_trace.specs.Clauses.{IsLiteral}
 use Rattle.mcs_trace.specs.Resolution.{IsOnlyClash, IsLeft, IsResolvent}
 use Rattle.mcs_trace.specs.Traces.{numbered}
 use Rattle.mcs_trace.proofs.OrderLemmas.{size-neg, neg-neg, neg_differs}
+use Rattle.mcs_sat.specs.declared.learn.Jump.{Jump}
+use Rattle.mcs_sat.specs.declared.learn.Latest.{Latest}
 use Rattle.mcs_sat.specs.declared.trail.Entry.{Entry}
-use Rattle.mcs_sat.specs.Trails.{literal_at, reason_at, AreExplained, ArePlaced, IsOn, IsOnBelow, IsReason, IsFalse, IsFalseBelow, IsLatest}
+use Rattle.mcs_sat.specs.Trails.{literal_at, reason_at, AreExplained, ArePlaced, IsOn, IsOnBelow, IsReason, IsFalse, IsFalseBelow, IsJump, IsLatest}
 use Rattle.mcs_sat.proofs.TrailLemmas.{on_below}
 
 -- a variable stands at one place
@@ -22,36 +24,42 @@ not_both_on es ps k placed (i, less, e) (j, less', e') =
     neg_differs k (subst IsLiteral e (placed i less).0) k-is
 
 -- the latest of the literals that are false in a clause
-pub latest-false : (es : List Entry) (c : List ℤ) (p : ℕ) → IsLatest es c p → IsFalse es c
-latest-false es c p l k among = elim (l.others k among) [
-  | inl e ↦ (p, l.here, sym (neg-neg (literal_at es p)) ∙ ap neg_ℤ (sym e))
-  | inr below ↦ on_below es p (neg_ℤ k) (let h = l.here in omega arith) below
+pub latest-false : (es : List Entry) (c : List ℤ) (latest : Latest) → IsLatest es c latest → IsFalse es c
+latest-false es c latest l k among = elim (l.others k among) [
+  | inl e ↦ (latest.place, l.here, sym (neg-neg (literal_at es latest.place)) ∙ ap neg_ℤ (sym e))
+  | inr below ↦ on_below es latest.others (neg_ℤ k) (let h = l.here in let b = l.before in omega arith) below
+]
+
+pub jump-false : (es : List Entry) (c : List ℤ) (jump : Jump) → IsJump es c jump → IsFalse es c
+jump-false es c jump j k among = elim (j.others k among) [
+  | inl e ↦ (jump.place, j.here, sym (neg-neg (literal_at es jump.place)) ∙ ap neg_ℤ (sym e))
+  | inr below ↦ on_below es jump.decision (neg_ℤ k) (let h = j.here in let b = j.before in omega arith) below
 ]
 
 -- the reason of the literal that is the latest in a false clause clashes with it in this literal only
-pub one_clash : (es : List Entry) (ps : List ℕ) (p : ℕ) (c reason : List ℤ) → ArePlaced es ps → IsLatest es c p → IsReason es p reason → IsOnlyClash c reason (neg_ℤ (literal_at es p))
-one_clash es ps p c reason placed l is = record {
+pub one_clash : (es : List Entry) (ps : List ℕ) (latest : Latest) (c reason : List ℤ) → ArePlaced es ps → IsLatest es c latest → IsReason es latest.place reason → IsOnlyClash c reason (neg_ℤ (literal_at es latest.place))
+one_clash es ps latest c reason placed l is = record {
   in_first = l.has;
-  in_second = subst (λ (k : ℤ). IsAmong k reason) (sym (neg-neg (literal_at es p))) is.has;
+  in_second = subst (λ (k : ℤ). IsAmong k reason) (sym (neg-neg (literal_at es latest.place))) is.has;
   only = λ k in_first in_second. at k in_first (is.others (neg_ℤ k) in_second);
 }
   where
-    at : (k : ℤ) → IsAmong k c → (neg_ℤ k ≡ literal_at es p) ⊎ IsOnBelow es p (neg_ℤ (neg_ℤ k)) → k ≡ neg_ℤ (literal_at es p)
+    at : (k : ℤ) → IsAmong k c → (neg_ℤ k ≡ literal_at es latest.place) ⊎ IsOnBelow es latest.place (neg_ℤ (neg_ℤ k)) → k ≡ neg_ℤ (literal_at es latest.place)
     at k in_first (inl e) = sym (neg-neg k) ∙ ap neg_ℤ e
-    at k in_first (inr below) = absurd (not_both_on es ps k placed (on_below es p k (let h = l.here in omega arith) (subst (IsOnBelow es p) (neg-neg k) below)) (latest-false es c p l k in_first))
+    at k in_first (inr below) = absurd (not_both_on es ps k placed (on_below es latest.place k (let h = l.here in omega arith) (subst (IsOnBelow es latest.place) (neg-neg k) below)) (latest-false es c latest l k in_first))
 
 -- the resolvent was false before
-pub resolvent-false : (es : List Entry) (ps : List ℕ) (p : ℕ) (c reason out : List ℤ) → ArePlaced es ps → IsLatest es c p → IsReason es p reason → IsResolvent c reason out → IsFalseBelow es p out
-resolvent-false es ps p c reason out placed l is r k among = at ((r.left.exactly k).0 among)
+pub resolvent-false : (es : List Entry) (ps : List ℕ) (latest : Latest) (c reason out : List ℤ) → ArePlaced es ps → IsLatest es c latest → IsReason es latest.place reason → IsResolvent c reason out → IsFalseBelow es latest.place out
+resolvent-false es ps latest c reason out placed l is r k among = at ((r.left.exactly k).0 among)
   where
-    pivot : r.literal ≡ neg_ℤ (literal_at es p)
-    pivot = (one_clash es ps p c reason placed l is).only r.literal r.clash.in_first r.clash.in_second
+    pivot : r.literal ≡ neg_ℤ (literal_at es latest.place)
+    pivot = (one_clash es ps latest c reason placed l is).only r.literal r.clash.in_first r.clash.in_second
 
-    negated : neg_ℤ r.literal ≡ literal_at es p
-    negated = ap neg_ℤ pivot ∙ neg-neg (literal_at es p)
+    negated : neg_ℤ r.literal ≡ literal_at es latest.place
+    negated = ap neg_ℤ pivot ∙ neg-neg (literal_at es latest.place)
 
-    at : IsLeft c reason r.literal k → IsOnBelow es p (neg_ℤ k)
-    at (inl (among', differs)) = elim (l.others k among') [ inl e ↦ absurd (differs (e ∙ sym pivot)) | inr below ↦ below ]
+    at : IsLeft c reason r.literal k → IsOnBelow es latest.place (neg_ℤ k)
+    at (inl (among', differs)) = elim (l.others k among') [ inl e ↦ absurd (differs (e ∙ sym pivot)) | inr (j, less, on) ↦ (j, (let b = l.before in omega arith), on) ]
     at (inr (among', differs)) = elim (is.others k among') [ inl e ↦ absurd (differs (e ∙ sym negated)) | inr below ↦ below ]
 
 -- what the reason of an implied literal is

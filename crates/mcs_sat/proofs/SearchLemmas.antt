@@ -7,14 +7,15 @@ use Rattle.mcs_base.proofs.ListingLemmas.{all_among, all_from_among}
 use Rattle.mcs_trace.specs.Clauses.{ClauseList, IsClause, IsClauseList, IsWithin}
 use Rattle.mcs_trace.specs.Traces.{AreRightSteps, clauses_of, inference_of}
 use Rattle.mcs_trace.specs.declared.trace.Step.{Step}
+use Rattle.mcs_sat.specs.declared.learn.Jump.{Jump}
 use Rattle.mcs_sat.specs.declared.learn.Learnt.{Learnt}
 use Rattle.mcs_sat.specs.declared.search.Search.{Search}
 use Rattle.mcs_sat.specs.declared.trail.Entry.{Entry}
 use Rattle.mcs_sat.specs.declared.trail.Trail.{Trail}
-use Rattle.mcs_sat.specs.Trails.{AreClauses, AreExplained, AreNumbers, ArePlaced, IsFalse, IsLatest, IsLearnt, IsNumber, IsOn, IsSearch, IsTrail, StandsNowhere, known_of, literal_at, reason_at}
+use Rattle.mcs_sat.specs.Trails.{AreClauses, AreExplained, AreNumbers, ArePlaced, IsFalse, IsJump, IsLearnt, IsNumber, IsOn, IsSearch, IsTrail, StandsNowhere, known_of, literal_at}
 use Rattle.mcs_sat.proofs.KnownLemmas.{all_push, known-push, length-known, numbered-last, right-push}
 use Rattle.mcs_sat.proofs.LatestLemmas.{covered-false}
-use Rattle.mcs_sat.proofs.LearnLemmas.{latest-false, same_place}
+use Rattle.mcs_sat.proofs.LearnLemmas.{jump-false, same_place}
 use Rattle.mcs_sat.proofs.OccurrenceLemmas.{numbers-more}
 use Rattle.mcs_sat.proofs.TrailLemmas.{entry-back, explained-back, explained-known, explained-push, on-back}
 
@@ -37,12 +38,12 @@ search-start f s is none empty positions variables numbers cursor = record {
     known = ap (λ (steps : List Step). f.clauses ++ clauses_of steps) none ∙ append-nil f.clauses
 
 -- ---- what is learnt
-learnt-at : (es : List Entry) (c : List ℤ) (o : Option ℕ) → MatchOption o (c ≡ []) (λ p. IsLatest es c p × (reason_at es p ≡ 0)) → IsFalse es c
+learnt-at : (es : List Entry) (c : List ℤ) (o : Option Jump) → MatchOption o (c ≡ []) (IsJump es c) → IsFalse es c
 learnt-at es c None e k among = absurd (subst (λ (x : List ℤ). IsAmong k x) e among)
-learnt-at es c (Some p) (l, decided) k among = latest-false es c p l k among
+learnt-at es c (Some jump) j k among = jump-false es c jump j k among
 
 pub learnt-false : (known : List (List ℤ)) (es : List Entry) (learnt : Learnt) → IsLearnt known es learnt → IsFalse es learnt.step.clause
-learnt-false known es learnt l = learnt-at es learnt.step.clause learnt.place l.place
+learnt-false known es learnt l = learnt-at es learnt.step.clause learnt.jump l.jump
 
 pub learnt-covered : (known : List (List ℤ)) (t : Trail) (learnt : Learnt) (n : ℕ) → ArePlaced t.entries.items t.positions.items → n ≡ length t.positions.items → IsLearnt known t.entries.items learnt → AllByRecursion (λ k. unsigned_abs k < n) learnt.step.clause
 learnt-covered known t learnt n placed e l =
@@ -79,30 +80,31 @@ search-learnt f old new learnt next is l e steps variables numbers trail cursor 
     longer = length_push (known_of f old.steps.items) learnt.step.clause
 
 -- ---- the literals that stay, and the one that is turned
-pub free-back : (es : List Entry) (ps : List ℕ) (p : ℕ) → ArePlaced es ps → p < length es → StandsNowhere (take p es) (unsigned_abs (literal_at es p))
-free-back es ps p placed less i (less', size) =
-    let bound : i < p = omega (arith, length-take p es) in
-    let here : literal_at (take p es) i ≡ literal_at es i = ap (λ (x : Entry). x.literal) (entry-back es p i bound) in
+pub free-back : (es : List Entry) (ps : List ℕ) (p d : ℕ) → ArePlaced es ps → p < length es → d ≤ p → StandsNowhere (take d es) (unsigned_abs (literal_at es p))
+free-back es ps p d placed less before i (less', size) =
+    let bound : i < d = omega (arith, length-take d es) in
+    let here : literal_at (take d es) i ≡ literal_at es i = ap (λ (x : Entry). x.literal) (entry-back es d i bound) in
     let same : i ≡ p = same_place es ps i p placed (omega arith) less (ap unsigned_abs (sym here) ∙ size) in
     omega arith
 
 pub trail-learnt : (vars : ℕ) (known : List (List ℤ)) (t : Trail) (c : List ℤ) → IsTrail vars known t → IsTrail vars (known ++ c ∷ []) t
 trail-learnt vars known t c h = record { sized = h.sized; placed = h.placed; explained = explained-known known (c ∷ []) t.entries.items h.explained }
 
-pub trail-turned : (vars : ℕ) (known : List (List ℤ)) (old new : Trail) (c : List ℤ) (p : ℕ) (e : Entry) → IsTrail vars known old → IsClause c → IsLatest old.entries.items c p
-    → new.entries.items ≡ take p old.entries.items ++ e ∷ [] → e.literal ≡ neg_ℤ (literal_at old.entries.items p) → e.reason ≡ length known + 1
+pub trail-turned : (vars : ℕ) (known : List (List ℤ)) (old new : Trail) (c : List ℤ) (jump : Jump) (e : Entry) → IsTrail vars known old → IsClause c → IsJump old.entries.items c jump
+    → new.entries.items ≡ take jump.decision old.entries.items ++ e ∷ [] → e.literal ≡ neg_ℤ (literal_at old.entries.items jump.place) → e.reason ≡ length known + 1
     → ArePlaced new.entries.items new.positions.items → length new.positions.items ≡ length old.positions.items → IsTrail vars (known ++ c ∷ []) new
-trail-turned vars known old new c p e h clause l entries literal reason placed positions =
+trail-turned vars known old new c jump e h clause j entries literal reason placed positions =
     let es : List Entry = old.entries.items in
-    let here : p < length es = l.here in
-    let before : AreExplained (known ++ c ∷ []) (take p es) = explained-back (known ++ c ∷ []) es p (explained-known known (c ∷ []) es h.explained) in
-    let others : (k : ℤ) → IsAmong k c → (k ≡ e.literal) ⊎ IsOn (take p es) (neg_ℤ k) = λ k among. elim (l.others k among) [
+    let d : ℕ = jump.decision in
+    let bound : d ≤ length es = (let b = j.before in let b' = j.here in omega arith) in
+    let before : AreExplained (known ++ c ∷ []) (take d es) = explained-back (known ++ c ∷ []) es d (explained-known known (c ∷ []) es h.explained) in
+    let others : (k : ℤ) → IsAmong k c → (k ≡ e.literal) ⊎ IsOn (take d es) (neg_ℤ k) = λ k among. elim (j.others k among) [
       | inl same ↦ inl (same ∙ sym literal)
-      | inr below ↦ inr (on-back es p (neg_ℤ k) (omega arith) below)
+      | inr below ↦ inr (on-back es d (neg_ℤ k) bound below)
     ] in
     record {
       sized = positions ∙ h.sized;
       placed = placed;
-      explained = subst (AreExplained (known ++ c ∷ [])) (sym entries) (explained-push (known ++ c ∷ []) (take p es) e before
-          (inr (c, numbered-last known c e.reason reason, clause, subst (λ (k : ℤ). IsAmong k c) (sym literal) l.has, others)));
+      explained = subst (AreExplained (known ++ c ∷ [])) (sym entries) (explained-push (known ++ c ∷ []) (take d es) e before
+          (inr (c, numbered-last known c e.reason reason, clause, subst (λ (k : ℤ). IsAmong k c) (sym literal) j.has, others)));
     }

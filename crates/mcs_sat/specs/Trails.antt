@@ -7,6 +7,8 @@ use Rattle.mcs_trace.specs.Traces.{numbered, clauses_of, inference_of, AreRightS
 use Rattle.mcs_trace.specs.declared.trace.Step.{Step}
 use Rattle.mcs_sat.specs.declared.examine.Finding.{Finding}
 use Rattle.mcs_sat.specs.declared.examine.Finding.TheVariants.{Open, Forced, Conflict}
+use Rattle.mcs_sat.specs.declared.learn.Jump.{Jump}
+use Rattle.mcs_sat.specs.declared.learn.Latest.{Latest}
 use Rattle.mcs_sat.specs.declared.learn.Learnt.{Learnt}
 use Rattle.mcs_sat.specs.declared.occurrences.Occurrence.{Occurrence}
 use Rattle.mcs_sat.specs.declared.trail.Entry.{Entry}
@@ -76,11 +78,26 @@ pub record IsReason (entries : List Entry) (i : ℕ) (c : List ℤ) : Type 0 whe
   pub has : IsAmong (literal_at entries i) c
   pub others : (k : ℤ) → IsAmong k c → (k ≡ literal_at entries i) ⊎ IsOnBelow entries i (neg_ℤ k)
 
--- the clause has the negation of the literal at place p, and its other literals were false before
-pub record IsLatest (entries : List Entry) (c : List ℤ) (p : ℕ) : Type 0 where
-  pub here : p < length entries
-  pub has : IsAmong (neg_ℤ (literal_at entries p)) c
-  pub others : (k : ℤ) → IsAmong k c → (k ≡ neg_ℤ (literal_at entries p)) ⊎ IsOnBelow entries p (neg_ℤ k)
+-- the latest place is the new one, or as before
+abbrev pub IsJoined : Latest → ℕ → Latest → Type 0
+IsJoined l place new =
+    ((l.place < place) × (new.place ≡ place) × (new.others ≡ l.place + 1))
+    ⊎ ((place ≤ l.place) × (new.place ≡ l.place) × (l.others ≤ new.others) × (l.others ≤ l.place → new.others ≤ l.place) × (place < l.place → place < new.others))
+
+-- the clause has the negation of the literal at the place, and its other literals were false earlier
+pub record IsLatest (entries : List Entry) (c : List ℤ) (l : Latest) : Type 0 where
+  pub here : l.place < length entries
+  pub before : l.others ≤ l.place
+  pub has : IsAmong (neg_ℤ (literal_at entries l.place)) c
+  pub others : (k : ℤ) → IsAmong k c → (k ≡ neg_ℤ (literal_at entries l.place)) ⊎ IsOnBelow entries l.others (neg_ℤ k)
+
+-- the clause has the negation of the literal at the place, and its other literals were false before the decision, which comes no later
+pub record IsJump (entries : List Entry) (c : List ℤ) (j : Jump) : Type 0 where
+  pub here : j.place < length entries
+  pub before : j.decision ≤ j.place
+  pub has : IsAmong (neg_ℤ (literal_at entries j.place)) c
+  pub others : (k : ℤ) → IsAmong k c → (k ≡ neg_ℤ (literal_at entries j.place)) ⊎ IsOnBelow entries j.decision (neg_ℤ k)
+  pub decided : reason_at entries j.decision ≡ 0
 
 -- each literal made true is a decision, or has a reason among the numbered clauses
 abbrev pub AreExplained : List (List ℤ) → List Entry → Type 0
@@ -90,11 +107,11 @@ AreExplained known entries = (i : ℕ) → i < length entries → (reason_at ent
 abbrev pub IsConflict : List (List ℤ) → List Entry → ℕ → Type 0
 IsConflict known entries number = (c : List ℤ) × (numbered known number ≡ Some c) × IsFalse entries c
 
--- a right step whose clause is false, the latest of its literals by a decision; or the empty clause
+-- a right step whose clause is false, and the decision before which all but one of its literals were so; or the empty clause
 pub record IsLearnt (known : List (List ℤ)) (entries : List Entry) (learnt : Learnt) : Type 0 where
   pub clause : IsClause learnt.step.clause
   pub chain : IsChainResolvent known learnt.step.chain.items learnt.step.clause
-  pub place : MatchOption learnt.place (learnt.step.clause ≡ []) (λ p. IsLatest entries learnt.step.clause p × (reason_at entries p ≡ 0))
+  pub jump : MatchOption learnt.jump (learnt.step.clause ≡ []) (IsJump entries learnt.step.clause)
 
 -- ---- how much is left
 -- of n places: 2 for a free one, 1 for a decision, 0 for an implied literal, as the digits of a number to the base 3

@@ -101,25 +101,25 @@ fn decide(cnf: &Cnf, search: &mut Search) -> Result<Choice, Memory>
     }
 }
 
-/// Learns from the clause of the number, which is false, and takes back what was true from the decision on
-/// that the learnt clause turns.
+/// Learns from the clause of the number, which is false, goes back to the decision before which all but one
+/// of the literals of the learnt clause were false, and makes this one true.
 fn learn(alloc: Global, cnf: &Cnf, search: &mut Search, number: u64) -> Result<Turn, Memory>
     requires search { IsSearch cnf.now search.old }
     requires conflict { IsConflict (known_of cnf.now search.old.steps.items) search.old.trail.entries.items number }
     ensures kept { OnOk result (IsSearch cnf.now search.new) }
     ensures turn { IfOk result (IsTurn cnf.now search.old search.new) }
 {
-    let Learnt { step, place } = analyse(alloc, cnf, &search.steps, &search.trail, number)?;
+    let Learnt { step, jump } = analyse(alloc, cnf, &search.steps, &search.trail, number)?;
     let next = cnf.clauses().len() as u64 + search.steps.len() as u64 + 1;
     search.occurrences.add(next, step.clause.literals())?;
     search.steps.push(step)?;
-    let Some(place) = place else {
+    let Some(jump) = jump else {
         return Ok(Turn::Refuted);
     };
-    let literal = search.trail.negated(place);
-    search.trail.back(place);
+    let literal = search.trail.negated(jump.place);
+    search.trail.back(jump.decision);
     search.trail.push(literal, next)?;
-    search.head = place;
+    search.head = jump.decision;
     search.cursor = 1;
     Ok(Turn::Goes)
 }

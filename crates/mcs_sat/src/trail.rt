@@ -1,9 +1,9 @@
 //! The literals that are made true, in their order.
 
-ghost use Rattle.std.specs.Prelude.{◌≡◌, ◌++◌, ◌∷◌, [], ◌<◌, ◌≤◌, ◌+◌, ◌^◌, length, unsigned_abs, neg_ℤ, take, ◌↔◌, IsTrue, MatchOption, IfOk, OnOk};
+ghost use Rattle.std.specs.Prelude.{◌≡◌, ℕ, ◌++◌, ◌∷◌, [], ◌<◌, ◌≤◌, ◌+◌, ◌^◌, length, unsigned_abs, neg_ℤ, take, ◌↔◌, IsTrue, MatchOption, IfOk, OnOk};
 ghost use Rattle.std.specs.Bool.{MatchBool};
 ghost use Rattle.mcs_trace.specs.Clauses.{IsLiteral};
-ghost use Rattle.mcs_sat.specs.Trails.{ArePlaced, AreAssigned, StandsAt, StandsNowhere, IsOn, literal_at};
+ghost use Rattle.mcs_sat.specs.Trails.{ArePlaced, AreAssigned, StandsAt, StandsNowhere, IsOn, literal_at, reason_at};
 
 use mcs_base::Memory;
 use std::alloc::Global;
@@ -110,6 +110,21 @@ impl Trail {
         ensures positions { self.new.positions.items ≡ self.old.positions.items }
     {
         self.entries.truncate(place);
+    }
+
+    /// The first decision from the one place on up to the other.
+    pub fn decision(&self, from: usize, to: usize) -> Option<usize>
+        requires { to < length self.now.entries.items }
+        ensures { MatchOption result
+            ((i : ℕ) → from ≤ i → i ≤ to → ¬ (reason_at self.now.entries.items i ≡ 0))
+            (λ d. (from ≤ d) × (d ≤ to) × (reason_at self.now.entries.items d ≡ 0)) }
+    {
+        for place in from..to + 1 {
+            if self.entries[place].reason == 0 {
+                return Some(place);
+            }
+        }
+        None
     }
 
     /// The first variable from the number on that is free.

@@ -1,10 +1,11 @@
-use Rattle.std.proofs.Common.{◌≡◌, ◌++◌, ◌∷◌, [], ◌<◌, ℕ, ℤ, neg_ℤ, List, Some, length, IsTrue, sym, ap, subst, arith}
+use Rattle.std.proofs.Common.{◌≡◌, ◌++◌, ◌∷◌, [], ◌<◌, ℕ, ℤ, neg_ℤ, List, Some, length, IsTrue, inl, inr, sym, ap, ◌∙◌, subst, arith}
 use Rattle.std.proofs.lemmas.Bool.Decides.{when_true}
 use Rattle.mcs_trace.specs.Clauses.{IsClause}
 use Rattle.mcs_trace.specs.Resolution.{IsOnlyClash, IsResolvent}
 use Rattle.mcs_trace.specs.Traces.{IsChainResolvent, clauses_of, numbered}
+use Rattle.mcs_sat.specs.declared.learn.Latest.{Latest}
 use Rattle.mcs_sat.specs.declared.trail.Entry.{Entry}
-use Rattle.mcs_sat.specs.Trails.{IsFalse, IsFalseBelow, IsLatest, IsReason, known_of, literal_at}
+use Rattle.mcs_sat.specs.Trails.{IsFalse, IsFalseBelow, IsLatest, IsReason, known_of, literal_at, reason_at}
 use Rattle.mcs_sat.proofs.KnownLemmas.{chain-push}
 use Rattle.mcs_sat.proofs.LatestLemmas.{latest_below, none_below}
 use Rattle.mcs_sat.proofs.LearnLemmas.{one_clash, reason_of, resolvent-false}
@@ -22,34 +23,37 @@ loop-bound-init c =
       chain = c.requires.chain;
     }
 
-pub latest-requires-clause-all_false : goal.latest-requires-clause-all_false
-latest-requires-clause-all_false c =
+pub latest_of-requires-clause-all_false : goal.latest_of-requires-clause-all_false
+latest_of-requires-clause-all_false c =
     let es : List Entry = c.args.trail.now.entries.items in
     subst (IsFalse es) (sym c.deref.ensures.value) (false_below es c.loop-bound.bound c.loop-bound.current.items c.loop-bound.invariant.bound c.loop-bound.invariant.below)
 
 pub loop-bound-smaller : goal.loop-bound-smaller
 loop-bound-smaller c =
     let es : List Entry = c.args.trail.now.entries.items in
-    let latest : IsLatest es c.loop-bound.current.items c.in-Some.place = subst (λ (x : List ℤ). IsLatest es x c.in-Some.place) c.deref.ensures.value c.in-Some.ensures in
-    latest_below es c.args.trail.now.positions.items c.loop-bound.current.items c.loop-bound.bound c.in-Some.place c.requires.trail.placed c.loop-bound.invariant.bound c.loop-bound.invariant.below latest
+    let l : Latest = c.in-Some.latest in
+    let latest : IsLatest es c.loop-bound.current.items l = subst (λ (x : List ℤ). IsLatest es x l) c.deref.ensures.value c.in-Some.ensures in
+    latest_below es c.args.trail.now.positions.items c.loop-bound.current.items c.loop-bound.bound l c.requires.trail.placed c.loop-bound.invariant.bound c.loop-bound.invariant.below latest
 
 pub loop-bound-preserved : goal.loop-bound-preserved
 loop-bound-preserved c =
     let known : List (List ℤ) = known_of c.args.cnf.now c.args.steps.now in
     let es : List Entry = c.args.trail.now.entries.items in
     let ps : List ℕ = c.args.trail.now.positions.items in
-    let p : ℕ = c.in-Some.place in
+    let p : ℕ = c.in-Some.latest.place in
     let current : List ℤ = c.loop-bound.current.items in
     let reason : List ℤ = c.in-Some-numbered.reason.now in
-    let number : ℕ = c.index-entry.result.now.reason in
+    let number : ℕ = c.index.result.now.reason in
     let out : List ℤ = c.resolve.new.out.items in
-    let latest : IsLatest es current p = subst (λ (x : List ℤ). IsLatest es x p) c.deref.ensures.value c.in-Some.ensures in
+    let l : Latest = c.in-Some.latest in
+    let latest : IsLatest es current l = subst (λ (x : List ℤ). IsLatest es x l) c.deref.ensures.value c.in-Some.ensures in
     let here : p < length es = latest.here in
+    let decided : reason_at es p ≡ 0 → ⊥ = c.in_default-decision.ensures p latest.before (omega arith) in
     let numb : Some reason ≡ numbered known number = subst (λ (cs : List (List ℤ)). Some reason ≡ numbered (cs ++ clauses_of c.args.steps.now) number) c.clauses.ensures.value c.in-Some-numbered.ensures in
-    let is : IsReason es p reason = reason_of known es p number reason c.requires.trail.explained here (reason-read es p c.index-entry.result.now here c.index-entry.ensures) (λ e. omega arith) numb in
+    let is : IsReason es p reason = reason_of known es p number reason c.requires.trail.explained here (reason-read es p c.index.result.now here c.index.ensures) (λ e. decided (sym (reason-read es p c.index.result.now here c.index.ensures) ∙ e)) numb in
     let first : c.deref-in-loop-bound.result.now ≡ current = c.deref-in-loop-bound.ensures.value in
     let second : c.literals.result.now ≡ reason = c.literals.ensures.value in
-    let clash : IsOnlyClash current reason (neg_ℤ (literal_at es p)) = one_clash es ps p current reason c.requires.trail.placed latest is in
+    let clash : IsOnlyClash current reason (neg_ℤ (literal_at es p)) = one_clash es ps l current reason c.requires.trail.placed latest is in
     let clash' : IsOnlyClash c.deref-in-loop-bound.result.now c.literals.result.now (neg_ℤ (literal_at es p)) =
     subst (λ (x : List ℤ). IsOnlyClash x c.literals.result.now (neg_ℤ (literal_at es p))) (sym first) (subst (λ (x : List ℤ). IsOnlyClash current x (neg_ℤ (literal_at es p))) (sym second) clash) in
     let yes : IsTrue c.in_ok-resolve.field-0 = c.in_ok-resolve.ensures.clash (neg_ℤ (literal_at es p)) clash' in
@@ -61,9 +65,23 @@ loop-bound-preserved c =
     record {
       bound = omega arith;
       clause = subst IsClause (sym swapped) (c.in_ok-resolve.ensures.clause yes);
-      below = subst (IsFalseBelow es p) (sym swapped) (resolvent-false es ps p current reason out c.requires.trail.placed latest is r);
+      below = subst (IsFalseBelow es p) (sym swapped) (resolvent-false es ps l current reason out c.requires.trail.placed latest is r);
       chain = subst (λ (ns : List ℕ). IsChainResolvent known ns c.swap.new.x.items) (sym c.in_ok-push.ensures.items) (subst (IsChainResolvent known (c.loop-bound.chain.items ++ number ∷ [])) (sym swapped) chain);
     }
 
-pub returns-clause-place : goal.returns-clause-place
-returns-clause-place c = none_below c.args.trail.now.entries.items c.loop-bound.current.items c.loop-bound.bound c.loop-bound-test.false c.loop-bound.invariant.below
+pub returns-clause-jump : goal.returns-clause-jump
+returns-clause-jump c = none_below c.args.trail.now.entries.items c.loop-bound.current.items c.loop-bound.bound c.loop-bound-test.false c.loop-bound.invariant.below
+
+pub returns-in-Some-decision-clause-jump : goal.returns-in-Some-decision-clause-jump
+returns-in-Some-decision-clause-jump c =
+    let es : List Entry = c.args.trail.now.entries.items in
+    let l : Latest = c.in-Some.latest in
+    let latest : IsLatest es c.loop-bound.current.items l = subst (λ (x : List ℤ). IsLatest es x l) c.deref.ensures.value c.in-Some.ensures in
+    let (from, to, decided) = c.in-Some-decision.ensures in
+    record {
+      here = latest.here;
+      before = to;
+      has = latest.has;
+      others = λ k among. elim (latest.others k among) [ inl e ↦ inl e | inr (p, less, on) ↦ inr (p, omega arith, on) ];
+      decided = decided;
+    }

@@ -4,11 +4,12 @@ use Rattle.mcs_trace.specs.Clauses.{IsLiteral}
 use Rattle.mcs_trace.specs.Traces.{EndsEmpty, inference_of}
 use Rattle.mcs_trace.specs.declared.trace.Step.{Step}
 use Rattle.mcs_trace.proofs.OrderLemmas.{fits_literal, size-neg}
+use Rattle.mcs_sat.specs.declared.learn.Jump.{Jump}
 use Rattle.mcs_sat.specs.declared.learn.Learnt.{Learnt}
 use Rattle.mcs_sat.specs.declared.search.Search.{Search}
 use Rattle.mcs_sat.specs.declared.trail.Entry.{Entry}
 use Rattle.mcs_sat.specs.declared.trail.Trail.{Trail}
-use Rattle.mcs_sat.specs.Trails.{ArePlaced, IsLatest, IsLearnt, StandsNowhere, known_of, literal_at, reason_at, work_left}
+use Rattle.mcs_sat.specs.Trails.{ArePlaced, IsJump, IsLearnt, StandsNowhere, known_of, literal_at, work_left}
 use Rattle.mcs_sat.proofs.KnownLemmas.{ends-push, length-known}
 use Rattle.mcs_sat.proofs.SearchLemmas.{free-back, learnt-covered, search-learnt, trail-learnt, trail-turned}
 use Rattle.mcs_sat.proofs.TrailLemmas.{placed-back, placed-bound}
@@ -43,20 +44,20 @@ pub returns-in_default-clause-turn : goal.returns-in_default-clause-turn
 returns-in_default-clause-turn c =
     let es : List Entry = c.args.search.now.trail.entries.items in
     let learnt : Learnt = c.in_ok-step.field-0 in
-    let empty : learnt.step.clause ≡ [] = subst (λ o. MatchOption o (learnt.step.clause ≡ []) (λ p. IsLatest es learnt.step.clause p × (reason_at es p ≡ 0))) c.in_default.is c.in_ok-step.ensures.place in
+    let empty : learnt.step.clause ≡ [] = subst (λ o. MatchOption o (learnt.step.clause ≡ []) (IsJump es learnt.step.clause)) c.in_default.is c.in_ok-step.ensures.jump in
     subst (λ (steps : List Step). EndsEmpty (map inference_of steps)) (sym c.in_ok-push.ensures.items) (ends-push c.args.search.now.steps.items learnt.step empty)
 
--- the place of the decision that is turned
-latest : (c : After-push-arg-2-1) → IsLatest c.args.search.now.trail.entries.items c.in_ok-step.field-0.step.clause c.in-Some.place × (reason_at c.args.search.now.trail.entries.items c.in-Some.place ≡ 0)
-latest c =
+-- where the search goes back to
+jump_of : (c : After-push-arg-2-1) → IsJump c.args.search.now.trail.entries.items c.in_ok-step.field-0.step.clause c.in-Some.jump
+jump_of c =
     let es : List Entry = c.args.search.now.trail.entries.items in
     let learnt : Learnt = c.in_ok-step.field-0 in
-    subst (λ o. MatchOption o (learnt.step.clause ≡ []) (λ p. IsLatest es learnt.step.clause p × (reason_at es p ≡ 0))) c.in-Some.is c.in_ok-step.ensures.place
+    subst (λ o. MatchOption o (learnt.step.clause ≡ []) (IsJump es learnt.step.clause)) c.in-Some.is c.in_ok-step.ensures.jump
 
-read : (c : After-push-arg-2-1) → to_z w64 (of_z w64 c.negated-literal.result) ≡ neg_ℤ (literal_at c.args.search.now.trail.entries.items c.in-Some.place)
+read : (c : After-push-arg-2-1) → to_z w64 (of_z w64 c.negated-literal.result) ≡ neg_ℤ (literal_at c.args.search.now.trail.entries.items c.in-Some.jump.place)
 read c =
-    let x : ℤ = literal_at c.args.search.now.trail.entries.items c.in-Some.place in
-    let is : IsLiteral x = (c.requires.search.trail.placed c.in-Some.place (latest c).0.here).0 in
+    let x : ℤ = literal_at c.args.search.now.trail.entries.items c.in-Some.jump.place in
+    let is : IsLiteral x = (c.requires.search.trail.placed c.in-Some.jump.place (jump_of c).here).0 in
     let negated : IsLiteral (neg_ℤ x) = subst (λ (n : ℕ). (0 < n) × (n < 2 ^ 63)) (sym (size-neg x)) is in
     let literal : IsLiteral c.negated-literal.result = subst IsLiteral (sym c.negated-literal.ensures) negated in
     to_z-of_z (fits_literal c.negated-literal.result literal) ∙ c.negated-literal.ensures
@@ -65,15 +66,16 @@ pub push-requires-2-clause-placed : goal.push-requires-2-clause-placed
 push-requires-2-clause-placed c =
     let old : Trail = c.args.search.now.trail in
     subst (λ (es : List Entry). ArePlaced es c.back.new.self.positions.items) (sym c.back.ensures.entries)
-    (subst (ArePlaced (take c.in-Some.place old.entries.items)) (sym c.back.ensures.positions) (placed-back old.entries.items old.positions.items c.in-Some.place c.requires.search.trail.placed))
+    (subst (ArePlaced (take c.in-Some.jump.decision old.entries.items)) (sym c.back.ensures.positions) (placed-back old.entries.items old.positions.items c.in-Some.jump.decision c.requires.search.trail.placed))
 
 pub push-requires-2-clause-free : goal.push-requires-2-clause-free
 push-requires-2-clause-free c =
     let old : Trail = c.args.search.now.trail in
-    let p : ℕ = c.in-Some.place in
-    let free = free-back old.entries.items old.positions.items p c.requires.search.trail.placed (latest c).0.here in
+    let p : ℕ = c.in-Some.jump.place in
+    let d : ℕ = c.in-Some.jump.decision in
+    let free = free-back old.entries.items old.positions.items p d c.requires.search.trail.placed (jump_of c).here (jump_of c).before in
     let size : unsigned_abs (to_z w64 (of_z w64 c.negated-literal.result)) ≡ unsigned_abs (literal_at old.entries.items p) = ap unsigned_abs (read c) ∙ size-neg (literal_at old.entries.items p) in
-    subst (λ (es : List Entry). StandsNowhere es (unsigned_abs (to_z w64 (of_z w64 c.negated-literal.result)))) (sym c.back.ensures.entries) (subst (StandsNowhere (take p old.entries.items)) (sym size) free)
+    subst (λ (es : List Entry). StandsNowhere es (unsigned_abs (to_z w64 (of_z w64 c.negated-literal.result)))) (sym c.back.ensures.entries) (subst (StandsNowhere (take d old.entries.items)) (sym size) free)
 
 pub returns-clause-kept : goal.returns-clause-kept
 returns-clause-kept c =
@@ -83,16 +85,16 @@ returns-clause-kept c =
     let known : List (List ℤ) = known_of c.args.cnf.now old.steps.items in
     let l : IsLearnt known old.trail.entries.items learnt =
     subst (λ (steps : List Step). IsLearnt (known_of c.args.cnf.now steps) old.trail.entries.items learnt) c.deref.ensures.value c.in_ok-step.ensures in
-    let p : ℕ = c.in-Some.place in
-    let new : Search = record { trail = c.push-2.new.self; head = p; steps = c.push.new.self; occurrences = c.add.new.self; cursor = 1 } in
+    let jump : Jump = c.in-Some.jump in
+    let new : Search = record { trail = c.push-2.new.self; head = jump.decision; steps = c.push.new.self; occurrences = c.add.new.self; cursor = 1 } in
     let next : ℕ = length c.clauses.result.now + c.len.result + 1 in
     let next-is : next ≡ length c.args.cnf.now.clauses + length old.steps.items + 1 = (let ok = old.steps.ok.0 in let e = ap length c.clauses.ensures.value in omega arith) in
     let e : Entry = record { literal = to_z w64 (of_z w64 c.negated-literal.result); reason = next } in
-    let entries : c.push-2.new.self.entries.items ≡ take p old.trail.entries.items ++ e ∷ [] = c.in_ok-push-2.ensures.entries ∙ ap (λ (es : List Entry). es ++ e ∷ []) c.back.ensures.entries in
+    let entries : c.push-2.new.self.entries.items ≡ take jump.decision old.trail.entries.items ++ e ∷ [] = c.in_ok-push-2.ensures.entries ∙ ap (λ (es : List Entry). es ++ e ∷ []) c.back.ensures.entries in
     let positions : length c.push-2.new.self.positions.items ≡ length old.trail.positions.items = c.push-2.ensures.positions ∙ ap length c.back.ensures.positions in
     let reason : next ≡ length known + 1 = next-is ∙ ap (λ n. n + 1) (sym (length-known c.args.cnf.now.clauses old.steps.items)) in
     search-learnt c.args.cnf.now old new learnt next c.requires.search l next-is c.in_ok-push.ensures.items c.in_ok-add.ensures.sized c.in_ok-add.ensures.numbers
-    (trail-turned c.args.cnf.now.vars known old.trail c.push-2.new.self learnt.step.clause p e c.requires.search.trail l.clause (latest at).0 entries (read at) reason c.in_ok-push-2.ensures.placed positions) (omega arith)
+    (trail-turned c.args.cnf.now.vars known old.trail c.push-2.new.self learnt.step.clause jump e c.requires.search.trail l.clause (jump_of at) entries (read at) reason c.in_ok-push-2.ensures.placed positions) (omega arith)
 
 pub returns-clause-turn : goal.returns-clause-turn
 returns-clause-turn c =
@@ -100,10 +102,10 @@ returns-clause-turn c =
     let n : ℕ = c.args.cnf.now.vars in
     let old : Search = c.args.search.now in
     let es : List Entry = old.trail.entries.items in
-    let p : ℕ = c.in-Some.place in
+    let p : ℕ = c.in-Some.jump.decision in
     let e : Entry = record { literal = to_z w64 (of_z w64 c.negated-literal.result); reason = length c.clauses.result.now + c.len.result + 1 } in
     let d : Entry = record { literal = pos 0; reason = 0 } in
     let entries : c.push-2.new.self.entries.items ≡ take p es ++ e ∷ [] = c.in_ok-push-2.ensures.entries ∙ ap (λ (xs : List Entry). xs ++ e ∷ []) c.back.ensures.entries in
     let bound : length es ≤ n = placed-bound es old.trail.positions.items n c.requires.search.trail.placed c.requires.search.trail.sized in
-    let here : p < length es = (latest at).0.here in
-    subst (λ (xs : List Entry). work_left n xs < work_left n es) (sym entries) (work_left-back n es p d e here (omega arith) (latest at).1 (λ none. omega arith))
+    let here : p < length es = (let b = (jump_of at).before in let b' = (jump_of at).here in omega arith) in
+    subst (λ (xs : List Entry). work_left n xs < work_left n es) (sym entries) (work_left-back n es p d e here (omega arith) (jump_of at).decided (λ none. omega arith))

@@ -1,11 +1,10 @@
-use Rattle.std.proofs.Common.{◌≡◌, ◌+◌, ℕ, ℤ, pos, List, length, get_or, ◌<◌, unsigned_abs, sym, subst, w64, to_z, of_z, to_z-of_z}
+use Rattle.std.proofs.Common.{◌≡◌, ℕ, ℤ, pos, List, length, get_or, ◌<◌, unsigned_abs, sym, subst, w64, to_z, of_z, to_z-of_z}
 use Rattle.mcs_base.proofs.ListingLemmas.{all_among}
 use Rattle.mcs_trace.proofs.OrderLemmas.{among_get, fits_literal, literal_at}
 use Rattle.mcs_sat.specs.declared.trail.Entry.{Entry}
 use Rattle.mcs_sat.specs.Trails.{StandsAt, StandsNowhere}
-use Rattle.mcs_sat.proofs.LatestLemmas.{LatestSoFar, covered-false, false-somewhere, latest-taken, latest-kept, latest-end}
-use Rattle.mcs_sat.proofs.learn.latest.Goals.{then-is_later, else-is_later}
-use Rattle.mcs_sat.proofs.learn.latest.Goals as goal
+use Rattle.mcs_sat.proofs.LatestLemmas.{covered-false, false-somewhere, latest-joined, latest-end}
+use Rattle.mcs_sat.proofs.learn.latest_of.Goals as goal
 
 pub position-requires-clause-within : goal.position-requires-clause-within
 position-requires-clause-within c =
@@ -32,12 +31,7 @@ loop-literal-preserved c =
     let x : ℤ = get_or lits i (pos 0) in
     let read : to_z w64 (of_z w64 x) ≡ x = to_z-of_z (fits_literal x (literal_at lits i c.requires.clause c.loop-literal-test.true)) in
     let stands : StandsAt es (unsigned_abs x) c.in-Some.place = subst (λ (k : ℤ). StandsAt es (unsigned_abs k) c.in-Some.place) read c.in-Some.ensures in
-    elim c.if-is_later.branch [
-      | then-is_later w ↦ subst (LatestSoFar es lits (i + 1)) (sym w.found-is)
-          (latest-taken es ps lits i c.in-Some.place c.requires.placed c.requires.all_false c.loop-literal-test.true stands c.loop-literal.found c.is_later.result c.is_later.ensures w.if-is_later.true c.loop-literal.invariant)
-      | else-is_later w ↦ subst (LatestSoFar es lits (i + 1)) (sym w.found-is)
-          (latest-kept es ps lits i c.in-Some.place c.requires.placed c.requires.all_false c.loop-literal-test.true stands c.loop-literal.found c.is_later.result c.is_later.ensures w.if-is_later.false c.loop-literal.invariant)
-    ]
+    latest-joined es ps lits i c.in-Some.place c.requires.placed c.requires.all_false c.loop-literal-test.true stands c.loop-literal.found c.joined.result c.joined.ensures c.loop-literal.invariant
 
 pub returns : goal.returns
 returns c = latest-end c.args.trail.now.entries.items c.args.literals.now c.loop-literal.literal-index c.loop-literal.found c.loop-literal-test.false c.loop-literal.invariant
