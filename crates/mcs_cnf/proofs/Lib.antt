@@ -1,0 +1,4 @@
+pub mod NumberLemmas
+pub mod ClauseLemmas
+pub mod ListLemmas
+pub mod Tables

@@ -1,0 +1,36 @@
+-- What holds of clause lists, entailments and certificates.
+use Rattle.std.specs.Prelude.{◌≡◌, ℕ, false, true, IsTrue, List, ℤ, Some, slice_get, ◌∷◌, [], ◌↔◌}
+use Rattle.std.specs.List.{AllByRecursion}
+use Rattle.mcs_base.specs.Listings.{IsAmong, IsListing}
+use Rattle.mcs_sets.specs.Sets.{has}
+use Rattle.mcs_system.specs.Plain.{Name, Formula}
+use Rattle.mcs_system.specs.Logic.{Entails}
+use Rattle.mcs_system.specs.Faults.{has_twins}
+use Rattle.mcs_trace.specs.Clauses.{LiteralBefore, IsUnsatisfiable}
+use Rattle.mcs_cnf.specs.ClauseLists.{clause_of, clause_list, IsOver, AreOver}
+use Rattle.mcs_cnf.specs.Meaning.{IsMeaning}
+use Rattle.mcs_cnf.specs.Entailments.{Entailment, says_yes, with_negated, IsAcceptedEntailment}
+use Rattle.mcs_cnf.specs.Classical.{IsAcceptedClassical}
+
+-- a clause is the set of its literals, listed in the order of literals
+abbrev pub ClausesAreSets : Type 0
+ClausesAreSets = (ls : List ℤ) → IsListing (λ l. IsAmong l ls) LiteralBefore (clause_of ls)
+
+abbrev pub ClausesMeanTheFormulas : Type 0
+ClausesMeanTheFormulas = (fs : List Formula) (names a : List Name) → AreOver names fs → has_twins names ≡ false → IsMeaning fs names a
+
+-- a formula follows exactly where nothing satisfies the clauses of the formulas with its negation
+abbrev pub EntailmentIsRefutation : Type 0
+EntailmentIsRefutation = (fs : List Formula) (g : Formula) (names : List Name) → AreOver names fs → IsOver names g → has_twins names ≡ false
+    → Entails fs g ↔ IsUnsatisfiable (clause_list (with_negated fs g) names).clauses
+
+-- an accepted entailment says `yes` exactly where the formula follows
+abbrev pub EntailmentsAreSound : Type 0
+EntailmentsAreSound = (fs : List Formula) (g : Formula) (names : List Name) (e : Entailment) → AreOver names fs → IsOver names g → has_twins names ≡ false
+    → IsAcceptedEntailment names fs g e → IsTrue (says_yes e) ↔ Entails fs g
+
+-- an accepted certificate shows one state, and in it exactly the beliefs that follow
+abbrev pub ClassicalCertificatesAreSound : Type 0
+ClassicalCertificatesAreSound = (fs beliefs : List Formula) (names : List Name) (outputs : List ℕ) (es : List Entailment) → AreOver names fs → AreOver names beliefs → has_twins names ≡ false
+    → IsAcceptedClassical fs beliefs names outputs es
+    → (s : ℕ) × (outputs ≡ s ∷ []) × ((b : ℕ) → IsTrue (has s b) ↔ ((g : Formula) × (slice_get beliefs b ≡ Some g) × Entails fs g))

@@ -1,0 +1,5 @@
+pub mod ClauseLists
+pub mod Meaning
+pub mod Entailments
+pub mod Classical
+pub mod Laws

@@ -1,0 +1,125 @@
+//! The clauses of formulas.
+
+ghost use Rattle.std.specs.Prelude.{◌≡◌, ◌≤◌, ◌++◌, [], ◌∷◌, length, map, IfOk};
+ghost use Rattle.mcs_system.specs.Plain as plain;
+ghost use Rattle.mcs_system.specs.Seen.{formula_of};
+ghost use Rattle.mcs_cnf.specs.ClauseLists.{atom_number, taken, number, formula_clauses, with_formulas, clause_list, IsOver, AreOver};
+
+use crate::literals::push_unit;
+use crate::occurrences::{
+    push_and, push_falsity, push_iff, push_implies, push_not, push_or, push_truth,
+};
+use mcs_base::Memory;
+use mcs_system::{Formula, Name};
+use mcs_trace::Cnf;
+use std::alloc::Global;
+
+/// The atom's place among the atoms, from 1.
+fn atom_number(atoms: &[Name], name: &Name) -> u64
+    ensures { result ≡ atom_number atoms.now name.now }
+{
+    for (index, atom) in atoms.iter().enumerate() {
+        if name.is(atom) {
+            return index as u64 + 1;
+        }
+    }
+    atoms.len() as u64 + 1
+}
+
+/// Adds the clauses of the occurrences in the formula; its own number.
+#[tactic(auto, using(crate::proofs::NumberLemmas::numbers_fit))]
+fn push_occurrences(
+    alloc: Global,
+    cnf: &mut Cnf,
+    atoms: &[Name],
+    formula: &Formula,
+) -> Result<u64, Memory>
+    requires over { IsOver atoms.now (formula_of formula.now) }
+    requires room { length atoms.now ≤ cnf.old.vars }
+    ensures number { IfOk result (λ n. n ≡ number atoms.now cnf.old.vars (formula_of formula.now)) }
+    ensures room { IfOk result (λ _. length atoms.now ≤ cnf.new.vars) }
+    ensures added { IfOk result
+        (λ _. cnf.new ≡ record {
+          vars = taken cnf.old.vars (formula_of formula.now);
+          clauses = cnf.old.clauses ++ formula_clauses atoms.now cnf.old.vars (formula_of formula.now);
+        }) }
+{
+    match formula {
+        Formula::True => push_truth(alloc, cnf),
+        Formula::False => push_falsity(alloc, cnf),
+        Formula::Atom(name) => Ok(atom_number(atoms, name)),
+        Formula::Not(g) => {
+            let x = push_occurrences(alloc, cnf, atoms, g)?;
+            push_not(alloc, cnf, x)
+        }
+        Formula::And(g, h) => {
+            let x = push_occurrences(alloc, cnf, atoms, g)?;
+            let y = push_occurrences(alloc, cnf, atoms, h)?;
+            push_and(alloc, cnf, x, y)
+        }
+        Formula::Or(g, h) => {
+            let x = push_occurrences(alloc, cnf, atoms, g)?;
+            let y = push_occurrences(alloc, cnf, atoms, h)?;
+            push_or(alloc, cnf, x, y)
+        }
+        Formula::Implies(g, h) => {
+            let x = push_occurrences(alloc, cnf, atoms, g)?;
+            let y = push_occurrences(alloc, cnf, atoms, h)?;
+            push_implies(alloc, cnf, x, y)
+        }
+        Formula::Iff(g, h) => {
+            let x = push_occurrences(alloc, cnf, atoms, g)?;
+            let y = push_occurrences(alloc, cnf, atoms, h)?;
+            push_iff(alloc, cnf, x, y)
+        }
+    }
+}
+
+/// Adds the clauses of one more formula, over the same atoms: those of its occurrences, whose numbers go on
+/// after the variables that are there, and the one that says that it is true.
+#[tactic(auto, using(crate::proofs::NumberLemmas::numbers_fit))]
+pub fn push_formula(
+    alloc: Global,
+    cnf: &mut Cnf,
+    atoms: &[Name],
+    formula: &Formula,
+) -> Result<(), Memory>
+    requires over { IsOver atoms.now (formula_of formula.now) }
+    requires room { length atoms.now ≤ cnf.old.vars }
+    ensures { IfOk result (λ _. cnf.new ≡ with_formulas atoms.now cnf.old (formula_of formula.now ∷ [])) }
+{
+    let n = push_occurrences(alloc, cnf, atoms, formula)?;
+    push_unit(alloc, cnf, n)
+}
+
+/// Adds the clauses of the negation of a formula over the same atoms, as `push_formula` does those of a formula.
+#[tactic(auto, using(crate::proofs::NumberLemmas::numbers_fit))]
+pub fn push_negation(
+    alloc: Global,
+    cnf: &mut Cnf,
+    atoms: &[Name],
+    formula: &Formula,
+) -> Result<(), Memory>
+    requires over { IsOver atoms.now (formula_of formula.now) }
+    requires room { length atoms.now ≤ cnf.old.vars }
+    ensures { IfOk result
+        (λ _. cnf.new ≡ with_formulas atoms.now cnf.old (plain.Not (formula_of formula.now) ∷ [])) }
+{
+    let x = push_occurrences(alloc, cnf, atoms, formula)?;
+    let n = push_not(alloc, cnf, x)?;
+    push_unit(alloc, cnf, n)
+}
+
+/// The clauses of formulas over the atoms, of which there is no other in them. Atom i has the number i, from 1;
+/// each occurrence of a subformula that is no atom has a number of its own, after the atoms' (Tseitin 1968).
+/// Linear in the sizes of the formulas, times the number of atoms.
+pub fn clauses(alloc: Global, formulas: &[Formula], atoms: &[Name]) -> Result<Cnf, Memory>
+    requires { AreOver atoms.now (map formula_of formulas.now) }
+    ensures { IfOk result (λ f. f ≡ clause_list (map formula_of formulas.now) atoms.now) }
+{
+    let mut cnf = Cnf::new(alloc, atoms.len() as u64);
+    for formula in formulas {
+        push_formula(alloc, &mut cnf, atoms, formula)?;
+    }
+    Ok(cnf)
+}

@@ -1,0 +1,29 @@
+//! Laws over the definitions. The functions do nothing: each contract is a law.
+
+ghost use Rattle.mcs_cnf.specs.Laws.{ClausesAreSets, ClausesMeanTheFormulas, EntailmentIsRefutation, EntailmentsAreSound, ClassicalCertificatesAreSound};
+
+/// A clause has its literals in order, each once.
+pub fn clauses_are_sets()
+    ensures { ClausesAreSets }
+{}
+
+/// An assignment of the atoms satisfies formulas exactly where it extends to one that satisfies their clauses,
+/// and then to only one (Tseitin 1968).
+pub fn clauses_mean_the_formulas()
+    ensures { ClausesMeanTheFormulas }
+{}
+
+/// A formula follows exactly where nothing satisfies the clauses of the formulas with its negation.
+pub fn entailment_is_refutation()
+    ensures { EntailmentIsRefutation }
+{}
+
+/// An accepted entailment says `yes` exactly where the formula follows.
+pub fn entailments_are_sound()
+    ensures { EntailmentsAreSound }
+{}
+
+/// An accepted certificate of a classical context shows one state, and in it exactly the beliefs that follow.
+pub fn classical_certificates_are_sound()
+    ensures { ClassicalCertificatesAreSound }
+{}

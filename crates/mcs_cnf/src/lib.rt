@@ -1,0 +1,15 @@
+//! The clauses of formulas, and what is accepted as showing that a formula follows from others.
+#![tactic(auto)]
+
+mod formulas;
+mod laws;
+mod literals;
+mod occurrences;
+#[cfg(test)]
+mod tests;
+
+pub use formulas::{clauses, push_formula, push_negation};
+pub use laws::{
+    classical_certificates_are_sound, clauses_are_sets, clauses_mean_the_formulas,
+    entailment_is_refutation, entailments_are_sound,
+};

@@ -1,0 +1,141 @@
+//! The clauses of one occurrence of a subformula.
+
+ghost use Rattle.std.specs.Prelude.{◌≡◌, ◌+◌, ◌<◌, ◌≤◌, ◌^◌, ◌++◌, IfOk};
+ghost use Rattle.mcs_cnf.specs.ClauseLists.{truth_clauses, falsity_clauses, not_clauses, and_clauses, or_clauses, implies_clauses, iff_clauses};
+
+use crate::literals::{no, push_clause, yes};
+use mcs_base::Memory;
+use mcs_trace::Cnf;
+use std::alloc::Global;
+
+/// The most variables that clauses can have.
+const MOST_VARIABLES: u64 = 0x7fff_ffff_ffff_ffff;
+
+/// The next number. Where all are taken the answer is want of memory, since no memory holds their clauses.
+fn next_number(cnf: &mut Cnf) -> Result<u64, Memory>
+    ensures number { IfOk result (λ n. n ≡ cnf.old.vars + 1) }
+    ensures fits { IfOk result (λ n. n < 2 ^ 63) }
+    ensures added { IfOk result (λ _. cnf.new ≡ record cnf.old { vars = cnf.old.vars + 1 }) }
+{
+    if cnf.vars() >= MOST_VARIABLES {
+        return Err(Memory);
+    }
+    Ok(cnf.add_variable())
+}
+
+/// Adds an occurrence of what is always true; its number.
+pub(crate) fn push_truth(alloc: Global, cnf: &mut Cnf) -> Result<u64, Memory>
+    ensures number { IfOk result (λ n. n ≡ cnf.old.vars + 1) }
+    ensures added { IfOk result
+        (λ _. cnf.new ≡ record {
+          vars = cnf.old.vars + 1;
+          clauses = cnf.old.clauses ++ truth_clauses (cnf.old.vars + 1);
+        }) }
+{
+    let n = next_number(cnf)?;
+    push_clause(alloc, cnf, &[yes(n)])?;
+    Ok(n)
+}
+
+/// Adds an occurrence of what is always false; its number.
+pub(crate) fn push_falsity(alloc: Global, cnf: &mut Cnf) -> Result<u64, Memory>
+    ensures number { IfOk result (λ n. n ≡ cnf.old.vars + 1) }
+    ensures added { IfOk result
+        (λ _. cnf.new ≡ record {
+          vars = cnf.old.vars + 1;
+          clauses = cnf.old.clauses ++ falsity_clauses (cnf.old.vars + 1);
+        }) }
+{
+    let n = next_number(cnf)?;
+    push_clause(alloc, cnf, &[no(n)])?;
+    Ok(n)
+}
+
+/// Adds an occurrence of the negation of `x`; its number.
+pub(crate) fn push_not(alloc: Global, cnf: &mut Cnf, x: u64) -> Result<u64, Memory>
+    requires part { (0 < x) × (x ≤ cnf.old.vars) }
+    ensures number { IfOk result (λ n. n ≡ cnf.old.vars + 1) }
+    ensures added { IfOk result
+        (λ _. cnf.new ≡ record {
+          vars = cnf.old.vars + 1;
+          clauses = cnf.old.clauses ++ not_clauses (cnf.old.vars + 1) x;
+        }) }
+{
+    let n = next_number(cnf)?;
+    push_clause(alloc, cnf, &[no(n), no(x)])?;
+    push_clause(alloc, cnf, &[yes(n), yes(x)])?;
+    Ok(n)
+}
+
+/// Adds an occurrence of `x` and `y`; its number.
+pub(crate) fn push_and(alloc: Global, cnf: &mut Cnf, x: u64, y: u64) -> Result<u64, Memory>
+    requires left { (0 < x) × (x ≤ cnf.old.vars) }
+    requires right { (0 < y) × (y ≤ cnf.old.vars) }
+    ensures number { IfOk result (λ n. n ≡ cnf.old.vars + 1) }
+    ensures added { IfOk result
+        (λ _. cnf.new ≡ record {
+          vars = cnf.old.vars + 1;
+          clauses = cnf.old.clauses ++ and_clauses (cnf.old.vars + 1) x y;
+        }) }
+{
+    let n = next_number(cnf)?;
+    push_clause(alloc, cnf, &[no(n), yes(x)])?;
+    push_clause(alloc, cnf, &[no(n), yes(y)])?;
+    push_clause(alloc, cnf, &[yes(n), no(x), no(y)])?;
+    Ok(n)
+}
+
+/// Adds an occurrence of `x` or `y`; its number.
+pub(crate) fn push_or(alloc: Global, cnf: &mut Cnf, x: u64, y: u64) -> Result<u64, Memory>
+    requires left { (0 < x) × (x ≤ cnf.old.vars) }
+    requires right { (0 < y) × (y ≤ cnf.old.vars) }
+    ensures number { IfOk result (λ n. n ≡ cnf.old.vars + 1) }
+    ensures added { IfOk result
+        (λ _. cnf.new ≡ record {
+          vars = cnf.old.vars + 1;
+          clauses = cnf.old.clauses ++ or_clauses (cnf.old.vars + 1) x y;
+        }) }
+{
+    let n = next_number(cnf)?;
+    push_clause(alloc, cnf, &[yes(n), no(x)])?;
+    push_clause(alloc, cnf, &[yes(n), no(y)])?;
+    push_clause(alloc, cnf, &[no(n), yes(x), yes(y)])?;
+    Ok(n)
+}
+
+/// Adds an occurrence of `x` implies `y`; its number.
+pub(crate) fn push_implies(alloc: Global, cnf: &mut Cnf, x: u64, y: u64) -> Result<u64, Memory>
+    requires left { (0 < x) × (x ≤ cnf.old.vars) }
+    requires right { (0 < y) × (y ≤ cnf.old.vars) }
+    ensures number { IfOk result (λ n. n ≡ cnf.old.vars + 1) }
+    ensures added { IfOk result
+        (λ _. cnf.new ≡ record {
+          vars = cnf.old.vars + 1;
+          clauses = cnf.old.clauses ++ implies_clauses (cnf.old.vars + 1) x y;
+        }) }
+{
+    let n = next_number(cnf)?;
+    push_clause(alloc, cnf, &[yes(n), yes(x)])?;
+    push_clause(alloc, cnf, &[yes(n), no(y)])?;
+    push_clause(alloc, cnf, &[no(n), no(x), yes(y)])?;
+    Ok(n)
+}
+
+/// Adds an occurrence of `x` if and only if `y`; its number.
+pub(crate) fn push_iff(alloc: Global, cnf: &mut Cnf, x: u64, y: u64) -> Result<u64, Memory>
+    requires left { (0 < x) × (x ≤ cnf.old.vars) }
+    requires right { (0 < y) × (y ≤ cnf.old.vars) }
+    ensures number { IfOk result (λ n. n ≡ cnf.old.vars + 1) }
+    ensures added { IfOk result
+        (λ _. cnf.new ≡ record {
+          vars = cnf.old.vars + 1;
+          clauses = cnf.old.clauses ++ iff_clauses (cnf.old.vars + 1) x y;
+        }) }
+{
+    let n = next_number(cnf)?;
+    push_clause(alloc, cnf, &[no(n), no(x), yes(y)])?;
+    push_clause(alloc, cnf, &[no(n), yes(x), no(y)])?;
+    push_clause(alloc, cnf, &[yes(n), yes(x), yes(y)])?;
+    push_clause(alloc, cnf, &[yes(n), no(x), no(y)])?;
+    Ok(n)
+}
