@@ -21,16 +21,16 @@ ClausesMeanTheFormulas = (fs : List Formula) (names a : List Name) → AreOver n
 
 -- a formula follows exactly where nothing satisfies the clauses of the formulas with its negation
 abbrev pub EntailmentIsRefutation : Type 0
-EntailmentIsRefutation = (fs : List Formula) (g : Formula) (names : List Name) → AreOver names fs → IsOver names g → has_twins names ≡ false
+EntailmentIsRefutation = (fs : List Formula) (g : Formula) (names : List Name) → AreOver names fs → IsOver names g
     → Entails fs g ↔ IsUnsatisfiable (clause_list (with_negated fs g) names).clauses
 
 -- an accepted entailment says `yes` exactly where the formula follows
 abbrev pub EntailmentsAreSound : Type 0
-EntailmentsAreSound = (fs : List Formula) (g : Formula) (names : List Name) (e : Entailment) → AreOver names fs → IsOver names g → has_twins names ≡ false
+EntailmentsAreSound = (fs : List Formula) (g : Formula) (names : List Name) (e : Entailment) → AreOver names fs → IsOver names g
     → IsAcceptedEntailment names fs g e → IsTrue (says_yes e) ↔ Entails fs g
 
 -- an accepted certificate shows one state, and in it exactly the beliefs that follow
 abbrev pub ClassicalCertificatesAreSound : Type 0
-ClassicalCertificatesAreSound = (fs beliefs : List Formula) (names : List Name) (outputs : List ℕ) (es : List Entailment) → AreOver names fs → AreOver names beliefs → has_twins names ≡ false
+ClassicalCertificatesAreSound = (fs beliefs : List Formula) (names : List Name) (outputs : List ℕ) (es : List Entailment) → AreOver names fs → AreOver names beliefs
     → IsAcceptedClassical fs beliefs names outputs es
     → (s : ℕ) × (outputs ≡ s ∷ []) × ((b : ℕ) → IsTrue (has s b) ↔ ((g : Formula) × (slice_get beliefs b ≡ Some g) × Entails fs g))

@@ -1,14 +1,13 @@
 -- What the clauses of formulas mean.
-use Rattle.std.specs.Prelude.{◌≡◌, ℕ, ◌+◌, ◌<◌, ◌≤◌, Bool, false, IsTrue, List, Some, slice_get}
+use Rattle.std.specs.Prelude.{◌≡◌, ℕ, ◌<◌, ◌≤◌, Bool, IsTrue, List}
 use Rattle.mcs_system.specs.Plain.{Name, Formula}
 use Rattle.mcs_system.specs.Logic.{is_in, holds_all}
-use Rattle.mcs_system.specs.Faults.{has_twins}
 use Rattle.mcs_trace.specs.Clauses.{all_hold}
-use Rattle.mcs_cnf.specs.ClauseLists.{clause_list, AreOver}
+use Rattle.mcs_cnf.specs.ClauseLists.{atom_number, clause_list}
 
--- the variables of the atoms have the values that the assignment gives the atoms
+-- the variable of each atom is true exactly where the atom is
 abbrev pub Extends : List Name → List Name → (ℕ → Bool) → Type 0
-Extends names a v = (i : ℕ) (n : Name) → slice_get names i ≡ Some n → v (i + 1) ≡ is_in n a
+Extends names a v = (n : Name) → IsTrue (is_in n names) → v (atom_number names n) ≡ is_in n a
 
 -- An assignment satisfies the formulas exactly where it extends to one of the variables that satisfies the
 -- clauses, and then to only one.
