@@ -1,14 +1,14 @@
 -- Clauses from literals in any order.
-use Rattle.std.proofs.Common.{◌≡◌, ℕ, ◌+◌, ◌<◌, ◌≤◌, zero, suc, Bool, true, false, not, ◌||◌, ltb, eqb, cond, List, [], ◌∷◌, ◌++◌, ◌⊎◌, ◌↔◌, inl, inr, length, take, get_or, arith, refl, sym, ap, ◌∙◌, subst, ℤ, pos, neg_ℤ}
+use Rattle.std.proofs.Common.{◌≡◌, ℕ, ◌+◌, ◌<◌, ◌≤◌, Bool, true, false, ltb, eqb, cond, List, [], ◌∷◌, ◌++◌, ◌⊎◌, ◌↔◌, inl, inr, length, take, get_or, arith, refl, sym, ◌∙◌, subst, ℤ, pos}
 use Rattle.std.proofs.lemmas.Bool.Decides.{nat_tests}
 use Rattle.std.proofs.lemmas.List.{take_more, take_all}
 use Rattle.std.specs.List.{AllByRecursion}
 use Rattle.std.specs.Int.RustNames.{unsigned_abs}
 use Rattle.mcs_base.specs.Listings.{IsAscending, IsAmong, IsListing}
 use Rattle.mcs_base.proofs.ListingLemmas.{all_among, all_from_among, same_listing}
-use Rattle.mcs_trace.specs.Clauses.{IsLiteral, IsWithin, place, LiteralBefore, literal_holds, clause_holds}
+use Rattle.mcs_trace.specs.Clauses.{IsLiteral, IsWithin, place, LiteralBefore}
 use Rattle.mcs_trace.proofs.OrderLemmas.{place-injective, before_asymmetric, among_get}
-use Rattle.mcs_cnf.specs.ClauseLists.{with_literal, clause_of, non}
+use Rattle.mcs_cnf.specs.ClauseLists.{with_literal, clause_of}
 
 -- ---- one more literal
 among_with : (k l : ℤ) (c : List ℤ) → IsAmong k (with_literal l c) → (k ≡ l) ⊎ IsAmong k c

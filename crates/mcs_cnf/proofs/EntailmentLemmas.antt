@@ -1,15 +1,15 @@
 -- A formula follows exactly where the clauses of the formulas with its negation are not satisfied.
-use Rattle.std.proofs.Common.{◌≡◌, ℕ, zero, suc, Bool, true, false, not, ◌&&◌, ◌||◌, cond, List, [], ◌∷◌, ◌++◌, ◌↔◌, map, filter, length, IsTrue, refl, sym, ap, ◌∙◌, subst, true≢false, Some, None, slice_get, ◌⊎◌, inl, inr}
+use Rattle.std.proofs.Common.{◌≡◌, ℕ, zero, suc, Bool, true, false, not, ◌&&◌, ◌||◌, cond, List, [], ◌∷◌, ◌↔◌, filter, length, IsTrue, refl, sym, ap, ◌∙◌, subst, true≢false, Some, None, slice_get}
 use Rattle.std.proofs.lemmas.Bool.{and_parts}
 use Rattle.mcs_sets.specs.Sets.{has}
-use Rattle.mcs_system.specs.Plain.{Name, Formula, Not}
+use Rattle.mcs_system.specs.Plain.{Name, Formula}
 use Rattle.mcs_system.specs.Logic.{same_name, is_in, holds, holds_all, true_names, Entails}
 use Rattle.mcs_system.proofs.Sameness.{same_name-is}
-use Rattle.mcs_trace.specs.Clauses.{all_hold, IsUnsatisfiable}
+use Rattle.mcs_trace.specs.Clauses.{IsUnsatisfiable}
 use Rattle.mcs_trace.proofs.TraceLemmas.{refutes-any}
-use Rattle.mcs_cnf.specs.ClauseLists.{atom_number, list_clauses, clause_list, IsOver, AreOver}
+use Rattle.mcs_cnf.specs.ClauseLists.{atom_number, list_clauses, IsOver, AreOver}
 use Rattle.mcs_cnf.specs.Meaning.{Extends}
-use Rattle.mcs_cnf.specs.Entailments.{Entailment, Yes, No, says_yes, with_negated, IsRefuted, IsAcceptedEntailment}
+use Rattle.mcs_cnf.specs.Entailments.{Entailment, Yes, No, says_yes, with_negated, IsAcceptedEntailment}
 use Rattle.mcs_cnf.specs.Classical.{AreAcceptedEntailments, HasYes, IsAcceptedClassical}
 use Rattle.mcs_cnf.proofs.MeaningLemmas.{both_true, extended, satisfied}
 use Rattle.mcs_cnf.proofs.NoZeros.{list_no_zero}

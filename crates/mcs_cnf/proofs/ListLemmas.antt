@@ -1,6 +1,5 @@
 -- The clauses of lists of formulas.
 use Rattle.std.proofs.Common.{◌≡◌, ℕ, ◌+◌, ◌<◌, ◌≤◌, List, [], ◌∷◌, ◌++◌, map, length, drop, get_or, refl, sym, ap, ◌∙◌, subst, append_assoc, arith, ℤ, pos}
-use Rattle.std.specs.List.{AllByRecursion}
 use Rattle.std.proofs.lemmas.List.{drop_more}
 use Rattle.mcs_system.specs.Plain.{Name, Formula}
 use Rattle.mcs_system.specs.Seen.{formula_of}

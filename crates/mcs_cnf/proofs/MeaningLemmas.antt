@@ -1,11 +1,11 @@
 -- The clauses of formulas mean the formulas.
-use Rattle.std.proofs.Common.{◌≡◌, ℕ, ◌+◌, ◌-◌, ◌<◌, ◌≤◌, Bool, true, false, not, ◌&&◌, ◌||◌, List, [], ◌∷◌, ◌++◌, ◌↔◌, length, length-append, get_or, arith, refl, sym, ap, ◌∙◌, subst, true≢false, ℤ, pos}
+use Rattle.std.proofs.Common.{◌≡◌, ℕ, ◌+◌, ◌-◌, Bool, true, false, not, ◌&&◌, ◌||◌, List, [], ◌∷◌, ◌++◌, ◌↔◌, length, length-append, get_or, arith, refl, sym, ap, ◌∙◌, subst, ℤ, pos}
 use Rattle.std.proofs.lemmas.Bool.{and_parts}
 use Rattle.mcs_system.specs.Plain.{Name, Formula, Truth, Falsity, Atom, Not, And, Or, Implies, Iff}
-use Rattle.mcs_system.specs.Logic.{is_in, holds, holds_all, both_or_neither}
+use Rattle.mcs_system.specs.Logic.{holds, holds_all, both_or_neither}
 use Rattle.mcs_system.specs.Faults.{has_twins}
 use Rattle.mcs_trace.specs.Clauses.{clause_holds, all_hold}
-use Rattle.mcs_cnf.specs.ClauseLists.{clause_of, truth_clauses, falsity_clauses, not_clauses, and_clauses, or_clauses, implies_clauses, iff_clauses, atom_number, taken, number, formula_clauses, taken_by_all, list_clauses, clause_list, IsOver, AreOver}
+use Rattle.mcs_cnf.specs.ClauseLists.{clause_of, not_clauses, and_clauses, or_clauses, implies_clauses, iff_clauses, taken, number, formula_clauses, taken_by_all, list_clauses, IsOver, AreOver}
 use Rattle.mcs_cnf.specs.Meaning.{Extends, IsMeaning}
 use Rattle.mcs_cnf.proofs.NumberLemmas.{number_positive}
 use Rattle.mcs_cnf.proofs.Tables.{clause_of-holds, truth_table, falsity_table, not_table, and_table, or_table, implies_table, iff_table, same_values, values_same}
@@ -163,6 +163,6 @@ meaning fs names a over single = record {
   satisfied = λ v extends h. satisfied fs names a v over extends h;
   only = λ v w extends h extends' h' k some most.
       let n : length (atom_values names a ++ all_values a fs) ≡ taken_by_all (length names) fs =
-          omega (arith, length-append (atom_values names a) (all_values a fs), length-atoms names a, all_values_taken a (length names) fs) in
+      omega (arith, length-append (atom_values names a) (all_values a fs), length-atoms names a, all_values_taken a (length names) fs) in
       reads_same v w 0 (atom_values names a ++ all_values a fs) k (all_read fs names a v over single extends h) (all_read fs names a w over single extends' h') some (omega arith);
 }

@@ -5,7 +5,7 @@ use Rattle.std.specs.List.{AllByRecursion}
 use Rattle.mcs_system.specs.Plain.{Name, Formula, Truth, Falsity, Atom, Not, And, Or, Implies, Iff}
 use Rattle.mcs_trace.proofs.OrderLemmas.{size-neg}
 use Rattle.mcs_trace.proofs.ResolventLemmas.{HasNoZero}
-use Rattle.mcs_cnf.specs.ClauseLists.{clause_of, non, truth_clauses, falsity_clauses, not_clauses, and_clauses, or_clauses, implies_clauses, iff_clauses, taken, number, formula_clauses, list_clauses}
+use Rattle.mcs_cnf.specs.ClauseLists.{clause_of, non, not_clauses, and_clauses, or_clauses, implies_clauses, iff_clauses, taken, number, formula_clauses, list_clauses}
 use Rattle.mcs_cnf.proofs.ClauseLemmas.{all_clause}
 use Rattle.mcs_cnf.proofs.NumberLemmas.{number_positive}
 

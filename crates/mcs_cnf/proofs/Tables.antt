@@ -1,5 +1,5 @@
 -- What the clauses of one occurrence say.
-use Rattle.std.proofs.Common.{◌≡◌, ℕ, ◌+◌, ◌<◌, zero, suc, Bool, true, false, not, ◌&&◌, ◌||◌, ltb, eqb, cond, List, [], ◌∷◌, ◌++◌, arith, refl, sym, ap, ◌∙◌, ℤ, pos, true≢false}
+use Rattle.std.proofs.Common.{◌≡◌, ℕ, ◌+◌, ◌<◌, zero, suc, Bool, true, false, not, ◌&&◌, ◌||◌, ltb, eqb, cond, List, [], ◌∷◌, arith, refl, sym, ap, ◌∙◌, ℤ, pos, true≢false}
 use Rattle.std.proofs.lemmas.Bool.Decides.{nat_tests}
 use Rattle.mcs_system.specs.Logic.{both_or_neither}
 use Rattle.mcs_trace.specs.Clauses.{place, literal_holds, clause_holds, all_hold}

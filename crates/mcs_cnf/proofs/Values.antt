@@ -1,5 +1,5 @@
 -- What the occurrences in formulas are worth, and assignments that say so.
-use Rattle.std.proofs.Common.{◌≡◌, ℕ, ◌+◌, ◌-◌, ◌<◌, ◌≤◌, ◌⊎◌, inl, inr, zero, suc, Bool, true, false, not, ◌&&◌, ◌||◌, cond, List, [], ◌∷◌, ◌++◌, ◌↔◌, map, filter, length, get_or, arith, refl, sym, ap, ◌∙◌, subst, true≢false, length-append, append_assoc}
+use Rattle.std.proofs.Common.{◌≡◌, ℕ, ◌+◌, ◌-◌, ◌<◌, ◌≤◌, inl, inr, suc, Bool, true, false, not, ◌&&◌, ◌||◌, cond, List, [], ◌∷◌, ◌++◌, ◌↔◌, map, length, get_or, arith, refl, sym, ap, ◌∙◌, subst, true≢false, length-append, append_assoc}
 use Rattle.std.proofs.lemmas.Bool.{cases_lt}
 use Rattle.mcs_system.specs.Plain.{Name, Formula, Truth, Falsity, Atom, Not, And, Or, Implies, Iff}
 use Rattle.mcs_system.specs.Logic.{same_name, is_in, holds, both_or_neither}
@@ -29,7 +29,7 @@ reads_those before (b ∷ bs) =
     let n : length (before ++ b ∷ []) ≡ length before + 1 = omega (arith, length-append before (b ∷ [])) in (
       at before b bs,
       subst (λ (xs : List Bool). Reads (λ k. get_or xs (k - 1) false) (length before + 1) bs) (sym e)
-      (subst (λ m. Reads (λ k. get_or ((before ++ b ∷ []) ++ bs) (k - 1) false) m bs) n (reads_those (before ++ b ∷ []) bs)),
+          (subst (λ m. Reads (λ k. get_or ((before ++ b ∷ []) ++ bs) (k - 1) false) m bs) n (reads_those (before ++ b ∷ []) bs)),
     )
   where
     at : (xs : List Bool) (b : Bool) (bs : List Bool) → get_or (xs ++ b ∷ bs) (length xs + 1 - 1) false ≡ b

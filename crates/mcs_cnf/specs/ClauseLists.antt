@@ -1,5 +1,5 @@
 -- The clauses of formulas, by a variable for each occurrence of a subformula (Tseitin 1968).
-use Rattle.std.specs.Prelude.{ℕ, ◌+◌, cond, Bool, nat_lt, nat_eq, IsTrue, List, [], ◌∷◌, ◌++◌, length, ℤ, pos, neg_ℤ}
+use Rattle.std.specs.Prelude.{ℕ, ◌+◌, cond, nat_lt, nat_eq, IsTrue, List, [], ◌∷◌, ◌++◌, length, ℤ, pos, neg_ℤ}
 use Rattle.std.specs.List.{AllByRecursion}
 use Rattle.mcs_system.specs.Plain.{Name, Formula, Truth, Falsity, Atom, Not, And, Or, Implies, Iff}
 use Rattle.mcs_system.specs.Logic.{same_name, is_in}

@@ -1,6 +1,5 @@
 -- What holds of clause lists, entailments and certificates.
-use Rattle.std.specs.Prelude.{◌≡◌, ℕ, false, true, IsTrue, List, ℤ, Some, slice_get, ◌∷◌, [], ◌↔◌}
-use Rattle.std.specs.List.{AllByRecursion}
+use Rattle.std.specs.Prelude.{◌≡◌, ℕ, false, IsTrue, List, ℤ, Some, slice_get, ◌∷◌, [], ◌↔◌}
 use Rattle.mcs_base.specs.Listings.{IsAmong, IsListing}
 use Rattle.mcs_sets.specs.Sets.{has}
 use Rattle.mcs_system.specs.Plain.{Name, Formula}

@@ -110,9 +110,9 @@ pub fn push_negation(
     push_unit(alloc, cnf, n)
 }
 
-/// The clauses of formulas over the atoms, of which there is no other in them. Atom i has the number i, from 1;
-/// each occurrence of a subformula that is no atom has a number of its own, after the atoms' (Tseitin 1968).
-/// Linear in the sizes of the formulas, times the number of atoms.
+/// The clauses of formulas whose atoms are among `atoms`. Atom i has the variable i, from 1; each occurrence of
+/// a subformula that is no atom has a variable of its own, from the next number on (Tseitin 1968). The work is
+/// linear in the sizes of the formulas, times the number of atoms.
 pub fn clauses(alloc: Global, formulas: &[Formula], atoms: &[Name]) -> Result<Cnf, Memory>
     requires { AreOver atoms.now (map formula_of formulas.now) }
     ensures { IfOk result (λ f. f ≡ clause_list (map formula_of formulas.now) atoms.now) }

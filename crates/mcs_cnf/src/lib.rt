@@ -5,6 +5,7 @@ mod formulas;
 mod laws;
 mod literals;
 mod occurrences;
+mod over;
 #[cfg(test)]
 mod tests;
 
@@ -13,3 +14,4 @@ pub use laws::{
     classical_certificates_are_sound, clauses_are_sets, clauses_mean_the_formulas,
     entailment_is_refutation, entailments_are_sound,
 };
+pub use over::{are_different, are_over, is_over};

@@ -13,5 +13,5 @@ loop-formula-preserved c =
     record {
       all = rest_pushed names c.loop-formula.cnf c.push_formula.new.cnf fs i f c.loop-formula-test.true c.formula-item.is pushed ∙ c.loop-formula.invariant.all;
       over = (rest_over names fs i f c.loop-formula-test.true c.formula-item.is c.loop-formula.invariant.over).1;
-      room = room_kept names c.loop-formula.cnf c.push_formula.new.cnf (formula_of f) c.loop-formula.invariant.room pushed
+      room = room_kept names c.loop-formula.cnf c.push_formula.new.cnf (formula_of f) c.loop-formula.invariant.room pushed;
     }

@@ -1,4 +1,4 @@
-use Rattle.std.proofs.Common.{◌≡◌, ◌≤◌, ◌+◌, drop, map, length}
+use Rattle.std.proofs.Common.{◌≡◌, ◌≤◌, drop, map, length}
 use Rattle.mcs_system.specs.Seen.{formula_of}
 use Rattle.mcs_cnf.specs.ClauseLists.{with_formulas, clause_list, AreOver}
 use Rattle.mcs_cnf.proofs.formulas.clauses.Given as goal

@@ -1,4 +1,4 @@
-use Rattle.std.proofs.Common.{ℤ, get_or, pos, to_z-of_z}
+use Rattle.std.proofs.Common.{get_or, pos, to_z-of_z}
 use Rattle.mcs_trace.specs.Clauses.{IsLiteral}
 use Rattle.mcs_trace.proofs.OrderLemmas.{fits_literal}
 use Rattle.mcs_cnf.proofs.ClauseLemmas.{listing_more, listing_all, literal_of}

@@ -1,4 +1,4 @@
-use Rattle.std.proofs.Common.{ℤ, List, sym, subst}
+use Rattle.std.proofs.Common.{sym, subst}
 use Rattle.mcs_trace.specs.Clauses.{IsWithin}
 use Rattle.mcs_cnf.proofs.ClauseLemmas.{clause_within}
 use Rattle.mcs_cnf.proofs.literals.push_clause.Goals as goal
