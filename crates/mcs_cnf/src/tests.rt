@@ -67,7 +67,7 @@ fn each_connective_has_its_clauses(rt: HostRuntime) -> Result<(), Fail> {
         &[3],
         &[3],
         &[-4],
-        &[-4],
+        &[4],
         &[-1, -5],
         &[1, 5],
         &[5],
