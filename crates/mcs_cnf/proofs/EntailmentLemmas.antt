@@ -10,7 +10,7 @@ use Rattle.mcs_trace.proofs.TraceLemmas.{refutes-any}
 use Rattle.mcs_cnf.specs.ClauseLists.{atom_number, list_clauses, IsOver, AreOver}
 use Rattle.mcs_cnf.specs.Meaning.{Extends}
 use Rattle.mcs_cnf.specs.Entailments.{Entailment, Yes, No, says_yes, with_negated, IsAcceptedEntailment}
-use Rattle.mcs_cnf.specs.Classical.{AreAcceptedEntailments, HasYes, IsAcceptedClassical}
+use Rattle.mcs_cnf.specs.Classical.{AreAcceptedEntailments, HasYes, IsAcceptedClassical, FollowsAt}
 use Rattle.mcs_cnf.proofs.MeaningLemmas.{both_true, extended, satisfied}
 use Rattle.mcs_cnf.proofs.NoZeros.{list_no_zero}
 
@@ -85,9 +85,6 @@ sound fs g names (No places) over over' refuted =
     (λ e. absurd (true≢false (sym e)), λ follows. absurd (true≢false (sym (follows (true_names 0 names places) refuted.formulas) ∙ refuted.goal)))
 
 -- ---- accepted certificates
-abbrev pub FollowsAt : List Formula → List Formula → ℕ → Type 0
-FollowsAt fs beliefs b = (g : Formula) × (slice_get beliefs b ≡ Some g) × Entails fs g
-
 yes_at : (fs : List Formula) (names : List Name) (beliefs : List Formula) (es : List Entailment) (b : ℕ) → AreOver names fs → AreOver names beliefs → AreAcceptedEntailments names fs beliefs es → HasYes es b ↔ FollowsAt fs beliefs b
 yes_at fs names [] [] b over over' accepted = (λ e. let no_one : None ≡ Some true = e in absurd (cc), λ (g, e, follows). let no_one : None ≡ Some g = e in absurd (cc))
 yes_at fs names [] (e ∷ es) b over over' accepted = absurd accepted

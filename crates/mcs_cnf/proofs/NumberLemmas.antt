@@ -14,7 +14,7 @@ taken_grows k (Or f g) = omega (arith, taken_grows k f, taken_grows (taken k f) 
 taken_grows k (Implies f g) = omega (arith, taken_grows k f, taken_grows (taken k f) g)
 taken_grows k (Iff f g) = omega (arith, taken_grows k f, taken_grows (taken k f) g)
 
-atom_positive : (names : List Name) (n : Name) → 0 < atom_number names n
+pub atom_positive : (names : List Name) (n : Name) → 0 < atom_number names n
 atom_positive [] n = omega arith
 atom_positive (m ∷ names) n = at (same_name n m)
   where
@@ -22,7 +22,7 @@ atom_positive (m ∷ names) n = at (same_name n m)
     at true = omega arith
     at false = omega arith
 
-atom_within : (names : List Name) (n : Name) → is_in n names ≡ true → atom_number names n ≤ length names
+pub atom_within : (names : List Name) (n : Name) → is_in n names ≡ true → atom_number names n ≤ length names
 atom_within [] n known = absurd (true≢false (sym known))
 atom_within (m ∷ names) n known = at (same_name n m) known (atom_within names n)
   where

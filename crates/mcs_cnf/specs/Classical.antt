@@ -2,6 +2,7 @@
 use Rattle.std.specs.Prelude.{◌≡◌, ℕ, true, IsTrue, List, [], ◌∷◌, ◌↔◌, map, Some, slice_get}
 use Rattle.mcs_sets.specs.Sets.{has}
 use Rattle.mcs_system.specs.Plain.{Name, Formula}
+use Rattle.mcs_system.specs.Logic.{Entails}
 use Rattle.mcs_trace.specs.declared.certificate.ClassicalCert as code
 use Rattle.mcs_cnf.specs.Entailments.{Entailment, entailment_of, says_yes, IsAcceptedEntailment}
 
@@ -25,3 +26,7 @@ pub record IsAcceptedClassical (fs beliefs : List Formula) (names : List Name) (
 
 abbrev pub certificate_of : code.ClassicalCert → List Entailment
 certificate_of c = map entailment_of c.entails.items
+
+-- the belief of this number follows from the formulas
+abbrev pub FollowsAt : List Formula → List Formula → ℕ → Type 0
+FollowsAt fs beliefs b = (g : Formula) × (slice_get beliefs b ≡ Some g) × Entails fs g

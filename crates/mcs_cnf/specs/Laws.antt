@@ -9,7 +9,7 @@ use Rattle.mcs_trace.specs.Clauses.{LiteralBefore, IsUnsatisfiable}
 use Rattle.mcs_cnf.specs.ClauseLists.{clause_of, clause_list, IsOver, AreOver}
 use Rattle.mcs_cnf.specs.Meaning.{IsMeaning}
 use Rattle.mcs_cnf.specs.Entailments.{Entailment, says_yes, with_negated, IsAcceptedEntailment}
-use Rattle.mcs_cnf.specs.Classical.{IsAcceptedClassical}
+use Rattle.mcs_cnf.specs.Classical.{FollowsAt, IsAcceptedClassical}
 
 -- a clause is the set of its literals, listed in the order of literals
 abbrev pub ClausesAreSets : Type 0
@@ -32,4 +32,4 @@ EntailmentsAreSound = (fs : List Formula) (g : Formula) (names : List Name) (e :
 abbrev pub ClassicalCertificatesAreSound : Type 0
 ClassicalCertificatesAreSound = (fs beliefs : List Formula) (names : List Name) (outputs : List ℕ) (es : List Entailment) → AreOver names fs → AreOver names beliefs
     → IsAcceptedClassical fs beliefs names outputs es
-    → (s : ℕ) × (outputs ≡ s ∷ []) × ((b : ℕ) → IsTrue (has s b) ↔ ((g : Formula) × (slice_get beliefs b ≡ Some g) × Entails fs g))
+    → (s : ℕ) × (outputs ≡ s ∷ []) × ((b : ℕ) → IsTrue (has s b) ↔ FollowsAt fs beliefs b)

@@ -55,8 +55,9 @@ fn are_those(clauses: &[Clause], expected: &[&[i64]]) -> bool {
 #[test]
 fn each_connective_has_its_clauses(rt: HostRuntime) -> Result<(), Fail> {
     let alloc = rt.alloc();
-    let atoms = [named(alloc, b"x")?, named(alloc, b"y")?];
-    let formulas = each_connective(alloc, &atoms[0], &atoms[1])?;
+    let (x, y) = (named(alloc, b"x")?, named(alloc, b"y")?);
+    let formulas = each_connective(alloc, &x, &y)?;
+    let atoms = [x, y];
     assert!(rt; are_different(&atoms));
     assert!(rt; !are_different(&[named(alloc, b"x")?, named(alloc, b"x")?]));
     assert!(rt; !are_over(&atoms[1..], &formulas));
@@ -100,16 +101,17 @@ fn each_connective_has_its_clauses(rt: HostRuntime) -> Result<(), Fail> {
 #[test]
 fn what_contradicts_itself_entails_everything(rt: HostRuntime) -> Result<(), Fail> {
     let alloc = rt.alloc();
-    let atoms = [named(alloc, b"p")?, named(alloc, b"q")?];
-    let p = Formula::Atom(atoms[0].copy(alloc)?);
-    let goal = Formula::Atom(atoms[1].copy(alloc)?);
-    assert!(rt; is_over(&atoms, &p));
+    let (p, q) = (named(alloc, b"p")?, named(alloc, b"q")?);
+    let fact = Formula::Atom(p.copy(alloc)?);
+    let goal = Formula::Atom(q.copy(alloc)?);
+    let atoms = [p, q];
+    assert!(rt; is_over(&atoms, &fact));
     assert!(rt; is_over(&atoms, &goal));
-    assert!(rt; !is_over(&atoms[1..], &p));
+    assert!(rt; !is_over(&atoms[1..], &fact));
     assert!(rt; are_over(&atoms, &[]));
     let mut cnf = clauses(alloc, &[], &atoms)?;
-    push_formula(alloc, &mut cnf, &atoms, &p)?;
-    push_negation(alloc, &mut cnf, &atoms, &p)?;
+    push_formula(alloc, &mut cnf, &atoms, &fact)?;
+    push_negation(alloc, &mut cnf, &atoms, &fact)?;
     push_negation(alloc, &mut cnf, &atoms, &goal)?;
     assert_eq!(rt; cnf.vars(), 4);
     let expected: [&[i64]; 7] = [&[1], &[-1, -3], &[1, 3], &[3], &[-2, -4], &[2, 4], &[4]];
