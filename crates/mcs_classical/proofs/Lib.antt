@@ -1,1 +1,2 @@
 pub mod RefutingLemmas
+pub mod OutputLemmas
