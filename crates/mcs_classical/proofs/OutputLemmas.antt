@@ -3,13 +3,15 @@ use Rattle.std.proofs.Common.{◌≡◌, ℕ, ◌+◌, ◌<◌, ◌≤◌, zero,
 use Rattle.std.proofs.lemmas.Bool.Decides.{nat_tests}
 use Rattle.std.proofs.lemmas.List.{take_more, take_all}
 use Rattle.mcs_sets.specs.Sets.{has, single, union}
-use Rattle.mcs_sets.proofs.SetLemmas.{has-union, has-single}
+use Rattle.mcs_sets.proofs.SetLemmas.{has-empty, has-union, has-single}
 use Rattle.mcs_system.specs.Plain.{Name, Formula}
 use Rattle.mcs_system.specs.Seen.{formula_of}
 use Rattle.mcs_system.specs.declared.formula.Formula as code
 use Rattle.mcs_trace.specs.declared.certificate.Entail.{Entail}
 use Rattle.mcs_cnf.specs.Entailments.{Entailment, entailment_of, says_yes, IsAcceptedEntailment}
-use Rattle.mcs_cnf.specs.Classical.{AreAcceptedEntailments, HasYes}
+use Rattle.mcs_cnf.specs.Classical.{AreAcceptedEntailments, HasYes, IsAcceptedClassical, FollowsAt}
+use Rattle.mcs_cnf.specs.ClauseLists.{AreOver}
+use Rattle.mcs_cnf.proofs.EntailmentLemmas.{classical_sound}
 
 -- ---- one more entailment
 accepted-push : (names : List Name) (fs gs : List Formula) (es : List Entailment) (g : Formula) (e : Entailment) → AreAcceptedEntailments names fs gs es → IsAcceptedEntailment names fs g e → AreAcceptedEntailments names fs (gs ++ g ∷ []) (es ++ e ∷ [])
@@ -26,8 +28,8 @@ accepted-length names fs (h ∷ gs) (x ∷ es) all = ap suc (accepted-length nam
 
 yes-push : (es : List Entailment) (e : Entailment) (b : ℕ) → HasYes (es ++ e ∷ []) b ↔ (HasYes es b ⊎ ((b ≡ length es) × (says_yes e ≡ true)))
 yes-push [] e zero = (
-  λ h. let yes : says_yes e ≡ true = cc in inr (refl, yes),
-  λ h. elim h [ inl no_one ↦ let impossible : None ≡ Some true = no_one in absurd (cc) | inr (_, yes) ↦ ap Some yes ],
+  λ h. let said : says_yes e ≡ true = cc in inr (refl, said),
+  λ h. elim h [ inl no_one ↦ let impossible : None ≡ Some true = no_one in absurd (cc) | inr (_, said) ↦ ap Some said ],
 )
 yes-push [] e (suc b) = (
   λ h. let impossible : None ≡ Some true = h in absurd (cc),
@@ -38,8 +40,8 @@ yes-push (x ∷ es) e zero = (
   λ h. elim h [ inl old ↦ old | inr (last, _) ↦ absurd (omega arith) ],
 )
 yes-push (x ∷ es) e (suc b) = (
-  λ h. elim ((yes-push es e b).0 h) [ inl old ↦ inl old | inr (last, yes) ↦ inr (ap suc last, yes) ],
-  λ h. (yes-push es e b).1 (elim h as (λ _. HasYes es b ⊎ ((b ≡ length es) × (says_yes e ≡ true))) [ inl old ↦ inl old | inr (last, yes) ↦ inr (ap pred last, yes) ]),
+  λ h. elim ((yes-push es e b).0 h) [ inl old ↦ inl old | inr (last, said) ↦ inr (ap suc last, said) ],
+  λ h. (yes-push es e b).1 (elim h as (λ _. HasYes es b ⊎ ((b ≡ length es) × (says_yes e ≡ true))) [ inl old ↦ inl old | inr (last, said) ↦ inr (ap pred last, said) ]),
 )
 
 with_number : (s i : ℕ) (b : ℕ) → (has (union s (single i)) b ≡ true) ↔ ((has s b ≡ true) ⊎ (b ≡ i))
@@ -60,13 +62,13 @@ yes-more : (s i : ℕ) (es : List Entailment) (e : Entailment) (b : ℕ) → len
 yes-more s i es e b len old = at (says_yes e) refl
   where
     at : (p : Bool) → says_yes e ≡ p → (has (cond p (union s (single i)) s) b ≡ true) ↔ HasYes (es ++ e ∷ []) b
-    at true yes = (
-      λ h. (yes-push es e b).1 (elim ((with_number s i b).0 h) as (λ _. HasYes es b ⊎ ((b ≡ length es) × (says_yes e ≡ true))) [ inl is ↦ inl (old.0 is) | inr last ↦ inr (last ∙ sym len, yes) ]),
+    at true said = (
+      λ h. (yes-push es e b).1 (elim ((with_number s i b).0 h) as (λ _. HasYes es b ⊎ ((b ≡ length es) × (says_yes e ≡ true))) [ inl is ↦ inl (old.0 is) | inr last ↦ inr (last ∙ sym len, said) ]),
       λ h. (with_number s i b).1 (elim ((yes-push es e b).0 h) as (λ _. (has s b ≡ true) ⊎ (b ≡ i)) [ inl is ↦ inl (old.1 is) | inr (last, _) ↦ inr (last ∙ len) ]),
     )
-    at false not_yes = (
+    at false not_said = (
       λ h. (yes-push es e b).1 (inl (old.0 h)),
-      λ h. elim ((yes-push es e b).0 h) [ inl is ↦ old.1 is | inr (last, yes) ↦ absurd (true≢false (sym yes ∙ not_yes)) ],
+      λ h. elim ((yes-push es e b).0 h) [ inl is ↦ old.1 is | inr (last, said) ↦ absurd (true≢false (sym said ∙ not_said)) ],
     )
 
 -- ---- the code's loop
@@ -105,3 +107,24 @@ shown-more names fs beliefs i state state' es es' f e less is next pushed accept
       yes = λ b. subst (λ (ys : List Entailment). (has state' b ≡ true) ↔ HasYes ys b) (sym xs)
           (subst (λ (s : ℕ). (has s b ≡ true) ↔ HasYes (map entailment_of es ++ entailment_of e ∷ []) b) (sym next) (yes-more state i (map entailment_of es) (entailment_of e) b len (shown.yes b)));
     }
+
+pub shown-none : (names : List Name) (fs : List Formula) (beliefs : List code.Formula) → IsShown names fs beliefs 0 0 []
+shown-none names fs beliefs = record {
+  accepted = tt;
+  yes = λ b. (λ h. absurd (true≢false (sym h ∙ has-empty b)), λ no_one. let impossible : None ≡ Some true = no_one in absurd (cc));
+}
+
+pub shown-all : (names : List Name) (fs : List Formula) (beliefs : List code.Formula) (i state : ℕ) (es : List Entail) → length beliefs ≤ i → IsShown names fs beliefs i state es → IsAcceptedClassical fs (map formula_of beliefs) names (state ∷ []) (map entailment_of es)
+shown-all names fs beliefs i state es past shown = record {
+  entailments = subst (λ (bs : List code.Formula). AreAcceptedEntailments names fs (map formula_of bs) (map entailment_of es)) (take_all i beliefs past) shown.accepted;
+  state = state;
+  only = refl;
+  exactly = shown.yes;
+}
+
+-- the state of an accepted certificate has exactly what follows
+pub exact : (fs beliefs : List Formula) (names : List Name) (s : ℕ) (es : List Entailment) → AreOver names fs → AreOver names beliefs → IsAcceptedClassical fs beliefs names (s ∷ []) es → (b : ℕ) → (has s b ≡ true) ↔ FollowsAt fs beliefs b
+exact fs beliefs names s es over over' accepted b =
+    let (t, one, follows) = classical_sound fs beliefs names (s ∷ []) es over over' accepted in
+    let same : s ≡ t = cc in
+    subst (λ (x : ℕ). (has x b ≡ true) ↔ FollowsAt fs beliefs b) (sym same) (follows b)
