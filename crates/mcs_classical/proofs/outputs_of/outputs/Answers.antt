@@ -14,7 +14,7 @@ loop-number-init c =
       clauses = c.in_ok-known.ensures;
       over = c.requires.beliefs;
       shown = subst (λ (es : List Entail). IsShown names fs c.args.beliefs.now 0 c.empty-state.result es) (sym c.new-entails.ensures.items)
-          (subst (λ (s : ℕ). IsShown names fs c.args.beliefs.now 0 s []) (sym c.empty-state.ensures) (shown-none names fs c.args.beliefs.now))
+          (subst (λ (s : ℕ). IsShown names fs c.args.beliefs.now 0 s []) (sym c.empty-state.ensures) (shown-none names fs c.args.beliefs.now));
     }
 
 pub loop-number-preserved : goal.loop-number-preserved
@@ -30,7 +30,7 @@ loop-number-preserved c =
       clauses = c.in_ok-entail.ensures.kept ∙ before.clauses;
       over = (rest_over names c.args.beliefs.now i belief less is before.over).1;
       shown = shown-more names fs c.args.beliefs.now i c.loop-number.state c.with_yes-state.result c.loop-number.entails.items c.push.new.self.items belief c.in_ok-entail.entail less is
-          c.with_yes-state.ensures c.in_ok-push.ensures.items (c.in_ok-entail.ensures.accepted fs before.clauses c.requires.kb) before.shown
+          c.with_yes-state.ensures c.in_ok-push.ensures.items (c.in_ok-entail.ensures.accepted fs before.clauses c.requires.kb) before.shown;
     }
 
 pub entails_from-requires-clause-goal : goal.entails_from-requires-clause-goal

@@ -9,5 +9,5 @@ invariant-loop-number l =
     record {
       clauses : l.known ≡ clause_list (map formula_of l.kb) l.atoms;
       over : AreOver l.atoms (map formula_of (drop l.number l.beliefs));
-      shown : IsShown l.atoms (map formula_of l.kb) l.beliefs l.number l.state l.entails.items
+      shown : IsShown l.atoms (map formula_of l.kb) l.beliefs l.number l.state l.entails.items;
     }
