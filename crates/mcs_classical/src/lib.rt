@@ -2,10 +2,10 @@
 #![tactic(auto)]
 
 mod consequence;
-mod outputs_of;
+mod beliefs;
 mod refuting;
 #[cfg(test)]
 mod tests;
 
 pub use consequence::{entails, entails_from};
-pub use outputs_of::outputs;
+pub use beliefs::outputs;

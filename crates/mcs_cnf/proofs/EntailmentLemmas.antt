@@ -15,7 +15,7 @@ use Rattle.mcs_cnf.proofs.MeaningLemmas.{both_true, extended, satisfied}
 use Rattle.mcs_cnf.proofs.NoZeros.{list_no_zero}
 
 -- ---- the assignment that variables stand for
-is_in-filter : (p : Name → Bool) (n : Name) (names : List Name) → is_in n (filter p names) ≡ (is_in n names && p n)
+pub is_in-filter : (p : Name → Bool) (n : Name) (names : List Name) → is_in n (filter p names) ≡ (is_in n names && p n)
 is_in-filter p n [] = refl
 is_in-filter p n (m ∷ names) = at (is_in-filter p n names) (p m) refl (same_name n m) refl
   where

@@ -6,3 +6,4 @@ pub mod Values
 pub mod MeaningLemmas
 pub mod NoZeros
 pub mod EntailmentLemmas
+pub mod OverLemmas

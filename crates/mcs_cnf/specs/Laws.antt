@@ -2,8 +2,9 @@
 use Rattle.std.specs.Prelude.{◌≡◌, ℕ, false, IsTrue, List, ℤ, Some, slice_get, ◌∷◌, [], ◌↔◌}
 use Rattle.mcs_base.specs.Listings.{IsAmong, IsListing}
 use Rattle.mcs_sets.specs.Sets.{has}
-use Rattle.mcs_system.specs.Plain.{Name, Formula}
-use Rattle.mcs_system.specs.Logic.{Entails}
+use Rattle.mcs_system.specs.Plain.{Name, Formula, System}
+use Rattle.mcs_system.specs.Logic.{is_in, atoms, Entails}
+use Rattle.mcs_system.specs.Atoms.{atom_occurrences, atoms_of}
 use Rattle.mcs_system.specs.Faults.{has_twins}
 use Rattle.mcs_trace.specs.Clauses.{LiteralBefore, IsUnsatisfiable}
 use Rattle.mcs_cnf.specs.ClauseLists.{clause_of, clause_list, IsOver, AreOver}
@@ -33,3 +34,12 @@ abbrev pub ClassicalCertificatesAreSound : Type 0
 ClassicalCertificatesAreSound = (fs beliefs : List Formula) (names : List Name) (outputs : List ℕ) (es : List Entailment) → AreOver names fs → AreOver names beliefs
     → IsAcceptedClassical fs beliefs names outputs es
     → (s : ℕ) × (outputs ≡ s ∷ []) × ((b : ℕ) → IsTrue (has s b) ↔ FollowsAt fs beliefs b)
+
+-- a formula is over names exactly where each of its atoms is one of them
+abbrev pub FormulasAreOverTheirAtoms : Type 0
+FormulasAreOverTheirAtoms = (names : List Name) (f : Formula) → IsOver names f ↔ ((n : Name) → IsTrue (is_in n (atoms f)) → IsTrue (is_in n names))
+
+-- no two atoms of a context have one name, and a formula whose atoms occur in the context is over its atoms
+abbrev pub ContextsAreOverTheirAtoms : Type 0
+ContextsAreOverTheirAtoms = (m : System) (i : ℕ)
+    → (has_twins (atoms_of m i) ≡ false) × ((f : Formula) → ((n : Name) → IsTrue (is_in n (atoms f)) → IsTrue (is_in n (atom_occurrences m i))) → IsOver (atoms_of m i) f)

@@ -1,6 +1,6 @@
 //! Laws over the definitions. The functions do nothing: each contract is a law.
 
-ghost use Rattle.mcs_cnf.specs.Laws.{ClausesAreSets, ClausesMeanTheFormulas, EntailmentIsRefutation, EntailmentsAreSound, ClassicalCertificatesAreSound};
+ghost use Rattle.mcs_cnf.specs.Laws.{ClausesAreSets, ClausesMeanTheFormulas, EntailmentIsRefutation, EntailmentsAreSound, ClassicalCertificatesAreSound, FormulasAreOverTheirAtoms, ContextsAreOverTheirAtoms};
 
 /// A clause has its literals in order, each once.
 pub fn clauses_are_sets()
@@ -26,4 +26,14 @@ pub fn entailments_are_sound()
 /// An accepted certificate of a classical context shows one state, and in it exactly the beliefs that follow.
 pub fn classical_certificates_are_sound()
     ensures { ClassicalCertificatesAreSound }
+{}
+
+/// A formula is over names exactly where each of its atoms is one of them.
+pub fn formulas_are_over_their_atoms()
+    ensures { FormulasAreOverTheirAtoms }
+{}
+
+/// The atoms of a context serve: no two have one name, and the formulas of the context are over them.
+pub fn contexts_are_over_their_atoms()
+    ensures { ContextsAreOverTheirAtoms }
 {}

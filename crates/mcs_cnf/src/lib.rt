@@ -12,6 +12,7 @@ mod tests;
 pub use formulas::{clauses, push_formula, push_negation};
 pub use laws::{
     classical_certificates_are_sound, clauses_are_sets, clauses_mean_the_formulas,
-    entailment_is_refutation, entailments_are_sound,
+    contexts_are_over_their_atoms, entailment_is_refutation, entailments_are_sound,
+    formulas_are_over_their_atoms,
 };
 pub use over::{are_different, are_over, is_over};

@@ -143,5 +143,7 @@ fn deep_formulas_have_clauses(rt: HostRuntime) -> Result<(), Fail> {
     entailment_is_refutation();
     entailments_are_sound();
     classical_certificates_are_sound();
+    formulas_are_over_their_atoms();
+    contexts_are_over_their_atoms();
     Ok(())
 }

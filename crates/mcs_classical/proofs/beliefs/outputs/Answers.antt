@@ -4,7 +4,7 @@ use Rattle.mcs_trace.specs.declared.certificate.Entail.{Entail}
 use Rattle.mcs_cnf.proofs.ListLemmas.{rest_over}
 use Rattle.mcs_classical.proofs.RefutingLemmas.{room_known}
 use Rattle.mcs_classical.proofs.OutputLemmas.{IsShown, shown-none, shown-more, shown-all, exact}
-use Rattle.mcs_classical.proofs.outputs_of.outputs.Goals as goal
+use Rattle.mcs_classical.proofs.beliefs.outputs.Goals as goal
 
 pub loop-number-init : goal.loop-number-init
 loop-number-init c =

@@ -2,7 +2,7 @@ use Rattle.std.proofs.Common.{◌≡◌, drop, map}
 use Rattle.mcs_system.specs.Seen.{formula_of}
 use Rattle.mcs_cnf.specs.ClauseLists.{clause_list, AreOver}
 use Rattle.mcs_classical.proofs.OutputLemmas.{IsShown}
-use Rattle.mcs_classical.proofs.outputs_of.outputs.Given as goal
+use Rattle.mcs_classical.proofs.beliefs.outputs.Given as goal
 
 abbrev pub invariant-loop-number : goal.invariant-loop-number
 invariant-loop-number l =
