@@ -1,0 +1,99 @@
+-- What a word is, by the function and by the definitions.
+use Rattle.std.proofs.Common.{◌≡◌, ◌≢◌, ℕ, Bool, true, false, nat_eq, cond, not, ◌&&◌, IsTrue, List, [], ◌∷◌, ◌++◌, Option, Some, None, option_map, MatchOption, Bor, codes, refl, sym, ap, ◌∙◌, subst, true≢false}
+use Rattle.std.specs.Option.{option_map_or}
+use Rattle.std.specs.Str.{bytes_eq}
+use Rattle.std.proofs.lemmas.Bool.Decides.{Decides-eqb}
+use Rattle.std.proofs.lemmas.Slice.Eq.{bytes_eq-Decides}
+use Rattle.mcs_words.specs.Commands.{Word, name_of, begins_with_dash, IsPlain}
+use Rattle.mcs_words.specs.Reading.{WordKind, dashes, name, joined, plain, unknown, after, other_kind, joined_kind, kind}
+use Rattle.mcs_words.specs.declared.setting.Setting.{Setting}
+use Rattle.mcs_words.specs.declared.setting.Setting.TheVariants.{Budget, Workers}
+
+-- ---- what follows a front
+pub after_front : (front rest : Word) → after front (front ++ rest) ≡ Some rest
+after_front [] rest = refl
+after_front (f ∷ front) rest = let same : nat_eq f f ≡ true = (Decides-eqb f f).1 refl in rw same (after_front front rest)
+
+pub after_is : (front word rest : Word) → after front word ≡ Some rest → word ≡ front ++ rest
+after_is [] word rest e = cc
+after_is (f ∷ front) [] rest e = let no : None ≡ Some rest = e in cc
+after_is (f ∷ front) (b ∷ word) rest e =
+    elim (nat_eq b f) as (λ t. nat_eq b f ≡ t → cond t (after front word) None ≡ Some rest → b ∷ word ≡ (f ∷ front) ++ rest) [
+      | true ↦ λ same e'. let here : b ≡ f = (Decides-eqb b f).0 same in let there : word ≡ front ++ rest = after_is front word rest e' in cc
+      | false ↦ λ same e'. let no : None ≡ Some rest = e' in cc
+    ] refl e
+
+pub after_none : (front word : Word) → ((rest : Word) → ¬ (word ≡ front ++ rest)) → after front word ≡ None
+after_none [] word never = absurd (never word refl)
+after_none (f ∷ front) [] never = refl
+after_none (f ∷ front) (b ∷ word) never =
+    elim (nat_eq b f) as (λ t. nat_eq b f ≡ t → cond t (after front word) None ≡ None) [
+      | true ↦ λ same. let here : b ≡ f = (Decides-eqb b f).0 same in after_none front word (λ rest e. never rest cc)
+      | false ↦ λ same. refl
+    ] refl
+
+pub after_found : (front word : Word) (r : Option (Bor Word)) → MatchOption r ((rest : Word) → word ≢ front ++ rest) (λ v. word ≡ front ++ v.now) → option_map (λ v. v.now) r ≡ after front word
+after_found front word None h = sym (after_none front word h)
+after_found front word (Some v) h = sym (ap (after front) h ∙ after_front front v.now)
+
+-- ---- kinds
+abbrev pub IsKind : Word → WordKind → Type 0
+IsKind word dashes = word ≡ codes "--"
+IsKind word (name s) = word ≡ name_of s
+IsKind word (joined s value) = word ≡ name_of s ++ 61 ∷ value
+IsKind word plain = IsPlain word
+IsKind word unknown = Unit {0}
+
+by_test : (word : Word) (b : Bool) (x y : WordKind) → (b ≡ true → IsKind word x) → (b ≡ false → IsKind word y) → IsKind word (cond b x y)
+by_test word true x y h k = h refl
+by_test word false x y h k = k refl
+
+by_text : (word text : Word) (x y : WordKind) → (word ≡ text → IsKind word x) → IsKind word y → IsKind word (cond (bytes_eq word text) x y)
+by_text word text x y h k = by_test word (bytes_eq word text) x y (λ e. h ((bytes_eq-Decides word text).0 e)) (λ e. k)
+
+by_front : (word : Word) (s : Setting) (o : Option Word) (y : WordKind) → ((value : Word) → o ≡ Some value → word ≡ name_of s ++ 61 ∷ value) → IsKind word y → IsKind word (option_map_or (joined s) o y)
+by_front word s None y h k = k
+by_front word s (Some value) y h k = h value refl
+
+not_and : (a b : Bool) → (a && not b) ≡ false → IsTrue a → b ≡ true
+not_and true true e h = refl
+not_and true false e h = absurd (true≢false e)
+not_and false b e h = absurd (true≢false (sym h))
+
+other_is : (word : Word) → IsKind word (other_kind word)
+other_is word = by_test word (begins_with_dash word && not (bytes_eq word (codes "-"))) unknown plain (λ e. tt)
+    (λ e dash. (bytes_eq-Decides word (codes "-")).0 (not_and (begins_with_dash word) (bytes_eq word (codes "-")) e dash))
+
+-- the function finds what the word is
+pub kind_is : (word : Word) → IsKind word (kind word)
+unfolding kind
+kind_is word =
+    by_text word (codes "--") _ _ (λ e. e)
+    (by_text word (codes "--budget") _ _ (λ e. e)
+    (by_text word (codes "--workers") _ _ (λ e. e)
+    (by_front word Budget (after (codes "--budget=") word) _ (λ value e. after_is (codes "--budget=") word value e)
+    (by_front word Workers (after (codes "--workers=") word) _ (λ value e. after_is (codes "--workers=") word value e)
+    (other_is word)))))
+
+pub plain_kind : (word : Word) → IsPlain word → kind word ≡ plain
+unfolding kind
+plain_kind [] p = refl
+plain_kind (b ∷ bs) p = dash (nat_eq b 45) refl
+  where
+    dash : (t : Bool) → nat_eq b 45 ≡ t → kind (b ∷ bs) ≡ plain
+    dash true e = ap kind (p e)
+    dash false e = rw e refl
+
+pub joined_is : (s : Setting) (value : Word) → kind (name_of s ++ 61 ∷ value) ≡ joined s value
+unfolding kind
+joined_is Budget value = refl
+joined_is Workers value = refl
+
+pub name_is : (s : Setting) → kind (name_of s) ≡ name s
+unfolding kind
+name_is Budget = refl
+name_is Workers = refl
+
+pub dashes_is : kind (codes "--") ≡ dashes
+unfolding kind
+dashes_is = refl

@@ -1,0 +1,4 @@
+pub mod KindLemmas
+pub mod ReadingLemmas
+pub mod NumberLemmas
+pub mod JobLemmas

@@ -1,0 +1,97 @@
+-- The reading of the words as a function, by which the code is told.
+use Rattle.std.specs.Prelude.{◌≡◌, ℕ, Bool, not, nat_eq, cond, ◌&&◌, List, [], ◌∷◌, ◌++◌, map, codes, Option, Some, None, option_map, unwrap_or, String, string_bytes}
+use Rattle.std.specs.Str.{bytes_eq}
+use Rattle.std.specs.Option.{option_map_or}
+use Rattle.std.specs.declared.alloc.Global.{Global}
+use Rattle.mcs_words.specs.Commands.{Word, Command, Request, equilibria, name_of, nothing, only_plain, with_plain, with_value, begins_with_dash}
+use Rattle.mcs_words.specs.declared.given.Given.{Given}
+use Rattle.mcs_words.specs.declared.job.Job.{Job}
+use Rattle.mcs_words.specs.declared.job.Job.TheVariants.{Equilibria}
+use Rattle.mcs_words.specs.declared.kind.Kind.{Kind}
+use Rattle.mcs_words.specs.declared.kind.Kind.TheVariants as code
+use Rattle.mcs_words.specs.declared.reading.Place.{Place}
+use Rattle.mcs_words.specs.declared.reading.Place.TheVariants.{Open, Value, Closed}
+use Rattle.mcs_words.specs.declared.setting.Setting.{Setting}
+use Rattle.mcs_words.specs.declared.setting.Setting.TheVariants.{Budget, Workers}
+
+-- ---- from the code's types to the definitions
+
+abbrev pub texts_of : List (String Global) → List Word
+texts_of words = map string_bytes words
+
+abbrev pub request_of : Job → Request
+request_of (Equilibria file budget workers) = equilibria (string_bytes file) budget workers
+
+abbrev pub command_of : Given → Command
+command_of g = record { plain = map (λ w. w.now) g.plain.items; budgets = map (λ w. w.now) g.budgets.items; workers = map (λ w. w.now) g.workers.items }
+
+-- the command with a word after its others
+abbrev pub added_plain : Command → Word → Command
+added_plain c word = record c { plain = c.plain ++ word ∷ [] }
+
+abbrev pub added_value : Setting → Command → Word → Command
+added_value Budget c value = record c { budgets = c.budgets ++ value ∷ [] }
+added_value Workers c value = record c { workers = c.workers ++ value ∷ [] }
+
+-- two commands, one after the other
+abbrev pub both : Command → Command → Command
+both a b = record { plain = a.plain ++ b.plain; budgets = a.budgets ++ b.budgets; workers = a.workers ++ b.workers }
+
+-- ---- what a word is
+
+pub data WordKind : Type 0 where
+  dashes : WordKind
+  name : Setting → WordKind
+  joined : Setting → Word → WordKind
+  plain : WordKind
+  unknown : WordKind
+
+abbrev pub kind_seen : Kind → WordKind
+kind_seen code.Dashes = dashes
+kind_seen (code.Name s) = name s
+kind_seen (code.Joined s v) = joined s v.now
+kind_seen code.Plain = plain
+kind_seen code.Unknown = unknown
+
+-- what follows the front in the word
+abbrev pub after : Word → Word → Option Word
+after [] word = Some word
+after (f ∷ front) [] = None
+after (f ∷ front) (b ∷ word) = cond (nat_eq b f) (after front word) None
+
+abbrev pub other_kind : Word → WordKind
+other_kind word = cond (begins_with_dash word && not (bytes_eq word (codes "-"))) unknown plain
+
+abbrev pub joined_kind : Word → WordKind
+joined_kind word = option_map_or (joined Budget) (after (codes "--budget=") word)
+    (option_map_or (joined Workers) (after (codes "--workers=") word) (other_kind word))
+
+unfoldable pub kind : Word → WordKind
+kind word = cond (bytes_eq word (codes "--")) dashes
+    (cond (bytes_eq word (codes "--budget")) (name Budget)
+    (cond (bytes_eq word (codes "--workers")) (name Workers) (joined_kind word)))
+
+-- ---- the reading
+
+-- a word and those after it, where they are read by `rest`
+abbrev pub open_step : WordKind → Word → (Place → Option Command) → Option Command
+open_step dashes word rest = rest Closed
+open_step (name s) word rest = rest (Value s)
+open_step (joined s value) word rest = option_map (with_value s value) (rest Open)
+open_step plain word rest = option_map (with_plain word) (rest Open)
+open_step unknown word rest = None
+
+abbrev pub step : Place → Word → (Place → Option Command) → Option Command
+step Open word rest = open_step (kind word) word rest
+step (Value s) word rest = cond (begins_with_dash word) None (option_map (with_value s word) (rest Open))
+step Closed word rest = option_map (with_plain word) (rest Closed)
+
+abbrev pub at_end : Place → Option Command
+at_end Open = Some nothing
+at_end (Value s) = None
+at_end Closed = Some nothing
+
+-- what the words give at a place; none where they are at fault
+unfoldable pub read : List Word → Place → Option Command
+read [] place = at_end place
+read (word ∷ words) place = step place word (read words)

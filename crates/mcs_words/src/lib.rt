@@ -1,0 +1,16 @@
+//! The words of the command line, and the job that they ask for.
+#![tactic(auto)]
+
+mod given;
+mod job;
+mod kind;
+mod laws;
+mod number;
+mod reading;
+mod setting;
+#[cfg(test)]
+mod tests;
+
+pub use job::{Job, WordsFault};
+pub use laws::one_job;
+pub use reading::read_words;
