@@ -5,6 +5,7 @@ mod given;
 mod job;
 mod kind;
 mod laws;
+mod line;
 mod number;
 mod reading;
 mod setting;

@@ -1,0 +1,32 @@
+//! The command line, as clap is told of it.
+
+ghost use Rattle.std.specs.Prelude.{◌≡◌, IfOk};
+ghost use Rattle.clap.specs.Words.{app_of};
+ghost use Rattle.mcs_words.specs.Line.{line, bare_line};
+
+use clap::{Arg, Command};
+use std::alloc::{AllocError, Global};
+
+/// The command with no arguments yet.
+fn bare_line<'a>(alloc: Global) -> Command<'a>
+    ensures { app_of result ≡ bare_line }
+{
+    Command::new(alloc, "mcs")
+        .no_binary_name(true)
+        .disable_help_flag(true)
+}
+
+/// A job and a file, and the options `--budget` and `--workers`, which take one text each.
+pub(crate) fn line<'a>(alloc: Global) -> Result<Command<'a>, AllocError>
+    ensures { IfOk result (λ c. app_of c ≡ line) }
+{
+    let job = Arg::new(alloc, "job").required(true);
+    let file = Arg::new(alloc, "file").required(true);
+    let budget = Arg::new(alloc, "budget").long("budget");
+    let workers = Arg::new(alloc, "workers").long("workers");
+    bare_line(alloc)
+        .arg(job)?
+        .arg(file)?
+        .arg(budget)?
+        .arg(workers)
+}
