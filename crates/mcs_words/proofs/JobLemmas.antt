@@ -1,11 +1,10 @@
 -- Words ask for one job at most.
-use Rattle.std.proofs.Common.{◌≡◌, ℕ, List, [], ◌∷◌, Some, None, Ok, Err, Result, MatchResult, map, length, get_or, Bor, Bool, true, false, not, true≢false, arith, codes, refl, sym, ap, ◌∙◌}
-use Rattle.std.specs.Str.{bytes_eq}
-use Rattle.std.proofs.lemmas.Slice.Eq.{bytes_eq-Decides}
+use Rattle.std.proofs.Common.{◌≤◌, Option, option_map, subst, ◌≡◌, ℕ, List, [], ◌∷◌, Some, None, Ok, Err, Result, MatchResult, length, arith, codes, refl, sym, ap, ◌∙◌}
 use Rattle.mcs_words.specs.Commands.{Word, Command, Request, equilibria, IsChosen, AsksFor, IsJobOf}
 use Rattle.mcs_words.specs.declared.setting.Setting.{Setting}
 use Rattle.mcs_words.specs.declared.setting.Setting.TheVariants.{Budget, Workers}
-use Rattle.mcs_words.specs.Reading.{read, request_of}
+use Rattle.mcs_words.specs.Reading.{read, request_of, tally_of, IsWholeTally, IsWholeReading}
+use Rattle.mcs_words.specs.declared.tally.Tally.{Tally}
 use Rattle.mcs_words.specs.declared.job.Job.{Job}
 use Rattle.mcs_words.specs.declared.job.WordsFault.{WordsFault}
 use Rattle.mcs_words.specs.declared.job.WordsFault.TheVariants.{Usage}
@@ -35,13 +34,26 @@ pub told : (words : List Word) (c : Command) (r : Result Job WordsFault) → rea
 told words c (Ok job) e h = job_read words c (request_of job) e h
 told words c (Err fault) e h = λ usage request job. h usage request (job_asked words c request e job)
 
-not_false : (b : Bool) → not b ≡ false → b ≡ true
-not_false true e = refl
-not_false false e = absurd (true≢false e)
+one_value : (s : Setting) (values : List Word) (n : ℕ) → IsChosen s values n → length values ≤ 1
+one_value s [] n h = omega arith
+one_value s (value ∷ []) n h = omega arith
+one_value s (value ∷ (second ∷ values)) n h = absurd h
 
-pub two_named : (ws : List (Bor Word)) (d d' : Bor Word) (job file : Word) (differs : Bool) → length ws ≡ 2 → differs ≡ not (bytes_eq (get_or ws 0 d).now job) → differs ≡ false → file ≡ (get_or ws 1 d').now
-    → map (λ w. w.now) ws ≡ job ∷ file ∷ []
-two_named [] d d' job file differs len e no' e' = absurd (omega (arith, len))
-two_named (a ∷ []) d d' job file differs len e no' e' = absurd (omega (arith, len))
-two_named (a ∷ b ∷ []) d d' job file differs len e no' e' = let same : a.now ≡ job = (bytes_eq-Decides a.now job).0 (not_false (bytes_eq a.now job) (sym e ∙ no')) in cc (same, e')
-two_named (a ∷ b ∷ third ∷ ws) d d' job file differs len e no' e' = absurd (omega (arith, len))
+asks_whole : (c : Command) (request : Request) → AsksFor c request → IsWholeTally (tally_of c)
+asks_whole c (equilibria file budget workers) asks = (ap length asks.0, one_value Budget c.budgets budget asks.2, one_value Workers c.workers workers asks.3)
+
+pub not_whole : (words : List Word) (t : Tally) (request : Request) → Some t ≡ option_map tally_of (read words Open) → ¬ IsWholeTally t → ¬ IsJobOf words request
+not_whole words t request e never job =
+    let same : Some t ≡ Some (tally_of job.0) = e ∙ ap (option_map tally_of) (reads_read job.1) in
+    let t_is : t ≡ tally_of job.0 = cc in
+    never (subst IsWholeTally (sym t_is) (asks_whole job.0 request job.2))
+
+pub none_read : (words : List Word) (request : Request) → None ≡ option_map tally_of (read words Open) → ¬ IsJobOf words request
+none_read words request e job = let never : None ≡ Some (tally_of job.0) = e ∙ ap (option_map tally_of) (reads_read job.1) in cc
+
+pub whole_reading : (words : List Word) (t : Tally) → Some t ≡ option_map tally_of (read words Open) → IsWholeTally t → IsWholeReading words
+whole_reading words t e whole = at (read words Open) refl e
+  where
+    at : (o : Option Command) → read words Open ≡ o → Some t ≡ option_map tally_of o → IsWholeReading words
+    at None is e' = let never : Some t ≡ None = e' in cc
+    at (Some c) is e' = let same : Some t ≡ Some (tally_of c) = e' in let t_is : t ≡ tally_of c = cc in (c, is, subst IsWholeTally t_is whole)

@@ -1,5 +1,5 @@
 -- What a word is, by the function and by the definitions.
-use Rattle.std.proofs.Common.{◌≡◌, ◌≢◌, ℕ, Bool, true, false, nat_eq, cond, not, ◌&&◌, IsTrue, List, [], ◌∷◌, ◌++◌, Option, Some, None, option_map, MatchOption, Bor, codes, refl, sym, ap, ◌∙◌, subst, true≢false}
+use Rattle.std.proofs.Common.{◌≡◌, ◌≢◌, ℕ, Bool, true, false, nat_eq, cond, not, ◌&&◌, IsTrue, List, [], ◌∷◌, ◌++◌, Option, Some, None, is_some, option_map, MatchOption, Bor, codes, refl, sym, ap, ◌∙◌, subst, true≢false}
 use Rattle.std.specs.Option.{option_map_or}
 use Rattle.std.specs.Str.{bytes_eq}
 use Rattle.std.proofs.lemmas.Bool.Decides.{Decides-eqb}
@@ -97,3 +97,29 @@ name_is Workers = refl
 pub dashes_is : kind (codes "--") ≡ dashes
 unfolding kind
 dashes_is = refl
+
+-- the code's tests find the option that is joined to its value
+found : (o : Option Word) (r : Option (Bor Word)) → option_map (λ v. v.now) r ≡ o → is_some r ≡ true → (value : Word) × (o ≡ Some value)
+found o None e some = absurd (true≢false (sym some))
+found o (Some v) e some = (v.now, sym e)
+
+not_found : (o : Option Word) (r : Option (Bor Word)) → option_map (λ v. v.now) r ≡ o → is_some r ≡ false → o ≡ None
+not_found o None e none = sym e
+not_found o (Some v) e none = absurd (true≢false none)
+
+module _ (word : Word) (no_dashes : bytes_eq word (codes "--") ≡ false) (no_budget : bytes_eq word (codes "--budget") ≡ false) (no_workers : bytes_eq word (codes "--workers") ≡ false) where
+  kind_at : kind word ≡ joined_kind word
+  unfolding kind
+  kind_at = rw (no_dashes, no_budget, no_workers) refl
+
+  pub budget_seen : (r : Option (Bor Word)) → option_map (λ v. v.now) r ≡ after (codes "--budget=") word → is_some r ≡ true → (value : Word) × (kind word ≡ joined Budget value)
+  budget_seen r e some =
+      let value = found (after (codes "--budget=") word) r e some in
+      (value.0, kind_at ∙ ap (λ (o : Option Word). option_map_or (joined Budget) o (option_map_or (joined Workers) (after (codes "--workers=") word) (other_kind word))) value.1)
+
+  pub workers_seen : (r s : Option (Bor Word)) → option_map (λ v. v.now) r ≡ after (codes "--budget=") word → is_some r ≡ false → option_map (λ v. v.now) s ≡ after (codes "--workers=") word → is_some s ≡ true
+      → (value : Word) × (kind word ≡ joined Workers value)
+  workers_seen r s e none e' some =
+      let value = found (after (codes "--workers=") word) s e' some in
+      (value.0, kind_at ∙ (ap (λ (o : Option Word). option_map_or (joined Budget) o (option_map_or (joined Workers) (after (codes "--workers=") word) (other_kind word))) (not_found (after (codes "--budget=") word) r e none)
+      ∙ ap (λ (o : Option Word). option_map_or (joined Workers) o (other_kind word)) value.1))

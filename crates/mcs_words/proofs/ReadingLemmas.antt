@@ -1,11 +1,12 @@
 -- The function reads what the definitions say, and nothing else.
-use Rattle.std.proofs.Common.{◌≡◌, ◌⊎◌, inl, inr, ◌<◌, ◌≤◌, ◌+◌, length, drop, get_or, string_bytes, String, Global, append-nil, ℕ, Bool, true, false, cond, IsTrue, List, [], ◌∷◌, ◌++◌, Option, Some, None, option_map, codes, refl, sym, ap, ◌∙◌, subst, true≢false, append_assoc}
+use Rattle.std.proofs.Common.{◌≡◌, ◌⊎◌, inl, inr, ◌<◌, ◌≤◌, ◌+◌, length, drop, get_or, string_bytes, String, Global, arith, add-zero, zero-add, ℕ, Bool, true, false, cond, IsTrue, List, [], ◌∷◌, ◌++◌, Option, Some, None, option_map, codes, refl, sym, ap, ◌∙◌, subst, true≢false}
 use Rattle.std.proofs.lemmas.List.{at_drop_more, at_drop_all}
 use Rattle.mcs_words.specs.Commands.{Word, Command, Reads, ends, dashes, plain_word, joined, apart, Request, AsksFor, IsJobOf, name_of, nothing, only_plain, with_plain, with_value, begins_with_dash}
 use Rattle.mcs_words.specs.Reading as reading
-use Rattle.mcs_words.specs.Reading.{WordKind, kind, open_step, step, read, both, added_plain, added_value, texts_of, at_end}
+use Rattle.mcs_words.specs.Reading.{WordKind, kind, open_step, step, read, texts_of, at_end, counted, tally_of, total_of, no_tally, more_plain, more_values}
 use Rattle.mcs_words.specs.declared.reading.Place.{Place}
 use Rattle.mcs_words.specs.declared.reading.Place.TheVariants.{Open, Value, Closed}
+use Rattle.mcs_words.specs.declared.tally.Tally.{Tally}
 use Rattle.mcs_words.specs.declared.setting.Setting.{Setting}
 use Rattle.mcs_words.specs.declared.setting.Setting.TheVariants.{Budget, Workers}
 use Rattle.mcs_words.proofs.KindLemmas.{IsKind, kind_is, plain_kind, joined_is, name_is, dashes_is}
@@ -89,56 +90,63 @@ pub no_job : (words : List Word) (request : Request) → read words Open ≡ Non
 no_job words request e job = let no : None ≡ Some job.0 = sym e ∙ reads_read job.1 in cc
 
 -- ---- steps of the code
-pub both_nothing : (o : Option Command) → option_map (both nothing) o ≡ o
-both_nothing None = refl
-both_nothing (Some c) = refl
+counted_plain : (t : Tally) (word : Word) (o : Option Command) → option_map (counted (more_plain t)) o ≡ option_map (counted t) (option_map (with_plain word) o)
+counted_plain t word None = refl
+counted_plain t word (Some c) = let e : (t.plain + 1) + length c.plain ≡ t.plain + length (word ∷ c.plain) = omega arith in ap (λ n. Some (record (counted t c) { plain = n })) e
 
-pub both_plain : (a : Command) (word : Word) (o : Option Command) → option_map (both (added_plain a word)) o ≡ option_map (both a) (option_map (with_plain word) o)
-both_plain a word None = refl
-both_plain a word (Some c) = ap (λ (ws : List Word). Some (record (both a c) { plain = ws })) (append_assoc a.plain (word ∷ []) c.plain)
+counted_value : (s : Setting) (t : Tally) (value : Word) (o : Option Command) → option_map (counted (more_values s t)) o ≡ option_map (counted t) (option_map (with_value s value) o)
+counted_value Budget t value None = refl
+counted_value Workers t value None = refl
+counted_value Budget t value (Some c) = let e : (t.budgets + 1) + length c.budgets ≡ t.budgets + length (value ∷ c.budgets) = omega arith in ap (λ n. Some (record (counted t c) { budgets = n })) e
+counted_value Workers t value (Some c) = let e : (t.workers + 1) + length c.workers ≡ t.workers + length (value ∷ c.workers) = omega arith in ap (λ n. Some (record (counted t c) { workers = n })) e
 
-pub both_value : (s : Setting) (a : Command) (value : Word) (o : Option Command) → option_map (both (added_value s a value)) o ≡ option_map (both a) (option_map (with_value s value) o)
-both_value Budget a value None = refl
-both_value Workers a value None = refl
-both_value Budget a value (Some c) = ap (λ (ws : List Word). Some (record (both a c) { budgets = ws })) (append_assoc a.budgets (value ∷ []) c.budgets)
-both_value Workers a value (Some c) = ap (λ (ws : List Word). Some (record (both a c) { workers = ws })) (append_assoc a.workers (value ∷ []) c.workers)
+module _ (a b : Tally) (word : Word) (rest : Place → Option Command) where
+  pub value_step : (place : Place) (s : Setting) → place ≡ Value s → b ≡ more_values s a → begins_with_dash word ≡ false → option_map (counted b) (rest Open) ≡ option_map (counted a) (step place word rest)
+  value_step place s at more undashed = rw (at, undashed, more) (counted_value s a word (rest Open))
 
-module _ (a b : Command) (word : Word) (rest : Place → Option Command) where
-  pub value_step : (place : Place) (s : Setting) → place ≡ Value s → b ≡ added_value s a word → begins_with_dash word ≡ false → option_map (both b) (rest Open) ≡ option_map (both a) (step place word rest)
-  value_step place s at more undashed = rw (at, undashed, more) (both_value s a word (rest Open))
+  pub closed_step : (place : Place) → place ≡ Closed → b ≡ more_plain a → option_map (counted b) (rest Closed) ≡ option_map (counted a) (step place word rest)
+  closed_step place at more = rw (at, more) (counted_plain a word (rest Closed))
 
-  pub closed_step : (place : Place) → place ≡ Closed → b ≡ added_plain a word → option_map (both b) (rest Closed) ≡ option_map (both a) (step place word rest)
-  closed_step place at more = rw (at, more) (both_plain a word (rest Closed))
+  pub joined_step : (k : WordKind) (s : Setting) (value : Word) → k ≡ reading.joined s value → b ≡ more_values s a → option_map (counted b) (rest Open) ≡ option_map (counted a) (open_step k word rest)
+  joined_step k s value at more = rw (at, more) (counted_value s a value (rest Open))
 
-  pub joined_step : (k : WordKind) (s : Setting) (value : Word) → reading.joined s value ≡ k → b ≡ added_value s a value → option_map (both b) (rest Open) ≡ option_map (both a) (open_step k word rest)
-  joined_step k s value at more = rw (← at, more) (both_value s a value (rest Open))
-
-  pub plain_step : (k : WordKind) → reading.plain ≡ k → b ≡ added_plain a word → option_map (both b) (rest Open) ≡ option_map (both a) (open_step k word rest)
-  plain_step k at more = rw (← at, more) (both_plain a word (rest Open))
+  pub plain_step : (k : WordKind) → k ≡ reading.plain → b ≡ more_plain a → option_map (counted b) (rest Open) ≡ option_map (counted a) (open_step k word rest)
+  plain_step k at more = rw (at, more) (counted_plain a word (rest Open))
 
 -- ---- the loop of the code
-module _ (all : Option Command) (a : Command) (words : List (String Global)) (i : ℕ) (p : Place) (known : option_map (both a) (read (texts_of (drop i words)) p) ≡ all) where
-  here : (w : String Global) (text : Word) → i < length words → w ≡ get_or words i w → text ≡ string_bytes w → option_map (both a) (step p text (read (texts_of (drop (i + 1) words)))) ≡ all
+module _ (all : Option Tally) (a : Tally) (words : List (String Global)) (i : ℕ) (p : Place) (known : option_map (counted a) (read (texts_of (drop i words)) p) ≡ all) where
+  here : (w : String Global) (text : Word) → i < length words → w ≡ get_or words i w → text ≡ string_bytes w → option_map (counted a) (step p text (read (texts_of (drop (i + 1) words)))) ≡ all
   unfolding read
   here w text lt w_is text_is =
-      let first : option_map (both a) (read (texts_of (drop i words)) p) ≡ option_map (both a) (step p (string_bytes (get_or words i w)) (read (texts_of (drop (i + 1) words)))) =
-      at_drop_more (λ (ws : List (String Global)). option_map (both a) (read (texts_of ws) p)) words i w lt in
-      ap (λ (t : Word). option_map (both a) (step p t (read (texts_of (drop (i + 1) words))))) (text_is ∙ ap (λ (v : String Global). string_bytes v) w_is) ∙ (sym first ∙ known)
+      let first : option_map (counted a) (read (texts_of (drop i words)) p) ≡ option_map (counted a) (step p (string_bytes (get_or words i w)) (read (texts_of (drop (i + 1) words)))) =
+      at_drop_more (λ (ws : List (String Global)). option_map (counted a) (read (texts_of ws) p)) words i w lt in
+      ap (λ (t : Word). option_map (counted a) (step p t (read (texts_of (drop (i + 1) words))))) (text_is ∙ ap (λ (v : String Global). string_bytes v) w_is) ∙ (sym first ∙ known)
 
-  pub next_read : (b : Command) (q : Place) (w : String Global) (text : Word) → i < length words → w ≡ get_or words i w → text ≡ string_bytes w
-      → ((rest : Place → Option Command) → option_map (both b) (rest q) ≡ option_map (both a) (step p text rest)) → option_map (both b) (read (texts_of (drop (i + 1) words)) q) ≡ all
+  pub next_read : (b : Tally) (q : Place) (w : String Global) (text : Word) → i < length words → w ≡ get_or words i w → text ≡ string_bytes w
+      → ((rest : Place → Option Command) → option_map (counted b) (rest q) ≡ option_map (counted a) (step p text rest)) → option_map (counted b) (read (texts_of (drop (i + 1) words)) q) ≡ all
   next_read b q w text lt w_is text_is more = more (read (texts_of (drop (i + 1) words))) ∙ here w text lt w_is text_is
 
   pub stop_read : (w : String Global) (text : Word) → i < length words → w ≡ get_or words i w → text ≡ string_bytes w → ((rest : Place → Option Command) → step p text rest ≡ None) → all ≡ None
-  stop_read w text lt w_is text_is none = sym (here w text lt w_is text_is) ∙ ap (option_map (both a)) (none (read (texts_of (drop (i + 1) words))))
+  stop_read w text lt w_is text_is none = sym (here w text lt w_is text_is) ∙ ap (option_map (counted a)) (none (read (texts_of (drop (i + 1) words))))
 
-  pub end_read : length words ≤ i → all ≡ option_map (both a) (at_end p)
+  pub end_read : length words ≤ i → all ≡ option_map (counted a) (at_end p)
   unfolding read
-  end_read past = sym known ∙ at_drop_all (λ (ws : List (String Global)). option_map (both a) (read (texts_of ws) p)) words i past
+  end_read past = sym known ∙ at_drop_all (λ (ws : List (String Global)). option_map (counted a) (read (texts_of ws) p)) words i past
 
-pub both_end : (a : Command) → both a nothing ≡ a
-both_end a = rw (append-nil a.plain, append-nil a.budgets, append-nil a.workers) refl
+counted_nothing : (a : Tally) → counted a nothing ≡ a
+counted_nothing a = rw (add-zero a.plain, add-zero a.budgets, add-zero a.workers) refl
 
-pub ended : (all : Option Command) (a : Command) (p : Place) → (p ≡ Open) ⊎ (p ≡ Closed) → all ≡ option_map (both a) (at_end p) → all ≡ Some a
-ended all a p (inl e) h = (rw e at h) ∙ ap (λ (c : Command). Some c) (both_end a)
-ended all a p (inr e) h = (rw e at h) ∙ ap (λ (c : Command). Some c) (both_end a)
+pub counted_none : (o : Option Command) → option_map (counted no_tally) o ≡ option_map tally_of o
+counted_none None = refl
+counted_none (Some c) = rw (zero-add (length c.plain), zero-add (length c.budgets), zero-add (length c.workers)) refl
+
+pub ended : (all : Option Tally) (a : Tally) (p : Place) → (p ≡ Open) ⊎ (p ≡ Closed) → all ≡ option_map (counted a) (at_end p) → all ≡ Some a
+ended all a p (inl e) h = (rw e at h) ∙ ap (λ (t : Tally). Some t) (counted_nothing a)
+ended all a p (inr e) h = (rw e at h) ∙ ap (λ (t : Tally). Some t) (counted_nothing a)
+
+pub total_plain : (a b : Tally) → b ≡ more_plain a → total_of b ≤ total_of a + 1
+total_plain a b e = let less : total_of (more_plain a) ≤ total_of a + 1 = omega arith in subst (λ (t : Tally). total_of t ≤ total_of a + 1) (sym e) less
+
+pub total_value : (s : Setting) (a b : Tally) → b ≡ more_values s a → total_of b ≤ total_of a + 1
+total_value Budget a b e = let less : total_of (more_values Budget a) ≤ total_of a + 1 = omega arith in subst (λ (t : Tally). total_of t ≤ total_of a + 1) (sym e) less
+total_value Workers a b e = let less : total_of (more_values Workers a) ≤ total_of a + 1 = omega arith in subst (λ (t : Tally). total_of t ≤ total_of a + 1) (sym e) less

@@ -1,5 +1,5 @@
 -- What clap makes of words that the definitions read: it takes them, and each argument has its word.
-use Rattle.std.proofs.Common.{◌≡◌, ◌≤◌, ◌+◌, ℕ, Bool, true, false, cond, nat_eq, ◌&&◌, IsTrue, List, [], ◌∷◌, ◌++◌, fold, length, Option, Some, None, option_map, codes, refl, sym, ap, ap₂, ◌∙◌, subst, true≢false, arith, append_assoc, length-append, ◌<◌}
+use Rattle.std.proofs.Common.{◌≡◌, ◌≤◌, ◌+◌, ℕ, Bool, true, false, cond, nat_eq, ◌&&◌, IsTrue, List, [], ◌∷◌, ◌++◌, fold, length, Option, Some, None, Bor, option_map, codes, refl, sym, ap, ap₂, ◌∙◌, subst, true≢false, arith, append-nil, append_assoc, length-append, ◌<◌}
 use Rattle.std.specs.Prelude.{if◌then◌else◌, find, min, slice_get, ◌||◌}
 use Rattle.std.specs.List.{list_all}
 use Rattle.std.specs.Str.{bytes_eq}
@@ -7,12 +7,15 @@ use Rattle.clap.specs.Lexer.{long_of, short_of, usize_max}
 use Rattle.clap.specs.Walk as walk
 use Rattle.clap.specs.Walk.{Held, Row, Rule, Text, Waiting, Walk, arg_by_id, arg_by_index, arg_by_long, first_of, finished, has_row, is_pending, nothing_held, positional_held, pushed, reacted, rows_after, settled, used, walked, with_default}
 use Rattle.clap.specs.Simple.{App, Shape, built, is_simple, matches_of, names_of}
+use Rattle.clap.specs.Words.{HasMatchesOf, first_value, found_of}
+use Rattle.clap.specs.declared.parser.matches.ArgMatches.{ArgMatches}
+use Rattle.clap.proofs.WalkLemmas.{first_value-rows}
 use Rattle.clap.specs.Takes.{built_takes, default_passes, is_given, is_valid, level_passes, settle_passes, takes, turn_passes, use_passes, walk_passes}
 use Rattle.clap.proofs.TakesLemmas.{leaf_takes}
 use Rattle.clap.specs.declared.builder.action.ArgAction.TheVariants.{Set}
 use Rattle.clap.specs.declared.builder.value_parser.ValueParser.TheVariants as vp
 use Rattle.mcs_words.specs.Commands.{Word, Command, IsPlain, name_of, nothing, with_plain, with_value, begins_with_dash}
-use Rattle.mcs_words.specs.Reading.{both, added_plain, added_value, at_end, kind, open_step, step, read}
+use Rattle.mcs_words.specs.Reading.{at_end, tally_of, IsWholeTally, listed, kind, open_step, step, read}
 use Rattle.mcs_words.specs.Reading as reading
 use Rattle.mcs_words.specs.Line.{line}
 use Rattle.mcs_words.specs.declared.reading.Place.{Place}
@@ -20,8 +23,20 @@ use Rattle.mcs_words.specs.declared.reading.Place.TheVariants.{Open, Value, Clos
 use Rattle.mcs_words.specs.declared.setting.Setting.{Setting}
 use Rattle.mcs_words.specs.declared.setting.Setting.TheVariants.{Budget, Workers}
 use Rattle.mcs_words.proofs.KindLemmas.{IsKind, kind_is}
-use Rattle.mcs_words.proofs.ReadingLemmas.{both_end}
 use Rattle.mcs_words.proofs.RowLemmas.{Slot, job, file, budget, workers, id_of, value_at, row_for, is_for, HasRows, added, none_has, added_rows, first_at}
+
+-- ---- commands
+-- one after the other
+abbrev both : Command → Command → Command
+both a b = record { plain = a.plain ++ b.plain; budgets = a.budgets ++ b.budgets; workers = a.workers ++ b.workers }
+
+both_end : (a : Command) → both a nothing ≡ a
+both_end a = rw (append-nil a.plain, append-nil a.budgets, append-nil a.workers) refl
+
+-- the command with a value after its others
+abbrev added_value : Setting → Command → Word → Command
+added_value Budget c value = record c { budgets = c.budgets ++ value ∷ [] }
+added_value Workers c value = record c { workers = c.workers ++ value ∷ [] }
 
 -- ---- the line, built
 abbrev base_rule : Text → Rule
@@ -484,12 +499,6 @@ two (a ∷ []) e = absurd (omega (arith, e))
 two (a ∷ (b ∷ [])) e = (a, b, refl)
 two (a ∷ (b ∷ (third ∷ ws))) e = absurd (omega (arith, e))
 
--- the plain words are two, and each option has one value at most
-pub record IsWhole (c : Command) : Type 0 where
-  pub plain : length c.plain ≡ 2
-  pub budgets : length c.budgets ≤ 1
-  pub workers : length c.workers ≤ 1
-
 pub record IsTaken (words : List Word) (c : Command) : Type 0 where
   pub takes : takes line words ≡ true
   pub first : (x : Slot) → first_of (id_of x) (matches_of line words) ≡ value_at x c
@@ -500,13 +509,13 @@ nothing_has file = refl
 nothing_has budget = refl
 nothing_has workers = refl
 
-pub taken : (words : List Word) (c : Command) → read words Open ≡ Some c → IsWhole c → IsTaken words c
+pub taken : (words : List Word) (c : Command) → read words Open ≡ Some c → IsWholeTally (tally_of c) → IsTaken words c
 taken words c e whole =
-    let walked' = walks words Open nothing nothing_held c e (record { plain = omega (arith, whole.plain); budgets = whole.budgets; workers = whole.workers }) (record { settles = refl; rows = nothing_has }) in
+    let walked' = walks words Open nothing nothing_held c e (record { plain = omega (arith, whole.0); budgets = whole.1; workers = whole.2 }) (record { settles = refl; rows = nothing_has }) in
     let last = (fold (walked all_rules []) (stands 1 Open nothing_held) words).held in
     let rows_is : finished all_rules last ≡ (settled all_rules last).rows = finished_is last in
     let has : HasRows c (finished all_rules last) = subst (HasRows c) (sym rows_is) walked'.held.rows in
-    let words_are = two c.plain whole.plain in
+    let words_are = two c.plain whole.0 in
     let job_is : value_at job c ≡ Some words_are.0 = ap (λ (ws : List Word). slice_get ws 0) words_are.2 in
     let file_is : value_at file c ≡ Some words_are.1 = ap (λ (ws : List Word). slice_get ws 1) words_are.2 in
     let job_given = given_is (codes "job") words_are.0 (finished all_rules last) (has job ∙ ap (option_map (row_for (codes "job"))) job_is) in
@@ -517,3 +526,37 @@ taken words c e whole =
       takes = ap₂ (λ a b. a && b) simple_is (ap (λ (a : App). built_takes a nothing_held words) built_is ∙ leaf_takes (record { top = shape; subs = [] }) nothing_held words refl level);
       first = λ x. ap (λ (a : App). first_of (id_of x) (rows_after a.top.rules (names_of a) words)) built_is ∙ first_at x c (finished all_rules last) has;
     }
+
+one_at_most : (ws : List Word) (r : Option (Bor Word)) → length ws ≤ 1 → slice_get ws 0 ≡ option_map (λ v. v.now) r → ws ≡ listed r
+one_at_most [] None few e = refl
+one_at_most [] (Some value) few e = let never : None ≡ Some value.now = e in cc
+one_at_most (w ∷ []) None few e = let never : Some w ≡ None = e in cc
+one_at_most (w ∷ []) (Some value) few e = let same : Some w ≡ Some value.now = e in cc
+one_at_most (w ∷ (second ∷ ws)) r few e = absurd (omega (arith, few))
+
+-- a whole command by its values
+pub command_is : (c : Command) (job' file' : Word) (b w : Option (Bor Word)) → IsWholeTally (tally_of c) → Some job' ≡ value_at job c → Some file' ≡ value_at file c → option_map (λ v. v.now) b ≡ value_at budget c → option_map (λ v. v.now) w ≡ value_at workers c
+    → c ≡ record { plain = job' ∷ file' ∷ []; budgets = listed b; workers = listed w }
+command_is c job' file' b w whole j f b_is w_is =
+    let words_are = two c.plain whole.0 in
+    let j' : Some job' ≡ Some words_are.0 = j ∙ ap (λ (ws : List Word). slice_get ws 0) words_are.2 in
+    let f' : Some file' ≡ Some words_are.1 = f ∙ ap (λ (ws : List Word). slice_get ws 1) words_are.2 in
+    let plain_is : c.plain ≡ job' ∷ file' ∷ [] = cc (words_are.2, j', f') in
+    let budgets_are : c.budgets ≡ listed b = one_at_most c.budgets b whole.1 (sym b_is) in
+    let workers_are : c.workers ≡ listed w = one_at_most c.workers w whole.2 (sym w_is) in
+    ap (λ (ws : List Word). command ws c.budgets c.workers) plain_is
+    ∙ (ap (λ (ws : List Word). command (job' ∷ file' ∷ []) ws c.workers) budgets_are ∙ ap (λ (ws : List Word). command (job' ∷ file' ∷ []) (listed b) ws) workers_are)
+
+pub job_there : (c : Command) (r : Option (Bor Word)) → IsWholeTally (tally_of c) → option_map (λ v. v.now) r ≡ value_at job c → ¬ (r ≡ None)
+job_there c r whole e none =
+    let words_are = two c.plain whole.0 in
+    let never : None ≡ Some words_are.0 = sym (ap (option_map (λ (v : Bor Word). v.now)) none) ∙ (e ∙ ap (λ (ws : List Word). slice_get ws 0) words_are.2) in cc
+
+pub file_there : (c : Command) (r : Option (Bor Word)) → IsWholeTally (tally_of c) → option_map (λ v. v.now) r ≡ value_at file c → ¬ (r ≡ None)
+file_there c r whole e none =
+    let words_are = two c.plain whole.0 in
+    let never : None ≡ Some words_are.1 = sym (ap (option_map (λ (v : Bor Word). v.now)) none) ∙ (e ∙ ap (λ (ws : List Word). slice_get ws 1) words_are.2) in cc
+
+-- what the getter of an argument tells
+pub text_is : (x : Slot) (words : List Word) (c : Command) (m : ArgMatches) (r : Option (Bor Word)) → HasMatchesOf line words m → IsTaken words c → option_map (λ v. v.now) r ≡ first_value (found_of m) (id_of x) → option_map (λ v. v.now) r ≡ value_at x c
+text_is x words c m r matches known e = e ∙ (first_value-rows (found_of m) (id_of x) ∙ (ap (first_of (id_of x)) (matches simple_is).0 ∙ known.first x))

@@ -1,5 +1,6 @@
 -- The reading of the words as a function, by which the code is told.
-use Rattle.std.specs.Prelude.{◌≡◌, ℕ, Bool, not, nat_eq, cond, ◌&&◌, List, [], ◌∷◌, ◌++◌, map, codes, Option, Some, None, option_map, unwrap_or, String, string_bytes}
+use Rattle.std.specs.Prelude.{◌≡◌, ◌+◌, ◌≤◌, length, ℕ, Bool, not, nat_eq, cond, ◌&&◌, List, [], ◌∷◌, ◌++◌, map, codes, Option, Some, None, option_map, unwrap_or, String, string_bytes}
+use Rattle.std.specs.Borrow.{Bor}
 use Rattle.std.specs.Str.{bytes_eq}
 use Rattle.std.specs.Option.{option_map_or}
 use Rattle.std.specs.declared.alloc.Global.{Global}
@@ -11,6 +12,7 @@ use Rattle.mcs_words.specs.declared.kind.Kind.{Kind}
 use Rattle.mcs_words.specs.declared.kind.Kind.TheVariants as code
 use Rattle.mcs_words.specs.declared.reading.Place.{Place}
 use Rattle.mcs_words.specs.declared.reading.Place.TheVariants.{Open, Value, Closed}
+use Rattle.mcs_words.specs.declared.tally.Tally.{Tally}
 use Rattle.mcs_words.specs.declared.setting.Setting.{Setting}
 use Rattle.mcs_words.specs.declared.setting.Setting.TheVariants.{Budget, Workers}
 
@@ -22,20 +24,38 @@ texts_of words = map string_bytes words
 abbrev pub request_of : Job → Request
 request_of (Equilibria file budget workers) = equilibria (string_bytes file) budget workers
 
+-- no value, or one
+abbrev pub listed : Option (Bor Word) → List Word
+listed None = []
+listed (Some value) = value.now ∷ []
+
 abbrev pub command_of : Given → Command
-command_of g = record { plain = map (λ w. w.now) g.plain.items; budgets = map (λ w. w.now) g.budgets.items; workers = map (λ w. w.now) g.workers.items }
+command_of g = record { plain = g.job.now ∷ g.file.now ∷ []; budgets = listed g.budget; workers = listed g.workers }
 
--- the command with a word after its others
-abbrev pub added_plain : Command → Word → Command
-added_plain c word = record c { plain = c.plain ++ word ∷ [] }
+-- ---- how many words of each sort
+abbrev pub total_of : Tally → ℕ
+total_of t = t.plain + t.budgets + t.workers
 
-abbrev pub added_value : Setting → Command → Word → Command
-added_value Budget c value = record c { budgets = c.budgets ++ value ∷ [] }
-added_value Workers c value = record c { workers = c.workers ++ value ∷ [] }
+abbrev pub no_tally : Tally
+no_tally = record { plain = 0; budgets = 0; workers = 0 }
 
--- two commands, one after the other
-abbrev pub both : Command → Command → Command
-both a b = record { plain = a.plain ++ b.plain; budgets = a.budgets ++ b.budgets; workers = a.workers ++ b.workers }
+abbrev pub more_plain : Tally → Tally
+more_plain t = record t { plain = t.plain + 1 }
+
+abbrev pub more_values : Setting → Tally → Tally
+more_values Budget t = record t { budgets = t.budgets + 1 }
+more_values Workers t = record t { workers = t.workers + 1 }
+
+abbrev pub tally_of : Command → Tally
+tally_of c = record { plain = length c.plain; budgets = length c.budgets; workers = length c.workers }
+
+-- a command after what is counted
+abbrev pub counted : Tally → Command → Tally
+counted t c = record { plain = t.plain + length c.plain; budgets = t.budgets + length c.budgets; workers = t.workers + length c.workers }
+
+-- a job and a file, and each option once at most
+abbrev pub IsWholeTally : Tally → Type 0
+IsWholeTally t = (t.plain ≡ 2) × (t.budgets ≤ 1) × (t.workers ≤ 1)
 
 -- ---- what a word is
 
@@ -46,12 +66,13 @@ pub data WordKind : Type 0 where
   plain : WordKind
   unknown : WordKind
 
-abbrev pub kind_seen : Kind → WordKind
-kind_seen code.Dashes = dashes
-kind_seen (code.Name s) = name s
-kind_seen (code.Joined s v) = joined s v.now
-kind_seen code.Plain = plain
-kind_seen code.Unknown = unknown
+-- what the code tells of it
+abbrev pub IsKindSeen : Kind → WordKind → Type 0
+IsKindSeen code.Dashes k = k ≡ dashes
+IsKindSeen (code.Name s) k = k ≡ name s
+IsKindSeen (code.Joined s) k = (value : Word) × (k ≡ joined s value)
+IsKindSeen code.Plain k = k ≡ plain
+IsKindSeen code.Unknown k = k ≡ unknown
 
 -- what follows the front in the word
 abbrev pub after : Word → Word → Option Word
@@ -95,3 +116,7 @@ at_end Closed = Some nothing
 unfoldable pub read : List Word → Place → Option Command
 read [] place = at_end place
 read (word ∷ words) place = step place word (read words)
+
+-- the words are at no fault, and give a job and a file, and each option once at most
+abbrev pub IsWholeReading : List Word → Type 0
+IsWholeReading words = (c : Command) × (read words Open ≡ Some c) × IsWholeTally (tally_of c)

@@ -1,49 +1,54 @@
 //! What the words give, before it is known whether that is a job.
 
-ghost use Rattle.std.specs.Prelude.{◌≡◌, IfOk, map};
-ghost use Rattle.mcs_words.specs.Commands.{nothing};
-ghost use Rattle.mcs_words.specs.Reading.{command_of, added_plain, added_value};
+ghost use Rattle.std.specs.Prelude.{◌≡◌, Some, MatchResult};
+ghost use Rattle.clap.specs.Words.{kind_of};
+ghost use Rattle.mcs_words.specs.Reading.{texts_of, command_of, read, IsWholeReading};
 
-use crate::setting::Setting;
-use std::alloc::{AllocError, Global};
+use crate::job::WordsFault;
+use crate::line::line;
+use crate::reading::Place;
+use clap::Error;
+use clap::error::ErrorKind;
+use std::alloc::Global;
 
-/// The plain words, and the values of the options, in order.
-#[derive(Drop)]
+/// The plain words, and the values of the options.
+#[derive(Clone, Copy)]
 pub(crate) struct Given<'a> {
-    pub(crate) plain: Vec<&'a str>,
-    pub(crate) budgets: Vec<&'a [u8]>,
-    pub(crate) workers: Vec<&'a [u8]>,
+    pub(crate) job: &'a str,
+    pub(crate) file: &'a str,
+    pub(crate) budget: Option<&'a str>,
+    pub(crate) workers: Option<&'a str>,
 }
 
-impl<'a> Given<'a> {
-    pub(crate) fn new(alloc: Global) -> Given<'a>
-        ensures { command_of result ≡ nothing }
-    {
-        Given {
-            plain: Vec::new(alloc),
-            budgets: Vec::new(alloc),
-            workers: Vec::new(alloc),
-        }
-    }
+/// What clap reads from words that it takes, so only memory can be wanting.
+pub(crate) fn given_by<'a>(alloc: Global, words: &'a [String]) -> Result<Given<'a>, WordsFault>
+    requires { IsWholeReading (texts_of words.now) }
+    ensures { MatchResult result (λ g. read (texts_of words.entry.now) Place.Open ≡ Some (command_of g)) (λ fault. fault ≡ WordsFault.Memory) }
+{
+    let matches = match line(alloc)?.try_get_matches_from(words) {
+        Ok(matches) => matches,
+        Err(error) => return Err(fault_of(&error)),
+    };
+    let Some(job) = matches.get_str("job") else {
+        unreachable!()
+    };
+    let Some(file) = matches.get_str("file") else {
+        unreachable!()
+    };
+    Ok(Given {
+        job,
+        file,
+        budget: matches.get_str("budget"),
+        workers: matches.get_str("workers"),
+    })
+}
 
-    pub(crate) fn with_plain(mut self, word: &'a str) -> Result<Given<'a>, AllocError>
-        ensures { IfOk result (λ g. command_of g ≡ added_plain (command_of self.entry) word.entry.now) }
-    {
-        self.plain.push(word)?;
-        Ok(self)
-    }
-
-    pub(crate) fn with_value(
-        mut self,
-        setting: Setting,
-        word: &'a [u8],
-    ) -> Result<Given<'a>, AllocError>
-        ensures { IfOk result (λ g. command_of g ≡ added_value setting (command_of self.entry) word.entry.now) }
-    {
-        match setting {
-            Setting::Budget => self.budgets.push(word)?,
-            Setting::Workers => self.workers.push(word)?,
-        }
-        Ok(self)
+/// What an error of clap comes to.
+fn fault_of(error: &Error) -> WordsFault
+    ensures { kind_of error.now ≡ ErrorKind.OutOfMemory → result ≡ WordsFault.Memory }
+{
+    match error.kind() {
+        ErrorKind::OutOfMemory => WordsFault::Memory,
+        _ => WordsFault::Usage,
     }
 }

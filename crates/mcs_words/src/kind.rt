@@ -1,20 +1,20 @@
 //! What a word before the first `--` is.
 
-ghost use Rattle.std.specs.Prelude.{◌≡◌, option_map};
+ghost use Rattle.std.specs.Prelude.{◌≡◌, IsTrue, ◌↔◌, option_map};
 ghost use Rattle.mcs_words.specs.Commands.{begins_with_dash};
-ghost use Rattle.mcs_words.specs.Reading.{after, kind, kind_seen};
+ghost use Rattle.mcs_words.specs.Reading.{after, kind, IsKindSeen};
 
 use crate::setting::Setting;
 
 /// What a word is that stands before the first `--` and is no option's value.
 #[derive(Clone, Copy)]
-pub(crate) enum Kind<'a> {
+pub(crate) enum Kind {
     /// `--`: each word after it is plain.
     Dashes,
     /// The name of an option, whose value is the next word.
     Name(Setting),
     /// The name of an option, `=`, and its value.
-    Joined(Setting, &'a [u8]),
+    Joined(Setting),
     /// A word that does not begin with `-`, or `-` alone.
     Plain,
     /// Any other word, which is a fault.
@@ -40,8 +40,8 @@ fn value_after<'a>(front: &str, word: &'a str) -> Option<&'a [u8]>
 
 /// What the word is.
 #[tactic(auto, unfolding(crate::specs::Reading::kind))]
-pub(crate) fn kind_of(word: &str) -> Kind<'_>
-    ensures { kind_seen result ≡ kind word.now }
+pub(crate) fn kind_of(word: &str) -> Kind
+    ensures { IsKindSeen result (kind word.now) }
 {
     if word == "--" {
         Kind::Dashes
@@ -49,10 +49,10 @@ pub(crate) fn kind_of(word: &str) -> Kind<'_>
         Kind::Name(Setting::Budget)
     } else if word == "--workers" {
         Kind::Name(Setting::Workers)
-    } else if let Some(value) = value_after("--budget=", word) {
-        Kind::Joined(Setting::Budget, value)
-    } else if let Some(value) = value_after("--workers=", word) {
-        Kind::Joined(Setting::Workers, value)
+    } else if value_after("--budget=", word).is_some() {
+        Kind::Joined(Setting::Budget)
+    } else if value_after("--workers=", word).is_some() {
+        Kind::Joined(Setting::Workers)
     } else if begins_with_dash(word) && word != "-" {
         Kind::Unknown
     } else {

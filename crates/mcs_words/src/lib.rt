@@ -9,6 +9,7 @@ mod line;
 mod number;
 mod reading;
 mod setting;
+mod tally;
 #[cfg(test)]
 mod tests;
 

@@ -1,16 +1,17 @@
 //! From words to a job.
 
-ghost use Rattle.std.specs.Prelude.{◌≡◌, ◌≤◌, ℕ, Option, Some, None, map, option_map, MatchOption, MatchResult, IfOk, IfSome};
+ghost use Rattle.std.specs.Prelude.{◌≡◌, ◌+◌, ◌≤◌, ◌<◌, ◌^◌, ℕ, Option, Some, None, option_map, MatchOption, MatchResult, IfSome};
 ghost use Rattle.std.specs.Bool.{MatchBool};
 ghost use Rattle.mcs_words.specs.Commands.{Command, Request, IsJobOf, IsFile, IsChosen, AsksFor, most_of};
-ghost use Rattle.mcs_words.specs.Reading.{texts_of, request_of, command_of, both, step, open_step, kind, read};
+ghost use Rattle.mcs_words.specs.Reading.{texts_of, request_of, command_of, listed, step, open_step, kind, read, counted, tally_of, total_of};
 
-use crate::given::Given;
+use crate::given::{Given, given_by};
 use crate::job::{Job, WordsFault};
 use crate::kind::{Kind, begins_with_dash, kind_of};
 use crate::number::number;
 use crate::setting::Setting;
-use std::alloc::{AllocError, Global};
+use crate::tally::Tally;
+use std::alloc::Global;
 
 /// Where a word stands.
 #[derive(Clone, Copy)]
@@ -34,67 +35,73 @@ pub fn read_words(alloc: Global, words: &[String]) -> Result<Job, WordsFault>
         (λ job. IsJobOf (texts_of words.now) (request_of job))
         (λ fault. fault ≡ WordsFault.Usage → (request : Request) → ¬ IsJobOf (texts_of words.now) request) }
 {
-    match given(alloc, words)? {
-        Some(given) => job(alloc, &given),
+    match tally(words) {
         None => Err(WordsFault::Usage),
+        Some(tally) => {
+            if !tally.is_whole() {
+                return Err(WordsFault::Usage);
+            }
+            match given_by(alloc, words) {
+                Ok(given) => job(alloc, &given),
+                Err(fault) => Err(fault),
+            }
+        }
     }
 }
 
-/// What the words give. `None` exactly where they are at fault.
-fn given<'a>(alloc: Global, words: &'a [String]) -> Result<Option<Given<'a>>, AllocError>
-    ensures { IfOk result (λ r. MatchOption r (read (texts_of words.entry.now) Place.Open ≡ None)
-        (λ g. read (texts_of words.entry.now) Place.Open ≡ Some (command_of g))) }
+/// How many words of each sort there are. `None` exactly where one of them is at fault.
+fn tally(words: &[String]) -> Option<Tally>
+    ensures { result ≡ option_map tally_of (read (texts_of words.now) Place.Open) }
 {
-    let mut given = Given::new(alloc);
+    let mut tally = Tally::new();
     let mut place = Place::Open;
     for word in words {
-        match take(given, place, word.as_str())? {
+        match take(tally, place, word.as_str()) {
             Some((more, next)) => {
-                given = more;
+                tally = more;
                 place = next;
             }
-            None => return Ok(None),
+            None => return None,
         }
     }
     match place {
-        Place::Open | Place::Closed => Ok(Some(given)),
-        Place::Value(_) => Ok(None),
+        Place::Open | Place::Closed => Some(tally),
+        Place::Value(_) => None,
     }
 }
 
 /// One more word.
-fn take<'a>(
-    given: Given<'a>,
-    place: Place,
-    word: &'a str,
-) -> Result<Option<(Given<'a>, Place)>, AllocError>
-    ensures { IfOk result (λ r. (rest : Place → Option Command) → MatchOption r (step place word.entry.now rest ≡ None)
-        (λ p. option_map (both (command_of p.0)) (rest p.1) ≡ option_map (both (command_of given.entry)) (step place word.entry.now rest))) }
+fn take(tally: Tally, place: Place, word: &str) -> Option<(Tally, Place)>
+    requires { total_of tally < 2 ^ 63 }
+    ensures read { (rest : Place → Option Command) → MatchOption result (step place word.now rest ≡ None)
+        (λ p. option_map (counted p.0) (rest p.1) ≡ option_map (counted tally) (step place word.now rest)) }
+    ensures few { IfSome result (λ p. total_of p.0 ≤ total_of tally + 1) }
 {
     match place {
-        Place::Open => take_open(given, word),
+        Place::Open => take_open(tally, word),
         Place::Value(setting) => {
             if begins_with_dash(word) {
-                return Ok(None);
+                return None;
             }
-            Ok(Some((given.with_value(setting, word.as_bytes())?, Place::Open)))
+            Some((tally.with_value(setting), Place::Open))
         }
-        Place::Closed => Ok(Some((given.with_plain(word)?, Place::Closed))),
+        Place::Closed => Some((tally.with_plain(), Place::Closed)),
     }
 }
 
 /// One more word before the first `--`, which is no option's value.
-fn take_open<'a>(given: Given<'a>, word: &'a str) -> Result<Option<(Given<'a>, Place)>, AllocError>
-    ensures { IfOk result (λ r. (rest : Place → Option Command) → MatchOption r (open_step (kind word.entry.now) word.entry.now rest ≡ None)
-        (λ p. option_map (both (command_of p.0)) (rest p.1)
-        ≡ option_map (both (command_of given.entry)) (open_step (kind word.entry.now) word.entry.now rest))) }
+fn take_open(tally: Tally, word: &str) -> Option<(Tally, Place)>
+    requires { total_of tally < 2 ^ 63 }
+    ensures read { (rest : Place → Option Command) → MatchOption result (open_step (kind word.now) word.now rest ≡ None)
+        (λ p. option_map (counted p.0) (rest p.1) ≡ option_map (counted tally) (open_step (kind word.now) word.now rest)) }
+    ensures few { IfSome result (λ p. total_of p.0 ≤ total_of tally + 1) }
 {
     match kind_of(word) {
-        Kind::Dashes => Ok(Some((given, Place::Closed))),
-        Kind::Name(setting) => Ok(Some((given, Place::Value(setting)))),
-        Kind::Joined(setting, value) => Ok(Some((given.with_value(setting, value)?, Place::Open))),
-        Kind::Plain => Ok(Some((given.with_plain(word)?, Place::Open))),
-        Kind::Unknown => Ok(None),
+        Kind::Dashes => Some((tally, Place::Closed)),
+        Kind::Name(setting) => Some((tally, Place::Value(setting))),
+        Kind::Joined(setting) => Some((tally.with_value(setting), Place::Open)),
+        Kind::Plain => Some((tally.with_plain(), Place::Open)),
+        Kind::Unknown => None,
     }
 }
 
@@ -104,20 +111,17 @@ fn job(alloc: Global, given: &Given) -> Result<Job, WordsFault>
         (λ job. AsksFor (command_of given.now) (request_of job))
         (λ fault. fault ≡ WordsFault.Usage → (request : Request) → ¬ AsksFor (command_of given.now) request) }
 {
-    let [job, file] = given.plain.as_slice() else {
-        return Err(WordsFault::Usage);
-    };
-    if *job != "equilibria" || !is_file(file) {
+    if given.job != "equilibria" || !is_file(given.file) {
         return Err(WordsFault::Usage);
     }
-    let Some(budget) = chosen(Setting::Budget, given.budgets.as_slice()) else {
+    let Some(budget) = chosen(Setting::Budget, given.budget) else {
         return Err(WordsFault::Usage);
     };
-    let Some(workers) = chosen(Setting::Workers, given.workers.as_slice()) else {
+    let Some(workers) = chosen(Setting::Workers, given.workers) else {
         return Err(WordsFault::Usage);
     };
     Ok(Job::Equilibria {
-        file: String::from_str(alloc, file)?,
+        file: String::from_str(alloc, given.file)?,
         budget,
         workers: workers as u32,
     })
@@ -130,15 +134,14 @@ fn is_file(word: &str) -> bool
     !word.is_empty() && word != "-"
 }
 
-/// The number of an option with these values.
-fn chosen(setting: Setting, values: &[&[u8]]) -> Option<u64>
+/// The number of an option with this value, or its default.
+fn chosen(setting: Setting, value: Option<&str>) -> Option<u64>
     ensures number { MatchOption result
-        ((n : ℕ) → ¬ IsChosen setting (map (λ v. v.now) values.now) n) (λ n. IsChosen setting (map (λ v. v.now) values.now) n) }
+        ((n : ℕ) → ¬ IsChosen setting (listed value.entry) n) (λ n. IsChosen setting (listed value.entry) n) }
     ensures most { IfSome result (λ n. n ≤ most_of setting) }
 {
-    match values {
-        [] => Some(setting.default()),
-        [value] => number(value, setting.least(), setting.most()),
-        _ => None,
+    match value {
+        None => Some(setting.default()),
+        Some(value) => number(value.as_bytes(), setting.least(), setting.most()),
     }
 }
