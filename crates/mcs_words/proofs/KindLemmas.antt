@@ -120,6 +120,8 @@ module _ (word : Word) (no_dashes : bytes_eq word (codes "--") ≡ false) (no_bu
   pub workers_seen : (r s : Option (Bor Word)) → option_map (λ v. v.now) r ≡ after (codes "--budget=") word → is_some r ≡ false → option_map (λ v. v.now) s ≡ after (codes "--workers=") word → is_some s ≡ true
       → (value : Word) × (kind word ≡ joined Workers value)
   workers_seen r s e none e' some =
-      let value = found (after (codes "--workers=") word) s e' some in
-      (value.0, kind_at ∙ (ap (λ (o : Option Word). option_map_or (joined Budget) o (option_map_or (joined Workers) (after (codes "--workers=") word) (other_kind word))) (not_found (after (codes "--budget=") word) r e none)
-      ∙ ap (λ (o : Option Word). option_map_or (joined Workers) o (other_kind word)) value.1))
+      let value = found (after (codes "--workers=") word) s e' some in (
+        value.0,
+        kind_at ∙ (ap (λ (o : Option Word). option_map_or (joined Budget) o (option_map_or (joined Workers) (after (codes "--workers=") word) (other_kind word))) (not_found (after (codes "--budget=") word) r e none)
+            ∙ ap (λ (o : Option Word). option_map_or (joined Workers) o (other_kind word)) value.1),
+      )

@@ -50,21 +50,21 @@ or_last p (x ∷ rows) r e = ap (λ o. cond (p x) (Some x) o) (or_last p rows r 
 at_last : (p : Row → Bool) (rows : List Row) (r : Row) → find p rows ≡ None → p r ≡ true → find p (rows ++ r ∷ []) ≡ Some r
 at_last p [] r none e = rw e refl
 at_last p (x ∷ rows) r none e = elim (p x) as (λ b. cond b (Some x) (find p rows) ≡ None → cond b (Some x) (find p (rows ++ r ∷ [])) ≡ Some r) [
-      | true ↦ λ some. let never : Some x ≡ None = some in cc
-      | false ↦ λ rest. at_last p rows r rest e
-    ] none
+  | true ↦ λ some. let never : Some x ≡ None = some in cc
+  | false ↦ λ rest. at_last p rows r rest e
+] none
 
 pub none_has : (id : Word) (rows : List Row) → find (is_for id) rows ≡ None → has_row id rows ≡ false
 none_has id [] e = refl
 none_has id (x ∷ rows) e = elim (bytes_eq x.id id) as (λ b. cond b (Some x) (find (is_for id) rows) ≡ None → (b || has_row id rows) ≡ false) [
-      | true ↦ λ some. let never : Some x ≡ None = some in cc
-      | false ↦ λ rest. none_has id rows rest
-    ] e
+  | true ↦ λ some. let never : Some x ≡ None = some in cc
+  | false ↦ λ rest. none_has id rows rest
+] e
 
 past_rows : (id : Word) (change : Row → List Row) (missing rows : List Row) → find (is_for id) rows ≡ None → at_row id change missing rows ≡ rows ++ missing
 past_rows id change missing [] e = refl
 past_rows id change missing (x ∷ rows) e = elim (bytes_eq x.id id) as (λ b. cond b (Some x) (find (is_for id) rows) ≡ None
-      → cond b (change x ++ rows) (x ∷ at_row id change missing rows) ≡ (x ∷ rows) ++ missing) [
+    → cond b (change x ++ rows) (x ∷ at_row id change missing rows) ≡ (x ∷ rows) ++ missing) [
       | true ↦ λ some. let never : Some x ≡ None = some in cc
       | false ↦ λ rest. ap (λ (rs : List Row). x ∷ rs) (past_rows id change missing rows rest)
     ] e

@@ -1,0 +1,15 @@
+use Rattle.mcs_words.specs.Reading.{kind}
+use Rattle.mcs_words.proofs.ReadingLemmas.{joined_step, plain_step, total_plain, total_value}
+use Rattle.mcs_words.proofs.reading.take_open.Goals as goal
+
+pub returns-in-Joined : goal.returns-in-Joined
+returns-in-Joined c = record {
+  read = λ rest. joined_step c.args.tally c.with_value.result c.args.word.now rest (kind c.args.word.now) c.in-Joined.setting c.in-Joined.ensures.0 c.in-Joined.ensures.1 c.with_value.ensures;
+  few = total_value c.in-Joined.setting c.args.tally c.with_value.result c.with_value.ensures;
+}
+
+pub returns-in-Plain : goal.returns-in-Plain
+returns-in-Plain c = record {
+  read = λ rest. plain_step c.args.tally c.with_plain.result c.args.word.now rest (kind c.args.word.now) c.in-Plain.ensures c.with_plain.ensures;
+  few = total_plain c.args.tally c.with_plain.result c.with_plain.ensures;
+}
