@@ -150,6 +150,10 @@ minimality_is_critical edges t = (
   λ both. minimal_from_critical edges t both.0 both.1,
 )
 
+-- each mark of a minimal transversal is one of an edge
+pub mark_of_edge : (edges : List ℕ) (t : ℕ) → IsMinimal (IsTransversalOf edges) t → (k : ℕ) → IsTrue (has t k) → (e : ℕ) × IsAmong e edges × IsTrue (has e k)
+mark_of_edge edges t minimal k in_t = let h = critical_from_minimal edges t minimal k in_t in (h.edge, h.among, alone-in_first h.edge t k h.alone)
+
 -- ---- a minimal one lies within each transversal
 fewer : (t k : ℕ) → has t k ≡ true → minus t (single k) < t
 fewer t k in_t = at (eqb (minus t (single k)) t) refl
