@@ -1,0 +1,3 @@
+pub mod ReachLemmas
+pub mod OrderLemmas
+pub mod ShareLemmas

@@ -1,0 +1,4 @@
+pub mod Plans
+pub mod Reach
+pub mod Counts
+pub mod Laws
