@@ -1,3 +1,5 @@
 pub mod ReachLemmas
 pub mod OrderLemmas
 pub mod ShareLemmas
+pub mod StateLemmas
+pub mod NearLemmas

@@ -1,4 +1,5 @@
 pub mod Plans
 pub mod Reach
+pub mod States
 pub mod Counts
 pub mod Laws

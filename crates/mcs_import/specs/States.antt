@@ -1,0 +1,32 @@
+-- States that are put together of what others supply, and sets near others.
+use Rattle.std.specs.Prelude.{◌≡◌, ℕ, ◌≤◌, Bool, List, [], ◌∷◌, ◌⊎◌, bit_xor, nat_le}
+use Rattle.std.specs.List.{list_any}
+use Rattle.mcs_sets.specs.Sets.{common, union, single, size, Within}
+use Rattle.mcs_base.specs.Listings.{IsAmong}
+
+-- from a, with one of each list as far as it is within the mask, comes the state ρ
+abbrev pub Joins : ℕ → List (List ℕ) → ℕ → ℕ → Type 0
+Joins mask [] a ρ = a ≡ ρ
+Joins mask (xs ∷ xss) a ρ = (τ : ℕ) × IsAmong τ xs × Joins mask xss (union a (common τ mask)) ρ
+
+-- from a, with some of the numbers, comes the set s
+abbrev pub Grows : List ℕ → ℕ → ℕ → Type 0
+Grows [] a s = a ≡ s
+Grows (v ∷ vs) a s = Grows vs a s ⊎ Grows vs (union a (single v)) s
+
+-- from one of the list
+abbrev pub SomeJoins : ℕ → List (List ℕ) → List ℕ → ℕ → Type 0
+SomeJoins mask xss starts ρ = (a : ℕ) × IsAmong a starts × Joins mask xss a ρ
+
+abbrev pub SomeGrows : List ℕ → List ℕ → ℕ → Type 0
+SomeGrows vs starts s = (a : ℕ) × IsAmong a starts × Grows vs a s
+
+-- a set of the rules that differs in at most so many of them from one of the list
+pub record IsNear (rules : ℕ) (sets : List ℕ) (level x : ℕ) : Type 0 where
+  pub of_rules : Within x rules
+  pub set : ℕ
+  pub listed : IsAmong set sets
+  pub near : size (bit_xor set x) ≤ level
+
+abbrev pub is_near : List ℕ → ℕ → ℕ → Bool
+is_near sets level x = list_any (λ a. nat_le (size (bit_xor a x)) level) sets

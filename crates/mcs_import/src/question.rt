@@ -1,0 +1,59 @@
+//! What a context is asked.
+
+ghost use Rattle.std.specs.Prelude.{◌≡◌, ◌<◌, ◌↔◌, ℕ, List, map, length, IfOk};
+ghost use Rattle.mcs_sets.specs.Sets.{common};
+ghost use Rattle.mcs_base.specs.Listings.{IsAmong, IsListing};
+ghost use Rattle.mcs_system.specs.Imports.{IsImportOrder, IsQuestion, supplied, rules_into};
+ghost use Rattle.mcs_system.specs.Systems.{applicable};
+ghost use Rattle.mcs_import.specs.Plans.{AreSupplies};
+
+use crate::near::near_sets;
+use crate::plan::Plan;
+use crate::states::{guessed_states, supplied_states};
+use mcs_base::{Active, Memory, Vars, list_rule_sets};
+use mcs_system::System;
+use std::alloc::Global;
+
+/// The sets of rules into context `i` of the system that apply in one of the states: each once.
+fn applicable_sets(
+    alloc: Global,
+    system: &System,
+    i: u32,
+    states: &[Vars],
+) -> Result<Vec<Active>, Memory>
+    requires { i < length system.now.contexts }
+    ensures { IfOk result (λ sets. (a : ℕ) → IsAmong a sets.items
+        ↔ IsAmong a (map (λ σ. common (applicable system.now σ) (rules_into system.now i)) states.now)) }
+{
+    let mut sets = Vec::new(alloc);
+    for state in states {
+        sets.push(system.applicable(i, *state))?;
+    }
+    list_rule_sets(&mut sets);
+    Ok(sets)
+}
+
+/// The questions of the level to context `i` of the plan's system: the sets of rules into it that differ in
+/// at most `level` rules from those that apply in some state. On each context that supplies `i` the state is
+/// one of its supplies; on all others, also on `i` itself, it is free. `supplies` are what the contexts of
+/// `plan.supplied(i)` may supply at this level, in this order, each list in the order of states. Each
+/// question is there once, and they ascend by the numbers that stand for them.
+pub fn questions(
+    alloc: Global,
+    plan: &Plan,
+    i: u32,
+    supplies: &[Vec<Vars>],
+    level: u32,
+) -> Result<Vec<Active>, Memory>
+    requires in_range { i < length plan.now.contexts }
+    requires supplied { (order : List ℕ) → IsImportOrder plan.now order
+        → AreSupplies plan.now order level (supplied plan.now order i) (map (λ supply. supply.items) supplies.now) }
+    ensures { IfOk result (λ sets. (order : List ℕ) → IsImportOrder plan.now order
+        → IsListing (IsQuestion plan.now order level i) (λ a b. a < b) sets.items) }
+{
+    let system = plan.system();
+    let supplied = supplied_states(alloc, supplies, system.inputs_of(i))?;
+    let states = guessed_states(supplied, plan.guessed(i))?;
+    let sets = applicable_sets(alloc, system, i, &states)?;
+    near_sets(alloc, system.rules_of(i), &sets, level)
+}
