@@ -3,3 +3,4 @@ pub mod OrderLemmas
 pub mod ShareLemmas
 pub mod StateLemmas
 pub mod NearLemmas
+pub mod QuestionLemmas
