@@ -4,3 +4,4 @@ pub mod ShareLemmas
 pub mod StateLemmas
 pub mod NearLemmas
 pub mod QuestionLemmas
+pub mod CountLemmas

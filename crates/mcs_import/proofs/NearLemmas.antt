@@ -1,5 +1,5 @@
 -- Which sets are near one of a list.
-use Rattle.std.proofs.Common.{◌≡◌, ◌≤◌, ◌∙◌, ◌↔◌, ℕ, Bool, true, List, filter, leb, sym, ap, subst, arith, bit_xor}
+use Rattle.std.proofs.Common.{◌≡◌, ◌↔◌, ℕ, List, filter, leb, sym, subst, bit_xor}
 use Rattle.std.proofs.lemmas.Bool.{leb-true, le-leb}
 use Rattle.mcs_sets.specs.Sets.{size, Within}
 use Rattle.mcs_base.specs.Listings.{IsAmong}

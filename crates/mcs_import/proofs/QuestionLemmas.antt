@@ -1,23 +1,23 @@
 -- The questions to a context, by what its supplies and its guesses make of its inputs.
 use Rattle.std.proofs.Common.{◌≡◌, ℕ, ◌+◌, ◌<◌, ◌≤◌, suc, Bool, true, false, not, ◌&&◌, ◌||◌, cond, eqb, ltb, List, [], ◌∷◌, ◌++◌, length, map, filter, reverse, Option, Some, None, slice_get, refl, sym, ap, ◌∙◌, subst, inl, inr, ◌⊎◌, ◌↔◌, arith, true≢false, bit_xor}
-use Rattle.std.proofs.lemmas.Bool.{and_parts, and_from, or_cases, cases_Bool, not-true}
+use Rattle.std.proofs.lemmas.Bool.{and_parts, and_from, or_cases, not-true}
 use Rattle.std.proofs.lemmas.Bool.Decides.{nat_tests}
 use Rattle.std.proofs.lemmas.List.{reverse-append}
 use Rattle.std.specs.List.{list_any, list_all, enumerate_from}
 use mathlib.Core.List.{reverse_aux}
-use Rattle.mcs_sets.specs.Sets.{has, size, common, union, minus, members, Within}
+use Rattle.mcs_sets.specs.Sets.{has, size, common, union, members, Within}
 use Rattle.mcs_sets.proofs.SetLemmas.{same_set, has-empty, has-union, has-common, has-minus, has-such_that, common_where_within}
 use Rattle.mcs_base.specs.Listings.{IsAmong, IsListing}
 use Rattle.mcs_base.proofs.ListingLemmas.{IsListing-same}
 use Rattle.mcs_system.specs.Plain.{Read, Bridge, System}
-use Rattle.mcs_system.specs.Systems.{same_read, is_of_context, is_applicable, variables, variables_of, all_variables, applicable, applies_among, believed_among, IsVariable, IsAcceptedPart}
+use Rattle.mcs_system.specs.Systems.{same_read, is_of_context, variables, variables_of, all_variables, applicable, applies_among, believed_among, IsVariable, IsAcceptedPart}
 use Rattle.mcs_system.specs.Rows.{inputs_of, is_read_into}
 use Rattle.mcs_system.specs.Imports.{imports, before_in, supplied, rules_into, goes_into, FollowsOrder, IsImportOrder, IsQuestionAfter, IsPossibleFrom, IsQuestion, IsPossible}
 use Rattle.mcs_system.proofs.Members.{among_left, among_right, filter_among, among_filter, get_below}
 use Rattle.mcs_system.proofs.VariableLemmas.{has-applicable, has-rules_into, has-inputs_of, has-variables_of}
 use Rattle.mcs_import.specs.Plans.{variables_of_all, guessed, AreSupplies}
 use Rattle.mcs_import.specs.States.{Joins, SomeJoins, SomeGrows, IsNear}
-use Rattle.mcs_import.proofs.ReachLemmas.{alike, or_first, or_second}
+use Rattle.mcs_import.proofs.ReachLemmas.{or_first, or_second}
 use Rattle.mcs_import.proofs.StateLemmas.{among_map, grows_is}
 
 -- ---- the order has each context once
@@ -113,11 +113,18 @@ pub record IsAllowed (m : System) (order : List ℕ) (level i σ : ℕ) : Type 0
 pub question_by_state : (m : System) (order : List ℕ) → IsImportOrder m order → (level i x : ℕ)
     → IsQuestion m order level i x ↔ (Within x (rules_into m i) × ((σ : ℕ) × IsAllowed m order level i σ × (size (bit_xor (common (applicable m σ) (rules_into m i)) x) ≤ level)))
 question_by_state m order ordered level i x = (
-  λ h. (h.of_rules, (h.state, record {
-    of_variables = h.of_variables;
-    supplies = λ j among. (let (before, imported) = filter_among (imports m i) j (before_in order i) among in
-        (possible_is m order ordered level i j _ before).0 (h.supplies j ((among_reverse j (before_in order i)).1 before) imported));
-  }, h.near)),
+  λ h. (
+    h.of_rules,
+    (
+      h.state,
+      record {
+        of_variables = h.of_variables;
+        supplies = λ j among. (let (before, imported) = filter_among (imports m i) j (before_in order i) among in
+            (possible_is m order ordered level i j _ before).0 (h.supplies j ((among_reverse j (before_in order i)).1 before) imported));
+      },
+      h.near,
+    ),
+  ),
   λ (of_rules, (σ, allowed, near)). record {
     of_rules = of_rules;
     state = σ;
@@ -235,13 +242,15 @@ glue m order level mask (j ∷ js) (xs ∷ xss) (listing, rest) (fresh, apart) f
     let possible : IsPossible m order level j τ = (listing.exactly τ).0 among in
     let inside : Within τ (variables_of m j) = possible_within m order level j τ possible in
     let (σ, glued) = glue m order level mask js xss rest apart (union from τ) (λ v e. joined_known τ inside v (or_cases (has from v) (has τ v) (sym (has-union from τ v) ∙ e))) (λ k here v e. still_clear τ inside k here v e)
-        (union a (common τ mask)) p (ap (λ s. union s (common τ mask)) is ∙ sym (common-union from τ mask)) joins in
-    (σ, record {
-      of_variables = glued.of_variables;
-      supplies = λ k here. at_each τ possible inside σ glued.keeps glued.supplies k here;
-      part = glued.part;
-      keeps = λ v none. glued.keeps v (λ k here. none k (inr here)) ∙ has-union from τ v ∙ ap (λ u. has from v || u) (false_where_not (has τ v) (λ e. true≢false (sym (inside v e) ∙ none j (inl refl)))) ∙ or-false (has from v);
-    })
+    (union a (common τ mask)) p (ap (λ s. union s (common τ mask)) is ∙ sym (common-union from τ mask)) joins in (
+      σ,
+      record {
+        of_variables = glued.of_variables;
+        supplies = λ k here. at_each τ possible inside σ glued.keeps glued.supplies k here;
+        part = glued.part;
+        keeps = λ v none. glued.keeps v (λ k here. none k (inr here)) ∙ has-union from τ v ∙ ap (λ u. has from v || u) (false_where_not (has τ v) (λ e. true≢false (sym (inside v e) ∙ none j (inl refl)))) ∙ or-false (has from v);
+      },
+    )
   where
     or-false : (u : Bool) → (u || false) ≡ u
     or-false true = refl
@@ -284,14 +293,25 @@ unglue m order level mask σ [] [] supplies possible a = same_set _ _ (λ v. sym
     at false false w = refl
 unglue m order level mask σ [] (xs ∷ xss) supplies possible a = absurd supplies
 unglue m order level mask σ (j ∷ js) [] supplies possible a = absurd supplies
-unglue m order level mask σ (j ∷ js) (xs ∷ xss) (listing, rest) possible a =
-    (common σ (variables_of m j), (listing.exactly (common σ (variables_of m j))).1 (possible j (inl refl)),
-    subst (λ (s : ℕ). Joins mask xss (union a (common (common σ (variables_of m j)) mask)) s) (same_set _ _ whole) (unglue m order level mask σ js xss rest (λ k here. possible k (inr here)) (union a (common (common σ (variables_of m j)) mask))))
+unglue m order level mask σ (j ∷ js) (xs ∷ xss) (listing, rest) possible a = (
+  common σ (variables_of m j),
+  (listing.exactly (common σ (variables_of m j))).1 (possible j (inl refl)),
+  subst (λ (s : ℕ). Joins mask xss (union a (common (common σ (variables_of m j)) mask)) s) (same_set _ _ whole) (unglue m order level mask σ js xss rest (λ k here. possible k (inr here)) (union a (common (common σ (variables_of m j)) mask))),
+)
   where
     whole : (v : ℕ) → has (union (union a (common (common σ (variables_of m j)) mask)) (common (common σ (variables_of_all m js)) mask)) v ≡ has (union a (common (common σ (union (variables_of m j) (variables_of_all m js))) mask)) v
-    whole v = rw (has-union (union a (common (common σ (variables_of m j)) mask)) (common (common σ (variables_of_all m js)) mask) v, has-union a (common (common σ (variables_of m j)) mask) v, has-common (common σ (variables_of m j)) mask v, has-common σ (variables_of m j) v,
-        has-common (common σ (variables_of_all m js)) mask v, has-common σ (variables_of_all m js) v, has-union a (common (common σ (union (variables_of m j) (variables_of_all m js))) mask) v, has-common (common σ (union (variables_of m j) (variables_of_all m js))) mask v,
-        has-common σ (union (variables_of m j) (variables_of_all m js)) v, has-union (variables_of m j) (variables_of_all m js) v) (at (has a v) (has σ v) (has (variables_of m j) v) (has (variables_of_all m js) v) (has mask v))
+    whole v = rw (
+      has-union (union a (common (common σ (variables_of m j)) mask)) (common (common σ (variables_of_all m js)) mask) v,
+      has-union a (common (common σ (variables_of m j)) mask) v,
+      has-common (common σ (variables_of m j)) mask v,
+      has-common σ (variables_of m j) v,
+      has-common (common σ (variables_of_all m js)) mask v,
+      has-common σ (variables_of_all m js) v,
+      has-union a (common (common σ (union (variables_of m j) (variables_of_all m js))) mask) v,
+      has-common (common σ (union (variables_of m j) (variables_of_all m js))) mask v,
+      has-common σ (union (variables_of m j) (variables_of_all m js)) v,
+      has-union (variables_of m j) (variables_of_all m js) v,
+    ) (at (has a v) (has σ v) (has (variables_of m j) v) (has (variables_of_all m js) v) (has mask v))
       where
         at : (a s j w k : Bool) → ((a || ((s && j) && k)) || ((s && w) && k)) ≡ (a || ((s && (j || w)) && k))
         at true s j w k = refl
@@ -319,11 +339,14 @@ module _ (m : System) (order : List ℕ) (ordered : IsImportOrder m order) (leve
   state_for : (p g : ℕ) → Joins I xss 0 p → Within g G → (σ : ℕ) × IsAllowed m order level i σ × (common σ I ≡ union p g)
   state_for p g joins within =
       let (σ, glued) = glue m order level I (supplied m order i) xss supplies (supplied_apart m order i ordered) 0 (λ v e. absurd (true≢false (sym e ∙ has-empty v))) (λ j among v e. has-empty v) 0 p
-          (same_set _ _ (λ v. has-empty v ∙ sym (has-common 0 I v ∙ ap (λ u. u && has I v) (has-empty v)))) joins in
-      (union σ g, record {
-        of_variables = λ v e. either σ glued.of_variables v (or_cases (has σ v) (has g v) (sym (has-union σ g v) ∙ e));
-        supplies = λ j among. subst (IsPossible m order level j) (same_set _ _ (λ v. sym (has-common (union σ g) (variables_of m j) v ∙ rw (has-union σ g v) (apart j among v (has σ v) (has (variables_of m j) v) refl) ∙ sym (has-common σ (variables_of m j) v)))) (glued.supplies j among);
-      }, common-union σ g I ∙ ap (λ s. union s (common g I)) glued.part ∙ ap (union p) (common_where_within g I (λ v e. (guess_parts v (within v e)).0)))
+      (same_set _ _ (λ v. has-empty v ∙ sym (has-common 0 I v ∙ ap (λ u. u && has I v) (has-empty v)))) joins in (
+        union σ g,
+        record {
+          of_variables = λ v e. either σ glued.of_variables v (or_cases (has σ v) (has g v) (sym (has-union σ g v) ∙ e));
+          supplies = λ j among. subst (IsPossible m order level j) (same_set _ _ (λ v. sym (has-common (union σ g) (variables_of m j) v ∙ rw (has-union σ g v) (apart j among v (has σ v) (has (variables_of m j) v) refl) ∙ sym (has-common σ (variables_of m j) v)))) (glued.supplies j among);
+        },
+        common-union σ g I ∙ ap (λ s. union s (common g I)) glued.part ∙ ap (union p) (common_where_within g I (λ v e. (guess_parts v (within v e)).0)),
+      )
     where
       either : (σ : ℕ) → Within σ (all_variables m) → (v : ℕ) → (has σ v ≡ true) ⊎ (has g v ≡ true) → has (all_variables m) v ≡ true
       either σ known v (inl e) = known v e
@@ -339,9 +362,13 @@ module _ (m : System) (order : List ℕ) (ordered : IsImportOrder m order) (leve
 
   -- and what is seen of a state that is allowed is joined and guessed
   parts_of : (σ : ℕ) → IsAllowed m order level i σ → (p : ℕ) × (g : ℕ) × Joins I xss 0 p × Within g G × (common σ I ≡ union p g)
-  parts_of σ allowed =
-      (union 0 (common (common σ S) I), common σ G, unglue m order level I σ (supplied m order i) xss supplies allowed.supplies 0,
-      (λ v e. (and_parts (has σ v) (has G v) (sym (has-common σ G v) ∙ e)).1), same_set _ _ whole)
+  parts_of σ allowed = (
+    union 0 (common (common σ S) I),
+    common σ G,
+    unglue m order level I σ (supplied m order i) xss supplies allowed.supplies 0,
+    (λ v e. (and_parts (has σ v) (has G v) (sym (has-common σ G v) ∙ e)).1),
+    same_set _ _ whole,
+  )
     where
       whole : (v : ℕ) → has (common σ I) v ≡ has (union (union 0 (common (common σ S) I)) (common σ G)) v
       whole v = rw (has-common σ I v, has-union (union 0 (common (common σ S) I)) (common σ G) v, has-union 0 (common (common σ S) I) v, has-empty v, has-common (common σ S) I v, has-common σ S v, has-common σ G v, has-minus I S v) (at (has σ v) (has I v) (has S v))

@@ -1,11 +1,11 @@
 -- States that are joined and grown one list, or one number, after the other.
-use Rattle.std.proofs.Common.{Vec, Global, ◌≡◌, ℕ, ◌+◌, ◌<◌, ◌≤◌, zero, suc, Bool, true, false, not, ◌&&◌, ◌||◌, cond, eqb, List, [], ◌∷◌, ◌++◌, length, map, take, drop, get_or, refl, sym, ap, ◌∙◌, subst, inl, inr, ◌⊎◌, ◌↔◌, arith, true≢false, bit_xor, add-one, drop-cons}
-use Rattle.std.proofs.lemmas.Bool.{and_parts, and_from, or_cases, cases_Bool}
+use Rattle.std.proofs.Common.{Vec, Global, ◌≡◌, ℕ, ◌+◌, ◌<◌, ◌≤◌, Bool, true, false, not, ◌&&◌, ◌||◌, cond, eqb, List, [], ◌∷◌, ◌++◌, length, map, take, drop, get_or, refl, sym, ap, ◌∙◌, subst, inl, inr, ◌⊎◌, ◌↔◌, arith, true≢false, bit_xor}
+use Rattle.std.proofs.lemmas.Bool.{and_parts, or_cases}
 use Rattle.std.proofs.lemmas.Bool.Decides.{nat_tests}
 use Rattle.std.proofs.lemmas.List.{take_all, at_drop_more, at_drop_all}
 use Rattle.std.specs.List.{flat_map}
 use Rattle.mcs_sets.specs.Sets.{has, single, union, common, minus, members, Within}
-use Rattle.mcs_sets.proofs.SetLemmas.{same_set, has-empty, has-single, has-union, has-common, has-minus, has-differ}
+use Rattle.mcs_sets.proofs.SetLemmas.{same_set, has-empty, has-single, has-union, has-minus, has-differ}
 use Rattle.mcs_base.specs.Listings.{IsAmong, IsListing}
 use Rattle.mcs_base.proofs.ListingLemmas.{members_listing, map_among}
 use Rattle.mcs_system.proofs.Members.{among_left, among_right, among_either, among_flat_map, flat_map_among}
@@ -64,9 +64,12 @@ joins_step mask xs xss starts parts next same is ρ = (to, from)
 
     from : SomeJoins mask (xs ∷ xss) starts ρ → SomeJoins mask xss next ρ
     from (s, here, (τ, of_xs, joins)) =
-        let of_parts : IsAmong (common τ mask) parts = (same (common τ mask)).1 ((among_map (λ s. common s mask) (common τ mask) xs).1 (τ, of_xs, refl)) in
-        (union s (common τ mask), subst (λ (ys : List ℕ). IsAmong (union s (common τ mask)) ys) (sym is)
-        (among_flat_map (λ s. map (union s) parts) s (union s (common τ mask)) starts here ((among_map (union s) (union s (common τ mask)) parts).1 (common τ mask, of_parts, refl))), joins)
+        let of_parts : IsAmong (common τ mask) parts = (same (common τ mask)).1 ((among_map (λ s. common s mask) (common τ mask) xs).1 (τ, of_xs, refl)) in (
+          union s (common τ mask),
+          subst (λ (ys : List ℕ). IsAmong (union s (common τ mask)) ys) (sym is)
+              (among_flat_map (λ s. map (union s) parts) s (union s (common τ mask)) starts here ((among_map (union s) (union s (common τ mask)) parts).1 (common τ mask, of_parts, refl))),
+          joins,
+        )
 
 abbrev pub lists : List (Vec ℕ Global) → List (List ℕ)
 lists supplies = map (λ supply. supply.items) supplies

@@ -1,6 +1,7 @@
 //! Which context imports which, in what order the contexts are asked, and what each of them is asked.
 #![tactic(auto, using(mcs_sets::proofs::SetLemmas::sets_fit))]
 
+mod laws;
 mod near;
 mod order;
 mod plan;
@@ -9,5 +10,8 @@ mod reach;
 mod share;
 mod states;
 
+pub use laws::{
+    import_order_exists, import_order_is_one, question_counts_are_one, questions_are_bounded,
+};
 pub use plan::Plan;
 pub use question::questions;

@@ -1,4 +1,4 @@
-use Rattle.std.proofs.Common.{◌≡◌, ◌∙◌, ℕ, ap, bit_xor}
+use Rattle.std.proofs.Common.{◌∙◌, ℕ, ap}
 use Rattle.mcs_sets.specs.Sets.{size, union, minus}
 use Rattle.mcs_import.proofs.StateLemmas.{differ_both_ways}
 use Rattle.mcs_import.proofs.near.difference.Goals as goal

@@ -1,4 +1,4 @@
-use Rattle.std.proofs.Common.{◌≡◌, ◌<◌, ◌∙◌, ℕ, List, length, take, filter, ap, arith}
+use Rattle.std.proofs.Common.{◌≡◌, ◌<◌, ◌∙◌, ℕ, filter, ap, arith}
 use Rattle.std.proofs.lemmas.List.{take_all}
 use Rattle.mcs_base.specs.Listings.{IsAmong}
 use Rattle.mcs_base.proofs.ListingLemmas.{IsListing-same}

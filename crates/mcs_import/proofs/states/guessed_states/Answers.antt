@@ -1,9 +1,9 @@
-use Rattle.std.proofs.Common.{◌≡◌, ◌<◌, ◌↔◌, ◌∷◌, List, [], ℕ, sym, ap, subst, ◌∙◌}
+use Rattle.std.proofs.Common.{◌≡◌, ◌<◌, ◌↔◌, List, ℕ, sym, subst, ◌∙◌}
 use Rattle.std.proofs.lemmas.List.Elements.{recursion_from_All}
 use Rattle.std.specs.List.{AllByRecursion}
 use Rattle.mcs_sets.specs.Sets.{members}
 use Rattle.mcs_import.specs.States.{SomeGrows}
-use Rattle.mcs_import.proofs.StateLemmas.{grows_step, grows_end, grown_from_none}
+use Rattle.mcs_import.proofs.StateLemmas.{grows_step, grows_end}
 use Rattle.mcs_import.proofs.states.guessed_states.Goals as goal
 
 pub loop-variable-init : goal.loop-variable-init

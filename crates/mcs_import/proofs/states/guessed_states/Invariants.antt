@@ -1,4 +1,4 @@
-use Rattle.std.proofs.Common.{◌↔◌, ◌<◌, ◌∷◌, [], ℕ}
+use Rattle.std.proofs.Common.{◌↔◌, ◌<◌, ℕ}
 use Rattle.std.specs.List.{AllByRecursion}
 use Rattle.mcs_sets.specs.Sets.{members}
 use Rattle.mcs_import.specs.States.{SomeGrows}
