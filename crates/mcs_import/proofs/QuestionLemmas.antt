@@ -16,7 +16,7 @@ use Rattle.mcs_system.specs.Imports.{imports, before_in, supplied, rules_into, g
 use Rattle.mcs_system.proofs.Members.{among_left, among_right, filter_among, among_filter, get_below}
 use Rattle.mcs_system.proofs.VariableLemmas.{has-applicable, has-rules_into, has-inputs_of, has-variables_of}
 use Rattle.mcs_import.specs.Plans.{variables_of_all, guessed, AreSupplies}
-use Rattle.mcs_import.specs.States.{Joins, SomeJoins, SomeGrows, IsNear}
+use Rattle.mcs_import.specs.States.{Joins, SomeJoins, SomeGrows, IsNear, IsAsked}
 use Rattle.mcs_import.proofs.ReachLemmas.{or_first, or_second}
 use Rattle.mcs_import.proofs.StateLemmas.{among_map, grows_is}
 
@@ -380,48 +380,75 @@ module _ (m : System) (order : List ℕ) (ordered : IsImportOrder m order) (leve
           at true false false = refl
           at false i w = refl
 
-  pub near_is_question : (joined states sets : List ℕ) → ((ρ : ℕ) → IsAmong ρ joined ↔ SomeJoins I xss (0 ∷ []) ρ) → ((ρ : ℕ) → IsAmong ρ states ↔ SomeGrows (members G) joined ρ)
-      → ((a : ℕ) → IsAmong a sets ↔ IsAmong a (map (λ σ. common (applicable m σ) (rules_into m i)) states)) → (x : ℕ) → IsNear (rules_into m i) sets level x ↔ IsQuestion m order level i x
-  near_is_question joined states sets of_joins of_grows of_states x = (λ h. (question_by_state m order ordered level i x).1 (to h), λ h. from ((question_by_state m order ordered level i x).0 h))
+  seen : (σ : ℕ) → common σ I ≡ common (common σ I) I
+  seen σ = sym (common_where_within (common σ I) I (λ v e. (and_parts (has σ v) (has I v) (sym (has-common σ I v) ∙ e)).1))
+
+  pub asked_is_question : (x : ℕ) → IsAsked m i xss G level x ↔ IsQuestion m order level i x
+  asked_is_question x = (
+    λ h. (question_by_state m order ordered level i x).1 (
+        let (σ, allowed, e) = state_for h.joined h.guess h.is_joined h.of_guesses in
+        let same : common (applicable m (union h.joined h.guess)) (rules_into m i) ≡ common (applicable m σ) (rules_into m i) = same_applicable m i (union h.joined h.guess) σ (ap (λ s. common s I) (sym e) ∙ sym (seen σ)) in
+        (h.of_rules, (σ, allowed, subst (λ (s : ℕ). size (bit_xor s x) ≤ level) same h.near))),
+    λ q. from ((question_by_state m order ordered level i x).0 q),
+  )
     where
-      seen : (σ : ℕ) → common σ I ≡ common (common σ I) I
-      seen σ = sym (common_where_within (common σ I) I (λ v e. (and_parts (has σ v) (has I v) (sym (has-common σ I v) ∙ e)).1))
-
-      to : IsNear (rules_into m i) sets level x → Within x (rules_into m i) × ((σ : ℕ) × IsAllowed m order level i σ × (size (bit_xor (common (applicable m σ) (rules_into m i)) x) ≤ level))
-      to h =
-          let (ρ, state, e) = (among_map (λ σ. common (applicable m σ) (rules_into m i)) h.set states).0 ((of_states h.set).0 h.listed) in
-          let (p, joined_p, grows) = (of_grows ρ).0 state in
-          let (g, within, e') = (grows_is G p ρ).0 grows in
-          let (σ, allowed, e'') = state_for p g (start p ((of_joins p).0 joined_p)) within in
-          let same : h.set ≡ common (applicable m σ) (rules_into m i) = e ∙ same_applicable m i ρ σ (ap (λ s. common s I) (e' ∙ sym e'') ∙ sym (seen σ)) in
-          (h.of_rules, (σ, allowed, subst (λ (s : ℕ). size (bit_xor s x) ≤ level) same h.near))
-        where
-          start : (p : ℕ) → SomeJoins I xss (0 ∷ []) p → Joins I xss 0 p
-          start p (a, inl e, joins) = subst (λ (z : ℕ). Joins I xss z p) e joins
-          start p (a, inr none, joins) = absurd none
-
-      from : Within x (rules_into m i) × ((σ : ℕ) × IsAllowed m order level i σ × (size (bit_xor (common (applicable m σ) (rules_into m i)) x) ≤ level)) → IsNear (rules_into m i) sets level x
+      from : Within x (rules_into m i) × ((σ : ℕ) × IsAllowed m order level i σ × (size (bit_xor (common (applicable m σ) (rules_into m i)) x) ≤ level)) → IsAsked m i xss G level x
       from (of_rules, (σ, allowed, near)) =
           let (p, g, joins, within, e) = parts_of σ allowed in
-          let joined_p : IsAmong p joined = (of_joins p).1 (0, inl refl, joins) in
-          let state : IsAmong (common σ I) states = (of_grows (common σ I)).1 (p, joined_p, (grows_is G p (common σ I)).1 (g, within, e)) in
-          let listed : IsAmong (common (applicable m (common σ I)) (rules_into m i)) sets = (of_states _).1 ((among_map (λ σ. common (applicable m σ) (rules_into m i)) _ states).1 (common σ I, state, refl)) in
           record {
             of_rules = of_rules;
-            set = common (applicable m (common σ I)) (rules_into m i);
-            listed = listed;
-            near = subst (λ (s : ℕ). size (bit_xor s x) ≤ level) (same_applicable m i σ (common σ I) (seen σ)) near;
+            joined = p;
+            is_joined = joins;
+            guess = g;
+            of_guesses = within;
+            near = subst (λ (s : ℕ). size (bit_xor s x) ≤ level) (same_applicable m i σ (union p g) (seen σ ∙ ap (λ s. common s I) e)) near;
           }
 
-pub questions_listed : (m : System) (order : List ℕ) → IsImportOrder m order → (level i : ℕ) (xss : List (List ℕ)) → AreSupplies m order level (supplied m order i) xss
-    → (n : System) → n ≡ m → (mask guesses rules : ℕ) → mask ≡ inputs_of n i → guesses ≡ guessed m order i → rules ≡ rules_into n i
+-- ---- what the code gathers
+module _ (m : System) (i : ℕ) (xss : List (List ℕ)) (guesses level : ℕ) (joined states sets : List ℕ) (of_joins : (ρ : ℕ) → IsAmong ρ joined ↔ SomeJoins (inputs_of m i) xss (0 ∷ []) ρ)
+    (of_grows : (ρ : ℕ) → IsAmong ρ states ↔ SomeGrows (members guesses) joined ρ) (of_states : (a : ℕ) → IsAmong a sets ↔ IsAmong a (map (λ σ. common (applicable m σ) (rules_into m i)) states)) where
+  start : (p : ℕ) → SomeJoins (inputs_of m i) xss (0 ∷ []) p → Joins (inputs_of m i) xss 0 p
+  start p (a, inl e, joins) = subst (λ (z : ℕ). Joins (inputs_of m i) xss z p) e joins
+  start p (a, inr none, joins) = absurd none
+
+  pub near_is_asked : (x : ℕ) → IsNear (rules_into m i) sets level x ↔ IsAsked m i xss guesses level x
+  near_is_asked x = (
+    λ h. (
+        let (ρ, state, e) = (among_map (λ σ. common (applicable m σ) (rules_into m i)) h.set states).0 ((of_states h.set).0 h.listed) in
+        let (p, joined_p, grows) = (of_grows ρ).0 state in
+        let (g, within, e') = (grows_is guesses p ρ).0 grows in
+        record {
+          of_rules = h.of_rules;
+          joined = p;
+          is_joined = start p ((of_joins p).0 joined_p);
+          guess = g;
+          of_guesses = within;
+          near = subst (λ (s : ℕ). size (bit_xor s x) ≤ level) (e ∙ ap (λ ρ. common (applicable m ρ) (rules_into m i)) e') h.near;
+        }),
+    λ h. (
+        let joined_p : IsAmong h.joined joined = (of_joins h.joined).1 (0, inl refl, h.is_joined) in
+        let state : IsAmong (union h.joined h.guess) states = (of_grows (union h.joined h.guess)).1 (h.joined, joined_p, (grows_is guesses h.joined (union h.joined h.guess)).1 (h.guess, h.of_guesses, refl)) in
+        record {
+          of_rules = h.of_rules;
+          set = common (applicable m (union h.joined h.guess)) (rules_into m i);
+          listed = (of_states _).1 ((among_map (λ σ. common (applicable m σ) (rules_into m i)) _ states).1 (union h.joined h.guess, state, refl));
+          near = h.near;
+        }),
+  )
+
+pub asked_listed : (m : System) (i : ℕ) (xss : List (List ℕ)) (mask guesses rules level : ℕ) → mask ≡ inputs_of m i → rules ≡ rules_into m i
     → (joined states states' sets sets' near : List ℕ) → ((ρ : ℕ) → IsAmong ρ joined ↔ SomeJoins mask xss (0 ∷ []) ρ) → ((ρ : ℕ) → IsAmong ρ states ↔ SomeGrows (members guesses) joined ρ) → states' ≡ states
-    → ((a : ℕ) → IsAmong a sets ↔ IsAmong a (map (λ σ. common (applicable n σ) (rules_into n i)) states')) → sets' ≡ sets
-    → IsListing (IsNear rules sets' level) (λ a b. a < b) near → IsListing (IsQuestion m order level i) (λ a b. a < b) near
-questions_listed m order ordered level i xss supplies n same mask guesses rules mask_is guesses_is rules_is joined states states' sets sets' near of_joins of_grows states_are of_states sets_are listing =
-    IsListing-same (λ (a b : ℕ). a < b) (IsNear (rules_into m i) sets level) (IsQuestion m order level i) near
-    (near_is_question m order ordered level i xss supplies joined states sets
-    (λ ρ. subst (λ (s : ℕ). IsAmong ρ joined ↔ SomeJoins s xss (0 ∷ []) ρ) (mask_is ∙ ap (λ (p : System). inputs_of p i) same) (of_joins ρ))
-    (λ ρ. subst (λ (s : ℕ). IsAmong ρ states ↔ SomeGrows (members s) joined ρ) guesses_is (of_grows ρ))
-    (λ a. subst (λ (xs : List ℕ). IsAmong a sets ↔ IsAmong a (map (λ σ. common (applicable m σ) (rules_into m i)) xs)) states_are (subst (λ (p : System). IsAmong a sets ↔ IsAmong a (map (λ σ. common (applicable p σ) (rules_into p i)) states')) same (of_states a))))
-    (subst (λ (s : ℕ). IsListing (IsNear s sets level) (λ (a b : ℕ). a < b) near) (rules_is ∙ ap (λ (p : System). rules_into p i) same) (subst (λ (xs : List ℕ). IsListing (IsNear rules xs level) (λ (a b : ℕ). a < b) near) sets_are listing))
+    → ((a : ℕ) → IsAmong a sets ↔ IsAmong a (map (λ σ. common (applicable m σ) (rules_into m i)) states')) → sets' ≡ sets
+    → IsListing (IsNear rules sets' level) (λ a b. a < b) near → IsListing (IsAsked m i xss guesses level) (λ a b. a < b) near
+asked_listed m i xss mask guesses rules level mask_is rules_is joined states states' sets sets' near of_joins of_grows states_are of_states sets_are listing =
+    IsListing-same (λ (a b : ℕ). a < b) (IsNear (rules_into m i) sets level) (IsAsked m i xss guesses level) near
+    (near_is_asked m i xss guesses level joined states sets
+    (λ ρ. subst (λ (s : ℕ). IsAmong ρ joined ↔ SomeJoins s xss (0 ∷ []) ρ) mask_is (of_joins ρ)) of_grows
+    (λ a. subst (λ (xs : List ℕ). IsAmong a sets ↔ IsAmong a (map (λ σ. common (applicable m σ) (rules_into m i)) xs)) states_are (of_states a)))
+    (subst (λ (s : ℕ). IsListing (IsNear s sets level) (λ (a b : ℕ). a < b) near) rules_is (subst (λ (xs : List ℕ). IsListing (IsNear rules xs level) (λ (a b : ℕ). a < b) near) sets_are listing))
+
+pub questions_listed : (m : System) (order : List ℕ) → IsImportOrder m order → (level i : ℕ) (xss : List (List ℕ)) → AreSupplies m order level (supplied m order i) xss → (n : System) → n ≡ m → (guesses : ℕ) → guesses ≡ guessed m order i
+    → (near : List ℕ) → IsListing (IsAsked n i xss guesses level) (λ a b. a < b) near → IsListing (IsQuestion m order level i) (λ a b. a < b) near
+questions_listed m order ordered level i xss supplies n same guesses guesses_is near listing =
+    IsListing-same (λ (a b : ℕ). a < b) (IsAsked m i xss (guessed m order i) level) (IsQuestion m order level i) near (asked_is_question m order ordered level i xss supplies)
+    (subst (λ (g : ℕ). IsListing (IsAsked m i xss g level) (λ (a b : ℕ). a < b) near) guesses_is (subst (λ (p : System). IsListing (IsAsked p i xss guesses level) (λ (a b : ℕ). a < b) near) same listing))

@@ -3,6 +3,10 @@ use Rattle.std.specs.Prelude.{◌≡◌, ℕ, ◌≤◌, Bool, List, [], ◌∷�
 use Rattle.std.specs.List.{list_any}
 use Rattle.mcs_sets.specs.Sets.{common, union, single, size, Within}
 use Rattle.mcs_base.specs.Listings.{IsAmong}
+use Rattle.mcs_system.specs.Plain.{System}
+use Rattle.mcs_system.specs.Imports.{rules_into}
+use Rattle.mcs_system.specs.Rows.{inputs_of}
+use Rattle.mcs_system.specs.Systems.{applicable}
 
 -- from a, with one of each list as far as it is within the mask, comes the state ρ
 abbrev pub Joins : ℕ → List (List ℕ) → ℕ → ℕ → Type 0
@@ -30,3 +34,12 @@ pub record IsNear (rules : ℕ) (sets : List ℕ) (level x : ℕ) : Type 0 where
 
 abbrev pub is_near : List ℕ → ℕ → ℕ → Bool
 is_near sets level x = list_any (λ a. nat_le (size (bit_xor a x)) level) sets
+
+-- x differs in at most `level` rules from those of i that apply in a state, which is joined of the lists and grown by some of the guesses
+pub record IsAsked (m : System) (i : ℕ) (xss : List (List ℕ)) (guesses level x : ℕ) : Type 0 where
+  pub of_rules : Within x (rules_into m i)
+  pub joined : ℕ
+  pub is_joined : Joins (inputs_of m i) xss 0 joined
+  pub guess : ℕ
+  pub of_guesses : Within guess guesses
+  pub near : size (bit_xor (common (applicable m (union joined guess)) (rules_into m i)) x) ≤ level

@@ -6,6 +6,7 @@ ghost use Rattle.mcs_base.specs.Listings.{IsAmong, IsListing};
 ghost use Rattle.mcs_system.specs.Imports.{IsImportOrder, IsQuestion, supplied, rules_into};
 ghost use Rattle.mcs_system.specs.Systems.{applicable};
 ghost use Rattle.mcs_import.specs.Plans.{AreSupplies};
+ghost use Rattle.mcs_import.specs.States.{IsAsked};
 
 use crate::near::near_sets;
 use crate::plan::Plan;
@@ -33,6 +34,27 @@ fn applicable_sets(
     Ok(sets)
 }
 
+/// The sets of rules into context `i` of the system that differ in at most `level` rules from those that apply
+/// in some state, which has one state of each supply and some of the guesses at the inputs of `i`: each once,
+/// the numbers that stand for them ascending.
+fn asked(
+    alloc: Global,
+    system: &System,
+    i: u32,
+    supplies: &[Vec<Vars>],
+    guesses: Vars,
+    level: u32,
+) -> Result<Vec<Active>, Memory>
+    requires { i < length system.now.contexts }
+    ensures { IfOk result (λ sets.
+        IsListing (IsAsked system.now i (map (λ supply. supply.items) supplies.now) guesses level) (λ a b. a < b) sets.items) }
+{
+    let joined = supplied_states(alloc, supplies, system.inputs_of(i))?;
+    let states = guessed_states(joined, guesses)?;
+    let sets = applicable_sets(alloc, system, i, &states)?;
+    near_sets(alloc, system.rules_of(i), &sets, level)
+}
+
 /// The questions of the level to context `i` of the plan's system: the sets of rules into it that differ in
 /// at most `level` rules from those that apply in some state. On each context that supplies `i` the state is
 /// one of its supplies; on all others, also on `i` itself, it is free. `supplies` are what the contexts of
@@ -51,9 +73,39 @@ pub fn questions(
     ensures { IfOk result (λ sets. (order : List ℕ) → IsImportOrder plan.now order
         → IsListing (IsQuestion plan.now order level i) (λ a b. a < b) sets.items) }
 {
-    let system = plan.system();
-    let supplied = supplied_states(alloc, supplies, system.inputs_of(i))?;
-    let states = guessed_states(supplied, plan.guessed(i))?;
-    let sets = applicable_sets(alloc, system, i, &states)?;
-    near_sets(alloc, system.rules_of(i), &sets, level)
+    asked(alloc, plan.system(), i, supplies, plan.guessed(i), level)
+}
+
+#[cfg(test)]
+mod tests {
+    use super::*;
+    use crate::tests::one_diagnosis;
+    use std::test::Fail;
+
+    #[test]
+    fn asks_by_level(rt: HostRuntime) -> Result<(), Fail> {
+        let alloc = rt.alloc();
+        let system = one_diagnosis(alloc)?;
+        if system.contexts().len() != 2 {
+            return Err("two contexts".into());
+        }
+        let one = Active::one(0);
+        let two = Active::one(1);
+        let both = one.with(1);
+        // The first context supplies its first variable alone, so that both rules apply.
+        let supplies = vec![in alloc; vec![in alloc; Vars::one(0)]?]?;
+        for (level, sets) in [
+            (0, [both].as_slice()),
+            (1, [one, two, both].as_slice()),
+            (2, [Active::empty(), one, two, both].as_slice()),
+        ] {
+            let asked = asked(alloc, &system, 1, &supplies, Vars::empty(), level)?;
+            assert_eq!(rt; asked.as_slice(), sets, "{level}");
+        }
+        // Nothing is asked where a context supplies nothing.
+        let nothing = vec![in alloc; Vec::new(alloc)]?;
+        let asked = asked(alloc, &system, 1, &nothing, Vars::empty(), 2)?;
+        assert!(rt; asked.is_empty());
+        Ok(())
+    }
 }
