@@ -1,0 +1,11 @@
+//! Tables of partial states with the marks that they take: joining them, finding what fits, and forgetting
+//! variables.
+#![tactic(auto)]
+
+mod fitting;
+mod row;
+mod table;
+
+pub use fitting::matching;
+pub use row::Row;
+pub use table::Table;
