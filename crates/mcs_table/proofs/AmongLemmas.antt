@@ -1,5 +1,5 @@
 -- What is among a front of a list, as a loop goes along it.
-use Rattle.std.proofs.Common.{◌≡◌, ℕ, ◌+◌, ◌<◌, ◌≤◌, zero, suc, List, [], ◌∷◌, ◌++◌, length, get_or, take, refl, sym, ap, ◌∙◌, subst, inl, inr, ◌⊎◌, ◌↔◌, arith, add-one}
+use Rattle.std.proofs.Common.{◌≡◌, ℕ, ◌+◌, ◌<◌, ◌≤◌, zero, suc, List, [], ◌∷◌, ◌++◌, length, get_or, take, drop, refl, sym, ap, ◌∙◌, subst, inl, inr, ◌⊎◌, ◌↔◌, arith, add-one}
 use Rattle.std.proofs.lemmas.Grind.{common_steps}
 use Rattle.std.specs.List.{AllByRecursion}
 use Rattle.mcs_base.specs.Listings.{IsAscending, IsAmong, IsListing}
@@ -57,6 +57,26 @@ module _ {A : Type 0} where
   before_at before (y ∷ ys) zero d less up x h = absurd h
   before_at before (y ∷ ys) (suc i) d less up x (inl e) = subst (λ (z : A). before z (get_or ys i d)) (sym e) (all_among (before y) ys (get_or ys i d) up.0 (among_at ys i d (omega arith)))
   before_at before (y ∷ ys) (suc i) d less up x (inr h) = before_at before ys i d (omega arith) up.1 x h
+
+  -- the list from j on is the one at j, and the list after it
+  pub among_from : (xs : List A) (j : ℕ) (x : A) → j < length xs → x ≡ get_or xs j x → (y : A) → IsAmong y (drop j xs) → (y ≡ x) ⊎ IsAmong y (drop (suc j) xs)
+  among_from [] j x less here y h = absurd (omega arith)
+  among_from (z ∷ zs) zero x less here y (inl e) = inl (e ∙ sym here)
+  among_from (z ∷ zs) zero x less here y (inr h) = inr h
+  among_from (z ∷ zs) (suc j) x less here y h = among_from zs j x (omega arith) here y h
+
+  pub among_parts : (xs : List A) (j : ℕ) (y : A) → IsAmong y xs → IsAmong y (take j xs) ⊎ IsAmong y (drop j xs)
+  among_parts [] j y h = absurd h
+  among_parts (z ∷ zs) zero y h = inr h
+  among_parts (z ∷ zs) (suc j) y (inl e) = inl (inl e)
+  among_parts (z ∷ zs) (suc j) y (inr h) = elim (among_parts zs j y h) [ inl a ↦ inl (inr a) | inr b ↦ inr b ]
+
+  pub ascending_push : (before : A → A → Type 0) (xs : List A) (y : A) → IsAscending before xs → ((x : A) → IsAmong x xs → before x y) → IsAscending before (xs ++ y ∷ [])
+  ascending_push before [] y up last = (tt, tt)
+  ascending_push before (x ∷ xs) y up last = (
+    all_from_among (before x) (xs ++ y ∷ []) (λ z among. elim ((among_push z xs y).0 among) [ inl old ↦ all_among (before x) xs z up.0 old | inr e ↦ subst (before x) (sym e) (last x (inl refl)) ]),
+    ascending_push before xs y up.1 (λ z among. last z (inr among)),
+  )
 
   -- an order that is as good among the list
   pub ascending_as : (before before' : A → A → Type 0) (xs : List A) → ((x y : A) → IsAmong x xs → IsAmong y xs → before x y → before' x y) → IsAscending before xs → IsAscending before' xs

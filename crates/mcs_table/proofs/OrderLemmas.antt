@@ -1,13 +1,12 @@
 -- The order of rows.
-use Rattle.std.proofs.Common.{◌≡◌, ℕ, List, refl, sym, ◌∙◌, subst, inl, inr, ◌⊎◌}
+use Rattle.std.proofs.Common.{◌≡◌, ℕ, List, sym, ◌∙◌, subst, inl, inr}
 use Rattle.std.specs.declared.cmp.Ordering.TheVariants.{Less}
-use Rattle.std.specs.List.{AllByRecursion}
-use Rattle.mcs_sets.specs.Orders.{StateBefore, PairBefore}
+use Rattle.mcs_sets.specs.Orders.{StateBefore}
 use Rattle.mcs_sets.proofs.SetLemmas.{StateBefore-asymmetric, PairBefore-asymmetric, not_before_itself}
-use Rattle.mcs_base.specs.Listings.{IsAscending, IsAmong, IsListing}
+use Rattle.mcs_base.specs.Listings.{IsListing}
 use Rattle.mcs_base.specs.StateOrder.{StateBefore-transitive}
 use Rattle.mcs_base.specs.PairOrder.{PairBefore-transitive}
-use Rattle.mcs_base.proofs.ListingLemmas.{Sorts, all_among}
+use Rattle.mcs_base.proofs.ListingLemmas.{Sorts}
 use Rattle.mcs_table.specs.declared.row.Row.{Row}
 use Rattle.mcs_table.specs.RowOrder.{RowBefore, row_cmp, row_cmp_total, row_less_is, row_equal_is}
 use Rattle.mcs_table.proofs.AmongLemmas.{ascending_as}

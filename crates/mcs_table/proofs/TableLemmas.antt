@@ -1,13 +1,13 @@
 -- Tables: what their rows and scopes keep.
-use Rattle.std.proofs.Common.{◌≡◌, ◌^◌, ◌<◌, ℕ, List, [], ◌∷◌, refl, sym, ◌∙◌, ap, subst, inl, inr, ◌⊎◌, lit<}
+use Rattle.std.proofs.Common.{◌≡◌, ℕ, List, refl, sym, subst, lit<}
 use Rattle.std.specs.declared.cmp.Ordering.TheVariants.{Less}
 use Rattle.std.specs.List.{AllByRecursion}
-use Rattle.mcs_base.specs.Listings.{IsAscending, IsAmong, IsListing}
+use Rattle.mcs_base.specs.Listings.{IsAmong, IsListing}
 use Rattle.mcs_base.specs.Partials.{IsPartial}
 use Rattle.mcs_base.proofs.ListingLemmas.{all_among, all_from_among}
 use Rattle.mcs_table.specs.declared.row.Row.{Row}
 use Rattle.mcs_table.specs.RowOrder.{RowBefore, row_cmp}
-use Rattle.mcs_table.specs.Tables.{TableData, IsTable, IsRowOn, unit_row, unit_table}
+use Rattle.mcs_table.specs.Tables.{TableData, IsTable, IsRowOn, unit_table}
 use Rattle.mcs_table.proofs.OrderLemmas.{listing_on_scope}
 
 -- rows on one scope, listed by std's order
@@ -28,3 +28,8 @@ unit-kept = record {
   on_scope = (record { mask = refl; partial = record { of_mask = λ k h. h; small = lit< tt } }, tt);
   ascending = (tt, tt);
 }
+
+-- the same table by its parts
+pub table_as : (t : TableData) (scope : ℕ) (items : List Row) → t.scope ≡ scope → items ≡ t.rows → IsTable t → IsTable (record { scope = scope; rows = items })
+table_as t scope items same_scope same_items is =
+    subst (λ (s : ℕ). IsTable (record { scope = s; rows = items })) same_scope (subst (λ (xs : List Row). IsTable (record { scope = t.scope; rows = xs })) (sym same_items) is)

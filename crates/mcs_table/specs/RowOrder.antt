@@ -67,10 +67,10 @@ row_eq-itself a = grind (arith, nat_tests)
 pub row_tie : (a b : Row) → row_eq a b ≡ eq_by_cmp row_cmp a b
 row_tie a b = both_ways _ _
     (λ e.
-        let masks : a.state.mask ≡ b.state.mask = grind (arith, nat_tests) in
-        let values : a.state.values ≡ b.state.values = grind (arith, nat_tests) in
-        let marks : a.marks ≡ b.marks = grind (arith, nat_tests) in
-        subst (λ (c : Row). eq_by_cmp row_cmp a c ≡ true) (same_row a b masks values marks) (tie_itself a))
+    let masks : a.state.mask ≡ b.state.mask = grind (arith, nat_tests) in
+    let values : a.state.values ≡ b.state.values = grind (arith, nat_tests) in
+    let marks : a.marks ≡ b.marks = grind (arith, nat_tests) in
+    subst (λ (c : Row). eq_by_cmp row_cmp a c ≡ true) (same_row a b masks values marks) (tie_itself a))
     (λ e. subst (λ (c : Row). row_eq a c ≡ true) (row_equal_is a b ((Equal-is (row_cmp a b)).0 e)) (row_eq-itself a))
 
 pub row_po : IsPartialOrder row_eq (as_partial_cmp row_cmp)

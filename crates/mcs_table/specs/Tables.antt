@@ -3,7 +3,7 @@ use Rattle.std.specs.Prelude.{◌≡◌, ℕ, ◌≤◌, List, [], ◌∷◌}
 use Rattle.std.specs.List.{AllByRecursion}
 use Rattle.mcs_sets.specs.Sets.{union, common, size, Within, Meets}
 use Rattle.mcs_base.specs.Listings.{IsAscending, IsAmong, IsListing}
-use Rattle.mcs_base.specs.Partials.{PartialState, IsPartial, Fits, united, restricted}
+use Rattle.mcs_base.specs.Partials.{IsPartial, Fits, united, restricted}
 use Rattle.mcs_table.specs.declared.row.Row.{Row}
 use Rattle.mcs_table.specs.RowOrder.{RowBefore}
 
@@ -61,6 +61,13 @@ pub record IsRestriction (xs : List Row) (keep : ℕ) (r : Row) : Type 0 where
 pub record IsMinimalRow (P : Row → Type 0) (r : Row) : Type 0 where
   pub one : P r
   pub least : (s : Row) → P s → s.state ≡ r.state → Within s.marks r.marks → s.marks ≡ r.marks
+
+-- one of the rows has the same state, and its marks lie within these
+pub record IsCovered (xs : List Row) (r : Row) : Type 0 where
+  pub by : Row
+  pub among : IsAmong by xs
+  pub state : by.state ≡ r.state
+  pub within : Within by.marks r.marks
 
 -- t has, for each state, exactly the minimal unions
 pub record IsJoin (a b : TableData) (level : ℕ) (t : TableData) : Type 0 where

@@ -3,6 +3,7 @@
 #![tactic(auto)]
 
 mod fitting;
+mod minimal;
 mod row;
 mod table;
 

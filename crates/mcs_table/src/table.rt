@@ -62,6 +62,14 @@ impl Table {
         Table { scope, rows }
     }
 
+    /// The table of these rows, which are those of a table already. It takes no memory.
+    pub(crate) fn in_order(scope: Vars, rows: Vec<Row>) -> Table
+        requires { IsTable (record { scope = scope; rows = rows.items }) }
+        ensures { result ≡ record { scope = scope; rows = rows.items } }
+    {
+        Table { scope, rows }
+    }
+
     /// The variables of the table.
     pub fn scope(&self) -> Vars
         ensures value { result ≡ self.now.scope }

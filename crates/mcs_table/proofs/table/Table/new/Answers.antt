@@ -1,6 +1,6 @@
 use Rattle.mcs_table.specs.declared.row.Row as declared
 use Rattle.std.specs.List.{AllByRecursion}
-use Rattle.std.proofs.Common.{List, subst}
+use Rattle.std.proofs.Common.{subst}
 use Rattle.mcs_base.specs.Partials.{IsPartial}
 use Rattle.mcs_table.proofs.TableLemmas.{sorted_rows, table_of_rows}
 use Rattle.mcs_table.proofs.table.Table.new.Goals as goal
