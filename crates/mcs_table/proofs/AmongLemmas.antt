@@ -1,5 +1,5 @@
 -- What is among a front of a list, as a loop goes along it.
-use Rattle.std.proofs.Common.{◌≡◌, ℕ, ◌+◌, ◌<◌, ◌≤◌, zero, suc, List, [], ◌∷◌, ◌++◌, length, get_or, take, drop, refl, sym, ap, ◌∙◌, subst, inl, inr, ◌⊎◌, ◌↔◌, arith, add-one}
+use Rattle.std.proofs.Common.{map, length-drop, get_or-drop, ◌-◌, ◌≡◌, ℕ, ◌+◌, ◌<◌, ◌≤◌, zero, suc, List, [], ◌∷◌, ◌++◌, length, get_or, take, drop, refl, sym, ap, ◌∙◌, subst, inl, inr, ◌⊎◌, ◌↔◌, arith, add-one}
 use Rattle.std.proofs.lemmas.Grind.{common_steps}
 use Rattle.std.specs.List.{AllByRecursion}
 use Rattle.mcs_base.specs.Listings.{IsAscending, IsAmong, IsListing}
@@ -104,3 +104,40 @@ pub front_is_whole : {A : Type 0} (xs : List A) (i : ℕ) → length xs ≤ i �
 front_is_whole [] i past = grind (arith, common_steps)
 front_is_whole (x ∷ xs) zero past = absurd (omega arith)
 front_is_whole (x ∷ xs) (suc i) past = ap (λ ys. x ∷ ys) (front_is_whole xs i (omega arith))
+
+-- ---- what is among a part of a list
+module _ {A : Type 0} where
+  front_among : (xs : List A) (n : ℕ) (x : A) → IsAmong x (take n xs) → (k : ℕ) × (k < n) × (k < length xs) × ((d : A) → get_or xs k d ≡ x)
+  front_among xs zero x h = absurd h
+  front_among [] (suc n) x h = absurd h
+  front_among (y ∷ ys) (suc n) x (inl e) = (0, omega arith, omega arith, λ d. sym e)
+  front_among (y ∷ ys) (suc n) x (inr h) = let (k, below, less, is) = front_among ys n x h in (suc k, omega arith, omega arith, is)
+
+  among_front_at : (xs : List A) (n k : ℕ) (x : A) → k < n → k < length xs → ((d : A) → get_or xs k d ≡ x) → IsAmong x (take n xs)
+  among_front_at xs zero k x below less is = absurd (omega arith)
+  among_front_at [] (suc n) k x below less is = absurd (omega arith)
+  among_front_at (y ∷ ys) (suc n) zero x below less is = inl (sym (is x))
+  among_front_at (y ∷ ys) (suc n) (suc k) x below less is = inr (among_front_at ys n k x (omega arith) (omega arith) is)
+
+  pub range_among : (xs : List A) (i j : ℕ) (x : A) → IsAmong x (take (j - i) (drop i xs)) → (k : ℕ) × (i ≤ k) × (k < j) × (k < length xs) × ((d : A) → get_or xs k d ≡ x)
+  range_among xs i j x h = let (k, below, less, is) = front_among (drop i xs) (j - i) x h in
+      (i + k, omega arith, omega arith, omega (arith, length-drop i xs), λ d. sym (get_or-drop i xs k d) ∙ is d)
+
+  pub among_range : (xs : List A) (i j k : ℕ) (x : A) → i ≤ k → k < j → k < length xs → ((d : A) → get_or xs k d ≡ x) → IsAmong x (take (j - i) (drop i xs))
+  among_range xs i j k x from below less is =
+      among_front_at (drop i xs) (j - i) (k - i) x (omega arith) (omega (arith, length-drop i xs)) (λ d. get_or-drop i xs (k - i) d ∙ let e : i + (k - i) ≡ k = omega arith in ap (λ n. get_or xs n d) e ∙ is d)
+
+  pub among_place : (xs : List A) (x : A) → IsAmong x xs → (k : ℕ) × (k < length xs) × ((d : A) → get_or xs k d ≡ x)
+  among_place [] x h = absurd h
+  among_place (y ∷ ys) x (inl e) = (0, omega arith, λ d. sym e)
+  among_place (y ∷ ys) x (inr h) = let (k, less, is) = among_place ys x h in (suc k, omega arith, is)
+
+  pub among_at_place : (xs : List A) (k : ℕ) (x : A) → k < length xs → ((d : A) → get_or xs k d ≡ x) → IsAmong x xs
+  among_at_place [] k x less is = absurd (omega arith)
+  among_at_place (y ∷ ys) zero x less is = inl (sym (is x))
+  among_at_place (y ∷ ys) (suc k) x less is = inr (among_at_place ys k x (omega arith) is)
+
+pub among_map : {A B : Type 0} (f : A → B) (y : B) (xs : List A) → IsAmong y (map f xs) → (x : A) × IsAmong x xs × (y ≡ f x)
+among_map f y [] h = absurd h
+among_map f y (x ∷ xs) (inl e) = (x, inl refl, e)
+among_map f y (x ∷ xs) (inr h) = let (z, among, e) = among_map f y xs h in (z, inr among, e)

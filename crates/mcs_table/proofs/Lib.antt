@@ -3,3 +3,5 @@ pub mod OrderLemmas
 pub mod TableLemmas
 pub mod MarkLemmas
 pub mod MinimalLemmas
+pub mod PartnerLemmas
+pub mod JoinLemmas

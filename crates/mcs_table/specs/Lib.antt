@@ -1,2 +1,3 @@
 pub mod RowOrder
 pub mod Tables
+pub mod Partners

@@ -3,10 +3,13 @@
 #![tactic(auto)]
 
 mod fitting;
+mod joining;
 mod minimal;
+mod partners;
 mod row;
 mod table;
 
 pub use fitting::matching;
+pub use joining::join;
 pub use row::Row;
 pub use table::Table;

@@ -1,6 +1,10 @@
 //! Rows: a state of some of the variables, and the marks that it takes.
 
-use mcs_base::{Marks, Partial};
+ghost use Rattle.std.specs.Prelude.{◌≡◌};
+ghost use Rattle.mcs_base.specs.Partials.{Fits};
+ghost use Rattle.mcs_table.specs.Tables.{united_row, restricted_row};
+
+use mcs_base::{Marks, Partial, Vars};
 use std::cmp::Ordering;
 
 /// A state of some of the variables, and the marks that it takes.
@@ -8,6 +12,29 @@ use std::cmp::Ordering;
 pub struct Row {
     pub state: Partial,
     pub marks: Marks,
+}
+
+impl Row {
+    /// What one of the two rows says, with the marks of both. Their states fit.
+    pub fn union(&self, other: &Row) -> Row
+        requires { Fits self.now.state other.now.state }
+        ensures { result ≡ united_row self.now other.now }
+    {
+        Row {
+            state: self.state.union(&other.state),
+            marks: self.marks.union(other.marks),
+        }
+    }
+
+    /// What the row says of the variables of a set, with all its marks.
+    pub fn restrict(&self, keep: Vars) -> Row
+        ensures { result ≡ restricted_row self.now keep }
+    {
+        Row {
+            state: self.state.restrict(keep),
+            marks: self.marks,
+        }
+    }
 }
 
 /// Rows come in the order of states, those of one state in the order of pairs, so that std's sort lists the

@@ -1,0 +1,19 @@
+-- How a join looks rows up: by what they say of the other table's variables, and by how many marks they have.
+use Rattle.std.specs.Prelude.{ℕ, List}
+use Rattle.std.specs.declared.cmp.Ordering.{Ordering}
+use Rattle.std.specs.Ordering.{ordering_then, nat_cmp}
+use Rattle.std.specs.List.Sorted.{IsSortedByKey}
+use Rattle.mcs_sets.specs.Sets.{common, size}
+use Rattle.mcs_base.specs.StateOrder.{state_cmp}
+use Rattle.mcs_table.specs.declared.row.Row.{Row}
+
+-- what the row says of the variables, and how many marks it has
+abbrev pub shared_key : ℕ → Row → ℕ × ℕ
+shared_key scope r = (common r.state.values scope, size r.marks)
+
+abbrev pub key_cmp : ℕ × ℕ → ℕ × ℕ → Ordering
+key_cmp p q = ordering_then (state_cmp p.0 q.0) (nat_cmp p.1 q.1)
+
+-- sorted by it
+abbrev pub IsByShared : ℕ → List Row → Type 0
+IsByShared scope rows = IsSortedByKey (shared_key scope) key_cmp rows

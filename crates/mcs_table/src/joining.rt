@@ -1,0 +1,44 @@
+//! Joining two tables.
+
+ghost use Rattle.std.specs.Prelude.{◌≡◌, ◌++◌, map, IfOk, OnOk};
+ghost use Rattle.std.specs.List.{AllByRecursion};
+ghost use Rattle.mcs_base.specs.Partials.{Fits};
+ghost use Rattle.mcs_table.specs.Tables.{AreApart, IsJoin, united_row};
+ghost use Rattle.mcs_table.specs.declared.row.Row as declared;
+
+use crate::minimal::minimal_table;
+use crate::partners::{by_shared, partners};
+use crate::row::Row;
+use crate::table::Table;
+use mcs_base::Memory;
+use std::alloc::Global;
+
+/// The join of two tables of which no mark of the one occurs in the other, up to a number of marks. It is on
+/// the variables of both. It has, for each state, the unions of a row of each that fit and have at most so
+/// many marks, without those that hold the marks of another one.
+pub fn join(alloc: Global, a: &Table, b: &Table, level: u32) -> Result<Table, Memory>
+    requires { AreApart a.now.rows b.now.rows }
+    ensures { IfOk result (IsJoin a.now b.now level) }
+{
+    let (left, right) = (a.scope(), b.scope());
+    let sorted = by_shared(alloc, b.rows(), left)?;
+    let mut unions = Vec::new(alloc);
+    for row in a.rows() {
+        if let Some(room) = level.checked_sub(row.marks.count()) {
+            let shared = row.state.values().common(right);
+            push_unions(&mut unions, row, partners(&sorted, left, shared, room))?;
+        }
+    }
+    minimal_table(alloc, left.union(right), unions)
+}
+
+/// Adds the union of the row with each of its partners.
+fn push_unions(unions: &mut Vec<Row>, row: &Row, partners: &[Row]) -> Result<(), Memory>
+    requires { AllByRecursion (λ (r : declared.Row). Fits row.now.state r.state) partners.now }
+    ensures { OnOk result (unions.new.items ≡ unions.old.items ++ map (united_row row.now) partners.now) }
+{
+    for partner in partners {
+        unions.push(row.union(partner))?;
+    }
+    Ok(())
+}
