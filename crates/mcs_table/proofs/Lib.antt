@@ -5,3 +5,4 @@ pub mod MarkLemmas
 pub mod MinimalLemmas
 pub mod PartnerLemmas
 pub mod JoinLemmas
+pub mod ForgetLemmas

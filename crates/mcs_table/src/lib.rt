@@ -3,6 +3,7 @@
 #![tactic(auto)]
 
 mod fitting;
+mod forgetting;
 mod joining;
 mod minimal;
 mod partners;
@@ -10,6 +11,7 @@ mod row;
 mod table;
 
 pub use fitting::matching;
+pub use forgetting::forget;
 pub use joining::join;
 pub use row::Row;
 pub use table::Table;
