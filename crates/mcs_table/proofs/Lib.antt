@@ -6,3 +6,5 @@ pub mod MinimalLemmas
 pub mod PartnerLemmas
 pub mod JoinLemmas
 pub mod ForgetLemmas
+pub mod CoverLemmas
+pub mod JointLemmas

@@ -1,3 +1,4 @@
 pub mod RowOrder
 pub mod Tables
 pub mod Partners
+pub mod Joins
