@@ -1,14 +1,13 @@
 -- The minimal rows of finitely many: each row has a minimal one within it.
-use Rattle.std.proofs.Common.{◌≡◌, ◌<◌, ◌≤◌, ℕ, ◌+◌, zero, suc, Bool, true, false, ◌&&◌, eqb, List, [], ◌∷◌, ◌++◌, refl, sym, ap, ◌∙◌, subst, inl, inr, ◌⊎◌, ◌↔◌, arith, true≢false, IsTrue}
+use Rattle.std.proofs.Common.{◌≡◌, ◌<◌, ◌≤◌, ℕ, ◌+◌, zero, suc, Bool, true, false, ◌&&◌, eqb, List, [], ◌∷◌, ◌++◌, refl, sym, ap, ◌∙◌, subst, inl, inr, ◌⊎◌, ◌↔◌, arith, IsTrue}
 use Rattle.std.proofs.lemmas.Bool.{cases_lt}
 use Rattle.std.proofs.lemmas.Bool.Decides.{nat_tests}
 use Rattle.mcs_sets.specs.Sets.{has, union, common, size, Within}
-use Rattle.mcs_sets.proofs.SetLemmas.{has-union, has-common, same_set, within_where_common, common_where_within, Within-le, size-le, below_power}
-use Rattle.mcs_base.specs.Listings.{IsAmong, IsListing}
+use Rattle.mcs_sets.proofs.SetLemmas.{has-common, same_set, within_where_common, common_where_within, Within-le}
+use Rattle.mcs_base.specs.Listings.{IsAmong}
 use Rattle.mcs_base.specs.Partials.{PartialState, Fits}
 use Rattle.mcs_table.specs.declared.row.Row.{Row}
-use Rattle.mcs_table.specs.RowOrder.{RowBefore, same_row}
-use Rattle.mcs_table.specs.Tables.{TableData, IsCovered, IsUnion, IsMinimalRow, united_row}
+use Rattle.mcs_table.specs.Tables.{IsUnion, IsMinimalRow, united_row}
 use Rattle.mcs_table.proofs.AmongLemmas.{among_both}
 use Rattle.mcs_table.proofs.MarkLemmas.{Within-antisymmetric}
 use Rattle.mcs_table.proofs.MinimalLemmas.{row_is}

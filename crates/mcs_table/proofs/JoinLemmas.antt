@@ -1,12 +1,12 @@
 -- Collecting the unions of the rows of two tables.
-use Rattle.std.proofs.Common.{◌≡◌, ◌<◌, ◌≤◌, ◌^◌, ◌-◌, ℕ, ◌+◌, Bool, true, false, List, [], ◌∷◌, ◌++◌, map, length, get_or, take, refl, sym, ap, ◌∙◌, subst, inl, inr, ◌⊎◌, ◌↔◌, arith, true≢false, add_comm}
+use Rattle.std.proofs.Common.{◌≡◌, ◌<◌, ◌≤◌, ℕ, ◌+◌, Bool, true, false, List, [], ◌++◌, map, length, get_or, take, refl, sym, ap, ◌∙◌, subst, inl, inr, ◌↔◌, arith}
 use Rattle.std.specs.List.{AllByRecursion}
 use Rattle.std.specs.List.Sorted.{IsPermutation}
 use Rattle.std.proofs.lemmas.List.Sorted.{Contains-permutation, IsPermutation-sym}
 use Rattle.mcs_sets.specs.Sets.{has, union, common, size, Meets}
 use Rattle.mcs_sets.proofs.SetLemmas.{size-union, below_power}
-use Rattle.mcs_base.specs.Listings.{IsAscending, IsAmong, IsListing}
-use Rattle.mcs_base.specs.Partials.{PartialState, IsPartial, Fits}
+use Rattle.mcs_base.specs.Listings.{IsAmong, IsListing}
+use Rattle.mcs_base.specs.Partials.{Fits}
 use Rattle.mcs_base.proofs.PartialLemmas.{fits-where, where-fits}
 use Rattle.mcs_base.proofs.ListingLemmas.{all_among, all_from_among, map_among, IsListing-same, among_from_contains, contains_from_among}
 use Rattle.mcs_table.specs.declared.row.Row.{Row}

@@ -1,17 +1,17 @@
 -- Several tables joined one after the other: the minimal unions of one row of each.
-use Rattle.std.proofs.Common.{◌≡◌, ◌≤◌, ◌+◌, ◌^◌, ◌<◌, ℕ, Bool, true, false, ◌||◌, List, [], ◌∷◌, refl, sym, ap, ◌∙◌, subst, inl, inr, ◌⊎◌, ◌↔◌, arith, true≢false, IsTrue}
+use Rattle.std.proofs.Common.{◌≡◌, ◌≤◌, ℕ, Bool, true, false, ◌||◌, List, [], ◌∷◌, refl, sym, ap, ◌∙◌, subst, inl, inr, ◌⊎◌, ◌↔◌, arith, true≢false, IsTrue}
 use Rattle.std.proofs.lemmas.Bool.Decides.{nat_tests}
 use Rattle.std.specs.List.{AllByRecursion, AllZip}
-use Rattle.mcs_sets.specs.Sets.{has, union, size, Within, Meets}
+use Rattle.mcs_sets.specs.Sets.{has, union, size, Within}
 use Rattle.mcs_sets.proofs.SetLemmas.{has-union, has-empty, same_set, size-le, below_power, members-empty}
 use Rattle.mcs_base.specs.Listings.{IsAmong, IsListing}
 use Rattle.mcs_base.specs.Partials.{PartialState, IsPartial, Fits, united}
 use Rattle.mcs_base.proofs.PartialLemmas.{united-partial}
-use Rattle.mcs_base.proofs.ListingLemmas.{all_among, IsListing-same}
+use Rattle.mcs_base.proofs.ListingLemmas.{IsListing-same}
 use Rattle.mcs_table.specs.declared.row.Row.{Row}
 use Rattle.mcs_table.specs.RowOrder.{RowBefore, same_row}
 use Rattle.mcs_table.specs.Tables.{TableData, IsTable, AreApart, IsUnion, IsMinimalRow, IsJoin, unit_row, unit_table, united_row}
-use Rattle.mcs_table.specs.Joins.{JoinsFrom, JoinsTo, union_of, united_rows, FitTogether, IsJointRow, IsJointTable, JoinsStayApart, JoinsAreMinimalUnions}
+use Rattle.mcs_table.specs.Joins.{JoinsFrom, union_of, united_rows, FitTogether, IsJointRow, JoinsStayApart, JoinsAreMinimalUnions}
 use Rattle.mcs_table.proofs.JoinLemmas.{row_of, minimal_as}
 use Rattle.mcs_table.proofs.CoverLemmas.{Covers, Covers-trans, covers_same, minimal_covers, unions_listed}
 

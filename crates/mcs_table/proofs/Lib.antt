@@ -8,3 +8,5 @@ pub mod JoinLemmas
 pub mod ForgetLemmas
 pub mod CoverLemmas
 pub mod JointLemmas
+pub mod OrderFreeLemmas
+pub mod CommuteLemmas

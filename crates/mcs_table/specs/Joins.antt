@@ -59,5 +59,5 @@ JoinsStayApart = (level : ℕ) (tables : List TableData) (t c : TableData) → J
 
 -- where all of b's variables are kept, joining with b after forgetting is forgetting after joining with b
 abbrev pub ForgettingCommutes : Type 0
-ForgettingCommutes = (a b f t j u : TableData) (keep level : ℕ) → IsTable a → IsTable b → Within b.scope keep
+ForgettingCommutes = (a b f t j u : TableData) (keep level : ℕ) → IsTable b → Within b.scope keep
     → IsForgetting a keep f → IsJoin f b level t → IsJoin a b level j → IsForgetting j keep u → t ≡ u

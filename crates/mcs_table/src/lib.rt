@@ -5,6 +5,7 @@
 mod fitting;
 mod forgetting;
 mod joining;
+mod laws;
 mod minimal;
 mod partners;
 mod row;
@@ -13,5 +14,6 @@ mod table;
 pub use fitting::matching;
 pub use forgetting::forget;
 pub use joining::join;
+pub use laws::{forgetting_commutes, joins_are_minimal_unions};
 pub use row::Row;
 pub use table::Table;

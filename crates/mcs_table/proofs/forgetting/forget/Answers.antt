@@ -1,4 +1,4 @@
-use Rattle.std.proofs.Common.{◌≡◌, ◌∙◌, ap, List, map, subst}
+use Rattle.std.proofs.Common.{◌≡◌, ◌∙◌, ap, map}
 use Rattle.mcs_sets.specs.Sets.{common}
 use Rattle.mcs_table.specs.Tables.{IsForgetting, restricted_row}
 use Rattle.mcs_table.specs.declared.row.Row.{Row}

@@ -1,4 +1,4 @@
-use Rattle.std.proofs.Common.{◌≡◌, ◌<◌, ◌≤◌, ◌∙◌, ◌+◌, ap, sym, subst, arith, List, length, get_or, take, refl, rules}
+use Rattle.std.proofs.Common.{◌≡◌, ◌<◌, ◌≤◌, ◌∙◌, ◌+◌, ap, subst, arith, List, length, get_or}
 use Rattle.mcs_sets.specs.Sets.{common, union, size}
 use Rattle.mcs_table.specs.Tables.{IsJoin}
 use Rattle.mcs_table.specs.declared.row.Row.{Row}
