@@ -1,6 +1,8 @@
 -- Keeping the minimal rows of an ascending list.
 use Rattle.std.proofs.lemmas.Bool.Decides.{nat_tests}
-use Rattle.std.proofs.Common.{true, false, not, ◌&&◌, eqb, suc, ◌≡◌, ◌<◌, ◌-◌, ℕ, ◌+◌, List, [], ◌∷◌, ◌++◌, length, get_or, take, drop, refl, sym, ap, ◌∙◌, subst, inl, inr, ◌⊎◌, ◌↔◌, arith}
+use Rattle.std.proofs.Common.{◌≤◌, true, false, not, ◌&&◌, eqb, suc, ◌≡◌, ◌<◌, ◌-◌, ℕ, ◌+◌, List, [], ◌∷◌, ◌++◌, length, get_or, take, drop, refl, sym, ap, ◌∙◌, subst, inl, inr, ◌⊎◌, ◌↔◌, arith}
+use Rattle.std.proofs.Math.ListN.{set}
+use Rattle.std.proofs.lemmas.List.{drop-drop, get_or-drop, drop-set-lt, take_more_set, length-set}
 use Rattle.std.specs.List.{AllByRecursion}
 use Rattle.mcs_sets.specs.Sets.{Within}
 use Rattle.mcs_sets.specs.Orders.{StateBefore}
@@ -170,3 +172,48 @@ module _ (scope : ℕ) (items kept : List Row) (i : ℕ) (table : IsTable (recor
 
     pub push_more : ¬ IsCovered kept row → MinimalSoFar (take (i + 1) items) (kept ++ row ∷ [])
     push_more not = minimal_more (take i items) (take (i + 1) items) kept row (among_more items i row less here) so_far earlier not (ascending_push RowBefore kept row so_far.ascending earlier)
+
+-- ---- in place: the first ones are those that are kept, and those from i on are as they were
+pub record KeptInPlace (all rows : List Row) (i kept : ℕ) : Type 0 where
+  pub len : length rows ≡ length all
+  pub few : kept ≤ i
+  pub rest : drop i rows ≡ drop i all
+  pub so_far : MinimalSoFar (take i all) (take kept rows)
+
+pub in_place_begin : (all : List Row) → KeptInPlace all all 0 0
+in_place_begin all = record { len = refl; few = omega arith; rest = refl; so_far = minimal_begin }
+
+module _ (scope : ℕ) (all rows : List Row) (i kept : ℕ) (table : IsTable (record { scope = scope; rows = all })) (in_place : KeptInPlace all rows i kept) (x : Row) (less : i < length rows) (here : x ≡ get_or rows i x) where
+  less_all : i < length all
+  less_all = let same = in_place.len in omega arith
+
+  at_first : (xs : List Row) → get_or (drop i xs) 0 x ≡ get_or xs i x
+  at_first xs = get_or-drop i xs 0 x ∙ let e : i + 0 ≡ i = omega arith in ap (λ n. get_or xs n x) e
+
+  here_all : x ≡ get_or all i x
+  here_all = here ∙ (sym (at_first rows) ∙ (ap (λ (xs : List Row). get_or xs 0 x) in_place.rest ∙ at_first all))
+
+  next : drop (i + 1) rows ≡ drop (i + 1) all
+  next = sym (drop-drop 1 i rows) ∙ (ap (drop 1) in_place.rest ∙ drop-drop 1 i all)
+
+  pub masks_in_place : AllByRecursion (λ (r : Row). r.state.mask ≡ x.state.mask) (take kept rows)
+  masks_in_place = same_masks scope all (take kept rows) i table in_place.so_far x less_all here_all
+
+  pub earlier_in_place : AllByRecursion (λ (r : Row). RowBefore r x) (take kept rows)
+  earlier_in_place = all_earlier scope all (take kept rows) i table in_place.so_far x less_all here_all
+
+  pub same_in_place : IsCovered (take kept rows) x → KeptInPlace all rows (i + 1) kept
+  same_in_place h = record {
+    len = in_place.len;
+    few = let few = in_place.few in omega arith;
+    rest = next;
+    so_far = same_more scope all (take kept rows) i table in_place.so_far x less_all here_all h;
+  }
+
+  pub push_in_place : ¬ IsCovered (take kept rows) x → KeptInPlace all (set rows kept x) (i + 1) (kept + 1)
+  push_in_place not = let few = in_place.few in record {
+    len = length-set rows kept x ∙ in_place.len;
+    few = omega arith;
+    rest = drop-set-lt (i + 1) rows kept x (omega arith) ∙ next;
+    so_far = subst (MinimalSoFar (take (i + 1) all)) (sym (take_more_set rows kept x (omega arith))) (push_more scope all (take kept rows) i table in_place.so_far x less_all here_all not);
+  }

@@ -1,5 +1,5 @@
 -- Tables: what their rows and scopes keep.
-use Rattle.std.proofs.Common.{Result, Ok, Err, IfOk, ◌≡◌, ℕ, List, refl, sym, subst, lit<}
+use Rattle.std.proofs.Common.{◌≡◌, ℕ, List, refl, sym, subst, lit<}
 use Rattle.std.specs.declared.cmp.Ordering.TheVariants.{Less}
 use Rattle.std.specs.List.{AllByRecursion}
 use Rattle.mcs_base.specs.Listings.{IsAmong, IsListing}
@@ -33,8 +33,3 @@ unit-kept = record {
 pub table_as : (t : TableData) (scope : ℕ) (items : List Row) → t.scope ≡ scope → items ≡ t.rows → IsTable t → IsTable (record { scope = scope; rows = items })
 table_as t scope items same_scope same_items is =
     subst (λ (s : ℕ). IsTable (record { scope = s; rows = items })) same_scope (subst (λ (xs : List Row). IsTable (record { scope = t.scope; rows = xs })) (sym same_items) is)
-
--- two facts on the value of a call that did not run out of memory
-pub if_ok_both : {A E : Type 0} (r : Result A E) (P Q R : A → Type 0) → ((x : A) → P x → Q x → R x) → IfOk r P → IfOk r Q → IfOk r R
-if_ok_both (Ok x) P Q R f p q = f x p q
-if_ok_both (Err e) P Q R f p q = tt

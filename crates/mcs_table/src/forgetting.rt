@@ -15,7 +15,7 @@ pub fn forget(alloc: Global, t: &Table, keep: Vars) -> Result<Table, Memory>
     ensures { IfOk result (IsForgetting t.now keep) }
 {
     let rows = restricted(alloc, t.rows(), keep)?;
-    minimal_table(alloc, t.scope().common(keep), rows)
+    Ok(minimal_table(t.scope().common(keep), rows))
 }
 
 /// What each row says of the variables that are kept.

@@ -29,7 +29,7 @@ pub fn join(alloc: Global, a: &Table, b: &Table, level: u32) -> Result<Table, Me
             push_unions(&mut unions, row, partners(&sorted, left, shared, room))?;
         }
     }
-    minimal_table(alloc, left.union(right), unions)
+    Ok(minimal_table(left.union(right), unions))
 }
 
 /// Adds the union of the row with each of its partners.

@@ -1,6 +1,6 @@
 //! The minimal rows: of those of one state, the ones with no other's marks within theirs.
 
-ghost use Rattle.std.specs.Prelude.{◌≡◌, ◌↔◌, IfOk, IsTrue};
+ghost use Rattle.std.specs.Prelude.{◌≡◌, ◌↔◌, IsTrue};
 ghost use Rattle.std.specs.List.{AllByRecursion};
 ghost use Rattle.mcs_base.specs.Listings.{IsAmong, IsAscending, IsListing};
 ghost use Rattle.mcs_table.specs.RowOrder.{RowBefore};
@@ -9,23 +9,26 @@ ghost use Rattle.mcs_table.specs.declared.row.Row as declared;
 
 use crate::row::Row;
 use crate::table::Table;
-use mcs_base::{Memory, Vars};
-use std::alloc::Global;
+use mcs_base::Vars;
 
-/// The table of the minimal ones among these rows, each of which is on the variables of the scope.
-pub(crate) fn minimal_table(alloc: Global, scope: Vars, rows: Vec<Row>) -> Result<Table, Memory>
+/// The table of the minimal ones among these rows, each of which is on the variables of the scope. It takes
+/// no memory.
+pub(crate) fn minimal_table(scope: Vars, rows: Vec<Row>) -> Table
     requires { AllByRecursion (λ (r : declared.Row). r.state.mask ≡ scope) rows.items }
-    ensures scope { IfOk result (λ t. t.scope ≡ scope) }
-    ensures rows { IfOk result (λ t. IsListing (IsMinimalRow (λ r. IsAmong r rows.items)) RowBefore t.rows) }
+    ensures scope { result.scope ≡ scope }
+    ensures rows { IsListing (IsMinimalRow (λ r. IsAmong r rows.items)) RowBefore result.rows }
 {
-    let all = Table::new(scope, rows);
-    let mut kept = Vec::new(alloc);
-    for row in all.rows() {
-        if !is_covered(&kept, row) {
-            kept.push(*row)?;
+    let mut rows = Table::new(scope, rows).into_rows();
+    let mut kept = 0;
+    for i in 0..rows.len() {
+        let row = rows[i];
+        if !is_covered(&rows[..kept], &row) {
+            rows[kept] = row;
+            kept += 1;
         }
     }
-    Ok(Table::in_order(scope, kept))
+    rows.truncate(kept);
+    Table::in_order(scope, rows)
 }
 
 /// Whether one of the kept rows has the state of the row, which comes after them, and marks within its

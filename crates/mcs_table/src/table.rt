@@ -70,6 +70,14 @@ impl Table {
         Table { scope, rows }
     }
 
+    /// The rows of a table that is not needed any more.
+    pub(crate) fn into_rows(self) -> Vec<Row>
+        ensures value { result.items ≡ self.rows }
+        ensures kept { IsTable self }
+    {
+        self.rows
+    }
+
     /// The variables of the table.
     pub fn scope(&self) -> Vars
         ensures value { result ≡ self.now.scope }

@@ -1,8 +1,7 @@
 use Rattle.std.proofs.Common.{◌≡◌, ◌∙◌, ap, map}
 use Rattle.mcs_sets.specs.Sets.{common}
-use Rattle.mcs_table.specs.Tables.{IsForgetting, restricted_row}
+use Rattle.mcs_table.specs.Tables.{restricted_row}
 use Rattle.mcs_table.specs.declared.row.Row.{Row}
-use Rattle.mcs_table.proofs.TableLemmas.{if_ok_both}
 use Rattle.mcs_table.proofs.ForgetLemmas.{restricted_masks, forgetting_of_rows}
 use Rattle.mcs_table.proofs.forgetting.forget.Goals as goal
 
@@ -16,4 +15,4 @@ returns c =
     let scopes : c.common.result ≡ common t.scope keep = c.common.ensures ∙ ap (λ v. common v keep) c.scope.ensures.value in
     let items : c.in_ok-rows.rows.items ≡ map (λ (x : Row). restricted_row x keep) t.rows = c.in_ok-rows.ensures ∙ ap (map (λ (x : Row). restricted_row x keep)) c.rows.ensures.value in
     let rows = rw items at c.minimal_table.ensures.rows in
-    if_ok_both c.minimal_table.result _ _ (IsForgetting t keep) (λ f scope listed. forgetting_of_rows t keep f (scope ∙ scopes) listed) c.minimal_table.ensures.scope rows
+    forgetting_of_rows t keep c.minimal_table.result (c.minimal_table.ensures.scope ∙ scopes) rows

@@ -1,9 +1,7 @@
 use Rattle.std.proofs.Common.{◌≡◌, ◌<◌, ◌≤◌, ◌∙◌, ◌+◌, ap, subst, arith, List, length, get_or}
 use Rattle.mcs_sets.specs.Sets.{common, union, size}
-use Rattle.mcs_table.specs.Tables.{IsJoin}
 use Rattle.mcs_table.specs.declared.row.Row.{Row}
 use Rattle.mcs_table.proofs.AmongLemmas.{front_is_whole}
-use Rattle.mcs_table.proofs.TableLemmas.{if_ok_both}
 use Rattle.mcs_table.proofs.JoinLemmas.{AreUnions, found_fit, unions_more, unions_skip, union_masks, join_of_unions}
 use Rattle.mcs_table.proofs.joining.join.Goals.{in-Some+in_ok-push_unions, in_default}
 use Rattle.mcs_table.proofs.joining.join.Goals as goal
@@ -59,4 +57,4 @@ returns c =
     let past : length a.rows ≤ c.loop-row.row-index = subst (λ (xs : List Row). length xs ≤ c.loop-row.row-index) c.rows-row-items.ensures.value c.loop-row-test.false in
     let all = subst (λ (xs : List Row). AreUnions xs b.rows c.args.level c.loop-row.unions.items) (front_is_whole a.rows c.loop-row.row-index past) c.loop-row.invariant in
     let scopes : c.union.result ≡ union a.scope b.scope = c.union.ensures ∙ (ap (λ v. union v c.scope-right.result) c.scope-left.ensures.value ∙ ap (union a.scope) c.scope-right.ensures.value) in
-    if_ok_both c.minimal_table.result _ _ (IsJoin a b c.args.level) (λ t scope rows. join_of_unions a b c.scope-left.ensures.kept c.scope-right.ensures.kept c.args.level c.loop-row.unions.items all t (scope ∙ scopes) rows) c.minimal_table.ensures.scope c.minimal_table.ensures.rows
+    join_of_unions a b c.scope-left.ensures.kept c.scope-right.ensures.kept c.args.level c.loop-row.unions.items all c.minimal_table.result (c.minimal_table.ensures.scope ∙ scopes) c.minimal_table.ensures.rows
