@@ -12,18 +12,11 @@ use Rattle.mcs_sets.specs.Sets.{common, size}
 use Rattle.mcs_base.specs.Listings.{IsAmong}
 use Rattle.mcs_base.specs.StateOrder.{state_cmp, state_cmp_total, equal_is}
 use Rattle.mcs_table.specs.declared.row.Row.{Row}
-use Rattle.mcs_table.specs.Partners.{shared_key, key_cmp, IsByShared}
+use Rattle.mcs_table.specs.Partners.{shared_key, key_cmp, is_below, is_up_to, EndsAt, IsByShared}
 use Rattle.mcs_table.proofs.AmongLemmas.{range_among, among_range, among_place, among_at_place}
 
 key_total : IsTotalOrder key_cmp
 key_total = then_total (on_total (λ (p : ℕ × ℕ). p.0) state_cmp_total) (on_total (λ (p : ℕ × ℕ). p.1) nat_cmp_total)
-
--- the key is below that one, or is no greater
-abbrev pub is_below : ℕ → ℕ × ℕ → Row → Bool
-is_below scope q r = is_lt (key_cmp (shared_key scope r) q)
-
-abbrev pub is_up_to : ℕ → ℕ × ℕ → Row → Bool
-is_up_to scope q r = is_le (key_cmp (shared_key scope r) q)
 
 earlier_lt : (o p : Ordering) → ordering_index o ≤ ordering_index p → is_lt p ≡ true → is_lt o ≡ true
 earlier_lt Less p h e = refl
@@ -86,8 +79,8 @@ below_is_up_to scope shared room r = at (state_cmp (common r.state.values scope)
     at Greater p m h = absurd (true≢false (sym h))
 
 module _ (scope shared room : ℕ) (xs : List Row) (i j : ℕ) (bound : i ≤ length xs)
-    (from : IsPartitionPoint (λ r. is_below scope (shared, 0) r ≡ true) (λ r. is_below scope (shared, 0) r ≡ false) xs i)
-    (to : IsPartitionPoint (λ r. is_up_to scope (shared, room) r ≡ true) (λ r. is_up_to scope (shared, room) r ≡ false) xs j) where
+    (from : EndsAt (is_below scope (shared, 0)) xs i)
+    (to : EndsAt (is_up_to scope (shared, room)) xs j) where
   -- the part ends where it begins, or after
   pub ends_later : (d : Row) → i ≤ j
   ends_later d = elim (cases_lt j i) [

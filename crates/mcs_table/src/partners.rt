@@ -1,10 +1,10 @@
 //! The rows of one table that a row of another can be joined with, found by what both tables speak of.
 
-ghost use Rattle.std.specs.Prelude.{◌≡◌, ◌≤◌, ◌↔◌, IfOk};
+ghost use Rattle.std.specs.Prelude.{◌≡◌, ◌≤◌, ◌↔◌, IfOk, length};
 ghost use Rattle.std.specs.List.Sorted.{IsPermutation};
 ghost use Rattle.mcs_sets.specs.Sets.{common, size};
 ghost use Rattle.mcs_base.specs.Listings.{IsAmong};
-ghost use Rattle.mcs_table.specs.Partners.{shared_key, IsByShared};
+ghost use Rattle.mcs_table.specs.Partners.{shared_key, is_below, is_up_to, EndsAt, IsByShared};
 ghost use Rattle.mcs_table.specs.declared.row.Row as declared;
 
 use crate::row::Row;
@@ -26,9 +26,27 @@ pub(crate) fn partners(sorted: &[Row], scope: Vars, shared: Vars, room: u32) -> 
     requires { IsByShared scope sorted.now }
     ensures { (r : declared.Row) → IsAmong r result.now ↔ (IsAmong r sorted.now × (common r.state.values scope ≡ shared) × (size r.marks ≤ room)) }
 {
-    let from = sorted.partition_point(|row| key(row, scope) < (shared, 0));
-    let to = sorted.partition_point(|row| key(row, scope) <= (shared, room));
+    let from = end_below(sorted, scope, (shared, 0));
+    let to = end_up_to(sorted, scope, (shared, room));
     &sorted[from..to]
+}
+
+/// How many of the sorted rows have a key below this one.
+fn end_below(sorted: &[Row], scope: Vars, most: (Vars, u32)) -> usize
+    requires { IsByShared scope sorted.now }
+    ensures bound { result ≤ length sorted.now }
+    ensures point { EndsAt (is_below scope most) sorted.now result }
+{
+    sorted.partition_point(|row| key(row, scope) < most)
+}
+
+/// How many of the sorted rows have a key that is not above this one.
+fn end_up_to(sorted: &[Row], scope: Vars, most: (Vars, u32)) -> usize
+    requires { IsByShared scope sorted.now }
+    ensures bound { result ≤ length sorted.now }
+    ensures point { EndsAt (is_up_to scope most) sorted.now result }
+{
+    sorted.partition_point(|row| key(row, scope) <= most)
 }
 
 /// What the row says of the variables of a scope, and how many marks it has.
