@@ -80,10 +80,10 @@ decide_fit s t = elim (decide_same (common s.values (common s.mask t.mask)) (com
 
 -- ---- each of finitely many rows has a minimal one within it
 -- y is strictly within x
-record IsSmaller (x y : Row) : Type 0 where
-  state : y.state ≡ x.state
-  within : Within y.marks x.marks
-  other : ¬ (y.marks ≡ x.marks)
+pub record IsSmaller (x y : Row) : Type 0 where
+  pub state : y.state ≡ x.state
+  pub within : Within y.marks x.marks
+  pub other : ¬ (y.marks ≡ x.marks)
 
 decide_smaller : (x y : Row) → IsSmaller x y ⊎ (y.state ≡ x.state → Within y.marks x.marks → y.marks ≡ x.marks)
 decide_smaller x y = elim (decide_state y.state x.state) [
@@ -94,7 +94,7 @@ decide_smaller x y = elim (decide_state y.state x.state) [
   ]
 ]
 
-smaller_or_none : (xs : List Row) (x : Row) → ((y : Row) × IsAmong y xs × IsSmaller x y) ⊎ ((y : Row) → IsAmong y xs → y.state ≡ x.state → Within y.marks x.marks → y.marks ≡ x.marks)
+pub smaller_or_none : (xs : List Row) (x : Row) → ((y : Row) × IsAmong y xs × IsSmaller x y) ⊎ ((y : Row) → IsAmong y xs → y.state ≡ x.state → Within y.marks x.marks → y.marks ≡ x.marks)
 smaller_or_none [] x = inr (λ y h. absurd h)
 smaller_or_none (z ∷ zs) x = elim (decide_smaller x z) [
   | inl smaller ↦ inl (z, inl refl, smaller)

@@ -10,3 +10,4 @@ pub mod CoverLemmas
 pub mod JointLemmas
 pub mod OrderFreeLemmas
 pub mod CommuteLemmas
+pub mod ExistLemmas

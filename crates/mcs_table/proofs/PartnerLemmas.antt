@@ -1,12 +1,12 @@
 -- Finding, in sorted rows, those with a key.
-use Rattle.std.proofs.Common.{◌≡◌, ◌<◌, ◌≤◌, ◌-◌, ℕ, Bool, true, false, List, length, get_or, take, drop, refl, sym, ap, ◌∙◌, subst, inl, inr, ◌↔◌, arith, true≢false}
+use Rattle.std.proofs.Common.{◌≡◌, ◌<◌, ◌≤◌, ◌-◌, ℕ, true, false, List, length, get_or, take, drop, refl, sym, ap, ◌∙◌, subst, inl, inr, ◌↔◌, arith, true≢false}
 use Rattle.std.proofs.lemmas.Bool.{cases_lt}
 use Rattle.std.proofs.lemmas.Cmp.{on_total, then_total, nat_cmp_total, ranked}
 use Rattle.std.proofs.lemmas.List.Sorted.{searchable_from_sorted}
 use Rattle.std.specs.declared.cmp.Ordering.{Ordering}
 use Rattle.std.specs.declared.cmp.Ordering.TheVariants.{Less, Equal, Greater}
 use Rattle.std.specs.Cmp.{IsTotalOrder, tied_itself}
-use Rattle.std.specs.List.Sorted.{IsPartitionedBy, IsPartitionPoint}
+use Rattle.std.specs.List.Sorted.{IsPartitionedBy}
 use Rattle.std.specs.Ordering.{MatchOrdering, ordering_then, ordering_index, is_lt, is_le, nat_cmp}
 use Rattle.mcs_sets.specs.Sets.{common, size}
 use Rattle.mcs_base.specs.Listings.{IsAmong}

@@ -49,6 +49,10 @@ pub record IsJointTable (level : ℕ) (tables : List TableData) (t : TableData) 
 abbrev pub JoinsAreMinimalUnions : Type 0
 JoinsAreMinimalUnions = (level : ℕ) (tables : List TableData) (t : TableData) → AllByRecursion IsTable tables → JoinsTo level tables t → IsJointTable level tables t
 
+-- there is such a join, and it is a table
+abbrev pub JoinsExist : Type 0
+JoinsExist = (level : ℕ) (tables : List TableData) → AllByRecursion IsTable tables → (t : TableData) × IsTable t × JoinsTo level tables t
+
 -- in whichever order they are joined
 abbrev pub JoinsIgnoreOrder : Type 0
 JoinsIgnoreOrder = (level : ℕ) (tables others : List TableData) (t u : TableData) → AllByRecursion IsTable tables → IsPermutation tables others → JoinsTo level tables t → JoinsTo level others u → t ≡ u
