@@ -11,3 +11,4 @@ pub mod JointLemmas
 pub mod OrderFreeLemmas
 pub mod CommuteLemmas
 pub mod ExistLemmas
+pub mod ApartLemmas

@@ -19,14 +19,14 @@ use Rattle.mcs_table.proofs.JoinLemmas.{among_permutation, minimal_as}
 use Rattle.mcs_table.proofs.JointLemmas.{in_union, union_left, union_right, joins_are_minimal}
 
 module _ {A : Type 0} (f : A → ℕ) where
-  in_some : (xs : List A) (k : ℕ) → has (union_of f xs) k ≡ true → (x : A) × IsAmong x xs × (has (f x) k ≡ true)
+  pub in_some : (xs : List A) (k : ℕ) → has (union_of f xs) k ≡ true → (x : A) × IsAmong x xs × (has (f x) k ≡ true)
   in_some [] k h = absurd (true≢false (sym h ∙ has-empty k))
   in_some (x ∷ xs) k h = elim (in_union (f x) (union_of f xs) k h) [
     | inl e ↦ (x, inl refl, e)
     | inr e ↦ let (y, among, e') = in_some xs k e in (y, inr among, e')
   ]
 
-  some_in : (xs : List A) (k : ℕ) (x : A) → IsAmong x xs → has (f x) k ≡ true → has (union_of f xs) k ≡ true
+  pub some_in : (xs : List A) (k : ℕ) (x : A) → IsAmong x xs → has (f x) k ≡ true → has (union_of f xs) k ≡ true
   some_in [] k x among h = absurd among
   some_in (y ∷ ys) k x (inl e) h = union_left (f y) (union_of f ys) k (subst (λ (z : A). has (f z) k ≡ true) e h)
   some_in (y ∷ ys) k x (inr among) h = union_right (f y) (union_of f ys) k (some_in ys k x among h)

@@ -1,8 +1,9 @@
 //! Joining two tables.
 
-ghost use Rattle.std.specs.Prelude.{◌≡◌, ◌++◌, map, IfOk, OnOk};
+ghost use Rattle.std.specs.Prelude.{◌≡◌, ◌↔◌, ◌++◌, map, IfOk, IsTrue, OnOk};
 ghost use Rattle.std.specs.List.{AllByRecursion};
 ghost use Rattle.mcs_base.specs.Partials.{Fits};
+ghost use Rattle.mcs_table.specs.Joins.{union_of};
 ghost use Rattle.mcs_table.specs.Tables.{AreApart, IsJoin, united_row};
 ghost use Rattle.mcs_table.specs.declared.row.Row as declared;
 
@@ -10,7 +11,7 @@ use crate::minimal::minimal_table;
 use crate::partners::{by_shared, partners};
 use crate::row::Row;
 use crate::table::Table;
-use mcs_base::Memory;
+use mcs_base::{Marks, Memory};
 use std::alloc::Global;
 
 /// The join of two tables of which no mark of the one occurs in the other, up to a number of marks. It is on
@@ -30,6 +31,24 @@ pub fn join(alloc: Global, a: &Table, b: &Table, level: u32) -> Result<Table, Me
         }
     }
     Ok(minimal_table(left.union(right), unions))
+}
+
+/// Whether no mark of the one table occurs in the other, as `join` asks. It takes no memory.
+pub fn are_apart(a: &Table, b: &Table) -> bool
+    ensures { IsTrue result ↔ AreApart a.now.rows b.now.rows }
+{
+    !all_marks(a.rows()).meets(all_marks(b.rows()))
+}
+
+/// The marks of all of the rows.
+fn all_marks(rows: &[Row]) -> Marks
+    ensures { result ≡ union_of (λ (r : declared.Row). r.marks) rows.now }
+{
+    let mut marks = Marks::empty();
+    for row in rows {
+        marks = marks.union(row.marks);
+    }
+    marks
 }
 
 /// Adds the union of the row with each of its partners.

@@ -13,7 +13,7 @@ mod table;
 
 pub use fitting::matching;
 pub use forgetting::forget;
-pub use joining::join;
+pub use joining::{are_apart, join};
 pub use laws::{forgetting_commutes, joins_are_minimal_unions};
 pub use row::Row;
 pub use table::Table;
