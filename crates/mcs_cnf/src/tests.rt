@@ -57,12 +57,13 @@ fn each_connective_has_its_clauses(rt: HostRuntime) -> Result<(), Fail> {
     let alloc = rt.alloc();
     let (x, y) = (named(alloc, b"x")?, named(alloc, b"y")?);
     let formulas = each_connective(alloc, &x, &y)?;
-    let atoms = [x, y];
-    assert!(rt; are_different(&atoms));
+    let both = [x, y];
+    let atoms: &[Name] = &both;
+    assert!(rt; are_different(atoms));
     assert!(rt; !are_different(&[named(alloc, b"x")?, named(alloc, b"x")?]));
     assert!(rt; !are_over(&atoms[1..], &formulas));
-    assert!(rt; are_over(&atoms, &formulas));
-    let cnf = clauses(alloc, &formulas, &atoms)?;
+    assert!(rt; are_over(atoms, &formulas));
+    let cnf = clauses(alloc, &formulas, atoms)?;
     assert_eq!(rt; cnf.vars(), 10);
     let expected: [&[i64]; 28] = [
         &[3],
@@ -104,15 +105,16 @@ fn what_contradicts_itself_entails_everything(rt: HostRuntime) -> Result<(), Fai
     let (p, q) = (named(alloc, b"p")?, named(alloc, b"q")?);
     let fact = Formula::Atom(p.copy(alloc)?);
     let goal = Formula::Atom(q.copy(alloc)?);
-    let atoms = [p, q];
-    assert!(rt; is_over(&atoms, &fact));
-    assert!(rt; is_over(&atoms, &goal));
+    let both = [p, q];
+    let atoms: &[Name] = &both;
+    assert!(rt; is_over(atoms, &fact));
+    assert!(rt; is_over(atoms, &goal));
     assert!(rt; !is_over(&atoms[1..], &fact));
-    assert!(rt; are_over(&atoms, &[]));
-    let mut cnf = clauses(alloc, &[], &atoms)?;
-    push_formula(alloc, &mut cnf, &atoms, &fact)?;
-    push_negation(alloc, &mut cnf, &atoms, &fact)?;
-    push_negation(alloc, &mut cnf, &atoms, &goal)?;
+    assert!(rt; are_over(atoms, &[]));
+    let mut cnf = clauses(alloc, &[], atoms)?;
+    push_formula(alloc, &mut cnf, atoms, &fact)?;
+    push_negation(alloc, &mut cnf, atoms, &fact)?;
+    push_negation(alloc, &mut cnf, atoms, &goal)?;
     assert_eq!(rt; cnf.vars(), 4);
     let expected: [&[i64]; 7] = [&[1], &[-1, -3], &[1, 3], &[3], &[-2, -4], &[2, 4], &[4]];
     assert!(rt; are_those(cnf.clauses(), &expected));
