@@ -1,5 +1,5 @@
 -- What a word is, by the function and by the definitions.
-use Rattle.std.proofs.Common.{◌≡◌, ◌≢◌, ℕ, Bool, true, false, nat_eq, cond, not, ◌&&◌, IsTrue, List, [], ◌∷◌, ◌++◌, Option, Some, None, is_some, option_map, MatchOption, Bor, codes, refl, sym, ap, ◌∙◌, subst, true≢false}
+use Rattle.std.proofs.Common.{◌≡◌, Bool, true, false, nat_eq, cond, not, ◌&&◌, IsTrue, [], ◌∷◌, ◌++◌, Option, Some, None, is_some, codes, refl, sym, ap, ◌∙◌, true≢false}
 use Rattle.std.specs.Option.{option_map_or}
 use Rattle.std.specs.Str.{bytes_eq}
 use Rattle.std.proofs.lemmas.Bool.Decides.{Decides-eqb}
@@ -23,18 +23,14 @@ after_is (f ∷ front) (b ∷ word) rest e =
       | false ↦ λ same e'. let no : None ≡ Some rest = e' in cc
     ] refl e
 
-pub after_none : (front word : Word) → ((rest : Word) → ¬ (word ≡ front ++ rest)) → after front word ≡ None
-after_none [] word never = absurd (never word refl)
-after_none (f ∷ front) [] never = refl
-after_none (f ∷ front) (b ∷ word) never =
-    elim (nat_eq b f) as (λ t. nat_eq b f ≡ t → cond t (after front word) None ≡ None) [
-      | true ↦ λ same. let here : b ≡ f = (Decides-eqb b f).0 same in after_none front word (λ rest e. never rest cc)
-      | false ↦ λ same. refl
-    ] refl
-
-pub after_found : (front word : Word) (r : Option (Bor Word)) → MatchOption r ((rest : Word) → word ≢ front ++ rest) (λ v. word ≡ front ++ v.now) → option_map (λ v. v.now) r ≡ after front word
-after_found front word None h = sym (after_none front word h)
-after_found front word (Some v) h = sym (ap (after front) h ∙ after_front front v.now)
+-- a test of the front finds whether something follows it
+pub front_is : (front word tail : Word) (r : Bool) → (r ≡ true → word ≡ front ++ tail) → ((rest : Word) → word ≡ front ++ rest → r ≡ true) → r ≡ is_some (after front word)
+front_is front word tail true begins has = sym (ap is_some (ap (after front) (begins refl) ∙ after_front front tail))
+front_is front word tail false begins has = at (after front word) refl
+  where
+    at : (o : Option Word) → after front word ≡ o → false ≡ is_some o
+    at None e = refl
+    at (Some rest) e = has rest (after_is front word rest e)
 
 -- ---- kinds
 abbrev pub IsKind : Word → WordKind → Type 0
@@ -99,29 +95,31 @@ unfolding kind
 dashes_is = refl
 
 -- the code's tests find the option that is joined to its value
-found : (o : Option Word) (r : Option (Bor Word)) → option_map (λ v. v.now) r ≡ o → is_some r ≡ true → (value : Word) × (o ≡ Some value)
-found o None e some = absurd (true≢false (sym some))
-found o (Some v) e some = (v.now, sym e)
+found : (o : Option Word) → is_some o ≡ true → (value : Word) × (o ≡ Some value)
+found None some = absurd (true≢false (sym some))
+found (Some value) some = (value, refl)
 
-not_found : (o : Option Word) (r : Option (Bor Word)) → option_map (λ v. v.now) r ≡ o → is_some r ≡ false → o ≡ None
-not_found o None e none = sym e
-not_found o (Some v) e none = absurd (true≢false none)
+not_found : (o : Option Word) → is_some o ≡ false → o ≡ None
+not_found None none = refl
+not_found (Some value) none = absurd (true≢false none)
+
+abbrev budget_or : Word → Option Word → WordKind
+budget_or word o = option_map_or (joined Budget) o (option_map_or (joined Workers) (after (codes "--workers=") word) (other_kind word))
+
+abbrev workers_or : Word → Option Word → WordKind
+workers_or word o = option_map_or (joined Workers) o (other_kind word)
 
 module _ (word : Word) (no_dashes : bytes_eq word (codes "--") ≡ false) (no_budget : bytes_eq word (codes "--budget") ≡ false) (no_workers : bytes_eq word (codes "--workers") ≡ false) where
   kind_at : kind word ≡ joined_kind word
   unfolding kind
   kind_at = rw (no_dashes, no_budget, no_workers) refl
 
-  pub budget_seen : (r : Option (Bor Word)) → option_map (λ v. v.now) r ≡ after (codes "--budget=") word → is_some r ≡ true → (value : Word) × (kind word ≡ joined Budget value)
-  budget_seen r e some =
-      let value = found (after (codes "--budget=") word) r e some in
-      (value.0, kind_at ∙ ap (λ (o : Option Word). option_map_or (joined Budget) o (option_map_or (joined Workers) (after (codes "--workers=") word) (other_kind word))) value.1)
+  pub budget_seen : is_some (after (codes "--budget=") word) ≡ true → (value : Word) × (kind word ≡ joined Budget value)
+  budget_seen some =
+      let value = found (after (codes "--budget=") word) some in
+      (value.0, kind_at ∙ ap (budget_or word) value.1)
 
-  pub workers_seen : (r s : Option (Bor Word)) → option_map (λ v. v.now) r ≡ after (codes "--budget=") word → is_some r ≡ false → option_map (λ v. v.now) s ≡ after (codes "--workers=") word → is_some s ≡ true
-      → (value : Word) × (kind word ≡ joined Workers value)
-  workers_seen r s e none e' some =
-      let value = found (after (codes "--workers=") word) s e' some in (
-        value.0,
-        kind_at ∙ (ap (λ (o : Option Word). option_map_or (joined Budget) o (option_map_or (joined Workers) (after (codes "--workers=") word) (other_kind word))) (not_found (after (codes "--budget=") word) r e none)
-            ∙ ap (λ (o : Option Word). option_map_or (joined Workers) o (other_kind word)) value.1),
-      )
+  pub workers_seen : is_some (after (codes "--budget=") word) ≡ false → is_some (after (codes "--workers=") word) ≡ true → (value : Word) × (kind word ≡ joined Workers value)
+  workers_seen none some =
+      let value = found (after (codes "--workers=") word) some in
+      (value.0, kind_at ∙ (ap (budget_or word) (not_found (after (codes "--budget=") word) none) ∙ ap (workers_or word) value.1))

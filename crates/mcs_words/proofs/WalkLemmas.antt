@@ -1,5 +1,5 @@
 -- What clap makes of words that the definitions read: it takes them, and each argument has its word.
-use Rattle.std.proofs.Common.{◌≡◌, ◌≤◌, ◌+◌, ℕ, Bool, true, false, cond, nat_eq, ◌&&◌, IsTrue, List, [], ◌∷◌, ◌++◌, fold, length, Option, Some, None, Bor, option_map, codes, refl, sym, ap, ap₂, ◌∙◌, subst, true≢false, arith, append-nil, append_assoc, length-append, ◌<◌}
+use Rattle.std.proofs.Common.{◌≡◌, ◌≤◌, ◌+◌, ℕ, Bool, true, false, cond, ◌&&◌, List, [], ◌∷◌, ◌++◌, fold, length, Option, Some, None, Bor, option_map, codes, refl, sym, ap, ap₂, ◌∙◌, subst, arith, append-nil, append_assoc, length-append, ◌<◌}
 use Rattle.std.specs.Prelude.{if◌then◌else◌, find, min, slice_get, ◌||◌}
 use Rattle.std.specs.List.{list_all}
 use Rattle.std.specs.Str.{bytes_eq}

@@ -1,10 +1,7 @@
 -- The command line as clap is told of it.
-use Rattle.std.specs.Prelude.{true, ℕ, List, [], Option, Some, None, codes, slice_get}
+use Rattle.std.specs.Prelude.{true, Some, codes}
 use Rattle.clap.specs.Words.{App, Rule, new_app, new_rule, with_rule}
 use Rattle.clap.specs.Simple.{on_top}
-use Rattle.mcs_words.specs.Commands.{Word, Command}
-use Rattle.mcs_words.specs.declared.setting.Setting.{Setting}
-use Rattle.mcs_words.specs.declared.setting.Setting.TheVariants.{Budget, Workers}
 
 -- the words after the program's name are handed in, and no option is added
 abbrev pub bare_line : App

@@ -1,10 +1,10 @@
 -- The reading of the words as a function, by which the code is told.
-use Rattle.std.specs.Prelude.{◌≡◌, ◌+◌, ◌≤◌, length, ℕ, Bool, not, nat_eq, cond, ◌&&◌, List, [], ◌∷◌, ◌++◌, map, codes, Option, Some, None, option_map, unwrap_or, String, string_bytes}
+use Rattle.std.specs.Prelude.{◌≡◌, ◌+◌, ◌≤◌, length, ℕ, not, nat_eq, cond, ◌&&◌, List, [], ◌∷◌, map, codes, Option, Some, None, option_map, String, string_bytes}
 use Rattle.std.specs.Borrow.{Bor}
 use Rattle.std.specs.Str.{bytes_eq}
 use Rattle.std.specs.Option.{option_map_or}
 use Rattle.std.specs.declared.alloc.Global.{Global}
-use Rattle.mcs_words.specs.Commands.{Word, Command, Request, equilibria, name_of, nothing, only_plain, with_plain, with_value, begins_with_dash}
+use Rattle.mcs_words.specs.Commands.{Word, Command, Request, equilibria, nothing, with_plain, with_value, begins_with_dash}
 use Rattle.mcs_words.specs.declared.given.Given.{Given}
 use Rattle.mcs_words.specs.declared.job.Job.{Job}
 use Rattle.mcs_words.specs.declared.job.Job.TheVariants.{Equilibria}

@@ -1,6 +1,6 @@
 //! What a word before the first `--` is.
 
-ghost use Rattle.std.specs.Prelude.{◌≡◌, IsTrue, ◌↔◌, option_map};
+ghost use Rattle.std.specs.Prelude.{◌≡◌, is_some};
 ghost use Rattle.mcs_words.specs.Commands.{begins_with_dash};
 ghost use Rattle.mcs_words.specs.Reading.{after, kind, IsKindSeen};
 
@@ -31,11 +31,11 @@ pub(crate) fn begins_with_dash(word: &str) -> bool
     }
 }
 
-/// What follows the front in the word, where the word begins with it.
-fn value_after<'a>(front: &str, word: &'a str) -> Option<&'a [u8]>
-    ensures { option_map (λ v. v.now) result ≡ after front.now word.entry.now }
+/// Whether the word begins with the front.
+fn has_front(word: &str, front: &str) -> bool
+    ensures { result ≡ is_some (after front.now word.now) }
 {
-    word.as_bytes().strip_prefix(front.as_bytes())
+    word.as_bytes().starts_with(front.as_bytes())
 }
 
 /// What the word is.
@@ -49,9 +49,9 @@ pub(crate) fn kind_of(word: &str) -> Kind
         Kind::Name(Setting::Budget)
     } else if word == "--workers" {
         Kind::Name(Setting::Workers)
-    } else if value_after("--budget=", word).is_some() {
+    } else if has_front(word, "--budget=") {
         Kind::Joined(Setting::Budget)
-    } else if value_after("--workers=", word).is_some() {
+    } else if has_front(word, "--workers=") {
         Kind::Joined(Setting::Workers)
     } else if begins_with_dash(word) && word != "-" {
         Kind::Unknown

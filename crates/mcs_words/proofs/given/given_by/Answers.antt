@@ -1,7 +1,7 @@
-use Rattle.std.proofs.Common.{◌≡◌, ap, sym, subst, ◌∙◌, Some, Option, option_map, Bor}
+use Rattle.std.proofs.Common.{◌≡◌, ap, sym, subst, ◌∙◌, Some, option_map, Bor}
 use Rattle.clap.specs.Words.{App, HasMatchesOf, takes}
 use Rattle.mcs_words.specs.Commands.{Word, Command}
-use Rattle.mcs_words.specs.Reading.{texts_of, command_of}
+use Rattle.mcs_words.specs.Reading.{texts_of}
 use Rattle.mcs_words.specs.Line.{line}
 use Rattle.mcs_words.proofs.RowLemmas.{value_at, job, file, budget, workers}
 use Rattle.mcs_words.proofs.WalkLemmas.{taken, text_is, command_is, job_there, file_there}

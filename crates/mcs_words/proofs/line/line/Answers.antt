@@ -1,4 +1,4 @@
-use Rattle.std.proofs.Common.{rules, ◌≡◌, ◌∙◌, ap₂, codes, [], ◌∷◌}
+use Rattle.std.proofs.Common.{rules, ◌≡◌, ◌∙◌, ap₂}
 use Rattle.std.proofs.lemmas.Result.{IfOk-weaker}
 use Rattle.clap.specs.Words.{app_of, rule_of, with_rule}
 use Rattle.mcs_words.specs.Line.{bare_line, job_rule, file_rule, budget_rule, workers_rule}

@@ -1,4 +1,4 @@
-use Rattle.std.proofs.Common.{arith, sym, ◌∙◌, ap, ◌≡◌, ◌≤◌, drop, option_map}
+use Rattle.std.proofs.Common.{arith, sym}
 use Rattle.mcs_words.specs.Reading.{read, texts_of}
 use Rattle.mcs_words.specs.declared.reading.Place.TheVariants.{Open}
 use Rattle.mcs_words.proofs.ReadingLemmas.{counted_none, next_read, stop_read, end_read, ended}
