@@ -1,9 +1,9 @@
 -- Sets of marks, one within another.
-use Rattle.std.proofs.Common.{◌≡◌, ◌<◌, ℕ, ◌+◌, ◌^◌, Bool, true, false, ◌||◌, eqb, refl, sym, ap, ◌∙◌, subst, inl, inr, true≢false, arith}
+use Rattle.std.proofs.Common.{◌≡◌, ◌<◌, ℕ, ◌+◌, ◌^◌, Bool, true, false, ◌||◌, ◌&&◌, eqb, refl, sym, ap, ◌∙◌, subst, inl, inr, true≢false, arith}
 use Rattle.std.proofs.lemmas.Bool.Decides.{nat_tests}
-use Rattle.mcs_sets.specs.Sets.{has, union, single, size, Within}
+use Rattle.mcs_sets.specs.Sets.{has, union, common, single, size, Within}
 use Rattle.mcs_sets.specs.Orders.{PairBefore}
-use Rattle.mcs_sets.proofs.SetLemmas.{same_set, has-single, has-union, single-lt, below_power, Within-le, members-contains, size-le, size-union, state_before_where_lex}
+use Rattle.mcs_sets.proofs.SetLemmas.{same_set, has-single, has-union, has-common, single-lt, below_power, Within-le, members-contains, size-le, size-union, state_before_where_lex}
 
 pub Within-antisymmetric : (a b : ℕ) → Within a b → Within b a → a ≡ b
 Within-antisymmetric a b to from = same_set a b (λ k. at k (has a k) refl (has b k) refl)
@@ -47,3 +47,10 @@ not_within_before a b (inr h) within =
     let before = state_before_where_lex a b (a + b) small small_b h.0 h.1 in
     let less = smaller_within a b before.at within before.in_first before.not_in_second in
     absurd (omega (arith, h.0))
+
+pub common_within : (a b : ℕ) → Within (common a b) b
+common_within a b k h = at (has a k) (has b k) (sym (has-common a b k) ∙ h)
+  where
+    at : (x y : Bool) → (x && y) ≡ true → y ≡ true
+    at true y e = e
+    at false y e = absurd (true≢false (sym e))

@@ -4,16 +4,15 @@ ghost use Rattle.std.specs.Prelude.{◌≡◌};
 
 use crate::row::Row;
 use crate::{Table, are_apart, forget, join, matching};
-use mcs_base::{Marks, Partial, Vars};
-use std::process::Abort;
+use mcs_base::{Marks, Memory, Partial, Vars};
+use std::alloc::Global;
 use std::test::Fail;
 
 /// A row. The bits of the numbers are the variables that are true, and the marks.
-fn row(rt: &impl Abort, scope: Vars, values: u64, marks: u8) -> Row
+#[tactic(auto, using(crate::proofs::MarkLemmas::common_within))]
+fn row(scope: Vars, values: u64, marks: u8) -> Row
     ensures { result.state.mask ≡ scope }
 {
-    let values = Vars::numbered(values);
-    assert!(rt; values.within(scope));
     let mut all = Marks::empty();
     for mark in 0..8 {
         if marks >> mark & 1 == 1 {
@@ -21,35 +20,81 @@ fn row(rt: &impl Abort, scope: Vars, values: u64, marks: u8) -> Row
         }
     }
     Row {
-        state: Partial::new(scope, values),
+        state: Partial::new(scope, Vars::numbered(values).common(scope)),
         marks: all,
     }
 }
 
 /// A table. The bits of a number are the variables of its scope.
-fn table(rt: &(impl AllocGlobal + Abort), scope: u64, rows: &[(u64, u8)]) -> Result<Table, Fail> {
+fn table(alloc: Global, scope: u64, rows: &[(u64, u8)]) -> Result<Table, Memory> {
     let scope = Vars::numbered(scope);
-    let mut all = Vec::new(rt.alloc());
+    let mut all = Vec::new(alloc);
     for (values, marks) in rows {
-        all.push(row(rt, scope, *values, *marks))?;
+        all.push(row(scope, *values, *marks))?;
     }
     Ok(Table::new(scope, all))
 }
 
-/// The join of tables that have no mark in common.
-fn joined(
-    rt: &(impl AllocGlobal + Abort),
+/// The join of two tables, if they have no mark in common.
+fn joined(alloc: Global, a: &Table, b: &Table, level: u32) -> Result<Option<Table>, Memory> {
+    if are_apart(a, b) {
+        Ok(Some(join(alloc, a, b, level)?))
+    } else {
+        Ok(None)
+    }
+}
+
+/// Whether the join of the two has this scope and these rows.
+fn gives(
+    alloc: Global,
     a: &Table,
     b: &Table,
     level: u32,
-) -> Result<Table, Fail> {
-    assert!(rt; are_apart(a, b));
-    Ok(join(rt.alloc(), a, b, level)?)
+    scope: u64,
+    rows: &[(u64, u8)],
+) -> Result<bool, Memory> {
+    let wanted = table(alloc, scope, rows)?;
+    match joined(alloc, a, b, level)? {
+        Some(found) => Ok(found.scope() == wanted.scope() && found.rows() == wanted.rows()),
+        None => Ok(false),
+    }
 }
 
-/// Every union of two rows, and of these the ones with no other's marks within theirs.
-fn plainly_joined(rt: &HostRuntime, a: &[Row], b: &[Row], level: u32) -> Result<Vec<Row>, Fail> {
-    let mut unions = Vec::new(rt.alloc());
+#[test]
+fn a_join_takes_the_marks_of_both(rt: HostRuntime) -> Result<(), Fail> {
+    let alloc = rt.alloc();
+    let a = table(alloc, 0b1, &[(1, 0), (0, 0b1)])?;
+    let b = table(alloc, 0b1, &[(0, 0b100)])?;
+    assert!(rt; gives(alloc, &a, &b, 2, 0b1, &[(0, 0b101)])?);
+    assert!(rt; gives(alloc, &a, &b, 1, 0b1, &[])?);
+    let off = row(Vars::one(0), 0, 0);
+    let found = matching(alloc, &a, &off.state)?;
+    assert_eq!(rt; found.as_slice(), [row(Vars::one(0), 0, 0b1)].as_slice());
+    Ok(())
+}
+
+#[test]
+fn each_state_keeps_its_minimal_rows(rt: HostRuntime) -> Result<(), Fail> {
+    let alloc = rt.alloc();
+    let a = table(alloc, 0b011, &[(0b10, 0b1), (0b10, 0b11), (0, 0b10)])?;
+    let b = table(alloc, 0b110, &[(0b110, 0), (0b110, 0b1000), (0b100, 0b100)])?;
+    assert!(rt; gives(alloc, &a, &b, 2, 0b111, &[(0b110, 0b1), (0b100, 0b110)])?);
+    assert!(rt; gives(alloc, &a, &b, 1, 0b111, &[(0b110, 0b1)])?);
+
+    let c = table(
+        alloc,
+        0b11,
+        &[(0b01, 0b1), (0b11, 0b11), (0b11, 0b100), (0b10, 0)],
+    )?;
+    let short = forget(alloc, &c, Vars::one(0))?;
+    let wanted = table(alloc, 0b1, &[(1, 0b1), (1, 0b100), (0, 0)])?;
+    assert_eq!(rt; short.rows(), wanted.rows());
+    Ok(())
+}
+
+/// Every union of two rows.
+fn unions_of(alloc: Global, a: &[Row], b: &[Row], level: u32) -> Result<Vec<Row>, Memory> {
+    let mut unions = Vec::new(alloc);
     for x in a {
         for y in b {
             if x.state.fits(&y.state) && x.marks.union(y.marks).count() <= level {
@@ -57,101 +102,39 @@ fn plainly_joined(rt: &HostRuntime, a: &[Row], b: &[Row], level: u32) -> Result<
             }
         }
     }
-    let mut minimal = Vec::new(rt.alloc());
-    for u in &unions {
-        if !unions.iter().any(|v| v.state == u.state
-            && v.marks != u.marks
-            && v.marks.within(u.marks))
-        {
-            minimal.push(*u)?;
+    Ok(unions)
+}
+
+/// Whether a row has no other of its state with marks within its own.
+fn is_minimal(row: &Row, rows: &[Row]) -> bool {
+    for other in rows {
+        if other.state == row.state && other.marks != row.marks && other.marks.within(row.marks) {
+            return false;
         }
     }
-    minimal.sort_unstable();
-    minimal.dedup();
-    Ok(minimal)
+    true
 }
 
-#[test]
-fn a_join_takes_the_marks_of_both(rt: HostRuntime) -> Result<(), Fail> {
-    for (scope, first, other, second, level, both, expected) in [
-        (
-            0b1,
-            [(1, 0), (0, 0b1)],
-            0b1,
-            [(0, 0b100), (0, 0b100)],
-            2,
-            0b1,
-            [(0, 0b101)].as_slice(),
-        ),
-        (
-            0b1,
-            [(1, 0), (0, 0b1)],
-            0b1,
-            [(0, 0b100), (0, 0b100)],
-            1,
-            0b1,
-            [].as_slice(),
-        ),
-        (
-            0b1,
-            [(1, 0b1), (1, 0b11)],
-            0b1,
-            [(1, 0b100), (1, 0b1100)],
-            4,
-            0b1,
-            [(1, 0b101)].as_slice(),
-        ),
-        (
-            0b01,
-            [(0b01, 0), (0, 0b1)],
-            0b10,
-            [(0b10, 0b100), (0, 0)],
-            1,
-            0b11,
-            [(0b11, 0b100), (0b01, 0), (0, 0b1)].as_slice(),
-        ),
-        (
-            0b011,
-            [(0b010, 0b1), (0, 0b10)],
-            0b110,
-            [(0b110, 0), (0b100, 0b100)],
-            2,
-            0b111,
-            [(0b110, 0b1), (0b100, 0b110)].as_slice(),
-        ),
-    ] {
-        let first = table(&rt, scope, &first)?;
-        let second = table(&rt, other, &second)?;
-        let found = joined(&rt, &first, &second, level)?;
-        let wanted = table(&rt, both, expected)?;
-        assert_eq!(rt; found.rows(), wanted.rows());
-        assert!(rt; found.scope() == Vars::numbered(both));
+/// Whether the rows are those of the table, and each union that is missing is not minimal.
+fn agrees(found: &Table, unions: &[Row]) -> bool {
+    for row in unions {
+        if found.rows().contains(row) != is_minimal(row, unions) {
+            return false;
+        }
     }
-    Ok(())
-}
-
-#[test]
-fn rows_are_found_and_forgotten(rt: HostRuntime) -> Result<(), Fail> {
-    let (zero, none) = (Vars::one(0), Vars::empty());
-    let first = table(&rt, 0b1, &[(1, 0), (0, 0b1)])?;
-    let found = matching(rt.alloc(), &first, &Partial::new(zero, none))?;
-    assert_eq!(rt; found.as_slice(), [row(&rt, zero, 0, 0b1)].as_slice());
-
-    let second = table(
-        &rt,
-        0b11,
-        &[(0b01, 0b1), (0b11, 0b11), (0b11, 0b100), (0b10, 0)],
-    )?;
-    let short = forget(rt.alloc(), &second, zero)?;
-    let wanted = table(&rt, 0b1, &[(1, 0b1), (1, 0b100), (0, 0)])?;
-    assert_eq!(rt; short.rows(), wanted.rows());
-    Ok(())
+    for row in found.rows() {
+        if !unions.contains(row) {
+            return false;
+        }
+    }
+    true
 }
 
 #[test]
 fn joins_are_plain_joins(rt: HostRuntime) -> Result<(), Fail> {
+    let alloc = rt.alloc();
     let a = table(
-        &rt,
+        alloc,
         0b0011,
         &[
             (0, 0),
@@ -162,37 +145,14 @@ fn joins_are_plain_joins(rt: HostRuntime) -> Result<(), Fail> {
         ],
     )?;
     let b = table(
-        &rt,
+        alloc,
         0b0110,
-        &[
-            (0, 0b1000),
-            (0b010, 0b100),
-            (0b110, 0),
-            (0b110, 0b1100),
-            (0b100, 0b100),
-        ],
+        &[(0, 0b1000), (0b010, 0b100), (0b110, 0), (0b110, 0b1100)],
     )?;
-    let c = table(
-        &rt,
-        0b1101,
-        &[
-            (0, 0),
-            (0b0101, 0b1_0000),
-            (0b1101, 0b10_0000),
-            (0b0001, 0),
-            (0b1100, 0b1_0000),
-        ],
-    )?;
-    let unit = Table::unit(rt.alloc())?;
     for level in 0..5 {
-        let left = joined(&rt, &joined(&rt, &unit, &a, level)?, &b, level)?;
-        let whole = joined(&rt, &left, &c, level)?;
-        let pairs = plainly_joined(&rt, a.rows(), b.rows(), level)?;
-        assert_eq!(rt; left.rows(), pairs.as_slice());
-        let plain = plainly_joined(&rt, &pairs, c.rows(), level)?;
-        assert_eq!(rt; whole.rows(), plain.as_slice());
-        let turned = joined(&rt, &joined(&rt, &c, &b, level)?, &a, level)?;
-        assert_eq!(rt; whole.rows(), turned.rows());
+        let found = joined(alloc, &a, &b, level)?.expect(&rt, "apart");
+        let unions = unions_of(alloc, a.rows(), b.rows(), level)?;
+        assert!(rt; agrees(&found, &unions), "{level}");
     }
     Ok(())
 }
