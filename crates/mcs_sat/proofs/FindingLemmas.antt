@@ -1,28 +1,40 @@
 -- How a clause is examined.
-use Rattle.std.proofs.Common.{◌≡◌, ℕ, ◌+◌, ◌<◌, ◌≤◌, List, ◌⊎◌, inl, inr, sym, ap, ◌∙◌, subst, ℤ, pos, neg_ℤ, unsigned_abs, length, drop, get_or, Option, Some, None, IfSome}
+use Rattle.std.proofs.Common.{◌≡◌, ℕ, ◌+◌, ◌<◌, ◌≤◌, List, ◌⊎◌, inl, inr, sym, ap, ◌∙◌, subst, ℤ, pos, neg_ℤ, unsigned_abs, length, drop, get_or, Option, Some, None, IfSome, is_some, true, arith}
+use Rattle.std.specs.List.{AllByRecursion}
+use Rattle.std.proofs.lemmas.List.{drop_more}
+use Rattle.mcs_base.proofs.ListingLemmas.{all_among}
+use Rattle.mcs_trace.specs.Clauses.{IsClause, LiteralBefore, place}
 use Rattle.mcs_base.specs.Listings.{IsAmong}
-use Rattle.mcs_trace.proofs.OrderLemmas.{among_get, among_drop-more, among_drop-all}
+use Rattle.mcs_trace.proofs.OrderLemmas.{among_get, among_drop-first, among_drop-more, among_drop-all, first_before}
 use Rattle.mcs_sat.specs.declared.trail.Entry.{Entry}
 use Rattle.mcs_sat.specs.declared.examine.Finding.TheVariants.{Forced, Conflict}
-use Rattle.mcs_sat.specs.Trails.{StandsNowhere, IsOn, IsFinding}
+use Rattle.mcs_sat.specs.Trails.{AreTwoFree, StandsNowhere, IsOn, IsFinding}
+
+-- the literal of the clause is free, and before all those from i on
+abbrev pub IsFreeBefore : List Entry → List ℤ → ℕ → ℤ → Type 0
+IsFreeBefore entries c i l = IsAmong l c × StandsNowhere entries (unsigned_abs l) × AllByRecursion (LiteralBefore l) (drop i c)
 
 -- the literals of the clause below i are false, but the one that is free
 pub record FoundSoFar (entries : List Entry) (c : List ℤ) (i : ℕ) (o : Option ℤ) : Type 0 where
-  pub free : IfSome o (λ l. IsAmong l c × StandsNowhere entries (unsigned_abs l))
+  pub free : IfSome o (IsFreeBefore entries c i)
   pub seen : (k : ℤ) → IsAmong k c → ((o ≡ Some k) ⊎ IsOn entries (neg_ℤ k)) ⊎ IsAmong k (drop i c)
 
 pub found-start : (entries : List Entry) (c : List ℤ) → FoundSoFar entries c 0 None
 found-start entries c = record { free = tt; seen = λ k among. inr among }
 
 pub found-false : (entries : List Entry) (c : List ℤ) (i : ℕ) (o : Option ℤ) → i < length c → IsOn entries (neg_ℤ (get_or c i (pos 0))) → FoundSoFar entries c i o → FoundSoFar entries c (i + 1) o
-found-false entries c i o less on h = record { free = h.free; seen = λ k among. at k (h.seen k among) }
+found-false entries c i o less on h = record { free = later o h.free; seen = λ k among. at k (h.seen k among) }
   where
+    later : (x : Option ℤ) → IfSome x (IsFreeBefore entries c i) → IfSome x (IsFreeBefore entries c (i + 1))
+    later None f = tt
+    later (Some l) f = (f.0, f.1, (subst (AllByRecursion (LiteralBefore l)) (drop_more c i (pos 0) less) f.2).1)
+
     at : (k : ℤ) → ((o ≡ Some k) ⊎ IsOn entries (neg_ℤ k)) ⊎ IsAmong k (drop i c) → ((o ≡ Some k) ⊎ IsOn entries (neg_ℤ k)) ⊎ IsAmong k (drop (i + 1) c)
     at k (inl done) = inl done
     at k (inr rest) = elim (among_drop-more k c i (pos 0) less rest) [ inl e ↦ inl (inr (subst (λ (l : ℤ). IsOn entries (neg_ℤ l)) (sym e) on)) | inr later ↦ inr later ]
 
-pub found-free : (entries : List Entry) (c : List ℤ) (i : ℕ) (o : Option ℤ) → i < length c → o ≡ None → StandsNowhere entries (unsigned_abs (get_or c i (pos 0))) → FoundSoFar entries c i o → FoundSoFar entries c (i + 1) (Some (get_or c i (pos 0)))
-found-free entries c i o less none nowhere h = record { free = (among_get c i (pos 0) less, nowhere); seen = λ k among. at k (h.seen k among) }
+pub found-free : (entries : List Entry) (c : List ℤ) (i : ℕ) (o : Option ℤ) → IsClause c → i < length c → o ≡ None → StandsNowhere entries (unsigned_abs (get_or c i (pos 0))) → FoundSoFar entries c i o → FoundSoFar entries c (i + 1) (Some (get_or c i (pos 0)))
+found-free entries c i o clause less none nowhere h = record { free = (among_get c i (pos 0) less, nowhere, first_before c i (pos 0) less clause.1); seen = λ k among. at k (h.seen k among) }
   where
     at : (k : ℤ) → ((o ≡ Some k) ⊎ IsOn entries (neg_ℤ k)) ⊎ IsAmong k (drop i c) → ((Some (get_or c i (pos 0)) ≡ Some k) ⊎ IsOn entries (neg_ℤ k)) ⊎ IsAmong k (drop (i + 1) c)
     at k (inl (inl e)) = let no : None ≡ Some k = sym none ∙ e in absurd (cc)
@@ -39,10 +51,25 @@ found-conflict entries c i o past none h k among = at (h.seen k among)
 
 pub found-forced : (entries : List Entry) (c : List ℤ) (i : ℕ) (o : Option ℤ) (l : ℤ) → length c ≤ i → o ≡ Some l → FoundSoFar entries c i o → IsFinding entries c (Forced l)
 found-forced entries c i o l past some h =
-    let free = subst (λ (x : Option ℤ). IfSome x (λ k. IsAmong k c × StandsNowhere entries (unsigned_abs k))) some h.free in
-    (free.0, free.1, λ k among. at k (h.seen k among))
+    let free = subst (λ (x : Option ℤ). IfSome x (IsFreeBefore entries c i)) some h.free in
+    ((free.0, λ k among. at k (h.seen k among)), free.1)
   where
     at : (k : ℤ) → ((o ≡ Some k) ⊎ IsOn entries (neg_ℤ k)) ⊎ IsAmong k (drop i c) → (k ≡ l) ⊎ IsOn entries (neg_ℤ k)
     at k (inl (inl e)) = let both : Some l ≡ Some k = sym some ∙ e in inl (cc)
     at k (inl (inr on)) = inr on
     at k (inr rest) = absurd (among_drop-all k c i past rest)
+
+pub found-two : (entries : List Entry) (c : List ℤ) (i : ℕ) (o : Option ℤ) → i < length c → is_some o ≡ true → StandsNowhere entries (unsigned_abs (get_or c i (pos 0))) → FoundSoFar entries c i o → AreTwoFree entries c
+found-two entries c i None less some nowhere h = absurd (cc)
+found-two entries c i (Some l) less some nowhere h = record {
+  first = l;
+  second = get_or c i (pos 0);
+  has_first = h.free.0;
+  has_second = among_get c i (pos 0) less;
+  differ = λ e.
+      let before : place l < place (get_or c i (pos 0)) = all_among (LiteralBefore l) (drop i c) (get_or c i (pos 0)) h.free.2 (among_drop-first c i (pos 0) less) in
+      let same : place l ≡ place (get_or c i (pos 0)) = ap place e in
+      omega arith;
+  free_first = h.free.1;
+  free_second = nowhere;
+}

@@ -7,4 +7,5 @@ pub mod OccurrenceLemmas
 pub mod PlaceLemmas
 pub mod SearchLemmas
 pub mod TrailLemmas
+pub mod SettleLemmas
 pub mod WorkLemmas

@@ -47,9 +47,9 @@ module _ (es : List Entry) (m : ℕ) (c : List ℤ) (is : IsClause c) (within : 
       nowhere p at
 
   pub satisfied-found : (f : Finding) → IsFinding es c f → (f ≡ Conflict → ⊥) → IsSatisfied es c
-  satisfied-found Open (k, among, inl on) other = (k, among, on)
-  satisfied-found Open (k, among, inr nowhere) other = absurd (somewhere k among nowhere)
-  satisfied-found (Forced l) (among, nowhere, rest) other = absurd (somewhere l among nowhere)
+  satisfied-found Open (inl satisfied) other = satisfied
+  satisfied-found Open (inr two) other = absurd (somewhere two.first two.has_first two.free_first)
+  satisfied-found (Forced l) ((among, rest), nowhere) other = absurd (somewhere l among nowhere)
   satisfied-found Conflict found other = absurd (other refl)
 
 pub all-more : (P : List ℤ → Type 0) (X : Type 0) (cs : List (List ℤ)) (i : ℕ) (c : List ℤ) → i < length cs → c ≡ get_or cs i c → P c → (AllByRecursion P (drop i cs) → X) → AllByRecursion P (drop (i + 1) cs) → X

@@ -1,5 +1,5 @@
 -- The literals that a search has made true, the clauses that it has learnt, and how much is left to do.
-use Rattle.std.specs.Prelude.{◌≤◌, Some, ◌⊎◌, neg_ℤ, ◌≡◌, ℕ, zero, suc, ◌+◌, ◌*◌, ◌-◌, ◌^◌, ◌<◌, cond, nat_eq, List, [], ◌∷◌, ◌++◌, map, length, ℤ, pos, get_or, unsigned_abs, All, MatchOption}
+use Rattle.std.specs.Prelude.{◌≤◌, Some, ◌⊎◌, neg_ℤ, ◌≡◌, ◌≢◌, ℕ, zero, suc, ◌+◌, ◌*◌, ◌-◌, ◌^◌, ◌<◌, cond, nat_eq, List, [], ◌∷◌, ◌++◌, map, length, take, ℤ, pos, negsuc, get_or, unsigned_abs, All, MatchOption}
 use Rattle.std.specs.List.{AllByRecursion}
 use Rattle.mcs_base.specs.Listings.{IsAmong}
 use Rattle.mcs_trace.specs.Clauses.{IsLiteral, IsClause, IsWithin, ClauseList}
@@ -54,23 +54,47 @@ abbrev pub Extends : List Entry → List Entry → Type 0
 Extends old new = (more : List Entry) × (new ≡ old ++ more)
 
 -- ---- what they make of a clause
--- a literal is true or free; all but one are false, and this one is free; all are false
-abbrev pub IsFinding : List Entry → List ℤ → Finding → Type 0
-IsFinding entries c Open = (k : ℤ) × IsAmong k c × (IsOn entries k ⊎ StandsNowhere entries (unsigned_abs k))
-IsFinding entries c (Forced l) = IsAmong l c × StandsNowhere entries (unsigned_abs l) × ((k : ℤ) → IsAmong k c → (k ≡ l) ⊎ IsOn entries (neg_ℤ k))
-IsFinding entries c Conflict = (k : ℤ) → IsAmong k c → IsOn entries (neg_ℤ k)
+-- a literal of the clause is true
+abbrev pub IsSatisfied : List Entry → List ℤ → Type 0
+IsSatisfied entries c = (k : ℤ) × IsAmong k c × IsOn entries k
+
+-- two literals of the clause are free
+pub record AreTwoFree (entries : List Entry) (c : List ℤ) : Type 0 where
+  pub first : ℤ
+  pub second : ℤ
+  pub has_first : IsAmong first c
+  pub has_second : IsAmong second c
+  pub differ : first ≢ second
+  pub free_first : StandsNowhere entries (unsigned_abs first)
+  pub free_second : StandsNowhere entries (unsigned_abs second)
+
+-- the literal is in the clause, and all others are false
+abbrev pub IsForcing : List Entry → List ℤ → ℤ → Type 0
+IsForcing entries c l = IsAmong l c × ((k : ℤ) → IsAmong k c → (k ≡ l) ⊎ IsOn entries (neg_ℤ k))
 
 -- all literals of the clause are false
 abbrev pub IsFalse : List Entry → List ℤ → Type 0
 IsFalse entries c = (k : ℤ) → IsAmong k c → IsOn entries (neg_ℤ k)
 
+-- a literal is true, or two are free; the one that is free is forced; all are false
+abbrev pub IsFinding : List Entry → List ℤ → Finding → Type 0
+IsFinding entries c Open = IsSatisfied entries c ⊎ AreTwoFree entries c
+IsFinding entries c (Forced l) = IsForcing entries c l × StandsNowhere entries (unsigned_abs l)
+IsFinding entries c Conflict = IsFalse entries c
+
+-- the clause is not false, and the literal that it forces is true
+pub record IsSettled (entries : List Entry) (c : List ℤ) : Type 0 where
+  pub not_false : ¬ IsFalse entries c
+  pub forced : (l : ℤ) → IsForcing entries c l → IsOn entries l
+
+-- on the way from the one trail to the other it was settled
+pub record IsVisited (old new : List Entry) (c : List ℤ) : Type 0 where
+  pub not_false : ¬ IsFalse old c
+  pub forced : (l : ℤ) → IsForcing old c l → IsOn new l
+
 -- all were false before place n
 abbrev pub IsFalseBelow : List Entry → ℕ → List ℤ → Type 0
 IsFalseBelow entries n c = (k : ℤ) → IsAmong k c → IsOnBelow entries n (neg_ℤ k)
-
--- a literal of the clause is true
-abbrev pub IsSatisfied : List Entry → List ℤ → Type 0
-IsSatisfied entries c = (k : ℤ) × IsAmong k c × IsOn entries k
 
 -- the clause has the literal at place i, and its other literals were false before
 pub record IsReason (entries : List Entry) (i : ℕ) (c : List ℤ) : Type 0 where
@@ -113,6 +137,10 @@ pub record IsLearnt (known : List (List ℤ)) (entries : List Entry) (learnt : L
   pub chain : IsChainResolvent known learnt.step.chain.items learnt.step.clause
   pub jump : MatchOption learnt.jump (learnt.step.clause ≡ []) (IsJump entries learnt.step.clause)
 
+-- the clause of the number was settled
+abbrev pub IsNumberVisited : List (List ℤ) → List Entry → List Entry → ℕ → Type 0
+IsNumberVisited known old new number = (c : List ℤ) → numbered known number ≡ Some c → IsVisited old new c
+
 -- ---- how much is left
 -- of n places: 2 for a free one, 1 for a decision, 0 for an implied literal, as the digits of a number to the base 3
 abbrev pub work_left : ℕ → List Entry → ℕ
@@ -136,6 +164,23 @@ IsNumber n number = (0 < number) × (number ≤ n)
 -- the lists have numbers from 1 to n
 abbrev pub IsOccurrence : ℕ → Occurrence → Type 0
 IsOccurrence n v = All (IsNumber n) v.positive.items × All (IsNumber n) v.negative.items
+
+-- the numbers of the clauses that have the literal
+abbrev pub numbers_in : ℤ → Occurrence → List ℕ
+numbers_in (pos n) v = v.positive.items
+numbers_in (negsuc n) v = v.negative.items
+
+abbrev pub IsListedAt : List Occurrence → ℕ → ℤ → Type 0
+IsListedAt variables n k = (v : Occurrence) → IsAmong n (numbers_in k (get_or variables (unsigned_abs k) v))
+
+-- the number of each clause is listed at each of its literals
+abbrev pub AreListed : List (List ℤ) → List Occurrence → Type 0
+AreListed known variables = (n : ℕ) (c : List ℤ) (k : ℤ) → numbered known n ≡ Some c → IsAmong k c → IsListedAt variables n k
+
+-- those in which the literal at the place is false were settled with it
+abbrev pub IsPlaceVisited : List (List ℤ) → List Occurrence → List Entry → ℕ → Type 0
+IsPlaceVisited known variables entries i = (v : Occurrence)
+    → All (IsNumberVisited known (take (i + 1) entries) entries) (numbers_in (neg_ℤ (literal_at entries i)) (get_or variables (unsigned_abs (literal_at entries i)) v))
 
 abbrev pub AreNumbers : ℕ → List Occurrence → Type 0
 AreNumbers n variables = All (IsOccurrence n) variables

@@ -104,13 +104,13 @@ fn resolve_back(
         if let Some(decision) = trail.decision(latest.others, place) {
             return Ok(Some(Jump { place, decision }));
         }
-        let number = trail.entries[place].reason;
-        let Some(reason) = numbered(cnf.clauses(), steps, number) else {
+        let cause = trail.entries[place].reason;
+        let Some(reason) = numbered(cnf.clauses(), steps, cause) else {
             unreachable!();
         };
         let _ = resolve(current, reason.literals(), spare)?;
         mem::swap(current, spare);
-        chain.push(number)?;
+        chain.push(cause)?;
         bound = place;
     }
     Ok(None)

@@ -1,8 +1,9 @@
 //! In which clauses a literal is.
 
-ghost use Rattle.std.specs.Prelude.{◌≡◌, ◌<◌, ◌+◌, ◌^◌, ℕ, length, unsigned_abs, IfOk, OnOk, All};
+ghost use Rattle.std.specs.Prelude.{◌≡◌, ◌<◌, ◌+◌, ◌^◌, ◌++◌, ◌∷◌, [], ℕ, ℤ, length, slice_index_or, unsigned_abs, IfOk, OnOk, All};
 ghost use Rattle.std.specs.List.{AllByRecursion};
-ghost use Rattle.mcs_sat.specs.Trails.{AreNumbers, IsNumber, IsOccurrence};
+ghost use Rattle.mcs_base.specs.Listings.{IsAmong};
+ghost use Rattle.mcs_sat.specs.Trails.{AreListed, AreNumbers, IsListedAt, IsNumber, IsOccurrence, numbers_in};
 ghost use Rattle.mcs_trace.specs.Clauses.{IsClause};
 
 use mcs_base::Memory;
@@ -19,8 +20,11 @@ pub(crate) struct Occurrence {
 impl Occurrence {
     /// Adds the number of a clause that has the literal of the variable.
     fn push(&mut self, literal: i64, number: u64) -> Result<(), Memory>
-        ensures { OnOk result
+        ensures numbers { OnOk result
             ((n : ℕ) → IsNumber n number → IsOccurrence n self.old → IsOccurrence n self.new) }
+        ensures added { OnOk result (numbers_in literal self.new ≡ numbers_in literal self.old ++ number ∷ []) }
+        ensures kept { OnOk result
+            ((n : ℕ) (k : ℤ) → IsAmong n (numbers_in k self.old) → IsAmong n (numbers_in k self.new)) }
     {
         if literal < 0 {
             self.negative.push(number)?;
@@ -57,7 +61,9 @@ impl Occurrences {
     /// The numbers of the clauses that have the literal.
     pub fn of(&self, literal: i64) -> &[u64]
         requires { unsigned_abs literal < length self.now.variables.items }
-        ensures { (n : ℕ) → AreNumbers n self.now.variables.items → All (IsNumber n) result.now }
+        ensures numbers { (n : ℕ) → AreNumbers n self.now.variables.items → All (IsNumber n) result.now }
+        ensures exact { (v : Occurrence)
+            → result.now ≡ numbers_in literal (slice_index_or self.now.variables.items (unsigned_abs literal) v) }
     {
         let occurrence = &self.variables[literal.unsigned_abs() as usize];
         if literal < 0 {
@@ -74,6 +80,10 @@ impl Occurrences {
         ensures sized { OnOk result (length self.new.variables.items ≡ length self.old.variables.items) }
         ensures numbers { OnOk result
             ((n : ℕ) → IsNumber n number → AreNumbers n self.old.variables.items → AreNumbers n self.new.variables.items) }
+        ensures added { OnOk result
+            ((k : ℤ) → IsAmong k literals.now → IsListedAt self.new.variables.items number k) }
+        ensures kept { OnOk result ((n : ℕ) (k : ℤ)
+            → IsListedAt self.old.variables.items n k → IsListedAt self.new.variables.items n k) }
     {
         for literal in literals {
             let occurrence = &mut self.variables[literal.unsigned_abs() as usize];
@@ -86,6 +96,7 @@ impl Occurrences {
     pub fn of_list(alloc: Global, cnf: &Cnf) -> Result<Occurrences, Memory>
         ensures sized { IfOk result (λ o. length o.variables.items ≡ cnf.now.vars + 1) }
         ensures numbers { IfOk result (λ o. AreNumbers (length cnf.now.clauses) o.variables.items) }
+        ensures listed { IfOk result (λ o. AreListed cnf.now.clauses o.variables.items) }
     {
         let mut occurrences = Occurrences::new(alloc, cnf.vars())?;
         for (index, clause) in cnf.clauses().iter().enumerate() {

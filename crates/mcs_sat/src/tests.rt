@@ -8,6 +8,7 @@ use std::alloc::Global;
 use std::test::Fail;
 
 const HOLES: u32 = 5;
+
 const LAST: u32 = 64;
 
 fn push(alloc: Global, cnf: &mut Cnf, lits: &[i64]) -> Result<(), Fail> {
@@ -160,7 +161,13 @@ fn pigeons_are_refuted_by_each_number_of_the_trace(rt: HostRuntime) -> Result<()
     assert!(rt; check(alloc, &cnf, &trace)?);
     for (at, step) in trace.steps.iter().enumerate() {
         for place in 0..step.clause.literals().len() {
-            assert!(rt; !check(alloc, &cnf, &changed(alloc, &trace, at, Spot::Literal(place))?)?);
+            assert!(rt;
+                !check(
+                    alloc,
+                    &cnf,
+                    &changed(alloc, &trace, at, Spot::Literal(place))?
+                )?
+            );
         }
         for place in 0..step.chain.len() {
             assert!(rt; !check(alloc, &cnf, &changed(alloc, &trace, at, Spot::Name(place))?)?);

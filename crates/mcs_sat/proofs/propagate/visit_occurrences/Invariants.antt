@@ -1,8 +1,0 @@
-use Rattle.mcs_sat.specs.Trails.{Extends, IsTrail, known_of}
-use Rattle.mcs_sat.proofs.propagate.visit_occurrences.Given as goal
-
-abbrev pub invariant-loop-number : goal.invariant-loop-number
-invariant-loop-number l = record {
-  trail : IsTrail l.cnf.vars (known_of l.cnf l.steps) l.trail;
-  grows : Extends l.initial.trail.entries.items l.trail.entries.items;
-}
