@@ -1,4 +1,4 @@
--- The atoms of a context are all that its truth table needs.
+-- What a context is asked is over its atoms.
 use Rattle.std.proofs.Common.{◌≡◌, ℕ, ◌+◌, Bool, true, false, not, ◌&&◌, ◌||◌, cond, eqb, List, [], ◌∷◌, ◌++◌, filter, map, length, Some, refl, sym, ap, ◌∙◌, subst, inl, inr, ◌⊎◌, arith, append_assoc, true≢false, slice_get}
 use Rattle.std.proofs.lemmas.Bool.Decides.{nat_tests}
 use Rattle.std.specs.List.{flat_map, range_with_len}
@@ -12,7 +12,8 @@ use Rattle.mcs_system.proofs.Sameness.{same_name-is, same_name-itself}
 use Rattle.mcs_system.proofs.Members.{among_get, flat_map_among, filter_among}
 use Rattle.mcs_system.proofs.VariableLemmas.{firsts_among}
 use Rattle.mcs_laws.proofs.Deciding.{is_in-append}
-use Rattle.mcs_top.proofs.TableLemmas.{CoversContext}
+use Rattle.mcs_cnf.specs.ClauseLists.{AreOver}
+use Rattle.mcs_cnf.proofs.OverLemmas.{context_atoms}
 
 or_parts : (u v : Bool) → (u || v) ≡ true → (u ≡ true) ⊎ (v ≡ true)
 or_parts true v e = inl refl
@@ -98,12 +99,21 @@ own_variable m i v r is own =
     let same : j ≡ i = grind (arith, nat_tests) in
     subst (λ (k : ℕ). IsAmong r (context_variables m k)) same here
 
-pub covers_context : (m : System) (i x : ℕ) (c : Context) (fs : List Formula) → slice_get m.contexts i ≡ Some c → c.kb ≡ Classical fs → CoversContext m i (atoms_of m i) (fs ++ heads_into m i x)
-unfolding CoversContext atoms_of
-covers_context m i x c fs is kb v r var own n h = in_first_names n (atom_occurrences m i) (elim (in_either n (all_atoms (fs ++ heads_into m i x)) (atoms r.belief) h) [
-  | inl listed ↦ elim (in_either n (flat_map atoms fs) (flat_map atoms (heads_into m i x)) (ap (is_in n) (sym (flat_map-append fs (heads_into m i x))) ∙ listed)) [
-    | inl item ↦ in_first n (own_atoms (slice_get m.contexts i)) _ (ap (λ o. is_in n (own_atoms o)) is ∙ ap (λ k. is_in n (kb_atoms k)) kb ∙ item)
-    | inr head ↦ in_second n (own_atoms (slice_get m.contexts i)) _ (in_first n (flat_map atoms (all_heads_into m i)) _ (in_heads n 0 m.bridges i x head))
-  ]
-  | inr belief ↦ in_second n (own_atoms (slice_get m.contexts i)) _ (in_second n (flat_map atoms (all_heads_into m i)) _ (in_flat_map (λ (q : Read). atoms q.belief) n r (context_variables m i) (own_variable m i v r var own) belief))
-])
+-- the atoms of the formulas and of the heads of some rules into the context are its atoms
+pub covers_formulas : (m : System) (i x : ℕ) (c : Context) (fs : List Formula) → slice_get m.contexts i ≡ Some c → c.kb ≡ Classical fs
+    → (n : Name) → is_in n (all_atoms (fs ++ heads_into m i x)) ≡ true → is_in n (atom_occurrences m i) ≡ true
+covers_formulas m i x c fs is kb n h = elim (in_either n (flat_map atoms fs) (flat_map atoms (heads_into m i x)) (ap (is_in n) (sym (flat_map-append fs (heads_into m i x))) ∙ h)) [
+  | inl item ↦ in_first n (own_atoms (slice_get m.contexts i)) _ (ap (λ o. is_in n (own_atoms o)) is ∙ ap (λ k. is_in n (kb_atoms k)) kb ∙ item)
+  | inr head ↦ in_second n (own_atoms (slice_get m.contexts i)) _ (in_first n (flat_map atoms (all_heads_into m i)) _ (in_heads n 0 m.bridges i x head))
+]
+
+-- and so are those of the beliefs of its variables
+pub covers_belief : (m : System) (i v : ℕ) (r : Read) → IsVariable m v r → r.context ≡ i → (n : Name) → is_in n (atoms r.belief) ≡ true → is_in n (atom_occurrences m i) ≡ true
+covers_belief m i v r var own n h =
+    in_second n (own_atoms (slice_get m.contexts i)) _ (in_second n (flat_map atoms (all_heads_into m i)) _ (in_flat_map (λ (q : Read). atoms q.belief) n r (context_variables m i) (own_variable m i v r var own) h))
+
+-- formulas whose atoms are a context's are over its atoms
+pub over_context : (m : System) (i : ℕ) (fs : List Formula) → ((n : Name) → is_in n (flat_map atoms fs) ≡ true → is_in n (atom_occurrences m i) ≡ true) → AreOver (atoms_of m i) fs
+over_context m i [] covers = tt
+over_context m i (f ∷ fs) covers =
+    ((context_atoms m i).1 f (λ n h. covers n (in_first n (atoms f) (flat_map atoms fs) h)), over_context m i fs (λ n h. covers n (in_second n (atoms f) (flat_map atoms fs) h)))

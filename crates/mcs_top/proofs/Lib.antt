@@ -1,6 +1,8 @@
-pub mod TableLemmas
+pub mod AnswerLemmas
+pub mod BeliefLemmas
 pub mod EquilibriumLemmas
 pub mod LineLemmas
+pub mod PlaceLemmas
 pub mod CoverLemmas
 pub mod SmallLemmas
 pub mod PrintLemmas

@@ -1,6 +1,6 @@
 pub mod Jobs
 pub mod Endings
-pub mod Tables
+pub mod Beliefs
 pub mod SmallGrammar
 pub mod Reading
 pub mod Readers

@@ -2,6 +2,7 @@
 //! list of equilibria.
 #![tactic(auto)]
 
+mod answers;
 mod command;
 mod ending;
 mod equilibria;

@@ -1,8 +1,7 @@
 //! Texts of the small grammar, within their limits.
 
-ghost use Rattle.std.specs.Prelude.{◌≡◌, ◌<◌, ◌≤◌, ℕ, length, map, true, false, IfOk, IfSome, IfNone};
+ghost use Rattle.std.specs.Prelude.{◌≡◌, ◌≤◌, length, map, true, false, IfOk, IfSome, IfNone};
 ghost use Rattle.std.specs.List.{AllByRecursion};
-ghost use Rattle.mcs_system.specs.Atoms.{atoms_of};
 ghost use Rattle.mcs_system.specs.Faults.{item_count};
 ghost use Rattle.mcs_system.specs.Plain as plain;
 ghost use Rattle.mcs_system.specs.Seen.{context_of};
@@ -13,7 +12,7 @@ use mcs_base::Memory;
 use mcs_system::{BuildFault, Context, System};
 use std::alloc::Global;
 
-/// The most contexts, the most bridge rules, the most variables, and the most atoms of a context.
+/// The most contexts, the most bridge rules and the most variables.
 const MOST_PARTS: usize = 8;
 
 /// The most items of a context.
@@ -32,19 +31,6 @@ fn has_few_items(contexts: &[Context]) -> bool
     true
 }
 
-/// Whether each context has few atoms.
-fn has_few_atoms(system: &System) -> bool
-    ensures few { result ≡ true → (i : ℕ) → i < length system.now.contexts → length (atoms_of system.now i) ≤ 8 }
-    ensures many { result ≡ false → ¬ ((i : ℕ) → i < length system.now.contexts → length (atoms_of system.now i) ≤ 8) }
-{
-    for i in 0..system.contexts().len() as u32 {
-        if system.atoms_of(i).len() > MOST_PARTS {
-            return false;
-        }
-    }
-    true
-}
-
 /// Whether the system is within the limits of what is printed.
 fn is_small(system: &System) -> bool
     ensures small { result ≡ true → IsSmall system.now }
@@ -54,7 +40,6 @@ fn is_small(system: &System) -> bool
         && system.bridges().len() <= MOST_PARTS
         && system.variables().len() <= MOST_PARTS
         && has_few_items(system.contexts())
-        && has_few_atoms(system)
 }
 
 #[tactic(auto, using(crate::proofs::SmallReading::spells_classical, crate::proofs::SmallReading::no_text_of_fault, crate::proofs::SmallReading::no_text_of_large))]

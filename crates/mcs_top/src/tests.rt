@@ -74,6 +74,11 @@ fn equilibria_are_listed(rt: HostRuntime) -> Result<(), Fail> {
             "context c1 classical { p. ~p. }\ncontext c2 classical {}\nbridge r1: c2:x if c1:q.\n",
             "mcs 1: 2 contexts, 1 rules, 1 variables\nequilibrium 1: {c1:q} applicable {r1}\nconsistent\nend: 1 equilibria\n",
         ),
+        // So does one that a rule contradicts.
+        (
+            "context c1 classical { ~p. } context c2 classical {} bridge r: c1:p. bridge s: c2:x if c1:q.",
+            "mcs 1: 2 contexts, 2 rules, 1 variables\nequilibrium 1: {c1:q} applicable {r, s}\nconsistent\nend: 1 equilibria\n",
+        ),
         (SELF_SUPPORT, SELF_SUPPORT_LISTING),
         (
             SELF_ATTACK,
@@ -109,7 +114,6 @@ fn systems_past_a_limit_are_refused(rt: HostRuntime) -> Result<(), Fail> {
         "context c1 classical {} context c2 classical {} context c3 classical {} context c4 classical {} context c5 classical {} context c6 classical {} context c7 classical {} context c8 classical {}";
     let rules =
         "context c classical {} bridge r1: c:a. bridge r2: c:a. bridge r3: c:a. bridge r4: c:a. bridge r5: c:a. bridge r6: c:a. bridge r7: c:a. bridge r8: c:a.";
-    let atoms = "context c classical { a1. a2. a3. a4. a5. a6. a7. a8.";
     let reads =
         "context c classical {} context d classical {} bridge r: c:a1 if c:a1, c:a2, c:a3, c:a4, d:a1, d:a2, d:a3, d:a4";
     for (front, piece, back, heading) in [
@@ -126,12 +130,6 @@ fn systems_past_a_limit_are_refused(rt: HostRuntime) -> Result<(), Fail> {
             "mcs 1: 1 contexts, 8 rules, 0 variables\n",
         ),
         (
-            atoms,
-            " a9.",
-            "}",
-            "mcs 1: 1 contexts, 0 rules, 0 variables\n",
-        ),
-        (
             reads,
             ", d:a5",
             ".",
@@ -146,6 +144,37 @@ fn systems_past_a_limit_are_refused(rt: HostRuntime) -> Result<(), Fail> {
         assert!(rt; sink.written().is_empty());
         assert_eq!(rt; sink.noted(), b"mcs: refused: form\n".as_slice());
     }
+    Ok(())
+}
+
+// A context that knows so many atoms, by turns to be true and to be false.
+fn many_atoms(alloc: Global, count: u32) -> Result<Vec<u8>, Memory> {
+    let mut text = Vec::from_slice(alloc, b"context c classical {")?;
+    for number in 0..count {
+        let sign = if number % 2 == 0 { "" } else { "~" };
+        text.extend_from_slice(format!(in alloc; " {sign}a{number}.")?.as_bytes())?;
+    }
+    text.extend_from_slice(b" }")?;
+    Ok(text)
+}
+
+#[test]
+fn contexts_have_at_most_64_atoms(rt: HostRuntime) -> Result<(), Fail> {
+    let alloc = rt.alloc();
+    let mut text = many_atoms(alloc, 64)?;
+    text.extend_from_slice(b" bridge r: c:a0 if c:a62, not c:a63.")?;
+    let (status, sink) = listed(alloc, &text)?;
+    assert_eq!(rt; status, 0);
+    assert_eq!(rt;
+        sink.written(),
+        b"mcs 1: 1 contexts, 1 rules, 2 variables\nequilibrium 1: {c:a62} applicable {r}\nconsistent\nend: 1 equilibria\n".as_slice()
+    );
+    // The head of one more rule is the atom past the limit.
+    text.extend_from_slice(b" bridge s: c:a64.")?;
+    let (status, sink) = listed(alloc, &text)?;
+    assert_eq!(rt; status, 3);
+    assert!(rt; sink.written().is_empty());
+    assert_eq!(rt; sink.noted(), b"mcs: refused: form\n".as_slice());
     Ok(())
 }
 

@@ -8,17 +8,17 @@ use Rattle.mcs_top.proofs.EquilibriumLemmas.{AcceptsBelow, accepts_none, accepts
 use Rattle.mcs_top.proofs.equilibria.is_equilibrium.Goals as goal
 
 pub loop-i-init : goal.loop-i-init
-loop-i-init g c = accepts_none c.args.system.now c.args.state
+loop-i-init g c = record { accepts = accepts_none c.args.system.now c.args.state; right = c.requires.right }
 
-pub returns-then-ne : goal.returns-then-ne
-returns-then-ne g c = (
+pub returns-then-ne-clause-equilibrium : goal.returns-then-ne-clause-equilibrium
+returns-then-ne-clause-equilibrium g c = (
   (λ e. absurd (true≢false (sym e))),
   λ h.
-      let many : length c.contexts-i-end.result.now ≡ length c.args.system.now.contexts = sym (length-map c.contexts-i-end.result.now context_of) ∙ ap length c.contexts-i-end.ensures.value in
+      let many : length c.contexts.result.now ≡ length c.args.system.now.contexts = sym (length-map c.contexts.result.now context_of) ∙ ap length c.contexts.ensures.value in
       let accepted = accepted_where_balanced c.args.system.now c.args.state c.loop-i.i h (omega (arith, many, c.loop-i-test.true)) in
       let accepted' = subst (λ (x : ℕ). IsAcceptedPart c.args.system.now c.loop-i.i x (common c.args.state (variables_of c.args.system.now c.loop-i.i))) (sym c.applicable-rules.ensures) accepted in
-      let same : common c.args.state (variables_of c.args.system.now c.loop-i.i) ≡ c.accepted_part.result = (c.accepted_part.ensures _).0 accepted' in
-      let shown : c.common.result ≡ c.accepted_part.result = c.common.ensures ∙ ap (common c.args.state) c.vars_of.ensures ∙ same in
+      let same : common c.args.state (variables_of c.args.system.now c.loop-i.i) ≡ c.in_ok-part_of.field-0 = (c.in_ok-part_of.ensures.only _).0 accepted' in
+      let shown : c.common.result ≡ c.in_ok-part_of.field-0 = c.common.ensures ∙ ap (common c.args.state) c.vars_of.ensures ∙ same in
       let told = c.ne.ensures in
       let yes = c.if-ne.true in
       grind (arith, nat_tests),
@@ -28,13 +28,16 @@ pub loop-i-preserved : goal.loop-i-preserved
 loop-i-preserved g c =
     let told = c.ne.ensures in
     let equal = c.if-ne.false in
-    let same : c.common.result ≡ c.accepted_part.result = grind (arith, nat_tests) in
-    let shown : common c.args.state (variables_of c.args.system.now c.loop-i.i) ≡ c.accepted_part.result = ap (common c.args.state) (sym c.vars_of.ensures) ∙ sym c.common.ensures ∙ same in
-    let accepted = (c.accepted_part.ensures (common c.args.state (variables_of c.args.system.now c.loop-i.i))).1 shown in
-    accepts_more c.args.system.now c.args.state c.loop-i.i c.loop-i.invariant (subst (λ (x : ℕ). IsAcceptedPart c.args.system.now c.loop-i.i x (common c.args.state (variables_of c.args.system.now c.loop-i.i))) c.applicable-rules.ensures accepted)
+    let same : c.common.result ≡ c.in_ok-part_of.field-0 = grind (arith, nat_tests) in
+    let shown : common c.args.state (variables_of c.args.system.now c.loop-i.i) ≡ c.in_ok-part_of.field-0 = ap (common c.args.state) (sym c.vars_of.ensures) ∙ sym c.common.ensures ∙ same in
+    let accepted = (c.in_ok-part_of.ensures.only (common c.args.state (variables_of c.args.system.now c.loop-i.i))).1 shown in
+    record {
+      accepts = accepts_more c.args.system.now c.args.state c.loop-i.i c.loop-i.invariant.accepts (subst (λ (x : ℕ). IsAcceptedPart c.args.system.now c.loop-i.i x (common c.args.state (variables_of c.args.system.now c.loop-i.i))) c.applicable-rules.ensures accepted);
+      right = c.in_ok-part_of.ensures.right;
+    }
 
-pub returns : goal.returns
-returns g c =
-    let many : length c.contexts-i-end.result.now ≡ length c.args.system.now.contexts = sym (length-map c.contexts-i-end.result.now context_of) ∙ ap length c.contexts-i-end.ensures.value in
+pub returns-clause-equilibrium : goal.returns-clause-equilibrium
+returns-clause-equilibrium g c =
+    let many : length c.contexts.result.now ≡ length c.args.system.now.contexts = sym (length-map c.contexts.result.now context_of) ∙ ap length c.contexts.ensures.value in
     let end : c.loop-i.i ≡ length c.args.system.now.contexts = omega (arith, many, c.loop-i-test.false, c.loop-i.auto.i-end) in
-    ((λ e. balanced c.args.system.now c.args.state c.requires.state (subst (AcceptsBelow c.args.system.now c.args.state) end c.loop-i.invariant)), λ h. refl)
+    ((λ e. balanced c.args.system.now c.args.state c.requires.state (subst (AcceptsBelow c.args.system.now c.args.state) end c.loop-i.invariant.accepts)), λ h. refl)

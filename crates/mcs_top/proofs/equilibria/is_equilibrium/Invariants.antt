@@ -1,5 +1,10 @@
+use Rattle.std.specs.List.{AllByRecursion}
+use Rattle.mcs_top.specs.Beliefs.{IsRight}
 use Rattle.mcs_top.proofs.EquilibriumLemmas.{AcceptsBelow}
 use Rattle.mcs_top.proofs.equilibria.is_equilibrium.Given as goal
 
 abbrev pub invariant-loop-i : goal.invariant-loop-i
-invariant-loop-i g l = AcceptsBelow l.system l.state l.i
+invariant-loop-i g l = record {
+  accepts : AcceptsBelow l.system l.state l.i;
+  right : AllByRecursion (IsRight l.system) l.answers.items;
+}
