@@ -1,0 +1,129 @@
+-- The text of a bridge rule, and that of a system, has the tokens of what is written.
+use Rattle.std.proofs.Common.{◌≡◌, ℕ, Bool, true, false, ◌||◌, List, [], ◌∷◌, ◌++◌, codes, map, slice_get, refl, ap, append_assoc, arith, true≢false}
+use Rattle.std.specs.List.{AllByRecursion, flat_map, list_any}
+use Rattle.mcs_system.specs.Faults.{has_unjustified, IsValid}
+use Rattle.mcs_system.specs.Plain.{Name, Context, Read, Bridge, System}
+use Rattle.mcs_system.specs.Texts.{primary, separated, further, read_text, name_of_context}
+use Rattle.mcs_system.proofs.ValidLemmas.{all_from_none, tests_pass}
+use Rattle.mcs_tokens.specs.declared.sign.Sign.TheVariants as signs
+use Rattle.mcs_language.specs.Canonical.{denied, context_text, head_of, if_word, bridge_text, canonical_text}
+use Rattle.mcs_language.specs.Marks.{Use, BeginsBridge, NamesBridge, NamesTarget, NamesSource, BeginsBelief, EndsRead, Mark, mark, formula_in, with_first, with_last, whole_marks, place_marks, read_marks, further_read, reads_marks, context_marks, bridge_marks, text_marks, tokens_of}
+use Rattle.mcs_language.specs.Naming.{IsNamedContext, IsNamed}
+use Rattle.mcs_language.proofs.Pieces.{HasTokens}
+use Rattle.mcs_language.proofs.CanonicalGrammar.{all-both, IsPlaced, IsPlacedBridge, placed-name, all-placed}
+use Rattle.mcs_language.proofs.CanonicalWritten.{primary_written, place_written, read_written, reads_written, bridge_written, context_written, canonical_written}
+use Rattle.mcs_language.proofs.Spelled.{IsSpelled, beside, text-as, marks-as, first-tokens, last-tokens, nothing, EndsWord, one-sign, blank, sign-blank, word-space, tokens-of-text}
+use Rattle.mcs_language.proofs.SpelledFormulas.{one-name, primary-no-hyphen, primary-spelled}
+use Rattle.mcs_language.proofs.SpelledContexts.{after-comma, further-ends, ends-after, context-spelled}
+
+-- ---- places
+module _ (m : System) (named : IsNamed m) where
+  place-spelled : (role : Use) (r : Read) (next : List ℕ) → IsPlaced m r → EndsWord next → IsSpelled (read_text m r) (place_marks role (place_written m r)) next
+  place-spelled role r next h ends =
+      let c = name_of_context (slice_get m.contexts r.context) in
+      let begins = BeginsBelief c ∷ [] in
+      let formula = whole_marks c (primary_written r.belief) in
+      let belief : IsSpelled (primary r.belief) (with_first begins formula) next =
+      marks-as (primary r.belief) formula (with_first begins formula) next (first-tokens begins formula) (primary-spelled c r.belief 0 0 next h.1 ends) in
+      let colon = beside (codes ":") (primary r.belief) (mark (codes ":") [] ∷ []) (with_first begins formula) next (one-sign signs.Colon [] (primary r.belief ++ next) (primary-no-hyphen r.belief next h.1)) belief in
+      beside c (codes ":" ++ primary r.belief) (mark c (role ∷ []) ∷ []) (mark (codes ":") [] ∷ with_first begins formula) next (one-name c (role ∷ []) _ (placed-name m named r h) refl) colon
+
+  -- ---- reads
+  module _ (target : Name) where
+    read-spelled : (r : Read) (next : List ℕ) → IsPlaced m r → EndsWord next → IsSpelled (read_text m r) (read_marks target (read_written m false r)) next
+    read-spelled r next h ends =
+        let p = place_written m r in
+        let place = place_marks (NamesSource p.context) p in
+        let last = EndsRead target p.context (formula_in p.belief) ∷ [] in
+        marks-as (read_text m r) place (with_last last place) next (last-tokens last place) (place-spelled (NamesSource p.context) r next h ends)
+
+    denied-spelled : (r : Read) (next : List ℕ) → IsPlaced m r → EndsWord next → IsSpelled (denied (read_text m r)) (read_marks target (read_written m true r)) next
+    denied-spelled r next h ends = beside (codes "not ") (read_text m r) (mark (codes "not") [] ∷ []) (read_marks target (read_written m false r)) next
+        (word-space (codes "not") [] (read_text m r ++ next) refl (omega arith)) (read-spelled r next h ends)
+
+    abbrev texts : List Read → List Read → List (List ℕ)
+    texts pos neg = map (read_text m) pos ++ map (λ (r : Read). denied (read_text m r)) neg
+
+    further-reads : (pos neg : List Read) (next : List ℕ) → AllByRecursion (IsPlaced m) pos → AllByRecursion (IsPlaced m) neg → EndsWord next → IsSpelled (further (texts pos neg)) (flat_map (further_read target) (reads_written m pos neg)) next
+    further-reads [] [] next h k ends = nothing next
+    further-reads [] (r ∷ rs) next h k ends =
+        let rest = further (texts [] rs) in
+        beside (codes ", " ++ denied (read_text m r)) rest (further_read target (read_written m true r)) (flat_map (further_read target) (reads_written m [] rs)) next
+        (after-comma (denied (read_text m r)) (read_marks target (read_written m true r)) (rest ++ next) (denied-spelled r (rest ++ next) k.0 (further-ends (texts [] rs) next ends)))
+        (further-reads [] rs next h k.1 ends)
+    further-reads (r ∷ rs) neg next h k ends =
+        let rest = further (texts rs neg) in
+        beside (codes ", " ++ read_text m r) rest (further_read target (read_written m false r)) (flat_map (further_read target) (reads_written m rs neg)) next
+        (after-comma (read_text m r) (read_marks target (read_written m false r)) (rest ++ next) (read-spelled r (rest ++ next) h.0 (further-ends (texts rs neg) next ends)))
+        (further-reads rs neg next h.1 k ends)
+
+    after-if : (a : List ℕ) (ms : List Mark) (next : List ℕ) → IsSpelled a ms next → IsSpelled (codes " if " ++ a) (mark (codes "if") [] ∷ ms) next
+    after-if a ms next h =
+        let word = beside (codes "if ") a (mark (codes "if") [] ∷ []) ms next (word-space (codes "if") [] (a ++ next) refl (omega arith)) h in
+        beside (codes " ") (codes "if " ++ a) [] (mark (codes "if") [] ∷ ms) next (blank 32 _ refl) word
+
+    reads-spelled : (pos neg : List Read) (next : List ℕ) → AllByRecursion (IsPlaced m) pos → AllByRecursion (IsPlaced m) neg → EndsWord next → IsSpelled (if_word (pos ++ neg) ++ separated (texts pos neg)) (reads_marks target (reads_written m pos neg)) next
+    reads-spelled [] [] next h k ends = nothing next
+    reads-spelled [] (r ∷ rs) next h k ends =
+        let rest = further (texts [] rs) in
+        after-if (denied (read_text m r) ++ rest) (read_marks target (read_written m true r) ++ flat_map (further_read target) (reads_written m [] rs)) next
+        (beside (denied (read_text m r)) rest (read_marks target (read_written m true r)) (flat_map (further_read target) (reads_written m [] rs)) next
+        (denied-spelled r (rest ++ next) k.0 (further-ends (texts [] rs) next ends)) (further-reads [] rs next h k.1 ends))
+    reads-spelled (r ∷ rs) neg next h k ends =
+        let rest = further (texts rs neg) in
+        after-if (read_text m r ++ rest) (read_marks target (read_written m false r) ++ flat_map (further_read target) (reads_written m rs neg)) next
+        (beside (read_text m r) rest (read_marks target (read_written m false r)) (flat_map (further_read target) (reads_written m rs neg)) next
+        (read-spelled r (rest ++ next) h.0 (further-ends (texts rs neg) next ends)) (further-reads rs neg next h.1 k ends))
+
+    reads-end : (pos neg : List Read) (next : List ℕ) → EndsWord next → EndsWord ((if_word (pos ++ neg) ++ separated (texts pos neg)) ++ next)
+    reads-end [] [] next ends = ends
+    reads-end [] (r ∷ rs) next ends = refl
+    reads-end (r ∷ rs) neg next ends = refl
+
+  -- ---- rules
+  bridge-spelled : (b : Bridge) (next : List ℕ) → IsPlacedBridge m b → IsSpelled (bridge_text m b) (bridge_marks (bridge_written m b)) next
+  bridge-spelled b next h =
+      let w = bridge_written m b in
+      let target = (w.head).context in
+      let word = if_word (b.pos ++ b.neg) in
+      let reads = separated (texts target b.pos b.neg) in
+      let reading = reads_marks target w.reads in
+      let end = codes ".\n" ++ next in
+      let tail = beside (word ++ reads) (codes ".\n") reading (mark (codes ".") [] ∷ []) next (reads-spelled target b.pos b.neg end h.pos h.neg refl) (sign-blank signs.Period [] 10 next refl tt) in
+      let head = beside (read_text m (head_of b)) ((word ++ reads) ++ codes ".\n") (place_marks (NamesTarget target) w.head) (reading ++ mark (codes ".") [] ∷ []) next
+      (place-spelled (NamesTarget target) (head_of b) _ h.head (ends-after (word ++ reads) (codes ".\n") next (reads-end target b.pos b.neg end refl))) tail in
+      let same : read_text m (head_of b) ++ ((word ++ reads) ++ codes ".\n") ≡ read_text m (head_of b) ++ (word ++ (reads ++ codes ".\n")) = ap (λ l. read_text m (head_of b) ++ l) (append_assoc word reads (codes ".\n")) in
+      let body = read_text m (head_of b) ++ (word ++ (reads ++ codes ".\n")) in
+      let body_marks = place_marks (NamesTarget target) w.head ++ (reading ++ mark (codes ".") [] ∷ []) in
+      let colon = beside (codes ": ") body (mark (codes ":") [] ∷ []) body_marks next (sign-blank signs.Colon [] 32 (body ++ next) refl (λ e. omega arith)) (text-as _ body body_marks next same head) in
+      let name = beside b.name (codes ": " ++ body) (mark b.name (NamesBridge b.name ∷ []) ∷ []) (mark (codes ":") [] ∷ body_marks) next (one-name b.name (NamesBridge b.name ∷ []) _ h.name refl) colon in
+      beside (codes "bridge ") (b.name ++ (codes ": " ++ body)) (mark (codes "bridge") (BeginsBridge ∷ []) ∷ []) (mark b.name (NamesBridge b.name ∷ []) ∷ mark (codes ":") [] ∷ body_marks) next (word-space (codes "bridge") (BeginsBridge ∷ []) _ refl (omega arith)) name
+
+-- ---- the whole text
+all-spelled : {A W : Type 0} (text : A → List ℕ) (written : A → W) (marks : W → List Mark) (P : A → Type 0) → ((x : A) (next : List ℕ) → P x → IsSpelled (text x) (marks (written x)) next)
+    → (xs : List A) (next : List ℕ) → AllByRecursion P xs → IsSpelled (flat_map text xs) (flat_map marks (map written xs)) next
+all-spelled text written marks P each [] next h = nothing next
+all-spelled text written marks P each (x ∷ xs) next h = beside (text x) (flat_map text xs) (marks (written x)) (flat_map marks (map written xs)) next (each x _ h.0) (all-spelled text written marks P each xs next h.1)
+
+-- a context with names that is justified
+abbrev IsFit : Context → Type 0
+IsFit c = IsNamedContext c × (has_unjustified c.kb ≡ false)
+
+all-fit : (m : System) → IsNamed m → IsValid m → AllByRecursion IsFit m.contexts
+all-fit m named valid =
+    let Fits : Context → Type 0 = λ c. has_unjustified c.kb ≡ false in
+    all-both IsNamedContext Fits m.contexts named.contexts (all_from_none (λ (c : Context). has_unjustified c.kb) Fits (λ c e. e) m.contexts (first (list_any (λ (c : Context). has_unjustified c.kb) m.contexts) _ (tests_pass m valid).fitting))
+  where
+    first : (a b : Bool) → (a || b) ≡ false → a ≡ false
+    first true b e = absurd (true≢false e)
+    first false b e = refl
+
+pub canonical-spelled : (m : System) → IsNamed m → IsValid m → IsSpelled (canonical_text m) (text_marks (canonical_written m)) []
+canonical-spelled m named valid =
+    beside (flat_map context_text m.contexts) (flat_map (bridge_text m) m.bridges) (flat_map context_marks (map context_written m.contexts)) (flat_map bridge_marks (map (bridge_written m) m.bridges)) []
+    (all-spelled context_text context_written context_marks IsFit (λ c next h. context-spelled c next h.0 h.1) m.contexts _ (all-fit m named valid))
+    (all-spelled (bridge_text m) (bridge_written m) bridge_marks (IsPlacedBridge m) (bridge-spelled m named) m.bridges [] (all-placed m named valid))
+
+-- the tokens of the bytes are those of what is written
+pub canonical-tokens : (m : System) → IsNamed m → IsValid m → HasTokens (canonical_text m) 0 (tokens_of (text_marks (canonical_written m)))
+canonical-tokens m named valid = tokens-of-text (canonical_text m) (text_marks (canonical_written m)) (canonical-spelled m named valid)

@@ -1,0 +1,93 @@
+-- A text's marks, split at one of them; and how long lists without repeats can be.
+use Rattle.std.proofs.Common.{◌≡◌, ℕ, zero, suc, ◌+◌, ◌<◌, ◌≤◌, Bool, true, cond, List, [], ◌∷◌, ◌++◌, filter, take, length, Some, refl, sym, ap, subst, ◌∙◌, inl, inr, arith, slice_get}
+use Rattle.std.specs.Prelude.{count_by}
+use Rattle.std.proofs.lemmas.Grind.{flat_map-append}
+use Rattle.std.proofs.lemmas.List.Sums.{sum_by-append, length-filter}
+use Rattle.mcs_base.specs.Listings.{IsAmong}
+use Rattle.mcs_system.proofs.Members.{among_left, among_right, among_filter}
+use Rattle.mcs_language.specs.Marks.{Use, Mark, uses_of}
+use Rattle.mcs_language.specs.Faults.{AreDifferent}
+use Rattle.mcs_language.proofs.TextRuns.{some-is}
+
+-- ---- what the marks before one are there for, what it is there for itself, and what comes after
+pub record IsSplit (uses before here : List Use) : Type 0 where
+  pub after : List Use
+  pub whole : uses ≡ before ++ (here ++ after)
+
+pub record IsSplitAt (marks : List Mark) (k : ℕ) (m : Mark) : Type 0 where
+  pub after : List Mark
+  pub whole : marks ≡ take k marks ++ m ∷ after
+
+pub split-at : (marks : List Mark) (k : ℕ) (m : Mark) → slice_get marks k ≡ Some m → IsSplitAt marks k m
+split-at [] k m is = cc
+split-at (x ∷ xs) zero m is = record { after = xs; whole = ap (λ (y : Mark). y ∷ xs) (some-is is) }
+split-at (x ∷ xs) (suc k) m is = let rest = split-at xs k m is in record { after = rest.after; whole = ap (λ (ys : List Mark). x ∷ ys) rest.whole }
+
+pub uses-split : (marks : List Mark) (k : ℕ) (m : Mark) → slice_get marks k ≡ Some m → IsSplit (uses_of marks) (uses_of (take k marks)) m.uses
+uses-split marks k m is =
+    let d = split-at marks k m is in
+    record { after = uses_of d.after; whole = ap uses_of d.whole ∙ flat_map-append (λ (x : Mark). x.uses) (take k marks) (m ∷ d.after) }
+
+pub among-before : (uses before here : List Use) (u : Use) → IsSplit uses before here → IsAmong u before → IsAmong u uses
+among-before uses before here u s h = subst (IsAmong u) (sym s.whole) (among_left u before (here ++ s.after) h)
+
+pub among-here : (uses before here : List Use) (u : Use) → IsSplit uses before here → IsAmong u here → IsAmong u uses
+among-here uses before here u s h = subst (IsAmong u) (sym s.whole) (among_right u before (here ++ s.after) (among_left u here s.after h))
+
+-- ---- counts
+some-long : {A : Type 0} (x : A) (xs : List A) → IsAmong x xs → 1 ≤ length xs
+some-long x [] h = absurd h
+some-long x (y ∷ ys) h = omega arith
+
+pub count-among : {A : Type 0} (p : A → Bool) (x : A) (xs : List A) → IsAmong x xs → p x ≡ true → 1 ≤ count_by p xs
+count-among p x xs h passes =
+    let some = some-long x (filter p xs) (among_filter p x xs h passes) in
+    let same = length-filter p xs in
+    omega arith
+
+pub count-append : {A : Type 0} (p : A → Bool) (xs ys : List A) → count_by p (xs ++ ys) ≡ count_by p xs + count_by p ys
+count-append p xs ys = sum_by-append (λ x. cond (p x) 1 0) xs ys
+
+-- there is one more than before
+pub count-more : (p : Use → Bool) (uses before here : List Use) (u : Use) → IsSplit uses before here → IsAmong u here → p u ≡ true → count_by p before < count_by p uses
+count-more p uses before here u s h passes =
+    let all = ap (count_by p) s.whole in
+    let parts = count-append p before (here ++ s.after) in
+    let rest = count-append p here s.after in
+    let one = count-among p u here h passes in
+    omega arith
+
+-- ---- lists without repeats
+-- what stands in both parts stands twice
+pub different-parts : {A : Type 0} (x : A) (xs ys : List A) → AreDifferent (xs ++ ys) → IsAmong x xs → IsAmong x ys → ⊥
+different-parts {A} x [] ys d h g = absurd h
+different-parts {A} x (z ∷ zs) ys d (inl e) g = d.0 (subst (λ (w : A). IsAmong w (zs ++ ys)) e (among_right x zs ys g))
+different-parts {A} x (z ∷ zs) ys d (inr h) g = different-parts x zs ys d.1 h g
+
+module _ {A : Type 0} where
+  -- without one of its elements
+  abbrev without : (x : A) (ys : List A) → IsAmong x ys → List A
+  without x [] h = absurd h
+  without x (y ∷ ys) (inl e) = ys
+  without x (y ∷ ys) (inr h) = y ∷ without x ys h
+
+  length-without : (x : A) (ys : List A) (h : IsAmong x ys) → length ys ≡ suc (length (without x ys h))
+  length-without x [] h = absurd h
+  length-without x (y ∷ ys) (inl e) = refl
+  length-without x (y ∷ ys) (inr h) = ap suc (length-without x ys h)
+
+  among-without : (x : A) (ys : List A) (h : IsAmong x ys) (z : A) → ¬ (z ≡ x) → IsAmong z ys → IsAmong z (without x ys h)
+  among-without x [] h z other g = absurd g
+  among-without x (y ∷ ys) (inl e) z other (inl e') = absurd (other (e' ∙ sym e))
+  among-without x (y ∷ ys) (inl e) z other (inr g) = g
+  among-without x (y ∷ ys) (inr h) z other (inl e') = inl e'
+  among-without x (y ∷ ys) (inr h) z other (inr g) = inr (among-without x ys h z other g)
+
+  -- a list without repeats is no longer than one that has all of its elements
+  pub no-longer : (xs ys : List A) → AreDifferent xs → ((x : A) → IsAmong x xs → IsAmong x ys) → length xs ≤ length ys
+  no-longer [] ys d inside = omega arith
+  no-longer (x ∷ xs) ys d inside =
+      let here : IsAmong x ys = inside x (inl refl) in
+      let rest = no-longer xs (without x ys here) d.1 (λ z g. among-without x ys here z (λ e. d.0 (subst (λ (w : A). IsAmong w xs) e g)) (inside z (inr g))) in
+      let long = length-without x ys here in
+      omega arith

@@ -1,0 +1,66 @@
+-- Texts token by token: which tokens are those of a text, and with which marks.
+use Rattle.std.proofs.Common.{◌≡◌, List, [], ◌∷◌, ◌++◌, Some, refl, sym, ap, subst, ◌∙◌, append_assoc}
+use Rattle.std.proofs.lemmas.List.{append-nil}
+use Rattle.mcs_language.specs.Written.{WrittenContext, WrittenBridge, WrittenText, IsText}
+use Rattle.mcs_language.specs.Marks.{Token, Mark, text_marks, tokens_of}
+use Rattle.mcs_language.specs.TextSteps.{Place, Between, PartText, nothing_written, text_steps, finished_text}
+use Rattle.mcs_language.proofs.TextRuns.{some-is, steps-first}
+use Rattle.mcs_language.proofs.TextParts.{whole_parts, marks_so_far, IsSoFar}
+use Rattle.mcs_language.proofs.TextSound.{text-goes-on}
+use Rattle.mcs_language.proofs.TextFill.{text-fills}
+use Rattle.mcs_language.proofs.TextForward.{whole_text, text-runs, text-is-whole}
+
+-- ---- what is written is taken
+pub text-forward : (t : WrittenText) → IsText t → (text_steps nothing_written (tokens_of (text_marks t)) ≡ Some (text_marks t, whole_text t)) × (finished_text (whole_text t) ≡ Some t)
+text-forward t h = (text-runs t h, text-is-whole t)
+
+-- ---- what is taken is written
+-- tokens were taken one after the other
+pub record AreTaken (s : PartText) (ts : List Token) (ms : List Mark) (s' : PartText) : Type 0 where
+  pub parts : IsSoFar s'
+  pub marks_are : marks_so_far s' ≡ marks_so_far s ++ ms
+  pub same : tokens_of ms ≡ ts
+
+pub are-taken : (s : PartText) (ts : List Token) (ms : List Mark) (s' : PartText) → IsSoFar s → text_steps s ts ≡ Some (ms, s') → AreTaken s ts ms s'
+are-taken s [] ms s' h e =
+    let same : ([], s) ≡ (ms, s') = some-is e in
+    subst (λ (p : List Mark × PartText). AreTaken s [] p.0 p.1) same (record { parts = h; marks_are = sym (append-nil (marks_so_far s)); same = refl })
+are-taken s (t ∷ ts) ms s' h e =
+    let d = steps-first s t ts ms s' e in
+    let one = text-goes-on s t (d.first, d.middle) h d.step in
+    let more = are-taken d.middle ts d.rest s' one.parts d.steps in
+    let marks' : marks_so_far s' ≡ marks_so_far s ++ (d.first ∷ d.rest) = more.marks_are ∙ ap (λ (xs : List Mark). xs ++ d.rest) one.marks_are ∙ append_assoc (marks_so_far s) (d.first ∷ []) d.rest in
+    subst (λ (xs : List Mark). AreTaken s (t ∷ ts) xs s') d.marks_are (record { parts = more.parts; marks_are = marks'; same = ap (λ (xs : List Token). (d.first).token ∷ xs) more.same ∙ ap (λ (x : Token). x ∷ ts) one.same })
+
+pub nothing-right : IsSoFar nothing_written
+nothing-right = record { contexts = tt; bridges = tt; place = tt }
+
+finished-is : (cs : List WrittenContext) (bs : List WrittenBridge) (p : Place) (t : WrittenText) → IsSoFar (record { contexts = cs; bridges = bs; place = p }) → finished_text (record { contexts = cs; bridges = bs; place = p }) ≡ Some t
+    → IsText t × (text_marks t ≡ marks_so_far (record { contexts = cs; bridges = bs; place = p }))
+unfolding finished_text
+finished-is cs bs Between t h e =
+    let P : WrittenText → Type 0 = λ (u : WrittenText). IsText u × (text_marks u ≡ whole_parts cs bs ++ []) in
+    let here : P (record { contexts = cs; bridges = bs }) = ((h.contexts, h.bridges), sym (append-nil (whole_parts cs bs))) in
+    subst P (some-is e) here
+finished-is cs bs p t h e = absurd (cc)
+
+pub text-sound : (ts : List Token) (ms : List Mark) (s : PartText) (t : WrittenText) → text_steps nothing_written ts ≡ Some (ms, s) → finished_text s ≡ Some t → IsText t × (text_marks t ≡ ms) × (tokens_of ms ≡ ts)
+text-sound ts ms s t e ends =
+    let taken = are-taken nothing_written ts ms s nothing-right e in
+    let whole = finished-is s.contexts s.bridges s.place t taken.parts ends in
+    (whole.0, whole.1 ∙ taken.marks_are, taken.same)
+
+pub text-begun : (ts : List Token) (ms : List Mark) (s : PartText) → text_steps nothing_written ts ≡ Some (ms, s)
+    → (t : WrittenText) × IsText t × (tokens_of ms ≡ ts) × ((rest : List Mark) × (text_marks t ≡ ms ++ rest))
+text-begun ts ms s e =
+    let taken = are-taken nothing_written ts ms s nothing-right e in
+    let fills = text-fills s taken.parts in
+    (fills.text, fills.grammar, taken.same, (fills.rest, fills.marks_are ∙ ap (λ (xs : List Mark). xs ++ fills.rest) taken.marks_are))
+
+-- no other text has these tokens
+pub text-unique : (t u : WrittenText) → IsText t → IsText u → tokens_of (text_marks t) ≡ tokens_of (text_marks u) → t ≡ u
+text-unique t u ht hu same =
+    let f = text-forward t ht in
+    let g = text-forward u hu in
+    let both : ◌≡◌ {A = List Mark × PartText} (text_marks t, whole_text t) (text_marks u, whole_text u) = some-is (sym f.0 ∙ ap (text_steps nothing_written) same ∙ g.0) in
+    some-is (sym f.1 ∙ ap finished_text (ap (λ (p : List Mark × PartText). p.1) both) ∙ g.1)

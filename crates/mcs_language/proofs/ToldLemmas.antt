@@ -1,0 +1,50 @@
+-- Which fault is told of a text, and at which offset.
+use Rattle.std.proofs.Common.{◌≡◌, ℕ, ◌<◌, List, length, Some, None, refl, sym, ap, subst, ◌∙◌, arith, get_or, slice_get}
+use Rattle.std.specs.Prelude.{slice_range}
+use Rattle.std.proofs.lemmas.List.{length-map}
+use Rattle.std.proofs.lemmas.Option.{slice_get-get_or, slice_get_past}
+use Rattle.mcs_system.proofs.SeenLemmas.{slice_get-map}
+use Rattle.mcs_tokens.specs.Tokens.{AreTokens}
+use Rattle.mcs_tokens.specs.declared.scan.Span.{Span}
+use Rattle.mcs_language.specs.declared.fault.Fault as code_fault
+use Rattle.mcs_language.specs.declared.fault.TextFault as code_text
+use Rattle.mcs_language.specs.declared.fault.TextFault.TheVariants as texts
+use Rattle.mcs_language.specs.declared.reading.Reading.{Reading}
+use Rattle.mcs_language.specs.Marks.{Token}
+use Rattle.mcs_language.specs.Faults.{NoGrammar, IsFirstFault, number_of, limit_of}
+use Rattle.mcs_language.specs.Texts.{token_texts, offset_of, HasFault}
+use Rattle.mcs_language.specs.TextSteps.{finished_text}
+use Rattle.mcs_language.specs.Watching.{fault_of}
+use Rattle.mcs_language.specs.Progress.{IsUpTo, IsToldOf}
+use Rattle.mcs_language.proofs.FaultTheory.{first-end}
+use Rattle.mcs_language.proofs.ProgressLemmas.{reached}
+
+-- ---- where a token stands
+pub token-at : (bytes : List ℕ) (spans : List Span) (k : ℕ) (d : Span) (t : Token) → k < length spans → t ≡ slice_range bytes (get_or spans k d).from (get_or spans k d).to → slice_get (token_texts bytes spans) k ≡ Some t
+token-at bytes spans k d t less is = slice_get-map (λ (s : Span). slice_range bytes s.from s.to) spans k d less ∙ ap (λ (x : Token). Some x) (sym is)
+
+pub tokens-many : (bytes : List ℕ) (spans : List Span) → length spans ≡ length (token_texts bytes spans)
+tokens-many bytes spans = sym (length-map spans (λ (s : Span). slice_range bytes s.from s.to))
+
+offset-within : (bytes : List ℕ) (spans : List Span) (k : ℕ) (s : Span) → slice_get spans k ≡ Some s → s.from ≡ offset_of bytes spans k
+offset-within bytes spans k s is = rw is refl
+
+offset-past : (bytes : List ℕ) (spans : List Span) (k : ℕ) → slice_get spans k ≡ None → length bytes ≡ offset_of bytes spans k
+offset-past bytes spans k is = rw is refl
+
+-- ---- the fault that is told
+pub told-at : (bytes : List ℕ) (spans : List Span) (k : ℕ) (d : Span) (f : code_fault.Fault) (told : code_text.TextFault) → AreTokens bytes 0 spans → k < length spans → IsFirstFault (token_texts bytes spans) k (fault_of f)
+    → told ≡ texts.Fault (number_of (fault_of f)) (get_or spans k d).from (limit_of (fault_of f)) → IsToldOf bytes told
+told-at bytes spans k d f told tokens less first is =
+    let offset : (get_or spans k d).from ≡ offset_of bytes spans k = offset-within bytes spans k (get_or spans k d) (slice_get-get_or spans k d less) in
+    let here : HasFault bytes (number_of (fault_of f)) (limit_of (fault_of f)) (get_or spans k d).from = record { spans = spans; tokens = tokens; token = k; fault = fault_of f; first = first; number_is = refl; limit_is = refl; offset_is = offset } in
+    subst (IsToldOf bytes) (sym is) here
+
+-- at the end, where something has to come
+pub told-end : (bytes : List ℕ) (spans : List Span) (r : Reading) (told : code_text.TextFault) (size : ℕ) → AreTokens bytes 0 spans → (h : IsUpTo r (token_texts bytes spans) (length spans)) → finished_text h.state ≡ None
+    → size ≡ length bytes → told ≡ texts.Fault (number_of NoGrammar) size (limit_of NoGrammar) → IsToldOf bytes told
+told-end bytes spans r told size tokens h none whole is =
+    let offset : size ≡ offset_of bytes spans (length spans) = whole ∙ offset-past bytes spans (length spans) (slice_get_past spans (length spans) (omega arith)) in
+    let first = first-end (token_texts bytes spans) (length spans) h.marks h.state (reached r (token_texts bytes spans) (length spans) h) (tokens-many bytes spans) none h.free in
+    let here : HasFault bytes (number_of NoGrammar) (limit_of NoGrammar) size = record { spans = spans; tokens = tokens; token = length spans; fault = NoGrammar; first = first; number_is = refl; limit_is = refl; offset_is = offset } in
+    subst (IsToldOf bytes) (sym is) here

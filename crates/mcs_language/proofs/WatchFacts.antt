@@ -1,0 +1,226 @@
+-- What the watch tells of what came before.
+use Rattle.std.proofs.Common.{◌≡◌, ℕ, ◌<◌, ◌≤◌, zero, suc, Bool, true, false, List, [], ◌∷◌, map, length, get_or, Some, None, refl, sym, ap, ◌∙◌, subst, inl, inr, ◌⊎◌, ◌↔◌, arith, true≢false, slice_get}
+use Rattle.std.specs.Prelude.{count_by, IsTrue}
+use Rattle.std.proofs.lemmas.List.{length-map}
+use Rattle.std.proofs.lemmas.Option.{slice_get_read}
+use Rattle.mcs_base.specs.Listings.{IsAmong}
+use Rattle.mcs_base.proofs.ListingLemmas.{all_among}
+use Rattle.mcs_system.specs.Plain.{Name}
+use Rattle.mcs_system.specs.Logic.{same_name, is_in}
+use Rattle.mcs_system.proofs.Members.{among_flat_map, flat_map_among, among_get, get-lt, any_get, among_any}
+use Rattle.mcs_system.proofs.Sameness.{same_name-is, same_name-itself}
+use Rattle.mcs_language.specs.declared.watch.Watch.{Watch}
+use Rattle.mcs_language.specs.declared.watch.ContextSeen.{ContextSeen}
+use Rattle.mcs_language.specs.Marks.{Use, BeginsContext, BeginsBridge, NamesContext, NamesBridge, SaysProgram, BeginsItem, BeginsDefault, NamesTarget, NamesSource, BeginsBelief, EndsRead, AtomOf, IsNumber, OpensWithin}
+use Rattle.mcs_language.specs.Faults.{names_target, begins_default_of, begins_item_of, IsOneMore}
+use Rattle.mcs_language.specs.TextImages.{read_of}
+use Rattle.mcs_language.specs.Watching.{context_named, bridge_named, contexts_named, bridges_named, Lists, IsSeen, names_seen, IsWatch, IsNumberOf}
+use Rattle.mcs_language.proofs.DifferentLemmas.{same-length}
+
+-- ---- names
+pub context-named : (n : Name) (us : List Use) → IsAmong (NamesContext n) us ↔ IsAmong n (contexts_named us)
+context-named n us = (
+  λ h. among_flat_map context_named (NamesContext n) n us h (inl refl),
+  λ h. let (u, there, is) = flat_map_among context_named n us h in subst (λ (v : Use). IsAmong v us) (back u is) there,
+)
+  where
+    back : (u : Use) → IsAmong n (context_named u) → u ≡ NamesContext n
+    back (NamesContext c) (inl e) = ap (λ x. NamesContext x) (sym e)
+    back (NamesContext c) (inr none) = absurd none
+    back BeginsContext none = absurd none
+    back BeginsBridge none = absurd none
+    back (NamesBridge b) none = absurd none
+    back (SaysProgram c) none = absurd none
+    back (BeginsItem c) none = absurd none
+    back (BeginsDefault c) none = absurd none
+    back (NamesTarget c) none = absurd none
+    back (NamesSource c) none = absurd none
+    back (BeginsBelief c) none = absurd none
+    back (EndsRead d c f) none = absurd none
+    back (AtomOf c x) none = absurd none
+    back (IsNumber k) none = absurd none
+    back (OpensWithin k) none = absurd none
+
+pub bridge-named : (n : Name) (us : List Use) → IsAmong (NamesBridge n) us ↔ IsAmong n (bridges_named us)
+bridge-named n us = (
+  λ h. among_flat_map bridge_named (NamesBridge n) n us h (inl refl),
+  λ h. let (u, there, is) = flat_map_among bridge_named n us h in subst (λ (v : Use). IsAmong v us) (back u is) there,
+)
+  where
+    back : (u : Use) → IsAmong n (bridge_named u) → u ≡ NamesBridge n
+    back (NamesBridge c) (inl e) = ap (λ x. NamesBridge x) (sym e)
+    back (NamesBridge c) (inr none) = absurd none
+    back BeginsContext none = absurd none
+    back BeginsBridge none = absurd none
+    back (NamesContext b) none = absurd none
+    back (SaysProgram c) none = absurd none
+    back (BeginsItem c) none = absurd none
+    back (BeginsDefault c) none = absurd none
+    back (NamesTarget c) none = absurd none
+    back (NamesSource c) none = absurd none
+    back (BeginsBelief c) none = absurd none
+    back (EndsRead d c f) none = absurd none
+    back (AtomOf c x) none = absurd none
+    back (IsNumber k) none = absurd none
+    back (OpensWithin k) none = absurd none
+
+pub named-there : (w : Watch) (before : List Use) → IsWatch w before → (n : Name) → IsAmong n (names_seen w) ↔ IsAmong (NamesContext n) before
+named-there w before watch n = (
+  λ h. (context-named n before).1 (subst (IsAmong n) watch.named h),
+  λ h. subst (IsAmong n) (sym watch.named) ((context-named n before).0 h),
+)
+
+pub bridge-there : (w : Watch) (before : List Use) → IsWatch w before → (n : Name) → IsAmong n w.bridges.items ↔ IsAmong (NamesBridge n) before
+bridge-there w before watch n = (
+  λ h. (bridge-named n before).1 (subst (IsAmong n) watch.bridges h),
+  λ h. subst (IsAmong n) (sym watch.bridges) ((bridge-named n before).0 h),
+)
+
+-- ---- numbers
+get-map : {A B : Type 0} (f : A → B) (xs : List A) (k : ℕ) (x : A) → slice_get xs k ≡ Some x → slice_get (map f xs) k ≡ Some (f x)
+get-map f [] k x is = cc
+get-map f (y ∷ ys) zero x is = ap (λ z. Some z) (let e : y ≡ x = cc in ap f e)
+get-map f (y ∷ ys) (suc k) x is = get-map f ys k x is
+
+get-none : {A : Type 0} (xs : List A) (k : ℕ) → slice_get xs k ≡ None → length xs ≤ k
+get-none [] k is = omega arith
+get-none (y ∷ ys) zero is = cc
+get-none (y ∷ ys) (suc k) is = let rest = get-none ys k is in omega arith
+
+-- what a read of a list tells
+pub got : {A : Type 0} (xs ys : List A) (k : ℕ) (x : A) → ys ≡ xs → k < length ys → x ≡ get_or ys k x → slice_get xs k ≡ Some x
+got xs ys k x same less is = subst (λ (zs : List _). slice_get zs k ≡ Some x) same (slice_get_read ys (length ys) k x refl less is)
+
+pub got-none : {A : Type 0} (xs ys : List A) (k : ℕ) → ys ≡ xs → length ys ≤ k → slice_get xs k ≡ None
+got-none xs ys k same past = subst (λ (zs : List _). slice_get zs k ≡ None) same (none ys k past)
+  where
+    none : {A : Type 0} (ys : List A) (k : ℕ) → length ys ≤ k → slice_get ys k ≡ None
+    none [] k past = refl
+    none (y ∷ ys) zero past = absurd (omega arith)
+    none (y ∷ ys) (suc k) past = none ys k (omega arith)
+
+-- it is there exactly if its number is one
+pub number-there : {A : Type 0} (xs : List A) (x : A) (k : ℕ) → IsNumberOf xs x k → (k < length xs) ↔ IsAmong x xs
+number-there xs x k (inl is) = (λ _. among_get x xs k is, λ _. get-lt x xs k is)
+number-there xs x k (inr (e, none)) = (λ less. absurd (omega arith), λ h. absurd (none h))
+
+pub some-same : {A : Type 0} {x y : A} → Some x ≡ Some y → x ≡ y
+some-same e = cc
+
+module _ (w : Watch) (before : List Use) (watch : IsWatch w before) (n : Name) (k : ℕ) (number : IsNumberOf (names_seen w) n k) where
+  -- the context of the number
+  pub seen-name : (c : ContextSeen) → slice_get w.contexts.items k ≡ Some c → c.name ≡ n
+  seen-name c is = go number (get-map (λ (s : ContextSeen). s.name) w.contexts.items k c is)
+    where
+      go : IsNumberOf (names_seen w) n k → slice_get (names_seen w) k ≡ Some c.name → c.name ≡ n
+      go (inl here) is' = some-same (sym is' ∙ here)
+      go (inr (e, none)) is' = absurd (let less = get-lt c.name (names_seen w) k is' in omega arith)
+
+  pub seen-here : (c : ContextSeen) → slice_get w.contexts.items k ≡ Some c → IsSeen (map read_of w.variables.items) before c
+  seen-here c is = all_among (IsSeen (map read_of w.variables.items) before) w.contexts.items c watch.seen (among_get c w.contexts.items k is)
+
+  pub rules-here : (c : ContextSeen) → slice_get w.contexts.items k ≡ Some c → c.rules ≡ count_by (names_target n) before
+  rules-here c is = subst (λ (x : Name). c.rules ≡ count_by (names_target x) before) (seen-name c is) (seen-here c is).rules
+
+  pub defaults-here : (c : ContextSeen) → slice_get w.contexts.items k ≡ Some c → c.defaults ≡ count_by (begins_default_of n) before
+  defaults-here c is = subst (λ (x : Name). c.defaults ≡ count_by (begins_default_of x) before) (seen-name c is) (seen-here c is).defaults
+
+  pub items-here : (c : ContextSeen) → slice_get w.contexts.items k ≡ Some c → c.items ≡ count_by (begins_item_of n) before
+  items-here c is = subst (λ (x : Name). c.items ≡ count_by (begins_item_of x) before) (seen-name c is) (seen-here c is).items
+
+  pub program-here : (c : ContextSeen) → slice_get w.contexts.items k ≡ Some c → IsTrue c.is_program ↔ IsAmong (SaysProgram n) before
+  program-here c is = subst (λ (x : Name). IsTrue c.is_program ↔ IsAmong (SaysProgram x) before) (seen-name c is) (seen-here c is).program
+
+  -- there is none
+  pub seen-none : slice_get w.contexts.items k ≡ None → ¬ IsAmong (NamesContext n) before
+  seen-none is h =
+      let long = get-none w.contexts.items k is in
+      let same = length-map w.contexts.items (λ (s : ContextSeen). s.name) in
+      let less = (number-there (names_seen w) n k number).1 (subst (IsAmong n) (sym watch.named) ((context-named n before).0 h)) in
+      omega arith
+
+-- ---- counts
+pub count-none : {A : Type 0} (p : A → Bool) (xs : List A) → ((x : A) → IsAmong x xs → p x ≡ false) → count_by p xs ≡ 0
+count-none p [] none = refl
+count-none p (x ∷ xs) none = let rest = count-none p xs (λ y h. none y (inr h)) in let here = none x (inl refl) in rw here (omega arith)
+
+module _ (w : Watch) (before : List Use) (watch : IsWatch w before) (n : Name) (unseen : ¬ IsAmong (NamesContext n) before) where
+  test-false : (b : Bool) → ¬ (b ≡ true) → b ≡ false
+  test-false true no-such = absurd (no-such refl)
+  test-false false no-such = refl
+
+  other-name : (d : Name) → IsAmong (NamesContext d) before → same_name n d ≡ false
+  other-name d h = test-false (same_name n d) (λ e. unseen (subst (λ (x : Name). IsAmong (NamesContext x) before) (sym (same_name-is n d e)) h))
+
+  pub no-rules : count_by (names_target n) before ≡ 0
+  no-rules = count-none (names_target n) before go
+    where
+      go : (u : Use) → IsAmong u before → names_target n u ≡ false
+      go (NamesTarget d) h = other-name d (watch.targets d h)
+      go BeginsContext h = refl
+      go BeginsBridge h = refl
+      go (NamesContext b) h = refl
+      go (NamesBridge b) h = refl
+      go (SaysProgram c) h = refl
+      go (BeginsItem c) h = refl
+      go (BeginsDefault c) h = refl
+      go (NamesSource c) h = refl
+      go (BeginsBelief c) h = refl
+      go (EndsRead d c f) h = refl
+      go (AtomOf c x) h = refl
+      go (IsNumber k) h = refl
+      go (OpensWithin k) h = refl
+
+  pub no-defaults : count_by (begins_default_of n) before ≡ 0
+  no-defaults = count-none (begins_default_of n) before go
+    where
+      go : (u : Use) → IsAmong u before → begins_default_of n u ≡ false
+      go (BeginsDefault d) h = other-name d (watch.spoken (BeginsDefault d) h)
+      go BeginsContext h = refl
+      go BeginsBridge h = refl
+      go (NamesContext b) h = refl
+      go (NamesBridge b) h = refl
+      go (SaysProgram c) h = refl
+      go (BeginsItem c) h = refl
+      go (NamesTarget c) h = refl
+      go (NamesSource c) h = refl
+      go (BeginsBelief c) h = refl
+      go (EndsRead d c f) h = refl
+      go (AtomOf c x) h = refl
+      go (IsNumber k) h = refl
+      go (OpensWithin k) h = refl
+
+  pub no-items : count_by (begins_item_of n) before ≡ 0
+  no-items = count-none (begins_item_of n) before go
+    where
+      go : (u : Use) → IsAmong u before → begins_item_of n u ≡ false
+      go (BeginsItem d) h = other-name d (watch.spoken (BeginsItem d) h)
+      go BeginsContext h = refl
+      go BeginsBridge h = refl
+      go (NamesContext b) h = refl
+      go (NamesBridge b) h = refl
+      go (SaysProgram c) h = refl
+      go (BeginsDefault c) h = refl
+      go (NamesTarget c) h = refl
+      go (NamesSource c) h = refl
+      go (BeginsBelief c) h = refl
+      go (EndsRead d c f) h = refl
+      go (AtomOf c x) h = refl
+      go (IsNumber k) h = refl
+      go (OpensWithin k) h = refl
+
+-- ---- one more than are listed
+pub one-more : {A : Type 0} (xs : List A) (P : A → Type 0) (n : ℕ) (x : A) → Lists xs P → IsOneMore n P x ↔ ((length xs ≡ n) × (¬ IsAmong x xs))
+one-more xs P n x l = (
+  λ h. (same-length xs h.values P l (h.different, h.all) ∙ h.count, λ there. h.new ((l.1 x).0 there)),
+  λ h. record { values = xs; different = l.0; all = l.1; count = h.0; new = λ p. h.1 ((l.1 x).1 p) },
+)
+
+-- ---- whether a context has the name
+pub is-context : (w : Watch) (before : List Use) → IsWatch w before → (n : Name) → IsAmong (NamesContext n) before ⊎ (¬ IsAmong (NamesContext n) before)
+is-context w before watch n = at (is_in n (names_seen w)) refl
+  where
+    at : (b : Bool) → is_in n (names_seen w) ≡ b → IsAmong (NamesContext n) before ⊎ (¬ IsAmong (NamesContext n) before)
+    at true e = let (i, x, is, same) = any_get (same_name n) (names_seen w) e in
+        inl ((named-there w before watch n).0 (subst (λ (y : Name). IsAmong y (names_seen w)) (sym (same_name-is n x same)) (among_get x (names_seen w) i is)))
+    at false e = inr (λ h. true≢false (sym (among_any (same_name n) (names_seen w) n ((named-there w before watch n).1 h) (same_name-itself n)) ∙ e))

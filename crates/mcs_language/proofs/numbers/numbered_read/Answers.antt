@@ -1,0 +1,7 @@
+use Rattle.std.proofs.Common.{sym, ◌∙◌}
+use Rattle.mcs_language.specs.Ends.{context_names}
+use Rattle.mcs_language.proofs.BridgeNumbers.{is-found}
+use Rattle.mcs_language.proofs.numbers.numbered_read.Goals as goal
+
+pub unreachable-requires : goal.unreachable-requires
+unreachable-requires c = is-found c.args.read.context (context_names c.args.contexts.now) c.requires.known (sym c.number_of.ensures ∙ c.in_default.is)

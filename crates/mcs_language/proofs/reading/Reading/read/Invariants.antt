@@ -1,0 +1,6 @@
+use Rattle.mcs_language.specs.Progress.{IsUpTo}
+use Rattle.mcs_language.specs.Texts.{token_texts}
+use Rattle.mcs_language.proofs.reading.Reading.read.Given as goal
+
+abbrev pub invariant-loop-span : goal.invariant-loop-span
+invariant-loop-span l = IsUpTo l.self (token_texts l.bytes l.spans) l.span-index

@@ -1,0 +1,108 @@
+-- The canonical text of a system: a line for each bridge rule, for each item of a context, and for the braces
+-- around the items. Each line ends with a line feed.
+use Rattle.std.specs.Prelude.{ℕ, Bool, true, false, List, [], ◌∷◌, ◌++◌, map, codes}
+use Rattle.std.specs.List.{flat_map}
+use Rattle.mcs_system.specs.Plain.{Name, Formula, Truth, Falsity, Atom, Not, And, Or, Implies, Iff, Default, ProgramRule, Item, Fact, Rule, Kb, Classical, DefaultTheory, Program, Context, Read, Bridge, System}
+use Rattle.mcs_system.specs.Faults.{reads_of}
+use Rattle.mcs_system.specs.Texts.{primary, separated, read_text}
+
+-- ---- formulas and defaults
+
+-- two formulas with a sign between them
+abbrev pub joined : Formula → List ℕ → Formula → List ℕ
+joined f sign g = primary f ++ (sign ++ primary g)
+
+-- a formula that stands alone: no parentheses around its two parts
+abbrev pub formula_text : Formula → List ℕ
+formula_text Truth = primary Truth
+formula_text Falsity = primary Falsity
+formula_text (Atom n) = primary (Atom n)
+formula_text (Not f) = primary (Not f)
+formula_text (And f g) = joined f (codes " & ") g
+formula_text (Or f g) = joined f (codes " | ") g
+formula_text (Implies f g) = joined f (codes " -> ") g
+formula_text (Iff f g) = joined f (codes " <-> ") g
+
+-- PRE : JUSTS / CONCLUSION
+abbrev pub default_text : Default → List ℕ
+default_text d = formula_text d.pre ++ (codes " : " ++ (separated (map formula_text d.justs) ++ (codes " / " ++ formula_text d.conclusion)))
+
+abbrev pub theory_item_text : Item → List ℕ
+theory_item_text (Fact f) = formula_text f
+theory_item_text (Rule d) = default_text d
+
+-- ---- members of a list
+
+-- each after the separator
+abbrev pub further_by : List ℕ → List (List ℕ) → List ℕ
+further_by separator texts = flat_map (λ t. separator ++ t) texts
+
+-- the separator between them, and before the first one too if it is not the first of all
+abbrev pub listed : List ℕ → Bool → List (List ℕ) → List ℕ
+listed separator true [] = []
+listed separator true (t ∷ ts) = t ++ further_by separator ts
+listed separator false texts = further_by separator texts
+
+-- ---- program rules
+
+abbrev pub denied : List ℕ → List ℕ
+denied text = codes "not " ++ text
+
+-- the positive literals first
+abbrev pub literal_texts : ProgramRule → List (List ℕ)
+literal_texts r = r.pos ++ map denied r.neg
+
+-- the sign with the spaces around it, between a head and a body; none where there is a head and no body
+abbrev pub rule_sign : List Name → List Name → List ℕ
+rule_sign [] [] = codes ":-"
+rule_sign [] (l ∷ ls) = codes ":- "
+rule_sign (n ∷ ns) [] = []
+rule_sign (n ∷ ns) (l ∷ ls) = codes " :- "
+
+-- HEAD :- BODY
+abbrev pub program_rule_text : ProgramRule → List ℕ
+program_rule_text r = listed (codes " | ") true r.head ++ (rule_sign r.head (r.pos ++ r.neg) ++ separated (literal_texts r))
+
+-- ---- contexts
+
+abbrev pub kind_word : Kb → List ℕ
+kind_word (Classical formulas) = codes "classical"
+kind_word (DefaultTheory items) = codes "default"
+kind_word (Program rules) = codes "program"
+
+abbrev pub item_texts : Kb → List (List ℕ)
+item_texts (Classical formulas) = map formula_text formulas
+item_texts (DefaultTheory items) = map theory_item_text items
+item_texts (Program rules) = map program_rule_text rules
+
+abbrev pub item_line : List ℕ → List ℕ
+item_line text = codes "  " ++ (text ++ codes ".\n")
+
+abbrev pub items_text : Kb → List ℕ
+items_text kb = flat_map item_line (item_texts kb)
+
+-- the line `context NAME KIND {`, the items, and the line `}`
+abbrev pub context_text : Context → List ℕ
+context_text c = codes "context " ++ (c.name ++ (codes " " ++ (kind_word c.kb ++ (codes " {\n" ++ (items_text c.kb ++ codes "}\n")))))
+
+-- ---- bridge rules
+
+abbrev pub head_of : Bridge → Read
+head_of b = record { context = b.target; belief = b.head }
+
+-- the positive reads first
+abbrev pub read_texts : System → Bridge → List (List ℕ)
+read_texts m b = map (read_text m) b.pos ++ map (λ (r : Read). denied (read_text m r)) b.neg
+
+-- the word between spaces, where there is a read
+abbrev pub if_word : List Read → List ℕ
+if_word [] = []
+if_word (r ∷ rs) = codes " if "
+
+-- bridge NAME: HEAD if READS.
+abbrev pub bridge_text : System → Bridge → List ℕ
+bridge_text m b = codes "bridge " ++ (b.name ++ (codes ": " ++ (read_text m (head_of b) ++ (if_word (reads_of b) ++ (separated (read_texts m b) ++ codes ".\n")))))
+
+-- ---- the whole text
+abbrev pub canonical_text : System → List ℕ
+canonical_text m = flat_map context_text m.contexts ++ flat_map (bridge_text m) m.bridges

@@ -1,0 +1,43 @@
+-- How far a text was read: its first tokens were taken, and none of them has a fault.
+use Rattle.std.specs.Prelude.{◌≡◌, ℕ, ◌+◌, ◌<◌, ◌≤◌, List, take, length, Option, Some, None, slice_get}
+use Rattle.mcs_tokens.specs.Tokens.{AreTokens}
+use Rattle.mcs_tokens.specs.declared.scan.Span.{Span}
+use Rattle.mcs_language.specs.declared.fault.Fault as code_fault
+use Rattle.mcs_language.specs.declared.fault.TextFault as code_text
+use Rattle.mcs_language.specs.declared.fault.TextFault.TheVariants as texts
+use Rattle.mcs_language.specs.declared.reading.Reading.{Reading}
+use Rattle.mcs_language.specs.Marks.{Token, Mark, uses_of}
+use Rattle.mcs_language.specs.Faults.{Fault, Has, IsFaultAt, IsFirstFault}
+use Rattle.mcs_language.specs.Texts.{token_texts, HasFault}
+use Rattle.mcs_language.specs.TextSteps.{PartText, nothing_written, text_steps}
+use Rattle.mcs_language.specs.TextImages.{IsTextReader}
+use Rattle.mcs_language.specs.Watching.{IsWatch, fault_of}
+use Rattle.mcs_language.specs.Known.{AreKnownIn}
+
+-- the first k tokens were read
+pub record IsUpTo (reading : Reading) (ts : List Token) (k : ℕ) : Type 0 where
+  pub marks : List Mark
+  pub state : PartText
+  pub taken : text_steps nothing_written (take k ts) ≡ Some (marks, state)
+  pub inside : k ≤ length ts
+  pub reader : IsTextReader reading.reader state
+  pub watch : IsWatch reading.watch (uses_of marks)
+  pub known : AreKnownIn (uses_of marks) state
+  pub faultless : (j : ℕ) (m : Mark) (f : Fault) → slice_get marks j ≡ Some m → ¬ Has f (uses_of (take j marks)) m
+  pub free : (j : ℕ) (f : Fault) → j < k → ¬ IsFaultAt ts j f
+
+-- the next token was read too, or it has the first fault
+abbrev pub IsNextRead : Option code_fault.Fault → Reading → List Token → ℕ → Type 0
+IsNextRead None now ts k = IsUpTo now ts (k + 1)
+IsNextRead (Some f) now ts k = IsFirstFault ts k (fault_of f)
+
+-- all tokens of the bytes were read
+pub record IsReadOf (bytes : List ℕ) (reading : Reading) : Type 0 where
+  pub spans : List Span
+  pub tokens : AreTokens bytes 0 spans
+  pub all : IsUpTo reading (token_texts bytes spans) (length spans)
+
+-- the fault that is told of the text, unless memory ran out
+abbrev pub IsToldOf : List ℕ → code_text.TextFault → Type 0
+IsToldOf bytes texts.Memory = Unit {0}
+IsToldOf bytes (texts.Fault number offset limit) = HasFault bytes number limit offset

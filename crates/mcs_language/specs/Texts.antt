@@ -1,0 +1,46 @@
+-- Which text spells which system, and which text has which fault, by its bytes.
+use Rattle.std.specs.Prelude.{◌≡◌, ℕ, List, map, length, slice_range, Option, Some, None, slice_get}
+use Rattle.mcs_system.specs.Plain.{System}
+use Rattle.mcs_system.specs.declared.fault.Limit.{Limit}
+use Rattle.mcs_tokens.specs.Tokens.{AreTokens}
+use Rattle.mcs_tokens.specs.declared.scan.Span.{Span}
+use Rattle.mcs_language.specs.Written.{WrittenText, IsText}
+use Rattle.mcs_language.specs.Marks.{Token, text_marks, tokens_of}
+use Rattle.mcs_language.specs.Saying.{SaysSystem}
+use Rattle.mcs_language.specs.Faults.{Fault, IsFaultAt, IsFirstFault, number_of, limit_of}
+
+abbrev pub token_texts : List ℕ → List Span → List Token
+token_texts bytes spans = map (λ (s : Span). slice_range bytes s.from s.to) spans
+
+-- the tokens of the bytes are those of a text that says this, and none has a fault
+pub record Spells (bytes : List ℕ) (m : System) : Type 0 where
+  pub spans : List Span
+  pub tokens : AreTokens bytes 0 spans
+  pub text : WrittenText
+  pub grammar : IsText text
+  pub written : token_texts bytes spans ≡ tokens_of (text_marks text)
+  pub says : SaysSystem text m
+  pub no_fault : (k : ℕ) (f : Fault) → ¬ IsFaultAt (token_texts bytes spans) k f
+
+-- where token k begins; the end of the text counts as one more token
+abbrev pub offset_of : List ℕ → List Span → ℕ → ℕ
+offset_of bytes spans k = at (slice_get spans k)
+  where
+    at : Option Span → ℕ
+    at None = length bytes
+    at (Some s) = s.from
+
+-- the first fault of the text stands at the offset
+pub record HasFault (bytes : List ℕ) (number : ℕ) (limit : Option Limit) (offset : ℕ) : Type 0 where
+  pub spans : List Span
+  pub tokens : AreTokens bytes 0 spans
+  pub token : ℕ
+  pub fault : Fault
+  pub first : IsFirstFault (token_texts bytes spans) token fault
+  pub number_is : number ≡ number_of fault
+  pub limit_is : limit ≡ limit_of fault
+  pub offset_is : offset ≡ offset_of bytes spans token
+
+-- a text spells one system at most
+abbrev pub TextsAreUnambiguous : Type 0
+TextsAreUnambiguous = (bytes : List ℕ) (m n : System) → Spells bytes m → Spells bytes n → m ≡ n

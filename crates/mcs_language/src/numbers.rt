@@ -1,0 +1,105 @@
+//! Bridge rules by the numbers of their contexts.
+
+ghost use Rattle.std.specs.Prelude.{◌≡◌, ◌≤◌, length, map, IfOk, List};
+ghost use Rattle.std.specs.List.{position};
+ghost use Rattle.mcs_base.specs.Listings.{IsAmong};
+ghost use Rattle.mcs_system.specs.Logic.{same_name};
+ghost use Rattle.mcs_system.specs.Seen as seen;
+ghost use Rattle.mcs_system.specs.Seen.{bridge_of};
+ghost use Rattle.mcs_language.specs.Written.{WrittenBridge};
+ghost use Rattle.mcs_language.specs.Saying.{Each, SaysBridge};
+ghost use Rattle.mcs_language.specs.TextImages.{AreBridges, IsBridge, read_of};
+ghost use Rattle.mcs_language.specs.Ends.{AreKnown, AreNamed, IsNamed, SaysRead, context_names};
+
+use crate::place::{NamedBridge, NamedRead};
+use mcs_base::Memory;
+use mcs_system::{Bridge, Context, Name, Read};
+use std::alloc::Global;
+
+/// The number of the context of this name: its place among the contexts.
+fn number_of(contexts: &[Context], name: &Name) -> Option<u32>
+    requires few { length contexts.now ≤ 64 }
+    ensures { result ≡ position (same_name name.now) (context_names contexts.now) }
+{
+    let place = contexts.iter().position(|context| name.is(&context.name))?;
+    Some(place as u32)
+}
+
+/// The read by the number of its context.
+fn numbered_read(contexts: &[Context], read: NamedRead) -> Read
+    requires few { length contexts.now ≤ 64 }
+    requires known { IsAmong read.context (context_names contexts.now) }
+    ensures { SaysRead (context_names contexts.now) (read_of read) (seen.read_of result) }
+{
+    let NamedRead { context, belief } = read;
+    let Some(number) = number_of(contexts, &context) else {
+        unreachable!()
+    };
+    Read {
+        context: number,
+        belief,
+    }
+}
+
+/// The reads by the numbers of their contexts.
+fn numbered_reads(
+    alloc: Global,
+    contexts: &[Context],
+    reads: Vec<NamedRead>,
+) -> Result<Vec<Read>, Memory>
+    requires few { length contexts.now ≤ 64 }
+    requires known { AreNamed (context_names contexts.now) reads.items }
+    ensures { IfOk result (λ rs. Each (SaysRead (context_names contexts.now)) (map read_of reads.items) (map seen.read_of rs.items)) }
+{
+    let mut numbered = Vec::new(alloc);
+    for read in reads {
+        numbered.push(numbered_read(contexts, read))?;
+    }
+    Ok(numbered)
+}
+
+/// The bridge rule by the numbers of its contexts.
+fn numbered_bridge(
+    alloc: Global,
+    contexts: &[Context],
+    bridge: NamedBridge,
+) -> Result<Bridge, Memory>
+    requires few { length contexts.now ≤ 64 }
+    requires known { IsNamed (context_names contexts.now) bridge }
+    ensures { (w : WrittenBridge) → IsBridge bridge w → IfOk result (λ b. SaysBridge (context_names contexts.now) w (bridge_of b)) }
+{
+    let NamedBridge {
+        name,
+        target,
+        head,
+        pos,
+        neg,
+    } = bridge;
+    let Some(number) = number_of(contexts, &target) else {
+        unreachable!()
+    };
+    Ok(Bridge {
+        name,
+        target: number,
+        head,
+        pos: numbered_reads(alloc, contexts, pos)?,
+        neg: numbered_reads(alloc, contexts, neg)?,
+    })
+}
+
+/// The bridge rules by the numbers of their contexts, which are all there.
+pub(crate) fn numbered(
+    alloc: Global,
+    contexts: &[Context],
+    bridges: Vec<NamedBridge>,
+) -> Result<Vec<Bridge>, Memory>
+    requires few { length contexts.now ≤ 64 }
+    requires known { (ws : List WrittenBridge) × AreBridges bridges.items ws × AreKnown (context_names contexts.now) ws }
+    ensures { (ws : List WrittenBridge) → AreBridges bridges.items ws → IfOk result (λ bs. Each (SaysBridge (context_names contexts.now)) ws (map bridge_of bs.items)) }
+{
+    let mut numbered = Vec::new(alloc);
+    for bridge in bridges {
+        numbered.push(numbered_bridge(alloc, contexts, bridge)?)?;
+    }
+    Ok(numbered)
+}

@@ -1,0 +1,105 @@
+//! From the bytes of a text to its system.
+
+ghost use Rattle.std.specs.Prelude.{◌≡◌, ℕ, List, Some, length, slice_get, All, IfOk, IfErr};
+ghost use Rattle.mcs_system.specs.Faults.{IsValid};
+ghost use Rattle.mcs_system.specs.Seen.{system_of};
+ghost use Rattle.mcs_tokens.specs.Tokens.{AreTokens, IsSpanOf};
+ghost use Rattle.mcs_language.specs.Marks.{Token};
+ghost use Rattle.mcs_language.specs.Progress.{IsNextRead, IsReadOf, IsToldOf, IsUpTo};
+ghost use Rattle.mcs_language.specs.Texts.{Spells, token_texts};
+ghost use Rattle.mcs_language.specs.declared.fault.TextFault.TheVariants as texts;
+
+use crate::fault::{Fault, TextFault};
+use crate::numbers::numbered;
+use crate::reader::{Parts, Reader};
+use crate::watch::Watch;
+use mcs_base::Memory;
+use mcs_system::{Bridge, BuildFault, Context, System};
+use mcs_tokens::{Span, token_list};
+use std::alloc::Global;
+
+/// A text that is being read.
+#[derive(Drop)]
+pub(crate) struct Reading {
+    pub(crate) reader: Reader,
+    pub(crate) watch: Watch,
+}
+
+impl Reading {
+    /// Nothing was read yet.
+    fn new(alloc: Global) -> Reading
+        ensures { (ts : List Token) → IsUpTo result ts 0 }
+    {
+        Reading {
+            reader: Reader::new(alloc),
+            watch: Watch::new(alloc),
+        }
+    }
+
+    /// The next token, and the fault that it has.
+    fn take(&mut self, alloc: Global, token: &[u8]) -> Result<Option<Fault>, Memory>
+        ensures { (ts : List Token) (k : ℕ) → IsUpTo self.old ts k → slice_get ts k ≡ Some token.now → IfOk result (λ f. IsNextRead f self.new ts k) }
+    {
+        let subject = self.watch.subject(&self.reader.place);
+        let Some(uses) = self.reader.take(alloc, token)? else {
+            return Ok(Some(Fault::NoGrammar));
+        };
+        self.watch
+            .note(alloc, subject, uses, token, self.reader.last_read())
+    }
+
+    /// All tokens of the text, or the first fault at one of them.
+    fn read(&mut self, alloc: Global, bytes: &[u8], spans: &[Span]) -> Result<(), TextFault>
+        requires inside { All (IsSpanOf bytes.now) spans.now }
+        requires begun { IsUpTo self.now (token_texts bytes.now spans.now) 0 }
+        ensures all { IfOk result (λ _. IsUpTo self.new (token_texts bytes.now spans.now) (length spans.now)) }
+        ensures fault { AreTokens bytes.now 0 spans.now → IfErr result (IsToldOf bytes.now) }
+    {
+        for span in spans {
+            if let Some(fault) = self.take(alloc, span.text(bytes))? {
+                return Err(fault.at(span.from));
+            }
+        }
+        Ok(())
+    }
+
+    /// The system of the text, of which all tokens were read; or the fault that something has to come.
+    fn system(self, alloc: Global, bytes: &[u8]) -> Result<System, TextFault>
+        requires { IsReadOf bytes.now self }
+        ensures system { IfOk result (Spells bytes.now) }
+        ensures fault { IfErr result (IsToldOf bytes.now) }
+    {
+        let Some(parts) = self.reader.finish() else {
+            return Err(Fault::NoGrammar.at(bytes.len()));
+        };
+        let Parts { contexts, bridges } = parts;
+        let bridges = numbered(alloc, &contexts, bridges)?;
+        built(alloc, contexts, bridges)
+    }
+}
+
+/// The system of these contexts and bridge rules, which have no fault.
+fn built(alloc: Global, contexts: Vec<Context>, bridges: Vec<Bridge>) -> Result<System, TextFault>
+    requires { IsValid (system_of contexts.items bridges.items) }
+    ensures system { IfOk result (λ s. s ≡ system_of contexts.items bridges.items) }
+    ensures fault { IfErr result (λ f. f ≡ texts.Memory) }
+{
+    match System::build(alloc, contexts, bridges) {
+        Ok(system) => Ok(system),
+        Err(BuildFault::Memory) => Err(TextFault::Memory),
+        Err(BuildFault::Fault { .. }) => unreachable!(),
+    }
+}
+
+/// The system that the text spells, or the first fault of the text: the first token at which a fault holds
+/// decides, and at one token the lowest number, for number 5 the first limit in the order of `Limit`. A text
+/// spells one system at most. The text's length is the offset of its end.
+pub fn read_system(alloc: Global, bytes: &[u8]) -> Result<System, TextFault>
+    ensures system { IfOk result (Spells bytes.now) }
+    ensures fault { IfErr result (IsToldOf bytes.now) }
+{
+    let spans = token_list(alloc, bytes)?;
+    let mut reading = Reading::new(alloc);
+    reading.read(alloc, bytes, &spans)?;
+    reading.system(alloc, bytes)
+}
