@@ -4,10 +4,8 @@ pub mod EquilibriumLemmas
 pub mod LineLemmas
 pub mod PlaceLemmas
 pub mod CoverLemmas
-pub mod SmallLemmas
+pub mod ClassicalLemmas
 pub mod PrintLemmas
-pub mod TokenTexts
-pub mod GrammarLemmas
-pub mod ReadingLemmas
-pub mod TextLemmas
-pub mod SmallReading
+pub mod JobLemmas
+pub mod RefusalLemmas
+pub mod EndingLemmas

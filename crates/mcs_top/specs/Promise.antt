@@ -1,30 +1,15 @@
 -- What a run promises.
-use Rattle.std.specs.Prelude.{◌≡◌, ◌⊎◌, ℕ, ◌≤◌, ◌++◌, List, take, length, cond, nat_lt, Option, Some, None, IfSome}
-use Rattle.std.specs.Option.{option_map, option_and_then}
+use Rattle.std.specs.Prelude.{◌≡◌, ◌⊎◌, ℕ, ◌≤◌, ◌++◌, List, take, length, Option, Some, None, IfSome}
 use Rattle.mcs_ports.specs.Pieces.{appended, noted}
 use Rattle.mcs_system.specs.Plain.{System}
 use Rattle.mcs_system.specs.Texts.{IsEquilibriaText}
-use Rattle.mcs_top.specs.Jobs.{file_of}
-use Rattle.mcs_top.specs.SmallTexts.{most_text_bytes, IsTextOf}
-use Rattle.mcs_top.specs.Endings.{too_long_line, form_line, line_of}
+use Rattle.mcs_top.specs.Texts.{IsTextOf, IsRefusedFor}
+use Rattle.mcs_top.specs.Endings.{refusal_line, line_of}
 use Rattle.mcs_top.specs.declared.ending.Refusal.{Refusal}
-use Rattle.mcs_top.specs.declared.ending.Refusal.TheVariants as refusals
 use Rattle.mcs_top.specs.declared.ending.Stop.{Stop}
 use Rattle.mcs_top.specs.declared.ending.Stop.TheVariants as stops
 use Rattle.mcs_top.specs.declared.ending.Status.{Status}
 use Rattle.mcs_top.specs.declared.ending.Status.TheVariants as statuses
-
--- what the shelf holds under a name: `Some None` where it tells that there is no such file
-abbrev pub told : Option (List ℕ → Option (List ℕ)) → List ℕ → Option (Option (List ℕ))
-told held name = option_map (λ files. files name) held
-
--- the same of the file that the words name
-abbrev pub text_of : Option (List ℕ → Option (List ℕ)) → List (List ℕ) → Option (Option (List ℕ))
-text_of held words = option_and_then (told held) (file_of words)
-
--- no system has this text
-abbrev pub IsNoText : List ℕ → Type 0
-IsNoText bytes = (m : System) → ¬ IsTextOf m bytes
 
 -- the listing of the system's equilibria was added to what was written, whole
 pub record Prints (m : System) (before now : Option (List ℕ)) : Type 0 where
@@ -69,20 +54,17 @@ HasSystem bytes = (m : System) × IsTextOf m bytes
 abbrev pub ListsAtMost : Option (List ℕ) → Option (List ℕ) → List ℕ → Type 0
 ListsAtMost before now bytes = (now ≡ before) ⊎ ListsInPart before now bytes
 
--- the reason for which a text is refused
-abbrev pub IsRefusedFor : Refusal → List ℕ → Type 0
-IsRefusedFor refusals.TooLong bytes = ¬ (length bytes ≤ most_text_bytes)
-IsRefusedFor refusals.Form bytes = (length bytes ≤ most_text_bytes) × IsNoText bytes
-
--- the line that is noted for a refused text
-abbrev pub refusal_line : List ℕ → List ℕ
-refusal_line bytes = cond (nat_lt most_text_bytes (length bytes)) too_long_line form_line
+-- the text is refused, and why is noted
+pub record IsRefused (before now : Option (List ℕ)) (bytes : List ℕ) : Type 0 where
+  pub why : Refusal
+  pub reason : IsRefusedFor why bytes
+  pub noted_line : now ≡ noted before (refusal_line why)
 
 -- what each status notes
 abbrev pub Notes : Status → Option (List ℕ) → Option (List ℕ) → Type 0
 Notes statuses.Done before now = now ≡ before
 Notes statuses.Usage before now = now ≡ noted before (line_of stops.Usage)
-Notes statuses.Refused before now = (now ≡ noted before too_long_line) ⊎ (now ≡ noted before form_line)
+Notes statuses.Refused before now = (why : Refusal) × (now ≡ noted before (refusal_line why))
 Notes statuses.ReadFault before now = now ≡ noted before (line_of stops.ReadFault)
 Notes statuses.WriteFault before now = now ≡ noted before (line_of stops.WriteFault)
 Notes statuses.OutOfMemory before now = now ≡ noted before (line_of stops.Memory)
@@ -113,6 +95,13 @@ pub record WritesFront (before now : Option (List ℕ)) (text : List ℕ) : Type
   pub rest : List ℕ
   pub parts : front ++ rest ≡ text
   pub written : now ≡ appended before front
+
+abbrev pub StopsText : Stop → List ℕ → Type 0
+StopsText (stops.Refused why) bytes = IsRefusedFor why bytes
+StopsText stops.Memory bytes = Unit {0}
+StopsText stops.Usage bytes = ⊥
+StopsText stops.ReadFault bytes = ⊥
+StopsText stops.WriteFault bytes = ⊥
 
 abbrev pub StopsReading : Stop → Type 0 → Option (Option (List ℕ)) → Type 0
 StopsReading (stops.Refused r) rose text = IfSome text (OfFile (IsRefusedFor r))

@@ -8,7 +8,7 @@ ghost use Rattle.mcs_system.specs.Plain as plain;
 ghost use Rattle.mcs_system.specs.Seen.{formula_of, context_of};
 ghost use Rattle.mcs_system.specs.Systems.{all_variables, heads_into};
 ghost use Rattle.mcs_top.specs.Beliefs.{beliefs_at, IsAtPlace, IsOnlyPart, IsRight};
-ghost use Rattle.mcs_top.specs.SmallTexts.{IsPrintable};
+ghost use Rattle.mcs_top.specs.Texts.{IsPrintable};
 
 use mcs_base::{Active, Memory, Vars};
 use mcs_classical::outputs;

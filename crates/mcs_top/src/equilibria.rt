@@ -6,7 +6,7 @@ ghost use Rattle.mcs_sets.specs.Orders.{StateBefore};
 ghost use Rattle.mcs_base.specs.Listings.{IsListing};
 ghost use Rattle.mcs_system.specs.Systems.{variables, all_rules, IsProjected};
 ghost use Rattle.mcs_top.specs.Beliefs.{IsRight};
-ghost use Rattle.mcs_top.specs.SmallTexts.{IsPrintable};
+ghost use Rattle.mcs_top.specs.Texts.{IsPrintable};
 
 use crate::answers::{Answer, part_of};
 use mcs_base::{Memory, Vars, list_states};

@@ -2,13 +2,13 @@
 
 ghost use Rattle.std.specs.Prelude.{◌≡◌, ◌≤◌, IfSome, IfOk, OnOk, IfErr};
 ghost use Rattle.mcs_ports.specs.Causes.{Rose};
-ghost use Rattle.mcs_top.specs.Promise.{told, OfFile, Lists, Stops, StopsReading};
-ghost use Rattle.mcs_top.specs.SmallTexts.{IsPrintable, IsTextOf};
+ghost use Rattle.mcs_top.specs.Jobs.{told};
+ghost use Rattle.mcs_top.specs.Promise.{OfFile, Lists, Stops, StopsReading};
+ghost use Rattle.mcs_top.specs.Texts.{IsPrintable, IsTextOf};
 
 use crate::ending::{Refusal, Stop};
 use crate::printing::print_equilibria;
-use crate::small::read_small;
-use mcs_base::Memory;
+use crate::texts::read_text;
 use mcs_ports::{Gate, ReadAnswer, Shelf, Sink, read_whole};
 use mcs_system::System;
 use std::alloc::Global;
@@ -51,9 +51,5 @@ fn system_in<H: Shelf>(alloc: Global, file: &str, shelf: &mut H) -> Result<Syste
         Err(ReadAnswer::TooLong) => return Err(Stop::Refused(Refusal::TooLong)),
         Err(ReadAnswer::Memory) => return Err(Stop::Memory),
     };
-    match read_small(alloc, &bytes) {
-        Ok(Some(system)) => Ok(system),
-        Ok(None) => Err(Stop::Refused(Refusal::Form)),
-        Err(Memory) => Err(Stop::Memory),
-    }
+    read_text(alloc, &bytes)
 }

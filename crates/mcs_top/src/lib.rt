@@ -9,13 +9,10 @@ mod equilibria;
 mod job;
 mod lines;
 mod printing;
-mod reader;
-mod small;
-mod words;
+mod texts;
 
 pub use command::run;
 pub use ending::Status;
-pub use reader::texts_spell_one_system;
 
 #[cfg(test)]
 mod tests;

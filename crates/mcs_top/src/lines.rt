@@ -2,57 +2,12 @@
 
 ghost use Rattle.std.specs.Prelude.{◌≡◌, ◌<◌, ◌++◌, [], length, codes, OnOk, if◌then◌else◌};
 ghost use Rattle.mcs_sets.specs.Sets.{Within};
-ghost use Rattle.mcs_system.specs.Seen.{formula_of, read_of};
 ghost use Rattle.mcs_system.specs.Systems.{variables, all_variables, all_rules};
-ghost use Rattle.mcs_system.specs.Texts.{primary, sign_of, read_text, variable_text, rule_text, state_text, rules_text, heading, equilibrium_line, verdict, equilibria_end};
+ghost use Rattle.mcs_system.specs.Texts.{variable_text, rule_text, state_text, rules_text, heading, equilibrium_line, verdict, equilibria_end};
 
 use mcs_base::{Active, Memory, Text, Vars};
-use mcs_system::{Formula, Read, System};
-
-/// The sign of a formula of two parts, between spaces; empty for another.
-fn sign(f: &Formula) -> &'static [u8]
-    ensures { result.now ≡ sign_of (formula_of f.now) }
-{
-    match f {
-        Formula::And(_, _) => b" & ",
-        Formula::Or(_, _) => b" | ",
-        Formula::Implies(_, _) => b" -> ",
-        Formula::Iff(_, _) => b" <-> ",
-        _ => b"",
-    }
-}
-
-/// Appends a formula as a belief is printed: what has two parts stands in parentheses.
-pub(crate) fn push_primary(text: &mut Text, f: &Formula) -> Result<(), Memory>
-    ensures { OnOk result (text.new ≡ text.old ++ primary (formula_of f.now)) }
-{
-    match f {
-        Formula::True => text.push(b"true"),
-        Formula::False => text.push(b"false"),
-        Formula::Atom(name) => text.push(name.bytes()),
-        Formula::Not(g) => {
-            text.push(b"~")?;
-            push_primary(text, g)
-        }
-        Formula::And(g, h) | Formula::Or(g, h) | Formula::Implies(g, h) | Formula::Iff(g, h) => {
-            text.push(b"(")?;
-            push_primary(text, g)?;
-            text.push(sign(f))?;
-            push_primary(text, h)?;
-            text.push(b")")
-        }
-    }
-}
-
-/// Appends a belief of a context: the context's name, a colon, the belief.
-pub(crate) fn push_read(text: &mut Text, system: &System, read: &Read) -> Result<(), Memory>
-    requires { read.now.context < length system.now.contexts }
-    ensures { OnOk result (text.new ≡ text.old ++ read_text system.now (read_of read.now)) }
-{
-    text.push(system.contexts()[read.context as usize].name.bytes())?;
-    text.push(b":")?;
-    push_primary(text, &read.belief)
-}
+use mcs_language::push_read;
+use mcs_system::System;
 
 /// Appends what separates a member of a set from the one before it, if there is one.
 fn push_separator(text: &mut Text, is_first: bool) -> Result<(), Memory>

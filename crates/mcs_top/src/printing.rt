@@ -9,7 +9,7 @@ ghost use Rattle.mcs_ports.specs.Pieces.{appended};
 ghost use Rattle.mcs_system.specs.Systems.{all_variables, all_rules, IsProjected};
 ghost use Rattle.mcs_system.specs.Texts.{heading, equilibrium_line, equilibrium_lines, verdict, equilibria_end};
 ghost use Rattle.mcs_top.specs.Promise.{Prints, StopsPrinting, StopsWriting, WritesFront};
-ghost use Rattle.mcs_top.specs.SmallTexts.{IsPrintable};
+ghost use Rattle.mcs_top.specs.Texts.{IsPrintable};
 
 use crate::ending::Stop;
 use crate::equilibria::equilibria;

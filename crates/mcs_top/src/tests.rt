@@ -2,6 +2,7 @@ use super::*;
 use mcs_base::Memory;
 use mcs_ports::{IdleGate, MemoryShelf, MemorySink};
 use std::alloc::Global;
+use std::process::Abort;
 use std::test::Fail;
 
 const SELF_SUPPORT: &str = "context c1 classical {} bridge r1: c1:a if c1:a.";
@@ -93,6 +94,11 @@ fn equilibria_are_listed(rt: HostRuntime) -> Result<(), Fail> {
             "context b classical {} context a classical {} bridge s: a:p if not b:q. bridge r: b:q if not a:p.",
             "mcs 1: 2 contexts, 2 rules, 2 variables\nequilibrium 1: {b:q} applicable {r}\nequilibrium 2: {a:p} applicable {s}\nconsistent\nend: 2 equilibria\n",
         ),
+        // Formulas, and a belief that is one.
+        (
+            "context c1 classical { p. p -> q. } bridge r: c1:s if c1:(p & q), not c1:~p.",
+            "mcs 1: 1 contexts, 1 rules, 2 variables\nequilibrium 1: {c1:(p & q)} applicable {r}\nconsistent\nend: 1 equilibria\n",
+        ),
         // What is fixed is believed together, in the order of the contexts.
         (
             "context b classical { q. } context a classical { p. } bridge r: a:x if a:p, b:q. bridge s: b:y.",
@@ -107,88 +113,83 @@ fn equilibria_are_listed(rt: HostRuntime) -> Result<(), Fail> {
     Ok(())
 }
 
-#[test]
-fn systems_past_a_limit_are_refused(rt: HostRuntime) -> Result<(), Fail> {
-    let alloc = rt.alloc();
-    let eight =
-        "context c1 classical {} context c2 classical {} context c3 classical {} context c4 classical {} context c5 classical {} context c6 classical {} context c7 classical {} context c8 classical {}";
-    let rules =
-        "context c classical {} bridge r1: c:a. bridge r2: c:a. bridge r3: c:a. bridge r4: c:a. bridge r5: c:a. bridge r6: c:a. bridge r7: c:a. bridge r8: c:a.";
-    let reads =
-        "context c classical {} context d classical {} bridge r: c:a1 if c:a1, c:a2, c:a3, c:a4, d:a1, d:a2, d:a3, d:a4";
-    for (front, piece, back, heading) in [
-        (
-            eight,
-            " context c9 classical {}",
-            "",
-            "mcs 1: 8 contexts, 0 rules, 0 variables\n",
-        ),
-        (
-            rules,
-            " bridge r9: c:a.",
-            "",
-            "mcs 1: 1 contexts, 8 rules, 0 variables\n",
-        ),
-        (
-            reads,
-            ", d:a5",
-            ".",
-            "mcs 1: 2 contexts, 1 rules, 8 variables\n",
-        ),
-    ] {
-        let (status, sink) = listed(alloc, &repeated(alloc, front, piece, 0, back)?)?;
-        assert_eq!(rt; status, 0, "{front}");
-        assert!(rt; sink.written().starts_with(heading.as_bytes()), "{front}");
-        let (status, sink) = listed(alloc, &repeated(alloc, front, piece, 1, back)?)?;
-        assert_eq!(rt; status, 3, "{front}");
-        assert!(rt; sink.written().is_empty());
-        assert_eq!(rt; sink.noted(), b"mcs: refused: form\n".as_slice());
-    }
+// A text that is refused, and what is noted of it.
+fn is_refused(rt: &impl Abort, alloc: Global, text: &[u8], want: &str) -> Result<(), Fail> {
+    let (status, sink) = listed(alloc, text)?;
+    assert_eq!(rt; status, 3, "{want}");
+    assert!(rt; sink.written().is_empty());
+    assert_eq!(rt; sink.noted(), want.as_bytes());
     Ok(())
 }
 
-// A context that knows so many atoms, by turns to be true and to be false.
-fn many_atoms(alloc: Global, count: u32) -> Result<Vec<u8>, Memory> {
-    let mut text = Vec::from_slice(alloc, b"context c classical {")?;
-    for number in 0..count {
-        let sign = if number % 2 == 0 { "" } else { "~" };
-        text.extend_from_slice(format!(in alloc; " {sign}a{number}.")?.as_bytes())?;
+#[test]
+fn texts_are_refused_for_what_is_wrong_with_them(rt: HostRuntime) -> Result<(), Fail> {
+    let alloc = rt.alloc();
+    for (text, want) in [
+        (
+            "context c1 program { a. }\nbridge r1: c1:b if c1:",
+            "mcs: refused: F1 at 48\n",
+        ),
+        (
+            "context c1 program { a. }\nbridge r1: c1:b if c9:a.",
+            "mcs: refused: F2 at 45\n",
+        ),
+        (
+            "context c1 program {}\ncontext c1 program {}",
+            "mcs: refused: F3 at 30\n",
+        ),
+        (
+            "context c1 program {}\nbridge r1: c1:~a.",
+            "mcs: refused: F4 at 36\n",
+        ),
+        (
+            "context c classical { aaaaaaaaaabbbbbbbbbbccccccccccddddddddddeeeeeeeeeeffffffffff12345. }",
+            "mcs: refused: F5 at 22: name_bytes 64\n",
+        ),
+        // A kind is told before the number of variables, and both after the text's faults.
+        (
+            "context c1 classical {} context c2 default {}",
+            "mcs: refused: kind\n",
+        ),
+        (
+            "context c program {} bridge r: c:a if c:a1, c:a2, c:a3, c:a4, c:a5, c:a6, c:a7, c:a8, c:a9.",
+            "mcs: refused: kind\n",
+        ),
+        (
+            "context c classical {} bridge r: c:a if c:a1, c:a2, c:a3, c:a4, c:a5, c:a6, c:a7, c:a8, c:a9.",
+            "mcs: refused: size\n",
+        ),
+    ] {
+        is_refused(&rt, alloc, text.as_bytes(), want)?;
     }
-    text.extend_from_slice(b" }")?;
+    let size = repeated(alloc, "context c1 classical { ", "~", 512, "p. }")?;
+    is_refused(
+        &rt,
+        alloc,
+        &size,
+        "mcs: refused: F5 at 535: formula_size 512\n",
+    )
+}
+
+// The items that make each atom up to number 64 follow from the one before.
+fn chain(alloc: Global) -> Result<Vec<u8>, Memory> {
+    let mut text = Vec::from_slice(alloc, b"context c1 classical { a1.")?;
+    for number in 1..64 {
+        let next = number + 1;
+        text.extend_from_slice(format!(in alloc; " a{number} -> a{next}.")?.as_bytes())?;
+    }
+    text.extend_from_slice(b" } context c2 classical {} bridge r1: c2:x if c1:a64.")?;
     Ok(text)
 }
 
 #[test]
-fn contexts_have_at_most_64_atoms(rt: HostRuntime) -> Result<(), Fail> {
-    let alloc = rt.alloc();
-    let mut text = many_atoms(alloc, 64)?;
-    text.extend_from_slice(b" bridge r: c:a0 if c:a62, not c:a63.")?;
-    let (status, sink) = listed(alloc, &text)?;
+fn what_follows_in_64_steps_is_believed(rt: HostRuntime) -> Result<(), Fail> {
+    let (status, sink) = listed(rt.alloc(), &chain(rt.alloc())?)?;
     assert_eq!(rt; status, 0);
     assert_eq!(rt;
         sink.written(),
-        b"mcs 1: 1 contexts, 1 rules, 2 variables\nequilibrium 1: {c:a62} applicable {r}\nconsistent\nend: 1 equilibria\n".as_slice()
+        b"mcs 1: 2 contexts, 1 rules, 1 variables\nequilibrium 1: {c1:a64} applicable {r1}\nconsistent\nend: 1 equilibria\n".as_slice()
     );
-    // The head of one more rule is the atom past the limit.
-    text.extend_from_slice(b" bridge s: c:a64.")?;
-    let (status, sink) = listed(alloc, &text)?;
-    assert_eq!(rt; status, 3);
-    assert!(rt; sink.written().is_empty());
-    assert_eq!(rt; sink.noted(), b"mcs: refused: form\n".as_slice());
-    Ok(())
-}
-
-#[test]
-fn contexts_of_many_items_and_other_kinds_are_refused(rt: HostRuntime) -> Result<(), Fail> {
-    let alloc = rt.alloc();
-    for (items, want) in [(64, 0), (65, 3)] {
-        let text = repeated(alloc, "context c classical { ", "a.", items, " }")?;
-        assert_eq!(rt; listed(alloc, &text)?.0, want, "{items}");
-    }
-    let (status, sink) = listed(alloc, b"context c1 program {}")?;
-    assert_eq!(rt; status, 3);
-    assert!(rt; sink.written().is_empty());
-    assert_eq!(rt; sink.noted(), b"mcs: refused: form\n".as_slice());
     Ok(())
 }
 
@@ -276,12 +277,14 @@ fn a_failed_read_is_told(rt: HostRuntime) -> Result<(), Fail> {
 
 #[test]
 fn words_that_are_no_job_are_told(rt: HostRuntime) -> Result<(), Fail> {
-    let lists: [&[&str]; 10] = [
+    let lists: [&[&str]; 12] = [
         &[],
         &["equilibria"],
         &["equilibria", ""],
         &["equilibria", "-"],
-        &["equilibria", "--proof"],
+        &["equilibria", "f", "--proof"],
+        &["equilibria", "f", "--workers", "0"],
+        &["equilibria", "f", "--budget", "5", "--budget", "5"],
         &["equilibria", "f", "f"],
         &["solve", "f"],
         &["Equilibria", "f"],
@@ -296,6 +299,21 @@ fn words_that_are_no_job_are_told(rt: HostRuntime) -> Result<(), Fail> {
             sink.noted(),
             b"mcs: usage: mcs JOB FILE [REPORT] [--budget N] [--workers N] [--proof]\n".as_slice()
         );
+    }
+    Ok(())
+}
+
+#[test]
+fn options_and_words_after_two_dashes_are_taken(rt: HostRuntime) -> Result<(), Fail> {
+    let lists: [&[&str]; 3] = [
+        &["equilibria", "f", "--budget", "5", "--workers=64"],
+        &["--workers", "007", "equilibria", "f"],
+        &["--", "equilibria", "f"],
+    ];
+    for words in lists {
+        let (status, sink) = ran(rt.alloc(), words, SELF_SUPPORT.as_bytes(), 0, 0, 4096)?;
+        assert_eq!(rt; status, 0, "{words:?}");
+        assert_eq!(rt; sink.written(), SELF_SUPPORT_LISTING.as_bytes());
     }
     Ok(())
 }

@@ -22,7 +22,7 @@ outputs-requires-clause-few_beliefs c =
     let m : System = c.args.system.now in
     let asked : map formula_of c.deref-2.result.now ≡ beliefs_at m (variables_of m c.args.context) =
     ap (map formula_of) c.deref-2.ensures.value ∙ c.in_ok-beliefs.ensures ∙ ap (beliefs_at m) c.vars_of-variables.ensures in
-    omega (arith, ap length asked, length-map c.deref-2.result.now formula_of, few-beliefs m c.args.context, c.requires.printable.small.few_variables)
+    omega (arith, ap length asked, length-map c.deref-2.result.now formula_of, few-beliefs m c.args.context, c.requires.printable.few_variables)
 
 pub outputs-requires-clause-different : goal.outputs-requires-clause-different
 outputs-requires-clause-different c = ap has_twins c.atoms_of.ensures.value ∙ (context_atoms c.args.system.now c.args.context).0

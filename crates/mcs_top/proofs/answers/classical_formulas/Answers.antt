@@ -3,7 +3,7 @@ use Rattle.std.proofs.lemmas.List.{length-map, take_all}
 use Rattle.mcs_system.specs.Plain.{Classical, Context}
 use Rattle.mcs_system.specs.Seen.{formula_of, context_of}
 use Rattle.mcs_system.proofs.SeenLemmas.{slice_get-map}
-use Rattle.mcs_top.proofs.SmallLemmas.{classical_at}
+use Rattle.mcs_top.proofs.ClassicalLemmas.{classical_at}
 use Rattle.mcs_top.proofs.answers.classical_formulas.Goals as goal
 
 pub formulas_of-formulas-requires : goal.formulas_of-formulas-requires

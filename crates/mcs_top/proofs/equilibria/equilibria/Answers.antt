@@ -26,6 +26,6 @@ power_small n few = let small : 2 ^ n < 2 ^ 64 = pow-lt {i = n} {j = 64} (omega 
 pub returns : goal.returns
 returns g c =
     let many : length c.variables.result.now ≡ length (variables c.args.system.now) = sym (length-map c.variables.result.now read_of) ∙ ap length c.variables.ensures.value in
-    let few : length c.variables.result.now ≤ 8 = omega (arith, many, c.requires.small.few_variables) in
+    let few : length c.variables.result.now ≤ 8 = omega (arith, many, c.requires.few_variables) in
     let rows : c.loop-number.number ≡ 2 ^ length c.variables.result.now = omega (arith, power_small (length c.variables.result.now) few, c.loop-number-test.false, c.loop-number.auto.number-end) in
     all_tried c.args.system.now c.loop-number.states.items _ c.loop-number.number (rows ∙ ap (λ (n : ℕ). 2 ^ n) many) c.loop-number.invariant.found c.list_states.ensures
