@@ -1,0 +1,1 @@
+autocmd BufNewFile,BufRead *.mcs setfiletype mcs
