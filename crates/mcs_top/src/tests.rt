@@ -171,12 +171,12 @@ fn texts_are_refused_for_what_is_wrong_with_them(rt: HostRuntime) -> Result<(), 
     )
 }
 
-// The items that make each atom up to number 64 follow from the one before.
+// Four times over, that each atom up to number 64 follows from the one before: 253 items with the first atom.
 fn chain(alloc: Global) -> Result<Vec<u8>, Memory> {
     let mut text = Vec::from_slice(alloc, b"context c1 classical { a1.")?;
-    for number in 1..64 {
-        let next = number + 1;
-        text.extend_from_slice(format!(in alloc; " a{number} -> a{next}.")?.as_bytes())?;
+    for number in 0..252 {
+        let (last, next) = (number % 63 + 1, number % 63 + 2);
+        text.extend_from_slice(format!(in alloc; " a{last} -> a{next}.")?.as_bytes())?;
     }
     text.extend_from_slice(b" } context c2 classical {} bridge r1: c2:x if c1:a64.")?;
     Ok(text)
@@ -190,6 +190,52 @@ fn what_follows_in_64_steps_is_believed(rt: HostRuntime) -> Result<(), Fail> {
         sink.written(),
         b"mcs 1: 2 contexts, 1 rules, 1 variables\nequilibrium 1: {c1:a64} applicable {r1}\nconsistent\nend: 1 equilibria\n".as_slice()
     );
+    Ok(())
+}
+
+// That each pigeon sits in a hole and no two in one, and two rules that read whether the first one sits in the first.
+fn pigeons(alloc: Global, count: u32, holes: u32) -> Result<Vec<u8>, Memory> {
+    let mut text = Vec::from_slice(alloc, b"context c classical {")?;
+    for pigeon in 0..count {
+        for hole in 0..holes {
+            let sign = if hole == 0 { "" } else { " |" };
+            text.extend_from_slice(format!(in alloc; "{sign} p{pigeon}_{hole}")?.as_bytes())?;
+        }
+        text.extend_from_slice(b".")?;
+        push_apart(alloc, &mut text, pigeon, holes)?;
+    }
+    text.extend_from_slice(
+        b" } context d classical {} bridge r: d:x if c:p0_0. bridge s: d:y if c:~p0_0.",
+    )?;
+    Ok(text)
+}
+
+// That the pigeon sits in no hole with one before it.
+fn push_apart(alloc: Global, text: &mut Vec<u8>, pigeon: u32, holes: u32) -> Result<(), Memory> {
+    for other in 0..pigeon {
+        for hole in 0..holes {
+            text.extend_from_slice(format!(in alloc;
+                " ~(p{pigeon}_{hole} & p{other}_{hole})."
+            )?.as_bytes())?;
+        }
+    }
+    Ok(())
+}
+
+#[test]
+fn pigeons_need_holes(rt: HostRuntime) -> Result<(), Fail> {
+    let heading = "mcs 1: 2 contexts, 2 rules, 2 variables\n";
+    for (count, holes, states) in [
+        // Nothing holds of four pigeons in three holes, so everything is believed.
+        (4, 3, "equilibrium 1: {c:p0_0, c:~p0_0} applicable {r, s}\n"),
+        // Five pigeons fit in five holes, and the first may sit anywhere.
+        (5, 5, "equilibrium 1: {} applicable {}\n"),
+    ] {
+        let (status, sink) = listed(rt.alloc(), &pigeons(rt.alloc(), count, holes)?)?;
+        assert_eq!(rt; status, 0);
+        let want = format!(in rt.alloc(); "{heading}{states}consistent\nend: 1 equilibria\n")?;
+        assert_eq!(rt; sink.written(), want.as_bytes());
+    }
     Ok(())
 }
 
