@@ -7,10 +7,9 @@ use Rattle.mcs_base.specs.Listings.{IsAmong}
 use Rattle.mcs_system.specs.Plain.{Name}
 use Rattle.mcs_system.proofs.Members.{among_left, among_either, among_flat_map, flat_map_among, among_get}
 use Rattle.mcs_language.specs.Written.{WrittenText}
-use Rattle.mcs_language.specs.Marks.{Use, BeginsContext, NamesContext, NamesBridge, SaysProgram, NamesTarget, NamesSource, BeginsBelief, Mark, context_marks, bridge_marks, text_marks, uses_of}
+use Rattle.mcs_language.specs.Marks.{Use, BeginsContext, NamesContext, NamesBridge, SaysProgram, NamesTarget, NamesSource, Mark, context_marks, bridge_marks, text_marks, uses_of}
 use Rattle.mcs_language.specs.Watching.{context_named, bridge_named, contexts_named, bridges_named}
 use Rattle.mcs_language.proofs.TextRuns.{some-is}
-use Rattle.mcs_language.proofs.BeliefMarks.{none-contexts}
 use Rattle.mcs_language.proofs.UsesLemmas.{text_uses, names-there, targets-there, sources-there, programs-there, IsBefore}
 
 -- ---- what is named
@@ -106,6 +105,3 @@ module _ (t : WrittenText) (k : ℕ) (m : Mark) (is : slice_get (text_marks t) k
 
   pub before-source : (c : Name) → IsAmong (NamesSource c) m.uses → IsBefore t (uses_of (take k (text_marks t)))
   before-source c h = in-rules (λ there. no-source t c (use-there (NamesSource c) h there))
-
-  pub before-belief : (c : Name) → IsAmong (BeginsBelief c) m.uses → IsBefore t (uses_of (take k (text_marks t)))
-  before-belief c h = in-rules (λ there. none-contexts t.contexts m there c h)

@@ -1,14 +1,16 @@
 -- Lists without repeats: two with the same values have one length.
-use Rattle.std.proofs.Common.{◌≡◌, ℕ, ◌+◌, ◌<◌, ◌≤◌, zero, suc, List, [], ◌∷◌, ◌++◌, map, length, get_or, Some, refl, sym, ap, ◌∙◌, subst, inl, inr, ◌⊎◌, ◌↔◌, arith, slice_get}
+use Rattle.std.proofs.Common.{◌≡◌, ℕ, ◌+◌, ◌<◌, ◌≤◌, List, [], ◌∷◌, ◌++◌, map, length, get_or, Some, refl, sym, ap, ◌∙◌, subst, inl, inr, ◌⊎◌, ◌↔◌, arith, slice_get}
 use Rattle.std.specs.Prelude.{IsTrue}
 use Rattle.std.proofs.lemmas.Option.{get_or_from_slice_get}
 use Rattle.std.proofs.lemmas.List.{length-map}
 use Rattle.mcs_base.specs.Listings.{IsAmong, IsAscending}
 use Rattle.mcs_base.proofs.ListingLemmas.{all_among, map_among, members_listing}
 use Rattle.mcs_sets.specs.Sets.{has, members, size}
-use Rattle.mcs_system.proofs.Members.{among_left, among_right, among_either, get_among, among_get}
+use Rattle.mcs_system.proofs.Members.{among_left, among_right, among_either, get_among}
 use Rattle.mcs_language.specs.Faults.{AreDifferent}
 use Rattle.mcs_language.specs.Watching.{Lists}
+use Rattle.mcs_language.proofs.MarkLists.{map-among}
+use Rattle.mcs_language.proofs.WithoutRepeats.{different-map, one-place}
 
 module _ {A : Type 0} where
   -- the list without the value at this place
@@ -74,26 +76,6 @@ module _ {A : Type 0} where
     ),
   )
 
-  -- the same value at two places is at one place
-  pub one-place : (xs : List A) → AreDifferent xs → (v w : ℕ) (x : A) → slice_get xs v ≡ Some x → slice_get xs w ≡ Some x → v ≡ w
-  one-place [] d v w x at_v at_w = absurd (let h : IsAmong x [] = among_get x [] v at_v in h)
-  one-place (y ∷ ys) d zero zero x at_v at_w = refl
-  one-place (y ∷ ys) d zero (suc w) x at_v at_w = absurd (let e : x ≡ y = cc in d.0 (subst (λ (z : A). IsAmong z ys) e (among_get x ys w at_w)))
-  one-place (y ∷ ys) d (suc v) zero x at_v at_w = absurd (let e : x ≡ y = cc in d.0 (subst (λ (z : A). IsAmong z ys) e (among_get x ys v at_v)))
-  one-place (y ∷ ys) d (suc v) (suc w) x at_v at_w = let e = one-place ys d.1 v w x at_v at_w in omega arith
-
-among-map : {A B : Type 0} (f : A → B) (y : B) (xs : List A) → IsAmong y (map f xs) → (x : A) × IsAmong x xs × (y ≡ f x)
-among-map f y [] h = absurd h
-among-map f y (x ∷ xs) (inl e) = (x, inl refl, e)
-among-map f y (x ∷ xs) (inr h) = let (z, there, e) = among-map f y xs h in (z, inr there, e)
-
-different-map : {A B : Type 0} (f : A → B) (xs : List A) → AreDifferent xs → ((x y : A) → IsAmong x xs → IsAmong y xs → f x ≡ f y → x ≡ y) → AreDifferent (map f xs)
-different-map f [] d apart = tt
-different-map {A} f (x ∷ xs) d apart = (
-  λ h. let (z, there, e) = among-map f (f x) xs h in d.0 (subst (λ (w : A). IsAmong w xs) (sym (apart x z (inl refl) (inr there) e)) there),
-  different-map f xs d.1 (λ y z a b. apart y z (inr a) (inr b)),
-)
-
 ascending-different : (xs : List ℕ) → IsAscending (λ (a b : ℕ). a < b) xs → AreDifferent xs
 ascending-different [] up = tt
 ascending-different (x ∷ xs) up = ((λ h. let less : x < x = all_among (λ (y : ℕ). x < y) xs x up.0 h in omega arith), ascending-different xs up.1)
@@ -108,12 +90,13 @@ values-at {A} xs d s P different at there =
     let value : (k : ℕ) (x : A) → slice_get xs k ≡ Some x → f k ≡ x = λ k x is. get_or_from_slice_get xs k x d is in (
       map f (members s),
       (
-        different-map f (members s) (ascending-different (members s) listing.ascending) (λ k l a b e.
+        different-map f (members s) (λ k l a b e.
             let (x, at_k, p) = place k a in let (y, at_l, q) = place l b in
             let same : x ≡ y = sym (value k x at_k) ∙ e ∙ value l y at_l in
-            one-place xs different k l y (at_k ∙ ap (λ z. Some z) same) at_l),
+            one-place xs different k l y (at_k ∙ ap (λ z. Some z) same) at_l)
+            (ascending-different (members s) listing.ascending),
         λ x. (
-          λ h. let (k, among, e) = among-map f x (members s) h in let (y, at_k, p) = place k among in subst P (sym (value k y at_k) ∙ sym e) p,
+          λ h. let (k, among, e) = map-among f x (members s) h in let (y, at_k, p) = place k among in subst P (sym (value k y at_k) ∙ sym e) p,
           λ p. let (k, at_k) = get_among x xs (there x p) in
               subst (λ (y : A). IsAmong y (map f (members s))) (value k x at_k) (map_among f k (members s) ((listing.exactly k).1 ((at k).1 (x, at_k, p)))),
         ),

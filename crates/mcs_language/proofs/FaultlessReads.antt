@@ -23,7 +23,8 @@ use Rattle.mcs_language.specs.Saying.{SaysPlace, names_of, SaysSystem}
 use Rattle.mcs_language.specs.Faults.{AreDifferent, IsOneMore, NamedRead, WasReadInto, WasRead, IsBeyond}
 use Rattle.mcs_language.specs.TextImages.{read_in}
 use Rattle.mcs_language.proofs.TextRuns.{some-is}
-use Rattle.mcs_language.proofs.TextSplits.{IsSplit, uses-split, among-before, among-here, no-longer}
+use Rattle.mcs_language.proofs.DifferentLemmas.{no-longer}
+use Rattle.mcs_language.proofs.TextSplits.{IsSplit, uses-split, among-before, among-here}
 use Rattle.mcs_language.proofs.SaidParts.{in-range, position-there, said-read, said-bridge}
 use Rattle.mcs_language.proofs.UsesLemmas.{text_uses, reads-there}
 

@@ -1,5 +1,5 @@
 -- A formula token by token: what is written is taken as it was written.
-use Rattle.std.proofs.Common.{◌≡◌, true, false, List, [], ◌∷◌, ◌++◌, Some, None, ◌⊎◌, refl, sym, ap, ◌∙◌}
+use Rattle.std.proofs.Common.{◌≡◌, true, false, List, [], ◌∷◌, ◌++◌, Some, None, ◌⊎◌, ◌∙◌}
 use Rattle.mcs_system.specs.Plain.{Name}
 use Rattle.mcs_language.specs.Written.{Written, level, IsFormula}
 use Rattle.mcs_language.specs.Marks.{Token, Mark, whole_marks, tokens_of}
@@ -9,7 +9,7 @@ use Rattle.mcs_language.proofs.FormulaForward.{with_operand}
 use Rattle.mcs_language.proofs.FormulaWhole.{whole-formula, whole-primary}
 use Rattle.mcs_language.proofs.FormulaTaken.{taken}
 use Rattle.mcs_language.proofs.FormulaFill.{fill-part, fill-primary, finished-part, primary-part, marks-of-part}
-use Rattle.mcs_language.proofs.FormulaEnds.{goes-on, has-run, primary-run}
+use Rattle.mcs_language.proofs.FormulaEnds.{goes-on}
 
 -- ---- what is written is taken
 pub formula-whole : (c : Name) (w : Written) → IsFormula w → (s : PartFormula) × (formula_steps c no_formula (tokens_of (whole_marks c w)) ≡ Some (whole_marks c w, s)) × (finished s ≡ Some w)
@@ -56,41 +56,6 @@ primary-ends c s t r w h e ends =
 pub primary-fill : (c : Name) (s : PartFormula) → IsPrimaryPart s → (w : Written) × IsFormula w × (level w ≡ 0) × ((m : Mark) × ((rest : List Mark) × (whole_marks c w ≡ part_marks c s ++ m ∷ rest)))
 primary-fill = fill-primary
 
--- ---- what is taken is written: of all tokens
-pub formula-sound : (c : Name) (ts : List Token) (ms : List Mark) (s : PartFormula) (w : Written) → formula_steps c no_formula ts ≡ Some (ms, s) → finished s ≡ Some w → IsFormula w × (tokens_of ms ≡ ts) × (ms ≡ whole_marks c w)
-formula-sound c ts ms s w e ends =
-    let r = has-run c ts no_formula ms s part-none e in
-    let whole = finished-part c s w r.part ends in
-    (whole.0, r.tokens, sym (whole.1 ∙ r.marks))
-
-pub formula-begun : (c : Name) (ts : List Token) (ms : List Mark) (s : PartFormula) → formula_steps c no_formula ts ≡ Some (ms, s)
-    → (w : Written) × IsFormula w × (tokens_of ms ≡ ts) × ((rest : List Mark) × (whole_marks c w ≡ ms ++ rest))
-formula-begun c ts ms s e =
-    let r = has-run c ts no_formula ms s part-none e in
-    let whole = fill-part c s r.part in
-    (whole.0, whole.1, r.tokens, (whole.2.0, whole.2.1 ∙ ap (λ l. l ++ whole.2.0) r.marks))
-
-pub primary-sound : (c : Name) (ts : List Token) (ms : List Mark) (s : PartFormula) (w : Written) → formula_steps c no_formula ts ≡ Some (ms, s) → IsUnfinished c no_formula ts → finished_primary s ≡ Some w
-    → IsFormula w × (level w ≡ 0) × (tokens_of ms ≡ ts) × (ms ≡ whole_marks c w)
-primary-sound c ts ms s w e un ends =
-    let r = has-run c ts no_formula ms s part-none e in
-    let p = primary-run c ts no_formula ms s primary-none e un in
-    let whole = primary-part c s w r.part ends in
-    (whole.0, p.ends w ends, r.tokens, sym (whole.1 ∙ r.marks))
-
-pub primary-begun : (c : Name) (ts : List Token) (ms : List Mark) (s : PartFormula) → formula_steps c no_formula ts ≡ Some (ms, s) → IsUnfinished c no_formula ts → finished_primary s ≡ None
-    → (w : Written) × IsFormula w × (level w ≡ 0) × (tokens_of ms ≡ ts) × ((m : Mark) × ((rest : List Mark) × (whole_marks c w ≡ ms ++ m ∷ rest)))
-primary-begun c ts ms s e un open_there =
-    let r = has-run c ts no_formula ms s part-none e in
-    let p = primary-run c ts no_formula ms s primary-none e un in
-    let whole = fill-primary c s (p.open_there open_there) in
-    (whole.0, whole.1, whole.2, r.tokens, (whole.3.0, (whole.3.1.0, whole.3.1.1 ∙ ap (λ l. l ++ whole.3.0 ∷ whole.3.1.0) r.marks)))
-
 -- ---- where a formula is whole, it goes on with the signs that join and with nothing else
 pub formula-goes-on : (c : Name) (s : PartFormula) (w : Written) (t : Token) → finished s ≡ Some w → (is_joining t ≡ true → (r : Mark × PartFormula) × (formula_step c s t ≡ Some r)) × (is_joining t ≡ false → formula_step c s t ≡ None)
 formula-goes-on = goes-on
-
--- nothing is no formula
-pub unfinished-none : finished no_formula ≡ None
-unfolding finished
-unfinished-none = refl

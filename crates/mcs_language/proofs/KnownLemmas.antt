@@ -1,5 +1,5 @@
 -- What a text speaks of was named before, and the read that ends with a token.
-use Rattle.std.proofs.Common.{◌≡◌, List, ◌++◌, Some, sym, ap, subst, ◌∙◌}
+use Rattle.std.proofs.Common.{◌≡◌, List, ◌++◌, Some, sym, ap, ◌∙◌}
 use Rattle.std.specs.List.{AllByRecursion}
 use Rattle.mcs_base.specs.Listings.{IsAmong}
 use Rattle.mcs_system.specs.Plain.{Name, Formula}
@@ -9,7 +9,7 @@ use Rattle.mcs_language.specs.Marks.{Token, Use, EndsRead, Mark, formula_in}
 use Rattle.mcs_language.specs.Faults.{Fault, Has}
 use Rattle.mcs_language.specs.FormulaSteps.{PartFormula}
 use Rattle.mcs_language.specs.TextSteps.{PartRead, InRead, AfterRead, PartText, place_of, with_read, text_step}
-use Rattle.mcs_language.specs.TextImages.{About, about, subject_at, belief_at, of_read}
+use Rattle.mcs_language.specs.TextImages.{subject_at, belief_at, of_read}
 use Rattle.mcs_language.specs.Watching.{IsSpokenOf}
 use Rattle.mcs_language.specs.Known.{AreKnown, AreKnownIn}
 use Rattle.mcs_language.proofs.BeliefSteps.{last-more}
@@ -34,9 +34,6 @@ known-step before s t m s' step h free =
 pub ends-after : (s : PartText) (t : Token) (m : Mark) (s' : PartText) (w : WrittenBridge) → text_step s t ≡ Some (m, s') → s'.place ≡ AfterRead w → HasReadEnd m.uses
 ends-after s t m s' w step e = (text-move s t (m, s') step).after w e
 
-pub ends-not : (s : PartText) (t : Token) (m : Mark) (s' : PartText) (w : WrittenBridge) → text_step s t ≡ Some (m, s') → ((target c : Name) (f : Formula) → ¬ IsAmong (EndsRead target c f) m.uses) → ¬ (s'.place ≡ AfterRead w)
-ends-not s t m s' w step none e = let (target, c, f, there) = ends-after s t m s' w step e in none target c f there
-
 module _ (s : PartText) (t : Token) (m : Mark) (s' : PartText) (target c : Name) (f : Formula) (step : text_step s t ≡ Some (m, s')) (there : IsAmong (EndsRead target c f) m.uses) where
   the-end : IsReadEnd s.place t target c f s'.place
   the-end = (text-move s t (m, s') step).ends target c f there
@@ -53,9 +50,3 @@ module _ (s : PartText) (t : Token) (m : Mark) (s' : PartText) (target c : Name)
 
   belief-is : belief_at s'.place ≡ f
   belief-is = let e = the-end in ap belief_at e.to ∙ last-more e.bridge.reads (record { denied = e.read.denied; place = place_of e.read.context e.belief }) ∙ sym e.belief_is
-
-  pub read-about : about (subject_at s.place) s'.place ≡ record { subject = of_read c target; belief = f }
-  read-about = ap (λ u. about u s'.place) subject-is ∙ ap {B = About} (λ (g : Formula). record { subject = of_read c target; belief = g }) belief-is
-
-  pub about-atom : IsNameWord t → IsAmong t (atoms (about (subject_at s.place) s'.place).belief)
-  about-atom word = subst (λ (g : Formula). IsAmong t (atoms g)) (sym belief-is) (read-atom word)

@@ -12,6 +12,7 @@ pub mod ReaderLemmas
 pub mod TextRuns
 pub mod TextParts
 pub mod TextLemmas
+pub mod TextEnds
 pub mod TextSound
 pub mod TextFill
 pub mod ItemForward

@@ -1,10 +1,10 @@
 -- Which faults a token has, by what it is there for and by what the watch tells.
-use Rattle.std.proofs.Common.{◌≡◌, ℕ, ◌<◌, true, false, List, length, refl, sym, ap, ◌∙◌, subst, inl, inr, ◌⊎◌, ◌↔◌, arith}
+use Rattle.std.proofs.Common.{◌≡◌, ℕ, true, false, List, refl, sym, ap, ◌∙◌, subst, inl, inr, ◌⊎◌, ◌↔◌, arith}
 use Rattle.std.specs.Prelude.{count_by}
 use Rattle.mcs_base.specs.Listings.{IsAmong}
 use Rattle.mcs_base.proofs.ListingLemmas.{all_among}
 use Rattle.mcs_system.specs.Plain.{Name, Formula}
-use Rattle.mcs_system.specs.declared.fault.Limit.TheVariants.{Contexts, Bridges, RulesPerContext, Variables, InputsPerContext, AtomsPerContext, DefaultsPerContext, ItemsPerContext, FormulaSize, OpenParentheses, NameBytes}
+use Rattle.mcs_system.specs.declared.fault.Limit.TheVariants.{Contexts, Bridges, RulesPerContext, Variables, InputsPerContext, AtomsPerContext, DefaultsPerContext, ItemsPerContext, FormulaSize, OpenParentheses}
 use Rattle.mcs_language.specs.declared.place.Role.TheVariants as roles
 use Rattle.mcs_language.specs.declared.watch.Watch.{Watch}
 use Rattle.mcs_language.specs.declared.watch.Said.{Said}
@@ -96,12 +96,6 @@ module _ (w : Watch) (before : List Use) (m : Mark) (a : About) (s : Said) (aske
 
   pub opens-beyond : IsBeyond OpenParentheses before m ↔ (s.uses.role ≡ roles.Opens 512)
   opens-beyond = (λ h. use-in (OpensWithin 512) refl h, λ h. in-use (OpensWithin 512) refl h)
-
-  pub bytes-beyond : IsBeyond NameBytes before m ↔ (IsNameWord token × (64 < length token))
-  bytes-beyond = (
-    λ h. subst (λ (t : Token). IsNameWord t × (64 < length t)) asked.token_is h,
-    λ h. subst (λ (t : Token). IsNameWord t × (64 < length t)) (sym asked.token_is) h,
-  )
 
   pub no-context-is : Has NoContext before m ↔ (((s.uses.role ≡ roles.NamesTarget) ⊎ (s.uses.role ≡ roles.NamesSource)) × (¬ IsAmong (NamesContext token) before))
   no-context-is = (

@@ -16,7 +16,8 @@ use Rattle.mcs_language.specs.Faults.{names_target, begins_default_of, begins_it
 use Rattle.mcs_language.specs.TextImages.{read_of}
 use Rattle.mcs_language.specs.Watching.{Lists, IsSeen, IsSpokenOf, names_seen, named_read, IsWatch, IsNumberOf, IsAllowed, IsFresh, IsHeld}
 use Rattle.mcs_language.proofs.ApartLemmas.{apart-names_context, apart-read}
-use Rattle.mcs_language.proofs.DifferentLemmas.{one-place, values-at, lists-same, lists-more, among-push, same-length}
+use Rattle.mcs_language.proofs.WithoutRepeats.{one-place}
+use Rattle.mcs_language.proofs.DifferentLemmas.{values-at, lists-same, lists-more, among-push, same-length}
 use Rattle.mcs_language.proofs.LaterLemmas.{count-later, same-among, the-new, earlier, atoms-later, reads-later}
 use Rattle.mcs_language.proofs.SeenLater.{IsLonger, not-longer, one-longer, seen-later, all-set, all-push, names-set}
 use Rattle.mcs_language.proofs.StepWatch.{watch-step}

@@ -75,14 +75,6 @@ name-word t h = at (is_word t) (is_reserved t) (nat_le (length t) most_name_byte
     at true true d h' = h'
     at false b d h' = h'
 
-pub long-word : (t : Token) → IsTrue (is_word t) → ¬ IsTrue (is_reserved t) → IsTrue (is_name_word t)
-long-word t h free = at (is_word t) (is_reserved t) h free
-  where
-    at : (a b : Bool) → IsTrue a → ¬ IsTrue b → IsTrue (a && not b)
-    at true false h' free' = refl
-    at true true h' free' = absurd (free' refl)
-    at false b h' free' = h'
-
 -- ---- what is neither
 untrue : (b : Bool) → ¬ (b ≡ true) → b ≡ false
 untrue true h = absurd (h refl)

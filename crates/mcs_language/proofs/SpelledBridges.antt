@@ -7,12 +7,11 @@ use Rattle.mcs_system.specs.Texts.{primary, separated, further, read_text, name_
 use Rattle.mcs_system.proofs.ValidLemmas.{all_from_none, tests_pass}
 use Rattle.mcs_tokens.specs.declared.sign.Sign.TheVariants as signs
 use Rattle.mcs_language.specs.Canonical.{denied, context_text, head_of, if_word, bridge_text, canonical_text}
-use Rattle.mcs_language.specs.Marks.{Use, BeginsBridge, NamesBridge, NamesTarget, NamesSource, BeginsBelief, EndsRead, Mark, mark, formula_in, with_first, with_last, whole_marks, place_marks, read_marks, further_read, reads_marks, context_marks, bridge_marks, text_marks, tokens_of}
+use Rattle.mcs_language.specs.Marks.{Use, BeginsBridge, NamesBridge, NamesTarget, NamesSource, BeginsBelief, EndsRead, Mark, mark, formula_in, with_first, with_last, whole_marks, place_marks, read_marks, further_read, reads_marks, context_marks, bridge_marks, text_marks}
 use Rattle.mcs_language.specs.Naming.{IsNamedContext, IsNamed}
-use Rattle.mcs_language.proofs.Pieces.{HasTokens}
 use Rattle.mcs_language.proofs.CanonicalGrammar.{all-both, IsPlaced, IsPlacedBridge, placed-name, all-placed}
 use Rattle.mcs_language.proofs.CanonicalWritten.{primary_written, place_written, read_written, reads_written, bridge_written, context_written, canonical_written}
-use Rattle.mcs_language.proofs.Spelled.{IsSpelled, beside, text-as, marks-as, first-tokens, last-tokens, nothing, EndsWord, one-sign, blank, sign-blank, word-space, tokens-of-text}
+use Rattle.mcs_language.proofs.Spelled.{IsSpelled, beside, text-as, marks-as, first-tokens, last-tokens, nothing, EndsWord, one-sign, blank, sign-blank, word-space}
 use Rattle.mcs_language.proofs.SpelledFormulas.{one-name, primary-no-hyphen, primary-spelled}
 use Rattle.mcs_language.proofs.SpelledContexts.{after-comma, further-ends, ends-after, context-spelled}
 
@@ -123,7 +122,3 @@ canonical-spelled m named valid =
     beside (flat_map context_text m.contexts) (flat_map (bridge_text m) m.bridges) (flat_map context_marks (map context_written m.contexts)) (flat_map bridge_marks (map (bridge_written m) m.bridges)) []
     (all-spelled context_text context_written context_marks IsFit (λ c next h. context-spelled c next h.0 h.1) m.contexts _ (all-fit m named valid))
     (all-spelled (bridge_text m) (bridge_written m) bridge_marks (IsPlacedBridge m) (bridge-spelled m named) m.bridges [] (all-placed m named valid))
-
--- the tokens of the bytes are those of what is written
-pub canonical-tokens : (m : System) → IsNamed m → IsValid m → HasTokens (canonical_text m) 0 (tokens_of (text_marks (canonical_written m)))
-canonical-tokens m named valid = tokens-of-text (canonical_text m) (text_marks (canonical_written m)) (canonical-spelled m named valid)

@@ -12,7 +12,8 @@ use Rattle.mcs_language.proofs.FormulaParts.{part_marks}
 use Rattle.mcs_language.proofs.FormulaTheory.{part-none, part-fill, primary-fill}
 use Rattle.mcs_language.proofs.TextParts.{sign_mark, open_context, begun, open_justs, open_conclusion, before_read, begun_belief, source_mark, so_far, whole_parts, marks_so_far, IsRight, IsSoFar}
 use Rattle.mcs_language.proofs.TextLemmas.{within, some-append, some-more, first-append, last-append, fact-more, default-more, fact-kind, default-kind, fact-right, default-right, whole-some}
-use Rattle.mcs_language.proofs.TextSound.{text_of, text-goes-on, item-ends, justs-last, default-ends, default-is, more-right, just-marks, reads-more, regroup, read-right}
+use Rattle.mcs_language.proofs.TextEnds.{item-ends, justs-last, default-ends, default-is, more-right, just-marks, reads-more, regroup, read-right}
+use Rattle.mcs_language.proofs.TextSound.{text_of, text-goes-on}
 
 -- a text that begins with what was written
 pub record Extends (s : PartText) : Type 0 where

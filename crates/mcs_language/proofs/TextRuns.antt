@@ -75,9 +75,6 @@ steps-split s (t ∷ ts) us ms s' e =
     let more = steps-split d.middle ts us d.rest s' d.steps in
     record { front = d.first ∷ more.front; middle = more.middle; back = more.back; before = steps-more s t ts d.first d.middle more.front more.middle d.step more.before; after = more.after; marks_are = ap (λ (xs : List Mark). d.first ∷ xs) more.marks_are ∙ d.marks_are }
 
-pub runs-nil : (s : PartText) → Runs s [] s
-runs-nil s = refl
-
 pub runs-one : (s s' : PartText) (m : Mark) → text_step s m.token ≡ Some (m, s') → Runs s (m ∷ []) s'
 runs-one s s' m e = steps-more s m.token [] m s' [] s' e refl
 

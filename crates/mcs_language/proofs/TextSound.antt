@@ -1,23 +1,23 @@
 -- A token that is taken goes on with what was written, and what is written then is of the grammar.
-use Rattle.std.proofs.Common.{◌≡◌, ◌+◌, Bool, true, false, List, [], ◌∷◌, ◌++◌, length, Some, None, refl, sym, ap, subst, ◌∙◌, arith, append_assoc, add-zero, true≢false}
+use Rattle.std.proofs.Common.{◌≡◌, ◌+◌, Bool, true, false, List, [], ◌∷◌, ◌++◌, length, Some, None, refl, sym, ap, subst, ◌∙◌, append_assoc}
 use Rattle.std.specs.Prelude.{codes, ◌&&◌, nat_eq}
 use Rattle.std.specs.List.{flat_map, AllByRecursion}
 use Rattle.std.specs.Str.{bytes_eq}
 use Rattle.std.proofs.lemmas.Bool.{and_parts}
-use Rattle.std.proofs.lemmas.Bool.Decides.{Decides-eqb}
 use Rattle.std.proofs.lemmas.List.{append-nil}
 use Rattle.std.proofs.lemmas.Slice.Eq.{bytes_eq-Decides}
 use Rattle.mcs_system.specs.Plain.{Name}
-use Rattle.mcs_language.specs.Written.{Written, WrittenDefault, Rule, WrittenLiteral, WrittenRule, WrittenRead, WrittenKb, Classical, DefaultTheory, Program, WrittenContext, WrittenBridge, IsNameWord, IsFormula, IsItem, IsRule, IsContext, IsPlace, IsBridge, level}
-use Rattle.mcs_language.specs.Marks.{Token, Use, BeginsContext, BeginsBridge, NamesContext, NamesBridge, SaysProgram, BeginsItem, BeginsDefault, NamesTarget, NamesSource, EndsRead, Mark, mark, formula_in, with_last, whole_marks, default_marks, atom_mark, head_marks, optional, literal_marks, rule_marks, ended, place_marks, read_marks, reads_marks, further_read, context_marks, bridge_marks}
+use Rattle.mcs_language.specs.Written.{Written, WrittenDefault, WrittenLiteral, WrittenRule, WrittenRead, Classical, DefaultTheory, Program, WrittenContext, WrittenBridge, IsNameWord, IsRule, IsContext, IsBridge}
+use Rattle.mcs_language.specs.Marks.{Token, Use, BeginsContext, BeginsBridge, NamesContext, NamesBridge, SaysProgram, BeginsItem, BeginsDefault, NamesTarget, NamesSource, EndsRead, Mark, mark, formula_in, whole_marks, default_marks, atom_mark, head_marks, optional, rule_marks, context_marks, bridge_marks}
 use Rattle.mcs_language.specs.FormulaSteps.{PartFormula, no_formula, formula_step, finished}
 use Rattle.mcs_language.specs.TextSteps.{PartDefault, PartRead, Place, Between, ContextName, KindWord, OpenBrace, NextItem, InFact, InJust, InConclusion, AfterHeadName, NextHeadName, AfterSign, NextLiteral, AfterNot, AfterLiteral, BridgeName, BridgeColon, HeadContext, HeadColon, InHead, AfterHead, NextRead, ReadContext, ReadColon, InRead, AfterRead, PartText, Moved, goes, between, kind_word, empty_context, is_theory, is_program, with_fact, with_default, with_rule, add_fact, add_default, add_rule, one_more_just, whole_default, whole_rule, headed, with_read, first_of_belief, step_at, text_step}
 use Rattle.mcs_language.specs.TextSteps as steps
-use Rattle.mcs_language.proofs.FormulaParts.{IsPart, part_marks}
+use Rattle.mcs_language.proofs.FormulaParts.{part_marks}
 use Rattle.mcs_language.proofs.FormulaTheory.{part-none, part-step, part-finished, primary-none, primary-step, primary-ends}
 use Rattle.mcs_language.proofs.TextRuns.{some-is}
-use Rattle.mcs_language.proofs.TextParts.{sign_mark, kind_mark, kb_items, open_context, begun, before_comma, open_justs, open_conclusion, open_rule, literal_comma, open_bridge, before_read, begun_belief, source_mark, so_far, whole_parts, marks_so_far, IsSome, AreNames, AreLiterals, IsInRule, IsInTheory, IsRight, IsSoFar}
-use Rattle.mcs_language.proofs.TextLemmas.{all-more, flat-more, within, some-append, some-more, first-append, last-append, head-more, literals-more, fact-more, default-more, rule-more, fact-kind, default-kind, rule-kind, fact-right, default-right, rule-right, commas-last, belief-more, whole-some, head-some, cond-is, on-is, none-is, name-is, formula-is, whole-is, belief-is}
+use Rattle.mcs_language.proofs.TextParts.{sign_mark, kind_mark, open_context, begun, open_justs, open_conclusion, open_rule, literal_comma, open_bridge, before_read, begun_belief, source_mark, so_far, whole_parts, marks_so_far, IsSome, AreLiterals, IsInRule, IsRight, IsSoFar}
+use Rattle.mcs_language.proofs.TextLemmas.{all-more, flat-more, within, some-append, some-more, first-append, head-more, fact-more, default-more, rule-more, fact-kind, default-kind, rule-kind, fact-right, default-right, rule-right, belief-more, whole-some, head-some, cond-is, on-is, none-is, name-is, formula-is, whole-is, belief-is}
+use Rattle.mcs_language.proofs.TextEnds.{item-ends, justs-more, justs-last, default-ends, rule-literal, open_rule-some, bridge-ends, context-ends, regroup3, read-ends, comma-read, no-bridges, just-marks, more-right, default-is, fact-rule, sign-rule, read-right}
 
 abbrev pub text_of : List WrittenContext → List WrittenBridge → Place → PartText
 text_of cs bs p = record { contexts = cs; bridges = bs; place = p }
@@ -27,113 +27,6 @@ pub record IsStep (s : PartText) (t : Token) (r : Mark × PartText) : Type 0 whe
   pub parts : IsSoFar r.1
   pub marks_are : marks_so_far r.1 ≡ marks_so_far s ++ r.0 ∷ []
   pub same : (r.0).token ≡ t
-
--- ---- items
--- the item and the period after it
-pub item-ends : (c : WrittenContext) (kb : WrittenKb) (item : List Mark) → kind_mark c.name kb ≡ kind_mark c.name c.kb → kb_items c.name kb ≡ kb_items c.name c.kb ++ ended c.name item
-    → open_context (record c { kb = kb }) ≡ (open_context c ++ begun c.name item) ++ sign_mark (codes ".") ∷ []
-item-ends c kb item kind items = rw (kind, items) (sym (append_assoc (open_context c) (begun c.name item) (sign_mark (codes ".") ∷ [])))
-
-justs-more : (n : Name) (d : PartDefault) (w : Written) → open_justs n (one_more_just d w) ≡ (open_justs n d ++ whole_marks n w) ++ sign_mark (codes ",") ∷ []
-justs-more n d w = rw (flat-more (before_comma n) d.justs w) (simp append_assoc)
-
-pub justs-last : (n : Name) (d : PartDefault) (w : Written) → open_conclusion n (one_more_just d w) ≡ (open_justs n d ++ whole_marks n w) ++ sign_mark (codes "/") ∷ []
-justs-last n d w = rw (commas-last n d.justs w) (simp append_assoc)
-
-pub default-ends : (n : Name) (d : PartDefault) (w : Written) → IsSome d.justs → default_marks n (whole_default d w) ≡ open_conclusion n d ++ whole_marks n w
-default-ends n d w h = go d.justs h
-  where
-    go : (js : List Written) → IsSome js → default_marks n (whole_default (record { pre = d.pre; justs = js }) w) ≡ open_conclusion n (record { pre = d.pre; justs = js }) ++ whole_marks n w
-    go [] g = absurd g
-    go (j ∷ js) g = simp append_assoc
-
-rule-literal : (n : Name) (head : List Name) (body : List WrittenLiteral) (l : WrittenLiteral)
-    → open_rule n head (body ++ l ∷ []) ≡ (open_rule n head body ++ literal_comma body) ++ literal_marks n (length head + length body) l
-rule-literal n head [] l = rw (add-zero, append-nil (literal_marks n (length head) l)) (simp (append_assoc, append-nil))
-rule-literal n head (k ∷ ls) l =
-    let i : (length head + 1) + length ls ≡ length head + length (k ∷ ls) = omega arith in
-    rw (literals-more n (length head + 1) ls l, i) (simp append_assoc)
-
-open_rule-some : (n : Name) (head : List Name) (body : List WrittenLiteral) → IsSome (open_rule n head body)
-open_rule-some n [] body = tt
-open_rule-some n (a ∷ names) body = tt
-
--- ---- bridge rules
-bridge-ends : (b : WrittenBridge) → bridge_marks b ≡ open_bridge b ++ sign_mark (codes ".") ∷ []
-bridge-ends b = simp append_assoc
-
-context-ends : (n : Name) (kb : WrittenKb) → context_marks (record { name = n; kb = kb }) ≡ open_context (record { name = n; kb = kb }) ++ sign_mark (codes "}") ∷ []
-context-ends n (Classical formulas) = refl
-context-ends n (DefaultTheory items) = refl
-context-ends n (Program rules) = refl
-
-pub reads-more : (c : Name) (reads : List WrittenRead) (r : WrittenRead) → reads_marks c (reads ++ r ∷ []) ≡ reads_marks c reads ++ (before_read reads ++ read_marks c r)
-reads-more c [] r = ap (λ (ms : List Mark). sign_mark (codes "if") ∷ ms) (append-nil (read_marks c r))
-reads-more c (q ∷ reads) r = rw (flat-more (further_read c) reads r) (simp append_assoc)
-
-pub regroup : (a b c d e f : List Mark) → a ++ (b ++ (c ++ (d ++ (e ++ f)))) ≡ ((a ++ b) ++ (c ++ (d ++ e))) ++ f
-regroup a b c d e f = simp append_assoc
-
-regroup3 : (a b c d : List Mark) → a ++ (b ++ (c ++ d)) ≡ (a ++ (b ++ c)) ++ d
-regroup3 a b c d = simp append_assoc
-
-read-ends : (b : WrittenBridge) (r : PartRead) (w : Written) (f : PartFormula) (m : Mark) → IsPart f → whole_marks r.context w ≡ part_marks r.context f ++ m ∷ []
-    → so_far (AfterRead (with_read b r w)) ≡ so_far (InRead b r f) ++ mark m.token (EndsRead b.head.context r.context (formula_in w) ∷ (first_of_belief r.context f ++ m.uses)) ∷ []
-read-ends b r w f m h e =
-    let c : Name = r.context in
-    let uses : List Use = EndsRead b.head.context c (formula_in w) ∷ [] in
-    let last : Mark = mark m.token (first_of_belief c f ++ m.uses) in
-    let belief : begun_belief c (whole_marks c w) ≡ begun_belief c (part_marks c f) ++ last ∷ [] = ap (begun_belief c) e ∙ belief-more c f m h in
-    let read : with_last uses (source_mark c ∷ sign_mark (codes ":") ∷ begun_belief c (whole_marks c w)) ≡ source_mark c ∷ sign_mark (codes ":") ∷ (begun_belief c (part_marks c f) ++ mark m.token (uses ++ (first_of_belief c f ++ m.uses)) ∷ [])
-    = ap (λ (ms : List Mark). with_last uses (source_mark c ∷ sign_mark (codes ":") ∷ ms)) belief ∙ last-append uses (source_mark c ∷ sign_mark (codes ":") ∷ begun_belief c (part_marks c f)) last [] in
-    let target : Name = b.head.context in
-    let not' : List Mark = optional r.denied (codes "not") in
-    let begin : List Mark = mark (codes "bridge") (BeginsBridge ∷ []) ∷ mark b.name (NamesBridge b.name ∷ []) ∷ sign_mark (codes ":") ∷ place_marks (NamesTarget target) b.head in
-    let all = reads-more target b.reads (record { denied = r.denied; place = record { context = c; belief = w } }) ∙ ap (λ (ms : List Mark). reads_marks target b.reads ++ (before_read b.reads ++ (not' ++ ms))) read in
-    ap (λ (ms : List Mark). begin ++ ms) all
-    ∙ regroup begin (reads_marks target b.reads) (before_read b.reads) not' (source_mark c ∷ sign_mark (codes ":") ∷ begun_belief c (part_marks c f)) (mark m.token (uses ++ (first_of_belief c f ++ m.uses)) ∷ [])
-
-cons-nil : {A : Type 0} (x : A) (xs : List A) → x ∷ xs ≡ [] → ⊥
-cons-nil x xs e = cc
-
-comma-read : (reads : List WrittenRead) → IsSome reads → before_read reads ≡ sign_mark (codes ",") ∷ []
-comma-read [] h = absurd h
-comma-read (q ∷ reads) h = refl
-
-no-bridges : (bs : List WrittenBridge) → nat_eq (length bs) 0 ≡ true → bs ≡ []
-no-bridges [] h = refl
-no-bridges (b ∷ bs) h = let none : length (b ∷ bs) ≡ 0 = (Decides-eqb (length (b ∷ bs)) 0).0 h in absurd (omega arith)
-
--- a justification and the sign after it
-pub just-marks : (c : WrittenContext) (d : PartDefault) (w : Written) (xs more : List Mark) (sign : Token) → whole_marks c.name w ≡ xs → more ≡ (open_justs c.name d ++ whole_marks c.name w) ++ sign_mark sign ∷ []
-    → open_context c ++ (begun c.name more ++ []) ≡ (open_context c ++ (begun c.name (open_justs c.name d) ++ xs)) ++ sign_mark sign ∷ []
-just-marks c d w xs more sign whole is =
-    let uses : List Use = BeginsItem c.name ∷ [] in
-    let some = some-append (whole_marks c.name d.pre) _ (whole-some c.name d.pre) in
-    let split : begun c.name more ≡ (begun c.name (open_justs c.name d) ++ xs) ++ sign_mark sign ∷ []
-    = ap (begun c.name) is ∙ first-append uses (open_justs c.name d ++ whole_marks c.name w) (sign_mark sign ∷ []) (some-append (open_justs c.name d) (whole_marks c.name w) some)
-    ∙ ap (λ (ms : List Mark). ms ++ sign_mark sign ∷ []) (first-append uses (open_justs c.name d) (whole_marks c.name w) some ∙ ap (λ (ms : List Mark). begun c.name (open_justs c.name d) ++ ms) whole) in
-    within (open_context c) (begun c.name more ++ []) (begun c.name (open_justs c.name d) ++ xs) (sign_mark sign ∷ []) (append-nil (begun c.name more) ∙ split)
-
-pub more-right : (c : WrittenContext) (d : PartDefault) (w : Written) → IsInTheory c d → IsFormula w → IsInTheory c (one_more_just d w)
-more-right c d w h f = (h.0, h.1, h.2, all-more IsFormula d.justs w h.3 f)
-
-pub default-is : (d : PartDefault) (w : Written) → IsFormula d.pre → AllByRecursion IsFormula d.justs → IsSome d.justs → IsFormula w → IsItem (Rule (whole_default d w))
-default-is d w pre justs some f = go d.justs justs some
-  where
-    go : (js : List Written) → AllByRecursion IsFormula js → IsSome js → IsItem (Rule (whole_default (record { pre = d.pre; justs = js }) w))
-    go [] a s = absurd s
-    go (j ∷ js) a s = (pre, a, f)
-
-pub fact-rule : (head : List Name) → IsSome head → AreNames head → IsRule (whole_rule head false [])
-fact-rule [] some names = absurd some
-fact-rule (a ∷ head) some names = record { head_names = names; body_names = tt; head_or_sign = λ e. absurd (cons-nil a head e); body_after_sign = λ e. refl }
-
-pub sign-rule : (head : List Name) (body : List WrittenLiteral) → AreNames head → AreLiterals body → IsRule (whole_rule head true body)
-sign-rule head body names literals = record { head_names = names; body_names = literals; head_or_sign = λ e. refl; body_after_sign = λ e. absurd (true≢false e) }
-
-pub read-right : (b : WrittenBridge) (d : PartRead) (w : Written) → IsBridge b → IsNameWord d.context → IsFormula w → level w ≡ 0 → IsBridge (with_read b d w)
-read-right b d w h name f low = (h.0, h.1, all-more (λ (k : WrittenRead). IsPlace k.place) b.reads (record { denied = d.denied; place = record { context = d.context; belief = w } }) h.2 (name, f, low))
 
 module _ (cs : List WrittenContext) (bs : List WrittenBridge) (hc : AllByRecursion IsContext cs) (hb : AllByRecursion IsBridge bs) where
   lands : (p p' : Place) (t wanted : Token) (uses : List Use) (r : Mark × PartText) → t ≡ wanted → goes (text_of cs bs p) t uses p' ≡ Some r → IsRight bs p' → so_far p' ≡ so_far p ++ mark wanted uses ∷ [] → IsStep (text_of cs bs p) t r

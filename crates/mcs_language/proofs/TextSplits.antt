@@ -1,5 +1,5 @@
 -- A text's marks, split at one of them; and how long lists without repeats can be.
-use Rattle.std.proofs.Common.{◌≡◌, ℕ, zero, suc, ◌+◌, ◌<◌, ◌≤◌, Bool, true, cond, List, [], ◌∷◌, ◌++◌, filter, take, length, Some, refl, sym, ap, subst, ◌∙◌, inl, inr, arith, slice_get}
+use Rattle.std.proofs.Common.{◌≡◌, ℕ, zero, suc, ◌+◌, ◌<◌, ◌≤◌, Bool, true, cond, List, [], ◌∷◌, ◌++◌, filter, take, length, Some, sym, ap, subst, ◌∙◌, inl, inr, arith, slice_get}
 use Rattle.std.specs.Prelude.{count_by}
 use Rattle.std.proofs.lemmas.Grind.{flat_map-append}
 use Rattle.std.proofs.lemmas.List.Sums.{sum_by-append, length-filter}
@@ -63,31 +63,3 @@ pub different-parts : {A : Type 0} (x : A) (xs ys : List A) → AreDifferent (xs
 different-parts {A} x [] ys d h g = absurd h
 different-parts {A} x (z ∷ zs) ys d (inl e) g = d.0 (subst (λ (w : A). IsAmong w (zs ++ ys)) e (among_right x zs ys g))
 different-parts {A} x (z ∷ zs) ys d (inr h) g = different-parts x zs ys d.1 h g
-
-module _ {A : Type 0} where
-  -- without one of its elements
-  abbrev without : (x : A) (ys : List A) → IsAmong x ys → List A
-  without x [] h = absurd h
-  without x (y ∷ ys) (inl e) = ys
-  without x (y ∷ ys) (inr h) = y ∷ without x ys h
-
-  length-without : (x : A) (ys : List A) (h : IsAmong x ys) → length ys ≡ suc (length (without x ys h))
-  length-without x [] h = absurd h
-  length-without x (y ∷ ys) (inl e) = refl
-  length-without x (y ∷ ys) (inr h) = ap suc (length-without x ys h)
-
-  among-without : (x : A) (ys : List A) (h : IsAmong x ys) (z : A) → ¬ (z ≡ x) → IsAmong z ys → IsAmong z (without x ys h)
-  among-without x [] h z other g = absurd g
-  among-without x (y ∷ ys) (inl e) z other (inl e') = absurd (other (e' ∙ sym e))
-  among-without x (y ∷ ys) (inl e) z other (inr g) = g
-  among-without x (y ∷ ys) (inr h) z other (inl e') = inl e'
-  among-without x (y ∷ ys) (inr h) z other (inr g) = inr (among-without x ys h z other g)
-
-  -- a list without repeats is no longer than one that has all of its elements
-  pub no-longer : (xs ys : List A) → AreDifferent xs → ((x : A) → IsAmong x xs → IsAmong x ys) → length xs ≤ length ys
-  no-longer [] ys d inside = omega arith
-  no-longer (x ∷ xs) ys d inside =
-      let here : IsAmong x ys = inside x (inl refl) in
-      let rest = no-longer xs (without x ys here) d.1 (λ z g. among-without x ys here z (λ e. d.0 (subst (λ (w : A). IsAmong w xs) e g)) (inside z (inr g))) in
-      let long = length-without x ys here in
-      omega arith
