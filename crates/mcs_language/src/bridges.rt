@@ -198,8 +198,14 @@ pub(crate) fn in_head(
     let uses = belief_uses(&belief, token);
     match belief.take(alloc, token)? {
         Answer::Taken => head_goes_on(alloc, name, context, belief, uses),
-        Answer::TooLong => Ok(Step::LongName { uses }),
-        Answer::Refused => Ok(Step::Refused),
+        Answer::TooLong => {
+            drop((name, context, belief));
+            Ok(Step::LongName { uses })
+        }
+        Answer::Refused => {
+            drop((name, context, belief));
+            Ok(Step::Refused)
+        }
     }
 }
 
@@ -297,11 +303,15 @@ pub(crate) fn in_read(
         Answer::Taken => read_goes_on(alloc, bridge, denied, context, belief, uses),
         Answer::TooLong => {
             let ends_read = waits_for_one(&belief);
+            drop((bridge, context, belief));
             Ok(Step::LongName {
                 uses: Uses { ends_read, ..uses },
             })
         }
-        Answer::Refused => Ok(Step::Refused),
+        Answer::Refused => {
+            drop((bridge, context, belief));
+            Ok(Step::Refused)
+        }
     }
 }
 

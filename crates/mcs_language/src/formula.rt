@@ -279,7 +279,7 @@ impl FormulaReader {
             return Ok(self.refuse(operand));
         }
         let inner = reduce(alloc, &mut self.pending, EQUIVALENCE, operand)?;
-        self.pending.pop();
+        drop(self.pending.pop());
         self.opened -= 1;
         self.hold(alloc, inner)
     }

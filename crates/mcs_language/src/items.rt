@@ -151,12 +151,18 @@ pub(crate) fn in_fact(
     let role = formula_role(&formula, token);
     match formula.take(alloc, token)? {
         Answer::Taken => Ok(Step::goes(Place::InFact { context, formula }, role)),
-        Answer::TooLong => Ok(Step::LongName {
-            uses: Uses::only(role),
-        }),
+        Answer::TooLong => {
+            drop((context, formula));
+            Ok(Step::LongName {
+                uses: Uses::only(role),
+            })
+        }
         Answer::Refused => match formula.finish(alloc)? {
             Some(whole) => fact_ends(alloc, context, whole, token),
-            None => Ok(Step::Refused),
+            None => {
+                drop(context);
+                Ok(Step::Refused)
+            }
         },
     }
 }
@@ -216,12 +222,18 @@ pub(crate) fn in_just(
             };
             Ok(Step::goes(place, role))
         }
-        Answer::TooLong => Ok(Step::LongName {
-            uses: Uses::only(role),
-        }),
+        Answer::TooLong => {
+            drop((context, default, formula));
+            Ok(Step::LongName {
+                uses: Uses::only(role),
+            })
+        }
         Answer::Refused => match formula.finish(alloc)? {
             Some(whole) => just_ends(alloc, context, default, whole, token),
-            None => Ok(Step::Refused),
+            None => {
+                drop((context, default));
+                Ok(Step::Refused)
+            }
         },
     }
 }
@@ -264,12 +276,18 @@ pub(crate) fn in_conclusion(
             };
             Ok(Step::goes(place, role))
         }
-        Answer::TooLong => Ok(Step::LongName {
-            uses: Uses::only(role),
-        }),
+        Answer::TooLong => {
+            drop((context, default, formula));
+            Ok(Step::LongName {
+                uses: Uses::only(role),
+            })
+        }
         Answer::Refused => match formula.finish(alloc)? {
             Some(whole) => conclusion_ends(context, default, whole, token),
-            None => Ok(Step::Refused),
+            None => {
+                drop((context, default));
+                Ok(Step::Refused)
+            }
         },
     }
 }
@@ -282,10 +300,16 @@ fn first_of_formula(alloc: Global, context: Context, token: &[u8]) -> Result<Ste
     let role = formula_role(&formula, token);
     match formula.take(alloc, token)? {
         Answer::Taken => Ok(Step::begins(Place::InFact { context, formula }, role)),
-        Answer::TooLong => Ok(Step::LongName {
-            uses: Uses::first(role),
-        }),
-        Answer::Refused => Ok(Step::Refused),
+        Answer::TooLong => {
+            drop((context, formula));
+            Ok(Step::LongName {
+                uses: Uses::first(role),
+            })
+        }
+        Answer::Refused => {
+            drop((context, formula));
+            Ok(Step::Refused)
+        }
     }
 }
 

@@ -111,7 +111,7 @@ impl Reader {
     fn go_on(&mut self, place: Place)
         ensures { self.new ≡ record self.old { place = place } }
     {
-        self.place = place;
+        drop(mem::replace(&mut self.place, place));
     }
 
     /// The read that was read last, where a rule may go on with one more.
@@ -158,9 +158,15 @@ impl Reader {
             bridges,
             place,
         } = self;
-        match place {
-            Place::Between => Some(Parts { contexts, bridges }),
-            _ => None,
+        match &place {
+            Place::Between => {
+                drop(place);
+                Some(Parts { contexts, bridges })
+            }
+            _ => {
+                drop(place);
+                None
+            }
         }
     }
 }

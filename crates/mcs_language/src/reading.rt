@@ -100,6 +100,11 @@ pub fn read_system(alloc: Global, bytes: &[u8]) -> Result<System, TextFault>
 {
     let spans = token_list(alloc, bytes)?;
     let mut reading = Reading::new(alloc);
-    reading.read(alloc, bytes, &spans)?;
-    reading.system(alloc, bytes)
+    match reading.read(alloc, bytes, &spans) {
+        Ok(()) => reading.system(alloc, bytes),
+        Err(fault) => {
+            drop(reading);
+            Err(fault)
+        }
+    }
 }
