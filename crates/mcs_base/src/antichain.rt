@@ -87,21 +87,3 @@ impl Antichain {
         &self.sets
     }
 }
-
-#[cfg(test)]
-mod tests {
-    use super::*;
-    use std::test::Fail;
-
-    #[test]
-    fn keeps_the_minimal_ones(rt: HostRuntime) -> Result<(), Fail> {
-        let mut antichain = Antichain::new(rt.alloc());
-        assert!(rt; antichain.members().is_empty());
-        antichain.reserve(2)?;
-        assert!(rt; antichain.insert_min(Marks::one(0).with(2))?);
-        assert!(rt; antichain.insert_min(Marks::one(2))?);
-        assert!(rt; !antichain.insert_min(Marks::one(2).with(4))?);
-        assert_eq!(rt; antichain.members(), [Marks::one(2)].as_slice());
-        Ok(())
-    }
-}

@@ -9,8 +9,6 @@ mod marks;
 mod memory;
 mod pair;
 mod partial;
-#[cfg(test)]
-mod tests;
 mod text;
 mod vars;
 mod words;

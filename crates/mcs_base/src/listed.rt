@@ -33,34 +33,3 @@ pub fn list_rule_sets(sets: &mut Vec<Active>)
     sets.sort_unstable();
     sets.dedup();
 }
-
-#[cfg(test)]
-mod tests {
-    use super::*;
-    use std::test::Fail;
-
-    #[test]
-    fn lists(rt: HostRuntime) -> Result<(), Fail> {
-        let (zero, one, both) = (Vars::one(0), Vars::one(1), Vars::numbered(0b11));
-        let mut states = vec![in rt.alloc(); one, Vars::empty(), zero, one, both]?;
-        list_states(&mut states);
-        assert_eq!(rt;
-            states.as_slice(),
-            [both, zero, one, Vars::empty()].as_slice()
-        );
-
-        let (outer, inner) = (Marks::one(0).with(3), Marks::one(1).with(2));
-        let mut pairs = vec![in rt.alloc(); inner, outer, Marks::one(3), Marks::empty(), inner]?;
-        list_pairs(&mut pairs);
-        assert_eq!(rt;
-            pairs.as_slice(),
-            [Marks::empty(), Marks::one(3), outer, inner].as_slice()
-        );
-
-        let (low, high) = (Active::one(0), Active::one(1));
-        let mut sets = vec![in rt.alloc(); high, low, high, low.with(1)]?;
-        list_rule_sets(&mut sets);
-        assert_eq!(rt; sets.as_slice(), [low, high, low.with(1)].as_slice());
-        Ok(())
-    }
-}

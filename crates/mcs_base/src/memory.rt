@@ -27,20 +27,3 @@ impl<T: Drop> From<AllocFailed<T>> for Memory {
         Memory
     }
 }
-
-#[cfg(test)]
-mod tests {
-    use super::*;
-    use std::test::Fail;
-
-    #[test]
-    fn comes_of_each_refusal(rt: HostRuntime) -> Result<(), Fail> {
-        let memory = Memory::from(AllocError);
-        assert_eq!(rt; memory, Memory::from(AllocFailed { value: 1 }));
-        assert_eq!(rt;
-            format!(in rt.alloc(); "{memory}")?.as_str(),
-            "out of memory"
-        );
-        Ok(())
-    }
-}

@@ -70,18 +70,3 @@ impl Pair {
         part(self.marks, 1)
     }
 }
-
-#[cfg(test)]
-mod tests {
-    use super::*;
-
-    #[test]
-    fn splits_marks(rt: HostRuntime) {
-        let pair = Pair::new(Marks::one(0).with(3).with(126).with(127));
-        assert_eq!(rt; pair.removed(), Active::one(0).with(63));
-        assert_eq!(rt; pair.forced(), Active::one(1).with(63));
-        assert_eq!(rt; pair.marks(), Marks::one(127).with(126).with(3).with(0));
-        assert_eq!(rt; Pair::new(Marks::empty()).removed(), Active::empty());
-        assert_eq!(rt; Pair::new(Marks::empty()).forced(), Active::empty());
-    }
-}

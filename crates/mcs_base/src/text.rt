@@ -63,22 +63,3 @@ impl Text {
         self.bytes.clear();
     }
 }
-
-#[cfg(test)]
-mod tests {
-    use super::*;
-    use std::test::Fail;
-
-    #[test]
-    fn grows(rt: HostRuntime) -> Result<(), Fail> {
-        let mut text = Text::new(rt.alloc());
-        text.push(b"n = ")?;
-        text.push_number(1204)?;
-        assert_eq!(rt; text.bytes(), b"n = 1204".as_slice());
-        text.clear();
-        text.push_number(0)?;
-        text.push_number(u64::MAX)?;
-        assert_eq!(rt; text.bytes(), b"018446744073709551615".as_slice());
-        Ok(())
-    }
-}

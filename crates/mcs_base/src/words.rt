@@ -78,33 +78,3 @@ pub fn is_name(bytes: &[u8]) -> bool
 {
     is_word(bytes) && !is_reserved(bytes) && bytes.len() <= MOST_BYTES
 }
-
-#[cfg(test)]
-mod tests {
-    use super::*;
-
-    #[test]
-    fn tells_names_from_words(rt: HostRuntime) {
-        let (longest, too_long) = ([b'n'; 64], [b'n'; 65]);
-        for (bytes, word, reserved, name) in [
-            (b"".as_slice(), false, false, false),
-            (b"9a".as_slice(), false, false, false),
-            (b"a-b".as_slice(), false, false, false),
-            (b"_x9".as_slice(), true, false, true),
-            (b"Know".as_slice(), true, false, true),
-            (b"know".as_slice(), true, true, false),
-            (longest.as_slice(), true, false, true),
-            (too_long.as_slice(), true, false, false),
-        ] {
-            assert_eq!(rt; is_word(bytes), word, "{bytes:?}");
-            assert_eq!(rt; is_reserved(bytes), reserved, "{bytes:?}");
-            assert_eq!(rt; is_name(bytes), name, "{bytes:?}");
-        }
-    }
-
-    #[test]
-    fn tells_letters_from_digits(rt: HostRuntime) {
-        assert!(rt; is_letter(b'_') && !is_letter(b'9') && !is_letter(b'-'));
-        assert!(rt; is_word_byte(b'_') && is_word_byte(b'9') && !is_word_byte(b'-'));
-    }
-}

@@ -33,18 +33,3 @@ impl Iterator for Members {
         Some(least)
     }
 }
-
-#[cfg(test)]
-mod tests {
-    use super::*;
-
-    #[test]
-    fn goes_upwards(rt: HostRuntime) {
-        let mut members = SmallSet::one(127).with(0).with(64).members();
-        assert_eq!(rt; members.next(), Some(0));
-        assert_eq!(rt; members.next(), Some(64));
-        assert_eq!(rt; members.next(), Some(127));
-        assert_eq!(rt; members.next(), None);
-        assert_eq!(rt; members.next(), None);
-    }
-}

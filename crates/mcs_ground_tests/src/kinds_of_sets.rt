@@ -1,0 +1,59 @@
+//! The calls of the three kinds of sets, at the least and the greatest numbers that they may hold.
+
+use mcs_base::{Active, Marks, Vars, pair_before, state_before};
+
+/// Whether each call of one kind of sets, whose greatest number is `$top`, answers rightly.
+macro_rules! are_right {
+    ($Set:ident, $top:literal) => {{
+        let (low, high) = ($Set::one(0), $Set::one($top));
+        let ends = low.with($top);
+        let mut right = ends.has(0) && !ends.has(7) && ends.has($top);
+        for (set, count, first, meets_high, within_high) in [
+            ($Set::empty(), 0, None, false, true),
+            (low.union(high), 2, Some(0), true, false),
+            (ends.without(0), 1, Some($top), true, true),
+            (ends.common(high), 1, Some($top), true, true),
+            (ends.minus(high), 1, Some(0), false, false),
+        ] {
+            right = right
+                && set.count() == count
+                && set.first() == first
+                && set.meets(high) == meets_high
+                && set.within(high) == within_high;
+        }
+        let mut members = ends.members();
+        right && members.next() == Some(0) && members.next() == Some($top) && members.next() == None
+    }};
+}
+
+fn are_vars_right() -> bool {
+    are_right!(Vars, 63)
+}
+
+fn are_active_right() -> bool {
+    are_right!(Active, 63)
+}
+
+fn are_marks_right() -> bool {
+    are_right!(Marks, 127)
+}
+
+#[test]
+fn vars_reach_63(rt: HostRuntime) {
+    assert!(rt; are_vars_right());
+    assert!(rt; Vars::numbered(0b101).number() == 0b101);
+    let (last, none) = (Vars::one(63), Vars::empty());
+    assert!(rt; state_before(last, none) && !state_before(none, last));
+}
+
+#[test]
+fn active_reaches_63(rt: HostRuntime) {
+    assert!(rt; are_active_right());
+}
+
+#[test]
+fn marks_reach_127(rt: HostRuntime) {
+    assert!(rt; are_marks_right());
+    let (last, none) = (Marks::one(127), Marks::empty());
+    assert!(rt; pair_before(none, last) && !pair_before(last, none));
+}
