@@ -13,6 +13,3 @@ mod texts;
 
 pub use command::run;
 pub use ending::Status;
-
-#[cfg(test)]
-mod tests;

@@ -10,8 +10,6 @@ mod number;
 mod reading;
 mod setting;
 mod tally;
-#[cfg(test)]
-mod tests;
 
 pub use job::{Job, WordsFault};
 pub use laws::one_job;

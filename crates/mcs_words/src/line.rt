@@ -20,13 +20,9 @@ fn bare_line<'a>(alloc: Global) -> Command<'a>
 pub(crate) fn line<'a>(alloc: Global) -> Result<Command<'a>, AllocError>
     ensures { IfOk result (λ c. app_of c ≡ line) }
 {
-    let job = Arg::new(alloc, "job").required(true);
-    let file = Arg::new(alloc, "file").required(true);
-    let budget = Arg::new(alloc, "budget").long("budget");
-    let workers = Arg::new(alloc, "workers").long("workers");
     bare_line(alloc)
-        .arg(job)?
-        .arg(file)?
-        .arg(budget)?
-        .arg(workers)
+        .arg(Arg::new(alloc, "job").required(true))?
+        .arg(Arg::new(alloc, "file").required(true))?
+        .arg(Arg::new(alloc, "budget").long("budget"))?
+        .arg(Arg::new(alloc, "workers").long("workers"))
 }

@@ -1,0 +1,18 @@
+//! Tests of mcs_words and mcs_top, over the libraries alone: words that ask for a job, and runs over devices in
+//! memory, from the text of a system to its listing.
+#![tactic(auto)]
+
+#[cfg(test)]
+mod bounds;
+#[cfg(test)]
+mod devices;
+#[cfg(test)]
+mod equilibria;
+#[cfg(test)]
+mod refusals;
+#[cfg(test)]
+mod runs;
+#[cfg(test)]
+mod usage;
+#[cfg(test)]
+mod words;

@@ -1,0 +1,61 @@
+//! Texts that are refused, and what is noted of them.
+
+use crate::runs::{is_refused, repeated};
+use std::test::Fail;
+
+const REFUSALS: [(&str, &str); 8] = [
+    (
+        "context c1 program { a. }\nbridge r1: c1:b if c1:",
+        "mcs: refused: F1 at 48\n",
+    ),
+    (
+        "context c1 program { a. }\nbridge r1: c1:b if c9:a.",
+        "mcs: refused: F2 at 45\n",
+    ),
+    (
+        "context c1 program {}\ncontext c1 program {}",
+        "mcs: refused: F3 at 30\n",
+    ),
+    (
+        "context c1 program {}\nbridge r1: c1:~a.",
+        "mcs: refused: F4 at 36\n",
+    ),
+    (
+        "context c classical { aaaaaaaaaabbbbbbbbbbccccccccccddddddddddeeeeeeeeeeffffffffff12345. }",
+        "mcs: refused: F5 at 22: name_bytes 64\n",
+    ),
+    // A kind is told before the number of variables, and both after the text's faults.
+    (
+        "context c1 classical {} context c2 default {}",
+        "mcs: refused: kind\n",
+    ),
+    (
+        "context c program {} bridge r: c:a if c:a1, c:a2, c:a3, c:a4, c:a5, c:a6, c:a7, c:a8, c:a9.",
+        "mcs: refused: kind\n",
+    ),
+    (
+        "context c classical {} bridge r: c:a if c:a1, c:a2, c:a3, c:a4, c:a5, c:a6, c:a7, c:a8, c:a9.",
+        "mcs: refused: size\n",
+    ),
+];
+
+#[test]
+fn texts_are_refused_for_what_is_wrong_with_them(rt: HostRuntime) -> Result<(), Fail> {
+    for (text, line) in REFUSALS {
+        assert!(rt; is_refused(rt.alloc(), text.as_bytes(), line)?, "{text}");
+    }
+    Ok(())
+}
+
+#[test]
+fn a_large_formula_is_refused(rt: HostRuntime) -> Result<(), Fail> {
+    let text = repeated(rt.alloc(), "context c1 classical { ", "~", 512, "p. }")?;
+    assert!(rt;
+        is_refused(
+            rt.alloc(),
+            &text,
+            "mcs: refused: F5 at 535: formula_size 512\n"
+        )?
+    );
+    Ok(())
+}
