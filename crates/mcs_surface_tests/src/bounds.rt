@@ -1,69 +1,79 @@
 //! Systems and files at the bounds of what is evaluated.
 
-use crate::runs::{JOB, SOUND, is_listed, is_refused, ran, repeated};
-use mcs_base::Memory;
+use crate::runs::{JOB, SOUND, is_listed, is_refused, repeated, sink_of, status_of};
+use mcs_base::{Memory, Text};
 use std::alloc::Global;
 use std::test::Fail;
 
 /// Four times over, that each atom up to number 64 follows from the one before: 253 items with the first atom.
-fn chain(alloc: Global) -> Result<Vec<u8>, Memory> {
-    let mut text = Vec::from_slice(alloc, b"context c1 classical { a1.")?;
+fn push_chain(text: &mut Text) -> Result<(), Memory> {
+    text.push(b"context c1 classical { a1.")?;
     for number in 0..252 {
-        let (last, next) = (number % 63 + 1, number % 63 + 2);
-        text.extend_from_slice(format!(in alloc; " a{last} -> a{next}.")?.as_bytes())?;
+        text.push(b" a")?;
+        text.push_number(number % 63 + 1)?;
+        text.push(b" -> a")?;
+        text.push_number(number % 63 + 2)?;
+        text.push(b".")?;
     }
-    text.extend_from_slice(b" } context c2 classical {} bridge r1: c2:x if c1:a64.")?;
-    Ok(text)
+    text.push(b" } context c2 classical {} bridge r1: c2:x if c1:a64.")
 }
 
 #[test]
 fn what_follows_in_64_steps_is_believed(rt: HostRuntime) -> Result<(), Fail> {
-    let text = chain(rt.alloc())?;
+    let mut text = Text::new(rt.alloc());
+    push_chain(&mut text)?;
     let listing =
         "mcs 1: 2 contexts, 1 rules, 1 variables\nequilibrium 1: {c1:a64} applicable {r1}\nconsistent\nend: 1 equilibria\n";
-    assert!(rt; is_listed(rt.alloc(), &text, listing)?);
+    assert!(rt; is_listed(rt.alloc(), text.bytes(), listing)?);
     Ok(())
 }
 
 /// That each pigeon sits in a hole and no two in one, and two rules that read whether the first one sits in the first.
-fn pigeons(alloc: Global, count: u32, holes: u32) -> Result<Vec<u8>, Memory> {
-    let mut text = Vec::from_slice(alloc, b"context c classical {")?;
+fn push_pigeons(text: &mut Text, count: u64, holes: u64) -> Result<(), Memory> {
+    text.push(b"context c classical {")?;
     for pigeon in 0..count {
-        push_seats(alloc, &mut text, pigeon, holes)?;
-        push_apart(alloc, &mut text, pigeon, holes)?;
+        push_seats(text, pigeon, holes)?;
+        push_apart(text, pigeon, holes)?;
     }
-    text.extend_from_slice(
-        b" } context d classical {} bridge r: d:x if c:p0_0. bridge s: d:y if c:~p0_0.",
-    )?;
-    Ok(text)
+    text.push(b" } context d classical {} bridge r: d:x if c:p0_0. bridge s: d:y if c:~p0_0.")
+}
+
+/// The atom that the pigeon sits in the hole.
+fn push_seat(text: &mut Text, pigeon: u64, hole: u64) -> Result<(), Memory> {
+    text.push(b"p")?;
+    text.push_number(pigeon)?;
+    text.push(b"_")?;
+    text.push_number(hole)
 }
 
 /// That the pigeon sits in a hole.
-fn push_seats(alloc: Global, text: &mut Vec<u8>, pigeon: u32, holes: u32) -> Result<(), Memory> {
+fn push_seats(text: &mut Text, pigeon: u64, holes: u64) -> Result<(), Memory> {
     for hole in 0..holes {
-        let sign = if hole == 0 { "" } else { " |" };
-        text.extend_from_slice(format!(in alloc; "{sign} p{pigeon}_{hole}")?.as_bytes())?;
+        text.push(if hole == 0 { b" " } else { b" | " })?;
+        push_seat(text, pigeon, hole)?;
     }
-    text.extend_from_slice(b".")?;
-    Ok(())
+    text.push(b".")
 }
 
 /// That the pigeon sits in no hole with one before it.
-fn push_apart(alloc: Global, text: &mut Vec<u8>, pigeon: u32, holes: u32) -> Result<(), Memory> {
+fn push_apart(text: &mut Text, pigeon: u64, holes: u64) -> Result<(), Memory> {
     for other in 0..pigeon {
         for hole in 0..holes {
-            text.extend_from_slice(format!(in alloc;
-                " ~(p{pigeon}_{hole} & p{other}_{hole})."
-            )?.as_bytes())?;
+            text.push(b" ~(")?;
+            push_seat(text, pigeon, hole)?;
+            text.push(b" & ")?;
+            push_seat(text, other, hole)?;
+            text.push(b").")?;
         }
     }
     Ok(())
 }
 
 /// Whether this is the listing where so many pigeons sit in so many holes.
-fn sit(alloc: Global, count: u32, holes: u32, listing: &str) -> Result<bool, Memory> {
-    let text = pigeons(alloc, count, holes)?;
-    is_listed(alloc, &text, listing)
+fn sit(alloc: Global, count: u64, holes: u64, listing: &str) -> Result<bool, Memory> {
+    let mut text = Text::new(alloc);
+    push_pigeons(&mut text, count, holes)?;
+    is_listed(alloc, text.bytes(), listing)
 }
 
 #[test]
@@ -79,20 +89,28 @@ fn pigeons_need_holes(rt: HostRuntime) -> Result<(), Fail> {
     Ok(())
 }
 
-/// A context without formulas, of 24 bytes with its line feed, and spaces and line feeds behind it.
+/// A context without formulas, in 24 bytes with the line feed, and spaces and line feeds behind it.
 fn blanks(alloc: Global, back: &str) -> Result<Vec<u8>, Memory> {
     repeated(alloc, "context c classical { }\n", " \n", 524_276, back)
 }
 
-#[test]
-fn files_are_taken_up_to_a_length(rt: HostRuntime) -> Result<(), Fail> {
-    let text = blanks(rt.alloc(), "")?;
+fn is_longest_taken(alloc: Global) -> Result<bool, Memory> {
+    let text = blanks(alloc, "")?;
     let listing =
         "mcs 1: 1 contexts, 0 rules, 0 variables\nequilibrium 1: {} applicable {}\nconsistent\nend: 1 equilibria\n";
-    assert!(rt; text.len() == 1_048_576 && is_listed(rt.alloc(), &text, listing)?);
-    let text = blanks(rt.alloc(), "\n")?;
+    Ok(text.len() == 1_048_576 && is_listed(alloc, &text, listing)?)
+}
+
+fn is_longer_refused(alloc: Global) -> Result<bool, Memory> {
+    let text = blanks(alloc, "\n")?;
     let line = "mcs: refused: file longer than 1048576\n";
-    assert!(rt; text.len() == 1_048_577 && is_refused(rt.alloc(), &text, line)?);
+    Ok(text.len() == 1_048_577 && is_refused(alloc, &text, line)?)
+}
+
+#[test]
+fn files_are_taken_up_to_a_length(rt: HostRuntime) -> Result<(), Fail> {
+    assert!(rt; is_longest_taken(rt.alloc())?);
+    assert!(rt; is_longer_refused(rt.alloc())?);
     Ok(())
 }
 
@@ -101,7 +119,7 @@ const EIGHT_FREE: &str = "context c classical {}
 bridge r1: c:a1 if c:a1. bridge r2: c:a2 if c:a2. bridge r3: c:a3 if c:a3. bridge r4: c:a4 if c:a4.
 bridge r5: c:a5 if c:a5. bridge r6: c:a6 if c:a6. bridge r7: c:a7 if c:a7. bridge r8: c:a8 if c:a8.";
 
-/// The state that holds the first variables comes first, so the one with all of them.
+/// Of two states the one that holds the first variable in which they differ comes first, so the full one does.
 const EIGHT_FREE_FRONT: &str =
     "mcs 1: 1 contexts, 8 rules, 8 variables\nequilibrium 1: {c:a1, c:a2, c:a3, c:a4, c:a5, c:a6, c:a7, c:a8} applicable {r1, r2, r3, r4, r5, r6, r7, r8}\nequilibrium 2: {c:a1, c:a2, c:a3, c:a4, c:a5, c:a6, c:a7} applicable {r1, r2, r3, r4, r5, r6, r7}\n";
 
@@ -119,38 +137,53 @@ fn lines(bytes: &[u8]) -> usize {
     count
 }
 
-/// A heading, 256 equilibria, a verdict and an end. The lines of the equilibria have 31 bytes each beside numbers,
-/// variables and rules, and 660 digits; of the 1024 members of all sets each has 4 bytes as a variable and 2 as a
-/// rule, and 2 more for what separates it, less 2 of each of 255 sets, twice. The other lines have 40, 11 and 20.
+/// Whether this is a heading, 256 equilibria, a verdict and an end. The lines of the equilibria have 31 bytes each
+/// beside numbers, variables and rules, and 660 digits in all. The 1024 members of their states have 4 bytes each and
+/// as many rules 2; what separates two neighbours, 769 times in the states and as often in the rules, has 2. The other
+/// lines have 40, 11 and 20.
+fn are_all_sets(written: &[u8]) -> bool {
+    lines(written) == 259
+        && written.len() == 256 * 31 + 660 + 1024 * 6 + 769 * 4 + 71
+        && written.starts_with(EIGHT_FREE_FRONT.as_bytes())
+        && written.ends_with(EIGHT_FREE_BACK.as_bytes())
+}
+
 #[test]
 fn all_sets_of_8_variables_are_listed(rt: HostRuntime) -> Result<(), Fail> {
-    let (status, sink) = ran(rt.alloc(), &JOB, EIGHT_FREE.as_bytes(), SOUND)?;
-    assert!(rt; status == 0 && sink.noted().is_empty());
-    assert!(rt; lines(sink.written()) == 259 && sink.written().len() == 17_887);
-    assert!(rt; sink.written().starts_with(EIGHT_FREE_FRONT.as_bytes()));
-    assert!(rt; sink.written().ends_with(EIGHT_FREE_BACK.as_bytes()));
+    let mut sink = sink_of(rt.alloc(), SOUND)?;
+    let status = status_of(rt.alloc(), &JOB, EIGHT_FREE.as_bytes(), 0, &mut sink)?;
+    assert!(rt; status == 0 && sink.noted().is_empty() && are_all_sets(sink.written()));
     Ok(())
 }
 
-/// 64 contexts and 64 rules, of which 12 go into the first context, and one into each of the last 52: the last
-/// context supports the first, and the first the others.
-fn wide(alloc: Global) -> Result<Vec<u8>, Memory> {
-    let mut text = Vec::new(alloc);
-    for number in 0..64 {
-        text.extend_from_slice(format!(in alloc;
-            "context n{number} classical {{}}\n"
-        )?.as_bytes())?;
+/// Appends the row with the number in place of each `#`.
+fn push_row(text: &mut Text, row: &str, number: u64) -> Result<(), Memory> {
+    let mut is_first = true;
+    for part in row.split('#') {
+        if !is_first {
+            text.push_number(number)?;
+        }
+        text.push(part.as_bytes())?;
+        is_first = false;
     }
-    for number in 0..12 {
-        text.extend_from_slice(format!(in alloc;
-            "bridge r{number}: n0:x{number} if n63:y.\n"
-        )?.as_bytes())?;
+    Ok(())
+}
+
+/// Appends the row for each number from the first up to the one before the end.
+fn push_rows(text: &mut Text, row: &str, first: u64, end: u64) -> Result<(), Memory> {
+    for number in first..end {
+        push_row(text, row, number)?;
     }
-    for number in 12..64 {
-        text.extend_from_slice(format!(in alloc;
-            "bridge r{number}: n{number}:y if n0:x11.\n"
-        )?.as_bytes())?;
-    }
+    Ok(())
+}
+
+/// 64 contexts and 64 rules, of which 12 go into the first context and one into each of the last 52: the last context
+/// supports the first, and the first the others.
+fn wide(alloc: Global) -> Result<Text, Memory> {
+    let mut text = Text::new(alloc);
+    push_rows(&mut text, "context n# classical {}\n", 0, 64)?;
+    push_rows(&mut text, "bridge r#: n0:x# if n63:y.\n", 0, 12)?;
+    push_rows(&mut text, "bridge r#: n#:y if n0:x11.\n", 12, 64)?;
     Ok(text)
 }
 
@@ -160,6 +193,6 @@ const WIDE_LISTING: &str =
 #[test]
 fn as_many_contexts_and_rules_as_may_be_are_listed(rt: HostRuntime) -> Result<(), Fail> {
     let text = wide(rt.alloc())?;
-    assert!(rt; is_listed(rt.alloc(), &text, WIDE_LISTING)?);
+    assert!(rt; is_listed(rt.alloc(), text.bytes(), WIDE_LISTING)?);
     Ok(())
 }

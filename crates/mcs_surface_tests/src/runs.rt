@@ -50,19 +50,24 @@ fn shelf_of(alloc: Global, text: &[u8], failing: u64) -> Result<MemoryShelf, Mem
     Ok(MemoryShelf::new(files, [failing].to_vec(alloc)?))
 }
 
-/// What the words give over a file `f` of this text: the status by its number, and the sink.
-pub fn ran(
+/// The sink of these devices.
+pub fn sink_of(alloc: Global, devices: Devices) -> Result<MemorySink, Memory> {
+    let fails = [devices.failing_write].to_vec(alloc)?;
+    MemorySink::new(alloc, fails, devices.most.max(1), ROOM)
+}
+
+/// What the words give over a file `f` of this text: the status by its number.
+pub fn status_of(
     alloc: Global,
     words: &[&str],
     text: &[u8],
-    devices: Devices,
-) -> Result<(u8, MemorySink), Memory> {
+    failing_call: u64,
+    sink: &mut MemorySink,
+) -> Result<u8, Memory> {
     let strings = strings_of(alloc, words)?;
-    let mut shelf = shelf_of(alloc, text, devices.failing_call)?;
-    let fails = [devices.failing_write].to_vec(alloc)?;
-    let mut sink = MemorySink::new(alloc, fails, devices.most.max(1), ROOM)?;
-    let status = run(alloc, &strings, &mut shelf, &mut sink, &IdleGate);
-    Ok((status as u8, sink))
+    let mut shelf = shelf_of(alloc, text, failing_call)?;
+    let status = run(alloc, &strings, &mut shelf, sink, &IdleGate);
+    Ok(status as u8)
 }
 
 /// Whether the words end with this status over a file `f` of this text, with this written and this noted.
@@ -72,21 +77,22 @@ pub fn ends(
     text: &[u8],
     devices: Devices,
     status: u8,
-    written: &[u8],
+    written: &str,
     noted: &str,
 ) -> Result<bool, Memory> {
-    let (ended, sink) = ran(alloc, words, text, devices)?;
-    Ok(ended == status && sink.written() == written && sink.noted() == noted.as_bytes())
+    let mut sink = sink_of(alloc, devices)?;
+    let ended = status_of(alloc, words, text, devices.failing_call, &mut sink)?;
+    Ok(ended == status && sink.written() == written.as_bytes() && sink.noted() == noted.as_bytes())
 }
 
 /// Whether this is the whole listing of the system of this text, and nothing is noted.
 pub fn is_listed(alloc: Global, text: &[u8], listing: &str) -> Result<bool, Memory> {
-    ends(alloc, &JOB, text, SOUND, 0, listing.as_bytes(), "")
+    ends(alloc, &JOB, text, SOUND, 0, listing, "")
 }
 
 /// Whether the text is refused with this line, and nothing is written.
 pub fn is_refused(alloc: Global, text: &[u8], line: &str) -> Result<bool, Memory> {
-    ends(alloc, &JOB, text, SOUND, 3, b"", line)
+    ends(alloc, &JOB, text, SOUND, 3, "", line)
 }
 
 /// A front, then a piece so many times, then a back.

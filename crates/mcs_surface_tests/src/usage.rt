@@ -22,9 +22,9 @@ const NO_JOBS: [&[&str]; 12] = [
 fn words_that_are_no_job_are_told(rt: HostRuntime) -> Result<(), Fail> {
     let text = SELF_SUPPORT.as_bytes();
     let line = "mcs: usage: mcs JOB FILE [REPORT] [--budget N] [--workers N] [--proof]\n";
-    for words in NO_JOBS {
+    for words in &NO_JOBS {
         assert!(rt;
-            ends(rt.alloc(), words, text, SOUND, 2, b"", line)?,
+            ends(rt.alloc(), words, text, SOUND, 2, "", line)?,
             "{words:?}"
         );
     }
@@ -39,8 +39,8 @@ const JOBS: [&[&str]; 3] = [
 
 #[test]
 fn options_and_words_after_two_dashes_are_taken(rt: HostRuntime) -> Result<(), Fail> {
-    let (text, listing) = (SELF_SUPPORT.as_bytes(), SELF_SUPPORT_LISTING.as_bytes());
-    for words in JOBS {
+    let (text, listing) = (SELF_SUPPORT.as_bytes(), SELF_SUPPORT_LISTING);
+    for words in &JOBS {
         assert!(rt;
             ends(rt.alloc(), words, text, SOUND, 0, listing, "")?,
             "{words:?}"
