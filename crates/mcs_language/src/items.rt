@@ -136,6 +136,7 @@ fn fact_ends(alloc: Global, context: Context, whole: Formula, token: &[u8]) -> R
         };
         return Ok(Step::goes(place, Role::BeginsDefault));
     }
+    drop((context, whole));
     Ok(Step::Refused)
 }
 
@@ -149,21 +150,29 @@ pub(crate) fn in_fact(
     ensures { (s : PartText) (w : WrittenContext) (f : PartFormula) → context_of context ≡ context_in w → IsReader formula f → IfOk result (λ step. IsStep step (of_context w.name) s token.now (written.in_fact s w f token.now)) }
 {
     let role = formula_role(&formula, token);
-    match formula.take(alloc, token)? {
-        Answer::Taken => Ok(Step::goes(Place::InFact { context, formula }, role)),
-        Answer::TooLong => {
+    match formula.take(alloc, token) {
+        Ok(Answer::Taken) => Ok(Step::goes(Place::InFact { context, formula }, role)),
+        Ok(Answer::TooLong) => {
             drop((context, formula));
             Ok(Step::LongName {
                 uses: Uses::only(role),
             })
         }
-        Answer::Refused => match formula.finish(alloc)? {
-            Some(whole) => fact_ends(alloc, context, whole, token),
-            None => {
+        Ok(Answer::Refused) => match formula.finish(alloc) {
+            Ok(Some(whole)) => fact_ends(alloc, context, whole, token),
+            Ok(None) => {
                 drop(context);
                 Ok(Step::Refused)
             }
+            Err(fault) => {
+                drop(context);
+                Err(fault)
+            }
         },
+        Err(fault) => {
+            drop((context, formula));
+            Err(fault)
+        }
     }
 }
 
@@ -198,6 +207,7 @@ fn just_ends(
         };
         return Ok(Step::goes(place, Role::Nothing));
     }
+    drop((context, default, whole));
     Ok(Step::Refused)
 }
 
@@ -213,8 +223,8 @@ pub(crate) fn in_just(
         → IfOk result (λ step. IsStep step (of_context w.name) s token.now (written.in_just s w d f token.now)) }
 {
     let role = formula_role(&formula, token);
-    match formula.take(alloc, token)? {
-        Answer::Taken => {
+    match formula.take(alloc, token) {
+        Ok(Answer::Taken) => {
             let place = Place::InJust {
                 context,
                 default,
@@ -222,19 +232,27 @@ pub(crate) fn in_just(
             };
             Ok(Step::goes(place, role))
         }
-        Answer::TooLong => {
+        Ok(Answer::TooLong) => {
             drop((context, default, formula));
             Ok(Step::LongName {
                 uses: Uses::only(role),
             })
         }
-        Answer::Refused => match formula.finish(alloc)? {
-            Some(whole) => just_ends(alloc, context, default, whole, token),
-            None => {
+        Ok(Answer::Refused) => match formula.finish(alloc) {
+            Ok(Some(whole)) => just_ends(alloc, context, default, whole, token),
+            Ok(None) => {
                 drop((context, default));
                 Ok(Step::Refused)
             }
+            Err(fault) => {
+                drop((context, default));
+                Err(fault)
+            }
         },
+        Err(fault) => {
+            drop((context, default, formula));
+            Err(fault)
+        }
     }
 }
 
@@ -252,6 +270,7 @@ fn conclusion_ends(
         let context = with_default(context, concluded(default, whole))?;
         return Ok(Step::goes(Place::NextItem { context }, Role::Nothing));
     }
+    drop((context, default, whole));
     Ok(Step::Refused)
 }
 
@@ -267,8 +286,8 @@ pub(crate) fn in_conclusion(
         → IfOk result (λ step. IsStep step (of_context w.name) s token.now (written.in_conclusion s w d f token.now)) }
 {
     let role = formula_role(&formula, token);
-    match formula.take(alloc, token)? {
-        Answer::Taken => {
+    match formula.take(alloc, token) {
+        Ok(Answer::Taken) => {
             let place = Place::InConclusion {
                 context,
                 default,
@@ -276,19 +295,27 @@ pub(crate) fn in_conclusion(
             };
             Ok(Step::goes(place, role))
         }
-        Answer::TooLong => {
+        Ok(Answer::TooLong) => {
             drop((context, default, formula));
             Ok(Step::LongName {
                 uses: Uses::only(role),
             })
         }
-        Answer::Refused => match formula.finish(alloc)? {
-            Some(whole) => conclusion_ends(context, default, whole, token),
-            None => {
+        Ok(Answer::Refused) => match formula.finish(alloc) {
+            Ok(Some(whole)) => conclusion_ends(context, default, whole, token),
+            Ok(None) => {
                 drop((context, default));
                 Ok(Step::Refused)
             }
+            Err(fault) => {
+                drop((context, default));
+                Err(fault)
+            }
         },
+        Err(fault) => {
+            drop((context, default, formula));
+            Err(fault)
+        }
     }
 }
 
@@ -298,17 +325,21 @@ fn first_of_formula(alloc: Global, context: Context, token: &[u8]) -> Result<Ste
 {
     let mut formula = FormulaReader::new(alloc);
     let role = formula_role(&formula, token);
-    match formula.take(alloc, token)? {
-        Answer::Taken => Ok(Step::begins(Place::InFact { context, formula }, role)),
-        Answer::TooLong => {
+    match formula.take(alloc, token) {
+        Ok(Answer::Taken) => Ok(Step::begins(Place::InFact { context, formula }, role)),
+        Ok(Answer::TooLong) => {
             drop((context, formula));
             Ok(Step::LongName {
                 uses: Uses::first(role),
             })
         }
-        Answer::Refused => {
+        Ok(Answer::Refused) => {
             drop((context, formula));
             Ok(Step::Refused)
+        }
+        Err(fault) => {
+            drop((context, formula));
+            Err(fault)
         }
     }
 }
