@@ -356,19 +356,26 @@ fn read_goes_on(
         };
         return Ok(Step::Moves { place, uses });
     }
-    let Some(belief) = belief.finish(alloc)? else {
-        return Ok(Step::Refused);
-    };
-    let place = Place::AfterRead {
-        bridge,
-        denied,
-        read: NamedRead { context, belief },
-    };
-    Ok(Step::Moves {
-        place,
-        uses: Uses {
-            ends_read: true,
-            ..uses
-        },
-    })
+    match belief.finish(alloc) {
+        Ok(Some(belief)) => {
+            let place = Place::AfterRead {
+                bridge,
+                denied,
+                read: NamedRead { context, belief },
+            };
+            let uses = Uses {
+                ends_read: true,
+                ..uses
+            };
+            Ok(Step::Moves { place, uses })
+        }
+        Ok(None) => {
+            drop((bridge, context));
+            Ok(Step::Refused)
+        }
+        Err(fault) => {
+            drop((bridge, context));
+            Err(fault)
+        }
+    }
 }

@@ -74,7 +74,10 @@ fn with_fact(context: Context, fact: Formula) -> Result<Context, Memory>
             items.push(TheoryItem::Fact(fact))?;
             Kb::DefaultTheory(items)
         }
-        other => other,
+        other => {
+            drop(fact);
+            other
+        }
     };
     Ok(Context { name, kb })
 }
@@ -89,7 +92,10 @@ fn with_default(context: Context, default: Default) -> Result<Context, Memory>
             items.push(TheoryItem::Rule(default))?;
             Kb::DefaultTheory(items)
         }
-        other => other,
+        other => {
+            drop(default);
+            other
+        }
     };
     Ok(Context { name, kb })
 }
