@@ -100,20 +100,30 @@ pub(crate) fn read_context(
     ensures { (s : PartText) (w : WrittenBridge) → IsBridge bridge w → IfOk result (λ step. IsStep step no_subject s token.now (written.read_context s w denied token.now)) }
 {
     let role = Role::NamesSource;
-    Ok(match word_of(alloc, token)? {
-        Word::Name(context) => Step::goes(
+    match word_of(alloc, token) {
+        Ok(Word::Name(context)) => Ok(Step::goes(
             Place::ReadColon {
                 bridge,
                 denied,
                 context,
             },
             role,
-        ),
-        Word::Long => Step::LongName {
-            uses: Uses::only(role),
-        },
-        Word::Other => Step::Refused,
-    })
+        )),
+        Ok(Word::Long) => {
+            drop(bridge);
+            Ok(Step::LongName {
+                uses: Uses::only(role),
+            })
+        }
+        Ok(Word::Other) => {
+            drop(bridge);
+            Ok(Step::Refused)
+        }
+        Err(fault) => {
+            drop(bridge);
+            Err(fault)
+        }
+    }
 }
 
 /// Where a read has to come.
@@ -196,15 +206,19 @@ pub(crate) fn in_head(
     ensures { (s : PartText) (f : PartFormula) → IsReader belief f → IfOk result (λ step. IsStep step (of_context context) s token.now (written.step_at s token.now (InHead name context f))) }
 {
     let uses = belief_uses(&belief, token);
-    match belief.take(alloc, token)? {
-        Answer::Taken => head_goes_on(alloc, name, context, belief, uses),
-        Answer::TooLong => {
+    match belief.take(alloc, token) {
+        Ok(Answer::Taken) => head_goes_on(alloc, name, context, belief, uses),
+        Ok(Answer::TooLong) => {
             drop((name, context, belief));
             Ok(Step::LongName { uses })
         }
-        Answer::Refused => {
+        Ok(Answer::Refused) => {
             drop((name, context, belief));
             Ok(Step::Refused)
+        }
+        Err(fault) => {
+            drop((name, context, belief));
+            Err(fault)
         }
     }
 }
@@ -299,18 +313,22 @@ pub(crate) fn in_read(
         → IfOk result (λ step. IsStep step (of_read context w.head.context) s token.now (written.in_read s w (part_read denied context) f token.now)) }
 {
     let uses = belief_uses(&belief, token);
-    match belief.take(alloc, token)? {
-        Answer::Taken => read_goes_on(alloc, bridge, denied, context, belief, uses),
-        Answer::TooLong => {
+    match belief.take(alloc, token) {
+        Ok(Answer::Taken) => read_goes_on(alloc, bridge, denied, context, belief, uses),
+        Ok(Answer::TooLong) => {
             let ends_read = waits_for_one(&belief);
             drop((bridge, context, belief));
             Ok(Step::LongName {
                 uses: Uses { ends_read, ..uses },
             })
         }
-        Answer::Refused => {
+        Ok(Answer::Refused) => {
             drop((bridge, context, belief));
             Ok(Step::Refused)
+        }
+        Err(fault) => {
+            drop((bridge, context, belief));
+            Err(fault)
         }
     }
 }
@@ -338,19 +356,26 @@ fn read_goes_on(
         };
         return Ok(Step::Moves { place, uses });
     }
-    let Some(belief) = belief.finish(alloc)? else {
-        return Ok(Step::Refused);
-    };
-    let place = Place::AfterRead {
-        bridge,
-        denied,
-        read: NamedRead { context, belief },
-    };
-    Ok(Step::Moves {
-        place,
-        uses: Uses {
-            ends_read: true,
-            ..uses
-        },
-    })
+    match belief.finish(alloc) {
+        Ok(Some(belief)) => {
+            let place = Place::AfterRead {
+                bridge,
+                denied,
+                read: NamedRead { context, belief },
+            };
+            let uses = Uses {
+                ends_read: true,
+                ..uses
+            };
+            Ok(Step::Moves { place, uses })
+        }
+        Ok(None) => {
+            drop((bridge, context));
+            Ok(Step::Refused)
+        }
+        Err(fault) => {
+            drop((bridge, context));
+            Err(fault)
+        }
+    }
 }

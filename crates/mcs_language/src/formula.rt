@@ -79,18 +79,40 @@ impl Pending {
     fn join(self, alloc: Global, operand: Formula) -> Result<Formula, Memory>
         ensures { IfOk result (λ f. formula_of f ≡ made (waiting_of self) (formula_of operand)) }
     {
-        if let Pending::Parenthesis = self {
-            return Ok(operand);
+        match self {
+            Pending::Parenthesis => Ok(operand),
+            Pending::Tilde => Ok(Formula::Not(Box::new(alloc, operand)?)),
+            Pending::And(left) => {
+                let (left, right) = boxed(alloc, left, operand)?;
+                Ok(Formula::And(left, right))
+            }
+            Pending::Or(left) => {
+                let (left, right) = boxed(alloc, left, operand)?;
+                Ok(Formula::Or(left, right))
+            }
+            Pending::Implies(left) => {
+                let (left, right) = boxed(alloc, left, operand)?;
+                Ok(Formula::Implies(left, right))
+            }
+            Pending::Iff(left) => {
+                let (left, right) = boxed(alloc, left, operand)?;
+                Ok(Formula::Iff(left, right))
+            }
         }
-        let right = Box::new(alloc, operand)?;
-        Ok(match self {
-            Pending::And(left) => Formula::And(Box::new(alloc, left)?, right),
-            Pending::Or(left) => Formula::Or(Box::new(alloc, left)?, right),
-            Pending::Implies(left) => Formula::Implies(Box::new(alloc, left)?, right),
-            Pending::Iff(left) => Formula::Iff(Box::new(alloc, left)?, right),
-            _ => Formula::Not(right),
-        })
     }
+}
+
+/// Both parts of a formula, each in a box.
+fn boxed(
+    alloc: Global,
+    left: Formula,
+    right: Formula,
+) -> Result<(Box<Formula>, Box<Formula>), Memory>
+    ensures { IfOk result (λ both. (both.0.value ≡ left) × (both.1.value ≡ right)) }
+{
+    let left = Box::new(alloc, left)?;
+    let right = Box::new(alloc, right)?;
+    Ok((left, right))
 }
 
 /// A primary, and what it completes of what waits: denials, and a conjunction.

@@ -74,7 +74,10 @@ fn with_fact(context: Context, fact: Formula) -> Result<Context, Memory>
             items.push(TheoryItem::Fact(fact))?;
             Kb::DefaultTheory(items)
         }
-        other => other,
+        other => {
+            drop(fact);
+            other
+        }
     };
     Ok(Context { name, kb })
 }
@@ -89,7 +92,10 @@ fn with_default(context: Context, default: Default) -> Result<Context, Memory>
             items.push(TheoryItem::Rule(default))?;
             Kb::DefaultTheory(items)
         }
-        other => other,
+        other => {
+            drop(default);
+            other
+        }
     };
     Ok(Context { name, kb })
 }
@@ -136,6 +142,7 @@ fn fact_ends(alloc: Global, context: Context, whole: Formula, token: &[u8]) -> R
         };
         return Ok(Step::goes(place, Role::BeginsDefault));
     }
+    drop((context, whole));
     Ok(Step::Refused)
 }
 
@@ -149,21 +156,29 @@ pub(crate) fn in_fact(
     ensures { (s : PartText) (w : WrittenContext) (f : PartFormula) → context_of context ≡ context_in w → IsReader formula f → IfOk result (λ step. IsStep step (of_context w.name) s token.now (written.in_fact s w f token.now)) }
 {
     let role = formula_role(&formula, token);
-    match formula.take(alloc, token)? {
-        Answer::Taken => Ok(Step::goes(Place::InFact { context, formula }, role)),
-        Answer::TooLong => {
+    match formula.take(alloc, token) {
+        Ok(Answer::Taken) => Ok(Step::goes(Place::InFact { context, formula }, role)),
+        Ok(Answer::TooLong) => {
             drop((context, formula));
             Ok(Step::LongName {
                 uses: Uses::only(role),
             })
         }
-        Answer::Refused => match formula.finish(alloc)? {
-            Some(whole) => fact_ends(alloc, context, whole, token),
-            None => {
+        Ok(Answer::Refused) => match formula.finish(alloc) {
+            Ok(Some(whole)) => fact_ends(alloc, context, whole, token),
+            Ok(None) => {
                 drop(context);
                 Ok(Step::Refused)
             }
+            Err(fault) => {
+                drop(context);
+                Err(fault)
+            }
         },
+        Err(fault) => {
+            drop((context, formula));
+            Err(fault)
+        }
     }
 }
 
@@ -198,6 +213,7 @@ fn just_ends(
         };
         return Ok(Step::goes(place, Role::Nothing));
     }
+    drop((context, default, whole));
     Ok(Step::Refused)
 }
 
@@ -213,8 +229,8 @@ pub(crate) fn in_just(
         → IfOk result (λ step. IsStep step (of_context w.name) s token.now (written.in_just s w d f token.now)) }
 {
     let role = formula_role(&formula, token);
-    match formula.take(alloc, token)? {
-        Answer::Taken => {
+    match formula.take(alloc, token) {
+        Ok(Answer::Taken) => {
             let place = Place::InJust {
                 context,
                 default,
@@ -222,19 +238,27 @@ pub(crate) fn in_just(
             };
             Ok(Step::goes(place, role))
         }
-        Answer::TooLong => {
+        Ok(Answer::TooLong) => {
             drop((context, default, formula));
             Ok(Step::LongName {
                 uses: Uses::only(role),
             })
         }
-        Answer::Refused => match formula.finish(alloc)? {
-            Some(whole) => just_ends(alloc, context, default, whole, token),
-            None => {
+        Ok(Answer::Refused) => match formula.finish(alloc) {
+            Ok(Some(whole)) => just_ends(alloc, context, default, whole, token),
+            Ok(None) => {
                 drop((context, default));
                 Ok(Step::Refused)
             }
+            Err(fault) => {
+                drop((context, default));
+                Err(fault)
+            }
         },
+        Err(fault) => {
+            drop((context, default, formula));
+            Err(fault)
+        }
     }
 }
 
@@ -252,6 +276,7 @@ fn conclusion_ends(
         let context = with_default(context, concluded(default, whole))?;
         return Ok(Step::goes(Place::NextItem { context }, Role::Nothing));
     }
+    drop((context, default, whole));
     Ok(Step::Refused)
 }
 
@@ -267,8 +292,8 @@ pub(crate) fn in_conclusion(
         → IfOk result (λ step. IsStep step (of_context w.name) s token.now (written.in_conclusion s w d f token.now)) }
 {
     let role = formula_role(&formula, token);
-    match formula.take(alloc, token)? {
-        Answer::Taken => {
+    match formula.take(alloc, token) {
+        Ok(Answer::Taken) => {
             let place = Place::InConclusion {
                 context,
                 default,
@@ -276,19 +301,27 @@ pub(crate) fn in_conclusion(
             };
             Ok(Step::goes(place, role))
         }
-        Answer::TooLong => {
+        Ok(Answer::TooLong) => {
             drop((context, default, formula));
             Ok(Step::LongName {
                 uses: Uses::only(role),
             })
         }
-        Answer::Refused => match formula.finish(alloc)? {
-            Some(whole) => conclusion_ends(context, default, whole, token),
-            None => {
+        Ok(Answer::Refused) => match formula.finish(alloc) {
+            Ok(Some(whole)) => conclusion_ends(context, default, whole, token),
+            Ok(None) => {
                 drop((context, default));
                 Ok(Step::Refused)
             }
+            Err(fault) => {
+                drop((context, default));
+                Err(fault)
+            }
         },
+        Err(fault) => {
+            drop((context, default, formula));
+            Err(fault)
+        }
     }
 }
 
@@ -298,17 +331,21 @@ fn first_of_formula(alloc: Global, context: Context, token: &[u8]) -> Result<Ste
 {
     let mut formula = FormulaReader::new(alloc);
     let role = formula_role(&formula, token);
-    match formula.take(alloc, token)? {
-        Answer::Taken => Ok(Step::begins(Place::InFact { context, formula }, role)),
-        Answer::TooLong => {
+    match formula.take(alloc, token) {
+        Ok(Answer::Taken) => Ok(Step::begins(Place::InFact { context, formula }, role)),
+        Ok(Answer::TooLong) => {
             drop((context, formula));
             Ok(Step::LongName {
                 uses: Uses::first(role),
             })
         }
-        Answer::Refused => {
+        Ok(Answer::Refused) => {
             drop((context, formula));
             Ok(Step::Refused)
+        }
+        Err(fault) => {
+            drop((context, formula));
+            Err(fault)
         }
     }
 }

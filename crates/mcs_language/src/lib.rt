@@ -24,6 +24,3 @@ pub use item_writer::push_primary;
 pub use laws::texts_are_unambiguous;
 pub use reading::read_system;
 pub use writer::{push_read, write_system};
-
-#[cfg(test)]
-mod tests;

@@ -78,13 +78,26 @@ fn numbered_bridge(
     let Some(number) = number_of(contexts, &target) else {
         unreachable!()
     };
-    Ok(Bridge {
-        name,
-        target: number,
-        head,
-        pos: numbered_reads(alloc, contexts, pos)?,
-        neg: numbered_reads(alloc, contexts, neg)?,
-    })
+    let pos = match numbered_reads(alloc, contexts, pos) {
+        Ok(pos) => pos,
+        Err(fault) => {
+            drop((name, head, neg));
+            return Err(fault);
+        }
+    };
+    match numbered_reads(alloc, contexts, neg) {
+        Ok(neg) => Ok(Bridge {
+            name,
+            target: number,
+            head,
+            pos,
+            neg,
+        }),
+        Err(fault) => {
+            drop((name, head, pos));
+            Err(fault)
+        }
+    }
 }
 
 /// The bridge rules by the numbers of their contexts, which are all there.

@@ -67,16 +67,26 @@ pub(crate) fn first_of_rule(alloc: Global, context: Context, token: &[u8]) -> Re
         return Ok(Step::begins(Place::AfterSign { context, rule }, Role::Nothing));
     }
     let role = Role::Atom { number: 1 };
-    Ok(match word_of(alloc, token)? {
-        Word::Name(name) => {
+    match word_of(alloc, token) {
+        Ok(Word::Name(name)) => {
             let head = vec![in alloc; name]?;
-            Step::begins(Place::AfterHeadName { context, head }, role)
+            Ok(Step::begins(Place::AfterHeadName { context, head }, role))
         }
-        Word::Long => Step::LongName {
-            uses: Uses::first(role),
-        },
-        Word::Other => Step::Refused,
-    })
+        Ok(Word::Long) => {
+            drop(context);
+            Ok(Step::LongName {
+                uses: Uses::first(role),
+            })
+        }
+        Ok(Word::Other) => {
+            drop(context);
+            Ok(Step::Refused)
+        }
+        Err(fault) => {
+            drop(context);
+            Err(fault)
+        }
+    }
 }
 
 /// After a name of the head.
@@ -119,16 +129,26 @@ pub(crate) fn next_head_name(
     let role = Role::Atom {
         number: number_after(head.len()),
     };
-    Ok(match word_of(alloc, token)? {
-        Word::Name(name) => {
+    match word_of(alloc, token) {
+        Ok(Word::Name(name)) => {
             head.push(name)?;
-            Step::goes(Place::AfterHeadName { context, head }, role)
+            Ok(Step::goes(Place::AfterHeadName { context, head }, role))
         }
-        Word::Long => Step::LongName {
-            uses: Uses::only(role),
-        },
-        Word::Other => Step::Refused,
-    })
+        Ok(Word::Long) => {
+            drop((context, head));
+            Ok(Step::LongName {
+                uses: Uses::only(role),
+            })
+        }
+        Ok(Word::Other) => {
+            drop((context, head));
+            Ok(Step::Refused)
+        }
+        Err(fault) => {
+            drop((context, head));
+            Err(fault)
+        }
+    }
 }
 
 /// The rule with one literal more.
@@ -164,16 +184,26 @@ pub(crate) fn one_literal(
     let role = Role::Atom {
         number: next_number(&rule),
     };
-    Ok(match word_of(alloc, token)? {
-        Word::Name(name) => {
+    match word_of(alloc, token) {
+        Ok(Word::Name(name)) => {
             let rule = with_literal(rule, denied, name)?;
-            Step::goes(Place::AfterLiteral { context, rule }, role)
+            Ok(Step::goes(Place::AfterLiteral { context, rule }, role))
         }
-        Word::Long => Step::LongName {
-            uses: Uses::only(role),
-        },
-        Word::Other => Step::Refused,
-    })
+        Ok(Word::Long) => {
+            drop((context, rule));
+            Ok(Step::LongName {
+                uses: Uses::only(role),
+            })
+        }
+        Ok(Word::Other) => {
+            drop((context, rule));
+            Ok(Step::Refused)
+        }
+        Err(fault) => {
+            drop((context, rule));
+            Err(fault)
+        }
+    }
 }
 
 /// Where a literal has to come.

@@ -11,6 +11,3 @@ pub use keyword::Keyword;
 pub use kind::{TokenKind, kind_of};
 pub use scan::{Span, next_token, token_list};
 pub use sign::Sign;
-
-#[cfg(test)]
-mod tests;

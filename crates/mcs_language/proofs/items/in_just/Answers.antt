@@ -5,14 +5,14 @@ use Rattle.mcs_language.specs.declared.place.Step.TheVariants as answers
 use Rattle.mcs_language.proofs.PlaceLemmas.{item-goes, item-long}
 use Rattle.mcs_language.proofs.items.in_just.Goals as goal
 
-pub returns-in-Taken : goal.returns-in-Taken
-returns-in-Taken c s w d f same is reader =
+pub returns-in-Ok-Taken : goal.returns-in-Ok-Taken
+returns-in-Ok-Taken c s w d f same is reader =
     let t = c.args.token.now in
-    item-goes s w.name f t (InJust w d) (after_formula f (just_ends s w d t)) c.formula_role-role.result [] (only c.formula_role-role.result) c.args.formula c.take.new.self reader c.in_ok-take.field-0 (c.in_ok-take.ensures f reader)
-    c.formula_role-role.ensures (λ g us h. h) c.goes.result _ c.goes.ensures c.in-Taken.is (λ g more. (w, same, (d, is, (g, more, refl))))
+    item-goes s w.name f t (InJust w d) (after_formula f (just_ends s w d t)) c.formula_role-role.result [] (only c.formula_role-role.result) c.args.formula c.take.new.self reader c.in-Ok-Taken.field-0 (c.in-Ok-Taken.ensures f reader)
+    c.formula_role-role.ensures (λ g us h. h) c.goes.result _ c.goes.ensures c.in-Ok-Taken.field-0-is (λ g more. (w, same, (d, is, (g, more, refl))))
 
-pub returns-in-TooLong : goal.returns-in-TooLong
-returns-in-TooLong c s w d f same is reader =
+pub returns-in-Ok-TooLong : goal.returns-in-Ok-TooLong
+returns-in-Ok-TooLong c s w d f same is reader =
     let t = c.args.token.now in
-    item-long s w.name f t (InJust w d) (after_formula f (just_ends s w d t)) c.formula_role-role.result [] (only c.formula_role-role.result) c.args.formula c.take.new.self reader c.in_ok-take.field-0 (c.in_ok-take.ensures f reader)
-    c.formula_role-role.ensures (λ g us h. h) (answers.LongName c.only.result) (ap answers.LongName c.only.ensures) c.in-TooLong.is
+    item-long s w.name f t (InJust w d) (after_formula f (just_ends s w d t)) c.formula_role-role.result [] (only c.formula_role-role.result) c.args.formula c.take.new.self reader c.in-Ok-TooLong.field-0 (c.in-Ok-TooLong.ensures f reader)
+    c.formula_role-role.ensures (λ g us h. h) (answers.LongName c.only.result) (ap answers.LongName c.only.ensures) c.in-Ok-TooLong.field-0-is

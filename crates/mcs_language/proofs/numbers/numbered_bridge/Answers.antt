@@ -12,13 +12,13 @@ use Rattle.mcs_language.proofs.numbers.numbered_bridge.Goals as goal
 pub unreachable-requires : goal.unreachable-requires
 unreachable-requires c = is-found c.args.bridge.target (context_names c.args.contexts.now) c.requires.known.target (sym c.number_of.ensures ∙ c.in_default.is)
 
-pub returns : goal.returns
-returns c w is =
+pub returns-in-Ok-numbered_reads : goal.returns-in-Ok-numbered_reads
+returns-in-Ok-numbered_reads c w is =
     let names = context_names c.args.contexts.now in
-    let pos = map seen.read_of c.in_ok-numbered_reads.field-0.items in
-    let neg = map seen.read_of c.in_ok-numbered_reads-2.field-0.items in record {
+    let pos = map seen.read_of c.in-Ok.pos.items in
+    let neg = map seen.read_of c.in-Ok-numbered_reads.neg.items in record {
       named = is.named;
       head = record { number = ap (λ (n : Name). position (same_name n) names) (sym is.target) ∙ sym c.number_of.ensures ∙ c.in-Some.is; belief = is.head };
-      pos = each-place names (positive_places w.reads) pos (subst (λ (rs : List NamedRead). Each (SaysRead names) rs pos) is.pos c.in_ok-numbered_reads.ensures);
-      neg = each-place names (negative_places w.reads) neg (subst (λ (rs : List NamedRead). Each (SaysRead names) rs neg) is.neg c.in_ok-numbered_reads-2.ensures);
+      pos = each-place names (positive_places w.reads) pos (subst (λ (rs : List NamedRead). Each (SaysRead names) rs pos) is.pos c.in-Ok.ensures);
+      neg = each-place names (negative_places w.reads) neg (subst (λ (rs : List NamedRead). Each (SaysRead names) rs neg) is.neg c.in-Ok-numbered_reads.ensures);
     }

@@ -1,4 +1,4 @@
-use Rattle.std.proofs.Common.{sym, ◌∙◌, true≢false}
+use Rattle.std.proofs.Common.{sym, ◌∙◌, true≢false, rules}
 use Rattle.mcs_tokens.proofs.TokenLemmas.{word_token, stray_token}
 use Rattle.mcs_tokens.proofs.scan.token_len.Goals as goal
 
@@ -9,3 +9,6 @@ returns-then-is_letter-clause-token c =
 pub returns-in-None-clause-token : goal.returns-in-None-clause-token
 returns-in-None-clause-token c =
     stray_token c.args.text.now c.requires.some (λ letter. true≢false (sym letter ∙ sym c.is_letter.ensures ∙ c.if-is_letter.false)) c.requires.no_separator c.requires.no_comment c.in-None.ensures
+
+pub returns-in-Some-clause-token : goal.returns-in-Some-clause-token
+returns-in-Some-clause-token c = search rules

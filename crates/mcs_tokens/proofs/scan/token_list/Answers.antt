@@ -1,4 +1,5 @@
-use Rattle.std.proofs.Common.{subst, [], append-nil}
+use Rattle.std.proofs.Common.{subst, [], append-nil, arith}
+use Rattle.std.proofs.lemmas.Grind.{common_steps}
 use Rattle.std.proofs.lemmas.List.Elements.{All-from_recursion}
 use Rattle.mcs_tokens.specs.Tokens.{AreTokens, IsSpanOf}
 use Rattle.mcs_tokens.proofs.Gaps.{ended_there, are_spans}
@@ -13,3 +14,6 @@ returns-then-from-bytes c =
       tokens = whole;
       inside = All-from_recursion (IsSpanOf c.args.bytes.now) c.loop-spans.spans.items (are_spans c.args.bytes.now 0 c.loop-spans.spans.items whole);
     }
+
+pub loop-spans-preserved : goal.loop-spans-preserved
+loop-spans-preserved c = grind (arith, common_steps)

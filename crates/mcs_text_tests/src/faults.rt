@@ -1,0 +1,140 @@
+//! The fault of a text, and where it stands.
+
+use mcs_language::{TextFault, read_system};
+use mcs_system::Limit;
+use std::alloc::Global;
+
+/// Whether the text spells a system.
+pub(crate) fn is_text(alloc: Global, text: &[u8]) -> bool {
+    read_system(alloc, text).is_ok()
+}
+
+/// Whether the text has the fault of this number at this offset, with this limit.
+pub(crate) fn has_fault(
+    alloc: Global,
+    text: &[u8],
+    number: u8,
+    offset: usize,
+    limit: Option<Limit>,
+) -> bool {
+    match read_system(alloc, text) {
+        Ok(_) => false,
+        Err(fault) => fault
+            == TextFault::Fault {
+                number,
+                offset,
+                limit,
+            },
+    }
+}
+
+/// Something is missing, too much, or begins no token.
+const NO_GRAMMAR: [(&str, usize); 13] = [
+    ("context", 7),
+    ("context context classical {}", 8),
+    ("context c logical {}", 10),
+    ("context c classical {} }", 23),
+    ("context c classical { p & | q. }", 26),
+    ("context c classical { p : q / r. }", 24),
+    ("context c default { p : / r. }", 24),
+    ("context c program { a : b. }", 22),
+    ("context c program { a | not b. }", 24),
+    ("bridge r c:p.", 9),
+    ("context c classical {} bridge r: c:p & q.", 37),
+    (
+        "context c classical {} bridge r: c:p. context d classical {}",
+        38,
+    ),
+    ("context c classical { p ? }", 24),
+];
+
+#[test]
+fn what_begins_no_text_is_a_fault(rt: HostRuntime) {
+    for (text, offset) in NO_GRAMMAR {
+        assert!(rt;
+            has_fault(rt.alloc(), text.as_bytes(), 1, offset, None),
+            "{text}"
+        );
+    }
+}
+
+/// The numbers of the faults of names, and their offsets.
+const OF_NAMES: [(&str, u8, usize); 6] = [
+    // A context that is not there, before other faults of the token.
+    ("bridge r: c:p.", 2, 10),
+    ("context c classical {} bridge r: c:p if not d:q.", 2, 44),
+    // Names that are there already.
+    ("context c classical {} context c program {}", 3, 31),
+    (
+        "context c classical {} bridge r: c:p. bridge r: c:q.",
+        3,
+        45,
+    ),
+    // No atom for a program.
+    ("context c program {} bridge r: c:(a).", 4, 33),
+    ("context c program {} bridge r: c:a if c:true.", 4, 40),
+];
+
+#[test]
+fn names_have_faults_at_their_tokens(rt: HostRuntime) {
+    for (text, number, offset) in OF_NAMES {
+        assert!(rt;
+            has_fault(rt.alloc(), text.as_bytes(), number, offset, None),
+            "{text}"
+        );
+    }
+}
+
+/// A comment alone, a rule with a context's name, and what a program reads of a classical context.
+const FAULTLESS: [&str; 3] = [
+    "# context c",
+    "context c classical {} bridge c: c:p.",
+    "context c program {} context d classical {} bridge r: d:(a | b) if c:a, not d:~a.",
+];
+
+#[test]
+fn texts_without_faults_are_read(rt: HostRuntime) {
+    for text in FAULTLESS {
+        assert!(rt; is_text(rt.alloc(), text.as_bytes()), "{text}");
+    }
+}
+
+/// A text of 190 bytes, with each construct.
+pub(crate) const EACH_CONSTRUCT: &str =
+    "context c classical { (p & q | ~true) -> false <-> p. } # a\ncontext d default { p. p : q, r / s. } context e program { a | b :- c, not d. :- a. b. :-. } bridge r: c:~p if d:(p | q), not e:a.";
+
+/// Whether the front of this length is a text where the text may end, and otherwise has a fault at its last token or at
+/// its end. The text may end at nothing, after each context with the comment and the blanks there, and after the rule.
+/// The fronts that end with the first letters of `not` name a context that is not there.
+fn is_front(alloc: Global, end: usize) -> bool {
+    let Some(front) = EACH_CONSTRUCT.as_bytes().get(..end) else {
+        return false;
+    };
+    let whole = matches!(end, 0 | 55..=60 | 98 | 99 | 152 | 153 | 190);
+    match read_system(alloc, front) {
+        Ok(_) => whole,
+        Err(
+            TextFault::Fault {
+                number,
+                offset,
+                limit,
+            },
+        ) => {
+            let want = if matches!(end, 183 | 184) { 2 } else { 1 };
+            !whole
+                && number == want
+                && limit == None
+                && offset <= end
+                && offset.saturating_add(9) > end
+        }
+        Err(TextFault::Memory) => false,
+    }
+}
+
+#[test]
+fn each_front_of_a_text_lacks_something_or_is_a_text(rt: HostRuntime) {
+    assert!(rt; EACH_CONSTRUCT.len() == 190);
+    for end in 0..=190 {
+        assert!(rt; is_front(rt.alloc(), end), "{end}");
+    }
+}

@@ -1,0 +1,75 @@
+//! The system of a text, and its canonical text.
+
+use crate::faults::EACH_CONSTRUCT;
+use mcs_base::Text;
+use mcs_language::{read_system, texts_are_unambiguous, write_system};
+use mcs_system::Bridge;
+use std::alloc::Global;
+use std::test::Fail;
+
+/// The canonical text of the system that a text spells.
+fn canonical(alloc: Global, text: &[u8]) -> Result<Text, Fail> {
+    let system = read_system(alloc, text)?;
+    let mut out = Text::new(alloc);
+    write_system(&system, &mut out)?;
+    Ok(out)
+}
+
+/// Texts, and the canonical ones of their systems.
+const CANONICAL: [(&str, &str); 6] = [
+    ("", ""),
+    (
+        "context c1 classical{a&b->c.}",
+        "context c1 classical {\n  (a & b) -> c.\n}\n",
+    ),
+    (
+        "context c classical{a->b->c. (a|b)|c. ~(a<->b). ((true)).}",
+        "context c classical {\n  a -> (b -> c).\n  (a | b) | c.\n  ~(a <-> b).\n  true.\n}\n",
+    ),
+    (
+        "context d default{p:q,r&s/t.}",
+        "context d default {\n  p : q, r & s / t.\n}\n",
+    ),
+    (
+        "context e program{a|b:-not c,d. :-a. :-. b:-.}",
+        "context e program {\n  a | b :- d, not c.\n  :- a.\n  :-.\n  b.\n}\n",
+    ),
+    (
+        "context c classical{}bridge r:c:p if not c:(a|b),c:~q.",
+        "context c classical {\n}\nbridge r: c:p if c:~q, not c:(a | b).\n",
+    ),
+];
+
+/// A canonical text is its own.
+#[test]
+fn texts_are_written_in_one_way(rt: HostRuntime) -> Result<(), Fail> {
+    for (text, want) in CANONICAL {
+        let written = canonical(rt.alloc(), text.as_bytes())?;
+        assert!(rt; written.bytes() == want.as_bytes(), "{text}");
+        let again = canonical(rt.alloc(), written.bytes())?;
+        assert!(rt; again.bytes() == want.as_bytes(), "{text}");
+    }
+    Ok(())
+}
+
+/// Whether the rule reads one belief that has to hold, and one of the third context that must not.
+fn reads_one_of_each(bridge: &Bridge) -> bool {
+    bridge.pos.len() == 1
+        && bridge.neg.len() == 1
+        && bridge.neg.iter().all(|read| read.context == 2)
+}
+
+#[test]
+fn texts_spell_one_system_each(rt: HostRuntime) -> Result<(), Fail> {
+    texts_are_unambiguous();
+    let system = read_system(rt.alloc(), EACH_CONSTRUCT.as_bytes())?;
+    assert!(rt; system.contexts().len() == 3 && system.variables().len() == 2);
+    assert!(rt; system.bridges().len() == 1);
+    assert!(rt;
+        system
+            .bridges()
+            .iter()
+            .all(|bridge| reads_one_of_each(bridge))
+    );
+    Ok(())
+}
