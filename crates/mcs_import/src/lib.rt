@@ -9,11 +9,9 @@ mod question;
 mod reach;
 mod share;
 mod states;
-#[cfg(test)]
-mod tests;
 
 pub use laws::{
     import_order_exists, import_order_is_one, question_counts_are_one, questions_are_bounded,
 };
 pub use plan::Plan;
-pub use question::questions;
+pub use question::{asked, questions};

@@ -37,7 +37,7 @@ fn applicable_sets(
 /// The sets of rules into context `i` of the system that differ in at most `level` rules from those that apply
 /// in some state, which has one state of each supply and some of the guesses at the inputs of `i`: each once,
 /// the numbers that stand for them ascending.
-fn asked(
+pub fn asked(
     alloc: Global,
     system: &System,
     i: u32,
@@ -74,38 +74,4 @@ pub fn questions(
         → IsListing (IsQuestion plan.now order level i) (λ a b. a < b) sets.items) }
 {
     asked(alloc, plan.system(), i, supplies, plan.guessed(i), level)
-}
-
-#[cfg(test)]
-mod tests {
-    use super::*;
-    use crate::tests::one_diagnosis;
-    use std::test::Fail;
-
-    #[test]
-    fn asks_by_level(rt: HostRuntime) -> Result<(), Fail> {
-        let alloc = rt.alloc();
-        let system = one_diagnosis(alloc)?;
-        if system.contexts().len() != 2 {
-            return Err("two contexts".into());
-        }
-        let one = Active::one(0);
-        let two = Active::one(1);
-        let both = one.with(1);
-        // The first context supplies its first variable alone, so that both rules apply.
-        let supplies = vec![in alloc; vec![in alloc; Vars::one(0)]?]?;
-        for (level, sets) in [
-            (0, [both].as_slice()),
-            (1, [one, two, both].as_slice()),
-            (2, [Active::empty(), one, two, both].as_slice()),
-        ] {
-            let asked = asked(alloc, &system, 1, &supplies, Vars::empty(), level)?;
-            assert_eq!(rt; asked.as_slice(), sets, "{level}");
-        }
-        // Nothing is asked where a context supplies nothing.
-        let nothing = vec![in alloc; Vec::new(alloc)]?;
-        let asked = asked(alloc, &system, 1, &nothing, Vars::empty(), 2)?;
-        assert!(rt; asked.is_empty());
-        Ok(())
-    }
 }

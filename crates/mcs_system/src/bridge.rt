@@ -62,37 +62,3 @@ fn copy_reads(alloc: Global, reads: &[Read]) -> Result<Vec<Read>, Memory>
     }
     Ok(copies)
 }
-
-#[cfg(test)]
-mod tests {
-    use super::*;
-    use std::test::Fail;
-
-    fn read(context: u32) -> Read {
-        Read {
-            context,
-            belief: Formula::True,
-        }
-    }
-
-    #[test]
-    fn copies_rules(rt: HostRuntime) -> Result<(), Fail> {
-        let alloc = rt.alloc();
-        let rule = Bridge {
-            name: Name::read(alloc, b"r1")?.ok_or("no name")?,
-            target: 3,
-            head: Formula::False,
-            pos: Vec::new(alloc),
-            neg: vec![in alloc; read(1), read(2)]?,
-        };
-        let copy = rule.copy(alloc)?;
-        assert!(rt; copy.name.bytes() == b"r1".as_slice());
-        assert_eq!(rt; copy.target, 3);
-        assert!(rt; matches!(copy.head, Formula::False));
-        assert_eq!(rt; copy.pos.len(), 0);
-        assert_eq!(rt; copy.neg.len(), 2);
-        assert_eq!(rt; copy.neg[0].context, 1);
-        assert_eq!(rt; copy.neg[1].context, 2);
-        Ok(())
-    }
-}

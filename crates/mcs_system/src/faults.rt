@@ -408,17 +408,3 @@ pub(crate) fn has_large_formula(contexts: &[Context], bridges: &[Bridge]) -> boo
 {
     any_large_kb(contexts) || any_large_bridge(bridges)
 }
-
-#[cfg(test)]
-mod tests {
-    use super::*;
-    use std::test::Fail;
-
-    #[test]
-    fn finds_twins(rt: HostRuntime) -> Result<(), Fail> {
-        assert!(rt; !has_twins(rt.alloc(), &[b"b", b"a", b"ab"])?);
-        assert!(rt; has_twins(rt.alloc(), &[b"b", b"a", b"ab", b"a"])?);
-        assert!(rt; !has_twin_names(rt.alloc(), &[], &[])?);
-        Ok(())
-    }
-}

@@ -60,36 +60,3 @@ pub(crate) fn copy_formulas(alloc: Global, formulas: &[Formula]) -> Result<Vec<F
     }
     Ok(copies)
 }
-
-#[cfg(test)]
-mod tests {
-    use super::*;
-    use crate::same::same_formula;
-    use std::test::Fail;
-
-    /// A formula with each construct.
-    fn each_construct(alloc: Global, name: Name) -> Result<Formula, Memory> {
-        let iff = Formula::Iff(
-            Box::new(alloc, Formula::True)?,
-            Box::new(alloc, Formula::False)?,
-        );
-        let implies = Formula::Implies(
-            Box::new(alloc, iff)?,
-            Box::new(alloc, Formula::Atom(name))?,
-        );
-        let or = Formula::Or(Box::new(alloc, implies)?, Box::new(alloc, Formula::False)?);
-        let and = Formula::And(Box::new(alloc, or)?, Box::new(alloc, Formula::True)?);
-        Ok(Formula::Not(Box::new(alloc, and)?))
-    }
-
-    #[test]
-    fn copies_formulas(rt: HostRuntime) -> Result<(), Fail> {
-        let name = Name::read(rt.alloc(), b"a")?.ok_or("no name")?;
-        let formula = each_construct(rt.alloc(), name)?;
-        let copies = copy_formulas(rt.alloc(), &[formula.copy(rt.alloc())?, Formula::False])?;
-        assert_eq!(rt; copies.len(), 2);
-        assert!(rt; same_formula(&copies[0], &formula));
-        assert!(rt; same_formula(&copies[1], &Formula::False));
-        Ok(())
-    }
-}

@@ -74,32 +74,3 @@ pub(crate) fn copy_names(alloc: Global, names: &[Name]) -> Result<Vec<Name>, Mem
     }
     Ok(copies)
 }
-
-#[cfg(test)]
-mod tests {
-    use super::*;
-    use std::test::Fail;
-
-    #[test]
-    fn reads_names(rt: HostRuntime) -> Result<(), Fail> {
-        let longest = [b'a'; 64];
-        let too_long = [b'a'; 65];
-        let table: [(&[u8], bool); 7] = [
-            (b"", false),
-            (b"a", true),
-            (b"_9", true),
-            (b"9a", false),
-            (b"if", false),
-            (&longest, true),
-            (&too_long, false),
-        ];
-        for (bytes, spells) in table {
-            let name = Name::read(rt.alloc(), bytes)?;
-            assert_eq!(rt; name.is_some(), spells);
-            if let Some(name) = name {
-                assert!(rt; name.bytes() == bytes);
-            }
-        }
-        Ok(())
-    }
-}

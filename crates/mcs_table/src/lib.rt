@@ -10,8 +10,6 @@ mod minimal;
 mod partners;
 mod row;
 mod table;
-#[cfg(test)]
-mod tests;
 
 pub use fitting::matching;
 pub use forgetting::forget;

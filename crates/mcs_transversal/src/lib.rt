@@ -4,8 +4,6 @@
 mod berge;
 mod critical_edges;
 mod laws;
-#[cfg(test)]
-mod tests;
 
 pub use berge::minimal_transversals;
 pub use critical_edges::critical;

@@ -1,4 +1,5 @@
-use Rattle.std.proofs.Common.{◌∙◌, inl, inr, sym, ap, true≢false}
+use Rattle.std.proofs.Common.{◌∙◌, inl, inr, sym, ap, true≢false, arith}
+use Rattle.std.proofs.lemmas.Grind.{common_steps}
 use Rattle.mcs_sets.specs.Sets.{has}
 use Rattle.mcs_sets.proofs.SetLemmas.{has-empty}
 use Rattle.mcs_transversal.proofs.CriticalLemmas.{critical-more}
@@ -15,3 +16,6 @@ loop-edge-preserved c k =
       λ h. elim (before.0 h) [ inl is ↦ inl (now.1 (inl is)) | inr rest ↦ elim (more.0 rest) [ inl alone ↦ inl (now.1 (inr alone)) | inr later ↦ inr later ] ],
       λ either. before.1 (elim either [ inl is ↦ elim (now.0 is) [ inl is' ↦ inl is' | inr alone ↦ inr (more.1 (inl alone)) ] | inr later ↦ inr (more.1 (inr later)) ]),
     )
+
+pub returns : goal.returns
+returns c = (λ yes k h. (c.loop-edge.invariant k).1 (inl (c.within.ensures.0 yes k h)), grind (arith, common_steps))

@@ -1,4 +1,4 @@
-use Rattle.std.proofs.Common.{◌≡◌, rules}
+use Rattle.std.proofs.Common.{◌≡◌, ◌∙◌, ℕ, ap, rules}
 use Rattle.std.specs.declared.cmp.Ordering.{Ordering}
 use Rattle.std.specs.declared.cmp.Ordering.TheVariants.{Less, Equal, Greater}
 use Rattle.std.specs.Ordering.{MatchOrdering, ordering_then}
@@ -17,7 +17,7 @@ unfolding row_cmp
 returns c =
     let a = c.args.self.now in
     let b = c.args.other.now in
-    let h : c.then_with-rows.result ≡ ordering_then c.cmp-states.result (pair_cmp a.marks b.marks) = then_is _ _ (pair_cmp a.marks b.marks) _ (λ q. search rules) c.then_with-rows.ensures in
+    let h : c.then_with-rows.result ≡ ordering_then c.cmp-states.result (pair_cmp a.marks b.marks) = then_is _ _ (pair_cmp a.marks b.marks) _ (λ q. search rules fits 100) c.then_with-rows.ensures in
     let k : c.then_with.result ≡ ordering_then c.then_with-rows.result (state_cmp a.state.mask b.state.mask) = then_is _ _ (state_cmp a.state.mask b.state.mask) _ (λ q. search rules) c.then_with.ensures in
-    let m : c.cmp-states.result ≡ state_cmp a.state.values b.state.values = cc (c.cmp-states.ensures, c.values.ensures.value, c.values-2.ensures.value) in
+    let m : c.cmp-states.result ≡ state_cmp a.state.values b.state.values = c.cmp-states.ensures ∙ ap (λ (s : ℕ). state_cmp s c.values-2.result) c.values.ensures.value ∙ ap (state_cmp a.state.values) c.values-2.ensures.value in
     cc

@@ -1,7 +1,8 @@
-//! Rows, each public call once, and a table against the plain definition.
+//! Minimal transversals: worked rows, and lists against the plain definition.
 
-use super::*;
-use mcs_base::{Marks, list_pairs};
+use mcs_base::{Marks, Memory, list_pairs};
+use mcs_transversal::{critical, minimal_transversals, minimality_is_critical};
+use std::alloc::Global;
 use std::test::Fail;
 
 /// The set of these marks, each below 128.
@@ -46,20 +47,20 @@ fn is_minimal(edges: &[Marks], t: Marks) -> bool {
     meets_each(edges, t)
 }
 
+/// Whether these are the minimal transversals of the edges.
+fn are_minimal(alloc: Global, edges: &[Marks], sets: &[Marks]) -> Result<bool, Memory> {
+    Ok(minimal_transversals(alloc, edges)?.as_slice() == sets)
+}
+
 #[test]
 fn two_edges_that_share_a_mark(rt: HostRuntime) -> Result<(), Fail> {
     let edges = [set_of(&[0, 2]), set_of(&[2, 4])];
-    let found = minimal_transversals(rt.alloc(), &edges)?;
-    assert_eq!(rt;
-        found.as_slice(),
-        [set_of(&[2]), set_of(&[0, 4])].as_slice()
-    );
-    assert_eq!(rt; critical(&edges, set_of(&[0, 4]), 0), Some(0));
-    assert_eq!(rt; critical(&edges, set_of(&[0, 4]), 4), Some(1));
-    assert_eq!(rt; critical(&edges, set_of(&[2]), 2), Some(0));
-    assert_eq!(rt; critical(&edges, set_of(&[0, 2]), 0), None);
-    assert_eq!(rt; critical(&edges, set_of(&[2]), 0), None);
-    assert_eq!(rt; critical(&edges, set_of(&[2]), 130), None);
+    let (shared, own) = (set_of(&[2]), set_of(&[0, 4]));
+    assert!(rt; are_minimal(rt.alloc(), &edges, &[shared, own])?);
+    assert!(rt; critical(&edges, own, 0) == Some(0) && critical(&edges, own, 4) == Some(1));
+    assert!(rt; critical(&edges, shared, 2) == Some(0));
+    assert!(rt; critical(&edges, set_of(&[0, 2]), 0) == None);
+    assert!(rt; critical(&edges, shared, 0) == None && critical(&edges, shared, 130) == None);
     minimality_is_critical();
     Ok(())
 }
@@ -67,15 +68,23 @@ fn two_edges_that_share_a_mark(rt: HostRuntime) -> Result<(), Fail> {
 #[test]
 fn no_edges_and_an_empty_edge(rt: HostRuntime) -> Result<(), Fail> {
     let (none, pair) = (Marks::empty(), set_of(&[0, 2]));
-    assert_eq!(rt;
-        minimal_transversals(rt.alloc(), &[])?.as_slice(),
-        [none].as_slice()
-    );
-    assert!(rt; minimal_transversals(rt.alloc(), &[pair, none])?.is_empty());
-    assert!(rt; minimal_transversals(rt.alloc(), &[none, pair])?.is_empty());
-    assert_eq!(rt; critical(&[], pair, 0), None);
-    assert_eq!(rt; critical(&[pair], pair, 0), None);
+    assert!(rt; are_minimal(rt.alloc(), &[], &[none])?);
+    assert!(rt; are_minimal(rt.alloc(), &[pair, none], &[])?);
+    assert!(rt; are_minimal(rt.alloc(), &[none, pair], &[])?);
+    assert!(rt; critical(&[], pair, 0) == None && critical(&[pair], pair, 0) == None);
     Ok(())
+}
+
+/// The minimal transversals of the edges by the plain definition, in the order of pairs.
+fn expected(alloc: Global, edges: &[Marks]) -> Result<Vec<Marks>, Memory> {
+    let mut sets = Vec::new(alloc);
+    for number in 0..64 {
+        if is_minimal(edges, subset(number)) {
+            sets.push(subset(number))?;
+        }
+    }
+    list_pairs(&mut sets);
+    Ok(sets)
 }
 
 #[test]
@@ -87,18 +96,8 @@ fn as_the_definition_says(rt: HostRuntime) -> Result<(), Fail> {
         [0b011011, 0b101101, 0b110110, 0b000111],
     ] {
         let edges = numbers.map(|number| subset(number));
-        let mut expected = Vec::new(rt.alloc());
-        for number in 0..64 {
-            if is_minimal(&edges, subset(number)) {
-                expected.push(subset(number))?;
-            }
-        }
-        list_pairs(&mut expected);
-        assert_eq!(rt;
-            minimal_transversals(rt.alloc(), &edges)?,
-            expected,
-            "{edges:?}"
-        );
+        let sets = expected(rt.alloc(), &edges)?;
+        assert!(rt; are_minimal(rt.alloc(), &edges, &sets)?, "{edges:?}");
     }
     Ok(())
 }

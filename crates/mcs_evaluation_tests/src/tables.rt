@@ -1,15 +1,14 @@
-//! Worked joins, and joins against a plain reading of what they are.
+//! Tables: worked joins, and joins against a plain reading of what they are.
 
 ghost use Rattle.std.specs.Prelude.{◌≡◌};
 
-use crate::row::Row;
-use crate::{Table, are_apart, forget, join, matching};
 use mcs_base::{Marks, Memory, Partial, Vars};
+use mcs_table::{Row, Table, are_apart, forget, join, matching};
 use std::alloc::Global;
 use std::test::Fail;
 
 /// A row. The bits of the numbers are the variables that are true, and the marks.
-#[tactic(auto, using(crate::proofs::MarkLemmas::common_within))]
+#[tactic(auto, using(mcs_table::proofs::MarkLemmas::common_within))]
 fn row(scope: Vars, values: u64, marks: u8) -> Row
     ensures { result.state.mask ≡ scope }
 {
@@ -60,16 +59,19 @@ fn gives(
     }
 }
 
+/// Whether these rows of the table fit the partial state.
+fn fit(alloc: Global, t: &Table, partial: &Partial, rows: &[Row]) -> Result<bool, Memory> {
+    Ok(matching(alloc, t, partial)?.as_slice() == rows)
+}
+
 #[test]
 fn a_join_takes_the_marks_of_both(rt: HostRuntime) -> Result<(), Fail> {
     let alloc = rt.alloc();
     let a = table(alloc, 0b1, &[(1, 0), (0, 0b1)])?;
-    let b = table(alloc, 0b1, &[(0, 0b100)])?;
-    assert!(rt; gives(alloc, &a, &b, 2, 0b1, &[(0, 0b101)])?);
-    assert!(rt; gives(alloc, &a, &b, 1, 0b1, &[])?);
     let off = row(Vars::one(0), 0, 0);
-    let found = matching(alloc, &a, &off.state)?;
-    assert_eq!(rt; found.as_slice(), [row(Vars::one(0), 0, 0b1)].as_slice());
+    assert!(rt; fit(alloc, &a, &off.state, &[row(Vars::one(0), 0, 0b1)])?);
+    let b = table(alloc, 0b1, &[(0, 0b100)])?;
+    assert!(rt; gives(alloc, &a, &b, 2, 0b1, &[(0, 0b101)])? && gives(alloc, &a, &b, 1, 0b1, &[])?);
     Ok(())
 }
 
@@ -80,15 +82,20 @@ fn each_state_keeps_its_minimal_rows(rt: HostRuntime) -> Result<(), Fail> {
     let b = table(alloc, 0b110, &[(0b110, 0), (0b110, 0b1000), (0b100, 0b100)])?;
     assert!(rt; gives(alloc, &a, &b, 2, 0b111, &[(0b110, 0b1), (0b100, 0b110)])?);
     assert!(rt; gives(alloc, &a, &b, 1, 0b111, &[(0b110, 0b1)])?);
+    Ok(())
+}
 
-    let c = table(
-        alloc,
-        0b11,
-        &[(0b01, 0b1), (0b11, 0b11), (0b11, 0b100), (0b10, 0)],
-    )?;
-    let short = forget(alloc, &c, Vars::one(0))?;
-    let wanted = table(alloc, 0b1, &[(1, 0b1), (1, 0b100), (0, 0)])?;
-    assert_eq!(rt; short.rows(), wanted.rows());
+/// Whether these are the rows of the table without the variables that are not to be kept.
+fn leaves(alloc: Global, t: &Table, keep: u64, rows: &[(u64, u8)]) -> Result<bool, Memory> {
+    let wanted = table(alloc, keep, rows)?;
+    Ok(forget(alloc, t, Vars::numbered(keep))?.rows() == wanted.rows())
+}
+
+#[test]
+fn forgetting_keeps_minimal_rows(rt: HostRuntime) -> Result<(), Fail> {
+    let rows = [(0b01, 0b1), (0b11, 0b11), (0b11, 0b100), (0b10, 0)];
+    let c = table(rt.alloc(), 0b11, &rows)?;
+    assert!(rt; leaves(rt.alloc(), &c, 0b1, &[(1, 0b1), (1, 0b100), (0, 0)])?);
     Ok(())
 }
 
@@ -130,6 +137,15 @@ fn agrees(found: &Table, unions: &[Row]) -> bool {
     true
 }
 
+/// Whether the two have a join, and it is the plain one.
+fn is_plain(alloc: Global, a: &Table, b: &Table, level: u32) -> Result<bool, Memory> {
+    let unions = unions_of(alloc, a.rows(), b.rows(), level)?;
+    match joined(alloc, a, b, level)? {
+        Some(found) => Ok(agrees(&found, &unions)),
+        None => Ok(false),
+    }
+}
+
 #[test]
 fn joins_are_plain_joins(rt: HostRuntime) -> Result<(), Fail> {
     let alloc = rt.alloc();
@@ -150,9 +166,7 @@ fn joins_are_plain_joins(rt: HostRuntime) -> Result<(), Fail> {
         &[(0, 0b1000), (0b010, 0b100), (0b110, 0), (0b110, 0b1100)],
     )?;
     for level in 0..5 {
-        let found = joined(alloc, &a, &b, level)?.expect(&rt, "apart");
-        let unions = unions_of(alloc, a.rows(), b.rows(), level)?;
-        assert!(rt; agrees(&found, &unions), "{level}");
+        assert!(rt; is_plain(alloc, &a, &b, level)?, "{level}");
     }
     Ok(())
 }

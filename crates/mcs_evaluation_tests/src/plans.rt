@@ -1,0 +1,110 @@
+//! The orders in which contexts are asked, and what each is told and guesses.
+
+use mcs_base::Vars;
+use mcs_import::Plan;
+use mcs_language::read_system;
+use std::alloc::Global;
+use std::sync::Arc;
+use std::test::Fail;
+
+/// A plan for the system that a text spells.
+pub(crate) fn plan_of(alloc: Global, text: &str) -> Result<Plan, Fail> {
+    let system = Arc::new(alloc, read_system(alloc, text.as_bytes())?)?;
+    Ok(Plan::of(alloc, system)?)
+}
+
+/// Whether the system that a text spells has this order, and these supply the context and it guesses these.
+fn is_planned(
+    alloc: Global,
+    text: &str,
+    order: &[u32],
+    i: u32,
+    supplied: &[u32],
+    guessed: Vars,
+) -> Result<bool, Fail> {
+    let plan = plan_of(alloc, text)?;
+    Ok(shares(&plan, i, supplied, guessed) && plan.order() == order)
+}
+
+/// Whether these supply the context and it guesses these.
+pub(crate) fn shares(plan: &Plan, i: u32, supplied: &[u32], guessed: Vars) -> bool {
+    (i as usize) < plan.system().contexts().len()
+        && plan.supplied(i) == supplied
+        && plan.guessed(i) == guessed
+}
+
+/// It imports a context of a higher number.
+const LATER: &str = "context n0 classical {} context n1 classical {} bridge r0: n0:true if n1:x.";
+
+/// It imports itself.
+pub(crate) const ITSELF: &str = "context n0 classical {} bridge r0: n0:true if n0:x.";
+
+/// The middle one imports one before it, itself, and one after it that imports it.
+const MIDDLE: &str = "context n0 classical {} context n1 classical {} context n2 classical {}
+bridge r0: n1:true if n0:x. bridge r1: n1:true if n2:x.
+bridge r2: n2:true if n1:x. bridge r3: n1:true if n1:x.";
+
+/// Two rings, the first of which imports the second.
+const TWO_RINGS: &str = "context n0 classical {} context n1 classical {} context n2 classical {}
+context n3 classical {} context n4 classical {} context n5 classical {}
+bridge r0: n0:true if n1:x. bridge r1: n1:true if n2:x. bridge r2: n2:true if n0:x.
+bridge r3: n3:true if n4:x. bridge r4: n4:true if n5:x. bridge r5: n5:true if n3:x.
+bridge r6: n0:true if n3:x.";
+
+#[test]
+fn orders_contexts(rt: HostRuntime) -> Result<(), Fail> {
+    let alloc = rt.alloc();
+    assert!(rt; is_planned(alloc, LATER, &[1, 0], 0, &[1], Vars::empty())?);
+    assert!(rt; is_planned(alloc, ITSELF, &[0], 0, &[], Vars::one(0))?);
+    let guessed = Vars::one(1).with(2);
+    assert!(rt; is_planned(alloc, MIDDLE, &[0, 1, 2], 1, &[0], guessed)?);
+    let order = [3, 4, 5, 0, 1, 2];
+    assert!(rt; is_planned(alloc, TWO_RINGS, &order, 0, &[3], Vars::one(1))?);
+    Ok(())
+}
+
+/// Puts 64 contexts into the text.
+fn push_contexts(alloc: Global, text: &mut String) -> Result<(), Fail> {
+    for i in 0..64 {
+        text.push_str(format!(in alloc; "context n{i} classical {{}}\n")?.as_str())?;
+    }
+    Ok(())
+}
+
+/// Puts a rule for each context into the text, by which it imports the next one.
+fn push_rules(alloc: Global, text: &mut String) -> Result<(), Fail> {
+    for i in 0..64 {
+        let next = (i + 1) % 64;
+        text.push_str(format!(in alloc; "bridge r{i}: n{i}:true if n{next}:x.\n")?.as_str())?;
+    }
+    Ok(())
+}
+
+/// A plan for a ring of 64 contexts, each of which imports the next.
+fn plan_of_ring(alloc: Global) -> Result<Plan, Fail> {
+    let mut text = String::new(alloc);
+    push_contexts(alloc, &mut text)?;
+    push_rules(alloc, &mut text)?;
+    plan_of(alloc, text.as_str())
+}
+
+/// Whether these are the numbers from 0 up.
+fn ascend(order: &[u32]) -> bool {
+    let mut next = 0;
+    for number in order {
+        if *number != next {
+            return false;
+        }
+        next = number.saturating_add(1);
+    }
+    true
+}
+
+#[test]
+fn orders_a_ring_of_all(rt: HostRuntime) -> Result<(), Fail> {
+    let plan = plan_of_ring(rt.alloc())?;
+    assert!(rt; plan.system().contexts().len() == 64);
+    assert!(rt; plan.order().len() == 64 && ascend(plan.order()));
+    assert!(rt; shares(&plan, 63, &[0], Vars::empty()) && shares(&plan, 62, &[], Vars::one(63)));
+    Ok(())
+}

@@ -1,0 +1,120 @@
+//! What a system tells of its contexts and rules.
+
+use mcs_base::{Active, Vars};
+use mcs_language::read_system;
+use mcs_system::{Formula, Name, Read, System};
+use std::test::Fail;
+
+/// A classical context, a default theory and a program, and rules by which they read each other.
+pub(crate) const THREE: &[u8] =
+    b"context facts classical { a & b. } context theory default { p. q : r / s. } context rules program { x :- y, not z. }
+bridge r0: theory:q if rules:x, facts:a, not rules:w. bridge r1: facts:e if theory:s, not facts:a.
+bridge r2: rules:y if facts:b, not rules:x. bridge r3: theory:t.";
+
+/// Whether these are the names.
+fn are_named(names: &[Name], texts: &[&str]) -> bool {
+    names.len() == texts.len()
+        && names
+            .iter()
+            .zip(texts)
+            .all(|(name, text)| name.bytes() == text.as_bytes())
+}
+
+/// Whether the read is of this atom.
+fn reads(read: &Read, context: u32, text: &[u8]) -> bool {
+    match &read.belief {
+        Formula::Atom(name) => read.context == context && name.bytes() == text,
+        _ => false,
+    }
+}
+
+/// Whether these are the variables of the three contexts.
+fn are_five(variables: &[Read]) -> bool {
+    match variables {
+        [a, b, s, x, w] => reads(a, 0, b"a")
+            && reads(b, 0, b"b")
+            && reads(s, 1, b"s")
+            && reads(x, 2, b"x")
+            && reads(w, 2, b"w"),
+        _ => false,
+    }
+}
+
+/// Whether the context has these atoms, variables, inputs and rules.
+fn is_told(
+    system: &System,
+    i: u32,
+    atoms: &[&str],
+    vars: Vars,
+    inputs: Vars,
+    rules: Active,
+) -> bool {
+    (i as usize) < system.contexts().len()
+        && are_named(system.atoms_of(i), atoms)
+        && system.vars_of(i) == vars
+        && system.inputs_of(i) == inputs
+        && system.rules_of(i) == rules
+}
+
+/// Whether these rules into the context apply.
+fn apply(system: &System, i: u32, state: Vars, rules: Active) -> bool {
+    (i as usize) < system.contexts().len() && system.applicable(i, state) == rules
+}
+
+/// Whether the three contexts have what the text says.
+fn are_told(system: &System) -> bool {
+    let (facts, theory, rules) = (Vars::one(0).with(1), Vars::one(2), Vars::one(3).with(4));
+    let into_facts = Vars::one(0).with(2);
+    let into_theory = Vars::one(0).with(3).with(4);
+    let into_rules = Vars::one(1).with(3);
+    let atoms = ["p", "q", "r", "s", "t"];
+    is_told(
+        system,
+        0,
+        &["a", "b", "e"],
+        facts,
+        into_facts,
+        Active::one(1),
+    ) && is_told(
+        system,
+        1,
+        &atoms,
+        theory,
+        into_theory,
+        Active::one(0).with(3),
+    ) && is_told(
+        system,
+        2,
+        &["x", "y", "z", "w"],
+        rules,
+        into_rules,
+        Active::one(2),
+    )
+}
+
+#[test]
+fn tells_of_contexts(rt: HostRuntime) -> Result<(), Fail> {
+    let system = read_system(rt.alloc(), THREE)?;
+    assert!(rt; system.contexts().len() == 3 && system.bridges().len() == 4);
+    assert!(rt; are_five(system.variables()));
+    assert!(rt; are_told(&system));
+    Ok(())
+}
+
+/// Whether the right rules into each of the three contexts apply, and of all rules.
+fn are_applicable(system: &System) -> bool {
+    let state = Vars::one(0).with(3);
+    apply(system, 1, state, Active::one(0).with(3))
+        && apply(system, 1, state.with(4), Active::one(3))
+        && apply(system, 0, Vars::one(2), Active::one(1))
+        && apply(system, 0, state.with(2), Active::empty())
+        && apply(system, 2, Vars::one(1), Active::one(2))
+        && system.applicable_rules(state.with(1)) == Active::one(0).with(3)
+}
+
+#[test]
+fn tells_applicable_rules(rt: HostRuntime) -> Result<(), Fail> {
+    let system = read_system(rt.alloc(), THREE)?;
+    assert!(rt; are_applicable(&system));
+    Ok(())
+}
