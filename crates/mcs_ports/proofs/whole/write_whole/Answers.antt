@@ -1,4 +1,5 @@
 use Rattle.std.proofs.Common.{rules, ◌∙◌, arith}
+use Rattle.std.proofs.lemmas.Grind.{common_steps}
 use Rattle.mcs_ports.proofs.PieceLemmas.{appended-more}
 use Rattle.mcs_ports.proofs.whole.write_whole.Goals as goal
 
@@ -11,3 +12,9 @@ loop-taken-preserved g c =
           ∙ appended-more (g.K.Sink.written c.args.sink.now) (g.K.Sink.written c.loop-taken.sink) c.args.bytes.now c.loop-taken.taken c.in_ok-taken.field-0 c.loop-taken.invariant.written;
       notes = search rules;
     }
+
+pub returns-clause-cause : goal.returns-clause-cause
+returns-clause-cause g c = grind (arith, common_steps)
+
+pub returns-clause-written : goal.returns-clause-written
+returns-clause-written g c = grind (arith, common_steps)
