@@ -4,8 +4,6 @@
 mod beliefs;
 mod consequence;
 mod refuting;
-#[cfg(test)]
-mod tests;
 
 pub use beliefs::outputs;
 pub use consequence::{entails, entails_from};

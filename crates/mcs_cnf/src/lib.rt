@@ -6,8 +6,6 @@ mod laws;
 mod literals;
 mod occurrences;
 mod over;
-#[cfg(test)]
-mod tests;
 
 pub use formulas::{clauses, push_formula, push_negation};
 pub use laws::{

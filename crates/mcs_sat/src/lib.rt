@@ -8,8 +8,6 @@ mod occurrences;
 mod outcome;
 mod propagate;
 mod search;
-#[cfg(test)]
-mod tests;
 mod trail;
 
 pub use outcome::Outcome;

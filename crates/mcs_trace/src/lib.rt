@@ -9,8 +9,6 @@ mod cnf;
 mod laws;
 mod literal;
 mod resolvent;
-#[cfg(test)]
-mod tests;
 mod trace;
 
 pub use certificate::{ClassicalCert, Entail};

@@ -2,7 +2,7 @@
 
 ghost use Rattle.std.specs.Prelude.{◌≤◌, ◌<◌, ◌≤ℤ◌, pos};
 
-use super::*;
+use mcs_sat::{Outcome, solve};
 use mcs_trace::{Clause, Cnf, Step, Trace, check};
 use std::alloc::Global;
 use std::test::Fail;

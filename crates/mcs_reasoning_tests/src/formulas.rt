@@ -1,0 +1,234 @@
+//! The clauses of formulas.
+
+use crate::contexts::{atoms_of, formulas_of, system_of};
+use mcs_base::Memory;
+use mcs_cnf::{
+    are_different, are_over, classical_certificates_are_sound, clauses, clauses_are_sets,
+    clauses_mean_the_formulas, contexts_are_over_their_atoms, entailment_is_refutation,
+    entailments_are_sound, formulas_are_over_their_atoms, is_over, push_formula, push_negation,
+};
+use mcs_system::{Context, Formula, Kb, Name, System};
+use mcs_trace::{Clause, Cnf, Step, Trace, check};
+use std::alloc::Global;
+use std::test::Fail;
+
+fn are_those(clauses: &[Clause], expected: &[&[i64]]) -> bool {
+    clauses.len() == expected.len()
+        && clauses
+            .iter()
+            .zip(expected)
+            .all(|(clause, literals)| clause.literals() == *literals)
+}
+
+/// Whether the formulas are over the atoms, and have so many variables and these clauses.
+fn have_clauses(
+    alloc: Global,
+    formulas: &[Formula],
+    atoms: &[Name],
+    vars: u64,
+    expected: &[&[i64]],
+) -> Result<bool, Memory> {
+    if !are_different(atoms) || !are_over(atoms, formulas) {
+        return Ok(false);
+    }
+    let cnf = clauses(alloc, formulas, atoms)?;
+    Ok(cnf.vars() == vars && are_those(cnf.clauses(), expected))
+}
+
+/// A formula of each kind over the atoms, and one whose parts are the same.
+const EACH: &[u8] =
+    b"context c classical { true. false. ~x. x & y. x | y. x -> y. x <-> y. x & x. }";
+
+const CLAUSES_OF_EACH: [&[i64]; 28] = [
+    &[3],
+    &[3],
+    &[-4],
+    &[4],
+    &[-1, -5],
+    &[1, 5],
+    &[5],
+    &[1, -6],
+    &[2, -6],
+    &[-1, -2, 6],
+    &[6],
+    &[-1, 7],
+    &[-2, 7],
+    &[1, 2, -7],
+    &[7],
+    &[1, 8],
+    &[-2, 8],
+    &[-1, 2, -8],
+    &[8],
+    &[-1, 2, -9],
+    &[1, -2, -9],
+    &[1, 2, 9],
+    &[-1, -2, 9],
+    &[9],
+    &[1, -10],
+    &[1, -10],
+    &[-1, 10],
+    &[10],
+];
+
+#[test]
+fn each_connective_has_its_clauses(rt: HostRuntime) -> Result<(), Fail> {
+    let system = system_of(rt.alloc(), EACH)?;
+    let (formulas, atoms) = (formulas_of(&system), atoms_of(&system));
+    assert!(rt; have_clauses(rt.alloc(), formulas, atoms, 10, &CLAUSES_OF_EACH)?);
+    assert!(rt; atoms.len() == 2);
+    assert!(rt; !are_over(&atoms[1..], formulas));
+    Ok(())
+}
+
+/// Whether the only context is a program of one rule, whose head names an atom twice.
+fn has_twins(system: &System) -> bool {
+    match system.contexts() {
+        [
+            Context {
+                kb: Kb::Program(rules),
+                ..
+            },
+        ] => match rules.as_slice() {
+            [rule] => rule.head.len() == 2 && !are_different(&rule.head),
+            _ => false,
+        },
+        _ => false,
+    }
+}
+
+#[test]
+fn names_that_are_the_same_are_told(rt: HostRuntime) -> Result<(), Fail> {
+    let system = system_of(rt.alloc(), b"context c program { x | x. }")?;
+    assert!(rt; has_twins(&system));
+    Ok(())
+}
+
+/// Adds the clauses of the formula, where they can be added.
+fn push_stated(
+    alloc: Global,
+    cnf: &mut Cnf,
+    atoms: &[Name],
+    formula: &Formula,
+) -> Result<bool, Memory> {
+    if !is_over(atoms, formula) || cnf.vars() < atoms.len() as u64 {
+        return Ok(false);
+    }
+    push_formula(alloc, cnf, atoms, formula)?;
+    Ok(true)
+}
+
+/// Adds the clauses of the formula's negation, where they can be added.
+fn push_denied(
+    alloc: Global,
+    cnf: &mut Cnf,
+    atoms: &[Name],
+    formula: &Formula,
+) -> Result<bool, Memory> {
+    if !is_over(atoms, formula) || cnf.vars() < atoms.len() as u64 {
+        return Ok(false);
+    }
+    push_negation(alloc, cnf, atoms, formula)?;
+    Ok(true)
+}
+
+/// The empty clause, from the clauses of a fact and of its denial.
+fn refutation(alloc: Global) -> Result<Trace, Memory> {
+    let chain = [4, 2, 1].to_vec(alloc)?;
+    let mut steps = Vec::new(alloc);
+    steps.push(Step {
+        clause: Clause::empty(alloc),
+        chain,
+    })?;
+    Ok(Trace { steps })
+}
+
+const CONTRADICTION: [&[i64]; 7] = [&[1], &[-1, -3], &[1, 3], &[3], &[-2, -4], &[2, 4], &[4]];
+
+/// Whether a fact, its denial and that of a goal have the clauses of the contradiction, and are refuted.
+fn are_refuted(alloc: Global, formulas: &[Formula], atoms: &[Name]) -> Result<bool, Memory> {
+    let [fact, goal] = formulas else {
+        return Ok(false);
+    };
+    if !are_over(atoms, &[]) {
+        return Ok(false);
+    }
+    let mut cnf = clauses(alloc, &[], atoms)?;
+    Ok(
+        push_stated(alloc, &mut cnf, atoms, fact)?
+            && push_denied(alloc, &mut cnf, atoms, fact)?
+            && push_denied(alloc, &mut cnf, atoms, goal)?
+            && cnf.vars() == 4
+            && are_those(cnf.clauses(), &CONTRADICTION)
+            && check(alloc, &cnf, &refutation(alloc)?)?,
+    )
+}
+
+#[test]
+fn what_contradicts_itself_entails_everything(rt: HostRuntime) -> Result<(), Fail> {
+    let system = system_of(rt.alloc(), b"context c classical { p. q. }")?;
+    let (formulas, atoms) = (formulas_of(&system), atoms_of(&system));
+    assert!(rt; are_refuted(rt.alloc(), formulas, atoms)?);
+    assert!(rt; formulas.len() == 2 && atoms.len() == 2);
+    assert!(rt; !is_over(&atoms[1..], &formulas[0]));
+    Ok(())
+}
+
+/// The text of a context with one formula, that has so many negations.
+fn nested(alloc: Global, count: u32) -> Result<Vec<u8>, Memory> {
+    let mut text = Vec::from_slice(alloc, b"context c classical { ")?;
+    for _ in 0..count {
+        text.push(b'~')?;
+    }
+    text.extend_from_slice(b"x. }")?;
+    Ok(text)
+}
+
+/// Whether the only formula's negation has so many variables and clauses.
+fn has_size(
+    alloc: Global,
+    formulas: &[Formula],
+    atoms: &[Name],
+    vars: u64,
+    count: usize,
+) -> Result<bool, Memory> {
+    let [formula] = formulas else {
+        return Ok(false);
+    };
+    if !are_over(atoms, &[]) {
+        return Ok(false);
+    }
+    let mut cnf = clauses(alloc, &[], atoms)?;
+    Ok(
+        push_denied(alloc, &mut cnf, atoms, formula)?
+            && cnf.vars() == vars
+            && cnf.clauses().len() == count,
+    )
+}
+
+/// A formula of 513 occurrences, one more than a text may have.
+#[test]
+fn deep_formulas_have_clauses(rt: HostRuntime) -> Result<(), Fail> {
+    let text = nested(rt.alloc(), 511)?;
+    let system = system_of(rt.alloc(), &text)?;
+    assert!(rt;
+        has_size(
+            rt.alloc(),
+            formulas_of(&system),
+            atoms_of(&system),
+            513,
+            1025
+        )?
+    );
+    Ok(())
+}
+
+#[test]
+fn laws_are_called() {
+    clauses_are_sets();
+    clauses_mean_the_formulas();
+    entailment_is_refutation();
+    entailments_are_sound();
+    classical_certificates_are_sound();
+    formulas_are_over_their_atoms();
+    contexts_are_over_their_atoms();
+}
