@@ -1,8 +1,7 @@
 -- Unions and restrictions of partial states are partial states; two fit where an equation holds.
-use Rattle.std.specs.Prelude.{◌≡◌, ℕ, ◌^◌, ◌<◌, Bool, true, false, ◌&&◌, ◌||◌, IsTrue, ◌⊎◌}
-use Rattle.std.proofs.Common.{refl, sym, ◌∙◌, ap, arith, true≢false, inl, inr}
-use Rattle.std.proofs.lemmas.Bool.Decides.{nat_tests}
-use Rattle.mcs_sets.specs.Sets.{has, union, common, Within}
+use Rattle.std.specs.Prelude.{◌≡◌, ℕ, Bool, true, false, ◌&&◌, ◌||◌}
+use Rattle.std.proofs.Common.{refl, sym, ◌∙◌, ap, true≢false}
+use Rattle.mcs_sets.specs.Sets.{has, common}
 use Rattle.mcs_sets.proofs.SetLemmas.{has-union, has-common, same_set, union_of_64, common_of_64}
 use Rattle.mcs_base.specs.Partials.{PartialState, IsPartial, Fits, united, restricted}
 

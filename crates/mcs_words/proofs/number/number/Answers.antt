@@ -1,4 +1,5 @@
 use Rattle.std.proofs.Common.{◌≡◌, ◌≤◌, ◌<◌, ◌+◌, List, ℕ, ◌∷◌, drop, get_or, arith, inl, inr, subst, sym, ◌∙◌}
+use Rattle.std.proofs.lemmas.Grind.{common_steps}
 use Rattle.std.specs.List.{AllByRecursion}
 use Rattle.std.proofs.lemmas.List.{at_drop_more}
 use Rattle.mcs_words.specs.Commands.{IsDigit, decimal}
@@ -20,3 +21,6 @@ returns-then-not-is_ascii_digit c n h = elim c.then-not-is_ascii_digit.either [
       let within : n ≤ c.args.most = h.4 in
       omega arith
 ]
+
+pub loop-byte-preserved : goal.loop-byte-preserved
+loop-byte-preserved c = grind (arith, common_steps)

@@ -1,3 +1,5 @@
+use Rattle.std.proofs.Common.{arith}
+use Rattle.std.proofs.lemmas.Grind.{common_steps}
 use Rattle.mcs_words.specs.Reading.{kind}
 use Rattle.mcs_words.proofs.ReadingLemmas.{joined_step, plain_step, total_plain, total_value}
 use Rattle.mcs_words.proofs.reading.take_open.Goals as goal
@@ -13,3 +15,9 @@ returns-in-Plain c = record {
   read = λ rest. plain_step c.args.tally c.with_plain.result c.args.word.now rest (kind c.args.word.now) c.in-Plain.ensures c.with_plain.ensures;
   few = total_plain c.args.tally c.with_plain.result c.with_plain.ensures;
 }
+
+pub returns-in-Dashes-clause-read : goal.returns-in-Dashes-clause-read
+returns-in-Dashes-clause-read c = λ rest. grind (arith, common_steps)
+
+pub returns-in-Unknown-clause-read : goal.returns-in-Unknown-clause-read
+returns-in-Unknown-clause-read c = λ rest. grind (arith, common_steps)
