@@ -50,9 +50,9 @@ const NO_GRAMMAR: [(&str, usize); 13] = [
 
 #[test]
 fn what_begins_no_text_is_a_fault(rt: HostRuntime) {
-    for (text, offset) in NO_GRAMMAR {
+    for (text, offset) in &NO_GRAMMAR {
         assert!(rt;
-            has_fault(rt.alloc(), text.as_bytes(), 1, offset, None),
+            has_fault(rt.alloc(), text.as_bytes(), 1, *offset, None),
             "{text}"
         );
     }
@@ -77,9 +77,9 @@ const OF_NAMES: [(&str, u8, usize); 6] = [
 
 #[test]
 fn names_have_faults_at_their_tokens(rt: HostRuntime) {
-    for (text, number, offset) in OF_NAMES {
+    for (text, number, offset) in &OF_NAMES {
         assert!(rt;
-            has_fault(rt.alloc(), text.as_bytes(), number, offset, None),
+            has_fault(rt.alloc(), text.as_bytes(), *number, *offset, None),
             "{text}"
         );
     }
@@ -94,7 +94,7 @@ const FAULTLESS: [&str; 3] = [
 
 #[test]
 fn texts_without_faults_are_read(rt: HostRuntime) {
-    for text in FAULTLESS {
+    for text in &FAULTLESS {
         assert!(rt; is_text(rt.alloc(), text.as_bytes()), "{text}");
     }
 }

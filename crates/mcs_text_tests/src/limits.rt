@@ -6,6 +6,12 @@ use mcs_system::Limit;
 use std::alloc::Global;
 use std::test::Fail;
 
+/// Whether the one text has no fault, and the other exceeds the limit where the tail begins.
+fn is_kept(alloc: Global, limit: Limit, at: &[u8], above: &[u8], tail: &[u8]) -> bool {
+    let offset = above.len().saturating_sub(tail.len());
+    above.ends_with(tail) && is_text(alloc, at) && has_fault(alloc, above, 5, offset, Some(limit))
+}
+
 /// A front, then a piece with each number from 1 up to `count`, then a back.
 fn numbered_parts(
     alloc: Global,
@@ -21,6 +27,88 @@ fn numbered_parts(
     }
     text.extend_from_slice(back.as_bytes())?;
     Ok(text)
+}
+
+/// A text of a front, a piece with each number from 1 up to a count, and a back. With the count `most` it keeps the
+/// limit, and with one more it exceeds it where the tail begins.
+struct NumberedParts {
+    limit: Limit,
+    most: u32,
+    front: &'static str,
+    before: &'static str,
+    after: &'static str,
+    back: &'static str,
+    tail: &'static str,
+}
+
+impl NumberedParts {
+    /// The text with so many pieces.
+    fn text(&self, alloc: Global, count: u32) -> Result<Vec<u8>, Memory> {
+        numbered_parts(alloc, self.front, self.before, self.after, count, self.back)
+    }
+
+    /// Whether it keeps the limit and exceeds it so.
+    fn is_kept(&self, alloc: Global) -> Result<bool, Memory> {
+        let at = self.text(alloc, self.most)?;
+        let above = self.text(alloc, self.most.saturating_add(1))?;
+        Ok(is_kept(alloc, self.limit, &at, &above, self.tail.as_bytes()))
+    }
+}
+
+const NUMBERED: [NumberedParts; 5] = [
+    NumberedParts {
+        limit: Limit::Contexts,
+        most: 64,
+        front: "",
+        before: "context c",
+        after: " classical {} ",
+        back: "",
+        tail: "context c65 classical {} ",
+    },
+    NumberedParts {
+        limit: Limit::RulesPerContext,
+        most: 12,
+        front: "context c classical {} ",
+        before: "bridge r",
+        after: ": c:p. ",
+        back: "",
+        tail: "c:p. ",
+    },
+    NumberedParts {
+        limit: Limit::InputsPerContext,
+        most: 15,
+        front: "context c classical {} bridge r: c:p if c:q",
+        before: ", c:q",
+        after: "",
+        back: ".",
+        tail: "q16.",
+    },
+    NumberedParts {
+        limit: Limit::AtomsPerContext,
+        most: 64,
+        front: "context c classical { ",
+        before: "a",
+        after: ". ",
+        back: "}",
+        tail: "a65. }",
+    },
+    NumberedParts {
+        limit: Limit::DefaultsPerContext,
+        most: 10,
+        front: "context c default { ",
+        before: "a : b",
+        after: " / c. ",
+        back: "}",
+        tail: ": b11 / c. }",
+    },
+];
+
+#[test]
+fn limits_of_numbered_parts_are_kept(rt: HostRuntime) -> Result<(), Fail> {
+    for parts in &NUMBERED {
+        assert!(rt; parts.is_kept(rt.alloc())?);
+    }
+    Ok(())
 }
 
 /// A front, then a piece so many times, then a back.
@@ -39,123 +127,65 @@ fn repeated(
     Ok(text)
 }
 
-/// Whether the one text has no fault, and the other exceeds the limit where the tail begins.
-fn is_kept(alloc: Global, limit: Limit, at: &[u8], above: &[u8], tail: &[u8]) -> bool {
-    let offset = above.len().saturating_sub(tail.len());
-    above.ends_with(tail) && is_text(alloc, at) && has_fault(alloc, above, 5, offset, Some(limit))
+/// The same with a piece that is repeated.
+struct RepeatedParts {
+    limit: Limit,
+    most: u32,
+    front: &'static str,
+    piece: &'static str,
+    back: &'static str,
+    tail: &'static str,
 }
 
-/// How many numbered parts keep the limit: the front, what stands before and after the number, the back, and the tail
-/// with which one part more exceeds the limit.
-const NUMBERED: [(Limit, u32, &str, &str, &str, &str, &str); 5] = [
-    (
-        Limit::Contexts,
-        64,
-        "",
-        "context c",
-        " classical {} ",
-        "",
-        "context c65 classical {} ",
-    ),
-    (
-        Limit::RulesPerContext,
-        12,
-        "context c classical {} ",
-        "bridge r",
-        ": c:p. ",
-        "",
-        "c:p. ",
-    ),
-    (
-        Limit::InputsPerContext,
-        15,
-        "context c classical {} bridge r: c:p if c:q",
-        ", c:q",
-        "",
-        ".",
-        "q16.",
-    ),
-    (
-        Limit::AtomsPerContext,
-        64,
-        "context c classical { ",
-        "a",
-        ". ",
-        "}",
-        "a65. }",
-    ),
-    (
-        Limit::DefaultsPerContext,
-        10,
-        "context c default { ",
-        "a : b",
-        " / c. ",
-        "}",
-        ": b11 / c. }",
-    ),
-];
-
-#[test]
-fn limits_of_numbered_parts_are_kept(rt: HostRuntime) -> Result<(), Fail> {
-    let alloc = rt.alloc();
-    for (limit, most, front, before, after, back, tail) in NUMBERED {
-        let at = numbered_parts(alloc, front, before, after, most, back)?;
-        let above = numbered_parts(alloc, front, before, after, most.saturating_add(1), back)?;
-        assert!(rt;
-            is_kept(alloc, limit, &at, &above, tail.as_bytes()),
-            "{limit:?}"
-        );
+impl RepeatedParts {
+    /// Whether it keeps the limit and exceeds it so.
+    fn is_kept(&self, alloc: Global) -> Result<bool, Memory> {
+        let at = repeated(alloc, self.front, self.piece, self.most, self.back)?;
+        let most = self.most.saturating_add(1);
+        let above = repeated(alloc, self.front, self.piece, most, self.back)?;
+        Ok(is_kept(alloc, self.limit, &at, &above, self.tail.as_bytes()))
     }
-    Ok(())
 }
 
-/// How many repeated parts keep the limit: the front, the part, the back, and the tail with which one part more exceeds
-/// the limit.
-const REPEATED: [(Limit, u32, &str, &str, &str, &str); 4] = [
-    (
-        Limit::ItemsPerContext,
-        4096,
-        "context c classical { ",
-        "p. ",
-        "}",
-        "p. }",
-    ),
-    (
-        Limit::FormulaSize,
-        511,
-        "context c classical { ",
-        "~",
-        "p. }",
-        "p. }",
-    ),
-    (
-        Limit::FormulaSize,
-        511,
-        "context c program { a",
-        " | a",
-        ". }",
-        "a. }",
-    ),
-    (
-        Limit::NameBytes,
-        63,
-        "context c classical { ",
-        "a",
-        "a. }",
-        "aaaaaaaaaaaaaaaaaaaaaaaaaaaaaaaaaaaaaaaaaaaaaaaaaaaaaaaaaaaaaaaaa. }",
-    ),
+const REPEATED: [RepeatedParts; 4] = [
+    RepeatedParts {
+        limit: Limit::ItemsPerContext,
+        most: 4096,
+        front: "context c classical { ",
+        piece: "p. ",
+        back: "}",
+        tail: "p. }",
+    },
+    RepeatedParts {
+        limit: Limit::FormulaSize,
+        most: 511,
+        front: "context c classical { ",
+        piece: "~",
+        back: "p. }",
+        tail: "p. }",
+    },
+    RepeatedParts {
+        limit: Limit::FormulaSize,
+        most: 511,
+        front: "context c program { a",
+        piece: " | a",
+        back: ". }",
+        tail: "a. }",
+    },
+    RepeatedParts {
+        limit: Limit::NameBytes,
+        most: 63,
+        front: "context c classical { ",
+        piece: "a",
+        back: "a. }",
+        tail: "aaaaaaaaaaaaaaaaaaaaaaaaaaaaaaaaaaaaaaaaaaaaaaaaaaaaaaaaaaaaaaaaa. }",
+    },
 ];
 
 #[test]
 fn limits_of_repeated_parts_are_kept(rt: HostRuntime) -> Result<(), Fail> {
-    let alloc = rt.alloc();
-    for (limit, most, front, piece, back, tail) in REPEATED {
-        let at = repeated(alloc, front, piece, most, back)?;
-        let above = repeated(alloc, front, piece, most.saturating_add(1), back)?;
-        assert!(rt;
-            is_kept(alloc, limit, &at, &above, tail.as_bytes()),
-            "{limit:?}"
-        );
+    for parts in &REPEATED {
+        assert!(rt; parts.is_kept(rt.alloc())?);
     }
     Ok(())
 }

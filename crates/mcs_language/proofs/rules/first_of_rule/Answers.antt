@@ -1,4 +1,4 @@
-use Rattle.std.proofs.Common.{Bool, [], ◌∷◌, ◌++◌, None, refl, sym, ap, subst, ◌∙◌}
+use Rattle.std.proofs.Common.{Bool, [], ◌∷◌, None, sym, ap, subst, ◌∙◌}
 use Rattle.std.specs.Prelude.{codes, cond}
 use Rattle.mcs_language.specs.Marks.{BeginsItem}
 use Rattle.mcs_language.specs.TextSteps.{AfterHeadName, goes, atom_uses}
