@@ -53,13 +53,19 @@ bridge r6: n0:true if n3:x.";
 
 #[test]
 fn orders_contexts(rt: HostRuntime) -> Result<(), Fail> {
-    let alloc = rt.alloc();
-    assert!(rt; is_planned(alloc, LATER, &[1, 0], 0, &[1], Vars::empty())?);
-    assert!(rt; is_planned(alloc, ITSELF, &[0], 0, &[], Vars::one(0))?);
-    let guessed = Vars::one(1).with(2);
-    assert!(rt; is_planned(alloc, MIDDLE, &[0, 1, 2], 1, &[0], guessed)?);
-    let order = [3, 4, 5, 0, 1, 2];
-    assert!(rt; is_planned(alloc, TWO_RINGS, &order, 0, &[3], Vars::one(1))?);
+    let in_order: &[u32] = &[0, 1, 2];
+    let second_first: &[u32] = &[3, 4, 5, 0, 1, 2];
+    for (text, order, i, supplied, guessed) in [
+        (LATER, [1, 0].as_slice(), 0, [1].as_slice(), Vars::empty()),
+        (ITSELF, [0].as_slice(), 0, [].as_slice(), Vars::one(0)),
+        (MIDDLE, in_order, 1, [0].as_slice(), Vars::one(1).with(2)),
+        (TWO_RINGS, second_first, 0, [3].as_slice(), Vars::one(1)),
+    ] {
+        assert!(rt;
+            is_planned(rt.alloc(), text, order, i, supplied, guessed)?,
+            "{text}"
+        );
+    }
     Ok(())
 }
 

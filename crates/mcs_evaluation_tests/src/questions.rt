@@ -30,13 +30,19 @@ const TWO_RULES: &str =
 /// Without a rule, with one that reads its own context, and with two of these.
 #[test]
 fn asks_by_guesses(rt: HostRuntime) -> Result<(), Fail> {
-    let alloc = rt.alloc();
     let (none, one, two) = (Active::empty(), Active::one(0), Active::one(1));
     let both = one.with(1);
-    assert!(rt; are_questions(alloc, NO_RULE, 1, &[none])?);
-    assert!(rt; are_questions(alloc, ITSELF, 0, &[none, one])?);
-    assert!(rt; are_questions(alloc, TWO_RULES, 0, &[none, both])?);
-    assert!(rt; are_questions(alloc, TWO_RULES, 1, &[none, one, two, both])?);
+    for (text, level, sets) in [
+        (NO_RULE, 1, [none].as_slice()),
+        (ITSELF, 0, [none, one].as_slice()),
+        (TWO_RULES, 0, [none, both].as_slice()),
+        (TWO_RULES, 1, [none, one, two, both].as_slice()),
+    ] {
+        assert!(rt;
+            are_questions(rt.alloc(), text, level, sets)?,
+            "{text} {level}"
+        );
+    }
     Ok(())
 }
 
@@ -44,11 +50,17 @@ fn asks_by_guesses(rt: HostRuntime) -> Result<(), Fail> {
 const ONE_DIAGNOSIS: &str = "context c1 program { a. } context c2 program { :- p. :- q. }
 bridge r1: c2:p if c1:a. bridge r2: c2:q if not c1:b.";
 
+/// Whether the first context comes first and supplies the second, which guesses nothing.
+fn is_in_order(plan: &Plan) -> bool {
+    plan.system().contexts().len() == 2
+        && plan.order() == [0, 1].as_slice()
+        && shares(plan, 1, &[0], Vars::empty())
+}
+
 #[test]
 fn plans_one_diagnosis(rt: HostRuntime) -> Result<(), Fail> {
     let plan = plan_of(rt.alloc(), ONE_DIAGNOSIS)?;
-    assert!(rt; plan.system().contexts().len() == 2 && plan.order() == [0, 1].as_slice());
-    assert!(rt; shares(&plan, 1, &[0], Vars::empty()));
+    assert!(rt; is_in_order(&plan));
     assert!(rt; are_first(rt.alloc(), &plan, 2, &[Active::empty()])?);
     Ok(())
 }

@@ -24,8 +24,10 @@ fn row(scope: Vars, values: u64, marks: u8) -> Row
     }
 }
 
-/// A table. The bits of a number are the variables of its scope.
-fn table(alloc: Global, scope: u64, rows: &[(u64, u8)]) -> Result<Table, Memory> {
+/// A scope, and the values and marks of rows on it, all as bits of numbers.
+type Listed = (u64, &'static [(u64, u8)]);
+
+fn table(alloc: Global, (scope, rows): Listed) -> Result<Table, Memory> {
     let scope = Vars::numbered(scope);
     let mut all = Vec::new(alloc);
     for (values, marks) in rows {
@@ -43,59 +45,61 @@ fn joined(alloc: Global, a: &Table, b: &Table, level: u32) -> Result<Option<Tabl
     }
 }
 
-/// Whether the join of the two has this scope and these rows.
-fn gives(
-    alloc: Global,
-    a: &Table,
-    b: &Table,
-    level: u32,
-    scope: u64,
-    rows: &[(u64, u8)],
-) -> Result<bool, Memory> {
-    let wanted = table(alloc, scope, rows)?;
+/// Whether the join has this scope and these rows.
+fn gives(alloc: Global, a: &Table, b: &Table, level: u32, wanted: Listed) -> Result<bool, Memory> {
+    let wanted = table(alloc, wanted)?;
     match joined(alloc, a, b, level)? {
         Some(found) => Ok(found.scope() == wanted.scope() && found.rows() == wanted.rows()),
         None => Ok(false),
     }
 }
 
-/// Whether these rows of the table fit the partial state.
-fn fit(alloc: Global, t: &Table, partial: &Partial, rows: &[Row]) -> Result<bool, Memory> {
-    Ok(matching(alloc, t, partial)?.as_slice() == rows)
+/// Whether the join at level 2 and the join at level 1 have these scopes and rows.
+fn are_given(
+    alloc: Global,
+    a: Listed,
+    b: Listed,
+    two: Listed,
+    one: Listed,
+) -> Result<bool, Memory> {
+    let (a, b) = (table(alloc, a)?, table(alloc, b)?);
+    Ok(gives(alloc, &a, &b, 2, two)? && gives(alloc, &a, &b, 1, one)?)
+}
+
+/// Whether these rows of the table fit the state in which its variables are false.
+fn fit(alloc: Global, a: Listed, rows: &[Row]) -> Result<bool, Memory> {
+    let a = table(alloc, a)?;
+    let off = row(a.scope(), 0, 0);
+    Ok(matching(alloc, &a, &off.state)?.as_slice() == rows)
 }
 
 #[test]
 fn a_join_takes_the_marks_of_both(rt: HostRuntime) -> Result<(), Fail> {
-    let alloc = rt.alloc();
-    let a = table(alloc, 0b1, &[(1, 0), (0, 0b1)])?;
-    let off = row(Vars::one(0), 0, 0);
-    assert!(rt; fit(alloc, &a, &off.state, &[row(Vars::one(0), 0, 0b1)])?);
-    let b = table(alloc, 0b1, &[(0, 0b100)])?;
-    assert!(rt; gives(alloc, &a, &b, 2, 0b1, &[(0, 0b101)])? && gives(alloc, &a, &b, 1, 0b1, &[])?);
+    let (a, b): (Listed, Listed) = ((0b1, &[(1, 0), (0, 0b1)]), (0b1, &[(0, 0b100)]));
+    assert!(rt; are_given(rt.alloc(), a, b, (0b1, &[(0, 0b101)]), (0b1, &[]))?);
+    assert!(rt; fit(rt.alloc(), a, &[row(Vars::one(0), 0, 0b1)])?);
     Ok(())
 }
 
 #[test]
 fn each_state_keeps_its_minimal_rows(rt: HostRuntime) -> Result<(), Fail> {
-    let alloc = rt.alloc();
-    let a = table(alloc, 0b011, &[(0b10, 0b1), (0b10, 0b11), (0, 0b10)])?;
-    let b = table(alloc, 0b110, &[(0b110, 0), (0b110, 0b1000), (0b100, 0b100)])?;
-    assert!(rt; gives(alloc, &a, &b, 2, 0b111, &[(0b110, 0b1), (0b100, 0b110)])?);
-    assert!(rt; gives(alloc, &a, &b, 1, 0b111, &[(0b110, 0b1)])?);
+    let a: Listed = (0b011, &[(0b10, 0b1), (0b10, 0b11), (0, 0b10)]);
+    let b: Listed = (0b110, &[(0b110, 0), (0b110, 0b1000), (0b100, 0b100)]);
+    let two: Listed = (0b111, &[(0b110, 0b1), (0b100, 0b110)]);
+    assert!(rt; are_given(rt.alloc(), a, b, two, (0b111, &[(0b110, 0b1)]))?);
     Ok(())
 }
 
-/// Whether these are the rows of the table without the variables that are not to be kept.
-fn leaves(alloc: Global, t: &Table, keep: u64, rows: &[(u64, u8)]) -> Result<bool, Memory> {
-    let wanted = table(alloc, keep, rows)?;
-    Ok(forget(alloc, t, Vars::numbered(keep))?.rows() == wanted.rows())
+/// Whether a table without the variables that are not of the other's scope has its rows.
+fn leaves(alloc: Global, of: Listed, wanted: Listed) -> Result<bool, Memory> {
+    let (of, wanted) = (table(alloc, of)?, table(alloc, wanted)?);
+    Ok(forget(alloc, &of, wanted.scope())?.rows() == wanted.rows())
 }
 
 #[test]
 fn forgetting_keeps_minimal_rows(rt: HostRuntime) -> Result<(), Fail> {
-    let rows = [(0b01, 0b1), (0b11, 0b11), (0b11, 0b100), (0b10, 0)];
-    let c = table(rt.alloc(), 0b11, &rows)?;
-    assert!(rt; leaves(rt.alloc(), &c, 0b1, &[(1, 0b1), (1, 0b100), (0, 0)])?);
+    let of: Listed = (0b11, &[(0b01, 0b1), (0b11, 0b11), (0b11, 0b100), (0b10, 0)]);
+    assert!(rt; leaves(rt.alloc(), of, (0b1, &[(1, 0b1), (1, 0b100), (0, 0)]))?);
     Ok(())
 }
 
@@ -148,25 +152,18 @@ fn is_plain(alloc: Global, a: &Table, b: &Table, level: u32) -> Result<bool, Mem
 
 #[test]
 fn joins_are_plain_joins(rt: HostRuntime) -> Result<(), Fail> {
-    let alloc = rt.alloc();
-    let a = table(
-        alloc,
-        0b0011,
-        &[
-            (0, 0),
-            (0b01, 0b1),
-            (0b01, 0b10),
-            (0b11, 0b11),
-            (0b10, 0b11),
-        ],
-    )?;
-    let b = table(
-        alloc,
-        0b0110,
-        &[(0, 0b1000), (0b010, 0b100), (0b110, 0), (0b110, 0b1100)],
-    )?;
+    let rows = &[
+        (0, 0),
+        (0b01, 0b1),
+        (0b01, 0b10),
+        (0b11, 0b11),
+        (0b10, 0b11),
+    ];
+    let a = table(rt.alloc(), (0b0011, rows))?;
+    let rows = &[(0, 0b1000), (0b010, 0b100), (0b110, 0), (0b110, 0b1100)];
+    let b = table(rt.alloc(), (0b0110, rows))?;
     for level in 0..5 {
-        assert!(rt; is_plain(alloc, &a, &b, level)?, "{level}");
+        assert!(rt; is_plain(rt.alloc(), &a, &b, level)?, "{level}");
     }
     Ok(())
 }

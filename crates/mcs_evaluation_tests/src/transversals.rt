@@ -52,25 +52,39 @@ fn are_minimal(alloc: Global, edges: &[Marks], sets: &[Marks]) -> Result<bool, M
     Ok(minimal_transversals(alloc, edges)?.as_slice() == sets)
 }
 
+/// Whether the critical edges of the two minimal transversals are told, and those that are none.
+fn are_told(edges: &[Marks], shared: Marks, own: Marks) -> bool {
+    critical(edges, own, 0) == Some(0)
+        && critical(edges, own, 4) == Some(1)
+        && critical(edges, shared, 2) == Some(0)
+        && critical(edges, set_of(&[0, 2]), 0) == None
+        && critical(edges, shared, 0) == None
+        && critical(edges, shared, 130) == None
+}
+
 #[test]
 fn two_edges_that_share_a_mark(rt: HostRuntime) -> Result<(), Fail> {
     let edges = [set_of(&[0, 2]), set_of(&[2, 4])];
     let (shared, own) = (set_of(&[2]), set_of(&[0, 4]));
     assert!(rt; are_minimal(rt.alloc(), &edges, &[shared, own])?);
-    assert!(rt; critical(&edges, own, 0) == Some(0) && critical(&edges, own, 4) == Some(1));
-    assert!(rt; critical(&edges, shared, 2) == Some(0));
-    assert!(rt; critical(&edges, set_of(&[0, 2]), 0) == None);
-    assert!(rt; critical(&edges, shared, 0) == None && critical(&edges, shared, 130) == None);
+    assert!(rt; are_told(&edges, shared, own));
     minimality_is_critical();
     Ok(())
+}
+
+/// Whether no transversal is one where an edge is empty, and the empty set where there is no edge.
+fn are_degenerate(alloc: Global, none: Marks, pair: Marks) -> Result<bool, Memory> {
+    Ok(
+        are_minimal(alloc, &[], &[none])?
+            && are_minimal(alloc, &[pair, none], &[])?
+            && are_minimal(alloc, &[none, pair], &[])?,
+    )
 }
 
 #[test]
 fn no_edges_and_an_empty_edge(rt: HostRuntime) -> Result<(), Fail> {
     let (none, pair) = (Marks::empty(), set_of(&[0, 2]));
-    assert!(rt; are_minimal(rt.alloc(), &[], &[none])?);
-    assert!(rt; are_minimal(rt.alloc(), &[pair, none], &[])?);
-    assert!(rt; are_minimal(rt.alloc(), &[none, pair], &[])?);
+    assert!(rt; are_degenerate(rt.alloc(), none, pair)?);
     assert!(rt; critical(&[], pair, 0) == None && critical(&[pair], pair, 0) == None);
     Ok(())
 }
