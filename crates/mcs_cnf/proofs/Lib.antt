@@ -1,3 +1,4 @@
+pub mod LiteralLemmas
 pub mod NumberLemmas
 pub mod ClauseLemmas
 pub mod ListLemmas
