@@ -1,4 +1,5 @@
 use Rattle.std.proofs.Common.{◌≡◌, ◌≤◌, ◌∙◌, sym, ap, subst, List, ℤ, ℕ, length, take, arith}
+use Rattle.std.proofs.lemmas.Grind.{common_steps}
 use Rattle.std.specs.List.{AllByRecursion}
 use Rattle.mcs_system.specs.Plain.{Formula, Not}
 use Rattle.mcs_system.specs.Seen.{formula_of}
@@ -52,3 +53,6 @@ returns-clause-accepted c = λ fs is over. accepted c fs is over
 
 pub returns-clause-exact : goal.returns-clause-exact
 returns-clause-exact c = λ fs is over. sound fs (formula_of c.args.goal.now) c.args.atoms.now (entailment_of c.match-branch-3.entail) over c.requires.goal (accepted c fs is over)
+
+pub returns-clause-kept : goal.returns-clause-kept
+returns-clause-kept c = grind (arith, common_steps)

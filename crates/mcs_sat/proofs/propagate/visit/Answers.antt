@@ -1,4 +1,5 @@
 use Rattle.std.proofs.Common.{◌≡◌, ◌≤◌, ◌+◌, ◌++◌, ◌∷◌, [], List, ℕ, ◌⊎◌, inr, length, unsigned_abs, sym, ap, ◌∙◌, subst, arith, ℤ, neg_ℤ, w64, to_z, of_z, to_z-of_z, Some}
+use Rattle.std.proofs.lemmas.Grind.{common_steps}
 use Rattle.mcs_base.specs.Listings.{IsAmong}
 use Rattle.mcs_base.proofs.ListingLemmas.{all_among}
 use Rattle.mcs_trace.specs.Clauses.{IsClause, IsLiteral, IsWithin}
@@ -73,3 +74,6 @@ returns-in_ok-push-in-Forced-clause-settled c = λ e d numb.
     let x : Entry = record { literal = to_z w64 (of_z w64 l); reason = c.args.number } in
     let among : IsAmong x.literal cl = subst (λ (k : ℤ). IsAmong k cl) (sym (to_z-of_z (fits_literal l literal'))) (subst (λ (y : List ℤ). IsAmong l y) c.literals.ensures.value c.in-Forced.ensures.0.0) in
     settled-number c.push.new.self.entries.items known c.args.number cl is (settled-pushed es c.push.new.self.entries.items c.push.new.self.positions.items cl x c.in_ok-push-in-Forced.ensures.entries c.in_ok-push-in-Forced.ensures.placed among) d numb
+
+pub returns-in-Open-clause-conflict : goal.returns-in-Open-clause-conflict
+returns-in-Open-clause-conflict c = grind (arith, common_steps)

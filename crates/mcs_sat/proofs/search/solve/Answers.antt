@@ -1,4 +1,5 @@
 use Rattle.std.proofs.Common.{◌<◌, ◌≤◌, ℕ, ℤ, List, [], ◌∷◌, IfSome, IsTrue, map, subst, arith}
+use Rattle.std.proofs.lemmas.Grind.{common_steps}
 use Rattle.std.specs.List.{AllByRecursion}
 use Rattle.mcs_trace.specs.Clauses.{IsClause, IsWithin, all_hold}
 use Rattle.mcs_trace.specs.Traces.{EndsEmpty, clauses_of, inference_of}
@@ -67,3 +68,6 @@ loop-search-smaller c =
 
 pub loop-search-preserved : goal.loop-search-preserved
 loop-search-preserved c = record { kept = c.in_ok-conflict-2.ensures.kept; conflict = c.in_ok-conflict-2.ensures.conflict }
+
+pub returns-in-Refuted-clause-answer : goal.returns-in-Refuted-clause-answer
+returns-in-Refuted-clause-answer c = grind (arith, common_steps)

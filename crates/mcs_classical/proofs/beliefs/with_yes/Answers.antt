@@ -1,0 +1,9 @@
+use Rattle.std.proofs.Common.{arith}
+use Rattle.std.proofs.lemmas.Grind.{common_steps}
+use Rattle.mcs_classical.proofs.beliefs.with_yes.Goals as goal
+
+pub returns-in-Yes : goal.returns-in-Yes
+returns-in-Yes c = grind (arith, common_steps)
+
+pub returns-in-No : goal.returns-in-No
+returns-in-No c = grind (arith, common_steps)
