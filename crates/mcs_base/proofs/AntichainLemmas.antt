@@ -7,7 +7,8 @@ use Rattle.mcs_sets.specs.Sets.{common, Within}
 use Rattle.mcs_sets.proofs.SetLemmas.{within_where_common, common_where_within}
 use Rattle.mcs_base.specs.Listings.{IsAmong}
 use Rattle.mcs_base.specs.Antichains.{IsAntichain, HasOneWithin, lies_within, not_containing}
-use Rattle.mcs_base.proofs.ListingLemmas.{all_among, all_from_among}
+use Rattle.mcs_base.proofs.Among.{filter_among}
+use Rattle.mcs_base.proofs.Each.{all_from_among, all_filter, all_push}
 
 -- the test and what it tests
 pub lies_within-is : (a b : ℕ) → (lies_within a b ≡ true) ↔ Within a b
@@ -43,22 +44,6 @@ pub one_within-none : (m : ℕ) → ¬ HasOneWithin [] m
 one_within-none m h = h.among
 
 -- ---- what is left, with m at its end, is an antichain again
-all_filter : (P : ℕ → Type 0) (p : ℕ → Bool) (xs : List ℕ) → AllByRecursion P xs → AllByRecursion P (filter p xs)
-all_filter P p [] all = tt
-all_filter P p (x ∷ xs) all = at (p x) (all_filter P p xs all.1)
-  where
-    at : (b : Bool) → AllByRecursion P (filter p xs) → AllByRecursion P (cond b (x ∷ filter p xs) (filter p xs))
-    at true rest = (all.0, rest)
-    at false rest = rest
-
-all_pass : (p : ℕ → Bool) (xs : List ℕ) → AllByRecursion (λ x. p x ≡ true) (filter p xs)
-all_pass p [] = tt
-all_pass p (x ∷ xs) = at (p x) refl (all_pass p xs)
-  where
-    at : (b : Bool) → p x ≡ b → AllByRecursion (λ y. p y ≡ true) (filter p xs) → AllByRecursion (λ y. p y ≡ true) (cond b (x ∷ filter p xs) (filter p xs))
-    at true is rest = (is, rest)
-    at false is rest = rest
-
 antichain-filter : (p : ℕ → Bool) (xs : List ℕ) → IsAntichain xs → IsAntichain (filter p xs)
 antichain-filter p [] apart = tt
 antichain-filter p (x ∷ xs) apart = at (p x) (antichain-filter p xs apart.1)
@@ -67,19 +52,12 @@ antichain-filter p (x ∷ xs) apart = at (p x) (antichain-filter p xs apart.1)
     at true rest = (all_filter _ p xs apart.0, rest)
     at false rest = rest
 
-all_push : (P : ℕ → Type 0) (xs : List ℕ) (m : ℕ) → AllByRecursion P xs → P m → AllByRecursion P (xs ++ m ∷ [])
-all_push P [] m all last = (last, tt)
-all_push P (x ∷ xs) m all last = (all.0, all_push P xs m all.1 last)
-
 antichain-push : (xs : List ℕ) (m : ℕ) → IsAntichain xs → AllByRecursion (λ x. (¬ Within x m) × (¬ Within m x)) xs → IsAntichain (xs ++ m ∷ [])
 antichain-push [] m apart others = (tt, tt)
 antichain-push (x ∷ xs) m apart others = (all_push _ xs m apart.0 others.0, antichain-push xs m apart.1 others.1)
 
 pub antichain-insert : (xs : List ℕ) (m : ℕ) → IsAntichain xs → ¬ HasOneWithin xs m → IsAntichain (not_containing m xs ++ m ∷ [])
-antichain-insert xs m apart none = antichain-push (not_containing m xs) m (antichain-filter _ xs apart) (all_from_among _ (not_containing m xs) (λ x among. (
-  all_among (λ y. ¬ Within y m) (not_containing m xs) x (all_filter (λ y. ¬ Within y m) _ xs (all_from_among _ xs (λ y there within. none (record { inner = y; among = there; within = within })))) among,
-  λ within. passed x (all_among (λ y. not (lies_within m y) ≡ true) (not_containing m xs) x (all_pass _ xs) among) within,
+antichain-insert xs m apart none = antichain-push (not_containing m xs) m (antichain-filter _ xs apart) (all_from_among _ (not_containing m xs) (λ x among. let (there, passes) = filter_among _ x xs among in (
+  λ within. none (record { inner = x; among = there; within = within }),
+  λ within. let e = (lies_within-is m x).1 within in true≢false (sym (rw e at passes)),
 )))
-  where
-    passed : (x : ℕ) → not (lies_within m x) ≡ true → Within m x → ⊥
-    passed x is within = let e = (lies_within-is m x).1 within in true≢false (sym (rw e at is))

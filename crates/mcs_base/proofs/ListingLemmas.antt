@@ -1,5 +1,5 @@
 -- What holds of listings: there is at most one, sorting makes one, and one exists of each test of numbers.
-use Rattle.std.proofs.Common.{◌≡◌, ◌+◌, ◌^◌, ◌<◌, ℕ, zero, suc, Bool, true, false, IsTrue, eqb, length, get_or, arith, List, [], ◌∷◌, ◌++◌, map, filter, cond, refl, sym, ap, ◌∙◌, subst, inl, inr, ◌⊎◌, ◌↔◌, true≢false}
+use Rattle.std.proofs.Common.{◌≡◌, ◌+◌, ◌^◌, ◌<◌, ℕ, zero, suc, Bool, true, false, IsTrue, eqb, length, get_or, arith, List, [], ◌∷◌, ◌++◌, map, filter, cond, refl, sym, ap, ◌∙◌, subst, inl, inr, ◌⊎◌, ◌↔◌, true≢false, take}
 use Rattle.std.proofs.lemmas.Bool.Decides.{nat_tests}
 use Rattle.std.proofs.lemmas.Cmp.{ranked, nat_cmp_total, eq_by_cmp_equiv}
 use Rattle.std.proofs.lemmas.List.Filters.{dedup_is}
@@ -8,21 +8,21 @@ use Rattle.std.proofs.lemmas.List.Sorted.{Contains-permutation, IsPermutation-sy
 use Rattle.std.specs.declared.cmp.Ordering.{Ordering}
 use Rattle.std.specs.declared.cmp.Ordering.TheVariants.{Less, Equal, Greater}
 use Rattle.std.specs.Cmp.{IsTotalOrder, IsEquivalence, Equal-is}
-use Rattle.std.specs.List.{AllByRecursion, Contains, dedup}
+use Rattle.std.specs.List.{AllByRecursion, dedup}
 use Rattle.std.specs.List.Retain.{IsFiltered, DiffersFromLast}
 use Rattle.std.specs.List.Sorted.{IsPermutation, IsSorted, IsStrictlySortedBy}
 use Rattle.std.specs.Ordering.{MatchOrdering, nat_cmp, eq_by_cmp}
 use Rattle.mcs_sets.specs.Sets.{has, members, members_from}
 use Rattle.mcs_sets.specs.Orders.{StateBefore, PairBefore}
-use Rattle.mcs_sets.proofs.SetLemmas.{members_from-each, members-contains}
+use Rattle.mcs_sets.proofs.SetLemmas.{members_from-each, members-contains, members_below}
 use Rattle.mcs_base.specs.StateOrder.{state_cmp, state_cmp_total, less_is, equal_is, StateBefore-transitive, StateBefore-total}
 use Rattle.mcs_base.specs.PairOrder.{pair_cmp, pair_cmp_total, pair_less_is, pair_equal_is, PairBefore-transitive, PairBefore-total}
 use Rattle.mcs_base.specs.Listings.{IsAscending, IsAmong, IsListing}
-
-pub all_among : {A : Type 0} (P : A → Type 0) (xs : List A) (x : A) → AllByRecursion P xs → IsAmong x xs → P x
-all_among P [] x all among = absurd among
-all_among P (y ∷ ys) x all (inl e) = subst P (sym e) all.0
-all_among P (y ∷ ys) x all (inr among) = all_among P ys x all.1 among
+use Rattle.mcs_base.specs.Minimal.{IsMinimal}
+use Rattle.mcs_base.proofs.Among.{among_left, among_right, among_either, among_filter, filter_among, among_map, map_among as from_map, among_take_more}
+use Rattle.mcs_base.proofs.Ascending.{ascending_append, ascending_filter, ascending_map, before_at}
+pub use Rattle.mcs_base.proofs.Among.{among_from_contains, contains_from_among, among_map as map_among}
+pub use Rattle.mcs_base.proofs.Each.{all_among, all_from_among}
 
 module _ {A : Type 0} (before : A → A → Type 0) (asymmetric : (x y : A) → before x y → before y x → ⊥) where
   same_head : (x y : A) (xs ys : List A) → AllByRecursion (before x) xs → AllByRecursion (before y) ys → (x ≡ y) ⊎ IsAmong x ys → (y ≡ x) ⊎ IsAmong y xs → x ≡ y
@@ -61,21 +61,6 @@ first_listed P before (y ∷ ys) d some l x p = at ((l.exactly x).1 p) l.ascendi
     at : IsAmong x (y ∷ ys) → IsAscending before (y ∷ ys) → (y ≡ x) ⊎ before y x
     at (inl e) up = inl (sym e)
     at (inr h) up = inr (all_among (before y) ys x up.0 h)
-
--- ---- what is among a list
-pub all_from_among : {A : Type 0} (P : A → Type 0) (xs : List A) → ((x : A) → IsAmong x xs → P x) → AllByRecursion P xs
-all_from_among P [] each = tt
-all_from_among P (x ∷ xs) each = (each x (inl refl), all_from_among P xs (λ y among. each y (inr among)))
-
-pub among_from_contains : {A : Type 0} (x : A) (xs : List A) → Contains xs x → IsAmong x xs
-among_from_contains x [] (k, less, is) = absurd (omega arith)
-among_from_contains x (y ∷ ys) (zero, less, is) = inl (sym is)
-among_from_contains x (y ∷ ys) (suc k, less, is) = inr (among_from_contains x ys (k, omega arith, is))
-
-pub contains_from_among : {A : Type 0} (x : A) (xs : List A) → IsAmong x xs → Contains xs x
-contains_from_among x [] among = absurd among
-contains_from_among x (y ∷ ys) (inl e) = (0, omega arith, sym e)
-contains_from_among x (y ∷ ys) (inr among) = let (k, less, is) = contains_from_among x ys among in (suc k, omega arith, is)
 
 -- ---- sorting makes a listing
 -- an order of std that has the same sense as `before`
@@ -154,32 +139,14 @@ module _ {A : Type 0} (before : A → A → Type 0) where
     ascending = (all_from_among (before x) xs (λ y among. first y ((l.exactly y).0 among)), l.ascending);
   }
 
-  all_append : (P : A → Type 0) (xs ys : List A) → AllByRecursion P xs → AllByRecursion P ys → AllByRecursion P (xs ++ ys)
-  all_append P [] ys all all' = all'
-  all_append P (x ∷ xs) ys all all' = (all.0, all_append P xs ys all.1 all')
-
-  ascending-append : (xs ys : List A) → ((x y : A) → IsAmong x xs → IsAmong y ys → before x y) → IsAscending before xs → IsAscending before ys → IsAscending before (xs ++ ys)
-  ascending-append [] ys apart up up' = up'
-  ascending-append (x ∷ xs) ys apart up up' = (
-    all_append (before x) xs ys up.0 (all_from_among (before x) ys (λ y among. apart x y (inl refl) among)),
-    ascending-append xs ys (λ z y there among. apart z y (inr there) among) up.1 up',
-  )
-
-  among_in_both : (x : A) (xs ys : List A) → IsAmong x (xs ++ ys) ↔ (IsAmong x xs ⊎ IsAmong x ys)
-  among_in_both x [] ys = (λ h. inr h, λ h. elim h [ inl h' ↦ absurd h' | inr h' ↦ h' ])
-  among_in_both x (z ∷ zs) ys = let rest = among_in_both x zs ys in (
-    λ h. elim h [ inl e ↦ inl (inl e) | inr h' ↦ elim (rest.0 h') [ inl a ↦ inl (inr a) | inr b ↦ inr b ] ],
-    λ h. elim h [ inl h' ↦ elim h' [ inl e ↦ inl e | inr a ↦ inr (rest.1 (inl a)) ] | inr b ↦ inr (rest.1 (inr b)) ],
-  )
-
   -- each value of the first comes before each of the second
   pub IsListing-append : (P Q : A → Type 0) (xs ys : List A) → ((x y : A) → P x → Q y → before x y) → IsListing P before xs → IsListing Q before ys → IsListing (λ x. P x ⊎ Q x) before (xs ++ ys)
   IsListing-append P Q xs ys apart l l' = record {
     exactly = λ x. (
-      λ among. elim ((among_in_both x xs ys).0 among) [ inl a ↦ inl ((l.exactly x).0 a) | inr b ↦ inr ((l'.exactly x).0 b) ],
-      λ either. (among_in_both x xs ys).1 (elim either [ inl p ↦ inl ((l.exactly x).1 p) | inr q ↦ inr ((l'.exactly x).1 q) ]),
+      λ among. elim (among_either x xs ys among) [ inl a ↦ inl ((l.exactly x).0 a) | inr b ↦ inr ((l'.exactly x).0 b) ],
+      λ either. elim either [ inl p ↦ among_left x xs ys ((l.exactly x).1 p) | inr q ↦ among_right x xs ys ((l'.exactly x).1 q) ],
     );
-    ascending = ascending-append xs ys (λ x y a b. apart x y ((l.exactly x).0 a) ((l'.exactly y).0 b)) l.ascending l'.ascending;
+    ascending = ascending_append before xs ys (λ x y a b. apart x y ((l.exactly x).0 a) ((l'.exactly y).0 b)) l.ascending l'.ascending;
   }
 
   -- one more at the end
@@ -187,64 +154,39 @@ module _ {A : Type 0} (before : A → A → Type 0) where
   IsListing-push P xs x last l = IsListing-append P (λ y. y ≡ x) xs (x ∷ []) (λ y z p e. subst (before y) (sym e) (last y p)) l
       (record { exactly = λ y. (λ among. elim among [ inl e ↦ e | inr none ↦ absurd none ], λ e. inl e); ascending = (tt, tt) })
 
-  among_filter : (p : A → Bool) (x : A) (xs : List A) → IsAmong x (filter p xs) ↔ (IsAmong x xs × IsTrue (p x))
-  among_filter p x [] = (λ h. absurd h, λ h. absurd h.0)
-  among_filter p x (z ∷ zs) = at (p z) refl (among_filter p x zs)
-    where
-      at : (b : Bool) → p z ≡ b → IsAmong x (filter p zs) ↔ (IsAmong x zs × IsTrue (p x)) → IsAmong x (cond b (z ∷ filter p zs) (filter p zs)) ↔ (((x ≡ z) ⊎ IsAmong x zs) × IsTrue (p x))
-      at true is rest = (
-        λ h. elim h [ inl e ↦ (inl e, ap p e ∙ is) | inr h' ↦ (inr (rest.0 h').0, (rest.0 h').1) ],
-        λ h. elim h.0 [ inl e ↦ inl e | inr h' ↦ inr (rest.1 (h', h.1)) ],
-      )
-      at false is rest = (
-        λ h. (inr (rest.0 h).0, (rest.0 h).1),
-        λ h. elim h.0 [ inl e ↦ absurd (true≢false (sym h.1 ∙ ap p e ∙ is)) | inr h' ↦ rest.1 (h', h.1) ],
-      )
-
-  ascending-filter : (p : A → Bool) (xs : List A) → IsAscending before xs → IsAscending before (filter p xs)
-  ascending-filter p [] up = tt
-  ascending-filter p (x ∷ xs) up = at (p x) (ascending-filter p xs up.1)
-    where
-      at : (b : Bool) → IsAscending before (filter p xs) → IsAscending before (cond b (x ∷ filter p xs) (filter p xs))
-      at true rest = (all_from_among (before x) (filter p xs) (λ y among. all_among (before x) xs y up.0 ((among_filter p y xs).0 among).0), rest)
-      at false rest = rest
-
   -- those that pass a test
   pub IsListing-filter : (P : A → Type 0) (p : A → Bool) (xs : List A) → IsListing P before xs → IsListing (λ x. P x × IsTrue (p x)) before (filter p xs)
   IsListing-filter P p xs l = record {
     exactly = λ x. (
-      λ among. let both = (among_filter p x xs).0 among in ((l.exactly x).0 both.0, both.1),
-      λ both. (among_filter p x xs).1 ((l.exactly x).1 both.0, both.1),
+      λ among. let both = filter_among p x xs among in ((l.exactly x).0 both.0, both.1),
+      λ both. among_filter p x xs ((l.exactly x).1 both.0) both.1,
     );
-    ascending = ascending-filter p xs l.ascending;
+    ascending = ascending_filter before p xs l.ascending;
   }
 
+-- ---- going along an ascending list, those for which Q holds are kept
+module _ {A : Type 0} (before : A → A → Type 0) (Q : A → Type 0) (xs : List A) (i : ℕ) (x : A) (less : i < length xs) (here : x ≡ get_or xs i x) where
+  pub kept_more : IsAscending before xs → (ys : List A) → Q x → IsListing (λ y. IsAmong y (take i xs) × Q y) before ys → IsListing (λ y. IsAmong y (take (i + 1) xs) × Q y) before (ys ++ x ∷ [])
+  kept_more up ys is l = IsListing-same before _ _ (ys ++ x ∷ []) (λ y. (
+    λ h. elim h [ inl both ↦ ((among_take_more xs i x less here y).1 (inl both.0), both.1) | inr e ↦ ((among_take_more xs i x less here y).1 (inr e), subst Q (sym e) is) ],
+    λ both. elim ((among_take_more xs i x less here y).0 both.0) [ inl among ↦ inl (among, both.1) | inr e ↦ inr e ],
+  )) (IsListing-push before _ ys x (λ y both. subst (before y) (sym here) (before_at before xs i x less up y both.0)) l)
+
+  pub left_out : (ys : List A) → ¬ Q x → IsListing (λ y. IsAmong y (take i xs) × Q y) before ys → IsListing (λ y. IsAmong y (take (i + 1) xs) × Q y) before ys
+  left_out ys not l = IsListing-same before _ _ ys (λ y. (
+    λ both. ((among_take_more xs i x less here y).1 (inl both.0), both.1),
+    λ both. elim ((among_take_more xs i x less here y).0 both.0) [ inl among ↦ (among, both.1) | inr e ↦ absurd (not (subst Q e both.1)) ],
+  )) l
+
 module _ {A B : Type 0} (f : A → B) where
-  among_map : (y : B) (xs : List A) → IsAmong y (map f xs) → (x : A) × IsAmong x xs × (y ≡ f x)
-  among_map y [] h = absurd h
-  among_map y (x ∷ xs) (inl e) = (x, inl refl, e)
-  among_map y (x ∷ xs) (inr h) = let (z, among, e) = among_map y xs h in (z, inr among, e)
-
-  pub map_among : (x : A) (xs : List A) → IsAmong x xs → IsAmong (f x) (map f xs)
-  map_among x [] h = absurd h
-  map_among x (z ∷ zs) (inl e) = inl (ap f e)
-  map_among x (z ∷ zs) (inr h) = inr (map_among x zs h)
-
-  ascending-map : (before : A → A → Type 0) (before' : B → B → Type 0) → ((x y : A) → before x y → before' (f x) (f y)) → (xs : List A) → IsAscending before xs → IsAscending before' (map f xs)
-  ascending-map before before' keeps [] up = tt
-  ascending-map before before' keeps (x ∷ xs) up = (
-    all_from_among (before' (f x)) (map f xs) (λ y among. let (z, there, e) = among_map y xs among in subst (before' (f x)) (sym e) (keeps x z (all_among (before x) xs z up.0 there))),
-    ascending-map before before' keeps xs up.1,
-  )
-
   -- what a function that keeps the order makes of a listing
   pub IsListing-map : (before : A → A → Type 0) (before' : B → B → Type 0) → ((x y : A) → before x y → before' (f x) (f y)) → (P : A → Type 0) (xs : List A) → IsListing P before xs → IsListing (λ y. (x : A) × P x × (y ≡ f x)) before' (map f xs)
   IsListing-map before before' keeps P xs l = record {
     exactly = λ y. (
-      λ among. let (x, there, e) = among_map y xs among in (x, (l.exactly x).0 there, e),
-      λ (x, p, e). subst (λ (z : B). IsAmong z (map f xs)) (sym e) (map_among x xs ((l.exactly x).1 p)),
+      λ among. let (x, there, e) = from_map f y xs among in (x, (l.exactly x).0 there, e),
+      λ (x, p, e). subst (λ (z : B). IsAmong z (map f xs)) (sym e) (among_map f x xs ((l.exactly x).1 p)),
     );
-    ascending = ascending-map before before' keeps xs l.ascending;
+    ascending = ascending_map before f before' keeps xs l.ascending;
   }
 
 -- ---- there is a listing of the numbers below a bound that pass a test
@@ -307,6 +249,10 @@ states_of_test n p = listing_below StateBefore StateBefore-transitive StateBefor
 pub pairs_of_test : (n : ℕ) (p : ℕ → Bool) → (xs : List ℕ) × IsListing (λ s. (s < 2 ^ n) × IsTrue (p s)) PairBefore xs
 pairs_of_test n p = listing_below PairBefore PairBefore-transitive PairBefore-total p (2 ^ n)
 
+-- ---- the minimal ones
+pub minimal_same : (P Q : ℕ → Type 0) → ((s : ℕ) → P s ↔ Q s) → (s : ℕ) → IsMinimal P s → IsMinimal Q s
+minimal_same P Q same s h = record { one = (same s).0 h.one; least = λ t q within. h.least t ((same t).1 q) within }
+
 -- ---- the members of a set are a listing
 members_from-ascending : (w i s : ℕ) → IsAscending (λ (a b : ℕ). a < b) (members_from i w s)
 unfolding members_from
@@ -326,3 +272,6 @@ members_listing s = record {
   );
   ascending = members_from-ascending s 0 s;
 }
+
+pub members_all_below : (s n : ℕ) → s < 2 ^ n → AllByRecursion (λ k. k < n) (members s)
+members_all_below s n small = all_from_among (λ k. k < n) (members s) (λ k among. members_below s n k small (((members_listing s).exactly k).0 among))

@@ -8,3 +8,6 @@ pub mod Minimal
 pub mod Pairs
 pub mod Antichains
 pub mod Words
+pub mod NumberOrder
+pub mod Numbers
+pub mod Transversals

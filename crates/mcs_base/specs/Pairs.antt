@@ -4,8 +4,8 @@ use Rattle.mcs_sets.specs.Sets.{has, such_that}
 
 -- the first set: the rules that are removed
 unfoldable pub removed_of : ℕ → ℕ
-removed_of pair = such_that 64 (λ r. has pair (2 * r))
+removed_of pair = such_that pair (λ r. has pair (2 * r))
 
 -- the second set: the rules that are forced
 unfoldable pub forced_of : ℕ → ℕ
-forced_of pair = such_that 64 (λ r. has pair (2 * r + 1))
+forced_of pair = such_that pair (λ r. has pair (2 * r + 1))

@@ -4,7 +4,7 @@ ghost use Rattle.std.specs.Prelude.{◌≡◌, ◌≤◌, ◌<◌, ◌+◌, ◌+
 ghost use Rattle.std.specs.Bool.{MatchBool};
 ghost use Rattle.mcs_base.specs.Antichains.{IsAntichain, HasOneWithin, not_containing};
 
-use crate::marks::Marks;
+use crate::kinds::Marks;
 use crate::memory::Memory;
 use std::alloc::Global;
 use std::marker::Model;

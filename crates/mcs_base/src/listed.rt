@@ -4,9 +4,7 @@ ghost use Rattle.std.specs.Prelude.{◌<◌};
 ghost use Rattle.mcs_sets.specs.Orders.{StateBefore, PairBefore};
 ghost use Rattle.mcs_base.specs.Listings.{IsAmong, IsListing};
 
-use crate::active::Active;
-use crate::marks::Marks;
-use crate::vars::Vars;
+use crate::kinds::{Active, Marks, Vars};
 
 /// Makes of the states their listing: each of them once, in the order of states. It takes no memory.
 pub fn list_states(states: &mut Vec<Vars>)

@@ -1,11 +1,10 @@
 //! A pair of sets of bridge rules, as one set of marks.
 
-ghost use Rattle.std.specs.Prelude.{◌≡◌, ◌<◌, ◌+◌, ◌*◌};
+ghost use Rattle.std.specs.Prelude.{◌≡◌, ◌<◌, ◌+◌, ◌*◌, ◌^◌};
 ghost use Rattle.mcs_sets.specs.Sets.{has, such_that};
 ghost use Rattle.mcs_base.specs.Pairs.{removed_of, forced_of};
 
-use crate::active::Active;
-use crate::marks::Marks;
+use crate::kinds::{Active, Marks};
 use std::marker::Model;
 
 /// A pair of sets of bridge rules, each numbered below 64: the rules that are removed, and those that are
@@ -30,7 +29,8 @@ impl Model for Pair {
 #[tactic(auto, using(crate::proofs::PairLemmas::loops))]
 fn part(marks: Marks, offset: u32) -> Active
     requires { offset < 2 }
-    ensures { result ≡ such_that 64 (λ r. has marks (2 * r + offset)) }
+    ensures rules { result ≡ such_that 64 (λ r. has marks (2 * r + offset)) }
+    ensures in_range { marks < 2 ^ 128 }
 {
     let mut rules = Active::empty();
     for rule in 0..64 {

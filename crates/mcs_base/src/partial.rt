@@ -4,7 +4,7 @@ ghost use Rattle.std.specs.Prelude.{◌≡◌, ◌↔◌, IsTrue};
 ghost use Rattle.mcs_sets.specs.Sets.{Within};
 ghost use Rattle.mcs_base.specs.Partials.{IsPartial, Fits, united, restricted};
 
-use crate::vars::Vars;
+use crate::kinds::Vars;
 use std::marker::Model;
 
 /// A value for each variable of a mask: those in `values` are true, the others of the mask false.

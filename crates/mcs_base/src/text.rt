@@ -1,6 +1,6 @@
 //! A growing text.
 
-ghost use Rattle.std.specs.Prelude.{◌≡◌, List, ℕ, [], ◌++◌, OnOk, OnErr, decimal};
+ghost use Rattle.std.specs.Prelude.{◌≡◌, List, ℕ, [], ◌++◌, take, OnOk, OnErr, decimal};
 
 use crate::memory::Memory;
 use itoa::Buffer;
@@ -31,6 +31,13 @@ impl Text {
         }
     }
 
+    /// An empty text over the same allocator. It takes no memory.
+    pub fn empty_like(&self) -> Text
+        ensures { result ≡ [] }
+    {
+        Text::new(*self.bytes.allocator())
+    }
+
     /// Puts the bytes at the end. Without the memory for all of them the text stays as it was.
     pub fn push(&mut self, bytes: &[u8]) -> Result<(), Memory>
         ensures ok { OnOk result (self.new ≡ self.old ++ bytes.now) }
@@ -54,6 +61,13 @@ impl Text {
         ensures { result.now ≡ self.now }
     {
         self.bytes.as_slice()
+    }
+
+    /// Takes off what stands after the first `len` bytes, where there are more. It takes no memory.
+    pub fn cut(&mut self, len: usize)
+        ensures { self.new ≡ take len self.old }
+    {
+        self.bytes.truncate(len);
     }
 
     /// Makes the text empty. It keeps its memory.

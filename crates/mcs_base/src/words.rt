@@ -3,29 +3,12 @@
 ghost use Rattle.std.specs.Prelude.{◌≡◌};
 ghost use Rattle.std.specs.List.{list_all, list_any};
 ghost use Rattle.std.specs.Str.{bytes_eq};
-ghost use Rattle.mcs_base.specs.Words.{is_letter, is_word_byte, is_word, is_reserved, is_name};
+ghost use Rattle.mcs_base.specs.Words.{keyword_bytes, is_letter, is_word_byte, is_word, is_reserved, is_name};
 
-/// The words that are no names.
-const RESERVED: [&[u8]; 15] = [
-    b"context",
-    b"bridge",
-    b"classical",
-    b"default",
-    b"program",
-    b"not",
-    b"if",
-    b"true",
-    b"false",
-    b"version",
-    b"keep",
-    b"closed",
-    b"weight",
-    b"autoepistemic",
-    b"know",
-];
+use crate::keyword::{KEYWORDS, Keyword};
 
 /// The most bytes of a name.
-const MOST_BYTES: usize = 64;
+pub const MOST_NAME_BYTES: usize = 64;
 
 /// Whether the byte is one of `a` to `z`, `A` to `Z` and `_`.
 pub fn is_letter(byte: u8) -> bool
@@ -58,23 +41,23 @@ pub fn is_word(bytes: &[u8]) -> bool
     }
 }
 
-/// Whether the word is among these.
-fn is_one_of(word: &[u8], words: &[&[u8]]) -> bool
-    ensures { result ≡ list_any (λ w. bytes_eq word.now w.now) words.now }
+/// Whether the word is one of these.
+fn is_one_of(word: &[u8], keywords: &[Keyword]) -> bool
+    ensures { result ≡ list_any (λ k. bytes_eq word.now (keyword_bytes k)) keywords.now }
 {
-    words.iter().any(|other| word == *other)
+    keywords.iter().any(|keyword| word == keyword.spelling())
 }
 
 /// Whether the word is reserved, and so no name.
 pub fn is_reserved(word: &[u8]) -> bool
     ensures { result ≡ is_reserved word.now }
 {
-    is_one_of(word, &RESERVED)
+    is_one_of(word, &KEYWORDS)
 }
 
 /// Whether these spell a name: a word that is not reserved and has at most 64 bytes.
 pub fn is_name(bytes: &[u8]) -> bool
     ensures { result ≡ is_name bytes.now }
 {
-    is_word(bytes) && !is_reserved(bytes) && bytes.len() <= MOST_BYTES
+    is_word(bytes) && !is_reserved(bytes) && bytes.len() <= MOST_NAME_BYTES
 }

@@ -99,6 +99,17 @@ has-such_that (suc n) p k = at (has-such_that n p k) (p n) refl
     at rest true e = rw (has-union, rest, has-single) (alone e (eqb k n) refl)
     at rest false e = rw rest (other e (eqb k n) refl)
 
+pub such_that-more : (n : ℕ) (p : ℕ → Bool) → such_that (n + 1) p ≡ cond (p n) (union (such_that n p) (single n)) (such_that n p)
+unfolding such_that
+such_that-more n p = rw add-one refl
+
+pub such_that-none : (p : ℕ → Bool) → such_that 0 p ≡ 0
+unfolding such_that
+such_that-none p = refl
+
+-- the steps of a loop that puts in what passes a test
+pub ruleset such_that_steps = (such_that-more, such_that-none)
+
 pub union-lt : (n a b : ℕ) → a < 2 ^ n → b < 2 ^ n → union a b < 2 ^ n
 unfolding union
 union-lt n a b = or_lt n a b
@@ -204,6 +215,11 @@ length-count (suc w) i s = at (has s i) (length-count w (i + 1) s)
 
 pub size-count : (s n : ℕ) → s < 2 ^ n → size s ≡ count_from 0 n (has s)
 size-count s n small = ap length (members-width s n small) ∙ length-count n 0 s
+
+pub count_all : (p : ℕ → Bool) (w i : ℕ) → ((k : ℕ) → k < i + w → p k ≡ true) → count_from i w p ≡ w
+unfolding count_from
+count_all p zero i all = refl
+count_all p (suc w) i all = rw (all i (omega arith)) (omega (arith, count_all p w (i + 1) (λ k less. all k (omega arith))))
 
 pub count_le : (p q : ℕ → Bool) → ((k : ℕ) → p k ≡ true → q k ≡ true) → (w i : ℕ) → count_from i w p ≤ count_from i w q
 unfolding count_from

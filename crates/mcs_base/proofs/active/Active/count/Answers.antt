@@ -1,5 +1,0 @@
-use Rattle.mcs_sets.proofs.SetLemmas.{size-below}
-use Rattle.mcs_base.proofs.active.Active.count.Goals as goal
-
-pub returns-clause-few : goal.returns-clause-few
-returns-clause-few c = rw c.count.ensures.number (size-below _ 64 c.self.invariant)

@@ -1,8 +1,0 @@
-use Rattle.mcs_sets.proofs.SetLemmas.{members-below, size-below}
-use Rattle.mcs_base.proofs.marks.Marks.members.Goals as goal
-
-pub returns-clause-below : goal.returns-clause-below
-returns-clause-below c = rw c.members.ensures (members-below _ 128 c.self.invariant)
-
-pub returns-clause-few : goal.returns-clause-few
-returns-clause-few c = rw c.members.ensures (size-below _ 128 c.self.invariant)

@@ -1,0 +1,180 @@
+-- The lattice of finite sets: what is in unions, common parts and differences, what lies within what, and how many members there are.
+use Rattle.std.proofs.Common.{◌≡◌, ℕ, ◌+◌, ◌^◌, ◌<◌, ◌≤◌, Bool, true, false, cond, not, ◌&&◌, eqb, sym, ap, ◌∙◌, inl, inr, ◌⊎◌, ◌↔◌, arith, bit_xor, length, ◌∷◌}
+use Rattle.std.proofs.lemmas.Bool.{cases_Bool, false_from_ne_true}
+use Rattle.std.proofs.lemmas.Bool.Decides.{nat_tests}
+use Rattle.mcs_sets.specs.Sets.{has, single, union, common, minus, such_that, members, Within, Meets, size}
+use Rattle.mcs_sets.specs.Orders.{PairBefore}
+use Rattle.mcs_sets.proofs.SetLemmas.{same_set, has-empty, has-single, has-union, has-common, has-minus, has-differ, members-least, members-empty, below_power, single-lt, union-lt, such_that-lt, minus-le, Within-le, size-le, size-union, within_where_common, common_where_within, state_before_where_lex, size-count, count_all, has-such_that}
+
+-- ---- equations
+pub union-none : (a : ℕ) → union a 0 ≡ a
+union-none a = same_set _ _ (λ k. grind (arith, has-union, has-empty))
+
+pub none-union : (a : ℕ) → union 0 a ≡ a
+none-union a = same_set _ _ (λ k. grind (arith, has-union, has-empty))
+
+pub union_assoc : (a b c : ℕ) → union (union a b) c ≡ union a (union b c)
+union_assoc a b c = same_set _ _ (λ k. grind (arith, has-union))
+
+pub common-union : (a b c : ℕ) → common (union a b) c ≡ union (common a c) (common b c)
+common-union a b c = same_set _ _ (λ k. grind (arith, has-union, has-common))
+
+pub common-union_within : (a b c : ℕ) → Within b c → common (union a b) c ≡ union (common a c) b
+common-union_within a b c within = common-union a b c ∙ ap (union (common a c)) (common_where_within b c within)
+
+pub common-common : (a b : ℕ) → common (common a b) b ≡ common a b
+common-common a b = same_set _ _ (λ k. grind (arith, has-common))
+
+pub minus-none : (a : ℕ) → minus a 0 ≡ a
+minus-none a = same_set _ _ (λ k. grind (arith, has-minus, has-empty))
+
+pub minus_itself : (a : ℕ) → minus a a ≡ 0
+minus_itself a = same_set _ _ (λ k. grind (arith, has-minus, has-empty))
+
+pub minus-minus : (a b c : ℕ) → minus (minus a b) c ≡ minus a (union b c)
+minus-minus a b c = same_set _ _ (λ k. grind (arith, has-union, has-minus))
+
+pub minus-union_back : (a b : ℕ) → Within b a → union (minus a b) b ≡ a
+minus-union_back a b within = same_set _ _ (λ k. let h = within k in grind (arith, has-union, has-minus))
+
+-- what is in one of two sets and not in the other
+pub union-minus_both : (a b : ℕ) → union (minus a b) (minus b a) ≡ bit_xor a b
+union-minus_both a b = same_set _ _ (λ k. grind (arith, has-union, has-minus, has-differ))
+
+-- ---- members
+pub has-single_itself : (k : ℕ) → has (single k) k ≡ true
+has-single_itself k = grind (arith, nat_tests, has-single)
+
+pub has-if : (t : Bool) (s k : ℕ) → has (cond t s 0) k ≡ (t && has s k)
+has-if t s k = grind (arith, has-empty)
+
+pub has-common_kept : (a b k : ℕ) → has b k ≡ true → has (common a b) k ≡ has a k
+has-common_kept a b k is = grind (arith, has-common)
+
+pub none_from_no_member : (s : ℕ) → ((k : ℕ) → has s k ≡ false) → s ≡ 0
+none_from_no_member s none = same_set s 0 (λ k. none k ∙ sym (has-empty k))
+
+pub in_union : (a b k : ℕ) → has (union a b) k ≡ true → (has a k ≡ true) ⊎ (has b k ≡ true)
+in_union a b k is = grind (arith, has-union)
+
+pub in_common : (a b k : ℕ) → has (common a b) k ≡ true → (has a k ≡ true) × (has b k ≡ true)
+in_common a b k is = grind (arith, has-common)
+
+pub in_minus : (a b k : ℕ) → has (minus a b) k ≡ true → (has a k ≡ true) × (has b k ≡ false)
+in_minus a b k is = grind (arith, has-minus)
+
+pub in_with : (a i k : ℕ) → (has (union a (single i)) k ≡ true) ↔ ((has a k ≡ true) ⊎ (k ≡ i))
+in_with a i k = (λ h. grind (arith, nat_tests, has-union, has-single), λ h. grind (arith, nat_tests, has-union, has-single))
+
+pub has-without_itself : (a k : ℕ) → has (minus a (single k)) k ≡ false
+has-without_itself a k = grind (arith, has-minus a (single k) k, has-single_itself k)
+
+pub has-without_other : (a k j : ℕ) → has a j ≡ true → eqb j k ≡ false → has (minus a (single k)) j ≡ true
+has-without_other a k j is other = grind (arith, has-minus a (single k) j, has-single k j)
+
+-- ---- within
+pub within_antisymmetric : (a b : ℕ) → Within a b → Within b a → a ≡ b
+within_antisymmetric a b to from = same_set a b (λ k. let h = to k in let h' = from k in grind arith)
+
+pub none_within : (a : ℕ) → Within 0 a
+none_within a k is = grind (arith, has-empty)
+
+pub within_union_left : (a b : ℕ) → Within a (union a b)
+within_union_left a b k is = grind (arith, has-union)
+
+pub within_union_right : (a b : ℕ) → Within b (union a b)
+within_union_right a b k is = grind (arith, has-union)
+
+pub union_within : (a b c : ℕ) → Within a c → Within b c → Within (union a b) c
+union_within a b c first second k is = elim (in_union a b k is) [ inl h ↦ first k h | inr h ↦ second k h ]
+
+pub unions_within : (a b c d : ℕ) → Within a c → Within b d → Within (union a b) (union c d)
+unions_within a b c d first second k is = let h = first k in let h' = second k in grind (arith, has-union)
+
+pub commons_within : (a b c d : ℕ) → Within a c → Within b d → Within (common a b) (common c d)
+commons_within a b c d first second k is = let h = first k in let h' = second k in grind (arith, has-common)
+
+pub single_within : (k c : ℕ) → has c k ≡ true → Within (single k) c
+single_within k c is j h = let same : j ≡ k = grind (arith, nat_tests, has-single) in rw same is
+
+pub with_within : (a k c : ℕ) → Within a c → has c k ≡ true → Within (union a (single k)) c
+with_within a k c within is = union_within a (single k) c within (single_within k c is)
+
+pub common_within_left : (a b : ℕ) → Within (common a b) a
+common_within_left a b k is = (in_common a b k is).0
+
+pub common_within_right : (a b : ℕ) → Within (common a b) b
+common_within_right a b k is = (in_common a b k is).1
+
+pub minus_within : (a b : ℕ) → Within (minus a b) a
+minus_within a b k is = (in_minus a b k is).0
+
+pub cases_within : (a b : ℕ) → Within a b ⊎ ¬ Within a b
+cases_within a b = elim (cases_Bool (eqb (common a b) a)) [
+  | inl e ↦ inl (within_where_common a b (grind (arith, nat_tests)))
+  | inr e ↦ inr (λ within. let same = common_where_within a b within in grind (arith, nat_tests))
+]
+
+pub meets_within : (a b e : ℕ) → Within a b → Meets a e → Meets b e
+meets_within a b e within meets = record { member = meets.member; in_first = within meets.member meets.in_first; in_second = meets.in_second }
+
+-- ---- below a bound
+pub minus-lt : (n a b : ℕ) → a < 2 ^ n → minus a b < 2 ^ n
+minus-lt n a b small = omega (arith, minus-le a b)
+
+pub common-lt : (n a b : ℕ) → a < 2 ^ n → common a b < 2 ^ n
+common-lt n a b small = omega (arith, Within-le (common a b) a (common_within_left a b))
+
+pub with-lt : (n a k : ℕ) → a < 2 ^ n → k < n → union a (single k) < 2 ^ n
+with-lt n a k small less = union-lt n a (single k) small (single-lt n k less)
+
+pub none-lt : (n : ℕ) → 0 < 2 ^ n
+none-lt n = omega (arith, below_power n)
+
+pub below_from_within : (s n : ℕ) → Within s (such_that n (λ k. true)) → s < 2 ^ n
+below_from_within s n within = omega (arith, Within-le s _ within, such_that-lt n (λ k. true))
+
+-- a set without one of its members is less
+pub without-lt : (s k : ℕ) → has s k ≡ true → minus s (single k) < s
+without-lt s k is = elim (cases_Bool (eqb (minus s (single k)) s)) [
+  | inl e ↦ let same : minus s (single k) ≡ s = grind (arith, nat_tests) in let h = ap (λ t. has t k) same in grind (arith, has-minus s (single k) k, has-single_itself k)
+  | inr e ↦ let le = minus-le s (single k) in grind (arith, nat_tests)
+]
+
+-- ---- how many
+pub size-none : size 0 ≡ 0
+size-none = ap length members-empty
+
+pub size-single : (k : ℕ) → size (single k) ≡ 1
+size-single k = ap length (members-least (single k) k (record { in_set = has-single_itself k; none_below = λ j less. grind (arith, nat_tests, has-single) }) ∙ ap (λ s. k ∷ members s) (minus_itself (single k)) ∙ ap (λ ks. k ∷ ks) members-empty)
+
+pub size-all : (n : ℕ) → size (such_that n (λ k. true)) ≡ n
+size-all n = size-count _ n (such_that-lt n _) ∙ count_all _ n 0 (λ k less. grind (arith, nat_tests, has-such_that n (λ j. true) k))
+
+pub size_within : (a b : ℕ) → Within a b → size a ≤ size b
+size_within a b within = size-le a b b (below_power b) within
+
+pub size-union_apart : (a b : ℕ) → ¬ Meets a b → size (union a b) ≡ size a + size b
+size-union_apart a b apart = size-union a b (a + b) (omega (arith, below_power (a + b))) (omega (arith, below_power (a + b))) (λ k is. false_from_ne_true _ (λ h. apart (record { member = k; in_first = is; in_second = h })))
+
+pub size-without : (s k : ℕ) → has s k ≡ true → size s ≡ size (minus s (single k)) + 1
+size-without s k is = ap (λ t. size t) (sym (minus-union_back s (single k) (single_within k s is)))
+    ∙ size-union_apart (minus s (single k)) (single k) (λ meets. grind (arith, has-minus s (single k) meets.member, meets.in_first, meets.in_second))
+    ∙ ap (λ n. size (minus s (single k)) + n) (size-single k)
+
+pub none_from_size : (s : ℕ) → size s ≡ 0 → s ≡ 0
+none_from_size s none = none_from_no_member s (λ k. false_from_ne_true _ (λ is. absurd (omega (arith, size-without s k is))))
+
+-- a set has more members than one within it that lacks one of them
+pub size-less : (a b k : ℕ) → Within b a → has a k ≡ true → has b k ≡ false → size b < size a
+size-less a b k within is not = let le = size_within b (minus a (single k)) (λ j h. let h' = within j h in elim (cases_Bool (eqb j k)) [
+  | inl e ↦ let same : j ≡ k = grind (arith, nat_tests) in let h'' = ap (has b) same in grind arith
+  | inr e ↦ grind (arith, has-minus a (single k) j, has-single k j)
+]) in omega (arith, size-without a k is)
+
+-- no later set lies within an earlier one
+pub not_within_before : (a b : ℕ) → PairBefore a b → Within b a → ⊥
+not_within_before a b (inl less) within = omega (arith, size_within b a within)
+not_within_before a b (inr (same, lex)) within =
+    let before = state_before_where_lex a b (a + b) (omega (arith, below_power (a + b))) (omega (arith, below_power (a + b))) same lex in
+    omega (arith, size-less a b before.at within before.in_first before.not_in_second)
