@@ -14,7 +14,7 @@ pub fn is_read<H: Shelf>(
     limit: usize,
     want: &[u8],
 ) -> bool {
-    match read_whole(shelf, alloc, name, limit) {
+    match read_whole(alloc, shelf, name, limit) {
         Ok(bytes) => bytes.as_slice() == want,
         Err(_) => false,
     }
@@ -28,7 +28,7 @@ pub fn is_unread<H: Shelf>(
     limit: usize,
     want: ReadAnswer,
 ) -> bool {
-    match read_whole(shelf, alloc, name, limit) {
+    match read_whole(alloc, shelf, name, limit) {
         Ok(_) => false,
         Err(answer) => answer == want,
     }

@@ -10,6 +10,17 @@ pub record TakesNext (n : ℕ) (buffer left : List ℕ) (left_after : Option (Li
   pub rest : left_after ≡ Some (drop n left)
   pub none : (n ≡ 0) ↔ (left ≡ [])
 
+-- at most so many bytes were taken from the front of these, and the others are left
+abbrev pub TakesAtMost : ℕ → List ℕ → Option (List ℕ) → Type 0
+TakesAtMost most bytes left = (n : ℕ) × (n ≤ most) × (left ≡ Some (drop n bytes))
+
+-- what stands on an output: the bytes written and the first 256 bytes noted, where they are told, and
+-- a count of faults
+pub record Device : Type 0 where
+  pub written : Option (List ℕ)
+  pub notes : Option (List ℕ)
+  pub faults : ℕ
+
 -- the bytes that are told, and then these
 abbrev pub appended : Option (List ℕ) → List ℕ → Option (List ℕ)
 appended told bytes = option_map (λ w. w ++ bytes) told

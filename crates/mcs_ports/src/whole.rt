@@ -1,8 +1,8 @@
 //! Whole reads and whole writes over the devices.
 
-ghost use Rattle.std.specs.Prelude.{◌≡◌, ℕ, ◌<◌, ◌≤◌, ◌+◌, [], List, Some, length, take, drop, is_some, IsNone, IfSome, IfOk, OnOk, OnErr, IsErrOf};
+ghost use Rattle.std.specs.Prelude.{◌≡◌, ◌⊎◌, ℕ, ◌<◌, ◌≤◌, ◌+◌, [], List, Some, length, take, drop, is_some, IsNone, IfSome, IfOk, OnOk, OnErr, IsErrOf};
 ghost use Rattle.mcs_ports.specs.Causes.{Rose, HasCause};
-ghost use Rattle.mcs_ports.specs.Pieces.{appended};
+ghost use Rattle.mcs_ports.specs.Pieces.{TakesAtMost, appended};
 ghost use Rattle.mcs_ports.specs.declared.whole.ReadAnswer.TheVariants.{Memory};
 
 use crate::{Failed, Shelf, Sink};
@@ -48,10 +48,10 @@ const PIECE: usize = 4096;
 ///
 /// `Fault` comes only where the shelf's count of faults rose, as it does where the file is not there.
 /// `TooLong` comes exactly where the file has more than `limit` bytes; one more than those is read.
-/// `Memory` comes where memory ran out.
+/// `Memory` comes where memory ran out. Whatever the answer, no more than `limit + 1` bytes are taken.
 pub fn read_whole<H: Shelf>(
-    shelf: &mut H,
     alloc: Global,
+    shelf: &mut H,
     name: &str,
     limit: usize,
 ) -> Result<Vec<u8>, ReadAnswer>
@@ -69,6 +69,10 @@ pub fn read_whole<H: Shelf>(
     ensures stops { IsErrOf result ReadAnswer.TooLong → IfSome (H.held shelf.old)
         (λ files. IfSome (files name.now)
         (λ bytes. H.left shelf.new ≡ Some (drop (limit + 1) bytes))) }
+    ensures taken { IfSome (H.held shelf.old)
+        (λ files. IfSome (files name.now)
+        (λ bytes. TakesAtMost (limit + 1) bytes (H.left shelf.new)
+        ⊎ (IsErrOf result ReadAnswer.Fault × (H.left shelf.new ≡ Some [])))) }
     ensures missing { IfSome (H.held shelf.old)
         (λ files. IsNone (files name.now) → IsErrOf result ReadAnswer.Fault) }
     ensures at_end { OnOk result (IfSome (H.left shelf.new) (λ l. l ≡ [])) }
@@ -76,11 +80,11 @@ pub fn read_whole<H: Shelf>(
     if shelf.open(name).is_err() {
         return Err(ReadAnswer::Fault);
     }
-    read_rest(shelf, alloc, limit)
+    read_rest(alloc, shelf, limit)
 }
 
 // Reads what is left of the open file, if that is at most `limit` bytes.
-fn read_rest<H: Shelf>(shelf: &mut H, alloc: Global, limit: usize) -> Result<Vec<u8>, ReadAnswer>
+fn read_rest<H: Shelf>(alloc: Global, shelf: &mut H, limit: usize) -> Result<Vec<u8>, ReadAnswer>
     ensures later { H.faults shelf.old ≤ H.faults shelf.new }
     ensures fault { IsErrOf result ReadAnswer.Fault → Rose (H.faults shelf.old) (H.faults shelf.new) }
     ensures within { IfOk result (λ bytes. length bytes.items ≤ limit) }
@@ -91,6 +95,7 @@ fn read_rest<H: Shelf>(shelf: &mut H, alloc: Global, limit: usize) -> Result<Vec
         → IfSome (H.left shelf.old) (λ l. limit < length l) }
     ensures stops { IsErrOf result ReadAnswer.TooLong
         → IfSome (H.left shelf.old) (λ l. H.left shelf.new ≡ Some (drop (limit + 1) l)) }
+    ensures taken { IfSome (H.left shelf.old) (λ l. TakesAtMost (limit + 1) l (H.left shelf.new)) }
     ensures at_end { OnOk result (IfSome (H.left shelf.new) (λ l. l ≡ [])) }
 {
     let mut bytes = Vec::new(alloc);
@@ -111,11 +116,11 @@ fn read_rest<H: Shelf>(shelf: &mut H, alloc: Global, limit: usize) -> Result<Vec
 ///
 /// `Failed` comes only where the sink's count of faults rose; then a front of the piece was written.
 pub fn write_whole<K: Sink>(sink: &mut K, bytes: &[u8]) -> Result<(), Failed>
-    ensures cause { HasCause (K.faults sink.old) (K.faults sink.new) result }
-    ensures written { OnOk result (K.written sink.new ≡ appended (K.written sink.old) bytes.now) }
+    ensures cause { HasCause (K.device sink.old).faults (K.device sink.new).faults result }
+    ensures written { OnOk result ((K.device sink.new).written ≡ appended (K.device sink.old).written bytes.now) }
     ensures prefix { OnErr result ((n : ℕ) × (n ≤ length bytes.now)
-        × (K.written sink.new ≡ appended (K.written sink.old) (take n bytes.now))) }
-    ensures notes { K.notes sink.new ≡ K.notes sink.old }
+        × ((K.device sink.new).written ≡ appended (K.device sink.old).written (take n bytes.now))) }
+    ensures notes { (K.device sink.new).notes ≡ (K.device sink.old).notes }
 {
     let mut taken = 0;
     while taken < bytes.len() {

@@ -9,7 +9,7 @@ loop-taken-preserved g c =
       within = search rules;
       later = omega (arith, c.in_ok-taken.ensures.cause.later);
       written = c.in_ok-taken.ensures.written
-          ∙ appended-more (g.K.Sink.written c.args.sink.now) (g.K.Sink.written c.loop-taken.sink) c.args.bytes.now c.loop-taken.taken c.in_ok-taken.field-0 c.loop-taken.invariant.written;
+          ∙ appended-more (g.K.Sink.device c.args.sink.now).written (g.K.Sink.device c.loop-taken.sink).written c.args.bytes.now c.loop-taken.taken c.in_ok-taken.field-0 c.loop-taken.invariant.written;
       notes = search rules;
     }
 
