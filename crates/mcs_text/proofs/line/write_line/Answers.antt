@@ -1,0 +1,5 @@
+use Rattle.mcs_text.proofs.WriteLaws.{writes_fault}
+use Rattle.mcs_text.proofs.line.write_line.Goals as goal
+
+pub returns-in-Err : goal.returns-in-Err
+returns-in-Err g c = writes_fault _ _ _ _ c.bytes.ensures c.in-Err.ensures.cause.failed c.in-Err.ensures.cause.later c.in-Err.ensures.notes c.in-Err.ensures.prefix

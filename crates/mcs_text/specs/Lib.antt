@@ -1,0 +1,2 @@
+pub mod Separated
+pub mod Writes
