@@ -1,6 +1,6 @@
 -- Which rules apply, by the sets of variables that they read.
 use Rattle.std.proofs.Common.{◌≡◌, ℕ, ◌<◌, Bool, true, false, not, ◌&&◌, ◌||◌, cond, eqb, ltb, List, [], ◌∷◌, length, Option, Some, None, refl, sym, ap, ◌∙◌, inl, inr, ◌⊎◌, ◌↔◌, arith, true≢false, slice_get}
-use Rattle.std.proofs.lemmas.Bool.{and_parts}
+use Rattle.std.proofs.lemmas.Bool.{and_parts, or_cases, or_left, or_right, and_from}
 use Rattle.std.proofs.lemmas.Bool.Decides.{nat_tests}
 use Rattle.std.specs.List.{list_any, list_all, AllByRecursion}
 use Rattle.mcs_sets.specs.Sets.{has, single, union, common, members, Within, Meets}
@@ -13,36 +13,18 @@ use Rattle.mcs_system.specs.Systems.{same_read, variables, IsVariable, believed_
 use Rattle.mcs_system.specs.Parts.{is_read_among, variables_read}
 use Rattle.mcs_system.specs.Faults.{reads_of, IsValid}
 use Rattle.mcs_system.proofs.ValidLemmas.{read_in_range}
-use Rattle.mcs_system.proofs.Members.{get-lt, among_any, among_left, get_among}
+use Rattle.std.proofs.lemmas.Option.{slice_get_within}
+use Rattle.mcs_base.proofs.Among.{among_any, among_left, get_among}
 use Rattle.mcs_system.proofs.Sameness.{same_read-is, same_read-itself}
 use Rattle.mcs_system.proofs.VariableLemmas.{believed_from, from_believed, read_is_variable}
 use Rattle.mcs_system.proofs.Distinct.{one_number}
+use Rattle.std.specs.Cmp.{both_ways}
 
 -- ---- gathering the rules that apply
 -- those already found, and those of the list that apply
 unfoldable pub applying : System → ℕ → ℕ → List ℕ → ℕ
 applying m σ found [] = found
 applying m σ found (r ∷ rs) = applying m σ (cond (is_applicable m σ (slice_get m.bridges r)) (union found (single r)) found) rs
-
-or_parts : (u v : Bool) → (u || v) ≡ true → (u ≡ true) ⊎ (v ≡ true)
-or_parts true v e = inl refl
-or_parts false v e = inr e
-
-or_first : (u v : Bool) → u ≡ true → (u || v) ≡ true
-or_first true v e = refl
-or_first false v e = absurd (true≢false (sym e))
-
-or_second : (u v : Bool) → v ≡ true → (u || v) ≡ true
-or_second true v e = refl
-or_second false v e = e
-
-both_true : (u v : Bool) → u ≡ true → v ≡ true → (u && v) ≡ true
-both_true u v e e' = rw (e, e') refl
-
-alike : (u v : Bool) → (u ≡ true → v ≡ true) → (v ≡ true → u ≡ true) → u ≡ v
-alike true v a b = sym (a refl)
-alike false true a b = b refl
-alike false false a b = refl
 
 applying-has : (m : System) (σ k : ℕ) (rs : List ℕ) (found : ℕ) → (has (applying m σ found rs) k ≡ true) ↔ ((has found k ≡ true) ⊎ (IsAmong k rs × (is_applicable m σ (slice_get m.bridges k) ≡ true)))
 unfolding applying
@@ -53,14 +35,14 @@ applying-has m σ k (r ∷ rs) found = at (is_applicable m σ (slice_get m.bridg
     apply j = is_applicable m σ (slice_get m.bridges j) ≡ true
 
     added : (has (union found (single r)) k ≡ true) → (has found k ≡ true) ⊎ (k ≡ r)
-    added h = elim (or_parts (has found k) (eqb k r) (sym (has-union found (single r) k ∙ ap (λ u. has found k || u) (has-single r k)) ∙ h)) [
+    added h = elim (or_cases (has found k) (eqb k r) (sym (has-union found (single r) k ∙ ap (λ u. has found k || u) (has-single r k)) ∙ h)) [
       | inl e ↦ inl e
       | inr e ↦ inr (grind (arith, nat_tests))
     ]
 
     adds : (has found k ≡ true) ⊎ (k ≡ r) → has (union found (single r)) k ≡ true
-    adds (inl e) = has-union found (single r) k ∙ or_first (has found k) (has (single r) k) e
-    adds (inr e) = has-union found (single r) k ∙ or_second (has found k) (has (single r) k) (has-single r k ∙ grind (arith, nat_tests))
+    adds (inl e) = has-union found (single r) k ∙ or_left (has found k) (has (single r) k) e
+    adds (inr e) = has-union found (single r) k ∙ or_right (has found k) (has (single r) k) (has-single r k ∙ grind (arith, nat_tests))
 
     at : (b : Bool) → is_applicable m σ (slice_get m.bridges r) ≡ b
         → ((f : ℕ) → (has (applying m σ f rs) k ≡ true) ↔ ((has f k ≡ true) ⊎ (IsAmong k rs × (is_applicable m σ (slice_get m.bridges k) ≡ true))))
@@ -88,19 +70,19 @@ applying-has m σ k (r ∷ rs) found = at (is_applicable m σ (slice_get m.bridg
 -- from the rules into a context those that apply are gathered
 pub applying-all : (m : System) (i σ : ℕ) → applying m σ 0 (members (rules_into m i)) ≡ common (applicable m σ) (rules_into m i)
 unfolding applicable
-applying-all m i σ = same_set _ _ (λ k. alike _ _ (to k) (from k))
+applying-all m i σ = same_set _ _ (λ k. both_ways _ _ (to k) (from k))
   where
     there : (k : ℕ) (o : Option Bridge) → slice_get m.bridges k ≡ o → applies_there (variables m) σ o ≡ true → k < length m.bridges
     there k None e applies = absurd (true≢false (sym applies))
-    there k (Some b) e applies = get-lt b m.bridges k e
+    there k (Some b) e applies = slice_get_within m.bridges k b e
 
     to : (k : ℕ) → has (applying m σ 0 (members (rules_into m i))) k ≡ true → has (common (applicable m σ) (rules_into m i)) k ≡ true
     to k h = elim ((applying-has m σ k (members (rules_into m i)) 0).0 h) [
       | inl none ↦ absurd (true≢false (sym none ∙ has-empty k))
       | inr (among, applies) ↦
           let less = there k (slice_get m.bridges k) refl applies in
-          has-common (applicable m σ) (rules_into m i) k ∙ both_true _ _
-          (has-such_that (length m.bridges) (λ j. is_applicable m σ (slice_get m.bridges j)) k ∙ both_true _ _ (grind (arith, nat_tests)) applies)
+          has-common (applicable m σ) (rules_into m i) k ∙ and_from _ _
+          (has-such_that (length m.bridges) (λ j. is_applicable m σ (slice_get m.bridges j)) k ∙ and_from _ _ (grind (arith, nat_tests)) applies)
           (((members_listing (rules_into m i)).exactly k).0 among)
     ]
 
@@ -123,7 +105,7 @@ has-variables_read : (vars reads : List Read) (v : ℕ) → (has (variables_read
 unfolding variables_read
 has-variables_read vars reads v = (
   λ h. let parts = and_parts _ _ (sym (has-such_that (length vars) (λ w. is_read_among reads (slice_get vars w)) v) ∙ h) in to (slice_get vars v) refl parts.1,
-  λ (r, is, among). has-such_that (length vars) (λ w. is_read_among reads (slice_get vars w)) v ∙ both_true _ _ (let less = get-lt r vars v is in grind (arith, nat_tests)) (ap (is_read_among reads) is ∙ among_any (same_read r) reads r among (same_read-itself r)),
+  λ (r, is, among). has-such_that (length vars) (λ w. is_read_among reads (slice_get vars w)) v ∙ and_from _ _ (let less = slice_get_within vars v r is in grind (arith, nat_tests)) (ap (is_read_among reads) is ∙ among_any (same_read r) reads r among (same_read-itself r)),
 )
   where
     to : (o : Option Read) → slice_get vars v ≡ o → is_read_among reads o ≡ true → (r : Read) × (slice_get vars v ≡ Some r) × IsAmong r reads
@@ -152,7 +134,7 @@ all_believed m σ reads known = (
 
     by_each : (rs : List Read) → ((r : Read) → IsAmong r rs → believed_among (variables m) σ r ≡ true) → list_all (believed_among (variables m) σ) rs ≡ true
     by_each [] each = refl
-    by_each (q ∷ qs) each = both_true _ _ (each q (inl refl)) (by_each qs (λ r h. each r (inr h)))
+    by_each (q ∷ qs) each = and_from _ _ (each q (inl refl)) (by_each qs (λ r h. each r (inr h)))
 
 -- none is believed where these variables do not meet the state
 pub none_believed : (m : System) (σ : ℕ) (reads : List Read) → (list_all (λ r. not (believed_among (variables m) σ r)) reads ≡ true) ↔ (¬ Meets (variables_read (variables m) reads) σ)
@@ -177,10 +159,10 @@ none_believed m σ reads = (
 
     by_each : (rs : List Read) → ((r : Read) → IsAmong r rs → not (believed_among (variables m) σ r) ≡ true) → list_all (λ r. not (believed_among (variables m) σ r)) rs ≡ true
     by_each [] each = refl
-    by_each (q ∷ qs) each = both_true _ _ (each q (inl refl)) (by_each qs (λ r h. each r (inr h)))
+    by_each (q ∷ qs) each = and_from _ _ (each q (inl refl)) (by_each qs (λ r h. each r (inr h)))
 
 positive : (m : System) → IsValid m → (σ k : ℕ) (b : Bridge) → slice_get m.bridges k ≡ Some b → (within : Bool) → (within ≡ true) ↔ Within (variables_read (variables m) b.pos) σ → within ≡ list_all (believed_among (variables m) σ) b.pos
-positive m valid σ k b is within w = alike _ _ (λ e. (all_believed m σ b.pos known).1 (w.0 e)) (λ e. w.1 ((all_believed m σ b.pos known).0 e))
+positive m valid σ k b is within w = both_ways _ _ (λ e. (all_believed m σ b.pos known).1 (w.0 e)) (λ e. w.1 ((all_believed m σ b.pos known).0 e))
   where
     known : (r : Read) → IsAmong r b.pos → (v : ℕ) × IsVariable m v r
     known r h =
@@ -205,7 +187,7 @@ applies_by_sets m valid σ k b is within meets w n = pairwise within (list_all (
     negated false = ((λ e h. true≢false (sym h)), λ h. refl)
 
     neg : not meets ≡ list_all (λ r. not (believed_among (variables m) σ r)) b.neg
-    neg = alike _ _ (λ e. (none_believed m σ b.neg).1 (λ h. (negated meets).0 e (n.1 h))) (λ e. (negated meets).1 (λ h. (none_believed m σ b.neg).0 e (n.0 h)))
+    neg = both_ways _ _ (λ e. (none_believed m σ b.neg).1 (λ h. (negated meets).0 e (n.1 h))) (λ e. (negated meets).1 (λ h. (none_believed m σ b.neg).0 e (n.0 h)))
 
 -- and it does not where they do not lie within it
 pub applies_not : (m : System) → IsValid m → (σ k : ℕ) (b : Bridge) → slice_get m.bridges k ≡ Some b → (within : Bool)

@@ -1,42 +1,48 @@
 -- Which fault is told, by the tests in their order.
-use Rattle.std.proofs.Common.{◌≡◌, ℕ, ◌<◌, ◌≤◌, Bool, true, false, cond, ltb, List, [], ◌∷◌, ◌++◌, length, Option, Some, None, refl, ap, ◌∙◌, arith}
+use Rattle.std.proofs.Common.{◌≡◌, ◌<◌, ◌≤◌, Bool, true, false, cond, ltb, List, [], ◌∷◌, ◌++◌, length, Option, Some, None, Result, Ok, Err, refl, ap, ◌∙◌, arith}
 use Rattle.std.proofs.lemmas.Bool.Decides.{nat_tests}
-use Rattle.mcs_system.specs.declared.fault.Limit.{Limit}
-use Rattle.mcs_system.specs.declared.fault.Limit.TheVariants.{Contexts, Bridges, RulesPerContext, Variables, InputsPerContext, AtomsPerContext}
+use Rattle.std.specs.Result.{IfErr, IsErrAnd}
+use Rattle.mcs_system.specs.declared.fault.BuildFault.{BuildFault}
+use Rattle.mcs_system.specs.declared.fault.BuildFault.TheVariants as code
+use Rattle.mcs_system.specs.declared.fault.Flaw.{Flaw}
+use Rattle.mcs_system.specs.declared.fault.Flaw.TheVariants.{UnknownContext, TwinNames, Misfits}
+use Rattle.mcs_system.specs.declared.limit.Limit.{Limit}
+use Rattle.mcs_system.specs.declared.limit.Limit.TheVariants.{Contexts, Bridges, RulesPerContext, Variables, InputsPerContext, AtomsPerContext}
 use Rattle.mcs_system.specs.Plain.{System}
 use Rattle.mcs_system.specs.Systems.{variables}
 use Rattle.mcs_system.specs.Faults.{has_unknown_context, has_twin_names, has_misfits, exceeds, first_exceeded, limits, Fault, fault, limit_fault, fault_of, IsValid}
-use Rattle.mcs_system.specs.Built.{first_number, first_limits, last_limits}
+use Rattle.mcs_system.specs.Built.{number_of, first_flaw, first_limits, last_limits, IsFaultOf}
+use Rattle.mcs_system.specs.Gathered.{IsDue}
 
--- ---- the numbers below 5
-abbrev number_by : Bool → Bool → Bool → Option ℕ
-number_by a b c = cond a (Some 2) (cond b (Some 3) (cond c (Some 4) None))
+-- ---- what is no limit
+abbrev flaw_by : Bool → Bool → Bool → Option Flaw
+flaw_by a b c = cond a (Some UnknownContext) (cond b (Some TwinNames) (cond c (Some Misfits) None))
 
 abbrev fault_by : Bool → Bool → Bool → Option Fault → Option Fault
 fault_by a b c rest = cond a (Some (fault 2 None)) (cond b (Some (fault 3 None)) (cond c (Some (fault 4 None)) rest))
 
-none_lower : (a b c : Bool) (rest : Option Fault) → number_by a b c ≡ None → fault_by a b c rest ≡ rest
+none_lower : (a b c : Bool) (rest : Option Fault) → flaw_by a b c ≡ None → fault_by a b c rest ≡ rest
 none_lower true b c rest e = cc
 none_lower false true c rest e = cc
 none_lower false false true rest e = cc
 none_lower false false false rest e = refl
 
-told : (k n : ℕ) → Some k ≡ Some n → Some (fault k None) ≡ Some (fault n None)
-told k n e = let same : k ≡ n = cc in ap (λ j. Some (fault j None)) same
+told : (x y : Flaw) → Some x ≡ Some y → Some (fault (number_of x) None) ≡ Some (fault (number_of y) None)
+told x y e = let same : x ≡ y = cc in ap (λ z. Some (fault (number_of z) None)) same
 
-some_lower : (a b c : Bool) (rest : Option Fault) (n : ℕ) → number_by a b c ≡ Some n → fault_by a b c rest ≡ Some (fault n None)
-some_lower true b c rest n e = told 2 n e
-some_lower false true c rest n e = told 3 n e
-some_lower false false true rest n e = told 4 n e
-some_lower false false false rest n e = cc
+some_lower : (a b c : Bool) (rest : Option Fault) (flaw : Flaw) → flaw_by a b c ≡ Some flaw → fault_by a b c rest ≡ Some (fault (number_of flaw) None)
+some_lower true b c rest flaw e = told UnknownContext flaw e
+some_lower false true c rest flaw e = told TwinNames flaw e
+some_lower false false true rest flaw e = told Misfits flaw e
+some_lower false false false rest flaw e = cc
 
-pub number_told : (m : System) (n : ℕ) → first_number m ≡ Some n → fault_of m ≡ Some (fault n None)
+pub flaw_told : (m : System) (flaw : Flaw) → first_flaw m ≡ Some flaw → fault_of m ≡ Some (fault (number_of flaw) None)
 unfolding fault_of
-number_told m n e = some_lower (has_unknown_context m) (has_twin_names m) (has_misfits m) _ n e
+flaw_told m flaw e = some_lower (has_unknown_context m) (has_twin_names m) (has_misfits m) _ flaw e
 
-no_number : (m : System) → first_number m ≡ None → fault_of m ≡ limit_fault (first_exceeded m limits)
+no_flaw : (m : System) → first_flaw m ≡ None → fault_of m ≡ limit_fault (first_exceeded m limits)
 unfolding fault_of
-no_number m e = none_lower (has_unknown_context m) (has_twin_names m) (has_misfits m) _ e
+no_flaw m e = none_lower (has_unknown_context m) (has_twin_names m) (has_misfits m) _ e
 
 -- ---- the limits
 kept_before : (m : System) (xs ys : List Limit) → first_exceeded m xs ≡ None → first_exceeded m (xs ++ ys) ≡ first_exceeded m ys
@@ -59,14 +65,14 @@ abbrev middle_limits : List Limit
 middle_limits = Variables ∷ InputsPerContext ∷ AtomsPerContext ∷ last_limits
 
 pub record PassesFirst (m : System) : Type 0 where
-  pub numbers : first_number m ≡ None
+  pub flaws : first_flaw m ≡ None
   pub limits : first_exceeded m first_limits ≡ None
 
-pub limit_told : (m : System) (l : Limit) → first_number m ≡ None → first_exceeded m first_limits ≡ Some l → fault_of m ≡ Some (fault 5 (Some l))
-limit_told m l none e = no_number m none ∙ ap limit_fault (exceeded_before m first_limits middle_limits l e)
+pub limit_told : (m : System) (l : Limit) → first_flaw m ≡ None → first_exceeded m first_limits ≡ Some l → fault_of m ≡ Some (fault 5 (Some l))
+limit_told m l none e = no_flaw m none ∙ ap limit_fault (exceeded_before m first_limits middle_limits l e)
 
 after_first : (m : System) → PassesFirst m → fault_of m ≡ limit_fault (first_exceeded m middle_limits)
-after_first m first = no_number m first.numbers ∙ ap limit_fault (kept_before m first_limits middle_limits first.limits)
+after_first m first = no_flaw m first.flaws ∙ ap limit_fault (kept_before m first_limits middle_limits first.limits)
 
 many_variables : (m : System) → 64 < length (variables m) → exceeds m Variables ≡ true
 unfolding exceeds
@@ -102,3 +108,12 @@ last_told m l first few e e' last = after_atoms m first few e e' ∙ ap limit_fa
 
 pub none_told : (m : System) → PassesFirst m → length (variables m) ≤ 64 → exceeds m InputsPerContext ≡ false → exceeds m AtomsPerContext ≡ false → first_exceeded m last_limits ≡ None → IsValid m
 none_told m first few e e' last = after_atoms m first few e e' ∙ ap limit_fault last
+
+-- a limit that a walk refuses
+pub due_told : {T : Type 0} (m : System) (limit : Limit) (exceeded : Type 0) (e : BuildFault) (r : Result T BuildFault) → IsErrAnd r (λ d. d ≡ e) → (exceeded → fault_of m ≡ Some (fault 5 (Some limit))) → IsDue limit exceeded e → IfErr r (IsFaultOf m)
+due_told m limit exceeded e (Ok x) stops told due = tt
+due_told m limit exceeded e (Err d) stops told due = rw stops (at e due)
+  where
+    at : (f : BuildFault) → IsDue limit exceeded f → IsFaultOf m f
+    at code.Memory due = tt
+    at (code.Fault n l) (five, is, many) = rw (five, is) (told many)

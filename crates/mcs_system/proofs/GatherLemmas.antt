@@ -1,19 +1,27 @@
 -- What a walk gathers: it never loses what it found, and what it finds from nothing are the first occurrences.
-use Rattle.std.proofs.Common.{◌≡◌, ℕ, ◌+◌, ◌<◌, ◌≤◌, nat_eq, leb, map, IsTrue, get_or, drop, Bool, true, false, not, ◌&&◌, ◌||◌, cond, List, [], ◌∷◌, ◌++◌, filter, length, refl, sym, ap, ◌∙◌, arith, append_assoc}
-use Rattle.std.proofs.lemmas.Bool.Decides.{nat_tests}
+use Rattle.std.proofs.Common.{◌≡◌, ℕ, ◌+◌, ◌<◌, ◌≤◌, nat_eq, map, get_or, drop, Bool, true, false, not, ◌&&◌, ◌||◌, cond, List, [], ◌∷◌, ◌++◌, filter, length, Result, Ok, Err, refl, sym, ap, ◌∙◌, arith, append_assoc}
 use Rattle.std.proofs.lemmas.List.{append-nil, length-append, at_drop_more}
 use Rattle.std.proofs.lemmas.List.Elements.{filter-append}
 use Rattle.std.proofs.lemmas.List.Folds.{list_any-append}
-use Rattle.std.specs.List.{list_any, flat_map}
+use Rattle.std.specs.List.{list_any}
+use Rattle.std.specs.Result.{IfErr, IsErrAnd}
+use Rattle.mcs_system.specs.declared.fault.BuildFault.{BuildFault}
+use Rattle.mcs_system.specs.declared.fault.BuildFault.TheVariants.{Fault, Memory}
+use Rattle.mcs_system.specs.declared.limit.Limit.{Limit}
+use Rattle.mcs_system.specs.Limits.{most}
 use Rattle.mcs_system.specs.Plain.{Name, Read}
 use Rattle.mcs_system.specs.declared.bridge.Bridge as code
+use Rattle.mcs_system.specs.declared.bridge.Read as code_read
 use Rattle.mcs_system.specs.Logic.{same_name}
-use Rattle.mcs_system.specs.Seen.{bridge_of, system_of}
+use Rattle.mcs_system.specs.Seen.{read_of, bridge_of, system_of}
 use Rattle.mcs_system.specs.Faults.{reads_of}
-use Rattle.mcs_system.specs.Systems.{same_read, firsts, occurrences, context_variables}
+use Rattle.mcs_base.specs.Listings.{firsts}
+use Rattle.mcs_system.specs.Systems.{same_read, occurrences, context_variables}
 use Rattle.mcs_system.specs.Atoms.{first_names}
-use Rattle.mcs_system.specs.Gathered.{gathered, with_names, with_reads}
+use Rattle.mcs_system.specs.Gathered.{gathered, IsDue, Gathers, reads_in}
 use Rattle.mcs_system.proofs.Sameness.{same_name-is, same_read-is}
+use Rattle.mcs_base.proofs.Ranges.{filter_same}
+use Rattle.mcs_base.proofs.Lists.{filter-filter}
 
 module _ {A : Type 0} (same : A → A → Bool) where
   pub gathered-append : (found xs ys : List A) → gathered same found (xs ++ ys) ≡ gathered same (gathered same found xs) ys
@@ -28,27 +36,65 @@ module _ {A : Type 0} (same : A → A → Bool) where
       at true old new = old
       at false old new = omega (arith, new, length-append found (x ∷ []))
 
-pub ruleset gathered_more = (gathered-append, gathered-grows, filter-append)
+-- ---- gathering up to a limit
+due_map : (limit : Limit) (P Q : Type 0) → (P → Q) → (e : BuildFault) → IsDue limit P e → IsDue limit Q e
+due_map limit P Q to Memory h = tt
+due_map limit P Q to (Fault n l) h = (h.0, h.1, to h.2)
 
--- ---- filters
-module _ {A : Type 0} where
-  pub filter-same : (p q : A → Bool) (xs : List A) → ((x : A) → p x ≡ q x) → filter p xs ≡ filter q xs
-  filter-same p q [] same = refl
-  filter-same p q (x ∷ xs) same = rw (same x, filter-same p q xs same) refl
+-- a reason that is handed on
+pub due_handed : {T : Type 0} (limit : Limit) (P Q : Type 0) (e : BuildFault) (r : Result T BuildFault) → IsErrAnd r (λ d. d ≡ e) → (P → Q) → IsDue limit P e → IfErr r (IsDue limit Q)
+due_handed limit P Q e (Ok x) stops to h = tt
+due_handed limit P Q e (Err d) stops to h = rw stops (due_map limit P Q to e h)
 
-  pub filter-filter : (p q : A → Bool) (xs : List A) → filter p (filter q xs) ≡ filter (λ x. q x && p x) xs
-  filter-filter p q [] = refl
-  filter-filter p q (x ∷ xs) = at (q x) (filter-filter p q xs)
-    where
-      at : (v : Bool) → filter p (filter q xs) ≡ filter (λ x. q x && p x) xs → filter p (cond v (x ∷ filter q xs) (filter q xs)) ≡ cond (v && p x) (x ∷ filter (λ x. q x && p x) xs) (filter (λ x. q x && p x) xs)
-      at true rest = rw rest refl
-      at false rest = rest
+module _ {A : Type 0} (limit : Limit) (same : A → A → Bool) where
+  pub gathers_nothing : {T : Type 0} (found : List A) (x : T) → Gathers limit same found found [] (Ok x)
+  gathers_nothing found x = record { all = refl; within = λ few. few; due = tt }
+
+  -- some, and then others
+  pub gathers_then : {T U : Type 0} (found mid now all xs ys : List A) (x : T) (r : Result U BuildFault) → all ≡ xs ++ ys → Gathers limit same found mid xs (Ok x) → Gathers limit same mid now ys r → Gathers limit same found now all r
+  gathers_then found mid now all xs ys x (Ok y) is first then = record {
+    all = then.all ∙ ap (λ m. gathered same m ys) first.all ∙ sym (ap (gathered same found) is ∙ gathered-append same found xs ys);
+    within = λ few. then.within (first.within few);
+    due = tt;
+  }
+  gathers_then found mid now all xs ys x (Err e) is first then = record {
+    all = tt;
+    within = λ few. tt;
+    due = rw (is, gathered-append same found xs ys, ← first.all) then.due;
+  }
+
+  -- what stopped before the others
+  pub gathers_cut : {T U : Type 0} (found now all xs ys : List A) (e : BuildFault) (r : Result U BuildFault) → all ≡ xs ++ ys → IsErrAnd r (λ d. d ≡ e) → Gathers {T = T} limit same found now xs (Err e) → Gathers limit same found now all r
+  gathers_cut found now all xs ys e (Ok y) is stops first = absurd stops
+  gathers_cut found now all xs ys e (Err d) is stops first = record {
+    all = tt;
+    within = λ few. tt;
+    due = rw (stops, is) (due_map limit _ _ (λ (many : most limit < length (gathered same found xs)). let grows = gathered-grows same (gathered same found xs) ys in rw (gathered-append same found xs ys) (omega arith)) e first.due);
+  }
+
+  -- the reason is handed on
+  pub stops_with : {T U : Type 0} (found now xs : List A) (e : BuildFault) (r : Result U BuildFault) → IsErrAnd r (λ d. d ≡ e) → Gathers {T = T} limit same found now xs (Err e) → Gathers limit same found now xs r
+  stops_with found now xs e (Ok y) stops g = absurd stops
+  stops_with found now xs e (Err d) stops g = record { all = tt; within = λ few. tt; due = rw stops g.due }
+
+  -- from nothing
+  pub due_from_nothing : {T : Type 0} (found now xs all : List A) (r : Result T BuildFault) → found ≡ [] → all ≡ gathered same [] xs → Gathers limit same found now xs r → IfErr r (IsDue limit (most limit < length all))
+  due_from_nothing found now xs all r none is g = rw (is, ← none) g.due
+
+  pub all_from_nothing : {T : Type 0} (found now xs all : List A) (x : T) → found ≡ [] → all ≡ gathered same [] xs → Gathers limit same found now xs (Ok x) → (now ≡ all) × (length now ≤ most limit)
+  all_from_nothing found now xs all x none is g = (g.all ∙ ap (λ f. gathered same f xs) none ∙ sym is, g.within (rw none (omega arith)))
+
+  -- in a loop: once the rest is gathered, all are
+  abbrev pub Goes : List A → List A → List A → List A → Type 0
+  Goes found all mid rest = (last : List A) (r : Result (Unit {0}) BuildFault) → Gathers limit same mid last rest r → Gathers limit same found last all r
+
+  pub goes_on : {T : Type 0} (found all mid rest now xs ys : List A) (x : T) → Goes found all mid rest → rest ≡ xs ++ ys → Gathers limit same mid now xs (Ok x) → Goes found all now ys
+  goes_on found all mid rest now xs ys x goes is first last r w = goes last r (gathers_then mid now last rest xs ys x r is first w)
+
+  pub goes_cut : {T : Type 0} (found all mid rest now xs ys : List A) (e : BuildFault) (r : Result (Unit {0}) BuildFault) → Goes found all mid rest → rest ≡ xs ++ ys → IsErrAnd r (λ d. d ≡ e) → Gathers {T = T} limit same mid now xs (Err e) → Gathers limit same found now all r
+  goes_cut found all mid rest now xs ys e r goes is stops first = goes now r (gathers_cut mid now rest xs ys e r is stops first)
 
 -- ---- first occurrences
-abbrev firsts_by : {A : Type 0} → (A → A → Bool) → List A → List A
-firsts_by same [] = []
-firsts_by same (x ∷ xs) = x ∷ filter (λ y. not (same x y)) (firsts_by same xs)
-
 module _ {A : Type 0} (same : A → A → Bool) (is : (x y : A) → same x y ≡ true → x ≡ y) where
   either_way : (x y : A) → same x y ≡ same y x
   either_way x y = at (same x y) refl (same y x) refl
@@ -58,17 +104,14 @@ module _ {A : Type 0} (same : A → A → Bool) (is : (x y : A) → same x y ≡
       at false e true e' = let equal = is y x e' in cc
       at false e false e' = cc
 
-  abbrev is_new : List A → A → Bool
-  is_new found y = not (list_any (same y) found)
-
-  old_skips : (found : List A) (x : A) → list_any (same x) found ≡ true → (y : A) → (not (same x y) && is_new found y) ≡ is_new found y
+  old_skips : (found : List A) (x : A) → list_any (same x) found ≡ true → (y : A) → (not (same x y) && not (list_any (same y) found)) ≡ not (list_any (same y) found)
   old_skips found x old y = at (same x y) refl
     where
-      at : (v : Bool) → same x y ≡ v → (not v && is_new found y) ≡ is_new found y
+      at : (v : Bool) → same x y ≡ v → (not v && not (list_any (same y) found)) ≡ not (list_any (same y) found)
       at true e = let equal : x ≡ y = is x y e in let there : list_any (same y) found ≡ true = ap (λ z. list_any (same z) found) (sym equal) ∙ old in rw there refl
       at false e = refl
 
-  new_skips : (found : List A) (x y : A) → (not (same x y) && is_new found y) ≡ is_new (found ++ x ∷ []) y
+  new_skips : (found : List A) (x y : A) → (not (same x y) && not (list_any (same y) found)) ≡ not (list_any (same y) (found ++ x ∷ []))
   new_skips found x y = let parts = list_any-append (same y) found (x ∷ []) in let way = either_way x y in rw (parts, way) (at (list_any (same y) found) (same y x))
     where
       at : (u v : Bool) → (not v && not u) ≡ not (u || (v || false))
@@ -77,70 +120,45 @@ module _ {A : Type 0} (same : A → A → Bool) (is : (x y : A) → same x y ≡
       at false true = refl
       at false false = refl
 
-  gathered-is : (found xs : List A) → gathered same found xs ≡ found ++ filter (is_new found) (firsts_by same xs)
+  gathered-is : (found xs : List A) → gathered same found xs ≡ found ++ filter (λ z. not (list_any (same z) found)) (firsts same xs)
   gathered-is found [] = sym (append-nil found)
   gathered-is found (x ∷ xs) = at (list_any (same x) found) refl (gathered-is found xs) (gathered-is (found ++ x ∷ []) xs)
     where
-      twice : filter (is_new found) (filter (λ y. not (same x y)) (firsts_by same xs)) ≡ filter (λ y. not (same x y) && is_new found y) (firsts_by same xs)
-      twice = filter-filter (is_new found) (λ y. not (same x y)) (firsts_by same xs)
+      twice : filter (λ z. not (list_any (same z) found)) (filter (λ y. not (same x y)) (firsts same xs)) ≡ filter (λ y. not (same x y) && not (list_any (same y) found)) (firsts same xs)
+      twice = filter-filter (λ z. not (list_any (same z) found)) (λ y. not (same x y)) (firsts same xs)
 
-      at : (v : Bool) → list_any (same x) found ≡ v → gathered same found xs ≡ found ++ filter (is_new found) (firsts_by same xs) → gathered same (found ++ x ∷ []) xs ≡ (found ++ x ∷ []) ++ filter (is_new (found ++ x ∷ [])) (firsts_by same xs)
-          → gathered same (cond v found (found ++ x ∷ [])) xs ≡ found ++ cond (not v) (x ∷ filter (is_new found) (filter (λ y. not (same x y)) (firsts_by same xs))) (filter (is_new found) (filter (λ y. not (same x y)) (firsts_by same xs)))
-      at true old rest more = rest ∙ ap (λ ys. found ++ ys) (sym (twice ∙ filter-same _ _ (firsts_by same xs) (old_skips found x old)))
-      at false old rest more = more ∙ append_assoc found (x ∷ []) _ ∙ ap (λ ys. found ++ x ∷ ys) (sym (twice ∙ filter-same _ _ (firsts_by same xs) (new_skips found x)))
+      at : (v : Bool) → list_any (same x) found ≡ v → gathered same found xs ≡ found ++ filter (λ z. not (list_any (same z) found)) (firsts same xs) → gathered same (found ++ x ∷ []) xs ≡ (found ++ x ∷ []) ++ filter (λ z. not (list_any (same z) (found ++ x ∷ []))) (firsts same xs)
+          → gathered same (cond v found (found ++ x ∷ [])) xs ≡ found ++ cond (not v) (x ∷ filter (λ z. not (list_any (same z) found)) (filter (λ y. not (same x y)) (firsts same xs))) (filter (λ z. not (list_any (same z) found)) (filter (λ y. not (same x y)) (firsts same xs)))
+      at true old rest more = rest ∙ ap (λ ys. found ++ ys) (sym (twice ∙ filter_same _ _ (firsts same xs) (old_skips found x old)))
+      at false old rest more = more ∙ append_assoc found (x ∷ []) _ ∙ ap (λ ys. found ++ x ∷ ys) (sym (twice ∙ filter_same _ _ (firsts same xs) (new_skips found x)))
 
-  gathered_firsts : (xs : List A) → gathered same [] xs ≡ firsts_by same xs
-  gathered_firsts xs = gathered-is [] xs ∙ filter-all (firsts_by same xs)
+  gathered_firsts : (xs : List A) → gathered same [] xs ≡ firsts same xs
+  gathered_firsts xs = gathered-is [] xs ∙ filter-all (firsts same xs)
     where
-      filter-all : (ys : List A) → filter (is_new []) ys ≡ ys
+      filter-all : (ys : List A) → filter (λ z. not (list_any (same z) [])) ys ≡ ys
       filter-all [] = refl
       filter-all (y ∷ ys) = ap (λ zs. y ∷ zs) (filter-all ys)
 
-firsts-by : (xs : List Read) → firsts xs ≡ firsts_by same_read xs
-firsts-by [] = refl
-firsts-by (x ∷ xs) = rw (firsts-by xs) refl
-
-first_names-by : (xs : List Name) → first_names xs ≡ firsts_by same_name xs
-first_names-by [] = refl
-first_names-by (x ∷ xs) = rw (first_names-by xs) refl
-
-pub firsts-gathered : (xs : List Read) → firsts xs ≡ gathered same_read [] xs
-firsts-gathered xs = firsts-by xs ∙ sym (gathered_firsts same_read same_read-is xs)
+pub firsts-gathered : (xs : List Read) → firsts same_read xs ≡ gathered same_read [] xs
+firsts-gathered xs = sym (gathered_firsts same_read same_read-is xs)
 
 pub first_names-gathered : (xs : List Name) → first_names xs ≡ gathered same_name [] xs
-first_names-gathered xs = first_names-by xs ∙ sym (gathered_firsts same_name same_name-is xs)
+first_names-gathered xs = sym (gathered_firsts same_name same_name-is xs)
 
 -- ---- the walk over the rules
-pub with_reads-append : (found : List Read) (i : ℕ) (xs ys : List Read) → with_reads found i (xs ++ ys) ≡ with_reads (with_reads found i xs) i ys
-with_reads-append found i xs ys = rw (filter-append (λ (r : Read). nat_eq r.context i) xs ys) (gathered-append same_read found (filter (λ (r : Read). nat_eq r.context i) xs) (filter (λ (r : Read). nat_eq r.context i) ys))
+pub occurrences-drop : (i : ℕ) (bs : List code.Bridge) (k : ℕ) (b : code.Bridge) → k < length bs → b ≡ get_or bs k b
+    → reads_in i (occurrences (system_of [] (drop k bs))) ≡ reads_in i (map read_of b.pos.items) ++ (reads_in i (map read_of b.neg.items) ++ reads_in i (occurrences (system_of [] (drop (k + 1) bs))))
+occurrences-drop i bs k b less is =
+    at_drop_more (λ (cs : List code.Bridge). reads_in i (occurrences (system_of [] cs))) bs k b less
+    ∙ ap (λ (c : code.Bridge). reads_in i (reads_of (bridge_of c) ++ occurrences (system_of [] (drop (k + 1) bs)))) (sym is)
+    ∙ simp (filter-append, append_assoc)
 
-pub occurrences-drop : (bs : List code.Bridge) (k : ℕ) (b : code.Bridge) → k < length bs → b ≡ get_or bs k b → occurrences (system_of [] (drop k bs)) ≡ reads_of (bridge_of b) ++ occurrences (system_of [] (drop (k + 1) bs))
-occurrences-drop bs k b less is = at_drop_more (λ (cs : List code.Bridge). occurrences (system_of [] cs)) bs k b less ∙ ap (λ (c : code.Bridge). reads_of (bridge_of c) ++ occurrences (system_of [] (drop (k + 1) bs))) (sym is)
+pub next_read : (i : ℕ) (rs : List code_read.Read) (k : ℕ) (r : code_read.Read) → k < length rs → r ≡ get_or rs k r
+    → reads_in i (map read_of (drop k rs)) ≡ reads_in i (read_of r ∷ []) ++ reads_in i (map read_of (drop (k + 1) rs))
+next_read i rs k r less is =
+    at_drop_more (λ (qs : List code_read.Read). reads_in i (map read_of qs)) rs k r less
+    ∙ ap (λ (q : code_read.Read). reads_in i (read_of q ∷ map read_of (drop (k + 1) rs))) (sym is)
+    ∙ filter-append (λ (q : Read). nat_eq q.context i) (read_of r ∷ []) (map read_of (drop (k + 1) rs))
 
-pub reads_step : (found : List Read) (i : ℕ) (bs : List code.Bridge) (k : ℕ) (b : code.Bridge) → k < length bs → b ≡ get_or bs k b → with_reads found i (occurrences (system_of [] (drop k bs))) ≡ with_reads (with_reads found i (reads_of (bridge_of b))) i (occurrences (system_of [] (drop (k + 1) bs)))
-reads_step found i bs k b less is = ap (with_reads found i) (occurrences-drop bs k b less is) ∙ with_reads-append found i (reads_of (bridge_of b)) _
-
-pub with_reads-grows : (found : List Read) (i : ℕ) (xs : List Read) → length found ≤ length (with_reads found i xs)
-with_reads-grows found i xs = gathered-grows same_read found (filter (λ (r : Read). nat_eq r.context i) xs)
-
-pub context_variables-gathered : (bs : List code.Bridge) (i : ℕ) → context_variables (system_of [] bs) i ≡ with_reads [] i (occurrences (system_of [] bs))
+pub context_variables-gathered : (bs : List code.Bridge) (i : ℕ) → context_variables (system_of [] bs) i ≡ gathered same_read [] (reads_in i (occurrences (system_of [] bs)))
 context_variables-gathered bs i = firsts-gathered _
-
--- ---- the walk over parts that have atoms
-module _ {X Y : Type 0} (view : X → Y) (part : Y → List Name) where
-  names_step : (found : List Name) (xs : List X) (k : ℕ) (x : X) → k < length xs → x ≡ get_or xs k x
-      → with_names found (flat_map part (map view (drop k xs))) ≡ with_names (with_names found (part (view x))) (flat_map part (map view (drop (k + 1) xs)))
-  names_step found xs k x less is =
-      at_drop_more (λ (zs : List X). with_names found (flat_map part (map view zs))) xs k x less
-      ∙ ap (λ (z : X). with_names found (part (view z) ++ flat_map part (map view (drop (k + 1) xs)))) (sym is)
-      ∙ gathered-append same_name found (part (view x)) (flat_map part (map view (drop (k + 1) xs)))
-
-  pub names_go_on : (found : List Name) (xs : List X) (k : ℕ) (x : X) → k < length xs → x ≡ get_or xs k x → (few : Bool) → few ≡ true → (after : List Name) → (IsTrue few → after ≡ with_names found (part (view x)))
-      → (whole : List Name) → with_names found (flat_map part (map view (drop k xs))) ≡ whole → with_names after (flat_map part (map view (drop (k + 1) xs))) ≡ whole
-  names_go_on found xs k x less is few known after grew whole e = ap (λ ns. with_names ns (flat_map part (map view (drop (k + 1) xs)))) (grew known) ∙ sym (names_step found xs k x less is) ∙ e
-
-  pub names_too_many : (found : List Name) (xs : List X) (k : ℕ) (x : X) → k < length xs → x ≡ get_or xs k x → (few : Bool) → few ≡ false → few ≡ leb (length (with_names found (part (view x)))) 64
-      → (whole : List Name) → with_names found (flat_map part (map view (drop k xs))) ≡ whole → false ≡ leb (length whole) 64
-  names_too_many found xs k x less is few known many whole e =
-      let grows = gathered-grows same_name (with_names found (part (view x))) (flat_map part (map view (drop (k + 1) xs))) in
-      let step = names_step found xs k x less is in rw (← e, step) (grind (arith, nat_tests))

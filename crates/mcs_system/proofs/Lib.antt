@@ -3,7 +3,6 @@ pub mod Members
 pub mod Sameness
 pub mod VariableLemmas
 pub mod GatherLemmas
-pub mod FaultLemmas
 pub mod Twins
 pub mod ValidLemmas
 pub mod Distinct
@@ -12,3 +11,9 @@ pub mod AtomLemmas
 pub mod PartLemmas
 pub mod KeptLemmas
 pub mod BuildLemmas
+pub mod MarkLemmas
+pub mod NameLemmas
+pub mod ContextSets
+pub mod Deciding
+pub mod Tables
+pub mod Equality

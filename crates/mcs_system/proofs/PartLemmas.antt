@@ -1,5 +1,5 @@
 -- The sets that a system keeps of its contexts and rules.
-use Rattle.std.proofs.Common.{◌≡◌, ℕ, ◌+◌, ◌-◌, ◌<◌, ◌≤◌, Bool, true, false, ◌&&◌, ◌||◌, cond, eqb, ltb, get_or, drop, List, [], ◌∷◌, map, length, Option, Some, None, refl, sym, ap, ◌∙◌, arith, slice_get}
+use Rattle.std.proofs.Common.{◌≡◌, ℕ, ◌+◌, ◌-◌, ◌<◌, ◌≤◌, Bool, true, false, ◌&&◌, ◌||◌, eqb, ltb, get_or, drop, List, [], ◌∷◌, map, length, Option, Some, None, refl, sym, ap, ◌∙◌, arith, slice_get}
 use Rattle.std.proofs.lemmas.List.{at_drop_more, at_drop_all, length-map}
 use Rattle.std.proofs.lemmas.List.Folds.{list_any-append}
 use Rattle.std.specs.List.{list_any, range_with_len}
@@ -7,7 +7,7 @@ use Rattle.mcs_sets.specs.Sets.{has, union, size}
 use Rattle.mcs_sets.proofs.SetLemmas.{same_set, has-such_that, has-union, has-empty}
 use Rattle.mcs_system.specs.declared.bridge.Bridge as code
 use Rattle.mcs_system.specs.declared.knowledge.Context as code'
-use Rattle.mcs_system.specs.declared.fault.Limit.TheVariants.{InputsPerContext, AtomsPerContext}
+use Rattle.mcs_system.specs.declared.limit.Limit.TheVariants.{InputsPerContext, AtomsPerContext}
 use Rattle.mcs_system.specs.Plain.{Name, Read, Bridge, System}
 use Rattle.mcs_system.specs.Seen.{context_of, bridge_of, system_of}
 use Rattle.mcs_system.specs.Systems.{same_read, variables, variables_of}
@@ -16,7 +16,8 @@ use Rattle.mcs_system.specs.Imports.{rules_into}
 use Rattle.mcs_system.specs.Atoms.{atoms_of}
 use Rattle.mcs_system.specs.Faults.{exceeds}
 use Rattle.mcs_system.specs.Parts.{ContextPart, context_part, variables_among, variables_read, inputs_among, is_read_among, read_into}
-use Rattle.mcs_system.proofs.VariableLemmas.{range_step, range_over}
+use Rattle.mcs_sets.proofs.Lattice.{has-if, union_assoc, union-none}
+use Rattle.mcs_base.proofs.Ranges.{some_from}
 
 abbrev of_rules : List Bridge → System
 of_rules bs = record { contexts = []; bridges = bs }
@@ -37,10 +38,6 @@ inputs-none vs i = same_set (inputs_among vs [] i) 0 (λ v. has-inputs_among vs 
     none true None = refl
     none true (Some r) = refl
     none false r = refl
-
-has-if : (t : Bool) (s v : ℕ) → has (cond t s 0) v ≡ (t && has s v)
-has-if true s v = refl
-has-if false s v = has-empty v
 
 inputs-step : (vs : List Read) (b : Bridge) (bs : List Bridge) (i : ℕ) → inputs_among vs (b ∷ bs) i ≡ union (read_into vs i b) (inputs_among vs bs i)
 inputs-step vs b bs i = same_set _ _ (λ v.
@@ -64,29 +61,12 @@ inputs-step vs b bs i = same_set _ _ (λ v.
     at u None = neither u (eqb b.target i)
     at u (Some r) = rw (list_any-append (same_read r) b.pos b.neg) (each u (eqb b.target i) (list_any (same_read r) b.pos) (list_any (same_read r) b.neg) (is_read_into (of_rules bs) i (Some r)))
 
-union-next : (s a rest : ℕ) → union (union s a) rest ≡ union s (union a rest)
-union-next s a rest = same_set _ _ (λ k. rw (has-union (union s a) rest k, has-union s a k, has-union s (union a rest) k, has-union a rest k) (each (has s k) (has a k) (has rest k)))
-  where
-    each : (w x z : Bool) → ((w || x) || z) ≡ (w || (x || z))
-    each true x z = refl
-    each false x z = refl
-
-pub union-none : (s : ℕ) → union s 0 ≡ s
-union-none s = same_set _ _ (λ k. has-union s 0 k ∙ rw (has-empty k) (or-false (has s k)))
-  where
-    or-false : (u : Bool) → (u || false) ≡ u
-    or-false true = refl
-    or-false false = refl
-
-pub none-union : (s : ℕ) → union 0 s ≡ s
-none-union s = same_set _ _ (λ k. has-union 0 s k ∙ rw (has-empty k) refl)
-
 -- what the rules from k on read, if they go into context i
 abbrev pub inputs_from : List Read → List code.Bridge → ℕ → ℕ → ℕ
 inputs_from vs bs k i = inputs_among vs (map bridge_of (drop k bs)) i
 
 pub inputs_go_on : (vs : List Read) (bs : List code.Bridge) (k : ℕ) (b : code.Bridge) → k < length bs → b ≡ get_or bs k b → (i s whole : ℕ) → union s (inputs_from vs bs k i) ≡ whole → union (union s (read_into vs i (bridge_of b))) (inputs_from vs bs (k + 1) i) ≡ whole
-inputs_go_on vs bs k b less is i s whole e = union-next s (read_into vs i (bridge_of b)) (inputs_from vs bs (k + 1) i) ∙ ap (union s) (sym step) ∙ e
+inputs_go_on vs bs k b less is i s whole e = union_assoc s (read_into vs i (bridge_of b)) (inputs_from vs bs (k + 1) i) ∙ ap (union s) (sym step) ∙ e
   where
     step : inputs_from vs bs k i ≡ union (read_into vs i (bridge_of b)) (inputs_from vs bs (k + 1) i)
     step =
@@ -96,20 +76,6 @@ inputs_go_on vs bs k b less is i s whole e = union-next s (read_into vs i (bridg
 
 pub inputs_end : (vs : List Read) (bs : List code.Bridge) (k i s whole : ℕ) → length bs ≤ k → union s (inputs_from vs bs k i) ≡ whole → s ≡ whole
 inputs_end vs bs k i s whole over e = sym (union-none s) ∙ ap (union s) (sym (at_drop_all (λ (cs : List code.Bridge). inputs_among vs (map bridge_of cs) i) bs k over ∙ inputs-none vs i)) ∙ e
-
--- ---- whether something holds of some context
--- of a number from i on, below n
-abbrev pub some_from : (ℕ → Bool) → ℕ → ℕ → Bool
-some_from p i n = list_any p (range_with_len i (n - i))
-
-pub some_next : (p : ℕ → Bool) (i n : ℕ) (whole : Bool) → i < n → p i ≡ false → some_from p i n ≡ whole → some_from p (i + 1) n ≡ whole
-some_next p i n whole less fails e = sym (ap (list_any p) (range_step i n less) ∙ rw fails refl) ∙ e
-
-pub some_here : (p : ℕ → Bool) (i n : ℕ) (whole : Bool) → i < n → p i ≡ true → some_from p i n ≡ whole → whole ≡ true
-some_here p i n whole less holds e = sym e ∙ ap (list_any p) (range_step i n less) ∙ rw holds refl
-
-pub some_end : (p : ℕ → Bool) (i n : ℕ) (whole : Bool) → n ≤ i → some_from p i n ≡ whole → whole ≡ false
-some_end p i n whole over e = sym e ∙ ap (list_any p) (range_over i n over)
 
 -- ---- of the system
 pub variables_of-is : (m : System) (i : ℕ) → variables_of m i ≡ variables_among (variables m) i

@@ -1,5 +1,5 @@
 -- Twins among names, found by a set of the names seen so far.
-use Rattle.std.proofs.Common.{◌≡◌, ℕ, Bool, true, false, ◌||◌, List, [], ◌∷◌, refl, sym, ap, ◌∙◌, Bor, Ordering, ◌+◌, ◌<◌, not, length, map, drop, get_or, true≢false, add-one, drop-cons}
+use Rattle.std.proofs.Common.{◌≡◌, ℕ, Bool, true, false, ◌||◌, List, [], ◌∷◌, refl, sym, ap, ◌∙◌, Bor, Ordering, ◌+◌, ◌<◌, not, length, map, drop, get_or, add-one, drop-cons, ap₂, arith}
 use Rattle.std.proofs.lemmas.Bool.Decides.{same_from_decides, Decides-like}
 use Rattle.std.proofs.lemmas.Map.Text.{is_eq-slice_cmp}
 use Rattle.std.proofs.lemmas.Slice.Eq.{bytes_eq-Decides}
@@ -13,6 +13,8 @@ use Rattle.std.specs.Str.{bytes_eq}
 use Rattle.mcs_system.specs.Plain.{Name}
 use Rattle.mcs_system.specs.Logic.{is_in}
 use Rattle.mcs_system.specs.Faults.{has_twins}
+use Rattle.mcs_base.proofs.Booleans.{or_swap, or_across, or_last}
+use Rattle.std.proofs.lemmas.Bool.{not-true, not-false}
 
 -- whether the name is among the keys
 abbrev pub is_seen : List (Bor Name) → Name → Bool
@@ -22,37 +24,13 @@ is_seen keys n = list_any (λ (k : Bor Name). bytes_eq n k.now) keys
 abbrev pub name_cmp : Bor Name → Bor Name → Ordering
 name_cmp x y = slice_cmp nat_cmp x.now y.now
 
-or_twice : (a b s : Bool) → a ≡ b → (b || s) ≡ (a || (b || s))
-or_twice true true s e = refl
-or_twice true false s e = absurd (true≢false e)
-or_twice false b s e = refl
-
-or_swap : (a b s : Bool) → (a || (b || s)) ≡ (b || (a || s))
-or_swap true true s = refl
-or_swap true false s = refl
-or_swap false true s = refl
-or_swap false false s = refl
-
-or_across : (a s i l : Bool) → ((a || s) || (i || l)) ≡ ((a || i) || (s || l))
-or_across true s i l = refl
-or_across false s i l = or_swap s i l
-
-or_last : (l i t : Bool) → (l || (i || t)) ≡ ((i || l) || t)
-or_last true true t = refl
-or_last true false t = refl
-or_last false true t = refl
-or_last false false t = refl
-
-both_or : (a a' b b' : Bool) → a ≡ a' → b ≡ b' → (a || b) ≡ (a' || b')
-both_or a a' b b' e e' = ap (λ x. x || b) e ∙ ap (λ x. a' || x) e'
-
 bytes_eq-sym : (m n : Name) → bytes_eq m n ≡ bytes_eq n m
 bytes_eq-sym m n = same_from_decides _ _ (bytes_eq-Decides m n) (Decides-like _ sym sym (bytes_eq-Decides n m))
 
 -- what a search of the set answers
 pub found_is : (keys : List (Bor Name)) (n : Bor Name) → list_any (is_at (name_cmp n)) keys ≡ is_seen keys n.now
 found_is [] n = refl
-found_is (k ∷ ks) n = both_or _ _ _ _ (is_eq-slice_cmp n.now k.now) (found_is ks n)
+found_is (k ∷ ks) n = ap₂ (λ a b. a || b) (is_eq-slice_cmp n.now k.now) (found_is ks n)
 
 seen_more : (keys : List (Bor Name)) (n : Bor Name) (x : Name) → is_seen (insert_key name_cmp keys n) x ≡ (bytes_eq x n.now || is_seen keys x)
 seen_more [] n x = refl
@@ -62,13 +40,13 @@ seen_more (k ∷ ks) n x = at (name_cmp n k) refl (seen_more ks n x)
     at Less e later = refl
     at Equal e later =
         let same : n.now ≡ k.now = (bytes_eq-Decides n.now k.now).0 (sym (is_eq-slice_cmp n.now k.now) ∙ ap is_eq e) in
-        or_twice (bytes_eq x n.now) (bytes_eq x k.now) (is_seen ks x) (ap (bytes_eq x) same)
+        let alike : bytes_eq x n.now ≡ bytes_eq x k.now = ap (bytes_eq x) same in grind arith
     at Greater e later = ap (λ b. bytes_eq x k.now || b) later ∙ or_swap (bytes_eq x k.now) (bytes_eq x n.now) (is_seen ks x)
 
 any_more : (keys : List (Bor Name)) (n : Bor Name) (xs : List Name) → list_any (is_seen (insert_key name_cmp keys n)) xs ≡ (is_in n.now xs || list_any (is_seen keys) xs)
 any_more keys n [] = refl
 any_more keys n (x ∷ xs) =
-    both_or _ _ _ _ (seen_more keys n x ∙ ap (λ b. b || is_seen keys x) (bytes_eq-sym x n.now)) (any_more keys n xs)
+    ap₂ (λ a b. a || b) (seen_more keys n x ∙ ap (λ b. b || is_seen keys x) (bytes_eq-sym x n.now)) (any_more keys n xs)
     ∙ or_across (bytes_eq n.now x) (is_seen keys x) (is_in n.now xs) (list_any (is_seen keys) xs)
 
 -- nothing was seen yet
@@ -91,21 +69,13 @@ next_left names i d less = ap names_of (drop-cons names i d less ∙ ap (λ j. g
 abbrev pub has_twin_left : List (Bor Name) → List Name → Bool
 has_twin_left keys xs = list_any (is_seen keys) xs || has_twins xs
 
-was_there : (found added : Bool) → added ≡ not found → added ≡ false → found ≡ true
-was_there true added e new = refl
-was_there false added e new = absurd (true≢false (sym e ∙ new))
-
-was_new : (found added : Bool) → added ≡ not found → added ≡ true → found ≡ false
-was_new false added e new = refl
-was_new true added e new = absurd (true≢false (sym new ∙ e))
-
 -- the next name was seen before
 pub seen_twin : (keys names : List (Bor Name)) (i : ℕ) (d : Bor Name) (added : Bool) → i < length names → added ≡ not (list_any (is_at (name_cmp (get_or names i d))) keys) → added ≡ false → has_twin_left keys (names_of (drop i names)) ≡ true
 seen_twin keys names i d added less e new =
     let n : Bor Name = get_or names i d in
     let xs : List Name = names_of (drop (i + 1) names) in
     ap (has_twin_left keys) (next_left names i d less)
-    ∙ ap (λ b. (b || list_any (is_seen keys) xs) || has_twins (n.now ∷ xs)) (sym (found_is keys n) ∙ was_there (list_any (is_at (name_cmp n)) keys) added e new)
+    ∙ ap (λ b. (b || list_any (is_seen keys) xs) || has_twins (n.now ∷ xs)) (sym (found_is keys n) ∙ not-false (list_any (is_at (name_cmp n)) keys) (sym e ∙ new))
 
 seen_one : (keys : List (Bor Name)) (n : Bor Name) (xs : List Name) → is_seen keys n.now ≡ false → has_twin_left keys (n.now ∷ xs) ≡ has_twin_left (insert_key name_cmp keys n) xs
 seen_one keys n xs unseen =
@@ -118,4 +88,4 @@ seen_next keys later names i d added less e e' new =
     let n : Bor Name = get_or names i d in
     let xs : List Name = names_of (drop (i + 1) names) in
     ap (has_twin_left keys) (next_left names i d less)
-    ∙ (seen_one keys n xs (sym (found_is keys n) ∙ was_new (list_any (is_at (name_cmp n)) keys) added e' new) ∙ ap (λ ks. has_twin_left ks xs) (sym e))
+    ∙ (seen_one keys n xs (sym (found_is keys n) ∙ not-true (list_any (is_at (name_cmp n)) keys) (sym e' ∙ new)) ∙ ap (λ ks. has_twin_left ks xs) (sym e))

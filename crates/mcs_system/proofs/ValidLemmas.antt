@@ -1,7 +1,6 @@
 -- What is known of a valid system: its numbers are in range, its names differ, and it keeps the limits.
-use Rattle.std.proofs.Common.{◌≡◌, ℕ, ◌+◌, ◌<◌, ◌≤◌, zero, suc, Bool, true, false, not, ◌||◌, ◌&&◌, cond, nat_lt, nat_eq, List, [], ◌∷◌, map, length, count_by, Option, Some, None, slice_get, option_map, refl, sym, ap, ◌∙◌, inl, inr, arith, true≢false}
-use Rattle.std.proofs.lemmas.Bool.{cases_lt}
-use Rattle.std.proofs.lemmas.Bool.Decides.{nat_tests}
+use Rattle.std.proofs.Common.{◌≡◌, ℕ, ◌<◌, ◌≤◌, zero, suc, true, false, not, ◌&&◌, nat_lt, nat_eq, List, [], ◌∷◌, map, length, count_by, Option, Some, None, slice_get, option_map, refl, sym, ap, ◌∙◌, inl, inr, arith, true≢false}
+use Rattle.std.proofs.lemmas.Bool.{or_parts, ltb-true, ltb-false, not-false}
 use Rattle.std.proofs.lemmas.Option.{slice_get-map}
 use Rattle.std.proofs.lemmas.Slice.Eq.{bytes_eq-Decides}
 use Rattle.std.specs.List.{list_any, range_with_len, AllByRecursion}
@@ -12,42 +11,14 @@ use Rattle.mcs_system.specs.Logic.{is_in, same_name}
 use Rattle.mcs_system.specs.Systems.{variables}
 use Rattle.mcs_system.specs.Rows.{inputs_of}
 use Rattle.mcs_system.specs.Atoms.{atoms_of}
-use Rattle.mcs_system.specs.declared.fault.Limit.{Limit}
-use Rattle.mcs_system.specs.declared.fault.Limit.TheVariants.{Contexts, Bridges, RulesPerContext, Variables, InputsPerContext, AtomsPerContext, DefaultsPerContext}
+use Rattle.mcs_system.specs.declared.limit.Limit.{Limit}
+use Rattle.mcs_system.specs.declared.limit.Limit.TheVariants.{Contexts, Bridges, RulesPerContext, Variables, InputsPerContext, AtomsPerContext, DefaultsPerContext}
 use Rattle.mcs_system.specs.Faults.{reads_of, points_outside, is_atom, is_program, has_misfit, has_unjustified, default_count, has_unknown_context, has_twins, has_twin_names, has_misfits, exceeds, first_exceeded, limits, limit_fault, fault, fault_of, IsValid}
-
--- ---- tests that answer false
-or_false : (a b : Bool) → (a || b) ≡ false → (a ≡ false) × (b ≡ false)
-or_false true b e = absurd (true≢false e)
-or_false false b e = (refl, e)
-
-pub none_at : {A : Type 0} (p : A → Bool) (xs : List A) (k : ℕ) (x : A) → list_any p xs ≡ false → slice_get xs k ≡ Some x → p x ≡ false
-none_at p [] k x none at = absurd (let e : None ≡ Some x = at in cc)
-none_at p (y ∷ ys) zero x none at = let e : y ≡ x = cc at in ap p (sym e) ∙ (or_false (p y) (list_any p ys) none).0
-none_at p (y ∷ ys) (suc k) x none at = none_at p ys k x (or_false (p y) (list_any p ys) none).1 at
-
-pub all_from_none : {A : Type 0} (p : A → Bool) (P : A → Type 0) → ((x : A) → p x ≡ false → P x) → (xs : List A) → list_any p xs ≡ false → AllByRecursion P xs
-all_from_none p P each [] none = tt
-all_from_none p P each (x ∷ xs) none = let both = or_false (p x) (list_any p xs) none in (each x both.0, all_from_none p P each xs both.1)
-
-none_in_range : (p : ℕ → Bool) (a n i : ℕ) → list_any p (range_with_len a n) ≡ false → a ≤ i → i < a + n → p i ≡ false
-none_in_range p a zero i none from below = absurd (omega arith)
-none_in_range p a (suc n) i none from below = let both = or_false (p a) (list_any p (range_with_len (a + 1) n)) none in elim (cases_lt a i) [
-  | inl less ↦ none_in_range p (a + 1) n i both.1 (omega arith) (omega arith)
-  | inr same ↦ let e : a ≡ i = omega arith in ap p (sym e) ∙ both.0
-]
-
-at_most : (n k : ℕ) → nat_lt n k ≡ false → k ≤ n
-at_most n k e = grind (arith, nat_tests)
-
-inside : (k n : ℕ) → not (nat_lt k n) ≡ false → k < n
-inside k n e = grind (arith, nat_tests)
+use Rattle.mcs_base.proofs.Among.{none_get, none_any, among_range}
+use Rattle.mcs_base.proofs.Each.{all_from_no_any}
+use Rattle.mcs_base.proofs.Booleans.{cond_none_parts, implied}
 
 -- ---- a valid system passes each test
-none_here : {A : Type 0} (b : Bool) (x : A) (rest : Option A) → cond b (Some x) rest ≡ None → (b ≡ false) × (rest ≡ None)
-none_here true x rest e = absurd (let no : Some x ≡ None = e in cc)
-none_here false x rest e = (refl, e)
-
 no_limit : (o : Option Limit) → limit_fault o ≡ None → o ≡ None
 no_limit None e = refl
 no_limit (Some l) e = absurd (let no : Some (fault 5 (Some l)) ≡ None = e in cc)
@@ -61,110 +32,105 @@ pub record PassesTests (m : System) : Type 0 where
 pub tests_pass : (m : System) → IsValid m → PassesTests m
 unfolding fault_of
 tests_pass m valid =
-    let a = none_here (has_unknown_context m) (fault 2 None) _ valid in
-    let b = none_here (has_twin_names m) (fault 3 None) _ a.1 in
-    let c = none_here (has_misfits m) (fault 4 None) _ b.1 in
+    let a = cond_none_parts (has_unknown_context m) (fault 2 None) _ valid in
+    let b = cond_none_parts (has_twin_names m) (fault 3 None) _ a.1 in
+    let c = cond_none_parts (has_misfits m) (fault 4 None) _ b.1 in
     record { known = a.0; apart = b.0; fitting = c.0; limited = no_limit (first_exceeded m limits) c.1 }
 
 not_exceeded : (m : System) (ls : List Limit) (l : Limit) → first_exceeded m ls ≡ None → IsAmong l ls → exceeds m l ≡ false
 not_exceeded m [] l none among = absurd among
-not_exceeded m (k ∷ ks) l none (inl e) = ap (exceeds m) e ∙ (none_here (exceeds m k) k (first_exceeded m ks) none).0
-not_exceeded m (k ∷ ks) l none (inr among) = not_exceeded m ks l (none_here (exceeds m k) k (first_exceeded m ks) none).1 among
+not_exceeded m (k ∷ ks) l none (inl e) = ap (exceeds m) e ∙ (cond_none_parts (exceeds m k) k (first_exceeded m ks) none).0
+not_exceeded m (k ∷ ks) l none (inr among) = not_exceeded m ks l (cond_none_parts (exceeds m k) k (first_exceeded m ks) none).1 among
 
 -- a valid system keeps each limit
 pub limit_kept : (m : System) → IsValid m → (l : Limit) → IsAmong l limits → exceeds m l ≡ false
 limit_kept m valid l among = not_exceeded m limits l (tests_pass m valid).limited among
 
 -- ---- targets and reads are in range
-or_parts : (n : ℕ) (b : Bridge) → points_outside n b ≡ false → (b.target < n) × (list_any (λ (r : Read). not (nat_lt r.context n)) (reads_of b) ≡ false)
-or_parts n b e = let both = or_false (not (nat_lt b.target n)) (list_any (λ (r : Read). not (nat_lt r.context n)) (reads_of b)) e in (inside b.target n both.0, both.1)
+bridge_parts : (n : ℕ) (b : Bridge) → points_outside n b ≡ false → (b.target < n) × (list_any (λ (r : Read). not (nat_lt r.context n)) (reads_of b) ≡ false)
+bridge_parts n b e = let both = or_parts (not (nat_lt b.target n)) (list_any (λ (r : Read). not (nat_lt r.context n)) (reads_of b)) e in (ltb-true b.target n (not-false _ both.0), both.1)
 
 pub targets_in_range : (m : System) → IsValid m → AllByRecursion (λ (b : Bridge). b.target < length m.contexts) m.bridges
-targets_in_range m valid = all_from_none (points_outside (length m.contexts)) _ (λ b e. (or_parts (length m.contexts) b e).0) m.bridges (tests_pass m valid).known
+targets_in_range m valid = all_from_no_any _ (points_outside (length m.contexts)) (λ b e. (bridge_parts (length m.contexts) b e).0) m.bridges (tests_pass m valid).known
 
 pub target_in_range : (m : System) → IsValid m → (k : ℕ) (b : Bridge) → slice_get m.bridges k ≡ Some b → b.target < length m.contexts
-target_in_range m valid k b at = (or_parts (length m.contexts) b (none_at (points_outside (length m.contexts)) m.bridges k b (tests_pass m valid).known at)).0
+target_in_range m valid k b at = (bridge_parts (length m.contexts) b (none_get (points_outside (length m.contexts)) m.bridges k b (tests_pass m valid).known at)).0
 
 pub reads_in_range : (m : System) → IsValid m → AllByRecursion (λ (b : Bridge). AllByRecursion (λ (r : Read). r.context < length m.contexts) (reads_of b)) m.bridges
-reads_in_range m valid = all_from_none (points_outside (length m.contexts)) _
-    (λ b e. all_from_none (λ (r : Read). not (nat_lt r.context (length m.contexts))) _ (λ r e'. inside r.context (length m.contexts) e') (reads_of b) (or_parts (length m.contexts) b e).1)
+reads_in_range m valid = all_from_no_any _ (points_outside (length m.contexts))
+    (λ b e. all_from_no_any _ (λ (r : Read). not (nat_lt r.context (length m.contexts))) (λ r e'. ltb-true r.context (length m.contexts) (not-false _ e')) (reads_of b) (bridge_parts (length m.contexts) b e).1)
     m.bridges (tests_pass m valid).known
 
 pub read_in_range : (m : System) → IsValid m → (k j : ℕ) (b : Bridge) (r : Read) → slice_get m.bridges k ≡ Some b → slice_get (reads_of b) j ≡ Some r → r.context < length m.contexts
-read_in_range m valid k j b r at at' = inside r.context (length m.contexts)
-    (none_at (λ (q : Read). not (nat_lt q.context (length m.contexts))) (reads_of b) j r
-    (or_parts (length m.contexts) b (none_at (points_outside (length m.contexts)) m.bridges k b (tests_pass m valid).known at)).1 at')
+read_in_range m valid k j b r at at' = ltb-true r.context (length m.contexts) (not-false _
+    (none_get (λ (q : Read). not (nat_lt q.context (length m.contexts))) (reads_of b) j r
+    (bridge_parts (length m.contexts) b (none_get (points_outside (length m.contexts)) m.bridges k b (tests_pass m valid).known at)).1 at'))
 
 -- ---- what goes into a program or is read of one is an atom
-atom_there : (program atom : Bool) → (program && not atom) ≡ false → program ≡ true → atom ≡ true
-atom_there true true e there = refl
-atom_there true false e there = absurd (true≢false e)
-atom_there false atom e there = absurd (true≢false (sym there))
-
 misfit_parts : (cs : List Context) (b : Bridge) → has_misfit cs b ≡ false → ((is_program (slice_get cs b.target) && not (is_atom b.head)) ≡ false) × (list_any (λ (r : Read). is_program (slice_get cs r.context) && not (is_atom r.belief)) (reads_of b) ≡ false)
-misfit_parts cs b e = or_false (is_program (slice_get cs b.target) && not (is_atom b.head)) (list_any (λ (r : Read). is_program (slice_get cs r.context) && not (is_atom r.belief)) (reads_of b)) e
+misfit_parts cs b e = or_parts (is_program (slice_get cs b.target) && not (is_atom b.head)) (list_any (λ (r : Read). is_program (slice_get cs r.context) && not (is_atom r.belief)) (reads_of b)) e
 
 rule_fits : (m : System) → IsValid m → (k : ℕ) (b : Bridge) → slice_get m.bridges k ≡ Some b → has_misfit m.contexts b ≡ false
-rule_fits m valid k b at = none_at (has_misfit m.contexts) m.bridges k b (or_false (list_any (λ (c : Context). has_unjustified c.kb) m.contexts) (list_any (has_misfit m.contexts) m.bridges) (tests_pass m valid).fitting).1 at
+rule_fits m valid k b at = none_get (has_misfit m.contexts) m.bridges k b (or_parts (list_any (λ (c : Context). has_unjustified c.kb) m.contexts) (list_any (has_misfit m.contexts) m.bridges) (tests_pass m valid).fitting).1 at
 
 pub head_is_atom : (m : System) → IsValid m → (k : ℕ) (b : Bridge) → slice_get m.bridges k ≡ Some b → is_program (slice_get m.contexts b.target) ≡ true → is_atom b.head ≡ true
-head_is_atom m valid k b at there = atom_there (is_program (slice_get m.contexts b.target)) (is_atom b.head) (misfit_parts m.contexts b (rule_fits m valid k b at)).0 there
+head_is_atom m valid k b at there = implied (is_program (slice_get m.contexts b.target)) (is_atom b.head) (misfit_parts m.contexts b (rule_fits m valid k b at)).0 there
 
 pub belief_is_atom : (m : System) → IsValid m → (k j : ℕ) (b : Bridge) (r : Read) → slice_get m.bridges k ≡ Some b → slice_get (reads_of b) j ≡ Some r → is_program (slice_get m.contexts r.context) ≡ true → is_atom r.belief ≡ true
 belief_is_atom m valid k j b r at at' there =
-    atom_there (is_program (slice_get m.contexts r.context)) (is_atom r.belief)
-    (none_at (λ (q : Read). is_program (slice_get m.contexts q.context) && not (is_atom q.belief)) (reads_of b) j r (misfit_parts m.contexts b (rule_fits m valid k b at)).1 at')
+    implied (is_program (slice_get m.contexts r.context)) (is_atom r.belief)
+    (none_get (λ (q : Read). is_program (slice_get m.contexts q.context) && not (is_atom q.belief)) (reads_of b) j r (misfit_parts m.contexts b (rule_fits m valid k b at)).1 at')
     there
 
 -- ---- names differ
 -- a name is none of those after it
 unlike : (x : Name) (xs : List Name) (j : ℕ) (n : Name) → is_in x xs ≡ false → x ≡ n → slice_get xs j ≡ Some n → ⊥
-unlike x xs j n none e at = true≢false (sym ((bytes_eq-Decides x n).1 e) ∙ none_at (same_name x) xs j n none at)
+unlike x xs j n none e at = true≢false (sym ((bytes_eq-Decides x n).1 e) ∙ none_get (same_name x) xs j n none at)
 
 pub twins_are_one : (ns : List Name) → has_twins ns ≡ false → (i j : ℕ) (n : Name) → slice_get ns i ≡ Some n → slice_get ns j ≡ Some n → i ≡ j
 twins_are_one [] none i j n at at' = absurd (let e : None ≡ Some n = at in cc)
 twins_are_one (x ∷ xs) none zero zero n at at' = refl
-twins_are_one (x ∷ xs) none zero (suc j) n at at' = absurd (unlike x xs j n (or_false (is_in x xs) (has_twins xs) none).0 (let e : x ≡ n = cc at in e) at')
-twins_are_one (x ∷ xs) none (suc i) zero n at at' = absurd (unlike x xs i n (or_false (is_in x xs) (has_twins xs) none).0 (let e : x ≡ n = cc at' in e) at)
-twins_are_one (x ∷ xs) none (suc i) (suc j) n at at' = ap suc (twins_are_one xs (or_false (is_in x xs) (has_twins xs) none).1 i j n at at')
+twins_are_one (x ∷ xs) none zero (suc j) n at at' = absurd (unlike x xs j n (or_parts (is_in x xs) (has_twins xs) none).0 (let e : x ≡ n = cc at in e) at')
+twins_are_one (x ∷ xs) none (suc i) zero n at at' = absurd (unlike x xs i n (or_parts (is_in x xs) (has_twins xs) none).0 (let e : x ≡ n = cc at' in e) at)
+twins_are_one (x ∷ xs) none (suc i) (suc j) n at at' = ap suc (twins_are_one xs (or_parts (is_in x xs) (has_twins xs) none).1 i j n at at')
 
 pub context_names_differ : (m : System) → IsValid m → (i j : ℕ) (c d : Context) → slice_get m.contexts i ≡ Some c → slice_get m.contexts j ≡ Some d → c.name ≡ d.name → i ≡ j
 context_names_differ m valid i j c d at at' same =
     let name : Context → Name = λ c. c.name in
-    twins_are_one (map name m.contexts) (or_false (has_twins (map name m.contexts)) (has_twins (map (λ (b : Bridge). b.name) m.bridges)) (tests_pass m valid).apart).0 i j d.name
+    twins_are_one (map name m.contexts) (or_parts (has_twins (map name m.contexts)) (has_twins (map (λ (b : Bridge). b.name) m.bridges)) (tests_pass m valid).apart).0 i j d.name
     (slice_get-map name m.contexts i ∙ (ap (option_map name) at ∙ ap Some same)) (slice_get-map name m.contexts j ∙ ap (option_map name) at')
 
 pub bridge_names_differ : (m : System) → IsValid m → (i j : ℕ) (b d : Bridge) → slice_get m.bridges i ≡ Some b → slice_get m.bridges j ≡ Some d → b.name ≡ d.name → i ≡ j
 bridge_names_differ m valid i j b d at at' same =
     let name : Bridge → Name = λ b. b.name in
-    twins_are_one (map name m.bridges) (or_false (has_twins (map (λ (c : Context). c.name) m.contexts)) (has_twins (map name m.bridges)) (tests_pass m valid).apart).1 i j d.name
+    twins_are_one (map name m.bridges) (or_parts (has_twins (map (λ (c : Context). c.name) m.contexts)) (has_twins (map name m.bridges)) (tests_pass m valid).apart).1 i j d.name
     (slice_get-map name m.bridges i ∙ (ap (option_map name) at ∙ ap Some same)) (slice_get-map name m.bridges j ∙ ap (option_map name) at')
 
 -- ---- limits
 pub few_contexts : (m : System) → IsValid m → length m.contexts ≤ 64
 unfolding exceeds
-few_contexts m valid = at_most 64 (length m.contexts) (limit_kept m valid Contexts (inl refl))
+few_contexts m valid = ltb-false 64 (length m.contexts) (limit_kept m valid Contexts (inl refl))
 
 pub few_bridges : (m : System) → IsValid m → length m.bridges ≤ 64
 unfolding exceeds
-few_bridges m valid = at_most 64 (length m.bridges) (limit_kept m valid Bridges (inr (inl refl)))
+few_bridges m valid = ltb-false 64 (length m.bridges) (limit_kept m valid Bridges (inr (inl refl)))
 
 pub few_rules : (m : System) → IsValid m → (i : ℕ) → i < length m.contexts → count_by (λ (b : Bridge). nat_eq b.target i) m.bridges ≤ 12
 unfolding exceeds
-few_rules m valid i less = at_most 12 _ (none_in_range (λ j. nat_lt 12 (count_by (λ (b : Bridge). nat_eq b.target j) m.bridges)) 0 (length m.contexts) i (limit_kept m valid RulesPerContext (inr (inr (inl refl)))) (omega arith) (omega arith))
+few_rules m valid i less = ltb-false 12 _ (none_any (λ j. nat_lt 12 (count_by (λ (b : Bridge). nat_eq b.target j) m.bridges)) (range_with_len 0 (length m.contexts)) i (limit_kept m valid RulesPerContext (inr (inr (inl refl)))) (among_range i 0 (length m.contexts) (omega arith) (omega arith)))
 
 pub few_variables : (m : System) → IsValid m → length (variables m) ≤ 64
 unfolding exceeds
-few_variables m valid = at_most 64 (length (variables m)) (limit_kept m valid Variables (inr (inr (inr (inl refl)))))
+few_variables m valid = ltb-false 64 (length (variables m)) (limit_kept m valid Variables (inr (inr (inr (inl refl)))))
 
 pub few_inputs : (m : System) → IsValid m → (i : ℕ) → i < length m.contexts → size (inputs_of m i) ≤ 16
 unfolding exceeds
-few_inputs m valid i less = at_most 16 _ (none_in_range (λ j. nat_lt 16 (size (inputs_of m j))) 0 (length m.contexts) i (limit_kept m valid InputsPerContext (inr (inr (inr (inr (inl refl)))))) (omega arith) (omega arith))
+few_inputs m valid i less = ltb-false 16 _ (none_any (λ j. nat_lt 16 (size (inputs_of m j))) (range_with_len 0 (length m.contexts)) i (limit_kept m valid InputsPerContext (inr (inr (inr (inr (inl refl)))))) (among_range i 0 (length m.contexts) (omega arith) (omega arith)))
 
 pub few_atoms : (m : System) → IsValid m → (i : ℕ) → i < length m.contexts → length (atoms_of m i) ≤ 64
 unfolding exceeds
-few_atoms m valid i less = at_most 64 _ (none_in_range (λ j. nat_lt 64 (length (atoms_of m j))) 0 (length m.contexts) i (limit_kept m valid AtomsPerContext (inr (inr (inr (inr (inr (inl refl))))))) (omega arith) (omega arith))
+few_atoms m valid i less = ltb-false 64 _ (none_any (λ j. nat_lt 64 (length (atoms_of m j))) (range_with_len 0 (length m.contexts)) i (limit_kept m valid AtomsPerContext (inr (inr (inr (inr (inr (inl refl))))))) (among_range i 0 (length m.contexts) (omega arith) (omega arith)))
 
 pub few_defaults : (m : System) → IsValid m → (i : ℕ) (c : Context) → slice_get m.contexts i ≡ Some c → default_count c.kb ≤ 10
 unfolding exceeds
-few_defaults m valid i c at = at_most 10 _ (none_at (λ (d : Context). nat_lt 10 (default_count d.kb)) m.contexts i c (limit_kept m valid DefaultsPerContext (inr (inr (inr (inr (inr (inr (inl refl)))))))) at)
+few_defaults m valid i c at = ltb-false 10 _ (none_get (λ (d : Context). nat_lt 10 (default_count d.kb)) m.contexts i c (limit_kept m valid DefaultsPerContext (inr (inr (inr (inr (inr (inr (inl refl)))))))) at)

@@ -1,36 +1,39 @@
 -- What the variables of a system are, and the sets that are made of them.
-use Rattle.std.proofs.Common.{◌≡◌, ◌≢◌, ℕ, ◌+◌, ◌-◌, ◌<◌, ◌≤◌, cond, map, zero, suc, Bool, true, false, not, ◌&&◌, ◌||◌, eqb, ltb, List, [], ◌∷◌, ◌++◌, filter, length, Some, refl, sym, ap, ◌∙◌, inl, inr, ◌⊎◌, arith, true≢false, slice_get}
+use Rattle.std.proofs.Common.{◌≡◌, ℕ, ◌+◌, ◌-◌, ◌<◌, ◌≤◌, cond, map, zero, suc, Bool, true, false, not, ◌&&◌, ◌||◌, eqb, ltb, List, [], ◌∷◌, ◌++◌, filter, length, Some, refl, sym, ap, ◌∙◌, inl, inr, ◌⊎◌, arith, true≢false, slice_get}
 use Rattle.std.proofs.lemmas.Bool.Decides.{nat_tests}
-use Rattle.std.proofs.lemmas.List.{append-nil, length-map}
-use Rattle.std.proofs.lemmas.List.Elements.{filter-append}
+use Rattle.std.proofs.lemmas.List.{length-map}
 use Rattle.std.specs.List.{range_with_len, list_any, enumerate_from, flat_map}
 use Rattle.mcs_sets.specs.Sets.{has}
 use Rattle.mcs_sets.proofs.SetLemmas.{has-such_that}
 use Rattle.mcs_base.specs.Listings.{IsAmong}
 use Rattle.mcs_system.specs.declared.knowledge.Context as code
 use Rattle.mcs_system.specs.declared.bridge.Bridge as code'
+use Rattle.mcs_base.specs.Listings.{firsts}
 use Rattle.mcs_system.specs.Plain.{Read, Bridge, System}
 use Rattle.mcs_system.specs.Seen.{context_of, system_of}
-use Rattle.mcs_system.specs.Systems.{same_read, occurrences, firsts, context_variables, variables, variables_of, IsVariable, applies_at, applicable}
+use Rattle.mcs_system.specs.Systems.{same_read, occurrences, context_variables, variables, variables_of, IsVariable, applies_at, applicable}
 use Rattle.mcs_system.specs.Imports.{rules_into}
 use Rattle.mcs_system.specs.Rows.{inputs_of}
 use Rattle.mcs_system.proofs.Sameness.{same_read-is, same_read-itself}
-use Rattle.mcs_system.proofs.Members.{among_filter, filter_among, get_among, among_get, get-lt, among_flat_map, flat_map_among, among_range, range_among, get_any, among_any}
+use Rattle.mcs_base.proofs.Among.{among_filter, filter_among, get_among, among_get, among_flat_map, flat_map_among, among_range, range_among, get_any, among_any, filter_all, filter_none}
+use Rattle.std.proofs.lemmas.Option.{slice_get_within}
+use Rattle.mcs_base.proofs.Lists.{range_more, range_none, filter-flat_map, flat_map_same, flat_map_range_at}
+use Rattle.std.proofs.lemmas.Bool.{or_right}
 
 -- ---- the variables
-pub among_firsts : (r : Read) (xs : List Read) → IsAmong r xs → IsAmong r (firsts xs)
+pub among_firsts : (r : Read) (xs : List Read) → IsAmong r xs → IsAmong r (firsts same_read xs)
 among_firsts r [] h = absurd h
 among_firsts r (x ∷ xs) (inl e) = inl e
 among_firsts r (x ∷ xs) (inr h) = at (same_read x r) refl (among_firsts r xs h)
   where
-    at : (v : Bool) → same_read x r ≡ v → IsAmong r (firsts xs) → (r ≡ x) ⊎ IsAmong r (filter (λ q. not (same_read x q)) (firsts xs))
+    at : (v : Bool) → same_read x r ≡ v → IsAmong r (firsts same_read xs) → (r ≡ x) ⊎ IsAmong r (filter (λ q. not (same_read x q)) (firsts same_read xs))
     at true e rest = inl (sym (same_read-is x r e))
-    at false e rest = inr (among_filter (λ q. not (same_read x q)) r (firsts xs) rest (ap not e))
+    at false e rest = inr (among_filter (λ q. not (same_read x q)) r (firsts same_read xs) rest (ap not e))
 
-pub firsts_among : (r : Read) (xs : List Read) → IsAmong r (firsts xs) → IsAmong r xs
+pub firsts_among : (r : Read) (xs : List Read) → IsAmong r (firsts same_read xs) → IsAmong r xs
 firsts_among r [] h = absurd h
 firsts_among r (x ∷ xs) (inl e) = inl e
-firsts_among r (x ∷ xs) (inr h) = inr (firsts_among r xs (filter_among (λ q. not (same_read x q)) r (firsts xs) h).0)
+firsts_among r (x ∷ xs) (inr h) = inr (firsts_among r xs (filter_among (λ q. not (same_read x q)) r (firsts same_read xs) h).0)
 
 -- a variable belongs to a context of the system
 pub variable_in_range : (m : System) (v : ℕ) (r : Read) → IsVariable m v r → r.context < length m.contexts
@@ -38,7 +41,7 @@ unfolding variables
 variable_in_range m v r is =
     let (i, in_range, here) = flat_map_among (context_variables m) r (range_with_len 0 (length m.contexts)) (among_get r _ v is) in
     let own : eqb r.context i ≡ true = (filter_among (λ q. eqb q.context i) r (occurrences m) (firsts_among r _ here)).1 in
-    let less = range_among i 0 (length m.contexts) in_range in
+    let (from, less) = range_among i 0 (length m.contexts) in_range in
     let same : r.context ≡ i = grind (arith, nat_tests) in omega arith
 
 -- and what a rule reads of a context of the system is a variable
@@ -73,83 +76,43 @@ from_believed σ k r (x ∷ xs) zero is member =
     rw (known, alike) refl
 from_believed σ k r (x ∷ xs) (suc v) is member =
     let rest = from_believed σ (k + 1) r xs v is (ap (has σ) (omega arith) ∙ member) in
-    rw rest (or-true (has σ k && same_read x r))
-  where
-    or-true : (u : Bool) → (u || true) ≡ true
-    or-true true = refl
-    or-true false = refl
+    or_right (has σ k && same_read x r) _ rest
 
 -- ---- what is in the sets
 pub has-applicable : (m : System) (σ k : ℕ) (b : Bridge) → slice_get m.bridges k ≡ Some b → has (applicable m σ) k ≡ applies_at m σ b
 unfolding applicable
-has-applicable m σ k b is = has-such_that _ _ k ∙ (let less = get-lt b m.bridges k is in let e : ltb k (length m.bridges) ≡ true = grind (arith, nat_tests) in rw (e, is) refl)
+has-applicable m σ k b is = has-such_that _ _ k ∙ (let less = slice_get_within m.bridges k b is in let e : ltb k (length m.bridges) ≡ true = grind (arith, nat_tests) in rw (e, is) refl)
 
 pub has-variables_of : (m : System) (i v : ℕ) (r : Read) → IsVariable m v r → has (variables_of m i) v ≡ eqb r.context i
 unfolding variables_of
-has-variables_of m i v r is = has-such_that _ _ v ∙ (let less = get-lt r (variables m) v is in let e : ltb v (length (variables m)) ≡ true = grind (arith, nat_tests) in rw (e, is) refl)
+has-variables_of m i v r is = has-such_that _ _ v ∙ (let less = slice_get_within (variables m) v r is in let e : ltb v (length (variables m)) ≡ true = grind (arith, nat_tests) in rw (e, is) refl)
 
 pub has-rules_into : (m : System) (i k : ℕ) (b : Bridge) → slice_get m.bridges k ≡ Some b → has (rules_into m i) k ≡ eqb b.target i
 unfolding rules_into
-has-rules_into m i k b is = has-such_that _ _ k ∙ (let less = get-lt b m.bridges k is in let e : ltb k (length m.bridges) ≡ true = grind (arith, nat_tests) in rw (e, is) refl)
+has-rules_into m i k b is = has-such_that _ _ k ∙ (let less = slice_get_within m.bridges k b is in let e : ltb k (length m.bridges) ≡ true = grind (arith, nat_tests) in rw (e, is) refl)
 
 pub has-inputs_of : (m : System) (i k v : ℕ) (b : Bridge) (r q : Read) → slice_get m.bridges k ≡ Some b → b.target ≡ i → IsAmong r (b.pos ++ b.neg) → IsVariable m v q → same_read q r ≡ true → has (inputs_of m i) v ≡ true
 unfolding inputs_of
-has-inputs_of m i k v b r q is target here var alike = has-such_that _ _ v ∙ (let less = get-lt q (variables m) v var in let e : ltb v (length (variables m)) ≡ true = grind (arith, nat_tests) in rw (e, var)
+has-inputs_of m i k v b r q is target here var alike = has-such_that _ _ v ∙ (let less = slice_get_within (variables m) v q var in let e : ltb v (length (variables m)) ≡ true = grind (arith, nat_tests) in rw (e, var)
     (get_any (λ (c : Bridge). eqb c.target i && list_any (λ (p : Read). same_read q p) (c.pos ++ c.neg)) m.bridges k b is
     (let t : eqb b.target i ≡ true = grind (arith, nat_tests) in let a = among_any (λ (p : Read). same_read q p) (b.pos ++ b.neg) r here alike in rw (t, a) refl)))
 
 -- ---- the walk over the contexts
-pub range_step : (i n : ℕ) → i < n → range_with_len i (n - i) ≡ i ∷ range_with_len (i + 1) (n - (i + 1))
-range_step i n less = let e : n - i ≡ suc (n - (i + 1)) = omega arith in ap (range_with_len i) e
-
-pub range_over : (i n : ℕ) → n ≤ i → range_with_len i (n - i) ≡ []
-range_over i n over = let e : n - i ≡ 0 = omega arith in ap (range_with_len i) e
-
 -- the variables of context i and of those after it
 abbrev pub variables_from : List code.Context → List code'.Bridge → ℕ → List Read
 variables_from cs bs i = flat_map (context_variables (system_of [] bs)) (range_with_len i (length cs - i))
 
 pub variables_from-step : (cs : List code.Context) (bs : List code'.Bridge) (i : ℕ) → i < length cs → variables_from cs bs i ≡ context_variables (system_of [] bs) i ++ variables_from cs bs (i + 1)
-variables_from-step cs bs i less = ap (flat_map (context_variables (system_of [] bs))) (range_step i (length cs) less)
+variables_from-step cs bs i less = ap (flat_map (context_variables (system_of [] bs))) (range_more i (length cs) less)
 
 pub variables_from-over : (cs : List code.Context) (bs : List code'.Bridge) (i : ℕ) → length cs ≤ i → variables_from cs bs i ≡ []
-variables_from-over cs bs i over = ap (flat_map (context_variables (system_of [] bs))) (range_over i (length cs) over)
+variables_from-over cs bs i over = ap (flat_map (context_variables (system_of [] bs))) (range_none i (length cs) over)
 
 pub variables-all : (cs : List code.Context) (bs : List code'.Bridge) → variables (system_of cs bs) ≡ variables_from cs bs 0
 unfolding variables
 variables-all cs bs = let e : length (map context_of cs) ≡ length cs - 0 = omega (arith, length-map cs context_of) in ap (λ n. flat_map (context_variables (system_of [] bs)) (range_with_len 0 n)) e
 
 -- ---- the variables of one context are those of the system that are of it
-module _ {A : Type 0} (p : A → Bool) where
-  filter_pass : (xs : List A) → ((x : A) → IsAmong x xs → p x ≡ true) → filter p xs ≡ xs
-  filter_pass [] pass = refl
-  filter_pass (x ∷ xs) pass = rw (pass x (inl refl)) (ap (λ ys. x ∷ ys) (filter_pass xs (λ y here. pass y (inr here))))
-
-  filter_none : (xs : List A) → ((x : A) → IsAmong x xs → p x ≡ false) → filter p xs ≡ []
-  filter_none [] none = refl
-  filter_none (x ∷ xs) none = rw (none x (inl refl)) (filter_none xs (λ y here. none y (inr here)))
-
-  filter-flat_map : {B : Type 0} (f : B → List A) (xs : List B) → filter p (flat_map f xs) ≡ flat_map (λ x. filter p (f x)) xs
-  filter-flat_map f [] = refl
-  filter-flat_map f (x ∷ xs) = filter-append p (f x) (flat_map f xs) ∙ ap (λ ys. filter p (f x) ++ ys) (filter-flat_map f xs)
-
-flat_map-same : {A B : Type 0} (f g : A → List B) (xs : List A) → ((x : A) → f x ≡ g x) → flat_map f xs ≡ flat_map g xs
-flat_map-same f g [] same = refl
-flat_map-same f g (x ∷ xs) same = rw (same x, flat_map-same f g xs same) refl
-
-none_past : {A : Type 0} (f : ℕ → List A) (i k n : ℕ) → i < k → flat_map (λ j. cond (eqb j i) (f j) []) (range_with_len k n) ≡ []
-none_past f i k zero less = refl
-none_past f i k (suc n) less = let other : eqb k i ≡ false = grind (arith, nat_tests) in rw other (none_past f i (k + 1) n (omega arith))
-
-only_at : {A : Type 0} (f : ℕ → List A) (i k n : ℕ) → k ≤ i → i < k + n → flat_map (λ j. cond (eqb j i) (f j) []) (range_with_len k n) ≡ f i
-only_at f i k zero from below = absurd (omega arith)
-only_at f i k (suc n) from below = at (eqb k i) refl (only_at f i (k + 1) n)
-  where
-    at : (v : Bool) → eqb k i ≡ v → (k + 1 ≤ i → i < k + 1 + n → flat_map (λ j. cond (eqb j i) (f j) []) (range_with_len (k + 1) n) ≡ f i)
-        → cond v (f k) [] ++ flat_map (λ j. cond (eqb j i) (f j) []) (range_with_len (k + 1) n) ≡ f i
-    at true e rest = let same : k ≡ i = grind (arith, nat_tests) in rw (none_past f i (k + 1) n (omega arith)) (append-nil (f k) ∙ ap f same)
-    at false e rest = let differ : k ≢ i = grind (arith, nat_tests) in rest (omega arith) (omega arith)
-
 of_context : (m : System) (i j : ℕ) (r : Read) → IsAmong r (context_variables m j) → eqb r.context i ≡ eqb j i
 of_context m i j r here =
     let own : eqb r.context j ≡ true = (filter_among (λ q. eqb q.context j) r (occurrences m) (firsts_among r _ here)).1 in
@@ -159,12 +122,12 @@ own_part : (m : System) (i j : ℕ) → filter (λ (r : Read). eqb r.context i) 
 own_part m i j = at (eqb j i) refl
   where
     at : (v : Bool) → eqb j i ≡ v → filter (λ (r : Read). eqb r.context i) (context_variables m j) ≡ cond v (context_variables m j) []
-    at true e = filter_pass (λ (r : Read). eqb r.context i) (context_variables m j) (λ r here. of_context m i j r here ∙ e)
+    at true e = filter_all (λ (r : Read). eqb r.context i) (context_variables m j) (λ r here. of_context m i j r here ∙ e)
     at false e = filter_none (λ (r : Read). eqb r.context i) (context_variables m j) (λ r here. of_context m i j r here ∙ e)
 
 pub variables_own : (m : System) (i : ℕ) → i < length m.contexts → filter (λ (r : Read). eqb r.context i) (variables m) ≡ context_variables m i
 unfolding variables
 variables_own m i less =
     filter-flat_map (λ (r : Read). eqb r.context i) (context_variables m) (range_with_len 0 (length m.contexts))
-    ∙ flat_map-same (λ j. filter (λ (r : Read). eqb r.context i) (context_variables m j)) (λ j. cond (eqb j i) (context_variables m j) []) (range_with_len 0 (length m.contexts)) (own_part m i)
-    ∙ only_at (context_variables m) i 0 (length m.contexts) (omega arith) (omega arith)
+    ∙ flat_map_same (λ j. filter (λ (r : Read). eqb r.context i) (context_variables m j)) (λ j. cond (eqb j i) (context_variables m j) []) (range_with_len 0 (length m.contexts)) (own_part m i)
+    ∙ flat_map_range_at (context_variables m) i 0 (length m.contexts) (omega arith) (omega arith)

@@ -1,6 +1,7 @@
 -- The atoms of a context.
-use Rattle.std.specs.Prelude.{ℕ, not, List, [], ◌∷◌, ◌++◌, map, filter, Option, Some, None, slice_get, nat_eq}
+use Rattle.std.specs.Prelude.{ℕ, List, [], ◌++◌, map, filter, Option, Some, None, slice_get, nat_eq}
 use Rattle.std.specs.List.{flat_map}
+use Rattle.mcs_base.specs.Listings.{firsts}
 use Rattle.mcs_system.specs.Plain.{Name, Formula, Default, ProgramRule, Item, Fact, Rule, Kb, Classical, DefaultTheory, Program, Context, Read, Bridge, System}
 use Rattle.mcs_system.specs.Logic.{same_name, atoms}
 use Rattle.mcs_system.specs.Systems.{context_variables}
@@ -34,10 +35,9 @@ all_heads_into m i = map (λ (b : Bridge). b.head) (filter (λ (b : Bridge). nat
 abbrev pub atom_occurrences : System → ℕ → List Name
 atom_occurrences m i = own_atoms (slice_get m.contexts i) ++ (flat_map atoms (all_heads_into m i) ++ flat_map (λ (r : Read). atoms r.belief) (context_variables m i))
 
--- each name at its first occurrence
+-- each name where it occurs first
 abbrev pub first_names : List Name → List Name
-first_names [] = []
-first_names (n ∷ ns) = n ∷ filter (λ x. not (same_name n x)) (first_names ns)
+first_names names = firsts same_name names
 
 -- the atoms of the context, by first occurrence
 unfoldable pub atoms_of : System → ℕ → List Name

@@ -4,13 +4,16 @@ use Rattle.std.specs.List.{range_with_len}
 use Rattle.mcs_system.specs.declared.bridge.Bridge as code_bridge
 use Rattle.mcs_system.specs.declared.fault.BuildFault.{BuildFault}
 use Rattle.mcs_system.specs.declared.fault.BuildFault.TheVariants.{Fault, Memory}
-use Rattle.mcs_system.specs.declared.fault.Limit.{Limit}
-use Rattle.mcs_system.specs.declared.fault.Limit.TheVariants.{Contexts, Bridges, RulesPerContext, DefaultsPerContext, ItemsPerContext, FormulaSize}
+use Rattle.mcs_system.specs.declared.fault.Flaw.{Flaw}
+use Rattle.mcs_system.specs.declared.fault.Flaw.TheVariants.{UnknownContext, TwinNames, Misfits}
+use Rattle.mcs_system.specs.declared.limit.Limit.{Limit}
+use Rattle.mcs_system.specs.declared.limit.Limit.TheVariants.{Contexts, Bridges, RulesPerContext, DefaultsPerContext, ItemsPerContext, FormulaSize}
 use Rattle.mcs_system.specs.declared.knowledge.Context as code_context
 use Rattle.mcs_system.specs.declared.parts.Kept as code_kept
 use Rattle.mcs_system.specs.Plain.{System}
 use Rattle.mcs_system.specs.Seen.{read_of, bridge_of, system_of}
 use Rattle.mcs_system.specs.Systems.{variables}
+use Rattle.mcs_system.specs.Naming.{IsNamed}
 use Rattle.mcs_system.specs.Faults.{has_unknown_context, has_twin_names, has_misfits, fault, fault_of, IsValid}
 use Rattle.mcs_system.specs.Parts.{context_part, context_part_of, rule_part, rule_part_of}
 
@@ -19,9 +22,15 @@ abbrev pub IsFaultOf : System → BuildFault → Type 0
 IsFaultOf m (Fault n l) = fault_of m ≡ Some (fault n l)
 IsFaultOf m Memory = Unit {0}
 
--- the lowest number below 5 that holds
-abbrev pub first_number : System → Option ℕ
-first_number m = cond (has_unknown_context m) (Some 2) (cond (has_twin_names m) (Some 3) (cond (has_misfits m) (Some 4) None))
+-- the number by which a flaw is told
+abbrev pub number_of : Flaw → ℕ
+number_of UnknownContext = 2
+number_of TwinNames = 3
+number_of Misfits = 4
+
+-- the first flaw that holds
+abbrev pub first_flaw : System → Option Flaw
+first_flaw m = cond (has_unknown_context m) (Some UnknownContext) (cond (has_twin_names m) (Some TwinNames) (cond (has_misfits m) (Some Misfits) None))
 
 -- the limits before those that are counted over variables, and the limits after them
 abbrev pub first_limits : List Limit
@@ -30,9 +39,10 @@ first_limits = Contexts ∷ Bridges ∷ RulesPerContext ∷ []
 abbrev pub last_limits : List Limit
 last_limits = DefaultsPerContext ∷ ItemsPerContext ∷ FormulaSize ∷ []
 
--- the system is valid, and what is kept is of it
+-- the system is valid, its names are names, and what is kept is of it
 pub record IsKept (contexts : List code_context.Context) (bridges : List code_bridge.Bridge) (kept : code_kept.Kept) : Type 0 where
   pub valid : IsValid (system_of contexts bridges)
-  pub variables_are : map read_of kept.known.items ≡ variables (system_of contexts bridges)
+  pub named : IsNamed (system_of contexts bridges)
+  pub variables_are : map read_of kept.variables.items ≡ variables (system_of contexts bridges)
   pub parts_are : map context_part_of kept.parts.items ≡ map (context_part (system_of contexts bridges)) (range_with_len 0 (length contexts))
   pub rules_are : map rule_part_of kept.reads.items ≡ map (rule_part (variables (system_of contexts bridges))) (map bridge_of bridges)

@@ -8,8 +8,9 @@ use Rattle.mcs_system.specs.Seen.{formula_size}
 use Rattle.mcs_system.specs.Systems.{variables}
 use Rattle.mcs_system.specs.Rows.{inputs_of}
 use Rattle.mcs_system.specs.Atoms.{atoms_of}
-use Rattle.mcs_system.specs.declared.fault.Limit.{Limit}
-use Rattle.mcs_system.specs.declared.fault.Limit.TheVariants.{Contexts, Bridges, RulesPerContext, Variables, InputsPerContext, AtomsPerContext, DefaultsPerContext, ItemsPerContext, FormulaSize, OpenParentheses, NameBytes}
+use Rattle.mcs_system.specs.Limits.{most}
+use Rattle.mcs_system.specs.declared.limit.Limit.{Limit}
+use Rattle.mcs_system.specs.declared.limit.Limit.TheVariants.{Contexts, Bridges, RulesPerContext, Variables, InputsPerContext, AtomsPerContext, DefaultsPerContext, ItemsPerContext, FormulaSize, OpenParentheses, NameBytes}
 
 -- the reads of a rule, the positive ones first
 abbrev pub reads_of : Bridge → List Read
@@ -76,11 +77,8 @@ item_count (Classical formulas) = length formulas
 item_count (DefaultTheory items) = length items
 item_count (Program rules) = length rules
 
-abbrev pub most_formula_size : ℕ
-most_formula_size = 512
-
 abbrev pub is_large : Formula → Bool
-is_large f = nat_lt most_formula_size (formula_size f)
+is_large f = nat_lt (most FormulaSize) (formula_size f)
 
 abbrev pub has_large_formula : Item → Bool
 has_large_formula (Fact f) = is_large f
@@ -88,7 +86,7 @@ has_large_formula (Rule d) = is_large d.pre || (list_any is_large d.justs || is_
 
 -- of a program rule the names count
 abbrev pub is_large_rule : ProgramRule → Bool
-is_large_rule r = nat_lt most_formula_size (length r.head + (length r.pos + length r.neg))
+is_large_rule r = nat_lt (most FormulaSize) (length r.head + (length r.pos + length r.neg))
 
 abbrev pub has_large_item : Kb → Bool
 has_large_item (Classical formulas) = list_any is_large formulas
@@ -103,14 +101,14 @@ abbrev pub some_context : System → (ℕ → Bool) → Bool
 some_context m p = list_any p (range_with_len 0 (length m.contexts))
 
 unfoldable pub exceeds : System → Limit → Bool
-exceeds m Contexts = nat_lt 64 (length m.contexts)
-exceeds m Bridges = nat_lt 64 (length m.bridges)
-exceeds m RulesPerContext = some_context m (λ i. nat_lt 12 (count_by (λ (b : Bridge). nat_eq b.target i) m.bridges))
-exceeds m Variables = nat_lt 64 (length (variables m))
-exceeds m InputsPerContext = some_context m (λ i. nat_lt 16 (size (inputs_of m i)))
-exceeds m AtomsPerContext = some_context m (λ i. nat_lt 64 (length (atoms_of m i)))
-exceeds m DefaultsPerContext = list_any (λ (c : Context). nat_lt 10 (default_count c.kb)) m.contexts
-exceeds m ItemsPerContext = list_any (λ (c : Context). nat_lt 4096 (item_count c.kb)) m.contexts
+exceeds m Contexts = nat_lt (most Contexts) (length m.contexts)
+exceeds m Bridges = nat_lt (most Bridges) (length m.bridges)
+exceeds m RulesPerContext = some_context m (λ i. nat_lt (most RulesPerContext) (count_by (λ (b : Bridge). nat_eq b.target i) m.bridges))
+exceeds m Variables = nat_lt (most Variables) (length (variables m))
+exceeds m InputsPerContext = some_context m (λ i. nat_lt (most InputsPerContext) (size (inputs_of m i)))
+exceeds m AtomsPerContext = some_context m (λ i. nat_lt (most AtomsPerContext) (length (atoms_of m i)))
+exceeds m DefaultsPerContext = list_any (λ (c : Context). nat_lt (most DefaultsPerContext) (default_count c.kb)) m.contexts
+exceeds m ItemsPerContext = list_any (λ (c : Context). nat_lt (most ItemsPerContext) (item_count c.kb)) m.contexts
 exceeds m FormulaSize = list_any (λ (c : Context). has_large_item c.kb) m.contexts || list_any has_large_part m.bridges
 exceeds m OpenParentheses = false
 exceeds m NameBytes = false

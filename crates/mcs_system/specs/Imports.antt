@@ -1,9 +1,10 @@
 -- Which context imports which, in what order they are asked, and what they are asked.
-use Rattle.std.specs.Prelude.{◌≡◌, ℕ, ◌<◌, ◌≤◌, nat_eq, cond, Bool, false, ◌&&◌, IsTrue, List, [], ◌∷◌, ◌++◌, filter, length, reverse, ◌⊎◌, bit_xor, slice_get, Some, None, Option}
+use Rattle.std.specs.Prelude.{◌≡◌, ℕ, ◌<◌, ◌≤◌, nat_eq, cond, Bool, false, ◌&&◌, IsTrue, List, [], ◌∷◌, ◌++◌, filter, length, reverse, ◌⊎◌, slice_get, Some, None, Option}
 use Rattle.std.specs.List.{list_any}
-use Rattle.mcs_sets.specs.Sets.{common, such_that, size, Within}
+use Rattle.mcs_sets.specs.Sets.{common, minus, such_that, size, Within}
 use Rattle.mcs_system.specs.Plain.{Read, Bridge, System}
 use Rattle.mcs_system.specs.Systems.{variables_of, all_variables, IsAcceptedPart, applicable}
+use Rattle.mcs_system.specs.Repairs.{marks_of, allowed_marks}
 use Rattle.mcs_base.specs.Listings.{IsAmong}
 
 -- some rule into i reads a belief of j
@@ -51,13 +52,18 @@ goes_into i (Some b) = nat_eq b.target i
 unfoldable pub rules_into : System → ℕ → ℕ
 rules_into m i = such_that (length m.bridges) (λ k. goes_into i (slice_get m.bridges k))
 
+-- the marks at i of the rules x into i in σ: those that apply and are not in x, and those of x that do not apply
+abbrev pub marks_at : System → ℕ → ℕ → ℕ → ℕ
+marks_at m i σ x = marks_of m (minus (common (applicable m σ) (rules_into m i)) x) (minus x (common (applicable m σ) (rules_into m i)))
+
 -- x is a question to i, where `earlier` are the contexts that stand before i, and poss j holds of what j may supply
 pub record IsQuestionAfter (m : System) (level : ℕ) (earlier : List ℕ) (poss : ℕ → ℕ → Type 0) (i x : ℕ) : Type 0 where
   pub of_rules : Within x (rules_into m i)
   pub state : ℕ
   pub of_variables : Within state (all_variables m)
   pub supplies : (j : ℕ) → IsAmong j earlier → IsTrue (imports m i j) → poss j (common state (variables_of m j))
-  pub near : size (bit_xor (common (applicable m state) (rules_into m i)) x) ≤ level
+  pub allowed : Within (marks_at m i state x) (allowed_marks m)
+  pub near : size (marks_at m i state x) ≤ level
 
 -- what j may supply, where the list has j and the contexts before it, the last one first
 abbrev pub IsPossibleFrom : System → ℕ → List ℕ → ℕ → ℕ → Type 0

@@ -1,11 +1,16 @@
 pub mod Plain
+pub mod Naming
 pub mod Seen
 pub mod Logic
 pub mod Systems
+pub mod Equality
 pub mod Repairs
 pub mod Imports
 pub mod Rows
+pub mod Levels
+pub mod Views
 pub mod Atoms
+pub mod Limits
 pub mod Faults
 pub mod Texts
 pub mod Codes

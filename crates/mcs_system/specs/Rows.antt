@@ -1,12 +1,12 @@
 -- The rows of a context: what it accepts on its local variables, with the marks that this takes.
 use Rattle.std.specs.Prelude.{◌≡◌, ℕ, ◌≤◌, nat_eq, Bool, false, ◌&&◌, IsTrue, List, ◌++◌, length, slice_get, Option, Some, None}
 use Rattle.std.specs.List.{list_any}
-use Rattle.mcs_sets.specs.Sets.{common, union, minus, such_that, size, Within}
+use Rattle.mcs_sets.specs.Sets.{common, union, such_that, size, Within}
 use Rattle.mcs_system.specs.Plain.{Read, Bridge, System}
-use Rattle.mcs_system.specs.Systems.{same_read, variables, variables_of, all_variables, applicable, IsAcceptedPart}
-use Rattle.mcs_system.specs.Repairs.{marks_of}
+use Rattle.mcs_system.specs.Systems.{same_read, variables, variables_of, all_variables, IsAcceptedPart}
+use Rattle.mcs_system.specs.Repairs.{allowed_marks}
 use Rattle.mcs_base.specs.Listings.{IsAmong}
-use Rattle.mcs_system.specs.Imports.{imports, before_in, rules_into, IsPossible}
+use Rattle.mcs_system.specs.Imports.{imports, before_in, rules_into, marks_at, IsPossible}
 
 -- some rule into i reads r
 abbrev pub is_read_into : System → ℕ → Option Read → Bool
@@ -21,10 +21,6 @@ inputs_of m i = such_that (length (variables m)) (λ v. is_read_into m i (slice_
 abbrev pub local_of : System → ℕ → ℕ
 local_of m i = union (variables_of m i) (inputs_of m i)
 
--- the marks at i, where the rules of x act: x is of rules into i
-abbrev pub marks_at : System → ℕ → ℕ → ℕ → ℕ
-marks_at m i σ x = marks_of m (minus (common (applicable m σ) (rules_into m i)) x) (minus x (common (applicable m σ) (rules_into m i)))
-
 pub record IsRow (m : System) (order : List ℕ) (level i state marks : ℕ) : Type 0 where
   pub whole : ℕ
   pub of_variables : Within whole (all_variables m)
@@ -34,11 +30,12 @@ pub record IsRow (m : System) (order : List ℕ) (level i state marks : ℕ) : T
   pub supplies : (j : ℕ) → IsAmong j (before_in order i) → IsTrue (imports m i j) → IsPossible m order level j (common whole (variables_of m j))
   pub state_is : common whole (local_of m i) ≡ state
   pub marks_is : marks_at m i whole rules ≡ marks
+  pub allowed : Within marks (allowed_marks m)
   pub few : size marks ≤ level
 
 -- each row's state agrees with each other's on what is local to both
-abbrev pub FitTogether : System → List (ℕ × ℕ) → Type 0
-FitTogether m rows = (i j : ℕ) (p q : ℕ × ℕ) → slice_get rows i ≡ Some p → slice_get rows j ≡ Some q → common p.0 (local_of m j) ≡ common q.0 (local_of m i)
+abbrev pub AgreeOnCommon : System → List (ℕ × ℕ) → Type 0
+AgreeOnCommon m rows = (i j : ℕ) (p q : ℕ × ℕ) → slice_get rows i ≡ Some p → slice_get rows j ≡ Some q → common p.0 (local_of m j) ≡ common q.0 (local_of m i)
 
 -- σ and the rules of x, as each context shows them, are the rows
 abbrev pub HasParts : System → ℕ → ℕ → List (ℕ × ℕ) → Type 0

@@ -1,7 +1,8 @@
 -- Variables, applicable rules, equilibria and their projections.
 use Rattle.std.specs.Prelude.{◌≡◌, ℕ, ◌+◌, nat_eq, Bool, true, false, not, ◌&&◌, IsTrue, List, [], ◌∷◌, ◌++◌, filter, cond, length, ◌⊎◌, ◌↔◌, Option, Some, None, slice_get}
 use Rattle.std.specs.List.{list_any, list_all, AllByRecursion, flat_map, range_with_len, enumerate_from}
-use Rattle.mcs_sets.specs.Sets.{has, common, union, such_that}
+use Rattle.mcs_sets.specs.Sets.{has, common, union, such_that, Within}
+use Rattle.mcs_base.specs.Listings.{firsts}
 use Rattle.mcs_system.specs.Plain.{Formula, Truth, Falsity, Atom, Not, And, Or, Implies, Iff, Context, Read, Bridge, System}
 use Rattle.mcs_system.specs.Logic.{same_name, Entails, BeliefSet, Believes, Accepts, with_heads}
 
@@ -23,13 +24,8 @@ same_read q r = nat_eq q.context r.context && same_formula q.belief r.belief
 abbrev pub occurrences : System → List Read
 occurrences m = flat_map (λ (b : Bridge). b.pos ++ b.neg) m.bridges
 
--- each at its first occurrence
-abbrev pub firsts : List Read → List Read
-firsts [] = []
-firsts (r ∷ rs) = r ∷ filter (λ q. not (same_read r q)) (firsts rs)
-
 abbrev pub context_variables : System → ℕ → List Read
-context_variables m i = firsts (filter (λ r. nat_eq r.context i) (occurrences m))
+context_variables m i = firsts same_read (filter (λ r. nat_eq r.context i) (occurrences m))
 
 -- by context, and within a context by first occurrence
 unfoldable pub variables : System → List Read
@@ -70,7 +66,9 @@ AcceptsWith m i x b = (c : Context) × (slice_get m.contexts i ≡ Some c) × Ac
 -- s is an equilibrium where the rules of r1 are applied if applicable, and those of r2 always
 pub record IsEquilibrium (m : System) (r1 r2 : ℕ) (s : List BeliefSet) : Type 0 where
   pub one_each : length s ≡ length m.contexts
+  -- the rules that act
   pub acting : ℕ
+  pub of_rules : Within acting (all_rules m)
   pub acting_is : (k : ℕ) (b : Bridge) → slice_get m.bridges k ≡ Some b → IsTrue (has acting k) ↔ ((IsTrue (has r1 k) × Applies b s) ⊎ IsTrue (has r2 k))
   pub accepted : (i : ℕ) (b : BeliefSet) → slice_get s i ≡ Some b → AcceptsWith m i acting b
 
@@ -83,7 +81,7 @@ abbrev pub IsProjection : System → List BeliefSet → ℕ → Type 0
 IsProjection m s σ = (v : ℕ) → IsTrue (has σ v) ↔ ((r : Read) × IsVariable m v r × BelievesIn s r)
 
 -- σ is among the projected equilibria of the system changed to (r1, r2)
-pub record IsProjected (m : System) (r1 r2 σ : ℕ) : Type 0 where
+pub record IsProjectedEquilibrium (m : System) (r1 r2 σ : ℕ) : Type 0 where
   pub state : List BeliefSet
   pub balanced : IsEquilibrium m r1 r2 state
   pub projection : IsProjection m state σ
@@ -91,7 +89,7 @@ pub record IsProjected (m : System) (r1 r2 σ : ℕ) : Type 0 where
 -- a system is consistent where it has an equilibrium
 pub record IsConsistent (m : System) : Type 0 where
   pub equilibrium : ℕ
-  pub balanced : IsProjected m (all_rules m) 0 equilibrium
+  pub balanced : IsProjectedEquilibrium m (all_rules m) 0 equilibrium
 
 -- τ is the projection of a belief set that context i accepts with the heads of x
 pub record IsAcceptedPart (m : System) (i x τ : ℕ) : Type 0 where

@@ -9,7 +9,7 @@ use mcs_base::Memory;
 use std::alloc::Global;
 
 /// A belief of a context, as a bridge rule reads it.
-#[derive(Drop)]
+#[derive(PartialEq, Drop)]
 pub struct Read {
     pub context: u32,
     pub belief: Formula,
@@ -28,7 +28,7 @@ impl Read {
 }
 
 /// A bridge rule: the head goes into the target where each positive read is believed and no negative one.
-#[derive(Drop)]
+#[derive(PartialEq, Drop)]
 pub struct Bridge {
     pub name: Name,
     pub target: u32,

@@ -1,42 +1,38 @@
 //! What a system keeps of its contexts and bridge rules, or their faults in the order in which they are told.
 
 ghost use Rattle.std.specs.Prelude.{◌≡◌, IfOk, IfErr};
-ghost use Rattle.mcs_system.specs.Built.{first_number, first_limits, last_limits, IsFaultOf, IsKept};
+ghost use Rattle.mcs_system.specs.Built.{first_flaw, first_limits, last_limits, IsFaultOf, IsKept};
 ghost use Rattle.mcs_system.specs.Faults.{first_exceeded};
 ghost use Rattle.mcs_system.specs.Seen.{system_of};
 
 use crate::bridge::Bridge;
-use crate::fault::{BuildFault, Limit};
+use crate::fault::{BuildFault, Flaw};
 use crate::faults::{
     has_crowded_context, has_large_formula, has_many_defaults, has_many_items, has_misfits,
     has_twin_names, has_unknown_context,
 };
 use crate::knowledge::Context;
+use crate::limit::Limit;
+use crate::names::are_named;
 use crate::parts::{Kept, has_many_inputs, parts_of_contexts, rule_reads};
 use crate::variables::variables_of;
 use mcs_base::Memory;
 use std::alloc::Global;
 
-/// The most contexts of a system.
-const MOST_CONTEXTS: usize = 64;
-
-/// The most bridge rules of a system.
-const MOST_BRIDGES: usize = 64;
-
-/// The lowest of the faults 2, 3 and 4 that holds.
-fn first_number(
+/// The first flaw that holds.
+fn first_flaw(
     alloc: Global,
     contexts: &[Context],
     bridges: &[Bridge],
-) -> Result<Option<u8>, Memory>
-    ensures { IfOk result (λ number. number ≡ first_number (system_of contexts.now bridges.now)) }
+) -> Result<Option<Flaw>, Memory>
+    ensures { IfOk result (λ flaw. flaw ≡ first_flaw (system_of contexts.now bridges.now)) }
 {
     Ok(if has_unknown_context(contexts, bridges) {
-        Some(2)
+        Some(Flaw::UnknownContext)
     } else if has_twin_names(alloc, contexts, bridges)? {
-        Some(3)
+        Some(Flaw::TwinNames)
     } else if has_misfits(contexts, bridges) {
-        Some(4)
+        Some(Flaw::Misfits)
     } else {
         None
     })
@@ -47,9 +43,9 @@ fn first_number(
 fn first_limit(contexts: &[Context], bridges: &[Bridge]) -> Option<Limit>
     ensures { result ≡ first_exceeded (system_of contexts.now bridges.now) first_limits }
 {
-    if contexts.len() > MOST_CONTEXTS {
+    if Limit::Contexts.is_exceeded_by(contexts.len()) {
         Some(Limit::Contexts)
-    } else if bridges.len() > MOST_BRIDGES {
+    } else if Limit::Bridges.is_exceeded_by(bridges.len()) {
         Some(Limit::Bridges)
     } else if has_crowded_context(contexts, bridges) {
         Some(Limit::RulesPerContext)
@@ -82,30 +78,24 @@ pub(crate) fn keep(
     ensures ok { IfOk result (IsKept contexts.now bridges.now) }
     ensures fault { IfErr result (IsFaultOf (system_of contexts.now bridges.now)) }
 {
-    if let Some(number) = first_number(alloc, contexts, bridges)? {
-        return Err(BuildFault::Fault {
-            number,
-            limit: None,
-        });
+    if let Some(flaw) = first_flaw(alloc, contexts, bridges)? {
+        return Err(BuildFault::flawed(flaw));
     }
     if let Some(limit) = first_limit(contexts, bridges) {
         return Err(BuildFault::exceeded(limit));
     }
-    let Some(known) = variables_of(alloc, contexts, bridges)? else {
-        return Err(BuildFault::exceeded(Limit::Variables));
-    };
-    if has_many_inputs(contexts, bridges, &known) {
+    let variables = variables_of(alloc, contexts, bridges)?;
+    if has_many_inputs(contexts, bridges, &variables) {
         return Err(BuildFault::exceeded(Limit::InputsPerContext));
     }
-    let Some(parts) = parts_of_contexts(alloc, contexts, bridges, &known)? else {
-        return Err(BuildFault::exceeded(Limit::AtomsPerContext));
-    };
+    let parts = parts_of_contexts(alloc, contexts, bridges, &variables)?;
     if let Some(limit) = last_limit(contexts, bridges) {
         return Err(BuildFault::exceeded(limit));
     }
-    let reads = rule_reads(alloc, &known, bridges)?;
+    let reads = rule_reads(alloc, &variables, bridges)?;
+    are_named(contexts, bridges);
     Ok(Kept {
-        known,
+        variables,
         parts,
         reads,
     })

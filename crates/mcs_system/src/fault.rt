@@ -1,23 +1,11 @@
 //! Why lists of contexts and bridge rules make no system.
 
-ghost use Rattle.std.specs.Prelude.{◌≡◌, Some};
+ghost use Rattle.std.specs.Prelude.{◌≡◌, Some, None};
+ghost use Rattle.mcs_system.specs.Built.{number_of};
 ghost use Rattle.mcs_system.specs.declared.fault.BuildFault.TheVariants.{Fault, Memory};
 
-/// A limit of a system.
-#[derive(Clone, Copy, Debug, PartialEq, Eq)]
-pub enum Limit {
-    Contexts,
-    Bridges,
-    RulesPerContext,
-    Variables,
-    InputsPerContext,
-    AtomsPerContext,
-    DefaultsPerContext,
-    ItemsPerContext,
-    FormulaSize,
-    OpenParentheses,
-    NameBytes,
-}
+use crate::limit::Limit;
+use std::alloc::{AllocError, AllocFailed};
 
 /// Why no system was built. The numbers are: 2, a context number is out of range; 3, two contexts or two
 /// bridge rules have one name; 4, the head into a program or a belief of a program is not an atom, or a
@@ -28,7 +16,33 @@ pub enum BuildFault {
     Memory,
 }
 
+/// Why contexts and bridge rules make no system, where no limit is exceeded.
+#[derive(Clone, Copy, Debug, PartialEq, Eq)]
+pub(crate) enum Flaw {
+    /// A context number is out of range.
+    UnknownContext,
+    /// Two contexts, or two bridge rules, have one name.
+    TwinNames,
+    /// The head into a program or a belief of a program is not an atom, or a default has no justification.
+    Misfits,
+}
+
 impl BuildFault {
+    /// The fault that the flaw is there.
+    pub(crate) fn flawed(flaw: Flaw) -> BuildFault
+        ensures { result ≡ Fault (number_of flaw) None }
+    {
+        let number = match flaw {
+            Flaw::UnknownContext => 2,
+            Flaw::TwinNames => 3,
+            Flaw::Misfits => 4,
+        };
+        BuildFault::Fault {
+            number,
+            limit: None,
+        }
+    }
+
     /// The fault that the limit is exceeded.
     pub(crate) fn exceeded(limit: Limit) -> BuildFault
         ensures { result ≡ Fault 5 (Some limit) }
@@ -44,6 +58,22 @@ impl From<mcs_base::Memory> for BuildFault {
     ghost from_gives = { λ _ e. e ≡ Memory };
 
     fn from(_want: mcs_base::Memory) -> BuildFault {
+        BuildFault::Memory
+    }
+}
+
+impl From<AllocError> for BuildFault {
+    ghost from_gives = { λ _ e. e ≡ Memory };
+
+    fn from(_refused: AllocError) -> BuildFault {
+        BuildFault::Memory
+    }
+}
+
+impl<T: Drop> From<AllocFailed<T>> for BuildFault {
+    ghost from_gives = { λ _ e. e ≡ Memory };
+
+    fn from(_refused: AllocFailed<T>) -> BuildFault {
         BuildFault::Memory
     }
 }

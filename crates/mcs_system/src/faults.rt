@@ -3,42 +3,27 @@
 ghost use Rattle.std.specs.Prelude.{◌≡◌, ◌&&◌, IfOk, List, not, nat_eq, nat_lt, count_by, length, map, min, slice_get};
 ghost use Rattle.std.specs.List.{list_any};
 ghost use Rattle.mcs_system.specs.declared.bridge.Bridge.{Bridge};
-ghost use Rattle.mcs_system.specs.declared.fault.Limit.TheVariants.{RulesPerContext, DefaultsPerContext, ItemsPerContext, FormulaSize};
-ghost use Rattle.mcs_system.specs.Faults.{exceeds, has_large_formula, has_large_item, has_large_part, has_misfit, has_misfits, has_twins, has_twin_names, has_unjustified, has_unknown_context, is_atom, is_default, is_large, is_large_rule, is_program, is_unjustified, points_outside};
+ghost use Rattle.mcs_system.specs.declared.limit.Limit.TheVariants.{RulesPerContext, DefaultsPerContext, ItemsPerContext, FormulaSize};
+ghost use Rattle.mcs_system.specs.Faults.{default_count, exceeds, has_large_formula, has_large_item, has_large_part, has_misfit, has_misfits, has_twins, has_twin_names, has_unjustified, has_unknown_context, is_atom, is_large, is_large_rule, is_program, is_unjustified, points_outside};
 ghost use Rattle.mcs_system.specs.Seen.{bridge_of, context_of, formula_of, formula_size, item_of, kb_of, read_of, rule_of, system_of};
 
 use crate::bridge::{Bridge, Read};
 use crate::formula::Formula;
 use crate::knowledge::{Context, Kb, ProgRule, TheoryItem};
+use crate::limit::Limit;
 use mcs_base::Memory;
 use std::alloc::Global;
 use std::collections::BTreeSet;
 
-/// The most rules into one context.
-const MOST_RULES: usize = 12;
-
-/// The most defaults of one context.
-const MOST_DEFAULTS: usize = 10;
-
-/// The most formulas, items or rules of one context.
-const MOST_ITEMS: usize = 4096;
-
-/// The most atoms, constants and connectives of one formula, and names of one program rule.
-const MOST_SIZE: u32 = 512;
-
 /// Whether some read is of no context, where there are so many.
 fn any_outside(count: usize, reads: &[Read]) -> bool
-    ensures { result ≡ list_any (λ r. not (nat_lt r.context count)) (map read_of reads.now) }
+    ensures { result ≡ list_any (λ r. not (nat_lt r.context count)) reads.now }
 {
-    for read in reads {
-        if read.context as usize >= count {
-            return true;
-        }
-    }
-    false
+    reads.iter().any(|read| read.context as usize >= count)
 }
 
 /// Whether the rule has a target or a read that is no context, where there are so many.
+#[tactic(auto, using(mcs_base::proofs::Ranges::any_of_both))]
 fn points_outside(count: usize, bridge: &Bridge) -> bool
     ensures { result ≡ points_outside count (bridge_of bridge.now) }
 {
@@ -51,12 +36,9 @@ fn points_outside(count: usize, bridge: &Bridge) -> bool
 pub(crate) fn has_unknown_context(contexts: &[Context], bridges: &[Bridge]) -> bool
     ensures { result ≡ has_unknown_context (system_of contexts.now bridges.now) }
 {
-    for bridge in bridges {
-        if points_outside(contexts.len(), bridge) {
-            return true;
-        }
-    }
-    false
+    bridges
+        .iter()
+        .any(|bridge| points_outside(contexts.len(), bridge))
 }
 
 /// The names of the contexts.
@@ -130,18 +112,16 @@ fn is_misfit(contexts: &[Context], number: u32, formula: &Formula) -> bool
 /// Whether some read is of a program and reads no atom.
 fn any_misfit(contexts: &[Context], reads: &[Read]) -> bool
     ensures { result ≡ list_any
-        (λ r. is_program (slice_get (map context_of contexts.now) r.context) && not (is_atom r.belief))
-        (map read_of reads.now) }
+        (λ r. is_program (slice_get (map context_of contexts.now) r.context) && not (is_atom (formula_of r.belief)))
+        reads.now }
 {
-    for read in reads {
-        if is_misfit(contexts, read.context, &read.belief) {
-            return true;
-        }
-    }
-    false
+    reads
+        .iter()
+        .any(|read| is_misfit(contexts, read.context, &read.belief))
 }
 
 /// Whether the rule puts into a program, or reads of one, what is no atom.
+#[tactic(auto, using(mcs_base::proofs::Ranges::any_of_both))]
 fn has_misfit(contexts: &[Context], bridge: &Bridge) -> bool
     ensures { result ≡ has_misfit (map context_of contexts.now) (bridge_of bridge.now) }
 {
@@ -152,46 +132,51 @@ fn has_misfit(contexts: &[Context], bridge: &Bridge) -> bool
 
 /// Whether some rule puts into a program, or reads of one, what is no atom.
 fn any_rule_misfit(contexts: &[Context], bridges: &[Bridge]) -> bool
-    ensures { result ≡ list_any (has_misfit (map context_of contexts.now)) (map bridge_of bridges.now) }
+    ensures { result ≡ list_any (λ b. has_misfit (map context_of contexts.now) (bridge_of b)) bridges.now }
 {
-    for bridge in bridges {
-        if has_misfit(contexts, bridge) {
-            return true;
-        }
+    bridges.iter().any(|bridge| has_misfit(contexts, bridge))
+}
+
+/// Whether the item is a default with no justification.
+fn is_unjustified(item: &TheoryItem) -> bool
+    ensures { result ≡ is_unjustified (item_of item.now) }
+{
+    match item {
+        TheoryItem::Fact(_) => false,
+        TheoryItem::Rule(default) => default.justs.is_empty(),
     }
-    false
 }
 
 /// Whether some default has no justification.
 fn has_unjustified(items: &[TheoryItem]) -> bool
-    ensures { result ≡ list_any is_unjustified (map item_of items.now) }
+    ensures { result ≡ list_any (λ i. is_unjustified (item_of i)) items.now }
 {
-    for item in items {
-        if let TheoryItem::Rule(default) = item
-            && default.justs.is_empty()
-        {
-            return true;
-        }
+    items.iter().any(is_unjustified)
+}
+
+/// Whether some default of the knowledge base has no justification.
+#[tactic(auto, using(mcs_base::proofs::Ranges::any_of_map))]
+fn has_unjustified_default(kb: &Kb) -> bool
+    ensures { result ≡ has_unjustified (kb_of kb.now) }
+{
+    match kb {
+        Kb::DefaultTheory(items) => has_unjustified(items),
+        Kb::Classical(_) | Kb::Program(_) => false,
     }
-    false
 }
 
 /// Whether some default of some context has no justification.
 fn any_unjustified(contexts: &[Context]) -> bool
-    ensures { result ≡ list_any (λ c. has_unjustified c.kb) (map context_of contexts.now) }
+    ensures { result ≡ list_any (λ c. has_unjustified (kb_of c.kb)) contexts.now }
 {
-    for context in contexts {
-        if let Kb::DefaultTheory(items) = &context.kb
-            && has_unjustified(items)
-        {
-            return true;
-        }
-    }
-    false
+    contexts
+        .iter()
+        .any(|context| has_unjustified_default(&context.kb))
 }
 
 /// Whether a default has no justification, or a rule puts into a program, or reads of one, what is no
 /// atom.
+#[tactic(auto, using(mcs_base::proofs::Ranges::any_of_map))]
 pub(crate) fn has_misfits(contexts: &[Context], bridges: &[Bridge]) -> bool
     ensures { result ≡ has_misfits (system_of contexts.now bridges.now) }
 {
@@ -202,32 +187,29 @@ pub(crate) fn has_misfits(contexts: &[Context], bridges: &[Bridge]) -> bool
 fn rules_into(bridges: &[Bridge], context: usize) -> usize
     ensures { result ≡ count_by (λ b. nat_eq b.target context) (map bridge_of bridges.now) }
 {
-    let mut count = 0;
-    for bridge in bridges {
-        if bridge.target as usize == context {
-            count += 1;
-        }
-    }
-    count
+    bridges
+        .iter()
+        .filter(|bridge| bridge.target as usize == context)
+        .count()
 }
 
 /// Whether too many rules go into one context.
-#[tactic(auto, using(crate::proofs::FaultLemmas::list_any_range), unfolding(crate::specs::Faults::exceeds))]
+#[tactic(auto, unfolding(crate::specs::Faults::exceeds))]
 pub(crate) fn has_crowded_context(contexts: &[Context], bridges: &[Bridge]) -> bool
     ensures { result ≡ exceeds (system_of contexts.now bridges.now) RulesPerContext }
 {
-    for context in 0..contexts.len() {
-        if rules_into(bridges, context) > MOST_RULES {
-            return true;
-        }
-    }
-    false
+    (0..contexts.len()).any(|context| Limit::RulesPerContext.is_exceeded_by(rules_into(
+        bridges, context,
+    )))
 }
 
-/// How many of the items are defaults.
-fn default_count(items: &[TheoryItem]) -> usize
-    ensures { result ≡ count_by is_default (map item_of items.now) }
+/// How many defaults the knowledge base has.
+fn default_count(kb: &Kb) -> usize
+    ensures { result ≡ default_count (kb_of kb.now) }
 {
+    let Kb::DefaultTheory(items) = kb else {
+        return 0;
+    };
     let mut count = 0;
     for item in items {
         if let TheoryItem::Rule(_) = item {
@@ -243,14 +225,9 @@ pub(crate) fn has_many_defaults(contexts: &[Context]) -> bool
     ensures { (bridges : List Bridge) →
         result ≡ exceeds (system_of contexts.now bridges) DefaultsPerContext }
 {
-    for context in contexts {
-        if let Kb::DefaultTheory(items) = &context.kb
-            && default_count(items) > MOST_DEFAULTS
-        {
-            return true;
-        }
-    }
-    false
+    contexts.iter().any(|context| Limit::DefaultsPerContext.is_exceeded_by(default_count(
+        &context.kb,
+    )))
 }
 
 /// Whether some context has too many formulas, items or rules.
@@ -259,17 +236,12 @@ pub(crate) fn has_many_items(contexts: &[Context]) -> bool
     ensures { (bridges : List Bridge) →
         result ≡ exceeds (system_of contexts.now bridges) ItemsPerContext }
 {
-    for context in contexts {
-        if context.kb.item_count() > MOST_ITEMS {
-            return true;
-        }
-    }
-    false
+    contexts.iter().any(|context| Limit::ItemsPerContext.is_exceeded_by(context.kb.item_count()))
 }
 
 /// How many atoms, constants and connectives the formula has, or one more than the most where they are
 /// too many.
-fn capped_size(formula: &Formula) -> u32
+fn capped_size(formula: &Formula) -> usize
     ensures { result ≡ min (formula_size (formula_of formula.now)) 513 }
 {
     let size = match formula {
@@ -280,29 +252,25 @@ fn capped_size(formula: &Formula) -> u32
         | Formula::Implies(left, right)
         | Formula::Iff(left, right) => capped_size(left) + capped_size(right) + 1,
     };
-    size.min(MOST_SIZE + 1)
+    size.min(Limit::FormulaSize.most() + 1)
 }
 
 /// Whether the formula is too large.
 fn is_large(formula: &Formula) -> bool
     ensures { result ≡ is_large (formula_of formula.now) }
 {
-    capped_size(formula) > MOST_SIZE
+    Limit::FormulaSize.is_exceeded_by(capped_size(formula))
 }
 
 /// Whether some formula is too large.
 fn any_large(formulas: &[Formula]) -> bool
-    ensures { result ≡ list_any is_large (map formula_of formulas.now) }
+    ensures { result ≡ list_any (λ f. is_large (formula_of f)) formulas.now }
 {
-    for formula in formulas {
-        if is_large(formula) {
-            return true;
-        }
-    }
-    false
+    formulas.iter().any(is_large)
 }
 
 /// Whether the item has a formula that is too large.
+#[tactic(auto, using(mcs_base::proofs::Ranges::any_of_map))]
 fn is_large_item(item: &TheoryItem) -> bool
     ensures { result ≡ has_large_formula (item_of item.now) }
 {
@@ -316,38 +284,29 @@ fn is_large_item(item: &TheoryItem) -> bool
 
 /// Whether some item has a formula that is too large.
 fn any_large_item(items: &[TheoryItem]) -> bool
-    ensures { result ≡ list_any has_large_formula (map item_of items.now) }
+    ensures { result ≡ list_any (λ i. has_large_formula (item_of i)) items.now }
 {
-    for item in items {
-        if is_large_item(item) {
-            return true;
-        }
-    }
-    false
+    items.iter().any(is_large_item)
 }
 
 /// Whether the rule has too many names.
 fn is_large_rule(rule: &ProgRule) -> bool
     ensures { result ≡ is_large_rule (rule_of rule.now) }
 {
-    let most = MOST_SIZE as usize;
+    let most = Limit::FormulaSize.most();
     rule.head.len().min(most + 1) + rule.pos.len().min(most + 1) + rule.neg.len().min(most + 1)
         > most
 }
 
 /// Whether some rule has too many names.
 fn any_large_rule(rules: &[ProgRule]) -> bool
-    ensures { result ≡ list_any is_large_rule (map rule_of rules.now) }
+    ensures { result ≡ list_any (λ r. is_large_rule (rule_of r)) rules.now }
 {
-    for rule in rules {
-        if is_large_rule(rule) {
-            return true;
-        }
-    }
-    false
+    rules.iter().any(is_large_rule)
 }
 
 /// Whether the knowledge base has a formula or a rule that is too large.
+#[tactic(auto, using(mcs_base::proofs::Ranges::any_of_map))]
 fn has_large_item(kb: &Kb) -> bool
     ensures { result ≡ has_large_item (kb_of kb.now) }
 {
@@ -360,29 +319,20 @@ fn has_large_item(kb: &Kb) -> bool
 
 /// Whether some context has a formula or a rule that is too large.
 fn any_large_kb(contexts: &[Context]) -> bool
-    ensures { result ≡ list_any (λ c. has_large_item c.kb) (map context_of contexts.now) }
+    ensures { result ≡ list_any (λ c. has_large_item (kb_of c.kb)) contexts.now }
 {
-    for context in contexts {
-        if has_large_item(&context.kb) {
-            return true;
-        }
-    }
-    false
+    contexts.iter().any(|context| has_large_item(&context.kb))
 }
 
 /// Whether some read is of a belief that is too large.
 fn any_large_read(reads: &[Read]) -> bool
-    ensures { result ≡ list_any (λ r. is_large r.belief) (map read_of reads.now) }
+    ensures { result ≡ list_any (λ r. is_large (formula_of r.belief)) reads.now }
 {
-    for read in reads {
-        if is_large(&read.belief) {
-            return true;
-        }
-    }
-    false
+    reads.iter().any(|read| is_large(&read.belief))
 }
 
 /// Whether the rule has a head or reads a belief that is too large.
+#[tactic(auto, using(mcs_base::proofs::Ranges::any_of_both))]
 fn has_large_part(bridge: &Bridge) -> bool
     ensures { result ≡ has_large_part (bridge_of bridge.now) }
 {
@@ -391,18 +341,13 @@ fn has_large_part(bridge: &Bridge) -> bool
 
 /// Whether some rule has a head or reads a belief that is too large.
 fn any_large_bridge(bridges: &[Bridge]) -> bool
-    ensures { result ≡ list_any has_large_part (map bridge_of bridges.now) }
+    ensures { result ≡ list_any (λ b. has_large_part (bridge_of b)) bridges.now }
 {
-    for bridge in bridges {
-        if has_large_part(bridge) {
-            return true;
-        }
-    }
-    false
+    bridges.iter().any(has_large_part)
 }
 
 /// Whether some formula, or some rule of a program, is too large.
-#[tactic(auto, unfolding(crate::specs::Faults::exceeds))]
+#[tactic(auto, using(mcs_base::proofs::Ranges::any_of_map), unfolding(crate::specs::Faults::exceeds))]
 pub(crate) fn has_large_formula(contexts: &[Context], bridges: &[Bridge]) -> bool
     ensures { result ≡ exceeds (system_of contexts.now bridges.now) FormulaSize }
 {

@@ -1,9 +1,14 @@
 //! Formulas of propositional logic.
 
 ghost use Rattle.std.specs.Prelude.{◌≡◌, IfOk, map};
+ghost use Rattle.std.specs.Cmp.{on_per};
+ghost use Rattle.std.specs.Ordering.{on};
+ghost use Rattle.mcs_system.specs.Equality.{same_formula-laws};
 ghost use Rattle.mcs_system.specs.Seen.{formula_of};
+ghost use Rattle.mcs_system.specs.Systems.{same_formula};
 
 use crate::name::Name;
+use crate::same::same_formula;
 use mcs_base::Memory;
 use std::alloc::Global;
 
@@ -18,6 +23,16 @@ pub enum Formula {
     Or(Box<Formula>, Box<Formula>),
     Implies(Box<Formula>, Box<Formula>),
     Iff(Box<Formula>, Box<Formula>),
+}
+
+impl PartialEq for Formula {
+    ghost eq = { on formula_of same_formula };
+
+    ghost laws = { on_per formula_of same_formula-laws };
+
+    fn eq(&self, other: &Formula) -> bool {
+        same_formula(self, other)
+    }
 }
 
 impl Formula {

@@ -10,7 +10,7 @@ use mcs_base::Memory;
 use std::alloc::Global;
 
 /// A default: where the prerequisite follows and no justification is refuted, the conclusion follows.
-#[derive(Drop)]
+#[derive(PartialEq, Drop)]
 pub struct Default {
     pub pre: Formula,
     pub justs: Vec<Formula>,
@@ -31,7 +31,7 @@ impl Default {
 }
 
 /// A rule of a program: one of the head atoms holds where each positive atom does and no negative one.
-#[derive(Drop)]
+#[derive(PartialEq, Drop)]
 pub struct ProgRule {
     pub head: Vec<Name>,
     pub pos: Vec<Name>,
@@ -52,7 +52,7 @@ impl ProgRule {
 }
 
 /// An item of a default theory.
-#[derive(Drop)]
+#[derive(PartialEq, Drop)]
 pub enum TheoryItem {
     Fact(Formula),
     Rule(Default),
@@ -71,7 +71,7 @@ impl TheoryItem {
 }
 
 /// A knowledge base, by its logic.
-#[derive(Drop)]
+#[derive(PartialEq, Drop)]
 pub enum Kb {
     Classical(Vec<Formula>),
     DefaultTheory(Vec<TheoryItem>),
@@ -103,7 +103,7 @@ impl Kb {
 }
 
 /// A context: a name and what it knows.
-#[derive(Drop)]
+#[derive(PartialEq, Drop)]
 pub struct Context {
     pub name: Name,
     pub kb: Kb,

@@ -1,6 +1,8 @@
 //! Names of contexts, rules and atoms.
 
 ghost use Rattle.std.specs.Prelude.{◌≡◌, IfOk, IfSome, IsTrue, is_some};
+ghost use Rattle.std.specs.Cmp.{partial_equiv_from_equiv};
+ghost use Rattle.std.proofs.lemmas.Cmp.{nat_list_eq_equiv};
 ghost use Rattle.mcs_base.specs.Words.{is_name};
 ghost use Rattle.mcs_system.specs.Logic.{same_name};
 
@@ -23,6 +25,16 @@ impl Model for Name {
     ghost view = { λ n. n.bytes.items };
 
     ghost invariant = { λ n. IsTrue (is_name n.bytes.items) };
+}
+
+impl PartialEq for Name {
+    ghost eq = { same_name };
+
+    ghost laws = { partial_equiv_from_equiv nat_list_eq_equiv };
+
+    fn eq(&self, other: &Name) -> bool {
+        self.is(other)
+    }
 }
 
 impl Name {

@@ -1,11 +1,12 @@
 //! What a system keeps of its contexts and rules, so that no later call reads formulas again.
 
-ghost use Rattle.std.specs.Prelude.{◌≡◌, ◌≤◌, ◌<◌, List, map, length, true, false, IfOk, MatchOption};
+ghost use Rattle.std.specs.Prelude.{◌≡◌, ◌≤◌, ◌<◌, List, map, length, true, false, IfOk, IfErr};
 ghost use Rattle.std.specs.List.{range_with_len};
 ghost use Rattle.mcs_system.specs.declared.knowledge.Context.{Context};
-ghost use Rattle.mcs_system.specs.declared.fault.Limit.TheVariants.{InputsPerContext, AtomsPerContext};
+ghost use Rattle.mcs_system.specs.declared.limit.Limit.TheVariants.{InputsPerContext, AtomsPerContext};
 ghost use Rattle.mcs_system.specs.Atoms.{atoms_of};
 ghost use Rattle.mcs_system.specs.Faults.{exceeds};
+ghost use Rattle.mcs_system.specs.Gathered.{IsDue};
 ghost use Rattle.mcs_system.specs.Imports.{rules_into};
 ghost use Rattle.mcs_system.specs.Parts.{context_part, context_part_of, variables_among, inputs_among, variables_read, read_into, rule_part, rule_part_of};
 ghost use Rattle.mcs_system.specs.Seen.{read_of, bridge_of, system_of};
@@ -13,14 +14,13 @@ ghost use Rattle.mcs_system.specs.Systems.{variables};
 
 use crate::atoms::atoms_of;
 use crate::bridge::{Bridge, Read};
+use crate::fault::BuildFault;
 use crate::knowledge::Context;
+use crate::limit::Limit;
 use crate::name::Name;
 use crate::variables::is_among;
 use mcs_base::{Active, Memory, Vars};
 use std::alloc::Global;
-
-/// The most variables that rules into one context read.
-const MOST_INPUTS: u32 = 16;
 
 /// What is kept of a context: its atoms, its variables, the variables that rules into it read, and these
 /// rules.
@@ -43,7 +43,7 @@ pub(crate) struct RuleReads {
 /// each rule.
 #[derive(Drop)]
 pub(crate) struct Kept {
-    pub known: Vec<Read>,
+    pub variables: Vec<Read>,
     pub parts: Vec<ContextParts>,
     pub reads: Vec<RuleReads>,
 }
@@ -146,67 +146,66 @@ pub(crate) fn has_many_inputs(contexts: &[Context], bridges: &[Bridge], known: &
     ensures { result ≡ exceeds (system_of contexts.now bridges.now) InputsPerContext }
 {
     for context in 0..contexts.len() as u32 {
-        if inputs_among(known, bridges, context).count() > MOST_INPUTS {
+        if Limit::InputsPerContext.is_exceeded_by(
+            inputs_among(known, bridges, context).count() as usize,
+        ) {
             return true;
         }
     }
     false
 }
 
-/// What is kept of one context; `None` where it has too many atoms. `known` are the variables of the
-/// system.
+/// What is kept of one context. `known` are the variables of the system. Refused where the context has more
+/// atoms than the limit.
 fn parts_of_context(
     alloc: Global,
     contexts: &[Context],
     bridges: &[Bridge],
     known: &[Read],
     context: u32,
-) -> Result<Option<ContextParts>, Memory>
+) -> Result<ContextParts, BuildFault>
     requires in_range { context < length contexts.now }
     requires few_rules { length bridges.now ≤ 64 }
     requires few { length known.now ≤ 64 }
     requires variables { map read_of known.now ≡ variables (system_of contexts.now bridges.now) }
-    ensures { IfOk result
-        (λ found. let m = system_of contexts.now bridges.now in
-        MatchOption found (64 < length (atoms_of m context))
-        (λ p. (context_part_of p ≡ context_part m context) × (length (atoms_of m context) ≤ 64))) }
+    ensures parts { IfOk result
+        (λ p. context_part_of p ≡ context_part (system_of contexts.now bridges.now) context) }
+    ensures few { IfOk result (λ p. length p.atoms.items ≤ 64) }
+    ensures many { IfErr result
+        (IsDue AtomsPerContext (64 < length (atoms_of (system_of contexts.now bridges.now) context))) }
 {
-    let Some(atoms) = atoms_of(alloc, contexts, bridges, known, context)? else {
-        return Ok(None);
-    };
-    Ok(Some(ContextParts {
+    let atoms = atoms_of(alloc, contexts, bridges, known, context)?;
+    Ok(ContextParts {
         atoms,
         variables: variables_among(known, context),
         inputs: inputs_among(known, bridges, context),
         rules: rules_into(bridges, context),
-    }))
+    })
 }
 
-/// What is kept of the contexts; `None` where one of them has too many atoms. `known` are the variables of
-/// the system.
+/// What is kept of the contexts. `known` are the variables of the system. Refused where a context has more
+/// atoms than the limit.
 pub(crate) fn parts_of_contexts(
     alloc: Global,
     contexts: &[Context],
     bridges: &[Bridge],
     known: &[Read],
-) -> Result<Option<Vec<ContextParts>>, Memory>
+) -> Result<Vec<ContextParts>, BuildFault>
     requires few_contexts { length contexts.now ≤ 64 }
     requires few_rules { length bridges.now ≤ 64 }
     requires few { length known.now ≤ 64 }
     requires variables { map read_of known.now ≡ variables (system_of contexts.now bridges.now) }
-    ensures { IfOk result
-        (λ found. let m = system_of contexts.now bridges.now in
-        MatchOption found (exceeds m AtomsPerContext ≡ true)
-        (λ parts. (map context_part_of parts.items
-        ≡ map (context_part m) (range_with_len 0 (length contexts.now)))
-        × (exceeds m AtomsPerContext ≡ false))) }
+    ensures parts { IfOk result
+        (λ parts. map context_part_of parts.items
+        ≡ map (context_part (system_of contexts.now bridges.now)) (range_with_len 0 (length contexts.now))) }
+    ensures few { IfOk result (λ _. exceeds (system_of contexts.now bridges.now) AtomsPerContext ≡ false) }
+    ensures many { IfErr result
+        (IsDue AtomsPerContext (exceeds (system_of contexts.now bridges.now) AtomsPerContext ≡ true)) }
 {
     let mut parts = Vec::new(alloc);
     for context in 0..contexts.len() as u32 {
-        let Some(own) = parts_of_context(alloc, contexts, bridges, known, context)? else {
-            return Ok(None);
-        };
+        let own = parts_of_context(alloc, contexts, bridges, known, context)?;
         parts.push(own)?;
     }
-    Ok(Some(parts))
+    Ok(parts)
 }

@@ -1,11 +1,12 @@
 //! Multi-context systems.
 
-ghost use Rattle.std.specs.Prelude.{◌≡◌, ◌<◌, ◌≤◌, length, map, Some, slice_get, IfOk, IfErr};
+ghost use Rattle.std.specs.Prelude.{◌≡◌, ◌↔◌, IsTrue, ◌<◌, ◌≤◌, length, map, Some, slice_get, IfOk, IfErr};
 ghost use Rattle.mcs_sets.specs.Sets.{common};
 ghost use Rattle.mcs_system.specs.Atoms.{atoms_of};
 ghost use Rattle.mcs_system.specs.Built.{IsFaultOf};
 ghost use Rattle.mcs_system.specs.Faults.{IsValid};
 ghost use Rattle.mcs_system.specs.Imports.{rules_into};
+ghost use Rattle.mcs_system.specs.Naming.{IsNamed};
 ghost use Rattle.mcs_system.specs.Parts.{context_part, context_part_of, rule_part, rule_part_of};
 ghost use Rattle.mcs_system.specs.Plain as plain;
 ghost use Rattle.mcs_system.specs.Rows.{inputs_of};
@@ -64,11 +65,19 @@ impl System {
         })
     }
 
+    /// Whether both systems have the same contexts and bridge rules, in the same order.
+    pub fn is(&self, other: &System) -> bool
+        ensures { IsTrue result ↔ (self.now ≡ other.now) }
+    {
+        self.contexts == other.contexts && self.bridges == other.bridges
+    }
+
     /// The contexts, in the order of the text.
     pub fn contexts(&self) -> &[Context]
         ensures value { map context_of result.now ≡ self.now.contexts }
         ensures few { length result.now ≤ 64 }
         ensures valid { IsValid self.now }
+        ensures named { IsNamed self.now }
     {
         &self.contexts
     }
@@ -78,6 +87,7 @@ impl System {
         ensures value { map bridge_of result.now ≡ self.now.bridges }
         ensures few { length result.now ≤ 64 }
         ensures valid { IsValid self.now }
+        ensures named { IsNamed self.now }
     {
         &self.bridges
     }
@@ -88,7 +98,7 @@ impl System {
         ensures few { length result.now ≤ 64 }
         ensures valid { IsValid self.now }
     {
-        &self.kept.known
+        &self.kept.variables
     }
 
     /// What is kept of a context of the system.

@@ -45,10 +45,5 @@ pub fn all_hold_at(atoms: &[Name], values: Vars, formulas: &[Formula]) -> bool
     requires { length atoms.now ≤ 64 }
     ensures { result ≡ holds_all (true_names 0 atoms.now values) (map formula_of formulas.now) }
 {
-    for f in formulas {
-        if !holds_at(atoms, values, f) {
-            return false;
-        }
-    }
-    true
+    formulas.iter().all(|f| holds_at(atoms, values, f))
 }

@@ -1,133 +1,99 @@
 //! The variables of a system: what its bridge rules read, each once.
 
-ghost use Rattle.std.specs.Prelude.{◌≡◌, ◌<◌, ◌≤◌, map, length, nat_le, IsTrue, IfOk, MatchOption, [], ◌∷◌};
+ghost use Rattle.std.specs.Prelude.{◌≡◌, ◌<◌, ◌≤◌, map, length, IfOk, IfErr, [], ◌∷◌};
 ghost use Rattle.std.specs.List.{list_any};
-ghost use Rattle.mcs_system.specs.Faults.{reads_of};
-ghost use Rattle.mcs_system.specs.Gathered.{gathered, with_reads};
+ghost use Rattle.mcs_system.specs.declared.limit.Limit.TheVariants.{Variables};
+ghost use Rattle.mcs_system.specs.Gathered.{GathersReads, IsDue, reads_in};
 ghost use Rattle.mcs_system.specs.Seen.{read_of, bridge_of, system_of};
 ghost use Rattle.mcs_system.specs.Systems.{same_read, context_variables, variables};
 
 use crate::bridge::{Bridge, Read};
+use crate::fault::BuildFault;
 use crate::knowledge::Context;
+use crate::limit::Limit;
 use crate::same::same_read;
-use mcs_base::Memory;
 use std::alloc::Global;
-
-/// The most variables of a system.
-pub(crate) const MOST_VARIABLES: usize = 64;
 
 /// Whether the read is the same as one of the others.
 pub(crate) fn is_among(others: &[Read], read: &Read) -> bool
     ensures { result ≡ list_any (same_read (read_of read.now)) (map read_of others.now) }
 {
-    for other in others {
-        if same_read(read, other) {
-            return true;
-        }
-    }
-    false
+    others.iter().any(|other| same_read(read, other))
 }
 
-/// Adds the read unless it is found already; whether there are few enough still.
-fn add_read(alloc: Global, read: &Read, found: &mut Vec<Read>) -> Result<bool, Memory>
-    ensures found { IfOk result
-        (λ _. map read_of found.new.items
-        ≡ gathered same_read (map read_of found.old.items) (read_of read.now ∷ [])) }
-    ensures few { IfOk result (λ few. few ≡ nat_le (length found.new.items) 64) }
+/// Adds the read, if it is of the context and not found already.
+fn add_read(
+    alloc: Global,
+    read: &Read,
+    context: usize,
+    found: &mut Vec<Read>,
+) -> Result<(), BuildFault>
+    ensures { GathersReads (map read_of found.old.items) (map read_of found.new.items)
+        (reads_in context (read_of read.now ∷ [])) result }
 {
-    if !is_among(found, read) {
-        found.push(read.copy(alloc)?)?;
+    if read.context as usize != context || is_among(found, read) {
+        return Ok(());
     }
-    Ok(found.len() <= MOST_VARIABLES)
+    if Limit::Variables.is_exceeded_by(found.len() + 1) {
+        return Err(BuildFault::exceeded(Limit::Variables));
+    }
+    found.push(read.copy(alloc)?)?;
+    Ok(())
 }
 
-/// Adds those of the reads that are of the context and not found already; whether there are few enough
-/// still.
-#[tactic(auto, using(crate::proofs::GatherLemmas::gathered_more))]
+/// Adds those of the reads that are of the context.
 fn add_reads(
     alloc: Global,
     reads: &[Read],
     context: usize,
     found: &mut Vec<Read>,
-) -> Result<bool, Memory>
-    ensures found { IfOk result
-        (λ few. IsTrue few → map read_of found.new.items
-        ≡ with_reads (map read_of found.old.items) context (map read_of reads.now)) }
-    ensures few { IfOk result
-        (λ few. few ≡ nat_le (length
-        (with_reads (map read_of found.old.items) context (map read_of reads.now))) 64) }
+) -> Result<(), BuildFault>
+    ensures { GathersReads (map read_of found.old.items) (map read_of found.new.items)
+        (reads_in context (map read_of reads.now)) result }
 {
     for read in reads {
-        if read.context as usize == context && !add_read(alloc, read, found)? {
-            return Ok(false);
-        }
+        add_read(alloc, read, context, found)?;
     }
-    Ok(found.len() <= MOST_VARIABLES)
+    Ok(())
 }
 
-/// Adds what the rule reads of the context and is not found already, the positive reads first; whether
-/// there are few enough still.
-#[tactic(auto, using(crate::proofs::GatherLemmas::gathered_more))]
-fn add_reads_of(
-    alloc: Global,
-    bridge: &Bridge,
-    context: usize,
-    found: &mut Vec<Read>,
-) -> Result<bool, Memory>
-    ensures found { IfOk result
-        (λ few. IsTrue few → map read_of found.new.items
-        ≡ with_reads (map read_of found.old.items) context (reads_of (bridge_of bridge.now))) }
-    ensures few { IfOk result
-        (λ few. few ≡ nat_le (length
-        (with_reads (map read_of found.old.items) context (reads_of (bridge_of bridge.now)))) 64) }
-{
-    Ok(
-        add_reads(alloc, &bridge.pos, context, found)?
-            && add_reads(alloc, &bridge.neg, context, found)?,
-    )
-}
-
-/// The variables of one context, by first occurrence; `None` where they are too many.
+/// The variables of one context, by first occurrence. Refused where there are more than the limit.
 fn variables_of_context(
     alloc: Global,
     bridges: &[Bridge],
     context: usize,
-) -> Result<Option<Vec<Read>>, Memory>
-    ensures { IfOk result
-        (λ found. let all = context_variables (system_of [] bridges.now) context in
-        MatchOption found (64 < length all)
-        (λ v. map read_of v.items ≡ all)) }
+) -> Result<Vec<Read>, BuildFault>
+    ensures variables { IfOk result
+        (λ v. map read_of v.items ≡ context_variables (system_of [] bridges.now) context) }
+    ensures many { IfErr result
+        (IsDue Variables (64 < length (context_variables (system_of [] bridges.now) context))) }
 {
     let mut found = Vec::new(alloc);
     for bridge in bridges {
-        if !add_reads_of(alloc, bridge, context, &mut found)? {
-            return Ok(None);
-        }
+        add_reads(alloc, &bridge.pos, context, &mut found)?;
+        add_reads(alloc, &bridge.neg, context, &mut found)?;
     }
-    Ok(Some(found))
+    Ok(found)
 }
 
 /// The variables of the system of these contexts and rules, by context and within a context by first
-/// occurrence; `None` where there are more than 64.
+/// occurrence. Refused where there are more than the limit.
 pub(crate) fn variables_of(
     alloc: Global,
     contexts: &[Context],
     bridges: &[Bridge],
-) -> Result<Option<Vec<Read>>, Memory>
-    ensures { IfOk result
-        (λ found. let all = variables (system_of contexts.now bridges.now) in
-        MatchOption found (64 < length all)
-        (λ v. (map read_of v.items ≡ all) × (length v.items ≤ 64))) }
+) -> Result<Vec<Read>, BuildFault>
+    ensures variables { IfOk result (λ v. map read_of v.items ≡ variables (system_of contexts.now bridges.now)) }
+    ensures few { IfOk result (λ v. length v.items ≤ 64) }
+    ensures many { IfErr result (IsDue Variables (64 < length (variables (system_of contexts.now bridges.now)))) }
 {
     let mut variables = Vec::new(alloc);
     for context in 0..contexts.len() {
-        let Some(mut own) = variables_of_context(alloc, bridges, context)? else {
-            return Ok(None);
-        };
+        let mut own = variables_of_context(alloc, bridges, context)?;
         variables.append(&mut own)?;
-        if variables.len() > MOST_VARIABLES {
-            return Ok(None);
+        if Limit::Variables.is_exceeded_by(variables.len()) {
+            return Err(BuildFault::exceeded(Limit::Variables));
         }
     }
-    Ok(Some(variables))
+    Ok(variables)
 }

@@ -8,4 +8,6 @@ mod faults;
 #[cfg(test)]
 mod names;
 #[cfg(test)]
+mod same;
+#[cfg(test)]
 mod systems;

@@ -1,13 +1,20 @@
 use Rattle.std.proofs.Common.{arith}
+use Rattle.std.proofs.lemmas.List.{drop_all}
 use Rattle.mcs_system.specs.Gathered.{belief_atoms}
 use Rattle.mcs_system.specs.Seen.{read_of}
-use Rattle.mcs_system.proofs.GatherLemmas.{names_go_on, names_too_many}
+use Rattle.mcs_system.proofs.GatherLemmas.{goes_on, goes_cut, gathers_nothing}
 use Rattle.mcs_system.proofs.atoms.add_beliefs.Goals as goal
+use Rattle.mcs_base.proofs.Ranges.{next_seen}
 
-pub returns-then-not-branch-clause-few : goal.returns-then-not-branch-clause-few
-returns-then-not-branch-clause-few c =
-    names_too_many read_of (belief_atoms c.args.context) c.loop-read.found.items c.args.reads.now c.loop-read.read-index c.read-item.result (omega arith) c.read-item.is c.in_ok-add_belief.field-0 c.if-not-branch.true c.in_ok-add_belief.ensures.few _ c.loop-read.invariant
+pub returns-in_err-add_belief : goal.returns-in_err-add_belief
+returns-in_err-add_belief c = goes_cut _ _ _ _ _ _ _ _ _ _ _ c.loop-read.invariant
+    (next_seen read_of (belief_atoms c.args.context) c.args.reads.now c.loop-read.read-index c.read-item.result c.loop-read-test.true c.read-item.is) c.from_residual.ensures.1 c.in_err-add_belief.ensures
 
 pub loop-read-preserved : goal.loop-read-preserved
-loop-read-preserved c =
-    names_go_on read_of (belief_atoms c.args.context) c.loop-read.found.items c.args.reads.now c.loop-read.read-index c.read-item.result (omega arith) c.read-item.is c.in_ok-add_belief.field-0 c.if-not-branch.false c.add_belief.new.found.items c.in_ok-add_belief.ensures.found _ c.loop-read.invariant
+loop-read-preserved c = goes_on _ _ _ _ _ _ _ _ _ _ c.loop-read.invariant
+    (next_seen read_of (belief_atoms c.args.context) c.args.reads.now c.loop-read.read-index c.read-item.result c.loop-read-test.true c.read-item.is) c.in_ok-add_belief.ensures
+
+pub returns : goal.returns
+returns c =
+    let none = drop_all c.loop-read.read-index c.args.reads.now (omega arith) in
+    c.loop-read.invariant _ _ (rw none (gathers_nothing _ _ _ _))

@@ -1,10 +1,11 @@
-use Rattle.std.proofs.Common.{◌≡◌, map, drop}
+use Rattle.std.proofs.Common.{map, drop}
 use Rattle.std.specs.List.{flat_map}
-use Rattle.mcs_system.specs.Gathered.{with_names, belief_atoms}
+use Rattle.mcs_system.specs.declared.limit.Limit.TheVariants.{AtomsPerContext}
+use Rattle.mcs_system.specs.Gathered.{belief_atoms}
+use Rattle.mcs_system.specs.Logic.{same_name}
 use Rattle.mcs_system.specs.Seen.{read_of}
+use Rattle.mcs_system.proofs.GatherLemmas.{Goes}
 use Rattle.mcs_system.proofs.atoms.add_beliefs.Given as goal
 
 abbrev pub invariant-loop-read : goal.invariant-loop-read
-invariant-loop-read l =
-    with_names l.found.items (flat_map (belief_atoms l.context) (map read_of (drop l.read-index l.reads)))
-    ≡ with_names l.fn.found.items (flat_map (belief_atoms l.context) (map read_of l.reads))
+invariant-loop-read l = Goes AtomsPerContext same_name l.fn.found.items (flat_map (belief_atoms l.context) (map read_of l.reads)) l.found.items (flat_map (belief_atoms l.context) (map read_of (drop l.read-index l.reads)))

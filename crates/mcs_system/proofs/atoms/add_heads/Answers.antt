@@ -1,13 +1,20 @@
 use Rattle.std.proofs.Common.{arith}
+use Rattle.std.proofs.lemmas.List.{drop_all}
 use Rattle.mcs_system.specs.Gathered.{head_atoms}
 use Rattle.mcs_system.specs.Seen.{bridge_of}
-use Rattle.mcs_system.proofs.GatherLemmas.{names_go_on, names_too_many}
+use Rattle.mcs_system.proofs.GatherLemmas.{goes_on, goes_cut, gathers_nothing}
 use Rattle.mcs_system.proofs.atoms.add_heads.Goals as goal
+use Rattle.mcs_base.proofs.Ranges.{next_seen}
 
-pub returns-then-not-branch-clause-few : goal.returns-then-not-branch-clause-few
-returns-then-not-branch-clause-few c =
-    names_too_many bridge_of (head_atoms c.args.context) c.loop-bridge.found.items c.args.bridges.now c.loop-bridge.bridge-index c.bridge-item.result (omega arith) c.bridge-item.is c.in_ok-add_head.field-0 c.if-not-branch.true c.in_ok-add_head.ensures.few _ c.loop-bridge.invariant
+pub returns-in_err-add_head : goal.returns-in_err-add_head
+returns-in_err-add_head c = goes_cut _ _ _ _ _ _ _ _ _ _ _ c.loop-bridge.invariant
+    (next_seen bridge_of (head_atoms c.args.context) c.args.bridges.now c.loop-bridge.bridge-index c.bridge-item.result c.loop-bridge-test.true c.bridge-item.is) c.from_residual.ensures.1 c.in_err-add_head.ensures
 
 pub loop-bridge-preserved : goal.loop-bridge-preserved
-loop-bridge-preserved c =
-    names_go_on bridge_of (head_atoms c.args.context) c.loop-bridge.found.items c.args.bridges.now c.loop-bridge.bridge-index c.bridge-item.result (omega arith) c.bridge-item.is c.in_ok-add_head.field-0 c.if-not-branch.false c.add_head.new.found.items c.in_ok-add_head.ensures.found _ c.loop-bridge.invariant
+loop-bridge-preserved c = goes_on _ _ _ _ _ _ _ _ _ _ c.loop-bridge.invariant
+    (next_seen bridge_of (head_atoms c.args.context) c.args.bridges.now c.loop-bridge.bridge-index c.bridge-item.result c.loop-bridge-test.true c.bridge-item.is) c.in_ok-add_head.ensures
+
+pub returns : goal.returns
+returns c =
+    let none = drop_all c.loop-bridge.bridge-index c.args.bridges.now (omega arith) in
+    c.loop-bridge.invariant _ _ (rw none (gathers_nothing _ _ _ _))

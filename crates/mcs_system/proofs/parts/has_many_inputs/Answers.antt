@@ -3,11 +3,12 @@ use Rattle.std.proofs.lemmas.Bool.Decides.{nat_tests}
 use Rattle.mcs_sets.specs.Sets.{size}
 use Rattle.mcs_system.specs.Rows.{inputs_of}
 use Rattle.mcs_system.specs.Seen.{read_of, system_of}
-use Rattle.mcs_system.proofs.PartLemmas.{inputs_known, inputs-exceed, some_next, some_here, some_end}
+use Rattle.mcs_system.proofs.PartLemmas.{inputs_known, inputs-exceed}
 use Rattle.mcs_system.proofs.parts.has_many_inputs.Goals as goal
+use Rattle.mcs_base.proofs.Ranges.{some_next, some_here, some_end}
 
-pub returns-then-count-gt-MOST_INPUTS : goal.returns-then-count-gt-MOST_INPUTS
-returns-then-count-gt-MOST_INPUTS c =
+pub returns-then-is_exceeded_by : goal.returns-then-is_exceeded_by
+returns-then-is_exceeded_by c =
     let own = inputs_known (system_of c.args.contexts.now c.args.bridges.now) (map read_of c.args.known.now) c.loop-context.context c.inputs_among.result c.requires.variables c.inputs_among.ensures in
     let many : ltb 16 (size (inputs_of (system_of c.args.contexts.now c.args.bridges.now) c.loop-context.context)) ≡ true = rw (← own, ← c.count.ensures.number) (grind (arith, nat_tests)) in
     sym (inputs-exceed c.args.contexts.now c.args.bridges.now ∙ some_here (λ i. ltb 16 (size (inputs_of (system_of c.args.contexts.now c.args.bridges.now) i))) c.loop-context.context (length c.args.contexts.now) _ (omega arith) many c.loop-context.invariant)

@@ -1,8 +1,9 @@
 use Rattle.std.proofs.Common.{map, arith, ◌∙◌, ap}
 use Rattle.mcs_sets.specs.Sets.{union}
 use Rattle.mcs_system.specs.Seen.{read_of}
-use Rattle.mcs_system.proofs.PartLemmas.{inputs_from, inputs_go_on, inputs_end, none-union}
+use Rattle.mcs_system.proofs.PartLemmas.{inputs_from, inputs_go_on, inputs_end}
 use Rattle.mcs_system.proofs.parts.inputs_among.Goals as goal
+use Rattle.mcs_sets.proofs.Lattice.{none-union}
 
 pub loop-bridge-init : goal.loop-bridge-init
 loop-bridge-init c = ap (λ s. union s (inputs_from (map read_of c.args.known.now) c.args.bridges.now 0 c.args.context)) c.empty-inputs.ensures ∙ none-union (inputs_from (map read_of c.args.known.now) c.args.bridges.now 0 c.args.context)

@@ -3,8 +3,8 @@ use Rattle.std.specs.List.{range_with_len}
 use Rattle.mcs_system.specs.Atoms.{atoms_of}
 use Rattle.mcs_system.specs.Parts.{context_part, context_part_of}
 use Rattle.mcs_system.specs.Seen.{system_of}
-use Rattle.mcs_system.proofs.PartLemmas.{some_from}
 use Rattle.mcs_system.proofs.parts.parts_of_contexts.Given as goal
+use Rattle.mcs_base.proofs.Ranges.{some_from}
 
 abbrev pub invariant-loop-context : goal.invariant-loop-context
 invariant-loop-context l =

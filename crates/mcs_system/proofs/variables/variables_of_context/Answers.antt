@@ -1,30 +1,22 @@
-use Rattle.std.proofs.Common.{◌+◌, List, [], map, drop, arith, sym, ◌∙◌}
-use Rattle.std.proofs.lemmas.Bool.Decides.{nat_tests}
-use Rattle.std.proofs.lemmas.Grind.{common_steps}
-use Rattle.std.proofs.lemmas.List.{at_drop_all}
-use Rattle.mcs_system.specs.declared.bridge.Bridge.{Bridge}
-use Rattle.mcs_system.specs.Faults.{reads_of}
-use Rattle.mcs_system.specs.Gathered.{with_reads}
-use Rattle.mcs_system.specs.Seen.{read_of, bridge_of, system_of}
-use Rattle.mcs_system.specs.Systems.{occurrences}
-use Rattle.mcs_system.proofs.GatherLemmas.{reads_step, with_reads-grows, context_variables-gathered}
+use Rattle.std.proofs.Common.{Err, refl, arith}
+use Rattle.std.proofs.lemmas.List.{drop_all}
+use Rattle.mcs_system.proofs.GatherLemmas.{goes_on, goes_cut, gathers_nothing, due_from_nothing, all_from_nothing, due_handed, occurrences-drop, context_variables-gathered}
 use Rattle.mcs_system.proofs.variables.variables_of_context.Goals as goal
 
-pub returns-then-not-branch : goal.returns-then-not-branch
-returns-then-not-branch c =
-    let step = reads_step (map read_of c.loop-bridge.found.items) c.args.context c.args.bridges.now c.loop-bridge.bridge-index c.bridge-item.result (omega arith) c.bridge-item.is in
-    let all = context_variables-gathered c.args.bridges.now c.args.context in
-    let grows = with_reads-grows (with_reads (map read_of c.loop-bridge.found.items) c.args.context (reads_of (bridge_of c.bridge-item.result))) c.args.context (occurrences (system_of [] (drop (c.loop-bridge.bridge-index + 1) c.args.bridges.now))) in
-    let few = c.in_ok-add_reads_of.ensures.few in
-    rw (all, ← c.loop-bridge.invariant, step) (grind (arith, nat_tests))
+pub returns-in_err-add_reads-clause-many : goal.returns-in_err-add_reads-clause-many
+returns-in_err-add_reads-clause-many c = due_handed _ _ _ _ _ c.from_residual.ensures.1 (λ h. h) (due_from_nothing _ _ _ _ _ _ (Err _) refl (context_variables-gathered c.args.bridges.now c.args.context)
+    (goes_cut _ _ _ _ _ _ _ _ _ _ _ c.loop-bridge.invariant (occurrences-drop c.args.context c.args.bridges.now c.loop-bridge.bridge-index c.bridge-item.result c.loop-bridge-test.true c.bridge-item.is) refl (rw c.deref.ensures.value at c.in_err-add_reads.ensures)))
+
+pub returns-in_err-add_reads-2-clause-many : goal.returns-in_err-add_reads-2-clause-many
+returns-in_err-add_reads-2-clause-many c = due_handed _ _ _ _ _ c.from_residual-in_err-add_reads-2.ensures.1 (λ h. h) (due_from_nothing _ _ _ _ _ _ (Err _) refl (context_variables-gathered c.args.bridges.now c.args.context)
+    (goes_cut _ _ _ _ _ _ _ _ _ _ _ (goes_on _ _ _ _ _ _ _ _ _ _ c.loop-bridge.invariant (occurrences-drop c.args.context c.args.bridges.now c.loop-bridge.bridge-index c.bridge-item.result c.loop-bridge-test.true c.bridge-item.is) (rw c.deref.ensures.value at c.in_ok-add_reads.ensures))
+    refl refl (rw c.deref-in-loop-bridge.ensures.value at c.in_err-add_reads-2.ensures)))
 
 pub loop-bridge-preserved : goal.loop-bridge-preserved
-loop-bridge-preserved c =
-    let step = reads_step (map read_of c.loop-bridge.found.items) c.args.context c.args.bridges.now c.loop-bridge.bridge-index c.bridge-item.result (omega arith) c.bridge-item.is in
-    let found = c.in_ok-add_reads_of.ensures.found in
-    grind (arith, nat_tests, common_steps, c.loop-bridge.invariant)
+loop-bridge-preserved c = goes_on _ _ _ _ _ _ _ _ _ _ (goes_on _ _ _ _ _ _ _ _ _ _ c.loop-bridge.invariant (occurrences-drop c.args.context c.args.bridges.now c.loop-bridge.bridge-index c.bridge-item.result c.loop-bridge-test.true c.bridge-item.is) (rw c.deref.ensures.value at c.in_ok-add_reads.ensures))
+    refl (rw c.deref-in-loop-bridge.ensures.value at c.in_ok-add_reads-2.ensures)
 
-pub returns : goal.returns
-returns c =
-    let over = at_drop_all (λ (bs : List Bridge). with_reads (map read_of c.loop-bridge.found.items) c.args.context (occurrences (system_of [] bs))) c.args.bridges.now c.loop-bridge.bridge-index (omega arith) in
-    sym over ∙ c.loop-bridge.invariant ∙ sym (context_variables-gathered c.args.bridges.now c.args.context)
+pub returns-clause-variables : goal.returns-clause-variables
+returns-clause-variables c =
+    let none = drop_all c.loop-bridge.bridge-index c.args.bridges.now (omega arith) in
+    (all_from_nothing _ _ _ _ _ _ tt refl (context_variables-gathered c.args.bridges.now c.args.context) (c.loop-bridge.invariant _ _ (rw none (gathers_nothing _ _ _ _)))).0

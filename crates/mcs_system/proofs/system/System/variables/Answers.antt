@@ -8,7 +8,7 @@ pub returns-clause-few : goal.returns-clause-few
 returns-clause-few c = omega (
   arith,
   ap length c.self.invariant.variables_are,
-  length-map c.self.inside.kept.known.items read_of,
+  length-map c.self.inside.kept.variables.items read_of,
   ap length c.deref.ensures.value,
   few_variables (system_of c.self.inside.contexts.items c.self.inside.bridges.items) c.self.invariant.valid,
 )
