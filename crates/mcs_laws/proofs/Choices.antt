@@ -1,21 +1,18 @@
 -- Minimal diagnoses come from choices, and what a consistent system has.
-use Rattle.std.proofs.Common.{◌≡◌, ◌≢◌, ℕ, ◌+◌, ◌*◌, ◌/◌, ◌%◌, Bool, true, false, not, ◌&&◌, ◌||◌, eqb, length, refl, sym, ap, ◌∙◌, inl, inr, ◌⊎◌, ◌↔◌, arith, true≢false, slice_get}
+use Rattle.std.proofs.Common.{◌≡◌, ℕ, ◌+◌, ◌*◌, Bool, true, false, not, ◌&&◌, ◌||◌, refl, sym, ap, ◌∙◌, inl, inr, ◌↔◌, arith, true≢false}
 use Rattle.std.proofs.lemmas.Bool.Decides.{nat_tests}
 use Rattle.mcs_sets.specs.Sets.{has, common, minus, Within}
-use Rattle.mcs_sets.proofs.SetLemmas.{same_set, has-empty, has-such_that, has-minus, has-union, has-common}
-use Rattle.mcs_system.specs.Plain.{System}
-use Rattle.mcs_system.specs.Systems.{all_rules, applicable, acting_at, is_applicable, IsProjected}
+use Rattle.mcs_sets.proofs.SetLemmas.{same_set, has-empty, has-minus, has-union, has-common}
 use Rattle.mcs_base.specs.Minimal.{IsMinimal}
-use Rattle.mcs_system.specs.Repairs.{first_part, second_part, all_marks, marks_of, choice_marks, IsChoice, IsDiagnosis, IsExplanation}
-use Rattle.mcs_laws.proofs.Transversals.{has-all_rules, has-all_marks, has-first, has-second, has-marks_of, first-marks_of, second-marks_of, mark-even, mark-odd, meets_each}
+use Rattle.mcs_base.specs.Pairs.{removed_of, forced_of}
+use Rattle.mcs_base.proofs.PairLemmas.{has-removed_of, has-forced_of}
+use Rattle.mcs_system.specs.Plain.{System}
+use Rattle.mcs_system.specs.Systems.{all_rules, applicable, acting_at, IsProjectedEquilibrium}
+use Rattle.mcs_system.specs.Repairs.{allowed_marks, choice_marks, IsChoice, IsDiagnosis, IsExplanation}
+use Rattle.mcs_system.proofs.MarkLemmas.{has-marks_of, mark-even, mark-odd, by_parity, forced_known, removed-marks_of, forced-marks_of, applicable_within}
+use Rattle.mcs_laws.proofs.Transversals.{meets_each}
 use Rattle.mcs_laws.proofs.Projections.{parts_of, from_parts}
-
-pub applicable_within : (m : System) (σ : ℕ) → Within (applicable m σ) (all_rules m)
-unfolding applicable
-applicable_within m σ k is = let e1 = has-such_that (length m.bridges) (λ j. is_applicable m σ (slice_get m.bridges j)) k in let e2 = has-all_rules m k in grind (arith, nat_tests)
-
-marks_known : (m : System) (a b : ℕ) → Within (marks_of m a b) (all_marks m)
-marks_known m a b k is = let e1 = has-marks_of m a b k in let e2 = has-all_marks m k in grind (arith, nat_tests)
+use Rattle.mcs_sets.proofs.Lattice.{minus-none, none_within, within_antisymmetric}
 
 -- the rules that act in the system changed by the marks of a choice are those of the choice
 acting-choice : (m : System) (σ x : ℕ) → Within x (all_rules m) → acting_at m σ (minus (all_rules m) (minus (applicable m σ) x)) (minus x (applicable m σ)) ≡ x
@@ -28,9 +25,9 @@ acting-choice m σ x within = same_set _ _ (λ k. rw (has-union, has-common, has
 
 pub choice_is_diagnosis : (m : System) (σ x : ℕ) → IsChoice m σ x → IsDiagnosis m (choice_marks m σ x)
 choice_is_diagnosis m σ x c = record {
-  of_rules = marks_known m _ _;
+  allowed = c.allowed;
   equilibrium = σ;
-  balanced = rw (first-marks_of m (minus (applicable m σ) x) (minus x (applicable m σ)) removed, second-marks_of m (minus (applicable m σ) x) (minus x (applicable m σ)) forced)
+  balanced = rw (removed-marks_of m (minus (applicable m σ) x) (minus x (applicable m σ)) removed, forced-marks_of m (minus (applicable m σ) x) (minus x (applicable m σ)) forced)
       (from_parts m _ _ σ c.of_variables (λ i less. rw (acting-choice m σ x c.of_rules) (c.accepted i less)));
 }
   where
@@ -40,75 +37,58 @@ choice_is_diagnosis m σ x c = record {
     forced : Within (minus x (applicable m σ)) (all_rules m)
     forced k is = let e = has-minus x (applicable m σ) k in let w = c.of_rules k in grind (arith, nat_tests)
 
--- the rules that act in a state of a changed system make a choice
-pub state_is_choice : (m : System) (pair σ : ℕ) → IsProjected m (minus (all_rules m) (first_part m pair)) (second_part m pair) σ
-    → IsChoice m σ (acting_at m σ (minus (all_rules m) (first_part m pair)) (second_part m pair))
-state_is_choice m pair σ at = let h = parts_of m _ _ σ at in record { of_rules = known; of_variables = h.0; accepted = h.1 }
-  where
-    known : Within (acting_at m σ (minus (all_rules m) (first_part m pair)) (second_part m pair)) (all_rules m)
-    known k is = let e1 = has-union (common (applicable m σ) (minus (all_rules m) (first_part m pair))) (second_part m pair) k in let e2 = has-common (applicable m σ) (minus (all_rules m) (first_part m pair)) k in
-        let w = applicable_within m σ k in let e3 = has-second m pair k in let e4 = has-all_rules m k in grind (arith, nat_tests)
-
-by_parity : (k : ℕ) → (r : ℕ) × ((k ≡ 2 * r) ⊎ (k ≡ 2 * r + 1))
-by_parity k = (k / 2, at (eqb (k % 2) 0) refl)
-  where
-    at : (v : Bool) → eqb (k % 2) 0 ≡ v → (k ≡ 2 * (k / 2)) ⊎ (k ≡ 2 * (k / 2) + 1)
-    at true e = let zero_left : k % 2 ≡ 0 = grind (arith, nat_tests) in inl (omega arith)
-    at false e = let some_left : k % 2 ≢ 0 = grind (arith, nat_tests) in inr (omega arith)
-
--- and its marks lie within the pair
-pub choice_within : (m : System) (pair σ : ℕ) → Within (choice_marks m σ (acting_at m σ (minus (all_rules m) (first_part m pair)) (second_part m pair))) pair
+-- the marks of the rules that act in a state of a changed system lie within the pair
+pub choice_within : (m : System) (pair σ : ℕ) → Within (choice_marks m σ (acting_at m σ (minus (all_rules m) (removed_of pair)) (forced_of pair))) pair
 choice_within m pair σ k is = let (r, half) = by_parity k in elim half [ inl e ↦ ap (has pair) e ∙ even r (ap (has marks) (sym e) ∙ is) | inr e ↦ ap (has pair) e ∙ odd r (ap (has marks) (sym e) ∙ is) ]
   where
     a : ℕ
     a = applicable m σ
 
     x : ℕ
-    x = acting_at m σ (minus (all_rules m) (first_part m pair)) (second_part m pair)
+    x = acting_at m σ (minus (all_rules m) (removed_of pair)) (forced_of pair)
 
     marks : ℕ
     marks = choice_marks m σ x
 
-    in_x : (r : ℕ) → has x r ≡ ((has a r && (has (all_rules m) r && not (has (first_part m pair) r))) || has (second_part m pair) r)
+    in_x : (r : ℕ) → has x r ≡ ((has a r && (has (all_rules m) r && not (has (removed_of pair) r))) || has (forced_of pair) r)
     in_x r = rw (has-union, has-common, has-minus) refl
 
     even : (r : ℕ) → has marks (2 * r) ≡ true → has pair (2 * r) ≡ true
     even r is = let e1 = has-marks_of m (minus a x) (minus x a) (2 * r) in let e2 = mark-even (minus a x) (minus x a) r in let e3 = has-minus a x r in let e4 = in_x r in
-        let e5 = has-first m pair r in let e6 = has-all_rules m r in let w = applicable_within m σ r in grind (arith, nat_tests)
+        let e5 = has-removed_of pair r in let w = applicable_within m σ r in grind (arith, nat_tests)
 
     odd : (r : ℕ) → has marks (2 * r + 1) ≡ true → has pair (2 * r + 1) ≡ true
     odd r is = let e1 = has-marks_of m (minus a x) (minus x a) (2 * r + 1) in let e2 = mark-odd (minus a x) (minus x a) r in let e3 = has-minus x a r in let e4 = in_x r in
-        let e5 = has-second m pair r in let e6 = has-all_rules m r in let w = applicable_within m σ r in grind (arith, nat_tests)
+        let e5 = has-forced_of pair r in grind (arith, nat_tests)
 
-pub minimal_from_choice : (m : System) (pair σ : ℕ) → IsMinimal (IsDiagnosis m) pair → IsProjected m (minus (all_rules m) (first_part m pair)) (second_part m pair) σ
-    → choice_marks m σ (acting_at m σ (minus (all_rules m) (first_part m pair)) (second_part m pair)) ≡ pair
-minimal_from_choice m pair σ minimal at = minimal.least _ (choice_is_diagnosis m σ _ (state_is_choice m pair σ at)) (choice_within m pair σ)
+-- and these rules make a choice
+pub state_is_choice : (m : System) (pair σ : ℕ) → Within pair (allowed_marks m) → IsProjectedEquilibrium m (minus (all_rules m) (removed_of pair)) (forced_of pair) σ
+    → IsChoice m σ (acting_at m σ (minus (all_rules m) (removed_of pair)) (forced_of pair))
+state_is_choice m pair σ allowed at = let h = parts_of m _ _ σ at in record { of_rules = known; of_variables = h.0; allowed = λ k is. allowed k (choice_within m pair σ k is); accepted = h.1 }
+  where
+    known : Within (acting_at m σ (minus (all_rules m) (removed_of pair)) (forced_of pair)) (all_rules m)
+    known k is = let e1 = has-union (common (applicable m σ) (minus (all_rules m) (removed_of pair))) (forced_of pair) k in let e2 = has-common (applicable m σ) (minus (all_rules m) (removed_of pair)) k in
+        let w = applicable_within m σ k in let f = forced_known m pair allowed k in grind (arith, nat_tests)
+
+pub minimal_from_choice : (m : System) (pair σ : ℕ) → IsMinimal (IsDiagnosis m) pair → IsProjectedEquilibrium m (minus (all_rules m) (removed_of pair)) (forced_of pair) σ
+    → choice_marks m σ (acting_at m σ (minus (all_rules m) (removed_of pair)) (forced_of pair)) ≡ pair
+minimal_from_choice m pair σ minimal at = minimal.least _ (choice_is_diagnosis m σ _ (state_is_choice m pair σ minimal.one.allowed at)) (choice_within m pair σ)
 
 -- ---- a consistent system
-nothing_first : (m : System) → first_part m 0 ≡ 0
-nothing_first m = same_set _ _ (λ r. let e = has-first m 0 r in let e1 = has-empty (2 * r) in let e2 = has-empty r in grind (arith, nat_tests))
+nothing_removed : removed_of 0 ≡ 0
+nothing_removed = same_set _ _ (λ r. has-removed_of 0 r ∙ has-empty (2 * r) ∙ sym (has-empty r))
 
-nothing_second : (m : System) → second_part m 0 ≡ 0
-nothing_second m = same_set _ _ (λ r. let e = has-second m 0 r in let e1 = has-empty (2 * r + 1) in let e2 = has-empty r in grind (arith, nat_tests))
+nothing_forced : forced_of 0 ≡ 0
+nothing_forced = same_set _ _ (λ r. has-forced_of 0 r ∙ has-empty (2 * r + 1) ∙ sym (has-empty r))
 
-minus-nothing : (a : ℕ) → minus a 0 ≡ a
-minus-nothing a = same_set _ _ (λ r. let e = has-minus a 0 r in let e2 = has-empty r in grind (arith, nat_tests))
+pub consistent_needs_nothing : (m : System) (σ : ℕ) → IsProjectedEquilibrium m (all_rules m) 0 σ → IsDiagnosis m 0
+consistent_needs_nothing m σ at = record { allowed = none_within _; equilibrium = σ; balanced = rw (nothing_removed, nothing_forced, minus-none (all_rules m)) at }
 
-nothing_within : (s : ℕ) → Within 0 s
-nothing_within s k is = absurd (true≢false (sym is ∙ has-empty k))
-
-pub consistent_needs_nothing : (m : System) (σ : ℕ) → IsProjected m (all_rules m) 0 σ → IsDiagnosis m 0
-consistent_needs_nothing m σ at = record { of_rules = nothing_within _; equilibrium = σ; balanced = rw (nothing_first m, nothing_second m, minus-nothing (all_rules m)) at }
-
-pub consistent_minimal : (m : System) (σ : ℕ) → IsProjected m (all_rules m) 0 σ → (pair : ℕ) → IsMinimal (IsDiagnosis m) pair ↔ (pair ≡ 0)
+pub consistent_minimal : (m : System) (σ : ℕ) → IsProjectedEquilibrium m (all_rules m) 0 σ → (pair : ℕ) → IsMinimal (IsDiagnosis m) pair ↔ (pair ≡ 0)
 consistent_minimal m σ at pair = (
-  λ h. sym (h.least 0 (consistent_needs_nothing m σ at) (nothing_within pair)),
-  λ e. rw e (record { one = consistent_needs_nothing m σ at; least = λ t d within. same_set _ _ (λ k. none t k within (has t k) refl) }),
+  λ h. sym (h.least 0 (consistent_needs_nothing m σ at) (none_within pair)),
+  λ e. rw e (record { one = consistent_needs_nothing m σ at; least = λ t d within. within_antisymmetric t 0 within (none_within t) }),
 )
-  where
-    none : (t k : ℕ) → Within t 0 → (v : Bool) → has t k ≡ v → has t k ≡ has 0 k
-    none t k within true e = absurd (true≢false (sym (within k e) ∙ has-empty k))
-    none t k within false e = e ∙ sym (has-empty k)
 
-pub consistent_unexplained : (m : System) (σ : ℕ) → IsProjected m (all_rules m) 0 σ → (pair : ℕ) → ¬ IsExplanation m pair
+pub consistent_unexplained : (m : System) (σ : ℕ) → IsProjectedEquilibrium m (all_rules m) 0 σ → (pair : ℕ) → ¬ IsExplanation m pair
 consistent_unexplained m σ at pair e = let both = meets_each m pair 0 e (consistent_needs_nothing m σ at) in true≢false (sym both.in_second ∙ has-empty both.member)

@@ -7,8 +7,9 @@ use Rattle.mcs_sets.proofs.SetLemmas.{has-such_that}
 use Rattle.mcs_system.specs.Plain.{Formula, Kb, Classical, Context, Read, System}
 use Rattle.mcs_system.specs.Logic.{BeliefSet, Theory, Atoms, Believes, SameModels, Accepts, Entails, with_heads}
 use Rattle.mcs_system.specs.Systems.{variables, heads_into, IsVariable, Follows, AcceptsWith, IsAcceptedPart}
-use Rattle.mcs_laws.proofs.Deciding.{decide}
-use Rattle.mcs_system.proofs.Members.{get-lt}
+use Rattle.mcs_system.proofs.Deciding.{decide}
+use Rattle.std.proofs.lemmas.Option.{slice_get_within}
+use Rattle.mcs_base.proofs.Booleans.{test_of, test_of-tells}
 
 believes_same : (e fs : List Formula) (p : Formula) → SameModels e fs → Entails e p ↔ Entails fs p
 believes_same e fs p same = (λ h a holds. h a (same a ∙ holds), λ h a holds. h a (sym (same a) ∙ holds))
@@ -43,15 +44,6 @@ classical_part m i x τ c fs is kb = (to, from)
 decided : (fs : List Formula) (p : Formula) → Entails fs p ⊎ (¬ Entails fs p)
 decided fs p = elim (decide fs p) [ inl follows ↦ inl follows | inr other ↦ inr (λ follows. true≢false (sym (follows other.0 other.1) ∙ other.2)) ]
 
-test_of : {P : Type 0} → P ⊎ (¬ P) → Bool
-test_of (inl h) = true
-test_of (inr h) = false
-
-test-is : {P : Type 0} (d : P ⊎ (¬ P)) → (test_of d ≡ true) ↔ P
-unfolding test_of
-test-is (inl h) = (λ _. h, λ _. refl)
-test-is (inr h) = (λ e. absurd (true≢false (sym e)), λ p. absurd (h p))
-
 follows_test : ℕ → List Formula → Option Read → Bool
 follows_test i fs None = false
 follows_test i fs (Some r) = eqb r.context i && test_of (decided fs r.belief)
@@ -69,11 +61,11 @@ has-following m i fs v = (
   where
     to : (o : Option Read) → slice_get (variables m) v ≡ o → follows_test i fs o ≡ true → Follows m i fs v
     to None e t = absurd (true≢false (sym t))
-    to (Some r) e t = let parts = and_parts (eqb r.context i) (test_of (decided fs r.belief)) t in (r, e, grind (arith, nat_tests), (test-is (decided fs r.belief)).0 parts.1)
+    to (Some r) e t = let parts = and_parts (eqb r.context i) (test_of (decided fs r.belief)) t in (r, e, grind (arith, nat_tests), (test_of-tells (decided fs r.belief)).0 parts.1)
 
     from : (r : Read) → IsVariable m v r → r.context ≡ i → Entails fs r.belief → (ltb v (length (variables m)) && follows_test i fs (slice_get (variables m) v)) ≡ true
     from r var own follows =
-        let less = get-lt r (variables m) v var in
+        let less = slice_get_within (variables m) v r var in
         let e : ltb v (length (variables m)) ≡ true = grind (arith, nat_tests) in
         let e' : eqb r.context i ≡ true = grind (arith, nat_tests) in
-        rw (e, var) (rw e' ((test-is (decided fs r.belief)).1 follows))
+        rw (e, var) (rw e' ((test_of-tells (decided fs r.belief)).1 follows))

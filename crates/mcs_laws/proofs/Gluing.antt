@@ -1,46 +1,32 @@
 -- Rows that fit together are the parts of a choice.
-use Rattle.std.proofs.Common.{◌≡◌, ℕ, ◌+◌, ◌<◌, Bool, true, false, not, ◌&&◌, ◌||◌, eqb, ltb, suc, List, [], ◌∷◌, ◌++◌, length, Some, refl, sym, ap, ◌∙◌, subst, inl, inr, arith, slice_get}
+use Rattle.std.proofs.Common.{◌≡◌, ℕ, ◌+◌, ◌<◌, Bool, true, false, not, ◌&&◌, ltb, List, ◌++◌, length, Some, refl, sym, ap, ◌∙◌, subst, arith, slice_get}
 use Rattle.std.proofs.lemmas.Bool.{and_parts}
 use Rattle.std.proofs.lemmas.Bool.Decides.{nat_tests}
-use Rattle.std.specs.List.{list_any, list_all, enumerate_from}
+use Rattle.std.specs.List.{list_any}
 use Rattle.mcs_sets.specs.Sets.{has, common, minus, such_that, Within}
 use Rattle.mcs_sets.proofs.SetLemmas.{same_set, has-such_that, has-common, has-union}
 use Rattle.mcs_system.specs.Plain.{Formula, Read, Bridge, System}
 use Rattle.mcs_system.specs.Logic.{Accepts, with_heads}
-use Rattle.mcs_system.specs.Systems.{same_read, variables, variables_of, all_variables, all_rules, applicable, heads_into, believed_among, applies_among, IsAcceptedPart}
+use Rattle.mcs_system.specs.Systems.{variables, variables_of, all_variables, applicable, heads_into, believed_among, applies_among, IsAcceptedPart}
 use Rattle.mcs_system.specs.Repairs.{IsChoice, marks_of}
 use Rattle.mcs_base.specs.Listings.{IsAmong}
-use Rattle.mcs_system.specs.Imports.{rules_into}
-use Rattle.mcs_system.specs.Rows.{inputs_of, local_of, marks_at, FitTogether, HasParts}
+use Rattle.mcs_system.specs.Imports.{rules_into, marks_at}
+use Rattle.mcs_system.specs.Rows.{inputs_of, local_of, AgreeOnCommon, HasParts}
 use Rattle.mcs_laws.specs.Laws.{RowsMakeChoices}
-use Rattle.mcs_laws.proofs.Transversals.{has-all_rules}
-use Rattle.mcs_system.proofs.Members.{any_get, get_any, get-lt, get_below, among_left, among_right, choose}
-use Rattle.mcs_system.proofs.VariableLemmas.{has-applicable, has-rules_into, has-inputs_of}
+use Rattle.mcs_system.proofs.MarkLemmas.{has-all_rules, marks_known}
+use Rattle.mcs_base.proofs.Among.{any_get, get_any, among_left, among_right, all_same}
+use Rattle.std.proofs.lemmas.Option.{slice_get_within}
+use Rattle.mcs_base.proofs.Lists.{slice_get_below, choose_below}
+use Rattle.mcs_system.proofs.VariableLemmas.{has-applicable, has-inputs_of}
 use Rattle.mcs_laws.proofs.Questions.{heads-own}
-
-same_all : {A : Type 0} (p q : A → Bool) (xs : List A) → ((x : A) → IsAmong x xs → p x ≡ q x) → list_all p xs ≡ list_all q xs
-same_all p q [] same = refl
-same_all p q (x ∷ xs) same = rw (same x (inl refl), same_all p q xs (λ y h. same y (inr h))) refl
+use Rattle.mcs_system.proofs.ContextSets.{same_believed, rule_there, rules_into_known}
 
 -- ---- whether a rule into i applies is seen on the local variables
-same_believed : (σ τ : ℕ) (r : Read) (xs : List Read) (k : ℕ) → ((v : ℕ) (q : Read) → slice_get xs v ≡ Some q → same_read q r ≡ true → has σ (k + v) ≡ has τ (k + v)) → list_any (λ v. has σ v.0 && same_read v.1 r) (enumerate_from k xs) ≡ list_any (λ v. has τ v.0 && same_read v.1 r) (enumerate_from k xs)
-same_believed σ τ r [] k same = refl
-same_believed σ τ r (x ∷ xs) k same = at (same_read x r) refl (same_believed σ τ r xs (k + 1) (λ v q is alike. let e : k + 1 + v ≡ k + suc v = omega arith in ap (has σ) e ∙ same (suc v) q is alike ∙ ap (has τ) (sym e)))
-  where
-    and-false : (u : Bool) → (u && false) ≡ false
-    and-false true = refl
-    and-false false = refl
-
-    at : (v : Bool) → same_read x r ≡ v → list_any (λ v. has σ v.0 && same_read v.1 r) (enumerate_from (k + 1) xs) ≡ list_any (λ v. has τ v.0 && same_read v.1 r) (enumerate_from (k + 1) xs)
-        → ((has σ k && v) || list_any (λ v. has σ v.0 && same_read v.1 r) (enumerate_from (k + 1) xs)) ≡ ((has τ k && v) || list_any (λ v. has τ v.0 && same_read v.1 r) (enumerate_from (k + 1) xs))
-    at true is rest = let e : k ≡ k + 0 = omega arith in let here : has σ k ≡ has τ k = ap (has σ) e ∙ same 0 x refl is ∙ ap (has τ) (sym e) in rw (here, rest) refl
-    at false is rest = rw (and-false (has σ k), and-false (has τ k)) rest
-
 same_applies : (m : System) (i k σ τ : ℕ) (b : Bridge) → slice_get m.bridges k ≡ Some b → b.target ≡ i → common σ (local_of m i) ≡ common τ (local_of m i) → applies_among (variables m) σ b ≡ applies_among (variables m) τ b
 same_applies m i k σ τ b is target same =
     rw (
-      same_all (believed_among (variables m) σ) (believed_among (variables m) τ) b.pos (λ r here. one r (among_left r b.pos b.neg here)),
-      same_all (λ r. not (believed_among (variables m) σ r)) (λ r. not (believed_among (variables m) τ r)) b.neg (λ r here. ap not (one r (among_right r b.pos b.neg here))),
+      all_same (believed_among (variables m) σ) (believed_among (variables m) τ) b.pos (λ r here. one r (among_left r b.pos b.neg here)),
+      all_same (λ r. not (believed_among (variables m) σ r)) (λ r. not (believed_among (variables m) τ r)) b.neg (λ r here. ap not (one r (among_right r b.pos b.neg here))),
     ) refl
   where
     seen : (v : ℕ) → has (inputs_of m i) v ≡ true → has σ v ≡ has τ v
@@ -49,20 +35,6 @@ same_applies m i k σ τ b is target same =
 
     one : (r : Read) → IsAmong r (b.pos ++ b.neg) → believed_among (variables m) σ r ≡ believed_among (variables m) τ r
     one r here = same_believed σ τ r (variables m) 0 (λ v q var alike. let e : 0 + v ≡ v = omega arith in ap (has σ) e ∙ seen v (has-inputs_of m i k v b r q is target here var alike) ∙ ap (has τ) (sym e))
-
-rules_known : (m : System) (i : ℕ) → Within (rules_into m i) (all_rules m)
-unfolding rules_into
-rules_known m i k inside = has-all_rules m k ∙ (and_parts _ _ (sym (has-such_that (length m.bridges) _ k) ∙ inside)).0
-
-rule_there : (m : System) (i k : ℕ) → has (rules_into m i) k ≡ true → (b : Bridge) × (slice_get m.bridges k ≡ Some b) × (b.target ≡ i)
-rule_there m i k inside =
-    let known : ltb k (length m.bridges) ≡ true = at_rules in
-    let (b, is) = get_below m.bridges k (grind (arith, nat_tests)) in
-    let own : eqb b.target i ≡ true = sym (has-rules_into m i k b is) ∙ inside in
-    (b, is, grind (arith, nat_tests))
-  where
-    at_rules : ltb k (length m.bridges) ≡ true
-    at_rules = sym (has-all_rules m k) ∙ rules_known m i k inside
 
 same_applicable : (m : System) (i σ τ : ℕ) → common σ (local_of m i) ≡ common τ (local_of m i) → common (applicable m σ) (rules_into m i) ≡ common (applicable m τ) (rules_into m i)
 same_applicable m i σ τ same = same_set _ _ (λ k. has-common (applicable m σ) (rules_into m i) k ∙ at k (has (rules_into m i) k) refl ∙ sym (has-common (applicable m τ) (rules_into m i) k))
@@ -84,7 +56,7 @@ record Shown (m : System) (i : ℕ) (p : ℕ × ℕ) (x : ℕ) : Type 0 where
   state_is : common whole (local_of m i) ≡ p.0
   marks_is : marks_at m i whole x ≡ p.1
 
-module _ (m : System) (rows : List (ℕ × ℕ)) (long : length rows ≡ length m.contexts) (fit : FitTogether m rows) (xs : List ℕ) (many : length xs ≡ length m.contexts)
+module _ (m : System) (rows : List (ℕ × ℕ)) (long : length rows ≡ length m.contexts) (fit : AgreeOnCommon m rows) (xs : List ℕ) (many : length xs ≡ length m.contexts)
     (shown : (i : ℕ) (p : ℕ × ℕ) (x : ℕ) → slice_get rows i ≡ Some p → slice_get xs i ≡ Some x → Shown m i p x) where
   abbrev σ : ℕ
   σ = such_that (length (variables m)) (λ v. list_any (λ (p : ℕ × ℕ). has p.0 v) rows)
@@ -132,7 +104,7 @@ module _ (m : System) (rows : List (ℕ × ℕ)) (long : length rows ≡ length 
 
       same_place : (j k : ℕ) (z : ℕ) → slice_get xs j ≡ Some z → has z k ≡ true → has (rules_into m i) k ≡ true → has y k ≡ true
       same_place j k z there member inside =
-          let (q, there') = get_below rows j (let less = get-lt z xs j there in omega (arith, long, many)) in
+          let (q, there') = slice_get_below rows j (let less = slice_get_within xs j z there in omega (arith, long, many)) in
           let other = (shown j q z there' there).of_rules k member in
           let (b, is_b, target) = rule_there m i k inside in
           let (b', is_b', target') = rule_there m j k other in
@@ -149,7 +121,7 @@ module _ (m : System) (rows : List (ℕ × ℕ)) (long : length rows ≡ length 
       from : (k : ℕ) → has y k ≡ true → has (common x (rules_into m i)) k ≡ true
       from k member =
           let inside = here.of_rules k member in
-          let known : ltb k (length m.bridges) ≡ true = sym (has-all_rules m k) ∙ rules_known m i k inside in
+          let known : ltb k (length m.bridges) ≡ true = sym (has-all_rules m k) ∙ rules_into_known m i k inside in
           let some : list_any (λ z. has z k) xs ≡ true = get_any (λ z. has z k) xs i y is' member in
           let in_x : has x k ≡ true = has-such_that (length m.bridges) (λ w. list_any (λ z. has z w) xs) k ∙ rw (known, some) refl in
           has-common x (rules_into m i) k ∙ rw (in_x, inside) refl
@@ -161,7 +133,8 @@ module _ (m : System) (rows : List (ℕ × ℕ)) (long : length rows ≡ length 
   choice = record {
     of_rules = λ k inside. has-all_rules m k ∙ (and_parts (ltb k (length m.bridges)) (list_any (λ z. has z k) xs) (sym (has-such_that (length m.bridges) (λ w. list_any (λ z. has z w) xs) k) ∙ inside)).0;
     of_variables = λ v inside. has-such_that (length (variables m)) (λ w. true) v ∙ (let known : ltb v (length (variables m)) ≡ true = (and_parts (ltb v (length (variables m))) (list_any (λ (r : ℕ × ℕ). has r.0 v) rows) (sym (has-such_that (length (variables m)) (λ w. list_any (λ (r : ℕ × ℕ). has r.0 w) rows) v) ∙ inside)).0 in rw known refl);
-    accepted = λ i less. accepts i (get_below rows i (omega arith)) (get_below xs i (omega arith));
+    allowed = marks_known m _ _;
+    accepted = λ i less. accepts i (slice_get_below rows i (omega arith)) (slice_get_below xs i (omega arith));
   }
     where
       accepts : (i : ℕ) → ((p : ℕ × ℕ) × (slice_get rows i ≡ Some p)) → ((y : ℕ) × (slice_get xs i ≡ Some y)) → IsAcceptedPart m i x (common σ (variables_of m i))
@@ -174,7 +147,7 @@ module _ (m : System) (rows : List (ℕ × ℕ)) (long : length rows ≡ length 
           record { belief = a.belief; accepted = (c, is_c, subst (λ (hs : List Formula). Accepts (with_heads c.kb hs) a.belief) heads accepts); part = a.part }
 
   parts : HasParts m σ x rows
-  parts i p is = part (get_below xs i (let less = get-lt p rows i is in omega (arith, long, many)))
+  parts i p is = part (slice_get_below xs i (let less = slice_get_within rows i p is in omega (arith, long, many)))
     where
       part : ((y : ℕ) × (slice_get xs i ≡ Some y)) → (common σ (local_of m i) ≡ p.0) × (marks_at m i σ (common x (rules_into m i)) ≡ p.1)
       part (y, is') =
@@ -186,14 +159,14 @@ module _ (m : System) (rows : List (ℕ × ℕ)) (long : length rows ≡ length 
 
 pub rows_make_choices : RowsMakeChoices
 rows_make_choices m order level rows long each fit =
-    let (xs, many, shown) = choose Q (length m.contexts) pick in
+    let (xs, many, shown) = choose_below Q (length m.contexts) pick in
     (σ m rows long fit xs many (all xs shown), x m rows long fit xs many (all xs shown), choice m rows long fit xs many (all xs shown), parts m rows long fit xs many (all xs shown))
   where
     Q : ℕ → ℕ → Type 0
     Q i y = (p : ℕ × ℕ) → slice_get rows i ≡ Some p → Shown m i p y
 
     pick : (i : ℕ) → i < length m.contexts → (y : ℕ) × Q i y
-    pick i less = let (p, is) = get_below rows i (omega (arith, long)) in let row = each i p is in
+    pick i less = let (p, is) = slice_get_below rows i (omega (arith, long)) in let row = each i p is in
         (row.rules, λ q is'. let same : p ≡ q = cc in subst (λ (r : ℕ × ℕ). Shown m i r row.rules) same (record { whole = row.whole; of_variables = row.of_variables; of_rules = row.of_rules; accepted = row.accepted; state_is = row.state_is; marks_is = row.marks_is }))
 
     all : (xs : List ℕ) → ((i y : ℕ) → slice_get xs i ≡ Some y → Q i y) → (i : ℕ) (p : ℕ × ℕ) (y : ℕ) → slice_get rows i ≡ Some p → slice_get xs i ≡ Some y → Shown m i p y

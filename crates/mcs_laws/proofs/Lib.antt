@@ -1,12 +1,14 @@
 pub mod Small
 pub mod Projections
 pub mod Counting
-pub mod Deciding
 pub mod Choices
 pub mod Tiny
 pub mod Questions
 pub mod Transversals
 pub mod Gluing
-pub mod Tables
 pub mod Classical
 pub mod Existence
+pub mod Views
+pub mod Worked
+pub mod Need
+pub mod Rows

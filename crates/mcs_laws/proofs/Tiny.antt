@@ -1,15 +1,15 @@
 -- The two tiny systems, evaluated.
-use Rattle.std.proofs.Common.{◌≡◌, ℕ, ◌<◌, ◌≤◌, zero, suc, true, List, [], ◌∷◌, refl, sym, ap, ◌∙◌, subst, inl, inr, arith, true≢false, slice_get}
+use Rattle.std.proofs.Common.{◌≡◌, ℕ, ◌<◌, zero, suc, true, List, [], ◌∷◌, refl, sym, ap, ◌∙◌, subst, inl, inr, arith, true≢false, slice_get}
 use Rattle.std.proofs.lemmas.Bool.{and_parts}
 use Rattle.mcs_sets.specs.Sets.{has, common, union, single, such_that}
-use Rattle.mcs_sets.proofs.SetLemmas.{Within-le, has-empty, has_above, has-common}
+use Rattle.mcs_sets.proofs.SetLemmas.{Within-le, has-empty, has-common, members_below}
 use Rattle.mcs_system.specs.Plain.{Formula, Context, Read}
 use Rattle.mcs_system.specs.Logic.{BeliefSet, Theory, Atoms, Believes, Entails, Accepts, SameModels, with_heads}
-use Rattle.mcs_system.specs.Systems.{variables, variables_of, all_variables, all_rules, IsVariable, IsProjected, heads_into, AcceptsWith, IsAcceptedPart, acting_at, applicable}
-use Rattle.mcs_base.specs.Listings.{IsAmong}
+use Rattle.mcs_system.specs.Systems.{variables, variables_of, all_variables, all_rules, IsVariable, IsProjectedEquilibrium, heads_into, AcceptsWith, IsAcceptedPart, acting_at, applicable}
 use Rattle.mcs_laws.specs.Laws.{SelfSupportHasTwo, AgainstItselfHasNone}
 use Rattle.mcs_laws.specs.Examples.{p, p_of_0, empty_context, self_support, against_itself}
 use Rattle.mcs_laws.proofs.Projections.{parts_of, from_parts}
+use Rattle.mcs_base.proofs.Ranges.{zero_or_one}
 
 -- what the definitions compute to
 variables-self : variables self_support ≡ p_of_0 ∷ []
@@ -36,11 +36,7 @@ acting-self-0 : acting_at self_support 0 (all_rules self_support) 0 ≡ 0
 unfolding applicable variables such_that union single common has
 acting-self-0 = refl
 
-has_one_of_1 : (v : ℕ) → has 1 v ≡ true → v ≡ 0
-has_one_of_1 zero e = refl
-has_one_of_1 (suc v) e = absurd (true≢false (sym e ∙ has_above 1 1 (suc v) (omega arith) (omega arith)))
-
-has-1 : has 1 0 ≡ true
+pub has-1 : has 1 0 ≡ true
 unfolding has
 has-1 = refl
 
@@ -48,13 +44,8 @@ has-1 = refl
 p_follows : Entails (p ∷ []) p
 p_follows a h = (and_parts _ _ h).0
 
-p_is_open : ¬ Entails [] p
+pub p_is_open : ¬ Entails [] p
 p_is_open follows = true≢false (sym (follows [] refl))
-
-zero_or_one : (σ : ℕ) → σ ≤ 1 → IsAmong σ (1 ∷ 0 ∷ [])
-zero_or_one zero small = inr (inl refl)
-zero_or_one (suc zero) small = inl refl
-zero_or_one (suc (suc σ)) small = absurd (omega arith)
 
 only_variable : (v : ℕ) (r : Read) → IsVariable self_support v r → (v ≡ 0) × (r ≡ p_of_0)
 unfolding variables
@@ -65,11 +56,11 @@ first_variable : IsVariable self_support 0 p_of_0
 unfolding variables
 first_variable = refl
 
-full : IsProjected self_support (all_rules self_support) 0 1
+full : IsProjectedEquilibrium self_support (all_rules self_support) 0 1
 full = from_parts self_support _ 0 1 (λ k h. rw all_variables-self h) part
   where
     to : (v : ℕ) → has (common 1 1) v ≡ true → (r : Read) × IsVariable self_support v r × (r.context ≡ 0) × Entails (p ∷ []) r.belief
-    to v member = let is : v ≡ 0 = has_one_of_1 v (and_parts _ _ (sym (has-common 1 1 v) ∙ member)).0 in
+    to v member = let small : v < 1 = members_below 1 1 v (omega arith) (and_parts _ _ (sym (has-common 1 1 v) ∙ member)).0 in let is : v ≡ 0 = omega arith in
         (p_of_0, ap (slice_get (variables self_support)) is ∙ first_variable, refl, p_follows)
 
     from : (v : ℕ) → (r : Read) → IsVariable self_support v r → has (common 1 1) v ≡ true
@@ -86,7 +77,7 @@ full = from_parts self_support _ 0 1 (λ k h. rw all_variables-self h) part
     part zero less = rw (acting-self-1, variables_of-self) at_0
     part (suc i) less = absurd (omega arith)
 
-none : IsProjected self_support (all_rules self_support) 0 0
+none : IsProjectedEquilibrium self_support (all_rules self_support) 0 0
 none = from_parts self_support _ 0 0 (λ k h. absurd (true≢false (sym h ∙ has-empty k))) part
   where
     to : (v : ℕ) → has (common 0 1) v ≡ true → (r : Read) × IsVariable self_support v r × (r.context ≡ 0) × Entails [] r.belief
@@ -116,11 +107,11 @@ self_support_has_two = record {
 }
 
 -- ---- the rule against its own context
-all_variables-against : all_variables against_itself ≡ 1
+pub all_variables-against : all_variables against_itself ≡ 1
 unfolding variables such_that union single
 all_variables-against = refl
 
-variables_of-against : variables_of against_itself 0 ≡ 1
+pub variables_of-against : variables_of against_itself 0 ≡ 1
 unfolding variables_of variables such_that union single
 variables_of-against = refl
 
@@ -132,11 +123,11 @@ acting-against-0 : acting_at against_itself 0 (all_rules against_itself) 0 ≡ 1
 unfolding applicable variables such_that union single common has
 acting-against-0 = refl
 
-first_against : IsVariable against_itself 0 p_of_0
+pub first_against : IsVariable against_itself 0 p_of_0
 unfolding variables
 first_against = refl
 
-only_against : (v : ℕ) (r : Read) → IsVariable against_itself v r → (v ≡ 0) × (r ≡ p_of_0)
+pub only_against : (v : ℕ) (r : Read) → IsVariable against_itself v r → (v ≡ 0) × (r ≡ p_of_0)
 unfolding variables
 only_against zero r is = (refl, cc)
 only_against (suc v) r is = cc
@@ -154,7 +145,7 @@ heads-0 : heads_into against_itself 0 0 ≡ []
 heads-0 = rw (has-empty 0) refl
 
 -- where the rule acts p is believed, so it does not apply
-acts_and_may_not : IsAcceptedPart against_itself 0 1 (common 0 1) → ⊥
+pub acts_and_may_not : IsAcceptedPart against_itself 0 1 (common 0 1) → ⊥
 acts_and_may_not a =
     let (e, is, same) = accepted_theory 1 a.belief a.accepted in
     let same' : SameModels e (p ∷ []) = rw heads-1 at same in
@@ -163,7 +154,7 @@ acts_and_may_not a =
     true≢false (sym (and_parts _ _ (sym (has-common 0 1 0) ∙ member)).0 ∙ has-empty 0)
 
 -- where it does not act p is not believed, so it applies
-rests_and_must_act : IsAcceptedPart against_itself 0 0 (common 1 1) → ⊥
+pub rests_and_must_act : IsAcceptedPart against_itself 0 0 (common 1 1) → ⊥
 rests_and_must_act a =
     let (e, is, same) = accepted_theory 0 a.belief a.accepted in
     let same' : SameModels e [] = rw heads-0 at same in
@@ -174,12 +165,12 @@ rests_and_must_act a =
 
 pub against_itself_has_none : AgainstItselfHasNone
 against_itself_has_none σ at = elim (zero_or_one σ (rw all_variables-against at (Within-le σ _ (parts_of against_itself _ 0 σ at).0))) [
-  | inl e ↦ rests_and_must_act (rw (acting-against-1, variables_of-against) at (part 1 (subst (IsProjected against_itself (all_rules against_itself) 0) e at)))
+  | inl e ↦ rests_and_must_act (rw (acting-against-1, variables_of-against) at (part 1 (subst (IsProjectedEquilibrium against_itself (all_rules against_itself) 0) e at)))
   | inr rest ↦ elim rest [
-    | inl e ↦ acts_and_may_not (rw (acting-against-0, variables_of-against) at (part 0 (subst (IsProjected against_itself (all_rules against_itself) 0) e at)))
+    | inl e ↦ acts_and_may_not (rw (acting-against-0, variables_of-against) at (part 0 (subst (IsProjectedEquilibrium against_itself (all_rules against_itself) 0) e at)))
     | inr rest' ↦ absurd rest'
   ]
 ]
   where
-    part : (τ : ℕ) → IsProjected against_itself (all_rules against_itself) 0 τ → IsAcceptedPart against_itself 0 (acting_at against_itself τ (all_rules against_itself) 0) (common τ (variables_of against_itself 0))
+    part : (τ : ℕ) → IsProjectedEquilibrium against_itself (all_rules against_itself) 0 τ → IsAcceptedPart against_itself 0 (acting_at against_itself τ (all_rules against_itself) 0) (common τ (variables_of against_itself 0))
     part τ h = (parts_of against_itself _ 0 τ h).1 0 (omega arith)

@@ -1,37 +1,47 @@
 -- What the definitions have in common with the literature: each is the contract of a function of `laws`.
-use Rattle.std.specs.Prelude.{◌≡◌, ℕ, ◌+◌, ◌^◌, IsTrue, ◌++◌, ◌<◌, ◌≤◌, List, [], ◌∷◌, ◌↔◌, slice_get, Some, ◌⊎◌, length}
-use Rattle.mcs_sets.specs.Sets.{has, size, common, Within}
+use Rattle.std.specs.Prelude.{◌≡◌, ℕ, ◌+◌, ◌^◌, IsTrue, ◌++◌, ◌<◌, ◌≤◌, List, [], ◌∷◌, ◌↔◌, map, slice_get, Some, ◌⊎◌, length}
+use Rattle.mcs_sets.specs.Sets.{has, size, common, minus, Within, Meets}
 use Rattle.mcs_sets.specs.Orders.{StateBefore, PairBefore}
 use Rattle.std.specs.List.{AllByRecursion}
-use Rattle.mcs_system.specs.Rows.{IsRow, FitTogether, HasParts}
-use Rattle.mcs_system.specs.Imports.{IsQuestion, rules_into}
-use Rattle.mcs_system.specs.Plain.{Name, Formula, Classical, Context, System}
-use Rattle.mcs_system.specs.Logic.{is_in, atoms, all_atoms, true_names, holds, holds_all, Entails, BeliefSet, IsAnswerSet, IsExtension, IsClassical}
-use Rattle.mcs_system.specs.Systems.{heads_into, Follows, IsConsistent, IsProjection, IsProjected, IsAcceptedPart, acting_at, variables_of, all_variables, all_rules}
-use Rattle.mcs_laws.specs.Examples.{self_support, against_itself, a_or_b, name_a, name_b, birds, bird, flies}
+use Rattle.mcs_system.specs.Rows.{IsRow, AgreeOnCommon, HasParts, local_of}
+use Rattle.mcs_system.specs.Imports.{IsQuestion, rules_into, marks_at}
+use Rattle.mcs_system.specs.Levels.{IsCount, IsNeed, IsLocalRow}
+use Rattle.mcs_system.specs.Views.{IsAcceptedView, beliefs_at, at_places}
+use Rattle.mcs_system.specs.Faults.{IsValid}
+use Rattle.mcs_base.specs.Pairs.{removed_of, forced_of}
+use Rattle.mcs_base.specs.Transversals.{IsTransversalOf}
+use Rattle.mcs_system.specs.Plain.{Name, Formula, Atom, Not, ProgramRule, Item, Classical, DefaultTheory, Program, Context, System}
+use Rattle.mcs_system.specs.Logic.{is_in, atoms, all_atoms, true_names, holds, holds_all, Entails, BeliefSet, Theory, Atoms, Accepts, with_heads, IsAnswerSet, IsExtension, IsClassical}
+use Rattle.mcs_system.specs.Systems.{heads_into, Follows, IsConsistent, IsProjection, IsProjectedEquilibrium, IsAcceptedPart, acting_at, variables_of, all_variables, all_rules}
+use Rattle.mcs_laws.specs.Examples.{SameNames, self_support, against_itself, one_reads_other, told_paradox, p, q, a_or_b, a_unless_b, a_unless_a, a_if_a, b_if_a, name_a, name_b, birds, bird, flies, p_by_itself, p_by_default, p_or_q}
 use Rattle.mcs_base.specs.Minimal.{IsMinimal}
-use Rattle.mcs_system.specs.Repairs.{IsDiagnosis, IsExplanation, IsTransversal, IsChoice, choice_marks}
+use Rattle.mcs_system.specs.Repairs.{all_marks, allowed_marks, IsDiagnosis, IsExplanation, IsChoice, choice_marks}
 use Rattle.mcs_base.specs.Listings.{IsListing}
 
 -- the projected equilibria have at most one listing
 abbrev pub StatesHaveOneListing : Type 0
-StatesHaveOneListing = (m : System) (r1 r2 : ℕ) (xs ys : List ℕ) → IsListing (IsProjected m r1 r2) StateBefore xs → IsListing (IsProjected m r1 r2) StateBefore ys → xs ≡ ys
+StatesHaveOneListing = (m : System) (r1 r2 : ℕ) (xs ys : List ℕ) → IsListing (IsProjectedEquilibrium m r1 r2) StateBefore xs → IsListing (IsProjectedEquilibrium m r1 r2) StateBefore ys → xs ≡ ys
 
 abbrev pub DiagnosesHaveOneListing : Type 0
 DiagnosesHaveOneListing = (m : System) (xs ys : List ℕ) → IsListing (IsMinimal (IsDiagnosis m)) PairBefore xs → IsListing (IsMinimal (IsDiagnosis m)) PairBefore ys → xs ≡ ys
 
 -- an explanation is what meets each diagnosis
-abbrev pub ExplanationsAreTransversals : Type 0
-ExplanationsAreTransversals = (m : System) (pair : ℕ) → IsExplanation m pair ↔ IsTransversal m (IsDiagnosis m) pair
+abbrev pub ExplanationsMeetDiagnoses : Type 0
+ExplanationsMeetDiagnoses = (m : System) (pair : ℕ) → IsExplanation m pair ↔ (Within pair (all_marks m) × ((e : ℕ) → IsDiagnosis m e → Meets pair e))
 
--- the minimal explanations are the minimal transversals of the minimal diagnoses
+-- the minimal explanations are the minimal transversals of the listing of the minimal diagnoses
 abbrev pub MinimalExplanationsAreMinimalTransversals : Type 0
-MinimalExplanationsAreMinimalTransversals = (m : System) (pair : ℕ) → IsMinimal (IsExplanation m) pair ↔ IsMinimal (IsTransversal m (IsMinimal (IsDiagnosis m))) pair
+MinimalExplanationsAreMinimalTransversals = (m : System) (ds : List ℕ) (pair : ℕ) → IsListing (IsMinimal (IsDiagnosis m)) PairBefore ds
+    → IsMinimal (IsExplanation m) pair ↔ IsMinimal (IsTransversalOf ds) pair
+
+-- where no pair is a diagnosis, the empty pair is the one minimal explanation
+abbrev pub WithoutDiagnosesNothingExplains : Type 0
+WithoutDiagnosesNothingExplains = (m : System) → ((e : ℕ) → ¬ IsDiagnosis m e) → (pair : ℕ) → IsMinimal (IsExplanation m) pair ↔ (pair ≡ 0)
 
 -- an equilibrium, as far as variables show it, is what the contexts accept one by one
 abbrev pub EquilibriaAreByParts : Type 0
 EquilibriaAreByParts = (m : System) (r1 r2 σ : ℕ)
-    → IsProjected m r1 r2 σ ↔ (Within σ (all_variables m) × ((i : ℕ) → i < length m.contexts → IsAcceptedPart m i (acting_at m σ r1 r2) (common σ (variables_of m i))))
+    → IsProjectedEquilibrium m r1 r2 σ ↔ (Within σ (all_variables m) × ((i : ℕ) → i < length m.contexts → IsAcceptedPart m i (acting_at m σ r1 r2) (common σ (variables_of m i))))
 
 -- whether a formula follows is decided
 abbrev pub ConsequenceIsDecided : Type 0
@@ -56,29 +66,49 @@ ClassicalContextsAcceptWhatFollows = (m : System) (i x τ : ℕ) (c : Context) (
 
 -- the projected equilibria of a system of classical contexts have a listing
 abbrev pub ClassicalStatesHaveAListing : Type 0
-ClassicalStatesHaveAListing = (m : System) (r1 r2 : ℕ) → AllByRecursion (λ (c : Context). IsClassical c.kb) m.contexts → (xs : List ℕ) × IsListing (IsProjected m r1 r2) StateBefore xs
+ClassicalStatesHaveAListing = (m : System) (r1 r2 : ℕ) → AllByRecursion (λ (c : Context). IsClassical c.kb) m.contexts → (xs : List ℕ) × IsListing (IsProjectedEquilibrium m r1 r2) StateBefore xs
 
 -- the verdict says that there is an equilibrium exactly where there is one
 abbrev pub ConsistencyIsListed : Type 0
-ConsistencyIsListed = (m : System) (xs : List ℕ) → IsListing (IsProjected m (all_rules m) 0) StateBefore xs → IsConsistent m ↔ (0 < length xs)
+ConsistencyIsListed = (m : System) (xs : List ℕ) → IsListing (IsProjectedEquilibrium m (all_rules m) 0) StateBefore xs → IsConsistent m ↔ (0 < length xs)
 
 -- a positive cycle may support itself: exactly the two states, the one that holds the variable first
 abbrev pub SelfSupportHasTwo : Type 0
-SelfSupportHasTwo = IsListing (IsProjected self_support (all_rules self_support) 0) StateBefore (1 ∷ 0 ∷ [])
+SelfSupportHasTwo = IsListing (IsProjectedEquilibrium self_support (all_rules self_support) 0) StateBefore (1 ∷ 0 ∷ [])
 
 abbrev pub AgainstItselfHasNone : Type 0
-AgainstItselfHasNone = (σ : ℕ) → ¬ IsProjected against_itself (all_rules against_itself) 0 σ
+AgainstItselfHasNone = (σ : ℕ) → ¬ IsProjectedEquilibrium against_itself (all_rules against_itself) 0 σ
 
--- each choice is a diagnosis by its marks, and each minimal diagnosis is that of a choice
+-- what a program without answer sets needs, where a rule that always applies goes into it: it is asked with the rule and
+-- without it, for one mark is allowed, and without marks it would be asked with it alone
+abbrev pub NeedIsOfAllRules : Type 0
+NeedIsOfAllRules = IsNeed told_paradox 2 × IsCount told_paradox 0 1
+
+-- where a rule goes against its own context, this has no row without marks, and one where the rule is removed
+abbrev pub RowsHaveFewMarks : Type 0
+RowsHaveFewMarks = ((state marks : ℕ) → ¬ IsLocalRow against_itself 0 0 state marks) × IsLocalRow against_itself 1 0 0 1
+
+-- a context that reads p of another one has no row with it, where the other one, which comes first, does not believe it
+abbrev pub RowsKeepToSupplies : Type 0
+RowsKeepToSupplies = (marks : ℕ) → ¬ IsRow one_reads_other (0 ∷ 1 ∷ []) 0 1 1 marks
+
+-- each choice is a diagnosis by its marks
 abbrev pub ChoicesAreDiagnoses : Type 0
 ChoicesAreDiagnoses = (m : System) (σ x : ℕ) → IsChoice m σ x → IsDiagnosis m (choice_marks m σ x)
 
-abbrev pub MinimalDiagnosesAreChoices : Type 0
-MinimalDiagnosesAreChoices = (m : System) (pair : ℕ) → IsMinimal (IsDiagnosis m) pair → (σ : ℕ) × (x : ℕ) × IsChoice m σ x × (choice_marks m σ x ≡ pair)
+-- a state of the system that a pair changes makes a choice with the rules that act in it
+abbrev pub ChangedStatesAreChoices : Type 0
+ChangedStatesAreChoices = (m : System) (pair σ : ℕ) → Within pair (allowed_marks m) → IsProjectedEquilibrium m (minus (all_rules m) (removed_of pair)) (forced_of pair) σ
+    → IsChoice m σ (acting_at m σ (minus (all_rules m) (removed_of pair)) (forced_of pair))
+
+-- in each state of the system that it changes, a minimal diagnosis is the difference between the rules that apply and those that act
+abbrev pub MinimalDiagnosesAreDifferences : Type 0
+MinimalDiagnosesAreDifferences = (m : System) (pair σ : ℕ) → IsMinimal (IsDiagnosis m) pair → IsProjectedEquilibrium m (minus (all_rules m) (removed_of pair)) (forced_of pair) σ
+    → choice_marks m σ (acting_at m σ (minus (all_rules m) (removed_of pair)) (forced_of pair)) ≡ pair
 
 -- a consistent system has the empty pair as its one minimal diagnosis, and no explanation
 abbrev pub ConsistentNeedsNothing : Type 0
-ConsistentNeedsNothing = (m : System) (σ : ℕ) → IsProjected m (all_rules m) 0 σ → ((pair : ℕ) → IsMinimal (IsDiagnosis m) pair ↔ (pair ≡ 0)) × ((pair : ℕ) → ¬ IsExplanation m pair)
+ConsistentNeedsNothing = (m : System) (σ : ℕ) → IsProjectedEquilibrium m (all_rules m) 0 σ → ((pair : ℕ) → IsMinimal (IsDiagnosis m) pair ↔ (pair ≡ 0)) × ((pair : ℕ) → ¬ IsExplanation m pair)
 
 -- each belief state has exactly one projection
 abbrev pub StatesHaveOneProjection : Type 0
@@ -107,5 +137,66 @@ ChoicesAskQuestions = (m : System) (order : List ℕ) (level σ x i : ℕ) → A
 -- rows that fit together, one of each context, are the parts of a choice
 abbrev pub RowsMakeChoices : Type 0
 RowsMakeChoices = (m : System) (order : List ℕ) (level : ℕ) (rows : List (ℕ × ℕ)) → length rows ≡ length m.contexts
-    → ((i : ℕ) (p : ℕ × ℕ) → slice_get rows i ≡ Some p → IsRow m order level i p.0 p.1) → FitTogether m rows
+    → ((i : ℕ) (p : ℕ × ℕ) → slice_get rows i ≡ Some p → IsRow m order level i p.0 p.1) → AgreeOnCommon m rows
     → (σ : ℕ) × (x : ℕ) × IsChoice m σ x × HasParts m σ x rows
+
+-- a choice with few marks has a row of each context
+abbrev pub ChoicesHaveRows : Type 0
+ChoicesHaveRows = (m : System) (order : List ℕ) (level σ x i : ℕ) → AllByRecursion (λ c. c < length m.contexts) order → IsChoice m σ x → size (choice_marks m σ x) ≤ level
+    → i < length m.contexts → IsRow m order level i (common σ (local_of m i)) (marks_at m i σ (common x (rules_into m i)))
+
+-- the marks of a choice are those at the contexts
+abbrev pub MarksAreUnited : Type 0
+MarksAreUnited = (m : System) (σ x k : ℕ) → IsValid m → Within x (all_rules m)
+    → IsTrue (has (choice_marks m σ x) k) ↔ ((i : ℕ) × (i < length m.contexts) × IsTrue (has (marks_at m i σ (common x (rules_into m i))) k))
+
+-- and no mark is one at two contexts
+abbrev pub MarksAreApart : Type 0
+MarksAreApart = (m : System) (σ τ x y i j : ℕ) → Within x (rules_into m i) → Within y (rules_into m j) → ¬ (i ≡ j) → ¬ Meets (marks_at m i σ x) (marks_at m j τ y)
+
+-- ---- views
+-- what a context accepts with the heads of some rules, through its variables, is what its knowledge base accepts through their beliefs
+abbrev pub PartsAreViews : Type 0
+PartsAreViews = (m : System) (i x τ : ℕ) (c : Context) → slice_get m.contexts i ≡ Some c
+    → IsAcceptedPart m i x τ ↔ ((places : ℕ) × IsAcceptedView (with_heads c.kb (heads_into m i x)) (beliefs_at m (variables_of m i)) places × (τ ≡ at_places (variables_of m i) places))
+
+-- so the listing of the views gives the listing of the parts
+abbrev pub ViewListingsGivePartListings : Type 0
+ViewListingsGivePartListings = (m : System) (i x : ℕ) (c : Context) (views : List ℕ) → slice_get m.contexts i ≡ Some c
+    → IsListing (IsAcceptedView (with_heads c.kb (heads_into m i x)) (beliefs_at m (variables_of m i))) StateBefore views
+    → IsListing (IsAcceptedPart m i x) StateBefore (map (at_places (variables_of m i)) views)
+
+-- ---- worked contexts
+-- a :- not b. has the answer set {a} alone
+abbrev pub NegationAllows : Type 0
+NegationAllows = (names : List Name) → IsAnswerSet a_unless_b names ↔ SameNames names (name_a ∷ [])
+
+-- a :- not a. has none
+abbrev pub NegationUndoes : Type 0
+NegationUndoes = (names : List Name) → ¬ IsAnswerSet a_unless_a names
+
+-- a :- a. has the empty one alone
+abbrev pub ProgramsDoNotSupportThemselves : Type 0
+ProgramsDoNotSupportThemselves = (names : List Name) → IsAnswerSet a_if_a names ↔ SameNames names []
+
+-- b :- a. with the head a added has {a, b} alone
+abbrev pub HeadsAreFacts : Type 0
+HeadsAreFacts = (b : BeliefSet) → Accepts (with_heads (Program b_if_a) (Atom name_a ∷ [])) b ↔ ((names : List Name) × (b ≡ Atoms names) × SameNames names (name_a ∷ name_b ∷ []))
+
+-- p : p / p. has the extension of nothing, and not that of p
+abbrev pub DefaultsAreGrounded : Type 0
+DefaultsAreGrounded = IsExtension p_by_itself [] × (¬ IsExtension p_by_itself (p ∷ []))
+
+-- two defaults, each of whose conclusions is against the other's justification, have an extension each
+abbrev pub DefaultsMayChoose : Type 0
+DefaultsMayChoose = IsExtension p_or_q (p ∷ []) × IsExtension p_or_q (q ∷ []) × (¬ IsExtension p_or_q (p ∷ q ∷ []))
+
+-- a default does not act against a fact that is told
+abbrev pub ToldFactsBlock : Type 0
+ToldFactsBlock = ¬ Accepts (with_heads (DefaultTheory p_by_default) (Not p ∷ [])) (Theory (Not p ∷ p ∷ []))
+
+-- each kind accepts belief sets of its own sort
+abbrev pub KindsAcceptTheirSort : Type 0
+KindsAcceptTheirSort = ((formulas : List Formula) (names : List Name) → ¬ Accepts (Classical formulas) (Atoms names))
+    × ((items : List Item) (names : List Name) → ¬ Accepts (DefaultTheory items) (Atoms names))
+    × ((rules : List ProgramRule) (formulas : List Formula) → ¬ Accepts (Program rules) (Theory formulas))

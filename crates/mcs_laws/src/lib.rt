@@ -1,7 +1,7 @@
 //! Laws over the definitions of multi-context systems. The functions do nothing: each contract is a law.
 #![tactic(auto)]
 
-ghost use Rattle.mcs_laws.specs.Laws.{StatesHaveOneListing, DiagnosesHaveOneListing, ExplanationsAreTransversals, MinimalExplanationsAreMinimalTransversals, EquilibriaAreByParts, ConsequenceIsDecided, SelfSupportHasTwo, AgainstItselfHasNone, ChoicesAreDiagnoses, MinimalDiagnosesAreChoices, ConsistentNeedsNothing, StatesHaveOneProjection, MinimalDiagnosesAreSmall, QuestionsGrow, RowsMakeChoices, ChoicesAskQuestions, DisjunctionChooses, BirdFlies, TablesDecide, ClassicalContextsAcceptWhatFollows, ClassicalStatesHaveAListing, ConsistencyIsListed};
+ghost use Rattle.mcs_laws.specs.Laws.{StatesHaveOneListing, DiagnosesHaveOneListing, WithoutDiagnosesNothingExplains, ChangedStatesAreChoices, MinimalDiagnosesAreDifferences, ExplanationsMeetDiagnoses, MinimalExplanationsAreMinimalTransversals, EquilibriaAreByParts, ConsequenceIsDecided, SelfSupportHasTwo, AgainstItselfHasNone, NeedIsOfAllRules, RowsHaveFewMarks, RowsKeepToSupplies, ChoicesAreDiagnoses, ConsistentNeedsNothing, StatesHaveOneProjection, MinimalDiagnosesAreSmall, QuestionsGrow, RowsMakeChoices, ChoicesAskQuestions, ChoicesHaveRows, MarksAreUnited, MarksAreApart, PartsAreViews, ViewListingsGivePartListings, NegationAllows, NegationUndoes, ProgramsDoNotSupportThemselves, HeadsAreFacts, DefaultsAreGrounded, DefaultsMayChoose, ToldFactsBlock, KindsAcceptTheirSort, DisjunctionChooses, BirdFlies, TablesDecide, ClassicalContextsAcceptWhatFollows, ClassicalStatesHaveAListing, ConsistencyIsListed};
 
 /// Of a property of states, or of pairs, there is at most one listing.
 pub fn listings_are_unique()
@@ -10,10 +10,12 @@ pub fn listings_are_unique()
 {}
 
 /// An explanation is what meets each diagnosis, and the minimal explanations are the minimal transversals of
-/// the minimal diagnoses (Eiter, Fink, Schüller & Weinzierl 2014).
+/// the minimal diagnoses (Eiter, Fink, Schüller & Weinzierl 2014); where there is no diagnosis, the empty pair is the
+/// one minimal explanation.
 pub fn explanations_are_transversals()
-    ensures all { ExplanationsAreTransversals }
+    ensures all { ExplanationsMeetDiagnoses }
     ensures minimal { MinimalExplanationsAreMinimalTransversals }
+    ensures without { WithoutDiagnosesNothingExplains }
 {}
 
 /// An equilibrium, as far as variables show it, is what the contexts accept one by one.
@@ -48,11 +50,21 @@ pub fn tiny_systems()
     ensures none { AgainstItselfHasNone }
 {}
 
-/// Each choice of what the contexts accept is a diagnosis by its marks, and each minimal diagnosis is that of a
-/// choice; a consistent system needs none.
+/// What tiny systems need and have by levels: without equilibria the level of all rules counts, rows have no more
+/// marks than their level, and keep to what earlier contexts may supply.
+pub fn tiny_levels()
+    ensures need { NeedIsOfAllRules }
+    ensures few { RowsHaveFewMarks }
+    ensures supplies { RowsKeepToSupplies }
+{}
+
+/// Each choice of what the contexts accept is a diagnosis by its marks; each state of a changed system makes a
+/// choice, and a minimal diagnosis is the difference in each state of its changed system; a consistent system
+/// needs none.
 pub fn diagnoses_are_choices()
     ensures all { ChoicesAreDiagnoses }
-    ensures minimal { MinimalDiagnosesAreChoices }
+    ensures states { ChangedStatesAreChoices }
+    ensures minimal { MinimalDiagnosesAreDifferences }
     ensures consistent { ConsistentNeedsNothing }
 {}
 
@@ -69,5 +81,39 @@ pub fn questions_by_level()
     ensures small { MinimalDiagnosesAreSmall }
     ensures grow { QuestionsGrow }
     ensures ask { ChoicesAskQuestions }
+    ensures have { ChoicesHaveRows }
     ensures rows { RowsMakeChoices }
+{}
+
+/// The marks of a choice are those at the contexts, and no mark is one at two contexts.
+pub fn marks_are_of_contexts()
+    ensures united { MarksAreUnited }
+    ensures apart { MarksAreApart }
+{}
+
+/// What a context accepts, through its variables, is what its knowledge base with the heads accepts through their
+/// beliefs; and the listing of the one gives the listing of the other.
+pub fn parts_are_views()
+    ensures each { PartsAreViews }
+    ensures listings { ViewListingsGivePartListings }
+{}
+
+/// Worked programs: negation allows and undoes, nothing supports itself, and the heads that are added are facts.
+pub fn worked_programs()
+    ensures allows { NegationAllows }
+    ensures undoes { NegationUndoes }
+    ensures unsupported { ProgramsDoNotSupportThemselves }
+    ensures heads { HeadsAreFacts }
+{}
+
+/// Worked default theories: extensions are grounded, contrary defaults choose, and what is told blocks a default.
+pub fn worked_default_theories()
+    ensures grounded { DefaultsAreGrounded }
+    ensures choose { DefaultsMayChoose }
+    ensures blocked { ToldFactsBlock }
+{}
+
+/// Each kind of knowledge base accepts belief sets of its own sort alone.
+pub fn kinds_accept_their_sort()
+    ensures { KindsAcceptTheirSort }
 {}

@@ -1,5 +1,5 @@
 use Rattle.std.proofs.Common.{inl, inr, sym, ◌∙◌, true≢false}
-use Rattle.mcs_laws.proofs.Deciding.{decide}
+use Rattle.mcs_system.proofs.Deciding.{decide}
 use Rattle.mcs_laws.proofs.consequence_is_decided.Goals as goal
 
 pub returns : goal.returns

@@ -1,4 +1,4 @@
-use Rattle.mcs_laws.proofs.Tables.{table_decides}
+use Rattle.mcs_system.proofs.Tables.{table_decides}
 use Rattle.mcs_laws.proofs.tables_decide.Goals as goal
 
 pub returns : goal.returns

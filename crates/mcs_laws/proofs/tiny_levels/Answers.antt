@@ -1,0 +1,6 @@
+use Rattle.mcs_laws.proofs.Need.{need_of_all_rules}
+use Rattle.mcs_laws.proofs.Rows.{rows_have_few_marks, rows_keep_to_supplies}
+use Rattle.mcs_laws.proofs.tiny_levels.Goals as goal
+
+pub returns : goal.returns
+returns c = record { need = need_of_all_rules; few = rows_have_few_marks; supplies = rows_keep_to_supplies }
