@@ -1,15 +1,17 @@
 -- An assignment of variables, read as a set of places of atoms, refutes that a formula follows.
-use Rattle.std.proofs.Common.{◌≡◌, ℕ, ◌+◌, ◌-◌, ◌<◌, ◌≤◌, zero, suc, Bool, true, false, not, ◌&&◌, ◌||◌, ltb, cond, List, [], ◌∷◌, ◌++◌, IsTrue, length, get_or, take, arith, refl, sym, ap, ◌∙◌, subst, true≢false, ℤ}
-use Rattle.std.proofs.lemmas.Bool.{and_parts}
+use Rattle.std.proofs.Common.{◌≡◌, ℕ, ◌+◌, ◌-◌, ◌<◌, ◌≤◌, zero, suc, Bool, true, false, ◌&&◌, ◌||◌, ltb, cond, List, [], ◌∷◌, length, get_or, take, arith, refl, sym, ap, ◌∙◌, subst, true≢false, ℤ}
+use Rattle.std.proofs.lemmas.Bool.{and_parts, or_parts}
 use Rattle.std.proofs.lemmas.Bool.Decides.{nat_tests}
 use Rattle.std.specs.List.{AllByRecursion}
+use Rattle.std.proofs.Math.Seq.{take-append_seam}
 use Rattle.mcs_sets.specs.Sets.{has, such_that}
 use Rattle.mcs_sets.proofs.SetLemmas.{has-such_that}
+use Rattle.mcs_base.proofs.Each.{all_weaker}
 use Rattle.mcs_system.specs.Plain.{Name, Formula, Not}
-use Rattle.mcs_system.specs.Logic.{same_name, is_in, holds, holds_all, true_names}
+use Rattle.mcs_system.specs.Logic.{same_name, is_in, true_names}
 use Rattle.mcs_system.specs.Faults.{has_twins}
 use Rattle.mcs_system.proofs.Sameness.{same_name-is}
-use Rattle.mcs_trace.specs.Clauses.{IsClause, IsWithin, ClauseList, IsClauseList, all_hold}
+use Rattle.mcs_trace.specs.Clauses.{IsWithin, ClauseList, IsClauseList, all_hold}
 use Rattle.mcs_trace.specs.Traces.{Inference, IsAcceptedTrace}
 use Rattle.mcs_cnf.specs.ClauseLists.{atom_number, taken_by_all, list_clauses, with_formulas, clause_list, IsOver, AreOver}
 use Rattle.mcs_cnf.specs.Meaning.{Extends}
@@ -21,10 +23,6 @@ use Rattle.mcs_cnf.proofs.EntailmentLemmas.{over_with, parts_with}
 use Rattle.mcs_sat.specs.Answers.{assignment_of}
 
 -- ---- the names at places
-or_parts : (p q : Bool) → (p || q) ≡ false → (p ≡ false) × (q ≡ false)
-or_parts true q e = absurd (true≢false e)
-or_parts false q e = (refl, e)
-
 not_named : (n : Name) (k s : ℕ) (names : List Name) → is_in n names ≡ false → is_in n (true_names k names s) ≡ false
 not_named n k s [] none = refl
 not_named n k s (m ∷ names) none = let (other, none') = or_parts (same_name n m) (is_in n names) none in at (has s k) other (not_named n (k + 1) s names none')
@@ -57,30 +55,30 @@ named_at n k s j (m ∷ names) single known number =
         let e' : k + 1 + (j - 1) ≡ k + j = omega arith in
         skipped (has s k) other ∙ rest known some e ∙ ap (has s) e'
 
--- the places, below n, of the values that are true
-abbrev pub places : ℕ → List Bool → ℕ
-places n values = such_that n (λ k. get_or values k false)
+-- the places of the atoms whose values are true
+abbrev pub places : List Name → List Bool → ℕ
+places names values = such_that (length names) (λ k. get_or values k false)
 
-pub places_extend : (names : List Name) (values : List Bool) → has_twins names ≡ false → Extends names (true_names 0 names (places (length names) values)) (assignment_of values)
+pub places_extend : (names : List Name) (values : List Bool) → has_twins names ≡ false → Extends names (true_names 0 names (places names values)) (assignment_of values)
 places_extend names values single n known = at (atom_number names n) refl
   where
     s : ℕ
-    s = places (length names) values
+    s = places names values
 
-    at : (m : ℕ) → atom_number names n ≡ m → assignment_of values (atom_number names n) ≡ is_in n (true_names 0 names (places (length names) values))
+    at : (m : ℕ) → atom_number names n ≡ m → assignment_of values (atom_number names n) ≡ is_in n (true_names 0 names (places names values))
     at zero e = absurd (omega (arith, atom_positive names n))
     at (suc j) e =
         let number : atom_number names n ≡ j + 1 = omega arith in
         let less : ltb j (length names) ≡ true = let bound : j < length names = omega (arith, atom_within names n known) in grind (arith, nat_tests) in
         let z : j ≡ 0 + j = omega arith in
-        let member : has (places (length names) values) (0 + j) ≡ get_or values j false =
-        ap (has (places (length names) values)) (sym z) ∙ has-such_that (length names) (λ k. get_or values k false) j ∙ ap (λ b. b && get_or values j false) less in
-        ap (assignment_of values) e ∙ sym member ∙ sym (named_at n 0 (places (length names) values) j names single known number)
+        let member : has (places names values) (0 + j) ≡ get_or values j false =
+        ap (has (places names values)) (sym z) ∙ has-such_that (length names) (λ k. get_or values k false) j ∙ ap (λ b. b && get_or values j false) less in
+        ap (assignment_of values) e ∙ sym member ∙ sym (named_at n 0 (places names values) j names single known number)
 
 pub refuted : (fs : List Formula) (g : Formula) (names : List Name) (values : List Bool) → has_twins names ≡ false → AreOver names fs → IsOver names g
-    → all_hold (assignment_of values) (clause_list (with_negated fs g) names).clauses ≡ true → IsRefuted names fs g (places (length names) values)
+    → all_hold (assignment_of values) (clause_list names (with_negated fs g)).clauses ≡ true → IsRefuted names fs g (places names values)
 refuted fs g names values single over over' h =
-    let a : List Name = true_names 0 names (places (length names) values) in
+    let a : List Name = true_names 0 names (places names values) in
     let parts = parts_with a fs g (satisfied (with_negated fs g) names a (assignment_of values) (over_with names fs g over over') (places_extend names values single) h) in
     record {
       in_range = λ k member.
@@ -91,23 +89,14 @@ refuted fs g names values single over over' h =
     }
 
 -- ---- the goal's clauses after those of the formulas
-pub with_goal : (fs : List Formula) (g : Formula) (names : List Name) (known new : ClauseList) → known ≡ clause_list fs names → new ≡ with_formulas names known (Not g ∷ []) → new ≡ clause_list (with_negated fs g) names
+pub with_goal : (fs : List Formula) (g : Formula) (names : List Name) (known new : ClauseList) → known ≡ clause_list names fs → new ≡ with_formulas names known (Not g ∷ []) → new ≡ clause_list names (with_negated fs g)
 with_goal fs g names known new is pushed =
     pushed ∙ ap (λ (x : ClauseList). with_formulas names x (Not g ∷ [])) is ∙ with_append names (record { vars = length names; clauses = [] }) fs (Not g ∷ [])
 
--- and taken off again
-take_front : (cs ds : List (List ℤ)) → take (length cs) (cs ++ ds) ≡ cs
-take_front [] ds = refl
-take_front (c ∷ cs) ds = ap (λ xs. c ∷ xs) (take_front cs ds)
-
-all_within : (n : ℕ) (cs : List (List ℤ)) → AllByRecursion (λ c. IsClause c × IsWithin n c) cs → AllByRecursion (IsWithin n) cs
-all_within n [] all = tt
-all_within n (c ∷ cs) all = (all.0.1, all_within n cs all.1)
-
 pub cut_within : (known new : ClauseList) (names : List Name) (g : Formula) → IsClauseList known → new ≡ with_formulas names known (g ∷ []) → AllByRecursion (IsWithin known.vars) (take (length known.clauses) new.clauses)
 cut_within known new names g is pushed =
-    let e : take (length known.clauses) new.clauses ≡ known.clauses = ap (λ (x : ClauseList). take (length known.clauses) x.clauses) pushed ∙ take_front known.clauses (list_clauses names known.vars (g ∷ [])) in
-    subst (AllByRecursion (IsWithin known.vars)) (sym e) (all_within known.vars known.clauses is.1)
+    let e : take (length known.clauses) new.clauses ≡ known.clauses = ap (λ (x : ClauseList). take (length known.clauses) x.clauses) pushed ∙ take-append_seam known.clauses (list_clauses names known.vars (g ∷ [])) in
+    subst (AllByRecursion (IsWithin known.vars)) (sym e) (all_weaker _ (IsWithin known.vars) (λ c both. both.1) known.clauses is.1)
 
 pub cut_fewer : (known new : ClauseList) (names : List Name) (g : Formula) → new ≡ with_formulas names known (g ∷ []) → known.vars ≤ new.vars
 cut_fewer known new names g pushed =
@@ -117,18 +106,18 @@ abbrev list_of : ℕ → List (List ℤ) → ClauseList
 list_of n cs = record { vars = n; clauses = cs }
 
 pub cut_back : (known new : ClauseList) (names : List Name) (g : Formula) → new ≡ with_formulas names known (g ∷ []) → list_of known.vars (take (length known.clauses) new.clauses) ≡ known
-cut_back known new names g pushed = ap (list_of known.vars) (ap (λ (x : ClauseList). take (length known.clauses) x.clauses) pushed ∙ take_front known.clauses (list_clauses names known.vars (g ∷ [])))
+cut_back known new names g pushed = ap (list_of known.vars) (ap (λ (x : ClauseList). take (length known.clauses) x.clauses) pushed ∙ take-append_seam known.clauses (list_clauses names known.vars (g ∷ [])))
 
 -- ---- what the search answers
-pub answer_no : (fs : List Formula) (g : Formula) (names : List Name) (known new : ClauseList) (values read : List Bool) (s : ℕ) → known ≡ clause_list fs names → new ≡ with_formulas names known (Not g ∷ [])
-    → has_twins names ≡ false → AreOver names fs → IsOver names g → all_hold (assignment_of values) new.clauses ≡ true → read ≡ values → s ≡ places (length names) read → IsRefuted names fs g s
+pub answer_no : (fs : List Formula) (g : Formula) (names : List Name) (known new : ClauseList) (values read : List Bool) (s : ℕ) → known ≡ clause_list names fs → new ≡ with_formulas names known (Not g ∷ [])
+    → has_twins names ≡ false → AreOver names fs → IsOver names g → all_hold (assignment_of values) new.clauses ≡ true → read ≡ values → s ≡ places names read → IsRefuted names fs g s
 answer_no fs g names known new values read s is pushed single over over' h same e =
-    let all : all_hold (assignment_of values) (clause_list (with_negated fs g) names).clauses ≡ true = ap (λ (x : ClauseList). all_hold (assignment_of values) x.clauses) (sym (with_goal fs g names known new is pushed)) ∙ h in
-    subst (IsRefuted names fs g) (sym (e ∙ ap (places (length names)) same)) (refuted fs g names values single over over' all)
+    let all : all_hold (assignment_of values) (clause_list names (with_negated fs g)).clauses ≡ true = ap (λ (x : ClauseList). all_hold (assignment_of values) x.clauses) (sym (with_goal fs g names known new is pushed)) ∙ h in
+    subst (IsRefuted names fs g) (sym (e ∙ ap (places names) same)) (refuted fs g names values single over over' all)
 
-pub answer_yes : (fs : List Formula) (g : Formula) (names : List Name) (known new : ClauseList) (steps : List Inference) → known ≡ clause_list fs names → new ≡ with_formulas names known (Not g ∷ [])
-    → IsAcceptedTrace new.clauses steps → IsAcceptedTrace (clause_list (with_negated fs g) names).clauses steps
+pub answer_yes : (fs : List Formula) (g : Formula) (names : List Name) (known new : ClauseList) (steps : List Inference) → known ≡ clause_list names fs → new ≡ with_formulas names known (Not g ∷ [])
+    → IsAcceptedTrace new.clauses steps → IsAcceptedTrace (clause_list names (with_negated fs g)).clauses steps
 answer_yes fs g names known new steps is pushed accepted = subst (λ (x : ClauseList). IsAcceptedTrace x.clauses steps) (with_goal fs g names known new is pushed) accepted
 
-pub room_known : (names : List Name) (known : ClauseList) (fs : List Formula) → known ≡ clause_list fs names → length names ≤ known.vars
+pub room_known : (names : List Name) (known : ClauseList) (fs : List Formula) → known ≡ clause_list names fs → length names ≤ known.vars
 room_known names known fs is = let e : known.vars ≡ taken_by_all (length names) fs = ap (λ (x : ClauseList). x.vars) is in omega (arith, all_take_grow (length names) fs)

@@ -1,18 +1,23 @@
 //! What a classical context believes.
 
-ghost use Rattle.std.specs.Prelude.{◌≡◌, ◌<◌, ◌≤◌, ◌↔◌, ℕ, [], ◌∷◌, cond, false, length, map, IsTrue, IfOk};
-ghost use Rattle.mcs_sets.specs.Sets.{has, single, union};
+ghost use Rattle.std.specs.Prelude.{◌≡◌, ◌<◌, ◌≤◌, List, [], ◌∷◌, cond, false, length, map, IfOk};
+ghost use Rattle.mcs_sets.specs.Sets.{single, union};
+ghost use Rattle.mcs_sets.specs.Orders.{StateBefore};
+ghost use Rattle.mcs_base.specs.Listings.{IsListing};
 ghost use Rattle.mcs_system.specs.Faults.{has_twins};
+ghost use Rattle.mcs_system.specs.Plain.{Classical};
+ghost use Rattle.mcs_system.specs.Plain as plain;
 ghost use Rattle.mcs_system.specs.Seen.{formula_of};
-ghost use Rattle.mcs_cnf.specs.ClauseLists.{AreOver};
-ghost use Rattle.mcs_cnf.specs.Classical.{FollowsAt, IsAcceptedClassical, certificate_of};
+ghost use Rattle.mcs_system.specs.Views.{IsAcceptedView};
+ghost use Rattle.mcs_cnf.specs.ClauseLists.{clause_list, AreOver};
+ghost use Rattle.mcs_cnf.specs.Classical.{IsAcceptedClassical, certificate_of};
 ghost use Rattle.mcs_cnf.specs.Entailments.{entailment_of, says_yes};
 
 use crate::consequence::entails_from;
 use mcs_base::{Memory, Vars};
 use mcs_cnf::clauses;
 use mcs_system::{Formula, Name};
-use mcs_trace::{ClassicalCert, Entail};
+use mcs_trace::{ClassicalCert, Cnf, Entail};
 use std::alloc::Global;
 
 /// The state, with the number if the entailment says `yes`.
@@ -26,9 +31,9 @@ fn with_yes(state: Vars, number: u32, entail: &Entail) -> Vars
     }
 }
 
-/// The numbers of the beliefs that follow from the formulas, counted from 0, and what shows of each that it
-/// follows or not. All atoms are among these, at most 64, and there are at most 64 beliefs. The clauses of the
-/// formulas are made once.
+/// The one view that a classical context accepts of the beliefs: the numbers of those that follow from the formulas,
+/// counted from 0; and what shows of each that it follows or not. All atoms are among these, at most 64, and there are
+/// at most 64 beliefs. The clauses of the formulas are made once.
 pub fn outputs(
     alloc: Global,
     kb: &[Formula],
@@ -41,16 +46,40 @@ pub fn outputs(
     requires kb { AreOver atoms.now (map formula_of kb.now) }
     requires beliefs { AreOver atoms.now (map formula_of beliefs.now) }
     ensures exact { IfOk result
-        (λ r. (b : ℕ) → IsTrue (has r.0 b) ↔ FollowsAt (map formula_of kb.now) (map formula_of beliefs.now) b) }
+        (λ r. IsListing (IsAcceptedView (Classical (map formula_of kb.now)) (map formula_of beliefs.now)) StateBefore (r.0 ∷ [])) }
     ensures accepted { IfOk result
-        (λ r. IsAcceptedClassical (map formula_of kb.now) (map formula_of beliefs.now) atoms.now (r.0 ∷ [])
+        (λ r. IsAcceptedClassical atoms.now (map formula_of kb.now) (map formula_of beliefs.now) (r.0 ∷ [])
         (certificate_of r.1)) }
 {
     let mut known = clauses(alloc, kb, atoms)?;
+    let lent: Vec<&Formula> = beliefs.iter().collect(alloc)?;
+    outputs_from(alloc, &mut known, &lent, atoms)
+}
+
+/// The same of formulas whose clauses are `known`, and of beliefs that are lent one by one. The clauses of each belief are
+/// added for the search and taken off again, so that `known` is as before and serves for the next question, also where
+/// memory runs out.
+pub fn outputs_from(
+    alloc: Global,
+    known: &mut Cnf,
+    beliefs: &[&Formula],
+    atoms: &[Name],
+) -> Result<(Vars, ClassicalCert), Memory>
+    requires few { length atoms.now ≤ 64 }
+    requires few_beliefs { length beliefs.now ≤ 64 }
+    requires different { has_twins atoms.now ≡ false }
+    requires beliefs { AreOver atoms.now (map (λ b. formula_of b.now) beliefs.now) }
+    requires room { length atoms.now ≤ known.old.vars }
+    ensures kept { known.new ≡ known.old }
+    ensures exact { IfOk result (λ r. (fs : List plain.Formula) → known.old ≡ clause_list atoms.now fs → AreOver atoms.now fs
+        → IsListing (IsAcceptedView (Classical fs) (map (λ b. formula_of b.now) beliefs.now)) StateBefore (r.0 ∷ [])) }
+    ensures accepted { IfOk result (λ r. (fs : List plain.Formula) → known.old ≡ clause_list atoms.now fs → AreOver atoms.now fs
+        → IsAcceptedClassical atoms.now fs (map (λ b. formula_of b.now) beliefs.now) (r.0 ∷ []) (certificate_of r.1)) }
+{
     let mut state = Vars::empty();
     let mut entails = Vec::new(alloc);
     for (number, belief) in beliefs.iter().enumerate() {
-        let entail = entails_from(alloc, &mut known, belief, atoms)?;
+        let entail = entails_from(alloc, known, belief, atoms)?;
         state = with_yes(state, number as u32, &entail);
         entails.push(entail)?;
     }

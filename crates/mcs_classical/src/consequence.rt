@@ -19,7 +19,7 @@ use std::alloc::Global;
 /// Whether the goal follows from formulas whose clauses are `known`, with what shows it: a trace that refutes
 /// the formulas with the negated goal, or the places of the atoms that are true where the formulas hold and the
 /// goal does not. The goal's clauses are added for the search and taken off again, so that `known` is as before
-/// and serves for the next goal; where memory runs out it is of no more use.
+/// and serves for the next goal, also where memory runs out.
 pub fn entails_from(
     alloc: Global,
     known: &mut Cnf,
@@ -30,23 +30,23 @@ pub fn entails_from(
     requires different { has_twins atoms.now ≡ false }
     requires goal { IsOver atoms.now (formula_of goal.now) }
     requires room { length atoms.now ≤ known.old.vars }
-    ensures kept { OnOk result (known.new ≡ known.old) }
+    ensures kept { known.new ≡ known.old }
     ensures accepted { IfOk result
-        (λ e. (fs : List plain.Formula) → known.old ≡ clause_list fs atoms.now → AreOver atoms.now fs
+        (λ e. (fs : List plain.Formula) → known.old ≡ clause_list atoms.now fs → AreOver atoms.now fs
         → IsAcceptedEntailment atoms.now fs (formula_of goal.now) (entailment_of e)) }
     ensures exact { IfOk result
-        (λ e. (fs : List plain.Formula) → known.old ≡ clause_list fs atoms.now → AreOver atoms.now fs
+        (λ e. (fs : List plain.Formula) → known.old ≡ clause_list atoms.now fs → AreOver atoms.now fs
         → IsTrue (says_yes (entailment_of e)) ↔ Entails fs (formula_of goal.now)) }
 {
     let vars = known.vars();
     let count = known.clauses().len();
     push_negation(alloc, known, atoms, goal)?;
-    let entail = match solve(alloc, known)? {
+    let outcome = solve(alloc, known);
+    known.cut(vars, count);
+    Ok(match outcome? {
         Outcome::Refuted(trace) => Entail::Yes(trace),
         Outcome::Model(values) => Entail::No(true_places(&values, atoms.len()).number()),
-    };
-    known.cut(vars, count);
-    Ok(entail)
+    })
 }
 
 /// Whether the goal follows from the formulas, whose atoms and the goal's are among these, at most 64; with

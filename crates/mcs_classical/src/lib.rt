@@ -5,5 +5,5 @@ mod beliefs;
 mod consequence;
 mod refuting;
 
-pub use beliefs::outputs;
+pub use beliefs::{outputs, outputs_from};
 pub use consequence::{entails, entails_from};

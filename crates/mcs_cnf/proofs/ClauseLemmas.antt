@@ -1,13 +1,15 @@
 -- Clauses from literals in any order.
-use Rattle.std.proofs.Common.{◌≡◌, ℕ, ◌+◌, ◌<◌, ◌≤◌, Bool, true, false, ltb, eqb, cond, List, [], ◌∷◌, ◌++◌, ◌⊎◌, ◌↔◌, inl, inr, length, take, get_or, arith, refl, sym, ◌∙◌, subst, ℤ, pos}
+use Rattle.std.proofs.Common.{◌≡◌, ℕ, ◌+◌, ◌<◌, ◌≤◌, Bool, true, false, ltb, eqb, cond, List, [], ◌∷◌, ◌⊎◌, ◌↔◌, inl, inr, length, take, get_or, arith, refl, sym, ◌∙◌, subst, ℤ, pos}
 use Rattle.std.proofs.lemmas.Bool.Decides.{nat_tests}
-use Rattle.std.proofs.lemmas.List.{take_more, take_all}
+use Rattle.std.proofs.lemmas.List.{take_all, get_or_default}
 use Rattle.std.specs.List.{AllByRecursion}
 use Rattle.std.specs.Int.RustNames.{unsigned_abs}
 use Rattle.mcs_base.specs.Listings.{IsAscending, IsAmong, IsListing}
-use Rattle.mcs_base.proofs.ListingLemmas.{all_among, all_from_among, same_listing}
+use Rattle.mcs_base.proofs.ListingLemmas.{same_listing}
+use Rattle.mcs_base.proofs.Among.{among_at, among_take_more}
+use Rattle.mcs_base.proofs.Each.{all_among, all_from_among}
 use Rattle.mcs_trace.specs.Clauses.{IsLiteral, IsWithin, place, LiteralBefore}
-use Rattle.mcs_trace.proofs.OrderLemmas.{place-injective, before_asymmetric, among_get}
+use Rattle.mcs_trace.proofs.OrderLemmas.{place-injective, before_asymmetric}
 use Rattle.mcs_cnf.specs.ClauseLists.{with_literal, clause_of}
 
 -- ---- one more literal
@@ -88,30 +90,20 @@ pub all_clause : (P : ℤ → Type 0) (ls : List ℤ) → AllByRecursion P ls �
 all_clause P ls all = all_from_among P (clause_of ls) (λ k among. all_among P ls k all ((among_clause k ls).0 among))
 
 -- ---- the code's loop
-among_last : (k l : ℤ) (ls : List ℤ) → IsAmong k (ls ++ l ∷ []) ↔ ((k ≡ l) ⊎ IsAmong k ls)
-among_last k l [] = (λ h. h, λ h. h)
-among_last k l (m ∷ ls) = (
-  λ h. elim h [ inl e ↦ inr (inl e) | inr later ↦ elim ((among_last k l ls).0 later) [ inl e ↦ inl e | inr old ↦ inr (inr old) ] ],
-  λ h. elim h [ inl e ↦ inr ((among_last k l ls).1 (inl e)) | inr here ↦ elim here [ inl e ↦ inl e | inr old ↦ inr ((among_last k l ls).1 (inr old)) ] ],
-)
-
-among_take : (k : ℤ) (ls : List ℤ) (i : ℕ) (d : ℤ) → i < length ls → IsAmong k (take (i + 1) ls) ↔ ((k ≡ get_or ls i d) ⊎ IsAmong k (take i ls))
-among_take k ls i d less = rw (take_more ls i d less) (among_last k (get_or ls i d) (take i ls))
-
 pub listing_all : (ls c : List ℤ) (i : ℕ) → length ls ≤ i → IsListing (λ k. IsAmong k (take i ls)) LiteralBefore c → c ≡ clause_of ls
 listing_all ls c i past l = clause_is ls c (subst (λ (xs : List ℤ). IsListing (λ k. IsAmong k xs) LiteralBefore c) (take_all i ls past) l)
 
 pub listing_more : (ls c new : List ℤ) (i : ℕ) (d l : ℤ) → i < length ls → l ≡ get_or ls i d → IsListing (λ k. IsAmong k (take i ls)) LiteralBefore c → IsListing (λ k. (k ≡ l) ⊎ IsAmong k c) LiteralBefore new → IsListing (λ k. IsAmong k (take (i + 1) ls)) LiteralBefore new
-listing_more ls c new i d l less e old more = record {
+listing_more ls c new i d l less e old more = let step = among_take_more ls i l less (e ∙ get_or_default ls i d l less) in record {
   exactly = λ k. (
-    λ among. (among_take k ls i d less).1 (elim ((more.exactly k).0 among) as (λ _. (k ≡ get_or ls i d) ⊎ IsAmong k (take i ls)) [ inl same ↦ inl (same ∙ e) | inr there ↦ inr ((old.exactly k).0 there) ]),
-    λ among. (more.exactly k).1 (elim ((among_take k ls i d less).0 among) as (λ _. (k ≡ l) ⊎ IsAmong k c) [ inl same ↦ inl (same ∙ sym e) | inr there ↦ inr ((old.exactly k).1 there) ]),
+    λ among. (step k).1 (elim ((more.exactly k).0 among) as (λ _. IsAmong k (take i ls) ⊎ (k ≡ l)) [ inl same ↦ inr same | inr there ↦ inl ((old.exactly k).0 there) ]),
+    λ among. (more.exactly k).1 (elim ((step k).0 among) as (λ _. (k ≡ l) ⊎ IsAmong k c) [ inl there ↦ inr ((old.exactly k).1 there) | inr same ↦ inl same ]),
   );
   ascending = more.ascending;
 }
 
 pub literal_of : (ls : List ℤ) (i : ℕ) → AllByRecursion IsLiteral ls → i < length ls → IsLiteral (get_or ls i (pos 0))
-literal_of ls i all less = all_among IsLiteral ls (get_or ls i (pos 0)) all (among_get ls i (pos 0) less)
+literal_of ls i all less = all_among IsLiteral ls (get_or ls i (pos 0)) all (among_at ls i (pos 0) less)
 
 within : (n : ℕ) (ls : List ℤ) → AllByRecursion (λ l. (0 < unsigned_abs l) × (unsigned_abs l ≤ n)) ls → IsWithin n ls
 within n [] all = tt

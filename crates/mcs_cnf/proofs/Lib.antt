@@ -1,4 +1,3 @@
-pub mod LiteralLemmas
 pub mod NumberLemmas
 pub mod ClauseLemmas
 pub mod ListLemmas

@@ -1,32 +1,25 @@
 -- The clauses of formulas mean the formulas.
 use Rattle.std.proofs.Common.{◌≡◌, ℕ, ◌+◌, ◌-◌, Bool, true, false, not, ◌&&◌, ◌||◌, List, [], ◌∷◌, ◌++◌, ◌↔◌, length, length-append, get_or, arith, refl, sym, ap, ◌∙◌, subst, ℤ, pos}
-use Rattle.std.proofs.lemmas.Bool.{and_parts}
+use Rattle.std.proofs.lemmas.Bool.{and_parts, and_from}
+use Rattle.std.proofs.lemmas.List.Folds.{list_all-append}
+use Rattle.std.proofs.Math.Bool.{or-false}
+use Rattle.std.proofs.lemmas.List.{length-map}
 use Rattle.mcs_system.specs.Plain.{Name, Formula, Truth, Falsity, Atom, Not, And, Or, Implies, Iff}
-use Rattle.mcs_system.specs.Logic.{holds, holds_all, both_or_neither}
+use Rattle.mcs_system.specs.Logic.{holds, holds_all, both_or_neither, is_in}
 use Rattle.mcs_system.specs.Faults.{has_twins}
 use Rattle.mcs_trace.specs.Clauses.{clause_holds, all_hold}
 use Rattle.mcs_cnf.specs.ClauseLists.{clause_of, not_clauses, and_clauses, or_clauses, implies_clauses, iff_clauses, taken, number, formula_clauses, taken_by_all, list_clauses, IsOver, AreOver}
 use Rattle.mcs_cnf.specs.Meaning.{Extends, IsMeaning}
 use Rattle.mcs_cnf.proofs.NumberLemmas.{number_positive}
 use Rattle.mcs_cnf.proofs.Tables.{clause_of-holds, truth_table, falsity_table, not_table, and_table, or_table, implies_table, iff_table, same_values, values_same}
-use Rattle.mcs_cnf.proofs.Values.{Reads, reads_append, reads_those, reads_same, values, reads_after, all_values, all_values_taken, atom_values, length-atoms, atoms_read-first, atoms_in_order-first}
-
-pub both_true : (p q : Bool) → p ≡ true → q ≡ true → (p && q) ≡ true
-both_true p q e e' = rw (e, e') refl
-
-all_hold-append : (v : ℕ → Bool) (cs ds : List (List ℤ)) → all_hold v (cs ++ ds) ≡ (all_hold v cs && all_hold v ds)
-all_hold-append v [] ds = refl
-all_hold-append v (c ∷ cs) ds = ap (λ b. clause_holds v c && b) (all_hold-append v cs ds) ∙ assoc (clause_holds v c) (all_hold v cs) (all_hold v ds)
-  where
-    assoc : (p q r : Bool) → (p && (q && r)) ≡ ((p && q) && r)
-    assoc true q r = refl
-    assoc false q r = refl
+use Rattle.mcs_base.proofs.Clausal.{Reads, reads_append, reads_those, reads_same}
+use Rattle.mcs_cnf.proofs.Values.{values, reads_after, all_values, all_values_taken, atom_values, atoms_read-first, atoms_in_order-first}
 
 pub all_hold-parts : (v : ℕ → Bool) (cs ds : List (List ℤ)) → all_hold v (cs ++ ds) ≡ true → (all_hold v cs ≡ true) × (all_hold v ds ≡ true)
-all_hold-parts v cs ds h = and_parts (all_hold v cs) (all_hold v ds) (sym (all_hold-append v cs ds) ∙ h)
+all_hold-parts v cs ds h = and_parts (all_hold v cs) (all_hold v ds) (sym (list_all-append (clause_holds v) cs ds) ∙ h)
 
 pub all_hold-both : (v : ℕ → Bool) (cs ds : List (List ℤ)) → all_hold v cs ≡ true → all_hold v ds ≡ true → all_hold v (cs ++ ds) ≡ true
-all_hold-both v cs ds h h' = all_hold-append v cs ds ∙ both_true (all_hold v cs) (all_hold v ds) h h'
+all_hold-both v cs ds h h' = list_all-append (clause_holds v) cs ds ∙ and_from (all_hold v cs) (all_hold v ds) h h'
 
 module _ (v : ℕ → Bool) (names a : List Name) (extends : Extends names a v) where
   -- the variable of a formula whose occurrences have their values has its value
@@ -105,11 +98,7 @@ module _ (v : ℕ → Bool) (names a : List Name) (extends : Extends names a v) 
       (iff_table v (taken (taken k f) g + 1) (number names k f) (number names (taken k f) g) (omega arith) (number_positive names k f) (number_positive names (taken k f) g)) (says k f over.0) (says (taken k f) g over.1)
 
   unit-holds : (n : ℕ) → clause_holds v (clause_of (pos n ∷ [])) ≡ v n
-  unit-holds n = clause_of-holds v (pos n ∷ []) ∙ or_false (v n)
-    where
-      or_false : (p : Bool) → (p || false) ≡ p
-      or_false true = refl
-      or_false false = refl
+  unit-holds n = clause_of-holds v (pos n ∷ []) ∙ or-false (v n)
 
   pub list_says : (k : ℕ) (fs : List Formula) → AreOver names fs → (all_hold v (list_clauses names k fs) ≡ true) ↔ (Reads v k (all_values a fs) × (holds_all a fs ≡ true))
   unfolding Says
@@ -125,12 +114,12 @@ module _ (v : ℕ → Bool) (names a : List Name) (extends : Extends names a v) 
             let r = (says k f over.0).0 h1 in
             let (rs, holds') = rest.0 h2 in
             let holds : holds a f ≡ true = sym (own_value k f over.0 r) ∙ sym (unit-holds (number names k f)) ∙ unit in
-            ((reads_after v a k f (all_values a fs)).1 (r, rs), both_true _ _ holds holds'),
+            ((reads_after v a k f (all_values a fs)).1 (r, rs), and_from _ _ holds holds'),
         λ (rs, h).
             let (r, later) = (reads_after v a k f (all_values a fs)).0 rs in
             let (holds, holds') = and_parts (holds a f) (holds_all a fs) h in
             let unit : clause_holds v (clause_of (pos (number names k f) ∷ [])) ≡ true = unit-holds (number names k f) ∙ own_value k f over.0 r ∙ holds in
-            all_hold-both v (formula_clauses names k f) (clause_of (pos (number names k f) ∷ []) ∷ list_clauses names (taken k f) fs) ((says k f over.0).1 r) (both_true _ _ unit (rest.1 (later, holds'))),
+            all_hold-both v (formula_clauses names k f) (clause_of (pos (number names k f) ∷ []) ∷ list_clauses names (taken k f) fs) ((says k f over.0).1 r) (and_from _ _ unit (rest.1 (later, holds'))),
       )
 
 -- ---- the assignment's one extension
@@ -143,7 +132,7 @@ unfolding worth
 extended fs names a over h =
     let v : ℕ → Bool = worth names a fs in
     let (r, r') = (reads_append v 0 (atom_values names a) (all_values a fs)).0 (reads_those [] (atom_values names a ++ all_values a fs)) in
-    let n : 0 + length (atom_values names a) ≡ length names = omega (arith, length-atoms names a) in
+    let n : 0 + length (atom_values names a) ≡ length names = omega (arith, length-map names (λ n. is_in n a)) in
     let extends : Extends names a v = λ n known. atoms_read-first v names a n r known in
     (v, extends, (list_says v names a extends (length names) fs over).1 (subst (λ k. Reads v k (all_values a fs)) n r', h))
 
@@ -153,16 +142,16 @@ satisfied fs names a v over extends h = ((list_says v names a extends (length na
 -- the values of all variables
 all_read : (fs : List Formula) (names a : List Name) (v : ℕ → Bool) → AreOver names fs → has_twins names ≡ false → Extends names a v → all_hold v (list_clauses names (length names) fs) ≡ true → Reads v 0 (atom_values names a ++ all_values a fs)
 all_read fs names a v over single extends h =
-    let n : length names ≡ 0 + length (atom_values names a) = omega (arith, length-atoms names a) in
+    let n : length names ≡ 0 + length (atom_values names a) = omega (arith, length-map names (λ n. is_in n a)) in
     (reads_append v 0 (atom_values names a) (all_values a fs)).1
     (atoms_in_order-first v names a single extends, subst (λ k. Reads v k (all_values a fs)) n ((list_says v names a extends (length names) fs over).0 h).0)
 
-pub meaning : (fs : List Formula) (names a : List Name) → AreOver names fs → has_twins names ≡ false → IsMeaning fs names a
+pub meaning : (fs : List Formula) (names a : List Name) → AreOver names fs → has_twins names ≡ false → IsMeaning names fs a
 meaning fs names a over single = record {
   extends = extended fs names a over;
   satisfied = λ v extends h. satisfied fs names a v over extends h;
   only = λ v w extends h extends' h' k some most.
       let n : length (atom_values names a ++ all_values a fs) ≡ taken_by_all (length names) fs =
-      omega (arith, length-append (atom_values names a) (all_values a fs), length-atoms names a, all_values_taken a (length names) fs) in
+      omega (arith, length-append (atom_values names a) (all_values a fs), length-map names (λ n. is_in n a), all_values_taken a (length names) fs) in
       reads_same v w 0 (atom_values names a ++ all_values a fs) k (all_read fs names a v over single extends h) (all_read fs names a w over single extends' h') some (omega arith);
 }

@@ -1,26 +1,19 @@
 -- No clause of formulas has the literal 0.
 use Rattle.std.proofs.Common.{ℕ, ◌+◌, ◌<◌, List, [], ◌∷◌, ◌++◌, arith, ℤ, pos}
 use Rattle.std.specs.Int.RustNames.{unsigned_abs}
-use Rattle.std.specs.List.{AllByRecursion}
+use Rattle.mcs_base.proofs.Numbers.{unsigned_abs-neg_ℤ}
+use Rattle.mcs_base.proofs.Clausal.{HasNoZero, HaveNoZero}
+use Rattle.mcs_base.proofs.Each.{all_append}
 use Rattle.mcs_system.specs.Plain.{Name, Formula, Truth, Falsity, Atom, Not, And, Or, Implies, Iff}
-use Rattle.mcs_trace.proofs.OrderLemmas.{size-neg}
-use Rattle.mcs_trace.proofs.ResolventLemmas.{HasNoZero}
 use Rattle.mcs_cnf.specs.ClauseLists.{clause_of, non, not_clauses, and_clauses, or_clauses, implies_clauses, iff_clauses, taken, number, formula_clauses, list_clauses}
 use Rattle.mcs_cnf.proofs.ClauseLemmas.{all_clause}
 use Rattle.mcs_cnf.proofs.NumberLemmas.{number_positive}
 
-abbrev HaveNoZero : List (List ℤ) → Type 0
-HaveNoZero cs = AllByRecursion HasNoZero cs
-
 no_zero : (ls : List ℤ) → HasNoZero ls → HasNoZero (clause_of ls)
 no_zero ls all = all_clause (λ k. 0 < unsigned_abs k) ls all
 
-both : (cs ds : List (List ℤ)) → HaveNoZero cs → HaveNoZero ds → HaveNoZero (cs ++ ds)
-both [] ds all all' = all'
-both (c ∷ cs) ds all all' = (all.0, both cs ds all.1 all')
-
 non_size : (n : ℕ) → 0 < n → 0 < unsigned_abs (non n)
-non_size n some = omega (arith, size-neg (pos n))
+non_size n some = omega (arith, unsigned_abs-neg_ℤ (pos n))
 
 module _ (n x y : ℕ) (some : 0 < n) (some' : 0 < x) (some'' : 0 < y) where
   not_no_zero : HaveNoZero (not_clauses n x)
@@ -49,12 +42,12 @@ module _ (names : List Name) where
   formula_no_zero k Truth = (no_zero (pos (k + 1) ∷ []) (omega arith, tt), tt)
   formula_no_zero k Falsity = (no_zero (non (k + 1) ∷ []) (non_size (k + 1) (omega arith), tt), tt)
   formula_no_zero k (Atom n) = tt
-  formula_no_zero k (Not f) = both (formula_clauses names k f) _ (formula_no_zero k f) (not_no_zero (taken k f + 1) (number names k f) 1 (omega arith) (number_positive names k f) (omega arith))
-  formula_no_zero k (And f g) = both (Parts k f g) _ (both (formula_clauses names k f) _ (formula_no_zero k f) (formula_no_zero (taken k f) g)) (and_no_zero (taken (taken k f) g + 1) (number names k f) (number names (taken k f) g) (omega arith) (number_positive names k f) (number_positive names (taken k f) g))
-  formula_no_zero k (Or f g) = both (Parts k f g) _ (both (formula_clauses names k f) _ (formula_no_zero k f) (formula_no_zero (taken k f) g)) (or_no_zero (taken (taken k f) g + 1) (number names k f) (number names (taken k f) g) (omega arith) (number_positive names k f) (number_positive names (taken k f) g))
-  formula_no_zero k (Implies f g) = both (Parts k f g) _ (both (formula_clauses names k f) _ (formula_no_zero k f) (formula_no_zero (taken k f) g)) (implies_no_zero (taken (taken k f) g + 1) (number names k f) (number names (taken k f) g) (omega arith) (number_positive names k f) (number_positive names (taken k f) g))
-  formula_no_zero k (Iff f g) = both (Parts k f g) _ (both (formula_clauses names k f) _ (formula_no_zero k f) (formula_no_zero (taken k f) g)) (iff_no_zero (taken (taken k f) g + 1) (number names k f) (number names (taken k f) g) (omega arith) (number_positive names k f) (number_positive names (taken k f) g))
+  formula_no_zero k (Not f) = all_append HasNoZero (formula_clauses names k f) _ (formula_no_zero k f) (not_no_zero (taken k f + 1) (number names k f) 1 (omega arith) (number_positive names k f) (omega arith))
+  formula_no_zero k (And f g) = all_append HasNoZero (Parts k f g) _ (all_append HasNoZero (formula_clauses names k f) _ (formula_no_zero k f) (formula_no_zero (taken k f) g)) (and_no_zero (taken (taken k f) g + 1) (number names k f) (number names (taken k f) g) (omega arith) (number_positive names k f) (number_positive names (taken k f) g))
+  formula_no_zero k (Or f g) = all_append HasNoZero (Parts k f g) _ (all_append HasNoZero (formula_clauses names k f) _ (formula_no_zero k f) (formula_no_zero (taken k f) g)) (or_no_zero (taken (taken k f) g + 1) (number names k f) (number names (taken k f) g) (omega arith) (number_positive names k f) (number_positive names (taken k f) g))
+  formula_no_zero k (Implies f g) = all_append HasNoZero (Parts k f g) _ (all_append HasNoZero (formula_clauses names k f) _ (formula_no_zero k f) (formula_no_zero (taken k f) g)) (implies_no_zero (taken (taken k f) g + 1) (number names k f) (number names (taken k f) g) (omega arith) (number_positive names k f) (number_positive names (taken k f) g))
+  formula_no_zero k (Iff f g) = all_append HasNoZero (Parts k f g) _ (all_append HasNoZero (formula_clauses names k f) _ (formula_no_zero k f) (formula_no_zero (taken k f) g)) (iff_no_zero (taken (taken k f) g + 1) (number names k f) (number names (taken k f) g) (omega arith) (number_positive names k f) (number_positive names (taken k f) g))
 
-  pub list_no_zero : (k : ℕ) (fs : List Formula) → AllByRecursion HasNoZero (list_clauses names k fs)
+  pub list_no_zero : (k : ℕ) (fs : List Formula) → HaveNoZero (list_clauses names k fs)
   list_no_zero k [] = tt
-  list_no_zero k (f ∷ fs) = both (formula_clauses names k f) _ (formula_no_zero k f) (no_zero (pos (number names k f) ∷ []) (number_positive names k f, tt), list_no_zero (taken k f) fs)
+  list_no_zero k (f ∷ fs) = all_append HasNoZero (formula_clauses names k f) _ (formula_no_zero k f) (no_zero (pos (number names k f) ∷ []) (number_positive names k f, tt), list_no_zero (taken k f) fs)

@@ -1,48 +1,13 @@
 -- What the occurrences in formulas are worth, and assignments that say so.
-use Rattle.std.proofs.Common.{◌≡◌, ℕ, ◌+◌, ◌-◌, ◌<◌, ◌≤◌, inl, inr, suc, Bool, true, false, not, ◌&&◌, ◌||◌, cond, List, [], ◌∷◌, ◌++◌, ◌↔◌, map, length, get_or, arith, refl, sym, ap, ◌∙◌, subst, true≢false, length-append, append_assoc}
-use Rattle.std.proofs.lemmas.Bool.{cases_lt}
+use Rattle.std.proofs.Common.{◌≡◌, ℕ, ◌+◌, Bool, true, false, not, ◌&&◌, ◌||◌, cond, List, [], ◌∷◌, ◌++◌, ◌↔◌, map, length, arith, refl, sym, ap, ◌∙◌, subst, true≢false, length-append}
+use Rattle.std.proofs.lemmas.Bool.{or_parts}
+use Rattle.std.proofs.Math.Bool.{or-true}
+use Rattle.mcs_base.proofs.Clausal.{Reads, reads_append}
 use Rattle.mcs_system.specs.Plain.{Name, Formula, Truth, Falsity, Atom, Not, And, Or, Implies, Iff}
 use Rattle.mcs_system.specs.Logic.{same_name, is_in, holds, both_or_neither}
 use Rattle.mcs_system.specs.Faults.{has_twins}
 use Rattle.mcs_system.proofs.Sameness.{same_name-is, same_name-itself}
 use Rattle.mcs_cnf.specs.ClauseLists.{atom_number, taken, taken_by_all}
-
--- ---- variables that have these values, from the one after k on
-abbrev pub Reads : (ℕ → Bool) → ℕ → List Bool → Type 0
-Reads v k [] = Unit {0}
-Reads v k (b ∷ bs) = (v (k + 1) ≡ b) × Reads v (k + 1) bs
-
-pub reads_append : (v : ℕ → Bool) (k : ℕ) (bs cs : List Bool) → Reads v k (bs ++ cs) ↔ (Reads v k bs × Reads v (k + length bs) cs)
-reads_append v k [] cs = let e : k ≡ k + 0 = omega arith in (λ h. (tt, subst (λ n. Reads v n cs) e h), λ h. subst (λ n. Reads v n cs) (sym e) h.1)
-reads_append v k (b ∷ bs) cs =
-    let e : k + 1 + length bs ≡ k + length (b ∷ bs) = omega arith in
-    let rest = reads_append v (k + 1) bs cs in (
-      λ h. ((h.0, (rest.0 h.1).0), subst (λ n. Reads v n cs) e (rest.0 h.1).1),
-      λ h. (h.0.0, rest.1 (h.0.1, subst (λ n. Reads v n cs) (sym e) h.1)),
-    )
-
--- there are such variables
-pub reads_those : (before bs : List Bool) → Reads (λ k. get_or (before ++ bs) (k - 1) false) (length before) bs
-reads_those before [] = tt
-reads_those before (b ∷ bs) =
-    let e : before ++ b ∷ bs ≡ (before ++ b ∷ []) ++ bs = sym (append_assoc before (b ∷ []) bs) in
-    let n : length (before ++ b ∷ []) ≡ length before + 1 = omega (arith, length-append before (b ∷ [])) in (
-      at before b bs,
-      subst (λ (xs : List Bool). Reads (λ k. get_or xs (k - 1) false) (length before + 1) bs) (sym e)
-          (subst (λ m. Reads (λ k. get_or ((before ++ b ∷ []) ++ bs) (k - 1) false) m bs) n (reads_those (before ++ b ∷ []) bs)),
-    )
-  where
-    at : (xs : List Bool) (b : Bool) (bs : List Bool) → get_or (xs ++ b ∷ bs) (length xs + 1 - 1) false ≡ b
-    at [] b bs = refl
-    at (x ∷ xs) b bs = let e : length (x ∷ xs) + 1 - 1 ≡ suc (length xs + 1 - 1) = omega arith in ap (λ n. get_or (x ∷ (xs ++ b ∷ bs)) n false) e ∙ at xs b bs
-
--- and in one way only
-pub reads_same : (v w : ℕ → Bool) (k : ℕ) (bs : List Bool) (j : ℕ) → Reads v k bs → Reads w k bs → k < j → j ≤ k + length bs → v j ≡ w j
-reads_same v w k [] j r s more most = absurd (omega arith)
-reads_same v w k (b ∷ bs) j r s more most = elim (cases_lt (k + 1) j) [
-  | inl later ↦ reads_same v w (k + 1) bs j r.1 s.1 later (omega arith)
-  | inr here ↦ let e : j ≡ k + 1 = omega arith in ap v e ∙ r.0 ∙ sym s.0 ∙ ap w (sym e)
-]
 
 -- ---- the values of the occurrences in a formula that are no atoms, in the order of their numbers
 abbrev pub values : List Name → Formula → List Bool
@@ -55,18 +20,15 @@ values a (Or f g) = values a f ++ (values a g ++ (holds a f || holds a g) ∷ []
 values a (Implies f g) = values a f ++ (values a g ++ (not (holds a f) || holds a g) ∷ [])
 values a (Iff f g) = values a f ++ (values a g ++ both_or_neither (holds a f) (holds a g) ∷ [])
 
-binary_taken : (k x y : ℕ) (bs cs : List Bool) (b : Bool) → x ≡ k + length bs → y ≡ x + length cs → y + 1 ≡ k + length (bs ++ (cs ++ b ∷ []))
-binary_taken k x y bs cs b e e' = omega (arith, length-append bs (cs ++ b ∷ []), length-append cs (b ∷ []))
-
 pub values_taken : (a : List Name) (k : ℕ) (f : Formula) → taken k f ≡ k + length (values a f)
 values_taken a k Truth = refl
 values_taken a k Falsity = refl
 values_taken a k (Atom n) = omega arith
 values_taken a k (Not f) = omega (arith, values_taken a k f, length-append (values a f) (not (holds a f) ∷ []))
-values_taken a k (And f g) = binary_taken k (taken k f) (taken (taken k f) g) (values a f) (values a g) (holds a f && holds a g) (values_taken a k f) (values_taken a (taken k f) g)
-values_taken a k (Or f g) = binary_taken k (taken k f) (taken (taken k f) g) (values a f) (values a g) (holds a f || holds a g) (values_taken a k f) (values_taken a (taken k f) g)
-values_taken a k (Implies f g) = binary_taken k (taken k f) (taken (taken k f) g) (values a f) (values a g) (not (holds a f) || holds a g) (values_taken a k f) (values_taken a (taken k f) g)
-values_taken a k (Iff f g) = binary_taken k (taken k f) (taken (taken k f) g) (values a f) (values a g) (both_or_neither (holds a f) (holds a g)) (values_taken a k f) (values_taken a (taken k f) g)
+values_taken a k (And f g) = omega (arith, values_taken a k f, values_taken a (taken k f) g, length-append {A = Bool})
+values_taken a k (Or f g) = omega (arith, values_taken a k f, values_taken a (taken k f) g, length-append {A = Bool})
+values_taken a k (Implies f g) = omega (arith, values_taken a k f, values_taken a (taken k f) g, length-append {A = Bool})
+values_taken a k (Iff f g) = omega (arith, values_taken a k f, values_taken a (taken k f) g, length-append {A = Bool})
 
 pub reads_after : (v : ℕ → Bool) (a : List Name) (k : ℕ) (f : Formula) (bs : List Bool) → Reads v k (values a f ++ bs) ↔ (Reads v k (values a f) × Reads v (taken k f) bs)
 reads_after v a k f bs =
@@ -88,10 +50,6 @@ all_values_taken a k (f ∷ fs) = omega (arith, values_taken a k f, all_values_t
 abbrev pub atom_values : List Name → List Name → List Bool
 atom_values names a = map (λ n. is_in n a) names
 
-pub length-atoms : (names a : List Name) → length (atom_values names a) ≡ length names
-length-atoms [] a = refl
-length-atoms (n ∷ names) a = ap suc (length-atoms names a)
-
 atoms_read : (v : ℕ → Bool) (names a : List Name) (k : ℕ) (n : Name) → Reads v k (atom_values names a) → is_in n names ≡ true → v (k + atom_number names n) ≡ is_in n a
 atoms_read v [] a k n r known = absurd (true≢false (sym known))
 atoms_read v (m ∷ names) a k n r known = at (same_name n m) refl known (λ known. atoms_read v names a (k + 1) n r.1 known)
@@ -102,10 +60,6 @@ atoms_read v (m ∷ names) a k n r known = at (same_name n m) refl known (λ kno
 
 pub atoms_read-first : (v : ℕ → Bool) (names a : List Name) (n : Name) → Reads v 0 (atom_values names a) → is_in n names ≡ true → v (atom_number names n) ≡ is_in n a
 atoms_read-first v names a n r known = let e : atom_number names n ≡ 0 + atom_number names n = omega arith in ap v e ∙ atoms_read v names a 0 n r known
-
-or_parts : (p q : Bool) → (p || q) ≡ false → (p ≡ false) × (q ≡ false)
-or_parts true q e = absurd (true≢false e)
-or_parts false q e = (refl, e)
 
 -- where no two names are the same, what the atoms' variables say is read off in order
 atoms_in_order : (v : ℕ → Bool) (names a : List Name) (k : ℕ) → has_twins names ≡ false → ((n : Name) → is_in n names ≡ true → v (k + atom_number names n) ≡ is_in n a) → Reads v k (atom_values names a)
@@ -120,15 +74,11 @@ atoms_in_order v (m ∷ names) a k single each =
         let known : is_in m (m ∷ names) ≡ true = ap (λ b. b || is_in m names) itself in
         ap (λ b. v (k + cond b 1 (atom_number names m + 1))) (sym itself) ∙ each m known
 
-    or_true : (p : Bool) → (p || true) ≡ true
-    or_true true = refl
-    or_true false = refl
-
     later : (n : Name) → is_in n names ≡ true → is_in m names ≡ false → (b : Bool) → same_name n m ≡ b → v (k + 1 + atom_number names n) ≡ is_in n a
     later n known apart true same = absurd (true≢false (sym known ∙ ap (λ x. is_in x names) (same_name-is n m same) ∙ apart))
     later n known apart false other =
         let e : k + 1 + atom_number names n ≡ k + (atom_number names n + 1) = omega arith in
-        ap v e ∙ ap (λ b. v (k + cond b 1 (atom_number names n + 1))) (sym other) ∙ each n (ap (λ b. same_name n m || b) known ∙ or_true (same_name n m))
+        ap v e ∙ ap (λ b. v (k + cond b 1 (atom_number names n + 1))) (sym other) ∙ each n (ap (λ b. same_name n m || b) known ∙ or-true (same_name n m))
 
 pub atoms_in_order-first : (v : ℕ → Bool) (names a : List Name) → has_twins names ≡ false → ((n : Name) → is_in n names ≡ true → v (atom_number names n) ≡ is_in n a) → Reads v 0 (atom_values names a)
 atoms_in_order-first v names a single each = atoms_in_order v names a 0 single (λ n known. let e : 0 + atom_number names n ≡ atom_number names n = omega arith in ap v e ∙ each n known)

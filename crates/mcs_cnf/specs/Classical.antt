@@ -2,7 +2,6 @@
 use Rattle.std.specs.Prelude.{◌≡◌, ℕ, true, IsTrue, List, [], ◌∷◌, ◌↔◌, map, Some, slice_get}
 use Rattle.mcs_sets.specs.Sets.{has}
 use Rattle.mcs_system.specs.Plain.{Name, Formula}
-use Rattle.mcs_system.specs.Logic.{Entails}
 use Rattle.mcs_trace.specs.declared.certificate.ClassicalCert as code
 use Rattle.mcs_cnf.specs.Entailments.{Entailment, entailment_of, says_yes, IsAcceptedEntailment}
 
@@ -17,16 +16,16 @@ AreAcceptedEntailments names fs (g ∷ gs) [] = ⊥
 abbrev pub HasYes : List Entailment → ℕ → Type 0
 HasYes es b = slice_get (map says_yes es) b ≡ Some true
 
--- and the one state has exactly the beliefs with `yes`
-pub record IsAcceptedClassical (fs beliefs : List Formula) (names : List Name) (outputs : List ℕ) (es : List Entailment) : Type 0 where
+-- of the beliefs exactly those at these places follow from the formulas, which is shown belief by belief
+pub record AreShown (names : List Name) (fs beliefs : List Formula) (places : ℕ) (es : List Entailment) : Type 0 where
   pub entailments : AreAcceptedEntailments names fs beliefs es
-  pub state : ℕ
-  pub only : outputs ≡ state ∷ []
-  pub exactly : (b : ℕ) → IsTrue (has state b) ↔ HasYes es b
+  pub exactly : (b : ℕ) → IsTrue (has places b) ↔ HasYes es b
+
+-- that is shown of the one view that is put out
+pub record IsAcceptedClassical (names : List Name) (fs beliefs : List Formula) (outputs : List ℕ) (es : List Entailment) : Type 0 where
+  pub view : ℕ
+  pub only : outputs ≡ view ∷ []
+  pub shown : AreShown names fs beliefs view es
 
 abbrev pub certificate_of : code.ClassicalCert → List Entailment
 certificate_of c = map entailment_of c.entails.items
-
--- the belief of this number follows from the formulas
-abbrev pub FollowsAt : List Formula → List Formula → ℕ → Type 0
-FollowsAt fs beliefs b = (g : Formula) × (slice_get beliefs b ≡ Some g) × Entails fs g

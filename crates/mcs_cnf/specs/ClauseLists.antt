@@ -1,5 +1,6 @@
 -- The clauses of formulas, by a variable for each occurrence of a subformula (Tseitin 1968).
-use Rattle.std.specs.Prelude.{ℕ, ◌+◌, cond, nat_lt, nat_eq, IsTrue, List, [], ◌∷◌, ◌++◌, length, ℤ, pos, neg_ℤ}
+use Rattle.std.specs.Prelude.{◌≡◌, ℕ, ◌+◌, ◌<◌, ◌≤◌, cond, nat_lt, nat_eq, IsTrue, List, [], ◌∷◌, ◌++◌, length, ℤ, pos, neg_ℤ}
+use Rattle.std.specs.Int.RustNames.{unsigned_abs}
 use Rattle.std.specs.List.{AllByRecursion}
 use Rattle.mcs_system.specs.Plain.{Name, Formula, Truth, Falsity, Atom, Not, And, Or, Implies, Iff}
 use Rattle.mcs_system.specs.Logic.{same_name, is_in}
@@ -42,6 +43,27 @@ implies_clauses n x y = clause_of (pos n ∷ pos x ∷ []) ∷ clause_of (pos n 
 abbrev pub iff_clauses : ℕ → ℕ → ℕ → List (List ℤ)
 iff_clauses n x y =
     clause_of (non n ∷ non x ∷ pos y ∷ []) ∷ clause_of (non n ∷ pos x ∷ non y ∷ []) ∷ clause_of (pos n ∷ pos x ∷ pos y ∷ []) ∷ clause_of (pos n ∷ non x ∷ non y ∷ []) ∷ []
+
+-- of a formula of two parts
+abbrev pub own_clauses : Formula → ℕ → ℕ → ℕ → List (List ℤ)
+own_clauses (And f g) n x y = and_clauses n x y
+own_clauses (Or f g) n x y = or_clauses n x y
+own_clauses (Implies f g) n x y = implies_clauses n x y
+own_clauses (Iff f g) n x y = iff_clauses n x y
+own_clauses f n x y = []
+
+-- ---- what is added to a list
+-- the literal's variable is one of the list's
+abbrev pub IsThere : ClauseList → ℤ → Type 0
+IsThere c l = (0 < unsigned_abs l) × (unsigned_abs l ≤ c.vars)
+
+-- one more clause, of these literals
+abbrev pub with_clause : ClauseList → List ℤ → ClauseList
+with_clause c ls = record { vars = c.vars; clauses = c.clauses ++ clause_of ls ∷ [] }
+
+-- the next number, n, is an occurrence's, and its clauses are added
+abbrev pub IsAdded : (ℕ → List (List ℤ)) → ClauseList → ClauseList → ℕ → Type 0
+IsAdded own old new n = (n ≡ old.vars + 1) × (new ≡ record { vars = old.vars + 1; clauses = old.clauses ++ own (old.vars + 1) })
 
 -- ---- numbers
 -- an atom's place among the atoms, from 1
@@ -92,8 +114,8 @@ abbrev pub with_formulas : List Name → ClauseList → List Formula → ClauseL
 with_formulas names c fs = record { vars = taken_by_all c.vars fs; clauses = c.clauses ++ list_clauses names c.vars fs }
 
 -- the clauses of formulas over the names
-abbrev pub clause_list : List Formula → List Name → ClauseList
-clause_list fs names = with_formulas names (record { vars = length names; clauses = [] }) fs
+abbrev pub clause_list : List Name → List Formula → ClauseList
+clause_list names fs = with_formulas names (record { vars = length names; clauses = [] }) fs
 
 -- ---- each atom of the formula is one of the names
 abbrev pub IsOver : List Name → Formula → Type 0

@@ -32,5 +32,5 @@ pub record IsRefuted (names : List Name) (fs : List Formula) (g : Formula) (plac
   pub goal : holds (true_names 0 names places) g ≡ false
 
 abbrev pub IsAcceptedEntailment : List Name → List Formula → Formula → Entailment → Type 0
-IsAcceptedEntailment names fs g (Yes steps) = IsAcceptedTrace (clause_list (with_negated fs g) names).clauses steps
+IsAcceptedEntailment names fs g (Yes steps) = IsAcceptedTrace (clause_list names (with_negated fs g)).clauses steps
 IsAcceptedEntailment names fs g (No places) = IsRefuted names fs g places

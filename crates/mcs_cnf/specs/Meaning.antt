@@ -11,8 +11,8 @@ Extends names a v = (n : Name) → IsTrue (is_in n names) → v (atom_number nam
 
 -- An assignment satisfies the formulas exactly where it extends to one of the variables that satisfies the
 -- clauses, and then to only one.
-pub record IsMeaning (fs : List Formula) (names a : List Name) : Type 0 where
-  pub extends : IsTrue (holds_all a fs) → (v : ℕ → Bool) × Extends names a v × IsTrue (all_hold v (clause_list fs names).clauses)
-  pub satisfied : (v : ℕ → Bool) → Extends names a v → IsTrue (all_hold v (clause_list fs names).clauses) → IsTrue (holds_all a fs)
-  pub only : (v w : ℕ → Bool) → Extends names a v → IsTrue (all_hold v (clause_list fs names).clauses) → Extends names a w → IsTrue (all_hold w (clause_list fs names).clauses)
-      → (k : ℕ) → 0 < k → k ≤ (clause_list fs names).vars → v k ≡ w k
+pub record IsMeaning (names : List Name) (fs : List Formula) (a : List Name) : Type 0 where
+  pub extends : IsTrue (holds_all a fs) → (v : ℕ → Bool) × Extends names a v × IsTrue (all_hold v (clause_list names fs).clauses)
+  pub satisfied : (v : ℕ → Bool) → Extends names a v → IsTrue (all_hold v (clause_list names fs).clauses) → IsTrue (holds_all a fs)
+  pub only : (v w : ℕ → Bool) → Extends names a v → IsTrue (all_hold v (clause_list names fs).clauses) → Extends names a w → IsTrue (all_hold w (clause_list names fs).clauses)
+      → (k : ℕ) → 0 < k → k ≤ (clause_list names fs).vars → v k ≡ w k

@@ -1,14 +1,12 @@
 //! The clauses of formulas.
 
-ghost use Rattle.std.specs.Prelude.{◌≡◌, ◌≤◌, ◌++◌, [], ◌∷◌, length, map, IfOk};
+ghost use Rattle.std.specs.Prelude.{◌≡◌, ◌≤◌, ◌++◌, [], ◌∷◌, length, map, IfOk, OnOk, OnErr};
 ghost use Rattle.mcs_system.specs.Plain as plain;
 ghost use Rattle.mcs_system.specs.Seen.{formula_of};
 ghost use Rattle.mcs_cnf.specs.ClauseLists.{atom_number, taken, number, formula_clauses, with_formulas, clause_list, IsOver, AreOver};
 
 use crate::literals::push_unit;
-use crate::occurrences::{
-    push_and, push_falsity, push_iff, push_implies, push_not, push_or, push_truth,
-};
+use crate::occurrences::{push_falsity, push_not, push_sign, push_truth};
 use mcs_base::Memory;
 use mcs_system::{Formula, Name};
 use mcs_trace::Cnf;
@@ -52,31 +50,17 @@ fn push_occurrences(
             let x = push_occurrences(alloc, cnf, atoms, g)?;
             push_not(alloc, cnf, x)
         }
-        Formula::And(g, h) => {
+        Formula::And(g, h) | Formula::Or(g, h) | Formula::Implies(g, h) | Formula::Iff(g, h) => {
             let x = push_occurrences(alloc, cnf, atoms, g)?;
             let y = push_occurrences(alloc, cnf, atoms, h)?;
-            push_and(alloc, cnf, x, y)
-        }
-        Formula::Or(g, h) => {
-            let x = push_occurrences(alloc, cnf, atoms, g)?;
-            let y = push_occurrences(alloc, cnf, atoms, h)?;
-            push_or(alloc, cnf, x, y)
-        }
-        Formula::Implies(g, h) => {
-            let x = push_occurrences(alloc, cnf, atoms, g)?;
-            let y = push_occurrences(alloc, cnf, atoms, h)?;
-            push_implies(alloc, cnf, x, y)
-        }
-        Formula::Iff(g, h) => {
-            let x = push_occurrences(alloc, cnf, atoms, g)?;
-            let y = push_occurrences(alloc, cnf, atoms, h)?;
-            push_iff(alloc, cnf, x, y)
+            push_sign(alloc, cnf, formula, x, y)
         }
     }
 }
 
 /// Adds the clauses of one more formula, over the same atoms: those of its occurrences, whose numbers go on
-/// after the variables that are there, and the one that says that it is true.
+/// after the variables that are there, and the one that says that it is true. Where memory runs out, the list is as
+/// before.
 #[tactic(auto, using(crate::proofs::NumberLemmas::numbers_fit))]
 pub fn push_formula(
     alloc: Global,
@@ -86,10 +70,13 @@ pub fn push_formula(
 ) -> Result<(), Memory>
     requires over { IsOver atoms.now (formula_of formula.now) }
     requires room { length atoms.now ≤ cnf.old.vars }
-    ensures { IfOk result (λ _. cnf.new ≡ with_formulas atoms.now cnf.old (formula_of formula.now ∷ [])) }
+    ensures ok { OnOk result (cnf.new ≡ with_formulas atoms.now cnf.old (formula_of formula.now ∷ [])) }
+    ensures err { OnErr result (cnf.new ≡ cnf.old) }
 {
-    let n = push_occurrences(alloc, cnf, atoms, formula)?;
-    push_unit(alloc, cnf, n)
+    let mut own = Cnf::new(alloc, cnf.vars());
+    let n = push_occurrences(alloc, &mut own, atoms, formula)?;
+    push_unit(alloc, &mut own, n)?;
+    cnf.append(own)
 }
 
 /// Adds the clauses of the negation of a formula over the same atoms, as `push_formula` does those of a formula.
@@ -102,12 +89,15 @@ pub fn push_negation(
 ) -> Result<(), Memory>
     requires over { IsOver atoms.now (formula_of formula.now) }
     requires room { length atoms.now ≤ cnf.old.vars }
-    ensures { IfOk result
-        (λ _. cnf.new ≡ with_formulas atoms.now cnf.old (plain.Not (formula_of formula.now) ∷ [])) }
+    ensures ok { OnOk result
+        (cnf.new ≡ with_formulas atoms.now cnf.old (plain.Not (formula_of formula.now) ∷ [])) }
+    ensures err { OnErr result (cnf.new ≡ cnf.old) }
 {
-    let x = push_occurrences(alloc, cnf, atoms, formula)?;
-    let n = push_not(alloc, cnf, x)?;
-    push_unit(alloc, cnf, n)
+    let mut own = Cnf::new(alloc, cnf.vars());
+    let x = push_occurrences(alloc, &mut own, atoms, formula)?;
+    let n = push_not(alloc, &mut own, x)?;
+    push_unit(alloc, &mut own, n)?;
+    cnf.append(own)
 }
 
 /// The clauses of formulas whose atoms are among `atoms`. Atom i has the variable i, from 1; each occurrence of
@@ -115,7 +105,7 @@ pub fn push_negation(
 /// linear in the sizes of the formulas, times the number of atoms.
 pub fn clauses(alloc: Global, formulas: &[Formula], atoms: &[Name]) -> Result<Cnf, Memory>
     requires { AreOver atoms.now (map formula_of formulas.now) }
-    ensures { IfOk result (λ f. f ≡ clause_list (map formula_of formulas.now) atoms.now) }
+    ensures { IfOk result (λ f. f ≡ clause_list atoms.now (map formula_of formulas.now)) }
 {
     let mut cnf = Cnf::new(alloc, atoms.len() as u64);
     for formula in formulas {

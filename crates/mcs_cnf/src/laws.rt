@@ -1,6 +1,6 @@
 //! Laws over the definitions. The functions do nothing: each contract is a law.
 
-ghost use Rattle.mcs_cnf.specs.Laws.{ClausesAreSets, ClausesMeanTheFormulas, EntailmentIsRefutation, EntailmentsAreSound, ClassicalCertificatesAreSound, FormulasAreOverTheirAtoms, ContextsAreOverTheirAtoms};
+ghost use Rattle.mcs_cnf.specs.Laws.{ClausesAreSets, ClausesMeanTheFormulas, EntailmentIsRefutation, EntailmentsAreSound, ShownBeliefsFollow, ClassicalCertificatesAreSound, FormulasAreOverTheirAtoms, ContextsAreOverTheirAtoms};
 
 /// A clause has its literals in order, each once.
 pub fn clauses_are_sets()
@@ -23,9 +23,11 @@ pub fn entailments_are_sound()
     ensures { EntailmentsAreSound }
 {}
 
-/// An accepted certificate of a classical context shows one state, and in it exactly the beliefs that follow.
+/// The beliefs that are shown to follow do, and no others. An accepted certificate of a classical context shows the
+/// listing of its accepted views, which is one.
 pub fn classical_certificates_are_sound()
-    ensures { ClassicalCertificatesAreSound }
+    ensures shown { ShownBeliefsFollow }
+    ensures listed { ClassicalCertificatesAreSound }
 {}
 
 /// A formula is over names exactly where each of its atoms is one of them.

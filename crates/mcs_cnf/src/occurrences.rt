@@ -1,10 +1,12 @@
 //! The clauses of one occurrence of a subformula.
 
-ghost use Rattle.std.specs.Prelude.{◌≡◌, ◌+◌, ◌<◌, ◌≤◌, ◌^◌, ◌++◌, IfOk};
-ghost use Rattle.mcs_cnf.specs.ClauseLists.{truth_clauses, falsity_clauses, not_clauses, and_clauses, or_clauses, implies_clauses, iff_clauses};
+ghost use Rattle.std.specs.Prelude.{◌≡◌, ◌+◌, ◌<◌, ◌≤◌, ◌^◌, IfOk};
+ghost use Rattle.mcs_system.specs.Seen.{formula_of};
+ghost use Rattle.mcs_cnf.specs.ClauseLists.{truth_clauses, falsity_clauses, not_clauses, and_clauses, or_clauses, implies_clauses, iff_clauses, own_clauses, IsAdded};
 
-use crate::literals::{no, push_clause, yes};
+use crate::literals::{no, push_one, push_three, push_two, yes};
 use mcs_base::Memory;
+use mcs_system::Formula;
 use mcs_trace::Cnf;
 use std::alloc::Global;
 
@@ -25,117 +27,103 @@ fn next_number(cnf: &mut Cnf) -> Result<u64, Memory>
 
 /// Adds an occurrence of what is always true; its number.
 pub(crate) fn push_truth(alloc: Global, cnf: &mut Cnf) -> Result<u64, Memory>
-    ensures number { IfOk result (λ n. n ≡ cnf.old.vars + 1) }
-    ensures added { IfOk result
-        (λ _. cnf.new ≡ record {
-          vars = cnf.old.vars + 1;
-          clauses = cnf.old.clauses ++ truth_clauses (cnf.old.vars + 1);
-        }) }
+    ensures { IfOk result (IsAdded truth_clauses cnf.old cnf.new) }
 {
     let n = next_number(cnf)?;
-    push_clause(alloc, cnf, &[yes(n)])?;
+    push_one(alloc, cnf, yes(n))?;
     Ok(n)
 }
 
 /// Adds an occurrence of what is always false; its number.
 pub(crate) fn push_falsity(alloc: Global, cnf: &mut Cnf) -> Result<u64, Memory>
-    ensures number { IfOk result (λ n. n ≡ cnf.old.vars + 1) }
-    ensures added { IfOk result
-        (λ _. cnf.new ≡ record {
-          vars = cnf.old.vars + 1;
-          clauses = cnf.old.clauses ++ falsity_clauses (cnf.old.vars + 1);
-        }) }
+    ensures { IfOk result (IsAdded falsity_clauses cnf.old cnf.new) }
 {
     let n = next_number(cnf)?;
-    push_clause(alloc, cnf, &[no(n)])?;
+    push_one(alloc, cnf, no(n))?;
     Ok(n)
 }
 
 /// Adds an occurrence of the negation of `x`; its number.
 pub(crate) fn push_not(alloc: Global, cnf: &mut Cnf, x: u64) -> Result<u64, Memory>
     requires part { (0 < x) × (x ≤ cnf.old.vars) }
-    ensures number { IfOk result (λ n. n ≡ cnf.old.vars + 1) }
-    ensures added { IfOk result
-        (λ _. cnf.new ≡ record {
-          vars = cnf.old.vars + 1;
-          clauses = cnf.old.clauses ++ not_clauses (cnf.old.vars + 1) x;
-        }) }
+    ensures { IfOk result (IsAdded (λ n. not_clauses n x) cnf.old cnf.new) }
 {
     let n = next_number(cnf)?;
-    push_clause(alloc, cnf, &[no(n), no(x)])?;
-    push_clause(alloc, cnf, &[yes(n), yes(x)])?;
+    push_two(alloc, cnf, no(n), no(x))?;
+    push_two(alloc, cnf, yes(n), yes(x))?;
     Ok(n)
 }
 
 /// Adds an occurrence of `x` and `y`; its number.
-pub(crate) fn push_and(alloc: Global, cnf: &mut Cnf, x: u64, y: u64) -> Result<u64, Memory>
+fn push_and(alloc: Global, cnf: &mut Cnf, x: u64, y: u64) -> Result<u64, Memory>
     requires left { (0 < x) × (x ≤ cnf.old.vars) }
     requires right { (0 < y) × (y ≤ cnf.old.vars) }
-    ensures number { IfOk result (λ n. n ≡ cnf.old.vars + 1) }
-    ensures added { IfOk result
-        (λ _. cnf.new ≡ record {
-          vars = cnf.old.vars + 1;
-          clauses = cnf.old.clauses ++ and_clauses (cnf.old.vars + 1) x y;
-        }) }
+    ensures { IfOk result (IsAdded (λ n. and_clauses n x y) cnf.old cnf.new) }
 {
     let n = next_number(cnf)?;
-    push_clause(alloc, cnf, &[no(n), yes(x)])?;
-    push_clause(alloc, cnf, &[no(n), yes(y)])?;
-    push_clause(alloc, cnf, &[yes(n), no(x), no(y)])?;
+    push_two(alloc, cnf, no(n), yes(x))?;
+    push_two(alloc, cnf, no(n), yes(y))?;
+    push_three(alloc, cnf, yes(n), no(x), no(y))?;
     Ok(n)
 }
 
 /// Adds an occurrence of `x` or `y`; its number.
-pub(crate) fn push_or(alloc: Global, cnf: &mut Cnf, x: u64, y: u64) -> Result<u64, Memory>
+fn push_or(alloc: Global, cnf: &mut Cnf, x: u64, y: u64) -> Result<u64, Memory>
     requires left { (0 < x) × (x ≤ cnf.old.vars) }
     requires right { (0 < y) × (y ≤ cnf.old.vars) }
-    ensures number { IfOk result (λ n. n ≡ cnf.old.vars + 1) }
-    ensures added { IfOk result
-        (λ _. cnf.new ≡ record {
-          vars = cnf.old.vars + 1;
-          clauses = cnf.old.clauses ++ or_clauses (cnf.old.vars + 1) x y;
-        }) }
+    ensures { IfOk result (IsAdded (λ n. or_clauses n x y) cnf.old cnf.new) }
 {
     let n = next_number(cnf)?;
-    push_clause(alloc, cnf, &[yes(n), no(x)])?;
-    push_clause(alloc, cnf, &[yes(n), no(y)])?;
-    push_clause(alloc, cnf, &[no(n), yes(x), yes(y)])?;
+    push_two(alloc, cnf, yes(n), no(x))?;
+    push_two(alloc, cnf, yes(n), no(y))?;
+    push_three(alloc, cnf, no(n), yes(x), yes(y))?;
     Ok(n)
 }
 
 /// Adds an occurrence of `x` implies `y`; its number.
-pub(crate) fn push_implies(alloc: Global, cnf: &mut Cnf, x: u64, y: u64) -> Result<u64, Memory>
+fn push_implies(alloc: Global, cnf: &mut Cnf, x: u64, y: u64) -> Result<u64, Memory>
     requires left { (0 < x) × (x ≤ cnf.old.vars) }
     requires right { (0 < y) × (y ≤ cnf.old.vars) }
-    ensures number { IfOk result (λ n. n ≡ cnf.old.vars + 1) }
-    ensures added { IfOk result
-        (λ _. cnf.new ≡ record {
-          vars = cnf.old.vars + 1;
-          clauses = cnf.old.clauses ++ implies_clauses (cnf.old.vars + 1) x y;
-        }) }
+    ensures { IfOk result (IsAdded (λ n. implies_clauses n x y) cnf.old cnf.new) }
 {
     let n = next_number(cnf)?;
-    push_clause(alloc, cnf, &[yes(n), yes(x)])?;
-    push_clause(alloc, cnf, &[yes(n), no(y)])?;
-    push_clause(alloc, cnf, &[no(n), no(x), yes(y)])?;
+    push_two(alloc, cnf, yes(n), yes(x))?;
+    push_two(alloc, cnf, yes(n), no(y))?;
+    push_three(alloc, cnf, no(n), no(x), yes(y))?;
     Ok(n)
 }
 
 /// Adds an occurrence of `x` if and only if `y`; its number.
-pub(crate) fn push_iff(alloc: Global, cnf: &mut Cnf, x: u64, y: u64) -> Result<u64, Memory>
+fn push_iff(alloc: Global, cnf: &mut Cnf, x: u64, y: u64) -> Result<u64, Memory>
     requires left { (0 < x) × (x ≤ cnf.old.vars) }
     requires right { (0 < y) × (y ≤ cnf.old.vars) }
-    ensures number { IfOk result (λ n. n ≡ cnf.old.vars + 1) }
-    ensures added { IfOk result
-        (λ _. cnf.new ≡ record {
-          vars = cnf.old.vars + 1;
-          clauses = cnf.old.clauses ++ iff_clauses (cnf.old.vars + 1) x y;
-        }) }
+    ensures { IfOk result (IsAdded (λ n. iff_clauses n x y) cnf.old cnf.new) }
 {
     let n = next_number(cnf)?;
-    push_clause(alloc, cnf, &[no(n), no(x), yes(y)])?;
-    push_clause(alloc, cnf, &[no(n), yes(x), no(y)])?;
-    push_clause(alloc, cnf, &[yes(n), yes(x), yes(y)])?;
-    push_clause(alloc, cnf, &[yes(n), no(x), no(y)])?;
+    push_three(alloc, cnf, no(n), no(x), yes(y))?;
+    push_three(alloc, cnf, no(n), yes(x), no(y))?;
+    push_three(alloc, cnf, yes(n), yes(x), yes(y))?;
+    push_three(alloc, cnf, yes(n), no(x), no(y))?;
     Ok(n)
+}
+
+/// Adds an occurrence of the formula, whose two parts have the numbers `x` and `y`; its number.
+pub(crate) fn push_sign(
+    alloc: Global,
+    cnf: &mut Cnf,
+    formula: &Formula,
+    x: u64,
+    y: u64,
+) -> Result<u64, Memory>
+    requires left { (0 < x) × (x ≤ cnf.old.vars) }
+    requires right { (0 < y) × (y ≤ cnf.old.vars) }
+    ensures { IfOk result (IsAdded (λ n. own_clauses (formula_of formula.now) n x y) cnf.old cnf.new) }
+{
+    match formula {
+        Formula::And(_, _) => push_and(alloc, cnf, x, y),
+        Formula::Or(_, _) => push_or(alloc, cnf, x, y),
+        Formula::Implies(_, _) => push_implies(alloc, cnf, x, y),
+        Formula::Iff(_, _) => push_iff(alloc, cnf, x, y),
+        _ => next_number(cnf),
+    }
 }

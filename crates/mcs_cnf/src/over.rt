@@ -12,12 +12,7 @@ use mcs_system::{Formula, Name};
 fn is_atom(atoms: &[Name], name: &Name) -> bool
     ensures { result ≡ is_in name.now atoms.now }
 {
-    for atom in atoms {
-        if name.is(atom) {
-            return true;
-        }
-    }
-    false
+    atoms.iter().any(|atom| name.is(atom))
 }
 
 /// Whether each atom of the formula is one of these.
@@ -28,10 +23,9 @@ pub fn is_over(atoms: &[Name], formula: &Formula) -> bool
         Formula::True | Formula::False => true,
         Formula::Atom(name) => is_atom(atoms, name),
         Formula::Not(g) => is_over(atoms, g),
-        Formula::And(g, h) => is_over(atoms, g) && is_over(atoms, h),
-        Formula::Or(g, h) => is_over(atoms, g) && is_over(atoms, h),
-        Formula::Implies(g, h) => is_over(atoms, g) && is_over(atoms, h),
-        Formula::Iff(g, h) => is_over(atoms, g) && is_over(atoms, h),
+        Formula::And(g, h) | Formula::Or(g, h) | Formula::Implies(g, h) | Formula::Iff(g, h) => {
+            is_over(atoms, g) && is_over(atoms, h)
+        }
     }
 }
 

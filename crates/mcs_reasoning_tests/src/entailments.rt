@@ -39,20 +39,32 @@ fn shown_by_clauses(
     Ok(Some(entails_from(alloc, &mut known, goal, atoms)?))
 }
 
+/// Whether the formula is told to follow, from formulas and from their clauses.
+fn follows(
+    alloc: Global,
+    kb: &[Formula],
+    formula: &Formula,
+    atoms: &[Name],
+) -> Result<bool, Memory> {
+    Ok(
+        matches!(shown(alloc, kb, formula, atoms)?, Some(Entail::Yes(_)))
+            && matches!(
+                shown_by_clauses(alloc, kb, formula, atoms)?,
+                Some(Entail::Yes(_))
+            ),
+    )
+}
+
 /// Whether the third formula is told to follow from the two before it, and the fourth one not to, where just
 /// the first two atoms are true.
 fn are_told(alloc: Global, formulas: &[Formula], atoms: &[Name]) -> Result<bool, Memory> {
-    let [_, _, follows, refuted] = formulas else {
+    let [_, _, third, fourth] = formulas else {
         return Ok(false);
     };
     let kb = &formulas[..2];
     Ok(
-        matches!(shown(alloc, kb, follows, atoms)?, Some(Entail::Yes(_)))
-            && matches!(
-                shown_by_clauses(alloc, kb, follows, atoms)?,
-                Some(Entail::Yes(_))
-            )
-            && matches!(shown(alloc, kb, refuted, atoms)?, Some(Entail::No(0b011))),
+        follows(alloc, kb, third, atoms)?
+            && matches!(shown(alloc, kb, fourth, atoms)?, Some(Entail::No(0b011))),
     )
 }
 

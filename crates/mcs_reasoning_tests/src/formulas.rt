@@ -144,7 +144,32 @@ fn refutation(alloc: Global) -> Result<Trace, Memory> {
 
 const CONTRADICTION: [&[i64]; 7] = [&[1], &[-1, -3], &[1, 3], &[3], &[-2, -4], &[2, 4], &[4]];
 
-/// Whether a fact, its denial and that of a goal have the clauses of the contradiction, and are refuted.
+/// Whether the trace of the contradiction is accepted for the clauses.
+fn is_refuted(alloc: Global, cnf: &Cnf) -> Result<bool, Memory> {
+    let trace = refutation(alloc)?;
+    check(alloc, cnf, &trace)
+}
+
+/// Whether a fact, its denial and that of a goal have the clauses of the contradiction, and are refuted; their
+/// clauses are added to the list, which has none.
+fn is_contradiction(
+    alloc: Global,
+    cnf: &mut Cnf,
+    atoms: &[Name],
+    fact: &Formula,
+    goal: &Formula,
+) -> Result<bool, Memory> {
+    Ok(
+        push_stated(alloc, cnf, atoms, fact)?
+            && push_denied(alloc, cnf, atoms, fact)?
+            && push_denied(alloc, cnf, atoms, goal)?
+            && cnf.vars() == 4
+            && are_those(cnf.clauses(), &CONTRADICTION)
+            && is_refuted(alloc, cnf)?,
+    )
+}
+
+/// Whether a fact, its denial and that of a goal are a contradiction, from no formulas on.
 fn are_refuted(alloc: Global, formulas: &[Formula], atoms: &[Name]) -> Result<bool, Memory> {
     let [fact, goal] = formulas else {
         return Ok(false);
@@ -153,14 +178,9 @@ fn are_refuted(alloc: Global, formulas: &[Formula], atoms: &[Name]) -> Result<bo
         return Ok(false);
     }
     let mut cnf = clauses(alloc, &[], atoms)?;
-    Ok(
-        push_stated(alloc, &mut cnf, atoms, fact)?
-            && push_denied(alloc, &mut cnf, atoms, fact)?
-            && push_denied(alloc, &mut cnf, atoms, goal)?
-            && cnf.vars() == 4
-            && are_those(cnf.clauses(), &CONTRADICTION)
-            && check(alloc, &cnf, &refutation(alloc)?)?,
-    )
+    let told = is_contradiction(alloc, &mut cnf, atoms, fact, goal);
+    drop(cnf);
+    told
 }
 
 #[test]

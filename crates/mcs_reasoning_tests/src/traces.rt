@@ -68,13 +68,26 @@ const CHAINS: [(&[u64], bool); 6] = [
     (&[], false),
 ];
 
+/// Whether a step over the clauses has the number after theirs.
+fn step_comes_next(alloc: Global, cnf: &Cnf) -> Result<bool, Memory> {
+    let trace = one_step(alloc, &[1, 2])?;
+    Ok(end_at(cnf, &trace, 3))
+}
+
+/// Whether the clauses are refuted by one step, by the right chains alone.
+fn one_step_refutes(alloc: Global, cnf: &Cnf) -> Result<bool, Memory> {
+    Ok(
+        step_comes_next(alloc, cnf)?
+            && are_told(alloc, cnf, &CHAINS)?
+            && !nothing_refutes(alloc, cnf)?,
+    )
+}
+
 #[test]
 fn two_units_are_refuted_by_one_step(rt: HostRuntime) -> Result<(), Fail> {
     let cnf = unit_clauses(rt.alloc())?;
     assert!(rt; cnf.vars() == 1 && cnf.clauses().len() == 2);
-    assert!(rt; end_at(&cnf, &one_step(rt.alloc(), &[1, 2])?, 3));
-    assert!(rt; are_told(rt.alloc(), &cnf, &CHAINS)?);
-    assert!(rt; !nothing_refutes(rt.alloc(), &cnf)?);
+    assert!(rt; one_step_refutes(rt.alloc(), &cnf)?);
     accepted_traces_refute();
     Ok(())
 }

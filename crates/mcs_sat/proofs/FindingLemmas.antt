@@ -5,7 +5,8 @@ use Rattle.std.proofs.lemmas.List.{drop_more}
 use Rattle.mcs_base.proofs.ListingLemmas.{all_among}
 use Rattle.mcs_trace.specs.Clauses.{IsClause, LiteralBefore, place}
 use Rattle.mcs_base.specs.Listings.{IsAmong}
-use Rattle.mcs_trace.proofs.OrderLemmas.{among_get, among_drop-first, among_drop-more, among_drop-all, first_before}
+use Rattle.mcs_base.proofs.Among.{among_drop_more, none_among_drop, among_drop_first, among_at}
+use Rattle.mcs_base.proofs.Ascending.{first_before}
 use Rattle.mcs_sat.specs.declared.trail.Entry.{Entry}
 use Rattle.mcs_sat.specs.declared.examine.Finding.TheVariants.{Forced, Conflict}
 use Rattle.mcs_sat.specs.Trails.{AreTwoFree, StandsNowhere, IsOn, IsFinding}
@@ -31,15 +32,15 @@ found-false entries c i o less on h = record { free = later o h.free; seen = λ 
 
     at : (k : ℤ) → ((o ≡ Some k) ⊎ IsOn entries (neg_ℤ k)) ⊎ IsAmong k (drop i c) → ((o ≡ Some k) ⊎ IsOn entries (neg_ℤ k)) ⊎ IsAmong k (drop (i + 1) c)
     at k (inl done) = inl done
-    at k (inr rest) = elim (among_drop-more k c i (pos 0) less rest) [ inl e ↦ inl (inr (subst (λ (l : ℤ). IsOn entries (neg_ℤ l)) (sym e) on)) | inr later ↦ inr later ]
+    at k (inr rest) = elim ((among_drop_more c i (pos 0) less k).0 rest) [ inl e ↦ inl (inr (subst (λ (l : ℤ). IsOn entries (neg_ℤ l)) (sym e) on)) | inr later ↦ inr later ]
 
 pub found-free : (entries : List Entry) (c : List ℤ) (i : ℕ) (o : Option ℤ) → IsClause c → i < length c → o ≡ None → StandsNowhere entries (unsigned_abs (get_or c i (pos 0))) → FoundSoFar entries c i o → FoundSoFar entries c (i + 1) (Some (get_or c i (pos 0)))
-found-free entries c i o clause less none nowhere h = record { free = (among_get c i (pos 0) less, nowhere, first_before c i (pos 0) less clause.1); seen = λ k among. at k (h.seen k among) }
+found-free entries c i o clause less none nowhere h = record { free = (among_at c i (pos 0) less, nowhere, first_before LiteralBefore c i (pos 0) less clause.1); seen = λ k among. at k (h.seen k among) }
   where
     at : (k : ℤ) → ((o ≡ Some k) ⊎ IsOn entries (neg_ℤ k)) ⊎ IsAmong k (drop i c) → ((Some (get_or c i (pos 0)) ≡ Some k) ⊎ IsOn entries (neg_ℤ k)) ⊎ IsAmong k (drop (i + 1) c)
     at k (inl (inl e)) = let no : None ≡ Some k = sym none ∙ e in absurd (cc)
     at k (inl (inr on)) = inl (inr on)
-    at k (inr rest) = elim (among_drop-more k c i (pos 0) less rest) [ inl e ↦ inl (inl (ap Some (sym e))) | inr later ↦ inr later ]
+    at k (inr rest) = elim ((among_drop_more c i (pos 0) less k).0 rest) [ inl e ↦ inl (inl (ap Some (sym e))) | inr later ↦ inr later ]
 
 pub found-conflict : (entries : List Entry) (c : List ℤ) (i : ℕ) (o : Option ℤ) → length c ≤ i → o ≡ None → FoundSoFar entries c i o → IsFinding entries c Conflict
 found-conflict entries c i o past none h k among = at (h.seen k among)
@@ -47,7 +48,7 @@ found-conflict entries c i o past none h k among = at (h.seen k among)
     at : ((o ≡ Some k) ⊎ IsOn entries (neg_ℤ k)) ⊎ IsAmong k (drop i c) → IsOn entries (neg_ℤ k)
     at (inl (inl e)) = let no : None ≡ Some k = sym none ∙ e in absurd (cc)
     at (inl (inr on)) = on
-    at (inr rest) = absurd (among_drop-all k c i past rest)
+    at (inr rest) = absurd (none_among_drop c i k past rest)
 
 pub found-forced : (entries : List Entry) (c : List ℤ) (i : ℕ) (o : Option ℤ) (l : ℤ) → length c ≤ i → o ≡ Some l → FoundSoFar entries c i o → IsFinding entries c (Forced l)
 found-forced entries c i o l past some h =
@@ -57,7 +58,7 @@ found-forced entries c i o l past some h =
     at : (k : ℤ) → ((o ≡ Some k) ⊎ IsOn entries (neg_ℤ k)) ⊎ IsAmong k (drop i c) → (k ≡ l) ⊎ IsOn entries (neg_ℤ k)
     at k (inl (inl e)) = let both : Some l ≡ Some k = sym some ∙ e in inl (cc)
     at k (inl (inr on)) = inr on
-    at k (inr rest) = absurd (among_drop-all k c i past rest)
+    at k (inr rest) = absurd (none_among_drop c i k past rest)
 
 pub found-two : (entries : List Entry) (c : List ℤ) (i : ℕ) (o : Option ℤ) → i < length c → is_some o ≡ true → StandsNowhere entries (unsigned_abs (get_or c i (pos 0))) → FoundSoFar entries c i o → AreTwoFree entries c
 found-two entries c i None less some nowhere h = absurd (cc)
@@ -65,9 +66,9 @@ found-two entries c i (Some l) less some nowhere h = record {
   first = l;
   second = get_or c i (pos 0);
   has_first = h.free.0;
-  has_second = among_get c i (pos 0) less;
+  has_second = among_at c i (pos 0) less;
   differ = λ e.
-      let before : place l < place (get_or c i (pos 0)) = all_among (LiteralBefore l) (drop i c) (get_or c i (pos 0)) h.free.2 (among_drop-first c i (pos 0) less) in
+      let before : place l < place (get_or c i (pos 0)) = all_among (LiteralBefore l) (drop i c) (get_or c i (pos 0)) h.free.2 (among_drop_first c i (pos 0) less) in
       let same : place l ≡ place (get_or c i (pos 0)) = ap place e in
       omega arith;
   free_first = h.free.1;

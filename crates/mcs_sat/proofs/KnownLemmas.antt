@@ -1,7 +1,10 @@
 -- Numbered clauses, chains and steps, one more at the end.
 use Rattle.std.proofs.Common.{◌≡◌, ℕ, ◌+◌, ◌-◌, zero, suc, List, [], ◌∷◌, ◌++◌, refl, sym, ap, ◌∙◌, subst, arith, ℤ, length, map, Some, slice_get, append_assoc, append-nil}
 use Rattle.std.specs.List.{AllByRecursion}
-use Rattle.std.proofs.lemmas.List.{length_push}
+use Rattle.std.proofs.lemmas.List.{length_push, map_push, length-append, length-map}
+use Rattle.std.proofs.lemmas.Option.{slice_get_within}
+use Rattle.mcs_base.proofs.Lists.{slice_get_seam, slice_get_kept}
+use Rattle.mcs_base.proofs.Each.{all_get}
 use Rattle.mcs_trace.specs.Resolution.{IsResolvent}
 use Rattle.mcs_trace.specs.Traces.{numbered, ResolvesTo, IsChainResolvent, AreRightSteps, EndsEmpty, inference_of, clauses_of}
 use Rattle.mcs_trace.specs.declared.trace.Step.{Step}
@@ -11,36 +14,18 @@ use Rattle.mcs_sat.specs.Trails.{IsNumber}
 -- ---- numbered clauses
 pub numbered-more : (known more : List (List ℤ)) (n : ℕ) (c : List ℤ) → numbered known n ≡ Some c → numbered (known ++ more) n ≡ Some c
 numbered-more known more zero c e = absurd (cc)
-numbered-more [] more (suc n) c e = absurd (cc)
-numbered-more (d ∷ known) more (suc zero) c e = e
-numbered-more (d ∷ known) more (suc (suc n)) c e = numbered-more known more (suc n) c e
+numbered-more known more (suc n) c e = slice_get_kept known more n c e
 
 pub numbered-bound : (known : List (List ℤ)) (n : ℕ) (c : List ℤ) → numbered known n ≡ Some c → IsNumber (length known) n
 numbered-bound known zero c e = absurd (cc)
-numbered-bound [] (suc n) c e = absurd (cc)
-numbered-bound (d ∷ known) (suc zero) c e = (omega arith, omega arith)
-numbered-bound (d ∷ known) (suc (suc n)) c e = let rest = numbered-bound known (suc n) c e in (omega arith, omega (arith, rest.1))
+numbered-bound known (suc n) c e = let less = slice_get_within known n c e in (omega arith, omega arith)
 
 pub numbered-last : (known : List (List ℤ)) (c : List ℤ) (n : ℕ) → n ≡ length known + 1 → numbered (known ++ c ∷ []) n ≡ Some c
-numbered-last known c n e = ap (numbered (known ++ c ∷ [])) (let e' : n ≡ suc (length known) = omega arith in e') ∙ last known c
-  where
-    last : (known : List (List ℤ)) (c : List ℤ) → slice_get (known ++ c ∷ []) (length known) ≡ Some c
-    last [] c = refl
-    last (d ∷ known) c = last known c
+numbered-last known c n e = ap (numbered (known ++ c ∷ [])) (let e' : n ≡ suc (length known) = omega arith in e') ∙ slice_get_seam known c [] (length known) refl
 
 pub all_numbered : (P : List ℤ → Type 0) (known : List (List ℤ)) (n : ℕ) (c : List ℤ) → AllByRecursion P known → numbered known n ≡ Some c → P c
 all_numbered P known zero c all e = absurd (cc)
-all_numbered P [] (suc n) c all e = absurd (cc)
-all_numbered P (d ∷ known) (suc zero) c all e = let same : d ≡ c = cc in subst P same all.0
-all_numbered P (d ∷ known) (suc (suc n)) c all e = all_numbered P known (suc n) c all.1 e
-
-pub all_push : (P : List ℤ → Type 0) (known : List (List ℤ)) (c : List ℤ) → AllByRecursion P known → P c → AllByRecursion P (known ++ c ∷ [])
-all_push P [] c all p = (p, tt)
-all_push P (d ∷ known) c all p = (all.0, all_push P known c all.1 p)
-
-pub all_first : (P : List ℤ → Type 0) (cs more : List (List ℤ)) → AllByRecursion P (cs ++ more) → AllByRecursion P cs
-all_first P [] more all = tt
-all_first P (c ∷ cs) more all = (all.0, all_first P cs more all.1)
+all_numbered P known (suc n) c all e = all_get P known n c all e
 
 -- ---- chains
 pub chain-start : (known : List (List ℤ)) (n : ℕ) (c : List ℤ) → numbered known n ≡ Some c → IsChainResolvent known (n ∷ []) c
@@ -55,17 +40,11 @@ chain-push known [] c d m n h e r = absurd h
 chain-push known (k ∷ ns) c d m n (first, is, rest) e r = (first, is, resolves-push known first ns c d m n rest e r)
 
 -- ---- steps
-pub clauses_of-push : (steps : List Step) (s : Step) → clauses_of (steps ++ s ∷ []) ≡ clauses_of steps ++ s.clause ∷ []
-clauses_of-push [] s = refl
-clauses_of-push (t ∷ steps) s = ap (λ cs. t.clause ∷ cs) (clauses_of-push steps s)
-
 pub known-push : (clauses : List (List ℤ)) (steps : List Step) (s : Step) → clauses ++ clauses_of (steps ++ s ∷ []) ≡ (clauses ++ clauses_of steps) ++ s.clause ∷ []
-known-push clauses steps s = ap (λ cs. clauses ++ cs) (clauses_of-push steps s) ∙ sym (append_assoc clauses (clauses_of steps) (s.clause ∷ []))
+known-push clauses steps s = ap (λ cs. clauses ++ cs) (map_push (λ (s : Step). s.clause) steps s) ∙ sym (append_assoc clauses (clauses_of steps) (s.clause ∷ []))
 
 pub length-known : (clauses : List (List ℤ)) (steps : List Step) → length (clauses ++ clauses_of steps) ≡ length clauses + length steps
-length-known [] [] = omega arith
-length-known [] (s ∷ steps) = let rest = length-known [] steps in omega arith
-length-known (c ∷ clauses) steps = let rest = length-known clauses steps in omega arith
+length-known clauses steps = omega (arith, length-append clauses (clauses_of steps), length-map steps (λ (s : Step). s.clause))
 
 pub right-push : (known : List (List ℤ)) (steps : List Step) (s : Step) → AreRightSteps known (map inference_of steps) → IsChainResolvent (known ++ clauses_of steps) s.chain.items s.clause → AreRightSteps known (map inference_of (steps ++ s ∷ []))
 right-push known [] s right chain = (subst (λ (ks : List (List ℤ)). IsChainResolvent ks s.chain.items s.clause) (append-nil known) chain, tt)
@@ -74,11 +53,7 @@ right-push known (t ∷ steps) s right chain = (
   right-push (known ++ t.clause ∷ []) steps s right.1 (subst (λ (ks : List (List ℤ)). IsChainResolvent ks s.chain.items s.clause) (sym (append_assoc known (t.clause ∷ []) (clauses_of steps))) chain),
 )
 
-slice_get-last : (steps : List Step) (s : Step) → slice_get (steps ++ s ∷ []) (length steps) ≡ Some s
-slice_get-last [] s = refl
-slice_get-last (t ∷ steps) s = slice_get-last steps s
-
 pub ends-push : (steps : List Step) (s : Step) → s.clause ≡ [] → EndsEmpty (map inference_of (steps ++ s ∷ []))
 ends-push steps s empty =
     let e : length (steps ++ s ∷ []) - 1 ≡ length steps = omega (arith, length_push steps s) in
-    (ends-last (steps ++ s ∷ []) s (ap (slice_get (steps ++ s ∷ [])) e ∙ slice_get-last steps s)).1 empty
+    (ends-last (steps ++ s ∷ []) s (ap (slice_get (steps ++ s ∷ [])) e ∙ slice_get_seam steps s [] (length steps) refl)).1 empty

@@ -1,9 +1,11 @@
 -- How the latest of the literals of a false clause is found.
 use Rattle.std.proofs.Common.{◌≡◌, ℕ, ◌+◌, ◌<◌, ◌≤◌, List, [], ◌∷◌, ◌⊎◌, inl, inr, refl, sym, ap, ◌∙◌, subst, arith, ℤ, pos, neg_ℤ, unsigned_abs, length, drop, get_or, Option, Some, None, MatchOption}
 use Rattle.std.proofs.lemmas.Bool.{cases_lt}
+use Rattle.std.proofs.Math.IntN.{neg_ℤ-neg_ℤ}
 use Rattle.mcs_base.specs.Listings.{IsAmong}
 use Rattle.mcs_base.proofs.ListingLemmas.{all_from_among}
-use Rattle.mcs_trace.proofs.OrderLemmas.{size-neg, neg-neg, among_get, among_drop-more, among_drop-all}
+use Rattle.mcs_base.proofs.Among.{among_drop_more, none_among_drop, among_at}
+use Rattle.mcs_base.proofs.Numbers.{unsigned_abs-neg_ℤ}
 use Rattle.mcs_sat.specs.declared.learn.Latest.{Latest}
 use Rattle.mcs_sat.specs.declared.trail.Entry.{Entry}
 use Rattle.mcs_sat.specs.Trails.{literal_at, IsJoined, ArePlaced, AreCovered, StandsAt, StandsNowhere, IsOn, IsOnBelow, IsFalse, IsFalseBelow, IsLatest}
@@ -21,33 +23,33 @@ latest-start es c k among = among
 pub covered-false : (es : List Entry) (ps : List ℕ) (c : List ℤ) → ArePlaced es ps → IsFalse es c → AreCovered ps c
 covered-false es ps c placed false' = all_from_among (λ (l : ℤ). unsigned_abs l < length ps) c (λ k among.
     let (p, less, e) = false' k among in
-    let same : unsigned_abs (literal_at es p) ≡ unsigned_abs k = ap unsigned_abs e ∙ size-neg k in
+    let same : unsigned_abs (literal_at es p) ≡ unsigned_abs k = ap unsigned_abs e ∙ unsigned_abs-neg_ℤ k in
     let within : unsigned_abs (literal_at es p) < length ps = (placed p less).1 in
     omega arith)
 
 -- the variable of a literal that is false stands somewhere
 pub false-somewhere : (es : List Entry) (k : ℤ) → IsOn es (neg_ℤ k) → StandsNowhere es (unsigned_abs k) → ⊥
-false-somewhere es k (p, less, e) nowhere = nowhere p (less, ap unsigned_abs e ∙ size-neg k)
+false-somewhere es k (p, less, e) nowhere = nowhere p (less, ap unsigned_abs e ∙ unsigned_abs-neg_ℤ k)
 
 -- it is the negation that stands there
 false-place : (es : List Entry) (ps : List ℕ) (k : ℤ) (q : ℕ) → ArePlaced es ps → IsOn es (neg_ℤ k) → StandsAt es (unsigned_abs k) q → k ≡ neg_ℤ (literal_at es q)
 false-place es ps k q placed (p, less, e) (less', size) =
-    let same : p ≡ q = same_place es ps p q placed less less' (ap unsigned_abs e ∙ size-neg k ∙ sym size) in
-    sym (neg-neg k) ∙ ap neg_ℤ (sym e ∙ ap (literal_at es) same)
+    let same : p ≡ q = same_place es ps p q placed less less' (ap unsigned_abs e ∙ unsigned_abs-neg_ℤ k ∙ sym size) in
+    sym (neg_ℤ-neg_ℤ k) ∙ ap neg_ℤ (sym e ∙ ap (literal_at es) same)
 
 module _ (es : List Entry) (ps : List ℕ) (c : List ℤ) (i q : ℕ) (placed : ArePlaced es ps) (false' : IsFalse es c) (less : i < length c) (stands : StandsAt es (unsigned_abs (get_or c i (pos 0))) q) where
   abbrev here : get_or c i (pos 0) ≡ neg_ℤ (literal_at es q)
-  here = false-place es ps (get_or c i (pos 0)) q placed (false' (get_or c i (pos 0)) (among_get c i (pos 0) less)) stands
+  here = false-place es ps (get_or c i (pos 0)) q placed (false' (get_or c i (pos 0)) (among_at c i (pos 0) less)) stands
 
   abbrev has : IsAmong (neg_ℤ (literal_at es q)) c
-  has = subst (λ (k : ℤ). IsAmong k c) here (among_get c i (pos 0) less)
+  has = subst (λ (k : ℤ). IsAmong k c) here (among_at c i (pos 0) less)
 
   pub latest-joined : (found : Option Latest) (new : Latest) → MatchOption found (new ≡ record { place = q; others = 0 }) (λ l. IsJoined l q new) → LatestSoFar es c i found → LatestSoFar es c (i + 1) (Some new)
   latest-joined None new e h = subst (λ (l : Latest). LatestSoFar es c (i + 1) (Some l)) (sym e) (
     stands.0,
     omega arith,
     has,
-    λ k among. elim (among_drop-more k c i (pos 0) less (h k among)) [
+    λ k among. elim ((among_drop_more c i (pos 0) less k).0 (h k among)) [
       | inl e' ↦ inl (inl (e' ∙ here))
       | inr later ↦ inr later
     ],
@@ -56,11 +58,11 @@ module _ (es : List Entry) (ps : List ℕ) (c : List ℤ) (i q : ℕ) (placed : 
       let here' : get_or c i (pos 0) ≡ neg_ℤ (literal_at es new.place) = here ∙ ap (λ j. neg_ℤ (literal_at es j)) (sym place) in (
         (let b = stands.0 in omega arith),
         omega arith,
-        subst (λ (k : ℤ). IsAmong k c) here' (among_get c i (pos 0) less),
+        subst (λ (k : ℤ). IsAmong k c) here' (among_at c i (pos 0) less),
         λ k among. elim (h k among) [
-          | inl (inl e) ↦ inl (inr (l.place, omega arith, sym (neg-neg (literal_at es l.place)) ∙ ap neg_ℤ (sym e)))
+          | inl (inl e) ↦ inl (inr (l.place, omega arith, sym (neg_ℤ-neg_ℤ (literal_at es l.place)) ∙ ap neg_ℤ (sym e)))
           | inl (inr (j, less', on)) ↦ inl (inr (j, omega arith, on))
-          | inr rest ↦ elim (among_drop-more k c i (pos 0) less rest) [ inl e ↦ inl (inl (e ∙ here')) | inr later ↦ inr later ]
+          | inr rest ↦ elim ((among_drop_more c i (pos 0) less k).0 rest) [ inl e ↦ inl (inl (e ∙ here')) | inr later ↦ inr later ]
         ],
       )
   latest-joined (Some l) new (inr (before, place, more, ordered', taken)) (bound, ordered, among', h) =
@@ -71,9 +73,9 @@ module _ (es : List Entry) (ps : List ℕ) (c : List ℤ) (i q : ℕ) (placed : 
         λ k among. elim (h k among) [
           | inl (inl e) ↦ inl (inl (e ∙ same))
           | inl (inr (j, less', on)) ↦ inl (inr (j, omega arith, on))
-          | inr rest ↦ elim (among_drop-more k c i (pos 0) less rest) [
+          | inr rest ↦ elim ((among_drop_more c i (pos 0) less k).0 rest) [
             | inl e ↦ elim (cases_lt q l.place) [
-              | inl earlier ↦ inl (inr (q, taken earlier, sym (neg-neg (literal_at es q)) ∙ ap neg_ℤ (sym (e ∙ here))))
+              | inl earlier ↦ inl (inr (q, taken earlier, sym (neg_ℤ-neg_ℤ (literal_at es q)) ∙ ap neg_ℤ (sym (e ∙ here))))
               | inr past ↦ let at : q ≡ l.place = omega arith in inl (inl (e ∙ here ∙ ap (λ j. neg_ℤ (literal_at es j)) at ∙ same))
             ]
             | inr later ↦ inr later
@@ -82,7 +84,7 @@ module _ (es : List Entry) (ps : List ℕ) (c : List ℤ) (i q : ℕ) (placed : 
       )
 
 pub latest-end : (es : List Entry) (c : List ℤ) (i : ℕ) (found : Option Latest) → length c ≤ i → LatestSoFar es c i found → MatchOption found (c ≡ []) (IsLatest es c)
-latest-end es c i None past h = empty c (λ k among. among_drop-all k c i past (h k among))
+latest-end es c i None past h = empty c (λ k among. none_among_drop c i k past (h k among))
   where
     empty : (xs : List ℤ) → ((k : ℤ) → IsAmong k xs → ⊥) → xs ≡ []
     empty [] none = refl
@@ -91,7 +93,7 @@ latest-end es c i (Some l) past (bound, ordered, among', h) = record {
   here = bound;
   before = ordered;
   has = among';
-  others = λ k among. elim (h k among) [ inl found ↦ found | inr rest ↦ absurd (among_drop-all k c i past rest) ];
+  others = λ k among. elim (h k among) [ inl found ↦ found | inr rest ↦ absurd (none_among_drop c i k past rest) ];
 }
 
 -- ---- what is false before a place
@@ -102,5 +104,5 @@ none_below es (x ∷ c) n none h = let (p, less, e) = h x (inl refl) in absurd (
 pub latest_below : (es : List Entry) (ps : List ℕ) (c : List ℤ) (n : ℕ) (latest : Latest) → ArePlaced es ps → n ≤ length es → IsFalseBelow es n c → IsLatest es c latest → latest.place < n
 latest_below es ps c n latest placed bound h l =
     let (j, less, e) = h (neg_ℤ (literal_at es latest.place)) l.has in
-    let same : j ≡ latest.place = same_place es ps j latest.place placed (omega arith) l.here (ap unsigned_abs (e ∙ neg-neg (literal_at es latest.place))) in
+    let same : j ≡ latest.place = same_place es ps j latest.place placed (omega arith) l.here (ap unsigned_abs (e ∙ neg_ℤ-neg_ℤ (literal_at es latest.place))) in
     omega arith

@@ -4,7 +4,6 @@ pub mod LatestLemmas
 pub mod LearnLemmas
 pub mod ModelLemmas
 pub mod OccurrenceLemmas
-pub mod PlaceLemmas
 pub mod SearchLemmas
 pub mod TrailLemmas
 pub mod SettleLemmas

@@ -1,9 +1,10 @@
 -- What is true of all variables and of all clauses.
-use Rattle.std.proofs.Common.{◌≡◌, ℕ, ◌+◌, ◌<◌, ◌≤◌, zero, suc, List, [], ◌∷◌, ◌++◌, ◌↔◌, inl, inr, refl, sym, ap, ◌∙◌, subst, arith, ℤ, pos, negsuc, neg_ℤ, unsigned_abs, length, drop, get_or, Option, Some, None, MatchOption, Bool, true, false, not, IsTrue, is_some, unwrap_or, true≢false, slice_get, ◌||◌, ◌&&◌}
+use Rattle.std.proofs.Common.{◌≡◌, ℕ, ◌+◌, ◌<◌, ◌≤◌, zero, suc, List, [], ◌∷◌, ◌++◌, ◌↔◌, inl, inr, refl, sym, ap, ◌∙◌, subst, arith, ℤ, pos, negsuc, neg_ℤ, unsigned_abs, length, get_or, Option, Some, None, MatchOption, Bool, true, false, not, IsTrue, is_some, unwrap_or, true≢false, ◌||◌, ◌&&◌}
 use Rattle.std.specs.Bool.{MatchBool}
 use Rattle.std.specs.List.{AllByRecursion}
 use Rattle.std.proofs.lemmas.Bool.{cases_lt}
-use Rattle.std.proofs.lemmas.List.{drop_more, get_or_append_left, get_or_push}
+use Rattle.std.proofs.lemmas.List.{get_or_append_left, get_or_push}
+use Rattle.std.proofs.lemmas.Option.{slice_get_read}
 use Rattle.mcs_base.specs.Listings.{IsAmong}
 use Rattle.mcs_base.proofs.ListingLemmas.{all_among}
 use Rattle.mcs_trace.specs.Clauses.{IsLiteral, IsClause, literal_holds, clause_holds, all_hold}
@@ -52,16 +53,8 @@ module _ (es : List Entry) (m : ℕ) (c : List ℤ) (is : IsClause c) (within : 
   satisfied-found (Forced l) ((among, rest), nowhere) other = absurd (somewhere l among nowhere)
   satisfied-found Conflict found other = absurd (other refl)
 
-pub all-more : (P : List ℤ → Type 0) (X : Type 0) (cs : List (List ℤ)) (i : ℕ) (c : List ℤ) → i < length cs → c ≡ get_or cs i c → P c → (AllByRecursion P (drop i cs) → X) → AllByRecursion P (drop (i + 1) cs) → X
-all-more P X cs i c less e p h rest = h (subst (AllByRecursion P) (sym (drop_more cs i c less)) (subst P e p, rest))
-
 pub numbered-at : (cs : List (List ℤ)) (i : ℕ) (c : List ℤ) → i < length cs → c ≡ get_or cs i c → numbered cs (i + 1) ≡ Some c
-numbered-at cs i c less e = let n : i + 1 ≡ suc i = omega arith in ap (numbered cs) n ∙ at cs i less e
-  where
-    at : (cs : List (List ℤ)) (i : ℕ) → i < length cs → c ≡ get_or cs i c → slice_get cs i ≡ Some c
-    at [] i less e = absurd (omega arith)
-    at (d ∷ cs) zero less e = ap Some (sym e)
-    at (d ∷ cs) (suc i) less e = at cs i (omega arith) e
+numbered-at cs i c less e = let n : i + 1 ≡ suc i = omega arith in ap (numbered cs) n ∙ slice_get_read cs (length cs) i c refl less e
 
 -- ---- the model
 pub model-more : (es : List Entry) (model new : List Bool) (v : ℕ) (b : Bool) → length model + 1 ≡ v → new ≡ model ++ b ∷ [] → (IsTrue b ↔ IsOn es (pos v))

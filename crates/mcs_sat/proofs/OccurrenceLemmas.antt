@@ -5,6 +5,7 @@ use Rattle.std.proofs.lemmas.List.{get_or-set_same, get_or-set_other}
 use Rattle.mcs_base.specs.Listings.{IsAmong}
 use Rattle.std.specs.List.{All}
 use Rattle.std.proofs.lemmas.List.Elements.{All-push}
+use Rattle.mcs_base.proofs.Among.{among_left, among_push}
 use Rattle.mcs_sat.specs.declared.occurrences.Occurrence.{Occurrence}
 use Rattle.mcs_sat.specs.Trails.{AreNumbers, IsListedAt, IsNumber, IsOccurrence, numbers_in}
 
@@ -25,28 +26,19 @@ numbers-more n m vs le h k d less = let (p, q) = h k d less in
     (weaker n m (get_or vs k d).positive.items le p, weaker n m (get_or vs k d).negative.items le q)
 
 -- ---- where a number is listed
-among-old : (n x : ℕ) (xs : List ℕ) → IsAmong n xs → IsAmong n (xs ++ x ∷ [])
-among-old n x [] h = absurd h
-among-old n x (y ∷ ys) (inl e) = inl e
-among-old n x (y ∷ ys) (inr h) = inr (among-old n x ys h)
-
-among-new : (x : ℕ) (xs : List ℕ) → IsAmong x (xs ++ x ∷ [])
-among-new x [] = inl refl
-among-new x (y ∷ ys) = inr (among-new x ys)
-
 pub kept-negative : (old new : Occurrence) (number n : ℕ) (k : ℤ) → new.positive.items ≡ old.positive.items → new.negative.items ≡ old.negative.items ++ number ∷ [] → IsAmong n (numbers_in k old) → IsAmong n (numbers_in k new)
 kept-negative old new number n (pos m) same more h = subst (λ (xs : List ℕ). IsAmong n xs) (sym same) h
-kept-negative old new number n (negsuc m) same more h = subst (λ (xs : List ℕ). IsAmong n xs) (sym more) (among-old n number old.negative.items h)
+kept-negative old new number n (negsuc m) same more h = subst (λ (xs : List ℕ). IsAmong n xs) (sym more) (among_left n old.negative.items (number ∷ []) h)
 
 pub kept-positive : (old new : Occurrence) (number n : ℕ) (k : ℤ) → new.positive.items ≡ old.positive.items ++ number ∷ [] → new.negative.items ≡ old.negative.items → IsAmong n (numbers_in k old) → IsAmong n (numbers_in k new)
-kept-positive old new number n (pos m) more same h = subst (λ (xs : List ℕ). IsAmong n xs) (sym more) (among-old n number old.positive.items h)
+kept-positive old new number n (pos m) more same h = subst (λ (xs : List ℕ). IsAmong n xs) (sym more) (among_left n old.positive.items (number ∷ []) h)
 kept-positive old new number n (negsuc m) more same h = subst (λ (xs : List ℕ). IsAmong n xs) (sym same) h
 
 module _ (vs : List Occurrence) (at : ℕ) (x : ℤ) (old new : Occurrence) (number : ℕ) (here : at < length vs) (size : at ≡ unsigned_abs x) (is : old ≡ get_or vs at old) where
   pub listed-new : numbers_in x new ≡ numbers_in x old ++ number ∷ [] → IsListedAt (set vs at new) number x
   listed-new added v =
       let read : get_or (set vs at new) (unsigned_abs x) v ≡ new = ap (λ j. get_or (set vs at new) j v) (sym size) ∙ get_or-set_same vs at new v here in
-      subst (λ (o : Occurrence). IsAmong number (numbers_in x o)) (sym read) (subst (λ (xs : List ℕ). IsAmong number xs) (sym added) (among-new number (numbers_in x old)))
+      subst (λ (o : Occurrence). IsAmong number (numbers_in x o)) (sym read) (subst (λ (xs : List ℕ). IsAmong number xs) (sym added) ((among_push number (numbers_in x old) number).1 (inr refl)))
 
   pub listed-kept : ((n : ℕ) (k : ℤ) → IsAmong n (numbers_in k old) → IsAmong n (numbers_in k new)) → (n : ℕ) (k : ℤ) → IsListedAt vs n k → IsListedAt (set vs at new) n k
   listed-kept kept n k h v = elim (cases_eq (unsigned_abs k) at) [

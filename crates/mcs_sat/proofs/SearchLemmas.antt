@@ -4,6 +4,7 @@ use Rattle.std.specs.List.{AllByRecursion}
 use Rattle.std.proofs.lemmas.List.{length_push, length-take}
 use Rattle.mcs_base.specs.Listings.{IsAmong}
 use Rattle.mcs_base.proofs.ListingLemmas.{all_among, all_from_among}
+use Rattle.mcs_base.proofs.Each.{all_push}
 use Rattle.mcs_trace.specs.Clauses.{ClauseList, IsClause, IsClauseList, IsWithin}
 use Rattle.mcs_trace.specs.Traces.{AreRightSteps, clauses_of, inference_of}
 use Rattle.mcs_trace.specs.declared.trace.Step.{Step}
@@ -13,7 +14,7 @@ use Rattle.mcs_sat.specs.declared.search.Search.{Search}
 use Rattle.mcs_sat.specs.declared.trail.Entry.{Entry}
 use Rattle.mcs_sat.specs.declared.trail.Trail.{Trail}
 use Rattle.mcs_sat.specs.Trails.{AreClauses, AreExplained, AreNumbers, ArePlaced, IsFalse, IsJump, IsLearnt, IsNumber, IsOn, IsSearch, IsTrail, StandsNowhere, known_of, literal_at}
-use Rattle.mcs_sat.proofs.KnownLemmas.{all_push, known-push, length-known, numbered-last, right-push}
+use Rattle.mcs_sat.proofs.KnownLemmas.{known-push, length-known, numbered-last, right-push}
 use Rattle.mcs_sat.proofs.LatestLemmas.{covered-false}
 use Rattle.mcs_sat.proofs.LearnLemmas.{jump-false, same_place}
 use Rattle.mcs_sat.proofs.OccurrenceLemmas.{numbers-more}

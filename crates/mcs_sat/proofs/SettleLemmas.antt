@@ -1,11 +1,10 @@
 -- Clauses that are settled, and stay so.
-use Rattle.std.proofs.Common.{◌≡◌, ℕ, ◌+◌, ◌<◌, ◌≤◌, List, [], ◌∷◌, ◌++◌, inl, inr, sym, ap, ◌∙◌, subst, arith, ℤ, neg_ℤ, unsigned_abs, length, take, get_or, Option, None, Some, is_some, true, false}
+use Rattle.std.proofs.Common.{◌≡◌, ℕ, ◌+◌, ◌<◌, ◌≤◌, List, [], ◌∷◌, ◌++◌, inl, inr, sym, ap, ◌∙◌, subst, arith, ℤ, neg_ℤ, unsigned_abs, length, take, get_or, Some}
 use Rattle.std.specs.List.{All}
-use Rattle.std.specs.Option.{IfNone}
 use Rattle.std.proofs.lemmas.List.{length_push, length-take, take-append-le}
 use Rattle.mcs_base.specs.Listings.{IsAmong}
+use Rattle.mcs_base.proofs.Numbers.{unsigned_abs-neg_ℤ}
 use Rattle.mcs_trace.specs.Traces.{numbered}
-use Rattle.mcs_trace.proofs.OrderLemmas.{size-neg}
 use Rattle.mcs_sat.specs.declared.occurrences.Occurrence.{Occurrence}
 use Rattle.mcs_sat.specs.declared.examine.Finding.TheVariants.{Open}
 use Rattle.mcs_sat.specs.declared.trail.Entry.{Entry}
@@ -101,15 +100,7 @@ module _ (known : List (List ℤ)) (variables : List Occurrence) (before after :
 
   pub place-new : (numbers : List ℕ) (l : ℤ) → l ≡ neg_ℤ (literal_at before i) → ((v : Occurrence) → numbers ≡ numbers_in l (get_or variables (unsigned_abs l) v)) → All (IsNumberVisited known before after) numbers → IsPlaceVisited known variables after i
   place-new numbers l is exact all v =
-      let size : unsigned_abs l ≡ unsigned_abs (literal_at before i) = ap unsigned_abs is ∙ size-neg (literal_at before i) in
+      let size : unsigned_abs l ≡ unsigned_abs (literal_at before i) = ap unsigned_abs is ∙ unsigned_abs-neg_ℤ (literal_at before i) in
       let e : numbers ≡ numbers_in (neg_ℤ (literal_at before i)) (get_or variables (unsigned_abs (literal_at before i)) v) =
       exact v ∙ ap (λ n. numbers_in l (get_or variables n v)) size ∙ ap (λ k. numbers_in k (get_or variables (unsigned_abs (literal_at before i)) v)) is in
       moved v (subst (λ (xs : List ℕ). All (IsNumberVisited known (take (i + 1) before) after) xs) e (λ k d less. number-earlier known before after (i + 1) (get_or numbers k d) (all k d less)))
-
-pub if_none : (P : Type 0) (o : Option ℕ) → is_some o ≡ false → IfNone o P → P
-if_none P None e h = h
-if_none P (Some n) e h = absurd (cc)
-
-pub if_some : (P : Type 0) (o : Option ℕ) → is_some o ≡ true → IfNone o P
-if_some P None e = absurd (cc)
-if_some P (Some n) e = tt

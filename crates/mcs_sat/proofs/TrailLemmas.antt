@@ -1,13 +1,14 @@
 -- Trails that grow and are taken back.
-use Rattle.std.proofs.Common.{◌≡◌, ℕ, ◌+◌, ◌-◌, ◌<◌, ◌≤◌, zero, suc, List, [], ◌∷◌, ◌++◌, ◌⊎◌, inl, inr, refl, sym, ap, ◌∙◌, subst, arith, ℤ, pos, neg_ℤ, unsigned_abs, length, length-append, take, drop, get_or, Some, append-nil, append_assoc}
+use Rattle.std.proofs.Common.{◌≡◌, ℕ, ◌+◌, ◌-◌, ◌<◌, ◌≤◌, List, [], ◌∷◌, ◌++◌, ◌⊎◌, inl, inr, refl, sym, ap, ◌∙◌, subst, arith, ℤ, pos, neg_ℤ, unsigned_abs, length, length-append, take, drop, get_or, Some, append-nil, append_assoc}
 use Rattle.std.proofs.lemmas.Bool.{cases_lt}
 use Rattle.std.proofs.lemmas.List.{get_or_append_left, get_or_push, get_or-take, length_push, length-take, length-drop, get_or-drop, get_or_read}
 use Rattle.mcs_base.specs.Listings.{IsAmong}
+use Rattle.mcs_base.proofs.Among.{among_at}
+use Rattle.mcs_base.proofs.Distinct.{covers_below}
 use Rattle.mcs_trace.specs.Clauses.{IsClause, IsLiteral}
 use Rattle.mcs_trace.specs.Traces.{numbered}
 use Rattle.mcs_sat.specs.declared.trail.Entry.{Entry}
 use Rattle.mcs_sat.specs.Trails.{literal_at, reason_at, ArePlaced, IsOn, IsOnBelow, IsFalse, IsFalseBelow, IsReason, AreExplained, Extends}
-use Rattle.mcs_sat.proofs.PlaceLemmas.{covers}
 use Rattle.mcs_sat.proofs.KnownLemmas.{numbered-more}
 
 abbrev pub entry_at : List Entry → ℕ → Entry
@@ -121,14 +122,9 @@ placed-back es ps n h i less =
     let same : literal_at (take n es) i ≡ literal_at es i = ap (λ (x : Entry). x.literal) (entry-back es n i (omega arith)) in
     subst (λ (l : ℤ). IsLiteral l × (unsigned_abs l < length ps) × (get_or ps (unsigned_abs l) 0 ≡ i)) (sym same) (h i (omega arith))
 
-among_get : (xs : List ℕ) (i d : ℕ) → i < length xs → IsAmong (get_or xs i d) xs
-among_get [] i d less = absurd (omega arith)
-among_get (x ∷ xs) zero d less = inl refl
-among_get (x ∷ xs) (suc i) d less = inr (among_get xs i d (omega arith))
-
 -- there are no more literals than variables
 pub placed-bound : (es : List Entry) (ps : List ℕ) (n : ℕ) → ArePlaced es ps → length ps ≡ n + 1 → length es ≤ n
-placed-bound es ps n h size = let all = covers (length es) (drop 1 ps) there in omega (arith, length-drop 1 ps)
+placed-bound es ps n h size = let all = covers_below (length es) (drop 1 ps) there in omega (arith, length-drop 1 ps)
   where
     there : (i : ℕ) → i < length es → IsAmong i (drop 1 ps)
     there i less =
@@ -137,7 +133,7 @@ placed-bound es ps n h size = let all = covers (length es) (drop 1 ps) there in 
         let some : 0 < v = literal.0 in
         let back : 1 + (v - 1) ≡ v = omega arith in
         let e : get_or (drop 1 ps) (v - 1) 0 ≡ i = get_or-drop 1 ps (v - 1) 0 ∙ ap (λ j. get_or ps j 0) back ∙ at in
-        subst (λ (x : ℕ). IsAmong x (drop 1 ps)) e (among_get (drop 1 ps) (v - 1) 0 (omega (arith, length-drop 1 ps)))
+        subst (λ (x : ℕ). IsAmong x (drop 1 ps)) e (among_at (drop 1 ps) (v - 1) 0 (omega (arith, length-drop 1 ps)))
 
 -- ---- trails that grow
 pub extends-none : (es : List Entry) → Extends es es

@@ -1,35 +1,26 @@
 -- The work that is left falls with each literal that is made true, and with each jump back to a decision.
-use Rattle.std.proofs.Common.{◌≡◌, ℕ, ◌+◌, ◌*◌, ◌^◌, ◌<◌, ◌≤◌, zero, suc, Bool, true, false, cond, nat_eq, List, [], ◌∷◌, ◌++◌, sym, subst, arith, length, length-append, append-nil, append_assoc, take, get_or}
+use Rattle.std.proofs.Common.{◌≡◌, ℕ, ◌+◌, ◌*◌, ◌^◌, ◌<◌, ◌≤◌, zero, suc, cond, nat_eq, List, [], ◌∷◌, ◌++◌, sym, subst, arith, length, length-append, append-nil, append_assoc, take, get_or}
 use Rattle.std.proofs.lemmas.Bool.Decides.{nat_tests}
+use Rattle.std.proofs.Math.Nat.{pow-succ', one-le-pow}
+use Rattle.mcs_base.proofs.Numbers.{cond_times-le}
 use Rattle.mcs_sat.specs.declared.trail.Entry.{Entry}
 use Rattle.mcs_sat.specs.Trails.{work_left}
 
-power-step : (n : ℕ) → 3 ^ suc n ≡ 3 * 3 ^ n
-power-step n = grind arith
-
-power-positive : (n : ℕ) → 0 < 3 ^ n
-power-positive zero = omega arith
-power-positive (suc n) = let p = power-positive n in omega (arith, power-step n)
-
-weight-le : (b : Bool) (p : ℕ) → cond b 1 0 * p ≤ p
-weight-le true p = grind arith
-weight-le false p = grind arith
-
 work_left-bound : (n : ℕ) (es : List Entry) → work_left n es < 3 ^ n
 work_left-bound zero es = omega arith
-work_left-bound (suc n) [] = let p = power-positive (suc n) in omega arith
+work_left-bound (suc n) [] = let p = one-le-pow (suc n) 3 (omega arith) in omega arith
 work_left-bound (suc n) (e ∷ es) =
     let rest = work_left-bound n es in
-    let here = weight-le (nat_eq e.reason 0) (3 ^ n) in
-    omega (arith, power-step n)
+    let here = cond_times-le (nat_eq e.reason 0) (3 ^ n) in
+    omega (arith, pow-succ' 3 n)
 
 -- a literal is made true
 pub work_left-push : (n : ℕ) (es : List Entry) (e : Entry) → length es < n → work_left n (es ++ e ∷ []) < work_left n es
 work_left-push zero es e less = absurd (omega arith)
 work_left-push (suc n) [] e less =
-    let here = weight-le (nat_eq e.reason 0) (3 ^ n) in
+    let here = cond_times-le (nat_eq e.reason 0) (3 ^ n) in
     let rest = work_left-bound n [] in
-    omega (arith, power-step n, power-positive n)
+    omega (arith, pow-succ' 3 n, one-le-pow n 3 (omega arith))
 work_left-push (suc n) (x ∷ es) e less = let rest = work_left-push n es e (omega arith) in omega arith
 
 -- a decision is taken back, and an implied literal put in its place

@@ -148,6 +148,27 @@ fn take_turn(
     learn(alloc, cnf, search, number)
 }
 
+/// Visits each clause, and takes turns until all clauses are satisfied or the empty clause is learnt; whether they
+/// are satisfied.
+fn run(alloc: Global, cnf: &Cnf, search: &mut Search) -> Result<bool, Memory>
+    requires { IsSearch cnf.now search.old }
+    ensures kept { OnOk result (IsSearch cnf.now search.new) }
+    ensures end { IfOk result
+        (λ satisfied. MatchBool satisfied
+        (AllByRecursion (IsSatisfied search.new.trail.entries.items) cnf.now.clauses)
+        (EndsEmpty (map inference_of search.new.steps.items))) }
+{
+    let mut conflict = visit_all(cnf, &search.steps, &mut search.trail)?;
+    loop {
+        match take_turn(alloc, cnf, search, conflict)? {
+            Turn::Goes => {}
+            Turn::Satisfied => return Ok(true),
+            Turn::Refuted => return Ok(false),
+        }
+        conflict = go_on(cnf, search)?;
+    }
+}
+
 /// An assignment that satisfies the clauses, with a value for each variable; or, exactly where there is
 /// none, a trace that is accepted. The search makes literals true, learns from each clause that becomes
 /// false, and jumps back (Marques-Silva and Sakallah 1996).
@@ -156,17 +177,18 @@ pub fn solve(alloc: Global, cnf: &Cnf) -> Result<Outcome, Memory>
     ensures exact { IfOk result (IsExact cnf.now) }
 {
     let mut search = Search::new(alloc, cnf)?;
-    let mut conflict = visit_all(cnf, &search.steps, &mut search.trail)?;
-    loop {
-        match take_turn(alloc, cnf, &mut search, conflict)? {
-            Turn::Goes => {}
-            Turn::Satisfied => return Ok(Outcome::Model(model_of(alloc, &search.trail)?)),
-            Turn::Refuted => {
-                return Ok(Outcome::Refuted(Trace {
-                    steps: search.steps,
-                }));
-            }
+    match run(alloc, cnf, &mut search) {
+        Ok(true) => {
+            let model = model_of(alloc, &search.trail);
+            drop(search);
+            Ok(Outcome::Model(model?))
         }
-        conflict = go_on(cnf, &mut search)?;
+        Ok(false) => Ok(Outcome::Refuted(Trace {
+            steps: search.steps,
+        })),
+        Err(error) => {
+            drop(search);
+            Err(error)
+        }
     }
 }

@@ -4,9 +4,12 @@ use Rattle.std.specs.List.{AllByRecursion}
 use Rattle.std.proofs.lemmas.List.{drop_more}
 use Rattle.mcs_base.specs.Listings.{IsAmong}
 use Rattle.mcs_base.proofs.ListingLemmas.{all_among}
+use Rattle.mcs_base.proofs.Among.{drop_among, among_drop_more, none_among_drop, among_drop_first, among_at}
+use Rattle.mcs_base.proofs.Ascending.{first_before}
+use Rattle.mcs_base.proofs.Numbers.{unsigned_abs-neg_ℤ}
 use Rattle.mcs_trace.specs.Clauses.{place, LiteralBefore, IsClause}
 use Rattle.mcs_trace.specs.Resolution.{IsOnlyClash}
-use Rattle.mcs_trace.proofs.OrderLemmas.{among_drop, among_get, among_drop-more, among_drop-all, among_drop-first, among_drop-later, first_before, size-neg, place-size, fits_literal, literal_at}
+use Rattle.mcs_trace.proofs.OrderLemmas.{place-size, fits_literal, literal_at}
 
 -- p clashes, and is before the first clause's literals from i on
 pub record IsFound (first second : List ℤ) (i : ℕ) (p : ℤ) : Type 0 where
@@ -39,11 +42,11 @@ clash-skip first second i j j' size found is less e bound kept h = record {
     same = e ∙ ap unsigned_abs (to_z-of_z (fits_literal (get_or first i (pos 0)) (literal_at first i is less)))
 
     large : (l : ℤ) → IsAmong l (drop i first) → size ≤ unsigned_abs (neg_ℤ l)
-    large l among = elim (among_drop-more l first i (pos 0) less among) [
-      | inl e ↦ let e' : unsigned_abs l ≡ unsigned_abs (get_or first i (pos 0)) = ap unsigned_abs e in omega (arith, size-neg l, same)
+    large l among = elim ((among_drop_more first i (pos 0) less l).0 among) [
+      | inl e ↦ let e' : unsigned_abs l ≡ unsigned_abs (get_or first i (pos 0)) = ap unsigned_abs e in omega (arith, unsigned_abs-neg_ℤ l, same)
       | inr later ↦
-          let after : place (get_or first i (pos 0)) < place l = all_among (LiteralBefore (get_or first i (pos 0))) (drop (i + 1) first) l (first_before first i (pos 0) less is.1) later in
-          omega (arith, same, size-neg l, place-size l, place-size (get_or first i (pos 0)))
+          let after : place (get_or first i (pos 0)) < place l = all_among (LiteralBefore (get_or first i (pos 0))) (drop (i + 1) first) l (first_before LiteralBefore first i (pos 0) less is.1) later in
+          omega (arith, same, unsigned_abs-neg_ℤ l, place-size l, place-size (get_or first i (pos 0)))
     ]
 
 -- a literal whose negation is not there
@@ -51,7 +54,7 @@ pub clash-none : (first second : List ℤ) (i j : ℕ) (found : Option ℤ) → 
     → (IsAmong (neg_ℤ (get_or first i (pos 0))) (drop j second) → ⊥) → ClashSoFar first second (i + 1) j found
 clash-none first second i j found less h not = record {
   bound = h.bound;
-  near = λ l later. h.near l (among_drop-later l first i (pos 0) less later);
+  near = λ l later. h.near l ((among_drop_more first i (pos 0) less l).1 (inr later));
   found = later_found found h.found;
   all = λ l in_first in_second. further l in_second (h.all l in_first in_second);
 }
@@ -62,7 +65,7 @@ clash-none first second i j found less h not = record {
 
     further : (l : ℤ) → IsAmong (neg_ℤ l) second → (found ≡ Some l) ⊎ IsAmong l (drop i first) → (found ≡ Some l) ⊎ IsAmong l (drop (i + 1) first)
     further l in_second (inl e) = inl e
-    further l in_second (inr rest) = elim (among_drop-more l first i (pos 0) less rest) [
+    further l in_second (inr rest) = elim ((among_drop_more first i (pos 0) less l).0 rest) [
       | inl e ↦ absurd (not (subst (λ (k : ℤ). IsAmong (neg_ℤ k) (drop j second)) e (h.near l rest in_second)))
       | inr later ↦ inr later
     ]
@@ -73,14 +76,14 @@ pub clash-one : (first second : List ℤ) (i j : ℕ) (found : Option ℤ) → I
 clash-one first second i j (Some p) is less none h here = absurd (cc)
 clash-one first second i j None is less none h here = record {
   bound = h.bound;
-  near = λ l later. h.near l (among_drop-later l first i (pos 0) less later);
-  found = record { in_first = among_get first i (pos 0) less; in_second = among_drop (neg_ℤ (get_or first i (pos 0))) j second here; before = first_before first i (pos 0) less is.1 };
+  near = λ l later. h.near l ((among_drop_more first i (pos 0) less l).1 (inr later));
+  found = record { in_first = among_at first i (pos 0) less; in_second = drop_among second j (neg_ℤ (get_or first i (pos 0))) here; before = first_before LiteralBefore first i (pos 0) less is.1 };
   all = λ l in_first in_second. further l (h.all l in_first in_second);
 }
   where
     further : (l : ℤ) → (None ≡ Some l) ⊎ IsAmong l (drop i first) → (Some (get_or first i (pos 0)) ≡ Some l) ⊎ IsAmong l (drop (i + 1) first)
     further l (inl e) = absurd (cc)
-    further l (inr rest) = elim (among_drop-more l first i (pos 0) less rest) [
+    further l (inr rest) = elim ((among_drop_more first i (pos 0) less l).0 rest) [
       | inl e ↦ inl (ap Some (sym e))
       | inr later ↦ inr later
     ]
@@ -92,8 +95,8 @@ clash-two first second i j None less e h here l only = absurd (cc)
 clash-two first second i j (Some p) less e h here l only =
     let x : ℤ = get_or first i (pos 0) in
     let at_p : p ≡ l = only.only p h.found.in_first h.found.in_second in
-    let at_x : x ≡ l = only.only x (among_get first i (pos 0) less) (among_drop (neg_ℤ x) j second here) in
-    let before : place p < place x = all_among (LiteralBefore p) (drop i first) x h.found.before (among_drop-first first i (pos 0) less) in
+    let at_x : x ≡ l = only.only x (among_at first i (pos 0) less) (drop_among second j (neg_ℤ x) here) in
+    let before : place p < place x = all_among (LiteralBefore p) (drop i first) x h.found.before (among_drop_first first i (pos 0) less) in
     let same : place p ≡ place x = ap place (at_p ∙ sym at_x) in
     absurd (omega arith)
 
@@ -103,7 +106,7 @@ clash-end first second i j found past h = at found h.found (λ l in_first in_sec
   where
     none_left : (l : ℤ) → (found ≡ Some l) ⊎ IsAmong l (drop i first) → found ≡ Some l
     none_left l (inl e) = e
-    none_left l (inr rest) = absurd (among_drop-all l first i past rest)
+    none_left l (inr rest) = absurd (none_among_drop first i l past rest)
 
     at : (o : Option ℤ) → IfSome o (IsFound first second i) → ((l : ℤ) → IsAmong l first → IsAmong (neg_ℤ l) second → o ≡ Some l) → MatchOption o ((l : ℤ) → ¬ IsOnlyClash first second l) (IsOnlyClash first second)
     at None f all = λ l only. let e = all l only.in_first only.in_second in absurd (cc)

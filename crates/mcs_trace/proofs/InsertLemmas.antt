@@ -2,24 +2,9 @@
 use Rattle.std.proofs.Common.{◌≡◌, ℕ, ◌<◌, ◌≤◌, zero, suc, List, [], ◌∷◌, ◌++◌, ◌⊎◌, inl, inr, sym, ap, ◌∙◌, subst, arith, Bool, true, false, true≢false, ℤ, pos, length, take, drop, get_or}
 use Rattle.mcs_base.specs.Listings.{IsAscending, IsAmong, IsListing}
 use Rattle.mcs_base.proofs.ListingLemmas.{all_among, all_from_among}
+use Rattle.mcs_base.proofs.Among.{among_at, among_insert}
 use Rattle.mcs_trace.specs.Clauses.{IsLiteral, IsClause, place, LiteralBefore}
-use Rattle.mcs_trace.proofs.OrderLemmas.{place-injective, among_get}
-
-among-insert : (k l : ℤ) (c : List ℤ) (i : ℕ) → IsAmong k (take i c ++ l ∷ drop i c) → (k ≡ l) ⊎ IsAmong k c
-among-insert k l c zero (inl e) = inl e
-among-insert k l c zero (inr h) = inr h
-among-insert k l [] (suc i) (inl e) = inl e
-among-insert k l [] (suc i) (inr h) = absurd h
-among-insert k l (x ∷ c) (suc i) (inl e) = inr (inl e)
-among-insert k l (x ∷ c) (suc i) (inr h) = elim (among-insert k l c i h) [ inl e ↦ inl e | inr r ↦ inr (inr r) ]
-
-among-inserted : (k l : ℤ) (c : List ℤ) (i : ℕ) → (k ≡ l) ⊎ IsAmong k c → IsAmong k (take i c ++ l ∷ drop i c)
-among-inserted k l c zero h = h
-among-inserted k l [] (suc i) (inl e) = inl e
-among-inserted k l [] (suc i) (inr h) = absurd h
-among-inserted k l (x ∷ c) (suc i) (inl e) = inr (among-inserted k l c i (inl e))
-among-inserted k l (x ∷ c) (suc i) (inr (inl e)) = inl e
-among-inserted k l (x ∷ c) (suc i) (inr (inr h)) = inr (among-inserted k l c i (inr h))
+use Rattle.mcs_trace.proofs.OrderLemmas.{place-injective}
 
 ascending-insert : (l : ℤ) (c : List ℤ) (i : ℕ) → IsAscending LiteralBefore c → ((k : ℕ) → k < i → place (get_or c k (pos 0)) < place l) → (i < length c → place l < place (get_or c i (pos 0))) → IsAscending LiteralBefore (take i c ++ l ∷ drop i c)
 ascending-insert l [] zero up below above = (tt, tt)
@@ -29,7 +14,7 @@ ascending-insert l (x ∷ c) zero up below above =
 ascending-insert l [] (suc i) up below above = (tt, tt)
 ascending-insert l (x ∷ c) (suc i) up below above =
     let first : place x < place l = below 0 (omega arith) in (
-      all_from_among (LiteralBefore x) (take i c ++ l ∷ drop i c) (λ k among. elim (among-insert k l c i among) [
+      all_from_among (LiteralBefore x) (take i c ++ l ∷ drop i c) (λ k among. elim ((among_insert l c i k).0 among) [
         | inl e ↦ let same : place k ≡ place l = ap place e in omega arith
         | inr old ↦ all_among (LiteralBefore x) c k up.0 old
       ]),
@@ -40,8 +25,8 @@ pub clause-insert : (l : ℤ) (c : List ℤ) (i : ℕ) → IsLiteral l → IsCla
     → IsClause (take i c ++ l ∷ drop i c) × IsListing (λ k. (k ≡ l) ⊎ IsAmong k c) LiteralBefore (take i c ++ l ∷ drop i c)
 clause-insert l c i is h below above =
     let up = ascending-insert l c i h.1 below above in (
-      (all_from_among IsLiteral (take i c ++ l ∷ drop i c) (λ k among. literal k (among-insert k l c i among)), up),
-      record { exactly = λ k. (among-insert k l c i, among-inserted k l c i); ascending = up },
+      (all_from_among IsLiteral (take i c ++ l ∷ drop i c) (λ k among. literal k ((among_insert l c i k).0 among)), up),
+      record { exactly = among_insert l c i; ascending = up },
     )
   where
     literal : (k : ℤ) → (k ≡ l) ⊎ IsAmong k c → IsLiteral k
@@ -69,4 +54,4 @@ inserted l m c s s' new i b read same same' is h below above here not e =
 
 pub had : (l m : ℤ) (c s' : List ℤ) (i : ℕ) → m ≡ l → s' ≡ c → IsClause c → (i < length s') × (get_or s' i (pos 0) ≡ m) → IsListing (λ k. (k ≡ l) ⊎ IsAmong k c) LiteralBefore c
 had l m c s' i read same' h (less, e) =
-    clause-has l c h (subst (λ (x : List ℤ). IsAmong l x) same' (subst (λ (y : ℤ). IsAmong y s') (e ∙ read) (among_get s' i (pos 0) less)))
+    clause-has l c h (subst (λ (x : List ℤ). IsAmong l x) same' (subst (λ (y : ℤ). IsAmong y s') (e ∙ read) (among_at s' i (pos 0) less)))

@@ -1,12 +1,14 @@
 -- The order of literals, and clauses that are read from the front.
-use Rattle.std.proofs.Common.{◌≡◌, ℕ, ◌+◌, ◌*◌, ◌^◌, ◌<◌, ◌≤◌, zero, suc, List, [], ◌∷◌, ◌↔◌, ◌⊎◌, inl, inr, refl, sym, ap, ◌∙◌, subst, arith, ℤ, pos, negsuc, neg_ℤ, ◌-ℤ◌, length, drop, get_or, w64, to_z, of_z, to_z-of_z, FitsSigned}
+use Rattle.std.proofs.Common.{◌≡◌, ℕ, ◌+◌, ◌*◌, ◌^◌, ◌<◌, ◌≤◌, zero, suc, List, [], ◌∷◌, ◌↔◌, ◌⊎◌, inl, inr, sym, ap, ◌∙◌, subst, arith, ℤ, pos, negsuc, neg_ℤ, ◌-ℤ◌, length, drop, get_or, w64, to_z, of_z, to_z-of_z, FitsSigned}
 use Rattle.std.specs.Int.RustNames.{unsigned_abs}
 use Rattle.std.specs.List.{AllByRecursion}
-use Rattle.std.proofs.lemmas.List.{drop_more, drop_all}
-use Rattle.std.proofs.lemmas.Int.{ints}
+use Rattle.std.proofs.lemmas.List.{drop_more}
 use Rattle.std.proofs.lemmas.Bool.{cases_lt}
 use Rattle.mcs_base.specs.Listings.{IsAscending, IsAmong}
 use Rattle.mcs_base.proofs.ListingLemmas.{all_among}
+use Rattle.mcs_base.proofs.Among.{among_drop_more, none_among_drop, among_drop_first, among_at}
+use Rattle.mcs_base.proofs.Ascending.{first_before}
+use Rattle.mcs_base.proofs.Numbers.{unsigned_abs-neg_ℤ, zero-minus}
 use Rattle.mcs_trace.specs.Clauses.{IsLiteral, place, LiteralBefore, IsClause}
 
 -- ---- places
@@ -49,59 +51,9 @@ clause_after-more n m c i d less is after e =
     subst (λ (x : List ℤ). IsClauseAfter n x ↔ IsClauseAfter m (drop (i + 1) c)) (sym (drop_more c i d less))
     (subst (λ (p : ℕ). IsClauseAfter n (get_or c i d ∷ drop (i + 1) c) ↔ IsClauseAfter p (drop (i + 1) c)) (sym e) (after-cons n (get_or c i d) (drop (i + 1) c) is (omega arith)))
 
--- ---- rests of clauses
-pub ascending-drop : (n : ℕ) (c : List ℤ) → IsAscending LiteralBefore c → IsAscending LiteralBefore (drop n c)
-ascending-drop zero c h = h
-ascending-drop (suc n) [] h = h
-ascending-drop (suc n) (l ∷ c) h = ascending-drop n c h.1
-
-pub literals-drop : (n : ℕ) (c : List ℤ) → AllByRecursion IsLiteral c → AllByRecursion IsLiteral (drop n c)
-literals-drop zero c h = h
-literals-drop (suc n) [] h = h
-literals-drop (suc n) (l ∷ c) h = literals-drop n c h.1
-
-pub among_drop : (l : ℤ) (n : ℕ) (c : List ℤ) → IsAmong l (drop n c) → IsAmong l c
-among_drop l zero c h = h
-among_drop l (suc n) [] h = h
-among_drop l (suc n) (k ∷ c) h = inr (among_drop l n c h)
-
-pub among_get : (c : List ℤ) (i : ℕ) (d : ℤ) → i < length c → IsAmong (get_or c i d) c
-among_get [] i d less = absurd (omega arith)
-among_get (k ∷ c) zero d less = inl refl
-among_get (k ∷ c) (suc i) d less = inr (among_get c i d (omega arith))
-
--- what is in the rest is its first literal or in the rest after that
-pub among_drop-more : (l : ℤ) (c : List ℤ) (i : ℕ) (d : ℤ) → i < length c → IsAmong l (drop i c) → (l ≡ get_or c i d) ⊎ IsAmong l (drop (i + 1) c)
-among_drop-more l c i d less h = subst (λ (x : List ℤ). IsAmong l x) (drop_more c i d less) h
-
-pub among_drop-all : (l : ℤ) (c : List ℤ) (i : ℕ) → length c ≤ i → IsAmong l (drop i c) → ⊥
-among_drop-all l c i past h = subst (λ (x : List ℤ). IsAmong l x) (drop_all i c past) h
-
-pub among_drop-first : (c : List ℤ) (i : ℕ) (d : ℤ) → i < length c → IsAmong (get_or c i d) (drop i c)
-among_drop-first c i d less = subst (λ (x : List ℤ). IsAmong (get_or c i d) x) (sym (drop_more c i d less)) (inl refl)
-
-pub among_drop-later : (l : ℤ) (c : List ℤ) (i : ℕ) (d : ℤ) → i < length c → IsAmong l (drop (i + 1) c) → IsAmong l (drop i c)
-among_drop-later l c i d less h = subst (λ (x : List ℤ). IsAmong l x) (sym (drop_more c i d less)) (inr h)
-
--- the first of the rest is before all after it
-pub first_before : (c : List ℤ) (i : ℕ) (d : ℤ) → i < length c → IsAscending LiteralBefore c → AllByRecursion (LiteralBefore (get_or c i d)) (drop (i + 1) c)
-first_before c i d less up =
-    let rest : IsAscending LiteralBefore (get_or c i d ∷ drop (i + 1) c) = subst (IsAscending LiteralBefore) (drop_more c i d less) (ascending-drop i c up) in
-    rest.0
-
 -- ---- the code's tests and negations
 pub same_literal : (a b : ℤ) → FitsSigned w64 a → FitsSigned w64 b → of_z w64 a ≡ of_z w64 b → a ≡ b
 same_literal a b f g e = sym (to_z-of_z f) ∙ ap (to_z w64) e ∙ to_z-of_z g
-
-pub size-neg : (l : ℤ) → unsigned_abs (neg_ℤ l) ≡ unsigned_abs l
-size-neg (pos zero) = refl
-size-neg (pos (suc n)) = refl
-size-neg (negsuc n) = refl
-
-pub neg-neg : (l : ℤ) → neg_ℤ (neg_ℤ l) ≡ l
-neg-neg (pos zero) = refl
-neg-neg (pos (suc n)) = refl
-neg-neg (negsuc n) = refl
 
 pub neg_differs : (l : ℤ) → IsLiteral l → l ≡ neg_ℤ l → ⊥
 neg_differs (pos zero) is e = absurd (omega (arith, is.0))
@@ -115,20 +67,20 @@ fits_literal (negsuc n) is = record { sfits = omega (arith, is.1) }
 -- the literals of a size are next to each other
 pub near : (l : ℤ) (c : List ℤ) (i : ℕ) → IsAscending LiteralBefore c → i < length c → unsigned_abs l ≤ unsigned_abs (get_or c i (pos 0)) → IsAmong l (drop i c)
     → (l ≡ get_or c i (pos 0)) ⊎ ((i + 1 < length c) × (l ≡ get_or c (i + 1) (pos 0)))
-near l c i up less small h = elim (among_drop-more l c i (pos 0) less h) [
+near l c i up less small h = elim ((among_drop_more c i (pos 0) less l).0 h) [
   | inl e ↦ inl e
   | inr later ↦ second (cases_lt (i + 1) (length c)) later
 ]
   where
     second : ((i + 1 < length c) ⊎ (length c ≤ i + 1)) → IsAmong l (drop (i + 1) c) → (l ≡ get_or c i (pos 0)) ⊎ ((i + 1 < length c) × (l ≡ get_or c (i + 1) (pos 0)))
-    second (inr past) later = absurd (among_drop-all l c (i + 1) past later)
-    second (inl more) later = elim (among_drop-more l c (i + 1) (pos 0) more later) [
+    second (inr past) later = absurd (none_among_drop c (i + 1) l past later)
+    second (inl more) later = elim ((among_drop_more c (i + 1) (pos 0) more l).0 later) [
       | inl e ↦ inr (more, e)
       | inr last ↦
           let x : ℤ = get_or c i (pos 0) in
           let y : ℤ = get_or c (i + 1) (pos 0) in
-          let first : place x < place y = all_among (LiteralBefore x) (drop (i + 1) c) y (first_before c i (pos 0) less up) (among_drop-first c (i + 1) (pos 0) more) in
-          let then : place y < place l = all_among (LiteralBefore y) (drop (i + 1 + 1) c) l (first_before c (i + 1) (pos 0) more up) last in
+          let first : place x < place y = all_among (LiteralBefore x) (drop (i + 1) c) y (first_before LiteralBefore c i (pos 0) less up) (among_drop_first c (i + 1) (pos 0) more) in
+          let then : place y < place l = all_among (LiteralBefore y) (drop (i + 1 + 1) c) l (first_before LiteralBefore c (i + 1) (pos 0) more up) last in
           absurd (omega (arith, place-size l, place-size x))
     ]
 
@@ -138,25 +90,22 @@ pub at_next : (l : ℤ) (c : List ℤ) (i : ℕ) → IsAscending LiteralBefore c
 at_next l c i up bound small = (to, from)
   where
     to : ((i < length c) × (get_or c i (pos 0) ≡ l)) ⊎ ((i + 1 < length c) × (get_or c (i + 1) (pos 0) ≡ l)) → IsAmong l (drop i c)
-    to (inl (here, e)) = subst (λ (k : ℤ). IsAmong k (drop i c)) e (among_drop-first c i (pos 0) here)
-    to (inr (more, e)) = subst (λ (k : ℤ). IsAmong k (drop i c)) e (among_drop-later (get_or c (i + 1) (pos 0)) c i (pos 0) (omega arith) (among_drop-first c (i + 1) (pos 0) more))
+    to (inl (here, e)) = subst (λ (k : ℤ). IsAmong k (drop i c)) e (among_drop_first c i (pos 0) here)
+    to (inr (more, e)) = subst (λ (k : ℤ). IsAmong k (drop i c)) e ((among_drop_more c i (pos 0) (omega arith) (get_or c (i + 1) (pos 0))).1 (inr (among_drop_first c (i + 1) (pos 0) more)))
 
     from : IsAmong l (drop i c) → ((i < length c) × (get_or c i (pos 0) ≡ l)) ⊎ ((i + 1 < length c) × (get_or c (i + 1) (pos 0) ≡ l))
     from h = elim (cases_lt i (length c)) [
-      | inr past ↦ absurd (among_drop-all l c i past h)
+      | inr past ↦ absurd (none_among_drop c i l past h)
       | inl here ↦ elim (near l c i up here (small here) h) [ inl e ↦ inl (here, sym e) | inr (more, e) ↦ inr (more, sym e) ]
     ]
-
-zero-minus : (l : ℤ) → pos 0 -ℤ l ≡ neg_ℤ l
-zero-minus l = omega (arith, ints)
 
 -- the code's negation of a literal
 pub turned : (l : ℤ) → IsLiteral l → to_z w64 (of_z w64 (pos 0 -ℤ to_z w64 (of_z w64 l))) ≡ neg_ℤ l
 turned l is =
     let read : to_z w64 (of_z w64 l) ≡ l = to_z-of_z (fits_literal l is) in
-    let bound : unsigned_abs (neg_ℤ l) < 2 ^ 63 = omega (arith, size-neg l, is.1) in
-    let some : 0 < unsigned_abs (neg_ℤ l) = omega (arith, size-neg l, is.0) in
+    let bound : unsigned_abs (neg_ℤ l) < 2 ^ 63 = omega (arith, unsigned_abs-neg_ℤ l, is.1) in
+    let some : 0 < unsigned_abs (neg_ℤ l) = omega (arith, unsigned_abs-neg_ℤ l, is.0) in
     ap (λ k. to_z w64 (of_z w64 (pos 0 -ℤ k))) read ∙ ap (λ k. to_z w64 (of_z w64 k)) (zero-minus l) ∙ to_z-of_z (fits_literal (neg_ℤ l) (some, bound))
 
 pub literal_at : (c : List ℤ) (i : ℕ) → IsClause c → i < length c → IsLiteral (get_or c i (pos 0))
-literal_at c i h less = all_among IsLiteral c (get_or c i (pos 0)) h.0 (among_get c i (pos 0) less)
+literal_at c i h less = all_among IsLiteral c (get_or c i (pos 0)) h.0 (among_at c i (pos 0) less)

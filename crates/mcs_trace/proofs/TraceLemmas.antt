@@ -1,75 +1,44 @@
 -- Chains and traces, read step by step.
-use Rattle.std.proofs.Common.{◌≡◌, ℕ, ◌+◌, ◌-◌, ◌<◌, ◌≤◌, zero, suc, Bool, true, List, [], ◌∷◌, ◌++◌, ◌↔◌, refl, sym, ap, ◌∙◌, subst, arith, ℤ, length, take, drop, map, get_or, Option, Some, None, slice_get, true≢false, append_assoc}
+use Rattle.std.proofs.Common.{◌≡◌, ℕ, ◌+◌, ◌-◌, ◌<◌, ◌≤◌, zero, suc, Bool, true, List, [], ◌∷◌, ◌++◌, ◌↔◌, refl, sym, ap, ◌∙◌, subst, arith, ℤ, length, take, drop, map, get_or, Some, None, slice_get, true≢false, append_assoc}
 use Rattle.std.specs.List.{AllByRecursion}
-use Rattle.std.proofs.lemmas.Bool.{and_parts}
-use Rattle.std.proofs.lemmas.List.{drop_more, drop_all, take_more}
-use Rattle.mcs_trace.specs.Clauses.{IsClause, clause_holds, all_hold, IsUnsatisfiable}
+use Rattle.std.proofs.lemmas.List.{drop_more, drop_all, take_more, length-map, map_push}
+use Rattle.std.proofs.lemmas.Option.{slice_get_past, slice_get_read, none-some, same_Some}
+use Rattle.mcs_base.proofs.Lists.{slice_get-append_left, slice_get-append_right, slice_get-map_some}
+use Rattle.mcs_base.proofs.Each.{all_push, all_both, all_by_test, all_weaker, all_get}
+use Rattle.mcs_trace.specs.Clauses.{IsClause, clause_holds, IsUnsatisfiable}
 use Rattle.mcs_trace.specs.Resolution.{IsResolvent}
 use Rattle.mcs_trace.specs.Traces.{Inference, numbered, ResolvesTo, IsChainResolvent, AreRightSteps, EndsEmpty, IsAcceptedTrace, inference_of, clauses_of}
 use Rattle.mcs_trace.specs.declared.trace.Step.{Step}
-use Rattle.mcs_trace.proofs.ResolventLemmas.{same_resolvent, HasNoZero, clause-no_zero, IsResolvent-no_zero, IsResolvent-holds}
+use Rattle.mcs_base.proofs.Clausal.{HasNoZero, HaveNoZero}
+use Rattle.mcs_trace.proofs.ResolventLemmas.{same_resolvent, clause-no_zero, IsResolvent-no_zero, IsResolvent-holds}
 
 -- ---- numbered clauses
-slice_get-left : {A : Type 0} (xs ys : List A) (k : ℕ) → k < length xs → slice_get (xs ++ ys) k ≡ slice_get xs k
-slice_get-left [] ys k less = absurd (omega arith)
-slice_get-left (x ∷ xs) ys zero less = refl
-slice_get-left (x ∷ xs) ys (suc k) less = slice_get-left xs ys k (omega arith)
-
-slice_get-right : {A : Type 0} (xs ys : List A) (k : ℕ) → slice_get (xs ++ ys) (length xs + k) ≡ slice_get ys k
-slice_get-right [] ys k = let e : 0 + k ≡ k = omega arith in ap (slice_get ys) e
-slice_get-right (x ∷ xs) ys k = let e : suc (length xs) + k ≡ suc (length xs + k) = omega arith in ap (slice_get (x ∷ (xs ++ ys))) e ∙ slice_get-right xs ys k
-
-slice_get-none : {A : Type 0} (xs : List A) (k : ℕ) → length xs ≤ k → slice_get xs k ≡ None
-slice_get-none [] k past = refl
-slice_get-none (x ∷ xs) zero past = absurd (omega arith)
-slice_get-none (x ∷ xs) (suc k) past = slice_get-none xs k (omega arith)
-
-slice_get-some : {A : Type 0} (xs : List A) (k : ℕ) (x : A) → k < length xs → x ≡ get_or xs k x → slice_get xs k ≡ Some x
-slice_get-some [] k x less e = absurd (omega arith)
-slice_get-some (y ∷ ys) zero x less e = ap Some (sym e)
-slice_get-some (y ∷ ys) (suc k) x less e = slice_get-some ys k x (omega arith) e
-
 pub numbered-pred : (known : List (List ℤ)) (n : ℕ) → 0 < n → numbered known n ≡ slice_get known (n - 1)
 numbered-pred known zero some = absurd (omega arith)
 numbered-pred known (suc n) some = let e : n ≡ suc n - 1 = omega arith in ap (slice_get known) e
 
 pub numbered-clause : (clauses : List (List ℤ)) (steps : List Step) (n : ℕ) (c : List ℤ) → 0 < n → n - 1 < length clauses → c ≡ get_or clauses (n - 1) c → Some c ≡ numbered (clauses ++ clauses_of steps) n
-numbered-clause clauses steps n c some less e = sym (numbered-pred (clauses ++ clauses_of steps) n some ∙ slice_get-left clauses (clauses_of steps) (n - 1) less ∙ slice_get-some clauses (n - 1) c less e)
-
-step-at : (steps : List Step) (k : ℕ) (s : Step) → k < length steps → s ≡ get_or steps k s → slice_get (clauses_of steps) k ≡ Some s.clause
-step-at [] k s less e = absurd (omega arith)
-step-at (t ∷ steps) zero s less e = ap (λ (x : Step). Some x.clause) (sym e)
-step-at (t ∷ steps) (suc k) s less e = step-at steps k s (omega arith) e
-
-length-clauses_of : (steps : List Step) → length (clauses_of steps) ≡ length steps
-length-clauses_of [] = refl
-length-clauses_of (s ∷ steps) = ap suc (length-clauses_of steps)
+numbered-clause clauses steps n c some less e = sym (numbered-pred (clauses ++ clauses_of steps) n some ∙ slice_get-append_left clauses (clauses_of steps) (n - 1) less ∙ slice_get_read clauses (length clauses) (n - 1) c refl less e)
 
 pub numbered-step : (clauses : List (List ℤ)) (steps : List Step) (n : ℕ) (s : Step) → 0 < n → length clauses ≤ n - 1 → n - 1 - length clauses < length steps → s ≡ get_or steps (n - 1 - length clauses) s → Some s.clause ≡ numbered (clauses ++ clauses_of steps) n
 numbered-step clauses steps n s some past less e =
     let at : n - 1 ≡ length clauses + (n - 1 - length clauses) = omega arith in
-    sym (numbered-pred (clauses ++ clauses_of steps) n some ∙ ap (slice_get (clauses ++ clauses_of steps)) at ∙ slice_get-right clauses (clauses_of steps) (n - 1 - length clauses) ∙ step-at steps (n - 1 - length clauses) s less e)
+    sym (numbered-pred (clauses ++ clauses_of steps) n some ∙ ap (slice_get (clauses ++ clauses_of steps)) at ∙ slice_get-append_right clauses (clauses_of steps) (n - 1 - length clauses) ∙ slice_get-map_some (λ (t : Step). t.clause) steps (n - 1 - length clauses) s (slice_get_read steps (length steps) (n - 1 - length clauses) s refl less e))
 
 pub numbered-none : (clauses : List (List ℤ)) (steps : List Step) (n : ℕ) → 0 < n → length clauses ≤ n - 1 → length steps ≤ n - 1 - length clauses → None ≡ numbered (clauses ++ clauses_of steps) n
 numbered-none clauses steps n some past past' =
     let at : n - 1 ≡ length clauses + (n - 1 - length clauses) = omega arith in
-    sym (numbered-pred (clauses ++ clauses_of steps) n some ∙ ap (slice_get (clauses ++ clauses_of steps)) at ∙ slice_get-right clauses (clauses_of steps) (n - 1 - length clauses) ∙ slice_get-none (clauses_of steps) (n - 1 - length clauses) (omega (arith, length-clauses_of steps)))
+    sym (numbered-pred (clauses ++ clauses_of steps) n some ∙ ap (slice_get (clauses ++ clauses_of steps)) at ∙ slice_get-append_right clauses (clauses_of steps) (n - 1 - length clauses) ∙ slice_get_past (clauses_of steps) (n - 1 - length clauses) (omega (arith, length-map steps (λ (s : Step). s.clause))))
 
 -- ---- chains
-none-some : (o : Option (List ℤ)) (d : List ℤ) → o ≡ None → o ≡ Some d → ⊥
-none-some o d e e' = cc
-
 pub chain-missing : (known : List (List ℤ)) (c : List ℤ) (ns : List ℕ) (last : List ℤ) (i : ℕ) → i < length ns → numbered known (get_or ns i 0) ≡ None → ResolvesTo known c (drop i ns) last → ⊥
 chain-missing known c ns last i less none h =
-    let (d, e, rest) = subst (λ (xs : List ℕ). ResolvesTo known c xs last) (drop_more ns i 0 less) h in none-some (numbered known (get_or ns i 0)) d none e
-
-same-some : (o : Option (List ℤ)) (d d' : List ℤ) → o ≡ Some d → o ≡ Some d' → d ≡ d'
-same-some o d d' e e' = cc
+    let (d, e, rest) = subst (λ (xs : List ℕ). ResolvesTo known c xs last) (drop_more ns i 0 less) h in none-some d (sym none ∙ e)
 
 pub chain-stuck : (known : List (List ℤ)) (c : List ℤ) (ns : List ℕ) (last : List ℤ) (i : ℕ) (d : List ℤ) → i < length ns → numbered known (get_or ns i 0) ≡ Some d → ((e : List ℤ) → IsResolvent c d e → ⊥) → ResolvesTo known c (drop i ns) last → ⊥
 chain-stuck known c ns last i d less is not h =
     let (d', e, (m, r, rest)) = subst (λ (xs : List ℕ). ResolvesTo known c xs last) (drop_more ns i 0 less) h in
-    not m (subst (λ (x : List ℤ). IsResolvent c x m) (same-some (numbered known (get_or ns i 0)) d' d e is) r)
+    not m (subst (λ (x : List ℤ). IsResolvent c x m) (same_Some d' d (sym e ∙ is)) r)
 
 pub chain-more : (known : List (List ℤ)) (c : List ℤ) (ns : List ℕ) (last : List ℤ) (i : ℕ) (d m : List ℤ) → i < length ns → numbered known (get_or ns i 0) ≡ Some d → IsResolvent c d m → ResolvesTo known c (drop i ns) last ↔ ResolvesTo known m (drop (i + 1) ns) last
 chain-more known c ns last i d m less is r = (to, from)
@@ -77,7 +46,7 @@ chain-more known c ns last i d m less is r = (to, from)
     to : ResolvesTo known c (drop i ns) last → ResolvesTo known m (drop (i + 1) ns) last
     to h =
         let (d', e, (m', r', rest)) = subst (λ (xs : List ℕ). ResolvesTo known c xs last) (drop_more ns i 0 less) h in
-        let r'' : IsResolvent c d m' = subst (λ (x : List ℤ). IsResolvent c x m') (same-some (numbered known (get_or ns i 0)) d' d e is) r' in
+        let r'' : IsResolvent c d m' = subst (λ (x : List ℤ). IsResolvent c x m') (same_Some d' d (sym e ∙ is)) r' in
         subst (λ (x : List ℤ). ResolvesTo known x (drop (i + 1) ns) last) (same_resolvent c d m' m r'' r) rest
 
     from : ResolvesTo known m (drop (i + 1) ns) last → ResolvesTo known c (drop i ns) last
@@ -94,19 +63,15 @@ chain-first known ns n rest c last e is = (to, from)
   where
     to : IsChainResolvent known ns last → ResolvesTo known c rest last
     to h = let (d, is', h') = subst (λ (xs : List ℕ). IsChainResolvent known xs last) e h in
-        subst (λ (x : List ℤ). ResolvesTo known x rest last) (same-some (numbered known n) d c is' is) h'
+        subst (λ (x : List ℤ). ResolvesTo known x rest last) (same_Some d c (sym is' ∙ is)) h'
 
     from : ResolvesTo known c rest last → IsChainResolvent known ns last
     from h = subst (λ (xs : List ℕ). IsChainResolvent known xs last) (sym e) (c, is, h)
 
 -- ---- traces
-clauses_of-push : (steps : List Step) (s : Step) → clauses_of (steps ++ s ∷ []) ≡ clauses_of steps ++ s.clause ∷ []
-clauses_of-push [] s = refl
-clauses_of-push (t ∷ steps) s = ap (λ cs. t.clause ∷ cs) (clauses_of-push steps s)
-
 pub known-more : (clauses : List (List ℤ)) (steps : List Step) (i : ℕ) (s : Step) → i < length steps → clauses ++ clauses_of (take (i + 1) steps) ≡ (clauses ++ clauses_of (take i steps)) ++ (get_or steps i s).clause ∷ []
 known-more clauses steps i s less =
-    ap (λ xs. clauses ++ clauses_of xs) (take_more steps i s less) ∙ ap (λ cs. clauses ++ cs) (clauses_of-push (take i steps) (get_or steps i s)) ∙ sym (append_assoc clauses (clauses_of (take i steps)) ((get_or steps i s).clause ∷ []))
+    ap (λ xs. clauses ++ clauses_of xs) (take_more steps i s less) ∙ ap (λ cs. clauses ++ cs) (map_push (λ (s : Step). s.clause) (take i steps) (get_or steps i s)) ∙ sym (append_assoc clauses (clauses_of (take i steps)) ((get_or steps i s).clause ∷ []))
 
 pub steps-more : (clauses : List (List ℤ)) (steps : List Step) (i : ℕ) (s : Step) → i < length steps → s ≡ get_or steps i s
     → AreRightSteps (clauses ++ clauses_of (take i steps)) (map inference_of (drop i steps)) ↔ (IsChainResolvent (clauses ++ clauses_of (take i steps)) s.chain.items s.clause × AreRightSteps (clauses ++ clauses_of (take (i + 1) steps)) (map inference_of (drop (i + 1) steps)))
@@ -130,26 +95,14 @@ pub steps-end : (clauses : List (List ℤ)) (steps : List Step) (i : ℕ) → le
 steps-end clauses steps i past = subst (λ (xs : List Step). AreRightSteps (clauses ++ clauses_of (take i steps)) (map inference_of xs)) (sym (drop_all i steps past)) tt
 
 -- ---- the end of a trace
-length-inferences : (steps : List Step) → length (map inference_of steps) ≡ length steps
-length-inferences [] = refl
-length-inferences (s ∷ steps) = ap suc (length-inferences steps)
-
-inference-at : (steps : List Step) (k : ℕ) (s : Step) → slice_get steps k ≡ Some s → slice_get (map inference_of steps) k ≡ Some (inference_of s)
-inference-at [] k s e = absurd (cc)
-inference-at (t ∷ steps) zero s e = let same : t ≡ s = cc in ap (λ (x : Step). Some (inference_of x)) same
-inference-at (t ∷ steps) (suc k) s e = inference-at steps k s e
-
-same-inference : (o : Option Inference) (s t : Inference) → o ≡ Some s → o ≡ Some t → s ≡ t
-same-inference o s t e e' = cc
-
 pub ends-last : (steps : List Step) (s : Step) → slice_get steps (length steps - 1) ≡ Some s → EndsEmpty (map inference_of steps) ↔ (s.clause ≡ [])
 ends-last steps s e = (
-  λ (t, is, empty). ap (λ (x : Inference). x.clause) (same-inference (slice_get (map inference_of steps) (length (map inference_of steps) - 1)) (inference_of s) t at is) ∙ empty,
+  λ (t, is, empty). ap (λ (x : Inference). x.clause) (same_Some (inference_of s) t (sym at ∙ is)) ∙ empty,
   λ empty. (inference_of s, at, empty),
 )
   where
     at : slice_get (map inference_of steps) (length (map inference_of steps) - 1) ≡ Some (inference_of s)
-    at = ap (λ n. slice_get (map inference_of steps) (n - 1)) (length-inferences steps) ∙ inference-at steps (length steps - 1) s e
+    at = ap (λ n. slice_get (map inference_of steps) (n - 1)) (length-map steps inference_of) ∙ slice_get-map_some inference_of steps (length steps - 1) s e
 
 -- ---- an accepted trace refutes
 -- a clause that holds
@@ -158,9 +111,7 @@ IsKnown v c = HasNoZero c × (clause_holds v c ≡ true)
 
 known-at : (v : ℕ → Bool) (known : List (List ℤ)) (n : ℕ) (c : List ℤ) → AllByRecursion (IsKnown v) known → numbered known n ≡ Some c → IsKnown v c
 known-at v known zero c all e = absurd (cc)
-known-at v [] (suc n) c all e = absurd (cc)
-known-at v (d ∷ known) (suc zero) c all e = let same : d ≡ c = cc in subst (IsKnown v) same all.0
-known-at v (d ∷ known) (suc (suc n)) c all e = known-at v known (suc n) c all.1 e
+known-at v known (suc n) c all e = all_get (IsKnown v) known n c all e
 
 chain-holds : (v : ℕ → Bool) (known : List (List ℤ)) (c : List ℤ) (ns : List ℕ) (last : List ℤ) → AllByRecursion (IsKnown v) known → IsKnown v c → ResolvesTo known c ns last → IsKnown v last
 chain-holds v known c [] last all is e = subst (IsKnown v) e is
@@ -172,30 +123,18 @@ resolvent-holds : (v : ℕ → Bool) (known : List (List ℤ)) (ns : List ℕ) (
 resolvent-holds v known [] last all h = absurd h
 resolvent-holds v known (n ∷ ns) last all (c, e, rest) = chain-holds v known c ns last all (known-at v known n c all e) rest
 
-known-push : (v : ℕ → Bool) (known : List (List ℤ)) (c : List ℤ) → AllByRecursion (IsKnown v) known → IsKnown v c → AllByRecursion (IsKnown v) (known ++ c ∷ [])
-known-push v [] c all is = (is, tt)
-known-push v (d ∷ known) c all is = (all.0, known-push v known c all.1 is)
-
 step-holds : (v : ℕ → Bool) (known : List (List ℤ)) (steps : List Inference) (k : ℕ) (s : Inference) → AllByRecursion (IsKnown v) known → AreRightSteps known steps → slice_get steps k ≡ Some s → IsKnown v s.clause
 step-holds v known [] k s all right e = absurd (cc)
 step-holds v known (t ∷ steps) zero s all right e =
     let same : t ≡ s = cc in subst (λ (x : Inference). IsKnown v x.clause) same (resolvent-holds v known t.chain t.clause all right.0)
 step-holds v known (t ∷ steps) (suc k) s all right e =
-    step-holds v (known ++ t.clause ∷ []) steps k s (known-push v known t.clause all (resolvent-holds v known t.chain t.clause all right.0)) right.1 e
-
-all-known : (v : ℕ → Bool) (clauses : List (List ℤ)) → AllByRecursion HasNoZero clauses → all_hold v clauses ≡ true → AllByRecursion (IsKnown v) clauses
-all-known v [] all h = tt
-all-known v (c ∷ clauses) all h = let (here, rest) = and_parts (clause_holds v c) (all_hold v clauses) h in ((all.0, here), all-known v clauses all.1 rest)
+    step-holds v (known ++ t.clause ∷ []) steps k s (all_push (IsKnown v) known t.clause all (resolvent-holds v known t.chain t.clause all right.0)) right.1 e
 
 -- this needs neither the order of the literals nor a bound on their size
-pub refutes-any : (clauses : List (List ℤ)) (steps : List Inference) → AllByRecursion HasNoZero clauses → IsAcceptedTrace clauses steps → IsUnsatisfiable clauses
+pub refutes-any : (clauses : List (List ℤ)) (steps : List Inference) → HaveNoZero clauses → IsAcceptedTrace clauses steps → IsUnsatisfiable clauses
 refutes-any clauses steps all (right, (s, e, empty)) v h =
-    let is = step-holds v clauses steps (length steps - 1) s (all-known v clauses all h) right e in
+    let is = step-holds v clauses steps (length steps - 1) s (all_both HasNoZero (λ c. clause_holds v c ≡ true) clauses all ((all_by_test (λ c. clause_holds v c ≡ true) (clause_holds v) clauses (λ c _. (λ e. e, λ e. e))).1 h)) right e in
     true≢false (sym is.1 ∙ ap (clause_holds v) empty)
 
-no_zeros : (clauses : List (List ℤ)) → AllByRecursion IsClause clauses → AllByRecursion HasNoZero clauses
-no_zeros [] all = tt
-no_zeros (c ∷ clauses) all = (clause-no_zero c all.0.0, no_zeros clauses all.1)
-
 pub refutes : (clauses : List (List ℤ)) (steps : List Inference) → AllByRecursion IsClause clauses → IsAcceptedTrace clauses steps → IsUnsatisfiable clauses
-refutes clauses steps all accepted = refutes-any clauses steps (no_zeros clauses all) accepted
+refutes clauses steps all accepted = refutes-any clauses steps (all_weaker IsClause HasNoZero (λ c is. clause-no_zero c is.0) clauses all) accepted

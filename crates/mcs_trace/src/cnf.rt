@@ -59,12 +59,10 @@ impl Cnf {
     pub fn can_push(&self, clause: &Clause) -> bool
         ensures { IsTrue result ↔ IsWithin self.now.vars clause.now }
     {
-        for literal in clause.literals() {
-            if literal.unsigned_abs() > self.vars {
-                return false;
-            }
-        }
-        true
+        clause
+            .literals()
+            .iter()
+            .all(|literal| literal.unsigned_abs() <= self.vars)
     }
 
     /// Adds a clause at the end. Where memory runs out, the list is as before.
@@ -76,6 +74,18 @@ impl Cnf {
         // That it is a clause, which the list keeps, is told by its literals.
         let _ = clause.literals();
         self.clauses.push(clause)?;
+        Ok(())
+    }
+
+    /// Adds the clauses of another list, over the same variables and perhaps more. Where memory runs out, the list
+    /// is as before.
+    pub fn append(&mut self, mut other: Cnf) -> Result<(), Memory>
+        requires { self.old.vars ≤ other.vars }
+        ensures ok { OnOk result (self.new ≡ record { vars = other.vars; clauses = self.old.clauses ++ other.clauses }) }
+        ensures err { OnErr result (self.new ≡ self.old) }
+    {
+        self.clauses.append(&mut other.clauses)?;
+        self.vars = other.vars;
         Ok(())
     }
 

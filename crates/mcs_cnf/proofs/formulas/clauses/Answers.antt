@@ -10,7 +10,7 @@ loop-formula-preserved c =
     let fs = c.args.formulas.now in
     let i = c.loop-formula.formula-index in
     let f = c.formula-item.result in
-    let pushed = c.in_ok-push_formula.ensures in
+    let pushed = c.in_ok-push_formula.ensures.ok in
     record {
       all = rest_pushed names c.loop-formula.cnf c.push_formula.new.cnf fs i f c.loop-formula-test.true c.formula-item.is pushed ∙ c.loop-formula.invariant.all;
       over = (rest_over names fs i f c.loop-formula-test.true c.formula-item.is c.loop-formula.invariant.over).1;

@@ -1,23 +1,21 @@
-use Rattle.std.proofs.Common.{refl, ◌≡◌, ◌+◌, ℤ, pos, neg_ℤ, unsigned_abs, get_or, false, Option, Some, None, is_some, sym, ap, ◌∙◌, subst, inl, inr, w64, to_z, of_z, to_z-of_z}
+use Rattle.std.proofs.Common.{◌≡◌, ◌+◌, ℤ, pos, neg_ℤ, unsigned_abs, get_or, Some, sym, ap, ◌∙◌, subst, inl, inr, w64, to_z, of_z, to_z-of_z}
 use Rattle.std.proofs.lemmas.Bool.Decides.{when_true, when_false}
 use Rattle.mcs_base.proofs.ListingLemmas.{all_among}
+use Rattle.mcs_base.proofs.Among.{among_at}
+use Rattle.mcs_base.proofs.Booleans.{none_from_not_some}
 use Rattle.mcs_trace.specs.Clauses.{IsLiteral}
-use Rattle.mcs_trace.proofs.OrderLemmas.{among_get, literal_at, fits_literal}
+use Rattle.mcs_trace.proofs.OrderLemmas.{literal_at, fits_literal}
 use Rattle.mcs_sat.specs.declared.examine.Finding.TheVariants.{Forced}
 use Rattle.mcs_sat.specs.Trails.{IsOn, StandsNowhere, IsFinding}
 use Rattle.mcs_sat.proofs.FindingLemmas.{FoundSoFar, found-false, found-free, found-conflict, found-forced, found-two}
 use Rattle.mcs_sat.proofs.examine.examine.Goals.{in-Some-false, in-None+else-is_some}
 use Rattle.mcs_sat.proofs.examine.examine.Goals as goal
 
-is_none : (o : Option ℤ) → is_some o ≡ false → o ≡ None
-is_none None e = refl
-is_none (Some l) e = absurd (cc)
-
 pub returns-in-Some-true : goal.returns-in-Some-true
 returns-in-Some-true c =
     let x : ℤ = get_or c.args.literals.now c.loop-literal.literal-index (pos 0) in
     let read : to_z w64 (of_z w64 x) ≡ x = to_z-of_z (fits_literal x (literal_at c.args.literals.now c.loop-literal.literal-index c.requires.clause c.loop-literal-test.true)) in
-    inl (x, among_get c.args.literals.now c.loop-literal.literal-index (pos 0) c.loop-literal-test.true, subst (IsOn c.args.trail.now.entries.items) read (when_true _ _ c.in-Some-true.field-0-test c.in-Some-true.ensures))
+    inl (x, among_at c.args.literals.now c.loop-literal.literal-index (pos 0) c.loop-literal-test.true, subst (IsOn c.args.trail.now.entries.items) read (when_true _ _ c.in-Some-true.field-0-test c.in-Some-true.ensures))
 
 pub returns-then-is_some : goal.returns-then-is_some
 returns-then-is_some c =
@@ -37,7 +35,7 @@ loop-literal-preserved c =
       | in-Some-false w ↦ subst (FoundSoFar entries lits (i + 1)) (sym w.free-is)
           (found-false entries lits i c.loop-literal.free c.loop-literal-test.true (subst (λ (k : ℤ). IsOn entries (neg_ℤ k)) read (when_false _ _ w.in-Some-false.field-0-test w.in-Some-false.ensures)) c.loop-literal.invariant)
       | in-None+else-is_some w ↦ subst (FoundSoFar entries lits (i + 1)) (sym (w.free-is ∙ ap Some read))
-          (found-free entries lits i c.loop-literal.free c.requires.clause c.loop-literal-test.true (is_none c.loop-literal.free (sym w.is_some.ensures ∙ w.if-is_some.false)) (subst (λ (k : ℤ). StandsNowhere entries (unsigned_abs k)) read w.in-None.ensures) c.loop-literal.invariant)
+          (found-free entries lits i c.loop-literal.free c.requires.clause c.loop-literal-test.true (none_from_not_some c.loop-literal.free (sym w.is_some.ensures ∙ w.if-is_some.false)) (subst (λ (k : ℤ). StandsNowhere entries (unsigned_abs k)) read w.in-None.ensures) c.loop-literal.invariant)
     ]
 
 pub returns-in-Some : goal.returns-in-Some

@@ -1,6 +1,7 @@
 use Rattle.std.proofs.Common.{◌≡◌, ℕ, ℤ, pos, List, length, get_or, ◌<◌, unsigned_abs, sym, subst, w64, to_z, of_z, to_z-of_z}
 use Rattle.mcs_base.proofs.ListingLemmas.{all_among}
-use Rattle.mcs_trace.proofs.OrderLemmas.{among_get, fits_literal, literal_at}
+use Rattle.mcs_base.proofs.Among.{among_at}
+use Rattle.mcs_trace.proofs.OrderLemmas.{fits_literal, literal_at}
 use Rattle.mcs_sat.specs.declared.trail.Entry.{Entry}
 use Rattle.mcs_sat.specs.Trails.{StandsAt, StandsNowhere}
 use Rattle.mcs_sat.proofs.LatestLemmas.{covered-false, false-somewhere, latest-joined, latest-end}
@@ -12,14 +13,14 @@ position-requires-clause-within c =
     let x : ℤ = get_or lits c.loop-literal.literal-index (pos 0) in
     let read : to_z w64 (of_z w64 x) ≡ x = to_z-of_z (fits_literal x (literal_at lits c.loop-literal.literal-index c.requires.clause c.loop-literal-test.true)) in
     subst (λ (k : ℤ). unsigned_abs k < length c.args.trail.now.positions.items) (sym read)
-    (all_among (λ (k : ℤ). unsigned_abs k < length c.args.trail.now.positions.items) lits x (covered-false c.args.trail.now.entries.items c.args.trail.now.positions.items lits c.requires.placed c.requires.all_false) (among_get lits c.loop-literal.literal-index (pos 0) c.loop-literal-test.true))
+    (all_among (λ (k : ℤ). unsigned_abs k < length c.args.trail.now.positions.items) lits x (covered-false c.args.trail.now.entries.items c.args.trail.now.positions.items lits c.requires.placed c.requires.all_false) (among_at lits c.loop-literal.literal-index (pos 0) c.loop-literal-test.true))
 
 pub unreachable-requires : goal.unreachable-requires
 unreachable-requires c =
     let lits : List ℤ = c.args.literals.now in
     let x : ℤ = get_or lits c.loop-literal.literal-index (pos 0) in
     let read : to_z w64 (of_z w64 x) ≡ x = to_z-of_z (fits_literal x (literal_at lits c.loop-literal.literal-index c.requires.clause c.loop-literal-test.true)) in
-    false-somewhere c.args.trail.now.entries.items x (c.requires.all_false x (among_get lits c.loop-literal.literal-index (pos 0) c.loop-literal-test.true))
+    false-somewhere c.args.trail.now.entries.items x (c.requires.all_false x (among_at lits c.loop-literal.literal-index (pos 0) c.loop-literal-test.true))
     (subst (λ (k : ℤ). StandsNowhere c.args.trail.now.entries.items (unsigned_abs k)) read c.in_default.ensures)
 
 pub loop-literal-preserved : goal.loop-literal-preserved

@@ -3,11 +3,12 @@ use Rattle.std.specs.List.{AllByRecursion}
 use Rattle.std.proofs.lemmas.List.{drop_all}
 use Rattle.mcs_base.specs.Listings.{IsAmong}
 use Rattle.mcs_base.proofs.ListingLemmas.{all_among, all_from_among}
+use Rattle.mcs_base.proofs.Each.{all_drop_more}
 use Rattle.mcs_trace.specs.Clauses.{IsClause, IsWithin}
 use Rattle.mcs_trace.specs.Traces.{numbered}
 use Rattle.mcs_sat.specs.Trails.{AreClauses, AreCovered, IsFinding, IsSatisfied}
 use Rattle.mcs_sat.proofs.KnownLemmas.{all_numbered}
-use Rattle.mcs_sat.proofs.ModelLemmas.{all-more, numbered-at, satisfied-found}
+use Rattle.mcs_sat.proofs.ModelLemmas.{numbered-at, satisfied-found}
 use Rattle.mcs_sat.proofs.model.first_false.Goals as goal
 
 pub loop-index-init : goal.loop-index-init
@@ -32,8 +33,8 @@ loop-index-preserved c =
     let at_most : unsigned_abs k ≤ c.args.cnf.now.vars = all_among (λ (l : ℤ). unsigned_abs l ≤ c.args.cnf.now.vars) cl k within among in
     let sized : m ≡ c.args.cnf.now.vars + 1 = c.requires.sized in omega arith) in
     let found : IsFinding es cl c.examine.result = subst (λ (x : List ℤ). IsFinding es x c.examine.result) c.literals.ensures.value c.examine.ensures in
-    all-more (IsSatisfied es) (AllByRecursion (IsSatisfied es) c.args.cnf.now.clauses) cs c.loop-index.index cl c.loop-index-test.true c.clause-item.is
-    (satisfied-found es m cl clause covered c.requires.assigned c.examine.result found c.in_default.not-Conflict) c.loop-index.invariant
+    λ rest. c.loop-index.invariant (all_drop_more (IsSatisfied es) cs c.loop-index.index cl c.loop-index-test.true c.clause-item.is
+    (satisfied-found es m cl clause covered c.requires.assigned c.examine.result found c.in_default.not-Conflict) rest)
 
 pub returns : goal.returns
 returns c = c.loop-index.invariant (subst (AllByRecursion (IsSatisfied c.args.trail.now.entries.items)) (sym (drop_all c.loop-index.index c.clauses-clause-items.result.now c.loop-index-test.false)) tt)

@@ -2,11 +2,13 @@ use Rattle.std.proofs.Common.{List, inl, inr}
 use Rattle.std.specs.List.{All}
 use Rattle.std.proofs.lemmas.Bool.{cases_lt}
 use Rattle.mcs_sat.specs.declared.trail.Entry.{Entry}
-use Rattle.mcs_sat.proofs.SettleLemmas.{if_none, if_some, place-more, place-new}
+use Rattle.mcs_sat.proofs.SettleLemmas.{place-more, place-new}
 use Rattle.mcs_sat.proofs.propagate.propagate.Goals.{After-visit_numbers-arg-1}
 use Rattle.std.proofs.Common.{◌≡◌, ◌<◌, ◌+◌, ℕ, ℤ, length, unsigned_abs, neg_ℤ, sym, ap, ◌∙◌, subst, arith, ◌^◌, w64, to_z, of_z, to_z-of_z}
+use Rattle.mcs_base.proofs.Numbers.{unsigned_abs-neg_ℤ}
+use Rattle.mcs_base.proofs.Booleans.{if_none, if_some}
 use Rattle.mcs_trace.specs.Clauses.{IsLiteral}
-use Rattle.mcs_trace.proofs.OrderLemmas.{fits_literal, size-neg}
+use Rattle.mcs_trace.proofs.OrderLemmas.{fits_literal}
 use Rattle.mcs_sat.specs.Trails.{IsNumberVisited, IsPlaceVisited, literal_at, known_of}
 use Rattle.mcs_sat.proofs.TrailLemmas.{extends-none, extends-more, placed-bound}
 use Rattle.mcs_sat.proofs.propagate.propagate.Goals as goal
@@ -21,7 +23,7 @@ negated c =
     let here : c.loop-head.head < length es = (let ok = c.loop-head.trail.entries.ok.0 in omega arith) in
     let l : ℤ = literal_at es c.loop-head.head in
     let is : IsLiteral l = (c.loop-head.invariant.trail.placed c.loop-head.head here).0 in
-    let turned : IsLiteral (neg_ℤ l) = subst (λ (n : ℕ). (0 < n) × (n < 2 ^ 63)) (sym (size-neg l)) is in
+    let turned : IsLiteral (neg_ℤ l) = subst (λ (n : ℕ). (0 < n) × (n < 2 ^ 63)) (sym (unsigned_abs-neg_ℤ l)) is in
     let literal : IsLiteral c.negated-literal.result = subst IsLiteral (sym c.negated-literal.ensures) turned in
     to_z-of_z (fits_literal c.negated-literal.result literal) ∙ c.negated-literal.ensures
 
@@ -30,7 +32,7 @@ of-requires c =
     let es = c.loop-head.trail.entries.items in
     let here : c.loop-head.head < length es = (let ok = c.loop-head.trail.entries.ok.0 in omega arith) in
     let (is, within, at) = c.loop-head.invariant.trail.placed c.loop-head.head here in
-    let size : unsigned_abs (to_z w64 (of_z w64 c.negated-literal.result)) ≡ unsigned_abs (literal_at es c.loop-head.head) = ap unsigned_abs (negated c) ∙ size-neg (literal_at es c.loop-head.head) in
+    let size : unsigned_abs (to_z w64 (of_z w64 c.negated-literal.result)) ≡ unsigned_abs (literal_at es c.loop-head.head) = ap unsigned_abs (negated c) ∙ unsigned_abs-neg_ℤ (literal_at es c.loop-head.head) in
     let positions : length c.loop-head.trail.positions.items ≡ c.args.cnf.now.vars + 1 = c.loop-head.invariant.trail.sized in
     let variables : length c.args.occurrences.now.variables.items ≡ c.args.cnf.now.vars + 1 = c.requires.sized in
     omega arith

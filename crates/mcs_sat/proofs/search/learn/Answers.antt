@@ -1,9 +1,10 @@
 use Rattle.std.proofs.Common.{◌≡◌, ◌++◌, ◌∷◌, [], ◌<◌, ◌≤◌, ◌+◌, ◌^◌, ℕ, ℤ, pos, List, MatchOption, length, map, take, neg_ℤ, unsigned_abs, sym, ap, ◌∙◌, subst, arith, w64, to_z, of_z, to_z-of_z}
 use Rattle.std.specs.List.{AllByRecursion}
+use Rattle.mcs_base.proofs.Numbers.{unsigned_abs-neg_ℤ}
 use Rattle.mcs_trace.specs.Clauses.{IsLiteral}
 use Rattle.mcs_trace.specs.Traces.{EndsEmpty, inference_of}
 use Rattle.mcs_trace.specs.declared.trace.Step.{Step}
-use Rattle.mcs_trace.proofs.OrderLemmas.{fits_literal, size-neg}
+use Rattle.mcs_trace.proofs.OrderLemmas.{fits_literal}
 use Rattle.mcs_sat.specs.declared.learn.Jump.{Jump}
 use Rattle.mcs_sat.specs.declared.learn.Learnt.{Learnt}
 use Rattle.mcs_sat.specs.declared.search.Search.{Search}
@@ -58,7 +59,7 @@ read : (c : After-push-arg-2-1) → to_z w64 (of_z w64 c.negated-literal.result)
 read c =
     let x : ℤ = literal_at c.args.search.now.trail.entries.items c.in-Some.jump.place in
     let is : IsLiteral x = (c.requires.search.trail.placed c.in-Some.jump.place (jump_of c).here).0 in
-    let negated : IsLiteral (neg_ℤ x) = subst (λ (n : ℕ). (0 < n) × (n < 2 ^ 63)) (sym (size-neg x)) is in
+    let negated : IsLiteral (neg_ℤ x) = subst (λ (n : ℕ). (0 < n) × (n < 2 ^ 63)) (sym (unsigned_abs-neg_ℤ x)) is in
     let literal : IsLiteral c.negated-literal.result = subst IsLiteral (sym c.negated-literal.ensures) negated in
     to_z-of_z (fits_literal c.negated-literal.result literal) ∙ c.negated-literal.ensures
 
@@ -74,7 +75,7 @@ push-requires-2-clause-free c =
     let p : ℕ = c.in-Some.jump.place in
     let d : ℕ = c.in-Some.jump.decision in
     let free = free-back old.entries.items old.positions.items p d c.requires.search.trail.placed (jump_of c).here (jump_of c).before in
-    let size : unsigned_abs (to_z w64 (of_z w64 c.negated-literal.result)) ≡ unsigned_abs (literal_at old.entries.items p) = ap unsigned_abs (read c) ∙ size-neg (literal_at old.entries.items p) in
+    let size : unsigned_abs (to_z w64 (of_z w64 c.negated-literal.result)) ≡ unsigned_abs (literal_at old.entries.items p) = ap unsigned_abs (read c) ∙ unsigned_abs-neg_ℤ (literal_at old.entries.items p) in
     subst (λ (es : List Entry). StandsNowhere es (unsigned_abs (to_z w64 (of_z w64 c.negated-literal.result)))) (sym c.back.ensures.entries) (subst (StandsNowhere (take d old.entries.items)) (sym size) free)
 
 pub returns-clause-kept : goal.returns-clause-kept

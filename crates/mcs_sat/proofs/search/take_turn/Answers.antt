@@ -1,4 +1,5 @@
-use Rattle.std.proofs.Common.{ℕ, IfSome, sym, subst}
+use Rattle.std.proofs.Common.{ℕ, IfSome, sym, subst, arith}
+use Rattle.std.proofs.lemmas.Grind.{common_steps}
 use Rattle.mcs_sat.specs.declared.search.Search.{Search}
 use Rattle.mcs_sat.specs.Trails.{IsConflict, known_of}
 use Rattle.mcs_sat.specs.Turns.{IsChoice}
@@ -16,3 +17,6 @@ learn-requires-clause-conflict c =
           let (here, same) = subst (IsChoice c.args.cnf.now c.args.search.now w.decide.new.search) w.in-False.is w.in_ok-decide-in-None.ensures.choice in
           subst (λ (s : Search). P s c.match-conflict.number) (sym w.search-is) (subst (P w.decide.new.search) (sym w.number-is) here)
     ]
+
+pub returns-in-Decided-clause-turn : goal.returns-in-Decided-clause-turn
+returns-in-Decided-clause-turn c = grind (arith, common_steps)

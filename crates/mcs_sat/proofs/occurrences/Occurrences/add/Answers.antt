@@ -5,7 +5,8 @@ use Rattle.std.proofs.Common.{◌≡◌, ◌<◌, ℕ, ℤ, pos, get_or, length,
 use Rattle.std.proofs.lemmas.List.{length-set}
 use Rattle.std.proofs.lemmas.List.Elements.{All-set}
 use Rattle.mcs_base.proofs.ListingLemmas.{all_among}
-use Rattle.mcs_trace.proofs.OrderLemmas.{among_drop-all, among_drop-more, among_get, fits_literal, literal_at}
+use Rattle.mcs_base.proofs.Among.{among_drop_more, none_among_drop, among_at}
+use Rattle.mcs_trace.proofs.OrderLemmas.{fits_literal, literal_at}
 use Rattle.mcs_sat.specs.Trails.{IsListedAt, IsOccurrence, numbers_in}
 use Rattle.mcs_sat.proofs.occurrences.Occurrences.add.Goals as goal
 
@@ -18,7 +19,7 @@ loop-literal-preserved c =
     let x : ℤ = get_or lits i (pos 0) in
     let read : to_z w64 (of_z w64 x) ≡ x = to_z-of_z (fits_literal x (literal_at lits i c.requires.clause c.loop-literal-test.true)) in
     let size : at ≡ unsigned_abs x = c.unsigned_abs.ensures.value ∙ ap unsigned_abs (to_z-of_z (fits_literal x (literal_at lits i c.requires.clause c.loop-literal-test.true))) in
-    let within : unsigned_abs x < length c.args.self.now.variables.items = all_among (λ (l : ℤ). unsigned_abs l < length c.args.self.now.variables.items) lits x c.requires.within (among_get lits i (pos 0) c.loop-literal-test.true) in
+    let within : unsigned_abs x < length c.args.self.now.variables.items = all_among (λ (l : ℤ). unsigned_abs l < length c.args.self.now.variables.items) lits x c.requires.within (among_at lits i (pos 0) c.loop-literal-test.true) in
     let here : at < length vs = (let e = c.loop-literal.invariant.sized in omega arith) in
     let old : Occurrence = c.index_mut-occurrence.result.now in
     let new : Occurrence = c.push.new.self in
@@ -32,7 +33,7 @@ loop-literal-preserved c =
           All-set (IsOccurrence n) vs at c.push.new.self (c.in_ok-push.ensures.numbers n is listed) before;
       added = λ k among. elim (c.loop-literal.invariant.added k among) [
         | inl listed ↦ inl (stays c.args.number k listed)
-        | inr rest ↦ elim (among_drop-more k lits i (pos 0) c.loop-literal-test.true rest) [
+        | inr rest ↦ elim ((among_drop_more lits i (pos 0) c.loop-literal-test.true k).0 rest) [
           | inl e ↦ inl (subst (IsListedAt (set vs at new) c.args.number) (sym e) (listed-new vs at x old new c.args.number here size c.index_mut-occurrence.ensures.value more))
           | inr later ↦ inr later
         ]
@@ -46,5 +47,5 @@ loop-literal-init c = record { sized = refl; numbers = λ n is h. h; added = λ 
 pub returns-clause-added : goal.returns-clause-added
 returns-clause-added c = λ k among. elim (c.loop-literal.invariant.added k among) [
   | inl listed ↦ listed
-  | inr rest ↦ absurd (among_drop-all k c.args.literals.now c.loop-literal.literal-index c.loop-literal-test.false rest)
+  | inr rest ↦ absurd (none_among_drop c.args.literals.now c.loop-literal.literal-index k c.loop-literal-test.false rest)
 ]

@@ -1,6 +1,6 @@
 use Rattle.std.proofs.Common.{IfSome}
 use Rattle.mcs_sat.specs.Trails.{IsConflict, IsSearch, known_of, work_left}
-use Rattle.mcs_sat.proofs.search.solve.Given as goal
+use Rattle.mcs_sat.proofs.search.run.Given as goal
 
 abbrev pub invariant-loop-search : goal.invariant-loop-search
 invariant-loop-search l = record {
