@@ -114,3 +114,35 @@ fn orders_a_ring_of_all(rt: HostRuntime) -> Result<(), Fail> {
     assert!(rt; shares(&plan, 63, &[0], Vars::empty()) && shares(&plan, 62, &[], Vars::one(63)));
     Ok(())
 }
+
+/// Whether the plans for the systems that the texts spell are the same.
+fn are_same(alloc: Global, one: &str, other: &str) -> Result<bool, Fail> {
+    let (one, other) = (plan_of(alloc, one)?, plan_of(alloc, other)?);
+    Ok(one.is(&other))
+}
+
+const KINDS: &str = "context c1 classical { a & b. } context c2 default { p. q : r / s. }
+context c3 program { x :- y, not z. } bridge r1: c1:a if c2:p, not c3:x.";
+
+/// The same with other blanks.
+const SPACED: &str = "context c1 classical {a&b.}\ncontext c2 default {p. q:r/s.}
+context c3 program {x:-y,not z.}\nbridge r1: c1:a if c2:p, not c3:x.";
+
+/// Another rule of the program, another read of the bridge rule, and no bridge rule.
+const OTHERS: [&str; 3] = [
+    "context c1 classical { a & b. } context c2 default { p. q : r / s. }
+context c3 program { x :- y, not y. } bridge r1: c1:a if c2:p, not c3:x.",
+    "context c1 classical { a & b. } context c2 default { p. q : r / s. }
+context c3 program { x :- y, not z. } bridge r1: c1:a if c2:p, not c3:y.",
+    "context c1 classical { a & b. } context c2 default { p. q : r / s. }
+context c3 program { x :- y, not z. }",
+];
+
+#[test]
+fn plans_of_one_system_are_the_same(rt: HostRuntime) -> Result<(), Fail> {
+    assert!(rt; are_same(rt.alloc(), KINDS, SPACED)?);
+    for text in OTHERS {
+        assert!(rt; !are_same(rt.alloc(), KINDS, text)?, "{text}");
+    }
+    Ok(())
+}

@@ -167,3 +167,47 @@ fn joins_are_plain_joins(rt: HostRuntime) -> Result<(), Fail> {
     }
     Ok(())
 }
+
+/// What is left after the tables are joined one after the other, and after each join only the variables that
+/// are beside the table are kept.
+fn left_of(alloc: Global, level: u32, steps: &[(Listed, u64)]) -> Result<Option<Table>, Memory> {
+    let mut left = Table::unit(alloc)?;
+    for (listed, keep) in steps {
+        let next = table(alloc, *listed)?;
+        match joined(alloc, &left, &next, level)? {
+            Some(all) => left = forget(alloc, &all, Vars::numbered(*keep))?,
+            None => return Ok(None),
+        }
+    }
+    Ok(Some(left))
+}
+
+/// Whether no variable is left, and the rows have these marks.
+fn leave(alloc: Global, level: u32, steps: &[(Listed, u64)], marks: &[u8]) -> Result<bool, Memory> {
+    let left = match left_of(alloc, level, steps)? {
+        Some(left) => left,
+        None => return Ok(false),
+    };
+    let mut wanted = Vec::new(alloc);
+    for set in marks {
+        wanted.push(row(Vars::empty(), 0, *set))?;
+    }
+    Ok(left.scope() == Vars::empty() && left.rows() == wanted.as_slice())
+}
+
+/// Of the joint rows, one takes mark 3, and the others take mark 4 with one of the marks 0 and 2, or with 0 and 1.
+#[test]
+fn elimination_leaves_minimal_marks(rt: HostRuntime) -> Result<(), Fail> {
+    let a: Listed = (0b011, &[(0b01, 0), (0b10, 0b1), (0b11, 0b11)]);
+    let b: Listed = (0b110, &[(0, 0b100), (0b100, 0b1000), (0b010, 0)]);
+    let c: Listed = (0b100, &[(0, 0b10000), (0b100, 0)]);
+    for steps in [
+        [(a, 0b110), (b, 0b100), (c, 0)],
+        [(c, 0b110), (b, 0b011), (a, 0)],
+        [(b, 0b111), (a, 0b100), (c, 0)],
+    ] {
+        assert!(rt; leave(rt.alloc(), 2, &steps, &[0b01000, 0b10001, 0b10100])?);
+        assert!(rt; leave(rt.alloc(), 1, &steps, &[0b01000])?);
+    }
+    Ok(())
+}

@@ -1,112 +1,89 @@
 -- How many questions there are.
-use Rattle.std.proofs.Common.{◌≡◌, ℕ, ◌+◌, ◌^◌, ◌<◌, ◌≤◌, suc, List, [], ◌∷◌, ◌++◌, length, Some, slice_get, refl, sym, ap, ◌∙◌, subst, inl, inr, ◌⊎◌, arith}
-use Rattle.std.proofs.lemmas.List.{length-append}
-use Rattle.std.proofs.lemmas.List.Sums.{sum_by-cons}
-use Rattle.std.proofs.Math.Nat.{two-pow-succ}
+use Rattle.std.proofs.Common.{◌≡◌, ℕ, ◌+◌, ◌^◌, ◌≤◌, List, [], ◌∷◌, length, sym, ap, ◌∙◌, subst, inl, inr, arith}
 use Rattle.std.specs.List.{range_with_len, sum_by}
 use Rattle.mcs_sets.specs.Sets.{size, single, union, members, Within}
-use Rattle.mcs_base.specs.Listings.{IsAmong, IsAscending, IsListing}
-use Rattle.mcs_base.proofs.ListingLemmas.{all_among, same_listing}
+use Rattle.mcs_base.specs.Listings.{IsAmong, AreApart}
 use Rattle.mcs_system.specs.Plain.{System}
-use Rattle.mcs_system.specs.Systems.{IsConsistent}
-use Rattle.mcs_system.specs.Imports.{IsQuestion, rules_into}
-use Rattle.mcs_system.proofs.Members.{among_left, among_right}
-use Rattle.mcs_import.specs.Counts.{AreQuestions, QuestionCount, rule_set_count}
-use Rattle.mcs_import.specs.Laws.{QuestionsAreBounded, QuestionCountIsOne, NeedIsOne}
+use Rattle.mcs_system.specs.Imports.{rules_into, IsQuestionAfter, IsPossibleFrom}
+use Rattle.mcs_system.specs.Levels.{IsQuestionAt, AreSomeQuestions, HasQuestions, rule_set_count}
+use Rattle.mcs_base.proofs.Among.{among_left, among_right}
+use Rattle.mcs_base.proofs.Distinct.{distinct_fits, ascending_distinct}
+use Rattle.mcs_base.proofs.Numbered.{distinct_from_apart, apart_from_distinct, with_some, length-with_some, sum_by_bounded, sum_by_smaller}
+use Rattle.mcs_sets.proofs.Lattice.{none-union}
+use Rattle.mcs_import.specs.Laws.{QuestionsAreBounded, QuestionsGrow, CountsAgree, CountIsOne, CountsGrow, NeedIsOne}
 use Rattle.mcs_import.specs.States.{Grows}
-use Rattle.mcs_import.proofs.OrderLemmas.{import_order_is_one}
-use Rattle.mcs_import.proofs.StateLemmas.{grows_is, none-union}
-use Rattle.mcs_import.proofs.QuestionLemmas.{AreApart}
-
--- ---- a list without repeats is no longer than one that has all of it
-ascending_apart : (xs : List ℕ) → IsAscending (λ a b. a < b) xs → AreApart xs
-ascending_apart [] h = tt
-ascending_apart (x ∷ xs) h = (λ among. let less : x < x = all_among (λ b. x < b) xs x h.0 among in omega arith, ascending_apart xs h.1)
-
-taken_out : (x : ℕ) (ys : List ℕ) → IsAmong x ys → (zs : List ℕ) × (length ys ≡ length zs + 1) × ((y : ℕ) → IsAmong y ys → ¬ (y ≡ x) → IsAmong y zs)
-taken_out x [] among = absurd among
-taken_out x (y ∷ ys) (inl e) = (ys, omega arith, λ z among differ. elim among [ inl same ↦ absurd (differ (same ∙ sym e)) | inr later ↦ later ])
-taken_out x (y ∷ ys) (inr later) = let (zs, long, has_others) = taken_out x ys later in (y ∷ zs, omega arith, λ z among differ. elim among [ inl same ↦ inl same | inr later' ↦ inr (has_others z later' differ) ])
-
-fits_in : (xs ys : List ℕ) → AreApart xs → ((x : ℕ) → IsAmong x xs → IsAmong x ys) → length xs ≤ length ys
-fits_in [] ys apart inside = omega arith
-fits_in (x ∷ xs) ys (fresh, apart) inside =
-    let (zs, long, has_others) = taken_out x ys (inside x (inl refl)) in
-    let rest = fits_in xs zs apart (λ y among. has_others y (inside y (inr among)) (λ e. fresh (subst (λ (z : ℕ). IsAmong z xs) e among))) in
-    omega (arith, rest, long)
+use Rattle.mcs_import.proofs.StateLemmas.{grows_is}
 
 -- ---- all that grows by some of the numbers
-grown : List ℕ → ℕ → List ℕ
-grown [] a = a ∷ []
-grown (v ∷ vs) a = grown vs a ++ grown vs (union a (single v))
-
-length-grown : (vs : List ℕ) (a : ℕ) → length (grown vs a) ≡ 2 ^ length vs
-unfolding grown
-length-grown [] a = refl
-length-grown (v ∷ vs) a = let p : 2 ^ suc (length vs) ≡ 2 ^ length vs + 2 ^ length vs = two-pow-succ (length vs) in omega (arith, length-append (grown vs a) (grown vs (union a (single v))), length-grown vs a, length-grown vs (union a (single v)), p)
-
-among_grown : (vs : List ℕ) (a s : ℕ) → Grows vs a s → IsAmong s (grown vs a)
-unfolding grown
+among_grown : (vs : List ℕ) (a s : ℕ) → Grows vs a s → IsAmong s (with_some vs a)
 among_grown [] a s e = inl (sym e)
-among_grown (v ∷ vs) a s (inl h) = among_left s (grown vs a) (grown vs (union a (single v))) (among_grown vs a s h)
-among_grown (v ∷ vs) a s (inr h) = among_right s (grown vs a) (grown vs (union a (single v))) (among_grown vs (union a (single v)) s h)
+among_grown (v ∷ vs) a s (inl h) = among_left s (with_some vs a) (with_some vs (union a (single v))) (among_grown vs a s h)
+among_grown (v ∷ vs) a s (inr h) = among_right s (with_some vs a) (with_some vs (union a (single v))) (among_grown vs (union a (single v)) s h)
 
 few_within : (whole : ℕ) (xs : List ℕ) → AreApart xs → ((x : ℕ) → IsAmong x xs → Within x whole) → length xs ≤ 2 ^ size whole
 few_within whole xs apart inside =
-    let few = fits_in xs (grown (members whole) 0) apart (λ x among. among_grown (members whole) 0 x ((grows_is whole 0 x).1 (x, inside x among, sym (none-union x)))) in
-    omega (arith, few, length-grown (members whole) 0)
+    let few = distinct_fits xs (with_some (members whole) 0) (distinct_from_apart xs apart) (λ x among. among_grown (members whole) 0 x ((grows_is whole 0 x).1 (x, inside x among, sym (none-union x)))) in
+    omega (arith, few, length-with_some (members whole) 0)
 
-few_questions : (m : System) (order : List ℕ) (level i : ℕ) (xs : List ℕ) → IsListing (IsQuestion m order level i) (λ a b. a < b) xs → length xs ≤ 2 ^ size (rules_into m i)
-few_questions m order level i xs listing = few_within (rules_into m i) xs (ascending_apart xs listing.ascending) (λ x among. ((listing.exactly x).0 among).of_rules)
+few_questions : (m : System) (level i : ℕ) (xs : List ℕ) → AreSomeQuestions m level i xs → length xs ≤ 2 ^ size (rules_into m i)
+few_questions m level i xs some = few_within (rules_into m i) xs some.apart (λ x among. let (order, ordered, question) = some.questions x among in question.of_rules)
 
 -- ---- over all contexts
-abbrev Listed : System → List ℕ → ℕ → ℕ → List (List ℕ) → Type 0
-Listed m order level k lists = (i : ℕ) (xs : List ℕ) → slice_get lists i ≡ Some xs → IsListing (IsQuestion m order level (k + i)) (λ a b. a < b) xs
-
-later_listed : (m : System) (order : List ℕ) (level k : ℕ) (xs : List ℕ) (lists : List (List ℕ)) → Listed m order level k (xs ∷ lists) → Listed m order level (k + 1) lists
-later_listed m order level k xs lists h i ys is = let e : k + suc i ≡ k + 1 + i = omega arith in subst (λ (n : ℕ). IsListing (IsQuestion m order level n) (λ (a b : ℕ). a < b) ys) e (h (suc i) ys is)
-
-first_listed : (m : System) (order : List ℕ) (level k : ℕ) (xs : List ℕ) (lists : List (List ℕ)) → Listed m order level k (xs ∷ lists) → IsListing (IsQuestion m order level k) (λ a b. a < b) xs
-first_listed m order level k xs lists h = let e : k + 0 ≡ k = omega arith in subst (λ (n : ℕ). IsListing (IsQuestion m order level n) (λ (a b : ℕ). a < b) xs) e (h 0 xs refl)
-
-sum_bounded : (m : System) (order : List ℕ) (level k : ℕ) (lists : List (List ℕ)) → Listed m order level k lists → sum_by (λ (xs : List ℕ). length xs) lists ≤ sum_by (λ i. 2 ^ size (rules_into m i)) (range_with_len k (length lists))
-sum_bounded m order level k [] h = omega arith
-sum_bounded m order level k (xs ∷ lists) h =
-    let first = few_questions m order level k xs (first_listed m order level k xs lists h) in
-    let rest = sum_bounded m order level (k + 1) lists (later_listed m order level k xs lists h) in
-    omega (arith, first, rest, sum_by-cons (λ (ys : List ℕ). length ys) xs lists, sum_by-cons (λ i. 2 ^ size (rules_into m i)) k (range_with_len (k + 1) (length lists)))
-
-from_start : (m : System) (order : List ℕ) (level : ℕ) (lists : List (List ℕ)) → AreQuestions m order level lists → Listed m order level 0 lists
-from_start m order level lists h i xs is = let e : i ≡ 0 + i = omega arith in subst (λ (n : ℕ). IsListing (IsQuestion m order level n) (λ (a b : ℕ). a < b) xs) e (h.listed i xs is)
-
 pub questions_bounded : QuestionsAreBounded
-questions_bounded m order level n (lists, questions, is) =
-    let bound = sum_bounded m order level 0 lists (from_start m order level lists questions) in
-    let all : sum_by (λ i. 2 ^ size (rules_into m i)) (range_with_len 0 (length lists)) ≡ rule_set_count m = ap (λ k. sum_by (λ i. 2 ^ size (rules_into m i)) (range_with_len 0 k)) questions.one_each in
-    omega (arith, bound, all, is)
+questions_bounded m level n h =
+    let bound = sum_by_bounded (λ (xs : List ℕ). length xs) (λ i. 2 ^ size (rules_into m i)) 0 h.lists (λ i xs is. let e : i ≡ 0 + i = omega arith in subst (λ (k : ℕ). length xs ≤ 2 ^ size (rules_into m k)) e (few_questions m level i xs (h.some i xs is))) in
+    let all : sum_by (λ i. 2 ^ size (rules_into m i)) (range_with_len 0 (length h.lists)) ≡ rule_set_count m = ap (λ k. sum_by (λ i. 2 ^ size (rules_into m i)) (range_with_len 0 k)) h.one_each in
+    omega (arith, bound, all, h.many)
 
-less_asymmetric : (x y : ℕ) → x < y → y < x → ⊥
-less_asymmetric x y a b = omega arith
+-- ---- a higher level has no fewer
+question_grows : (m : System) (level higher : ℕ) → level ≤ higher → (earlier : List ℕ) (poss more : ℕ → ℕ → Type 0) → ((j τ : ℕ) → poss j τ → more j τ) → (i x : ℕ) → IsQuestionAfter m level earlier poss i x → IsQuestionAfter m higher earlier more i x
+question_grows m level higher less earlier poss more grows i x h =
+    record { of_rules = h.of_rules; state = h.state; of_variables = h.of_variables; supplies = λ j among imported. grows j _ (h.supplies j among imported); allowed = h.allowed; near = omega (arith, less, h.near) }
 
-same_lists : (m : System) (order : List ℕ) (level k : ℕ) (xss yss : List (List ℕ)) → length xss ≡ length yss → Listed m order level k xss → Listed m order level k yss → xss ≡ yss
-same_lists m order level k [] [] long a b = refl
-same_lists m order level k [] (ys ∷ yss) long a b = absurd (omega arith)
-same_lists m order level k (xs ∷ xss) [] long a b = absurd (omega arith)
-same_lists m order level k (xs ∷ xss) (ys ∷ yss) long a b =
-    let first : xs ≡ ys = same_listing (λ (a b : ℕ). a < b) less_asymmetric (IsQuestion m order level k) xs ys (first_listed m order level k xs xss a) (first_listed m order level k ys yss b) in
-    let rest : xss ≡ yss = same_lists m order level (k + 1) xss yss (omega arith) (later_listed m order level k xs xss a) (later_listed m order level k ys yss b) in
-    ap (λ zs. zs ∷ xss) first ∙ ap (λ zss. ys ∷ zss) rest
+possible_grows : (m : System) (level higher : ℕ) → level ≤ higher → (earlier : List ℕ) (j τ : ℕ) → IsPossibleFrom m level earlier j τ → IsPossibleFrom m higher earlier j τ
+possible_grows m level higher less [] j τ none = absurd none
+possible_grows m level higher less (c ∷ cs) j τ (inl (e, (x, question, part))) = inl (e, (x, question_grows m level higher less cs (IsPossibleFrom m level cs) (IsPossibleFrom m higher cs) (possible_grows m level higher less cs) j x question, part))
+possible_grows m level higher less (c ∷ cs) j τ (inr (differ, possible)) = inr (differ, possible_grows m level higher less cs j τ possible)
 
-pub question_count_is_one : QuestionCountIsOne
-question_count_is_one m order level n k (xss, a, is) (yss, b, is') =
-    let same : xss ≡ yss = same_lists m order level 0 xss yss (a.one_each ∙ sym b.one_each) (from_start m order level xss a) (from_start m order level yss b) in
-    is ∙ ap (sum_by (λ (xs : List ℕ). length xs)) same ∙ sym is'
+asked_higher : (m : System) (level higher : ℕ) → level ≤ higher → (i x : ℕ) → IsQuestionAt m level i x → IsQuestionAt m higher i x
+asked_higher m level higher less i x (order, ordered, question) = (order, ordered, question_grows m level higher less _ _ _ (possible_grows m level higher less _) i x question)
+
+pub questions_grow : QuestionsGrow
+questions_grow m level higher n less h = record {
+  lists = h.lists;
+  one_each = h.one_each;
+  some = λ i xs is. record { questions = λ x among. asked_higher m level higher less i x ((h.some i xs is).questions x among); apart = (h.some i xs is).apart };
+  many = h.many;
+}
+
+-- ---- the count
+pub counts_agree : CountsAgree
+counts_agree m level n k (yss, listings, is) = (to, from)
+  where
+    to : HasQuestions m level k → k ≤ n
+    to h =
+        let few = sum_by_smaller (λ (xs : List ℕ). length xs) h.lists yss (h.one_each ∙ sym listings.one_each) (λ i xs ys at_i at_i'. distinct_fits xs ys (distinct_from_apart xs (h.some i xs at_i).apart) (λ x among. ((listings.listed i ys at_i').exactly x).1 ((h.some i xs at_i).questions x among))) in
+        omega (arith, few, h.many, is)
+
+    from : k ≤ n → HasQuestions m level k
+    from less = record {
+      lists = yss;
+      one_each = listings.one_each;
+      some = λ i ys at_i. record { questions = λ x among. ((listings.listed i ys at_i).exactly x).0 among; apart = apart_from_distinct ys (ascending_distinct ys (listings.listed i ys at_i).ascending) };
+      many = omega (arith, less, is);
+    }
+
+pub count_is_one : CountIsOne
+count_is_one m level n k a b =
+    let up : n ≤ k = (counts_agree m level k n b).0 ((counts_agree m level n n a).1 (omega arith)) in
+    let down : k ≤ n = (counts_agree m level n k a).0 ((counts_agree m level k k b).1 (omega arith)) in
+    omega (arith, up, down)
+
+pub counts_grow : CountsGrow
+counts_grow m level higher n k less a b = (counts_agree m higher k n b).0 (questions_grow m level higher n less ((counts_agree m level n n a).1 (omega arith)))
 
 pub need_is_one : NeedIsOne
-need_is_one m n k (order, ordered, h) (order', ordered', h') = at h (subst (λ (o : List ℕ). (IsConsistent m × QuestionCount m o 0 k) ⊎ ((¬ IsConsistent m) × QuestionCount m o (length m.bridges) k)) (import_order_is_one m order' order ordered' ordered) h')
-  where
-    at : (IsConsistent m × QuestionCount m order 0 n) ⊎ ((¬ IsConsistent m) × QuestionCount m order (length m.bridges) n) → (IsConsistent m × QuestionCount m order 0 k) ⊎ ((¬ IsConsistent m) × QuestionCount m order (length m.bridges) k) → n ≡ k
-    at (inl a) (inl b) = question_count_is_one m order 0 n k a.1 b.1
-    at (inl a) (inr b) = absurd (b.0 a.0)
-    at (inr a) (inl b) = absurd (a.0 b.0)
-    at (inr a) (inr b) = question_count_is_one m order (length m.bridges) n k a.1 b.1
+need_is_one m n k (inl a) (inl b) = count_is_one m 0 n k a.1 b.1
+need_is_one m n k (inl a) (inr b) = absurd (b.0 a.0)
+need_is_one m n k (inr a) (inl b) = absurd (a.0 b.0)
+need_is_one m n k (inr a) (inr b) = count_is_one m (length m.bridges) n k a.1 b.1

@@ -3,7 +3,7 @@ use Rattle.std.proofs.Common.{◌≡◌, ◌↔◌, ℕ, List, filter, leb, sym,
 use Rattle.std.proofs.lemmas.Bool.{leb-true, le-leb}
 use Rattle.mcs_sets.specs.Sets.{size, Within}
 use Rattle.mcs_base.specs.Listings.{IsAmong}
-use Rattle.mcs_system.proofs.Members.{any_get, among_any, among_get, filter_among, among_filter}
+use Rattle.mcs_base.proofs.Among.{any_get, among_any, among_get, filter_among, among_filter}
 use Rattle.mcs_import.specs.States.{IsNear, is_near}
 
 pub near_among : (rules : ℕ) (sets : List ℕ) (level : ℕ) (all near : List ℕ) → ((x : ℕ) → IsAmong x all ↔ Within x rules) → near ≡ filter (is_near sets level) all → (x : ℕ) → IsAmong x near ↔ IsNear rules sets level x

@@ -1,29 +1,32 @@
 -- The questions to a context, by what its supplies and its guesses make of its inputs.
-use Rattle.std.proofs.Common.{◌≡◌, ℕ, ◌+◌, ◌<◌, ◌≤◌, suc, Bool, true, false, not, ◌&&◌, ◌||◌, cond, eqb, ltb, List, [], ◌∷◌, ◌++◌, length, map, filter, reverse, Option, Some, None, slice_get, refl, sym, ap, ◌∙◌, subst, inl, inr, ◌⊎◌, ◌↔◌, arith, true≢false, bit_xor}
-use Rattle.std.proofs.lemmas.Bool.{and_parts, and_from, or_cases, not-true}
+use Rattle.std.proofs.Common.{◌≡◌, ℕ, ◌+◌, ◌<◌, ◌≤◌, Bool, true, false, not, ◌&&◌, ◌||◌, cond, eqb, ltb, List, [], ◌∷◌, ◌++◌, length, map, reverse, Some, slice_get, refl, sym, ap, ◌∙◌, subst, inl, inr, ◌⊎◌, ◌↔◌, arith, true≢false, bit_xor}
+use Rattle.std.proofs.lemmas.Bool.{and_parts, and_from, or_cases, or_left, or_right, false_from_ne_true, lt-ltb}
+use Rattle.std.proofs.lemmas.Option.{slice_get_within}
 use Rattle.std.proofs.lemmas.Bool.Decides.{nat_tests}
-use Rattle.std.proofs.lemmas.List.{reverse-append}
-use Rattle.std.specs.List.{list_any, list_all, enumerate_from}
-use mathlib.Core.List.{reverse_aux}
-use Rattle.mcs_sets.specs.Sets.{has, size, common, union, members, Within}
-use Rattle.mcs_sets.proofs.SetLemmas.{same_set, has-empty, has-union, has-common, has-minus, has-such_that, common_where_within}
-use Rattle.mcs_base.specs.Listings.{IsAmong, IsListing}
+use Rattle.std.proofs.Math.Bool.{and-false, and-true, or-false}
+use Rattle.mcs_sets.specs.Sets.{has, size, common, union, minus, members, Within}
+use Rattle.mcs_sets.proofs.SetLemmas.{same_set, sets, has-empty, has-union, has-common, has-minus, has-such_that, common_where_within}
+use Rattle.mcs_sets.proofs.Lattice.{union-minus_both, minus_within, in_minus, in_common, common-union, common-common, size-union_apart}
+use Rattle.mcs_base.specs.Listings.{IsAmong, AreApart, IsListing}
 use Rattle.mcs_base.proofs.ListingLemmas.{IsListing-same}
 use Rattle.mcs_system.specs.Plain.{Read, Bridge, System}
-use Rattle.mcs_system.specs.Systems.{same_read, is_of_context, variables, variables_of, all_variables, applicable, applies_among, believed_among, IsVariable, IsAcceptedPart}
+use Rattle.mcs_system.specs.Systems.{is_of_context, variables, variables_of, all_variables, all_rules, applicable, applies_among, believed_among, IsAcceptedPart}
 use Rattle.mcs_system.specs.Rows.{inputs_of, is_read_into}
-use Rattle.mcs_system.specs.Imports.{imports, before_in, supplied, rules_into, goes_into, FollowsOrder, IsImportOrder, IsQuestionAfter, IsPossibleFrom, IsQuestion, IsPossible}
-use Rattle.mcs_system.proofs.Members.{among_left, among_right, filter_among, among_filter, get_below}
-use Rattle.mcs_system.proofs.VariableLemmas.{has-applicable, has-rules_into, has-inputs_of, has-variables_of}
+use Rattle.mcs_system.specs.Imports.{imports, before_in, supplied, rules_into, marks_at, FollowsOrder, IsImportOrder, IsQuestionAfter, IsPossibleFrom, IsQuestion, IsPossible}
+use Rattle.mcs_system.specs.Levels.{IsQuestionAt, MaySupply}
+use Rattle.mcs_system.proofs.MarkLemmas.{size-marks_of, marks_known, has-all_rules}
+use Rattle.mcs_base.proofs.Among.{among_left, among_right, filter_among, among_filter, among_reverse, among_map, map_among, all_same}
+use Rattle.mcs_base.proofs.Lists.{reverse-append_middle}
+use Rattle.mcs_base.proofs.Distinct.{distinct_filter}
+use Rattle.mcs_base.proofs.Numbered.{distinct_from_apart, apart_from_distinct}
+use Rattle.mcs_system.proofs.ContextSets.{before_among, rule_there, variable_there, same_believed}
+use Rattle.mcs_system.proofs.VariableLemmas.{has-applicable, has-inputs_of, has-variables_of}
 use Rattle.mcs_import.specs.Plans.{variables_of_all, guessed, AreSupplies}
 use Rattle.mcs_import.specs.States.{Joins, SomeJoins, SomeGrows, IsNear, IsAsked}
-use Rattle.mcs_import.proofs.ReachLemmas.{or_first, or_second}
-use Rattle.mcs_import.proofs.StateLemmas.{among_map, grows_is}
+use Rattle.mcs_import.proofs.OrderLemmas.{import_order_is_one}
+use Rattle.mcs_import.proofs.StateLemmas.{grows_is}
 
 -- ---- the order has each context once
-abbrev pub AreApart : List ℕ → Type 0
-AreApart [] = Unit {0}
-AreApart (x ∷ xs) = (¬ IsAmong x xs) × AreApart xs
 
 follows_untaken : (m : System) (taken xs : List ℕ) → FollowsOrder m taken xs → (k : ℕ) → IsAmong k xs → ¬ IsAmong k taken
 follows_untaken m taken [] h k among t = among
@@ -34,15 +37,6 @@ follows_apart : (m : System) (taken xs : List ℕ) → FollowsOrder m taken xs �
 follows_apart m taken [] h = tt
 follows_apart m taken (x ∷ xs) h = (λ later. follows_untaken m (taken ++ x ∷ []) xs h.1 x later (among_right x taken (x ∷ []) (inl refl)), follows_apart m (taken ++ x ∷ []) xs h.1)
 
-before_among : (c i : ℕ) (xs : List ℕ) → IsAmong c (before_in xs i) → IsAmong c xs
-before_among c i [] h = absurd h
-before_among c i (x ∷ xs) h = at (eqb x i) h (before_among c i xs)
-  where
-    at : (v : Bool) → IsAmong c (cond v [] (x ∷ before_in xs i)) → (IsAmong c (before_in xs i) → IsAmong c xs) → (c ≡ x) ⊎ IsAmong c xs
-    at true h rest = absurd h
-    at false (inl e) rest = inl e
-    at false (inr h) rest = inr (rest h)
-
 before_apart : (xs : List ℕ) (i : ℕ) → AreApart xs → AreApart (before_in xs i)
 before_apart [] i h = tt
 before_apart (x ∷ xs) i h = at (eqb x i) (before_apart xs i h.1)
@@ -51,16 +45,8 @@ before_apart (x ∷ xs) i h = at (eqb x i) (before_apart xs i h.1)
     at true rest = tt
     at false rest = (λ among. h.0 (before_among x i xs among), rest)
 
-filter_apart : (p : ℕ → Bool) (xs : List ℕ) → AreApart xs → AreApart (filter p xs)
-filter_apart p [] h = tt
-filter_apart p (x ∷ xs) h = at (p x) (filter_apart p xs h.1)
-  where
-    at : (v : Bool) → AreApart (filter p xs) → AreApart (cond v (x ∷ filter p xs) (filter p xs))
-    at true rest = (λ among. h.0 (filter_among p x xs among).0, rest)
-    at false rest = rest
-
 supplied_apart : (m : System) (order : List ℕ) (i : ℕ) → IsImportOrder m order → AreApart (supplied m order i)
-supplied_apart m order i h = filter_apart (imports m i) (before_in order i) (before_apart order i (follows_apart m [] order h))
+supplied_apart m order i h = apart_from_distinct _ (distinct_filter (imports m i) (before_in order i) (distinct_from_apart _ (before_apart order i (follows_apart m [] order h))))
 
 split_before : (xs : List ℕ) (i j : ℕ) → IsAmong j (before_in xs i) → (later : List ℕ) × (before_in xs i ≡ before_in xs j ++ j ∷ later)
 split_before [] i j among = absurd among
@@ -77,19 +63,6 @@ middle_apart : (front : List ℕ) (j : ℕ) (back : List ℕ) → AreApart (fron
 middle_apart [] j back h = h.0
 middle_apart (a ∷ front) j back h = middle_apart front j back h.1
 
-reverse_split : (front : List ℕ) (j : ℕ) (back : List ℕ) → reverse (front ++ j ∷ back) ≡ (reverse back ++ j ∷ []) ++ reverse front
-reverse_split front j back = reverse-append front (j ∷ back) ∙ ap (λ xs. xs ++ reverse front) (reverse-append (j ∷ []) back)
-
-among_aux : (k : ℕ) (xs ys : List ℕ) → IsAmong k (reverse_aux xs ys) ↔ (IsAmong k xs ⊎ IsAmong k ys)
-among_aux k [] ys = (λ h. inr h, λ h. elim h [ inl none ↦ absurd none | inr there ↦ there ])
-among_aux k (x ∷ xs) ys = let rest = among_aux k xs (x ∷ ys) in (
-  λ h. elim (rest.0 h) [ inl later ↦ inl (inr later) | inr there ↦ elim there [ inl e ↦ inl (inl e) | inr there' ↦ inr there' ] ],
-  λ h. rest.1 (elim h [ inl here ↦ elim here [ inl e ↦ inr (inl e) | inr later ↦ inl later ] | inr there ↦ inr (inr there) ]),
-)
-
-among_reverse : (k : ℕ) (xs : List ℕ) → IsAmong k (reverse xs) ↔ IsAmong k xs
-among_reverse k xs = let all = among_aux k xs [] in (λ h. elim (all.0 h) [ inl here ↦ here | inr none ↦ absurd none ], λ h. all.1 (inl h))
-
 -- ---- what a context may supply does not depend on who asks
 possible_at : (m : System) (level : ℕ) (front : List ℕ) (j : ℕ) (back : List ℕ) (τ : ℕ) → ¬ IsAmong j front → IsPossibleFrom m level ((front ++ j ∷ []) ++ back) j τ ↔ ((x : ℕ) × IsQuestionAfter m level back (IsPossibleFrom m level back) j x × IsAcceptedPart m j x τ)
 possible_at m level [] j back τ none = (λ h. elim h [ inl p ↦ p.1 | inr p ↦ absurd (p.0 refl) ], λ h. inl (refl, h))
@@ -102,8 +75,28 @@ possible_is : (m : System) (order : List ℕ) → IsImportOrder m order → (lev
 possible_is m order ordered level i j τ among =
     let (later, is) = split_before order i j among in
     let apart : ¬ IsAmong j later = middle_apart (before_in order j) j later (subst AreApart is (before_apart order i (follows_apart m [] order ordered))) in
-    let e : reverse (before_in order i) ≡ (reverse later ++ j ∷ []) ++ reverse (before_in order j) = ap (λ (xs : List ℕ). reverse xs) is ∙ reverse_split (before_in order j) j later in
+    let e : reverse (before_in order i) ≡ (reverse later ++ j ∷ []) ++ reverse (before_in order j) = ap (λ (xs : List ℕ). reverse xs) is ∙ reverse-append_middle (before_in order j) j later in
     subst (λ (cs : List ℕ). IsPossibleFrom m level cs j τ ↔ IsPossible m order level j τ) (sym e) (possible_at m level (reverse later) j (reverse (before_in order j)) τ (λ h. apart ((among_reverse j later).0 h)))
+
+-- ---- the marks of a set of rules into i are as many as the rules in which it differs from those that apply
+pub size-marks_at : (m : System) (i σ x : ℕ) → Within x (rules_into m i) → size (marks_at m i σ x) ≡ size (bit_xor (common (applicable m σ) (rules_into m i)) x)
+size-marks_at m i σ x of_rules =
+    size-marks_of m (minus a x) (minus x a) left right
+    ∙ sym (size-union_apart (minus a x) (minus x a) (λ meets. grind (arith, has-minus a x meets.member, has-minus x a meets.member, meets.in_first, meets.in_second)))
+    ∙ ap (λ (s : ℕ). size s) (union-minus_both a x)
+  where
+    a : ℕ
+    a = common (applicable m σ) (rules_into m i)
+
+    -- what is of the rules into i is of the rules
+    known : (s : ℕ) → Within s (rules_into m i) → Within s (all_rules m)
+    known s within k e = let (b, is, target) = rule_there m i k (within k e) in has-all_rules m k ∙ lt-ltb k (length m.bridges) (slice_get_within m.bridges k b is)
+
+    left : Within (minus (common (applicable m σ) (rules_into m i)) x) (all_rules m)
+    left = known _ (λ k e. (in_common (applicable m σ) (rules_into m i) k (minus_within _ x k e)).1)
+
+    right : Within (minus x (common (applicable m σ) (rules_into m i))) (all_rules m)
+    right = known _ (λ k e. of_rules k (minus_within x _ k e))
 
 -- a whole state that the supplies of i allow
 pub record IsAllowed (m : System) (order : List ℕ) (level i σ : ℕ) : Type 0 where
@@ -122,41 +115,25 @@ question_by_state m order ordered level i x = (
         supplies = λ j among. (let (before, imported) = filter_among (imports m i) j (before_in order i) among in
             (possible_is m order ordered level i j _ before).0 (h.supplies j ((among_reverse j (before_in order i)).1 before) imported));
       },
-      h.near,
+      subst (λ n. n ≤ level) (size-marks_at m i h.state x h.of_rules) h.near,
     ),
   ),
   λ (of_rules, (σ, allowed, near)). record {
     of_rules = of_rules;
     state = σ;
     of_variables = allowed.of_variables;
+    allowed = marks_known m _ _;
     supplies = λ j among imported. (let before = (among_reverse j (before_in order i)).0 among in (possible_is m order ordered level i j _ before).1 (allowed.supplies j (among_filter (imports m i) j (before_in order i) before imported)));
-    near = near;
+    near = subst (λ n. n ≤ level) (sym (size-marks_at m i σ x of_rules)) near;
   },
 )
 
 -- ---- which rules into i apply is seen at its inputs
-same_all : {A : Type 0} (p q : A → Bool) (xs : List A) → ((x : A) → IsAmong x xs → p x ≡ q x) → list_all p xs ≡ list_all q xs
-same_all p q [] same = refl
-same_all p q (x ∷ xs) same = rw (same x (inl refl), same_all p q xs (λ y h. same y (inr h))) refl
-
-and-false : (u : Bool) → (u && false) ≡ false
-and-false true = refl
-and-false false = refl
-
-same_believed : (σ τ : ℕ) (r : Read) (xs : List Read) (k : ℕ) → ((v : ℕ) (q : Read) → slice_get xs v ≡ Some q → same_read q r ≡ true → has σ (k + v) ≡ has τ (k + v)) → list_any (λ v. has σ v.0 && same_read v.1 r) (enumerate_from k xs) ≡ list_any (λ v. has τ v.0 && same_read v.1 r) (enumerate_from k xs)
-same_believed σ τ r [] k same = refl
-same_believed σ τ r (x ∷ xs) k same = at (same_read x r) refl (same_believed σ τ r xs (k + 1) (λ v q is alike. let e : k + 1 + v ≡ k + suc v = omega arith in ap (has σ) e ∙ same (suc v) q is alike ∙ ap (has τ) (sym e)))
-  where
-    at : (v : Bool) → same_read x r ≡ v → list_any (λ v. has σ v.0 && same_read v.1 r) (enumerate_from (k + 1) xs) ≡ list_any (λ v. has τ v.0 && same_read v.1 r) (enumerate_from (k + 1) xs)
-        → ((has σ k && v) || list_any (λ v. has σ v.0 && same_read v.1 r) (enumerate_from (k + 1) xs)) ≡ ((has τ k && v) || list_any (λ v. has τ v.0 && same_read v.1 r) (enumerate_from (k + 1) xs))
-    at true is rest = let e : k ≡ k + 0 = omega arith in let here : has σ k ≡ has τ k = ap (has σ) e ∙ same 0 x refl is ∙ ap (has τ) (sym e) in rw (here, rest) refl
-    at false is rest = rw (and-false (has σ k), and-false (has τ k)) rest
-
 same_applies : (m : System) (i k σ τ : ℕ) (b : Bridge) → slice_get m.bridges k ≡ Some b → b.target ≡ i → common σ (inputs_of m i) ≡ common τ (inputs_of m i) → applies_among (variables m) σ b ≡ applies_among (variables m) τ b
 same_applies m i k σ τ b is target same =
     rw (
-      same_all (believed_among (variables m) σ) (believed_among (variables m) τ) b.pos (λ r here. one r (among_left r b.pos b.neg here)),
-      same_all (λ r. not (believed_among (variables m) σ r)) (λ r. not (believed_among (variables m) τ r)) b.neg (λ r here. ap not (one r (among_right r b.pos b.neg here))),
+      all_same (believed_among (variables m) σ) (believed_among (variables m) τ) b.pos (λ r here. one r (among_left r b.pos b.neg here)),
+      all_same (λ r. not (believed_among (variables m) σ r)) (λ r. not (believed_among (variables m) τ r)) b.neg (λ r here. ap not (one r (among_right r b.pos b.neg here))),
     ) refl
   where
     seen : (v : ℕ) → has (inputs_of m i) v ≡ true → has σ v ≡ has τ v
@@ -166,14 +143,6 @@ same_applies m i k σ τ b is target same =
     one : (r : Read) → IsAmong r (b.pos ++ b.neg) → believed_among (variables m) σ r ≡ believed_among (variables m) τ r
     one r here = same_believed σ τ r (variables m) 0 (λ v q var alike. let e : 0 + v ≡ v = omega arith in ap (has σ) e ∙ seen v (has-inputs_of m i k v b r q is target here var alike) ∙ ap (has τ) (sym e))
 
-rule_there : (m : System) (i k : ℕ) → has (rules_into m i) k ≡ true → (b : Bridge) × (slice_get m.bridges k ≡ Some b) × (b.target ≡ i)
-unfolding rules_into
-rule_there m i k inside =
-    let known = (and_parts (ltb k (length m.bridges)) (goes_into i (slice_get m.bridges k)) (sym (has-such_that (length m.bridges) (λ j. goes_into i (slice_get m.bridges j)) k) ∙ inside)).0 in
-    let (b, is) = get_below m.bridges k (grind (arith, nat_tests)) in
-    let own : eqb b.target i ≡ true = sym (has-rules_into m i k b is) ∙ inside in
-    (b, is, grind (arith, nat_tests))
-
 pub same_applicable : (m : System) (i σ τ : ℕ) → common σ (inputs_of m i) ≡ common τ (inputs_of m i) → common (applicable m σ) (rules_into m i) ≡ common (applicable m τ) (rules_into m i)
 same_applicable m i σ τ same = same_set _ _ (λ k. has-common (applicable m σ) (rules_into m i) k ∙ at k (has (rules_into m i) k) refl ∙ sym (has-common (applicable m τ) (rules_into m i) k))
   where
@@ -182,14 +151,6 @@ same_applicable m i σ τ same = same_set _ _ (λ k. has-common (applicable m σ
     at k false e = rw (e, and-false (has (applicable m σ) k), and-false (has (applicable m τ) k)) refl
 
 -- ---- the variables of contexts
-variable_there : (m : System) (j v : ℕ) → has (variables_of m j) v ≡ true → (r : Read) × IsVariable m v r × (r.context ≡ j)
-unfolding variables_of
-variable_there m j v e = at (slice_get (variables m) v) refl (and_parts (ltb v (length (variables m))) (is_of_context j (slice_get (variables m) v)) (sym (has-such_that (length (variables m)) (λ w. is_of_context j (slice_get (variables m) w)) v) ∙ e)).1
-  where
-    at : (o : Option Read) → slice_get (variables m) v ≡ o → is_of_context j o ≡ true → (r : Read) × IsVariable m v r × (r.context ≡ j)
-    at None is h = absurd (true≢false (sym h))
-    at (Some r) is h = (r, is, grind (arith, nat_tests))
-
 one_context : (m : System) (j k v : ℕ) → has (variables_of m j) v ≡ true → has (variables_of m k) v ≡ true → j ≡ k
 one_context m j k v a b = let (r, is, e) = variable_there m j v a in let (q, is', e') = variable_there m k v b in let same : r ≡ q = cc in sym e ∙ ap (λ (p : Read). p.context) same ∙ e'
 
@@ -206,12 +167,15 @@ possible_within m order level j τ (x, question, part) v member = let (r, is, of
 
 in_all : (m : System) (j v : ℕ) (js : List ℕ) → IsAmong j js → has (variables_of m j) v ≡ true → has (variables_of_all m js) v ≡ true
 in_all m j v [] among e = absurd among
-in_all m j v (k ∷ js) (inl same) e = has-union (variables_of m k) (variables_of_all m js) v ∙ or_first (has (variables_of m k) v) (has (variables_of_all m js) v) (ap (λ n. has (variables_of m n) v) (sym same) ∙ e)
-in_all m j v (k ∷ js) (inr among) e = has-union (variables_of m k) (variables_of_all m js) v ∙ or_second (has (variables_of m k) v) (has (variables_of_all m js) v) (in_all m j v js among e)
+in_all m j v (k ∷ js) (inl same) e = has-union (variables_of m k) (variables_of_all m js) v ∙ or_left (has (variables_of m k) v) (has (variables_of_all m js) v) (ap (λ n. has (variables_of m n) v) (sym same) ∙ e)
+in_all m j v (k ∷ js) (inr among) e = has-union (variables_of m k) (variables_of_all m js) v ∙ or_right (has (variables_of m k) v) (has (variables_of_all m js) v) (in_all m j v js among e)
 
-false_where_not : (u : Bool) → ¬ (u ≡ true) → u ≡ false
-false_where_not true never = absurd (never refl)
-false_where_not false never = refl
+-- ---- by the one import order
+possible_in : (m : System) (order : List ℕ) → IsImportOrder m order → (level j τ : ℕ) → MaySupply m level j τ → IsPossible m order level j τ
+possible_in m order ordered level j τ (other, ordered', possible) = subst (λ (o : List ℕ). IsPossible m o level j τ) (import_order_is_one m other order ordered' ordered) possible
+
+pub question_in : (m : System) (order : List ℕ) → IsImportOrder m order → (level i x : ℕ) → IsQuestion m order level i x ↔ IsQuestionAt m level i x
+question_in m order ordered level i x = (λ q. (order, ordered, q), λ (other, ordered', q). subst (λ (o : List ℕ). IsQuestion m o level i x) (import_order_is_one m other order ordered' ordered) q)
 
 -- ---- a state for what is joined
 record IsGlued (m : System) (order : List ℕ) (level mask : ℕ) (js : List ℕ) (from p σ : ℕ) : Type 0 where
@@ -220,62 +184,41 @@ record IsGlued (m : System) (order : List ℕ) (level mask : ℕ) (js : List ℕ
   part : common σ mask ≡ p
   keeps : (v : ℕ) → ((j : ℕ) → IsAmong j js → has (variables_of m j) v ≡ false) → has σ v ≡ has from v
 
-common-union : (a b c : ℕ) → common (union a b) c ≡ union (common a c) (common b c)
-common-union a b c = same_set _ _ (λ k. rw (has-common (union a b) c k, has-union a b k, has-union (common a c) (common b c) k, has-common a c k, has-common b c k) (at (has a k) (has b k) (has c k)))
-  where
-    at : (u v w : Bool) → ((u || v) && w) ≡ ((u && w) || (v && w))
-    at true true true = refl
-    at true true false = refl
-    at true false true = refl
-    at true false false = refl
-    at false true true = refl
-    at false true false = refl
-    at false false true = refl
-    at false false false = refl
-
-glue : (m : System) (order : List ℕ) (level mask : ℕ) (js : List ℕ) (xss : List (List ℕ)) → AreSupplies m order level js xss → AreApart js → (from : ℕ) → Within from (all_variables m)
+glue : (m : System) (order : List ℕ) → IsImportOrder m order → (level mask : ℕ) (js : List ℕ) (xss : List (List ℕ)) → AreSupplies m level js xss → AreApart js → (from : ℕ) → Within from (all_variables m)
     → ((j : ℕ) → IsAmong j js → (v : ℕ) → has (variables_of m j) v ≡ true → has from v ≡ false) → (a p : ℕ) → a ≡ common from mask → Joins mask xss a p → (σ : ℕ) × IsGlued m order level mask js from p σ
-glue m order level mask [] [] supplies apart from known clear a p is joins = (from, record { of_variables = known; supplies = λ j none. absurd none; part = sym is ∙ joins; keeps = λ v none. refl })
-glue m order level mask [] (xs ∷ xss) supplies apart from known clear a p is joins = absurd supplies
-glue m order level mask (j ∷ js) [] supplies apart from known clear a p is joins = absurd supplies
-glue m order level mask (j ∷ js) (xs ∷ xss) (listing, rest) (fresh, apart) from known clear a p is (τ, among, joins) =
-    let possible : IsPossible m order level j τ = (listing.exactly τ).0 among in
+glue m order ordered level mask [] [] supplies apart from known clear a p is joins = (from, record { of_variables = known; supplies = λ j none. absurd none; part = sym is ∙ joins; keeps = λ v none. refl })
+glue m order ordered level mask [] (xs ∷ xss) supplies apart from known clear a p is joins = absurd supplies
+glue m order ordered level mask (j ∷ js) [] supplies apart from known clear a p is joins = absurd supplies
+glue m order ordered level mask (j ∷ js) (xs ∷ xss) (listing, rest) (fresh, apart) from known clear a p is (τ, among, joins) =
+    let possible : IsPossible m order level j τ = possible_in m order ordered level j τ ((listing.exactly τ).0 among) in
     let inside : Within τ (variables_of m j) = possible_within m order level j τ possible in
-    let (σ, glued) = glue m order level mask js xss rest apart (union from τ) (λ v e. joined_known τ inside v (or_cases (has from v) (has τ v) (sym (has-union from τ v) ∙ e))) (λ k here v e. still_clear τ inside k here v e)
+    let (σ, glued) = glue m order ordered level mask js xss rest apart (union from τ) (λ v e. joined_known τ inside v (or_cases (has from v) (has τ v) (sym (has-union from τ v) ∙ e))) (λ k here v e. still_clear τ inside k here v e)
     (union a (common τ mask)) p (ap (λ s. union s (common τ mask)) is ∙ sym (common-union from τ mask)) joins in (
       σ,
       record {
         of_variables = glued.of_variables;
         supplies = λ k here. at_each τ possible inside σ glued.keeps glued.supplies k here;
         part = glued.part;
-        keeps = λ v none. glued.keeps v (λ k here. none k (inr here)) ∙ has-union from τ v ∙ ap (λ u. has from v || u) (false_where_not (has τ v) (λ e. true≢false (sym (inside v e) ∙ none j (inl refl)))) ∙ or-false (has from v);
+        keeps = λ v none. glued.keeps v (λ k here. none k (inr here)) ∙ has-union from τ v ∙ ap (λ u. has from v || u) (false_from_ne_true (has τ v) (λ e. true≢false (sym (inside v e) ∙ none j (inl refl)))) ∙ or-false (has from v);
       },
     )
   where
-    or-false : (u : Bool) → (u || false) ≡ u
-    or-false true = refl
-    or-false false = refl
-
     joined_known : (τ : ℕ) → Within τ (variables_of m j) → (v : ℕ) → (has from v ≡ true) ⊎ (has τ v ≡ true) → has (all_variables m) v ≡ true
     joined_known τ inside v (inl e) = known v e
     joined_known τ inside v (inr e) = context_known m j v (inside v e)
 
     elsewhere : (k : ℕ) → IsAmong k js → (v : ℕ) → has (variables_of m j) v ≡ true → has (variables_of m k) v ≡ false
-    elsewhere k here v e = false_where_not (has (variables_of m k) v) (λ e'. fresh (subst (λ (n : ℕ). IsAmong n js) (sym (one_context m j k v e e')) here))
+    elsewhere k here v e = false_from_ne_true (has (variables_of m k) v) (λ e'. fresh (subst (λ (n : ℕ). IsAmong n js) (sym (one_context m j k v e e')) here))
 
     still_clear : (τ : ℕ) → Within τ (variables_of m j) → (k : ℕ) → IsAmong k js → (v : ℕ) → has (variables_of m k) v ≡ true → has (union from τ) v ≡ false
-    still_clear τ inside k here v e = has-union from τ v ∙ rw (clear k (inr here) v e) (false_where_not (has τ v) (λ e'. true≢false (sym e ∙ elsewhere k here v (inside v e'))))
+    still_clear τ inside k here v e = has-union from τ v ∙ rw (clear k (inr here) v e) (false_from_ne_true (has τ v) (λ e'. true≢false (sym e ∙ elsewhere k here v (inside v e'))))
 
     own : (τ : ℕ) → Within τ (variables_of m j) → (σ : ℕ) → ((v : ℕ) → ((k : ℕ) → IsAmong k js → has (variables_of m k) v ≡ false) → has σ v ≡ has (union from τ) v) → common σ (variables_of m j) ≡ τ
     own τ inside σ keeps = same_set _ _ (λ v. has-common σ (variables_of m j) v ∙ here v (has (variables_of m j) v) refl)
       where
         here : (v : ℕ) (u : Bool) → has (variables_of m j) v ≡ u → (has σ v && has (variables_of m j) v) ≡ has τ v
         here v true e = rw (e, keeps v (λ k among. elsewhere k among v e), has-union from τ v, clear j (inl refl) v e) (and-true (has τ v))
-          where
-            and-true : (u : Bool) → (u && true) ≡ u
-            and-true true = refl
-            and-true false = refl
-        here v false e = rw e (and-false (has σ v) ∙ sym (false_where_not (has τ v) (λ e'. true≢false (sym (inside v e') ∙ e))))
+        here v false e = rw e (and-false (has σ v) ∙ sym (false_from_ne_true (has τ v) (λ e'. true≢false (sym (inside v e') ∙ e))))
 
     at_each : (τ : ℕ) → IsPossible m order level j τ → Within τ (variables_of m j) → (σ : ℕ) → ((v : ℕ) → ((k : ℕ) → IsAmong k js → has (variables_of m k) v ≡ false) → has σ v ≡ has (union from τ) v)
         → ((k : ℕ) → IsAmong k js → IsPossible m order level k (common σ (variables_of m k))) → (k : ℕ) → (k ≡ j) ⊎ IsAmong k js → IsPossible m order level k (common σ (variables_of m k))
@@ -283,46 +226,22 @@ glue m order level mask (j ∷ js) (xs ∷ xss) (listing, rest) (fresh, apart) f
     at_each τ possible inside σ keeps others k (inr here) = others k here
 
 -- and what is joined for a state
-unglue : (m : System) (order : List ℕ) (level mask σ : ℕ) (js : List ℕ) (xss : List (List ℕ)) → AreSupplies m order level js xss → ((j : ℕ) → IsAmong j js → IsPossible m order level j (common σ (variables_of m j)))
+unglue : (m : System) (order : List ℕ) → IsImportOrder m order → (level mask σ : ℕ) (js : List ℕ) (xss : List (List ℕ)) → AreSupplies m level js xss → ((j : ℕ) → IsAmong j js → IsPossible m order level j (common σ (variables_of m j)))
     → (a : ℕ) → Joins mask xss a (union a (common (common σ (variables_of_all m js)) mask))
-unglue m order level mask σ [] [] supplies possible a = same_set _ _ (λ v. sym (rw (has-union a (common (common σ 0) mask) v, has-common (common σ 0) mask v, has-common σ 0 v, has-empty v) (at (has a v) (has σ v) (has mask v))))
-  where
-    at : (u v w : Bool) → (u || ((v && false) && w)) ≡ u
-    at true v w = refl
-    at false true w = refl
-    at false false w = refl
-unglue m order level mask σ [] (xs ∷ xss) supplies possible a = absurd supplies
-unglue m order level mask σ (j ∷ js) [] supplies possible a = absurd supplies
-unglue m order level mask σ (j ∷ js) (xs ∷ xss) (listing, rest) possible a = (
+unglue m order ordered level mask σ [] [] supplies possible a = same_set _ _ (λ v. grind (arith, sets))
+unglue m order ordered level mask σ [] (xs ∷ xss) supplies possible a = absurd supplies
+unglue m order ordered level mask σ (j ∷ js) [] supplies possible a = absurd supplies
+unglue m order ordered level mask σ (j ∷ js) (xs ∷ xss) (listing, rest) possible a = (
   common σ (variables_of m j),
-  (listing.exactly (common σ (variables_of m j))).1 (possible j (inl refl)),
-  subst (λ (s : ℕ). Joins mask xss (union a (common (common σ (variables_of m j)) mask)) s) (same_set _ _ whole) (unglue m order level mask σ js xss rest (λ k here. possible k (inr here)) (union a (common (common σ (variables_of m j)) mask))),
+  (listing.exactly (common σ (variables_of m j))).1 (order, ordered, possible j (inl refl)),
+  subst (λ (s : ℕ). Joins mask xss (union a (common (common σ (variables_of m j)) mask)) s) (same_set _ _ whole) (unglue m order ordered level mask σ js xss rest (λ k here. possible k (inr here)) (union a (common (common σ (variables_of m j)) mask))),
 )
   where
     whole : (v : ℕ) → has (union (union a (common (common σ (variables_of m j)) mask)) (common (common σ (variables_of_all m js)) mask)) v ≡ has (union a (common (common σ (union (variables_of m j) (variables_of_all m js))) mask)) v
-    whole v = rw (
-      has-union (union a (common (common σ (variables_of m j)) mask)) (common (common σ (variables_of_all m js)) mask) v,
-      has-union a (common (common σ (variables_of m j)) mask) v,
-      has-common (common σ (variables_of m j)) mask v,
-      has-common σ (variables_of m j) v,
-      has-common (common σ (variables_of_all m js)) mask v,
-      has-common σ (variables_of_all m js) v,
-      has-union a (common (common σ (union (variables_of m j) (variables_of_all m js))) mask) v,
-      has-common (common σ (union (variables_of m j) (variables_of_all m js))) mask v,
-      has-common σ (union (variables_of m j) (variables_of_all m js)) v,
-      has-union (variables_of m j) (variables_of_all m js) v,
-    ) (at (has a v) (has σ v) (has (variables_of m j) v) (has (variables_of_all m js) v) (has mask v))
-      where
-        at : (a s j w k : Bool) → ((a || ((s && j) && k)) || ((s && w) && k)) ≡ (a || ((s && (j || w)) && k))
-        at true s j w k = refl
-        at false false j w k = refl
-        at false true false w k = refl
-        at false true true w true = refl
-        at false true true true false = refl
-        at false true true false false = refl
+    whole v = grind (arith, sets)
 
 -- ---- the states at the inputs of i
-module _ (m : System) (order : List ℕ) (ordered : IsImportOrder m order) (level i : ℕ) (xss : List (List ℕ)) (supplies : AreSupplies m order level (supplied m order i) xss) where
+module _ (m : System) (order : List ℕ) (ordered : IsImportOrder m order) (level i : ℕ) (xss : List (List ℕ)) (supplies : AreSupplies m level (supplied m order i) xss) where
   abbrev I : ℕ
   I = inputs_of m i
 
@@ -332,28 +251,25 @@ module _ (m : System) (order : List ℕ) (ordered : IsImportOrder m order) (leve
   abbrev S : ℕ
   S = variables_of_all m (supplied m order i)
 
-  guess_parts : (v : ℕ) → has G v ≡ true → (has I v ≡ true) × (has S v ≡ false)
-  guess_parts v e = let parts = and_parts (has I v) (not (has S v)) (sym (has-minus I S v) ∙ e) in (parts.0, not-true (has S v) parts.1)
-
   -- what is joined and guessed is seen of a state that is allowed
   state_for : (p g : ℕ) → Joins I xss 0 p → Within g G → (σ : ℕ) × IsAllowed m order level i σ × (common σ I ≡ union p g)
   state_for p g joins within =
-      let (σ, glued) = glue m order level I (supplied m order i) xss supplies (supplied_apart m order i ordered) 0 (λ v e. absurd (true≢false (sym e ∙ has-empty v))) (λ j among v e. has-empty v) 0 p
+      let (σ, glued) = glue m order ordered level I (supplied m order i) xss supplies (supplied_apart m order i ordered) 0 (λ v e. absurd (true≢false (sym e ∙ has-empty v))) (λ j among v e. has-empty v) 0 p
       (same_set _ _ (λ v. has-empty v ∙ sym (has-common 0 I v ∙ ap (λ u. u && has I v) (has-empty v)))) joins in (
         union σ g,
         record {
           of_variables = λ v e. either σ glued.of_variables v (or_cases (has σ v) (has g v) (sym (has-union σ g v) ∙ e));
           supplies = λ j among. subst (IsPossible m order level j) (same_set _ _ (λ v. sym (has-common (union σ g) (variables_of m j) v ∙ rw (has-union σ g v) (apart j among v (has σ v) (has (variables_of m j) v) refl) ∙ sym (has-common σ (variables_of m j) v)))) (glued.supplies j among);
         },
-        common-union σ g I ∙ ap (λ s. union s (common g I)) glued.part ∙ ap (union p) (common_where_within g I (λ v e. (guess_parts v (within v e)).0)),
+        common-union σ g I ∙ ap (λ s. union s (common g I)) glued.part ∙ ap (union p) (common_where_within g I (λ v e. (in_minus I S v (within v e)).0)),
       )
     where
       either : (σ : ℕ) → Within σ (all_variables m) → (v : ℕ) → (has σ v ≡ true) ⊎ (has g v ≡ true) → has (all_variables m) v ≡ true
       either σ known v (inl e) = known v e
-      either σ known v (inr e) = inputs_known m i v (guess_parts v (within v e)).0
+      either σ known v (inr e) = inputs_known m i v (in_minus I S v (within v e)).0
 
       apart : (j : ℕ) → IsAmong j (supplied m order i) → (v : ℕ) (s u : Bool) → has (variables_of m j) v ≡ u → ((s || has g v) && u) ≡ (s && u)
-      apart j among v s true e = let none : has g v ≡ false = false_where_not (has g v) (λ e'. true≢false (sym (in_all m j v (supplied m order i) among e) ∙ (guess_parts v (within v e')).1)) in rw none (drop_false s)
+      apart j among v s true e = let none : has g v ≡ false = false_from_ne_true (has g v) (λ e'. true≢false (sym (in_all m j v (supplied m order i) among e) ∙ (in_minus I S v (within v e')).1)) in rw none (drop_false s)
         where
           drop_false : (u : Bool) → ((u || false) && true) ≡ (u && true)
           drop_false true = refl
@@ -365,29 +281,19 @@ module _ (m : System) (order : List ℕ) (ordered : IsImportOrder m order) (leve
   parts_of σ allowed = (
     union 0 (common (common σ S) I),
     common σ G,
-    unglue m order level I σ (supplied m order i) xss supplies allowed.supplies 0,
+    unglue m order ordered level I σ (supplied m order i) xss supplies allowed.supplies 0,
     (λ v e. (and_parts (has σ v) (has G v) (sym (has-common σ G v) ∙ e)).1),
     same_set _ _ whole,
   )
     where
       whole : (v : ℕ) → has (common σ I) v ≡ has (union (union 0 (common (common σ S) I)) (common σ G)) v
-      whole v = rw (has-common σ I v, has-union (union 0 (common (common σ S) I)) (common σ G) v, has-union 0 (common (common σ S) I) v, has-empty v, has-common (common σ S) I v, has-common σ S v, has-common σ G v, has-minus I S v) (at (has σ v) (has I v) (has S v))
-        where
-          at : (s i w : Bool) → (s && i) ≡ (((s && w) && i) || (s && (i && not w)))
-          at true true true = refl
-          at true true false = refl
-          at true false true = refl
-          at true false false = refl
-          at false i w = refl
-
-  seen : (σ : ℕ) → common σ I ≡ common (common σ I) I
-  seen σ = sym (common_where_within (common σ I) I (λ v e. (and_parts (has σ v) (has I v) (sym (has-common σ I v) ∙ e)).1))
+      whole v = grind (arith, sets)
 
   pub asked_is_question : (x : ℕ) → IsAsked m i xss G level x ↔ IsQuestion m order level i x
   asked_is_question x = (
     λ h. (question_by_state m order ordered level i x).1 (
         let (σ, allowed, e) = state_for h.joined h.guess h.is_joined h.of_guesses in
-        let same : common (applicable m (union h.joined h.guess)) (rules_into m i) ≡ common (applicable m σ) (rules_into m i) = same_applicable m i (union h.joined h.guess) σ (ap (λ s. common s I) (sym e) ∙ sym (seen σ)) in
+        let same : common (applicable m (union h.joined h.guess)) (rules_into m i) ≡ common (applicable m σ) (rules_into m i) = same_applicable m i (union h.joined h.guess) σ (ap (λ s. common s I) (sym e) ∙ common-common σ I) in
         (h.of_rules, (σ, allowed, subst (λ (s : ℕ). size (bit_xor s x) ≤ level) same h.near))),
     λ q. from ((question_by_state m order ordered level i x).0 q),
   )
@@ -401,7 +307,7 @@ module _ (m : System) (order : List ℕ) (ordered : IsImportOrder m order) (leve
             is_joined = joins;
             guess = g;
             of_guesses = within;
-            near = subst (λ (s : ℕ). size (bit_xor s x) ≤ level) (same_applicable m i σ (union p g) (seen σ ∙ ap (λ s. common s I) e)) near;
+            near = subst (λ (s : ℕ). size (bit_xor s x) ≤ level) (same_applicable m i σ (union p g) (sym (common-common σ I) ∙ ap (λ s. common s I) e)) near;
           }
 
 -- ---- what the code gathers
@@ -414,7 +320,7 @@ module _ (m : System) (i : ℕ) (xss : List (List ℕ)) (guesses level : ℕ) (j
   pub near_is_asked : (x : ℕ) → IsNear (rules_into m i) sets level x ↔ IsAsked m i xss guesses level x
   near_is_asked x = (
     λ h. (
-        let (ρ, state, e) = (among_map (λ σ. common (applicable m σ) (rules_into m i)) h.set states).0 ((of_states h.set).0 h.listed) in
+        let (ρ, state, e) = map_among (λ σ. common (applicable m σ) (rules_into m i)) h.set states ((of_states h.set).0 h.listed) in
         let (p, joined_p, grows) = (of_grows ρ).0 state in
         let (g, within, e') = (grows_is guesses p ρ).0 grows in
         record {
@@ -431,7 +337,7 @@ module _ (m : System) (i : ℕ) (xss : List (List ℕ)) (guesses level : ℕ) (j
         record {
           of_rules = h.of_rules;
           set = common (applicable m (union h.joined h.guess)) (rules_into m i);
-          listed = (of_states _).1 ((among_map (λ σ. common (applicable m σ) (rules_into m i)) _ states).1 (union h.joined h.guess, state, refl));
+          listed = (of_states _).1 (among_map (λ σ. common (applicable m σ) (rules_into m i)) (union h.joined h.guess) states state);
           near = h.near;
         }),
   )
@@ -447,8 +353,9 @@ asked_listed m i xss mask guesses rules level mask_is rules_is joined states sta
     (λ a. subst (λ (xs : List ℕ). IsAmong a sets ↔ IsAmong a (map (λ σ. common (applicable m σ) (rules_into m i)) xs)) states_are (of_states a)))
     (subst (λ (s : ℕ). IsListing (IsNear s sets level) (λ (a b : ℕ). a < b) near) rules_is (subst (λ (xs : List ℕ). IsListing (IsNear rules xs level) (λ (a b : ℕ). a < b) near) sets_are listing))
 
-pub questions_listed : (m : System) (order : List ℕ) → IsImportOrder m order → (level i : ℕ) (xss : List (List ℕ)) → AreSupplies m order level (supplied m order i) xss → (n : System) → n ≡ m → (guesses : ℕ) → guesses ≡ guessed m order i
-    → (near : List ℕ) → IsListing (IsAsked n i xss guesses level) (λ a b. a < b) near → IsListing (IsQuestion m order level i) (λ a b. a < b) near
+pub questions_listed : (m : System) (order : List ℕ) → IsImportOrder m order → (level i : ℕ) (xss : List (List ℕ)) → AreSupplies m level (supplied m order i) xss → (n : System) → n ≡ m → (guesses : ℕ) → guesses ≡ guessed m order i
+    → (near : List ℕ) → IsListing (IsAsked n i xss guesses level) (λ a b. a < b) near → IsListing (IsQuestionAt m level i) (λ a b. a < b) near
 questions_listed m order ordered level i xss supplies n same guesses guesses_is near listing =
-    IsListing-same (λ (a b : ℕ). a < b) (IsAsked m i xss (guessed m order i) level) (IsQuestion m order level i) near (asked_is_question m order ordered level i xss supplies)
-    (subst (λ (g : ℕ). IsListing (IsAsked m i xss g level) (λ (a b : ℕ). a < b) near) guesses_is (subst (λ (p : System). IsListing (IsAsked p i xss guesses level) (λ (a b : ℕ). a < b) near) same listing))
+    IsListing-same (λ (a b : ℕ). a < b) (IsQuestion m order level i) (IsQuestionAt m level i) near (question_in m order ordered level i)
+    (IsListing-same (λ (a b : ℕ). a < b) (IsAsked m i xss (guessed m order i) level) (IsQuestion m order level i) near (asked_is_question m order ordered level i xss supplies)
+    (subst (λ (g : ℕ). IsListing (IsAsked m i xss g level) (λ (a b : ℕ). a < b) near) guesses_is (subst (λ (p : System). IsListing (IsAsked p i xss guesses level) (λ (a b : ℕ). a < b) near) same listing)))

@@ -1,9 +1,11 @@
 -- Reachability through imports, and the contexts ahead of a context.
-use Rattle.std.proofs.Common.{◌≡◌, ℕ, ◌+◌, ◌<◌, ◌≤◌, zero, suc, Bool, true, false, not, ◌&&◌, ◌||◌, cond, eqb, ltb, List, [], ◌∷◌, ◌++◌, length, map, get_or, take, drop, Option, Some, None, slice_get, ◌↔◌, refl, sym, ap, ◌∙◌, subst, inl, inr, ◌⊎◌, arith, true≢false}
-use Rattle.std.proofs.lemmas.Bool.{and_parts, and_from, or_cases, cases_lt, cases_Bool, not-true}
+use Rattle.std.proofs.Common.{◌≡◌, ℕ, ◌+◌, ◌<◌, ◌≤◌, zero, suc, Bool, true, false, not, ◌&&◌, cond, eqb, ltb, List, [], ◌∷◌, ◌++◌, length, map, get_or, Option, Some, None, slice_get, ◌↔◌, refl, sym, ap, ◌∙◌, subst, inl, inr, ◌⊎◌, arith, true≢false}
+use Rattle.std.proofs.lemmas.Bool.{and_parts, and_from, or_cases, or_left, or_right, cases_lt, cases_Bool, not-true, false_from_ne_true, not_from_false}
 use Rattle.std.proofs.lemmas.Bool.Decides.{nat_tests}
-use Rattle.std.proofs.lemmas.List.{length-map}
-use Rattle.std.proofs.Math.ListN.{set}
+use Rattle.std.proofs.lemmas.List.{length-map, get_or-map}
+use Rattle.std.proofs.lemmas.List.FromFn.{length-range_with_len, get_or-map-range_with_len}
+use Rattle.std.specs.Cmp.{both_ways}
+use Rattle.std.proofs.Math.Bool.{and-false, or-false}
 use Rattle.std.specs.List.{list_any, range_with_len}
 use Rattle.mcs_sets.specs.Sets.{has, union, such_that, Meets}
 use Rattle.mcs_sets.proofs.SetLemmas.{has-union, has-such_that}
@@ -13,49 +15,33 @@ use Rattle.mcs_system.specs.Imports.{imports, Reaches, directly, through}
 use Rattle.mcs_base.specs.Listings.{IsAmong}
 use Rattle.mcs_system.specs.Rows.{is_read_into, inputs_of}
 use Rattle.mcs_system.specs.Systems.{same_read, variables, variables_of, IsVariable}
-use Rattle.mcs_system.proofs.Members.{any_get, get_any, get_among, among_get}
+use Rattle.mcs_base.proofs.Among.{any_get, get_any, get_among, among_get}
 use Rattle.mcs_system.proofs.Sameness.{same_read-is, same_read-itself}
 use Rattle.mcs_system.proofs.VariableLemmas.{read_is_variable, has-inputs_of, has-variables_of}
 use Rattle.mcs_system.proofs.ValidLemmas.{read_in_range}
 use Rattle.mcs_import.specs.Reach.{reaches_below, import_row, rows_through, ahead_row, AreReached, AreAhead, AreStrict}
 use Rattle.mcs_import.specs.Reach.{through as passes}
 
-pub or_first : (u v : Bool) → u ≡ true → (u || v) ≡ true
-or_first true v e = refl
-or_first false v e = absurd (true≢false (sym e))
-
-pub or_second : (u v : Bool) → v ≡ true → (u || v) ≡ true
-or_second true v e = refl
-or_second false v e = e
-
-pub alike : (u v : Bool) → (u ≡ true → v ≡ true) → (v ≡ true → u ≡ true) → u ≡ v
-alike true v a b = sym (a refl)
-alike false true a b = b refl
-alike false false a b = refl
-
 -- ---- passing through one number after the other
 module _ (edge : ℕ → ℕ → Bool) where
-  abbrev R : ℕ → ℕ → ℕ → Bool
-  R k i j = reaches_below edge k i j
-
-  step_cases : (k i j : ℕ) → R (suc k) i j ≡ true → (R k i j ≡ true) ⊎ ((R k i k ≡ true) × (R k k j ≡ true))
-  step_cases k i j e = elim (or_cases (R k i j) (R k i k && R k k j) e) [
+  step_cases : (k i j : ℕ) → reaches_below edge (suc k) i j ≡ true → (reaches_below edge k i j ≡ true) ⊎ ((reaches_below edge k i k ≡ true) × (reaches_below edge k k j ≡ true))
+  step_cases k i j e = elim (or_cases (reaches_below edge k i j) (reaches_below edge k i k && reaches_below edge k k j) e) [
     | inl a ↦ inl a
-    | inr b ↦ inr (and_parts (R k i k) (R k k j) b)
+    | inr b ↦ inr (and_parts (reaches_below edge k i k) (reaches_below edge k k j) b)
   ]
 
-  pub stays : (k i j : ℕ) → R k i j ≡ true → R (suc k) i j ≡ true
-  stays k i j e = or_first (R k i j) (R k i k && R k k j) e
+  pub stays : (k i j : ℕ) → reaches_below edge k i j ≡ true → reaches_below edge (suc k) i j ≡ true
+  stays k i j e = or_left (reaches_below edge k i j) (reaches_below edge k i k && reaches_below edge k k j) e
 
-  joins : (k i j : ℕ) → R k i k ≡ true → R k k j ≡ true → R (suc k) i j ≡ true
-  joins k i j a b = or_second (R k i j) (R k i k && R k k j) (and_from (R k i k) (R k k j) a b)
+  joins : (k i j : ℕ) → reaches_below edge k i k ≡ true → reaches_below edge k k j ≡ true → reaches_below edge (suc k) i j ≡ true
+  joins k i j a b = or_right (reaches_below edge k i j) (reaches_below edge k i k && reaches_below edge k k j) (and_from (reaches_below edge k i k) (reaches_below edge k k j) a b)
 
-  pub contains : (k i j : ℕ) → edge i j ≡ true → R k i j ≡ true
+  pub contains : (k i j : ℕ) → edge i j ≡ true → reaches_below edge k i j ≡ true
   contains zero i j e = e
   contains (suc k) i j e = stays k i j (contains k i j e)
 
   -- what is reached through a number below k is reached
-  pub closed : (k i l j : ℕ) → l < k → R k i l ≡ true → R k l j ≡ true → R k i j ≡ true
+  pub closed : (k i l j : ℕ) → l < k → reaches_below edge k i l ≡ true → reaches_below edge k l j ≡ true → reaches_below edge k i j ≡ true
   closed zero i l j less a b = absurd (omega arith)
   closed (suc k) i l j less a b = elim (cases_lt l k) [
     | inl below ↦ elim (step_cases k i l a) [
@@ -70,8 +56,8 @@ module _ (edge : ℕ → ℕ → Bool) where
     ]
     | inr past ↦ let same : l ≡ k = omega arith in
         joins k i j
-        (elim (step_cases k i l a) [ inl a0 ↦ ap (R k i) (sym same) ∙ a0 | inr (a1, a2) ↦ a1 ])
-        (elim (step_cases k l j b) [ inl b0 ↦ ap (λ n. R k n j) (sym same) ∙ b0 | inr (b1, b2) ↦ b2 ])
+        (elim (step_cases k i l a) [ inl a0 ↦ ap (reaches_below edge k i) (sym same) ∙ a0 | inr (a1, a2) ↦ a1 ])
+        (elim (step_cases k l j b) [ inl b0 ↦ ap (λ n. reaches_below edge k n j) (sym same) ∙ b0 | inr (b1, b2) ↦ b2 ])
   ]
 
 -- ---- what the rows say
@@ -121,56 +107,28 @@ has-import_row m valid i j = has-such_that (length m.contexts) (imports m i) j �
     at : (v : Bool) → imports m i j ≡ v → (ltb j (length m.contexts) && v) ≡ v
     at true e = let less = imports_below m valid i j e in grind (arith, nat_tests)
     at false e = and-false (ltb j (length m.contexts))
-      where
-        and-false : (u : Bool) → (u && false) ≡ false
-        and-false true = refl
-        and-false false = refl
 
 -- the rows after passing through the numbers below k
 pub record ArePassed (m : System) (k : ℕ) (rows : List ℕ) : Type 0 where
   pub one_each : length rows ≡ length m.contexts
   pub passed : (i j : ℕ) → i < length rows → has (get_or rows i 0) j ≡ reaches_below (imports m) k i j
 
-length-range : (k n : ℕ) → length (range_with_len k n) ≡ n
-length-range k zero = refl
-length-range k (suc n) = ap suc (length-range (k + 1) n)
-
-get-map : (f : ℕ → ℕ) (xs : List ℕ) (i : ℕ) → i < length xs → get_or (map f xs) i 0 ≡ f (get_or xs i 0)
-get-map f [] i less = absurd (omega arith)
-get-map f (x ∷ xs) zero less = refl
-get-map f (x ∷ xs) (suc i) less = get-map f xs i (omega arith)
-
-get-range : (f : ℕ → ℕ) (k n i : ℕ) → i < n → get_or (map f (range_with_len k n)) i 0 ≡ f (k + i)
-get-range f k zero i less = absurd (omega arith)
-get-range f k (suc n) zero less = ap f (omega arith)
-get-range f k (suc n) (suc i) less = get-range f (k + 1) n i (omega arith) ∙ ap f (omega arith)
-
 pub rows_begin : (m : System) → IsValid m → (rows : List ℕ) → rows ≡ map (import_row m) (range_with_len 0 (length m.contexts)) → ArePassed m 0 rows
 rows_begin m valid rows is = rw is (record {
-  one_each = length-map (range_with_len 0 (length m.contexts)) (import_row m) ∙ length-range 0 (length m.contexts);
-  passed = λ i j less. ap (λ s. has s j) (get-range (import_row m) 0 (length m.contexts) i (omega (arith, less, length-map (range_with_len 0 (length m.contexts)) (import_row m), length-range 0 (length m.contexts)))) ∙ has-import_row m valid (0 + i) j ∙ ap (λ n. imports m n j) (omega arith);
+  one_each = length-map (range_with_len 0 (length m.contexts)) (import_row m) ∙ length-range_with_len 0 (length m.contexts);
+  passed = λ i j less. ap (λ s. has s j) (get_or-map-range_with_len (import_row m) 0 (length m.contexts) i i 0 (omega (arith, less, length-map (range_with_len 0 (length m.contexts)) (import_row m), length-range_with_len 0 (length m.contexts))) (omega arith)) ∙ has-import_row m valid i j;
 })
 
 pub rows_pass : (m : System) (k : ℕ) (rows next : List ℕ) → k < length rows → next ≡ rows_through k rows → ArePassed m k rows → ArePassed m (k + 1) next
 rows_pass m k rows next less is h = rw is (record {
   one_each = length-map rows (passes k (get_or rows k 0)) ∙ h.one_each;
   passed = λ i j inside. (let small : i < length rows = omega (arith, inside, length-map rows (passes k (get_or rows k 0))) in
-      ap (λ s. has s j) (get-map (passes k (get_or rows k 0)) rows i small) ∙ row i j (get_or rows i 0) (h.passed i k small) (h.passed i j small) (has (get_or rows i 0) k) refl ∙ (let e : suc k ≡ k + 1 = omega arith in ap (λ n. reaches_below (imports m) n i j) e));
+      ap (λ s. has s j) (get_or-map (passes k (get_or rows k 0)) rows i 0 0 small) ∙ row i j (get_or rows i 0) (h.passed i k small) (h.passed i j small) (has (get_or rows i 0) k) refl ∙ (let e : suc k ≡ k + 1 = omega arith in ap (λ n. reaches_below (imports m) n i j) e));
 })
   where
     row : (i j s : ℕ) → has s k ≡ reaches_below (imports m) k i k → has s j ≡ reaches_below (imports m) k i j → (v : Bool) → has s k ≡ v → has (cond (has s k) (union s (get_or rows k 0)) s) j ≡ reaches_below (imports m) (suc k) i j
     row i j s a b true e = rw (e, has-union, h.passed k j less, b, ← a, e) refl
-    row i j s a b false e = rw (e, b, ← a, e) (or-false (reaches_below (imports m) k i j))
-      where
-        or-false : (u : Bool) → u ≡ (u || (false && reaches_below (imports m) k k j))
-        or-false true = refl
-        or-false false = refl
-
-pub take_front : (n : ℕ) (xs ys : List ℕ) → n ≡ length xs → take n (xs ++ ys) ≡ xs
-take_front zero [] ys e = refl
-take_front zero (x ∷ xs) ys e = absurd (omega arith)
-take_front (suc n) [] ys e = absurd (omega arith)
-take_front (suc n) (x ∷ xs) ys e = ap (λ zs. x ∷ zs) (take_front n xs ys (omega arith))
+    row i j s a b false e = rw (e, b, ← a, e) (sym (or-false (reaches_below (imports m) k i j)))
 
 pub rows_same : (m : System) (reached rows : List ℕ) (n : ℕ) → AreReached m reached → length m.contexts ≤ n → n ≤ length m.contexts → rows ≡ map (ahead_row reached) (range_with_len 0 n) → rows ≡ map (ahead_row reached) (range_with_len 0 (length reached))
 rows_same m reached rows n h a b is = let e : n ≡ length reached = omega (arith, h.one_each) in is ∙ ap (λ k. map (ahead_row reached) (range_with_len 0 k)) e
@@ -183,33 +141,26 @@ rows_end m k rows a b h = let same : k ≡ length m.contexts = omega arith in re
 
 -- the rows of what is ahead, by a test of what is reached
 module _ (m : System) (reaches : ℕ → ℕ → Bool) (to_reach : (i j : ℕ) → reaches i j ≡ true → Reaches m i j) (from_reach : (i j : ℕ) → Reaches m i j → reaches i j ≡ true) where
-  abbrev ahead_test : ℕ → ℕ → Bool
-  ahead_test i j = reaches i j && not (reaches j i)
-
-  pub ahead_by_test : (n : ℕ) (rows : List ℕ) → n ≡ length m.contexts → length rows ≡ n → ((i : ℕ) → i < n → (j : ℕ) → has (get_or rows i 0) j ≡ (ltb j n && ahead_test i j)) → AreAhead m rows
+  pub ahead_by_test : (n : ℕ) (rows : List ℕ) → n ≡ length m.contexts → length rows ≡ n → ((i : ℕ) → i < n → (j : ℕ) → has (get_or rows i 0) j ≡ (ltb j n && (reaches i j && not (reaches j i)))) → AreAhead m rows
   ahead_by_test n rows many long test = record {
     one_each = long ∙ many;
     to = λ i j less e. (
-        let parts = and_parts (ltb j n) (ahead_test i j) (sym (test i (omega (arith, long)) j) ∙ e) in
+        let parts = and_parts (ltb j n) (reaches i j && not (reaches j i)) (sym (test i (omega (arith, long)) j) ∙ e) in
         let both = and_parts (reaches i j) (not (reaches j i)) parts.1 in
         let below : j < n = grind (arith, nat_tests, parts.0) in
         (omega (arith, long, below), to_reach i j both.0, λ back. true≢false (sym (from_reach j i back) ∙ not-true (reaches j i) both.1)));
-    from = λ i j less less' a b. test i (omega (arith, long)) j ∙ and_from _ _ (let below : j < n = omega (arith, long) in grind (arith, nat_tests)) (and_from _ _ (from_reach i j a) (negative (reaches j i) (λ e. b (to_reach j i e))));
+    from = λ i j less less' a b. test i (omega (arith, long)) j ∙ and_from _ _ (let below : j < n = omega (arith, long) in grind (arith, nat_tests)) (and_from _ _ (from_reach i j a) (not_from_false (reaches j i) (false_from_ne_true (reaches j i) (λ e. b (to_reach j i e)))));
   }
-    where
-      negative : (u : Bool) → ¬ (u ≡ true) → not u ≡ true
-      negative true never = absurd (never refl)
-      negative false never = refl
 
 pub rows_ahead : (m : System) → IsValid m → (reached rows : List ℕ) → AreReached m reached → rows ≡ map (ahead_row reached) (range_with_len 0 (length reached)) → AreAhead m rows
 unfolding ahead_row
 rows_ahead m valid reached rows h is = ahead_by_test m (reaches_below (imports m) (length m.contexts)) (is_reached m (length m.contexts)) (λ i j. reaches_is m (length m.contexts) i j (imports_below m valid)) (length reached) rows h.one_each
-    (ap length is ∙ length-map (range_with_len 0 (length reached)) (ahead_row reached) ∙ length-range 0 (length reached)) test
+    (ap length is ∙ length-map (range_with_len 0 (length reached)) (ahead_row reached) ∙ length-range_with_len 0 (length reached)) test
   where
     test : (i : ℕ) → i < length reached → (j : ℕ) → has (get_or rows i 0) j ≡ (ltb j (length reached) && (reaches_below (imports m) (length m.contexts) i j && not (reaches_below (imports m) (length m.contexts) j i)))
     test i less j =
         ap (λ (xs : List ℕ). has (get_or xs i 0) j) is
-        ∙ ap (λ s. has s j) (get-range (ahead_row reached) 0 (length reached) i less ∙ (let e : 0 + i ≡ i = omega arith in ap (ahead_row reached) e))
+        ∙ ap (λ s. has s j) (get_or-map-range_with_len (ahead_row reached) 0 (length reached) i i 0 less (omega arith))
         ∙ has-such_that (length reached) (λ j. has (get_or reached i 0) j && not (has (get_or reached j 0) i)) j
         ∙ at (ltb j (length reached)) refl
       where
@@ -220,13 +171,9 @@ rows_ahead m valid reached rows h is = ahead_by_test m (reaches_below (imports m
 pub ahead_strict : (m : System) (rows : List ℕ) → AreAhead m rows → AreStrict rows
 ahead_strict m rows h = record {
   in_range = λ i j less e. (h.to i j less e).0;
-  irreflexive = λ i less. none (has (get_or rows i 0) i) (λ e. let t = h.to i i less e in t.2 t.1);
+  irreflexive = λ i less. false_from_ne_true (has (get_or rows i 0) i) (λ e. let t = h.to i i less e in t.2 t.1);
   transitive = λ i j k less less' a b. (let s = h.to i j less a in let t = h.to j k less' b in h.from i k less t.0 (Reaches-trans m i j k s.1 t.1) (λ back. t.2 (Reaches-trans m k i j back s.1)));
 }
-  where
-    none : (u : Bool) → ¬ (u ≡ true) → u ≡ false
-    none true never = absurd (never refl)
-    none false never = refl
 
 -- each system has such rows
 reads_bound : List Read → ℕ
@@ -262,19 +209,9 @@ some_ahead m = let (bound, below) = some_bound m in
     let row : ℕ → ℕ = λ i. such_that (length m.contexts) (λ j. reaches i j && not (reaches j i)) in (
       map row (range_with_len 0 (length m.contexts)),
       ahead_by_test m reaches (is_reached m bound) (λ i j. reaches_is m bound i j below) (length m.contexts) (map row (range_with_len 0 (length m.contexts))) refl
-          (length-map (range_with_len 0 (length m.contexts)) row ∙ length-range 0 (length m.contexts))
-          (λ i less j. ap (λ s. has s j) (get-range row 0 (length m.contexts) i less ∙ (let e : 0 + i ≡ i = omega arith in ap row e)) ∙ has-such_that (length m.contexts) (λ j. reaches i j && not (reaches j i)) j),
+          (length-map (range_with_len 0 (length m.contexts)) row ∙ length-range_with_len 0 (length m.contexts))
+          (λ i less j. ap (λ s. has s j) (get_or-map-range_with_len row 0 (length m.contexts) i i 0 less (omega arith)) ∙ has-such_that (length m.contexts) (λ j. reaches i j && not (reaches j i)) j),
     )
-
--- ---- one row after the other
-set_pass : (f : ℕ → ℕ) (xs : List ℕ) (i d : ℕ) → i < length xs → set (map f (take i xs) ++ drop i xs) i (f (get_or (map f (take i xs) ++ drop i xs) i d)) ≡ map f (take (suc i) xs) ++ drop (suc i) xs
-set_pass f [] i d less = absurd (omega arith)
-set_pass f (x ∷ xs) zero d less = refl
-set_pass f (x ∷ xs) (suc i) d less = ap (λ ys. f x ∷ ys) (set_pass f xs i d (omega arith))
-
-pub row_passed : (f : ℕ → ℕ) (xs items : List ℕ) (i v d : ℕ) → items ≡ map f (take i xs) ++ drop i xs → i < length xs → v ≡ f (get_or items i d) → set items i v ≡ map f (take (i + 1) xs) ++ drop (i + 1) xs
-row_passed f xs items i v d is less value = let e : suc i ≡ i + 1 = omega arith in
-    ap (set items i) value ∙ ap (λ (ys : List ℕ). set ys i (f (get_or ys i d))) is ∙ set_pass f xs i d less ∙ ap (λ n. map f (take n xs) ++ drop n xs) e
 
 -- ---- a context is imported where its variables meet the inputs
 input_read : (m : System) (i v : ℕ) → has (inputs_of m i) v ≡ true → (q : Read) × IsVariable m v q × (k : ℕ) × (b : Bridge) × (slice_get m.bridges k ≡ Some b) × (b.target ≡ i) × IsAmong q (b.pos ++ b.neg)
@@ -291,7 +228,7 @@ input_read m i v e = at (slice_get (variables m) v) refl (and_parts (ltb v (leng
         (q, is, k, b, at_k, (let target : b.target ≡ i = grind (arith, nat_tests, parts.0) in target), subst (λ (p : Read). IsAmong p (b.pos ++ b.neg)) (sym e') (among_get r (b.pos ++ b.neg) l at_l))
 
 pub imports_by_sets : (m : System) (i j : ℕ) → j < length m.contexts → (meets : Bool) → (meets ≡ true) ↔ Meets (inputs_of m i) (variables_of m j) → meets ≡ imports m i j
-imports_by_sets m i j less meets decides = alike meets (imports m i j) (λ e. to (decides.0 e)) (λ e. decides.1 (from e))
+imports_by_sets m i j less meets decides = both_ways meets (imports m i j) (λ e. to (decides.0 e)) (λ e. decides.1 (from e))
   where
     to : Meets (inputs_of m i) (variables_of m j) → imports m i j ≡ true
     to h =

@@ -1,9 +1,9 @@
 -- What supplies a context, gathered in the import order.
-use Rattle.std.proofs.Common.{◌≡◌, ℕ, ◌+◌, ◌<◌, ◌≤◌, Bool, true, false, not, ◌&&◌, ◌||◌, eqb, List, [], ◌∷◌, ◌++◌, length, drop, get_or, refl, sym, ap, ◌∙◌, arith, append_assoc, add-one, drop-cons, true≢false}
+use Rattle.std.proofs.Common.{◌≡◌, ℕ, ◌+◌, ◌<◌, ◌≤◌, Bool, true, false, eqb, List, [], ◌∷◌, ◌++◌, length, drop, get_or, refl, sym, ap, ◌∙◌, arith, append_assoc, true≢false}
 use Rattle.std.proofs.lemmas.Bool.Decides.{nat_tests}
-use Rattle.std.proofs.lemmas.List.{append-nil, at_drop_all}
-use Rattle.mcs_sets.specs.Sets.{has, minus, union}
-use Rattle.mcs_sets.proofs.SetLemmas.{has-minus, has-union, has-empty, same_set}
+use Rattle.std.proofs.lemmas.List.{append-nil, at_drop_all, drop_more}
+use Rattle.mcs_sets.specs.Sets.{minus}
+use Rattle.mcs_sets.proofs.Lattice.{minus-minus, minus-none}
 use Rattle.mcs_system.specs.Plain.{System}
 use Rattle.mcs_system.specs.Systems.{variables_of}
 use Rattle.mcs_system.specs.Rows.{inputs_of}
@@ -15,24 +15,6 @@ pub record IsPartly (m : System) (order : List ℕ) (i : ℕ) (found : List ℕ)
   pub supplied_is : found ++ supplied m rest i ≡ supplied m order i
   pub guessed_is : minus guesses (variables_of_all m (supplied m rest i)) ≡ guessed m order i
 
-minus-union : (a b c : ℕ) → minus (minus a b) c ≡ minus a (union b c)
-minus-union a b c = same_set _ _ (λ k. has-minus (minus a b) c k ∙ ap (λ u. u && not (has c k)) (has-minus a b k) ∙ at (has a k) (has b k) (has c k) ∙ sym (has-minus a (union b c) k ∙ ap (λ u. has a k && not u) (has-union b c k)))
-  where
-    at : (u v w : Bool) → ((u && not v) && not w) ≡ (u && not (v || w))
-    at true true w = refl
-    at true false w = refl
-    at false v w = refl
-
-minus-none : (a : ℕ) → minus a 0 ≡ a
-minus-none a = same_set _ _ (λ k. has-minus a 0 k ∙ ap (λ u. has a k && not u) (has-empty k) ∙ at (has a k))
-  where
-    at : (u : Bool) → (u && not false) ≡ u
-    at true = refl
-    at false = refl
-
-drop_next : (xs : List ℕ) (k d : ℕ) → k < length xs → drop k xs ≡ get_or xs k d ∷ drop (k + 1) xs
-drop_next xs k d less = rw (add-one, drop-cons xs k d) refl
-
 pub partly_begin : (m : System) (order : List ℕ) (i : ℕ) → IsPartly m order i [] (inputs_of m i) order
 partly_begin m order i = record { supplied_is = refl; guessed_is = refl }
 
@@ -40,9 +22,9 @@ partly_begin m order i = record { supplied_is = refl; guessed_is = refl }
 pub partly_more : (m : System) (order : List ℕ) (i : ℕ) (found : List ℕ) (guesses : ℕ) (k j d : ℕ) → k < length order → j ≡ get_or order k d → ¬ (j ≡ i) → imports m i j ≡ true
     → IsPartly m order i found guesses (drop k order) → IsPartly m order i (found ++ j ∷ []) (minus guesses (variables_of m j)) (drop (k + 1) order)
 partly_more m order i found guesses k j d less is other imported h =
-    let step : supplied m (drop k order) i ≡ j ∷ supplied m (drop (k + 1) order) i = ap (λ (xs : List ℕ). supplied m xs i) (drop_next order k d less) ∙ ap (λ (x : ℕ). supplied m (x ∷ drop (k + 1) order) i) (sym is) ∙ here (eqb j i) refl (imports m i j) refl in record {
+    let step : supplied m (drop k order) i ≡ j ∷ supplied m (drop (k + 1) order) i = ap (λ (xs : List ℕ). supplied m xs i) (drop_more order k d less) ∙ ap (λ (x : ℕ). supplied m (x ∷ drop (k + 1) order) i) (sym is) ∙ here (eqb j i) refl (imports m i j) refl in record {
       supplied_is = append_assoc found (j ∷ []) (supplied m (drop (k + 1) order) i) ∙ ap (λ xs. found ++ xs) (sym step) ∙ h.supplied_is;
-      guessed_is = minus-union guesses (variables_of m j) (variables_of_all m (supplied m (drop (k + 1) order) i)) ∙ ap (λ (xs : List ℕ). minus guesses (variables_of_all m xs)) (sym step) ∙ h.guessed_is;
+      guessed_is = minus-minus guesses (variables_of m j) (variables_of_all m (supplied m (drop (k + 1) order) i)) ∙ ap (λ (xs : List ℕ). minus guesses (variables_of_all m xs)) (sym step) ∙ h.guessed_is;
     }
   where
     here : (u : Bool) → eqb j i ≡ u → (v : Bool) → imports m i j ≡ v → supplied m (j ∷ drop (k + 1) order) i ≡ j ∷ supplied m (drop (k + 1) order) i
@@ -54,7 +36,7 @@ partly_more m order i found guesses k j d less is other imported h =
 pub partly_skip : (m : System) (order : List ℕ) (i : ℕ) (found : List ℕ) (guesses : ℕ) (k j d : ℕ) → k < length order → j ≡ get_or order k d → ¬ (j ≡ i) → imports m i j ≡ false
     → IsPartly m order i found guesses (drop k order) → IsPartly m order i found guesses (drop (k + 1) order)
 partly_skip m order i found guesses k j d less is other imported h =
-    let step : supplied m (drop k order) i ≡ supplied m (drop (k + 1) order) i = ap (λ (xs : List ℕ). supplied m xs i) (drop_next order k d less) ∙ ap (λ (x : ℕ). supplied m (x ∷ drop (k + 1) order) i) (sym is) ∙ here (eqb j i) refl (imports m i j) refl in record {
+    let step : supplied m (drop k order) i ≡ supplied m (drop (k + 1) order) i = ap (λ (xs : List ℕ). supplied m xs i) (drop_more order k d less) ∙ ap (λ (x : ℕ). supplied m (x ∷ drop (k + 1) order) i) (sym is) ∙ here (eqb j i) refl (imports m i j) refl in record {
       supplied_is = ap (λ xs. found ++ xs) (sym step) ∙ h.supplied_is;
       guessed_is = ap (λ (xs : List ℕ). minus guesses (variables_of_all m xs)) (sym step) ∙ h.guessed_is;
     }
@@ -78,7 +60,7 @@ partly_over m order i found guesses rest none h =
 pub partly_here : (m : System) (order : List ℕ) (i : ℕ) (found : List ℕ) (guesses : ℕ) (k j d : ℕ) → k < length order → j ≡ get_or order k d → j ≡ i
     → IsPartly m order i found guesses (drop k order) → made found guesses ≡ part m order i
 partly_here m order i found guesses k j d less is same h =
-    partly_over m order i found guesses (drop k order) (ap (λ (xs : List ℕ). supplied m xs i) (drop_next order k d less) ∙ ap (λ (x : ℕ). supplied m (x ∷ drop (k + 1) order) i) (sym is) ∙ here (eqb j i) refl) h
+    partly_over m order i found guesses (drop k order) (ap (λ (xs : List ℕ). supplied m xs i) (drop_more order k d less) ∙ ap (λ (x : ℕ). supplied m (x ∷ drop (k + 1) order) i) (sym is) ∙ here (eqb j i) refl) h
   where
     here : (u : Bool) → eqb j i ≡ u → supplied m (j ∷ drop (k + 1) order) i ≡ []
     here true e = rw e refl

@@ -1,8 +1,8 @@
 -- Laws of import orders and of the number of questions: each is the contract of a function of `laws`.
-use Rattle.std.specs.Prelude.{◌≡◌, ℕ, ◌≤◌, List}
+use Rattle.std.specs.Prelude.{◌≡◌, ◌↔◌, ℕ, ◌≤◌, List}
 use Rattle.mcs_system.specs.Plain.{System}
 use Rattle.mcs_system.specs.Imports.{IsImportOrder}
-use Rattle.mcs_import.specs.Counts.{QuestionCount, IsNeed, rule_set_count}
+use Rattle.mcs_system.specs.Levels.{HasQuestions, IsCount, IsNeed, rule_set_count}
 
 -- no system has two import orders
 abbrev pub ImportOrderIsOne : Type 0
@@ -12,13 +12,25 @@ ImportOrderIsOne = (m : System) (xs ys : List ℕ) → IsImportOrder m xs → Is
 abbrev pub ImportOrderExists : Type 0
 ImportOrderExists = (m : System) → (xs : List ℕ) × IsImportOrder m xs
 
--- the number of questions of a level is at most that of the sets of rules into a context, over all contexts
+-- there are no more questions than sets of rules into a context, over all contexts
 abbrev pub QuestionsAreBounded : Type 0
-QuestionsAreBounded = (m : System) (order : List ℕ) (level n : ℕ) → QuestionCount m order level n → n ≤ rule_set_count m
+QuestionsAreBounded = (m : System) (level n : ℕ) → HasQuestions m level n → n ≤ rule_set_count m
+
+-- a higher level has no fewer questions
+abbrev pub QuestionsGrow : Type 0
+QuestionsGrow = (m : System) (level higher n : ℕ) → level ≤ higher → HasQuestions m level n → HasQuestions m higher n
+
+-- there are at least as many questions as any number up to their count, and no more
+abbrev pub CountsAgree : Type 0
+CountsAgree = (m : System) (level n k : ℕ) → IsCount m level n → HasQuestions m level k ↔ k ≤ n
 
 -- a level has one number of questions
-abbrev pub QuestionCountIsOne : Type 0
-QuestionCountIsOne = (m : System) (order : List ℕ) (level n k : ℕ) → QuestionCount m order level n → QuestionCount m order level k → n ≡ k
+abbrev pub CountIsOne : Type 0
+CountIsOne = (m : System) (level n k : ℕ) → IsCount m level n → IsCount m level k → n ≡ k
+
+-- a higher level has no smaller number of questions
+abbrev pub CountsGrow : Type 0
+CountsGrow = (m : System) (level higher n k : ℕ) → level ≤ higher → IsCount m level n → IsCount m higher k → n ≤ k
 
 -- a system has one need
 abbrev pub NeedIsOne : Type 0

@@ -1,5 +1,4 @@
 pub mod Plans
 pub mod Reach
 pub mod States
-pub mod Counts
 pub mod Laws

@@ -7,7 +7,8 @@ use Rattle.mcs_base.specs.Listings.{IsListing}
 use Rattle.mcs_system.specs.Plain.{System}
 use Rattle.mcs_system.specs.Systems.{variables_of}
 use Rattle.mcs_system.specs.Rows.{inputs_of}
-use Rattle.mcs_system.specs.Imports.{IsImportOrder, supplied, IsPossible}
+use Rattle.mcs_system.specs.Imports.{IsImportOrder, supplied}
+use Rattle.mcs_system.specs.Levels.{MaySupply}
 use Rattle.mcs_import.specs.declared.share.Share as code_share
 
 -- the variables of these contexts
@@ -20,10 +21,10 @@ abbrev pub guessed : System → List ℕ → ℕ → ℕ
 guessed m order i = minus (inputs_of m i) (variables_of_all m (supplied m order i))
 
 -- what the contexts js may supply at the level: one listing for each, in the order of states
-abbrev pub AreSupplies : System → List ℕ → ℕ → List ℕ → List (List ℕ) → Type 0
-AreSupplies m order level [] [] = Unit {0}
-AreSupplies m order level (j ∷ js) (xs ∷ xss) = IsListing (IsPossible m order level j) StateBefore xs × AreSupplies m order level js xss
-AreSupplies m order level js xss = ⊥
+abbrev pub AreSupplies : System → ℕ → List ℕ → List (List ℕ) → Type 0
+AreSupplies m level [] [] = Unit {0}
+AreSupplies m level (j ∷ js) (xs ∷ xss) = IsListing (MaySupply m level j) StateBefore xs × AreSupplies m level js xss
+AreSupplies m level js xss = ⊥
 
 -- ---- what a plan keeps
 pub record Part : Type 0 where

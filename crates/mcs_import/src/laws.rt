@@ -1,6 +1,6 @@
 //! Laws of import orders and of the number of questions. The functions do nothing: each contract is a law.
 
-ghost use Rattle.mcs_import.specs.Laws.{ImportOrderIsOne, ImportOrderExists, QuestionsAreBounded, QuestionCountIsOne, NeedIsOne};
+ghost use Rattle.mcs_import.specs.Laws.{ImportOrderIsOne, ImportOrderExists, QuestionsAreBounded, QuestionsGrow, CountsAgree, CountIsOne, CountsGrow, NeedIsOne};
 
 /// A system has at most one import order.
 pub fn import_order_is_one()
@@ -12,13 +12,18 @@ pub fn import_order_exists()
     ensures { ImportOrderExists }
 {}
 
-/// The questions of a level are at most as many as the sets of rules into a context, over all contexts.
+/// The questions of a level are at most as many as the sets of rules into a context, over all contexts, and those
+/// of a higher level are no fewer.
 pub fn questions_are_bounded()
-    ensures { QuestionsAreBounded }
+    ensures bounded { QuestionsAreBounded }
+    ensures grow { QuestionsGrow }
 {}
 
-/// A level has at most one number of questions, and a system at most one need.
+/// That there are at least so many questions agrees with their count, of which a level has at most one and a higher
+/// level no smaller one. A system has at most one need.
 pub fn question_counts_are_one()
-    ensures level { QuestionCountIsOne }
+    ensures agree { CountsAgree }
+    ensures level { CountIsOne }
+    ensures grow { CountsGrow }
     ensures need { NeedIsOne }
 {}

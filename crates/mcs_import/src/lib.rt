@@ -1,6 +1,7 @@
 //! Which context imports which, in what order the contexts are asked, and what each of them is asked.
 #![tactic(auto, using(mcs_sets::proofs::SetLemmas::sets_fit))]
 
+mod context_set;
 mod laws;
 mod near;
 mod order;

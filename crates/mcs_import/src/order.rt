@@ -5,15 +5,15 @@ ghost use Rattle.mcs_sets.specs.Sets.{has, such_that};
 ghost use Rattle.mcs_system.specs.Imports.{IsImportOrder};
 ghost use Rattle.mcs_import.specs.Reach.{AreStrict, IsFirstFree};
 
+use crate::context_set::ContextSet;
 use crate::reach::ahead_rows;
 use mcs_base::Memory;
-use mcs_sets::SmallSet;
 use mcs_system::System;
 use std::alloc::Global;
 
 /// The lowest-numbered context of the set of whose row nothing is in the set. The rows are those of a
 /// strict order, so that there is one wherever the set has a member.
-fn first_free(ahead: &[SmallSet], set: SmallSet) -> Option<u32>
+fn first_free(ahead: &[ContextSet], set: ContextSet) -> Option<u32>
     requires few { length ahead.now ≤ 64 }
     requires strict { AreStrict ahead.now }
     requires in_range { (k : ℕ) → has set k ≡ true → k < length ahead.now }
@@ -30,10 +30,10 @@ fn first_free(ahead: &[SmallSet], set: SmallSet) -> Option<u32>
 
 /// All contexts of the system.
 #[tactic(auto, using(mcs_system::proofs::SeenLemmas::loops))]
-fn all_contexts(system: &System) -> SmallSet
+fn all_contexts(system: &System) -> ContextSet
     ensures { result ≡ such_that (length system.now.contexts) (λ k. true) }
 {
-    let mut set = SmallSet::empty();
+    let mut set = ContextSet::empty();
     for i in 0..system.contexts().len() as u32 {
         set = set.with(i);
     }

@@ -1,6 +1,6 @@
 //! Plans: the order in which the contexts of a system are asked, and what each is told before.
 
-ghost use Rattle.std.specs.Prelude.{◌≡◌, ◌<◌, List, ℕ, All, length, IfOk};
+ghost use Rattle.std.specs.Prelude.{◌≡◌, ◌<◌, ◌↔◌, List, ℕ, All, length, IfOk, IsTrue};
 ghost use Rattle.std.specs.Arc.{arc_value};
 ghost use Rattle.mcs_system.specs.Imports.{IsImportOrder, supplied};
 ghost use Rattle.mcs_import.specs.Plans.{guessed, part, part_of};
@@ -49,6 +49,13 @@ impl Plan {
             order,
             shares,
         })
+    }
+
+    /// Whether both plans are the same: those of one system are, however it was built.
+    pub fn is(&self, other: &Plan) -> bool
+        ensures { IsTrue result ↔ (self.now ≡ other.now) }
+    {
+        self.system.is(&other.system)
     }
 
     /// The system of the plan.

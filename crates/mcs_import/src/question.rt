@@ -3,7 +3,8 @@
 ghost use Rattle.std.specs.Prelude.{◌≡◌, ◌<◌, ◌↔◌, ℕ, List, map, length, IfOk};
 ghost use Rattle.mcs_sets.specs.Sets.{common};
 ghost use Rattle.mcs_base.specs.Listings.{IsAmong, IsListing};
-ghost use Rattle.mcs_system.specs.Imports.{IsImportOrder, IsQuestion, supplied, rules_into};
+ghost use Rattle.mcs_system.specs.Imports.{IsImportOrder, supplied, rules_into};
+ghost use Rattle.mcs_system.specs.Levels.{IsQuestionAt};
 ghost use Rattle.mcs_system.specs.Systems.{applicable};
 ghost use Rattle.mcs_import.specs.Plans.{AreSupplies};
 ghost use Rattle.mcs_import.specs.States.{IsAsked};
@@ -69,9 +70,8 @@ pub fn questions(
 ) -> Result<Vec<Active>, Memory>
     requires in_range { i < length plan.now.contexts }
     requires supplied { (order : List ℕ) → IsImportOrder plan.now order
-        → AreSupplies plan.now order level (supplied plan.now order i) (map (λ supply. supply.items) supplies.now) }
-    ensures { IfOk result (λ sets. (order : List ℕ) → IsImportOrder plan.now order
-        → IsListing (IsQuestion plan.now order level i) (λ a b. a < b) sets.items) }
+        → AreSupplies plan.now level (supplied plan.now order i) (map (λ supply. supply.items) supplies.now) }
+    ensures { IfOk result (λ sets. IsListing (IsQuestionAt plan.now level i) (λ a b. a < b) sets.items) }
 {
     asked(alloc, plan.system(), i, supplies, plan.guessed(i), level)
 }

@@ -7,8 +7,8 @@ ghost use Rattle.mcs_system.specs.Faults.{IsValid};
 ghost use Rattle.mcs_system.specs.Imports.{imports};
 ghost use Rattle.mcs_import.specs.Reach.{through, rows_through, import_row, ahead_row, AreReached, AreAhead};
 
+use crate::context_set::ContextSet;
 use mcs_base::Memory;
-use mcs_sets::SmallSet;
 use mcs_system::System;
 use std::alloc::Global;
 
@@ -23,11 +23,11 @@ pub(crate) fn is_imported(system: &System, i: u32, j: u32) -> bool
 
 /// The contexts that context `i` imports.
 #[tactic(auto, using(mcs_system::proofs::SeenLemmas::loops), unfolding(crate::specs::Reach::import_row))]
-fn imported_by(system: &System, i: u32) -> SmallSet
+fn imported_by(system: &System, i: u32) -> ContextSet
     requires { i < length system.now.contexts }
     ensures { result ≡ import_row system.now i }
 {
-    let mut row = SmallSet::empty();
+    let mut row = ContextSet::empty();
     for j in 0..system.contexts().len() as u32 {
         if is_imported(system, i, j) {
             row = row.with(j);
@@ -37,7 +37,7 @@ fn imported_by(system: &System, i: u32) -> SmallSet
 }
 
 /// For each context those that it imports.
-fn import_rows(alloc: Global, system: &System) -> Result<Vec<SmallSet>, Memory>
+fn import_rows(alloc: Global, system: &System) -> Result<Vec<ContextSet>, Memory>
     ensures { IfOk result (λ rows. rows.items ≡ map (import_row system.now) (range_with_len 0 (length system.now.contexts))) }
 {
     let mut rows = Vec::new(alloc);
@@ -48,7 +48,7 @@ fn import_rows(alloc: Global, system: &System) -> Result<Vec<SmallSet>, Memory>
 }
 
 /// The row, with what the middle row has if it has `k`.
-fn passed(row: SmallSet, k: u32, middle: SmallSet) -> SmallSet
+fn passed(row: ContextSet, k: u32, middle: ContextSet) -> ContextSet
     requires { k < 64 }
     ensures { result ≡ through k middle row }
 {
@@ -56,7 +56,7 @@ fn passed(row: SmallSet, k: u32, middle: SmallSet) -> SmallSet
 }
 
 /// Adds what row `k` has to each row that has `k`.
-fn pass_through(rows: &mut [SmallSet], k: u32)
+fn pass_through(rows: &mut [ContextSet], k: u32)
     requires in_range { k < length rows.old }
     requires few { length rows.old ≤ 64 }
     ensures { rows.new ≡ rows_through k rows.old }
@@ -68,7 +68,7 @@ fn pass_through(rows: &mut [SmallSet], k: u32)
 }
 
 /// For each context those that it reaches through imports (Warshall 1962).
-fn reached_rows(alloc: Global, system: &System) -> Result<Vec<SmallSet>, Memory>
+fn reached_rows(alloc: Global, system: &System) -> Result<Vec<ContextSet>, Memory>
     ensures { IfOk result (λ rows. AreReached system.now rows.items) }
 {
     let contexts = system.contexts().len() as u32;
@@ -81,12 +81,12 @@ fn reached_rows(alloc: Global, system: &System) -> Result<Vec<SmallSet>, Memory>
 
 /// What row `i` has of those that do not have `i` in their own rows.
 #[tactic(auto, using(mcs_system::proofs::SeenLemmas::loops), unfolding(crate::specs::Reach::ahead_row))]
-fn ahead_of(reached: &[SmallSet], i: u32) -> SmallSet
+fn ahead_of(reached: &[ContextSet], i: u32) -> ContextSet
     requires in_range { i < length reached.now }
     requires few { length reached.now ≤ 64 }
     ensures { result ≡ ahead_row reached.now i }
 {
-    let mut row = SmallSet::empty();
+    let mut row = ContextSet::empty();
     for j in 0..reached.len() as u32 {
         if reached[i as usize].has(j) && !reached[j as usize].has(i) {
             row = row.with(j);
@@ -96,7 +96,7 @@ fn ahead_of(reached: &[SmallSet], i: u32) -> SmallSet
 }
 
 /// For each context those that it reaches and that do not reach it: they are taken before it.
-pub(crate) fn ahead_rows(alloc: Global, system: &System) -> Result<Vec<SmallSet>, Memory>
+pub(crate) fn ahead_rows(alloc: Global, system: &System) -> Result<Vec<ContextSet>, Memory>
     ensures few { length system.now.contexts ≤ 64 }
     ensures valid { IsValid system.now }
     ensures rows { IfOk result (λ rows. AreAhead system.now rows.items) }

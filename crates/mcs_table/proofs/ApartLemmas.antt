@@ -1,11 +1,11 @@
 -- Rows of which no mark of the one occurs in the other, by all marks of both.
-use Rattle.std.proofs.Common.{◌≡◌, ◌<◌, ◌+◌, ℕ, List, [], ◌∷◌, length, get_or, drop, refl, sym, ap, ◌∙◌, ◌↔◌, arith, drop-cons, add-one, zero, suc, ◌≤◌, Bool, true, false, not, IsTrue, true≢false}
-use Rattle.std.proofs.lemmas.Grind.{common_steps}
+use Rattle.std.proofs.Common.{◌≡◌, ◌<◌, ◌+◌, ℕ, List, ◌∷◌, length, get_or, drop, sym, ap, ◌∙◌, ◌↔◌, drop-cons, add-one, suc, ◌≤◌}
+use Rattle.std.proofs.lemmas.List.{drop_all}
 use Rattle.mcs_sets.specs.Sets.{union, Meets}
+use Rattle.mcs_sets.proofs.Lattice.{union_assoc, union-none}
 use Rattle.mcs_table.specs.declared.row.Row.{Row}
 use Rattle.mcs_table.specs.Tables.{AreApart}
 use Rattle.mcs_table.specs.Joins.{union_of}
-use Rattle.mcs_table.proofs.JointLemmas.{union-assoc, union-none}
 use Rattle.mcs_table.proofs.OrderFreeLemmas.{in_some, some_in}
 
 abbrev marks : Row → ℕ
@@ -26,18 +26,8 @@ pub marks_more : (xs : List Row) (i : ℕ) (x : Row) (all : ℕ) → i < length 
     → union (union all x.marks) (union_of (λ (r : Row). r.marks) (drop (i + 1) xs)) ≡ union_of (λ (r : Row). r.marks) xs
 marks_more xs i x all less here so_far =
     let split : drop i xs ≡ x ∷ drop (i + 1) xs = rw add-one (drop-cons xs i x less ∙ ap (λ (r : Row). r ∷ drop (suc i) xs) (sym here)) in
-    union-assoc all x.marks (union_of marks (drop (i + 1) xs)) ∙ (ap (λ (rs : List Row). union all (union_of marks rs)) (sym split) ∙ so_far)
+    union_assoc all x.marks (union_of marks (drop (i + 1) xs)) ∙ (ap (λ (rs : List Row). union all (union_of marks rs)) (sym split) ∙ so_far)
 
 pub marks_end : (xs : List Row) (i : ℕ) (all : ℕ) → length xs ≤ i → union all (union_of (λ (r : Row). r.marks) (drop i xs)) ≡ union_of (λ (r : Row). r.marks) xs → all ≡ union_of (λ (r : Row). r.marks) xs
 marks_end xs i all past so_far =
-    let none : drop i xs ≡ [] = drop_past xs i past in
-    sym (union-none all) ∙ (ap (λ (rs : List Row). union all (union_of marks rs)) (sym none) ∙ so_far)
-  where
-    drop_past : (xs : List Row) (i : ℕ) → length xs ≤ i → drop i xs ≡ []
-    drop_past [] i past = grind (arith, common_steps)
-    drop_past (y ∷ ys) zero past = absurd (omega arith)
-    drop_past (y ∷ ys) (suc i) past = drop_past ys i (omega arith)
-
-pub not_is : (b : Bool) (P : Type 0) → IsTrue b ↔ P → IsTrue (not b) ↔ (¬ P)
-not_is true P h = (λ e. absurd (true≢false (sym e)), λ not. absurd (not (h.0 refl)))
-not_is false P h = (λ e p. true≢false (sym (h.1 p)), λ not. refl)
+    sym (union-none all) ∙ (ap (λ (rs : List Row). union all (union_of marks rs)) (sym (drop_all i xs past)) ∙ so_far)

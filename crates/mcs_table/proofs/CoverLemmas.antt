@@ -1,15 +1,15 @@
 -- The minimal rows of finitely many: each row has a minimal one within it.
-use Rattle.std.proofs.Common.{◌≡◌, ◌<◌, ◌≤◌, ℕ, ◌+◌, zero, suc, Bool, true, false, ◌&&◌, eqb, List, [], ◌∷◌, ◌++◌, refl, sym, ap, ◌∙◌, subst, inl, inr, ◌⊎◌, ◌↔◌, arith, IsTrue}
-use Rattle.std.proofs.lemmas.Bool.{cases_lt}
-use Rattle.std.proofs.lemmas.Bool.Decides.{nat_tests}
-use Rattle.mcs_sets.specs.Sets.{has, union, common, size, Within}
-use Rattle.mcs_sets.proofs.SetLemmas.{has-common, same_set, within_where_common, common_where_within, Within-le}
+use Rattle.std.proofs.Common.{◌≡◌, ◌<◌, ◌≤◌, ℕ, ◌+◌, zero, suc, List, [], ◌∷◌, ◌++◌, refl, sym, ap, ◌∙◌, subst, inl, inr, ◌⊎◌, ◌↔◌, arith, IsTrue}
+use Rattle.std.proofs.lemmas.Bool.{cases_lt, cases_eq}
+use Rattle.mcs_sets.specs.Sets.{has, union, size, Within}
+use Rattle.mcs_sets.proofs.SetLemmas.{Within-le}
+use Rattle.mcs_sets.proofs.Lattice.{within_antisymmetric, cases_within}
 use Rattle.mcs_base.specs.Listings.{IsAmong}
-use Rattle.mcs_base.specs.Partials.{PartialState, Fits}
+use Rattle.mcs_base.specs.Partials.{Fits}
+use Rattle.mcs_base.proofs.Among.{among_append}
+use Rattle.mcs_base.proofs.PartialLemmas.{cases_state, cases_fit}
 use Rattle.mcs_table.specs.declared.row.Row.{Row}
 use Rattle.mcs_table.specs.Tables.{IsUnion, IsMinimalRow, united_row}
-use Rattle.mcs_table.proofs.AmongLemmas.{among_both}
-use Rattle.mcs_table.proofs.MarkLemmas.{Within-antisymmetric}
 use Rattle.mcs_table.proofs.MinimalLemmas.{row_is}
 
 -- Q has some of the rows of P, and one of the same state within each
@@ -33,50 +33,12 @@ covers_same Q P c r = (
     least = λ s p state within.
         let (n, q, state', within') = c.below s p in
         let same : n.marks ≡ r.marks = m.least n q (state' ∙ state) (λ k h. within k (within' k h)) in
-        Within-antisymmetric s.marks r.marks within (λ k h. within' k (subst (λ (x : ℕ). IsTrue (has x k)) (sym same) h));
+        within_antisymmetric s.marks r.marks within (λ k h. within' k (subst (λ (x : ℕ). IsTrue (has x k)) (sym same) h));
   },
   λ m. let (n, q, state, within) = c.below r m.one in
       let same : n ≡ r = row_is n r state (m.least n (c.from n q) state within) in
       record { one = subst Q same q; least = λ s q'. m.least s (c.from s q') },
 )
-
--- ---- decisions
-decide_same : (x y : ℕ) → (x ≡ y) ⊎ ¬ (x ≡ y)
-decide_same x y = at (eqb x y) refl
-  where
-    at : (b : Bool) → eqb x y ≡ b → (x ≡ y) ⊎ ¬ (x ≡ y)
-    at true e = inl (grind (arith, nat_tests))
-    at false e = inr (λ same. grind (arith, nat_tests))
-
-decide_state : (s t : PartialState) → (s ≡ t) ⊎ ¬ (s ≡ t)
-decide_state s t = elim (decide_same s.mask t.mask) [
-  | inr differ ↦ inr (λ e. differ (ap (λ (u : PartialState). u.mask) e))
-  | inl masks ↦ elim (decide_same s.values t.values) [
-    | inr differ ↦ inr (λ e. differ (ap (λ (u : PartialState). u.values) e))
-    | inl values ↦ inl (ap (λ (m : ℕ). let u : PartialState = record { mask = m; values = s.values } in u) masks ∙ ap (λ (v : ℕ). let u : PartialState = record { mask = t.mask; values = v } in u) values)
-  ]
-]
-
-decide_within : (a b : ℕ) → Within a b ⊎ ¬ Within a b
-decide_within a b = elim (decide_same (common a b) a) [ inl e ↦ inl (within_where_common a b e) | inr differ ↦ inr (λ w. differ (common_where_within a b w)) ]
-
--- two states fit where they have the same values on what both have
-fits_where_same : (s t : PartialState) → common s.values (common s.mask t.mask) ≡ common t.values (common s.mask t.mask) → Fits s t
-fits_where_same s t e v in_s in_t =
-    let both : has (common s.mask t.mask) v ≡ true = has-common s.mask t.mask v ∙ rw (in_s, in_t) refl in
-    let eq : (has s.values v && has (common s.mask t.mask) v) ≡ (has t.values v && has (common s.mask t.mask) v) = sym (has-common s.values (common s.mask t.mask) v) ∙ (ap (λ x. has x v) e ∙ has-common t.values (common s.mask t.mask) v) in
-    grind (arith, nat_tests)
-
-same_where_fits : (s t : PartialState) → Fits s t → common s.values (common s.mask t.mask) ≡ common t.values (common s.mask t.mask)
-same_where_fits s t fit = same_set _ _ (λ v. has-common s.values (common s.mask t.mask) v ∙ at v (has s.mask v) refl (has t.mask v) refl ∙ sym (has-common t.values (common s.mask t.mask) v))
-  where
-    at : (v : ℕ) (x : Bool) → has s.mask v ≡ x → (y : Bool) → has t.mask v ≡ y → (has s.values v && has (common s.mask t.mask) v) ≡ (has t.values v && has (common s.mask t.mask) v)
-    at v true e true e' = let same = fit v e e' in ap (λ b. b && has (common s.mask t.mask) v) same
-    at v true e false e' = let none = has-common s.mask t.mask v in grind (arith, nat_tests)
-    at v false e y e' = let none = has-common s.mask t.mask v in grind (arith, nat_tests)
-
-pub decide_fit : (s t : PartialState) → Fits s t ⊎ ¬ Fits s t
-decide_fit s t = elim (decide_same (common s.values (common s.mask t.mask)) (common t.values (common s.mask t.mask))) [ inl e ↦ inl (fits_where_same s t e) | inr differ ↦ inr (λ fit. differ (same_where_fits s t fit)) ]
 
 -- ---- each of finitely many rows has a minimal one within it
 -- y is strictly within x
@@ -86,11 +48,11 @@ pub record IsSmaller (x y : Row) : Type 0 where
   pub other : ¬ (y.marks ≡ x.marks)
 
 decide_smaller : (x y : Row) → IsSmaller x y ⊎ (y.state ≡ x.state → Within y.marks x.marks → y.marks ≡ x.marks)
-decide_smaller x y = elim (decide_state y.state x.state) [
+decide_smaller x y = elim (cases_state y.state x.state) [
   | inr differ ↦ inr (λ e. absurd (differ e))
-  | inl state ↦ elim (decide_within y.marks x.marks) [
+  | inl state ↦ elim (cases_within y.marks x.marks) [
     | inr not ↦ inr (λ e w. absurd (not w))
-    | inl within ↦ elim (decide_same y.marks x.marks) [ inl e ↦ inr (λ e' w. e) | inr other ↦ inl (record { state = state; within = within; other = other }) ]
+    | inl within ↦ elim (cases_eq y.marks x.marks) [ inl e ↦ inr (λ e' w. e) | inr other ↦ inl (record { state = state; within = within; other = other }) ]
   ]
 ]
 
@@ -137,7 +99,7 @@ record IsUnionWith (x : Row) (ys : List Row) (level : ℕ) (r : Row) : Type 0 wh
 
 unions_with : (x : Row) (ys : List Row) (level : ℕ) → Listed (IsUnionWith x ys level)
 unions_with x [] level = ([], λ r. (λ h. absurd h, λ u. absurd u.in_second))
-unions_with x (y ∷ ys) level = let (zs, is) = unions_with x ys level in at zs is (decide_fit x.state y.state) (cases_lt level (size (union x.marks y.marks)))
+unions_with x (y ∷ ys) level = let (zs, is) = unions_with x ys level in at zs is (cases_fit x.state y.state) (cases_lt level (size (union x.marks y.marks)))
   where
     later : (zs : List Row) → ((r : Row) → IsAmong r zs ↔ IsUnionWith x ys level r) → (r : Row) → IsAmong r zs → IsUnionWith x (y ∷ ys) level r
     later zs is r h = let u = (is r).0 h in record { second = u.second; in_second = inr u.in_second; fit = u.fit; is = u.is; few = u.few }
@@ -176,11 +138,11 @@ unions_listed [] ys level = ([], λ r. (λ h. absurd h, λ u. absurd u.in_first)
 unions_listed (x ∷ xs) ys level = let (vs, is) = unions_with x ys level in let (ws, is') = unions_listed xs ys level in (
   vs ++ ws,
   λ r. (
-    λ h. elim ((among_both r vs ws).0 h) [
+    λ h. elim ((among_append r vs ws).0 h) [
       | inl a ↦ let u = (is r).0 a in record { first = x; second = u.second; in_first = inl refl; in_second = u.in_second; fit = u.fit; is = u.is; few = u.few }
       | inr b ↦ let u = (is' r).0 b in record { first = u.first; second = u.second; in_first = inr u.in_first; in_second = u.in_second; fit = u.fit; is = u.is; few = u.few }
     ],
-    λ u. (among_both r vs ws).1 (elim u.in_first [
+    λ u. (among_append r vs ws).1 (elim u.in_first [
       | inl e ↦ inl ((is r).1 (record { second = u.second; in_second = u.in_second; fit = subst (λ (w : Row). Fits w.state u.second.state) e u.fit; is = u.is ∙ ap (λ (w : Row). united_row w u.second) e; few = u.few }))
       | inr h ↦ inr ((is' r).1 (record { first = u.first; second = u.second; in_first = h; in_second = u.in_second; fit = u.fit; is = u.is; few = u.few }))
     ]),

@@ -8,7 +8,8 @@ use Rattle.mcs_sets.specs.Sets.{union, Within}
 use Rattle.mcs_base.specs.Listings.{IsAmong, IsListing}
 use Rattle.mcs_base.specs.Partials.{IsPartial}
 use Rattle.mcs_base.proofs.PartialLemmas.{united-partial}
-use Rattle.mcs_base.proofs.ListingLemmas.{all_from_among, listing_with_one, IsListing-same, IsListing-nil}
+use Rattle.mcs_base.proofs.ListingLemmas.{listing_with_one, IsListing-same, IsListing-nil}
+use Rattle.mcs_base.proofs.Each.{all_from_among}
 use Rattle.mcs_table.specs.declared.row.Row.{Row}
 use Rattle.mcs_table.specs.RowOrder.{RowBefore, row_cmp, row_cmp_total, row_equal_is}
 use Rattle.mcs_table.specs.Tables.{TableData, IsTable, IsRowOn, IsUnion, IsMinimalRow, IsJoin, unit_table}
@@ -44,7 +45,7 @@ least_of xs (y ∷ ys) = let (zs, is) = least_of xs ys in elim (smaller_or_none 
   )
 ]
 
-minimal_listed : (P : Row → Type 0) → Listed P → Listed (IsMinimalRow P)
+pub minimal_listed : (P : Row → Type 0) → Listed P → Listed (IsMinimalRow P)
 minimal_listed P listed = let (xs, is) = listed in let (zs, is') = least_of xs xs in (
   zs,
   λ r. (
@@ -74,12 +75,12 @@ in_order : (xs : List Row) → (ys : List Row) × IsListing (λ r. IsAmong r xs)
 in_order [] = ([], IsListing-nil before (λ r. IsAmong r []) (λ r h. h))
 in_order (x ∷ xs) = let (ys, l) = in_order xs in listing_with_one before transitive total (λ r. IsAmong r xs) x ys l
 
-listed_in_order : (scope : ℕ) (P : Row → Type 0) → ((r : Row) → P r → r.state.mask ≡ scope) → Listed P → (ys : List Row) × IsListing P RowBefore ys
+pub listed_in_order : (scope : ℕ) (P : Row → Type 0) → ((r : Row) → P r → r.state.mask ≡ scope) → Listed P → (ys : List Row) × IsListing P RowBefore ys
 unfolding before
 listed_in_order scope P masks listed = let (xs, is) = listed in let (ys, l) = in_order xs in
     (ys, listing_on_scope scope P ys masks (IsListing-same before (λ r. IsAmong r xs) P ys is l))
 
-join_exists : (a b : TableData) (level : ℕ) → IsTable a → IsTable b → (t : TableData) × IsTable t × IsJoin a b level t
+pub join_exists : (a b : TableData) (level : ℕ) → IsTable a → IsTable b → (t : TableData) × IsTable t × IsJoin a b level t
 join_exists a b level is_a is_b =
     let (rows, l) = listed_in_order (union a.scope b.scope) (IsMinimalRow (IsUnion a.rows b.rows level)) (λ r m. (on_both r m.one).mask) (minimal_listed (IsUnion a.rows b.rows level) (unions_listed a.rows b.rows level)) in (
       record { scope = union a.scope b.scope; rows = rows },

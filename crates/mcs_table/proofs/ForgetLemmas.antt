@@ -3,17 +3,18 @@ use Rattle.std.proofs.Common.{◌≡◌, ℕ, List, map, sym, ap, ◌∙◌, sub
 use Rattle.std.specs.List.{AllByRecursion}
 use Rattle.mcs_sets.specs.Sets.{common}
 use Rattle.mcs_base.specs.Listings.{IsAmong, IsListing}
-use Rattle.mcs_base.proofs.ListingLemmas.{all_from_among, map_among, IsListing-same}
+use Rattle.mcs_base.proofs.ListingLemmas.{IsListing-same}
+use Rattle.mcs_base.proofs.Among.{map_among, among_map}
+use Rattle.mcs_base.proofs.Each.{all_from_among}
 use Rattle.mcs_table.specs.declared.row.Row.{Row}
 use Rattle.mcs_table.specs.RowOrder.{RowBefore}
 use Rattle.mcs_table.specs.Tables.{TableData, IsTable, IsMinimalRow, IsRestriction, IsForgetting, restricted_row}
-use Rattle.mcs_table.proofs.AmongLemmas.{among_map}
 use Rattle.mcs_table.proofs.JoinLemmas.{minimal_as, row_of}
 
 pub restrictions : (xs : List Row) (keep : ℕ) (r : Row) → IsAmong r (map (λ (x : Row). restricted_row x keep) xs) ↔ IsRestriction xs keep r
 restrictions xs keep r = (
-  λ h. let (x, among, e) = among_map (λ (x : Row). restricted_row x keep) r xs h in record { row = x; among = among; is = e },
-  λ u. subst (λ (s : Row). IsAmong s (map (λ (x : Row). restricted_row x keep) xs)) (sym u.is) (map_among (λ (x : Row). restricted_row x keep) u.row xs u.among),
+  λ h. let (x, among, e) = map_among (λ (x : Row). restricted_row x keep) r xs h in record { row = x; among = among; is = e },
+  λ u. subst (λ (s : Row). IsAmong s (map (λ (x : Row). restricted_row x keep) xs)) (sym u.is) (among_map (λ (x : Row). restricted_row x keep) u.row xs u.among),
 )
 
 pub restricted_masks : (t : TableData) → IsTable t → (keep : ℕ) → AllByRecursion (λ (r : Row). r.state.mask ≡ common t.scope keep) (map (λ (x : Row). restricted_row x keep) t.rows)

@@ -1,24 +1,18 @@
 -- Collecting the unions of the rows of two tables.
-use Rattle.std.proofs.Common.{◌≡◌, ◌<◌, ◌≤◌, ℕ, ◌+◌, Bool, true, false, List, [], ◌++◌, map, length, get_or, take, refl, sym, ap, ◌∙◌, subst, inl, inr, ◌↔◌, arith}
+use Rattle.std.proofs.Common.{◌≡◌, ◌<◌, ◌≤◌, ℕ, ◌+◌, List, [], ◌++◌, map, length, get_or, take, refl, sym, ap, ◌∙◌, subst, inl, inr, ◌↔◌, arith}
 use Rattle.std.specs.List.{AllByRecursion}
 use Rattle.std.specs.List.Sorted.{IsPermutation}
-use Rattle.std.proofs.lemmas.List.Sorted.{Contains-permutation, IsPermutation-sym}
-use Rattle.mcs_sets.specs.Sets.{has, union, common, size, Meets}
-use Rattle.mcs_sets.proofs.SetLemmas.{size-union, below_power}
+use Rattle.mcs_sets.specs.Sets.{union, common, size}
+use Rattle.mcs_sets.proofs.Lattice.{size-union_apart}
 use Rattle.mcs_base.specs.Listings.{IsAmong, IsListing}
 use Rattle.mcs_base.specs.Partials.{Fits}
 use Rattle.mcs_base.proofs.PartialLemmas.{fits-where, where-fits}
-use Rattle.mcs_base.proofs.ListingLemmas.{all_among, all_from_among, map_among, IsListing-same, among_from_contains, contains_from_among}
+use Rattle.mcs_base.proofs.ListingLemmas.{IsListing-same}
+use Rattle.mcs_base.proofs.Among.{among_take_more, among_at, among_append, map_among, among_map, among_permutation}
+use Rattle.mcs_base.proofs.Each.{all_among, all_from_among}
 use Rattle.mcs_table.specs.declared.row.Row.{Row}
 use Rattle.mcs_table.specs.RowOrder.{RowBefore}
 use Rattle.mcs_table.specs.Tables.{TableData, IsTable, IsRowOn, AreApart, IsUnion, IsMinimalRow, IsJoin, united_row}
-use Rattle.mcs_table.proofs.AmongLemmas.{among_more, among_at, among_both, among_map}
-
-pub among_permutation : {A : Type 0} (xs ys : List A) → IsPermutation xs ys → (x : A) → IsAmong x ys ↔ IsAmong x xs
-among_permutation xs ys moved x = (
-  λ h. among_from_contains x xs (Contains-permutation ys xs x (IsPermutation-sym xs ys moved) (contains_from_among x ys h)),
-  λ h. among_from_contains x ys (Contains-permutation xs ys x moved (contains_from_among x xs h)),
-)
 
 -- what is minimal depends only on what there is
 pub minimal_as : (P Q : Row → Type 0) → ((r : Row) → P r ↔ Q r) → (r : Row) → IsMinimalRow P r ↔ IsMinimalRow Q r
@@ -51,14 +45,6 @@ module _ (a b : TableData) (is_a : IsTable a) (is_b : IsTable b) (x y : Row) (in
       let ry = row_of b is_b y in_b in
       ap (common y.state.values) (sym rx.mask) ∙ sym (fits-where x.state y.state rx.partial ry.partial fit) ∙ ap (common x.state.values) ry.mask
 
--- with no mark in common, the numbers of marks add up
-pub pair_size : (a b : ℕ) → ¬ Meets a b → size (union a b) ≡ size a + size b
-pair_size a b apart = size-union a b (a + b) (let p = below_power (a + b) in omega arith) (let p = below_power (a + b) in omega arith) (λ k is. at k is (has b k) refl)
-  where
-    at : (k : ℕ) → has a k ≡ true → (v : Bool) → has b k ≡ v → has b k ≡ false
-    at k is true e = absurd (apart (record { member = k; in_first = is; in_second = e }))
-    at k is false e = e
-
 pub union_more : (xs ys : List Row) (all : List Row) (level : ℕ) (r : Row) → ((s : Row) → IsAmong s xs → IsAmong s all) → IsUnion xs ys level r → IsUnion all ys level r
 union_more xs ys all level r more u = record { first = u.first; second = u.second; in_first = more u.first u.in_first; in_second = u.in_second; fit = u.fit; is = u.is; few = u.few }
 
@@ -67,10 +53,10 @@ module _ (a b : TableData) (is_a : IsTable a) (is_b : IsTable b) (apart : AreApa
   in_a = subst (λ (r : Row). IsAmong r a.rows) (sym here) (among_at a.rows i x less)
 
   old_union : (r : Row) → IsUnion (take i a.rows) b.rows level r → IsUnion (take (i + 1) a.rows) b.rows level r
-  old_union r u = union_more (take i a.rows) b.rows (take (i + 1) a.rows) level r (λ s h. (among_more a.rows i x less here s).1 (inl h)) u
+  old_union r u = union_more (take i a.rows) b.rows (take (i + 1) a.rows) level r (λ s h. (among_take_more a.rows i x less here s).1 (inl h)) u
 
   sizes : (y : Row) → IsAmong y b.rows → size (union x.marks y.marks) ≡ size x.marks + size y.marks
-  sizes y among = pair_size x.marks y.marks (apart x y in_a among)
+  sizes y among = size-union_apart x.marks y.marks (apart x y in_a among)
 
   union_size : (r y : Row) → IsAmong y b.rows → r ≡ united_row x y → size r.marks ≡ size x.marks + size y.marks
   union_size r y among e = ap (λ (s : Row). size s.marks) e ∙ sizes y among
@@ -80,7 +66,7 @@ module _ (a b : TableData) (is_a : IsTable a) (is_b : IsTable b) (apart : AreApa
   unions_skip many = record {
     exactly = λ r. (
       λ h. old_union r ((so_far.exactly r).0 h),
-      λ u. elim ((among_more a.rows i x less here u.first).0 u.in_first) [
+      λ u. elim ((among_take_more a.rows i x less here u.first).0 u.in_first) [
         | inl old ↦ (so_far.exactly r).1 (record { first = u.first; second = u.second; in_first = old; in_second = u.in_second; fit = u.fit; is = u.is; few = u.few })
         | inr e ↦ let whole = union_size r u.second u.in_second (u.is ∙ ap (λ (s : Row). united_row s u.second) e) in let few = u.few in absurd (omega arith)
       ],
@@ -101,7 +87,7 @@ module _ (a b : TableData) (is_a : IsTable a) (is_b : IsTable b) (apart : AreApa
         record {
           first = x;
           second = y;
-          in_first = (among_more a.rows i x less here x).1 (inr refl);
+          in_first = (among_take_more a.rows i x less here x).1 (inr refl);
           in_second = in_b;
           fit = pair_fits a b is_a is_b x y in_a in_b f.1;
           is = e;
@@ -115,16 +101,16 @@ module _ (a b : TableData) (is_a : IsTable a) (is_b : IsTable b) (apart : AreApa
     pub unions_more : AreUnions (take (i + 1) a.rows) b.rows level (unions ++ map (united_row x) found)
     unions_more = record {
       exactly = λ r. (
-        λ h. elim ((among_both r unions (map (united_row x) found)).0 h) [
+        λ h. elim ((among_append r unions (map (united_row x) found)).0 h) [
           | inl old ↦ old_union r ((so_far.exactly r).0 old)
-          | inr new ↦ let (y, among, e) = among_map (united_row x) r found new in new_union r y among e
+          | inr new ↦ let (y, among, e) = map_among (united_row x) r found new in new_union r y among e
         ],
-        λ u. (among_both r unions (map (united_row x) found)).1 (elim ((among_more a.rows i x less here u.first).0 u.in_first) [
+        λ u. (among_append r unions (map (united_row x) found)).1 (elim ((among_take_more a.rows i x less here u.first).0 u.in_first) [
           | inl old ↦ inl ((so_far.exactly r).1 (record { first = u.first; second = u.second; in_first = old; in_second = u.in_second; fit = u.fit; is = u.is; few = u.few }))
           | inr e ↦
               let is : r ≡ united_row x u.second = u.is ∙ ap (λ (s : Row). united_row s u.second) e in
               let fit : Fits x.state u.second.state = subst (λ (s : Row). Fits s.state u.second.state) e u.fit in
-              inr (subst (λ (s : Row). IsAmong s (map (united_row x) found)) (sym is) (map_among (united_row x) u.second found (is_found r u.second u.in_second fit is u.few)))
+              inr (subst (λ (s : Row). IsAmong s (map (united_row x) found)) (sym is) (among_map (united_row x) u.second found (is_found r u.second u.in_second fit is u.few)))
         ]),
       );
     }

@@ -1,9 +1,9 @@
 -- Several tables joined one after the other: the minimal unions of one row of each.
-use Rattle.std.proofs.Common.{◌≡◌, ◌≤◌, ℕ, Bool, true, false, ◌||◌, List, [], ◌∷◌, refl, sym, ap, ◌∙◌, subst, inl, inr, ◌⊎◌, ◌↔◌, arith, true≢false, IsTrue}
-use Rattle.std.proofs.lemmas.Bool.Decides.{nat_tests}
+use Rattle.std.proofs.Common.{◌≡◌, ◌≤◌, ℕ, true, List, [], ◌∷◌, refl, sym, ap, ◌∙◌, subst, inl, inr, ◌↔◌, arith, true≢false, IsTrue}
 use Rattle.std.specs.List.{AllByRecursion, AllZip}
 use Rattle.mcs_sets.specs.Sets.{has, union, size, Within}
-use Rattle.mcs_sets.proofs.SetLemmas.{has-union, has-empty, same_set, size-le, below_power, members-empty}
+use Rattle.mcs_sets.proofs.SetLemmas.{has-union, has-empty, members-empty}
+use Rattle.mcs_sets.proofs.Lattice.{union_assoc, union-none, none-union, in_union, within_union_left, within_union_right, unions_within, size_within}
 use Rattle.mcs_base.specs.Listings.{IsAmong, IsListing}
 use Rattle.mcs_base.specs.Partials.{PartialState, IsPartial, Fits, united}
 use Rattle.mcs_base.proofs.PartialLemmas.{united-partial}
@@ -15,50 +15,9 @@ use Rattle.mcs_table.specs.Joins.{JoinsFrom, union_of, united_rows, FitTogether,
 use Rattle.mcs_table.proofs.JoinLemmas.{row_of, minimal_as}
 use Rattle.mcs_table.proofs.CoverLemmas.{Covers, Covers-trans, covers_same, minimal_covers, unions_listed}
 
--- ---- unions of sets
-pub union-assoc : (a b c : ℕ) → union (union a b) c ≡ union a (union b c)
-union-assoc a b c = same_set _ _ (λ k. has-union (union a b) c k ∙ (ap (λ x. x || has c k) (has-union a b k) ∙ (or_assoc (has a k) (has b k) (has c k) ∙ (ap (λ x. has a k || x) (sym (has-union b c k)) ∙ sym (has-union a (union b c) k)))))
-  where
-    or_assoc : (x y z : Bool) → ((x || y) || z) ≡ (x || (y || z))
-    or_assoc true y z = refl
-    or_assoc false y z = refl
-
-pub union-none : (a : ℕ) → union a 0 ≡ a
-union-none a = same_set _ _ (λ k. has-union a 0 k ∙ (ap (λ x. has a k || x) (has-empty k) ∙ or_false (has a k)))
-  where
-    or_false : (x : Bool) → (x || false) ≡ x
-    or_false true = refl
-    or_false false = refl
-
-pub none-union : (a : ℕ) → union 0 a ≡ a
-none-union a = same_set _ _ (λ k. has-union 0 a k ∙ ap (λ x. x || has a k) (has-empty k))
-
-pub in_union : (a b k : ℕ) → has (union a b) k ≡ true → (has a k ≡ true) ⊎ (has b k ≡ true)
-in_union a b k h = at (has a k) refl (sym (has-union a b k) ∙ h)
-  where
-    at : (x : Bool) → has a k ≡ x → (has a k || has b k) ≡ true → (has a k ≡ true) ⊎ (has b k ≡ true)
-    at true e h = inl e
-    at false e h = inr (sym (ap (λ x. x || has b k) e) ∙ h)
-
-pub union_left : (a b k : ℕ) → has a k ≡ true → has (union a b) k ≡ true
-union_left a b k h = has-union a b k ∙ ap (λ x. x || has b k) h
-
-pub union_right : (a b k : ℕ) → has b k ≡ true → has (union a b) k ≡ true
-union_right a b k h = has-union a b k ∙ at (has a k) (has b k) h
-  where
-    at : (x y : Bool) → y ≡ true → (x || y) ≡ true
-    at true y e = refl
-    at false y e = e
-
-pub union_within : (a b c : ℕ) → Within a b → Within (union a c) (union b c)
-union_within a b c within k h = elim (in_union a c k h) [ inl e ↦ union_left b c k (within k e) | inr e ↦ union_right b c k e ]
-
-pub fewer : (a b level : ℕ) → Within a b → size b ≤ level → size a ≤ level
-fewer a b level within few = let le = size-le a b b (below_power b) within in omega arith
-
 -- ---- unions of rows
 pub united-assoc : (x y z : Row) → united_row (united_row x y) z ≡ united_row x (united_row y z)
-united-assoc x y z = same_row _ _ (union-assoc x.state.mask y.state.mask z.state.mask) (union-assoc x.state.values y.state.values z.state.values) (union-assoc x.marks y.marks z.marks)
+united-assoc x y z = same_row _ _ (union_assoc x.state.mask y.state.mask z.state.mask) (union_assoc x.state.values y.state.values z.state.values) (union_assoc x.marks y.marks z.marks)
 
 pub united-unit : (x : Row) → united_row x unit_row ≡ x
 united-unit x = same_row _ _ (union-none x.state.mask) (union-none x.state.values) (union-none x.marks)
@@ -71,50 +30,16 @@ fits-sym s t fit v in_t in_s = sym (fit v in_s in_t)
 
 -- who fits a union fits each of its parts
 fits_first : (s t u : PartialState) → IsPartial t → Fits s t → Fits (united s t) u → Fits s u
-fits_first s t u partial fit both v in_s in_u = at (has t.mask v) refl
-  where
-    joint : (has s.values v || has t.values v) ≡ has u.values v
-    joint = sym (has-union s.values t.values v) ∙ both v (union_left s.mask t.mask v in_s) in_u
-
-    at : (b : Bool) → has t.mask v ≡ b → has s.values v ≡ has u.values v
-    at true e = let same = fit v in_s e in let known = joint in grind (arith, nat_tests)
-    at false e = none (has t.values v) refl
-      where
-        none : (b : Bool) → has t.values v ≡ b → has s.values v ≡ has u.values v
-        none true e' = absurd (true≢false (sym (partial.of_mask v e') ∙ e))
-        none false e' = let known = joint in grind (arith, nat_tests)
+fits_first s t u partial fit both v in_s in_u = let same = fit v in let joint = both v in let inside = partial.of_mask v in grind (arith, has-union)
 
 fits_second : (s t u : PartialState) → IsPartial s → Fits s t → Fits (united s t) u → Fits t u
-fits_second s t u partial fit both v in_t in_u = at (has s.mask v) refl
-  where
-    joint : (has s.values v || has t.values v) ≡ has u.values v
-    joint = sym (has-union s.values t.values v) ∙ both v (union_right s.mask t.mask v in_t) in_u
-
-    at : (b : Bool) → has s.mask v ≡ b → has t.values v ≡ has u.values v
-    at true e = let same = fit v e in_t in let known = joint in grind (arith, nat_tests)
-    at false e = none (has s.values v) refl
-      where
-        none : (b : Bool) → has s.values v ≡ b → has t.values v ≡ has u.values v
-        none true e' = absurd (true≢false (sym (partial.of_mask v e') ∙ e))
-        none false e' = let known = joint in grind (arith, nat_tests)
+fits_second s t u partial fit both v in_t in_u = let same = fit v in let joint = both v in let inside = partial.of_mask v in grind (arith, has-union)
 
 -- who fits both parts fits their union
 fits_union : (s t u : PartialState) → IsPartial s → IsPartial t → Fits s t → Fits s u → Fits t u → Fits (united s t) u
-fits_union s t u partial_s partial_t fit first second v in_both in_u = has-union s.values t.values v ∙ at (has s.mask v) refl (has t.mask v) refl
-  where
-    at : (a : Bool) → has s.mask v ≡ a → (b : Bool) → has t.mask v ≡ b → (has s.values v || has t.values v) ≡ has u.values v
-    at true e true e' = let one = first v e in_u in let other = second v e' in_u in grind (arith, nat_tests)
-    at true e false e' = let one = first v e in_u in none (has t.values v) refl
-      where
-        none : (b : Bool) → has t.values v ≡ b → (has s.values v || has t.values v) ≡ has u.values v
-        none true e'' = absurd (true≢false (sym (partial_t.of_mask v e'') ∙ e'))
-        none false e'' = let one = first v e in_u in grind (arith, nat_tests)
-    at false e true e' = none (has s.values v) refl
-      where
-        none : (b : Bool) → has s.values v ≡ b → (has s.values v || has t.values v) ≡ has u.values v
-        none true e'' = absurd (true≢false (sym (partial_s.of_mask v e'') ∙ e))
-        none false e'' = let other = second v e' in_u in grind (arith, nat_tests)
-    at false e false e' = absurd (elim (in_union s.mask t.mask v in_both) [ inl h ↦ true≢false (sym h ∙ e) | inr h ↦ true≢false (sym h ∙ e') ])
+fits_union s t u partial_s partial_t fit first second v in_both in_u =
+    let same = fit v in let one = first v in let other = second v in let inside_s = partial_s.of_mask v in let inside_t = partial_t.of_mask v in
+    grind (arith, has-union)
 
 -- ---- one more table
 -- the union of a row for which S holds and one of the list
@@ -132,9 +57,9 @@ union_covers S xs ys level c = record {
   from = λ r u. record { first = u.first; second = u.second; holds = c.from u.first u.in_first; in_second = u.in_second; fit = u.fit; is = u.is; few = u.few };
   below = λ r u.
       let (m, among, state, within) = c.below u.first u.holds in
-      let inside : Within (union m.marks u.second.marks) r.marks = λ k h. subst (λ (w : Row). IsTrue (has w.marks k)) (sym u.is) (union_within m.marks u.first.marks u.second.marks within k h) in (
+      let inside : Within (union m.marks u.second.marks) r.marks = λ k h. subst (λ (w : Row). IsTrue (has w.marks k)) (sym u.is) (unions_within m.marks u.second.marks u.first.marks u.second.marks within (λ j h. h) k h) in (
         united_row m u.second,
-        record { first = m; second = u.second; in_first = among; in_second = u.in_second; fit = subst (λ (s : PartialState). Fits s u.second.state) (sym state) u.fit; is = refl; few = fewer (union m.marks u.second.marks) r.marks level inside u.few },
+        record { first = m; second = u.second; in_first = among; in_second = u.in_second; fit = subst (λ (s : PartialState). Fits s u.second.state) (sym state) u.fit; is = refl; few = (let le = size_within (union m.marks u.second.marks) r.marks inside in omega arith) },
         ap (λ (s : PartialState). united s u.second.state) state ∙ sym (ap (λ (w : Row). w.state) u.is),
         inside,
       );
@@ -151,14 +76,23 @@ covers_listing P xs c l = record {
   below = λ r p. let (m, minimal, state, within) = c.below r p in (m, (l.exactly m).1 minimal, state, within);
 }
 
-pub join_presents : (S : Row → Type 0) (from a next : TableData) (level : ℕ) → Presents S from → IsJoin from a level next → Presents (IsUnionOf S a.rows level) next
-join_presents S from a next level p j =
-    let unions = union_covers S from.rows a.rows level p.covers in
+pub join_presents : (S : Row → Type 0) (from a next : TableData) (level : ℕ) → Covers (λ r. IsAmong r from.rows) S → IsJoin from a level next → Presents (IsUnionOf S a.rows level) next
+join_presents S from a next level covers j =
+    let unions = union_covers S from.rows a.rows level covers in
     record {
       rows = IsListing-same RowBefore _ _ next.rows (covers_same (IsUnion from.rows a.rows level) (IsUnionOf S a.rows level) unions) j.rows;
       covers = Covers-trans (λ r. IsAmong r next.rows) (IsUnion from.rows a.rows level) (IsUnionOf S a.rows level)
           (covers_listing (IsUnion from.rows a.rows level) next.rows (minimal_covers (IsUnion from.rows a.rows level) (unions_listed from.rows a.rows level)) j.rows) unions;
     }
+
+pub covers_alike : (P Q : Row → Type 0) → ((r : Row) → P r ↔ Q r) → Covers P Q
+covers_alike P Q same = record { from = λ r p. (same r).0 p; below = λ r q. (r, (same r).1 q, refl, λ k h. h) }
+
+pub presents_alike : (S T : Row → Type 0) (t : TableData) → ((r : Row) → S r ↔ T r) → Presents S t → Presents T t
+presents_alike S T t same p = record {
+  rows = IsListing-same RowBefore _ _ t.rows (minimal_as S T same) p.rows;
+  covers = Covers-trans (λ r. IsAmong r t.rows) S T p.covers (covers_alike S T same);
+}
 
 -- ---- table after table
 abbrev pub UnionsFrom : ℕ → (Row → Type 0) → List TableData → Row → Type 0
@@ -167,21 +101,21 @@ UnionsFrom level S (a ∷ rest) = UnionsFrom level (IsUnionOf S a.rows level) re
 
 joins_present : (level : ℕ) (tables : List TableData) (S : Row → Type 0) (from t : TableData) → Presents S from → JoinsFrom level from tables t → Presents (UnionsFrom level S tables) t
 joins_present level [] S from t p e = subst (Presents S) (sym e) p
-joins_present level (a ∷ rest) S from t p (next, j, later) = joins_present level rest (IsUnionOf S a.rows level) next t (join_presents S from a next level p j) later
+joins_present level (a ∷ rest) S from t p (next, j, later) = joins_present level rest (IsUnionOf S a.rows level) next t (join_presents S from a next level p.covers j) later
 
 joins_scope : (level : ℕ) (tables : List TableData) (from t : TableData) → JoinsFrom level from tables t → t.scope ≡ union from.scope (union_of (λ (a : TableData). a.scope) tables)
 joins_scope level [] from t e = ap (λ (a : TableData). a.scope) e ∙ sym (union-none from.scope)
 joins_scope level (a ∷ rest) from t (next, j, later) =
-    joins_scope level rest next t later ∙ (ap (λ s. union s (union_of (λ (b : TableData). b.scope) rest)) j.scope ∙ union-assoc from.scope a.scope (union_of (λ (b : TableData). b.scope) rest))
+    joins_scope level rest next t later ∙ (ap (λ s. union s (union_of (λ (b : TableData). b.scope) rest)) j.scope ∙ union_assoc from.scope a.scope (union_of (λ (b : TableData). b.scope) rest))
 
--- a row for which S holds, and one of each table, which fit together
+-- a row for which S holds, and the joint row of others, the parts of which fit it too
 pub record IsFrom (S : Row → Type 0) (level : ℕ) (tables : List TableData) (r : Row) : Type 0 where
   pub first : Row
   pub holds : S first
-  pub parts : List Row
-  pub of_tables : AllZip (λ (p : Row) (t : TableData). IsAmong p t.rows) parts tables
-  pub fit : FitTogether (first ∷ parts)
-  pub is : r ≡ united_row first (united_rows parts)
+  pub others : Row
+  pub joint : IsJointRow level tables others
+  pub fit : FitTogether (first ∷ joint.parts)
+  pub is : r ≡ united_row first others
   pub few : size r.marks ≤ level
 
 fit_alone : (x : Row) → FitTogether (x ∷ [])
@@ -229,17 +163,35 @@ fit_joined x y parts partial_x partial_y all p q in_p in_q = at p q in_p in_q
     at p q (inr h) (inr k) = all p q (inr (inr h)) (inr (inr k))
 
 unions_to_parts : (level : ℕ) (tables : List TableData) → AllByRecursion IsTable tables → (S : Row → Type 0) → ((r : Row) → S r → IsPartial r.state) → ((r : Row) → S r → size r.marks ≤ level) → (r : Row) → UnionsFrom level S tables r → IsFrom S level tables r
-unions_to_parts level [] all S partial few r s = record { first = r; holds = s; parts = []; of_tables = tt; fit = fit_alone r; is = sym (united-unit r); few = few r s }
+unions_to_parts level [] all S partial few r s = record {
+  first = r;
+  holds = s;
+  others = unit_row;
+  joint = record { parts = []; of_tables = tt; fit = λ p q none. absurd none; is = refl; few = rw members-empty (omega arith) };
+  fit = fit_alone r;
+  is = sym (united-unit r);
+  few = few r s;
+}
 unions_to_parts level (a ∷ rest) all S partial few r u =
     let later = unions_to_parts level rest all.1 (IsUnionOf S a.rows level) (λ q h. subst (λ (w : Row). IsPartial w.state) (sym h.is) (united-partial h.first.state h.second.state (partial h.first h.holds) (row_of a all.0 h.second h.in_second).partial)) (λ q h. h.few) r u in
     let h = later.holds in
+    let parts = h.second ∷ later.joint.parts in
+    let fit : FitTogether (h.first ∷ parts) = fit_split h.first h.second later.joint.parts (partial h.first h.holds) (row_of a all.0 h.second h.in_second).partial h.fit (subst (λ (w : Row). FitTogether (w ∷ later.joint.parts)) h.is later.fit) in
+    let whole : r ≡ united_row h.first (united_row h.second later.others) = later.is ∙ (ap (λ (w : Row). united_row w later.others) h.is ∙ united-assoc h.first h.second later.others) in
+    let inside : Within (union h.second.marks later.others.marks) r.marks = λ k is. subst (λ (w : Row). IsTrue (has w.marks k)) (sym whole) (within_union_right h.first.marks (union h.second.marks later.others.marks) k is) in
     record {
       first = h.first;
       holds = h.holds;
-      parts = h.second ∷ later.parts;
-      of_tables = (h.in_second, later.of_tables);
-      fit = fit_split h.first h.second later.parts (partial h.first h.holds) (row_of a all.0 h.second h.in_second).partial h.fit (subst (λ (w : Row). FitTogether (w ∷ later.parts)) h.is later.fit);
-      is = later.is ∙ (ap (λ (w : Row). united_row w (united_rows later.parts)) h.is ∙ united-assoc h.first h.second (united_rows later.parts));
+      others = united_row h.second later.others;
+      joint = record {
+        parts = parts;
+        of_tables = (h.in_second, later.joint.of_tables);
+        fit = λ p q in_p in_q. fit p q (inr in_p) (inr in_q);
+        is = ap (united_row h.second) later.joint.is;
+        few = (let le = size_within (union h.second.marks later.others.marks) r.marks inside in let few = later.few in omega arith);
+      };
+      fit = fit;
+      is = whole;
       few = later.few;
     }
 
@@ -250,26 +202,23 @@ parts_to_unions level (a ∷ rest) all S partial r first s [] zip fit is few = a
 parts_to_unions level (a ∷ rest) all S partial r first s (p ∷ parts) zip fit is few =
     let partial_p : IsPartial p.state = (row_of a all.0 p zip.0).partial in
     let whole : r ≡ united_row (united_row first p) (united_rows parts) = is ∙ sym (united-assoc first p (united_rows parts)) in
-    let inside : Within (union first.marks p.marks) r.marks = λ k h. subst (λ (w : Row). IsTrue (has w.marks k)) (sym whole) (union_left (union first.marks p.marks) (united_rows parts).marks k h) in
+    let inside : Within (union first.marks p.marks) r.marks = λ k h. subst (λ (w : Row). IsTrue (has w.marks k)) (sym whole) (within_union_left (union first.marks p.marks) (united_rows parts).marks k h) in
     parts_to_unions level rest all.1 (IsUnionOf S a.rows level) (λ q h. subst (λ (w : Row). IsPartial w.state) (sym h.is) (united-partial h.first.state h.second.state (partial h.first h.holds) (row_of a all.0 h.second h.in_second).partial))
     r (united_row first p)
-    (record { first = first; second = p; holds = s; in_second = zip.0; fit = fit first p (inl refl) (inr (inl refl)); is = refl; few = fewer (union first.marks p.marks) r.marks level inside few })
+    (record { first = first; second = p; holds = s; in_second = zip.0; fit = fit first p (inl refl) (inr (inl refl)); is = refl; few = (let le = size_within (union first.marks p.marks) r.marks inside in omega arith) })
     parts zip.1 (fit_joined first p parts (partial first s) partial_p fit) whole few
 
 -- ---- beginning with the table of no variables
-is_unit : Row → Type 0
+abbrev pub is_unit : Row → Type 0
 is_unit r = r ≡ unit_row
 
 unit_partial : (r : Row) → is_unit r → IsPartial r.state
-unfolding is_unit
 unit_partial r e = subst (λ (w : Row). IsPartial w.state) (sym e) (record { of_mask = λ k h. h; small = omega arith })
 
 unit_few : (level : ℕ) (r : Row) → is_unit r → size r.marks ≤ level
-unfolding is_unit
 unit_few level r e = subst (λ (w : Row). size w.marks ≤ level) (sym e) (rw members-empty (omega arith))
 
-unit_presents : Presents is_unit unit_table
-unfolding is_unit
+pub unit_presents : Presents is_unit unit_table
 unit_presents = record {
   rows = record {
     exactly = λ r. (
@@ -286,17 +235,10 @@ unit_fits parts fit p q (inl e) k = subst (λ (w : Row). Fits w.state q.state) (
 unit_fits parts fit p q (inr h) (inl e) = subst (λ (w : Row). Fits p.state w.state) (sym e) (λ v in_p in_none. absurd (true≢false (sym in_none ∙ has-empty v)))
 unit_fits parts fit p q (inr h) (inr k) = fit p q h k
 
-joint_is : (level : ℕ) (tables : List TableData) → AllByRecursion IsTable tables → (r : Row) → UnionsFrom level is_unit tables r ↔ IsJointRow level tables r
-unfolding is_unit
+pub joint_is : (level : ℕ) (tables : List TableData) → AllByRecursion IsTable tables → (r : Row) → UnionsFrom level is_unit tables r ↔ IsJointRow level tables r
 joint_is level tables all r = (
   λ u. let f = unions_to_parts level tables all is_unit unit_partial (unit_few level) r u in
-      record {
-        parts = f.parts;
-        of_tables = f.of_tables;
-        fit = λ p q h k. f.fit p q (inr h) (inr k);
-        is = f.is ∙ (ap (λ (w : Row). united_row w (united_rows f.parts)) f.holds ∙ unit-united (united_rows f.parts));
-        few = f.few;
-      },
+      subst (IsJointRow level tables) (sym (f.is ∙ (ap (λ (w : Row). united_row w f.others) f.holds ∙ unit-united f.others))) f.joint,
   λ j. parts_to_unions level tables all is_unit unit_partial r unit_row refl j.parts j.of_tables (unit_fits j.parts j.fit) (j.is ∙ sym (unit-united (united_rows j.parts))) j.few,
 )
 
@@ -309,19 +251,21 @@ joins_are_minimal level tables t all joins =
     }
 
 -- ---- no mark in common
+pub join_apart : (level : ℕ) (a b t c : TableData) → IsJoin a b level t → AreApart a.rows c.rows → AreApart b.rows c.rows → AreApart t.rows c.rows
+join_apart level a b t c j first second x y in_x in_y meets =
+    let u = ((j.rows.exactly x).0 in_x).one in
+    let is_in : has (union u.first.marks u.second.marks) meets.member ≡ true = subst (λ (w : Row). has w.marks meets.member ≡ true) u.is meets.in_first in
+    elim (in_union u.first.marks u.second.marks meets.member is_in) [
+      | inl h ↦ first u.first y u.in_first in_y (record { member = meets.member; in_first = h; in_second = meets.in_second })
+      | inr h ↦ second u.second y u.in_second in_y (record { member = meets.member; in_first = h; in_second = meets.in_second })
+    ]
+
+pub unit_apart : (c : TableData) → AreApart unit_table.rows c.rows
+unit_apart c x y in_x in_y meets = elim in_x [ inl e ↦ true≢false (sym (subst (λ (w : Row). has w.marks meets.member ≡ true) e meets.in_first) ∙ has-empty meets.member) | inr none ↦ none ]
+
 apart_joined : (level : ℕ) (tables : List TableData) (from t c : TableData) → AreApart from.rows c.rows → JoinsFrom level from tables t → AllByRecursion (λ (a : TableData). AreApart a.rows c.rows) tables → AreApart t.rows c.rows
 apart_joined level [] from t c apart e all = subst (λ (a : TableData). AreApart a.rows c.rows) (sym e) apart
-apart_joined level (a ∷ rest) from t c apart (next, j, later) all = apart_joined level rest next t c
-    (λ x y in_x in_y meets.
-    let u = ((j.rows.exactly x).0 in_x).one in
-    let in_union' : has (union u.first.marks u.second.marks) meets.member ≡ true = subst (λ (w : Row). has w.marks meets.member ≡ true) u.is meets.in_first in
-    elim (in_union u.first.marks u.second.marks meets.member in_union') [
-      | inl h ↦ apart u.first y u.in_first in_y (record { member = meets.member; in_first = h; in_second = meets.in_second })
-      | inr h ↦ all.0 u.second y u.in_second in_y (record { member = meets.member; in_first = h; in_second = meets.in_second })
-    ])
-    later all.1
+apart_joined level (a ∷ rest) from t c apart (next, j, later) all = apart_joined level rest next t c (join_apart level from a next c j apart all.0) later all.1
 
 pub joins_apart : JoinsStayApart
-joins_apart level tables t c joins all = apart_joined level tables unit_table t c
-    (λ x y in_x in_y meets. elim in_x [ inl e ↦ true≢false (sym (subst (λ (w : Row). has w.marks meets.member ≡ true) e meets.in_first) ∙ has-empty meets.member) | inr none ↦ none ])
-    joins all
+joins_apart level tables t c joins all = apart_joined level tables unit_table t c (unit_apart c) joins all

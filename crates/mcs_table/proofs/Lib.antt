@@ -1,4 +1,3 @@
-pub mod AmongLemmas
 pub mod OrderLemmas
 pub mod TableLemmas
 pub mod MarkLemmas
@@ -12,3 +11,4 @@ pub mod OrderFreeLemmas
 pub mod CommuteLemmas
 pub mod ExistLemmas
 pub mod ApartLemmas
+pub mod EliminationLemmas

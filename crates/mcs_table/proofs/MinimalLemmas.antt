@@ -1,21 +1,22 @@
 -- Keeping the minimal rows of an ascending list.
 use Rattle.std.proofs.lemmas.Bool.Decides.{nat_tests}
-use Rattle.std.proofs.Common.{◌≤◌, true, false, not, ◌&&◌, eqb, suc, ◌≡◌, ◌<◌, ◌-◌, ℕ, ◌+◌, List, [], ◌∷◌, ◌++◌, length, get_or, take, drop, refl, sym, ap, ◌∙◌, subst, inl, inr, ◌⊎◌, ◌↔◌, arith}
+use Rattle.std.proofs.Common.{◌≤◌, true, false, not, ◌&&◌, eqb, ◌≡◌, ◌<◌, ◌-◌, ℕ, ◌+◌, List, [], ◌∷◌, ◌++◌, length, get_or, take, drop, refl, sym, ap, ◌∙◌, subst, inl, inr, ◌⊎◌, ◌↔◌, arith}
 use Rattle.std.proofs.Math.ListN.{set}
 use Rattle.std.proofs.lemmas.List.{drop-drop, get_or-drop, drop-set-lt, take_more_set, length-set}
 use Rattle.std.specs.List.{AllByRecursion}
 use Rattle.mcs_sets.specs.Sets.{Within}
 use Rattle.mcs_sets.specs.Orders.{StateBefore}
 use Rattle.mcs_sets.proofs.SetLemmas.{not_before_itself}
+use Rattle.mcs_sets.proofs.Lattice.{within_antisymmetric, not_within_before}
 use Rattle.mcs_base.specs.Listings.{IsAscending, IsAmong, IsListing}
 use Rattle.mcs_base.specs.Partials.{PartialState}
 use Rattle.mcs_base.specs.StateOrder.{StateBefore-transitive}
-use Rattle.mcs_base.proofs.ListingLemmas.{all_among, all_from_among}
+use Rattle.mcs_base.proofs.Among.{among_take_more, among_at, take_among, among_push, among_parts, among_drop_more}
+use Rattle.mcs_base.proofs.Ascending.{before_at, ascending_push}
+use Rattle.mcs_base.proofs.Each.{all_among, all_from_among}
 use Rattle.mcs_table.specs.declared.row.Row.{Row}
 use Rattle.mcs_table.specs.RowOrder.{RowBefore, same_row}
 use Rattle.mcs_table.specs.Tables.{IsTable, IsRowOn, IsCovered, IsMinimalRow}
-use Rattle.mcs_table.proofs.AmongLemmas.{among_push, among_at, among_from, among_parts, among_front, among_more, ascending_push, before_at}
-use Rattle.mcs_table.proofs.MarkLemmas.{Within-antisymmetric, not_within_before}
 
 pub row_is : (a b : Row) → a.state ≡ b.state → a.marks ≡ b.marks → a ≡ b
 row_is a b states marks = same_row a b (ap (λ (s : PartialState). s.mask) states) (ap (λ (s : PartialState). s.values) states) marks
@@ -79,7 +80,7 @@ minimal_end P xs kept is so_far = record {
       least = λ s p state within.
           let c = so_far.covers s ((is s).1 p) in
           let same : c.by ≡ r = so_far.apart r c.by among c.among (c.state ∙ state) (λ k h. within k (c.within k h)) in
-          Within-antisymmetric s.marks r.marks within (λ k h. c.within k (subst (λ (y : Row). Within r.marks y.marks) (sym same) (λ j h'. h') k h));
+          within_antisymmetric s.marks r.marks within (λ k h. c.within k (subst (λ (y : Row). Within r.marks y.marks) (sym same) (λ j h'. h') k h));
     },
     λ m. let c = so_far.covers r ((is r).1 m.one) in
         let same : c.by ≡ r = row_is c.by r c.state (m.least c.by ((is c.by).0 (so_far.from c.by c.among)) c.state c.within) in
@@ -108,7 +109,7 @@ none_before x y row masks differ later earlier same = not_before_itself row.stat
 -- x is the one before those that have been looked at
 module _ (kept : List Row) (row : Row) (i : ℕ) (x : Row) (some : 0 < i) (less : i - 1 < length kept) (here : x ≡ get_or kept (i - 1) x) (past : ¬ IsCovered (drop i kept) row) where
   from_here : (y : Row) → IsAmong y (drop (i - 1) kept) → (y ≡ x) ⊎ IsAmong y (drop i kept)
-  from_here y h = let e : suc (i - 1) ≡ i = omega arith in subst (λ n. (y ≡ x) ⊎ IsAmong y (drop n kept)) e (among_from kept (i - 1) x less here y h)
+  from_here y h = let e : i - 1 + 1 ≡ i = omega arith in subst (λ n. (y ≡ x) ⊎ IsAmong y (drop n kept)) e (rw here ((among_drop_more kept (i - 1) x less y).0 h))
 
   pub not_here : ¬ Within x.marks row.marks → ¬ IsCovered (drop (i - 1) kept) row
   not_here not h = elim (from_here h.by h.among) [
@@ -146,7 +147,7 @@ states_same s t e =
 -- ---- the loop over the rows of a table
 module _ (scope : ℕ) (items kept : List Row) (i : ℕ) (table : IsTable (record { scope = scope; rows = items })) (so_far : MinimalSoFar (take i items) kept) where
   kept_row : (r : Row) → IsAmong r kept → IsAmong r items
-  kept_row r among = among_front items i r (so_far.from r among)
+  kept_row r among = take_among items i r (so_far.from r among)
 
   pub kept_table : IsTable (record { scope = scope; rows = kept })
   kept_table = record {
@@ -168,10 +169,10 @@ module _ (scope : ℕ) (items kept : List Row) (i : ℕ) (table : IsTable (recor
     all_earlier = all_from_among (λ (r : Row). RowBefore r row) kept earlier
 
     pub same_more : IsCovered kept row → MinimalSoFar (take (i + 1) items) kept
-    same_more h = minimal_same (take i items) (take (i + 1) items) kept row (among_more items i row less here) so_far h
+    same_more h = minimal_same (take i items) (take (i + 1) items) kept row (among_take_more items i row less here) so_far h
 
     pub push_more : ¬ IsCovered kept row → MinimalSoFar (take (i + 1) items) (kept ++ row ∷ [])
-    push_more not = minimal_more (take i items) (take (i + 1) items) kept row (among_more items i row less here) so_far earlier not (ascending_push RowBefore kept row so_far.ascending earlier)
+    push_more not = minimal_more (take i items) (take (i + 1) items) kept row (among_take_more items i row less here) so_far earlier not (ascending_push RowBefore kept row so_far.ascending earlier)
 
 -- ---- in place: the first ones are those that are kept, and those from i on are as they were
 pub record KeptInPlace (all rows : List Row) (i kept : ℕ) : Type 0 where

@@ -1,22 +1,23 @@
 -- The order in which tables are joined makes no difference.
-use Rattle.std.proofs.Common.{◌≡◌, ◌<◌, ℕ, zero, suc, true, List, [], ◌∷◌, length, get_or, refl, sym, ap, ◌∙◌, subst, inl, inr, ◌↔◌, arith, true≢false}
-use Rattle.std.proofs.Math.ListN.{set}
-use Rattle.std.specs.List.{AllByRecursion, AllZip, swap}
+use Rattle.std.proofs.Common.{◌≡◌, ◌<◌, ℕ, true, List, [], ◌∷◌, length, refl, sym, ap, ◌∙◌, subst, inl, inr, ◌↔◌, arith, true≢false}
+use Rattle.std.specs.List.{AllByRecursion, swap}
 use Rattle.std.specs.List.Sorted.{IsPermutation}
-use Rattle.std.proofs.lemmas.List.Edits.{swap_is}
 use Rattle.std.proofs.lemmas.List.Sorted.{IsPermutation-keeps, IsPermutation-swap, IsPermutation-sym}
 use Rattle.mcs_sets.specs.Sets.{has}
 use Rattle.mcs_sets.proofs.SetLemmas.{has-empty}
+use Rattle.mcs_sets.proofs.Lattice.{within_antisymmetric, in_union, within_union_left, within_union_right}
 use Rattle.mcs_base.specs.Listings.{IsAmong}
-use Rattle.mcs_base.proofs.ListingLemmas.{all_among, all_from_among, same_listing, IsListing-same}
+use Rattle.mcs_base.proofs.ListingLemmas.{same_listing, IsListing-same}
+use Rattle.mcs_base.proofs.Each.{all_among, all_from_among}
+use Rattle.mcs_base.proofs.Among.{among_permutation}
+use Rattle.mcs_base.proofs.Lists.{zip_swap, length_zip}
 use Rattle.mcs_table.specs.declared.row.Row.{Row}
 use Rattle.mcs_table.specs.RowOrder.{RowBefore, same_row}
 use Rattle.mcs_table.specs.Tables.{TableData, IsTable, IsMinimalRow, unit_row, unit_table}
 use Rattle.mcs_table.specs.Joins.{union_of, IsJointRow, JoinsIgnoreOrder}
-use Rattle.mcs_table.proofs.MarkLemmas.{Within-antisymmetric}
 use Rattle.mcs_table.proofs.OrderLemmas.{RowBefore-asymmetric}
-use Rattle.mcs_table.proofs.JoinLemmas.{among_permutation, minimal_as}
-use Rattle.mcs_table.proofs.JointLemmas.{in_union, union_left, union_right, joins_are_minimal}
+use Rattle.mcs_table.proofs.JoinLemmas.{minimal_as}
+use Rattle.mcs_table.proofs.JointLemmas.{joins_are_minimal}
 
 module _ {A : Type 0} (f : A → ℕ) where
   pub in_some : (xs : List A) (k : ℕ) → has (union_of f xs) k ≡ true → (x : A) × IsAmong x xs × (has (f x) k ≡ true)
@@ -28,50 +29,20 @@ module _ {A : Type 0} (f : A → ℕ) where
 
   pub some_in : (xs : List A) (k : ℕ) (x : A) → IsAmong x xs → has (f x) k ≡ true → has (union_of f xs) k ≡ true
   some_in [] k x among h = absurd among
-  some_in (y ∷ ys) k x (inl e) h = union_left (f y) (union_of f ys) k (subst (λ (z : A). has (f z) k ≡ true) e h)
-  some_in (y ∷ ys) k x (inr among) h = union_right (f y) (union_of f ys) k (some_in ys k x among h)
+  some_in (y ∷ ys) k x (inl e) h = within_union_left (f y) (union_of f ys) k (subst (λ (z : A). has (f z) k ≡ true) e h)
+  some_in (y ∷ ys) k x (inr among) h = within_union_right (f y) (union_of f ys) k (some_in ys k x among h)
 
   -- it depends only on what is in the list
   pub union_of-same : (xs ys : List A) → ((x : A) → IsAmong x xs ↔ IsAmong x ys) → union_of f xs ≡ union_of f ys
-  union_of-same xs ys same = Within-antisymmetric (union_of f xs) (union_of f ys)
+  union_of-same xs ys same = within_antisymmetric (union_of f xs) (union_of f ys)
       (λ k h. let (x, among, e) = in_some xs k h in some_in ys k x ((same x).0 among) e)
       (λ k h. let (x, among, e) = in_some ys k h in some_in xs k x ((same x).1 among) e)
-
-module _ {A B : Type 0} (R : A → B → Type 0) where
-  zip_at : (xs : List A) (ys : List B) (i : ℕ) (d : A) (e : B) → AllZip R xs ys → i < length xs → R (get_or xs i d) (get_or ys i e)
-  zip_at [] ys i d e all less = absurd (omega arith)
-  zip_at (x ∷ xs) [] i d e all less = absurd all
-  zip_at (x ∷ xs) (y ∷ ys) zero d e all less = all.0
-  zip_at (x ∷ xs) (y ∷ ys) (suc i) d e all less = zip_at xs ys i d e all.1 (omega arith)
-
-  zip_set : (xs : List A) (ys : List B) (i : ℕ) (x : A) (y : B) → AllZip R xs ys → R x y → AllZip R (set xs i x) (set ys i y)
-  zip_set [] [] i x y all r = all
-  zip_set [] (z ∷ zs) i x y all r = absurd all
-  zip_set (w ∷ ws) [] i x y all r = absurd all
-  zip_set (w ∷ ws) (z ∷ zs) zero x y all r = (r, all.1)
-  zip_set (w ∷ ws) (z ∷ zs) (suc i) x y all r = (all.0, zip_set ws zs i x y all.1 r)
-
-  zip-length : (xs : List A) (ys : List B) → AllZip R xs ys → length xs ≡ length ys
-  zip-length [] [] all = refl
-  zip-length [] (y ∷ ys) all = absurd all
-  zip-length (x ∷ xs) [] all = absurd all
-  zip-length (x ∷ xs) (y ∷ ys) all = ap suc (zip-length xs ys all.1)
-
-  pub zip_swap : (xs : List A) (ys : List B) (i j : ℕ) (d : A) (e : B) → i < length ys → j < length ys → AllZip R xs ys → AllZip R (swap xs i j) (swap ys i j)
-  zip_swap xs ys i j d e less_i less_j all =
-      let same = zip-length xs ys all in
-      let in_i : i < length xs = omega arith in
-      let in_j : j < length xs = omega arith in
-      let swapped = zip_set (set xs i (get_or xs j d)) (set ys i (get_or ys j e)) j (get_or xs i d) (get_or ys i e)
-      (zip_set xs ys i (get_or xs j d) (get_or ys j e) all (zip_at xs ys j d e all in_j)) (zip_at xs ys i d e all in_i) in
-      subst (λ (zs : List A). AllZip R zs (swap ys i j)) (swap_is xs i j d in_i in_j)
-      (subst (λ (zs : List B). AllZip R (set (set xs i (get_or xs j d)) j (get_or xs i d)) zs) (swap_is ys i j e less_i less_j) swapped)
 
 -- two tables change places, and with them their rows
 joint_swap : (level : ℕ) (r : Row) (tables : List TableData) (i j : ℕ) → i < length tables → j < length tables → IsJointRow level tables r → IsJointRow level (swap tables i j) r
 joint_swap level r tables i j less_i less_j joint =
     let of = λ (p : Row) (t : TableData). IsAmong p t.rows in
-    let same = zip-length of joint.parts tables joint.of_tables in
+    let same = length_zip of joint.parts tables joint.of_tables in
     let moved : IsPermutation joint.parts (swap joint.parts i j) = IsPermutation-swap joint.parts (swap joint.parts i j) i j (omega arith) (omega arith) refl in
     let members = among_permutation joint.parts (swap joint.parts i j) moved in
     let as_before = λ (x : Row). let h : IsAmong x joint.parts ↔ IsAmong x (swap joint.parts i j) = ((members x).1, (members x).0) in h in
@@ -86,7 +57,7 @@ joint_swap level r tables i j less_i less_j joint =
       few = joint.few;
     }
 
-joint_moved : (level : ℕ) (r : Row) (tables others : List TableData) → IsPermutation tables others → IsJointRow level tables r → IsJointRow level others r
+pub joint_moved : (level : ℕ) (r : Row) (tables others : List TableData) → IsPermutation tables others → IsJointRow level tables r → IsJointRow level others r
 joint_moved level r tables others moved joint =
     IsPermutation-keeps tables (λ l. IsJointRow level l r) joint (λ l i j less_i less_j h. joint_swap level r l i j less_i less_j h) others moved
 

@@ -7,9 +7,9 @@ use Rattle.mcs_base.specs.Listings.{IsListing}
 use Rattle.mcs_base.specs.StateOrder.{StateBefore-transitive}
 use Rattle.mcs_base.specs.PairOrder.{PairBefore-transitive}
 use Rattle.mcs_base.proofs.ListingLemmas.{Sorts}
+use Rattle.mcs_base.proofs.Ascending.{ascending_as}
 use Rattle.mcs_table.specs.declared.row.Row.{Row}
 use Rattle.mcs_table.specs.RowOrder.{RowBefore, row_cmp, row_cmp_total, row_less_is, row_equal_is}
-use Rattle.mcs_table.proofs.AmongLemmas.{ascending_as}
 
 pub rows_sort : Sorts (λ (a b : Row). row_cmp a b ≡ Less) row_cmp
 rows_sort = record { total = row_cmp_total; less = λ a b e. e; equal = row_equal_is }

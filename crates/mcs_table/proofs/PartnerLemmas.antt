@@ -11,9 +11,9 @@ use Rattle.std.specs.Ordering.{MatchOrdering, ordering_then, ordering_index, is_
 use Rattle.mcs_sets.specs.Sets.{common, size}
 use Rattle.mcs_base.specs.Listings.{IsAmong}
 use Rattle.mcs_base.specs.StateOrder.{state_cmp, state_cmp_total, equal_is}
+use Rattle.mcs_base.proofs.Among.{place_among, among_place, part_among, among_part}
 use Rattle.mcs_table.specs.declared.row.Row.{Row}
 use Rattle.mcs_table.specs.Partners.{shared_key, key_cmp, is_below, is_up_to, EndsAt, IsByShared}
-use Rattle.mcs_table.proofs.AmongLemmas.{range_among, among_range, among_place, among_at_place}
 
 key_total : IsTotalOrder key_cmp
 key_total = then_total (on_total (λ (p : ℕ × ℕ). p.0) state_cmp_total) (on_total (λ (p : ℕ × ℕ). p.1) nat_cmp_total)
@@ -90,15 +90,15 @@ module _ (scope shared room : ℕ) (xs : List Row) (i j : ℕ) (bound : i ≤ le
 
   pub partners_are : (r : Row) → IsAmong r (take (j - i) (drop i xs)) ↔ (IsAmong r xs × (common r.state.values scope ≡ shared) × (size r.marks ≤ room))
   partners_are r = (
-    λ h. let (k, past, below, less, is) = range_among xs i j r h in
+    λ h. let (k, past, below, less, is) = part_among xs i j r h in
         let not_below : is_below scope (shared, 0) r ≡ false = subst (λ (s : Row). is_below scope (shared, 0) s ≡ false) (is r) (from.1 k r past less) in
         let up_to : is_up_to scope (shared, room) r ≡ true = subst (λ (s : Row). is_up_to scope (shared, room) s ≡ true) (is r) (to.0 k r (omega arith) below) in
         let both = inside (common r.state.values scope) (size r.marks) shared room not_below up_to in
-        (among_at_place xs k r less is, both.0, both.1),
-    λ (among, same, few). let (k, less, is) = among_place xs r among in
+        (among_place xs k r less is, both.0, both.1),
+    λ (among, same, few). let (k, less, is) = place_among xs r among in
         let not_below : is_below scope (shared, 0) r ≡ false = subst (λ (s : ℕ). is_lt (key_cmp (shared_key scope r) (s, 0)) ≡ false) same (from_there (common r.state.values scope) (size r.marks)) in
         let up_to : is_up_to scope (shared, room) r ≡ true = subst (λ (s : ℕ). is_le (key_cmp (shared_key scope r) (s, room)) ≡ true) same (until_there (common r.state.values scope) (size r.marks) room few) in
         let past : i ≤ k = elim (cases_lt k i) [ inl before ↦ absurd (true≢false (sym (subst (λ (s : Row). is_below scope (shared, 0) s ≡ true) (is r) (from.0 k r (omega arith) before)) ∙ not_below)) | inr past ↦ past ] in
         let below : k < j = elim (cases_lt k j) [ inl below ↦ below | inr after ↦ absurd (true≢false (sym up_to ∙ subst (λ (s : Row). is_up_to scope (shared, room) s ≡ false) (is r) (to.1 k r after less))) ] in
-        among_range xs i j k r past below less is,
+        among_part xs i j k r past below less is,
   )

@@ -2,7 +2,7 @@
 use Rattle.std.specs.Prelude.{◌≡◌, ℕ, ◌≤◌, List, [], ◌∷◌}
 use Rattle.std.specs.List.{AllByRecursion, AllZip}
 use Rattle.std.specs.List.Sorted.{IsPermutation}
-use Rattle.mcs_sets.specs.Sets.{union, size, Within}
+use Rattle.mcs_sets.specs.Sets.{union, common, size, Within}
 use Rattle.mcs_base.specs.Listings.{IsAmong, IsListing}
 use Rattle.mcs_base.specs.Partials.{Fits}
 use Rattle.mcs_table.specs.declared.row.Row.{Row}
@@ -65,3 +65,19 @@ JoinsStayApart = (level : ℕ) (tables : List TableData) (t c : TableData) → J
 abbrev pub ForgettingCommutes : Type 0
 ForgettingCommutes = (a b f t j u : TableData) (keep level : ℕ) → IsTable b → Within b.scope keep
     → IsForgetting a keep f → IsJoin f b level t → IsJoin a b level j → IsForgetting j keep u → t ≡ u
+
+-- there is a table without the variables that are not kept, and it is one of rows in order
+abbrev pub ForgettingExists : Type 0
+ForgettingExists = (a : TableData) (keep : ℕ) → IsTable a → (f : TableData) × IsTable f × IsForgetting a keep f
+
+-- and only one
+abbrev pub ForgettingIsOne : Type 0
+ForgettingIsOne = (a f g : TableData) (keep : ℕ) → IsForgetting a keep f → IsForgetting a keep g → f ≡ g
+
+-- forgetting twice is forgetting once, with what is kept both times
+abbrev pub ForgettingTwiceIsOnce : Type 0
+ForgettingTwiceIsOnce = (a f g : TableData) (keep later : ℕ) → IsForgetting a keep f → IsForgetting f later g → IsForgetting a (common keep later) g
+
+-- a table with which a has no mark in common has none in common with what forgetting leaves of a
+abbrev pub ForgettingStaysApart : Type 0
+ForgettingStaysApart = (a f c : TableData) (keep : ℕ) → IsForgetting a keep f → AreApart a.rows c.rows → AreApart f.rows c.rows

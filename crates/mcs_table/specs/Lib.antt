@@ -2,3 +2,4 @@ pub mod RowOrder
 pub mod Tables
 pub mod Partners
 pub mod Joins
+pub mod Elimination

@@ -14,6 +14,9 @@ mod table;
 pub use fitting::matching;
 pub use forgetting::forget;
 pub use joining::{are_apart, join};
-pub use laws::{forgetting_commutes, joins_are_minimal_unions};
+pub use laws::{
+    elimination_gives_minimal_rows, forgetting_commutes, forgetting_is_a_restriction,
+    joins_are_minimal_unions,
+};
 pub use row::Row;
 pub use table::Table;

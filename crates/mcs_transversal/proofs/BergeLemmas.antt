@@ -1,113 +1,68 @@
 -- Berge's rule: the minimal transversals of one edge more come of those of the edges before.
-use Rattle.std.proofs.Common.{◌≡◌, ℕ, ◌+◌, ◌<◌, ◌≤◌, suc, Bool, true, false, eqb, List, [], ◌∷◌, ◌++◌, ◌⊎◌, ◌↔◌, inl, inr, length, get_or, drop, refl, sym, ap, ◌∙◌, subst, true≢false, arith}
+use Rattle.std.proofs.Common.{◌≡◌, ℕ, ◌+◌, ◌<◌, ◌≤◌, suc, List, [], ◌∷◌, ◌++◌, ◌⊎◌, ◌↔◌, inl, inr, length, get_or, drop, refl, sym, ap, ◌∙◌, subst, true≢false, arith}
 use Rattle.std.proofs.lemmas.List.{drop_more, drop_all}
-use Rattle.std.proofs.lemmas.Bool.Decides.{nat_tests}
-use Rattle.mcs_sets.specs.Sets.{has, single, union, members, Within, Meets}
-use Rattle.mcs_sets.proofs.SetLemmas.{same_set, has-union, has-single, has-empty, below_power, meets_or_not}
+use Rattle.mcs_sets.specs.Sets.{single, union, members, Within, Meets}
+use Rattle.mcs_sets.proofs.SetLemmas.{below_power, meets_or_not}
+use Rattle.mcs_sets.proofs.Lattice.{has-single_itself, within_union_left, within_union_right, with_within, meets_within, within_antisymmetric, none_within}
 use Rattle.mcs_base.specs.Listings.{IsAmong}
 use Rattle.mcs_base.specs.Minimal.{IsMinimal}
 use Rattle.mcs_base.proofs.ListingLemmas.{members_listing}
-use Rattle.mcs_transversal.specs.Transversals.{IsTransversalOf, IsCritical, IsGrown, ComesOf, ComesOfOne}
-use Rattle.mcs_transversal.proofs.CriticalLemmas.{has-itself, minimal_from_critical, critical_from_minimal, minimal_within}
-
--- the list has exactly the minimal transversals
-abbrev pub AreMinimalOnes : List ℕ → List ℕ → Type 0
-AreMinimalOnes edges ts = (x : ℕ) → IsAmong x ts ↔ IsMinimal (IsTransversalOf edges) x
-
-within_union-left : (a b : ℕ) → Within a (union a b)
-within_union-left a b k is = let e = has-union a b k in grind (arith, nat_tests)
-
-within_union-right : (a b : ℕ) → Within b (union a b)
-within_union-right a b k is = let e = has-union a b k in grind (arith, nat_tests)
-
-union_within : (a k c : ℕ) → Within a c → has c k ≡ true → Within (union a (single k)) c
-union_within a k c within is j in_union = at (has a j) refl (eqb j k) refl
-  where
-    at : (u : Bool) → has a j ≡ u → (v : Bool) → eqb j k ≡ v → has c j ≡ true
-    at true e v e' = within j e
-    at false e true e' = let same : j ≡ k = grind (arith, nat_tests) in ap (has c) same ∙ is
-    at false e false e' = let h = has-union a (single k) j in let h' = has-single k j in absurd (true≢false (sym in_union ∙ h ∙ rw (e, h', e') refl))
-
-meets_more : (a b e : ℕ) → Within a b → Meets a e → Meets b e
-meets_more a b e within meets = record { member = meets.member; in_first = within meets.member meets.in_first; in_second = meets.in_second }
-
-transversal_more : (edges : List ℕ) (a b : ℕ) → Within a b → IsTransversalOf edges a → IsTransversalOf edges b
-transversal_more [] a b within all = tt
-transversal_more (e ∷ es) a b within all = (meets_more a b e within all.0, transversal_more es a b within all.1)
-
-front_transversal : (edges : List ℕ) (e t : ℕ) → IsTransversalOf (edges ++ e ∷ []) t → IsTransversalOf edges t
-front_transversal [] e t all = tt
-front_transversal (f ∷ fs) e t all = (all.0, front_transversal fs e t all.1)
-
-meets_last : (edges : List ℕ) (e t : ℕ) → IsTransversalOf (edges ++ e ∷ []) t → Meets t e
-meets_last [] e t all = all.0
-meets_last (f ∷ fs) e t all = meets_last fs e t all.1
-
-transversal-push : (edges : List ℕ) (e t : ℕ) → IsTransversalOf edges t → Meets t e → IsTransversalOf (edges ++ e ∷ []) t
-transversal-push [] e t all last = (last, tt)
-transversal-push (f ∷ fs) e t all last = (all.0, transversal-push fs e t all.1 last)
+use Rattle.mcs_base.specs.Transversals.{IsTransversalOf}
+use Rattle.mcs_base.proofs.Each.{all_weaker, all_left, all_right, all_push}
+use Rattle.mcs_base.proofs.Among.{among_push}
+use Rattle.mcs_transversal.specs.Transversals.{IsCritical, IsGrown, ComesOf, ComesOfOne}
+use Rattle.mcs_transversal.proofs.CriticalLemmas.{minimal_from_critical, critical_from_minimal, minimal_within}
 
 module _ (edges : List ℕ) (e : ℕ) where
   comes_of_minimal : (x : ℕ) → IsMinimal (IsTransversalOf (edges ++ e ∷ [])) x → (t : ℕ) × IsMinimal (IsTransversalOf edges) t × ComesOf (edges ++ e ∷ []) e x t
   comes_of_minimal x minimal =
-      let (t, least, within) = minimal_within (suc x) edges x (omega arith) (front_transversal edges e x minimal.one) in (
+      let (t, least, within) = minimal_within (suc x) edges x (omega arith) (all_left (Meets x) edges (e ∷ []) minimal.one) in (
         t,
         least,
         elim (meets_or_not t e t (below_power t)) [
-          | inl meets ↦ inl (meets, sym (minimal.least t (transversal-push edges e t least.one meets) within))
+          | inl meets ↦ inl (meets, sym (minimal.least t (all_push (Meets t) edges e least.one meets) within))
           | inr none ↦ inr (λ meets. true≢false (sym meets.in_second ∙ none meets.member meets.in_first), grown t least within)
         ],
       )
     where
       grown : (t : ℕ) → IsMinimal (IsTransversalOf edges) t → Within t x → IsGrown (edges ++ e ∷ []) e t x
       grown t least within =
-          let meets = meets_last edges e x minimal.one in
+          let meets = (all_right (Meets x) edges (e ∷ []) minimal.one).0 in
           let m : ℕ = meets.member in
           record {
             mark = m;
             in_edge = meets.in_second;
             with_mark = sym (minimal.least (union t (single m))
-                (transversal-push edges e _ (transversal_more edges t _ (within_union-left t (single m)) least.one) (record { member = m; in_first = within_union-right t (single m) m (has-itself m); in_second = meets.in_second }))
-                (union_within t m x within meets.in_first));
+                (all_push (Meets _) edges e (all_weaker (Meets t) (Meets _) (λ f. meets_within t _ f (within_union_left t (single m))) edges least.one) (record { member = m; in_first = within_union_right t (single m) m (has-single_itself m); in_second = meets.in_second }))
+                (with_within t m x within meets.in_first));
             critical = critical_from_minimal (edges ++ e ∷ []) x minimal;
           }
 
   minimal_from_source : (x t : ℕ) → IsMinimal (IsTransversalOf edges) t → ComesOf (edges ++ e ∷ []) e x t → IsMinimal (IsTransversalOf (edges ++ e ∷ [])) x
   minimal_from_source x t least (inl (meets, same)) = rw same (record {
-    one = transversal-push edges e t least.one meets;
-    least = λ s other within. least.least s (front_transversal edges e s other) within;
+    one = all_push (Meets t) edges e least.one meets;
+    least = λ s other within. least.least s (all_left (Meets s) edges (e ∷ []) other) within;
   })
   minimal_from_source x t least (inr (none, g)) = minimal_from_critical (edges ++ e ∷ []) x
-      (rw g.with_mark (transversal-push edges e _ (transversal_more edges t _ (within_union-left t (single g.mark)) least.one)
-      (record { member = g.mark; in_first = within_union-right t (single g.mark) g.mark (has-itself g.mark); in_second = g.in_edge })))
+      (rw g.with_mark (all_push (Meets _) edges e (all_weaker (Meets t) (Meets _) (λ f. meets_within t _ f (within_union_left t (single g.mark))) edges least.one) (record { member = g.mark; in_first = within_union_right t (single g.mark) g.mark (has-single_itself g.mark); in_second = g.in_edge })))
       g.critical
 
-  pub berge : (ts xs : List ℕ) → AreMinimalOnes edges ts → ((x : ℕ) → IsAmong x xs ↔ ComesOfOne (edges ++ e ∷ []) e ts x) → AreMinimalOnes (edges ++ e ∷ []) xs
+  -- where the one list has exactly the minimal transversals of the edges before, what comes of them is those of all
+  pub berge : (ts xs : List ℕ) → ((x : ℕ) → IsAmong x ts ↔ IsMinimal (IsTransversalOf edges) x) → ((x : ℕ) → IsAmong x xs ↔ ComesOfOne (edges ++ e ∷ []) e ts x) → (x : ℕ) → IsAmong x xs ↔ IsMinimal (IsTransversalOf (edges ++ e ∷ [])) x
   berge ts xs before comes x = (
     λ among. let one = (comes x).0 among in minimal_from_source x one.source ((before one.source).0 one.among) one.comes,
     λ minimal. let (t, least, from) = comes_of_minimal x minimal in (comes x).1 (record { source = t; among = (before t).1 least; comes = from }),
   )
 
-pub none_before : AreMinimalOnes [] (0 ∷ [])
+pub none_before : (x : ℕ) → IsAmong x (0 ∷ []) ↔ IsMinimal (IsTransversalOf []) x
 none_before x = (
-  λ among. elim among [ inl e ↦ rw e (record { one = tt; least = λ s all within. same_set s 0 (λ k. nothing s within k (has s k) refl) }) | inr h ↦ absurd h ],
-  λ minimal. inl (sym (minimal.least 0 tt (λ k is. absurd (true≢false (sym is ∙ has-empty k))))),
+  λ among. elim among [ inl e ↦ rw e (record { one = tt; least = λ s all within. within_antisymmetric s 0 within (none_within s) }) | inr h ↦ absurd h ],
+  λ minimal. inl (sym (minimal.least 0 tt (none_within x))),
 )
-  where
-    nothing : (s : ℕ) → Within s 0 → (k : ℕ) (v : Bool) → has s k ≡ v → has s k ≡ has 0 k
-    nothing s within k true is = is ∙ sym (within k is)
-    nothing s within k false is = is ∙ sym (has-empty k)
 
 -- ---- the loops that put in what comes of the sets
-pub among-push : (x y : ℕ) (xs : List ℕ) → IsAmong x (xs ++ y ∷ []) ↔ (IsAmong x xs ⊎ (x ≡ y))
-among-push x y [] = (λ h. elim h [ inl e ↦ inr e | inr none ↦ absurd none ], λ h. elim h [ inl none ↦ absurd none | inr e ↦ inl e ])
-among-push x y (z ∷ zs) = let rest = among-push x y zs in (
-  λ h. elim h [ inl e ↦ inl (inl e) | inr h' ↦ elim (rest.0 h') [ inl a ↦ inl (inr a) | inr e ↦ inr e ] ],
-  λ h. elim h [ inl h' ↦ elim h' [ inl e ↦ inl e | inr a ↦ inr (rest.1 (inl a)) ] | inr e ↦ inr (rest.1 (inr e)) ],
-)
-
 pub comes-kept : (edges out : List ℕ) (e t : ℕ) → Meets t e → (x : ℕ) → IsAmong x (out ++ t ∷ []) ↔ (IsAmong x out ⊎ ComesOf edges e x t)
-comes-kept edges out e t meets x = let both = among-push x t out in (
+comes-kept edges out e t meets x = let both = among_push x out t in (
   λ h. elim (both.0 h) [ inl a ↦ inl a | inr same ↦ inr (inl (meets, same)) ],
   λ h. both.1 (elim h [ inl a ↦ inl a | inr comes ↦ inr (elim comes [ inl kept ↦ kept.1 | inr grown ↦ absurd (grown.0 meets) ]) ]),
 )
@@ -124,7 +79,7 @@ grows-end edges out t x = (λ h. elim h [ inl a ↦ a | inr g ↦ absurd g.among
 
 pub grows-more : (edges out : List ℕ) (t m : ℕ) (rest : List ℕ) → IsCritical edges (union t (single m)) → (x : ℕ)
     → (IsAmong x out ⊎ GrowsBy edges t (m ∷ rest) x) ↔ (IsAmong x (out ++ union t (single m) ∷ []) ⊎ GrowsBy edges t rest x)
-grows-more edges out t m rest critical x = let both = among-push x (union t (single m)) out in (
+grows-more edges out t m rest critical x = let both = among_push x out (union t (single m)) in (
   λ h. elim h [ inl a ↦ inl (both.1 (inl a)) | inr g ↦ at g g.among ],
   λ h. elim h [
     | inl a ↦ elim (both.0 a) [ inl a' ↦ inl a' | inr same ↦ inr (record { mark = m; among = inl refl; with_mark = same; critical = subst (IsCritical edges) (sym same) critical }) ]
@@ -133,7 +88,7 @@ grows-more edges out t m rest critical x = let both = among-push x (union t (sin
 )
   where
     at : (g : GrowsBy edges t (m ∷ rest) x) → (g.mark ≡ m) ⊎ IsAmong g.mark rest → IsAmong x (out ++ union t (single m) ∷ []) ⊎ GrowsBy edges t rest x
-    at g (inl same) = inl ((among-push x (union t (single m)) out).1 (inr (g.with_mark ∙ ap (λ k. union t (single k)) same)))
+    at g (inl same) = inl ((among_push x out (union t (single m))).1 (inr (g.with_mark ∙ ap (λ k. union t (single k)) same)))
     at g (inr later) = inr (record { mark = g.mark; among = later; with_mark = g.with_mark; critical = g.critical })
 
 pub grows-skip : (edges out : List ℕ) (t m : ℕ) (rest : List ℕ) → ¬ IsCritical edges (union t (single m)) → (x : ℕ)

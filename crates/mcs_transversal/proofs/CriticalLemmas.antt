@@ -1,20 +1,19 @@
 -- Minimal transversals are those of which each mark has a critical edge.
-use Rattle.std.proofs.Common.{◌≡◌, ◌≢◌, ℕ, ◌+◌, ◌<◌, zero, suc, Bool, true, false, ◌&&◌, eqb, List, [], ◌∷◌, ◌⊎◌, ◌↔◌, inl, inr, IsTrue, length, get_or, drop, refl, sym, ap, ◌∙◌, subst, true≢false, arith}
+use Rattle.std.proofs.Common.{◌≡◌, ℕ, ◌+◌, ◌<◌, zero, suc, Bool, true, false, ◌&&◌, eqb, List, [], ◌∷◌, ◌⊎◌, ◌↔◌, inl, inr, IsTrue, length, get_or, drop, refl, sym, ap, ◌∙◌, subst, true≢false, arith}
 use Rattle.std.proofs.lemmas.Bool.Decides.{nat_tests}
 use Rattle.std.proofs.lemmas.List.{drop_more}
 use Rattle.mcs_sets.specs.Sets.{has, single, union, common, minus, Within, Meets, IsLeast}
-use Rattle.mcs_sets.proofs.SetLemmas.{same_set, has-single, has-union, has-common, has-minus, minus-le, below_power, members_below, meets_or_not, not_empty}
+use Rattle.mcs_sets.proofs.SetLemmas.{same_set, has-single, has-union, has-common, minus-le, below_power, members_below, meets_or_not, not_empty}
+use Rattle.mcs_sets.proofs.Lattice.{has-single_itself, minus_within, has-without_itself, has-without_other, without-lt, within_antisymmetric}
 use Rattle.mcs_base.specs.Listings.{IsAmong}
 use Rattle.mcs_base.specs.Minimal.{IsMinimal}
-use Rattle.mcs_base.proofs.ListingLemmas.{all_among}
-use Rattle.mcs_transversal.specs.Transversals.{IsTransversalOf, MeetAloneAt, HasCriticalEdge, IsCritical, MinimalityIsCritical}
+use Rattle.mcs_base.proofs.Each.{all_among}
+use Rattle.mcs_base.specs.Transversals.{IsTransversalOf, MeetAloneAt}
+use Rattle.mcs_transversal.specs.Transversals.{HasCriticalEdge, IsCritical, MinimalityIsCritical}
 
 -- ---- the one mark in which two sets meet
-pub has-itself : (k : ℕ) → has (single k) k ≡ true
-has-itself k = has-single k k ∙ grind (arith, nat_tests)
-
 alone-in_first : (e t k : ℕ) → MeetAloneAt e t k → has e k ≡ true
-alone-in_first e t k alone = let h : (has e k && has t k) ≡ true = sym (has-common e t k) ∙ ap (λ s. has s k) alone ∙ has-itself k in grind (arith, nat_tests)
+alone-in_first e t k alone = let h : (has e k && has t k) ≡ true = sym (has-common e t k) ∙ ap (λ s. has s k) alone ∙ has-single_itself k in grind (arith, nat_tests)
 
 alone-only : (e t k j : ℕ) → MeetAloneAt e t k → has e j ≡ true → has t j ≡ true → j ≡ k
 alone-only e t k j alone in_e in_t =
@@ -23,7 +22,7 @@ alone-only e t k j alone in_e in_t =
     grind (arith, nat_tests)
 
 pub alone-not_empty : (a b k : ℕ) → common a b ≡ 0 → ¬ MeetAloneAt a b k
-alone-not_empty a b k none alone = not_empty (single k) k (has-itself k) (sym alone ∙ none)
+alone-not_empty a b k none alone = not_empty (single k) k (has-single_itself k) (sym alone ∙ none)
 
 pub alone-least : (a b i k : ℕ) → IsLeast (common a b) i → ¬ (common a b ≡ single i) → ¬ MeetAloneAt a b k
 alone-least a b i k least differ alone =
@@ -32,7 +31,7 @@ alone-least a b i k least differ alone =
     differ (alone ∙ ap single same)
 
 pub alone-same : (a b i k : ℕ) → MeetAloneAt a b i → MeetAloneAt a b k → i ≡ k
-alone-same a b i k at_i at_k = let h : eqb i k ≡ true = sym (has-single k i) ∙ ap (λ s. has s i) (sym at_k ∙ at_i) ∙ has-itself i in grind (arith, nat_tests)
+alone-same a b i k at_i at_k = let h : eqb i k ≡ true = sym (has-single k i) ∙ ap (λ s. has s i) (sym at_k ∙ at_i) ∙ has-single_itself i in grind (arith, nat_tests)
 
 -- a set with the mark in which an edge meets t alone
 pub critical-with : (marks a b i : ℕ) → MeetAloneAt a b i → (k : ℕ) → IsTrue (has (union marks (single i)) k) ↔ (IsTrue (has marks k) ⊎ MeetAloneAt a b k)
@@ -85,15 +84,6 @@ all_critical_or_not (suc n) edges t = at (all_critical_or_not n edges t) (has t 
         upto k less in_t true e = let same : k ≡ n = grind (arith, nat_tests) in absurd (true≢false (sym in_t ∙ ap (has t) same ∙ is))
         upto k less in_t false e = all k (grind (arith, nat_tests)) in_t
 
-within_minus : (t k : ℕ) → Within (minus t (single k)) t
-within_minus t k j is = let e = has-minus t (single k) j in grind (arith, nat_tests)
-
-gone : (t k : ℕ) → has (minus t (single k)) k ≡ false
-gone t k = let e = has-minus t (single k) k in let e' = has-itself k in grind (arith, nat_tests)
-
-stays : (t k j : ℕ) → has t j ≡ true → eqb j k ≡ false → has (minus t (single k)) j ≡ true
-stays t k j is other = let e = has-minus t (single k) j in let e' = has-single k j in grind (arith, nat_tests)
-
 -- an edge that is not critical for the mark is met without it
 meets_without : (t k e : ℕ) → Meets t e → ¬ MeetAloneAt e t k → Meets (minus t (single k)) e
 meets_without t k e meets more = elim (meets_or_not (minus t (single k)) e t (let le = minus-le t (single k) in let p = below_power t in omega arith)) [
@@ -103,7 +93,7 @@ meets_without t k e meets more = elim (meets_or_not (minus t (single k)) e t (le
   where
     member_is : ((j : ℕ) → has (minus t (single k)) j ≡ true → has e j ≡ false) → (v : Bool) → eqb meets.member k ≡ v → meets.member ≡ k
     member_is none true is = grind (arith, nat_tests)
-    member_is none false is = absurd (true≢false (sym meets.in_second ∙ none meets.member (stays t k meets.member meets.in_first is)))
+    member_is none false is = absurd (true≢false (sym meets.in_second ∙ none meets.member (has-without_other t k meets.member meets.in_first is)))
 
     at : ((j : ℕ) → has (minus t (single k)) j ≡ true → has e j ≡ false) → (j : ℕ) (v : Bool) → eqb j k ≡ v → (has e j && has t j) ≡ eqb j k
     at none j true is =
@@ -115,7 +105,7 @@ meets_without t k e meets more = elim (meets_or_not (minus t (single k)) e t (le
     at none j false is = other (has t j) refl
       where
         other : (w : Bool) → has t j ≡ w → (has e j && has t j) ≡ eqb j k
-        other true in_t = let out = none j (stays t k j in_t is) in grind (arith, nat_tests)
+        other true in_t = let out = none j (has-without_other t k j in_t is) in grind (arith, nat_tests)
         other false out = grind (arith, nat_tests)
 
 transversal_without : (edges : List ℕ) (t k : ℕ) → IsTransversalOf edges t → ((e : ℕ) → IsAmong e edges → ¬ MeetAloneAt e t k) → IsTransversalOf edges (minus t (single k))
@@ -124,7 +114,7 @@ transversal_without (e ∷ es) t k meets none = (meets_without t k e meets.0 (no
 
 -- ---- the law
 pub minimal_from_critical : (edges : List ℕ) (t : ℕ) → IsTransversalOf edges t → IsCritical edges t → IsMinimal (IsTransversalOf edges) t
-minimal_from_critical edges t meets critical = record { one = meets; least = λ s other within. same_set s t (λ k. each s other within k (has s k) refl (has t k) refl) }
+minimal_from_critical edges t meets critical = record { one = meets; least = λ s other within. within_antisymmetric s t within (needed s other within) }
   where
     needed : (s : ℕ) → IsTransversalOf edges s → Within s t → (k : ℕ) → has t k ≡ true → has s k ≡ true
     needed s other within k in_t =
@@ -133,15 +123,10 @@ minimal_from_critical edges t meets critical = record { one = meets; least = λ 
         let here : m.member ≡ k = alone-only h.edge t k m.member h.alone m.in_second (within m.member m.in_first) in
         ap (has s) (sym here) ∙ m.in_first
 
-    each : (s : ℕ) → IsTransversalOf edges s → Within s t → (k : ℕ) (u : Bool) → has s k ≡ u → (v : Bool) → has t k ≡ v → has s k ≡ has t k
-    each s other within k true is v is' = is ∙ sym (within k is)
-    each s other within k false is true is' = absurd (true≢false (sym (needed s other within k is') ∙ is))
-    each s other within k false is false is' = is ∙ sym is'
-
 pub critical_from_minimal : (edges : List ℕ) (t : ℕ) → IsMinimal (IsTransversalOf edges) t → IsCritical edges t
 critical_from_minimal edges t minimal k in_t = elim (critical_or_not edges t k) [
   | inl h ↦ h
-  | inr none ↦ absurd (true≢false (sym in_t ∙ ap (λ s. has s k) (sym (minimal.least _ (transversal_without edges t k minimal.one none) (within_minus t k))) ∙ gone t k))
+  | inr none ↦ absurd (true≢false (sym in_t ∙ ap (λ s. has s k) (sym (minimal.least _ (transversal_without edges t k minimal.one none) (minus_within t (single k)))) ∙ has-without_itself t k))
 ]
 
 pub minimality_is_critical : MinimalityIsCritical
@@ -155,21 +140,14 @@ pub mark_of_edge : (edges : List ℕ) (t : ℕ) → IsMinimal (IsTransversalOf e
 mark_of_edge edges t minimal k in_t = let h = critical_from_minimal edges t minimal k in_t in (h.edge, h.among, alone-in_first h.edge t k h.alone)
 
 -- ---- a minimal one lies within each transversal
-fewer : (t k : ℕ) → has t k ≡ true → minus t (single k) < t
-fewer t k in_t = at (eqb (minus t (single k)) t) refl
-  where
-    at : (v : Bool) → eqb (minus t (single k)) t ≡ v → minus t (single k) < t
-    at true e = let same : minus t (single k) ≡ t = grind (arith, nat_tests) in absurd (true≢false (sym in_t ∙ ap (λ s. has s k) (sym same) ∙ gone t k))
-    at false e = let le = minus-le t (single k) in let differ : minus t (single k) ≢ t = grind (arith, nat_tests) in omega arith
-
 pub minimal_within : (f : ℕ) (edges : List ℕ) (t : ℕ) → t < f → IsTransversalOf edges t → (s : ℕ) × IsMinimal (IsTransversalOf edges) s × Within s t
 minimal_within zero edges t less meets = absurd (omega arith)
 minimal_within (suc f) edges t less meets = elim (all_critical_or_not t edges t) [
   | inl all ↦ (t, minimal_from_critical edges t meets (λ k in_t. all k (members_below t t k (below_power t) in_t) in_t), λ k in_t. in_t)
   | inr (k, in_t, none) ↦
-      let smaller = fewer t k in_t in
+      let smaller = without-lt t k in_t in
       let (s, minimal, within) = minimal_within f edges (minus t (single k)) (omega arith) (transversal_without edges t k meets none) in
-      (s, minimal, λ j is. within_minus t k j (within j is))
+      (s, minimal, λ j is. minus_within t (single k) j (within j is))
 ]
 
 -- ---- the loop that gathers the marks that have a critical edge

@@ -1,17 +1,9 @@
--- Transversals of a hypergraph (Berge 1989): its edges are sets of marks, and so are its transversals.
+-- Critical edges of a transversal, and how transversals grow edge by edge (Berge 1989).
 use Rattle.std.specs.Prelude.{◌≡◌, ℕ, ◌<◌, List, ◌⊎◌, ◌↔◌, IsTrue, length, slice_index_or}
-use Rattle.std.specs.List.{AllByRecursion}
-use Rattle.mcs_sets.specs.Sets.{has, single, union, common, Meets}
+use Rattle.mcs_sets.specs.Sets.{has, single, union, Meets}
 use Rattle.mcs_base.specs.Listings.{IsAmong}
 use Rattle.mcs_base.specs.Minimal.{IsMinimal}
-
--- the set meets each edge
-abbrev pub IsTransversalOf : List ℕ → ℕ → Type 0
-IsTransversalOf edges t = AllByRecursion (λ e. Meets t e) edges
-
--- what the edge and the set have in common is this mark alone
-abbrev pub MeetAloneAt : ℕ → ℕ → ℕ → Type 0
-MeetAloneAt e t k = common e t ≡ single k
+use Rattle.mcs_base.specs.Transversals.{IsTransversalOf, MeetAloneAt}
 
 -- some edge meets the set in this mark alone
 pub record HasCriticalEdge (edges : List ℕ) (t k : ℕ) : Type 0 where

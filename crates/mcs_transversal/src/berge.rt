@@ -4,7 +4,8 @@ ghost use Rattle.std.specs.Prelude.{◌≡◌, ◌⊎◌, ◌↔◌, ℕ, OnOk, 
 ghost use Rattle.mcs_sets.specs.Orders.{PairBefore};
 ghost use Rattle.mcs_base.specs.Listings.{IsAmong, IsListing};
 ghost use Rattle.mcs_base.specs.Minimal.{IsMinimal};
-ghost use Rattle.mcs_transversal.specs.Transversals.{IsTransversalOf, ComesOf, ComesOfOne};
+ghost use Rattle.mcs_base.specs.Transversals.{IsTransversalOf};
+ghost use Rattle.mcs_transversal.specs.Transversals.{ComesOf, ComesOfOne};
 
 use crate::critical_edges::is_critical;
 use mcs_base::{Marks, Memory, list_pairs};

@@ -2,7 +2,8 @@
 
 ghost use Rattle.std.specs.Prelude.{◌≡◌, ◌<◌, ◌⊎◌, ◌↔◌, ℕ, IsTrue, MatchOption, IfSome, length, slice_index_or};
 ghost use Rattle.mcs_sets.specs.Sets.{has, single, common};
-ghost use Rattle.mcs_transversal.specs.Transversals.{MeetAloneAt, IsCritical, IsFirstCritical};
+ghost use Rattle.mcs_base.specs.Transversals.{MeetAloneAt};
+ghost use Rattle.mcs_transversal.specs.Transversals.{IsCritical, IsFirstCritical};
 
 use mcs_base::Marks;
 

@@ -4,7 +4,8 @@ use Rattle.mcs_sets.specs.Sets.{size}
 use Rattle.mcs_system.specs.Imports.{FollowsOrder, IsImportOrder}
 use Rattle.mcs_import.specs.Reach.{AreStrict, IsFirstFree}
 use Rattle.mcs_import.proofs.ReachLemmas.{ahead_strict, imports_below}
-use Rattle.mcs_import.proofs.OrderLemmas.{AreUntaken, untaken_all, untaken_less, all_taken, first_is_next, size-without}
+use Rattle.mcs_import.proofs.OrderLemmas.{AreUntaken, untaken_all, untaken_less, all_taken, first_is_next}
+use Rattle.mcs_sets.proofs.Lattice.{size-without}
 use Rattle.mcs_import.proofs.order.import_order.Goals as goal
 use Rattle.mcs_import.proofs.order.import_order.Goals.{In-Some}
 

@@ -2,7 +2,7 @@ use Rattle.std.proofs.Common.{◌<◌, arith}
 use Rattle.mcs_sets.specs.Sets.{common}
 use Rattle.mcs_system.specs.Imports.{rules_into}
 use Rattle.mcs_system.specs.Systems.{applicable}
-use Rattle.mcs_import.proofs.StateLemmas.{listed_map}
+use Rattle.mcs_base.proofs.Numbered.{listed_map}
 use Rattle.mcs_import.proofs.question.applicable_sets.Goals as goal
 
 pub returns : goal.returns

@@ -1,7 +1,8 @@
 use Rattle.std.proofs.Common.{◌≡◌, ◌+◌, ◌∙◌, length, sym, subst, ap, arith}
 use Rattle.std.proofs.lemmas.List.{length-map}
+use Rattle.std.proofs.Math.Seq.{take-append_seam}
 use Rattle.mcs_system.specs.Seen.{context_of}
-use Rattle.mcs_import.proofs.ReachLemmas.{ArePassed, rows_begin, rows_pass, rows_end, take_front}
+use Rattle.mcs_import.proofs.ReachLemmas.{ArePassed, rows_begin, rows_pass, rows_end}
 use Rattle.mcs_import.specs.Reach.{rows_through}
 use Rattle.mcs_import.proofs.reach.reached_rows.Goals as goal
 
@@ -11,7 +12,7 @@ loop-k-init c = rows_begin c.args.system.now c.contexts.ensures.valid c.in_ok-ro
 pub loop-k-preserved : goal.loop-k-preserved
 loop-k-preserved c =
     let whole : c.loop-k.rows.len ≡ length c.pass_through.new.rows = omega (arith, c.pass_through.auto.rows, ap length c.deref_mut.ensures.value, c.loop-k.rows.ok) in
-    subst (ArePassed c.args.system.now (c.loop-k.k + 1)) (sym (take_front c.loop-k.rows.len c.pass_through.new.rows _ whole))
+    subst (ArePassed c.args.system.now (c.loop-k.k + 1)) (sym (rw whole (take-append_seam c.pass_through.new.rows _)))
     (rows_pass c.args.system.now c.loop-k.k c.loop-k.rows.items c.pass_through.new.rows
     (omega (arith, c.loop-k-test.true, c.loop-k.invariant.one_each, ap length c.contexts.ensures.value, length-map c.contexts.result.now context_of))
     (c.pass_through.ensures ∙ ap (rows_through c.loop-k.k) c.deref_mut.ensures.value) c.loop-k.invariant)

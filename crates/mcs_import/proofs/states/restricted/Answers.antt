@@ -1,7 +1,7 @@
 use Rattle.std.proofs.Common.{arith}
 use Rattle.mcs_sets.specs.Sets.{common}
 use Rattle.mcs_sets.specs.Orders.{StateBefore}
-use Rattle.mcs_import.proofs.StateLemmas.{listed_map}
+use Rattle.mcs_base.proofs.Numbered.{listed_map}
 use Rattle.mcs_import.proofs.states.restricted.Goals as goal
 
 pub returns : goal.returns

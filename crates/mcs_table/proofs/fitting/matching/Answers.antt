@@ -1,9 +1,10 @@
 use Rattle.std.proofs.Common.{◌≡◌, ◌<◌, ◌≤◌, ◌∙◌, ap, sym, subst, true≢false, length, get_or, List}
+use Rattle.std.proofs.lemmas.List.{take_all}
 use Rattle.mcs_base.specs.Listings.{IsAmong, IsListing}
 use Rattle.mcs_base.specs.Partials.{Fits}
+use Rattle.mcs_base.proofs.ListingLemmas.{kept_more, left_out}
 use Rattle.mcs_table.specs.declared.row.Row.{Row}
 use Rattle.mcs_table.specs.RowOrder.{RowBefore}
-use Rattle.mcs_table.proofs.AmongLemmas.{kept_more, left_out, front_is_whole}
 use Rattle.mcs_table.proofs.fitting.matching.Goals.{then-fits+in_ok-push, else-fits}
 use Rattle.mcs_table.proofs.fitting.matching.Goals as goal
 
@@ -24,4 +25,4 @@ pub returns : goal.returns
 returns c =
     let t = c.args.t.now in
     let past : length t.rows ≤ c.loop-row.row-index = subst (λ (xs : List Row). length xs ≤ c.loop-row.row-index) c.rows-row-items.ensures.value c.loop-row-test.false in
-    subst (λ (xs : List Row). IsListing (λ r. IsAmong r xs × Fits r.state c.args.partial.now) RowBefore c.loop-row.found.items) (front_is_whole t.rows c.loop-row.row-index past) c.loop-row.invariant
+    subst (λ (xs : List Row). IsListing (λ r. IsAmong r xs × Fits r.state c.args.partial.now) RowBefore c.loop-row.found.items) (take_all c.loop-row.row-index t.rows past) c.loop-row.invariant

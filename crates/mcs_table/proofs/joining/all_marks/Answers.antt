@@ -1,5 +1,5 @@
+use Rattle.mcs_sets.proofs.Lattice.{none-union}
 use Rattle.mcs_table.proofs.ApartLemmas.{marks_more, marks_end}
-use Rattle.mcs_table.proofs.JointLemmas.{none-union}
 use Rattle.mcs_table.proofs.joining.all_marks.Goals as goal
 
 pub loop-row-init : goal.loop-row-init

@@ -1,7 +1,7 @@
 use Rattle.std.proofs.Common.{◌≡◌, ◌<◌, ◌≤◌, ◌∙◌, ◌+◌, ap, subst, arith, List, length, get_or}
+use Rattle.std.proofs.lemmas.List.{take_all}
 use Rattle.mcs_sets.specs.Sets.{common, union, size}
 use Rattle.mcs_table.specs.declared.row.Row.{Row}
-use Rattle.mcs_table.proofs.AmongLemmas.{front_is_whole}
 use Rattle.mcs_table.proofs.JoinLemmas.{AreUnions, found_fit, unions_more, unions_skip, union_masks, join_of_unions}
 use Rattle.mcs_table.proofs.joining.join.Goals.{in-Some+in_ok-push_unions, in_default}
 use Rattle.mcs_table.proofs.joining.join.Goals as goal
@@ -47,7 +47,7 @@ pub minimal_table-requires : goal.minimal_table-requires
 minimal_table-requires c =
     let a = c.args.a.now in
     let past : length a.rows ≤ c.loop-row.row-index = subst (λ (xs : List Row). length xs ≤ c.loop-row.row-index) c.rows-row-items.ensures.value c.loop-row-test.false in
-    let all = subst (λ (xs : List Row). AreUnions xs c.args.b.now.rows c.args.level c.loop-row.unions.items) (front_is_whole a.rows c.loop-row.row-index past) c.loop-row.invariant in
+    let all = subst (λ (xs : List Row). AreUnions xs c.args.b.now.rows c.args.level c.loop-row.unions.items) (take_all c.loop-row.row-index a.rows past) c.loop-row.invariant in
     rw (c.union.ensures, c.scope-left.ensures.value, c.scope-right.ensures.value) (union_masks a c.args.b.now c.scope-left.ensures.kept c.scope-right.ensures.kept c.args.level c.loop-row.unions.items all)
 
 pub returns : goal.returns
@@ -55,6 +55,6 @@ returns c =
     let a = c.args.a.now in
     let b = c.args.b.now in
     let past : length a.rows ≤ c.loop-row.row-index = subst (λ (xs : List Row). length xs ≤ c.loop-row.row-index) c.rows-row-items.ensures.value c.loop-row-test.false in
-    let all = subst (λ (xs : List Row). AreUnions xs b.rows c.args.level c.loop-row.unions.items) (front_is_whole a.rows c.loop-row.row-index past) c.loop-row.invariant in
+    let all = subst (λ (xs : List Row). AreUnions xs b.rows c.args.level c.loop-row.unions.items) (take_all c.loop-row.row-index a.rows past) c.loop-row.invariant in
     let scopes : c.union.result ≡ union a.scope b.scope = c.union.ensures ∙ (ap (λ v. union v c.scope-right.result) c.scope-left.ensures.value ∙ ap (union a.scope) c.scope-right.ensures.value) in
     join_of_unions a b c.scope-left.ensures.kept c.scope-right.ensures.kept c.args.level c.loop-row.unions.items all c.minimal_table.result (c.minimal_table.ensures.scope ∙ scopes) c.minimal_table.ensures.rows

@@ -1,8 +1,8 @@
 use Rattle.std.proofs.Common.{◌<◌, ◌≤◌, ◌∙◌, sym, subst, arith, true≢false, List, ◌↔◌, length, take}
+use Rattle.std.proofs.lemmas.List.{take_all}
 use Rattle.mcs_base.specs.Listings.{IsAmong}
 use Rattle.mcs_table.specs.Tables.{IsCovered}
 use Rattle.mcs_table.specs.declared.row.Row.{Row}
-use Rattle.mcs_table.proofs.AmongLemmas.{front_is_whole}
 use Rattle.mcs_table.proofs.TableLemmas.{table_as}
 use Rattle.mcs_table.proofs.MinimalLemmas.{MinimalSoFar, kept_table, masks_in_place, earlier_in_place, same_in_place, push_in_place, minimal_end}
 use Rattle.mcs_table.proofs.minimal.minimal_table.Goals.{then-not-is_covered, else-not-is_covered}
@@ -58,6 +58,6 @@ returns-clause-rows c =
     let kept = take c.loop-i.kept c.loop-i.rows.items in
     let h = c.loop-i.invariant in
     let past : length all ≤ c.loop-i.i = omega arith in
-    let whole : MinimalSoFar all kept = subst (λ (xs : List Row). MinimalSoFar xs kept) (front_is_whole all c.loop-i.i past) h.0.so_far in
+    let whole : MinimalSoFar all kept = subst (λ (xs : List Row). MinimalSoFar xs kept) (take_all c.loop-i.i all past) h.0.so_far in
     let is : (r : Row) → IsAmong r all ↔ IsAmong r c.args.rows.items = λ r. subst (λ (xs : List Row). IsAmong r xs ↔ IsAmong r c.args.rows.items) (sym c.into_rows-rows.ensures.value) (c.new.ensures.rows.exactly r) in
     rw (c.in_order.ensures, c.truncate.ensures.items) (minimal_end (λ r. IsAmong r c.args.rows.items) all kept is whole)

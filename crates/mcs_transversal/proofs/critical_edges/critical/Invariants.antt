@@ -1,5 +1,5 @@
 use Rattle.std.proofs.Common.{ℕ, ◌<◌, slice_index_or}
-use Rattle.mcs_transversal.specs.Transversals.{MeetAloneAt}
+use Rattle.mcs_base.specs.Transversals.{MeetAloneAt}
 use Rattle.mcs_transversal.proofs.critical_edges.critical.Given as goal
 
 abbrev pub invariant-loop-index : goal.invariant-loop-index

@@ -1,6 +1,6 @@
 use Rattle.std.proofs.Common.{◌≡◌, subst, arith}
 use Rattle.std.proofs.lemmas.Bool.Decides.{nat_tests}
-use Rattle.mcs_transversal.specs.Transversals.{MeetAloneAt}
+use Rattle.mcs_base.specs.Transversals.{MeetAloneAt}
 use Rattle.mcs_transversal.proofs.CriticalLemmas.{alone-same}
 use Rattle.mcs_transversal.proofs.critical_edges.meet_alone_at.Goals as goal
 
