@@ -3,13 +3,13 @@ use Rattle.std.proofs.Common.{◌≡◌, ℕ, zero, suc, List, [], ◌∷◌, �
 use Rattle.std.specs.List.{flat_map}
 use Rattle.std.proofs.lemmas.Grind.{flat_map-append}
 use Rattle.std.proofs.lemmas.List.{append-nil}
+use Rattle.std.proofs.lemmas.Option.{same_Some}
 use Rattle.mcs_base.specs.Listings.{IsAmong}
+use Rattle.mcs_base.proofs.Among.{among_left, among_either, among_get, among_flat_map, flat_map_among}
 use Rattle.mcs_system.specs.Plain.{Name}
-use Rattle.mcs_system.proofs.Members.{among_left, among_either, among_flat_map, flat_map_among, among_get}
 use Rattle.mcs_language.specs.Written.{WrittenText}
 use Rattle.mcs_language.specs.Marks.{Use, BeginsContext, NamesContext, NamesBridge, SaysProgram, NamesTarget, NamesSource, Mark, context_marks, bridge_marks, text_marks, uses_of}
 use Rattle.mcs_language.specs.Watching.{context_named, bridge_named, contexts_named, bridges_named}
-use Rattle.mcs_language.proofs.TextRuns.{some-is}
 use Rattle.mcs_language.proofs.UsesLemmas.{text_uses, names-there, targets-there, sources-there, programs-there, IsBefore}
 
 -- ---- what is named
@@ -66,7 +66,7 @@ pub record IsLater (ms ns : List Mark) (k : ℕ) (m : Mark) : Type 0 where
 
 which-part : (ms ns : List Mark) (k : ℕ) (m : Mark) → slice_get (ms ++ ns) k ≡ Some m → IsAmong m ms ⊎ IsLater ms ns k m
 which-part [] ns k m is = inr (record { number = k; before = refl; there = among_get m ns k is })
-which-part (x ∷ xs) ns zero m is = inl (inl (sym (some-is is)))
+which-part (x ∷ xs) ns zero m is = inl (inl (sym (same_Some _ _ is)))
 which-part (x ∷ xs) ns (suc k) m is = elim (which-part xs ns k m is) [
   | inl here ↦ inl (inr here)
   | inr later ↦ inr (record { number = later.number; before = ap (λ (ys : List Mark). x ∷ ys) later.before; there = later.there })

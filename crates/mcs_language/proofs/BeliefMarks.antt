@@ -4,8 +4,8 @@ use Rattle.std.specs.Prelude.{codes}
 use Rattle.std.specs.List.{flat_map, list_all}
 use Rattle.std.proofs.lemmas.Bool.{and_parts}
 use Rattle.mcs_base.specs.Listings.{IsAmong}
+use Rattle.mcs_base.proofs.Among.{among_either, flat_map_among}
 use Rattle.mcs_system.specs.Plain.{Name}
-use Rattle.mcs_system.proofs.Members.{among_either, flat_map_among}
 use Rattle.mcs_language.specs.Written.{Written, True', False', Named, Denied, Grouped, Both, Either, Leads, Equals, WrittenDefault, WrittenItem, Fact, Rule, WrittenLiteral, WrittenRule, WrittenKb, Classical, DefaultTheory, Program, WrittenContext, WrittenPlace, WrittenRead, WrittenBridge, WrittenText}
 use Rattle.mcs_language.specs.Marks.{Token, Use, BeginsContext, BeginsBridge, NamesContext, NamesBridge, SaysProgram, BeginsItem, NamesTarget, NamesSource, BeginsBelief, EndsRead, Mark, mark, with_first, with_last, formula_in, size_of, formula_marks, whole_marks, after_sign, default_marks, item_marks, atom_mark, further_heads, head_marks, optional, literal_marks, further_literals, body_marks, rule_marks, ended, kb_marks, context_marks, place_marks, read_marks, further_read, reads_marks, bridge_marks, text_marks}
 use Rattle.mcs_language.proofs.UsesLemmas.{IsPlaceOf, OfHead, OfRead}

@@ -2,6 +2,7 @@
 use Rattle.std.proofs.Common.{◌≡◌, ℕ, ◌+◌, ◌<◌, ◌≤◌, Bool, true, false, ◌&&◌, nat_eq, IsTrue, List, [], ◌∷◌, ◌++◌, length, drop, map, slice_index_or, Option, Some, None, is_some, Result, IfOk, refl, sym, ap, subst, ◌∙◌, arith, length-append, length-drop}
 use Rattle.std.proofs.lemmas.List.{drop_more, nil_from_length, map-append}
 use Rattle.std.proofs.lemmas.Result.{IfOk-weaker}
+use Rattle.std.proofs.Math.Bool.{and-true, and-false}
 use Rattle.mcs_base.specs.Words.{most_name_bytes}
 use Rattle.mcs_base.specs.declared.memory.Memory.{Memory}
 use Rattle.mcs_system.specs.Plain.{Name}
@@ -22,10 +23,11 @@ use Rattle.mcs_language.specs.Written.{Written, Named, Denied, WrittenRead, Writ
 use Rattle.mcs_language.specs.Marks.{Token, Use, BeginsItem, BeginsBelief, BeginsDefault, EndsRead, SaysProgram, AtomOf, IsNumber, Mark, mark, formula_in}
 use Rattle.mcs_language.specs.FormulaSteps.{Pending, Tilde, Parenthesis, And, Or, Implies, Iff, PartFormula, is_name_word, size_all, settle, formula_step, finished, finished_primary}
 use Rattle.mcs_language.specs.FormulaImages.{Waiting, ToDeny, ToClose, ToAnd, ToOr, ToImply, ToEqual, waiting_of, waiting_in, AreStacked, IsImage, IsReader}
-use Rattle.mcs_language.specs.TextSteps.{Place, InHead, AfterHead, InRead, AfterRead, PartText, goes, first_of_belief, in_belief, place_of, headed, with_read, in_read, step_at}
+use Rattle.mcs_language.specs.TextSteps.{Place, InHead, AfterHead, InRead, AfterRead, PartText, goes, first_of_belief, place_of, headed, with_read, in_read, step_at}
 use Rattle.mcs_language.specs.TextImages.{About, IsBridge, IsStep, about, about_context, belief_at, capped, last_belief, of_context, of_read, part_read, role_uses, uses_in, when}
 use Rattle.mcs_language.proofs.FormulaForward.{name-step}
 use Rattle.mcs_language.proofs.ReaderOperands.{at-none}
+use Rattle.mcs_language.proofs.TextRuns.{within-belief, whole-belief}
 
 -- ---- what one primary more completes: denials, and a conjunction before them
 abbrev pub completed : ℕ → Waiting → Bool
@@ -39,14 +41,6 @@ completed below (ToEqual f) = false
 abbrev pub all_completed : ℕ → List code_pending.Pending → Bool
 all_completed below [] = true
 all_completed below (p ∷ ps) = completed below (waiting_of p) && all_completed (below + 1) ps
-
-and-true : (b : Bool) → (b && true) ≡ b
-and-true true = refl
-and-true false = refl
-
-and-false : (b : Bool) → (b && false) ≡ false
-and-false true = refl
-and-false false = refl
 
 -- the last one more
 completed-more : (below : ℕ) (items : List code_pending.Pending) (last : code_pending.Pending) → all_completed below (items ++ last ∷ []) ≡ (all_completed below items && completed (below + length items) (waiting_of last))
@@ -166,15 +160,6 @@ module _ (a : About) (f : PartFormula) (t : Token) (r : Mark × PartFormula) (u 
 
   pub ends-uses : u.ends_read ≡ true → map capped (EndsRead a.subject.target a.subject.context a.belief ∷ (first_of_belief a.subject.context f ++ (r.0).uses)) ≡ uses_in a t u
   ends-uses e = ap (λ (us : List Use). EndsRead a.subject.target a.subject.context a.belief ∷ us) inner-uses ∙ sym (told ∙ ap (λ b. when b (EndsRead a.subject.target a.subject.context a.belief) ++ inner) e)
-
--- ---- one token more of a belief
-within-belief : (s : PartText) (c : Name) (f : PartFormula) (t : Token) (place : PartFormula → Place) (uses : Written → List Use) (after : Written → Place) (r : Mark × PartFormula) → formula_step c f t ≡ Some r → finished_primary r.1 ≡ None
-    → in_belief s c f t place uses after ≡ goes s t (first_of_belief c f ++ (r.0).uses) (place r.1)
-within-belief s c f t place uses after r e free = rw (e, free) refl
-
-whole-belief : (s : PartText) (c : Name) (f : PartFormula) (t : Token) (place : PartFormula → Place) (uses : Written → List Use) (after : Written → Place) (r : Mark × PartFormula) (w : Written) → formula_step c f t ≡ Some r → finished_primary r.1 ≡ Some w
-    → in_belief s c f t place uses after ≡ goes s t (uses w ++ (first_of_belief c f ++ (r.0).uses)) (after w)
-whole-belief s c f t place uses after r w e ends = rw (e, ends) refl
 
 -- whether a primary is whole
 by-end : {P : Type 0} (s : PartFormula) → (finished_primary s ≡ None → P) → ((w : Written) → finished_primary s ≡ Some w → P) → P

@@ -1,5 +1,5 @@
 -- Bridge rules token by token: what is written is taken as it was written.
-use Rattle.std.proofs.Common.{◌≡◌, Bool, true, false, List, [], ◌∷◌, ◌++◌, Some, None, refl, sym, ap, subst, ◌∙◌, append_assoc}
+use Rattle.std.proofs.Common.{◌≡◌, Bool, true, false, List, [], ◌∷◌, ◌++◌, Some, refl, sym, ap, subst, ◌∙◌, append_assoc}
 use Rattle.std.specs.Prelude.{codes}
 use Rattle.std.specs.List.{flat_map, AllByRecursion}
 use Rattle.std.proofs.lemmas.List.{append-nil}
@@ -7,27 +7,20 @@ use Rattle.mcs_system.specs.Plain.{Name}
 use Rattle.mcs_language.specs.Written.{Written, level, WrittenPlace, WrittenRead, WrittenContext, WrittenBridge, IsNameWord, IsFormula, IsPlace, IsBridge}
 use Rattle.mcs_language.specs.Marks.{Token, Use, BeginsBridge, NamesBridge, NamesTarget, BeginsBelief, EndsRead, Mark, mark, formula_in, with_first, with_last, whole_marks, optional, place_marks, read_marks, reads_marks, further_read, bridge_marks, tokens_of}
 use Rattle.mcs_language.specs.FormulaSteps.{PartFormula, no_formula, formula_step, finished_primary}
-use Rattle.mcs_language.specs.TextSteps.{PartRead, Place, Between, BridgeName, BridgeColon, HeadContext, HeadColon, InHead, AfterHead, NextRead, ReadContext, ReadColon, InRead, AfterRead, PartText, goes, in_belief, first_of_belief, headed, with_read, text_step}
+use Rattle.mcs_language.specs.TextSteps.{PartRead, Place, Between, BridgeName, BridgeColon, HeadContext, HeadColon, InHead, AfterHead, NextRead, ReadContext, ReadColon, InRead, AfterRead, PartText, in_belief, first_of_belief, headed, with_read, text_step}
 use Rattle.mcs_language.proofs.FormulaParts.{IsPart, part_marks, IsUnfinished}
 use Rattle.mcs_language.proofs.FormulaRuns.{Goes, word-apart}
 use Rattle.mcs_language.proofs.FormulaForward.{with_operand}
-use Rattle.mcs_language.proofs.FormulaTheory.{primary-whole, part-none, part-step}
-use Rattle.mcs_language.proofs.TextRuns.{Runs, runs-one, runs-cons, runs-append}
-use Rattle.mcs_language.proofs.TextParts.{sign_mark, begun_belief, source_mark, IsSome}
+use Rattle.mcs_language.proofs.FormulaTheory.{part-none, part-step}
+use Rattle.mcs_language.proofs.TextRuns.{Runs, runs-one, runs-cons, runs-append, within-belief, whole-belief}
+use Rattle.mcs_language.proofs.TextParts.{sign_mark, begun_belief, source_mark, text_of}
 use Rattle.mcs_language.proofs.TextLemmas.{begun-belief, whole-some}
-use Rattle.mcs_language.proofs.TextSound.{text_of}
 use Rattle.mcs_language.proofs.ItemForward.{steps-goes}
 use Rattle.mcs_language.proofs.RuleForward.{not-no-name}
+use Rattle.mcs_language.proofs.FormulaWhole.{whole-primary}
+use Rattle.mcs_language.specs.TextImages.{HasSome}
 
 -- ---- within a belief
-belief-takes : (s : PartText) (c : Name) (f : PartFormula) (t : Token) (place : PartFormula → Place) (uses : Written → List Use) (after : Written → Place) (q : Mark × PartFormula) → formula_step c f t ≡ Some q → finished_primary q.1 ≡ None
-    → in_belief s c f t place uses after ≡ goes s t (first_of_belief c f ++ (q.0).uses) (place q.1)
-belief-takes s c f t place uses after q e free = rw (e, free) refl
-
-belief-ends : (s : PartText) (c : Name) (f : PartFormula) (t : Token) (place : PartFormula → Place) (uses : Written → List Use) (after : Written → Place) (q : Mark × PartFormula) (w : Written) → formula_step c f t ≡ Some q → finished_primary q.1 ≡ Some w
-    → in_belief s c f t place uses after ≡ goes s t (uses w ++ (first_of_belief c f ++ (q.0).uses)) (after w)
-belief-ends s c f t place uses after q w e ends = rw (e, ends) refl
-
 first-once : (c : Name) (f : PartFormula) (m : Mark) (next : PartFormula) → IsPart f → formula_step c f m.token ≡ Some (m, next) → first_of_belief c next ≡ []
 first-once c f m next h e = go (part_marks c f) (part-step c f m.token (m, next) h e).1
   where
@@ -40,11 +33,11 @@ last-none [] = refl
 last-none (m ∷ []) = refl
 last-none (m ∷ n ∷ ms) = ap (λ (xs : List Mark). m ∷ xs) (last-none (n ∷ ms))
 
-last-of-more : (uses : List Use) (a b : Mark) (ms : List Mark) → IsSome ms → with_last uses (a ∷ b ∷ ms) ≡ a ∷ b ∷ with_last uses ms
+last-of-more : (uses : List Use) (a b : Mark) (ms : List Mark) → HasSome ms → with_last uses (a ∷ b ∷ ms) ≡ a ∷ b ∷ with_last uses ms
 last-of-more uses a b [] h = absurd h
 last-of-more uses a b (m ∷ ms) h = refl
 
-first-some : (uses : List Use) (ms : List Mark) → IsSome ms → IsSome (with_first uses ms)
+first-some : (uses : List Use) (ms : List Mark) → HasSome ms → HasSome (with_first uses ms)
 first-some uses [] h = absurd h
 first-some uses (m ∷ ms) h = tt
 
@@ -57,7 +50,7 @@ module _ (cs : List WrittenContext) (bs : List WrittenBridge) where
         → Leads (place f) (with_last (uses w) (mark m.token (first_of_belief c f ++ m.uses) ∷ ms)) (after w)
     belief-run f f' m [] w h g free ends =
         runs-one (text_of cs bs (place f)) (text_of cs bs (after w)) (mark m.token (uses w ++ (first_of_belief c f ++ m.uses)))
-        (steps f m.token ∙ belief-ends (text_of cs bs (place f)) c f m.token place uses after (m, g.0) w g.1 (ap finished_primary g.2 ∙ ends))
+        (steps f m.token ∙ whole-belief (text_of cs bs (place f)) c f m.token place uses after (m, g.0) w g.1 (ap finished_primary g.2 ∙ ends))
     belief-run f f' m (n ∷ ms) w h g free ends =
         let next : PartFormula = g.0 in
         let free' = free.1 (m, next) g.1 in
@@ -65,16 +58,16 @@ module _ (cs : List WrittenContext) (bs : List WrittenBridge) where
         let then' = belief-run next f' n ms w part.0 g.2 free' ends in
         let once : first_of_belief c next ≡ [] = first-once c f m next h g.1 in
         runs-cons (text_of cs bs (place f)) (text_of cs bs (place next)) (text_of cs bs (after w)) (mark m.token (first_of_belief c f ++ m.uses)) (with_last (uses w) (n ∷ ms))
-        (steps f m.token ∙ belief-takes (text_of cs bs (place f)) c f m.token place uses after (m, next) g.1 free'.0)
+        (steps f m.token ∙ within-belief (text_of cs bs (place f)) c f m.token place uses after (m, next) g.1 free'.0)
         (subst (λ (us : List Use). Leads (place next) (with_last (uses w) (mark n.token (us ++ n.uses) ∷ ms)) (after w)) once then')
 
-    whole-run : (w : Written) (ms : List Mark) → IsSome ms → Goes c no_formula ms (with_operand [] w) → IsUnfinished c no_formula (tokens_of ms) → Leads (place no_formula) (with_last (uses w) (begun_belief c ms)) (after w)
+    whole-run : (w : Written) (ms : List Mark) → HasSome ms → Goes c no_formula ms (with_operand [] w) → IsUnfinished c no_formula (tokens_of ms) → Leads (place no_formula) (with_last (uses w) (begun_belief c ms)) (after w)
     unfolding finished_primary
     whole-run w [] h g free = absurd h
     whole-run w (m ∷ ms) h g free = belief-run no_formula (with_operand [] w) m ms w part-none g free refl
 
     belief-runs : (w : Written) → IsFormula w → level w ≡ 0 → Leads (place no_formula) (with_last (uses w) (begun_belief c (whole_marks c w))) (after w)
-    belief-runs w h low = let x = primary-whole c w h low in whole-run w (whole_marks c w) (whole-some c w) (steps-goes c no_formula (with_operand [] w) (whole_marks c w) x.0) x.1
+    belief-runs w h low = let x = whole-primary c w h low in whole-run w (whole_marks c w) (whole-some c w) (steps-goes c no_formula (with_operand [] w) (whole_marks c w) x.0) x.1
 
   -- ---- the head
   name-step : (n : Name) → IsNameWord n → text_step (text_of cs bs BridgeName) n ≡ Some (mark n (NamesBridge n ∷ []), text_of cs bs (BridgeColon n))

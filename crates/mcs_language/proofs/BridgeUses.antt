@@ -2,18 +2,17 @@
 use Rattle.std.proofs.Common.{◌≡◌, Bool, true, codes, List, [], ◌∷◌, ◌++◌, refl, sym, ap, ◌∙◌, inl, inr, ◌⊎◌, subst}
 use Rattle.std.specs.List.{flat_map}
 use Rattle.mcs_base.specs.Listings.{IsAmong}
+use Rattle.mcs_base.proofs.Among.{among_left, among_right, among_either}
 use Rattle.mcs_system.specs.Plain.{Name}
-use Rattle.mcs_system.proofs.Members.{among_left, among_right, among_either}
 use Rattle.mcs_language.specs.Written.{WrittenPlace, WrittenRead, WrittenBridge}
 use Rattle.mcs_language.specs.Marks.{Use, BeginsBridge, NamesBridge, NamesTarget, NamesSource, BeginsBelief, EndsRead, Mark, mark, with_last, formula_in, whole_marks, place_marks, read_marks, further_read, reads_marks, bridge_marks, uses_of}
-use Rattle.mcs_language.proofs.MarkLists.{uses-append, uses-first, uses-end, among-last, last-among, among-append, append-left, append-right, among-parts, parts-among}
-use Rattle.mcs_language.proofs.FormulaUses.{formula-has}
+use Rattle.mcs_language.proofs.MarkLists.{formula-some, uses-append, uses-first, uses-end, among-last, last-among, among-append, append-left, append-right, among-parts, parts-among}
 use Rattle.mcs_language.proofs.RuleUses.{optional-uses}
 use Rattle.mcs_language.proofs.ContextUses.{formula_uses, in_formula, formula-in}
 
 -- ---- places
 place-all : (role : Use) (p : WrittenPlace) → uses_of (place_marks role p) ≡ role ∷ BeginsBelief p.context ∷ formula_uses p.context p.belief
-place-all role p = ap (λ (us : List Use). role ∷ us) (uses-first (BeginsBelief p.context ∷ []) (whole_marks p.context p.belief) (formula-has p.context 0 0 p.belief))
+place-all role p = ap (λ (us : List Use). role ∷ us) (uses-first (BeginsBelief p.context ∷ []) (whole_marks p.context p.belief) (formula-some p.context 0 0 p.belief))
 
 -- a use of a place
 abbrev pub IsPlaceUse : Use → WrittenPlace → Use → Type 0

@@ -1,40 +1,17 @@
 -- What is written of a system with names is of the grammar.
-use Rattle.std.proofs.Common.{◌≡◌, ℕ, zero, suc, ◌<◌, Bool, true, false, not, ◌&&◌, nat_le, IsTrue, List, [], ◌∷◌, ◌++◌, map, length, Some, slice_get, refl, subst, true≢false, arith}
+use Rattle.std.proofs.Common.{◌≡◌, ◌<◌, Bool, true, false, not, ◌&&◌, nat_le, IsTrue, List, [], ◌∷◌, map, length, slice_get, refl, true≢false, arith}
 use Rattle.std.specs.List.{AllByRecursion}
 use Rattle.mcs_base.specs.Words.{is_word, is_reserved, most_name_bytes}
+use Rattle.mcs_base.proofs.Each.{all_map, all_weaker, all_append, all_both, all_get, all_left, all_right}
+use Rattle.mcs_base.proofs.Lists.{slice_get_below}
 use Rattle.mcs_system.specs.Faults.{reads_of, IsValid}
 use Rattle.mcs_system.specs.Plain.{Name, Formula, Truth, Falsity, Atom, Not, And, Or, Implies, Iff, Default, ProgramRule, Item, Kb, Context, Read, Bridge, System}
 use Rattle.mcs_system.specs.Plain as plain
 use Rattle.mcs_system.specs.Texts.{name_of_context}
-use Rattle.mcs_system.proofs.Members.{get_below}
 use Rattle.mcs_system.proofs.ValidLemmas.{targets_in_range, reads_in_range}
-use Rattle.mcs_language.specs.Naming.{IsName, AreNames, IsNamedFormula, IsNamedDefault, IsNamedItem, IsNamedRule, IsNamedKb, IsNamedContext, IsNamedBridge, IsNamed}
+use Rattle.mcs_system.specs.Naming.{IsName, AreNames, IsNamedFormula, IsNamedDefault, IsNamedItem, IsNamedRule, IsNamedKb, IsNamedContext, IsNamedBridge, IsNamed}
 use Rattle.mcs_language.specs.Written.{Written, Both, Either, Leads, Equals, level, WrittenLiteral, WrittenRead, IsNameWord, IsFormula, IsItem, IsRule, IsKb, IsContext, IsPlace, IsBridge, IsText}
-use Rattle.mcs_language.proofs.WriterLemmas.{all-left, all-right}
 use Rattle.mcs_language.proofs.CanonicalWritten.{primary_written, formula_written, with_justs, item_written, literal_written, body_written, has_sign, rule_written, kb_written, context_written, place_written, read_written, bridge_written, canonical_written}
-
--- ---- lists
-module _ {A : Type 0} where
-  pub all-map : {B : Type 0} (f : A → B) (P : A → Type 0) (Q : B → Type 0) → ((x : A) → P x → Q (f x)) → (xs : List A) → AllByRecursion P xs → AllByRecursion Q (map f xs)
-  all-map f P Q each [] h = tt
-  all-map f P Q each (x ∷ xs) h = (each x h.0, all-map f P Q each xs h.1)
-
-  pub all-weaker : (P Q : A → Type 0) → ((x : A) → P x → Q x) → (xs : List A) → AllByRecursion P xs → AllByRecursion Q xs
-  all-weaker P Q each [] h = tt
-  all-weaker P Q each (x ∷ xs) h = (each x h.0, all-weaker P Q each xs h.1)
-
-  pub all-append : (P : A → Type 0) (xs ys : List A) → AllByRecursion P xs → AllByRecursion P ys → AllByRecursion P (xs ++ ys)
-  all-append P [] ys h k = k
-  all-append P (x ∷ xs) ys h k = (h.0, all-append P xs ys h.1 k)
-
-  pub all-both : (P Q : A → Type 0) (xs : List A) → AllByRecursion P xs → AllByRecursion Q xs → AllByRecursion (λ x. P x × Q x) xs
-  all-both P Q [] h k = tt
-  all-both P Q (x ∷ xs) h k = ((h.0, k.0), all-both P Q xs h.1 k.1)
-
-  pub all-at : (P : A → Type 0) (xs : List A) (k : ℕ) (x : A) → AllByRecursion P xs → slice_get xs k ≡ Some x → P x
-  all-at P [] k x h at = absurd (let e : slice_get {X = A} [] k ≡ Some x = at in cc)
-  all-at P (y ∷ ys) zero x h at = let e : y ≡ x = cc at in subst P e h.0
-  all-at P (y ∷ ys) (suc k) x h at = all-at P ys k x h.1 at
 
 -- ---- names and formulas
 pub name-word : (n : Name) → IsName n → IsNameWord n
@@ -88,16 +65,16 @@ formula-right (Iff f g) h = primary-right (Iff f g) h
 -- ---- contexts
 justs-right : (d : Default) (js : List Formula) → IsNamedDefault d → AllByRecursion IsNamedFormula js → IsItem (with_justs d js)
 justs-right d [] h k = formula-right d.pre h.pre
-justs-right d (j ∷ js) h k = (formula-right d.pre h.pre, (formula-right j k.0, all-map formula_written IsNamedFormula IsFormula formula-right js k.1), formula-right d.conclusion h.conclusion)
+justs-right d (j ∷ js) h k = (formula-right d.pre h.pre, (formula-right j k.0, all_map formula_written IsNamedFormula IsFormula formula-right js k.1), formula-right d.conclusion h.conclusion)
 
 item-right : (i : Item) → IsNamedItem i → IsItem (item_written i)
 item-right (plain.Fact f) h = formula-right f h
 item-right (plain.Rule d) h = justs-right d d.justs h h.justs
 
 body-right : (pos neg : List Name) → AreNames pos → AreNames neg → AllByRecursion (λ (l : WrittenLiteral). IsNameWord l.atom) (body_written pos neg)
-body-right pos neg h k = all-append (λ (l : WrittenLiteral). IsNameWord l.atom) (map (literal_written false) pos) (map (literal_written true) neg)
-    (all-map (literal_written false) IsName (λ (l : WrittenLiteral). IsNameWord l.atom) name-word pos h)
-    (all-map (literal_written true) IsName (λ (l : WrittenLiteral). IsNameWord l.atom) name-word neg k)
+body-right pos neg h k = all_append (λ (l : WrittenLiteral). IsNameWord l.atom) (map (literal_written false) pos) (map (literal_written true) neg)
+    (all_map (literal_written false) IsName (λ (l : WrittenLiteral). IsNameWord l.atom) name-word pos h)
+    (all_map (literal_written true) IsName (λ (l : WrittenLiteral). IsNameWord l.atom) name-word neg k)
 
 head-or-sign : (head : List Name) (body : List WrittenLiteral) → head ≡ [] → has_sign head body ≡ true
 head-or-sign [] body e = refl
@@ -110,16 +87,16 @@ body-after-sign (n ∷ ns) (l ∷ ls) e = absurd (true≢false e)
 
 rule-right : (r : ProgramRule) → IsNamedRule r → IsRule (rule_written r)
 rule-right r h = record {
-  head_names = all-weaker IsName IsNameWord name-word r.head h.head;
+  head_names = all_weaker IsName IsNameWord name-word r.head h.head;
   body_names = body-right r.pos r.neg h.pos h.neg;
   head_or_sign = head-or-sign r.head (body_written r.pos r.neg);
   body_after_sign = body-after-sign r.head (body_written r.pos r.neg);
 }
 
 kb-right : (kb : Kb) → IsNamedKb kb → IsKb (kb_written kb)
-kb-right (plain.Classical formulas) h = all-map formula_written IsNamedFormula IsFormula formula-right formulas h
-kb-right (plain.DefaultTheory items) h = all-map item_written IsNamedItem IsItem item-right items h
-kb-right (plain.Program rules) h = all-map rule_written IsNamedRule IsRule rule-right rules h
+kb-right (plain.Classical formulas) h = all_map formula_written IsNamedFormula IsFormula formula-right formulas h
+kb-right (plain.DefaultTheory items) h = all_map item_written IsNamedItem IsItem item-right items h
+kb-right (plain.Program rules) h = all_map rule_written IsNamedRule IsRule rule-right rules h
 
 context-right : (c : Context) → IsNamedContext c → IsContext (context_written c)
 context-right c h = (name-word c.name h.name, kb-right c.kb h.kb)
@@ -130,7 +107,7 @@ abbrev pub IsPlaced : System → Read → Type 0
 IsPlaced m r = (r.context < length m.contexts) × IsNamedFormula r.belief
 
 pub placed-name : (m : System) → IsNamed m → (r : Read) → IsPlaced m r → IsName (name_of_context (slice_get m.contexts r.context))
-placed-name m named r h = let (c, is) = get_below m.contexts r.context h.0 in rw is ((all-at IsNamedContext m.contexts r.context c named.contexts is).name)
+placed-name m named r h = let (c, is) = slice_get_below m.contexts r.context h.0 in rw is ((all_get IsNamedContext m.contexts r.context c named.contexts is).name)
 
 place-right : (m : System) → IsNamed m → (r : Read) → IsPlaced m r → IsPlace (place_written m r)
 place-right m named r h = (name-word (name_of_context (slice_get m.contexts r.context)) (placed-name m named r h), primary-right r.belief h.1, primary-level r.belief)
@@ -146,9 +123,9 @@ bridge-right : (m : System) → IsNamed m → (b : Bridge) → IsPlacedBridge m 
 bridge-right m named b h = (
   name-word b.name h.name,
   place-right m named (record { context = b.target; belief = b.head }) h.head,
-  all-append (λ (r : WrittenRead). IsPlace r.place) (map (read_written m false) b.pos) (map (read_written m true) b.neg)
-      (all-map (read_written m false) (IsPlaced m) (λ (r : WrittenRead). IsPlace r.place) (place-right m named) b.pos h.pos)
-      (all-map (read_written m true) (IsPlaced m) (λ (r : WrittenRead). IsPlace r.place) (place-right m named) b.neg h.neg),
+  all_append (λ (r : WrittenRead). IsPlace r.place) (map (read_written m false) b.pos) (map (read_written m true) b.neg)
+      (all_map (read_written m false) (IsPlaced m) (λ (r : WrittenRead). IsPlace r.place) (place-right m named) b.pos h.pos)
+      (all_map (read_written m true) (IsPlaced m) (λ (r : WrittenRead). IsPlace r.place) (place-right m named) b.neg h.neg),
 )
 
 -- in a valid system with names, each rule is so
@@ -159,19 +136,19 @@ all-placed m named valid =
     let Named' : Read → Type 0 = λ r. IsNamedFormula r.belief in
     let Target : Bridge → Type 0 = λ b. b.target < n in
     let Reads : Bridge → Type 0 = λ b. AllByRecursion In (reads_of b) in
-    all-weaker (λ b. IsNamedBridge b × (Target b × Reads b)) (IsPlacedBridge m)
+    all_weaker (λ b. IsNamedBridge b × (Target b × Reads b)) (IsPlacedBridge m)
     (λ b h. record {
       name = h.0.name;
       head = (h.1.0, h.0.head);
-      pos = all-both In Named' b.pos (all-left In b.pos b.neg h.1.1) h.0.pos;
-      neg = all-both In Named' b.neg (all-right In b.pos b.neg h.1.1) h.0.neg;
+      pos = all_both In Named' b.pos (all_left In b.pos b.neg h.1.1) h.0.pos;
+      neg = all_both In Named' b.neg (all_right In b.pos b.neg h.1.1) h.0.neg;
     })
     m.bridges
-    (all-both IsNamedBridge (λ b. Target b × Reads b) m.bridges named.bridges (all-both Target Reads m.bridges (targets_in_range m valid) (reads_in_range m valid)))
+    (all_both IsNamedBridge (λ b. Target b × Reads b) m.bridges named.bridges (all_both Target Reads m.bridges (targets_in_range m valid) (reads_in_range m valid)))
 
 -- ---- the whole text
 pub canonical-right : (m : System) → IsNamed m → IsValid m → IsText (canonical_written m)
 canonical-right m named valid = (
-  all-map context_written IsNamedContext IsContext context-right m.contexts named.contexts,
-  all-map (bridge_written m) (IsPlacedBridge m) IsBridge (bridge-right m named) m.bridges (all-placed m named valid),
+  all_map context_written IsNamedContext IsContext context-right m.contexts named.contexts,
+  all_map (bridge_written m) (IsPlacedBridge m) IsBridge (bridge-right m named) m.bridges (all-placed m named valid),
 )

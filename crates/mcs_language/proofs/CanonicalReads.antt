@@ -3,15 +3,15 @@ use Rattle.std.proofs.Common.{◌≡◌, ℕ, ◌<◌, ◌≤◌, true, false, L
 use Rattle.std.proofs.lemmas.Bool.{cases_lt}
 use Rattle.mcs_base.specs.Listings.{IsAmong}
 use Rattle.mcs_base.specs.Words.{most_name_bytes}
-use Rattle.mcs_system.specs.declared.fault.Limit.TheVariants.{FormulaSize}
+use Rattle.mcs_system.specs.declared.limit.Limit.TheVariants.{FormulaSize}
+use Rattle.mcs_base.proofs.Among.{map_among, among_either, flat_map_among}
 use Rattle.mcs_system.specs.Faults.{IsValid}
 use Rattle.mcs_system.specs.Plain.{Name, Formula, Truth, Falsity, Atom, Not, And, Or, Implies, Iff, Default, Item, Kb, Context, Read, Bridge, System}
 use Rattle.mcs_system.specs.Plain as plain
-use Rattle.mcs_system.proofs.Members.{among_either, flat_map_among}
 use Rattle.mcs_system.proofs.ValidLemmas.{limit_kept}
 use Rattle.mcs_language.specs.Canonical.{canonical_text}
 use Rattle.mcs_language.specs.Marks.{Mark, formula_in, size_of, text_marks, tokens_of}
-use Rattle.mcs_language.specs.Naming.{IsNamed}
+use Rattle.mcs_system.specs.Naming.{IsNamed}
 use Rattle.mcs_language.specs.Saying.{SaysSystem}
 use Rattle.mcs_language.specs.Texts.{Spells}
 use Rattle.mcs_language.specs.Written.{Written, WrittenContext, WrittenPlace, WrittenRead, WrittenBridge, IsText}
@@ -20,7 +20,6 @@ use Rattle.mcs_language.proofs.CanonicalSays.{primary-said, canonical-says}
 use Rattle.mcs_language.proofs.CanonicalWritten.{primary_written, formula_written, with_justs, item_written, kb_written, context_written, read_written, reads_written, bridge_written, canonical_written}
 use Rattle.mcs_language.proofs.FaultlessSizes.{some-large}
 use Rattle.mcs_language.proofs.FaultlessTexts.{no-faults}
-use Rattle.mcs_language.proofs.MarkLists.{map-among}
 use Rattle.mcs_language.proofs.Spelled.{AreShort, tokens-of-text}
 use Rattle.mcs_language.proofs.SpelledBridges.{canonical-spelled}
 use Rattle.mcs_language.proofs.SpellsWhole.{spells-whole}
@@ -53,7 +52,7 @@ abbrev IsWhole : Written → Type 0
 IsWhole w = (f : Formula) × (w ≡ formula_written f)
 
 whole-of : (fs : List Formula) (w : Written) → IsAmong w (map formula_written fs) → IsWhole w
-whole-of fs w h = let (f, there, is) = map-among formula_written w fs h in (f, is)
+whole-of fs w h = let (f, there, is) = map_among formula_written w fs h in (f, is)
 
 whole-justs : (d : Default) (js : List Formula) (w : Written) → IsAmong w (item_formulas (with_justs d js)) → IsWhole w
 whole-justs d [] w (inl e) = (d.pre, e)
@@ -78,7 +77,7 @@ whole-kb : (kb : Kb) (w : Written) → IsAmong w (kb_formulas (kb_written kb)) �
 whole-kb (plain.Classical formulas) w h = whole-of formulas w h
 whole-kb (plain.DefaultTheory items) w h =
     let (x, there, among) = flat_map_among item_formulas w (map item_written items) h in
-    let (i, inside, is) = map-among item_written x items there in
+    let (i, inside, is) = map_among item_written x items there in
     whole-item i w (subst (λ y. IsAmong w (item_formulas y)) is among)
 whole-kb (plain.Program rules) w h = absurd h
 
@@ -88,16 +87,16 @@ IsPrimary w = (f : Formula) × (w ≡ primary_written f)
 
 primary-read : (m : System) (pos neg : List Read) (r : WrittenRead) → IsAmong r (reads_written m pos neg) → IsPrimary (r.place).belief
 primary-read m pos neg r h = elim (among_either r (map (read_written m false) pos) (map (read_written m true) neg) h) [
-  | inl positive ↦ let (q, there, is) = map-among (read_written m false) r pos positive in (q.belief, ap (λ (x : WrittenRead). (x.place).belief) is)
-  | inr negative ↦ let (q, there, is) = map-among (read_written m true) r neg negative in (q.belief, ap (λ (x : WrittenRead). (x.place).belief) is)
+  | inl positive ↦ let (q, there, is) = map_among (read_written m false) r pos positive in (q.belief, ap (λ (x : WrittenRead). (x.place).belief) is)
+  | inr negative ↦ let (q, there, is) = map_among (read_written m true) r neg negative in (q.belief, ap (λ (x : WrittenRead). (x.place).belief) is)
 ]
 
 primary-place : (m : System) (p : WrittenPlace) → IsPlaceOf (canonical_written m) p → IsPrimary p.belief
 primary-place m p (OfHead w there is) =
-    let (b, inside, same) = map-among (bridge_written m) w m.bridges there in
+    let (b, inside, same) = map_among (bridge_written m) w m.bridges there in
     (b.head, ap (λ (x : WrittenPlace). x.belief) (sym is) ∙ ap (λ (x : WrittenBridge). (x.head).belief) same)
 primary-place m p (OfRead w there r read is) =
-    let (b, inside, same) = map-among (bridge_written m) w m.bridges there in
+    let (b, inside, same) = map_among (bridge_written m) w m.bridges there in
     let (f, belief) = primary-read m b.pos b.neg r (subst (λ (x : WrittenBridge). IsAmong r x.reads) same read) in
     (f, ap (λ (x : WrittenPlace). x.belief) (sym is) ∙ belief)
 
@@ -112,7 +111,7 @@ module _ (m : System) (named : IsNamed m) (valid : IsValid m) where
   canonical-shallow : IsShallow (canonical_written m)
   canonical-shallow = record {
     of_contexts = λ x w there among.
-        let (c, inside, same) = map-among context_written x m.contexts there in
+        let (c, inside, same) = map_among context_written x m.contexts there in
         let (f, is) = whole-kb c.kb w (subst (λ (y : WrittenContext). IsAmong w (kb_formulas y.kb)) same among) in
         let kept = size-kept (size_of w) (OfFormula x there w among refl) in
         let small : depth_of w < size_of w = subst (λ (y : Written). depth_of y < size_of y) (sym is) (whole-small f) in

@@ -1,38 +1,29 @@
 -- What is written of a valid system says that system.
-use Rattle.std.proofs.Common.{◌≡◌, ℕ, zero, suc, ◌<◌, Bool, true, false, ◌||◌, nat_eq, nat_lt, List, [], ◌∷◌, map, length, Some, None, slice_get, option_map, refl, sym, ap, ap₂, ◌∙◌, true≢false, arith}
+use Rattle.std.proofs.Common.{◌≡◌, ℕ, zero, suc, Bool, true, false, nat_eq, nat_lt, List, [], ◌∷◌, map, length, Some, None, slice_get, option_map, refl, sym, ap, ap₂, ◌∙◌, true≢false, arith}
 use Rattle.std.proofs.lemmas.Bool.Decides.{nat_tests}
-use Rattle.std.proofs.lemmas.Option.{slice_get-map}
+use Rattle.std.proofs.lemmas.Option.{slice_get-map, slice_get_within}
 use Rattle.std.proofs.lemmas.Slice.Eq.{bytes_eq-Decides}
 use Rattle.std.specs.List.{AllByRecursion, list_any, position, position_or_len}
+use Rattle.std.proofs.lemmas.Bool.{or_parts}
+use Rattle.mcs_base.proofs.Among.{map_back, none_get}
+use Rattle.mcs_base.proofs.Each.{all_among, all_from_no_any}
+use Rattle.mcs_base.proofs.Lists.{slice_get_below}
 use Rattle.mcs_system.specs.Faults.{has_twins, is_unjustified, has_unjustified, has_misfit, IsValid}
 use Rattle.mcs_system.specs.Logic.{is_in, same_name}
 use Rattle.mcs_system.specs.Plain.{Name, Formula, Truth, Falsity, Atom, Not, And, Or, Implies, Iff, Default, ProgramRule, Item, Kb, Context, Read, Bridge, System}
 use Rattle.mcs_system.specs.Plain as plain
 use Rattle.mcs_system.specs.Texts.{name_of_context}
-use Rattle.mcs_system.proofs.Members.{get_below}
-use Rattle.mcs_system.proofs.ValidLemmas.{none_at, all_from_none, tests_pass}
+use Rattle.mcs_system.proofs.ValidLemmas.{tests_pass}
 use Rattle.mcs_language.specs.Marks.{formula_in}
 use Rattle.mcs_language.specs.Saying.{item_in, positive_atoms, negative_atoms, rule_in, kb_in, context_in, SaysPlace, Each, positive_places, negative_places, SaysBridge, names_of, SaysSystem}
-use Rattle.mcs_language.specs.Naming.{IsNamed}
+use Rattle.mcs_system.specs.Naming.{IsNamed}
 use Rattle.mcs_language.proofs.CanonicalWritten.{primary_written, formula_written, with_justs, item_written, body_written, rule_written, kb_written, context_written, place_written, reads_written, bridge_written, canonical_written}
 use Rattle.mcs_language.proofs.CanonicalGrammar.{IsPlaced, IsPlacedBridge, all-placed}
 
 -- ---- lists
-map-back : {A B : Type 0} (f : A → B) (g : B → A) → ((x : A) → g (f x) ≡ x) → (xs : List A) → map g (map f xs) ≡ xs
-map-back f g back [] = refl
-map-back f g back (x ∷ xs) = ap₂ (λ y ys. y ∷ ys) (back x) (map-back f g back xs)
-
-map-back-all : {A B : Type 0} (f : A → B) (g : B → A) (P : A → Type 0) → ((x : A) → P x → g (f x) ≡ x) → (xs : List A) → AllByRecursion P xs → map g (map f xs) ≡ xs
-map-back-all f g P back [] h = refl
-map-back-all f g P back (x ∷ xs) h = ap₂ (λ y ys. y ∷ ys) (back x h.0) (map-back-all f g P back xs h.1)
-
 each-map : {W X : Type 0} (says : W → X → Type 0) (f : X → W) (P : X → Type 0) → ((x : X) → P x → says (f x) x) → (xs : List X) → AllByRecursion P xs → Each says (map f xs) xs
 each-map says f P each [] h = tt
 each-map says f P each (x ∷ xs) h = (each x h.0, each-map says f P each xs h.1)
-
-or_false : (a b : Bool) → (a || b) ≡ false → (a ≡ false) × (b ≡ false)
-or_false true b e = absurd (true≢false e)
-or_false false b e = (refl, e)
 
 -- ---- formulas
 pub primary-said : (f : Formula) → formula_in (primary_written f) ≡ f
@@ -56,7 +47,7 @@ formula-said (Implies f g) = primary-said (Implies f g)
 formula-said (Iff f g) = primary-said (Iff f g)
 
 formulas-said : (fs : List Formula) → map formula_in (map formula_written fs) ≡ fs
-formulas-said fs = map-back formula_written formula_in formula-said fs
+formulas-said fs = map_back formula_written formula_in fs (λ x _. formula-said x)
 
 -- ---- contexts
 default : Formula → List Formula → Formula → Item
@@ -93,8 +84,8 @@ rule-said r = ap₂ (λ pos neg. rule r.head pos neg) (positive-said r.pos r.neg
 
 kb-said : (kb : Kb) → has_unjustified kb ≡ false → kb_in (kb_written kb) ≡ kb
 kb-said (plain.Classical formulas) h = ap (λ fs. plain.Classical fs) (formulas-said formulas)
-kb-said (plain.DefaultTheory items) h = ap (λ is'. plain.DefaultTheory is') (map-back-all item_written item_in (λ i. is_unjustified i ≡ false) item-said items (all_from_none is_unjustified (λ i. is_unjustified i ≡ false) (λ i e. e) items h))
-kb-said (plain.Program rules) h = ap (λ rs. plain.Program rs) (map-back rule_written rule_in rule-said rules)
+kb-said (plain.DefaultTheory items) h = ap (λ is'. plain.DefaultTheory is') (map_back item_written item_in items (λ x here. item-said x (all_among ((λ i. is_unjustified i ≡ false)) items x (all_from_no_any (λ i. is_unjustified i ≡ false) is_unjustified (λ i e. e) items h) here)))
+kb-said (plain.Program rules) h = ap (λ rs. plain.Program rs) (map_back rule_written rule_in rules (λ x _. rule-said x))
 
 context : Name → Kb → Context
 context name kb = record { name = name; kb = kb }
@@ -119,31 +110,26 @@ apart : (b : Bool) (x n : Name) (ns : List Name) (k : ℕ) → b ≡ same_name n
 apart false x n ns k is none at = refl
 apart true x n ns k is none at =
     let same : n ≡ x = (bytes_eq-Decides n x).0 (sym is) in
-    absurd (true≢false (sym (same-itself x) ∙ none_at (same_name x) ns k x none (at ∙ ap Some same)))
+    absurd (true≢false (sym (same-itself x) ∙ none_get (same_name x) ns k x none (at ∙ ap Some same)))
 
 place-of : (ns : List Name) → has_twins ns ≡ false → (k : ℕ) (n : Name) → slice_get ns k ≡ Some n → position_or_len (same_name n) ns ≡ k
 place-of [] none k n at = absurd (let e : None ≡ Some n = at in cc)
 place-of (x ∷ xs) none zero n at = let same : x ≡ n = cc at in rw (ap (same_name n) same ∙ same-itself n) refl
 place-of (x ∷ xs) none (suc k) n at =
-    let both = or_false (is_in x xs) (has_twins xs) none in
+    let both = or_parts (is_in x xs) (has_twins xs) none in
     rw (apart (same_name n x) x n xs k refl both.0 at) (let rest = place-of xs both.1 k n at in omega arith)
-
-below : {A : Type 0} (xs : List A) (k : ℕ) (x : A) → slice_get xs k ≡ Some x → k < length xs
-below [] k x at = absurd (let e : None ≡ Some x = at in cc)
-below (y ∷ ys) zero x at = omega arith
-below (y ∷ ys) (suc k) x at = let less = below ys k x at in omega arith
 
 position-of : (ns : List Name) → has_twins ns ≡ false → (k : ℕ) (n : Name) → slice_get ns k ≡ Some n → position (same_name n) ns ≡ Some k
 position-of ns none k n at =
-    let less : nat_lt k (length ns) ≡ true = (let h = below ns k n at in grind (arith, nat_tests)) in
+    let less : nat_lt k (length ns) ≡ true = (let h = slice_get_within ns k n at in grind (arith, nat_tests)) in
     rw (place-of ns none k n at, less) refl
 
 no-twins : (m : System) → IsValid m → has_twins (map name_in m.contexts) ≡ false
-no-twins m valid = (or_false (has_twins (map name_in m.contexts)) (has_twins (map (λ (b : Bridge). b.name) m.bridges)) (tests_pass m valid).apart).0
+no-twins m valid = (or_parts (has_twins (map name_in m.contexts)) (has_twins (map (λ (b : Bridge). b.name) m.bridges)) (tests_pass m valid).apart).0
 
 place-said : (m : System) → IsValid m → (r : Read) → IsPlaced m r → SaysPlace (names_of (map context_written m.contexts)) (place_written m r) r
 place-said m valid r h =
-    let (c, is) = get_below m.contexts r.context h.0 in
+    let (c, is) = slice_get_below m.contexts r.context h.0 in
     let named : name_of_context (slice_get m.contexts r.context) ≡ c.name = ap name_of_context is in
     record {
       number = rw (named, names-written m.contexts) (position-of (map name_in m.contexts) (no-twins m valid) r.context c.name (slice_get-map name_in m.contexts r.context ∙ ap (option_map name_in) is));
@@ -173,9 +159,9 @@ bridge-said m valid b h =
 -- ---- the whole text
 pub canonical-says : (m : System) → IsNamed m → IsValid m → SaysSystem (canonical_written m) m
 canonical-says m named valid =
-    let justified = or_false (list_any (λ (c : Context). has_unjustified c.kb) m.contexts) (list_any (has_misfit m.contexts) m.bridges) (tests_pass m valid).fitting in
+    let justified = or_parts (list_any (λ (c : Context). has_unjustified c.kb) m.contexts) (list_any (has_misfit m.contexts) m.bridges) (tests_pass m valid).fitting in
     let Fits : Context → Type 0 = λ c. has_unjustified c.kb ≡ false in
     record {
-      contexts = sym (map-back-all context_written context_in Fits context-said m.contexts (all_from_none (λ (c : Context). has_unjustified c.kb) Fits (λ c e. e) m.contexts justified.0));
+      contexts = sym (map_back context_written context_in m.contexts (λ x h. context-said x (all_among (Fits) m.contexts x (all_from_no_any Fits (λ (c : Context). has_unjustified c.kb) (λ c e. e) m.contexts justified.0) h)));
       bridges = each-map (SaysBridge (names_of (map context_written m.contexts))) (bridge_written m) (IsPlacedBridge m) (bridge-said m valid) m.bridges (all-placed m named valid);
     }

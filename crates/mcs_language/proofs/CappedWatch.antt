@@ -5,7 +5,7 @@ use Rattle.std.proofs.lemmas.List.{append_assoc}
 use Rattle.std.proofs.lemmas.List.Sums.{sum_by-append, sum_by-cons}
 use Rattle.std.specs.List.{flat_map, AllByRecursion}
 use Rattle.mcs_base.specs.Listings.{IsAmong}
-use Rattle.mcs_system.proofs.Members.{among_left, among_right, among_either}
+use Rattle.mcs_base.proofs.Among.{among_left, among_right, among_either}
 use Rattle.mcs_system.specs.Plain.{Name}
 use Rattle.mcs_language.specs.declared.watch.Watch.{Watch}
 use Rattle.mcs_language.specs.declared.watch.ContextSeen.{ContextSeen}

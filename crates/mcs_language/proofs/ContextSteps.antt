@@ -3,6 +3,8 @@ use Rattle.std.proofs.Common.{◌≡◌, ℕ, ◌+◌, ◌≤◌, Bool, true, Li
 use Rattle.std.specs.Prelude.{min, ◌-◌, ◌^◌, count_by, IsTrue}
 use Rattle.std.proofs.lemmas.List.{append-nil, length-append}
 use Rattle.mcs_base.specs.Listings.{IsAmong}
+use Rattle.mcs_base.proofs.Among.{among_push}
+use Rattle.mcs_base.proofs.Sums.{count_by_push_no, count_by_push_yes}
 use Rattle.mcs_system.specs.Plain.{Name}
 use Rattle.mcs_system.specs.Logic.{same_name}
 use Rattle.mcs_system.proofs.Sameness.{same_name-itself}
@@ -13,8 +15,8 @@ use Rattle.mcs_language.specs.Faults.{names_target, begins_default_of, begins_it
 use Rattle.mcs_language.specs.TextImages.{read_of}
 use Rattle.mcs_language.specs.Watching.{Lists, IsSeen, IsSpokenOf, names_seen, IsWatch, IsNumberOf, IsAllowed}
 use Rattle.mcs_language.proofs.ApartLemmas.{apart-program, apart-item, apart-default, apart-target, apart-atom}
-use Rattle.mcs_language.proofs.DifferentLemmas.{lists-same, lists-more, among-push, push-among}
-use Rattle.mcs_language.proofs.LaterLemmas.{count-later, count-more, same-among, the-new, earlier, atoms-later, inputs-later}
+use Rattle.mcs_language.proofs.DifferentLemmas.{lists-same, lists-more}
+use Rattle.mcs_language.proofs.LaterLemmas.{same-among, the-new, earlier, atoms-later, inputs-later}
 use Rattle.mcs_language.proofs.StepWatch.{context-step}
 use Rattle.mcs_language.proofs.WatchFacts.{seen-name, seen-here, one-more}
 
@@ -42,9 +44,9 @@ module _ (w : Watch) (before : List Use) (watch : IsWatch w before) (n : Name) (
         (λ x differ. apart-program n x (λ e. differ (e ∙ sym name)))
         (record {
           program = (λ _. subst (λ (x : Name). IsAmong (SaysProgram x) (before ++ SaysProgram n ∷ [])) (sym name) (the-new before (SaysProgram n)), λ _. refl);
-          rules = seen.rules ∙ sym (count-later (names_target c.name) before (SaysProgram n) refl);
-          defaults = seen.defaults ∙ sym (count-later (begins_default_of c.name) before (SaysProgram n) refl);
-          items = seen.items ∙ sym (count-later (begins_item_of c.name) before (SaysProgram n) refl);
+          rules = seen.rules ∙ sym (count_by_push_no (names_target c.name) before (SaysProgram n) refl);
+          defaults = seen.defaults ∙ sym (count_by_push_no (begins_default_of c.name) before (SaysProgram n) refl);
+          items = seen.items ∙ sym (count_by_push_no (begins_item_of c.name) before (SaysProgram n) refl);
           atoms = atoms-later before (SaysProgram n) c.name c.atoms.items (λ a e. cc) seen.atoms;
           inputs = inputs-later before (SaysProgram n) c.name c.inputs _ _ (λ d f e. cc) seen.inputs (λ j r at. at) (λ j r at was. at);
           few = seen.few;
@@ -58,9 +60,9 @@ module _ (w : Watch) (before : List Use) (watch : IsWatch w before) (n : Name) (
         (λ x differ. apart-item n x (λ e. differ (e ∙ sym name)))
         (record {
           program = let same = same-among before (BeginsItem n) (SaysProgram c.name) (λ e. cc) in (λ h. same.0 (seen.program.0 h), λ h. seen.program.1 (same.1 h));
-          rules = seen.rules ∙ sym (count-later (names_target c.name) before (BeginsItem n) refl);
-          defaults = seen.defaults ∙ sym (count-later (begins_default_of c.name) before (BeginsItem n) refl);
-          items = more ∙ ap (λ (y : ℕ). y + 1) seen.items ∙ sym (count-more (begins_item_of c.name) before (BeginsItem n) mine);
+          rules = seen.rules ∙ sym (count_by_push_no (names_target c.name) before (BeginsItem n) refl);
+          defaults = seen.defaults ∙ sym (count_by_push_no (begins_default_of c.name) before (BeginsItem n) refl);
+          items = more ∙ ap (λ (y : ℕ). y + 1) seen.items ∙ sym (count_by_push_yes (begins_item_of c.name) before (BeginsItem n) mine);
           atoms = atoms-later before (BeginsItem n) c.name c.atoms.items (λ a e. cc) seen.atoms;
           inputs = inputs-later before (BeginsItem n) c.name c.inputs _ _ (λ d f e. cc) seen.inputs (λ j r at. at) (λ j r at was. at);
           few = (seen.few.0, seen.few.1, (let other : c.items ≡ 4096 → ⊥ = λ e. allowed (subst (λ (y : Name). count_by (begins_item_of y) before ≡ 4096) name (sym seen.items ∙ e)) in let less = seen.few.2 in omega arith), seen.few.3, seen.few.4);
@@ -74,9 +76,9 @@ module _ (w : Watch) (before : List Use) (watch : IsWatch w before) (n : Name) (
         (λ x differ. apart-default n x (λ e. differ (e ∙ sym name)))
         (record {
           program = let same = same-among before (BeginsDefault n) (SaysProgram c.name) (λ e. cc) in (λ h. same.0 (seen.program.0 h), λ h. seen.program.1 (same.1 h));
-          rules = seen.rules ∙ sym (count-later (names_target c.name) before (BeginsDefault n) refl);
-          defaults = more ∙ ap (λ (y : ℕ). y + 1) seen.defaults ∙ sym (count-more (begins_default_of c.name) before (BeginsDefault n) mine);
-          items = seen.items ∙ sym (count-later (begins_item_of c.name) before (BeginsDefault n) refl);
+          rules = seen.rules ∙ sym (count_by_push_no (names_target c.name) before (BeginsDefault n) refl);
+          defaults = more ∙ ap (λ (y : ℕ). y + 1) seen.defaults ∙ sym (count_by_push_yes (begins_default_of c.name) before (BeginsDefault n) mine);
+          items = seen.items ∙ sym (count_by_push_no (begins_item_of c.name) before (BeginsDefault n) refl);
           atoms = atoms-later before (BeginsDefault n) c.name c.atoms.items (λ a e. cc) seen.atoms;
           inputs = inputs-later before (BeginsDefault n) c.name c.inputs _ _ (λ d f e. cc) seen.inputs (λ j r at. at) (λ j r at was. at);
           few = (seen.few.0, (let other : c.defaults ≡ 10 → ⊥ = λ e. allowed (subst (λ (y : Name). count_by (begins_default_of y) before ≡ 10) name (sym seen.defaults ∙ e)) in let less = seen.few.1 in omega arith), seen.few.2, seen.few.3, seen.few.4);
@@ -90,9 +92,9 @@ module _ (w : Watch) (before : List Use) (watch : IsWatch w before) (n : Name) (
         (λ x differ. apart-target n x (λ e. differ (e ∙ sym name)))
         (record {
           program = let same = same-among before (NamesTarget n) (SaysProgram c.name) (λ e. cc) in (λ h. same.0 (seen.program.0 h), λ h. seen.program.1 (same.1 h));
-          rules = more ∙ ap (λ (y : ℕ). y + 1) seen.rules ∙ sym (count-more (names_target c.name) before (NamesTarget n) mine);
-          defaults = seen.defaults ∙ sym (count-later (begins_default_of c.name) before (NamesTarget n) refl);
-          items = seen.items ∙ sym (count-later (begins_item_of c.name) before (NamesTarget n) refl);
+          rules = more ∙ ap (λ (y : ℕ). y + 1) seen.rules ∙ sym (count_by_push_yes (names_target c.name) before (NamesTarget n) mine);
+          defaults = seen.defaults ∙ sym (count_by_push_no (begins_default_of c.name) before (NamesTarget n) refl);
+          items = seen.items ∙ sym (count_by_push_no (begins_item_of c.name) before (NamesTarget n) refl);
           atoms = atoms-later before (NamesTarget n) c.name c.atoms.items (λ a e. cc) seen.atoms;
           inputs = inputs-later before (NamesTarget n) c.name c.inputs _ _ (λ d f e. cc) seen.inputs (λ j r at. at) (λ j r at was. at);
           few = ((let other : c.rules ≡ 12 → ⊥ = λ e. allowed.1 (subst (λ (y : Name). count_by (names_target y) before ≡ 12) name (sym seen.rules ∙ e)) in let less = seen.few.0 in omega arith), seen.few.1, seen.few.2, seen.few.3, seen.few.4);
@@ -109,9 +111,9 @@ module _ (w : Watch) (before : List Use) (watch : IsWatch w before) (n : Name) (
           (record {
             program = let as' = same-among before (AtomOf n a) (SaysProgram c'.name) (λ e. cc) in subst (λ (b : Bool). IsTrue b ↔ IsAmong (SaysProgram c'.name) (before ++ AtomOf n a ∷ [])) (sym program)
                 (let is = subst (λ (y : Name). IsTrue c.is_program ↔ IsAmong (SaysProgram y) before) (sym same) seen.program in (λ h. as'.0 (is.0 h), λ h. is.1 (as'.1 h)));
-            rules = rules ∙ seen.rules ∙ ap (λ (y : Name). count_by (names_target y) before) (sym same) ∙ sym (count-later (names_target c'.name) before (AtomOf n a) refl);
-            defaults = defaults ∙ seen.defaults ∙ ap (λ (y : Name). count_by (begins_default_of y) before) (sym same) ∙ sym (count-later (begins_default_of c'.name) before (AtomOf n a) refl);
-            items = items ∙ seen.items ∙ ap (λ (y : Name). count_by (begins_item_of y) before) (sym same) ∙ sym (count-later (begins_item_of c'.name) before (AtomOf n a) refl);
+            rules = rules ∙ seen.rules ∙ ap (λ (y : Name). count_by (names_target y) before) (sym same) ∙ sym (count_by_push_no (names_target c'.name) before (AtomOf n a) refl);
+            defaults = defaults ∙ seen.defaults ∙ ap (λ (y : Name). count_by (begins_default_of y) before) (sym same) ∙ sym (count_by_push_no (begins_default_of c'.name) before (AtomOf n a) refl);
+            items = items ∙ seen.items ∙ ap (λ (y : Name). count_by (begins_item_of y) before) (sym same) ∙ sym (count_by_push_no (begins_item_of c'.name) before (AtomOf n a) refl);
             atoms = subst (λ (y : Name). Lists c'.atoms.items (WasAtom (before ++ AtomOf n a ∷ []) y)) (sym same) listed;
             inputs = inputs-later before (AtomOf n a) c'.name c'.inputs _ _ (λ d f e. cc) (rw (same, inputs) seen.inputs) (λ j r at. at) (λ j r at was. at);
             few = (omega (arith, seen.few.0), omega (arith, seen.few.1), omega (arith, seen.few.2), few, rw inputs seen.few.4);
@@ -126,7 +128,7 @@ module _ (w : Watch) (before : List Use) (watch : IsWatch w before) (n : Name) (
           (subst (λ (xs : List Name). Lists xs (WasAtom (before ++ AtomOf n a ∷ []) c.name)) (sym atoms)
           (lists-same c.atoms.items (WasAtom before c.name) (WasAtom (before ++ AtomOf n a ∷ []) c.name) (λ b. (
             λ h. earlier before (AtomOf n a) (AtomOf c.name b) h,
-            λ h. elim (among-push (AtomOf c.name b) before (AtomOf n a) h) [ inl h' ↦ h' | inr e ↦ subst (λ (u : Use). IsAmong u before) (sym e) was' ],
+            λ h. elim ((among_push (AtomOf c.name b) before (AtomOf n a)).0 h) [ inl h' ↦ h' | inr e ↦ subst (λ (u : Use). IsAmong u before) (sym e) was' ],
           )) seen.atoms))
           (omega (arith, ap length atoms, seen.few.3))
 
@@ -135,8 +137,8 @@ module _ (w : Watch) (before : List Use) (watch : IsWatch w before) (n : Name) (
           step-atom
           (subst (λ (xs : List Name). Lists xs (WasAtom (before ++ AtomOf n a ∷ []) c.name)) (sym atoms)
           (lists-more c.atoms.items (WasAtom before c.name) (WasAtom (before ++ AtomOf n a ∷ []) c.name) a (λ b. (
-            λ h. elim (among-push (AtomOf c.name b) before (AtomOf n a) h) [ inl h' ↦ inl h' | inr e ↦ inr (let e' : b ≡ a = cc in e') ],
-            λ h. elim h [ inl h' ↦ earlier before (AtomOf n a) (AtomOf c.name b) h' | inr e ↦ push-among (AtomOf c.name b) before (AtomOf n a) (inr (let e' = name in cc)) ],
+            λ h. elim ((among_push (AtomOf c.name b) before (AtomOf n a)).0 h) [ inl h' ↦ inl h' | inr e ↦ inr (let e' : b ≡ a = cc in e') ],
+            λ h. elim h [ inl h' ↦ earlier before (AtomOf n a) (AtomOf c.name b) h' | inr e ↦ (among_push (AtomOf c.name b) before (AtomOf n a)).1 (inr (let e' = name in cc)) ],
           )) new seen.atoms))
           (let many : length c.atoms.items ≡ 64 → ⊥ = λ e. allowed ((one-more c.atoms.items (WasAtom before n) 64 a (subst (λ (y : Name). Lists c.atoms.items (WasAtom before y)) name seen.atoms)).1 (e, new)) in
           let few = seen.few.3 in let long = length-append c.atoms.items (a ∷ []) in omega (arith, ap length atoms))

@@ -3,8 +3,8 @@ use Rattle.std.proofs.Common.{◌≡◌, ℕ, Bool, true, false, codes, List, []
 use Rattle.std.specs.List.{flat_map}
 use Rattle.std.proofs.lemmas.Grind.{flat_map-append}
 use Rattle.mcs_base.specs.Listings.{IsAmong}
+use Rattle.mcs_base.proofs.Among.{among_left, among_right, among_either, among_flat_map, flat_map_among}
 use Rattle.mcs_system.specs.Plain.{Name}
-use Rattle.mcs_system.proofs.Members.{among_left, among_right, among_either, among_flat_map, flat_map_among}
 use Rattle.mcs_language.specs.Written.{Written, WrittenDefault, WrittenItem, Fact, Rule, WrittenKb, Classical, DefaultTheory, Program, WrittenRule}
 use Rattle.mcs_language.specs.Marks.{Use, SaysProgram, BeginsItem, BeginsDefault, AtomOf, IsNumber, OpensWithin, Mark, mark, with_first, whole_marks, after_sign, default_marks, item_marks, rule_marks, ended, kb_marks, uses_of}
 use Rattle.mcs_language.proofs.UsesParts.{item_formulas, kb_formulas, kb_rules, IsProgramKb}

@@ -2,14 +2,15 @@
 use Rattle.std.proofs.Common.{◌≡◌, ℕ, ◌≤◌, List, [], ◌∷◌, map, length, Option, Some, None, refl, sym, ap, subst, ◌∙◌, inl, arith}
 use Rattle.std.specs.List.{AllByRecursion}
 use Rattle.std.proofs.lemmas.List.{length-map}
+use Rattle.std.proofs.lemmas.Option.{same_Some}
 use Rattle.mcs_base.specs.Listings.{IsAmong}
+use Rattle.mcs_base.proofs.Among.{among_flat_map}
 use Rattle.mcs_system.specs.Plain.{Name}
 use Rattle.mcs_system.specs.Plain as plain
 use Rattle.mcs_system.specs.Seen.{context_of, bridge_of, system_of}
 use Rattle.mcs_system.specs.Faults.{IsValid}
 use Rattle.mcs_system.specs.declared.knowledge.Context as code_context
 use Rattle.mcs_system.specs.declared.bridge.Bridge as code_bridge
-use Rattle.mcs_system.proofs.Members.{among_flat_map}
 use Rattle.mcs_tokens.specs.Tokens.{AreTokens}
 use Rattle.mcs_tokens.specs.declared.scan.Span.{Span}
 use Rattle.mcs_language.specs.declared.reader.Parts.{Parts}
@@ -25,7 +26,6 @@ use Rattle.mcs_language.specs.Known.{WasNamed, SpeaksOfNamed}
 use Rattle.mcs_language.specs.Ends.{AreParts, context_names, AreKnown}
 use Rattle.mcs_language.specs.Progress.{IsUpTo}
 use Rattle.mcs_language.proofs.FaultTheory.{is-whole, free-whole}
-use Rattle.mcs_language.proofs.TextRuns.{some-is}
 use Rattle.mcs_language.proofs.Within.{IsWithin, NoFaults}
 use Rattle.mcs_language.proofs.UsesCounts.{context-count, names-there}
 use Rattle.mcs_language.proofs.ValidTexts.{valid-text}
@@ -51,7 +51,7 @@ hands-nothing (Some t) h = absurd h
 -- ---- the rules that are whole
 bridges-whole : (cs : List WrittenContext) (bs : List WrittenBridge) (p : Place) (t : WrittenText) → finished_text (record { contexts = cs; bridges = bs; place = p }) ≡ Some t → bs ≡ t.bridges
 unfolding finished_text
-bridges-whole cs bs Between t e = ap (λ (u : WrittenText). u.bridges) (some-is e)
+bridges-whole cs bs Between t e = ap (λ (u : WrittenText). u.bridges) (same_Some _ _ e)
 bridges-whole cs bs p t e = absurd (cc)
 
 -- ---- contexts that were named

@@ -2,22 +2,17 @@
 use Rattle.std.proofs.Common.{◌≡◌, ℕ, suc, ◌+◌, ◌<◌, ◌≤◌, List, [], ◌∷◌, ◌++◌, take, drop, length, Some, None, refl, sym, ap, subst, ◌∙◌, inl, inr, ◌⊎◌, arith, append_assoc, length-take-le}
 use Rattle.std.specs.Prelude.{slice_get, ◌≢◌}
 use Rattle.std.proofs.lemmas.List.{map-append, take-append-drop, take_more, take_all}
-use Rattle.std.proofs.lemmas.Option.{slice_get_within, get_or_from_slice_get}
+use Rattle.std.proofs.lemmas.Option.{slice_get_within, get_or_from_slice_get, none-some, same_Some}
 use Rattle.std.proofs.Math.Nat.{eq-or-lt_of_le}
 use Rattle.std.proofs.Math.Seq.{take-append_seam}
+use Rattle.mcs_base.proofs.Lists.{slice_get_kept, slice_get_seam}
 use Rattle.mcs_language.specs.Written.{WrittenText, IsText}
 use Rattle.mcs_language.specs.Marks.{Token, Mark, text_marks, tokens_of, uses_of}
 use Rattle.mcs_language.specs.Faults.{Fault, NoGrammar, NoContext, Twin, NoAtom, Exceeds, rank, Has, Begins, IsWhole, IsMarked, IsFaultAt, IsFirstFault}
 use Rattle.mcs_language.specs.TextSteps.{PartText, nothing_written, text_step, text_steps, finished_text}
-use Rattle.mcs_language.proofs.TextRuns.{some-is, steps-first, steps-more, steps-append, steps-split}
+use Rattle.mcs_language.proofs.TextRuns.{steps-first, steps-more, steps-append, steps-split}
 use Rattle.mcs_language.proofs.TextForward.{whole_text}
 use Rattle.mcs_language.proofs.TextTheory.{text-forward, text-sound, text-begun}
-
-some-none : {A : Type 0} {x : A} → None ≡ Some x → ⊥
-some-none e = cc
-
-take-all : {A : Type 0} (xs : List A) (k : ℕ) → k ≡ length xs → take k xs ≡ xs
-take-all xs k e = take_all k xs (omega arith)
 
 -- the first k tokens were taken
 pub record Reached (ts : List Token) (k : ℕ) (ms : List Mark) (s : PartText) : Type 0 where
@@ -62,7 +57,7 @@ front-of us t n h first =
 
 same-run : (us : List Token) (ms ns : List Mark) (s s' : PartText) → text_steps nothing_written us ≡ Some (ms, s) → text_steps nothing_written us ≡ Some (ns, s') → (ms ≡ ns) × (s ≡ s')
 same-run us ms ns s s' e h =
-    let same : ◌≡◌ {A = List Mark × PartText} (ms, s) (ns, s') = some-is (sym e ∙ h) in
+    let same : ◌≡◌ {A = List Mark × PartText} (ms, s) (ns, s') = same_Some _ _ (sym e ∙ h) in
     (ap (λ (p : List Mark × PartText). p.0) same, ap (λ (p : List Mark × PartText). p.1) same)
 
 -- ---- the grammar
@@ -74,7 +69,7 @@ begins ts k ms s h =
     record { text = begun.0; grammar = begun.1; first = ap (take (length us)) tokens ∙ take-append_seam us (tokens_of begun.3.0) }
 
 untaken : (s s' : PartText) (t : Token) (r : Mark × PartText) → text_step s t ≡ None → s ≡ s' → text_step s' t ≡ Some r → ⊥
-untaken s s' t r none same step = some-none (sym none ∙ ap (λ (x : PartText). text_step x t) same ∙ step)
+untaken s s' t r none same step = none-some _ (sym none ∙ ap (λ (x : PartText). text_step x t) same ∙ step)
 
 pub begins-no-more : (ts : List Token) (k : ℕ) (ms : List Mark) (s : PartText) (t : Token) → Reached ts k ms s → slice_get ts k ≡ Some t → text_step s t ≡ None → ¬ Begins (take (k + 1) ts)
 begins-no-more ts k ms s t h is none b =
@@ -86,23 +81,16 @@ begins-no-more ts k ms s t h is none b =
 
 pub not-whole : (ts : List Token) (k : ℕ) (ms : List Mark) (s : PartText) → Reached ts k ms s → k ≡ length ts → finished_text s ≡ None → ¬ IsWhole ts
 not-whole ts k ms s h end none w =
-    let all : text_steps nothing_written (take k ts) ≡ Some (text_marks w.0, whole_text w.0) = ap (text_steps nothing_written) (take-all ts k end ∙ sym w.2) ∙ (text-forward w.0 w.1).0 in
+    let all : text_steps nothing_written (take k ts) ≡ Some (text_marks w.0, whole_text w.0) = ap (text_steps nothing_written) (take_all k ts (let e = end in omega arith) ∙ sym w.2) ∙ (text-forward w.0 w.1).0 in
     let same = same-run (take k ts) ms (text_marks w.0) s (whole_text w.0) h.steps all in
-    some-none (sym none ∙ ap finished_text same.1 ∙ (text-forward w.0 w.1).1)
+    none-some _ (sym none ∙ ap finished_text same.1 ∙ (text-forward w.0 w.1).1)
 
 pub is-whole : (ts : List Token) (k : ℕ) (ms : List Mark) (s : PartText) (t : WrittenText) → Reached ts k ms s → k ≡ length ts → finished_text s ≡ Some t → IsText t × (text_marks t ≡ ms) × (tokens_of (text_marks t) ≡ ts)
 is-whole ts k ms s t h end e =
     let sound = text-sound (take k ts) ms s t h.steps e in
-    (sound.0, sound.1, ap tokens_of sound.1 ∙ sound.2 ∙ take-all ts k end)
+    (sound.0, sound.1, ap tokens_of sound.1 ∙ sound.2 ∙ take_all k ts (let e = end in omega arith))
 
 -- ---- the mark of a token, after those of the tokens before it
-at-seam : {A : Type 0} (xs : List A) (y : A) (ys : List A) → slice_get ((xs ++ y ∷ []) ++ ys) (length xs) ≡ Some y
-at-seam [] y ys = refl
-at-seam (x ∷ xs) y ys = at-seam xs y ys
-
-to-seam : {A : Type 0} (xs : List A) (y : A) (ys : List A) → take (length xs) ((xs ++ y ∷ []) ++ ys) ≡ xs
-to-seam xs y ys = ap (take (length xs)) (append_assoc xs (y ∷ []) ys) ∙ take-append_seam xs (y ∷ ys)
-
 module _ (ts : List Token) (k : ℕ) (ms : List Mark) (s : PartText) (t : Token) (m : Mark) (s' : PartText) (reached : Reached ts k ms s) (is : slice_get ts k ≡ Some t) (step : text_step s t ≡ Some (m, s')) where
   pub marked-has : (f : Fault) → IsMarked ts k f → Has f (uses_of ms) m
   marked-has f h =
@@ -111,9 +99,9 @@ module _ (ts : List Token) (k : ℕ) (ms : List Mark) (s : PartText) (t : Token)
       let same = same-run (take (k + 1) ts) (ms ++ m ∷ []) x.front s' x.state next.steps x.steps in
       let marks : (ms ++ m ∷ []) ++ x.rest ≡ text_marks h.text = ap (λ (xs : List Mark). xs ++ x.rest) same.0 ∙ x.marks_are in
       let len : length ms ≡ k = marks-length ts k ms s reached in
-      let before : take k (text_marks h.text) ≡ ms = ap (take k) (sym marks) ∙ ap (λ (n : ℕ). take n ((ms ++ m ∷ []) ++ x.rest)) (sym len) ∙ to-seam ms m x.rest in
-      let here : Some m ≡ Some h.here = sym (at-seam ms m x.rest) ∙ ap (slice_get ((ms ++ m ∷ []) ++ x.rest)) len ∙ ap (λ (xs : List Mark). slice_get xs k) marks ∙ h.is_here in
-      subst (Has f (uses_of ms)) (sym (some-is here)) (subst (λ (xs : List Mark). Has f (uses_of xs) h.here) before h.has)
+      let before : take k (text_marks h.text) ≡ ms = ap (take k) (sym marks) ∙ ap (λ (n : ℕ). take n ((ms ++ m ∷ []) ++ x.rest)) (sym len) ∙ (ap (take (length ms)) (append_assoc ms (m ∷ []) x.rest) ∙ take-append_seam ms (m ∷ x.rest)) in
+      let here : Some m ≡ Some h.here = sym (slice_get_kept (ms ++ m ∷ []) x.rest (length ms) m (slice_get_seam ms m [] (length ms) refl)) ∙ ap (slice_get ((ms ++ m ∷ []) ++ x.rest)) len ∙ ap (λ (xs : List Mark). slice_get xs k) marks ∙ h.is_here in
+      subst (Has f (uses_of ms)) (sym (same_Some _ _ here)) (subst (λ (xs : List Mark). Has f (uses_of xs) h.here) before h.has)
 
   pub has-marked : (f : Fault) → Has f (uses_of ms) m → IsMarked ts k f
   has-marked f h =
@@ -124,13 +112,13 @@ module _ (ts : List Token) (k : ℕ) (ms : List Mark) (s : PartText) (t : Token)
       let tokens : tokens_of (text_marks begun.0) ≡ us ++ tokens_of rest = ap tokens_of begun.3.1 ∙ map-append (λ (x : Mark). x.token) (ms ++ m ∷ []) rest ∙ ap (λ (xs : List Token). xs ++ tokens_of rest) begun.2 in
       let len : length ms ≡ k = marks-length ts k ms s reached in
       let long : length us ≡ k + 1 = length-take-le (k + 1) ts next.inside in
-      let before : take k (text_marks begun.0) ≡ ms = ap (take k) begun.3.1 ∙ ap (λ (n : ℕ). take n ((ms ++ m ∷ []) ++ rest)) (sym len) ∙ to-seam ms m rest in
+      let before : take k (text_marks begun.0) ≡ ms = ap (take k) begun.3.1 ∙ ap (λ (n : ℕ). take n ((ms ++ m ∷ []) ++ rest)) (sym len) ∙ (ap (take (length ms)) (append_assoc ms (m ∷ []) rest) ∙ take-append_seam ms (m ∷ rest)) in
       record {
         text = begun.0;
         grammar = begun.1;
         same = ap (take (k + 1)) tokens ∙ ap (λ (n : ℕ). take n (us ++ tokens_of rest)) (sym long) ∙ take-append_seam us (tokens_of rest);
         here = m;
-        is_here = ap (λ (xs : List Mark). slice_get xs k) begun.3.1 ∙ ap (slice_get ((ms ++ m ∷ []) ++ rest)) (sym len) ∙ at-seam ms m rest;
+        is_here = ap (λ (xs : List Mark). slice_get xs k) begun.3.1 ∙ ap (slice_get ((ms ++ m ∷ []) ++ rest)) (sym len) ∙ slice_get_kept (ms ++ m ∷ []) rest (length ms) m (slice_get_seam ms m [] (length ms) refl);
         has = subst (λ (xs : List Mark). Has f (uses_of xs) m) (sym before) h;
       }
 

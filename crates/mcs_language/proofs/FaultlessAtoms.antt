@@ -2,16 +2,17 @@
 use Rattle.std.proofs.Common.{◌≡◌, ℕ, ◌+◌, Bool, true, false, not, nat_eq, List, [], ◌∷◌, ◌++◌, filter, take, Option, Some, refl, sym, ap, subst, ◌∙◌, inl, inr, arith, slice_get}
 use Rattle.std.specs.List.{position, position_from, flat_map}
 use Rattle.std.proofs.lemmas.Iterator.Adapters.{position_from-zero}
+use Rattle.std.proofs.lemmas.Bool.{eq-eqb}
+use Rattle.std.proofs.lemmas.Option.{same_Some}
 use Rattle.mcs_base.specs.Listings.{IsAmong}
-use Rattle.mcs_base.proofs.ListingLemmas.{map_among}
+use Rattle.mcs_base.proofs.Among.{among_map, among_left, among_right, among_filter, among_flat_map}
 use Rattle.mcs_system.specs.Plain.{Name}
 use Rattle.mcs_system.specs.Plain as plain
 use Rattle.mcs_system.specs.Logic.{same_name, atoms}
 use Rattle.mcs_system.specs.Systems.{occurrences, context_variables}
 use Rattle.mcs_system.specs.Atoms.{kb_atoms, own_atoms, all_heads_into, atom_occurrences, first_names, atoms_of}
 use Rattle.mcs_system.specs.Faults.{IsValid}
-use Rattle.mcs_system.specs.declared.fault.Limit.TheVariants.{AtomsPerContext}
-use Rattle.mcs_system.proofs.Members.{among_left, among_right, among_filter, among_flat_map}
+use Rattle.mcs_system.specs.declared.limit.Limit.TheVariants.{AtomsPerContext}
 use Rattle.mcs_system.proofs.Sameness.{same_name-is, same_name-itself}
 use Rattle.mcs_system.proofs.VariableLemmas.{among_firsts}
 use Rattle.mcs_system.proofs.ValidLemmas.{few_atoms}
@@ -19,10 +20,8 @@ use Rattle.mcs_language.specs.Written.{WrittenContext, WrittenText}
 use Rattle.mcs_language.specs.Marks.{Use, AtomOf, Mark, formula_in, text_marks, uses_of}
 use Rattle.mcs_language.specs.Saying.{context_in, names_of, SaysSystem}
 use Rattle.mcs_language.specs.Faults.{WasAtom, IsBeyond}
-use Rattle.mcs_language.proofs.TextRuns.{some-is}
 use Rattle.mcs_language.proofs.TextSplits.{IsSplit, uses-split, among-before, among-here}
 use Rattle.mcs_language.proofs.SaidParts.{in-range, only-context, SaidOf, AsHead, AsRead, said-place}
-use Rattle.mcs_language.proofs.FaultlessCounts.{is-number}
 use Rattle.mcs_language.proofs.FaultlessReads.{one-more}
 use Rattle.mcs_language.proofs.UsesLemmas.{text_uses, IsAtomOf, atoms-there}
 
@@ -64,12 +63,12 @@ module _ (m : plain.System) (i : ℕ) (a : Name) where
   said-atom : (f : plain.Formula) → SaidOf m i f → IsAmong a (atoms f) → IsAmong a (atom_occurrences m i)
   unfolding heads beliefs
   said-atom f (AsHead b there into is) h =
-      let kept = among_filter (λ (x : plain.Bridge). nat_eq x.target i) b m.bridges there (is-number b.target i into) in
-      let head = map_among (λ (x : plain.Bridge). x.head) b (filter (λ (x : plain.Bridge). nat_eq x.target i) m.bridges) kept in
+      let kept = among_filter (λ (x : plain.Bridge). nat_eq x.target i) b m.bridges there (eq-eqb b.target i into) in
+      let head = among_map (λ (x : plain.Bridge). x.head) b (filter (λ (x : plain.Bridge). nat_eq x.target i) m.bridges) kept in
       among_right a (own_atoms (slice_get m.contexts i)) (heads ++ beliefs) (among_left a heads beliefs (among_flat_map atoms b.head a (all_heads_into m i) head (subst (λ (g : plain.Formula). IsAmong a (atoms g)) (sym is) h)))
   said-atom f (AsRead b there r read of is) h =
       let occurs = among_flat_map (λ (x : plain.Bridge). x.pos ++ x.neg) b r m.bridges there read in
-      let variable = among_firsts r (filter (λ (q : plain.Read). nat_eq q.context i) (occurrences m)) (among_filter (λ (q : plain.Read). nat_eq q.context i) r (occurrences m) occurs (is-number r.context i of)) in
+      let variable = among_firsts r (filter (λ (q : plain.Read). nat_eq q.context i) (occurrences m)) (among_filter (λ (q : plain.Read). nat_eq q.context i) r (occurrences m) occurs (eq-eqb r.context i of)) in
       among_right a (own_atoms (slice_get m.contexts i)) (heads ++ beliefs) (among_right a heads beliefs (among_flat_map (λ (q : plain.Read). atoms q.belief) r a (context_variables m i) variable (subst (λ (g : plain.Formula). IsAmong a (atoms g)) (sym is) h)))
 
 among-atoms : (m : plain.System) (i : ℕ) (a : Name) → IsAmong a (atom_occurrences m i) → IsAmong a (atoms_of m i)
@@ -79,14 +78,14 @@ among-atoms m i a h = among-first-names a (atom_occurrences m i) h
 module _ (t : WrittenText) (m : plain.System) (says : SaysSystem t m) (valid : IsValid m) where
   -- the context of an atom has a number
   atom-number : (c a : Name) → IsAtomOf t c a → (i : ℕ) × (position (same_name c) (names_of t.contexts) ≡ Some i)
-  atom-number c a (inl (x, there, named, h)) = number-there c (names_of t.contexts) (subst (λ (n : Name). IsAmong n (names_of t.contexts)) named (map_among (λ (y : WrittenContext). y.name) x t.contexts there))
+  atom-number c a (inl (x, there, named, h)) = number-there c (names_of t.contexts) (subst (λ (n : Name). IsAmong n (names_of t.contexts)) named (among_map (λ (y : WrittenContext). y.name) x t.contexts there))
   atom-number c a (inr (p, of, context, h)) = let said = said-place t m says p of in (said.number, ap (λ (n : Name). position (same_name n) (names_of t.contexts)) (sym context) ∙ said.is_number)
 
   atom-there : (c : Name) (i : ℕ) → position (same_name c) (names_of t.contexts) ≡ Some i → (a : Name) → IsAtomOf t c a → IsAmong a (atoms_of m i)
   atom-there c i is a (inl (x, there, named, h)) = among-atoms m i a (own-atom m i a (context_in x) (only-context t m says valid c i x is there named) h)
   atom-there c i is a (inr (p, of, context, h)) =
       let said = said-place t m says p of in
-      let same : said.number ≡ i = some-is (sym said.is_number ∙ (ap (λ (n : Name). position (same_name n) (names_of t.contexts)) context ∙ is)) in
+      let same : said.number ≡ i = same_Some _ _ (sym said.is_number ∙ (ap (λ (n : Name). position (same_name n) (names_of t.contexts)) context ∙ is)) in
       among-atoms m i a (said-atom m i a (formula_in p.belief) (subst (λ (j : ℕ). SaidOf m j (formula_in p.belief)) same said.said) h)
 
   module _ (k : ℕ) (here : Mark) (is : slice_get (text_marks t) k ≡ Some here) where

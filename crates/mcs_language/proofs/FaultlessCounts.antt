@@ -1,31 +1,35 @@
 -- A text that says a valid system keeps the limits on contexts, rules, items and defaults.
-use Rattle.std.proofs.Common.{◌≡◌, ℕ, ◌<◌, ◌≤◌, Bool, true, false, nat_lt, nat_eq, List, [], ◌∷◌, take, Some, refl, sym, ap, subst, ◌∙◌, inl, inr, ◌⊎◌, arith, true≢false, slice_get}
+use Rattle.std.proofs.Common.{◌≡◌, ℕ, ◌<◌, ◌≤◌, Bool, true, false, nat_lt, nat_eq, List, [], ◌∷◌, take, Some, refl, sym, ap, subst, ◌∙◌, inl, inr, ◌⊎◌, arith, slice_get}
 use Rattle.std.specs.Prelude.{count_by}
 use Rattle.std.specs.List.{position}
 use Rattle.std.proofs.lemmas.Bool.Decides.{nat_tests}
+use Rattle.std.specs.Cmp.{both_ways}
+use Rattle.std.proofs.lemmas.Bool.{eq-eqb, eqb-true}
+use Rattle.std.proofs.lemmas.Option.{same_Some}
 use Rattle.mcs_base.specs.Listings.{IsAmong}
+use Rattle.mcs_base.proofs.Sums.{zip_count}
+use Rattle.mcs_base.proofs.Among.{get_among, none_get}
 use Rattle.mcs_system.specs.Plain.{Name}
 use Rattle.mcs_system.specs.Plain as plain
 use Rattle.mcs_system.specs.Logic.{same_name}
 use Rattle.mcs_system.specs.Faults.{default_count, item_count, exceeds, IsValid}
-use Rattle.mcs_system.specs.declared.fault.Limit.TheVariants.{Contexts, Bridges, RulesPerContext, DefaultsPerContext, ItemsPerContext}
-use Rattle.mcs_system.proofs.Members.{get_among}
+use Rattle.mcs_system.specs.declared.limit.Limit.TheVariants.{Contexts, Bridges, RulesPerContext, DefaultsPerContext, ItemsPerContext}
 use Rattle.mcs_system.proofs.Sameness.{same_name-is, same_name-itself}
-use Rattle.mcs_system.proofs.ValidLemmas.{none_at, limit_kept, few_contexts, few_bridges, few_rules, few_defaults}
+use Rattle.mcs_system.proofs.ValidLemmas.{limit_kept, few_contexts, few_bridges, few_rules, few_defaults}
+use Rattle.mcs_system.proofs.NameLemmas.{position-there}
 use Rattle.mcs_language.specs.Written.{WrittenKb, WrittenContext, WrittenPlace, WrittenBridge, WrittenText, IsText}
 use Rattle.mcs_language.specs.Marks.{Use, BeginsContext, BeginsBridge, BeginsItem, BeginsDefault, NamesTarget, Mark, text_marks, uses_of}
 use Rattle.mcs_language.specs.Saying.{kb_in, context_in, SaysBridge, names_of, SaysSystem}
 use Rattle.mcs_language.specs.Faults.{AreDifferent, begins_context, begins_bridge, names_target, begins_default_of, begins_item_of, IsBeyond}
-use Rattle.mcs_language.proofs.TextRuns.{some-is}
 use Rattle.mcs_language.proofs.TextSplits.{IsSplit, uses-split, among-here, count-more}
-use Rattle.mcs_language.proofs.SaidParts.{context-count-same, bridge-count-same, context-at, in-range, position-there, each-count, said-place}
+use Rattle.mcs_language.proofs.SaidParts.{context-count-same, bridge-count-same, context-at, in-range, said-place}
 use Rattle.mcs_language.proofs.FaultlessNames.{contexts-differ}
 use Rattle.mcs_language.proofs.UsesLemmas.{text_uses, IsPlaceOf, OfHead, context-count, bridge-count, targets-there, goes_into, target-count, sum_of, default-count, item-count}
 
 few_items : (m : plain.System) → IsValid m → (i : ℕ) (c : plain.Context) → slice_get m.contexts i ≡ Some c → item_count c.kb ≤ 4096
 unfolding exceeds
 few_items m valid i c at =
-    let none = none_at (λ (d : plain.Context). nat_lt 4096 (item_count d.kb)) m.contexts i c (limit_kept m valid ItemsPerContext (inr (inr (inr (inr (inr (inr (inr (inl refl))))))))) at in
+    let none = none_get (λ (d : plain.Context). nat_lt 4096 (item_count d.kb)) m.contexts i c (limit_kept m valid ItemsPerContext (inr (inr (inr (inr (inr (inr (inr (inl refl))))))))) at in
     grind (arith, nat_tests)
 
 -- ---- a sum over the contexts of one name is of one context
@@ -47,28 +51,16 @@ sum-one c count (x ∷ xs) d = go (same_name c x.name) refl (sum-one c count xs 
     go false e (inl none) = inl (rw e (omega (arith, none)))
     go false e (inr found) = inr (found.0, inr found.1, rw e (omega (arith, found.2)))
 
-same-tests : (a b : Bool) → (a ≡ true → b ≡ true) → (b ≡ true → a ≡ true) → a ≡ b
-same-tests true true f g = refl
-same-tests true false f g = absurd (true≢false (sym (f refl)))
-same-tests false true f g = absurd (true≢false (sym (g refl)))
-same-tests false false f g = refl
-
-pub is-number : (k n : ℕ) → k ≡ n → nat_eq k n ≡ true
-is-number k n e = grind (arith, nat_tests)
-
-number-is : (k n : ℕ) → nat_eq k n ≡ true → k ≡ n
-number-is k n e = grind (arith, nat_tests)
-
 -- a rule is into the context of the name where its target is the context of the number
 same-target : (names : List Name) (c : Name) (i : ℕ) → position (same_name c) names ≡ Some i → (w : WrittenBridge) (b : plain.Bridge) → SaysBridge names w b → goes_into c w ≡ nat_eq b.target i
 same-target names c i is w b says =
-    same-tests (goes_into c w) (nat_eq b.target i)
+    both_ways (goes_into c w) (nat_eq b.target i)
     (λ e. let same : c ≡ (w.head).context = same_name-is c (w.head).context e in
-    is-number b.target i (some-is (sym (says.head).number ∙ (ap (λ (n : Name). position (same_name n) names) (sym same) ∙ is))))
-    (λ e. let target : b.target ≡ i = number-is b.target i e in
+    eq-eqb b.target i (same_Some _ _ (sym (says.head).number ∙ (ap (λ (n : Name). position (same_name n) names) (sym same) ∙ is))))
+    (λ e. let target : b.target ≡ i = eqb-true b.target i e in
     let mine = position-there (w.head).context names b.target (says.head).number in
     let its = position-there c names i is in
-    let same : (w.head).context ≡ c = some-is (sym mine ∙ (ap (slice_get names) target ∙ its)) in
+    let same : (w.head).context ≡ c = same_Some _ _ (sym mine ∙ (ap (slice_get names) target ∙ its)) in
     ap (same_name c) same ∙ same_name-itself c)
 
 module _ (t : WrittenText) (m : plain.System) (says : SaysSystem t m) (valid : IsValid m) where
@@ -77,7 +69,7 @@ module _ (t : WrittenText) (m : plain.System) (says : SaysSystem t m) (valid : I
       let said = said-place t m says p of in
       let i : ℕ = said.number in
       let at : position (same_name c) (names_of t.contexts) ≡ Some i = ap (λ (n : Name). position (same_name n) (names_of t.contexts)) (sym same) ∙ said.is_number in
-      let alike = each-count (SaysBridge (names_of t.contexts)) (goes_into c) (λ (b : plain.Bridge). nat_eq b.target i) (same-target (names_of t.contexts) c i at) t.bridges m.bridges says.bridges in
+      let alike = zip_count (SaysBridge (names_of t.contexts)) (goes_into c) (λ (b : plain.Bridge). nat_eq b.target i) (same-target (names_of t.contexts) c i at) t.bridges m.bridges says.bridges in
       let few = few_rules m valid i (in-range t m says c i at) in
       omega arith
 

@@ -1,58 +1,41 @@
 -- A text that says a valid system: each context is there that it names, no name comes twice, and what goes into a
 -- program or is read of one is an atom.
-use Rattle.std.proofs.Common.{◌≡◌, ℕ, Bool, true, false, ◌||◌, List, [], ◌∷◌, ◌++◌, map, take, Some, refl, sym, ap, subst, ◌∙◌, inl, inr, true≢false, slice_get}
+use Rattle.std.proofs.Common.{◌≡◌, ℕ, true, false, List, ◌∷◌, ◌++◌, map, take, Some, refl, sym, ap, subst, ◌∙◌, inl, inr, true≢false, slice_get}
 use Rattle.std.proofs.lemmas.Grind.{flat_map-append}
+use Rattle.std.proofs.lemmas.Bool.{or_parts}
+use Rattle.std.proofs.lemmas.Simd.{map-map}
 use Rattle.mcs_base.specs.Listings.{IsAmong}
-use Rattle.mcs_base.proofs.ListingLemmas.{all_among}
+use Rattle.mcs_base.proofs.Distinct.{distinct_parts}
+use Rattle.mcs_base.proofs.Among.{among_left, get_among, among_get}
+use Rattle.mcs_base.proofs.Each.{all_among}
+use Rattle.mcs_base.proofs.Lists.{zip_map_same}
 use Rattle.mcs_system.specs.Plain.{Name}
 use Rattle.mcs_system.specs.Plain as plain
-use Rattle.mcs_system.specs.Logic.{same_name, is_in}
 use Rattle.mcs_system.specs.Faults.{is_atom, is_program, has_twins, reads_of, IsValid}
-use Rattle.mcs_system.proofs.Members.{get_among, among_get, among_any, among_left}
-use Rattle.mcs_system.proofs.Sameness.{same_name-itself}
 use Rattle.mcs_system.proofs.ValidLemmas.{tests_pass, head_is_atom, belief_is_atom}
+use Rattle.mcs_system.proofs.NameLemmas.{no_twins, position-there}
 use Rattle.mcs_language.specs.Written.{Written, Named, WrittenKb, Classical, DefaultTheory, Program, WrittenContext, WrittenPlace, WrittenRead, WrittenBridge, WrittenText, IsNameWord, HasNames, IsPlace, IsBridge, IsText}
 use Rattle.mcs_language.specs.Marks.{Use, NamesContext, NamesBridge, SaysProgram, NamesTarget, NamesSource, Mark, formula_in, whole_marks, text_marks, uses_of}
-use Rattle.mcs_language.specs.Saying.{Each, context_in, SaysBridge, names_of, SaysSystem}
+use Rattle.mcs_language.specs.Saying.{context_in, SaysBridge, names_of, SaysSystem}
 use Rattle.mcs_language.specs.Faults.{AreDifferent, NoContext, Twin, NoAtom, Has}
 use Rattle.mcs_language.specs.Watching.{context_named, bridge_named, contexts_named, bridges_named}
-use Rattle.mcs_language.proofs.TextSplits.{IsSplit, uses-split, among-before, among-here, different-parts}
-use Rattle.mcs_language.proofs.SaidParts.{position-there, only-context, SaidOf, AsHead, AsRead, said-place}
+use Rattle.mcs_language.proofs.TextSplits.{IsSplit, uses-split, among-before, among-here}
+use Rattle.mcs_language.proofs.SaidParts.{only-context, SaidOf, AsHead, AsRead, said-place}
 use Rattle.mcs_language.proofs.BeliefMarks.{text-begins}
 use Rattle.mcs_language.proofs.BeforeRules.{among-named, named-among, among-bridges-named, before-target, before-source}
 use Rattle.mcs_language.proofs.TextConditions.{HasBareAtoms}
 use Rattle.mcs_language.proofs.UsesLemmas.{text_uses, IsPlaceOf, OfHead, OfRead, names-there, rule-names-there, targets-there, sources-there, programs-there, IsProgramKb}
 
 -- ---- names differ
-or-none : (a b : Bool) → (a || b) ≡ false → (a ≡ false) × (b ≡ false)
-or-none true b e = absurd (true≢false e)
-or-none false b e = (refl, e)
-
-different-names : (ns : List Name) → has_twins ns ≡ false → AreDifferent ns
-different-names [] e = tt
-different-names (n ∷ ns) e =
-    let parts = or-none (is_in n ns) (has_twins ns) e in
-    ((λ h. true≢false (sym (among_any (same_name n) ns n h (same_name-itself n)) ∙ parts.0)), different-names ns parts.1)
-
-context-names : (cs : List WrittenContext) → map (λ (c : plain.Context). c.name) (map context_in cs) ≡ names_of cs
-context-names [] = refl
-context-names (c ∷ cs) = ap (λ (ns : List Name). c.name ∷ ns) (context-names cs)
-
-bridge-names : (names : List Name) (ws : List WrittenBridge) (bs : List plain.Bridge) → Each (SaysBridge names) ws bs → map (λ (b : plain.Bridge). b.name) bs ≡ map (λ (w : WrittenBridge). w.name) ws
-bridge-names names [] [] e = refl
-bridge-names names [] (b ∷ bs) e = absurd e
-bridge-names names (w ∷ ws) [] e = absurd e
-bridge-names names (w ∷ ws) (b ∷ bs) e = let rest = bridge-names names ws bs e.1 in let here = (e.0).named in cc
-
 module _ (t : WrittenText) (m : plain.System) (says : SaysSystem t m) (valid : IsValid m) where
   twins : (has_twins (map (λ (c : plain.Context). c.name) m.contexts) ≡ false) × (has_twins (map (λ (b : plain.Bridge). b.name) m.bridges) ≡ false)
-  twins = or-none (has_twins (map (λ (c : plain.Context). c.name) m.contexts)) (has_twins (map (λ (b : plain.Bridge). b.name) m.bridges)) (tests_pass m valid).apart
+  twins = or_parts (has_twins (map (λ (c : plain.Context). c.name) m.contexts)) (has_twins (map (λ (b : plain.Bridge). b.name) m.bridges)) (tests_pass m valid).apart
 
   pub contexts-differ : AreDifferent (names_of t.contexts)
-  contexts-differ = different-names (names_of t.contexts) (ap has_twins (sym (ap (map (λ (c : plain.Context). c.name)) says.contexts ∙ context-names t.contexts)) ∙ twins.0)
+  contexts-differ = (no_twins (names_of t.contexts)).0 (ap has_twins (sym (ap (map (λ (c : plain.Context). c.name)) says.contexts ∙ map-map (λ (c : plain.Context). c.name) context_in t.contexts)) ∙ twins.0)
 
   pub bridges-differ : AreDifferent (map (λ (w : WrittenBridge). w.name) t.bridges)
-  bridges-differ = different-names (map (λ (w : WrittenBridge). w.name) t.bridges) (ap has_twins (sym (bridge-names (names_of t.contexts) t.bridges m.bridges says.bridges)) ∙ twins.1)
+  bridges-differ = (no_twins (map (λ (w : WrittenBridge). w.name) t.bridges)).0 (ap has_twins (zip_map_same (SaysBridge (names_of t.contexts)) (λ w. w.name) (λ b. b.name) (λ w b s. sym s.named) t.bridges m.bridges says.bridges) ∙ twins.1)
 
   -- ---- each context that is named is there
   place-is-named : (p : WrittenPlace) → IsPlaceOf t p → IsAmong (NamesContext p.context) (text_uses t)
@@ -83,11 +66,11 @@ module _ (t : WrittenText) (m : plain.System) (says : SaysSystem t m) (valid : I
     no-twin (inl (c, h, b)) =
         let after : List Use = here.uses ++ split.after in
         let parts : names_of t.contexts ≡ contexts_named before ++ contexts_named after = sym (names-there t) ∙ ap contexts_named split.whole ∙ flat_map-append context_named before after in
-        different-parts c (contexts_named before) (contexts_named after) (subst AreDifferent parts contexts-differ) (among-named before c b) (among-named after c (among_left (NamesContext c) here.uses split.after h))
+        distinct_parts (contexts_named before) (contexts_named after) c (subst AreDifferent parts contexts-differ) (among-named before c b) (among-named after c (among_left (NamesContext c) here.uses split.after h))
     no-twin (inr (n, h, b)) =
         let after : List Use = here.uses ++ split.after in
         let parts : map (λ (w : WrittenBridge). w.name) t.bridges ≡ bridges_named before ++ bridges_named after = sym (rule-names-there t) ∙ ap bridges_named split.whole ∙ flat_map-append bridge_named before after in
-        different-parts n (bridges_named before) (bridges_named after) (subst AreDifferent parts bridges-differ) (among-bridges-named before n b) (among-bridges-named after n (among_left (NamesBridge n) here.uses split.after h))
+        distinct_parts (bridges_named before) (bridges_named after) n (subst AreDifferent parts bridges-differ) (among-bridges-named before n b) (among-bridges-named after n (among_left (NamesBridge n) here.uses split.after h))
 
 -- ---- what goes into a program or is read of one is an atom
 program-kb : (n : Name) (kb : WrittenKb) → IsProgramKb kb → is_program (Some (context_in (record { name = n; kb = kb }))) ≡ true

@@ -2,30 +2,30 @@
 use Rattle.std.proofs.Common.{◌≡◌, ℕ, ◌<◌, true, List, [], ◌∷◌, map, take, length, get_or, Option, Some, None, refl, sym, ap, subst, ◌∙◌, inl, inr, arith, slice_get}
 use Rattle.std.specs.List.{position}
 use Rattle.std.proofs.lemmas.List.{length-map}
-use Rattle.std.proofs.lemmas.Option.{get_or_from_slice_get}
+use Rattle.std.proofs.lemmas.Option.{get_or_from_slice_get, same_Some}
 use Rattle.mcs_base.specs.Listings.{IsAmong}
-use Rattle.mcs_base.proofs.ListingLemmas.{map_among, members_listing}
+use Rattle.mcs_base.proofs.ListingLemmas.{members_listing}
 use Rattle.mcs_sets.specs.Sets.{has, members}
+use Rattle.mcs_base.proofs.Among.{among_map, get_among, among_get}
+use Rattle.mcs_base.proofs.Distinct.{distinct_fits}
 use Rattle.mcs_system.specs.Plain.{Name}
 use Rattle.mcs_system.specs.Plain as plain
 use Rattle.mcs_system.specs.Logic.{same_name}
 use Rattle.mcs_system.specs.Systems.{variables, IsVariable}
 use Rattle.mcs_system.specs.Rows.{inputs_of}
 use Rattle.mcs_system.specs.Faults.{IsValid}
-use Rattle.mcs_system.specs.declared.fault.Limit.TheVariants.{Variables, InputsPerContext}
-use Rattle.mcs_system.proofs.Members.{get_among, among_get}
+use Rattle.mcs_system.specs.declared.limit.Limit.TheVariants.{Variables, InputsPerContext}
 use Rattle.mcs_system.proofs.Sameness.{same_read-itself}
 use Rattle.mcs_system.proofs.VariableLemmas.{read_is_variable, has-inputs_of}
 use Rattle.mcs_system.proofs.ValidLemmas.{few_variables, few_inputs}
+use Rattle.mcs_system.proofs.NameLemmas.{position-there}
 use Rattle.mcs_language.specs.Written.{WrittenPlace, WrittenText}
 use Rattle.mcs_language.specs.Marks.{Use, EndsRead, Mark, text_marks, uses_of}
 use Rattle.mcs_language.specs.Saying.{SaysPlace, names_of, SaysSystem}
 use Rattle.mcs_language.specs.Faults.{AreDifferent, IsOneMore, NamedRead, WasReadInto, WasRead, IsBeyond}
 use Rattle.mcs_language.specs.TextImages.{read_in}
-use Rattle.mcs_language.proofs.TextRuns.{some-is}
-use Rattle.mcs_language.proofs.DifferentLemmas.{no-longer}
 use Rattle.mcs_language.proofs.TextSplits.{IsSplit, uses-split, among-before, among-here}
-use Rattle.mcs_language.proofs.SaidParts.{in-range, position-there, said-read, said-bridge}
+use Rattle.mcs_language.proofs.SaidParts.{in-range, said-read, said-bridge}
 use Rattle.mcs_language.proofs.UsesLemmas.{text_uses, reads-there}
 
 -- ---- one more than the values that were there is no more than there are in all
@@ -34,7 +34,7 @@ one-more {A} n before all x ys h later here inside =
     let values : List A = x ∷ h.values in
     let new : AreDifferent values = ((λ there. h.new ((h.all x).0 there)), h.different) in
     let each : (y : A) → IsAmong y values → IsAmong y ys = λ y among. elim among [ inl same ↦ inside y (subst all (sym same) here) | inr there ↦ inside y (later y ((h.all y).0 there)) ] in
-    let most = no-longer values ys new each in
+    let most = distinct_fits values ys new each in
     omega (arith, h.count)
 
 -- ---- reads by the names of their contexts
@@ -85,7 +85,7 @@ module _ (t : WrittenText) (m : plain.System) (says : SaysSystem t m) (valid : I
   variable-of y (target, h) =
       let found = input-of target y h in
       subst (λ (z : NamedRead). IsAmong z (map (named_read (names_of t.contexts)) (variables m))) found.named
-      (map_among (named_read (names_of t.contexts)) found.read (variables m) (among_get found.read (variables m) found.number found.variable))
+      (among_map (named_read (names_of t.contexts)) found.read (variables m) (among_get found.read (variables m) found.number found.variable))
 
   -- the inputs of a context by their names
   inputs_named : ℕ → List NamedRead
@@ -95,10 +95,10 @@ module _ (t : WrittenText) (m : plain.System) (says : SaysSystem t m) (valid : I
   unfolding named_at inputs_named
   is-named-input target i is y h =
       let found = input-of target y h in
-      let same : found.into ≡ i = some-is (sym found.is_into ∙ is) in
+      let same : found.into ≡ i = same_Some _ _ (sym found.is_into ∙ is) in
       let member : IsAmong found.number (members (inputs_of m i)) = ((members_listing (inputs_of m i)).exactly found.number).1 (ap (λ (j : ℕ). has (inputs_of m j) found.number) (sym same) ∙ found.input) in
       let at : named_at (names_of t.contexts) (slice_get (variables m) found.number) ≡ y = ap (named_at (names_of t.contexts)) found.variable ∙ found.named in
-      subst (λ (z : NamedRead). IsAmong z (inputs_named i)) at (map_among (λ v. named_at (names_of t.contexts) (slice_get (variables m) v)) found.number (members (inputs_of m i)) member)
+      subst (λ (z : NamedRead). IsAmong z (inputs_named i)) at (among_map (λ v. named_at (names_of t.contexts) (slice_get (variables m) v)) found.number (members (inputs_of m i)) member)
 
   module _ (k : ℕ) (here : Mark) (is : slice_get (text_marks t) k ≡ Some here) where
     abbrev before : List Use

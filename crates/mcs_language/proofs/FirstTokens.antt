@@ -1,13 +1,14 @@
 -- The first tokens of the beliefs of bridge rules, and what stands before them.
-use Rattle.std.proofs.Common.{◌≡◌, ℕ, suc, ◌+◌, arith, true, codes, List, [], ◌∷◌, ◌++◌, length, take, Some, refl, sym, ap, ◌∙◌, inl, inr, subst, true≢false}
+use Rattle.std.proofs.Common.{◌≡◌, ℕ, ◌+◌, true, codes, List, [], ◌∷◌, ◌++◌, length, take, Some, refl, sym, ap, ◌∙◌, inl, inr, subst, true≢false}
 use Rattle.std.specs.Prelude.{slice_get}
 use Rattle.std.specs.List.{flat_map}
 use Rattle.std.proofs.Math.Seq.{take-append-add}
 use Rattle.mcs_base.specs.Listings.{IsAmong}
 use Rattle.mcs_base.specs.Words.{reserved_words}
+use Rattle.mcs_base.proofs.Lists.{slice_get-append_right}
+use Rattle.mcs_base.proofs.Among.{among_left, among_right, get_among, among_flat_map}
 use Rattle.mcs_system.specs.Plain.{Name}
 use Rattle.mcs_system.specs.Faults.{is_atom}
-use Rattle.mcs_system.proofs.Members.{among_left, among_right, get_among, among_flat_map}
 use Rattle.mcs_language.specs.Written.{Written, True', False', Named, Denied, Grouped, Both, Either, Leads, Equals, level, IsNameWord, WrittenPlace, IsPlace, WrittenRead, WrittenBridge, WrittenText}
 use Rattle.mcs_language.specs.Marks.{Use, BeginsBelief, NamesTarget, NamesSource, Mark, mark, with_first, with_last, formula_in, whole_marks, optional, place_marks, read_marks, further_read, reads_marks, context_marks, bridge_marks, text_marks, uses_of}
 use Rattle.mcs_language.proofs.UsesParts.{IsPlaceOf, OfHead, OfRead}
@@ -89,10 +90,6 @@ first-there t p (OfRead b there r read is) h =
     (m, among_flat_map bridge_marks b m t.bridges there (in-reads b m in_place), subst (λ (q : WrittenPlace). IsFirstOf q m) is first)
 
 -- ---- what stands before a bridge rule's token
-get-right : {A : Type 0} (xs ys : List A) (k : ℕ) → slice_get (xs ++ ys) (length xs + k) ≡ slice_get ys k
-get-right {A} [] ys k = let e : length {A = A} [] + k ≡ k = omega arith in ap (slice_get ys) e
-get-right (x ∷ xs) ys k = let e : length (x ∷ xs) + k ≡ suc (length xs + k) = omega arith in ap (slice_get (x ∷ (xs ++ ys))) e ∙ get-right xs ys k
-
 -- the number of a rule's token, and the uses before it, the contexts' all among them
 pub record IsMarkAt (t : WrittenText) (m : Mark) (k : ℕ) : Type 0 where
   pub there : slice_get (text_marks t) k ≡ Some m
@@ -105,7 +102,7 @@ mark-at t m h =
     let (j, at) = get_among m bs h in (
       length cs + j,
       record {
-        there = get-right cs bs j ∙ at;
+        there = slice_get-append_right cs bs j ∙ at;
         before = λ u here. subst (λ (ms : List Mark). IsAmong u (uses_of ms)) (sym (take-append-add cs bs j)) (subst (IsAmong u) (sym (uses-append cs (take j bs))) (among_left u (uses_of cs) (uses_of (take j bs)) here));
       },
     )

@@ -1,8 +1,9 @@
 -- Where a formula is whole: with which tokens it goes on.
-use Rattle.std.proofs.Common.{◌≡◌, Bool, true, false, cond, ◌||◌, List, [], ◌∷◌, Option, Some, None, refl, sym, ap, true≢false}
+use Rattle.std.proofs.Common.{◌≡◌, true, false, List, [], ◌∷◌, Option, Some, None, refl, ap}
 use Rattle.std.specs.Prelude.{codes, option_map}
 use Rattle.std.specs.Str.{bytes_eq}
 use Rattle.std.proofs.lemmas.Option.{none-some}
+use Rattle.mcs_base.proofs.Booleans.{first_of_four, past_four}
 use Rattle.mcs_system.specs.Plain.{Name}
 use Rattle.mcs_language.specs.Written.{Written}
 use Rattle.mcs_language.specs.Marks.{Token, Mark, mark}
@@ -10,21 +11,6 @@ use Rattle.mcs_language.specs.FormulaSteps.{Pending, PartFormula, reduce, closed
 use Rattle.mcs_language.proofs.FormulaParts.{is_joining}
 
 -- ---- with which tokens it goes on
-joins : {A : Type 0} (a b d e : Bool) (v w x y : A) (z : Option A) → (a || (b || (d || e))) ≡ true → (r : A) × (cond a (Some v) (cond b (Some w) (cond d (Some x) (cond e (Some y) z))) ≡ Some r)
-joins true b d e v w x y z h = (v, refl)
-joins false true d e v w x y z h = (w, refl)
-joins false false true e v w x y z h = (x, refl)
-joins false false false true v w x y z h = (y, refl)
-joins false false false false v w x y z h = absurd (true≢false (sym h))
-
-joins_not : {A : Type 0} (a b d e f : Bool) (v w x y : A) (z : Option A) → (a || (b || (d || e))) ≡ false → z ≡ None → cond a (Some v) (cond b (Some w) (cond d (Some x) (cond e (Some y) (cond f z None)))) ≡ None
-joins_not true b d e f v w x y z h none = absurd (true≢false h)
-joins_not false true d e f v w x y z h none = absurd (true≢false h)
-joins_not false false true e f v w x y z h none = absurd (true≢false h)
-joins_not false false false true f v w x y z h none = absurd (true≢false h)
-joins_not false false false false true v w x y z h none = none
-joins_not false false false false false v w x y z h none = refl
-
 closed-at : (ps : List Pending) (o : Option Written) (w : Written) → alone (record { pending = ps; operand = o }) ≡ Some w → closed (record { pending = ps; operand = o }) ≡ None
 closed-at [] o w e = refl
 closed-at (p ∷ ps) o w e = let no : None ≡ Some w = e in absurd (none-some w no)
@@ -37,8 +23,8 @@ goes-on-at : (c : Name) (ps : List Pending) (o : Option Written) (w : Written) (
 unfolding finished formula_step
 goes-on-at c ps None w t e = absurd (none-some w e)
 goes-on-at c ps (Some f) w t e = (
-  λ h. joins (bytes_eq t (codes "&")) (bytes_eq t (codes "|")) (bytes_eq t (codes "->")) (bytes_eq t (codes "<->")) _ _ _ _ _ h,
-  λ h. joins_not (bytes_eq t (codes "&")) (bytes_eq t (codes "|")) (bytes_eq t (codes "->")) (bytes_eq t (codes "<->")) (bytes_eq t (codes ")")) _ _ _ _ _ h
+  λ h. first_of_four (bytes_eq t (codes "&")) (bytes_eq t (codes "|")) (bytes_eq t (codes "->")) (bytes_eq t (codes "<->")) _ _ _ _ _ h,
+  λ h. past_four (bytes_eq t (codes "&")) (bytes_eq t (codes "|")) (bytes_eq t (codes "->")) (bytes_eq t (codes "<->")) (bytes_eq t (codes ")")) _ _ _ _ _ h
       (ap (option_map (λ (r : PartFormula). (mark t [], r))) (closed-none (reduce 4 ps f) w e)),
 )
 

@@ -3,15 +3,14 @@ use Rattle.std.proofs.Common.{◌≡◌, ℕ, ◌+◌, ◌≤◌, List, [], ◌�
 use Rattle.std.specs.Prelude.{codes}
 use Rattle.std.proofs.lemmas.List.{append-nil}
 use Rattle.mcs_system.specs.Plain.{Name}
-use Rattle.mcs_language.specs.Written.{Written, True', False', Named, Denied, Grouped, Both, Either, Leads, Equals, level, IsFormula}
+use Rattle.mcs_language.specs.Written.{Written, True', Denied, Grouped, Both, Either, Leads, Equals, level, IsFormula}
 use Rattle.mcs_language.specs.Marks.{IsNumber, Mark, mark, formula_marks, whole_marks}
 use Rattle.mcs_language.specs.FormulaSteps.{Pending, Tilde, Parenthesis, And, Or, Implies, Iff, PartFormula, no_formula, join, level_of, size_all, alone, finished, finished_primary}
 use Rattle.mcs_language.proofs.FormulaParts.{room, opened, AreWaiting, IsPart, waiting_marks, pending_marks, part_marks, BeginsPrimary, IsBegun, IsPrimaryPart}
+use Rattle.mcs_language.specs.TextImages.{HasSome}
 use Rattle.mcs_language.proofs.FormulaForward.{waiting_for, with_operand}
 use Rattle.mcs_language.proofs.FormulaSound.{join-marks, close-marks, join-formula, begins-rest, above-one, reduced}
-
-abbrev pub IsSomeMarks : List Mark → Type 0
-IsSomeMarks l = (m : Mark) × ((ms : List Mark) × (l ≡ m ∷ ms))
+use Rattle.mcs_language.proofs.MarkLists.{some-append, some-after, some-first, formula-some}
 
 -- a formula that goes on from these marks; a primary, if they begin one
 pub record IsFilled (c : Name) (ps : List Pending) (front : List Mark) : Type 0 where
@@ -20,7 +19,7 @@ pub record IsFilled (c : Name) (ps : List Pending) (front : List Mark) : Type 0 
   pub rest : List Mark
   pub marks : whole_marks c formula ≡ front ++ rest
   pub primary : BeginsPrimary ps → level formula ≡ 0
-  pub more : 1 ≤ room ps → BeginsPrimary ps → IsSomeMarks rest
+  pub more : 1 ≤ room ps → BeginsPrimary ps → HasSome rest
 
 joined-primary : (p : Pending) (ps : List Pending) (f w : Written) → level_of p ≤ 4 → (ps ≡ [] → w ≡ join p f) → (BeginsPrimary ps → level w ≡ 0) → BeginsPrimary (p ∷ ps) → level w ≡ 0
 joined-primary Tilde [] f w h last rest b = subst (λ x. level x ≡ 0) (sym (last refl)) refl
@@ -80,7 +79,7 @@ fills c (Parenthesis ∷ ps) f w is low =
         rest = mark (codes ")") [] ∷ r.filled.rest;
         marks = r.filled.marks ∙ ap (λ l. l ++ r.filled.rest) (close-marks c ps f) ∙ append_assoc (part_marks c (with_operand (Parenthesis ∷ ps) f)) (mark (codes ")") [] ∷ []) r.filled.rest;
         primary = within ps r.filled.formula r.same r.filled.primary;
-        more = λ one b. (mark (codes ")") [], (r.filled.rest, refl));
+        more = λ one b. tt;
       };
       same = λ no. cc;
     }
@@ -103,46 +102,25 @@ filled-part c ps None is =
       rest = formula_marks c (size_all ps) (opened ps) True' ++ r.rest;
       marks = with-true c ps r.formula r.rest r.marks;
       primary = r.primary;
-      more = λ one b. (_, (_, refl));
+      more = λ one b. tt;
     }
 
--- ---- a formula has a token at least
-some-left : (xs ys : List Mark) → IsSomeMarks xs → IsSomeMarks (xs ++ ys)
-some-left xs ys h = (h.0, (h.1.0 ++ ys, ap (λ l. l ++ ys) h.1.1))
+-- ---- what was taken has a token at least
+some-waiting : (c : Name) (n o : ℕ) (p : Pending) → HasSome (waiting_marks c n o p)
+some-waiting c n o Tilde = tt
+some-waiting c n o Parenthesis = tt
+some-waiting c n o (And l) = some-after (formula_marks c n o l) _ tt
+some-waiting c n o (Or l) = some-after (formula_marks c n o l) _ tt
+some-waiting c n o (Implies l) = some-after (formula_marks c n o l) _ tt
+some-waiting c n o (Iff l) = some-after (formula_marks c n o l) _ tt
 
-some-right : (xs ys : List Mark) → IsSomeMarks ys → IsSomeMarks (xs ++ ys)
-some-right [] ys h = h
-some-right (x ∷ xs) ys h = (x, (xs ++ ys, refl))
-
-some-signed : (xs ys : List Mark) (m : Mark) → IsSomeMarks (xs ++ m ∷ ys)
-some-signed xs ys m = some-right xs (m ∷ ys) (m, (ys, refl))
-
-some-marks : (c : Name) (n o : ℕ) (f : Written) → IsSomeMarks (formula_marks c n o f)
-some-marks c n o True' = (_, (_, refl))
-some-marks c n o False' = (_, (_, refl))
-some-marks c n o (Named name) = (_, (_, refl))
-some-marks c n o (Denied f) = (_, (_, refl))
-some-marks c n o (Grouped f) = (_, (_, refl))
-some-marks c n o (Both f g) = some-signed (formula_marks c n o f) _ _
-some-marks c n o (Either f g) = some-signed (formula_marks c n o f) _ _
-some-marks c n o (Leads f g) = some-signed (formula_marks c n o f) _ _
-some-marks c n o (Equals f g) = some-signed (formula_marks c n o f) _ _
-
-some-waiting : (c : Name) (n o : ℕ) (p : Pending) → IsSomeMarks (waiting_marks c n o p)
-some-waiting c n o Tilde = (_, (_, refl))
-some-waiting c n o Parenthesis = (_, (_, refl))
-some-waiting c n o (And l) = some-signed (formula_marks c n o l) [] _
-some-waiting c n o (Or l) = some-signed (formula_marks c n o l) [] _
-some-waiting c n o (Implies l) = some-signed (formula_marks c n o l) [] _
-some-waiting c n o (Iff l) = some-signed (formula_marks c n o l) [] _
-
-some-part : (c : Name) (ps : List Pending) (o : Option Written) → (record { pending = ps; operand = o } ≡ no_formula) ⊎ IsSomeMarks (part_marks c (record { pending = ps; operand = o }))
+some-part : (c : Name) (ps : List Pending) (o : Option Written) → (record { pending = ps; operand = o } ≡ no_formula) ⊎ HasSome (part_marks c (record { pending = ps; operand = o }))
 some-part c [] None = inl refl
-some-part c ps (Some f) = inr (some-right (pending_marks c ps) _ (some-marks c (size_all ps) (opened ps) f))
-some-part c (p ∷ ps) None = inr (some-left (pending_marks c ps ++ waiting_marks c (size_all ps) (opened ps) p) [] (some-right (pending_marks c ps) _ (some-waiting c (size_all ps) (opened ps) p)))
+some-part c ps (Some f) = inr (some-after (pending_marks c ps) _ (formula-some c (size_all ps) (opened ps) f))
+some-part c (p ∷ ps) None = inr (some-append (pending_marks c ps ++ waiting_marks c (size_all ps) (opened ps) p) [] (some-after (pending_marks c ps) _ (some-waiting c (size_all ps) (opened ps) p)))
 
 pub marks-of-part : (c : Name) (s : PartFormula) → (s ≡ no_formula) ⊎ ((m : Mark) × ((ms : List Mark) × (part_marks c s ≡ m ∷ ms)))
-marks-of-part c s = some-part c s.pending s.operand
+marks-of-part c s = elim (some-part c s.pending s.operand) [ inl none ↦ inl none | inr some ↦ inr (some-first (part_marks c s) some) ]
 
 -- ---- the end
 finished-operand : (c : Name) (w : Written) (s : PartFormula) (left : List Pending) (last : Written) → IsFormula last → part_marks c (with_operand left last) ≡ part_marks c s → alone (with_operand left last) ≡ Some w → IsFormula w × (whole_marks c w ≡ part_marks c s)
@@ -189,7 +167,7 @@ primary-filled c (p ∷ ps) None is b =
     (r.formula, r.is, r.primary b, (_, (_, with-true c (p ∷ ps) r.formula r.rest r.marks)))
 primary-filled c (p ∷ ps) (Some f) is b =
     let r = filled-part c (p ∷ ps) (Some f) is in
-    let some = r.more is.last.2 b in
+    let some = some-first r.rest (r.more is.last.2 b) in
     (r.formula, r.is, r.primary b, (some.0, (some.1.0, r.marks ∙ ap (λ l. part_marks c (with_operand (p ∷ ps) f) ++ l) some.1.1)))
 
 pub fill-primary : (c : Name) (s : PartFormula) → IsPrimaryPart s → (w : Written) × IsFormula w × (level w ≡ 0) × ((m : Mark) × ((rest : List Mark) × (whole_marks c w ≡ part_marks c s ++ m ∷ rest)))

@@ -1,8 +1,9 @@
 -- The tokens of a formula are taken, each with its mark.
-use Rattle.std.proofs.Common.{◌≡◌, ℕ, ◌+◌, ◌≤◌, ◌<◌, Bool, true, false, cond, List, [], ◌∷◌, ◌++◌, Some, None, refl, sym, ap, subst, ◌∙◌, true≢false, arith}
+use Rattle.std.proofs.Common.{◌≡◌, ℕ, ◌+◌, ◌≤◌, ◌<◌, cond, List, [], ◌∷◌, ◌++◌, Some, None, refl, sym, ap, subst, ◌∙◌, arith}
 use Rattle.std.specs.Prelude.{codes, nat_le, option_map}
 use Rattle.std.specs.Str.{bytes_eq}
-use Rattle.std.proofs.lemmas.Bool.{le-leb, lt-leb}
+use Rattle.std.proofs.lemmas.Bool.{le-leb, lt-leb, cond-true}
+use Rattle.mcs_base.proofs.Booleans.{fifth_of_five}
 use Rattle.mcs_system.specs.Plain.{Name}
 use Rattle.mcs_language.specs.Written.{Written, True', False', Named, Denied, Grouped, Both, Either, Leads, Equals, level, IsFormula, IsNameWord}
 use Rattle.mcs_language.specs.Marks.{Token, Use, AtomOf, IsNumber, OpensWithin, Mark, mark, formula_marks, size_of}
@@ -24,43 +25,46 @@ spine ps (Leads f g) = spine (Implies f ∷ ps) g
 spine ps (Equals f g) = spine (Iff f ∷ ps) g
 spine ps f = settle ps f
 
--- it is the formula, with its last signs open
-pub record IsSpine (s : PartFormula) (ps : List Pending) (w : Written) (low : ℕ) : Type 0 where
+-- the last operand and what waits for it: as much of a formula, in as many parentheses, as another one behind what waits
+pub record LastOperand (s : PartFormula) (ps : List Pending) (w : Written) : Type 0 where
   pub left : List Pending
   pub last : Written
   pub is : s ≡ with_operand left last
-  pub joined : (most : ℕ) → 1 ≤ most → low ≤ most → reduce most left last ≡ reduce most ps w
   pub size : size_all left + size_of last ≡ size_all ps + size_of w
   pub opens : opened left ≡ opened ps
 
-cond-le : {A : Type 0} (a b : ℕ) (x y : A) → a ≤ b → cond (nat_le a b) x y ≡ x
-cond-le a b x y h = ap (λ t. cond t x y) (le-leb a b h)
+abbrev pub last-operand : (ps : List Pending) (w : Written) → LastOperand (with_operand ps w) ps w
+last-operand ps w = record { left = ps; last = w; is = refl; size = refl; opens = refl }
+
+abbrev pub same-operand : (s : PartFormula) (ps qs : List Pending) (f g : Written) → LastOperand s ps f → size_all ps + size_of f ≡ size_all qs + size_of g → opened ps ≡ opened qs → LastOperand s qs g
+same-operand s ps qs f g r size opens = record { left = r.left; last = r.last; is = r.is; size = r.size ∙ size; opens = r.opens ∙ opens }
+
+-- it is the formula, with its last signs open
+pub record IsSpine (s : PartFormula) (ps : List Pending) (w : Written) (low : ℕ) : Type 0 where
+  pub operand : LastOperand s ps w
+  pub joined : (most : ℕ) → 1 ≤ most → low ≤ most → reduce most operand.left operand.last ≡ reduce most ps w
 
 pub settled : (ps : List Pending) (w : Written) → IsSpine (settle ps w) ps w 0
-settled [] w = record { left = []; last = w; is = refl; joined = λ most one low. refl; size = refl; opens = refl }
+settled [] w = record { operand = last-operand [] w; joined = λ most one low. refl }
 settled (Tilde ∷ ps) w =
     let r = settled ps (Denied w) in
-    record { left = r.left; last = r.last; is = r.is; joined = λ most one low. r.joined most one low ∙ sym (cond-le 0 most (reduce most ps (Denied w)) (with_operand (Tilde ∷ ps) w) low); size = omega (arith, r.size); opens = r.opens }
-settled (And left ∷ ps) w = record { left = ps; last = Both left w; is = refl; joined = λ most one low. sym (cond-le 1 most (reduce most ps (Both left w)) (with_operand (And left ∷ ps) w) one); size = omega arith; opens = refl }
-settled (Parenthesis ∷ ps) w = record { left = Parenthesis ∷ ps; last = w; is = refl; joined = λ most one low. refl; size = refl; opens = refl }
-settled (Or left ∷ ps) w = record { left = Or left ∷ ps; last = w; is = refl; joined = λ most one low. refl; size = refl; opens = refl }
-settled (Implies left ∷ ps) w = record { left = Implies left ∷ ps; last = w; is = refl; joined = λ most one low. refl; size = refl; opens = refl }
-settled (Iff left ∷ ps) w = record { left = Iff left ∷ ps; last = w; is = refl; joined = λ most one low. refl; size = refl; opens = refl }
+    record { operand = same-operand _ ps (Tilde ∷ ps) (Denied w) w r.operand (omega arith) refl; joined = λ most one low. r.joined most one low ∙ sym (cond-true (nat_le 0 most) (reduce most ps (Denied w)) (with_operand (Tilde ∷ ps) w) (le-leb 0 most low)) }
+settled (And left ∷ ps) w = record { operand = same-operand _ ps (And left ∷ ps) (Both left w) w (last-operand ps (Both left w)) (omega arith) refl; joined = λ most one low. sym (cond-true (nat_le 1 most) (reduce most ps (Both left w)) (with_operand (And left ∷ ps) w) (le-leb 1 most one)) }
+settled (Parenthesis ∷ ps) w = record { operand = last-operand (Parenthesis ∷ ps) w; joined = λ most one low. refl }
+settled (Or left ∷ ps) w = record { operand = last-operand (Or left ∷ ps) w; joined = λ most one low. refl }
+settled (Implies left ∷ ps) w = record { operand = last-operand (Implies left ∷ ps) w; joined = λ most one low. refl }
+settled (Iff left ∷ ps) w = record { operand = last-operand (Iff left ∷ ps) w; joined = λ most one low. refl }
 
 -- where the sign's level is no lower
 behind-sign : (s : PartFormula) (p : Pending) (ps : List Pending) (f g : Written) (low : ℕ) → IsSpine s (p ∷ ps) g low → low ≤ level_of p → join p g ≡ f → size_all (p ∷ ps) + size_of g ≡ size_all ps + size_of f → opened (p ∷ ps) ≡ opened ps → IsSpine s ps f (level_of p)
 behind-sign s p ps f g low r below made size opens =
     record {
-      left = r.left;
-      last = r.last;
-      is = r.is;
-      joined = λ most one high. r.joined most one (omega (arith, below, high)) ∙ cond-le (level_of p) most (reduce most ps (join p g)) (with_operand (p ∷ ps) g) high ∙ ap (reduce most ps) made;
-      size = r.size ∙ size;
-      opens = r.opens ∙ opens;
+      operand = same-operand s (p ∷ ps) ps g f r.operand size opens;
+      joined = λ most one high. r.joined most one (omega (arith, below, high)) ∙ cond-true (nat_le (level_of p) most) (reduce most ps (join p g)) (with_operand (p ∷ ps) g) (le-leb (level_of p) most high) ∙ ap (reduce most ps) made;
     }
 
 weaker : (s : PartFormula) (ps : List Pending) (w : Written) (low high : ℕ) → IsSpine s ps w low → low ≤ high → IsSpine s ps w high
-weaker s ps w low high r below = record { left = r.left; last = r.last; is = r.is; joined = λ most one above. r.joined most one (omega (arith, below, above)); size = r.size; opens = r.opens }
+weaker s ps w low high r below = record { operand = r.operand; joined = λ most one above. r.joined most one (omega (arith, below, above)) }
 
 pub is-spine : (ps : List Pending) (w : Written) → IsFormula w → IsSpine (spine ps w) ps w (level w)
 is-spine ps True' h = settled ps True'
@@ -68,7 +72,7 @@ is-spine ps False' h = settled ps False'
 is-spine ps (Named name) h = settled ps (Named name)
 is-spine ps (Denied f) h = settled ps (Denied f)
 is-spine ps (Grouped f) h = settled ps (Grouped f)
-is-spine ps (Both f g) h = record { left = ps; last = Both f g; is = refl; joined = λ most one low. refl; size = refl; opens = refl }
+is-spine ps (Both f g) h = record { operand = last-operand ps (Both f g); joined = λ most one low. refl }
 is-spine ps (Either f g) h = behind-sign _ (Or f) ps (Either f g) g (level g) (is-spine (Or f ∷ ps) g (h.0.2, h.1.1)) (omega (arith, h.0.3)) refl (omega arith) refl
 is-spine ps (Leads f g) h = behind-sign _ (Implies f) ps (Leads f g) g (level g) (is-spine (Implies f ∷ ps) g (h.0.2, h.1.1)) h.0.3 refl (omega arith) refl
 is-spine ps (Equals f g) h = behind-sign _ (Iff f) ps (Equals f g) g (level g) (is-spine (Iff f ∷ ps) g (h.0.2, h.1.1)) h.0.3 refl (omega arith) refl
@@ -132,18 +136,10 @@ pub false-step : (c : Name) (ps : List Pending) (n : ℕ) → n ≡ size_all ps 
 unfolding formula_step
 false-step c ps n e = took _ _ _ (numbered n (size_all ps) (codes "false") [] e)
 
-chosen : {A : Type 0} (a b d e f : Bool) (v w x y z u : A) → a ≡ false → b ≡ false → d ≡ false → e ≡ false → f ≡ true → cond a v (cond b w (cond d x (cond e y (cond f z u)))) ≡ z
-chosen false false false false true v w x y z u ea eb ed ee ef = refl
-chosen true b d e f v w x y z u ea eb ed ee ef = absurd (true≢false ea)
-chosen false true d e f v w x y z u ea eb ed ee ef = absurd (true≢false eb)
-chosen false false true e f v w x y z u ea eb ed ee ef = absurd (true≢false ed)
-chosen false false false true f v w x y z u ea eb ed ee ef = absurd (true≢false ee)
-chosen false false false false false v w x y z u ea eb ed ee ef = absurd (true≢false (sym ef))
-
 pub name-step : (c : Name) (ps : List Pending) (n : ℕ) (name : Name) → IsNameWord name → n ≡ size_all ps → formula_step c (waiting_for ps) name ≡ Some (mark name (AtomOf c name ∷ IsNumber (n + 1) ∷ []), settle ps (Named name))
 unfolding formula_step
 name-step c ps n name h e =
-    chosen (bytes_eq name (codes "~")) (bytes_eq name (codes "(")) (bytes_eq name (codes "true")) (bytes_eq name (codes "false")) (is_name_word name) _ _ _ _ _ _
+    fifth_of_five (bytes_eq name (codes "~")) (bytes_eq name (codes "(")) (bytes_eq name (codes "true")) (bytes_eq name (codes "false")) (is_name_word name) _ _ _ _ _ _
     (word-apart name (codes "~") h refl) (word-apart name (codes "(") h refl) (word-apart name (codes "true") h true-no-name) (word-apart name (codes "false") h false-no-name) h
     ∙ took _ _ _ (numbered n (size_all ps) name (AtomOf c name ∷ []) e)
 
@@ -153,9 +149,10 @@ module _ (c : Name) (ps : List Pending) (f : Written) (h : IsFormula f) (n : ℕ
       → 1 ≤ most → level f ≤ most → Stays most ps → formula_step c (spine ps f) t ≡ Some (mark t (IsNumber (n + size_of f + 1) ∷ []), waiting_for (make f ∷ ps))
   stepped t make most steps one low stays =
       let r = is-spine ps f h in
-      let size : size_all r.left + size_of r.last + 1 ≡ n + size_of f + 1 = omega (arith, r.size, e) in
-      ap (λ s. formula_step c s t) r.is ∙ steps r.left r.last
-      ∙ ap (λ x. Some (numbered_mark (with_operand r.left r.last) t [], behind make x)) (r.joined most one low ∙ reduce-stays most ps f stays)
+      let q = r.operand in
+      let size : size_all q.left + size_of q.last + 1 ≡ n + size_of f + 1 = omega (arith, q.size, e) in
+      ap (λ s. formula_step c s t) q.is ∙ steps q.left q.last
+      ∙ ap (λ x. Some (numbered_mark (with_operand q.left q.last) t [], behind make x)) (r.joined most one low ∙ reduce-stays most ps f stays)
       ∙ ap (λ i. Some (mark t (IsNumber i ∷ []), waiting_for (make f ∷ ps))) size
 
 pub and-steps : (c : Name) (qs : List Pending) (g : Written) → formula_step c (with_operand qs g) (codes "&") ≡ Some (numbered_mark (with_operand qs g) (codes "&") [], behind And (reduce 1 qs g))
@@ -192,7 +189,7 @@ level-four (Equals f g) = omega arith
 pub close-step : (c : Name) (ps : List Pending) (f : Written) → IsFormula f → formula_step c (spine (Parenthesis ∷ ps) f) (codes ")") ≡ Some (mark (codes ")") [], settle ps (Grouped f))
 close-step c ps f h =
     let r = is-spine (Parenthesis ∷ ps) f h in
-    ap (λ s. formula_step c s (codes ")")) r.is ∙ close-steps c r.left r.last
+    ap (λ s. formula_step c s (codes ")")) r.operand.is ∙ close-steps c r.operand.left r.operand.last
     ∙ ap (λ x. option_map (λ (r : PartFormula). (mark (codes ")") [], r)) (closed x)) (r.joined 4 (omega arith) (level-four f))
 
 -- ---- all tokens

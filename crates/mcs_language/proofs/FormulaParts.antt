@@ -8,6 +8,9 @@ use Rattle.mcs_language.specs.Written.{Written, level, IsFormula}
 use Rattle.mcs_language.specs.Marks.{Token, IsNumber, OpensWithin, Mark, mark, formula_marks, size_of}
 use Rattle.mcs_language.specs.FormulaSteps.{Pending, Tilde, Parenthesis, And, Or, Implies, Iff, PartFormula, size_all, is_parenthesis, formula_step, finished_primary}
 
+abbrev pub part : List Pending → Option Written → PartFormula
+part ps o = record { pending = ps; operand = o }
+
 -- the highest level of what may come after what waits
 abbrev pub room_after : Pending → ℕ
 room_after Tilde = 0

@@ -1,9 +1,10 @@
 -- One token more of a formula: its mark is one more, and what is written is of the grammar again.
-use Rattle.std.proofs.Common.{◌≡◌, ℕ, ◌+◌, ◌≤◌, Bool, true, false, cond, List, [], ◌∷◌, ◌++◌, Option, Some, None, refl, sym, ap, subst, ◌∙◌, arith, append_assoc}
+use Rattle.std.proofs.Common.{◌≡◌, ℕ, ◌+◌, ◌≤◌, true, List, [], ◌∷◌, ◌++◌, Option, Some, None, refl, sym, ap, subst, ◌∙◌, arith, append_assoc}
 use Rattle.std.specs.Prelude.{codes, option_map}
 use Rattle.std.specs.Str.{bytes_eq}
 use Rattle.std.proofs.lemmas.List.{append-nil}
 use Rattle.std.proofs.lemmas.Slice.Eq.{bytes_eq-Decides}
+use Rattle.mcs_base.proofs.Booleans.{by_five}
 use Rattle.mcs_system.specs.Plain.{Name}
 use Rattle.mcs_language.specs.Written.{Written, True', False', Named, Denied, Grouped, Both, level, IsFormula}
 use Rattle.mcs_language.specs.Marks.{Token, Use, AtomOf, IsNumber, OpensWithin, Mark, mark, formula_marks, size_of}
@@ -92,15 +93,6 @@ pub record IsTaken (c : Name) (s : PartFormula) (t : Token) (r : Mark × PartFor
   pub begun : IsBegun s.pending s.operand → finished_primary r.1 ≡ None → IsBegun (r.1).pending (r.1).operand
   pub ends : IsBegun s.pending s.operand → (w : Written) → finished_primary r.1 ≡ Some w → level w ≡ 0
 
-choose : {A : Type 0} (Q : A → Type 0) (a b d e f : Bool) (v w x y : A) (z : Option A) (r : A) → cond a (Some v) (cond b (Some w) (cond d (Some x) (cond e (Some y) (cond f z None)))) ≡ Some r
-    → (a ≡ true → Q v) → (b ≡ true → Q w) → (d ≡ true → Q x) → (e ≡ true → Q y) → (f ≡ true → z ≡ Some r → Q r) → Q r
-choose Q true b d e f v w x y z r h qa qb qd qe qf = let same : v ≡ r = cc in subst Q same (qa refl)
-choose Q false true d e f v w x y z r h qa qb qd qe qf = let same : w ≡ r = cc in subst Q same (qb refl)
-choose Q false false true e f v w x y z r h qa qb qd qe qf = let same : x ≡ r = cc in subst Q same (qd refl)
-choose Q false false false true f v w x y z r h qa qb qd qe qf = let same : y ≡ r = cc in subst Q same (qe refl)
-choose Q false false false false true v w x y z r h qa qb qd qe qf = qf refl h
-choose Q false false false false false v w x y z r h qa qb qd qe qf = let no : None ≡ Some r = h in cc
-
 numbered-same : (u t : Token) (n k : ℕ) (before : List Use) → u ≡ t → n ≡ k → mark u (before ++ IsNumber n ∷ []) ≡ mark t (before ++ IsNumber k ∷ [])
 numbered-same u t n k before e e' = ap (λ x. mark x (before ++ IsNumber n ∷ [])) e ∙ ap (λ i. mark t (before ++ IsNumber i ∷ [])) e'
 
@@ -149,7 +141,7 @@ one-primary c ps t f m m' w is low marks e token =
 taken-operand : (c : Name) (ps : List Pending) (t : Token) (r : Mark × PartFormula) → AreWaiting ps → operand_step c (waiting_for ps) t ≡ Some r → IsTaken c (waiting_for ps) t r
 taken-operand c ps t r w e =
     let number : size_all ps + 1 ≡ size_all ps + 0 + 1 = omega arith in
-    choose (IsTaken c (waiting_for ps) t) (bytes_eq t (codes "~")) (bytes_eq t (codes "(")) (bytes_eq t (codes "true")) (bytes_eq t (codes "false")) (is_name_word t) _ _ _ _ _ r e
+    by_five (IsTaken c (waiting_for ps) t) (bytes_eq t (codes "~")) (bytes_eq t (codes "(")) (bytes_eq t (codes "true")) (bytes_eq t (codes "false")) (is_name_word t) _ _ _ _ _ r e
     (λ h. record {
       part = record { waiting = (tt, w); last = tt };
       marks = new-waiting (pending_marks c ps) (mark (codes "~") (IsNumber (size_all ps + 1) ∷ [])) (mark t (IsNumber (size_all ps + 0 + 1) ∷ [])) (numbered-same (codes "~") t _ _ [] (same_bytes t (codes "~") h) number);
@@ -254,7 +246,7 @@ taken-sign c ps f t r is e =
     let q2 = reach 2 (omega arith) (omega arith) in
     let q3 = reach 3 (omega arith) (omega arith) in
     let q4 = reach 4 (omega arith) (omega arith) in
-    choose (IsTaken c (with_operand ps f) t) (bytes_eq t (codes "&")) (bytes_eq t (codes "|")) (bytes_eq t (codes "->")) (bytes_eq t (codes "<->")) (bytes_eq t (codes ")")) _ _ _ _ _ r e
+    by_five (IsTaken c (with_operand ps f) t) (bytes_eq t (codes "&")) (bytes_eq t (codes "|")) (bytes_eq t (codes "->")) (bytes_eq t (codes "<->")) (bytes_eq t (codes ")")) _ _ _ _ _ r e
     (λ h. signed c ps f t And 1 q1 one (q1.formula, q1.low, room-one q1.left q1.stays) (ap (sign_marks c (size_all q1.left) (opened q1.left) q1.last) (same_bytes t (codes "&") h)))
     (λ h. signed c ps f t Or 2 q2 one (q2.formula, q2.low, omega (arith, room-two q2.left q2.stays)) (ap (sign_marks c (size_all q2.left) (opened q2.left) q2.last) (same_bytes t (codes "|") h)))
     (λ h. signed c ps f t Implies 2 q2 one (q2.formula, q2.low, room-two q2.left q2.stays) (ap (sign_marks c (size_all q2.left) (opened q2.left) q2.last) (same_bytes t (codes "->") h)))

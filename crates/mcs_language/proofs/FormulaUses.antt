@@ -2,13 +2,13 @@
 use Rattle.std.proofs.Common.{◌≡◌, ℕ, ◌+◌, ◌<◌, ◌≤◌, max, codes, List, [], ◌∷◌, ◌++◌, refl, sym, ap, ◌∙◌, inl, inr, ◌⊎◌, subst, arith}
 use Rattle.std.proofs.lemmas.Bool.{cases_lt}
 use Rattle.mcs_base.specs.Listings.{IsAmong}
+use Rattle.mcs_base.proofs.Among.{among_left, among_right, among_either}
 use Rattle.mcs_system.specs.Plain.{Name}
 use Rattle.mcs_system.specs.Logic.{atoms}
-use Rattle.mcs_system.proofs.Members.{among_left, among_right, among_either}
 use Rattle.mcs_language.specs.Written.{Written, True', False', Named, Denied, Grouped, Both, Either, Leads, Equals}
 use Rattle.mcs_language.specs.Marks.{Use, AtomOf, IsNumber, OpensWithin, Mark, mark, formula_in, size_of, formula_marks, whole_marks, uses_of}
 use Rattle.mcs_language.proofs.UsesParts.{depth_of}
-use Rattle.mcs_language.proofs.MarkLists.{HasMarks, marks-before, uses-append, uses-end}
+use Rattle.mcs_language.proofs.MarkLists.{uses-append, uses-end}
 
 -- these atoms of the context, the numbers above `from` and up to `to`, and the parentheses within `low` others up to below `high`
 abbrev pub IsPartUse : (c : Name) (names : List Name) (from to low high : ℕ) → Use → Type 0
@@ -150,17 +150,6 @@ formula-part c n o (Both f g) = part-with c _ n _ o _ _ _ (binary-uses c n o f _
 formula-part c n o (Either f g) = part-with c _ n _ o _ _ _ (binary-uses c n o f _ _) (binary-part c _ _ n (size_of f) (size_of g) o (depth_of f) (depth_of g) _ _ (formula-part c n o f) (formula-part c (n + size_of f + 1) o g))
 formula-part c n o (Leads f g) = part-with c _ n _ o _ _ _ (binary-uses c n o f _ _) (binary-part c _ _ n (size_of f) (size_of g) o (depth_of f) (depth_of g) _ _ (formula-part c n o f) (formula-part c (n + size_of f + 1) o g))
 formula-part c n o (Equals f g) = part-with c _ n _ o _ _ _ (binary-uses c n o f _ _) (binary-part c _ _ n (size_of f) (size_of g) o (depth_of f) (depth_of g) _ _ (formula-part c n o f) (formula-part c (n + size_of f + 1) o g))
-
-pub formula-has : (c : Name) (n o : ℕ) (f : Written) → HasMarks (formula_marks c n o f)
-formula-has c n o True' = tt
-formula-has c n o False' = tt
-formula-has c n o (Named a) = tt
-formula-has c n o (Denied f) = tt
-formula-has c n o (Grouped f) = tt
-formula-has c n o (Both f g) = marks-before (formula_marks c n o f) _ (formula-has c n o f)
-formula-has c n o (Either f g) = marks-before (formula_marks c n o f) _ (formula-has c n o f)
-formula-has c n o (Leads f g) = marks-before (formula_marks c n o f) _ (formula-has c n o f)
-formula-has c n o (Equals f g) = marks-before (formula_marks c n o f) _ (formula-has c n o f)
 
 pub whole-part : (c : Name) (f : Written) → ArePartUses c (atoms (formula_in f)) 0 (size_of f) 0 (depth_of f) (uses_of (whole_marks c f))
 whole-part c f = same-part c _ _ 0 (0 + size_of f) (size_of f) 0 (0 + depth_of f) (depth_of f) _ _ refl (omega arith) (omega arith) refl (formula-part c 0 0 f)

@@ -12,7 +12,7 @@ use Rattle.mcs_language.proofs.FormulaForward.{waiting_for, with_operand, spine,
 
 finished-spine : (w : Written) → IsFormula w → finished (spine [] w) ≡ Some w
 unfolding finished
-finished-spine w h = let r = is-spine [] w h in ap finished r.is ∙ ap alone (r.joined 4 (omega arith) (level-four w))
+finished-spine w h = let r = is-spine [] w h in ap finished r.operand.is ∙ ap alone (r.joined 4 (omega arith) (level-four w))
 
 pub whole-formula : (c : Name) (w : Written) → IsFormula w → (s : PartFormula) × (formula_steps c no_formula (tokens_of (whole_marks c w)) ≡ Some (whole_marks c w, s)) × (finished s ≡ Some w)
 whole-formula c w h = (spine [] w, goes-steps c no_formula (spine [] w) (whole_marks c w) (formula-forward c [] 0 0 w h (level-four w) refl refl), finished-spine w h)

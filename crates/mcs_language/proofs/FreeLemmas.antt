@@ -4,10 +4,11 @@ use Rattle.std.specs.Prelude.{count_by}
 use Rattle.std.specs.Option.{option_copied}
 use Rattle.std.proofs.lemmas.Bool.{cases_lt}
 use Rattle.mcs_base.specs.Listings.{IsAmong}
-use Rattle.mcs_base.proofs.ListingLemmas.{all_among}
+use Rattle.mcs_base.proofs.Sums.{count_by_push_no}
+use Rattle.mcs_base.proofs.Each.{all_among}
 use Rattle.mcs_system.specs.Plain.{Name, Formula}
 use Rattle.mcs_system.specs.Logic.{atoms}
-use Rattle.mcs_system.specs.declared.fault.Limit.TheVariants.{Contexts, Bridges, RulesPerContext, Variables, InputsPerContext, AtomsPerContext, DefaultsPerContext, ItemsPerContext, NameBytes}
+use Rattle.mcs_system.specs.declared.limit.Limit.TheVariants.{Contexts, Bridges, RulesPerContext, Variables, InputsPerContext, AtomsPerContext, DefaultsPerContext, ItemsPerContext, NameBytes}
 use Rattle.mcs_language.specs.declared.place.NamedRead as code_read
 use Rattle.mcs_language.specs.declared.place.Role as code_role
 use Rattle.mcs_language.specs.declared.place.Role.TheVariants as roles
@@ -20,7 +21,7 @@ use Rattle.mcs_language.specs.Written.{IsNameWord}
 use Rattle.mcs_language.specs.Watching.{IsSpokenOf, named_read, AreShort, IsAsked, IsAllowed, AreFree}
 use Rattle.mcs_language.proofs.LimitLemmas.{use-in, in-use}
 use Rattle.mcs_language.proofs.WatchFacts.{is-context}
-use Rattle.mcs_language.proofs.LaterLemmas.{count-later, earlier, not-new, same-among, spoken-later}
+use Rattle.mcs_language.proofs.LaterLemmas.{earlier, not-new, same-among, spoken-later}
 use Rattle.mcs_language.proofs.UseLemmas.{told-in}
 
 -- ---- one more
@@ -87,7 +88,7 @@ role-uses-are a t (roles.Opens n) u (inr none) = absurd none
 
 module _ (before : List Use) (v : Use) where
   count-stays : (p : Use → Bool) (n : ℕ) → p v ≡ false → ¬ (count_by p before ≡ n) → ¬ (count_by p (before ++ v ∷ []) ≡ n)
-  count-stays p n other h e = h (sym (count-later p before v other) ∙ e)
+  count-stays p n other h e = h (sym (count_by_push_no p before v other) ∙ e)
 
   role-later : IsEarly v → (u : Use) → is_role_use u ≡ true → IsAllowed before u → IsAllowed (before ++ v ∷ []) u
   role-later early BeginsContext e h = count-stays begins_context 64 early.contexts h

@@ -1,6 +1,7 @@
 -- What waits, as the reader holds it, and what it completes.
-use Rattle.std.proofs.Common.{◌≡◌, ℕ, ◌≤◌, ◌<◌, cond, List, [], ◌∷◌, ◌++◌, Some, refl, sym, ap, subst, ◌∙◌, arith}
+use Rattle.std.proofs.Common.{◌≡◌, ℕ, ◌≤◌, ◌<◌, cond, List, [], ◌∷◌, ◌++◌, length, Some, refl, sym, ap, subst, ◌∙◌, arith, length-append}
 use Rattle.std.proofs.lemmas.Bool.{le-leb, lt-leb}
+use Rattle.std.proofs.lemmas.List.{same_from_push}
 use Rattle.mcs_system.specs.Seen.{formula_of}
 use Rattle.mcs_system.specs.declared.formula.Formula as code_formula
 use Rattle.mcs_language.specs.declared.formula.Pending as code_pending
@@ -9,23 +10,6 @@ use Rattle.mcs_language.specs.Marks.{formula_in}
 use Rattle.mcs_language.specs.FormulaSteps.{Pending, Tilde, Parenthesis, And, Or, Implies, Iff, PartFormula, join, settle, level_of, reduce}
 use Rattle.mcs_language.specs.FormulaImages.{waiting_of, waiting_in, waiting_level, made, AreStacked, AreImages}
 use Rattle.mcs_language.proofs.FormulaForward.{with_operand}
-
--- ---- the last of a list
-tail-same : {A : Type 0} (a b : A) (xs ys : List A) → a ∷ xs ≡ b ∷ ys → (a ≡ b) × (xs ≡ ys)
-tail-same a b xs ys e = (cc, cc)
-
-no-nil : {A : Type 0} (xs : List A) (a : A) → ¬ ([] ≡ xs ++ a ∷ [])
-no-nil [] a e = cc
-no-nil (x ∷ xs) a e = cc
-
-pub last-same : {A : Type 0} (xs ys : List A) (a b : A) → xs ++ a ∷ [] ≡ ys ++ b ∷ [] → (xs ≡ ys) × (a ≡ b)
-last-same [] [] a b e = (refl, (tail-same a b [] [] e).0)
-last-same [] (y ∷ ys) a b e = absurd (no-nil ys b (tail-same a y [] (ys ++ b ∷ []) e).1)
-last-same (x ∷ xs) [] a b e = absurd (no-nil xs a (sym (tail-same x b (xs ++ a ∷ []) [] e).1))
-last-same (x ∷ xs) (y ∷ ys) a b e =
-    let t = tail-same x y (xs ++ a ∷ []) (ys ++ b ∷ []) e in
-    let r = last-same xs ys a b t.1 in
-    (ap (λ z. z ∷ xs) t.0 ∙ ap (λ l. y ∷ l) r.0, r.1)
 
 -- ---- the last of what waits
 pub record IsLast (below : List code_pending.Pending) (last : code_pending.Pending) (ps : List Pending) : Type 0 where
@@ -36,14 +20,14 @@ pub record IsLast (below : List code_pending.Pending) (last : code_pending.Pendi
   pub stacked : AreStacked below rest
 
 pub last-of : (items below : List code_pending.Pending) (last : code_pending.Pending) (ps : List Pending) → AreStacked items ps → items ≡ below ++ last ∷ [] → IsLast below last ps
-last-of items below last [] h e = absurd (no-nil below last (sym h ∙ e))
+last-of items below last [] h e = absurd (omega (arith, length-append below (last ∷ []), ap length (sym h ∙ e)))
 last-of items below last (p ∷ ps) h e =
-    let same = last-same h.0 below h.1.0 last (sym h.1.1.0 ∙ e) in
+    let same = same_from_push h.0 below h.1.0 last (sym h.1.1.0 ∙ e) in
     record { first = p; rest = ps; is = refl; same = ap waiting_of (sym same.1) ∙ h.1.1.1; stacked = subst (λ l. AreStacked l ps) same.0 h.1.1.2 }
 
 pub none-of : (items : List code_pending.Pending) (ps : List Pending) → AreStacked items ps → items ≡ [] → ps ≡ []
 none-of items [] h e = refl
-none-of items (p ∷ ps) h e = absurd (no-nil h.0 h.1.0 (sym e ∙ h.1.1.0))
+none-of items (p ∷ ps) h e = absurd (omega (arith, length-append h.0 (h.1.0 ∷ []), ap length (sym e ∙ h.1.1.0)))
 
 pub stacked-more : (items below : List code_pending.Pending) (last : code_pending.Pending) (p : Pending) (ps : List Pending) → AreStacked below ps → waiting_of last ≡ waiting_in p → items ≡ below ++ last ∷ [] → AreStacked items (p ∷ ps)
 stacked-more items below last p ps h same e = (below, (last, (e, same, h)))

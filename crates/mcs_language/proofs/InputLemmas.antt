@@ -2,13 +2,14 @@
 use Rattle.std.proofs.Common.{◌≡◌, ℕ, ◌<◌, ◌≤◌, Bool, true, List, map, length, Option, Some, None, refl, sym, ◌∙◌, subst, inl, inr, ◌↔◌, arith, slice_get}
 use Rattle.std.specs.Prelude.{IsTrue, nat_eq, not}
 use Rattle.std.specs.Option.{option_copied}
-use Rattle.std.proofs.lemmas.Bool.Decides.{Decides-eqb}
+use Rattle.std.proofs.lemmas.Bool.Decides.{Decides-eqb, Decides-not}
 use Rattle.std.proofs.lemmas.List.{length-map}
+use Rattle.std.proofs.lemmas.Option.{same_Some, slice_get_within}
 use Rattle.mcs_base.specs.Listings.{IsAmong}
 use Rattle.mcs_sets.specs.Sets.{has, size}
-use Rattle.mcs_system.proofs.Members.{among_get, get-lt}
+use Rattle.mcs_base.proofs.Among.{among_get}
 use Rattle.mcs_system.specs.Plain.{Name}
-use Rattle.mcs_system.specs.declared.fault.Limit.TheVariants.{Variables, InputsPerContext, AtomsPerContext}
+use Rattle.mcs_system.specs.declared.limit.Limit.TheVariants.{Variables, InputsPerContext, AtomsPerContext}
 use Rattle.mcs_language.specs.declared.place.NamedRead as code_read
 use Rattle.mcs_language.specs.declared.place.Role.TheVariants as roles
 use Rattle.mcs_language.specs.declared.watch.Watch.{Watch}
@@ -20,8 +21,7 @@ use Rattle.mcs_language.specs.TextImages.{About, read_of}
 use Rattle.mcs_language.specs.Watching.{Lists, IsNumberOf, IsAsked}
 use Rattle.mcs_language.proofs.DifferentLemmas.{values-at}
 use Rattle.mcs_language.proofs.LimitLemmas.{read_said, variables-beyond, inputs-beyond, atoms-beyond, spoken-of}
-use Rattle.mcs_language.proofs.TellLemmas.{told-not}
-use Rattle.mcs_language.proofs.WatchFacts.{one-more, number-there, some-same, seen-name, seen-here, seen-none}
+use Rattle.mcs_language.proofs.WatchFacts.{one-more, number-there, seen-name, seen-here, seen-none}
 
 module _ (w : Watch) (before : List Use) (m : Mark) (a : About) (s : Said) (asked : IsAsked w before m a s) where
   abbrev variables : List NamedRead
@@ -88,12 +88,12 @@ module _ (w : Watch) (before : List Use) (m : Mark) (a : About) (s : Said) (aske
     input-there n number = (λ h. go number ((input-is n).0 h.1), λ was. back number was)
       where
         go : IsNumberOf variables (read_said a) n → ((r : NamedRead) × (slice_get variables n ≡ Some r) × WasReadInto before a.subject.target r) → WasReadInto before a.subject.target (read_said a)
-        go (inl is) (r, is', was) = subst (WasReadInto before a.subject.target) (some-same (sym is' ∙ is)) was
-        go (inr none) (r, is', was) = absurd (let less = get-lt r variables n is' in omega (arith, none.0))
+        go (inl is) (r, is', was) = subst (WasReadInto before a.subject.target) (same_Some _ _ (sym is' ∙ is)) was
+        go (inr none) (r, is', was) = absurd (let less = slice_get_within variables n r is' in omega (arith, none.0))
 
         back : IsNumberOf variables (read_said a) n → WasReadInto before a.subject.target (read_said a) → (n < 64) × IsTrue (has c.inputs n)
         back (inl is) was =
-            let less = get-lt (read_said a) variables n is in
+            let less = slice_get_within variables n (read_said a) is in
             let same = length-map w.variables.items read_of in
             let few = asked.watch.few.2 in
             (omega arith, (input-is n).1 (read_said a, is, was))
@@ -108,7 +108,7 @@ module _ (w : Watch) (before : List Use) (m : Mark) (a : About) (s : Said) (aske
         let long = values.2 in
         let few = (seen-here w before asked.watch a.subject.target s.subject.target asked.subject_is.target c here).few.4 in
         let beyond = inputs-beyond w before m a s asked in
-        let tell = told-not b is in (
+        let tell = Decides-not b is in (
           λ h. beyond.1 (ends, one.1 (omega arith, λ there'. tell.0 h (among.0 there'))),
           λ h. tell.1 (λ was. (one.0 (beyond.0 h).1).1 (among.1 was)),
         )
@@ -135,7 +135,7 @@ module _ (w : Watch) (before : List Use) (m : Mark) (a : About) (s : Said) (aske
         let one = one-more c.atoms.items (WasAtom before a.subject.context) 64 s.token.now atoms-listed in
         let few = (seen-here w before asked.watch a.subject.context s.subject.context asked.subject_is.context c here).few.3 in
         let beyond = atoms-beyond w before m a s asked in
-        let tell = told-not b tells in (
+        let tell = Decides-not b tells in (
           λ h. beyond.1 ((n, role), one.1 (omega arith, tell.0 h)),
           λ h. tell.1 (one.0 (beyond.0 h).1).1,
         )

@@ -5,6 +5,7 @@ use Rattle.std.specs.List.{flat_map, AllByRecursion}
 use Rattle.std.specs.Option.{option_and_then}
 use Rattle.std.specs.Str.{bytes_eq}
 use Rattle.std.proofs.lemmas.Slice.Eq.{bytes_eq-Decides}
+use Rattle.std.proofs.lemmas.Option.{same_Some}
 use Rattle.mcs_base.specs.Words.{reserved_words}
 use Rattle.mcs_system.specs.Plain.{Name}
 use Rattle.mcs_language.specs.Written.{Written, WrittenDefault, WrittenItem, Fact, Rule, DefaultTheory, WrittenContext, WrittenBridge, IsFormula, IsItem}
@@ -13,11 +14,12 @@ use Rattle.mcs_language.specs.FormulaSteps.{PartFormula, no_formula, formula_ste
 use Rattle.mcs_language.specs.TextSteps.{Place, NextItem, InFact, InJust, InConclusion, PartDefault, PartText, Moved, goes, in_formula, is_program, is_theory, add_fact, add_default, one_more_just, whole_default, text_step}
 use Rattle.mcs_language.proofs.FormulaParts.{is_joining}
 use Rattle.mcs_language.proofs.FormulaRuns.{Goes}
-use Rattle.mcs_language.proofs.FormulaTheory.{formula-whole, formula-goes-on}
-use Rattle.mcs_language.proofs.TextRuns.{Runs, some-is, runs-one, runs-cons, runs-append}
-use Rattle.mcs_language.proofs.TextParts.{sign_mark, begun, IsSome}
+use Rattle.mcs_language.proofs.TextRuns.{Runs, runs-one, runs-cons, runs-append}
+use Rattle.mcs_language.proofs.TextParts.{sign_mark, begun, text_of}
 use Rattle.mcs_language.proofs.TextLemmas.{first-append, whole-some}
-use Rattle.mcs_language.proofs.TextSound.{text_of}
+use Rattle.mcs_language.proofs.FormulaWhole.{whole-formula}
+use Rattle.mcs_language.proofs.FormulaEnds.{goes-on}
+use Rattle.mcs_language.specs.TextImages.{HasSome}
 
 -- ---- the steps of a formula, one by one
 abbrev FormulaRan : Type 0
@@ -30,14 +32,14 @@ abbrev from_then : Name → List Token → Mark × PartFormula → FormulaRan
 from_then c ts r = option_map (after_mark r.0) (formula_steps c r.1 ts)
 
 pub steps-goes : (c : Name) (s s' : PartFormula) (ms : List Mark) → formula_steps c s (tokens_of ms) ≡ Some (ms, s') → Goes c s ms s'
-steps-goes c s s' [] e = let same : ([], s) ≡ ([], s') = some-is e in ap (λ (p : List Mark × PartFormula). p.1) same
+steps-goes c s s' [] e = let same : ([], s) ≡ ([], s') = same_Some _ _ e in ap (λ (p : List Mark × PartFormula). p.1) same
 steps-goes c s s' (m ∷ ms) e = go (formula_step c s m.token) refl e (λ (k : PartFormula) h. steps-goes c k s' ms h)
   where
     at : (r : Mark × PartFormula) → formula_step c s m.token ≡ Some r → (o : FormulaRan) → formula_steps c r.1 (tokens_of ms) ≡ o → option_map (after_mark r.0) o ≡ Some (m ∷ ms, s')
         → ((k : PartFormula) → formula_steps c k (tokens_of ms) ≡ Some (ms, s') → Goes c k ms s') → Goes c s (m ∷ ms) s'
     at r is None then' h rest = absurd (cc)
     at r is (Some q) then' h rest =
-        let same : ◌≡◌ {A = List Mark × PartFormula} (r.0 ∷ q.0, q.1) (m ∷ ms, s') = some-is h in
+        let same : ◌≡◌ {A = List Mark × PartFormula} (r.0 ∷ q.0, q.1) (m ∷ ms, s') = same_Some _ _ h in
         let marks : r.0 ∷ q.0 ≡ m ∷ ms = ap (λ (p : List Mark × PartFormula). p.0) same in
         let first : r.0 ≡ m = cc in
         let others : q.0 ≡ ms = cc in
@@ -56,7 +58,7 @@ pub record Taken (c : Name) (w : Written) : Type 0 where
   pub whole : finished end ≡ Some w
 
 pub taken : (c : Name) (w : Written) → IsFormula w → Taken c w
-taken c w h = let x = formula-whole c w h in record { end = x.0; steps = steps-goes c no_formula x.0 (whole_marks c w) x.1; whole = x.2 }
+taken c w h = let x = whole-formula c w h in record { end = x.0; steps = steps-goes c no_formula x.0 (whole_marks c w) x.1; whole = x.2 }
 
 -- ---- within a formula
 pub formula-takes : (s : PartText) (c : Name) (uses : List Use) (f : PartFormula) (t : Token) (place : PartFormula → Place) (otherwise : Moved) (q : Mark × PartFormula) → formula_step c f t ≡ Some q → in_formula s c uses f t place otherwise ≡ goes s t (uses ++ (q.0).uses) (place q.1)
@@ -109,14 +111,14 @@ module _ (cs : List WrittenContext) (bs : List WrittenBridge) where
   begins c m f prog e = rw (begins-otherwise c.name m.token (m, f) e, prog) (formula-takes (text_of cs bs (NextItem c)) c.name (BeginsItem c.name ∷ []) no_formula m.token (InFact c) None (m, f) e)
 
   -- the first formula of an item
-  begun-runs : (c : WrittenContext) (ms : List Mark) (f : PartFormula) → is_program c.kb ≡ false → IsSome ms → Goes c.name no_formula ms f → Leads (NextItem c) (begun c.name ms) (InFact c f)
+  begun-runs : (c : WrittenContext) (ms : List Mark) (f : PartFormula) → is_program c.kb ≡ false → HasSome ms → Goes c.name no_formula ms f → Leads (NextItem c) (begun c.name ms) (InFact c f)
   begun-runs c [] f prog h g = absurd h
   begun-runs c (m ∷ ms) f prog h g =
       runs-cons (text_of cs bs (NextItem c)) (text_of cs bs (InFact c g.0)) (text_of cs bs (InFact c f)) (mark m.token (BeginsItem c.name ∷ m.uses)) ms (begins c m g.0 prog g.1) (within-runs c.name (InFact c) (fact-within c) g.0 f ms g.2)
 
   -- ---- a fact
   stops : (c : Name) (f : PartFormula) (w : Written) (t : Token) → is_joining t ≡ false → finished f ≡ Some w → formula_step c f t ≡ None
-  stops c f w t h e = (formula-goes-on c f w t e).1 h
+  stops c f w t h e = (goes-on c f w t e).1 h
 
   fact-ends : (c : WrittenContext) (f : PartFormula) (w : Written) → finished f ≡ Some w → text_step (text_of cs bs (InFact c f)) (codes ".") ≡ Some (sign_mark (codes "."), text_of cs bs (NextItem (add_fact c w)))
   unfolding text_step

@@ -1,31 +1,15 @@
 -- What one use more leaves as it was, and what it adds to counts and lists.
-use Rattle.std.proofs.Common.{◌≡◌, ℕ, ◌+◌, Bool, true, false, cond, List, [], ◌∷◌, ◌++◌, Some, refl, sym, ap, ◌∙◌, inl, inr, ◌↔◌, arith, slice_get}
-use Rattle.std.specs.Prelude.{count_by, IsTrue}
-use Rattle.std.proofs.lemmas.List.Sums.{sum_by_push}
-use Rattle.std.proofs.lemmas.List.{append-nil, append_assoc}
-use Rattle.std.specs.List.{flat_map}
+use Rattle.std.proofs.Common.{◌≡◌, ℕ, List, [], ◌∷◌, ◌++◌, Some, refl, inl, inr, ◌↔◌, slice_get}
+use Rattle.std.specs.Prelude.{IsTrue}
 use Rattle.mcs_base.specs.Listings.{IsAmong}
 use Rattle.mcs_sets.specs.Sets.{has}
+use Rattle.mcs_base.proofs.Among.{among_push, among_left}
+use Rattle.mcs_base.proofs.Lists.{flat_map_push}
 use Rattle.mcs_system.specs.Plain.{Name, Formula}
-use Rattle.mcs_system.proofs.Members.{among_left}
 use Rattle.mcs_language.specs.Marks.{Use, BeginsContext, BeginsBridge, NamesContext, NamesBridge, SaysProgram, BeginsItem, BeginsDefault, NamesTarget, NamesSource, BeginsBelief, EndsRead, AtomOf, IsNumber, OpensWithin}
 use Rattle.mcs_language.specs.Faults.{NamedRead, WasRead, WasReadInto, WasAtom}
 use Rattle.mcs_language.specs.Watching.{context_named, bridge_named, contexts_named, bridges_named, Lists, IsSpokenOf}
-use Rattle.mcs_language.proofs.DifferentLemmas.{among-push, push-among, lists-same}
-
--- ---- counts
-count-push : {A : Type 0} (p : A → Bool) (xs : List A) (x : A) → count_by p (xs ++ x ∷ []) ≡ count_by p xs + cond (p x) 1 0
-count-push p xs x = sum_by_push (λ y. cond (p y) 1 0) xs x
-
-pub count-later : {A : Type 0} (p : A → Bool) (xs : List A) (x : A) → p x ≡ false → count_by p (xs ++ x ∷ []) ≡ count_by p xs
-count-later p xs x e = let h = rw e at (count-push p xs x) in omega arith
-
-pub count-more : {A : Type 0} (p : A → Bool) (xs : List A) (x : A) → p x ≡ true → count_by p (xs ++ x ∷ []) ≡ count_by p xs + 1
-count-more p xs x e = rw e at (count-push p xs x)
-
-flat-push : {A B : Type 0} (f : A → List B) (xs : List A) (x : A) → flat_map f (xs ++ x ∷ []) ≡ flat_map f xs ++ f x
-flat-push f [] x = append-nil (f x)
-flat-push f (y ∷ ys) x = ap (λ (zs : List _). f y ++ zs) (flat-push f ys x) ∙ sym (append_assoc (f y) (flat_map f ys) (f x))
+use Rattle.mcs_language.proofs.DifferentLemmas.{lists-same}
 
 -- ---- what is among them
 module _ (before : List Use) (u : Use) where
@@ -36,10 +20,10 @@ module _ (before : List Use) (u : Use) where
   earlier v h = among_left v before (u ∷ []) h
 
   pub not-new : (v : Use) → ¬ (v ≡ u) → IsAmong v after → IsAmong v before
-  not-new v other h = elim (among-push v before u h) [ inl there ↦ there | inr e ↦ absurd (other e) ]
+  not-new v other h = elim ((among_push v before u).0 h) [ inl there ↦ there | inr e ↦ absurd (other e) ]
 
   pub the-new : IsAmong u after
-  the-new = push-among u before u (inr refl)
+  the-new = (among_push u before u).1 (inr refl)
 
   pub same-among : (v : Use) → ¬ (v ≡ u) → IsAmong v before ↔ IsAmong v after
   same-among v other = (earlier v, not-new v other)
@@ -82,7 +66,7 @@ module _ (before : List Use) (u : Use) where
 
   -- ---- names
   pub named-later : contexts_named after ≡ contexts_named before ++ context_named u
-  named-later = flat-push context_named before u
+  named-later = flat_map_push context_named before u
 
   pub bridges-later : bridges_named after ≡ bridges_named before ++ bridge_named u
-  bridges-later = flat-push bridge_named before u
+  bridges-later = flat_map_push bridge_named before u

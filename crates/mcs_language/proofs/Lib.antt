@@ -29,6 +29,7 @@ pub mod BeliefSteps
 pub mod PlaceLemmas
 pub mod TakeLemmas
 pub mod Unambiguous
+pub mod OneFault
 pub mod UsesLemmas
 pub mod Within
 pub mod NumberLemmas

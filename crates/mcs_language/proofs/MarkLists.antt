@@ -1,87 +1,42 @@
 -- The uses of marks that stand one after another, and how often a use is among them.
-use Rattle.std.proofs.Common.{◌≡◌, ℕ, ◌+◌, Bool, true, false, cond, List, [], ◌∷◌, ◌++◌, map, length, refl, sym, ap, ◌∙◌, inl, inr, ◌⊎◌, subst, arith, append_assoc, append-nil}
-use Rattle.std.specs.Prelude.{count_by}
+use Rattle.std.proofs.Common.{◌≡◌, ℕ, List, [], ◌∷◌, ◌++◌, refl, sym, ap, ◌∙◌, inl, inr, ◌⊎◌, subst, append_assoc, append-nil}
 use Rattle.std.specs.List.{flat_map}
-use Rattle.std.proofs.lemmas.List.Sums.{sum_by-cons, sum_by-append}
 use Rattle.std.proofs.lemmas.Grind.{flat_map-append}
 use Rattle.mcs_base.specs.Listings.{IsAmong}
-use Rattle.mcs_system.proofs.Members.{among_left, among_right, among_either, among_flat_map, flat_map_among}
-use Rattle.mcs_language.specs.Marks.{Use, Mark, with_first, with_last, uses_of}
+use Rattle.mcs_base.proofs.Lists.{flat_map-flat_map}
+use Rattle.mcs_base.proofs.Among.{among_left, among_right, among_either, among_flat_map, flat_map_among}
+use Rattle.mcs_system.specs.Plain.{Name}
+use Rattle.mcs_language.specs.Written.{Written, True', False', Named, Denied, Grouped, Both, Either, Leads, Equals}
+use Rattle.mcs_language.specs.Marks.{Use, Mark, with_first, with_last, formula_marks, uses_of}
+use Rattle.mcs_language.specs.TextImages.{HasSome}
 
--- ---- counts
-module _ {A : Type 0} (p : A → Bool) where
-  pub count-cons : (x : A) (xs : List A) → count_by p (x ∷ xs) ≡ cond (p x) 1 0 + count_by p xs
-  count-cons x xs = sum_by-cons (λ x. cond (p x) 1 0) x xs
+-- ---- lists with something in them
+pub some-append : {A : Type 0} (xs ys : List A) → HasSome xs → HasSome (xs ++ ys)
+some-append [] ys h = absurd h
+some-append (x ∷ xs) ys h = tt
 
-  pub count-append : (xs ys : List A) → count_by p (xs ++ ys) ≡ count_by p xs + count_by p ys
-  count-append xs ys = sum_by-append (λ x. cond (p x) 1 0) xs ys
+pub some-after : {A : Type 0} (xs ys : List A) → HasSome ys → HasSome (xs ++ ys)
+some-after [] ys h = h
+some-after (x ∷ xs) ys h = tt
 
-  -- none of them counts
-  pub count-none : (xs : List A) → ((x : A) → IsAmong x xs → p x ≡ false) → count_by p xs ≡ 0
-  count-none [] none = refl
-  count-none (x ∷ xs) none =
-      let rest = count-none xs (λ y here. none y (inr here)) in
-      let first : cond {A = ℕ} (p x) 1 0 ≡ 0 = rw (none x (inl refl)) refl in
-      let step = count-cons x xs in omega arith
+pub some-push : {A : Type 0} (xs : List A) (x : A) → HasSome (xs ++ x ∷ [])
+some-push [] x = tt
+some-push (y ∷ xs) x = tt
 
--- the sum over a list
-abbrev pub total : {A : Type 0} → (A → ℕ) → List A → ℕ
-total w [] = 0
-total w (x ∷ xs) = w x + total w xs
+pub some-first : {A : Type 0} (xs : List A) → HasSome xs → (x : A) × ((ys : List A) × (xs ≡ x ∷ ys))
+some-first [] h = absurd h
+some-first (x ∷ xs) h = (x, (xs, refl))
 
-module _ {A : Type 0} where
-  pub total-same : (v w : A → ℕ) (xs : List A) → ((x : A) → IsAmong x xs → v x ≡ w x) → total v xs ≡ total w xs
-  total-same v w [] same = refl
-  total-same v w (x ∷ xs) same = let first = same x (inl refl) in let rest = total-same v w xs (λ y here. same y (inr here)) in omega arith
-
-  pub total-none : (w : A → ℕ) (xs : List A) → ((x : A) → IsAmong x xs → w x ≡ 0) → total w xs ≡ 0
-  total-none w [] none = refl
-  total-none w (x ∷ xs) none = let first = none x (inl refl) in let rest = total-none w xs (λ y here. none y (inr here)) in omega arith
-
-  pub total-length : (xs : List A) → total (λ (x : A). 1) xs ≡ length xs
-  total-length [] = refl
-  total-length (x ∷ xs) = let rest = total-length xs in omega arith
-
-  -- of all, or of none
-  pub total-cond : (b : Bool) (w : A → ℕ) (xs : List A) → total (λ (x : A). cond b (w x) 0) xs ≡ cond b (total w xs) 0
-  total-cond true w xs = refl
-  total-cond false w xs = total-none (λ (x : A). 0) xs (λ x here. refl)
-
-  pub total-count : (p : A → Bool) (xs : List A) → total (λ (x : A). cond (p x) 1 0) xs ≡ count_by p xs
-  total-count p [] = refl
-  total-count p (x ∷ xs) = let rest = total-count p xs in let step = count-cons p x xs in omega arith
-
-  pub count-map : {B : Type 0} (p : B → Bool) (f : A → B) (xs : List A) → total (λ (x : A). cond (p (f x)) 1 0) xs ≡ count_by p (map f xs)
-  count-map p f [] = refl
-  count-map p f (x ∷ xs) = let rest = count-map p f xs in let step = count-cons p (f x) (map f xs) in omega arith
-
-  pub count-flat_map : {B : Type 0} (p : B → Bool) (g : A → List B) (xs : List A) → count_by p (flat_map g xs) ≡ total (λ (x : A). count_by p (g x)) xs
-  count-flat_map p g [] = refl
-  count-flat_map p g (x ∷ xs) = let rest = count-flat_map p g xs in let step = count-append p (g x) (flat_map g xs) in omega arith
-
--- none of them gives anything
-pub flat_map-none : {A B : Type 0} (g : A → List B) (xs : List A) → ((x : A) → IsAmong x xs → g x ≡ []) → flat_map g xs ≡ []
-flat_map-none g [] none = refl
-flat_map-none g (x ∷ xs) none = ap (λ ys. ys ++ flat_map g xs) (none x (inl refl)) ∙ flat_map-none g xs (λ y here. none y (inr here))
-
-pub flat_map-same : {A B : Type 0} (f g : A → List B) (xs : List A) → ((x : A) → f x ≡ g x) → flat_map f xs ≡ flat_map g xs
-flat_map-same f g [] same = refl
-flat_map-same f g (x ∷ xs) same = ap (λ ys. ys ++ flat_map f xs) (same x) ∙ ap (λ ys. g x ++ ys) (flat_map-same f g xs same)
-
-pub flat_map-flat_map : {A B C : Type 0} (g : B → List C) (f : A → List B) (xs : List A) → flat_map g (flat_map f xs) ≡ flat_map (λ x. flat_map g (f x)) xs
-flat_map-flat_map g f [] = refl
-flat_map-flat_map g f (x ∷ xs) = flat_map-append g (f x) (flat_map f xs) ∙ ap (λ ys. flat_map g (f x) ++ ys) (flat_map-flat_map g f xs)
-
--- ---- what is among images
-pub among-map : {A B : Type 0} (f : A → B) (x : A) (xs : List A) → IsAmong x xs → IsAmong (f x) (map f xs)
-among-map f x [] h = absurd h
-among-map f x (y ∷ ys) (inl e) = inl (ap f e)
-among-map f x (y ∷ ys) (inr h) = inr (among-map f x ys h)
-
-pub map-among : {A B : Type 0} (f : A → B) (y : B) (xs : List A) → IsAmong y (map f xs) → (x : A) × IsAmong x xs × (y ≡ f x)
-map-among f y [] h = absurd h
-map-among f y (x ∷ xs) (inl e) = (x, inl refl, e)
-map-among f y (x ∷ xs) (inr h) = let (z, there, is) = map-among f y xs h in (z, inr there, is)
+pub formula-some : (c : Name) (n o : ℕ) (w : Written) → HasSome (formula_marks c n o w)
+formula-some c n o True' = tt
+formula-some c n o False' = tt
+formula-some c n o (Named name) = tt
+formula-some c n o (Denied f) = tt
+formula-some c n o (Grouped f) = tt
+formula-some c n o (Both f g) = some-append (formula_marks c n o f) _ (formula-some c n o f)
+formula-some c n o (Either f g) = some-append (formula_marks c n o f) _ (formula-some c n o f)
+formula-some c n o (Leads f g) = some-append (formula_marks c n o f) _ (formula-some c n o f)
+formula-some c n o (Equals f g) = some-append (formula_marks c n o f) _ (formula-some c n o f)
 
 -- ---- uses
 abbrev uses_in_mark : Mark → List Use
@@ -97,15 +52,7 @@ uses-flat_map f xs = flat_map-flat_map uses_in_mark f xs
 pub uses-end : (xs : List Mark) (m : Mark) → m.uses ≡ [] → uses_of (xs ++ m ∷ []) ≡ uses_of xs
 uses-end xs m none = uses-append xs (m ∷ []) ∙ ap (λ us. uses_of xs ++ (us ++ [])) none ∙ append-nil (uses_of xs)
 
-abbrev pub HasMarks : List Mark → Type 0
-HasMarks [] = ⊥
-HasMarks (m ∷ ms) = Unit {0}
-
-pub marks-before : (xs ys : List Mark) → HasMarks xs → HasMarks (xs ++ ys)
-marks-before [] ys h = absurd h
-marks-before (x ∷ xs) ys h = tt
-
-pub uses-first : (us : List Use) (ms : List Mark) → HasMarks ms → uses_of (with_first us ms) ≡ us ++ uses_of ms
+pub uses-first : (us : List Use) (ms : List Mark) → HasSome ms → uses_of (with_first us ms) ≡ us ++ uses_of ms
 uses-first us [] h = absurd h
 uses-first us (m ∷ ms) h = append_assoc us m.uses (uses_of ms)
 
@@ -116,7 +63,7 @@ pub record SplitUses (us : List Use) (ms : List Mark) : Type 0 where
   pub without : uses_of ms ≡ front ++ back
   pub with_them : uses_of (with_last us ms) ≡ front ++ (us ++ back)
 
-pub split-last : (us : List Use) (ms : List Mark) → HasMarks ms → SplitUses us ms
+pub split-last : (us : List Use) (ms : List Mark) → HasSome ms → SplitUses us ms
 split-last us [] h = absurd h
 split-last us (m ∷ []) h = record { front = []; back = m.uses; without = append-nil m.uses; with_them = append-nil (us ++ m.uses) }
 split-last us (m ∷ n ∷ ms) h =
@@ -149,7 +96,7 @@ module _ (u : Use) where
         ]
       ]
 
-  pub last-among : (us : List Use) (ms : List Mark) → HasMarks ms → IsAmong u us ⊎ IsAmong u (uses_of ms) → IsAmong u (uses_of (with_last us ms))
+  pub last-among : (us : List Use) (ms : List Mark) → HasSome ms → IsAmong u us ⊎ IsAmong u (uses_of ms) → IsAmong u (uses_of (with_last us ms))
   last-among us ms h (inl a) = let s = split-last us ms h in subst (IsAmong u) (sym s.with_them) (among_right u s.front (us ++ s.back) (among_left u us s.back a))
   last-among us ms h (inr b) = let s = split-last us ms h in
       elim (among_either u s.front s.back (subst (IsAmong u) s.without b)) [

@@ -3,8 +3,9 @@ use Rattle.std.proofs.Common.{◌≡◌, ◌+◌, Bool, true, false, List, [], �
 use Rattle.std.specs.Prelude.{codes, cond}
 use Rattle.std.specs.List.{AllByRecursion}
 use Rattle.std.specs.Str.{bytes_eq}
+use Rattle.std.proofs.lemmas.Option.{same_Some}
 use Rattle.mcs_base.specs.Listings.{IsAmong}
-use Rattle.mcs_base.proofs.ListingLemmas.{all_among}
+use Rattle.mcs_base.proofs.Each.{all_push, all_among}
 use Rattle.mcs_system.specs.Plain.{Name, Formula, Truth}
 use Rattle.mcs_system.specs.Logic.{atoms}
 use Rattle.mcs_language.specs.Written.{Written, WrittenContext, WrittenRead, WrittenBridge, IsNameWord}
@@ -13,11 +14,10 @@ use Rattle.mcs_language.specs.FormulaSteps.{Pending, PartFormula, formula_step, 
 use Rattle.mcs_language.specs.TextSteps.{PartRead, Place, Between, InRead, AfterRead, PartText, goes, place_of, with_read, first_of_belief, context_is_whole, bridge_is_whole}
 use Rattle.mcs_language.specs.Watching.{IsSpokenOf}
 use Rattle.mcs_language.specs.Known.{WasNamed, SpeaksOfNamed, AreKnown}
-use Rattle.mcs_language.proofs.TextRuns.{some-is}
-use Rattle.mcs_language.proofs.TextLemmas.{all-more}
 use Rattle.mcs_language.proofs.StepLemmas.{step_uses, uses-of-step}
 use Rattle.mcs_language.proofs.NamedLemmas.{known-later, IsNamed}
 use Rattle.mcs_language.proofs.ReadAtoms.{name-ends}
+use Rattle.mcs_language.proofs.TextParts.{text_of}
 
 -- the token ends a read: from within it to what comes after it
 pub record IsReadEnd (p : Place) (t : Token) (target c : Name) (f : Formula) (p' : Place) : Type 0 where
@@ -136,15 +136,12 @@ pub of-belief : (c : Name) (s : PartFormula) (t : Token) (q : Mark × PartFormul
 of-belief c s t q e = of-append c (first_of_belief c s) (q.0).uses (of-first c s.pending s.operand) (of-step c s t q e)
 
 -- ---- the kinds of tokens
-abbrev pub text_of : List WrittenContext → List WrittenBridge → Place → PartText
-text_of cs bs p = record { contexts = cs; bridges = bs; place = p }
-
 module _ (cs : List WrittenContext) (bs : List WrittenBridge) (p : Place) (t : Token) (r : Mark × PartText) where
   -- one that ends no read
   pub goes-move : (p' : Place) (uses : List Use) → ((before : List Use) → AreKnown before p → AllByRecursion (IsSpokenOf before) uses) → ((before : List Use) → AreKnown before p → AllByRecursion (IsNamed before) uses → AreKnown (before ++ uses) p')
       → AllByRecursion EndsNone uses → is_after_read p' ≡ false → goes (text_of cs bs p) t uses p' ≡ Some r → IsMove (text_of cs bs p) t r
   goes-move p' uses spoken known none away g =
-      subst (IsMove (text_of cs bs p) t) (some-is g) (record { spoken = spoken; known = known; bridges = λ before h all. all; ends = λ target c f h. no-end uses target c f none h; after = λ w e. no-after p' w away e })
+      subst (IsMove (text_of cs bs p) t) (same_Some _ _ g) (record { spoken = spoken; known = known; bridges = λ before h all. all; ends = λ target c f h. no-end uses target c f none h; after = λ w e. no-after p' w away e })
 
   -- one after which no other context is spoken of
   pub stay-move : (p' : Place) (uses : List Use) → ((before : List Use) → AreKnown before p → AllByRecursion (IsSpokenOf before) uses) → ((before : List Use) → AreKnown before p → AreKnown before p')
@@ -163,14 +160,14 @@ module _ (cs : List WrittenContext) (bs : List WrittenBridge) (p : Place) (t : T
   -- one with which a context, or a rule, is whole
   pub context-move : (c : WrittenContext) → Some (mark t [], context_is_whole (text_of cs bs p) c) ≡ Some r → IsMove (text_of cs bs p) t r
   context-move c g =
-      subst (IsMove (text_of cs bs p) t) (some-is g) (record { spoken = λ before h. tt; known = λ before h named. tt; bridges = λ before h all. all; ends = λ target d f h. absurd h; after = λ w e. no-after Between w refl e })
+      subst (IsMove (text_of cs bs p) t) (same_Some _ _ g) (record { spoken = λ before h. tt; known = λ before h named. tt; bridges = λ before h all. all; ends = λ target d f h. absurd h; after = λ w e. no-after Between w refl e })
 
   pub bridge-move : (b : WrittenBridge) → ((before : List Use) → AreKnown before p → SpeaksOfNamed before b) → Some (mark t [], bridge_is_whole (text_of cs bs p) b) ≡ Some r → IsMove (text_of cs bs p) t r
   bridge-move b speaks g =
-      subst (IsMove (text_of cs bs p) t) (some-is g) (record {
+      subst (IsMove (text_of cs bs p) t) (same_Some _ _ g) (record {
         spoken = λ before h. tt;
         known = λ before h named. tt;
-        bridges = λ before h all. all-more (SpeaksOfNamed before) bs b all (speaks before h);
+        bridges = λ before h all. all_push (SpeaksOfNamed before) bs b all (speaks before h);
         ends = λ target d f h. absurd h;
         after = λ w e. no-after Between w refl e;
       })
@@ -207,11 +204,11 @@ module _ (b : WrittenBridge) (d : PartRead) (s : PartFormula) (t : Token) (q : M
   read-ended target c f (inr h) = no-end further target c f (of-ends-none d.context further of-further) h
 
   after-end : (before : List Use) → AreKnown before (InRead b d s) → SpeaksOfNamed before (with_read b d w)
-  after-end before h = record { head = h.0.head; reads = all-more (λ (x : WrittenRead). WasNamed before x.place.context) b.reads (record { denied = d.denied; place = place_of d.context w }) h.0.reads h.1 }
+  after-end before h = record { head = h.0.head; reads = all_push (λ (x : WrittenRead). WasNamed before x.place.context) b.reads (record { denied = d.denied; place = place_of d.context w }) h.0.reads h.1 }
 
   pub read-move : (cs : List WrittenContext) (bs : List WrittenBridge) (r : Mark × PartText) → goes (text_of cs bs (InRead b d s)) t end-uses (AfterRead (with_read b d w)) ≡ Some r → IsMove (text_of cs bs (InRead b d s)) t r
   read-move cs bs r g =
-      subst (IsMove (text_of cs bs (InRead b d s)) t) (some-is g) (record {
+      subst (IsMove (text_of cs bs (InRead b d s)) t) (same_Some _ _ g) (record {
         spoken = λ before h. ((h.0.head, h.1), of-spoken before d.context further h.1 of-further);
         known = λ before h named. known-later before end-uses (AfterRead (with_read b d w)) (after-end before h);
         bridges = λ before h all. all;

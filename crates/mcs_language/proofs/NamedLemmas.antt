@@ -2,10 +2,10 @@
 use Rattle.std.proofs.Common.{◌≡◌, Bool, true, false, List, [], ◌∷◌, ◌++◌, refl, sym, ap, ◌∙◌, inl, inr, ◌⊎◌, true≢false}
 use Rattle.std.specs.List.{AllByRecursion}
 use Rattle.mcs_base.specs.Listings.{IsAmong}
-use Rattle.mcs_base.proofs.ListingLemmas.{all_from_among}
+use Rattle.mcs_base.proofs.Among.{among_left}
+use Rattle.mcs_base.proofs.Each.{all_from_among}
 use Rattle.mcs_system.specs.Plain.{Name}
 use Rattle.mcs_system.specs.Logic.{same_name}
-use Rattle.mcs_system.proofs.Members.{among_left}
 use Rattle.mcs_system.proofs.Sameness.{same_name-is, same_name-itself}
 use Rattle.mcs_language.specs.Written.{WrittenRead, WrittenBridge}
 use Rattle.mcs_language.specs.Marks.{Use, BeginsContext, BeginsBridge, NamesContext, NamesBridge, SaysProgram, BeginsItem, BeginsDefault, NamesTarget, NamesSource, BeginsBelief, EndsRead, AtomOf, IsNumber, OpensWithin, Mark}

@@ -1,12 +1,12 @@
 -- The numbers of values in a list, as a search finds them.
-use Rattle.std.proofs.Common.{◌≡◌, ℕ, ◌+◌, ◌<◌, ◌≤◌, Bool, true, false, List, [], ◌∷◌, ◌++◌, map, take, length, get_or, Some, refl, sym, ap, ◌∙◌, subst, inl, inr, ◌⊎◌, true≢false}
-use Rattle.std.proofs.lemmas.List.{map_more, take_all, length-map, map-id}
+use Rattle.std.proofs.Common.{◌≡◌, ℕ, ◌+◌, ◌<◌, ◌≤◌, Bool, true, false, List, map, take, length, get_or, Some, refl, sym, ap, ◌∙◌, subst, inl, inr, true≢false}
+use Rattle.std.proofs.lemmas.List.{take_all, length-map, map-id}
 use Rattle.std.proofs.lemmas.Option.{slice_get_read}
 use Rattle.std.proofs.lemmas.Slice.Eq.{bytes_eq-Decides}
 use Rattle.std.specs.Str.{bytes_eq}
 use Rattle.mcs_base.specs.Listings.{IsAmong}
-use Rattle.mcs_system.proofs.Members.{among_either, among_get}
-use Rattle.mcs_system.proofs.SeenLemmas.{slice_get-map}
+use Rattle.mcs_base.proofs.Among.{no_image_more, among_get}
+use Rattle.mcs_base.proofs.Lists.{slice_get-map_at}
 use Rattle.mcs_language.specs.Marks.{Token}
 use Rattle.mcs_language.specs.Watching.{IsNumberOf}
 
@@ -19,20 +19,9 @@ bytes-differ x n m e is test not-here same = true≢false (sym ((bytes_eq-Decide
 
 -- ---- the number of what a function makes of the elements
 module _ {A B : Type 0} (f : A → B) where
-  -- one more of which it is none
-  pub none-next : (xs : List A) (k : ℕ) (d : A) (n : B) → k < length xs → d ≡ get_or xs k d → ¬ (n ≡ f d) → ¬ IsAmong n (map f (take k xs)) → ¬ IsAmong n (map f (take (k + 1) xs))
-  none-next xs k d n less is differ none h =
-      let h' : IsAmong n (map f (take k xs) ++ f (get_or xs k d) ∷ []) = subst (IsAmong n) (map_more f xs k d less) h in
-      go (among_either n (map f (take k xs)) (f (get_or xs k d) ∷ []) h')
-    where
-      go : IsAmong n (map f (take k xs)) ⊎ ((n ≡ f (get_or xs k d)) ⊎ ⊥) → ⊥
-      go (inl there) = none there
-      go (inr (inl same)) = differ (same ∙ ap f (sym is))
-      go (inr (inr none-here)) = none-here
-
   -- it is this one
   pub number-here : (xs : List A) (k : ℕ) (d : A) (n : B) → k < length xs → d ≡ get_or xs k d → n ≡ f d → IsNumberOf (map f xs) n k
-  number-here xs k d n less is same = inl (slice_get-map f xs k d less ∙ ap (λ x. Some x) (ap f (sym is) ∙ sym same))
+  number-here xs k d n less is same = inl (slice_get-map_at f xs k d less ∙ ap (λ x. Some x) (ap f (sym is) ∙ sym same))
 
   -- it is none
   pub number-none : (xs : List A) (k n' : ℕ) (n : B) → length xs ≤ k → n' ≡ length xs → ¬ IsAmong n (map f (take k xs)) → IsNumberOf (map f xs) n n'
@@ -44,7 +33,7 @@ one-here xs k d n less is same = among_get n xs k (slice_get_read xs (length xs)
 
 pub none-more : (xs : List Token) (k : ℕ) (d n : Token) → k < length xs → d ≡ get_or xs k d → ¬ (n ≡ d) → ¬ IsAmong n (take k xs) → ¬ IsAmong n (take (k + 1) xs)
 none-more xs k d n less is differ none h =
-    none-next (λ (x : Token). x) xs k d n less is differ
+    no_image_more (λ (x : Token). x) xs k d n less is differ
     (λ h'. none (subst (IsAmong n) (map-id (take k xs)) h')) (subst (IsAmong n) (sym (map-id (take (k + 1) xs))) h)
 
 pub none-at-all : (xs : List Token) (k : ℕ) (n : Token) → length xs ≤ k → ¬ IsAmong n (take k xs) → ¬ IsAmong n xs

@@ -1,10 +1,11 @@
 -- A text in pieces: tokens, and blanks that hold them apart. The tokens of such a text are its pieces that are tokens.
-use Rattle.std.proofs.Common.{◌≡◌, ◌≢◌, ℕ, ◌+◌, ◌-◌, ◌<◌, ◌≤◌, IsTrue, List, [], ◌∷◌, ◌++◌, length, take, drop, get_or, refl, sym, ap, ◌∙◌, subst, inl, inr, arith, add-zero, append-nil, ap₂, length-append, length-drop, true≢false}
-use Rattle.std.proofs.Math.Seq.{take-append_seam, drop-append_seam}
+use Rattle.std.proofs.Common.{◌≡◌, ◌≢◌, ℕ, ◌+◌, ◌-◌, ◌<◌, ◌≤◌, IsTrue, List, [], ◌∷◌, ◌++◌, length, take, drop, refl, sym, ap, ◌∙◌, subst, inl, inr, arith, append-nil, ap₂, length-drop, true≢false}
+use Rattle.std.proofs.Math.Seq.{take-append_seam}
 use Rattle.std.proofs.lemmas.Bool.{cases_lt}
-use Rattle.std.proofs.lemmas.List.{drop-drop, get_or-drop, append_assoc}
+use Rattle.std.proofs.lemmas.List.{append_assoc}
 use Rattle.std.specs.Prelude.{slice_index, slice_range}
-use Rattle.mcs_tokens.specs.Tokens.{is_separator, hash, IsInComment, IsGap, IsToken, IsNext, AreTokens}
+use Rattle.mcs_base.proofs.Lists.{drop_past, drop_fits, drop-cons_within}
+use Rattle.mcs_tokens.specs.Tokens.{is_separator, hash, IsInComment, IsGapByte, IsGap, IsToken, IsNext, AreTokens}
 use Rattle.mcs_tokens.specs.declared.scan.Span.{Span}
 use Rattle.mcs_language.specs.Marks.{Token}
 use Rattle.mcs_language.specs.Texts.{token_texts}
@@ -53,69 +54,59 @@ pub record HasTokens (bytes : List ℕ) (at : ℕ) (tokens : List Token) : Type 
   pub are : AreTokens bytes at spans
   pub texts : token_texts bytes spans ≡ tokens
 
--- only blanks stand there
-abbrev AreBlank : List ℕ → ℕ → ℕ → Type 0
-AreBlank bytes at from = (i : ℕ) → at ≤ i → i < from → IsTrue (is_separator (slice_index bytes i))
-
 no-hash : (b : ℕ) → IsTrue (is_separator b) → b ≢ hash
 no-hash b h e = true≢false (sym h ∙ ap is_separator e)
-
-gap-of : (bytes : List ℕ) (at from : ℕ) → AreBlank bytes at from → IsGap bytes at from
-gap-of bytes at from blank i after before = inl (blank i after before)
-
-no-comment : (bytes : List ℕ) (at from : ℕ) → AreBlank bytes at from → ¬ IsInComment bytes at from
-no-comment bytes at from blank h = no-hash (slice_index bytes h.begin) (blank h.begin h.after h.before) h.hash_there
-
-first-byte : (bytes : List ℕ) (from b : ℕ) (rest : List ℕ) → drop from bytes ≡ b ∷ rest → slice_index bytes from ≡ b
-first-byte bytes from b rest e =
-    let here : get_or bytes (from + 0) 0 ≡ b = sym (get_or-drop from bytes 0 0) ∙ ap (λ l. get_or l 0 0) e in
-    ap (λ n. get_or bytes n 0) (sym (add-zero from)) ∙ here
-
-after-part : (bytes : List ℕ) (from : ℕ) (part rest : List ℕ) → drop from bytes ≡ part ++ rest → drop (from + length part) bytes ≡ rest
-after-part bytes from part rest e = sym (drop-drop (length part) from bytes) ∙ ap (λ l. drop (length part) l) e ∙ drop-append_seam part rest
 
 range-is : (bytes : List ℕ) (from : ℕ) (part rest : List ℕ) → drop from bytes ≡ part ++ rest → slice_range bytes from (from + length part) ≡ part
 range-is bytes from part rest e =
     let size : from + length part - from ≡ length part = omega arith in
     ap (λ n. take n (drop from bytes)) size ∙ ap (λ l. take (length part) l) e ∙ take-append_seam part rest
 
-fits : (bytes : List ℕ) (from : ℕ) (part rest : List ℕ) → from ≤ length bytes → drop from bytes ≡ part ++ rest → from + length part ≤ length bytes
-fits bytes from part rest inside e = let size = ap length e ∙ length-append part rest in omega (arith, size, length-drop from bytes)
-
-blank-more : (bytes : List ℕ) (at from : ℕ) → AreBlank bytes at from → IsTrue (is_separator (slice_index bytes from)) → AreBlank bytes at (from + 1)
-blank-more bytes at from blank here i after before = elim (cases_lt i from) [
-  | inl less ↦ blank i after less
-  | inr past ↦ let same : from ≡ i = omega arith in subst (λ (k : ℕ). IsTrue (is_separator (slice_index bytes k))) same here
+-- a blank goes on with a gap, and begins no comment
+gap-more : (bytes : List ℕ) (at from : ℕ) → IsGap bytes at from → IsTrue (is_separator (slice_index bytes from)) → IsGap bytes at (from + 1)
+gap-more bytes at from gap here i after before = elim (cases_lt i from) [
+  | inl less ↦ gap i after less
+  | inr past ↦ let same : from ≡ i = omega arith in subst (λ (k : ℕ). IsGapByte bytes at k) same (inl here)
 ]
 
-blank-none : (bytes : List ℕ) (from : ℕ) → AreBlank bytes from from
-blank-none bytes from i after before = absurd (omega arith)
+no-comment-more : (bytes : List ℕ) (at from : ℕ) → ¬ IsInComment bytes at from → IsTrue (is_separator (slice_index bytes from)) → ¬ IsInComment bytes at (from + 1)
+no-comment-more bytes at from none here h = elim (cases_lt h.begin from) [
+  | inl less ↦ none (record { begin = h.begin; after = h.after; before = less; hash_there = h.hash_there; one_line = λ k after before. h.one_line k after (omega arith) })
+  | inr past ↦ let same : from ≡ h.begin = (let less = h.before in omega arith) in no-hash (slice_index bytes from) here (ap (slice_index bytes) same ∙ h.hash_there)
+]
+
+no-gap : (bytes : List ℕ) (from : ℕ) → IsGap bytes from from
+no-gap bytes from i after before = absurd (omega arith)
+
+no-comment : (bytes : List ℕ) (from : ℕ) → ¬ IsInComment bytes from from
+no-comment bytes from h = let after = h.after in let before = h.before in absurd (omega arith)
 
 -- of the pieces from a place on, after blanks
-tokens-from : (bytes : List ℕ) (ps : List Piece) (at from : ℕ) → at ≤ from → from ≤ length bytes → AreBlank bytes at from → drop from bytes ≡ spelled ps → AreApart ps [] → HasTokens bytes at (tokens_in ps)
-tokens-from bytes [] at from after inside blank e h =
+tokens-from : (bytes : List ℕ) (ps : List Piece) (at from : ℕ) → at ≤ from → from ≤ length bytes → IsGap bytes at from → ¬ IsInComment bytes at from → drop from bytes ≡ spelled ps → AreApart ps [] → HasTokens bytes at (tokens_in ps)
+tokens-from bytes [] at from after inside gap none e h =
     let end : from ≡ length bytes = (let size = ap length e in omega (arith, size, length-drop from bytes)) in
     record {
       spans = [];
-      are = subst (λ (n : ℕ). IsNext bytes at n n) end (record { after = after; gap = gap-of bytes at from blank; token = inr (end, end) });
+      are = subst (λ (n : ℕ). IsNext bytes at n n) end (record { after = after; gap = gap; token = inr (end, end) });
       texts = refl;
     }
-tokens-from bytes (Blank b ∷ ps) at from after inside blank e h =
-    let here = first-byte bytes from b (spelled ps) e in
-    tokens-from bytes ps at (from + 1) (omega arith) (fits bytes from (b ∷ []) (spelled ps) inside e) (blank-more bytes at from blank (ap is_separator here ∙ h.0)) (after-part bytes from (b ∷ []) (spelled ps) e) h.1
-tokens-from bytes (Part t ∷ ps) at from after inside blank e h =
+tokens-from bytes (Blank b ∷ ps) at from after inside gap none e h =
+    let here = (drop-cons_within from bytes b 0 (spelled ps) e).1 in
+    let separator : IsTrue (is_separator (slice_index bytes from)) = ap is_separator here ∙ h.0 in
+    tokens-from bytes ps at (from + 1) (omega arith) (drop_fits from bytes (b ∷ []) (spelled ps) inside e) (gap-more bytes at from gap separator) (no-comment-more bytes at from none separator) (drop_past from bytes (b ∷ []) (spelled ps) e) h.1
+tokens-from bytes (Part t ∷ ps) at from after inside gap none e h =
     let to = from + length t in
-    let end = fits bytes from t (spelled ps) inside e in
-    let next = after-part bytes from t (spelled ps) e in
+    let end = drop_fits from bytes t (spelled ps) inside e in
+    let next = drop_past from bytes t (spelled ps) e in
     let range = range-is bytes from t (spelled ps) e in
     let token : IsToken (slice_range bytes from to) (drop to bytes) = rw (range, next) (subst (IsToken t) (append-nil (spelled ps)) h.1) in
-    let rest = tokens-from bytes ps to to (omega arith) end (blank-none bytes to) next h.2 in
+    let rest = tokens-from bytes ps to to (omega arith) end (no-gap bytes to) (no-comment bytes to) next h.2 in
     record {
       spans = record { from = from; to = to } ∷ rest.spans;
-      are = (record { after = after; gap = gap-of bytes at from blank; token = inl (record { some = omega (arith, h.0); inside = end; no_comment = no-comment bytes at from blank; token = token }) }, omega (arith, h.0, end), rest.are);
+      are = (record { after = after; gap = gap; token = inl (record { some = omega (arith, h.0); inside = end; no_comment = none; token = token }) }, omega (arith, h.0, end), rest.are);
       texts = ap₂ (λ x xs. x ∷ xs) range rest.texts;
     }
 
 -- the tokens of the whole text are its pieces
 pub tokens-of-pieces : (ps : List Piece) → AreApart ps [] → HasTokens (spelled ps) 0 (tokens_in ps)
-tokens-of-pieces ps h = tokens-from (spelled ps) ps 0 0 (omega arith) (omega arith) (blank-none (spelled ps) 0) refl h
+tokens-of-pieces ps h = tokens-from (spelled ps) ps 0 0 (omega arith) (omega arith) (no-gap (spelled ps) 0) (no-comment (spelled ps) 0) refl h

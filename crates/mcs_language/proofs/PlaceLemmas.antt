@@ -58,10 +58,6 @@ literal-uses w r head body t q n is e =
     ap (λ (i : ℕ). AtomOf w.name t ∷ IsNumber i ∷ []) number
 
 -- ---- of a default
-pub some-more : {A : Type 0} (xs : List A) (x : A) → HasSome (xs ++ x ∷ [])
-some-more [] x = tt
-some-more (y ∷ xs) x = tt
-
 pub at-conclusion : (c : code_context.Context) (d : code_default.PartDefault) (f : FormulaReader) (w : WrittenContext) (e : PartDefault) → context_of c ≡ context_in w → IsDefault d e → HasSome e.justs → IsReader f no_formula
     → IsAt (places.InConclusion c d f) (InConclusion w e no_formula)
 at-conclusion c d f w e same is some reader = (w, same, (e, is, some, (no_formula, reader, refl)))

@@ -4,7 +4,7 @@ use Rattle.std.specs.Prelude.{slice_get}
 use Rattle.std.proofs.Math.Seq.{take-append_seam, get_or-append_seam}
 use Rattle.std.proofs.Math.ListN.{get_or-append}
 use Rattle.std.proofs.Math.Nat.{eq-or-lt_of_le}
-use Rattle.std.proofs.lemmas.Option.{slice_get_within, get_or_from_slice_get, slice_get-get_or}
+use Rattle.std.proofs.lemmas.Option.{slice_get_within, get_or_from_slice_get, slice_get-get_or, none-some}
 use Rattle.std.proofs.lemmas.List.{take-append-le}
 use Rattle.mcs_language.specs.declared.fault.Fault as code_fault
 use Rattle.mcs_language.specs.declared.reading.Reading.{Reading}
@@ -12,7 +12,7 @@ use Rattle.mcs_language.specs.declared.reader.Reader.{Reader}
 use Rattle.mcs_language.specs.declared.watch.Watch.{Watch}
 use Rattle.mcs_language.specs.Marks.{Token, Use, Mark, uses_of}
 use Rattle.mcs_language.specs.Faults.{Fault, NoGrammar, Exceeds, Has, IsFirstFault}
-use Rattle.mcs_system.specs.declared.fault.Limit.TheVariants.{NameBytes}
+use Rattle.mcs_system.specs.declared.limit.Limit.TheVariants.{NameBytes}
 use Rattle.mcs_language.specs.TextSteps.{PartText, nothing_written, text_step}
 use Rattle.mcs_language.specs.TextImages.{IsTextReader, IsStopped}
 use Rattle.mcs_language.specs.Watching.{IsWatch, IsVerdict, fault_of}
@@ -23,7 +23,6 @@ use Rattle.mcs_language.proofs.MarkLists.{uses-append}
 use Rattle.mcs_language.proofs.KnownLemmas.{known-step}
 use Rattle.mcs_language.proofs.StepUses.{text-shows}
 use Rattle.mcs_language.proofs.ShortAtoms.{AreFaultless}
-use Rattle.mcs_language.proofs.TextLemmas.{none-is}
 use Rattle.mcs_language.specs.Written.{IsNameWord}
 use Rattle.mcs_base.specs.Words.{most_name_bytes}
 
@@ -39,7 +38,7 @@ up-to-none reader watch ts h seen = record {
   reader = h;
   watch = seen;
   known = record { bridges = tt; place = tt };
-  faultless = λ j m f none has. none-is m none;
+  faultless = λ j m f none has. absurd (none-some m none);
   free = free-none ts;
 }
 

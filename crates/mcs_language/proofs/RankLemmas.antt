@@ -2,11 +2,11 @@
 use Rattle.std.proofs.Common.{◌≡◌, ℕ, ◌+◌, ◌<◌, ◌≤◌, zero, suc, Bool, false, List, [], ◌∷◌, get_or, refl, sym, ap, ◌∙◌, subst, inl, inr, ◌↔◌, arith}
 use Rattle.std.specs.Prelude.{IsTrue}
 use Rattle.std.proofs.lemmas.Bool.{cases_lt}
-use Rattle.mcs_system.specs.declared.fault.Limit.{Limit}
-use Rattle.mcs_system.specs.declared.fault.Limit.TheVariants.{Contexts, Bridges, RulesPerContext, Variables, InputsPerContext, AtomsPerContext, DefaultsPerContext, ItemsPerContext, FormulaSize, OpenParentheses, NameBytes}
+use Rattle.mcs_system.specs.declared.limit.Limit.{Limit}
+use Rattle.mcs_system.specs.declared.limit.Limit.TheVariants.{Contexts, Bridges, RulesPerContext, Variables, InputsPerContext, AtomsPerContext, DefaultsPerContext, ItemsPerContext, FormulaSize, OpenParentheses, NameBytes}
+use Rattle.std.proofs.lemmas.Bool.Decides.{not_from_Decides}
 use Rattle.mcs_language.specs.Marks.{Use, Mark}
 use Rattle.mcs_language.specs.Faults.{Fault, NoGrammar, NoContext, Twin, NoAtom, Exceeds, row, rank, IsBeyond, Has}
-use Rattle.mcs_language.proofs.ReadLemmas.{telling-differ}
 
 -- the lowest first
 abbrev pub in_order : List Limit
@@ -95,5 +95,5 @@ module _ (before : List Use) (m : Mark) where
   pub none-more : (k : ℕ) (b : Bool) → IsTrue b ↔ IsBeyond (limit_at k) before m → b ≡ false → ((l : Limit) → row l < k → ¬ IsBeyond l before m) → (l : Limit) → row l < k + 1 → ¬ IsBeyond l before m
   none-more k b is not-here none l less h = elim (cases_lt (row l) k) [
     | inl lower ↦ none l lower h
-    | inr past ↦ let same : row l ≡ k = omega arith in telling-differ b is not-here (subst (λ (x : Limit). IsBeyond x before m) (sym (at-row l) ∙ ap limit_at same) h)
+    | inr past ↦ let same : row l ≡ k = omega arith in not_from_Decides b is not-here (subst (λ (x : Limit). IsBeyond x before m) (sym (at-row l) ∙ ap limit_at same) h)
   ]

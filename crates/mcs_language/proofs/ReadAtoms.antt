@@ -1,28 +1,25 @@
 -- The last token of a primary, where it is a name, is an atom of it.
 use Rattle.std.proofs.Common.{◌≡◌, List, [], ◌∷◌, Option, Some, None, refl, sym, ap, subst, ◌∙◌, inl}
 use Rattle.std.specs.Prelude.{codes}
+use Rattle.std.proofs.lemmas.Option.{none-some, same_Some}
 use Rattle.mcs_base.specs.Listings.{IsAmong}
+use Rattle.mcs_base.proofs.Among.{among_right}
 use Rattle.mcs_system.specs.Plain.{Name}
 use Rattle.mcs_system.specs.Logic.{atoms}
-use Rattle.mcs_system.proofs.Members.{among_right}
 use Rattle.mcs_language.specs.Written.{Written, Named, Denied, Both, IsNameWord}
 use Rattle.mcs_language.specs.Marks.{Token, AtomOf, Mark, formula_in}
 use Rattle.mcs_language.specs.FormulaSteps.{Pending, Tilde, Parenthesis, And, Or, Implies, Iff, PartFormula, settle, operand_step, sign_step, formula_step, finished_primary, numbered_mark}
 use Rattle.mcs_language.proofs.FormulaRuns.{word-apart, true-no-name, false-no-name}
-use Rattle.mcs_language.proofs.TextRuns.{some-is}
-use Rattle.mcs_language.proofs.TextLemmas.{none-is}
+use Rattle.mcs_language.proofs.FormulaParts.{part}
 
 abbrev HasAtom : Token → Written → Type 0
 HasAtom t w = IsAmong t (atoms (formula_in w))
 
-abbrev part : List Pending → Option Written → PartFormula
-part ps o = record { pending = ps; operand = o }
-
 -- what a primary completes has the atoms of the primary
 alone-atom : (ps : List Pending) (f w : Written) (t : Token) → HasAtom t f → finished_primary (part ps (Some f)) ≡ Some w → HasAtom t w
 unfolding finished_primary
-alone-atom [] f w t h e = subst (HasAtom t) (some-is e) h
-alone-atom (p ∷ ps) f w t h e = none-is w e
+alone-atom [] f w t h e = subst (HasAtom t) (same_Some _ _ e) h
+alone-atom (p ∷ ps) f w t h e = absurd (none-some w e)
 
 settle-atom : (ps : List Pending) (f w : Written) (t : Token) → HasAtom t f → finished_primary (settle ps f) ≡ Some w → HasAtom t w
 settle-atom [] f w t h e = alone-atom [] f w t h e
@@ -43,9 +40,9 @@ name-sign s f t word = rw (word-apart t (codes "&") word refl, word-apart t (cod
 atom-at : (c : Name) (ps : List Pending) (o : Option Written) (t : Token) (q : Mark × PartFormula) (w : Written) → formula_step c (part ps o) t ≡ Some q → finished_primary q.1 ≡ Some w → IsNameWord t → HasAtom t w
 unfolding formula_step
 atom-at c ps None t q w e ends word =
-    let is : (numbered_mark (part ps None) t (AtomOf c t ∷ []), settle ps (Named t)) ≡ q = some-is (sym (name-operand c (part ps None) t word) ∙ e) in
+    let is : (numbered_mark (part ps None) t (AtomOf c t ∷ []), settle ps (Named t)) ≡ q = same_Some _ _ (sym (name-operand c (part ps None) t word) ∙ e) in
     settle-atom ps (Named t) w t (inl refl) (ap (λ (r : Mark × PartFormula). finished_primary r.1) is ∙ ends)
-atom-at c ps (Some f) t q w e ends word = none-is q (sym (name-sign (part ps (Some f)) f t word) ∙ e)
+atom-at c ps (Some f) t q w e ends word = absurd (none-some q (sym (name-sign (part ps (Some f)) f t word) ∙ e))
 
 pub name-ends : (c : Name) (s : PartFormula) (t : Token) (q : Mark × PartFormula) (w : Written) → formula_step c s t ≡ Some q → finished_primary q.1 ≡ Some w → IsNameWord t → IsAmong t (atoms (formula_in w))
 name-ends c s t q w e ends word = atom-at c s.pending s.operand t q w e ends word

@@ -1,5 +1,5 @@
 -- Reads that are the same, and the reads that there were.
-use Rattle.std.proofs.Common.{◌≡◌, ℕ, zero, suc, Bool, true, false, List, [], ◌∷◌, map, length, Option, Some, refl, sym, ap, ◌∙◌, subst, inl, inr, ◌↔◌, arith, true≢false, slice_get}
+use Rattle.std.proofs.Common.{◌≡◌, ℕ, Bool, true, List, [], ◌∷◌, map, length, Option, Some, refl, sym, ap, ◌∙◌, subst, inl, inr, ◌↔◌, arith, slice_get}
 use Rattle.std.specs.Prelude.{IsTrue, ◌++◌}
 use Rattle.std.proofs.lemmas.List.{length-map, map-append}
 use Rattle.mcs_system.specs.Plain.{Name, Formula}
@@ -10,9 +10,11 @@ use Rattle.mcs_system.proofs.Sameness.{same_name-is, same_formula-is, same_formu
 use Rattle.mcs_language.specs.declared.place.NamedRead as code_read
 use Rattle.std.specs.Borrow.{Bor}
 use Rattle.std.specs.Option.{option_copied}
+use Rattle.std.proofs.lemmas.Option.{same_Some}
+use Rattle.mcs_base.proofs.Lists.{slice_get_seam}
 use Rattle.mcs_language.specs.Faults.{NamedRead}
 use Rattle.mcs_language.specs.Watching.{IsNumberOf, IsHeld}
-use Rattle.mcs_language.proofs.WatchFacts.{some-same, number-there}
+use Rattle.mcs_language.proofs.WatchFacts.{number-there}
 use Rattle.mcs_language.specs.TextImages.{read_of}
 
 abbrev read_at : Name → Formula → NamedRead
@@ -36,17 +38,9 @@ same-read-told r q a b context is belief =
 pub read-copied : (o : Option (Bor code_read.NamedRead)) (b : Bor code_read.NamedRead) (P : NamedRead → Type 0) → o ≡ Some b → P (read_of b.now) → (r : code_read.NamedRead) → option_copied o ≡ Some r → P (read_of r)
 read-copied o b P is holds r e =
     let same : Some b.now ≡ Some r = sym (ap option_copied is) ∙ e in
-    subst (λ (q : code_read.NamedRead). P (read_of q)) (some-same same) holds
-
-pub telling-differ : {P : Type 0} (b : Bool) → IsTrue b ↔ P → b ≡ false → ¬ P
-telling-differ b is e p = true≢false (sym (is.1 p) ∙ e)
+    subst (λ (q : code_read.NamedRead). P (read_of q)) (same_Some _ _ same) holds
 
 -- ---- a read that is held
-at-end : {A : Type 0} (xs : List A) (x : A) (n : ℕ) → n ≡ length xs → slice_get (xs ++ x ∷ []) n ≡ Some x
-at-end [] x n is = rw is refl
-at-end (y ∷ ys) x zero is = absurd (omega arith)
-at-end (y ∷ ys) x (suc n) is = at-end ys x n (omega arith)
-
 pub held-already : (xs : List code_read.NamedRead) (r : NamedRead) (n k : ℕ) → IsNumberOf (map read_of xs) r n → k ≡ length xs → ¬ (n ≡ k) → IsHeld (map read_of xs) (map read_of xs) r n
 held-already xs r n k (inl there) is differ = record { there = there; either = inl refl }
 held-already xs r n k (inr none) is differ = absurd (differ (none.0 ∙ length-map xs read_of ∙ sym is))
@@ -56,6 +50,6 @@ held-now xs ys q r n k number is same more copy =
     let now : map read_of ys ≡ map read_of xs ++ r ∷ [] = ap (map read_of) more ∙ map-append read_of xs (q ∷ []) ∙ ap (λ (x : NamedRead). map read_of xs ++ x ∷ []) copy in
     let last : n ≡ length (map read_of xs) = same ∙ is ∙ sym (length-map xs read_of) in
     record {
-      there = ap (λ (zs : List NamedRead). slice_get zs n) now ∙ at-end (map read_of xs) r n last;
+      there = ap (λ (zs : List NamedRead). slice_get zs n) now ∙ slice_get_seam (map read_of xs) r [] n last;
       either = inr (now, λ h. let less = (number-there (map read_of xs) r n number).1 h in omega arith);
     }

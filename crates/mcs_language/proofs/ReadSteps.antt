@@ -1,27 +1,31 @@
 -- The watch goes on with the name of a context, and with the end of a read.
-use Rattle.std.proofs.Common.{◌≡◌, ℕ, ◌<◌, ◌≤◌, Bool, true, false, ◌||◌, List, [], ◌∷◌, ◌++◌, map, length, Some, refl, sym, ap, ◌∙◌, subst, inl, inr, ◌⊎◌, ◌↔◌, arith, true≢false, slice_get, slice_set}
+use Rattle.std.proofs.Common.{◌≡◌, ℕ, ◌<◌, ◌≤◌, Bool, true, false, List, [], ◌∷◌, ◌++◌, map, length, Some, refl, sym, ap, ◌∙◌, subst, inl, inr, ◌⊎◌, ◌↔◌, arith, true≢false, slice_get, slice_set}
 use Rattle.std.specs.Prelude.{count_by, IsTrue}
 use Rattle.std.specs.List.{AllByRecursion}
 use Rattle.std.proofs.lemmas.Bool.Decides.{Decides-eqb}
 use Rattle.std.proofs.lemmas.List.{append-nil, length-append, length-map, map-append}
+use Rattle.std.proofs.lemmas.Bool.{or_cases, or_left, or_right}
+use Rattle.std.proofs.lemmas.Option.{same_Some, slice_get_within}
 use Rattle.mcs_base.specs.Listings.{IsAmong}
 use Rattle.mcs_sets.specs.Sets.{has, size, single, union}
 use Rattle.mcs_sets.proofs.SetLemmas.{has-empty, has-single, has-union, members-empty}
+use Rattle.mcs_base.proofs.Among.{among_push, among_get}
+use Rattle.mcs_base.proofs.Distinct.{one_place}
+use Rattle.mcs_base.proofs.Sums.{count_by_push_no}
 use Rattle.mcs_system.specs.Plain.{Name}
-use Rattle.mcs_system.proofs.Members.{among_get, get-lt}
 use Rattle.mcs_language.specs.declared.watch.Watch.{Watch}
 use Rattle.mcs_language.specs.declared.watch.ContextSeen.{ContextSeen}
 use Rattle.mcs_language.specs.Marks.{Use, NamesContext, SaysProgram, EndsRead, AtomOf}
 use Rattle.mcs_language.specs.Faults.{names_target, begins_default_of, begins_item_of, AreDifferent, NamedRead, WasRead, WasReadInto, WasAtom, IsOneMore}
 use Rattle.mcs_language.specs.TextImages.{read_of}
-use Rattle.mcs_language.specs.Watching.{Lists, IsSeen, IsSpokenOf, names_seen, named_read, IsWatch, IsNumberOf, IsAllowed, IsFresh, IsHeld}
+use Rattle.mcs_language.specs.Watching.{Lists, IsSeen, IsSpokenOf, names_seen, IsWatch, IsNumberOf, IsAllowed, IsFresh, IsHeld}
 use Rattle.mcs_language.proofs.ApartLemmas.{apart-names_context, apart-read}
-use Rattle.mcs_language.proofs.WithoutRepeats.{one-place}
-use Rattle.mcs_language.proofs.DifferentLemmas.{values-at, lists-same, lists-more, among-push, same-length}
-use Rattle.mcs_language.proofs.LaterLemmas.{count-later, same-among, the-new, earlier, atoms-later, reads-later}
+use Rattle.mcs_language.proofs.DifferentLemmas.{values-at, lists-same, lists-more, same-length}
+use Rattle.mcs_language.proofs.LaterLemmas.{same-among, the-new, earlier, atoms-later, reads-later}
 use Rattle.mcs_language.proofs.SeenLater.{IsLonger, not-longer, one-longer, seen-later, all-set, all-push, names-set}
 use Rattle.mcs_language.proofs.StepWatch.{watch-step}
-use Rattle.mcs_language.proofs.WatchFacts.{some-same, seen-name, seen-here, one-more, no-rules, no-defaults, no-items}
+use Rattle.mcs_language.proofs.WatchFacts.{seen-name, seen-here, one-more, no-rules, no-defaults, no-items}
+use Rattle.mcs_language.proofs.TextUses.{same-named}
 
 -- ---- the name of a context
 module _ (w : Watch) (before : List Use) (watch : IsWatch w before) (n : Name) (new : IsAllowed before (NamesContext n)) where
@@ -62,20 +66,6 @@ module _ (w : Watch) (before : List Use) (watch : IsWatch w before) (n : Name) (
 abbrev pub with_inputs : ContextSeen → ℕ → ContextSeen
 with_inputs c s = record c { inputs = s }
 
-same-read : (q r : NamedRead) → q.context ≡ r.context → q.belief ≡ r.belief → q ≡ r
-same-read q r e e' = ap (λ (c : Name). named_read c q.belief) e ∙ ap (named_read r.context) e'
-
-or-either : (a b : Bool) → (a || b) ≡ true → (a ≡ true) ⊎ (b ≡ true)
-or-either true b e = inl refl
-or-either false b e = inr e
-
-or-left : (a b : Bool) → a ≡ true → (a || b) ≡ true
-or-left a b e = rw e refl
-
-or-right : (a b : Bool) → b ≡ true → (a || b) ≡ true
-or-right true b e = refl
-or-right false b e = e
-
 module _ (w : Watch) (before : List Use) (watch : IsWatch w before) (t : Name) (r : NamedRead) (spoken : IsSpokenOf before (EndsRead t r.context r.belief)) (allowed : IsAllowed before (EndsRead t r.context r.belief))
     (k : ℕ) (number : IsNumberOf (names_seen w) t k) (c : ContextSeen) (here : slice_get w.contexts.items k ≡ Some c) (now : List NamedRead) (j : ℕ) (held : IsHeld (map read_of w.variables.items) now r j) where
   abbrev old : List NamedRead
@@ -95,10 +85,10 @@ module _ (w : Watch) (before : List Use) (watch : IsWatch w before) (t : Name) (
 
   -- the new use is of this read
   of-it : (d : Name) (q : NamedRead) → EndsRead d q.context q.belief ≡ u → q ≡ r
-  of-it d q e = same-read q r (cc) (cc)
+  of-it d q e = same-named q r (cc) (cc)
 
   read-after : (q : NamedRead) → WasRead after q → WasRead before q ⊎ (q ≡ r)
-  read-after q (d, h) = elim (among-push (EndsRead d q.context q.belief) before u h) [ inl there ↦ inl (d, there) | inr e ↦ inr (of-it d q e) ]
+  read-after q (d, h) = elim ((among_push (EndsRead d q.context q.belief) before u).0 h) [ inl there ↦ inl (d, there) | inr e ↦ inr (of-it d q e) ]
 
   read-now : WasRead after r
   read-now = (t, the-new before u)
@@ -139,33 +129,33 @@ module _ (w : Watch) (before : List Use) (watch : IsWatch w before) (t : Name) (
           omega (arith, ap length more, length-append old (r ∷ []), length-map w.variables.items read_of, watch.few.2)
 
   pub number-below : j < 64
-  number-below = let less = get-lt r now j held.there in let few = few-variables in omega arith
+  number-below = let less = slice_get_within now j r held.there in let few = few-variables in omega arith
 
   -- ---- the inputs of the target
   inputs-now : (i : ℕ) → IsTrue (has (union c.inputs (single j)) i) ↔ ((q : NamedRead) × (slice_get now i ≡ Some q) × WasReadInto after c.name q)
   inputs-now i = (
-    λ h. elim (or-either (has c.inputs i) (has (single j) i) (sym (has-union c.inputs (single j) i) ∙ h)) [
+    λ h. elim (or_cases (has c.inputs i) (has (single j) i) (sym (has-union c.inputs (single j) i) ∙ h)) [
       | inl was ↦ let (q, at, was') = (seen.inputs i).0 was in (q, longer.to i q at, earlier before u (EndsRead c.name q.context q.belief) was')
       | inr is ↦ let same : i ≡ j = (Decides-eqb i j).0 (sym (has-single j i) ∙ is) in
           (r, ap (slice_get now) same ∙ held.there, subst (λ (x : Name). WasReadInto after x r) (sym name) (the-new before u))
     ],
-    λ (q, at, was). has-union c.inputs (single j) i ∙ elim (among-push (EndsRead c.name q.context q.belief) before u was) [
-      | inl there ↦ or-left (has c.inputs i) (has (single j) i) ((seen.inputs i).1 (q, longer.from c.name i q at there, there))
+    λ (q, at, was). has-union c.inputs (single j) i ∙ elim ((among_push (EndsRead c.name q.context q.belief) before u).0 was) [
+      | inl there ↦ or_left (has c.inputs i) (has (single j) i) ((seen.inputs i).1 (q, longer.from c.name i q at there, there))
       | inr e ↦ let same : q ≡ r = of-it c.name q e in
-          or-right (has c.inputs i) (has (single j) i) (has-single j i ∙ (Decides-eqb i j).1 (one-place now listed.0 i j r (at ∙ ap (λ (x : NamedRead). Some x) same) held.there))
+          or_right (has c.inputs i) (has (single j) i) (has-single j i ∙ (Decides-eqb i j).1 (one_place now listed.0 i j r (at ∙ ap (λ (x : NamedRead). Some x) same) held.there))
     ],
   )
 
   was-input : has c.inputs j ≡ true → WasReadInto before c.name r
   was-input h =
       let (q, at, was) = (seen.inputs j).0 h in
-      subst (WasReadInto before c.name) (some-same (sym (longer.to j q at) ∙ held.there)) was
+      subst (WasReadInto before c.name) (same_Some _ _ (sym (longer.to j q at) ∙ held.there)) was
 
   no-input : has c.inputs j ≡ false → ¬ WasReadInto before c.name r
   no-input h was = true≢false (sym ((seen.inputs j).1 (r, longer.from c.name j r held.there was, was)) ∙ h)
 
   input-after : (q : NamedRead) → WasReadInto after c.name q → WasReadInto before c.name q ⊎ (q ≡ r)
-  input-after q was = elim (among-push (EndsRead c.name q.context q.belief) before u was) [ inl there ↦ inl there | inr e ↦ inr (of-it c.name q e) ]
+  input-after q was = elim ((among_push (EndsRead c.name q.context q.belief) before u).0 was) [ inl there ↦ inl there | inr e ↦ inr (of-it c.name q e) ]
 
   input-now : WasReadInto after c.name r
   input-now = subst (λ (x : Name). WasReadInto after x r) (sym name) (the-new before u)
@@ -211,9 +201,9 @@ module _ (w : Watch) (before : List Use) (watch : IsWatch w before) (t : Name) (
       (λ x differ. apart-read t r.context r.belief x (λ e. differ (e ∙ sym name)))
       (record {
         program = let same = same-among before u (SaysProgram c.name) (λ e. cc) in (λ h. same.0 (seen.program.0 h), λ h. seen.program.1 (same.1 h));
-        rules = seen.rules ∙ sym (count-later (names_target c.name) before u refl);
-        defaults = seen.defaults ∙ sym (count-later (begins_default_of c.name) before u refl);
-        items = seen.items ∙ sym (count-later (begins_item_of c.name) before u refl);
+        rules = seen.rules ∙ sym (count_by_push_no (names_target c.name) before u refl);
+        defaults = seen.defaults ∙ sym (count_by_push_no (begins_default_of c.name) before u refl);
+        items = seen.items ∙ sym (count_by_push_no (begins_item_of c.name) before u refl);
         atoms = atoms-later before u c.name c.atoms.items (λ a e. cc) seen.atoms;
         inputs = inputs-now;
         few = (seen.few.0, seen.few.1, seen.few.2, seen.few.3, few-inputs);

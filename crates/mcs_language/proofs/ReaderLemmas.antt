@@ -42,10 +42,10 @@ primary-some r s h more = more-some r.pending.items s.pending s.operand h.waits 
 
 -- ---- sizes
 pub settle-size : (ps : List Pending) (w : Written) → size_so_far (settle ps w) ≡ size_all ps + size_of w
-settle-size ps w = let r = settled ps w in ap size_so_far r.is ∙ r.size
+settle-size ps w = let r = (settled ps w).operand in ap size_so_far r.is ∙ r.size
 
 pub settle-opened : (ps : List Pending) (w : Written) → opened_so_far (settle ps w) ≡ opened ps
-settle-opened ps w = let r = settled ps w in ap opened_so_far r.is ∙ r.opens
+settle-opened ps w = let r = (settled ps w).operand in ap opened_so_far r.is ∙ r.opens
 
 stacked-length : (items : List code_pending.Pending) (ps : List Pending) → AreStacked items ps → length items ≡ length ps
 stacked-length items [] h = ap length h

@@ -1,15 +1,18 @@
 -- A token where an operand has to come.
-use Rattle.std.proofs.Common.{◌≡◌, Bool, true, false, cond, IsTrue, not, ◌&&◌, List, length, Option, Some, None, refl, sym, ap, subst, ◌∙◌, true≢false}
+use Rattle.std.proofs.Common.{◌≡◌, Bool, true, false, IsTrue, not, ◌&&◌, List, length, Option, Some, None, refl, sym, ap, subst, ◌∙◌}
 use Rattle.std.specs.Prelude.{codes, nat_le}
 use Rattle.std.specs.Str.{bytes_eq}
 use Rattle.std.proofs.lemmas.Slice.Eq.{bytes_eq-Decides}
+use Rattle.std.proofs.lemmas.Bool.{false_from_ne_true}
 use Rattle.mcs_base.specs.Words.{is_word, is_reserved, is_name, most_name_bytes, reserved_words}
+use Rattle.mcs_base.proofs.Booleans.{none_of_five}
 use Rattle.mcs_system.specs.Plain.{Name}
-use Rattle.mcs_tokens.specs.Spelling.{sign_bytes, keyword_bytes}
+use Rattle.mcs_base.specs.Words.{keyword_bytes}
+use Rattle.mcs_tokens.specs.Spelling.{sign_bytes}
 use Rattle.mcs_tokens.specs.declared.sign.Sign.{Sign}
 use Rattle.mcs_tokens.specs.declared.sign.Sign.TheVariants as signs
-use Rattle.mcs_tokens.specs.declared.keyword.Keyword.{Keyword}
-use Rattle.mcs_tokens.specs.declared.keyword.Keyword.TheVariants as words
+use Rattle.mcs_base.specs.declared.keyword.Keyword.{Keyword}
+use Rattle.mcs_base.specs.declared.keyword.Keyword.TheVariants as words
 use Rattle.mcs_language.specs.declared.formula.FormulaReader.{FormulaReader}
 use Rattle.mcs_language.specs.declared.formula.Answer.TheVariants as answers
 use Rattle.mcs_language.specs.Written.{Written}
@@ -76,20 +79,8 @@ name-word t h = at (is_word t) (is_reserved t) (nat_le (length t) most_name_byte
     at false b d h' = h'
 
 -- ---- what is neither
-untrue : (b : Bool) → ¬ (b ≡ true) → b ≡ false
-untrue true h = absurd (h refl)
-untrue false h = refl
-
 pub other-bytes : (t u : Token) → ¬ (t ≡ u) → bytes_eq t u ≡ false
-other-bytes t u h = untrue (bytes_eq t u) (λ e. h ((bytes_eq-Decides t u).0 e))
-
-none-chosen : {A : Type 0} (a b d e f : Bool) (v w x y z : Option A) → a ≡ false → b ≡ false → d ≡ false → e ≡ false → f ≡ false → cond a v (cond b w (cond d x (cond e y (cond f z None)))) ≡ None
-none-chosen false false false false false v w x y z ea eb ed ee ef = refl
-none-chosen true b d e f v w x y z ea eb ed ee ef = absurd (true≢false ea)
-none-chosen false true d e f v w x y z ea eb ed ee ef = absurd (true≢false eb)
-none-chosen false false true e f v w x y z ea eb ed ee ef = absurd (true≢false ed)
-none-chosen false false false true f v w x y z ea eb ed ee ef = absurd (true≢false ee)
-none-chosen false false false false true v w x y z ea eb ed ee ef = absurd (true≢false ef)
+other-bytes t u h = false_from_ne_true (bytes_eq t u) (λ e. h ((bytes_eq-Decides t u).0 e))
 
 no-word : (t u : Token) → ¬ IsTrue (is_word t) → is_word u ≡ true → ¬ (t ≡ u)
 no-word t u h k e = h (ap is_word e ∙ k)
@@ -104,5 +95,5 @@ no-name t h = at (is_word t) (not (is_reserved t)) h
 pub no-stray : (t : Token) → ¬ IsTrue (is_word t) → ((g : Sign) → ¬ (t ≡ sign_bytes g)) → (c : Name) (ps : List Pending) → formula_step c (waiting_for ps) t ≡ None
 unfolding formula_step
 no-stray t h k c ps =
-    none-chosen (bytes_eq t (codes "~")) (bytes_eq t (codes "(")) (bytes_eq t (codes "true")) (bytes_eq t (codes "false")) (is_name_word t) _ _ _ _ _
+    none_of_five (bytes_eq t (codes "~")) (bytes_eq t (codes "(")) (bytes_eq t (codes "true")) (bytes_eq t (codes "false")) (is_name_word t) _ _ _ _ _
     (other-bytes t (codes "~") (k signs.Tilde)) (other-bytes t (codes "(") (k signs.OpenParenthesis)) (other-bytes t (codes "true") (no-word t (codes "true") h refl)) (other-bytes t (codes "false") (no-word t (codes "false") h refl)) (no-name t h)

@@ -1,22 +1,23 @@
 -- A token after an operand.
-use Rattle.std.proofs.Common.{◌≡◌, ℕ, ◌+◌, ◌-◌, ◌≤◌, min, Bool, true, false, cond, IsTrue, not, ◌&&◌, List, [], ◌∷◌, length, take, Option, Some, None, Result, Ok, Err, IfOk, refl, sym, ap, subst, ◌∙◌, arith, true≢false, length-append}
+use Rattle.std.proofs.Common.{◌≡◌, ℕ, ◌+◌, ◌-◌, ◌≤◌, min, Bool, true, false, cond, IsTrue, List, [], ◌∷◌, length, take, Option, Some, None, Result, Ok, Err, IfOk, refl, sym, ap, subst, ◌∙◌, arith, true≢false, length-append}
 use Rattle.std.specs.Prelude.{codes, nat_le, option_map}
 use Rattle.std.specs.Str.{bytes_eq}
 use Rattle.std.proofs.lemmas.Bool.{leb-true, leb-false}
 use Rattle.std.proofs.Math.Seq.{take-append_seam}
-use Rattle.mcs_base.specs.Words.{is_word, is_reserved, is_name, most_name_bytes}
+use Rattle.mcs_base.specs.Words.{is_word}
 use Rattle.mcs_base.specs.declared.memory.Memory.{Memory}
+use Rattle.mcs_base.proofs.Booleans.{none_of_five}
+use Rattle.mcs_base.proofs.WordLemmas.{keyword_word, name_is_word}
 use Rattle.mcs_system.specs.Plain.{Name}
 use Rattle.mcs_system.specs.Seen.{formula_of}
 use Rattle.mcs_system.specs.declared.formula.Formula as code_formula
-use Rattle.mcs_tokens.specs.Spelling.{sign_bytes, keyword_bytes}
+use Rattle.mcs_tokens.specs.Spelling.{sign_bytes}
 use Rattle.mcs_tokens.specs.Kinds.{IsKind}
 use Rattle.mcs_tokens.specs.declared.sign.Sign.{Sign}
 use Rattle.mcs_tokens.specs.declared.sign.Sign.TheVariants as signs
-use Rattle.mcs_tokens.specs.declared.keyword.Keyword.{Keyword}
-use Rattle.mcs_tokens.specs.declared.keyword.Keyword.TheVariants as words
 use Rattle.mcs_tokens.specs.declared.kind.TokenKind.{TokenKind}
 use Rattle.mcs_tokens.specs.declared.kind.TokenKind.TheVariants as kinds
+use Rattle.mcs_tokens.proofs.KindLemmas.{sign_no_word}
 use Rattle.mcs_language.specs.declared.formula.Pending as code_pending
 use Rattle.mcs_language.specs.declared.formula.FormulaReader.{FormulaReader}
 use Rattle.mcs_language.specs.declared.formula.Answer as code_answer
@@ -26,7 +27,7 @@ use Rattle.mcs_language.specs.Marks.{Token, mark, formula_in, size_of}
 use Rattle.mcs_language.specs.FormulaSteps.{Pending, Tilde, Parenthesis, And, Or, Implies, Iff, PartFormula, join, settle, level_of, reduce, behind, closed, size_pending, size_all, size_so_far, opened_so_far, numbered_mark, formula_step}
 use Rattle.mcs_language.specs.FormulaImages.{waiting_of, waiting_in, AreStacked, IsImage, AreImages, IsReader, IsWaitingMore, IsAnswer}
 use Rattle.mcs_language.proofs.FormulaParts.{opened, opened-more}
-use Rattle.mcs_language.proofs.FormulaForward.{waiting_for, with_operand, Stays, close-steps}
+use Rattle.mcs_language.proofs.FormulaForward.{waiting_for, with_operand, LastOperand, last-operand, same-operand, Stays, close-steps}
 use Rattle.mcs_language.proofs.FormulaSound.{join-size}
 use Rattle.mcs_language.proofs.ImageLemmas.{stacked-more}
 use Rattle.mcs_language.proofs.ReaderLemmas.{settle-size, settle-opened}
@@ -66,12 +67,8 @@ refused-kept a old f now s t h e is same step =
 
 -- ---- what is left where low levels have their operand
 pub record IsShaped (most : ℕ) (ps : List Pending) (w : Written) (s : PartFormula) : Type 0 where
-  pub left : List Pending
-  pub last : Written
-  pub is : s ≡ with_operand left last
-  pub size : size_all left + size_of last ≡ size_all ps + size_of w
-  pub opens : opened left ≡ opened ps
-  pub stays : Stays most left
+  pub operand : LastOperand s ps w
+  pub stays : Stays most operand.left
 
 opened-sign : (p : Pending) (ps : List Pending) → level_of p ≤ 4 → opened (p ∷ ps) ≡ opened ps
 opened-sign Tilde ps h = refl
@@ -82,15 +79,15 @@ opened-sign (Implies l) ps h = refl
 opened-sign (Iff l) ps h = refl
 
 pub shaped : (most : ℕ) (ps : List Pending) (w : Written) → most ≤ 4 → IsShaped most ps w (reduce most ps w)
-shaped most [] w h = record { left = []; last = w; is = refl; size = refl; opens = refl; stays = tt }
+shaped most [] w h = record { operand = last-operand [] w; stays = tt }
 shaped most (p ∷ ps) w h = at (nat_le (level_of p) most) refl (shaped most ps (join p w) h)
   where
     at : (b : Bool) → b ≡ nat_le (level_of p) most → IsShaped most ps (join p w) (reduce most ps (join p w)) → IsShaped most (p ∷ ps) w (cond b (reduce most ps (join p w)) (with_operand (p ∷ ps) w))
-    at false e r = record { left = p ∷ ps; last = w; is = refl; size = refl; opens = refl; stays = leb-false (level_of p) most (sym e) }
+    at false e r = record { operand = last-operand (p ∷ ps) w; stays = leb-false (level_of p) most (sym e) }
     at true e r =
         let below : level_of p ≤ most = leb-true (level_of p) most (sym e) in
         let four : level_of p ≤ 4 = omega (arith, below, h) in
-        record { left = r.left; last = r.last; is = r.is; size = r.size ∙ sym (join-size p ps w); opens = r.opens ∙ sym (opened-sign p ps four); stays = r.stays }
+        record { operand = same-operand _ ps (p ∷ ps) (join p w) w r.operand (sym (join-size p ps w)) (sym (opened-sign p ps four)); stays = r.stays }
 
 -- ---- a sign that joins
 module _ (old : FormulaReader) (f : code_formula.Formula) (none : old.operand ≡ None) (mid now : FormulaReader) (same_last : mid.operand ≡ old.operand) (same_count : mid.counted ≡ old.counted) (same_depth : mid.opened ≡ old.opened) (t : Token) (most : ℕ) (four : most ≤ 4)
@@ -100,7 +97,7 @@ module _ (old : FormulaReader) (f : code_formula.Formula) (none : old.operand �
     (images : (ps : List Pending) (w : Written) → AreStacked old.pending.items ps → formula_of f ≡ formula_in w → AreImages mid.pending.items (Some g) (reduce most ps w)) (more : IsWaitingMore mid now waiting) where
   joined-at : (ps : List Pending) (w : Written) → IsReader (holding old f) (with_operand ps w) → IsAnswer answers.Taken (holding old f) now (with_operand ps w) t
   joined-at ps w h =
-      let q = shaped most ps w four in
+      let q = (shaped most ps w four).operand in
       let made : AreImages mid.pending.items (Some g) (with_operand q.left q.last) = subst (AreImages mid.pending.items (Some g)) q.is (images ps w h.waits h.last) in
       let gone : now.operand ≡ None = more.last ∙ same_last ∙ none in
       let nothing : IsImage now.operand None = subst (λ o. IsImage o None) (sym gone) tt in
@@ -132,10 +129,11 @@ none-closed (Iff l ∷ ls) last h e = absurd (omega (arith, h))
 pub close-refused : (a : code_answer.Answer) (old : FormulaReader) (f : code_formula.Formula) (now : FormulaReader) (s : PartFormula) → IsReader (holding old f) s → old.opened ≡ 0 → a ≡ answers.Refused → now ≡ holding old f → IsAnswer a (holding old f) now s (codes ")")
 close-refused a old f now s h none is same =
     let there = some-there f s.operand h.last in
-    let q = shaped 4 s.pending there.written (omega arith) in
+    let shape = shaped 4 s.pending there.written (omega arith) in
+    let q = shape.operand in
     let shut : opened q.left ≡ 0 = q.opens ∙ sym h.depth ∙ none in
     refused-answer a (holding old f) now s (codes ")") is same (λ c. at-some (λ x. formula_step c x (codes ")") ≡ None) s there.written there.is
-    (close-steps c s.pending there.written ∙ ap (λ x. option_map (λ (r : PartFormula). (mark (codes ")") [], r)) (closed x)) q.is ∙ ap (option_map (λ (r : PartFormula). (mark (codes ")") [], r))) (none-closed q.left q.last q.stays shut)))
+    (close-steps c s.pending there.written ∙ ap (λ x. option_map (λ (r : PartFormula). (mark (codes ")") [], r)) (closed x)) q.is ∙ ap (option_map (λ (r : PartFormula). (mark (codes ")") [], r))) (none-closed q.left q.last shape.stays shut)))
 
 -- the parenthesis that is last
 pub record IsOpen (left : List Pending) : Type 0 where
@@ -183,9 +181,10 @@ module _ (old : FormulaReader) (f : code_formula.Formula) (shut : ¬ (old.opened
     (settles : (ps : List Pending) (w : Written) → AreStacked popped ps → formula_of g ≡ formula_in w → IfOk r (λ a. AreImages now.pending.items now.operand (settle ps w))) (counts : IfOk r (λ a. (now.counted ≡ old.counted) × (now.opened ≡ old.opened - 1))) where
   closed-at : (ps : List Pending) (w : Written) → IsReader (holding old f) (with_operand ps w) → IfOk r (λ a. IsAnswer a (holding old f) now (with_operand ps w) (codes ")"))
   closed-at ps w h =
-      let q = shaped 4 ps w (omega arith) in
+      let shape = shaped 4 ps w (omega arith) in
+      let q = shape.operand in
       let some : ¬ (opened q.left ≡ 0) = λ e. shut (h.depth ∙ sym q.opens ∙ e) in
-      let k = open-there q.left q.stays some in
+      let k = open-there q.left shape.stays some in
       let made : AreImages mid (Some g) (with_operand q.left q.last) = subst (AreImages mid (Some g)) q.is (images ps w h.waits h.last) in
       let stack : AreStacked mid (Parenthesis ∷ k.rest) = subst (AreStacked mid) k.is made.0 in
       let rest : AreStacked popped k.rest = popped-stack mid popped Parenthesis k.rest stack pops in
@@ -217,66 +216,18 @@ no-joining signs.DoubleArrow h1 h2 h3 h4 h5 c ps w = absurd (h4 refl)
 no-joining signs.OpenParenthesis h1 h2 h3 h4 h5 c ps w = refl
 no-joining signs.CloseParenthesis h1 h2 h3 h4 h5 c ps w = absurd (h5 refl)
 
-sign-no-word : (g : Sign) → is_word (sign_bytes g) ≡ false
-sign-no-word signs.OpenBrace = refl
-sign-no-word signs.CloseBrace = refl
-sign-no-word signs.Period = refl
-sign-no-word signs.Comma = refl
-sign-no-word signs.Colon = refl
-sign-no-word signs.If = refl
-sign-no-word signs.Slash = refl
-sign-no-word signs.Bar = refl
-sign-no-word signs.Ampersand = refl
-sign-no-word signs.Tilde = refl
-sign-no-word signs.Arrow = refl
-sign-no-word signs.DoubleArrow = refl
-sign-no-word signs.OpenParenthesis = refl
-sign-no-word signs.CloseParenthesis = refl
-
-keyword-word : (k : Keyword) → is_word (keyword_bytes k) ≡ true
-keyword-word words.Context = refl
-keyword-word words.Bridge = refl
-keyword-word words.Classical = refl
-keyword-word words.Default = refl
-keyword-word words.Program = refl
-keyword-word words.Not = refl
-keyword-word words.If = refl
-keyword-word words.True = refl
-keyword-word words.False = refl
-keyword-word words.Version = refl
-keyword-word words.Keep = refl
-keyword-word words.Closed = refl
-keyword-word words.Weight = refl
-keyword-word words.Autoepistemic = refl
-keyword-word words.Know = refl
-
 word-no-sign : (t : Token) → IsTrue (is_word t) → (g : Sign) → ¬ (t ≡ sign_bytes g)
-word-no-sign t h g e = true≢false (sym h ∙ ap is_word e ∙ sign-no-word g)
-
-name-is-word : (t : Token) → IsTrue (is_name t) → IsTrue (is_word t)
-name-is-word t h = at (is_word t) (not (is_reserved t) && nat_le (length t) most_name_bytes) h
-  where
-    at : (a b : Bool) → IsTrue (a && b) → IsTrue a
-    at true b h' = refl
-    at false b h' = h'
+word-no-sign t h g e = true≢false (sym h ∙ ap is_word e ∙ sign_no_word g)
 
 pub no-sign : (k : TokenKind) (t : Token) → ((g : Sign) → ¬ (k ≡ kinds.Sign g)) → IsKind k t → (g : Sign) → ¬ (t ≡ sign_bytes g)
 no-sign (kinds.Sign g') t h is g = absurd (h g' refl)
-no-sign (kinds.Keyword k) t h is g = word-no-sign t (ap is_word is ∙ keyword-word k) g
-no-sign kinds.Name t h is g = word-no-sign t (name-is-word t is) g
+no-sign (kinds.Keyword k) t h is g = word-no-sign t (ap is_word is ∙ (keyword_word k).0) g
+no-sign kinds.Name t h is g = word-no-sign t (name_is_word t is) g
 no-sign kinds.LongName t h is g = word-no-sign t is.0 g
 no-sign kinds.Stray t h is g = is.1 g
-
-none-of-five : {A : Type 0} (a b d e f : Bool) (v w x y z : Option A) → a ≡ false → b ≡ false → d ≡ false → e ≡ false → f ≡ false → cond a v (cond b w (cond d x (cond e y (cond f z None)))) ≡ None
-none-of-five false false false false false v w x y z ea eb ed ee ef = refl
-none-of-five true b d e f v w x y z ea eb ed ee ef = absurd (true≢false ea)
-none-of-five false true d e f v w x y z ea eb ed ee ef = absurd (true≢false eb)
-none-of-five false false true e f v w x y z ea eb ed ee ef = absurd (true≢false ed)
-none-of-five false false false true f v w x y z ea eb ed ee ef = absurd (true≢false ee)
-none-of-five false false false false true v w x y z ea eb ed ee ef = absurd (true≢false ef)
 
 pub sign-none : (t : Token) → ((g : Sign) → ¬ (t ≡ sign_bytes g)) → (c : Name) (ps : List Pending) (w : Written) → formula_step c (with_operand ps w) t ≡ None
 unfolding formula_step
 sign-none t k c ps w =
-    none-of-five (bytes_eq t (codes "&")) (bytes_eq t (codes "|")) (bytes_eq t (codes "->")) (bytes_eq t (codes "<->")) (bytes_eq t (codes ")")) _ _ _ _ _
+    none_of_five (bytes_eq t (codes "&")) (bytes_eq t (codes "|")) (bytes_eq t (codes "->")) (bytes_eq t (codes "<->")) (bytes_eq t (codes ")")) _ _ _ _ _
     (other-bytes t (codes "&") (k signs.Ampersand)) (other-bytes t (codes "|") (k signs.Bar)) (other-bytes t (codes "->") (k signs.Arrow)) (other-bytes t (codes "<->") (k signs.DoubleArrow)) (other-bytes t (codes ")") (k signs.CloseParenthesis))

@@ -5,6 +5,7 @@ use Rattle.std.proofs.lemmas.Bool.{and_parts, le-leb}
 use Rattle.std.proofs.lemmas.List.{append-nil, append_assoc}
 use Rattle.mcs_base.specs.Listings.{IsAmong}
 use Rattle.mcs_base.specs.Words.{is_word, is_reserved, is_name}
+use Rattle.mcs_base.proofs.Among.{among_left, among_right}
 use Rattle.mcs_system.specs.Plain.{Name}
 use Rattle.mcs_language.specs.declared.watch.Watch.{Watch}
 use Rattle.mcs_language.specs.declared.watch.Said.{Said}
@@ -18,7 +19,6 @@ use Rattle.mcs_language.proofs.FreeLemmas.{early-read, early-belief, early-item,
 use Rattle.mcs_language.proofs.LaterLemmas.{named-later}
 use Rattle.mcs_language.proofs.LimitLemmas.{spoken-of}
 use Rattle.mcs_language.proofs.PlainSteps.{step-begins_belief}
-use Rattle.mcs_system.proofs.Members.{among_left, among_right}
 
 -- ---- of what is there only sometimes
 pub when-yes : (b : Bool) (v : Use) → b ≡ true → when b v ≡ v ∷ []

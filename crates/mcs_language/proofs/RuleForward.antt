@@ -10,9 +10,10 @@ use Rattle.mcs_language.specs.FormulaSteps.{is_name_word}
 use Rattle.mcs_language.specs.TextSteps.{Place, NextItem, AfterHeadName, NextHeadName, AfterSign, NextLiteral, AfterNot, AfterLiteral, PartText, is_program, add_rule, whole_rule, text_step}
 use Rattle.mcs_language.proofs.FormulaRuns.{word-apart}
 use Rattle.mcs_language.proofs.TextRuns.{Runs, runs-one, runs-cons, runs-append}
-use Rattle.mcs_language.proofs.TextParts.{sign_mark, begun, IsSome, AreNames, AreLiterals}
-use Rattle.mcs_language.proofs.TextLemmas.{first-append, some-more}
-use Rattle.mcs_language.proofs.TextSound.{text_of}
+use Rattle.mcs_language.proofs.TextParts.{sign_mark, begun, AreNames, AreLiterals, text_of}
+use Rattle.mcs_language.proofs.TextLemmas.{first-append}
+use Rattle.mcs_language.specs.TextImages.{HasSome}
+use Rattle.mcs_language.proofs.MarkLists.{some-push}
 
 pub not-no-name : is_name_word (codes "not") ≡ false
 unfolding reserved_words
@@ -50,7 +51,7 @@ module _ (cs : List WrittenContext) (bs : List WrittenBridge) where
       (runs-cons (text_of cs bs (NextHeadName c head)) (text_of cs bs (AfterHeadName c more)) (text_of cs bs last) (atom_mark c.name (n + 1) a) (further_heads c.name (n + 1) names) (next-name c head n a len h.0) (heads-run c more (n + 1) names len' h.1)) in
       subst (λ (xs : List Name). Leads (AfterHeadName c head) (further_heads c.name n (a ∷ names)) (AfterHeadName c xs)) (append_assoc head (a ∷ []) names) run
 
-  head-runs : (c : WrittenContext) (head : List Name) → is_program c.kb ≡ true → IsSome head → AreNames head → Leads (NextItem c) (begun c.name (head_marks c.name head)) (AfterHeadName c head)
+  head-runs : (c : WrittenContext) (head : List Name) → is_program c.kb ≡ true → HasSome head → AreNames head → Leads (NextItem c) (begun c.name (head_marks c.name head)) (AfterHeadName c head)
   head-runs c [] prog h names = absurd h
   head-runs c (a ∷ head) prog h names =
       runs-cons (text_of cs bs (NextItem c)) (text_of cs bs (AfterHeadName c (a ∷ []))) (text_of cs bs (AfterHeadName c (a ∷ head))) (mark a (BeginsItem c.name ∷ AtomOf c.name a ∷ IsNumber 1 ∷ [])) (further_heads c.name 1 head) (first-name c a prog names.0)
@@ -146,7 +147,7 @@ module _ (cs : List WrittenContext) (bs : List WrittenBridge) where
       runs-append (text_of cs bs (NextItem c)) (text_of cs bs (AfterHeadName c (a ∷ head))) (text_of cs bs (AfterSign c (a ∷ head))) (begun c.name (head_marks c.name (a ∷ head))) (sign_mark (codes ":-") ∷ []) (head-runs c (a ∷ head) prog tt h)
       (runs-one (text_of cs bs (AfterHeadName c (a ∷ head))) (text_of cs bs (AfterSign c (a ∷ head))) (sign_mark (codes ":-")) (head-sign c (a ∷ head)))
 
-  fact-runs : (c : WrittenContext) (head : List Name) → is_program c.kb ≡ true → IsSome head → AreNames head → Leads (NextItem c) (ended c.name (rule_marks c.name (whole_rule head false []))) (NextItem (add_rule c (whole_rule head false [])))
+  fact-runs : (c : WrittenContext) (head : List Name) → is_program c.kb ≡ true → HasSome head → AreNames head → Leads (NextItem c) (ended c.name (rule_marks c.name (whole_rule head false []))) (NextItem (add_rule c (whole_rule head false [])))
   fact-runs c head prog some h =
       let last : PartText = text_of cs bs (NextItem (add_rule c (whole_rule head false []))) in
       let run = runs-append (text_of cs bs (NextItem c)) (text_of cs bs (AfterHeadName c head)) last (begun c.name (head_marks c.name head)) (sign_mark (codes ".") ∷ []) (head-runs c head prog some h) (runs-one (text_of cs bs (AfterHeadName c head)) last (sign_mark (codes ".")) (head-ends c head)) in
@@ -159,7 +160,7 @@ module _ (cs : List WrittenContext) (bs : List WrittenBridge) where
       let heads : List Mark = head_marks c.name head in
       let marks' : begun c.name (heads ++ sign) ++ (body_marks c.name (length head) body ++ period) ≡ ended c.name (rule_marks c.name (whole_rule head true body))
       = sym (append_assoc (begun c.name (heads ++ sign)) (body_marks c.name (length head) body) period)
-      ∙ ap (λ (ms : List Mark). ms ++ period) (sym (first-append (BeginsItem c.name ∷ []) (heads ++ sign) (body_marks c.name (length head) body) (some-more heads (sign_mark (codes ":-")))) ∙ ap (begun c.name) (append_assoc heads sign (body_marks c.name (length head) body))) in
+      ∙ ap (λ (ms : List Mark). ms ++ period) (sym (first-append (BeginsItem c.name ∷ []) (heads ++ sign) (body_marks c.name (length head) body) (some-push heads (sign_mark (codes ":-")))) ∙ ap (begun c.name) (append_assoc heads sign (body_marks c.name (length head) body))) in
       subst (λ (ms : List Mark). Leads (NextItem c) ms (NextItem (add_rule c (whole_rule head true body)))) marks'
       (runs-append (text_of cs bs (NextItem c)) (text_of cs bs (AfterSign c head)) (text_of cs bs (NextItem (add_rule c (whole_rule head true body)))) (begun c.name (heads ++ sign)) (body_marks c.name (length head) body ++ period) (sign-runs c head prog h) (body-runs c head body literals))
 

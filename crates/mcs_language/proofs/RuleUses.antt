@@ -2,14 +2,14 @@
 use Rattle.std.proofs.Common.{◌≡◌, ℕ, ◌+◌, max, Bool, true, false, not, codes, List, [], ◌∷◌, ◌++◌, map, filter, length, refl, sym, ap, ◌∙◌, inl, inr, subst, arith}
 use Rattle.std.proofs.lemmas.List.{length-map}
 use Rattle.mcs_base.specs.Listings.{IsAmong}
+use Rattle.mcs_base.proofs.Among.{map_among, among_map, among_left, among_right, among_either, among_filter, filter_among}
 use Rattle.mcs_system.specs.Plain.{Name}
 use Rattle.mcs_system.specs.Atoms.{rule_atoms}
-use Rattle.mcs_system.proofs.Members.{among_left, among_right, among_either, among_filter, filter_among}
 use Rattle.mcs_language.specs.Written.{WrittenLiteral, WrittenRule}
 use Rattle.mcs_language.specs.Marks.{Token, Use, AtomOf, IsNumber, OpensWithin, Mark, atom_mark, further_heads, head_marks, optional, literal_marks, further_literals, body_marks, rule_marks, uses_of}
 use Rattle.mcs_language.specs.Saying.{rule_in, positive_atoms, negative_atoms}
 use Rattle.mcs_language.proofs.UsesParts.{rule_size}
-use Rattle.mcs_language.proofs.MarkLists.{uses-append, among-map, map-among}
+use Rattle.mcs_language.proofs.MarkLists.{uses-append}
 use Rattle.mcs_language.proofs.FormulaUses.{IsPartUse, ArePartUses, join-parts, same-part, none-part, atom-part}
 
 -- an atom that is the next of the names, and what comes after it
@@ -53,17 +53,17 @@ body-part c n (l ∷ ls) = literals-part c n (l ∷ ls)
 
 -- ---- the atoms of the body, by their sign
 among-signs : (a : Name) (ls : List WrittenLiteral) → IsAmong a (atoms_written ls) → IsAmong a (positive_atoms ls ++ negative_atoms ls)
-among-signs a ls h = let (l, there, is) = map-among (λ (x : WrittenLiteral). x.atom) a ls h in at l there is l.denied refl
+among-signs a ls h = let (l, there, is) = map_among (λ (x : WrittenLiteral). x.atom) a ls h in at l there is l.denied refl
   where
     at : (l : WrittenLiteral) → IsAmong l ls → a ≡ l.atom → (b : Bool) → l.denied ≡ b → IsAmong a (positive_atoms ls ++ negative_atoms ls)
     at l there is true e = among_right a (positive_atoms ls) (negative_atoms ls) (subst (λ (x : Name). IsAmong x (negative_atoms ls)) (sym is)
-        (among-map (λ (x : WrittenLiteral). x.atom) l (filter (λ (x : WrittenLiteral). x.denied) ls) (among_filter (λ (x : WrittenLiteral). x.denied) l ls there e)))
+        (among_map (λ (x : WrittenLiteral). x.atom) l (filter (λ (x : WrittenLiteral). x.denied) ls) (among_filter (λ (x : WrittenLiteral). x.denied) l ls there e)))
     at l there is false e = among_left a (positive_atoms ls) (negative_atoms ls) (subst (λ (x : Name). IsAmong x (positive_atoms ls)) (sym is)
-        (among-map (λ (x : WrittenLiteral). x.atom) l (filter (λ (x : WrittenLiteral). not x.denied) ls) (among_filter (λ (x : WrittenLiteral). not x.denied) l ls there (ap not e))))
+        (among_map (λ (x : WrittenLiteral). x.atom) l (filter (λ (x : WrittenLiteral). not x.denied) ls) (among_filter (λ (x : WrittenLiteral). not x.denied) l ls there (ap not e))))
 
 of-sign : (a : Name) (q : WrittenLiteral → Bool) (ls : List WrittenLiteral) → IsAmong a (atoms_written (filter q ls)) → IsAmong a (atoms_written ls)
-of-sign a q ls h = let (l, there, is) = map-among (λ (x : WrittenLiteral). x.atom) a (filter q ls) h in
-    subst (λ (x : Name). IsAmong x (atoms_written ls)) (sym is) (among-map (λ (x : WrittenLiteral). x.atom) l ls (filter_among q l ls there).0)
+of-sign a q ls h = let (l, there, is) = map_among (λ (x : WrittenLiteral). x.atom) a (filter q ls) h in
+    subst (λ (x : Name). IsAmong x (atoms_written ls)) (sym is) (among_map (λ (x : WrittenLiteral). x.atom) l ls (filter_among q l ls there).0)
 
 signs-among : (a : Name) (ls : List WrittenLiteral) → IsAmong a (positive_atoms ls ++ negative_atoms ls) → IsAmong a (atoms_written ls)
 signs-among a ls h = elim (among_either a (positive_atoms ls) (negative_atoms ls) h) [

@@ -1,13 +1,15 @@
 -- What is said of a token that was taken, and the read that ends with it.
-use Rattle.std.proofs.Common.{◌≡◌, ℕ, ◌<◌, Bool, true, false, List, [], ◌∷◌, ◌++◌, map, length, Option, Some, None, refl, sym, ap, subst, ◌∙◌, inl, inr, ◌⊎◌, true≢false}
+use Rattle.std.proofs.Common.{◌≡◌, ℕ, ◌<◌, Bool, true, false, List, [], ◌∷◌, map, length, Option, Some, None, refl, sym, ap, subst, ◌∙◌, inl, inr, ◌⊎◌, true≢false}
+use Rattle.std.proofs.lemmas.List.{same_from_push}
+use Rattle.std.proofs.lemmas.Option.{none-some, same_Some}
 use Rattle.mcs_base.specs.Listings.{IsAmong}
-use Rattle.mcs_base.proofs.ListingLemmas.{all_among}
 use Rattle.mcs_base.specs.Words.{most_name_bytes}
+use Rattle.mcs_base.proofs.Among.{among_right}
+use Rattle.mcs_base.proofs.Each.{all_among}
 use Rattle.mcs_system.specs.Plain.{Name}
 use Rattle.mcs_system.specs.Plain as plain
 use Rattle.mcs_system.specs.Seen.{formula_of}
 use Rattle.mcs_system.specs.Logic.{atoms}
-use Rattle.mcs_system.proofs.Members.{among_right}
 use Rattle.mcs_language.specs.declared.reader.Reader.{Reader}
 use Rattle.mcs_language.specs.declared.place.Place as code_place
 use Rattle.mcs_language.specs.declared.place.Place.TheVariants as places
@@ -21,36 +23,26 @@ use Rattle.mcs_language.specs.Faults.{NamedRead}
 use Rattle.mcs_language.specs.TextSteps.{PartRead, Place, AfterRead, PartText, nothing_written, with_read, text_step, text_steps}
 use Rattle.mcs_language.specs.TextImages.{IsAt, IsTextReader, IsStopped, About, about, subject_at, capped, uses_in, role_uses, when, last_read, read_of}
 use Rattle.mcs_language.specs.Watching.{IsNaming, IsSaid}
-use Rattle.mcs_language.proofs.TextLemmas.{none-is}
-use Rattle.mcs_language.proofs.TextRuns.{some-is}
 use Rattle.mcs_language.proofs.StepUses.{Shows, text-shows}
 use Rattle.mcs_language.proofs.MoveLemmas.{IsReadEnd}
 use Rattle.mcs_language.proofs.TextMoves.{text-move}
 use Rattle.mcs_language.proofs.ShortAtoms.{AreFaultless, belief-short}
 
 -- ---- the read that was read last
-last-same : {A : Type 0} (xs ys : List A) (x y : A) → xs ++ x ∷ [] ≡ ys ++ y ∷ [] → x ≡ y
-last-same [] [] x y e = cc
-last-same [] (b ∷ []) x y e = absurd (cc)
-last-same [] (b ∷ c ∷ ys) x y e = absurd (cc)
-last-same (a ∷ []) [] x y e = absurd (cc)
-last-same (a ∷ c ∷ xs) [] x y e = absurd (cc)
-last-same (a ∷ xs) (b ∷ ys) x y e = last-same xs ys x y (cc)
-
 after-same : (b c : WrittenBridge) → AfterRead b ≡ AfterRead c → b ≡ c
 after-same b c e = cc
 
 -- the reader has the read that was written last
 read-at : (p : code_place.Place) (q : Place) (r : code_read.NamedRead) (b : WrittenBridge) (d : PartRead) (w : Written) → IsAt p q → last_read p ≡ Some r → q ≡ AfterRead (with_read b d w) → (r.context ≡ d.context) × (formula_of r.belief ≡ formula_in w)
 read-at (places.AfterRead c denied x) q r b d w at e now =
-    let same : x ≡ r = some-is e in
+    let same : x ≡ r = same_Some _ _ e in
     let v : Written = at.1.0 in
     let bridges = after-same _ _ (sym at.1.3 ∙ now) in
-    let read : record { denied = denied; place = record { context = x.context; belief = v } } ≡ record { denied = d.denied; place = record { context = d.context; belief = w } } = last-same _ _ _ _ (ap (λ (u : WrittenBridge). u.reads) bridges) in
+    let read : record { denied = denied; place = record { context = x.context; belief = v } } ≡ record { denied = d.denied; place = record { context = d.context; belief = w } } = (same_from_push _ _ _ _ (ap (λ (u : WrittenBridge). u.reads) bridges)).1 in
     let context : x.context ≡ d.context = ap (λ (u : WrittenRead). u.place.context) read in
     let belief : v ≡ w = ap (λ (u : WrittenRead). u.place.belief) read in
     (ap (λ (u : code_read.NamedRead). u.context) (sym same) ∙ context, ap (λ (u : code_read.NamedRead). formula_of u.belief) (sym same) ∙ at.1.2 ∙ ap formula_in belief)
-read-at p q r b d w at e now = none-is r e
+read-at p q r b d w at e now = absurd (none-some r e)
 
 abbrev named_read : Name → plain.Formula → NamedRead
 named_read c f = record { context = c; belief = f }
@@ -88,7 +80,7 @@ no-read-at (places.NextRead b) q at e = ap is_after at.2
 no-read-at (places.ReadContext b) q at e = ap is_after at.2
 no-read-at (places.ReadColon b denied c) q at e = ap is_after at.2
 no-read-at (places.InRead b denied c f) q at e = ap is_after at.2.2
-no-read-at (places.AfterRead b denied r) q at e = none-is r (sym e)
+no-read-at (places.AfterRead b denied r) q at e = absurd (none-some r (sym e))
 
 -- ---- what is told of a token is what it is there for
 uncapped-one : (u v : Use) → ((n : ℕ) → ¬ (u ≡ IsNumber n)) → u ≡ capped v → u ≡ v
@@ -148,7 +140,7 @@ module _ (ts : List Token) (ms : List Mark) (s : PartText) (steps : text_steps n
       }
     where
       read-is : IsTextReader now s' ⊎ IsStopped now t → (r : code_read.NamedRead) → last_read now.place ≡ Some r → End → read_of r ≡ record { context = a.subject.context; belief = a.belief }
-      read-is (inr stop) r is end = none-is r (sym stop.no_read ∙ is)
+      read-is (inr stop) r is end = absurd (none-some r (sym stop.no_read ∙ is))
       read-is (inl reader) r is end =
           let same = read-at now.place s'.place r end.bridge end.read end.belief reader.place is end.to in
           let context : r.context ≡ a.subject.context = same.0 ∙ sym end.context_is in

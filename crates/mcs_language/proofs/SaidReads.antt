@@ -2,14 +2,16 @@
 use Rattle.std.proofs.Common.{◌≡◌, ℕ, ◌<◌, eqb, List, [], ◌++◌, length, get_or, Some, refl, sym, ap, ◌∙◌, subst, arith}
 use Rattle.std.specs.Prelude.{slice_get}
 use Rattle.std.specs.List.{range_with_len, position}
-use Rattle.std.proofs.lemmas.Option.{get_or_from_slice_get, slice_get-get_or}
+use Rattle.std.proofs.lemmas.Option.{get_or_from_slice_get, slice_get-get_or, same_Some}
 use Rattle.mcs_base.specs.Listings.{IsAmong}
+use Rattle.mcs_base.proofs.Distinct.{distinct_from_places, one_place}
+use Rattle.mcs_base.proofs.Among.{filter_among, get_among, flat_map_among}
 use Rattle.mcs_system.specs.Plain.{Name, Formula, Read, Bridge, System}
 use Rattle.mcs_system.specs.Logic.{same_name}
 use Rattle.mcs_system.specs.Systems.{occurrences, context_variables, variables}
-use Rattle.mcs_system.proofs.Members.{flat_map_among, filter_among, get_among}
 use Rattle.mcs_system.proofs.VariableLemmas.{firsts_among, variable_in_range}
 use Rattle.mcs_system.proofs.Distinct.{one_number}
+use Rattle.mcs_system.proofs.NameLemmas.{position-there}
 use Rattle.mcs_language.specs.Written.{WrittenContext, WrittenBridge, WrittenText}
 use Rattle.mcs_language.specs.Saying.{SaysBridge, SaysSystem, names_of}
 use Rattle.mcs_language.specs.Faults.{AreDifferent, NamedRead, WasReadInto}
@@ -17,8 +19,7 @@ use Rattle.mcs_language.specs.TextImages.{read_in}
 use Rattle.mcs_language.proofs.UsesLemmas.{text_uses, names-there, reads-there}
 use Rattle.mcs_language.proofs.TextUses.{same-named}
 use Rattle.mcs_language.proofs.Within.{IsWithin}
-use Rattle.mcs_language.proofs.WithoutRepeats.{different-places, one-place}
-use Rattle.mcs_language.proofs.SaidSystem.{some-is, position-there, read-written, as-many-contexts, as-many-names, IsContextAt}
+use Rattle.mcs_language.proofs.SaidSystem.{read-written, as-many-contexts, as-many-names, IsContextAt}
 
 -- ---- variables
 pub variable-occurs : (m : System) (r : Read) → IsAmong r (variables m) → IsAmong r (occurrences m)
@@ -31,7 +32,7 @@ pub variable-below : (m : System) (r : Read) → IsAmong r (variables m) → r.c
 variable-below m r h = let (v, at) = get_among r (variables m) h in variable_in_range m v r at
 
 pub variables-different : (m : System) → AreDifferent (variables m)
-variables-different m = different-places (variables m) (one_number m)
+variables-different m = distinct_from_places (variables m) (one_number m)
 
 -- ---- reads by the names of their contexts
 abbrev pub named_read : List Name → Read → NamedRead
@@ -50,11 +51,11 @@ named-once names d q r below below' same =
     let at : slice_get names q.context ≡ Some n = slice_get-get_or names q.context [] below in
     let alike : get_or names r.context [] ≡ n = sym (ap (λ (x : NamedRead). x.context) same) in
     let at' : slice_get names r.context ≡ Some n = slice_get-get_or names r.context [] below' ∙ ap (λ (x : Name). Some x) alike in
-    same-read q r (one-place names d q.context r.context n at at') (ap (λ (x : NamedRead). x.belief) same)
+    same-read q r (one_place names d q.context r.context n at at') (ap (λ (x : NamedRead). x.belief) same)
 
 -- the same name at the number of a context
 pub name-same : (t : WrittenText) (m : System) (i : ℕ) (x : WrittenContext) (n : Name) → IsContextAt t m i x.name x → position (same_name n) (names_of t.contexts) ≡ Some i → n ≡ x.name
-name-same t m i x n at is = some-is (sym (position-there n (names_of t.contexts) i is) ∙ at.name_at)
+name-same t m i x n at is = same_Some _ _ (sym (position-there n (names_of t.contexts) i is) ∙ at.name_at)
 
 module _ (t : WrittenText) (m : System) (says : SaysSystem t m) where
   pub read-into : (w : WrittenBridge) (b : Bridge) (r : Read) → IsAmong w t.bridges → SaysBridge (names_of t.contexts) w b → IsAmong r (b.pos ++ b.neg) → WasReadInto (text_uses t) (w.head).context (named_read (names_of t.contexts) r)

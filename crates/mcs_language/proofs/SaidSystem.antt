@@ -1,55 +1,18 @@
 -- The parts of the system that a text says, and the parts of the text that say them.
-use Rattle.std.proofs.Common.{◌≡◌, ℕ, ◌<◌, suc, Bool, false, not, List, [], ◌∷◌, map, filter, length, get_or, Some, option_map, refl, sym, ap, ◌∙◌, inl, inr, ◌⊎◌, subst, arith}
+use Rattle.std.proofs.Common.{◌≡◌, ℕ, ◌<◌, Bool, not, List, map, filter, length, Some, option_map, refl, sym, ap, ◌∙◌, inl, inr, ◌⊎◌, subst, arith}
 use Rattle.std.specs.Prelude.{slice_get}
-use Rattle.std.specs.List.{list_any, position}
+use Rattle.std.specs.List.{position}
 use Rattle.std.proofs.lemmas.List.{length-map}
-use Rattle.std.proofs.lemmas.List.Quantifiers.{position-Some}
-use Rattle.std.proofs.lemmas.Option.{slice_get-map, slice_get-get_or}
+use Rattle.std.proofs.lemmas.Option.{slice_get-map, same_Some}
 use Rattle.mcs_base.specs.Listings.{IsAmong}
+use Rattle.mcs_base.proofs.Among.{map_among, among_zip, among_either, filter_among, among_get}
+use Rattle.mcs_base.proofs.Lists.{length_zip, slice_get_below}
 use Rattle.mcs_system.specs.Plain.{Name, Context, Read, Bridge, System}
 use Rattle.mcs_system.specs.Logic.{same_name}
 use Rattle.mcs_system.specs.Faults.{reads_of}
-use Rattle.mcs_system.proofs.Members.{among_either, filter_among, among_get, get_below}
-use Rattle.mcs_system.proofs.Sameness.{same_name-is}
+use Rattle.mcs_system.proofs.NameLemmas.{position-there, position-below}
 use Rattle.mcs_language.specs.Written.{WrittenContext, WrittenPlace, WrittenRead, WrittenBridge, WrittenText}
-use Rattle.mcs_language.specs.Saying.{context_in, SaysPlace, SaysBridge, SaysSystem, Each, positive_places, negative_places, names_of}
-use Rattle.mcs_language.proofs.MarkLists.{map-among}
-
--- ---- tests of lists
-pub any-none : {A : Type 0} (p : A → Bool) (xs : List A) → ((x : A) → IsAmong x xs → p x ≡ false) → list_any p xs ≡ false
-any-none p [] none = refl
-any-none p (x ∷ xs) none = rw (none x (inl refl)) (any-none p xs (λ y here. none y (inr here)))
-
--- ---- one by one
-module _ {W X : Type 0} (says : W → X → Type 0) where
-  pub each-length : (ws : List W) (xs : List X) → Each says ws xs → length ws ≡ length xs
-  each-length [] [] e = refl
-  each-length (w ∷ ws) (x ∷ xs) e = ap suc (each-length ws xs e.1)
-  each-length [] (x ∷ xs) e = absurd e
-  each-length (w ∷ ws) [] e = absurd e
-
-  pub each-written : (ws : List W) (xs : List X) → Each says ws xs → (x : X) → IsAmong x xs → (w : W) × IsAmong w ws × says w x
-  each-written [] [] e x h = absurd h
-  each-written (w ∷ ws) (y ∷ ys) e x (inl same) = (w, inl refl, subst (says w) (sym same) e.0)
-  each-written (w ∷ ws) (y ∷ ys) e x (inr later) = let (v, there, says') = each-written ws ys e.1 x later in (v, inr there, says')
-  each-written [] (y ∷ ys) e x h = absurd e
-  each-written (w ∷ ws) [] e x h = absurd e
-
-  pub each-said : (ws : List W) (xs : List X) → Each says ws xs → (w : W) → IsAmong w ws → (x : X) × IsAmong x xs × says w x
-  each-said [] [] e w h = absurd h
-  each-said (v ∷ vs) (x ∷ xs) e w (inl same) = (x, inl refl, subst (λ (z : W). says z x) (sym same) e.0)
-  each-said (v ∷ vs) (x ∷ xs) e w (inr later) = let (y, there, says') = each-said vs xs e.1 w later in (y, inr there, says')
-  each-said [] (y ∷ ys) e w h = absurd e
-  each-said (w' ∷ ws) [] e w h = absurd e
-
--- ---- a context's name and its position
-pub position-there : (n : Name) (names : List Name) (k : ℕ) → position (same_name n) names ≡ Some k → slice_get names k ≡ Some n
-position-there n names k is =
-    let found = position-Some (same_name n) names k [] is in
-    slice_get-get_or names k [] found.0 ∙ ap (λ (x : Name). Some x) (sym (same_name-is n (get_or names k []) found.1))
-
-pub position-below : (n : Name) (names : List Name) (k : ℕ) → position (same_name n) names ≡ Some k → k < length names
-position-below n names k is = (position-Some (same_name n) names k [] is).0
+use Rattle.mcs_language.specs.Saying.{context_in, SaysPlace, SaysBridge, SaysSystem, positive_places, negative_places, names_of}
 
 -- ---- reads
 abbrev place_of : WrittenRead → WrittenPlace
@@ -57,7 +20,7 @@ place_of r = r.place
 
 -- of one sign
 of-sign : (q : WrittenRead → Bool) (rs : List WrittenRead) (p : WrittenPlace) → IsAmong p (map place_of (filter q rs)) → (r : WrittenRead) × IsAmong r rs × (r.place ≡ p)
-of-sign q rs p h = let (r, there, is) = map-among place_of p (filter q rs) h in (r, (filter_among q r rs there).0, sym is)
+of-sign q rs p h = let (r, there, is) = map_among place_of p (filter q rs) h in (r, (filter_among q r rs there).0, sym is)
 
 abbrev IsReadWritten : List Name → WrittenBridge → Read → Type 0
 IsReadWritten names w r = (q : WrittenRead) × IsAmong q w.reads × SaysPlace names q.place r
@@ -70,8 +33,8 @@ read-written names w b r says h = at (among_either r b.pos b.neg h)
     found q (p, there, says') = let (x, in_reads, is) = of-sign q w.reads p there in (x, in_reads, subst (λ (z : WrittenPlace). SaysPlace names z r) (sym is) says')
 
     at : IsAmong r b.pos ⊎ IsAmong r b.neg → IsReadWritten names w r
-    at (inl p) = found (λ (x : WrittenRead). not x.denied) (each-written (SaysPlace names) (positive_places w.reads) b.pos says.pos r p)
-    at (inr n) = found (λ (x : WrittenRead). x.denied) (each-written (SaysPlace names) (negative_places w.reads) b.neg says.neg r n)
+    at (inl p) = found (λ (x : WrittenRead). not x.denied) (among_zip (SaysPlace names) (positive_places w.reads) b.pos says.pos r p)
+    at (inr n) = found (λ (x : WrittenRead). x.denied) (among_zip (SaysPlace names) (negative_places w.reads) b.neg says.neg r n)
 
 -- ---- of a text and the system that it says
 -- the context of a number
@@ -82,9 +45,6 @@ pub record IsContextAt (t : WrittenText) (m : System) (k : ℕ) (n : Name) (x : 
   pub said_at : slice_get m.contexts k ≡ Some (context_in x)
   pub name_at : slice_get (names_of t.contexts) k ≡ Some n
 
-pub some-is : {A : Type 0} {x y : A} → Some x ≡ Some y → x ≡ y
-some-is e = cc
-
 module _ (t : WrittenText) (m : System) (says : SaysSystem t m) where
   pub as-many-contexts : length m.contexts ≡ length t.contexts
   as-many-contexts = ap length says.contexts ∙ length-map t.contexts context_in
@@ -93,17 +53,17 @@ module _ (t : WrittenText) (m : System) (says : SaysSystem t m) where
   as-many-names = length-map t.contexts (λ (c : WrittenContext). c.name)
 
   pub as-many-bridges : length t.bridges ≡ length m.bridges
-  as-many-bridges = each-length (SaysBridge (names_of t.contexts)) t.bridges m.bridges says.bridges
+  as-many-bridges = length_zip (SaysBridge (names_of t.contexts)) t.bridges m.bridges says.bridges
 
   pub context-written : (c : Context) → IsAmong c m.contexts → (x : WrittenContext) × IsAmong x t.contexts × (c ≡ context_in x)
-  context-written c h = map-among context_in c t.contexts (subst (IsAmong c) says.contexts h)
+  context-written c h = map_among context_in c t.contexts (subst (IsAmong c) says.contexts h)
 
   pub bridge-written : (b : Bridge) → IsAmong b m.bridges → (w : WrittenBridge) × IsAmong w t.bridges × SaysBridge (names_of t.contexts) w b
-  bridge-written b h = each-written (SaysBridge (names_of t.contexts)) t.bridges m.bridges says.bridges b h
+  bridge-written b h = among_zip (SaysBridge (names_of t.contexts)) t.bridges m.bridges says.bridges b h
 
   pub context-below : (k : ℕ) → k < length t.contexts → (x : WrittenContext) × IsContextAt t m k x.name x
   context-below k less =
-      let (x, at) = get_below t.contexts k less in (
+      let (x, at) = slice_get_below t.contexts k less in (
         x,
         record {
           there = among_get x t.contexts k at;
@@ -120,5 +80,5 @@ module _ (t : WrittenText) (m : System) (says : SaysSystem t m) where
       let below = position-below n (names_of t.contexts) k is in
       let many = as-many-names in
       let (x, at) = context-below k (omega arith) in
-      let same : x.name ≡ n = some-is (sym at.name_at ∙ position-there n (names_of t.contexts) k is) in
+      let same : x.name ≡ n = same_Some _ _ (sym at.name_at ∙ position-there n (names_of t.contexts) k is) in
       (x, subst (λ (y : Name). IsContextAt t m k y x) same at)

@@ -1,15 +1,16 @@
 -- What one use more leaves of what was seen of the contexts.
-use Rattle.std.proofs.Common.{◌≡◌, ℕ, zero, suc, false, List, [], ◌∷◌, ◌++◌, map, Some, refl, sym, ap, ◌∙◌, subst, inl, inr, ◌⊎◌, slice_get, slice_set}
+use Rattle.std.proofs.Common.{◌≡◌, ℕ, zero, suc, false, List, [], ◌∷◌, ◌++◌, map, Some, refl, sym, ap, ◌∙◌, subst, inl, inr, slice_get, slice_set}
 use Rattle.std.specs.List.{AllByRecursion}
 use Rattle.mcs_base.specs.Listings.{IsAmong}
-use Rattle.mcs_base.proofs.ListingLemmas.{map_among}
-use Rattle.mcs_system.proofs.Members.{among_get}
+use Rattle.mcs_base.proofs.Among.{among_map, among_get}
+use Rattle.mcs_base.proofs.Sums.{count_by_push_no}
+use Rattle.mcs_base.proofs.Lists.{slice_get_kept, slice_get_push_cases}
 use Rattle.mcs_system.specs.Plain.{Name, Formula}
 use Rattle.mcs_language.specs.declared.watch.ContextSeen.{ContextSeen}
 use Rattle.mcs_language.specs.Marks.{Use, SaysProgram, EndsRead, AtomOf}
 use Rattle.mcs_language.specs.Faults.{names_target, begins_default_of, begins_item_of, AreDifferent, NamedRead, WasRead, WasReadInto}
 use Rattle.mcs_language.specs.Watching.{IsSeen}
-use Rattle.mcs_language.proofs.LaterLemmas.{count-later, same-among, atoms-later, inputs-later}
+use Rattle.mcs_language.proofs.LaterLemmas.{same-among, atoms-later, inputs-later}
 
 -- nothing is said of the context
 pub record IsApart (n : Name) (u : Use) : Type 0 where
@@ -28,30 +29,19 @@ pub record IsLonger (before : List Use) (xs more : List NamedRead) : Type 0 wher
 pub not-longer : (before : List Use) (xs : List NamedRead) → IsLonger before xs xs
 not-longer before xs = record { to = λ k r is. is; from = λ t k r is was. is }
 
-get-left : {A : Type 0} (xs : List A) (y : A) (k : ℕ) (x : A) → slice_get xs k ≡ Some x → slice_get (xs ++ y ∷ []) k ≡ Some x
-get-left [] y k x is = cc
-get-left (z ∷ zs) y zero x is = is
-get-left (z ∷ zs) y (suc k) x is = get-left zs y k x is
-
-left-get : {A : Type 0} (xs : List A) (y : A) (k : ℕ) (x : A) → slice_get (xs ++ y ∷ []) k ≡ Some x → (slice_get xs k ≡ Some x) ⊎ (x ≡ y)
-left-get [] y zero x is = inr (cc)
-left-get [] y (suc k) x is = cc
-left-get (z ∷ zs) y zero x is = inl is
-left-get (z ∷ zs) y (suc k) x is = left-get zs y k x is
-
 pub one-longer : (before : List Use) (xs : List NamedRead) (q : NamedRead) → ¬ WasRead before q → IsLonger before xs (xs ++ q ∷ [])
 one-longer before xs q new = record {
-  to = λ k r is. get-left xs q k r is;
-  from = λ t k r is was. elim (left-get xs q k r is) [ inl there ↦ there | inr e ↦ absurd (new (t, subst (WasReadInto before t) e was)) ];
+  to = λ k r is. slice_get_kept xs (q ∷ []) k r is;
+  from = λ t k r is was. elim (slice_get_push_cases xs q k r is) [ inl there ↦ there | inr e ↦ absurd (new (t, subst (WasReadInto before t) e was)) ];
 }
 
 module _ (xs more : List NamedRead) (before : List Use) (u : Use) (longer : IsLonger before xs more) where
   pub seen-later : (c : ContextSeen) → IsApart c.name u → IsSeen xs before c → IsSeen more (before ++ u ∷ []) c
   seen-later c apart s = record {
     program = let same = same-among before u (SaysProgram c.name) apart.program in (λ h. same.0 (s.program.0 h), λ h. s.program.1 (same.1 h));
-    rules = s.rules ∙ sym (count-later (names_target c.name) before u apart.rules);
-    defaults = s.defaults ∙ sym (count-later (begins_default_of c.name) before u apart.defaults);
-    items = s.items ∙ sym (count-later (begins_item_of c.name) before u apart.items);
+    rules = s.rules ∙ sym (count_by_push_no (names_target c.name) before u apart.rules);
+    defaults = s.defaults ∙ sym (count_by_push_no (begins_default_of c.name) before u apart.defaults);
+    items = s.items ∙ sym (count_by_push_no (begins_item_of c.name) before u apart.items);
     atoms = atoms-later before u c.name c.atoms.items apart.atoms s.atoms;
     inputs = inputs-later before u c.name c.inputs xs more apart.reads s.inputs longer.to (longer.from c.name);
     few = s.few;
@@ -68,9 +58,9 @@ module _ (xs more : List NamedRead) (before : List Use) (u : Use) (longer : IsLo
   all-set (d ∷ cs) zero c c' is different apart new all =
       let same : d ≡ c = cc in
       let names : d.name ≡ c.name = ap (λ (s : ContextSeen). s.name) same in
-      (new, all-later cs (λ e h. apart e.name (λ e'. different.0 (subst (λ (n : Name). IsAmong n (map (λ (s : ContextSeen). s.name) cs)) (e' ∙ sym names) (map_among (λ (s : ContextSeen). s.name) e cs h)))) all.1)
+      (new, all-later cs (λ e h. apart e.name (λ e'. different.0 (subst (λ (n : Name). IsAmong n (map (λ (s : ContextSeen). s.name) cs)) (e' ∙ sym names) (among_map (λ (s : ContextSeen). s.name) e cs h)))) all.1)
   all-set (d ∷ cs) (suc k) c c' is different apart new all = (
-    seen-later d (apart d.name (λ e. different.0 (subst (λ (n : Name). IsAmong n (map (λ (s : ContextSeen). s.name) cs)) (sym e) (map_among (λ (s : ContextSeen). s.name) c cs (among_get c cs k is))))) all.0,
+    seen-later d (apart d.name (λ e. different.0 (subst (λ (n : Name). IsAmong n (map (λ (s : ContextSeen). s.name) cs)) (sym e) (among_map (λ (s : ContextSeen). s.name) c cs (among_get c cs k is))))) all.0,
     all-set cs k c c' is different.1 apart new all.1,
   )
 

@@ -3,18 +3,19 @@ use Rattle.std.proofs.Common.{◌≡◌, ℕ, ◌≤◌, List, [], ◌∷◌, �
 use Rattle.std.specs.Prelude.{codes, slice_get}
 use Rattle.std.specs.List.{AllByRecursion}
 use Rattle.std.proofs.lemmas.Bool.{cases_lt}
+use Rattle.std.proofs.lemmas.Option.{same_Some}
 use Rattle.mcs_base.specs.Listings.{IsAmong}
-use Rattle.mcs_base.proofs.ListingLemmas.{all_among}
 use Rattle.mcs_base.specs.Words.{most_name_bytes}
+use Rattle.mcs_base.proofs.Among.{among_right, get_among, flat_map_among}
+use Rattle.mcs_base.proofs.Each.{all_among}
 use Rattle.mcs_system.specs.Plain.{Name}
 use Rattle.mcs_system.specs.Logic.{atoms}
-use Rattle.mcs_system.specs.declared.fault.Limit.TheVariants.{NameBytes}
-use Rattle.mcs_system.proofs.Members.{among_right, flat_map_among, get_among}
+use Rattle.mcs_system.specs.declared.limit.Limit.TheVariants.{NameBytes}
 use Rattle.mcs_language.specs.Written.{Written, WrittenRead, WrittenBridge, IsNameWord}
 use Rattle.mcs_language.specs.Marks.{Token, Use, AtomOf, Mark, formula_in, bridge_marks, uses_of}
 use Rattle.mcs_language.specs.Faults.{Fault, Exceeds, Has}
 use Rattle.mcs_language.specs.TextSteps.{PartRead, Place, AfterRead, PartText, nothing_written, text_step, text_steps, with_read}
-use Rattle.mcs_language.proofs.TextRuns.{some-is, steps-first}
+use Rattle.mcs_language.proofs.TextRuns.{steps-first}
 use Rattle.mcs_language.proofs.TextParts.{sign_mark, open_bridge, so_far, whole_parts, marks_so_far}
 use Rattle.mcs_language.proofs.TextSound.{text-goes-on}
 use Rattle.mcs_language.proofs.TextTheory.{are-taken, nothing-right}
@@ -53,7 +54,7 @@ step-names s t m s' e c a there =
 
 steps-name : (s : PartText) (ts : List Token) (ms : List Mark) (s' : PartText) → text_steps s ts ≡ Some (ms, s') → AllByRecursion NamesAtoms ms
 steps-name s [] ms s' e =
-    let same : ([], s) ≡ (ms, s') = some-is e in
+    let same : ([], s) ≡ (ms, s') = same_Some _ _ e in
     subst (λ (p : List Mark × PartText). AllByRecursion NamesAtoms p.0) same tt
 steps-name s (t ∷ ts) ms s' e =
     let d = steps-first s t ts ms s' e in

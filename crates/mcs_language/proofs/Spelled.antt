@@ -1,15 +1,14 @@
 -- Which text has exactly the tokens of marks, where it is followed by another.
-use Rattle.std.proofs.Common.{◌≡◌, ◌≢◌, ℕ, ◌<◌, ◌≤◌, false, IsTrue, List, [], ◌∷◌, ◌++◌, length, refl, sym, ap, ap₂, ◌∙◌, subst, inl, inr, arith, true≢false, append-nil, le_trans}
-use Rattle.std.proofs.lemmas.List.Folds.{list_all-append}
-use Rattle.std.specs.List.{list_all, AllByRecursion}
-use Rattle.mcs_base.specs.Words.{is_letter, is_word_byte, is_word, most_name_bytes}
+use Rattle.std.proofs.Common.{◌≡◌, ◌≢◌, ℕ, ◌<◌, ◌≤◌, IsTrue, List, [], ◌∷◌, ◌++◌, codes, length, refl, sym, ap, ap₂, ◌∙◌, subst, inl, inr, arith, true≢false, append-nil, le_trans}
+use Rattle.std.specs.List.{AllByRecursion}
+use Rattle.mcs_base.specs.Words.{is_word, most_name_bytes}
+use Rattle.mcs_base.proofs.Each.{all_append}
+use Rattle.mcs_base.proofs.WordLemmas.{EndsWord, longer_word, past_word, word_begins}
 use Rattle.mcs_tokens.specs.Spelling.{sign_bytes}
 use Rattle.mcs_tokens.specs.Tokens.{is_separator, BeginsWith, IsToken}
 use Rattle.mcs_tokens.specs.declared.sign.Sign.{Sign}
 use Rattle.mcs_tokens.specs.declared.sign.Sign.TheVariants as signs
-use Rattle.mcs_tokens.proofs.TokenLemmas.{and_first, and_second}
 use Rattle.mcs_language.specs.Marks.{Token, Use, Mark, mark, tokens_of, with_first, with_last}
-use Rattle.mcs_language.proofs.CanonicalGrammar.{all-append}
 use Rattle.mcs_language.proofs.Pieces.{Piece, Part, Blank, spelled, tokens_in, AreApart, spelled-append, tokens-append, apart-append, HasTokens, tokens-of-pieces}
 
 -- no longer than a name may be
@@ -35,7 +34,7 @@ beside a b ms ns next h k = record {
   text_is = spelled-append h.pieces k.pieces ∙ ap₂ (λ x y. x ++ y) h.text_is k.text_is;
   tokens_are = tokens-append h.pieces k.pieces ∙ ap₂ (λ x y. x ++ y) h.tokens_are k.tokens_are ∙ sym (tokens-both ms ns);
   apart = apart-append h.pieces k.pieces next (subst (λ l. AreApart h.pieces (l ++ next)) (sym k.text_is) h.apart) k.apart;
-  short = subst AreShort (sym (tokens-both ms ns)) (all-append (λ (t : Token). length t ≤ most_name_bytes) (tokens_of ms) (tokens_of ns) h.short k.short);
+  short = subst AreShort (sym (tokens-both ms ns)) (all_append (λ (t : Token). length t ≤ most_name_bytes) (tokens_of ms) (tokens_of ns) h.short k.short);
 }
 
 pub text-as : (a b : List ℕ) (ms : List Mark) (next : List ℕ) → a ≡ b → IsSpelled a ms next → IsSpelled b ms next
@@ -62,31 +61,10 @@ pub tokens-of-text : (bytes : List ℕ) (ms : List Mark) → IsSpelled bytes ms 
 tokens-of-text bytes ms h = subst (λ ts. HasTokens bytes 0 ts) h.tokens_are (subst (λ t. HasTokens t 0 (tokens_in h.pieces)) h.text_is (tokens-of-pieces h.pieces h.apart))
 
 -- ---- words
--- no word goes on
-abbrev pub EndsWord : List ℕ → Type 0
-EndsWord [] = Unit {0}
-EndsWord (b ∷ bs) = is_word_byte b ≡ false
-
-last-byte : (t : List ℕ) (b : ℕ) → IsTrue (list_all is_word_byte (t ++ b ∷ [])) → IsTrue (is_word_byte b)
-last-byte t b h =
-    let last : IsTrue (list_all is_word_byte (b ∷ [])) = and_second (list_all is_word_byte t) _ (sym (list_all-append is_word_byte t (b ∷ [])) ∙ h) in
-    and_first (is_word_byte b) _ last
-
-longer-word : (t : List ℕ) (b : ℕ) → IsTrue (is_word t) → IsTrue (is_word (t ++ b ∷ [])) → IsTrue (is_word_byte b)
-longer-word [] b h k = absurd (true≢false (sym h))
-longer-word (x ∷ xs) b h k = last-byte xs b (and_second (is_letter x) _ k)
-
-ended : (b : ℕ) (bs next : List ℕ) → next ≡ b ∷ bs → EndsWord next → is_word_byte b ≡ false
-ended b bs next e h = let h' : EndsWord (b ∷ bs) = subst EndsWord e h in h'
-
-some-word : (t : List ℕ) → IsTrue (is_word t) → 0 < length t
-some-word [] h = absurd (true≢false (sym h))
-some-word (b ∷ bs) h = omega arith
-
 pub word-token : (t : Token) (next : List ℕ) → IsTrue (is_word t) → EndsWord next → IsToken t next
 word-token t next word ends = inl (record {
   word = word;
-  whole = λ b bs e k. true≢false (sym (longer-word t b word k) ∙ ended b bs next e ends);
+  whole = λ b bs e k. true≢false (sym (longer_word t b word k) ∙ past_word b bs next e ends);
 })
 
 pub one-word : (t : Token) (uses : List Use) (next : List ℕ) → IsTrue (is_word t) → length t ≤ most_name_bytes → EndsWord next → IsSpelled t (mark t uses ∷ []) next
@@ -94,23 +72,18 @@ one-word t uses next word short ends = record {
   pieces = Part t ∷ [];
   text_is = append-nil t;
   tokens_are = refl;
-  apart = (some-word t word, word-token t next word ends, tt);
+  apart = ((word_begins t word).0, word-token t next word ends, tt);
   short = (short, tt);
 }
 
 -- ---- signs
--- the byte does not begin with a hyphen
-abbrev pub NoHyphen : List ℕ → Type 0
-NoHyphen [] = Unit {0}
-NoHyphen (b ∷ bs) = b ≢ 45
+-- the text begins with another byte
+pub no-hyphen : (b : ℕ) (bs : List ℕ) → b ≢ 45 → ¬ BeginsWith (b ∷ bs) (codes "-")
+no-hyphen b bs other k = other (let e : b ∷ bs ≡ 45 ∷ k.0 = k.1 in cc)
 
 -- a sign of one byte, with which no longer one begins
-longest-one : (b : ℕ) (next : List ℕ) → b ≢ 45 → b ≢ 60 → (b ≡ 58 → NoHyphen next) → (s : Sign) → BeginsWith (b ∷ next) (sign_bytes s) → length (sign_bytes s) ≤ 1
-longest-one b next hyphen angle colon signs.If h = absurd (at next (colon (let e : b ∷ next ≡ 58 ∷ 45 ∷ h.0 = h.1 in cc)) (let e : b ∷ next ≡ 58 ∷ 45 ∷ h.0 = h.1 in cc))
-  where
-    at : (l : List ℕ) → NoHyphen l → l ≡ 45 ∷ h.0 → ⊥
-    at [] other e = let e' : [] ≡ 45 ∷ h.0 = e in cc
-    at (x ∷ xs) other e = other (cc)
+longest-one : (b : ℕ) (next : List ℕ) → b ≢ 45 → b ≢ 60 → (b ≡ 58 → ¬ BeginsWith next (codes "-")) → (s : Sign) → BeginsWith (b ∷ next) (sign_bytes s) → length (sign_bytes s) ≤ 1
+longest-one b next hyphen angle colon signs.If h = let e : b ∷ next ≡ 58 ∷ 45 ∷ h.0 = h.1 in absurd (colon (cc) (h.0, cc))
 longest-one b next hyphen angle colon signs.Arrow h = absurd (hyphen (let e : b ∷ next ≡ 45 ∷ 62 ∷ h.0 = h.1 in cc))
 longest-one b next hyphen angle colon signs.DoubleArrow h = absurd (angle (let e : b ∷ next ≡ 60 ∷ 45 ∷ 62 ∷ h.0 = h.1 in cc))
 longest-one b next hyphen angle colon s h = omega arith
@@ -126,10 +99,10 @@ at-most-three s = omega arith
 
 -- after a colon that is no part of a longer sign
 abbrev pub MayFollow : Sign → List ℕ → Type 0
-MayFollow signs.Colon next = NoHyphen next
+MayFollow signs.Colon next = ¬ BeginsWith next (codes "-")
 MayFollow s next = Unit {0}
 
-one-byte : (b : ℕ) (next : List ℕ) (s : Sign) → b ∷ [] ≡ sign_bytes s → b ≢ 45 → b ≢ 60 → (b ≡ 58 → NoHyphen next) → IsToken (b ∷ []) next
+one-byte : (b : ℕ) (next : List ℕ) (s : Sign) → b ∷ [] ≡ sign_bytes s → b ≢ 45 → b ≢ 60 → (b ≡ 58 → ¬ BeginsWith next (codes "-")) → IsToken (b ∷ []) next
 one-byte b next s e hyphen angle colon = inr (inl (record { sign = s; spelled = e; longest = longest-one b next hyphen angle colon }))
 
 pub sign-token : (s : Sign) (next : List ℕ) → MayFollow s next → IsToken (sign_bytes s) next

@@ -1,23 +1,26 @@
 -- The text of a bridge rule, and that of a system, has the tokens of what is written.
 use Rattle.std.proofs.Common.{◌≡◌, ℕ, Bool, true, false, ◌||◌, List, [], ◌∷◌, ◌++◌, codes, map, slice_get, refl, ap, append_assoc, arith, true≢false}
 use Rattle.std.specs.List.{AllByRecursion, flat_map, list_any}
+use Rattle.mcs_base.proofs.Each.{all_both, all_from_no_any}
+use Rattle.mcs_base.proofs.WordLemmas.{EndsWord, ends_regrouped}
 use Rattle.mcs_system.specs.Faults.{has_unjustified, IsValid}
 use Rattle.mcs_system.specs.Plain.{Name, Context, Read, Bridge, System}
-use Rattle.mcs_system.specs.Texts.{primary, separated, further, read_text, name_of_context}
-use Rattle.mcs_system.proofs.ValidLemmas.{all_from_none, tests_pass}
+use Rattle.mcs_system.specs.Texts.{primary, belief_text, name_of_context}
+use Rattle.mcs_text.specs.Separated.{separated, further}
+use Rattle.mcs_system.proofs.ValidLemmas.{tests_pass}
 use Rattle.mcs_tokens.specs.declared.sign.Sign.TheVariants as signs
 use Rattle.mcs_language.specs.Canonical.{denied, context_text, head_of, if_word, bridge_text, canonical_text}
 use Rattle.mcs_language.specs.Marks.{Use, BeginsBridge, NamesBridge, NamesTarget, NamesSource, BeginsBelief, EndsRead, Mark, mark, formula_in, with_first, with_last, whole_marks, place_marks, read_marks, further_read, reads_marks, context_marks, bridge_marks, text_marks}
-use Rattle.mcs_language.specs.Naming.{IsNamedContext, IsNamed}
-use Rattle.mcs_language.proofs.CanonicalGrammar.{all-both, IsPlaced, IsPlacedBridge, placed-name, all-placed}
+use Rattle.mcs_system.specs.Naming.{IsNamedContext, IsNamed}
+use Rattle.mcs_language.proofs.CanonicalGrammar.{IsPlaced, IsPlacedBridge, placed-name, all-placed}
 use Rattle.mcs_language.proofs.CanonicalWritten.{primary_written, place_written, read_written, reads_written, bridge_written, context_written, canonical_written}
-use Rattle.mcs_language.proofs.Spelled.{IsSpelled, beside, text-as, marks-as, first-tokens, last-tokens, nothing, EndsWord, one-sign, blank, sign-blank, word-space}
+use Rattle.mcs_language.proofs.Spelled.{no-hyphen, IsSpelled, beside, text-as, marks-as, first-tokens, last-tokens, nothing, one-sign, blank, sign-blank, word-space}
 use Rattle.mcs_language.proofs.SpelledFormulas.{one-name, primary-no-hyphen, primary-spelled}
-use Rattle.mcs_language.proofs.SpelledContexts.{after-comma, further-ends, ends-after, context-spelled}
+use Rattle.mcs_language.proofs.SpelledContexts.{after-comma, further-ends, context-spelled}
 
 -- ---- places
 module _ (m : System) (named : IsNamed m) where
-  place-spelled : (role : Use) (r : Read) (next : List ℕ) → IsPlaced m r → EndsWord next → IsSpelled (read_text m r) (place_marks role (place_written m r)) next
+  place-spelled : (role : Use) (r : Read) (next : List ℕ) → IsPlaced m r → EndsWord next → IsSpelled (belief_text m r) (place_marks role (place_written m r)) next
   place-spelled role r next h ends =
       let c = name_of_context (slice_get m.contexts r.context) in
       let begins = BeginsBelief c ∷ [] in
@@ -29,31 +32,31 @@ module _ (m : System) (named : IsNamed m) where
 
   -- ---- reads
   module _ (target : Name) where
-    read-spelled : (r : Read) (next : List ℕ) → IsPlaced m r → EndsWord next → IsSpelled (read_text m r) (read_marks target (read_written m false r)) next
+    read-spelled : (r : Read) (next : List ℕ) → IsPlaced m r → EndsWord next → IsSpelled (belief_text m r) (read_marks target (read_written m false r)) next
     read-spelled r next h ends =
         let p = place_written m r in
         let place = place_marks (NamesSource p.context) p in
         let last = EndsRead target p.context (formula_in p.belief) ∷ [] in
-        marks-as (read_text m r) place (with_last last place) next (last-tokens last place) (place-spelled (NamesSource p.context) r next h ends)
+        marks-as (belief_text m r) place (with_last last place) next (last-tokens last place) (place-spelled (NamesSource p.context) r next h ends)
 
-    denied-spelled : (r : Read) (next : List ℕ) → IsPlaced m r → EndsWord next → IsSpelled (denied (read_text m r)) (read_marks target (read_written m true r)) next
-    denied-spelled r next h ends = beside (codes "not ") (read_text m r) (mark (codes "not") [] ∷ []) (read_marks target (read_written m false r)) next
-        (word-space (codes "not") [] (read_text m r ++ next) refl (omega arith)) (read-spelled r next h ends)
+    denied-spelled : (r : Read) (next : List ℕ) → IsPlaced m r → EndsWord next → IsSpelled (denied (belief_text m r)) (read_marks target (read_written m true r)) next
+    denied-spelled r next h ends = beside (codes "not ") (belief_text m r) (mark (codes "not") [] ∷ []) (read_marks target (read_written m false r)) next
+        (word-space (codes "not") [] (belief_text m r ++ next) refl (omega arith)) (read-spelled r next h ends)
 
     abbrev texts : List Read → List Read → List (List ℕ)
-    texts pos neg = map (read_text m) pos ++ map (λ (r : Read). denied (read_text m r)) neg
+    texts pos neg = map (belief_text m) pos ++ map (λ (r : Read). denied (belief_text m r)) neg
 
     further-reads : (pos neg : List Read) (next : List ℕ) → AllByRecursion (IsPlaced m) pos → AllByRecursion (IsPlaced m) neg → EndsWord next → IsSpelled (further (texts pos neg)) (flat_map (further_read target) (reads_written m pos neg)) next
     further-reads [] [] next h k ends = nothing next
     further-reads [] (r ∷ rs) next h k ends =
         let rest = further (texts [] rs) in
-        beside (codes ", " ++ denied (read_text m r)) rest (further_read target (read_written m true r)) (flat_map (further_read target) (reads_written m [] rs)) next
-        (after-comma (denied (read_text m r)) (read_marks target (read_written m true r)) (rest ++ next) (denied-spelled r (rest ++ next) k.0 (further-ends (texts [] rs) next ends)))
+        beside (codes ", " ++ denied (belief_text m r)) rest (further_read target (read_written m true r)) (flat_map (further_read target) (reads_written m [] rs)) next
+        (after-comma (denied (belief_text m r)) (read_marks target (read_written m true r)) (rest ++ next) (denied-spelled r (rest ++ next) k.0 (further-ends (texts [] rs) next ends)))
         (further-reads [] rs next h k.1 ends)
     further-reads (r ∷ rs) neg next h k ends =
         let rest = further (texts rs neg) in
-        beside (codes ", " ++ read_text m r) rest (further_read target (read_written m false r)) (flat_map (further_read target) (reads_written m rs neg)) next
-        (after-comma (read_text m r) (read_marks target (read_written m false r)) (rest ++ next) (read-spelled r (rest ++ next) h.0 (further-ends (texts rs neg) next ends)))
+        beside (codes ", " ++ belief_text m r) rest (further_read target (read_written m false r)) (flat_map (further_read target) (reads_written m rs neg)) next
+        (after-comma (belief_text m r) (read_marks target (read_written m false r)) (rest ++ next) (read-spelled r (rest ++ next) h.0 (further-ends (texts rs neg) next ends)))
         (further-reads rs neg next h.1 k ends)
 
     after-if : (a : List ℕ) (ms : List Mark) (next : List ℕ) → IsSpelled a ms next → IsSpelled (codes " if " ++ a) (mark (codes "if") [] ∷ ms) next
@@ -65,13 +68,13 @@ module _ (m : System) (named : IsNamed m) where
     reads-spelled [] [] next h k ends = nothing next
     reads-spelled [] (r ∷ rs) next h k ends =
         let rest = further (texts [] rs) in
-        after-if (denied (read_text m r) ++ rest) (read_marks target (read_written m true r) ++ flat_map (further_read target) (reads_written m [] rs)) next
-        (beside (denied (read_text m r)) rest (read_marks target (read_written m true r)) (flat_map (further_read target) (reads_written m [] rs)) next
+        after-if (denied (belief_text m r) ++ rest) (read_marks target (read_written m true r) ++ flat_map (further_read target) (reads_written m [] rs)) next
+        (beside (denied (belief_text m r)) rest (read_marks target (read_written m true r)) (flat_map (further_read target) (reads_written m [] rs)) next
         (denied-spelled r (rest ++ next) k.0 (further-ends (texts [] rs) next ends)) (further-reads [] rs next h k.1 ends))
     reads-spelled (r ∷ rs) neg next h k ends =
         let rest = further (texts rs neg) in
-        after-if (read_text m r ++ rest) (read_marks target (read_written m false r) ++ flat_map (further_read target) (reads_written m rs neg)) next
-        (beside (read_text m r) rest (read_marks target (read_written m false r)) (flat_map (further_read target) (reads_written m rs neg)) next
+        after-if (belief_text m r ++ rest) (read_marks target (read_written m false r) ++ flat_map (further_read target) (reads_written m rs neg)) next
+        (beside (belief_text m r) rest (read_marks target (read_written m false r)) (flat_map (further_read target) (reads_written m rs neg)) next
         (read-spelled r (rest ++ next) h.0 (further-ends (texts rs neg) next ends)) (further-reads rs neg next h.1 k ends))
 
     reads-end : (pos neg : List Read) (next : List ℕ) → EndsWord next → EndsWord ((if_word (pos ++ neg) ++ separated (texts pos neg)) ++ next)
@@ -89,12 +92,12 @@ module _ (m : System) (named : IsNamed m) where
       let reading = reads_marks target w.reads in
       let end = codes ".\n" ++ next in
       let tail = beside (word ++ reads) (codes ".\n") reading (mark (codes ".") [] ∷ []) next (reads-spelled target b.pos b.neg end h.pos h.neg refl) (sign-blank signs.Period [] 10 next refl tt) in
-      let head = beside (read_text m (head_of b)) ((word ++ reads) ++ codes ".\n") (place_marks (NamesTarget target) w.head) (reading ++ mark (codes ".") [] ∷ []) next
-      (place-spelled (NamesTarget target) (head_of b) _ h.head (ends-after (word ++ reads) (codes ".\n") next (reads-end target b.pos b.neg end refl))) tail in
-      let same : read_text m (head_of b) ++ ((word ++ reads) ++ codes ".\n") ≡ read_text m (head_of b) ++ (word ++ (reads ++ codes ".\n")) = ap (λ l. read_text m (head_of b) ++ l) (append_assoc word reads (codes ".\n")) in
-      let body = read_text m (head_of b) ++ (word ++ (reads ++ codes ".\n")) in
+      let head = beside (belief_text m (head_of b)) ((word ++ reads) ++ codes ".\n") (place_marks (NamesTarget target) w.head) (reading ++ mark (codes ".") [] ∷ []) next
+      (place-spelled (NamesTarget target) (head_of b) _ h.head (ends_regrouped (word ++ reads) (codes ".\n") next (reads-end target b.pos b.neg end refl))) tail in
+      let same : belief_text m (head_of b) ++ ((word ++ reads) ++ codes ".\n") ≡ belief_text m (head_of b) ++ (word ++ (reads ++ codes ".\n")) = ap (λ l. belief_text m (head_of b) ++ l) (append_assoc word reads (codes ".\n")) in
+      let body = belief_text m (head_of b) ++ (word ++ (reads ++ codes ".\n")) in
       let body_marks = place_marks (NamesTarget target) w.head ++ (reading ++ mark (codes ".") [] ∷ []) in
-      let colon = beside (codes ": ") body (mark (codes ":") [] ∷ []) body_marks next (sign-blank signs.Colon [] 32 (body ++ next) refl (λ e. omega arith)) (text-as _ body body_marks next same head) in
+      let colon = beside (codes ": ") body (mark (codes ":") [] ∷ []) body_marks next (sign-blank signs.Colon [] 32 (body ++ next) refl (no-hyphen 32 _ (λ e. omega arith))) (text-as _ body body_marks next same head) in
       let name = beside b.name (codes ": " ++ body) (mark b.name (NamesBridge b.name ∷ []) ∷ []) (mark (codes ":") [] ∷ body_marks) next (one-name b.name (NamesBridge b.name ∷ []) _ h.name refl) colon in
       beside (codes "bridge ") (b.name ++ (codes ": " ++ body)) (mark (codes "bridge") (BeginsBridge ∷ []) ∷ []) (mark b.name (NamesBridge b.name ∷ []) ∷ mark (codes ":") [] ∷ body_marks) next (word-space (codes "bridge") (BeginsBridge ∷ []) _ refl (omega arith)) name
 
@@ -111,7 +114,7 @@ IsFit c = IsNamedContext c × (has_unjustified c.kb ≡ false)
 all-fit : (m : System) → IsNamed m → IsValid m → AllByRecursion IsFit m.contexts
 all-fit m named valid =
     let Fits : Context → Type 0 = λ c. has_unjustified c.kb ≡ false in
-    all-both IsNamedContext Fits m.contexts named.contexts (all_from_none (λ (c : Context). has_unjustified c.kb) Fits (λ c e. e) m.contexts (first (list_any (λ (c : Context). has_unjustified c.kb) m.contexts) _ (tests_pass m valid).fitting))
+    all_both IsNamedContext Fits m.contexts named.contexts (all_from_no_any Fits (λ (c : Context). has_unjustified c.kb) (λ c e. e) m.contexts (first (list_any (λ (c : Context). has_unjustified c.kb) m.contexts) _ (tests_pass m valid).fitting))
   where
     first : (a b : Bool) → (a || b) ≡ false → a ≡ false
     first true b e = absurd (true≢false e)

@@ -1,19 +1,19 @@
 -- The text of a context has the tokens of what is written.
-use Rattle.std.proofs.Common.{◌≡◌, ℕ, ◌+◌, ◌≤◌, true, false, nat_eq, true≢false, IsTrue, List, [], ◌∷◌, ◌++◌, codes, map, length, refl, sym, append_assoc, subst, arith}
+use Rattle.std.proofs.Common.{◌≡◌, ℕ, ◌+◌, ◌≤◌, true, false, nat_eq, true≢false, IsTrue, List, [], ◌∷◌, ◌++◌, codes, map, length, refl, sym, append_assoc, arith}
 use Rattle.std.specs.List.{AllByRecursion, flat_map}
 use Rattle.mcs_base.specs.Words.{is_word, most_name_bytes}
+use Rattle.mcs_base.proofs.Each.{all_both, all_from_no_any}
+use Rattle.mcs_base.proofs.WordLemmas.{EndsWord, ends_regrouped}
 use Rattle.mcs_system.specs.Faults.{is_unjustified, has_unjustified}
 use Rattle.mcs_system.specs.Plain.{Name, Formula, Default, ProgramRule, Item, Kb, Context}
 use Rattle.mcs_system.specs.Plain as plain
-use Rattle.mcs_system.specs.Texts.{separated, further}
-use Rattle.mcs_system.proofs.ValidLemmas.{all_from_none}
+use Rattle.mcs_text.specs.Separated.{separated, further}
 use Rattle.mcs_tokens.specs.declared.sign.Sign.TheVariants as signs
 use Rattle.mcs_language.specs.Canonical.{formula_text, theory_item_text, denied, further_by, listed, rule_sign, program_rule_text, kind_word, item_line, items_text, context_text}
 use Rattle.mcs_language.specs.Marks.{Use, AtomOf, BeginsContext, NamesContext, SaysProgram, BeginsItem, BeginsDefault, IsNumber, Mark, mark, with_first, whole_marks, after_sign, item_marks, atom_mark, further_heads, head_marks, optional, literal_marks, further_literals, body_marks, rule_marks, ended, kb_marks, context_marks}
-use Rattle.mcs_language.specs.Naming.{IsName, AreNames, IsNamedFormula, IsNamedDefault, IsNamedItem, IsNamedRule, IsNamedKb, IsNamedContext}
-use Rattle.mcs_language.proofs.CanonicalGrammar.{all-both}
+use Rattle.mcs_system.specs.Naming.{IsName, AreNames, IsNamedFormula, IsNamedDefault, IsNamedItem, IsNamedRule, IsNamedKb, IsNamedContext}
 use Rattle.mcs_language.proofs.CanonicalWritten.{formula_written, with_justs, item_written, literal_written, body_written, has_sign, rule_written, kb_written, context_written}
-use Rattle.mcs_language.proofs.Spelled.{IsSpelled, beside, text-as, marks-as, first-tokens, nothing, EndsWord, one-word, one-sign, blank, sign-blank, blank-sign-blank, word-space}
+use Rattle.mcs_language.proofs.Spelled.{no-hyphen, IsSpelled, beside, text-as, marks-as, first-tokens, nothing, one-word, one-sign, blank, sign-blank, blank-sign-blank, word-space}
 use Rattle.mcs_language.proofs.SpelledFormulas.{one-name, formula-spelled}
 
 -- a formula on its own
@@ -31,9 +31,6 @@ after-comma a ms next h = beside (codes ", ") a (mark (codes ",") [] ∷ []) ms 
 pub further-ends : (ts : List (List ℕ)) (next : List ℕ) → EndsWord next → EndsWord (further ts ++ next)
 further-ends [] next ends = ends
 further-ends (t ∷ ts) next ends = refl
-
-pub ends-after : (a b next : List ℕ) → EndsWord (a ++ (b ++ next)) → EndsWord ((a ++ b) ++ next)
-ends-after a b next h = subst EndsWord (sym (append_assoc a b next)) h
 
 -- ---- defaults
 further-justs : (c : Name) (js : List Formula) (next : List ℕ) → AllByRecursion IsNamedFormula js → EndsWord next → IsSpelled (further (map formula_text js)) (flat_map (after_sign (codes ",") c) (map formula_written js)) next
@@ -55,10 +52,10 @@ justs-spelled c d j js next h k ends =
     (blank-sign-blank signs.Slash [] 32 (formula_text d.conclusion ++ next) refl tt) (alone c d.conclusion next h.conclusion ends) in
     let more : IsSpelled (rest ++ end) (rest_marks ++ end_marks) next = beside rest end rest_marks end_marks next (further-justs c js (end ++ next) k.1 refl) last in
     let all : IsSpelled (formula_text j ++ (rest ++ end)) (whole_marks c (formula_written j) ++ (rest_marks ++ end_marks)) next =
-    beside (formula_text j) (rest ++ end) (whole_marks c (formula_written j)) (rest_marks ++ end_marks) next (alone c j ((rest ++ end) ++ next) k.0 (ends-after rest end next (further-ends (map formula_text js) (end ++ next) refl))) more in
+    beside (formula_text j) (rest ++ end) (whole_marks c (formula_written j)) (rest_marks ++ end_marks) next (alone c j ((rest ++ end) ++ next) k.0 (ends_regrouped rest end next (further-ends (map formula_text js) (end ++ next) refl))) more in
     let same : formula_text j ++ (rest ++ end) ≡ separated (map formula_text (j ∷ js)) ++ end = sym (append_assoc (formula_text j) rest end) in
     let colon = beside (codes " : ") (separated (map formula_text (j ∷ js)) ++ end) (mark (codes ":") (BeginsDefault c ∷ []) ∷ []) (whole_marks c (formula_written j) ++ (rest_marks ++ end_marks)) next
-    (blank-sign-blank signs.Colon (BeginsDefault c ∷ []) 32 ((separated (map formula_text (j ∷ js)) ++ end) ++ next) refl (λ e. omega arith)) (text-as _ _ _ next same all) in
+    (blank-sign-blank signs.Colon (BeginsDefault c ∷ []) 32 ((separated (map formula_text (j ∷ js)) ++ end) ++ next) refl (no-hyphen 32 _ (λ e. omega arith))) (text-as _ _ _ next same all) in
     beside (formula_text d.pre) (codes " : " ++ (separated (map formula_text (j ∷ js)) ++ end)) (whole_marks c (formula_written d.pre)) (mark (codes ":") (BeginsDefault c ∷ []) ∷ (whole_marks c (formula_written j) ++ (rest_marks ++ end_marks))) next
     (alone c d.pre _ h.pre refl) colon
 
@@ -194,7 +191,7 @@ kb-spelled c (plain.Classical formulas) next h some = braces-spelled (codes "cla
     (lines-spelled c formula_text formula_written (whole_marks c) IsNamedFormula (alone c) formulas (codes "}\n" ++ next) h)
 kb-spelled c (plain.DefaultTheory items) next h some = braces-spelled (codes "default") [] _ _ next refl (omega arith)
     (lines-spelled c theory_item_text item_written (item_marks c) IsFit (λ i next' f ends. item-spelled c i next' f.0 f.1 ends) items (codes "}\n" ++ next)
-    (all-both IsNamedItem (λ i. is_unjustified i ≡ false) items h (all_from_none is_unjustified (λ i. is_unjustified i ≡ false) (λ i e. e) items some)))
+    (all_both IsNamedItem (λ i. is_unjustified i ≡ false) items h (all_from_no_any (λ i. is_unjustified i ≡ false) is_unjustified (λ i e. e) items some)))
 kb-spelled c (plain.Program rules) next h some = braces-spelled (codes "program") (SaysProgram c ∷ []) _ _ next refl (omega arith)
     (lines-spelled c program_rule_text rule_written (rule_marks c) IsNamedRule (rule-spelled c) rules (codes "}\n" ++ next) h)
 

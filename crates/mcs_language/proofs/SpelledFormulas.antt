@@ -1,41 +1,36 @@
 -- The text of a formula has the tokens of what is written.
-use Rattle.std.proofs.Common.{◌≡◌, ℕ, ◌+◌, ◌≤◌, not, nat_le, length, IsTrue, List, [], ◌∷◌, ◌++◌, codes, refl, sym, ap, ◌∙◌, true≢false, append_assoc, arith}
-use Rattle.std.proofs.lemmas.Bool.Decides.{nat_tests}
-use Rattle.mcs_base.specs.Words.{is_letter, is_word, is_reserved, most_name_bytes}
+use Rattle.std.proofs.Common.{◌≡◌, ℕ, ◌+◌, List, [], ◌∷◌, ◌++◌, codes, refl, sym, ap, ◌∙◌, true≢false, append_assoc, arith}
+use Rattle.std.proofs.lemmas.Bool.{and_parts}
+use Rattle.mcs_base.specs.Words.{is_letter}
+use Rattle.mcs_base.proofs.WordLemmas.{EndsWord, name_is_word, name_is_short}
 use Rattle.mcs_system.specs.Plain.{Name, Formula, Truth, Falsity, Atom, Not, And, Or, Implies, Iff}
 use Rattle.mcs_system.specs.Texts.{primary, in_parentheses}
 use Rattle.mcs_tokens.specs.Spelling.{sign_bytes}
+use Rattle.mcs_tokens.specs.Tokens.{BeginsWith}
 use Rattle.mcs_tokens.specs.declared.sign.Sign.{Sign}
 use Rattle.mcs_tokens.specs.declared.sign.Sign.TheVariants as signs
-use Rattle.mcs_tokens.proofs.TokenLemmas.{and_first, and_second}
 use Rattle.mcs_language.specs.Canonical.{formula_text}
 use Rattle.mcs_language.specs.Marks.{Use, AtomOf, IsNumber, OpensWithin, Mark, mark, size_of, formula_marks}
-use Rattle.mcs_language.specs.Naming.{IsName, IsNamedFormula}
+use Rattle.mcs_system.specs.Naming.{IsName, IsNamedFormula}
 use Rattle.mcs_language.proofs.CanonicalWritten.{primary_written, formula_written}
-use Rattle.mcs_language.proofs.Spelled.{IsSpelled, beside, text-as, EndsWord, one-word, NoHyphen, MayFollow, a_sign, one-sign, blank-sign-blank}
-
-name-is-word : (n : Name) → IsName n → IsTrue (is_word n)
-name-is-word n h = and_first (is_word n) _ h
-
-name-is-short : (n : Name) → IsName n → length n ≤ most_name_bytes
-name-is-short n h = let short : IsTrue (nat_le (length n) most_name_bytes) = and_second (not (is_reserved n)) _ (and_second (is_word n) _ h) in grind (arith, nat_tests)
+use Rattle.mcs_language.proofs.Spelled.{IsSpelled, beside, text-as, one-word, no-hyphen, MayFollow, a_sign, one-sign, blank-sign-blank}
 
 pub one-name : (n : Name) (uses : List Use) (next : List ℕ) → IsName n → EndsWord next → IsSpelled n (mark n uses ∷ []) next
-one-name n uses next h ends = one-word n uses next (name-is-word n h) (name-is-short n h) ends
+one-name n uses next h ends = one-word n uses next (name_is_word n h) (name_is_short n h) ends
 
-name-no-hyphen : (n : Name) (next : List ℕ) → IsName n → NoHyphen (n ++ next)
-name-no-hyphen [] next h = absurd (true≢false (sym (name-is-word [] h)))
-name-no-hyphen (b ∷ bs) next h = λ e. true≢false (sym (and_first (is_letter b) _ (name-is-word (b ∷ bs) h)) ∙ ap is_letter e)
+name-no-hyphen : (n : Name) (next : List ℕ) → IsName n → ¬ BeginsWith (n ++ next) (codes "-")
+name-no-hyphen [] next h = absurd (true≢false (sym (name_is_word [] h)))
+name-no-hyphen (b ∷ bs) next h = no-hyphen b _ (λ e. true≢false (sym ((and_parts (is_letter b) _ (name_is_word (b ∷ bs) h)).0) ∙ ap is_letter e))
 
-pub primary-no-hyphen : (f : Formula) (next : List ℕ) → IsNamedFormula f → NoHyphen (primary f ++ next)
-primary-no-hyphen Truth next h = λ e. omega arith
-primary-no-hyphen Falsity next h = λ e. omega arith
+pub primary-no-hyphen : (f : Formula) (next : List ℕ) → IsNamedFormula f → ¬ BeginsWith (primary f ++ next) (codes "-")
+primary-no-hyphen Truth next h = no-hyphen 116 _ (λ e. omega arith)
+primary-no-hyphen Falsity next h = no-hyphen 102 _ (λ e. omega arith)
 primary-no-hyphen (Atom n) next h = name-no-hyphen n next h
-primary-no-hyphen (Not f) next h = λ e. omega arith
-primary-no-hyphen (And f g) next h = λ e. omega arith
-primary-no-hyphen (Or f g) next h = λ e. omega arith
-primary-no-hyphen (Implies f g) next h = λ e. omega arith
-primary-no-hyphen (Iff f g) next h = λ e. omega arith
+primary-no-hyphen (Not f) next h = no-hyphen 126 _ (λ e. omega arith)
+primary-no-hyphen (And f g) next h = no-hyphen 40 _ (λ e. omega arith)
+primary-no-hyphen (Or f g) next h = no-hyphen 40 _ (λ e. omega arith)
+primary-no-hyphen (Implies f g) next h = no-hyphen 40 _ (λ e. omega arith)
+primary-no-hyphen (Iff f g) next h = no-hyphen 40 _ (λ e. omega arith)
 
 -- ---- two formulas with a sign between them
 abbrev between_spaces : Sign → List ℕ

@@ -4,6 +4,7 @@ use Rattle.std.specs.Option.{option_map}
 use Rattle.std.proofs.lemmas.List.{append-nil, length-append, length-map}
 use Rattle.std.proofs.lemmas.Option.{slice_get-map}
 use Rattle.std.proofs.Math.Seq.{take-append_seam}
+use Rattle.mcs_base.proofs.Lists.{slice_get_seam}
 use Rattle.mcs_system.specs.Plain as plain
 use Rattle.mcs_tokens.specs.Tokens.{AreTokens}
 use Rattle.mcs_tokens.specs.declared.scan.Span.{Span}
@@ -19,13 +20,6 @@ use Rattle.mcs_language.proofs.TextTheory.{text-forward}
 use Rattle.mcs_language.proofs.FaultTheory.{Reached, reached-none, reached-more, IsFree, free-none, free-more, free-whole}
 use Rattle.mcs_language.proofs.Within.{NoFaults}
 
-at-seam : {A : Type 0} (xs : List A) (y : A) (ys : List A) → slice_get (xs ++ y ∷ ys) (length xs) ≡ Some y
-at-seam [] y ys = refl
-at-seam (x ∷ xs) y ys = at-seam xs y ys
-
-cons-is : {A : Type 0} {x y : A} {xs ys : List A} → x ∷ xs ≡ y ∷ ys → (x ≡ y) × (xs ≡ ys)
-cons-is e = (cc, cc)
-
 module _ (t : WrittenText) (grammar : IsText t) (none : NoFaults (text_marks t)) where
   abbrev ms : List Mark
   ms = text_marks t
@@ -35,18 +29,18 @@ module _ (t : WrittenText) (grammar : IsText t) (none : NoFaults (text_marks t))
 
   -- the mark that stands after those that were taken
   token-there : (done : List Mark) (m : Mark) (todo : List Mark) → done ++ m ∷ todo ≡ ms → slice_get ts (length done) ≡ Some m.token
-  token-there done m todo whole = slice_get-map (λ (x : Mark). x.token) ms (length done) ∙ ap (option_map (λ (x : Mark). x.token)) (ap (λ (xs : List Mark). slice_get xs (length done)) (sym whole) ∙ at-seam done m todo)
+  token-there done m todo whole = slice_get-map (λ (x : Mark). x.token) ms (length done) ∙ ap (option_map (λ (x : Mark). x.token)) (ap (λ (xs : List Mark). slice_get xs (length done)) (sym whole) ∙ slice_get_seam done m todo (length done) refl)
 
   none-there : (done : List Mark) (m : Mark) (todo : List Mark) → done ++ m ∷ todo ≡ ms → (f : Fault) → ¬ Has f (uses_of done) m
   none-there done m todo whole f h =
       let before : take (length done) ms ≡ done = ap (take (length done)) (sym whole) ∙ take-append_seam done (m ∷ todo) in
-      none (length done) m f (ap (λ (xs : List Mark). slice_get xs (length done)) (sym whole) ∙ at-seam done m todo) (subst (λ (xs : List Mark). Has f (uses_of xs) m) (sym before) h)
+      none (length done) m f (ap (λ (xs : List Mark). slice_get xs (length done)) (sym whole) ∙ slice_get_seam done m todo (length done) refl) (subst (λ (xs : List Mark). Has f (uses_of xs) m) (sym before) h)
 
   walk : (done todo : List Mark) (s : PartText) (k : ℕ) → k ≡ length done → done ++ todo ≡ ms → Reached ts k done s → text_steps s (tokens_of todo) ≡ Some (todo, whole_text t) → IsFree ts k → IsFree ts (length ts)
   walk done [] s k long whole reached steps free = subst (IsFree ts) (long ∙ ap (λ (xs : List Mark). length xs) (sym (append-nil done) ∙ whole) ∙ sym (length-map ms (λ (x : Mark). x.token))) free
   walk done (m ∷ todo) s k long whole reached steps free =
       let d = steps-first s m.token (tokens_of todo) (m ∷ todo) (whole_text t) steps in
-      let same : (d.first ≡ m) × (d.rest ≡ todo) = cons-is d.marks_are in
+      let same : (d.first ≡ m) × (d.rest ≡ todo) = (let e = d.marks_are in (cc, cc)) in
       let step : text_step s m.token ≡ Some (m, d.middle) = d.step ∙ ap (λ (x : Mark). Some (x, d.middle)) same.0 in
       let is : slice_get ts k ≡ Some m.token = ap (slice_get ts) long ∙ token-there done m todo whole in
       walk (done ++ m ∷ []) todo d.middle (k + 1) (omega (arith, length-append done (m ∷ []))) (append_assoc done (m ∷ []) todo ∙ whole)

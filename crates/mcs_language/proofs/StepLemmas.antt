@@ -16,9 +16,10 @@ use Rattle.mcs_language.specs.declared.place.Step.TheVariants as answers
 use Rattle.mcs_language.specs.FormulaImages.{most_counted}
 use Rattle.mcs_language.specs.TextImages.{IsAt, Subject, about_context, about, capped, most_number, role_uses, program_in, only, IsStep}
 use Rattle.mcs_language.proofs.FormulaRuns.{word-apart, true-no-name, false-no-name}
-use Rattle.mcs_language.proofs.TextRuns.{some-is}
-use Rattle.mcs_language.proofs.TextLemmas.{cond-is, none-is}
 use Rattle.std.proofs.lemmas.Slice.Eq.{bytes_eq-Decides}
+use Rattle.std.proofs.lemmas.Option.{none-some, same_Some}
+use Rattle.mcs_base.proofs.Booleans.{by_cond}
+use Rattle.mcs_language.proofs.FormulaParts.{part}
 
 -- ---- a token that is there for one thing alone, and one that begins an item
 pub goes-step : (step : code_step.Step) (u : Subject) (place : code_place.Place) (r : code_role.Role) (s : PartText) (t : Token) (moved : Moved) (us : List Use) (q : Place)
@@ -41,13 +42,10 @@ step_uses c s t =
 
 -- where the token is this one, or is not
 spelled : {A P : Type 0} (t wanted : Token) (x y z : A) → cond (bytes_eq t wanted) x y ≡ z → (t ≡ wanted → x ≡ z → P) → (y ≡ z → P) → P
-spelled t wanted x y z e yes' no' = cond-is (bytes_eq t wanted) x y z e (λ is h. yes' ((bytes_eq-Decides t wanted).0 is) h) (λ is h. no' h)
+spelled t wanted x y z e yes' no' = by_cond (bytes_eq t wanted) x y z e (λ is h. yes' ((bytes_eq-Decides t wanted).0 is) h) (λ is h. no' h)
 
 mark-uses : (m : Mark) (s' : PartFormula) (r : Mark × PartFormula) (us : List Use) → Some (m, s') ≡ Some r → m.uses ≡ us → (r.0).uses ≡ us
-mark-uses m s' r us e h = let same : (m, s') ≡ r = some-is e in ap (λ (p : Mark × PartFormula). (p.0).uses) (sym same) ∙ h
-
-abbrev part : List Pending → Option Written → PartFormula
-part ps o = record { pending = ps; operand = o }
+mark-uses m s' r us e h = let same : (m, s') ≡ r = same_Some _ _ e in ap (λ (p : Mark × PartFormula). (p.0).uses) (sym same) ∙ h
 
 operand-uses : (c : Name) (s : PartFormula) (t : Token) (r : Mark × PartFormula) → operand_step c s t ≡ Some r → (r.0).uses ≡ step_uses c s t
 operand-uses c s t r e =
@@ -55,12 +53,12 @@ operand-uses c s t r e =
     (λ e2. spelled t (codes "(") _ _ (Some r) e2 (λ is h. mark-uses (mark t (OpensWithin (opened_so_far s) ∷ [])) (waits s.pending Parenthesis) r (step_uses c s t) h (rw is refl))
     (λ e3. spelled t (codes "true") _ _ (Some r) e3 (λ is h. mark-uses (numbered_mark s t []) (settle s.pending True') r (step_uses c s t) h (rw (is, true-no-name) refl))
     (λ e4. spelled t (codes "false") _ _ (Some r) e4 (λ is h. mark-uses (numbered_mark s t []) (settle s.pending False') r (step_uses c s t) h (rw (is, false-no-name) refl))
-    (λ e5. cond-is (is_name_word t) _ _ (Some r) e5
+    (λ e5. by_cond (is_name_word t) _ _ (Some r) e5
     (λ name h. mark-uses (numbered_mark s t (AtomOf c t ∷ [])) (settle s.pending (Named t)) r (step_uses c s t) h (rw (word-apart t (codes "(") name refl, word-apart t (codes ")") name refl, name) refl))
-    (λ _ no. none-is r no)))))
+    (λ _ no. absurd (none-some r no))))))
 
 closed-uses : (t : Token) (o : Option PartFormula) (r : Mark × PartFormula) → option_map (λ (x : PartFormula). (mark t [], x)) o ≡ Some r → (r.0).uses ≡ []
-closed-uses t None r e = none-is r e
+closed-uses t None r e = absurd (none-some r e)
 closed-uses t (Some x) r e = mark-uses (mark t []) x r [] e refl
 
 sign-uses : (c : Name) (s : PartFormula) (f : Written) (t : Token) (r : Mark × PartFormula) → sign_step s f t ≡ Some r → (r.0).uses ≡ step_uses c s t
@@ -69,7 +67,7 @@ sign-uses c s f t r e =
     (λ e2. spelled t (codes "|") _ _ (Some r) e2 (λ is h. mark-uses (numbered_mark s t []) (behind Or (reduce 2 s.pending f)) r (step_uses c s t) h (rw is refl))
     (λ e3. spelled t (codes "->") _ _ (Some r) e3 (λ is h. mark-uses (numbered_mark s t []) (behind Implies (reduce 2 s.pending f)) r (step_uses c s t) h (rw is refl))
     (λ e4. spelled t (codes "<->") _ _ (Some r) e4 (λ is h. mark-uses (numbered_mark s t []) (behind Iff (reduce 3 s.pending f)) r (step_uses c s t) h (rw is refl))
-    (λ e5. spelled t (codes ")") _ _ (Some r) e5 (λ is h. closed-uses t (closed (reduce 4 s.pending f)) r h ∙ rw is refl) (λ no. none-is r no)))))
+    (λ e5. spelled t (codes ")") _ _ (Some r) e5 (λ is h. closed-uses t (closed (reduce 4 s.pending f)) r h ∙ rw is refl) (λ no. absurd (none-some r no))))))
 
 uses-at : (c : Name) (ps : List Pending) (o : Option Written) (t : Token) (r : Mark × PartFormula) → formula_step c (part ps o) t ≡ Some r → (r.0).uses ≡ step_uses c (part ps o) t
 unfolding formula_step

@@ -3,14 +3,16 @@ use Rattle.std.proofs.Common.{◌≡◌, ◌+◌, Bool, true, false, cond, List,
 use Rattle.std.specs.Prelude.{codes, ◌&&◌, nat_eq}
 use Rattle.std.specs.List.{AllByRecursion}
 use Rattle.std.specs.Str.{bytes_eq}
+use Rattle.std.proofs.lemmas.Option.{none-some, same_Some}
+use Rattle.mcs_base.proofs.Each.{all_append}
+use Rattle.mcs_base.proofs.Booleans.{by_cond}
 use Rattle.mcs_system.specs.Plain.{Name}
 use Rattle.mcs_language.specs.Written.{Written, WrittenLiteral, Classical, DefaultTheory, Program, WrittenContext, WrittenBridge, IsNameWord}
 use Rattle.mcs_language.specs.Marks.{Token, Use, BeginsContext, BeginsBridge, NamesContext, NamesBridge, SaysProgram, BeginsItem, BeginsDefault, NamesTarget, NamesSource, EndsRead, AtomOf, IsNumber, OpensWithin, Mark, mark, formula_in}
 use Rattle.mcs_language.specs.FormulaSteps.{Pending, PartFormula, no_formula, formula_step, is_name_word, opened_so_far, size_so_far}
 use Rattle.mcs_language.specs.TextSteps as steps
 use Rattle.mcs_language.specs.TextSteps.{PartDefault, PartRead, Place, Between, ContextName, KindWord, OpenBrace, NextItem, InFact, InJust, InConclusion, AfterHeadName, NextHeadName, AfterSign, NextLiteral, AfterNot, AfterLiteral, BridgeName, BridgeColon, HeadContext, HeadColon, InHead, AfterHead, NextRead, ReadContext, ReadColon, InRead, AfterRead, PartText, Moved, goes, atom_uses, empty_context, add_fact, add_default, add_rule, one_more_just, whole_default, whole_rule, headed, with_read, first_of_belief, is_theory, is_program, context_is_whole, bridge_is_whole, step_at, text_step}
-use Rattle.mcs_language.proofs.TextRuns.{some-is}
-use Rattle.mcs_language.proofs.TextLemmas.{cond-is, on-is, none-is, name-is, formula-is, whole-is, belief-is}
+use Rattle.mcs_language.proofs.TextLemmas.{on-is, name-is, formula-is, whole-is, belief-is}
 use Rattle.mcs_language.proofs.StepLemmas.{uses-of-step}
 
 -- a token that is there for this is a name
@@ -23,10 +25,6 @@ Shows t u = Unit {0}
 pub record AreShown (t : Token) (r : Mark × PartText) : Type 0 where
   pub token : (r.0).token ≡ t
   pub uses : AllByRecursion (Shows t) (r.0).uses
-
-all-append : {A : Type 0} (P : A → Type 0) (xs ys : List A) → AllByRecursion P xs → AllByRecursion P ys → AllByRecursion P (xs ++ ys)
-all-append P [] ys h k = k
-all-append P (x ∷ xs) ys h k = (h.0, all-append P xs ys h.1 k)
 
 -- ---- formulas
 module _ (t : Token) where
@@ -46,44 +44,44 @@ module _ (t : Token) where
   first-shows c (x ∷ ps) o = tt
 
   belief-shows : (c : Name) (f : PartFormula) (r : Mark × PartFormula) → formula_step c f t ≡ Some r → AllByRecursion (Shows t) (first_of_belief c f ++ (r.0).uses)
-  belief-shows c f r e = all-append (Shows t) (first_of_belief c f) (r.0).uses (first-shows c f.pending f.operand) (formula-shows c f r e)
+  belief-shows c f r e = all_append (Shows t) (first_of_belief c f) (r.0).uses (first-shows c f.pending f.operand) (formula-shows c f r e)
 
 -- ---- the places
 module _ (s : PartText) (t : Token) (r : Mark × PartText) where
   goes-shows : (us : List Use) (q : Place) → goes s t us q ≡ Some r → AllByRecursion (Shows t) us → AreShown t r
   goes-shows us q e h =
       let here : AreShown t (mark t us, record s { place = q }) = record { token = refl; uses = h } in
-      subst (AreShown t) (some-is e) here
+      subst (AreShown t) (same_Some _ _ e) here
 
   ends-shows : (s' : PartText) → ◌≡◌ {A = Moved} (Some (mark t [], s')) (Some r) → AreShown t r
   ends-shows s' e =
       let here : AreShown t (mark t [], s') = record { token = refl; uses = tt } in
-      subst (AreShown t) (some-is e) here
+      subst (AreShown t) (same_Some _ _ e) here
 
   -- at a sign alone
   sign-shows : (sign : Token) (q : Place) → steps.on t sign (goes s t [] q) None ≡ Some r → AreShown t r
-  sign-shows sign q e = on-is t sign _ _ r e (λ is g. goes-shows [] q g tt) (λ no. none-is r no)
+  sign-shows sign q e = on-is t sign _ _ r e (λ is g. goes-shows [] q g tt) (λ no. absurd (none-some r no))
 
   between-shows : steps.between s t ≡ Some r → AreShown t r
   between-shows e =
-      cond-is (bytes_eq t (codes "context") && nat_eq (length s.bridges) 0) _ _ (Some r) e (λ is g. goes-shows (BeginsContext ∷ []) ContextName g (tt, tt))
-      (λ _ e2. on-is t (codes "bridge") _ _ r e2 (λ is g. goes-shows (BeginsBridge ∷ []) BridgeName g (tt, tt)) (λ no. none-is r no))
+      by_cond (bytes_eq t (codes "context") && nat_eq (length s.bridges) 0) _ _ (Some r) e (λ is g. goes-shows (BeginsContext ∷ []) ContextName g (tt, tt))
+      (λ _ e2. on-is t (codes "bridge") _ _ r e2 (λ is g. goes-shows (BeginsBridge ∷ []) BridgeName g (tt, tt)) (λ no. absurd (none-some r no)))
 
   kind-shows : (n : Name) → steps.kind_word s n t ≡ Some r → AreShown t r
   kind-shows n e =
       on-is t (codes "classical") _ _ r e (λ is g. goes-shows [] (OpenBrace (empty_context n (Classical []))) g tt)
       (λ e2. on-is t (codes "default") _ _ r e2 (λ is g. goes-shows [] (OpenBrace (empty_context n (DefaultTheory []))) g tt)
-      (λ e3. on-is t (codes "program") _ _ r e3 (λ is g. goes-shows (SaysProgram n ∷ []) (OpenBrace (empty_context n (Program []))) g (tt, tt)) (λ no. none-is r no)))
+      (λ e3. on-is t (codes "program") _ _ r e3 (λ is g. goes-shows (SaysProgram n ∷ []) (OpenBrace (empty_context n (Program []))) g (tt, tt)) (λ no. absurd (none-some r no))))
 
   item-shows : (c : WrittenContext) → steps.next_item s c t ≡ Some r → AreShown t r
   item-shows c e =
       on-is t (codes "}") _ _ r e (λ is g. ends-shows (context_is_whole s c) g)
-      (λ e2. cond-is (is_program c.kb) _ _ (Some r) e2
+      (λ e2. by_cond (is_program c.kb) _ _ (Some r) e2
       (λ _ e3. on-is t (codes ":-") _ _ r e3 (λ is g. goes-shows (BeginsItem c.name ∷ []) (AfterSign c []) g (tt, tt))
       (λ e4. name-is t _ r e4 (λ name g. goes-shows (BeginsItem c.name ∷ atom_uses c 1 t) (AfterHeadName c (t ∷ [])) g (tt, ((refl, name), (tt, tt))))))
       (λ _ e3. formula-is s c.name (BeginsItem c.name ∷ []) no_formula t (InFact c) None r e3
       (λ q is g. goes-shows (BeginsItem c.name ∷ (q.0).uses) (InFact c q.1) g (tt, formula-shows t c.name no_formula q is))
-      (λ no. none-is r no)))
+      (λ no. absurd (none-some r no))))
 
   fact-shows : (c : WrittenContext) (f : PartFormula) → steps.in_fact s c f t ≡ Some r → AreShown t r
   fact-shows c f e =
@@ -91,9 +89,9 @@ module _ (s : PartText) (t : Token) (r : Mark × PartText) where
       (λ q is g. goes-shows (q.0).uses (InFact c q.1) g (formula-shows t c.name f q is))
       (λ e2. whole-is f (steps.fact_ends s c t) r e2 (λ w _ e3.
       on-is t (codes ".") _ _ r e3 (λ is g. goes-shows [] (NextItem (add_fact c w)) g tt)
-      (λ e4. cond-is (bytes_eq t (codes ":") && is_theory c.kb) _ _ (Some r) e4
+      (λ e4. by_cond (bytes_eq t (codes ":") && is_theory c.kb) _ _ (Some r) e4
       (λ _ g. goes-shows (BeginsDefault c.name ∷ []) (InJust c (record { pre = w; justs = [] }) no_formula) g (tt, tt))
-      (λ _ no. none-is r no))))
+      (λ _ no. absurd (none-some r no)))))
 
   just-shows : (c : WrittenContext) (d : PartDefault) (f : PartFormula) → steps.in_just s c d f t ≡ Some r → AreShown t r
   just-shows c d f e =
@@ -142,7 +140,7 @@ module _ (s : PartText) (t : Token) (r : Mark × PartText) where
   after-head-shows : (b : WrittenBridge) → steps.after_head s b t ≡ Some r → AreShown t r
   after-head-shows b e =
       on-is t (codes "if") _ _ r e (λ is g. goes-shows [] (NextRead b) g tt)
-      (λ e2. on-is t (codes ".") _ _ r e2 (λ is g. ends-shows (bridge_is_whole s b) g) (λ no. none-is r no))
+      (λ e2. on-is t (codes ".") _ _ r e2 (λ is g. ends-shows (bridge_is_whole s b) g) (λ no. absurd (none-some r no)))
 
   source-shows : (b : WrittenBridge) (denied : Bool) → steps.read_context s b denied t ≡ Some r → AreShown t r
   source-shows b denied e = name-is t _ r e (λ name g. goes-shows (NamesSource t ∷ []) (ReadColon b (record { denied = denied; context = t })) g (tt, tt))
@@ -160,7 +158,7 @@ module _ (s : PartText) (t : Token) (r : Mark × PartText) where
   after-read-shows : (b : WrittenBridge) → steps.after_read s b t ≡ Some r → AreShown t r
   after-read-shows b e =
       on-is t (codes ",") _ _ r e (λ is g. goes-shows [] (NextRead b) g tt)
-      (λ e2. on-is t (codes ".") _ _ r e2 (λ is g. ends-shows (bridge_is_whole s b) g) (λ no. none-is r no))
+      (λ e2. on-is t (codes ".") _ _ r e2 (λ is g. ends-shows (bridge_is_whole s b) g) (λ no. absurd (none-some r no)))
 
 place-shows : (s : PartText) (p : Place) (t : Token) (r : Mark × PartText) → step_at s t p ≡ Some r → AreShown t r
 place-shows s Between t r e = between-shows s t r e

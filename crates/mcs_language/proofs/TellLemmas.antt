@@ -1,38 +1,12 @@
 -- Answers of tests that hold of a token of one kind alone.
-use Rattle.std.proofs.Common.{◌≡◌, ℕ, Bool, true, false, refl, sym, ap, ◌∙◌, inl, inr, ◌⊎◌, ◌↔◌, true≢false, arith}
-use Rattle.std.specs.Prelude.{IsTrue, nat_eq, nat_lt, not, length, List}
+use Rattle.std.proofs.Common.{◌≡◌, ℕ, true, sym, ap, ◌∙◌, inl, inr, ◌⊎◌, ◌↔◌, arith}
+use Rattle.std.specs.Prelude.{IsTrue, nat_eq, nat_lt, length, List}
 use Rattle.mcs_base.specs.Listings.{IsAmong}
 use Rattle.mcs_language.specs.Watching.{IsNumberOf}
 use Rattle.mcs_language.proofs.WatchFacts.{number-there}
 use Rattle.std.proofs.lemmas.Bool.Decides.{Decides-eqb, Decides-ltb}
 use Rattle.mcs_language.specs.declared.place.Role as code_role
 use Rattle.mcs_language.specs.declared.place.Role.TheVariants as roles
-
--- it is of the kind
-pub both : {B E P : Type 0} (b : Bool) → B ↔ (E × P) → E → ((b ≡ true → P) × (P → b ≡ true)) → IsTrue b ↔ B
-both b is e tells = (λ h. is.1 (e, tells.0 h), λ h. tells.1 (is.0 h).1)
-
--- it is of another
-pub neither : {B E P : Type 0} → B ↔ (E × P) → ¬ E → IsTrue false ↔ B
-neither is other = (λ h. absurd (true≢false (sym h)), λ h. absurd (other (is.0 h).0))
-
-pub not-this : {B P : Type 0} → B ↔ P → ¬ P → IsTrue false ↔ B
-not-this is other = (λ h. absurd (true≢false (sym h)), λ h. absurd (other (is.0 h)))
-
-pub this : {B P : Type 0} (b : Bool) → B ↔ P → ((b ≡ true → P) × (P → b ≡ true)) → IsTrue b ↔ B
-this b is tells = (λ h. is.1 (tells.0 h), λ h. tells.1 (is.0 h))
-
--- it is not said to be
-pub unsaid : {B : Type 0} (b : Bool) → b ≡ false → (B → b ≡ true) → IsTrue b ↔ B
-unsaid b e needs = (λ h. absurd (true≢false (sym h ∙ e)), needs)
-
--- a count, and what is not
-pub counted : (n k x : ℕ) → n ≡ x → (nat_eq n k ≡ true → x ≡ k) × (x ≡ k → nat_eq n k ≡ true)
-counted n k x is = (λ h. sym is ∙ (Decides-eqb n k).0 h, λ h. (Decides-eqb n k).1 (is ∙ h))
-
-pub told-not : {P : Type 0} (b : Bool) → IsTrue b ↔ P → (not b ≡ true → ¬ P) × (¬ P → not b ≡ true)
-told-not true is = (λ h. absurd (true≢false (sym h)), λ h. absurd (h (is.0 refl)))
-told-not false is = (λ h p. true≢false (sym (is.1 p)), λ h. refl)
 
 -- it is there where its number is one
 pub told-there : {A : Type 0} (xs : List A) (x : A) (k n : ℕ) → IsNumberOf xs x k → n ≡ length xs → IsTrue (nat_lt k n) ↔ IsAmong x xs

@@ -4,14 +4,18 @@ use Rattle.std.specs.Prelude.{codes, nat_eq}
 use Rattle.std.specs.List.{AllByRecursion}
 use Rattle.std.proofs.lemmas.Bool.Decides.{Decides-eqb}
 use Rattle.std.proofs.lemmas.List.{append-nil}
+use Rattle.mcs_base.proofs.Each.{all_push}
+use Rattle.mcs_base.proofs.Lists.{flat_map_push, append_split}
 use Rattle.mcs_system.specs.Plain.{Name}
 use Rattle.mcs_language.specs.Written.{Written, Rule, WrittenLiteral, WrittenRead, WrittenKb, Classical, DefaultTheory, Program, WrittenContext, WrittenBridge, IsNameWord, IsFormula, IsItem, IsRule, IsPlace, IsBridge, level}
 use Rattle.mcs_language.specs.Marks.{Token, Use, BeginsBridge, NamesBridge, BeginsItem, NamesTarget, EndsRead, Mark, mark, formula_in, with_last, whole_marks, default_marks, optional, literal_marks, ended, place_marks, read_marks, reads_marks, further_read, context_marks, bridge_marks}
 use Rattle.mcs_language.specs.FormulaSteps.{PartFormula}
 use Rattle.mcs_language.specs.TextSteps.{PartDefault, PartRead, InRead, AfterRead, one_more_just, whole_default, whole_rule, with_read, first_of_belief}
 use Rattle.mcs_language.proofs.FormulaParts.{IsPart, part_marks}
-use Rattle.mcs_language.proofs.TextParts.{sign_mark, kind_mark, kb_items, open_context, begun, before_comma, open_justs, open_conclusion, open_rule, literal_comma, open_bridge, before_read, begun_belief, source_mark, so_far, IsSome, AreNames, AreLiterals, IsInTheory}
-use Rattle.mcs_language.proofs.TextLemmas.{all-more, flat-more, within, some-append, first-append, last-append, literals-more, commas-last, belief-more, whole-some}
+use Rattle.mcs_language.proofs.TextParts.{sign_mark, kind_mark, kb_items, open_context, begun, before_comma, open_justs, open_conclusion, open_rule, literal_comma, open_bridge, before_read, begun_belief, source_mark, so_far, AreNames, AreLiterals, IsInTheory}
+use Rattle.mcs_language.proofs.TextLemmas.{first-append, last-append, literals-more, commas-last, belief-more, whole-some}
+use Rattle.mcs_language.specs.TextImages.{HasSome}
+use Rattle.mcs_language.proofs.MarkLists.{some-append}
 
 -- ---- items
 -- the item and the period after it
@@ -20,15 +24,15 @@ pub item-ends : (c : WrittenContext) (kb : WrittenKb) (item : List Mark) → kin
 item-ends c kb item kind items = rw (kind, items) (sym (append_assoc (open_context c) (begun c.name item) (sign_mark (codes ".") ∷ [])))
 
 pub justs-more : (n : Name) (d : PartDefault) (w : Written) → open_justs n (one_more_just d w) ≡ (open_justs n d ++ whole_marks n w) ++ sign_mark (codes ",") ∷ []
-justs-more n d w = rw (flat-more (before_comma n) d.justs w) (simp append_assoc)
+justs-more n d w = rw (flat_map_push (before_comma n) d.justs w) (simp append_assoc)
 
 pub justs-last : (n : Name) (d : PartDefault) (w : Written) → open_conclusion n (one_more_just d w) ≡ (open_justs n d ++ whole_marks n w) ++ sign_mark (codes "/") ∷ []
 justs-last n d w = rw (commas-last n d.justs w) (simp append_assoc)
 
-pub default-ends : (n : Name) (d : PartDefault) (w : Written) → IsSome d.justs → default_marks n (whole_default d w) ≡ open_conclusion n d ++ whole_marks n w
+pub default-ends : (n : Name) (d : PartDefault) (w : Written) → HasSome d.justs → default_marks n (whole_default d w) ≡ open_conclusion n d ++ whole_marks n w
 default-ends n d w h = go d.justs h
   where
-    go : (js : List Written) → IsSome js → default_marks n (whole_default (record { pre = d.pre; justs = js }) w) ≡ open_conclusion n (record { pre = d.pre; justs = js }) ++ whole_marks n w
+    go : (js : List Written) → HasSome js → default_marks n (whole_default (record { pre = d.pre; justs = js }) w) ≡ open_conclusion n (record { pre = d.pre; justs = js }) ++ whole_marks n w
     go [] g = absurd g
     go (j ∷ js) g = simp append_assoc
 
@@ -39,7 +43,7 @@ rule-literal n head (k ∷ ls) l =
     let i : (length head + 1) + length ls ≡ length head + length (k ∷ ls) = omega arith in
     rw (literals-more n (length head + 1) ls l, i) (simp append_assoc)
 
-pub open_rule-some : (n : Name) (head : List Name) (body : List WrittenLiteral) → IsSome (open_rule n head body)
+pub open_rule-some : (n : Name) (head : List Name) (body : List WrittenLiteral) → HasSome (open_rule n head body)
 open_rule-some n [] body = tt
 open_rule-some n (a ∷ names) body = tt
 
@@ -54,7 +58,7 @@ context-ends n (Program rules) = refl
 
 pub reads-more : (c : Name) (reads : List WrittenRead) (r : WrittenRead) → reads_marks c (reads ++ r ∷ []) ≡ reads_marks c reads ++ (before_read reads ++ read_marks c r)
 reads-more c [] r = ap (λ (ms : List Mark). sign_mark (codes "if") ∷ ms) (append-nil (read_marks c r))
-reads-more c (q ∷ reads) r = rw (flat-more (further_read c) reads r) (simp append_assoc)
+reads-more c (q ∷ reads) r = rw (flat_map_push (further_read c) reads r) (simp append_assoc)
 
 pub regroup : (a b c d e f : List Mark) → a ++ (b ++ (c ++ (d ++ (e ++ f)))) ≡ ((a ++ b) ++ (c ++ (d ++ e))) ++ f
 regroup a b c d e f = simp append_assoc
@@ -68,7 +72,7 @@ read-ends b r w f m h e =
     let c : Name = r.context in
     let uses : List Use = EndsRead b.head.context c (formula_in w) ∷ [] in
     let last : Mark = mark m.token (first_of_belief c f ++ m.uses) in
-    let belief : begun_belief c (whole_marks c w) ≡ begun_belief c (part_marks c f) ++ last ∷ [] = ap (begun_belief c) e ∙ belief-more c f m h in
+    let belief : begun_belief c (whole_marks c w) ≡ begun_belief c (part_marks c f) ++ last ∷ [] = ap (begun_belief c) e ∙ belief-more c f m in
     let read : with_last uses (source_mark c ∷ sign_mark (codes ":") ∷ begun_belief c (whole_marks c w)) ≡ source_mark c ∷ sign_mark (codes ":") ∷ (begun_belief c (part_marks c f) ++ mark m.token (uses ++ (first_of_belief c f ++ m.uses)) ∷ [])
     = ap (λ (ms : List Mark). with_last uses (source_mark c ∷ sign_mark (codes ":") ∷ ms)) belief ∙ last-append uses (source_mark c ∷ sign_mark (codes ":") ∷ begun_belief c (part_marks c f)) last [] in
     let target : Name = b.head.context in
@@ -78,10 +82,7 @@ read-ends b r w f m h e =
     ap (λ (ms : List Mark). begin ++ ms) all
     ∙ regroup begin (reads_marks target b.reads) (before_read b.reads) not' (source_mark c ∷ sign_mark (codes ":") ∷ begun_belief c (part_marks c f)) (mark m.token (uses ++ (first_of_belief c f ++ m.uses)) ∷ [])
 
-pub cons-nil : {A : Type 0} (x : A) (xs : List A) → x ∷ xs ≡ [] → ⊥
-cons-nil x xs e = cc
-
-pub comma-read : (reads : List WrittenRead) → IsSome reads → before_read reads ≡ sign_mark (codes ",") ∷ []
+pub comma-read : (reads : List WrittenRead) → HasSome reads → before_read reads ≡ sign_mark (codes ",") ∷ []
 comma-read [] h = absurd h
 comma-read (q ∷ reads) h = refl
 
@@ -98,24 +99,24 @@ just-marks c d w xs more sign whole is =
     let split : begun c.name more ≡ (begun c.name (open_justs c.name d) ++ xs) ++ sign_mark sign ∷ []
     = ap (begun c.name) is ∙ first-append uses (open_justs c.name d ++ whole_marks c.name w) (sign_mark sign ∷ []) (some-append (open_justs c.name d) (whole_marks c.name w) some)
     ∙ ap (λ (ms : List Mark). ms ++ sign_mark sign ∷ []) (first-append uses (open_justs c.name d) (whole_marks c.name w) some ∙ ap (λ (ms : List Mark). begun c.name (open_justs c.name d) ++ ms) whole) in
-    within (open_context c) (begun c.name more ++ []) (begun c.name (open_justs c.name d) ++ xs) (sign_mark sign ∷ []) (append-nil (begun c.name more) ∙ split)
+    append_split (open_context c) (begun c.name more ++ []) (begun c.name (open_justs c.name d) ++ xs) (sign_mark sign ∷ []) (append-nil (begun c.name more) ∙ split)
 
 pub more-right : (c : WrittenContext) (d : PartDefault) (w : Written) → IsInTheory c d → IsFormula w → IsInTheory c (one_more_just d w)
-more-right c d w h f = (h.0, h.1, h.2, all-more IsFormula d.justs w h.3 f)
+more-right c d w h f = (h.0, h.1, h.2, all_push IsFormula d.justs w h.3 f)
 
-pub default-is : (d : PartDefault) (w : Written) → IsFormula d.pre → AllByRecursion IsFormula d.justs → IsSome d.justs → IsFormula w → IsItem (Rule (whole_default d w))
+pub default-is : (d : PartDefault) (w : Written) → IsFormula d.pre → AllByRecursion IsFormula d.justs → HasSome d.justs → IsFormula w → IsItem (Rule (whole_default d w))
 default-is d w pre justs some f = go d.justs justs some
   where
-    go : (js : List Written) → AllByRecursion IsFormula js → IsSome js → IsItem (Rule (whole_default (record { pre = d.pre; justs = js }) w))
+    go : (js : List Written) → AllByRecursion IsFormula js → HasSome js → IsItem (Rule (whole_default (record { pre = d.pre; justs = js }) w))
     go [] a s = absurd s
     go (j ∷ js) a s = (pre, a, f)
 
-pub fact-rule : (head : List Name) → IsSome head → AreNames head → IsRule (whole_rule head false [])
+pub fact-rule : (head : List Name) → HasSome head → AreNames head → IsRule (whole_rule head false [])
 fact-rule [] some names = absurd some
-fact-rule (a ∷ head) some names = record { head_names = names; body_names = tt; head_or_sign = λ e. absurd (cons-nil a head e); body_after_sign = λ e. refl }
+fact-rule (a ∷ head) some names = record { head_names = names; body_names = tt; head_or_sign = λ e. absurd ((let no : a ∷ head ≡ [] = e in cc)); body_after_sign = λ e. refl }
 
 pub sign-rule : (head : List Name) (body : List WrittenLiteral) → AreNames head → AreLiterals body → IsRule (whole_rule head true body)
 sign-rule head body names literals = record { head_names = names; body_names = literals; head_or_sign = λ e. refl; body_after_sign = λ e. absurd (true≢false e) }
 
 pub read-right : (b : WrittenBridge) (d : PartRead) (w : Written) → IsBridge b → IsNameWord d.context → IsFormula w → level w ≡ 0 → IsBridge (with_read b d w)
-read-right b d w h name f low = (h.0, h.1, all-more (λ (k : WrittenRead). IsPlace k.place) b.reads (record { denied = d.denied; place = record { context = d.context; belief = w } }) h.2 (name, f, low))
+read-right b d w h name f low = (h.0, h.1, all_push (λ (k : WrittenRead). IsPlace k.place) b.reads (record { denied = d.denied; place = record { context = d.context; belief = w } }) h.2 (name, f, low))

@@ -3,17 +3,20 @@ use Rattle.std.proofs.Common.{◌≡◌, ◌+◌, true, false, List, [], ◌∷�
 use Rattle.std.specs.Prelude.{codes}
 use Rattle.std.proofs.lemmas.List.{append-nil}
 use Rattle.mcs_base.specs.Words.{reserved_words}
+use Rattle.mcs_base.proofs.Lists.{append_split}
 use Rattle.mcs_system.specs.Plain.{Name}
 use Rattle.mcs_language.specs.Written.{Written, WrittenDefault, WrittenLiteral, Classical, WrittenContext, WrittenBridge, WrittenText, IsText}
 use Rattle.mcs_language.specs.Marks.{Token, Use, BeginsBridge, NamesBridge, BeginsItem, NamesContext, NamesSource, NamesTarget, BeginsBelief, EndsRead, Mark, mark, formula_in, with_first, with_last, whole_marks, default_marks, optional, place_marks, reads_marks, text_marks}
 use Rattle.mcs_language.specs.FormulaSteps.{PartFormula, no_formula}
 use Rattle.mcs_language.specs.TextSteps.{PartDefault, PartRead, Place, Between, ContextName, KindWord, OpenBrace, NextItem, InFact, InJust, InConclusion, AfterHeadName, NextHeadName, AfterSign, NextLiteral, AfterNot, AfterLiteral, BridgeName, BridgeColon, HeadContext, HeadColon, InHead, AfterHead, NextRead, ReadContext, ReadColon, InRead, AfterRead, PartText, with_fact, with_default, add_fact, add_default, add_rule, empty_context, atom_uses, whole_rule, one_more_just, whole_default, headed, with_read, text_step}
 use Rattle.mcs_language.proofs.FormulaParts.{part_marks}
-use Rattle.mcs_language.proofs.FormulaTheory.{part-none, part-fill, primary-fill}
-use Rattle.mcs_language.proofs.TextParts.{sign_mark, open_context, begun, open_justs, open_conclusion, before_read, begun_belief, source_mark, so_far, whole_parts, marks_so_far, IsRight, IsSoFar}
-use Rattle.mcs_language.proofs.TextLemmas.{within, some-append, some-more, first-append, last-append, fact-more, default-more, fact-kind, default-kind, fact-right, default-right, whole-some}
+use Rattle.mcs_language.proofs.FormulaTheory.{part-none}
+use Rattle.mcs_language.proofs.TextParts.{sign_mark, open_context, begun, open_justs, open_conclusion, before_read, begun_belief, source_mark, so_far, whole_parts, marks_so_far, IsRight, IsSoFar, text_of}
+use Rattle.mcs_language.proofs.TextLemmas.{first-append, last-append, fact-more, default-more, fact-kind, default-kind, fact-right, default-right, whole-some}
 use Rattle.mcs_language.proofs.TextEnds.{item-ends, justs-last, default-ends, default-is, more-right, just-marks, reads-more, regroup, read-right}
-use Rattle.mcs_language.proofs.TextSound.{text_of, text-goes-on}
+use Rattle.mcs_language.proofs.TextSound.{text-goes-on}
+use Rattle.mcs_language.proofs.FormulaFill.{fill-part, fill-primary}
+use Rattle.mcs_language.proofs.MarkLists.{some-append, some-push}
 
 -- a text that begins with what was written
 pub record Extends (s : PartText) : Type 0 where
@@ -56,7 +59,7 @@ module _ (cs : List WrittenContext) (bs : List WrittenBridge) where
   -- a place further on
   goes-to : (p p' : Place) (more : List Mark) → IsSoFar (text_of cs bs p) → IsRight bs p' → so_far p' ≡ so_far p ++ more → Fills cs bs p' → Extends (text_of cs bs p)
   goes-to p p' more h right e then' =
-      longer (text_of cs bs p) (text_of cs bs p') more (within (whole_parts cs bs) (so_far p') (so_far p) more e) (then' (record { contexts = h.contexts; bridges = h.bridges; place = right }))
+      longer (text_of cs bs p) (text_of cs bs p') more (append_split (whole_parts cs bs) (so_far p') (so_far p) more e) (then' (record { contexts = h.contexts; bridges = h.bridges; place = right }))
 
   -- a token further on
   takes : (p p' : Place) (t : Token) (uses : List Use) → text_step (text_of cs bs p) t ≡ Some (mark t uses, text_of cs bs p') → Fills cs bs p' → Fills cs bs p
@@ -82,7 +85,7 @@ module _ (cs : List WrittenContext) (bs : List WrittenBridge) where
   fact-fills : (c : WrittenContext) (f : PartFormula) → Fills cs bs (InFact c f)
   fact-fills c f h =
       let right = h.place.1 in
-      let fill = part-fill c.name f right.2 in
+      let fill = fill-part c.name f right.2 in
       let w : Written = fill.0 in
       let rest : List Mark = fill.2.0 in
       let period : List Mark = sign_mark (codes ".") ∷ [] in
@@ -95,7 +98,7 @@ module _ (cs : List WrittenContext) (bs : List WrittenBridge) where
   conclusion-fills c d f h =
       let right = h.place.1 in
       let theory = right.0 in
-      let fill = part-fill c.name f right.2 in
+      let fill = fill-part c.name f right.2 in
       let w : Written = fill.0 in
       let rest : List Mark = fill.2.0 in
       let rule : WrittenDefault = whole_default d w in
@@ -109,11 +112,11 @@ module _ (cs : List WrittenContext) (bs : List WrittenBridge) where
   just-fills : (c : WrittenContext) (d : PartDefault) (f : PartFormula) → Fills cs bs (InJust c d f)
   just-fills c d f h =
       let right = h.place.1 in
-      let fill = part-fill c.name f right.1 in
+      let fill = fill-part c.name f right.1 in
       let w : Written = fill.0 in
       let rest : List Mark = fill.2.0 in
       let slash : List Mark = sign_mark (codes "/") ∷ [] in
-      goes-to (InJust c d f) (InConclusion c (one_more_just d w) no_formula) (rest ++ slash) h (h.place.0, (more-right c d w right.0 fill.1, some-more d.justs w, part-none))
+      goes-to (InJust c d f) (InConclusion c (one_more_just d w) no_formula) (rest ++ slash) h (h.place.0, (more-right c d w right.0 fill.1, some-push d.justs w, part-none))
       (just-marks c d w (part_marks c.name f ++ rest) (open_conclusion c.name (one_more_just d w)) (codes "/") fill.2.1 (justs-last c.name d w) ∙ after-sign (open_context c) (begun c.name (open_justs c.name d)) (part_marks c.name f) rest slash)
       (conclusion-fills c (one_more_just d w) no_formula)
 
@@ -158,7 +161,7 @@ module _ (cs : List WrittenContext) (bs : List WrittenBridge) where
   belief-fills : (n c : Name) (f : PartFormula) → Fills cs bs (InHead n c f)
   belief-fills n c f h =
       let right = h.place in
-      let fill = primary-fill c f right.2 in
+      let fill = fill-primary c f right.2 in
       let w : Written = fill.0 in
       let x = first-of (BeginsBelief c ∷ []) (part_marks c f) fill.3.0 fill.3.1.0 in
       let begin : List Mark = mark (codes "bridge") (BeginsBridge ∷ []) ∷ mark n (NamesBridge n ∷ []) ∷ sign_mark (codes ":") ∷ mark c (NamesTarget c ∷ []) ∷ sign_mark (codes ":") ∷ [] in
@@ -186,7 +189,7 @@ module _ (cs : List WrittenContext) (bs : List WrittenBridge) where
   read-fills b d f h =
       let c : Name = d.context in
       let right = h.place in
-      let fill = primary-fill c f right.2 in
+      let fill = fill-primary c f right.2 in
       let w : Written = fill.0 in
       let x = first-of (BeginsBelief c ∷ []) (part_marks c f) fill.3.0 fill.3.1.0 in
       let target : Name = b.head.context in
@@ -198,7 +201,7 @@ module _ (cs : List WrittenContext) (bs : List WrittenBridge) where
       let read : with_last uses (source_mark c ∷ sign_mark (codes ":") ∷ begun_belief c (whole_marks c w)) ≡ old ++ more
       = ap (λ (ms : List Mark). with_last uses (source_mark c ∷ sign_mark (codes ":") ∷ ms)) (ap (begun_belief c) fill.3.1.1 ∙ x.is) ∙ last-append uses old x.mark' x.rest in
       let all = reads-more target b.reads (record { denied = d.denied; place = record { context = c; belief = w } }) ∙ ap (λ (ms : List Mark). reads_marks target b.reads ++ (before_read b.reads ++ (not' ++ ms))) read in
-      goes-to (InRead b d f) (AfterRead (with_read b d w)) more h (read-right b d w right.0 right.1 fill.1 fill.2, some-more b.reads _)
+      goes-to (InRead b d f) (AfterRead (with_read b d w)) more h (read-right b d w right.0 right.1 fill.1 fill.2, some-push b.reads _)
       (ap (λ (ms : List Mark). begin ++ ms) all ∙ regroup begin (reads_marks target b.reads) (before_read b.reads) not' old more)
       (after-read-fills (with_read b d w))
 

@@ -8,8 +8,7 @@ use Rattle.mcs_language.specs.Written.{Written, WrittenItem, WrittenRule, Writte
 use Rattle.mcs_language.specs.Marks.{BeginsContext, NamesContext, SaysProgram, Mark, mark, whole_marks, item_marks, rule_marks, ended, kb_marks, context_marks, bridge_marks, text_marks}
 use Rattle.mcs_language.specs.TextSteps.{Between, ContextName, KindWord, OpenBrace, NextItem, PartText, nothing_written, empty_context, text_step, finished_text}
 use Rattle.mcs_language.proofs.TextRuns.{Runs, runs-one, runs-cons, runs-append}
-use Rattle.mcs_language.proofs.TextParts.{sign_mark}
-use Rattle.mcs_language.proofs.TextSound.{text_of}
+use Rattle.mcs_language.proofs.TextParts.{sign_mark, text_of}
 use Rattle.mcs_language.proofs.ItemForward.{fact-runs, item-runs}
 use Rattle.mcs_language.proofs.RuleForward.{rule-runs}
 use Rattle.mcs_language.proofs.BridgeForward.{bridge-runs}

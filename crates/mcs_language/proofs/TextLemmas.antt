@@ -1,42 +1,27 @@
 -- The marks of one part more, and which step a token gives.
-use Rattle.std.proofs.Common.{◌≡◌, ℕ, ◌+◌, Bool, true, false, cond, List, [], ◌∷◌, ◌++◌, length, Option, Some, None, refl, sym, ap, ◌∙◌, inl, inr, ◌⊎◌, arith, append_assoc}
+use Rattle.std.proofs.Common.{◌≡◌, ℕ, ◌+◌, true, false, List, [], ◌∷◌, ◌++◌, length, Option, Some, None, refl, sym, ap, ◌∙◌, inl, inr, ◌⊎◌, arith, append_assoc}
 use Rattle.std.specs.Prelude.{codes}
-use Rattle.std.specs.List.{flat_map, AllByRecursion}
+use Rattle.std.specs.List.{flat_map}
 use Rattle.std.specs.Str.{bytes_eq}
 use Rattle.std.proofs.lemmas.List.{append-nil}
-use Rattle.std.proofs.lemmas.Option.{option_and_then_some}
+use Rattle.std.proofs.lemmas.Option.{option_and_then_some, none-some}
 use Rattle.std.proofs.lemmas.Slice.Eq.{bytes_eq-Decides}
+use Rattle.mcs_base.proofs.Each.{all_push}
+use Rattle.mcs_base.proofs.Lists.{flat_map_push}
+use Rattle.mcs_base.proofs.Booleans.{by_cond}
 use Rattle.mcs_system.specs.Plain.{Name}
-use Rattle.mcs_language.specs.Written.{Written, True', False', Named, Denied, Grouped, Both, Either, Leads, Equals, WrittenDefault, Fact, Rule, WrittenLiteral, WrittenRule, WrittenKb, Classical, DefaultTheory, Program, IsNameWord, IsFormula, IsItem, IsRule, IsKb}
-use Rattle.mcs_language.specs.Marks.{Token, Use, Mark, mark, with_first, with_last, formula_marks, whole_marks, after_sign, default_marks, item_marks, further_heads, head_marks, atom_mark, literal_marks, further_literals, rule_marks, ended}
+use Rattle.mcs_language.specs.Written.{Written, WrittenDefault, Fact, Rule, WrittenLiteral, WrittenRule, WrittenKb, Classical, DefaultTheory, Program, IsNameWord, IsFormula, IsItem, IsRule, IsKb}
+use Rattle.mcs_language.specs.Marks.{Token, Use, Mark, mark, with_first, with_last, whole_marks, after_sign, default_marks, item_marks, further_heads, head_marks, atom_mark, literal_marks, further_literals, rule_marks, ended}
 use Rattle.mcs_language.specs.FormulaSteps.{Pending, PartFormula, no_formula, formula_step, finished, finished_primary, is_name_word}
 use Rattle.mcs_language.specs.TextSteps.{PartText, Place, Moved, on, on_name, goes, in_formula, after_formula, in_belief, first_of_belief, is_theory, is_program, with_fact, with_default, with_rule}
-use Rattle.mcs_language.proofs.FormulaParts.{IsPart, part_marks}
-use Rattle.mcs_language.proofs.FormulaTheory.{part-some}
-use Rattle.mcs_language.proofs.TextParts.{sign_mark, kind_mark, kb_items, before_comma, between_commas, IsSome, begun_belief}
-
--- ---- lists
-pub all-more : {A : Type 0} (P : A → Type 0) (xs : List A) (x : A) → AllByRecursion P xs → P x → AllByRecursion P (xs ++ x ∷ [])
-all-more P [] x h p = (p, tt)
-all-more P (y ∷ xs) x h p = (h.0, all-more P xs x h.1 p)
-
-pub flat-more : {A B : Type 0} (f : A → List B) (xs : List A) (x : A) → flat_map f (xs ++ x ∷ []) ≡ flat_map f xs ++ f x
-flat-more f [] x = append-nil (f x)
-flat-more f (y ∷ xs) x = ap (λ (zs : List _). f y ++ zs) (flat-more f xs x) ∙ sym (append_assoc (f y) (flat_map f xs) (f x))
-
-pub within : {A : Type 0} (a x y z : List A) → x ≡ y ++ z → a ++ x ≡ (a ++ y) ++ z
-within a x y z e = ap (λ (zs : List _). a ++ zs) e ∙ sym (append_assoc a y z)
-
-pub some-append : {A : Type 0} (xs ys : List A) → IsSome xs → IsSome (xs ++ ys)
-some-append [] ys h = absurd h
-some-append (x ∷ xs) ys h = tt
-
-pub some-more : {A : Type 0} (xs : List A) (x : A) → IsSome (xs ++ x ∷ [])
-some-more [] x = tt
-some-more (y ∷ xs) x = tt
+use Rattle.mcs_language.proofs.FormulaParts.{part_marks}
+use Rattle.mcs_language.proofs.TextParts.{sign_mark, kind_mark, kb_items, before_comma, between_commas, begun_belief}
+use Rattle.mcs_language.proofs.FormulaFill.{marks-of-part}
+use Rattle.mcs_language.specs.TextImages.{HasSome}
+use Rattle.mcs_language.proofs.MarkLists.{formula-some}
 
 -- ---- the first token of more
-pub first-append : (uses : List Use) (xs ys : List Mark) → IsSome xs → with_first uses (xs ++ ys) ≡ with_first uses xs ++ ys
+pub first-append : (uses : List Use) (xs ys : List Mark) → HasSome xs → with_first uses (xs ++ ys) ≡ with_first uses xs ++ ys
 first-append uses [] ys h = absurd h
 first-append uses (x ∷ xs) ys h = refl
 
@@ -52,7 +37,7 @@ heads-more c n (a ∷ names) t =
     let k : (n + 1) + length names + 1 ≡ n + length (a ∷ names) + 1 = omega arith in
     ap (λ (ms : List Mark). sign_mark (codes "|") ∷ atom_mark c (n + 1) a ∷ ms) (heads-more c (n + 1) names t ∙ ap (λ (i : ℕ). further_heads c (n + 1) names ++ sign_mark (codes "|") ∷ atom_mark c i t ∷ []) k)
 
-pub head-more : (c : Name) (head : List Name) (t : Name) → IsSome head → head_marks c (head ++ t ∷ []) ≡ (head_marks c head ++ sign_mark (codes "|") ∷ []) ++ atom_mark c (length head + 1) t ∷ []
+pub head-more : (c : Name) (head : List Name) (t : Name) → HasSome head → head_marks c (head ++ t ∷ []) ≡ (head_marks c head ++ sign_mark (codes "|") ∷ []) ++ atom_mark c (length head + 1) t ∷ []
 head-more c [] t h = absurd h
 head-more c (a ∷ names) t h =
     let k : 1 + length names + 1 ≡ length (a ∷ names) + 1 = omega arith in
@@ -66,17 +51,17 @@ literals-more c n (k ∷ ls) l =
     ∙ ap (λ (ms : List Mark). sign_mark (codes ",") ∷ ms) (sym (append_assoc (literal_marks c n k) (further_literals c (n + 1) ls) (sign_mark (codes ",") ∷ literal_marks c (n + length (k ∷ ls)) l)))
 
 pub fact-more : (n : Name) (kb : WrittenKb) (w : Written) → is_program kb ≡ false → kb_items n (with_fact w kb) ≡ kb_items n kb ++ ended n (whole_marks n w)
-fact-more n (Classical formulas) w h = flat-more (λ f. ended n (whole_marks n f)) formulas w
-fact-more n (DefaultTheory items) w h = flat-more (λ i. ended n (item_marks n i)) items (Fact w)
+fact-more n (Classical formulas) w h = flat_map_push (λ f. ended n (whole_marks n f)) formulas w
+fact-more n (DefaultTheory items) w h = flat_map_push (λ i. ended n (item_marks n i)) items (Fact w)
 fact-more n (Program rules) w h = absurd (cc)
 
 pub default-more : (n : Name) (kb : WrittenKb) (d : WrittenDefault) → is_theory kb ≡ true → kb_items n (with_default d kb) ≡ kb_items n kb ++ ended n (default_marks n d)
-default-more n (DefaultTheory items) d h = flat-more (λ i. ended n (item_marks n i)) items (Rule d)
+default-more n (DefaultTheory items) d h = flat_map_push (λ i. ended n (item_marks n i)) items (Rule d)
 default-more n (Classical formulas) d h = absurd (cc)
 default-more n (Program rules) d h = absurd (cc)
 
 pub rule-more : (n : Name) (kb : WrittenKb) (r : WrittenRule) → is_program kb ≡ true → kb_items n (with_rule r kb) ≡ kb_items n kb ++ ended n (rule_marks n r)
-rule-more n (Program rules) r h = flat-more (λ i. ended n (rule_marks n i)) rules r
+rule-more n (Program rules) r h = flat_map_push (λ i. ended n (rule_marks n i)) rules r
 rule-more n (DefaultTheory items) r h = absurd (cc)
 rule-more n (Classical formulas) r h = absurd (cc)
 
@@ -96,19 +81,19 @@ rule-kind n (DefaultTheory items) r = refl
 rule-kind n (Program rules) r = refl
 
 pub fact-right : (kb : WrittenKb) (w : Written) → IsKb kb → IsFormula w → IsKb (with_fact w kb)
-fact-right (Classical formulas) w h f = all-more IsFormula formulas w h f
-fact-right (DefaultTheory items) w h f = all-more IsItem items (Fact w) h f
+fact-right (Classical formulas) w h f = all_push IsFormula formulas w h f
+fact-right (DefaultTheory items) w h f = all_push IsItem items (Fact w) h f
 fact-right (Program rules) w h f = h
 
 pub default-right : (kb : WrittenKb) (d : WrittenDefault) → IsKb kb → IsItem (Rule d) → IsKb (with_default d kb)
 default-right (Classical formulas) d h f = h
-default-right (DefaultTheory items) d h f = all-more IsItem items (Rule d) h f
+default-right (DefaultTheory items) d h f = all_push IsItem items (Rule d) h f
 default-right (Program rules) d h f = h
 
 pub rule-right : (kb : WrittenKb) (r : WrittenRule) → IsKb kb → IsRule r → IsKb (with_rule r kb)
 rule-right (Classical formulas) r h f = h
 rule-right (DefaultTheory items) r h f = h
-rule-right (Program rules) r h f = all-more IsRule rules r h f
+rule-right (Program rules) r h f = all_push IsRule rules r h f
 
 -- the justifications, each with a comma after it, and a last one
 commas-after : (n : Name) (f : Written) (fs : List Written) (w : Written) → whole_marks n f ++ flat_map (after_sign (codes ",") n) (fs ++ w ∷ []) ≡ flat_map (before_comma n) (f ∷ fs) ++ whole_marks n w
@@ -125,44 +110,26 @@ begun-belief c [] (Some w) m ms e = refl
 begun-belief c (p ∷ ps) o m ms e = refl
 
 -- the first token of a belief
-pub belief-more : (c : Name) (f : PartFormula) (m : Mark) → IsPart f → begun_belief c (part_marks c f ++ m ∷ []) ≡ begun_belief c (part_marks c f) ++ mark m.token (first_of_belief c f ++ m.uses) ∷ []
-belief-more c f m h = go (part-some c f h)
+pub belief-more : (c : Name) (f : PartFormula) (m : Mark) → begun_belief c (part_marks c f ++ m ∷ []) ≡ begun_belief c (part_marks c f) ++ mark m.token (first_of_belief c f ++ m.uses) ∷ []
+belief-more c f m = go (marks-of-part c f)
   where
     go : (f ≡ no_formula) ⊎ ((k : Mark) × ((ms : List Mark) × (part_marks c f ≡ k ∷ ms))) → begun_belief c (part_marks c f ++ m ∷ []) ≡ begun_belief c (part_marks c f) ++ mark m.token (first_of_belief c f ++ m.uses) ∷ []
     go (inl e) = rw e refl
     go (inr (k, (ms, is))) = rw (begun-belief c f.pending f.operand k ms is, is) refl
 
-formula-some : (c : Name) (n o : ℕ) (w : Written) → IsSome (formula_marks c n o w)
-formula-some c n o True' = tt
-formula-some c n o False' = tt
-formula-some c n o (Named name) = tt
-formula-some c n o (Denied f) = tt
-formula-some c n o (Grouped f) = tt
-formula-some c n o (Both f g) = some-append (formula_marks c n o f) _ (formula-some c n o f)
-formula-some c n o (Either f g) = some-append (formula_marks c n o f) _ (formula-some c n o f)
-formula-some c n o (Leads f g) = some-append (formula_marks c n o f) _ (formula-some c n o f)
-formula-some c n o (Equals f g) = some-append (formula_marks c n o f) _ (formula-some c n o f)
-
-pub whole-some : (c : Name) (w : Written) → IsSome (whole_marks c w)
+pub whole-some : (c : Name) (w : Written) → HasSome (whole_marks c w)
 whole-some c w = formula-some c 0 0 w
 
-pub head-some : (c : Name) (head : List Name) → IsSome head → IsSome (head_marks c head)
+pub head-some : (c : Name) (head : List Name) → HasSome head → HasSome (head_marks c head)
 head-some c [] h = absurd h
 head-some c (a ∷ names) h = tt
 
 -- ---- which step a token gives
-pub cond-is : {A P : Type 0} (b : Bool) (x y z : A) → cond b x y ≡ z → (b ≡ true → x ≡ z → P) → (b ≡ false → y ≡ z → P) → P
-cond-is true x y z e yes' no' = yes' refl e
-cond-is false x y z e yes' no' = no' refl e
-
 pub on-is : {P : Type 0} (t wanted : Token) (x y : Moved) (r : Mark × PartText) → on t wanted x y ≡ Some r → (t ≡ wanted → x ≡ Some r → P) → (y ≡ Some r → P) → P
-on-is t wanted x y r e yes' no' = cond-is (bytes_eq t wanted) x y (Some r) e (λ is h. yes' ((bytes_eq-Decides t wanted).0 is) h) (λ is h. no' h)
-
-pub none-is : {A P : Type 0} (r : A) → None ≡ Some r → P
-none-is r e = absurd (cc)
+on-is t wanted x y r e yes' no' = by_cond (bytes_eq t wanted) x y (Some r) e (λ is h. yes' ((bytes_eq-Decides t wanted).0 is) h) (λ is h. no' h)
 
 pub name-is : {P : Type 0} (t : Token) (x : Moved) (r : Mark × PartText) → on_name t x ≡ Some r → (IsNameWord t → x ≡ Some r → P) → P
-name-is t x r e yes' = cond-is (is_name_word t) x None (Some r) e yes' (λ is h. none-is r h)
+name-is t x r e yes' = by_cond (is_name_word t) x None (Some r) e yes' (λ is h. absurd (none-some r h))
 
 pub formula-is : {P : Type 0} (s : PartText) (c : Name) (uses : List Use) (f : PartFormula) (t : Token) (place : PartFormula → Place) (otherwise : Moved) (r : Mark × PartText)
     → in_formula s c uses f t place otherwise ≡ Some r

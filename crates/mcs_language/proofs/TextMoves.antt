@@ -3,17 +3,20 @@ use Rattle.std.proofs.Common.{◌≡◌, ◌+◌, Bool, true, false, List, [], �
 use Rattle.std.specs.Prelude.{codes, ◌&&◌, nat_eq}
 use Rattle.std.specs.Str.{bytes_eq}
 use Rattle.std.specs.List.{AllByRecursion}
+use Rattle.std.proofs.lemmas.Option.{none-some}
+use Rattle.mcs_base.proofs.Booleans.{by_cond}
+use Rattle.mcs_base.proofs.Among.{among_right}
 use Rattle.mcs_system.specs.Plain.{Name}
-use Rattle.mcs_system.proofs.Members.{among_right}
 use Rattle.mcs_language.specs.Written.{WrittenLiteral, WrittenContext, WrittenBridge, Classical, DefaultTheory, Program}
 use Rattle.mcs_language.specs.Marks.{Token, Use, BeginsContext, BeginsBridge, NamesContext, NamesBridge, SaysProgram, BeginsItem, BeginsDefault, NamesTarget, NamesSource, EndsRead, Mark, formula_in}
 use Rattle.mcs_language.specs.FormulaSteps.{PartFormula, no_formula}
 use Rattle.mcs_language.specs.TextSteps.{PartDefault, PartRead, Place, Between, ContextName, KindWord, OpenBrace, NextItem, InFact, InJust, InConclusion, AfterHeadName, NextHeadName, AfterSign, NextLiteral, AfterNot, AfterLiteral, BridgeName, BridgeColon, HeadContext, HeadColon, InHead, AfterHead, NextRead, ReadContext, ReadColon, InRead, AfterRead, PartText, empty_context, is_theory, is_program, add_fact, add_default, add_rule, one_more_just, whole_default, whole_rule, headed, with_read, atom_uses, step_at, text_step}
 use Rattle.mcs_language.specs.TextSteps as steps
 use Rattle.mcs_language.specs.Known.{WasNamed, AreKnown}
-use Rattle.mcs_language.proofs.TextLemmas.{cond-is, on-is, none-is, name-is, formula-is, whole-is, belief-is}
+use Rattle.mcs_language.proofs.TextLemmas.{on-is, name-is, formula-is, whole-is, belief-is}
 use Rattle.mcs_language.proofs.NamedLemmas.{named-later, speaks-later}
-use Rattle.mcs_language.proofs.MoveLemmas.{IsMove, IsOf, is_after_read, of-step, of-belief, text_of, goes-move, stay-move, sign-move, of-move, context-move, bridge-move, read-move}
+use Rattle.mcs_language.proofs.MoveLemmas.{IsMove, IsOf, is_after_read, of-step, of-belief, goes-move, stay-move, sign-move, of-move, context-move, bridge-move, read-move}
+use Rattle.mcs_language.proofs.TextParts.{text_of}
 
 module _ (cs : List WrittenContext) (bs : List WrittenBridge) (t : Token) (r : Mark × PartText) where
   abbrev Moves : Place → Type 0
@@ -22,9 +25,9 @@ module _ (cs : List WrittenContext) (bs : List WrittenBridge) (t : Token) (r : M
   -- ---- between the parts
   between-move : Moves Between
   between-move e =
-      cond-is (bytes_eq t (codes "context") && nat_eq (length bs) 0) _ _ (Some r) e
+      by_cond (bytes_eq t (codes "context") && nat_eq (length bs) 0) _ _ (Some r) e
       (λ is g. stay-move cs bs Between t r ContextName (BeginsContext ∷ []) (λ before h. (tt, tt)) (λ before h. tt) (refl, tt) refl g)
-      (λ _ h. on-is t (codes "bridge") _ _ r h (λ is g. stay-move cs bs Between t r BridgeName (BeginsBridge ∷ []) (λ before k. (tt, tt)) (λ before k. tt) (refl, tt) refl g) (λ n. none-is r n))
+      (λ _ h. on-is t (codes "bridge") _ _ r h (λ is g. stay-move cs bs Between t r BridgeName (BeginsBridge ∷ []) (λ before k. (tt, tt)) (λ before k. tt) (refl, tt) refl g) (λ n. absurd (none-some r n)))
 
   context-name-move : Moves ContextName
   context-name-move e = name-is t _ r e (λ is g. goes-move cs bs ContextName t r (KindWord t) (NamesContext t ∷ []) (λ before h. (tt, tt)) (λ before h named. among_right (NamesContext t) before (NamesContext t ∷ []) (inl refl)) (refl, tt) refl g)
@@ -34,7 +37,7 @@ module _ (cs : List WrittenContext) (bs : List WrittenBridge) (t : Token) (r : M
       on-is t (codes "classical") _ _ r e (λ is g. sign-move cs bs (KindWord n) t r (OpenBrace (empty_context n (Classical []))) (λ before h. h) refl g)
       (λ e2. on-is t (codes "default") _ _ r e2 (λ is g. sign-move cs bs (KindWord n) t r (OpenBrace (empty_context n (DefaultTheory []))) (λ before h. h) refl g)
       (λ e3. on-is t (codes "program") _ _ r e3 (λ is g. of-move cs bs (KindWord n) t r n (OpenBrace (empty_context n (Program []))) (SaysProgram n ∷ []) (refl, tt) (λ before h. h) (λ before h. h) refl g)
-      (λ none. none-is r none)))
+      (λ none. absurd (none-some r none))))
 
   -- ---- of a context
   -- within it another place of it comes
@@ -43,26 +46,26 @@ module _ (cs : List WrittenContext) (bs : List WrittenBridge) (t : Token) (r : M
   in-move c p p' uses of from to away g = of-move cs bs p t r c.name p' uses of from (λ before h. to before (from before h)) away g
 
   brace-move : (c : WrittenContext) → Moves (OpenBrace c)
-  brace-move c e = on-is t (codes "{") _ _ r e (λ is g. in-move c (OpenBrace c) (NextItem c) [] tt (λ before h. h) (λ before h. h) refl g) (λ none. none-is r none)
+  brace-move c e = on-is t (codes "{") _ _ r e (λ is g. in-move c (OpenBrace c) (NextItem c) [] tt (λ before h. h) (λ before h. h) refl g) (λ none. absurd (none-some r none))
 
   item-move : (c : WrittenContext) → Moves (NextItem c)
   item-move c e =
       on-is t (codes "}") _ _ r e (λ is g. context-move cs bs (NextItem c) t r c g)
-      (λ e2. cond-is (is_program c.kb) _ _ (Some r) e2
+      (λ e2. by_cond (is_program c.kb) _ _ (Some r) e2
       (λ _ e3. on-is t (codes ":-") _ _ r e3 (λ is g. in-move c (NextItem c) (AfterSign c []) (BeginsItem c.name ∷ []) (refl, tt) (λ before h. h) (λ before h. h) refl g)
       (λ e4. name-is t _ r e4 (λ is g. in-move c (NextItem c) (AfterHeadName c (t ∷ [])) (BeginsItem c.name ∷ atom_uses c 1 t) (refl, (refl, (tt, tt))) (λ before h. h) (λ before h. h) refl g)))
       (λ _ e3. formula-is (text_of cs bs (NextItem c)) c.name (BeginsItem c.name ∷ []) no_formula t (InFact c) None r e3
       (λ q is g. in-move c (NextItem c) (InFact c q.1) (BeginsItem c.name ∷ (q.0).uses) (refl, of-step c.name no_formula t q is) (λ before h. h) (λ before h. h) refl g)
-      (λ none. none-is r none)))
+      (λ none. absurd (none-some r none))))
 
   fact-move : (c : WrittenContext) (f : PartFormula) → Moves (InFact c f)
   fact-move c f e =
       formula-is (text_of cs bs (InFact c f)) c.name [] f t (InFact c) _ r e
       (λ q is g. in-move c (InFact c f) (InFact c q.1) (q.0).uses (of-step c.name f t q is) (λ before h. h) (λ before h. h) refl g)
       (λ e2. whole-is f _ r e2 (λ w done e3. on-is t (codes ".") _ _ r e3 (λ is g. in-move c (InFact c f) (NextItem (add_fact c w)) [] tt (λ before h. h) (λ before h. h) refl g)
-      (λ e4. cond-is (bytes_eq t (codes ":") && is_theory c.kb) _ _ (Some r) e4
+      (λ e4. by_cond (bytes_eq t (codes ":") && is_theory c.kb) _ _ (Some r) e4
       (λ is g. in-move c (InFact c f) (InJust c (record { pre = w; justs = [] }) no_formula) (BeginsDefault c.name ∷ []) (refl, tt) (λ before h. h) (λ before h. h) refl g)
-      (λ _ none. none-is r none))))
+      (λ _ none. absurd (none-some r none)))))
 
   just-move : (c : WrittenContext) (d : PartDefault) (f : PartFormula) → Moves (InJust c d f)
   just-move c d f e =
@@ -70,13 +73,13 @@ module _ (cs : List WrittenContext) (bs : List WrittenBridge) (t : Token) (r : M
       (λ q is g. in-move c (InJust c d f) (InJust c d q.1) (q.0).uses (of-step c.name f t q is) (λ before h. h) (λ before h. h) refl g)
       (λ e2. whole-is f _ r e2 (λ w done e3. on-is t (codes ",") _ _ r e3 (λ is g. in-move c (InJust c d f) (InJust c (one_more_just d w) no_formula) [] tt (λ before h. h) (λ before h. h) refl g)
       (λ e4. on-is t (codes "/") _ _ r e4 (λ is g. in-move c (InJust c d f) (InConclusion c (one_more_just d w) no_formula) [] tt (λ before h. h) (λ before h. h) refl g)
-      (λ none. none-is r none))))
+      (λ none. absurd (none-some r none)))))
 
   conclusion-move : (c : WrittenContext) (d : PartDefault) (f : PartFormula) → Moves (InConclusion c d f)
   conclusion-move c d f e =
       formula-is (text_of cs bs (InConclusion c d f)) c.name [] f t (InConclusion c d) _ r e
       (λ q is g. in-move c (InConclusion c d f) (InConclusion c d q.1) (q.0).uses (of-step c.name f t q is) (λ before h. h) (λ before h. h) refl g)
-      (λ e2. whole-is f _ r e2 (λ w done e3. on-is t (codes ".") _ _ r e3 (λ is g. in-move c (InConclusion c d f) (NextItem (add_default c (whole_default d w))) [] tt (λ before h. h) (λ before h. h) refl g) (λ none. none-is r none)))
+      (λ e2. whole-is f _ r e2 (λ w done e3. on-is t (codes ".") _ _ r e3 (λ is g. in-move c (InConclusion c d f) (NextItem (add_default c (whole_default d w))) [] tt (λ before h. h) (λ before h. h) refl g) (λ none. absurd (none-some r none))))
 
   -- ---- of a program rule
   head-name-move : (c : WrittenContext) (head : List Name) → Moves (AfterHeadName c head)
@@ -84,7 +87,7 @@ module _ (cs : List WrittenContext) (bs : List WrittenBridge) (t : Token) (r : M
       on-is t (codes "|") _ _ r e (λ is g. in-move c (AfterHeadName c head) (NextHeadName c head) [] tt (λ before h. h) (λ before h. h) refl g)
       (λ e2. on-is t (codes ":-") _ _ r e2 (λ is g. in-move c (AfterHeadName c head) (AfterSign c head) [] tt (λ before h. h) (λ before h. h) refl g)
       (λ e3. on-is t (codes ".") _ _ r e3 (λ is g. in-move c (AfterHeadName c head) (NextItem (add_rule c (whole_rule head false []))) [] tt (λ before h. h) (λ before h. h) refl g)
-      (λ none. none-is r none)))
+      (λ none. absurd (none-some r none))))
 
   next-head-move : (c : WrittenContext) (head : List Name) → Moves (NextHeadName c head)
   next-head-move c head e =
@@ -107,20 +110,20 @@ module _ (cs : List WrittenContext) (bs : List WrittenBridge) (t : Token) (r : M
   after-literal-move c head body e =
       on-is t (codes ",") _ _ r e (λ is g. in-move c (AfterLiteral c head body) (NextLiteral c head body) [] tt (λ before h. h) (λ before h. h) refl g)
       (λ e2. on-is t (codes ".") _ _ r e2 (λ is g. in-move c (AfterLiteral c head body) (NextItem (add_rule c (whole_rule head true body))) [] tt (λ before h. h) (λ before h. h) refl g)
-      (λ none. none-is r none))
+      (λ none. absurd (none-some r none)))
 
   -- ---- of a bridge rule
   bridge-name-move : Moves BridgeName
   bridge-name-move e = name-is t _ r e (λ is g. stay-move cs bs BridgeName t r (BridgeColon t) (NamesBridge t ∷ []) (λ before h. (tt, tt)) (λ before h. tt) (refl, tt) refl g)
 
   bridge-colon-move : (n : Name) → Moves (BridgeColon n)
-  bridge-colon-move n e = on-is t (codes ":") _ _ r e (λ is g. sign-move cs bs (BridgeColon n) t r (HeadContext n) (λ before h. tt) refl g) (λ none. none-is r none)
+  bridge-colon-move n e = on-is t (codes ":") _ _ r e (λ is g. sign-move cs bs (BridgeColon n) t r (HeadContext n) (λ before h. tt) refl g) (λ none. absurd (none-some r none))
 
   head-context-move : (n : Name) → Moves (HeadContext n)
   head-context-move n e = name-is t _ r e (λ is g. goes-move cs bs (HeadContext n) t r (HeadColon n t) (NamesTarget t ∷ []) (λ before h. (tt, tt)) (λ before h named. named-later before (NamesTarget t ∷ []) t named.0) (refl, tt) refl g)
 
   head-colon-move : (n c : Name) → Moves (HeadColon n c)
-  head-colon-move n c e = on-is t (codes ":") _ _ r e (λ is g. sign-move cs bs (HeadColon n c) t r (InHead n c no_formula) (λ before h. h) refl g) (λ none. none-is r none)
+  head-colon-move n c e = on-is t (codes ":") _ _ r e (λ is g. sign-move cs bs (HeadColon n c) t r (InHead n c no_formula) (λ before h. h) refl g) (λ none. absurd (none-some r none))
 
   in-head-move : (n c : Name) (f : PartFormula) → Moves (InHead n c f)
   in-head-move n c f e =
@@ -131,7 +134,7 @@ module _ (cs : List WrittenContext) (bs : List WrittenBridge) (t : Token) (r : M
   after-head-move : (b : WrittenBridge) → Moves (AfterHead b)
   after-head-move b e =
       on-is t (codes "if") _ _ r e (λ is g. sign-move cs bs (AfterHead b) t r (NextRead b) (λ before h. h) refl g)
-      (λ e2. on-is t (codes ".") _ _ r e2 (λ is g. bridge-move cs bs (AfterHead b) t r b (λ before h. h) g) (λ none. none-is r none))
+      (λ e2. on-is t (codes ".") _ _ r e2 (λ is g. bridge-move cs bs (AfterHead b) t r b (λ before h. h) g) (λ none. absurd (none-some r none)))
 
   source-move : (b : WrittenBridge) (denied : Bool) (p : Place) → ((before : List Use) → AreKnown before p → AreKnown before (NextRead b)) → steps.read_context (text_of cs bs p) b denied t ≡ Some r → IsMove (text_of cs bs p) t r
   source-move b denied p from e =
@@ -142,7 +145,7 @@ module _ (cs : List WrittenContext) (bs : List WrittenBridge) (t : Token) (r : M
   next-read-move b e = on-is t (codes "not") _ _ r e (λ is g. sign-move cs bs (NextRead b) t r (ReadContext b) (λ before h. h) refl g) (λ e2. source-move b false (NextRead b) (λ before h. h) e2)
 
   read-colon-move : (b : WrittenBridge) (d : PartRead) → Moves (ReadColon b d)
-  read-colon-move b d e = on-is t (codes ":") _ _ r e (λ is g. sign-move cs bs (ReadColon b d) t r (InRead b d no_formula) (λ before h. h) refl g) (λ none. none-is r none)
+  read-colon-move b d e = on-is t (codes ":") _ _ r e (λ is g. sign-move cs bs (ReadColon b d) t r (InRead b d no_formula) (λ before h. h) refl g) (λ none. absurd (none-some r none))
 
   in-read-move : (b : WrittenBridge) (d : PartRead) (f : PartFormula) → Moves (InRead b d f)
   in-read-move b d f e =
@@ -153,7 +156,7 @@ module _ (cs : List WrittenContext) (bs : List WrittenBridge) (t : Token) (r : M
   after-read-move : (b : WrittenBridge) → Moves (AfterRead b)
   after-read-move b e =
       on-is t (codes ",") _ _ r e (λ is g. sign-move cs bs (AfterRead b) t r (NextRead b) (λ before h. h) refl g)
-      (λ e2. on-is t (codes ".") _ _ r e2 (λ is g. bridge-move cs bs (AfterRead b) t r b (λ before h. h) g) (λ none. none-is r none))
+      (λ e2. on-is t (codes ".") _ _ r e2 (λ is g. bridge-move cs bs (AfterRead b) t r b (λ before h. h) g) (λ none. absurd (none-some r none)))
 
   -- ---- of a text
   place-move : (p : Place) → Moves p

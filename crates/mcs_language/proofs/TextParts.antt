@@ -7,6 +7,7 @@ use Rattle.mcs_language.specs.Written.{Written, WrittenLiteral, WrittenRead, Wri
 use Rattle.mcs_language.specs.Marks.{Token, BeginsContext, BeginsBridge, NamesContext, NamesBridge, SaysProgram, BeginsItem, BeginsDefault, NamesTarget, NamesSource, BeginsBelief, Mark, mark, with_first, whole_marks, after_sign, head_marks, optional, body_marks, item_marks, rule_marks, ended, context_marks, place_marks, reads_marks, bridge_marks}
 use Rattle.mcs_language.specs.TextSteps.{PartDefault, Place, Between, ContextName, KindWord, OpenBrace, NextItem, InFact, InJust, InConclusion, AfterHeadName, NextHeadName, AfterSign, NextLiteral, AfterNot, AfterLiteral, BridgeName, BridgeColon, HeadContext, HeadColon, InHead, AfterHead, NextRead, ReadContext, ReadColon, InRead, AfterRead, PartText, is_theory, is_program}
 use Rattle.mcs_language.proofs.FormulaParts.{IsPart, part_marks, IsPrimaryPart}
+use Rattle.mcs_language.specs.TextImages.{HasSome}
 
 -- ---- the marks of what was written of a context
 abbrev pub sign_mark : Token → Mark
@@ -96,6 +97,9 @@ so_far (ReadColon b r) = open_bridge b ++ (before_read b.reads ++ (optional r.de
 so_far (InRead b r f) = open_bridge b ++ (before_read b.reads ++ (optional r.denied (codes "not") ++ source_mark r.context ∷ sign_mark (codes ":") ∷ begun_belief r.context (part_marks r.context f)))
 so_far (AfterRead b) = open_bridge b
 
+abbrev pub text_of : List WrittenContext → List WrittenBridge → Place → PartText
+text_of cs bs p = record { contexts = cs; bridges = bs; place = p }
+
 -- the contexts and the bridge rules that are whole
 abbrev pub whole_parts : List WrittenContext → List WrittenBridge → List Mark
 whole_parts cs bs = flat_map context_marks cs ++ flat_map bridge_marks bs
@@ -104,10 +108,6 @@ abbrev pub marks_so_far : PartText → List Mark
 marks_so_far s = whole_parts s.contexts s.bridges ++ so_far s.place
 
 -- ---- which parts the grammar has
-abbrev pub IsSome : {A : Type 0} → List A → Type 0
-IsSome [] = ⊥
-IsSome (x ∷ xs) = Unit {0}
-
 abbrev pub AreNames : List Name → Type 0
 AreNames names = AllByRecursion IsNameWord names
 
@@ -126,15 +126,15 @@ IsInContext ContextName = Unit {0}
 IsInContext (KindWord n) = IsNameWord n
 IsInContext (OpenBrace c) = IsContext c × (kb_items c.name c.kb ≡ [])
 IsInContext (NextItem c) = IsContext c
-IsInContext (InFact c f) = IsContext c × (is_program c.kb ≡ false) × IsPart f × IsSome (part_marks c.name f)
+IsInContext (InFact c f) = IsContext c × (is_program c.kb ≡ false) × IsPart f × HasSome (part_marks c.name f)
 IsInContext (InJust c d f) = IsInTheory c d × IsPart f
-IsInContext (InConclusion c d f) = IsInTheory c d × IsSome d.justs × IsPart f
-IsInContext (AfterHeadName c head) = IsInRule c head × IsSome head
-IsInContext (NextHeadName c head) = IsInRule c head × IsSome head
+IsInContext (InConclusion c d f) = IsInTheory c d × HasSome d.justs × IsPart f
+IsInContext (AfterHeadName c head) = IsInRule c head × HasSome head
+IsInContext (NextHeadName c head) = IsInRule c head × HasSome head
 IsInContext (AfterSign c head) = IsInRule c head
-IsInContext (NextLiteral c head body) = IsInRule c head × AreLiterals body × IsSome body
+IsInContext (NextLiteral c head body) = IsInRule c head × AreLiterals body × HasSome body
 IsInContext (AfterNot c head body) = IsInRule c head × AreLiterals body
-IsInContext (AfterLiteral c head body) = IsInRule c head × AreLiterals body × IsSome body
+IsInContext (AfterLiteral c head body) = IsInRule c head × AreLiterals body × HasSome body
 IsInContext p = ⊥
 
 -- contexts stand before bridge rules
@@ -150,7 +150,7 @@ IsRight bs (NextRead b) = IsBridge b
 IsRight bs (ReadContext b) = IsBridge b
 IsRight bs (ReadColon b r) = IsBridge b × IsNameWord r.context
 IsRight bs (InRead b r f) = IsBridge b × IsNameWord r.context × IsPrimaryPart f
-IsRight bs (AfterRead b) = IsBridge b × IsSome b.reads
+IsRight bs (AfterRead b) = IsBridge b × HasSome b.reads
 IsRight bs p = (bs ≡ []) × IsInContext p
 
 -- all parts that were written are of the grammar

@@ -3,8 +3,12 @@ use Rattle.std.specs.Prelude.{◌≡◌, List, [], ◌∷◌, ◌++◌, Option, 
 use Rattle.std.specs.Option.{option_and_then}
 use Rattle.std.proofs.Common.{refl, ◌∙◌, ap}
 use Rattle.std.proofs.lemmas.List.{map-append}
-use Rattle.mcs_language.specs.Marks.{Token, Mark, tokens_of}
-use Rattle.mcs_language.specs.TextSteps.{PartText, Moved, text_step, text_steps}
+use Rattle.std.proofs.lemmas.Option.{same_Some}
+use Rattle.mcs_system.specs.Plain.{Name}
+use Rattle.mcs_language.specs.Written.{Written}
+use Rattle.mcs_language.specs.Marks.{Token, Use, Mark, tokens_of}
+use Rattle.mcs_language.specs.FormulaSteps.{PartFormula, formula_step, finished_primary}
+use Rattle.mcs_language.specs.TextSteps.{Place, PartText, Moved, goes, first_of_belief, in_belief, text_step, text_steps}
 
 -- the tokens of these marks are taken one after the other, with these marks
 abbrev pub Runs : PartText → List Mark → PartText → Type 0
@@ -19,9 +23,6 @@ after_mark m q = (m ∷ q.0, q.1)
 
 abbrev from_then : List Token → Mark × PartText → Ran
 from_then ts r = option_map (after_mark r.0) (text_steps r.1 ts)
-
-pub some-is : {A : Type 0} {a b : A} → Some a ≡ Some b → a ≡ b
-some-is e = cc
 
 -- the first token, and the others
 pub record Stepped (s : PartText) (t : Token) (ts : List Token) (ms : List Mark) (s' : PartText) : Type 0 where
@@ -51,7 +52,7 @@ steps-more s t ts m s1 ms s' e h = rw (e, h) refl
 -- the tokens of one list and then those of the other
 pub steps-append : (s : PartText) (ts us : List Token) (xs ys : List Mark) (s1 s2 : PartText) → text_steps s ts ≡ Some (xs, s1) → text_steps s1 us ≡ Some (ys, s2) → text_steps s (ts ++ us) ≡ Some (xs ++ ys, s2)
 steps-append s [] us xs ys s1 s2 e h =
-    let same : ([], s) ≡ (xs, s1) = some-is e in
+    let same : ([], s) ≡ (xs, s1) = same_Some _ _ e in
     let empty : [] ≡ xs = ap (λ (p : List Mark × PartText). p.0) same in
     let here : s ≡ s1 = ap (λ (p : List Mark × PartText). p.1) same in
     rw (here, ← empty) h
@@ -83,3 +84,12 @@ runs-cons s s1 s2 m ms e h = steps-more s m.token (tokens_of ms) m s1 ms s2 e h
 
 pub runs-append : (s s1 s2 : PartText) (xs ys : List Mark) → Runs s xs s1 → Runs s1 ys s2 → Runs s (xs ++ ys) s2
 runs-append s s1 s2 xs ys e h = ap (text_steps s) (map-append (λ (m : Mark). m.token) xs ys) ∙ steps-append s (tokens_of xs) (tokens_of ys) xs ys s1 s2 e h
+
+-- ---- one token more of a belief
+pub within-belief : (s : PartText) (c : Name) (f : PartFormula) (t : Token) (place : PartFormula → Place) (uses : Written → List Use) (after : Written → Place) (r : Mark × PartFormula) → formula_step c f t ≡ Some r → finished_primary r.1 ≡ None
+    → in_belief s c f t place uses after ≡ goes s t (first_of_belief c f ++ (r.0).uses) (place r.1)
+within-belief s c f t place uses after r e free = rw (e, free) refl
+
+pub whole-belief : (s : PartText) (c : Name) (f : PartFormula) (t : Token) (place : PartFormula → Place) (uses : Written → List Use) (after : Written → Place) (r : Mark × PartFormula) (w : Written) → formula_step c f t ≡ Some r → finished_primary r.1 ≡ Some w
+    → in_belief s c f t place uses after ≡ goes s t (uses w ++ (first_of_belief c f ++ (r.0).uses)) (after w)
+whole-belief s c f t place uses after r w e ends = rw (e, ends) refl

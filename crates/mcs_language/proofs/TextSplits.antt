@@ -1,13 +1,12 @@
 -- A text's marks, split at one of them; and how long lists without repeats can be.
-use Rattle.std.proofs.Common.{◌≡◌, ℕ, zero, suc, ◌+◌, ◌<◌, ◌≤◌, Bool, true, cond, List, [], ◌∷◌, ◌++◌, filter, take, length, Some, sym, ap, subst, ◌∙◌, inl, inr, arith, slice_get}
+use Rattle.std.proofs.Common.{◌≡◌, ℕ, zero, suc, ◌<◌, Bool, true, List, [], ◌∷◌, ◌++◌, take, Some, sym, ap, subst, ◌∙◌, arith, slice_get}
 use Rattle.std.specs.Prelude.{count_by}
 use Rattle.std.proofs.lemmas.Grind.{flat_map-append}
-use Rattle.std.proofs.lemmas.List.Sums.{sum_by-append, length-filter}
+use Rattle.std.proofs.lemmas.Option.{same_Some}
 use Rattle.mcs_base.specs.Listings.{IsAmong}
-use Rattle.mcs_system.proofs.Members.{among_left, among_right, among_filter}
+use Rattle.mcs_base.proofs.Sums.{count_some, count_by-append}
+use Rattle.mcs_base.proofs.Among.{among_left, among_right}
 use Rattle.mcs_language.specs.Marks.{Use, Mark, uses_of}
-use Rattle.mcs_language.specs.Faults.{AreDifferent}
-use Rattle.mcs_language.proofs.TextRuns.{some-is}
 
 -- ---- what the marks before one are there for, what it is there for itself, and what comes after
 pub record IsSplit (uses before here : List Use) : Type 0 where
@@ -20,7 +19,7 @@ pub record IsSplitAt (marks : List Mark) (k : ℕ) (m : Mark) : Type 0 where
 
 pub split-at : (marks : List Mark) (k : ℕ) (m : Mark) → slice_get marks k ≡ Some m → IsSplitAt marks k m
 split-at [] k m is = cc
-split-at (x ∷ xs) zero m is = record { after = xs; whole = ap (λ (y : Mark). y ∷ xs) (some-is is) }
+split-at (x ∷ xs) zero m is = record { after = xs; whole = ap (λ (y : Mark). y ∷ xs) (same_Some _ _ is) }
 split-at (x ∷ xs) (suc k) m is = let rest = split-at xs k m is in record { after = rest.after; whole = ap (λ (ys : List Mark). x ∷ ys) rest.whole }
 
 pub uses-split : (marks : List Mark) (k : ℕ) (m : Mark) → slice_get marks k ≡ Some m → IsSplit (uses_of marks) (uses_of (take k marks)) m.uses
@@ -35,31 +34,11 @@ pub among-here : (uses before here : List Use) (u : Use) → IsSplit uses before
 among-here uses before here u s h = subst (IsAmong u) (sym s.whole) (among_right u before (here ++ s.after) (among_left u here s.after h))
 
 -- ---- counts
-some-long : {A : Type 0} (x : A) (xs : List A) → IsAmong x xs → 1 ≤ length xs
-some-long x [] h = absurd h
-some-long x (y ∷ ys) h = omega arith
-
-pub count-among : {A : Type 0} (p : A → Bool) (x : A) (xs : List A) → IsAmong x xs → p x ≡ true → 1 ≤ count_by p xs
-count-among p x xs h passes =
-    let some = some-long x (filter p xs) (among_filter p x xs h passes) in
-    let same = length-filter p xs in
-    omega arith
-
-pub count-append : {A : Type 0} (p : A → Bool) (xs ys : List A) → count_by p (xs ++ ys) ≡ count_by p xs + count_by p ys
-count-append p xs ys = sum_by-append (λ x. cond (p x) 1 0) xs ys
-
 -- there is one more than before
 pub count-more : (p : Use → Bool) (uses before here : List Use) (u : Use) → IsSplit uses before here → IsAmong u here → p u ≡ true → count_by p before < count_by p uses
 count-more p uses before here u s h passes =
     let all = ap (count_by p) s.whole in
-    let parts = count-append p before (here ++ s.after) in
-    let rest = count-append p here s.after in
-    let one = count-among p u here h passes in
+    let parts = count_by-append p before (here ++ s.after) in
+    let rest = count_by-append p here s.after in
+    let one = count_some p u here h passes in
     omega arith
-
--- ---- lists without repeats
--- what stands in both parts stands twice
-pub different-parts : {A : Type 0} (x : A) (xs ys : List A) → AreDifferent (xs ++ ys) → IsAmong x xs → IsAmong x ys → ⊥
-different-parts {A} x [] ys d h g = absurd h
-different-parts {A} x (z ∷ zs) ys d (inl e) g = d.0 (subst (λ (w : A). IsAmong w (zs ++ ys)) e (among_right x zs ys g))
-different-parts {A} x (z ∷ zs) ys d (inr h) g = different-parts x zs ys d.1 h g

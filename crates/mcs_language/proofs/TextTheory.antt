@@ -1,10 +1,11 @@
 -- Texts token by token: which tokens are those of a text, and with which marks.
 use Rattle.std.proofs.Common.{◌≡◌, List, [], ◌∷◌, ◌++◌, Some, refl, sym, ap, subst, ◌∙◌, append_assoc}
 use Rattle.std.proofs.lemmas.List.{append-nil}
+use Rattle.std.proofs.lemmas.Option.{same_Some}
 use Rattle.mcs_language.specs.Written.{WrittenContext, WrittenBridge, WrittenText, IsText}
 use Rattle.mcs_language.specs.Marks.{Token, Mark, text_marks, tokens_of}
 use Rattle.mcs_language.specs.TextSteps.{Place, Between, PartText, nothing_written, text_steps, finished_text}
-use Rattle.mcs_language.proofs.TextRuns.{some-is, steps-first}
+use Rattle.mcs_language.proofs.TextRuns.{steps-first}
 use Rattle.mcs_language.proofs.TextParts.{whole_parts, marks_so_far, IsSoFar}
 use Rattle.mcs_language.proofs.TextSound.{text-goes-on}
 use Rattle.mcs_language.proofs.TextFill.{text-fills}
@@ -23,7 +24,7 @@ pub record AreTaken (s : PartText) (ts : List Token) (ms : List Mark) (s' : Part
 
 pub are-taken : (s : PartText) (ts : List Token) (ms : List Mark) (s' : PartText) → IsSoFar s → text_steps s ts ≡ Some (ms, s') → AreTaken s ts ms s'
 are-taken s [] ms s' h e =
-    let same : ([], s) ≡ (ms, s') = some-is e in
+    let same : ([], s) ≡ (ms, s') = same_Some _ _ e in
     subst (λ (p : List Mark × PartText). AreTaken s [] p.0 p.1) same (record { parts = h; marks_are = sym (append-nil (marks_so_far s)); same = refl })
 are-taken s (t ∷ ts) ms s' h e =
     let d = steps-first s t ts ms s' e in
@@ -41,7 +42,7 @@ unfolding finished_text
 finished-is cs bs Between t h e =
     let P : WrittenText → Type 0 = λ (u : WrittenText). IsText u × (text_marks u ≡ whole_parts cs bs ++ []) in
     let here : P (record { contexts = cs; bridges = bs }) = ((h.contexts, h.bridges), sym (append-nil (whole_parts cs bs))) in
-    subst P (some-is e) here
+    subst P (same_Some _ _ e) here
 finished-is cs bs p t h e = absurd (cc)
 
 pub text-sound : (ts : List Token) (ms : List Mark) (s : PartText) (t : WrittenText) → text_steps nothing_written ts ≡ Some (ms, s) → finished_text s ≡ Some t → IsText t × (text_marks t ≡ ms) × (tokens_of ms ≡ ts)
@@ -62,5 +63,5 @@ pub text-unique : (t u : WrittenText) → IsText t → IsText u → tokens_of (t
 text-unique t u ht hu same =
     let f = text-forward t ht in
     let g = text-forward u hu in
-    let both : ◌≡◌ {A = List Mark × PartText} (text_marks t, whole_text t) (text_marks u, whole_text u) = some-is (sym f.0 ∙ ap (text_steps nothing_written) same ∙ g.0) in
-    some-is (sym f.1 ∙ ap finished_text (ap (λ (p : List Mark × PartText). p.1) both) ∙ g.1)
+    let both : ◌≡◌ {A = List Mark × PartText} (text_marks t, whole_text t) (text_marks u, whole_text u) = same_Some _ _ (sym f.0 ∙ ap (text_steps nothing_written) same ∙ g.0) in
+    same_Some _ _ (sym f.1 ∙ ap finished_text (ap (λ (p : List Mark × PartText). p.1) both) ∙ g.1)

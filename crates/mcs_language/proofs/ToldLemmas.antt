@@ -3,7 +3,7 @@ use Rattle.std.proofs.Common.{◌≡◌, ℕ, ◌<◌, List, length, Some, None,
 use Rattle.std.specs.Prelude.{slice_range}
 use Rattle.std.proofs.lemmas.List.{length-map}
 use Rattle.std.proofs.lemmas.Option.{slice_get-get_or, slice_get_past}
-use Rattle.mcs_system.proofs.SeenLemmas.{slice_get-map}
+use Rattle.mcs_base.proofs.Lists.{slice_get-map_at}
 use Rattle.mcs_tokens.specs.Tokens.{AreTokens}
 use Rattle.mcs_tokens.specs.declared.scan.Span.{Span}
 use Rattle.mcs_language.specs.declared.fault.Fault as code_fault
@@ -21,7 +21,7 @@ use Rattle.mcs_language.proofs.ProgressLemmas.{reached}
 
 -- ---- where a token stands
 pub token-at : (bytes : List ℕ) (spans : List Span) (k : ℕ) (d : Span) (t : Token) → k < length spans → t ≡ slice_range bytes (get_or spans k d).from (get_or spans k d).to → slice_get (token_texts bytes spans) k ≡ Some t
-token-at bytes spans k d t less is = slice_get-map (λ (s : Span). slice_range bytes s.from s.to) spans k d less ∙ ap (λ (x : Token). Some x) (sym is)
+token-at bytes spans k d t less is = slice_get-map_at (λ (s : Span). slice_range bytes s.from s.to) spans k d less ∙ ap (λ (x : Token). Some x) (sym is)
 
 pub tokens-many : (bytes : List ℕ) (spans : List Span) → length spans ≡ length (token_texts bytes spans)
 tokens-many bytes spans = sym (length-map spans (λ (s : Span). slice_range bytes s.from s.to))

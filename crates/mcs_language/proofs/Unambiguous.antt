@@ -1,12 +1,12 @@
 -- A text spells one system at most.
 use Rattle.std.proofs.Common.{◌≡◌, ℕ, List, [], ◌∷◌, refl, sym, ap, ◌∙◌, subst}
+use Rattle.std.proofs.lemmas.Option.{same_Some}
 use Rattle.mcs_system.specs.Plain as plain
 use Rattle.mcs_system.specs.Plain.{Name}
 use Rattle.mcs_tokens.proofs.Unique.{lists_are_unique}
 use Rattle.mcs_language.specs.Written.{WrittenPlace, WrittenBridge, WrittenText}
 use Rattle.mcs_language.specs.Saying.{SaysPlace, Each, SaysBridge, SaysSystem, names_of}
 use Rattle.mcs_language.specs.Texts.{token_texts, TextsAreUnambiguous}
-use Rattle.mcs_language.proofs.TextRuns.{some-is}
 use Rattle.mcs_language.proofs.TextTheory.{text-unique}
 
 -- what says one thing at most does so one by one
@@ -32,14 +32,14 @@ system contexts bridges = record { contexts = contexts; bridges = bridges }
 
 place-unique : (names : List Name) (p : WrittenPlace) (r q : plain.Read) → SaysPlace names p r → SaysPlace names p q → r ≡ q
 place-unique names p r q h k =
-    let number : r.context ≡ q.context = some-is (sym h.number ∙ k.number) in
+    let number : r.context ≡ q.context = same_Some _ _ (sym h.number ∙ k.number) in
     let belief : r.belief ≡ q.belief = h.belief ∙ sym k.belief in
     ap (λ (c : ℕ). read c r.belief) number ∙ ap (read q.context) belief
 
 bridge-unique : (names : List Name) (w : WrittenBridge) (b d : plain.Bridge) → SaysBridge names w b → SaysBridge names w d → b ≡ d
 bridge-unique names w b d h k =
     let named : b.name ≡ d.name = h.named ∙ sym k.named in
-    let target : b.target ≡ d.target = some-is (sym h.head.number ∙ k.head.number) in
+    let target : b.target ≡ d.target = same_Some _ _ (sym h.head.number ∙ k.head.number) in
     let head : b.head ≡ d.head = h.head.belief ∙ sym k.head.belief in
     let pos : b.pos ≡ d.pos = each-unique (SaysPlace names) (place-unique names) _ b.pos d.pos h.pos k.pos in
     let neg : b.neg ≡ d.neg = each-unique (SaysPlace names) (place-unique names) _ b.neg d.neg h.neg k.neg in

@@ -2,12 +2,12 @@
 use Rattle.std.proofs.Common.{◌≡◌, ℕ, ◌<◌, Bool, true, false, List, [], ◌∷◌, map, refl, sym, ap, ◌∙◌, subst, inl, inr, ◌⊎◌, arith, true≢false}
 use Rattle.std.specs.Prelude.{min}
 use Rattle.mcs_base.specs.Listings.{IsAmong}
+use Rattle.mcs_base.proofs.Among.{among_left, among_right, among_either}
 use Rattle.mcs_language.specs.declared.place.Role as code_role
 use Rattle.mcs_language.specs.declared.place.Role.TheVariants as roles
 use Rattle.mcs_language.specs.declared.place.Uses as code_uses
 use Rattle.mcs_language.specs.Marks.{Token, Use, BeginsContext, BeginsBridge, NamesContext, NamesBridge, SaysProgram, BeginsItem, BeginsDefault, NamesTarget, NamesSource, BeginsBelief, EndsRead, AtomOf, IsNumber, OpensWithin}
 use Rattle.mcs_language.specs.TextImages.{About, capped, role_uses, when, uses_in}
-use Rattle.mcs_system.proofs.Members.{among_left, among_right, among_either}
 
 abbrev pub is_number : Use → Bool
 is_number (IsNumber n) = true

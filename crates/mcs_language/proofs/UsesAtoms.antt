@@ -4,16 +4,16 @@ use Rattle.std.specs.List.{flat_map}
 use Rattle.std.proofs.lemmas.Grind.{flat_map-append}
 use Rattle.std.proofs.lemmas.List.Folds.{flat_map-map}
 use Rattle.mcs_base.specs.Listings.{IsAmong}
+use Rattle.mcs_base.proofs.Lists.{flat_map_same, flat_map-flat_map}
+use Rattle.mcs_base.proofs.Among.{among_left, among_right, among_either, among_flat_map, flat_map_among}
 use Rattle.mcs_system.specs.Plain.{Name}
 use Rattle.mcs_system.specs.Logic.{atoms}
 use Rattle.mcs_system.specs.Atoms.{item_atoms, rule_atoms, kb_atoms}
-use Rattle.mcs_system.proofs.Members.{among_left, among_right, among_either, among_flat_map, flat_map_among}
 use Rattle.mcs_language.specs.Written.{Written, WrittenItem, Fact, Rule, WrittenKb, Classical, DefaultTheory, Program, WrittenRule, WrittenContext, WrittenPlace, WrittenText}
 use Rattle.mcs_language.specs.Marks.{Use, AtomOf, formula_in}
 use Rattle.mcs_language.specs.Saying.{item_in, rule_in, kb_in}
 use Rattle.mcs_language.specs.Faults.{WasAtom}
 use Rattle.mcs_language.proofs.UsesParts.{text_uses, IsPlaceOf, OfHead, OfRead, IsAtomOf, item_formulas, kb_formulas, kb_rules}
-use Rattle.mcs_language.proofs.MarkLists.{flat_map-same, flat_map-flat_map}
 use Rattle.mcs_language.proofs.FormulaUses.{whole-part}
 use Rattle.mcs_language.proofs.RuleUses.{rule-part}
 use Rattle.mcs_language.proofs.ContextUses.{formula_uses, KbUse, OfKind, OfItem, OfDefault, WithinFormula, WithinRule, kb-uses, formula-among, rule-among}
@@ -40,7 +40,7 @@ kb-atoms : (kb : WrittenKb) → kb_atoms (kb_in kb) ≡ flat_map atoms_in (kb_fo
 kb-atoms (Classical formulas) = flat_map-map atoms formula_in formulas ∙ sym (append-nil (flat_map atoms_in formulas))
 kb-atoms (DefaultTheory items) =
     flat_map-map item_atoms item_in items
-    ∙ flat_map-same (λ (i : WrittenItem). item_atoms (item_in i)) (λ (i : WrittenItem). flat_map atoms_in (item_formulas i)) items item-atoms
+    ∙ flat_map_same (λ (i : WrittenItem). item_atoms (item_in i)) (λ (i : WrittenItem). flat_map atoms_in (item_formulas i)) items item-atoms
     ∙ sym (flat_map-flat_map atoms_in item_formulas items)
     ∙ sym (append-nil (flat_map atoms_in (flat_map item_formulas items)))
 kb-atoms (Program rules) = flat_map-map rule_atoms rule_in rules

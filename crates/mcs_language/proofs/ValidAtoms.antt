@@ -3,25 +3,25 @@ use Rattle.std.proofs.Common.{◌≡◌, ℕ, true, false, nat_lt, nat_eq, List,
 use Rattle.std.specs.Prelude.{slice_get}
 use Rattle.std.specs.List.{flat_map}
 use Rattle.std.proofs.lemmas.Bool.Decides.{nat_tests}
+use Rattle.std.proofs.lemmas.Bool.{le-ltb}
 use Rattle.mcs_base.specs.Listings.{IsAmong}
+use Rattle.mcs_base.proofs.Among.{map_among, among_either, filter_among, flat_map_among}
 use Rattle.mcs_system.specs.Plain.{Name, Formula, Read, Bridge, System}
 use Rattle.mcs_system.specs.Logic.{atoms}
 use Rattle.mcs_system.specs.Systems.{occurrences, context_variables}
 use Rattle.mcs_system.specs.Atoms.{own_atoms, all_heads_into, atom_occurrences, atoms_of}
-use Rattle.mcs_system.specs.declared.fault.Limit.TheVariants.{AtomsPerContext}
+use Rattle.mcs_system.specs.declared.limit.Limit.TheVariants.{AtomsPerContext}
 use Rattle.mcs_system.specs.Faults.{exceeds}
-use Rattle.mcs_system.proofs.Members.{among_either, filter_among, flat_map_among}
 use Rattle.mcs_system.proofs.VariableLemmas.{firsts_among}
+use Rattle.mcs_system.proofs.NameLemmas.{first_names-among, first_names-distinct}
 use Rattle.mcs_language.specs.Written.{WrittenContext, WrittenPlace, WrittenText}
 use Rattle.mcs_language.specs.Saying.{SaysPlace, SaysSystem, names_of}
 use Rattle.mcs_language.specs.Faults.{WasAtom}
 use Rattle.mcs_language.proofs.UsesLemmas.{text_uses, IsPlaceOf, OfHead, OfRead, atoms-there}
 use Rattle.mcs_language.proofs.Within.{IsWithin}
-use Rattle.mcs_language.proofs.MarkLists.{map-among}
-use Rattle.mcs_language.proofs.WithoutRepeats.{first-among, first-different}
 use Rattle.mcs_language.proofs.SaidSystem.{read-written, as-many-contexts, bridge-written, IsContextAt, context-below}
 use Rattle.mcs_language.proofs.SaidReads.{name-same, occurs-in}
-use Rattle.mcs_language.proofs.ValidCounts.{kept, no-context}
+use Rattle.mcs_language.proofs.ValidCounts.{no-context}
 
 module _ (t : WrittenText) (m : System) (says : SaysSystem t m) where
   -- of a place at the context
@@ -35,7 +35,7 @@ module _ (t : WrittenText) (m : System) (says : SaysSystem t m) where
   head-atom : (i : ℕ) (x : WrittenContext) (a : Name) → IsContextAt t m i x.name x → IsAmong a (flat_map atoms (all_heads_into m i)) → WasAtom (text_uses t) x.name a
   head-atom i x a at h =
       let (f, in_heads, in_f) = flat_map_among atoms a (all_heads_into m i) h in
-      let (b, in_rules, is) = map-among (λ (c : Bridge). c.head) f (filter (λ (c : Bridge). nat_eq c.target i) m.bridges) in_heads in
+      let (b, in_rules, is) = map_among (λ (c : Bridge). c.head) f (filter (λ (c : Bridge). nat_eq c.target i) m.bridges) in_heads in
       let both = filter_among (λ (c : Bridge). nat_eq c.target i) b m.bridges in_rules in
       let into : b.target ≡ i = let test : nat_eq b.target i ≡ true = both.1 in grind (arith, nat_tests) in
       let (w, there, s) = bridge-written t m says b both.0 in
@@ -72,5 +72,5 @@ module _ (t : WrittenText) (m : System) (says : SaysSystem t m) where
   few-atoms within = no-context m (λ i. nat_lt 64 (length (atoms_of m i))) (λ i less.
       let many = as-many-contexts t m says in
       let (x, at) = context-below t m says i (omega arith) in
-      let few = within.atoms x.name (atoms_of m i) (first-different (atom_occurrences m i)) (λ a h. atom-occurs i x a at (first-among a (atom_occurrences m i) h)) in
-      kept 64 (length (atoms_of m i)) few)
+      let few = within.atoms x.name (atoms_of m i) (first_names-distinct (atom_occurrences m i)) (λ a h. atom-occurs i x a at ((first_names-among a (atom_occurrences m i)).0 h)) in
+      le-ltb 64 (length (atoms_of m i)) few)

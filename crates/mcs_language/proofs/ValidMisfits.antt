@@ -1,12 +1,13 @@
 -- In the system that a text without faults says, what goes into a program or is read of one is an atom, and defaults are justified.
-use Rattle.std.proofs.Common.{◌≡◌, ℕ, suc, nat_eq, length, arith, Bool, true, false, not, ◌&&◌, map, take, Some, refl, sym, ap, ◌∙◌, inr, subst, true≢false}
+use Rattle.std.proofs.Common.{◌≡◌, suc, length, arith, true, false, not, ◌&&◌, map, take, Some, refl, sym, ap, ◌∙◌, inr, subst, true≢false}
 use Rattle.std.specs.Prelude.{slice_get}
 use Rattle.std.specs.List.{list_any, flat_map}
-use Rattle.std.proofs.lemmas.Bool.{or_from, true_from_ne_false}
-use Rattle.std.proofs.lemmas.Bool.Decides.{nat_tests}
+use Rattle.std.proofs.lemmas.Bool.{or_from, true_from_ne_false, ne_eqb}
 use Rattle.mcs_base.specs.Listings.{IsAmong}
 use Rattle.mcs_base.specs.Words.{is_word, is_reserved}
-use Rattle.mcs_base.proofs.ListingLemmas.{all_among}
+use Rattle.mcs_base.proofs.Among.{map_among, any_none}
+use Rattle.mcs_base.proofs.Booleans.{not_refuted}
+use Rattle.mcs_base.proofs.Each.{all_among}
 use Rattle.mcs_system.specs.Plain.{Name, Formula, Context, Read, Bridge, System}
 use Rattle.mcs_system.specs.Plain as plain
 use Rattle.mcs_system.specs.Faults.{reads_of, is_atom, is_program, is_unjustified, has_unjustified, has_misfit, has_misfits}
@@ -16,25 +17,22 @@ use Rattle.mcs_language.specs.Saying.{item_in, kb_in, SaysPlace, SaysSystem, nam
 use Rattle.mcs_language.specs.Faults.{NoAtom}
 use Rattle.mcs_language.proofs.UsesParts.{IsPlaceOf, OfHead, OfRead, IsProgramKb}
 use Rattle.mcs_language.proofs.Within.{NoFaults}
-use Rattle.mcs_language.proofs.MarkLists.{map-among, parts-among}
+use Rattle.mcs_language.proofs.MarkLists.{parts-among}
 use Rattle.mcs_language.proofs.ContextUses.{kind-among}
 use Rattle.mcs_language.proofs.FirstTokens.{first-there, mark-at}
-use Rattle.mcs_language.proofs.SaidSystem.{any-none, read-written, context-written, bridge-written, context-at}
+use Rattle.mcs_language.proofs.SaidSystem.{read-written, context-written, bridge-written, context-at}
 
 -- ---- justifications
-not-none : (n : ℕ) → nat_eq (suc n) 0 ≡ false
-not-none n = grind (arith, nat_tests)
-
 pub kb-justified : (kb : WrittenKb) → has_unjustified (kb_in kb) ≡ false
 kb-justified (Classical formulas) = refl
-kb-justified (DefaultTheory items) = any-none is_unjustified (map item_in items) each
+kb-justified (DefaultTheory items) = any_none is_unjustified (map item_in items) each
   where
     one : (i : WrittenItem) → is_unjustified (item_in i) ≡ false
     one (Fact f) = refl
-    one (Rule d) = not-none (length (map formula_in d.justs))
+    one (Rule d) = ne_eqb (suc (length (map formula_in d.justs))) 0 (λ e. omega arith)
 
     each : (x : plain.Item) → IsAmong x (map item_in items) → is_unjustified x ≡ false
-    each x h = let (i, there, is) = map-among item_in x items h in ap is_unjustified is ∙ one i
+    each x h = let (i, there, is) = map_among item_in x items h in ap is_unjustified is ∙ one i
 kb-justified (Program rules) = refl
 
 -- ---- atoms
@@ -53,14 +51,9 @@ module _ (t : WrittenText) (none : NoFaults (text_marks t)) where
       let said' : IsAmong (SaysProgram p.context) (uses_of (take k (text_marks t))) = subst (λ (n : Name). IsAmong (SaysProgram n) (uses_of (take k (text_marks t)))) named (at.before (SaysProgram x.name) said) in
       first.atom (true_from_ne_false (is_word m.token && not (is_reserved m.token)) (λ e. none k m NoAtom at.there (p.context, first.begins, said', λ word. true≢false (sym word ∙ e))))
 
-and-not : (a b : Bool) → (a ≡ true → b ≡ true) → (a && not b) ≡ false
-and-not true true h = refl
-and-not true false h = absurd (true≢false (sym (h refl)))
-and-not false b h = refl
-
 module _ (t : WrittenText) (m : System) (grammar : IsText t) (says : SaysSystem t m) (none : NoFaults (text_marks t)) where
   fits : (p : WrittenPlace) (r : Read) → IsPlaceOf t p → IsPlace p → SaysPlace (names_of t.contexts) p r → (is_program (slice_get m.contexts r.context) && not (is_atom r.belief)) ≡ false
-  fits p r place h s = and-not (is_program (slice_get m.contexts r.context)) (is_atom r.belief) (λ e.
+  fits p r place h s = not_refuted (is_program (slice_get m.contexts r.context)) (is_atom r.belief) (λ e.
       let (x, at) = context-at t m says r.context p.context s.number in
       ap is_atom s.belief ∙ place-atom t none p x place h at.there at.named (program-kb x.name x.kb (ap is_program (sym at.said_at) ∙ e)))
 
@@ -70,11 +63,11 @@ module _ (t : WrittenText) (m : System) (grammar : IsText t) (says : SaysSystem 
       let parts : IsBridge w = all_among IsBridge t.bridges w grammar.1 there in
       or_from (is_program (slice_get m.contexts b.target) && not (is_atom b.head)) (list_any (λ (r : Read). is_program (slice_get m.contexts r.context) && not (is_atom r.belief)) (reads_of b))
       (fits w.head (record { context = b.target; belief = b.head }) (OfHead w there refl) parts.1 s.head)
-      (any-none (λ (r : Read). is_program (slice_get m.contexts r.context) && not (is_atom r.belief)) (reads_of b) (λ r here.
+      (any_none (λ (r : Read). is_program (slice_get m.contexts r.context) && not (is_atom r.belief)) (reads_of b) (λ r here.
       let (q, in_reads, place) = read-written (names_of t.contexts) w b r s here in
       fits q.place r (OfRead w there q in_reads refl) (all_among (λ (y : WrittenRead). IsPlace y.place) w.reads q parts.2 in_reads) place))
 
   pub no-misfits : has_misfits m ≡ false
   no-misfits = or_from (list_any (λ (c : Context). has_unjustified c.kb) m.contexts) (list_any (has_misfit m.contexts) m.bridges)
-      (any-none (λ (c : Context). has_unjustified c.kb) m.contexts (λ c here. let (x, there, is) = context-written t m says c here in ap (λ (d : Context). has_unjustified d.kb) is ∙ kb-justified x.kb))
-      (any-none (has_misfit m.contexts) m.bridges rule-fits)
+      (any_none (λ (c : Context). has_unjustified c.kb) m.contexts (λ c here. let (x, there, is) = context-written t m says c here in ap (λ (d : Context). has_unjustified d.kb) is ∙ kb-justified x.kb))
+      (any_none (has_misfit m.contexts) m.bridges rule-fits)

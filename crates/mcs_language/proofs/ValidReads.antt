@@ -2,35 +2,35 @@
 use Rattle.std.proofs.Common.{◌≡◌, ℕ, ◌+◌, ◌<◌, Bool, true, false, ◌&&◌, nat_lt, nat_eq, ltb, List, ◌++◌, map, filter, length, Some, refl, sym, ap, ◌∙◌, subst, arith}
 use Rattle.std.specs.Prelude.{slice_get}
 use Rattle.std.specs.List.{list_any}
-use Rattle.std.proofs.lemmas.Bool.{and_parts}
+use Rattle.std.proofs.lemmas.Bool.{and_parts, le-ltb}
 use Rattle.std.proofs.lemmas.Bool.Decides.{nat_tests}
 use Rattle.std.proofs.lemmas.List.{length-map}
 use Rattle.std.proofs.lemmas.Option.{slice_get_within}
 use Rattle.mcs_base.specs.Listings.{IsAmong}
 use Rattle.mcs_sets.specs.Sets.{has, such_that, size}
 use Rattle.mcs_sets.proofs.SetLemmas.{size-count, has-such_that, such_that-lt}
+use Rattle.mcs_base.proofs.Among.{map_among, filter_among, among_get, any_get}
+use Rattle.mcs_base.proofs.Distinct.{distinct_filter, distinct_map}
 use Rattle.mcs_system.specs.Plain.{Name, Read, Bridge, System}
 use Rattle.mcs_system.specs.Systems.{same_read, variables}
 use Rattle.mcs_system.specs.Rows.{is_read_into, inputs_of}
-use Rattle.mcs_system.specs.declared.fault.Limit.TheVariants.{Variables, InputsPerContext}
+use Rattle.mcs_system.specs.declared.limit.Limit.TheVariants.{Variables, InputsPerContext}
 use Rattle.mcs_system.specs.Faults.{exceeds}
-use Rattle.mcs_system.proofs.Members.{filter_among, among_get, any_get}
 use Rattle.mcs_system.proofs.Sameness.{same_read-is}
 use Rattle.mcs_language.specs.Written.{WrittenContext, WrittenText}
 use Rattle.mcs_language.specs.Saying.{SaysSystem, names_of}
 use Rattle.mcs_language.specs.Faults.{AreDifferent, WasReadInto, WasRead}
 use Rattle.mcs_language.proofs.UsesLemmas.{text_uses}
 use Rattle.mcs_language.proofs.Within.{IsWithin}
-use Rattle.mcs_language.proofs.MarkLists.{map-among}
-use Rattle.mcs_language.proofs.WithoutRepeats.{different-filter, different-map, count-places}
+use Rattle.mcs_language.proofs.WithoutRepeats.{count-places}
 use Rattle.mcs_language.proofs.SaidSystem.{as-many-contexts, bridge-written, IsContextAt, context-below}
 use Rattle.mcs_language.proofs.SaidReads.{variable-occurs, variable-below, variables-different, named_read, named-once, name-same, read-into, occurs-in, below-names, names-different}
-use Rattle.mcs_language.proofs.ValidCounts.{kept, no-context}
+use Rattle.mcs_language.proofs.ValidCounts.{no-context}
 
 module _ (t : WrittenText) (m : System) (says : SaysSystem t m) (within : IsWithin (text_uses t)) where
   -- named, they are as different
   named-different : (rs : List Read) → AreDifferent rs → ((r : Read) → IsAmong r rs → IsAmong r (variables m)) → AreDifferent (map (named_read (names_of t.contexts)) rs)
-  named-different rs d all = different-map (named_read (names_of t.contexts)) rs
+  named-different rs d all = distinct_map (named_read (names_of t.contexts)) rs
       (λ q r here there same. named-once (names_of t.contexts) (names-different t m says within) q r (below-names t m says q (variable-below m q (all q here))) (below-names t m says r (variable-below m r (all r there))) same)
       d
 
@@ -46,8 +46,8 @@ module _ (t : WrittenText) (m : System) (says : SaysSystem t m) (within : IsWith
       let vs : List Read = variables m in
       let long = length-map vs (named_read (names_of t.contexts)) in
       let few = within.variables (map (named_read (names_of t.contexts)) vs) (named-different vs (variables-different m) (λ r h. h)) (λ n h.
-      let (r, there, is) = map-among (named_read (names_of t.contexts)) n vs h in subst (WasRead (text_uses t)) (sym is) (was-read r there)) in
-      kept 64 (length vs) (omega arith)
+      let (r, there, is) = map_among (named_read (names_of t.contexts)) n vs h in subst (WasRead (text_uses t)) (sym is) (was-read r there)) in
+      le-ltb 64 (length vs) (omega arith)
 
   -- ---- inputs
   abbrev inputs : ℕ → List Read
@@ -86,7 +86,7 @@ module _ (t : WrittenText) (m : System) (says : SaysSystem t m) (within : IsWith
       let rs : List Read = inputs i in
       let long = length-map rs (named_read (names_of t.contexts)) in
       let few = within.inputs x.name (map (named_read (names_of t.contexts)) rs)
-      (named-different rs (different-filter passes (variables m) (variables-different m)) (λ r h. (filter_among passes r (variables m) h).0))
-      (λ n h. let (r, there, is) = map-among (named_read (names_of t.contexts)) n rs h in subst (WasReadInto (text_uses t) x.name) (sym is) (was-input i x r at (filter_among passes r (variables m) there).1)) in
+      (named-different rs (distinct_filter passes (variables m) (variables-different m)) (λ r h. (filter_among passes r (variables m) h).0))
+      (λ n h. let (r, there, is) = map_among (named_read (names_of t.contexts)) n rs h in subst (WasReadInto (text_uses t) x.name) (sym is) (was-input i x r at (filter_among passes r (variables m) there).1)) in
       let sized = inputs-size i in
-      kept 16 (size (inputs_of m i)) (omega arith))
+      le-ltb 16 (size (inputs_of m i)) (omega arith))

@@ -1,22 +1,21 @@
 -- In the system that a text without faults says no formula and no program rule is too large.
-use Rattle.std.proofs.Common.{◌≡◌, ℕ, ◌+◌, ◌≤◌, suc, Bool, true, false, not, cond, List, [], ◌∷◌, ◌++◌, map, filter, length, refl, ap, ◌∙◌, inl, inr, arith}
+use Rattle.std.proofs.Common.{◌≡◌, ℕ, ◌+◌, ◌≤◌, false, List, [], ◌∷◌, ◌++◌, map, length, refl, ap, ◌∙◌, inl, inr, arith}
 use Rattle.std.specs.List.{list_any}
-use Rattle.std.proofs.lemmas.Bool.{cases_lt, or_from}
+use Rattle.std.proofs.lemmas.Bool.{cases_lt, or_from, le-ltb}
 use Rattle.mcs_base.specs.Listings.{IsAmong}
+use Rattle.mcs_base.proofs.Among.{map_among, any_none, among_left, among_right, get_among, among_flat_map, flat_map_among}
 use Rattle.mcs_system.specs.Plain.{Context, Read, Bridge, System}
 use Rattle.mcs_system.specs.Seen.{formula_size}
-use Rattle.mcs_system.specs.declared.fault.Limit.TheVariants.{FormulaSize}
+use Rattle.mcs_system.specs.declared.limit.Limit.TheVariants.{FormulaSize}
 use Rattle.mcs_system.specs.Faults.{reads_of, is_large, has_large_formula, is_large_rule, has_large_item, has_large_part, exceeds}
-use Rattle.mcs_system.proofs.Members.{among_left, among_right, get_among, among_flat_map, flat_map_among}
-use Rattle.mcs_language.specs.Written.{Written, True', False', Named, Denied, Grouped, Both, Either, Leads, Equals, WrittenItem, Fact, Rule, WrittenLiteral, WrittenRule, WrittenKb, Classical, DefaultTheory, Program, WrittenContext, WrittenPlace, WrittenText}
+use Rattle.mcs_language.specs.Written.{Written, True', False', Named, Denied, Grouped, Both, Either, Leads, Equals, WrittenItem, Fact, Rule, WrittenRule, WrittenKb, Classical, DefaultTheory, Program, WrittenContext, WrittenPlace, WrittenText}
 use Rattle.mcs_language.specs.Marks.{IsNumber, Mark, formula_in, size_of, text_marks}
 use Rattle.mcs_language.specs.Saying.{item_in, rule_in, kb_in, positive_atoms, negative_atoms, SaysPlace, SaysSystem, names_of}
 use Rattle.mcs_language.specs.Faults.{Exceeds}
 use Rattle.mcs_language.proofs.UsesLemmas.{text_uses, IsPlaceOf, OfHead, OfRead, item_formulas, kb_formulas, rule_size, kb_rules, IsSizeOf, OfFormula, OfRule, OfPlace, numbers-there}
 use Rattle.mcs_language.proofs.Within.{NoFaults}
-use Rattle.mcs_language.proofs.MarkLists.{map-among}
-use Rattle.mcs_language.proofs.SaidSystem.{any-none, read-written, context-written, bridge-written}
-use Rattle.mcs_language.proofs.ValidCounts.{kept}
+use Rattle.mcs_language.proofs.SaidSystem.{read-written, context-written, bridge-written}
+use Rattle.mcs_language.proofs.StepLemmas.{literals-count}
 
 -- ---- sizes
 pub size-said : (f : Written) → formula_size (formula_in f) ≡ size_of f
@@ -29,15 +28,6 @@ size-said (Both f g) = rw (size-said f, size-said g) refl
 size-said (Either f g) = rw (size-said f, size-said g) refl
 size-said (Leads f g) = rw (size-said f, size-said g) refl
 size-said (Equals f g) = rw (size-said f, size-said g) refl
-
-signs-length : (ls : List WrittenLiteral) → length (positive_atoms ls) + length (negative_atoms ls) ≡ length ls
-signs-length [] = refl
-signs-length (l ∷ ls) = at l.denied (signs-length ls)
-  where
-    at : (b : Bool) → length (positive_atoms ls) + length (negative_atoms ls) ≡ length ls
-        → length (map (λ (x : WrittenLiteral). x.atom) (cond (not b) (l ∷ filter (λ (x : WrittenLiteral). not x.denied) ls) (filter (λ (x : WrittenLiteral). not x.denied) ls))) + length (map (λ (x : WrittenLiteral). x.atom) (cond b (l ∷ filter (λ (x : WrittenLiteral). x.denied) ls) (filter (λ (x : WrittenLiteral). x.denied) ls))) ≡ suc (length ls)
-    at true rest = omega arith
-    at false rest = omega arith
 
 module _ (t : WrittenText) (none : NoFaults (text_marks t)) where
   -- no token is one too many
@@ -54,13 +44,13 @@ module _ (t : WrittenText) (none : NoFaults (text_marks t)) where
   ]
 
   small : (f : Written) → IsSizeOf t (size_of f) → is_large (formula_in f) ≡ false
-  small f size = let same = size-said f in let most = sizes-kept (size_of f) size in kept 512 (formula_size (formula_in f)) (omega arith)
+  small f size = let same = size-said f in let most = sizes-kept (size_of f) size in le-ltb 512 (formula_size (formula_in f)) (omega arith)
 
   of-kb : (x : WrittenContext) → IsAmong x t.contexts → (f : Written) → IsAmong f (kb_formulas x.kb) → is_large (formula_in f) ≡ false
   of-kb x there f h = small f (OfFormula x there f h refl)
 
   all-small : (fs : List Written) → ((f : Written) → IsAmong f fs → is_large (formula_in f) ≡ false) → list_any is_large (map formula_in fs) ≡ false
-  all-small fs each = any-none is_large (map formula_in fs) (λ p here. let (f, there, is) = map-among formula_in p fs here in ap is_large is ∙ each f there)
+  all-small fs each = any_none is_large (map formula_in fs) (λ p here. let (f, there, is) = map_among formula_in p fs here in ap is_large is ∙ each f there)
 
   item-small : (i : WrittenItem) → ((f : Written) → IsAmong f (item_formulas i) → is_large (formula_in f) ≡ false) → has_large_formula (item_in i) ≡ false
   item-small (Fact f) each = each f (inl refl)
@@ -74,15 +64,15 @@ module _ (t : WrittenText) (none : NoFaults (text_marks t)) where
       just f (inr h) = inr (among_left f d.justs (d.conclusion ∷ []) h)
 
   rule-small : (r : WrittenRule) → IsSizeOf t (rule_size r) → is_large_rule (rule_in r) ≡ false
-  rule-small r size = let both = signs-length r.body in let most = sizes-kept (rule_size r) size in kept 512 (length r.head + (length (positive_atoms r.body) + length (negative_atoms r.body))) (omega arith)
+  rule-small r size = let both = literals-count r.body in let most = sizes-kept (rule_size r) size in le-ltb 512 (length r.head + (length (positive_atoms r.body) + length (negative_atoms r.body))) (omega arith)
 
   kb-small : (x : WrittenContext) (kb : WrittenKb) → ((f : Written) → IsAmong f (kb_formulas kb) → is_large (formula_in f) ≡ false) → ((r : WrittenRule) → IsAmong r (kb_rules kb) → is_large_rule (rule_in r) ≡ false) → has_large_item (kb_in kb) ≡ false
   kb-small x (Classical formulas) each each' = all-small formulas each
-  kb-small x (DefaultTheory items) each each' = any-none has_large_formula (map item_in items) (λ y here.
-      let (i, there, is) = map-among item_in y items here in
+  kb-small x (DefaultTheory items) each each' = any_none has_large_formula (map item_in items) (λ y here.
+      let (i, there, is) = map_among item_in y items here in
       ap has_large_formula is ∙ item-small i (λ f h. each f (among_flat_map item_formulas i f items there h)))
-  kb-small x (Program rules) each each' = any-none is_large_rule (map rule_in rules) (λ y here.
-      let (r, there, is) = map-among rule_in y rules here in ap is_large_rule is ∙ each' r there)
+  kb-small x (Program rules) each each' = any_none is_large_rule (map rule_in rules) (λ y here.
+      let (r, there, is) = map_among rule_in y rules here in ap is_large_rule is ∙ each' r there)
 
   module _ (m : System) (says : SaysSystem t m) where
     place-small : (p : WrittenPlace) (r : Read) → IsPlaceOf t p → SaysPlace (names_of t.contexts) p r → is_large r.belief ≡ false
@@ -93,14 +83,14 @@ module _ (t : WrittenText) (none : NoFaults (text_marks t)) where
         let (w, there, s) = bridge-written t m says b h in
         or_from (is_large b.head) (list_any (λ (r : Read). is_large r.belief) (reads_of b))
         (place-small w.head (record { context = b.target; belief = b.head }) (OfHead w there refl) s.head)
-        (any-none (λ (r : Read). is_large r.belief) (reads_of b) (λ r here.
+        (any_none (λ (r : Read). is_large r.belief) (reads_of b) (λ r here.
         let (q, in_reads, place) = read-written (names_of t.contexts) w b r s here in
         place-small q.place r (OfRead w there q in_reads refl) place))
 
     pub no-large : exceeds m FormulaSize ≡ false
     unfolding exceeds
     no-large = or_from (list_any (λ (c : Context). has_large_item c.kb) m.contexts) (list_any has_large_part m.bridges)
-        (any-none (λ (c : Context). has_large_item c.kb) m.contexts (λ c here.
+        (any_none (λ (c : Context). has_large_item c.kb) m.contexts (λ c here.
         let (x, there, is) = context-written t m says c here in
         ap (λ (d : Context). has_large_item d.kb) is ∙ kb-small x x.kb (of-kb x there) (λ r h. rule-small r (OfRule x there r h refl))))
-        (any-none has_large_part m.bridges part-small)
+        (any_none has_large_part m.bridges part-small)

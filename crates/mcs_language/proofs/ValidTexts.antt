@@ -1,8 +1,9 @@
 -- A text without faults says a valid system.
-use Rattle.std.proofs.Common.{◌≡◌, Bool, true, false, cond, List, [], ◌∷◌, Option, Some, None, refl, ap, true≢false}
+use Rattle.std.proofs.Common.{◌≡◌, false, List, [], ◌∷◌, None, refl, ap}
 use Rattle.std.specs.List.{AllByRecursion}
+use Rattle.mcs_base.proofs.Booleans.{cond_none}
 use Rattle.mcs_system.specs.Plain.{System}
-use Rattle.mcs_system.specs.declared.fault.Limit.{Limit}
+use Rattle.mcs_system.specs.declared.limit.Limit.{Limit}
 use Rattle.mcs_system.specs.Faults.{has_unknown_context, has_twin_names, has_misfits, exceeds, first_exceeded, limits, limit_fault, fault, fault_of, IsValid}
 use Rattle.mcs_language.specs.Written.{WrittenText, IsText}
 use Rattle.mcs_language.specs.Marks.{text_marks, uses_of}
@@ -15,21 +16,17 @@ use Rattle.mcs_language.proofs.ValidSizes.{no-large}
 use Rattle.mcs_language.proofs.ValidReads.{few-variables, few-inputs}
 use Rattle.mcs_language.proofs.ValidAtoms.{few-atoms}
 
-on-false : {A : Type 0} (b : Bool) (x : A) (rest : Option A) → b ≡ false → rest ≡ None → cond b (Some x) rest ≡ None
-on-false true x rest e e' = absurd (true≢false e)
-on-false false x rest e e' = e'
-
 module _ (m : System) where
   none-exceeded : (ls : List Limit) → AllByRecursion (λ (l : Limit). exceeds m l ≡ false) ls → first_exceeded m ls ≡ None
   none-exceeded [] none = refl
-  none-exceeded (l ∷ ls) none = on-false (exceeds m l) l (first_exceeded m ls) none.0 (none-exceeded ls none.1)
+  none-exceeded (l ∷ ls) none = cond_none (exceeds m l) l (first_exceeded m ls) none.0 (none-exceeded ls none.1)
 
   no-fault : has_unknown_context m ≡ false → has_twin_names m ≡ false → has_misfits m ≡ false → first_exceeded m limits ≡ None → IsValid m
   unfolding fault_of
   no-fault known apart fitting limited =
-      on-false (has_unknown_context m) (fault 2 None) _ known
-      (on-false (has_twin_names m) (fault 3 None) _ apart
-      (on-false (has_misfits m) (fault 4 None) _ fitting
+      cond_none (has_unknown_context m) (fault 2 None) _ known
+      (cond_none (has_twin_names m) (fault 3 None) _ apart
+      (cond_none (has_misfits m) (fault 4 None) _ fitting
       (ap limit_fault limited)))
 
 pub valid-text : (t : WrittenText) (m : System) → IsText t → SaysSystem t m → IsWithin (uses_of (text_marks t)) → NoFaults (text_marks t) → IsValid m

@@ -1,13 +1,16 @@
 -- What the watch tells of what came before.
-use Rattle.std.proofs.Common.{◌≡◌, ℕ, ◌<◌, ◌≤◌, zero, suc, Bool, true, false, List, [], ◌∷◌, map, length, get_or, Some, None, refl, sym, ap, ◌∙◌, subst, inl, inr, ◌⊎◌, ◌↔◌, arith, true≢false, slice_get}
+use Rattle.std.proofs.Common.{◌≡◌, ℕ, ◌<◌, Bool, true, false, List, map, length, Some, None, refl, sym, ap, ◌∙◌, subst, inl, inr, ◌⊎◌, ◌↔◌, arith, true≢false, slice_get}
 use Rattle.std.specs.Prelude.{count_by, IsTrue}
 use Rattle.std.proofs.lemmas.List.{length-map}
-use Rattle.std.proofs.lemmas.Option.{slice_get_read}
+use Rattle.std.proofs.lemmas.Option.{same_Some, slice_get_within}
+use Rattle.std.proofs.lemmas.Bool.{false_from_ne_true}
 use Rattle.mcs_base.specs.Listings.{IsAmong}
-use Rattle.mcs_base.proofs.ListingLemmas.{all_among}
+use Rattle.mcs_base.proofs.Lists.{slice_get-map_some, slice_get_none}
+use Rattle.mcs_base.proofs.Sums.{count_none}
+use Rattle.mcs_base.proofs.Among.{among_get, among_flat_map, flat_map_among, any_get, among_any}
+use Rattle.mcs_base.proofs.Each.{all_among}
 use Rattle.mcs_system.specs.Plain.{Name}
 use Rattle.mcs_system.specs.Logic.{same_name, is_in}
-use Rattle.mcs_system.proofs.Members.{among_flat_map, flat_map_among, among_get, get-lt, any_get, among_any}
 use Rattle.mcs_system.proofs.Sameness.{same_name-is, same_name-itself}
 use Rattle.mcs_language.specs.declared.watch.Watch.{Watch}
 use Rattle.mcs_language.specs.declared.watch.ContextSeen.{ContextSeen}
@@ -77,44 +80,19 @@ bridge-there w before watch n = (
 )
 
 -- ---- numbers
-get-map : {A B : Type 0} (f : A → B) (xs : List A) (k : ℕ) (x : A) → slice_get xs k ≡ Some x → slice_get (map f xs) k ≡ Some (f x)
-get-map f [] k x is = cc
-get-map f (y ∷ ys) zero x is = ap (λ z. Some z) (let e : y ≡ x = cc in ap f e)
-get-map f (y ∷ ys) (suc k) x is = get-map f ys k x is
-
-get-none : {A : Type 0} (xs : List A) (k : ℕ) → slice_get xs k ≡ None → length xs ≤ k
-get-none [] k is = omega arith
-get-none (y ∷ ys) zero is = cc
-get-none (y ∷ ys) (suc k) is = let rest = get-none ys k is in omega arith
-
--- what a read of a list tells
-pub got : {A : Type 0} (xs ys : List A) (k : ℕ) (x : A) → ys ≡ xs → k < length ys → x ≡ get_or ys k x → slice_get xs k ≡ Some x
-got xs ys k x same less is = subst (λ (zs : List _). slice_get zs k ≡ Some x) same (slice_get_read ys (length ys) k x refl less is)
-
-pub got-none : {A : Type 0} (xs ys : List A) (k : ℕ) → ys ≡ xs → length ys ≤ k → slice_get xs k ≡ None
-got-none xs ys k same past = subst (λ (zs : List _). slice_get zs k ≡ None) same (none ys k past)
-  where
-    none : {A : Type 0} (ys : List A) (k : ℕ) → length ys ≤ k → slice_get ys k ≡ None
-    none [] k past = refl
-    none (y ∷ ys) zero past = absurd (omega arith)
-    none (y ∷ ys) (suc k) past = none ys k (omega arith)
-
 -- it is there exactly if its number is one
 pub number-there : {A : Type 0} (xs : List A) (x : A) (k : ℕ) → IsNumberOf xs x k → (k < length xs) ↔ IsAmong x xs
-number-there xs x k (inl is) = (λ _. among_get x xs k is, λ _. get-lt x xs k is)
+number-there xs x k (inl is) = (λ _. among_get x xs k is, λ _. slice_get_within xs k x is)
 number-there xs x k (inr (e, none)) = (λ less. absurd (omega arith), λ h. absurd (none h))
-
-pub some-same : {A : Type 0} {x y : A} → Some x ≡ Some y → x ≡ y
-some-same e = cc
 
 module _ (w : Watch) (before : List Use) (watch : IsWatch w before) (n : Name) (k : ℕ) (number : IsNumberOf (names_seen w) n k) where
   -- the context of the number
   pub seen-name : (c : ContextSeen) → slice_get w.contexts.items k ≡ Some c → c.name ≡ n
-  seen-name c is = go number (get-map (λ (s : ContextSeen). s.name) w.contexts.items k c is)
+  seen-name c is = go number (slice_get-map_some (λ (s : ContextSeen). s.name) w.contexts.items k c is)
     where
       go : IsNumberOf (names_seen w) n k → slice_get (names_seen w) k ≡ Some c.name → c.name ≡ n
-      go (inl here) is' = some-same (sym is' ∙ here)
-      go (inr (e, none)) is' = absurd (let less = get-lt c.name (names_seen w) k is' in omega arith)
+      go (inl here) is' = same_Some _ _ (sym is' ∙ here)
+      go (inr (e, none)) is' = absurd (let less = slice_get_within (names_seen w) k c.name is' in omega arith)
 
   pub seen-here : (c : ContextSeen) → slice_get w.contexts.items k ≡ Some c → IsSeen (map read_of w.variables.items) before c
   seen-here c is = all_among (IsSeen (map read_of w.variables.items) before) w.contexts.items c watch.seen (among_get c w.contexts.items k is)
@@ -134,26 +112,18 @@ module _ (w : Watch) (before : List Use) (watch : IsWatch w before) (n : Name) (
   -- there is none
   pub seen-none : slice_get w.contexts.items k ≡ None → ¬ IsAmong (NamesContext n) before
   seen-none is h =
-      let long = get-none w.contexts.items k is in
+      let long = slice_get_none w.contexts.items k is in
       let same = length-map w.contexts.items (λ (s : ContextSeen). s.name) in
       let less = (number-there (names_seen w) n k number).1 (subst (IsAmong n) (sym watch.named) ((context-named n before).0 h)) in
       omega arith
 
 -- ---- counts
-pub count-none : {A : Type 0} (p : A → Bool) (xs : List A) → ((x : A) → IsAmong x xs → p x ≡ false) → count_by p xs ≡ 0
-count-none p [] none = refl
-count-none p (x ∷ xs) none = let rest = count-none p xs (λ y h. none y (inr h)) in let here = none x (inl refl) in rw here (omega arith)
-
 module _ (w : Watch) (before : List Use) (watch : IsWatch w before) (n : Name) (unseen : ¬ IsAmong (NamesContext n) before) where
-  test-false : (b : Bool) → ¬ (b ≡ true) → b ≡ false
-  test-false true no-such = absurd (no-such refl)
-  test-false false no-such = refl
-
   other-name : (d : Name) → IsAmong (NamesContext d) before → same_name n d ≡ false
-  other-name d h = test-false (same_name n d) (λ e. unseen (subst (λ (x : Name). IsAmong (NamesContext x) before) (sym (same_name-is n d e)) h))
+  other-name d h = false_from_ne_true (same_name n d) (λ e. unseen (subst (λ (x : Name). IsAmong (NamesContext x) before) (sym (same_name-is n d e)) h))
 
   pub no-rules : count_by (names_target n) before ≡ 0
-  no-rules = count-none (names_target n) before go
+  no-rules = count_none (names_target n) before go
     where
       go : (u : Use) → IsAmong u before → names_target n u ≡ false
       go (NamesTarget d) h = other-name d (watch.targets d h)
@@ -172,7 +142,7 @@ module _ (w : Watch) (before : List Use) (watch : IsWatch w before) (n : Name) (
       go (OpensWithin k) h = refl
 
   pub no-defaults : count_by (begins_default_of n) before ≡ 0
-  no-defaults = count-none (begins_default_of n) before go
+  no-defaults = count_none (begins_default_of n) before go
     where
       go : (u : Use) → IsAmong u before → begins_default_of n u ≡ false
       go (BeginsDefault d) h = other-name d (watch.spoken (BeginsDefault d) h)
@@ -191,7 +161,7 @@ module _ (w : Watch) (before : List Use) (watch : IsWatch w before) (n : Name) (
       go (OpensWithin k) h = refl
 
   pub no-items : count_by (begins_item_of n) before ≡ 0
-  no-items = count-none (begins_item_of n) before go
+  no-items = count_none (begins_item_of n) before go
     where
       go : (u : Use) → IsAmong u before → begins_item_of n u ≡ false
       go (BeginsItem d) h = other-name d (watch.spoken (BeginsItem d) h)

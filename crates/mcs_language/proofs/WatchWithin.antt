@@ -1,10 +1,12 @@
 -- A text over which the watch found no fault is within the limits, and its contexts and its rules have different names.
-use Rattle.std.proofs.Common.{◌≡◌, ℕ, ◌≤◌, List, [], ◌∷◌, map, length, refl, sym, subst, inl, inr, arith}
+use Rattle.std.proofs.Common.{◌≡◌, ℕ, ◌≤◌, List, [], map, length, sym, ap, subst, inl, inr, arith}
 use Rattle.std.specs.Prelude.{count_by}
 use Rattle.std.proofs.lemmas.List.{length-map}
 use Rattle.mcs_base.specs.Listings.{IsAmong}
-use Rattle.mcs_base.proofs.ListingLemmas.{all_among}
 use Rattle.mcs_sets.specs.Sets.{size}
+use Rattle.mcs_base.proofs.Among.{map_among, nil_from_none}
+use Rattle.mcs_base.proofs.Distinct.{distinct_fits}
+use Rattle.mcs_base.proofs.Each.{all_among}
 use Rattle.mcs_system.specs.Plain.{Name, Truth}
 use Rattle.mcs_language.specs.declared.watch.Watch.{Watch}
 use Rattle.mcs_language.specs.declared.watch.ContextSeen.{ContextSeen}
@@ -13,8 +15,7 @@ use Rattle.mcs_language.specs.Faults.{names_target, begins_default_of, begins_it
 use Rattle.mcs_language.specs.TextImages.{read_of}
 use Rattle.mcs_language.specs.Watching.{Lists, IsSeen, named_read, IsWatch}
 use Rattle.mcs_language.proofs.Within.{IsWithin}
-use Rattle.mcs_language.proofs.MarkLists.{map-among}
-use Rattle.mcs_language.proofs.DifferentLemmas.{no-longer, values-at}
+use Rattle.mcs_language.proofs.DifferentLemmas.{values-at}
 use Rattle.mcs_language.proofs.WatchFacts.{named-there, no-rules, no-defaults, no-items, is-context}
 
 -- there is no more of one context than the limits allow
@@ -24,11 +25,6 @@ record IsFew (uses : List Use) (c : Name) : Type 0 where
   items : count_by (begins_item_of c) uses ≤ 4096
   atoms : (names : List Name) → AreDifferent names → ((a : Name) → IsAmong a names → WasAtom uses c a) → length names ≤ 64
   inputs : (rs : List NamedRead) → AreDifferent rs → ((r : NamedRead) → IsAmong r rs → WasReadInto uses c r) → length rs ≤ 16
-
--- none of what never holds
-none-of : {A : Type 0} (n : ℕ) (P : A → Type 0) (xs : List A) → ((x : A) → ¬ P x) → ((x : A) → IsAmong x xs → P x) → length xs ≤ n
-none-of n P [] never each = omega arith
-none-of n P (x ∷ xs) never each = absurd (never x (each x (inl refl)))
 
 module _ (w : Watch) (uses : List Use) (watch : IsWatch w uses) where
   abbrev variables : List NamedRead
@@ -48,8 +44,8 @@ module _ (w : Watch) (uses : List Use) (watch : IsWatch w uses) where
         rules = subst (λ (n : ℕ). n ≤ 12) seen.rules few.0;
         defaults = subst (λ (n : ℕ). n ≤ 10) seen.defaults few.1;
         items = subst (λ (n : ℕ). n ≤ 4096) seen.items few.2;
-        atoms = λ names d each. let short = no-longer names s.atoms.items d (λ a h. (seen.atoms.1 a).1 (each a h)) in omega (arith, few.3);
-        inputs = λ rs d each. let short = no-longer rs read.0 d (λ r h. (read.1.1 r).1 (each r h)) in omega (arith, few.4, read.2);
+        atoms = λ names d each. let short = distinct_fits names s.atoms.items d (λ a h. (seen.atoms.1 a).1 (each a h)) in omega (arith, few.3);
+        inputs = λ rs d each. let short = distinct_fits rs read.0 d (λ r h. (read.1.1 r).1 (each r h)) in omega (arith, few.4, read.2);
       }
 
   -- of a name that no context has
@@ -62,13 +58,13 @@ module _ (w : Watch) (uses : List Use) (watch : IsWatch w uses) where
         rules = omega arith;
         defaults = omega arith;
         items = omega arith;
-        atoms = λ names d each. none-of 64 (WasAtom uses c) names (λ a was. unseen (watch.spoken (AtomOf c a) was)) each;
-        inputs = λ rs d each. none-of 16 (WasReadInto uses c) rs (λ r was. unseen (watch.spoken (EndsRead c r.context r.belief) was).0) each;
+        atoms = λ names d each. omega (arith, ap length (nil_from_none names (λ a h. unseen (watch.spoken (AtomOf c a) (each a h)))));
+        inputs = λ rs d each. omega (arith, ap length (nil_from_none rs (λ r h. unseen (watch.spoken (EndsRead c r.context r.belief) (each r h)).0)));
       }
 
   few : (c : Name) → IsFew uses c
   few c = elim (is-context w uses watch c) [
-    | inl named ↦ let (s, there, is) = map-among (λ (s : ContextSeen). s.name) c w.contexts.items ((named-there w uses watch c).1 named) in
+    | inl named ↦ let (s, there, is) = map_among (λ (s : ContextSeen). s.name) c w.contexts.items ((named-there w uses watch c).1 named) in
         subst (IsFew uses) (sym is) (few-seen s (all_among (IsSeen variables uses) w.contexts.items s watch.seen there))
     | inr unseen ↦ few-unseen c unseen
   ]
@@ -81,7 +77,7 @@ module _ (w : Watch) (uses : List Use) (watch : IsWatch w uses) where
         bridges = subst (λ (n : ℕ). n ≤ 64) watch.bridges_begun most.1;
         rules = λ c. (few c).rules;
         variables = λ rs d each.
-            let short = no-longer rs variables d (λ r h. (watch.variables.1 r).1 (each r h)) in
+            let short = distinct_fits rs variables d (λ r h. (watch.variables.1 r).1 (each r h)) in
             let same = length-map w.variables.items read_of in
             omega (arith, most.2);
         inputs = λ t. (few t).inputs;

@@ -1,9 +1,8 @@
 -- Members of a list that are written one after the other, in two parts.
-use Rattle.std.proofs.Common.{◌≡◌, ℕ, suc, arith, true, false, nat_eq, List, [], ◌∷◌, ◌++◌, map, length, codes, refl, sym, ap, ◌∙◌, append_assoc, map-id}
-use Rattle.std.proofs.lemmas.Bool.Decides.{nat_tests}
+use Rattle.std.proofs.Common.{◌≡◌, ℕ, suc, arith, true, nat_eq, List, [], ◌∷◌, ◌++◌, map, length, codes, refl, sym, ap, ◌∙◌, append_assoc, map-id}
 use Rattle.std.proofs.lemmas.List.{length-map}
-use Rattle.std.specs.List.{AllByRecursion}
-use Rattle.mcs_system.specs.Texts.{separated}
+use Rattle.mcs_text.specs.Separated.{separated}
+use Rattle.std.proofs.lemmas.Bool.{ne_eqb}
 use Rattle.mcs_system.specs.Plain.{Name}
 use Rattle.mcs_language.specs.Canonical.{further_by, listed, denied}
 
@@ -15,25 +14,14 @@ pub separated-listed : (xs : List (List ℕ)) → separated xs ≡ listed (codes
 separated-listed [] = refl
 separated-listed (x ∷ xs) = refl
 
-some : (n : ℕ) → nat_eq (suc n) 0 ≡ false
-some n = grind (arith, nat_tests)
-
 -- some members, and others after them
 pub in_two_parts : (xs ys : List (List ℕ)) → separated (xs ++ ys) ≡ listed (codes ", ") true xs ++ listed (codes ", ") (nat_eq (length xs) 0) ys
 in_two_parts [] ys = separated-listed ys
-in_two_parts (x ∷ xs) ys = rw (some (length xs)) (ap (λ l. x ++ l) (further-append (codes ", ") xs ys) ∙ sym (append_assoc x (further_by (codes ", ") xs) (further_by (codes ", ") ys)))
+in_two_parts (x ∷ xs) ys = rw (ne_eqb (suc (length xs)) 0 (λ e. omega arith)) (ap (λ l. x ++ l) (further-append (codes ", ") xs ys) ∙ sym (append_assoc x (further_by (codes ", ") xs) (further_by (codes ", ") ys)))
 
 -- the same, where the first part is the image of so many
 pub images_first : {A : Type 0} (f : A → List ℕ) (as' : List A) (ys : List (List ℕ)) → separated (map f as' ++ ys) ≡ listed (codes ", ") true (map f as') ++ listed (codes ", ") (nat_eq (length as') 0) ys
 images_first f as' ys = in_two_parts (map f as') ys ∙ ap (λ n. listed (codes ", ") true (map f as') ++ listed (codes ", ") (nat_eq n 0) ys) (length-map as' f)
-
-pub all-left : {A : Type 0} (P : A → Type 0) (xs ys : List A) → AllByRecursion P (xs ++ ys) → AllByRecursion P xs
-all-left P [] ys h = tt
-all-left P (x ∷ xs) ys h = (h.0, all-left P xs ys h.1)
-
-pub all-right : {A : Type 0} (P : A → Type 0) (xs ys : List A) → AllByRecursion P (xs ++ ys) → AllByRecursion P ys
-all-right P [] ys h = h
-all-right P (x ∷ xs) ys h = all-right P xs ys h.1
 
 pub rule_written : (text sign : List ℕ) (head pos neg : List Name) → (((text ++ listed (codes " | ") true head) ++ sign) ++ listed (codes ", ") true (map (λ a. a) pos)) ++ listed (codes ", ") (nat_eq (length pos) 0) (map denied neg)
     ≡ text ++ (listed (codes " | ") true head ++ (sign ++ separated (pos ++ map denied neg)))
@@ -41,13 +29,3 @@ rule_written text sign head pos neg =
     let body : separated (pos ++ map denied neg) ≡ listed (codes ", ") true (map (λ a. a) pos) ++ listed (codes ", ") (nat_eq (length pos) 0) (map denied neg) =
     ap (λ l. separated (l ++ map denied neg)) (sym (map-id pos)) ∙ images_first (λ a. a) pos (map denied neg) in
     rw body (simp append_assoc)
-
-bridge_written : (text name head word reads more : List ℕ) → (((((((text ++ codes "bridge ") ++ name) ++ codes ": ") ++ head) ++ word) ++ reads) ++ more) ++ codes ".\n"
-    ≡ text ++ (codes "bridge " ++ (name ++ (codes ": " ++ (head ++ (word ++ ((reads ++ more) ++ codes ".\n"))))))
-bridge_written text name head word reads more = simp append_assoc
-
--- the reads in two parts too
-pub reads_written : {A : Type 0} (text name head word : List ℕ) (f : A → List ℕ) (pos neg : List A) →
-    (((((((text ++ codes "bridge ") ++ name) ++ codes ": ") ++ head) ++ word) ++ listed (codes ", ") true (map f pos)) ++ listed (codes ", ") (nat_eq (length pos) 0) (map (λ a. denied (f a)) neg)) ++ codes ".\n"
-    ≡ text ++ (codes "bridge " ++ (name ++ (codes ": " ++ (head ++ (word ++ (separated (map f pos ++ map (λ a. denied (f a)) neg) ++ codes ".\n"))))))
-reads_written text name head word f pos neg = rw (images_first f pos (map (λ a. denied (f a)) neg)) (bridge_written text name head word (listed (codes ", ") true (map f pos)) (listed (codes ", ") (nat_eq (length pos) 0) (map (λ a. denied (f a)) neg)))

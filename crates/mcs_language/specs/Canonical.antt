@@ -4,7 +4,8 @@ use Rattle.std.specs.Prelude.{ℕ, Bool, true, false, List, [], ◌∷◌, ◌++
 use Rattle.std.specs.List.{flat_map}
 use Rattle.mcs_system.specs.Plain.{Name, Formula, Truth, Falsity, Atom, Not, And, Or, Implies, Iff, Default, ProgramRule, Item, Fact, Rule, Kb, Classical, DefaultTheory, Program, Context, Read, Bridge, System}
 use Rattle.mcs_system.specs.Faults.{reads_of}
-use Rattle.mcs_system.specs.Texts.{primary, separated, read_text}
+use Rattle.mcs_system.specs.Texts.{primary, belief_text}
+use Rattle.mcs_text.specs.Separated.{separated}
 
 -- ---- formulas and defaults
 
@@ -92,7 +93,7 @@ head_of b = record { context = b.target; belief = b.head }
 
 -- the positive reads first
 abbrev pub read_texts : System → Bridge → List (List ℕ)
-read_texts m b = map (read_text m) b.pos ++ map (λ (r : Read). denied (read_text m r)) b.neg
+read_texts m b = map (belief_text m) b.pos ++ map (λ (r : Read). denied (belief_text m r)) b.neg
 
 -- the word between spaces, where there is a read
 abbrev pub if_word : List Read → List ℕ
@@ -101,7 +102,7 @@ if_word (r ∷ rs) = codes " if "
 
 -- bridge NAME: HEAD if READS.
 abbrev pub bridge_text : System → Bridge → List ℕ
-bridge_text m b = codes "bridge " ++ (b.name ++ (codes ": " ++ (read_text m (head_of b) ++ (if_word (reads_of b) ++ (separated (read_texts m b) ++ codes ".\n")))))
+bridge_text m b = codes "bridge " ++ (b.name ++ (codes ": " ++ (belief_text m (head_of b) ++ (if_word (reads_of b) ++ (separated (read_texts m b) ++ codes ".\n")))))
 
 -- ---- the whole text
 abbrev pub canonical_text : System → List ℕ

@@ -4,8 +4,9 @@ use Rattle.mcs_base.specs.Listings.{IsAmong}
 use Rattle.mcs_base.specs.Words.{most_name_bytes}
 use Rattle.mcs_system.specs.Plain.{Name, Formula}
 use Rattle.mcs_system.specs.Logic.{same_name}
-use Rattle.mcs_system.specs.declared.fault.Limit.{Limit}
-use Rattle.mcs_system.specs.declared.fault.Limit.TheVariants.{Contexts, Bridges, RulesPerContext, Variables, InputsPerContext, AtomsPerContext, DefaultsPerContext, ItemsPerContext, FormulaSize, OpenParentheses, NameBytes}
+use Rattle.mcs_system.specs.Limits.{most}
+use Rattle.mcs_system.specs.declared.limit.Limit.{Limit}
+use Rattle.mcs_system.specs.declared.limit.Limit.TheVariants.{Contexts, Bridges, RulesPerContext, Variables, InputsPerContext, AtomsPerContext, DefaultsPerContext, ItemsPerContext, FormulaSize, OpenParentheses, NameBytes}
 use Rattle.mcs_language.specs.Written.{IsNameWord, WrittenText, IsText}
 use Rattle.mcs_language.specs.Marks.{Token, Use, BeginsContext, BeginsBridge, NamesContext, NamesBridge, SaysProgram, BeginsItem, BeginsDefault, NamesTarget, NamesSource, BeginsBelief, EndsRead, AtomOf, IsNumber, OpensWithin, Mark, text_marks, tokens_of, uses_of}
 
@@ -103,16 +104,16 @@ rank fault = number_of fault
 
 -- what is there for this, and more of it than the limit allows
 abbrev pub IsBeyond : Limit → List Use → Mark → Type 0
-IsBeyond Contexts before m = IsAmong BeginsContext m.uses × (count_by begins_context before ≡ 64)
-IsBeyond Bridges before m = IsAmong BeginsBridge m.uses × (count_by begins_bridge before ≡ 64)
-IsBeyond RulesPerContext before m = (c : Name) × IsAmong (NamesTarget c) m.uses × (count_by (names_target c) before ≡ 12)
-IsBeyond Variables before m = (t : Name) × ((r : NamedRead) × IsAmong (EndsRead t r.context r.belief) m.uses × IsOneMore 64 (WasRead before) r)
-IsBeyond InputsPerContext before m = (t : Name) × ((r : NamedRead) × IsAmong (EndsRead t r.context r.belief) m.uses × IsOneMore 16 (WasReadInto before t) r)
-IsBeyond AtomsPerContext before m = (c : Name) × ((a : Name) × IsAmong (AtomOf c a) m.uses × IsOneMore 64 (WasAtom before c) a)
-IsBeyond DefaultsPerContext before m = (c : Name) × IsAmong (BeginsDefault c) m.uses × (count_by (begins_default_of c) before ≡ 10)
-IsBeyond ItemsPerContext before m = (c : Name) × IsAmong (BeginsItem c) m.uses × (count_by (begins_item_of c) before ≡ 4096)
-IsBeyond FormulaSize before m = IsAmong (IsNumber 513) m.uses
-IsBeyond OpenParentheses before m = IsAmong (OpensWithin 512) m.uses
+IsBeyond Contexts before m = IsAmong BeginsContext m.uses × (count_by begins_context before ≡ most Contexts)
+IsBeyond Bridges before m = IsAmong BeginsBridge m.uses × (count_by begins_bridge before ≡ most Bridges)
+IsBeyond RulesPerContext before m = (c : Name) × IsAmong (NamesTarget c) m.uses × (count_by (names_target c) before ≡ most RulesPerContext)
+IsBeyond Variables before m = (t : Name) × ((r : NamedRead) × IsAmong (EndsRead t r.context r.belief) m.uses × IsOneMore (most Variables) (WasRead before) r)
+IsBeyond InputsPerContext before m = (t : Name) × ((r : NamedRead) × IsAmong (EndsRead t r.context r.belief) m.uses × IsOneMore (most InputsPerContext) (WasReadInto before t) r)
+IsBeyond AtomsPerContext before m = (c : Name) × ((a : Name) × IsAmong (AtomOf c a) m.uses × IsOneMore (most AtomsPerContext) (WasAtom before c) a)
+IsBeyond DefaultsPerContext before m = (c : Name) × IsAmong (BeginsDefault c) m.uses × (count_by (begins_default_of c) before ≡ most DefaultsPerContext)
+IsBeyond ItemsPerContext before m = (c : Name) × IsAmong (BeginsItem c) m.uses × (count_by (begins_item_of c) before ≡ most ItemsPerContext)
+IsBeyond FormulaSize before m = IsAmong (IsNumber (most FormulaSize + 1)) m.uses
+IsBeyond OpenParentheses before m = IsAmong (OpensWithin (most OpenParentheses)) m.uses
 IsBeyond NameBytes before m = IsNameWord m.token × (most_name_bytes < length m.token)
 
 -- of a token that is there for something, after what the tokens before it are there for

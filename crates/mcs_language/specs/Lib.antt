@@ -12,4 +12,3 @@ pub mod Progress
 pub mod Ends
 pub mod Known
 pub mod Canonical
-pub mod Naming

@@ -1,7 +1,7 @@
 -- Which text spells which system, and which text has which fault, by its bytes.
 use Rattle.std.specs.Prelude.{◌≡◌, ℕ, List, map, length, slice_range, Option, Some, None, slice_get}
 use Rattle.mcs_system.specs.Plain.{System}
-use Rattle.mcs_system.specs.declared.fault.Limit.{Limit}
+use Rattle.mcs_system.specs.declared.limit.Limit.{Limit}
 use Rattle.mcs_tokens.specs.Tokens.{AreTokens}
 use Rattle.mcs_tokens.specs.declared.scan.Span.{Span}
 use Rattle.mcs_language.specs.Written.{WrittenText, IsText}
@@ -44,3 +44,12 @@ pub record HasFault (bytes : List ℕ) (number : ℕ) (limit : Option Limit) (of
 -- a text spells one system at most
 abbrev pub TextsAreUnambiguous : Type 0
 TextsAreUnambiguous = (bytes : List ℕ) (m n : System) → Spells bytes m → Spells bytes n → m ≡ n
+
+-- a text has one fault at most: one number, one limit and one offset
+abbrev pub TextsHaveOneFault : Type 0
+TextsHaveOneFault = (bytes : List ℕ) (number number' : ℕ) (limit limit' : Option Limit) (offset offset' : ℕ) → HasFault bytes number limit offset → HasFault bytes number' limit' offset'
+    → (number ≡ number') × (limit ≡ limit') × (offset ≡ offset')
+
+-- a text that spells a system has no fault
+abbrev pub SpelledTextsHaveNoFault : Type 0
+SpelledTextsHaveNoFault = (bytes : List ℕ) (m : System) (number : ℕ) (limit : Option Limit) (offset : ℕ) → Spells bytes m → ¬ HasFault bytes number limit offset

@@ -5,6 +5,8 @@ use Rattle.std.specs.Option.{option_copied}
 use Rattle.mcs_base.specs.Listings.{IsAmong}
 use Rattle.mcs_base.specs.Words.{most_name_bytes}
 use Rattle.mcs_sets.specs.Sets.{has, size}
+use Rattle.mcs_system.specs.Limits.{most}
+use Rattle.mcs_system.specs.declared.limit.Limit.TheVariants.{Contexts, Bridges, RulesPerContext, Variables, InputsPerContext, AtomsPerContext, DefaultsPerContext, ItemsPerContext}
 use Rattle.mcs_system.specs.Plain.{Name, Formula}
 use Rattle.mcs_system.specs.Logic.{atoms}
 use Rattle.mcs_language.specs.declared.watch.Watch.{Watch}
@@ -50,7 +52,7 @@ pub record IsSeen (variables : List NamedRead) (before : List Use) (c : ContextS
   pub atoms : Lists c.atoms.items (WasAtom before c.name)
   -- the numbers, among the variables, of those that rules into the context read
   pub inputs : (k : ℕ) → IsTrue (has c.inputs k) ↔ ((r : NamedRead) × (slice_get variables k ≡ Some r) × WasReadInto before c.name r)
-  pub few : (c.rules ≤ 12) × (c.defaults ≤ 10) × (c.items ≤ 4096) × (length c.atoms.items ≤ 64) × (size c.inputs ≤ 16)
+  pub few : (c.rules ≤ most RulesPerContext) × (c.defaults ≤ most DefaultsPerContext) × (c.items ≤ most ItemsPerContext) × (length c.atoms.items ≤ most AtomsPerContext) × (size c.inputs ≤ most InputsPerContext)
 
 -- ---- of all
 -- what a token is said of, when it was named before
@@ -82,7 +84,7 @@ pub record IsWatch (w : Watch) (before : List Use) : Type 0 where
   pub different : AreDifferent (contexts_named before) × AreDifferent (bridges_named before)
   pub variables : Lists (map read_of w.variables.items) (WasRead before)
   pub seen : AllByRecursion (IsSeen (map read_of w.variables.items) before) w.contexts.items
-  pub few : (w.contexts_begun ≤ 64) × (w.bridges_begun ≤ 64) × (length w.variables.items ≤ 64)
+  pub few : (w.contexts_begun ≤ most Contexts) × (w.bridges_begun ≤ most Bridges) × (length w.variables.items ≤ most Variables)
   -- what was said of a context came after its name
   pub spoken : (u : Use) → IsAmong u before → IsSpokenOf before u
   pub targets : (c : Name) → IsAmong (NamesTarget c) before → IsAmong (NamesContext c) before
@@ -129,15 +131,15 @@ Tells answer P w s = (before : List Use) (m : Mark) (a : About) → IsAsked w be
 -- ---- one use more
 -- what it is there for is no fault, after what the tokens before are there for
 abbrev pub IsAllowed : List Use → Use → Type 0
-IsAllowed before BeginsContext = ¬ (count_by begins_context before ≡ 64)
-IsAllowed before BeginsBridge = ¬ (count_by begins_bridge before ≡ 64)
+IsAllowed before BeginsContext = ¬ (count_by begins_context before ≡ most Contexts)
+IsAllowed before BeginsBridge = ¬ (count_by begins_bridge before ≡ most Bridges)
 IsAllowed before (NamesContext c) = ¬ IsAmong (NamesContext c) before
 IsAllowed before (NamesBridge b) = ¬ IsAmong (NamesBridge b) before
-IsAllowed before (NamesTarget c) = IsAmong (NamesContext c) before × (¬ (count_by (names_target c) before ≡ 12))
-IsAllowed before (BeginsDefault c) = ¬ (count_by (begins_default_of c) before ≡ 10)
-IsAllowed before (BeginsItem c) = ¬ (count_by (begins_item_of c) before ≡ 4096)
-IsAllowed before (AtomOf c a) = ¬ IsOneMore 64 (WasAtom before c) a
-IsAllowed before (EndsRead t c f) = AreShort (atoms f) × (¬ IsOneMore 64 (WasRead before) (named_read c f)) × (¬ IsOneMore 16 (WasReadInto before t) (named_read c f))
+IsAllowed before (NamesTarget c) = IsAmong (NamesContext c) before × (¬ (count_by (names_target c) before ≡ most RulesPerContext))
+IsAllowed before (BeginsDefault c) = ¬ (count_by (begins_default_of c) before ≡ most DefaultsPerContext)
+IsAllowed before (BeginsItem c) = ¬ (count_by (begins_item_of c) before ≡ most ItemsPerContext)
+IsAllowed before (AtomOf c a) = ¬ IsOneMore (most AtomsPerContext) (WasAtom before c) a
+IsAllowed before (EndsRead t c f) = AreShort (atoms f) × (¬ IsOneMore (most Variables) (WasRead before) (named_read c f)) × (¬ IsOneMore (most InputsPerContext) (WasReadInto before t) (named_read c f))
 IsAllowed before u = Unit {0}
 
 -- nothing but the name was seen of the context

@@ -4,7 +4,8 @@ ghost use Rattle.std.specs.Prelude.{◌≡◌, ℕ, ◌+◌, ◌-◌, ◌<◌, m
 ghost use Rattle.mcs_base.specs.Words.{is_name};
 ghost use Rattle.mcs_system.specs.Seen.{formula_of};
 ghost use Rattle.mcs_tokens.specs.Kinds.{IsKind};
-ghost use Rattle.mcs_tokens.specs.Spelling.{sign_bytes, keyword_bytes};
+ghost use Rattle.mcs_base.specs.Words.{keyword_bytes};
+ghost use Rattle.mcs_tokens.specs.Spelling.{sign_bytes};
 ghost use Rattle.mcs_language.specs.Written.{Written};
 ghost use Rattle.mcs_language.specs.Marks.{formula_in, size_of};
 ghost use Rattle.mcs_language.specs.FormulaSteps.{PartFormula, Parenthesis, no_formula, waits, size_so_far, opened_so_far, settle, reduce, finished, finished_primary};

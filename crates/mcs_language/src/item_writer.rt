@@ -1,12 +1,14 @@
 //! The texts of formulas, defaults and program rules.
 
-ghost use Rattle.std.specs.Prelude.{◌≡◌, ◌++◌, [], true, not, nat_eq, length, map, codes, OnOk, if◌then◌else◌};
+ghost use Rattle.std.specs.Prelude.{◌≡◌, ◌++◌, true, not, nat_eq, length, map, codes, OnOk};
 ghost use Rattle.mcs_system.specs.Seen.{formula_of, default_of, item_of, rule_of};
-ghost use Rattle.mcs_system.specs.Texts.{primary, sign_of, separated};
+ghost use Rattle.mcs_system.specs.Texts.{primary, sign_of};
+ghost use Rattle.mcs_text.specs.Separated.{separated};
 ghost use Rattle.mcs_language.specs.Canonical.{formula_text, default_text, theory_item_text, listed, rule_sign, program_rule_text};
 
 use mcs_base::{Memory, Text};
 use mcs_system::{Default, Formula, Name, ProgRule, TheoryItem};
+use mcs_text::push_separator;
 
 /// The sign of a formula of two parts, between spaces; empty for another.
 fn sign(f: &Formula) -> &'static [u8]
@@ -22,7 +24,7 @@ fn sign(f: &Formula) -> &'static [u8]
 }
 
 /// Appends a formula as a belief is printed: what has two parts stands in parentheses.
-pub fn push_primary(text: &mut Text, f: &Formula) -> Result<(), Memory>
+pub(crate) fn push_primary(text: &mut Text, f: &Formula) -> Result<(), Memory>
     ensures { OnOk result (text.new ≡ text.old ++ primary (formula_of f.now)) }
 {
     match f {
@@ -55,20 +57,6 @@ pub(crate) fn push_formula(text: &mut Text, f: &Formula) -> Result<(), Memory>
         }
         _ => push_primary(text, f),
     }
-}
-
-/// Appends what separates a member of a list from the one before it, if there is one.
-pub(crate) fn push_separator(
-    text: &mut Text,
-    is_first: bool,
-    separator: &[u8],
-) -> Result<(), Memory>
-    ensures { OnOk result (text.new ≡ text.old ++ (if is_first then [] else separator.now)) }
-{
-    if is_first {
-        return Ok(());
-    }
-    text.push(separator)
 }
 
 /// Appends the justifications of a default, separated.

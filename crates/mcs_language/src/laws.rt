@@ -1,8 +1,18 @@
 //! Laws over the definitions of texts. The functions do nothing: each contract is a law.
 
-ghost use Rattle.mcs_language.specs.Texts.{TextsAreUnambiguous};
+ghost use Rattle.mcs_language.specs.Texts.{SpelledTextsHaveNoFault, TextsAreUnambiguous, TextsHaveOneFault};
 
 /// A text spells one system at most.
 pub fn texts_are_unambiguous()
     ensures { TextsAreUnambiguous }
+{}
+
+/// A text has one fault at most.
+pub fn texts_have_one_fault()
+    ensures { TextsHaveOneFault }
+{}
+
+/// A text that spells a system has no fault.
+pub fn spelled_texts_have_no_fault()
+    ensures { SpelledTextsHaveNoFault }
 {}

@@ -9,7 +9,6 @@ mod item_writer;
 mod items;
 mod laws;
 mod limits;
-mod names;
 mod numbers;
 mod place;
 mod reader;
@@ -20,7 +19,6 @@ mod watch;
 mod writer;
 
 pub use fault::TextFault;
-pub use item_writer::push_primary;
-pub use laws::texts_are_unambiguous;
+pub use laws::{spelled_texts_have_no_fault, texts_are_unambiguous, texts_have_one_fault};
 pub use reading::read_system;
 pub use writer::{push_read, write_system};

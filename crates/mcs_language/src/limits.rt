@@ -17,28 +17,6 @@ use crate::watch::{Said, Watch};
 use mcs_base::Vars;
 use mcs_system::{Limit, Name, same_formula};
 
-const MOST_CONTEXTS: usize = 64;
-
-const MOST_BRIDGES: usize = 64;
-
-const MOST_RULES: usize = 12;
-
-const MOST_VARIABLES: usize = 64;
-
-const MOST_INPUTS: u32 = 16;
-
-const MOST_ATOMS: usize = 64;
-
-const MOST_DEFAULTS: usize = 10;
-
-const MOST_ITEMS: usize = 4096;
-
-const MOST_SIZE: usize = 512;
-
-const MOST_OPEN: usize = 512;
-
-const MOST_BYTES: usize = 64;
-
 /// The limits, the lowest first.
 const LIMITS: [Limit; 11] = [
     Limit::Contexts,
@@ -77,7 +55,7 @@ fn same_read(read: &NamedRead, other: &NamedRead) -> bool
 pub(crate) fn is_input(inputs: Vars, number: usize) -> bool
     ensures { IsTrue result ↔ ((number < 64) × IsTrue (has inputs number)) }
 {
-    number < MOST_VARIABLES && inputs.has(number as u32)
+    number < Limit::Variables.most() && inputs.has(number as u32)
 }
 
 impl Watch {
@@ -174,7 +152,7 @@ impl Watch {
         ensures { Tells result (IsBeyond Limit.Contexts) self.now said.now }
     {
         match said.uses.role {
-            Role::BeginsContext => self.contexts_begun == MOST_CONTEXTS,
+            Role::BeginsContext => self.contexts_begun == Limit::Contexts.most(),
             _ => false,
         }
     }
@@ -184,7 +162,7 @@ impl Watch {
         ensures { Tells result (IsBeyond Limit.Bridges) self.now said.now }
     {
         match said.uses.role {
-            Role::BeginsBridge => self.bridges_begun == MOST_BRIDGES,
+            Role::BeginsBridge => self.bridges_begun == Limit::Bridges.most(),
             _ => false,
         }
     }
@@ -194,7 +172,8 @@ impl Watch {
         ensures { Tells result (IsBeyond Limit.RulesPerContext) self.now said.now }
     {
         match said.uses.role {
-            Role::NamesTarget => self.rules_into(self.number_of(said.token)) == MOST_RULES,
+            Role::NamesTarget => self.rules_into(self.number_of(said.token))
+                == Limit::RulesPerContext.most(),
             _ => false,
         }
     }
@@ -203,7 +182,7 @@ impl Watch {
     fn exceeds_variables(&self, said: &Said) -> bool
         ensures { Tells result (IsBeyond Limit.Variables) self.now said.now }
     {
-        if self.variables.len() < MOST_VARIABLES {
+        if self.variables.len() < Limit::Variables.most() {
             return false;
         }
         said.uses.ends_read && self.variable_number(said.read) == self.variables.len()
@@ -216,7 +195,7 @@ impl Watch {
         let Some(target) = self.contexts.get(said.subject.target) else {
             return false;
         };
-        if target.inputs.count() < MOST_INPUTS {
+        if (target.inputs.count() as usize) < Limit::InputsPerContext.most() {
             return false;
         }
         said.uses.ends_read && !is_input(target.inputs, self.variable_number(said.read))
@@ -229,7 +208,7 @@ impl Watch {
         let Some(context) = self.contexts.get(said.subject.context) else {
             return false;
         };
-        if context.atoms.len() < MOST_ATOMS {
+        if context.atoms.len() < Limit::AtomsPerContext.most() {
             return false;
         }
         match said.uses.role {
@@ -243,7 +222,8 @@ impl Watch {
         ensures { Tells result (IsBeyond Limit.DefaultsPerContext) self.now said.now }
     {
         match said.uses.role {
-            Role::BeginsDefault => self.defaults_of(said.subject.context) == MOST_DEFAULTS,
+            Role::BeginsDefault => self.defaults_of(said.subject.context)
+                == Limit::DefaultsPerContext.most(),
             _ => false,
         }
     }
@@ -252,7 +232,8 @@ impl Watch {
     fn exceeds_items(&self, said: &Said) -> bool
         ensures { Tells result (IsBeyond Limit.ItemsPerContext) self.now said.now }
     {
-        said.uses.begins_item && self.items_of(said.subject.context) == MOST_ITEMS
+        said.uses.begins_item
+            && self.items_of(said.subject.context) == Limit::ItemsPerContext.most()
     }
 
     /// Whether the token is one too many of a formula, or one name too many of a program rule.
@@ -260,8 +241,8 @@ impl Watch {
         ensures { Tells result (IsBeyond Limit.FormulaSize) self.now said.now }
     {
         match said.uses.role {
-            Role::Atom { number } => number == MOST_SIZE + 1,
-            Role::Counted { number } => number == MOST_SIZE + 1,
+            Role::Atom { number } => number == Limit::FormulaSize.most() + 1,
+            Role::Counted { number } => number == Limit::FormulaSize.most() + 1,
             _ => false,
         }
     }
@@ -271,7 +252,7 @@ impl Watch {
         ensures { Tells result (IsBeyond Limit.OpenParentheses) self.now said.now }
     {
         match said.uses.role {
-            Role::Opens { within } => within == MOST_OPEN,
+            Role::Opens { within } => within == Limit::OpenParentheses.most(),
             _ => false,
         }
     }
@@ -280,6 +261,6 @@ impl Watch {
     fn exceeds_bytes(&self, said: &Said) -> bool
         ensures { Tells result (IsBeyond Limit.NameBytes) self.now said.now }
     {
-        is_name_word(said.token) && said.token.len() > MOST_BYTES
+        is_name_word(said.token) && said.token.len() > Limit::NameBytes.most()
     }
 }

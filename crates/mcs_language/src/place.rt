@@ -2,7 +2,8 @@
 
 ghost use Rattle.std.specs.Prelude.{◌≡◌, ◌+◌, min, IfOk};
 ghost use Rattle.std.specs.Str.{bytes_eq};
-ghost use Rattle.mcs_tokens.specs.Spelling.{keyword_bytes, sign_bytes};
+ghost use Rattle.mcs_base.specs.Words.{keyword_bytes};
+ghost use Rattle.mcs_tokens.specs.Spelling.{sign_bytes};
 ghost use Rattle.mcs_language.specs.FormulaSteps.{is_name_word};
 ghost use Rattle.mcs_language.specs.TextImages.{first, most_number, only, IsWord};
 

@@ -1,20 +1,18 @@
 //! The canonical text of a system.
 
-ghost use Rattle.std.specs.Prelude.{◌≡◌, ◌<◌, ◌++◌, not, nat_eq, length, map, codes, OnOk};
+ghost use Rattle.std.specs.Prelude.{◌≡◌, ◌<◌, ◌++◌, not, nat_eq, length, map, codes, OnOk, OnErr};
 ghost use Rattle.std.specs.List.{AllByRecursion, flat_map};
 ghost use Rattle.mcs_system.specs.Faults.{reads_of};
 ghost use Rattle.mcs_system.specs.Plain as plain;
 ghost use Rattle.mcs_system.specs.Seen.{formula_of, item_of, rule_of, kb_of, context_of, read_of, bridge_of};
-ghost use Rattle.mcs_system.specs.Texts.{read_text};
+ghost use Rattle.mcs_system.specs.Texts.{belief_text};
 ghost use Rattle.mcs_language.specs.Canonical.{formula_text, theory_item_text, listed, program_rule_text, kind_word, item_line, items_text, context_text, if_word, bridge_text, canonical_text};
 ghost use Rattle.mcs_language.specs.Texts.{Spells};
 
-use crate::item_writer::{
-    push_formula, push_primary, push_program_rule, push_separator, push_theory_item,
-};
-use crate::names::system_is_named;
+use crate::item_writer::{push_formula, push_primary, push_program_rule, push_theory_item};
 use mcs_base::{Memory, Text};
 use mcs_system::{Bridge, Context, Formula, Kb, ProgRule, Read, System, TheoryItem};
+use mcs_text::push_separator;
 
 /// The word that says of what kind a knowledge base is.
 fn kind_word(kb: &Kb) -> &'static [u8]
@@ -95,19 +93,23 @@ fn push_belief(
     belief: &Formula,
 ) -> Result<(), Memory>
     requires { context < length system.now.contexts }
-    ensures { OnOk result (text.new ≡ text.old ++ read_text system.now (record { context = context; belief = formula_of belief.now })) }
+    ensures { OnOk result (text.new ≡ text.old ++ belief_text system.now (record { context = context; belief = formula_of belief.now })) }
 {
     text.push(system.contexts()[context as usize].name.bytes())?;
     text.push(b":")?;
     push_primary(text, belief)
 }
 
-/// Appends a belief that a bridge rule reads: the context's name, a colon, the belief.
+/// Appends a belief that a bridge rule reads: the context's name, a colon, the belief. The context is one of the
+/// system's. Without memory the text stays as it was.
 pub fn push_read(text: &mut Text, system: &System, read: &Read) -> Result<(), Memory>
     requires { read.now.context < length system.now.contexts }
-    ensures { OnOk result (text.new ≡ text.old ++ read_text system.now (read_of read.now)) }
+    ensures ok { OnOk result (text.new ≡ text.old ++ belief_text system.now (read_of read.now)) }
+    ensures err { OnErr result (text.new ≡ text.old) }
 {
-    push_belief(text, system, read.context, &read.belief)
+    let mut own = text.empty_like();
+    push_belief(&mut own, system, read.context, &read.belief)?;
+    text.push(own.bytes())
 }
 
 /// Appends what a bridge rule reads, the word before each. They are the first reads of the rule, or go on
@@ -120,7 +122,7 @@ fn push_reads(
     reads: &[Read],
 ) -> Result<(), Memory>
     requires { AllByRecursion (λ (r : plain.Read). r.context < length system.now.contexts) (map read_of reads.now) }
-    ensures { OnOk result (text.new ≡ text.old ++ listed (codes ", ") is_first (map (λ r. word.now ++ read_text system.now r) (map read_of reads.now))) }
+    ensures { OnOk result (text.new ≡ text.old ++ listed (codes ", ") is_first (map (λ r. word.now ++ belief_text system.now r) (map read_of reads.now))) }
 {
     let mut is_first = is_first;
     for read in reads {
@@ -186,16 +188,19 @@ fn push_bridges(text: &mut Text, system: &System) -> Result<(), Memory>
 fn canonical_text_spells(system: &System)
     ensures { Spells (canonical_text system.now) system.now }
 {
-    system_is_named(system);
     let _contexts = system.contexts();
 }
 
-/// Appends the canonical text of a system. It spells the system, so that who reads it has the same again.
+/// Appends the canonical text of a system. It spells the system, so that who reads it has the same again. Without
+/// the memory for all of it `out` stays as it was.
 pub fn write_system(system: &System, out: &mut Text) -> Result<(), Memory>
     ensures text { OnOk result (out.new ≡ out.old ++ canonical_text system.now) }
+    ensures unchanged { OnErr result (out.new ≡ out.old) }
     ensures reads_back { Spells (canonical_text system.now) system.now }
 {
     canonical_text_spells(system);
-    push_contexts(out, system)?;
-    push_bridges(out, system)
+    let mut text = out.empty_like();
+    push_contexts(&mut text, system)?;
+    push_bridges(&mut text, system)?;
+    out.push(text.bytes())
 }

@@ -2,7 +2,10 @@
 
 use crate::faults::EACH_CONSTRUCT;
 use mcs_base::Text;
-use mcs_language::{read_system, texts_are_unambiguous, write_system};
+use mcs_language::{
+    read_system, spelled_texts_have_no_fault, texts_are_unambiguous, texts_have_one_fault,
+    write_system,
+};
 use mcs_system::Bridge;
 use std::alloc::Global;
 use std::test::Fail;
@@ -60,6 +63,8 @@ fn reads_one_of_each(bridge: &Bridge) -> bool {
 #[test]
 fn texts_spell_one_system_each(rt: HostRuntime) -> Result<(), Fail> {
     texts_are_unambiguous();
+    texts_have_one_fault();
+    spelled_texts_have_no_fault();
     let system = read_system(rt.alloc(), EACH_CONSTRUCT.as_bytes())?;
     assert!(rt; system.contexts().len() == 3 && system.variables().len() == 2);
     assert!(rt; system.bridges().len() == 1);

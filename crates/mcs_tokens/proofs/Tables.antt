@@ -1,4 +1,4 @@
--- The tables of signs and of reserved words are whole, and longer signs come first.
+-- The table of signs is whole, and longer signs come first.
 use Rattle.std.proofs.Common.{◌≡◌, ℕ, ◌+◌, ◌<◌, List, length, get_or, refl, sym, ap, ◌∙◌, subst, inl, inr, arith, lit<}
 use Rattle.std.proofs.lemmas.Bool.{cases_lt}
 use Rattle.std.proofs.lemmas.List.{get_or_default}
@@ -7,44 +7,6 @@ use Rattle.mcs_tokens.specs.Tokens.{BeginsWith}
 use Rattle.mcs_tokens.specs.declared.sign.Sign.{Sign}
 use Rattle.mcs_tokens.specs.declared.sign.Sign.TheVariants as signs
 use Rattle.mcs_tokens.specs.declared.sign.TheConstants.{SIGNS}
-use Rattle.mcs_tokens.specs.declared.keyword.Keyword.{Keyword}
-use Rattle.mcs_tokens.specs.declared.keyword.Keyword.TheVariants as words
-use Rattle.mcs_tokens.specs.declared.keyword.TheConstants.{KEYWORDS}
-
--- where the word stands in the table
-abbrev pub keyword_place : Keyword → ℕ
-keyword_place words.Context = 0
-keyword_place words.Bridge = 1
-keyword_place words.Classical = 2
-keyword_place words.Default = 3
-keyword_place words.Program = 4
-keyword_place words.Not = 5
-keyword_place words.If = 6
-keyword_place words.True = 7
-keyword_place words.False = 8
-keyword_place words.Version = 9
-keyword_place words.Keep = 10
-keyword_place words.Closed = 11
-keyword_place words.Weight = 12
-keyword_place words.Autoepistemic = 13
-keyword_place words.Know = 14
-
-pub keyword_listed : (k : Keyword) → (keyword_place k < length KEYWORDS) × (get_or KEYWORDS (keyword_place k) k ≡ k)
-keyword_listed words.Context = (lit< tt, refl)
-keyword_listed words.Bridge = (lit< tt, refl)
-keyword_listed words.Classical = (lit< tt, refl)
-keyword_listed words.Default = (lit< tt, refl)
-keyword_listed words.Program = (lit< tt, refl)
-keyword_listed words.Not = (lit< tt, refl)
-keyword_listed words.If = (lit< tt, refl)
-keyword_listed words.True = (lit< tt, refl)
-keyword_listed words.False = (lit< tt, refl)
-keyword_listed words.Version = (lit< tt, refl)
-keyword_listed words.Keep = (lit< tt, refl)
-keyword_listed words.Closed = (lit< tt, refl)
-keyword_listed words.Weight = (lit< tt, refl)
-keyword_listed words.Autoepistemic = (lit< tt, refl)
-keyword_listed words.Know = (lit< tt, refl)
 
 -- where the sign stands in the table
 abbrev pub sign_place : Sign → ℕ

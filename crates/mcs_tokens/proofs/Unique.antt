@@ -1,20 +1,22 @@
 -- The next token is the only one, and tokens and gaps make up the text.
-use Rattle.std.proofs.Common.{◌≡◌, ◌≢◌, ℕ, ◌+◌, ◌-◌, ◌<◌, ◌≤◌, false, eqb, IsTrue, List, [], ◌∷◌, ◌++◌, length, take, drop, refl, sym, ap, ◌∙◌, subst, inl, inr, ◌⊎◌, arith, true≢false, add-zero, length-drop, length-take-le}
+use Rattle.std.proofs.Common.{◌≡◌, ◌≢◌, ℕ, ◌+◌, ◌-◌, ◌<◌, ◌≤◌, false, eqb, IsTrue, List, [], ◌∷◌, ◌++◌, length, drop, refl, sym, ap, ◌∙◌, subst, inl, inr, ◌⊎◌, arith, true≢false, add-zero, length-drop, length-take-le}
 use Rattle.std.proofs.lemmas.Bool.{cases_lt}
 use Rattle.std.proofs.lemmas.Bool.Decides.{nat_tests}
-use Rattle.std.proofs.lemmas.List.{take-append-drop, drop-drop, get_or-drop}
-use Rattle.std.proofs.lemmas.List.Folds.{list_all-append}
+use Rattle.std.proofs.lemmas.List.{get_or-drop, get_or-take}
+use Rattle.std.proofs.lemmas.List.Folds.{drop_split}
 use Rattle.std.specs.Prelude.{slice_index, slice_range}
-use Rattle.std.specs.List.{list_all, AllByRecursion}
+use Rattle.std.specs.List.{AllByRecursion}
 use Rattle.mcs_base.specs.Listings.{IsAscending}
-use Rattle.mcs_base.specs.Words.{is_letter, is_word_byte, is_word}
+use Rattle.mcs_base.specs.Words.{is_letter, is_word}
+use Rattle.mcs_base.proofs.Lists.{same_first, later_split}
+use Rattle.mcs_base.proofs.Each.{all_weaker}
+use Rattle.mcs_base.proofs.WordLemmas.{word_begins, word_front}
 use Rattle.mcs_tokens.specs.Spelling.{sign_bytes}
 use Rattle.mcs_tokens.specs.Tokens.{is_separator, hash, IsGapByte, IsWholeWord, IsLongestSign, IsStray, IsToken, IsTokenAt, IsNext, AreTokens}
 use Rattle.mcs_tokens.specs.Laws.{LiesIn}
 use Rattle.mcs_tokens.specs.declared.sign.Sign.{Sign}
 use Rattle.mcs_tokens.specs.declared.sign.Sign.TheVariants as signs
 use Rattle.mcs_tokens.specs.declared.scan.Span.{Span}
-use Rattle.mcs_tokens.proofs.TokenLemmas.{and_first, and_second, and_both}
 
 -- a sign begins with no letter, no separator and no `#`
 sign_begins : (s : Sign) → (0 < length (sign_bytes s)) × (is_letter (slice_index (sign_bytes s) 0) ≡ false) × (is_separator (slice_index (sign_bytes s) 0) ≡ false) × (eqb (slice_index (sign_bytes s) 0) hash ≡ false)
@@ -32,10 +34,6 @@ sign_begins signs.Arrow = (omega arith, refl, refl, refl)
 sign_begins signs.DoubleArrow = (omega arith, refl, refl, refl)
 sign_begins signs.OpenParenthesis = (omega arith, refl, refl, refl)
 sign_begins signs.CloseParenthesis = (omega arith, refl, refl, refl)
-
-word_begins : (t : List ℕ) → IsTrue (is_word t) → (0 < length t) × IsTrue (is_letter (slice_index t 0))
-word_begins [] h = absurd (true≢false (sym h))
-word_begins (b ∷ bs) h = (omega arith, and_first (is_letter b) _ h)
 
 letter_apart : (b : ℕ) → IsTrue (is_letter b) → (¬ IsTrue (is_separator b)) × (b ≢ hash)
 letter_apart b h = (λ s. grind (arith, nat_tests), λ e. grind (arith, nat_tests))
@@ -56,17 +54,11 @@ begins t r (inr (inr s)) =
     let here : Q (s.byte ∷ []) = (omega arith, s.no_separator, s.no_comment) in
     subst Q (sym s.one) here
 
-first_taken : (n : ℕ) (bytes : List ℕ) → 0 < length (take n bytes) → slice_index (take n bytes) 0 ≡ slice_index bytes 0
-first_taken n bytes h = grind (arith)
-
-first_dropped : (n : ℕ) (bytes : List ℕ) → slice_index (drop n bytes) 0 ≡ slice_index bytes n
-first_dropped n bytes = get_or-drop n bytes 0 0 ∙ ap (λ (k : ℕ). slice_index bytes k) (add-zero n)
-
 -- a token begins at no byte of a gap
 token_no_gap : (bytes : List ℕ) (at from to : ℕ) → IsTokenAt bytes at from to → ¬ IsGapByte bytes at from
 token_no_gap bytes at from to h g =
     let first = begins _ _ h.token in
-    let e : slice_index (slice_range bytes from to) 0 ≡ slice_index bytes from = first_taken (to - from) (drop from bytes) first.0 ∙ first_dropped from bytes in
+    let e : slice_index (slice_range bytes from to) 0 ≡ slice_index bytes from = get_or-take (to - from) (drop from bytes) 0 0 (omega (arith, h.some)) ∙ get_or-drop from bytes 0 0 ∙ ap (slice_index bytes) (add-zero from) in
     elim g [
       | inl s ↦ first.1 (ap is_separator e ∙ s)
       | inr (inl c) ↦ first.2 (e ∙ c)
@@ -74,30 +66,9 @@ token_no_gap bytes at from to h g =
     ]
 
 -- ---- one token at a place
-heads : (t r t' r' : List ℕ) → 0 < length t → 0 < length t' → t ++ r ≡ t' ++ r' → slice_index t 0 ≡ slice_index t' 0
-heads [] r t' r' h h' e = absurd (omega (arith, h))
-heads (b ∷ t) r [] r' h h' e = absurd (omega (arith, h'))
-heads (b ∷ t) r (b' ∷ t') r' h h' e = ap (λ l. slice_index l 0) e
-
-longer : (t r t' r' : List ℕ) → t ++ r ≡ t' ++ r' → length t < length t' → (c : ℕ) × (m : List ℕ) × (r ≡ c ∷ (m ++ r')) × (t' ≡ t ++ c ∷ m)
-longer t r [] r' e h = absurd (omega (arith, h))
-longer [] r (c ∷ m) r' e h = (c, m, e, refl)
-longer (b ∷ t) r (b' ∷ t') r' e h =
-    let rest = longer t r t' r' (cc) (omega (arith, h)) in
-    let head : b' ≡ b = cc in
-    (rest.0, rest.1, rest.2, ap (λ x. x ∷ t') head ∙ ap (λ l. b ∷ l) rest.3)
-
-word_front : (t : List ℕ) (c : ℕ) (m : List ℕ) → IsTrue (is_word t) → IsTrue (is_word (t ++ c ∷ m)) → IsTrue (is_word (t ++ c ∷ []))
-word_front [] c m h k = absurd (true≢false (sym h))
-word_front (b ∷ t) c m h k =
-    let all : IsTrue (list_all is_word_byte (t ++ c ∷ m)) = and_second (is_letter b) _ k in
-    let last : IsTrue (list_all is_word_byte (c ∷ m)) = and_second (list_all is_word_byte t) _ (sym (list_all-append is_word_byte t (c ∷ m)) ∙ all) in
-    let c_is : IsTrue (list_all is_word_byte (c ∷ [])) = and_both (is_word_byte c) _ (and_first (is_word_byte c) _ last) refl in
-    and_both (is_letter b) _ (and_first (is_letter b) _ h) (list_all-append is_word_byte t (c ∷ []) ∙ and_both (list_all is_word_byte t) _ (and_second (is_letter b) _ h) c_is)
-
 no_longer_word : (t r t' r' : List ℕ) → t ++ r ≡ t' ++ r' → IsWholeWord t r → IsTrue (is_word t') → ¬ (length t < length t')
 no_longer_word t r t' r' e w w' h =
-    let rest = longer t r t' r' e h in
+    let rest = later_split t r t' r' e h in
     w.whole rest.0 (rest.1 ++ r') rest.2 (word_front t rest.0 rest.1 w.word (ap is_word (sym rest.3) ∙ w'))
 
 word_no_sign : (t r t' r' : List ℕ) → t ++ r ≡ t' ++ r' → IsTrue (is_word t) → (s : Sign) → ¬ (t' ≡ sign_bytes s)
@@ -105,14 +76,14 @@ word_no_sign t r t' r' e w s is =
     let first = word_begins t w in
     let sign = sign_begins s in
     let some : 0 < length t' = subst (λ u. 0 < length u) (sym is) sign.0 in
-    let same : slice_index t 0 ≡ slice_index (sign_bytes s) 0 = heads t r t' r' first.0 some e ∙ ap (λ u. slice_index u 0) is in
+    let same : slice_index t 0 ≡ slice_index (sign_bytes s) 0 = same_first t r t' r' 0 first.0 some e ∙ ap (λ u. slice_index u 0) is in
     true≢false (sym first.1 ∙ ap is_letter same ∙ sign.1)
 
 word_no_stray : (t r t' r' : List ℕ) → t ++ r ≡ t' ++ r' → IsTrue (is_word t) → ¬ IsStray t' r'
 word_no_stray t r t' r' e w s =
     let first = word_begins t w in
     let some : 0 < length t' = subst (λ u. 0 < length u) (sym s.one) (omega arith) in
-    let same : slice_index t 0 ≡ s.byte = heads t r t' r' first.0 some e ∙ ap (λ u. slice_index u 0) s.one in
+    let same : slice_index t 0 ≡ s.byte = same_first t r t' r' 0 first.0 some e ∙ ap (λ u. slice_index u 0) s.one in
     s.no_letter (ap is_letter (sym same) ∙ first.1)
 
 sign_bound : (t r t' r' : List ℕ) → t ++ r ≡ t' ++ r' → IsLongestSign t r → (s : Sign) → t' ≡ sign_bytes s → length t' ≤ length t
@@ -145,11 +116,6 @@ not_before bytes at from to from' to' h h' less = let inside = begins_inside byt
   | inr e ↦ absurd (omega (arith, e.0, inside, less))
 ]
 
-text_at : (bytes : List ℕ) (from to : ℕ) → from < to → slice_range bytes from to ++ drop to bytes ≡ drop from bytes
-text_at bytes from to h =
-    let size : from + (to - from) ≡ to = omega arith in
-    ap (λ l. slice_range bytes from to ++ l) (ap (λ (n : ℕ). drop n bytes) (sym size) ∙ sym (drop-drop (to - from) from bytes)) ∙ take-append-drop (to - from) (drop from bytes)
-
 range_length : (bytes : List ℕ) (from to : ℕ) → from < to → to ≤ length bytes → length (slice_range bytes from to) + from ≡ to
 range_length bytes from to h inside =
     let long : length (drop from bytes) + from ≡ length bytes = omega (arith, length-drop from bytes) in
@@ -161,7 +127,7 @@ same_end bytes at from to to' h h' = both h.token h'.token
   where
     both : IsTokenAt bytes at from to ⊎ ((from ≡ length bytes) × (to ≡ length bytes)) → IsTokenAt bytes at from to' ⊎ ((from ≡ length bytes) × (to' ≡ length bytes)) → to ≡ to'
     both (inl t) (inl t') =
-        let one = same_length _ _ _ _ (text_at bytes from to t.some ∙ sym (text_at bytes from to' t'.some)) t.token t'.token in
+        let one = same_length _ _ _ _ (sym (drop_split bytes from to (omega (arith, t.some))) ∙ drop_split bytes from to' (omega (arith, t'.some))) t.token t'.token in
         let a = range_length bytes from to t.some t.inside in
         let b = range_length bytes from to' t'.some t'.inside in
         omega arith
@@ -196,19 +162,12 @@ pub spans_inside : (bytes : List ℕ) (at : ℕ) (spans : List Span) → AreToke
 spans_inside bytes at [] h = tt
 spans_inside bytes at (s ∷ spans) h =
     let some : (s.from < s.to) × (s.to ≤ length bytes) = elim h.0.token [ inl t ↦ (t.some, t.inside) | inr e ↦ absurd (omega (arith, e.0, h.1)) ] in
-    ((h.0.after, some.0, some.1), later s.to spans (omega (arith, h.0.after, some.0)) (spans_inside bytes s.to spans h.2))
-  where
-    later : (to : ℕ) (rest : List Span) → at ≤ to → AllByRecursion (λ (s : Span). (to ≤ s.from) × (s.from < s.to) × (s.to ≤ length bytes)) rest → AllByRecursion (λ (s : Span). (at ≤ s.from) × (s.from < s.to) × (s.to ≤ length bytes)) rest
-    later to [] less all = tt
-    later to (x ∷ xs) less all = ((omega (arith, all.0.0), all.0.1, all.0.2), later to xs less all.1)
+    let after = h.0.after in
+    ((after, some.0, some.1), all_weaker (λ (t : Span). (s.to ≤ t.from) × (t.from < t.to) × (t.to ≤ length bytes)) _ (λ t l. (omega (arith, l.0, some.0), l.1, l.2)) spans (spans_inside bytes s.to spans h.2))
 
 pub spans_ascend : (bytes : List ℕ) (at : ℕ) (spans : List Span) → AreTokens bytes at spans → IsAscending (λ (s t : Span). s.to ≤ t.from) spans
 spans_ascend bytes at [] h = tt
-spans_ascend bytes at (s ∷ spans) h = (after s.to spans (spans_inside bytes s.to spans h.2), spans_ascend bytes s.to spans h.2)
-  where
-    after : (to : ℕ) (rest : List Span) → AllByRecursion (λ (s : Span). (to ≤ s.from) × (s.from < s.to) × (s.to ≤ length bytes)) rest → AllByRecursion (λ (t : Span). to ≤ t.from) rest
-    after to [] all = tt
-    after to (x ∷ xs) all = (all.0.0, after to xs all.1)
+spans_ascend bytes at (s ∷ spans) h = (all_weaker _ (λ (t : Span). s.to ≤ t.from) (λ t l. l.0) spans (spans_inside bytes s.to spans h.2), spans_ascend bytes s.to spans h.2)
 
 pub whole : (bytes : List ℕ) (at : ℕ) (spans : List Span) (i : ℕ) → AreTokens bytes at spans → at ≤ i → i < length bytes → LiesIn bytes at spans i
 whole bytes at [] i h from below = h.gap i from below

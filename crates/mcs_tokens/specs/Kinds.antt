@@ -1,7 +1,7 @@
 -- What a token is, by its bytes.
 use Rattle.std.specs.Prelude.{◌≡◌, ◌≢◌, ◌<◌, IsTrue, List, ℕ, length}
-use Rattle.mcs_base.specs.Words.{is_word, is_reserved, is_name, most_name_bytes}
-use Rattle.mcs_tokens.specs.Spelling.{sign_bytes, keyword_bytes}
+use Rattle.mcs_base.specs.Words.{keyword_bytes, is_word, is_reserved, is_name, most_name_bytes}
+use Rattle.mcs_tokens.specs.Spelling.{sign_bytes}
 use Rattle.mcs_tokens.specs.declared.sign.Sign as code_sign
 use Rattle.mcs_tokens.specs.declared.kind.TokenKind.{TokenKind}
 use Rattle.mcs_tokens.specs.declared.kind.TokenKind.TheVariants.{Keyword, Name, LongName, Sign, Stray}

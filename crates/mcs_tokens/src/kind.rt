@@ -3,12 +3,8 @@
 ghost use Rattle.std.specs.Prelude.{◌≡◌};
 ghost use Rattle.mcs_tokens.specs.Kinds.{IsKind};
 
-use crate::keyword::Keyword;
 use crate::sign::Sign;
-use mcs_base::is_word;
-
-/// The most bytes of a name.
-const MOST_NAME_BYTES: usize = 64;
+use mcs_base::{Keyword, MOST_NAME_BYTES, is_word};
 
 /// What a token is. A number will be one more kind.
 #[derive(Clone, Copy, Debug, PartialEq, Eq)]

@@ -1,13 +1,12 @@
 //! The tokens of a system text: words, signs, and bytes that begin neither.
 #![tactic(auto)]
 
-mod keyword;
 mod kind;
 pub mod laws;
 mod scan;
 mod sign;
 
-pub use keyword::Keyword;
 pub use kind::{TokenKind, kind_of};
+pub use mcs_base::Keyword;
 pub use scan::{Span, next_token, token_list};
 pub use sign::Sign;

@@ -1,5 +1,5 @@
 -- What a word is, by the function and by the definitions.
-use Rattle.std.proofs.Common.{◌≡◌, Bool, true, false, nat_eq, cond, not, ◌&&◌, IsTrue, [], ◌∷◌, ◌++◌, Option, Some, None, is_some, codes, refl, sym, ap, ◌∙◌, true≢false}
+use Rattle.std.proofs.Common.{◌≡◌, Bool, true, false, nat_eq, cond, not, ◌&&◌, [], ◌∷◌, ◌++◌, Option, Some, None, is_some, codes, refl, sym, ap, ◌∙◌, true≢false, arith}
 use Rattle.std.specs.Option.{option_map_or}
 use Rattle.std.specs.Str.{bytes_eq}
 use Rattle.std.proofs.lemmas.Bool.Decides.{Decides-eqb}
@@ -51,14 +51,9 @@ by_front : (word : Word) (s : Setting) (o : Option Word) (y : WordKind) → ((va
 by_front word s None y h k = k
 by_front word s (Some value) y h k = h value refl
 
-not_and : (a b : Bool) → (a && not b) ≡ false → IsTrue a → b ≡ true
-not_and true true e h = refl
-not_and true false e h = absurd (true≢false e)
-not_and false b e h = absurd (true≢false (sym h))
-
 other_is : (word : Word) → IsKind word (other_kind word)
 other_is word = by_test word (begins_with_dash word && not (bytes_eq word (codes "-"))) unknown plain (λ e. tt)
-    (λ e dash. (bytes_eq-Decides word (codes "-")).0 (not_and (begins_with_dash word) (bytes_eq word (codes "-")) e dash))
+    (λ e dash. (bytes_eq-Decides word (codes "-")).0 (grind arith))
 
 -- the function finds what the word is
 pub kind_is : (word : Word) → IsKind word (kind word)

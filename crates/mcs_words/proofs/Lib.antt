@@ -1,6 +1,5 @@
 pub mod KindLemmas
 pub mod ReadingLemmas
-pub mod NumberLemmas
 pub mod JobLemmas
 pub mod RowLemmas
 pub mod WalkLemmas

@@ -1,6 +1,7 @@
 -- The function reads what the definitions say, and nothing else.
-use Rattle.std.proofs.Common.{◌≡◌, ◌⊎◌, inl, inr, ◌<◌, ◌≤◌, ◌+◌, length, drop, get_or, string_bytes, String, Global, arith, add-zero, zero-add, ℕ, Bool, true, false, cond, IsTrue, List, [], ◌∷◌, ◌++◌, Option, Some, None, option_map, codes, refl, sym, ap, ◌∙◌, subst, true≢false}
+use Rattle.std.proofs.Common.{◌≡◌, ◌⊎◌, inl, inr, ◌<◌, ◌≤◌, ◌+◌, length, drop, get_or, string_bytes, String, Global, arith, add-zero, zero-add, ℕ, Bool, true, false, cond, List, [], ◌∷◌, ◌++◌, Option, Some, None, option_map, codes, refl, sym, ap, ◌∙◌, subst, true≢false}
 use Rattle.std.proofs.lemmas.List.{at_drop_more, at_drop_all}
+use Rattle.std.proofs.lemmas.Bool.{false_from_ne_true}
 use Rattle.mcs_words.specs.Commands.{Word, Command, Reads, ends, dashes, plain_word, joined, apart, Request, AsksFor, IsJobOf, name_of, nothing, only_plain, with_plain, with_value, begins_with_dash}
 use Rattle.mcs_words.specs.Reading as reading
 use Rattle.mcs_words.specs.Reading.{WordKind, kind, open_step, step, read, texts_of, at_end, counted, tally_of, total_of, no_tally, more_plain, more_values}
@@ -17,10 +18,6 @@ unfolding read
 closed_reads [] = refl
 closed_reads (word ∷ words) = ap (option_map (with_plain word)) (closed_reads words)
 
-no_dash : (b : Bool) → ¬ IsTrue b → b ≡ false
-no_dash true without = absurd (without refl)
-no_dash false without = refl
-
 pub reads_read : {words : List Word} {c : Command} → Reads words c → read words Open ≡ Some c
 unfolding read
 reads_read ends = refl
@@ -28,7 +25,7 @@ reads_read (dashes words) = ap (λ k. open_step k (codes "--") (read words)) das
 reads_read (plain_word word words c plain r) = ap (λ k. open_step k word (read words)) (plain_kind word plain) ∙ ap (option_map (with_plain word)) (reads_read r)
 reads_read (joined s value words c r) = ap (λ k. open_step k (name_of s ++ 61 ∷ value) (read words)) (joined_is s value) ∙ ap (option_map (with_value s value)) (reads_read r)
 reads_read (apart s value words c without r) = ap (λ k. open_step k (name_of s) (read (value ∷ words))) (name_is s)
-    ∙ (ap (λ b. cond b None (option_map (with_value s value) (read words Open))) (no_dash (begins_with_dash value) without) ∙ ap (option_map (with_value s value)) (reads_read r))
+    ∙ (ap (λ b. cond b None (option_map (with_value s value) (read words Open))) (false_from_ne_true (begins_with_dash value) without) ∙ ap (option_map (with_value s value)) (reads_read r))
 
 -- ---- what the function reads, the definitions read
 
@@ -38,7 +35,7 @@ placed Open words = words
 placed (Value s) words = name_of s ∷ words
 placed Closed words = codes "--" ∷ words
 
-mapped : (f : Command → Command) (o : Option Command) (c : Command) → option_map f o ≡ Some c → (d : Command) × (o ≡ Some d) × (f d ≡ c)
+pub mapped : (f : Command → Command) (o : Option Command) (c : Command) → option_map f o ≡ Some c → (d : Command) × (o ≡ Some d) × (f d ≡ c)
 mapped f None c e = let no : None ≡ Some c = e in cc
 mapped f (Some d) c e = let e' : Some (f d) ≡ Some c = e in (d, refl, cc)
 

@@ -1,6 +1,6 @@
 -- What clap makes of words that the definitions read: it takes them, and each argument has its word.
 use Rattle.std.proofs.Common.{◌≡◌, ◌≤◌, ◌+◌, ℕ, Bool, true, false, cond, ◌&&◌, List, [], ◌∷◌, ◌++◌, fold, length, Option, Some, None, Bor, option_map, codes, refl, sym, ap, ap₂, ◌∙◌, subst, arith, append-nil, append_assoc, length-append, ◌<◌}
-use Rattle.std.specs.Prelude.{if◌then◌else◌, find, min, slice_get, ◌||◌}
+use Rattle.std.specs.Prelude.{if◌then◌else◌, find, min, slice_get}
 use Rattle.std.specs.List.{list_all}
 use Rattle.std.specs.Str.{bytes_eq}
 use Rattle.clap.specs.Lexer.{long_of, short_of, usize_max}
@@ -14,6 +14,8 @@ use Rattle.clap.specs.Takes.{built_takes, default_passes, is_given, is_valid, le
 use Rattle.clap.proofs.TakesLemmas.{leaf_takes}
 use Rattle.clap.specs.declared.builder.action.ArgAction.TheVariants.{Set}
 use Rattle.clap.specs.declared.builder.value_parser.ValueParser.TheVariants as vp
+use Rattle.std.proofs.Math.Bool.{and-false, or-true}
+use Rattle.mcs_base.proofs.Booleans.{cond-same}
 use Rattle.mcs_words.specs.Commands.{Word, Command, IsPlain, name_of, nothing, with_plain, with_value, begins_with_dash}
 use Rattle.mcs_words.specs.Reading.{at_end, tally_of, IsWholeTally, listed, kind, open_step, step, read}
 use Rattle.mcs_words.specs.Reading as reading
@@ -24,6 +26,7 @@ use Rattle.mcs_words.specs.declared.setting.Setting.{Setting}
 use Rattle.mcs_words.specs.declared.setting.Setting.TheVariants.{Budget, Workers}
 use Rattle.mcs_words.proofs.KindLemmas.{IsKind, kind_is}
 use Rattle.mcs_words.proofs.RowLemmas.{Slot, job, file, budget, workers, id_of, value_at, row_for, is_for, HasRows, added, none_has, added_rows, first_at}
+use Rattle.mcs_words.proofs.ReadingLemmas.{mapped}
 
 -- ---- commands
 -- one after the other
@@ -206,10 +209,6 @@ value_walk Workers word n rows skip flag = rw (flag.dashes, flag.long, flag.shor
 value_passes : (s : Setting) (word : Word) (n : ℕ) (h : Held) → IsNoFlag word → turn_passes shape [] (stands n (Value s) h) word ≡ true
 value_passes s word n h flag = rw (flag.dashes, flag.long, flag.short) refl
 
-and_false : (b : Bool) → (b && false) ≡ false
-and_false true = refl
-and_false false = refl
-
 abbrev taken_held : Slot → Word → Held → Held
 taken_held x word h = record (settled all_rules h) { pending = Some (id_of x, word ∷ []) }
 
@@ -217,10 +216,10 @@ abbrev pushed_where : Slot → Word → Held → Bool → Held
 pushed_where x word h b = pushed (id_of x) word (if b then h else settled all_rules h)
 
 taken_is : (x : Slot) (word : Word) (h : Held) → positional_held all_rules (rule x) word h ≡ taken_held x word h
-taken_is job word h = ap (pushed_where job word h) (and_false (is_pending (rule job) h.pending))
-taken_is file word h = ap (pushed_where file word h) (and_false (is_pending (rule file) h.pending))
-taken_is budget word h = ap (pushed_where budget word h) (and_false (is_pending (rule budget) h.pending))
-taken_is workers word h = ap (pushed_where workers word h) (and_false (is_pending (rule workers) h.pending))
+taken_is job word h = ap (pushed_where job word h) (and-false (is_pending (rule job) h.pending))
+taken_is file word h = ap (pushed_where file word h) (and-false (is_pending (rule file) h.pending))
+taken_is budget word h = ap (pushed_where budget word h) (and-false (is_pending (rule budget) h.pending))
+taken_is workers word h = ap (pushed_where workers word h) (and-false (is_pending (rule workers) h.pending))
 
 -- the two places where a plain word may stand
 record IsTurn (n : ℕ) (x : Slot) (m : ℕ) : Type 0 where
@@ -247,15 +246,11 @@ closed_walk file n m word h turn = rw (turn.found, turn.later) (ap (stands m Clo
 closed_walk budget n m word h turn = rw (turn.found, turn.later) (ap (stands m Closed) (taken_is budget word h))
 closed_walk workers n m word h turn = rw (turn.found, turn.later) (ap (stands m Closed) (taken_is workers word h))
 
-or_true : (b : Bool) → (b || true) ≡ true
-or_true true = refl
-or_true false = refl
-
 open_passes : (x : Slot) (n m : ℕ) (word : Word) (h : Held) → IsTurn n x m → IsNoFlag word → settle h ≡ true → turn_passes shape [] (stands n Open h) word ≡ true
-open_passes x n m word h turn flag settles = rw (flag.dashes, flag.long, flag.short, turn.found, settles) (or_true (is_pending (rule x) h.pending && walk.takes_several (rule x)))
+open_passes x n m word h turn flag settles = rw (flag.dashes, flag.long, flag.short, turn.found, settles) (or-true (is_pending (rule x) h.pending && walk.takes_several (rule x)))
 
 closed_passes : (x : Slot) (n m : ℕ) (word : Word) (h : Held) → IsTurn n x m → settle h ≡ true → turn_passes shape [] (stands n Closed h) word ≡ true
-closed_passes x n m word h turn settles = rw (turn.found, settles) (or_true (is_pending (rule x) h.pending && walk.takes_several (rule x)))
+closed_passes x n m word h turn settles = rw (turn.found, settles) (or-true (is_pending (rule x) h.pending && walk.takes_several (rule x)))
 
 -- ---- what is held
 settled_is : (x : Slot) (word : Word) (rows : List Row) (skip : ℕ) → (settled all_rules (waiting_held x rows (word ∷ []) skip)).rows ≡ added (id_of x) word rows
@@ -378,10 +373,6 @@ closed_plain word words (a ∷ []) bs ws h d rest e few held =
 closed_plain word words (a ∷ (b ∷ plain)) bs ws h d rest e few held =
     let less = too_many 2 (a ∷ b ∷ plain) d.plain word few.plain in absurd (omega (arith, less))
 
-mapped : (f : Command → Command) (o : Option Command) (c : Command) → option_map f o ≡ Some c → (d : Command) × (o ≡ Some d) × (f d ≡ c)
-mapped f None c e = let never : None ≡ Some c = e in cc
-mapped f (Some d) c e = let e' : Some (f d) ≡ Some c = e in (d, refl, cc)
-
 value_first : (s : Setting) (c d : Command) (value : Word) → IsFew (both c (with_value s value d)) → value_at (slot_of s) c ≡ None
 value_first Budget c d value few = none_before c.budgets d.budgets value few.budgets
 value_first Workers c d value few = none_before c.workers d.workers value few.workers
@@ -464,15 +455,11 @@ walks (word ∷ words) (Value s) c h d e few holds = value_walks s word words c 
 walks (word ∷ words) Closed c h d e few holds = closed_walks word words c h d (walks words) e few holds
 
 -- ---- the whole parse
-same_either : (b : Bool) (rows : List Row) → (if b then rows else rows) ≡ rows
-same_either true rows = refl
-same_either false rows = refl
-
 default_is : (x : Slot) (rows : List Row) → with_default rows (rule x) ≡ rows
-default_is job rows = same_either (has_row (codes "job") rows) rows
-default_is file rows = same_either (has_row (codes "file") rows) rows
-default_is budget rows = same_either (has_row (codes "budget") rows) rows
-default_is workers rows = same_either (has_row (codes "workers") rows) rows
+default_is job rows = cond-same (has_row (codes "job") rows) rows
+default_is file rows = cond-same (has_row (codes "file") rows) rows
+default_is budget rows = cond-same (has_row (codes "budget") rows) rows
+default_is workers rows = cond-same (has_row (codes "workers") rows) rows
 
 finished_is : (h : Held) → finished all_rules h ≡ (settled all_rules h).rows
 unfolding all_rules

@@ -1,6 +1,6 @@
 -- The words of a command line, and the job that they ask for.
-use Rattle.std.specs.Prelude.{◌≡◌, ℕ, ◌+◌, ◌*◌, ◌-◌, ◌≤◌, Bool, false, nat_eq, IsTrue, List, [], ◌∷◌, ◌++◌, fold, codes}
-use Rattle.std.specs.List.{AllByRecursion}
+use Rattle.std.specs.Prelude.{◌≡◌, ℕ, Bool, false, nat_eq, IsTrue, List, [], ◌∷◌, ◌++◌, codes}
+use Rattle.mcs_base.specs.Numbers.{IsNumber}
 use Rattle.mcs_words.specs.declared.setting.Setting.{Setting}
 use Rattle.mcs_words.specs.declared.setting.Setting.TheVariants.{Budget, Workers}
 
@@ -69,17 +69,6 @@ pub data Reads : List Word → Command → Type 0 where
       → Reads (name_of s ∷ value ∷ words) (with_value s value c)
 
 -- ---- numbers
-
-abbrev pub IsDigit : ℕ → Type 0
-IsDigit b = (48 ≤ b) × (b ≤ 57)
-
--- the value of digits, from left to right
-abbrev pub decimal : Word → ℕ
-decimal digits = fold (λ n digit. n * 10 + (digit - 48)) 0 digits
-
--- the word is one or more digits, leading zeros among them, and their value lies within the bounds
-abbrev pub IsNumber : ℕ → ℕ → Word → ℕ → Type 0
-IsNumber least most word n = ¬ (word ≡ []) × AllByRecursion IsDigit word × (decimal word ≡ n) × (least ≤ n) × (n ≤ most)
 
 -- the number of an option with these values: it may stand once, and has its default where it does not stand
 abbrev pub IsChosen : Setting → List Word → ℕ → Type 0

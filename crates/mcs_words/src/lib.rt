@@ -6,7 +6,6 @@ mod job;
 mod kind;
 mod laws;
 mod line;
-mod number;
 mod reading;
 mod setting;
 mod tally;

@@ -8,9 +8,9 @@ ghost use Rattle.mcs_words.specs.Reading.{texts_of, request_of, command_of, list
 use crate::given::{Given, given_by};
 use crate::job::{Job, WordsFault};
 use crate::kind::{Kind, begins_with_dash, kind_of};
-use crate::number::number;
 use crate::setting::Setting;
 use crate::tally::Tally;
+use mcs_base::number;
 use std::alloc::Global;
 
 /// Where a word stands.

@@ -1,10 +1,11 @@
 use Rattle.std.proofs.Common.{sym, ◌∙◌, arith}
-use Rattle.mcs_tokens.proofs.KindLemmas.{reserved_is, name_is}
+use Rattle.mcs_base.proofs.KeywordLemmas.{reserved_is}
+use Rattle.mcs_base.proofs.WordLemmas.{name_from_word}
 use Rattle.mcs_tokens.proofs.kind.kind_of.Goals as goal
 
 pub returns-then-token-le-MOST_NAME_BYTES : goal.returns-then-token-le-MOST_NAME_BYTES
 returns-then-token-le-MOST_NAME_BYTES c =
-    name_is c.args.token.now (sym c.is_word.ensures ∙ c.if-is_word.true) c.in_default.ensures (omega arith)
+    name_from_word c.args.token.now (sym c.is_word.ensures ∙ c.if-is_word.true) c.in_default.ensures (omega arith)
 
 pub returns-then-is_word : goal.returns-then-is_word
 returns-then-is_word c =

@@ -1,7 +1,7 @@
 use Rattle.std.proofs.Common.{refl, sym, subst, IfOk}
 use Rattle.std.specs.Prelude.{codes}
-use Rattle.mcs_tokens.specs.Spelling.{keyword_bytes}
-use Rattle.mcs_tokens.specs.declared.keyword.Keyword.{Keyword}
+use Rattle.mcs_base.specs.Words.{keyword_bytes}
+use Rattle.mcs_base.specs.declared.keyword.Keyword.{Keyword}
 use Rattle.mcs_language.specs.Written.{True', False'}
 use Rattle.mcs_language.specs.FormulaImages.{IsAnswer}
 use Rattle.mcs_language.proofs.FormulaForward.{true-step, false-step}

@@ -1,5 +1,5 @@
 use Rattle.std.proofs.Common.{◌<◌, List}
-use Rattle.mcs_system.specs.declared.fault.Limit.{Limit}
+use Rattle.mcs_system.specs.declared.limit.Limit.{Limit}
 use Rattle.mcs_language.specs.Marks.{Use, Mark}
 use Rattle.mcs_language.specs.Faults.{row, IsBeyond}
 use Rattle.mcs_language.specs.TextImages.{About}

@@ -1,14 +1,16 @@
 use Rattle.std.proofs.Common.{ap, length, map, arith}
+use Rattle.std.proofs.lemmas.Bool.Decides.{not_from_Decides}
+use Rattle.mcs_base.proofs.Among.{no_image_more}
 use Rattle.mcs_language.specs.Faults.{NamedRead}
 use Rattle.mcs_language.specs.TextImages.{read_of}
 use Rattle.mcs_language.specs.Watching.{IsNumberOf}
-use Rattle.mcs_language.proofs.NumberLemmas.{none-next, number-here, number-none}
-use Rattle.mcs_language.proofs.ReadLemmas.{read-copied, telling-differ}
+use Rattle.mcs_language.proofs.NumberLemmas.{number-here, number-none}
+use Rattle.mcs_language.proofs.ReadLemmas.{read-copied}
 use Rattle.mcs_language.proofs.watch.Watch.variable_number.Goals as goal
 
 pub loop-number-preserved : goal.loop-number-preserved
 loop-number-preserved c =
-    none-next read_of c.args.self.now.variables.items c.loop-number.number c.variable-item.result (read_of c.in-Some.read.now) (omega (arith, ap length c.deref-variable-items.ensures.value)) (rw c.deref-variable-items.ensures.value at c.variable-item.is) (telling-differ c.same_read.result c.same_read.ensures c.if-same_read.false) c.loop-number.invariant
+    no_image_more read_of c.args.self.now.variables.items c.loop-number.number c.variable-item.result (read_of c.in-Some.read.now) (omega (arith, ap length c.deref-variable-items.ensures.value)) (rw c.deref-variable-items.ensures.value at c.variable-item.is) (not_from_Decides c.same_read.result c.same_read.ensures c.if-same_read.false) c.loop-number.invariant
 
 pub returns-then-same_read-clause-some : goal.returns-then-same_read-clause-some
 returns-then-same_read-clause-some c =

@@ -1,0 +1,5 @@
+use Rattle.mcs_language.proofs.OneFault.{no-fault}
+use Rattle.mcs_language.proofs.laws.spelled_texts_have_no_fault.Goals as goal
+
+pub returns : goal.returns
+returns c = no-fault

@@ -1,7 +1,0 @@
-use Rattle.std.proofs.Common.{◌≡◌, ℕ, ◌<◌, get_or}
-use Rattle.mcs_tokens.specs.Spelling.{keyword_bytes}
-use Rattle.mcs_tokens.specs.declared.keyword.Keyword.{Keyword}
-use Rattle.mcs_tokens.proofs.keyword.Keyword.of.Given as goal
-
-abbrev pub invariant-loop-keyword : goal.invariant-loop-keyword
-invariant-loop-keyword l = (i : ℕ) (d : Keyword) → i < l.keyword-index → ¬ (l.word ≡ keyword_bytes (get_or l.keyword-items i d))
