@@ -1,0 +1,65 @@
+-- The lines of a listing, each with its line feed, and the listing of a system's equilibria.
+use Rattle.std.specs.Prelude.{◌≡◌, ℕ, ◌+◌, Bool, cond, nat_lt, List, [], ◌∷◌, ◌++◌, length, codes, ◌⊎◌}
+use Rattle.std.specs.Fmt.{decimal}
+use Rattle.std.specs.List.{AllByRecursion}
+use Rattle.mcs_sets.specs.Orders.{StateBefore}
+use Rattle.mcs_base.specs.Listings.{IsListing}
+use Rattle.mcs_system.specs.Plain.{Context, System}
+use Rattle.mcs_system.specs.Logic.{IsClassical}
+use Rattle.mcs_system.specs.Systems.{variables, all_rules, applicable, IsProjectedEquilibrium}
+use Rattle.mcs_report.specs.Members.{state_text, rules_text}
+
+-- mcs 1: N contexts, R rules, V variables
+unfoldable pub heading : System → List ℕ
+heading m =
+    codes "mcs 1: " ++ (decimal (length m.contexts) ++ (codes " contexts, " ++ (decimal (length m.bridges)
+    ++ (codes " rules, " ++ (decimal (length (variables m)) ++ (codes " variables\n"))))))
+
+-- equilibrium K: STATE applicable RULES
+unfoldable pub equilibrium_line : System → ℕ → ℕ → List ℕ
+equilibrium_line m k σ =
+    codes "equilibrium " ++ (decimal k ++ (codes ": " ++ (state_text m σ ++ (codes " applicable " ++ (rules_text m (applicable m σ) ++ codes "\n")))))
+
+-- a line for each state, numbered from k on
+abbrev pub equilibrium_lines : System → ℕ → List ℕ → List ℕ
+equilibrium_lines m k [] = []
+equilibrium_lines m k (σ ∷ σs) = equilibrium_line m k σ ++ equilibrium_lines m (k + 1) σs
+
+-- whether there is an equilibrium
+abbrev pub verdict_line : Bool → List ℕ
+verdict_line consistent = cond consistent (codes "consistent\n") (codes "inconsistent\n")
+
+-- end: E equilibria
+unfoldable pub equilibria_end_line : ℕ → List ℕ
+equilibria_end_line count = codes "end: " ++ (decimal count ++ (codes " equilibria\n"))
+
+-- what comes after the heading where these are the projected equilibria
+abbrev pub after_heading : System → List ℕ → List ℕ
+after_heading m states = equilibrium_lines m 1 states ++ (verdict_line (nat_lt 0 (length states)) ++ equilibria_end_line (length states))
+
+-- what is printed where these are the projected equilibria
+abbrev pub equilibria_text : System → List ℕ → List ℕ
+equilibria_text m states = heading m ++ after_heading m states
+
+-- the text of the system's projected equilibria, all of them, each once, in the order of states
+pub record IsEquilibriaText (m : System) (text : List ℕ) : Type 0 where
+  pub states : List ℕ
+  pub listing : IsListing (IsProjectedEquilibrium m (all_rules m) 0) StateBefore states
+  pub text_is : text ≡ equilibria_text m states
+
+-- a stage of it: the heading, which asks for nothing, or the whole
+abbrev pub IsEquilibriaStage : System → List ℕ → Type 0
+IsEquilibriaStage m text = (text ≡ heading m) ⊎ IsEquilibriaText m text
+
+-- ---- laws
+-- a system has one such text
+abbrev pub EquilibriaTextsAreOne : Type 0
+EquilibriaTextsAreOne = (m : System) (text other : List ℕ) → IsEquilibriaText m text → IsEquilibriaText m other → text ≡ other
+
+-- each stage is a front of it
+abbrev pub StagesAreFronts : Type 0
+StagesAreFronts = (m : System) (stage text : List ℕ) → IsEquilibriaStage m stage → IsEquilibriaText m text → (rest : List ℕ) × (stage ++ rest ≡ text)
+
+-- where each context is classical, there is one
+abbrev pub EquilibriaTextsExist : Type 0
+EquilibriaTextsExist = (m : System) → AllByRecursion (λ (c : Context). IsClassical c.kb) m.contexts → (text : List ℕ) × IsEquilibriaText m text

@@ -1,0 +1,77 @@
+//! The lines of a listing. Each call appends one line with its line feed; without memory the text stays as it was.
+
+ghost use Rattle.std.specs.Prelude.{◌≡◌, ◌<◌, ◌++◌, OnOk, OnErr};
+ghost use Rattle.mcs_sets.specs.Sets.{Within};
+ghost use Rattle.mcs_system.specs.Systems.{all_variables};
+ghost use Rattle.mcs_report.specs.Listing.{heading, equilibrium_line, verdict_line, equilibria_end_line};
+
+use crate::members::{Member, push_set};
+use mcs_base::{Memory, Text, Vars};
+use mcs_system::System;
+
+/// Appends the heading: how many contexts, bridge rules and variables the system has.
+#[tactic(auto, unfolding(crate::specs::Listing::heading))]
+pub fn heading(system: &System, out: &mut Text) -> Result<(), Memory>
+    ensures ok { OnOk result (out.new ≡ out.old ++ heading system.now) }
+    ensures err { OnErr result (out.new ≡ out.old) }
+{
+    let mut line = out.empty_like();
+    line.push(b"mcs 1: ")?;
+    line.push_number(system.contexts().len() as u64)?;
+    line.push(b" contexts, ")?;
+    line.push_number(system.bridges().len() as u64)?;
+    line.push(b" rules, ")?;
+    line.push_number(system.variables().len() as u64)?;
+    line.push(b" variables\n")?;
+    out.push(line.bytes())
+}
+
+/// Appends the line of the equilibrium of this number: the state, whose variables are of the system, and the rules
+/// that apply in it.
+#[tactic(auto, unfolding(crate::specs::Listing::equilibrium_line))]
+pub fn equilibrium_line(
+    system: &System,
+    number: u64,
+    state: Vars,
+    out: &mut Text,
+) -> Result<(), Memory>
+    requires { Within state (all_variables system.now) }
+    ensures ok { OnOk result (out.new ≡ out.old ++ equilibrium_line system.now number state) }
+    ensures err { OnErr result (out.new ≡ out.old) }
+{
+    let mut line = out.empty_like();
+    line.push(b"equilibrium ")?;
+    line.push_number(number)?;
+    line.push(b": ")?;
+    push_set(&mut line, system, Member::Variable, state.members())?;
+    line.push(b" applicable ")?;
+    let rules = system.applicable_rules(state);
+    push_set(&mut line, system, Member::Rule, rules.members())?;
+    line.push(b"\n")?;
+    out.push(line.bytes())
+}
+
+/// Appends the verdict: whether there is an equilibrium.
+pub fn verdict_line(consistent: bool, out: &mut Text) -> Result<(), Memory>
+    ensures ok { OnOk result (out.new ≡ out.old ++ verdict_line consistent) }
+    ensures err { OnErr result (out.new ≡ out.old) }
+{
+    out.push(if consistent {
+        b"consistent\n"
+    } else {
+        b"inconsistent\n"
+    })
+}
+
+/// Appends the last line of a list of equilibria: how many there are.
+#[tactic(auto, unfolding(crate::specs::Listing::equilibria_end_line))]
+pub fn equilibria_end_line(equilibria: u64, out: &mut Text) -> Result<(), Memory>
+    ensures ok { OnOk result (out.new ≡ out.old ++ equilibria_end_line equilibria) }
+    ensures err { OnErr result (out.new ≡ out.old) }
+{
+    let mut line = out.empty_like();
+    line.push(b"end: ")?;
+    line.push_number(equilibria)?;
+    line.push(b" equilibria\n")?;
+    out.push(line.bytes())
+}
