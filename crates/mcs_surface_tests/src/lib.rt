@@ -13,6 +13,8 @@ mod refusals;
 #[cfg(test)]
 mod runs;
 #[cfg(test)]
+mod statuses;
+#[cfg(test)]
 mod usage;
 #[cfg(test)]
 mod words;

@@ -67,7 +67,7 @@ pub fn status_of(
     let strings = strings_of(alloc, words)?;
     let mut shelf = shelf_of(alloc, text, failing_call)?;
     let status = run(alloc, &strings, &mut shelf, sink, &IdleGate);
-    Ok(status as u8)
+    Ok(status.number())
 }
 
 /// Whether the words end with this status over a file `f` of this text, with this written and this noted.

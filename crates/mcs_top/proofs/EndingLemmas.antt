@@ -1,60 +1,207 @@
--- What a run answers and notes where it stops.
-use Rattle.std.proofs.Common.{◌≡◌, ℕ, List, Option, Some, None, IfSome, inl, inr, sym, subst}
+-- What a run answers, notes and leaves where it stops.
+use Rattle.std.proofs.Common.{◌≡◌, ◌⊎◌, ℕ, List, Option, Some, None, IfSome, inl, inr, refl, sym, ◌∙◌, subst}
+use Rattle.mcs_ports.specs.Pieces.{Device, noted}
+use Rattle.mcs_words.specs.Commands.{Request}
+use Rattle.mcs_words.specs.declared.job.WordsFault.{WordsFault}
+use Rattle.mcs_words.specs.declared.job.WordsFault.TheVariants as words
 use Rattle.mcs_top.specs.declared.ending.Refusal.{Refusal}
-use Rattle.mcs_top.specs.declared.ending.Refusal.TheVariants as refusals
 use Rattle.mcs_top.specs.declared.ending.Stop.{Stop}
 use Rattle.mcs_top.specs.declared.ending.Stop.TheVariants as stops
-use Rattle.mcs_top.specs.declared.ending.Status.{Status}
-use Rattle.mcs_top.specs.declared.ending.Status.TheVariants as statuses
-use Rattle.mcs_top.specs.Texts.{IsRefusedFor}
-use Rattle.mcs_top.specs.Endings.{IsTold}
-use Rattle.mcs_top.specs.Promise.{OfFile, IfFile, Lists, HasSystem, Notes, IsUnlessMemory, Stops}
-use Rattle.mcs_top.proofs.RefusalLemmas.{not_refused}
+use Rattle.mcs_top.specs.declared.status.Status.{Status}
+use Rattle.mcs_top.specs.declared.status.Status.TheVariants as statuses
+use Rattle.mcs_top.specs.Jobs.{File}
+use Rattle.mcs_top.specs.Endings.{line_of, status_of, refusal_line, stop_for_words, IsTold, IsToldAs}
+use Rattle.mcs_top.specs.Promise.{IsRefusal, LacksFile, CanBeDone, WritesOutput, WritesStage, TellsRefusal, Notes, IsUnlessMemory, HasCause, LeavesText}
+use Rattle.mcs_top.proofs.RefusalLemmas.{output_not_refused, output_not_missing, stage_not_refused, can_not_refused, stage_not_missing, refusal_not_missing}
 
-told-status : (status want : Status) (before now : Option (List ℕ)) → status ≡ want → Notes want before now → Notes status before now
-told-status status want before now is h = subst (λ (s : Status). Notes s before now) (sym is) h
+-- ---- what a stop is told as
+pub told_status : (stop : Stop) (status : Status) (before now : Device) → IsTold stop status before now → IsUnlessMemory (status_of stop) status
+told_status stop status before now (inl own) = inl own.status_is
+told_status stop status before now (inr want) = inr want.status_is
 
-pub told_notes : (stop : Stop) (status : Status) (before now : Option (List ℕ)) → IsTold stop status before now → Notes status before now
-told_notes stops.Usage status before now h = told-status status statuses.Usage before now h.0 h.1
-told_notes (stops.Refused refusals.TooLong) status before now h = told-status status statuses.Refused before now h.0 (refusals.TooLong, h.1)
-told_notes (stops.Refused (refusals.Text number offset limit)) status before now (inl h) = told-status status statuses.Refused before now h.0 (refusals.Text number offset limit, h.1)
-told_notes (stops.Refused (refusals.Text number offset limit)) status before now (inr h) = told-status status statuses.OutOfMemory before now h.0 h.1
-told_notes (stops.Refused refusals.Kind) status before now h = told-status status statuses.Refused before now h.0 (refusals.Kind, h.1)
-told_notes (stops.Refused refusals.Size) status before now h = told-status status statuses.Refused before now h.0 (refusals.Size, h.1)
-told_notes stops.ReadFault status before now h = told-status status statuses.ReadFault before now h.0 h.1
-told_notes stops.WriteFault status before now h = told-status status statuses.WriteFault before now h.0 h.1
-told_notes stops.Memory status before now h = told-status status statuses.OutOfMemory before now h.0 h.1
+-- where another status than that of want of memory is told, it is the stop's own
+own_line : (stop : Stop) (status due : Status) (before now : Device) → IsTold stop status before now → status ≡ due → ¬ (due ≡ statuses.OutOfMemory) → (status_of stop ≡ due) × (now.notes ≡ noted before.notes (line_of stop))
+own_line stop status due before now (inl own) is other = (sym own.status_is ∙ is, own.notes)
+own_line stop status due before now (inr want) is other = absurd (other (sym is ∙ want.status_is))
 
-told-refused : (why : Refusal) (status : Status) (before now : Option (List ℕ)) → IsTold (stops.Refused why) status before now → IsUnlessMemory statuses.Refused status
-told-refused refusals.TooLong status before now h = inl h.0
-told-refused (refusals.Text number offset limit) status before now (inl h) = inl h.0
-told-refused (refusals.Text number offset limit) status before now (inr h) = inr h.0
-told-refused refusals.Kind status before now h = inl h.0
-told-refused refusals.Size status before now h = inl h.0
+notes_as : (stop : Stop) (status : Status) (before now : Device) → IsToldAs stop status before now → Notes status before.notes now.notes
+notes_as stop status before now h = subst (λ (s : Status). Notes s before.notes now.notes) (sym h.status_is) (at stop h.notes)
+  where
+    at : (s : Stop) → now.notes ≡ noted before.notes (line_of s) → Notes (status_of s) before.notes now.notes
+    at stops.Usage is = is
+    at (stops.Refused why) is = (why, is)
+    at stops.ReadFault is = is
+    at stops.WriteFault is = is
+    at stops.Memory is = is
 
--- a listing was printed of what is no text to refuse
-pub listed_not_refused : (text : Option (Option (List ℕ))) (before now : Option (List ℕ)) (P : List ℕ → Refusal → Type 0) → IfSome text (OfFile (Lists before now)) → IfSome text (IfFile (λ bytes. (why : Refusal) → IsRefusedFor why bytes → P bytes why))
-listed_not_refused None before now P h = tt
-listed_not_refused (Some None) before now P h = tt
-listed_not_refused (Some (Some bytes)) before now P h = λ why reason. absurd (not_refused bytes h.system why h.read reason)
+pub told_notes : (stop : Stop) (status : Status) (before now : Device) → IsTold stop status before now → Notes status before.notes now.notes
+told_notes stop status before now (inl own) = notes_as stop status before now own
+told_notes stop status before now (inr want) = notes_as stops.Memory status before now want
 
-module _ (status : Status) (shelf-rose sink-rose : Type 0) (notes-before notes-now before now : Option (List ℕ)) where
-  pub stop_refuses : (stop : Stop) (text : Option (Option (List ℕ))) → IsTold stop status notes-before notes-now → Stops stop shelf-rose sink-rose text before now
-      → IfSome text (IfFile (λ bytes. (why : Refusal) → IsRefusedFor why bytes → ¬ shelf-rose → IsUnlessMemory statuses.Refused status))
-  stop_refuses stop None told h = tt
-  stop_refuses stop (Some None) told h = tt
-  stop_refuses stops.Usage (Some (Some bytes)) told h = λ why reason calm. absurd h
-  stop_refuses (stops.Refused r) (Some (Some bytes)) told h = λ why reason calm. told-refused r status notes-before notes-now told
-  stop_refuses stops.ReadFault (Some (Some bytes)) told h = λ why reason calm. absurd (calm h.1)
-  stop_refuses stops.WriteFault (Some (Some bytes)) told h = λ why reason calm. absurd (not_refused bytes h.1.system why h.1.read reason)
-  stop_refuses stops.Memory (Some (Some bytes)) told h = λ why reason calm. inr told.0
+-- ---- words that are no job
+pub words_told : (fault : WordsFault) (stop : Stop) (status : Status) (before now : Device) → stop ≡ stop_for_words fault → IsTold stop status before now
+    → ((status ≡ statuses.Usage) × (fault ≡ words.Usage)) ⊎ (status ≡ statuses.OutOfMemory)
+words_told fault stop status before now is told = at fault (told_status (stop_for_words fault) status before now (subst (λ (s : Stop). IsTold s status before now) is told))
+  where
+    at : (f : WordsFault) → IsUnlessMemory (status_of (stop_for_words f)) status → ((status ≡ statuses.Usage) × (f ≡ words.Usage)) ⊎ (status ≡ statuses.OutOfMemory)
+    at words.Usage (inl due) = inl (due, refl)
+    at words.Usage (inr want) = inr want
+    at words.Memory (inl want) = inr want
+    at words.Memory (inr want) = inr want
 
-  pub stop_completes : (stop : Stop) (text : Option (Option (List ℕ))) → IsTold stop status notes-before notes-now → Stops stop shelf-rose sink-rose text before now
-      → IfSome text (IfFile (λ bytes. HasSystem bytes → ¬ shelf-rose → ¬ sink-rose → IsUnlessMemory statuses.Done status))
-  stop_completes stop None told h = tt
-  stop_completes stop (Some None) told h = tt
-  stop_completes stops.Usage (Some (Some bytes)) told h = λ has calm quiet. absurd h
-  stop_completes (stops.Refused r) (Some (Some bytes)) told h = λ has calm quiet. absurd (not_refused bytes has.0 r has.1 h.1)
-  stop_completes stops.ReadFault (Some (Some bytes)) told h = λ has calm quiet. absurd (calm h.1)
-  stop_completes stops.WriteFault (Some (Some bytes)) told h = λ has calm quiet. absurd (quiet h.0)
-  stop_completes stops.Memory (Some (Some bytes)) told h = λ has calm quiet. inr told.0
+-- ---- a job that stops
+module _ (stop : Stop) (status : Status) (before now : Device) (told : IsTold stop status before now) (shelf-rose sink-rose : Type 0) (job : Request) (files : Option (List File)) (cause : HasCause stop shelf-rose sink-rose job files) where
+  pub never_usage : status ≡ statuses.Usage → ⊥
+  never_usage is = at stop (own_line stop status statuses.Usage before now told is (λ e. cc)).0 cause
+    where
+      at : (s : Stop) → status_of s ≡ statuses.Usage → HasCause s shelf-rose sink-rose job files → ⊥
+      at stops.Usage e h = h
+      at (stops.Refused why) e h = cc
+      at stops.ReadFault e h = cc
+      at stops.WriteFault e h = cc
+      at stops.Memory e h = cc
+
+  pub never_done : status ≡ statuses.Done → ⊥
+  never_done is = at stop (own_line stop status statuses.Done before now told is (λ e. cc)).0
+    where
+      at : (s : Stop) → status_of s ≡ statuses.Done → ⊥
+      at stops.Usage e = cc
+      at (stops.Refused why) e = cc
+      at stops.ReadFault e = cc
+      at stops.WriteFault e = cc
+      at stops.Memory e = cc
+
+  pub read_rose : status ≡ statuses.ReadFault → shelf-rose
+  read_rose is = at stop (own_line stop status statuses.ReadFault before now told is (λ e. cc)).0 cause
+    where
+      at : (s : Stop) → status_of s ≡ statuses.ReadFault → HasCause s shelf-rose sink-rose job files → shelf-rose
+      at stops.Usage e h = absurd h
+      at (stops.Refused why) e h = absurd (cc)
+      at stops.ReadFault e h = h
+      at stops.WriteFault e h = absurd (cc)
+      at stops.Memory e h = absurd (cc)
+
+  pub write_rose : status ≡ statuses.WriteFault → sink-rose
+  write_rose is = at stop (own_line stop status statuses.WriteFault before now told is (λ e. cc)).0 cause
+    where
+      at : (s : Stop) → status_of s ≡ statuses.WriteFault → HasCause s shelf-rose sink-rose job files → sink-rose
+      at stops.Usage e h = absurd h
+      at (stops.Refused why) e h = absurd (cc)
+      at stops.ReadFault e h = absurd (cc)
+      at stops.WriteFault e h = h
+      at stops.Memory e h = absurd (cc)
+
+  pub tells_refusal : status ≡ statuses.Refused → IfSome files (TellsRefusal before.notes now.notes job)
+  tells_refusal is = let own = own_line stop status statuses.Refused before now told is (λ e. cc) in at stop own.0 own.1 cause
+    where
+      of : (why : Refusal) (fs : Option (List File)) → now.notes ≡ noted before.notes (refusal_line why) → IfSome fs (IsRefusal why job) → IfSome fs (TellsRefusal before.notes now.notes job)
+      of why None line h = tt
+      of why (Some fs) line h = record { why = why; reason = h; line = line }
+
+      at : (s : Stop) → status_of s ≡ statuses.Refused → now.notes ≡ noted before.notes (line_of s) → HasCause s shelf-rose sink-rose job files → IfSome files (TellsRefusal before.notes now.notes job)
+      at stops.Usage e line h = absurd h
+      at (stops.Refused why) e line h = of why files line h
+      at stops.ReadFault e line h = absurd (cc)
+      at stops.WriteFault e line h = absurd (cc)
+      at stops.Memory e line h = absurd (cc)
+
+  -- ---- and what it leaves
+  module _ (first last : Option (List ℕ)) (leaves : LeavesText stop job files first last) where
+    pub stop_refuses : IfSome files (λ fs. (why : Refusal) → IsRefusal why job fs → ¬ shelf-rose → IsUnlessMemory statuses.Refused status)
+    stop_refuses = at stop files (told_status stop status before now told) cause leaves
+      where
+        at : (s : Stop) (fs : Option (List File)) → IsUnlessMemory (status_of s) status → HasCause s shelf-rose sink-rose job fs → LeavesText s job fs first last
+            → IfSome fs (λ gs. (why : Refusal) → IsRefusal why job gs → ¬ shelf-rose → IsUnlessMemory statuses.Refused status)
+        at s None due h left = tt
+        at stops.Usage (Some fs) due h left = absurd h
+        at (stops.Refused r) (Some fs) due h left = λ why reason calm. due
+        at stops.ReadFault (Some fs) due h left = λ why reason calm. absurd (calm h)
+        at stops.WriteFault (Some fs) due h left = λ why reason calm. absurd (stage_not_refused left.text why job fs left.stage reason)
+        at stops.Memory (Some fs) due h left = λ why reason calm. elim due [ inl is ↦ inr is | inr is ↦ inr is ]
+
+    pub stop_misses : IfSome files (λ fs. LacksFile job fs → IsUnlessMemory statuses.ReadFault status)
+    stop_misses = at stop files (told_status stop status before now told) cause leaves
+      where
+        at : (s : Stop) (fs : Option (List File)) → IsUnlessMemory (status_of s) status → HasCause s shelf-rose sink-rose job fs → LeavesText s job fs first last
+            → IfSome fs (λ gs. LacksFile job gs → IsUnlessMemory statuses.ReadFault status)
+        at s None due h left = tt
+        at stops.Usage (Some fs) due h left = absurd h
+        at (stops.Refused r) (Some fs) due h left = λ lacks. absurd (refusal_not_missing r job fs h lacks)
+        at stops.ReadFault (Some fs) due h left = λ lacks. due
+        at stops.WriteFault (Some fs) due h left = λ lacks. absurd (stage_not_missing left.text job fs left.stage lacks)
+        at stops.Memory (Some fs) due h left = λ lacks. elim due [ inl is ↦ inr is | inr is ↦ inr is ]
+
+    pub stop_completes : IfSome files (λ fs. CanBeDone job fs → ¬ shelf-rose → ¬ sink-rose → IsUnlessMemory statuses.Done status)
+    stop_completes = at stop files (told_status stop status before now told) cause
+      where
+        at : (s : Stop) (fs : Option (List File)) → IsUnlessMemory (status_of s) status → HasCause s shelf-rose sink-rose job fs
+            → IfSome fs (λ gs. CanBeDone job gs → ¬ shelf-rose → ¬ sink-rose → IsUnlessMemory statuses.Done status)
+        at s None due h = tt
+        at stops.Usage (Some fs) due h = absurd h
+        at (stops.Refused r) (Some fs) due h = λ can calm quiet. absurd (can_not_refused r job fs can h)
+        at stops.ReadFault (Some fs) due h = λ can calm quiet. absurd (calm h)
+        at stops.WriteFault (Some fs) due h = λ can calm quiet. absurd (quiet h)
+        at stops.Memory (Some fs) due h = λ can calm quiet. elim due [ inl is ↦ inr is | inr is ↦ inr is ]
+
+    pub unfinished : status ≡ statuses.WriteFault → IfSome files (WritesStage first last job)
+    unfinished is = at stop (own_line stop status statuses.WriteFault before now told is (λ e. cc)).0 cause leaves
+      where
+        at : (s : Stop) → status_of s ≡ statuses.WriteFault → HasCause s shelf-rose sink-rose job files → LeavesText s job files first last → IfSome files (WritesStage first last job)
+        at stops.Usage e h left = absurd h
+        at (stops.Refused why) e h left = absurd (cc)
+        at stops.ReadFault e h left = absurd (cc)
+        at stops.WriteFault e h left = left
+        at stops.Memory e h left = absurd (cc)
+
+    pub at_most : (last ≡ first) ⊎ IfSome files (WritesStage first last job)
+    at_most = at stop leaves
+      where
+        at : (s : Stop) → LeavesText s job files first last → (last ≡ first) ⊎ IfSome files (WritesStage first last job)
+        at stops.Usage left = inl left
+        at (stops.Refused why) left = inl left
+        at stops.ReadFault left = inl left
+        at stops.WriteFault left = inr left
+        at stops.Memory left = left
+
+    pub silent : (status ≡ statuses.Usage) ⊎ ((status ≡ statuses.Refused) ⊎ (status ≡ statuses.ReadFault)) → last ≡ first
+    silent (inl is) = absurd (never_usage is)
+    silent (inr (inl is)) = at stop (own_line stop status statuses.Refused before now told is (λ e. cc)).0 leaves
+      where
+        at : (s : Stop) → status_of s ≡ statuses.Refused → LeavesText s job files first last → last ≡ first
+        at stops.Usage e left = left
+        at (stops.Refused why) e left = left
+        at stops.ReadFault e left = left
+        at stops.WriteFault e left = absurd (cc)
+        at stops.Memory e left = absurd (cc)
+    silent (inr (inr is)) = at stop (own_line stop status statuses.ReadFault before now told is (λ e. cc)).0 leaves
+      where
+        at : (s : Stop) → status_of s ≡ statuses.ReadFault → LeavesText s job files first last → last ≡ first
+        at stops.Usage e left = left
+        at (stops.Refused why) e left = left
+        at stops.ReadFault e left = left
+        at stops.WriteFault e left = absurd (cc)
+        at stops.Memory e left = absurd (cc)
+
+-- ---- a run that wants memory, whatever the job
+module _ (status : Status) (want : status ≡ statuses.OutOfMemory) (job : Request) where
+  pub memory_refuses : (files : Option (List File)) (shelf-rose : Type 0) → IfSome files (λ fs. (why : Refusal) → IsRefusal why job fs → ¬ shelf-rose → IsUnlessMemory statuses.Refused status)
+  memory_refuses None shelf-rose = tt
+  memory_refuses (Some fs) shelf-rose = λ why reason calm. inr want
+
+  pub memory_misses : (files : Option (List File)) → IfSome files (λ fs. LacksFile job fs → IsUnlessMemory statuses.ReadFault status)
+  memory_misses None = tt
+  memory_misses (Some fs) = λ lacks. inr want
+
+  pub memory_completes : (files : Option (List File)) (shelf-rose sink-rose : Type 0) → IfSome files (λ fs. CanBeDone job fs → ¬ shelf-rose → ¬ sink-rose → IsUnlessMemory statuses.Done status)
+  memory_completes None shelf-rose sink-rose = tt
+  memory_completes (Some fs) shelf-rose sink-rose = λ can calm quiet. inr want
+
+-- ---- a job that was done
+module _ (status : Status) (job : Request) (first last : Option (List ℕ)) where
+  pub done_refuses : (files : Option (List File)) (shelf-rose : Type 0) → IfSome files (WritesOutput first last job) → IfSome files (λ fs. (why : Refusal) → IsRefusal why job fs → ¬ shelf-rose → IsUnlessMemory statuses.Refused status)
+  done_refuses None shelf-rose h = tt
+  done_refuses (Some fs) shelf-rose h = λ why reason calm. absurd (output_not_refused h.text why job fs h.output reason)
+
+  pub done_misses : (files : Option (List File)) → IfSome files (WritesOutput first last job) → IfSome files (λ fs. LacksFile job fs → IsUnlessMemory statuses.ReadFault status)
+  done_misses None h = tt
+  done_misses (Some fs) h = λ lacks. absurd (output_not_missing h.text job fs h.output lacks)

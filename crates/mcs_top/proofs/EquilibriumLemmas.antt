@@ -1,17 +1,18 @@
 -- States that are tried one by one.
-use Rattle.std.proofs.Common.{◌≡◌, ℕ, ◌+◌, ◌^◌, ◌<◌, suc, Bool, true, false, ◌&&◌, ◌||◌, eqb, cond, List, [], ◌∷◌, ◌++◌, length, Some, slice_get, refl, sym, ap, ◌∙◌, subst, inl, inr, ◌⊎◌, ◌↔◌, arith}
+use Rattle.std.proofs.Common.{◌≡◌, ℕ, ◌+◌, ◌^◌, ◌<◌, suc, Bool, true, false, ◌&&◌, ◌||◌, eqb, cond, List, [], ◌∷◌, length, Some, slice_get, refl, sym, ap, ◌∙◌, subst, ◌↔◌, arith}
 use Rattle.std.proofs.lemmas.Bool.Decides.{nat_tests}
 use Rattle.mcs_sets.specs.Sets.{has, common, Within}
-use Rattle.mcs_sets.proofs.SetLemmas.{has-such_that, has-common, has-union, has-empty, such_that-lt, members_below, Within-le}
+use Rattle.mcs_sets.proofs.SetLemmas.{has-such_that, has-common, has-union, has-empty, such_that-lt, Within-le}
 use Rattle.mcs_system.specs.Plain.{Formula, Bridge, System}
 use Rattle.mcs_system.specs.Logic.{Accepts, with_heads}
 use Rattle.mcs_system.specs.Imports.{rules_into}
-use Rattle.mcs_system.specs.Systems.{variables, all_variables, all_rules, variables_of, applicable, acting_at, heads_from, heads_into, IsAcceptedPart, IsProjected}
+use Rattle.mcs_system.specs.Systems.{variables, all_variables, all_rules, variables_of, applicable, acting_at, heads_from, heads_into, IsAcceptedPart, IsProjectedEquilibrium}
 use Rattle.mcs_sets.specs.Orders.{StateBefore}
 use Rattle.mcs_base.specs.Listings.{IsAmong, IsListing}
 use Rattle.mcs_base.proofs.ListingLemmas.{IsListing-same}
-use Rattle.mcs_system.proofs.Members.{get-lt, among_left, among_right, among_either}
+use Rattle.mcs_system.proofs.Members.{get-lt}
 use Rattle.mcs_system.proofs.VariableLemmas.{has-rules_into}
+use Rattle.mcs_system.proofs.ContextSets.{states_known}
 use Rattle.mcs_laws.proofs.Projections.{parts_of, from_parts}
 
 -- ---- the heads into a context are a matter of the rules into it
@@ -68,41 +69,18 @@ accepts_more m σ n below here i less = at (eqb i n) refl
     at true e = let same : n ≡ i = grind (arith, nat_tests) in subst (λ (j : ℕ). IsAcceptedPart m j (common (applicable m σ) (rules_into m j)) (common σ (variables_of m j))) same here
     at false e = let under : i < n = grind (arith, nat_tests) in below i under
 
-pub in_range : (m : System) (σ : ℕ) → σ < 2 ^ length (variables m) → Within σ (all_variables m)
-in_range m σ small v member = let less = members_below σ (length (variables m)) v small member in has-such_that (length (variables m)) (λ w. true) v ∙ grind (arith, nat_tests)
-
 pub below_all : (m : System) (σ : ℕ) → Within σ (all_variables m) → σ < 2 ^ length (variables m)
 below_all m σ within = omega (arith, Within-le σ (all_variables m) within, such_that-lt (length (variables m)) (λ v. true))
 
-pub balanced : (m : System) (σ : ℕ) → σ < 2 ^ length (variables m) → AcceptsBelow m σ (length m.contexts) → IsProjected m (all_rules m) 0 σ
+pub balanced : (m : System) (σ : ℕ) → σ < 2 ^ length (variables m) → AcceptsBelow m σ (length m.contexts) → IsProjectedEquilibrium m (all_rules m) 0 σ
 unfolding AcceptsBelow
-balanced m σ small all = from_parts m (all_rules m) 0 σ (in_range m σ small) (λ i less. part-alike m i _ _ _ (λ k b is own. acting-into m i σ k b is own) (all i less))
+balanced m σ small all = from_parts m (all_rules m) 0 σ (states_known m σ small) (λ i less. part-alike m i _ _ _ (λ k b is own. acting-into m i σ k b is own) (all i less))
 
-pub accepted_where_balanced : (m : System) (σ i : ℕ) → IsProjected m (all_rules m) 0 σ → i < length m.contexts → IsAcceptedPart m i (common (applicable m σ) (rules_into m i)) (common σ (variables_of m i))
+pub accepted_where_balanced : (m : System) (σ i : ℕ) → IsProjectedEquilibrium m (all_rules m) 0 σ → i < length m.contexts → IsAcceptedPart m i (common (applicable m σ) (rules_into m i)) (common σ (variables_of m i))
 accepted_where_balanced m σ i h less = part-alike m i _ _ _ (λ k b is own. sym (acting-into m i σ k b is own)) ((parts_of m (all_rules m) 0 σ h).1 i less)
 
--- ---- trying one number more
-pub one_more : (P : ℕ → Type 0) (xs ys : List ℕ) (n : ℕ) → ((σ : ℕ) → IsAmong σ xs ↔ ((σ < n) × P σ)) → ys ≡ xs ++ n ∷ [] → P n → (σ : ℕ) → IsAmong σ ys ↔ ((σ < n + 1) × P σ)
-one_more P xs ys n known is here σ = (λ h. to (among_either σ xs (n ∷ []) (subst (IsAmong σ) is h)), λ h. subst (IsAmong σ) (sym is) (from h (eqb σ n) refl))
-  where
-    to : IsAmong σ xs ⊎ IsAmong σ (n ∷ []) → (σ < n + 1) × P σ
-    to (inl old) = let both = (known σ).0 old in (omega arith, both.1)
-    to (inr (inl same)) = (omega arith, subst P (sym same) here)
-    to (inr (inr none)) = absurd none
-
-    from : (σ < n + 1) × P σ → (b : Bool) → eqb σ n ≡ b → IsAmong σ (xs ++ n ∷ [])
-    from h true e = among_right σ xs (n ∷ []) (inl (grind (arith, nat_tests)))
-    from h false e = let less : σ < n = (let low = h.0 in grind (arith, nat_tests)) in among_left σ xs (n ∷ []) ((known σ).1 (less, h.1))
-
-pub none_more : (P : ℕ → Type 0) (xs ys : List ℕ) (n : ℕ) → ((σ : ℕ) → IsAmong σ xs ↔ ((σ < n) × P σ)) → ys ≡ xs → ¬ P n → (σ : ℕ) → IsAmong σ ys ↔ ((σ < n + 1) × P σ)
-none_more P xs ys n known is never σ = (λ h. let both = (known σ).0 (subst (IsAmong σ) is h) in (omega arith, both.1), λ h. subst (IsAmong σ) (sym is) ((known σ).1 (from h (eqb σ n) refl, h.1)))
-  where
-    from : (σ < n + 1) × P σ → (b : Bool) → eqb σ n ≡ b → σ < n
-    from h true e = absurd (never (subst P (let same : σ ≡ n = grind (arith, nat_tests) in same) h.1))
-    from h false e = let low = h.0 in grind (arith, nat_tests)
-
--- the states that were found are all of them
-pub all_tried : (m : System) (xs ys : List ℕ) (n : ℕ) → n ≡ 2 ^ length (variables m) → ((σ : ℕ) → IsAmong σ xs ↔ ((σ < n) × IsProjected m (all_rules m) 0 σ))
-    → IsListing (λ σ. IsAmong σ xs) StateBefore ys → IsListing (IsProjected m (all_rules m) 0) StateBefore ys
-all_tried m xs ys n whole known listing = IsListing-same StateBefore (λ σ. IsAmong σ xs) (IsProjected m (all_rules m) 0) ys
+-- ---- the states that were found are all of them
+pub all_tried : (m : System) (xs ys : List ℕ) (n : ℕ) → n ≡ 2 ^ length (variables m) → ((σ : ℕ) → IsAmong σ xs ↔ ((σ < n) × IsProjectedEquilibrium m (all_rules m) 0 σ))
+    → IsListing (λ σ. IsAmong σ xs) StateBefore ys → IsListing (IsProjectedEquilibrium m (all_rules m) 0) StateBefore ys
+all_tried m xs ys n whole known listing = IsListing-same StateBefore (λ σ. IsAmong σ xs) (IsProjectedEquilibrium m (all_rules m) 0) ys
     (λ σ. (λ h. ((known σ).0 h).1, λ h. (known σ).1 (let low = below_all m σ (parts_of m (all_rules m) 0 σ h).0 in omega arith, h))) listing

@@ -1,30 +1,31 @@
--- The one file that words name.
-use Rattle.std.proofs.Common.{◌≡◌, ◌⊎◌, ◌∙◌, ℕ, List, Option, Some, None, IfSome, ap, sym, subst, inl, inr}
-use Rattle.mcs_words.specs.Commands.{Word, Request, equilibria, IsJobOf}
+-- The one job that words ask for, and what a shelf tells of its files.
+use Rattle.std.proofs.Common.{ℕ, List, [], ◌∷◌, Option, Some, None, IfSome, subst}
+use Rattle.mcs_words.specs.Commands.{Word, Request, IsJobOf}
 use Rattle.mcs_words.proofs.JobLemmas.{asked_once}
-use Rattle.mcs_top.specs.Jobs.{told, file_in, IsFileOf, OfJob, IfJob}
-use Rattle.mcs_top.specs.Promise.{OfFile, ListsInPart, ListsAtMost}
+use Rattle.mcs_top.specs.Jobs.{File, files_in, told_all, IfJob, OfOneFile}
 
-file_of_job : (words : List Word) (job : Request) → IsJobOf words job → IsFileOf words (file_in job)
-file_of_job words (equilibria file budget workers) h = (budget, (workers, h))
+-- what holds of one file
+pub told_one : (held : Option (Word → File)) (name : Word) (P : List File → Type 0) → IfSome held (λ files. P (files name ∷ [])) → IfSome (told_all held (name ∷ [])) P
+told_one None name P h = tt
+told_one (Some files) name P h = h
 
-module _ (words : List Word) (job : Request) (file : Word) (asked : IsJobOf words job) (is : file ≡ file_in job) where
-  pub one_file : (other : Word) → IsFileOf words other → file ≡ other
-  one_file other named = is ∙ ap file_in (asked_once words job (equilibria other named.0 named.1.0) asked named.1.1)
+pub told_also : (told : Option (List File)) (P Q : List File → Type 0) → ((files : List File) → P files → Q files) → IfSome told P → IfSome told Q
+told_also None P Q f h = tt
+told_also (Some files) P Q f h = f files h
 
-  -- what holds of the file that the words were found to name
-  pub of_job : (held : Option (List ℕ → Option (List ℕ))) (P : Option (List ℕ) → Type 0) → IfSome (told held file) P → OfJob words held P
-  of_job held P there = record { file = file; named = subst (IsFileOf words) (sym is) (file_of_job words job asked); of_file = there }
+pub of_file : (P Q : List ℕ → Type 0) → ((bytes : List ℕ) → P bytes → Q bytes) → (files : List File) → OfOneFile P files → OfOneFile Q files
+of_file P Q f [] h = absurd h
+of_file P Q f (None ∷ files) h = absurd h
+of_file P Q f (Some bytes ∷ []) h = f bytes h
+of_file P Q f (Some bytes ∷ (file ∷ files)) h = absurd h
 
-  pub if_job : (held : Option (List ℕ → Option (List ℕ))) (P : Option (List ℕ) → Type 0) → IfSome (told held file) P → IfJob words held P
-  if_job held P there other named = subst (λ (f : Word). IfSome (told held f) P) (one_file other named) there
+pub apart_of_file : (P Q : List ℕ → Type 0) → ((bytes : List ℕ) → P bytes → Q bytes → ⊥) → (files : List File) → OfOneFile P files → OfOneFile Q files → ⊥
+apart_of_file P Q f [] h k = h
+apart_of_file P Q f (None ∷ files) h k = h
+apart_of_file P Q f (Some bytes ∷ []) h k = f bytes h k
+apart_of_file P Q f (Some bytes ∷ (file ∷ files)) h k = h
 
-  -- nothing was written, or a front of the listing
-  pub at_most : (held : Option (List ℕ → Option (List ℕ))) (before now : Option (List ℕ)) → IfSome (told held file) (OfFile (ListsAtMost before now)) → (now ≡ before) ⊎ OfJob words held (OfFile (ListsInPart before now))
-  at_most held before now there = go (told held file) there (of_job held (OfFile (ListsInPart before now)))
-    where
-      go : (t : Option (Option (List ℕ))) → IfSome t (OfFile (ListsAtMost before now)) → (IfSome t (OfFile (ListsInPart before now)) → OfJob words held (OfFile (ListsInPart before now))) → (now ≡ before) ⊎ OfJob words held (OfFile (ListsInPart before now))
-      go None k then' = inr (then' tt)
-      go (Some None) k then' = absurd k
-      go (Some (Some bytes)) (inl same) then' = inl same
-      go (Some (Some bytes)) (inr part) then' = inr (then' part)
+-- what holds of the job that was found holds of each that the words ask for, since that is one
+pub if_job : (words : List Word) (job : Request) → IsJobOf words job → (held : Option (Word → File)) (P : Request → List File → Type 0)
+    → IfSome (told_all held (files_in job)) (P job) → IfJob words held P
+if_job words job asked held P there other other_asked = subst (λ (j : Request). IfSome (told_all held (files_in j)) (P j)) (asked_once words job other asked other_asked) there

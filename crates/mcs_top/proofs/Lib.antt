@@ -1,11 +1,7 @@
-pub mod AnswerLemmas
-pub mod BeliefLemmas
-pub mod EquilibriumLemmas
-pub mod LineLemmas
-pub mod PlaceLemmas
-pub mod CoverLemmas
-pub mod ClassicalLemmas
-pub mod PrintLemmas
 pub mod JobLemmas
 pub mod RefusalLemmas
 pub mod EndingLemmas
+pub mod CoverLemmas
+pub mod EquilibriumLemmas
+pub mod AskingLemmas
+pub mod StageLemmas

@@ -1,38 +1,37 @@
--- How a run ends: what it notes, and its status.
+-- How a run ends: its status and the line that it notes.
 use Rattle.std.specs.Prelude.{◌≡◌, ◌⊎◌, ℕ, List, [], ◌++◌, codes, Option, Some, None}
-use Rattle.mcs_ports.specs.Pieces.{noted}
+use Rattle.std.specs.Fmt.{decimal}
+use Rattle.mcs_ports.specs.Pieces.{Device, noted}
+use Rattle.mcs_text.specs.declared.unwritten.Unwritten.{Unwritten}
+use Rattle.mcs_text.specs.declared.unwritten.Unwritten.TheVariants as unwritten
+use Rattle.mcs_system.specs.declared.limit.Limit.{Limit}
+use Rattle.mcs_system.specs.Limits.{limit_words}
 use Rattle.mcs_language.specs.declared.fault.TextFault.{TextFault}
 use Rattle.mcs_language.specs.declared.fault.TextFault.TheVariants as texts
-use Rattle.std.specs.Fmt.{decimal}
-use Rattle.mcs_system.specs.declared.fault.Limit.{Limit}
-use Rattle.mcs_system.specs.declared.fault.Limit.TheVariants.{Contexts, Bridges, RulesPerContext, Variables, InputsPerContext, AtomsPerContext, DefaultsPerContext, ItemsPerContext, FormulaSize, OpenParentheses, NameBytes}
+use Rattle.mcs_words.specs.declared.job.WordsFault.{WordsFault}
+use Rattle.mcs_words.specs.declared.job.WordsFault.TheVariants as words
 use Rattle.mcs_top.specs.declared.ending.Refusal.{Refusal}
 use Rattle.mcs_top.specs.declared.ending.Refusal.TheVariants as refusals
 use Rattle.mcs_top.specs.declared.ending.Stop.{Stop}
 use Rattle.mcs_top.specs.declared.ending.Stop.TheVariants as stops
-use Rattle.mcs_top.specs.declared.ending.Status.{Status}
-use Rattle.mcs_top.specs.declared.ending.Status.TheVariants as statuses
+use Rattle.mcs_top.specs.declared.status.Status.{Status}
+use Rattle.mcs_top.specs.declared.status.Status.TheVariants as statuses
 
--- the name of a limit, a space and its number
-abbrev pub limit_words : Limit → List ℕ
-limit_words Contexts = codes "contexts 64"
-limit_words Bridges = codes "bridges 64"
-limit_words RulesPerContext = codes "rules_per_context 12"
-limit_words Variables = codes "variables 64"
-limit_words InputsPerContext = codes "inputs_per_context 16"
-limit_words AtomsPerContext = codes "atoms_per_context 64"
-limit_words DefaultsPerContext = codes "defaults_per_context 10"
-limit_words ItemsPerContext = codes "items_per_context 4096"
-limit_words FormulaSize = codes "formula_size 512"
-limit_words OpenParentheses = codes "open_parentheses 512"
-limit_words NameBytes = codes "name_bytes 64"
+-- the number that a program with this status ends with
+abbrev pub number_of : Status → ℕ
+number_of statuses.Done = 0
+number_of statuses.Usage = 2
+number_of statuses.Refused = 3
+number_of statuses.ReadFault = 5
+number_of statuses.WriteFault = 6
+number_of statuses.OutOfMemory = 7
 
 -- a colon and the limit, where there is one
 abbrev pub told_limit : Option Limit → List ℕ
 told_limit None = []
 told_limit (Some limit) = codes ": " ++ limit_words limit
 
--- mcs: refused: FN at OFFSET: LIMIT
+-- mcs: refused: FN at OFFSET: LIMIT NUMBER
 unfoldable pub fault_line : ℕ → ℕ → Option Limit → List ℕ
 fault_line number offset limit = codes "mcs: refused: F" ++ (decimal number ++ (codes " at " ++ (decimal offset ++ (told_limit limit ++ codes "\n"))))
 
@@ -53,23 +52,29 @@ line_of stops.Memory = codes "mcs: out of memory\n"
 
 abbrev pub status_of : Stop → Status
 status_of stops.Usage = statuses.Usage
-status_of (stops.Refused r) = statuses.Refused
+status_of (stops.Refused why) = statuses.Refused
 status_of stops.ReadFault = statuses.ReadFault
 status_of stops.WriteFault = statuses.WriteFault
 status_of stops.Memory = statuses.OutOfMemory
 
--- a text's fault is told with the refusal, and want of memory as such
-abbrev pub stop_for : TextFault → Stop
-stop_for (texts.Fault number offset limit) = stops.Refused (refusals.Text number offset limit)
-stop_for texts.Memory = stops.Memory
+-- ---- what stops a run, by what stopped a part of it
+abbrev pub stop_for_words : WordsFault → Stop
+stop_for_words words.Usage = stops.Usage
+stop_for_words words.Memory = stops.Memory
 
--- the line of a text's fault alone is not always the same
-abbrev pub HasFixedLine : Stop → Type 0
-HasFixedLine (stops.Refused (refusals.Text number offset limit)) = ⊥
-HasFixedLine stop = Unit {0}
+abbrev pub stop_for_text : TextFault → Stop
+stop_for_text (texts.Fault number offset limit) = stops.Refused (refusals.Text number offset limit)
+stop_for_text texts.Memory = stops.Memory
 
--- what is answered and noted where a run stops: a text's fault needs memory to be told
-abbrev pub IsTold : Stop → Status → Option (List ℕ) → Option (List ℕ) → Type 0
-IsTold (stops.Refused (refusals.Text number offset limit)) status before now =
-    ((status ≡ statuses.Refused) × (now ≡ noted before (fault_line number offset limit))) ⊎ ((status ≡ statuses.OutOfMemory) × (now ≡ noted before (line_of stops.Memory)))
-IsTold stop status before now = (status ≡ status_of stop) × (now ≡ noted before (line_of stop))
+abbrev pub stop_for_line : Unwritten → Stop
+stop_for_line unwritten.Fault = stops.WriteFault
+stop_for_line unwritten.Memory = stops.Memory
+
+-- the stop is told by its own status and line
+pub record IsToldAs (stop : Stop) (status : Status) (before now : Device) : Type 0 where
+  pub status_is : status ≡ status_of stop
+  pub notes : now.notes ≡ noted before.notes (line_of stop)
+
+-- it is, or as want of memory where there is none for the line
+abbrev pub IsTold : Stop → Status → Device → Device → Type 0
+IsTold stop status before now = IsToldAs stop status before now ⊎ IsToldAs stops.Memory status before now

@@ -1,26 +1,34 @@
--- The job that the words of a command line ask for.
-use Rattle.std.specs.Prelude.{ℕ, List, Option, IfSome}
+-- The job that the words of a command line ask for, and the files that it names.
+use Rattle.std.specs.Prelude.{ℕ, List, [], ◌∷◌, map, Option, Some, None, IfSome}
 use Rattle.std.specs.Option.{option_map}
 use Rattle.mcs_words.specs.Commands.{Word, Request, equilibria, IsJobOf}
 
--- the file of a job
-abbrev pub file_in : Request → Word
-file_in (equilibria file budget workers) = file
+-- what a shelf tells of a name: the bytes of the file, or that there is none
+abbrev pub File : Type 0
+File = Option (List ℕ)
 
--- they ask for the equilibria of the system that the file has
-abbrev pub IsFileOf : List Word → Word → Type 0
-IsFileOf words file = (budget : ℕ) × ((workers : ℕ) × IsJobOf words (equilibria file budget workers))
+-- the names of the files that a job reads, in order
+abbrev pub files_in : Request → List Word
+files_in (equilibria file budget workers) = file ∷ []
 
--- what the shelf holds under a name: `Some None` where it tells that there is no such file
-abbrev pub told : Option (List ℕ → Option (List ℕ)) → List ℕ → Option (Option (List ℕ))
-told held name = option_map (λ files. files name) held
+-- what a shelf tells of these names; of no name it tells always
+abbrev pub told_all : Option (Word → File) → List Word → Option (List File)
+told_all held [] = Some []
+told_all held (name ∷ names) = option_map (λ files. map files (name ∷ names)) held
 
--- the words name a file, and this holds of what the shelf tells of it
-pub record OfJob (words : List Word) (held : Option (List ℕ → Option (List ℕ))) (P : Option (List ℕ) → Type 0) : Type 0 where
-  pub file : Word
-  pub named : IsFileOf words file
-  pub of_file : IfSome (told held file) P
+-- the words ask for a job, and this holds of it and of what the shelf tells of its files
+pub record OfJob (words : List Word) (held : Option (Word → File)) (P : Request → List File → Type 0) : Type 0 where
+  pub job : Request
+  pub asked : IsJobOf words job
+  pub of_files : IfSome (told_all held (files_in job)) (P job)
 
--- where the words name a file, this holds of what the shelf tells of it
-abbrev pub IfJob : List Word → Option (List ℕ → Option (List ℕ)) → (Option (List ℕ) → Type 0) → Type 0
-IfJob words held P = (file : Word) → IsFileOf words file → IfSome (told held file) P
+-- where the words ask for a job, this holds of it and of what the shelf tells of its files
+abbrev pub IfJob : List Word → Option (Word → File) → (Request → List File → Type 0) → Type 0
+IfJob words held P = (job : Request) → IsJobOf words job → IfSome (told_all held (files_in job)) (P job)
+
+-- one file is named, it is there, and this holds of its bytes
+abbrev pub OfOneFile : (List ℕ → Type 0) → List File → Type 0
+OfOneFile P [] = ⊥
+OfOneFile P (None ∷ files) = ⊥
+OfOneFile P (Some bytes ∷ []) = P bytes
+OfOneFile P (Some bytes ∷ (file ∷ files)) = ⊥

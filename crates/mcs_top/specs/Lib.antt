@@ -1,5 +1,5 @@
 pub mod Jobs
 pub mod Endings
-pub mod Beliefs
-pub mod Texts
+pub mod Answers
+pub mod Admitted
 pub mod Promise

@@ -1,18 +1,18 @@
 //! The one call that the program makes.
 
-ghost use Rattle.std.specs.Prelude.{◌≡◌, ◌≤◌, ◌⊎◌, Some, None, IfSome};
+ghost use Rattle.std.specs.Prelude.{◌≡◌, ◌≤◌, ◌⊎◌};
 ghost use Rattle.mcs_ports.specs.Causes.{Rose};
-ghost use Rattle.mcs_words.specs.Commands.{Word, Request, IsJobOf};
-ghost use Rattle.mcs_words.specs.Reading.{request_of, texts_of};
-ghost use Rattle.mcs_top.specs.Jobs.{told, file_in, IsFileOf, OfJob, IfJob};
-ghost use Rattle.mcs_top.specs.Endings.{IsTold};
-ghost use Rattle.mcs_top.specs.Texts.{IsRefusedFor};
-ghost use Rattle.mcs_top.specs.Promise.{Lists, ListsInPart, ListsAtMost, OfFile, IfFile, HasSystem, IsRefused, Notes, IsSilent, IsUnlessMemory};
+ghost use Rattle.mcs_words.specs.Commands.{Request, IsJobOf};
+ghost use Rattle.mcs_words.specs.Reading.{texts_of};
+ghost use Rattle.mcs_top.specs.Jobs.{OfJob, IfJob};
+ghost use Rattle.mcs_top.specs.Promise.{IsRefusal, LacksFile, CanBeDone, WritesOutput, WritesStage, TellsRefusal, Notes, IsUnlessMemory};
+ghost use Rattle.mcs_top.specs.declared.ending.Refusal.{Refusal};
 
-use crate::ending::{Refusal, Status, Stop, fault_line};
-use crate::job::list_file;
+use crate::ending::tell;
+use crate::job::do_job;
+use crate::status::Status;
 use mcs_ports::{Gate, Shelf, Sink};
-use mcs_words::{Job, WordsFault, read_words};
+use mcs_words::read_words;
 use std::alloc::Global;
 
 /// Does what the words ask for: `equilibria FILE` prints the projected equilibria of the system whose text
@@ -33,112 +33,46 @@ pub fn run<H: Shelf, K: Sink, G: Gate>(
 
     // A fault of a device is told only where its count rose in this call.
     ensures read_fault { result ≡ Status.ReadFault → Rose (H.faults shelf.old) (H.faults shelf.new) }
-    ensures write_fault { result ≡ Status.WriteFault → Rose (K.faults sink.old) (K.faults sink.new) }
+    ensures write_fault { result ≡ Status.WriteFault → Rose (K.device sink.old).faults (K.device sink.new).faults }
     ensures shelf_later { H.faults shelf.old ≤ H.faults shelf.new }
-    ensures sink_later { K.faults sink.old ≤ K.faults sink.new }
+    ensures sink_later { (K.device sink.old).faults ≤ (K.device sink.new).faults }
 
-    // A text is refused exactly for what is wrong with it, and that is noted.
+    // A job is refused exactly for what is wrong with its files, and that is noted.
     ensures refused { result ≡ Status.Refused → OfJob (texts_of words.now) (H.held shelf.old)
-        (OfFile (IsRefused (K.notes sink.old) (K.notes sink.new))) }
-    ensures refusal { IfJob (texts_of words.now) (H.held shelf.old) (IfFile (λ bytes.
-        (why : Refusal) → IsRefusedFor why bytes → ¬ Rose (H.faults shelf.old) (H.faults shelf.new)
-        → IsUnlessMemory Status.Refused result)) }
-    ensures missing { (file : Word) → IsFileOf (texts_of words.now) file → told (H.held shelf.old) file ≡ Some None
-        → IsUnlessMemory Status.ReadFault result }
+        (TellsRefusal (K.device sink.old).notes (K.device sink.new).notes) }
+    ensures refusal { IfJob (texts_of words.now) (H.held shelf.old) (λ job files.
+        (why : Refusal) → IsRefusal why job files → ¬ Rose (H.faults shelf.old) (H.faults shelf.new)
+        → IsUnlessMemory Status.Refused result) }
+    ensures missing { IfJob (texts_of words.now) (H.held shelf.old) (λ job files.
+        LacksFile job files → IsUnlessMemory Status.ReadFault result) }
 
-    // `Done` comes for the text of a system, and its listing was written: there is one, and it is this.
+    // `Done` comes where the whole output of the job was written.
     ensures done { result ≡ Status.Done → OfJob (texts_of words.now) (H.held shelf.old)
-        (OfFile (Lists (K.written sink.old) (K.written sink.new))) }
+        (WritesOutput (K.device sink.old).written (K.device sink.new).written) }
 
     // It does come, unless memory ran out or a device failed.
-    ensures complete { IfJob (texts_of words.now) (H.held shelf.old) (IfFile (λ bytes.
-        HasSystem bytes → ¬ Rose (H.faults shelf.old) (H.faults shelf.new)
-        → ¬ Rose (K.faults sink.old) (K.faults sink.new) → IsUnlessMemory Status.Done result)) }
+    ensures complete { IfJob (texts_of words.now) (H.held shelf.old) (λ job files.
+        CanBeDone job files → ¬ Rose (H.faults shelf.old) (H.faults shelf.new)
+        → ¬ Rose (K.device sink.old).faults (K.device sink.new).faults → IsUnlessMemory Status.Done result) }
 
-    // Otherwise a front of the listing was written, or nothing.
+    // Otherwise a front of a stage of the output was written, or nothing.
     ensures unfinished { result ≡ Status.WriteFault → OfJob (texts_of words.now) (H.held shelf.old)
-        (OfFile (ListsInPart (K.written sink.old) (K.written sink.new))) }
-    ensures out_of_memory { result ≡ Status.OutOfMemory → (K.written sink.new ≡ K.written sink.old)
-        ⊎ OfJob (texts_of words.now) (H.held shelf.old) (OfFile (ListsInPart (K.written sink.old) (K.written sink.new))) }
-    ensures silent { IsSilent result → K.written sink.new ≡ K.written sink.old }
+        (WritesStage (K.device sink.old).written (K.device sink.new).written) }
+    ensures out_of_memory { result ≡ Status.OutOfMemory → ((K.device sink.new).written ≡ (K.device sink.old).written)
+        ⊎ OfJob (texts_of words.now) (H.held shelf.old)
+        (WritesStage (K.device sink.old).written (K.device sink.new).written) }
+    ensures silent { (result ≡ Status.Usage) ⊎ ((result ≡ Status.Refused) ⊎ (result ≡ Status.ReadFault))
+        → (K.device sink.new).written ≡ (K.device sink.old).written }
 
     // The line of the status is noted, and nothing else.
-    ensures notes { Notes result (K.notes sink.old) (K.notes sink.new) }
+    ensures notes { Notes result (K.device sink.old).notes (K.device sink.new).notes }
 {
-    match read_words(alloc, words) {
-        Ok(job) => list(alloc, file_of(&job), shelf, sink, gate),
-        Err(WordsFault::Usage) => tell(alloc, sink, Stop::Usage),
-        Err(WordsFault::Memory) => tell(alloc, sink, Stop::Memory),
-    }
-}
-
-/// The file of a job.
-fn file_of(job: &Job) -> &str
-    ensures { result.now ≡ file_in (request_of job.now) }
-{
-    match job {
-        Job::Equilibria { file, .. } => file,
-    }
-}
-
-/// Prints the equilibria of the system whose text the file holds, and answers the status.
-fn list<H: Shelf, K: Sink, G: Gate>(
-    alloc: Global,
-    file: &str,
-    shelf: &mut H,
-    sink: &mut K,
-    gate: &G,
-) -> Status
-    ensures usage { ¬ (result ≡ Status.Usage) }
-    ensures read_fault { result ≡ Status.ReadFault → Rose (H.faults shelf.old) (H.faults shelf.new) }
-    ensures write_fault { result ≡ Status.WriteFault → Rose (K.faults sink.old) (K.faults sink.new) }
-    ensures shelf_later { H.faults shelf.old ≤ H.faults shelf.new }
-    ensures sink_later { K.faults sink.old ≤ K.faults sink.new }
-    ensures refused { result ≡ Status.Refused → IfSome (told (H.held shelf.old) file.now)
-        (OfFile (IsRefused (K.notes sink.old) (K.notes sink.new))) }
-    ensures refusal { IfSome (told (H.held shelf.old) file.now) (IfFile (λ bytes.
-        (why : Refusal) → IsRefusedFor why bytes → ¬ Rose (H.faults shelf.old) (H.faults shelf.new)
-        → IsUnlessMemory Status.Refused result)) }
-    ensures missing { told (H.held shelf.old) file.now ≡ Some None → IsUnlessMemory Status.ReadFault result }
-    ensures done { result ≡ Status.Done → IfSome (told (H.held shelf.old) file.now)
-        (OfFile (Lists (K.written sink.old) (K.written sink.new))) }
-    ensures complete { IfSome (told (H.held shelf.old) file.now) (IfFile (λ bytes.
-        HasSystem bytes → ¬ Rose (H.faults shelf.old) (H.faults shelf.new)
-        → ¬ Rose (K.faults sink.old) (K.faults sink.new) → IsUnlessMemory Status.Done result)) }
-    ensures unfinished { result ≡ Status.WriteFault → IfSome (told (H.held shelf.old) file.now)
-        (OfFile (ListsInPart (K.written sink.old) (K.written sink.new))) }
-    ensures out_of_memory { result ≡ Status.OutOfMemory → IfSome (told (H.held shelf.old) file.now)
-        (OfFile (ListsAtMost (K.written sink.old) (K.written sink.new))) }
-    ensures silent { IsSilent result → K.written sink.new ≡ K.written sink.old }
-    ensures notes { Notes result (K.notes sink.old) (K.notes sink.new) }
-{
-    match list_file(alloc, file, shelf, sink, gate) {
+    let job = match read_words(alloc, words) {
+        Ok(job) => job,
+        Err(fault) => return tell(alloc, sink, fault.into()),
+    };
+    match do_job(alloc, &job, shelf, sink, gate) {
         Ok(()) => Status::Done,
         Err(stop) => tell(alloc, sink, stop),
     }
-}
-
-/// Notes why a run stops, and answers its status. The line of a text's fault needs memory.
-fn tell<K: Sink>(alloc: Global, sink: &mut K, stop: Stop) -> Status
-    ensures told { IsTold stop result (K.notes sink.old) (K.notes sink.new) }
-    ensures written { K.written sink.new ≡ K.written sink.old }
-    ensures faults { K.faults sink.new ≡ K.faults sink.old }
-{
-    if let Stop::Refused(
-        Refusal::Text {
-            number,
-            offset,
-            limit,
-        },
-    ) = stop
-    {
-        if let Ok(line) = fault_line(alloc, number, offset, limit) {
-            sink.note(line.bytes());
-            return Status::Refused;
-        }
-        sink.note(Stop::Memory.line());
-        return Status::OutOfMemory;
-    }
-    sink.note(stop.line());
-    stop.status()
 }

@@ -1,30 +1,17 @@
-//! How a run ends.
+//! Why a run stops before its end, and the line that it notes then.
 
-ghost use Rattle.std.specs.Prelude.{◌≡◌, ◌++◌, IfOk, OnOk};
-ghost use Rattle.mcs_top.specs.Endings.{fault_line, limit_words, line_of, status_of, stop_for, told_limit, HasFixedLine};
-ghost use Rattle.mcs_top.specs.declared.ending.Stop.TheVariants.{Memory};
+ghost use Rattle.std.specs.Prelude.{◌≡◌, ◌++◌, OnOk};
+ghost use Rattle.mcs_top.specs.Endings.{line_of, refusal_line, fault_line, told_limit, status_of, stop_for_words, stop_for_text, stop_for_line, IsTold, IsToldAs};
+ghost use Rattle.mcs_top.specs.declared.ending.Stop.TheVariants as stops;
 
-use mcs_base::Text;
+use crate::status::Status;
+use mcs_base::{Memory, Text};
 use mcs_language::TextFault;
+use mcs_ports::Sink;
 use mcs_system::Limit;
+use mcs_text::Unwritten;
+use mcs_words::WordsFault;
 use std::alloc::Global;
-
-/// The status of a run, by the number that the program ends with.
-#[derive(Clone, Copy, Debug, PartialEq, Eq)]
-pub enum Status {
-    /// The job was done.
-    Done = 0,
-    /// The words are no job.
-    Usage = 2,
-    /// The file is too long, or its text is no system.
-    Refused = 3,
-    /// The file could not be read.
-    ReadFault = 5,
-    /// The listing could not be written.
-    WriteFault = 6,
-    /// Memory ran out.
-    OutOfMemory = 7,
-}
 
 /// Why a file is refused.
 #[derive(Clone, Copy, Debug, PartialEq, Eq)]
@@ -53,16 +40,27 @@ pub(crate) enum Stop {
     Memory,
 }
 
-impl From<mcs_base::Memory> for Stop {
-    ghost from_gives = { λ _ stop. stop ≡ Memory };
+impl From<Memory> for Stop {
+    ghost from_gives = { λ _ stop. stop ≡ stops.Memory };
 
-    fn from(_want: mcs_base::Memory) -> Stop {
+    fn from(_want: Memory) -> Stop {
         Stop::Memory
     }
 }
 
+impl From<WordsFault> for Stop {
+    ghost from_gives = { λ fault stop. stop ≡ stop_for_words fault };
+
+    fn from(fault: WordsFault) -> Stop {
+        match fault {
+            WordsFault::Usage => Stop::Usage,
+            WordsFault::Memory => Stop::Memory,
+        }
+    }
+}
+
 impl From<TextFault> for Stop {
-    ghost from_gives = { λ fault stop. stop ≡ stop_for fault };
+    ghost from_gives = { λ fault stop. stop ≡ stop_for_text fault };
 
     fn from(fault: TextFault) -> Stop {
         match fault {
@@ -80,9 +78,20 @@ impl From<TextFault> for Stop {
     }
 }
 
+impl From<Unwritten> for Stop {
+    ghost from_gives = { λ why stop. stop ≡ stop_for_line why };
+
+    fn from(why: Unwritten) -> Stop {
+        match why {
+            Unwritten::Fault => Stop::WriteFault,
+            Unwritten::Memory => Stop::Memory,
+        }
+    }
+}
+
 impl Stop {
     /// The status of a run that stops so.
-    pub(crate) fn status(self) -> Status
+    fn status(self) -> Status
         ensures { result ≡ status_of self }
     {
         match self {
@@ -94,70 +103,92 @@ impl Stop {
         }
     }
 
-    /// The line that is noted, with its line feed, where it is always the same.
-    pub(crate) fn line(self) -> &'static [u8]
-        requires { HasFixedLine self }
-        ensures { result.now ≡ line_of self }
+    /// Appends the line that is noted, with its line feed.
+    fn push_line(self, line: &mut Text) -> Result<(), Memory>
+        ensures { OnOk result (line.new ≡ line.old ++ line_of self) }
     {
         match self {
-            Stop::Usage =>
+            Stop::Usage => line.push(
                 b"mcs: usage: mcs JOB FILE [REPORT] [--budget N] [--workers N] [--proof]\n",
-            Stop::Refused(Refusal::TooLong) => b"mcs: refused: file longer than 1048576\n",
-            Stop::Refused(Refusal::Text { .. }) => unreachable!(),
-            Stop::Refused(Refusal::Kind) => b"mcs: refused: kind\n",
-            Stop::Refused(Refusal::Size) => b"mcs: refused: size\n",
-            Stop::ReadFault => b"mcs: read fault\n",
-            Stop::WriteFault => b"mcs: write fault\n",
-            Stop::Memory => b"mcs: out of memory\n",
+            ),
+            Stop::Refused(why) => push_refusal(line, why),
+            Stop::ReadFault => line.push(b"mcs: read fault\n"),
+            Stop::WriteFault => line.push(b"mcs: write fault\n"),
+            Stop::Memory => line.push(OUT_OF_MEMORY),
         }
     }
 }
 
-/// The name of the limit and its number.
-fn limit_words(limit: Limit) -> &'static [u8]
-    ensures { result.now ≡ limit_words limit }
+/// The line that is noted where memory ran out.
+const OUT_OF_MEMORY: &[u8] = b"mcs: out of memory\n";
+
+/// Appends the line of a refusal.
+fn push_refusal(line: &mut Text, why: Refusal) -> Result<(), Memory>
+    ensures { OnOk result (line.new ≡ line.old ++ refusal_line why) }
 {
-    match limit {
-        Limit::Contexts => b"contexts 64",
-        Limit::Bridges => b"bridges 64",
-        Limit::RulesPerContext => b"rules_per_context 12",
-        Limit::Variables => b"variables 64",
-        Limit::InputsPerContext => b"inputs_per_context 16",
-        Limit::AtomsPerContext => b"atoms_per_context 64",
-        Limit::DefaultsPerContext => b"defaults_per_context 10",
-        Limit::ItemsPerContext => b"items_per_context 4096",
-        Limit::FormulaSize => b"formula_size 512",
-        Limit::OpenParentheses => b"open_parentheses 512",
-        Limit::NameBytes => b"name_bytes 64",
+    match why {
+        Refusal::TooLong => line.push(b"mcs: refused: file longer than 1048576\n"),
+        Refusal::Text {
+            number,
+            offset,
+            limit,
+        } => push_fault(line, number, offset, limit),
+        Refusal::Kind => line.push(b"mcs: refused: kind\n"),
+        Refusal::Size => line.push(b"mcs: refused: size\n"),
     }
 }
 
-/// Puts the limit at the end of the line, where there is one.
-fn push_limit(line: &mut Text, limit: Option<Limit>) -> Result<(), mcs_base::Memory>
+/// Appends the line of a text with this fault at this offset.
+#[tactic(auto, unfolding(crate::specs::Endings::fault_line))]
+fn push_fault(
+    line: &mut Text,
+    number: u8,
+    offset: usize,
+    limit: Option<Limit>,
+) -> Result<(), Memory>
+    ensures { OnOk result (line.new ≡ line.old ++ fault_line number offset limit) }
+{
+    line.push(b"mcs: refused: F")?;
+    line.push_number(number as u64)?;
+    line.push(b" at ")?;
+    line.push_number(offset as u64)?;
+    push_limit(line, limit)?;
+    line.push(b"\n")
+}
+
+/// Appends the limit, where there is one.
+fn push_limit(line: &mut Text, limit: Option<Limit>) -> Result<(), Memory>
     ensures { OnOk result (line.new ≡ line.old ++ told_limit limit) }
 {
     let Some(limit) = limit else {
         return Ok(());
     };
     line.push(b": ")?;
-    line.push(limit_words(limit))
+    line.push(limit.name())?;
+    line.push(b" ")?;
+    line.push_number(limit.most() as u64)
 }
 
-/// The line that is noted for a text with this fault at this offset.
-pub(crate) fn fault_line(
-    alloc: Global,
-    number: u8,
-    offset: usize,
-    limit: Option<Limit>,
-) -> Result<Text, mcs_base::Memory>
-    ensures { IfOk result (λ line. line ≡ fault_line number offset limit) }
+/// Notes why a run stops, and answers its status. Where there is no memory for the line, that is told instead.
+pub(crate) fn tell<K: Sink>(alloc: Global, sink: &mut K, stop: Stop) -> Status
+    ensures told { IsTold stop result (K.device sink.old) (K.device sink.new) }
+    ensures written { (K.device sink.new).written ≡ (K.device sink.old).written }
+    ensures faults { (K.device sink.new).faults ≡ (K.device sink.old).faults }
 {
     let mut line = Text::new(alloc);
-    line.push(b"mcs: refused: F")?;
-    line.push_number(number as u64)?;
-    line.push(b" at ")?;
-    line.push_number(offset as u64)?;
-    push_limit(&mut line, limit)?;
-    line.push(b"\n")?;
-    Ok(line)
+    if stop.push_line(&mut line).is_err() {
+        return note_want_of_memory(sink);
+    }
+    sink.note(line.bytes());
+    stop.status()
+}
+
+/// Notes that memory ran out, and answers that status: for a program that finds no memory before its run.
+pub fn note_want_of_memory<K: Sink>(sink: &mut K) -> Status
+    ensures told { IsToldAs stops.Memory result (K.device sink.old) (K.device sink.new) }
+    ensures written { (K.device sink.new).written ≡ (K.device sink.old).written }
+    ensures faults { (K.device sink.new).faults ≡ (K.device sink.old).faults }
+{
+    sink.note(OUT_OF_MEMORY);
+    Status::OutOfMemory
 }

@@ -1,33 +1,27 @@
 //! The equilibria of a small system of classical contexts: every state is tried.
 
-ghost use Rattle.std.specs.Prelude.{◌≡◌, ℕ, ◌^◌, ◌<◌, ◌↔◌, length, IfOk, OnOk, IsTrue};
-ghost use Rattle.std.specs.List.{AllByRecursion};
+ghost use Rattle.std.specs.Prelude.{◌≡◌, ℕ, ◌^◌, ◌<◌, ◌↔◌, length, IfOk, IsTrue};
 ghost use Rattle.mcs_sets.specs.Orders.{StateBefore};
 ghost use Rattle.mcs_base.specs.Listings.{IsListing};
-ghost use Rattle.mcs_system.specs.Systems.{variables, all_rules, IsProjected};
-ghost use Rattle.mcs_top.specs.Beliefs.{IsRight};
-ghost use Rattle.mcs_top.specs.Texts.{IsPrintable};
+ghost use Rattle.mcs_system.specs.Systems.{variables, all_rules, IsProjectedEquilibrium};
 
-use crate::answers::{Answer, part_of};
+use crate::asking::Contexts;
 use mcs_base::{Memory, Vars, list_states};
 use mcs_ports::Gate;
-use mcs_system::System;
 use std::alloc::Global;
 
 /// The projected equilibria, in the order of states.
 pub(crate) fn equilibria<G: Gate>(
     alloc: Global,
-    system: &System,
-    gate: &G,
+    contexts: &mut Contexts<G>,
 ) -> Result<Vec<Vars>, Memory>
-    requires { IsPrintable system.now }
-    ensures { IfOk result (λ states. IsListing (IsProjected system.now (all_rules system.now) 0) StateBefore states.items) }
+    ensures { IfOk result (λ states. IsListing
+        (IsProjectedEquilibrium contexts.old (all_rules contexts.old) 0) StateBefore states.items) }
 {
-    let mut answers = Vec::new(alloc);
     let mut states = Vec::new(alloc);
-    for number in 0..1u64 << system.variables().len() {
+    for number in 0..1u64 << contexts.system().variables().len() {
         let state = Vars::numbered(number);
-        if is_equilibrium(alloc, system, &mut answers, state, gate)? {
+        if is_equilibrium(contexts, state)? {
             states.push(state)?;
         }
     }
@@ -36,22 +30,16 @@ pub(crate) fn equilibria<G: Gate>(
 }
 
 /// Whether the state is a projected equilibrium.
-fn is_equilibrium<G: Gate>(
-    alloc: Global,
-    system: &System,
-    answers: &mut Vec<Answer>,
-    state: Vars,
-    gate: &G,
-) -> Result<bool, Memory>
-    requires printable { IsPrintable system.now }
-    requires state { state < 2 ^ length (variables system.now) }
-    requires right { AllByRecursion (IsRight system.now) answers.old.items }
-    ensures equilibrium { IfOk result (λ yes. IsTrue yes ↔ IsProjected system.now (all_rules system.now) 0 state) }
-    ensures right { OnOk result (AllByRecursion (IsRight system.now) answers.new.items) }
+fn is_equilibrium<G: Gate>(contexts: &mut Contexts<G>, state: Vars) -> Result<bool, Memory>
+    requires { state < 2 ^ length (variables contexts.old) }
+    ensures equilibrium { IfOk result (λ yes. IsTrue yes
+        ↔ IsProjectedEquilibrium contexts.old (all_rules contexts.old) 0 state) }
+    ensures same { contexts.new ≡ contexts.old }
 {
+    let system = contexts.system();
     for i in 0..system.contexts().len() as u32 {
         let rules = system.applicable(i, state);
-        if part_of(alloc, system, answers, i, rules, gate)? != state.common(system.vars_of(i)) {
+        if contexts.part_of(i, rules)? != state.common(system.vars_of(i)) {
             return Ok(false);
         }
     }

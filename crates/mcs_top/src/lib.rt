@@ -2,14 +2,15 @@
 //! list of equilibria.
 #![tactic(auto)]
 
-mod answers;
+mod admitted;
+mod asking;
 mod command;
 mod ending;
 mod equilibria;
 mod job;
-mod lines;
 mod printing;
-mod texts;
+mod status;
 
 pub use command::run;
-pub use ending::Status;
+pub use ending::note_want_of_memory;
+pub use status::Status;

@@ -1,169 +1,93 @@
-//! The listing, printed line by line.
+//! The listing of equilibria, printed line by line: each line is written as one piece.
 
-ghost use Rattle.std.specs.Prelude.{◌≡◌, ◌≤◌, ◌<◌, ◌++◌, OnOk, IfErr};
+ghost use Rattle.std.specs.Prelude.{◌≡◌, length, nat_lt};
+ghost use Rattle.std.specs.List.{AllByRecursion};
 ghost use Rattle.mcs_sets.specs.Sets.{Within};
-ghost use Rattle.mcs_sets.specs.Orders.{StateBefore};
-ghost use Rattle.mcs_base.specs.Listings.{IsListing};
-ghost use Rattle.mcs_ports.specs.Causes.{Rose};
-ghost use Rattle.mcs_ports.specs.Pieces.{appended};
-ghost use Rattle.mcs_system.specs.Systems.{all_variables, all_rules, IsProjected};
-ghost use Rattle.mcs_system.specs.Texts.{heading, equilibrium_line, equilibrium_lines, verdict, equilibria_end};
-ghost use Rattle.mcs_top.specs.Promise.{Prints, StopsPrinting, StopsWriting, WritesFront};
-ghost use Rattle.mcs_top.specs.Texts.{IsPrintable};
+ghost use Rattle.mcs_system.specs.Systems.{all_variables};
+ghost use Rattle.mcs_report.specs.Listing.{heading, equilibrium_line, equilibrium_lines, verdict_line, equilibria_end_line, after_heading};
+ghost use Rattle.mcs_text.specs.Writes.{Writes};
 
-use crate::ending::Stop;
-use crate::equilibria::equilibria;
-use crate::lines::{push_equilibria_end, push_equilibrium, push_heading, push_verdict};
 use mcs_base::{Text, Vars};
-use mcs_ports::{Gate, Sink, write_whole};
+use mcs_ports::Sink;
+use mcs_report::{equilibria_end_line, equilibrium_line, heading, verdict_line};
 use mcs_system::System;
+use mcs_text::{Unwritten, write_line};
 use std::alloc::Global;
 
-/// Prints the listing of the system's equilibria: each line as one piece, the heading before the first
-/// question.
-pub(crate) fn print_equilibria<K: Sink, G: Gate>(
+/// Prints the heading.
+pub(crate) fn print_heading<K: Sink>(
     alloc: Global,
     system: &System,
     sink: &mut K,
-    gate: &G,
-) -> Result<(), Stop>
-    requires { IsPrintable system.now }
-    ensures later { K.faults sink.old ≤ K.faults sink.new }
-    ensures notes { K.notes sink.new ≡ K.notes sink.old }
-    ensures ok { OnOk result (Prints system.now (K.written sink.old) (K.written sink.new)) }
-    ensures err { IfErr result (λ stop. StopsPrinting stop (Rose (K.faults sink.old) (K.faults sink.new))
-        system.now (K.written sink.old) (K.written sink.new)) }
+) -> Result<(), Unwritten>
+    ensures { Writes (heading system.now) (K.device sink.old) (K.device sink.new) result }
 {
     let mut line = Text::new(alloc);
-    print_heading(&mut line, system, sink)?;
-    let states = equilibria(alloc, system, gate)?;
-    print_listing(&mut line, system, &states, sink)
+    heading(system, &mut line)?;
+    write_line(&line, sink)
 }
 
-/// Prints what comes after the heading: a line for each state, the verdict and the last line.
-fn print_listing<K: Sink>(
-    line: &mut Text,
+/// Prints what comes after the heading: a line for each state, the verdict, and how many there are.
+pub(crate) fn print_listing<K: Sink>(
+    alloc: Global,
     system: &System,
     states: &[Vars],
     sink: &mut K,
-) -> Result<(), Stop>
-    requires { IsListing (IsProjected system.now (all_rules system.now) 0) StateBefore states.now }
-    ensures later { K.faults sink.old ≤ K.faults sink.new }
-    ensures notes { K.notes sink.new ≡ K.notes sink.old }
-    ensures ok { OnOk result (K.written sink.new ≡ appended (K.written sink.old)
-        (equilibrium_lines system.now 1 states.now ++ (verdict states.now ++ equilibria_end states.now))) }
-    ensures err { IfErr result (λ stop. StopsWriting stop (Rose (K.faults sink.old) (K.faults sink.new))
-        × WritesFront (K.written sink.old) (K.written sink.new)
-        (equilibrium_lines system.now 1 states.now ++ (verdict states.now ++ equilibria_end states.now))) }
+) -> Result<(), Unwritten>
+    requires { AllByRecursion (λ σ. Within σ (all_variables system.now)) states.now }
+    ensures { Writes (after_heading system.now states.now) (K.device sink.old) (K.device sink.new) result }
 {
-    print_states(line, system, states, sink)?;
-    print_end(line, states, sink)
+    print_states(alloc, system, states, sink)?;
+    print_verdict(alloc, !states.is_empty(), sink)?;
+    print_end(alloc, states.len() as u64, sink)
 }
 
-/// Prints the heading.
-fn print_heading<K: Sink>(line: &mut Text, system: &System, sink: &mut K) -> Result<(), Stop>
-    ensures later { K.faults sink.old ≤ K.faults sink.new }
-    ensures notes { K.notes sink.new ≡ K.notes sink.old }
-    ensures ok { OnOk result (K.written sink.new ≡ appended (K.written sink.old) (heading system.now)) }
-    ensures err { IfErr result (λ stop. StopsWriting stop (Rose (K.faults sink.old) (K.faults sink.new))
-        × WritesFront (K.written sink.old) (K.written sink.new) (heading system.now)) }
-{
-    line.clear();
-    push_heading(line, system)?;
-    write_line(line, sink)
-}
-
-/// Prints a line for each state.
+/// Prints a line for each state, numbered from 1.
 fn print_states<K: Sink>(
-    line: &mut Text,
+    alloc: Global,
     system: &System,
     states: &[Vars],
     sink: &mut K,
-) -> Result<(), Stop>
-    requires { IsListing (IsProjected system.now (all_rules system.now) 0) StateBefore states.now }
-    ensures later { K.faults sink.old ≤ K.faults sink.new }
-    ensures notes { K.notes sink.new ≡ K.notes sink.old }
-    ensures ok { OnOk result (K.written sink.new
-        ≡ appended (K.written sink.old) (equilibrium_lines system.now 1 states.now)) }
-    ensures err { IfErr result (λ stop. StopsWriting stop (Rose (K.faults sink.old) (K.faults sink.new))
-        × WritesFront (K.written sink.old) (K.written sink.new) (equilibrium_lines system.now 1 states.now)) }
+) -> Result<(), Unwritten>
+    requires { AllByRecursion (λ σ. Within σ (all_variables system.now)) states.now }
+    ensures { Writes (equilibrium_lines system.now 1 states.now) (K.device sink.old) (K.device sink.new) result }
 {
     for (k, state) in states.iter().enumerate() {
-        print_state(line, system, k as u64 + 1, *state, sink)?;
+        print_state(alloc, system, k as u64 + 1, *state, sink)?;
     }
     Ok(())
 }
 
 /// Prints the line of the equilibrium of this number.
 fn print_state<K: Sink>(
-    line: &mut Text,
+    alloc: Global,
     system: &System,
     number: u64,
     state: Vars,
     sink: &mut K,
-) -> Result<(), Stop>
+) -> Result<(), Unwritten>
     requires { Within state (all_variables system.now) }
-    ensures later { K.faults sink.old ≤ K.faults sink.new }
-    ensures notes { K.notes sink.new ≡ K.notes sink.old }
-    ensures ok { OnOk result (K.written sink.new
-        ≡ appended (K.written sink.old) (equilibrium_line system.now number state)) }
-    ensures err { IfErr result (λ stop. StopsWriting stop (Rose (K.faults sink.old) (K.faults sink.new))
-        × WritesFront (K.written sink.old) (K.written sink.new) (equilibrium_line system.now number state)) }
+    ensures { Writes (equilibrium_line system.now number state) (K.device sink.old) (K.device sink.new) result }
 {
-    line.clear();
-    push_equilibrium(line, system, number, state)?;
-    write_line(line, sink)
+    let mut line = Text::new(alloc);
+    equilibrium_line(system, number, state, &mut line)?;
+    write_line(&line, sink)
 }
 
-/// Prints the verdict and the last line.
-fn print_end<K: Sink>(line: &mut Text, states: &[Vars], sink: &mut K) -> Result<(), Stop>
-    ensures later { K.faults sink.old ≤ K.faults sink.new }
-    ensures notes { K.notes sink.new ≡ K.notes sink.old }
-    ensures ok { OnOk result (K.written sink.new
-        ≡ appended (K.written sink.old) (verdict states.now ++ equilibria_end states.now)) }
-    ensures err { IfErr result (λ stop. StopsWriting stop (Rose (K.faults sink.old) (K.faults sink.new))
-        × WritesFront (K.written sink.old) (K.written sink.new) (verdict states.now ++ equilibria_end states.now)) }
+/// Prints whether there is an equilibrium.
+fn print_verdict<K: Sink>(alloc: Global, consistent: bool, sink: &mut K) -> Result<(), Unwritten>
+    ensures { Writes (verdict_line consistent) (K.device sink.old) (K.device sink.new) result }
 {
-    print_verdict(line, states, sink)?;
-    print_last(line, states, sink)
+    let mut line = Text::new(alloc);
+    verdict_line(consistent, &mut line)?;
+    write_line(&line, sink)
 }
 
-/// Prints the verdict.
-fn print_verdict<K: Sink>(line: &mut Text, states: &[Vars], sink: &mut K) -> Result<(), Stop>
-    ensures later { K.faults sink.old ≤ K.faults sink.new }
-    ensures notes { K.notes sink.new ≡ K.notes sink.old }
-    ensures ok { OnOk result (K.written sink.new ≡ appended (K.written sink.old) (verdict states.now)) }
-    ensures err { IfErr result (λ stop. StopsWriting stop (Rose (K.faults sink.old) (K.faults sink.new))
-        × WritesFront (K.written sink.old) (K.written sink.new) (verdict states.now)) }
+/// Prints how many equilibria there are.
+fn print_end<K: Sink>(alloc: Global, equilibria: u64, sink: &mut K) -> Result<(), Unwritten>
+    ensures { Writes (equilibria_end_line equilibria) (K.device sink.old) (K.device sink.new) result }
 {
-    line.clear();
-    push_verdict(line, states)?;
-    write_line(line, sink)
-}
-
-/// Prints the last line.
-fn print_last<K: Sink>(line: &mut Text, states: &[Vars], sink: &mut K) -> Result<(), Stop>
-    ensures later { K.faults sink.old ≤ K.faults sink.new }
-    ensures notes { K.notes sink.new ≡ K.notes sink.old }
-    ensures ok { OnOk result (K.written sink.new ≡ appended (K.written sink.old) (equilibria_end states.now)) }
-    ensures err { IfErr result (λ stop. StopsWriting stop (Rose (K.faults sink.old) (K.faults sink.new))
-        × WritesFront (K.written sink.old) (K.written sink.new) (equilibria_end states.now)) }
-{
-    line.clear();
-    push_equilibria_end(line, states)?;
-    write_line(line, sink)
-}
-
-/// Writes the line as one piece.
-fn write_line<K: Sink>(line: &Text, sink: &mut K) -> Result<(), Stop>
-    ensures later { K.faults sink.old ≤ K.faults sink.new }
-    ensures notes { K.notes sink.new ≡ K.notes sink.old }
-    ensures ok { OnOk result (K.written sink.new ≡ appended (K.written sink.old) line.now) }
-    ensures err { IfErr result (λ stop. StopsWriting stop (Rose (K.faults sink.old) (K.faults sink.new))
-        × WritesFront (K.written sink.old) (K.written sink.new) line.now) }
-{
-    match write_whole(sink, line.bytes()) {
-        Ok(()) => Ok(()),
-        Err(_) => Err(Stop::WriteFault),
-    }
+    let mut line = Text::new(alloc);
+    equilibria_end_line(equilibria, &mut line)?;
+    write_line(&line, sink)
 }

@@ -1,45 +1,68 @@
-use Rattle.std.proofs.Common.{ap, ◌∙◌}
-use Rattle.mcs_top.proofs.JobLemmas.{one_file, of_job, if_job, at_most}
-use Rattle.mcs_top.specs.Jobs.{told}
-use Rattle.mcs_words.specs.Commands.{equilibria}
+use Rattle.std.proofs.Common.{◌≡◌, ◌∙◌, inl, inr, sym}
 use Rattle.mcs_ports.specs.Causes.{Rose}
-use Rattle.mcs_top.specs.Promise.{IfFile, HasSystem, IsUnlessMemory}
-use Rattle.mcs_top.specs.Texts.{IsRefusedFor}
+use Rattle.mcs_words.specs.Reading.{request_of}
+use Rattle.mcs_top.specs.Promise.{IsRefusal, LacksFile, CanBeDone, IsUnlessMemory}
 use Rattle.mcs_top.specs.declared.ending.Refusal.{Refusal}
-use Rattle.mcs_top.specs.declared.ending.Status.TheVariants as statuses
+use Rattle.mcs_top.specs.declared.status.Status.TheVariants as statuses
+use Rattle.mcs_top.proofs.JobLemmas.{if_job}
+use Rattle.mcs_top.proofs.EndingLemmas.{words_told, memory_refuses, memory_misses, memory_completes, done_refuses, done_misses, stop_refuses, stop_misses, stop_completes}
 use Rattle.mcs_top.proofs.command.run.Goals as goal
 
-pub returns-in-Ok-clause-no_job : goal.returns-in-Ok-clause-no_job
-returns-in-Ok-clause-no_job g c none = absurd (none _ c.in-Ok.ensures)
+-- ---- words that are no job
+pub returns-in-Err-clause-usage : goal.returns-in-Err-clause-usage
+returns-in-Err-clause-usage g c is job asked = elim (words_told c.in-Err.fault c.into.result c.tell.result _ _ c.into.ensures c.tell.ensures.told) [
+  | inl both ↦ c.in-Err.ensures both.1 job asked
+  | inr want ↦ (let no : statuses.Usage ≡ statuses.OutOfMemory = sym is ∙ want in cc)
+]
 
-pub returns-in-Ok-clause-refusal : goal.returns-in-Ok-clause-refusal
-returns-in-Ok-clause-refusal g c =
-    if_job _ _ _ c.in-Ok.ensures c.file_of.ensures (g.H.Shelf.held c.args.shelf.now)
-    (IfFile (λ bytes. (why : Refusal) → IsRefusedFor why bytes → ¬ Rose (g.H.Shelf.faults c.args.shelf.now) (g.H.Shelf.faults c.list.new.shelf) → IsUnlessMemory statuses.Refused c.list.result)) c.list.ensures.refusal
+pub returns-in-Err-clause-refusal : goal.returns-in-Err-clause-refusal
+returns-in-Err-clause-refusal g c job asked = elim (words_told c.in-Err.fault c.into.result c.tell.result _ _ c.into.ensures c.tell.ensures.told) [
+  | inl both ↦ absurd (c.in-Err.ensures both.1 job asked)
+  | inr want ↦ memory_refuses c.tell.result want job _ _
+]
 
-pub returns-in-Ok-clause-missing : goal.returns-in-Ok-clause-missing
-returns-in-Ok-clause-missing g c other named there = c.list.ensures.missing (ap (told _) (one_file _ _ _ c.in-Ok.ensures c.file_of.ensures other named) ∙ there)
+pub returns-in-Err-clause-missing : goal.returns-in-Err-clause-missing
+returns-in-Err-clause-missing g c job asked = elim (words_told c.in-Err.fault c.into.result c.tell.result _ _ c.into.ensures c.tell.ensures.told) [
+  | inl both ↦ absurd (c.in-Err.ensures both.1 job asked)
+  | inr want ↦ memory_misses c.tell.result want job _
+]
 
-pub returns-in-Ok-clause-done : goal.returns-in-Ok-clause-done
-returns-in-Ok-clause-done g c e = of_job _ _ _ c.in-Ok.ensures c.file_of.ensures _ _ (c.list.ensures.done e)
+pub returns-in-Err-clause-complete : goal.returns-in-Err-clause-complete
+returns-in-Err-clause-complete g c job asked = elim (words_told c.in-Err.fault c.into.result c.tell.result _ _ c.into.ensures c.tell.ensures.told) [
+  | inl both ↦ absurd (c.in-Err.ensures both.1 job asked)
+  | inr want ↦ memory_completes c.tell.result want job _ _ _
+]
 
-pub returns-in-Ok-clause-complete : goal.returns-in-Ok-clause-complete
-returns-in-Ok-clause-complete g c =
-    if_job _ _ _ c.in-Ok.ensures c.file_of.ensures (g.H.Shelf.held c.args.shelf.now)
-    (IfFile (λ bytes. HasSystem bytes → ¬ Rose (g.H.Shelf.faults c.args.shelf.now) (g.H.Shelf.faults c.list.new.shelf) → ¬ Rose (g.K.Sink.faults c.args.sink.now) (g.K.Sink.faults c.list.new.sink) → IsUnlessMemory statuses.Done c.list.result)) c.list.ensures.complete
+-- ---- a job that was done
+pub returns-in-Ok-do_job-clause-no_job : goal.returns-in-Ok-do_job-clause-no_job
+returns-in-Ok-do_job-clause-no_job g c none = absurd (none (request_of c.in-Ok.job) c.in-Ok.ensures)
 
-pub returns-in-Ok-clause-unfinished : goal.returns-in-Ok-clause-unfinished
-returns-in-Ok-clause-unfinished g c e = of_job _ _ _ c.in-Ok.ensures c.file_of.ensures _ _ (c.list.ensures.unfinished e)
+pub returns-in-Ok-do_job-clause-refusal : goal.returns-in-Ok-do_job-clause-refusal
+returns-in-Ok-do_job-clause-refusal g c =
+    if_job _ (request_of c.in-Ok.job) c.in-Ok.ensures (g.H.Shelf.held c.args.shelf.now) (λ job files. (why : Refusal) → IsRefusal why job files → ¬ Rose (g.H.Shelf.faults c.args.shelf.now) (g.H.Shelf.faults c.do_job.new.shelf) → IsUnlessMemory statuses.Refused statuses.Done)
+    (done_refuses statuses.Done (request_of c.in-Ok.job) _ _ _ _ c.in-Ok-do_job.ensures.ok)
 
-pub returns-in-Ok-clause-out_of_memory :
-    goal.returns-in-Ok-clause-out_of_memory
-returns-in-Ok-clause-out_of_memory g c e = at_most _ _ _ c.in-Ok.ensures c.file_of.ensures _ _ _ (c.list.ensures.out_of_memory e)
+pub returns-in-Ok-do_job-clause-missing : goal.returns-in-Ok-do_job-clause-missing
+returns-in-Ok-do_job-clause-missing g c =
+    if_job _ (request_of c.in-Ok.job) c.in-Ok.ensures (g.H.Shelf.held c.args.shelf.now) (λ job files. LacksFile job files → IsUnlessMemory statuses.ReadFault statuses.Done)
+    (done_misses statuses.Done (request_of c.in-Ok.job) _ _ _ c.in-Ok-do_job.ensures.ok)
 
-pub returns-in-Err-Usage-clause-refusal : goal.returns-in-Err-Usage-clause-refusal
-returns-in-Err-Usage-clause-refusal g c other named = absurd (c.in-Err-Usage.ensures c.in-Err-Usage.field-0-is (equilibria other named.0 named.1.0) named.1.1)
+-- ---- a job that stopped
+pub returns-clause-no_job : goal.returns-clause-no_job
+returns-clause-no_job g c none = absurd (none (request_of c.in-Ok.job) c.in-Ok.ensures)
 
-pub returns-in-Err-Usage-clause-missing : goal.returns-in-Err-Usage-clause-missing
-returns-in-Err-Usage-clause-missing g c other named = absurd (c.in-Err-Usage.ensures c.in-Err-Usage.field-0-is (equilibria other named.0 named.1.0) named.1.1)
+pub returns-clause-refusal : goal.returns-clause-refusal
+returns-clause-refusal g c =
+    if_job _ (request_of c.in-Ok.job) c.in-Ok.ensures (g.H.Shelf.held c.args.shelf.now) (λ job files. (why : Refusal) → IsRefusal why job files → ¬ Rose (g.H.Shelf.faults c.args.shelf.now) (g.H.Shelf.faults c.do_job.new.shelf) → IsUnlessMemory statuses.Refused c.tell-in-Err-do_job.result)
+    (stop_refuses c.in-Err-do_job.stop c.tell-in-Err-do_job.result _ _ c.tell-in-Err-do_job.ensures.told _ _ (request_of c.in-Ok.job) _ c.in-Err-do_job.ensures.cause _ _ c.in-Err-do_job.ensures.leaves)
 
-pub returns-in-Err-Usage-clause-complete : goal.returns-in-Err-Usage-clause-complete
-returns-in-Err-Usage-clause-complete g c other named = absurd (c.in-Err-Usage.ensures c.in-Err-Usage.field-0-is (equilibria other named.0 named.1.0) named.1.1)
+pub returns-clause-missing : goal.returns-clause-missing
+returns-clause-missing g c =
+    if_job _ (request_of c.in-Ok.job) c.in-Ok.ensures (g.H.Shelf.held c.args.shelf.now) (λ job files. LacksFile job files → IsUnlessMemory statuses.ReadFault c.tell-in-Err-do_job.result)
+    (stop_misses c.in-Err-do_job.stop c.tell-in-Err-do_job.result _ _ c.tell-in-Err-do_job.ensures.told _ _ (request_of c.in-Ok.job) _ c.in-Err-do_job.ensures.cause _ _ c.in-Err-do_job.ensures.leaves)
+
+pub returns-clause-complete : goal.returns-clause-complete
+returns-clause-complete g c =
+    if_job _ (request_of c.in-Ok.job) c.in-Ok.ensures (g.H.Shelf.held c.args.shelf.now)
+    (λ job files. CanBeDone job files → ¬ Rose (g.H.Shelf.faults c.args.shelf.now) (g.H.Shelf.faults c.do_job.new.shelf) → ¬ Rose (g.K.Sink.device c.args.sink.now).faults (g.K.Sink.device c.tell-in-Err-do_job.new.sink).faults → IsUnlessMemory statuses.Done c.tell-in-Err-do_job.result)
+    (rw c.tell-in-Err-do_job.ensures.faults (stop_completes c.in-Err-do_job.stop c.tell-in-Err-do_job.result _ _ c.tell-in-Err-do_job.ensures.told _ _ (request_of c.in-Ok.job) _ c.in-Err-do_job.ensures.cause _ _ c.in-Err-do_job.ensures.leaves))

@@ -1,10 +1,9 @@
-use Rattle.std.specs.List.{AllByRecursion}
-use Rattle.mcs_top.specs.Beliefs.{IsRight}
+use Rattle.std.proofs.Common.{◌≡◌}
 use Rattle.mcs_top.proofs.EquilibriumLemmas.{AcceptsBelow}
 use Rattle.mcs_top.proofs.equilibria.is_equilibrium.Given as goal
 
 abbrev pub invariant-loop-i : goal.invariant-loop-i
 invariant-loop-i g l = record {
   accepts : AcceptsBelow l.system l.state l.i;
-  right : AllByRecursion (IsRight l.system) l.answers.items;
+  same : l.contexts ≡ l.fn.contexts;
 }
