@@ -8,7 +8,7 @@ use Rattle.mcs_base.specs.Listings.{IsAmong}
 use Rattle.mcs_base.proofs.Among.{among_left, among_either, among_get, among_flat_map, flat_map_among}
 use Rattle.mcs_system.specs.Plain.{Name}
 use Rattle.mcs_language.specs.Written.{WrittenText}
-use Rattle.mcs_language.specs.Marks.{Use, BeginsContext, NamesContext, NamesBridge, SaysProgram, NamesTarget, NamesSource, Mark, context_marks, bridge_marks, text_marks, uses_of}
+use Rattle.mcs_language.specs.Entries.{Use, BeginsContext, NamesContext, NamesBridge, SaysProgram, NamesTarget, NamesSource, Entry, context_entries, bridge_entries, text_entries, uses_of}
 use Rattle.mcs_language.specs.Watching.{context_named, bridge_named, contexts_named, bridges_named}
 use Rattle.mcs_language.proofs.UsesLemmas.{text_uses, names-there, targets-there, sources-there, programs-there, IsBefore}
 
@@ -35,11 +35,11 @@ contexts_alone t = record { contexts = t.contexts; bridges = [] }
 abbrev rules_alone : WrittenText → WrittenText
 rules_alone t = record { contexts = []; bridges = t.bridges }
 
-abbrev context_part : WrittenText → List Mark
-context_part t = flat_map context_marks t.contexts
+abbrev context_part : WrittenText → List Entry
+context_part t = flat_map context_entries t.contexts
 
-abbrev rule_part : WrittenText → List Mark
-rule_part t = flat_map bridge_marks t.bridges
+abbrev rule_part : WrittenText → List Entry
+rule_part t = flat_map bridge_entries t.bridges
 
 alone : (t : WrittenText) → text_uses (contexts_alone t) ≡ uses_of (context_part t)
 alone t = ap uses_of (append-nil (context_part t))
@@ -59,49 +59,49 @@ no-program : (t : WrittenText) (c : Name) → ¬ IsAmong (SaysProgram c) (uses_o
 no-program t c h = let found = (programs-there (rules_alone t) c).0 h in found.1
 
 -- ---- a token of a rule comes after all of the contexts
-pub record IsLater (ms ns : List Mark) (k : ℕ) (m : Mark) : Type 0 where
+pub record IsLater (ms ns : List Entry) (k : ℕ) (m : Entry) : Type 0 where
   pub number : ℕ
   pub before : take k (ms ++ ns) ≡ ms ++ take number ns
   pub there : IsAmong m ns
 
-which-part : (ms ns : List Mark) (k : ℕ) (m : Mark) → slice_get (ms ++ ns) k ≡ Some m → IsAmong m ms ⊎ IsLater ms ns k m
+which-part : (ms ns : List Entry) (k : ℕ) (m : Entry) → slice_get (ms ++ ns) k ≡ Some m → IsAmong m ms ⊎ IsLater ms ns k m
 which-part [] ns k m is = inr (record { number = k; before = refl; there = among_get m ns k is })
 which-part (x ∷ xs) ns zero m is = inl (inl (sym (same_Some _ _ is)))
 which-part (x ∷ xs) ns (suc k) m is = elim (which-part xs ns k m is) [
   | inl here ↦ inl (inr here)
-  | inr later ↦ inr (record { number = later.number; before = ap (λ (ys : List Mark). x ∷ ys) later.before; there = later.there })
+  | inr later ↦ inr (record { number = later.number; before = ap (λ (ys : List Entry). x ∷ ys) later.before; there = later.there })
 ]
 
 -- what is among the uses of the contexts, or of the rules
 uses-parts : (t : WrittenText) (u : Use) → IsAmong u (text_uses t) → IsAmong u (uses_of (context_part t)) ⊎ IsAmong u (uses_of (rule_part t))
-uses-parts t u h = among_either u (uses_of (context_part t)) (uses_of (rule_part t)) (subst (IsAmong u) (flat_map-append (λ (m : Mark). m.uses) (context_part t) (rule_part t)) h)
+uses-parts t u h = among_either u (uses_of (context_part t)) (uses_of (rule_part t)) (subst (IsAmong u) (flat_map-append (λ (m : Entry). m.uses) (context_part t) (rule_part t)) h)
 
--- of a mark that is there for a use that no token of a context is there for
-later-is-before : (t : WrittenText) (k : ℕ) (m : Mark) → IsLater (context_part t) (rule_part t) k m → IsBefore t (uses_of (take k (text_marks t)))
+-- of a entry that is there for a use that no token of a context is there for
+later-is-before : (t : WrittenText) (k : ℕ) (m : Entry) → IsLater (context_part t) (rule_part t) k m → IsBefore t (uses_of (take k (text_entries t)))
 later-is-before t k m later = record {
   named = λ c h. elim (uses-parts t (NamesContext c) h) [ inl here ↦ earlier (NamesContext c) here | inr there ↦ absurd (no-name t c there) ];
   programs = λ c h. elim (uses-parts t (SaysProgram c) h) [ inl here ↦ earlier (SaysProgram c) here | inr there ↦ absurd (no-program t c there) ];
 }
   where
-    earlier : (u : Use) → IsAmong u (uses_of (context_part t)) → IsAmong u (uses_of (take k (text_marks t)))
+    earlier : (u : Use) → IsAmong u (uses_of (context_part t)) → IsAmong u (uses_of (take k (text_entries t)))
     earlier u here =
-        let first : List Mark = context_part t in
-        let rest : List Mark = take later.number (rule_part t) in
-        let parts : uses_of (take k (text_marks t)) ≡ uses_of first ++ uses_of rest = ap uses_of later.before ∙ flat_map-append (λ (x : Mark). x.uses) first rest in
+        let first : List Entry = context_part t in
+        let rest : List Entry = take later.number (rule_part t) in
+        let parts : uses_of (take k (text_entries t)) ≡ uses_of first ++ uses_of rest = ap uses_of later.before ∙ flat_map-append (λ (x : Entry). x.uses) first rest in
         subst (IsAmong u) (sym parts) (among_left u (uses_of first) (uses_of rest) here)
 
-module _ (t : WrittenText) (k : ℕ) (m : Mark) (is : slice_get (text_marks t) k ≡ Some m) where
-  in-rules : (¬ IsAmong m (context_part t)) → IsBefore t (uses_of (take k (text_marks t)))
+module _ (t : WrittenText) (k : ℕ) (m : Entry) (is : slice_get (text_entries t) k ≡ Some m) where
+  in-rules : (¬ IsAmong m (context_part t)) → IsBefore t (uses_of (take k (text_entries t)))
   in-rules other = elim (which-part (context_part t) (rule_part t) k m is) [
     | inl here ↦ absurd (other here)
     | inr later ↦ later-is-before t k m later
   ]
 
   use-there : (u : Use) → IsAmong u m.uses → IsAmong m (context_part t) → IsAmong u (uses_of (context_part t))
-  use-there u h there = among_flat_map (λ (x : Mark). x.uses) m u (context_part t) there h
+  use-there u h there = among_flat_map (λ (x : Entry). x.uses) m u (context_part t) there h
 
-  pub before-target : (c : Name) → IsAmong (NamesTarget c) m.uses → IsBefore t (uses_of (take k (text_marks t)))
+  pub before-target : (c : Name) → IsAmong (NamesTarget c) m.uses → IsBefore t (uses_of (take k (text_entries t)))
   before-target c h = in-rules (λ there. no-target t c (use-there (NamesTarget c) h there))
 
-  pub before-source : (c : Name) → IsAmong (NamesSource c) m.uses → IsBefore t (uses_of (take k (text_marks t)))
+  pub before-source : (c : Name) → IsAmong (NamesSource c) m.uses → IsBefore t (uses_of (take k (text_entries t)))
   before-source c h = in-rules (λ there. no-source t c (use-there (NamesSource c) h there))

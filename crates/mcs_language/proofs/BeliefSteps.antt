@@ -20,7 +20,7 @@ use Rattle.mcs_language.specs.declared.place.Uses as code_uses
 use Rattle.mcs_language.specs.declared.place.Step as code_step
 use Rattle.mcs_language.specs.declared.place.Step.TheVariants as answers
 use Rattle.mcs_language.specs.Written.{Written, Named, Denied, WrittenRead, WrittenBridge}
-use Rattle.mcs_language.specs.Marks.{Token, Use, BeginsItem, BeginsBelief, BeginsDefault, EndsRead, SaysProgram, AtomOf, IsNumber, Mark, mark, formula_in}
+use Rattle.mcs_language.specs.Entries.{Token, Use, BeginsItem, BeginsBelief, BeginsDefault, EndsRead, SaysProgram, AtomOf, IsNumber, Entry, entry, formula_in}
 use Rattle.mcs_language.specs.FormulaSteps.{Pending, Tilde, Parenthesis, And, Or, Implies, Iff, PartFormula, is_name_word, size_all, settle, formula_step, finished, finished_primary}
 use Rattle.mcs_language.specs.FormulaImages.{Waiting, ToDeny, ToClose, ToAnd, ToOr, ToImply, ToEqual, waiting_of, waiting_in, AreStacked, IsImage, IsReader}
 use Rattle.mcs_language.specs.TextSteps.{Place, InHead, AfterHead, InRead, AfterRead, PartText, goes, first_of_belief, place_of, headed, with_read, in_read, step_at}
@@ -136,12 +136,12 @@ when-capped c true = refl
 when-capped c false = refl
 
 -- it is there for this within a belief of the context, and not for the item
-pub record IsWithin (c : Name) (f : PartFormula) (t : Token) (r : Mark × PartFormula) (u : code_uses.Uses) : Type 0 where
+pub record IsWithin (c : Name) (f : PartFormula) (t : Token) (r : Entry × PartFormula) (u : code_uses.Uses) : Type 0 where
   pub role : map capped (r.0).uses ≡ role_uses (about_context c) t u.role
   pub first : first_of_belief c f ≡ when u.begins_belief (BeginsBelief c)
   pub item : u.begins_item ≡ false
 
-module _ (a : About) (f : PartFormula) (t : Token) (r : Mark × PartFormula) (u : code_uses.Uses) (h : IsWithin a.subject.context f t r u) where
+module _ (a : About) (f : PartFormula) (t : Token) (r : Entry × PartFormula) (u : code_uses.Uses) (h : IsWithin a.subject.context f t r u) where
   abbrev inner : List Use
   inner = when u.begins_belief (BeginsBelief a.subject.context) ++ role_uses a t u.role
 
@@ -170,7 +170,7 @@ by-end {P} s free ends = at (finished_primary s) refl
     at (Some w) e = ends w e
 
 -- ---- a head
-module _ (name context : Name) (s : PartText) (f : PartFormula) (t : Token) (r : Mark × PartFormula) (step : formula_step context f t ≡ Some r) (u : code_uses.Uses) (within : IsWithin context f t r u) (inside : u.ends_read ≡ false) where
+module _ (name context : Name) (s : PartText) (f : PartFormula) (t : Token) (r : Entry × PartFormula) (step : formula_step context f t ≡ Some r) (u : code_uses.Uses) (within : IsWithin context f t r u) (inside : u.ends_read ≡ false) where
   abbrev head-uses : List Use
   head-uses = first_of_belief context f ++ (r.0).uses
 
@@ -207,7 +207,7 @@ last-more [] r = refl
 last-more (x ∷ []) r = refl
 last-more (x ∷ y ∷ rs) r = last-more (y ∷ rs) r
 
-module _ (w : WrittenBridge) (denied : Bool) (context : Name) (s : PartText) (f : PartFormula) (t : Token) (r : Mark × PartFormula) (step : formula_step context f t ≡ Some r) (u : code_uses.Uses) (within : IsWithin context f t r u) where
+module _ (w : WrittenBridge) (denied : Bool) (context : Name) (s : PartText) (f : PartFormula) (t : Token) (r : Entry × PartFormula) (step : formula_step context f t ≡ Some r) (u : code_uses.Uses) (within : IsWithin context f t r u) where
   abbrev read-uses : List Use
   read-uses = first_of_belief context f ++ (r.0).uses
 
@@ -275,5 +275,5 @@ module _ (w : WrittenBridge) (denied : Bool) (context : Name) (s : PartText) (f 
       ))
 
 -- a name where an operand has to come is taken, however long it is
-pub long-settled : (c : Name) (f : PartFormula) (t : Token) → f.operand ≡ None → IsTrue (is_name_word t) → (m : Mark) × (formula_step c f t ≡ Some (m, settle f.pending (Named t)))
-long-settled c f t none word = at-none (λ x. (m : Mark) × (formula_step c x t ≡ Some (m, settle f.pending (Named t)))) f none (mark t (AtomOf c t ∷ IsNumber (size_all f.pending + 1) ∷ []), name-step c f.pending (size_all f.pending) t word refl)
+pub long-settled : (c : Name) (f : PartFormula) (t : Token) → f.operand ≡ None → IsTrue (is_name_word t) → (m : Entry) × (formula_step c f t ≡ Some (m, settle f.pending (Named t)))
+long-settled c f t none word = at-none (λ x. (m : Entry) × (formula_step c x t ≡ Some (m, settle f.pending (Named t)))) f none (entry t (AtomOf c t ∷ IsNumber (size_all f.pending + 1) ∷ []), name-step c f.pending (size_all f.pending) t word refl)

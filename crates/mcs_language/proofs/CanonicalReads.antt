@@ -10,7 +10,7 @@ use Rattle.mcs_system.specs.Plain.{Name, Formula, Truth, Falsity, Atom, Not, And
 use Rattle.mcs_system.specs.Plain as plain
 use Rattle.mcs_system.proofs.ValidLemmas.{limit_kept}
 use Rattle.mcs_language.specs.Canonical.{canonical_text}
-use Rattle.mcs_language.specs.Marks.{Mark, formula_in, size_of, text_marks, tokens_of}
+use Rattle.mcs_language.specs.Entries.{Entry, formula_in, size_of, text_entries, tokens_of}
 use Rattle.mcs_system.specs.Naming.{IsNamed}
 use Rattle.mcs_language.specs.Saying.{SaysSystem}
 use Rattle.mcs_language.specs.Texts.{Spells}
@@ -129,18 +129,18 @@ module _ (m : System) (named : IsNamed m) (valid : IsValid m) where
       let atom : f ≡ Atom a = sym (primary-said f) ∙ (ap formula_in (sym is) ∙ says) in
       is ∙ ap primary_written atom
 
-  short-mark : (ms : List Mark) (k : Mark) → AreShort (tokens_of ms) → IsAmong k ms → length k.token ≤ most_name_bytes
-  short-mark [] k h there = absurd there
-  short-mark (x ∷ ms) k h (inl e) = subst (λ (y : Mark). length y.token ≤ most_name_bytes) (sym e) h.0
-  short-mark (x ∷ ms) k h (inr there) = short-mark ms k h.1 there
+  short-entry : (ms : List Entry) (k : Entry) → AreShort (tokens_of ms) → IsAmong k ms → length k.token ≤ most_name_bytes
+  short-entry [] k h there = absurd there
+  short-entry (x ∷ ms) k h (inl e) = subst (λ (y : Entry). length y.token ≤ most_name_bytes) (sym e) h.0
+  short-entry (x ∷ ms) k h (inr there) = short-entry ms k h.1 there
 
   canonical-short : HasShortNames (canonical_written m)
-  canonical-short k there name = short-mark (text_marks (canonical_written m)) k ((canonical-spelled m named valid).short) there
+  canonical-short k there name = short-entry (text_entries (canonical_written m)) k ((canonical-spelled m named valid).short) there
 
   pub canonical-spells : Spells (canonical_text m) m
   canonical-spells =
       let t = canonical_written m in
       let right : IsText t = canonical-right m named valid in
       let says : SaysSystem t m = canonical-says m named valid in
-      let has = tokens-of-text (canonical_text m) (text_marks t) (canonical-spelled m named valid) in
+      let has = tokens-of-text (canonical_text m) (text_entries t) (canonical-spelled m named valid) in
       spells-whole (canonical_text m) has.spans t m has.are has.texts right says (no-faults t m right says valid canonical-shallow canonical-short canonical-bare)

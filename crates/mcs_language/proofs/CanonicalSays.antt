@@ -14,7 +14,7 @@ use Rattle.mcs_system.specs.Plain.{Name, Formula, Truth, Falsity, Atom, Not, And
 use Rattle.mcs_system.specs.Plain as plain
 use Rattle.mcs_system.specs.Texts.{name_of_context}
 use Rattle.mcs_system.proofs.ValidLemmas.{tests_pass}
-use Rattle.mcs_language.specs.Marks.{formula_in}
+use Rattle.mcs_language.specs.Entries.{formula_in}
 use Rattle.mcs_language.specs.Saying.{item_in, positive_atoms, negative_atoms, rule_in, kb_in, context_in, SaysPlace, Each, positive_places, negative_places, SaysBridge, names_of, SaysSystem}
 use Rattle.mcs_system.specs.Naming.{IsNamed}
 use Rattle.mcs_language.proofs.CanonicalWritten.{primary_written, formula_written, with_justs, item_written, body_written, rule_written, kb_written, context_written, place_written, reads_written, bridge_written, canonical_written}

@@ -9,7 +9,7 @@ use Rattle.mcs_base.proofs.Among.{among_left, among_right, among_either}
 use Rattle.mcs_system.specs.Plain.{Name}
 use Rattle.mcs_language.specs.declared.watch.Watch.{Watch}
 use Rattle.mcs_language.specs.declared.watch.ContextSeen.{ContextSeen}
-use Rattle.mcs_language.specs.Marks.{Use, BeginsContext, BeginsBridge, NamesContext, NamesBridge, SaysProgram, BeginsItem, BeginsDefault, NamesTarget, NamesSource, BeginsBelief, EndsRead, AtomOf, IsNumber, OpensWithin}
+use Rattle.mcs_language.specs.Entries.{Use, BeginsContext, BeginsBridge, NamesContext, NamesBridge, SaysProgram, BeginsItem, BeginsDefault, NamesTarget, NamesSource, BeginsBelief, EndsRead, AtomOf, IsNumber, OpensWithin}
 use Rattle.mcs_language.specs.Faults.{begins_context, begins_bridge, names_target, begins_default_of, begins_item_of, AreDifferent, NamedRead, WasRead, WasAtom}
 use Rattle.mcs_language.specs.TextImages.{read_of, capped}
 use Rattle.mcs_language.specs.Watching.{context_named, bridge_named, contexts_named, bridges_named, Lists, IsSeen, IsSpokenOf, IsWatch}

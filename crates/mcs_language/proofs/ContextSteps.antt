@@ -10,7 +10,7 @@ use Rattle.mcs_system.specs.Logic.{same_name}
 use Rattle.mcs_system.proofs.Sameness.{same_name-itself}
 use Rattle.mcs_language.specs.declared.watch.Watch.{Watch}
 use Rattle.mcs_language.specs.declared.watch.ContextSeen.{ContextSeen}
-use Rattle.mcs_language.specs.Marks.{Use, SaysProgram, BeginsItem, BeginsDefault, NamesTarget, AtomOf}
+use Rattle.mcs_language.specs.Entries.{Use, SaysProgram, BeginsItem, BeginsDefault, NamesTarget, AtomOf}
 use Rattle.mcs_language.specs.Faults.{names_target, begins_default_of, begins_item_of, WasAtom}
 use Rattle.mcs_language.specs.TextImages.{read_of}
 use Rattle.mcs_language.specs.Watching.{Lists, IsSeen, IsSpokenOf, names_seen, IsWatch, IsNumberOf, IsAllowed}

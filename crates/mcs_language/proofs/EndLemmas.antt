@@ -16,7 +16,7 @@ use Rattle.mcs_tokens.specs.declared.scan.Span.{Span}
 use Rattle.mcs_language.specs.declared.reader.Parts.{Parts}
 use Rattle.mcs_language.specs.declared.reading.Reading.{Reading}
 use Rattle.mcs_language.specs.Written.{WrittenRead, WrittenContext, WrittenBridge, WrittenText, IsText}
-use Rattle.mcs_language.specs.Marks.{Use, NamesContext, Mark, text_marks, tokens_of, uses_of}
+use Rattle.mcs_language.specs.Entries.{Use, NamesContext, Entry, text_entries, tokens_of, uses_of}
 use Rattle.mcs_language.specs.Saying.{context_in, names_of, Each, SaysBridge, SaysSystem}
 use Rattle.mcs_language.specs.Texts.{token_texts, Spells}
 use Rattle.mcs_language.specs.TextSteps.{Place, Between, finished_text}
@@ -88,11 +88,11 @@ names-same cs ws e = sym (code-names cs) ∙ ap names_in e ∙ written-names ws
 -- ---- the whole text
 module _ (bytes : List ℕ) (spans : List Span) (r : Reading) (tokens : AreTokens bytes 0 spans) (h : IsUpTo r (token_texts bytes spans) (length spans))
     (contexts : List code_context.Context) (t : WrittenText) (ends : finished_text h.state ≡ Some t) (contexts-are : map context_of contexts ≡ map context_in t.contexts) where
-  whole : IsText t × (text_marks t ≡ h.marks) × (tokens_of (text_marks t) ≡ token_texts bytes spans)
-  whole = is-whole (token_texts bytes spans) (length spans) h.marks h.state t (reached r (token_texts bytes spans) (length spans) h) (tokens-many bytes spans) ends
+  whole : IsText t × (text_entries t ≡ h.entries) × (tokens_of (text_entries t) ≡ token_texts bytes spans)
+  whole = is-whole (token_texts bytes spans) (length spans) h.entries h.state t (reached r (token_texts bytes spans) (length spans) h) (tokens-many bytes spans) ends
 
-  is-within : IsWithin (uses_of (text_marks t))
-  is-within = subst (λ (ms : List Mark). IsWithin (uses_of ms)) (sym whole.1) (within r.watch (uses_of h.marks) h.watch)
+  is-within : IsWithin (uses_of (text_entries t))
+  is-within = subst (λ (ms : List Entry). IsWithin (uses_of ms)) (sym whole.1) (within r.watch (uses_of h.entries) h.watch)
 
   names : context_names contexts ≡ names_of t.contexts
   names = names-same contexts t.contexts contexts-are
@@ -104,16 +104,16 @@ module _ (bytes : List ℕ) (spans : List Span) (r : Reading) (tokens : AreToken
 
   pub all-known : AreKnown (context_names contexts) t.bridges
   all-known =
-      let there : contexts_named (uses_of h.marks) ≡ context_names contexts = ap (λ (ms : List Mark). contexts_named (uses_of ms)) (sym whole.1) ∙ names-there t ∙ sym names in
+      let there : contexts_named (uses_of h.entries) ≡ context_names contexts = ap (λ (ms : List Entry). contexts_named (uses_of ms)) (sym whole.1) ∙ names-there t ∙ sym names in
       let bridges : h.state.bridges ≡ t.bridges = bridges-whole h.state.contexts h.state.bridges h.state.place t ends in
-      subst (AreKnown (context_names contexts)) bridges (known-bridges (uses_of h.marks) (context_names contexts) there h.state.bridges h.known.bridges)
+      subst (AreKnown (context_names contexts)) bridges (known-bridges (uses_of h.entries) (context_names contexts) there h.state.bridges h.known.bridges)
 
   pub says-system : (bs : List code_bridge.Bridge) → Each (SaysBridge (context_names contexts)) t.bridges (map bridge_of bs) → SaysSystem t (system_of contexts bs)
   says-system bs each = record { contexts = contexts-are; bridges = subst (λ (ns : List Name). Each (SaysBridge ns) t.bridges (map bridge_of bs)) names each }
 
   pub is-valid : (m : plain.System) → SaysSystem t m → IsValid m
   is-valid m says =
-      let none : NoFaults (text_marks t) = subst NoFaults (sym whole.1) h.faultless in
+      let none : NoFaults (text_entries t) = subst NoFaults (sym whole.1) h.faultless in
       valid-text t m whole.0 says is-within none
 
   pub spells-system : (m : plain.System) → SaysSystem t m → Spells bytes m

@@ -17,7 +17,7 @@ use Rattle.mcs_system.proofs.Sameness.{same_name-is, same_name-itself}
 use Rattle.mcs_system.proofs.VariableLemmas.{among_firsts}
 use Rattle.mcs_system.proofs.ValidLemmas.{few_atoms}
 use Rattle.mcs_language.specs.Written.{WrittenContext, WrittenText}
-use Rattle.mcs_language.specs.Marks.{Use, AtomOf, Mark, formula_in, text_marks, uses_of}
+use Rattle.mcs_language.specs.Entries.{Use, AtomOf, Entry, formula_in, text_entries, uses_of}
 use Rattle.mcs_language.specs.Saying.{context_in, names_of, SaysSystem}
 use Rattle.mcs_language.specs.Faults.{WasAtom, IsBeyond}
 use Rattle.mcs_language.proofs.TextSplits.{IsSplit, uses-split, among-before, among-here}
@@ -88,12 +88,12 @@ module _ (t : WrittenText) (m : plain.System) (says : SaysSystem t m) (valid : I
       let same : said.number ≡ i = same_Some _ _ (sym said.is_number ∙ (ap (λ (n : Name). position (same_name n) (names_of t.contexts)) context ∙ is)) in
       among-atoms m i a (said-atom m i a (formula_in p.belief) (subst (λ (j : ℕ). SaidOf m j (formula_in p.belief)) same said.said) h)
 
-  module _ (k : ℕ) (here : Mark) (is : slice_get (text_marks t) k ≡ Some here) where
+  module _ (k : ℕ) (here : Entry) (is : slice_get (text_entries t) k ≡ Some here) where
     abbrev before : List Use
-    before = uses_of (take k (text_marks t))
+    before = uses_of (take k (text_entries t))
 
     split : IsSplit (text_uses t) before here.uses
-    split = uses-split (text_marks t) k here is
+    split = uses-split (text_entries t) k here is
 
     pub few-atoms : ¬ IsBeyond AtomsPerContext before here
     few-atoms (c, (a, h, full)) =

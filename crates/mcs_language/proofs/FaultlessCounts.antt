@@ -18,7 +18,7 @@ use Rattle.mcs_system.proofs.Sameness.{same_name-is, same_name-itself}
 use Rattle.mcs_system.proofs.ValidLemmas.{limit_kept, few_contexts, few_bridges, few_rules, few_defaults}
 use Rattle.mcs_system.proofs.NameLemmas.{position-there}
 use Rattle.mcs_language.specs.Written.{WrittenKb, WrittenContext, WrittenPlace, WrittenBridge, WrittenText, IsText}
-use Rattle.mcs_language.specs.Marks.{Use, BeginsContext, BeginsBridge, BeginsItem, BeginsDefault, NamesTarget, Mark, text_marks, uses_of}
+use Rattle.mcs_language.specs.Entries.{Use, BeginsContext, BeginsBridge, BeginsItem, BeginsDefault, NamesTarget, Entry, text_entries, uses_of}
 use Rattle.mcs_language.specs.Saying.{kb_in, context_in, SaysBridge, names_of, SaysSystem}
 use Rattle.mcs_language.specs.Faults.{AreDifferent, begins_context, begins_bridge, names_target, begins_default_of, begins_item_of, IsBeyond}
 use Rattle.mcs_language.proofs.TextSplits.{IsSplit, uses-split, among-here, count-more}
@@ -86,12 +86,12 @@ module _ (t : WrittenText) (m : plain.System) (says : SaysSystem t m) (valid : I
   most-items : (x : WrittenContext) → IsAmong x t.contexts → item_count (kb_in x.kb) ≤ 4096
   most-items x there = let (i, at) = get_among x t.contexts there in few_items m valid i (context_in x) (context-at t m says i x at)
 
-  module _ (k : ℕ) (here : Mark) (is : slice_get (text_marks t) k ≡ Some here) where
+  module _ (k : ℕ) (here : Entry) (is : slice_get (text_entries t) k ≡ Some here) where
     abbrev before : List Use
-    before = uses_of (take k (text_marks t))
+    before = uses_of (take k (text_entries t))
 
     split : IsSplit (text_uses t) before here.uses
-    split = uses-split (text_marks t) k here is
+    split = uses-split (text_entries t) k here is
 
     more : (p : Use → Bool) (u : Use) → IsAmong u here.uses → p u ≡ true → count_by p before < count_by p (text_uses t)
     more p u = count-more p (text_uses t) before here.uses u split

@@ -15,13 +15,13 @@ use Rattle.mcs_system.specs.Faults.{is_atom, is_program, has_twins, reads_of, Is
 use Rattle.mcs_system.proofs.ValidLemmas.{tests_pass, head_is_atom, belief_is_atom}
 use Rattle.mcs_system.proofs.NameLemmas.{no_twins, position-there}
 use Rattle.mcs_language.specs.Written.{Written, Named, WrittenKb, Classical, DefaultTheory, Program, WrittenContext, WrittenPlace, WrittenRead, WrittenBridge, WrittenText, IsNameWord, HasNames, IsPlace, IsBridge, IsText}
-use Rattle.mcs_language.specs.Marks.{Use, NamesContext, NamesBridge, SaysProgram, NamesTarget, NamesSource, Mark, formula_in, whole_marks, text_marks, uses_of}
+use Rattle.mcs_language.specs.Entries.{Use, NamesContext, NamesBridge, SaysProgram, NamesTarget, NamesSource, Entry, formula_in, whole_entries, text_entries, uses_of}
 use Rattle.mcs_language.specs.Saying.{context_in, SaysBridge, names_of, SaysSystem}
 use Rattle.mcs_language.specs.Faults.{AreDifferent, NoContext, Twin, NoAtom, Has}
 use Rattle.mcs_language.specs.Watching.{context_named, bridge_named, contexts_named, bridges_named}
 use Rattle.mcs_language.proofs.TextSplits.{IsSplit, uses-split, among-before, among-here}
 use Rattle.mcs_language.proofs.SaidParts.{only-context, SaidOf, AsHead, AsRead, said-place}
-use Rattle.mcs_language.proofs.BeliefMarks.{text-begins}
+use Rattle.mcs_language.proofs.BeliefEntries.{text-begins}
 use Rattle.mcs_language.proofs.BeforeRules.{among-named, named-among, among-bridges-named, before-target, before-source}
 use Rattle.mcs_language.proofs.TextConditions.{HasBareAtoms}
 use Rattle.mcs_language.proofs.UsesLemmas.{text_uses, IsPlaceOf, OfHead, OfRead, names-there, rule-names-there, targets-there, sources-there, programs-there, IsProgramKb}
@@ -50,12 +50,12 @@ module _ (t : WrittenText) (m : plain.System) (says : SaysSystem t m) (valid : I
   source-is-named : (c : Name) → IsAmong (NamesSource c) (text_uses t) → IsAmong (NamesContext c) (text_uses t)
   source-is-named c h = let (b, inside, read) = (sources-there t c).0 h in subst (λ (d : Name). IsAmong (NamesContext d) (text_uses t)) read.2 (place-is-named (read.0).place (OfRead b inside read.0 read.1 refl))
 
-  module _ (k : ℕ) (here : Mark) (is : slice_get (text_marks t) k ≡ Some here) where
+  module _ (k : ℕ) (here : Entry) (is : slice_get (text_entries t) k ≡ Some here) where
     abbrev before : List Use
-    before = uses_of (take k (text_marks t))
+    before = uses_of (take k (text_entries t))
 
     split : IsSplit (text_uses t) before here.uses
-    split = uses-split (text_marks t) k here is
+    split = uses-split (text_entries t) k here is
 
     pub no-context : ¬ Has NoContext before here
     no-context (c, inl h, new) = new ((before-target t k here is c h).named c (target-is-named c (among-here (text_uses t) before here.uses (NamesTarget c) split h)))
@@ -104,18 +104,18 @@ module _ (t : WrittenText) (m : plain.System) (says : SaysSystem t m) (valid : I
       let at = only-context t m says valid p.context said.number x said.is_number there named in
       atom-is (formula_in p.belief) (said-atom said.number (formula_in p.belief) (ap is_program at ∙ program-kb x.name x.kb program) said.said)
 
-  first-is-name : (p : WrittenPlace) (a : Name) (first : Mark) (rest : List Mark) → IsPlace p → p.belief ≡ Named a → whole_marks p.context p.belief ≡ first ∷ rest → IsNameWord first.token
-  first-is-name p a first rest h bare marks =
+  first-is-name : (p : WrittenPlace) (a : Name) (first : Entry) (rest : List Entry) → IsPlace p → p.belief ≡ Named a → whole_entries p.context p.belief ≡ first ∷ rest → IsNameWord first.token
+  first-is-name p a first rest h bare entries =
       let named : IsNameWord a = let both = subst (λ (f : Written). HasNames f) bare h.1.1 in both in
-      let heads : whole_marks p.context (Named a) ≡ first ∷ rest = ap (whole_marks p.context) (sym bare) ∙ marks in
+      let heads : whole_entries p.context (Named a) ≡ first ∷ rest = ap (whole_entries p.context) (sym bare) ∙ entries in
       let token : a ≡ first.token = cc in
       subst IsNameWord token named
 
-  pub no-wrong-atom : IsText t → HasBareAtoms t → (k : ℕ) (here : Mark) → slice_get (text_marks t) k ≡ Some here → ¬ Has NoAtom (uses_of (take k (text_marks t))) here
+  pub no-wrong-atom : IsText t → HasBareAtoms t → (k : ℕ) (here : Entry) → slice_get (text_entries t) k ≡ Some here → ¬ Has NoAtom (uses_of (take k (text_entries t))) here
   no-wrong-atom grammar bare k here is (c, h, program, no_name) =
-      let begins = text-begins t here (among_get here (text_marks t) k is) c h in
+      let begins = text-begins t here (among_get here (text_entries t) k is) c h in
       let p : WrittenPlace = begins.place in
       let first = begins.is_first in
-      let (x, there, named, kind) = (programs-there t c).0 (among-before (text_uses t) (uses_of (take k (text_marks t))) here.uses (SaysProgram c) (uses-split (text_marks t) k here is) program) in
+      let (x, there, named, kind) = (programs-there t c).0 (among-before (text_uses t) (uses_of (take k (text_entries t))) here.uses (SaysProgram c) (uses-split (text_entries t) k here is) program) in
       let (a, atom) = program-atom p begins.of_text x there (named ∙ sym first.context) kind in
-      no_name (subst IsNameWord first.is_token (first-is-name p a first.first first.rest (place-is t grammar p begins.of_text) (bare p a begins.of_text atom) first.marks))
+      no_name (subst IsNameWord first.is_token (first-is-name p a first.first first.rest (place-is t grammar p begins.of_text) (bare p a begins.of_text atom) first.entries))

@@ -20,7 +20,7 @@ use Rattle.mcs_system.proofs.VariableLemmas.{read_is_variable, has-inputs_of}
 use Rattle.mcs_system.proofs.ValidLemmas.{few_variables, few_inputs}
 use Rattle.mcs_system.proofs.NameLemmas.{position-there}
 use Rattle.mcs_language.specs.Written.{WrittenPlace, WrittenText}
-use Rattle.mcs_language.specs.Marks.{Use, EndsRead, Mark, text_marks, uses_of}
+use Rattle.mcs_language.specs.Entries.{Use, EndsRead, Entry, text_entries, uses_of}
 use Rattle.mcs_language.specs.Saying.{SaysPlace, names_of, SaysSystem}
 use Rattle.mcs_language.specs.Faults.{AreDifferent, IsOneMore, NamedRead, WasReadInto, WasRead, IsBeyond}
 use Rattle.mcs_language.specs.TextImages.{read_in}
@@ -100,12 +100,12 @@ module _ (t : WrittenText) (m : plain.System) (says : SaysSystem t m) (valid : I
       let at : named_at (names_of t.contexts) (slice_get (variables m) found.number) ≡ y = ap (named_at (names_of t.contexts)) found.variable ∙ found.named in
       subst (λ (z : NamedRead). IsAmong z (inputs_named i)) at (among_map (λ v. named_at (names_of t.contexts) (slice_get (variables m) v)) found.number (members (inputs_of m i)) member)
 
-  module _ (k : ℕ) (here : Mark) (is : slice_get (text_marks t) k ≡ Some here) where
+  module _ (k : ℕ) (here : Entry) (is : slice_get (text_entries t) k ≡ Some here) where
     abbrev before : List Use
-    before = uses_of (take k (text_marks t))
+    before = uses_of (take k (text_entries t))
 
     split : IsSplit (text_uses t) before here.uses
-    split = uses-split (text_marks t) k here is
+    split = uses-split (text_entries t) k here is
 
     later : (target : Name) (y : NamedRead) → WasReadInto before target y → WasReadInto (text_uses t) target y
     later target y = among-before (text_uses t) before here.uses (EndsRead target y.context y.belief) split

@@ -11,7 +11,7 @@ use Rattle.mcs_system.specs.Faults.{is_large, has_large_formula, is_large_rule, 
 use Rattle.mcs_system.specs.declared.limit.Limit.TheVariants.{FormulaSize, OpenParentheses, NameBytes}
 use Rattle.mcs_system.proofs.ValidLemmas.{limit_kept}
 use Rattle.mcs_language.specs.Written.{Written, WrittenDefault, WrittenItem, Fact, Rule, WrittenRule, WrittenKb, Classical, DefaultTheory, Program, WrittenContext, WrittenText}
-use Rattle.mcs_language.specs.Marks.{IsNumber, OpensWithin, Mark, formula_in, size_of, text_marks, uses_of}
+use Rattle.mcs_language.specs.Entries.{IsNumber, OpensWithin, Entry, formula_in, size_of, text_entries, uses_of}
 use Rattle.mcs_language.specs.Saying.{item_in, positive_atoms, negative_atoms, rule_in, kb_in, context_in, SaysSystem}
 use Rattle.mcs_language.specs.Faults.{IsBeyond}
 use Rattle.mcs_language.proofs.TextSplits.{uses-split, among-here}
@@ -85,18 +85,18 @@ module _ (t : WrittenText) (m : plain.System) (says : SaysSystem t m) where
       let said = said-place t m says p place in
       or_right (list_any (λ (c : plain.Context). has_large_item c.kb) m.contexts) _ (large-place m said.number (formula_in p.belief) said.said (large-said p.belief (omega (arith, is))))
 
-  pub small-formulas : IsValid m → (k : ℕ) (here : Mark) → slice_get (text_marks t) k ≡ Some here → ¬ IsBeyond FormulaSize (uses_of (take k (text_marks t))) here
+  pub small-formulas : IsValid m → (k : ℕ) (here : Entry) → slice_get (text_entries t) k ≡ Some here → ¬ IsBeyond FormulaSize (uses_of (take k (text_entries t))) here
   small-formulas valid k here is h =
-      let found = (numbers-there t 513).0 (among-here (text_uses t) (uses_of (take k (text_marks t))) here.uses (IsNumber 513) (uses-split (text_marks t) k here is) h) in
+      let found = (numbers-there t 513).0 (among-here (text_uses t) (uses_of (take k (text_entries t))) here.uses (IsNumber 513) (uses-split (text_entries t) k here is) h) in
       let (n, size, most) = found.1 in
       true≢false (sym (some-large n size most) ∙ limit_kept m valid FormulaSize (inr (inr (inr (inr (inr (inr (inr (inr (inl refl))))))))))
 
-pub few-parentheses : (t : WrittenText) → IsShallow t → (k : ℕ) (here : Mark) → slice_get (text_marks t) k ≡ Some here → ¬ IsBeyond OpenParentheses (uses_of (take k (text_marks t))) here
+pub few-parentheses : (t : WrittenText) → IsShallow t → (k : ℕ) (here : Entry) → slice_get (text_entries t) k ≡ Some here → ¬ IsBeyond OpenParentheses (uses_of (take k (text_entries t))) here
 few-parentheses t shallow k here is h =
-    let below = opens-there t 512 shallow (among-here (text_uses t) (uses_of (take k (text_marks t))) here.uses (OpensWithin 512) (uses-split (text_marks t) k here is) h) in
+    let below = opens-there t 512 shallow (among-here (text_uses t) (uses_of (take k (text_entries t))) here.uses (OpensWithin 512) (uses-split (text_entries t) k here is) h) in
     omega arith
 
-pub short-names : (t : WrittenText) → HasShortNames t → (k : ℕ) (here : Mark) → slice_get (text_marks t) k ≡ Some here → ¬ IsBeyond NameBytes (uses_of (take k (text_marks t))) here
+pub short-names : (t : WrittenText) → HasShortNames t → (k : ℕ) (here : Entry) → slice_get (text_entries t) k ≡ Some here → ¬ IsBeyond NameBytes (uses_of (take k (text_entries t))) here
 short-names t short k here is (word, long) =
-    let most = short here (among_get here (text_marks t) k is) word in
+    let most = short here (among_get here (text_entries t) k is) word in
     omega arith

@@ -5,7 +5,7 @@ use Rattle.mcs_system.specs.Faults.{IsValid}
 use Rattle.mcs_system.specs.declared.limit.Limit.{Limit}
 use Rattle.mcs_system.specs.declared.limit.Limit.TheVariants.{Contexts, Bridges, RulesPerContext, Variables, InputsPerContext, AtomsPerContext, DefaultsPerContext, ItemsPerContext, FormulaSize, OpenParentheses, NameBytes}
 use Rattle.mcs_language.specs.Written.{WrittenText, IsText}
-use Rattle.mcs_language.specs.Marks.{Mark, text_marks, uses_of}
+use Rattle.mcs_language.specs.Entries.{Entry, text_entries, uses_of}
 use Rattle.mcs_language.specs.Saying.{SaysSystem}
 use Rattle.mcs_language.specs.Faults.{NoGrammar, NoContext, Twin, NoAtom, Exceeds, IsBeyond}
 use Rattle.mcs_language.proofs.Within.{NoFaults}
@@ -18,7 +18,7 @@ use Rattle.mcs_language.proofs.FaultlessAtoms.{few-atoms}
 use Rattle.mcs_language.proofs.FaultlessSizes.{small-formulas, few-parentheses, short-names}
 
 module _ (t : WrittenText) (m : plain.System) (grammar : IsText t) (says : SaysSystem t m) (valid : IsValid m) (shallow : IsShallow t) (short : HasShortNames t) (bare : HasBareAtoms t) where
-  within-limits : (k : ℕ) (here : Mark) → slice_get (text_marks t) k ≡ Some here → (limit : Limit) → ¬ IsBeyond limit (uses_of (take k (text_marks t))) here
+  within-limits : (k : ℕ) (here : Entry) → slice_get (text_entries t) k ≡ Some here → (limit : Limit) → ¬ IsBeyond limit (uses_of (take k (text_entries t))) here
   within-limits k here is Contexts = few-contexts t m says valid k here is
   within-limits k here is Bridges = few-bridges t m says valid k here is
   within-limits k here is RulesPerContext = few-rules t m says valid k here is
@@ -31,7 +31,7 @@ module _ (t : WrittenText) (m : plain.System) (grammar : IsText t) (says : SaysS
   within-limits k here is OpenParentheses = few-parentheses t shallow k here is
   within-limits k here is NameBytes = short-names t short k here is
 
-  pub no-faults : NoFaults (text_marks t)
+  pub no-faults : NoFaults (text_entries t)
   no-faults k here NoGrammar is h = h
   no-faults k here NoContext is h = no-context t m says valid k here is h
   no-faults k here Twin is h = no-twin t m says valid k here is h

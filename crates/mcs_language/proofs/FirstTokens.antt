@@ -10,24 +10,24 @@ use Rattle.mcs_base.proofs.Among.{among_left, among_right, get_among, among_flat
 use Rattle.mcs_system.specs.Plain.{Name}
 use Rattle.mcs_system.specs.Faults.{is_atom}
 use Rattle.mcs_language.specs.Written.{Written, True', False', Named, Denied, Grouped, Both, Either, Leads, Equals, level, IsNameWord, WrittenPlace, IsPlace, WrittenRead, WrittenBridge, WrittenText}
-use Rattle.mcs_language.specs.Marks.{Use, BeginsBelief, NamesTarget, NamesSource, Mark, mark, with_first, with_last, formula_in, whole_marks, optional, place_marks, read_marks, further_read, reads_marks, context_marks, bridge_marks, text_marks, uses_of}
+use Rattle.mcs_language.specs.Entries.{Use, BeginsBelief, NamesTarget, NamesSource, Entry, entry, with_first, with_last, formula_in, whole_entries, optional, place_entries, read_entries, further_read, reads_entries, context_entries, bridge_entries, text_entries, uses_of}
 use Rattle.mcs_language.proofs.UsesParts.{IsPlaceOf, OfHead, OfRead}
-use Rattle.mcs_language.proofs.MarkLists.{uses-append}
+use Rattle.mcs_language.proofs.EntryLists.{uses-append}
 use Rattle.mcs_language.proofs.BridgeUses.{read_end}
 
 -- ---- a belief's first token
-pub record IsFirstOf (p : WrittenPlace) (m : Mark) : Type 0 where
+pub record IsFirstOf (p : WrittenPlace) (m : Entry) : Type 0 where
   pub begins : IsAmong (BeginsBelief p.context) m.uses
   pub atom : IsNameWord m.token → is_atom (formula_in p.belief) ≡ true
 
-abbrev belief_marks : Name → Written → List Mark
-belief_marks c f = with_first (BeginsBelief c ∷ []) (whole_marks c f)
+abbrev belief_entries : Name → Written → List Entry
+belief_entries c f = with_first (BeginsBelief c ∷ []) (whole_entries c f)
 
 abbrev place : Name → Written → WrittenPlace
 place c f = record { context = c; belief = f }
 
 abbrev IsBegun : Name → Written → Type 0
-IsBegun c f = (m : Mark) × IsAmong m (belief_marks c f) × IsFirstOf (place c f) m
+IsBegun c f = (m : Entry) × IsAmong m (belief_entries c f) × IsFirstOf (place c f) m
 
 begun : (c : Name) (f : Written) → level f ≡ 0 → IsBegun c f
 unfolding reserved_words
@@ -42,67 +42,67 @@ begun c (Leads f g) low = cc
 begun c (Equals f g) low = cc
 
 -- ---- where it stands
--- the marks of a read have a last one with more uses
-kept-last : (us : List Use) (ms : List Mark) (m : Mark) → IsAmong m ms → (n : Mark) × IsAmong n (with_last us ms) × (n.token ≡ m.token) × ((u : Use) → IsAmong u m.uses → IsAmong u n.uses)
+-- the entries of a read have a last one with more uses
+kept-last : (us : List Use) (ms : List Entry) (m : Entry) → IsAmong m ms → (n : Entry) × IsAmong n (with_last us ms) × (n.token ≡ m.token) × ((u : Use) → IsAmong u m.uses → IsAmong u n.uses)
 kept-last us [] m h = absurd h
-kept-last us (x ∷ []) m (inl e) = (mark x.token (us ++ x.uses), inl refl, ap (λ (y : Mark). y.token) (sym e), λ u here. among_right u us x.uses (subst (λ (y : Mark). IsAmong u y.uses) e here))
+kept-last us (x ∷ []) m (inl e) = (entry x.token (us ++ x.uses), inl refl, ap (λ (y : Entry). y.token) (sym e), λ u here. among_right u us x.uses (subst (λ (y : Entry). IsAmong u y.uses) e here))
 kept-last us (x ∷ []) m (inr h) = absurd h
 kept-last us (x ∷ y ∷ ys) m (inl e) = (m, inl e, refl, λ u here. here)
 kept-last us (x ∷ y ∷ ys) m (inr h) = let (n, there, same, more) = kept-last us (y ∷ ys) m h in (n, inr there, same, more)
 
-first-kept : (p : WrittenPlace) (m n : Mark) → n.token ≡ m.token → ((u : Use) → IsAmong u m.uses → IsAmong u n.uses) → IsFirstOf p m → IsFirstOf p n
+first-kept : (p : WrittenPlace) (m n : Entry) → n.token ≡ m.token → ((u : Use) → IsAmong u m.uses → IsAmong u n.uses) → IsFirstOf p m → IsFirstOf p n
 first-kept p m n same more h = record { begins = more (BeginsBelief p.context) h.begins; atom = λ w. h.atom (subst IsNameWord same w) }
 
-of-place : (role : Use) (p : WrittenPlace) → IsPlace p → (m : Mark) × IsAmong m (place_marks role p) × IsFirstOf p m
+of-place : (role : Use) (p : WrittenPlace) → IsPlace p → (m : Entry) × IsAmong m (place_entries role p) × IsFirstOf p m
 of-place role p h = let (m, there, first) = begun p.context p.belief h.2 in (m, inr (inr there), record { begins = first.begins; atom = first.atom })
 
-of-read : (target : Name) (r : WrittenRead) → IsPlace r.place → (m : Mark) × IsAmong m (read_marks target r) × IsFirstOf r.place m
+of-read : (target : Name) (r : WrittenRead) → IsPlace r.place → (m : Entry) × IsAmong m (read_entries target r) × IsFirstOf r.place m
 of-read target r h =
     let role : Use = NamesSource (r.place).context in
     let (m, there, first) = of-place role r.place h in
-    let (n, last, same, more) = kept-last (read_end target r ∷ []) (place_marks role r.place) m there in
-    (n, among_right n (optional r.denied (codes "not")) (with_last (read_end target r ∷ []) (place_marks role r.place)) last, first-kept r.place m n same more first)
+    let (n, last, same, more) = kept-last (read_end target r ∷ []) (place_entries role r.place) m there in
+    (n, among_right n (optional r.denied (codes "not")) (with_last (read_end target r ∷ []) (place_entries role r.place)) last, first-kept r.place m n same more first)
 
-of-reads : (target : Name) (rs : List WrittenRead) (r : WrittenRead) → IsAmong r rs → IsPlace r.place → (m : Mark) × IsAmong m (reads_marks target rs) × IsFirstOf r.place m
+of-reads : (target : Name) (rs : List WrittenRead) (r : WrittenRead) → IsAmong r rs → IsPlace r.place → (m : Entry) × IsAmong m (reads_entries target rs) × IsFirstOf r.place m
 of-reads target [] r h p = absurd h
 of-reads target (q ∷ qs) r (inl e) p =
     let (m, there, first) = of-read target r p in
-    (m, inr (among_left m (read_marks target q) (flat_map (further_read target) qs) (subst (λ (x : WrittenRead). IsAmong m (read_marks target x)) e there)), first)
+    (m, inr (among_left m (read_entries target q) (flat_map (further_read target) qs) (subst (λ (x : WrittenRead). IsAmong m (read_entries target x)) e there)), first)
 of-reads target (q ∷ qs) r (inr h) p =
     let (m, there, first) = of-read target r p in
-    (m, inr (among_right m (read_marks target q) (flat_map (further_read target) qs) (among_flat_map (further_read target) r m qs h (inr there))), first)
+    (m, inr (among_right m (read_entries target q) (flat_map (further_read target) qs) (among_flat_map (further_read target) r m qs h (inr there))), first)
 
-abbrev later_marks : WrittenBridge → List Mark
-later_marks b = place_marks (NamesTarget (b.head).context) b.head ++ (reads_marks (b.head).context b.reads ++ mark (codes ".") [] ∷ [])
+abbrev later_entries : WrittenBridge → List Entry
+later_entries b = place_entries (NamesTarget (b.head).context) b.head ++ (reads_entries (b.head).context b.reads ++ entry (codes ".") [] ∷ [])
 
-in-head : (b : WrittenBridge) (m : Mark) → IsAmong m (place_marks (NamesTarget (b.head).context) b.head) → IsAmong m (bridge_marks b)
-in-head b m h = inr (inr (inr (among_left m (place_marks (NamesTarget (b.head).context) b.head) (reads_marks (b.head).context b.reads ++ mark (codes ".") [] ∷ []) h)))
+in-head : (b : WrittenBridge) (m : Entry) → IsAmong m (place_entries (NamesTarget (b.head).context) b.head) → IsAmong m (bridge_entries b)
+in-head b m h = inr (inr (inr (among_left m (place_entries (NamesTarget (b.head).context) b.head) (reads_entries (b.head).context b.reads ++ entry (codes ".") [] ∷ []) h)))
 
-in-reads : (b : WrittenBridge) (m : Mark) → IsAmong m (reads_marks (b.head).context b.reads) → IsAmong m (bridge_marks b)
-in-reads b m h = inr (inr (inr (among_right m (place_marks (NamesTarget (b.head).context) b.head) (reads_marks (b.head).context b.reads ++ mark (codes ".") [] ∷ []) (among_left m (reads_marks (b.head).context b.reads) (mark (codes ".") [] ∷ []) h))))
+in-reads : (b : WrittenBridge) (m : Entry) → IsAmong m (reads_entries (b.head).context b.reads) → IsAmong m (bridge_entries b)
+in-reads b m h = inr (inr (inr (among_right m (place_entries (NamesTarget (b.head).context) b.head) (reads_entries (b.head).context b.reads ++ entry (codes ".") [] ∷ []) (among_left m (reads_entries (b.head).context b.reads) (entry (codes ".") [] ∷ []) h))))
 
-pub first-there : (t : WrittenText) (p : WrittenPlace) → IsPlaceOf t p → IsPlace p → (m : Mark) × IsAmong m (flat_map bridge_marks t.bridges) × IsFirstOf p m
+pub first-there : (t : WrittenText) (p : WrittenPlace) → IsPlaceOf t p → IsPlace p → (m : Entry) × IsAmong m (flat_map bridge_entries t.bridges) × IsFirstOf p m
 first-there t p (OfHead b there is) h =
     let (m, in_place, first) = of-place (NamesTarget (b.head).context) b.head (subst IsPlace (sym is) h) in
-    (m, among_flat_map bridge_marks b m t.bridges there (in-head b m in_place), subst (λ (q : WrittenPlace). IsFirstOf q m) is first)
+    (m, among_flat_map bridge_entries b m t.bridges there (in-head b m in_place), subst (λ (q : WrittenPlace). IsFirstOf q m) is first)
 first-there t p (OfRead b there r read is) h =
     let (m, in_place, first) = of-reads (b.head).context b.reads r read (subst IsPlace (sym is) h) in
-    (m, among_flat_map bridge_marks b m t.bridges there (in-reads b m in_place), subst (λ (q : WrittenPlace). IsFirstOf q m) is first)
+    (m, among_flat_map bridge_entries b m t.bridges there (in-reads b m in_place), subst (λ (q : WrittenPlace). IsFirstOf q m) is first)
 
 -- ---- what stands before a bridge rule's token
 -- the number of a rule's token, and the uses before it, the contexts' all among them
-pub record IsMarkAt (t : WrittenText) (m : Mark) (k : ℕ) : Type 0 where
-  pub there : slice_get (text_marks t) k ≡ Some m
-  pub before : (u : Use) → IsAmong u (uses_of (flat_map context_marks t.contexts)) → IsAmong u (uses_of (take k (text_marks t)))
+pub record IsEntryAt (t : WrittenText) (m : Entry) (k : ℕ) : Type 0 where
+  pub there : slice_get (text_entries t) k ≡ Some m
+  pub before : (u : Use) → IsAmong u (uses_of (flat_map context_entries t.contexts)) → IsAmong u (uses_of (take k (text_entries t)))
 
-pub mark-at : (t : WrittenText) (m : Mark) → IsAmong m (flat_map bridge_marks t.bridges) → (k : ℕ) × IsMarkAt t m k
-mark-at t m h =
-    let cs : List Mark = flat_map context_marks t.contexts in
-    let bs : List Mark = flat_map bridge_marks t.bridges in
+pub entry-at : (t : WrittenText) (m : Entry) → IsAmong m (flat_map bridge_entries t.bridges) → (k : ℕ) × IsEntryAt t m k
+entry-at t m h =
+    let cs : List Entry = flat_map context_entries t.contexts in
+    let bs : List Entry = flat_map bridge_entries t.bridges in
     let (j, at) = get_among m bs h in (
       length cs + j,
       record {
         there = slice_get-append_right cs bs j ∙ at;
-        before = λ u here. subst (λ (ms : List Mark). IsAmong u (uses_of ms)) (sym (take-append-add cs bs j)) (subst (IsAmong u) (sym (uses-append cs (take j bs))) (among_left u (uses_of cs) (uses_of (take j bs)) here));
+        before = λ u here. subst (λ (ms : List Entry). IsAmong u (uses_of ms)) (sym (take-append-add cs bs j)) (subst (IsAmong u) (sym (uses-append cs (take j bs))) (among_left u (uses_of cs) (uses_of (take j bs)) here));
       },
     )

@@ -1,4 +1,4 @@
--- The tokens of a formula are taken, each with its mark.
+-- The tokens of a formula are taken, each with its entry.
 use Rattle.std.proofs.Common.{◌≡◌, ℕ, ◌+◌, ◌≤◌, ◌<◌, cond, List, [], ◌∷◌, ◌++◌, Some, None, refl, sym, ap, subst, ◌∙◌, arith}
 use Rattle.std.specs.Prelude.{codes, nat_le, option_map}
 use Rattle.std.specs.Str.{bytes_eq}
@@ -6,8 +6,8 @@ use Rattle.std.proofs.lemmas.Bool.{le-leb, lt-leb, cond-true}
 use Rattle.mcs_base.proofs.Booleans.{fifth_of_five}
 use Rattle.mcs_system.specs.Plain.{Name}
 use Rattle.mcs_language.specs.Written.{Written, True', False', Named, Denied, Grouped, Both, Either, Leads, Equals, level, IsFormula, IsNameWord}
-use Rattle.mcs_language.specs.Marks.{Token, Use, AtomOf, IsNumber, OpensWithin, Mark, mark, formula_marks, size_of}
-use Rattle.mcs_language.specs.FormulaSteps.{Pending, Tilde, Parenthesis, And, Or, Implies, Iff, PartFormula, join, settle, level_of, reduce, size_all, formula_step, Taken, numbered_mark, behind, closed, is_name_word}
+use Rattle.mcs_language.specs.Entries.{Token, Use, AtomOf, IsNumber, OpensWithin, Entry, entry, formula_entries, size_of}
+use Rattle.mcs_language.specs.FormulaSteps.{Pending, Tilde, Parenthesis, And, Or, Implies, Iff, PartFormula, join, settle, level_of, reduce, size_all, formula_step, Taken, numbered_entry, behind, closed, is_name_word}
 use Rattle.mcs_language.proofs.FormulaParts.{room, opened, opened-more}
 use Rattle.mcs_language.proofs.FormulaRuns.{Goes, goes-then, goes-one, word-apart, true-no-name, false-no-name}
 
@@ -114,29 +114,29 @@ stays-three (Implies l ∷ ps) h = absurd (omega (arith, h))
 stays-three (Iff l ∷ ps) h = omega arith
 
 -- ---- one token
-numbered : (n k : ℕ) (t : Token) (uses : List Use) → n ≡ k → mark t (uses ++ IsNumber (k + 0 + 1) ∷ []) ≡ mark t (uses ++ IsNumber (n + 1) ∷ [])
-numbered n k t uses e = let same : k + 0 + 1 ≡ n + 1 = omega (arith, e) in ap (λ i. mark t (uses ++ IsNumber i ∷ [])) same
+numbered : (n k : ℕ) (t : Token) (uses : List Use) → n ≡ k → entry t (uses ++ IsNumber (k + 0 + 1) ∷ []) ≡ entry t (uses ++ IsNumber (n + 1) ∷ [])
+numbered n k t uses e = let same : k + 0 + 1 ≡ n + 1 = omega (arith, e) in ap (λ i. entry t (uses ++ IsNumber i ∷ [])) same
 
-took : (m m' : Mark) (s : PartFormula) → m ≡ m' → ◌≡◌ {A = Taken} (Some (m, s)) (Some (m', s))
-took m m' s e = ap {B = Taken} (λ (x : Mark). Some (x, s)) e
+took : (m m' : Entry) (s : PartFormula) → m ≡ m' → ◌≡◌ {A = Taken} (Some (m, s)) (Some (m', s))
+took m m' s e = ap {B = Taken} (λ (x : Entry). Some (x, s)) e
 
-pub tilde-step : (c : Name) (ps : List Pending) (n : ℕ) → n ≡ size_all ps → formula_step c (waiting_for ps) (codes "~") ≡ Some (mark (codes "~") (IsNumber (n + 1) ∷ []), waiting_for (Tilde ∷ ps))
+pub tilde-step : (c : Name) (ps : List Pending) (n : ℕ) → n ≡ size_all ps → formula_step c (waiting_for ps) (codes "~") ≡ Some (entry (codes "~") (IsNumber (n + 1) ∷ []), waiting_for (Tilde ∷ ps))
 unfolding formula_step
 tilde-step c ps n e = took _ _ _ (numbered n (size_all ps) (codes "~") [] e)
 
-pub open-step : (c : Name) (ps : List Pending) (o : ℕ) → o ≡ opened ps → formula_step c (waiting_for ps) (codes "(") ≡ Some (mark (codes "(") (OpensWithin o ∷ []), waiting_for (Parenthesis ∷ ps))
+pub open-step : (c : Name) (ps : List Pending) (o : ℕ) → o ≡ opened ps → formula_step c (waiting_for ps) (codes "(") ≡ Some (entry (codes "(") (OpensWithin o ∷ []), waiting_for (Parenthesis ∷ ps))
 unfolding formula_step
-open-step c ps o e = took _ _ _ (ap (λ i. mark (codes "(") (OpensWithin i ∷ [])) (sym e))
+open-step c ps o e = took _ _ _ (ap (λ i. entry (codes "(") (OpensWithin i ∷ [])) (sym e))
 
-pub true-step : (c : Name) (ps : List Pending) (n : ℕ) → n ≡ size_all ps → formula_step c (waiting_for ps) (codes "true") ≡ Some (mark (codes "true") (IsNumber (n + 1) ∷ []), settle ps True')
+pub true-step : (c : Name) (ps : List Pending) (n : ℕ) → n ≡ size_all ps → formula_step c (waiting_for ps) (codes "true") ≡ Some (entry (codes "true") (IsNumber (n + 1) ∷ []), settle ps True')
 unfolding formula_step
 true-step c ps n e = took _ _ _ (numbered n (size_all ps) (codes "true") [] e)
 
-pub false-step : (c : Name) (ps : List Pending) (n : ℕ) → n ≡ size_all ps → formula_step c (waiting_for ps) (codes "false") ≡ Some (mark (codes "false") (IsNumber (n + 1) ∷ []), settle ps False')
+pub false-step : (c : Name) (ps : List Pending) (n : ℕ) → n ≡ size_all ps → formula_step c (waiting_for ps) (codes "false") ≡ Some (entry (codes "false") (IsNumber (n + 1) ∷ []), settle ps False')
 unfolding formula_step
 false-step c ps n e = took _ _ _ (numbered n (size_all ps) (codes "false") [] e)
 
-pub name-step : (c : Name) (ps : List Pending) (n : ℕ) (name : Name) → IsNameWord name → n ≡ size_all ps → formula_step c (waiting_for ps) name ≡ Some (mark name (AtomOf c name ∷ IsNumber (n + 1) ∷ []), settle ps (Named name))
+pub name-step : (c : Name) (ps : List Pending) (n : ℕ) (name : Name) → IsNameWord name → n ≡ size_all ps → formula_step c (waiting_for ps) name ≡ Some (entry name (AtomOf c name ∷ IsNumber (n + 1) ∷ []), settle ps (Named name))
 unfolding formula_step
 name-step c ps n name h e =
     fifth_of_five (bytes_eq name (codes "~")) (bytes_eq name (codes "(")) (bytes_eq name (codes "true")) (bytes_eq name (codes "false")) (is_name_word name) _ _ _ _ _ _
@@ -145,33 +145,33 @@ name-step c ps n name h e =
 
 -- a sign after a formula, which waits then with what stands before it
 module _ (c : Name) (ps : List Pending) (f : Written) (h : IsFormula f) (n : ℕ) (e : n ≡ size_all ps) where
-  pub stepped : (t : Token) (make : Written → Pending) (most : ℕ) → ((qs : List Pending) (g : Written) → formula_step c (with_operand qs g) t ≡ Some (numbered_mark (with_operand qs g) t [], behind make (reduce most qs g)))
-      → 1 ≤ most → level f ≤ most → Stays most ps → formula_step c (spine ps f) t ≡ Some (mark t (IsNumber (n + size_of f + 1) ∷ []), waiting_for (make f ∷ ps))
+  pub stepped : (t : Token) (make : Written → Pending) (most : ℕ) → ((qs : List Pending) (g : Written) → formula_step c (with_operand qs g) t ≡ Some (numbered_entry (with_operand qs g) t [], behind make (reduce most qs g)))
+      → 1 ≤ most → level f ≤ most → Stays most ps → formula_step c (spine ps f) t ≡ Some (entry t (IsNumber (n + size_of f + 1) ∷ []), waiting_for (make f ∷ ps))
   stepped t make most steps one low stays =
       let r = is-spine ps f h in
       let q = r.operand in
       let size : size_all q.left + size_of q.last + 1 ≡ n + size_of f + 1 = omega (arith, q.size, e) in
       ap (λ s. formula_step c s t) q.is ∙ steps q.left q.last
-      ∙ ap (λ x. Some (numbered_mark (with_operand q.left q.last) t [], behind make x)) (r.joined most one low ∙ reduce-stays most ps f stays)
-      ∙ ap (λ i. Some (mark t (IsNumber i ∷ []), waiting_for (make f ∷ ps))) size
+      ∙ ap (λ x. Some (numbered_entry (with_operand q.left q.last) t [], behind make x)) (r.joined most one low ∙ reduce-stays most ps f stays)
+      ∙ ap (λ i. Some (entry t (IsNumber i ∷ []), waiting_for (make f ∷ ps))) size
 
-pub and-steps : (c : Name) (qs : List Pending) (g : Written) → formula_step c (with_operand qs g) (codes "&") ≡ Some (numbered_mark (with_operand qs g) (codes "&") [], behind And (reduce 1 qs g))
+pub and-steps : (c : Name) (qs : List Pending) (g : Written) → formula_step c (with_operand qs g) (codes "&") ≡ Some (numbered_entry (with_operand qs g) (codes "&") [], behind And (reduce 1 qs g))
 unfolding formula_step
 and-steps c qs g = refl
 
-pub or-steps : (c : Name) (qs : List Pending) (g : Written) → formula_step c (with_operand qs g) (codes "|") ≡ Some (numbered_mark (with_operand qs g) (codes "|") [], behind Or (reduce 2 qs g))
+pub or-steps : (c : Name) (qs : List Pending) (g : Written) → formula_step c (with_operand qs g) (codes "|") ≡ Some (numbered_entry (with_operand qs g) (codes "|") [], behind Or (reduce 2 qs g))
 unfolding formula_step
 or-steps c qs g = refl
 
-pub implies-steps : (c : Name) (qs : List Pending) (g : Written) → formula_step c (with_operand qs g) (codes "->") ≡ Some (numbered_mark (with_operand qs g) (codes "->") [], behind Implies (reduce 2 qs g))
+pub implies-steps : (c : Name) (qs : List Pending) (g : Written) → formula_step c (with_operand qs g) (codes "->") ≡ Some (numbered_entry (with_operand qs g) (codes "->") [], behind Implies (reduce 2 qs g))
 unfolding formula_step
 implies-steps c qs g = refl
 
-pub iff-steps : (c : Name) (qs : List Pending) (g : Written) → formula_step c (with_operand qs g) (codes "<->") ≡ Some (numbered_mark (with_operand qs g) (codes "<->") [], behind Iff (reduce 3 qs g))
+pub iff-steps : (c : Name) (qs : List Pending) (g : Written) → formula_step c (with_operand qs g) (codes "<->") ≡ Some (numbered_entry (with_operand qs g) (codes "<->") [], behind Iff (reduce 3 qs g))
 unfolding formula_step
 iff-steps c qs g = refl
 
-pub close-steps : (c : Name) (qs : List Pending) (g : Written) → formula_step c (with_operand qs g) (codes ")") ≡ option_map (λ (r : PartFormula). (mark (codes ")") [], r)) (closed (reduce 4 qs g))
+pub close-steps : (c : Name) (qs : List Pending) (g : Written) → formula_step c (with_operand qs g) (codes ")") ≡ option_map (λ (r : PartFormula). (entry (codes ")") [], r)) (closed (reduce 4 qs g))
 unfolding formula_step
 close-steps c qs g = refl
 
@@ -186,11 +186,11 @@ level-four (Either f g) = omega arith
 level-four (Leads f g) = omega arith
 level-four (Equals f g) = omega arith
 
-pub close-step : (c : Name) (ps : List Pending) (f : Written) → IsFormula f → formula_step c (spine (Parenthesis ∷ ps) f) (codes ")") ≡ Some (mark (codes ")") [], settle ps (Grouped f))
+pub close-step : (c : Name) (ps : List Pending) (f : Written) → IsFormula f → formula_step c (spine (Parenthesis ∷ ps) f) (codes ")") ≡ Some (entry (codes ")") [], settle ps (Grouped f))
 close-step c ps f h =
     let r = is-spine (Parenthesis ∷ ps) f h in
     ap (λ s. formula_step c s (codes ")")) r.operand.is ∙ close-steps c r.operand.left r.operand.last
-    ∙ ap (λ x. option_map (λ (r : PartFormula). (mark (codes ")") [], r)) (closed x)) (r.joined 4 (omega arith) (level-four f))
+    ∙ ap (λ x. option_map (λ (r : PartFormula). (entry (codes ")") [], r)) (closed x)) (r.joined 4 (omega arith) (level-four f))
 
 -- ---- all tokens
 pub spine-primary : (ps : List Pending) (w : Written) → level w ≡ 0 → spine ps w ≡ settle ps w
@@ -205,37 +205,37 @@ spine-primary ps (Leads f g) e = absurd (omega (arith, e))
 spine-primary ps (Equals f g) e = absurd (omega (arith, e))
 
 -- a formula comes behind what waits, where it has room
-pub formula-forward : (c : Name) (ps : List Pending) (n o : ℕ) (w : Written) → IsFormula w → level w ≤ room ps → n ≡ size_all ps → o ≡ opened ps → Goes c (waiting_for ps) (formula_marks c n o w) (spine ps w)
+pub formula-forward : (c : Name) (ps : List Pending) (n o : ℕ) (w : Written) → IsFormula w → level w ≤ room ps → n ≡ size_all ps → o ≡ opened ps → Goes c (waiting_for ps) (formula_entries c n o w) (spine ps w)
 formula-forward c ps n o True' h low en eo = goes-one c _ _ _ (true-step c ps n en)
 formula-forward c ps n o False' h low en eo = goes-one c _ _ _ (false-step c ps n en)
 formula-forward c ps n o (Named name) h low en eo = goes-one c _ _ _ (name-step c ps n name h.1 en)
 formula-forward c ps n o (Denied f) h low en eo =
-    (waiting_for (Tilde ∷ ps), tilde-step c ps n en, subst (Goes c (waiting_for (Tilde ∷ ps)) (formula_marks c (n + 1) o f)) (spine-primary (Tilde ∷ ps) f h.0.1) (formula-forward c (Tilde ∷ ps) (n + 1) o f (h.0.0, h.1) (omega (arith, h.0.1)) (omega arith) eo))
+    (waiting_for (Tilde ∷ ps), tilde-step c ps n en, subst (Goes c (waiting_for (Tilde ∷ ps)) (formula_entries c (n + 1) o f)) (spine-primary (Tilde ∷ ps) f h.0.1) (formula-forward c (Tilde ∷ ps) (n + 1) o f (h.0.0, h.1) (omega (arith, h.0.1)) (omega arith) eo))
 formula-forward c ps n o (Grouped f) h low en eo = (
   waiting_for (Parenthesis ∷ ps),
   open-step c ps o eo,
-  goes-then c _ (spine (Parenthesis ∷ ps) f) _ (formula_marks c n (o + 1) f) (mark (codes ")") [] ∷ []) (formula-forward c (Parenthesis ∷ ps) n (o + 1) f (h.0, h.1) (level-four f) (omega arith) (omega (arith, eo, opened-more ps))) (goes-one c _ _ _ (close-step c ps f h)),
+  goes-then c _ (spine (Parenthesis ∷ ps) f) _ (formula_entries c n (o + 1) f) (entry (codes ")") [] ∷ []) (formula-forward c (Parenthesis ∷ ps) n (o + 1) f (h.0, h.1) (level-four f) (omega arith) (omega (arith, eo, opened-more ps))) (goes-one c _ _ _ (close-step c ps f h)),
 )
 formula-forward c ps n o (Both f g) h low en eo =
-    goes-then c _ (spine ps f) _ (formula_marks c n o f) _ (formula-forward c ps n o f (h.0.0, h.1.0) (omega (arith, h.0.1, low)) en eo) (
+    goes-then c _ (spine ps f) _ (formula_entries c n o f) _ (formula-forward c ps n o f (h.0.0, h.1.0) (omega (arith, h.0.1, low)) en eo) (
       waiting_for (And f ∷ ps),
       stepped c ps f (h.0.0, h.1.0) n en (codes "&") And 1 (and-steps c) (omega arith) h.0.1 (stays-one ps low),
-      subst (Goes c (waiting_for (And f ∷ ps)) (formula_marks c (n + size_of f + 1) o g)) (spine-primary (And f ∷ ps) g h.0.3) (formula-forward c (And f ∷ ps) (n + size_of f + 1) o g (h.0.2, h.1.1) (omega (arith, h.0.3)) (omega arith) eo),
+      subst (Goes c (waiting_for (And f ∷ ps)) (formula_entries c (n + size_of f + 1) o g)) (spine-primary (And f ∷ ps) g h.0.3) (formula-forward c (And f ∷ ps) (n + size_of f + 1) o g (h.0.2, h.1.1) (omega (arith, h.0.3)) (omega arith) eo),
     )
 formula-forward c ps n o (Either f g) h low en eo =
-    goes-then c _ (spine ps f) _ (formula_marks c n o f) _ (formula-forward c ps n o f (h.0.0, h.1.0) (omega (arith, h.0.1, low)) en eo) (
+    goes-then c _ (spine ps f) _ (formula_entries c n o f) _ (formula-forward c ps n o f (h.0.0, h.1.0) (omega (arith, h.0.1, low)) en eo) (
       waiting_for (Or f ∷ ps),
       stepped c ps f (h.0.0, h.1.0) n en (codes "|") Or 2 (or-steps c) (omega arith) h.0.1 (stays-two ps low),
       formula-forward c (Or f ∷ ps) (n + size_of f + 1) o g (h.0.2, h.1.1) h.0.3 (omega arith) eo,
     )
 formula-forward c ps n o (Leads f g) h low en eo =
-    goes-then c _ (spine ps f) _ (formula_marks c n o f) _ (formula-forward c ps n o f (h.0.0, h.1.0) (omega (arith, h.0.1, low)) en eo) (
+    goes-then c _ (spine ps f) _ (formula_entries c n o f) _ (formula-forward c ps n o f (h.0.0, h.1.0) (omega (arith, h.0.1, low)) en eo) (
       waiting_for (Implies f ∷ ps),
       stepped c ps f (h.0.0, h.1.0) n en (codes "->") Implies 2 (implies-steps c) (omega arith) h.0.1 (stays-two ps (omega (arith, low))),
       formula-forward c (Implies f ∷ ps) (n + size_of f + 1) o g (h.0.2, h.1.1) h.0.3 (omega arith) eo,
     )
 formula-forward c ps n o (Equals f g) h low en eo =
-    goes-then c _ (spine ps f) _ (formula_marks c n o f) _ (formula-forward c ps n o f (h.0.0, h.1.0) (omega (arith, h.0.1, low)) en eo) (
+    goes-then c _ (spine ps f) _ (formula_entries c n o f) _ (formula-forward c ps n o f (h.0.0, h.1.0) (omega (arith, h.0.1, low)) en eo) (
       waiting_for (Iff f ∷ ps),
       stepped c ps f (h.0.0, h.1.0) n en (codes "<->") Iff 3 (iff-steps c) (omega arith) h.0.1 (stays-three ps low),
       formula-forward c (Iff f ∷ ps) (n + size_of f + 1) o g (h.0.2, h.1.1) h.0.3 (omega arith) eo,

@@ -1,11 +1,11 @@
--- What of a formula was written: its marks, and which parts of it the grammar has.
+-- What of a formula was written: its entries, and which parts of it the grammar has.
 use Rattle.std.proofs.Common.{◌≡◌, ℕ, ◌+◌, ◌≤◌, Bool, cond, ◌||◌, List, [], ◌∷◌, ◌++◌, Option, Some, None}
 use Rattle.std.specs.Prelude.{codes, count_by}
 use Rattle.std.specs.Str.{bytes_eq}
 use Rattle.std.proofs.lemmas.List.Sums.{sum_by-cons}
 use Rattle.mcs_system.specs.Plain.{Name}
 use Rattle.mcs_language.specs.Written.{Written, level, IsFormula}
-use Rattle.mcs_language.specs.Marks.{Token, IsNumber, OpensWithin, Mark, mark, formula_marks, size_of}
+use Rattle.mcs_language.specs.Entries.{Token, IsNumber, OpensWithin, Entry, entry, formula_entries, size_of}
 use Rattle.mcs_language.specs.FormulaSteps.{Pending, Tilde, Parenthesis, And, Or, Implies, Iff, PartFormula, size_all, is_parenthesis, formula_step, finished_primary}
 
 abbrev pub part : List Pending → Option Written → PartFormula
@@ -56,28 +56,28 @@ pub record IsPart (s : PartFormula) : Type 0 where
   pub waiting : AreWaiting s.pending
   pub last : IsOperand s.pending s.operand
 
--- ---- the marks so far
-abbrev pub sign_marks : Name → ℕ → ℕ → Written → Token → List Mark
-sign_marks c n o left sign = formula_marks c n o left ++ mark sign (IsNumber (n + size_of left + 1) ∷ []) ∷ []
+-- ---- the entries so far
+abbrev pub sign_entries : Name → ℕ → ℕ → Written → Token → List Entry
+sign_entries c n o left sign = formula_entries c n o left ++ entry sign (IsNumber (n + size_of left + 1) ∷ []) ∷ []
 
-abbrev pub waiting_marks : Name → ℕ → ℕ → Pending → List Mark
-waiting_marks c n o Tilde = mark (codes "~") (IsNumber (n + 1) ∷ []) ∷ []
-waiting_marks c n o Parenthesis = mark (codes "(") (OpensWithin o ∷ []) ∷ []
-waiting_marks c n o (And left) = sign_marks c n o left (codes "&")
-waiting_marks c n o (Or left) = sign_marks c n o left (codes "|")
-waiting_marks c n o (Implies left) = sign_marks c n o left (codes "->")
-waiting_marks c n o (Iff left) = sign_marks c n o left (codes "<->")
+abbrev pub waiting_entries : Name → ℕ → ℕ → Pending → List Entry
+waiting_entries c n o Tilde = entry (codes "~") (IsNumber (n + 1) ∷ []) ∷ []
+waiting_entries c n o Parenthesis = entry (codes "(") (OpensWithin o ∷ []) ∷ []
+waiting_entries c n o (And left) = sign_entries c n o left (codes "&")
+waiting_entries c n o (Or left) = sign_entries c n o left (codes "|")
+waiting_entries c n o (Implies left) = sign_entries c n o left (codes "->")
+waiting_entries c n o (Iff left) = sign_entries c n o left (codes "<->")
 
-abbrev pub pending_marks : Name → List Pending → List Mark
-pending_marks c [] = []
-pending_marks c (p ∷ ps) = pending_marks c ps ++ waiting_marks c (size_all ps) (opened ps) p
+abbrev pub pending_entries : Name → List Pending → List Entry
+pending_entries c [] = []
+pending_entries c (p ∷ ps) = pending_entries c ps ++ waiting_entries c (size_all ps) (opened ps) p
 
-abbrev pub operand_marks : Name → List Pending → Option Written → List Mark
-operand_marks c ps None = []
-operand_marks c ps (Some f) = formula_marks c (size_all ps) (opened ps) f
+abbrev pub operand_entries : Name → List Pending → Option Written → List Entry
+operand_entries c ps None = []
+operand_entries c ps (Some f) = formula_entries c (size_all ps) (opened ps) f
 
-abbrev pub part_marks : Name → PartFormula → List Mark
-part_marks c s = pending_marks c s.pending ++ operand_marks c s.pending s.operand
+abbrev pub part_entries : Name → PartFormula → List Entry
+part_entries c s = pending_entries c s.pending ++ operand_entries c s.pending s.operand
 
 -- ---- primaries
 
@@ -101,7 +101,7 @@ pub record IsPrimaryPart (s : PartFormula) : Type 0 where
 -- no primary is whole before a token
 abbrev pub IsUnfinished : Name → PartFormula → List Token → Type 0
 IsUnfinished c s [] = Unit {0}
-IsUnfinished c s (t ∷ ts) = (finished_primary s ≡ None) × ((r : Mark × PartFormula) → formula_step c s t ≡ Some r → IsUnfinished c r.1 ts)
+IsUnfinished c s (t ∷ ts) = (finished_primary s ≡ None) × ((r : Entry × PartFormula) → formula_step c s t ≡ Some r → IsUnfinished c r.1 ts)
 
 -- where a formula is whole, it goes on with these
 abbrev pub is_joining : Token → Bool

@@ -1,45 +1,45 @@
--- What was taken of a formula, token by token: it has the marks of what is written, and is of the grammar.
+-- What was taken of a formula, token by token: it has the entries of what is written, and is of the grammar.
 use Rattle.std.proofs.Common.{◌≡◌, ℕ, ◌+◌, ◌≤◌, Bool, true, false, cond, List, [], ◌∷◌, ◌++◌, refl, sym, ap, ◌∙◌, arith, append_assoc}
 use Rattle.std.specs.Prelude.{codes, nat_le}
 use Rattle.std.proofs.lemmas.Bool.{leb-true, leb-false}
 use Rattle.std.proofs.lemmas.List.{append-nil}
 use Rattle.mcs_system.specs.Plain.{Name}
 use Rattle.mcs_language.specs.Written.{Written, Grouped, level, IsFormula}
-use Rattle.mcs_language.specs.Marks.{IsNumber, OpensWithin, Mark, mark, formula_marks, size_of}
+use Rattle.mcs_language.specs.Entries.{IsNumber, OpensWithin, Entry, entry, formula_entries, size_of}
 use Rattle.mcs_language.specs.FormulaSteps.{Pending, Tilde, Parenthesis, And, Or, Implies, Iff, PartFormula, join, level_of, reduce, size_all}
-use Rattle.mcs_language.proofs.FormulaParts.{room_after, room, opened, opened-more, IsWaiting, AreWaiting, pending_marks, part_marks, BeginsPrimary}
+use Rattle.mcs_language.proofs.FormulaParts.{room_after, room, opened, opened-more, IsWaiting, AreWaiting, pending_entries, part_entries, BeginsPrimary}
 use Rattle.mcs_language.proofs.FormulaForward.{with_operand, Stays}
 
 -- ---- what waits, and its operand
-marks_then : (c : Name) (ps : List Pending) → pending_marks c ps ++ [] ≡ pending_marks c ps
-marks_then c ps = append-nil (pending_marks c ps)
+entries_then : (c : Name) (ps : List Pending) → pending_entries c ps ++ [] ≡ pending_entries c ps
+entries_then c ps = append-nil (pending_entries c ps)
 
-renumbered : (c : Name) (n k o : ℕ) (f : Written) → n ≡ k → formula_marks c n o f ≡ formula_marks c k o f
-renumbered c n k o f e = ap (λ i. formula_marks c i o f) e
+renumbered : (c : Name) (n k o : ℕ) (f : Written) → n ≡ k → formula_entries c n o f ≡ formula_entries c k o f
+renumbered c n k o f e = ap (λ i. formula_entries c i o f) e
 
 -- a sign between the two
-join-sign : (xs fs gs gs' : List Mark) (m m' : Mark) → m ≡ m' → gs ≡ gs' → (xs ++ (fs ++ m ∷ [])) ++ gs ≡ xs ++ (fs ++ m' ∷ gs')
-join-sign xs fs gs gs' m m' e e' = append_assoc xs (fs ++ m ∷ []) gs ∙ ap (λ l. xs ++ l) (append_assoc fs (m ∷ []) gs) ∙ ap (λ (x : Mark). xs ++ (fs ++ x ∷ gs)) e ∙ ap (λ l. xs ++ (fs ++ m' ∷ l)) e'
+join-sign : (xs fs gs gs' : List Entry) (m m' : Entry) → m ≡ m' → gs ≡ gs' → (xs ++ (fs ++ m ∷ [])) ++ gs ≡ xs ++ (fs ++ m' ∷ gs')
+join-sign xs fs gs gs' m m' e e' = append_assoc xs (fs ++ m ∷ []) gs ∙ ap (λ l. xs ++ l) (append_assoc fs (m ∷ []) gs) ∙ ap (λ (x : Entry). xs ++ (fs ++ x ∷ gs)) e ∙ ap (λ l. xs ++ (fs ++ m' ∷ l)) e'
 
-pub join-marks : (c : Name) (p : Pending) (ps : List Pending) (f : Written) → level_of p ≤ 4 → part_marks c (with_operand (p ∷ ps) f) ≡ part_marks c (with_operand ps (join p f))
-join-marks c Tilde ps f h =
+pub join-entries : (c : Name) (p : Pending) (ps : List Pending) (f : Written) → level_of p ≤ 4 → part_entries c (with_operand (p ∷ ps) f) ≡ part_entries c (with_operand ps (join p f))
+join-entries c Tilde ps f h =
     let number : 1 + size_all ps ≡ size_all ps + 1 = omega arith in
-    append_assoc (pending_marks c ps) (mark (codes "~") (IsNumber (size_all ps + 1) ∷ []) ∷ []) _ ∙ ap (λ i. pending_marks c ps ++ mark (codes "~") (IsNumber (size_all ps + 1) ∷ []) ∷ formula_marks c i (opened ps) f) number
-join-marks c Parenthesis ps f h = absurd (omega (arith, h))
-join-marks c (And l) ps f h = let number : size_of l + 1 + size_all ps ≡ size_all ps + size_of l + 1 = omega arith in join-sign (pending_marks c ps) (formula_marks c (size_all ps) (opened ps) l) _ _ _ _ refl (renumbered c _ _ (opened ps) f number)
-join-marks c (Or l) ps f h = let number : size_of l + 1 + size_all ps ≡ size_all ps + size_of l + 1 = omega arith in join-sign (pending_marks c ps) (formula_marks c (size_all ps) (opened ps) l) _ _ _ _ refl (renumbered c _ _ (opened ps) f number)
-join-marks c (Implies l) ps f h = let number : size_of l + 1 + size_all ps ≡ size_all ps + size_of l + 1 = omega arith in join-sign (pending_marks c ps) (formula_marks c (size_all ps) (opened ps) l) _ _ _ _ refl (renumbered c _ _ (opened ps) f number)
-join-marks c (Iff l) ps f h = let number : size_of l + 1 + size_all ps ≡ size_all ps + size_of l + 1 = omega arith in join-sign (pending_marks c ps) (formula_marks c (size_all ps) (opened ps) l) _ _ _ _ refl (renumbered c _ _ (opened ps) f number)
+    append_assoc (pending_entries c ps) (entry (codes "~") (IsNumber (size_all ps + 1) ∷ []) ∷ []) _ ∙ ap (λ i. pending_entries c ps ++ entry (codes "~") (IsNumber (size_all ps + 1) ∷ []) ∷ formula_entries c i (opened ps) f) number
+join-entries c Parenthesis ps f h = absurd (omega (arith, h))
+join-entries c (And l) ps f h = let number : size_of l + 1 + size_all ps ≡ size_all ps + size_of l + 1 = omega arith in join-sign (pending_entries c ps) (formula_entries c (size_all ps) (opened ps) l) _ _ _ _ refl (renumbered c _ _ (opened ps) f number)
+join-entries c (Or l) ps f h = let number : size_of l + 1 + size_all ps ≡ size_all ps + size_of l + 1 = omega arith in join-sign (pending_entries c ps) (formula_entries c (size_all ps) (opened ps) l) _ _ _ _ refl (renumbered c _ _ (opened ps) f number)
+join-entries c (Implies l) ps f h = let number : size_of l + 1 + size_all ps ≡ size_all ps + size_of l + 1 = omega arith in join-sign (pending_entries c ps) (formula_entries c (size_all ps) (opened ps) l) _ _ _ _ refl (renumbered c _ _ (opened ps) f number)
+join-entries c (Iff l) ps f h = let number : size_of l + 1 + size_all ps ≡ size_all ps + size_of l + 1 = omega arith in join-sign (pending_entries c ps) (formula_entries c (size_all ps) (opened ps) l) _ _ _ _ refl (renumbered c _ _ (opened ps) f number)
 
 -- a parenthesis and what it closes
-pub close-marks : (c : Name) (ps : List Pending) (f : Written) → part_marks c (with_operand ps (Grouped f)) ≡ part_marks c (with_operand (Parenthesis ∷ ps) f) ++ mark (codes ")") [] ∷ []
-close-marks c ps f =
+pub close-entries : (c : Name) (ps : List Pending) (f : Written) → part_entries c (with_operand ps (Grouped f)) ≡ part_entries c (with_operand (Parenthesis ∷ ps) f) ++ entry (codes ")") [] ∷ []
+close-entries c ps f =
     let more : opened ps + 1 ≡ opened (Parenthesis ∷ ps) = omega (arith, opened-more ps) in
     let same : size_all ps ≡ 0 + size_all ps = omega arith in
-    ap (λ i. pending_marks c ps ++ mark (codes "(") (OpensWithin (opened ps) ∷ []) ∷ (formula_marks c (size_all ps) i f ++ mark (codes ")") [] ∷ [])) more
-    ∙ ap (λ i. pending_marks c ps ++ mark (codes "(") (OpensWithin (opened ps) ∷ []) ∷ (formula_marks c i (opened (Parenthesis ∷ ps)) f ++ mark (codes ")") [] ∷ [])) same
-    ∙ sym (append_assoc (pending_marks c ps) (mark (codes "(") (OpensWithin (opened ps) ∷ []) ∷ []) (formula_marks c (0 + size_all ps) (opened (Parenthesis ∷ ps)) f ++ mark (codes ")") [] ∷ []))
-    ∙ sym (append_assoc (pending_marks c ps ++ mark (codes "(") (OpensWithin (opened ps) ∷ []) ∷ []) (formula_marks c (0 + size_all ps) (opened (Parenthesis ∷ ps)) f) (mark (codes ")") [] ∷ []))
+    ap (λ i. pending_entries c ps ++ entry (codes "(") (OpensWithin (opened ps) ∷ []) ∷ (formula_entries c (size_all ps) i f ++ entry (codes ")") [] ∷ [])) more
+    ∙ ap (λ i. pending_entries c ps ++ entry (codes "(") (OpensWithin (opened ps) ∷ []) ∷ (formula_entries c i (opened (Parenthesis ∷ ps)) f ++ entry (codes ")") [] ∷ [])) same
+    ∙ sym (append_assoc (pending_entries c ps) (entry (codes "(") (OpensWithin (opened ps) ∷ []) ∷ []) (formula_entries c (0 + size_all ps) (opened (Parenthesis ∷ ps)) f ++ entry (codes ")") [] ∷ []))
+    ∙ sym (append_assoc (pending_entries c ps ++ entry (codes "(") (OpensWithin (opened ps) ∷ []) ∷ []) (formula_entries c (0 + size_all ps) (opened (Parenthesis ∷ ps)) f) (entry (codes ")") [] ∷ []))
 
 -- what waited and its operand are a formula, and there is room for it
 pub join-formula : (p : Pending) (room' : ℕ) (f : Written) → IsWaiting p room' → level_of p ≤ 4 → IsFormula f → level f ≤ room_after p → IsFormula (join p f) × (level (join p f) ≡ level_of p) × (level_of p ≤ room')
@@ -68,7 +68,7 @@ pub record IsReduced (ps : List Pending) (f : Written) (most : ℕ) (s : PartFor
   pub low : level last ≤ most
   pub fits : level last ≤ room left
   pub stays : Stays most left
-  pub marks : (c : Name) → part_marks c (with_operand left last) ≡ part_marks c (with_operand ps f)
+  pub entries : (c : Name) → part_entries c (with_operand left last) ≡ part_entries c (with_operand ps f)
   pub size : size_all left + size_of last ≡ size_all ps + size_of f
   pub begun : 1 ≤ room ps → BeginsPrimary ps → BeginsPrimary left
 
@@ -93,13 +93,13 @@ above-one (Implies l) h = omega arith
 above-one (Iff l) h = omega arith
 
 pub reduced : (most : ℕ) (ps : List Pending) (f : Written) → most ≤ 4 → AreWaiting ps → IsFormula f → level f ≤ most → level f ≤ room ps → IsReduced ps f most (reduce most ps f)
-reduced most [] f h w is low fits = record { left = []; last = f; is = refl; waiting = tt; formula = is; low = low; fits = fits; stays = tt; marks = λ c. refl; size = refl; begun = λ one b. b }
+reduced most [] f h w is low fits = record { left = []; last = f; is = refl; waiting = tt; formula = is; low = low; fits = fits; stays = tt; entries = λ c. refl; size = refl; begun = λ one b. b }
 reduced most (p ∷ ps) f h w is low fits =
     at (nat_le (level_of p) most) refl
     (λ below. let j = join-formula p (room ps) f w.0 (omega (arith, below, h)) is fits in reduced most ps (join p f) h w.1 j.0 (omega (arith, j.1, below)) (omega (arith, j.1, j.2)))
   where
     at : (b : Bool) → b ≡ nat_le (level_of p) most → (level_of p ≤ most → IsReduced ps (join p f) most (reduce most ps (join p f))) → IsReduced (p ∷ ps) f most (cond b (reduce most ps (join p f)) (with_operand (p ∷ ps) f))
-    at false e rest = record { left = p ∷ ps; last = f; is = refl; waiting = w; formula = is; low = low; fits = fits; stays = leb-false (level_of p) most (sym e); marks = λ c. refl; size = refl; begun = λ one b. b }
+    at false e rest = record { left = p ∷ ps; last = f; is = refl; waiting = w; formula = is; low = low; fits = fits; stays = leb-false (level_of p) most (sym e); entries = λ c. refl; size = refl; begun = λ one b. b }
     at true e rest =
         let below : level_of p ≤ most = leb-true (level_of p) most (sym e) in
         let four : level_of p ≤ 4 = omega (arith, below, h) in
@@ -114,7 +114,7 @@ reduced most (p ∷ ps) f h w is low fits =
           low = r.low;
           fits = r.fits;
           stays = r.stays;
-          marks = λ c. r.marks c ∙ sym (join-marks c p ps f four);
+          entries = λ c. r.entries c ∙ sym (join-entries c p ps f four);
           size = r.size ∙ sym (join-size p ps f);
           begun = λ one b. r.begun (omega (arith, above-one p one, j.2)) (begins-rest p ps four one b);
         }

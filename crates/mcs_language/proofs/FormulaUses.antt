@@ -6,9 +6,9 @@ use Rattle.mcs_base.proofs.Among.{among_left, among_right, among_either}
 use Rattle.mcs_system.specs.Plain.{Name}
 use Rattle.mcs_system.specs.Logic.{atoms}
 use Rattle.mcs_language.specs.Written.{Written, True', False', Named, Denied, Grouped, Both, Either, Leads, Equals}
-use Rattle.mcs_language.specs.Marks.{Use, AtomOf, IsNumber, OpensWithin, Mark, mark, formula_in, size_of, formula_marks, whole_marks, uses_of}
+use Rattle.mcs_language.specs.Entries.{Use, AtomOf, IsNumber, OpensWithin, Entry, entry, formula_in, size_of, formula_entries, whole_entries, uses_of}
 use Rattle.mcs_language.proofs.UsesParts.{depth_of}
-use Rattle.mcs_language.proofs.MarkLists.{uses-append, uses-end}
+use Rattle.mcs_language.proofs.EntryLists.{uses-append, uses-end}
 
 -- these atoms of the context, the numbers above `from` and up to `to`, and the parentheses within `low` others up to below `high`
 abbrev pub IsPartUse : (c : Name) (names : List Name) (from to low high : ℕ) → Use → Type 0
@@ -125,31 +125,31 @@ binary-part c xs ys n s s' o d d' us vs h h' =
     same-part c (xs ++ ys) (xs ++ ys) n (n + s + 1 + s') (n + (s + s' + 1)) o (max (o + d) (max o (o + d'))) (o + max d d') (us ++ IsNumber (n + s + 1) ∷ vs) (us ++ IsNumber (n + s + 1) ∷ vs) refl (omega arith) (omega arith) refl
     (join-parts c xs ys n (n + s) (n + s + 1 + s') o (o + d) (max o (o + d')) (omega arith) (omega arith) us (IsNumber (n + s + 1) ∷ vs) h right)
 
-binary-uses : (c : Name) (n o : ℕ) (f : Written) (m : Mark) (ms : List Mark) → uses_of (formula_marks c n o f ++ m ∷ ms) ≡ uses_of (formula_marks c n o f) ++ (m.uses ++ uses_of ms)
-binary-uses c n o f m ms = uses-append (formula_marks c n o f) (m ∷ ms)
+binary-uses : (c : Name) (n o : ℕ) (f : Written) (m : Entry) (ms : List Entry) → uses_of (formula_entries c n o f ++ m ∷ ms) ≡ uses_of (formula_entries c n o f) ++ (m.uses ++ uses_of ms)
+binary-uses c n o f m ms = uses-append (formula_entries c n o f) (m ∷ ms)
 
 part-with : (c : Name) (xs : List Name) (from to low high : ℕ) (us vs : List Use) → vs ≡ us → ArePartUses c xs from to low high us → ArePartUses c xs from to low high vs
 part-with c xs from to low high us vs e h = subst (λ (ws : List Use). ArePartUses c xs from to low high ws) (sym e) h
 
-pub formula-part : (c : Name) (n o : ℕ) (f : Written) → ArePartUses c (atoms (formula_in f)) n (n + size_of f) o (o + depth_of f) (uses_of (formula_marks c n o f))
+pub formula-part : (c : Name) (n o : ℕ) (f : Written) → ArePartUses c (atoms (formula_in f)) n (n + size_of f) o (o + depth_of f) (uses_of (formula_entries c n o f))
 formula-part c n o True' = same-part c [] [] n (n + 1) (n + 1) o o (o + 0) _ _ refl refl (omega arith) refl (number-part c n o)
 formula-part c n o False' = same-part c [] [] n (n + 1) (n + 1) o o (o + 0) _ _ refl refl (omega arith) refl (number-part c n o)
 formula-part c n o (Named a) = same-part c (a ∷ []) (a ∷ []) n (n + 1) (n + 1) o o (o + 0) _ _ refl refl (omega arith) refl (atom-part c n o a)
 formula-part c n o (Denied f) =
     let xs : List Name = atoms (formula_in f) in
-    let us : List Use = uses_of (formula_marks c (n + 1) o f) in
+    let us : List Use = uses_of (formula_entries c (n + 1) o f) in
     same-part c xs xs n (n + 1 + size_of f) (n + (size_of f + 1)) o (max o (o + depth_of f)) (o + depth_of f) (IsNumber (n + 1) ∷ us) (IsNumber (n + 1) ∷ us) refl (omega arith) (omega arith) refl
     (join-parts c [] xs n (n + 1) (n + 1 + size_of f) o o (o + depth_of f) (omega arith) (omega arith) (IsNumber (n + 1) ∷ []) us (number-part c n o) (formula-part c (n + 1) o f))
 formula-part c n o (Grouped f) =
     let xs : List Name = atoms (formula_in f) in
-    let us : List Use = uses_of (formula_marks c n (o + 1) f) in
-    let vs : List Use = uses_of (formula_marks c n (o + 1) f ++ mark (codes ")") [] ∷ []) in
-    same-part c xs xs n (n + size_of f) (n + size_of f) o (o + 1 + depth_of f) (o + (depth_of f + 1)) (OpensWithin o ∷ us) (OpensWithin o ∷ vs) refl refl (omega arith) (ap (λ (ws : List Use). OpensWithin o ∷ ws) (sym (uses-end (formula_marks c n (o + 1) f) (mark (codes ")") []) refl)))
+    let us : List Use = uses_of (formula_entries c n (o + 1) f) in
+    let vs : List Use = uses_of (formula_entries c n (o + 1) f ++ entry (codes ")") [] ∷ []) in
+    same-part c xs xs n (n + size_of f) (n + size_of f) o (o + 1 + depth_of f) (o + (depth_of f + 1)) (OpensWithin o ∷ us) (OpensWithin o ∷ vs) refl refl (omega arith) (ap (λ (ws : List Use). OpensWithin o ∷ ws) (sym (uses-end (formula_entries c n (o + 1) f) (entry (codes ")") []) refl)))
     (open-part c xs n (n + size_of f) o (o + 1 + depth_of f) us (omega arith) (formula-part c n (o + 1) f))
 formula-part c n o (Both f g) = part-with c _ n _ o _ _ _ (binary-uses c n o f _ _) (binary-part c _ _ n (size_of f) (size_of g) o (depth_of f) (depth_of g) _ _ (formula-part c n o f) (formula-part c (n + size_of f + 1) o g))
 formula-part c n o (Either f g) = part-with c _ n _ o _ _ _ (binary-uses c n o f _ _) (binary-part c _ _ n (size_of f) (size_of g) o (depth_of f) (depth_of g) _ _ (formula-part c n o f) (formula-part c (n + size_of f + 1) o g))
 formula-part c n o (Leads f g) = part-with c _ n _ o _ _ _ (binary-uses c n o f _ _) (binary-part c _ _ n (size_of f) (size_of g) o (depth_of f) (depth_of g) _ _ (formula-part c n o f) (formula-part c (n + size_of f + 1) o g))
 formula-part c n o (Equals f g) = part-with c _ n _ o _ _ _ (binary-uses c n o f _ _) (binary-part c _ _ n (size_of f) (size_of g) o (depth_of f) (depth_of g) _ _ (formula-part c n o f) (formula-part c (n + size_of f + 1) o g))
 
-pub whole-part : (c : Name) (f : Written) → ArePartUses c (atoms (formula_in f)) 0 (size_of f) 0 (depth_of f) (uses_of (whole_marks c f))
+pub whole-part : (c : Name) (f : Written) → ArePartUses c (atoms (formula_in f)) 0 (size_of f) 0 (depth_of f) (uses_of (whole_entries c f))
 whole-part c f = same-part c _ _ 0 (0 + size_of f) (size_of f) 0 (0 + depth_of f) (depth_of f) _ _ refl (omega arith) (omega arith) refl (formula-part c 0 0 f)

@@ -14,7 +14,7 @@ use Rattle.mcs_language.specs.declared.place.Role as code_role
 use Rattle.mcs_language.specs.declared.place.Role.TheVariants as roles
 use Rattle.mcs_language.specs.declared.watch.Watch.{Watch}
 use Rattle.mcs_language.specs.declared.watch.Said.{Said}
-use Rattle.mcs_language.specs.Marks.{Token, Use, BeginsContext, BeginsBridge, NamesContext, NamesBridge, SaysProgram, BeginsItem, BeginsDefault, NamesTarget, NamesSource, BeginsBelief, EndsRead, AtomOf, IsNumber, OpensWithin, Mark}
+use Rattle.mcs_language.specs.Entries.{Token, Use, BeginsContext, BeginsBridge, NamesContext, NamesBridge, SaysProgram, BeginsItem, BeginsDefault, NamesTarget, NamesSource, BeginsBelief, EndsRead, AtomOf, IsNumber, OpensWithin, Entry}
 use Rattle.mcs_language.specs.Faults.{begins_context, begins_bridge, names_target, begins_default_of, begins_item_of, WasAtom, IsOneMore, Fault, NoContext, Twin, Exceeds, Has}
 use Rattle.mcs_language.specs.TextImages.{About, role_uses, uses_in, read_of}
 use Rattle.mcs_language.specs.Written.{IsNameWord}
@@ -114,7 +114,7 @@ module _ (before : List Use) (v : Use) where
   item-later c other free = (spoken-later before v (BeginsItem c) free.0, count-stays (begins_item_of c) 4096 other free.1)
 
 -- ---- a token that has no fault
-module _ (w : Watch) (before : List Use) (m : Mark) (a : About) (s : Said) (asked : IsAsked w before m a s) (none : (f : Fault) → ¬ Has f before m) where
+module _ (w : Watch) (before : List Use) (m : Entry) (a : About) (s : Said) (asked : IsAsked w before m a s) (none : (f : Fault) → ¬ Has f before m) where
   -- the name is no longer than a name may be
   pub fitting : IsNameWord m.token → length m.token ≤ 64
   fitting word = elim (cases_lt 64 (length m.token)) [ inl long ↦ absurd (none (Exceeds NameBytes) (word, long)) | inr short ↦ short ]

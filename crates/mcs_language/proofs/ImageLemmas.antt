@@ -6,7 +6,7 @@ use Rattle.mcs_system.specs.Seen.{formula_of}
 use Rattle.mcs_system.specs.declared.formula.Formula as code_formula
 use Rattle.mcs_language.specs.declared.formula.Pending as code_pending
 use Rattle.mcs_language.specs.Written.{Written}
-use Rattle.mcs_language.specs.Marks.{formula_in}
+use Rattle.mcs_language.specs.Entries.{formula_in}
 use Rattle.mcs_language.specs.FormulaSteps.{Pending, Tilde, Parenthesis, And, Or, Implies, Iff, PartFormula, join, settle, level_of, reduce}
 use Rattle.mcs_language.specs.FormulaImages.{waiting_of, waiting_in, waiting_level, made, AreStacked, AreImages}
 use Rattle.mcs_language.proofs.FormulaForward.{with_operand}

@@ -15,7 +15,7 @@ use Rattle.mcs_language.specs.declared.place.Role.TheVariants as roles
 use Rattle.mcs_language.specs.declared.watch.Watch.{Watch}
 use Rattle.mcs_language.specs.declared.watch.ContextSeen.{ContextSeen}
 use Rattle.mcs_language.specs.declared.watch.Said.{Said}
-use Rattle.mcs_language.specs.Marks.{Use, EndsRead, AtomOf, Mark}
+use Rattle.mcs_language.specs.Entries.{Use, EndsRead, AtomOf, Entry}
 use Rattle.mcs_language.specs.Faults.{NamedRead, WasReadInto, WasAtom, IsBeyond}
 use Rattle.mcs_language.specs.TextImages.{About, read_of}
 use Rattle.mcs_language.specs.Watching.{Lists, IsNumberOf, IsAsked}
@@ -23,7 +23,7 @@ use Rattle.mcs_language.proofs.DifferentLemmas.{values-at}
 use Rattle.mcs_language.proofs.LimitLemmas.{read_said, variables-beyond, inputs-beyond, atoms-beyond, spoken-of}
 use Rattle.mcs_language.proofs.WatchFacts.{one-more, number-there, seen-name, seen-here, seen-none}
 
-module _ (w : Watch) (before : List Use) (m : Mark) (a : About) (s : Said) (asked : IsAsked w before m a s) where
+module _ (w : Watch) (before : List Use) (m : Entry) (a : About) (s : Said) (asked : IsAsked w before m a s) where
   abbrev variables : List NamedRead
   variables = map read_of w.variables.items
 

@@ -5,7 +5,7 @@ use Rattle.mcs_base.specs.Listings.{IsAmong}
 use Rattle.mcs_system.specs.Plain.{Name, Formula}
 use Rattle.mcs_system.specs.Logic.{atoms}
 use Rattle.mcs_language.specs.Written.{Written, WrittenBridge, IsNameWord}
-use Rattle.mcs_language.specs.Marks.{Token, Use, EndsRead, Mark, formula_in}
+use Rattle.mcs_language.specs.Entries.{Token, Use, EndsRead, Entry, formula_in}
 use Rattle.mcs_language.specs.Faults.{Fault, Has}
 use Rattle.mcs_language.specs.FormulaSteps.{PartFormula}
 use Rattle.mcs_language.specs.TextSteps.{PartRead, InRead, AfterRead, PartText, place_of, with_read, text_step}
@@ -18,23 +18,23 @@ use Rattle.mcs_language.proofs.MoveLemmas.{IsMove, IsReadEnd, HasReadEnd}
 use Rattle.mcs_language.proofs.TextMoves.{text-move}
 
 -- ---- what is spoken of
-pub spoken : (before : List Use) (s : PartText) (t : Token) (m : Mark) (s' : PartText) → text_step s t ≡ Some (m, s') → AreKnown before s.place → AllByRecursion (IsSpokenOf before) m.uses
+pub spoken : (before : List Use) (s : PartText) (t : Token) (m : Entry) (s' : PartText) → text_step s t ≡ Some (m, s') → AreKnown before s.place → AllByRecursion (IsSpokenOf before) m.uses
 spoken before s t m s' step h = (text-move s t (m, s') step).spoken before h
 
-pub spoken-step : (before : List Use) (s : PartText) (t : Token) (m : Mark) (s' : PartText) → text_step s t ≡ Some (m, s') → AreKnownIn before s → AllByRecursion (IsSpokenOf before) m.uses
+pub spoken-step : (before : List Use) (s : PartText) (t : Token) (m : Entry) (s' : PartText) → text_step s t ≡ Some (m, s') → AreKnownIn before s → AllByRecursion (IsSpokenOf before) m.uses
 spoken-step before s t m s' step h = spoken before s t m s' step h.place
 
-pub known-step : (before : List Use) (s : PartText) (t : Token) (m : Mark) (s' : PartText) → text_step s t ≡ Some (m, s') → AreKnownIn before s → ((f : Fault) → ¬ Has f before m) → AreKnownIn (before ++ m.uses) s'
+pub known-step : (before : List Use) (s : PartText) (t : Token) (m : Entry) (s' : PartText) → text_step s t ≡ Some (m, s') → AreKnownIn before s → ((f : Fault) → ¬ Has f before m) → AreKnownIn (before ++ m.uses) s'
 known-step before s t m s' step h free =
     let move : IsMove s t (m, s') = text-move s t (m, s') step in
     record { bridges = all-speak-later before m.uses s'.bridges (move.bridges before h.place h.bridges); place = move.known before h.place (uses-named before m free) }
 
 -- ---- the end of a read
 -- a place after a read is come to at the end of one, and only there
-pub ends-after : (s : PartText) (t : Token) (m : Mark) (s' : PartText) (w : WrittenBridge) → text_step s t ≡ Some (m, s') → s'.place ≡ AfterRead w → HasReadEnd m.uses
+pub ends-after : (s : PartText) (t : Token) (m : Entry) (s' : PartText) (w : WrittenBridge) → text_step s t ≡ Some (m, s') → s'.place ≡ AfterRead w → HasReadEnd m.uses
 ends-after s t m s' w step e = (text-move s t (m, s') step).after w e
 
-module _ (s : PartText) (t : Token) (m : Mark) (s' : PartText) (target c : Name) (f : Formula) (step : text_step s t ≡ Some (m, s')) (there : IsAmong (EndsRead target c f) m.uses) where
+module _ (s : PartText) (t : Token) (m : Entry) (s' : PartText) (target c : Name) (f : Formula) (step : text_step s t ≡ Some (m, s')) (there : IsAmong (EndsRead target c f) m.uses) where
   the-end : IsReadEnd s.place t target c f s'.place
   the-end = (text-move s t (m, s') step).ends target c f there
 

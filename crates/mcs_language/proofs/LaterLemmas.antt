@@ -6,7 +6,7 @@ use Rattle.mcs_sets.specs.Sets.{has}
 use Rattle.mcs_base.proofs.Among.{among_push, among_left}
 use Rattle.mcs_base.proofs.Lists.{flat_map_push}
 use Rattle.mcs_system.specs.Plain.{Name, Formula}
-use Rattle.mcs_language.specs.Marks.{Use, BeginsContext, BeginsBridge, NamesContext, NamesBridge, SaysProgram, BeginsItem, BeginsDefault, NamesTarget, NamesSource, BeginsBelief, EndsRead, AtomOf, IsNumber, OpensWithin}
+use Rattle.mcs_language.specs.Entries.{Use, BeginsContext, BeginsBridge, NamesContext, NamesBridge, SaysProgram, BeginsItem, BeginsDefault, NamesTarget, NamesSource, BeginsBelief, EndsRead, AtomOf, IsNumber, OpensWithin}
 use Rattle.mcs_language.specs.Faults.{NamedRead, WasRead, WasReadInto, WasAtom}
 use Rattle.mcs_language.specs.Watching.{context_named, bridge_named, contexts_named, bridges_named, Lists, IsSpokenOf}
 use Rattle.mcs_language.proofs.DifferentLemmas.{lists-same}

@@ -33,7 +33,7 @@ pub mod OneFault
 pub mod UsesLemmas
 pub mod Within
 pub mod NumberLemmas
-pub mod MarkLists
+pub mod EntryLists
 pub mod UsesParts
 pub mod FormulaUses
 pub mod RuleUses
@@ -84,7 +84,7 @@ pub mod CappedWatch
 pub mod FreeLemmas
 pub mod RecordLemmas
 pub mod TextSplits
-pub mod BeliefMarks
+pub mod BeliefEntries
 pub mod BeforeRules
 pub mod TextConditions
 pub mod FaultlessNames

@@ -9,11 +9,11 @@ use Rattle.mcs_language.specs.declared.place.Role.TheVariants as roles
 use Rattle.mcs_language.specs.declared.watch.Watch.{Watch}
 use Rattle.mcs_language.specs.declared.watch.Said.{Said}
 use Rattle.mcs_language.specs.Written.{IsNameWord}
-use Rattle.mcs_language.specs.Marks.{Token, Use, BeginsContext, BeginsBridge, NamesContext, NamesBridge, SaysProgram, BeginsItem, BeginsDefault, NamesTarget, NamesSource, BeginsBelief, EndsRead, AtomOf, OpensWithin, Mark}
+use Rattle.mcs_language.specs.Entries.{Token, Use, BeginsContext, BeginsBridge, NamesContext, NamesBridge, SaysProgram, BeginsItem, BeginsDefault, NamesTarget, NamesSource, BeginsBelief, EndsRead, AtomOf, OpensWithin, Entry}
 use Rattle.mcs_language.specs.Faults.{names_target, begins_default_of, begins_item_of, NamedRead, WasRead, WasReadInto, WasAtom, IsOneMore, NoContext, Twin, NoAtom, IsBeyond, Has}
 use Rattle.mcs_language.specs.TextImages.{About}
 use Rattle.mcs_language.specs.Watching.{IsSpokenOf, IsAsked}
-use Rattle.mcs_language.proofs.UseLemmas.{is_number, IsIn, mark-in, in-mark, number-in, in-number}
+use Rattle.mcs_language.proofs.UseLemmas.{is_number, IsIn, entry-in, in-entry, number-in, in-number}
 
 -- the read that ends with the token
 abbrev pub read_said : About → NamedRead
@@ -22,15 +22,15 @@ read_said a = record { context = a.subject.context; belief = a.belief }
 abbrev read_at : Name → Formula → NamedRead
 read_at c f = record { context = c; belief = f }
 
-module _ (w : Watch) (before : List Use) (m : Mark) (a : About) (s : Said) (asked : IsAsked w before m a s) where
+module _ (w : Watch) (before : List Use) (m : Entry) (a : About) (s : Said) (asked : IsAsked w before m a s) where
   abbrev token : Token
   token = s.token.now
 
   pub use-in : (u : Use) → is_number u ≡ false → IsAmong u m.uses → IsIn a token s.uses u
-  use-in u other h = subst (λ (t : Token). IsIn a t s.uses u) asked.token_is (mark-in a m.token s.uses m.uses asked.said.uses_are u other h)
+  use-in u other h = subst (λ (t : Token). IsIn a t s.uses u) asked.token_is (entry-in a m.token s.uses m.uses asked.said.uses_are u other h)
 
   pub in-use : (u : Use) → is_number u ≡ false → IsIn a token s.uses u → IsAmong u m.uses
-  in-use u other h = in-mark a m.token s.uses m.uses asked.said.uses_are u other (subst (λ (t : Token). IsIn a t s.uses u) (sym asked.token_is) h)
+  in-use u other h = in-entry a m.token s.uses m.uses asked.said.uses_are u other (subst (λ (t : Token). IsIn a t s.uses u) (sym asked.token_is) h)
 
   pub spoken-of : (u : Use) → is_number u ≡ false → IsIn a token s.uses u → IsSpokenOf before u
   spoken-of u other h = all_among (IsSpokenOf before) m.uses u asked.spoken (in-use u other h)

@@ -9,7 +9,7 @@ use Rattle.mcs_base.proofs.Each.{all_push, all_among}
 use Rattle.mcs_system.specs.Plain.{Name, Formula, Truth}
 use Rattle.mcs_system.specs.Logic.{atoms}
 use Rattle.mcs_language.specs.Written.{Written, WrittenContext, WrittenRead, WrittenBridge, IsNameWord}
-use Rattle.mcs_language.specs.Marks.{Token, Use, SaysProgram, BeginsItem, BeginsDefault, BeginsBelief, EndsRead, AtomOf, IsNumber, OpensWithin, Mark, mark, formula_in}
+use Rattle.mcs_language.specs.Entries.{Token, Use, SaysProgram, BeginsItem, BeginsDefault, BeginsBelief, EndsRead, AtomOf, IsNumber, OpensWithin, Entry, entry, formula_in}
 use Rattle.mcs_language.specs.FormulaSteps.{Pending, PartFormula, formula_step, finished_primary, size_so_far, opened_so_far, is_name_word}
 use Rattle.mcs_language.specs.TextSteps.{PartRead, Place, Between, InRead, AfterRead, PartText, goes, place_of, with_read, first_of_belief, context_is_whole, bridge_is_whole}
 use Rattle.mcs_language.specs.Watching.{IsSpokenOf}
@@ -36,8 +36,8 @@ pub record IsReadEnd (p : Place) (t : Token) (target c : Name) (f : Formula) (p'
 abbrev pub HasReadEnd : List Use → Type 0
 HasReadEnd uses = (target : Name) × (c : Name) × (f : Formula) × IsAmong (EndsRead target c f) uses
 
--- what the mark and the text that is written then have to do with the text before
-pub record IsMove (s : PartText) (t : Token) (r : Mark × PartText) : Type 0 where
+-- what the entry and the text that is written then have to do with the text before
+pub record IsMove (s : PartText) (t : Token) (r : Entry × PartText) : Type 0 where
   pub spoken : (before : List Use) → AreKnown before s.place → AllByRecursion (IsSpokenOf before) (r.0).uses
   pub known : (before : List Use) → AreKnown before s.place → AllByRecursion (IsNamed before) (r.0).uses → AreKnown (before ++ (r.0).uses) (r.1).place
   pub bridges : (before : List Use) → AreKnown before s.place → AllByRecursion (SpeaksOfNamed before) s.bridges → AllByRecursion (SpeaksOfNamed before) (r.1).bridges
@@ -124,7 +124,7 @@ of-formula c s t = go (bytes_eq t (codes "(")) (bytes_eq t (codes ")")) (is_name
     go false false true = (refl, (tt, tt))
     go false false false = (tt, tt)
 
-pub of-step : (c : Name) (s : PartFormula) (t : Token) (q : Mark × PartFormula) → formula_step c s t ≡ Some q → AllByRecursion (IsOf c) (q.0).uses
+pub of-step : (c : Name) (s : PartFormula) (t : Token) (q : Entry × PartFormula) → formula_step c s t ≡ Some q → AllByRecursion (IsOf c) (q.0).uses
 of-step c s t q e = subst (AllByRecursion (IsOf c)) (sym (uses-of-step c s t q e)) (of-formula c s t)
 
 of-first : (c : Name) (ps : List Pending) (o : Option Written) → AllByRecursion (IsOf c) (first_of_belief c (record { pending = ps; operand = o }))
@@ -132,11 +132,11 @@ of-first c [] None = (refl, tt)
 of-first c [] (Some w) = tt
 of-first c (p ∷ ps) o = tt
 
-pub of-belief : (c : Name) (s : PartFormula) (t : Token) (q : Mark × PartFormula) → formula_step c s t ≡ Some q → AllByRecursion (IsOf c) (first_of_belief c s ++ (q.0).uses)
+pub of-belief : (c : Name) (s : PartFormula) (t : Token) (q : Entry × PartFormula) → formula_step c s t ≡ Some q → AllByRecursion (IsOf c) (first_of_belief c s ++ (q.0).uses)
 of-belief c s t q e = of-append c (first_of_belief c s) (q.0).uses (of-first c s.pending s.operand) (of-step c s t q e)
 
 -- ---- the kinds of tokens
-module _ (cs : List WrittenContext) (bs : List WrittenBridge) (p : Place) (t : Token) (r : Mark × PartText) where
+module _ (cs : List WrittenContext) (bs : List WrittenBridge) (p : Place) (t : Token) (r : Entry × PartText) where
   -- one that ends no read
   pub goes-move : (p' : Place) (uses : List Use) → ((before : List Use) → AreKnown before p → AllByRecursion (IsSpokenOf before) uses) → ((before : List Use) → AreKnown before p → AllByRecursion (IsNamed before) uses → AreKnown (before ++ uses) p')
       → AllByRecursion EndsNone uses → is_after_read p' ≡ false → goes (text_of cs bs p) t uses p' ≡ Some r → IsMove (text_of cs bs p) t r
@@ -158,11 +158,11 @@ module _ (cs : List WrittenContext) (bs : List WrittenBridge) (p : Place) (t : T
   of-move c p' uses of here stays away g = stay-move p' uses (λ before h. of-spoken before c uses (here before h) of) stays (of-ends-none c uses of) away g
 
   -- one with which a context, or a rule, is whole
-  pub context-move : (c : WrittenContext) → Some (mark t [], context_is_whole (text_of cs bs p) c) ≡ Some r → IsMove (text_of cs bs p) t r
+  pub context-move : (c : WrittenContext) → Some (entry t [], context_is_whole (text_of cs bs p) c) ≡ Some r → IsMove (text_of cs bs p) t r
   context-move c g =
       subst (IsMove (text_of cs bs p) t) (same_Some _ _ g) (record { spoken = λ before h. tt; known = λ before h named. tt; bridges = λ before h all. all; ends = λ target d f h. absurd h; after = λ w e. no-after Between w refl e })
 
-  pub bridge-move : (b : WrittenBridge) → ((before : List Use) → AreKnown before p → SpeaksOfNamed before b) → Some (mark t [], bridge_is_whole (text_of cs bs p) b) ≡ Some r → IsMove (text_of cs bs p) t r
+  pub bridge-move : (b : WrittenBridge) → ((before : List Use) → AreKnown before p → SpeaksOfNamed before b) → Some (entry t [], bridge_is_whole (text_of cs bs p) b) ≡ Some r → IsMove (text_of cs bs p) t r
   bridge-move b speaks g =
       subst (IsMove (text_of cs bs p) t) (same_Some _ _ g) (record {
         spoken = λ before h. tt;
@@ -173,7 +173,7 @@ module _ (cs : List WrittenContext) (bs : List WrittenBridge) (p : Place) (t : T
       })
 
 -- the last one of a read
-module _ (b : WrittenBridge) (d : PartRead) (s : PartFormula) (t : Token) (q : Mark × PartFormula) (w : Written) (step : formula_step d.context s t ≡ Some q) (whole : finished_primary q.1 ≡ Some w) where
+module _ (b : WrittenBridge) (d : PartRead) (s : PartFormula) (t : Token) (q : Entry × PartFormula) (w : Written) (step : formula_step d.context s t ≡ Some q) (whole : finished_primary q.1 ≡ Some w) where
   abbrev further : List Use
   further = first_of_belief d.context s ++ (q.0).uses
 
@@ -206,7 +206,7 @@ module _ (b : WrittenBridge) (d : PartRead) (s : PartFormula) (t : Token) (q : M
   after-end : (before : List Use) → AreKnown before (InRead b d s) → SpeaksOfNamed before (with_read b d w)
   after-end before h = record { head = h.0.head; reads = all_push (λ (x : WrittenRead). WasNamed before x.place.context) b.reads (record { denied = d.denied; place = place_of d.context w }) h.0.reads h.1 }
 
-  pub read-move : (cs : List WrittenContext) (bs : List WrittenBridge) (r : Mark × PartText) → goes (text_of cs bs (InRead b d s)) t end-uses (AfterRead (with_read b d w)) ≡ Some r → IsMove (text_of cs bs (InRead b d s)) t r
+  pub read-move : (cs : List WrittenContext) (bs : List WrittenBridge) (r : Entry × PartText) → goes (text_of cs bs (InRead b d s)) t end-uses (AfterRead (with_read b d w)) ≡ Some r → IsMove (text_of cs bs (InRead b d s)) t r
   read-move cs bs r g =
       subst (IsMove (text_of cs bs (InRead b d s)) t) (same_Some _ _ g) (record {
         spoken = λ before h. ((h.0.head, h.1), of-spoken before d.context further h.1 of-further);

@@ -8,7 +8,7 @@ use Rattle.mcs_system.specs.Plain.{Name}
 use Rattle.mcs_system.specs.Logic.{same_name}
 use Rattle.mcs_system.proofs.Sameness.{same_name-is, same_name-itself}
 use Rattle.mcs_language.specs.Written.{WrittenRead, WrittenBridge}
-use Rattle.mcs_language.specs.Marks.{Use, BeginsContext, BeginsBridge, NamesContext, NamesBridge, SaysProgram, BeginsItem, BeginsDefault, NamesTarget, NamesSource, BeginsBelief, EndsRead, AtomOf, IsNumber, OpensWithin, Mark}
+use Rattle.mcs_language.specs.Entries.{Use, BeginsContext, BeginsBridge, NamesContext, NamesBridge, SaysProgram, BeginsItem, BeginsDefault, NamesTarget, NamesSource, BeginsBelief, EndsRead, AtomOf, IsNumber, OpensWithin, Entry}
 use Rattle.mcs_language.specs.Faults.{Fault, NoContext, Has}
 use Rattle.mcs_language.specs.TextSteps.{Place, Between, ContextName, KindWord, OpenBrace, NextItem, InFact, InJust, InConclusion, AfterHeadName, NextHeadName, AfterSign, NextLiteral, AfterNot, AfterLiteral, BridgeName, BridgeColon, HeadContext, HeadColon, InHead, AfterHead, NextRead, ReadContext, ReadColon, InRead, AfterRead}
 use Rattle.mcs_language.specs.Known.{WasNamed, SpeaksOfNamed, AreKnown}
@@ -104,7 +104,7 @@ IsNamed before u = Unit {0}
 pub named-unless : (before : List Use) (c : Name) → ¬ ¬ WasNamed before c → WasNamed before c
 named-unless before c unless = elim (named-or-not before c) [ inl h ↦ h | inr none ↦ absurd (unless none) ]
 
-module _ (before : List Use) (m : Mark) (free : (f : Fault) → ¬ Has f before m) where
+module _ (before : List Use) (m : Entry) (free : (f : Fault) → ¬ Has f before m) where
   use-named : (u : Use) → IsAmong u m.uses → IsNamed before u
   use-named (NamesTarget c) h = named-unless before c (λ none. free NoContext (c, inl h, none))
   use-named (NamesSource c) h = named-unless before c (λ none. free NoContext (c, inr h, none))

@@ -7,7 +7,7 @@ use Rattle.std.specs.Str.{bytes_eq}
 use Rattle.mcs_base.specs.Listings.{IsAmong}
 use Rattle.mcs_base.proofs.Among.{no_image_more, among_get}
 use Rattle.mcs_base.proofs.Lists.{slice_get-map_at}
-use Rattle.mcs_language.specs.Marks.{Token}
+use Rattle.mcs_language.specs.Entries.{Token}
 use Rattle.mcs_language.specs.Watching.{IsNumberOf}
 
 -- ---- what a test of bytes tells

@@ -4,7 +4,7 @@ use Rattle.std.proofs.lemmas.Bool.{cases_lt}
 use Rattle.mcs_system.specs.declared.limit.Limit.TheVariants.{Contexts, Bridges, RulesPerContext, Variables, InputsPerContext, AtomsPerContext, DefaultsPerContext, ItemsPerContext, FormulaSize, OpenParentheses, NameBytes}
 use Rattle.mcs_tokens.specs.declared.scan.Span.{Span}
 use Rattle.mcs_tokens.proofs.Unique.{lists_are_unique}
-use Rattle.mcs_language.specs.Marks.{Token}
+use Rattle.mcs_language.specs.Entries.{Token}
 use Rattle.mcs_language.specs.Faults.{Fault, NoGrammar, NoContext, Twin, NoAtom, Exceeds, number_of, limit_of, rank, IsFaultAt, IsFirstFault}
 use Rattle.mcs_language.specs.Texts.{token_texts, offset_of, TextsHaveOneFault, SpelledTextsHaveNoFault}
 use Rattle.mcs_language.proofs.RankLemmas.{in_order}

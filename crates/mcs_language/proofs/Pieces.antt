@@ -7,7 +7,7 @@ use Rattle.std.specs.Prelude.{slice_index, slice_range}
 use Rattle.mcs_base.proofs.Lists.{drop_past, drop_fits, drop-cons_within}
 use Rattle.mcs_tokens.specs.Tokens.{is_separator, hash, IsInComment, IsGapByte, IsGap, IsToken, IsNext, AreTokens}
 use Rattle.mcs_tokens.specs.declared.scan.Span.{Span}
-use Rattle.mcs_language.specs.Marks.{Token}
+use Rattle.mcs_language.specs.Entries.{Token}
 use Rattle.mcs_language.specs.Texts.{token_texts}
 
 pub data Piece : Type 0 where

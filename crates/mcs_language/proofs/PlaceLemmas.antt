@@ -8,7 +8,7 @@ use Rattle.mcs_system.specs.Seen.{context_of, kb_of, rule_of}
 use Rattle.mcs_system.specs.declared.knowledge.Context as code_context
 use Rattle.mcs_system.specs.declared.knowledge.ProgRule as code_rule
 use Rattle.mcs_language.specs.Written.{WrittenLiteral, WrittenContext}
-use Rattle.mcs_language.specs.Marks.{Token, Use, BeginsItem, AtomOf, IsNumber, Mark}
+use Rattle.mcs_language.specs.Entries.{Token, Use, BeginsItem, AtomOf, IsNumber, Entry}
 use Rattle.mcs_language.specs.Saying.{context_in, rule_in, positive_atoms, negative_atoms}
 use Rattle.mcs_language.specs.FormulaSteps.{PartFormula, no_formula, formula_step, is_name_word}
 use Rattle.mcs_language.specs.FormulaImages.{IsReader, IsAnswer}
@@ -78,7 +78,7 @@ name-other step u s t moved e other = subst (λ (x : code_step.Step). IsStep x u
 -- ---- a token of a formula of an item of the context c, which is there for `before` too
 module _ (s : PartText) (c : Name) (f : PartFormula) (t : Token) (q : PartFormula → Place) (otherwise : Moved) (role : code_role.Role) (before : List Use) (u : code_uses.Uses)
     (old now : FormulaReader) (reader : IsReader old f) (a : code_answer.Answer) (answer : IsAnswer a old now f t)
-    (role-is : (n : Name) (g : PartFormula) (r : Mark × PartFormula) → IsReader old g → formula_step n g t ≡ Some r → map capped (r.0).uses ≡ role_uses (about_context n) t role)
+    (role-is : (n : Name) (g : PartFormula) (r : Entry × PartFormula) → IsReader old g → formula_step n g t ≡ Some r → map capped (r.0).uses ≡ role_uses (about_context n) t role)
     (joined : (g : PartFormula) (us : List Use) → map capped us ≡ role_uses (about_context c) t role → map capped (before ++ us) ≡ uses_in (about (of_context c) (q g)) t u) where
   pub item-goes : (step : code_step.Step) (place : code_place.Place) → step ≡ answers.Moves place u → a ≡ replies.Taken → ((g : PartFormula) → IsReader now g → IsAt place (q g)) → IsStep step (of_context c) s t (in_formula s c before f t q otherwise)
   item-goes step place e taken at =

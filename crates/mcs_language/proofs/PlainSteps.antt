@@ -4,7 +4,7 @@ use Rattle.std.specs.Prelude.{min, ◌-◌, ◌^◌}
 use Rattle.std.proofs.lemmas.List.{append-nil}
 use Rattle.mcs_system.specs.Plain.{Name}
 use Rattle.mcs_language.specs.declared.watch.Watch.{Watch}
-use Rattle.mcs_language.specs.Marks.{Use, BeginsContext, BeginsBridge, NamesBridge, NamesSource, BeginsBelief, IsNumber, OpensWithin}
+use Rattle.mcs_language.specs.Entries.{Use, BeginsContext, BeginsBridge, NamesBridge, NamesSource, BeginsBelief, IsNumber, OpensWithin}
 use Rattle.mcs_language.specs.Watching.{IsSpokenOf, IsWatch, IsAllowed}
 use Rattle.mcs_language.proofs.ApartLemmas.{apart-begins_context, apart-begins_bridge, apart-names_bridge, apart-names_source, apart-begins_belief, apart-number, apart-opens}
 use Rattle.mcs_language.proofs.StepWatch.{plain-step}

@@ -10,7 +10,7 @@ use Rattle.mcs_language.specs.declared.fault.Fault as code_fault
 use Rattle.mcs_language.specs.declared.reading.Reading.{Reading}
 use Rattle.mcs_language.specs.declared.reader.Reader.{Reader}
 use Rattle.mcs_language.specs.declared.watch.Watch.{Watch}
-use Rattle.mcs_language.specs.Marks.{Token, Use, Mark, uses_of}
+use Rattle.mcs_language.specs.Entries.{Token, Use, Entry, uses_of}
 use Rattle.mcs_language.specs.Faults.{Fault, NoGrammar, Exceeds, Has, IsFirstFault}
 use Rattle.mcs_system.specs.declared.limit.Limit.TheVariants.{NameBytes}
 use Rattle.mcs_language.specs.TextSteps.{PartText, nothing_written, text_step}
@@ -18,8 +18,8 @@ use Rattle.mcs_language.specs.TextImages.{IsTextReader, IsStopped}
 use Rattle.mcs_language.specs.Watching.{IsWatch, IsVerdict, fault_of}
 use Rattle.mcs_language.specs.Known.{AreKnownIn}
 use Rattle.mcs_language.specs.Progress.{IsUpTo, IsNextRead}
-use Rattle.mcs_language.proofs.FaultTheory.{Reached, reached-more, first-untaken, first-marked, free-none, free-more}
-use Rattle.mcs_language.proofs.MarkLists.{uses-append}
+use Rattle.mcs_language.proofs.FaultTheory.{Reached, reached-more, first-untaken, first-entered, free-none, free-more}
+use Rattle.mcs_language.proofs.EntryLists.{uses-append}
 use Rattle.mcs_language.proofs.KnownLemmas.{known-step}
 use Rattle.mcs_language.proofs.StepUses.{text-shows}
 use Rattle.mcs_language.proofs.ShortAtoms.{AreFaultless}
@@ -31,7 +31,7 @@ reading_of reader watch = record { reader = reader; watch = watch }
 
 pub up-to-none : (reader : Reader) (watch : Watch) (ts : List Token) → IsTextReader reader nothing_written → IsWatch watch [] → IsUpTo (reading_of reader watch) ts 0
 up-to-none reader watch ts h seen = record {
-  marks = [];
+  entries = [];
   state = nothing_written;
   taken = refl;
   inside = omega arith;
@@ -42,11 +42,11 @@ up-to-none reader watch ts h seen = record {
   free = free-none ts;
 }
 
-pub reached : (r : Reading) (ts : List Token) (k : ℕ) (h : IsUpTo r ts k) → Reached ts k h.marks h.state
+pub reached : (r : Reading) (ts : List Token) (k : ℕ) (h : IsUpTo r ts k) → Reached ts k h.entries h.state
 reached r ts k h = record { steps = h.taken; inside = h.inside }
 
--- ---- the marks of the tokens before
-faultless-more : (ms : List Mark) (m : Mark) → AreFaultless ms → ((f : Fault) → ¬ Has f (uses_of ms) m) → AreFaultless (ms ++ m ∷ [])
+-- ---- the entries of the tokens before
+faultless-more : (ms : List Entry) (m : Entry) → AreFaultless ms → ((f : Fault) → ¬ Has f (uses_of ms) m) → AreFaultless (ms ++ m ∷ [])
 faultless-more ms m h none j n f is has = go (eq-or-lt_of_le (omega (arith, slice_get_within (ms ++ m ∷ []) j n is, length-append ms (m ∷ []))))
   where
     here : get_or (ms ++ m ∷ []) j n ≡ n
@@ -56,40 +56,40 @@ faultless-more ms m h none j n f is has = go (eq-or-lt_of_le (omega (arith, slic
     go (inl last) =
         let before : take j (ms ++ m ∷ []) ≡ ms = ap (λ (i : ℕ). take i (ms ++ m ∷ [])) last ∙ take-append_seam ms (m ∷ []) in
         let same : n ≡ m = sym here ∙ ap (λ (i : ℕ). get_or (ms ++ m ∷ []) i n) last ∙ get_or-append_seam ms m [] n in
-        none f (subst (Has f (uses_of ms)) same (subst (λ (ns : List Mark). Has f (uses_of ns) n) before has))
+        none f (subst (Has f (uses_of ms)) same (subst (λ (ns : List Entry). Has f (uses_of ns) n) before has))
     go (inr less) =
         let before : take j (ms ++ m ∷ []) ≡ take j ms = take-append-le j ms (m ∷ []) (omega arith) in
         let same : get_or ms j n ≡ n = sym (get_or-append ms (m ∷ []) n j less) ∙ here in
-        h j n f (slice_get-get_or ms j n less ∙ ap (λ (x : Mark). Some x) same) (subst (λ (ns : List Mark). Has f (uses_of ns) n) before has)
+        h j n f (slice_get-get_or ms j n less ∙ ap (λ (x : Entry). Some x) same) (subst (λ (ns : List Entry). Has f (uses_of ns) n) before has)
 
 -- ---- a token that is not taken
 pub next-untaken : (r now : Reading) (ts : List Token) (k : ℕ) (t : Token) (h : IsUpTo r ts k) → slice_get ts k ≡ Some t → text_step h.state t ≡ None → IsFirstFault ts k NoGrammar
-next-untaken r now ts k t h is none = first-untaken ts k h.marks h.state t (reached r ts k h) is none h.free
+next-untaken r now ts k t h is none = first-untaken ts k h.entries h.state t (reached r ts k h) is none h.free
 
 -- ---- a token that is taken
-module _ (old : Reading) (ts : List Token) (k : ℕ) (t : Token) (h : IsUpTo old ts k) (is : slice_get ts k ≡ Some t) (m : Mark) (s' : PartText) (step : text_step h.state t ≡ Some (m, s')) where
+module _ (old : Reading) (ts : List Token) (k : ℕ) (t : Token) (h : IsUpTo old ts k) (is : slice_get ts k ≡ Some t) (m : Entry) (s' : PartText) (step : text_step h.state t ≡ Some (m, s')) where
   -- it has no fault
-  up-to-more : (reader : Reader) (watch : Watch) → IsTextReader reader s' ⊎ IsStopped reader t → ((f : Fault) → ¬ Has f (uses_of h.marks) m) → IsWatch watch (uses_of h.marks ++ m.uses) → IsUpTo (reading_of reader watch) ts (k + 1)
+  up-to-more : (reader : Reader) (watch : Watch) → IsTextReader reader s' ⊎ IsStopped reader t → ((f : Fault) → ¬ Has f (uses_of h.entries) m) → IsWatch watch (uses_of h.entries ++ m.uses) → IsUpTo (reading_of reader watch) ts (k + 1)
   up-to-more reader watch held none seen =
-      let next = reached-more ts k h.marks h.state t m s' (reached old ts k h) is step in
-      let uses : uses_of h.marks ++ m.uses ≡ uses_of (h.marks ++ m ∷ []) = sym (uses-append h.marks (m ∷ []) ∙ ap (λ (us : List Use). uses_of h.marks ++ us) (append-nil m.uses)) in
+      let next = reached-more ts k h.entries h.state t m s' (reached old ts k h) is step in
+      let uses : uses_of h.entries ++ m.uses ≡ uses_of (h.entries ++ m ∷ []) = sym (uses-append h.entries (m ∷ []) ∙ ap (λ (us : List Use). uses_of h.entries ++ us) (append-nil m.uses)) in
       let token : m.token ≡ t = (text-shows h.state t (m, s') step).token in
       record {
-        marks = h.marks ++ m ∷ [];
+        entries = h.entries ++ m ∷ [];
         state = s';
         taken = next.steps;
         inside = next.inside;
         reader = go held token;
         watch = subst (IsWatch watch) uses seen;
-        known = subst (λ (us : List Use). AreKnownIn us s') uses (known-step (uses_of h.marks) h.state t m s' step h.known none);
-        faultless = faultless-more h.marks m h.faultless none;
-        free = free-more ts k h.marks h.state t m s' (reached old ts k h) is step none h.free;
+        known = subst (λ (us : List Use). AreKnownIn us s') uses (known-step (uses_of h.entries) h.state t m s' step h.known none);
+        faultless = faultless-more h.entries m h.faultless none;
+        free = free-more ts k h.entries h.state t m s' (reached old ts k h) is step none h.free;
       }
     where
       go : IsTextReader reader s' ⊎ IsStopped reader t → m.token ≡ t → IsTextReader reader s'
       go (inl text) e = text
       go (inr stopped) e = absurd (none (Exceeds NameBytes) (subst IsNameWord (sym e) stopped.name, subst (λ (x : Token). most_name_bytes < length x) (sym e) stopped.long))
 
-  pub next-read : (verdict : Option code_fault.Fault) (reader : Reader) (watch : Watch) → IsTextReader reader s' ⊎ IsStopped reader t → IsVerdict verdict (uses_of h.marks) m watch → IsNextRead verdict (reading_of reader watch) ts k
+  pub next-read : (verdict : Option code_fault.Fault) (reader : Reader) (watch : Watch) → IsTextReader reader s' ⊎ IsStopped reader t → IsVerdict verdict (uses_of h.entries) m watch → IsNextRead verdict (reading_of reader watch) ts k
   next-read None reader watch held v = up-to-more reader watch held v.0 v.1
-  next-read (Some g) reader watch held v = first-marked ts k h.marks h.state t m s' (reached old ts k h) is step (fault_of g) (λ e. subst (λ (f : Fault). Has f (uses_of h.marks) m) e v.0) v.0 v.1 h.free
+  next-read (Some g) reader watch held v = first-entered ts k h.entries h.state t m s' (reached old ts k h) is step (fault_of g) (λ e. subst (λ (f : Fault). Has f (uses_of h.entries) m) e v.0) v.0 v.1 h.free

@@ -5,7 +5,7 @@ use Rattle.std.proofs.lemmas.Bool.{cases_lt}
 use Rattle.mcs_system.specs.declared.limit.Limit.{Limit}
 use Rattle.mcs_system.specs.declared.limit.Limit.TheVariants.{Contexts, Bridges, RulesPerContext, Variables, InputsPerContext, AtomsPerContext, DefaultsPerContext, ItemsPerContext, FormulaSize, OpenParentheses, NameBytes}
 use Rattle.std.proofs.lemmas.Bool.Decides.{not_from_Decides}
-use Rattle.mcs_language.specs.Marks.{Use, Mark}
+use Rattle.mcs_language.specs.Entries.{Use, Entry}
 use Rattle.mcs_language.specs.Faults.{Fault, NoGrammar, NoContext, Twin, NoAtom, Exceeds, row, rank, IsBeyond, Has}
 
 -- the lowest first
@@ -55,7 +55,7 @@ row-below FormulaSize = omega arith
 row-below OpenParentheses = omega arith
 row-below NameBytes = omega arith
 
-module _ (before : List Use) (m : Mark) where
+module _ (before : List Use) (m : Entry) where
   pub from-context : (f : Fault) → Has f before m → 2 ≤ rank f
   from-context NoGrammar h = absurd h
   from-context NoContext h = omega arith

@@ -7,8 +7,8 @@ use Rattle.mcs_base.proofs.Among.{among_right}
 use Rattle.mcs_system.specs.Plain.{Name}
 use Rattle.mcs_system.specs.Logic.{atoms}
 use Rattle.mcs_language.specs.Written.{Written, Named, Denied, Both, IsNameWord}
-use Rattle.mcs_language.specs.Marks.{Token, AtomOf, Mark, formula_in}
-use Rattle.mcs_language.specs.FormulaSteps.{Pending, Tilde, Parenthesis, And, Or, Implies, Iff, PartFormula, settle, operand_step, sign_step, formula_step, finished_primary, numbered_mark}
+use Rattle.mcs_language.specs.Entries.{Token, AtomOf, Entry, formula_in}
+use Rattle.mcs_language.specs.FormulaSteps.{Pending, Tilde, Parenthesis, And, Or, Implies, Iff, PartFormula, settle, operand_step, sign_step, formula_step, finished_primary, numbered_entry}
 use Rattle.mcs_language.proofs.FormulaRuns.{word-apart, true-no-name, false-no-name}
 use Rattle.mcs_language.proofs.FormulaParts.{part}
 
@@ -31,18 +31,18 @@ settle-atom (Implies l ∷ ps) f w t h e = alone-atom (Implies l ∷ ps) f w t h
 settle-atom (Iff l ∷ ps) f w t h e = alone-atom (Iff l ∷ ps) f w t h e
 
 -- a name stands where an operand has to come, and nowhere else
-name-operand : (c : Name) (s : PartFormula) (t : Token) → IsNameWord t → operand_step c s t ≡ Some (numbered_mark s t (AtomOf c t ∷ []), settle s.pending (Named t))
+name-operand : (c : Name) (s : PartFormula) (t : Token) → IsNameWord t → operand_step c s t ≡ Some (numbered_entry s t (AtomOf c t ∷ []), settle s.pending (Named t))
 name-operand c s t word = rw (word-apart t (codes "~") word refl, word-apart t (codes "(") word refl, word-apart t (codes "true") word true-no-name, word-apart t (codes "false") word false-no-name, word) refl
 
 name-sign : (s : PartFormula) (f : Written) (t : Token) → IsNameWord t → sign_step s f t ≡ None
 name-sign s f t word = rw (word-apart t (codes "&") word refl, word-apart t (codes "|") word refl, word-apart t (codes "->") word refl, word-apart t (codes "<->") word refl, word-apart t (codes ")") word refl) refl
 
-atom-at : (c : Name) (ps : List Pending) (o : Option Written) (t : Token) (q : Mark × PartFormula) (w : Written) → formula_step c (part ps o) t ≡ Some q → finished_primary q.1 ≡ Some w → IsNameWord t → HasAtom t w
+atom-at : (c : Name) (ps : List Pending) (o : Option Written) (t : Token) (q : Entry × PartFormula) (w : Written) → formula_step c (part ps o) t ≡ Some q → finished_primary q.1 ≡ Some w → IsNameWord t → HasAtom t w
 unfolding formula_step
 atom-at c ps None t q w e ends word =
-    let is : (numbered_mark (part ps None) t (AtomOf c t ∷ []), settle ps (Named t)) ≡ q = same_Some _ _ (sym (name-operand c (part ps None) t word) ∙ e) in
-    settle-atom ps (Named t) w t (inl refl) (ap (λ (r : Mark × PartFormula). finished_primary r.1) is ∙ ends)
+    let is : (numbered_entry (part ps None) t (AtomOf c t ∷ []), settle ps (Named t)) ≡ q = same_Some _ _ (sym (name-operand c (part ps None) t word) ∙ e) in
+    settle-atom ps (Named t) w t (inl refl) (ap (λ (r : Entry × PartFormula). finished_primary r.1) is ∙ ends)
 atom-at c ps (Some f) t q w e ends word = absurd (none-some q (sym (name-sign (part ps (Some f)) f t word) ∙ e))
 
-pub name-ends : (c : Name) (s : PartFormula) (t : Token) (q : Mark × PartFormula) (w : Written) → formula_step c s t ≡ Some q → finished_primary q.1 ≡ Some w → IsNameWord t → IsAmong t (atoms (formula_in w))
+pub name-ends : (c : Name) (s : PartFormula) (t : Token) (q : Entry × PartFormula) (w : Written) → formula_step c s t ≡ Some q → finished_primary q.1 ≡ Some w → IsNameWord t → IsAmong t (atoms (formula_in w))
 name-ends c s t q w e ends word = atom-at c s.pending s.operand t q w e ends word

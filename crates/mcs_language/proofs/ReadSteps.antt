@@ -15,7 +15,7 @@ use Rattle.mcs_base.proofs.Sums.{count_by_push_no}
 use Rattle.mcs_system.specs.Plain.{Name}
 use Rattle.mcs_language.specs.declared.watch.Watch.{Watch}
 use Rattle.mcs_language.specs.declared.watch.ContextSeen.{ContextSeen}
-use Rattle.mcs_language.specs.Marks.{Use, NamesContext, SaysProgram, EndsRead, AtomOf}
+use Rattle.mcs_language.specs.Entries.{Use, NamesContext, SaysProgram, EndsRead, AtomOf}
 use Rattle.mcs_language.specs.Faults.{names_target, begins_default_of, begins_item_of, AreDifferent, NamedRead, WasRead, WasReadInto, WasAtom, IsOneMore}
 use Rattle.mcs_language.specs.TextImages.{read_of}
 use Rattle.mcs_language.specs.Watching.{Lists, IsSeen, IsSpokenOf, names_seen, IsWatch, IsNumberOf, IsAllowed, IsFresh, IsHeld}

@@ -5,7 +5,7 @@ use Rattle.mcs_system.specs.declared.formula.Formula as code_formula
 use Rattle.mcs_language.specs.declared.formula.Pending as code_pending
 use Rattle.mcs_language.specs.declared.formula.FormulaReader.{FormulaReader}
 use Rattle.mcs_language.specs.Written.{Written}
-use Rattle.mcs_language.specs.Marks.{formula_in}
+use Rattle.mcs_language.specs.Entries.{formula_in}
 use Rattle.mcs_language.specs.FormulaSteps.{Pending, PartFormula, reduce, alone, finished}
 use Rattle.mcs_language.specs.FormulaImages.{AreStacked, IsImage, AreImages, IsReader}
 use Rattle.mcs_language.proofs.FormulaForward.{waiting_for, with_operand}

@@ -10,7 +10,7 @@ use Rattle.mcs_language.specs.declared.formula.FormulaReader.{FormulaReader}
 use Rattle.mcs_language.specs.declared.formula.Answer as code_answer
 use Rattle.mcs_language.specs.declared.formula.Answer.TheVariants as answers
 use Rattle.mcs_language.specs.Written.{Written}
-use Rattle.mcs_language.specs.Marks.{Token, size_of}
+use Rattle.mcs_language.specs.Entries.{Token, size_of}
 use Rattle.mcs_language.specs.FormulaSteps.{Pending, Tilde, Parenthesis, PartFormula, settle, waits, size_all, size_operand, size_so_far, opened_so_far, is_parenthesis, finished_primary}
 use Rattle.mcs_language.specs.FormulaImages.{one_more, AreStacked, IsImage, AreImages, IsReader, IsWaitingMore, IsAnswer}
 use Rattle.mcs_language.proofs.FormulaParts.{opened, opened-more}

@@ -16,7 +16,7 @@ use Rattle.mcs_base.specs.declared.keyword.Keyword.TheVariants as words
 use Rattle.mcs_language.specs.declared.formula.FormulaReader.{FormulaReader}
 use Rattle.mcs_language.specs.declared.formula.Answer.TheVariants as answers
 use Rattle.mcs_language.specs.Written.{Written}
-use Rattle.mcs_language.specs.Marks.{Token, Mark}
+use Rattle.mcs_language.specs.Entries.{Token, Entry}
 use Rattle.mcs_language.specs.FormulaSteps.{Pending, PartFormula, is_name_word, formula_step}
 use Rattle.mcs_language.specs.FormulaImages.{IsReader, IsAnswer}
 use Rattle.mcs_language.proofs.FormulaForward.{waiting_for}
@@ -26,7 +26,7 @@ use Rattle.mcs_language.proofs.ReaderLemmas.{none-there}
 pub at-none : (P : PartFormula → Type 0) (s : PartFormula) → s.operand ≡ None → P (waiting_for s.pending) → P s
 at-none P s e h = let same : s ≡ waiting_for s.pending = ap {B = PartFormula} (λ (o : Option Written). record { pending = s.pending; operand = o }) e in subst P (sym same) h
 
-pub answer-at : (old now : FormulaReader) (s s' : PartFormula) (t : Token) → IsReader old s → old.operand ≡ None → ((c : Name) → (m : Mark) × (formula_step c (waiting_for s.pending) t ≡ Some (m, s'))) → IsReader now s' → IsAnswer answers.Taken old now s t
+pub answer-at : (old now : FormulaReader) (s s' : PartFormula) (t : Token) → IsReader old s → old.operand ≡ None → ((c : Name) → (m : Entry) × (formula_step c (waiting_for s.pending) t ≡ Some (m, s'))) → IsReader now s' → IsAnswer answers.Taken old now s t
 answer-at old now s s' t h none step reader =
     at-none (λ x. IsAnswer answers.Taken old now x t) s (none-there old s h none) (λ c. let k = step c in ((k.0, s'), (k.1, reader)))
 

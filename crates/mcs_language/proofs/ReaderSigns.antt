@@ -23,8 +23,8 @@ use Rattle.mcs_language.specs.declared.formula.FormulaReader.{FormulaReader}
 use Rattle.mcs_language.specs.declared.formula.Answer as code_answer
 use Rattle.mcs_language.specs.declared.formula.Answer.TheVariants as answers
 use Rattle.mcs_language.specs.Written.{Written, Grouped}
-use Rattle.mcs_language.specs.Marks.{Token, mark, formula_in, size_of}
-use Rattle.mcs_language.specs.FormulaSteps.{Pending, Tilde, Parenthesis, And, Or, Implies, Iff, PartFormula, join, settle, level_of, reduce, behind, closed, size_pending, size_all, size_so_far, opened_so_far, numbered_mark, formula_step}
+use Rattle.mcs_language.specs.Entries.{Token, entry, formula_in, size_of}
+use Rattle.mcs_language.specs.FormulaSteps.{Pending, Tilde, Parenthesis, And, Or, Implies, Iff, PartFormula, join, settle, level_of, reduce, behind, closed, size_pending, size_all, size_so_far, opened_so_far, numbered_entry, formula_step}
 use Rattle.mcs_language.specs.FormulaImages.{waiting_of, waiting_in, AreStacked, IsImage, AreImages, IsReader, IsWaitingMore, IsAnswer}
 use Rattle.mcs_language.proofs.FormulaParts.{opened, opened-more}
 use Rattle.mcs_language.proofs.FormulaForward.{waiting_for, with_operand, LastOperand, last-operand, same-operand, Stays, close-steps}
@@ -93,7 +93,7 @@ shaped most (p ∷ ps) w h = at (nat_le (level_of p) most) refl (shaped most ps 
 module _ (old : FormulaReader) (f : code_formula.Formula) (none : old.operand ≡ None) (mid now : FormulaReader) (same_last : mid.operand ≡ old.operand) (same_count : mid.counted ≡ old.counted) (same_depth : mid.opened ≡ old.opened) (t : Token) (most : ℕ) (four : most ≤ 4)
     (make : Written → Pending) (g : code_formula.Formula) (waiting : code_pending.Pending)
     (image : (w : Written) → formula_of g ≡ formula_in w → waiting_of waiting ≡ waiting_in (make w)) (sizes : (w : Written) → size_pending (make w) ≡ size_of w + 1) (opens : (w : Written) (ps : List Pending) → opened (make w ∷ ps) ≡ opened ps)
-    (steps : (c : Name) (qs : List Pending) (w : Written) → formula_step c (with_operand qs w) t ≡ Some (numbered_mark (with_operand qs w) t [], behind make (reduce most qs w)))
+    (steps : (c : Name) (qs : List Pending) (w : Written) → formula_step c (with_operand qs w) t ≡ Some (numbered_entry (with_operand qs w) t [], behind make (reduce most qs w)))
     (images : (ps : List Pending) (w : Written) → AreStacked old.pending.items ps → formula_of f ≡ formula_in w → AreImages mid.pending.items (Some g) (reduce most ps w)) (more : IsWaitingMore mid now waiting) where
   joined-at : (ps : List Pending) (w : Written) → IsReader (holding old f) (with_operand ps w) → IsAnswer answers.Taken (holding old f) now (with_operand ps w) t
   joined-at ps w h =
@@ -109,7 +109,7 @@ module _ (old : FormulaReader) (f : code_formula.Formula) (none : old.operand �
         count = omega (arith, more.count, same_count, count, size, q.size);
         depth = more.depth ∙ same_depth ∙ h.depth ∙ sym (opens q.last q.left ∙ q.opens);
       } in
-      λ c. ((numbered_mark (with_operand ps w) t [], waiting_for (make q.last ∷ q.left)), (steps c ps w ∙ ap (λ x. Some (numbered_mark (with_operand ps w) t [], behind make x)) q.is, reader))
+      λ c. ((numbered_entry (with_operand ps w) t [], waiting_for (make q.last ∷ q.left)), (steps c ps w ∙ ap (λ x. Some (numbered_entry (with_operand ps w) t [], behind make x)) q.is, reader))
 
   pub joined-taken : (s : PartFormula) → IsReader (holding old f) s → IsAnswer answers.Taken (holding old f) now s t
   joined-taken s h =
@@ -133,7 +133,7 @@ close-refused a old f now s h none is same =
     let q = shape.operand in
     let shut : opened q.left ≡ 0 = q.opens ∙ sym h.depth ∙ none in
     refused-answer a (holding old f) now s (codes ")") is same (λ c. at-some (λ x. formula_step c x (codes ")") ≡ None) s there.written there.is
-    (close-steps c s.pending there.written ∙ ap (λ x. option_map (λ (r : PartFormula). (mark (codes ")") [], r)) (closed x)) q.is ∙ ap (option_map (λ (r : PartFormula). (mark (codes ")") [], r))) (none-closed q.left q.last shape.stays shut)))
+    (close-steps c s.pending there.written ∙ ap (λ x. option_map (λ (r : PartFormula). (entry (codes ")") [], r)) (closed x)) q.is ∙ ap (option_map (λ (r : PartFormula). (entry (codes ")") [], r))) (none-closed q.left q.last shape.stays shut)))
 
 -- the parenthesis that is last
 pub record IsOpen (left : List Pending) : Type 0 where
@@ -172,7 +172,7 @@ closed-next old f now ps ls w last h next inside depth (Ok a) is images counts =
       depth = omega (arith, counts.1, deep, shallow, depth, opened-more ls);
     } in
     let here : IsAnswer answers.Taken (holding old f) now (with_operand ps w) (codes ")") =
-    λ c. ((mark (codes ")") [], settle ls (Grouped last)), (close-steps c ps w ∙ ap (λ x. option_map (λ (r : PartFormula). (mark (codes ")") [], r)) (closed x)) next, reader)) in
+    λ c. ((entry (codes ")") [], settle ls (Grouped last)), (close-steps c ps w ∙ ap (λ x. option_map (λ (r : PartFormula). (entry (codes ")") [], r)) (closed x)) next, reader)) in
     subst (λ b. IsAnswer b (holding old f) now (with_operand ps w) (codes ")")) (sym is) here
 
 module _ (old : FormulaReader) (f : code_formula.Formula) (shut : ¬ (old.opened ≡ 0)) (mid popped : List code_pending.Pending) (g : code_formula.Formula)

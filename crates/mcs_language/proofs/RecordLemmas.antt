@@ -10,7 +10,7 @@ use Rattle.mcs_system.specs.Plain.{Name}
 use Rattle.mcs_language.specs.declared.watch.Watch.{Watch}
 use Rattle.mcs_language.specs.declared.watch.Said.{Said}
 use Rattle.mcs_language.specs.Written.{IsNameWord}
-use Rattle.mcs_language.specs.Marks.{Token, Use, BeginsItem, BeginsBelief, EndsRead, Mark}
+use Rattle.mcs_language.specs.Entries.{Token, Use, BeginsItem, BeginsBelief, EndsRead, Entry}
 use Rattle.mcs_language.specs.Faults.{Fault, Has, begins_item_of}
 use Rattle.mcs_language.specs.TextImages.{About, capped, role_uses, when, uses_in}
 use Rattle.mcs_language.specs.Watching.{context_named, contexts_named, IsSpokenOf, names_seen, IsWatch, IsNumberOf, IsNaming, IsAsked, IsAllowed, AreFree}
@@ -40,7 +40,7 @@ item-free before v true c other free u (inl e) =
 item-free before v true c other free u (inr none) = absurd none
 item-free before v false c other free u none = absurd none
 
-module _ (w : Watch) (before : List Use) (m : Mark) (a : About) (s : Said) (asked : IsAsked w before m a s) (none : (f : Fault) → ¬ Has f before m) where
+module _ (w : Watch) (before : List Use) (m : Entry) (a : About) (s : Said) (asked : IsAsked w before m a s) (none : (f : Fault) → ¬ Has f before m) where
   abbrev read : Use
   read = EndsRead a.subject.target a.subject.context a.belief
 

@@ -6,10 +6,10 @@ use Rattle.mcs_base.proofs.Among.{map_among, among_map, among_left, among_right,
 use Rattle.mcs_system.specs.Plain.{Name}
 use Rattle.mcs_system.specs.Atoms.{rule_atoms}
 use Rattle.mcs_language.specs.Written.{WrittenLiteral, WrittenRule}
-use Rattle.mcs_language.specs.Marks.{Token, Use, AtomOf, IsNumber, OpensWithin, Mark, atom_mark, further_heads, head_marks, optional, literal_marks, further_literals, body_marks, rule_marks, uses_of}
+use Rattle.mcs_language.specs.Entries.{Token, Use, AtomOf, IsNumber, OpensWithin, Entry, atom_entry, further_heads, head_entries, optional, literal_entries, further_literals, body_entries, rule_entries, uses_of}
 use Rattle.mcs_language.specs.Saying.{rule_in, positive_atoms, negative_atoms}
 use Rattle.mcs_language.proofs.UsesParts.{rule_size}
-use Rattle.mcs_language.proofs.MarkLists.{uses-append}
+use Rattle.mcs_language.proofs.EntryLists.{uses-append}
 use Rattle.mcs_language.proofs.FormulaUses.{IsPartUse, ArePartUses, join-parts, same-part, none-part, atom-part}
 
 -- an atom that is the next of the names, and what comes after it
@@ -24,30 +24,30 @@ further-part : (c : Name) (n : ℕ) (names : List Name) → ArePartUses c names 
 further-part c n [] = no-part c n
 further-part c n (a ∷ names) = next-part c a names n (uses_of (further_heads c (n + 1) names)) (further-part c (n + 1) names)
 
-head-part : (c : Name) (names : List Name) → ArePartUses c names 0 (length names) 0 0 (uses_of (head_marks c names))
+head-part : (c : Name) (names : List Name) → ArePartUses c names 0 (length names) 0 0 (uses_of (head_entries c names))
 head-part c [] = none-part c 0 0
 head-part c (a ∷ names) = same-part c (a ∷ names) (a ∷ names) 0 (0 + length (a ∷ names)) (length (a ∷ names)) 0 0 0 _ _ refl (omega arith) refl refl (next-part c a names 0 (uses_of (further_heads c 1 names)) (further-part c 1 names))
 
-pub optional-uses : (b : Bool) (t : Token) (ms : List Mark) → uses_of (optional b t ++ ms) ≡ uses_of ms
+pub optional-uses : (b : Bool) (t : Token) (ms : List Entry) → uses_of (optional b t ++ ms) ≡ uses_of ms
 optional-uses true t ms = refl
 optional-uses false t ms = refl
 
 abbrev atoms_written : List WrittenLiteral → List Name
 atoms_written ls = map (λ (l : WrittenLiteral). l.atom) ls
 
-literal-at : (b : Bool) (t : Token) (m : Mark) (ms : List Mark) → uses_of ((optional b t ++ m ∷ []) ++ ms) ≡ m.uses ++ uses_of ms
+literal-at : (b : Bool) (t : Token) (m : Entry) (ms : List Entry) → uses_of ((optional b t ++ m ∷ []) ++ ms) ≡ m.uses ++ uses_of ms
 literal-at true t m ms = refl
 literal-at false t m ms = refl
 
-literal-uses : (c : Name) (n : ℕ) (l : WrittenLiteral) (ms : List Mark) → uses_of (literal_marks c n l ++ ms) ≡ AtomOf c l.atom ∷ IsNumber (n + 1) ∷ uses_of ms
-literal-uses c n l ms = literal-at l.denied (codes "not") (atom_mark c (n + 1) l.atom) ms
+literal-uses : (c : Name) (n : ℕ) (l : WrittenLiteral) (ms : List Entry) → uses_of (literal_entries c n l ++ ms) ≡ AtomOf c l.atom ∷ IsNumber (n + 1) ∷ uses_of ms
+literal-uses c n l ms = literal-at l.denied (codes "not") (atom_entry c (n + 1) l.atom) ms
 
 literals-part : (c : Name) (n : ℕ) (ls : List WrittenLiteral) → ArePartUses c (atoms_written ls) n (n + length (atoms_written ls)) 0 0 (uses_of (further_literals c n ls))
 literals-part c n [] = no-part c n
 literals-part c n (l ∷ ls) = same-part c _ _ n _ _ 0 0 0 _ _ refl refl refl (sym (literal-uses c n l (further_literals c (n + 1) ls)))
     (next-part c l.atom (atoms_written ls) n (uses_of (further_literals c (n + 1) ls)) (literals-part c (n + 1) ls))
 
-body-part : (c : Name) (n : ℕ) (ls : List WrittenLiteral) → ArePartUses c (atoms_written ls) n (n + length (atoms_written ls)) 0 0 (uses_of (body_marks c n ls))
+body-part : (c : Name) (n : ℕ) (ls : List WrittenLiteral) → ArePartUses c (atoms_written ls) n (n + length (atoms_written ls)) 0 0 (uses_of (body_entries c n ls))
 body-part c n [] = no-part c n
 body-part c n (l ∷ ls) = literals-part c n (l ∷ ls)
 
@@ -99,11 +99,11 @@ same-names c xs ys from to low high us onward back h = record { are = λ u among
     there (OpensWithin k) p = p
     there u p = p
 
-pub rule-part : (c : Name) (r : WrittenRule) → ArePartUses c (rule_atoms (rule_in r)) 0 (rule_size r) 0 0 (uses_of (rule_marks c r))
+pub rule-part : (c : Name) (r : WrittenRule) → ArePartUses c (rule_atoms (rule_in r)) 0 (rule_size r) 0 0 (uses_of (rule_entries c r))
 rule-part c r =
     let body : List Name = atoms_written r.body in
     let long : length body ≡ length r.body = length-map r.body (λ (l : WrittenLiteral). l.atom) in
-    let all : uses_of (rule_marks c r) ≡ uses_of (head_marks c r.head) ++ uses_of (body_marks c (length r.head) r.body) = uses-append (head_marks c r.head) (optional r.has_sign (codes ":-") ++ body_marks c (length r.head) r.body) ∙ ap (λ (us : List Use). uses_of (head_marks c r.head) ++ us) (optional-uses r.has_sign (codes ":-") (body_marks c (length r.head) r.body)) in
-    same-names c (r.head ++ body) (rule_atoms (rule_in r)) 0 (rule_size r) 0 0 (uses_of (rule_marks c r)) (λ a. rule-among a r) (λ a. among-rule a r)
+    let all : uses_of (rule_entries c r) ≡ uses_of (head_entries c r.head) ++ uses_of (body_entries c (length r.head) r.body) = uses-append (head_entries c r.head) (optional r.has_sign (codes ":-") ++ body_entries c (length r.head) r.body) ∙ ap (λ (us : List Use). uses_of (head_entries c r.head) ++ us) (optional-uses r.has_sign (codes ":-") (body_entries c (length r.head) r.body)) in
+    same-names c (r.head ++ body) (rule_atoms (rule_in r)) 0 (rule_size r) 0 0 (uses_of (rule_entries c r)) (λ a. rule-among a r) (λ a. among-rule a r)
     (same-part c (r.head ++ body) (r.head ++ body) 0 (length r.head + length body) (rule_size r) 0 (max 0 0) 0 _ _ refl (omega arith) (omega arith) (sym all)
     (join-parts c r.head body 0 (length r.head) (length r.head + length body) 0 0 0 (omega arith) (omega arith) _ _ (head-part c r.head) (body-part c (length r.head) r.body)))

@@ -18,7 +18,7 @@ use Rattle.mcs_language.specs.declared.place.Role as code_role
 use Rattle.mcs_language.specs.declared.place.Role.TheVariants as roles
 use Rattle.mcs_language.specs.declared.place.Uses as code_uses
 use Rattle.mcs_language.specs.Written.{Written, WrittenRead, WrittenBridge, IsNameWord}
-use Rattle.mcs_language.specs.Marks.{Token, Use, NamesContext, NamesBridge, BeginsItem, BeginsBelief, EndsRead, AtomOf, IsNumber, Mark, formula_in}
+use Rattle.mcs_language.specs.Entries.{Token, Use, NamesContext, NamesBridge, BeginsItem, BeginsBelief, EndsRead, AtomOf, IsNumber, Entry, formula_in}
 use Rattle.mcs_language.specs.Faults.{NamedRead}
 use Rattle.mcs_language.specs.TextSteps.{PartRead, Place, AfterRead, PartText, nothing_written, with_read, text_step, text_steps}
 use Rattle.mcs_language.specs.TextImages.{IsAt, IsTextReader, IsStopped, About, about, subject_at, capped, uses_in, role_uses, when, last_read, read_of}
@@ -102,7 +102,7 @@ module _ (a : About) (t : Token) (u : code_uses.Uses) where
       (among_right v (when u.begins_belief (BeginsBelief a.subject.context)) _
       (among_right v (when u.begins_item (BeginsItem a.subject.context)) (role_uses a t u.role) h))
 
-module _ (ts : List Token) (ms : List Mark) (s : PartText) (steps : text_steps nothing_written ts ≡ Some (ms, s)) (none : AreFaultless ms) (t : Token) (m : Mark) (s' : PartText) (step : text_step s t ≡ Some (m, s'))
+module _ (ts : List Token) (ms : List Entry) (s : PartText) (steps : text_steps nothing_written ts ≡ Some (ms, s)) (none : AreFaultless ms) (t : Token) (m : Entry) (s' : PartText) (step : text_step s t ≡ Some (m, s'))
     (u : code_uses.Uses) (told : map capped m.uses ≡ uses_in (about (subject_at s.place) s'.place) t u) where
   abbrev a : About
   a = about (subject_at s.place) s'.place

@@ -14,7 +14,7 @@ use Rattle.mcs_system.specs.Faults.{IsValid}
 use Rattle.mcs_system.proofs.ValidLemmas.{context_names_differ}
 use Rattle.mcs_system.proofs.NameLemmas.{position-there}
 use Rattle.mcs_language.specs.Written.{WrittenContext, WrittenPlace, WrittenRead, WrittenBridge, WrittenText}
-use Rattle.mcs_language.specs.Marks.{formula_in}
+use Rattle.mcs_language.specs.Entries.{formula_in}
 use Rattle.mcs_language.specs.Saying.{context_in, SaysPlace, positive_places, negative_places, SaysBridge, names_of, SaysSystem}
 use Rattle.mcs_language.proofs.UsesLemmas.{IsPlaceOf, OfHead, OfRead}
 

@@ -7,7 +7,7 @@ use Rattle.mcs_base.proofs.Sums.{count_by_push_no}
 use Rattle.mcs_base.proofs.Lists.{slice_get_kept, slice_get_push_cases}
 use Rattle.mcs_system.specs.Plain.{Name, Formula}
 use Rattle.mcs_language.specs.declared.watch.ContextSeen.{ContextSeen}
-use Rattle.mcs_language.specs.Marks.{Use, SaysProgram, EndsRead, AtomOf}
+use Rattle.mcs_language.specs.Entries.{Use, SaysProgram, EndsRead, AtomOf}
 use Rattle.mcs_language.specs.Faults.{names_target, begins_default_of, begins_item_of, AreDifferent, NamedRead, WasRead, WasReadInto}
 use Rattle.mcs_language.specs.Watching.{IsSeen}
 use Rattle.mcs_language.proofs.LaterLemmas.{same-among, atoms-later, inputs-later}

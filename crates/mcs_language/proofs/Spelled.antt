@@ -1,4 +1,4 @@
--- Which text has exactly the tokens of marks, where it is followed by another.
+-- Which text has exactly the tokens of entries, where it is followed by another.
 use Rattle.std.proofs.Common.{◌≡◌, ◌≢◌, ℕ, ◌<◌, ◌≤◌, IsTrue, List, [], ◌∷◌, ◌++◌, codes, length, refl, sym, ap, ap₂, ◌∙◌, subst, inl, inr, arith, true≢false, append-nil, le_trans}
 use Rattle.std.specs.List.{AllByRecursion}
 use Rattle.mcs_base.specs.Words.{is_word, most_name_bytes}
@@ -8,27 +8,27 @@ use Rattle.mcs_tokens.specs.Spelling.{sign_bytes}
 use Rattle.mcs_tokens.specs.Tokens.{is_separator, BeginsWith, IsToken}
 use Rattle.mcs_tokens.specs.declared.sign.Sign.{Sign}
 use Rattle.mcs_tokens.specs.declared.sign.Sign.TheVariants as signs
-use Rattle.mcs_language.specs.Marks.{Token, Use, Mark, mark, tokens_of, with_first, with_last}
+use Rattle.mcs_language.specs.Entries.{Token, Use, Entry, entry, tokens_of, with_first, with_last}
 use Rattle.mcs_language.proofs.Pieces.{Piece, Part, Blank, spelled, tokens_in, AreApart, spelled-append, tokens-append, apart-append, HasTokens, tokens-of-pieces}
 
 -- no longer than a name may be
 abbrev pub AreShort : List Token → Type 0
 AreShort ts = AllByRecursion (λ (t : Token). length t ≤ most_name_bytes) ts
 
-pub record IsSpelled (text : List ℕ) (marks : List Mark) (next : List ℕ) : Type 0 where
+pub record IsSpelled (text : List ℕ) (entries : List Entry) (next : List ℕ) : Type 0 where
   pub pieces : List Piece
   pub text_is : spelled pieces ≡ text
-  pub tokens_are : tokens_in pieces ≡ tokens_of marks
+  pub tokens_are : tokens_in pieces ≡ tokens_of entries
   pub apart : AreApart pieces next
-  pub short : AreShort (tokens_of marks)
+  pub short : AreShort (tokens_of entries)
 
 -- ---- texts beside each other
-pub tokens-both : (ms ns : List Mark) → tokens_of (ms ++ ns) ≡ tokens_of ms ++ tokens_of ns
+pub tokens-both : (ms ns : List Entry) → tokens_of (ms ++ ns) ≡ tokens_of ms ++ tokens_of ns
 tokens-both [] ns = refl
 tokens-both (m ∷ ms) ns = ap (λ l. m.token ∷ l) (tokens-both ms ns)
 
 -- one after the other
-pub beside : (a b : List ℕ) (ms ns : List Mark) (next : List ℕ) → IsSpelled a ms (b ++ next) → IsSpelled b ns next → IsSpelled (a ++ b) (ms ++ ns) next
+pub beside : (a b : List ℕ) (ms ns : List Entry) (next : List ℕ) → IsSpelled a ms (b ++ next) → IsSpelled b ns next → IsSpelled (a ++ b) (ms ++ ns) next
 beside a b ms ns next h k = record {
   pieces = h.pieces ++ k.pieces;
   text_is = spelled-append h.pieces k.pieces ∙ ap₂ (λ x y. x ++ y) h.text_is k.text_is;
@@ -37,18 +37,18 @@ beside a b ms ns next h k = record {
   short = subst AreShort (sym (tokens-both ms ns)) (all_append (λ (t : Token). length t ≤ most_name_bytes) (tokens_of ms) (tokens_of ns) h.short k.short);
 }
 
-pub text-as : (a b : List ℕ) (ms : List Mark) (next : List ℕ) → a ≡ b → IsSpelled a ms next → IsSpelled b ms next
+pub text-as : (a b : List ℕ) (ms : List Entry) (next : List ℕ) → a ≡ b → IsSpelled a ms next → IsSpelled b ms next
 text-as a b ms next e h = subst (λ t. IsSpelled t ms next) e h
 
 -- only the tokens matter
-pub marks-as : (a : List ℕ) (ms ns : List Mark) (next : List ℕ) → tokens_of ms ≡ tokens_of ns → IsSpelled a ms next → IsSpelled a ns next
-marks-as a ms ns next e h = record { pieces = h.pieces; text_is = h.text_is; tokens_are = h.tokens_are ∙ e; apart = h.apart; short = subst AreShort e h.short }
+pub entries-as : (a : List ℕ) (ms ns : List Entry) (next : List ℕ) → tokens_of ms ≡ tokens_of ns → IsSpelled a ms next → IsSpelled a ns next
+entries-as a ms ns next e h = record { pieces = h.pieces; text_is = h.text_is; tokens_are = h.tokens_are ∙ e; apart = h.apart; short = subst AreShort e h.short }
 
-pub first-tokens : (uses : List Use) (ms : List Mark) → tokens_of ms ≡ tokens_of (with_first uses ms)
+pub first-tokens : (uses : List Use) (ms : List Entry) → tokens_of ms ≡ tokens_of (with_first uses ms)
 first-tokens uses [] = refl
 first-tokens uses (m ∷ ms) = refl
 
-pub last-tokens : (uses : List Use) (ms : List Mark) → tokens_of ms ≡ tokens_of (with_last uses ms)
+pub last-tokens : (uses : List Use) (ms : List Entry) → tokens_of ms ≡ tokens_of (with_last uses ms)
 last-tokens uses [] = refl
 last-tokens uses (m ∷ []) = refl
 last-tokens uses (m ∷ n ∷ ms) = ap (λ l. m.token ∷ l) (last-tokens uses (n ∷ ms))
@@ -56,8 +56,8 @@ last-tokens uses (m ∷ n ∷ ms) = ap (λ l. m.token ∷ l) (last-tokens uses (
 pub nothing : (next : List ℕ) → IsSpelled [] [] next
 nothing next = record { pieces = []; text_is = refl; tokens_are = refl; apart = tt; short = tt }
 
--- the tokens of the bytes are those of the marks
-pub tokens-of-text : (bytes : List ℕ) (ms : List Mark) → IsSpelled bytes ms [] → HasTokens bytes 0 (tokens_of ms)
+-- the tokens of the bytes are those of the entries
+pub tokens-of-text : (bytes : List ℕ) (ms : List Entry) → IsSpelled bytes ms [] → HasTokens bytes 0 (tokens_of ms)
 tokens-of-text bytes ms h = subst (λ ts. HasTokens bytes 0 ts) h.tokens_are (subst (λ t. HasTokens t 0 (tokens_in h.pieces)) h.text_is (tokens-of-pieces h.pieces h.apart))
 
 -- ---- words
@@ -67,7 +67,7 @@ word-token t next word ends = inl (record {
   whole = λ b bs e k. true≢false (sym (longer_word t b word k) ∙ past_word b bs next e ends);
 })
 
-pub one-word : (t : Token) (uses : List Use) (next : List ℕ) → IsTrue (is_word t) → length t ≤ most_name_bytes → EndsWord next → IsSpelled t (mark t uses ∷ []) next
+pub one-word : (t : Token) (uses : List Use) (next : List ℕ) → IsTrue (is_word t) → length t ≤ most_name_bytes → EndsWord next → IsSpelled t (entry t uses ∷ []) next
 one-word t uses next word short ends = record {
   pieces = Part t ∷ [];
   text_is = append-nil t;
@@ -126,8 +126,8 @@ some-sign signs.DoubleArrow = omega arith
 some-sign s = omega arith
 
 -- ---- signs and words with what stands around them
-abbrev pub a_sign : Sign → List Use → Mark
-a_sign s uses = mark (sign_bytes s) uses
+abbrev pub a_sign : Sign → List Use → Entry
+a_sign s uses = entry (sign_bytes s) uses
 
 pub one-sign : (s : Sign) (uses : List Use) (next : List ℕ) → MayFollow s next → IsSpelled (sign_bytes s) (a_sign s uses ∷ []) next
 one-sign s uses next h = record { pieces = Part (sign_bytes s) ∷ []; text_is = append-nil (sign_bytes s); tokens_are = refl; apart = (some-sign s, sign-token s next h, tt); short = (le_trans (at-most-three s) (omega arith), tt) }
@@ -143,5 +143,5 @@ pub blank-sign-blank : (s : Sign) (uses : List Use) (b : ℕ) (next : List ℕ) 
 blank-sign-blank s uses b next separator h = beside (32 ∷ []) (sign_bytes s ++ b ∷ []) [] (a_sign s uses ∷ []) next (blank 32 ((sign_bytes s ++ b ∷ []) ++ next) refl) (sign-blank s uses b next separator h)
 
 -- a word and a space
-pub word-space : (t : Token) (uses : List Use) (next : List ℕ) → IsTrue (is_word t) → length t ≤ most_name_bytes → IsSpelled (t ++ 32 ∷ []) (mark t uses ∷ []) next
-word-space t uses next word short = beside t (32 ∷ []) (mark t uses ∷ []) [] next (one-word t uses (32 ∷ next) word short refl) (blank 32 next refl)
+pub word-space : (t : Token) (uses : List Use) (next : List ℕ) → IsTrue (is_word t) → length t ≤ most_name_bytes → IsSpelled (t ++ 32 ∷ []) (entry t uses ∷ []) next
+word-space t uses next word short = beside t (32 ∷ []) (entry t uses ∷ []) [] next (one-word t uses (32 ∷ next) word short refl) (blank 32 next refl)

@@ -4,9 +4,9 @@ use Rattle.std.specs.Prelude.{codes, cond, min, option_map}
 use Rattle.std.specs.Str.{bytes_eq}
 use Rattle.mcs_system.specs.Plain.{Name}
 use Rattle.mcs_language.specs.Written.{Written, True', False', Named, WrittenLiteral, WrittenKb, Classical, DefaultTheory, Program}
-use Rattle.mcs_language.specs.Marks.{Token, Use, AtomOf, IsNumber, OpensWithin, Mark, mark}
+use Rattle.mcs_language.specs.Entries.{Token, Use, AtomOf, IsNumber, OpensWithin, Entry, entry}
 use Rattle.mcs_language.specs.Saying.{kb_in, positive_atoms, negative_atoms}
-use Rattle.mcs_language.specs.FormulaSteps.{PartFormula, Pending, Tilde, Parenthesis, And, Or, Implies, Iff, size_so_far, opened_so_far, waits, behind, settle, numbered_mark, operand_step, sign_step, closed, reduce, formula_step, is_name_word}
+use Rattle.mcs_language.specs.FormulaSteps.{PartFormula, Pending, Tilde, Parenthesis, And, Or, Implies, Iff, size_so_far, opened_so_far, waits, behind, settle, numbered_entry, operand_step, sign_step, closed, reduce, formula_step, is_name_word}
 use Rattle.mcs_language.specs.TextSteps.{Place, PartText, Moved, goes, is_program}
 use Rattle.mcs_language.specs.declared.place.Place as code_place
 use Rattle.mcs_language.specs.declared.place.Role as code_role
@@ -44,48 +44,48 @@ step_uses c s t =
 spelled : {A P : Type 0} (t wanted : Token) (x y z : A) → cond (bytes_eq t wanted) x y ≡ z → (t ≡ wanted → x ≡ z → P) → (y ≡ z → P) → P
 spelled t wanted x y z e yes' no' = by_cond (bytes_eq t wanted) x y z e (λ is h. yes' ((bytes_eq-Decides t wanted).0 is) h) (λ is h. no' h)
 
-mark-uses : (m : Mark) (s' : PartFormula) (r : Mark × PartFormula) (us : List Use) → Some (m, s') ≡ Some r → m.uses ≡ us → (r.0).uses ≡ us
-mark-uses m s' r us e h = let same : (m, s') ≡ r = same_Some _ _ e in ap (λ (p : Mark × PartFormula). (p.0).uses) (sym same) ∙ h
+entry-uses : (m : Entry) (s' : PartFormula) (r : Entry × PartFormula) (us : List Use) → Some (m, s') ≡ Some r → m.uses ≡ us → (r.0).uses ≡ us
+entry-uses m s' r us e h = let same : (m, s') ≡ r = same_Some _ _ e in ap (λ (p : Entry × PartFormula). (p.0).uses) (sym same) ∙ h
 
-operand-uses : (c : Name) (s : PartFormula) (t : Token) (r : Mark × PartFormula) → operand_step c s t ≡ Some r → (r.0).uses ≡ step_uses c s t
+operand-uses : (c : Name) (s : PartFormula) (t : Token) (r : Entry × PartFormula) → operand_step c s t ≡ Some r → (r.0).uses ≡ step_uses c s t
 operand-uses c s t r e =
-    spelled t (codes "~") _ _ (Some r) e (λ is h. mark-uses (numbered_mark s t []) (waits s.pending Tilde) r (step_uses c s t) h (rw is refl))
-    (λ e2. spelled t (codes "(") _ _ (Some r) e2 (λ is h. mark-uses (mark t (OpensWithin (opened_so_far s) ∷ [])) (waits s.pending Parenthesis) r (step_uses c s t) h (rw is refl))
-    (λ e3. spelled t (codes "true") _ _ (Some r) e3 (λ is h. mark-uses (numbered_mark s t []) (settle s.pending True') r (step_uses c s t) h (rw (is, true-no-name) refl))
-    (λ e4. spelled t (codes "false") _ _ (Some r) e4 (λ is h. mark-uses (numbered_mark s t []) (settle s.pending False') r (step_uses c s t) h (rw (is, false-no-name) refl))
+    spelled t (codes "~") _ _ (Some r) e (λ is h. entry-uses (numbered_entry s t []) (waits s.pending Tilde) r (step_uses c s t) h (rw is refl))
+    (λ e2. spelled t (codes "(") _ _ (Some r) e2 (λ is h. entry-uses (entry t (OpensWithin (opened_so_far s) ∷ [])) (waits s.pending Parenthesis) r (step_uses c s t) h (rw is refl))
+    (λ e3. spelled t (codes "true") _ _ (Some r) e3 (λ is h. entry-uses (numbered_entry s t []) (settle s.pending True') r (step_uses c s t) h (rw (is, true-no-name) refl))
+    (λ e4. spelled t (codes "false") _ _ (Some r) e4 (λ is h. entry-uses (numbered_entry s t []) (settle s.pending False') r (step_uses c s t) h (rw (is, false-no-name) refl))
     (λ e5. by_cond (is_name_word t) _ _ (Some r) e5
-    (λ name h. mark-uses (numbered_mark s t (AtomOf c t ∷ [])) (settle s.pending (Named t)) r (step_uses c s t) h (rw (word-apart t (codes "(") name refl, word-apart t (codes ")") name refl, name) refl))
+    (λ name h. entry-uses (numbered_entry s t (AtomOf c t ∷ [])) (settle s.pending (Named t)) r (step_uses c s t) h (rw (word-apart t (codes "(") name refl, word-apart t (codes ")") name refl, name) refl))
     (λ _ no. absurd (none-some r no))))))
 
-closed-uses : (t : Token) (o : Option PartFormula) (r : Mark × PartFormula) → option_map (λ (x : PartFormula). (mark t [], x)) o ≡ Some r → (r.0).uses ≡ []
+closed-uses : (t : Token) (o : Option PartFormula) (r : Entry × PartFormula) → option_map (λ (x : PartFormula). (entry t [], x)) o ≡ Some r → (r.0).uses ≡ []
 closed-uses t None r e = absurd (none-some r e)
-closed-uses t (Some x) r e = mark-uses (mark t []) x r [] e refl
+closed-uses t (Some x) r e = entry-uses (entry t []) x r [] e refl
 
-sign-uses : (c : Name) (s : PartFormula) (f : Written) (t : Token) (r : Mark × PartFormula) → sign_step s f t ≡ Some r → (r.0).uses ≡ step_uses c s t
+sign-uses : (c : Name) (s : PartFormula) (f : Written) (t : Token) (r : Entry × PartFormula) → sign_step s f t ≡ Some r → (r.0).uses ≡ step_uses c s t
 sign-uses c s f t r e =
-    spelled t (codes "&") _ _ (Some r) e (λ is h. mark-uses (numbered_mark s t []) (behind And (reduce 1 s.pending f)) r (step_uses c s t) h (rw is refl))
-    (λ e2. spelled t (codes "|") _ _ (Some r) e2 (λ is h. mark-uses (numbered_mark s t []) (behind Or (reduce 2 s.pending f)) r (step_uses c s t) h (rw is refl))
-    (λ e3. spelled t (codes "->") _ _ (Some r) e3 (λ is h. mark-uses (numbered_mark s t []) (behind Implies (reduce 2 s.pending f)) r (step_uses c s t) h (rw is refl))
-    (λ e4. spelled t (codes "<->") _ _ (Some r) e4 (λ is h. mark-uses (numbered_mark s t []) (behind Iff (reduce 3 s.pending f)) r (step_uses c s t) h (rw is refl))
+    spelled t (codes "&") _ _ (Some r) e (λ is h. entry-uses (numbered_entry s t []) (behind And (reduce 1 s.pending f)) r (step_uses c s t) h (rw is refl))
+    (λ e2. spelled t (codes "|") _ _ (Some r) e2 (λ is h. entry-uses (numbered_entry s t []) (behind Or (reduce 2 s.pending f)) r (step_uses c s t) h (rw is refl))
+    (λ e3. spelled t (codes "->") _ _ (Some r) e3 (λ is h. entry-uses (numbered_entry s t []) (behind Implies (reduce 2 s.pending f)) r (step_uses c s t) h (rw is refl))
+    (λ e4. spelled t (codes "<->") _ _ (Some r) e4 (λ is h. entry-uses (numbered_entry s t []) (behind Iff (reduce 3 s.pending f)) r (step_uses c s t) h (rw is refl))
     (λ e5. spelled t (codes ")") _ _ (Some r) e5 (λ is h. closed-uses t (closed (reduce 4 s.pending f)) r h ∙ rw is refl) (λ no. absurd (none-some r no))))))
 
-uses-at : (c : Name) (ps : List Pending) (o : Option Written) (t : Token) (r : Mark × PartFormula) → formula_step c (part ps o) t ≡ Some r → (r.0).uses ≡ step_uses c (part ps o) t
+uses-at : (c : Name) (ps : List Pending) (o : Option Written) (t : Token) (r : Entry × PartFormula) → formula_step c (part ps o) t ≡ Some r → (r.0).uses ≡ step_uses c (part ps o) t
 unfolding formula_step
 uses-at c ps None t r e = operand-uses c (part ps None) t r e
 uses-at c ps (Some f) t r e = sign-uses c (part ps (Some f)) f t r e
 
-pub uses-of-step : (c : Name) (s : PartFormula) (t : Token) (r : Mark × PartFormula) → formula_step c s t ≡ Some r → (r.0).uses ≡ step_uses c s t
+pub uses-of-step : (c : Name) (s : PartFormula) (t : Token) (r : Entry × PartFormula) → formula_step c s t ≡ Some r → (r.0).uses ≡ step_uses c s t
 uses-of-step c s t r e = uses-at c s.pending s.operand t r e
 
 -- a name where an operand has to come is taken, however long it is
-long-at : (c : Name) (ps : List Pending) (t : Token) → is_name_word t ≡ true → formula_step c (part ps None) t ≡ Some (numbered_mark (part ps None) t (AtomOf c t ∷ []), settle ps (Named t))
+long-at : (c : Name) (ps : List Pending) (t : Token) → is_name_word t ≡ true → formula_step c (part ps None) t ≡ Some (numbered_entry (part ps None) t (AtomOf c t ∷ []), settle ps (Named t))
 unfolding formula_step
 long-at c ps t h = rw (word-apart t (codes "~") h refl, word-apart t (codes "(") h refl, word-apart t (codes "true") h true-no-name, word-apart t (codes "false") h false-no-name, h) refl
 
-pub long-step : (c : Name) (s : PartFormula) (t : Token) → s.operand ≡ None → is_name_word t ≡ true → (r : Mark × PartFormula) × (formula_step c s t ≡ Some r)
+pub long-step : (c : Name) (s : PartFormula) (t : Token) → s.operand ≡ None → is_name_word t ≡ true → (r : Entry × PartFormula) × (formula_step c s t ≡ Some r)
 long-step c s t none h =
     let e : s ≡ part s.pending None = ap (part s.pending) none in
-    ((numbered_mark (part s.pending None) t (AtomOf c t ∷ []), settle s.pending (Named t)), ap (λ (x : PartFormula). formula_step c x t) e ∙ long-at c s.pending t h)
+    ((numbered_entry (part s.pending None) t (AtomOf c t ∷ []), settle s.pending (Named t)), ap (λ (x : PartFormula). formula_step c x t) e ∙ long-at c s.pending t h)
 
 -- ---- the role of a token in a formula
 pub role-opens : (c : Name) (s : PartFormula) (t : Token) (n : ℕ) → bytes_eq t (codes "(") ≡ true → n ≡ opened_so_far s → map capped (step_uses c s t) ≡ role_uses (about_context c) t (roles.Opens n)

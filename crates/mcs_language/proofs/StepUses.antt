@@ -8,7 +8,7 @@ use Rattle.mcs_base.proofs.Each.{all_append}
 use Rattle.mcs_base.proofs.Booleans.{by_cond}
 use Rattle.mcs_system.specs.Plain.{Name}
 use Rattle.mcs_language.specs.Written.{Written, WrittenLiteral, Classical, DefaultTheory, Program, WrittenContext, WrittenBridge, IsNameWord}
-use Rattle.mcs_language.specs.Marks.{Token, Use, BeginsContext, BeginsBridge, NamesContext, NamesBridge, SaysProgram, BeginsItem, BeginsDefault, NamesTarget, NamesSource, EndsRead, AtomOf, IsNumber, OpensWithin, Mark, mark, formula_in}
+use Rattle.mcs_language.specs.Entries.{Token, Use, BeginsContext, BeginsBridge, NamesContext, NamesBridge, SaysProgram, BeginsItem, BeginsDefault, NamesTarget, NamesSource, EndsRead, AtomOf, IsNumber, OpensWithin, Entry, entry, formula_in}
 use Rattle.mcs_language.specs.FormulaSteps.{Pending, PartFormula, no_formula, formula_step, is_name_word, opened_so_far, size_so_far}
 use Rattle.mcs_language.specs.TextSteps as steps
 use Rattle.mcs_language.specs.TextSteps.{PartDefault, PartRead, Place, Between, ContextName, KindWord, OpenBrace, NextItem, InFact, InJust, InConclusion, AfterHeadName, NextHeadName, AfterSign, NextLiteral, AfterNot, AfterLiteral, BridgeName, BridgeColon, HeadContext, HeadColon, InHead, AfterHead, NextRead, ReadContext, ReadColon, InRead, AfterRead, PartText, Moved, goes, atom_uses, empty_context, add_fact, add_default, add_rule, one_more_just, whole_default, whole_rule, headed, with_read, first_of_belief, is_theory, is_program, context_is_whole, bridge_is_whole, step_at, text_step}
@@ -22,7 +22,7 @@ Shows t (NamesBridge b) = IsNameWord t
 Shows t (AtomOf c a) = (a ≡ t) × IsNameWord t
 Shows t u = Unit {0}
 
-pub record AreShown (t : Token) (r : Mark × PartText) : Type 0 where
+pub record AreShown (t : Token) (r : Entry × PartText) : Type 0 where
   pub token : (r.0).token ≡ t
   pub uses : AllByRecursion (Shows t) (r.0).uses
 
@@ -35,7 +35,7 @@ module _ (t : Token) where
   uses-show c f false false true is = ((refl, is), (tt, tt))
   uses-show c f false false false is = (tt, tt)
 
-  formula-shows : (c : Name) (f : PartFormula) (r : Mark × PartFormula) → formula_step c f t ≡ Some r → AllByRecursion (Shows t) (r.0).uses
+  formula-shows : (c : Name) (f : PartFormula) (r : Entry × PartFormula) → formula_step c f t ≡ Some r → AllByRecursion (Shows t) (r.0).uses
   formula-shows c f r e = subst (AllByRecursion (Shows t)) (sym (uses-of-step c f t r e)) (uses-show c f (bytes_eq t (codes "(")) (bytes_eq t (codes ")")) (is_name_word t) refl)
 
   first-shows : (c : Name) (ps : List Pending) (o : Option Written) → AllByRecursion (Shows t) (first_of_belief c (record { pending = ps; operand = o }))
@@ -43,19 +43,19 @@ module _ (t : Token) where
   first-shows c [] (Some w) = tt
   first-shows c (x ∷ ps) o = tt
 
-  belief-shows : (c : Name) (f : PartFormula) (r : Mark × PartFormula) → formula_step c f t ≡ Some r → AllByRecursion (Shows t) (first_of_belief c f ++ (r.0).uses)
+  belief-shows : (c : Name) (f : PartFormula) (r : Entry × PartFormula) → formula_step c f t ≡ Some r → AllByRecursion (Shows t) (first_of_belief c f ++ (r.0).uses)
   belief-shows c f r e = all_append (Shows t) (first_of_belief c f) (r.0).uses (first-shows c f.pending f.operand) (formula-shows c f r e)
 
 -- ---- the places
-module _ (s : PartText) (t : Token) (r : Mark × PartText) where
+module _ (s : PartText) (t : Token) (r : Entry × PartText) where
   goes-shows : (us : List Use) (q : Place) → goes s t us q ≡ Some r → AllByRecursion (Shows t) us → AreShown t r
   goes-shows us q e h =
-      let here : AreShown t (mark t us, record s { place = q }) = record { token = refl; uses = h } in
+      let here : AreShown t (entry t us, record s { place = q }) = record { token = refl; uses = h } in
       subst (AreShown t) (same_Some _ _ e) here
 
-  ends-shows : (s' : PartText) → ◌≡◌ {A = Moved} (Some (mark t [], s')) (Some r) → AreShown t r
+  ends-shows : (s' : PartText) → ◌≡◌ {A = Moved} (Some (entry t [], s')) (Some r) → AreShown t r
   ends-shows s' e =
-      let here : AreShown t (mark t [], s') = record { token = refl; uses = tt } in
+      let here : AreShown t (entry t [], s') = record { token = refl; uses = tt } in
       subst (AreShown t) (same_Some _ _ e) here
 
   -- at a sign alone
@@ -160,7 +160,7 @@ module _ (s : PartText) (t : Token) (r : Mark × PartText) where
       on-is t (codes ",") _ _ r e (λ is g. goes-shows [] (NextRead b) g tt)
       (λ e2. on-is t (codes ".") _ _ r e2 (λ is g. ends-shows (bridge_is_whole s b) g) (λ no. absurd (none-some r no)))
 
-place-shows : (s : PartText) (p : Place) (t : Token) (r : Mark × PartText) → step_at s t p ≡ Some r → AreShown t r
+place-shows : (s : PartText) (p : Place) (t : Token) (r : Entry × PartText) → step_at s t p ≡ Some r → AreShown t r
 place-shows s Between t r e = between-shows s t r e
 place-shows s ContextName t r e = name-is t _ r e (λ name g. goes-shows s t r (NamesContext t ∷ []) (KindWord t) g (name, tt))
 place-shows s (KindWord n) t r e = kind-shows s t r n e
@@ -187,6 +187,6 @@ place-shows s (ReadColon b d) t r e = sign-shows s t r (codes ":") (InRead b d n
 place-shows s (InRead b d f) t r e = read-shows s t r b d f e
 place-shows s (AfterRead b) t r e = after-read-shows s t r b e
 
-pub text-shows : (s : PartText) (t : Token) (r : Mark × PartText) → text_step s t ≡ Some r → AreShown t r
+pub text-shows : (s : PartText) (t : Token) (r : Entry × PartText) → text_step s t ≡ Some r → AreShown t r
 unfolding text_step
 text-shows s t r e = place-shows s s.place t r e

@@ -8,7 +8,7 @@ use Rattle.mcs_base.proofs.Sums.{count_by_push}
 use Rattle.mcs_system.specs.Plain.{Name, Formula}
 use Rattle.mcs_language.specs.declared.watch.Watch.{Watch}
 use Rattle.mcs_language.specs.declared.watch.ContextSeen.{ContextSeen}
-use Rattle.mcs_language.specs.Marks.{Use, BeginsContext, BeginsBridge, NamesContext, NamesBridge, NamesTarget, EndsRead}
+use Rattle.mcs_language.specs.Entries.{Use, BeginsContext, BeginsBridge, NamesContext, NamesBridge, NamesTarget, EndsRead}
 use Rattle.mcs_language.specs.Faults.{begins_context, begins_bridge, AreDifferent, WasRead}
 use Rattle.mcs_language.specs.TextImages.{read_of}
 use Rattle.mcs_language.specs.Watching.{context_named, bridge_named, contexts_named, bridges_named, Lists, IsSeen, IsSpokenOf, names_seen, IsWatch, IsAllowed}

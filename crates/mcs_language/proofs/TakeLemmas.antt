@@ -6,7 +6,7 @@ use Rattle.mcs_system.specs.Plain as plain
 use Rattle.mcs_system.specs.Seen.{context_of}
 use Rattle.mcs_system.specs.declared.knowledge.Context as code_context
 use Rattle.mcs_language.specs.Written.{WrittenContext, WrittenBridge, WrittenText}
-use Rattle.mcs_language.specs.Marks.{Token, mark}
+use Rattle.mcs_language.specs.Entries.{Token, entry}
 use Rattle.mcs_language.specs.Saying.{context_in}
 use Rattle.mcs_language.specs.TextSteps.{Place, Between, PartText, step_at, text_step, finished_text, context_is_whole, bridge_is_whole}
 use Rattle.mcs_language.specs.declared.reader.Reader.{Reader}
@@ -55,18 +55,18 @@ module _ (old now : Reader) (s : PartText) (t : Token) (reader : IsTextReader ol
   moves-taken place uses e same =
       let h : Stepped (answers.Moves place uses) = subst Stepped e is in
       let here : IsTextReader (record old { place = place }) (record s { place = h.1.0 }) = record { contexts = reader.contexts; bridges = reader.bridges; place = h.1.2 } in
-      ((mark t h.0, record s { place = h.1.0 }), step-is s t ∙ h.1.1, h.1.3, inl (subst (λ (r : Reader). IsTextReader r (record s { place = h.1.0 })) (sym same) here))
+      ((entry t h.0, record s { place = h.1.0 }), step-is s t ∙ h.1.1, h.1.3, inl (subst (λ (r : Reader). IsTextReader r (record s { place = h.1.0 })) (sym same) here))
 
   pub long-taken : (uses : code_uses.Uses) → step ≡ answers.LongName uses → now.place ≡ places.Between → IsTaken (Some uses) now s t
   long-taken uses e place =
       let h : Stepped (answers.LongName uses) = subst Stepped e is in
-      ((mark t h.0, record s { place = h.1.0 }), step-is s t ∙ h.1.1, h.1.4, inr (record { name = h.1.2; long = h.1.3; no_read = ap last_read place }))
+      ((entry t h.0, record s { place = h.1.0 }), step-is s t ∙ h.1.1, h.1.4, inr (record { name = h.1.2; long = h.1.3; no_read = ap last_read place }))
 
   pub context-taken : (c : code_context.Context) (uses : code_uses.Uses) → step ≡ answers.EndsContext c → uses ≡ only roles.Nothing → now.contexts.items ≡ old.contexts.items ++ c ∷ [] → now.bridges.items ≡ old.bridges.items → now.place ≡ places.Between → IsTaken (Some uses) now s t
   context-taken c uses e alone cs bs place =
       let h : Stepped (answers.EndsContext c) = subst Stepped e is in
       let here : IsTaken (Some (only roles.Nothing)) now s t = (
-        (mark t [], context_is_whole s h.0),
+        (entry t [], context_is_whole s h.0),
         step-is s t ∙ h.2,
         refl,
         inl (record {
@@ -81,7 +81,7 @@ module _ (old now : Reader) (s : PartText) (t : Token) (reader : IsTextReader ol
   bridge-taken b uses e alone cs bs place =
       let h : Stepped (answers.EndsBridge b) = subst Stepped e is in
       let here : IsTaken (Some (only roles.Nothing)) now s t = (
-        (mark t [], bridge_is_whole s h.0),
+        (entry t [], bridge_is_whole s h.0),
         step-is s t ∙ h.2,
         refl,
         inl (record {

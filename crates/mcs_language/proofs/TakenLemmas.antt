@@ -12,7 +12,7 @@ use Rattle.mcs_language.specs.declared.place.NamedRead as code_read
 use Rattle.mcs_language.specs.declared.place.Uses as code_uses
 use Rattle.mcs_language.specs.declared.watch.Watch.{Watch}
 use Rattle.mcs_language.specs.declared.watch.Subject as code_subject
-use Rattle.mcs_language.specs.Marks.{Token, Use, Mark, uses_of}
+use Rattle.mcs_language.specs.Entries.{Token, Use, Entry, uses_of}
 use Rattle.mcs_language.specs.TextImages.{IsTaken, About, about, subject_at, last_read}
 use Rattle.mcs_language.specs.Watching.{IsWatch, IsSubject, IsSaid, IsSpokenOf, IsVerdict}
 use Rattle.mcs_language.specs.Progress.{IsUpTo, IsNextRead}
@@ -30,12 +30,12 @@ pub taken-next : (old : Reading) (ts : List Token) (k : ℕ) (t : Token) (h : Is
     → (read : Option code_read.NamedRead) → read ≡ last_read now.place
     → (subject : code_subject.Subject) → IsSubject old.watch (subject_at h.state.place) subject
     → (watch : Watch) (verdict : Result (Option code_fault.Fault) Memory)
-    → ((before : List Use) (m : Mark) (a : About) → IsWatch old.watch before → m.token ≡ t → IsSubject old.watch a.subject subject → IsSaid a m uses read → AllByRecursion (IsSpokenOf before) m.uses → IfOk verdict (λ f. IsVerdict f before m watch))
+    → ((before : List Use) (m : Entry) (a : About) → IsWatch old.watch before → m.token ≡ t → IsSubject old.watch a.subject subject → IsSaid a m uses read → AllByRecursion (IsSpokenOf before) m.uses → IfOk verdict (λ f. IsVerdict f before m watch))
     → IfOk verdict (λ f. IsNextRead f (reading_of now watch) ts k)
 taken-next old ts k t h is now uses taken read last subject subject-is watch verdict note =
     let (r, step, told, held) = taken in
     let token : (r.0).token ≡ t = (text-shows h.state t r step).token in
-    let said = is-said _ h.marks h.state h.taken h.faultless t r.0 r.1 step uses told now read held last in
-    let spoken = spoken-step (uses_of h.marks) h.state t r.0 r.1 step h.known in
-    IfOk-weaker verdict (λ f. IsVerdict f (uses_of h.marks) r.0 watch) (λ f. IsNextRead f (reading_of now watch) ts k) (λ f v. next-read old ts k t h is r.0 r.1 step f now watch held v)
-    (note (uses_of h.marks) r.0 (about (subject_at h.state.place) r.1.place) h.watch token subject-is said spoken)
+    let said = is-said _ h.entries h.state h.taken h.faultless t r.0 r.1 step uses told now read held last in
+    let spoken = spoken-step (uses_of h.entries) h.state t r.0 r.1 step h.known in
+    IfOk-weaker verdict (λ f. IsVerdict f (uses_of h.entries) r.0 watch) (λ f. IsNextRead f (reading_of now watch) ts k) (λ f v. next-read old ts k t h is r.0 r.1 step f now watch held v)
+    (note (uses_of h.entries) r.0 (about (subject_at h.state.place) r.1.place) h.watch token subject-is said spoken)

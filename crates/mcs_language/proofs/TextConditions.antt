@@ -5,12 +5,12 @@ use Rattle.mcs_base.specs.Words.{most_name_bytes}
 use Rattle.mcs_system.specs.Plain.{Name}
 use Rattle.mcs_system.specs.Plain as plain
 use Rattle.mcs_language.specs.Written.{Named, WrittenPlace, WrittenText, IsNameWord}
-use Rattle.mcs_language.specs.Marks.{Mark, formula_in, text_marks}
+use Rattle.mcs_language.specs.Entries.{Entry, formula_in, text_entries}
 use Rattle.mcs_language.proofs.UsesLemmas.{IsPlaceOf}
 
 -- names are no longer than names may be
 abbrev pub HasShortNames : WrittenText → Type 0
-HasShortNames t = (m : Mark) → IsAmong m (text_marks t) → IsNameWord m.token → length m.token ≤ most_name_bytes
+HasShortNames t = (m : Entry) → IsAmong m (text_entries t) → IsNameWord m.token → length m.token ≤ most_name_bytes
 
 -- heads and beliefs that are atoms stand without parentheses
 abbrev pub HasBareAtoms : WrittenText → Type 0

@@ -8,37 +8,37 @@ use Rattle.mcs_base.proofs.Each.{all_push}
 use Rattle.mcs_base.proofs.Lists.{flat_map_push, append_split}
 use Rattle.mcs_system.specs.Plain.{Name}
 use Rattle.mcs_language.specs.Written.{Written, Rule, WrittenLiteral, WrittenRead, WrittenKb, Classical, DefaultTheory, Program, WrittenContext, WrittenBridge, IsNameWord, IsFormula, IsItem, IsRule, IsPlace, IsBridge, level}
-use Rattle.mcs_language.specs.Marks.{Token, Use, BeginsBridge, NamesBridge, BeginsItem, NamesTarget, EndsRead, Mark, mark, formula_in, with_last, whole_marks, default_marks, optional, literal_marks, ended, place_marks, read_marks, reads_marks, further_read, context_marks, bridge_marks}
+use Rattle.mcs_language.specs.Entries.{Token, Use, BeginsBridge, NamesBridge, BeginsItem, NamesTarget, EndsRead, Entry, entry, formula_in, with_last, whole_entries, default_entries, optional, literal_entries, ended, place_entries, read_entries, reads_entries, further_read, context_entries, bridge_entries}
 use Rattle.mcs_language.specs.FormulaSteps.{PartFormula}
 use Rattle.mcs_language.specs.TextSteps.{PartDefault, PartRead, InRead, AfterRead, one_more_just, whole_default, whole_rule, with_read, first_of_belief}
-use Rattle.mcs_language.proofs.FormulaParts.{IsPart, part_marks}
-use Rattle.mcs_language.proofs.TextParts.{sign_mark, kind_mark, kb_items, open_context, begun, before_comma, open_justs, open_conclusion, open_rule, literal_comma, open_bridge, before_read, begun_belief, source_mark, so_far, AreNames, AreLiterals, IsInTheory}
+use Rattle.mcs_language.proofs.FormulaParts.{IsPart, part_entries}
+use Rattle.mcs_language.proofs.TextParts.{sign_entry, kind_entry, kb_items, open_context, begun, before_comma, open_justs, open_conclusion, open_rule, literal_comma, open_bridge, before_read, begun_belief, source_entry, so_far, AreNames, AreLiterals, IsInTheory}
 use Rattle.mcs_language.proofs.TextLemmas.{first-append, last-append, literals-more, commas-last, belief-more, whole-some}
 use Rattle.mcs_language.specs.TextImages.{HasSome}
-use Rattle.mcs_language.proofs.MarkLists.{some-append}
+use Rattle.mcs_language.proofs.EntryLists.{some-append}
 
 -- ---- items
 -- the item and the period after it
-pub item-ends : (c : WrittenContext) (kb : WrittenKb) (item : List Mark) → kind_mark c.name kb ≡ kind_mark c.name c.kb → kb_items c.name kb ≡ kb_items c.name c.kb ++ ended c.name item
-    → open_context (record c { kb = kb }) ≡ (open_context c ++ begun c.name item) ++ sign_mark (codes ".") ∷ []
-item-ends c kb item kind items = rw (kind, items) (sym (append_assoc (open_context c) (begun c.name item) (sign_mark (codes ".") ∷ [])))
+pub item-ends : (c : WrittenContext) (kb : WrittenKb) (item : List Entry) → kind_entry c.name kb ≡ kind_entry c.name c.kb → kb_items c.name kb ≡ kb_items c.name c.kb ++ ended c.name item
+    → open_context (record c { kb = kb }) ≡ (open_context c ++ begun c.name item) ++ sign_entry (codes ".") ∷ []
+item-ends c kb item kind items = rw (kind, items) (sym (append_assoc (open_context c) (begun c.name item) (sign_entry (codes ".") ∷ [])))
 
-pub justs-more : (n : Name) (d : PartDefault) (w : Written) → open_justs n (one_more_just d w) ≡ (open_justs n d ++ whole_marks n w) ++ sign_mark (codes ",") ∷ []
+pub justs-more : (n : Name) (d : PartDefault) (w : Written) → open_justs n (one_more_just d w) ≡ (open_justs n d ++ whole_entries n w) ++ sign_entry (codes ",") ∷ []
 justs-more n d w = rw (flat_map_push (before_comma n) d.justs w) (simp append_assoc)
 
-pub justs-last : (n : Name) (d : PartDefault) (w : Written) → open_conclusion n (one_more_just d w) ≡ (open_justs n d ++ whole_marks n w) ++ sign_mark (codes "/") ∷ []
+pub justs-last : (n : Name) (d : PartDefault) (w : Written) → open_conclusion n (one_more_just d w) ≡ (open_justs n d ++ whole_entries n w) ++ sign_entry (codes "/") ∷ []
 justs-last n d w = rw (commas-last n d.justs w) (simp append_assoc)
 
-pub default-ends : (n : Name) (d : PartDefault) (w : Written) → HasSome d.justs → default_marks n (whole_default d w) ≡ open_conclusion n d ++ whole_marks n w
+pub default-ends : (n : Name) (d : PartDefault) (w : Written) → HasSome d.justs → default_entries n (whole_default d w) ≡ open_conclusion n d ++ whole_entries n w
 default-ends n d w h = go d.justs h
   where
-    go : (js : List Written) → HasSome js → default_marks n (whole_default (record { pre = d.pre; justs = js }) w) ≡ open_conclusion n (record { pre = d.pre; justs = js }) ++ whole_marks n w
+    go : (js : List Written) → HasSome js → default_entries n (whole_default (record { pre = d.pre; justs = js }) w) ≡ open_conclusion n (record { pre = d.pre; justs = js }) ++ whole_entries n w
     go [] g = absurd g
     go (j ∷ js) g = simp append_assoc
 
 pub rule-literal : (n : Name) (head : List Name) (body : List WrittenLiteral) (l : WrittenLiteral)
-    → open_rule n head (body ++ l ∷ []) ≡ (open_rule n head body ++ literal_comma body) ++ literal_marks n (length head + length body) l
-rule-literal n head [] l = rw (add-zero, append-nil (literal_marks n (length head) l)) (simp (append_assoc, append-nil))
+    → open_rule n head (body ++ l ∷ []) ≡ (open_rule n head body ++ literal_comma body) ++ literal_entries n (length head + length body) l
+rule-literal n head [] l = rw (add-zero, append-nil (literal_entries n (length head) l)) (simp (append_assoc, append-nil))
 rule-literal n head (k ∷ ls) l =
     let i : (length head + 1) + length ls ≡ length head + length (k ∷ ls) = omega arith in
     rw (literals-more n (length head + 1) ls l, i) (simp append_assoc)
@@ -48,41 +48,41 @@ open_rule-some n [] body = tt
 open_rule-some n (a ∷ names) body = tt
 
 -- ---- bridge rules
-pub bridge-ends : (b : WrittenBridge) → bridge_marks b ≡ open_bridge b ++ sign_mark (codes ".") ∷ []
+pub bridge-ends : (b : WrittenBridge) → bridge_entries b ≡ open_bridge b ++ sign_entry (codes ".") ∷ []
 bridge-ends b = simp append_assoc
 
-pub context-ends : (n : Name) (kb : WrittenKb) → context_marks (record { name = n; kb = kb }) ≡ open_context (record { name = n; kb = kb }) ++ sign_mark (codes "}") ∷ []
+pub context-ends : (n : Name) (kb : WrittenKb) → context_entries (record { name = n; kb = kb }) ≡ open_context (record { name = n; kb = kb }) ++ sign_entry (codes "}") ∷ []
 context-ends n (Classical formulas) = refl
 context-ends n (DefaultTheory items) = refl
 context-ends n (Program rules) = refl
 
-pub reads-more : (c : Name) (reads : List WrittenRead) (r : WrittenRead) → reads_marks c (reads ++ r ∷ []) ≡ reads_marks c reads ++ (before_read reads ++ read_marks c r)
-reads-more c [] r = ap (λ (ms : List Mark). sign_mark (codes "if") ∷ ms) (append-nil (read_marks c r))
+pub reads-more : (c : Name) (reads : List WrittenRead) (r : WrittenRead) → reads_entries c (reads ++ r ∷ []) ≡ reads_entries c reads ++ (before_read reads ++ read_entries c r)
+reads-more c [] r = ap (λ (ms : List Entry). sign_entry (codes "if") ∷ ms) (append-nil (read_entries c r))
 reads-more c (q ∷ reads) r = rw (flat_map_push (further_read c) reads r) (simp append_assoc)
 
-pub regroup : (a b c d e f : List Mark) → a ++ (b ++ (c ++ (d ++ (e ++ f)))) ≡ ((a ++ b) ++ (c ++ (d ++ e))) ++ f
+pub regroup : (a b c d e f : List Entry) → a ++ (b ++ (c ++ (d ++ (e ++ f)))) ≡ ((a ++ b) ++ (c ++ (d ++ e))) ++ f
 regroup a b c d e f = simp append_assoc
 
-pub regroup3 : (a b c d : List Mark) → a ++ (b ++ (c ++ d)) ≡ (a ++ (b ++ c)) ++ d
+pub regroup3 : (a b c d : List Entry) → a ++ (b ++ (c ++ d)) ≡ (a ++ (b ++ c)) ++ d
 regroup3 a b c d = simp append_assoc
 
-pub read-ends : (b : WrittenBridge) (r : PartRead) (w : Written) (f : PartFormula) (m : Mark) → IsPart f → whole_marks r.context w ≡ part_marks r.context f ++ m ∷ []
-    → so_far (AfterRead (with_read b r w)) ≡ so_far (InRead b r f) ++ mark m.token (EndsRead b.head.context r.context (formula_in w) ∷ (first_of_belief r.context f ++ m.uses)) ∷ []
+pub read-ends : (b : WrittenBridge) (r : PartRead) (w : Written) (f : PartFormula) (m : Entry) → IsPart f → whole_entries r.context w ≡ part_entries r.context f ++ m ∷ []
+    → so_far (AfterRead (with_read b r w)) ≡ so_far (InRead b r f) ++ entry m.token (EndsRead b.head.context r.context (formula_in w) ∷ (first_of_belief r.context f ++ m.uses)) ∷ []
 read-ends b r w f m h e =
     let c : Name = r.context in
     let uses : List Use = EndsRead b.head.context c (formula_in w) ∷ [] in
-    let last : Mark = mark m.token (first_of_belief c f ++ m.uses) in
-    let belief : begun_belief c (whole_marks c w) ≡ begun_belief c (part_marks c f) ++ last ∷ [] = ap (begun_belief c) e ∙ belief-more c f m in
-    let read : with_last uses (source_mark c ∷ sign_mark (codes ":") ∷ begun_belief c (whole_marks c w)) ≡ source_mark c ∷ sign_mark (codes ":") ∷ (begun_belief c (part_marks c f) ++ mark m.token (uses ++ (first_of_belief c f ++ m.uses)) ∷ [])
-    = ap (λ (ms : List Mark). with_last uses (source_mark c ∷ sign_mark (codes ":") ∷ ms)) belief ∙ last-append uses (source_mark c ∷ sign_mark (codes ":") ∷ begun_belief c (part_marks c f)) last [] in
+    let last : Entry = entry m.token (first_of_belief c f ++ m.uses) in
+    let belief : begun_belief c (whole_entries c w) ≡ begun_belief c (part_entries c f) ++ last ∷ [] = ap (begun_belief c) e ∙ belief-more c f m in
+    let read : with_last uses (source_entry c ∷ sign_entry (codes ":") ∷ begun_belief c (whole_entries c w)) ≡ source_entry c ∷ sign_entry (codes ":") ∷ (begun_belief c (part_entries c f) ++ entry m.token (uses ++ (first_of_belief c f ++ m.uses)) ∷ [])
+    = ap (λ (ms : List Entry). with_last uses (source_entry c ∷ sign_entry (codes ":") ∷ ms)) belief ∙ last-append uses (source_entry c ∷ sign_entry (codes ":") ∷ begun_belief c (part_entries c f)) last [] in
     let target : Name = b.head.context in
-    let not' : List Mark = optional r.denied (codes "not") in
-    let begin : List Mark = mark (codes "bridge") (BeginsBridge ∷ []) ∷ mark b.name (NamesBridge b.name ∷ []) ∷ sign_mark (codes ":") ∷ place_marks (NamesTarget target) b.head in
-    let all = reads-more target b.reads (record { denied = r.denied; place = record { context = c; belief = w } }) ∙ ap (λ (ms : List Mark). reads_marks target b.reads ++ (before_read b.reads ++ (not' ++ ms))) read in
-    ap (λ (ms : List Mark). begin ++ ms) all
-    ∙ regroup begin (reads_marks target b.reads) (before_read b.reads) not' (source_mark c ∷ sign_mark (codes ":") ∷ begun_belief c (part_marks c f)) (mark m.token (uses ++ (first_of_belief c f ++ m.uses)) ∷ [])
+    let not' : List Entry = optional r.denied (codes "not") in
+    let begin : List Entry = entry (codes "bridge") (BeginsBridge ∷ []) ∷ entry b.name (NamesBridge b.name ∷ []) ∷ sign_entry (codes ":") ∷ place_entries (NamesTarget target) b.head in
+    let all = reads-more target b.reads (record { denied = r.denied; place = record { context = c; belief = w } }) ∙ ap (λ (ms : List Entry). reads_entries target b.reads ++ (before_read b.reads ++ (not' ++ ms))) read in
+    ap (λ (ms : List Entry). begin ++ ms) all
+    ∙ regroup begin (reads_entries target b.reads) (before_read b.reads) not' (source_entry c ∷ sign_entry (codes ":") ∷ begun_belief c (part_entries c f)) (entry m.token (uses ++ (first_of_belief c f ++ m.uses)) ∷ [])
 
-pub comma-read : (reads : List WrittenRead) → HasSome reads → before_read reads ≡ sign_mark (codes ",") ∷ []
+pub comma-read : (reads : List WrittenRead) → HasSome reads → before_read reads ≡ sign_entry (codes ",") ∷ []
 comma-read [] h = absurd h
 comma-read (q ∷ reads) h = refl
 
@@ -91,15 +91,15 @@ no-bridges [] h = refl
 no-bridges (b ∷ bs) h = let none : length (b ∷ bs) ≡ 0 = (Decides-eqb (length (b ∷ bs)) 0).0 h in absurd (omega arith)
 
 -- a justification and the sign after it
-pub just-marks : (c : WrittenContext) (d : PartDefault) (w : Written) (xs more : List Mark) (sign : Token) → whole_marks c.name w ≡ xs → more ≡ (open_justs c.name d ++ whole_marks c.name w) ++ sign_mark sign ∷ []
-    → open_context c ++ (begun c.name more ++ []) ≡ (open_context c ++ (begun c.name (open_justs c.name d) ++ xs)) ++ sign_mark sign ∷ []
-just-marks c d w xs more sign whole is =
+pub just-entries : (c : WrittenContext) (d : PartDefault) (w : Written) (xs more : List Entry) (sign : Token) → whole_entries c.name w ≡ xs → more ≡ (open_justs c.name d ++ whole_entries c.name w) ++ sign_entry sign ∷ []
+    → open_context c ++ (begun c.name more ++ []) ≡ (open_context c ++ (begun c.name (open_justs c.name d) ++ xs)) ++ sign_entry sign ∷ []
+just-entries c d w xs more sign whole is =
     let uses : List Use = BeginsItem c.name ∷ [] in
-    let some = some-append (whole_marks c.name d.pre) _ (whole-some c.name d.pre) in
-    let split : begun c.name more ≡ (begun c.name (open_justs c.name d) ++ xs) ++ sign_mark sign ∷ []
-    = ap (begun c.name) is ∙ first-append uses (open_justs c.name d ++ whole_marks c.name w) (sign_mark sign ∷ []) (some-append (open_justs c.name d) (whole_marks c.name w) some)
-    ∙ ap (λ (ms : List Mark). ms ++ sign_mark sign ∷ []) (first-append uses (open_justs c.name d) (whole_marks c.name w) some ∙ ap (λ (ms : List Mark). begun c.name (open_justs c.name d) ++ ms) whole) in
-    append_split (open_context c) (begun c.name more ++ []) (begun c.name (open_justs c.name d) ++ xs) (sign_mark sign ∷ []) (append-nil (begun c.name more) ∙ split)
+    let some = some-append (whole_entries c.name d.pre) _ (whole-some c.name d.pre) in
+    let split : begun c.name more ≡ (begun c.name (open_justs c.name d) ++ xs) ++ sign_entry sign ∷ []
+    = ap (begun c.name) is ∙ first-append uses (open_justs c.name d ++ whole_entries c.name w) (sign_entry sign ∷ []) (some-append (open_justs c.name d) (whole_entries c.name w) some)
+    ∙ ap (λ (ms : List Entry). ms ++ sign_entry sign ∷ []) (first-append uses (open_justs c.name d) (whole_entries c.name w) some ∙ ap (λ (ms : List Entry). begun c.name (open_justs c.name d) ++ ms) whole) in
+    append_split (open_context c) (begun c.name more ++ []) (begun c.name (open_justs c.name d) ++ xs) (sign_entry sign ∷ []) (append-nil (begun c.name more) ∙ split)
 
 pub more-right : (c : WrittenContext) (d : PartDefault) (w : Written) → IsInTheory c d → IsFormula w → IsInTheory c (one_more_just d w)
 more-right c d w h f = (h.0, h.1, h.2, all_push IsFormula d.justs w h.3 f)

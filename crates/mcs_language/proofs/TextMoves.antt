@@ -8,7 +8,7 @@ use Rattle.mcs_base.proofs.Booleans.{by_cond}
 use Rattle.mcs_base.proofs.Among.{among_right}
 use Rattle.mcs_system.specs.Plain.{Name}
 use Rattle.mcs_language.specs.Written.{WrittenLiteral, WrittenContext, WrittenBridge, Classical, DefaultTheory, Program}
-use Rattle.mcs_language.specs.Marks.{Token, Use, BeginsContext, BeginsBridge, NamesContext, NamesBridge, SaysProgram, BeginsItem, BeginsDefault, NamesTarget, NamesSource, EndsRead, Mark, formula_in}
+use Rattle.mcs_language.specs.Entries.{Token, Use, BeginsContext, BeginsBridge, NamesContext, NamesBridge, SaysProgram, BeginsItem, BeginsDefault, NamesTarget, NamesSource, EndsRead, Entry, formula_in}
 use Rattle.mcs_language.specs.FormulaSteps.{PartFormula, no_formula}
 use Rattle.mcs_language.specs.TextSteps.{PartDefault, PartRead, Place, Between, ContextName, KindWord, OpenBrace, NextItem, InFact, InJust, InConclusion, AfterHeadName, NextHeadName, AfterSign, NextLiteral, AfterNot, AfterLiteral, BridgeName, BridgeColon, HeadContext, HeadColon, InHead, AfterHead, NextRead, ReadContext, ReadColon, InRead, AfterRead, PartText, empty_context, is_theory, is_program, add_fact, add_default, add_rule, one_more_just, whole_default, whole_rule, headed, with_read, atom_uses, step_at, text_step}
 use Rattle.mcs_language.specs.TextSteps as steps
@@ -18,7 +18,7 @@ use Rattle.mcs_language.proofs.NamedLemmas.{named-later, speaks-later}
 use Rattle.mcs_language.proofs.MoveLemmas.{IsMove, IsOf, is_after_read, of-step, of-belief, goes-move, stay-move, sign-move, of-move, context-move, bridge-move, read-move}
 use Rattle.mcs_language.proofs.TextParts.{text_of}
 
-module _ (cs : List WrittenContext) (bs : List WrittenBridge) (t : Token) (r : Mark × PartText) where
+module _ (cs : List WrittenContext) (bs : List WrittenBridge) (t : Token) (r : Entry × PartText) where
   abbrev Moves : Place → Type 0
   Moves p = step_at (text_of cs bs p) t p ≡ Some r → IsMove (text_of cs bs p) t r
 
@@ -186,6 +186,6 @@ module _ (cs : List WrittenContext) (bs : List WrittenBridge) (t : Token) (r : M
   place-move (InRead b d f) e = in-read-move b d f e
   place-move (AfterRead b) e = after-read-move b e
 
-pub text-move : (s : PartText) (t : Token) (r : Mark × PartText) → text_step s t ≡ Some r → IsMove s t r
+pub text-move : (s : PartText) (t : Token) (r : Entry × PartText) → text_step s t ≡ Some r → IsMove s t r
 unfolding text_step
 text-move s t r e = place-move s.contexts s.bridges t r s.place e

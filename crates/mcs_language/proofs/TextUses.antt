@@ -4,11 +4,11 @@ use Rattle.std.specs.List.{flat_map}
 use Rattle.mcs_base.specs.Listings.{IsAmong}
 use Rattle.mcs_system.specs.Plain.{Name, Formula}
 use Rattle.mcs_language.specs.Written.{WrittenContext, WrittenRead, WrittenBridge, WrittenText}
-use Rattle.mcs_language.specs.Marks.{Use, BeginsContext, NamesContext, SaysProgram, NamesTarget, NamesSource, EndsRead, context_marks, bridge_marks, kb_marks, uses_of}
+use Rattle.mcs_language.specs.Entries.{Use, BeginsContext, NamesContext, SaysProgram, NamesTarget, NamesSource, EndsRead, context_entries, bridge_entries, kb_entries, uses_of}
 use Rattle.mcs_language.specs.Faults.{NamedRead, WasReadInto}
 use Rattle.mcs_language.specs.TextImages.{read_in}
 use Rattle.mcs_language.proofs.UsesParts.{text_uses, IsReadOf, IsProgramKb}
-use Rattle.mcs_language.proofs.MarkLists.{among-append, append-left, append-right, among-parts, parts-among}
+use Rattle.mcs_language.proofs.EntryLists.{among-append, append-left, append-right, among-parts, parts-among}
 use Rattle.mcs_language.proofs.ContextUses.{KbUse, OfKind, OfItem, OfDefault, WithinFormula, WithinRule, kb-uses, kind-among, in_formula, in_kb, formula-in, rule-in, kb-in}
 use Rattle.mcs_language.proofs.BridgeUses.{BridgeUse, OfBridge, OfName, OfHead, OfRead, bridge-uses, uses-bridge, in_place, in_read, in_bridge, place-in, read-in, bridge-in}
 
@@ -16,29 +16,29 @@ use Rattle.mcs_language.proofs.BridgeUses.{BridgeUse, OfBridge, OfName, OfHead, 
 pub data TextUse (t : WrittenText) (u : Use) : Type 0 where
   BeginsOne : (is : u ≡ BeginsContext) → TextUse t u
   NamesOne : (x : WrittenContext) (there : IsAmong x t.contexts) (is : u ≡ NamesContext x.name) → TextUse t u
-  WithinKb : (x : WrittenContext) (there : IsAmong x t.contexts) (here : IsAmong u (uses_of (kb_marks x.name x.kb))) → TextUse t u
+  WithinKb : (x : WrittenContext) (there : IsAmong x t.contexts) (here : IsAmong u (uses_of (kb_entries x.name x.kb))) → TextUse t u
   WithinBridge : (b : WrittenBridge) (there : IsAmong b t.bridges) (here : BridgeUse b u) → TextUse t u
 
 pub text-use : (t : WrittenText) (u : Use) → IsAmong u (text_uses t) → TextUse t u
-text-use t u h = at (among-append u (flat_map context_marks t.contexts) (flat_map bridge_marks t.bridges) h)
+text-use t u h = at (among-append u (flat_map context_entries t.contexts) (flat_map bridge_entries t.bridges) h)
   where
-    within : (x : WrittenContext) → IsAmong x t.contexts → IsAmong u (uses_of (context_marks x)) → TextUse t u
+    within : (x : WrittenContext) → IsAmong x t.contexts → IsAmong u (uses_of (context_entries x)) → TextUse t u
     within x there (inl e) = BeginsOne e
     within x there (inr (inl e)) = NamesOne x there e
     within x there (inr (inr here)) = WithinKb x there here
 
-    at : IsAmong u (uses_of (flat_map context_marks t.contexts)) ⊎ IsAmong u (uses_of (flat_map bridge_marks t.bridges)) → TextUse t u
-    at (inl a) = let (x, there, here) = among-parts u context_marks t.contexts a in within x there here
-    at (inr b) = let (w, there, here) = among-parts u bridge_marks t.bridges b in WithinBridge w there (bridge-uses w u here)
+    at : IsAmong u (uses_of (flat_map context_entries t.contexts)) ⊎ IsAmong u (uses_of (flat_map bridge_entries t.bridges)) → TextUse t u
+    at (inl a) = let (x, there, here) = among-parts u context_entries t.contexts a in within x there here
+    at (inr b) = let (w, there, here) = among-parts u bridge_entries t.bridges b in WithinBridge w there (bridge-uses w u here)
 
-pub context-there : (t : WrittenText) (u : Use) (x : WrittenContext) → IsAmong x t.contexts → IsAmong u (uses_of (context_marks x)) → IsAmong u (text_uses t)
-context-there t u x there here = append-left u (flat_map context_marks t.contexts) (flat_map bridge_marks t.bridges) (parts-among u context_marks t.contexts x there here)
+pub context-there : (t : WrittenText) (u : Use) (x : WrittenContext) → IsAmong x t.contexts → IsAmong u (uses_of (context_entries x)) → IsAmong u (text_uses t)
+context-there t u x there here = append-left u (flat_map context_entries t.contexts) (flat_map bridge_entries t.bridges) (parts-among u context_entries t.contexts x there here)
 
-pub kb-there : (t : WrittenText) (u : Use) (x : WrittenContext) → IsAmong x t.contexts → IsAmong u (uses_of (kb_marks x.name x.kb)) → IsAmong u (text_uses t)
+pub kb-there : (t : WrittenText) (u : Use) (x : WrittenContext) → IsAmong x t.contexts → IsAmong u (uses_of (kb_entries x.name x.kb)) → IsAmong u (text_uses t)
 kb-there t u x there here = context-there t u x there (inr (inr here))
 
 pub bridge-there : (t : WrittenText) (u : Use) (b : WrittenBridge) → IsAmong b t.bridges → BridgeUse b u → IsAmong u (text_uses t)
-bridge-there t u b there here = append-right u (flat_map context_marks t.contexts) (flat_map bridge_marks t.bridges) (parts-among u bridge_marks t.bridges b there (uses-bridge b u here))
+bridge-there t u b there here = append-right u (flat_map context_entries t.contexts) (flat_map bridge_entries t.bridges) (parts-among u bridge_entries t.bridges b there (uses-bridge b u here))
 
 abbrev named_at : Name → Formula → NamedRead
 named_at c f = record { context = c; belief = f }
@@ -102,7 +102,7 @@ pub programs-there : (t : WrittenText) (c : Name) → IsAmong (SaysProgram c) (t
 programs-there t c = (λ h. programs-said t c (text-use t (SaysProgram c) h), back)
   where
     back : ((x : WrittenContext) × IsAmong x t.contexts × (x.name ≡ c) × IsProgramKb x.kb) → IsAmong (SaysProgram c) (text_uses t)
-    back (x, there, is, program) = kb-there t (SaysProgram c) x there (subst (λ (n : Name). IsAmong (SaysProgram n) (uses_of (kb_marks x.name x.kb))) is (kind-among x.name x.kb program))
+    back (x, there, is, program) = kb-there t (SaysProgram c) x there (subst (λ (n : Name). IsAmong (SaysProgram n) (uses_of (kb_entries x.name x.kb))) is (kind-among x.name x.kb program))
 
 -- ---- reads
 reads-into : (t : WrittenText) (target : Name) (r : NamedRead) → TextUse t (EndsRead target r.context r.belief) → IsReadOf t target r

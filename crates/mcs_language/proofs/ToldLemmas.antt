@@ -10,7 +10,7 @@ use Rattle.mcs_language.specs.declared.fault.Fault as code_fault
 use Rattle.mcs_language.specs.declared.fault.TextFault as code_text
 use Rattle.mcs_language.specs.declared.fault.TextFault.TheVariants as texts
 use Rattle.mcs_language.specs.declared.reading.Reading.{Reading}
-use Rattle.mcs_language.specs.Marks.{Token}
+use Rattle.mcs_language.specs.Entries.{Token}
 use Rattle.mcs_language.specs.Faults.{NoGrammar, IsFirstFault, number_of, limit_of}
 use Rattle.mcs_language.specs.Texts.{token_texts, offset_of, HasFault}
 use Rattle.mcs_language.specs.TextSteps.{finished_text}
@@ -45,6 +45,6 @@ pub told-end : (bytes : List ℕ) (spans : List Span) (r : Reading) (told : code
     → size ≡ length bytes → told ≡ texts.Fault (number_of NoGrammar) size (limit_of NoGrammar) → IsToldOf bytes told
 told-end bytes spans r told size tokens h none whole is =
     let offset : size ≡ offset_of bytes spans (length spans) = whole ∙ offset-past bytes spans (length spans) (slice_get_past spans (length spans) (omega arith)) in
-    let first = first-end (token_texts bytes spans) (length spans) h.marks h.state (reached r (token_texts bytes spans) (length spans) h) (tokens-many bytes spans) none h.free in
+    let first = first-end (token_texts bytes spans) (length spans) h.entries h.state (reached r (token_texts bytes spans) (length spans) h) (tokens-many bytes spans) none h.free in
     let here : HasFault bytes (number_of NoGrammar) (limit_of NoGrammar) size = record { spans = spans; tokens = tokens; token = length spans; fault = NoGrammar; first = first; number_is = refl; limit_is = refl; offset_is = offset } in
     subst (IsToldOf bytes) (sym is) here

@@ -6,7 +6,7 @@ use Rattle.mcs_base.proofs.Among.{among_left, among_right, among_either}
 use Rattle.mcs_language.specs.declared.place.Role as code_role
 use Rattle.mcs_language.specs.declared.place.Role.TheVariants as roles
 use Rattle.mcs_language.specs.declared.place.Uses as code_uses
-use Rattle.mcs_language.specs.Marks.{Token, Use, BeginsContext, BeginsBridge, NamesContext, NamesBridge, SaysProgram, BeginsItem, BeginsDefault, NamesTarget, NamesSource, BeginsBelief, EndsRead, AtomOf, IsNumber, OpensWithin}
+use Rattle.mcs_language.specs.Entries.{Token, Use, BeginsContext, BeginsBridge, NamesContext, NamesBridge, SaysProgram, BeginsItem, BeginsDefault, NamesTarget, NamesSource, BeginsBelief, EndsRead, AtomOf, IsNumber, OpensWithin}
 use Rattle.mcs_language.specs.TextImages.{About, capped, role_uses, when, uses_in}
 
 abbrev pub is_number : Use → Bool
@@ -167,13 +167,13 @@ number-among n [] less h = absurd h
 number-among n (v ∷ us) less (inl e) = inl (capped-number n v less e)
 number-among n (v ∷ us) less (inr h) = inr (number-among n us less h)
 
--- what a mark is there for, where the code tells it
+-- what a entry is there for, where the code tells it
 module _ (a : About) (t : Token) (uses : code_uses.Uses) (us : List Use) (told : map capped us ≡ uses_in a t uses) where
-  pub mark-in : (u : Use) → is_number u ≡ false → IsAmong u us → IsIn a t uses u
-  mark-in u other h = told-in a t uses u (subst (IsAmong u) told (among-capped u us other h))
+  pub entry-in : (u : Use) → is_number u ≡ false → IsAmong u us → IsIn a t uses u
+  entry-in u other h = told-in a t uses u (subst (IsAmong u) told (among-capped u us other h))
 
-  pub in-mark : (u : Use) → is_number u ≡ false → IsIn a t uses u → IsAmong u us
-  in-mark u other h = capped-among u us other (subst (IsAmong u) (sym told) (in-told a t uses u h))
+  pub in-entry : (u : Use) → is_number u ≡ false → IsIn a t uses u → IsAmong u us
+  in-entry u other h = capped-among u us other (subst (IsAmong u) (sym told) (in-told a t uses u h))
 
   pub number-in : (n : ℕ) → n < 514 → IsAmong (IsNumber n) us → IsIn a t uses (IsNumber n)
   number-in n less h = told-in a t uses (IsNumber n) (subst (IsAmong (IsNumber n)) told (number-capped n us less h))

@@ -10,7 +10,7 @@ use Rattle.mcs_system.specs.Plain.{Name}
 use Rattle.mcs_system.specs.Logic.{atoms}
 use Rattle.mcs_system.specs.Atoms.{item_atoms, rule_atoms, kb_atoms}
 use Rattle.mcs_language.specs.Written.{Written, WrittenItem, Fact, Rule, WrittenKb, Classical, DefaultTheory, Program, WrittenRule, WrittenContext, WrittenPlace, WrittenText}
-use Rattle.mcs_language.specs.Marks.{Use, AtomOf, formula_in}
+use Rattle.mcs_language.specs.Entries.{Use, AtomOf, formula_in}
 use Rattle.mcs_language.specs.Saying.{item_in, rule_in, kb_in}
 use Rattle.mcs_language.specs.Faults.{WasAtom}
 use Rattle.mcs_language.proofs.UsesParts.{text_uses, IsPlaceOf, OfHead, OfRead, IsAtomOf, item_formulas, kb_formulas, kb_rules}

@@ -10,37 +10,37 @@ use Rattle.mcs_base.proofs.Among.{flat_map_none}
 use Rattle.mcs_base.proofs.Lists.{flat_map_same, flat_map-flat_map}
 use Rattle.mcs_system.specs.Plain.{Name}
 use Rattle.mcs_language.specs.Written.{WrittenKb, WrittenContext, WrittenBridge, WrittenText}
-use Rattle.mcs_language.specs.Marks.{Use, BeginsContext, BeginsBridge, NamesContext, NamesBridge, NamesTarget, kb_marks, context_marks, bridge_marks, uses_of}
+use Rattle.mcs_language.specs.Entries.{Use, BeginsContext, BeginsBridge, NamesContext, NamesBridge, NamesTarget, kb_entries, context_entries, bridge_entries, uses_of}
 use Rattle.mcs_language.specs.Saying.{names_of}
 use Rattle.mcs_language.specs.Faults.{begins_context, begins_bridge, names_target}
 use Rattle.mcs_language.specs.Watching.{context_named, bridge_named, contexts_named, bridges_named}
 use Rattle.mcs_language.proofs.UsesParts.{text_uses, goes_into}
-use Rattle.mcs_language.proofs.MarkLists.{uses-append, uses-flat_map}
+use Rattle.mcs_language.proofs.EntryLists.{uses-append, uses-flat_map}
 use Rattle.mcs_language.proofs.ContextUses.{in_kb, kb-in}
 use Rattle.mcs_language.proofs.BridgeUses.{later_uses, bridge-front, later-in, in_read}
 
 -- ---- over the parts of a text
 module _ (p : Use → Bool) where
-  pub text-count : (w : WrittenContext → ℕ) (v : WrittenBridge → ℕ) (t : WrittenText) → ((x : WrittenContext) → IsAmong x t.contexts → count_by p (uses_of (context_marks x)) ≡ w x) → ((b : WrittenBridge) → count_by p (uses_of (bridge_marks b)) ≡ v b) → count_by p (text_uses t) ≡ sum_by w t.contexts + sum_by v t.bridges
+  pub text-count : (w : WrittenContext → ℕ) (v : WrittenBridge → ℕ) (t : WrittenText) → ((x : WrittenContext) → IsAmong x t.contexts → count_by p (uses_of (context_entries x)) ≡ w x) → ((b : WrittenBridge) → count_by p (uses_of (bridge_entries b)) ≡ v b) → count_by p (text_uses t) ≡ sum_by w t.contexts + sum_by v t.bridges
   text-count w v t of_context of_bridge =
-      let cut = ap (count_by p) (uses-append (flat_map context_marks t.contexts) (flat_map bridge_marks t.bridges)) in
-      let sides = count_by-append p (uses_of (flat_map context_marks t.contexts)) (uses_of (flat_map bridge_marks t.bridges)) in
-      let left = ap (count_by p) (uses-flat_map context_marks t.contexts) ∙ count_by-flat_map p (λ (x : WrittenContext). uses_of (context_marks x)) t.contexts ∙ sum_by_same (λ (x : WrittenContext). count_by p (uses_of (context_marks x))) w t.contexts of_context in
-      let right = ap (count_by p) (uses-flat_map bridge_marks t.bridges) ∙ count_by-flat_map p (λ (b : WrittenBridge). uses_of (bridge_marks b)) t.bridges ∙ sum_by_same (λ (b : WrittenBridge). count_by p (uses_of (bridge_marks b))) v t.bridges (λ b here. of_bridge b) in
+      let cut = ap (count_by p) (uses-append (flat_map context_entries t.contexts) (flat_map bridge_entries t.bridges)) in
+      let sides = count_by-append p (uses_of (flat_map context_entries t.contexts)) (uses_of (flat_map bridge_entries t.bridges)) in
+      let left = ap (count_by p) (uses-flat_map context_entries t.contexts) ∙ count_by-flat_map p (λ (x : WrittenContext). uses_of (context_entries x)) t.contexts ∙ sum_by_same (λ (x : WrittenContext). count_by p (uses_of (context_entries x))) w t.contexts of_context in
+      let right = ap (count_by p) (uses-flat_map bridge_entries t.bridges) ∙ count_by-flat_map p (λ (b : WrittenBridge). uses_of (bridge_entries b)) t.bridges ∙ sum_by_same (λ (b : WrittenBridge). count_by p (uses_of (bridge_entries b))) v t.bridges (λ b here. of_bridge b) in
       omega arith
 
   -- of a context: its first two tokens, and its knowledge base
-  pub context-parts : (x : WrittenContext) → count_by p (uses_of (context_marks x)) ≡ cond (p BeginsContext) 1 0 + (cond (p (NamesContext x.name)) 1 0 + count_by p (uses_of (kb_marks x.name x.kb)))
+  pub context-parts : (x : WrittenContext) → count_by p (uses_of (context_entries x)) ≡ cond (p BeginsContext) 1 0 + (cond (p (NamesContext x.name)) 1 0 + count_by p (uses_of (kb_entries x.name x.kb)))
   context-parts x =
-      let one = count_by-cons p BeginsContext (NamesContext x.name ∷ uses_of (kb_marks x.name x.kb)) in
-      let two = count_by-cons p (NamesContext x.name) (uses_of (kb_marks x.name x.kb)) in
+      let one = count_by-cons p BeginsContext (NamesContext x.name ∷ uses_of (kb_entries x.name x.kb)) in
+      let two = count_by-cons p (NamesContext x.name) (uses_of (kb_entries x.name x.kb)) in
       omega arith
 
-  kb-none : (c : Name) (kb : WrittenKb) → ((u : Use) → in_kb u ≡ true → p u ≡ false) → count_by p (uses_of (kb_marks c kb)) ≡ 0
-  kb-none c kb none = count_none p (uses_of (kb_marks c kb)) (λ u here. none u (kb-in c kb u here))
+  kb-none : (c : Name) (kb : WrittenKb) → ((u : Use) → in_kb u ≡ true → p u ≡ false) → count_by p (uses_of (kb_entries c kb)) ≡ 0
+  kb-none c kb none = count_none p (uses_of (kb_entries c kb)) (λ u here. none u (kb-in c kb u here))
 
   -- of a bridge rule: its first tokens, and those after the name of the head's context
-  pub bridge-parts : (b : WrittenBridge) → ((u : Use) → in_read u ≡ true → p u ≡ false) → count_by p (uses_of (bridge_marks b)) ≡ cond (p BeginsBridge) 1 0 + (cond (p (NamesBridge b.name)) 1 0 + cond (p (NamesTarget (b.head).context)) 1 0)
+  pub bridge-parts : (b : WrittenBridge) → ((u : Use) → in_read u ≡ true → p u ≡ false) → count_by p (uses_of (bridge_entries b)) ≡ cond (p BeginsBridge) 1 0 + (cond (p (NamesBridge b.name)) 1 0 + cond (p (NamesTarget (b.head).context)) 1 0)
   bridge-parts b none =
       let whole = ap (count_by p) (bridge-front b) in
       let one = count_by-cons p BeginsBridge (NamesBridge b.name ∷ NamesTarget (b.head).context ∷ later_uses b) in
@@ -97,12 +97,12 @@ target-count t c =
 
 -- ---- names, in their order
 -- what a list of uses gives, by the parts of a text
-text-names : (g : Use → List Name) (v : WrittenContext → List Name) (w : WrittenBridge → List Name) (t : WrittenText) → ((x : WrittenContext) → flat_map g (uses_of (context_marks x)) ≡ v x) → ((b : WrittenBridge) → flat_map g (uses_of (bridge_marks b)) ≡ w b) → flat_map g (text_uses t) ≡ flat_map v t.contexts ++ flat_map w t.bridges
+text-names : (g : Use → List Name) (v : WrittenContext → List Name) (w : WrittenBridge → List Name) (t : WrittenText) → ((x : WrittenContext) → flat_map g (uses_of (context_entries x)) ≡ v x) → ((b : WrittenBridge) → flat_map g (uses_of (bridge_entries b)) ≡ w b) → flat_map g (text_uses t) ≡ flat_map v t.contexts ++ flat_map w t.bridges
 text-names g v w t of_context of_bridge =
-    ap (flat_map g) (uses-append (flat_map context_marks t.contexts) (flat_map bridge_marks t.bridges) ∙ ap (λ (us : List Use). us ++ uses_of (flat_map bridge_marks t.bridges)) (uses-flat_map context_marks t.contexts) ∙ ap (λ (us : List Use). flat_map (λ x. uses_of (context_marks x)) t.contexts ++ us) (uses-flat_map bridge_marks t.bridges))
-    ∙ flat_map-append g (flat_map (λ x. uses_of (context_marks x)) t.contexts) (flat_map (λ b. uses_of (bridge_marks b)) t.bridges)
-    ∙ ap (λ (ns : List Name). ns ++ flat_map g (flat_map (λ b. uses_of (bridge_marks b)) t.bridges)) (flat_map-flat_map g (λ x. uses_of (context_marks x)) t.contexts ∙ flat_map_same (λ x. flat_map g (uses_of (context_marks x))) v t.contexts of_context)
-    ∙ ap (λ (ns : List Name). flat_map v t.contexts ++ ns) (flat_map-flat_map g (λ b. uses_of (bridge_marks b)) t.bridges ∙ flat_map_same (λ b. flat_map g (uses_of (bridge_marks b))) w t.bridges of_bridge)
+    ap (flat_map g) (uses-append (flat_map context_entries t.contexts) (flat_map bridge_entries t.bridges) ∙ ap (λ (us : List Use). us ++ uses_of (flat_map bridge_entries t.bridges)) (uses-flat_map context_entries t.contexts) ∙ ap (λ (us : List Use). flat_map (λ x. uses_of (context_entries x)) t.contexts ++ us) (uses-flat_map bridge_entries t.bridges))
+    ∙ flat_map-append g (flat_map (λ x. uses_of (context_entries x)) t.contexts) (flat_map (λ b. uses_of (bridge_entries b)) t.bridges)
+    ∙ ap (λ (ns : List Name). ns ++ flat_map g (flat_map (λ b. uses_of (bridge_entries b)) t.bridges)) (flat_map-flat_map g (λ x. uses_of (context_entries x)) t.contexts ∙ flat_map_same (λ x. flat_map g (uses_of (context_entries x))) v t.contexts of_context)
+    ∙ ap (λ (ns : List Name). flat_map v t.contexts ++ ns) (flat_map-flat_map g (λ b. uses_of (bridge_entries b)) t.bridges ∙ flat_map_same (λ b. flat_map g (uses_of (bridge_entries b))) w t.bridges of_bridge)
 
 no-context-kb : (u : Use) → in_kb u ≡ true → context_named u ≡ []
 no-context-kb (NamesContext c) e = absurd (true≢false (sym e))
@@ -123,7 +123,7 @@ no-rule-read u e = refl
 pub names-there : (t : WrittenText) → contexts_named (text_uses t) ≡ names_of t.contexts
 names-there t =
     text-names context_named (λ (x : WrittenContext). x.name ∷ []) (λ (b : WrittenBridge). []) t
-    (λ x. ap (λ (ns : List Name). x.name ∷ ns) (flat_map_none context_named (uses_of (kb_marks x.name x.kb)) (λ u here. no-context-kb u (kb-in x.name x.kb u here))))
+    (λ x. ap (λ (ns : List Name). x.name ∷ ns) (flat_map_none context_named (uses_of (kb_entries x.name x.kb)) (λ u here. no-context-kb u (kb-in x.name x.kb u here))))
     (λ b. ap (flat_map context_named) (bridge-front b) ∙ flat_map_none context_named (later_uses b) (λ u here. no-context-read u (later-in b u here)))
     ∙ ap (λ (ns : List Name). flat_map (λ (x : WrittenContext). x.name ∷ []) t.contexts ++ ns) (flat_map_none (λ (b : WrittenBridge). []) t.bridges (λ b here. refl))
     ∙ append-nil (flat_map (λ (x : WrittenContext). x.name ∷ []) t.contexts)
@@ -132,7 +132,7 @@ names-there t =
 pub rule-names-there : (t : WrittenText) → bridges_named (text_uses t) ≡ map (λ (b : WrittenBridge). b.name) t.bridges
 rule-names-there t =
     text-names bridge_named (λ (x : WrittenContext). []) (λ (b : WrittenBridge). b.name ∷ []) t
-    (λ x. flat_map_none bridge_named (uses_of (kb_marks x.name x.kb)) (λ u here. no-rule-kb u (kb-in x.name x.kb u here)))
+    (λ x. flat_map_none bridge_named (uses_of (kb_entries x.name x.kb)) (λ u here. no-rule-kb u (kb-in x.name x.kb u here)))
     (λ b. ap (flat_map bridge_named) (bridge-front b) ∙ ap (λ (ns : List Name). b.name ∷ ns) (flat_map_none bridge_named (later_uses b) (λ u here. no-rule-read u (later-in b u here))))
     ∙ ap (λ (ns : List Name). ns ++ flat_map (λ (b : WrittenBridge). b.name ∷ []) t.bridges) (flat_map_none (λ (x : WrittenContext). []) t.contexts (λ x here. refl))
     ∙ flat_map_single (λ (b : WrittenBridge). b.name) t.bridges

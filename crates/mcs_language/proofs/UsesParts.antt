@@ -6,13 +6,13 @@ use Rattle.mcs_system.specs.Plain.{Name}
 use Rattle.mcs_system.specs.Logic.{same_name, atoms}
 use Rattle.mcs_system.specs.Atoms.{kb_atoms}
 use Rattle.mcs_language.specs.Written.{Written, True', False', Named, Denied, Grouped, Both, Either, Leads, Equals, WrittenItem, Fact, Rule, WrittenKb, Classical, DefaultTheory, Program, WrittenRule, WrittenContext, WrittenPlace, WrittenRead, WrittenBridge, WrittenText}
-use Rattle.mcs_language.specs.Marks.{Use, NamesContext, SaysProgram, formula_in, size_of, text_marks, uses_of}
+use Rattle.mcs_language.specs.Entries.{Use, NamesContext, SaysProgram, formula_in, size_of, text_entries, uses_of}
 use Rattle.mcs_language.specs.Saying.{kb_in}
 use Rattle.mcs_language.specs.Faults.{NamedRead}
 use Rattle.mcs_language.specs.TextImages.{read_in}
 
 abbrev pub text_uses : WrittenText → List Use
-text_uses t = uses_of (text_marks t)
+text_uses t = uses_of (text_entries t)
 
 -- ---- counts
 abbrev pub goes_into : Name → WrittenBridge → Bool

@@ -2,7 +2,7 @@
 use Rattle.std.proofs.Common.{ℕ, ◌<◌, ◌≤◌, refl, inl, inr, ◌↔◌, arith}
 use Rattle.mcs_base.specs.Listings.{IsAmong}
 use Rattle.mcs_language.specs.Written.{WrittenContext, WrittenPlace, WrittenText}
-use Rattle.mcs_language.specs.Marks.{IsNumber, OpensWithin, size_of}
+use Rattle.mcs_language.specs.Entries.{IsNumber, OpensWithin, size_of}
 use Rattle.mcs_language.proofs.UsesParts.{text_uses, IsPlaceOf, OfHead, OfRead, rule_size, IsSizeOf, OfFormula, OfRule, OfPlace, IsShallow}
 use Rattle.mcs_language.proofs.FormulaUses.{whole-part}
 use Rattle.mcs_language.proofs.RuleUses.{rule-part}

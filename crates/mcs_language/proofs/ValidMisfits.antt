@@ -12,14 +12,14 @@ use Rattle.mcs_system.specs.Plain.{Name, Formula, Context, Read, Bridge, System}
 use Rattle.mcs_system.specs.Plain as plain
 use Rattle.mcs_system.specs.Faults.{reads_of, is_atom, is_program, is_unjustified, has_unjustified, has_misfit, has_misfits}
 use Rattle.mcs_language.specs.Written.{WrittenItem, Fact, Rule, WrittenKb, Classical, DefaultTheory, Program, WrittenContext, WrittenPlace, IsPlace, WrittenRead, IsBridge, WrittenText, IsText}
-use Rattle.mcs_language.specs.Marks.{SaysProgram, formula_in, context_marks, text_marks, uses_of}
+use Rattle.mcs_language.specs.Entries.{SaysProgram, formula_in, context_entries, text_entries, uses_of}
 use Rattle.mcs_language.specs.Saying.{item_in, kb_in, SaysPlace, SaysSystem, names_of}
 use Rattle.mcs_language.specs.Faults.{NoAtom}
 use Rattle.mcs_language.proofs.UsesParts.{IsPlaceOf, OfHead, OfRead, IsProgramKb}
 use Rattle.mcs_language.proofs.Within.{NoFaults}
-use Rattle.mcs_language.proofs.MarkLists.{parts-among}
+use Rattle.mcs_language.proofs.EntryLists.{parts-among}
 use Rattle.mcs_language.proofs.ContextUses.{kind-among}
-use Rattle.mcs_language.proofs.FirstTokens.{first-there, mark-at}
+use Rattle.mcs_language.proofs.FirstTokens.{first-there, entry-at}
 use Rattle.mcs_language.proofs.SaidSystem.{read-written, context-written, bridge-written, context-at}
 
 -- ---- justifications
@@ -42,16 +42,16 @@ program-kb n (DefaultTheory items) e = absurd (true≢false (sym e))
 program-kb n (Program rules) e = tt
 
 -- a place of a program has an atom
-module _ (t : WrittenText) (none : NoFaults (text_marks t)) where
+module _ (t : WrittenText) (none : NoFaults (text_entries t)) where
   place-atom : (p : WrittenPlace) (x : WrittenContext) → IsPlaceOf t p → IsPlace p → IsAmong x t.contexts → x.name ≡ p.context → IsProgramKb x.kb → is_atom (formula_in p.belief) ≡ true
   place-atom p x place grammar there named program =
       let (m, in_rules, first) = first-there t p place grammar in
-      let (k, at) = mark-at t m in_rules in
-      let said : IsAmong (SaysProgram x.name) (uses_of (flat_map context_marks t.contexts)) = parts-among (SaysProgram x.name) context_marks t.contexts x there (inr (inr (kind-among x.name x.kb program))) in
-      let said' : IsAmong (SaysProgram p.context) (uses_of (take k (text_marks t))) = subst (λ (n : Name). IsAmong (SaysProgram n) (uses_of (take k (text_marks t)))) named (at.before (SaysProgram x.name) said) in
+      let (k, at) = entry-at t m in_rules in
+      let said : IsAmong (SaysProgram x.name) (uses_of (flat_map context_entries t.contexts)) = parts-among (SaysProgram x.name) context_entries t.contexts x there (inr (inr (kind-among x.name x.kb program))) in
+      let said' : IsAmong (SaysProgram p.context) (uses_of (take k (text_entries t))) = subst (λ (n : Name). IsAmong (SaysProgram n) (uses_of (take k (text_entries t)))) named (at.before (SaysProgram x.name) said) in
       first.atom (true_from_ne_false (is_word m.token && not (is_reserved m.token)) (λ e. none k m NoAtom at.there (p.context, first.begins, said', λ word. true≢false (sym word ∙ e))))
 
-module _ (t : WrittenText) (m : System) (grammar : IsText t) (says : SaysSystem t m) (none : NoFaults (text_marks t)) where
+module _ (t : WrittenText) (m : System) (grammar : IsText t) (says : SaysSystem t m) (none : NoFaults (text_entries t)) where
   fits : (p : WrittenPlace) (r : Read) → IsPlaceOf t p → IsPlace p → SaysPlace (names_of t.contexts) p r → (is_program (slice_get m.contexts r.context) && not (is_atom r.belief)) ≡ false
   fits p r place h s = not_refuted (is_program (slice_get m.contexts r.context)) (is_atom r.belief) (λ e.
       let (x, at) = context-at t m says r.context p.context s.number in

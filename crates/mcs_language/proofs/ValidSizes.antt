@@ -9,7 +9,7 @@ use Rattle.mcs_system.specs.Seen.{formula_size}
 use Rattle.mcs_system.specs.declared.limit.Limit.TheVariants.{FormulaSize}
 use Rattle.mcs_system.specs.Faults.{reads_of, is_large, has_large_formula, is_large_rule, has_large_item, has_large_part, exceeds}
 use Rattle.mcs_language.specs.Written.{Written, True', False', Named, Denied, Grouped, Both, Either, Leads, Equals, WrittenItem, Fact, Rule, WrittenRule, WrittenKb, Classical, DefaultTheory, Program, WrittenContext, WrittenPlace, WrittenText}
-use Rattle.mcs_language.specs.Marks.{IsNumber, Mark, formula_in, size_of, text_marks}
+use Rattle.mcs_language.specs.Entries.{IsNumber, Entry, formula_in, size_of, text_entries}
 use Rattle.mcs_language.specs.Saying.{item_in, rule_in, kb_in, positive_atoms, negative_atoms, SaysPlace, SaysSystem, names_of}
 use Rattle.mcs_language.specs.Faults.{Exceeds}
 use Rattle.mcs_language.proofs.UsesLemmas.{text_uses, IsPlaceOf, OfHead, OfRead, item_formulas, kb_formulas, rule_size, kb_rules, IsSizeOf, OfFormula, OfRule, OfPlace, numbers-there}
@@ -29,12 +29,12 @@ size-said (Either f g) = rw (size-said f, size-said g) refl
 size-said (Leads f g) = rw (size-said f, size-said g) refl
 size-said (Equals f g) = rw (size-said f, size-said g) refl
 
-module _ (t : WrittenText) (none : NoFaults (text_marks t)) where
+module _ (t : WrittenText) (none : NoFaults (text_entries t)) where
   -- no token is one too many
   not-beyond : IsAmong (IsNumber 513) (text_uses t) → ⊥
   not-beyond h =
-      let (m, there, here) = flat_map_among (λ (x : Mark). x.uses) (IsNumber 513) (text_marks t) h in
-      let (k, at) = get_among m (text_marks t) there in
+      let (m, there, here) = flat_map_among (λ (x : Entry). x.uses) (IsNumber 513) (text_entries t) h in
+      let (k, at) = get_among m (text_entries t) there in
       none k m (Exceeds FormulaSize) at here
 
   pub sizes-kept : (k : ℕ) → IsSizeOf t k → k ≤ 512

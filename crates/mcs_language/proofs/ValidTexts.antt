@@ -6,7 +6,7 @@ use Rattle.mcs_system.specs.Plain.{System}
 use Rattle.mcs_system.specs.declared.limit.Limit.{Limit}
 use Rattle.mcs_system.specs.Faults.{has_unknown_context, has_twin_names, has_misfits, exceeds, first_exceeded, limits, limit_fault, fault, fault_of, IsValid}
 use Rattle.mcs_language.specs.Written.{WrittenText, IsText}
-use Rattle.mcs_language.specs.Marks.{text_marks, uses_of}
+use Rattle.mcs_language.specs.Entries.{text_entries, uses_of}
 use Rattle.mcs_language.specs.Saying.{SaysSystem}
 use Rattle.mcs_language.proofs.Within.{IsWithin, NoFaults}
 use Rattle.mcs_language.proofs.ValidNames.{no-unknown, no-twins}
@@ -29,7 +29,7 @@ module _ (m : System) where
       (cond_none (has_misfits m) (fault 4 None) _ fitting
       (ap limit_fault limited)))
 
-pub valid-text : (t : WrittenText) (m : System) → IsText t → SaysSystem t m → IsWithin (uses_of (text_marks t)) → NoFaults (text_marks t) → IsValid m
+pub valid-text : (t : WrittenText) (m : System) → IsText t → SaysSystem t m → IsWithin (uses_of (text_entries t)) → NoFaults (text_entries t) → IsValid m
 valid-text t m grammar says within none =
     no-fault m (no-unknown t m says) (no-twins t m says within) (no-misfits t m grammar says none)
     (none-exceeded m limits (

@@ -14,7 +14,7 @@ use Rattle.mcs_system.specs.Logic.{same_name, is_in}
 use Rattle.mcs_system.proofs.Sameness.{same_name-is, same_name-itself}
 use Rattle.mcs_language.specs.declared.watch.Watch.{Watch}
 use Rattle.mcs_language.specs.declared.watch.ContextSeen.{ContextSeen}
-use Rattle.mcs_language.specs.Marks.{Use, BeginsContext, BeginsBridge, NamesContext, NamesBridge, SaysProgram, BeginsItem, BeginsDefault, NamesTarget, NamesSource, BeginsBelief, EndsRead, AtomOf, IsNumber, OpensWithin}
+use Rattle.mcs_language.specs.Entries.{Use, BeginsContext, BeginsBridge, NamesContext, NamesBridge, SaysProgram, BeginsItem, BeginsDefault, NamesTarget, NamesSource, BeginsBelief, EndsRead, AtomOf, IsNumber, OpensWithin}
 use Rattle.mcs_language.specs.Faults.{names_target, begins_default_of, begins_item_of, IsOneMore}
 use Rattle.mcs_language.specs.TextImages.{read_of}
 use Rattle.mcs_language.specs.Watching.{context_named, bridge_named, contexts_named, bridges_named, Lists, IsSeen, names_seen, IsWatch, IsNumberOf}

@@ -10,7 +10,7 @@ use Rattle.mcs_base.proofs.Each.{all_among}
 use Rattle.mcs_system.specs.Plain.{Name, Truth}
 use Rattle.mcs_language.specs.declared.watch.Watch.{Watch}
 use Rattle.mcs_language.specs.declared.watch.ContextSeen.{ContextSeen}
-use Rattle.mcs_language.specs.Marks.{Use, NamesContext, EndsRead, AtomOf}
+use Rattle.mcs_language.specs.Entries.{Use, NamesContext, EndsRead, AtomOf}
 use Rattle.mcs_language.specs.Faults.{names_target, begins_default_of, begins_item_of, AreDifferent, NamedRead, WasReadInto, WasAtom}
 use Rattle.mcs_language.specs.TextImages.{read_of}
 use Rattle.mcs_language.specs.Watching.{Lists, IsSeen, named_read, IsWatch}

@@ -1,9 +1,9 @@
--- What a text's uses and marks are within: the counts of its parts, and that no token has a fault other than the grammar's.
+-- What a text's uses and entries are within: the counts of its parts, and that no token has a fault other than the grammar's.
 use Rattle.std.proofs.Common.{◌≡◌, ℕ, ◌≤◌, List, take, length, Some}
 use Rattle.std.specs.Prelude.{slice_get, count_by}
 use Rattle.mcs_base.specs.Listings.{IsAmong}
 use Rattle.mcs_system.specs.Plain.{Name}
-use Rattle.mcs_language.specs.Marks.{Use, Mark, uses_of}
+use Rattle.mcs_language.specs.Entries.{Use, Entry, uses_of}
 use Rattle.mcs_language.specs.Faults.{begins_context, begins_bridge, names_target, begins_default_of, begins_item_of, AreDifferent, NamedRead, WasReadInto, WasRead, WasAtom, Fault, Has}
 use Rattle.mcs_language.specs.Watching.{contexts_named, bridges_named}
 
@@ -20,5 +20,5 @@ pub record IsWithin (uses : List Use) : Type 0 where
   pub different_bridges : AreDifferent (bridges_named uses)
 
 -- no token has a fault after those before it
-abbrev pub NoFaults : List Mark → Type 0
-NoFaults marks = (k : ℕ) (m : Mark) (f : Fault) → slice_get marks k ≡ Some m → ¬ Has f (uses_of (take k marks)) m
+abbrev pub NoFaults : List Entry → Type 0
+NoFaults entries = (k : ℕ) (m : Entry) (f : Fault) → slice_get entries k ≡ Some m → ¬ Has f (uses_of (take k entries)) m

@@ -8,7 +8,7 @@ use Rattle.mcs_system.specs.Limits.{most}
 use Rattle.mcs_system.specs.declared.limit.Limit.{Limit}
 use Rattle.mcs_system.specs.declared.limit.Limit.TheVariants.{Contexts, Bridges, RulesPerContext, Variables, InputsPerContext, AtomsPerContext, DefaultsPerContext, ItemsPerContext, FormulaSize, OpenParentheses, NameBytes}
 use Rattle.mcs_language.specs.Written.{IsNameWord, WrittenText, IsText}
-use Rattle.mcs_language.specs.Marks.{Token, Use, BeginsContext, BeginsBridge, NamesContext, NamesBridge, SaysProgram, BeginsItem, BeginsDefault, NamesTarget, NamesSource, BeginsBelief, EndsRead, AtomOf, IsNumber, OpensWithin, Mark, text_marks, tokens_of, uses_of}
+use Rattle.mcs_language.specs.Entries.{Token, Use, BeginsContext, BeginsBridge, NamesContext, NamesBridge, SaysProgram, BeginsItem, BeginsDefault, NamesTarget, NamesSource, BeginsBelief, EndsRead, AtomOf, IsNumber, OpensWithin, Entry, text_entries, tokens_of, uses_of}
 
 -- ---- how many there were before
 
@@ -103,7 +103,7 @@ rank (Exceeds limit) = 5 + row limit
 rank fault = number_of fault
 
 -- what is there for this, and more of it than the limit allows
-abbrev pub IsBeyond : Limit → List Use → Mark → Type 0
+abbrev pub IsBeyond : Limit → List Use → Entry → Type 0
 IsBeyond Contexts before m = IsAmong BeginsContext m.uses × (count_by begins_context before ≡ most Contexts)
 IsBeyond Bridges before m = IsAmong BeginsBridge m.uses × (count_by begins_bridge before ≡ most Bridges)
 IsBeyond RulesPerContext before m = (c : Name) × IsAmong (NamesTarget c) m.uses × (count_by (names_target c) before ≡ most RulesPerContext)
@@ -117,7 +117,7 @@ IsBeyond OpenParentheses before m = IsAmong (OpensWithin (most OpenParentheses))
 IsBeyond NameBytes before m = IsNameWord m.token × (most_name_bytes < length m.token)
 
 -- of a token that is there for something, after what the tokens before it are there for
-abbrev pub Has : Fault → List Use → Mark → Type 0
+abbrev pub Has : Fault → List Use → Entry → Type 0
 Has NoGrammar before m = ⊥
 Has NoContext before m = (c : Name) × (IsAmong (NamesTarget c) m.uses ⊎ IsAmong (NamesSource c) m.uses) × (¬ IsAmong (NamesContext c) before)
 Has Twin before m =
@@ -132,23 +132,23 @@ Has (Exceeds limit) before m = IsBeyond limit before m
 pub record Begins (tokens : List Token) : Type 0 where
   pub text : WrittenText
   pub grammar : IsText text
-  pub first : take (length tokens) (tokens_of (text_marks text)) ≡ tokens
+  pub first : take (length tokens) (tokens_of (text_entries text)) ≡ tokens
 
 abbrev pub IsWhole : List Token → Type 0
-IsWhole tokens = (text : WrittenText) × IsText text × (tokens_of (text_marks text) ≡ tokens)
+IsWhole tokens = (text : WrittenText) × IsText text × (tokens_of (text_entries text) ≡ tokens)
 
 -- the first k + 1 tokens are those of a text, in which token k has the fault
-pub record IsMarked (tokens : List Token) (k : ℕ) (fault : Fault) : Type 0 where
+pub record IsEntered (tokens : List Token) (k : ℕ) (fault : Fault) : Type 0 where
   pub text : WrittenText
   pub grammar : IsText text
-  pub same : take (k + 1) (tokens_of (text_marks text)) ≡ take (k + 1) tokens
-  pub here : Mark
-  pub is_here : slice_get (text_marks text) k ≡ Some here
-  pub has : Has fault (uses_of (take k (text_marks text))) here
+  pub same : take (k + 1) (tokens_of (text_entries text)) ≡ take (k + 1) tokens
+  pub here : Entry
+  pub is_here : slice_get (text_entries text) k ≡ Some here
+  pub has : Has fault (uses_of (take k (text_entries text))) here
 
 abbrev pub IsFaultAt : List Token → ℕ → Fault → Type 0
 IsFaultAt tokens k NoGrammar = ((k < length tokens) × (¬ Begins (take (k + 1) tokens))) ⊎ ((k ≡ length tokens) × (¬ IsWhole tokens))
-IsFaultAt tokens k fault = (k < length tokens) × IsMarked tokens k fault
+IsFaultAt tokens k fault = (k < length tokens) × IsEntered tokens k fault
 
 -- the first token at which a fault holds decides, and of its faults the lowest
 pub record IsFirstFault (tokens : List Token) (k : ℕ) (fault : Fault) : Type 0 where

@@ -11,7 +11,7 @@ use Rattle.mcs_language.specs.declared.formula.FormulaReader.{FormulaReader}
 use Rattle.mcs_language.specs.declared.formula.Answer as code_answer
 use Rattle.mcs_language.specs.declared.formula.Answer.TheVariants as answers
 use Rattle.mcs_language.specs.Written.{Written}
-use Rattle.mcs_language.specs.Marks.{Token, Mark, formula_in}
+use Rattle.mcs_language.specs.Entries.{Token, Entry, formula_in}
 use Rattle.mcs_language.specs.FormulaSteps.{Pending, Tilde, Parenthesis, And, Or, Implies, Iff, PartFormula, size_so_far, opened_so_far, formula_step, is_name_word}
 
 -- what waits, with the formula that stands before it
@@ -93,6 +93,6 @@ pub record IsWaitingMore (old now : FormulaReader) (waiting : code_pending.Pendi
   pub depth : now.opened ≡ old.opened
 
 abbrev pub IsAnswer : code_answer.Answer → FormulaReader → FormulaReader → PartFormula → Token → Type 0
-IsAnswer answers.Taken old now s t = (c : Name) → (r : Mark × PartFormula) × ((formula_step c s t ≡ Some r) × IsReader now r.1)
+IsAnswer answers.Taken old now s t = (c : Name) → (r : Entry × PartFormula) × ((formula_step c s t ≡ Some r) × IsReader now r.1)
 IsAnswer answers.Refused old now s t = ((c : Name) → formula_step c s t ≡ None) × (now ≡ old)
 IsAnswer answers.TooLong old now s t = (s.operand ≡ None) × IsTrue (is_name_word t) × (most_name_bytes < length t) × (now ≡ old)

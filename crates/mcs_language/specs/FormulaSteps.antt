@@ -4,7 +4,7 @@ use Rattle.std.specs.Str.{bytes_eq}
 use Rattle.mcs_base.specs.Words.{is_word, is_reserved}
 use Rattle.mcs_system.specs.Plain.{Name}
 use Rattle.mcs_language.specs.Written.{Written, True', False', Named, Denied, Grouped, Both, Either, Leads, Equals}
-use Rattle.mcs_language.specs.Marks.{Token, Use, AtomOf, IsNumber, OpensWithin, Mark, mark, size_of}
+use Rattle.mcs_language.specs.Entries.{Token, Use, AtomOf, IsNumber, OpensWithin, Entry, entry, size_of}
 
 -- what waits for an operand that is still to come: a sign, with what stands before it, or an opened parenthesis
 pub data Pending : Type 0 where
@@ -81,15 +81,15 @@ is_parenthesis p = false
 abbrev pub opened_so_far : PartFormula → ℕ
 opened_so_far s = count_by is_parenthesis s.pending
 
--- the token's mark and what is written then
+-- the token's entry and what is written then
 abbrev pub Taken : Type 0
-Taken = Option (Mark × PartFormula)
+Taken = Option (Entry × PartFormula)
 
 abbrev pub waits : List Pending → Pending → PartFormula
 waits ps p = record { pending = p ∷ ps; operand = None }
 
-abbrev pub numbered_mark : PartFormula → Token → List Use → Mark
-numbered_mark s token uses = mark token (uses ++ IsNumber (size_so_far s + 1) ∷ [])
+abbrev pub numbered_entry : PartFormula → Token → List Use → Entry
+numbered_entry s token uses = entry token (uses ++ IsNumber (size_so_far s + 1) ∷ [])
 
 abbrev pub is_name_word : Token → Bool
 is_name_word t = is_word t && not (is_reserved t)
@@ -97,11 +97,11 @@ is_name_word t = is_word t && not (is_reserved t)
 -- where an operand has to come
 abbrev pub operand_step : Name → PartFormula → Token → Taken
 operand_step c s t =
-    cond (bytes_eq t (codes "~")) (Some (numbered_mark s t [], waits s.pending Tilde))
-    (cond (bytes_eq t (codes "(")) (Some (mark t (OpensWithin (opened_so_far s) ∷ []), waits s.pending Parenthesis))
-    (cond (bytes_eq t (codes "true")) (Some (numbered_mark s t [], settle s.pending True'))
-    (cond (bytes_eq t (codes "false")) (Some (numbered_mark s t [], settle s.pending False'))
-    (cond (is_name_word t) (Some (numbered_mark s t (AtomOf c t ∷ []), settle s.pending (Named t)))
+    cond (bytes_eq t (codes "~")) (Some (numbered_entry s t [], waits s.pending Tilde))
+    (cond (bytes_eq t (codes "(")) (Some (entry t (OpensWithin (opened_so_far s) ∷ []), waits s.pending Parenthesis))
+    (cond (bytes_eq t (codes "true")) (Some (numbered_entry s t [], settle s.pending True'))
+    (cond (bytes_eq t (codes "false")) (Some (numbered_entry s t [], settle s.pending False'))
+    (cond (is_name_word t) (Some (numbered_entry s t (AtomOf c t ∷ []), settle s.pending (Named t)))
     None))))
 
 -- the last operand waits for one more, at its sign
@@ -123,11 +123,11 @@ closed s = at s.pending s.operand
 -- after an operand
 abbrev pub sign_step : PartFormula → Written → Token → Taken
 sign_step s f t =
-    cond (bytes_eq t (codes "&")) (Some (numbered_mark s t [], behind And (reduce 1 s.pending f)))
-    (cond (bytes_eq t (codes "|")) (Some (numbered_mark s t [], behind Or (reduce 2 s.pending f)))
-    (cond (bytes_eq t (codes "->")) (Some (numbered_mark s t [], behind Implies (reduce 2 s.pending f)))
-    (cond (bytes_eq t (codes "<->")) (Some (numbered_mark s t [], behind Iff (reduce 3 s.pending f)))
-    (cond (bytes_eq t (codes ")")) (option_map (λ (r : PartFormula). (mark t [], r)) (closed (reduce 4 s.pending f)))
+    cond (bytes_eq t (codes "&")) (Some (numbered_entry s t [], behind And (reduce 1 s.pending f)))
+    (cond (bytes_eq t (codes "|")) (Some (numbered_entry s t [], behind Or (reduce 2 s.pending f)))
+    (cond (bytes_eq t (codes "->")) (Some (numbered_entry s t [], behind Implies (reduce 2 s.pending f)))
+    (cond (bytes_eq t (codes "<->")) (Some (numbered_entry s t [], behind Iff (reduce 3 s.pending f)))
+    (cond (bytes_eq t (codes ")")) (option_map (λ (r : PartFormula). (entry t [], r)) (closed (reduce 4 s.pending f)))
     None))))
 
 -- of a formula of the context
@@ -159,7 +159,7 @@ finished s = at s.operand
 unfoldable pub finished_primary : PartFormula → Option Written
 finished_primary s = alone s
 
--- all tokens, one after the other: their marks and what is written then
-abbrev pub formula_steps : Name → PartFormula → List Token → Option (List Mark × PartFormula)
+-- all tokens, one after the other: their entries and what is written then
+abbrev pub formula_steps : Name → PartFormula → List Token → Option (List Entry × PartFormula)
 formula_steps c s [] = Some ([], s)
-formula_steps c s (t ∷ ts) = option_and_then (λ (r : Mark × PartFormula). option_map (λ (q : List Mark × PartFormula). (r.0 ∷ q.0, q.1)) (formula_steps c r.1 ts)) (formula_step c s t)
+formula_steps c s (t ∷ ts) = option_and_then (λ (r : Entry × PartFormula). option_map (λ (q : List Entry × PartFormula). (r.0 ∷ q.0, q.1)) (formula_steps c r.1 ts)) (formula_step c s t)

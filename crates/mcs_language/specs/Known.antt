@@ -4,7 +4,7 @@ use Rattle.std.specs.List.{AllByRecursion}
 use Rattle.mcs_base.specs.Listings.{IsAmong}
 use Rattle.mcs_system.specs.Plain.{Name}
 use Rattle.mcs_language.specs.Written.{WrittenRead, WrittenBridge}
-use Rattle.mcs_language.specs.Marks.{Use, NamesContext}
+use Rattle.mcs_language.specs.Entries.{Use, NamesContext}
 use Rattle.mcs_language.specs.TextSteps.{Place, Between, ContextName, KindWord, OpenBrace, NextItem, InFact, InJust, InConclusion, AfterHeadName, NextHeadName, AfterSign, NextLiteral, AfterNot, AfterLiteral, BridgeName, BridgeColon, HeadContext, HeadColon, InHead, AfterHead, NextRead, ReadContext, ReadColon, InRead, AfterRead, PartText}
 
 abbrev pub WasNamed : List Use → Name → Type 0

@@ -1,5 +1,5 @@
 pub mod Written
-pub mod Marks
+pub mod Entries
 pub mod Saying
 pub mod Faults
 pub mod Texts

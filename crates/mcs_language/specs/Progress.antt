@@ -6,7 +6,7 @@ use Rattle.mcs_language.specs.declared.fault.Fault as code_fault
 use Rattle.mcs_language.specs.declared.fault.TextFault as code_text
 use Rattle.mcs_language.specs.declared.fault.TextFault.TheVariants as texts
 use Rattle.mcs_language.specs.declared.reading.Reading.{Reading}
-use Rattle.mcs_language.specs.Marks.{Token, Mark, uses_of}
+use Rattle.mcs_language.specs.Entries.{Token, Entry, uses_of}
 use Rattle.mcs_language.specs.Faults.{Fault, Has, IsFaultAt, IsFirstFault}
 use Rattle.mcs_language.specs.Texts.{token_texts, HasFault}
 use Rattle.mcs_language.specs.TextSteps.{PartText, nothing_written, text_steps}
@@ -16,14 +16,14 @@ use Rattle.mcs_language.specs.Known.{AreKnownIn}
 
 -- the first k tokens were read
 pub record IsUpTo (reading : Reading) (ts : List Token) (k : ℕ) : Type 0 where
-  pub marks : List Mark
+  pub entries : List Entry
   pub state : PartText
-  pub taken : text_steps nothing_written (take k ts) ≡ Some (marks, state)
+  pub taken : text_steps nothing_written (take k ts) ≡ Some (entries, state)
   pub inside : k ≤ length ts
   pub reader : IsTextReader reading.reader state
-  pub watch : IsWatch reading.watch (uses_of marks)
-  pub known : AreKnownIn (uses_of marks) state
-  pub faultless : (j : ℕ) (m : Mark) (f : Fault) → slice_get marks j ≡ Some m → ¬ Has f (uses_of (take j marks)) m
+  pub watch : IsWatch reading.watch (uses_of entries)
+  pub known : AreKnownIn (uses_of entries) state
+  pub faultless : (j : ℕ) (m : Entry) (f : Fault) → slice_get entries j ≡ Some m → ¬ Has f (uses_of (take j entries)) m
   pub free : (j : ℕ) (f : Fault) → j < k → ¬ IsFaultAt ts j f
 
 -- the next token was read too, or it has the first fault

@@ -5,7 +5,7 @@ use Rattle.mcs_system.specs.Plain as plain
 use Rattle.mcs_system.specs.Plain.{Name}
 use Rattle.mcs_system.specs.Logic.{same_name}
 use Rattle.mcs_language.specs.Written.{WrittenDefault, WrittenItem, Fact, Rule, WrittenLiteral, WrittenRule, WrittenKb, Classical, DefaultTheory, Program, WrittenContext, WrittenPlace, WrittenRead, WrittenBridge, WrittenText}
-use Rattle.mcs_language.specs.Marks.{formula_in}
+use Rattle.mcs_language.specs.Entries.{formula_in}
 
 abbrev pub default_in : WrittenDefault → plain.Default
 default_in d = record { pre = formula_in d.pre; justs = formula_in d.first_just ∷ map formula_in d.justs; conclusion = formula_in d.conclusion }

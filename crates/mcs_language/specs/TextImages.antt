@@ -18,7 +18,7 @@ use Rattle.mcs_language.specs.declared.place.Word.TheVariants as words
 use Rattle.mcs_language.specs.declared.place.Step as code_step
 use Rattle.mcs_language.specs.declared.place.Step.TheVariants as answers
 use Rattle.mcs_language.specs.Written.{Written, WrittenLiteral, WrittenPlace, WrittenRead, WrittenContext, WrittenBridge}
-use Rattle.mcs_language.specs.Marks.{Token, Use, BeginsContext, BeginsBridge, NamesContext, NamesBridge, SaysProgram, BeginsItem, BeginsDefault, NamesTarget, NamesSource, BeginsBelief, EndsRead, AtomOf, IsNumber, OpensWithin, Mark, mark, formula_in}
+use Rattle.mcs_language.specs.Entries.{Token, Use, BeginsContext, BeginsBridge, NamesContext, NamesBridge, SaysProgram, BeginsItem, BeginsDefault, NamesTarget, NamesSource, BeginsBelief, EndsRead, AtomOf, IsNumber, OpensWithin, Entry, entry, formula_in}
 use Rattle.mcs_language.specs.Saying.{context_in, rule_in, positive_places, negative_places}
 use Rattle.mcs_language.specs.Faults.{NamedRead}
 use Rattle.mcs_language.specs.FormulaSteps.{PartFormula, is_name_word}
@@ -191,8 +191,8 @@ IsWord words.Other t = is_name_word t ≡ false
 abbrev pub IsStep : code_step.Step → Subject → PartText → Token → Moved → Type 0
 IsStep answers.Refused u s t moved = moved ≡ None
 IsStep (answers.Moves place uses) u s t moved = (us : List Use) × ((q : Place) × (moved ≡ goes s t us q) × IsAt place q × (map capped us ≡ uses_in (about u q) t uses))
-IsStep (answers.EndsContext c) u s t moved = (w : WrittenContext) × (context_of c ≡ context_in w) × (moved ≡ Some (mark t [], context_is_whole s w))
-IsStep (answers.EndsBridge b) u s t moved = (w : WrittenBridge) × IsBridge b w × (moved ≡ Some (mark t [], bridge_is_whole s w))
+IsStep (answers.EndsContext c) u s t moved = (w : WrittenContext) × (context_of c ≡ context_in w) × (moved ≡ Some (entry t [], context_is_whole s w))
+IsStep (answers.EndsBridge b) u s t moved = (w : WrittenBridge) × IsBridge b w × (moved ≡ Some (entry t [], bridge_is_whole s w))
 IsStep (answers.LongName uses) u s t moved = (us : List Use) × ((q : Place) × (moved ≡ goes s t us q) × IsTrue (is_name_word t) × (most_name_bytes < length t) × (map capped us ≡ uses_in (about u q) t uses))
 
 -- ---- of a text
@@ -214,4 +214,4 @@ pub record IsStopped (now : Reader) (t : Token) : Type 0 where
 
 abbrev pub IsTaken : Option code_uses.Uses → Reader → PartText → Token → Type 0
 IsTaken None now s t = text_step s t ≡ None
-IsTaken (Some uses) now s t = (r : Mark × PartText) × (text_step s t ≡ Some r) × (map capped (r.0).uses ≡ uses_in (about (subject_at s.place) (r.1).place) t uses) × (IsTextReader now r.1 ⊎ IsStopped now t)
+IsTaken (Some uses) now s t = (r : Entry × PartText) × (text_step s t ≡ Some r) × (map capped (r.0).uses ≡ uses_in (about (subject_at s.place) (r.1).place) t uses) × (IsTextReader now r.1 ⊎ IsStopped now t)

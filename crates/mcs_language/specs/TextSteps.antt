@@ -4,7 +4,7 @@ use Rattle.std.specs.Option.{option_and_then}
 use Rattle.std.specs.Str.{bytes_eq}
 use Rattle.mcs_system.specs.Plain.{Name}
 use Rattle.mcs_language.specs.Written.{Written, WrittenDefault, Fact, Rule, WrittenLiteral, WrittenRule, WrittenKb, Classical, DefaultTheory, Program, WrittenContext, WrittenPlace, WrittenBridge, WrittenText}
-use Rattle.mcs_language.specs.Marks.{Token, Use, BeginsContext, BeginsBridge, NamesContext, NamesBridge, SaysProgram, BeginsItem, BeginsDefault, NamesTarget, NamesSource, BeginsBelief, EndsRead, AtomOf, IsNumber, Mark, mark, formula_in}
+use Rattle.mcs_language.specs.Entries.{Token, Use, BeginsContext, BeginsBridge, NamesContext, NamesBridge, SaysProgram, BeginsItem, BeginsDefault, NamesTarget, NamesSource, BeginsBelief, EndsRead, AtomOf, IsNumber, Entry, entry, formula_in}
 use Rattle.mcs_language.specs.FormulaSteps.{Pending, PartFormula, no_formula, formula_step, finished, finished_primary, is_name_word}
 
 -- a default of which the prerequisite and some justifications are whole
@@ -61,12 +61,12 @@ pub record PartText : Type 0 where
 abbrev pub nothing_written : PartText
 nothing_written = record { contexts = []; bridges = []; place = Between }
 
--- a token's mark, and what is written then
+-- a token's entry, and what is written then
 abbrev pub Moved : Type 0
-Moved = Option (Mark × PartText)
+Moved = Option (Entry × PartText)
 
 abbrev pub goes : PartText → Token → List Use → Place → Moved
-goes s t uses place = Some (mark t uses, record s { place = place })
+goes s t uses place = Some (entry t uses, record s { place = place })
 
 -- where the token is this one
 abbrev pub on : Token → Token → Moved → Moved → Moved
@@ -128,7 +128,7 @@ atom_uses c n t = AtomOf c.name t ∷ IsNumber n ∷ []
 abbrev pub in_formula : PartText → Name → List Use → PartFormula → Token → (PartFormula → Place) → Moved → Moved
 in_formula s c uses f t place else' = at (formula_step c f t)
   where
-    at : Option (Mark × PartFormula) → Moved
+    at : Option (Entry × PartFormula) → Moved
     at None = else'
     at (Some r) = goes s t (uses ++ (r.0).uses) (place r.1)
 
@@ -194,7 +194,7 @@ first_of_formula s c t = in_formula s c.name (BeginsItem c.name ∷ []) no_formu
 
 abbrev pub next_item : PartText → WrittenContext → Token → Moved
 next_item s c t =
-    on t (codes "}") (Some (mark t [], context_is_whole s c))
+    on t (codes "}") (Some (entry t [], context_is_whole s c))
     (cond (is_program c.kb) (first_of_rule s c t) (first_of_formula s c t))
 
 abbrev pub after_head_name : PartText → WrittenContext → List Name → Token → Moved
@@ -233,9 +233,9 @@ first_of_belief c f = at f.pending f.operand
 
 -- one token more of a belief of the context: the place within it, or the place and the further uses where it ends
 abbrev pub in_belief : PartText → Name → PartFormula → Token → (PartFormula → Place) → (Written → List Use) → (Written → Place) → Moved
-in_belief s c f t place uses after = option_and_then (λ (r : Mark × PartFormula). at r (finished_primary r.1)) (formula_step c f t)
+in_belief s c f t place uses after = option_and_then (λ (r : Entry × PartFormula). at r (finished_primary r.1)) (formula_step c f t)
   where
-    at : (Mark × PartFormula) → Option Written → Moved
+    at : (Entry × PartFormula) → Option Written → Moved
     at r None = goes s t (first_of_belief c f ++ (r.0).uses) (place r.1)
     at r (Some w) = goes s t (uses w ++ (first_of_belief c f ++ (r.0).uses)) (after w)
 
@@ -249,7 +249,7 @@ abbrev pub with_read : WrittenBridge → PartRead → Written → WrittenBridge
 with_read b r w = record b { reads = b.reads ++ record { denied = r.denied; place = place_of r.context w } ∷ [] }
 
 abbrev pub after_head : PartText → WrittenBridge → Token → Moved
-after_head s b t = on t (codes "if") (goes s t [] (NextRead b)) (on t (codes ".") (Some (mark t [], bridge_is_whole s b)) None)
+after_head s b t = on t (codes "if") (goes s t [] (NextRead b)) (on t (codes ".") (Some (entry t [], bridge_is_whole s b)) None)
 
 abbrev pub read_context : PartText → WrittenBridge → Bool → Token → Moved
 read_context s b denied t = on_name t (goes s t (NamesSource t ∷ []) (ReadColon b (record { denied = denied; context = t })))
@@ -262,7 +262,7 @@ in_read s b r f t =
     in_belief s r.context f t (InRead b r) (λ w. EndsRead b.head.context r.context (formula_in w) ∷ []) (λ w. AfterRead (with_read b r w))
 
 abbrev pub after_read : PartText → WrittenBridge → Token → Moved
-after_read s b t = on t (codes ",") (goes s t [] (NextRead b)) (on t (codes ".") (Some (mark t [], bridge_is_whole s b)) None)
+after_read s b t = on t (codes ",") (goes s t [] (NextRead b)) (on t (codes ".") (Some (entry t [], bridge_is_whole s b)) None)
 
 -- ---- a token of a text
 
@@ -296,10 +296,10 @@ step_at s t (AfterRead b) = after_read s b t
 unfoldable pub text_step : PartText → Token → Moved
 text_step s t = step_at s t s.place
 
--- all tokens, one after the other: their marks and what is written then
-abbrev pub text_steps : PartText → List Token → Option (List Mark × PartText)
+-- all tokens, one after the other: their entries and what is written then
+abbrev pub text_steps : PartText → List Token → Option (List Entry × PartText)
 text_steps s [] = Some ([], s)
-text_steps s (t ∷ ts) = option_and_then (λ (r : Mark × PartText). option_map (λ (q : List Mark × PartText). (r.0 ∷ q.0, q.1)) (text_steps r.1 ts)) (text_step s t)
+text_steps s (t ∷ ts) = option_and_then (λ (r : Entry × PartText). option_map (λ (q : List Entry × PartText). (r.0 ∷ q.0, q.1)) (text_steps r.1 ts)) (text_step s t)
 
 -- the text, where it may end
 unfoldable pub finished_text : PartText → Option WrittenText

@@ -5,7 +5,7 @@ use Rattle.mcs_system.specs.declared.limit.Limit.{Limit}
 use Rattle.mcs_tokens.specs.Tokens.{AreTokens}
 use Rattle.mcs_tokens.specs.declared.scan.Span.{Span}
 use Rattle.mcs_language.specs.Written.{WrittenText, IsText}
-use Rattle.mcs_language.specs.Marks.{Token, text_marks, tokens_of}
+use Rattle.mcs_language.specs.Entries.{Token, text_entries, tokens_of}
 use Rattle.mcs_language.specs.Saying.{SaysSystem}
 use Rattle.mcs_language.specs.Faults.{Fault, IsFaultAt, IsFirstFault, number_of, limit_of}
 
@@ -18,7 +18,7 @@ pub record Spells (bytes : List ℕ) (m : System) : Type 0 where
   pub tokens : AreTokens bytes 0 spans
   pub text : WrittenText
   pub grammar : IsText text
-  pub written : token_texts bytes spans ≡ tokens_of (text_marks text)
+  pub written : token_texts bytes spans ≡ tokens_of (text_entries text)
   pub says : SaysSystem text m
   pub no_fault : (k : ℕ) (f : Fault) → ¬ IsFaultAt (token_texts bytes spans) k f
 

@@ -20,7 +20,7 @@ use Rattle.mcs_language.specs.declared.place.Role as code_role
 use Rattle.mcs_language.specs.declared.place.Role.TheVariants as roles
 use Rattle.mcs_language.specs.declared.place.Uses as code_uses
 use Rattle.mcs_language.specs.Written.{IsNameWord}
-use Rattle.mcs_language.specs.Marks.{Use, BeginsContext, BeginsBridge, NamesContext, NamesBridge, NamesTarget, SaysProgram, BeginsItem, BeginsDefault, BeginsBelief, EndsRead, AtomOf, Mark}
+use Rattle.mcs_language.specs.Entries.{Use, BeginsContext, BeginsBridge, NamesContext, NamesBridge, NamesTarget, SaysProgram, BeginsItem, BeginsDefault, BeginsBelief, EndsRead, AtomOf, Entry}
 use Rattle.mcs_language.specs.Faults.{begins_context, begins_bridge, names_target, begins_default_of, begins_item_of, AreDifferent, NamedRead, WasReadInto, WasRead, WasAtom, IsOneMore, Fault, NoGrammar, NoContext, Twin, NoAtom, Exceeds, rank, Has}
 use Rattle.mcs_language.specs.TextImages.{read_of, Subject, About, capped, uses_in}
 
@@ -106,8 +106,8 @@ IsNaming roles.NamesBridge = Unit {0}
 IsNaming (roles.Atom n) = Unit {0}
 IsNaming role = ⊥
 
--- what the mark says of the token, and the read that ends with it
-pub record IsSaid (a : About) (m : Mark) (uses : code_uses.Uses) (read : Option code_read.NamedRead) : Type 0 where
+-- what the entry says of the token, and the read that ends with it
+pub record IsSaid (a : About) (m : Entry) (uses : code_uses.Uses) (read : Option code_read.NamedRead) : Type 0 where
   pub uses_are : map capped m.uses ≡ uses_in a m.token uses
   pub read_is : uses.ends_read ≡ true → (r : code_read.NamedRead) → read ≡ Some r → read_of r ≡ record { context = a.subject.context; belief = a.belief }
   -- a read that ends with a name has it as an atom; there is no such read to hand where the name is too long
@@ -117,7 +117,7 @@ pub record IsSaid (a : About) (m : Mark) (uses : code_uses.Uses) (read : Option 
   pub names : IsNaming uses.role → IsNameWord m.token
 
 -- all that is known of the watch and of the token
-pub record IsAsked (w : Watch) (before : List Use) (m : Mark) (a : About) (s : Said) : Type 0 where
+pub record IsAsked (w : Watch) (before : List Use) (m : Entry) (a : About) (s : Said) : Type 0 where
   pub watch : IsWatch w before
   pub token_is : m.token ≡ s.token.now
   pub subject_is : IsSubject w a.subject s.subject
@@ -125,8 +125,8 @@ pub record IsAsked (w : Watch) (before : List Use) (m : Mark) (a : About) (s : S
   pub spoken : AllByRecursion (IsSpokenOf before) m.uses
 
 -- the answer is whether this holds of the token after those before it
-abbrev pub Tells : Bool → (List Use → Mark → Type 0) → Watch → Said → Type 0
-Tells answer P w s = (before : List Use) (m : Mark) (a : About) → IsAsked w before m a s → IsTrue answer ↔ P before m
+abbrev pub Tells : Bool → (List Use → Entry → Type 0) → Watch → Said → Type 0
+Tells answer P w s = (before : List Use) (m : Entry) (a : About) → IsAsked w before m a s → IsTrue answer ↔ P before m
 
 -- ---- one use more
 -- what it is there for is no fault, after what the tokens before are there for
@@ -162,12 +162,12 @@ fault_of faults.Twin = Twin
 fault_of faults.NoAtom = NoAtom
 fault_of (faults.Exceeds limit) = Exceeds limit
 
--- the lowest fault of the mark, or that it has none
-abbrev pub IsTold : Option code_fault.Fault → List Use → Mark → Type 0
+-- the lowest fault of the entry, or that it has none
+abbrev pub IsTold : Option code_fault.Fault → List Use → Entry → Type 0
 IsTold None before m = (f : Fault) → ¬ Has f before m
 IsTold (Some g) before m = Has (fault_of g) before m × ((f : Fault) → Has f before m → rank (fault_of g) ≤ rank f)
 
--- the lowest fault of the mark, or that it has none and the watch goes on
-abbrev pub IsVerdict : Option code_fault.Fault → List Use → Mark → Watch → Type 0
+-- the lowest fault of the entry, or that it has none and the watch goes on
+abbrev pub IsVerdict : Option code_fault.Fault → List Use → Entry → Watch → Type 0
 IsVerdict None before m now = ((f : Fault) → ¬ Has f before m) × IsWatch now (before ++ m.uses)
 IsVerdict (Some g) before m now = Has (fault_of g) before m × ((f : Fault) → Has f before m → rank (fault_of g) ≤ rank f)

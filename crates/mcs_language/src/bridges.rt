@@ -4,7 +4,7 @@ ghost use Rattle.std.specs.Prelude.{◌≡◌, IfOk, Some, None, true, false, is
 ghost use Rattle.mcs_system.specs.Plain as plain;
 ghost use Rattle.mcs_system.specs.Seen.{formula_of};
 ghost use Rattle.mcs_language.specs.Written.{Written, WrittenBridge};
-ghost use Rattle.mcs_language.specs.Marks.{Mark, BeginsBelief, formula_in};
+ghost use Rattle.mcs_language.specs.Entries.{Entry, BeginsBelief, formula_in};
 ghost use Rattle.mcs_language.specs.FormulaSteps.{PartFormula, finished_primary, formula_step, settle};
 ghost use Rattle.mcs_language.specs.FormulaImages.{IsReader};
 ghost use Rattle.mcs_language.specs.TextSteps as written;
@@ -183,7 +183,7 @@ pub(crate) fn after_read(
 
 /// What the token is there for within the belief, if the belief goes on with it.
 fn belief_uses(belief: &FormulaReader, token: &[u8]) -> Uses
-    ensures role { (c : plain.Name) (s : PartFormula) (r : Mark × PartFormula) → IsReader belief.now s → formula_step c s token.now ≡ Some r → map capped (r.0).uses ≡ role_uses (about_context c) token.now result.role }
+    ensures role { (c : plain.Name) (s : PartFormula) (r : Entry × PartFormula) → IsReader belief.now s → formula_step c s token.now ≡ Some r → map capped (r.0).uses ≡ role_uses (about_context c) token.now result.role }
     ensures first { (c : plain.Name) (s : PartFormula) → IsReader belief.now s → first_of_belief c s ≡ when result.begins_belief (BeginsBelief c) }
     ensures apart { (result.begins_item ≡ false) × (result.ends_read ≡ false) }
 {

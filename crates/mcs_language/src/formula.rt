@@ -7,7 +7,7 @@ ghost use Rattle.mcs_tokens.specs.Kinds.{IsKind};
 ghost use Rattle.mcs_base.specs.Words.{keyword_bytes};
 ghost use Rattle.mcs_tokens.specs.Spelling.{sign_bytes};
 ghost use Rattle.mcs_language.specs.Written.{Written};
-ghost use Rattle.mcs_language.specs.Marks.{formula_in, size_of};
+ghost use Rattle.mcs_language.specs.Entries.{formula_in, size_of};
 ghost use Rattle.mcs_language.specs.FormulaSteps.{PartFormula, Parenthesis, no_formula, waits, size_so_far, opened_so_far, settle, reduce, finished, finished_primary};
 ghost use Rattle.mcs_language.specs.FormulaSteps as written;
 ghost use Rattle.mcs_language.specs.FormulaImages.{waiting_of, waiting_level, made, most_counted, one_more, AreStacked, AreImages, IsImage, IsReader, IsWaitingMore, IsAnswer};

@@ -5,7 +5,7 @@ ghost use Rattle.mcs_system.specs.Plain as plain;
 ghost use Rattle.mcs_system.specs.Plain.{Name};
 ghost use Rattle.mcs_system.specs.Seen.{context_of, default_of, formula_of, kb_of};
 ghost use Rattle.mcs_language.specs.Written.{Written, WrittenContext, WrittenDefault};
-ghost use Rattle.mcs_language.specs.Marks.{Mark, formula_in};
+ghost use Rattle.mcs_language.specs.Entries.{Entry, formula_in};
 ghost use Rattle.mcs_language.specs.Saying.{context_in, default_in};
 ghost use Rattle.mcs_language.specs.FormulaSteps.{PartFormula, formula_step};
 ghost use Rattle.mcs_language.specs.FormulaImages.{IsReader};
@@ -23,7 +23,7 @@ use std::alloc::Global;
 
 /// What the token is there for within the formula, if the formula goes on with it.
 pub(crate) fn formula_role(formula: &FormulaReader, token: &[u8]) -> Role
-    ensures { (c : Name) (s : PartFormula) (r : Mark × PartFormula) → IsReader formula.now s → formula_step c s token.now ≡ Some r → map capped (r.0).uses ≡ role_uses (about_context c) token.now result }
+    ensures { (c : Name) (s : PartFormula) (r : Entry × PartFormula) → IsReader formula.now s → formula_step c s token.now ≡ Some r → map capped (r.0).uses ≡ role_uses (about_context c) token.now result }
 {
     if is_sign(token, Sign::OpenParenthesis) {
         return Role::Opens {

@@ -4,7 +4,7 @@ ghost use Rattle.std.specs.Prelude.{◌≡◌, ◌<◌, ◌↔◌, List, Some, N
 ghost use Rattle.std.specs.Option.{option_copied};
 ghost use Rattle.mcs_base.specs.Listings.{IsAmong};
 ghost use Rattle.mcs_sets.specs.Sets.{has};
-ghost use Rattle.mcs_language.specs.Marks.{Mark, Use};
+ghost use Rattle.mcs_language.specs.Entries.{Entry, Use};
 ghost use Rattle.mcs_language.specs.Faults as faults;
 ghost use Rattle.mcs_language.specs.Faults.{Has, IsBeyond};
 ghost use Rattle.mcs_language.specs.TextImages.{About, read_of};
@@ -61,7 +61,7 @@ pub(crate) fn is_input(inputs: Vars, number: usize) -> bool
 impl Watch {
     /// The lowest fault of the token.
     pub(crate) fn fault_of(&self, said: &Said) -> Option<Fault>
-        ensures { (before : List Use) (m : Mark) (a : About) → IsAsked self.now before m a said.now → IsTold result before m }
+        ensures { (before : List Use) (m : Entry) (a : About) → IsAsked self.now before m a said.now → IsTold result before m }
     {
         if self.names_no_context(said) {
             return Some(Fault::NoContext);

@@ -4,7 +4,7 @@ ghost use Rattle.std.specs.Prelude.{◌≡◌, ℕ, List, Some, length, slice_ge
 ghost use Rattle.mcs_system.specs.Faults.{IsValid};
 ghost use Rattle.mcs_system.specs.Seen.{system_of};
 ghost use Rattle.mcs_tokens.specs.Tokens.{AreTokens, IsSpanOf};
-ghost use Rattle.mcs_language.specs.Marks.{Token};
+ghost use Rattle.mcs_language.specs.Entries.{Token};
 ghost use Rattle.mcs_language.specs.Progress.{IsNextRead, IsReadOf, IsToldOf, IsUpTo};
 ghost use Rattle.mcs_language.specs.Texts.{Spells, token_texts};
 ghost use Rattle.mcs_language.specs.declared.fault.TextFault.TheVariants as texts;

@@ -4,8 +4,8 @@ ghost use Rattle.std.specs.Prelude.{◌≡◌, ◌<◌, ◌++◌, List, [], ◌�
 ghost use Rattle.mcs_base.specs.Words.{is_name};
 ghost use Rattle.mcs_sets.specs.Sets.{single, union};
 ghost use Rattle.mcs_system.specs.Plain.{Name};
-ghost use Rattle.mcs_language.specs.Marks as marks;
-ghost use Rattle.mcs_language.specs.Marks.{Mark, Use};
+ghost use Rattle.mcs_language.specs.Entries as entries;
+ghost use Rattle.mcs_language.specs.Entries.{Entry, Use};
 ghost use Rattle.mcs_language.specs.Faults as faults;
 ghost use Rattle.mcs_language.specs.Faults.{Has};
 ghost use Rattle.mcs_language.specs.TextImages.{About, read_of, role_uses, when};
@@ -56,7 +56,7 @@ fn fresh(alloc: Global, name: Name) -> ContextSeen
 impl Watch {
     /// The token was seen, and has no fault.
     pub(crate) fn record(&mut self, alloc: Global, said: &Said) -> Result<(), Memory>
-        ensures { (before : List Use) (m : Mark) (a : About) → IsAsked self.old before m a said.now → ((f : faults.Fault) → ¬ Has f before m) → IfOk result (λ _. IsWatch self.new (before ++ m.uses)) }
+        ensures { (before : List Use) (m : Entry) (a : About) → IsAsked self.old before m a said.now → ((f : faults.Fault) → ¬ Has f before m) → IfOk result (λ _. IsWatch self.new (before ++ m.uses)) }
     {
         self.record_end(alloc, said)?;
         self.record_begin(said);
@@ -65,7 +65,7 @@ impl Watch {
 
     /// What the token is there for as the end of a read.
     fn record_end(&mut self, alloc: Global, said: &Said) -> Result<(), Memory>
-        ensures { (before : List Use) (m : Mark) (a : About) → IsAsked self.old before m a said.now → ((f : faults.Fault) → ¬ Has f before m) → IfOk result (λ _. IsWatch self.new (before ++ when said.now.uses.ends_read (marks.EndsRead a.subject.target a.subject.context a.belief))) }
+        ensures { (before : List Use) (m : Entry) (a : About) → IsAsked self.old before m a said.now → ((f : faults.Fault) → ¬ Has f before m) → IfOk result (λ _. IsWatch self.new (before ++ when said.now.uses.ends_read (entries.EndsRead a.subject.target a.subject.context a.belief))) }
     {
         if !said.uses.ends_read {
             return Ok(());
@@ -78,7 +78,7 @@ impl Watch {
 
     /// What the token is there for as the first of an item.
     fn record_begin(&mut self, said: &Said)
-        ensures { (before : List Use) (n : Name) → IsWatch self.old before → IsNumberOf (names_seen self.old) n said.now.subject.context → AreFree before (when said.now.uses.begins_item (marks.BeginsItem n)) → IsWatch self.new (before ++ when said.now.uses.begins_item (marks.BeginsItem n)) }
+        ensures { (before : List Use) (n : Name) → IsWatch self.old before → IsNumberOf (names_seen self.old) n said.now.subject.context → AreFree before (when said.now.uses.begins_item (entries.BeginsItem n)) → IsWatch self.new (before ++ when said.now.uses.begins_item (entries.BeginsItem n)) }
     {
         if said.uses.begins_item {
             self.count_item(said.subject.context);
@@ -105,7 +105,7 @@ impl Watch {
 
     /// A context of this name.
     fn name_context(&mut self, alloc: Global, token: &[u8]) -> Result<(), Memory>
-        ensures { (before : List Use) → IsWatch self.old before → IsTrue (is_name token.now) → IsAllowed before (marks.NamesContext token.now) → IfOk result (λ _. IsWatch self.new (before ++ marks.NamesContext token.now ∷ [])) }
+        ensures { (before : List Use) → IsWatch self.old before → IsTrue (is_name token.now) → IsAllowed before (entries.NamesContext token.now) → IfOk result (λ _. IsWatch self.new (before ++ entries.NamesContext token.now ∷ [])) }
     {
         if let Some(name) = Name::read(alloc, token)? {
             self.contexts.push(fresh(alloc, name))?;
@@ -115,7 +115,7 @@ impl Watch {
 
     /// A rule of this name.
     fn name_bridge(&mut self, alloc: Global, token: &[u8]) -> Result<(), Memory>
-        ensures { (before : List Use) → IsWatch self.old before → IsTrue (is_name token.now) → IsAllowed before (marks.NamesBridge token.now) → IfOk result (λ _. IsWatch self.new (before ++ marks.NamesBridge token.now ∷ [])) }
+        ensures { (before : List Use) → IsWatch self.old before → IsTrue (is_name token.now) → IsAllowed before (entries.NamesBridge token.now) → IfOk result (λ _. IsWatch self.new (before ++ entries.NamesBridge token.now ∷ [])) }
     {
         if let Some(name) = Name::read(alloc, token)? {
             self.bridges.push(name)?;
@@ -125,7 +125,7 @@ impl Watch {
 
     /// The context of this number is a program.
     fn say_program(&mut self, number: usize)
-        ensures { (before : List Use) (n : Name) → IsWatch self.old before → IsNumberOf (names_seen self.old) n number → IsSpokenOf before (marks.SaysProgram n) → IsWatch self.new (before ++ marks.SaysProgram n ∷ []) }
+        ensures { (before : List Use) (n : Name) → IsWatch self.old before → IsNumberOf (names_seen self.old) n number → IsSpokenOf before (entries.SaysProgram n) → IsWatch self.new (before ++ entries.SaysProgram n ∷ []) }
     {
         if let Some(context) = self.contexts.get_mut(number) {
             context.is_program = true;
@@ -134,7 +134,7 @@ impl Watch {
 
     /// The context of this number has one item more.
     fn count_item(&mut self, number: usize)
-        ensures { (before : List Use) (n : Name) → IsWatch self.old before → IsNumberOf (names_seen self.old) n number → IsSpokenOf before (marks.BeginsItem n) → IsAllowed before (marks.BeginsItem n) → IsWatch self.new (before ++ marks.BeginsItem n ∷ []) }
+        ensures { (before : List Use) (n : Name) → IsWatch self.old before → IsNumberOf (names_seen self.old) n number → IsSpokenOf before (entries.BeginsItem n) → IsAllowed before (entries.BeginsItem n) → IsWatch self.new (before ++ entries.BeginsItem n ∷ []) }
     {
         if let Some(context) = self.contexts.get_mut(number) {
             context.items = context.items.saturating_add(1);
@@ -143,7 +143,7 @@ impl Watch {
 
     /// The context of this number has one default more.
     fn count_default(&mut self, number: usize)
-        ensures { (before : List Use) (n : Name) → IsWatch self.old before → IsNumberOf (names_seen self.old) n number → IsSpokenOf before (marks.BeginsDefault n) → IsAllowed before (marks.BeginsDefault n) → IsWatch self.new (before ++ marks.BeginsDefault n ∷ []) }
+        ensures { (before : List Use) (n : Name) → IsWatch self.old before → IsNumberOf (names_seen self.old) n number → IsSpokenOf before (entries.BeginsDefault n) → IsAllowed before (entries.BeginsDefault n) → IsWatch self.new (before ++ entries.BeginsDefault n ∷ []) }
     {
         if let Some(context) = self.contexts.get_mut(number) {
             context.defaults = context.defaults.saturating_add(1);
@@ -152,7 +152,7 @@ impl Watch {
 
     /// There is one rule more into the context of this number.
     fn count_rule(&mut self, number: usize)
-        ensures { (before : List Use) (n : Name) → IsWatch self.old before → IsNumberOf (names_seen self.old) n number → IsAllowed before (marks.NamesTarget n) → IsWatch self.new (before ++ marks.NamesTarget n ∷ []) }
+        ensures { (before : List Use) (n : Name) → IsWatch self.old before → IsNumberOf (names_seen self.old) n number → IsAllowed before (entries.NamesTarget n) → IsWatch self.new (before ++ entries.NamesTarget n ∷ []) }
     {
         if let Some(context) = self.contexts.get_mut(number) {
             context.rules = context.rules.saturating_add(1);
@@ -161,7 +161,7 @@ impl Watch {
 
     /// An atom of the context of this number.
     fn add_atom(&mut self, alloc: Global, number: usize, token: &[u8]) -> Result<(), Memory>
-        ensures { (before : List Use) (n : Name) → IsWatch self.old before → IsNumberOf (names_seen self.old) n number → IsTrue (is_name token.now) → IsSpokenOf before (marks.AtomOf n token.now) → IsAllowed before (marks.AtomOf n token.now) → IfOk result (λ _. IsWatch self.new (before ++ marks.AtomOf n token.now ∷ [])) }
+        ensures { (before : List Use) (n : Name) → IsWatch self.old before → IsNumberOf (names_seen self.old) n number → IsTrue (is_name token.now) → IsSpokenOf before (entries.AtomOf n token.now) → IsAllowed before (entries.AtomOf n token.now) → IfOk result (λ _. IsWatch self.new (before ++ entries.AtomOf n token.now ∷ [])) }
     {
         let Some(context) = self.contexts.get_mut(number) else {
             return Ok(());
@@ -177,7 +177,7 @@ impl Watch {
 
     /// The end of a read of a rule into the context of this number.
     fn record_read(&mut self, alloc: Global, target: usize, read: &NamedRead) -> Result<(), Memory>
-        ensures { (before : List Use) (t : Name) → IsWatch self.old before → IsNumberOf (names_seen self.old) t target → let r = read_of read.now in IsSpokenOf before (marks.EndsRead t r.context r.belief) → IsAllowed before (marks.EndsRead t r.context r.belief) → IfOk result (λ _. IsWatch self.new (before ++ marks.EndsRead t r.context r.belief ∷ [])) }
+        ensures { (before : List Use) (t : Name) → IsWatch self.old before → IsNumberOf (names_seen self.old) t target → let r = read_of read.now in IsSpokenOf before (entries.EndsRead t r.context r.belief) → IsAllowed before (entries.EndsRead t r.context r.belief) → IfOk result (λ _. IsWatch self.new (before ++ entries.EndsRead t r.context r.belief ∷ [])) }
     {
         let number = self.hold(alloc, read)?;
         if let Some(context) = self.contexts.get_mut(target) {

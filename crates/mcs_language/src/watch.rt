@@ -5,7 +5,7 @@ ghost use Rattle.std.specs.List.{AllByRecursion};
 ghost use Rattle.std.specs.Option.{option_copied};
 ghost use Rattle.mcs_base.specs.Listings.{IsAmong};
 ghost use Rattle.mcs_system.specs.Plain.{Name};
-ghost use Rattle.mcs_language.specs.Marks.{Mark, SaysProgram, Use};
+ghost use Rattle.mcs_language.specs.Entries.{Entry, SaysProgram, Use};
 ghost use Rattle.mcs_language.specs.Faults.{begins_default_of, begins_item_of, names_target};
 ghost use Rattle.mcs_language.specs.TextSteps as written;
 ghost use Rattle.mcs_language.specs.TextImages.{About, IsAt, subject_at};
@@ -87,7 +87,7 @@ impl Watch {
         token: &[u8],
         read: Option<&NamedRead>,
     ) -> Result<Option<Fault>, Memory>
-        ensures { (before : List Use) (m : Mark) (a : About) → IsWatch self.old before → m.token ≡ token.now → IsSubject self.old a.subject subject → IsSaid a m uses (option_copied read.entry) → AllByRecursion (IsSpokenOf before) m.uses → IfOk result (λ fault. IsVerdict fault before m self.new) }
+        ensures { (before : List Use) (m : Entry) (a : About) → IsWatch self.old before → m.token ≡ token.now → IsSubject self.old a.subject subject → IsSaid a m uses (option_copied read.entry) → AllByRecursion (IsSpokenOf before) m.uses → IfOk result (λ fault. IsVerdict fault before m self.new) }
     {
         let said = Said {
             subject,

@@ -1,6 +1,6 @@
 use Rattle.std.proofs.Common.{sym, subst}
 use Rattle.mcs_language.specs.Written.{Named}
-use Rattle.mcs_language.specs.Marks.{Mark}
+use Rattle.mcs_language.specs.Entries.{Entry}
 use Rattle.mcs_language.specs.declared.formula.FormulaReader.{FormulaReader}
 use Rattle.mcs_language.specs.declared.formula.Answer as code_answer
 use Rattle.mcs_language.specs.declared.formula.Answer.TheVariants as answers
@@ -23,6 +23,6 @@ returns-in-Ok-TooLong c s w f bridge h =
     let q = long-settled c.args.context f c.args.token.now long.0 long.1 in
     let uses = c.belief_uses-uses.ensures in
     let same : IsReader c.take.new.self f = subst (λ (r : FormulaReader). IsReader r f) (sym long.3) h in
-    let next : Mark × PartFormula = (q.0, settle f.pending (Named c.args.token.now)) in
+    let next : Entry × PartFormula = (q.0, settle f.pending (Named c.args.token.now)) in
     let within : IsWithin c.args.context f c.args.token.now next c.belief_uses-uses.result = record { role = uses.role c.args.context f next h q.1; first = uses.first c.args.context f h; item = uses.apart.0 } in
     read-long w c.args.denied c.args.context s f c.args.token.now next q.1 c.belief_uses-uses.result within c.waits_for_one-ends_read.result (c.waits_for_one-ends_read.ensures f (Named c.args.token.now) same) long.1 long.2

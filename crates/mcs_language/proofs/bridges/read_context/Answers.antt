@@ -1,5 +1,5 @@
 use Rattle.std.proofs.Common.{[], ◌∷◌, refl, ap, subst}
-use Rattle.mcs_language.specs.Marks.{NamesSource}
+use Rattle.mcs_language.specs.Entries.{NamesSource}
 use Rattle.mcs_language.specs.TextSteps.{ReadColon}
 use Rattle.mcs_language.specs.TextImages.{IsWord, no_subject, part_read}
 use Rattle.mcs_language.specs.declared.place.Role.TheVariants as roles

@@ -1,5 +1,5 @@
 use Rattle.std.proofs.Common.{List, [], ◌∷◌, None, refl, ap}
-use Rattle.mcs_language.specs.Marks.{Use, BeginsItem}
+use Rattle.mcs_language.specs.Entries.{Use, BeginsItem}
 use Rattle.mcs_language.specs.FormulaSteps.{no_formula}
 use Rattle.mcs_language.specs.TextSteps.{InFact}
 use Rattle.mcs_language.specs.TextImages.{first}

@@ -6,7 +6,7 @@ use Rattle.mcs_language.specs.TextImages.{of_context}
 use Rattle.mcs_language.proofs.StepLemmas.{goes-step}
 use Rattle.mcs_language.proofs.PlaceLemmas.{on-is, on-not, at-conclusion}
 use Rattle.mcs_language.proofs.items.just_ends.Goals as goal
-use Rattle.mcs_language.proofs.MarkLists.{some-push}
+use Rattle.mcs_language.proofs.EntryLists.{some-push}
 
 pub returns-then-is_sign-2 : goal.returns-then-is_sign-2
 returns-then-is_sign-2 c s w d v same is e =

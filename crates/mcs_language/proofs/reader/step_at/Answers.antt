@@ -1,6 +1,6 @@
 use Rattle.std.proofs.Common.{◌≡◌, Result, Ok, IfOk, sym, subst}
 use Rattle.mcs_base.specs.declared.memory.Memory.{Memory}
-use Rattle.mcs_language.specs.Marks.{Token}
+use Rattle.mcs_language.specs.Entries.{Token}
 use Rattle.mcs_language.specs.TextSteps.{Place, PartText, step_at}
 use Rattle.mcs_language.specs.TextImages.{IsAt, IsStep, subject_at}
 use Rattle.mcs_language.specs.declared.place.Place as code_place

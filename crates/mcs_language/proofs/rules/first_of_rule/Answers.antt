@@ -1,6 +1,6 @@
 use Rattle.std.proofs.Common.{Bool, [], ◌∷◌, None, sym, ap, subst, ◌∙◌}
 use Rattle.std.specs.Prelude.{codes, cond}
-use Rattle.mcs_language.specs.Marks.{BeginsItem}
+use Rattle.mcs_language.specs.Entries.{BeginsItem}
 use Rattle.mcs_language.specs.TextSteps.{AfterHeadName, goes, atom_uses}
 use Rattle.mcs_language.specs.TextImages.{IsWord, about, of_context, uses_in}
 use Rattle.mcs_language.specs.declared.place.Uses as code_uses

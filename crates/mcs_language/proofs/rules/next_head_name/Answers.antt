@@ -1,6 +1,6 @@
 use Rattle.std.proofs.Common.{◌≡◌, ◌+◌, ℕ, [], ◌∷◌, ◌++◌, length, arith, subst, ap}
 use Rattle.std.specs.Prelude.{min}
-use Rattle.mcs_language.specs.Marks.{AtomOf, IsNumber}
+use Rattle.mcs_language.specs.Entries.{AtomOf, IsNumber}
 use Rattle.mcs_language.specs.TextSteps.{AfterHeadName, atom_uses}
 use Rattle.mcs_language.specs.TextImages.{IsWord, most_number, of_context}
 use Rattle.mcs_language.specs.declared.place.Role.TheVariants as roles

@@ -1,10 +1,10 @@
 use Rattle.std.proofs.Common.{◌<◌, List}
 use Rattle.mcs_system.specs.declared.limit.Limit.{Limit}
-use Rattle.mcs_language.specs.Marks.{Use, Mark}
+use Rattle.mcs_language.specs.Entries.{Use, Entry}
 use Rattle.mcs_language.specs.Faults.{row, IsBeyond}
 use Rattle.mcs_language.specs.TextImages.{About}
 use Rattle.mcs_language.specs.Watching.{IsAsked}
 use Rattle.mcs_language.proofs.watch.Watch.fault_of.Given as goal
 
 abbrev pub invariant-loop-limit : goal.invariant-loop-limit
-invariant-loop-limit l = (before : List Use) (m : Mark) (a : About) → IsAsked l.self before m a l.said → (limit : Limit) → row limit < l.limit-index → ¬ IsBeyond limit before m
+invariant-loop-limit l = (before : List Use) (m : Entry) (a : About) → IsAsked l.self before m a l.said → (limit : Limit) → row limit < l.limit-index → ¬ IsBeyond limit before m

@@ -1,7 +1,7 @@
 use Rattle.std.proofs.Common.{◌++◌, List, refl, sym, subst, inl}
 use Rattle.std.proofs.lemmas.List.{append-nil}
 use Rattle.mcs_base.specs.Listings.{IsAmong}
-use Rattle.mcs_language.specs.Marks.{Use, BeginsItem}
+use Rattle.mcs_language.specs.Entries.{Use, BeginsItem}
 use Rattle.mcs_language.specs.Watching.{IsWatch}
 use Rattle.mcs_language.proofs.RecordLemmas.{when-yes, when-no}
 use Rattle.mcs_language.proofs.watch.Watch.record_begin.Goals as goal

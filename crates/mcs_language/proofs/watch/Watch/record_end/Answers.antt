@@ -1,7 +1,7 @@
 use Rattle.std.proofs.Common.{◌++◌, List, [], ◌∷◌, refl, sym, ap, subst, IfOk}
 use Rattle.std.proofs.lemmas.List.{append-nil}
 use Rattle.std.specs.Option.{option_copied}
-use Rattle.mcs_language.specs.Marks.{Use, EndsRead}
+use Rattle.mcs_language.specs.Entries.{Use, EndsRead}
 use Rattle.mcs_language.specs.Faults.{NamedRead}
 use Rattle.mcs_language.specs.Watching.{IsSpokenOf, IsAllowed, IsWatch}
 use Rattle.mcs_language.proofs.LimitLemmas.{spoken-of, in-use}

@@ -3,7 +3,7 @@ use Rattle.std.proofs.lemmas.List.{append-nil, append_assoc}
 use Rattle.std.proofs.lemmas.Result.{IfOk-weaker}
 use Rattle.mcs_language.specs.declared.place.Role.{Role}
 use Rattle.mcs_language.specs.declared.place.Role.TheVariants as roles
-use Rattle.mcs_language.specs.Marks.{BeginsContext, BeginsBridge, NamesContext, NamesBridge, SaysProgram, BeginsDefault, NamesTarget, AtomOf, IsNumber}
+use Rattle.mcs_language.specs.Entries.{BeginsContext, BeginsBridge, NamesContext, NamesBridge, SaysProgram, BeginsDefault, NamesTarget, AtomOf, IsNumber}
 use Rattle.mcs_language.specs.TextImages.{role_uses}
 use Rattle.mcs_language.specs.Watching.{IsNaming, AreFree, IsWatch}
 use Rattle.mcs_language.proofs.PlainSteps.{more-context, more-bridge, step-begins_context, step-begins_bridge, step-names_source, step-number, step-opens}
