@@ -13,23 +13,23 @@ use Rattle.mcs_system.specs.declared.knowledge.Context as code_context
 use Rattle.mcs_system.specs.declared.bridge.Bridge as code_bridge
 use Rattle.mcs_tokens.specs.Tokens.{AreTokens}
 use Rattle.mcs_tokens.specs.declared.scan.Span.{Span}
-use Rattle.mcs_language.specs.declared.reader.Parts.{Parts}
+use Rattle.mcs_reader.specs.declared.reader.Parts.{Parts}
 use Rattle.mcs_language.specs.declared.reading.Reading.{Reading}
-use Rattle.mcs_language.specs.Written.{WrittenRead, WrittenContext, WrittenBridge, WrittenText, IsText}
-use Rattle.mcs_language.specs.Entries.{Use, NamesContext, Entry, text_entries, tokens_of, uses_of}
-use Rattle.mcs_language.specs.Saying.{context_in, names_of, Each, SaysBridge, SaysSystem}
-use Rattle.mcs_language.specs.Texts.{token_texts, Spells}
-use Rattle.mcs_language.specs.TextSteps.{Place, Between, finished_text}
-use Rattle.mcs_language.specs.TextImages.{AreBridges}
-use Rattle.mcs_language.specs.Watching.{context_named, contexts_named}
-use Rattle.mcs_language.specs.Known.{WasNamed, SpeaksOfNamed}
-use Rattle.mcs_language.specs.Ends.{AreParts, context_names, AreKnown}
+use Rattle.mcs_grammar.specs.Written.{WrittenRead, WrittenContext, WrittenBridge, WrittenText, IsText}
+use Rattle.mcs_grammar.specs.Entries.{Use, NamesContext, Entry, text_entries, tokens_of, uses_of}
+use Rattle.mcs_grammar.specs.Saying.{context_in, names_of, Each, SaysBridge, SaysSystem}
+use Rattle.mcs_grammar.specs.Texts.{token_texts, Spells}
+use Rattle.mcs_reader.specs.TextSteps.{Place, Between, finished_text}
+use Rattle.mcs_reader.specs.TextImages.{AreBridges}
+use Rattle.mcs_faults.specs.Watching.{context_named, contexts_named}
+use Rattle.mcs_reader.specs.Known.{WasNamed, SpeaksOfNamed}
+use Rattle.mcs_reader.specs.Ends.{AreParts, context_names, AreKnown}
 use Rattle.mcs_language.specs.Progress.{IsUpTo}
-use Rattle.mcs_language.proofs.FaultTheory.{is-whole, free-whole}
-use Rattle.mcs_language.proofs.Within.{IsWithin, NoFaults}
-use Rattle.mcs_language.proofs.UsesCounts.{context-count, names-there}
-use Rattle.mcs_language.proofs.ValidTexts.{valid-text}
-use Rattle.mcs_language.proofs.WatchWithin.{within}
+use Rattle.mcs_reader.proofs.FaultTheory.{is-whole, free-whole}
+use Rattle.mcs_faults.proofs.Within.{IsWithin, NoFaults}
+use Rattle.mcs_faults.proofs.UsesCounts.{context-count, names-there}
+use Rattle.mcs_faults.proofs.ValidTexts.{valid-text}
+use Rattle.mcs_faults.proofs.WatchWithin.{within}
 use Rattle.mcs_language.proofs.ProgressLemmas.{reached}
 use Rattle.mcs_language.proofs.ToldLemmas.{tokens-many}
 

@@ -6,24 +6,24 @@ use Rattle.std.proofs.Math.ListN.{get_or-append}
 use Rattle.std.proofs.Math.Nat.{eq-or-lt_of_le}
 use Rattle.std.proofs.lemmas.Option.{slice_get_within, get_or_from_slice_get, slice_get-get_or, none-some}
 use Rattle.std.proofs.lemmas.List.{take-append-le}
-use Rattle.mcs_language.specs.declared.fault.Fault as code_fault
+use Rattle.mcs_faults.specs.declared.fault.Fault as code_fault
 use Rattle.mcs_language.specs.declared.reading.Reading.{Reading}
-use Rattle.mcs_language.specs.declared.reader.Reader.{Reader}
-use Rattle.mcs_language.specs.declared.watch.Watch.{Watch}
-use Rattle.mcs_language.specs.Entries.{Token, Use, Entry, uses_of}
-use Rattle.mcs_language.specs.Faults.{Fault, NoGrammar, Exceeds, Has, IsFirstFault}
+use Rattle.mcs_reader.specs.declared.reader.Reader.{Reader}
+use Rattle.mcs_faults.specs.declared.watch.Watch.{Watch}
+use Rattle.mcs_grammar.specs.Entries.{Token, Use, Entry, uses_of}
+use Rattle.mcs_grammar.specs.Faults.{Fault, NoGrammar, Exceeds, Has, IsFirstFault}
 use Rattle.mcs_system.specs.declared.limit.Limit.TheVariants.{NameBytes}
-use Rattle.mcs_language.specs.TextSteps.{PartText, nothing_written, text_step}
-use Rattle.mcs_language.specs.TextImages.{IsTextReader, IsStopped}
-use Rattle.mcs_language.specs.Watching.{IsWatch, IsVerdict, fault_of}
-use Rattle.mcs_language.specs.Known.{AreKnownIn}
+use Rattle.mcs_reader.specs.TextSteps.{PartText, nothing_written, text_step}
+use Rattle.mcs_reader.specs.TextImages.{IsTextReader, IsStopped}
+use Rattle.mcs_faults.specs.Watching.{IsWatch, IsVerdict, fault_of}
+use Rattle.mcs_reader.specs.Known.{AreKnownIn}
 use Rattle.mcs_language.specs.Progress.{IsUpTo, IsNextRead}
-use Rattle.mcs_language.proofs.FaultTheory.{Reached, reached-more, first-untaken, first-entered, free-none, free-more}
-use Rattle.mcs_language.proofs.EntryLists.{uses-append}
-use Rattle.mcs_language.proofs.KnownLemmas.{known-step}
-use Rattle.mcs_language.proofs.StepUses.{text-shows}
-use Rattle.mcs_language.proofs.ShortAtoms.{AreFaultless}
-use Rattle.mcs_language.specs.Written.{IsNameWord}
+use Rattle.mcs_reader.proofs.FaultTheory.{Reached, reached-more, first-untaken, first-entered, free-none, free-more}
+use Rattle.mcs_reader.proofs.EntryLists.{uses-append}
+use Rattle.mcs_faults.proofs.KnownLemmas.{known-step}
+use Rattle.mcs_reader.proofs.StepUses.{text-shows}
+use Rattle.mcs_reader.proofs.ShortAtoms.{AreFaultless}
+use Rattle.mcs_grammar.specs.Written.{IsNameWord}
 use Rattle.mcs_base.specs.Words.{most_name_bytes}
 
 abbrev pub reading_of : Reader → Watch → Reading

@@ -5,20 +5,20 @@ use Rattle.std.specs.List.{AllByRecursion}
 use Rattle.std.specs.Option.{option_copied}
 use Rattle.std.proofs.lemmas.Result.{IfOk-weaker}
 use Rattle.mcs_base.specs.declared.memory.Memory.{Memory}
-use Rattle.mcs_language.specs.declared.fault.Fault as code_fault
+use Rattle.mcs_faults.specs.declared.fault.Fault as code_fault
 use Rattle.mcs_language.specs.declared.reading.Reading.{Reading}
-use Rattle.mcs_language.specs.declared.reader.Reader.{Reader}
-use Rattle.mcs_language.specs.declared.place.NamedRead as code_read
-use Rattle.mcs_language.specs.declared.place.Uses as code_uses
-use Rattle.mcs_language.specs.declared.watch.Watch.{Watch}
-use Rattle.mcs_language.specs.declared.watch.Subject as code_subject
-use Rattle.mcs_language.specs.Entries.{Token, Use, Entry, uses_of}
-use Rattle.mcs_language.specs.TextImages.{IsTaken, About, about, subject_at, last_read}
-use Rattle.mcs_language.specs.Watching.{IsWatch, IsSubject, IsSaid, IsSpokenOf, IsVerdict}
+use Rattle.mcs_reader.specs.declared.reader.Reader.{Reader}
+use Rattle.mcs_reader.specs.declared.place.NamedRead as code_read
+use Rattle.mcs_reader.specs.declared.place.Uses as code_uses
+use Rattle.mcs_faults.specs.declared.watch.Watch.{Watch}
+use Rattle.mcs_faults.specs.declared.watch.Subject as code_subject
+use Rattle.mcs_grammar.specs.Entries.{Token, Use, Entry, uses_of}
+use Rattle.mcs_reader.specs.TextImages.{IsTaken, About, about, subject_at, last_read}
+use Rattle.mcs_faults.specs.Watching.{IsWatch, IsSubject, IsSaid, IsSpokenOf, IsVerdict}
 use Rattle.mcs_language.specs.Progress.{IsUpTo, IsNextRead}
-use Rattle.mcs_language.proofs.KnownLemmas.{spoken-step}
-use Rattle.mcs_language.proofs.StepUses.{text-shows}
-use Rattle.mcs_language.proofs.SaidLemmas.{is-said}
+use Rattle.mcs_faults.proofs.KnownLemmas.{spoken-step}
+use Rattle.mcs_reader.proofs.StepUses.{text-shows}
+use Rattle.mcs_faults.proofs.SaidLemmas.{is-said}
 use Rattle.mcs_language.proofs.ProgressLemmas.{reading_of, next-read}
 
 pub copied-last : (o : Option (Bor code_read.NamedRead)) (x : Option code_read.NamedRead) → MatchOption o (x ≡ None) (λ r. x ≡ Some r.now) → option_copied o ≡ x

@@ -6,17 +6,17 @@ use Rattle.std.proofs.lemmas.Option.{slice_get-get_or, slice_get_past}
 use Rattle.mcs_base.proofs.Lists.{slice_get-map_at}
 use Rattle.mcs_tokens.specs.Tokens.{AreTokens}
 use Rattle.mcs_tokens.specs.declared.scan.Span.{Span}
-use Rattle.mcs_language.specs.declared.fault.Fault as code_fault
-use Rattle.mcs_language.specs.declared.fault.TextFault as code_text
-use Rattle.mcs_language.specs.declared.fault.TextFault.TheVariants as texts
+use Rattle.mcs_faults.specs.declared.fault.Fault as code_fault
+use Rattle.mcs_faults.specs.declared.fault.TextFault as code_text
+use Rattle.mcs_faults.specs.declared.fault.TextFault.TheVariants as texts
 use Rattle.mcs_language.specs.declared.reading.Reading.{Reading}
-use Rattle.mcs_language.specs.Entries.{Token}
-use Rattle.mcs_language.specs.Faults.{NoGrammar, IsFirstFault, number_of, limit_of}
-use Rattle.mcs_language.specs.Texts.{token_texts, offset_of, HasFault}
-use Rattle.mcs_language.specs.TextSteps.{finished_text}
-use Rattle.mcs_language.specs.Watching.{fault_of}
+use Rattle.mcs_grammar.specs.Entries.{Token}
+use Rattle.mcs_grammar.specs.Faults.{NoGrammar, IsFirstFault, number_of, limit_of}
+use Rattle.mcs_grammar.specs.Texts.{token_texts, offset_of, HasFault}
+use Rattle.mcs_reader.specs.TextSteps.{finished_text}
+use Rattle.mcs_faults.specs.Watching.{fault_of}
 use Rattle.mcs_language.specs.Progress.{IsUpTo, IsToldOf}
-use Rattle.mcs_language.proofs.FaultTheory.{first-end}
+use Rattle.mcs_reader.proofs.FaultTheory.{first-end}
 use Rattle.mcs_language.proofs.ProgressLemmas.{reached}
 
 -- ---- where a token stands

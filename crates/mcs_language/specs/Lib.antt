@@ -1,14 +1,1 @@
-pub mod Written
-pub mod Entries
-pub mod Saying
-pub mod Faults
-pub mod Texts
-pub mod FormulaSteps
-pub mod FormulaImages
-pub mod TextSteps
-pub mod TextImages
-pub mod Watching
 pub mod Progress
-pub mod Ends
-pub mod Known
-pub mod Canonical

@@ -2,17 +2,17 @@
 use Rattle.std.specs.Prelude.{◌≡◌, ℕ, ◌+◌, ◌<◌, ◌≤◌, List, take, length, Option, Some, None, slice_get}
 use Rattle.mcs_tokens.specs.Tokens.{AreTokens}
 use Rattle.mcs_tokens.specs.declared.scan.Span.{Span}
-use Rattle.mcs_language.specs.declared.fault.Fault as code_fault
-use Rattle.mcs_language.specs.declared.fault.TextFault as code_text
-use Rattle.mcs_language.specs.declared.fault.TextFault.TheVariants as texts
+use Rattle.mcs_faults.specs.declared.fault.Fault as code_fault
+use Rattle.mcs_faults.specs.declared.fault.TextFault as code_text
+use Rattle.mcs_faults.specs.declared.fault.TextFault.TheVariants as texts
 use Rattle.mcs_language.specs.declared.reading.Reading.{Reading}
-use Rattle.mcs_language.specs.Entries.{Token, Entry, uses_of}
-use Rattle.mcs_language.specs.Faults.{Fault, Has, IsFaultAt, IsFirstFault}
-use Rattle.mcs_language.specs.Texts.{token_texts, HasFault}
-use Rattle.mcs_language.specs.TextSteps.{PartText, nothing_written, text_steps}
-use Rattle.mcs_language.specs.TextImages.{IsTextReader}
-use Rattle.mcs_language.specs.Watching.{IsWatch, fault_of}
-use Rattle.mcs_language.specs.Known.{AreKnownIn}
+use Rattle.mcs_grammar.specs.Entries.{Token, Entry, uses_of}
+use Rattle.mcs_grammar.specs.Faults.{Fault, Has, IsFaultAt, IsFirstFault}
+use Rattle.mcs_grammar.specs.Texts.{token_texts, HasFault}
+use Rattle.mcs_reader.specs.TextSteps.{PartText, nothing_written, text_steps}
+use Rattle.mcs_reader.specs.TextImages.{IsTextReader}
+use Rattle.mcs_faults.specs.Watching.{IsWatch, fault_of}
+use Rattle.mcs_reader.specs.Known.{AreKnownIn}
 
 -- the first k tokens were read
 pub record IsUpTo (reading : Reading) (ts : List Token) (k : ℕ) : Type 0 where

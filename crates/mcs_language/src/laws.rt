@@ -1,6 +1,6 @@
 //! Laws over the definitions of texts. The functions do nothing: each contract is a law.
 
-ghost use Rattle.mcs_language.specs.Texts.{SpelledTextsHaveNoFault, TextsAreUnambiguous, TextsHaveOneFault};
+ghost use Rattle.mcs_grammar.specs.Texts.{SpelledTextsHaveNoFault, TextsAreUnambiguous, TextsHaveOneFault};
 
 /// A text spells one system at most.
 pub fn texts_are_unambiguous()

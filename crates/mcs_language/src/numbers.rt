@@ -6,13 +6,13 @@ ghost use Rattle.mcs_base.specs.Listings.{IsAmong};
 ghost use Rattle.mcs_system.specs.Logic.{same_name};
 ghost use Rattle.mcs_system.specs.Seen as seen;
 ghost use Rattle.mcs_system.specs.Seen.{bridge_of};
-ghost use Rattle.mcs_language.specs.Written.{WrittenBridge};
-ghost use Rattle.mcs_language.specs.Saying.{Each, SaysBridge};
-ghost use Rattle.mcs_language.specs.TextImages.{AreBridges, IsBridge, read_of};
-ghost use Rattle.mcs_language.specs.Ends.{AreKnown, AreNamed, IsNamed, SaysRead, context_names};
+ghost use Rattle.mcs_grammar.specs.Written.{WrittenBridge};
+ghost use Rattle.mcs_grammar.specs.Saying.{Each, SaysBridge};
+ghost use Rattle.mcs_reader.specs.TextImages.{AreBridges, IsBridge, read_of};
+ghost use Rattle.mcs_reader.specs.Ends.{AreKnown, AreNamed, IsNamed, SaysRead, context_names};
 
-use crate::place::{NamedBridge, NamedRead};
 use mcs_base::Memory;
+use mcs_reader::{NamedBridge, NamedRead};
 use mcs_system::{Bridge, Context, Name, Read};
 use std::alloc::Global;
 

@@ -4,16 +4,15 @@ ghost use Rattle.std.specs.Prelude.{◌≡◌, ℕ, List, Some, length, slice_ge
 ghost use Rattle.mcs_system.specs.Faults.{IsValid};
 ghost use Rattle.mcs_system.specs.Seen.{system_of};
 ghost use Rattle.mcs_tokens.specs.Tokens.{AreTokens, IsSpanOf};
-ghost use Rattle.mcs_language.specs.Entries.{Token};
+ghost use Rattle.mcs_grammar.specs.Entries.{Token};
 ghost use Rattle.mcs_language.specs.Progress.{IsNextRead, IsReadOf, IsToldOf, IsUpTo};
-ghost use Rattle.mcs_language.specs.Texts.{Spells, token_texts};
-ghost use Rattle.mcs_language.specs.declared.fault.TextFault.TheVariants as texts;
+ghost use Rattle.mcs_grammar.specs.Texts.{Spells, token_texts};
+ghost use Rattle.mcs_faults.specs.declared.fault.TextFault.TheVariants as texts;
 
-use crate::fault::{Fault, TextFault};
 use crate::numbers::numbered;
-use crate::reader::{Parts, Reader};
-use crate::watch::Watch;
 use mcs_base::Memory;
+use mcs_faults::{Fault, TextFault, Watch};
+use mcs_reader::{Parts, Reader};
 use mcs_system::{Bridge, BuildFault, Context, System};
 use mcs_tokens::{Span, token_list};
 use std::alloc::Global;

@@ -1,8 +1,8 @@
 -- A job that can be done is refused for nothing, and lacks no file.
 use Rattle.std.proofs.Common.{◌≡◌, ℕ, List, [], ◌∷◌, None, subst}
 use Rattle.mcs_system.specs.Plain.{System}
-use Rattle.mcs_language.proofs.Unambiguous.{texts-unambiguous}
-use Rattle.mcs_language.proofs.OneFault.{no-fault}
+use Rattle.mcs_reader.proofs.Unambiguous.{texts-unambiguous}
+use Rattle.mcs_grammar.proofs.OneFault.{no-fault}
 use Rattle.mcs_words.specs.Commands.{Request, equilibria}
 use Rattle.mcs_top.specs.Jobs.{File, OfOneFile}
 use Rattle.mcs_top.specs.Admitted.{AreClassical, HasFewVariables, IsTextOf, IsRefusedFor}

@@ -5,7 +5,7 @@ use Rattle.mcs_system.specs.Plain.{Context, System}
 use Rattle.mcs_system.specs.Logic.{IsClassical}
 use Rattle.mcs_system.specs.Systems.{variables}
 use Rattle.mcs_system.specs.Faults.{IsValid}
-use Rattle.mcs_language.specs.Texts.{Spells, HasFault}
+use Rattle.mcs_grammar.specs.Texts.{Spells, HasFault}
 use Rattle.mcs_top.specs.Jobs.{File, OfOneFile}
 use Rattle.mcs_top.specs.declared.ending.Refusal.{Refusal}
 use Rattle.mcs_top.specs.declared.ending.Refusal.TheVariants as refusals

@@ -6,8 +6,8 @@ use Rattle.mcs_text.specs.declared.unwritten.Unwritten.{Unwritten}
 use Rattle.mcs_text.specs.declared.unwritten.Unwritten.TheVariants as unwritten
 use Rattle.mcs_system.specs.declared.limit.Limit.{Limit}
 use Rattle.mcs_system.specs.Limits.{limit_words}
-use Rattle.mcs_language.specs.declared.fault.TextFault.{TextFault}
-use Rattle.mcs_language.specs.declared.fault.TextFault.TheVariants as texts
+use Rattle.mcs_faults.specs.declared.fault.TextFault.{TextFault}
+use Rattle.mcs_faults.specs.declared.fault.TextFault.TheVariants as texts
 use Rattle.mcs_words.specs.declared.job.WordsFault.{WordsFault}
 use Rattle.mcs_words.specs.declared.job.WordsFault.TheVariants as words
 use Rattle.mcs_top.specs.declared.ending.Refusal.{Refusal}

@@ -1,4 +1,4 @@
-use Rattle.mcs_language.proofs.OneFault.{no-fault}
+use Rattle.mcs_grammar.proofs.OneFault.{no-fault}
 use Rattle.mcs_language.proofs.laws.spelled_texts_have_no_fault.Goals as goal
 
 pub returns : goal.returns

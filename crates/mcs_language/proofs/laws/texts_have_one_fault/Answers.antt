@@ -1,4 +1,4 @@
-use Rattle.mcs_language.proofs.OneFault.{one-fault}
+use Rattle.mcs_grammar.proofs.OneFault.{one-fault}
 use Rattle.mcs_language.proofs.laws.texts_have_one_fault.Goals as goal
 
 pub returns : goal.returns

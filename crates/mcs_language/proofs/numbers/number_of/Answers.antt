@@ -3,7 +3,7 @@ use Rattle.std.proofs.lemmas.Iterator.{YieldsList-from_slice}
 use Rattle.std.proofs.lemmas.Iterator.Search.{position_from_yields_List}
 use Rattle.mcs_system.specs.Logic.{same_name}
 use Rattle.mcs_system.specs.declared.knowledge.Context as code_context
-use Rattle.mcs_language.proofs.BridgeNumbers.{position-names}
+use Rattle.mcs_reader.proofs.BridgeNumbers.{position-names}
 use Rattle.mcs_language.proofs.numbers.number_of.Goals as goal
 
 pub returns-in_err-place : goal.returns-in_err-place

@@ -4,10 +4,10 @@ use Rattle.std.proofs.lemmas.List.{map-append, map-id}
 use Rattle.std.proofs.lemmas.Iterator.Adapters.{YieldsList-from_vec}
 use Rattle.std.proofs.lemmas.Iterator.Consumers.{YieldsList-end}
 use Rattle.mcs_system.specs.Seen.{bridge_of}
-use Rattle.mcs_language.specs.Saying.{Each}
-use Rattle.mcs_language.specs.Ends.{IsNamed, context_names}
-use Rattle.mcs_language.specs.declared.place.NamedBridge as code_bridge
-use Rattle.mcs_language.proofs.BridgeNumbers.{SaysNamed, each-more, each-bridge, named-bridges}
+use Rattle.mcs_grammar.specs.Saying.{Each}
+use Rattle.mcs_reader.specs.Ends.{IsNamed, context_names}
+use Rattle.mcs_reader.specs.declared.place.NamedBridge as code_bridge
+use Rattle.mcs_reader.proofs.BridgeNumbers.{SaysNamed, each-more, each-bridge, named-bridges}
 use Rattle.mcs_language.proofs.numbers.numbered.Goals as goal
 
 pub loop-bridge-init : goal.loop-bridge-init

@@ -3,10 +3,10 @@ use Rattle.std.specs.List.{position}
 use Rattle.mcs_system.specs.Plain.{Name}
 use Rattle.mcs_system.specs.Logic.{same_name}
 use Rattle.mcs_system.specs.Seen as seen
-use Rattle.mcs_language.specs.Saying.{Each, positive_places, negative_places}
-use Rattle.mcs_language.specs.Faults.{NamedRead}
-use Rattle.mcs_language.specs.Ends.{SaysRead, context_names}
-use Rattle.mcs_language.proofs.BridgeNumbers.{is-found, each-place}
+use Rattle.mcs_grammar.specs.Saying.{Each, positive_places, negative_places}
+use Rattle.mcs_grammar.specs.Faults.{NamedRead}
+use Rattle.mcs_reader.specs.Ends.{SaysRead, context_names}
+use Rattle.mcs_reader.proofs.BridgeNumbers.{is-found, each-place}
 use Rattle.mcs_language.proofs.numbers.numbered_bridge.Goals as goal
 
 pub unreachable-requires : goal.unreachable-requires

@@ -1,6 +1,6 @@
 use Rattle.std.proofs.Common.{sym, ◌∙◌}
-use Rattle.mcs_language.specs.Ends.{context_names}
-use Rattle.mcs_language.proofs.BridgeNumbers.{is-found}
+use Rattle.mcs_reader.specs.Ends.{context_names}
+use Rattle.mcs_reader.proofs.BridgeNumbers.{is-found}
 use Rattle.mcs_language.proofs.numbers.numbered_read.Goals as goal
 
 pub unreachable-requires : goal.unreachable-requires

@@ -1,9 +1,9 @@
 use Rattle.std.proofs.Common.{◌≡◌, [], ◌∷◌, ◌++◌, map, ap, subst, ◌∙◌}
 use Rattle.std.proofs.lemmas.List.{map-append}
 use Rattle.mcs_system.specs.Seen as seen
-use Rattle.mcs_language.specs.TextImages.{read_of}
-use Rattle.mcs_language.specs.Ends.{AreNamed, SaysRead, context_names}
-use Rattle.mcs_language.proofs.BridgeNumbers.{each-more}
+use Rattle.mcs_reader.specs.TextImages.{read_of}
+use Rattle.mcs_reader.specs.Ends.{AreNamed, SaysRead, context_names}
+use Rattle.mcs_reader.proofs.BridgeNumbers.{each-more}
 use Rattle.mcs_language.proofs.numbers.numbered_reads.Goals as goal
 
 pub loop-read-preserved : goal.loop-read-preserved

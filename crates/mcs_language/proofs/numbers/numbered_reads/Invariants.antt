@@ -1,9 +1,9 @@
 use Rattle.std.proofs.Common.{map}
 use Rattle.std.specs.Vec.Iter.{into_iter_items}
 use Rattle.mcs_system.specs.Seen as seen
-use Rattle.mcs_language.specs.Saying.{Each}
-use Rattle.mcs_language.specs.TextImages.{read_of}
-use Rattle.mcs_language.specs.Ends.{AreNamed, SaysRead, context_names}
+use Rattle.mcs_grammar.specs.Saying.{Each}
+use Rattle.mcs_reader.specs.TextImages.{read_of}
+use Rattle.mcs_reader.specs.Ends.{AreNamed, SaysRead, context_names}
 use Rattle.mcs_language.proofs.numbers.numbered_reads.Given as goal
 
 abbrev pub invariant-loop-read : goal.invariant-loop-read

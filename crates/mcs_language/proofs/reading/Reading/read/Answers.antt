@@ -1,7 +1,7 @@
 use Rattle.std.proofs.Common.{◌≡◌, length, Option, subst, arith}
-use Rattle.mcs_language.specs.declared.fault.Fault as code_fault
+use Rattle.mcs_faults.specs.declared.fault.Fault as code_fault
 use Rattle.mcs_language.specs.Progress.{IsNextRead, IsUpTo}
-use Rattle.mcs_language.specs.Texts.{token_texts}
+use Rattle.mcs_grammar.specs.Texts.{token_texts}
 use Rattle.mcs_language.proofs.ToldLemmas.{token-at, told-at}
 use Rattle.mcs_language.proofs.reading.Reading.read.Goals as goal
 

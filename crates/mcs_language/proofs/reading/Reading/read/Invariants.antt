@@ -1,5 +1,5 @@
 use Rattle.mcs_language.specs.Progress.{IsUpTo}
-use Rattle.mcs_language.specs.Texts.{token_texts}
+use Rattle.mcs_grammar.specs.Texts.{token_texts}
 use Rattle.mcs_language.proofs.reading.Reading.read.Given as goal
 
 abbrev pub invariant-loop-span : goal.invariant-loop-span

@@ -3,11 +3,11 @@ use Rattle.std.proofs.lemmas.Result.{IfOk-weaker}
 use Rattle.mcs_system.specs.Plain as plain
 use Rattle.mcs_system.specs.Seen.{bridge_of, system_of}
 use Rattle.mcs_system.specs.declared.knowledge.Context as code_context
-use Rattle.mcs_language.specs.declared.reader.Parts.{Parts}
-use Rattle.mcs_language.specs.Ends.{AreParts, AreKnown, context_names}
-use Rattle.mcs_language.specs.Saying.{Each, SaysBridge}
-use Rattle.mcs_language.specs.TextSteps.{finished_text}
-use Rattle.mcs_language.specs.Texts.{Spells}
+use Rattle.mcs_reader.specs.declared.reader.Parts.{Parts}
+use Rattle.mcs_reader.specs.Ends.{AreParts, AreKnown, context_names}
+use Rattle.mcs_grammar.specs.Saying.{Each, SaysBridge}
+use Rattle.mcs_reader.specs.TextSteps.{finished_text}
+use Rattle.mcs_grammar.specs.Texts.{Spells}
 use Rattle.mcs_language.proofs.ToldLemmas.{told-end}
 use Rattle.mcs_language.proofs.EndLemmas.{hands-out, hands-nothing, few-contexts, all-known, says-system, is-valid, spells-system}
 use Rattle.mcs_language.proofs.reading.Reading.system.Goals as goal

@@ -1,6 +1,6 @@
 use Rattle.std.proofs.Common.{Option, subst}
-use Rattle.mcs_language.specs.declared.place.Uses as code_uses
-use Rattle.mcs_language.specs.TextImages.{IsTaken, last_read}
+use Rattle.mcs_reader.specs.declared.place.Uses as code_uses
+use Rattle.mcs_reader.specs.TextImages.{IsTaken, last_read}
 use Rattle.mcs_language.proofs.ProgressLemmas.{next-untaken}
 use Rattle.mcs_language.proofs.TakenLemmas.{copied-last, taken-next}
 use Rattle.mcs_language.proofs.reading.Reading.take.Goals as goal

@@ -1,0 +1,10 @@
+use Rattle.std.proofs.Common.{sym}
+use Rattle.mcs_base.proofs.Lists.{slice_get_read_as, slice_get_past_as}
+use Rattle.mcs_faults.proofs.WatchFacts.{defaults-here, seen-none, no-defaults}
+use Rattle.mcs_faults.proofs.watch.Watch.defaults_of.Goals as goal
+
+pub returns-in-Some : goal.returns-in-Some
+returns-in-Some c = λ before n watch number. defaults-here c.args.self.now before watch n c.args.number number c.in-Some.context.now (slice_get_read_as c.args.self.now.contexts.items c.deref.result.now c.args.number c.in-Some.context.now c.deref.ensures.value c.in-Some.ensures.lookup.3.0 c.in-Some.ensures.lookup.1)
+
+pub returns-in-None : goal.returns-in-None
+returns-in-None c = λ before n watch number. sym (no-defaults c.args.self.now before watch n (seen-none c.args.self.now before watch n c.args.number number (slice_get_past_as c.args.self.now.contexts.items c.deref.result.now c.args.number c.deref.ensures.value c.in-None.ensures.lookup.3)))

@@ -1,0 +1,13 @@
+use Rattle.std.proofs.Common.{refl}
+use Rattle.mcs_base.proofs.Lists.{slice_get_read_as, slice_get_past_as}
+use Rattle.mcs_faults.proofs.ContextSteps.{step-says_program}
+use Rattle.mcs_faults.proofs.WatchFacts.{seen-none}
+use Rattle.mcs_faults.proofs.watch.Watch.say_program.Goals as goal
+
+pub returns-in-Some : goal.returns-in-Some
+returns-in-Some c = λ before n watch number spoken.
+    let here = slice_get_read_as c.args.self.now.contexts.items c.args.self.now.contexts.items c.args.number c.in-Some.context.now refl c.in-Some.ensures.item.3.0 c.in-Some.ensures.value in
+    step-says_program c.args.self.now before watch n c.args.number number c.in-Some.context.now here _ refl refl refl refl spoken _ refl refl
+
+pub returns-in_default : goal.returns-in_default
+returns-in_default c = λ before n watch number spoken. absurd (seen-none c.args.self.now before watch n c.args.number number (slice_get_past_as c.args.self.now.contexts.items c.args.self.now.contexts.items c.args.number refl c.in_default.ensures.item.3) spoken)

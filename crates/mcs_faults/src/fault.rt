@@ -1,0 +1,65 @@
+//! Why a text spells no system.
+
+ghost use Rattle.std.specs.Prelude.{◌≡◌};
+ghost use Rattle.mcs_grammar.specs.Faults.{limit_of, number_of};
+ghost use Rattle.mcs_faults.specs.Watching.{fault_of};
+ghost use Rattle.mcs_faults.specs.declared.fault.TextFault.TheVariants as texts;
+
+use mcs_system::Limit;
+
+/// The first fault of a text, and the offset of the token at which it stands. The numbers are: 1, the tokens
+/// up to this one begin no text; 2, no context has the name; 3, an earlier context, or an earlier rule, has
+/// the name; 4, a head into a program, or a belief of one, is not an atom; 5, the limit is exceeded. `limit`
+/// is there exactly for number 5.
+#[derive(Clone, Copy, Debug, PartialEq, Eq)]
+pub enum TextFault {
+    Fault {
+        number: u8,
+        offset: usize,
+        limit: Option<Limit>,
+    },
+    Memory,
+}
+
+/// What is wrong with one token.
+#[derive(Clone, Copy, Debug, PartialEq, Eq)]
+pub enum Fault {
+    /// The tokens up to this one begin no text.
+    NoGrammar,
+    /// No context has the name.
+    NoContext,
+    /// An earlier context, or an earlier rule, has the name.
+    Twin,
+    /// A head into a program, or a belief of one, is not an atom.
+    NoAtom,
+    /// One above the limit.
+    Exceeds(Limit),
+}
+
+impl Fault {
+    /// The fault of a token that begins at the offset.
+    pub fn at(self, offset: usize) -> TextFault
+        ensures { result ≡ texts.Fault (number_of (fault_of self)) offset (limit_of (fault_of self)) }
+    {
+        let (number, limit) = match self {
+            Fault::NoGrammar => (1, None),
+            Fault::NoContext => (2, None),
+            Fault::Twin => (3, None),
+            Fault::NoAtom => (4, None),
+            Fault::Exceeds(limit) => (5, Some(limit)),
+        };
+        TextFault::Fault {
+            number,
+            offset,
+            limit,
+        }
+    }
+}
+
+impl From<mcs_base::Memory> for TextFault {
+    ghost from_gives = { λ _ e. e ≡ texts.Memory };
+
+    fn from(_want: mcs_base::Memory) -> TextFault {
+        TextFault::Memory
+    }
+}

@@ -1,0 +1,266 @@
+//! Which faults the next token of a text has.
+
+ghost use Rattle.std.specs.Prelude.{◌≡◌, ◌<◌, ◌↔◌, List, Some, None, IsTrue, length, map};
+ghost use Rattle.std.specs.Option.{option_copied};
+ghost use Rattle.mcs_base.specs.Listings.{IsAmong};
+ghost use Rattle.mcs_sets.specs.Sets.{has};
+ghost use Rattle.mcs_grammar.specs.Entries.{Entry, Use};
+ghost use Rattle.mcs_grammar.specs.Faults as faults;
+ghost use Rattle.mcs_grammar.specs.Faults.{Has, IsBeyond};
+ghost use Rattle.mcs_reader.specs.TextImages.{About, read_of};
+ghost use Rattle.mcs_faults.specs.Watching.{IsAsked, IsNumberOf, IsTold, Tells};
+ghost use Rattle.mcs_reader.specs.declared.place.NamedRead as code_read;
+
+use crate::fault::Fault;
+use crate::watch::{Said, Watch};
+use mcs_base::Vars;
+use mcs_reader::{NamedRead, Role, is_name_word};
+use mcs_system::{Limit, Name, same_formula};
+
+/// The limits, the lowest first.
+const LIMITS: [Limit; 11] = [
+    Limit::Contexts,
+    Limit::Bridges,
+    Limit::RulesPerContext,
+    Limit::Variables,
+    Limit::InputsPerContext,
+    Limit::AtomsPerContext,
+    Limit::DefaultsPerContext,
+    Limit::ItemsPerContext,
+    Limit::FormulaSize,
+    Limit::OpenParentheses,
+    Limit::NameBytes,
+];
+
+/// Whether the name is one of these.
+pub(crate) fn is_one_of(names: &[Name], name: &[u8]) -> bool
+    ensures { IsTrue result ↔ IsAmong name.now names.now }
+{
+    for other in names {
+        if other.bytes() == name {
+            return true;
+        }
+    }
+    false
+}
+
+/// Whether both read the same belief of the same context.
+fn same_read(read: &NamedRead, other: &NamedRead) -> bool
+    ensures { IsTrue result ↔ (read_of read.now ≡ read_of other.now) }
+{
+    read.context.is(&other.context) && same_formula(&read.belief, &other.belief)
+}
+
+/// Whether the number, however high, is in the set.
+pub(crate) fn is_input(inputs: Vars, number: usize) -> bool
+    ensures { IsTrue result ↔ ((number < 64) × IsTrue (has inputs number)) }
+{
+    number < Limit::Variables.most() && inputs.has(number as u32)
+}
+
+impl Watch {
+    /// The lowest fault of the token.
+    pub(crate) fn fault_of(&self, said: &Said) -> Option<Fault>
+        ensures { (before : List Use) (m : Entry) (a : About) → IsAsked self.now before m a said.now → IsTold result before m }
+    {
+        if self.names_no_context(said) {
+            return Some(Fault::NoContext);
+        }
+        if self.names_a_twin(said) {
+            return Some(Fault::Twin);
+        }
+        if self.begins_no_atom(said) {
+            return Some(Fault::NoAtom);
+        }
+        for limit in LIMITS {
+            if self.exceeds(limit, said) {
+                return Some(Fault::Exceeds(limit));
+            }
+        }
+        None
+    }
+
+    /// Whether the token exceeds the limit.
+    fn exceeds(&self, limit: Limit, said: &Said) -> bool
+        ensures { Tells result (IsBeyond limit) self.now said.now }
+    {
+        match limit {
+            Limit::Contexts => self.exceeds_contexts(said),
+            Limit::Bridges => self.exceeds_bridges(said),
+            Limit::RulesPerContext => self.exceeds_rules(said),
+            Limit::Variables => self.exceeds_variables(said),
+            Limit::InputsPerContext => self.exceeds_inputs(said),
+            Limit::AtomsPerContext => self.exceeds_atoms(said),
+            Limit::DefaultsPerContext => self.exceeds_defaults(said),
+            Limit::ItemsPerContext => self.exceeds_items(said),
+            Limit::FormulaSize => self.exceeds_size(said),
+            Limit::OpenParentheses => self.exceeds_open(said),
+            Limit::NameBytes => self.exceeds_bytes(said),
+        }
+    }
+
+    /// Whether the token is to name a context, and names none.
+    fn names_no_context(&self, said: &Said) -> bool
+        ensures { Tells result (Has faults.NoContext) self.now said.now }
+    {
+        match said.uses.role {
+            Role::NamesTarget | Role::NamesSource => !self.is_context(said.token),
+            _ => false,
+        }
+    }
+
+    /// Whether the token names a context, or a rule, and an earlier one has the name.
+    fn names_a_twin(&self, said: &Said) -> bool
+        ensures { Tells result (Has faults.Twin) self.now said.now }
+    {
+        match said.uses.role {
+            Role::NamesContext => self.is_context(said.token),
+            Role::NamesBridge => is_one_of(&self.bridges, said.token),
+            _ => false,
+        }
+    }
+
+    /// Whether the token begins a head into a program, or a belief of one, and is no atom.
+    fn begins_no_atom(&self, said: &Said) -> bool
+        ensures { Tells result (Has faults.NoAtom) self.now said.now }
+    {
+        if is_name_word(said.token) {
+            return false;
+        }
+        said.uses.begins_belief && self.is_program(said.subject.context)
+    }
+
+    /// The number of the read among the variables; where it is none, how many there are. A read that cannot be
+    /// held is none.
+    pub(crate) fn variable_number(&self, read: Option<&NamedRead>) -> usize
+        ensures some { (r : code_read.NamedRead) → option_copied read.entry ≡ Some r → IsNumberOf (map read_of self.now.variables.items) (read_of r) result }
+        ensures none { option_copied read.entry ≡ None → result ≡ length self.now.variables.items }
+    {
+        let Some(read) = read else {
+            return self.variables.len();
+        };
+        for (number, variable) in self.variables.iter().enumerate() {
+            if same_read(read, variable) {
+                return number;
+            }
+        }
+        self.variables.len()
+    }
+
+    /// Whether the token begins one context too many.
+    fn exceeds_contexts(&self, said: &Said) -> bool
+        ensures { Tells result (IsBeyond Limit.Contexts) self.now said.now }
+    {
+        match said.uses.role {
+            Role::BeginsContext => self.contexts_begun == Limit::Contexts.most(),
+            _ => false,
+        }
+    }
+
+    /// Whether the token begins one rule too many.
+    fn exceeds_bridges(&self, said: &Said) -> bool
+        ensures { Tells result (IsBeyond Limit.Bridges) self.now said.now }
+    {
+        match said.uses.role {
+            Role::BeginsBridge => self.bridges_begun == Limit::Bridges.most(),
+            _ => false,
+        }
+    }
+
+    /// Whether the token names the target of one rule too many.
+    fn exceeds_rules(&self, said: &Said) -> bool
+        ensures { Tells result (IsBeyond Limit.RulesPerContext) self.now said.now }
+    {
+        match said.uses.role {
+            Role::NamesTarget => self.rules_into(self.number_of(said.token))
+                == Limit::RulesPerContext.most(),
+            _ => false,
+        }
+    }
+
+    /// Whether the token ends the read of one variable too many.
+    fn exceeds_variables(&self, said: &Said) -> bool
+        ensures { Tells result (IsBeyond Limit.Variables) self.now said.now }
+    {
+        if self.variables.len() < Limit::Variables.most() {
+            return false;
+        }
+        said.uses.ends_read && self.variable_number(said.read) == self.variables.len()
+    }
+
+    /// Whether the token ends the read of one input of the target too many.
+    fn exceeds_inputs(&self, said: &Said) -> bool
+        ensures { Tells result (IsBeyond Limit.InputsPerContext) self.now said.now }
+    {
+        let Some(target) = self.contexts.get(said.subject.target) else {
+            return false;
+        };
+        if (target.inputs.count() as usize) < Limit::InputsPerContext.most() {
+            return false;
+        }
+        said.uses.ends_read && !is_input(target.inputs, self.variable_number(said.read))
+    }
+
+    /// Whether the token is one atom of the context too many.
+    fn exceeds_atoms(&self, said: &Said) -> bool
+        ensures { Tells result (IsBeyond Limit.AtomsPerContext) self.now said.now }
+    {
+        let Some(context) = self.contexts.get(said.subject.context) else {
+            return false;
+        };
+        if context.atoms.len() < Limit::AtomsPerContext.most() {
+            return false;
+        }
+        match said.uses.role {
+            Role::Atom { .. } => !is_one_of(&context.atoms, said.token),
+            _ => false,
+        }
+    }
+
+    /// Whether the token begins one default of the context too many.
+    fn exceeds_defaults(&self, said: &Said) -> bool
+        ensures { Tells result (IsBeyond Limit.DefaultsPerContext) self.now said.now }
+    {
+        match said.uses.role {
+            Role::BeginsDefault => self.defaults_of(said.subject.context)
+                == Limit::DefaultsPerContext.most(),
+            _ => false,
+        }
+    }
+
+    /// Whether the token begins one item of the context too many.
+    fn exceeds_items(&self, said: &Said) -> bool
+        ensures { Tells result (IsBeyond Limit.ItemsPerContext) self.now said.now }
+    {
+        said.uses.begins_item
+            && self.items_of(said.subject.context) == Limit::ItemsPerContext.most()
+    }
+
+    /// Whether the token is one too many of a formula, or one name too many of a program rule.
+    fn exceeds_size(&self, said: &Said) -> bool
+        ensures { Tells result (IsBeyond Limit.FormulaSize) self.now said.now }
+    {
+        match said.uses.role {
+            Role::Atom { number } => number == Limit::FormulaSize.most() + 1,
+            Role::Counted { number } => number == Limit::FormulaSize.most() + 1,
+            _ => false,
+        }
+    }
+
+    /// Whether the token opens one parenthesis too many.
+    fn exceeds_open(&self, said: &Said) -> bool
+        ensures { Tells result (IsBeyond Limit.OpenParentheses) self.now said.now }
+    {
+        match said.uses.role {
+            Role::Opens { within } => within == Limit::OpenParentheses.most(),
+            _ => false,
+        }
+    }
+
+    /// Whether the token is a name that is too long.
+    fn exceeds_bytes(&self, said: &Said) -> bool
+        ensures { Tells result (IsBeyond Limit.NameBytes) self.now said.now }
+    {
+        is_name_word(said.token) && said.token.len() > Limit::NameBytes.most()
+    }
+}

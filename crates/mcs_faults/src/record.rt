@@ -1,0 +1,200 @@
+//! What the watch keeps of a token that has no fault.
+
+ghost use Rattle.std.specs.Prelude.{◌≡◌, ◌<◌, ◌++◌, List, [], ◌∷◌, IfOk, IsTrue, length, map};
+ghost use Rattle.mcs_base.specs.Words.{is_name};
+ghost use Rattle.mcs_sets.specs.Sets.{single, union};
+ghost use Rattle.mcs_system.specs.Plain.{Name};
+ghost use Rattle.mcs_grammar.specs.Entries as entries;
+ghost use Rattle.mcs_grammar.specs.Entries.{Entry, Use};
+ghost use Rattle.mcs_grammar.specs.Faults as faults;
+ghost use Rattle.mcs_grammar.specs.Faults.{Has};
+ghost use Rattle.mcs_reader.specs.TextImages.{About, read_of, role_uses, when};
+ghost use Rattle.mcs_faults.specs.Watching.{AreFree, IsAllowed, IsAsked, IsFresh, IsHeld, IsNaming, IsNumberOf, IsSpokenOf, IsWatch, names_seen};
+
+use crate::limits::is_one_of;
+use crate::watch::{ContextSeen, Said, Watch};
+use mcs_base::{Memory, Vars};
+use mcs_reader::{NamedRead, Role};
+use mcs_system::Name;
+use std::alloc::Global;
+
+/// An equal read.
+fn copy_read(alloc: Global, read: &NamedRead) -> Result<NamedRead, Memory>
+    ensures { IfOk result (λ r. read_of r ≡ read_of read.now) }
+{
+    Ok(NamedRead {
+        context: read.context.copy(alloc)?,
+        belief: read.belief.copy(alloc)?,
+    })
+}
+
+/// The set with this number too.
+fn with_input(inputs: Vars, number: usize) -> Vars
+    ensures { number < 64 → result ≡ union inputs (single number) }
+{
+    if number < 64 {
+        return inputs.with(number as u32);
+    }
+    inputs
+}
+
+/// A context of which nothing but the name was seen.
+fn fresh(alloc: Global, name: Name) -> ContextSeen
+    ensures { IsFresh result name }
+{
+    ContextSeen {
+        name,
+        is_program: false,
+        rules: 0,
+        items: 0,
+        defaults: 0,
+        atoms: Vec::new(alloc),
+        inputs: Vars::empty(),
+    }
+}
+
+impl Watch {
+    /// The token was seen, and has no fault.
+    pub(crate) fn record(&mut self, alloc: Global, said: &Said) -> Result<(), Memory>
+        ensures { (before : List Use) (m : Entry) (a : About) → IsAsked self.old before m a said.now → ((f : faults.Fault) → ¬ Has f before m) → IfOk result (λ _. IsWatch self.new (before ++ m.uses)) }
+    {
+        self.record_end(alloc, said)?;
+        self.record_begin(said);
+        self.record_role(alloc, said)
+    }
+
+    /// What the token is there for as the end of a read.
+    fn record_end(&mut self, alloc: Global, said: &Said) -> Result<(), Memory>
+        ensures { (before : List Use) (m : Entry) (a : About) → IsAsked self.old before m a said.now → ((f : faults.Fault) → ¬ Has f before m) → IfOk result (λ _. IsWatch self.new (before ++ when said.now.uses.ends_read (entries.EndsRead a.subject.target a.subject.context a.belief))) }
+    {
+        if !said.uses.ends_read {
+            return Ok(());
+        }
+        match said.read {
+            Some(read) => self.record_read(alloc, said.subject.target, read),
+            None => Ok(()),
+        }
+    }
+
+    /// What the token is there for as the first of an item.
+    fn record_begin(&mut self, said: &Said)
+        ensures { (before : List Use) (n : Name) → IsWatch self.old before → IsNumberOf (names_seen self.old) n said.now.subject.context → AreFree before (when said.now.uses.begins_item (entries.BeginsItem n)) → IsWatch self.new (before ++ when said.now.uses.begins_item (entries.BeginsItem n)) }
+    {
+        if said.uses.begins_item {
+            self.count_item(said.subject.context);
+        }
+    }
+
+    /// What the token itself is there for.
+    fn record_role(&mut self, alloc: Global, said: &Said) -> Result<(), Memory>
+        ensures { (before : List Use) (a : About) → IsWatch self.old before → IsNumberOf (names_seen self.old) a.subject.context said.now.subject.context → (IsNaming said.now.uses.role → IsTrue (is_name said.now.token.now)) → AreFree before (role_uses a said.now.token.now said.now.uses.role) → IfOk result (λ _. IsWatch self.new (before ++ role_uses a said.now.token.now said.now.uses.role)) }
+    {
+        match said.uses.role {
+            Role::BeginsContext => self.contexts_begun = self.contexts_begun.saturating_add(1),
+            Role::BeginsBridge => self.bridges_begun = self.bridges_begun.saturating_add(1),
+            Role::NamesContext => return self.name_context(alloc, said.token),
+            Role::NamesBridge => return self.name_bridge(alloc, said.token),
+            Role::SaysProgram => self.say_program(said.subject.context),
+            Role::BeginsDefault => self.count_default(said.subject.context),
+            Role::NamesTarget => self.count_rule(self.number_of(said.token)),
+            Role::Atom { .. } => return self.add_atom(alloc, said.subject.context, said.token),
+            Role::Nothing | Role::NamesSource | Role::Counted { .. } | Role::Opens { .. } => {}
+        }
+        Ok(())
+    }
+
+    /// A context of this name.
+    fn name_context(&mut self, alloc: Global, token: &[u8]) -> Result<(), Memory>
+        ensures { (before : List Use) → IsWatch self.old before → IsTrue (is_name token.now) → IsAllowed before (entries.NamesContext token.now) → IfOk result (λ _. IsWatch self.new (before ++ entries.NamesContext token.now ∷ [])) }
+    {
+        if let Some(name) = Name::read(alloc, token)? {
+            self.contexts.push(fresh(alloc, name))?;
+        }
+        Ok(())
+    }
+
+    /// A rule of this name.
+    fn name_bridge(&mut self, alloc: Global, token: &[u8]) -> Result<(), Memory>
+        ensures { (before : List Use) → IsWatch self.old before → IsTrue (is_name token.now) → IsAllowed before (entries.NamesBridge token.now) → IfOk result (λ _. IsWatch self.new (before ++ entries.NamesBridge token.now ∷ [])) }
+    {
+        if let Some(name) = Name::read(alloc, token)? {
+            self.bridges.push(name)?;
+        }
+        Ok(())
+    }
+
+    /// The context of this number is a program.
+    fn say_program(&mut self, number: usize)
+        ensures { (before : List Use) (n : Name) → IsWatch self.old before → IsNumberOf (names_seen self.old) n number → IsSpokenOf before (entries.SaysProgram n) → IsWatch self.new (before ++ entries.SaysProgram n ∷ []) }
+    {
+        if let Some(context) = self.contexts.get_mut(number) {
+            context.is_program = true;
+        }
+    }
+
+    /// The context of this number has one item more.
+    fn count_item(&mut self, number: usize)
+        ensures { (before : List Use) (n : Name) → IsWatch self.old before → IsNumberOf (names_seen self.old) n number → IsSpokenOf before (entries.BeginsItem n) → IsAllowed before (entries.BeginsItem n) → IsWatch self.new (before ++ entries.BeginsItem n ∷ []) }
+    {
+        if let Some(context) = self.contexts.get_mut(number) {
+            context.items = context.items.saturating_add(1);
+        }
+    }
+
+    /// The context of this number has one default more.
+    fn count_default(&mut self, number: usize)
+        ensures { (before : List Use) (n : Name) → IsWatch self.old before → IsNumberOf (names_seen self.old) n number → IsSpokenOf before (entries.BeginsDefault n) → IsAllowed before (entries.BeginsDefault n) → IsWatch self.new (before ++ entries.BeginsDefault n ∷ []) }
+    {
+        if let Some(context) = self.contexts.get_mut(number) {
+            context.defaults = context.defaults.saturating_add(1);
+        }
+    }
+
+    /// There is one rule more into the context of this number.
+    fn count_rule(&mut self, number: usize)
+        ensures { (before : List Use) (n : Name) → IsWatch self.old before → IsNumberOf (names_seen self.old) n number → IsAllowed before (entries.NamesTarget n) → IsWatch self.new (before ++ entries.NamesTarget n ∷ []) }
+    {
+        if let Some(context) = self.contexts.get_mut(number) {
+            context.rules = context.rules.saturating_add(1);
+        }
+    }
+
+    /// An atom of the context of this number.
+    fn add_atom(&mut self, alloc: Global, number: usize, token: &[u8]) -> Result<(), Memory>
+        ensures { (before : List Use) (n : Name) → IsWatch self.old before → IsNumberOf (names_seen self.old) n number → IsTrue (is_name token.now) → IsSpokenOf before (entries.AtomOf n token.now) → IsAllowed before (entries.AtomOf n token.now) → IfOk result (λ _. IsWatch self.new (before ++ entries.AtomOf n token.now ∷ [])) }
+    {
+        let Some(context) = self.contexts.get_mut(number) else {
+            return Ok(());
+        };
+        if is_one_of(&context.atoms, token) {
+            return Ok(());
+        }
+        if let Some(name) = Name::read(alloc, token)? {
+            context.atoms.push(name)?;
+        }
+        Ok(())
+    }
+
+    /// The end of a read of a rule into the context of this number.
+    fn record_read(&mut self, alloc: Global, target: usize, read: &NamedRead) -> Result<(), Memory>
+        ensures { (before : List Use) (t : Name) → IsWatch self.old before → IsNumberOf (names_seen self.old) t target → let r = read_of read.now in IsSpokenOf before (entries.EndsRead t r.context r.belief) → IsAllowed before (entries.EndsRead t r.context r.belief) → IfOk result (λ _. IsWatch self.new (before ++ entries.EndsRead t r.context r.belief ∷ [])) }
+    {
+        let number = self.hold(alloc, read)?;
+        if let Some(context) = self.contexts.get_mut(target) {
+            context.inputs = with_input(context.inputs, number);
+        }
+        Ok(())
+    }
+
+    /// The number of the read among the variables, to which it is added if it is none of them yet.
+    fn hold(&mut self, alloc: Global, read: &NamedRead) -> Result<usize, Memory>
+        ensures held { IfOk result (λ number. IsHeld (map read_of self.old.variables.items) (map read_of self.new.variables.items) (read_of read.now) number) }
+        ensures rest { self.new ≡ record self.old { variables = self.new.variables } }
+    {
+        let number = self.variable_number(Some(read));
+        if number == self.variables.len() {
+            self.variables.push(copy_read(alloc, read)?)?;
+        }
+        Ok(number)
+    }
+}

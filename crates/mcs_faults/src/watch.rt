@@ -1,0 +1,216 @@
+//! What was seen of a text, as far as the faults of its next token depend on it.
+
+ghost use Rattle.std.specs.Prelude.{◌≡◌, ◌↔◌, List, [], count_by, IfOk, IsTrue};
+ghost use Rattle.std.specs.List.{AllByRecursion};
+ghost use Rattle.std.specs.Option.{option_copied};
+ghost use Rattle.mcs_base.specs.Listings.{IsAmong};
+ghost use Rattle.mcs_system.specs.Plain.{Name};
+ghost use Rattle.mcs_grammar.specs.Entries.{Entry, SaysProgram, Use};
+ghost use Rattle.mcs_grammar.specs.Faults.{begins_default_of, begins_item_of, names_target};
+ghost use Rattle.mcs_reader.specs.TextSteps as written;
+ghost use Rattle.mcs_reader.specs.TextImages.{About, IsAt, subject_at};
+ghost use Rattle.mcs_faults.specs.Watching.{IsNumberOf, IsSaid, IsSpokenOf, IsSubject, IsVerdict, IsWatch, names_seen};
+
+use crate::fault::Fault;
+use mcs_base::{Memory, Vars};
+use mcs_reader::{NamedRead, Place, Uses};
+use mcs_system::Name;
+use std::alloc::Global;
+
+/// What was seen of one context.
+#[derive(Drop)]
+pub(crate) struct ContextSeen {
+    pub(crate) name: Name,
+    pub(crate) is_program: bool,
+    /// How many rules there are into it, and of its items how many and how many defaults.
+    pub(crate) rules: usize,
+    pub(crate) items: usize,
+    pub(crate) defaults: usize,
+    /// Its atoms, each once.
+    pub(crate) atoms: Vec<Name>,
+    /// The numbers of the variables that rules into it read.
+    pub(crate) inputs: Vars,
+}
+
+/// What was seen of a text.
+#[derive(Drop)]
+pub struct Watch {
+    /// The contexts that were named, in their order.
+    pub(crate) contexts: Vec<ContextSeen>,
+    /// The names of the bridge rules, in their order.
+    pub(crate) bridges: Vec<Name>,
+    /// What was read, each once.
+    pub(crate) variables: Vec<NamedRead>,
+    /// How many contexts, and how many bridge rules, were begun.
+    pub(crate) contexts_begun: usize,
+    pub(crate) bridges_begun: usize,
+}
+
+/// The contexts that a token is said of, by their numbers; a number that no context has stands for none.
+#[derive(Clone, Copy)]
+pub struct Subject {
+    pub(crate) context: usize,
+    pub(crate) target: usize,
+}
+
+/// A token: the contexts that it is said of, what it is there for, its bytes, and the read that ends with it.
+#[derive(Clone, Copy)]
+pub(crate) struct Said<'a> {
+    pub(crate) subject: Subject,
+    pub(crate) uses: Uses,
+    pub(crate) token: &'a [u8],
+    /// There is none where the read would have a name that is too long.
+    pub(crate) read: Option<&'a NamedRead>,
+}
+
+impl Watch {
+    /// Nothing was seen yet.
+    pub fn new(alloc: Global) -> Watch
+        ensures { IsWatch result [] }
+    {
+        Watch {
+            contexts: Vec::new(alloc),
+            bridges: Vec::new(alloc),
+            variables: Vec::new(alloc),
+            contexts_begun: 0,
+            bridges_begun: 0,
+        }
+    }
+
+    /// The lowest fault of the next token; where it has none, the token is kept. `read` is the read that ends
+    /// with the token, if one does and its name is not too long.
+    pub fn note(
+        &mut self,
+        alloc: Global,
+        subject: Subject,
+        uses: Uses,
+        token: &[u8],
+        read: Option<&NamedRead>,
+    ) -> Result<Option<Fault>, Memory>
+        ensures { (before : List Use) (m : Entry) (a : About) → IsWatch self.old before → m.token ≡ token.now → IsSubject self.old a.subject subject → IsSaid a m uses (option_copied read.entry) → AllByRecursion (IsSpokenOf before) m.uses → IfOk result (λ fault. IsVerdict fault before m self.new) }
+    {
+        let said = Said {
+            subject,
+            uses,
+            token,
+            read,
+        };
+        if let Some(fault) = self.fault_of(&said) {
+            return Ok(Some(fault));
+        }
+        self.record(alloc, &said)?;
+        Ok(None)
+    }
+
+    /// The number of the context of this name; where it is none, how many contexts were named.
+    pub(crate) fn number_of(&self, name: &[u8]) -> usize
+        ensures { IsNumberOf (names_seen self.now) name.now result }
+    {
+        for (number, context) in self.contexts.iter().enumerate() {
+            if context.name.bytes() == name {
+                return number;
+            }
+        }
+        self.contexts.len()
+    }
+
+    /// Whether a context has the name.
+    pub(crate) fn is_context(&self, name: &[u8]) -> bool
+        ensures { IsTrue result ↔ IsAmong name.now (names_seen self.now) }
+    {
+        self.number_of(name) < self.contexts.len()
+    }
+
+    /// Whether the context of this number is a program.
+    pub(crate) fn is_program(&self, number: usize) -> bool
+        ensures { (before : List Use) (n : Name) → IsWatch self.now before → IsNumberOf (names_seen self.now) n number → IsTrue result ↔ IsAmong (SaysProgram n) before }
+    {
+        match self.contexts.get(number) {
+            Some(context) => context.is_program,
+            None => false,
+        }
+    }
+
+    /// How many rules there are into the context of this number.
+    pub(crate) fn rules_into(&self, number: usize) -> usize
+        ensures { (before : List Use) (n : Name) → IsWatch self.now before → IsNumberOf (names_seen self.now) n number → result ≡ count_by (names_target n) before }
+    {
+        match self.contexts.get(number) {
+            Some(context) => context.rules,
+            None => 0,
+        }
+    }
+
+    /// How many defaults the context of this number has.
+    pub(crate) fn defaults_of(&self, number: usize) -> usize
+        ensures { (before : List Use) (n : Name) → IsWatch self.now before → IsNumberOf (names_seen self.now) n number → result ≡ count_by (begins_default_of n) before }
+    {
+        match self.contexts.get(number) {
+            Some(context) => context.defaults,
+            None => 0,
+        }
+    }
+
+    /// How many items the context of this number has.
+    pub(crate) fn items_of(&self, number: usize) -> usize
+        ensures { (before : List Use) (n : Name) → IsWatch self.now before → IsNumberOf (names_seen self.now) n number → result ≡ count_by (begins_item_of n) before }
+    {
+        match self.contexts.get(number) {
+            Some(context) => context.items,
+            None => 0,
+        }
+    }
+
+    /// The contexts that the next token is said of.
+    pub fn subject(&self, place: &Place) -> Subject
+        ensures { (q : written.Place) → IsAt place.now q → IsSubject self.now (subject_at q) result }
+    {
+        Subject {
+            context: self.number_of(context_at(place)),
+            target: self.number_of(target_at(place)),
+        }
+    }
+}
+
+/// The name of the context that the next token is a part of, or is said of; empty where it is none.
+fn context_at(place: &Place) -> &[u8]
+    ensures { (q : written.Place) → IsAt place.now q → result.now ≡ (subject_at q).context }
+{
+    match place {
+        Place::OpenBrace { context }
+        | Place::NextItem { context }
+        | Place::InFact { context, .. }
+        | Place::InJust { context, .. }
+        | Place::InConclusion { context, .. }
+        | Place::AfterHeadName { context, .. }
+        | Place::NextHeadName { context, .. }
+        | Place::AfterSign { context, .. }
+        | Place::NextLiteral { context, .. }
+        | Place::AfterNot { context, .. }
+        | Place::AfterLiteral { context, .. } => context.name.bytes(),
+        Place::KindWord { name }
+        | Place::InHead { context: name, .. }
+        | Place::InRead { context: name, .. } => name.bytes(),
+        Place::Between
+        | Place::ContextName
+        | Place::BridgeName
+        | Place::BridgeColon { .. }
+        | Place::HeadContext { .. }
+        | Place::HeadColon { .. }
+        | Place::AfterHead { .. }
+        | Place::NextRead { .. }
+        | Place::ReadContext { .. }
+        | Place::ReadColon { .. }
+        | Place::AfterRead { .. } => b"",
+    }
+}
+
+/// The name of the context into which a read that goes on is; empty where there is none.
+fn target_at(place: &Place) -> &[u8]
+    ensures { (q : written.Place) → IsAt place.now q → result.now ≡ (subject_at q).target }
+{
+    match place {
+        Place::InRead { bridge, .. } => bridge.target.bytes(),
+        _ => b"",
+    }
+}

@@ -1,0 +1,7 @@
+pub mod Written
+pub mod Entries
+pub mod Saying
+pub mod Faults
+pub mod Texts
+pub mod FormulaSteps
+pub mod FormulaImages

@@ -1,0 +1,63 @@
+-- What a written text says: the system, as plain data.
+use Rattle.std.specs.Prelude.{◌≡◌, not, List, [], ◌∷◌, map, filter, Some}
+use Rattle.std.specs.List.{position}
+use Rattle.mcs_system.specs.Plain as plain
+use Rattle.mcs_system.specs.Plain.{Name}
+use Rattle.mcs_system.specs.Logic.{same_name}
+use Rattle.mcs_grammar.specs.Written.{WrittenDefault, WrittenItem, Fact, Rule, WrittenLiteral, WrittenRule, WrittenKb, Classical, DefaultTheory, Program, WrittenContext, WrittenPlace, WrittenRead, WrittenBridge, WrittenText}
+use Rattle.mcs_grammar.specs.Entries.{formula_in}
+
+abbrev pub default_in : WrittenDefault → plain.Default
+default_in d = record { pre = formula_in d.pre; justs = formula_in d.first_just ∷ map formula_in d.justs; conclusion = formula_in d.conclusion }
+
+abbrev pub item_in : WrittenItem → plain.Item
+item_in (Fact f) = plain.Fact (formula_in f)
+item_in (Rule d) = plain.Rule (default_in d)
+
+-- the atoms of the literals that are, or are not, denied
+abbrev pub positive_atoms : List WrittenLiteral → List Name
+positive_atoms ls = map (λ (l : WrittenLiteral). l.atom) (filter (λ (l : WrittenLiteral). not l.denied) ls)
+
+abbrev pub negative_atoms : List WrittenLiteral → List Name
+negative_atoms ls = map (λ (l : WrittenLiteral). l.atom) (filter (λ (l : WrittenLiteral). l.denied) ls)
+
+abbrev pub rule_in : WrittenRule → plain.ProgramRule
+rule_in r = record { head = r.head; pos = positive_atoms r.body; neg = negative_atoms r.body }
+
+abbrev pub kb_in : WrittenKb → plain.Kb
+kb_in (Classical formulas) = plain.Classical (map formula_in formulas)
+kb_in (DefaultTheory items) = plain.DefaultTheory (map item_in items)
+kb_in (Program rules) = plain.Program (map rule_in rules)
+
+abbrev pub context_in : WrittenContext → plain.Context
+context_in c = record { name = c.name; kb = kb_in c.kb }
+
+-- where these are the names of the contexts
+pub record SaysPlace (contexts : List Name) (p : WrittenPlace) (r : plain.Read) : Type 0 where
+  pub number : position (same_name p.context) contexts ≡ Some r.context
+  pub belief : r.belief ≡ formula_in p.belief
+
+-- one by one, and as many
+abbrev pub Each : {W X : Type 0} → (W → X → Type 0) → List W → List X → Type 0
+Each says [] [] = Unit {0}
+Each says (w ∷ ws) (x ∷ xs) = says w x × Each says ws xs
+Each says ws xs = ⊥
+
+abbrev pub positive_places : List WrittenRead → List WrittenPlace
+positive_places rs = map (λ (r : WrittenRead). r.place) (filter (λ (r : WrittenRead). not r.denied) rs)
+
+abbrev pub negative_places : List WrittenRead → List WrittenPlace
+negative_places rs = map (λ (r : WrittenRead). r.place) (filter (λ (r : WrittenRead). r.denied) rs)
+
+pub record SaysBridge (contexts : List Name) (w : WrittenBridge) (b : plain.Bridge) : Type 0 where
+  pub named : b.name ≡ w.name
+  pub head : SaysPlace contexts w.head (record { context = b.target; belief = b.head })
+  pub pos : Each (SaysPlace contexts) (positive_places w.reads) b.pos
+  pub neg : Each (SaysPlace contexts) (negative_places w.reads) b.neg
+
+abbrev pub names_of : List WrittenContext → List Name
+names_of cs = map (λ (c : WrittenContext). c.name) cs
+
+pub record SaysSystem (t : WrittenText) (m : plain.System) : Type 0 where
+  pub contexts : m.contexts ≡ map context_in t.contexts
+  pub bridges : Each (SaysBridge (names_of t.contexts)) t.bridges m.bridges

@@ -1,5 +1,0 @@
-use Rattle.mcs_language.proofs.CanonicalReads.{canonical-spells}
-use Rattle.mcs_language.proofs.writer.canonical_text_spells.Goals as goal
-
-pub returns : goal.returns
-returns c = canonical-spells c.args.system.now c.contexts-contexts.ensures.named c.contexts-contexts.ensures.valid

@@ -1,0 +1,4 @@
+pub mod TextSteps
+pub mod TextImages
+pub mod Ends
+pub mod Known

@@ -1,0 +1,167 @@
+-- What is written of a valid system says that system.
+use Rattle.std.proofs.Common.{◌≡◌, ℕ, zero, suc, Bool, true, false, nat_eq, nat_lt, List, [], ◌∷◌, map, length, Some, None, slice_get, option_map, refl, sym, ap, ap₂, ◌∙◌, true≢false, arith}
+use Rattle.std.proofs.lemmas.Bool.Decides.{nat_tests}
+use Rattle.std.proofs.lemmas.Option.{slice_get-map, slice_get_within}
+use Rattle.std.proofs.lemmas.Slice.Eq.{bytes_eq-Decides}
+use Rattle.std.specs.List.{AllByRecursion, list_any, position, position_or_len}
+use Rattle.std.proofs.lemmas.Bool.{or_parts}
+use Rattle.mcs_base.proofs.Among.{map_back, none_get}
+use Rattle.mcs_base.proofs.Each.{all_among, all_from_no_any}
+use Rattle.mcs_base.proofs.Lists.{slice_get_below}
+use Rattle.mcs_system.specs.Faults.{has_twins, is_unjustified, has_unjustified, has_misfit, IsValid}
+use Rattle.mcs_system.specs.Logic.{is_in, same_name}
+use Rattle.mcs_system.specs.Plain.{Name, Formula, Truth, Falsity, Atom, Not, And, Or, Implies, Iff, Default, ProgramRule, Item, Kb, Context, Read, Bridge, System}
+use Rattle.mcs_system.specs.Plain as plain
+use Rattle.mcs_system.specs.Texts.{name_of_context}
+use Rattle.mcs_system.proofs.ValidLemmas.{tests_pass}
+use Rattle.mcs_grammar.specs.Entries.{formula_in}
+use Rattle.mcs_grammar.specs.Saying.{item_in, positive_atoms, negative_atoms, rule_in, kb_in, context_in, SaysPlace, Each, positive_places, negative_places, SaysBridge, names_of, SaysSystem}
+use Rattle.mcs_system.specs.Naming.{IsNamed}
+use Rattle.mcs_writer.proofs.CanonicalWritten.{primary_written, formula_written, with_justs, item_written, body_written, rule_written, kb_written, context_written, place_written, reads_written, bridge_written, canonical_written}
+use Rattle.mcs_writer.proofs.CanonicalGrammar.{IsPlaced, IsPlacedBridge, all-placed}
+
+-- ---- lists
+each-map : {W X : Type 0} (says : W → X → Type 0) (f : X → W) (P : X → Type 0) → ((x : X) → P x → says (f x) x) → (xs : List X) → AllByRecursion P xs → Each says (map f xs) xs
+each-map says f P each [] h = tt
+each-map says f P each (x ∷ xs) h = (each x h.0, each-map says f P each xs h.1)
+
+-- ---- formulas
+pub primary-said : (f : Formula) → formula_in (primary_written f) ≡ f
+primary-said Truth = refl
+primary-said Falsity = refl
+primary-said (Atom n) = refl
+primary-said (Not f) = ap (λ a. Not a) (primary-said f)
+primary-said (And f g) = ap₂ (λ a b. And a b) (primary-said f) (primary-said g)
+primary-said (Or f g) = ap₂ (λ a b. Or a b) (primary-said f) (primary-said g)
+primary-said (Implies f g) = ap₂ (λ a b. Implies a b) (primary-said f) (primary-said g)
+primary-said (Iff f g) = ap₂ (λ a b. Iff a b) (primary-said f) (primary-said g)
+
+pub formula-said : (f : Formula) → formula_in (formula_written f) ≡ f
+formula-said Truth = refl
+formula-said Falsity = refl
+formula-said (Atom n) = refl
+formula-said (Not f) = primary-said (Not f)
+formula-said (And f g) = primary-said (And f g)
+formula-said (Or f g) = primary-said (Or f g)
+formula-said (Implies f g) = primary-said (Implies f g)
+formula-said (Iff f g) = primary-said (Iff f g)
+
+formulas-said : (fs : List Formula) → map formula_in (map formula_written fs) ≡ fs
+formulas-said fs = map_back formula_written formula_in fs (λ x _. formula-said x)
+
+-- ---- contexts
+default : Formula → List Formula → Formula → Item
+default pre justs conclusion = plain.Rule (record { pre = pre; justs = justs; conclusion = conclusion })
+
+justs-said : (d : Default) (js : List Formula) → nat_eq (length js) 0 ≡ false → item_in (with_justs d js) ≡ default d.pre js d.conclusion
+unfolding default
+justs-said d [] some = absurd (true≢false some)
+justs-said d (j ∷ js) some =
+    ap (λ p. default p (formula_in (formula_written j) ∷ map formula_in (map formula_written js)) (formula_in (formula_written d.conclusion))) (formula-said d.pre)
+    ∙ ap (λ l. default d.pre l (formula_in (formula_written d.conclusion))) (formulas-said (j ∷ js)) ∙ ap (λ c. default d.pre (j ∷ js) c) (formula-said d.conclusion)
+
+item-said : (i : Item) → is_unjustified i ≡ false → item_in (item_written i) ≡ i
+unfolding default
+item-said (plain.Fact f) h = ap (λ g. plain.Fact g) (formula-said f)
+item-said (plain.Rule d) h = justs-said d d.justs h
+
+positive-said : (pos neg : List Name) → positive_atoms (body_written pos neg) ≡ pos
+positive-said [] [] = refl
+positive-said [] (n ∷ ns) = positive-said [] ns
+positive-said (p ∷ ps) neg = ap (λ l. p ∷ l) (positive-said ps neg)
+
+negative-said : (pos neg : List Name) → negative_atoms (body_written pos neg) ≡ neg
+negative-said [] [] = refl
+negative-said [] (n ∷ ns) = ap (λ l. n ∷ l) (negative-said [] ns)
+negative-said (p ∷ ps) neg = negative-said ps neg
+
+rule : List Name → List Name → List Name → ProgramRule
+rule head pos neg = record { head = head; pos = pos; neg = neg }
+
+rule-said : (r : ProgramRule) → rule_in (rule_written r) ≡ r
+unfolding rule
+rule-said r = ap₂ (λ pos neg. rule r.head pos neg) (positive-said r.pos r.neg) (negative-said r.pos r.neg)
+
+kb-said : (kb : Kb) → has_unjustified kb ≡ false → kb_in (kb_written kb) ≡ kb
+kb-said (plain.Classical formulas) h = ap (λ fs. plain.Classical fs) (formulas-said formulas)
+kb-said (plain.DefaultTheory items) h = ap (λ is'. plain.DefaultTheory is') (map_back item_written item_in items (λ x here. item-said x (all_among ((λ i. is_unjustified i ≡ false)) items x (all_from_no_any (λ i. is_unjustified i ≡ false) is_unjustified (λ i e. e) items h) here)))
+kb-said (plain.Program rules) h = ap (λ rs. plain.Program rs) (map_back rule_written rule_in rules (λ x _. rule-said x))
+
+context : Name → Kb → Context
+context name kb = record { name = name; kb = kb }
+
+context-said : (c : Context) → has_unjustified c.kb ≡ false → context_in (context_written c) ≡ c
+unfolding context
+context-said c h = ap (λ kb. context c.name kb) (kb-said c.kb h)
+
+-- ---- bridge rules
+abbrev name_in : Context → Name
+name_in c = c.name
+
+names-written : (cs : List Context) → names_of (map context_written cs) ≡ map name_in cs
+names-written [] = refl
+names-written (c ∷ cs) = ap (λ l. c.name ∷ l) (names-written cs)
+
+-- the first place of a name is its only one
+same-itself : (n : Name) → same_name n n ≡ true
+same-itself n = (bytes_eq-Decides n n).1 refl
+
+apart : (b : Bool) (x n : Name) (ns : List Name) (k : ℕ) → b ≡ same_name n x → is_in x ns ≡ false → slice_get ns k ≡ Some n → b ≡ false
+apart false x n ns k is none at = refl
+apart true x n ns k is none at =
+    let same : n ≡ x = (bytes_eq-Decides n x).0 (sym is) in
+    absurd (true≢false (sym (same-itself x) ∙ none_get (same_name x) ns k x none (at ∙ ap Some same)))
+
+place-of : (ns : List Name) → has_twins ns ≡ false → (k : ℕ) (n : Name) → slice_get ns k ≡ Some n → position_or_len (same_name n) ns ≡ k
+place-of [] none k n at = absurd (let e : None ≡ Some n = at in cc)
+place-of (x ∷ xs) none zero n at = let same : x ≡ n = cc at in rw (ap (same_name n) same ∙ same-itself n) refl
+place-of (x ∷ xs) none (suc k) n at =
+    let both = or_parts (is_in x xs) (has_twins xs) none in
+    rw (apart (same_name n x) x n xs k refl both.0 at) (let rest = place-of xs both.1 k n at in omega arith)
+
+position-of : (ns : List Name) → has_twins ns ≡ false → (k : ℕ) (n : Name) → slice_get ns k ≡ Some n → position (same_name n) ns ≡ Some k
+position-of ns none k n at =
+    let less : nat_lt k (length ns) ≡ true = (let h = slice_get_within ns k n at in grind (arith, nat_tests)) in
+    rw (place-of ns none k n at, less) refl
+
+no-twins : (m : System) → IsValid m → has_twins (map name_in m.contexts) ≡ false
+no-twins m valid = (or_parts (has_twins (map name_in m.contexts)) (has_twins (map (λ (b : Bridge). b.name) m.bridges)) (tests_pass m valid).apart).0
+
+place-said : (m : System) → IsValid m → (r : Read) → IsPlaced m r → SaysPlace (names_of (map context_written m.contexts)) (place_written m r) r
+place-said m valid r h =
+    let (c, is) = slice_get_below m.contexts r.context h.0 in
+    let named : name_of_context (slice_get m.contexts r.context) ≡ c.name = ap name_of_context is in
+    record {
+      number = rw (named, names-written m.contexts) (position-of (map name_in m.contexts) (no-twins m valid) r.context c.name (slice_get-map name_in m.contexts r.context ∙ ap (option_map name_in) is));
+      belief = sym (primary-said r.belief);
+    }
+
+positive-places : (m : System) (pos neg : List Read) → positive_places (reads_written m pos neg) ≡ map (place_written m) pos
+positive-places m [] [] = refl
+positive-places m [] (n ∷ ns) = positive-places m [] ns
+positive-places m (p ∷ ps) neg = ap (λ l. place_written m p ∷ l) (positive-places m ps neg)
+
+negative-places : (m : System) (pos neg : List Read) → negative_places (reads_written m pos neg) ≡ map (place_written m) neg
+negative-places m [] [] = refl
+negative-places m [] (n ∷ ns) = ap (λ l. place_written m n ∷ l) (negative-places m [] ns)
+negative-places m (p ∷ ps) neg = negative-places m ps neg
+
+bridge-said : (m : System) → IsValid m → (b : Bridge) → IsPlacedBridge m b → SaysBridge (names_of (map context_written m.contexts)) (bridge_written m b) b
+bridge-said m valid b h =
+    let names = names_of (map context_written m.contexts) in
+    record {
+      named = refl;
+      head = place-said m valid (record { context = b.target; belief = b.head }) h.head;
+      pos = rw (positive-places m b.pos b.neg) (each-map (SaysPlace names) (place_written m) (IsPlaced m) (place-said m valid) b.pos h.pos);
+      neg = rw (negative-places m b.pos b.neg) (each-map (SaysPlace names) (place_written m) (IsPlaced m) (place-said m valid) b.neg h.neg);
+    }
+
+-- ---- the whole text
+pub canonical-says : (m : System) → IsNamed m → IsValid m → SaysSystem (canonical_written m) m
+canonical-says m named valid =
+    let justified = or_parts (list_any (λ (c : Context). has_unjustified c.kb) m.contexts) (list_any (has_misfit m.contexts) m.bridges) (tests_pass m valid).fitting in
+    let Fits : Context → Type 0 = λ c. has_unjustified c.kb ≡ false in
+    record {
+      contexts = sym (map_back context_written context_in m.contexts (λ x h. context-said x (all_among (Fits) m.contexts x (all_from_no_any Fits (λ (c : Context). has_unjustified c.kb) (λ c e. e) m.contexts justified.0) h)));
+      bridges = each-map (SaysBridge (names_of (map context_written m.contexts))) (bridge_written m) (IsPlacedBridge m) (bridge-said m valid) m.bridges (all-placed m named valid);
+    }

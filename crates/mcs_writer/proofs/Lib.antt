@@ -1,0 +1,8 @@
+pub mod WriterLemmas
+pub mod CanonicalWritten
+pub mod CanonicalGrammar
+pub mod CanonicalSays
+pub mod SpelledFormulas
+pub mod SpelledContexts
+pub mod SpelledBridges
+pub mod CanonicalReads

@@ -1,0 +1,151 @@
+//! The texts of formulas, defaults and program rules.
+
+ghost use Rattle.std.specs.Prelude.{◌≡◌, ◌++◌, true, not, nat_eq, length, map, codes, OnOk};
+ghost use Rattle.mcs_system.specs.Seen.{formula_of, default_of, item_of, rule_of};
+ghost use Rattle.mcs_system.specs.Texts.{primary, sign_of};
+ghost use Rattle.mcs_text.specs.Separated.{separated};
+ghost use Rattle.mcs_writer.specs.Canonical.{formula_text, default_text, theory_item_text, listed, rule_sign, program_rule_text};
+
+use mcs_base::{Memory, Text};
+use mcs_system::{Default, Formula, Name, ProgRule, TheoryItem};
+use mcs_text::push_separator;
+
+/// The sign of a formula of two parts, between spaces; empty for another.
+fn sign(f: &Formula) -> &'static [u8]
+    ensures { result.now ≡ sign_of (formula_of f.now) }
+{
+    match f {
+        Formula::And(_, _) => b" & ",
+        Formula::Or(_, _) => b" | ",
+        Formula::Implies(_, _) => b" -> ",
+        Formula::Iff(_, _) => b" <-> ",
+        _ => b"",
+    }
+}
+
+/// Appends a formula as a belief is printed: what has two parts stands in parentheses.
+pub(crate) fn push_primary(text: &mut Text, f: &Formula) -> Result<(), Memory>
+    ensures { OnOk result (text.new ≡ text.old ++ primary (formula_of f.now)) }
+{
+    match f {
+        Formula::True => text.push(b"true"),
+        Formula::False => text.push(b"false"),
+        Formula::Atom(name) => text.push(name.bytes()),
+        Formula::Not(g) => {
+            text.push(b"~")?;
+            push_primary(text, g)
+        }
+        Formula::And(g, h) | Formula::Or(g, h) | Formula::Implies(g, h) | Formula::Iff(g, h) => {
+            text.push(b"(")?;
+            push_primary(text, g)?;
+            text.push(sign(f))?;
+            push_primary(text, h)?;
+            text.push(b")")
+        }
+    }
+}
+
+/// Appends a formula that stands alone: there are no parentheses around its two parts.
+pub(crate) fn push_formula(text: &mut Text, f: &Formula) -> Result<(), Memory>
+    ensures { OnOk result (text.new ≡ text.old ++ formula_text (formula_of f.now)) }
+{
+    match f {
+        Formula::And(g, h) | Formula::Or(g, h) | Formula::Implies(g, h) | Formula::Iff(g, h) => {
+            push_primary(text, g)?;
+            text.push(sign(f))?;
+            push_primary(text, h)
+        }
+        _ => push_primary(text, f),
+    }
+}
+
+/// Appends the justifications of a default, separated.
+fn push_justifications(text: &mut Text, justs: &[Formula]) -> Result<(), Memory>
+    ensures { OnOk result (text.new ≡ text.old ++ separated (map formula_text (map formula_of justs.now))) }
+{
+    let mut is_first = true;
+    for just in justs {
+        push_separator(text, is_first, b", ")?;
+        push_formula(text, just)?;
+        is_first = false;
+    }
+    Ok(())
+}
+
+/// Appends a default: its prerequisite, its justifications and its conclusion.
+fn push_default(text: &mut Text, default: &Default) -> Result<(), Memory>
+    ensures { OnOk result (text.new ≡ text.old ++ default_text (default_of default.now)) }
+{
+    push_formula(text, &default.pre)?;
+    text.push(b" : ")?;
+    push_justifications(text, &default.justs)?;
+    text.push(b" / ")?;
+    push_formula(text, &default.conclusion)
+}
+
+/// Appends an item of a default theory.
+pub(crate) fn push_theory_item(text: &mut Text, item: &TheoryItem) -> Result<(), Memory>
+    ensures { OnOk result (text.new ≡ text.old ++ theory_item_text (item_of item.now)) }
+{
+    match item {
+        TheoryItem::Fact(formula) => push_formula(text, formula),
+        TheoryItem::Rule(default) => push_default(text, default),
+    }
+}
+
+/// Appends the names of a head, with bars between them.
+fn push_head(text: &mut Text, head: &[Name]) -> Result<(), Memory>
+    ensures { OnOk result (text.new ≡ text.old ++ listed (codes " | ") true head.now) }
+{
+    let mut is_first = true;
+    for name in head {
+        push_separator(text, is_first, b" | ")?;
+        text.push(name.bytes())?;
+        is_first = false;
+    }
+    Ok(())
+}
+
+/// Appends the literals of these atoms, the word before each of them. They are the first of a body, or go on
+/// after others.
+fn push_literals(text: &mut Text, is_first: bool, word: &[u8], atoms: &[Name]) -> Result<(), Memory>
+    ensures { OnOk result (text.new ≡ text.old ++ listed (codes ", ") is_first (map (λ a. word.now ++ a) atoms.now)) }
+{
+    let mut is_first = is_first;
+    for atom in atoms {
+        push_separator(text, is_first, b", ")?;
+        text.push(word)?;
+        text.push(atom.bytes())?;
+        is_first = false;
+    }
+    Ok(())
+}
+
+/// Whether the rule has a literal in its body.
+fn has_body(rule: &ProgRule) -> bool
+    ensures { result ≡ not (nat_eq (length (rule.now.pos.items ++ rule.now.neg.items)) 0) }
+{
+    !rule.pos.is_empty() || !rule.neg.is_empty()
+}
+
+/// The sign of a rule with the spaces around it; empty where there is a head and no body.
+fn rule_sign(rule: &ProgRule) -> &'static [u8]
+    ensures { result.now ≡ rule_sign rule.now.head.items (rule.now.pos.items ++ rule.now.neg.items) }
+{
+    match (rule.head.is_empty(), has_body(rule)) {
+        (true, true) => b":- ",
+        (true, false) => b":-",
+        (false, true) => b" :- ",
+        (false, false) => b"",
+    }
+}
+
+/// Appends a rule of a program: its head and its body, the positive literals first.
+pub(crate) fn push_program_rule(text: &mut Text, rule: &ProgRule) -> Result<(), Memory>
+    ensures { OnOk result (text.new ≡ text.old ++ program_rule_text (rule_of rule.now)) }
+{
+    push_head(text, &rule.head)?;
+    text.push(rule_sign(rule))?;
+    push_literals(text, true, b"", &rule.pos)?;
+    push_literals(text, rule.pos.is_empty(), b"not ", &rule.neg)
+}

@@ -1,0 +1,7 @@
+//! The canonical text of a system, and of the parts that reports name.
+#![tactic(auto)]
+
+mod item_writer;
+mod writer;
+
+pub use writer::{push_read, write_system};
