@@ -1,0 +1,74 @@
+-- The steps of `atomic_table` keep the rule, by the laws of the rule, and tell what they should.
+use Rattle.std.proofs.Common.{◌≡◌, ◌≢◌, ℕ, mod-eq_of_lt, ◌+◌, ◌^◌, ◌%◌, ◌<◌, ◌≤◌, List, [], ◌∷◌, set, false, refl, sym, ap, ◌∙◌, subst, ⊎_elim, arith}
+use Rattle.std.specs.Prelude.{slice_index}
+use mathlib.Core.Option.{some, some-injective, none}
+use lib.ListN.{get_elem?}
+use Rattle.atomic_table.specs.Table.{Allows, Splits, Joins, opening, step, keeps, Final, Seen}
+use Rattle.atomic_table.proofs.Lists.{at_set, set_again}
+use Rattle.mcs_draw.proofs.Rule.{begins, draws, splits, joins, wholes}
+use Rattle.mcs_draw.proofs.Totals.{sum_at}
+use Rattle.mcs_draw.specs.declared.account.View.{View}
+use Rattle.mcs_draw.specs.declared.account.Terms.{Terms}
+use Rattle.mcs_draw.specs.Budget.{BudgetRule, after_draw, after_split, split_off, after_join, seated, joined_away}
+use Rattle.mcs_draw.specs.Steps.{IsKept, DrawTells, LookTells, first_view}
+
+pub table_begins : (base room : ℕ) → base + room < 2 ^ 63 → IsKept (record { base = base; room = room }) (opening (base ∷ []) [] (first_view (record { base = base; room = room })))
+table_begins base room small = (base, refl, begins base room small)
+
+below_mod : (n m : ℕ) → n < m → n % m ≡ n
+below_mod n m h = mod-eq_of_lt h
+
+pub draw_allowed : (k : Terms) (slots id amount : ℕ) (v : View) (held : List (ℕ × Unit {0})) → v.away ≡ false → amount ≤ v.account.left
+    → Allows (IsKept k) slots id (v, held) 0 (λ n. (n + amount) % 2 ^ 64) (DrawTells (step slots 0 amount 0 none) (v, held))
+draw_allowed k slots id amount v held present le s (n, is, b) homes at small =
+    let fits : n + amount < 2 ^ 63 = omega (arith, b.left, b.small, sum_at (λ u. u.account.left) s.views id v at) in
+    let found : slice_index s.words 0 ≡ n = ap (λ ws. slice_index ws 0) is in
+    let total : (slice_index s.words 0 + amount) % 2 ^ 64 ≡ n + amount = ap (λ x. (x + amount) % 2 ^ 64) found ∙ below_mod (n + amount) (2 ^ 64) (omega arith) in (
+      seated (after_draw amount (n + amount) v.account),
+      keeps,
+      tt,
+      (
+        n + amount,
+        ap (λ ws. set ws 0 ((slice_index s.words 0 + amount) % 2 ^ 64)) is ∙ ap (λ x. x ∷ []) total,
+        draws k.base k.room n id amount s.views v b (record { at = at; present = present }) le,
+      ),
+      (
+        omega (arith, found),
+        ap (λ x. seated (after_draw amount (x + amount) v.account)) (sym found),
+        refl,
+        (let f = (b.each id v at).below in omega (arith, found)),
+        omega (arith, found, b.drawn, sum_at (λ u. u.account.drawn) s.views id v at),
+      ),
+    )
+
+pub split_allowed : (k : Terms) (id part : ℕ) (v : View) → v.away ≡ false → 0 < part → part < v.account.left
+    → Splits (IsKept k) id v (seated (after_split part v.account)) (seated (split_off part v.account))
+split_allowed k id part v present some_part le s (n, is, b) at = (n, is, splits k.base k.room n id part s.views v b (record { at = at; present = present }) some_part le)
+
+pub join_allowed : (k : Terms) (id other : ℕ) (v w : View) → v.away ≡ false → Joins (IsKept k) id v other w (seated (after_join v.account w.account)) joined_away
+join_allowed k id other v w present s (n, is, b) at apart at' =
+    let u = seated (after_join v.account w.account) in
+    let was : get_elem? s.views other ≡ some w = ⊎_elim (λ x. absurd (apart x.0)) (λ x. x.1) (at_set s.views id other u w at') in
+    (n, is, joins k.base k.room n id other s.views v w b (record { at = at; present = present }) apart was)
+
+pub look_allowed : (k : Terms) (slots id : ℕ) (v : View) (held : List (ℕ × Unit {0})) → Allows (IsKept k) slots id (v, held) 0 (λ n. n) (LookTells (step slots 0 0 0 none) (v, held))
+look_allowed k slots id v held s (n, is, b) homes at small =
+    let found : slice_index s.words 0 ≡ n = ap (λ ws. slice_index ws 0) is in (
+      v,
+      keeps,
+      tt,
+      (
+        n,
+        ap (λ ws. set ws 0 (slice_index s.words 0)) is ∙ ap (λ x. x ∷ []) found,
+        subst (BudgetRule k.base k.room n) (sym (set_again s.views id v at)) b,
+      ),
+      (refl, omega (arith, b.left, b.small, b.drawn, sum_at (λ u. u.account.left) s.views id v at, sum_at (λ u. u.account.drawn) s.views id v at)),
+    )
+
+-- at the end the word is the base with what the seat has drawn, and the seat's top
+pub table_ends : (k : Terms) (id word : ℕ) (v : View) (ws : List ℕ) (xs : List (Unit {0})) → v.away ≡ false → v.account.left + v.account.drawn ≡ k.room → Final (Seen (IsKept k) id v) ws xs → get_elem? ws 0 ≡ some word
+    → (word ≡ k.base + v.account.drawn) × (word ≡ v.account.top)
+table_ends k id word v ws xs present whole (s, ((n, is, b), at), words, count, homes) found =
+    let same : n ≡ word = some-injective n word (ap (λ (l : List ℕ). get_elem? l 0) (sym is ∙ words) ∙ found) in
+    let r = wholes k.base k.room n id s.views v b (record { at = at; present = present }) whole in
+    (sym same ∙ r.total, sym same ∙ r.top)
