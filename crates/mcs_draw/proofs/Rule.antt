@@ -1,9 +1,8 @@
 -- Each kind of step keeps the rule of a word.
-use Rattle.std.proofs.Common.{◌≡◌, ◌≢◌, ◌⊎◌, inl, inr, ℕ, zero, suc, ◌+◌, ◌^◌, ◌<◌, ◌≤◌, List, [], ◌∷◌, ◌++◌, set, Bool, true, false, true≢false, refl, sym, ap, ◌∙◌, subst, ⊎_elim, le_antisymm, arith, max}
+use Rattle.std.proofs.Common.{◌≡◌, ◌≢◌, ◌⊎◌, inl, inr, ℕ, zero, suc, ◌+◌, ◌<◌, ◌≤◌, List, [], ◌∷◌, set, Bool, true, false, true≢false, refl, sym, ap, ◌∙◌, subst, ⊎_elim, arith, max}
 use Rattle.std.proofs.Math.Nat.{max-le, le-max_left}
 use Rattle.std.proofs.lemmas.Bool.Decides.{nat_tests}
 use Rattle.std.proofs.lemmas.List.Sums.{sum_by_push}
-use Rattle.std.specs.List.{sum_by}
 use mathlib.Core.Logic.{dite}
 use mathlib.Core.Option.{some, some-ne-none, some-injective}
 use native.Mathlib.Decide.{ℕ_discrete}
@@ -12,8 +11,8 @@ use Rattle.atomic_table.proofs.Lists.{at_set, at_snoc, at_longer, set_else}
 use Rattle.mcs_draw.proofs.Totals.{sum_set, sum_at, sum_two}
 use Rattle.mcs_draw.specs.declared.account.Account.{Account}
 use Rattle.mcs_draw.specs.declared.account.View.{View}
-use Rattle.mcs_draw.specs.Budget.{BudgetRule, IsFair, first_account, after_draw, after_split, split_off, after_join, no_account, seated, joined_away}
-use Rattle.mcs_draw.specs.Laws.{IsPresent, IsWhole, WordsBeginWithTheRule, DrawsKeepTheRule, SplitsKeepTheRule, JoinsKeepTheRule, WholeSeatsAreAlone}
+use Rattle.mcs_draw.specs.Budget.{BudgetRule, IsFair, first_account, after_draw, after_split, split_off, after_join, seated, joined_away}
+use Rattle.mcs_draw.specs.Laws.{WordsBeginWithTheRule, DrawsKeepTheRule, SplitsKeepTheRule, JoinsKeepTheRule, WholeSeatsAreAlone}
 
 abbrev left : View → ℕ
 left v = v.account.left
@@ -63,6 +62,7 @@ begins base room small = record { small = small; drawn = omega arith; left = ome
   where
     first : View
     first = seated (first_account base room)
+
     each : (i : ℕ) (v : View) → get_elem? (first ∷ []) i ≡ some v → IsFair base room base v
     each zero v e = subst (IsFair base room base) (some-injective first v e) (fair base room base (first_account base room) (omega arith) (omega arith) (λ h. omega arith))
     each (suc i) v e = absurd (some-ne-none v (sym e))
@@ -87,7 +87,7 @@ splits base room word i part views v b p some_part le =
     let u = seated (split_off part v.account) in
     let f = b.each i v p.at in
     let kept : Each (IsFair base room word) (set views i w) = each_set (IsFair base room word) (IsFair base room word) views i w
-        (fair base room word w.account f.below (f.risen p.present) (λ h. omega arith)) (λ _ h. h) b.each in
+    (fair base room word w.account f.below (f.risen p.present) (λ h. omega arith)) (λ _ h. h) b.each in
     let moved : IsFair base room word u = fair base room word u.account f.below (f.risen p.present) (λ h. omega arith) in
     let (j, x, e, top) = top_set word views i v w p.at (λ h. h) b.top in
     record {
@@ -121,7 +121,7 @@ joins base room word i j views v w b p apart at =
     let f = b.each i v p.at in
     let g = b.each j w at in
     let joined : IsFair base room word u = fair base room word u.account (max-le f.below g.below)
-        (let h = le-max_left v.account.top w.account.top in omega (arith, h, f.risen p.present)) (λ h. omega (arith, f.share p.present h)) in
+    (let h = le-max_left v.account.top w.account.top in omega (arith, h, f.risen p.present)) (λ h. omega (arith, f.share p.present h)) in
     record {
       small = b.small;
       drawn = omega (arith, b.drawn, sum_set drawn views i v u p.at, sum_set drawn once j w joined_away there);
@@ -156,5 +156,6 @@ wholes base room word i views v b p whole = record { total = omega (arith, b.dra
     tops (j, x, e, top) = let f = b.each i v p.at in dite (ℕ_discrete j i)
         (λ (same : j ≡ i). sym top ∙ ap (λ (y : View). y.account.top) (sym (same_at views i j v x p.at same e)))
         (λ (other : j ≢ i). top_beside base room word v.account.top x x.away refl (b.each j x e) (nothing_beside base room word i j views v x b p.at other e whole) top (f.risen p.present) f.below (omega (arith, b.left)))
+
     alone : 0 < room → (j : ℕ) (w : View) → get_elem? views j ≡ some w → j ≢ i → w.away ≡ true
     alone h j w e other = away_beside base room word w w.away refl (b.each j w e) (nothing_beside base room word i j views v w b p.at other e whole) h

@@ -1,5 +1,5 @@
 -- The steps of `atomic_table` keep the rule, by the laws of the rule, and tell what they should.
-use Rattle.std.proofs.Common.{◌≡◌, ◌≢◌, ℕ, mod-eq_of_lt, ◌+◌, ◌^◌, ◌%◌, ◌<◌, ◌≤◌, List, [], ◌∷◌, set, false, refl, sym, ap, ◌∙◌, subst, ⊎_elim, arith}
+use Rattle.std.proofs.Common.{◌≡◌, ℕ, mod-eq_of_lt, ◌+◌, ◌^◌, ◌%◌, ◌<◌, ◌≤◌, List, [], ◌∷◌, set, false, refl, sym, ap, ◌∙◌, subst, ⊎_elim, arith}
 use Rattle.std.specs.Prelude.{slice_index}
 use mathlib.Core.Option.{some, some-injective, none}
 use lib.ListN.{get_elem?}

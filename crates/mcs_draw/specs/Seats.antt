@@ -1,5 +1,5 @@
 -- What a word, its seats and its end are seen as.
-use Rattle.std.specs.Prelude.{◌≡◌, ℕ, List, [], false}
+use Rattle.std.specs.Prelude.{◌≡◌, ℕ, [], false}
 use Rattle.atomic_table.specs.Table.{Me}
 use Rattle.atomic_table.specs.Seated.{TableId}
 use Rattle.mcs_draw.specs.declared.account.Account.{Account}

@@ -1,5 +1,5 @@
 -- The rule as a rule of `atomic_table`, and what its steps tell a seat.
-use Rattle.std.specs.Prelude.{◌≡◌, ℕ, ◌+◌, ◌^◌, ◌<◌, ◌≤◌, List, [], ◌∷◌}
+use Rattle.std.specs.Prelude.{◌≡◌, ℕ, ◌+◌, ◌^◌, ◌<◌, ◌≤◌, [], ◌∷◌}
 use Rattle.atomic_table.specs.Table.{State, Step, Me}
 use Rattle.mcs_draw.specs.declared.account.View.{View}
 use Rattle.mcs_draw.specs.declared.account.Terms.{Terms}
