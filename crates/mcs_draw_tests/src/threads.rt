@@ -27,11 +27,11 @@ fn two_threads_draw_a_thousand_times(rt: HostRuntime) -> Result<(), Fail> {
     let (mut one, two) = thread::join(
         &rt,
         || -> Seat
-            requires { one.word ≡ draw.entry.now.word }
+            requires { one.word ≡ draw.word }
             ensures { (result.word ≡ one.word) × (result.account.left ≡ 0) × (result.account.drawn ≡ one.account.left + one.account.drawn) }
         { draw_all(&draw, one) },
         || -> Seat
-            requires { two.word ≡ draw.entry.now.word }
+            requires { two.word ≡ draw.word }
             ensures { (result.word ≡ two.word) × (result.account.left ≡ 0) × (result.account.drawn ≡ two.account.left + two.account.drawn) }
         { draw_all(&draw, two) },
     );
