@@ -1,7 +1,6 @@
 -- Each kind of step keeps the rule of a word.
-use Rattle.std.proofs.Common.{◌≡◌, ◌≢◌, ◌⊎◌, inl, inr, ℕ, zero, suc, ◌+◌, ◌<◌, ◌≤◌, List, [], ◌∷◌, set, Bool, true, false, true≢false, refl, sym, ap, ◌∙◌, subst, ⊎_elim, arith, max}
-use Rattle.std.proofs.Math.Nat.{max-le, le-max_left}
-use Rattle.std.proofs.lemmas.Bool.Decides.{nat_tests}
+use Rattle.std.proofs.Common.{◌≡◌, ◌≢◌, ◌⊎◌, inl, inr, ℕ, zero, suc, ◌+◌, ◌<◌, ◌≤◌, List, [], ◌∷◌, set, Bool, true, false, true≢false, refl, sym, ap, ◌∙◌, subst, ⊎_elim, arith}
+use Rattle.std.proofs.Math.Nat.{max-le, max-eq_left, max-eq_right, le-max_left}
 use Rattle.std.proofs.lemmas.List.Sums.{sum_by_push}
 use mathlib.Core.Logic.{dite}
 use mathlib.Core.Option.{some, some-ne-none, some-injective}
@@ -98,10 +97,6 @@ splits base room word i part views v b p some_part le =
       top = (j, x, at_longer (set views i w) (u ∷ []) j x e, top);
     }
 
--- the greater of two tops, of which one is the word
-max_is : (word a b : ℕ) → a ≤ word → b ≤ word → (a ≡ word) ⊎ (b ≡ word) → max a b ≡ word
-max_is word a b le le' one = grind (arith, nat_tests)
-
 -- after a join the top that was the word is that of the seat that is left, or of a third one
 top_join : (word : ℕ) (views : List View) (i j : ℕ) (v w u : View) → get_elem? views i ≡ some v → j ≢ i → get_elem? views j ≡ some w
     → ((v.account.top ≡ word) ⊎ (w.account.top ≡ word) → u.account.top ≡ word) → Topped word views → Topped word (set (set views i u) j joined_away)
@@ -128,7 +123,7 @@ joins base room word i j views v w b p apart at =
       left = omega (arith, b.left, sum_set left views i v u p.at, sum_set left once j w joined_away there);
       each = each_set (IsFair base room word) (IsFair base room word) once j joined_away (away_is_fair base room word) (λ _ h. h)
           (each_set (IsFair base room word) (IsFair base room word) views i u joined (λ _ h. h) b.each);
-      top = top_join word views i j v w u p.at apart at (max_is word v.account.top w.account.top f.below g.below) b.top;
+      top = top_join word views i j v w u p.at apart at (⊎_elim (λ e. max-eq_left (omega (arith, e, g.below)) ∙ e) (λ e. max-eq_right (omega (arith, e, f.below)) ∙ e)) b.top;
     }
 
 -- a seat beside one that has the whole room has nothing left and has drawn nothing

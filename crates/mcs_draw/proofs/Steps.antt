@@ -15,9 +15,6 @@ use Rattle.mcs_draw.specs.Steps.{IsKept, DrawTells, LookTells, first_view}
 pub table_begins : (base room : ℕ) → base + room < 2 ^ 63 → IsKept (record { base = base; room = room }) (opening (base ∷ []) [] (first_view (record { base = base; room = room })))
 table_begins base room small = record { word = base; is = refl; rule = begins base room small }
 
-below_mod : (n m : ℕ) → n < m → n % m ≡ n
-below_mod n m h = mod-eq_of_lt h
-
 -- the number that a step finds is the word
 is_found : (ws : List ℕ) (n : ℕ) → ws ≡ n ∷ [] → slice_index ws 0 ≡ n
 is_found ws n is = ap (λ xs. slice_index xs 0) is
@@ -29,7 +26,8 @@ draw_allowed k slots id amount v held present le s kept homes at small =
     let b = kept.rule in
     let found = is_found s.words n kept.is in
     let fits : n + amount < 2 ^ 63 = omega (arith, b.left, b.small, sum_at (λ u. u.account.left) s.views id v at) in
-    let total : (slice_index s.words 0 + amount) % 2 ^ 64 ≡ n + amount = ap (λ x. (x + amount) % 2 ^ 64) found ∙ below_mod (n + amount) (2 ^ 64) (omega arith) in (
+    let below : n + amount < 2 ^ 64 = omega (arith, fits) in
+    let total : (slice_index s.words 0 + amount) % 2 ^ 64 ≡ n + amount = ap (λ x. (x + amount) % 2 ^ 64) found ∙ mod-eq_of_lt below in (
       seated (after_draw amount (n + amount) v.account),
       keeps,
       tt,
