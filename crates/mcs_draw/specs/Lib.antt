@@ -1,0 +1,4 @@
+pub mod Budget
+pub mod Seats
+pub mod Steps
+pub mod Laws

@@ -1,0 +1,7 @@
+//! Tests of mcs_draw, over the library alone.
+#![tactic(auto)]
+
+#[cfg(test)]
+mod seats;
+#[cfg(test)]
+mod threads;
