@@ -1,7 +1,7 @@
 //! Contexts and bridge rules that make no system.
 
 use crate::copies::{bridges_of, contexts_of};
-use crate::systems::THREE;
+use crate::contents::THREE;
 use mcs_language::read_system;
 use mcs_system::{Bridge, BuildFault, Context, Formula, Kb, Limit, Name, System};
 use std::alloc::Global;
