@@ -13,21 +13,27 @@ fn reads(alloc: Global, bytes: &[u8], spells: bool) -> Result<bool, Memory> {
     })
 }
 
+/// Bytes, and whether they spell a name; at last 64 and 65 letters.
+const SPELLED: [(&str, bool); 7] = [
+    ("", false),
+    ("a", true),
+    ("_9", true),
+    ("9a", false),
+    ("if", false),
+    (
+        "aaaaaaaaaaaaaaaaaaaaaaaaaaaaaaaaaaaaaaaaaaaaaaaaaaaaaaaaaaaaaaaa",
+        true,
+    ),
+    (
+        "aaaaaaaaaaaaaaaaaaaaaaaaaaaaaaaaaaaaaaaaaaaaaaaaaaaaaaaaaaaaaaaaa",
+        false,
+    ),
+];
+
 #[test]
 fn reads_names(rt: HostRuntime) -> Result<(), Fail> {
-    let longest = [b'a'; 64];
-    let too_long = [b'a'; 65];
-    let table: [(&[u8], bool); 7] = [
-        (b"", false),
-        (b"a", true),
-        (b"_9", true),
-        (b"9a", false),
-        (b"if", false),
-        (&longest, true),
-        (&too_long, false),
-    ];
-    for (bytes, spells) in table {
-        assert!(rt; reads(rt.alloc(), bytes, spells)?);
+    for (text, spells) in &SPELLED {
+        assert!(rt; reads(rt.alloc(), text.as_bytes(), *spells)?);
     }
     Ok(())
 }
