@@ -204,7 +204,12 @@ fn left_of(alloc: Global, level: u32, steps: &[(Listed, u64)]) -> Result<Option<
 }
 
 /// Whether this table is left.
-fn leave(alloc: Global, level: u32, steps: &[(Listed, u64)], wanted: Listed) -> Result<bool, Memory> {
+fn leave(
+    alloc: Global,
+    level: u32,
+    steps: &[(Listed, u64)],
+    wanted: Listed,
+) -> Result<bool, Memory> {
     match left_of(alloc, level, steps)? {
         Some(left) => is_listed(alloc, &left, wanted),
         None => Ok(false),
