@@ -39,21 +39,16 @@ fn are_marks_right() -> bool {
 }
 
 #[test]
-fn vars_reach_63(rt: HostRuntime) {
-    assert!(rt; are_vars_right());
-    assert!(rt; Vars::numbered(0b101).number() == 0b101);
+fn sets_reach_their_greatest_numbers(rt: HostRuntime) {
+    assert!(rt; are_vars_right() && Vars::numbered(0b101).number() == 0b101);
+    assert!(rt; are_active_right());
+    assert!(rt; are_marks_right());
+}
+
+#[test]
+fn sets_of_the_greatest_number_are_in_order(rt: HostRuntime) {
     let (last, none) = (Vars::one(63), Vars::empty());
     assert!(rt; state_before(last, none) && !state_before(none, last));
-}
-
-#[test]
-fn active_reaches_63(rt: HostRuntime) {
-    assert!(rt; are_active_right());
-}
-
-#[test]
-fn marks_reach_127(rt: HostRuntime) {
-    assert!(rt; are_marks_right());
     let (last, none) = (Marks::one(127), Marks::empty());
     assert!(rt; pair_before(none, last) && !pair_before(last, none));
 }

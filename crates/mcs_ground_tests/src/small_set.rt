@@ -20,10 +20,7 @@ fn makes_and_compares_sets(rt: HostRuntime) {
         (outer.common(ends), 0b0001, true, true),
         (outer.minus(ends), 0b1000, false, false),
     ] {
-        assert!(rt;
-            is_told(set, number, ends, meets_ends, within_ends),
-            "{set:?}"
-        );
+        assert!(rt; is_told(set, number, ends, meets_ends, within_ends));
     }
 }
 
@@ -36,7 +33,7 @@ fn counts_members(rt: HostRuntime) {
         (ends.without(0), 2, Some(64)),
         (SmallSet::one(127), 1, Some(127)),
     ] {
-        assert!(rt; set.count() == count && set.first() == first, "{set:?}");
+        assert!(rt; set.count() == count && set.first() == first);
     }
 }
 
@@ -59,9 +56,6 @@ fn orders_sets(rt: HostRuntime) {
         (inner, outer, false, false),
         (inner, inner, false, false),
     ] {
-        assert!(rt;
-            are_ordered(set, other, as_states, as_pairs),
-            "{set:?}, {other:?}"
-        );
+        assert!(rt; are_ordered(set, other, as_states, as_pairs));
     }
 }

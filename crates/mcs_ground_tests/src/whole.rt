@@ -65,10 +65,10 @@ fn whole_files_are_read_up_to_the_limit(rt: HostRuntime) -> Result<(), Fail> {
         (8192, 8192),
         (9000, 9000),
     ] {
-        assert!(rt; fits(rt.alloc(), size, limit)?, "{size}");
+        assert!(rt; fits(rt.alloc(), size, limit)?);
     }
     for limit in [0, 1, 4095, 4096, 8192] {
-        assert!(rt; is_too_long(rt.alloc(), limit)?, "{limit}");
+        assert!(rt; is_too_long(rt.alloc(), limit)?);
     }
     Ok(())
 }
@@ -93,7 +93,7 @@ fn is_read_in_four_calls(alloc: Global) -> Result<bool, Memory> {
 fn a_failed_call_is_a_read_fault(rt: HostRuntime) -> Result<(), Fail> {
     // The open, then reads of 4096, 904 and no bytes.
     for failing in 1..5 {
-        assert!(rt; is_faulty(rt.alloc(), failing)?, "{failing}");
+        assert!(rt; is_faulty(rt.alloc(), failing)?);
     }
     assert!(rt; is_read_in_four_calls(rt.alloc())?);
     Ok(())
@@ -128,10 +128,7 @@ fn a_piece_is_written_whole_or_to_a_failure(rt: HostRuntime) -> Result<(), Fail>
         (0, 0, ""),
         (0, 2, "ab"),
     ] {
-        assert!(rt;
-            fails_after(rt.alloc(), room, failing, want)?,
-            "{failing}, {room}"
-        );
+        assert!(rt; fails_after(rt.alloc(), room, failing, want)?);
     }
     assert!(rt; is_written(rt.alloc())?);
     Ok(())

@@ -1,4 +1,5 @@
-//! Tests of mcs_trace, mcs_sat, mcs_cnf and mcs_classical, over the libraries alone.
+//! Tests of mcs_trace, mcs_sat, mcs_cnf and mcs_classical, and of what evaluates systems and is called by no crate
+//! yet: mcs_import, mcs_table and mcs_transversal; over the libraries alone.
 #![tactic(auto)]
 
 #[cfg(test)]
@@ -10,6 +11,14 @@ mod entailments;
 #[cfg(test)]
 mod formulas;
 #[cfg(test)]
+mod plans;
+#[cfg(test)]
+mod questions;
+#[cfg(test)]
 mod searches;
 #[cfg(test)]
+mod tables;
+#[cfg(test)]
 mod traces;
+#[cfg(test)]
+mod transversals;

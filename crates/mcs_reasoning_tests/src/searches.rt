@@ -143,23 +143,35 @@ fn sits(pigeon: u32, hole: u32) -> i64
     i64::from(pigeon * HOLES + hole + 1)
 }
 
-/// Each of six pigeons sits in one of five holes, and no two in one.
-fn pigeons(alloc: Global) -> Result<Cnf, Fail> {
-    let mut cnf = Cnf::new(alloc, 30);
+/// Each of six pigeons sits in one of five holes.
+fn push_seats(alloc: Global, cnf: &mut Cnf) -> Result<(), Fail> {
     for pigeon in 0..HOLES + 1 {
         let mut lits = Vec::new(alloc);
         for hole in 0..HOLES {
             lits.push(sits(pigeon, hole))?;
         }
-        push(alloc, &mut cnf, &lits)?;
+        push(alloc, cnf, &lits)?;
     }
+    Ok(())
+}
+
+/// No two of six pigeons sit in one of five holes.
+fn push_apart(alloc: Global, cnf: &mut Cnf) -> Result<(), Fail> {
     for hole in 0..HOLES {
         for second in 0..HOLES + 1 {
             for first in 0..second {
-                push(alloc, &mut cnf, &[-sits(first, hole), -sits(second, hole)])?;
+                push(alloc, cnf, &[-sits(first, hole), -sits(second, hole)])?;
             }
         }
     }
+    Ok(())
+}
+
+/// Each of six pigeons sits in one of five holes, and no two in one.
+fn pigeons(alloc: Global) -> Result<Cnf, Fail> {
+    let mut cnf = Cnf::new(alloc, 30);
+    push_seats(alloc, &mut cnf)?;
+    push_apart(alloc, &mut cnf)?;
     Ok(cnf)
 }
 

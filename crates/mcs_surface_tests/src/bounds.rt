@@ -5,15 +5,33 @@ use mcs_base::{Memory, Text};
 use std::alloc::Global;
 use std::test::Fail;
 
+/// Appends the row with the number in place of each `#`.
+fn push_row(text: &mut Text, row: &str, number: u64) -> Result<(), Memory> {
+    let mut is_first = true;
+    for part in row.split('#') {
+        if !is_first {
+            text.push_number(number)?;
+        }
+        text.push(part.as_bytes())?;
+        is_first = false;
+    }
+    Ok(())
+}
+
+/// Appends the row for each number from the first up to the one before the end.
+fn push_rows(text: &mut Text, row: &str, first: u64, end: u64) -> Result<(), Memory> {
+    for number in first..end {
+        push_row(text, row, number)?;
+    }
+    Ok(())
+}
+
 /// Four times over, that each atom up to number 64 follows from the one before: 253 items with the first atom.
 fn push_chain(text: &mut Text) -> Result<(), Memory> {
     text.push(b"context c1 classical { a1.")?;
     for number in 0..252 {
-        text.push(b" a")?;
-        text.push_number(number % 63 + 1)?;
-        text.push(b" -> a")?;
-        text.push_number(number % 63 + 2)?;
-        text.push(b".")?;
+        push_row(text, " a# -> a", number % 63 + 1)?;
+        push_row(text, "#.", number % 63 + 2)?;
     }
     text.push(b" } context c2 classical {} bridge r1: c2:x if c1:a64.")
 }
@@ -28,45 +46,42 @@ fn what_follows_in_64_steps_is_believed(rt: HostRuntime) -> Result<(), Fail> {
     Ok(())
 }
 
-/// That each pigeon sits in a hole and no two in one, and two rules that read whether the first one sits in the first.
-fn push_pigeons(text: &mut Text, count: u64, holes: u64) -> Result<(), Memory> {
-    text.push(b"context c classical {")?;
-    for pigeon in 0..count {
-        push_seats(text, pigeon, holes)?;
-        push_apart(text, pigeon, holes)?;
-    }
-    text.push(b" } context d classical {} bridge r: d:x if c:p0_0. bridge s: d:y if c:~p0_0.")
-}
-
-/// The atom that the pigeon sits in the hole.
-fn push_seat(text: &mut Text, pigeon: u64, hole: u64) -> Result<(), Memory> {
-    text.push(b"p")?;
-    text.push_number(pigeon)?;
-    text.push(b"_")?;
-    text.push_number(hole)
-}
-
 /// That the pigeon sits in a hole.
 fn push_seats(text: &mut Text, pigeon: u64, holes: u64) -> Result<(), Memory> {
     for hole in 0..holes {
-        text.push(if hole == 0 { b" " } else { b" | " })?;
-        push_seat(text, pigeon, hole)?;
+        push_row(text, if hole == 0 { " p#_" } else { " | p#_" }, pigeon)?;
+        push_row(text, "#", hole)?;
     }
     text.push(b".")
 }
 
-/// That the pigeon sits in no hole with one before it.
-fn push_apart(text: &mut Text, pigeon: u64, holes: u64) -> Result<(), Memory> {
-    for other in 0..pigeon {
-        for hole in 0..holes {
-            text.push(b" ~(")?;
-            push_seat(text, pigeon, hole)?;
-            text.push(b" & ")?;
-            push_seat(text, other, hole)?;
-            text.push(b").")?;
-        }
+/// That the pigeon sits in no hole with the other one.
+fn push_apart(text: &mut Text, pigeon: u64, other: u64, holes: u64) -> Result<(), Memory> {
+    for hole in 0..holes {
+        push_row(text, " ~(p#_", pigeon)?;
+        push_row(text, "# & p", hole)?;
+        push_row(text, "#_", other)?;
+        push_row(text, "#).", hole)?;
     }
     Ok(())
+}
+
+/// That the pigeon sits in a hole, and in none with one before it.
+fn push_pigeon(text: &mut Text, pigeon: u64, holes: u64) -> Result<(), Memory> {
+    push_seats(text, pigeon, holes)?;
+    for other in 0..pigeon {
+        push_apart(text, pigeon, other, holes)?;
+    }
+    Ok(())
+}
+
+/// That each pigeon sits in a hole and no two in one, and two rules that read whether the first one sits in the first.
+fn push_pigeons(text: &mut Text, count: u64, holes: u64) -> Result<(), Memory> {
+    text.push(b"context c classical {")?;
+    for pigeon in 0..count {
+        push_pigeon(text, pigeon, holes)?;
+    }
+    text.push(b" } context d classical {} bridge r: d:x if c:p0_0. bridge s: d:y if c:~p0_0.")
 }
 
 /// Whether this is the listing where so many pigeons sit in so many holes.
@@ -153,27 +168,6 @@ fn all_sets_of_8_variables_are_listed(rt: HostRuntime) -> Result<(), Fail> {
     let mut sink = sink_of(rt.alloc(), SOUND)?;
     let status = status_of(rt.alloc(), &JOB, EIGHT_FREE.as_bytes(), 0, &mut sink)?;
     assert!(rt; status == 0 && sink.noted().is_empty() && are_all_sets(sink.written()));
-    Ok(())
-}
-
-/// Appends the row with the number in place of each `#`.
-fn push_row(text: &mut Text, row: &str, number: u64) -> Result<(), Memory> {
-    let mut is_first = true;
-    for part in row.split('#') {
-        if !is_first {
-            text.push_number(number)?;
-        }
-        text.push(part.as_bytes())?;
-        is_first = false;
-    }
-    Ok(())
-}
-
-/// Appends the row for each number from the first up to the one before the end.
-fn push_rows(text: &mut Text, row: &str, first: u64, end: u64) -> Result<(), Memory> {
-    for number in first..end {
-        push_row(text, row, number)?;
-    }
     Ok(())
 }
 

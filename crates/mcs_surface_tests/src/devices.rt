@@ -53,7 +53,7 @@ fn is_cut(alloc: Global, written: usize) -> Result<bool, Memory> {
 #[test]
 fn each_write_of_a_byte_may_fail(rt: HostRuntime) -> Result<(), Fail> {
     for written in 0..SELF_SUPPORT_LISTING.len() {
-        assert!(rt; is_cut(rt.alloc(), written)?, "{written}");
+        assert!(rt; is_cut(rt.alloc(), written)?);
     }
     let (text, devices) = (SELF_SUPPORT.as_bytes(), Devices { most: 1, ..SOUND });
     assert!(rt; ends(rt.alloc(), &JOB, text, devices, 0, SELF_SUPPORT_LISTING, "")?);
@@ -98,10 +98,7 @@ const READS: [(&str, u64, u8, &str, &str); 6] = [
 #[test]
 fn a_failed_read_is_told(rt: HostRuntime) -> Result<(), Fail> {
     for (file, failing, status, written, noted) in &READS {
-        assert!(rt;
-            is_read(rt.alloc(), file, *failing, *status, written, noted)?,
-            "{file} at {failing}"
-        );
+        assert!(rt; is_read(rt.alloc(), file, *failing, *status, written, noted)?);
     }
     Ok(())
 }

@@ -43,7 +43,7 @@ const LISTINGS: [(&str, &str); 8] = [
 #[test]
 fn equilibria_are_listed(rt: HostRuntime) -> Result<(), Fail> {
     for (text, listing) in &LISTINGS {
-        assert!(rt; is_listed(rt.alloc(), text.as_bytes(), listing)?, "{text}");
+        assert!(rt; is_listed(rt.alloc(), text.as_bytes(), listing)?);
     }
     Ok(())
 }

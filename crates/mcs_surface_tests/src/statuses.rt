@@ -7,9 +7,14 @@ use std::test::Fail;
 
 #[test]
 fn statuses_have_their_numbers(rt: HostRuntime) -> Result<(), Fail> {
-    assert!(rt; Status::Done.number() == 0 && Status::Usage.number() == 2);
-    assert!(rt; Status::Refused.number() == 3 && Status::ReadFault.number() == 5);
-    assert!(rt; Status::WriteFault.number() == 6 && Status::OutOfMemory.number() == 7);
+    assert!(rt;
+        Status::Done.number() == 0
+            && Status::Usage.number() == 2
+            && Status::Refused.number() == 3
+            && Status::ReadFault.number() == 5
+            && Status::WriteFault.number() == 6
+            && Status::OutOfMemory.number() == 7
+    );
     Ok(())
 }
 

@@ -23,10 +23,7 @@ fn words_that_are_no_job_are_told(rt: HostRuntime) -> Result<(), Fail> {
     let text = SELF_SUPPORT.as_bytes();
     let line = "mcs: usage: mcs JOB FILE [REPORT] [--budget N] [--workers N] [--proof]\n";
     for words in &NO_JOBS {
-        assert!(rt;
-            ends(rt.alloc(), words, text, SOUND, 2, "", line)?,
-            "{words:?}"
-        );
+        assert!(rt; ends(rt.alloc(), words, text, SOUND, 2, "", line)?);
     }
     Ok(())
 }
@@ -41,10 +38,7 @@ const JOBS: [&[&str]; 3] = [
 fn options_and_words_after_two_dashes_are_taken(rt: HostRuntime) -> Result<(), Fail> {
     let (text, listing) = (SELF_SUPPORT.as_bytes(), SELF_SUPPORT_LISTING);
     for words in &JOBS {
-        assert!(rt;
-            ends(rt.alloc(), words, text, SOUND, 0, listing, "")?,
-            "{words:?}"
-        );
+        assert!(rt; ends(rt.alloc(), words, text, SOUND, 0, listing, "")?);
     }
     Ok(())
 }

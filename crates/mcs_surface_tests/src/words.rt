@@ -60,10 +60,7 @@ const JOBS: [(&str, &str, u64, u32); 9] = [
 #[test]
 fn words_that_ask_for_a_job(rt: HostRuntime) -> Result<(), Fail> {
     for (line, name, questions, threads) in &JOBS {
-        assert!(rt;
-            asks_for(rt.alloc(), line, name, *questions, *threads)?,
-            "{line}"
-        );
+        assert!(rt; asks_for(rt.alloc(), line, name, *questions, *threads)?);
     }
     Ok(())
 }
@@ -114,7 +111,7 @@ fn words_that_ask_for_none(rt: HostRuntime) -> Result<(), Fail> {
     one_job();
     assert!(rt; read_words(rt.alloc(), &[]) == Err(WordsFault::Usage));
     for line in &NO_JOBS {
-        assert!(rt; asks_for_none(rt.alloc(), line)?, "{line}");
+        assert!(rt; asks_for_none(rt.alloc(), line)?);
     }
     Ok(())
 }

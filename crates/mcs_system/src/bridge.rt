@@ -42,12 +42,15 @@ impl Bridge {
     pub fn copy(&self, alloc: Global) -> Result<Bridge, Memory>
         ensures { IfOk result (λ b. bridge_of b ≡ bridge_of self.now) }
     {
+        let name = self.name.copy(alloc)?;
+        let pos = copy_reads(alloc, &self.pos)?;
+        let neg = copy_reads(alloc, &self.neg)?;
         Ok(Bridge {
-            name: self.name.copy(alloc)?,
+            name,
             target: self.target,
             head: self.head.copy(alloc)?,
-            pos: copy_reads(alloc, &self.pos)?,
-            neg: copy_reads(alloc, &self.neg)?,
+            pos,
+            neg,
         })
     }
 }

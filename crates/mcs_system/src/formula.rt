@@ -37,6 +37,7 @@ impl PartialEq for Formula {
 
 impl Formula {
     /// An equal formula.
+    #[cycle(copy)]
     pub fn copy(&self, alloc: Global) -> Result<Formula, Memory>
         ensures { IfOk result (λ f. formula_of f ≡ formula_of self.now) }
     {
@@ -44,25 +45,25 @@ impl Formula {
             Formula::True => Formula::True,
             Formula::False => Formula::False,
             Formula::Atom(name) => Formula::Atom(name.copy(alloc)?),
-            Formula::Not(g) => Formula::Not(Box::new(alloc, g.copy(alloc)?)?),
-            Formula::And(g, h) => Formula::And(
-                Box::new(alloc, g.copy(alloc)?)?,
-                Box::new(alloc, h.copy(alloc)?)?,
-            ),
-            Formula::Or(g, h) => Formula::Or(
-                Box::new(alloc, g.copy(alloc)?)?,
-                Box::new(alloc, h.copy(alloc)?)?,
-            ),
+            Formula::Not(g) => Formula::Not(copy_in_box(alloc, g)?),
+            Formula::And(g, h) => Formula::And(copy_in_box(alloc, g)?, copy_in_box(alloc, h)?),
+            Formula::Or(g, h) => Formula::Or(copy_in_box(alloc, g)?, copy_in_box(alloc, h)?),
             Formula::Implies(g, h) => Formula::Implies(
-                Box::new(alloc, g.copy(alloc)?)?,
-                Box::new(alloc, h.copy(alloc)?)?,
+                copy_in_box(alloc, g)?,
+                copy_in_box(alloc, h)?,
             ),
-            Formula::Iff(g, h) => Formula::Iff(
-                Box::new(alloc, g.copy(alloc)?)?,
-                Box::new(alloc, h.copy(alloc)?)?,
-            ),
+            Formula::Iff(g, h) => Formula::Iff(copy_in_box(alloc, g)?, copy_in_box(alloc, h)?),
         })
     }
+}
+
+/// An equal formula, in a box.
+#[cycle(copy)]
+fn copy_in_box(alloc: Global, formula: &Formula) -> Result<Box<Formula>, Memory>
+    ensures { IfOk result (λ f. formula_of f.value ≡ formula_of formula.now) }
+{
+    let copy = formula.copy(alloc)?;
+    Ok(Box::new(alloc, copy)?)
 }
 
 /// Equal formulas, in the same order.

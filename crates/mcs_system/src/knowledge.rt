@@ -22,11 +22,19 @@ impl Default {
     pub fn copy(&self, alloc: Global) -> Result<Default, Memory>
         ensures { IfOk result (λ d. default_of d ≡ default_of self.now) }
     {
-        Ok(Default {
-            pre: self.pre.copy(alloc)?,
-            justs: copy_formulas(alloc, &self.justs)?,
-            conclusion: self.conclusion.copy(alloc)?,
-        })
+        let justs = copy_formulas(alloc, &self.justs)?;
+        let pre = self.pre.copy(alloc)?;
+        match self.conclusion.copy(alloc) {
+            Ok(conclusion) => Ok(Default {
+                pre,
+                justs,
+                conclusion,
+            }),
+            Err(want) => {
+                drop((pre, justs));
+                Err(want)
+            }
+        }
     }
 }
 

@@ -28,38 +28,26 @@ pub(crate) fn has_fault(
     }
 }
 
-/// Something is missing, too much, or begins no token.
-const NO_GRAMMAR: [(&str, usize); 13] = [
-    ("context", 7),
-    ("context context classical {}", 8),
-    ("context c logical {}", 10),
-    ("context c classical {} }", 23),
-    ("context c classical { p & | q. }", 26),
-    ("context c classical { p : q / r. }", 24),
-    ("context c default { p : / r. }", 24),
-    ("context c program { a : b. }", 22),
-    ("context c program { a | not b. }", 24),
-    ("bridge r c:p.", 9),
-    ("context c classical {} bridge r: c:p & q.", 37),
+/// Texts, the numbers of their faults, and their offsets: first where something is missing, too much, or begins no
+/// token, then of names.
+const FAULTS: [(&str, u8, usize); 19] = [
+    ("context", 1, 7),
+    ("context context classical {}", 1, 8),
+    ("context c logical {}", 1, 10),
+    ("context c classical {} }", 1, 23),
+    ("context c classical { p & | q. }", 1, 26),
+    ("context c classical { p : q / r. }", 1, 24),
+    ("context c default { p : / r. }", 1, 24),
+    ("context c program { a : b. }", 1, 22),
+    ("context c program { a | not b. }", 1, 24),
+    ("bridge r c:p.", 1, 9),
+    ("context c classical {} bridge r: c:p & q.", 1, 37),
     (
         "context c classical {} bridge r: c:p. context d classical {}",
+        1,
         38,
     ),
-    ("context c classical { p ? }", 24),
-];
-
-#[test]
-fn what_begins_no_text_is_a_fault(rt: HostRuntime) {
-    for (text, offset) in &NO_GRAMMAR {
-        assert!(rt;
-            has_fault(rt.alloc(), text.as_bytes(), 1, *offset, None),
-            "{text}"
-        );
-    }
-}
-
-/// The numbers of the faults of names, and their offsets.
-const OF_NAMES: [(&str, u8, usize); 6] = [
+    ("context c classical { p ? }", 1, 24),
     // A context that is not there, before other faults of the token.
     ("bridge r: c:p.", 2, 10),
     ("context c classical {} bridge r: c:p if not d:q.", 2, 44),
@@ -76,12 +64,9 @@ const OF_NAMES: [(&str, u8, usize); 6] = [
 ];
 
 #[test]
-fn names_have_faults_at_their_tokens(rt: HostRuntime) {
-    for (text, number, offset) in &OF_NAMES {
-        assert!(rt;
-            has_fault(rt.alloc(), text.as_bytes(), *number, *offset, None),
-            "{text}"
-        );
+fn faults_stand_at_their_tokens(rt: HostRuntime) {
+    for (text, number, offset) in &FAULTS {
+        assert!(rt; has_fault(rt.alloc(), text.as_bytes(), *number, *offset, None));
     }
 }
 
@@ -95,7 +80,7 @@ const FAULTLESS: [&str; 3] = [
 #[test]
 fn texts_without_faults_are_read(rt: HostRuntime) {
     for text in &FAULTLESS {
-        assert!(rt; is_text(rt.alloc(), text.as_bytes()), "{text}");
+        assert!(rt; is_text(rt.alloc(), text.as_bytes()));
     }
 }
 
@@ -135,6 +120,6 @@ fn is_front(alloc: Global, end: usize) -> bool {
 fn each_front_of_a_text_lacks_something_or_is_a_text(rt: HostRuntime) {
     assert!(rt; EACH_CONSTRUCT.len() == 190);
     for end in 0..=190 {
-        assert!(rt; is_front(rt.alloc(), end), "{end}");
+        assert!(rt; is_front(rt.alloc(), end));
     }
 }

@@ -1,10 +1,20 @@
-//! Tests of mcs_tokens and mcs_language, over the libraries alone.
+//! Tests of mcs_system, mcs_tokens and mcs_language, over the libraries alone.
 #![tactic(auto)]
 
+#[cfg(test)]
+mod build_faults;
+#[cfg(test)]
+mod contents;
+#[cfg(test)]
+mod copies;
 #[cfg(test)]
 mod faults;
 #[cfg(test)]
 mod limits;
+#[cfg(test)]
+mod names;
+#[cfg(test)]
+mod same;
 #[cfg(test)]
 mod systems;
 #[cfg(test)]

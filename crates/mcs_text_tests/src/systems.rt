@@ -1,21 +1,26 @@
 //! The system of a text, and its canonical text.
 
 use crate::faults::EACH_CONSTRUCT;
-use mcs_base::Text;
+use mcs_base::{Memory, Text};
 use mcs_language::{
     read_system, spelled_texts_have_no_fault, texts_are_unambiguous, texts_have_one_fault,
     write_system,
 };
-use mcs_system::Bridge;
+use mcs_system::{Bridge, System};
 use std::alloc::Global;
 use std::test::Fail;
+
+/// Whether this is the canonical text of the system.
+pub(crate) fn is_written(alloc: Global, system: &System, want: &[u8]) -> Result<bool, Memory> {
+    let mut written = Text::new(alloc);
+    write_system(system, &mut written)?;
+    Ok(written.bytes() == want)
+}
 
 /// Whether this is the canonical text of the system that a text spells.
 fn is_written_as(alloc: Global, text: &str, want: &str) -> Result<bool, Fail> {
     let system = read_system(alloc, text.as_bytes())?;
-    let mut written = Text::new(alloc);
-    write_system(&system, &mut written)?;
-    Ok(written.bytes() == want.as_bytes())
+    Ok(is_written(alloc, &system, want.as_bytes())?)
 }
 
 /// Texts, and the canonical ones of their systems.
@@ -47,8 +52,8 @@ const CANONICAL: [(&str, &str); 6] = [
 #[test]
 fn texts_are_written_in_one_way(rt: HostRuntime) -> Result<(), Fail> {
     for (text, want) in &CANONICAL {
-        assert!(rt; is_written_as(rt.alloc(), text, want)?, "{text}");
-        assert!(rt; is_written_as(rt.alloc(), want, want)?, "{text}");
+        assert!(rt; is_written_as(rt.alloc(), text, want)?);
+        assert!(rt; is_written_as(rt.alloc(), want, want)?);
     }
     Ok(())
 }
@@ -56,8 +61,20 @@ fn texts_are_written_in_one_way(rt: HostRuntime) -> Result<(), Fail> {
 /// Whether the rule reads one belief that has to hold, and one of the third context that must not.
 fn reads_one_of_each(bridge: &Bridge) -> bool {
     bridge.pos.len() == 1
-        && bridge.neg.len() == 1
-        && bridge.neg.iter().all(|read| read.context == 2)
+        && match bridge.neg.as_slice() {
+            [read] => read.context == 2,
+            _ => false,
+        }
+}
+
+/// Whether there are three contexts, two variables, and one rule that reads one of each.
+fn has_one_rule(system: &System) -> bool {
+    system.contexts().len() == 3
+        && system.variables().len() == 2
+        && match system.bridges() {
+            [bridge] => reads_one_of_each(bridge),
+            _ => false,
+        }
 }
 
 #[test]
@@ -66,13 +83,6 @@ fn texts_spell_one_system_each(rt: HostRuntime) -> Result<(), Fail> {
     texts_have_one_fault();
     spelled_texts_have_no_fault();
     let system = read_system(rt.alloc(), EACH_CONSTRUCT.as_bytes())?;
-    assert!(rt; system.contexts().len() == 3 && system.variables().len() == 2);
-    assert!(rt; system.bridges().len() == 1);
-    assert!(rt;
-        system
-            .bridges()
-            .iter()
-            .all(|bridge| reads_one_of_each(bridge))
-    );
+    assert!(rt; has_one_rule(&system));
     Ok(())
 }

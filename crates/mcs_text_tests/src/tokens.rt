@@ -31,11 +31,12 @@ fn is_told(byte: u8) -> bool {
 #[test]
 fn one_byte(rt: HostRuntime) {
     for byte in 0..=255u8 {
-        assert!(rt; is_told(byte), "{byte}");
+        assert!(rt; is_told(byte));
     }
 }
 
-const GAPS: [(&[u8], &[(usize, usize)]); 7] = [
+/// Texts, and the offsets from and up to which their tokens stand: first of gaps, then of words and signs.
+const SPANS: [(&[u8], &[(usize, usize)]); 13] = [
     (b"", &[]),
     (b" \t\r\n", &[]),
     (b"a#b", &[(0, 1)]),
@@ -43,17 +44,6 @@ const GAPS: [(&[u8], &[(usize, usize)]); 7] = [
     (b"#a\r.\nb", &[(5, 6)]),
     (b"a\r\nb\r", &[(0, 1), (3, 4)]),
     (b"a##\n#\n_", &[(0, 1), (6, 7)]),
-];
-
-#[test]
-fn gaps(rt: HostRuntime) -> Result<(), Fail> {
-    for (text, expected) in &GAPS {
-        assert!(rt; has_tokens(rt.alloc(), text, expected)?, "{text:?}");
-    }
-    Ok(())
-}
-
-const WORDS_AND_SIGNS: [(&[u8], &[(usize, usize)]); 6] = [
     (b"_a1 1a", &[(0, 3), (4, 5), (5, 6)]),
     (b"<->", &[(0, 3)]),
     (b"<-", &[(0, 1), (1, 2)]),
@@ -63,9 +53,9 @@ const WORDS_AND_SIGNS: [(&[u8], &[(usize, usize)]); 6] = [
 ];
 
 #[test]
-fn words_and_signs(rt: HostRuntime) -> Result<(), Fail> {
-    for (text, expected) in &WORDS_AND_SIGNS {
-        assert!(rt; has_tokens(rt.alloc(), text, expected)?, "{text:?}");
+fn gaps_words_and_signs(rt: HostRuntime) -> Result<(), Fail> {
+    for (text, expected) in &SPANS {
+        assert!(rt; has_tokens(rt.alloc(), text, expected)?);
     }
     Ok(())
 }
@@ -97,22 +87,23 @@ fn ends_before_each(alloc: Global, first: &[u8]) -> Result<bool, Fail> {
 #[test]
 fn pairs_of_signs(rt: HostRuntime) -> Result<(), Fail> {
     for first in &SIGNS {
-        assert!(rt; ends_before_each(rt.alloc(), first)?, "{first:?}");
+        assert!(rt; ends_before_each(rt.alloc(), first)?);
     }
     Ok(())
 }
 
 #[test]
-fn long_words(rt: HostRuntime) -> Result<(), Fail> {
+fn long_words_and_reserved_words(rt: HostRuntime) -> Result<(), Fail> {
     let word = vec![in rt.alloc(); b'x'; 65]?;
-    assert!(rt; next_token(&word, 0) == (0, 65));
-    assert!(rt; kind_of(&word) == TokenKind::LongName && kind_of(&word[..64]) == TokenKind::Name);
+    assert!(rt;
+        next_token(&word, 0) == (0, 65)
+            && kind_of(&word) == TokenKind::LongName
+            && kind_of(&word[..64]) == TokenKind::Name
+    );
+    assert!(rt;
+        kind_of(b"know") == TokenKind::Keyword(Keyword::Know)
+            && kind_of(b"knows") == TokenKind::Name
+            && kind_of(b":-") == TokenKind::Sign(Sign::If)
+    );
     Ok(())
-}
-
-#[test]
-fn reserved_words_and_signs(rt: HostRuntime) {
-    assert!(rt; kind_of(b"know") == TokenKind::Keyword(Keyword::Know));
-    assert!(rt; kind_of(b"knows") == TokenKind::Name);
-    assert!(rt; kind_of(b":-") == TokenKind::Sign(Sign::If));
 }

@@ -45,11 +45,16 @@ fn joined(alloc: Global, a: &Table, b: &Table, level: u32) -> Result<Option<Tabl
     }
 }
 
+/// Whether the table has this scope and these rows.
+fn is_listed(alloc: Global, found: &Table, wanted: Listed) -> Result<bool, Memory> {
+    let wanted = table(alloc, wanted)?;
+    Ok(found.scope() == wanted.scope() && found.rows() == wanted.rows())
+}
+
 /// Whether the join has this scope and these rows.
 fn gives(alloc: Global, a: &Table, b: &Table, level: u32, wanted: Listed) -> Result<bool, Memory> {
-    let wanted = table(alloc, wanted)?;
     match joined(alloc, a, b, level)? {
-        Some(found) => Ok(found.scope() == wanted.scope() && found.rows() == wanted.rows()),
+        Some(found) => is_listed(alloc, &found, wanted),
         None => Ok(false),
     }
 }
@@ -90,10 +95,11 @@ fn each_state_keeps_its_minimal_rows(rt: HostRuntime) -> Result<(), Fail> {
     Ok(())
 }
 
-/// Whether a table without the variables that are not of the other's scope has its rows.
+/// Whether a table without the variables that are not of the other's scope is the other.
 fn leaves(alloc: Global, of: Listed, wanted: Listed) -> Result<bool, Memory> {
-    let (of, wanted) = (table(alloc, of)?, table(alloc, wanted)?);
-    Ok(forget(alloc, &of, wanted.scope())?.rows() == wanted.rows())
+    let of = table(alloc, of)?;
+    let left = forget(alloc, &of, Vars::numbered(wanted.0))?;
+    is_listed(alloc, &left, wanted)
 }
 
 #[test]
@@ -150,21 +156,36 @@ fn is_plain(alloc: Global, a: &Table, b: &Table, level: u32) -> Result<bool, Mem
     }
 }
 
-#[test]
-fn joins_are_plain_joins(rt: HostRuntime) -> Result<(), Fail> {
-    let rows = &[
+/// Whether at each level below 5 the two have the plain join.
+fn are_plain(alloc: Global, a: Listed, b: Listed) -> Result<bool, Memory> {
+    let (a, b) = (table(alloc, a)?, table(alloc, b)?);
+    for level in 0..5 {
+        if !is_plain(alloc, &a, &b, level)? {
+            return Ok(false);
+        }
+    }
+    Ok(true)
+}
+
+const FIRST: Listed = (
+    0b0011,
+    &[
         (0, 0),
         (0b01, 0b1),
         (0b01, 0b10),
         (0b11, 0b11),
         (0b10, 0b11),
-    ];
-    let a = table(rt.alloc(), (0b0011, rows))?;
-    let rows = &[(0, 0b1000), (0b010, 0b100), (0b110, 0), (0b110, 0b1100)];
-    let b = table(rt.alloc(), (0b0110, rows))?;
-    for level in 0..5 {
-        assert!(rt; is_plain(rt.alloc(), &a, &b, level)?, "{level}");
-    }
+    ],
+);
+
+const SECOND: Listed = (
+    0b0110,
+    &[(0, 0b1000), (0b010, 0b100), (0b110, 0), (0b110, 0b1100)],
+);
+
+#[test]
+fn joins_are_plain_joins(rt: HostRuntime) -> Result<(), Fail> {
+    assert!(rt; are_plain(rt.alloc(), FIRST, SECOND)?);
     Ok(())
 }
 
@@ -182,32 +203,39 @@ fn left_of(alloc: Global, level: u32, steps: &[(Listed, u64)]) -> Result<Option<
     Ok(Some(left))
 }
 
-/// Whether no variable is left, and the rows have these marks.
-fn leave(alloc: Global, level: u32, steps: &[(Listed, u64)], marks: &[u8]) -> Result<bool, Memory> {
-    let left = match left_of(alloc, level, steps)? {
-        Some(left) => left,
-        None => return Ok(false),
-    };
-    let mut wanted = Vec::new(alloc);
-    for set in marks {
-        wanted.push(row(Vars::empty(), 0, *set))?;
+/// Whether this table is left.
+fn leave(
+    alloc: Global,
+    level: u32,
+    steps: &[(Listed, u64)],
+    wanted: Listed,
+) -> Result<bool, Memory> {
+    match left_of(alloc, level, steps)? {
+        Some(left) => is_listed(alloc, &left, wanted),
+        None => Ok(false),
     }
-    Ok(left.scope() == Vars::empty() && left.rows() == wanted.as_slice())
 }
+
+const A: Listed = (0b011, &[(0b01, 0), (0b10, 0b1), (0b11, 0b11)]);
+
+const B: Listed = (0b110, &[(0, 0b100), (0b100, 0b1000), (0b010, 0)]);
+
+const C: Listed = (0b100, &[(0, 0b10000), (0b100, 0)]);
+
+/// Three orders of the tables, and beside each table the variables that are kept after its join.
+const ORDERS: [[(Listed, u64); 3]; 3] = [
+    [(A, 0b110), (B, 0b100), (C, 0)],
+    [(C, 0b110), (B, 0b011), (A, 0)],
+    [(B, 0b111), (A, 0b100), (C, 0)],
+];
 
 /// Of the joint rows, one takes mark 3, and the others take mark 4 with one of the marks 0 and 2, or with 0 and 1.
 #[test]
 fn elimination_leaves_minimal_marks(rt: HostRuntime) -> Result<(), Fail> {
-    let a: Listed = (0b011, &[(0b01, 0), (0b10, 0b1), (0b11, 0b11)]);
-    let b: Listed = (0b110, &[(0, 0b100), (0b100, 0b1000), (0b010, 0)]);
-    let c: Listed = (0b100, &[(0, 0b10000), (0b100, 0)]);
-    for steps in [
-        [(a, 0b110), (b, 0b100), (c, 0)],
-        [(c, 0b110), (b, 0b011), (a, 0)],
-        [(b, 0b111), (a, 0b100), (c, 0)],
-    ] {
-        assert!(rt; leave(rt.alloc(), 2, &steps, &[0b01000, 0b10001, 0b10100])?);
-        assert!(rt; leave(rt.alloc(), 1, &steps, &[0b01000])?);
+    let two: Listed = (0, &[(0, 0b01000), (0, 0b10001), (0, 0b10100)]);
+    for steps in &ORDERS {
+        assert!(rt; leave(rt.alloc(), 2, steps, two)?);
+        assert!(rt; leave(rt.alloc(), 1, steps, (0, &[(0, 0b01000)]))?);
     }
     Ok(())
 }

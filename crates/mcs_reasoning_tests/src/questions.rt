@@ -38,10 +38,7 @@ fn asks_by_guesses(rt: HostRuntime) -> Result<(), Fail> {
         (TWO_RULES, 0, [none, both].as_slice()),
         (TWO_RULES, 1, [none, one, two, both].as_slice()),
     ] {
-        assert!(rt;
-            are_questions(rt.alloc(), text, level, sets)?,
-            "{text} {level}"
-        );
+        assert!(rt; are_questions(rt.alloc(), text, level, sets)?);
     }
     Ok(())
 }

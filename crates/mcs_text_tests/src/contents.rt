@@ -92,15 +92,6 @@ fn are_told(system: &System) -> bool {
     )
 }
 
-#[test]
-fn tells_of_contexts(rt: HostRuntime) -> Result<(), Fail> {
-    let system = read_system(rt.alloc(), THREE)?;
-    assert!(rt; system.contexts().len() == 3 && system.bridges().len() == 4);
-    assert!(rt; are_five(system.variables()));
-    assert!(rt; are_told(&system));
-    Ok(())
-}
-
 /// Whether the right rules into each of the three contexts apply, and of all rules.
 fn are_applicable(system: &System) -> bool {
     let state = Vars::one(0).with(3);
@@ -113,8 +104,12 @@ fn are_applicable(system: &System) -> bool {
 }
 
 #[test]
-fn tells_applicable_rules(rt: HostRuntime) -> Result<(), Fail> {
+fn tells_of_contexts_and_rules(rt: HostRuntime) -> Result<(), Fail> {
     let system = read_system(rt.alloc(), THREE)?;
+    assert!(rt;
+        system.contexts().len() == 3 && system.bridges().len() == 4 && are_five(system.variables())
+    );
+    assert!(rt; are_told(&system));
     assert!(rt; are_applicable(&system));
     Ok(())
 }

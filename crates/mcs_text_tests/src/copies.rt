@@ -1,7 +1,8 @@
 //! Copies of contexts and bridge rules.
 
-use mcs_base::{Memory, Text};
-use mcs_language::{read_system, write_system};
+use crate::systems::is_written;
+use mcs_base::Memory;
+use mcs_language::read_system;
 use mcs_system::{Bridge, Context, System};
 use std::alloc::Global;
 use std::test::Fail;
@@ -41,24 +42,19 @@ context c4 classical {
 bridge r1: c4:false if not c2:true, not c3:true.
 ";
 
-/// The system of copies of the contexts and rules of another one.
-fn copy_of(alloc: Global, system: &System) -> Result<System, Fail> {
-    let contexts = contexts_of(alloc, system)?;
-    let bridges = bridges_of(alloc, system)?;
+/// The system of copies of the contexts and rules of the one that the text spells.
+fn copy_of(alloc: Global, text: &[u8]) -> Result<System, Fail> {
+    let system = read_system(alloc, text)?;
+    let contexts = contexts_of(alloc, &system)?;
+    let bridges = bridges_of(alloc, &system)?;
+    drop(system);
     Ok(System::build(alloc, contexts, bridges)?)
-}
-
-/// Whether the system of copies is written so.
-fn is_copied(alloc: Global, system: &System, text: &[u8]) -> Result<bool, Fail> {
-    let mut written = Text::new(alloc);
-    write_system(&copy_of(alloc, system)?, &mut written)?;
-    Ok(written.bytes() == text)
 }
 
 /// The copies are seen in the text that is written of them.
 #[test]
 fn copies_have_each_construct(rt: HostRuntime) -> Result<(), Fail> {
-    let system = read_system(rt.alloc(), EACH)?;
-    assert!(rt; is_copied(rt.alloc(), &system, EACH)?);
+    let system = copy_of(rt.alloc(), EACH)?;
+    assert!(rt; is_written(rt.alloc(), &system, EACH)?);
     Ok(())
 }

@@ -61,10 +61,7 @@ fn orders_contexts(rt: HostRuntime) -> Result<(), Fail> {
         (MIDDLE, in_order, 1, [0].as_slice(), Vars::one(1).with(2)),
         (TWO_RINGS, second_first, 0, [3].as_slice(), Vars::one(1)),
     ] {
-        assert!(rt;
-            is_planned(rt.alloc(), text, order, i, supplied, guessed)?,
-            "{text}"
-        );
+        assert!(rt; is_planned(rt.alloc(), text, order, i, supplied, guessed)?);
     }
     Ok(())
 }
@@ -142,7 +139,7 @@ context c3 program { x :- y, not z. }",
 fn plans_of_one_system_are_the_same(rt: HostRuntime) -> Result<(), Fail> {
     assert!(rt; are_same(rt.alloc(), KINDS, SPACED)?);
     for text in OTHERS {
-        assert!(rt; !are_same(rt.alloc(), KINDS, text)?, "{text}");
+        assert!(rt; !are_same(rt.alloc(), KINDS, text)?);
     }
     Ok(())
 }

@@ -111,7 +111,7 @@ fn as_the_definition_says(rt: HostRuntime) -> Result<(), Fail> {
     ] {
         let edges = numbers.map(|number| subset(number));
         let sets = expected(rt.alloc(), &edges)?;
-        assert!(rt; are_minimal(rt.alloc(), &edges, &sets)?, "{edges:?}");
+        assert!(rt; are_minimal(rt.alloc(), &edges, &sets)?);
     }
     Ok(())
 }
