@@ -1,3 +1,5 @@
 pub mod Answers
 pub mod Trails
-pub mod Turns
+pub mod Learning
+pub mod Watching
+pub mod States
