@@ -9,16 +9,11 @@ use Rattle.mcs_trace.specs.Resolution.{IsResolvent}
 use Rattle.mcs_trace.specs.Traces.{numbered, ResolvesTo, IsChainResolvent, AreRightSteps, EndsEmpty, inference_of, clauses_of}
 use Rattle.mcs_trace.specs.declared.trace.Step.{Step}
 use Rattle.mcs_trace.proofs.TraceLemmas.{ends-last}
-use Rattle.mcs_sat.specs.Trails.{IsNumber}
 
 -- ---- numbered clauses
 pub numbered-more : (known more : List (List ℤ)) (n : ℕ) (c : List ℤ) → numbered known n ≡ Some c → numbered (known ++ more) n ≡ Some c
 numbered-more known more zero c e = absurd (cc)
 numbered-more known more (suc n) c e = slice_get_kept known more n c e
-
-pub numbered-bound : (known : List (List ℤ)) (n : ℕ) (c : List ℤ) → numbered known n ≡ Some c → IsNumber (length known) n
-numbered-bound known zero c e = absurd (cc)
-numbered-bound known (suc n) c e = let less = slice_get_within known n c e in (omega arith, omega arith)
 
 pub numbered-last : (known : List (List ℤ)) (c : List ℤ) (n : ℕ) → n ≡ length known + 1 → numbered (known ++ c ∷ []) n ≡ Some c
 numbered-last known c n e = ap (numbered (known ++ c ∷ [])) (let e' : n ≡ suc (length known) = omega arith in e') ∙ slice_get_seam known c [] (length known) refl

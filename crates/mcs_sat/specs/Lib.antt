@@ -3,3 +3,4 @@ pub mod Trails
 pub mod Learning
 pub mod Watching
 pub mod States
+pub mod Solvers

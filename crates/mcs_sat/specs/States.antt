@@ -1,10 +1,13 @@
 -- What a solver keeps.
-use Rattle.std.specs.Prelude.{◌≡◌, ℕ, ◌*◌, ◌^◌, ◌<◌, ◌≤◌, ◌⊎◌, List, [], ℤ, length, take, Some, slice_get}
+use Rattle.std.specs.Prelude.{◌≡◌, ℕ, ◌+◌, ◌-◌, ◌*◌, ◌^◌, ◌<◌, ◌≤◌, ◌⊎◌, List, [], ◌∷◌, ◌++◌, ℤ, neg_ℤ, length, take, Some, None, slice_get}
 use Rattle.mcs_trace.specs.Traces.{IsChainResolvent}
+use Rattle.mcs_sat.specs.declared.latest.Latest.{Latest}
 use Rattle.mcs_sat.specs.declared.state.Reach.{Reach}
 use Rattle.mcs_sat.specs.declared.state.State.{State}
+use Rattle.mcs_sat.specs.declared.state.Turn.{Turn}
 use Rattle.mcs_sat.specs.declared.trail.Entry.{Entry}
-use Rattle.mcs_sat.specs.Trails.{AreLevelled, IsTrail, decisions, reason_at}
+use Rattle.mcs_sat.specs.Learning.{IsLatest}
+use Rattle.mcs_sat.specs.Trails.{AreLevelled, IsTrail, decisions, level_at, literal_at, reason_at}
 use Rattle.mcs_sat.specs.Watching.{AreWatched, IsReached}
 
 -- the levels above 0 begin at the decisions, in their order
@@ -31,6 +34,53 @@ pub record IsState (s : State) : Type 0 where
   pub starts : AreStarts s.trail.entries.items s.levels.items
   pub watched : AreWatched s.clauses s.watches
   pub bound : s.visited ≤ length s.trail.entries.items
-  pub bounds : (k : ℕ) (r : Reach) → slice_get s.levels.items k ≡ Some r → r.visited ≤ r.entries
+  pub short_bound : s.settled ≤ length s.watches.short.items
+  pub bounds : (k : ℕ) (r : Reach) → slice_get s.levels.items k ≡ Some r → (r.visited ≤ r.entries) × (r.settled ≤ length s.watches.short.items)
   pub reached : (k : ℕ) (r : Reach) → slice_get s.levels.items k ≡ Some r → IsReached s.clauses s.watches s.trail.entries.items r
   pub now : IsReached s.clauses s.watches s.trail.entries.items (reach_of s)
+
+-- ---- what changes
+-- the clauses and what they watch stay
+pub record SameClauses (old new : State) : Type 0 where
+  pub clauses : new.clauses ≡ old.clauses
+  pub chains : new.chains ≡ old.chains
+  pub positions : length new.trail.positions.items ≡ length old.trail.positions.items
+
+-- a level is opened with the literal
+pub record IsDecided (old new : State) (literal : ℤ) : Type 0 where
+  pub entries : new.trail.entries.items ≡ old.trail.entries.items ++ record { literal = literal; reason = 0; level = length old.levels.items + 1 } ∷ []
+  pub levels : new.levels.items ≡ old.levels.items ++ reach_of old ∷ []
+
+-- the levels above the one are taken back
+pub record IsBack (old new : State) (level : ℕ) : Type 0 where
+  pub entries : (r : Reach) → slice_get old.levels.items level ≡ Some r → new.trail.entries.items ≡ take r.entries old.trail.entries.items
+  pub levels : new.levels.items ≡ take level old.levels.items
+
+-- a clause is learnt: the levels above that of its latest literal but one are taken back, or all above 0 where it has but one
+pub record IsLearntBack (old new : State) (c : List ℤ) (ns : List ℕ) : Type 0 where
+  pub clauses : new.clauses ≡ old.clauses ++ c ∷ []
+  pub chains : new.chains ≡ old.chains ++ ns ∷ []
+  pub latest : Latest
+  pub is_latest : IsLatest old.trail.entries.items c latest
+  pub level : ℕ
+  pub below : level < length old.levels.items
+  pub none : latest.others ≡ 0 → level ≡ 0
+  pub some : 0 < latest.others → level ≡ level_at old.trail.entries.items (latest.others - 1)
+  pub back : IsBack old new level
+
+-- the clauses, the literals made true and the levels stay
+pub record IsUnchanged (old new : State) : Type 0 where
+  pub clauses : new.clauses ≡ old.clauses
+  pub chains : new.chains ≡ old.chains
+  pub entries : new.trail.entries.items ≡ old.trail.entries.items
+  pub levels : new.levels.items ≡ old.levels.items
+
+abbrev pub IsLastLevel : List Reach → Reach → Type 0
+IsLastLevel levels r = slice_get levels (length levels - 1) ≡ Some r
+
+-- back to the level of the latest of the others, or to level 0
+abbrev pub IsTurn : List Entry → Latest → Turn → Type 0
+IsTurn entries latest turn =
+    (latest.others ≡ 0 → (turn.level ≡ 0) × (turn.place ≡ latest.place) × (turn.pair ≡ None))
+    × (0 < latest.others → (turn.level ≡ level_at entries (latest.others - 1)) × (turn.place ≡ latest.others - 1)
+        × (turn.pair ≡ Some (record { first = neg_ℤ (literal_at entries latest.place); second = neg_ℤ (literal_at entries (latest.others - 1)) })))

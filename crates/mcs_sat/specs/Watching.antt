@@ -1,5 +1,5 @@
 -- The two literals that a clause watches, and how far a solver has come with them (Moskewicz et al. 2001).
-use Rattle.std.specs.Prelude.{◌≡◌, ◌≢◌, ℕ, ◌*◌, ◌<◌, ◌≤◌, ◌⊎◌, List, ℤ, pos, neg_ℤ, length, Some, Vec, slice_get}
+use Rattle.std.specs.Prelude.{◌≡◌, ◌≢◌, ℕ, ◌*◌, ◌<◌, ◌≤◌, ◌⊎◌, List, [], ◌∷◌, ◌++◌, ℤ, pos, neg_ℤ, length, Option, Some, None, Vec, slice_get}
 use Rattle.std.specs.declared.alloc.Global.{Global}
 use Rattle.mcs_base.specs.Listings.{IsAmong}
 use Rattle.mcs_trace.specs.Clauses.{IsLiteral, place}
@@ -66,3 +66,14 @@ AreVisited known w entries l = (i : ℕ) (c : List ℤ) (p : Pair) → slice_get
 -- those of the short clauses from the one place up to the other are satisfied
 abbrev pub AreSettled : List (List ℤ) → List ℕ → List Entry → ℕ → ℕ → Type 0
 AreSettled known indices entries from to = (j i : ℕ) (c : List ℤ) → from ≤ j → j < to → slice_get indices j ≡ Some i → slice_get known i ≡ Some c → ¬ IsLong c → IsSatisfied entries c
+
+-- ---- what a change of the lists keeps
+pub record AreKept (old new : Watches) : Type 0 where
+  pub sized : length new.lists.items ≡ length old.lists.items
+  pub listed : (l : ℤ) (i : ℕ) → IsListed old.lists.items l i → IsListed new.lists.items l i
+
+-- the next clause watches the pair; without one it is short
+abbrev pub IsPushed : Watches → Watches → Option Pair → Type 0
+IsPushed old new (Some p) = (new.pairs.items ≡ old.pairs.items ++ p ∷ []) × (new.short.items ≡ old.short.items)
+    × IsListed new.lists.items p.first (length old.pairs.items) × IsListed new.lists.items p.second (length old.pairs.items)
+IsPushed old new None = (new.pairs.items ≡ old.pairs.items ++ no_pair ∷ []) × (new.short.items ≡ old.short.items ++ length old.pairs.items ∷ [])

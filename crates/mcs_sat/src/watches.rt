@@ -1,10 +1,8 @@
 //! Which clauses watch a literal.
 
-ghost use Rattle.std.specs.Prelude.{◌≡◌, ◌≢◌, ℕ, ℤ, ◌+◌, ◌*◌, ◌<◌, ◌^◌, ◌++◌, ◌∷◌, [], List, length, slice_get, MatchOption, IfOk, OnOk, OnErr, IfSome};
-ghost use Rattle.std.specs.Option.{IfNone};
-ghost use Rattle.mcs_base.specs.Listings.{IsAmong};
+ghost use Rattle.std.specs.Prelude.{◌≡◌, ◌≢◌, ℕ, ℤ, ◌+◌, ◌*◌, ◌<◌, ◌^◌, ◌++◌, ◌∷◌, [], List, length, take, slice_get, MatchOption, IfOk, OnOk, OnErr, IfSome};
 ghost use Rattle.mcs_trace.specs.Clauses.{IsLiteral, place};
-ghost use Rattle.mcs_sat.specs.Watching.{IsListed, IsOf, IsPairOf, no_pair};
+ghost use Rattle.mcs_sat.specs.Watching.{AreKept, IsListed, IsOf, IsPairOf, IsPushed};
 
 use mcs_base::Memory;
 use mcs_trace::place;
@@ -16,6 +14,12 @@ pub(crate) struct Pair {
     pub first: i64,
     pub second: i64,
 }
+
+/// What stands for the pair of a clause of fewer than two literals.
+const NO_PAIR: Pair = Pair {
+    first: 0,
+    second: 0,
+};
 
 impl Pair {
     /// The one of the two that the literal is not; `None` where it is neither.
@@ -82,15 +86,10 @@ impl Watches {
         requires literals { IfSome pair (λ p. IsLiteral p.first × IsLiteral p.second) }
         requires within { IfSome pair
             (λ p. (place p.first < length self.old.lists.items) × (place p.second < length self.old.lists.items)) }
-        ensures sized { length self.new.lists.items ≡ length self.old.lists.items }
-        ensures kept { (l : ℤ) (i : ℕ) → IsListed self.old.lists.items l i → IsListed self.new.lists.items l i }
-        ensures short { (more : List ℕ) × (self.new.short.items ≡ self.old.short.items ++ more) }
-        ensures err { OnErr result (self.new.pairs.items ≡ self.old.pairs.items) }
-        ensures with_pair { OnOk result (IfSome pair (λ p. (self.new.pairs.items ≡ self.old.pairs.items ++ p ∷ [])
-            × IsListed self.new.lists.items p.first (length self.old.pairs.items)
-            × IsListed self.new.lists.items p.second (length self.old.pairs.items))) }
-        ensures without_pair { OnOk result (IfNone pair ((self.new.pairs.items ≡ self.old.pairs.items ++ no_pair ∷ [])
-            × IsAmong (length self.old.pairs.items) self.new.short.items)) }
+        ensures kept { AreKept self.old self.new }
+        ensures pushed { OnOk result (IsPushed self.old self.new pair) }
+        ensures err_pairs { OnErr result (self.new.pairs.items ≡ self.old.pairs.items) }
+        ensures err_short { OnErr result (self.new.short.items ≡ self.old.short.items) }
     {
         let index = self.pairs.len();
         match pair {
@@ -101,12 +100,23 @@ impl Watches {
             }
             None => {
                 self.short.push(index)?;
-                self.pairs.push(Pair {
-                    first: 0,
-                    second: 0,
-                })?;
+                if let Err(error) = self.pairs.push(NO_PAIR) {
+                    self.short.pop();
+                    return Err(error.into());
+                }
             }
         }
         Ok(())
+    }
+
+    /// Leaves the first `count` clauses, of which the first `short` short ones are. What stands in the lists of
+    /// others is passed over.
+    pub fn truncate(&mut self, count: usize, short: usize)
+        ensures pairs { self.new.pairs.items ≡ take count self.old.pairs.items }
+        ensures short { self.new.short.items ≡ take short self.old.short.items }
+        ensures lists { self.new.lists.items ≡ self.old.lists.items }
+    {
+        self.pairs.truncate(count);
+        self.short.truncate(short);
     }
 }
