@@ -12,20 +12,20 @@ use Rattle.mcs_sat.specs.Trails.{literal_at, reason_at, ArePlaced, IsOn, IsOnBel
 use Rattle.mcs_sat.proofs.KnownLemmas.{numbered-more}
 
 abbrev pub entry_at : List Entry → ℕ → Entry
-entry_at entries i = get_or entries i (record { literal = pos 0; reason = 0 })
+entry_at entries i = get_or entries i (record { literal = pos 0; reason = 0; level = 0 })
 
 pub entry-old : (es more : List Entry) (i : ℕ) → i < length es → entry_at (es ++ more) i ≡ entry_at es i
-entry-old es more i less = get_or_append_left es more (record { literal = pos 0; reason = 0 }) i less
+entry-old es more i less = get_or_append_left es more (record { literal = pos 0; reason = 0; level = 0 }) i less
 
 pub entry-new : (es : List Entry) (e : Entry) → entry_at (es ++ e ∷ []) (length es) ≡ e
-entry-new es e = get_or_push es e (record { literal = pos 0; reason = 0 }) (length es) refl
+entry-new es e = get_or_push es e (record { literal = pos 0; reason = 0; level = 0 }) (length es) refl
 
 pub entry-back : (es : List Entry) (n i : ℕ) → i < n → entry_at (take n es) i ≡ entry_at es i
-entry-back es n i less = get_or-take n es i (record { literal = pos 0; reason = 0 }) less
+entry-back es n i less = get_or-take n es i (record { literal = pos 0; reason = 0; level = 0 }) less
 
 -- what the code reads at a place
 pub entry-read : (es : List Entry) (i : ℕ) (e : Entry) → i < length es → e ≡ get_or es i e → e ≡ entry_at es i
-entry-read es i e less is = get_or_read es i e less is (record { literal = pos 0; reason = 0 })
+entry-read es i e less is = get_or_read es i e less is (record { literal = pos 0; reason = 0; level = 0 })
 
 pub literal-read : (es : List Entry) (i : ℕ) (e : Entry) → i < length es → e ≡ get_or es i e → e.literal ≡ literal_at es i
 literal-read es i e less is = ap (λ (x : Entry). x.literal) (entry-read es i e less is)
