@@ -2,9 +2,5 @@ pub mod FindingLemmas
 pub mod KnownLemmas
 pub mod LatestLemmas
 pub mod LearnLemmas
-pub mod ModelLemmas
-pub mod OccurrenceLemmas
-pub mod SearchLemmas
 pub mod TrailLemmas
-pub mod SettleLemmas
-pub mod WorkLemmas
+pub mod StateLemmas
