@@ -6,5 +6,4 @@ pub mod ModelLemmas
 pub mod OccurrenceLemmas
 pub mod SearchLemmas
 pub mod TrailLemmas
-pub mod SettleLemmas
 pub mod WorkLemmas
