@@ -7,3 +7,4 @@ pub mod OccurrenceLemmas
 pub mod SearchLemmas
 pub mod TrailLemmas
 pub mod WorkLemmas
+pub mod WatchLemmas
