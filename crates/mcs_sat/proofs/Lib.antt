@@ -3,4 +3,5 @@ pub mod KnownLemmas
 pub mod LatestLemmas
 pub mod LearnLemmas
 pub mod TrailLemmas
+pub mod WatchLemmas
 pub mod StateLemmas

@@ -1,14 +1,17 @@
 -- Trails that grow and are taken back.
-use Rattle.std.proofs.Common.{◌≡◌, ℕ, ◌+◌, ◌-◌, ◌<◌, ◌≤◌, List, [], ◌∷◌, ◌++◌, ◌⊎◌, inl, inr, refl, sym, ap, ◌∙◌, subst, arith, ℤ, pos, neg_ℤ, unsigned_abs, length, length-append, take, drop, get_or, Some, append-nil, append_assoc}
+use Rattle.std.proofs.Common.{◌≡◌, ℕ, ◌+◌, ◌-◌, ◌<◌, ◌≤◌, List, [], ◌∷◌, ◌++◌, ◌⊎◌, ◌↔◌, inl, inr, refl, sym, ap, ◌∙◌, subst, arith, ℤ, pos, neg_ℤ, unsigned_abs, length, length-append, take, drop, get_or, Option, Some, None, MatchOption, Bool, true, false, IsTrue, is_some, unwrap_or, true≢false, append-nil, append_assoc}
+use Rattle.std.specs.Bool.{MatchBool}
 use Rattle.std.proofs.lemmas.Bool.{cases_lt}
 use Rattle.std.proofs.lemmas.List.{get_or_append_left, get_or_push, get_or-take, length_push, length-take, length-drop, get_or-drop, get_or_read}
 use Rattle.mcs_base.specs.Listings.{IsAmong}
 use Rattle.mcs_base.proofs.Among.{among_at}
 use Rattle.mcs_base.proofs.Distinct.{covers_below}
+use Rattle.mcs_base.proofs.Numbers.{unsigned_abs-neg_ℤ}
 use Rattle.mcs_trace.specs.Clauses.{IsClause, IsLiteral}
 use Rattle.mcs_trace.specs.Traces.{numbered}
+use Rattle.mcs_trace.proofs.OrderLemmas.{neg_differs}
 use Rattle.mcs_sat.specs.declared.trail.Entry.{Entry}
-use Rattle.mcs_sat.specs.Trails.{literal_at, reason_at, ArePlaced, IsOn, IsOnBelow, IsFalse, IsFalseBelow, IsReason, AreExplained, Extends}
+use Rattle.mcs_sat.specs.Trails.{literal_at, reason_at, AreAssigned, ArePlaced, StandsAt, StandsNowhere, IsOn, IsOnBelow, IsFalse, IsFalseBelow, IsReason, AreExplained, Extends}
 use Rattle.mcs_sat.proofs.KnownLemmas.{numbered-more}
 
 abbrev pub entry_at : List Entry → ℕ → Entry
@@ -141,3 +144,36 @@ extends-none es = ([], sym (append-nil es))
 
 pub extends-more : (es es' es'' : List Entry) → Extends es es' → Extends es' es'' → Extends es es''
 extends-more es es' es'' (more, e) (more', e') = (more ++ more', e' ∙ ap (λ (x : List Entry). x ++ more') e ∙ append_assoc es more more')
+
+-- ---- values
+-- a variable stands at one place
+pub same_place : (es : List Entry) (ps : List ℕ) (i j : ℕ) → ArePlaced es ps → i < length es → j < length es → unsigned_abs (literal_at es i) ≡ unsigned_abs (literal_at es j) → i ≡ j
+same_place es ps i j placed less less' e = sym (placed i less).2 ∙ ap (λ n. get_or ps n 0) e ∙ (placed j less').2
+
+-- no literal is on with its negation
+pub not_both_on : (es : List Entry) (ps : List ℕ) (k : ℤ) → ArePlaced es ps → IsOn es k → IsOn es (neg_ℤ k) → ⊥
+not_both_on es ps k placed (i, less, e) (j, less', e') =
+    let sizes : unsigned_abs (literal_at es i) ≡ unsigned_abs (literal_at es j) = ap unsigned_abs e ∙ sym (unsigned_abs-neg_ℤ k) ∙ sym (ap unsigned_abs e') in
+    let same : i ≡ j = same_place es ps i j placed less less' sizes in
+    let k-is : k ≡ neg_ℤ k = sym e ∙ ap (literal_at es) same ∙ e' in
+    neg_differs k (subst IsLiteral e (placed i less).0) k-is
+
+pub true-is_on : (es : List Entry) (ps : List ℕ) (l : ℤ) (o : Option Bool) (b : Bool) → b ≡ unwrap_or o false → ArePlaced es ps
+    → MatchOption o (StandsNowhere es (unsigned_abs l)) (λ v. MatchBool v (IsOn es l) (IsOn es (neg_ℤ l))) → IsTrue b ↔ IsOn es l
+true-is_on es ps l None b e placed nowhere = (
+  λ yes. absurd (true≢false (sym yes ∙ e)),
+  λ (p, less, at). absurd (nowhere p (less, ap unsigned_abs at)),
+)
+true-is_on es ps l (Some true) b e placed on = (λ yes. on, λ on'. e)
+true-is_on es ps l (Some false) b e placed off = (
+  λ yes. absurd (true≢false (sym yes ∙ e)),
+  λ on. absurd (not_both_on es ps l placed on off),
+)
+
+-- ---- variables that stand somewhere
+pub assigned-more : (es : List Entry) (from i : ℕ) (o : Option ℕ) → AreAssigned es from i → is_some o ≡ true → MatchOption o (StandsNowhere es i) (StandsAt es i) → AreAssigned es from (i + 1)
+assigned-more es from i None h some at v low less = absurd (cc)
+assigned-more es from i (Some p) h some at v low less = elim (cases_lt v i) [
+  | inl before ↦ h v low before
+  | inr past ↦ let same : i ≡ v = omega arith in (p, subst (λ (w : ℕ). StandsAt es w p) same at)
+]

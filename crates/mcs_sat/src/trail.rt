@@ -106,7 +106,7 @@ impl Trail {
         requires free { StandsNowhere self.old.entries.items (unsigned_abs literal) }
         ensures entries { OnOk result
             (self.new.entries.items ≡ self.old.entries.items ++ record { literal = literal; reason = reason; level = level } ∷ []) }
-        ensures placed { OnOk result (ArePlaced self.new.entries.items self.new.positions.items) }
+        ensures placed { ArePlaced self.new.entries.items self.new.positions.items }
         ensures err { OnErr result (self.new.entries.items ≡ self.old.entries.items) }
         ensures positions { length self.new.positions.items ≡ length self.old.positions.items }
     {
