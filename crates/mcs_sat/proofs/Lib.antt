@@ -4,4 +4,5 @@ pub mod LatestLemmas
 pub mod LearnLemmas
 pub mod TrailLemmas
 pub mod WatchLemmas
+pub mod LevelLemmas
 pub mod StateLemmas

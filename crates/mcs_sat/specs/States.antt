@@ -33,6 +33,7 @@ pub record IsState (s : State) : Type 0 where
   pub levelled : AreLevelled s.trail.entries.items
   pub starts : AreStarts s.trail.entries.items s.levels.items
   pub watched : AreWatched s.clauses s.watches
+  pub shorts : (j i : ℕ) → slice_get s.watches.short.items j ≡ Some i → i < length s.clauses
   pub bound : s.visited ≤ length s.trail.entries.items
   pub short_bound : s.settled ≤ length s.watches.short.items
   pub bounds : (k : ℕ) (r : Reach) → slice_get s.levels.items k ≡ Some r → (r.visited ≤ r.entries) × (r.settled ≤ length s.watches.short.items)
