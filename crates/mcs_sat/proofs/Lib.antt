@@ -2,6 +2,7 @@ pub mod FindingLemmas
 pub mod KnownLemmas
 pub mod LatestLemmas
 pub mod LearnLemmas
+pub mod LevelLemmas
 pub mod ModelLemmas
 pub mod OccurrenceLemmas
 pub mod SearchLemmas
