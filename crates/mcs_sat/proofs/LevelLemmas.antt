@@ -1,8 +1,8 @@
 -- The levels of a trail: where they begin, and what is on each.
-use Rattle.std.proofs.Common.{◌≡◌, ℕ, ◌+◌, ◌-◌, ◌<◌, ◌≤◌, zero, suc, cond, nat_eq, List, [], ◌∷◌, ◌++◌, ◌⊎◌, inl, inr, ◌↔◌, refl, sym, ap, ◌∙◌, subst, arith, ℤ, pos, map, length, take, drop, get_or, Some, slice_get}
+use Rattle.std.proofs.Common.{◌≡◌, ℕ, ◌+◌, ◌-◌, ◌<◌, ◌≤◌, zero, suc, cond, nat_eq, List, [], ◌∷◌, ◌++◌, ◌⊎◌, inl, inr, refl, sym, ap, ◌∙◌, subst, arith, ℤ, pos, map, length, take, drop, get_or, Some, slice_get}
 use Rattle.std.specs.List.{AllByRecursion}
 use Rattle.std.proofs.lemmas.Bool.{cases_lt, cond-false}
-use Rattle.std.proofs.lemmas.List.{get_or_append_left, get_or-append_right, get_or_push, get_or-take, length-append, length_push, length-take, length-take-le, take-append-drop, take-append-le, take-take, take_all, take_at, take_more}
+use Rattle.std.proofs.lemmas.List.{drop_more, get_or_append_left, get_or-append_right, get_or_push, get_or-take, length-append, length_push, length-take, length-take-le, take-append-drop, take-append-le, take-take, take_all, take_at, take_more}
 use Rattle.std.proofs.lemmas.Option.{slice_get_within, slice_get-get_or, get_or_from_slice_get}
 use Rattle.std.proofs.Math.Dec.{eqb-suc-zero}
 use Rattle.std.proofs.Math.Seq.{take-append-add}
@@ -195,3 +195,164 @@ implied-last es levels k r s at last i less none =
 
 pub implied-none : (es : List Entry) → decisions es ≡ 0 → AreImplied es (length es)
 implied-none es zeros i less none = absurd (omega (arith, decisions-next es i less none, decisions-part (i + 1) es))
+
+-- ---- what is on each level
+cases_reason : (n : ℕ) → (n ≡ 0) ⊎ (0 < n)
+cases_reason zero = inl refl
+cases_reason (suc n) = inr (omega arith)
+
+-- the literal, put before those of the first level
+abbrev onto : ℤ → List (List ℤ) → List (List ℤ)
+onto l [] = []
+onto l (x ∷ xs) = (l ∷ x) ∷ xs
+
+levels-decided : (e : Entry) (es : List Entry) → e.reason ≡ 0 → levels_of (e ∷ es) ≡ [] ∷ onto e.literal (levels_of es)
+levels-decided e es none =
+    let first : first_level (e ∷ es) ≡ [] = when_decided {A = List ℤ} e.reason [] (e.literal ∷ first_level es) none in
+    let later : later_levels (e ∷ es) ≡ (e.literal ∷ first_level es) ∷ later_levels es = when_decided {A = List (List ℤ)} e.reason ((e.literal ∷ first_level es) ∷ later_levels es) (later_levels es) none in
+    ap (λ (x : List ℤ). x ∷ later_levels (e ∷ es)) first ∙ ap (λ (xs : List (List ℤ)). [] ∷ xs) later
+
+levels-implied : (e : Entry) (es : List Entry) → 0 < e.reason → levels_of (e ∷ es) ≡ onto e.literal (levels_of es)
+levels-implied e es some =
+    let first : first_level (e ∷ es) ≡ e.literal ∷ first_level es = when_implied {A = List ℤ} e.reason [] (e.literal ∷ first_level es) some in
+    let later : later_levels (e ∷ es) ≡ later_levels es = when_implied {A = List (List ℤ)} e.reason ((e.literal ∷ first_level es) ∷ later_levels es) (later_levels es) some in
+    ap (λ (x : List ℤ). x ∷ later_levels (e ∷ es)) first ∙ ap (λ (xs : List (List ℤ)). (e.literal ∷ first_level es) ∷ xs) later
+
+pub levels-count : (es : List Entry) → length (levels_of es) ≡ decisions es + 1
+levels-count [] = refl
+levels-count (e ∷ es) = elim (cases_reason e.reason) [
+  | inl none ↦ omega (arith, ap length (levels-decided e es none), levels-count es, decisions-decided e es none)
+  | inr some ↦ omega (arith, ap length (levels-implied e es some), levels-count es, decisions-implied e es some)
+]
+
+-- the literals are put after those of the last level
+abbrev pub AddsLast : List (List ℤ) → List ℤ → List (List ℤ) → Type 0
+AddsLast old literals new = (before : List (List ℤ)) × (last : List ℤ) × (old ≡ before ++ last ∷ []) × (new ≡ before ++ (last ++ literals) ∷ [])
+
+adds-after : (x : List ℤ) (old new : List (List ℤ)) (literals : List ℤ) → AddsLast old literals new → AddsLast (x ∷ old) literals (x ∷ new)
+adds-after x old new literals (before, last, e, e') = (x ∷ before, last, ap (λ (xs : List (List ℤ)). x ∷ xs) e, ap (λ (xs : List (List ℤ)). x ∷ xs) e')
+
+adds-onto : (l : ℤ) (old new : List (List ℤ)) (literals : List ℤ) → AddsLast old literals new → AddsLast (onto l old) literals (onto l new)
+adds-onto l old new literals ([], last, e, e') = ([], l ∷ last, ap (onto l) e, ap (onto l) e')
+adds-onto l old new literals (x ∷ before, last, e, e') = ((l ∷ x) ∷ before, last, ap (onto l) e, ap (onto l) e')
+
+adds-as : (old old' new new' : List (List ℤ)) (literals : List ℤ) → old' ≡ old → new' ≡ new → AddsLast old literals new → AddsLast old' literals new'
+adds-as old old' new new' literals e e' (before, last, is, is') = (before, last, e ∙ is, e' ∙ is')
+
+implied-levels : (level : ℕ) (more : List Entry) → AllByRecursion (IsImplied level) more → levels_of more ≡ map (λ (e : Entry). e.literal) more ∷ []
+implied-levels level [] all = refl
+implied-levels level (e ∷ more) all = levels-implied e more all.0.0 ∙ ap (onto e.literal) (implied-levels level more all.1)
+
+adds-levels : (level : ℕ) (es more : List Entry) → AllByRecursion (IsImplied level) more → AddsLast (levels_of es) (map (λ (e : Entry). e.literal) more) (levels_of (es ++ more))
+adds-levels level [] more all = ([], [], refl, implied-levels level more all)
+adds-levels level (e ∷ es) more all =
+    let rest = adds-onto e.literal (levels_of es) (levels_of (es ++ more)) (map (λ (e : Entry). e.literal) more) (adds-levels level es more all) in
+    elim (cases_reason e.reason) [
+      | inl none ↦ adds-as ([] ∷ onto e.literal (levels_of es)) (levels_of (e ∷ es)) ([] ∷ onto e.literal (levels_of (es ++ more))) (levels_of (e ∷ (es ++ more))) (map (λ (e : Entry). e.literal) more) (levels-decided e es none) (levels-decided e (es ++ more) none) (adds-after [] (onto e.literal (levels_of es)) (onto e.literal (levels_of (es ++ more))) (map (λ (e : Entry). e.literal) more) rest)
+      | inr some ↦ adds-as (onto e.literal (levels_of es)) (levels_of (e ∷ es)) (onto e.literal (levels_of (es ++ more))) (levels_of (e ∷ (es ++ more))) (map (λ (e : Entry). e.literal) more) (levels-implied e es some) (levels-implied e (es ++ more) some) rest
+    ]
+
+-- what is implied is on the last level
+pub levels-more : (level : ℕ) (es new : List Entry) → Grows level es new → (more : List Entry) × (new ≡ es ++ more) × AddsLast (levels_of es) (map (λ (e : Entry). e.literal) more) (levels_of new)
+levels-more level es new (more, is, all) = (more, is, subst (λ (x : List Entry). AddsLast (levels_of es) (map (λ (e : Entry). e.literal) more) (levels_of x)) (sym is) (adds-levels level es more all))
+
+-- levels from a decision on follow those before
+levels-split : (es rest : List Entry) (e : Entry) → e.reason ≡ 0 → levels_of (es ++ e ∷ rest) ≡ levels_of es ++ onto e.literal (levels_of rest)
+levels-split [] rest e none = levels-decided e rest none
+levels-split (d ∷ es) rest e none =
+    let split = ap (onto d.literal) (levels-split es rest e none) in
+    elim (cases_reason d.reason) [
+      | inl decided ↦ levels-decided d (es ++ e ∷ rest) decided ∙ ap (λ (xs : List (List ℤ)). [] ∷ xs) split ∙ sym (ap (λ (xs : List (List ℤ)). xs ++ onto e.literal (levels_of rest)) (levels-decided d es decided))
+      | inr some ↦ levels-implied d (es ++ e ∷ rest) some ∙ split ∙ sym (ap (λ (xs : List (List ℤ)). xs ++ onto e.literal (levels_of rest)) (levels-implied d es some))
+    ]
+
+-- a decision is a level of its own
+pub levels-decide : (es : List Entry) (e : Entry) → e.reason ≡ 0 → levels_of (es ++ e ∷ []) ≡ levels_of es ++ (e.literal ∷ []) ∷ []
+levels-decide es e none = levels-split es [] e none
+
+pub levels-back : (es : List Entry) (levels : List Reach) (k : ℕ) (r : Reach) → AreStarts es levels → slice_get levels k ≡ Some r → levels_of (take r.entries es) ≡ take (k + 1) (levels_of es)
+levels-back es levels k r s at =
+    let (here, none, count) = s.start k r at in
+    let e : Entry = get_or es r.entries no_entry in
+    let rest : List Entry = drop (r.entries + 1) es in
+    let split : take r.entries es ++ e ∷ rest ≡ es = sym (ap (λ (x : List Entry). take r.entries es ++ x) (drop_more es r.entries no_entry here)) ∙ take-append-drop r.entries es in
+    let sized : length (levels_of (take r.entries es)) ≡ k + 1 = omega (arith, levels-count (take r.entries es), count) in
+    sym (ap (λ (x : List Entry). take (k + 1) (levels_of x)) (sym split) ∙ ap (take (k + 1)) (levels-split (take r.entries es) rest e none) ∙ take_at (levels_of (take r.entries es)) (onto e.literal (levels_of rest)) (k + 1) sized)
+
+-- ---- the literals of a level
+onto-has : (l : ℤ) (x : List ℤ) (xs : List (List ℤ)) (m : ℕ) (k : ℤ) → IsAmong k (get_or (x ∷ xs) m []) → IsAmong k (get_or (onto l (x ∷ xs)) m [])
+onto-has l x xs zero k among = inr among
+onto-has l x xs (suc m) k among = among
+
+onto-from : (l : ℤ) (x : List ℤ) (xs : List (List ℤ)) (m : ℕ) (k : ℤ) → IsAmong k (get_or (onto l (x ∷ xs)) m []) → ((m ≡ 0) × (k ≡ l)) ⊎ IsAmong k (get_or (x ∷ xs) m [])
+onto-from l x xs zero k (inl e) = inl (refl, e)
+onto-from l x xs zero k (inr among) = inr among
+onto-from l x xs (suc m) k among = inr among
+
+-- the literal at the place is on the level of the decisions up to it
+abbrev HasLevel : List Entry → ℕ → Type 0
+HasLevel es i = i < length es → IsAmong (literal_at es i) (get_or (levels_of es) (decisions (take (suc i) es)) [])
+
+has-decided : (e : Entry) (es : List Entry) (i : ℕ) → e.reason ≡ 0 → ((j : ℕ) → HasLevel es j) → HasLevel (e ∷ es) i
+has-decided e es zero none rest less =
+    let one : decisions (take 1 (e ∷ es)) ≡ 1 = omega (arith, decisions-decided e [] none) in
+    subst (λ (n : ℕ). IsAmong e.literal (get_or (levels_of (e ∷ es)) n [])) (sym one) (subst (λ (xs : List (List ℤ)). IsAmong e.literal (get_or xs 1 [])) (sym (levels-decided e es none)) (inl refl))
+has-decided e es (suc j) none rest less =
+    let m : ℕ = decisions (take (suc j) es) in
+    let more : decisions (take (suc (suc j)) (e ∷ es)) ≡ suc m = omega (arith, decisions-decided e (take (suc j) es) none) in
+    subst (λ (n : ℕ). IsAmong (literal_at es j) (get_or (levels_of (e ∷ es)) n [])) (sym more) (subst (λ (xs : List (List ℤ)). IsAmong (literal_at es j) (get_or xs (suc m) [])) (sym (levels-decided e es none)) (onto-has e.literal (first_level es) (later_levels es) m (literal_at es j) (rest j (omega arith))))
+
+has-implied : (e : Entry) (es : List Entry) (i : ℕ) → 0 < e.reason → ((j : ℕ) → HasLevel es j) → HasLevel (e ∷ es) i
+has-implied e es zero some rest less =
+    let none : decisions (take 1 (e ∷ es)) ≡ 0 = omega (arith, decisions-implied e [] some) in
+    subst (λ (n : ℕ). IsAmong e.literal (get_or (levels_of (e ∷ es)) n [])) (sym none) (subst (λ (xs : List (List ℤ)). IsAmong e.literal (get_or xs 0 [])) (sym (levels-implied e es some)) (inl refl))
+has-implied e es (suc j) some rest less =
+    let m : ℕ = decisions (take (suc j) es) in
+    let same : decisions (take (suc (suc j)) (e ∷ es)) ≡ m = decisions-implied e (take (suc j) es) some in
+    subst (λ (n : ℕ). IsAmong (literal_at es j) (get_or (levels_of (e ∷ es)) n [])) (sym same) (subst (λ (xs : List (List ℤ)). IsAmong (literal_at es j) (get_or xs m [])) (sym (levels-implied e es some)) (onto-has e.literal (first_level es) (later_levels es) m (literal_at es j) (rest j (omega arith))))
+
+has-levels : (es : List Entry) (i : ℕ) → HasLevel es i
+has-levels [] i less = absurd (omega arith)
+has-levels (e ∷ es) i less = elim (cases_reason e.reason) [
+  | inl none ↦ has-decided e es i none (λ j. has-levels es j) less
+  | inr some ↦ has-implied e es i some (λ j. has-levels es j) less
+]
+
+-- the place of a literal that has so many decisions up to it
+abbrev StandsOn : List Entry → ℕ → ℤ → Type 0
+StandsOn es m k = (i : ℕ) × (i < length es) × (decisions (take (suc i) es) ≡ m) × (literal_at es i ≡ k)
+
+from-decided : (e : Entry) (es : List Entry) (m : ℕ) (k : ℤ) → e.reason ≡ 0 → ((n : ℕ) → IsAmong k (get_or (levels_of es) n []) → StandsOn es n k) → IsAmong k (get_or ([] ∷ onto e.literal (levels_of es)) m []) → StandsOn (e ∷ es) m k
+from-decided e es zero k none rest among = absurd among
+from-decided e es (suc m) k none rest among = elim (onto-from e.literal (first_level es) (later_levels es) m k among) [
+  | inl first ↦ (0, omega arith, omega (arith, decisions-decided e [] none, first.0), sym first.1)
+  | inr later ↦ let (j, less, count, is) = rest m later in (suc j, omega arith, omega (arith, decisions-decided e (take (suc j) es) none), is)
+]
+
+from-implied : (e : Entry) (es : List Entry) (m : ℕ) (k : ℤ) → 0 < e.reason → ((n : ℕ) → IsAmong k (get_or (levels_of es) n []) → StandsOn es n k) → IsAmong k (get_or (onto e.literal (levels_of es)) m []) → StandsOn (e ∷ es) m k
+from-implied e es m k some rest among = elim (onto-from e.literal (first_level es) (later_levels es) m k among) [
+  | inl first ↦ (0, omega arith, omega (arith, decisions-implied e [] some, first.0), sym first.1)
+  | inr later ↦ let (j, less, count, is) = rest m later in (suc j, omega arith, omega (arith, decisions-implied e (take (suc j) es) some), is)
+]
+
+from-levels : (es : List Entry) (m : ℕ) (k : ℤ) → IsAmong k (get_or (levels_of es) m []) → StandsOn es m k
+from-levels [] zero k among = absurd among
+from-levels [] (suc m) k among = absurd among
+from-levels (e ∷ es) m k among = elim (cases_reason e.reason) [
+  | inl none ↦ from-decided e es m k none (λ n. from-levels es n k) (subst (λ (xs : List (List ℤ)). IsAmong k (get_or xs m [])) (levels-decided e es none) among)
+  | inr some ↦ from-implied e es m k some (λ n. from-levels es n k) (subst (λ (xs : List (List ℤ)). IsAmong k (get_or xs m [])) (levels-implied e es some) among)
+]
+
+-- the literal at a place is on its level
+pub levels-at : (es : List Entry) (i : ℕ) → AreLevelled es → i < length es → IsAmong (literal_at es i) (get_or (levels_of es) (level_at es i) [])
+levels-at es i levelled less =
+    let up : suc i ≡ i + 1 = omega arith in
+    let same : decisions (take (suc i) es) ≡ level_at es i = ap (λ (n : ℕ). decisions (take n es)) up ∙ sym (levelled i less) in
+    subst (λ (n : ℕ). IsAmong (literal_at es i) (get_or (levels_of es) n [])) same (has-levels es i less)
+
+-- what is on a level stands at a place of the level
+pub levels-from : (es : List Entry) (m : ℕ) (k : ℤ) → AreLevelled es → IsAmong k (get_or (levels_of es) m []) → (i : ℕ) × (i < length es) × (level_at es i ≡ m) × (literal_at es i ≡ k)
+levels-from es m k levelled among =
+    let (i, less, count, is) = from-levels es m k among in
+    let up : i + 1 ≡ suc i = omega arith in
+    (i, less, levelled i less ∙ ap (λ (n : ℕ). decisions (take n es)) up ∙ count, is)
