@@ -1,4 +1,4 @@
-use Rattle.std.proofs.Common.{◌≡◌, [], ◌++◌, List, ℤ, sym, subst, ◌∙◌, ap, arith}
+use Rattle.std.proofs.Common.{◌≡◌, ◌++◌, List, ℤ, sym, subst, ◌∙◌, ap}
 use Rattle.mcs_trace.specs.Clauses.{IsClause}
 use Rattle.mcs_sat.specs.Learning.{IsLate}
 use Rattle.mcs_base.proofs.Each.{all_get}
