@@ -126,7 +126,7 @@ latest_below es ps c n latest placed bound h l =
     let same : j ≡ latest.place = same_place es ps j latest.place placed (omega arith) l.here (ap unsigned_abs (e ∙ neg_ℤ-neg_ℤ (literal_at es latest.place))) in
     omega arith
 
--- a clause that is late, and false before no place, is empty, where nothing is late
+-- a clause without literals is not late, where there is such a place
 pub none-late : (es : List Entry) (start : ℕ) (c : List ℤ) → c ≡ [] → IsLate es start c → start + 1 ≤ length es → IsSingle es start c
 none-late es start c none (inl late) within = absurd (late (subst (λ (x : List ℤ). IsFalseBelow es start x) (sym none) (λ k among. absurd among)))
 none-late es start c none (inr past) within = absurd (omega arith)

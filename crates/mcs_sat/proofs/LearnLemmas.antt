@@ -11,7 +11,7 @@ use Rattle.mcs_trace.proofs.OrderLemmas.{neg_differs}
 use Rattle.mcs_sat.specs.declared.latest.Latest.{Latest}
 use Rattle.mcs_sat.specs.declared.trail.Entry.{Entry}
 use Rattle.mcs_sat.specs.Trails.{literal_at, reason_at, AreExplained, ArePlaced, IsOn, IsOnBelow, IsReason, IsFalse, IsFalseBelow}
-use Rattle.mcs_sat.specs.Learning.{AreImplied, IsLate, IsLatest, IsSingle}
+use Rattle.mcs_sat.specs.Learning.{AreImplied, IsLate, IsLatest}
 use Rattle.mcs_sat.proofs.TrailLemmas.{on_below}
 
 -- a variable stands at one place

@@ -75,6 +75,7 @@ pub(crate) fn analyse(
     current.extend_from_slice(clauses.row(index))?;
     let mut spare = Vec::new(alloc);
     let mut chain = Vec::new(alloc);
+    prove!(index < clauses.len());
     chain.push(index as u64 + 1)?;
     resolve_back(clauses, trail, start, &mut chain, &mut current, &mut spare)?;
     let Some(clause) = Clause::new(current) else {

@@ -1,12 +1,12 @@
-use Rattle.std.proofs.Common.{◌≡◌, ◌+◌, ◌-◌, ◌++◌, ◌∷◌, [], ◌<◌, ◌≤◌, ◌⊎◌, ℕ, ℤ, neg_ℤ, List, Some, length, slice_get, IsTrue, inl, inr, sym, ap, ◌∙◌, subst, arith}
+use Rattle.std.proofs.Common.{◌≡◌, ◌++◌, ◌∷◌, [], ◌<◌, ◌≤◌, ℕ, ℤ, neg_ℤ, List, Some, length, IsTrue, inl, inr, sym, ap, subst, arith}
 use Rattle.std.proofs.lemmas.Bool.Decides.{when_true}
 use Rattle.mcs_trace.specs.Clauses.{IsClause}
 use Rattle.mcs_trace.specs.Resolution.{IsOnlyClash, IsResolvent}
 use Rattle.mcs_trace.specs.Traces.{IsChainResolvent, numbered}
 use Rattle.mcs_sat.specs.declared.latest.Latest.{Latest}
 use Rattle.mcs_sat.specs.declared.trail.Entry.{Entry}
-use Rattle.mcs_sat.specs.Learning.{IsLate, IsLatest, IsSingle}
-use Rattle.mcs_sat.specs.Trails.{IsFalse, IsFalseBelow, IsReason, literal_at, reason_at}
+use Rattle.mcs_sat.specs.Learning.{IsLate, IsLatest}
+use Rattle.mcs_sat.specs.Trails.{IsFalse, IsFalseBelow, IsReason, literal_at}
 use Rattle.mcs_sat.proofs.KnownLemmas.{chain-push, numbered-is, numbered-row}
 use Rattle.mcs_sat.proofs.LatestLemmas.{latest_below, none_below, none-late}
 use Rattle.mcs_sat.proofs.LearnLemmas.{cause_of, one_clash, resolvent-false, resolvent-late}
