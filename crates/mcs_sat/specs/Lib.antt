@@ -2,5 +2,5 @@ pub mod Answers
 pub mod Trails
 pub mod Learning
 pub mod Watching
-pub mod States
 pub mod Solvers
+pub mod States

@@ -79,6 +79,10 @@ pub record GoesOn (old new : List (List ℤ)) (more : List ℤ) : Type 0 where
   pub was : old ≡ before ++ last ∷ []
   pub is : new ≡ before ++ (last ++ more) ∷ []
 
+-- the clause of the number is false
+abbrev pub IsFalseNumber : SolverView → ℕ → Type 0
+IsFalseNumber s n = (c : List ℤ) × (numbered s.clauses n ≡ Some c) × IsFalseUnder (trues s) c
+
 -- the literals made true below the level
 abbrev pub trues_below : List (List ℤ) → ℕ → List ℤ
 trues_below levels k = flat_map (λ l. l) (take k levels)

@@ -7,7 +7,8 @@ use Rattle.mcs_sat.specs.declared.state.State.{State}
 use Rattle.mcs_sat.specs.declared.state.Turn.{Turn}
 use Rattle.mcs_sat.specs.declared.trail.Entry.{Entry}
 use Rattle.mcs_sat.specs.Learning.{IsLatest}
-use Rattle.mcs_sat.specs.Trails.{AreLevelled, IsTrail, decisions, level_at, literal_at, reason_at}
+use Rattle.mcs_sat.specs.Solvers.{SolverView}
+use Rattle.mcs_sat.specs.Trails.{AreLevelled, IsTrail, decisions, level_at, levels_of, literal_at, reason_at}
 use Rattle.mcs_sat.specs.Watching.{AreWatched, IsReached}
 
 -- the levels above 0 begin at the decisions, in their order
@@ -85,3 +86,7 @@ IsTurn entries latest turn =
     (latest.others ≡ 0 → (turn.level ≡ 0) × (turn.place ≡ latest.place) × (turn.pair ≡ None))
     × (0 < latest.others → (turn.level ≡ level_at entries (latest.others - 1)) × (turn.place ≡ latest.others - 1)
         × (turn.pair ≡ Some (record { first = neg_ℤ (literal_at entries latest.place); second = neg_ℤ (literal_at entries (latest.others - 1)) })))
+
+-- what it is seen as
+abbrev pub view_of : State → SolverView
+view_of s = record { vars = length s.trail.positions.items - 1; clauses = s.clauses; levels = levels_of s.trail.entries.items }

@@ -6,8 +6,10 @@ mod examine;
 mod latest;
 mod outcome;
 mod propagate;
+mod solver;
 mod state;
 mod trail;
 mod watches;
 
 pub use outcome::Outcome;
+pub use solver::Solver;
