@@ -8,3 +8,4 @@ pub mod SearchLemmas
 pub mod TrailLemmas
 pub mod WorkLemmas
 pub mod WatchLemmas
+pub mod GrowLemmas
