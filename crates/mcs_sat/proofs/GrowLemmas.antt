@@ -1,6 +1,7 @@
 -- Literals that follow on a trail.
 use Rattle.std.proofs.Common.{◌≡◌, ℕ, zero, suc, ◌+◌, ◌<◌, ◌≤◌, List, [], ◌∷◌, ◌++◌, ◌⊎◌, inl, inr, refl, sym, ap, ◌∙◌, subst, arith, ℤ, neg_ℤ, unsigned_abs, length, length-append, Some, slice_get, append-nil, append_assoc, w64, to_z, of_z, to_z-of_z}
 use Rattle.std.specs.List.{AllByRecursion}
+use Rattle.std.proofs.lemmas.Bool.{cases_lt}
 use Rattle.std.proofs.lemmas.List.{length_push}
 use Rattle.mcs_base.specs.Listings.{IsAmong}
 use Rattle.mcs_base.proofs.Each.{all_among, all_append, all_get}
@@ -10,6 +11,7 @@ use Rattle.mcs_trace.proofs.OrderLemmas.{fits_literal}
 use Rattle.mcs_sat.specs.declared.trail.Entry.{Entry}
 use Rattle.mcs_sat.specs.declared.trail.Trail.{Trail}
 use Rattle.mcs_sat.specs.Trails.{AreCovered, AreExplained, ArePlaced, Grows, IsFalse, IsFalseAt, IsOn, IsOnBelow, IsSatisfied, IsSatisfiedBelow, IsTrail}
+use Rattle.mcs_sat.specs.Watching.{AreSettled, IsLong}
 use Rattle.mcs_sat.proofs.TrailLemmas.{IsForced, entry-new, entry-old, explained-push, on-more}
 
 -- ---- entries that follow
@@ -82,3 +84,21 @@ module _ (known : List (List ℤ)) (old new : Trail) (trail : IsTrail known old)
 -- the literal that was made true last
 pub on-pushed : (es es' : List Entry) (e : Entry) → es' ≡ es ++ e ∷ [] → IsOn es' e.literal
 on-pushed es es' e is = subst (λ (xs : List Entry). IsOn xs e.literal) (sym is) (length es, omega (arith, length_push es e), ap (λ (x : Entry). x.literal) (entry-new es e))
+
+-- ---- short clauses that are settled
+pub settled-none : (known : List (List ℤ)) (indices : List ℕ) (es : List Entry) (from : ℕ) → AreSettled known indices es from from
+settled-none known indices es from j i c low less at is short = absurd (omega arith)
+
+pub settled-grown : (known : List (List ℤ)) (indices : List ℕ) (level : ℕ) (es es' : List Entry) (from to : ℕ) → Grows level es es' → AreSettled known indices es from to → AreSettled known indices es' from to
+settled-grown known indices level es es' from to grows h j i c low less at is short = satisfied-grown level es es' c grows (h j i c low less at is short)
+
+pub settled-more : (known : List (List ℤ)) (indices : List ℕ) (es : List Entry) (from to i : ℕ) → slice_get indices to ≡ Some i → ((c : List ℤ) → slice_get known i ≡ Some c → ¬ IsLong c → IsSatisfied es c)
+    → AreSettled known indices es from to → AreSettled known indices es from (to + 1)
+settled-more known indices es from to i here satisfied h j k c low less at is short = elim (cases_lt j to) [
+  | inl before ↦ h j k c low before at is short
+  | inr past ↦
+      let same : j ≡ to = omega arith in
+      let both : Some i ≡ Some k = sym here ∙ sym (ap (slice_get indices) same) ∙ at in
+      let same' : k ≡ i = cc in
+      satisfied c (sym (ap (slice_get known) same') ∙ is) short
+]
