@@ -140,5 +140,5 @@ module _ (known : List (List ℤ)) (w w' : Watches) (i : ℕ) (c : List ℤ) (q 
     settled = λ k j d less at. h.settled k j d less (sym (ap (λ (xs : List ℕ). slice_get xs k) short) ∙ at);
   }
 
-  pub gone-move : (l : ℤ) → ¬ IsOf l q → (p : Pair) → slice_get w'.pairs.items i ≡ Some p → ¬ IsOf l p
-  gone-move l none p at of = none (subst (IsOf l) (set_same w.pairs.items i q p (sym (ap (λ (ps : List Pair). slice_get ps i) pairs) ∙ at)) of)
+pub gone-move : (pairs : List Pair) (i : ℕ) (q : Pair) (l : ℤ) → ¬ IsOf l q → (p : Pair) → slice_get (set pairs i q) i ≡ Some p → ¬ IsOf l p
+gone-move pairs i q l none p at of = none (subst (IsOf l) (set_same pairs i q p at) of)
