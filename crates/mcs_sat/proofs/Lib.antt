@@ -4,5 +4,6 @@ pub mod LatestLemmas
 pub mod LearnLemmas
 pub mod TrailLemmas
 pub mod WatchLemmas
+pub mod GrowLemmas
 pub mod LevelLemmas
 pub mod StateLemmas
