@@ -7,3 +7,4 @@ pub mod WatchLemmas
 pub mod GrowLemmas
 pub mod LevelLemmas
 pub mod StateLemmas
+pub mod TurnLemmas
