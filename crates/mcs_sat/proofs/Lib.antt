@@ -8,3 +8,4 @@ pub mod GrowLemmas
 pub mod LevelLemmas
 pub mod StateLemmas
 pub mod TurnLemmas
+pub mod RunLemmas

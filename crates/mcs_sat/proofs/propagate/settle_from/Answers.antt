@@ -21,6 +21,7 @@ loop-from-init c = record {
   trail = c.requires.trail;
   positions = refl;
   grows = grows-none c.args.level c.args.trail.now.entries.items;
+  bound = λ low. low;
   settled = settled-none c.args.clauses.now c.args.indices.now c.args.trail.now.entries.items c.args.from.now;
 }
 
@@ -53,6 +54,7 @@ loop-from-preserved c = record {
   trail = c.settle.ensures.trail;
   positions = positions (goal.at.loop-from-preserved c).After-settle;
   grows = grows (goal.at.loop-from-preserved c).After-settle;
+  bound = λ low. (let less = c.loop-from-test.true in omega arith);
   settled = settled-more c.args.clauses.now c.args.indices.now c.settle.new.trail.entries.items c.args.from.now c.loop-from.from _
   (slice_get-get_or c.args.indices.now c.loop-from.from 0 c.loop-from-test.true)
   (when_false _ _ c.if-branch.false c.in_ok-settle.ensures.found)
