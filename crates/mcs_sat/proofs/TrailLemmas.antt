@@ -138,6 +138,10 @@ placed-bound es ps n h size = let all = covers_below (length es) (drop 1 ps) the
         let e : get_or (drop 1 ps) (v - 1) 0 ≡ i = get_or-drop 1 ps (v - 1) 0 ∙ ap (λ j. get_or ps j 0) back ∙ at in
         subst (λ (x : ℕ). IsAmong x (drop 1 ps)) e (among_at (drop 1 ps) (v - 1) 0 (omega (arith, length-drop 1 ps)))
 
+-- nor than places
+pub placed-most : (es : List Entry) (ps : List ℕ) → ArePlaced es ps → length es ≤ length ps
+placed-most es ps h = covers_below (length es) ps (λ i less. let (literal, within, at) = h i less in subst (λ (x : ℕ). IsAmong x ps) at (among_at ps (unsigned_abs (literal_at es i)) 0 within))
+
 -- ---- trails that grow
 pub extends-none : (es : List Entry) → Extends es es
 extends-none es = ([], sym (append-nil es))

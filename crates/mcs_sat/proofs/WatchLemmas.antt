@@ -19,8 +19,8 @@ use Rattle.mcs_sat.specs.declared.watches.Pair.{Pair}
 use Rattle.mcs_sat.specs.declared.watches.Watches.{Watches}
 use Rattle.mcs_sat.specs.Trails.{Grows, IsOnBelow, IsSatisfied, IsSatisfiedBelow, literal_at}
 use Rattle.mcs_sat.specs.Watching.{ArePair, AreVisited, AreWatched, IsListed, IsLong, IsOf, IsPaired, IsPairOf, IsReached}
-use Rattle.mcs_sat.proofs.GrowLemmas.{grows-longer, satisfied-grown}
-use Rattle.mcs_sat.proofs.TrailLemmas.{below-same, entry-old, entry_at}
+use Rattle.mcs_sat.proofs.GrowLemmas.{entry-grown, grows-longer, satisfied-grown}
+use Rattle.mcs_sat.proofs.TrailLemmas.{below-same}
 
 -- ---- what is read after a write
 module _ {A : Type 0} where
@@ -244,9 +244,9 @@ visited-all known w es l p at list watched literal place-is is all passed i c q 
 -- ---- a trail that grows
 -- what was true below a place within the first trail
 below-grown : (level : ℕ) (es es' : List Entry) (n : ℕ) (k : ℤ) → Grows level es es' → n ≤ length es → IsOnBelow es n k ↔ IsOnBelow es' n k
-below-grown level es es' n k (more, e, all) bound = (
-  below-same es es' n k (λ j less. ap (λ (xs : List Entry). entry_at xs j) e ∙ entry-old es more j (omega arith)),
-  below-same es' es n k (λ j less. sym (ap (λ (xs : List Entry). entry_at xs j) e ∙ entry-old es more j (omega arith))),
+below-grown level es es' n k grows bound = (
+  below-same es es' n k (λ j less. entry-grown level es es' j grows (omega arith)),
+  below-same es' es n k (λ j less. sym (entry-grown level es es' j grows (omega arith))),
 )
 
 -- no literal stands past the end
