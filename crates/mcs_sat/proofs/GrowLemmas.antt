@@ -1,5 +1,5 @@
 -- Literals that follow on a trail.
-use Rattle.std.proofs.Common.{◌≡◌, ℕ, zero, suc, ◌+◌, ◌^◌, ◌<◌, ◌≤◌, List, [], ◌∷◌, ◌++◌, ◌⊎◌, inl, inr, refl, sym, ap, ◌∙◌, subst, arith, ℤ, neg_ℤ, unsigned_abs, length, length-append, Some, slice_get, append-nil, append_assoc, w64, to_z, of_z, to_z-of_z}
+use Rattle.std.proofs.Common.{◌≡◌, ℕ, suc, ◌+◌, ◌^◌, ◌<◌, ◌≤◌, List, [], ◌∷◌, ◌++◌, ◌⊎◌, inl, inr, sym, ap, ◌∙◌, subst, arith, ℤ, neg_ℤ, unsigned_abs, length, length-append, Some, slice_get, append-nil, append_assoc, w64, to_z, of_z, to_z-of_z}
 use Rattle.std.specs.List.{AllByRecursion}
 use Rattle.std.proofs.lemmas.Bool.{cases_lt}
 use Rattle.std.proofs.lemmas.List.{length_push}
@@ -11,19 +11,13 @@ use Rattle.mcs_trace.specs.Traces.{numbered}
 use Rattle.mcs_trace.proofs.OrderLemmas.{fits_literal}
 use Rattle.mcs_sat.specs.declared.trail.Entry.{Entry}
 use Rattle.mcs_sat.specs.declared.trail.Trail.{Trail}
-use Rattle.mcs_sat.specs.Trails.{AreCovered, AreExplained, ArePlaced, Grows, IsFalse, IsFalseAt, IsOn, IsOnBelow, IsSatisfied, IsSatisfiedBelow, IsTrail}
+use Rattle.mcs_sat.specs.Trails.{AreCovered, AreExplained, ArePlaced, Grows, IsFalse, IsOn, IsSatisfied, IsTrail}
 use Rattle.mcs_sat.specs.Watching.{AreSettled, IsLong}
 use Rattle.mcs_sat.proofs.TrailLemmas.{IsForced, entry_at, entry-new, entry-old, explained-push, on-more}
 
 -- ---- entries that follow
 pub grows-none : (level : ℕ) (es : List Entry) → Grows level es es
 grows-none level es = ([], sym (append-nil es), tt)
-
-pub grows-same : (level : ℕ) (es es' : List Entry) → es' ≡ es → Grows level es es'
-grows-same level es es' e = ([], e ∙ sym (append-nil es), tt)
-
-pub grows-push : (level : ℕ) (es es' : List Entry) (e : Entry) → es' ≡ es ++ e ∷ [] → 0 < e.reason → e.level ≡ level → Grows level es es'
-grows-push level es es' e is reason on-level = (e ∷ [], is, ((reason, on-level), tt))
 
 pub grows-more : (level : ℕ) (es es' es'' : List Entry) → Grows level es es' → Grows level es' es'' → Grows level es es''
 grows-more level es es' es'' (more, e, all) (more', e', all') =

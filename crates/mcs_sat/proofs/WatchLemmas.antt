@@ -223,10 +223,10 @@ watched-swap known w w' p l at list list' x watched pairs short lists place-is i
   sized = ap length pairs ∙ watched.sized;
   paired = λ i c q known-is here. watched.paired i c q known-is (before i q here);
   listed = λ i q k here literal of. subst (λ (ls : List (Vec ℕ Global)). IsListed ls k i) (sym lists)
-  (listed-set w.lists.items p list' k i (λ differ. watched.listed i q k (before i q here) literal of) (λ same.
-    let k-is : k ≡ l = place-injective k l (same ∙ place-is) in
-    let among : IsAmong i list.items = watched.listed i q k (before i q here) literal of list (ap (slice_get w.lists.items) same ∙ is) in
-    subst (IsAmong i) (sym swapped) (swapped_among list.items at x i within read among (λ e. gone q (sym (ap (slice_get w.pairs.items) e) ∙ before i q here) (subst (λ (m : ℤ). IsOf m q) k-is of)))));
+      (listed-set w.lists.items p list' k i (λ differ. watched.listed i q k (before i q here) literal of) (λ same.
+      let k-is : k ≡ l = place-injective k l (same ∙ place-is) in
+      let among : IsAmong i list.items = watched.listed i q k (before i q here) literal of list (ap (slice_get w.lists.items) same ∙ is) in
+      subst (IsAmong i) (sym swapped) (swapped_among list.items at x i within read among (λ e. gone q (sym (ap (slice_get w.pairs.items) e) ∙ before i q here) (subst (λ (m : ℤ). IsOf m q) k-is of)))));
   short = λ i c known-is few. subst (IsAmong i) (sym short) (watched.short i c known-is few);
 }
   where

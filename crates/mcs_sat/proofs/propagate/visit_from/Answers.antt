@@ -1,4 +1,4 @@
-use Rattle.std.proofs.Common.{◌≡◌, ℕ, ℤ, List, ◌+◌, ◌-◌, ◌<◌, ◌≤◌, length, neg_ℤ, Option, None, MatchOption, sym, ap, ◌∙◌, subst, arith, w64, to_z, of_z}
+use Rattle.std.proofs.Common.{◌≡◌, ℕ, ℤ, List, ◌<◌, ◌≤◌, length, neg_ℤ, Option, None, MatchOption, sym, ap, ◌∙◌, subst, arith, w64, to_z, of_z}
 use Rattle.mcs_base.proofs.Booleans.{none_from_not_some}
 use Rattle.mcs_trace.specs.Clauses.{IsLiteral}
 use Rattle.mcs_sat.specs.declared.state.Reach.{Reach}
@@ -73,5 +73,5 @@ loop-from-preserved c =
       bound = omega arith;
       reached = reached at;
       now = λ settled h. reached-next known c.visit_list.new.watches es' c.loop-from.from settled l
-      (read' ∙ c.negated-literal.ensures ∙ ap (λ (x : Entry). neg_ℤ x.literal) (sym (entry-grown c.args.level es es' c.loop-from.from c.visit_list.ensures.grows here))) all (now at settled h);
+          (read' ∙ c.negated-literal.ensures ∙ ap (λ (x : Entry). neg_ℤ x.literal) (sym (entry-grown c.args.level es es' c.loop-from.from c.visit_list.ensures.grows here))) all (now at settled h);
     }
