@@ -1,28 +1,23 @@
 -- Literals that follow on a trail.
-use Rattle.std.proofs.Common.{◌≡◌, ℕ, zero, suc, ◌+◌, ◌<◌, ◌≤◌, List, [], ◌∷◌, ◌++◌, ◌⊎◌, inl, inr, refl, sym, ap, ◌∙◌, subst, arith, ℤ, neg_ℤ, unsigned_abs, length, length-append, Some, slice_get, append-nil, append_assoc, w64, to_z, of_z, to_z-of_z}
+use Rattle.std.proofs.Common.{◌≡◌, ℕ, suc, ◌+◌, ◌^◌, ◌<◌, ◌≤◌, List, [], ◌∷◌, ◌++◌, ◌⊎◌, inl, inr, sym, ap, ◌∙◌, subst, arith, ℤ, neg_ℤ, unsigned_abs, length, length-append, Some, slice_get, append-nil, append_assoc, w64, to_z, of_z, to_z-of_z}
 use Rattle.std.specs.List.{AllByRecursion}
 use Rattle.std.proofs.lemmas.Bool.{cases_lt}
 use Rattle.std.proofs.lemmas.List.{length_push}
 use Rattle.mcs_base.specs.Listings.{IsAmong}
 use Rattle.mcs_base.proofs.Each.{all_among, all_append, all_get}
+use Rattle.mcs_base.proofs.Numbers.{unsigned_abs-neg_ℤ}
 use Rattle.mcs_trace.specs.Clauses.{IsClause, IsLiteral}
 use Rattle.mcs_trace.specs.Traces.{numbered}
 use Rattle.mcs_trace.proofs.OrderLemmas.{fits_literal}
 use Rattle.mcs_sat.specs.declared.trail.Entry.{Entry}
 use Rattle.mcs_sat.specs.declared.trail.Trail.{Trail}
-use Rattle.mcs_sat.specs.Trails.{AreCovered, AreExplained, ArePlaced, Grows, IsFalse, IsFalseAt, IsOn, IsOnBelow, IsSatisfied, IsSatisfiedBelow, IsTrail}
+use Rattle.mcs_sat.specs.Trails.{AreCovered, AreExplained, ArePlaced, Grows, IsFalse, IsOn, IsSatisfied, IsTrail}
 use Rattle.mcs_sat.specs.Watching.{AreSettled, IsLong}
-use Rattle.mcs_sat.proofs.TrailLemmas.{IsForced, entry-new, entry-old, explained-push, on-more}
+use Rattle.mcs_sat.proofs.TrailLemmas.{IsForced, entry_at, entry-new, entry-old, explained-push, on-more}
 
 -- ---- entries that follow
 pub grows-none : (level : ℕ) (es : List Entry) → Grows level es es
 grows-none level es = ([], sym (append-nil es), tt)
-
-pub grows-same : (level : ℕ) (es es' : List Entry) → es' ≡ es → Grows level es es'
-grows-same level es es' e = ([], e ∙ sym (append-nil es), tt)
-
-pub grows-push : (level : ℕ) (es es' : List Entry) (e : Entry) → es' ≡ es ++ e ∷ [] → 0 < e.reason → e.level ≡ level → Grows level es es'
-grows-push level es es' e is reason on-level = (e ∷ [], is, ((reason, on-level), tt))
 
 pub grows-more : (level : ℕ) (es es' es'' : List Entry) → Grows level es es' → Grows level es' es'' → Grows level es es''
 grows-more level es es' es'' (more, e, all) (more', e', all') =
@@ -41,9 +36,15 @@ satisfied-grown level es es' c grows (k, among, on) = (k, among, on-grown level 
 pub false-grown : (level : ℕ) (es es' : List Entry) (c : List ℤ) → Grows level es es' → IsFalse es c → IsFalse es' c
 false-grown level es es' c grows off k among = on-grown level es es' (neg_ℤ k) grows (off k among)
 
+pub entry-grown : (level : ℕ) (es es' : List Entry) (i : ℕ) → Grows level es es' → i < length es → entry_at es' i ≡ entry_at es i
+entry-grown level es es' i (more, e, all) less = ap (λ (xs : List Entry). entry_at xs i) e ∙ entry-old es more i less
+
 -- ---- what a clause of the trail has
 pub read_literal : (l : ℤ) → IsLiteral l → to_z w64 (of_z w64 l) ≡ l
 read_literal l is = to_z-of_z (fits_literal l is)
+
+pub neg_literal : (l : ℤ) → IsLiteral l → IsLiteral (neg_ℤ l)
+neg_literal l is = subst (λ (n : ℕ). (0 < n) × (n < 2 ^ 63)) (sym (unsigned_abs-neg_ℤ l)) is
 
 pub clause_at : (known : List (List ℤ)) (t : Trail) (i : ℕ) (c : List ℤ) → IsTrail known t → slice_get known i ≡ Some c → IsClause c
 clause_at known t i c trail is = all_get IsClause known i c trail.clauses is

@@ -19,8 +19,8 @@ use Rattle.mcs_sat.specs.declared.watches.Pair.{Pair}
 use Rattle.mcs_sat.specs.declared.watches.Watches.{Watches}
 use Rattle.mcs_sat.specs.Trails.{Grows, IsOnBelow, IsSatisfied, IsSatisfiedBelow, literal_at}
 use Rattle.mcs_sat.specs.Watching.{ArePair, AreVisited, AreWatched, IsListed, IsLong, IsOf, IsPaired, IsPairOf, IsReached}
-use Rattle.mcs_sat.proofs.GrowLemmas.{grows-longer, satisfied-grown}
-use Rattle.mcs_sat.proofs.TrailLemmas.{below-same, entry-old, entry_at}
+use Rattle.mcs_sat.proofs.GrowLemmas.{entry-grown, grows-longer, satisfied-grown}
+use Rattle.mcs_sat.proofs.TrailLemmas.{below-same}
 
 -- ---- what is read after a write
 module _ {A : Type 0} where
@@ -223,10 +223,10 @@ watched-swap known w w' p l at list list' x watched pairs short lists place-is i
   sized = ap length pairs ∙ watched.sized;
   paired = λ i c q known-is here. watched.paired i c q known-is (before i q here);
   listed = λ i q k here literal of. subst (λ (ls : List (Vec ℕ Global)). IsListed ls k i) (sym lists)
-  (listed-set w.lists.items p list' k i (λ differ. watched.listed i q k (before i q here) literal of) (λ same.
-    let k-is : k ≡ l = place-injective k l (same ∙ place-is) in
-    let among : IsAmong i list.items = watched.listed i q k (before i q here) literal of list (ap (slice_get w.lists.items) same ∙ is) in
-    subst (IsAmong i) (sym swapped) (swapped_among list.items at x i within read among (λ e. gone q (sym (ap (slice_get w.pairs.items) e) ∙ before i q here) (subst (λ (m : ℤ). IsOf m q) k-is of)))));
+      (listed-set w.lists.items p list' k i (λ differ. watched.listed i q k (before i q here) literal of) (λ same.
+      let k-is : k ≡ l = place-injective k l (same ∙ place-is) in
+      let among : IsAmong i list.items = watched.listed i q k (before i q here) literal of list (ap (slice_get w.lists.items) same ∙ is) in
+      subst (IsAmong i) (sym swapped) (swapped_among list.items at x i within read among (λ e. gone q (sym (ap (slice_get w.pairs.items) e) ∙ before i q here) (subst (λ (m : ℤ). IsOf m q) k-is of)))));
   short = λ i c known-is few. subst (IsAmong i) (sym short) (watched.short i c known-is few);
 }
   where
@@ -244,9 +244,9 @@ visited-all known w es l p at list watched literal place-is is all passed i c q 
 -- ---- a trail that grows
 -- what was true below a place within the first trail
 below-grown : (level : ℕ) (es es' : List Entry) (n : ℕ) (k : ℤ) → Grows level es es' → n ≤ length es → IsOnBelow es n k ↔ IsOnBelow es' n k
-below-grown level es es' n k (more, e, all) bound = (
-  below-same es es' n k (λ j less. ap (λ (xs : List Entry). entry_at xs j) e ∙ entry-old es more j (omega arith)),
-  below-same es' es n k (λ j less. sym (ap (λ (xs : List Entry). entry_at xs j) e ∙ entry-old es more j (omega arith))),
+below-grown level es es' n k grows bound = (
+  below-same es es' n k (λ j less. entry-grown level es es' j grows (omega arith)),
+  below-same es' es n k (λ j less. sym (entry-grown level es es' j grows (omega arith))),
 )
 
 -- no literal stands past the end

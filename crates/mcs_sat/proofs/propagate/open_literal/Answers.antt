@@ -1,10 +1,10 @@
-use Rattle.std.proofs.Common.{◌≡◌, ℕ, ◌<◌, ◌+◌, ◌∙◌, ◌⊎◌, List, ℤ, pos, neg_ℤ, get_or, length, inl, inr, sym, ap, subst, true≢false, FitsSigned, w64, to_z, of_z, to_z-of_z}
+use Rattle.std.proofs.Common.{◌≡◌, ℕ, ◌<◌, ◌∙◌, ◌⊎◌, List, ℤ, pos, neg_ℤ, get_or, length, inl, inr, sym, ap, subst, true≢false, FitsSigned, w64, to_z, of_z, to_z-of_z}
 use Rattle.mcs_base.specs.Listings.{IsAmong}
 use Rattle.mcs_base.proofs.Among.{among_at}
 use Rattle.mcs_trace.specs.Clauses.{IsClause}
 use Rattle.mcs_trace.proofs.OrderLemmas.{fits_literal, literal_at, same_literal}
 use Rattle.mcs_sat.specs.Trails.{IsOn}
-use Rattle.mcs_sat.proofs.FindingLemmas.{AreFalseBelow, false_below-all, false_below-more}
+use Rattle.mcs_sat.proofs.FindingLemmas.{false_below-all, false_below-more}
 use Rattle.mcs_sat.proofs.propagate.open_literal.Goals.{else-literal-other-via-then-literal-other+else-not-is_false, else-literal-other-via-else-literal-other}
 use Rattle.mcs_sat.proofs.propagate.open_literal.Goals as goal
 
@@ -34,8 +34,7 @@ pub returns-then-not-is_false : goal.returns-then-not-is_false
 returns-then-not-is_false c =
     let i : ℕ = c.loop-literal.literal-index in
     let x : ℤ = get_or c.args.literals.now i (pos 0) in
-    let read : to_z w64 (of_z w64 x) ≡ x = to_z-of_z (fits c.args.literals.now i c.requires.clause c.loop-literal-test.true) in
-    (
+    let read : to_z w64 (of_z w64 x) ≡ x = to_z-of_z (fits c.args.literals.now i c.requires.clause c.loop-literal-test.true) in (
       subst (λ (k : ℤ). IsAmong k c.args.literals.now) (sym read) (among_at c.args.literals.now i (pos 0) c.loop-literal-test.true),
       λ e. c.if-literal-other.true (ap (of_z w64) (sym read ∙ e)),
       λ off. true≢false (sym (c.is_false.ensures.1 off) ∙ c.if-not-is_false.true),

@@ -1,4 +1,4 @@
-use Rattle.std.proofs.Common.{◌≡◌, ◌<◌, ◌+◌, ◌-◌, length, refl, ◌∙◌, arith}
+use Rattle.std.proofs.Common.{◌≡◌, length, refl, ◌∙◌, arith}
 use Rattle.std.proofs.lemmas.Option.{slice_get-get_or}
 use Rattle.std.proofs.lemmas.Bool.Decides.{when_false}
 use Rattle.mcs_sat.specs.Trails.{Grows}
@@ -56,9 +56,9 @@ loop-from-preserved c = record {
   grows = grows (goal.at.loop-from-preserved c).After-settle;
   bound = λ low. (let less = c.loop-from-test.true in omega arith);
   settled = settled-more c.args.clauses.now c.args.indices.now c.settle.new.trail.entries.items c.args.from.now c.loop-from.from _
-  (slice_get-get_or c.args.indices.now c.loop-from.from 0 c.loop-from-test.true)
-  (when_false _ _ c.if-branch.false c.in_ok-settle.ensures.found)
-  (settled (goal.at.loop-from-preserved c).After-settle);
+      (slice_get-get_or c.args.indices.now c.loop-from.from 0 c.loop-from-test.true)
+      (when_false _ _ c.if-branch.false c.in_ok-settle.ensures.found)
+      (settled (goal.at.loop-from-preserved c).After-settle);
 }
 
 pub returns-clause-trail : goal.returns-clause-trail

@@ -1,16 +1,16 @@
-use Rattle.std.proofs.Common.{◌≡◌, ◌≢◌, ℕ, ℤ, List, ◌+◌, ◌*◌, ◌<◌, ◌⊎◌, inl, inr, length, neg_ℤ, unsigned_abs, slice_get, Some, refl, sym, ap, ◌∙◌, subst, arith, w64, to_z, of_z, to_z-of_z}
+use Rattle.std.proofs.Common.{◌≡◌, ℤ, List, ◌+◌, ◌*◌, ◌<◌, inl, inr, length, neg_ℤ, unsigned_abs, slice_get, Some, refl, sym, ◌∙◌, subst, arith, w64, to_z, of_z, to_z-of_z}
 use Rattle.std.proofs.lemmas.Option.{slice_get_read}
 use Rattle.mcs_base.specs.Listings.{IsAmong}
 use Rattle.mcs_trace.specs.Clauses.{IsLiteral, place}
 use Rattle.mcs_trace.proofs.OrderLemmas.{place-size}
 use Rattle.mcs_sat.specs.declared.trail.Entry.{Entry}
 use Rattle.mcs_sat.specs.declared.watches.Pair.{Pair}
-use Rattle.mcs_sat.specs.Trails.{IsOn, IsSatisfied}
+use Rattle.mcs_sat.specs.Trails.{IsOn}
 use Rattle.mcs_sat.specs.Watching.{ArePair, AreWatched, IsListed, IsOf, IsPairOf}
 use Rattle.mcs_sat.proofs.GrowLemmas.{clause_at, covered_at, literal_of, on-pushed, read_literal, trail-push, trail-same, within_of}
 use Rattle.mcs_sat.proofs.TrailLemmas.{on_below}
 use Rattle.mcs_sat.proofs.WatchLemmas.{IsWatching, gone-move, reached-list, reached-move, watched-list, watched-move, watched_at, watching}
-use Rattle.mcs_sat.proofs.propagate.visit.Goals.{In-Some, After-row, In-Some-open_literal, After-list}
+use Rattle.mcs_sat.proofs.propagate.visit.Goals.{In-Some, In-Some-open_literal, After-list}
 use Rattle.mcs_sat.proofs.propagate.visit.Goals as goal
 
 -- ---- the pair of the clause
@@ -138,10 +138,14 @@ pub is_false-requires-clause-within : goal.is_false-requires-clause-within
 is_false-requires-clause-within c = other_within (goal.at.is_false-requires-clause-within c).In-Some
 
 pub returns-then-is_false-clause-seen : goal.returns-then-is_false-clause-seen
-returns-then-is_false-clause-seen c = (c.row.result.now, c.row.ensures, λ k among. elim (c.in_default-open_literal.ensures k among) [
-  | inl e ↦ subst (λ (l : ℤ). IsOn c.args.trail.now.entries.items (neg_ℤ l)) (sym e) (c.is_false.ensures.0 c.if-is_false.true)
-  | inr off ↦ off
-])
+returns-then-is_false-clause-seen c = (
+  c.row.result.now,
+  c.row.ensures,
+  λ k among. elim (c.in_default-open_literal.ensures k among) [
+    | inl e ↦ subst (λ (l : ℤ). IsOn c.args.trail.now.entries.items (neg_ℤ l)) (sym e) (c.is_false.ensures.0 c.if-is_false.true)
+    | inr off ↦ off
+  ],
+)
 
 pub push-requires-clause-literal : goal.push-requires-clause-literal
 push-requires-clause-literal c = other_literal (goal.at.push-requires-clause-literal c).In-Some

@@ -1,16 +1,15 @@
-use Rattle.std.proofs.Common.{◌≡◌, ℕ, ℤ, List, ◌+◌, ◌*◌, ◌<◌, ◌≤◌, length, slice_get, get_or, neg_ℤ, unsigned_abs, Some, Option, Vec, refl, sym, ap, ◌∙◌, subst, arith, w64, to_z, of_z, to_z-of_z}
+use Rattle.std.proofs.Common.{◌≡◌, ℕ, ℤ, List, ◌+◌, ◌*◌, ◌<◌, ◌≤◌, length, slice_get, get_or, neg_ℤ, unsigned_abs, Some, Vec, refl, sym, ap, ◌∙◌, subst, arith, w64, to_z, of_z, to_z-of_z}
 use Rattle.std.specs.declared.alloc.Global.{Global}
 use Rattle.std.proofs.lemmas.List.{length-set}
 use Rattle.std.proofs.lemmas.Option.{slice_get_read}
 use Rattle.mcs_base.proofs.Numbers.{unsigned_abs-neg_ℤ}
-use Rattle.mcs_trace.specs.Clauses.{IsLiteral, place}
+use Rattle.mcs_trace.specs.Clauses.{place}
 use Rattle.mcs_trace.proofs.OrderLemmas.{place-size}
 use Rattle.mcs_sat.specs.declared.propagate.Seen.TheVariants as seen
 use Rattle.mcs_sat.specs.declared.state.Reach.{Reach}
 use Rattle.mcs_sat.specs.declared.trail.Entry.{Entry}
-use Rattle.mcs_sat.specs.declared.watches.Pair.{Pair}
-use Rattle.mcs_sat.specs.Trails.{ArePlaced, Grows, IsOn, IsSatisfied, literal_at}
-use Rattle.mcs_sat.specs.Watching.{AreVisited, IsOf, IsReached, IsSeen}
+use Rattle.mcs_sat.specs.Trails.{ArePlaced, Grows, IsOn, literal_at}
+use Rattle.mcs_sat.specs.Watching.{IsReached, IsSeen}
 use Rattle.mcs_sat.proofs.GrowLemmas.{grows-more}
 use Rattle.mcs_sat.proofs.WatchLemmas.{left-more, left-swap, passed-more, passed-swap, reached-across, reached-list, set_here, visited-all, watched-swap}
 use Rattle.mcs_sat.proofs.propagate.visit_list.Goals.{After-index, After-index_mut, After-visit}
@@ -82,8 +81,8 @@ loop-at-preserved-in-Satisfied c =
       short = c.visit.ensures.short ∙ c.loop-at.invariant.short;
       reached = reached at;
       passed = passed-more c.args.clauses.now c.loop-at.watches.lists.items c.visit.new.watches.lists.items c.args.level c.loop-at.trail.entries.items c.visit.new.trail.entries.items c.place-list.result c.loop-at.at c.index-in-loop-at.result.now
-      c.visit.ensures.grows (list_at at) c.loop-at.invariant.passed (kept at) c.index-index.result.now (index_at at)
-      (subst (IsSeen c.args.clauses.now c.visit.new.watches c.visit.new.trail.entries.items c.index-index.result.now (to_z w64 (of_z w64 c.args.literal))) c.in-Satisfied.is c.in_ok-visit.ensures.seen);
+          c.visit.ensures.grows (list_at at) c.loop-at.invariant.passed (kept at) c.index-index.result.now (index_at at)
+          (subst (IsSeen c.args.clauses.now c.visit.new.watches c.visit.new.trail.entries.items c.index-index.result.now (to_z w64 (of_z w64 c.args.literal))) c.in-Satisfied.is c.in_ok-visit.ensures.seen);
     }
 
 -- ---- it is gone
@@ -137,11 +136,11 @@ loop-at-preserved c =
       grows = grows at;
       lists = length-set c.visit.new.watches.lists.items c.place-list.result c.swap_remove.new.self ∙ c.visit.ensures.lists ∙ c.loop-at.invariant.lists;
       watched = watched-swap c.args.clauses.now c.visit.new.watches _ c.place-list.result l c.loop-at.at list c.swap_remove.new.self x c.visit.ensures.watched refl refl refl c.place-list.ensures (removed_at at') less
-      c.swap_remove.ensures.value c.swap_remove.ensures.items (λ q is. gone q (sym (ap (slice_get c.visit.new.watches.pairs.items) x-is) ∙ is));
+          c.swap_remove.ensures.value c.swap_remove.ensures.items (λ q is. gone q (sym (ap (slice_get c.visit.new.watches.pairs.items) x-is) ∙ is));
       short = c.visit.ensures.short ∙ c.loop-at.invariant.short;
       reached = λ r bound h. reached-list c.args.clauses.now c.visit.new.watches _ c.args.trail.now.entries.items r refl refl (reached at r bound h);
       passed = passed-swap c.args.clauses.now c.loop-at.watches.lists.items c.visit.new.watches.lists.items c.args.level c.loop-at.trail.entries.items c.visit.new.trail.entries.items c.place-list.result c.loop-at.at list
-      c.visit.ensures.grows (sym (kept at) ∙ removed_at at') c.loop-at.invariant.passed less c.swap_remove.new.self x c.swap_remove.ensures.items;
+          c.visit.ensures.grows (sym (kept at) ∙ removed_at at') c.loop-at.invariant.passed less c.swap_remove.new.self x c.swap_remove.ensures.items;
     }
 
 -- ---- all of the list
