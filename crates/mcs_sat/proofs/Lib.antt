@@ -6,3 +6,5 @@ pub mod TrailLemmas
 pub mod WatchLemmas
 pub mod LevelLemmas
 pub mod StateLemmas
+pub mod RunLemmas
+pub mod SolverLemmas
