@@ -8,3 +8,4 @@ pub mod LevelLemmas
 pub mod StateLemmas
 pub mod RunLemmas
 pub mod SolverLemmas
+pub mod AssertingLemmas

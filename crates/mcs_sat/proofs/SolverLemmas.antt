@@ -120,7 +120,7 @@ number-false s n (c, is, off) =
     (some, (c, at, under-false s.trail.entries.items c (subst (λ (x : List ℤ). IsFalseUnder x c) (flat-levels s.trail.entries.items) off)))
 
 -- ---- what a decision makes of it
-same-view : (vars vars' : ℕ) (known known' levels levels' : List (List ℤ)) → vars ≡ vars' → known ≡ known' → levels ≡ levels'
+pub same-view : (vars vars' : ℕ) (known known' levels levels' : List (List ℤ)) → vars ≡ vars' → known ≡ known' → levels ≡ levels'
     → let a : SolverView = record { vars = vars; clauses = known; levels = levels } in let b : SolverView = record { vars = vars'; clauses = known'; levels = levels' } in a ≡ b
 same-view vars vars' known known' levels levels' e e' e'' = cc
 
