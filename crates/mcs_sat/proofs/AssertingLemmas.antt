@@ -3,7 +3,7 @@ use Rattle.std.proofs.Common.{◌≡◌, ℕ, zero, suc, ◌+◌, ◌-◌, ◌<�
 use Rattle.std.specs.List.{AllByRecursion, flat_map}
 use Rattle.std.proofs.Math.IntN.{neg_ℤ-neg_ℤ}
 use Rattle.std.proofs.lemmas.Bool.{cases_lt, cases_eq}
-use Rattle.std.proofs.lemmas.List.{take_all}
+use Rattle.std.proofs.lemmas.List.{length-take, take_all}
 use Rattle.std.proofs.lemmas.Option.{slice_get_within, slice_get-get_or, get_or_from_slice_get}
 use Rattle.mcs_base.specs.Listings.{IsAmong}
 use Rattle.mcs_base.proofs.Among.{among_at}
@@ -23,7 +23,7 @@ use Rattle.mcs_sat.proofs.LatestLemmas.{LatestSoFar, latest-end, latest-joined, 
 use Rattle.mcs_sat.proofs.LevelLemmas.{before-start, below-start, decisions-longer, implied-last, levels-at, levels-back, levels-count, levels-from}
 use Rattle.mcs_sat.proofs.RunLemmas.{among-on, false-under, flat-levels, literals, on-among, open-not_false, placed-consistent, under-false}
 use Rattle.mcs_sat.proofs.SolverLemmas.{same-view}
-use Rattle.mcs_sat.proofs.TrailLemmas.{on-back, placed-back, same_place}
+use Rattle.mcs_sat.proofs.TrailLemmas.{entry-back, on-back, placed-back, same_place}
 
 -- ---- the latest of the literals of a clause that is false
 join : (o : Option Latest) (q : ℕ) → (new : Latest) × MatchOption o (new ≡ record { place = q; others = 0 }) (λ l. IsJoined l q new)
@@ -199,3 +199,107 @@ asserting-false s step a = under-false s.trail.entries.items step.clause (subst 
 
 pub asserting-single : (s : State) (r : Reach) (step : Step) → IsState s → 0 < length s.levels.items → IsLastLevel s.levels.items r → IsAsserting (view_of s) step → IsSingle s.trail.entries.items r.entries step.clause
 asserting-single s r step is some at a = one-single s r is some at step.clause (asserting-false s step a) a.single
+
+-- ---- what is learnt
+module _ (old new : State) (step : Step) (is : IsState old) (asserting : IsAsserting (view_of old) step) (r last : Reach) (some : 0 < length old.levels.items) (at-last : IsLastLevel old.levels.items last) (positions : length new.trail.positions.items ≡ length old.trail.positions.items) (back : IsLearntBack old new step.clause step.chain.items) (at : slice_get old.levels.items back.level ≡ Some r) where
+  abbrev all : List Entry
+  all = old.trail.entries.items
+
+  abbrev kept : List Entry
+  kept = take r.entries all
+
+  abbrev l : Latest
+  l = back.latest
+
+  abbrev latest : IsLatest all step.clause l
+  latest = back.is_latest
+
+  abbrev free : ℤ
+  free = neg_ℤ (literal_at all l.place)
+
+  -- the latest is of the last level, and the others are of lower ones
+  split : (l.others ≤ last.entries) × (last.entries ≤ l.place)
+  split = one-split old last is some at-last step.clause l latest asserting.single
+
+  -- the levels up to the one of the others end before the place
+  lower : r.entries ≤ l.place
+  lower = elim (cases_lt l.place r.entries) [
+    | inl less ↦ absurd (
+      let low = below-start all old.levels.items back.level l.place r is.levelled is.starts at less in
+      let high = from-last old last is some at-last l.place latest.here split.1 in
+      let below = back.below in
+      omega (arith, last-is old last is some at-last))
+    | inr past ↦ past
+  ]
+
+  -- the others stand on levels up to that one
+  other-level : (j : ℕ) → j < l.others → level_at all j ≤ back.level
+  other-level j less =
+      let b = latest.before in
+      let h = latest.here in
+      omega (arith, is.levelled j (omega arith), is.levelled (l.others - 1) (omega arith), decisions-longer (j + 1) (l.others - 1 + 1) all (omega arith), back.some (omega arith))
+
+  other-kept : (j : ℕ) → j < l.others → j < r.entries
+  other-kept j less = before-start all old.levels.items back.level j r is.levelled is.starts at (let b = latest.before in let h = latest.here in omega arith) (other-level j less)
+
+  new-entries : new.trail.entries.items ≡ kept
+  new-entries = back.back.entries r at
+
+  back-level : IsBackLevel (view_of old) step.clause back.level
+  back-level = record {
+    below = (let b = back.below in omega (arith, last-is old last is some at-last));
+    others = λ k j among of.
+      let (i, within, level, size) = of-place all j k is.levelled of in
+      elim (latest.others k among) [
+        | inl e ↦ inr (
+          let same : i ≡ l.place = same_place all old.trail.positions.items i l.place is.trail.placed within latest.here (size ∙ ap unsigned_abs e ∙ unsigned_abs-neg_ℤ (literal_at all l.place)) in
+          sym level ∙ ap (level_at all) same ∙ from-last old last is some at-last l.place latest.here split.1)
+        | inr (p, less, on) ↦ inl (
+          let b = latest.before in
+          let h = latest.here in
+          let same : i ≡ p = same_place all old.trail.positions.items i p is.trail.placed within (omega arith) (size ∙ sym (ap unsigned_abs on ∙ unsigned_abs-neg_ℤ k)) in
+          omega (arith, other-level p less, ap (level_at all) same))
+      ];
+    has = elim (cases_lt 0 l.others) [
+      | inl many ↦ inr (
+        neg_ℤ (literal_at all (l.others - 1)),
+        latest.last many,
+        subst (λ (m : ℕ). IsOfLevel (levels_of all) m (neg_ℤ (literal_at all (l.others - 1)))) (sym (back.some many)) (place-of all (l.others - 1) is.levelled (let b = latest.before in let h = latest.here in omega arith)),
+      )
+      | inr none ↦ inl (back.none (omega arith))
+    ];
+  }
+
+  new-trues : trues (view_of new) ≡ literals kept
+  new-trues = flat-levels new.trail.entries.items ∙ ap literals new-entries
+
+  no-value : HasNoValue (literals kept) free
+  no-value k among size =
+      let (p, less, on) = among-on kept k among in
+      let below : p < r.entries = omega (arith, length-take r.entries all) in
+      let within : p < length all = omega (arith, length-take r.entries all) in
+      let there : literal_at all p ≡ k = ap (λ (e : Entry). e.literal) (sym (entry-back all r.entries p below)) ∙ on in
+      let same : p ≡ l.place = same_place all old.trail.positions.items p l.place is.trail.placed within latest.here (ap unsigned_abs there ∙ size ∙ unsigned_abs-neg_ℤ (literal_at all l.place)) in
+      let low = lower in
+      omega arith
+
+  pub learned-at : IsLearned (view_of old) (view_of new) step
+  learned-at = record {
+    level = back.level;
+    back = back-level;
+    is = same-view _ _ _ _ _ _ (ap (λ (n : ℕ). n - 1) positions) back.clauses (
+      ap levels_of new-entries ∙ levels-back all old.levels.items back.level r is.starts at ∙ ap (λ (n : ℕ). take n (levels_of all)) (let up : back.level + 1 ≡ suc back.level = omega arith in up));
+    free = free;
+    has = latest.has;
+    no_value = subst (λ (x : List ℤ). HasNoValue x free) (sym new-trues) no-value;
+    others = λ k among. elim (latest.others k among) [
+      | inl e ↦ inl e
+      | inr (j, less, on) ↦ inr (subst (IsAmong (neg_ℤ k)) (sym new-trues) (on-among kept (neg_ℤ k) (on-back all r.entries (neg_ℤ k) (let low = lower in let h = latest.here in omega arith) (j, other-kept j less, on))))
+    ];
+  }
+
+pub learned : (old new : State) (step : Step) → IsState old → IsAsserting (view_of old) step → 0 < length old.levels.items → length new.trail.positions.items ≡ length old.trail.positions.items → IsLearntBack old new step.clause step.chain.items → IsLearned (view_of old) (view_of new) step
+learned old new step is asserting some positions back =
+    let (r, at) = slice_get_below old.levels.items back.level back.below in
+    let (last, at-last) = slice_get_below old.levels.items (length old.levels.items - 1) (omega arith) in
+    learned-at old new step is asserting r last some at-last positions back at
