@@ -21,7 +21,7 @@ use Rattle.mcs_sat.specs.States.{IsLastLevel, IsLearntBack, IsState, view_of}
 use Rattle.mcs_sat.specs.Trails.{AreLevelled, ArePlaced, IsFalse, IsFalseBelow, IsOn, IsOnBelow, StandsAt, decisions, level_at, levels_of, literal_at}
 use Rattle.mcs_sat.proofs.LatestLemmas.{LatestSoFar, latest-end, latest-joined, latest-start}
 use Rattle.mcs_sat.proofs.LevelLemmas.{before-start, below-start, decisions-longer, implied-last, levels-at, levels-back, levels-count, levels-from}
-use Rattle.mcs_sat.proofs.RunLemmas.{among-on, false-under, flat-levels, literals, on-among, open-not_false, placed-consistent, under-false}
+use Rattle.mcs_sat.proofs.UnitRunLemmas.{among-on, false-under, flat-levels, literals, on-among, open-not_false, placed-consistent, under-false}
 use Rattle.mcs_sat.proofs.SolverLemmas.{same-view}
 use Rattle.mcs_sat.proofs.TrailLemmas.{entry-back, on-back, placed-back, same_place}
 

@@ -6,6 +6,6 @@ pub mod TrailLemmas
 pub mod WatchLemmas
 pub mod LevelLemmas
 pub mod StateLemmas
-pub mod RunLemmas
+pub mod UnitRunLemmas
 pub mod SolverLemmas
 pub mod AssertingLemmas

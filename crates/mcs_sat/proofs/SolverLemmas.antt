@@ -24,7 +24,7 @@ use Rattle.mcs_sat.specs.Trails.{AreCovered, AreExplained, AreLevelled, ArePlace
 use Rattle.mcs_sat.proofs.KnownLemmas.{numbered-row}
 use Rattle.mcs_sat.proofs.LatestLemmas.{LatestSoFar, latest-end, latest-joined, latest-start}
 use Rattle.mcs_sat.proofs.LevelLemmas.{before-start, below-start, decisions-longer, implied-last, levels-at, levels-back, levels-count, levels-decide, levels-from, levels-more}
-use Rattle.mcs_sat.proofs.RunLemmas.{AreConsistent, AreIn, among-on, flat-levels, free-nowhere, grown-run, levels-run, literals, nowhere-free, on-among, open-not_false, open-under, false-under, placed-consistent, run-within, under-false}
+use Rattle.mcs_sat.proofs.UnitRunLemmas.{AreConsistent, AreIn, among-on, flat-levels, free-nowhere, grown-run, levels-run, literals, nowhere-free, on-among, open-not_false, open-under, false-under, placed-consistent, run-within, under-false}
 use Rattle.mcs_sat.proofs.TrailLemmas.{on-back, same_place}
 
 pub trues-are : (s : State) (v : SolverView) → view_of s ≡ v → trues v ≡ literals s.trail.entries.items

@@ -5,7 +5,7 @@ use Rattle.mcs_sat.specs.declared.trail.Entry.{Entry}
 use Rattle.mcs_sat.specs.Solvers.{HasNoValue}
 use Rattle.mcs_sat.specs.States.{IsDecided}
 use Rattle.mcs_sat.specs.Trails.{StandsNowhere}
-use Rattle.mcs_sat.proofs.RunLemmas.{free-nowhere}
+use Rattle.mcs_sat.proofs.UnitRunLemmas.{free-nowhere}
 use Rattle.mcs_sat.proofs.SolverLemmas.{trues-are, view-decided}
 use Rattle.mcs_sat.proofs.solver.Solver.decide.Goals as goal
 

@@ -5,7 +5,7 @@ use Rattle.mcs_trace.proofs.OrderLemmas.{fits_literal}
 use Rattle.mcs_sat.specs.declared.trail.Entry.{Entry}
 use Rattle.mcs_sat.specs.Solvers.{HasNoValue, IsSolver}
 use Rattle.mcs_sat.specs.Trails.{IsOn, StandsNowhere}
-use Rattle.mcs_sat.proofs.RunLemmas.{value-seen}
+use Rattle.mcs_sat.proofs.UnitRunLemmas.{value-seen}
 use Rattle.mcs_sat.proofs.SolverLemmas.{is-solver, trues-are}
 use Rattle.mcs_sat.proofs.solver.Solver.value.Goals as goal
 
