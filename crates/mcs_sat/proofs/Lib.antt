@@ -4,8 +4,11 @@ pub mod LatestLemmas
 pub mod LearnLemmas
 pub mod TrailLemmas
 pub mod WatchLemmas
+pub mod GrowLemmas
 pub mod LevelLemmas
 pub mod StateLemmas
 pub mod UnitRunLemmas
 pub mod SolverLemmas
 pub mod AssertingLemmas
+pub mod TurnLemmas
+pub mod RunLemmas

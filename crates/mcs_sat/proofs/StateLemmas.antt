@@ -1,5 +1,5 @@
 -- What stays right of a solver when a level is opened, when levels are taken back, and when a clause is added.
-use Rattle.std.proofs.Common.{◌≡◌, ◌≢◌, ℕ, ◌+◌, ◌-◌, ◌*◌, ◌^◌, ◌<◌, ◌≤◌, suc, List, [], ◌∷◌, ◌++◌, ◌⊎◌, inl, inr, refl, sym, ap, ◌∙◌, subst, arith, ℤ, neg_ℤ, unsigned_abs, length, length-append, take, Option, Some, None, MatchOption, slice_get, Vec, Global}
+use Rattle.std.proofs.Common.{◌≡◌, ◌≢◌, ℕ, ◌+◌, ◌-◌, ◌*◌, ◌^◌, ◌<◌, ◌≤◌, suc, List, [], ◌∷◌, ◌++◌, ◌⊎◌, inl, inr, refl, sym, ap, ◌∙◌, subst, arith, ℤ, neg_ℤ, unsigned_abs, length, length-append, take, Option, Some, None, MatchOption, IfSome, slice_get, Vec, Global}
 use Rattle.std.specs.List.{AllByRecursion}
 use Rattle.std.proofs.Math.Seq.{take-append_seam}
 use Rattle.std.proofs.lemmas.List.{length_push, length-take-le, take-append-le}
@@ -7,10 +7,11 @@ use Rattle.std.proofs.lemmas.Bool.{cases_lt}
 use Rattle.std.proofs.lemmas.Option.{slice_get_within}
 use Rattle.mcs_base.specs.Listings.{IsAmong}
 use Rattle.mcs_base.proofs.Among.{among_left, among_push}
-use Rattle.mcs_base.proofs.Each.{all_push}
+use Rattle.mcs_base.proofs.Each.{all_among, all_push}
 use Rattle.mcs_base.proofs.Lists.{slice_get_push_at, slice_get_take}
 use Rattle.mcs_trace.specs.Clauses.{IsClause, IsLiteral, place}
 use Rattle.mcs_trace.specs.Traces.{IsChainResolvent}
+use Rattle.mcs_trace.proofs.OrderLemmas.{place-size}
 use Rattle.mcs_sat.specs.declared.state.Reach.{Reach}
 use Rattle.mcs_sat.specs.declared.state.State.{State}
 use Rattle.mcs_sat.specs.declared.trail.Entry.{Entry}
@@ -370,3 +371,33 @@ state-pushed s cs ms w c ns o v is clauses chains kept pushed fits clause covere
       visited = λ i c p l known' at literal of (q, less, on). is.visited i c p l known' at literal of (q, omega arith, on);
       settled = is.settled;
     }
+
+pub kept-lists : (old between new : Watches) → new.lists.items ≡ between.lists.items → AreKept old between → AreKept old new
+kept-lists old between new same kept = record {
+  sized = ap length same ∙ kept.sized;
+  listed = λ l i listed. subst (λ (ls : List (Vec ℕ Global)). IsListed ls l i) (sym same) (kept.listed l i listed);
+}
+
+-- ---- pairs of a clause
+fits-each : (P : ℤ → Type 0) (c : List ℤ) (o : Option Pair) → AllByRecursion P c → FitsPair c o → IfSome o (λ p. P p.first × P p.second)
+fits-each P c None all fits = tt
+fits-each P c (Some p) all fits = (all_among P c p.first all fits.first, all_among P c p.second all fits.second)
+
+pub fits-literals : (c : List ℤ) (o : Option Pair) → IsClause c → FitsPair c o → IfSome o (λ p. IsLiteral p.first × IsLiteral p.second)
+fits-literals c o clause fits = fits-each IsLiteral c o clause.0 fits
+
+pub place-within : (l : ℤ) (n : ℕ) → unsigned_abs l < n → place l < 2 * n
+place-within l n less = let size = place-size l in let high = size.1 in omega arith
+
+pub fits-lists : (c : List ℤ) (ps : List ℕ) (n : ℕ) (o : Option Pair) → AreCovered ps c → n ≡ 2 * length ps → FitsPair c o → IfSome o (λ p. (place p.first < n) × (place p.second < n))
+fits-lists c ps n None covered size fits = tt
+fits-lists c ps n (Some p) covered size fits =
+    let all : (l : ℤ) → IsAmong l c → place l < n = λ l among. let low = place-within l (length ps) (all_among (λ (k : ℤ). unsigned_abs k < length ps) c l covered among) in omega arith in
+    (all p.first fits.first, all p.second fits.second)
+
+pub fresh-none : (es : List Entry) (o : Option Pair) → IsFresh es 0 o
+fresh-none es None = tt
+fresh-none es (Some p) = λ l of (q, less, on). omega arith
+
+pub fresh-base : (es : List Entry) (levels : List Reach) (o : Option Pair) → levels ≡ [] → (k : ℕ) (r : Reach) → slice_get levels k ≡ Some r → IsFresh es r.visited o
+fresh-base es levels o none k r at = absurd (let less = slice_get_within levels k r at in omega (arith, ap length none))

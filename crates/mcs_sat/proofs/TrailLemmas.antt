@@ -1,8 +1,8 @@
--- Trails that grow and are taken back.
-use Rattle.std.proofs.Common.{◌≡◌, ℕ, ◌+◌, ◌-◌, ◌<◌, ◌≤◌, List, [], ◌∷◌, ◌++◌, ◌⊎◌, ◌↔◌, inl, inr, refl, sym, ap, ◌∙◌, subst, arith, ℤ, pos, neg_ℤ, unsigned_abs, length, length-append, take, drop, get_or, Option, Some, None, MatchOption, Bool, true, false, IsTrue, is_some, unwrap_or, true≢false, append-nil, append_assoc}
+-- Trails that grow and are taken back, and the values of literals.
+use Rattle.std.proofs.Common.{◌≡◌, ℕ, ◌+◌, ◌<◌, ◌≤◌, List, [], ◌∷◌, ◌++◌, ◌⊎◌, ◌↔◌, inl, inr, refl, sym, ap, ◌∙◌, subst, arith, ℤ, pos, neg_ℤ, unsigned_abs, length, length-append, take, get_or, Option, Some, None, MatchOption, Bool, true, false, IsTrue, is_some, unwrap_or, true≢false}
 use Rattle.std.specs.Bool.{MatchBool}
 use Rattle.std.proofs.lemmas.Bool.{cases_lt}
-use Rattle.std.proofs.lemmas.List.{get_or_append_left, get_or_push, get_or-take, length_push, length-take, length-drop, get_or-drop, get_or_read}
+use Rattle.std.proofs.lemmas.List.{get_or_append_left, get_or_push, get_or-take, length_push, length-take, get_or_read}
 use Rattle.mcs_base.specs.Listings.{IsAmong}
 use Rattle.mcs_base.proofs.Among.{among_at}
 use Rattle.mcs_base.proofs.Distinct.{covers_below}
@@ -11,7 +11,7 @@ use Rattle.mcs_trace.specs.Clauses.{IsClause, IsLiteral}
 use Rattle.mcs_trace.specs.Traces.{numbered}
 use Rattle.mcs_trace.proofs.OrderLemmas.{neg_differs}
 use Rattle.mcs_sat.specs.declared.trail.Entry.{Entry}
-use Rattle.mcs_sat.specs.Trails.{literal_at, reason_at, AreAssigned, ArePlaced, StandsAt, StandsNowhere, IsOn, IsOnBelow, IsFalse, IsFalseBelow, IsReason, AreExplained, Extends}
+use Rattle.mcs_sat.specs.Trails.{literal_at, reason_at, AreAssigned, ArePlaced, StandsAt, StandsNowhere, IsOn, IsOnBelow, IsFalse, IsFalseBelow, IsReason, AreExplained}
 use Rattle.mcs_sat.proofs.KnownLemmas.{numbered-more}
 
 abbrev pub entry_at : List Entry → ℕ → Entry
@@ -54,9 +54,6 @@ false_below es n c bound h k among = on_below es n (neg_ℤ k) bound (h k among)
 
 pub false_below-all : (es : List Entry) (c : List ℤ) → IsFalse es c → IsFalseBelow es (length es) c
 false_below-all es c h k among = h k among
-
-pub false-more : (es more : List Entry) (c : List ℤ) → IsFalse es c → IsFalse (es ++ more) c
-false-more es more c h k among = on-more es more (neg_ℤ k) (h k among)
 
 -- ---- reasons
 reason-same : (es es' : List Entry) (i : ℕ) (c : List ℤ) → ((j : ℕ) → j ≤ i → entry_at es' j ≡ entry_at es j) → IsReason es i c → IsReason es' i c
@@ -125,25 +122,9 @@ placed-back es ps n h i less =
     let same : literal_at (take n es) i ≡ literal_at es i = ap (λ (x : Entry). x.literal) (entry-back es n i (omega arith)) in
     subst (λ (l : ℤ). IsLiteral l × (unsigned_abs l < length ps) × (get_or ps (unsigned_abs l) 0 ≡ i)) (sym same) (h i (omega arith))
 
--- there are no more literals than variables
-pub placed-bound : (es : List Entry) (ps : List ℕ) (n : ℕ) → ArePlaced es ps → length ps ≡ n + 1 → length es ≤ n
-placed-bound es ps n h size = let all = covers_below (length es) (drop 1 ps) there in omega (arith, length-drop 1 ps)
-  where
-    there : (i : ℕ) → i < length es → IsAmong i (drop 1 ps)
-    there i less =
-        let (literal, within, at) = h i less in
-        let v : ℕ = unsigned_abs (literal_at es i) in
-        let some : 0 < v = literal.0 in
-        let back : 1 + (v - 1) ≡ v = omega arith in
-        let e : get_or (drop 1 ps) (v - 1) 0 ≡ i = get_or-drop 1 ps (v - 1) 0 ∙ ap (λ j. get_or ps j 0) back ∙ at in
-        subst (λ (x : ℕ). IsAmong x (drop 1 ps)) e (among_at (drop 1 ps) (v - 1) 0 (omega (arith, length-drop 1 ps)))
-
--- ---- trails that grow
-pub extends-none : (es : List Entry) → Extends es es
-extends-none es = ([], sym (append-nil es))
-
-pub extends-more : (es es' es'' : List Entry) → Extends es es' → Extends es' es'' → Extends es es''
-extends-more es es' es'' (more, e) (more', e') = (more ++ more', e' ∙ ap (λ (x : List Entry). x ++ more') e ∙ append_assoc es more more')
+-- there are no more literals than places
+pub placed-most : (es : List Entry) (ps : List ℕ) → ArePlaced es ps → length es ≤ length ps
+placed-most es ps h = covers_below (length es) ps (λ i less. let (literal, within, at) = h i less in subst (λ (x : ℕ). IsAmong x ps) at (among_at ps (unsigned_abs (literal_at es i)) 0 within))
 
 -- ---- values
 -- a variable stands at one place

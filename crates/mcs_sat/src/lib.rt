@@ -4,6 +4,7 @@
 mod analyse;
 mod examine;
 mod latest;
+mod order;
 mod outcome;
 mod propagate;
 mod solver;

@@ -210,6 +210,7 @@ pub(crate) fn settle_from(
     ensures positions { length trail.new.positions.items ≡ length trail.old.positions.items }
     ensures grows { Grows level trail.old.entries.items trail.new.entries.items }
     ensures settled { AreSettled clauses.now indices.now trail.new.entries.items from.old from.new }
+    ensures bound { from.old ≤ length indices.now → from.new ≤ length indices.now }
     ensures found { IfOk result (λ found. MatchOption found
         (length indices.now ≤ from.new)
         (IsFalseAt clauses.now trail.new.entries.items)) }

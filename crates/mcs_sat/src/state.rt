@@ -41,7 +41,7 @@ pub(crate) struct State {
 impl State {
     /// No clauses, over the variables 1 to `vars`.
     pub fn new(alloc: Global, vars: u64) -> Result<State, Memory>
-        requires { vars < 2 ^ 62 }
+        requires { vars < 2 ^ 63 }
         ensures kept { IfOk result IsState }
         ensures sized { IfOk result (λ s. length s.trail.positions.items ≡ vars + 1) }
         ensures clauses { IfOk result (λ s. s.clauses ≡ []) }

@@ -48,13 +48,14 @@ pub(crate) struct Watches {
 impl Watches {
     /// No clauses, with a list for each literal of the variables 1 to `vars`.
     pub fn new(alloc: Global, vars: u64) -> Result<Watches, Memory>
-        requires { vars < 2 ^ 62 }
+        requires { vars < 2 ^ 63 }
         ensures lists { IfOk result (λ w. length w.lists.items ≡ 2 * (vars + 1)) }
         ensures pairs { IfOk result (λ w. w.pairs.items ≡ []) }
         ensures short { IfOk result (λ w. w.short.items ≡ []) }
     {
         let mut lists = Vec::new(alloc);
-        for _ in 0..2 * (vars + 1) {
+        for _ in 0..vars + 1 {
+            lists.push(Vec::new(alloc))?;
             lists.push(Vec::new(alloc))?;
         }
         Ok(Watches {
