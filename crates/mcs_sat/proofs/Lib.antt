@@ -7,5 +7,8 @@ pub mod WatchLemmas
 pub mod GrowLemmas
 pub mod LevelLemmas
 pub mod StateLemmas
+pub mod UnitRunLemmas
+pub mod SolverLemmas
+pub mod AssertingLemmas
 pub mod TurnLemmas
 pub mod RunLemmas
