@@ -12,3 +12,7 @@ pub mod SolverLemmas
 pub mod AssertingLemmas
 pub mod TurnLemmas
 pub mod RunLemmas
+pub mod ModelLemmas
+pub mod WorkLemmas
+pub mod SearchLemmas
+pub mod BackLemmas

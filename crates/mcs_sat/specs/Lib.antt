@@ -4,3 +4,4 @@ pub mod Learning
 pub mod Watching
 pub mod Solvers
 pub mod States
+pub mod Searches

@@ -4,9 +4,11 @@
 mod analyse;
 mod examine;
 mod latest;
+mod model;
 mod order;
 mod outcome;
 mod propagate;
+mod search;
 mod solver;
 mod state;
 mod trail;

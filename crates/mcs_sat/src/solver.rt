@@ -40,7 +40,7 @@ impl Model for Solver {
 }
 
 /// Adds the clauses of the list, where there is no level above 0.
-fn add_all(state: &mut State, clauses: &[Clause]) -> Result<(), Memory>
+pub(crate) fn add_all(state: &mut State, clauses: &[Clause]) -> Result<(), Memory>
     requires state { IsState state.old }
     requires clauses { (i : ℕ) (c : List ℤ) → slice_get clauses.now i ≡ Some c → IsClause c × AreCovered state.old.trail.positions.items c }
     requires base { state.old.levels.items ≡ [] }
@@ -57,7 +57,7 @@ fn add_all(state: &mut State, clauses: &[Clause]) -> Result<(), Memory>
 
 /// Settles the short clauses and visits what became false, as far as that leads; the index of a clause that is
 /// false.
-fn run(state: &mut State) -> Result<Option<usize>, Memory>
+pub(crate) fn run(state: &mut State) -> Result<Option<usize>, Memory>
     requires { IsState state.old }
     ensures kept { IsState state.new }
     ensures same { SameClauses state.old state.new }

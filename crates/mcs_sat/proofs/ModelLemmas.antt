@@ -1,0 +1,75 @@
+-- What is true of all variables and of all clauses.
+use Rattle.std.proofs.Common.{◌≡◌, ℕ, ◌+◌, ◌<◌, ◌≤◌, zero, suc, List, [], ◌∷◌, ◌++◌, ◌↔◌, inl, inr, refl, sym, ap, ◌∙◌, subst, arith, ℤ, pos, negsuc, neg_ℤ, unsigned_abs, length, get_or, Option, Some, None, MatchOption, Bool, true, false, not, IsTrue, is_some, unwrap_or, true≢false, ◌||◌, ◌&&◌}
+use Rattle.std.specs.Bool.{MatchBool}
+use Rattle.std.specs.List.{AllByRecursion}
+use Rattle.std.proofs.lemmas.Bool.{cases_lt}
+use Rattle.std.proofs.lemmas.List.{get_or_append_left, get_or_push}
+use Rattle.std.proofs.lemmas.Option.{slice_get_read}
+use Rattle.mcs_base.specs.Listings.{IsAmong}
+use Rattle.mcs_base.proofs.ListingLemmas.{all_among}
+use Rattle.mcs_trace.specs.Clauses.{IsLiteral, IsClause, literal_holds, clause_holds, all_hold}
+use Rattle.mcs_trace.specs.Traces.{numbered}
+use Rattle.mcs_sat.specs.Answers.{assignment_of}
+use Rattle.mcs_sat.specs.declared.examine.Finding.{Finding}
+use Rattle.mcs_sat.specs.declared.examine.Finding.TheVariants.{Open, Forced, Conflict}
+use Rattle.mcs_sat.specs.declared.trail.Entry.{Entry}
+use Rattle.mcs_sat.specs.Trails.{ArePlaced, AreAssigned, StandsAt, StandsNowhere, IsOn, IsFinding, IsSatisfied}
+use Rattle.mcs_sat.proofs.TrailLemmas.{not_both_on}
+
+-- ---- the model
+pub model-more : (es : List Entry) (model new : List Bool) (v : ℕ) (b : Bool) → length model + 1 ≡ v → new ≡ model ++ b ∷ [] → (IsTrue b ↔ IsOn es (pos v))
+    → ((w : ℕ) → 0 < w → w < v → (IsTrue (assignment_of model w) ↔ IsOn es (pos w)))
+    → (w : ℕ) → 0 < w → w < v + 1 → (IsTrue (assignment_of new w) ↔ IsOn es (pos w))
+model-more es model new v b size e here h zero some less = absurd (omega arith)
+model-more es model new v b size e here h (suc n) some less = elim (cases_lt n (length model)) [
+  | inl old ↦
+      let same : get_or new n false ≡ get_or model n false = ap (λ (xs : List Bool). get_or xs n false) e ∙ get_or_append_left model (b ∷ []) false n old in
+      subst (λ (x : Bool). IsTrue x ↔ IsOn es (pos (suc n))) (sym same) (h (suc n) some (omega arith))
+  | inr past ↦
+      let at : length model ≡ n = omega arith in
+      let v-is : v ≡ suc n = omega arith in
+      let same : get_or new n false ≡ b = ap (λ (xs : List Bool). get_or xs n false) e ∙ get_or_push model b false n at in
+      subst (λ (x : Bool). IsTrue x ↔ IsOn es (pos (suc n))) (sym same) (subst (λ (w : ℕ). IsTrue b ↔ IsOn es (pos w)) v-is here)
+]
+
+module _ (es : List Entry) (ps : List ℕ) (v : ℕ → Bool) (placed : ArePlaced es ps) (values : (w : ℕ) → 0 < w → w < length ps → (IsTrue (v w) ↔ IsOn es (pos w))) where
+  literal-on : (k : ℤ) → IsOn es k → literal_holds v k ≡ true
+  literal-on (pos n) (p, less, e) =
+      let (literal, within, at) = placed p less in
+      let some : 0 < n = subst (λ (l : ℤ). 0 < unsigned_abs l) e literal.0 in
+      let less' : n < length ps = subst (λ (l : ℤ). unsigned_abs l < length ps) e within in
+      (values n some less').1 (p, less, e)
+  literal-on (negsuc n) (p, less, e) =
+      let (literal, within, at) = placed p less in
+      let size : unsigned_abs (negsuc n) ≡ n + 1 = omega arith in
+      let less' : n + 1 < length ps = (let w : unsigned_abs (negsuc n) < length ps = subst (λ (l : ℤ). unsigned_abs l < length ps) e within in omega arith) in
+      let some : 0 < n + 1 = omega arith in
+      negated (v (n + 1)) (values (n + 1) some less') (p, less, e)
+    where
+      neg-is : neg_ℤ (pos (n + 1)) ≡ negsuc n
+      neg-is = let s : n + 1 ≡ suc n = omega arith in ap (λ m. neg_ℤ (pos m)) s
+
+      negated : (b : Bool) → IsTrue b ↔ IsOn es (pos (n + 1)) → IsOn es (negsuc n) → not b ≡ true
+      negated false same on = refl
+      negated true same on = absurd (not_both_on es ps (pos (n + 1)) placed (same.0 refl) (subst (IsOn es) (sym neg-is) on))
+
+  clause-on : (c : List ℤ) (k : ℤ) → IsAmong k c → IsOn es k → clause_holds v c ≡ true
+  clause-on [] k among on = absurd among
+  clause-on (l ∷ c) k (inl e) on = first (literal_holds v l) (clause_holds v c) (ap (literal_holds v) (sym e) ∙ literal-on k on)
+    where
+      first : (a b : Bool) → a ≡ true → (a || b) ≡ true
+      first true b e = refl
+      first false b e = absurd (true≢false (sym e))
+  clause-on (l ∷ c) k (inr among) on = later (literal_holds v l) (clause_holds v c) (clause-on c k among on)
+    where
+      later : (a b : Bool) → b ≡ true → (a || b) ≡ true
+      later true b e = refl
+      later false b e = e
+
+  pub all-on : (cs : List (List ℤ)) → AllByRecursion (IsSatisfied es) cs → IsTrue (all_hold v cs)
+  all-on [] all = refl
+  all-on (c ∷ cs) ((k, among, on), rest) = both (clause_holds v c) (all_hold v cs) (clause-on c k among on) (all-on cs rest)
+    where
+      both : (a b : Bool) → a ≡ true → b ≡ true → (a && b) ≡ true
+      both true b e e' = e'
+      both false b e e' = absurd (true≢false (sym e))

@@ -1,0 +1,115 @@
+-- What stays right of a search from turn to turn, and that less is left to do.
+use Rattle.std.proofs.Common.{◌≡◌, ℕ, ◌+◌, ◌-◌, ◌<◌, ◌≤◌, List, [], ◌∷◌, ◌++◌, ◌⊎◌, inl, inr, refl, sym, ap, ◌∙◌, subst, arith, ℤ, neg_ℤ, unsigned_abs, length, length-append, map, take, drop, get_or, Option, Some, None, MatchOption, IfSome, slice_get}
+use Rattle.std.specs.List.{AllByRecursion}
+use Rattle.std.specs.Option.{IfNone}
+use Rattle.std.proofs.Math.Seq.{take-append_seam}
+use Rattle.std.proofs.lemmas.Bool.{cases_lt}
+use Rattle.std.proofs.lemmas.List.{append_assoc, get_or-drop, length-drop, length_push, length-take-le, map_push, take-append-le, take-take}
+use Rattle.mcs_base.specs.Listings.{IsAmong}
+use Rattle.mcs_base.proofs.Among.{among_at}
+use Rattle.mcs_base.proofs.Distinct.{covers_below}
+use Rattle.mcs_base.proofs.Each.{all_among, all_from_among, all_get, all_push}
+use Rattle.mcs_base.proofs.Lists.{slice_get_push_at, slice_get_take}
+use Rattle.mcs_base.proofs.Numbers.{unsigned_abs-neg_ℤ}
+use Rattle.mcs_trace.specs.Clauses.{ClauseList, IsClause, IsLiteral}
+use Rattle.mcs_trace.specs.Traces.{AreRightSteps, Inference, IsChainResolvent}
+use Rattle.mcs_sat.specs.declared.latest.Latest.{Latest}
+use Rattle.mcs_sat.specs.declared.state.Reach.{Reach}
+use Rattle.mcs_sat.specs.declared.state.State.{State}
+use Rattle.mcs_sat.specs.declared.trail.Entry.{Entry}
+use Rattle.mcs_sat.specs.Learning.{IsLatest, IsLate, IsSingle}
+use Rattle.mcs_sat.specs.Searches.{AreOpenBelow, HasLearnt, IsRun, IsSearch, work_left}
+use Rattle.mcs_sat.specs.States.{IsDecided, IsLastLevel, IsLearntBack, IsState, SameClauses, reach_of}
+use Rattle.mcs_sat.specs.Trails.{AreAssigned, AreCovered, ArePlaced, Grows, IsFalse, IsFalseAt, IsFalseBelow, IsOn, IsOnBelow, IsOpen, IsSatisfied, StandsNowhere, literal_at, reason_at}
+use Rattle.mcs_sat.proofs.TrailLemmas.{entry-back, not_both_on, on-back, on_below, placed-back, same_place}
+use Rattle.mcs_sat.proofs.WorkLemmas.{work_left-back, work_left-more, work_left-push}
+
+-- ---- open clauses
+-- a clause that is open is not false
+pub open-not_false : (es : List Entry) (ps : List ℕ) (c : List ℤ) → ArePlaced es ps → IsOpen es c → IsFalse es c → ⊥
+open-not_false es ps c placed (inl (k, among, on)) off = not_both_on es ps k placed on (off k among)
+open-not_false es ps c placed (inr two) off = let (p, less, e) = off two.first two.has_first in two.free_first p (less, ap unsigned_abs e ∙ unsigned_abs-neg_ℤ two.first)
+
+pub open-late : (es : List Entry) (ps : List ℕ) (n : ℕ) (c : List ℤ) → ArePlaced es ps → n ≤ length es → IsOpen (take n es) c → IsLate es n c
+open-late es ps n c placed bound opened = inl (λ off. open-not_false (take n es) ps c (placed-back es ps n placed) opened (λ k among. on-back es n (neg_ℤ k) bound (off k among)))
+
+-- where each variable has a value an open clause is satisfied
+pub open-satisfied : (es : List Entry) (ps : List ℕ) (c : List ℤ) → AreAssigned es 1 (length ps) → IsClause c → AreCovered ps c → IsOpen es c → IsSatisfied es c
+open-satisfied es ps c all clause covered (inl satisfied) = satisfied
+open-satisfied es ps c all clause covered (inr two) =
+    let literal : IsLiteral two.first = all_among IsLiteral c two.first clause.0 two.has_first in
+    let within : unsigned_abs two.first < length ps = all_among (λ (l : ℤ). unsigned_abs l < length ps) c two.first covered two.has_first in
+    let (p, stands) = all (unsigned_abs two.first) (let some = literal.0 in omega arith) within in
+    absurd (two.free_first p stands)
+
+pub all-satisfied : (s : State) → IsState s → AreAssigned s.trail.entries.items 1 (length s.trail.positions.items) → AllByRecursion (IsOpen s.trail.entries.items) s.clauses → AllByRecursion (IsSatisfied s.trail.entries.items) s.clauses
+all-satisfied s is assigned opened = all_from_among (IsSatisfied s.trail.entries.items) s.clauses (λ c among.
+  open-satisfied s.trail.entries.items s.trail.positions.items c assigned (all_among IsClause s.clauses c is.trail.clauses among) (all_among (AreCovered s.trail.positions.items) s.clauses c is.trail.covered among) (all_among (IsOpen s.trail.entries.items) s.clauses c opened among))
+
+-- ---- runs
+pub run-is : (s : State) (found : Option ℕ) → IfNone found (AllByRecursion (IsOpen s.trail.entries.items) s.clauses) → IfSome found (IsFalseAt s.clauses s.trail.entries.items) → IsRun s found
+run-is s None opened conflict = opened
+run-is s (Some i) opened conflict = conflict
+
+learnt-same : (f : ClauseList) (old new : State) → SameClauses old new → HasLearnt f old → HasLearnt f new
+learnt-same f old new same h = record { steps = h.steps; clauses = same.clauses ∙ h.clauses; chains = same.chains ∙ h.chains; right = h.right }
+
+front-same : (es new : List Entry) (n : ℕ) (more : List Entry) → new ≡ es ++ more → n ≤ length es → take n new ≡ take n es
+front-same es new n more e bound = ap (take n) e ∙ take-append-le n es more bound
+
+pub search-run : (f : ClauseList) (old new : State) → IsSearch f old → IsState new → SameClauses old new → new.levels.items ≡ old.levels.items → Grows (length old.levels.items) old.trail.entries.items new.trail.entries.items → IsSearch f new
+search-run f old new is kept same levels (more, e, all) = record {
+  vars = same.positions ∙ is.vars;
+  state = kept;
+  learnt = learnt-same f old new same is.learnt;
+  before = λ k r at.
+    let at' : slice_get old.levels.items k ≡ Some r = subst (λ (ls : List Reach). slice_get ls k ≡ Some r) levels at in
+    let (below, none, count) = is.state.starts.start k r at' in
+    subst (λ (cs : List (List ℤ)). AllByRecursion (IsOpen (take r.entries new.trail.entries.items)) cs) (sym same.clauses)
+    (subst (λ (xs : List Entry). AllByRecursion (IsOpen xs) old.clauses) (sym (front-same old.trail.entries.items new.trail.entries.items r.entries more e (omega arith))) (is.before k r at'));
+}
+
+pub search-decided : (f : ClauseList) (old new : State) (l : ℤ) → IsSearch f old → AllByRecursion (IsOpen old.trail.entries.items) old.clauses → IsState new → SameClauses old new → IsDecided old new l → IsSearch f new
+search-decided f old new l is opened kept same decided = record {
+  vars = same.positions ∙ is.vars;
+  state = kept;
+  learnt = learnt-same f old new same is.learnt;
+  before = λ k r at. subst (λ (cs : List (List ℤ)). AllByRecursion (IsOpen (take r.entries new.trail.entries.items)) cs) (sym same.clauses)
+    (elim (slice_get_push_at old.levels.items (reach_of old) k r (subst (λ (ls : List Reach). slice_get ls k ≡ Some r) decided.levels at)) [
+      | inl at' ↦
+          let (below, none, count) = is.state.starts.start k r at' in
+          subst (λ (xs : List Entry). AllByRecursion (IsOpen xs) old.clauses) (sym (front-same old.trail.entries.items new.trail.entries.items r.entries _ decided.entries (omega arith))) (is.before k r at')
+      | inr (last, e) ↦
+          let whole : take r.entries new.trail.entries.items ≡ old.trail.entries.items = ap (λ (x : Reach). take x.entries new.trail.entries.items) e ∙ ap (take (length old.trail.entries.items)) decided.entries ∙ take-append_seam old.trail.entries.items _ in
+          subst (λ (xs : List Entry). AllByRecursion (IsOpen xs) old.clauses) (sym whole) opened
+    ]);
+}
+
+-- ---- less is left
+-- there are no more literals than variables
+placed-bound : (es : List Entry) (ps : List ℕ) (n : ℕ) → ArePlaced es ps → length ps ≡ n + 1 → length es ≤ n
+placed-bound es ps n h size = let all = covers_below (length es) (drop 1 ps) there in omega (arith, length-drop 1 ps)
+  where
+    there : (i : ℕ) → i < length es → IsAmong i (drop 1 ps)
+    there i less =
+        let (literal, within, at) = h i less in
+        let v : ℕ = unsigned_abs (literal_at es i) in
+        let some : 0 < v = literal.0 in
+        let back : 1 + (v - 1) ≡ v = omega arith in
+        let e : get_or (drop 1 ps) (v - 1) 0 ≡ i = get_or-drop 1 ps (v - 1) 0 ∙ ap (λ j. get_or ps j 0) back ∙ at in
+        subst (λ (x : ℕ). IsAmong x (drop 1 ps)) e (among_at (drop 1 ps) (v - 1) 0 (omega (arith, length-drop 1 ps)))
+
+pub trail-bound : (f : ClauseList) (s : State) → IsSearch f s → length s.trail.entries.items ≤ f.vars
+trail-bound f s is = placed-bound s.trail.entries.items s.trail.positions.items f.vars is.state.trail.placed is.vars
+
+-- a literal was decided, and then a run came
+pub less-decided : (f : ClauseList) (old between new : State) (l : ℤ) → IsSearch f new → IsDecided old between l → Grows (length between.levels.items) between.trail.entries.items new.trail.entries.items → work_left f.vars new.trail.entries.items < work_left f.vars old.trail.entries.items
+less-decided f old between new l is decided (more, e, all) =
+    let n : ℕ = f.vars in
+    let es : List Entry = old.trail.entries.items in
+    let bound = trail-bound f new is in
+    let size : length new.trail.entries.items ≡ length between.trail.entries.items + length more = ap length e ∙ length-append between.trail.entries.items more in
+    let size' : length between.trail.entries.items ≡ length es + 1 = ap length decided.entries ∙ length_push es _ in
+    let first : work_left n between.trail.entries.items < work_left n es = subst (λ (xs : List Entry). work_left n xs < work_left n es) (sym decided.entries) (work_left-push n es _ (omega arith)) in
+    let rest : work_left n new.trail.entries.items ≤ work_left n between.trail.entries.items = subst (λ (xs : List Entry). work_left n xs ≤ work_left n between.trail.entries.items) (sym e) (work_left-more n between.trail.entries.items more (omega (arith, ap length e))) in
+    omega arith
