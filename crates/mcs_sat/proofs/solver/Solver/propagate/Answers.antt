@@ -58,14 +58,14 @@ returns-clause-exact c =
     elim c.match-run_or_restore.branch [
       | in-Ok-Some w ↦ if_ok_at (IsExactly c.args.self.now) c.match-run_or_restore.result (Some (w.in-Ok-Some.index + 1)) w.result-is (
         λ yes. subst (λ (v : SolverView). LeadsToConflict v.clauses (trues v)) c.self.view_is (grown-conflict s new w.in-Ok-Some.index (w.in-Ok-Some.ensures.kept, w.in-Ok-Some.ensures.same.clauses, w.in-Ok-Some.ensures.grows)
-          (subst (λ (o : Option ℕ). IfSome o (IsFalseAt new.clauses new.trail.entries.items)) w.in-Ok-Some.field-0-is w.in-Ok-Some.ensures.conflict)),
+            (subst (λ (o : Option ℕ). IfSome o (IsFalseAt new.clauses new.trail.entries.items)) w.in-Ok-Some.field-0-is w.in-Ok-Some.ensures.conflict)),
         λ leads. refl,
       )
       | in-Ok-None w ↦ if_ok_at (IsExactly c.args.self.now) c.match-run_or_restore.result None w.result-is (
         λ yes. absurd (true≢false (sym yes)),
         λ leads. absurd (grown-no_conflict s new (w.in-Ok-None.ensures.kept, w.in-Ok-None.ensures.same.clauses, w.in-Ok-None.ensures.grows)
-          (subst (λ (o : Option ℕ). IfNone o (AllByRecursion (IsOpen new.trail.entries.items) new.clauses)) w.in-Ok-None.field-0-is w.in-Ok-None.ensures.«open»)
-          (subst (λ (v : SolverView). LeadsToConflict v.clauses (trues v)) (sym c.self.view_is) leads)),
+            (subst (λ (o : Option ℕ). IfNone o (AllByRecursion (IsOpen new.trail.entries.items) new.clauses)) w.in-Ok-None.field-0-is w.in-Ok-None.ensures.«open»)
+            (subst (λ (v : SolverView). LeadsToConflict v.clauses (trues v)) (sym c.self.view_is) leads)),
       )
       | in-Err w ↦ if_ok_none (IsExactly c.args.self.now) c.match-run_or_restore.result w.in-Err.error w.result-is
     ]
