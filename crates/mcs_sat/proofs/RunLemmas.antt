@@ -1,5 +1,6 @@
 -- What stays right of a solver when literals are made true, and what it comes to when all was visited.
-use Rattle.std.proofs.Common.{◌≡◌, ◌≢◌, ℕ, ◌+◌, ◌-◌, ◌*◌, ◌^◌, ◌<◌, ◌≤◌, List, [], ◌∷◌, ◌++◌, ◌⊎◌, inl, inr, refl, sym, ap, ◌∙◌, subst, arith, ℤ, pos, negsuc, neg_ℤ, unsigned_abs, length, length-append, get_or, Some, slice_get}
+use Rattle.std.proofs.Common.{◌≡◌, ◌≢◌, ℕ, ◌+◌, ◌-◌, ◌*◌, ◌^◌, ◌<◌, ◌≤◌, List, [], ◌∷◌, ◌++◌, ◌⊎◌, inl, inr, refl, sym, ap, ◌∙◌, subst, arith, ℤ, zero, suc, pos, negsuc, neg_ℤ, unsigned_abs, length, length-append, take, get_or, Some, slice_get}
+use Rattle.std.proofs.Math.Seq.{take-append_seam}
 use Rattle.std.specs.List.{AllByRecursion}
 use Rattle.std.proofs.lemmas.Bool.{cases_lt, cases_eq}
 use Rattle.std.proofs.lemmas.Option.{slice_get_within}
@@ -15,11 +16,12 @@ use Rattle.mcs_sat.specs.declared.trail.Entry.{Entry}
 use Rattle.mcs_sat.specs.declared.trail.Trail.{Trail}
 use Rattle.mcs_sat.specs.declared.watches.Pair.{Pair}
 use Rattle.mcs_sat.specs.declared.watches.Watches.{Watches}
-use Rattle.mcs_sat.specs.States.{IsState, reach_of}
-use Rattle.mcs_sat.specs.Trails.{ArePlaced, Grows, IsOn, IsOnBelow, IsOpen, IsSatisfied, IsTrail, StandsNowhere, literal_at}
+use Rattle.mcs_sat.specs.States.{AreStarts, IsState, reach_of}
+use Rattle.mcs_sat.specs.Trails.{AreCovered, AreExplained, AreLevelled, ArePlaced, Grows, IsOn, IsOnBelow, IsOpen, IsSatisfied, IsTrail, StandsNowhere, literal_at}
 use Rattle.mcs_sat.specs.Watching.{ArePair, AreSettled, AreWatched, IsOf, IsReached}
 use Rattle.mcs_sat.proofs.LevelLemmas.{levelled-more, starts-more}
-use Rattle.mcs_sat.proofs.StateLemmas.{reached-more, reached-on}
+use Rattle.mcs_sat.proofs.StateLemmas.{reached-back, reached-more, reached-on}
+use Rattle.mcs_sat.proofs.TrailLemmas.{explained-back, placed-back}
 
 -- ---- longer trails
 reached-grows : (level : ℕ) (known : List (List ℤ)) (w : Watches) (es new : List Entry) (r : Reach) → Grows level es new → r.entries ≤ length es → r.visited ≤ length es → IsReached known w es r → IsReached known w new r
@@ -98,7 +100,8 @@ same-size a b e = elim (cases_eq_ℤ a b) [ inl same ↦ inl same | inr other �
     turned : (a b : ℤ) → unsigned_abs a ≡ unsigned_abs b → a ≢ b → a ≡ neg_ℤ b
     turned (pos m) (pos n) e other = absurd (other (ap pos e))
     turned (pos m) (negsuc n) e other = ap pos e
-    turned (negsuc m) (pos n) e other = ?
+    turned (negsuc m) (pos zero) e other = absurd (omega arith)
+    turned (negsuc m) (pos (suc n)) e other = ap negsuc (omega arith)
     turned (negsuc m) (negsuc n) e other = absurd (other (ap negsuc (omega arith)))
 
 -- a literal has a value, or its variable stands nowhere
@@ -151,3 +154,45 @@ all-open s is all settled = all_from_among (IsOpen s.trail.entries.items) s.clau
           | inl e ↦ subst IsLiteral e (all_among IsLiteral c p.first clause.0 are.first)
           | inr e ↦ subst IsLiteral e (all_among IsLiteral c p.second clause.0 are.second)
         ]
+
+-- ---- where memory runs out
+grows-front : (level : ℕ) (es new : List Entry) → Grows level es new → take (length es) new ≡ es
+grows-front level es new (more, e, all) = ap (take (length es)) e ∙ take-append_seam es more
+
+-- what was reached before still holds of what is watched now
+pub before-visited : (level : ℕ) (known : List (List ℤ)) (w w' : Watches) (es new : List Entry) (r : Reach) → Grows level es new → r.entries ≤ length es → r.visited ≤ length es → IsReached known w es r → ((q : Reach) → q.visited ≤ length new → IsReached known w new q → IsReached known w' new q) → IsReached known w' es r
+before-visited level known w w' es new r grows entries visited is moved =
+    let longer = grows-length level es new grows in
+    subst (λ (xs : List Entry). IsReached known w' xs r) (grows-front level es new grows) (reached-back known w' new (length es) r entries visited (moved r (omega arith) (reached-grows level known w es new r grows entries visited is)))
+
+-- the literals that were made true are taken back, and no more
+pub state-restored : (old new : State) (t : Trail) → IsState old → IsState new → new.clauses ≡ old.clauses → length new.trail.positions.items ≡ length old.trail.positions.items → new.levels.items ≡ old.levels.items → new.watches.short.items ≡ old.watches.short.items → Grows (length old.levels.items) old.trail.entries.items new.trail.entries.items
+    → IsReached new.clauses new.watches old.trail.entries.items (reach_of old) → t.entries.items ≡ take (length old.trail.entries.items) new.trail.entries.items → t.positions.items ≡ new.trail.positions.items
+    → IsState (record { clauses = new.clauses; chains = new.chains; trail = t; watches = new.watches; levels = new.levels; visited = old.visited; settled = old.settled })
+state-restored old new t is is' clauses positions levels short grows before entries places =
+    let es : List Entry = old.trail.entries.items in
+    let ps : List ℕ = new.trail.positions.items in
+    let front : t.entries.items ≡ es = entries ∙ grows-front (length old.levels.items) es new.trail.entries.items grows in
+    let at : (k : ℕ) (r : Reach) → slice_get new.levels.items k ≡ Some r → slice_get old.levels.items k ≡ Some r = λ k r. subst (λ (ls : List Reach). slice_get ls k ≡ Some r) levels in
+    record {
+      some = subst (λ (xs : List ℕ). 0 < length xs) (sym places) is'.some;
+      fits = subst (λ (xs : List ℕ). length xs ≤ 2 ^ 63) (sym places) is'.fits;
+      lists = is'.lists ∙ ap (λ (xs : List ℕ). 2 * length xs) (sym places);
+      chains = is'.chains;
+      trail = record {
+        clauses = is'.trail.clauses;
+        covered = subst (λ (xs : List ℕ). AllByRecursion (AreCovered xs) new.clauses) (sym places) is'.trail.covered;
+        placed = subst (ArePlaced t.entries.items) (sym places) (subst (λ (xs : List Entry). ArePlaced xs ps) (sym entries) (placed-back new.trail.entries.items ps (length es) is'.trail.placed));
+        explained = subst (AreExplained new.clauses) (sym entries) (explained-back new.clauses new.trail.entries.items (length es) is'.trail.explained);
+      };
+      levelled = subst AreLevelled (sym front) is.levelled;
+      starts = subst (λ (xs : List Entry). AreStarts xs new.levels.items) (sym front) (subst (AreStarts es) (sym levels) is.starts);
+      watched = is'.watched;
+      shorts = is'.shorts;
+      bound = (let b = is.bound in omega (arith, ap length front));
+      short_bound = (let b = is.short_bound in omega (arith, ap length short));
+      bounds = λ k r here. let (b, n) = is.bounds k r (at k r here) in (b, omega (arith, ap length short));
+      reached = λ k r here. let (below, none, count) = is.starts.start k r (at k r here) in let (b, n) = is.bounds k r (at k r here) in
+        subst (λ (xs : List Entry). IsReached new.clauses new.watches xs r) (sym entries) (reached-back new.clauses new.watches new.trail.entries.items (length es) r (omega arith) (omega arith) (is'.reached k r here));
+      now = subst (λ (xs : List Entry). IsReached new.clauses new.watches xs (record { entries = length xs; visited = old.visited; settled = old.settled })) (sym front) before;
+    }

@@ -1,14 +1,33 @@
 //! Which variable is decided next, and with which value.
 
-use crate::trail::Entry;
+ghost use Rattle.std.specs.Prelude.{◌≡◌, ◌<◌, ◌^◌, length, unsigned_abs, IfSome};
+ghost use Rattle.mcs_trace.specs.Clauses.{IsLiteral};
+ghost use Rattle.mcs_sat.specs.Trails.{ArePlaced, StandsNowhere};
+
+use crate::trail::{Entry, Trail};
 use mcs_base::Memory;
 use std::alloc::Global;
 
-/// From this activity on all are made smaller.
-const MOST_ACTIVITY: u64 = 1 << 60;
+/// Where a conflict adds so much activity, all activities are made smaller.
+const MOST_GAIN: u64 = 1 << 60;
 
 /// How much smaller they are made, in bits.
 const SHRINK: u32 = 40;
+
+/// The variable, or its negation where the value is false, if it is one of the trail's variables and free there.
+fn free_literal(trail: &Trail, variable: usize, value: bool) -> Option<i64>
+    requires placed { ArePlaced trail.now.entries.items trail.now.positions.items }
+    ensures { IfSome result (λ l. IsLiteral l × (unsigned_abs l < length trail.now.positions.items) × StandsNowhere trail.now.entries.items (unsigned_abs l)) }
+{
+    if variable == 0 || variable >= trail.positions.len() {
+        return None;
+    }
+    let literal = i64::try_from(variable).ok()?;
+    if trail.position(literal).is_some() {
+        return None;
+    }
+    Some(if value { literal } else { -literal })
+}
 
 /// The variables, those that took part in recent conflicts first: a heap of variables, for each variable its place
 /// there, its activity and its last value; and how much activity a conflict adds. That a variable is missing in the
@@ -16,7 +35,7 @@ const SHRINK: u32 = 40;
 #[derive(Drop)]
 pub(crate) struct Order {
     heap: Vec<usize>,
-    places: Vec<usize>,
+    places: Vec<Option<usize>>,
     activities: Vec<u64>,
     values: Vec<bool>,
     gain: u64,
@@ -29,9 +48,10 @@ impl Order {
     {
         let mut heap = Vec::new(alloc);
         let mut places = Vec::new(alloc);
-        for variable in 0..vars as usize + 1 {
-            heap.push(variable)?;
-            places.push(variable)?;
+        places.push(None)?;
+        for place in 0..vars as usize {
+            heap.push(place + 1)?;
+            places.push(Some(place))?;
         }
         Ok(Order {
             heap,
@@ -51,17 +71,21 @@ impl Order {
     }
 
     /// Puts the variable to the place of the heap.
-    fn put(&mut self, place: usize, variable: usize) {
+    fn put(&mut self, place: usize, variable: usize)
+        ensures { length self.new.heap.items ≡ length self.old.heap.items }
+    {
         if let Some(here) = self.heap.get_mut(place) {
             *here = variable;
         }
         if let Some(here) = self.places.get_mut(variable) {
-            *here = place;
+            *here = Some(place);
         }
     }
 
     /// Exchanges what stands at the two places of the heap.
-    fn exchange(&mut self, first: usize, second: usize) {
+    fn exchange(&mut self, first: usize, second: usize)
+        ensures { length self.new.heap.items ≡ length self.old.heap.items }
+    {
         if first < self.heap.len() && second < self.heap.len() {
             let one = self.heap[first];
             let other = self.heap[second];
@@ -84,12 +108,18 @@ impl Order {
     }
 
     /// Moves the variable at the place of the heap down to where it belongs.
-    fn sink(&mut self, place: usize) {
+    fn sink(&mut self, place: usize)
+        ensures { length self.new.heap.items ≡ length self.old.heap.items }
+    {
         let mut at = place;
         while at < self.heap.len() / 2 {
             let left = 2 * at + 1;
             let right = left + 1;
-            let child = if self.activity_at(right) > self.activity_at(left) { right } else { left };
+            let child = if self.activity_at(right) > self.activity_at(left) {
+                right
+            } else {
+                left
+            };
             if self.activity_at(child) <= self.activity_at(at) {
                 return;
             }
@@ -99,7 +129,9 @@ impl Order {
     }
 
     /// Takes the first variable of the heap, with its last value.
-    pub fn pop(&mut self) -> Option<(usize, bool)> {
+    fn pop(&mut self) -> Option<(usize, bool)>
+        ensures { IfSome result (λ _. length self.new.heap.items < length self.old.heap.items) }
+    {
         let first = *self.heap.first()?;
         let last = self.heap.pop()?;
         if !self.heap.is_empty() {
@@ -107,16 +139,31 @@ impl Order {
             self.sink(0);
         }
         if let Some(place) = self.places.get_mut(first) {
-            *place = usize::MAX;
+            *place = None;
         }
         let value = self.values.get(first).copied().unwrap_or(false);
         Some((first, value))
     }
 
+    /// The literal to decide next: the first variable of the heap that is free under the trail, with its last value.
+    /// It and those before it are taken out of the heap. `None` where no variable of the heap is free.
+    pub fn next(&mut self, trail: &Trail) -> Option<i64>
+        requires placed { ArePlaced trail.now.entries.items trail.now.positions.items }
+        ensures { IfSome result (λ l. IsLiteral l × (unsigned_abs l < length trail.now.positions.items) × StandsNowhere trail.now.entries.items (unsigned_abs l)) }
+    {
+        while let Some((variable, value)) = self.pop() {
+            let literal = free_literal(trail, variable, value);
+            if literal.is_some() {
+                return literal;
+            }
+        }
+        None
+    }
+
     /// Puts the variable into the heap again, where it is not there.
     fn insert(&mut self, variable: usize) -> Result<(), Memory> {
         let place = self.heap.len();
-        if self.places.get(variable).copied() == Some(usize::MAX) {
+        if let Some(None) = self.places.get(variable) {
             self.heap.push(variable)?;
             self.put(place, variable);
             self.rise(place);
@@ -150,7 +197,7 @@ impl Order {
             if let Some(activity) = self.activities.get_mut(variable) {
                 *activity = activity.saturating_add(self.gain);
             }
-            if let Some(place) = self.places.get(variable).copied() {
+            if let Some(Some(place)) = self.places.get(variable).copied() {
                 self.rise(place);
             }
         }
@@ -159,7 +206,7 @@ impl Order {
     /// Lets what a conflict adds grow, so that older ones count for less.
     pub fn decay(&mut self) {
         self.gain = self.gain.saturating_add(self.gain / 16 + 1);
-        if self.gain >= MOST_ACTIVITY {
+        if self.gain >= MOST_GAIN {
             self.shrink();
         }
     }

@@ -7,7 +7,8 @@ ghost use Rattle.std.specs.Option.{IfNone, is_some};
 ghost use Rattle.mcs_base.specs.Listings.{IsAmong};
 ghost use Rattle.mcs_trace.specs.Clauses.{IsClause, IsLiteral};
 ghost use Rattle.mcs_sat.specs.Trails.{AreCovered, Grows, IsFalseAt, IsOpen};
-ghost use Rattle.mcs_sat.specs.States.{IsState, SameClauses};
+ghost use Rattle.mcs_sat.specs.States.{IsState, SameClauses, reach_of};
+ghost use Rattle.mcs_sat.specs.Watching.{IsReached};
 ghost use Rattle.mcs_sat.specs.Solvers.{GoesOn, HasNoValue, IsAsserting, IsFalseNumber, IsLearned, IsOpenUnder, IsSolver, IsUnitRun, LeadsToConflict, last_level, trues, trues_below};
 
 use crate::analyse::analyse;
@@ -62,6 +63,8 @@ fn run(state: &mut State) -> Result<Option<usize>, Memory>
     ensures same { SameClauses state.old state.new }
     ensures grows { Grows (length state.old.levels.items) state.old.trail.entries.items state.new.trail.entries.items }
     ensures levels { state.new.levels.items ≡ state.old.levels.items }
+    ensures short { state.new.watches.short.items ≡ state.old.watches.short.items }
+    ensures before { IsReached state.new.clauses state.new.watches state.old.trail.entries.items (reach_of state.old) }
     ensures open { IfOk result (λ found. IfNone found
         (AllByRecursion (IsOpen state.new.trail.entries.items) state.new.clauses)) }
     ensures conflict { IfOk result (λ found. IfSome found
@@ -78,13 +81,14 @@ fn run(state: &mut State) -> Result<Option<usize>, Memory>
     if found.is_some() {
         return Ok(found);
     }
-    visit_from(
+    let found = visit_from(
         &state.clauses,
         &mut state.watches,
         &mut state.trail,
         level,
         &mut state.visited,
-    )
+    )?;
+    Ok(found)
 }
 
 /// As `run`, but where memory runs out all is as before.
