@@ -1,10 +1,10 @@
 -- A clause with one literal of the last level: how it is found, and where it leads back.
-use Rattle.std.proofs.Common.{◌≡◌, ℕ, zero, suc, ◌+◌, ◌-◌, ◌<◌, ◌≤◌, List, [], ◌∷◌, ◌++◌, ◌⊎◌, inl, inr, refl, sym, ap, ◌∙◌, subst, arith, ℤ, pos, neg_ℤ, unsigned_abs, length, take, get_or, Option, Some, None, MatchOption, slice_get}
+use Rattle.std.proofs.Common.{◌≡◌, ℕ, zero, suc, ◌+◌, ◌-◌, ◌<◌, ◌≤◌, List, [], inl, inr, refl, sym, ap, ◌∙◌, subst, arith, ℤ, pos, neg_ℤ, unsigned_abs, length, take, get_or, Option, Some, None, MatchOption, slice_get}
 use Rattle.std.specs.List.{AllByRecursion, flat_map}
 use Rattle.std.proofs.Math.IntN.{neg_ℤ-neg_ℤ}
 use Rattle.std.proofs.lemmas.Bool.{cases_lt, cases_eq}
 use Rattle.std.proofs.lemmas.List.{length-take, take_all}
-use Rattle.std.proofs.lemmas.Option.{slice_get_within, slice_get-get_or, get_or_from_slice_get}
+use Rattle.std.proofs.lemmas.Option.{slice_get-get_or, get_or_from_slice_get}
 use Rattle.mcs_base.specs.Listings.{IsAmong}
 use Rattle.mcs_base.proofs.Among.{among_at}
 use Rattle.mcs_base.proofs.Each.{all_among}
@@ -16,9 +16,9 @@ use Rattle.mcs_sat.specs.declared.state.Reach.{Reach}
 use Rattle.mcs_sat.specs.declared.state.State.{State}
 use Rattle.mcs_sat.specs.declared.trail.Entry.{Entry}
 use Rattle.mcs_sat.specs.Learning.{AreImplied, IsJoined, IsLate, IsLatest, IsLearnt, IsSingle}
-use Rattle.mcs_sat.specs.Solvers.{HasNoValue, HasOneOfLevel, IsAsserting, IsBackLevel, IsFalseUnder, IsLearned, IsOfLevel, IsOpenUnder, SolverView, last_level, trues, trues_below}
+use Rattle.mcs_sat.specs.Solvers.{HasNoValue, HasOneOfLevel, IsAsserting, IsBackLevel, IsFalseUnder, IsLearned, IsOfLevel, IsOpenUnder, SolverView, trues, trues_below}
 use Rattle.mcs_sat.specs.States.{IsLastLevel, IsLearntBack, IsState, view_of}
-use Rattle.mcs_sat.specs.Trails.{AreLevelled, ArePlaced, IsFalse, IsFalseBelow, IsOn, IsOnBelow, StandsAt, decisions, level_at, levels_of, literal_at}
+use Rattle.mcs_sat.specs.Trails.{AreLevelled, ArePlaced, IsFalse, StandsAt, decisions, level_at, levels_of, literal_at}
 use Rattle.mcs_sat.proofs.LatestLemmas.{LatestSoFar, latest-end, latest-joined, latest-start}
 use Rattle.mcs_sat.proofs.LevelLemmas.{before-start, below-start, decisions-longer, implied-last, levels-at, levels-back, levels-count, levels-from}
 use Rattle.mcs_sat.proofs.UnitRunLemmas.{among-on, false-under, flat-levels, literals, on-among, open-not_false, placed-consistent, under-false}
@@ -125,9 +125,9 @@ module _ (s : State) (r : Reach) (is : IsState s) (some : 0 < length s.levels.it
 
   pub last-late : (c : List ℤ) → AllByRecursion (IsOpenUnder (trues_below (levels_of es) last)) s.clauses → IsAmong c s.clauses → IsLate es r.entries c
   last-late c opens among = inl (λ below. open-not_false (literals (take r.entries es)) c
-    (placed-consistent (take r.entries es) ps (placed-back es ps r.entries is.trail.placed))
-    (subst (λ (x : List ℤ). IsOpenUnder x c) below-trues (all_among (IsOpenUnder (trues_below (levels_of es) last)) s.clauses c opens among))
-    (λ k among'. on-among (take r.entries es) (neg_ℤ k) (on-back es r.entries (neg_ℤ k) (let w = last-within in omega arith) (below k among'))))
+      (placed-consistent (take r.entries es) ps (placed-back es ps r.entries is.trail.placed))
+      (subst (λ (x : List ℤ). IsOpenUnder x c) below-trues (all_among (IsOpenUnder (trues_below (levels_of es) last)) s.clauses c opens among))
+      (λ k among'. on-among (take r.entries es) (neg_ℤ k) (on-back es r.entries (neg_ℤ k) (let w = last-within in omega arith) (below k among'))))
 
   -- one literal of it
   pub single-one : (c : List ℤ) → IsSingle es r.entries c → HasOneOfLevel (levels_of es) last c
@@ -138,11 +138,11 @@ module _ (s : State) (r : Reach) (is : IsState s) (some : 0 < length s.levels.it
     only = λ k among of. elim (latest.others k among) [
       | inl e ↦ e
       | inr (j, less, on) ↦ absurd (
-        let (i, within, level, size) = of-place es last k is.levelled of in
-        let past : r.entries ≤ i = below-last i within level in
-        let w = last-within in
-        let same : i ≡ j = same_place es ps i j is.trail.placed within (omega arith) (size ∙ sym (ap unsigned_abs on ∙ unsigned_abs-neg_ℤ k)) in
-        omega arith)
+          let (i, within, level, size) = of-place es last k is.levelled of in
+          let past : r.entries ≤ i = below-last i within level in
+          let w = last-within in
+          let same : i ≡ j = same_place es ps i j is.trail.placed within (omega arith) (size ∙ sym (ap unsigned_abs on ∙ unsigned_abs-neg_ℤ k)) in
+          omega arith)
     ];
   }
 
@@ -154,23 +154,23 @@ module _ (s : State) (r : Reach) (is : IsState s) (some : 0 < length s.levels.it
       let after : r.entries ≤ l.place = elim (cases_lt l.place r.entries) [
         | inr past ↦ past
         | inl low ↦ absurd (
-          let (i, within, level, size) = of-place es last one.literal is.levelled one.here in
-          let past : r.entries ≤ i = below-last i within level in
-          elim (latest.others one.literal one.has) [
-            | inl e ↦ let same : i ≡ l.place = same_place es ps i l.place is.trail.placed within here (size ∙ ap unsigned_abs e ∙ unsigned_abs-neg_ℤ (literal_at es l.place)) in omega arith
-            | inr (j, less, on) ↦ let same : i ≡ j = same_place es ps i j is.trail.placed within (omega arith) (size ∙ sym (ap unsigned_abs on ∙ unsigned_abs-neg_ℤ one.literal)) in omega arith
-          ])
+            let (i, within, level, size) = of-place es last one.literal is.levelled one.here in
+            let past : r.entries ≤ i = below-last i within level in
+            elim (latest.others one.literal one.has) [
+              | inl e ↦ let same : i ≡ l.place = same_place es ps i l.place is.trail.placed within here (size ∙ ap unsigned_abs e ∙ unsigned_abs-neg_ℤ (literal_at es l.place)) in omega arith
+              | inr (j, less, on) ↦ let same : i ≡ j = same_place es ps i j is.trail.placed within (omega arith) (size ∙ sym (ap unsigned_abs on ∙ unsigned_abs-neg_ℤ one.literal)) in omega arith
+            ])
       ] in (
         elim (cases_lt r.entries l.others) [
           | inr within ↦ within
           | inl many ↦ absurd (
-            let j : ℕ = l.others - 1 in
-            let less : j < length es = omega arith in
-            let first : neg_ℤ (literal_at es j) ≡ one.literal = one.only (neg_ℤ (literal_at es j)) (latest.last (omega arith)) (subst (λ (m : ℕ). IsOfLevel (levels_of es) m (neg_ℤ (literal_at es j))) (from-last j less (omega arith)) (place-of es j is.levelled less)) in
-            let second : neg_ℤ (literal_at es l.place) ≡ one.literal = one.only (neg_ℤ (literal_at es l.place)) latest.has (subst (λ (m : ℕ). IsOfLevel (levels_of es) m (neg_ℤ (literal_at es l.place))) (from-last l.place here after) (place-of es l.place is.levelled here)) in
-            let sizes : unsigned_abs (literal_at es j) ≡ unsigned_abs (literal_at es l.place) = sym (unsigned_abs-neg_ℤ (literal_at es j)) ∙ ap unsigned_abs (first ∙ sym second) ∙ unsigned_abs-neg_ℤ (literal_at es l.place) in
-            let same : j ≡ l.place = same_place es ps j l.place is.trail.placed less here sizes in
-            omega arith)
+              let j : ℕ = l.others - 1 in
+              let less : j < length es = omega arith in
+              let first : neg_ℤ (literal_at es j) ≡ one.literal = one.only (neg_ℤ (literal_at es j)) (latest.last (omega arith)) (subst (λ (m : ℕ). IsOfLevel (levels_of es) m (neg_ℤ (literal_at es j))) (from-last j less (omega arith)) (place-of es j is.levelled less)) in
+              let second : neg_ℤ (literal_at es l.place) ≡ one.literal = one.only (neg_ℤ (literal_at es l.place)) latest.has (subst (λ (m : ℕ). IsOfLevel (levels_of es) m (neg_ℤ (literal_at es l.place))) (from-last l.place here after) (place-of es l.place is.levelled here)) in
+              let sizes : unsigned_abs (literal_at es j) ≡ unsigned_abs (literal_at es l.place) = sym (unsigned_abs-neg_ℤ (literal_at es j)) ∙ ap unsigned_abs (first ∙ sym second) ∙ unsigned_abs-neg_ℤ (literal_at es l.place) in
+              let same : j ≡ l.place = same_place es ps j l.place is.trail.placed less here sizes in
+              omega arith)
         ],
         after,
       )
@@ -225,10 +225,10 @@ module _ (old new : State) (step : Step) (is : IsState old) (asserting : IsAsser
   lower : r.entries ≤ l.place
   lower = elim (cases_lt l.place r.entries) [
     | inl less ↦ absurd (
-      let low = below-start all old.levels.items back.level l.place r is.levelled is.starts at less in
-      let high = from-last old last is some at-last l.place latest.here split.1 in
-      let below = back.below in
-      omega (arith, last-is old last is some at-last))
+        let low = below-start all old.levels.items back.level l.place r is.levelled is.starts at less in
+        let high = from-last old last is some at-last l.place latest.here split.1 in
+        let below = back.below in
+        omega (arith, last-is old last is some at-last))
     | inr past ↦ past
   ]
 
@@ -249,17 +249,17 @@ module _ (old new : State) (step : Step) (is : IsState old) (asserting : IsAsser
   back-level = record {
     below = (let b = back.below in omega (arith, last-is old last is some at-last));
     others = λ k j among of.
-      let (i, within, level, size) = of-place all j k is.levelled of in
-      elim (latest.others k among) [
-        | inl e ↦ inr (
-          let same : i ≡ l.place = same_place all old.trail.positions.items i l.place is.trail.placed within latest.here (size ∙ ap unsigned_abs e ∙ unsigned_abs-neg_ℤ (literal_at all l.place)) in
-          sym level ∙ ap (level_at all) same ∙ from-last old last is some at-last l.place latest.here split.1)
-        | inr (p, less, on) ↦ inl (
-          let b = latest.before in
-          let h = latest.here in
-          let same : i ≡ p = same_place all old.trail.positions.items i p is.trail.placed within (omega arith) (size ∙ sym (ap unsigned_abs on ∙ unsigned_abs-neg_ℤ k)) in
-          omega (arith, other-level p less, ap (level_at all) same))
-      ];
+        let (i, within, level, size) = of-place all j k is.levelled of in
+        elim (latest.others k among) [
+          | inl e ↦ inr (
+              let same : i ≡ l.place = same_place all old.trail.positions.items i l.place is.trail.placed within latest.here (size ∙ ap unsigned_abs e ∙ unsigned_abs-neg_ℤ (literal_at all l.place)) in
+              sym level ∙ ap (level_at all) same ∙ from-last old last is some at-last l.place latest.here split.1)
+          | inr (p, less, on) ↦ inl (
+              let b = latest.before in
+              let h = latest.here in
+              let same : i ≡ p = same_place all old.trail.positions.items i p is.trail.placed within (omega arith) (size ∙ sym (ap unsigned_abs on ∙ unsigned_abs-neg_ℤ k)) in
+              omega (arith, other-level p less, ap (level_at all) same))
+        ];
     has = elim (cases_lt 0 l.others) [
       | inl many ↦ inr (
         neg_ℤ (literal_at all (l.others - 1)),
@@ -288,7 +288,7 @@ module _ (old new : State) (step : Step) (is : IsState old) (asserting : IsAsser
     level = back.level;
     back = back-level;
     is = same-view _ _ _ _ _ _ (ap (λ (n : ℕ). n - 1) positions) back.clauses (
-      ap levels_of new-entries ∙ levels-back all old.levels.items back.level r is.starts at ∙ ap (λ (n : ℕ). take n (levels_of all)) (let up : back.level + 1 ≡ suc back.level = omega arith in up));
+        ap levels_of new-entries ∙ levels-back all old.levels.items back.level r is.starts at ∙ ap (λ (n : ℕ). take n (levels_of all)) (let up : back.level + 1 ≡ suc back.level = omega arith in up));
     free = free;
     has = latest.has;
     no_value = subst (λ (x : List ℤ). HasNoValue x free) (sym new-trues) no-value;

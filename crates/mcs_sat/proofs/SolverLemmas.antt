@@ -1,31 +1,20 @@
 -- What a solver keeps and its calls do, as it is seen.
-use Rattle.std.proofs.Common.{◌≡◌, ℕ, zero, suc, ◌+◌, ◌-◌, ◌*◌, ◌^◌, ◌<◌, ◌≤◌, List, [], ◌∷◌, ◌++◌, ◌⊎◌, inl, inr, refl, sym, ap, ◌∙◌, subst, arith, ℤ, pos, neg_ℤ, unsigned_abs, length, take, get_or, Option, Some, None, MatchOption, slice_get, map}
+use Rattle.std.proofs.Common.{◌≡◌, ℕ, suc, ◌+◌, ◌-◌, ◌<◌, ◌≤◌, List, [], ◌∷◌, ◌++◌, refl, sym, ap, ◌∙◌, subst, arith, ℤ, neg_ℤ, unsigned_abs, length}
 use Rattle.std.specs.List.{AllByRecursion}
-use Rattle.std.proofs.Math.IntN.{neg_ℤ-neg_ℤ}
-use Rattle.std.proofs.lemmas.Bool.{cases_lt, cases_eq}
-use Rattle.std.proofs.lemmas.List.{append_cancel_left, map-append, take_all}
-use Rattle.std.proofs.lemmas.Option.{slice_get_within, slice_get-get_or, get_or_from_slice_get}
+use Rattle.std.proofs.lemmas.List.{append_cancel_left, map-append}
 use Rattle.mcs_base.specs.Listings.{IsAmong}
-use Rattle.mcs_base.proofs.Among.{among_at, among_get, among_left}
+use Rattle.mcs_base.proofs.Among.{among_get, among_left}
 use Rattle.mcs_base.proofs.Each.{all_among, all_both, all_from_among, all_weaker}
-use Rattle.mcs_base.proofs.Lists.{slice_get_below}
-use Rattle.mcs_base.proofs.Numbers.{unsigned_abs-neg_ℤ}
 use Rattle.mcs_trace.specs.Clauses.{IsClause, IsWithin}
 use Rattle.mcs_trace.specs.Traces.{numbered}
-use Rattle.mcs_trace.specs.declared.trace.Step.{Step}
-use Rattle.mcs_sat.specs.declared.latest.Latest.{Latest}
-use Rattle.mcs_sat.specs.declared.state.Reach.{Reach}
 use Rattle.mcs_sat.specs.declared.state.State.{State}
 use Rattle.mcs_sat.specs.declared.trail.Entry.{Entry}
-use Rattle.mcs_sat.specs.Learning.{AreImplied, IsJoined, IsLate, IsLatest, IsSingle}
-use Rattle.mcs_sat.specs.Solvers.{GoesOn, HasNoValue, HasOneOfLevel, IsBackLevel, IsFalseNumber, IsFalseUnder, IsLearned, IsOfLevel, IsOpenUnder, IsSolver, IsUnitRun, LeadsToConflict, SolverView, last_level, trues, trues_below}
-use Rattle.mcs_sat.specs.States.{IsDecided, IsLastLevel, IsLearntBack, IsState, SameClauses, view_of}
-use Rattle.mcs_sat.specs.Trails.{AreCovered, AreExplained, AreLevelled, ArePlaced, Grows, IsFalse, IsFalseAt, IsOn, IsOnBelow, IsOpen, StandsAt, decisions, first_level, later_levels, level_at, levels_of, literal_at}
+use Rattle.mcs_sat.specs.Solvers.{GoesOn, IsFalseNumber, IsFalseUnder, IsOpenUnder, IsSolver, IsUnitRun, LeadsToConflict, SolverView, trues}
+use Rattle.mcs_sat.specs.States.{IsDecided, IsState, SameClauses, view_of}
+use Rattle.mcs_sat.specs.Trails.{AreCovered, AreExplained, ArePlaced, Grows, IsFalseAt, IsOpen, levels_of, literal_at}
 use Rattle.mcs_sat.proofs.KnownLemmas.{numbered-row}
-use Rattle.mcs_sat.proofs.LatestLemmas.{LatestSoFar, latest-end, latest-joined, latest-start}
-use Rattle.mcs_sat.proofs.LevelLemmas.{before-start, below-start, decisions-longer, implied-last, levels-at, levels-back, levels-count, levels-decide, levels-from, levels-more}
-use Rattle.mcs_sat.proofs.UnitRunLemmas.{AreConsistent, AreIn, among-on, flat-levels, free-nowhere, grown-run, levels-run, literals, nowhere-free, on-among, open-not_false, open-under, false-under, placed-consistent, run-within, under-false}
-use Rattle.mcs_sat.proofs.TrailLemmas.{on-back, same_place}
+use Rattle.mcs_sat.proofs.LevelLemmas.{levels-decide, levels-more}
+use Rattle.mcs_sat.proofs.UnitRunLemmas.{AreConsistent, AreIn, among-on, flat-levels, grown-run, levels-run, literals, open-not_false, open-under, false-under, placed-consistent, run-within, under-false}
 
 pub trues-are : (s : State) (v : SolverView) → view_of s ≡ v → trues v ≡ literals s.trail.entries.items
 trues-are s v is = sym (ap trues is) ∙ flat-levels s.trail.entries.items
@@ -46,10 +35,10 @@ is-solver s is =
       );
       levels = levels-run s.clauses ps [] es is.trail.placed is.trail.explained;
       within = all_from_among (λ (l : ℤ). (0 < unsigned_abs l) × (unsigned_abs l ≤ n)) (trues (view_of s)) (λ l among.
-        let (p, less, e) = among-on es l (subst (IsAmong l) (flat-levels es) among) in
-        let (literal, covered, at) = is.trail.placed p less in
-        let some : 0 < unsigned_abs (literal_at es p) = literal.0 in
-        (omega (arith, ap unsigned_abs e), omega (arith, ap unsigned_abs e)));
+          let (p, less, e) = among-on es l (subst (IsAmong l) (flat-levels es) among) in
+          let (literal, covered, at) = is.trail.placed p less in
+          let some : 0 < unsigned_abs (literal_at es p) = literal.0 in
+          (omega (arith, ap unsigned_abs e), omega (arith, ap unsigned_abs e)));
     }
 
 -- ---- what grows
@@ -63,8 +52,8 @@ grown-unit_run : (old new : State) (more : List Entry) → IsState new → new.c
 grown-unit_run old new more is clauses e all =
     let es : List Entry = old.trail.entries.items in
     subst (λ (x : List ℤ). IsUnitRun old.clauses x (literals more)) (sym (flat-levels es)) (grown-run old.clauses new.trail.positions.items (length old.levels.items) es more
-      (subst (λ (x : List Entry). ArePlaced x new.trail.positions.items) e is.trail.placed)
-      (subst (λ (known : List (List ℤ)). AreExplained known (es ++ more)) clauses (subst (AreExplained new.clauses) e is.trail.explained)) all)
+    (subst (λ (x : List Entry). ArePlaced x new.trail.positions.items) e is.trail.placed)
+    (subst (λ (known : List (List ℤ)). AreExplained known (es ++ more)) clauses (subst (AreExplained new.clauses) e is.trail.explained)) all)
 
 pub grown-goes_on : (old new : State) → IsGrown old new → (more : List ℤ) × GoesOn (levels_of old.trail.entries.items) (levels_of new.trail.entries.items) more × IsUnitRun old.clauses (trues (view_of old)) more
 grown-goes_on old new (is, clauses, (more, e, all)) =
@@ -91,7 +80,7 @@ grown-conflict old new i (is, clauses, (more, e, all)) (c, at, off) = (
 
 pub opens-under : (s : State) → AllByRecursion (IsOpen s.trail.entries.items) s.clauses → AllByRecursion (IsOpenUnder (trues (view_of s))) s.clauses
 opens-under s open' = all_weaker (IsOpen s.trail.entries.items) (IsOpenUnder (trues (view_of s)))
-  (λ c o. subst (λ (x : List ℤ). IsOpenUnder x c) (sym (flat-levels s.trail.entries.items)) (open-under s.trail.entries.items c o)) s.clauses open'
+    (λ c o. subst (λ (x : List ℤ). IsOpenUnder x c) (sym (flat-levels s.trail.entries.items)) (open-under s.trail.entries.items c o)) s.clauses open'
 
 trues-consistent : (s : State) → IsState s → AreConsistent (trues (view_of s))
 trues-consistent s is = subst AreConsistent (sym (flat-levels s.trail.entries.items)) (placed-consistent s.trail.entries.items s.trail.positions.items is.trail.placed)
