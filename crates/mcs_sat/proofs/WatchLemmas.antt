@@ -24,36 +24,36 @@ use Rattle.mcs_sat.proofs.TrailLemmas.{below-same}
 
 -- ---- what is read after a write
 module _ {A : Type 0} where
-  pub set_same : (xs : List A) (i : ℕ) (y z : A) → slice_get (set xs i y) i ≡ Some z → z ≡ y
-  set_same [] i y z e = absurd (cc)
-  set_same (x ∷ xs) zero y z e = cc
-  set_same (x ∷ xs) (suc i) y z e = set_same xs i y z e
+  pub slice_get_set : (xs : List A) (i : ℕ) (y z : A) → slice_get (set xs i y) i ≡ Some z → z ≡ y
+  slice_get_set [] i y z e = absurd (cc)
+  slice_get_set (x ∷ xs) zero y z e = cc
+  slice_get_set (x ∷ xs) (suc i) y z e = slice_get_set xs i y z e
 
-  pub set_other : (xs : List A) (i j : ℕ) (y : A) → j ≢ i → slice_get (set xs i y) j ≡ slice_get xs j
-  set_other [] i j y differ = refl
-  set_other (x ∷ xs) zero zero y differ = absurd (differ refl)
-  set_other (x ∷ xs) zero (suc j) y differ = refl
-  set_other (x ∷ xs) (suc i) zero y differ = refl
-  set_other (x ∷ xs) (suc i) (suc j) y differ = set_other xs i j y (λ e. differ (ap suc e))
+  pub slice_get-set_other : (xs : List A) (i j : ℕ) (y : A) → j ≢ i → slice_get (set xs i y) j ≡ slice_get xs j
+  slice_get-set_other [] i j y differ = refl
+  slice_get-set_other (x ∷ xs) zero zero y differ = absurd (differ refl)
+  slice_get-set_other (x ∷ xs) zero (suc j) y differ = refl
+  slice_get-set_other (x ∷ xs) (suc i) zero y differ = refl
+  slice_get-set_other (x ∷ xs) (suc i) (suc j) y differ = slice_get-set_other xs i j y (λ e. differ (ap suc e))
 
-  pub set_here : (xs : List A) (i : ℕ) (y : A) → i < length xs → slice_get (set xs i y) i ≡ Some y
-  set_here [] i y less = absurd (omega arith)
-  set_here (x ∷ xs) zero y less = refl
-  set_here (x ∷ xs) (suc i) y less = set_here xs i y (omega arith)
+  pub slice_get-set_same : (xs : List A) (i : ℕ) (y : A) → i < length xs → slice_get (set xs i y) i ≡ Some y
+  slice_get-set_same [] i y less = absurd (omega arith)
+  slice_get-set_same (x ∷ xs) zero y less = refl
+  slice_get-set_same (x ∷ xs) (suc i) y less = slice_get-set_same xs i y (omega arith)
 
-  pub take_get : (n : ℕ) (xs : List A) (i : ℕ) → i < n → slice_get (take n xs) i ≡ slice_get xs i
-  take_get zero xs i less = absurd (omega arith)
-  take_get (suc n) [] i less = refl
-  take_get (suc n) (x ∷ xs) zero less = refl
-  take_get (suc n) (x ∷ xs) (suc i) less = take_get n xs i (omega arith)
+  pub slice_get-take : (n : ℕ) (xs : List A) (i : ℕ) → i < n → slice_get (take n xs) i ≡ slice_get xs i
+  slice_get-take zero xs i less = absurd (omega arith)
+  slice_get-take (suc n) [] i less = refl
+  slice_get-take (suc n) (x ∷ xs) zero less = refl
+  slice_get-take (suc n) (x ∷ xs) (suc i) less = slice_get-take n xs i (omega arith)
 
   -- one is taken out, and the last one takes its place
-  pub swapped_before : (xs : List A) (i : ℕ) (d : A) (j : ℕ) → i < length xs → j < i → slice_get (swap_remove xs i d) j ≡ slice_get xs j
-  swapped_before xs i d j within less =
-      take_get (length xs - 1) (set xs i (get_or xs (length xs - 1) d)) j (omega arith) ∙ set_other xs i j (get_or xs (length xs - 1) d) (λ e. absurd (omega arith))
+  pub slice_get-swap_remove : (xs : List A) (i : ℕ) (d : A) (j : ℕ) → i < length xs → j < i → slice_get (swap_remove xs i d) j ≡ slice_get xs j
+  slice_get-swap_remove xs i d j within less =
+      slice_get-take (length xs - 1) (set xs i (get_or xs (length xs - 1) d)) j (omega arith) ∙ slice_get-set_other xs i j (get_or xs (length xs - 1) d) (λ e. absurd (omega arith))
 
-  pub swapped_among : (xs : List A) (i : ℕ) (x k : A) → i < length xs → x ≡ get_or xs i x → IsAmong k xs → k ≢ x → IsAmong k (swap_remove xs i x)
-  swapped_among xs i x k within is among differ = elim ((among_permutation xs (x ∷ swap_remove xs i x) (IsPermutation-swap_remove xs i x within is) k).1 among) [
+  pub among_swap_remove : (xs : List A) (i : ℕ) (x k : A) → i < length xs → x ≡ get_or xs i x → IsAmong k xs → k ≢ x → IsAmong k (swap_remove xs i x)
+  among_swap_remove xs i x k within is among differ = elim ((among_permutation xs (x ∷ swap_remove xs i x) (IsPermutation-swap_remove xs i x within is) k).1 among) [
     | inl e ↦ absurd (differ e)
     | inr rest ↦ rest
   ]
@@ -61,8 +61,8 @@ module _ {A : Type 0} where
 -- ---- lists
 pub listed-set : (lists : List (Vec ℕ Global)) (p : ℕ) (v : Vec ℕ Global) (l : ℤ) (i : ℕ) → (place l ≢ p → IsListed lists l i) → (place l ≡ p → IsAmong i v.items) → IsListed (set lists p v) l i
 listed-set lists p v l i other here list e = elim (cases_eq (place l) p) [
-  | inl same ↦ subst (λ (w : Vec ℕ Global). IsAmong i w.items) (sym (set_same lists p v list (subst (λ (q : ℕ). slice_get (set lists p v) q ≡ Some list) same e))) (here same)
-  | inr differ ↦ other differ list (sym (set_other lists p (place l) v differ) ∙ e)
+  | inl same ↦ subst (λ (w : Vec ℕ Global). IsAmong i w.items) (sym (slice_get_set lists p v list (subst (λ (q : ℕ). slice_get (set lists p v) q ≡ Some list) same e))) (here same)
+  | inr differ ↦ other differ list (sym (slice_get-set_other lists p (place l) v differ) ∙ e)
 ]
 
 -- one more in the list of a literal
@@ -137,8 +137,8 @@ module _ (known : List (List ℤ)) (w w' : Watches) (i : ℕ) (c : List ℤ) (q 
   -- the pair of an index is the new one, or as before
   pair_cases : (j : ℕ) (p : Pair) → slice_get w'.pairs.items j ≡ Some p → ((j ≡ i) × (p ≡ q)) ⊎ (slice_get w.pairs.items j ≡ Some p)
   pair_cases j p at = elim (cases_eq j i) [
-    | inl e ↦ inl (e, set_same w.pairs.items i q p (subst (λ (k : ℕ). slice_get (set w.pairs.items i q) k ≡ Some p) e (sym (ap (λ (ps : List Pair). slice_get ps j) pairs) ∙ at)))
-    | inr differ ↦ inr (sym (set_other w.pairs.items i j q differ) ∙ sym (ap (λ (ps : List Pair). slice_get ps j) pairs) ∙ at)
+    | inl e ↦ inl (e, slice_get_set w.pairs.items i q p (subst (λ (k : ℕ). slice_get (set w.pairs.items i q) k ≡ Some p) e (sym (ap (λ (ps : List Pair). slice_get ps j) pairs) ∙ at)))
+    | inr differ ↦ inr (sym (slice_get-set_other w.pairs.items i j q differ) ∙ sym (ap (λ (ps : List Pair). slice_get ps j) pairs) ∙ at)
   ]
 
   pub watched-move : AreWatched known w → w'.lists.items ≡ w.lists.items → IsLong c → ArePair c q → ((l : ℤ) → IsLiteral l → IsOf l q → IsListed w.lists.items l i) → AreWatched known w'
@@ -171,7 +171,7 @@ module _ (known : List (List ℤ)) (w w' : Watches) (i : ℕ) (c : List ℤ) (q 
   }
 
 pub gone-move : (pairs : List Pair) (i : ℕ) (q : Pair) (l : ℤ) → ¬ IsOf l q → (p : Pair) → slice_get (set pairs i q) i ≡ Some p → ¬ IsOf l p
-gone-move pairs i q l none p at of = none (subst (IsOf l) (set_same pairs i q p at) of)
+gone-move pairs i q l none p at of = none (subst (IsOf l) (slice_get_set pairs i q p at) of)
 
 -- ---- a list that is gone through
 -- the clauses of the first indices in the list of the place are satisfied
@@ -212,8 +212,8 @@ module _ (known : List (List ℤ)) (lists lists' : List (Vec ℕ Global)) (level
   -- the index at the place is taken out
   pub passed-swap : at < length list.items → (list' : Vec ℕ Global) (x : ℕ) → list'.items ≡ swap_remove list.items at x → ArePassed known (set lists' p list') es' p at
   passed-swap within list' x swapped list'' j i c is' less at' known-is =
-      let list-is : list'' ≡ list' = set_same lists' p list' list'' is' in
-      let here : slice_get list.items j ≡ Some i = sym (swapped_before list.items at x j within less) ∙ sym (ap (λ (xs : List ℕ). slice_get xs j) swapped) ∙ sym (ap (λ (v : Vec ℕ Global). slice_get v.items j) list-is) ∙ at' in
+      let list-is : list'' ≡ list' = slice_get_set lists' p list' list'' is' in
+      let here : slice_get list.items j ≡ Some i = sym (slice_get-swap_remove list.items at x j within less) ∙ sym (ap (λ (xs : List ℕ). slice_get xs j) swapped) ∙ sym (ap (λ (v : Vec ℕ Global). slice_get v.items j) list-is) ∙ at' in
       satisfied-grown level es es' c grows (passed list j i c is less here known-is)
 
 -- an index that does not watch the literal any more is taken out of its list
@@ -226,7 +226,7 @@ watched-swap known w w' p l at list list' x watched pairs short lists place-is i
       (listed-set w.lists.items p list' k i (λ differ. watched.listed i q k (before i q here) literal of) (λ same.
       let k-is : k ≡ l = place-injective k l (same ∙ place-is) in
       let among : IsAmong i list.items = watched.listed i q k (before i q here) literal of list (ap (slice_get w.lists.items) same ∙ is) in
-      subst (IsAmong i) (sym swapped) (swapped_among list.items at x i within read among (λ e. gone q (sym (ap (slice_get w.pairs.items) e) ∙ before i q here) (subst (λ (m : ℤ). IsOf m q) k-is of)))));
+      subst (IsAmong i) (sym swapped) (among_swap_remove list.items at x i within read among (λ e. gone q (sym (ap (slice_get w.pairs.items) e) ∙ before i q here) (subst (λ (m : ℤ). IsOf m q) k-is of)))));
   short = λ i c known-is few. subst (IsAmong i) (sym short) (watched.short i c known-is few);
 }
   where

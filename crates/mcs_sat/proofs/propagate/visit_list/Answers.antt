@@ -11,7 +11,7 @@ use Rattle.mcs_sat.specs.declared.trail.Entry.{Entry}
 use Rattle.mcs_sat.specs.Trails.{ArePlaced, Grows, IsOn, literal_at}
 use Rattle.mcs_sat.specs.Watching.{IsReached, IsSeen}
 use Rattle.mcs_sat.proofs.GrowLemmas.{grows-more}
-use Rattle.mcs_sat.proofs.WatchLemmas.{left-more, left-swap, passed-more, passed-swap, reached-across, reached-list, set_here, visited-all, watched-swap}
+use Rattle.mcs_sat.proofs.WatchLemmas.{left-more, left-swap, passed-more, passed-swap, reached-across, reached-list, slice_get-set_same, visited-all, watched-swap}
 use Rattle.mcs_sat.proofs.propagate.visit_list.Goals.{After-index, After-index_mut, After-visit}
 use Rattle.mcs_sat.proofs.propagate.visit_list.Goals as goal
 
@@ -114,7 +114,7 @@ loop-at-smaller c =
     let one : length c.swap_remove.new.self.items + 1 ≡ length list.items =
     (let ok = list.ok.0 in let ok' = c.swap_remove.new.self.ok.0 in let len = c.swap_remove.ensures.len in omega arith) in
     let here : c.place-list.result < length c.visit.new.watches.lists.items = (let sizes : length c.visit.new.watches.lists.items ≡ length c.loop-at.watches.lists.items = c.visit.ensures.lists in let less = visit_within at in omega arith) in
-    left-swap (slice_get c.loop-at.watches.lists.items c.place-list.result) _ list c.swap_remove.new.self c.loop-at.at (sym (kept at) ∙ removed_at at') (set_here c.visit.new.watches.lists.items c.place-list.result c.swap_remove.new.self here) one (less_in at list (removed_at at'))
+    left-swap (slice_get c.loop-at.watches.lists.items c.place-list.result) _ list c.swap_remove.new.self c.loop-at.at (sym (kept at) ∙ removed_at at') (slice_get-set_same c.visit.new.watches.lists.items c.place-list.result c.swap_remove.new.self here) one (less_in at list (removed_at at'))
 
 pub loop-at-preserved : goal.loop-at-preserved
 loop-at-preserved c =

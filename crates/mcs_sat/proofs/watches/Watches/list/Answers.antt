@@ -1,7 +1,7 @@
 use Rattle.std.proofs.Common.{◌≡◌, ◌<◌, length, Some, slice_get, refl, sym, ap, ◌∙◌, to_z-of_z, arith}
 use Rattle.std.proofs.lemmas.Option.{slice_get_read}
 use Rattle.mcs_trace.specs.Clauses.{place}
-use Rattle.mcs_sat.proofs.WatchLemmas.{list-kept, list-listed, set_other}
+use Rattle.mcs_sat.proofs.WatchLemmas.{list-kept, list-listed, slice_get-set_other}
 use Rattle.mcs_sat.proofs.watches.Watches.list.Goals.{In_ok-push}
 use Rattle.mcs_sat.proofs.watches.Watches.list.Goals as goal
 
@@ -21,4 +21,4 @@ pub returns-clause-kept : goal.returns-clause-kept
 returns-clause-kept c = list-kept c.args.self.now.lists.items c.place.result c.index_mut.result.now c.push.new.self c.args.index (was c) c.in_ok-push.ensures.items
 
 pub returns-clause-others : goal.returns-clause-others
-returns-clause-others c = λ l differ. set_other c.args.self.now.lists.items c.place.result (place l) c.push.new.self (λ e. differ (e ∙ at c))
+returns-clause-others c = λ l differ. slice_get-set_other c.args.self.now.lists.items c.place.result (place l) c.push.new.self (λ e. differ (e ∙ at c))
