@@ -196,3 +196,9 @@ less-learnt f old between new c ns found is is' b g clauses (more, e, all) run =
         let first : work_left n (take k es ++ x ∷ []) < work_left n es = work_left-back n es k (record { literal = pos 0; reason = 0; level = 0 }) x here (omega arith) none (λ zero. let some = all.0.0 in omega arith) in
         let rest : work_left n ((take k es ++ x ∷ []) ++ more) ≤ work_left n (take k es ++ x ∷ []) = work_left-more n (take k es ++ x ∷ []) more (omega (arith, ap length front)) in
         subst (λ (xs : List Entry). work_left n xs < work_left n es) (sym front) (omega arith)
+
+-- the one clause for the last level, whichever it is called
+pub single-last : (s : State) (r : Reach) (c : List ℤ) → IsState s → IsLastLevel s.levels.items r → (r.entries + 1 ≤ length s.trail.entries.items → IsSingle s.trail.entries.items r.entries c) → (q : Reach) → IsLastLevel s.levels.items q → IsSingle s.trail.entries.items q.entries c
+single-last s r c is last single q at =
+    let (below, none, count) = is.starts.start (length s.levels.items - 1) r last in
+    subst (λ (x : Reach). IsSingle s.trail.entries.items x.entries c) (same_Some r q (sym last ∙ at)) (single (omega arith))

@@ -1,9 +1,10 @@
 -- Where a false clause leads back, and what it watches then.
-use Rattle.std.proofs.Common.{◌≡◌, ◌≢◌, ℕ, ◌+◌, ◌-◌, ◌<◌, ◌≤◌, List, [], ◌∷◌, ◌++◌, ◌⊎◌, inl, inr, refl, sym, ap, ◌∙◌, subst, arith, ℤ, neg_ℤ, unsigned_abs, length, take, min, Option, Some, None, slice_get, Vec, Global}
+use Rattle.std.proofs.Common.{◌≡◌, ◌≢◌, ℕ, ◌+◌, ◌-◌, ◌<◌, ◌≤◌, List, [], ◌∷◌, ◌++◌, ◌⊎◌, inl, inr, refl, sym, ap, ◌∙◌, subst, arith, ℤ, neg_ℤ, unsigned_abs, length, take, min, Option, Some, None, Bor, slice_get, Vec, Global}
+use Rattle.std.specs.Option.{option_copied}
 use Rattle.std.proofs.lemmas.Bool.{cases_lt, cases_eq}
 use Rattle.std.proofs.lemmas.Option.{same_Some, slice_get_within}
 use Rattle.mcs_base.specs.Listings.{IsAmong}
-use Rattle.mcs_base.proofs.Lists.{slice_get_below, slice_get_take}
+use Rattle.mcs_base.proofs.Lists.{slice_get_below, slice_get_none, slice_get_take}
 use Rattle.std.proofs.Math.IntN.{neg_ℤ-neg_ℤ}
 use Rattle.mcs_trace.specs.Clauses.{IsClause, LiteralBefore, place}
 use Rattle.mcs_trace.specs.Traces.{IsChainResolvent}
@@ -150,3 +151,14 @@ level-there s c m turn is single some is-latest is-turn =
     let (last, at) = slice_get_below s.levels.items (length s.levels.items - 1) (omega arith) in
     let (few, late) = single-latest s.trail.entries.items s.trail.positions.items c last.entries m is.trail.placed (single last at) is-latest in
     turn-level s.trail.entries.items s.levels.items m turn last is.levelled is.starts some at few is-turn
+
+-- the last of some levels, as the code reads it
+pub last-found : (xs ys : List Reach) (o : Option (Bor Reach)) (r : Bor Reach) → ys ≡ xs → option_copied o ≡ slice_get ys (length ys - 1) → o ≡ Some r → IsLastLevel xs r.now
+last-found xs ys o r same value is = subst (λ (zs : List Reach). slice_get zs (length zs - 1) ≡ Some r.now) same (sym value ∙ ap option_copied is)
+
+pub last-none : (xs ys : List Reach) (o : Option (Bor Reach)) → ys ≡ xs → option_copied o ≡ slice_get ys (length ys - 1) → o ≡ None → xs ≡ []
+last-none xs ys o same value is = empty xs (subst (λ (zs : List Reach). slice_get zs (length zs - 1) ≡ None) same (sym value ∙ ap option_copied is))
+  where
+    empty : (zs : List Reach) → slice_get zs (length zs - 1) ≡ None → zs ≡ []
+    empty [] e = refl
+    empty (z ∷ zs) e = absurd (let past = slice_get_none (z ∷ zs) (length (z ∷ zs) - 1) e in omega arith)
