@@ -18,7 +18,7 @@ use Rattle.mcs_sat.specs.declared.state.State.{State}
 use Rattle.mcs_sat.specs.declared.trail.Entry.{Entry}
 use Rattle.mcs_sat.specs.Learning.{IsLatest, IsSingle}
 use Rattle.mcs_sat.specs.Searches.{HasLearnt, IsRun, IsSearch, work_left}
-use Rattle.mcs_sat.specs.States.{IsLastLevel, IsLearntBack, IsState}
+use Rattle.mcs_sat.specs.States.{IsLastLevel, IsLearntBack, IsState, no_chains}
 use Rattle.mcs_sat.specs.Trails.{ArePlaced, Grows, IsFalse, IsOn, IsOnBelow, IsOpen, StandsNowhere, level_at, literal_at}
 use Rattle.mcs_sat.proofs.LevelLemmas.{before-start, below-start}
 use Rattle.mcs_sat.proofs.SearchLemmas.{open-not_false, trail-bound}
@@ -130,7 +130,7 @@ right-push known (t ∷ steps) s right chain = (
 learnt-more : (f : ClauseList) (old new : State) (c : List ℤ) (ns : List ℕ) → HasLearnt f old → new.clauses ≡ old.clauses ++ c ∷ [] → new.chains ≡ old.chains ++ ns ∷ [] → IsChainResolvent old.clauses ns c → HasLearnt f new
 learnt-more f old new c ns h clauses chains right =
     let s : Inference = record { clause = c; chain = ns } in
-    let none : List (List ℕ) = map (λ (x : List ℤ). []) f.clauses in
+    let none : List (List ℕ) = no_chains f.clauses in
     record {
       steps = h.steps ++ s ∷ [];
       clauses = clauses ∙ ap (λ (cs : List (List ℤ)). cs ++ c ∷ []) h.clauses ∙ append_assoc f.clauses (map (λ (i : Inference). i.clause) h.steps) (c ∷ []) ∙ ap (λ (cs : List (List ℤ)). f.clauses ++ cs) (sym (map_push (λ (i : Inference). i.clause) h.steps s));

@@ -1,8 +1,8 @@
 -- What stays right of a search from turn to turn, and that less is left to do.
-use Rattle.std.proofs.Common.{◌≡◌, ℕ, ◌+◌, ◌-◌, ◌<◌, ◌≤◌, List, [], ◌∷◌, ◌++◌, ◌⊎◌, inl, inr, refl, sym, ap, ◌∙◌, subst, arith, ℤ, neg_ℤ, unsigned_abs, length, length-append, map, take, drop, get_or, Option, Some, None, MatchOption, IfSome, slice_get}
+use Rattle.std.proofs.Common.{◌≡◌, ℕ, ◌+◌, ◌-◌, ◌<◌, ◌≤◌, zero, suc, List, [], ◌∷◌, ◌++◌, ◌⊎◌, inl, inr, refl, sym, ap, ◌∙◌, subst, arith, ℤ, neg_ℤ, unsigned_abs, length, length-append, map, take, drop, get_or, Option, Some, None, MatchOption, IfSome, slice_get}
 use Rattle.std.specs.List.{AllByRecursion}
 use Rattle.std.specs.Option.{IfNone}
-use Rattle.std.proofs.Math.Seq.{take-append_seam}
+use Rattle.std.proofs.Math.Seq.{drop-append_seam, take-append_seam}
 use Rattle.std.proofs.lemmas.Bool.{cases_lt}
 use Rattle.std.proofs.lemmas.List.{append_assoc, get_or-drop, length-drop, length_push, length-take-le, map_push, take-append-le, take-take}
 use Rattle.mcs_base.specs.Listings.{IsAmong}
@@ -18,7 +18,7 @@ use Rattle.mcs_sat.specs.declared.state.Reach.{Reach}
 use Rattle.mcs_sat.specs.declared.state.State.{State}
 use Rattle.mcs_sat.specs.declared.trail.Entry.{Entry}
 use Rattle.mcs_sat.specs.Learning.{IsLatest, IsLate, IsSingle}
-use Rattle.mcs_sat.specs.Searches.{AreOpenBelow, HasLearnt, IsRun, IsSearch, work_left}
+use Rattle.mcs_sat.specs.Searches.{AreOpenBelow, HasLearnt, IsRun, IsSearch, work_left, zipped}
 use Rattle.mcs_sat.specs.States.{IsDecided, IsLastLevel, IsLearntBack, IsState, SameClauses, reach_of}
 use Rattle.mcs_sat.specs.Trails.{AreAssigned, AreCovered, ArePlaced, Grows, IsFalse, IsFalseAt, IsFalseBelow, IsOn, IsOnBelow, IsOpen, IsSatisfied, StandsNowhere, literal_at, reason_at}
 use Rattle.mcs_sat.proofs.TrailLemmas.{entry-back, not_both_on, on-back, on_below, placed-back, same_place}
@@ -113,3 +113,25 @@ less-decided f old between new l is decided (more, e, all) =
     let first : work_left n between.trail.entries.items < work_left n es = subst (λ (xs : List Entry). work_left n xs < work_left n es) (sym decided.entries) (work_left-push n es _ (omega arith)) in
     let rest : work_left n new.trail.entries.items ≤ work_left n between.trail.entries.items = subst (λ (xs : List Entry). work_left n xs ≤ work_left n between.trail.entries.items) (sym e) (work_left-more n between.trail.entries.items more (omega (arith, ap length e))) in
     omega arith
+
+-- ---- clauses with their chains
+pub zipped-next : (cs : List (List ℤ)) (chains : List (List ℕ)) (i : ℕ) (c : List ℤ) (ns : List ℕ) → slice_get cs i ≡ Some c → slice_get chains i ≡ Some ns → zipped (drop i cs) (drop i chains) ≡ record { clause = c; chain = ns } ∷ zipped (drop (i + 1) cs) (drop (i + 1) chains)
+zipped-next [] chains i c ns at at' = cc
+zipped-next (x ∷ cs) [] i c ns at at' = cc
+zipped-next (x ∷ cs) (y ∷ chains) zero c ns at at' = cc
+zipped-next (x ∷ cs) (y ∷ chains) (suc i) c ns at at' =
+    let e : suc i + 1 ≡ suc (i + 1) = omega arith in
+    zipped-next cs chains i c ns at at' ∙ ap (λ (n : ℕ). (let s : Inference = record { clause = c; chain = ns } in s) ∷ zipped (drop n (x ∷ cs)) (drop n (y ∷ chains))) (sym e)
+
+-- the clauses of the steps and their chains are the steps
+pub zipped-steps : (cs : List (List ℤ)) (none : List (List ℕ)) (steps : List Inference) → length none ≡ length cs
+    → zipped (drop (length cs) (cs ++ map (λ (i : Inference). i.clause) steps)) (drop (length cs) (none ++ map (λ (i : Inference). i.chain) steps)) ≡ steps
+zipped-steps cs none steps size =
+    ap (λ (xs : List (List ℤ)). zipped xs (drop (length cs) (none ++ map (λ (i : Inference). i.chain) steps))) (drop-append_seam cs (map (λ (i : Inference). i.clause) steps))
+    ∙ ap (λ (n : ℕ). zipped (map (λ (i : Inference). i.clause) steps) (drop n (none ++ map (λ (i : Inference). i.chain) steps))) (sym size)
+    ∙ ap (zipped (map (λ (i : Inference). i.clause) steps)) (drop-append_seam none (map (λ (i : Inference). i.chain) steps))
+    ∙ both steps
+  where
+    both : (steps : List Inference) → zipped (map (λ (i : Inference). i.clause) steps) (map (λ (i : Inference). i.chain) steps) ≡ steps
+    both [] = refl
+    both (s ∷ steps) = ap (λ (rest : List Inference). s ∷ rest) (both steps)

@@ -8,14 +8,14 @@ use Rattle.mcs_sat.specs.declared.search.Turn.TheVariants as turn
 use Rattle.mcs_sat.specs.declared.state.Reach.{Reach}
 use Rattle.mcs_sat.specs.declared.state.State.{State}
 use Rattle.mcs_sat.specs.declared.trail.Entry.{Entry}
-use Rattle.mcs_sat.specs.States.{IsState}
+use Rattle.mcs_sat.specs.States.{IsState, no_chains}
 use Rattle.mcs_sat.specs.Trails.{IsFalseAt, IsOpen, IsSatisfied}
 
 -- the clauses of the list, which have no chain, and then the steps that were learnt
 pub record HasLearnt (f : ClauseList) (s : State) : Type 0 where
   pub steps : List Inference
   pub clauses : s.clauses ≡ f.clauses ++ map (λ (i : Inference). i.clause) steps
-  pub chains : s.chains ≡ map (λ (c : List ℤ). []) f.clauses ++ map (λ (i : Inference). i.chain) steps
+  pub chains : s.chains ≡ no_chains f.clauses ++ map (λ (i : Inference). i.chain) steps
   pub right : AreRightSteps f.clauses steps
 
 -- where a level began each clause had a true literal, or two that were free
@@ -50,3 +50,9 @@ IsTurned f old new (turn.Refuted i) = IsFalseAt new.clauses new.trail.entries.it
 abbrev pub IsEnd : State → Option ℕ → Type 0
 IsEnd s None = AllByRecursion (IsSatisfied s.trail.entries.items) s.clauses
 IsEnd s (Some i) = IsFalseAt s.clauses s.trail.entries.items i × (s.levels.items ≡ [])
+
+-- the clauses with their chains
+abbrev pub zipped : List (List ℤ) → List (List ℕ) → List Inference
+zipped [] chains = []
+zipped (c ∷ cs) [] = []
+zipped (c ∷ cs) (ns ∷ chains) = record { clause = c; chain = ns } ∷ zipped cs chains

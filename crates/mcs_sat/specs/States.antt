@@ -1,5 +1,5 @@
 -- What a solver keeps.
-use Rattle.std.specs.Prelude.{◌≡◌, ℕ, ◌+◌, ◌-◌, ◌*◌, ◌^◌, ◌<◌, ◌≤◌, ◌⊎◌, List, [], ◌∷◌, ◌++◌, ℤ, neg_ℤ, length, take, Some, None, slice_get}
+use Rattle.std.specs.Prelude.{◌≡◌, ℕ, ◌+◌, ◌-◌, ◌*◌, ◌^◌, ◌<◌, ◌≤◌, ◌⊎◌, List, [], ◌∷◌, ◌++◌, ℤ, neg_ℤ, length, map, take, Some, None, slice_get}
 use Rattle.mcs_trace.specs.Traces.{IsChainResolvent}
 use Rattle.mcs_sat.specs.declared.latest.Latest.{Latest}
 use Rattle.mcs_sat.specs.declared.state.Reach.{Reach}
@@ -15,6 +15,10 @@ use Rattle.mcs_sat.specs.Watching.{AreWatched, IsReached}
 pub record AreStarts (entries : List Entry) (levels : List Reach) : Type 0 where
   pub count : length levels ≡ decisions entries
   pub start : (k : ℕ) (r : Reach) → slice_get levels k ≡ Some r → (r.entries < length entries) × (reason_at entries r.entries ≡ 0) × (decisions (take r.entries entries) ≡ k)
+
+-- what stands for the chains of clauses that were not learnt
+abbrev pub no_chains : List (List ℤ) → List (List ℕ)
+no_chains known = map (λ (c : List ℤ). []) known
 
 -- each clause has the chain that it is resolved from by earlier ones; one that was not learnt has none
 pub record AreChains (known : List (List ℤ)) (chains : List (List ℕ)) : Type 0 where

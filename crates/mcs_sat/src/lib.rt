@@ -15,4 +15,5 @@ mod trail;
 mod watches;
 
 pub use outcome::Outcome;
+pub use search::solve;
 pub use solver::Solver;

@@ -7,7 +7,7 @@ ghost use Rattle.std.specs.Option.{IfNone, is_some};
 ghost use Rattle.mcs_base.specs.Listings.{IsAmong};
 ghost use Rattle.mcs_trace.specs.Clauses.{IsClause, IsLiteral};
 ghost use Rattle.mcs_sat.specs.Trails.{AreCovered, Grows, IsFalseAt, IsOpen};
-ghost use Rattle.mcs_sat.specs.States.{IsState, SameClauses, reach_of};
+ghost use Rattle.mcs_sat.specs.States.{IsState, SameClauses, no_chains, reach_of};
 ghost use Rattle.mcs_sat.specs.Watching.{IsReached};
 ghost use Rattle.mcs_sat.specs.Solvers.{GoesOn, HasNoValue, IsAsserting, IsFalseNumber, IsLearned, IsOpenUnder, IsSolver, IsUnitRun, LeadsToConflict, last_level, trues, trues_below};
 
@@ -40,19 +40,40 @@ impl Model for Solver {
 }
 
 /// Adds the clauses of the list, where there is no level above 0.
-pub(crate) fn add_all(state: &mut State, clauses: &[Clause]) -> Result<(), Memory>
+fn add_all(state: &mut State, clauses: &[Clause]) -> Result<(), Memory>
     requires state { IsState state.old }
     requires clauses { (i : ℕ) (c : List ℤ) → slice_get clauses.now i ≡ Some c → IsClause c × AreCovered state.old.trail.positions.items c }
     requires base { state.old.levels.items ≡ [] }
     ensures kept { IsState state.new }
     ensures positions { length state.new.trail.positions.items ≡ length state.old.trail.positions.items }
     ensures entries { state.new.trail.entries.items ≡ state.old.trail.entries.items }
+    ensures levels { state.new.levels.items ≡ [] }
     ensures clauses { OnOk result (state.new.clauses ≡ state.old.clauses ++ clauses.now) }
+    ensures chains { OnOk result (state.new.chains ≡ state.old.chains ++ no_chains clauses.now) }
 {
     for clause in clauses {
         add(state, clause.literals())?;
     }
     Ok(())
+}
+
+/// The state of a solver of the clauses of the list, in which nothing is true yet.
+pub(crate) fn state_of(alloc: Global, cnf: &Cnf) -> Result<State, Memory>
+    ensures kept { IfOk result IsState }
+    ensures sized { IfOk result (λ s. length s.trail.positions.items ≡ cnf.now.vars + 1) }
+    ensures clauses { IfOk result (λ s. s.clauses ≡ cnf.now.clauses) }
+    ensures chains { IfOk result (λ s. s.chains ≡ no_chains cnf.now.clauses) }
+    ensures entries { IfOk result (λ s. s.trail.entries.items ≡ []) }
+    ensures levels { IfOk result (λ s. s.levels.items ≡ []) }
+{
+    let mut state = State::new(alloc, cnf.vars())?;
+    match add_all(&mut state, cnf.clauses()) {
+        Ok(()) => Ok(state),
+        Err(error) => {
+            drop(state);
+            Err(error)
+        }
+    }
 }
 
 /// Settles the short clauses and visits what became false, as far as that leads; the index of a clause that is
@@ -122,14 +143,9 @@ impl Solver {
     pub fn new(alloc: Global, cnf: &Cnf) -> Result<Solver, Memory>
         ensures { IfOk result (λ s. s ≡ record { vars = cnf.now.vars; clauses = cnf.now.clauses; levels = [] ∷ [] }) }
     {
-        let mut state = State::new(alloc, cnf.vars())?;
-        match add_all(&mut state, cnf.clauses()) {
-            Ok(()) => Ok(Solver { state }),
-            Err(error) => {
-                drop(state);
-                Err(error)
-            }
-        }
+        Ok(Solver {
+            state: state_of(alloc, cnf)?,
+        })
     }
 
     /// The value of the literal, whose variable is one of those of the clauses; `None` where it has none.

@@ -45,6 +45,8 @@ impl State {
         ensures kept { IfOk result IsState }
         ensures sized { IfOk result (λ s. length s.trail.positions.items ≡ vars + 1) }
         ensures clauses { IfOk result (λ s. s.clauses ≡ []) }
+        ensures chains { IfOk result (λ s. s.chains ≡ []) }
+        ensures levels { IfOk result (λ s. s.levels.items ≡ []) }
         ensures entries { IfOk result (λ s. s.trail.entries.items ≡ []) }
     {
         let trail = Trail::new(alloc, vars)?;

@@ -1,7 +1,7 @@
 use Rattle.std.proofs.Common.{◌≡◌, ℕ, ◌<◌, ◌≤◌, ◌+◌, List, ℤ, unsigned_abs, length, Some, slice_get, ◌∙◌, ap, subst, arith}
 use Rattle.mcs_base.proofs.Each.{all_get, all_weaker}
 use Rattle.mcs_trace.specs.Clauses.{IsClause, IsWithin}
-use Rattle.mcs_sat.proofs.solver.Solver.new.Goals as goal
+use Rattle.mcs_sat.proofs.solver.state_of.Goals as goal
 
 pub add_all-requires-clause-clauses : goal.add_all-requires-clause-clauses
 add_all-requires-clause-clauses c = λ i clause at.
