@@ -12,4 +12,6 @@ mod formulas;
 #[cfg(test)]
 mod searches;
 #[cfg(test)]
+mod solver;
+#[cfg(test)]
 mod traces;
