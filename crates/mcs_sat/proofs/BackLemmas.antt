@@ -1,27 +1,27 @@
 -- What stays right of a search that learns and goes back, and that less is left to do then.
-use Rattle.std.proofs.Common.{◌≡◌, ◌≢◌, ℕ, ◌+◌, ◌-◌, ◌<◌, ◌≤◌, suc, List, [], ◌∷◌, ◌++◌, ◌⊎◌, inl, inr, refl, sym, ap, ◌∙◌, subst, arith, ℤ, pos, neg_ℤ, unsigned_abs, length, length-append, map, take, get_or, Option, Some, None, slice_get}
+use Rattle.std.proofs.Common.{◌≡◌, ◌≢◌, ℕ, ◌+◌, ◌-◌, ◌<◌, ◌≤◌, suc, List, [], ◌∷◌, ◌++◌, ◌⊎◌, inl, inr, refl, sym, ap, ◌∙◌, subst, arith, ℤ, pos, neg_ℤ, unsigned_abs, length, length-append, map, take, drop, get_or, Option, Some, None, slice_get}
 use Rattle.std.proofs.Math.IntN.{neg_ℤ-neg_ℤ}
 use Rattle.std.specs.List.{AllByRecursion}
 use Rattle.std.proofs.lemmas.Bool.{cases_lt}
-use Rattle.std.proofs.lemmas.List.{append-nil, append_assoc, length-take-le, map_push, take-take}
+use Rattle.std.proofs.lemmas.List.{append-nil, append_assoc, length-map, length-take-le, length_push, map_push, take-take}
 use Rattle.std.proofs.lemmas.Option.{same_Some}
 use Rattle.mcs_base.specs.Listings.{IsAmong}
 use Rattle.mcs_base.proofs.Among.{among_push}
 use Rattle.mcs_base.proofs.Each.{all_among, all_get, all_push}
-use Rattle.mcs_base.proofs.Lists.{slice_get_below, slice_get_push_at, slice_get_take}
+use Rattle.mcs_base.proofs.Lists.{slice_get_below, slice_get_push_at, slice_get_seam, slice_get_take}
 use Rattle.mcs_base.proofs.Numbers.{unsigned_abs-neg_ℤ}
 use Rattle.mcs_trace.specs.Clauses.{ClauseList}
-use Rattle.mcs_trace.specs.Traces.{AreRightSteps, Inference, IsChainResolvent}
+use Rattle.mcs_trace.specs.Traces.{AreRightSteps, Inference, IsAcceptedTrace, IsChainResolvent}
 use Rattle.mcs_sat.specs.declared.latest.Latest.{Latest}
 use Rattle.mcs_sat.specs.declared.state.Reach.{Reach}
 use Rattle.mcs_sat.specs.declared.state.State.{State}
 use Rattle.mcs_sat.specs.declared.trail.Entry.{Entry}
 use Rattle.mcs_sat.specs.Learning.{IsLatest, IsSingle}
-use Rattle.mcs_sat.specs.Searches.{HasLearnt, IsRun, IsSearch, work_left}
+use Rattle.mcs_sat.specs.Searches.{HasLearnt, IsRun, IsSearch, work_left, zipped}
 use Rattle.mcs_sat.specs.States.{IsLastLevel, IsLearntBack, IsState, no_chains}
 use Rattle.mcs_sat.specs.Trails.{ArePlaced, Grows, IsFalse, IsOn, IsOnBelow, IsOpen, StandsNowhere, level_at, literal_at}
 use Rattle.mcs_sat.proofs.LevelLemmas.{before-start, below-start}
-use Rattle.mcs_sat.proofs.SearchLemmas.{open-not_false, trail-bound}
+use Rattle.mcs_sat.proofs.SearchLemmas.{open-not_false, trail-bound, zipped-steps}
 use Rattle.mcs_sat.proofs.StateLemmas.{starts-order}
 use Rattle.mcs_sat.proofs.TrailLemmas.{entry-back, not_both_on, on-back, placed-back, same_place}
 use Rattle.mcs_sat.proofs.TurnLemmas.{single-latest}
@@ -145,12 +145,12 @@ search-learnt f old new c ns is kept positions right b g = record {
   state = kept;
   learnt = learnt-more f old new c ns is.learnt b.clauses b.chains right;
   before = λ k r at.
-    let es : List Entry = old.trail.entries.items in
-    let (less, at') = slice_get_take b.level old.levels.items k r (subst (λ (ls : List Reach). slice_get ls k ≡ Some r) b.back.levels at) in
-    let order = starts-order es old.levels.items k b.level r g.reach is.state.starts less at' g.at in
-    let front : take r.entries new.trail.entries.items ≡ take r.entries es = ap (take r.entries) (b.back.entries g.reach g.at) ∙ take-take r.entries g.reach.entries es (omega arith) in
-    subst (λ (cs : List (List ℤ)). AllByRecursion (IsOpen (take r.entries new.trail.entries.items)) cs) (sym b.clauses)
-    (subst (λ (xs : List Entry). AllByRecursion (IsOpen xs) (old.clauses ++ c ∷ [])) (sym front)
+      let es : List Entry = old.trail.entries.items in
+      let (less, at') = slice_get_take b.level old.levels.items k r (subst (λ (ls : List Reach). slice_get ls k ≡ Some r) b.back.levels at) in
+      let order = starts-order es old.levels.items k b.level r g.reach is.state.starts less at' g.at in
+      let front : take r.entries new.trail.entries.items ≡ take r.entries es = ap (take r.entries) (b.back.entries g.reach g.at) ∙ take-take r.entries g.reach.entries es (omega arith) in
+      subst (λ (cs : List (List ℤ)). AllByRecursion (IsOpen (take r.entries new.trail.entries.items)) cs) (sym b.clauses)
+      (subst (λ (xs : List Entry). AllByRecursion (IsOpen xs) (old.clauses ++ c ∷ [])) (sym front)
       (all_push (IsOpen (take r.entries es)) old.clauses c (is.before k r at') (open-below old new c ns k r is.state b g less at')));
 }
 
@@ -174,7 +174,7 @@ run-some f old between new c ns found is b g clauses entries run =
 
     at : (o : Option ℕ) → IsRunOf new.clauses (take g.reach.entries old.trail.entries.items) o → new.clauses ≡ old.clauses ++ c ∷ [] → ⊥
     at None all known = forcing-not_open old.trail.entries.items old.trail.positions.items c b.latest g.reach.entries is.state.trail.placed b.is_latest g.early g.late
-      (all_among (IsOpen (take g.reach.entries old.trail.entries.items)) (old.clauses ++ c ∷ []) c (subst (λ (cs : List (List ℤ)). AllByRecursion (IsOpen (take g.reach.entries old.trail.entries.items)) cs) known all) ((among_push c old.clauses c).1 (inr refl)))
+        (all_among (IsOpen (take g.reach.entries old.trail.entries.items)) (old.clauses ++ c ∷ []) c (subst (λ (cs : List (List ℤ)). AllByRecursion (IsOpen (take g.reach.entries old.trail.entries.items)) cs) known all) ((among_push c old.clauses c).1 (inr refl)))
     at (Some i) (d, here, off) known = elim (slice_get_push_at old.clauses c i d (subst (λ (cs : List (List ℤ)). slice_get cs i ≡ Some d) known here)) [
       | inl before ↦ open-not_false (take g.reach.entries old.trail.entries.items) old.trail.positions.items d (placed-back old.trail.entries.items old.trail.positions.items g.reach.entries is.state.trail.placed) (all_get (IsOpen (take g.reach.entries old.trail.entries.items)) old.clauses i d (is.before b.level g.reach g.at) before) off
       | inr (last, same) ↦ forcing-not_false old.trail.entries.items old.trail.positions.items c b.latest g.reach.entries is.state.trail.placed b.is_latest g.late (subst (IsFalse (take g.reach.entries old.trail.entries.items)) same off)
@@ -202,3 +202,17 @@ pub single-last : (s : State) (r : Reach) (c : List ℤ) → IsState s → IsLas
 single-last s r c is last single q at =
     let (below, none, count) = is.starts.start (length s.levels.items - 1) r last in
     subst (λ (x : Reach). IsSingle s.trail.entries.items x.entries c) (same_Some r q (sym last ∙ at)) (single (omega arith))
+
+-- ---- the trace
+-- the steps that were learnt, and one more whose clause is empty
+pub trace-accepted : (f : ClauseList) (s : State) (last : Inference) (steps : List Inference) → HasLearnt f s → IsChainResolvent s.clauses last.chain last.clause → last.clause ≡ [] → steps ≡ zipped (drop (length f.clauses) s.clauses) (drop (length f.clauses) s.chains) ++ last ∷ [] → IsAcceptedTrace f.clauses steps
+trace-accepted f s last steps h right empty is =
+    let e : zipped (drop (length f.clauses) s.clauses) (drop (length f.clauses) s.chains) ≡ h.steps =
+    ap (λ (cs : List (List ℤ)). zipped (drop (length f.clauses) cs) (drop (length f.clauses) s.chains)) h.clauses
+    ∙ ap (λ (ns : List (List ℕ)). zipped (drop (length f.clauses) (f.clauses ++ map (λ (i : Inference). i.clause) h.steps)) (drop (length f.clauses) ns)) h.chains
+    ∙ zipped-steps f.clauses (no_chains f.clauses) h.steps (length-map f.clauses (λ (c : List ℤ). [])) in
+    let whole : steps ≡ h.steps ++ last ∷ [] = is ∙ ap (λ (xs : List Inference). xs ++ last ∷ []) e in
+    subst (IsAcceptedTrace f.clauses) (sym whole) (
+      right-push f.clauses h.steps last h.right (subst (λ (ks : List (List ℤ)). IsChainResolvent ks last.chain last.clause) h.clauses right),
+      (last, (let size : length (h.steps ++ last ∷ []) - 1 ≡ length h.steps = omega (arith, length_push h.steps last) in ap (slice_get (h.steps ++ last ∷ [])) size ∙ slice_get_seam h.steps last [] (length h.steps) refl), empty),
+    )

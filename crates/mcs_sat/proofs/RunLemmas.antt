@@ -55,7 +55,7 @@ state-settled s t n is trail positions grows settled bound =
       short_bound = bound;
       bounds = is.bounds;
       reached = λ k r at. let (below, none, count) = is.starts.start k r at in let (v, m) = is.bounds k r at in
-        reached-grows level s.clauses s.watches es t.entries.items r grows (omega arith) (omega arith) (is.reached k r at);
+          reached-grows level s.clauses s.watches es t.entries.items r grows (omega arith) (omega arith) (is.reached k r at);
       now = record {
         visited = before.visited;
         settled = λ j i c less at known none. elim (cases_lt j s.settled) [
@@ -88,7 +88,7 @@ state-visited s t w v is trail positions grows lists watched short bound reached
       short_bound = (let b = is.short_bound in omega (arith, ap length short));
       bounds = λ k r at. let (b, m) = is.bounds k r at in (b, omega (arith, ap length short));
       reached = λ k r at. let (below, none, count) = is.starts.start k r at in let (b, m) = is.bounds k r at in
-        reached-grows level s.clauses w es t.entries.items r grows (omega arith) (omega arith) (reached r (omega arith) (is.reached k r at));
+          reached-grows level s.clauses w es t.entries.items r grows (omega arith) (omega arith) (reached r (omega arith) (is.reached k r at));
       now = now s.settled is.now;
     }
 
@@ -134,18 +134,18 @@ pair-open es ps c p placed pair watched = elim (value-or-free es ps p.first plac
 -- each clause has a true literal, or two that are free
 pub all-open : (s : State) → IsState s → s.visited ≡ length s.trail.entries.items → length s.watches.short.items ≤ s.settled → AllByRecursion (IsOpen s.trail.entries.items) s.clauses
 all-open s is all settled = all_from_among (IsOpen s.trail.entries.items) s.clauses (λ c among.
-  let (i, at) = get_among c s.clauses among in
-  elim (cases_lt (length c) 2) [
-    | inl short ↦
-        let (j, here) = get_among i s.watches.short.items (is.watched.short i c at (λ long. omega arith)) in
-        let less = slice_get_within s.watches.short.items j i here in
-        inl (is.now.settled j i c (omega arith) here at (λ long. omega arith))
-    | inr long ↦
-        let (p, pair) = slice_get_below s.watches.pairs.items i (let less = slice_get_within s.clauses i c at in omega (arith, is.watched.sized)) in
-        let are : ArePair c p = (is.watched.paired i c p at pair).0 long in
-        pair-open s.trail.entries.items s.trail.positions.items c p is.trail.placed are (λ l of off.
+    let (i, at) = get_among c s.clauses among in
+    elim (cases_lt (length c) 2) [
+      | inl short ↦
+          let (j, here) = get_among i s.watches.short.items (is.watched.short i c at (λ long. omega arith)) in
+          let less = slice_get_within s.watches.short.items j i here in
+          inl (is.now.settled j i c (omega arith) here at (λ long. omega arith))
+      | inr long ↦
+          let (p, pair) = slice_get_below s.watches.pairs.items i (let less = slice_get_within s.clauses i c at in omega (arith, is.watched.sized)) in
+          let are : ArePair c p = (is.watched.paired i c p at pair).0 long in
+          pair-open s.trail.entries.items s.trail.positions.items c p is.trail.placed are (λ l of off.
           is.now.visited i c p l at pair (literal c p l i at are of) of (subst (λ (n : ℕ). IsOnBelow s.trail.entries.items n (neg_ℤ l)) (sym all) off))
-  ])
+    ])
   where
     literal : (c : List ℤ) (p : Pair) (l : ℤ) (i : ℕ) → slice_get s.clauses i ≡ Some c → ArePair c p → IsOf l p → IsLiteral l
     literal c p l i at are of =
@@ -193,6 +193,6 @@ state-restored old new t is is' clauses positions levels short grows before entr
       short_bound = (let b = is.short_bound in omega (arith, ap length short));
       bounds = λ k r here. let (b, n) = is.bounds k r (at k r here) in (b, omega (arith, ap length short));
       reached = λ k r here. let (below, none, count) = is.starts.start k r (at k r here) in let (b, n) = is.bounds k r (at k r here) in
-        subst (λ (xs : List Entry). IsReached new.clauses new.watches xs r) (sym entries) (reached-back new.clauses new.watches new.trail.entries.items (length es) r (omega arith) (omega arith) (is'.reached k r here));
+          subst (λ (xs : List Entry). IsReached new.clauses new.watches xs r) (sym entries) (reached-back new.clauses new.watches new.trail.entries.items (length es) r (omega arith) (omega arith) (is'.reached k r here));
       now = subst (λ (xs : List Entry). IsReached new.clauses new.watches xs (record { entries = length xs; visited = old.visited; settled = old.settled })) (sym front) before;
     }

@@ -44,7 +44,7 @@ open-satisfied es ps c all clause covered (inr two) =
 
 pub all-satisfied : (s : State) → IsState s → AreAssigned s.trail.entries.items 1 (length s.trail.positions.items) → AllByRecursion (IsOpen s.trail.entries.items) s.clauses → AllByRecursion (IsSatisfied s.trail.entries.items) s.clauses
 all-satisfied s is assigned opened = all_from_among (IsSatisfied s.trail.entries.items) s.clauses (λ c among.
-  open-satisfied s.trail.entries.items s.trail.positions.items c assigned (all_among IsClause s.clauses c is.trail.clauses among) (all_among (AreCovered s.trail.positions.items) s.clauses c is.trail.covered among) (all_among (IsOpen s.trail.entries.items) s.clauses c opened among))
+    open-satisfied s.trail.entries.items s.trail.positions.items c assigned (all_among IsClause s.clauses c is.trail.clauses among) (all_among (AreCovered s.trail.positions.items) s.clauses c is.trail.covered among) (all_among (IsOpen s.trail.entries.items) s.clauses c opened among))
 
 -- ---- runs
 pub run-is : (s : State) (found : Option ℕ) → IfNone found (AllByRecursion (IsOpen s.trail.entries.items) s.clauses) → IfSome found (IsFalseAt s.clauses s.trail.entries.items) → IsRun s found
@@ -63,10 +63,10 @@ search-run f old new is kept same levels (more, e, all) = record {
   state = kept;
   learnt = learnt-same f old new same is.learnt;
   before = λ k r at.
-    let at' : slice_get old.levels.items k ≡ Some r = subst (λ (ls : List Reach). slice_get ls k ≡ Some r) levels at in
-    let (below, none, count) = is.state.starts.start k r at' in
-    subst (λ (cs : List (List ℤ)). AllByRecursion (IsOpen (take r.entries new.trail.entries.items)) cs) (sym same.clauses)
-    (subst (λ (xs : List Entry). AllByRecursion (IsOpen xs) old.clauses) (sym (front-same old.trail.entries.items new.trail.entries.items r.entries more e (omega arith))) (is.before k r at'));
+      let at' : slice_get old.levels.items k ≡ Some r = subst (λ (ls : List Reach). slice_get ls k ≡ Some r) levels at in
+      let (below, none, count) = is.state.starts.start k r at' in
+      subst (λ (cs : List (List ℤ)). AllByRecursion (IsOpen (take r.entries new.trail.entries.items)) cs) (sym same.clauses)
+      (subst (λ (xs : List Entry). AllByRecursion (IsOpen xs) old.clauses) (sym (front-same old.trail.entries.items new.trail.entries.items r.entries more e (omega arith))) (is.before k r at'));
 }
 
 pub search-decided : (f : ClauseList) (old new : State) (l : ℤ) → IsSearch f old → AllByRecursion (IsOpen old.trail.entries.items) old.clauses → IsState new → SameClauses old new → IsDecided old new l → IsSearch f new
@@ -75,14 +75,14 @@ search-decided f old new l is opened kept same decided = record {
   state = kept;
   learnt = learnt-same f old new same is.learnt;
   before = λ k r at. subst (λ (cs : List (List ℤ)). AllByRecursion (IsOpen (take r.entries new.trail.entries.items)) cs) (sym same.clauses)
-    (elim (slice_get_push_at old.levels.items (reach_of old) k r (subst (λ (ls : List Reach). slice_get ls k ≡ Some r) decided.levels at)) [
-      | inl at' ↦
-          let (below, none, count) = is.state.starts.start k r at' in
-          subst (λ (xs : List Entry). AllByRecursion (IsOpen xs) old.clauses) (sym (front-same old.trail.entries.items new.trail.entries.items r.entries _ decided.entries (omega arith))) (is.before k r at')
-      | inr (last, e) ↦
-          let whole : take r.entries new.trail.entries.items ≡ old.trail.entries.items = ap (λ (x : Reach). take x.entries new.trail.entries.items) e ∙ ap (take (length old.trail.entries.items)) decided.entries ∙ take-append_seam old.trail.entries.items _ in
-          subst (λ (xs : List Entry). AllByRecursion (IsOpen xs) old.clauses) (sym whole) opened
-    ]);
+      (elim (slice_get_push_at old.levels.items (reach_of old) k r (subst (λ (ls : List Reach). slice_get ls k ≡ Some r) decided.levels at)) [
+        | inl at' ↦
+            let (below, none, count) = is.state.starts.start k r at' in
+            subst (λ (xs : List Entry). AllByRecursion (IsOpen xs) old.clauses) (sym (front-same old.trail.entries.items new.trail.entries.items r.entries _ decided.entries (omega arith))) (is.before k r at')
+        | inr (last, e) ↦
+            let whole : take r.entries new.trail.entries.items ≡ old.trail.entries.items = ap (λ (x : Reach). take x.entries new.trail.entries.items) e ∙ ap (take (length old.trail.entries.items)) decided.entries ∙ take-append_seam old.trail.entries.items _ in
+            subst (λ (xs : List Entry). AllByRecursion (IsOpen xs) old.clauses) (sym whole) opened
+      ]);
 }
 
 -- ---- less is left

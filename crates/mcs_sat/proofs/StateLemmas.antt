@@ -55,7 +55,7 @@ reached-same known w w' es r pairs short is = record {
 pub state-same : (old new : State) → IsState old → new.clauses ≡ old.clauses → new.chains ≡ old.chains → new.trail.entries.items ≡ old.trail.entries.items → length new.trail.positions.items ≡ length old.trail.positions.items → ArePlaced new.trail.entries.items new.trail.positions.items → AreKept old.watches new.watches → new.watches.pairs.items ≡ old.watches.pairs.items → new.watches.short.items ≡ old.watches.short.items → new.levels.items ≡ old.levels.items → new.visited ≡ old.visited → new.settled ≡ old.settled → IsState new
 state-same old new is clauses chains entries positions placed kept pairs short levels visited settled =
     let reached : (r : Reach) → IsReached old.clauses old.watches old.trail.entries.items r → IsReached new.clauses new.watches new.trail.entries.items r = λ r h.
-      subst (λ (known : List (List ℤ)). IsReached known new.watches new.trail.entries.items r) (sym clauses) (subst (λ (es : List Entry). IsReached old.clauses new.watches es r) (sym entries) (reached-same old.clauses old.watches new.watches old.trail.entries.items r pairs short h)) in
+    subst (λ (known : List (List ℤ)). IsReached known new.watches new.trail.entries.items r) (sym clauses) (subst (λ (es : List Entry). IsReached old.clauses new.watches es r) (sym entries) (reached-same old.clauses old.watches new.watches old.trail.entries.items r pairs short h)) in
     record {
       some = subst (λ (n : ℕ). 0 < n) (sym positions) is.some;
       fits = subst (λ (n : ℕ). n ≤ 2 ^ 63) (sym positions) is.fits;
@@ -92,11 +92,11 @@ take-below es n m l order (p, less, e) = (p, less, ap (λ (x : Entry). x.literal
 pub reached-more : (known : List (List ℤ)) (w : Watches) (es more : List Entry) (r : Reach) → r.entries ≤ length es → r.visited ≤ length es → IsReached known w es r → IsReached known w (es ++ more) r
 reached-more known w es more r entries visited is = record {
   visited = λ i c p l known' at literal of off.
-    let (k, among, on) = is.visited i c p l known' at literal of (below-less es more r.visited (neg_ℤ l) visited off) in
-    (k, among, below-more es more r.entries r.entries k (omega arith) entries on);
+      let (k, among, on) = is.visited i c p l known' at literal of (below-less es more r.visited (neg_ℤ l) visited off) in
+      (k, among, below-more es more r.entries r.entries k (omega arith) entries on);
   settled = λ j i c less at known' none.
-    let (k, among, on) = is.settled j i c less at known' none in
-    (k, among, below-more es more r.entries r.entries k (omega arith) entries on);
+      let (k, among, on) = is.settled j i c less at known' none in
+      (k, among, below-more es more r.entries r.entries k (omega arith) entries on);
 }
 
 -- as far as before, where there are more literals
@@ -105,21 +105,21 @@ reached-on known w es more v s n visited size is =
     let order : length es ≤ n = omega (arith, length-append es more, size) in
     record {
       visited = λ i c p l known' at literal of off.
-        let (k, among, on) = is.visited i c p l known' at literal of (below-less es more v (neg_ℤ l) visited off) in
-        (k, among, below-more es more (length es) n k order (omega arith) on);
+          let (k, among, on) = is.visited i c p l known' at literal of (below-less es more v (neg_ℤ l) visited off) in
+          (k, among, below-more es more (length es) n k order (omega arith) on);
       settled = λ j i c less at known' none.
-        let (k, among, on) = is.settled j i c less at known' none in
-        (k, among, below-more es more (length es) n k order (omega arith) on);
+          let (k, among, on) = is.settled j i c less at known' none in
+          (k, among, below-more es more (length es) n k order (omega arith) on);
     }
 
 pub reached-back : (known : List (List ℤ)) (w : Watches) (es : List Entry) (n : ℕ) (r : Reach) → r.entries ≤ n → r.visited ≤ n → IsReached known w es r → IsReached known w (take n es) r
 reached-back known w es n r entries visited is = record {
   visited = λ i c p l known' at literal of off.
-    let (k, among, on) = is.visited i c p l known' at literal of (take-below es r.visited n (neg_ℤ l) visited off) in
-    (k, among, below-take es r.entries n k entries on);
+      let (k, among, on) = is.visited i c p l known' at literal of (take-below es r.visited n (neg_ℤ l) visited off) in
+      (k, among, below-take es r.entries n k entries on);
   settled = λ j i c less at known' none.
-    let (k, among, on) = is.settled j i c less at known' none in
-    (k, among, below-take es r.entries n k entries on);
+      let (k, among, on) = is.settled j i c less at known' none in
+      (k, among, below-take es r.entries n k entries on);
 }
 
 -- ---- a level is opened
@@ -133,7 +133,7 @@ state-decided s t ls l is entries placed positions levels =
     let e : Entry = decided_entry s l in
     let longer : length t.entries.items ≡ length es + 1 = ap length entries ∙ length_push es e in
     let reached : (r : Reach) → r.entries ≤ length es → r.visited ≤ length es → IsReached s.clauses s.watches es r → IsReached s.clauses s.watches t.entries.items r = λ r b v h.
-      subst (λ (xs : List Entry). IsReached s.clauses s.watches xs r) (sym entries) (reached-more s.clauses s.watches es (e ∷ []) r b v h) in
+    subst (λ (xs : List Entry). IsReached s.clauses s.watches xs r) (sym entries) (reached-more s.clauses s.watches es (e ∷ []) r b v h) in
     record {
       some = subst (λ (n : ℕ). 0 < n) (sym positions) is.some;
       fits = subst (λ (n : ℕ). n ≤ 2 ^ 63) (sym positions) is.fits;
@@ -182,7 +182,7 @@ state-back s t ls k r is at entries positions levels =
     let (v, n) = is.bounds k r at in
     let size : length t.entries.items ≡ r.entries = ap length entries ∙ length-take-le r.entries es (omega arith) in
     let reached : (q : Reach) → q.entries ≤ r.entries → q.visited ≤ r.entries → IsReached s.clauses s.watches es q → IsReached s.clauses s.watches t.entries.items q = λ q b w h.
-      subst (λ (xs : List Entry). IsReached s.clauses s.watches xs q) (sym entries) (reached-back s.clauses s.watches es r.entries q b w h) in
+    subst (λ (xs : List Entry). IsReached s.clauses s.watches xs q) (sym entries) (reached-back s.clauses s.watches es r.entries q b w h) in
     record {
       some = subst (λ (ps : List ℕ). 0 < length ps) (sym positions) is.some;
       fits = subst (λ (ps : List ℕ). length ps ≤ 2 ^ 63) (sym positions) is.fits;
@@ -202,10 +202,10 @@ state-back s t ls k r is at entries positions levels =
       short_bound = n;
       bounds = λ j q at'. is.bounds j q (slice_get_take k s.levels.items j q (subst (λ (xs : List Reach). slice_get xs j ≡ Some q) levels at')).1;
       reached = λ j q at'.
-        let (less, at'') = slice_get_take k s.levels.items j q (subst (λ (xs : List Reach). slice_get xs j ≡ Some q) levels at') in
-        let order = starts-order es s.levels.items j k q r is.starts less at'' at in
-        let (w, m) = is.bounds j q at'' in
-        reached q (omega arith) (omega arith) (is.reached j q at'');
+          let (less, at'') = slice_get_take k s.levels.items j q (subst (λ (xs : List Reach). slice_get xs j ≡ Some q) levels at') in
+          let order = starts-order es s.levels.items j k q r is.starts less at'' at in
+          let (w, m) = is.bounds j q at'' in
+          reached q (omega arith) (omega arith) (is.reached j q at'');
       now = subst (λ (n : ℕ). IsReached s.clauses s.watches t.entries.items (record { entries = n; visited = r.visited; settled = r.settled })) (sym size) (reached r (omega arith) v (is.reached k r at));
     }
 
@@ -361,7 +361,7 @@ state-pushed s cs ms w c ns o v is clauses chains kept pushed fits clause covere
       short_bound = (let b = is.short_bound in omega arith);
       bounds = λ k r at. let (b, n) = is.bounds k r at in (b, omega arith);
       reached = λ k r at. let (b, n) = is.bounds k r at in
-        subst (λ (ks : List (List ℤ)). IsReached ks w es r) (sym clauses) (reached-pushed s.clauses c s.watches w o es r is.watched pushed is.shorts n (levels k r at) (is.reached k r at));
+          subst (λ (ks : List (List ℤ)). IsReached ks w es r) (sym clauses) (reached-pushed s.clauses c s.watches w o es r is.watched pushed is.shorts n (levels k r at) (is.reached k r at));
       now = subst (λ (ks : List (List ℤ)). IsReached ks w es (record { entries = length es; visited = v; settled = s.settled })) (sym clauses)
           (reached-pushed s.clauses c s.watches w o es (record { entries = length es; visited = v; settled = s.settled }) is.watched pushed is.shorts is.short_bound fresh (reached-fewer s.clauses s.watches es (length es) s.visited v s.settled low is.now));
     }

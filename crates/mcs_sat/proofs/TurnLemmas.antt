@@ -83,23 +83,23 @@ one-literal (x ∷ y ∷ c) k clause all long =
 pub turn-fits : (es : List Entry) (ps : List ℕ) (c : List ℤ) (m : Latest) (turn : Turn) → ArePlaced es ps → IsClause c → IsLatest es c m → IsTurn es m turn → FitsPair c turn.pair
 turn-fits es ps c m turn placed clause is (none, others) = elim (cases_lt 0 m.others) [
   | inl there ↦ subst (FitsPair c) (sym (others there).2) (record {
-      first = is.has;
-      second = is.last there;
-      differ = λ e. let same : m.place ≡ m.others - 1 = same_place es ps m.place (m.others - 1) placed is.here (let b = is.before in let h = is.here in omega arith) (ap unsigned_abs (turned es m.place (m.others - 1) e)) in let b = is.before in omega arith;
-    })
+    first = is.has;
+    second = is.last there;
+    differ = λ e. let same : m.place ≡ m.others - 1 = same_place es ps m.place (m.others - 1) placed is.here (let b = is.before in let h = is.here in omega arith) (ap unsigned_abs (turned es m.place (m.others - 1) e)) in let b = is.before in omega arith;
+  })
   | inr empty ↦ subst (FitsPair c) (sym (none (omega arith)).2) (one-literal c (neg_ℤ (literal_at es m.place)) clause (λ l among. elim (is.others l among) [
-      | inl e ↦ e
-      | inr (p, less, e) ↦ absurd (omega arith)
-    ]))
+    | inl e ↦ e
+    | inr (p, less, e) ↦ absurd (omega arith)
+  ]))
 ]
 
 -- neither of the two was false among the first n, where the latest place comes later and the other place is not among them
 pub turn-fresh : (es : List Entry) (ps : List ℕ) (m : Latest) (turn : Turn) (n k : ℕ) → ArePlaced es ps → m.place < length es → m.others ≤ m.place → IsTurn es m turn → n ≤ k → k ≤ m.place → (0 < m.others → n ≤ m.others - 1) → IsFresh (take k es) n turn.pair
 turn-fresh es ps m turn n k placed here before (none, others) low high early = elim (cases_lt 0 m.others) [
   | inl there ↦ subst (IsFresh (take k es) n) (sym (others there).2) (λ l of off. elim of [
-      | inl e ↦ let late = below-at es ps n m.place placed (omega arith) here (take-below es n k (neg_ℤ (neg_ℤ (literal_at es m.place))) low (subst (λ (x : ℤ). IsOnBelow (take k es) n (neg_ℤ x)) (sym e) off)) in omega arith
-      | inr e ↦ let late = below-at es ps n (m.others - 1) placed (omega arith) (omega arith) (take-below es n k (neg_ℤ (neg_ℤ (literal_at es (m.others - 1)))) low (subst (λ (x : ℤ). IsOnBelow (take k es) n (neg_ℤ x)) (sym e) off)) in let b = early there in omega arith
-    ])
+    | inl e ↦ let late = below-at es ps n m.place placed (omega arith) here (take-below es n k (neg_ℤ (neg_ℤ (literal_at es m.place))) low (subst (λ (x : ℤ). IsOnBelow (take k es) n (neg_ℤ x)) (sym e) off)) in omega arith
+    | inr e ↦ let late = below-at es ps n (m.others - 1) placed (omega arith) (omega arith) (take-below es n k (neg_ℤ (neg_ℤ (literal_at es (m.others - 1)))) low (subst (λ (x : ℤ). IsOnBelow (take k es) n (neg_ℤ x)) (sym e) off)) in let b = early there in omega arith
+  ])
   | inr empty ↦ subst (IsFresh (take k es) n) (sym (none (omega arith)).2) tt
 ]
 
@@ -122,14 +122,14 @@ state-learnt s t ls cs ms w c ns m turn r v is clause all_false right single som
     (state-back s t ls turn.level r is at entries positions levels) clauses chains kept pushed (turn-fits es ps c m turn placed clause is-latest is-turn) clause (subst (λ (xs : List ℕ). AreCovered xs c) (sym positions) before) (inr right) low
     (subst (λ (xs : List Entry). IsFresh xs v turn.pair) (sym entries) (turn-fresh es ps m turn v r.entries placed is-latest.here is-latest.before is-turn (omega arith) (omega arith) (λ there. let other = (is-turn.1 there).1 in omega arith)))
     (λ j q at'.
-      let (less, here) = slice_get_take turn.level s.levels.items j q (subst (λ (xs : List Reach). slice_get xs j ≡ Some q) levels at') in
-      let (bound, n) = is.bounds j q here in
-      let earlier = starts-order es s.levels.items j turn.level q r is.starts less here at in
-      subst (λ (xs : List Entry). IsFresh xs q.visited turn.pair) (sym entries) (turn-fresh es ps m turn q.visited r.entries placed is-latest.here is-latest.before is-turn (omega arith) (omega arith)
-      (λ there. elim (cases_lt (m.others - 1) q.visited) [
-        | inl below ↦ absurd (let at-level = (is-turn.1 there).0 in let bound' = below-start es s.levels.items j (m.others - 1) q is.levelled is.starts here (omega arith) in omega arith)
-        | inr above ↦ above
-      ])))
+    let (less, here) = slice_get_take turn.level s.levels.items j q (subst (λ (xs : List Reach). slice_get xs j ≡ Some q) levels at') in
+    let (bound, n) = is.bounds j q here in
+    let earlier = starts-order es s.levels.items j turn.level q r is.starts less here at in
+    subst (λ (xs : List Entry). IsFresh xs q.visited turn.pair) (sym entries) (turn-fresh es ps m turn q.visited r.entries placed is-latest.here is-latest.before is-turn (omega arith) (omega arith)
+    (λ there. elim (cases_lt (m.others - 1) q.visited) [
+      | inl below ↦ absurd (let at-level = (is-turn.1 there).0 in let bound' = below-start es s.levels.items j (m.others - 1) q is.levelled is.starts here (omega arith) in omega arith)
+      | inr above ↦ above
+    ])))
   where
     not-after : (es : List Entry) (levels : List Reach) (k : ℕ) (r last : Reach) → AreStarts es levels → slice_get levels k ≡ Some r → IsLastLevel levels last → r.entries ≤ last.entries
     not-after es levels k r last starts at at_last =

@@ -89,7 +89,7 @@ abbrev pub IsTurn : List Entry → Latest → Turn → Type 0
 IsTurn entries latest turn =
     (latest.others ≡ 0 → (turn.level ≡ 0) × (turn.place ≡ latest.place) × (turn.pair ≡ None))
     × (0 < latest.others → (turn.level ≡ level_at entries (latest.others - 1)) × (turn.place ≡ latest.others - 1)
-        × (turn.pair ≡ Some (record { first = neg_ℤ (literal_at entries latest.place); second = neg_ℤ (literal_at entries (latest.others - 1)) })))
+    × (turn.pair ≡ Some (record { first = neg_ℤ (literal_at entries latest.place); second = neg_ℤ (literal_at entries (latest.others - 1)) })))
 
 -- what it is seen as
 abbrev pub view_of : State → SolverView

@@ -5,15 +5,17 @@ ghost use Rattle.std.specs.List.{AllByRecursion};
 ghost use Rattle.mcs_trace.specs.Clauses.{IsClause};
 ghost use Rattle.mcs_trace.specs.Traces.{IsAcceptedTrace, inference_of, inferences_of};
 ghost use Rattle.mcs_sat.specs.Answers.{IsAnswer, IsExact};
+ghost use Rattle.mcs_sat.specs.States.{IsState};
 ghost use Rattle.mcs_sat.specs.Searches.{IsEnd, IsRun, IsSearch, IsTurned, zipped};
-ghost use Rattle.mcs_sat.specs.Trails.{IsFalseAt, IsOpen};
+ghost use Rattle.mcs_sat.specs.Trails.{IsFalse, IsFalseAt, IsOpen};
 
 use crate::analyse::analyse;
+use crate::latest::latest_of;
 use crate::model::model_of;
 use crate::order::Order;
 use crate::outcome::Outcome;
 use crate::solver::{run, state_of};
-use crate::state::{State, decide, learn};
+use crate::state::{State, decide, learn, turn_of};
 use mcs_base::{Memory, Rows};
 use mcs_trace::{Clause, Cnf, Step, Trace};
 use std::alloc::Global;
@@ -45,6 +47,23 @@ fn choose(cnf: &Cnf, state: &mut State, order: &mut Order) -> Result<Turn, Memor
     Ok(Turn::Goes(run(state)?))
 }
 
+/// Gives the variables back to the order that have no value any more once the clause is learnt.
+fn release(state: &State, order: &mut Order, literals: &[i64])
+    requires state { IsState state.now }
+    requires clause { IsClause literals.now }
+    requires all_false { IsFalse state.now.trail.entries.items literals.now }
+{
+    let Some(latest) = latest_of(&state.trail, literals) else {
+        return;
+    };
+    let turn = turn_of(&state.trail, latest);
+    if let Some(reach) = state.levels.get(turn.level)
+        && let Some(entries) = state.trail.entries.get(reach.entries..)
+    {
+        order.release(entries);
+    }
+}
+
 /// Learns from the clause of the index, which is false, goes back, and makes true what follows.
 fn turn_back(
     alloc: Global,
@@ -65,6 +84,7 @@ fn turn_back(
     let step = analyse(alloc, &state.clauses, &state.trail, start, index)?;
     order.raise(step.clause.literals());
     order.decay();
+    release(state, order, step.clause.literals());
     learn(state, step.clause.literals(), &step.chain)?;
     drop(step);
     Ok(Turn::Goes(run(state)?))

@@ -198,7 +198,7 @@ pub(crate) struct Turn {
 }
 
 /// The turn for the latest of the literals of a clause; without others it leads back to level 0.
-fn turn_of(trail: &Trail, latest: Latest) -> Turn
+pub(crate) fn turn_of(trail: &Trail, latest: Latest) -> Turn
     requires placed { ArePlaced trail.now.entries.items trail.now.positions.items }
     requires latest { (latest.place < length trail.now.entries.items) × (latest.others ≤ latest.place) }
     ensures { IsTurn trail.now.entries.items latest result }

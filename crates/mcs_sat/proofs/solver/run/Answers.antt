@@ -25,7 +25,6 @@ settled c =
     (subst (λ (xs : List ℕ). AreSettled s.clauses xs c.settle_from.new.trail.entries.items s.settled c.settle_from.new.from) c.deref.ensures.value e.settled)
     (subst (λ (xs : List ℕ). c.settle_from.new.from ≤ length xs) c.deref.ensures.value (e.bound (let b = c.requires.short_bound in omega (arith, ap length c.deref.ensures.value))))
 
-
 -- and when the clauses are visited then
 after : (c : After-visit_from) → IsState (record { clauses = c.args.state.now.clauses; chains = c.args.state.now.chains; trail = c.settle_from.new.trail; watches = c.args.state.now.watches; levels = c.args.state.now.levels; visited = c.args.state.now.visited; settled = c.settle_from.new.from }) → c.len-level.result ≡ length c.args.state.now.levels.items
     → IsState (record { clauses = c.args.state.now.clauses; chains = c.args.state.now.chains; trail = c.visit_from.new.trail; watches = c.visit_from.new.watches; levels = c.args.state.now.levels; visited = c.visit_from.new.from; settled = c.settle_from.new.from })
