@@ -17,3 +17,4 @@ pub mod NumberLemmas
 pub mod Clausal
 pub mod Numbered
 pub mod Ranges
+pub mod RowLemmas

@@ -53,6 +53,18 @@ module _ {A : Type 0} where
   slice_get_push_cases (z ∷ zs) y zero x is = inl is
   slice_get_push_cases (z ∷ zs) y (suc k) x is = slice_get_push_cases zs y k x is
 
+  pub slice_get_push_at : (xs : List A) (y : A) (k : ℕ) (x : A) → slice_get (xs ++ y ∷ []) k ≡ Some x → (slice_get xs k ≡ Some x) ⊎ ((k ≡ length xs) × (x ≡ y))
+  slice_get_push_at [] y zero x is = inr (refl, cc)
+  slice_get_push_at [] y (suc k) x is = cc
+  slice_get_push_at (z ∷ zs) y zero x is = inl is
+  slice_get_push_at (z ∷ zs) y (suc k) x is = elim (slice_get_push_at zs y k x is) [ inl old ↦ inl old | inr (at, same) ↦ inr (ap suc at, same) ]
+
+  pub slice_get_take : (n : ℕ) (xs : List A) (k : ℕ) (x : A) → slice_get (take n xs) k ≡ Some x → (k < n) × (slice_get xs k ≡ Some x)
+  slice_get_take zero xs k x is = cc
+  slice_get_take (suc n) [] k x is = cc
+  slice_get_take (suc n) (y ∷ xs) zero x is = (omega arith, is)
+  slice_get_take (suc n) (y ∷ xs) (suc k) x is = let (less, at) = slice_get_take n xs k x is in (omega arith, at)
+
   -- ---- parts
   pub take-append_room : (n : ℕ) (xs ys : List A) (k : ℕ) → length xs ≤ n → k ≡ min (length ys) (n - length xs) → xs ++ take k ys ≡ take n (xs ++ ys)
   take-append_room n xs ys k within is =

@@ -11,3 +11,4 @@ pub mod Words
 pub mod NumberOrder
 pub mod Numbers
 pub mod Transversals
+pub mod Rows

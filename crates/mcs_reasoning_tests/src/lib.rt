@@ -17,6 +17,8 @@ mod questions;
 #[cfg(test)]
 mod searches;
 #[cfg(test)]
+mod solver;
+#[cfg(test)]
 mod tables;
 #[cfg(test)]
 mod traces;

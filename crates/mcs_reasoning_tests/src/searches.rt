@@ -20,7 +20,8 @@ fn push(alloc: Global, cnf: &mut Cnf, lits: &[i64]) -> Result<(), Fail> {
     Ok(())
 }
 
-fn list(alloc: Global, vars: u32, clauses: &[&[i64]]) -> Result<Cnf, Fail> {
+/// The list of the clauses.
+pub(crate) fn list(alloc: Global, vars: u32, clauses: &[&[i64]]) -> Result<Cnf, Fail> {
     let mut cnf = Cnf::new(alloc, u64::from(vars));
     for lits in clauses {
         push(alloc, &mut cnf, lits)?;

@@ -1,5 +1,5 @@
 -- How a clause is examined.
-use Rattle.std.proofs.Common.{◌≡◌, ℕ, ◌+◌, ◌<◌, ◌≤◌, List, ◌⊎◌, inl, inr, sym, ap, ◌∙◌, subst, ℤ, pos, neg_ℤ, unsigned_abs, length, drop, get_or, Option, Some, None, IfSome, is_some, true, arith}
+use Rattle.std.proofs.Common.{◌≡◌, ◌≢◌, [], ◌∷◌, slice_get, ℕ, ◌+◌, ◌<◌, ◌≤◌, List, ◌⊎◌, inl, inr, sym, ap, ◌∙◌, subst, ℤ, pos, neg_ℤ, unsigned_abs, length, drop, get_or, Option, Some, None, IfSome, is_some, true, arith}
 use Rattle.std.specs.List.{AllByRecursion}
 use Rattle.std.proofs.lemmas.List.{drop_more}
 use Rattle.mcs_base.proofs.ListingLemmas.{all_among}
@@ -8,8 +8,9 @@ use Rattle.mcs_base.specs.Listings.{IsAmong}
 use Rattle.mcs_base.proofs.Among.{among_drop_more, none_among_drop, among_drop_first, among_at}
 use Rattle.mcs_base.proofs.Ascending.{first_before}
 use Rattle.mcs_sat.specs.declared.trail.Entry.{Entry}
-use Rattle.mcs_sat.specs.declared.examine.Finding.TheVariants.{Forced, Conflict}
-use Rattle.mcs_sat.specs.Trails.{AreTwoFree, StandsNowhere, IsOn, IsFinding}
+use Rattle.mcs_sat.specs.declared.examine.Finding.TheVariants.{Open, Forced, Conflict}
+use Rattle.mcs_sat.specs.Trails.{AreTwoFree, StandsNowhere, IsOn, IsFinding, IsSatisfied}
+use Rattle.mcs_sat.specs.Watching.{IsLong}
 
 -- the literal of the clause is free, and before all those from i on
 abbrev pub IsFreeBefore : List Entry → List ℤ → ℕ → ℤ → Type 0
@@ -74,3 +75,40 @@ found-two entries c i (Some l) less some nowhere h = record {
   free_first = h.free.1;
   free_second = nowhere;
 }
+
+-- ---- a clause of one literal or none
+pub long-two : (c : List ℤ) (a b : ℤ) → IsAmong a c → IsAmong b c → a ≢ b → IsLong c
+long-two [] a b here there differ = absurd here
+long-two (x ∷ []) a b (inl e) (inl e') differ = absurd (differ (e ∙ sym e'))
+long-two (x ∷ []) a b (inl e) (inr none) differ = absurd none
+long-two (x ∷ []) a b (inr none) there differ = absurd none
+long-two (x ∷ y ∷ c) a b here there differ = omega arith
+
+pub open-short : (known : List (List ℤ)) (entries : List Entry) (i : ℕ) (c d : List ℤ) → slice_get known i ≡ Some c → IsFinding entries c Open → slice_get known i ≡ Some d → ¬ IsLong d → IsSatisfied entries d
+open-short known entries i c d is found is' short =
+    let both : Some c ≡ Some d = sym is ∙ is' in
+    let same : c ≡ d = cc in
+    at d (subst (λ (x : List ℤ). IsFinding entries x Open) same found) short
+  where
+    at : (d : List ℤ) → IsFinding entries d Open → ¬ IsLong d → IsSatisfied entries d
+    at d (inl satisfied) short = satisfied
+    at d (inr two) short = absurd (short (long-two d two.first two.second two.has_first two.has_second two.differ))
+
+-- ---- a literal that is not false
+-- the literals of the clause below i are false, but the other one
+abbrev pub AreFalseBelow : List Entry → List ℤ → ℤ → ℕ → Type 0
+AreFalseBelow entries c other i = (k : ℤ) → IsAmong k c → ((k ≡ other) ⊎ IsOn entries (neg_ℤ k)) ⊎ IsAmong k (drop i c)
+
+pub false_below-more : (entries : List Entry) (c : List ℤ) (other : ℤ) (i : ℕ) → i < length c → (get_or c i (pos 0) ≡ other) ⊎ IsOn entries (neg_ℤ (get_or c i (pos 0))) → AreFalseBelow entries c other i → AreFalseBelow entries c other (i + 1)
+false_below-more entries c other i less here h k among = at (h k among)
+  where
+    first : (x : ℤ) → k ≡ x → (x ≡ other) ⊎ IsOn entries (neg_ℤ x) → (k ≡ other) ⊎ IsOn entries (neg_ℤ k)
+    first x e (inl e') = inl (e ∙ e')
+    first x e (inr off) = inr (subst (λ (l : ℤ). IsOn entries (neg_ℤ l)) (sym e) off)
+
+    at : ((k ≡ other) ⊎ IsOn entries (neg_ℤ k)) ⊎ IsAmong k (drop i c) → ((k ≡ other) ⊎ IsOn entries (neg_ℤ k)) ⊎ IsAmong k (drop (i + 1) c)
+    at (inl done) = inl done
+    at (inr rest) = elim ((among_drop_more c i (pos 0) less k).0 rest) [ inl e ↦ inl (first (get_or c i (pos 0)) e here) | inr later ↦ inr later ]
+
+pub false_below-all : (entries : List Entry) (c : List ℤ) (other : ℤ) (i : ℕ) → length c ≤ i → AreFalseBelow entries c other i → (k : ℤ) → IsAmong k c → (k ≡ other) ⊎ IsOn entries (neg_ℤ k)
+false_below-all entries c other i past h k among = elim (h k among) [ inl done ↦ done | inr rest ↦ absurd (none_among_drop c i k past rest) ]

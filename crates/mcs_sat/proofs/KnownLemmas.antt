@@ -1,5 +1,5 @@
 -- Numbered clauses, chains and steps, one more at the end.
-use Rattle.std.proofs.Common.{◌≡◌, ℕ, ◌+◌, ◌-◌, zero, suc, List, [], ◌∷◌, ◌++◌, refl, sym, ap, ◌∙◌, subst, arith, ℤ, length, map, Some, slice_get, append_assoc, append-nil}
+use Rattle.std.proofs.Common.{◌≡◌, ℕ, ◌+◌, ◌-◌, zero, suc, ◌<◌, ◌≤◌, List, [], ◌∷◌, ◌++◌, refl, sym, ap, ◌∙◌, subst, arith, ℤ, length, map, Some, slice_get, append_assoc, append-nil}
 use Rattle.std.specs.List.{AllByRecursion}
 use Rattle.std.proofs.lemmas.List.{length_push, map_push, length-append, length-map}
 use Rattle.std.proofs.lemmas.Option.{slice_get_within}
@@ -9,16 +9,27 @@ use Rattle.mcs_trace.specs.Resolution.{IsResolvent}
 use Rattle.mcs_trace.specs.Traces.{numbered, ResolvesTo, IsChainResolvent, AreRightSteps, EndsEmpty, inference_of, clauses_of}
 use Rattle.mcs_trace.specs.declared.trace.Step.{Step}
 use Rattle.mcs_trace.proofs.TraceLemmas.{ends-last}
-use Rattle.mcs_sat.specs.Trails.{IsNumber}
 
 -- ---- numbered clauses
 pub numbered-more : (known more : List (List ℤ)) (n : ℕ) (c : List ℤ) → numbered known n ≡ Some c → numbered (known ++ more) n ≡ Some c
 numbered-more known more zero c e = absurd (cc)
 numbered-more known more (suc n) c e = slice_get_kept known more n c e
 
-pub numbered-bound : (known : List (List ℤ)) (n : ℕ) (c : List ℤ) → numbered known n ≡ Some c → IsNumber (length known) n
+pub numbered-bound : (known : List (List ℤ)) (n : ℕ) (c : List ℤ) → numbered known n ≡ Some c → (0 < n) × (n ≤ length known)
 numbered-bound known zero c e = absurd (cc)
 numbered-bound known (suc n) c e = let less = slice_get_within known n c e in (omega arith, omega arith)
+
+-- the row of a numbered clause
+pub numbered-row : (known : List (List ℤ)) (n : ℕ) (c : List ℤ) → numbered known n ≡ Some c → (0 < n) × (n - 1 < length known) × (slice_get known (n - 1) ≡ Some c)
+numbered-row known zero c e = absurd (cc)
+numbered-row known (suc n) c e =
+    let less = slice_get_within known n c e in
+    let at : suc n - 1 ≡ n = omega arith in
+    (omega arith, omega arith, ap (slice_get known) at ∙ e)
+
+-- what the row of a number is
+pub numbered-is : (known : List (List ℤ)) (n : ℕ) (c d : List ℤ) → numbered known n ≡ Some c → slice_get known (n - 1) ≡ Some d → c ≡ d
+numbered-is known n c d e at = let (some, within, is) = numbered-row known n c e in let both : Some c ≡ Some d = sym is ∙ at in cc
 
 pub numbered-last : (known : List (List ℤ)) (c : List ℤ) (n : ℕ) → n ≡ length known + 1 → numbered (known ++ c ∷ []) n ≡ Some c
 numbered-last known c n e = ap (numbered (known ++ c ∷ [])) (let e' : n ≡ suc (length known) = omega arith in e') ∙ slice_get_seam known c [] (length known) refl

@@ -1,21 +1,21 @@
 -- How the latest of the literals of a false clause is found.
-use Rattle.std.proofs.Common.{◌≡◌, ℕ, ◌+◌, ◌<◌, ◌≤◌, List, [], ◌∷◌, ◌⊎◌, inl, inr, refl, sym, ap, ◌∙◌, subst, arith, ℤ, pos, neg_ℤ, unsigned_abs, length, drop, get_or, Option, Some, None, MatchOption}
-use Rattle.std.proofs.lemmas.Bool.{cases_lt}
+use Rattle.std.proofs.Common.{◌≡◌, ℕ, ◌+◌, ◌-◌, ◌<◌, ◌≤◌, List, [], ◌∷◌, ◌⊎◌, inl, inr, refl, sym, ap, ◌∙◌, subst, arith, ℤ, pos, neg_ℤ, unsigned_abs, length, drop, get_or, Option, Some, None, MatchOption}
 use Rattle.std.proofs.Math.IntN.{neg_ℤ-neg_ℤ}
 use Rattle.mcs_base.specs.Listings.{IsAmong}
 use Rattle.mcs_base.proofs.ListingLemmas.{all_from_among}
 use Rattle.mcs_base.proofs.Among.{among_drop_more, none_among_drop, among_at}
 use Rattle.mcs_base.proofs.Numbers.{unsigned_abs-neg_ℤ}
-use Rattle.mcs_sat.specs.declared.learn.Latest.{Latest}
+use Rattle.mcs_sat.specs.declared.latest.Latest.{Latest}
 use Rattle.mcs_sat.specs.declared.trail.Entry.{Entry}
-use Rattle.mcs_sat.specs.Trails.{literal_at, IsJoined, ArePlaced, AreCovered, StandsAt, StandsNowhere, IsOn, IsOnBelow, IsFalse, IsFalseBelow, IsLatest}
+use Rattle.mcs_sat.specs.Learning.{IsJoined, IsLate, IsLatest, IsSingle}
+use Rattle.mcs_sat.specs.Trails.{literal_at, ArePlaced, AreCovered, StandsAt, StandsNowhere, IsOn, IsOnBelow, IsFalse, IsFalseBelow}
 use Rattle.mcs_sat.proofs.LearnLemmas.{same_place}
 
 -- each literal of the clause below i, or none where there is none, was false at the latest place or before
 abbrev pub LatestSoFar : List Entry → List ℤ → ℕ → Option Latest → Type 0
 LatestSoFar es c i None = (k : ℤ) → IsAmong k c → IsAmong k (drop i c)
 LatestSoFar es c i (Some l) =
-    (l.place < length es) × (l.others ≤ l.place) × IsAmong (neg_ℤ (literal_at es l.place)) c × ((k : ℤ) → IsAmong k c → ((k ≡ neg_ℤ (literal_at es l.place)) ⊎ IsOnBelow es l.others (neg_ℤ k)) ⊎ IsAmong k (drop i c))
+    (l.place < length es) × (l.others ≤ l.place) × IsAmong (neg_ℤ (literal_at es l.place)) c × (0 < l.others → IsAmong (neg_ℤ (literal_at es (l.others - 1))) c) × ((k : ℤ) → IsAmong k c → ((k ≡ neg_ℤ (literal_at es l.place)) ⊎ IsOnBelow es l.others (neg_ℤ k)) ⊎ IsAmong k (drop i c))
 
 pub latest-start : (es : List Entry) (c : List ℤ) → LatestSoFar es c 0 None
 latest-start es c k among = among
@@ -49,35 +49,53 @@ module _ (es : List Entry) (ps : List ℕ) (c : List ℤ) (i q : ℕ) (placed : 
     stands.0,
     omega arith,
     has,
+    λ some. absurd (omega arith),
     λ k among. elim ((among_drop_more c i (pos 0) less k).0 (h k among)) [
       | inl e' ↦ inl (inl (e' ∙ here))
       | inr later ↦ inr later
     ],
   )
-  latest-joined (Some l) new (inl (after, place, others)) (bound, ordered, among', h) =
-      let here' : get_or c i (pos 0) ≡ neg_ℤ (literal_at es new.place) = here ∙ ap (λ j. neg_ℤ (literal_at es j)) (sym place) in (
+  latest-joined (Some l) new (inl (after, place, others)) (bound, ordered, among', last, h) =
+      let here' : get_or c i (pos 0) ≡ neg_ℤ (literal_at es new.place) = here ∙ ap (λ j. neg_ℤ (literal_at es j)) (sym place) in
+      let before : new.others - 1 ≡ l.place = omega arith in (
         (let b = stands.0 in omega arith),
         omega arith,
         subst (λ (k : ℤ). IsAmong k c) here' (among_at c i (pos 0) less),
+        λ some. subst (λ (j : ℕ). IsAmong (neg_ℤ (literal_at es j)) c) (sym before) among',
         λ k among. elim (h k among) [
           | inl (inl e) ↦ inl (inr (l.place, omega arith, sym (neg_ℤ-neg_ℤ (literal_at es l.place)) ∙ ap neg_ℤ (sym e)))
           | inl (inr (j, less', on)) ↦ inl (inr (j, omega arith, on))
           | inr rest ↦ elim ((among_drop_more c i (pos 0) less k).0 rest) [ inl e ↦ inl (inl (e ∙ here')) | inr later ↦ inr later ]
         ],
       )
-  latest-joined (Some l) new (inr (before, place, more, ordered', taken)) (bound, ordered, among', h) =
-      let same : neg_ℤ (literal_at es l.place) ≡ neg_ℤ (literal_at es new.place) = ap (λ j. neg_ℤ (literal_at es j)) (sym place) in (
+  latest-joined (Some l) new (inr (inl (old, same))) (bound, ordered, among', last, h) = subst (λ (l : Latest). LatestSoFar es c (i + 1) (Some l)) (sym same) (
+    bound,
+    ordered,
+    among',
+    last,
+    λ k among. elim (h k among) [
+      | inl found ↦ inl found
+      | inr rest ↦ elim ((among_drop_more c i (pos 0) less k).0 rest) [
+        | inl e ↦ elim old [
+          | inl at ↦ inl (inl (e ∙ here ∙ ap (λ j. neg_ℤ (literal_at es j)) at))
+          | inr earlier ↦ inl (inr (q, earlier, sym (neg_ℤ-neg_ℤ (literal_at es q)) ∙ ap neg_ℤ (sym (e ∙ here))))
+        ]
+        | inr later ↦ inr later
+      ]
+    ],
+  )
+  latest-joined (Some l) new (inr (inr (before, past, place, others))) (bound, ordered, among', last, h) =
+      let same : neg_ℤ (literal_at es l.place) ≡ neg_ℤ (literal_at es new.place) = ap (λ j. neg_ℤ (literal_at es j)) (sym place) in
+      let at : new.others - 1 ≡ q = omega arith in (
         omega arith,
-        (let o = ordered' ordered in omega arith),
+        omega arith,
         subst (λ (k : ℤ). IsAmong k c) same among',
+        λ some. subst (λ (j : ℕ). IsAmong (neg_ℤ (literal_at es j)) c) (sym at) has,
         λ k among. elim (h k among) [
           | inl (inl e) ↦ inl (inl (e ∙ same))
           | inl (inr (j, less', on)) ↦ inl (inr (j, omega arith, on))
           | inr rest ↦ elim ((among_drop_more c i (pos 0) less k).0 rest) [
-            | inl e ↦ elim (cases_lt q l.place) [
-              | inl earlier ↦ inl (inr (q, taken earlier, sym (neg_ℤ-neg_ℤ (literal_at es q)) ∙ ap neg_ℤ (sym (e ∙ here))))
-              | inr past ↦ let at : q ≡ l.place = omega arith in inl (inl (e ∙ here ∙ ap (λ j. neg_ℤ (literal_at es j)) at ∙ same))
-            ]
+            | inl e ↦ inl (inr (q, omega arith, sym (neg_ℤ-neg_ℤ (literal_at es q)) ∙ ap neg_ℤ (sym (e ∙ here))))
             | inr later ↦ inr later
           ]
         ],
@@ -89,10 +107,11 @@ latest-end es c i None past h = empty c (λ k among. none_among_drop c i k past 
     empty : (xs : List ℤ) → ((k : ℤ) → IsAmong k xs → ⊥) → xs ≡ []
     empty [] none = refl
     empty (x ∷ xs) none = absurd (none x (inl refl))
-latest-end es c i (Some l) past (bound, ordered, among', h) = record {
+latest-end es c i (Some l) past (bound, ordered, among', last, h) = record {
   here = bound;
   before = ordered;
   has = among';
+  last = last;
   others = λ k among. elim (h k among) [ inl found ↦ found | inr rest ↦ absurd (none_among_drop c i k past rest) ];
 }
 
@@ -106,3 +125,8 @@ latest_below es ps c n latest placed bound h l =
     let (j, less, e) = h (neg_ℤ (literal_at es latest.place)) l.has in
     let same : j ≡ latest.place = same_place es ps j latest.place placed (omega arith) l.here (ap unsigned_abs (e ∙ neg_ℤ-neg_ℤ (literal_at es latest.place))) in
     omega arith
+
+-- a clause without literals is not late, where there is such a place
+pub none-late : (es : List Entry) (start : ℕ) (c : List ℤ) → c ≡ [] → IsLate es start c → start + 1 ≤ length es → IsSingle es start c
+none-late es start c none (inl late) within = absurd (late (subst (λ (x : List ℤ). IsFalseBelow es start x) (sym none) (λ k among. absurd among)))
+none-late es start c none (inr past) within = absurd (omega arith)

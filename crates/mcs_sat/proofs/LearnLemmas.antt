@@ -1,5 +1,6 @@
 -- How a clause that is false is resolved with the reason of its latest literal.
-use Rattle.std.proofs.Common.{◌≡◌, ℕ, ◌<◌, List, ◌⊎◌, inl, inr, sym, ap, ◌∙◌, subst, arith, ℤ, neg_ℤ, unsigned_abs, length, get_or, Some}
+use Rattle.std.proofs.Common.{◌≡◌, ℕ, ◌-◌, ◌<◌, ◌≤◌, List, ◌⊎◌, inl, inr, sym, ap, ◌∙◌, subst, arith, ℤ, neg_ℤ, unsigned_abs, length, get_or, Some}
+use Rattle.std.proofs.lemmas.Bool.{cases_lt}
 use Rattle.std.proofs.Math.IntN.{neg_ℤ-neg_ℤ}
 use Rattle.mcs_base.specs.Listings.{IsAmong}
 use Rattle.mcs_base.proofs.Numbers.{unsigned_abs-neg_ℤ}
@@ -7,10 +8,10 @@ use Rattle.mcs_trace.specs.Clauses.{IsLiteral}
 use Rattle.mcs_trace.specs.Resolution.{IsOnlyClash, IsLeft, IsResolvent}
 use Rattle.mcs_trace.specs.Traces.{numbered}
 use Rattle.mcs_trace.proofs.OrderLemmas.{neg_differs}
-use Rattle.mcs_sat.specs.declared.learn.Jump.{Jump}
-use Rattle.mcs_sat.specs.declared.learn.Latest.{Latest}
+use Rattle.mcs_sat.specs.declared.latest.Latest.{Latest}
 use Rattle.mcs_sat.specs.declared.trail.Entry.{Entry}
-use Rattle.mcs_sat.specs.Trails.{literal_at, reason_at, AreExplained, ArePlaced, IsOn, IsOnBelow, IsReason, IsFalse, IsFalseBelow, IsJump, IsLatest}
+use Rattle.mcs_sat.specs.Trails.{literal_at, reason_at, AreExplained, ArePlaced, IsOn, IsOnBelow, IsReason, IsFalse, IsFalseBelow}
+use Rattle.mcs_sat.specs.Learning.{AreImplied, IsLate, IsLatest}
 use Rattle.mcs_sat.proofs.TrailLemmas.{on_below}
 
 -- a variable stands at one place
@@ -30,12 +31,6 @@ pub latest-false : (es : List Entry) (c : List ℤ) (latest : Latest) → IsLate
 latest-false es c latest l k among = elim (l.others k among) [
   | inl e ↦ (latest.place, l.here, sym (neg_ℤ-neg_ℤ (literal_at es latest.place)) ∙ ap neg_ℤ (sym e))
   | inr below ↦ on_below es latest.others (neg_ℤ k) (let h = l.here in let b = l.before in omega arith) below
-]
-
-pub jump-false : (es : List Entry) (c : List ℤ) (jump : Jump) → IsJump es c jump → IsFalse es c
-jump-false es c jump j k among = elim (j.others k among) [
-  | inl e ↦ (jump.place, j.here, sym (neg_ℤ-neg_ℤ (literal_at es jump.place)) ∙ ap neg_ℤ (sym e))
-  | inr below ↦ on_below es jump.decision (neg_ℤ k) (let h = j.here in let b = j.before in omega arith) below
 ]
 
 -- the reason of the literal that is the latest in a false clause clashes with it in this literal only
@@ -65,11 +60,69 @@ resolvent-false es ps latest c reason out placed l is r k among = at ((r.left.ex
     at (inr (among', differs)) = elim (is.others k among') [ inl e ↦ absurd (differs (e ∙ sym negated)) | inr below ↦ below ]
 
 -- what the reason of an implied literal is
-pub reason_of : (known : List (List ℤ)) (es : List Entry) (p number : ℕ) (reason : List ℤ) → AreExplained known es → p < length es → number ≡ reason_at es p → (number ≡ 0 → ⊥) → Some reason ≡ numbered known number → IsReason es p reason
-reason_of known es p number reason explained less e some is = elim (explained p less) [
-  | inl none ↦ absurd (some (e ∙ none))
-  | inr (c, is', r) ↦
-      let both : Some reason ≡ Some c = is ∙ ap (numbered known) e ∙ is' in
-      let same : reason ≡ c = cc in
-      subst (IsReason es p) (sym same) r
+pub reason_of : (known : List (List ℤ)) (es : List Entry) (p : ℕ) → AreExplained known es → p < length es → (reason_at es p ≡ 0 → ⊥) → (c : List ℤ) × (numbered known (reason_at es p) ≡ Some c) × IsReason es p c
+reason_of known es p explained less decided = elim (explained p less) [ inl none ↦ absurd (decided none) | inr found ↦ found ]
+
+-- ---- clauses that were not false before a place
+late_after : (es : List Entry) (start : ℕ) (c : List ℤ) (l : Latest) → IsLatest es c l → (IsFalseBelow es start c → ⊥) → start ≤ l.place
+late_after es start c l latest late = elim (cases_lt l.place start) [
+  | inl less ↦ absurd (late (λ k among. elim (latest.others k among) [
+    | inl e ↦ (l.place, less, sym (neg_ℤ-neg_ℤ (literal_at es l.place)) ∙ ap neg_ℤ (sym e))
+    | inr (j, before, on) ↦ (j, (let b = latest.before in omega arith), on)
+  ]))
+  | inr past ↦ past
 ]
+
+-- where others were false later than the start too, the latest is no decision
+pub late_implied : (es : List Entry) (start : ℕ) (c : List ℤ) (l : Latest) → IsLatest es c l → IsLate es start c → AreImplied es start → ((l.others ≤ start) × (start ≤ l.place) → ⊥) → reason_at es l.place ≡ 0 → ⊥
+late_implied es start c l latest late implied more none =
+    let (first, within) = implied l.place latest.here none in
+    elim late [
+      | inl late' ↦ let after = late_after es start c l latest late' in more ((let b = latest.before in omega arith), after)
+      | inr past ↦ omega arith
+    ]
+
+-- the reason of the latest
+pub cause_of : (known : List (List ℤ)) (es : List Entry) (start : ℕ) (c : List ℤ) (l : Latest) (number : ℕ) → AreExplained known es → IsLatest es c l → IsLate es start c → AreImplied es start → ((l.others ≤ start) × (start ≤ l.place) → ⊥) → number ≡ reason_at es l.place
+    → (reason : List ℤ) × (numbered known number ≡ Some reason) × IsReason es l.place reason
+cause_of known es start c l number explained latest late implied more e =
+    let (reason, is, r) = reason_of known es l.place explained latest.here (late_implied es start c l latest late implied more) in
+    (reason, ap (numbered known) e ∙ is, r)
+
+-- the resolvent has the last of the others still
+pub resolvent-late : (es : List Entry) (ps : List ℕ) (start : ℕ) (l : Latest) (c reason out : List ℤ) → ArePlaced es ps → IsLatest es c l → IsReason es l.place reason → IsResolvent c reason out → ((l.others ≤ start) × (start ≤ l.place) → ⊥) → IsLate es start c → IsLate es start out
+resolvent-late es ps start l c reason out placed latest is r more (inr past) = inr past
+resolvent-late es ps start l c reason out placed latest is r more (inl late) = inl (λ below.
+    let (j, less, on) = below other in_out in
+    let m = many in
+    let b = latest.before in
+    let h = latest.here in
+    let same : j ≡ l.others - 1 = same_place es ps j (l.others - 1) placed (omega arith) (omega arith) (ap unsigned_abs (on ∙ neg_ℤ-neg_ℤ (literal_at es (l.others - 1)))) in
+    omega arith)
+  where
+    after : start ≤ l.place
+    after = late_after es start c l latest late
+
+    many : start < l.others
+    many = elim (cases_lt start l.others) [ inl less ↦ less | inr past ↦ absurd (more (past, after)) ]
+
+    other : ℤ
+    other = neg_ℤ (literal_at es (l.others - 1))
+
+    in_c : IsAmong other c
+    in_c = let m = many in latest.last (omega arith)
+
+    pivot : r.literal ≡ neg_ℤ (literal_at es l.place)
+    pivot = (one_clash es ps l c reason placed latest is).only r.literal r.clash.in_first r.clash.in_second
+
+    differs : other ≡ r.literal → ⊥
+    differs e =
+        let m = many in
+        let b = latest.before in
+        let h = latest.here in
+        let sizes : unsigned_abs (literal_at es (l.others - 1)) ≡ unsigned_abs (literal_at es l.place) = sym (unsigned_abs-neg_ℤ (literal_at es (l.others - 1))) ∙ ap unsigned_abs (e ∙ pivot) ∙ unsigned_abs-neg_ℤ (literal_at es l.place) in
+        let same : l.others - 1 ≡ l.place = same_place es ps (l.others - 1) l.place placed (omega arith) (omega arith) sizes in
+        omega arith
+
+    in_out : IsAmong other out
+    in_out = (r.left.exactly other).1 (inl (in_c, differs))

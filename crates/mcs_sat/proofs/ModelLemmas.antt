@@ -14,47 +14,7 @@ use Rattle.mcs_sat.specs.declared.examine.Finding.{Finding}
 use Rattle.mcs_sat.specs.declared.examine.Finding.TheVariants.{Open, Forced, Conflict}
 use Rattle.mcs_sat.specs.declared.trail.Entry.{Entry}
 use Rattle.mcs_sat.specs.Trails.{ArePlaced, AreAssigned, StandsAt, StandsNowhere, IsOn, IsFinding, IsSatisfied}
-use Rattle.mcs_sat.proofs.LearnLemmas.{not_both_on}
-
--- ---- the values of literals
-pub true-is_on : (es : List Entry) (ps : List ℕ) (l : ℤ) (o : Option Bool) (b : Bool) → b ≡ unwrap_or o false → ArePlaced es ps
-    → MatchOption o (StandsNowhere es (unsigned_abs l)) (λ v. MatchBool v (IsOn es l) (IsOn es (neg_ℤ l))) → IsTrue b ↔ IsOn es l
-true-is_on es ps l None b e placed nowhere = (
-  λ yes. absurd (true≢false (sym yes ∙ e)),
-  λ (p, less, at). absurd (nowhere p (less, ap unsigned_abs at)),
-)
-true-is_on es ps l (Some true) b e placed on = (λ yes. on, λ on'. e)
-true-is_on es ps l (Some false) b e placed off = (
-  λ yes. absurd (true≢false (sym yes ∙ e)),
-  λ on. absurd (not_both_on es ps l placed on off),
-)
-
--- ---- variables that stand somewhere
-pub assigned-more : (es : List Entry) (from i : ℕ) (o : Option ℕ) → AreAssigned es from i → is_some o ≡ true → MatchOption o (StandsNowhere es i) (StandsAt es i) → AreAssigned es from (i + 1)
-assigned-more es from i None h some at v low less = absurd (cc)
-assigned-more es from i (Some p) h some at v low less = elim (cases_lt v i) [
-  | inl before ↦ h v low before
-  | inr past ↦ let same : i ≡ v = omega arith in (p, subst (λ (w : ℕ). StandsAt es w p) same at)
-]
-
--- ---- clauses that hold
-module _ (es : List Entry) (m : ℕ) (c : List ℤ) (is : IsClause c) (within : AllByRecursion (λ l. unsigned_abs l < m) c) (assigned : AreAssigned es 1 m) where
-  somewhere : (k : ℤ) → IsAmong k c → StandsNowhere es (unsigned_abs k) → ⊥
-  somewhere k among nowhere =
-      let literal : IsLiteral k = all_among IsLiteral c k is.0 among in
-      let less : unsigned_abs k < m = all_among (λ (l : ℤ). unsigned_abs l < m) c k within among in
-      let some : 1 ≤ unsigned_abs k = (let s : 0 < unsigned_abs k = literal.0 in omega arith) in
-      let (p, at) = assigned (unsigned_abs k) some less in
-      nowhere p at
-
-  pub satisfied-found : (f : Finding) → IsFinding es c f → (f ≡ Conflict → ⊥) → IsSatisfied es c
-  satisfied-found Open (inl satisfied) other = satisfied
-  satisfied-found Open (inr two) other = absurd (somewhere two.first two.has_first two.free_first)
-  satisfied-found (Forced l) ((among, rest), nowhere) other = absurd (somewhere l among nowhere)
-  satisfied-found Conflict found other = absurd (other refl)
-
-pub numbered-at : (cs : List (List ℤ)) (i : ℕ) (c : List ℤ) → i < length cs → c ≡ get_or cs i c → numbered cs (i + 1) ≡ Some c
-numbered-at cs i c less e = let n : i + 1 ≡ suc i = omega arith in ap (numbered cs) n ∙ slice_get_read cs (length cs) i c refl less e
+use Rattle.mcs_sat.proofs.TrailLemmas.{not_both_on}
 
 -- ---- the model
 pub model-more : (es : List Entry) (model new : List Bool) (v : ℕ) (b : Bool) → length model + 1 ≡ v → new ≡ model ++ b ∷ [] → (IsTrue b ↔ IsOn es (pos v))

@@ -1,111 +1,137 @@
--- What stays right of a search that learns.
-use Rattle.std.proofs.Common.{◌≡◌, ℕ, ◌+◌, ◌<◌, ◌≤◌, List, [], ◌∷◌, ◌++◌, ◌⊎◌, inl, inr, sym, ap, ◌∙◌, subst, arith, ℤ, neg_ℤ, unsigned_abs, length, map, take, Option, Some, None, MatchOption, append-nil}
+-- What stays right of a search from turn to turn, and that less is left to do.
+use Rattle.std.proofs.Common.{◌≡◌, ℕ, ◌+◌, ◌-◌, ◌<◌, ◌≤◌, zero, suc, List, [], ◌∷◌, ◌++◌, ◌⊎◌, inl, inr, refl, sym, ap, ◌∙◌, subst, arith, ℤ, neg_ℤ, unsigned_abs, length, length-append, map, take, drop, get_or, Option, Some, None, MatchOption, IfSome, slice_get}
 use Rattle.std.specs.List.{AllByRecursion}
-use Rattle.std.proofs.lemmas.List.{length_push, length-take}
+use Rattle.std.specs.Option.{IfNone}
+use Rattle.std.proofs.Math.Seq.{drop-append_seam, take-append_seam}
+use Rattle.std.proofs.lemmas.Bool.{cases_lt}
+use Rattle.std.proofs.lemmas.List.{append_assoc, get_or-drop, length-drop, length_push, length-take-le, map_push, take-append-le, take-take}
 use Rattle.mcs_base.specs.Listings.{IsAmong}
-use Rattle.mcs_base.proofs.ListingLemmas.{all_among, all_from_among}
-use Rattle.mcs_base.proofs.Each.{all_push}
-use Rattle.mcs_trace.specs.Clauses.{ClauseList, IsClause, IsClauseList, IsWithin}
-use Rattle.mcs_trace.specs.Traces.{AreRightSteps, clauses_of, inference_of}
-use Rattle.mcs_trace.specs.declared.trace.Step.{Step}
-use Rattle.mcs_sat.specs.declared.learn.Jump.{Jump}
-use Rattle.mcs_sat.specs.declared.learn.Learnt.{Learnt}
-use Rattle.mcs_sat.specs.declared.search.Search.{Search}
+use Rattle.mcs_base.proofs.Among.{among_at}
+use Rattle.mcs_base.proofs.Distinct.{covers_below}
+use Rattle.mcs_base.proofs.Each.{all_among, all_from_among, all_get, all_push}
+use Rattle.mcs_base.proofs.Lists.{slice_get_push_at, slice_get_take}
+use Rattle.mcs_base.proofs.Numbers.{unsigned_abs-neg_ℤ}
+use Rattle.mcs_trace.specs.Clauses.{ClauseList, IsClause, IsLiteral}
+use Rattle.mcs_trace.specs.Traces.{AreRightSteps, Inference, IsChainResolvent}
+use Rattle.mcs_sat.specs.declared.latest.Latest.{Latest}
+use Rattle.mcs_sat.specs.declared.state.Reach.{Reach}
+use Rattle.mcs_sat.specs.declared.state.State.{State}
 use Rattle.mcs_sat.specs.declared.trail.Entry.{Entry}
-use Rattle.mcs_sat.specs.declared.trail.Trail.{Trail}
-use Rattle.mcs_sat.specs.Trails.{AreClauses, AreExplained, AreNumbers, ArePlaced, IsFalse, IsJump, IsLearnt, IsNumber, IsOn, IsSearch, IsTrail, StandsNowhere, known_of, literal_at}
-use Rattle.mcs_sat.proofs.KnownLemmas.{known-push, length-known, numbered-last, right-push}
-use Rattle.mcs_sat.proofs.LatestLemmas.{covered-false}
-use Rattle.mcs_sat.proofs.LearnLemmas.{jump-false, same_place}
-use Rattle.mcs_sat.proofs.OccurrenceLemmas.{numbers-more}
-use Rattle.mcs_sat.proofs.TrailLemmas.{entry-back, explained-back, explained-known, explained-push, on-back}
+use Rattle.mcs_sat.specs.Learning.{IsLatest, IsLate, IsSingle}
+use Rattle.mcs_sat.specs.Searches.{AreOpenBelow, HasLearnt, IsRun, IsSearch, work_left, zipped}
+use Rattle.mcs_sat.specs.States.{IsDecided, IsLastLevel, IsLearntBack, IsState, SameClauses, reach_of}
+use Rattle.mcs_sat.specs.Trails.{AreAssigned, AreCovered, ArePlaced, Grows, IsFalse, IsFalseAt, IsFalseBelow, IsOn, IsOnBelow, IsOpen, IsSatisfied, StandsNowhere, literal_at, reason_at}
+use Rattle.mcs_sat.proofs.TrailLemmas.{entry-back, not_both_on, on-back, on_below, placed-back, same_place}
+use Rattle.mcs_sat.proofs.WorkLemmas.{work_left-back, work_left-more, work_left-push}
 
--- ---- a search that has not begun
-pub search-start : (f : ClauseList) (s : Search) → IsClauseList f → s.steps.items ≡ [] → s.trail.entries.items ≡ [] → length s.trail.positions.items ≡ f.vars + 1 → length s.occurrences.variables.items ≡ f.vars + 1 → AreNumbers (length f.clauses) s.occurrences.variables.items → 0 < s.cursor → IsSearch f s
-search-start f s is none empty positions variables numbers cursor = record {
-  clauses = subst (AreClauses f.vars) (sym known) is.1;
-  right = subst (λ (steps : List Step). AreRightSteps f.clauses (map inference_of steps)) (sym none) tt;
-  trail = record {
-    sized = positions;
-    placed = subst (λ (es : List Entry). ArePlaced es s.trail.positions.items) (sym empty) (λ i less. absurd (omega arith));
-    explained = subst (AreExplained (known_of f s.steps.items)) (sym empty) (λ i less. absurd (omega arith));
-  };
-  sized = variables;
-  cursor = cursor;
-  numbers = subst (λ (ks : List (List ℤ)). AreNumbers (length ks) s.occurrences.variables.items) (sym known) numbers;
+-- ---- open clauses
+-- a clause that is open is not false
+pub open-not_false : (es : List Entry) (ps : List ℕ) (c : List ℤ) → ArePlaced es ps → IsOpen es c → IsFalse es c → ⊥
+open-not_false es ps c placed (inl (k, among, on)) off = not_both_on es ps k placed on (off k among)
+open-not_false es ps c placed (inr two) off = let (p, less, e) = off two.first two.has_first in two.free_first p (less, ap unsigned_abs e ∙ unsigned_abs-neg_ℤ two.first)
+
+pub open-late : (es : List Entry) (ps : List ℕ) (n : ℕ) (c : List ℤ) → ArePlaced es ps → n ≤ length es → IsOpen (take n es) c → IsLate es n c
+open-late es ps n c placed bound opened = inl (λ off. open-not_false (take n es) ps c (placed-back es ps n placed) opened (λ k among. on-back es n (neg_ℤ k) bound (off k among)))
+
+-- where each variable has a value an open clause is satisfied
+pub open-satisfied : (es : List Entry) (ps : List ℕ) (c : List ℤ) → AreAssigned es 1 (length ps) → IsClause c → AreCovered ps c → IsOpen es c → IsSatisfied es c
+open-satisfied es ps c all clause covered (inl satisfied) = satisfied
+open-satisfied es ps c all clause covered (inr two) =
+    let literal : IsLiteral two.first = all_among IsLiteral c two.first clause.0 two.has_first in
+    let within : unsigned_abs two.first < length ps = all_among (λ (l : ℤ). unsigned_abs l < length ps) c two.first covered two.has_first in
+    let (p, stands) = all (unsigned_abs two.first) (let some = literal.0 in omega arith) within in
+    absurd (two.free_first p stands)
+
+pub all-satisfied : (s : State) → IsState s → AreAssigned s.trail.entries.items 1 (length s.trail.positions.items) → AllByRecursion (IsOpen s.trail.entries.items) s.clauses → AllByRecursion (IsSatisfied s.trail.entries.items) s.clauses
+all-satisfied s is assigned opened = all_from_among (IsSatisfied s.trail.entries.items) s.clauses (λ c among.
+    open-satisfied s.trail.entries.items s.trail.positions.items c assigned (all_among IsClause s.clauses c is.trail.clauses among) (all_among (AreCovered s.trail.positions.items) s.clauses c is.trail.covered among) (all_among (IsOpen s.trail.entries.items) s.clauses c opened among))
+
+-- ---- runs
+pub run-is : (s : State) (found : Option ℕ) → IfNone found (AllByRecursion (IsOpen s.trail.entries.items) s.clauses) → IfSome found (IsFalseAt s.clauses s.trail.entries.items) → IsRun s found
+run-is s None opened conflict = opened
+run-is s (Some i) opened conflict = conflict
+
+learnt-same : (f : ClauseList) (old new : State) → SameClauses old new → HasLearnt f old → HasLearnt f new
+learnt-same f old new same h = record { steps = h.steps; clauses = same.clauses ∙ h.clauses; chains = same.chains ∙ h.chains; right = h.right }
+
+front-same : (es new : List Entry) (n : ℕ) (more : List Entry) → new ≡ es ++ more → n ≤ length es → take n new ≡ take n es
+front-same es new n more e bound = ap (take n) e ∙ take-append-le n es more bound
+
+pub search-run : (f : ClauseList) (old new : State) → IsSearch f old → IsState new → SameClauses old new → new.levels.items ≡ old.levels.items → Grows (length old.levels.items) old.trail.entries.items new.trail.entries.items → IsSearch f new
+search-run f old new is kept same levels (more, e, all) = record {
+  vars = same.positions ∙ is.vars;
+  state = kept;
+  learnt = learnt-same f old new same is.learnt;
+  before = λ k r at.
+      let at' : slice_get old.levels.items k ≡ Some r = subst (λ (ls : List Reach). slice_get ls k ≡ Some r) levels at in
+      let (below, none, count) = is.state.starts.start k r at' in
+      subst (λ (cs : List (List ℤ)). AllByRecursion (IsOpen (take r.entries new.trail.entries.items)) cs) (sym same.clauses)
+      (subst (λ (xs : List Entry). AllByRecursion (IsOpen xs) old.clauses) (sym (front-same old.trail.entries.items new.trail.entries.items r.entries more e (omega arith))) (is.before k r at'));
 }
-  where
-    known : known_of f s.steps.items ≡ f.clauses
-    known = ap (λ (steps : List Step). f.clauses ++ clauses_of steps) none ∙ append-nil f.clauses
 
--- ---- what is learnt
-learnt-at : (es : List Entry) (c : List ℤ) (o : Option Jump) → MatchOption o (c ≡ []) (IsJump es c) → IsFalse es c
-learnt-at es c None e k among = absurd (subst (λ (x : List ℤ). IsAmong k x) e among)
-learnt-at es c (Some jump) j k among = jump-false es c jump j k among
-
-pub learnt-false : (known : List (List ℤ)) (es : List Entry) (learnt : Learnt) → IsLearnt known es learnt → IsFalse es learnt.step.clause
-learnt-false known es learnt l = learnt-at es learnt.step.clause learnt.jump l.jump
-
-pub learnt-covered : (known : List (List ℤ)) (t : Trail) (learnt : Learnt) (n : ℕ) → ArePlaced t.entries.items t.positions.items → n ≡ length t.positions.items → IsLearnt known t.entries.items learnt → AllByRecursion (λ k. unsigned_abs k < n) learnt.step.clause
-learnt-covered known t learnt n placed e l =
-    subst (λ (m : ℕ). AllByRecursion (λ k. unsigned_abs k < m) learnt.step.clause) (sym e) (covered-false t.entries.items t.positions.items learnt.step.clause placed (learnt-false known t.entries.items learnt l))
-
-learnt-within : (known : List (List ℤ)) (t : Trail) (learnt : Learnt) (vars : ℕ) → ArePlaced t.entries.items t.positions.items → length t.positions.items ≡ vars + 1 → IsLearnt known t.entries.items learnt → IsWithin vars learnt.step.clause
-learnt-within known t learnt vars placed sized l = all_from_among (λ (k : ℤ). unsigned_abs k ≤ vars) learnt.step.clause (λ k among.
-    let less : unsigned_abs k < vars + 1 = all_among (λ (x : ℤ). unsigned_abs x < vars + 1) learnt.step.clause k (learnt-covered known t learnt (vars + 1) placed (sym sized) l) among in
-    omega arith)
-
-pub search-learnt : (f : ClauseList) (old new : Search) (learnt : Learnt) (next : ℕ) → IsSearch f old → IsLearnt (known_of f old.steps.items) old.trail.entries.items learnt
-    → next ≡ length f.clauses + length old.steps.items + 1
-    → new.steps.items ≡ old.steps.items ++ learnt.step ∷ []
-    → length new.occurrences.variables.items ≡ length old.occurrences.variables.items
-    → ((n : ℕ) → IsNumber n next → AreNumbers n old.occurrences.variables.items → AreNumbers n new.occurrences.variables.items)
-    → IsTrail f.vars (known_of f old.steps.items ++ learnt.step.clause ∷ []) new.trail
-    → 0 < new.cursor → IsSearch f new
-search-learnt f old new learnt next is l e steps variables numbers trail cursor = record {
-  clauses = subst (AreClauses f.vars) (sym known') (all_push (λ c. IsClause c × IsWithin f.vars c) (known_of f old.steps.items) learnt.step.clause is.clauses (l.clause, learnt-within (known_of f old.steps.items) old.trail learnt f.vars is.trail.placed is.trail.sized l));
-  right = subst (λ (xs : List Step). AreRightSteps f.clauses (map inference_of xs)) (sym steps) (right-push f.clauses old.steps.items learnt.step is.right l.chain);
-  trail = subst (λ (ks : List (List ℤ)). IsTrail f.vars ks new.trail) (sym known') trail;
-  sized = variables ∙ is.sized;
-  cursor = cursor;
-  numbers = subst (λ (ks : List (List ℤ)). AreNumbers (length ks) new.occurrences.variables.items) (sym known') (numbers (length (known_of f old.steps.items ++ learnt.step.clause ∷ [])) (omega arith, omega (arith, e, size, longer)) (numbers-more (length (known_of f old.steps.items)) (length (known_of f old.steps.items ++ learnt.step.clause ∷ [])) old.occurrences.variables.items (omega (arith, longer)) is.numbers));
+pub search-decided : (f : ClauseList) (old new : State) (l : ℤ) → IsSearch f old → AllByRecursion (IsOpen old.trail.entries.items) old.clauses → IsState new → SameClauses old new → IsDecided old new l → IsSearch f new
+search-decided f old new l is opened kept same decided = record {
+  vars = same.positions ∙ is.vars;
+  state = kept;
+  learnt = learnt-same f old new same is.learnt;
+  before = λ k r at. subst (λ (cs : List (List ℤ)). AllByRecursion (IsOpen (take r.entries new.trail.entries.items)) cs) (sym same.clauses)
+      (elim (slice_get_push_at old.levels.items (reach_of old) k r (subst (λ (ls : List Reach). slice_get ls k ≡ Some r) decided.levels at)) [
+        | inl at' ↦
+            let (below, none, count) = is.state.starts.start k r at' in
+            subst (λ (xs : List Entry). AllByRecursion (IsOpen xs) old.clauses) (sym (front-same old.trail.entries.items new.trail.entries.items r.entries _ decided.entries (omega arith))) (is.before k r at')
+        | inr (last, e) ↦
+            let whole : take r.entries new.trail.entries.items ≡ old.trail.entries.items = ap (λ (x : Reach). take x.entries new.trail.entries.items) e ∙ ap (take (length old.trail.entries.items)) decided.entries ∙ take-append_seam old.trail.entries.items _ in
+            subst (λ (xs : List Entry). AllByRecursion (IsOpen xs) old.clauses) (sym whole) opened
+      ]);
 }
+
+-- ---- less is left
+-- there are no more literals than variables
+placed-bound : (es : List Entry) (ps : List ℕ) (n : ℕ) → ArePlaced es ps → length ps ≡ n + 1 → length es ≤ n
+placed-bound es ps n h size = let all = covers_below (length es) (drop 1 ps) there in omega (arith, length-drop 1 ps)
   where
-    known' : known_of f new.steps.items ≡ known_of f old.steps.items ++ learnt.step.clause ∷ []
-    known' = ap (λ (xs : List Step). f.clauses ++ clauses_of xs) steps ∙ known-push f.clauses old.steps.items learnt.step
+    there : (i : ℕ) → i < length es → IsAmong i (drop 1 ps)
+    there i less =
+        let (literal, within, at) = h i less in
+        let v : ℕ = unsigned_abs (literal_at es i) in
+        let some : 0 < v = literal.0 in
+        let back : 1 + (v - 1) ≡ v = omega arith in
+        let e : get_or (drop 1 ps) (v - 1) 0 ≡ i = get_or-drop 1 ps (v - 1) 0 ∙ ap (λ j. get_or ps j 0) back ∙ at in
+        subst (λ (x : ℕ). IsAmong x (drop 1 ps)) e (among_at (drop 1 ps) (v - 1) 0 (omega (arith, length-drop 1 ps)))
 
-    size : length (known_of f old.steps.items) ≡ length f.clauses + length old.steps.items
-    size = length-known f.clauses old.steps.items
+pub trail-bound : (f : ClauseList) (s : State) → IsSearch f s → length s.trail.entries.items ≤ f.vars
+trail-bound f s is = placed-bound s.trail.entries.items s.trail.positions.items f.vars is.state.trail.placed is.vars
 
-    longer : length (known_of f old.steps.items ++ learnt.step.clause ∷ []) ≡ length (known_of f old.steps.items) + 1
-    longer = length_push (known_of f old.steps.items) learnt.step.clause
-
--- ---- the literals that stay, and the one that is turned
-pub free-back : (es : List Entry) (ps : List ℕ) (p d : ℕ) → ArePlaced es ps → p < length es → d ≤ p → StandsNowhere (take d es) (unsigned_abs (literal_at es p))
-free-back es ps p d placed less before i (less', size) =
-    let bound : i < d = omega (arith, length-take d es) in
-    let here : literal_at (take d es) i ≡ literal_at es i = ap (λ (x : Entry). x.literal) (entry-back es d i bound) in
-    let same : i ≡ p = same_place es ps i p placed (omega arith) less (ap unsigned_abs (sym here) ∙ size) in
+-- a literal was decided, and then a run came
+pub less-decided : (f : ClauseList) (old between new : State) (l : ℤ) → IsSearch f new → IsDecided old between l → Grows (length between.levels.items) between.trail.entries.items new.trail.entries.items → work_left f.vars new.trail.entries.items < work_left f.vars old.trail.entries.items
+less-decided f old between new l is decided (more, e, all) =
+    let n : ℕ = f.vars in
+    let es : List Entry = old.trail.entries.items in
+    let bound = trail-bound f new is in
+    let size : length new.trail.entries.items ≡ length between.trail.entries.items + length more = ap length e ∙ length-append between.trail.entries.items more in
+    let size' : length between.trail.entries.items ≡ length es + 1 = ap length decided.entries ∙ length_push es _ in
+    let first : work_left n between.trail.entries.items < work_left n es = subst (λ (xs : List Entry). work_left n xs < work_left n es) (sym decided.entries) (work_left-push n es _ (omega arith)) in
+    let rest : work_left n new.trail.entries.items ≤ work_left n between.trail.entries.items = subst (λ (xs : List Entry). work_left n xs ≤ work_left n between.trail.entries.items) (sym e) (work_left-more n between.trail.entries.items more (omega (arith, ap length e))) in
     omega arith
 
-pub trail-learnt : (vars : ℕ) (known : List (List ℤ)) (t : Trail) (c : List ℤ) → IsTrail vars known t → IsTrail vars (known ++ c ∷ []) t
-trail-learnt vars known t c h = record { sized = h.sized; placed = h.placed; explained = explained-known known (c ∷ []) t.entries.items h.explained }
+-- ---- clauses with their chains
+pub zipped-next : (cs : List (List ℤ)) (chains : List (List ℕ)) (i : ℕ) (c : List ℤ) (ns : List ℕ) → slice_get cs i ≡ Some c → slice_get chains i ≡ Some ns → zipped (drop i cs) (drop i chains) ≡ record { clause = c; chain = ns } ∷ zipped (drop (i + 1) cs) (drop (i + 1) chains)
+zipped-next [] chains i c ns at at' = cc
+zipped-next (x ∷ cs) [] i c ns at at' = cc
+zipped-next (x ∷ cs) (y ∷ chains) zero c ns at at' = cc
+zipped-next (x ∷ cs) (y ∷ chains) (suc i) c ns at at' =
+    let e : suc i + 1 ≡ suc (i + 1) = omega arith in
+    zipped-next cs chains i c ns at at' ∙ ap (λ (n : ℕ). (let s : Inference = record { clause = c; chain = ns } in s) ∷ zipped (drop n (x ∷ cs)) (drop n (y ∷ chains))) (sym e)
 
-pub trail-turned : (vars : ℕ) (known : List (List ℤ)) (old new : Trail) (c : List ℤ) (jump : Jump) (e : Entry) → IsTrail vars known old → IsClause c → IsJump old.entries.items c jump
-    → new.entries.items ≡ take jump.decision old.entries.items ++ e ∷ [] → e.literal ≡ neg_ℤ (literal_at old.entries.items jump.place) → e.reason ≡ length known + 1
-    → ArePlaced new.entries.items new.positions.items → length new.positions.items ≡ length old.positions.items → IsTrail vars (known ++ c ∷ []) new
-trail-turned vars known old new c jump e h clause j entries literal reason placed positions =
-    let es : List Entry = old.entries.items in
-    let d : ℕ = jump.decision in
-    let bound : d ≤ length es = (let b = j.before in let b' = j.here in omega arith) in
-    let before : AreExplained (known ++ c ∷ []) (take d es) = explained-back (known ++ c ∷ []) es d (explained-known known (c ∷ []) es h.explained) in
-    let others : (k : ℤ) → IsAmong k c → (k ≡ e.literal) ⊎ IsOn (take d es) (neg_ℤ k) = λ k among. elim (j.others k among) [
-      | inl same ↦ inl (same ∙ sym literal)
-      | inr below ↦ inr (on-back es d (neg_ℤ k) bound below)
-    ] in
-    record {
-      sized = positions ∙ h.sized;
-      placed = placed;
-      explained = subst (AreExplained (known ++ c ∷ [])) (sym entries) (explained-push (known ++ c ∷ []) (take d es) e before
-          (inr (c, numbered-last known c e.reason reason, clause, subst (λ (k : ℤ). IsAmong k c) (sym literal) j.has, others)));
-    }
+-- the clauses of the steps and their chains are the steps
+pub zipped-steps : (cs : List (List ℤ)) (none : List (List ℕ)) (steps : List Inference) → length none ≡ length cs
+    → zipped (drop (length cs) (cs ++ map (λ (i : Inference). i.clause) steps)) (drop (length cs) (none ++ map (λ (i : Inference). i.chain) steps)) ≡ steps
+zipped-steps cs none steps size =
+    ap (λ (xs : List (List ℤ)). zipped xs (drop (length cs) (none ++ map (λ (i : Inference). i.chain) steps))) (drop-append_seam cs (map (λ (i : Inference). i.clause) steps))
+    ∙ ap (λ (n : ℕ). zipped (map (λ (i : Inference). i.clause) steps) (drop n (none ++ map (λ (i : Inference). i.chain) steps))) (sym size)
+    ∙ ap (zipped (map (λ (i : Inference). i.clause) steps)) (drop-append_seam none (map (λ (i : Inference). i.chain) steps))
+    ∙ both steps
+  where
+    both : (steps : List Inference) → zipped (map (λ (i : Inference). i.clause) steps) (map (λ (i : Inference). i.chain) steps) ≡ steps
+    both [] = refl
+    both (s ∷ steps) = ap (λ (rest : List Inference). s ∷ rest) (both steps)

@@ -1,31 +1,34 @@
--- Trails that grow and are taken back.
-use Rattle.std.proofs.Common.{◌≡◌, ℕ, ◌+◌, ◌-◌, ◌<◌, ◌≤◌, List, [], ◌∷◌, ◌++◌, ◌⊎◌, inl, inr, refl, sym, ap, ◌∙◌, subst, arith, ℤ, pos, neg_ℤ, unsigned_abs, length, length-append, take, drop, get_or, Some, append-nil, append_assoc}
+-- Trails that grow and are taken back, and the values of literals.
+use Rattle.std.proofs.Common.{◌≡◌, ℕ, ◌+◌, ◌<◌, ◌≤◌, List, [], ◌∷◌, ◌++◌, ◌⊎◌, ◌↔◌, inl, inr, refl, sym, ap, ◌∙◌, subst, arith, ℤ, pos, neg_ℤ, unsigned_abs, length, length-append, take, get_or, Option, Some, None, MatchOption, Bool, true, false, IsTrue, is_some, unwrap_or, true≢false}
+use Rattle.std.specs.Bool.{MatchBool}
 use Rattle.std.proofs.lemmas.Bool.{cases_lt}
-use Rattle.std.proofs.lemmas.List.{get_or_append_left, get_or_push, get_or-take, length_push, length-take, length-drop, get_or-drop, get_or_read}
+use Rattle.std.proofs.lemmas.List.{get_or_append_left, get_or_push, get_or-take, length_push, length-take, get_or_read}
 use Rattle.mcs_base.specs.Listings.{IsAmong}
 use Rattle.mcs_base.proofs.Among.{among_at}
 use Rattle.mcs_base.proofs.Distinct.{covers_below}
+use Rattle.mcs_base.proofs.Numbers.{unsigned_abs-neg_ℤ}
 use Rattle.mcs_trace.specs.Clauses.{IsClause, IsLiteral}
 use Rattle.mcs_trace.specs.Traces.{numbered}
+use Rattle.mcs_trace.proofs.OrderLemmas.{neg_differs}
 use Rattle.mcs_sat.specs.declared.trail.Entry.{Entry}
-use Rattle.mcs_sat.specs.Trails.{literal_at, reason_at, ArePlaced, IsOn, IsOnBelow, IsFalse, IsFalseBelow, IsReason, AreExplained, Extends}
+use Rattle.mcs_sat.specs.Trails.{literal_at, reason_at, AreAssigned, ArePlaced, StandsAt, StandsNowhere, IsOn, IsOnBelow, IsFalse, IsFalseBelow, IsReason, AreExplained}
 use Rattle.mcs_sat.proofs.KnownLemmas.{numbered-more}
 
 abbrev pub entry_at : List Entry → ℕ → Entry
-entry_at entries i = get_or entries i (record { literal = pos 0; reason = 0 })
+entry_at entries i = get_or entries i (record { literal = pos 0; reason = 0; level = 0 })
 
 pub entry-old : (es more : List Entry) (i : ℕ) → i < length es → entry_at (es ++ more) i ≡ entry_at es i
-entry-old es more i less = get_or_append_left es more (record { literal = pos 0; reason = 0 }) i less
+entry-old es more i less = get_or_append_left es more (record { literal = pos 0; reason = 0; level = 0 }) i less
 
 pub entry-new : (es : List Entry) (e : Entry) → entry_at (es ++ e ∷ []) (length es) ≡ e
-entry-new es e = get_or_push es e (record { literal = pos 0; reason = 0 }) (length es) refl
+entry-new es e = get_or_push es e (record { literal = pos 0; reason = 0; level = 0 }) (length es) refl
 
 pub entry-back : (es : List Entry) (n i : ℕ) → i < n → entry_at (take n es) i ≡ entry_at es i
-entry-back es n i less = get_or-take n es i (record { literal = pos 0; reason = 0 }) less
+entry-back es n i less = get_or-take n es i (record { literal = pos 0; reason = 0; level = 0 }) less
 
 -- what the code reads at a place
 pub entry-read : (es : List Entry) (i : ℕ) (e : Entry) → i < length es → e ≡ get_or es i e → e ≡ entry_at es i
-entry-read es i e less is = get_or_read es i e less is (record { literal = pos 0; reason = 0 })
+entry-read es i e less is = get_or_read es i e less is (record { literal = pos 0; reason = 0; level = 0 })
 
 pub literal-read : (es : List Entry) (i : ℕ) (e : Entry) → i < length es → e ≡ get_or es i e → e.literal ≡ literal_at es i
 literal-read es i e less is = ap (λ (x : Entry). x.literal) (entry-read es i e less is)
@@ -51,9 +54,6 @@ false_below es n c bound h k among = on_below es n (neg_ℤ k) bound (h k among)
 
 pub false_below-all : (es : List Entry) (c : List ℤ) → IsFalse es c → IsFalseBelow es (length es) c
 false_below-all es c h k among = h k among
-
-pub false-more : (es more : List Entry) (c : List ℤ) → IsFalse es c → IsFalse (es ++ more) c
-false-more es more c h k among = on-more es more (neg_ℤ k) (h k among)
 
 -- ---- reasons
 reason-same : (es es' : List Entry) (i : ℕ) (c : List ℤ) → ((j : ℕ) → j ≤ i → entry_at es' j ≡ entry_at es j) → IsReason es i c → IsReason es' i c
@@ -122,22 +122,39 @@ placed-back es ps n h i less =
     let same : literal_at (take n es) i ≡ literal_at es i = ap (λ (x : Entry). x.literal) (entry-back es n i (omega arith)) in
     subst (λ (l : ℤ). IsLiteral l × (unsigned_abs l < length ps) × (get_or ps (unsigned_abs l) 0 ≡ i)) (sym same) (h i (omega arith))
 
--- there are no more literals than variables
-pub placed-bound : (es : List Entry) (ps : List ℕ) (n : ℕ) → ArePlaced es ps → length ps ≡ n + 1 → length es ≤ n
-placed-bound es ps n h size = let all = covers_below (length es) (drop 1 ps) there in omega (arith, length-drop 1 ps)
-  where
-    there : (i : ℕ) → i < length es → IsAmong i (drop 1 ps)
-    there i less =
-        let (literal, within, at) = h i less in
-        let v : ℕ = unsigned_abs (literal_at es i) in
-        let some : 0 < v = literal.0 in
-        let back : 1 + (v - 1) ≡ v = omega arith in
-        let e : get_or (drop 1 ps) (v - 1) 0 ≡ i = get_or-drop 1 ps (v - 1) 0 ∙ ap (λ j. get_or ps j 0) back ∙ at in
-        subst (λ (x : ℕ). IsAmong x (drop 1 ps)) e (among_at (drop 1 ps) (v - 1) 0 (omega (arith, length-drop 1 ps)))
+-- there are no more literals than places
+pub placed-most : (es : List Entry) (ps : List ℕ) → ArePlaced es ps → length es ≤ length ps
+placed-most es ps h = covers_below (length es) ps (λ i less. let (literal, within, at) = h i less in subst (λ (x : ℕ). IsAmong x ps) at (among_at ps (unsigned_abs (literal_at es i)) 0 within))
 
--- ---- trails that grow
-pub extends-none : (es : List Entry) → Extends es es
-extends-none es = ([], sym (append-nil es))
+-- ---- values
+-- a variable stands at one place
+pub same_place : (es : List Entry) (ps : List ℕ) (i j : ℕ) → ArePlaced es ps → i < length es → j < length es → unsigned_abs (literal_at es i) ≡ unsigned_abs (literal_at es j) → i ≡ j
+same_place es ps i j placed less less' e = sym (placed i less).2 ∙ ap (λ n. get_or ps n 0) e ∙ (placed j less').2
 
-pub extends-more : (es es' es'' : List Entry) → Extends es es' → Extends es' es'' → Extends es es''
-extends-more es es' es'' (more, e) (more', e') = (more ++ more', e' ∙ ap (λ (x : List Entry). x ++ more') e ∙ append_assoc es more more')
+-- no literal is on with its negation
+pub not_both_on : (es : List Entry) (ps : List ℕ) (k : ℤ) → ArePlaced es ps → IsOn es k → IsOn es (neg_ℤ k) → ⊥
+not_both_on es ps k placed (i, less, e) (j, less', e') =
+    let sizes : unsigned_abs (literal_at es i) ≡ unsigned_abs (literal_at es j) = ap unsigned_abs e ∙ sym (unsigned_abs-neg_ℤ k) ∙ sym (ap unsigned_abs e') in
+    let same : i ≡ j = same_place es ps i j placed less less' sizes in
+    let k-is : k ≡ neg_ℤ k = sym e ∙ ap (literal_at es) same ∙ e' in
+    neg_differs k (subst IsLiteral e (placed i less).0) k-is
+
+pub true-is_on : (es : List Entry) (ps : List ℕ) (l : ℤ) (o : Option Bool) (b : Bool) → b ≡ unwrap_or o false → ArePlaced es ps
+    → MatchOption o (StandsNowhere es (unsigned_abs l)) (λ v. MatchBool v (IsOn es l) (IsOn es (neg_ℤ l))) → IsTrue b ↔ IsOn es l
+true-is_on es ps l None b e placed nowhere = (
+  λ yes. absurd (true≢false (sym yes ∙ e)),
+  λ (p, less, at). absurd (nowhere p (less, ap unsigned_abs at)),
+)
+true-is_on es ps l (Some true) b e placed on = (λ yes. on, λ on'. e)
+true-is_on es ps l (Some false) b e placed off = (
+  λ yes. absurd (true≢false (sym yes ∙ e)),
+  λ on. absurd (not_both_on es ps l placed on off),
+)
+
+-- ---- variables that stand somewhere
+pub assigned-more : (es : List Entry) (from i : ℕ) (o : Option ℕ) → AreAssigned es from i → is_some o ≡ true → MatchOption o (StandsNowhere es i) (StandsAt es i) → AreAssigned es from (i + 1)
+assigned-more es from i None h some at v low less = absurd (cc)
+assigned-more es from i (Some p) h some at v low less = elim (cases_lt v i) [
+  | inl before ↦ h v low before
+  | inr past ↦ let same : i ≡ v = omega arith in (p, subst (λ (w : ℕ). StandsAt es w p) same at)
+]

@@ -4,7 +4,7 @@ use Rattle.std.proofs.lemmas.Bool.Decides.{nat_tests}
 use Rattle.std.proofs.Math.Nat.{pow-succ', one-le-pow}
 use Rattle.mcs_base.proofs.Numbers.{cond_times-le}
 use Rattle.mcs_sat.specs.declared.trail.Entry.{Entry}
-use Rattle.mcs_sat.specs.Trails.{work_left}
+use Rattle.mcs_sat.specs.Searches.{work_left}
 
 work_left-bound : (n : ℕ) (es : List Entry) → work_left n es < 3 ^ n
 work_left-bound zero es = omega arith

@@ -1,3 +1,7 @@
 pub mod Answers
 pub mod Trails
-pub mod Turns
+pub mod Learning
+pub mod Watching
+pub mod Solvers
+pub mod States
+pub mod Searches

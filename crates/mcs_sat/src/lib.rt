@@ -1,14 +1,19 @@
 //! A search for an assignment that satisfies clauses; where there is none, it makes a trace that shows so.
 #![tactic(auto)]
 
+mod analyse;
 mod examine;
-mod learn;
+mod latest;
 mod model;
-mod occurrences;
+mod order;
 mod outcome;
 mod propagate;
 mod search;
+mod solver;
+mod state;
 mod trail;
+mod watches;
 
 pub use outcome::Outcome;
 pub use search::solve;
+pub use solver::Solver;

@@ -1,114 +1,226 @@
 //! What the true literals make true.
 
-ghost use Rattle.std.specs.Prelude.{◌≡◌, ◌<◌, ◌≤◌, ◌+◌, ℕ, ℤ, List, length, unsigned_abs, IfOk, OnOk, IfSome, IsTrue, All, false};
-ghost use Rattle.std.specs.Option.{IfNone};
-ghost use Rattle.mcs_trace.specs.Traces.{numbered};
-ghost use Rattle.mcs_sat.specs.Trails.{AreClauses, AreNumbers, IsNumber, IsConflict, IsTrail, IsSettled, IsNumberVisited, IsPlaceVisited, Extends, known_of};
+ghost use Rattle.std.specs.Prelude.{◌≡◌, ◌≢◌, ℕ, ℤ, ◌+◌, ◌*◌, ◌<◌, ◌≤◌, ◌⊎◌, List, neg_ℤ, length, slice_get, MatchOption, IfOk, All};
+ghost use Rattle.std.specs.Bool.{MatchBool};
+ghost use Rattle.mcs_base.specs.Listings.{IsAmong};
+ghost use Rattle.mcs_trace.specs.Clauses.{IsClause, IsLiteral, place};
+ghost use Rattle.mcs_sat.specs.declared.state.Reach.{Reach};
+ghost use Rattle.mcs_sat.specs.Trails.{AreCovered, ArePlaced, Grows, IsFalseAt, IsOn, IsSatisfied, IsTrail};
+ghost use Rattle.mcs_sat.specs.Watching.{AreSettled, AreVisited, AreWatched, IsLong, IsReached, IsSeen};
 
 use crate::examine::{Finding, examine};
-use crate::occurrences::Occurrences;
 use crate::trail::Trail;
-use mcs_base::Memory;
-use mcs_trace::{Cnf, Step, numbered};
+use crate::watches::{Pair, Watches};
+use mcs_base::{Memory, Rows};
+use mcs_trace::place;
 
-/// Makes the last literal of the clause true where the others are false; whether all are false.
-fn visit(cnf: &Cnf, steps: &[Step], trail: &mut Trail, number: u64) -> Result<bool, Memory>
-    requires clauses { AreClauses cnf.now.vars (known_of cnf.now steps.now) }
-    requires trail { IsTrail cnf.now.vars (known_of cnf.now steps.now) trail.old }
-    requires number { IsNumber (length (known_of cnf.now steps.now)) number }
-    ensures trail { OnOk result (IsTrail cnf.now.vars (known_of cnf.now steps.now) trail.new) }
-    ensures grows { OnOk result (Extends trail.old.entries.items trail.new.entries.items) }
-    ensures conflict { IfOk result
-        (λ is_false. IsTrue is_false → IsConflict (known_of cnf.now steps.now) trail.new.entries.items number) }
-    ensures settled { IfOk result (λ is_false. is_false ≡ false → (c : List ℤ)
-        → numbered (known_of cnf.now steps.now) number ≡ Some c → IsSettled trail.new.entries.items c) }
+/// What became of a clause that was visited since a literal of it became false: a literal of it is true; it does
+/// not watch the literal any more; all its literals are false.
+#[derive(Drop)]
+pub(crate) enum Seen {
+    Satisfied,
+    Gone,
+    Conflict,
+}
+
+/// A literal of the clause, other than the one, that is not false.
+fn open_literal(trail: &Trail, literals: &[i64], other: i64) -> Option<i64>
+    requires placed { ArePlaced trail.now.entries.items trail.now.positions.items }
+    requires clause { IsClause literals.now }
+    requires covered { AreCovered trail.now.positions.items literals.now }
+    ensures { MatchOption result
+        ((k : ℤ) → IsAmong k literals.now → (k ≡ other) ⊎ IsOn trail.now.entries.items (neg_ℤ k))
+        (λ l. IsAmong l literals.now × (l ≢ other) × ¬ IsOn trail.now.entries.items (neg_ℤ l)) }
 {
-    let Some(clause) = numbered(cnf.clauses(), steps, number) else {
-        unreachable!();
+    for literal in literals {
+        if *literal != other && !trail.is_false(*literal) {
+            return Some(*literal);
+        }
+    }
+    None
+}
+
+/// Visits the clause of the index, which stands in the list of the literal; this one is false.
+fn visit(
+    clauses: &Rows<i64>,
+    watches: &mut Watches,
+    trail: &mut Trail,
+    level: usize,
+    index: usize,
+    literal: i64,
+) -> Result<Seen, Memory>
+    requires trail { IsTrail clauses.now trail.old }
+    requires lists { length watches.old.lists.items ≡ 2 * length trail.old.positions.items }
+    requires watched { AreWatched clauses.now watches.old }
+    requires literal { IsLiteral literal }
+    requires off { IsOn trail.old.entries.items (neg_ℤ literal) }
+    ensures trail { IsTrail clauses.now trail.new }
+    ensures positions { length trail.new.positions.items ≡ length trail.old.positions.items }
+    ensures grows { Grows level trail.old.entries.items trail.new.entries.items }
+    ensures lists { length watches.new.lists.items ≡ length watches.old.lists.items }
+    ensures watched { AreWatched clauses.now watches.new }
+    ensures short { watches.new.short.items ≡ watches.old.short.items }
+    ensures reached { (r : Reach) → r.visited ≤ length trail.old.entries.items
+        → IsReached clauses.now watches.old trail.old.entries.items r → IsReached clauses.now watches.new trail.old.entries.items r }
+    ensures list { slice_get watches.new.lists.items (place literal) ≡ slice_get watches.old.lists.items (place literal) }
+    ensures seen { IfOk result (IsSeen clauses.now watches.new trail.new.entries.items index literal) }
+{
+    if index >= watches.pairs.len() {
+        return Ok(Seen::Gone);
+    }
+    let Some(other) = watches.pairs[index].other(literal) else {
+        return Ok(Seen::Gone);
     };
-    match examine(trail, clause.literals()) {
+    if trail.is_true(other) {
+        return Ok(Seen::Satisfied);
+    }
+    if let Some(open) = open_literal(trail, clauses.row(index), other) {
+        watches.list(open, index)?;
+        watches.pairs[index] = Pair {
+            first: other,
+            second: open,
+        };
+        return Ok(Seen::Gone);
+    }
+    if trail.is_false(other) {
+        return Ok(Seen::Conflict);
+    }
+    trail.push(other, index as u64 + 1, level)?;
+    Ok(Seen::Satisfied)
+}
+
+/// Visits the clauses that watch the literal, which is false; the index of one that is false.
+fn visit_list(
+    clauses: &Rows<i64>,
+    watches: &mut Watches,
+    trail: &mut Trail,
+    level: usize,
+    literal: i64,
+) -> Result<Option<usize>, Memory>
+    requires trail { IsTrail clauses.now trail.old }
+    requires lists { length watches.old.lists.items ≡ 2 * length trail.old.positions.items }
+    requires watched { AreWatched clauses.now watches.old }
+    requires literal { IsLiteral literal }
+    requires off { IsOn trail.old.entries.items (neg_ℤ literal) }
+    ensures trail { IsTrail clauses.now trail.new }
+    ensures positions { length trail.new.positions.items ≡ length trail.old.positions.items }
+    ensures grows { Grows level trail.old.entries.items trail.new.entries.items }
+    ensures lists { length watches.new.lists.items ≡ length watches.old.lists.items }
+    ensures watched { AreWatched clauses.now watches.new }
+    ensures short { watches.new.short.items ≡ watches.old.short.items }
+    ensures reached { (r : Reach) → r.visited ≤ length trail.old.entries.items
+        → IsReached clauses.now watches.old trail.old.entries.items r → IsReached clauses.now watches.new trail.old.entries.items r }
+    ensures found { IfOk result (λ found. MatchOption found
+        (AreVisited clauses.now watches.new trail.new.entries.items literal)
+        (IsFalseAt clauses.now trail.new.entries.items)) }
+{
+    let list = place(literal) as usize;
+    let mut at = 0;
+    while at < watches.lists[list].len() {
+        let index = watches.lists[list][at];
+        match visit(clauses, watches, trail, level, index, literal)? {
+            Seen::Satisfied => at += 1,
+            Seen::Gone => {
+                watches.lists[list].swap_remove(at);
+            }
+            Seen::Conflict => return Ok(Some(index)),
+        }
+    }
+    Ok(None)
+}
+
+/// Visits the clauses that watch what became false from the place on, and goes on with what becomes so; the
+/// index of one that is false.
+pub(crate) fn visit_from(
+    clauses: &Rows<i64>,
+    watches: &mut Watches,
+    trail: &mut Trail,
+    level: usize,
+    from: &mut usize,
+) -> Result<Option<usize>, Memory>
+    requires trail { IsTrail clauses.now trail.old }
+    requires lists { length watches.old.lists.items ≡ 2 * length trail.old.positions.items }
+    requires watched { AreWatched clauses.now watches.old }
+    requires bound { from.old ≤ length trail.old.entries.items }
+    ensures trail { IsTrail clauses.now trail.new }
+    ensures positions { length trail.new.positions.items ≡ length trail.old.positions.items }
+    ensures grows { Grows level trail.old.entries.items trail.new.entries.items }
+    ensures lists { length watches.new.lists.items ≡ length watches.old.lists.items }
+    ensures watched { AreWatched clauses.now watches.new }
+    ensures short { watches.new.short.items ≡ watches.old.short.items }
+    ensures bound { from.new ≤ length trail.new.entries.items }
+    ensures reached { (r : Reach) → r.visited ≤ length trail.old.entries.items
+        → IsReached clauses.now watches.old trail.old.entries.items r → IsReached clauses.now watches.new trail.old.entries.items r }
+    ensures now { (settled : ℕ)
+        → IsReached clauses.now watches.old trail.old.entries.items (record { entries = length trail.old.entries.items; visited = from.old; settled = settled })
+        → IsReached clauses.now watches.new trail.new.entries.items (record { entries = length trail.new.entries.items; visited = from.new; settled = settled }) }
+    ensures found { IfOk result (λ found. MatchOption found
+        (from.new ≡ length trail.new.entries.items)
+        (IsFalseAt clauses.now trail.new.entries.items)) }
+{
+    while *from < trail.entries.len() {
+        let literal = trail.negated(*from);
+        let found = visit_list(clauses, watches, trail, level, literal)?;
+        if found.is_some() {
+            return Ok(found);
+        }
+        *from += 1;
+    }
+    Ok(None)
+}
+
+/// Makes the last literal of the clause of the index true where the others are false; whether all are false.
+fn settle(
+    clauses: &Rows<i64>,
+    trail: &mut Trail,
+    level: usize,
+    index: usize,
+) -> Result<bool, Memory>
+    requires trail { IsTrail clauses.now trail.old }
+    ensures trail { IsTrail clauses.now trail.new }
+    ensures positions { length trail.new.positions.items ≡ length trail.old.positions.items }
+    ensures grows { Grows level trail.old.entries.items trail.new.entries.items }
+    ensures found { IfOk result (λ found. MatchBool found
+        (IsFalseAt clauses.now trail.new.entries.items index)
+        ((c : List ℤ) → slice_get clauses.now index ≡ Some c → ¬ IsLong c → IsSatisfied trail.new.entries.items c)) }
+{
+    if index >= clauses.len() {
+        return Ok(false);
+    }
+    match examine(trail, clauses.row(index)) {
         Finding::Open => Ok(false),
         Finding::Forced(literal) => {
-            trail.push(literal, number)?;
+            trail.push(literal, index as u64 + 1, level)?;
             Ok(false)
         }
         Finding::Conflict => Ok(true),
     }
 }
 
-/// Visits the clauses of the list; the number of one that is false, where all could not be settled.
-pub(crate) fn visit_all(cnf: &Cnf, steps: &[Step], trail: &mut Trail) -> Result<Option<u64>, Memory>
-    requires clauses { AreClauses cnf.now.vars (known_of cnf.now steps.now) }
-    requires trail { IsTrail cnf.now.vars (known_of cnf.now steps.now) trail.old }
-    ensures trail { OnOk result (IsTrail cnf.now.vars (known_of cnf.now steps.now) trail.new) }
-    ensures conflict { IfOk result
-        (λ found. IfSome found (IsConflict (known_of cnf.now steps.now) trail.new.entries.items)) }
-    ensures visited { IfOk result (λ found. IfNone found ((n : ℕ) → IsNumber (length cnf.now.clauses) n
-        → IsNumberVisited (known_of cnf.now steps.now) trail.old.entries.items trail.new.entries.items n)) }
-{
-    for index in 0..cnf.clauses().len() {
-        let number = index as u64 + 1;
-        if visit(cnf, steps, trail, number)? {
-            return Ok(Some(number));
-        }
-    }
-    Ok(None)
-}
-
-/// Visits the clauses of the numbers; the number of one that is false, where all could not be settled.
-fn visit_numbers(
-    cnf: &Cnf,
-    steps: &[Step],
+/// Settles the clauses of the indices from the one on; the index of one that is false.
+pub(crate) fn settle_from(
+    clauses: &Rows<i64>,
+    indices: &[usize],
     trail: &mut Trail,
-    numbers: &[u64],
-) -> Result<Option<u64>, Memory>
-    requires clauses { AreClauses cnf.now.vars (known_of cnf.now steps.now) }
-    requires trail { IsTrail cnf.now.vars (known_of cnf.now steps.now) trail.old }
-    requires numbers { All (IsNumber (length (known_of cnf.now steps.now))) numbers.now }
-    ensures trail { OnOk result (IsTrail cnf.now.vars (known_of cnf.now steps.now) trail.new) }
-    ensures grows { OnOk result (Extends trail.old.entries.items trail.new.entries.items) }
-    ensures conflict { IfOk result
-        (λ found. IfSome found (IsConflict (known_of cnf.now steps.now) trail.new.entries.items)) }
-    ensures visited { IfOk result (λ found. IfNone found
-        (All (IsNumberVisited (known_of cnf.now steps.now) trail.old.entries.items trail.new.entries.items) numbers.now)) }
+    level: usize,
+    from: &mut usize,
+) -> Result<Option<usize>, Memory>
+    requires trail { IsTrail clauses.now trail.old }
+    ensures trail { IsTrail clauses.now trail.new }
+    ensures positions { length trail.new.positions.items ≡ length trail.old.positions.items }
+    ensures grows { Grows level trail.old.entries.items trail.new.entries.items }
+    ensures settled { AreSettled clauses.now indices.now trail.new.entries.items from.old from.new }
+    ensures bound { from.old ≤ length indices.now → from.new ≤ length indices.now }
+    ensures found { IfOk result (λ found. MatchOption found
+        (length indices.now ≤ from.new)
+        (IsFalseAt clauses.now trail.new.entries.items)) }
 {
-    for number in numbers {
-        if visit(cnf, steps, trail, *number)? {
-            return Ok(Some(*number));
+    while *from < indices.len() {
+        let index = indices[*from];
+        if settle(clauses, trail, level, index)? {
+            return Ok(Some(index));
         }
-    }
-    Ok(None)
-}
-
-/// Visits the clauses in which a literal became false from the place on, and goes on with those that become
-/// true; the number of one that is false, where all could not be settled.
-pub(crate) fn propagate(
-    cnf: &Cnf,
-    steps: &[Step],
-    occurrences: &Occurrences,
-    trail: &mut Trail,
-    from: usize,
-) -> Result<Option<u64>, Memory>
-    requires clauses { AreClauses cnf.now.vars (known_of cnf.now steps.now) }
-    requires trail { IsTrail cnf.now.vars (known_of cnf.now steps.now) trail.old }
-    requires sized { length occurrences.now.variables.items ≡ cnf.now.vars + 1 }
-    requires numbers { AreNumbers (length (known_of cnf.now steps.now)) occurrences.now.variables.items }
-    ensures trail { OnOk result (IsTrail cnf.now.vars (known_of cnf.now steps.now) trail.new) }
-    ensures grows { OnOk result (Extends trail.old.entries.items trail.new.entries.items) }
-    ensures conflict { IfOk result
-        (λ found. IfSome found (IsConflict (known_of cnf.now steps.now) trail.new.entries.items)) }
-    ensures visited { IfOk result
-        (λ found. IfNone found ((i : ℕ) → from ≤ i → i < length trail.new.entries.items
-        → IsPlaceVisited (known_of cnf.now steps.now) occurrences.now.variables.items trail.new.entries.items i)) }
-{
-    let mut head = from;
-    while head < trail.entries.len() {
-        let literal = trail.negated(head);
-        let found = visit_numbers(cnf, steps, trail, occurrences.of(literal))?;
-        if found.is_some() {
-            return Ok(found);
-        }
-        head += 1;
+        *from += 1;
     }
     Ok(None)
 }

@@ -1,194 +1,221 @@
 //! The search.
 
-ghost use Rattle.std.specs.Prelude.{◌≡◌, [], ◌<◌, ◌≤◌, map, length, IfOk, OnOk, IfSome, MatchOption};
-ghost use Rattle.std.specs.Bool.{MatchBool};
+ghost use Rattle.std.specs.Prelude.{◌≡◌, [], ◌∷◌, ◌++◌, IfOk, OnOk, length, map, drop};
 ghost use Rattle.std.specs.List.{AllByRecursion};
-ghost use Rattle.mcs_trace.specs.Traces.{EndsEmpty, inference_of};
+ghost use Rattle.mcs_trace.specs.Clauses.{IsClause};
+ghost use Rattle.mcs_trace.specs.Traces.{IsAcceptedTrace, inference_of, inferences_of};
 ghost use Rattle.mcs_sat.specs.Answers.{IsAnswer, IsExact};
-ghost use Rattle.mcs_sat.specs.Trails.{IsConflict, IsSatisfied, IsSearch, known_of, work_left};
-ghost use Rattle.mcs_sat.specs.Turns.{IsChoice, IsTurn};
+ghost use Rattle.mcs_sat.specs.States.{IsState};
+ghost use Rattle.mcs_sat.specs.Searches.{IsEnd, IsRun, IsSearch, IsTurned, zipped};
+ghost use Rattle.mcs_sat.specs.Trails.{IsFalse, IsFalseAt, IsOpen};
 
-use crate::learn::{Learnt, analyse};
-use crate::model::{first_false, model_of};
-use crate::occurrences::Occurrences;
+use crate::analyse::analyse;
+use crate::latest::latest_of;
+use crate::model::model_of;
+use crate::order::Order;
 use crate::outcome::Outcome;
-use crate::propagate::{propagate, visit_all};
-use crate::trail::Trail;
-use mcs_base::Memory;
-use mcs_trace::{Cnf, Step, Trace};
+use crate::solver::{run, state_of};
+use crate::state::{State, decide, learn, turn_of};
+use mcs_base::{Memory, Rows};
+use mcs_trace::{Clause, Cnf, Step, Trace};
 use std::alloc::Global;
 
-/// What a search has done so far: the literals that are true, those from `head` on not yet propagated; the
-/// clauses that it has learnt; in which clauses each literal is; and a variable from which on to look for a
-/// free one.
-#[derive(Drop)]
-pub(crate) struct Search {
-    pub trail: Trail,
-    pub head: usize,
-    pub steps: Vec<Step>,
-    pub occurrences: Occurrences,
-    pub cursor: usize,
-}
-
-/// What a choice came to: a literal made true; a clause that is false; all clauses are satisfied.
-#[derive(Drop)]
-pub(crate) enum Choice {
-    Decided,
-    False(u64),
-    Satisfied,
-}
-
-/// What a turn came to: the search goes on; all clauses are satisfied; the empty clause is learnt.
+/// What a turn came to: the search goes on, from a clause that is false or from none; all clauses are satisfied; the
+/// clause of the index is false though nothing was decided.
 #[derive(Drop)]
 pub(crate) enum Turn {
-    Goes,
+    Goes(Option<usize>),
     Satisfied,
-    Refuted,
+    Refuted(usize),
 }
 
-impl Search {
-    /// Nothing is true or learnt.
-    fn new(alloc: Global, cnf: &Cnf) -> Result<Search, Memory>
-        ensures { IfOk result (IsSearch cnf.now) }
-    {
-        Ok(Search {
-            trail: Trail::new(alloc, cnf.vars())?,
-            head: 0,
-            steps: Vec::new(alloc),
-            occurrences: Occurrences::of_list(alloc, cnf)?,
-            cursor: 1,
-        })
-    }
-}
-
-/// Propagates the literals from the head on; the number of a clause that is false.
-fn go_on(cnf: &Cnf, search: &mut Search) -> Result<Option<u64>, Memory>
-    requires { IsSearch cnf.now search.old }
-    ensures kept { OnOk result (IsSearch cnf.now search.new) }
-    ensures work { OnOk result
-        (work_left cnf.now.vars search.new.trail.entries.items ≤ work_left cnf.now.vars search.old.trail.entries.items) }
-    ensures conflict { IfOk result
-        (λ found. IfSome found (IsConflict (known_of cnf.now search.new.steps.items) search.new.trail.entries.items)) }
+/// Makes a free literal true, and what follows; where there is none, all clauses are satisfied.
+fn choose(cnf: &Cnf, state: &mut State, order: &mut Order) -> Result<Turn, Memory>
+    requires search { IsSearch cnf.now state.old }
+    requires open { AllByRecursion (IsOpen state.old.trail.entries.items) state.old.clauses }
+    ensures kept { OnOk result (IsSearch cnf.now state.new) }
+    ensures turn { IfOk result (IsTurned cnf.now state.old state.new) }
 {
-    let found = propagate(
-        cnf,
-        &search.steps,
-        &search.occurrences,
-        &mut search.trail,
-        search.head,
-    )?;
-    search.head = search.trail.entries.len();
-    Ok(found)
-}
-
-/// Makes a free variable true; where there is none, looks for a clause that is false.
-fn decide(cnf: &Cnf, search: &mut Search) -> Result<Choice, Memory>
-    requires { IsSearch cnf.now search.old }
-    ensures kept { OnOk result (IsSearch cnf.now search.new) }
-    ensures choice { IfOk result (IsChoice cnf.now search.old search.new) }
-{
-    match search.trail.free(search.cursor) {
-        Some(variable) => {
-            search.head = search.trail.entries.len();
-            search.cursor = variable.unsigned_abs() as usize;
-            search.trail.push(variable, 0)?;
-            Ok(Choice::Decided)
-        }
-        None => match first_false(cnf, &search.trail) {
-            Some(number) => Ok(Choice::False(number)),
-            None => Ok(Choice::Satisfied),
+    let literal = match order.next(&state.trail) {
+        Some(literal) => literal,
+        None => match state.trail.first_free(1) {
+            Some(literal) => literal,
+            None => return Ok(Turn::Satisfied),
         },
+    };
+    decide(state, literal)?;
+    Ok(Turn::Goes(run(state)?))
+}
+
+/// Gives the variables back to the order that have no value any more once the clause is learnt.
+fn release(state: &State, order: &mut Order, literals: &[i64])
+    requires state { IsState state.now }
+    requires clause { IsClause literals.now }
+    requires all_false { IsFalse state.now.trail.entries.items literals.now }
+{
+    let Some(latest) = latest_of(&state.trail, literals) else {
+        return;
+    };
+    let turn = turn_of(&state.trail, latest);
+    if let Some(reach) = state.levels.get(turn.level)
+        && let Some(entries) = state.trail.entries.get(reach.entries..)
+    {
+        order.release(entries);
     }
 }
 
-/// Learns from the clause of the number, which is false, goes back to the decision before which all but one
-/// of the literals of the learnt clause were false, and makes this one true.
-fn learn(alloc: Global, cnf: &Cnf, search: &mut Search, number: u64) -> Result<Turn, Memory>
-    requires search { IsSearch cnf.now search.old }
-    requires conflict { IsConflict (known_of cnf.now search.old.steps.items) search.old.trail.entries.items number }
-    ensures kept { OnOk result (IsSearch cnf.now search.new) }
-    ensures turn { IfOk result (IsTurn cnf.now search.old search.new) }
+/// Learns from the clause of the index, which is false, goes back, and makes true what follows.
+fn turn_back(
+    alloc: Global,
+    cnf: &Cnf,
+    state: &mut State,
+    order: &mut Order,
+    index: usize,
+) -> Result<Turn, Memory>
+    requires search { IsSearch cnf.now state.old }
+    requires conflict { IsFalseAt state.old.clauses state.old.trail.entries.items index }
+    ensures kept { OnOk result (IsSearch cnf.now state.new) }
+    ensures turn { IfOk result (IsTurned cnf.now state.old state.new) }
 {
-    let Learnt { step, jump } = analyse(alloc, cnf, &search.steps, &search.trail, number)?;
-    let next = cnf.clauses().len() as u64 + search.steps.len() as u64 + 1;
-    search.occurrences.add(next, step.clause.literals())?;
-    search.steps.push(step)?;
-    let Some(jump) = jump else {
-        return Ok(Turn::Refuted);
+    let Some(reach) = state.levels.last() else {
+        return Ok(Turn::Refuted(index));
     };
-    let literal = search.trail.negated(jump.place);
-    search.trail.back(jump.decision);
-    search.trail.push(literal, next)?;
-    search.head = jump.decision;
-    search.cursor = 1;
-    Ok(Turn::Goes)
+    let start = reach.entries;
+    let step = analyse(alloc, &state.clauses, &state.trail, start, index)?;
+    order.raise(step.clause.literals());
+    order.decay();
+    release(state, order, step.clause.literals());
+    learn(state, step.clause.literals(), &step.chain)?;
+    drop(step);
+    Ok(Turn::Goes(run(state)?))
 }
 
-/// Learns from the clause of the number, which is false; where there is none, makes a choice.
+/// Turns back from a clause that is false, or chooses.
 fn take_turn(
     alloc: Global,
     cnf: &Cnf,
-    search: &mut Search,
-    conflict: Option<u64>,
+    state: &mut State,
+    order: &mut Order,
+    found: Option<usize>,
 ) -> Result<Turn, Memory>
-    requires search { IsSearch cnf.now search.old }
-    requires conflict { IfSome conflict
-        (IsConflict (known_of cnf.now search.old.steps.items) search.old.trail.entries.items) }
-    ensures kept { OnOk result (IsSearch cnf.now search.new) }
-    ensures turn { IfOk result (IsTurn cnf.now search.old search.new) }
+    requires search { IsSearch cnf.now state.old }
+    requires run { IsRun state.old found }
+    ensures kept { OnOk result (IsSearch cnf.now state.new) }
+    ensures turn { IfOk result (IsTurned cnf.now state.old state.new) }
 {
-    let number = match conflict {
-        Some(number) => number,
-        None => match decide(cnf, search)? {
-            Choice::Decided => return Ok(Turn::Goes),
-            Choice::Satisfied => return Ok(Turn::Satisfied),
-            Choice::False(number) => number,
-        },
-    };
-    learn(alloc, cnf, search, number)
+    match found {
+        Some(index) => turn_back(alloc, cnf, state, order, index),
+        None => choose(cnf, state, order),
+    }
 }
 
-/// Visits each clause, and takes turns until all clauses are satisfied or the empty clause is learnt; whether they
-/// are satisfied.
-fn run(alloc: Global, cnf: &Cnf, search: &mut Search) -> Result<bool, Memory>
-    requires { IsSearch cnf.now search.old }
-    ensures kept { OnOk result (IsSearch cnf.now search.new) }
-    ensures end { IfOk result
-        (λ satisfied. MatchBool satisfied
-        (AllByRecursion (IsSatisfied search.new.trail.entries.items) cnf.now.clauses)
-        (EndsEmpty (map inference_of search.new.steps.items))) }
+/// Takes turns until all clauses are satisfied, or one is false though nothing was decided; the index of this one.
+fn search(
+    alloc: Global,
+    cnf: &Cnf,
+    state: &mut State,
+    order: &mut Order,
+) -> Result<Option<usize>, Memory>
+    requires { IsSearch cnf.now state.old }
+    ensures kept { OnOk result (IsSearch cnf.now state.new) }
+    ensures end { IfOk result (IsEnd state.new) }
 {
-    let mut conflict = visit_all(cnf, &search.steps, &mut search.trail)?;
+    let mut found = run(state)?;
     loop {
-        match take_turn(alloc, cnf, search, conflict)? {
-            Turn::Goes => {}
-            Turn::Satisfied => return Ok(true),
-            Turn::Refuted => return Ok(false),
+        match take_turn(alloc, cnf, state, order, found)? {
+            Turn::Goes(next) => found = next,
+            Turn::Satisfied => return Ok(None),
+            Turn::Refuted(index) => return Ok(Some(index)),
         }
-        conflict = go_on(cnf, search)?;
+    }
+}
+
+/// The steps that were learnt, those of the clauses from the index on, and one more at the end.
+fn steps_of(
+    alloc: Global,
+    clauses: &Rows<i64>,
+    chains: &Rows<u64>,
+    first: usize,
+    last: Step,
+) -> Result<Vec<Step>, Memory>
+    requires sized { length chains.now ≡ length clauses.now }
+    requires clauses { AllByRecursion IsClause clauses.now }
+    ensures { IfOk result (λ steps. map inference_of steps.items ≡ zipped (drop first clauses.now) (drop first chains.now) ++ inference_of last ∷ []) }
+{
+    let mut steps = Vec::new(alloc);
+    for index in first..clauses.len() {
+        let step = step_of(alloc, clauses.row(index), chains.row(index))?;
+        steps.push(step)?;
+    }
+    steps.push(last)?;
+    Ok(steps)
+}
+
+/// A step of its own of the clause and the chain.
+fn step_of(alloc: Global, literals: &[i64], chain: &[u64]) -> Result<Step, Memory>
+    requires { IsClause literals.now }
+    ensures { IfOk result (λ step. inference_of step ≡ record { clause = literals.now; chain = chain.now }) }
+{
+    let Some(clause) = Clause::new(literals.to_vec(alloc)?) else {
+        unreachable!();
+    };
+    match chain.to_vec(alloc) {
+        Ok(chain) => Ok(Step { clause, chain }),
+        Err(error) => {
+            drop(clause);
+            Err(error.into())
+        }
+    }
+}
+
+/// The trace that the clause of the index gives, which is false though nothing was decided.
+fn trace_of(alloc: Global, cnf: &Cnf, state: &State, index: usize) -> Result<Trace, Memory>
+    requires search { IsSearch cnf.now state.now }
+    requires conflict { IsFalseAt state.now.clauses state.now.trail.entries.items index }
+    requires base { state.now.levels.items ≡ [] }
+    ensures { IfOk result (λ trace. IsAcceptedTrace cnf.now.clauses (inferences_of trace)) }
+{
+    let none = state.trail.entries.len();
+    let last = analyse(alloc, &state.clauses, &state.trail, none, index)?;
+    let first = cnf.clauses().len();
+    let steps = steps_of(alloc, &state.clauses, &state.chains, first, last)?;
+    Ok(Trace { steps })
+}
+
+/// What the search comes to: an assignment, or a trace.
+fn outcome_of(
+    alloc: Global,
+    cnf: &Cnf,
+    state: &mut State,
+    order: &mut Order,
+) -> Result<Outcome, Memory>
+    requires { IsSearch cnf.now state.old }
+    ensures answer { IfOk result (IsAnswer cnf.now) }
+    ensures exact { IfOk result (IsExact cnf.now) }
+{
+    match search(alloc, cnf, state, order)? {
+        None => Ok(Outcome::Model(model_of(alloc, &state.trail)?)),
+        Some(index) => Ok(Outcome::Refuted(trace_of(alloc, cnf, state, index)?)),
     }
 }
 
 /// An assignment that satisfies the clauses, with a value for each variable; or, exactly where there is
 /// none, a trace that is accepted. The search makes literals true, learns from each clause that becomes
-/// false, and jumps back (Marques-Silva and Sakallah 1996).
+/// false, and jumps back (Marques-Silva and Sakallah 1996); it decides first on variables that took part in
+/// recent conflicts (Moskewicz, Madigan, Zhao, Zhang and Malik 2001).
 pub fn solve(alloc: Global, cnf: &Cnf) -> Result<Outcome, Memory>
     ensures answer { IfOk result (IsAnswer cnf.now) }
     ensures exact { IfOk result (IsExact cnf.now) }
 {
-    let mut search = Search::new(alloc, cnf)?;
-    match run(alloc, cnf, &mut search) {
-        Ok(true) => {
-            let model = model_of(alloc, &search.trail);
-            drop(search);
-            Ok(Outcome::Model(model?))
-        }
-        Ok(false) => Ok(Outcome::Refuted(Trace {
-            steps: search.steps,
-        })),
+    let mut order = Order::new(alloc, cnf.vars())?;
+    let mut state = match state_of(alloc, cnf) {
+        Ok(state) => state,
         Err(error) => {
-            drop(search);
-            Err(error)
+            drop(order);
+            return Err(error);
         }
-    }
+    };
+    let outcome = outcome_of(alloc, cnf, &mut state, &mut order);
+    drop((state, order));
+    outcome
 }

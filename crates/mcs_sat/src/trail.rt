@@ -1,19 +1,20 @@
 //! The literals that are made true, in their order.
 
-ghost use Rattle.std.specs.Prelude.{◌≡◌, ℕ, ◌++◌, ◌∷◌, [], ◌<◌, ◌≤◌, ◌+◌, ◌^◌, length, unsigned_abs, neg_ℤ, take, ◌↔◌, IsTrue, MatchOption, IfOk, OnOk};
+ghost use Rattle.std.specs.Prelude.{◌≡◌, ℕ, ◌++◌, ◌∷◌, [], ◌<◌, ◌≤◌, ◌+◌, ◌^◌, length, unsigned_abs, neg_ℤ, take, ◌↔◌, IsTrue, MatchOption, IfOk, OnOk, OnErr};
 ghost use Rattle.std.specs.Bool.{MatchBool};
 ghost use Rattle.mcs_trace.specs.Clauses.{IsLiteral};
-ghost use Rattle.mcs_sat.specs.Trails.{ArePlaced, AreAssigned, StandsAt, StandsNowhere, IsOn, literal_at, reason_at};
+ghost use Rattle.mcs_sat.specs.Trails.{ArePlaced, AreAssigned, StandsAt, StandsNowhere, IsOn, literal_at};
 
 use mcs_base::Memory;
 use std::alloc::Global;
 
 /// A literal that is true, and why: 0 for a decision, else the number of a clause whose other literals were
-/// false before it.
+/// false before it; and its level, the number of decisions up to it.
 #[derive(Clone, Copy)]
 pub(crate) struct Entry {
     pub literal: i64,
     pub reason: u64,
+    pub level: usize,
 }
 
 /// The literals that are true, and for each variable where it was put last.
@@ -78,6 +79,16 @@ impl Trail {
         self.value(literal).unwrap_or(false)
     }
 
+    /// Whether the literal is false.
+    pub fn is_false(&self, literal: i64) -> bool
+        requires placed { ArePlaced self.now.entries.items self.now.positions.items }
+        requires literal { IsLiteral literal }
+        requires within { unsigned_abs literal < length self.now.positions.items }
+        ensures { IsTrue result ↔ IsOn self.now.entries.items (neg_ℤ literal) }
+    {
+        !self.value(literal).unwrap_or(true)
+    }
+
     /// The negation of the literal at the place.
     pub fn negated(&self, place: usize) -> i64
         requires placed { ArePlaced self.now.entries.items self.now.positions.items }
@@ -88,18 +99,23 @@ impl Trail {
     }
 
     /// Makes the literal true, whose variable is free.
-    pub fn push(&mut self, literal: i64, reason: u64) -> Result<(), Memory>
+    pub fn push(&mut self, literal: i64, reason: u64, level: usize) -> Result<(), Memory>
         requires placed { ArePlaced self.old.entries.items self.old.positions.items }
         requires literal { IsLiteral literal }
         requires within { unsigned_abs literal < length self.old.positions.items }
         requires free { StandsNowhere self.old.entries.items (unsigned_abs literal) }
         ensures entries { OnOk result
-            (self.new.entries.items ≡ self.old.entries.items ++ record { literal = literal; reason = reason } ∷ []) }
-        ensures placed { OnOk result (ArePlaced self.new.entries.items self.new.positions.items) }
+            (self.new.entries.items ≡ self.old.entries.items ++ record { literal = literal; reason = reason; level = level } ∷ []) }
+        ensures placed { ArePlaced self.new.entries.items self.new.positions.items }
+        ensures err { OnErr result (self.new.entries.items ≡ self.old.entries.items) }
         ensures positions { length self.new.positions.items ≡ length self.old.positions.items }
     {
         let position = self.entries.len();
-        self.entries.push(Entry { literal, reason })?;
+        self.entries.push(Entry {
+            literal,
+            reason,
+            level,
+        })?;
         self.positions[literal.unsigned_abs() as usize] = position;
         Ok(())
     }
@@ -110,21 +126,6 @@ impl Trail {
         ensures positions { self.new.positions.items ≡ self.old.positions.items }
     {
         self.entries.truncate(place);
-    }
-
-    /// The first decision from the one place on up to the other.
-    pub fn decision(&self, from: usize, to: usize) -> Option<usize>
-        requires { to < length self.now.entries.items }
-        ensures { MatchOption result
-            ((i : ℕ) → from ≤ i → i ≤ to → ¬ (reason_at self.now.entries.items i ≡ 0))
-            (λ d. (from ≤ d) × (d ≤ to) × (reason_at self.now.entries.items d ≡ 0)) }
-    {
-        for place in from..to + 1 {
-            if self.entries[place].reason == 0 {
-                return Some(place);
-            }
-        }
-        None
     }
 
     /// The first variable from the number on that is free.

@@ -16,6 +16,6 @@ pub use checker::{check, numbered};
 pub use clause::Clause;
 pub use cnf::Cnf;
 pub use laws::accepted_traces_refute;
-pub use literal::is_literal;
+pub use literal::{is_literal, place};
 pub use resolvent::resolve;
 pub use trace::{Step, Trace};

@@ -5,7 +5,7 @@ ghost use Rattle.std.specs.Int.RustNames.{unsigned_abs};
 ghost use Rattle.mcs_trace.specs.Clauses.{IsLiteral, place};
 
 /// The place of a literal in the order 1, -1, 2, -2, ..
-pub(crate) fn place(literal: i64) -> u64
+pub fn place(literal: i64) -> u64
     requires { unsigned_abs literal < 2 ^ 63 }
     ensures { result ≡ place literal }
 {

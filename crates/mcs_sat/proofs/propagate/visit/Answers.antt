@@ -1,79 +1,171 @@
-use Rattle.std.proofs.Common.{◌≡◌, ◌≤◌, ◌+◌, ◌++◌, ◌∷◌, [], List, ℕ, ◌⊎◌, inr, length, unsigned_abs, sym, ap, ◌∙◌, subst, arith, ℤ, neg_ℤ, w64, to_z, of_z, to_z-of_z, Some}
-use Rattle.std.proofs.lemmas.Grind.{common_steps}
+use Rattle.std.proofs.Common.{◌≡◌, ℤ, List, ◌+◌, ◌*◌, ◌<◌, inl, inr, length, neg_ℤ, unsigned_abs, slice_get, Some, refl, sym, ◌∙◌, subst, arith, w64, to_z, of_z, to_z-of_z}
+use Rattle.std.proofs.lemmas.Option.{slice_get_read}
 use Rattle.mcs_base.specs.Listings.{IsAmong}
-use Rattle.mcs_base.proofs.ListingLemmas.{all_among}
-use Rattle.mcs_trace.specs.Clauses.{IsClause, IsLiteral, IsWithin}
-use Rattle.mcs_trace.specs.Traces.{clauses_of, numbered}
-use Rattle.mcs_trace.proofs.OrderLemmas.{fits_literal}
-use Rattle.mcs_sat.specs.declared.examine.Finding.TheVariants.{Open}
+use Rattle.mcs_trace.specs.Clauses.{IsLiteral, place}
+use Rattle.mcs_trace.proofs.OrderLemmas.{place-size}
 use Rattle.mcs_sat.specs.declared.trail.Entry.{Entry}
-use Rattle.mcs_sat.specs.Trails.{AreClauses, AreExplained, IsFinding, IsOn, known_of}
-use Rattle.mcs_sat.proofs.KnownLemmas.{all_numbered}
-use Rattle.mcs_sat.proofs.SettleLemmas.{settled-number, settled-open, settled-pushed}
-use Rattle.mcs_sat.proofs.TrailLemmas.{explained-push}
+use Rattle.mcs_sat.specs.declared.watches.Pair.{Pair}
+use Rattle.mcs_sat.specs.Trails.{IsOn}
+use Rattle.mcs_sat.specs.Watching.{ArePair, AreWatched, IsListed, IsOf, IsPairOf}
+use Rattle.mcs_sat.proofs.GrowLemmas.{clause_at, covered_at, literal_of, on-pushed, read_literal, trail-push, trail-same, within_of}
+use Rattle.mcs_sat.proofs.TrailLemmas.{on_below}
+use Rattle.mcs_sat.proofs.WatchLemmas.{IsWatching, gone-move, reached-list, reached-move, watched-list, watched-move, watched_at, watching}
+use Rattle.mcs_sat.proofs.propagate.visit.Goals.{In-Some, In-Some-open_literal, After-list}
 use Rattle.mcs_sat.proofs.propagate.visit.Goals as goal
 
--- what is known of a literal of the clause
-literal : (vars n : ℕ) (clauses own later : List (List ℤ)) (c lits : List ℤ) (l : ℤ) → AreClauses vars (clauses ++ later) → own ≡ clauses → Some c ≡ numbered (own ++ later) n → lits ≡ c → IsAmong l lits → IsLiteral l × (unsigned_abs l ≤ vars)
-literal vars n clauses own later c lits l all same' e same among =
-    let (clause, within) = all_numbered (λ x. IsClause x × IsWithin vars x) (clauses ++ later) n c all (sym (subst (λ (cs : List (List ℤ)). Some c ≡ numbered (cs ++ later) n) same' e)) in
-    let here : IsAmong l c = subst (λ (x : List ℤ). IsAmong l x) same among in
-    (all_among IsLiteral c l clause.0 here, all_among (λ (k : ℤ). unsigned_abs k ≤ vars) c l within here)
+-- ---- the pair of the clause
+within : (c : In-Some) → c.args.index < length c.args.watches.now.pairs.items
+within c = let ok = c.args.watches.now.pairs.ok.0 in omega arith
+
+pair : (c : In-Some) → slice_get c.args.watches.now.pairs.items c.args.index ≡ Some c.index.result.now
+pair c = slice_get_read c.args.watches.now.pairs.items (length c.args.watches.now.pairs.items) c.args.index c.index.result.now refl (within c) c.index.ensures
+
+watches : (c : In-Some) (d : List ℤ) → slice_get c.args.clauses.now c.args.index ≡ Some d → IsWatching c.args.clauses.now c.args.watches.now c.args.index d c.args.literal c.in-Some.other
+watches c d is = watching c.args.clauses.now c.args.watches.now c.args.index d c.index.result.now c.args.literal c.in-Some.other c.requires.watched c.requires.literal is (pair c)
+    (subst (λ (l : ℤ). IsPairOf c.index.result.now l c.in-Some.other) (to_z-of_z c.ranges.literal) c.in-Some.ensures)
+
+other_of : (c : In-Some) → IsLiteral c.in-Some.other × (unsigned_abs c.in-Some.other < length c.args.trail.now.positions.items)
+other_of c =
+    let (d, is) = watched_at c.args.clauses.now c.args.watches.now c.args.index c.requires.watched (within c) in
+    let among : IsAmong c.in-Some.other d = (watches c d is).has_other in
+    (literal_of c.args.clauses.now c.args.trail.now c.args.index d c.in-Some.other c.requires.trail is among, within_of c.args.clauses.now c.args.trail.now c.args.index d c.in-Some.other c.requires.trail is among)
+
+other : (c : In-Some) → to_z w64 (of_z w64 c.in-Some.other) ≡ c.in-Some.other
+other c = read_literal c.in-Some.other (other_of c).0
+
+other_literal : (c : In-Some) → IsLiteral (to_z w64 (of_z w64 c.in-Some.other))
+other_literal c = subst IsLiteral (sym (other c)) (other_of c).0
+
+other_within : (c : In-Some) → unsigned_abs (to_z w64 (of_z w64 c.in-Some.other)) < length c.args.trail.now.positions.items
+other_within c = subst (λ (l : ℤ). unsigned_abs l < length c.args.trail.now.positions.items) (sym (other c)) (other_of c).1
+
+pub is_true-requires-clause-literal : goal.is_true-requires-clause-literal
+is_true-requires-clause-literal c = other_literal c
+
+pub is_true-requires-clause-within : goal.is_true-requires-clause-within
+is_true-requires-clause-within c = other_within c
+
+pub returns-then-is_true-clause-seen : goal.returns-then-is_true-clause-seen
+returns-then-is_true-clause-seen c = λ d is. let at = (goal.at.returns-then-is_true-clause-seen c).In-Some in
+    (c.in-Some.other, (watches at d is).has_other, subst (λ (l : ℤ). IsOn c.args.trail.now.entries.items l) (other at) (c.is_true.ensures.0 c.if-is_true.true))
+
+pub open_literal-requires-clause-clause : goal.open_literal-requires-clause-clause
+open_literal-requires-clause-clause c = clause_at c.args.clauses.now c.args.trail.now c.args.index c.row.result.now c.requires.trail c.row.ensures
+
+pub open_literal-requires-clause-covered : goal.open_literal-requires-clause-covered
+open_literal-requires-clause-covered c = covered_at c.args.clauses.now c.args.trail.now c.args.index c.row.result.now c.requires.trail c.row.ensures
+
+-- ---- another literal is watched
+open_of : (c : In-Some-open_literal) → IsLiteral c.in-Some-open_literal.open × (unsigned_abs c.in-Some-open_literal.open < length c.args.trail.now.positions.items)
+open_of c = (
+  literal_of c.args.clauses.now c.args.trail.now c.args.index c.row.result.now c.in-Some-open_literal.open c.requires.trail c.row.ensures c.in-Some-open_literal.ensures.0,
+  within_of c.args.clauses.now c.args.trail.now c.args.index c.row.result.now c.in-Some-open_literal.open c.requires.trail c.row.ensures c.in-Some-open_literal.ensures.0,
+)
+
+open_read : (c : In-Some-open_literal) → to_z w64 (of_z w64 c.in-Some-open_literal.open) ≡ c.in-Some-open_literal.open
+open_read c = read_literal c.in-Some-open_literal.open (open_of c).0
+
+pub list-requires-clause-literal : goal.list-requires-clause-literal
+list-requires-clause-literal c =
+    let at = (goal.at.list-requires-clause-literal c).In-Some-open_literal in
+    subst IsLiteral (sym (open_read at)) (open_of at).0
+
+pub list-requires-clause-within : goal.list-requires-clause-within
+list-requires-clause-within c =
+    let at = (goal.at.list-requires-clause-within c).In-Some-open_literal in
+    let l : ℤ = c.in-Some-open_literal.open in
+    let small : unsigned_abs l < length c.args.trail.now.positions.items = (open_of at).1 in
+    let size : length c.args.watches.now.lists.items ≡ 2 * length c.args.trail.now.positions.items = c.requires.lists in
+    let less : place l < length c.args.watches.now.lists.items = omega (arith, place-size l) in
+    subst (λ (k : ℤ). place k < length c.args.watches.now.lists.items) (sym (open_read at)) less
+
+listed : (c : After-list) → AreWatched c.args.clauses.now c.list.new.self
+listed c = watched-list c.args.clauses.now c.args.watches.now c.list.new.self c.requires.watched c.list.ensures.pairs c.list.ensures.short c.list.ensures.kept
+
+pub returns-in_err-list-clause-watched : goal.returns-in_err-list-clause-watched
+returns-in_err-list-clause-watched c = listed (goal.at.returns-in_err-list-clause-watched c).After-list
+
+pub returns-in_err-list-clause-reached : goal.returns-in_err-list-clause-reached
+returns-in_err-list-clause-reached c = λ r bound h. reached-list c.args.clauses.now c.args.watches.now c.list.new.self c.args.trail.now.entries.items r c.list.ensures.pairs c.list.ensures.short h
+
+pub returns-in-Some-open_literal-clause-watched : goal.returns-in-Some-open_literal-clause-watched
+returns-in-Some-open_literal-clause-watched c =
+    let at = (goal.at.returns-in-Some-open_literal-clause-watched c).In-Some in
+    let at' = (goal.at.returns-in-Some-open_literal-clause-watched c).In-Some-open_literal in
+    let d : List ℤ = c.row.result.now in
+    let h = watches at d c.row.ensures in
+    let q : Pair = record { first = to_z w64 (of_z w64 c.in-Some.other); second = to_z w64 (of_z w64 c.in-Some-open_literal.open) } in
+    let two : ArePair d q = record {
+      first = subst (λ (k : ℤ). IsAmong k d) (sym (other at)) h.has_other;
+      second = subst (λ (k : ℤ). IsAmong k d) (sym (open_read at')) c.in-Some-open_literal.ensures.0;
+      differ = λ e. c.in-Some-open_literal.ensures.1 (sym (e ∙ open_read at'));
+    } in
+    let in_list : (l : ℤ) → IsLiteral l → IsOf l q → IsListed c.list.new.self.lists.items l c.args.index = λ l literal of. elim of [
+      | inl first ↦ c.list.ensures.kept l c.args.index (c.requires.watched.listed c.args.index c.index.result.now l (pair at) literal (subst (λ (k : ℤ). IsOf k c.index.result.now) (sym (other at) ∙ first) (h.of_other c.index.result.now (pair at))))
+      | inr second ↦ subst (λ (k : ℤ). IsListed c.list.new.self.lists.items k c.args.index) second c.in_ok-list.ensures.listed
+    ] in
+    watched-move c.args.clauses.now c.list.new.self _ c.args.index d q c.row.ensures refl refl (listed (goal.at.returns-in-Some-open_literal-clause-watched c).After-list) refl h.long two in_list
+
+pub returns-in-Some-open_literal-clause-reached : goal.returns-in-Some-open_literal-clause-reached
+returns-in-Some-open_literal-clause-reached c = λ r bound h.
+    let at = (goal.at.returns-in-Some-open_literal-clause-reached c).In-Some in
+    let at' = (goal.at.returns-in-Some-open_literal-clause-reached c).In-Some-open_literal in
+    let es : List Entry = c.args.trail.now.entries.items in
+    let d : List ℤ = c.row.result.now in
+    let q : Pair = record { first = to_z w64 (of_z w64 c.in-Some.other); second = to_z w64 (of_z w64 c.in-Some-open_literal.open) } in
+    reached-move c.args.clauses.now c.list.new.self _ c.args.index d q c.row.ensures refl refl es r
+    (reached-list c.args.clauses.now c.args.watches.now c.list.new.self es r c.list.ensures.pairs c.list.ensures.short h)
+    (λ l literal of below. elim of [
+      | inl first ↦ h.visited c.args.index d c.index.result.now l c.row.ensures (pair at) literal (subst (λ (k : ℤ). IsOf k c.index.result.now) (sym (other at) ∙ first) ((watches at d c.row.ensures).of_other c.index.result.now (pair at))) below
+      | inr second ↦ absurd (c.in-Some-open_literal.ensures.2 (subst (λ (k : ℤ). IsOn es (neg_ℤ k)) (sym second ∙ open_read at') (on_below es r.visited (neg_ℤ l) bound below)))
+    ])
+
+pub returns-in-Some-open_literal-clause-seen : goal.returns-in-Some-open_literal-clause-seen
+returns-in-Some-open_literal-clause-seen c =
+    let at = (goal.at.returns-in-Some-open_literal-clause-seen c).In-Some in
+    let at' = (goal.at.returns-in-Some-open_literal-clause-seen c).In-Some-open_literal in
+    let q : Pair = record { first = to_z w64 (of_z w64 c.in-Some.other); second = to_z w64 (of_z w64 c.in-Some-open_literal.open) } in
+    gone-move c.list.new.self.pairs.items c.args.index q c.args.literal (λ of. elim of [
+      | inl first ↦ (watches at c.row.result.now c.row.ensures).differ (sym (other at) ∙ first)
+      | inr second ↦ c.in-Some-open_literal.ensures.2 (subst (λ (k : ℤ). IsOn c.args.trail.now.entries.items (neg_ℤ k)) (sym (sym (open_read at') ∙ second)) c.requires.off)
+    ])
+
+-- ---- the other literals are false
+pub is_false-requires-clause-literal : goal.is_false-requires-clause-literal
+is_false-requires-clause-literal c = other_literal (goal.at.is_false-requires-clause-literal c).In-Some
+
+pub is_false-requires-clause-within : goal.is_false-requires-clause-within
+is_false-requires-clause-within c = other_within (goal.at.is_false-requires-clause-within c).In-Some
+
+pub returns-then-is_false-clause-seen : goal.returns-then-is_false-clause-seen
+returns-then-is_false-clause-seen c = (
+  c.row.result.now,
+  c.row.ensures,
+  λ k among. elim (c.in_default-open_literal.ensures k among) [
+    | inl e ↦ subst (λ (l : ℤ). IsOn c.args.trail.now.entries.items (neg_ℤ l)) (sym e) (c.is_false.ensures.0 c.if-is_false.true)
+    | inr off ↦ off
+  ],
+)
 
 pub push-requires-clause-literal : goal.push-requires-clause-literal
-push-requires-clause-literal c =
-    let (is, within) = literal c.args.cnf.now.vars c.args.number c.args.cnf.now.clauses c.clauses.result.now (clauses_of c.args.steps.now) c.in-Some.clause.now c.literals.result.now c.in-Forced.literal c.requires.clauses c.clauses.ensures.value c.in-Some.ensures c.literals.ensures.value c.in-Forced.ensures.0.0 in
-    subst IsLiteral (sym (to_z-of_z (fits_literal c.in-Forced.literal is))) is
+push-requires-clause-literal c = other_literal (goal.at.push-requires-clause-literal c).In-Some
 
 pub push-requires-clause-within : goal.push-requires-clause-within
-push-requires-clause-within c =
-    let (is, within) = literal c.args.cnf.now.vars c.args.number c.args.cnf.now.clauses c.clauses.result.now (clauses_of c.args.steps.now) c.in-Some.clause.now c.literals.result.now c.in-Forced.literal c.requires.clauses c.clauses.ensures.value c.in-Some.ensures c.literals.ensures.value c.in-Forced.ensures.0.0 in
-    let sized : length c.args.trail.now.positions.items ≡ c.args.cnf.now.vars + 1 = c.requires.trail.sized in
-    let same : unsigned_abs (to_z w64 (of_z w64 c.in-Forced.literal)) ≡ unsigned_abs c.in-Forced.literal = ap unsigned_abs (to_z-of_z (fits_literal c.in-Forced.literal is)) in
-    omega arith
+push-requires-clause-within c = other_within (goal.at.push-requires-clause-within c).In-Some
 
-pub returns-in_ok-push-in-Forced-clause-trail : goal.returns-in_ok-push-in-Forced-clause-trail
-returns-in_ok-push-in-Forced-clause-trail c =
-    let known : List (List ℤ) = known_of c.args.cnf.now c.args.steps.now in
-    let es : List Entry = c.args.trail.now.entries.items in
-    let cl : List ℤ = c.in-Some.clause.now in
-    let l : ℤ = c.in-Forced.literal in
-    let (is, within) = literal c.args.cnf.now.vars c.args.number c.args.cnf.now.clauses c.clauses.result.now (clauses_of c.args.steps.now) cl c.literals.result.now l c.requires.clauses c.clauses.ensures.value c.in-Some.ensures c.literals.ensures.value c.in-Forced.ensures.0.0 in
-    let numb : numbered known c.args.number ≡ Some cl = sym (subst (λ (cs : List (List ℤ)). Some cl ≡ numbered (cs ++ clauses_of c.args.steps.now) c.args.number) c.clauses.ensures.value c.in-Some.ensures) in
-    let e : Entry = record { literal = l; reason = c.args.number } in
-    let new : c.push.new.self.entries.items ≡ es ++ e ∷ [] =
-    c.in_ok-push-in-Forced.ensures.entries ∙ ap (λ (k : ℤ). let x : Entry = record { literal = k; reason = c.args.number } in es ++ x ∷ []) (to_z-of_z (fits_literal l is)) in
-    let same : c.literals.result.now ≡ cl = c.literals.ensures.value in
-    let others : (k : ℤ) → IsAmong k cl → (k ≡ l) ⊎ IsOn es (neg_ℤ k) = λ k among. c.in-Forced.ensures.0.1 k (subst (λ (x : List ℤ). IsAmong k x) (sym same) among) in
-    record {
-      sized = c.push.ensures.positions ∙ c.requires.trail.sized;
-      placed = c.in_ok-push-in-Forced.ensures.placed;
-      explained = subst (AreExplained known) (sym new) (explained-push known es e c.requires.trail.explained (inr (cl, numb, c.literals.ensures.clause, subst (λ (x : List ℤ). IsAmong l x) same c.in-Forced.ensures.0.0, others)));
-    }
+pub returns-in_err-push-clause-trail : goal.returns-in_err-push-clause-trail
+returns-in_err-push-clause-trail c = trail-same c.args.clauses.now c.args.trail.now c.push.new.self c.requires.trail c.push.ensures.placed c.push.ensures.positions c.in_err-push.ensures.err
 
-pub returns-in-Conflict-clause-conflict : goal.returns-in-Conflict-clause-conflict
-returns-in-Conflict-clause-conflict c = λ e. (c.in-Some.clause.now, sym (subst (λ (cs : List (List ℤ)). Some c.in-Some.clause.now ≡ numbered (cs ++ clauses_of c.args.steps.now) c.args.number) c.clauses.ensures.value c.in-Some.ensures), λ k among. c.in-Conflict.ensures k (subst (λ (x : List ℤ). IsAmong k x) (sym c.literals.ensures.value) among))
+pub returns-clause-trail : goal.returns-clause-trail
+returns-clause-trail c =
+    let at = (goal.at.returns-clause-trail c).In-Some in
+    trail-push c.args.clauses.now c.args.trail.now c.push.new.self c.requires.trail c.push.ensures.placed c.push.ensures.positions c.args.index c.row.result.now c.in-Some.other _ c.args.level c.row.ensures
+    (watches at c.row.result.now c.row.ensures).has_other
+    (λ k among. elim (c.in_default-open_literal.ensures k among) [ inl e ↦ inl (e ∙ other at) | inr off ↦ inr off ])
+    (other at) c.in_ok-push.ensures.entries
 
-pub returns-in-Open-clause-settled : goal.returns-in-Open-clause-settled
-returns-in-Open-clause-settled c = λ e d numb.
-    let known : List (List ℤ) = known_of c.args.cnf.now c.args.steps.now in
-    let es : List Entry = c.args.trail.now.entries.items in
-    let cl : List ℤ = c.in-Some.clause.now in
-    let is : Some cl ≡ numbered known c.args.number = subst (λ (cs : List (List ℤ)). Some cl ≡ numbered (cs ++ clauses_of c.args.steps.now) c.args.number) c.clauses.ensures.value c.in-Some.ensures in
-    let found : IsFinding es cl Open = subst (λ (x : List ℤ). IsFinding es x Open) c.literals.ensures.value c.in-Open.ensures in
-    settled-number es known c.args.number cl is (settled-open es c.args.trail.now.positions.items cl c.requires.trail.placed found) d numb
-
-pub returns-in_ok-push-in-Forced-clause-settled : goal.returns-in_ok-push-in-Forced-clause-settled
-returns-in_ok-push-in-Forced-clause-settled c = λ e d numb.
-    let known : List (List ℤ) = known_of c.args.cnf.now c.args.steps.now in
-    let es : List Entry = c.args.trail.now.entries.items in
-    let cl : List ℤ = c.in-Some.clause.now in
-    let l : ℤ = c.in-Forced.literal in
-    let is : Some cl ≡ numbered known c.args.number = subst (λ (cs : List (List ℤ)). Some cl ≡ numbered (cs ++ clauses_of c.args.steps.now) c.args.number) c.clauses.ensures.value c.in-Some.ensures in
-    let (literal', within) = literal c.args.cnf.now.vars c.args.number c.args.cnf.now.clauses c.clauses.result.now (clauses_of c.args.steps.now) cl c.literals.result.now l c.requires.clauses c.clauses.ensures.value c.in-Some.ensures c.literals.ensures.value c.in-Forced.ensures.0.0 in
-    let x : Entry = record { literal = to_z w64 (of_z w64 l); reason = c.args.number } in
-    let among : IsAmong x.literal cl = subst (λ (k : ℤ). IsAmong k cl) (sym (to_z-of_z (fits_literal l literal'))) (subst (λ (y : List ℤ). IsAmong l y) c.literals.ensures.value c.in-Forced.ensures.0.0) in
-    settled-number c.push.new.self.entries.items known c.args.number cl is (settled-pushed es c.push.new.self.entries.items c.push.new.self.positions.items cl x c.in_ok-push-in-Forced.ensures.entries c.in_ok-push-in-Forced.ensures.placed among) d numb
-
-pub returns-in-Open-clause-conflict : goal.returns-in-Open-clause-conflict
-returns-in-Open-clause-conflict c = grind (arith, common_steps)
+pub returns-clause-seen : goal.returns-clause-seen
+returns-clause-seen c = λ d is.
+    let at = (goal.at.returns-clause-seen c).In-Some in
+    let x : Entry = record { literal = to_z w64 (of_z w64 c.in-Some.other); reason = c.args.index + 1; level = c.args.level } in
+    (x.literal, subst (λ (k : ℤ). IsAmong k d) (sym (other at)) (watches at d is).has_other, on-pushed c.args.trail.now.entries.items c.push.new.self.entries.items x c.in_ok-push.ensures.entries)

@@ -1,7 +1,7 @@
 use Rattle.std.proofs.Common.{◌≡◌, ◌<◌, ◌^◌, ℕ, unsigned_abs, ap, subst, arith, w64, to_z, MatchOption}
 use Rattle.std.proofs.lemmas.Int.{to_z_pos}
 use Rattle.mcs_sat.specs.Trails.{StandsAt, StandsNowhere}
-use Rattle.mcs_sat.proofs.ModelLemmas.{assigned-more}
+use Rattle.mcs_sat.proofs.TrailLemmas.{assigned-more}
 use Rattle.mcs_sat.proofs.trail.Trail.first_free.Goals as goal
 
 pub loop-variable-init : goal.loop-variable-init

@@ -1,7 +1,7 @@
 use Rattle.std.proofs.Common.{ℤ, ◌≡◌, subst, ◌↔◌, IsTrue, w64, to_z, of_z, to_z-of_z}
 use Rattle.mcs_trace.proofs.OrderLemmas.{fits_literal}
 use Rattle.mcs_sat.specs.Trails.{IsOn}
-use Rattle.mcs_sat.proofs.ModelLemmas.{true-is_on}
+use Rattle.mcs_sat.proofs.TrailLemmas.{true-is_on}
 use Rattle.mcs_sat.proofs.trail.Trail.is_true.Goals as goal
 
 pub returns : goal.returns

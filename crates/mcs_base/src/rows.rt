@@ -1,0 +1,88 @@
+//! Rows that lie flat in one store.
+
+ghost use Rattle.std.specs.Prelude.{◌≡◌, List, [], ◌∷◌, ◌++◌, ◌<◌, ◌≤◌, take, length, slice_get, Some, OnOk, OnErr, get_or};
+
+use crate::memory::Memory;
+use std::alloc::Global;
+use std::marker::Model;
+
+/// Rows of plain values, one after the other in one store; a row is read at its index, and rows are taken off
+/// from the end. It is seen as the list of its rows.
+#[derive(Debug, Drop)]
+pub struct Rows<T> {
+    items: Vec<T>,
+    ends: Vec<usize>,
+}
+
+impl<T> Model for Rows<T> {
+    ghost use Rattle.std.specs.Prelude.{List, length};
+    ghost use Rattle.mcs_base.specs.Rows.{rows_from, AreEnds};
+
+    ghost Value = { List (List T) };
+
+    ghost view = { λ r. rows_from 0 r.items.items r.ends.items };
+
+    ghost invariant = { λ r. AreEnds 0 (length r.items.items) r.ends.items };
+}
+
+/// Where the row at the index begins: where the one before it ends.
+fn start_of(ends: &[usize], index: usize) -> usize
+    requires { index ≤ length ends.now }
+    ensures { result ≡ get_or (0 ∷ ends.now) index 0 }
+{
+    if index == 0 { 0 } else { ends[index - 1] }
+}
+
+impl<T: Copy> Rows<T> {
+    /// No rows. It takes no memory.
+    pub fn new(alloc: Global) -> Rows<T>
+        ensures { result ≡ [] }
+    {
+        Rows {
+            items: Vec::new(alloc),
+            ends: Vec::new(alloc),
+        }
+    }
+
+    /// How many rows there are.
+    pub fn len(&self) -> usize
+        ensures { result ≡ length self.now }
+    {
+        self.ends.len()
+    }
+
+    /// Adds a row at the end. Where memory runs out, the rows are as before.
+    pub fn push(&mut self, row: &[T]) -> Result<(), Memory>
+        ensures ok { OnOk result (self.new ≡ self.old ++ row.now ∷ []) }
+        ensures err { OnErr result (self.new ≡ self.old) }
+    {
+        let start = self.items.len();
+        self.items.extend_from_slice(row)?;
+        match self.ends.push(self.items.len()) {
+            Ok(()) => Ok(()),
+            Err(error) => {
+                self.items.truncate(start);
+                Err(error.into())
+            }
+        }
+    }
+
+    /// The row at the index.
+    pub fn row(&self, index: usize) -> &[T]
+        requires { index < length self.now }
+        ensures { slice_get self.now index ≡ Some result.now }
+    {
+        let start = start_of(&self.ends, index);
+        let end = self.ends[index];
+        &self.items[start..end]
+    }
+
+    /// Leaves the first `count` rows, where there are more. It takes no memory.
+    pub fn truncate(&mut self, count: usize)
+        ensures { self.new ≡ take count self.old }
+    {
+        self.ends.truncate(count);
+        let end = start_of(&self.ends, self.ends.len());
+        self.items.truncate(end);
+    }
+}

@@ -1,0 +1,231 @@
+//! A solver in parts: what unit clauses lead to, and what is learnt from a conflict.
+
+ghost use Rattle.std.specs.Prelude.{◌≡◌};
+
+use crate::searches::list;
+use mcs_base::Memory;
+use mcs_sat::Solver;
+use mcs_trace::{Step, is_literal};
+use std::alloc::Global;
+use std::test::Fail;
+
+/// Whether the literals have these values.
+fn have_values(solver: &Solver, vars: u64, values: &[(i64, Option<bool>)]) -> bool
+    requires { vars ≡ solver.now.vars }
+{
+    for (literal, value) in values {
+        if !is_literal(*literal)
+            || literal.unsigned_abs() > vars
+            || solver.value(*literal) != *value
+        {
+            return false;
+        }
+    }
+    true
+}
+
+/// Decides the literal, where it can be decided.
+fn decide(solver: &mut Solver, vars: u64, literal: i64) -> Result<(), Memory>
+    requires { vars ≡ solver.old.vars }
+    ensures { solver.new.vars ≡ solver.old.vars }
+{
+    if !is_literal(literal) || literal.unsigned_abs() > vars || solver.value(literal).is_some() {
+        return Ok(());
+    }
+    solver.decide(literal)
+}
+
+/// Clauses, and decisions that are made before anything is propagated.
+struct Run {
+    vars: u32,
+    clauses: &'static [&'static [i64]],
+    decisions: &'static [i64],
+    /// The clauses of which one is found to be false; none where there is no conflict.
+    conflicts: &'static [u64],
+    values: &'static [(i64, Option<bool>)],
+}
+
+/// Whether the decisions lead to what the run says.
+fn is_run(solver: &mut Solver, vars: u64, run: &Run) -> Result<bool, Memory>
+    requires { vars ≡ solver.old.vars }
+{
+    for literal in run.decisions {
+        decide(solver, vars, *literal)?;
+    }
+    let is_found = match solver.propagate()? {
+        Some(number) => run.conflicts.contains(&number),
+        None => run.conflicts.is_empty(),
+    };
+    Ok(is_found && have_values(solver, vars, run.values))
+}
+
+/// Whether a solver of the run's clauses does what it says.
+fn runs(alloc: Global, run: &Run) -> Result<bool, Fail> {
+    let cnf = list(alloc, run.vars, run.clauses)?;
+    let mut solver = Solver::new(alloc, &cnf)?;
+    let is_right = is_run(&mut solver, cnf.vars(), run);
+    drop((cnf, solver));
+    Ok(is_right?)
+}
+
+const CHAIN: Run = Run {
+    vars: 3,
+    clauses: &[&[1], &[-1, 2], &[-2, 3]],
+    decisions: &[],
+    conflicts: &[],
+    values: &[(1, Some(true)), (2, Some(true)), (-3, Some(false))],
+};
+
+const UNITS: Run = Run {
+    vars: 1,
+    clauses: &[&[1], &[-1]],
+    decisions: &[],
+    conflicts: &[1, 2],
+    values: &[],
+};
+
+const EMPTY: Run = Run {
+    vars: 0,
+    clauses: &[&[]],
+    decisions: &[],
+    conflicts: &[1],
+    values: &[],
+};
+
+const SQUARE: Run = Run {
+    vars: 2,
+    clauses: &[&[1, 2], &[-1, 2]],
+    decisions: &[-2],
+    conflicts: &[1, 2],
+    values: &[(2, Some(false))],
+};
+
+const TWO_DECISIONS: Run = Run {
+    vars: 4,
+    clauses: &[&[-1, 2], &[-1, 3], &[-2, -3]],
+    decisions: &[1, 4],
+    conflicts: &[1, 2, 3],
+    values: &[(1, Some(true)), (4, Some(true))],
+};
+
+#[test]
+fn unit_clauses_are_followed(rt: HostRuntime) -> Result<(), Fail> {
+    let alloc = rt.alloc();
+    for run in [&CHAIN, &UNITS, &EMPTY, &SQUARE, &TWO_DECISIONS] {
+        assert!(rt; runs(alloc, run)?);
+    }
+    Ok(())
+}
+
+/// Clauses, and decisions that are made one by one, each when what was before it is propagated. The last leads to
+/// a conflict.
+struct Lesson {
+    vars: u32,
+    clauses: &'static [&'static [i64]],
+    decisions: &'static [i64],
+    /// What is learnt from it, and under which number.
+    number: u64,
+    learnt: &'static [i64],
+    /// Values when it is learnt, and when that is propagated.
+    before: &'static [(i64, Option<bool>)],
+    after: &'static [(i64, Option<bool>)],
+}
+
+/// What is learnt, and its number, where the decision of the literal leads to a conflict.
+fn learn(solver: &mut Solver, vars: u64, literal: i64) -> Result<Option<(u64, Step)>, Memory>
+    requires { vars ≡ solver.old.vars }
+    ensures { solver.new.vars ≡ solver.old.vars }
+{
+    if solver.propagate()?.is_some()
+        || !is_literal(literal)
+        || literal.unsigned_abs() > vars
+        || solver.value(literal).is_some()
+    {
+        return Ok(None);
+    }
+    solver.decide(literal)?;
+    let Some(conflict) = solver.propagate()? else {
+        return Ok(None);
+    };
+    let step = solver.analyse(conflict)?;
+    let number = solver.learn(&step)?;
+    Ok(Some((number, step)))
+}
+
+/// Whether just the last decision leads to a conflict, from which the lesson's clause is learnt.
+fn is_learnt(solver: &mut Solver, vars: u64, lesson: &Lesson) -> Result<bool, Memory>
+    requires { vars ≡ solver.old.vars }
+    ensures { solver.new.vars ≡ solver.old.vars }
+{
+    for (index, literal) in lesson.decisions.iter().enumerate() {
+        if let Some((number, step)) = learn(solver, vars, *literal)? {
+            let is_last = index + 1 == lesson.decisions.len();
+            let is_right = number == lesson.number && step.clause.literals() == lesson.learnt;
+            drop(step);
+            return Ok(is_last && is_right);
+        }
+    }
+    Ok(false)
+}
+
+/// Whether the lesson's clause is learnt, and leads to what it says.
+fn is_lesson(solver: &mut Solver, vars: u64, lesson: &Lesson) -> Result<bool, Memory>
+    requires { vars ≡ solver.old.vars }
+{
+    let is_right = is_learnt(solver, vars, lesson)? && have_values(solver, vars, lesson.before);
+    let is_open = solver.propagate()?.is_none();
+    Ok(is_right && is_open && have_values(solver, vars, lesson.after))
+}
+
+/// Whether a solver of the lesson's clauses does what it says.
+fn learns(alloc: Global, lesson: &Lesson) -> Result<bool, Fail> {
+    let cnf = list(alloc, lesson.vars, lesson.clauses)?;
+    let mut solver = Solver::new(alloc, &cnf)?;
+    let is_right = is_lesson(&mut solver, cnf.vars(), lesson);
+    drop((cnf, solver));
+    Ok(is_right?)
+}
+
+const UNIT_IS_LEARNT: Lesson = Lesson {
+    vars: 2,
+    clauses: &[&[1, 2], &[-1, 2]],
+    decisions: &[-2],
+    number: 3,
+    learnt: &[2],
+    before: &[(1, None), (2, None)],
+    after: &[(1, None), (2, Some(true))],
+};
+
+const LAST_LEVEL_GOES: Lesson = Lesson {
+    vars: 4,
+    clauses: &[&[-1, 2], &[-3, -4], &[-2, -3, 4]],
+    decisions: &[1, 3],
+    number: 4,
+    learnt: &[-2, -3],
+    before: &[(1, Some(true)), (2, Some(true)), (3, None), (4, None)],
+    after: &[
+        (1, Some(true)),
+        (2, Some(true)),
+        (3, Some(false)),
+        (4, None),
+    ],
+};
+
+const TWO_LEVELS_GO: Lesson = Lesson {
+    vars: 5,
+    clauses: &[&[-1, 2], &[-3, -4], &[-2, -3, 4]],
+    decisions: &[1, 5, 3],
+    number: 4,
+    learnt: &[-2, -3],
+    before: &[(2, Some(true)), (3, None), (5, None)],
+    after: &[(2, Some(true)), (3, Some(false)), (5, None)],
+};
+
+#[test]
+fn clauses_are_learnt_from_conflicts(rt: HostRuntime) -> Result<(), Fail> {
+    let alloc = rt.alloc();
+    for lesson in [&UNIT_IS_LEARNT, &LAST_LEVEL_GOES, &TWO_LEVELS_GO] {
+        assert!(rt; learns(alloc, lesson)?);
+    }
+    Ok(())
+}

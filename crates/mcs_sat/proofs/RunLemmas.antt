@@ -1,0 +1,198 @@
+-- What stays right of a solver when literals are made true, and what it comes to when all was visited.
+use Rattle.std.proofs.Common.{◌≡◌, ◌≢◌, ℕ, ◌+◌, ◌-◌, ◌*◌, ◌^◌, ◌<◌, ◌≤◌, List, [], ◌∷◌, ◌++◌, ◌⊎◌, inl, inr, refl, sym, ap, ◌∙◌, subst, arith, ℤ, zero, suc, pos, negsuc, neg_ℤ, unsigned_abs, length, length-append, take, get_or, Some, slice_get}
+use Rattle.std.proofs.Math.Seq.{take-append_seam}
+use Rattle.std.specs.List.{AllByRecursion}
+use Rattle.std.proofs.lemmas.Bool.{cases_lt, cases_eq}
+use Rattle.std.proofs.lemmas.Option.{slice_get_within}
+use Rattle.mcs_base.specs.Listings.{IsAmong}
+use Rattle.mcs_base.proofs.Among.{get_among}
+use Rattle.mcs_base.proofs.Each.{all_among, all_from_among, all_get}
+use Rattle.mcs_base.proofs.Lists.{slice_get_below}
+use Rattle.mcs_base.proofs.Numbers.{cases_eq_ℤ}
+use Rattle.mcs_trace.specs.Clauses.{IsClause, IsLiteral}
+use Rattle.mcs_sat.specs.declared.state.Reach.{Reach}
+use Rattle.mcs_sat.specs.declared.state.State.{State}
+use Rattle.mcs_sat.specs.declared.trail.Entry.{Entry}
+use Rattle.mcs_sat.specs.declared.trail.Trail.{Trail}
+use Rattle.mcs_sat.specs.declared.watches.Pair.{Pair}
+use Rattle.mcs_sat.specs.declared.watches.Watches.{Watches}
+use Rattle.mcs_sat.specs.States.{AreStarts, IsState, reach_of}
+use Rattle.mcs_sat.specs.Trails.{AreCovered, AreExplained, AreLevelled, ArePlaced, Grows, IsOn, IsOnBelow, IsOpen, IsSatisfied, IsTrail, StandsNowhere, literal_at}
+use Rattle.mcs_sat.specs.Watching.{ArePair, AreSettled, AreWatched, IsOf, IsReached}
+use Rattle.mcs_sat.proofs.LevelLemmas.{levelled-more, starts-more}
+use Rattle.mcs_sat.proofs.StateLemmas.{reached-back, reached-more, reached-on}
+use Rattle.mcs_sat.proofs.TrailLemmas.{explained-back, placed-back}
+
+-- ---- longer trails
+reached-grows : (level : ℕ) (known : List (List ℤ)) (w : Watches) (es new : List Entry) (r : Reach) → Grows level es new → r.entries ≤ length es → r.visited ≤ length es → IsReached known w es r → IsReached known w new r
+reached-grows level known w es new r (more, e, all) entries visited is = subst (λ (xs : List Entry). IsReached known w xs r) (sym e) (reached-more known w es more r entries visited is)
+
+now-grows : (level : ℕ) (known : List (List ℤ)) (w : Watches) (es new : List Entry) (v s : ℕ) → Grows level es new → v ≤ length es → IsReached known w es (record { entries = length es; visited = v; settled = s }) → IsReached known w new (record { entries = length new; visited = v; settled = s })
+now-grows level known w es new v s (more, e, all) visited is = subst (λ (xs : List Entry). IsReached known w xs (record { entries = length new; visited = v; settled = s })) (sym e) (reached-on known w es more v s (length new) visited (ap length e) is)
+
+grows-length : (level : ℕ) (es new : List Entry) → Grows level es new → length es ≤ length new
+grows-length level es new (more, e, all) = omega (arith, ap length e, length-append es more)
+
+-- ---- short clauses are settled
+pub state-settled : (s : State) (t : Trail) (n : ℕ) → IsState s → IsTrail s.clauses t → length t.positions.items ≡ length s.trail.positions.items → Grows (length s.levels.items) s.trail.entries.items t.entries.items → AreSettled s.clauses s.watches.short.items t.entries.items s.settled n → n ≤ length s.watches.short.items
+    → IsState (record { clauses = s.clauses; chains = s.chains; trail = t; watches = s.watches; levels = s.levels; visited = s.visited; settled = n })
+state-settled s t n is trail positions grows settled bound =
+    let es : List Entry = s.trail.entries.items in
+    let level : ℕ = length s.levels.items in
+    let longer = grows-length level es t.entries.items grows in
+    let before = now-grows level s.clauses s.watches es t.entries.items s.visited s.settled grows is.bound is.now in
+    record {
+      some = subst (λ (m : ℕ). 0 < m) (sym positions) is.some;
+      fits = subst (λ (m : ℕ). m ≤ 2 ^ 63) (sym positions) is.fits;
+      lists = is.lists ∙ ap (λ (m : ℕ). 2 * m) (sym positions);
+      chains = is.chains;
+      trail = trail;
+      levelled = (levelled-more level es t.entries.items is.levelled grows is.starts.count).0;
+      starts = starts-more level es t.entries.items s.levels.items is.starts grows;
+      watched = is.watched;
+      shorts = is.shorts;
+      bound = (let b = is.bound in omega arith);
+      short_bound = bound;
+      bounds = is.bounds;
+      reached = λ k r at. let (below, none, count) = is.starts.start k r at in let (v, m) = is.bounds k r at in
+          reached-grows level s.clauses s.watches es t.entries.items r grows (omega arith) (omega arith) (is.reached k r at);
+      now = record {
+        visited = before.visited;
+        settled = λ j i c less at known none. elim (cases_lt j s.settled) [
+          | inl earlier ↦ before.settled j i c earlier at known none
+          | inr later ↦ settled j i c later less at known none
+        ];
+      };
+    }
+
+-- ---- clauses are visited
+pub state-visited : (s : State) (t : Trail) (w : Watches) (v : ℕ) → IsState s → IsTrail s.clauses t → length t.positions.items ≡ length s.trail.positions.items → Grows (length s.levels.items) s.trail.entries.items t.entries.items
+    → length w.lists.items ≡ length s.watches.lists.items → AreWatched s.clauses w → w.short.items ≡ s.watches.short.items → v ≤ length t.entries.items
+    → ((r : Reach) → r.visited ≤ length s.trail.entries.items → IsReached s.clauses s.watches s.trail.entries.items r → IsReached s.clauses w s.trail.entries.items r)
+    → ((n : ℕ) → IsReached s.clauses s.watches s.trail.entries.items (record { entries = length s.trail.entries.items; visited = s.visited; settled = n }) → IsReached s.clauses w t.entries.items (record { entries = length t.entries.items; visited = v; settled = n }))
+    → IsState (record { clauses = s.clauses; chains = s.chains; trail = t; watches = w; levels = s.levels; visited = v; settled = s.settled })
+state-visited s t w v is trail positions grows lists watched short bound reached now =
+    let es : List Entry = s.trail.entries.items in
+    let level : ℕ = length s.levels.items in
+    record {
+      some = subst (λ (m : ℕ). 0 < m) (sym positions) is.some;
+      fits = subst (λ (m : ℕ). m ≤ 2 ^ 63) (sym positions) is.fits;
+      lists = lists ∙ is.lists ∙ ap (λ (m : ℕ). 2 * m) (sym positions);
+      chains = is.chains;
+      trail = trail;
+      levelled = (levelled-more level es t.entries.items is.levelled grows is.starts.count).0;
+      starts = starts-more level es t.entries.items s.levels.items is.starts grows;
+      watched = watched;
+      shorts = λ j i at. is.shorts j i (subst (λ (xs : List ℕ). slice_get xs j ≡ Some i) short at);
+      bound = bound;
+      short_bound = (let b = is.short_bound in omega (arith, ap length short));
+      bounds = λ k r at. let (b, m) = is.bounds k r at in (b, omega (arith, ap length short));
+      reached = λ k r at. let (below, none, count) = is.starts.start k r at in let (b, m) = is.bounds k r at in
+          reached-grows level s.clauses w es t.entries.items r grows (omega arith) (omega arith) (reached r (omega arith) (is.reached k r at));
+      now = now s.settled is.now;
+    }
+
+-- ---- where all was visited
+-- a literal of the same size is the same or its negation
+same-size : (a b : ℤ) → unsigned_abs a ≡ unsigned_abs b → (a ≡ b) ⊎ (a ≡ neg_ℤ b)
+same-size a b e = elim (cases_eq_ℤ a b) [ inl same ↦ inl same | inr other ↦ inr (turned a b e other) ]
+  where
+    turned : (a b : ℤ) → unsigned_abs a ≡ unsigned_abs b → a ≢ b → a ≡ neg_ℤ b
+    turned (pos m) (pos n) e other = absurd (other (ap pos e))
+    turned (pos m) (negsuc n) e other = ap pos e
+    turned (negsuc m) (pos zero) e other = absurd (omega arith)
+    turned (negsuc m) (pos (suc n)) e other = ap negsuc (omega arith)
+    turned (negsuc m) (negsuc n) e other = absurd (other (ap negsuc (omega arith)))
+
+-- a literal has a value, or its variable stands nowhere
+value-or-free : (es : List Entry) (ps : List ℕ) (l : ℤ) → ArePlaced es ps → IsOn es l ⊎ (IsOn es (neg_ℤ l) ⊎ StandsNowhere es (unsigned_abs l))
+value-or-free es ps l placed =
+    let p : ℕ = get_or ps (unsigned_abs l) 0 in
+    elim (cases_lt p (length es)) [
+      | inl less ↦ elim (cases_eq (unsigned_abs (literal_at es p)) (unsigned_abs l)) [
+        | inl same ↦ elim (same-size (literal_at es p) l same) [ inl is ↦ inl (p, less, is) | inr is ↦ inr (inl (p, less, is)) ]
+        | inr other ↦ inr (inr (λ i (less', size). other (ap (λ (n : ℕ). unsigned_abs (literal_at es n)) (sym (at i less' size)) ∙ size)))
+      ]
+      | inr past ↦ inr (inr (λ i (less', size). let e = at i less' size in omega arith))
+    ]
+  where
+    at : (i : ℕ) → i < length es → unsigned_abs (literal_at es i) ≡ unsigned_abs l → i ≡ get_or ps (unsigned_abs l) 0
+    at i less size = sym (placed i less).2 ∙ ap (λ (n : ℕ). get_or ps n 0) size
+
+-- a clause whose watched literals are not false has one that is true, or two that are free
+pair-open : (es : List Entry) (ps : List ℕ) (c : List ℤ) (p : Pair) → ArePlaced es ps → ArePair c p → ((l : ℤ) → IsOf l p → IsOn es (neg_ℤ l) → IsSatisfied es c) → IsOpen es c
+pair-open es ps c p placed pair watched = elim (value-or-free es ps p.first placed) [
+  | inl on ↦ inl (p.first, pair.first, on)
+  | inr (inl off) ↦ inl (watched p.first (inl refl) off)
+  | inr (inr free) ↦ elim (value-or-free es ps p.second placed) [
+    | inl on ↦ inl (p.second, pair.second, on)
+    | inr (inl off) ↦ inl (watched p.second (inr refl) off)
+    | inr (inr free') ↦ inr (record { first = p.first; second = p.second; has_first = pair.first; has_second = pair.second; differ = pair.differ; free_first = free; free_second = free' })
+  ]
+]
+
+-- each clause has a true literal, or two that are free
+pub all-open : (s : State) → IsState s → s.visited ≡ length s.trail.entries.items → length s.watches.short.items ≤ s.settled → AllByRecursion (IsOpen s.trail.entries.items) s.clauses
+all-open s is all settled = all_from_among (IsOpen s.trail.entries.items) s.clauses (λ c among.
+    let (i, at) = get_among c s.clauses among in
+    elim (cases_lt (length c) 2) [
+      | inl short ↦
+          let (j, here) = get_among i s.watches.short.items (is.watched.short i c at (λ long. omega arith)) in
+          let less = slice_get_within s.watches.short.items j i here in
+          inl (is.now.settled j i c (omega arith) here at (λ long. omega arith))
+      | inr long ↦
+          let (p, pair) = slice_get_below s.watches.pairs.items i (let less = slice_get_within s.clauses i c at in omega (arith, is.watched.sized)) in
+          let are : ArePair c p = (is.watched.paired i c p at pair).0 long in
+          pair-open s.trail.entries.items s.trail.positions.items c p is.trail.placed are (λ l of off.
+          is.now.visited i c p l at pair (literal c p l i at are of) of (subst (λ (n : ℕ). IsOnBelow s.trail.entries.items n (neg_ℤ l)) (sym all) off))
+    ])
+  where
+    literal : (c : List ℤ) (p : Pair) (l : ℤ) (i : ℕ) → slice_get s.clauses i ≡ Some c → ArePair c p → IsOf l p → IsLiteral l
+    literal c p l i at are of =
+        let clause : IsClause c = all_get IsClause s.clauses i c is.trail.clauses at in
+        elim of [
+          | inl e ↦ subst IsLiteral e (all_among IsLiteral c p.first clause.0 are.first)
+          | inr e ↦ subst IsLiteral e (all_among IsLiteral c p.second clause.0 are.second)
+        ]
+
+-- ---- where memory runs out
+grows-front : (level : ℕ) (es new : List Entry) → Grows level es new → take (length es) new ≡ es
+grows-front level es new (more, e, all) = ap (take (length es)) e ∙ take-append_seam es more
+
+-- what was reached before still holds of what is watched now
+pub before-visited : (level : ℕ) (known : List (List ℤ)) (w w' : Watches) (es new : List Entry) (r : Reach) → Grows level es new → r.entries ≤ length es → r.visited ≤ length es → IsReached known w es r → ((q : Reach) → q.visited ≤ length new → IsReached known w new q → IsReached known w' new q) → IsReached known w' es r
+before-visited level known w w' es new r grows entries visited is moved =
+    let longer = grows-length level es new grows in
+    subst (λ (xs : List Entry). IsReached known w' xs r) (grows-front level es new grows) (reached-back known w' new (length es) r entries visited (moved r (omega arith) (reached-grows level known w es new r grows entries visited is)))
+
+-- the literals that were made true are taken back, and no more
+pub state-restored : (old new : State) (t : Trail) → IsState old → IsState new → new.clauses ≡ old.clauses → length new.trail.positions.items ≡ length old.trail.positions.items → new.levels.items ≡ old.levels.items → new.watches.short.items ≡ old.watches.short.items → Grows (length old.levels.items) old.trail.entries.items new.trail.entries.items
+    → IsReached new.clauses new.watches old.trail.entries.items (reach_of old) → t.entries.items ≡ take (length old.trail.entries.items) new.trail.entries.items → t.positions.items ≡ new.trail.positions.items
+    → IsState (record { clauses = new.clauses; chains = new.chains; trail = t; watches = new.watches; levels = new.levels; visited = old.visited; settled = old.settled })
+state-restored old new t is is' clauses positions levels short grows before entries places =
+    let es : List Entry = old.trail.entries.items in
+    let ps : List ℕ = new.trail.positions.items in
+    let front : t.entries.items ≡ es = entries ∙ grows-front (length old.levels.items) es new.trail.entries.items grows in
+    let at : (k : ℕ) (r : Reach) → slice_get new.levels.items k ≡ Some r → slice_get old.levels.items k ≡ Some r = λ k r. subst (λ (ls : List Reach). slice_get ls k ≡ Some r) levels in
+    record {
+      some = subst (λ (xs : List ℕ). 0 < length xs) (sym places) is'.some;
+      fits = subst (λ (xs : List ℕ). length xs ≤ 2 ^ 63) (sym places) is'.fits;
+      lists = is'.lists ∙ ap (λ (xs : List ℕ). 2 * length xs) (sym places);
+      chains = is'.chains;
+      trail = record {
+        clauses = is'.trail.clauses;
+        covered = subst (λ (xs : List ℕ). AllByRecursion (AreCovered xs) new.clauses) (sym places) is'.trail.covered;
+        placed = subst (ArePlaced t.entries.items) (sym places) (subst (λ (xs : List Entry). ArePlaced xs ps) (sym entries) (placed-back new.trail.entries.items ps (length es) is'.trail.placed));
+        explained = subst (AreExplained new.clauses) (sym entries) (explained-back new.clauses new.trail.entries.items (length es) is'.trail.explained);
+      };
+      levelled = subst AreLevelled (sym front) is.levelled;
+      starts = subst (λ (xs : List Entry). AreStarts xs new.levels.items) (sym front) (subst (AreStarts es) (sym levels) is.starts);
+      watched = is'.watched;
+      shorts = is'.shorts;
+      bound = (let b = is.bound in omega (arith, ap length front));
+      short_bound = (let b = is.short_bound in omega (arith, ap length short));
+      bounds = λ k r here. let (b, n) = is.bounds k r (at k r here) in (b, omega (arith, ap length short));
+      reached = λ k r here. let (below, none, count) = is.starts.start k r (at k r here) in let (b, n) = is.bounds k r (at k r here) in
+          subst (λ (xs : List Entry). IsReached new.clauses new.watches xs r) (sym entries) (reached-back new.clauses new.watches new.trail.entries.items (length es) r (omega arith) (omega arith) (is'.reached k r here));
+      now = subst (λ (xs : List Entry). IsReached new.clauses new.watches xs (record { entries = length xs; visited = old.visited; settled = old.settled })) (sym front) before;
+    }

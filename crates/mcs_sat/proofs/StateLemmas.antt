@@ -1,0 +1,403 @@
+-- What stays right of a solver when a level is opened, when levels are taken back, and when a clause is added.
+use Rattle.std.proofs.Common.{◌≡◌, ◌≢◌, ℕ, ◌+◌, ◌-◌, ◌*◌, ◌^◌, ◌<◌, ◌≤◌, suc, List, [], ◌∷◌, ◌++◌, ◌⊎◌, inl, inr, refl, sym, ap, ◌∙◌, subst, arith, ℤ, neg_ℤ, unsigned_abs, length, length-append, take, Option, Some, None, MatchOption, IfSome, slice_get, Vec, Global}
+use Rattle.std.specs.List.{AllByRecursion}
+use Rattle.std.proofs.Math.Seq.{take-append_seam}
+use Rattle.std.proofs.lemmas.List.{length_push, length-take-le, take-append-le}
+use Rattle.std.proofs.lemmas.Bool.{cases_lt}
+use Rattle.std.proofs.lemmas.Option.{slice_get_within}
+use Rattle.mcs_base.specs.Listings.{IsAmong}
+use Rattle.mcs_base.proofs.Among.{among_left, among_push}
+use Rattle.mcs_base.proofs.Each.{all_among, all_push}
+use Rattle.mcs_base.proofs.Lists.{slice_get_push_at, slice_get_take}
+use Rattle.mcs_trace.specs.Clauses.{IsClause, IsLiteral, place}
+use Rattle.mcs_trace.specs.Traces.{IsChainResolvent}
+use Rattle.mcs_trace.proofs.OrderLemmas.{place-size}
+use Rattle.mcs_sat.specs.declared.state.Reach.{Reach}
+use Rattle.mcs_sat.specs.declared.state.State.{State}
+use Rattle.mcs_sat.specs.declared.trail.Entry.{Entry}
+use Rattle.mcs_sat.specs.declared.trail.Trail.{Trail}
+use Rattle.mcs_sat.specs.declared.watches.Pair.{Pair}
+use Rattle.mcs_sat.specs.declared.watches.Watches.{Watches}
+use Rattle.mcs_sat.specs.States.{AreChains, AreStarts, IsState, reach_of}
+use Rattle.mcs_sat.specs.Trails.{AreCovered, AreExplained, AreLevelled, ArePlaced, IsOnBelow, IsSatisfiedBelow, IsTrail, literal_at}
+use Rattle.mcs_sat.specs.Watching.{AreKept, ArePair, AreWatched, IsLong, IsListed, IsOf, IsPaired, IsPushed, IsReached, no_pair}
+use Rattle.mcs_sat.proofs.LevelLemmas.{decisions-longer, levelled-back, levelled-decide, starts-back, starts-decide}
+use Rattle.mcs_sat.proofs.TrailLemmas.{entry-back, entry-old, explained-back, explained-known, explained-push, placed-back}
+
+-- ---- parts that stay as they were
+pub covered-same : (known : List (List ℤ)) (ps ps' : List ℕ) → length ps' ≡ length ps → AllByRecursion (AreCovered ps) known → AllByRecursion (AreCovered ps') known
+covered-same known ps ps' size all = subst (λ (n : ℕ). AllByRecursion (λ (c : List ℤ). AllByRecursion (λ (l : ℤ). unsigned_abs l < n) c) known) (sym size) all
+
+-- a trail whose literals stay, in other memory
+pub trail-same : (known : List (List ℤ)) (t t' : Trail) → t'.entries.items ≡ t.entries.items → length t'.positions.items ≡ length t.positions.items → ArePlaced t'.entries.items t'.positions.items → IsTrail known t → IsTrail known t'
+trail-same known t t' entries positions placed is = record {
+  clauses = is.clauses;
+  covered = covered-same known t.positions.items t'.positions.items positions is.covered;
+  placed = placed;
+  explained = subst (AreExplained known) (sym entries) is.explained;
+}
+
+pub watched-same : (known : List (List ℤ)) (w w' : Watches) → AreKept w w' → w'.pairs.items ≡ w.pairs.items → w'.short.items ≡ w.short.items → AreWatched known w → AreWatched known w'
+watched-same known w w' kept pairs short is = record {
+  sized = ap length pairs ∙ is.sized;
+  paired = λ i c p known' at. is.paired i c p known' (subst (λ (ps : List Pair). slice_get ps i ≡ Some p) pairs at);
+  listed = λ i p l at literal of. kept.listed l i (is.listed i p l (subst (λ (ps : List Pair). slice_get ps i ≡ Some p) pairs at) literal of);
+  short = λ i c known' none. subst (λ (xs : List ℕ). IsAmong i xs) (sym short) (is.short i c known' none);
+}
+
+pub reached-same : (known : List (List ℤ)) (w w' : Watches) (es : List Entry) (r : Reach) → w'.pairs.items ≡ w.pairs.items → w'.short.items ≡ w.short.items → IsReached known w es r → IsReached known w' es r
+reached-same known w w' es r pairs short is = record {
+  visited = λ i c p l known' at. is.visited i c p l known' (subst (λ (ps : List Pair). slice_get ps i ≡ Some p) pairs at);
+  settled = λ j i c less at. is.settled j i c less (subst (λ (xs : List ℕ). slice_get xs j ≡ Some i) short at);
+}
+
+-- where nothing but memory changed
+pub state-same : (old new : State) → IsState old → new.clauses ≡ old.clauses → new.chains ≡ old.chains → new.trail.entries.items ≡ old.trail.entries.items → length new.trail.positions.items ≡ length old.trail.positions.items → ArePlaced new.trail.entries.items new.trail.positions.items → AreKept old.watches new.watches → new.watches.pairs.items ≡ old.watches.pairs.items → new.watches.short.items ≡ old.watches.short.items → new.levels.items ≡ old.levels.items → new.visited ≡ old.visited → new.settled ≡ old.settled → IsState new
+state-same old new is clauses chains entries positions placed kept pairs short levels visited settled =
+    let reached : (r : Reach) → IsReached old.clauses old.watches old.trail.entries.items r → IsReached new.clauses new.watches new.trail.entries.items r = λ r h.
+    subst (λ (known : List (List ℤ)). IsReached known new.watches new.trail.entries.items r) (sym clauses) (subst (λ (es : List Entry). IsReached old.clauses new.watches es r) (sym entries) (reached-same old.clauses old.watches new.watches old.trail.entries.items r pairs short h)) in
+    record {
+      some = subst (λ (n : ℕ). 0 < n) (sym positions) is.some;
+      fits = subst (λ (n : ℕ). n ≤ 2 ^ 63) (sym positions) is.fits;
+      lists = kept.sized ∙ is.lists ∙ ap (λ (n : ℕ). 2 * n) (sym positions);
+      chains = subst (λ (known : List (List ℤ)). AreChains known new.chains) (sym clauses) (subst (AreChains old.clauses) (sym chains) is.chains);
+      trail = subst (λ (known : List (List ℤ)). IsTrail known new.trail) (sym clauses) (trail-same old.clauses old.trail new.trail entries positions placed is.trail);
+      levelled = subst AreLevelled (sym entries) is.levelled;
+      starts = subst (λ (es : List Entry). AreStarts es new.levels.items) (sym entries) (subst (AreStarts old.trail.entries.items) (sym levels) is.starts);
+      watched = subst (λ (known : List (List ℤ)). AreWatched known new.watches) (sym clauses) (watched-same old.clauses old.watches new.watches kept pairs short is.watched);
+      shorts = λ j i at. let less = is.shorts j i (subst (λ (xs : List ℕ). slice_get xs j ≡ Some i) short at) in omega (arith, ap length clauses);
+      bound = (let b = is.bound in omega (arith, visited, ap length entries));
+      short_bound = (let b = is.short_bound in omega (arith, settled, ap length short));
+      bounds = λ k r at. let (b, s) = is.bounds k r (subst (λ (ls : List Reach). slice_get ls k ≡ Some r) levels at) in (b, omega (arith, ap length short));
+      reached = λ k r at. reached r (is.reached k r (subst (λ (ls : List Reach). slice_get ls k ≡ Some r) levels at));
+      now = subst (IsReached new.clauses new.watches new.trail.entries.items) (same-reach old new entries visited settled) (reached (reach_of old) is.now);
+    }
+  where
+    same-reach : (old new : State) → new.trail.entries.items ≡ old.trail.entries.items → new.visited ≡ old.visited → new.settled ≡ old.settled → reach_of old ≡ reach_of new
+    same-reach old new entries visited settled = cc
+
+-- ---- more literals, and fewer
+pub below-more : (es more : List Entry) (n m : ℕ) (l : ℤ) → n ≤ m → n ≤ length es → IsOnBelow es n l → IsOnBelow (es ++ more) m l
+below-more es more n m l order bound (p, less, e) = (p, omega arith, ap (λ (x : Entry). x.literal) (entry-old es more p (omega arith)) ∙ e)
+
+pub below-less : (es more : List Entry) (n : ℕ) (l : ℤ) → n ≤ length es → IsOnBelow (es ++ more) n l → IsOnBelow es n l
+below-less es more n l bound (p, less, e) = (p, less, ap (λ (x : Entry). x.literal) (sym (entry-old es more p (omega arith))) ∙ e)
+
+pub below-take : (es : List Entry) (n m : ℕ) (l : ℤ) → n ≤ m → IsOnBelow es n l → IsOnBelow (take m es) n l
+below-take es n m l order (p, less, e) = (p, less, ap (λ (x : Entry). x.literal) (entry-back es m p (omega arith)) ∙ e)
+
+pub take-below : (es : List Entry) (n m : ℕ) (l : ℤ) → n ≤ m → IsOnBelow (take m es) n l → IsOnBelow es n l
+take-below es n m l order (p, less, e) = (p, less, ap (λ (x : Entry). x.literal) (sym (entry-back es m p (omega arith))) ∙ e)
+
+pub reached-more : (known : List (List ℤ)) (w : Watches) (es more : List Entry) (r : Reach) → r.entries ≤ length es → r.visited ≤ length es → IsReached known w es r → IsReached known w (es ++ more) r
+reached-more known w es more r entries visited is = record {
+  visited = λ i c p l known' at literal of off.
+      let (k, among, on) = is.visited i c p l known' at literal of (below-less es more r.visited (neg_ℤ l) visited off) in
+      (k, among, below-more es more r.entries r.entries k (omega arith) entries on);
+  settled = λ j i c less at known' none.
+      let (k, among, on) = is.settled j i c less at known' none in
+      (k, among, below-more es more r.entries r.entries k (omega arith) entries on);
+}
+
+-- as far as before, where there are more literals
+pub reached-on : (known : List (List ℤ)) (w : Watches) (es more : List Entry) (v s n : ℕ) → v ≤ length es → n ≡ length (es ++ more) → IsReached known w es (record { entries = length es; visited = v; settled = s }) → IsReached known w (es ++ more) (record { entries = n; visited = v; settled = s })
+reached-on known w es more v s n visited size is =
+    let order : length es ≤ n = omega (arith, length-append es more, size) in
+    record {
+      visited = λ i c p l known' at literal of off.
+          let (k, among, on) = is.visited i c p l known' at literal of (below-less es more v (neg_ℤ l) visited off) in
+          (k, among, below-more es more (length es) n k order (omega arith) on);
+      settled = λ j i c less at known' none.
+          let (k, among, on) = is.settled j i c less at known' none in
+          (k, among, below-more es more (length es) n k order (omega arith) on);
+    }
+
+pub reached-back : (known : List (List ℤ)) (w : Watches) (es : List Entry) (n : ℕ) (r : Reach) → r.entries ≤ n → r.visited ≤ n → IsReached known w es r → IsReached known w (take n es) r
+reached-back known w es n r entries visited is = record {
+  visited = λ i c p l known' at literal of off.
+      let (k, among, on) = is.visited i c p l known' at literal of (take-below es r.visited n (neg_ℤ l) visited off) in
+      (k, among, below-take es r.entries n k entries on);
+  settled = λ j i c less at known' none.
+      let (k, among, on) = is.settled j i c less at known' none in
+      (k, among, below-take es r.entries n k entries on);
+}
+
+-- ---- a level is opened
+abbrev pub decided_entry : State → ℤ → Entry
+decided_entry s l = record { literal = l; reason = 0; level = length s.levels.items + 1 }
+
+pub state-decided : (s : State) (t : Trail) (ls : Vec Reach Global) (l : ℤ) → IsState s → t.entries.items ≡ s.trail.entries.items ++ decided_entry s l ∷ [] → ArePlaced t.entries.items t.positions.items → length t.positions.items ≡ length s.trail.positions.items → ls.items ≡ s.levels.items ++ reach_of s ∷ []
+    → IsState (record { clauses = s.clauses; chains = s.chains; trail = t; watches = s.watches; levels = ls; visited = s.visited; settled = s.settled })
+state-decided s t ls l is entries placed positions levels =
+    let es : List Entry = s.trail.entries.items in
+    let e : Entry = decided_entry s l in
+    let longer : length t.entries.items ≡ length es + 1 = ap length entries ∙ length_push es e in
+    let reached : (r : Reach) → r.entries ≤ length es → r.visited ≤ length es → IsReached s.clauses s.watches es r → IsReached s.clauses s.watches t.entries.items r = λ r b v h.
+    subst (λ (xs : List Entry). IsReached s.clauses s.watches xs r) (sym entries) (reached-more s.clauses s.watches es (e ∷ []) r b v h) in
+    record {
+      some = subst (λ (n : ℕ). 0 < n) (sym positions) is.some;
+      fits = subst (λ (n : ℕ). n ≤ 2 ^ 63) (sym positions) is.fits;
+      lists = is.lists ∙ ap (λ (n : ℕ). 2 * n) (sym positions);
+      chains = is.chains;
+      trail = record {
+        clauses = is.trail.clauses;
+        covered = covered-same s.clauses s.trail.positions.items t.positions.items positions is.trail.covered;
+        placed = placed;
+        explained = subst (AreExplained s.clauses) (sym entries) (explained-push s.clauses es e is.trail.explained (inl refl));
+      };
+      levelled = subst AreLevelled (sym entries) (levelled-decide es e is.levelled refl (omega (arith, is.starts.count)));
+      starts = subst (λ (xs : List Entry). AreStarts xs ls.items) (sym entries) (subst (AreStarts (es ++ e ∷ [])) (sym levels) (starts-decide es s.levels.items e (reach_of s) is.starts refl refl));
+      watched = is.watched;
+      shorts = is.shorts;
+      bound = (let b = is.bound in omega (arith, longer));
+      short_bound = is.short_bound;
+      bounds = λ k r at. elim (slice_get_push_at s.levels.items (reach_of s) k r (subst (λ (xs : List Reach). slice_get xs k ≡ Some r) levels at)) [
+        | inl old ↦ is.bounds k r old
+        | inr (last, same) ↦ subst (λ (x : Reach). (x.visited ≤ x.entries) × (x.settled ≤ length s.watches.short.items)) (sym same) (is.bound, is.short_bound)
+      ];
+      reached = λ k r at. elim (slice_get_push_at s.levels.items (reach_of s) k r (subst (λ (xs : List Reach). slice_get xs k ≡ Some r) levels at)) [
+        | inl old ↦ let (below, none, count) = is.starts.start k r old in let (v, n) = is.bounds k r old in reached r (omega arith) (omega arith) (is.reached k r old)
+        | inr (last, same) ↦ subst (IsReached s.clauses s.watches t.entries.items) (sym same) (reached (reach_of s) (omega arith) is.bound is.now)
+      ];
+      now = subst (λ (xs : List Entry). IsReached s.clauses s.watches xs (record { entries = length t.entries.items; visited = s.visited; settled = s.settled })) (sym entries) (reached-on s.clauses s.watches es (e ∷ []) s.visited s.settled (length t.entries.items) is.bound (ap length entries) is.now);
+    }
+
+-- ---- levels are taken back
+-- a lower level begins earlier
+pub starts-order : (es : List Entry) (levels : List Reach) (j k : ℕ) (q r : Reach) → AreStarts es levels → j < k → slice_get levels j ≡ Some q → slice_get levels k ≡ Some r → q.entries < r.entries
+starts-order es levels j k q r is less at at' =
+    let (below, none, count) = is.start j q at in
+    let (below', none', count') = is.start k r at' in
+    elim (cases_lt q.entries r.entries) [
+      | inl earlier ↦ earlier
+      | inr late ↦ absurd (let more = decisions-longer r.entries q.entries es late in omega arith)
+    ]
+
+-- what all levels below that of the reach say stays, where the literals from it on are taken back
+pub state-back : (s : State) (t : Trail) (ls : Vec Reach Global) (k : ℕ) (r : Reach) → IsState s → slice_get s.levels.items k ≡ Some r → t.entries.items ≡ take r.entries s.trail.entries.items → t.positions.items ≡ s.trail.positions.items → ls.items ≡ take k s.levels.items
+    → IsState (record { clauses = s.clauses; chains = s.chains; trail = t; watches = s.watches; levels = ls; visited = r.visited; settled = r.settled })
+state-back s t ls k r is at entries positions levels =
+    let es : List Entry = s.trail.entries.items in
+    let (here, none, count) = is.starts.start k r at in
+    let (v, n) = is.bounds k r at in
+    let size : length t.entries.items ≡ r.entries = ap length entries ∙ length-take-le r.entries es (omega arith) in
+    let reached : (q : Reach) → q.entries ≤ r.entries → q.visited ≤ r.entries → IsReached s.clauses s.watches es q → IsReached s.clauses s.watches t.entries.items q = λ q b w h.
+    subst (λ (xs : List Entry). IsReached s.clauses s.watches xs q) (sym entries) (reached-back s.clauses s.watches es r.entries q b w h) in
+    record {
+      some = subst (λ (ps : List ℕ). 0 < length ps) (sym positions) is.some;
+      fits = subst (λ (ps : List ℕ). length ps ≤ 2 ^ 63) (sym positions) is.fits;
+      lists = is.lists ∙ ap (λ (ps : List ℕ). 2 * length ps) (sym positions);
+      chains = is.chains;
+      trail = record {
+        clauses = is.trail.clauses;
+        covered = covered-same s.clauses s.trail.positions.items t.positions.items (ap length positions) is.trail.covered;
+        placed = subst (ArePlaced t.entries.items) (sym positions) (subst (λ (xs : List Entry). ArePlaced xs s.trail.positions.items) (sym entries) (placed-back es s.trail.positions.items r.entries is.trail.placed));
+        explained = subst (AreExplained s.clauses) (sym entries) (explained-back s.clauses es r.entries is.trail.explained);
+      };
+      levelled = subst AreLevelled (sym entries) (levelled-back r.entries es is.levelled);
+      starts = subst (λ (xs : List Entry). AreStarts xs ls.items) (sym entries) (subst (AreStarts (take r.entries es)) (sym levels) (starts-back es s.levels.items k r is.starts at));
+      watched = is.watched;
+      shorts = is.shorts;
+      bound = omega (arith, size);
+      short_bound = n;
+      bounds = λ j q at'. is.bounds j q (slice_get_take k s.levels.items j q (subst (λ (xs : List Reach). slice_get xs j ≡ Some q) levels at')).1;
+      reached = λ j q at'.
+          let (less, at'') = slice_get_take k s.levels.items j q (subst (λ (xs : List Reach). slice_get xs j ≡ Some q) levels at') in
+          let order = starts-order es s.levels.items j k q r is.starts less at'' at in
+          let (w, m) = is.bounds j q at'' in
+          reached q (omega arith) (omega arith) (is.reached j q at'');
+      now = subst (λ (n : ℕ). IsReached s.clauses s.watches t.entries.items (record { entries = n; visited = r.visited; settled = r.settled })) (sym size) (reached r (omega arith) v (is.reached k r at));
+    }
+
+-- ---- a clause is added
+-- what stands for the pair
+abbrev pub get_pair : Option Pair → Pair
+get_pair (Some p) = p
+get_pair None = no_pair
+
+-- a long clause has the pair, a short one has none
+abbrev pub FitsPair : List ℤ → Option Pair → Type 0
+FitsPair c o = MatchOption o (¬ IsLong c) (ArePair c)
+
+no-pair : (l : ℤ) → IsLiteral l → IsOf l no_pair → ⊥
+no-pair l literal (inl e) = let size = ap unsigned_abs e in let some = literal.0 in omega arith
+no-pair l literal (inr e) = let size = ap unsigned_abs e in let some = literal.0 in omega arith
+
+pair-long : (c : List ℤ) (q : Pair) → ArePair c q → IsLong c
+pair-long [] q pair = absurd pair.first
+pair-long (x ∷ []) q pair = elim pair.first [ inl e ↦ elim pair.second [ inl e' ↦ absurd (pair.differ (e ∙ sym e')) | inr none ↦ absurd none ] | inr none ↦ absurd none ]
+pair-long (x ∷ y ∷ c) q pair = omega arith
+
+paired-pushed : (c : List ℤ) (o : Option Pair) (p : Pair) → FitsPair c o → p ≡ get_pair o → IsPaired c p
+paired-pushed c None p short same = (λ long. absurd (short long), λ l literal of. absurd (no-pair l literal (subst (IsOf l) same of)))
+paired-pushed c (Some q) p pair same = (λ long. subst (ArePair c) (sym same) pair, λ l literal of. pair-long c q pair)
+
+fits-short : (c : List ℤ) (o : Option Pair) → FitsPair c o → ¬ IsLong c → o ≡ None
+fits-short c None fits none = refl
+fits-short c (Some p) fits none = absurd (none (pair-long c p fits))
+
+pairs-pushed : (old new : Watches) (o : Option Pair) → IsPushed old new o → new.pairs.items ≡ old.pairs.items ++ get_pair o ∷ []
+pairs-pushed old new (Some p) h = h.0
+pairs-pushed old new None h = h.0
+
+short-pushed : (old new : Watches) (o : Option Pair) (i : ℕ) → IsPushed old new o → IsAmong i old.short.items → IsAmong i new.short.items
+short-pushed old new (Some p) i h among = subst (λ (xs : List ℕ). IsAmong i xs) (sym h.1) among
+short-pushed old new None i h among = subst (λ (xs : List ℕ). IsAmong i xs) (sym h.1) (among_left i old.short.items (length old.pairs.items ∷ []) among)
+
+short-added : (old new : Watches) (o : Option Pair) → IsPushed old new o → o ≡ None → IsAmong (length old.pairs.items) new.short.items
+short-added old new None h e = subst (λ (xs : List ℕ). IsAmong (length old.pairs.items) xs) (sym h.1) ((among_push (length old.pairs.items) old.short.items (length old.pairs.items)).1 (inr refl))
+short-added old new (Some p) h e = cc
+
+-- an index of a short clause, before and after
+short-at : (old new : Watches) (o : Option Pair) (j i : ℕ) → IsPushed old new o → slice_get new.short.items j ≡ Some i → (slice_get old.short.items j ≡ Some i) ⊎ ((j ≡ length old.short.items) × (i ≡ length old.pairs.items))
+short-at old new (Some p) j i h at = inl (subst (λ (xs : List ℕ). slice_get xs j ≡ Some i) h.1 at)
+short-at old new None j i h at = slice_get_push_at old.short.items (length old.pairs.items) j i (subst (λ (xs : List ℕ). slice_get xs j ≡ Some i) h.1 at)
+
+short-longer : (old new : Watches) (o : Option Pair) → IsPushed old new o → length old.short.items ≤ length new.short.items
+short-longer old new (Some p) h = omega (arith, ap length h.1)
+short-longer old new None h = omega (arith, ap length h.1, length_push old.short.items (length old.pairs.items))
+
+listed-pushed : (old new : Watches) (o : Option Pair) (l : ℤ) → IsPushed old new o → IsLiteral l → IsOf l (get_pair o) → IsListed new.lists.items l (length old.pairs.items)
+listed-pushed old new (Some p) l h literal (inl e) = subst (λ (k : ℤ). IsListed new.lists.items k (length old.pairs.items)) e h.2
+listed-pushed old new (Some p) l h literal (inr e) = subst (λ (k : ℤ). IsListed new.lists.items k (length old.pairs.items)) e h.3
+listed-pushed old new None l h literal of = absurd (no-pair l literal of)
+
+-- the pair of a clause that was there, or the new one
+pair-at : (old new : Watches) (o : Option Pair) (i : ℕ) (p : Pair) → IsPushed old new o → slice_get new.pairs.items i ≡ Some p → (slice_get old.pairs.items i ≡ Some p) ⊎ ((i ≡ length old.pairs.items) × (p ≡ get_pair o))
+pair-at old new o i p pushed at = slice_get_push_at old.pairs.items (get_pair o) i p (subst (λ (ps : List Pair). slice_get ps i ≡ Some p) (pairs-pushed old new o pushed) at)
+
+watched-pushed : (known : List (List ℤ)) (c : List ℤ) (old new : Watches) (o : Option Pair) → AreWatched known old → AreKept old new → IsPushed old new o → FitsPair c o → AreWatched (known ++ c ∷ []) new
+watched-pushed known c old new o is kept pushed fits = record {
+  sized = omega (arith, ap length (pairs-pushed old new o pushed), length_push old.pairs.items (get_pair o), length_push known c, is.sized);
+  paired = λ i d p known' at. elim (slice_get_push_at known c i d known') [
+    | inl before ↦ elim (pair-at old new o i p pushed at) [
+      | inl at' ↦ is.paired i d p before at'
+      | inr (last, same) ↦ absurd (let less = slice_get_within known i d before in omega (arith, is.sized))
+    ]
+    | inr (last, same) ↦ elim (pair-at old new o i p pushed at) [
+      | inl at' ↦ absurd (let less = slice_get_within old.pairs.items i p at' in omega (arith, is.sized))
+      | inr (last', same') ↦ subst (λ (x : List ℤ). IsPaired x p) (sym same) (paired-pushed c o p fits same')
+    ]
+  ];
+  listed = λ i p l at literal of. elim (pair-at old new o i p pushed at) [
+    | inl at' ↦ kept.listed l i (is.listed i p l at' literal of)
+    | inr (last, same) ↦ subst (λ (n : ℕ). IsListed new.lists.items l n) (sym last) (listed-pushed old new o l pushed literal (subst (IsOf l) same of))
+  ];
+  short = λ i d known' none. elim (slice_get_push_at known c i d known') [
+    | inl before ↦ short-pushed old new o i pushed (is.short i d before none)
+    | inr (last, same) ↦ subst (λ (n : ℕ). IsAmong n new.short.items) (sym (last ∙ sym is.sized)) (short-added old new o pushed (fits-short c o fits (subst (λ (x : List ℤ). ¬ IsLong x) same none)))
+  ];
+}
+
+-- no literal of the pair was false among the first n
+abbrev pub IsFresh : List Entry → ℕ → Option Pair → Type 0
+IsFresh es n o = MatchOption o (Unit {0}) (λ p. (l : ℤ) → IsOf l p → ¬ IsOnBelow es n (neg_ℤ l))
+
+fresh-at : (es : List Entry) (n : ℕ) (o : Option Pair) (l : ℤ) → IsFresh es n o → IsLiteral l → IsOf l (get_pair o) → ¬ IsOnBelow es n (neg_ℤ l)
+fresh-at es n (Some p) l fresh literal of = fresh l of
+fresh-at es n None l fresh literal of = absurd (no-pair l literal of)
+
+reached-pushed : (known : List (List ℤ)) (c : List ℤ) (old new : Watches) (o : Option Pair) (es : List Entry) (r : Reach) → AreWatched known old → IsPushed old new o → ((j i : ℕ) → slice_get old.short.items j ≡ Some i → i < length known) → r.settled ≤ length old.short.items → IsFresh es r.visited o → IsReached known old es r → IsReached (known ++ c ∷ []) new es r
+reached-pushed known c old new o es r watched pushed shorts settled fresh is = record {
+  visited = λ i d p l known' at literal of off. elim (pair-at old new o i p pushed at) [
+    | inl at' ↦ elim (slice_get_push_at known c i d known') [
+      | inl before ↦ is.visited i d p l before at' literal of off
+      | inr (last, same) ↦ absurd (let less = slice_get_within old.pairs.items i p at' in omega (arith, watched.sized))
+    ]
+    | inr (last, same) ↦ absurd (fresh-at es r.visited o l fresh literal (subst (IsOf l) same of) off)
+  ];
+  settled = λ j i d less at known' none. elim (short-at old new o j i pushed at) [
+    | inl at' ↦ elim (slice_get_push_at known c i d known') [
+      | inl before ↦ is.settled j i d less at' before none
+      | inr (last, same) ↦ absurd (let within = shorts j i at' in omega arith)
+    ]
+    | inr (last, same) ↦ absurd (omega arith)
+  ];
+}
+
+chains-pushed : (known : List (List ℤ)) (chains : List (List ℕ)) (c : List ℤ) (ns : List ℕ) → AreChains known chains → (ns ≡ []) ⊎ IsChainResolvent known ns c → AreChains (known ++ c ∷ []) (chains ++ ns ∷ [])
+chains-pushed known chains c ns is right = record {
+  sized = omega (arith, length_push chains ns, length_push known c, is.sized);
+  right = λ i d ms known' at. elim (slice_get_push_at known c i d known') [
+    | inl before ↦ elim (slice_get_push_at chains ns i ms at) [
+      | inl at' ↦ subst (λ (ks : List (List ℤ)). (ms ≡ []) ⊎ IsChainResolvent ks ms d) (sym (take-append-le i known (c ∷ []) (let less = slice_get_within known i d before in omega arith))) (is.right i d ms before at')
+      | inr (last, same) ↦ absurd (let less = slice_get_within known i d before in omega (arith, is.sized))
+    ]
+    | inr (last, same) ↦ elim (slice_get_push_at chains ns i ms at) [
+      | inl at' ↦ absurd (let less = slice_get_within chains i ms at' in omega (arith, is.sized))
+      | inr (last', same') ↦ subst (λ (ks : List (List ℤ)). (ms ≡ []) ⊎ IsChainResolvent ks ms d) (sym (ap (λ (n : ℕ). take n (known ++ c ∷ [])) last ∙ take-append_seam known (c ∷ [])))
+          (subst (λ (xs : List ℕ). (xs ≡ []) ⊎ IsChainResolvent known xs d) (sym same') (subst (λ (x : List ℤ). (ns ≡ []) ⊎ IsChainResolvent known ns x) (sym same) right))
+    ]
+  ];
+}
+
+-- a clause with its chain is added, and less may have been visited than before
+pub state-pushed : (s : State) (cs : List (List ℤ)) (ms : List (List ℕ)) (w : Watches) (c : List ℤ) (ns : List ℕ) (o : Option Pair) (v : ℕ) → IsState s → cs ≡ s.clauses ++ c ∷ [] → ms ≡ s.chains ++ ns ∷ [] → AreKept s.watches w → IsPushed s.watches w o → FitsPair c o → IsClause c → AreCovered s.trail.positions.items c → (ns ≡ []) ⊎ IsChainResolvent s.clauses ns c
+    → v ≤ s.visited → IsFresh s.trail.entries.items v o → ((k : ℕ) (r : Reach) → slice_get s.levels.items k ≡ Some r → IsFresh s.trail.entries.items r.visited o)
+    → IsState (record { clauses = cs; chains = ms; trail = s.trail; watches = w; levels = s.levels; visited = v; settled = s.settled })
+state-pushed s cs ms w c ns o v is clauses chains kept pushed fits clause covered right low fresh levels =
+    let known : List (List ℤ) = s.clauses ++ c ∷ [] in
+    let es : List Entry = s.trail.entries.items in
+    let longer = short-longer s.watches w o pushed in
+    record {
+      some = is.some;
+      fits = is.fits;
+      lists = kept.sized ∙ is.lists;
+      chains = subst (λ (ks : List (List ℤ)). AreChains ks ms) (sym clauses) (subst (AreChains known) (sym chains) (chains-pushed s.clauses s.chains c ns is.chains right));
+      trail = subst (λ (ks : List (List ℤ)). IsTrail ks s.trail) (sym clauses) (record {
+        clauses = all_push IsClause s.clauses c is.trail.clauses clause;
+        covered = all_push (AreCovered s.trail.positions.items) s.clauses c is.trail.covered covered;
+        placed = is.trail.placed;
+        explained = explained-known s.clauses (c ∷ []) es is.trail.explained;
+      });
+      levelled = is.levelled;
+      starts = is.starts;
+      watched = subst (λ (ks : List (List ℤ)). AreWatched ks w) (sym clauses) (watched-pushed s.clauses c s.watches w o is.watched kept pushed fits);
+      shorts = λ j i at. elim (short-at s.watches w o j i pushed at) [
+        | inl at' ↦ let less = is.shorts j i at' in omega (arith, ap length clauses, length_push s.clauses c)
+        | inr (last, same) ↦ omega (arith, ap length clauses, length_push s.clauses c, is.watched.sized)
+      ];
+      bound = (let b = is.bound in omega arith);
+      short_bound = (let b = is.short_bound in omega arith);
+      bounds = λ k r at. let (b, n) = is.bounds k r at in (b, omega arith);
+      reached = λ k r at. let (b, n) = is.bounds k r at in
+          subst (λ (ks : List (List ℤ)). IsReached ks w es r) (sym clauses) (reached-pushed s.clauses c s.watches w o es r is.watched pushed is.shorts n (levels k r at) (is.reached k r at));
+      now = subst (λ (ks : List (List ℤ)). IsReached ks w es (record { entries = length es; visited = v; settled = s.settled })) (sym clauses)
+          (reached-pushed s.clauses c s.watches w o es (record { entries = length es; visited = v; settled = s.settled }) is.watched pushed is.shorts is.short_bound fresh (reached-fewer s.clauses s.watches es (length es) s.visited v s.settled low is.now));
+    }
+  where
+    reached-fewer : (known : List (List ℤ)) (w : Watches) (es : List Entry) (n m v t : ℕ) → v ≤ m → IsReached known w es (record { entries = n; visited = m; settled = t }) → IsReached known w es (record { entries = n; visited = v; settled = t })
+    reached-fewer known w es n m v t low is = record {
+      visited = λ i c p l known' at literal of (q, less, on). is.visited i c p l known' at literal of (q, omega arith, on);
+      settled = is.settled;
+    }
+
+pub kept-lists : (old between new : Watches) → new.lists.items ≡ between.lists.items → AreKept old between → AreKept old new
+kept-lists old between new same kept = record {
+  sized = ap length same ∙ kept.sized;
+  listed = λ l i listed. subst (λ (ls : List (Vec ℕ Global)). IsListed ls l i) (sym same) (kept.listed l i listed);
+}
+
+-- ---- pairs of a clause
+fits-each : (P : ℤ → Type 0) (c : List ℤ) (o : Option Pair) → AllByRecursion P c → FitsPair c o → IfSome o (λ p. P p.first × P p.second)
+fits-each P c None all fits = tt
+fits-each P c (Some p) all fits = (all_among P c p.first all fits.first, all_among P c p.second all fits.second)
+
+pub fits-literals : (c : List ℤ) (o : Option Pair) → IsClause c → FitsPair c o → IfSome o (λ p. IsLiteral p.first × IsLiteral p.second)
+fits-literals c o clause fits = fits-each IsLiteral c o clause.0 fits
+
+pub place-within : (l : ℤ) (n : ℕ) → unsigned_abs l < n → place l < 2 * n
+place-within l n less = let size = place-size l in let high = size.1 in omega arith
+
+pub fits-lists : (c : List ℤ) (ps : List ℕ) (n : ℕ) (o : Option Pair) → AreCovered ps c → n ≡ 2 * length ps → FitsPair c o → IfSome o (λ p. (place p.first < n) × (place p.second < n))
+fits-lists c ps n None covered size fits = tt
+fits-lists c ps n (Some p) covered size fits =
+    let all : (l : ℤ) → IsAmong l c → place l < n = λ l among. let low = place-within l (length ps) (all_among (λ (k : ℤ). unsigned_abs k < length ps) c l covered among) in omega arith in
+    (all p.first fits.first, all p.second fits.second)
+
+pub fresh-none : (es : List Entry) (o : Option Pair) → IsFresh es 0 o
+fresh-none es None = tt
+fresh-none es (Some p) = λ l of (q, less, on). omega arith
+
+pub fresh-base : (es : List Entry) (levels : List Reach) (o : Option Pair) → levels ≡ [] → (k : ℕ) (r : Reach) → slice_get levels k ≡ Some r → IsFresh es r.visited o
+fresh-base es levels o none k r at = absurd (let less = slice_get_within levels k r at in omega (arith, ap length none))

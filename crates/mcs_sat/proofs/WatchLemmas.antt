@@ -1,0 +1,312 @@
+-- Lists of what watches a literal, and pairs that are watched.
+use Rattle.std.proofs.Common.{◌≡◌, ◌≢◌, ℕ, zero, suc, ◌+◌, ◌-◌, ◌<◌, ◌≤◌, min, ◌⊎◌, ◌↔◌, inl, inr, List, [], ◌∷◌, ◌++◌, Option, refl, sym, ap, ◌∙◌, subst, arith, ℤ, pos, neg_ℤ, unsigned_abs, length, get_or, set, take, swap_remove, Some, None, slice_get, Vec}
+use Rattle.std.specs.declared.alloc.Global.{Global}
+use Rattle.std.specs.List.{AllByRecursion}
+use Rattle.std.proofs.lemmas.Bool.{cases_eq, cases_lt}
+use Rattle.std.proofs.lemmas.List.{get_or_past, length-set}
+use Rattle.std.proofs.lemmas.List.Sorted.{IsPermutation-swap_remove}
+use Rattle.std.proofs.lemmas.Option.{slice_get_within}
+use Rattle.std.proofs.Math.IntN.{neg_ℤ-neg_ℤ}
+use Rattle.mcs_base.specs.Listings.{IsAmong}
+use Rattle.mcs_base.proofs.Among.{among_permutation, among_push, get_among}
+use Rattle.mcs_base.proofs.Each.{all_among, all_get}
+use Rattle.mcs_base.proofs.Lists.{slice_get_below}
+use Rattle.mcs_trace.specs.Clauses.{IsClause, IsLiteral, place}
+use Rattle.mcs_trace.proofs.OrderLemmas.{place-injective}
+use Rattle.mcs_sat.specs.declared.state.Reach.{Reach}
+use Rattle.mcs_sat.specs.declared.trail.Entry.{Entry}
+use Rattle.mcs_sat.specs.declared.watches.Pair.{Pair}
+use Rattle.mcs_sat.specs.declared.watches.Watches.{Watches}
+use Rattle.mcs_sat.specs.Trails.{Grows, IsOnBelow, IsSatisfied, IsSatisfiedBelow, literal_at}
+use Rattle.mcs_sat.specs.Watching.{ArePair, AreVisited, AreWatched, IsListed, IsLong, IsOf, IsPaired, IsPairOf, IsReached}
+use Rattle.mcs_sat.proofs.GrowLemmas.{entry-grown, grows-longer, satisfied-grown}
+use Rattle.mcs_sat.proofs.TrailLemmas.{below-same}
+
+-- ---- what is read after a write
+module _ {A : Type 0} where
+  pub slice_get_set : (xs : List A) (i : ℕ) (y z : A) → slice_get (set xs i y) i ≡ Some z → z ≡ y
+  slice_get_set [] i y z e = absurd (cc)
+  slice_get_set (x ∷ xs) zero y z e = cc
+  slice_get_set (x ∷ xs) (suc i) y z e = slice_get_set xs i y z e
+
+  pub slice_get-set_other : (xs : List A) (i j : ℕ) (y : A) → j ≢ i → slice_get (set xs i y) j ≡ slice_get xs j
+  slice_get-set_other [] i j y differ = refl
+  slice_get-set_other (x ∷ xs) zero zero y differ = absurd (differ refl)
+  slice_get-set_other (x ∷ xs) zero (suc j) y differ = refl
+  slice_get-set_other (x ∷ xs) (suc i) zero y differ = refl
+  slice_get-set_other (x ∷ xs) (suc i) (suc j) y differ = slice_get-set_other xs i j y (λ e. differ (ap suc e))
+
+  pub slice_get-set_same : (xs : List A) (i : ℕ) (y : A) → i < length xs → slice_get (set xs i y) i ≡ Some y
+  slice_get-set_same [] i y less = absurd (omega arith)
+  slice_get-set_same (x ∷ xs) zero y less = refl
+  slice_get-set_same (x ∷ xs) (suc i) y less = slice_get-set_same xs i y (omega arith)
+
+  pub slice_get-take : (n : ℕ) (xs : List A) (i : ℕ) → i < n → slice_get (take n xs) i ≡ slice_get xs i
+  slice_get-take zero xs i less = absurd (omega arith)
+  slice_get-take (suc n) [] i less = refl
+  slice_get-take (suc n) (x ∷ xs) zero less = refl
+  slice_get-take (suc n) (x ∷ xs) (suc i) less = slice_get-take n xs i (omega arith)
+
+  -- one is taken out, and the last one takes its place
+  pub slice_get-swap_remove : (xs : List A) (i : ℕ) (d : A) (j : ℕ) → i < length xs → j < i → slice_get (swap_remove xs i d) j ≡ slice_get xs j
+  slice_get-swap_remove xs i d j within less =
+      slice_get-take (length xs - 1) (set xs i (get_or xs (length xs - 1) d)) j (omega arith) ∙ slice_get-set_other xs i j (get_or xs (length xs - 1) d) (λ e. absurd (omega arith))
+
+  pub among_swap_remove : (xs : List A) (i : ℕ) (x k : A) → i < length xs → x ≡ get_or xs i x → IsAmong k xs → k ≢ x → IsAmong k (swap_remove xs i x)
+  among_swap_remove xs i x k within is among differ = elim ((among_permutation xs (x ∷ swap_remove xs i x) (IsPermutation-swap_remove xs i x within is) k).1 among) [
+    | inl e ↦ absurd (differ e)
+    | inr rest ↦ rest
+  ]
+
+-- ---- lists
+pub listed-set : (lists : List (Vec ℕ Global)) (p : ℕ) (v : Vec ℕ Global) (l : ℤ) (i : ℕ) → (place l ≢ p → IsListed lists l i) → (place l ≡ p → IsAmong i v.items) → IsListed (set lists p v) l i
+listed-set lists p v l i other here list e = elim (cases_eq (place l) p) [
+  | inl same ↦ subst (λ (w : Vec ℕ Global). IsAmong i w.items) (sym (slice_get_set lists p v list (subst (λ (q : ℕ). slice_get (set lists p v) q ≡ Some list) same e))) (here same)
+  | inr differ ↦ other differ list (sym (slice_get-set_other lists p (place l) v differ) ∙ e)
+]
+
+-- one more in the list of a literal
+module _ (lists : List (Vec ℕ Global)) (p : ℕ) (old new : Vec ℕ Global) (index : ℕ) (was : slice_get lists p ≡ Some old) (more : new.items ≡ old.items ++ index ∷ []) where
+  pub list-kept : (l : ℤ) (i : ℕ) → IsListed lists l i → IsListed (set lists p new) l i
+  list-kept l i listed = listed-set lists p new l i (λ differ. listed) (λ same. subst (IsAmong i) (sym more) ((among_push i old.items index).1 (inl (listed old (ap (slice_get lists) same ∙ was)))))
+
+  pub list-listed : (l : ℤ) → place l ≡ p → IsListed (set lists p new) l index
+  list-listed l at = listed-set lists p new l index (λ differ. absurd (differ at)) (λ same. subst (IsAmong index) (sym more) ((among_push index old.items index).1 (inr refl)))
+
+-- ---- what a clause watches
+-- the clause of the index watches the literal and the other one
+pub record IsWatching (known : List (List ℤ)) (w : Watches) (i : ℕ) (c : List ℤ) (l other : ℤ) : Type 0 where
+  pub long : IsLong c
+  pub has : IsAmong l c
+  pub has_other : IsAmong other c
+  pub differ : other ≢ l
+  pub of_other : (p : Pair) → slice_get w.pairs.items i ≡ Some p → IsOf other p
+
+pub watching : (known : List (List ℤ)) (w : Watches) (i : ℕ) (c : List ℤ) (p : Pair) (l other : ℤ) → AreWatched known w → IsLiteral l → slice_get known i ≡ Some c → slice_get w.pairs.items i ≡ Some p → IsPairOf p l other → IsWatching known w i c l other
+watching known w i c p l other watched literal is at pair = by pair
+  where
+    same : (q : Pair) → slice_get w.pairs.items i ≡ Some q → p ≡ q
+    same q at' = let both : Some p ≡ Some q = sym at ∙ at' in cc
+
+    by : IsPairOf p l other → IsWatching known w i c l other
+    by (inl (first, second)) =
+        let paired = watched.paired i c p is at in
+        let long : IsLong c = paired.1 l literal (inl first) in
+        let two : ArePair c p = paired.0 long in
+        record {
+          long = long;
+          has = subst (λ (k : ℤ). IsAmong k c) first two.first;
+          has_other = subst (λ (k : ℤ). IsAmong k c) second two.second;
+          differ = λ e. two.differ (first ∙ sym e ∙ sym second);
+          of_other = λ q at'. subst (IsOf other) (same q at') (inr second);
+        }
+    by (inr (second, first)) =
+        let paired = watched.paired i c p is at in
+        let long : IsLong c = paired.1 l literal (inr second) in
+        let two : ArePair c p = paired.0 long in
+        record {
+          long = long;
+          has = subst (λ (k : ℤ). IsAmong k c) second two.second;
+          has_other = subst (λ (k : ℤ). IsAmong k c) first two.first;
+          differ = λ e. two.differ (first ∙ e ∙ sym second);
+          of_other = λ q at'. subst (IsOf other) (same q at') (inl first);
+        }
+
+-- the clause of an index that has a pair
+pub watched_at : (known : List (List ℤ)) (w : Watches) (i : ℕ) → AreWatched known w → i < length w.pairs.items → (c : List ℤ) × (slice_get known i ≡ Some c)
+watched_at known w i watched less = slice_get_below known i (let sized : length w.pairs.items ≡ length known = watched.sized in omega arith)
+
+-- ---- lists that grow
+pub watched-list : (known : List (List ℤ)) (w w' : Watches) → AreWatched known w → w'.pairs.items ≡ w.pairs.items → w'.short.items ≡ w.short.items
+    → ((l : ℤ) (i : ℕ) → IsListed w.lists.items l i → IsListed w'.lists.items l i) → AreWatched known w'
+watched-list known w w' watched pairs short kept = record {
+  sized = ap length pairs ∙ watched.sized;
+  paired = λ i c p is at. watched.paired i c p is (sym (ap (λ (ps : List Pair). slice_get ps i) pairs) ∙ at);
+  listed = λ i p l at literal of. kept l i (watched.listed i p l (sym (ap (λ (ps : List Pair). slice_get ps i) pairs) ∙ at) literal of);
+  short = λ i c is few. subst (IsAmong i) (sym short) (watched.short i c is few);
+}
+
+pub reached-list : (known : List (List ℤ)) (w w' : Watches) (es : List Entry) (r : Reach) → w'.pairs.items ≡ w.pairs.items → w'.short.items ≡ w.short.items → IsReached known w es r → IsReached known w' es r
+reached-list known w w' es r pairs short h = record {
+  visited = λ i c p l is at. h.visited i c p l is (sym (ap (λ (ps : List Pair). slice_get ps i) pairs) ∙ at);
+  settled = λ j i c less at. h.settled j i c less (sym (ap (λ (xs : List ℕ). slice_get xs j) short) ∙ at);
+}
+
+-- ---- a pair that is replaced
+module _ (known : List (List ℤ)) (w w' : Watches) (i : ℕ) (c : List ℤ) (q : Pair) (is : slice_get known i ≡ Some c) (pairs : w'.pairs.items ≡ set w.pairs.items i q) (short : w'.short.items ≡ w.short.items) where
+  -- the pair of an index is the new one, or as before
+  pair_cases : (j : ℕ) (p : Pair) → slice_get w'.pairs.items j ≡ Some p → ((j ≡ i) × (p ≡ q)) ⊎ (slice_get w.pairs.items j ≡ Some p)
+  pair_cases j p at = elim (cases_eq j i) [
+    | inl e ↦ inl (e, slice_get_set w.pairs.items i q p (subst (λ (k : ℕ). slice_get (set w.pairs.items i q) k ≡ Some p) e (sym (ap (λ (ps : List Pair). slice_get ps j) pairs) ∙ at)))
+    | inr differ ↦ inr (sym (slice_get-set_other w.pairs.items i j q differ) ∙ sym (ap (λ (ps : List Pair). slice_get ps j) pairs) ∙ at)
+  ]
+
+  pub watched-move : AreWatched known w → w'.lists.items ≡ w.lists.items → IsLong c → ArePair c q → ((l : ℤ) → IsLiteral l → IsOf l q → IsListed w.lists.items l i) → AreWatched known w'
+  watched-move watched lists long two listed = record {
+    sized = ap length pairs ∙ length-set w.pairs.items i q ∙ watched.sized;
+    paired = λ j d p is' at. elim (pair_cases j p at) [
+      | inl (e, e') ↦
+          let both : Some c ≡ Some d = sym is ∙ ap (slice_get known) (sym e) ∙ is' in
+          let same : c ≡ d = cc in
+          subst (λ (x : List ℤ). IsPaired x p) same (subst (IsPaired c) (sym e') (λ _. two, λ l literal of. long))
+      | inr old ↦ watched.paired j d p is' old
+    ];
+    listed = λ j p l at literal of. subst (λ (ls : List (Vec ℕ Global)). IsListed ls l j) (sym lists) (elim (pair_cases j p at) [
+      | inl (e, e') ↦ subst (IsListed w.lists.items l) (sym e) (listed l literal (subst (IsOf l) e' of))
+      | inr old ↦ watched.listed j p l old literal of
+    ]);
+    short = λ j d is' few. subst (IsAmong j) (sym short) (watched.short j d is' few);
+  }
+
+  pub reached-move : (es : List Entry) (r : Reach) → IsReached known w es r → ((l : ℤ) → IsLiteral l → IsOf l q → IsOnBelow es r.visited (neg_ℤ l) → IsSatisfiedBelow es r.entries c) → IsReached known w' es r
+  reached-move es r h new = record {
+    visited = λ j d p l is' at literal of below. elim (pair_cases j p at) [
+      | inl (e, e') ↦
+          let both : Some c ≡ Some d = sym is ∙ ap (slice_get known) (sym e) ∙ is' in
+          let same : c ≡ d = cc in
+          subst (IsSatisfiedBelow es r.entries) same (new l literal (subst (IsOf l) e' of) below)
+      | inr old ↦ h.visited j d p l is' old literal of below
+    ];
+    settled = λ k j d less at. h.settled k j d less (sym (ap (λ (xs : List ℕ). slice_get xs k) short) ∙ at);
+  }
+
+pub gone-move : (pairs : List Pair) (i : ℕ) (q : Pair) (l : ℤ) → ¬ IsOf l q → (p : Pair) → slice_get (set pairs i q) i ≡ Some p → ¬ IsOf l p
+gone-move pairs i q l none p at of = none (subst (IsOf l) (slice_get_set pairs i q p at) of)
+
+-- ---- a list that is gone through
+-- the clauses of the first indices in the list of the place are satisfied
+abbrev pub ArePassed : List (List ℤ) → List (Vec ℕ Global) → List Entry → ℕ → ℕ → Type 0
+ArePassed known lists es p at = (list : Vec ℕ Global) (j i : ℕ) (c : List ℤ) → slice_get lists p ≡ Some list → j < at → slice_get list.items j ≡ Some i → slice_get known i ≡ Some c → IsSatisfied es c
+
+-- how many indices the list has from the place on
+abbrev pub left_in : Option (Vec ℕ Global) → ℕ → ℕ
+left_in None at = 0
+left_in (Some list) at = length list.items - at
+
+pub left-more : (o o' : Option (Vec ℕ Global)) (list : Vec ℕ Global) (at : ℕ) → o ≡ Some list → o' ≡ o → at < length list.items → left_in o' (at + 1) < left_in o at
+left-more o o' list at is same less =
+    let before : left_in o at ≡ length list.items - at = ap (λ (x : Option (Vec ℕ Global)). left_in x at) is in
+    let after : left_in o' (at + 1) ≡ length list.items - (at + 1) = ap (λ (x : Option (Vec ℕ Global)). left_in x (at + 1)) (same ∙ is) in
+    omega arith
+
+pub left-swap : (o o' : Option (Vec ℕ Global)) (list list' : Vec ℕ Global) (at : ℕ) → o ≡ Some list → o' ≡ Some list' → length list'.items + 1 ≡ length list.items → at < length list.items → left_in o' at < left_in o at
+left-swap o o' list list' at is is' one less =
+    let before : left_in o at ≡ length list.items - at = ap (λ (x : Option (Vec ℕ Global)). left_in x at) is in
+    let after : left_in o' at ≡ length list'.items - at = ap (λ (x : Option (Vec ℕ Global)). left_in x at) is' in
+    omega arith
+
+module _ (known : List (List ℤ)) (lists lists' : List (Vec ℕ Global)) (level : ℕ) (es es' : List Entry) (p at : ℕ) (list : Vec ℕ Global) (grows : Grows level es es') (is : slice_get lists p ≡ Some list) (passed : ArePassed known lists es p at) where
+  -- the clause of the index at the place is satisfied too
+  pub passed-more : slice_get lists' p ≡ slice_get lists p → (index : ℕ) → slice_get list.items at ≡ Some index → ((c : List ℤ) → slice_get known index ≡ Some c → IsSatisfied es' c) → ArePassed known lists' es' p (at + 1)
+  passed-more same index here satisfied list' j i c is' less at' known-is = elim (cases_lt j at) [
+    | inl before ↦ satisfied-grown level es es' c grows (passed list' j i c (sym same ∙ is') before at' known-is)
+    | inr past ↦
+        let at-is : j ≡ at = omega arith in
+        let both : Some list ≡ Some list' = sym is ∙ sym same ∙ is' in
+        let list-is : list ≡ list' = cc in
+        let both' : Some index ≡ Some i = sym here ∙ sym (ap (slice_get list.items) at-is) ∙ ap (λ (v : Vec ℕ Global). slice_get v.items j) list-is ∙ at' in
+        let index-is : i ≡ index = cc in
+        satisfied c (sym (ap (slice_get known) index-is) ∙ known-is)
+  ]
+
+  -- the index at the place is taken out
+  pub passed-swap : at < length list.items → (list' : Vec ℕ Global) (x : ℕ) → list'.items ≡ swap_remove list.items at x → ArePassed known (set lists' p list') es' p at
+  passed-swap within list' x swapped list'' j i c is' less at' known-is =
+      let list-is : list'' ≡ list' = slice_get_set lists' p list' list'' is' in
+      let here : slice_get list.items j ≡ Some i = sym (slice_get-swap_remove list.items at x j within less) ∙ sym (ap (λ (xs : List ℕ). slice_get xs j) swapped) ∙ sym (ap (λ (v : Vec ℕ Global). slice_get v.items j) list-is) ∙ at' in
+      satisfied-grown level es es' c grows (passed list j i c is less here known-is)
+
+-- an index that does not watch the literal any more is taken out of its list
+pub watched-swap : (known : List (List ℤ)) (w w' : Watches) (p : ℕ) (l : ℤ) (at : ℕ) (list list' : Vec ℕ Global) (x : ℕ) → AreWatched known w → w'.pairs.items ≡ w.pairs.items → w'.short.items ≡ w.short.items → w'.lists.items ≡ set w.lists.items p list'
+    → p ≡ place l → slice_get w.lists.items p ≡ Some list → at < length list.items → x ≡ get_or list.items at x → list'.items ≡ swap_remove list.items at x → ((q : Pair) → slice_get w.pairs.items x ≡ Some q → ¬ IsOf l q) → AreWatched known w'
+watched-swap known w w' p l at list list' x watched pairs short lists place-is is within read swapped gone = record {
+  sized = ap length pairs ∙ watched.sized;
+  paired = λ i c q known-is here. watched.paired i c q known-is (before i q here);
+  listed = λ i q k here literal of. subst (λ (ls : List (Vec ℕ Global)). IsListed ls k i) (sym lists)
+      (listed-set w.lists.items p list' k i (λ differ. watched.listed i q k (before i q here) literal of) (λ same.
+      let k-is : k ≡ l = place-injective k l (same ∙ place-is) in
+      let among : IsAmong i list.items = watched.listed i q k (before i q here) literal of list (ap (slice_get w.lists.items) same ∙ is) in
+      subst (IsAmong i) (sym swapped) (among_swap_remove list.items at x i within read among (λ e. gone q (sym (ap (slice_get w.pairs.items) e) ∙ before i q here) (subst (λ (m : ℤ). IsOf m q) k-is of)))));
+  short = λ i c known-is few. subst (IsAmong i) (sym short) (watched.short i c known-is few);
+}
+  where
+    before : (i : ℕ) (q : Pair) → slice_get w'.pairs.items i ≡ Some q → slice_get w.pairs.items i ≡ Some q
+    before i q here = sym (ap (λ (ps : List Pair). slice_get ps i) pairs) ∙ here
+
+-- all of the list
+pub visited-all : (known : List (List ℤ)) (w : Watches) (es : List Entry) (l : ℤ) (p at : ℕ) (list : Vec ℕ Global) → AreWatched known w → IsLiteral l → p ≡ place l → slice_get w.lists.items p ≡ Some list → length list.items ≤ at → ArePassed known w.lists.items es p at → AreVisited known w es l
+visited-all known w es l p at list watched literal place-is is all passed i c q known-is here of =
+    let among : IsAmong i list.items = watched.listed i q l here literal of list (sym (ap (slice_get w.lists.items) place-is) ∙ is) in
+    let (j, at-j) = get_among i list.items among in
+    let less : j < length list.items = slice_get_within list.items j i at-j in
+    passed list j i c is (omega arith) at-j known-is
+
+-- ---- a trail that grows
+-- what was true below a place within the first trail
+below-grown : (level : ℕ) (es es' : List Entry) (n : ℕ) (k : ℤ) → Grows level es es' → n ≤ length es → IsOnBelow es n k ↔ IsOnBelow es' n k
+below-grown level es es' n k grows bound = (
+  below-same es es' n k (λ j less. entry-grown level es es' j grows (omega arith)),
+  below-same es' es n k (λ j less. sym (entry-grown level es es' j grows (omega arith))),
+)
+
+-- no literal stands past the end
+below_end : (es : List Entry) (n : ℕ) (k : ℤ) → IsLiteral k → IsOnBelow es n k → IsOnBelow es (min n (length es)) k
+below_end es n k literal (p, less, e) = elim (cases_lt p (length es)) [
+  | inl here ↦ (p, omega arith, e)
+  | inr past ↦
+      let none : literal_at es p ≡ pos 0 = ap (λ (x : Entry). x.literal) (get_or_past es p (record { literal = pos 0; reason = 0; level = 0 }) past) in
+      let zero-is : unsigned_abs k ≡ 0 = ap unsigned_abs (sym e ∙ none) in
+      let some : 0 < unsigned_abs k = literal.0 in
+      absurd (omega arith)
+]
+
+module _ (known : List (List ℤ)) (level : ℕ) (es es' : List Entry) (clauses : AllByRecursion IsClause known) (grows : Grows level es es') (r : Reach) (bound : r.visited ≤ length es) where
+  -- the part of what was reached that stands on the first trail
+  abbrev front : Reach
+  front = record { entries = min r.entries (length es); visited = r.visited; settled = r.settled }
+
+  satisfied-front : (i : ℕ) (c : List ℤ) → slice_get known i ≡ Some c → IsSatisfiedBelow es r.entries c → IsSatisfiedBelow es' (min r.entries (length es)) c
+  satisfied-front i c is (k, among, below) =
+      let literal : IsLiteral k = all_among IsLiteral c k (all_get IsClause known i c clauses is).0 among in
+      (k, among, (below-grown level es es' (min r.entries (length es)) k grows (omega arith)).0 (below_end es r.entries k literal below))
+
+  satisfied-whole : (c : List ℤ) → IsSatisfiedBelow es' (min r.entries (length es)) c → IsSatisfiedBelow es r.entries c
+  satisfied-whole c (k, among, below) =
+      let (p, less, e) = (below-grown level es es' (min r.entries (length es)) k grows (omega arith)).1 below in
+      (k, among, (p, omega arith, e))
+
+  -- what is kept on the second trail is kept on the first
+  pub reached-across : (w w' : Watches) → ((r' : Reach) → r'.visited ≤ length es' → IsReached known w es' r' → IsReached known w' es' r') → IsReached known w es r → IsReached known w' es r
+  reached-across w w' kept h =
+      let longer : length es ≤ length es' = grows-longer level es es' grows in
+      let before : IsReached known w es' front = record {
+        visited = λ i c p l is at literal of below. satisfied-front i c is (h.visited i c p l is at literal of ((below-grown level es es' r.visited (neg_ℤ l) grows bound).1 below));
+        settled = λ j i c less at is few. satisfied-front i c is (h.settled j i c less at is few);
+      } in
+      let after : IsReached known w' es' front = kept front (omega arith) before in
+      record {
+        visited = λ i c p l is at literal of below. satisfied-whole c (after.visited i c p l is at literal of ((below-grown level es es' r.visited (neg_ℤ l) grows bound).0 below));
+        settled = λ j i c less at is few. satisfied-whole c (after.settled j i c less at is few);
+      }
+
+-- ---- how far it has come now
+pub reached-grown : (known : List (List ℤ)) (w : Watches) (level : ℕ) (es es' : List Entry) (visited settled : ℕ) → Grows level es es' → visited ≤ length es
+    → IsReached known w es (record { entries = length es; visited = visited; settled = settled }) → IsReached known w es' (record { entries = length es'; visited = visited; settled = settled })
+reached-grown known w level es es' visited settled grows bound h = record {
+  visited = λ i c p l is at literal of below. satisfied-grown level es es' c grows (h.visited i c p l is at literal of ((below-grown level es es' visited (neg_ℤ l) grows bound).1 below));
+  settled = λ j i c less at is few. satisfied-grown level es es' c grows (h.settled j i c less at is few);
+}
+
+-- one more is visited
+pub reached-next : (known : List (List ℤ)) (w : Watches) (es : List Entry) (visited settled : ℕ) (k : ℤ) → k ≡ neg_ℤ (literal_at es visited) → AreVisited known w es k
+    → IsReached known w es (record { entries = length es; visited = visited; settled = settled }) → IsReached known w es (record { entries = length es; visited = visited + 1; settled = settled })
+reached-next known w es visited settled k k-is satisfied h = record {
+  visited = λ i c p l is at literal of (q, less, e). elim (cases_lt q visited) [
+    | inl before ↦ h.visited i c p l is at literal of (q, before, e)
+    | inr past ↦
+        let here : q ≡ visited = omega arith in
+        let l-is : l ≡ k = sym (neg_ℤ-neg_ℤ l) ∙ ap neg_ℤ (sym e ∙ ap (literal_at es) here) ∙ sym k-is in
+        satisfied i c p is at (subst (λ (m : ℤ). IsOf m p) l-is of)
+  ];
+  settled = h.settled;
+}

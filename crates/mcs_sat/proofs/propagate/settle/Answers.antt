@@ -1,0 +1,28 @@
+use Rattle.std.proofs.Common.{◌<◌, unsigned_abs, length, sym, subst, ℤ}
+use Rattle.mcs_trace.specs.Clauses.{IsLiteral}
+use Rattle.mcs_sat.proofs.FindingLemmas.{open-short}
+use Rattle.mcs_sat.proofs.GrowLemmas.{literal_of, read_literal, trail-push, trail-same, within_of}
+use Rattle.mcs_sat.proofs.propagate.settle.Goals as goal
+
+pub push-requires-clause-literal : goal.push-requires-clause-literal
+push-requires-clause-literal c =
+    let is : IsLiteral c.in-Forced.literal = literal_of c.args.clauses.now c.args.trail.now c.args.index c.row.result.now c.in-Forced.literal c.requires.trail c.row.ensures c.in-Forced.ensures.0.0 in
+    subst IsLiteral (sym (read_literal c.in-Forced.literal is)) is
+
+pub push-requires-clause-within : goal.push-requires-clause-within
+push-requires-clause-within c =
+    let is : IsLiteral c.in-Forced.literal = literal_of c.args.clauses.now c.args.trail.now c.args.index c.row.result.now c.in-Forced.literal c.requires.trail c.row.ensures c.in-Forced.ensures.0.0 in
+    subst (λ (l : ℤ). unsigned_abs l < length c.args.trail.now.positions.items) (sym (read_literal c.in-Forced.literal is))
+    (within_of c.args.clauses.now c.args.trail.now c.args.index c.row.result.now c.in-Forced.literal c.requires.trail c.row.ensures c.in-Forced.ensures.0.0)
+
+pub returns-in_err-push-in-Forced-clause-trail : goal.returns-in_err-push-in-Forced-clause-trail
+returns-in_err-push-in-Forced-clause-trail c = trail-same c.args.clauses.now c.args.trail.now c.push.new.self c.requires.trail c.push.ensures.placed c.push.ensures.positions c.in_err-push-in-Forced.ensures.err
+
+pub returns-in-Open-clause-found : goal.returns-in-Open-clause-found
+returns-in-Open-clause-found c = λ d is short. open-short c.args.clauses.now c.args.trail.now.entries.items c.args.index c.row.result.now d c.row.ensures c.in-Open.ensures is short
+
+pub returns-in_ok-push-in-Forced-clause-trail : goal.returns-in_ok-push-in-Forced-clause-trail
+returns-in_ok-push-in-Forced-clause-trail c =
+    let l : ℤ = c.in-Forced.literal in
+    let is : IsLiteral l = literal_of c.args.clauses.now c.args.trail.now c.args.index c.row.result.now l c.requires.trail c.row.ensures c.in-Forced.ensures.0.0 in
+    trail-push c.args.clauses.now c.args.trail.now c.push.new.self c.requires.trail c.push.ensures.placed c.push.ensures.positions c.args.index c.row.result.now l _ c.args.level c.row.ensures c.in-Forced.ensures.0.0 c.in-Forced.ensures.0.1 (read_literal l is) c.in_ok-push-in-Forced.ensures.entries

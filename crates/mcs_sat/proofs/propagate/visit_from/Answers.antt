@@ -1,0 +1,77 @@
+use Rattle.std.proofs.Common.{◌≡◌, ℕ, ℤ, List, ◌<◌, ◌≤◌, length, neg_ℤ, Option, None, MatchOption, sym, ap, ◌∙◌, subst, arith, w64, to_z, of_z}
+use Rattle.mcs_base.proofs.Booleans.{none_from_not_some}
+use Rattle.mcs_trace.specs.Clauses.{IsLiteral}
+use Rattle.mcs_sat.specs.declared.state.Reach.{Reach}
+use Rattle.mcs_sat.specs.declared.trail.Entry.{Entry}
+use Rattle.mcs_sat.specs.Trails.{Grows, IsFalseAt, literal_at}
+use Rattle.mcs_sat.specs.Watching.{AreVisited, IsReached}
+use Rattle.mcs_sat.proofs.GrowLemmas.{entry-grown, grows-longer, grows-more, neg_literal, read_literal}
+use Rattle.mcs_sat.proofs.TrailLemmas.{placed-most}
+use Rattle.mcs_sat.proofs.WatchLemmas.{reached-across, reached-grown, reached-next}
+use Rattle.mcs_sat.proofs.propagate.visit_from.Goals.{After-visit_list}
+use Rattle.mcs_sat.proofs.propagate.visit_from.Goals as goal
+
+less : (c : After-visit_list) → c.loop-from.from < length c.loop-from.trail.entries.items
+less c = let ok = c.loop-from.trail.entries.ok.0 in omega arith
+
+grows : (c : After-visit_list) → Grows c.args.level c.args.trail.now.entries.items c.visit_list.new.trail.entries.items
+grows c = grows-more c.args.level c.args.trail.now.entries.items c.loop-from.trail.entries.items c.visit_list.new.trail.entries.items c.loop-from.invariant.grows c.visit_list.ensures.grows
+
+reached : (c : After-visit_list) (r : Reach) → r.visited ≤ length c.args.trail.now.entries.items → IsReached c.args.clauses.now c.args.watches.now c.args.trail.now.entries.items r
+    → IsReached c.args.clauses.now c.visit_list.new.watches c.args.trail.now.entries.items r
+reached c r bound h = reached-across c.args.clauses.now c.args.level c.args.trail.now.entries.items c.loop-from.trail.entries.items c.requires.trail.clauses c.loop-from.invariant.grows r bound c.loop-from.watches c.visit_list.new.watches c.visit_list.ensures.reached (c.loop-from.invariant.reached r bound h)
+
+now : (c : After-visit_list) (settled : ℕ) → IsReached c.args.clauses.now c.args.watches.now c.args.trail.now.entries.items (record { entries = length c.args.trail.now.entries.items; visited = c.args.from.now; settled = settled })
+    → IsReached c.args.clauses.now c.visit_list.new.watches c.visit_list.new.trail.entries.items (record { entries = length c.visit_list.new.trail.entries.items; visited = c.loop-from.from; settled = settled })
+now c settled h =
+    let es : List Entry = c.loop-from.trail.entries.items in
+    let bound : c.loop-from.from ≤ length es = c.loop-from.invariant.bound in
+    reached-grown c.args.clauses.now c.visit_list.new.watches c.args.level es c.visit_list.new.trail.entries.items c.loop-from.from settled c.visit_list.ensures.grows bound
+    (c.visit_list.ensures.reached (record { entries = length es; visited = c.loop-from.from; settled = settled }) bound (c.loop-from.invariant.now settled h))
+
+pub returns-in_err-found-clause-reached : goal.returns-in_err-found-clause-reached
+returns-in_err-found-clause-reached c = reached (goal.at.returns-in_err-found-clause-reached c).After-visit_list
+
+pub returns-in_err-found-clause-now : goal.returns-in_err-found-clause-now
+returns-in_err-found-clause-now c = now (goal.at.returns-in_err-found-clause-now c).After-visit_list
+
+pub returns-then-is_some-clause-grows : goal.returns-then-is_some-clause-grows
+returns-then-is_some-clause-grows c = grows (goal.at.returns-then-is_some-clause-grows c).After-visit_list
+
+pub returns-then-is_some-clause-reached : goal.returns-then-is_some-clause-reached
+returns-then-is_some-clause-reached c = reached (goal.at.returns-then-is_some-clause-reached c).After-visit_list
+
+pub returns-then-is_some-clause-now : goal.returns-then-is_some-clause-now
+returns-then-is_some-clause-now c = now (goal.at.returns-then-is_some-clause-now c).After-visit_list
+
+pub loop-from-smaller : goal.loop-from-smaller
+loop-from-smaller c =
+    let here : c.loop-from.from < length c.loop-from.trail.entries.items = less (goal.at.loop-from-smaller c).After-visit_list in
+    let most : length c.loop-from.trail.entries.items ≤ length c.loop-from.trail.positions.items = placed-most c.loop-from.trail.entries.items c.loop-from.trail.positions.items c.loop-from.invariant.trail.placed in
+    let same : length c.visit_list.new.trail.positions.items ≡ length c.loop-from.trail.positions.items = c.visit_list.ensures.positions in
+    omega arith
+
+pub loop-from-preserved : goal.loop-from-preserved
+loop-from-preserved c =
+    let at = (goal.at.loop-from-preserved c).After-visit_list in
+    let known = c.args.clauses.now in
+    let es : List Entry = c.loop-from.trail.entries.items in
+    let es' : List Entry = c.visit_list.new.trail.entries.items in
+    let here : c.loop-from.from < length es = less at in
+    let longer : length es ≤ length es' = grows-longer c.args.level es es' c.visit_list.ensures.grows in
+    let none : c.in_ok-found.found ≡ None = none_from_not_some c.in_ok-found.found (sym c.is_some.ensures ∙ c.if-is_some.false) in
+    let l : ℤ = to_z w64 (of_z w64 c.negated-literal.result) in
+    let read' : l ≡ c.negated-literal.result = read_literal c.negated-literal.result (subst IsLiteral (sym c.negated-literal.ensures) (neg_literal (literal_at es c.loop-from.from) (c.loop-from.invariant.trail.placed c.loop-from.from here).0)) in
+    let all = subst (λ (o : Option ℕ). MatchOption o (AreVisited known c.visit_list.new.watches es' l) (IsFalseAt known es')) none c.in_ok-found.ensures.found in
+    record {
+      trail = c.visit_list.ensures.trail;
+      positions = c.visit_list.ensures.positions ∙ c.loop-from.invariant.positions;
+      grows = grows at;
+      lists = c.visit_list.ensures.lists ∙ c.loop-from.invariant.lists;
+      watched = c.visit_list.ensures.watched;
+      short = c.visit_list.ensures.short ∙ c.loop-from.invariant.short;
+      bound = omega arith;
+      reached = reached at;
+      now = λ settled h. reached-next known c.visit_list.new.watches es' c.loop-from.from settled l
+          (read' ∙ c.negated-literal.ensures ∙ ap (λ (x : Entry). neg_ℤ x.literal) (sym (entry-grown c.args.level es es' c.loop-from.from c.visit_list.ensures.grows here))) all (now at settled h);
+    }

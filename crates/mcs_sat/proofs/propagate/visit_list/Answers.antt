@@ -1,0 +1,152 @@
+use Rattle.std.proofs.Common.{◌≡◌, ℕ, ℤ, List, ◌+◌, ◌*◌, ◌<◌, ◌≤◌, length, slice_get, get_or, neg_ℤ, unsigned_abs, Some, Vec, refl, sym, ap, ◌∙◌, subst, arith, w64, to_z, of_z, to_z-of_z}
+use Rattle.std.specs.declared.alloc.Global.{Global}
+use Rattle.std.proofs.lemmas.List.{length-set}
+use Rattle.std.proofs.lemmas.Option.{slice_get_read}
+use Rattle.mcs_base.proofs.Numbers.{unsigned_abs-neg_ℤ}
+use Rattle.mcs_trace.specs.Clauses.{place}
+use Rattle.mcs_trace.proofs.OrderLemmas.{place-size}
+use Rattle.mcs_sat.specs.declared.propagate.Seen.TheVariants as seen
+use Rattle.mcs_sat.specs.declared.state.Reach.{Reach}
+use Rattle.mcs_sat.specs.declared.trail.Entry.{Entry}
+use Rattle.mcs_sat.specs.Trails.{ArePlaced, Grows, IsOn, literal_at}
+use Rattle.mcs_sat.specs.Watching.{IsReached, IsSeen}
+use Rattle.mcs_sat.proofs.GrowLemmas.{grows-more}
+use Rattle.mcs_sat.proofs.WatchLemmas.{left-more, left-swap, passed-more, passed-swap, reached-across, reached-list, slice_get-set_same, visited-all, watched-swap}
+use Rattle.mcs_sat.proofs.propagate.visit_list.Goals.{After-index, After-index_mut, After-visit}
+use Rattle.mcs_sat.proofs.propagate.visit_list.Goals as goal
+
+-- ---- the list of the literal
+within : (lists before p : ℕ) (l : ℤ) (es : List Entry) (ps : List ℕ) → ArePlaced es ps → IsOn es (neg_ℤ l) → before ≡ 2 * length ps → lists ≡ before → p ≡ place l → p < lists
+within lists before p l es ps placed (q, less, e) double same at =
+    let size : unsigned_abs (literal_at es q) ≡ unsigned_abs l = ap unsigned_abs e ∙ unsigned_abs-neg_ℤ l in
+    let small : unsigned_abs (literal_at es q) < length ps = (placed q less).1 in
+    omega (arith, place-size l)
+
+read : (lists : List (Vec ℕ Global)) (p : ℕ) (list : Vec ℕ Global) → p < length lists → list ≡ get_or lists p list → slice_get lists p ≡ Some list
+read lists p list less is = slice_get_read lists (length lists) p list refl less is
+
+index_within : (c : After-index) → c.place-list.result < length c.loop-at.watches.lists.items
+index_within c = within (length c.loop-at.watches.lists.items) (length c.args.watches.now.lists.items) c.place-list.result c.args.literal c.args.trail.now.entries.items c.args.trail.now.positions.items
+    c.requires.trail.placed c.requires.off c.requires.lists c.loop-at.invariant.lists (c.place-list.ensures ∙ ap place (to_z-of_z c.ranges.literal))
+
+-- ---- a clause was visited
+visit_within : (c : After-visit) → c.place-list.result < length c.loop-at.watches.lists.items
+visit_within c = within (length c.loop-at.watches.lists.items) (length c.args.watches.now.lists.items) c.place-list.result c.args.literal c.args.trail.now.entries.items c.args.trail.now.positions.items
+    c.requires.trail.placed c.requires.off c.requires.lists c.loop-at.invariant.lists (c.place-list.ensures ∙ ap place (to_z-of_z c.ranges.literal))
+
+list_at : (c : After-visit) → slice_get c.loop-at.watches.lists.items c.place-list.result ≡ Some c.index-in-loop-at.result.now
+list_at c = read c.loop-at.watches.lists.items c.place-list.result c.index-in-loop-at.result.now (visit_within c) c.index-in-loop-at.ensures
+
+less_at : (c : After-visit) → c.loop-at.at < length c.index-in-loop-at.result.now.items
+less_at c =
+    let both : Some c.index.result.now ≡ Some c.index-in-loop-at.result.now = sym (read c.loop-at.watches.lists.items c.place-list.result c.index.result.now (visit_within c) c.index.ensures) ∙ list_at c in
+    let same : c.index.result.now ≡ c.index-in-loop-at.result.now = cc in
+    let sizes : length c.index.result.now.items ≡ length c.index-in-loop-at.result.now.items = ap (λ (v : Vec ℕ Global). length v.items) same in
+    let ok = c.index.result.now.ok.0 in
+    omega arith
+
+index_at : (c : After-visit) → slice_get c.index-in-loop-at.result.now.items c.loop-at.at ≡ Some c.index-index.result.now
+index_at c = slice_get_read c.index-in-loop-at.result.now.items (length c.index-in-loop-at.result.now.items) c.loop-at.at c.index-index.result.now refl (less_at c) c.index-index.ensures
+
+kept : (c : After-visit) → slice_get c.visit.new.watches.lists.items c.place-list.result ≡ slice_get c.loop-at.watches.lists.items c.place-list.result
+kept c = subst (λ (n : ℕ). slice_get c.visit.new.watches.lists.items n ≡ slice_get c.loop-at.watches.lists.items n) (sym c.place-list.ensures) c.visit.ensures.list
+
+grows : (c : After-visit) → Grows c.args.level c.args.trail.now.entries.items c.visit.new.trail.entries.items
+grows c = grows-more c.args.level c.args.trail.now.entries.items c.loop-at.trail.entries.items c.visit.new.trail.entries.items c.loop-at.invariant.grows c.visit.ensures.grows
+
+reached : (c : After-visit) (r : Reach) → r.visited ≤ length c.args.trail.now.entries.items → IsReached c.args.clauses.now c.args.watches.now c.args.trail.now.entries.items r → IsReached c.args.clauses.now c.visit.new.watches c.args.trail.now.entries.items r
+reached c r bound h = reached-across c.args.clauses.now c.args.level c.args.trail.now.entries.items c.loop-at.trail.entries.items c.requires.trail.clauses c.loop-at.invariant.grows r bound c.loop-at.watches c.visit.new.watches c.visit.ensures.reached (c.loop-at.invariant.reached r bound h)
+
+pub returns-in_err-visit-clause-reached : goal.returns-in_err-visit-clause-reached
+returns-in_err-visit-clause-reached c = reached (goal.at.returns-in_err-visit-clause-reached c).After-visit
+
+pub returns-in-Conflict-clause-reached : goal.returns-in-Conflict-clause-reached
+returns-in-Conflict-clause-reached c = reached (goal.at.returns-in-Conflict-clause-reached c).After-visit
+
+-- ---- it is satisfied
+pub loop-at-smaller-in-Satisfied : goal.loop-at-smaller-in-Satisfied
+loop-at-smaller-in-Satisfied c =
+    let at = (goal.at.loop-at-smaller-in-Satisfied c).After-visit in
+    left-more (slice_get c.loop-at.watches.lists.items c.place-list.result) (slice_get c.visit.new.watches.lists.items c.place-list.result) c.index-in-loop-at.result.now c.loop-at.at (list_at at) (kept at) (less_at at)
+
+pub loop-at-preserved-in-Satisfied : goal.loop-at-preserved-in-Satisfied
+loop-at-preserved-in-Satisfied c =
+    let at = (goal.at.loop-at-preserved-in-Satisfied c).After-visit in
+    record {
+      trail = c.visit.ensures.trail;
+      positions = c.visit.ensures.positions ∙ c.loop-at.invariant.positions;
+      grows = grows at;
+      lists = c.visit.ensures.lists ∙ c.loop-at.invariant.lists;
+      watched = c.visit.ensures.watched;
+      short = c.visit.ensures.short ∙ c.loop-at.invariant.short;
+      reached = reached at;
+      passed = passed-more c.args.clauses.now c.loop-at.watches.lists.items c.visit.new.watches.lists.items c.args.level c.loop-at.trail.entries.items c.visit.new.trail.entries.items c.place-list.result c.loop-at.at c.index-in-loop-at.result.now
+          c.visit.ensures.grows (list_at at) c.loop-at.invariant.passed (kept at) c.index-index.result.now (index_at at)
+          (subst (IsSeen c.args.clauses.now c.visit.new.watches c.visit.new.trail.entries.items c.index-index.result.now (to_z w64 (of_z w64 c.args.literal))) c.in-Satisfied.is c.in_ok-visit.ensures.seen);
+    }
+
+-- ---- it is gone
+removed_at : (c : After-index_mut) → slice_get c.visit.new.watches.lists.items c.place-list.result ≡ Some c.index_mut.result.now
+removed_at c =
+    let less : c.place-list.result < length c.loop-at.watches.lists.items = within (length c.loop-at.watches.lists.items) (length c.args.watches.now.lists.items) c.place-list.result c.args.literal c.args.trail.now.entries.items c.args.trail.now.positions.items
+    c.requires.trail.placed c.requires.off c.requires.lists c.loop-at.invariant.lists (c.place-list.ensures ∙ ap place (to_z-of_z c.ranges.literal)) in
+    let sizes : length c.visit.new.watches.lists.items ≡ length c.loop-at.watches.lists.items = c.visit.ensures.lists in
+    read c.visit.new.watches.lists.items c.place-list.result c.index_mut.result.now (omega arith) c.index_mut.ensures.value
+
+same_list : (c : After-visit) (list : Vec ℕ Global) → slice_get c.visit.new.watches.lists.items c.place-list.result ≡ Some list → list ≡ c.index-in-loop-at.result.now
+same_list c list is = let both : Some list ≡ Some c.index-in-loop-at.result.now = sym is ∙ kept c ∙ list_at c in cc
+
+less_in : (c : After-visit) (list : Vec ℕ Global) → slice_get c.visit.new.watches.lists.items c.place-list.result ≡ Some list → c.loop-at.at < length list.items
+less_in c list is = subst (λ (v : Vec ℕ Global). c.loop-at.at < length v.items) (sym (same_list c list is)) (less_at c)
+
+pub swap_remove-requires : goal.swap_remove-requires
+swap_remove-requires c =
+    let at = (goal.at.swap_remove-requires c).After-visit in
+    let less : c.loop-at.at < length c.index_mut.result.now.items = less_in at c.index_mut.result.now (removed_at c) in
+    let ok = c.index_mut.result.now.ok.0 in
+    omega arith
+
+pub loop-at-smaller : goal.loop-at-smaller
+loop-at-smaller c =
+    let at = (goal.at.loop-at-smaller c).After-visit in
+    let at' = (goal.at.loop-at-smaller c).After-index_mut in
+    let list : Vec ℕ Global = c.index_mut.result.now in
+    let one : length c.swap_remove.new.self.items + 1 ≡ length list.items =
+    (let ok = list.ok.0 in let ok' = c.swap_remove.new.self.ok.0 in let len = c.swap_remove.ensures.len in omega arith) in
+    let here : c.place-list.result < length c.visit.new.watches.lists.items = (let sizes : length c.visit.new.watches.lists.items ≡ length c.loop-at.watches.lists.items = c.visit.ensures.lists in let less = visit_within at in omega arith) in
+    left-swap (slice_get c.loop-at.watches.lists.items c.place-list.result) _ list c.swap_remove.new.self c.loop-at.at (sym (kept at) ∙ removed_at at') (slice_get-set_same c.visit.new.watches.lists.items c.place-list.result c.swap_remove.new.self here) one (less_in at list (removed_at at'))
+
+pub loop-at-preserved : goal.loop-at-preserved
+loop-at-preserved c =
+    let at = (goal.at.loop-at-preserved c).After-visit in
+    let at' = (goal.at.loop-at-preserved c).After-index_mut in
+    let list : Vec ℕ Global = c.index_mut.result.now in
+    let x : ℕ = c.swap_remove.result in
+    let l : ℤ = to_z w64 (of_z w64 c.args.literal) in
+    let less : c.loop-at.at < length list.items = less_in at list (removed_at at') in
+    let same : list ≡ c.index-in-loop-at.result.now = same_list at list (removed_at at') in
+    let both : Some x ≡ Some c.index-index.result.now =
+    sym (slice_get_read list.items (length list.items) c.loop-at.at x refl less c.swap_remove.ensures.value) ∙ ap (λ (v : Vec ℕ Global). slice_get v.items c.loop-at.at) same ∙ index_at at in
+    let x-is : x ≡ c.index-index.result.now = cc in
+    let gone : IsSeen c.args.clauses.now c.visit.new.watches c.visit.new.trail.entries.items c.index-index.result.now l seen.Gone =
+    subst (IsSeen c.args.clauses.now c.visit.new.watches c.visit.new.trail.entries.items c.index-index.result.now l) c.in-Gone.is c.in_ok-visit.ensures.seen in
+    record {
+      trail = c.visit.ensures.trail;
+      positions = c.visit.ensures.positions ∙ c.loop-at.invariant.positions;
+      grows = grows at;
+      lists = length-set c.visit.new.watches.lists.items c.place-list.result c.swap_remove.new.self ∙ c.visit.ensures.lists ∙ c.loop-at.invariant.lists;
+      watched = watched-swap c.args.clauses.now c.visit.new.watches _ c.place-list.result l c.loop-at.at list c.swap_remove.new.self x c.visit.ensures.watched refl refl refl c.place-list.ensures (removed_at at') less
+          c.swap_remove.ensures.value c.swap_remove.ensures.items (λ q is. gone q (sym (ap (slice_get c.visit.new.watches.pairs.items) x-is) ∙ is));
+      short = c.visit.ensures.short ∙ c.loop-at.invariant.short;
+      reached = λ r bound h. reached-list c.args.clauses.now c.visit.new.watches _ c.args.trail.now.entries.items r refl refl (reached at r bound h);
+      passed = passed-swap c.args.clauses.now c.loop-at.watches.lists.items c.visit.new.watches.lists.items c.args.level c.loop-at.trail.entries.items c.visit.new.trail.entries.items c.place-list.result c.loop-at.at list
+          c.visit.ensures.grows (sym (kept at) ∙ removed_at at') c.loop-at.invariant.passed less c.swap_remove.new.self x c.swap_remove.ensures.items;
+    }
+
+-- ---- all of the list
+pub returns-clause-found : goal.returns-clause-found
+returns-clause-found c =
+    let at = (goal.at.returns-clause-found c).After-index in
+    let ok = c.index.result.now.ok.0 in
+    visited-all c.args.clauses.now c.loop-at.watches c.loop-at.trail.entries.items c.args.literal c.place-list.result c.loop-at.at c.index.result.now c.loop-at.invariant.watched c.requires.literal
+    (c.place-list.ensures ∙ ap place (to_z-of_z c.ranges.literal)) (read c.loop-at.watches.lists.items c.place-list.result c.index.result.now (index_within at) c.index.ensures) (omega arith) c.loop-at.invariant.passed

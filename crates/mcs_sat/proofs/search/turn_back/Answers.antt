@@ -1,0 +1,69 @@
+use Rattle.std.proofs.Common.{◌≡◌, ◌+◌, ◌-◌, ◌≤◌, ◌<◌, List, ℕ, ℤ, Some, length, slice_get, sym, subst, arith}
+use Rattle.std.proofs.lemmas.Option.{slice_get_within}
+use Rattle.mcs_base.proofs.Each.{all_get}
+use Rattle.mcs_base.proofs.Lists.{slice_get_below}
+use Rattle.mcs_trace.specs.Traces.{IsChainResolvent}
+use Rattle.mcs_sat.specs.declared.state.Reach.{Reach}
+use Rattle.mcs_sat.specs.Learning.{IsSingle}
+use Rattle.mcs_sat.specs.States.{IsLastLevel}
+use Rattle.mcs_sat.specs.Trails.{IsOpen}
+use Rattle.mcs_sat.proofs.BackLemmas.{gone-back, less-learnt, search-learnt, single-last}
+use Rattle.mcs_sat.proofs.LevelLemmas.{implied-last}
+use Rattle.mcs_sat.proofs.SearchLemmas.{open-late, run-is, search-run}
+use Rattle.mcs_sat.proofs.TurnLemmas.{last-found, last-none}
+use Rattle.mcs_sat.proofs.search.turn_back.Goals as goal
+
+pub analyse-requires-clause-late : goal.analyse-requires-clause-late
+analyse-requires-clause-late c = λ clause at.
+    let s = c.args.state.now in
+    let last : IsLastLevel s.levels.items c.in-Some.reach.now = last-found s.levels.items c.deref.result.now c.last.result c.in-Some.reach c.deref.ensures.value c.last.ensures.value c.in-Some.is in
+    let (below, none, count) = c.requires.search.state.starts.start (length s.levels.items - 1) c.in-Some.reach.now last in
+    open-late s.trail.entries.items s.trail.positions.items c.in-Some.reach.now.entries clause c.requires.search.state.trail.placed (omega arith)
+    (all_get _ s.clauses c.args.index clause (c.requires.search.before (length s.levels.items - 1) c.in-Some.reach.now last) at)
+
+pub analyse-requires-clause-implied : goal.analyse-requires-clause-implied
+analyse-requires-clause-implied c =
+    let s = c.args.state.now in
+    let last : IsLastLevel s.levels.items c.in-Some.reach.now = last-found s.levels.items c.deref.result.now c.last.result c.in-Some.reach c.deref.ensures.value c.last.ensures.value c.in-Some.is in
+    let within = slice_get_within s.levels.items (length s.levels.items - 1) c.in-Some.reach.now last in
+    implied-last s.trail.entries.items s.levels.items (length s.levels.items - 1) c.in-Some.reach.now c.requires.search.state.starts last (omega arith)
+
+pub learn-requires-clause-single : goal.learn-requires-clause-single
+learn-requires-clause-single c =
+    let s = c.args.state.now in
+    let last : IsLastLevel s.levels.items c.in-Some.reach.now = last-found s.levels.items c.deref.result.now c.last.result c.in-Some.reach c.deref.ensures.value c.last.ensures.value c.in-Some.is in
+    subst (λ (x : List ℤ). (q : Reach) → IsLastLevel s.levels.items q → IsSingle s.trail.entries.items q.entries x) (sym c.literals-3.ensures.value)
+    (single-last s c.in-Some.reach.now c.in_ok-step.step.clause c.requires.search.state last c.in_ok-step.ensures.single)
+
+pub returns-clause-kept : goal.returns-clause-kept
+returns-clause-kept c =
+    let s = c.args.state.now in
+    let f = c.args.cnf.now in
+    let cl : List ℤ = c.literals-3.result.now in
+    let ns : List ℕ = c.deref-2.result.now in
+    let step = c.in_ok-step.step in
+    let last : IsLastLevel s.levels.items c.in-Some.reach.now = last-found s.levels.items c.deref.result.now c.last.result c.in-Some.reach c.deref.ensures.value c.last.ensures.value c.in-Some.is in
+    let single = subst (λ (x : List ℤ). (q : Reach) → IsLastLevel s.levels.items q → IsSingle s.trail.entries.items q.entries x) (sym c.literals-3.ensures.value) (single-last s c.in-Some.reach.now step.clause c.requires.search.state last c.in_ok-step.ensures.single) in
+    let right = subst (IsChainResolvent s.clauses ns) (sym c.literals-3.ensures.value) (subst (λ (xs : List ℕ). IsChainResolvent s.clauses xs step.clause) (sym c.deref-2.ensures.value) c.in_ok-step.ensures.learnt.chain) in
+    let b = c.in_ok-learn.ensures.learnt in
+    let g = gone-back s c.learn.new.state cl ns c.requires.search.state b single in
+    let r = c.in_ok-run.ensures in
+    let kept = search-run f c.learn.new.state c.run.new.state (search-learnt f s c.learn.new.state cl ns c.requires.search c.learn.ensures.kept c.learn.ensures.positions right b g) r.kept r.same r.levels r.grows in
+    kept
+
+pub returns-clause-turn : goal.returns-clause-turn
+returns-clause-turn c =
+    let s = c.args.state.now in
+    let f = c.args.cnf.now in
+    let cl : List ℤ = c.literals-3.result.now in
+    let ns : List ℕ = c.deref-2.result.now in
+    let step = c.in_ok-step.step in
+    let last : IsLastLevel s.levels.items c.in-Some.reach.now = last-found s.levels.items c.deref.result.now c.last.result c.in-Some.reach c.deref.ensures.value c.last.ensures.value c.in-Some.is in
+    let single = subst (λ (x : List ℤ). (q : Reach) → IsLastLevel s.levels.items q → IsSingle s.trail.entries.items q.entries x) (sym c.literals-3.ensures.value) (single-last s c.in-Some.reach.now step.clause c.requires.search.state last c.in_ok-step.ensures.single) in
+    let right = subst (IsChainResolvent s.clauses ns) (sym c.literals-3.ensures.value) (subst (λ (xs : List ℕ). IsChainResolvent s.clauses xs step.clause) (sym c.deref-2.ensures.value) c.in_ok-step.ensures.learnt.chain) in
+    let b = c.in_ok-learn.ensures.learnt in
+    let g = gone-back s c.learn.new.state cl ns c.requires.search.state b single in
+    let r = c.in_ok-run.ensures in
+    let kept = search-run f c.learn.new.state c.run.new.state (search-learnt f s c.learn.new.state cl ns c.requires.search c.learn.ensures.kept c.learn.ensures.positions right b g) r.kept r.same r.levels r.grows in
+    let run = run-is c.run.new.state c.in_ok-run.field-0 r.open r.conflict in
+    (run, less-learnt f s c.learn.new.state c.run.new.state cl ns c.in_ok-run.field-0 c.requires.search kept b g r.same.clauses r.grows run)

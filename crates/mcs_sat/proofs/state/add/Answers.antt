@@ -1,0 +1,25 @@
+use Rattle.std.proofs.Common.{◌≡◌, ◌<◌, ◌*◌, ◌^◌, [], sym, refl, ap, subst, arith, inl, ℕ, ℤ, List, length, unsigned_abs, slice_get, Some, None, Option, MatchOption, IfSome}
+use Rattle.mcs_trace.specs.Clauses.{IsLiteral, place}
+use Rattle.mcs_sat.specs.declared.state.Reach.{Reach}
+use Rattle.mcs_sat.proofs.StateLemmas.{IsFresh, fits-literals, fits-lists, state-pushed, state-same, fresh-none, fresh-base}
+use Rattle.mcs_sat.proofs.state.add.Goals as goal
+
+pub push_clause-requires-clause-literals : goal.push_clause-requires-clause-literals
+push_clause-requires-clause-literals c = fits-literals c.args.literals.now c.first_pair-pair.result c.requires.clause c.first_pair-pair.ensures
+
+pub push_clause-requires-clause-within : goal.push_clause-requires-clause-within
+push_clause-requires-clause-within c = fits-lists c.args.literals.now c.args.state.now.trail.positions.items (length c.args.state.now.watches.lists.items) c.first_pair-pair.result c.requires.covered c.requires.state.lists c.first_pair-pair.ensures
+
+pub returns-in_err-push_clause-clause-kept : goal.returns-in_err-push_clause-clause-kept
+returns-in_err-push_clause-clause-kept c =
+    let s = c.args.state.now in
+    let e = c.in_err-push_clause.ensures in
+    state-same s _ c.requires.state e.err_clauses e.err_chains refl refl c.requires.state.trail.placed e.watches e.err_pairs e.err_short refl refl refl
+
+pub returns-clause-kept : goal.returns-clause-kept
+returns-clause-kept c =
+    let s = c.args.state.now in
+    let e = c.in_ok-push_clause.ensures in
+    state-pushed s c.push_clause.new.clauses c.push_clause.new.chains c.push_clause.new.watches c.args.literals.now [] c.first_pair-pair.result 0 c.requires.state e.clauses e.chains e.watches e.pushed c.first_pair-pair.ensures c.requires.clause c.requires.covered (inl refl) (omega arith)
+    (fresh-none s.trail.entries.items c.first_pair-pair.result)
+    (fresh-base s.trail.entries.items s.levels.items c.first_pair-pair.result c.requires.base)

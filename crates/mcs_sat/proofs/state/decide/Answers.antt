@@ -1,0 +1,24 @@
+use Rattle.std.proofs.Common.{◌≡◌, ◌+◌, ◌-◌, ◌∷◌, ◌++◌, [], ℕ, List, sym, refl, ap, ◌∙◌, arith, length, take, w64, to_z, of_z}
+use Rattle.std.proofs.Math.Seq.{take-append_seam}
+use Rattle.mcs_sat.proofs.StateLemmas.{state-same, state-decided}
+use Rattle.mcs_sat.specs.declared.state.Reach.{Reach}
+use Rattle.mcs_sat.specs.declared.trail.Entry.{Entry}
+use Rattle.mcs_sat.proofs.state.decide.Goals as goal
+
+pub returns-in-Err-clause-kept : goal.returns-in-Err-clause-kept
+returns-in-Err-clause-kept c =
+    let ls = c.args.state.now.levels.items in
+    let count : c.len-level.result + 1 - 1 ≡ length ls = (let ok = c.args.state.now.levels.ok.0 in omega (arith, c.len-level.ensures)) in
+    state-same c.args.state.now _ c.requires.state refl refl (c.in-Err.ensures.err) c.push-2.ensures.positions c.in-Err.ensures.placed (record { sized = refl; listed = λ l i h. h }) refl refl
+    (c.truncate.ensures.items ∙ ap (λ (n : ℕ). take n c.push.new.self.items) count ∙ ap (take (length ls)) c.in_ok-push.ensures.items ∙ take-append_seam ls _) refl refl
+
+pub returns-clause-kept : goal.returns-clause-kept
+returns-clause-kept c =
+    let s = c.args.state.now in
+    let es : List Entry = s.trail.entries.items in
+    let count : c.len-level.result ≡ length s.levels.items = (let ok = s.levels.ok.0 in omega (arith, c.len-level.ensures)) in
+    let size : c.len.result ≡ length es = (let ok = s.trail.entries.ok.0 in omega (arith, c.len.ensures)) in
+    state-decided s c.push-2.new.self c.push.new.self (to_z w64 (of_z w64 c.args.literal)) c.requires.state
+    (c.in_default.ensures.entries ∙ ap (λ (n : ℕ). let e : Entry = record { literal = to_z w64 (of_z w64 c.args.literal); reason = 0; level = n + 1 } in es ++ e ∷ []) count)
+    c.in_default.ensures.placed c.push-2.ensures.positions
+    (c.in_ok-push.ensures.items ∙ ap (λ (n : ℕ). let r : Reach = record { entries = n; visited = s.visited; settled = s.settled } in s.levels.items ++ r ∷ []) size)

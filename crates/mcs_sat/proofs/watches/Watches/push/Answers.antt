@@ -1,0 +1,11 @@
+use Rattle.std.proofs.Common.{sym, ◌∙◌}
+use Rattle.mcs_sat.proofs.watches.Watches.push.Goals as goal
+
+pub returns-in_err-list-in-Some-2-clause-kept : goal.returns-in_err-list-in-Some-2-clause-kept
+returns-in_err-list-in-Some-2-clause-kept c = record { sized = c.list-in-Some.ensures.sized ∙ c.list.ensures.sized; listed = λ l i listed. c.list-in-Some.ensures.kept l i (c.list.ensures.kept l i listed) }
+
+pub returns-in_err-push-in-Some-clause-kept : goal.returns-in_err-push-in-Some-clause-kept
+returns-in_err-push-in-Some-clause-kept c = record { sized = c.list-in-Some.ensures.sized ∙ c.list.ensures.sized; listed = λ l i listed. c.list-in-Some.ensures.kept l i (c.list.ensures.kept l i listed) }
+
+pub returns-in_ok-push-in-Some-clause-kept : goal.returns-in_ok-push-in-Some-clause-kept
+returns-in_ok-push-in-Some-clause-kept c = record { sized = c.list-in-Some.ensures.sized ∙ c.list.ensures.sized; listed = λ l i listed. c.list-in-Some.ensures.kept l i (c.list.ensures.kept l i listed) }

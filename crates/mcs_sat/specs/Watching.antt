@@ -1,0 +1,79 @@
+-- The two literals that a clause watches, and how far a solver has come with them (Moskewicz et al. 2001).
+use Rattle.std.specs.Prelude.{◌≡◌, ◌≢◌, ℕ, ◌*◌, ◌<◌, ◌≤◌, ◌⊎◌, List, [], ◌∷◌, ◌++◌, ℤ, pos, neg_ℤ, length, Option, Some, None, Vec, slice_get}
+use Rattle.std.specs.declared.alloc.Global.{Global}
+use Rattle.mcs_base.specs.Listings.{IsAmong}
+use Rattle.mcs_trace.specs.Clauses.{IsLiteral, place}
+use Rattle.mcs_sat.specs.declared.propagate.Seen.{Seen}
+use Rattle.mcs_sat.specs.declared.propagate.Seen.TheVariants as seen
+use Rattle.mcs_sat.specs.declared.state.Reach.{Reach}
+use Rattle.mcs_sat.specs.declared.trail.Entry.{Entry}
+use Rattle.mcs_sat.specs.declared.watches.Pair.{Pair}
+use Rattle.mcs_sat.specs.declared.watches.Watches.{Watches}
+use Rattle.mcs_sat.specs.Trails.{IsFalseAt, IsOnBelow, IsSatisfied, IsSatisfiedBelow}
+
+-- a clause of two literals or more watches two
+abbrev pub IsLong : List ℤ → Type 0
+IsLong c = 2 ≤ length c
+
+-- the literal is one of the pair
+abbrev pub IsOf : ℤ → Pair → Type 0
+IsOf l p = (p.first ≡ l) ⊎ (p.second ≡ l)
+
+-- the pair is the literal and the other one, in some order
+abbrev pub IsPairOf : Pair → ℤ → ℤ → Type 0
+IsPairOf p l other = ((p.first ≡ l) × (p.second ≡ other)) ⊎ ((p.second ≡ l) × (p.first ≡ other))
+
+-- what stands where a clause watches nothing
+abbrev pub no_pair : Pair
+no_pair = record { first = pos 0; second = pos 0 }
+
+-- two literals of the clause
+pub record ArePair (c : List ℤ) (p : Pair) : Type 0 where
+  pub first : IsAmong p.first c
+  pub second : IsAmong p.second c
+  pub differ : p.first ≢ p.second
+
+-- a long clause has a pair; for a short one no literal stands there
+abbrev pub IsPaired : List ℤ → Pair → Type 0
+IsPaired c p = (IsLong c → ArePair c p) × ((l : ℤ) → IsLiteral l → IsOf l p → IsLong c)
+
+-- the index is in the list of the literal
+abbrev pub IsListed : List (Vec ℕ Global) → ℤ → ℕ → Type 0
+IsListed lists l i = (list : Vec ℕ Global) → slice_get lists (place l) ≡ Some list → IsAmong i list.items
+
+-- each clause has its pair, and is in the lists of both of its literals; the short ones are among those of a list of their own
+pub record AreWatched (known : List (List ℤ)) (w : Watches) : Type 0 where
+  pub sized : length w.pairs.items ≡ length known
+  pub paired : (i : ℕ) (c : List ℤ) (p : Pair) → slice_get known i ≡ Some c → slice_get w.pairs.items i ≡ Some p → IsPaired c p
+  pub listed : (i : ℕ) (p : Pair) (l : ℤ) → slice_get w.pairs.items i ≡ Some p → IsLiteral l → IsOf l p → IsListed w.lists.items l i
+  pub short : (i : ℕ) (c : List ℤ) → slice_get known i ≡ Some c → ¬ IsLong c → IsAmong i w.short.items
+
+-- where a literal that a clause watches was false among those that were visited, the clause was satisfied; the short clauses that were settled were so too
+pub record IsReached (known : List (List ℤ)) (w : Watches) (entries : List Entry) (r : Reach) : Type 0 where
+  pub visited : (i : ℕ) (c : List ℤ) (p : Pair) (l : ℤ) → slice_get known i ≡ Some c → slice_get w.pairs.items i ≡ Some p → IsLiteral l → IsOf l p → IsOnBelow entries r.visited (neg_ℤ l) → IsSatisfiedBelow entries r.entries c
+  pub settled : (j i : ℕ) (c : List ℤ) → j < r.settled → slice_get w.short.items j ≡ Some i → slice_get known i ≡ Some c → ¬ IsLong c → IsSatisfiedBelow entries r.entries c
+
+-- what became of the clause of the index, which stood in the list of the literal
+abbrev pub IsSeen : List (List ℤ) → Watches → List Entry → ℕ → ℤ → Seen → Type 0
+IsSeen known w entries i l seen.Satisfied = (c : List ℤ) → slice_get known i ≡ Some c → IsSatisfied entries c
+IsSeen known w entries i l seen.Gone = (p : Pair) → slice_get w.pairs.items i ≡ Some p → ¬ IsOf l p
+IsSeen known w entries i l seen.Conflict = IsFalseAt known entries i
+
+-- each clause that watches the literal is satisfied
+abbrev pub AreVisited : List (List ℤ) → Watches → List Entry → ℤ → Type 0
+AreVisited known w entries l = (i : ℕ) (c : List ℤ) (p : Pair) → slice_get known i ≡ Some c → slice_get w.pairs.items i ≡ Some p → IsOf l p → IsSatisfied entries c
+
+-- those of the short clauses from the one place up to the other are satisfied
+abbrev pub AreSettled : List (List ℤ) → List ℕ → List Entry → ℕ → ℕ → Type 0
+AreSettled known indices entries from to = (j i : ℕ) (c : List ℤ) → from ≤ j → j < to → slice_get indices j ≡ Some i → slice_get known i ≡ Some c → ¬ IsLong c → IsSatisfied entries c
+
+-- ---- what a change of the lists keeps
+pub record AreKept (old new : Watches) : Type 0 where
+  pub sized : length new.lists.items ≡ length old.lists.items
+  pub listed : (l : ℤ) (i : ℕ) → IsListed old.lists.items l i → IsListed new.lists.items l i
+
+-- the next clause watches the pair; without one it is short
+abbrev pub IsPushed : Watches → Watches → Option Pair → Type 0
+IsPushed old new (Some p) = (new.pairs.items ≡ old.pairs.items ++ p ∷ []) × (new.short.items ≡ old.short.items)
+    × IsListed new.lists.items p.first (length old.pairs.items) × IsListed new.lists.items p.second (length old.pairs.items)
+IsPushed old new None = (new.pairs.items ≡ old.pairs.items ++ no_pair ∷ []) × (new.short.items ≡ old.short.items ++ length old.pairs.items ∷ [])

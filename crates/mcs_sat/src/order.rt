@@ -1,0 +1,213 @@
+//! Which variable is decided next, and with which value.
+
+ghost use Rattle.std.specs.Prelude.{◌≡◌, ◌<◌, ◌^◌, length, unsigned_abs, IfSome};
+ghost use Rattle.mcs_trace.specs.Clauses.{IsLiteral};
+ghost use Rattle.mcs_sat.specs.Trails.{ArePlaced, StandsNowhere};
+
+use crate::trail::{Entry, Trail};
+use mcs_base::Memory;
+use std::alloc::Global;
+
+/// Where a conflict adds so much activity, all activities are made smaller.
+const MOST_GAIN: u64 = 1 << 60;
+
+/// How much smaller they are made, in bits.
+const SHRINK: u32 = 40;
+
+/// The variable, or its negation where the value is false, if it is one of the trail's variables and free there.
+fn free_literal(trail: &Trail, variable: usize, value: bool) -> Option<i64>
+    requires placed { ArePlaced trail.now.entries.items trail.now.positions.items }
+    ensures { IfSome result (λ l. IsLiteral l × (unsigned_abs l < length trail.now.positions.items) × StandsNowhere trail.now.entries.items (unsigned_abs l)) }
+{
+    if variable == 0 || variable >= trail.positions.len() {
+        return None;
+    }
+    let literal = i64::try_from(variable).ok()?;
+    if trail.position(literal).is_some() {
+        return None;
+    }
+    Some(if value { literal } else { -literal })
+}
+
+/// The variables, those that took part in recent conflicts first: a heap of variables, for each variable its place
+/// there, its activity and its last value; and how much activity a conflict adds. That a variable is missing in the
+/// heap, or stands there though it has a value, makes no answer wrong.
+#[derive(Drop)]
+pub(crate) struct Order {
+    heap: Vec<usize>,
+    places: Vec<Option<usize>>,
+    activities: Vec<u64>,
+    values: Vec<bool>,
+    gain: u64,
+}
+
+impl Order {
+    /// The variables 1 to `vars`, in their order.
+    pub fn new(alloc: Global, vars: u64) -> Result<Order, Memory>
+        requires { vars < 2 ^ 63 }
+    {
+        let mut heap = Vec::new(alloc);
+        let mut places = Vec::new(alloc);
+        places.push(None)?;
+        for place in 0..vars as usize {
+            heap.push(place + 1)?;
+            places.push(Some(place))?;
+        }
+        Ok(Order {
+            heap,
+            places,
+            activities: vec![in alloc; 0; vars as usize + 1]?,
+            values: vec![in alloc; false; vars as usize + 1]?,
+            gain: 1,
+        })
+    }
+
+    /// The activity of the variable at the place of the heap.
+    fn activity_at(&self, place: usize) -> u64 {
+        match self.heap.get(place) {
+            Some(variable) => self.activities.get(*variable).copied().unwrap_or(0),
+            None => 0,
+        }
+    }
+
+    /// Puts the variable to the place of the heap.
+    fn put(&mut self, place: usize, variable: usize)
+        ensures { length self.new.heap.items ≡ length self.old.heap.items }
+    {
+        if let Some(here) = self.heap.get_mut(place) {
+            *here = variable;
+        }
+        if let Some(here) = self.places.get_mut(variable) {
+            *here = Some(place);
+        }
+    }
+
+    /// Exchanges what stands at the two places of the heap.
+    fn exchange(&mut self, first: usize, second: usize)
+        ensures { length self.new.heap.items ≡ length self.old.heap.items }
+    {
+        if first < self.heap.len() && second < self.heap.len() {
+            let one = self.heap[first];
+            let other = self.heap[second];
+            self.put(first, other);
+            self.put(second, one);
+        }
+    }
+
+    /// Moves the variable at the place of the heap up to where it belongs.
+    fn rise(&mut self, place: usize) {
+        let mut at = place;
+        while at > 0 {
+            let parent = (at - 1) / 2;
+            if self.activity_at(at) <= self.activity_at(parent) {
+                return;
+            }
+            self.exchange(at, parent);
+            at = parent;
+        }
+    }
+
+    /// Moves the variable at the place of the heap down to where it belongs.
+    fn sink(&mut self, place: usize)
+        ensures { length self.new.heap.items ≡ length self.old.heap.items }
+    {
+        let mut at = place;
+        while at < self.heap.len() / 2 {
+            let left = 2 * at + 1;
+            let right = left + 1;
+            let child = if self.activity_at(right) > self.activity_at(left) {
+                right
+            } else {
+                left
+            };
+            if self.activity_at(child) <= self.activity_at(at) {
+                return;
+            }
+            self.exchange(at, child);
+            at = child;
+        }
+    }
+
+    /// Takes the first variable of the heap, with its last value.
+    fn pop(&mut self) -> Option<(usize, bool)>
+        ensures { IfSome result (λ _. length self.new.heap.items < length self.old.heap.items) }
+    {
+        let first = *self.heap.first()?;
+        let last = self.heap.pop()?;
+        if !self.heap.is_empty() {
+            self.put(0, last);
+            self.sink(0);
+        }
+        if let Some(place) = self.places.get_mut(first) {
+            *place = None;
+        }
+        let value = self.values.get(first).copied().unwrap_or(false);
+        Some((first, value))
+    }
+
+    /// The literal to decide next: the first variable of the heap that is free under the trail, with its last value.
+    /// It and those before it are taken out of the heap. `None` where no variable of the heap is free.
+    pub fn next(&mut self, trail: &Trail) -> Option<i64>
+        requires placed { ArePlaced trail.now.entries.items trail.now.positions.items }
+        ensures { IfSome result (λ l. IsLiteral l × (unsigned_abs l < length trail.now.positions.items) × StandsNowhere trail.now.entries.items (unsigned_abs l)) }
+    {
+        while let Some((variable, value)) = self.pop() {
+            let literal = free_literal(trail, variable, value);
+            if literal.is_some() {
+                return literal;
+            }
+        }
+        None
+    }
+
+    /// Puts the variable into the heap again, where it is not there.
+    fn insert(&mut self, variable: usize) -> Result<(), Memory> {
+        let place = self.heap.len();
+        if let Some(None) = self.places.get(variable) {
+            self.heap.push(variable)?;
+            self.put(place, variable);
+            self.rise(place);
+        }
+        Ok(())
+    }
+
+    /// Takes the variables of the entries back, and keeps their values. Where memory runs out they are left out.
+    pub fn release(&mut self, entries: &[Entry]) {
+        for entry in entries {
+            let variable = entry.literal.unsigned_abs() as usize;
+            if let Some(value) = self.values.get_mut(variable) {
+                *value = entry.literal > 0;
+            }
+            let _ = self.insert(variable);
+        }
+    }
+
+    /// Makes all activities smaller.
+    fn shrink(&mut self) {
+        for activity in &mut self.activities {
+            *activity >>= SHRINK;
+        }
+        self.gain = (self.gain >> SHRINK) + 1;
+    }
+
+    /// Adds to the activity of the variables of the literals.
+    pub fn raise(&mut self, literals: &[i64]) {
+        for literal in literals {
+            let variable = literal.unsigned_abs() as usize;
+            if let Some(activity) = self.activities.get_mut(variable) {
+                *activity = activity.saturating_add(self.gain);
+            }
+            if let Some(Some(place)) = self.places.get(variable).copied() {
+                self.rise(place);
+            }
+        }
+    }
+
+    /// Lets what a conflict adds grow, so that older ones count for less.
+    pub fn decay(&mut self) {
+        self.gain = self.gain.saturating_add(self.gain / 16 + 1);
+        if self.gain >= MOST_GAIN {
+            self.shrink();
+        }
+    }
+}

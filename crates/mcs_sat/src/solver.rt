@@ -1,0 +1,236 @@
+//! A clause solver in parts.
+
+ghost use Rattle.std.specs.Prelude.{◌≡◌, [], ◌∷◌, ◌++◌, ◌<◌, ◌≤◌, ◌+◌, ◌^◌, List, ℕ, ℤ, slice_get, neg_ℤ, length, unsigned_abs, IsTrue, ◌↔◌, Some, IfOk, IfSome, OnOk, OnErr, MatchOption};
+ghost use Rattle.std.specs.Bool.{MatchBool};
+ghost use Rattle.std.specs.List.{AllByRecursion};
+ghost use Rattle.std.specs.Option.{IfNone, is_some};
+ghost use Rattle.mcs_base.specs.Listings.{IsAmong};
+ghost use Rattle.mcs_trace.specs.Clauses.{IsClause, IsLiteral};
+ghost use Rattle.mcs_sat.specs.Trails.{AreCovered, Grows, IsFalseAt, IsOpen};
+ghost use Rattle.mcs_sat.specs.States.{IsState, SameClauses, no_chains, reach_of};
+ghost use Rattle.mcs_sat.specs.Watching.{IsReached};
+ghost use Rattle.mcs_sat.specs.Solvers.{GoesOn, HasNoValue, IsAsserting, IsFalseNumber, IsLearned, IsOpenUnder, IsSolver, IsUnitRun, LeadsToConflict, last_level, trues, trues_below};
+
+use crate::analyse::analyse;
+use crate::propagate::{settle_from, visit_from};
+use crate::state::{State, add, decide, learn};
+use mcs_base::Memory;
+use mcs_trace::{Clause, Cnf, Step};
+use std::alloc::Global;
+use std::marker::Model;
+
+/// A clause solver: its clauses, each with its number, and the literals that are made true, level by level. Level
+/// 0 has those made true before any decision; each other level begins with a decision. In each level they stand in
+/// the order in which they were made true. No variable occurs in two of them, and each of them, but the decided one
+/// that begins a level, stands in a clause whose other literals were false before it.
+#[derive(Drop)]
+pub struct Solver {
+    state: State,
+}
+
+impl Model for Solver {
+    ghost use Rattle.mcs_sat.specs.Solvers.{SolverView};
+    ghost use Rattle.mcs_sat.specs.States.{IsState, view_of};
+
+    ghost Value = { SolverView };
+
+    ghost view = { λ s. view_of s.state };
+
+    ghost invariant = { λ s. IsState s.state };
+}
+
+/// Adds the clauses of the list, where there is no level above 0.
+fn add_all(state: &mut State, clauses: &[Clause]) -> Result<(), Memory>
+    requires state { IsState state.old }
+    requires clauses { (i : ℕ) (c : List ℤ) → slice_get clauses.now i ≡ Some c → IsClause c × AreCovered state.old.trail.positions.items c }
+    requires base { state.old.levels.items ≡ [] }
+    ensures kept { IsState state.new }
+    ensures positions { length state.new.trail.positions.items ≡ length state.old.trail.positions.items }
+    ensures entries { state.new.trail.entries.items ≡ state.old.trail.entries.items }
+    ensures levels { state.new.levels.items ≡ [] }
+    ensures clauses { OnOk result (state.new.clauses ≡ state.old.clauses ++ clauses.now) }
+    ensures chains { OnOk result (state.new.chains ≡ state.old.chains ++ no_chains clauses.now) }
+{
+    for clause in clauses {
+        add(state, clause.literals())?;
+    }
+    Ok(())
+}
+
+/// The state of a solver of the clauses of the list, in which nothing is true yet.
+pub(crate) fn state_of(alloc: Global, cnf: &Cnf) -> Result<State, Memory>
+    ensures kept { IfOk result IsState }
+    ensures sized { IfOk result (λ s. length s.trail.positions.items ≡ cnf.now.vars + 1) }
+    ensures clauses { IfOk result (λ s. s.clauses ≡ cnf.now.clauses) }
+    ensures chains { IfOk result (λ s. s.chains ≡ no_chains cnf.now.clauses) }
+    ensures entries { IfOk result (λ s. s.trail.entries.items ≡ []) }
+    ensures levels { IfOk result (λ s. s.levels.items ≡ []) }
+{
+    let mut state = State::new(alloc, cnf.vars())?;
+    match add_all(&mut state, cnf.clauses()) {
+        Ok(()) => Ok(state),
+        Err(error) => {
+            drop(state);
+            Err(error)
+        }
+    }
+}
+
+/// Settles the short clauses and visits what became false, as far as that leads; the index of a clause that is
+/// false.
+pub(crate) fn run(state: &mut State) -> Result<Option<usize>, Memory>
+    requires { IsState state.old }
+    ensures kept { IsState state.new }
+    ensures same { SameClauses state.old state.new }
+    ensures grows { Grows (length state.old.levels.items) state.old.trail.entries.items state.new.trail.entries.items }
+    ensures levels { state.new.levels.items ≡ state.old.levels.items }
+    ensures short { state.new.watches.short.items ≡ state.old.watches.short.items }
+    ensures before { IsReached state.new.clauses state.new.watches state.old.trail.entries.items (reach_of state.old) }
+    ensures open { IfOk result (λ found. IfNone found
+        (AllByRecursion (IsOpen state.new.trail.entries.items) state.new.clauses)) }
+    ensures conflict { IfOk result (λ found. IfSome found
+        (IsFalseAt state.new.clauses state.new.trail.entries.items)) }
+{
+    let level = state.levels.len();
+    let found = settle_from(
+        &state.clauses,
+        &state.watches.short,
+        &mut state.trail,
+        level,
+        &mut state.settled,
+    )?;
+    if found.is_some() {
+        return Ok(found);
+    }
+    let found = visit_from(
+        &state.clauses,
+        &mut state.watches,
+        &mut state.trail,
+        level,
+        &mut state.visited,
+    )?;
+    Ok(found)
+}
+
+/// As `run`, but where memory runs out all is as before.
+fn run_or_restore(state: &mut State) -> Result<Option<usize>, Memory>
+    requires { IsState state.old }
+    ensures kept { IsState state.new }
+    ensures same { SameClauses state.old state.new }
+    ensures grows { OnOk result (Grows (length state.old.levels.items) state.old.trail.entries.items state.new.trail.entries.items) }
+    ensures open { IfOk result (λ found. IfNone found
+        (AllByRecursion (IsOpen state.new.trail.entries.items) state.new.clauses)) }
+    ensures conflict { IfOk result (λ found. IfSome found
+        (IsFalseAt state.new.clauses state.new.trail.entries.items)) }
+    ensures err { OnErr result (state.new.trail.entries.items ≡ state.old.trail.entries.items) }
+{
+    let entries = state.trail.entries.len();
+    let visited = state.visited;
+    let settled = state.settled;
+    match run(state) {
+        Ok(found) => Ok(found),
+        Err(error) => {
+            state.trail.back(entries);
+            state.visited = visited;
+            state.settled = settled;
+            Err(error)
+        }
+    }
+}
+
+impl Solver {
+    /// A solver of the clauses of the list, with their numbers, in which nothing is true yet.
+    pub fn new(alloc: Global, cnf: &Cnf) -> Result<Solver, Memory>
+        ensures { IfOk result (λ s. s ≡ record { vars = cnf.now.vars; clauses = cnf.now.clauses; levels = [] ∷ [] }) }
+    {
+        Ok(Solver {
+            state: state_of(alloc, cnf)?,
+        })
+    }
+
+    /// The value of the literal, whose variable is one of those of the clauses; `None` where it has none.
+    pub fn value(&self, literal: i64) -> Option<bool>
+        requires literal { IsLiteral literal }
+        requires within { unsigned_abs literal ≤ self.now.vars }
+        ensures value { MatchOption result
+            (HasNoValue (trues self.now) literal)
+            (λ v. MatchBool v (IsAmong literal (trues self.now)) (IsAmong (neg_ℤ literal) (trues self.now))) }
+        ensures kept { IsSolver self.now }
+    {
+        self.state.trail.value(literal)
+    }
+
+    /// Opens a level and makes the literal true, whose variable is one of those of the clauses and has no value.
+    /// Where memory runs out, all is as before.
+    pub fn decide(&mut self, literal: i64) -> Result<(), Memory>
+        requires literal { IsLiteral literal }
+        requires within { unsigned_abs literal ≤ self.old.vars }
+        requires free { HasNoValue (trues self.old) literal }
+        ensures ok { OnOk result (self.new ≡ record self.old { levels = self.old.levels ++ (literal ∷ []) ∷ [] }) }
+        ensures err { OnErr result (self.new ≡ self.old) }
+    {
+        decide(&mut self.state, literal)
+    }
+
+    /// Makes true what unit clauses lead to, at the end of the last level. The number of a clause that is false,
+    /// exactly where they lead to one; without one each clause then has a true literal, or at least two without
+    /// value. Where memory runs out, all is as before. The two watched literals of each clause are those of
+    /// Moskewicz, Madigan, Zhao, Zhang and Malik (2001).
+    pub fn propagate(&mut self) -> Result<Option<u64>, Memory>
+        ensures vars { self.new.vars ≡ self.old.vars }
+        ensures clauses { self.new.clauses ≡ self.old.clauses }
+        ensures run { OnOk result
+            ((more : List ℤ) × GoesOn self.old.levels self.new.levels more × IsUnitRun self.old.clauses (trues self.old) more) }
+        ensures open { IfOk result (λ found. IfNone found (AllByRecursion (IsOpenUnder (trues self.new)) self.new.clauses)) }
+        ensures conflict { IfOk result (λ found. IfSome found (IsFalseNumber self.new)) }
+        ensures exact { IfOk result (λ found. IsTrue (is_some found) ↔ LeadsToConflict self.old.clauses (trues self.old)) }
+        ensures err { OnErr result (self.new ≡ self.old) }
+    {
+        match run_or_restore(&mut self.state) {
+            Ok(Some(index)) => Ok(Some(index as u64 + 1)),
+            Ok(None) => Ok(None),
+            Err(error) => Err(error),
+        }
+    }
+
+    /// A step from the clause of the number and the reasons of its literals, in the order in which it is resolved
+    /// with them (Marques-Silva and Sakallah 1996): it is right, its clause is false, and exactly one literal of it
+    /// has its value from the last level. The clause of the number is false, there is a level above 0, and under the
+    /// literals of the levels before the last each clause has a true literal, or at least two without value. The
+    /// clauses and the literals made true stay as they are.
+    pub fn analyse(&mut self, conflict: u64) -> Result<Step, Memory>
+        requires conflict { IsFalseNumber self.old conflict }
+        requires level { 1 < length self.old.levels }
+        requires before { AllByRecursion (IsOpenUnder (trues_below self.old.levels (last_level self.old))) self.old.clauses }
+        ensures step { IfOk result (IsAsserting self.old) }
+        ensures same { self.new ≡ self.old }
+    {
+        let start = match self.state.levels.last() {
+            Some(reach) => reach.entries,
+            None => unreachable!(),
+        };
+        analyse(
+            *self.state.levels.allocator(),
+            &self.state.clauses,
+            &self.state.trail,
+            start,
+            conflict as usize - 1,
+        )
+    }
+
+    /// Adds the step's clause under the next number, which is the answer, and takes back every level above the
+    /// greatest one of its literals but the one of the last level; where there are no others, every level above 0.
+    /// Then exactly one literal of the clause has no value, and the others are false. The step is right, its clause is
+    /// false, and exactly one literal of it has its value from the last level, which is not level 0. Where memory runs
+    /// out, all is as before.
+    pub fn learn(&mut self, step: &Step) -> Result<u64, Memory>
+        requires step { IsAsserting self.old step.now }
+        requires level { 1 < length self.old.levels }
+        ensures number { IfOk result (λ number. number ≡ length self.old.clauses + 1) }
+        ensures learnt { OnOk result (IsLearned self.old self.new step.now) }
+        ensures err { OnErr result (self.new ≡ self.old) }
+    {
+        learn(&mut self.state, step.clause.literals(), &step.chain)?;
+        Ok(self.state.clauses.len() as u64)
+    }
+}

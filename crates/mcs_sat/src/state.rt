@@ -1,0 +1,256 @@
+//! What a solver keeps.
+
+ghost use Rattle.std.specs.Prelude.{◌≡◌, ◌≢◌, ℕ, ℤ, ◌+◌, ◌*◌, ◌<◌, ◌≤◌, ◌⊎◌, ◌^◌, ◌++◌, ◌∷◌, [], List, min, length, take, unsigned_abs, slice_get, Some, MatchOption, IfOk, OnOk, OnErr, IfSome};
+ghost use Rattle.std.specs.List.{AllByRecursion};
+ghost use Rattle.mcs_trace.specs.Clauses.{IsClause, IsLiteral, place};
+ghost use Rattle.mcs_trace.specs.Traces.{IsChainResolvent};
+ghost use Rattle.mcs_sat.specs.Trails.{AreCovered, ArePlaced, IsFalse, StandsNowhere};
+ghost use Rattle.mcs_sat.specs.Watching.{AreKept, ArePair, IsLong, IsPushed};
+ghost use Rattle.mcs_sat.specs.Learning.{IsSingle};
+ghost use Rattle.mcs_sat.specs.States.{IsBack, IsDecided, IsLastLevel, IsLearntBack, IsState, IsTurn, IsUnchanged, SameClauses};
+
+use crate::latest::{Latest, latest_of};
+use crate::trail::Trail;
+use crate::watches::{Pair, Watches};
+use mcs_base::{Memory, Rows};
+use std::alloc::Global;
+
+/// How far a solver had come when a level began: how many literals were true, for how many of them the clauses
+/// that watch their negation were visited, and how many short clauses were settled.
+#[derive(Clone, Copy)]
+pub(crate) struct Reach {
+    pub entries: usize,
+    pub visited: usize,
+    pub settled: usize,
+}
+
+/// Clauses, with the chains of those that were learnt; the literals that are true; what the clauses watch; how far
+/// it had come where each level above 0 began; for how many true literals the clauses were visited, and how many
+/// short ones were settled.
+#[derive(Drop)]
+pub(crate) struct State {
+    pub clauses: Rows<i64>,
+    pub chains: Rows<u64>,
+    pub trail: Trail,
+    pub watches: Watches,
+    pub levels: Vec<Reach>,
+    pub visited: usize,
+    pub settled: usize,
+}
+
+impl State {
+    /// No clauses, over the variables 1 to `vars`.
+    pub fn new(alloc: Global, vars: u64) -> Result<State, Memory>
+        requires { vars < 2 ^ 63 }
+        ensures kept { IfOk result IsState }
+        ensures sized { IfOk result (λ s. length s.trail.positions.items ≡ vars + 1) }
+        ensures clauses { IfOk result (λ s. s.clauses ≡ []) }
+        ensures chains { IfOk result (λ s. s.chains ≡ []) }
+        ensures levels { IfOk result (λ s. s.levels.items ≡ []) }
+        ensures entries { IfOk result (λ s. s.trail.entries.items ≡ []) }
+    {
+        let trail = Trail::new(alloc, vars)?;
+        match Watches::new(alloc, vars) {
+            Ok(watches) => Ok(State {
+                clauses: Rows::new(alloc),
+                chains: Rows::new(alloc),
+                trail,
+                watches,
+                levels: Vec::new(alloc),
+                visited: 0,
+                settled: 0,
+            }),
+            Err(error) => {
+                drop(trail);
+                Err(error)
+            }
+        }
+    }
+}
+
+/// Adds the next clause, with its chain, which watches the pair; without one it has fewer than two literals.
+fn push_clause(
+    clauses: &mut Rows<i64>,
+    chains: &mut Rows<u64>,
+    watches: &mut Watches,
+    literals: &[i64],
+    chain: &[u64],
+    pair: Option<Pair>,
+) -> Result<(), Memory>
+    requires pairs { length watches.old.pairs.items ≡ length clauses.old }
+    requires chains { length chains.old ≡ length clauses.old }
+    requires literals { IfSome pair (λ p. IsLiteral p.first × IsLiteral p.second) }
+    requires within { IfSome pair
+        (λ p. (place p.first < length watches.old.lists.items) × (place p.second < length watches.old.lists.items)) }
+    ensures clauses { OnOk result (clauses.new ≡ clauses.old ++ literals.now ∷ []) }
+    ensures chains { OnOk result (chains.new ≡ chains.old ++ chain.now ∷ []) }
+    ensures pushed { OnOk result (IsPushed watches.old watches.new pair) }
+    ensures watches { AreKept watches.old watches.new }
+    ensures err_clauses { OnErr result (clauses.new ≡ clauses.old) }
+    ensures err_chains { OnErr result (chains.new ≡ chains.old) }
+    ensures err_pairs { OnErr result (watches.new.pairs.items ≡ watches.old.pairs.items) }
+    ensures err_short { OnErr result (watches.new.short.items ≡ watches.old.short.items) }
+{
+    let count = clauses.len();
+    let short = watches.short.len();
+    watches.push(pair)?;
+    if let Err(error) = clauses.push(literals) {
+        watches.truncate(count, short);
+        return Err(error);
+    }
+    if let Err(error) = chains.push(chain) {
+        clauses.truncate(count);
+        watches.truncate(count, short);
+        return Err(error);
+    }
+    Ok(())
+}
+
+/// Adds a clause that was not learnt, where there is no level above 0.
+pub(crate) fn add(state: &mut State, literals: &[i64]) -> Result<(), Memory>
+    requires state { IsState state.old }
+    requires clause { IsClause literals.now }
+    requires covered { AreCovered state.old.trail.positions.items literals.now }
+    requires base { state.old.levels.items ≡ [] }
+    ensures kept { IsState state.new }
+    ensures positions { length state.new.trail.positions.items ≡ length state.old.trail.positions.items }
+    ensures entries { state.new.trail.entries.items ≡ state.old.trail.entries.items }
+    ensures levels { state.new.levels.items ≡ [] }
+    ensures clauses { OnOk result (state.new.clauses ≡ state.old.clauses ++ literals.now ∷ []) }
+    ensures chains { OnOk result (state.new.chains ≡ state.old.chains ++ [] ∷ []) }
+    ensures err { OnErr result ((state.new.clauses ≡ state.old.clauses) × (state.new.chains ≡ state.old.chains)) }
+{
+    let pair = first_pair(literals);
+    push_clause(
+        &mut state.clauses,
+        &mut state.chains,
+        &mut state.watches,
+        literals,
+        &[],
+        pair,
+    )?;
+    state.visited = 0;
+    Ok(())
+}
+
+/// The first two literals, where there are two.
+fn first_pair(literals: &[i64]) -> Option<Pair>
+    requires { IsClause literals.now }
+    ensures { MatchOption result (¬ IsLong literals.now) (ArePair literals.now) }
+{
+    match literals {
+        [first, second, ..] => Some(Pair {
+            first: *first,
+            second: *second,
+        }),
+        _ => None,
+    }
+}
+
+/// Opens a level and makes the literal true, which has no value.
+pub(crate) fn decide(state: &mut State, literal: i64) -> Result<(), Memory>
+    requires state { IsState state.old }
+    requires literal { IsLiteral literal }
+    requires within { unsigned_abs literal < length state.old.trail.positions.items }
+    requires free { StandsNowhere state.old.trail.entries.items (unsigned_abs literal) }
+    ensures kept { IsState state.new }
+    ensures same { SameClauses state.old state.new }
+    ensures decided { OnOk result (IsDecided state.old state.new literal) }
+    ensures err { OnErr result (state.new.trail.entries.items ≡ state.old.trail.entries.items) }
+{
+    let level = state.levels.len() + 1;
+    state.levels.push(Reach {
+        entries: state.trail.entries.len(),
+        visited: state.visited,
+        settled: state.settled,
+    })?;
+    if let Err(error) = state.trail.push(literal, 0, level) {
+        state.levels.truncate(level - 1);
+        return Err(error);
+    }
+    Ok(())
+}
+
+/// Takes back the levels above the one.
+pub(crate) fn back(state: &mut State, level: usize)
+    requires { IsState state.old }
+    ensures kept { IsState state.new }
+    ensures same { SameClauses state.old state.new }
+    ensures back { IsBack state.old state.new level }
+    ensures stays { length state.old.levels.items ≤ level → state.new.trail.entries.items ≡ state.old.trail.entries.items }
+{
+    if level < state.levels.len() {
+        let reach = state.levels[level];
+        state.trail.back(reach.entries);
+        state.visited = reach.visited;
+        state.settled = reach.settled;
+        state.levels.truncate(level);
+    }
+}
+
+/// Where a clause leads back whose literals are false: the level of the latest of the others than its last literal,
+/// with the place of this one; and what the clause watches then.
+#[derive(Clone, Copy)]
+pub(crate) struct Turn {
+    pub level: usize,
+    pub place: usize,
+    pub pair: Option<Pair>,
+}
+
+/// The turn for the latest of the literals of a clause; without others it leads back to level 0.
+pub(crate) fn turn_of(trail: &Trail, latest: Latest) -> Turn
+    requires placed { ArePlaced trail.now.entries.items trail.now.positions.items }
+    requires latest { (latest.place < length trail.now.entries.items) × (latest.others ≤ latest.place) }
+    ensures { IsTurn trail.now.entries.items latest result }
+{
+    if latest.others == 0 {
+        return Turn {
+            level: 0,
+            place: latest.place,
+            pair: None,
+        };
+    }
+    let place = latest.others - 1;
+    Turn {
+        level: trail.entries[place].level,
+        place,
+        pair: Some(Pair {
+            first: trail.negated(latest.place),
+            second: trail.negated(place),
+        }),
+    }
+}
+
+/// Learns the clause, which is false, with its chain: goes back to the level of the latest of its literals but the
+/// one that is of the last level.
+pub(crate) fn learn(state: &mut State, literals: &[i64], chain: &[u64]) -> Result<(), Memory>
+    requires state { IsState state.old }
+    requires clause { IsClause literals.now }
+    requires all_false { IsFalse state.old.trail.entries.items literals.now }
+    requires chain { IsChainResolvent state.old.clauses chain.now literals.now }
+    requires single { (r : Reach) → IsLastLevel state.old.levels.items r → IsSingle state.old.trail.entries.items r.entries literals.now }
+    requires some { 0 < length state.old.levels.items }
+    ensures kept { IsState state.new }
+    ensures positions { length state.new.trail.positions.items ≡ length state.old.trail.positions.items }
+    ensures learnt { OnOk result (IsLearntBack state.old state.new literals.now chain.now) }
+    ensures err { OnErr result (IsUnchanged state.old state.new) }
+{
+    let Some(latest) = latest_of(&state.trail, literals) else {
+        unreachable!();
+    };
+    let turn = turn_of(&state.trail, latest);
+    push_clause(
+        &mut state.clauses,
+        &mut state.chains,
+        &mut state.watches,
+        literals,
+        chain,
+        turn.pair,
+    )?;
+    let reach = state.levels[turn.level];
+    state.trail.back(reach.entries);
+    state.visited = reach.visited.min(turn.place);
+    state.settled = reach.settled;
+    state.levels.truncate(turn.level);
+    Ok(())
+}
