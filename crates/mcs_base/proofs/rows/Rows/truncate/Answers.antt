@@ -18,7 +18,7 @@ invariant_of-self g c =
     let items = c.self.inside.items.items in
     let (kept, bound) = ends-take c.args.count 0 (length items) c.self.inside.ends.items c.self.invariant in
     let size : length c.truncate-2.new.self.items ≡ end_of 0 (take c.args.count c.self.inside.ends.items) =
-      ap length c.truncate-2.ensures.items ∙ ap (λ (n : ℕ). length (take n items)) (last g c) ∙ length-take-le (end_of 0 (take c.args.count c.self.inside.ends.items)) items bound in
+    ap length c.truncate-2.ensures.items ∙ ap (λ (n : ℕ). length (take n items)) (last g c) ∙ length-take-le (end_of 0 (take c.args.count c.self.inside.ends.items)) items bound in
     subst (AreEnds 0 (length c.truncate-2.new.self.items)) (sym c.truncate.ensures.items) (subst (λ (t : ℕ). AreEnds 0 t (take c.args.count c.self.inside.ends.items)) (sym size) kept)
 
 pub returns : goal.returns
