@@ -4,6 +4,7 @@ use Rattle.std.specs.List.{AllByRecursion}
 use Rattle.std.specs.Option.{IfNone}
 use Rattle.std.proofs.Math.Seq.{drop-append_seam, take-append_seam}
 use Rattle.std.proofs.lemmas.Bool.{cases_lt}
+use Rattle.std.proofs.lemmas.Option.{slice_get_within}
 use Rattle.std.proofs.lemmas.List.{append_assoc, get_or-drop, length-drop, length_push, length-take-le, map_push, take-append-le, take-take}
 use Rattle.mcs_base.specs.Listings.{IsAmong}
 use Rattle.mcs_base.proofs.Among.{among_at}
@@ -135,3 +136,12 @@ zipped-steps cs none steps size =
     both : (steps : List Inference) → zipped (map (λ (i : Inference). i.clause) steps) (map (λ (i : Inference). i.chain) steps) ≡ steps
     both [] = refl
     both (s ∷ steps) = ap (λ (rest : List Inference). s ∷ rest) (both steps)
+
+-- ---- all that was decided is taken back
+pub search-back : (f : ClauseList) (old new : State) → IsSearch f old → IsState new → SameClauses old new → new.levels.items ≡ [] → IsSearch f new
+search-back f old new is kept same none = record {
+  vars = same.positions ∙ is.vars;
+  state = kept;
+  learnt = learnt-same f old new same is.learnt;
+  before = λ k r at. absurd (let less = slice_get_within new.levels.items k r at in omega (arith, ap length none));
+}

@@ -11,6 +11,9 @@ use std::alloc::Global;
 /// Where a conflict adds so much activity, all activities are made smaller.
 const MOST_GAIN: u64 = 1 << 60;
 
+/// After how many conflicts the search begins anew for the first time.
+const FIRST_LIMIT: u64 = 100;
+
 /// How much smaller they are made, in bits.
 const SHRINK: u32 = 40;
 
@@ -39,6 +42,8 @@ pub(crate) struct Order {
     activities: Vec<u64>,
     values: Vec<bool>,
     gain: u64,
+    conflicts: u64,
+    limit: u64,
 }
 
 impl Order {
@@ -59,6 +64,8 @@ impl Order {
             activities: vec![in alloc; 0; vars as usize + 1]?,
             values: vec![in alloc; false; vars as usize + 1]?,
             gain: 1,
+            conflicts: 0,
+            limit: FIRST_LIMIT,
         })
     }
 
@@ -205,9 +212,21 @@ impl Order {
 
     /// Lets what a conflict adds grow, so that older ones count for less.
     pub fn decay(&mut self) {
+        self.conflicts = self.conflicts.saturating_add(1);
         self.gain = self.gain.saturating_add(self.gain / 16 + 1);
         if self.gain >= MOST_GAIN {
             self.shrink();
         }
+    }
+
+    /// Whether there were so many conflicts since the search began anew that it should do so again; then it may go
+    /// on for longer.
+    pub fn is_due(&mut self) -> bool {
+        let due = self.conflicts >= self.limit;
+        if due {
+            self.conflicts = 0;
+            self.limit = self.limit.saturating_add(self.limit / 8);
+        }
+        due
     }
 }

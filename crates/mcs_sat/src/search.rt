@@ -15,10 +15,13 @@ use crate::model::model_of;
 use crate::order::Order;
 use crate::outcome::Outcome;
 use crate::solver::{run, state_of};
-use crate::state::{State, decide, learn, turn_of};
+use crate::state::{State, back, decide, learn, turn_of};
 use mcs_base::{Memory, Rows};
 use mcs_trace::{Clause, Cnf, Step, Trace};
 use std::alloc::Global;
+
+/// How often a search begins anew at most.
+const MOST_BEGINNINGS: u64 = 1 << 40;
 
 /// What a turn came to: the search goes on, from a clause that is false or from none; all clauses are satisfied; the
 /// clause of the index is false though nothing was decided.
@@ -45,6 +48,16 @@ fn choose(cnf: &Cnf, state: &mut State, order: &mut Order) -> Result<Turn, Memor
     };
     decide(state, literal)?;
     Ok(Turn::Goes(run(state)?))
+}
+
+/// Raises the variables of the clauses of the numbers.
+fn raise(state: &State, order: &mut Order, numbers: &[u64]) {
+    for number in numbers {
+        if *number > 0 && ((*number - 1) as usize) < state.clauses.len() {
+            order.raise(state.clauses.row((*number - 1) as usize));
+        }
+    }
+    order.decay();
 }
 
 /// Gives the variables back to the order that have no value any more once the clause is learnt.
@@ -82,12 +95,27 @@ fn turn_back(
     };
     let start = reach.entries;
     let step = analyse(alloc, &state.clauses, &state.trail, start, index)?;
-    order.raise(step.clause.literals());
-    order.decay();
+    raise(state, order, &step.chain);
     release(state, order, step.clause.literals());
     learn(state, step.clause.literals(), &step.chain)?;
     drop(step);
     Ok(Turn::Goes(run(state)?))
+}
+
+/// Takes back all that was decided, and makes true what follows without it.
+fn begin_anew(
+    cnf: &Cnf,
+    state: &mut State,
+    order: &mut Order,
+) -> Result<Option<usize>, Memory>
+    requires { IsSearch cnf.now state.old }
+    ensures kept { OnOk result (IsSearch cnf.now state.new) }
+    ensures run { IfOk result (IsRun state.new) }
+{
+    order.release(&state.trail.entries);
+    back(state, 0);
+    let found = run(state)?;
+    Ok(found)
 }
 
 /// Turns back from a clause that is false, or chooses.
@@ -121,7 +149,13 @@ fn search(
     ensures end { IfOk result (IsEnd state.new) }
 {
     let mut found = run(state)?;
+    let mut left = MOST_BEGINNINGS;
     loop {
+        if left > 0 && found.is_none() && order.is_due() {
+            left -= 1;
+            found = begin_anew(cnf, state, order)?;
+            continue;
+        }
         match take_turn(alloc, cnf, state, order, found)? {
             Turn::Goes(next) => found = next,
             Turn::Satisfied => return Ok(None),

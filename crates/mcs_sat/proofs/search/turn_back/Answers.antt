@@ -32,19 +32,19 @@ pub learn-requires-clause-single : goal.learn-requires-clause-single
 learn-requires-clause-single c =
     let s = c.args.state.now in
     let last : IsLastLevel s.levels.items c.in-Some.reach.now = last-found s.levels.items c.deref.result.now c.last.result c.in-Some.reach c.deref.ensures.value c.last.ensures.value c.in-Some.is in
-    subst (λ (x : List ℤ). (q : Reach) → IsLastLevel s.levels.items q → IsSingle s.trail.entries.items q.entries x) (sym c.literals-3.ensures.value)
+    subst (λ (x : List ℤ). (q : Reach) → IsLastLevel s.levels.items q → IsSingle s.trail.entries.items q.entries x) (sym c.literals-2.ensures.value)
     (single-last s c.in-Some.reach.now c.in_ok-step.step.clause c.requires.search.state last c.in_ok-step.ensures.single)
 
 pub returns-clause-kept : goal.returns-clause-kept
 returns-clause-kept c =
     let s = c.args.state.now in
     let f = c.args.cnf.now in
-    let cl : List ℤ = c.literals-3.result.now in
-    let ns : List ℕ = c.deref-2.result.now in
+    let cl : List ℤ = c.literals-2.result.now in
+    let ns : List ℕ = c.deref-3.result.now in
     let step = c.in_ok-step.step in
     let last : IsLastLevel s.levels.items c.in-Some.reach.now = last-found s.levels.items c.deref.result.now c.last.result c.in-Some.reach c.deref.ensures.value c.last.ensures.value c.in-Some.is in
-    let single = subst (λ (x : List ℤ). (q : Reach) → IsLastLevel s.levels.items q → IsSingle s.trail.entries.items q.entries x) (sym c.literals-3.ensures.value) (single-last s c.in-Some.reach.now step.clause c.requires.search.state last c.in_ok-step.ensures.single) in
-    let right = subst (IsChainResolvent s.clauses ns) (sym c.literals-3.ensures.value) (subst (λ (xs : List ℕ). IsChainResolvent s.clauses xs step.clause) (sym c.deref-2.ensures.value) c.in_ok-step.ensures.learnt.chain) in
+    let single = subst (λ (x : List ℤ). (q : Reach) → IsLastLevel s.levels.items q → IsSingle s.trail.entries.items q.entries x) (sym c.literals-2.ensures.value) (single-last s c.in-Some.reach.now step.clause c.requires.search.state last c.in_ok-step.ensures.single) in
+    let right = subst (IsChainResolvent s.clauses ns) (sym c.literals-2.ensures.value) (subst (λ (xs : List ℕ). IsChainResolvent s.clauses xs step.clause) (sym c.deref-3.ensures.value) c.in_ok-step.ensures.learnt.chain) in
     let b = c.in_ok-learn.ensures.learnt in
     let g = gone-back s c.learn.new.state cl ns c.requires.search.state b single in
     let r = c.in_ok-run.ensures in
@@ -55,12 +55,12 @@ pub returns-clause-turn : goal.returns-clause-turn
 returns-clause-turn c =
     let s = c.args.state.now in
     let f = c.args.cnf.now in
-    let cl : List ℤ = c.literals-3.result.now in
-    let ns : List ℕ = c.deref-2.result.now in
+    let cl : List ℤ = c.literals-2.result.now in
+    let ns : List ℕ = c.deref-3.result.now in
     let step = c.in_ok-step.step in
     let last : IsLastLevel s.levels.items c.in-Some.reach.now = last-found s.levels.items c.deref.result.now c.last.result c.in-Some.reach c.deref.ensures.value c.last.ensures.value c.in-Some.is in
-    let single = subst (λ (x : List ℤ). (q : Reach) → IsLastLevel s.levels.items q → IsSingle s.trail.entries.items q.entries x) (sym c.literals-3.ensures.value) (single-last s c.in-Some.reach.now step.clause c.requires.search.state last c.in_ok-step.ensures.single) in
-    let right = subst (IsChainResolvent s.clauses ns) (sym c.literals-3.ensures.value) (subst (λ (xs : List ℕ). IsChainResolvent s.clauses xs step.clause) (sym c.deref-2.ensures.value) c.in_ok-step.ensures.learnt.chain) in
+    let single = subst (λ (x : List ℤ). (q : Reach) → IsLastLevel s.levels.items q → IsSingle s.trail.entries.items q.entries x) (sym c.literals-2.ensures.value) (single-last s c.in-Some.reach.now step.clause c.requires.search.state last c.in_ok-step.ensures.single) in
+    let right = subst (IsChainResolvent s.clauses ns) (sym c.literals-2.ensures.value) (subst (λ (xs : List ℕ). IsChainResolvent s.clauses xs step.clause) (sym c.deref-3.ensures.value) c.in_ok-step.ensures.learnt.chain) in
     let b = c.in_ok-learn.ensures.learnt in
     let g = gone-back s c.learn.new.state cl ns c.requires.search.state b single in
     let r = c.in_ok-run.ensures in
