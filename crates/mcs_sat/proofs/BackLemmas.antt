@@ -1,5 +1,5 @@
 -- What stays right of a search that learns and goes back, and that less is left to do then.
-use Rattle.std.proofs.Common.{◌≡◌, ◌≢◌, ℕ, ◌+◌, ◌-◌, ◌<◌, ◌≤◌, suc, List, [], ◌∷◌, ◌++◌, ◌⊎◌, inl, inr, refl, sym, ap, ◌∙◌, subst, arith, ℤ, pos, neg_ℤ, unsigned_abs, length, length-append, map, take, drop, get_or, Option, Some, None, slice_get}
+use Rattle.std.proofs.Common.{◌≡◌, ℕ, ◌+◌, ◌-◌, ◌<◌, ◌≤◌, List, [], ◌∷◌, ◌++◌, ◌⊎◌, inl, inr, refl, sym, ap, ◌∙◌, subst, arith, ℤ, pos, neg_ℤ, unsigned_abs, length, map, take, drop, Option, Some, None, slice_get}
 use Rattle.std.proofs.Math.IntN.{neg_ℤ-neg_ℤ}
 use Rattle.std.specs.List.{AllByRecursion}
 use Rattle.std.proofs.lemmas.Bool.{cases_lt}
@@ -19,7 +19,7 @@ use Rattle.mcs_sat.specs.declared.trail.Entry.{Entry}
 use Rattle.mcs_sat.specs.Learning.{IsLatest, IsSingle}
 use Rattle.mcs_sat.specs.Searches.{HasLearnt, IsRun, IsSearch, work_left, zipped}
 use Rattle.mcs_sat.specs.States.{IsLastLevel, IsLearntBack, IsState, no_chains}
-use Rattle.mcs_sat.specs.Trails.{ArePlaced, Grows, IsFalse, IsOn, IsOnBelow, IsOpen, StandsNowhere, level_at, literal_at}
+use Rattle.mcs_sat.specs.Trails.{ArePlaced, Grows, IsFalse, IsOn, IsOpen, StandsNowhere, literal_at}
 use Rattle.mcs_sat.proofs.LevelLemmas.{before-start, below-start}
 use Rattle.mcs_sat.proofs.SearchLemmas.{open-not_false, trail-bound, zipped-steps}
 use Rattle.mcs_sat.proofs.StateLemmas.{starts-order}

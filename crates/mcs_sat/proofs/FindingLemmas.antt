@@ -21,9 +21,6 @@ pub record FoundSoFar (entries : List Entry) (c : List ℤ) (i : ℕ) (o : Optio
   pub free : IfSome o (IsFreeBefore entries c i)
   pub seen : (k : ℤ) → IsAmong k c → ((o ≡ Some k) ⊎ IsOn entries (neg_ℤ k)) ⊎ IsAmong k (drop i c)
 
-pub found-start : (entries : List Entry) (c : List ℤ) → FoundSoFar entries c 0 None
-found-start entries c = record { free = tt; seen = λ k among. inr among }
-
 pub found-false : (entries : List Entry) (c : List ℤ) (i : ℕ) (o : Option ℤ) → i < length c → IsOn entries (neg_ℤ (get_or c i (pos 0))) → FoundSoFar entries c i o → FoundSoFar entries c (i + 1) o
 found-false entries c i o less on h = record { free = later o h.free; seen = λ k among. at k (h.seen k among) }
   where

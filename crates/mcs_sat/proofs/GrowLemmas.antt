@@ -11,7 +11,7 @@ use Rattle.mcs_trace.specs.Traces.{numbered}
 use Rattle.mcs_trace.proofs.OrderLemmas.{fits_literal}
 use Rattle.mcs_sat.specs.declared.trail.Entry.{Entry}
 use Rattle.mcs_sat.specs.declared.trail.Trail.{Trail}
-use Rattle.mcs_sat.specs.Trails.{AreCovered, AreExplained, ArePlaced, Grows, IsFalse, IsOn, IsSatisfied, IsTrail}
+use Rattle.mcs_sat.specs.Trails.{AreCovered, AreExplained, ArePlaced, Grows, IsOn, IsSatisfied, IsTrail}
 use Rattle.mcs_sat.specs.Watching.{AreSettled, IsLong}
 use Rattle.mcs_sat.proofs.TrailLemmas.{IsForced, entry_at, entry-new, entry-old, explained-push, on-more}
 
@@ -32,9 +32,6 @@ on-grown level es es' k (more, e, all) on = subst (λ (xs : List Entry). IsOn xs
 
 pub satisfied-grown : (level : ℕ) (es es' : List Entry) (c : List ℤ) → Grows level es es' → IsSatisfied es c → IsSatisfied es' c
 satisfied-grown level es es' c grows (k, among, on) = (k, among, on-grown level es es' k grows on)
-
-pub false-grown : (level : ℕ) (es es' : List Entry) (c : List ℤ) → Grows level es es' → IsFalse es c → IsFalse es' c
-false-grown level es es' c grows off k among = on-grown level es es' (neg_ℤ k) grows (off k among)
 
 pub entry-grown : (level : ℕ) (es es' : List Entry) (i : ℕ) → Grows level es es' → i < length es → entry_at es' i ≡ entry_at es i
 entry-grown level es es' i (more, e, all) less = ap (λ (xs : List Entry). entry_at xs i) e ∙ entry-old es more i less

@@ -9,7 +9,7 @@ use Rattle.mcs_sat.specs.declared.latest.Latest.{Latest}
 use Rattle.mcs_sat.specs.declared.trail.Entry.{Entry}
 use Rattle.mcs_sat.specs.Learning.{IsJoined, IsLate, IsLatest, IsSingle}
 use Rattle.mcs_sat.specs.Trails.{literal_at, ArePlaced, AreCovered, StandsAt, StandsNowhere, IsOn, IsOnBelow, IsFalse, IsFalseBelow}
-use Rattle.mcs_sat.proofs.LearnLemmas.{same_place}
+use Rattle.mcs_sat.proofs.TrailLemmas.{same_place}
 
 -- each literal of the clause below i, or none where there is none, was false at the latest place or before
 abbrev pub LatestSoFar : List Entry → List ℤ → ℕ → Option Latest → Type 0

@@ -1,30 +1,16 @@
 -- How a clause that is false is resolved with the reason of its latest literal.
-use Rattle.std.proofs.Common.{◌≡◌, ℕ, ◌-◌, ◌<◌, ◌≤◌, List, ◌⊎◌, inl, inr, sym, ap, ◌∙◌, subst, arith, ℤ, neg_ℤ, unsigned_abs, length, get_or, Some}
+use Rattle.std.proofs.Common.{◌≡◌, ℕ, ◌-◌, ◌<◌, ◌≤◌, List, ◌⊎◌, inl, inr, sym, ap, ◌∙◌, subst, arith, ℤ, neg_ℤ, unsigned_abs, length, Some}
 use Rattle.std.proofs.lemmas.Bool.{cases_lt}
 use Rattle.std.proofs.Math.IntN.{neg_ℤ-neg_ℤ}
 use Rattle.mcs_base.specs.Listings.{IsAmong}
 use Rattle.mcs_base.proofs.Numbers.{unsigned_abs-neg_ℤ}
-use Rattle.mcs_trace.specs.Clauses.{IsLiteral}
 use Rattle.mcs_trace.specs.Resolution.{IsOnlyClash, IsLeft, IsResolvent}
 use Rattle.mcs_trace.specs.Traces.{numbered}
-use Rattle.mcs_trace.proofs.OrderLemmas.{neg_differs}
 use Rattle.mcs_sat.specs.declared.latest.Latest.{Latest}
 use Rattle.mcs_sat.specs.declared.trail.Entry.{Entry}
-use Rattle.mcs_sat.specs.Trails.{literal_at, reason_at, AreExplained, ArePlaced, IsOn, IsOnBelow, IsReason, IsFalse, IsFalseBelow}
+use Rattle.mcs_sat.specs.Trails.{literal_at, reason_at, AreExplained, ArePlaced, IsOnBelow, IsReason, IsFalse, IsFalseBelow}
 use Rattle.mcs_sat.specs.Learning.{AreImplied, IsLate, IsLatest}
-use Rattle.mcs_sat.proofs.TrailLemmas.{on_below}
-
--- a variable stands at one place
-pub same_place : (es : List Entry) (ps : List ℕ) (i j : ℕ) → ArePlaced es ps → i < length es → j < length es → unsigned_abs (literal_at es i) ≡ unsigned_abs (literal_at es j) → i ≡ j
-same_place es ps i j placed less less' e = sym (placed i less).2 ∙ ap (λ n. get_or ps n 0) e ∙ (placed j less').2
-
--- no literal is on with its negation
-pub not_both_on : (es : List Entry) (ps : List ℕ) (k : ℤ) → ArePlaced es ps → IsOn es k → IsOn es (neg_ℤ k) → ⊥
-not_both_on es ps k placed (i, less, e) (j, less', e') =
-    let sizes : unsigned_abs (literal_at es i) ≡ unsigned_abs (literal_at es j) = ap unsigned_abs e ∙ sym (unsigned_abs-neg_ℤ k) ∙ sym (ap unsigned_abs e') in
-    let same : i ≡ j = same_place es ps i j placed less less' sizes in
-    let k-is : k ≡ neg_ℤ k = sym e ∙ ap (literal_at es) same ∙ e' in
-    neg_differs k (subst IsLiteral e (placed i less).0) k-is
+use Rattle.mcs_sat.proofs.TrailLemmas.{not_both_on, on_below, same_place}
 
 -- the latest of the literals that are false in a clause
 pub latest-false : (es : List Entry) (c : List ℤ) (latest : Latest) → IsLatest es c latest → IsFalse es c

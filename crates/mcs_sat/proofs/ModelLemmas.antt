@@ -1,19 +1,13 @@
 -- What is true of all variables and of all clauses.
-use Rattle.std.proofs.Common.{◌≡◌, ℕ, ◌+◌, ◌<◌, ◌≤◌, zero, suc, List, [], ◌∷◌, ◌++◌, ◌↔◌, inl, inr, refl, sym, ap, ◌∙◌, subst, arith, ℤ, pos, negsuc, neg_ℤ, unsigned_abs, length, get_or, Option, Some, None, MatchOption, Bool, true, false, not, IsTrue, is_some, unwrap_or, true≢false, ◌||◌, ◌&&◌}
-use Rattle.std.specs.Bool.{MatchBool}
+use Rattle.std.proofs.Common.{◌≡◌, ℕ, ◌+◌, ◌<◌, zero, suc, List, [], ◌∷◌, ◌++◌, ◌↔◌, inl, inr, refl, sym, ap, ◌∙◌, subst, arith, ℤ, pos, negsuc, neg_ℤ, unsigned_abs, length, get_or, Bool, true, false, not, IsTrue, true≢false, ◌||◌, ◌&&◌}
 use Rattle.std.specs.List.{AllByRecursion}
 use Rattle.std.proofs.lemmas.Bool.{cases_lt}
 use Rattle.std.proofs.lemmas.List.{get_or_append_left, get_or_push}
-use Rattle.std.proofs.lemmas.Option.{slice_get_read}
 use Rattle.mcs_base.specs.Listings.{IsAmong}
-use Rattle.mcs_base.proofs.ListingLemmas.{all_among}
-use Rattle.mcs_trace.specs.Clauses.{IsLiteral, IsClause, literal_holds, clause_holds, all_hold}
-use Rattle.mcs_trace.specs.Traces.{numbered}
+use Rattle.mcs_trace.specs.Clauses.{literal_holds, clause_holds, all_hold}
 use Rattle.mcs_sat.specs.Answers.{assignment_of}
-use Rattle.mcs_sat.specs.declared.examine.Finding.{Finding}
-use Rattle.mcs_sat.specs.declared.examine.Finding.TheVariants.{Open, Forced, Conflict}
 use Rattle.mcs_sat.specs.declared.trail.Entry.{Entry}
-use Rattle.mcs_sat.specs.Trails.{ArePlaced, AreAssigned, StandsAt, StandsNowhere, IsOn, IsFinding, IsSatisfied}
+use Rattle.mcs_sat.specs.Trails.{ArePlaced, IsOn, IsSatisfied}
 use Rattle.mcs_sat.proofs.TrailLemmas.{not_both_on}
 
 -- ---- the model

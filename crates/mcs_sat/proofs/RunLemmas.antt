@@ -1,10 +1,9 @@
 -- What stays right of a solver when literals are made true, and what it comes to when all was visited.
-use Rattle.std.proofs.Common.{◌≡◌, ◌≢◌, ℕ, ◌+◌, ◌-◌, ◌*◌, ◌^◌, ◌<◌, ◌≤◌, List, [], ◌∷◌, ◌++◌, ◌⊎◌, inl, inr, refl, sym, ap, ◌∙◌, subst, arith, ℤ, zero, suc, pos, negsuc, neg_ℤ, unsigned_abs, length, length-append, take, get_or, Some, slice_get}
+use Rattle.std.proofs.Common.{◌≡◌, ◌≢◌, ℕ, ◌*◌, ◌^◌, ◌<◌, ◌≤◌, List, ◌⊎◌, inl, inr, refl, sym, ap, ◌∙◌, subst, arith, ℤ, zero, suc, pos, negsuc, neg_ℤ, unsigned_abs, length, length-append, take, get_or, Some, slice_get}
 use Rattle.std.proofs.Math.Seq.{take-append_seam}
 use Rattle.std.specs.List.{AllByRecursion}
 use Rattle.std.proofs.lemmas.Bool.{cases_lt, cases_eq}
 use Rattle.std.proofs.lemmas.Option.{slice_get_within}
-use Rattle.mcs_base.specs.Listings.{IsAmong}
 use Rattle.mcs_base.proofs.Among.{get_among}
 use Rattle.mcs_base.proofs.Each.{all_among, all_from_among, all_get}
 use Rattle.mcs_base.proofs.Lists.{slice_get_below}

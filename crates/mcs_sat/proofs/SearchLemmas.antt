@@ -1,5 +1,5 @@
 -- What stays right of a search from turn to turn, and that less is left to do.
-use Rattle.std.proofs.Common.{◌≡◌, ℕ, ◌+◌, ◌-◌, ◌<◌, ◌≤◌, zero, suc, List, [], ◌∷◌, ◌++◌, ◌⊎◌, inl, inr, refl, sym, ap, ◌∙◌, subst, arith, ℤ, neg_ℤ, unsigned_abs, length, length-append, map, take, drop, get_or, Option, Some, None, MatchOption, IfSome, slice_get}
+use Rattle.std.proofs.Common.{◌≡◌, ℕ, ◌+◌, ◌-◌, ◌<◌, ◌≤◌, zero, suc, List, [], ◌∷◌, ◌++◌, inl, inr, refl, sym, ap, ◌∙◌, subst, arith, ℤ, neg_ℤ, unsigned_abs, length, length-append, map, take, drop, get_or, Option, Some, None, IfSome, slice_get}
 use Rattle.std.specs.List.{AllByRecursion}
 use Rattle.std.specs.Option.{IfNone}
 use Rattle.std.proofs.Math.Seq.{drop-append_seam, take-append_seam}
@@ -9,21 +9,20 @@ use Rattle.std.proofs.lemmas.List.{append_assoc, get_or-drop, length-drop, lengt
 use Rattle.mcs_base.specs.Listings.{IsAmong}
 use Rattle.mcs_base.proofs.Among.{among_at}
 use Rattle.mcs_base.proofs.Distinct.{covers_below}
-use Rattle.mcs_base.proofs.Each.{all_among, all_from_among, all_get, all_push}
-use Rattle.mcs_base.proofs.Lists.{slice_get_push_at, slice_get_take}
+use Rattle.mcs_base.proofs.Each.{all_among, all_from_among}
+use Rattle.mcs_base.proofs.Lists.{slice_get_push_at}
 use Rattle.mcs_base.proofs.Numbers.{unsigned_abs-neg_ℤ}
 use Rattle.mcs_trace.specs.Clauses.{ClauseList, IsClause, IsLiteral}
-use Rattle.mcs_trace.specs.Traces.{AreRightSteps, Inference, IsChainResolvent}
-use Rattle.mcs_sat.specs.declared.latest.Latest.{Latest}
+use Rattle.mcs_trace.specs.Traces.{Inference}
 use Rattle.mcs_sat.specs.declared.state.Reach.{Reach}
 use Rattle.mcs_sat.specs.declared.state.State.{State}
 use Rattle.mcs_sat.specs.declared.trail.Entry.{Entry}
-use Rattle.mcs_sat.specs.Learning.{IsLatest, IsLate, IsSingle}
-use Rattle.mcs_sat.specs.Searches.{AreOpenBelow, HasLearnt, IsRun, IsSearch, work_left, zipped}
-use Rattle.mcs_sat.specs.States.{IsDecided, IsLastLevel, IsLearntBack, IsState, SameClauses, reach_of}
-use Rattle.mcs_sat.specs.Trails.{AreAssigned, AreCovered, ArePlaced, Grows, IsFalse, IsFalseAt, IsFalseBelow, IsOn, IsOnBelow, IsOpen, IsSatisfied, StandsNowhere, literal_at, reason_at}
-use Rattle.mcs_sat.proofs.TrailLemmas.{entry-back, not_both_on, on-back, on_below, placed-back, same_place}
-use Rattle.mcs_sat.proofs.WorkLemmas.{work_left-back, work_left-more, work_left-push}
+use Rattle.mcs_sat.specs.Learning.{IsLate}
+use Rattle.mcs_sat.specs.Searches.{HasLearnt, IsRun, IsSearch, work_left, zipped}
+use Rattle.mcs_sat.specs.States.{IsDecided, IsState, SameClauses, reach_of}
+use Rattle.mcs_sat.specs.Trails.{AreAssigned, AreCovered, ArePlaced, Grows, IsFalse, IsFalseAt, IsOpen, IsSatisfied, literal_at}
+use Rattle.mcs_sat.proofs.TrailLemmas.{not_both_on, on-back, placed-back}
+use Rattle.mcs_sat.proofs.WorkLemmas.{work_left-more, work_left-push}
 
 -- ---- open clauses
 -- a clause that is open is not false

@@ -113,9 +113,6 @@ pub same-view : (vars vars' : ℕ) (known known' levels levels' : List (List ℤ
     → let a : SolverView = record { vars = vars; clauses = known; levels = levels } in let b : SolverView = record { vars = vars'; clauses = known'; levels = levels' } in a ≡ b
 same-view vars vars' known known' levels levels' e e' e'' = cc
 
-pub view-kept : (old new : State) (v : SolverView) → view_of old ≡ v → SameClauses old new → new.trail.entries.items ≡ old.trail.entries.items → view_of new ≡ v
-view-kept old new v is same entries = same-view _ _ _ _ _ _ (ap (λ (n : ℕ). n - 1) same.positions) same.clauses (ap levels_of entries) ∙ is
-
 pub view-decided : (old new : State) (v : SolverView) (l : ℤ) → view_of old ≡ v → SameClauses old new → IsDecided old new l → view_of new ≡ record v { levels = v.levels ++ (l ∷ []) ∷ [] }
 view-decided old new v l is same decided =
     let e : Entry = record { literal = l; reason = 0; level = length old.levels.items + 1 } in

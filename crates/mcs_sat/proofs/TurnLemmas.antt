@@ -1,10 +1,10 @@
 -- Where a false clause leads back, and what it watches then.
-use Rattle.std.proofs.Common.{◌≡◌, ◌≢◌, ℕ, ◌+◌, ◌-◌, ◌<◌, ◌≤◌, List, [], ◌∷◌, ◌++◌, ◌⊎◌, inl, inr, refl, sym, ap, ◌∙◌, subst, arith, ℤ, neg_ℤ, unsigned_abs, length, take, min, Option, Some, None, Bor, slice_get, Vec, Global}
+use Rattle.std.proofs.Common.{◌≡◌, ℕ, ◌-◌, ◌<◌, ◌≤◌, List, [], ◌∷◌, ◌++◌, ◌⊎◌, inl, inr, refl, sym, ap, ◌∙◌, subst, arith, ℤ, neg_ℤ, unsigned_abs, length, take, Option, Some, Bor, slice_get, Vec, Global}
 use Rattle.std.specs.Option.{option_copied}
-use Rattle.std.proofs.lemmas.Bool.{cases_lt, cases_eq}
+use Rattle.std.proofs.lemmas.Bool.{cases_lt}
 use Rattle.std.proofs.lemmas.Option.{same_Some, slice_get_within}
 use Rattle.mcs_base.specs.Listings.{IsAmong}
-use Rattle.mcs_base.proofs.Lists.{slice_get_below, slice_get_none, slice_get_take}
+use Rattle.mcs_base.proofs.Lists.{slice_get_below, slice_get_take}
 use Rattle.std.proofs.Math.IntN.{neg_ℤ-neg_ℤ}
 use Rattle.mcs_trace.specs.Clauses.{IsClause, LiteralBefore, place}
 use Rattle.mcs_trace.specs.Traces.{IsChainResolvent}
@@ -15,13 +15,12 @@ use Rattle.mcs_sat.specs.declared.state.Turn.{Turn}
 use Rattle.mcs_sat.specs.declared.trail.Entry.{Entry}
 use Rattle.mcs_sat.specs.declared.trail.Trail.{Trail}
 use Rattle.mcs_sat.specs.declared.watches.Watches.{Watches}
-use Rattle.mcs_sat.specs.declared.watches.Pair.{Pair}
 use Rattle.mcs_sat.specs.Learning.{IsLatest, IsSingle}
 use Rattle.mcs_sat.specs.States.{AreStarts, IsLastLevel, IsState, IsTurn}
-use Rattle.mcs_sat.specs.Trails.{AreCovered, AreLevelled, ArePlaced, IsFalse, IsOnBelow, level_at, literal_at}
-use Rattle.mcs_sat.specs.Watching.{AreKept, ArePair, IsLong, IsOf, IsPushed}
+use Rattle.mcs_sat.specs.Trails.{AreCovered, AreLevelled, ArePlaced, IsFalse, IsOnBelow, literal_at}
+use Rattle.mcs_sat.specs.Watching.{AreKept, IsLong, IsPushed}
 use Rattle.mcs_sat.proofs.LatestLemmas.{covered-false}
-use Rattle.mcs_sat.proofs.LearnLemmas.{same_place}
+use Rattle.mcs_sat.proofs.TrailLemmas.{same_place}
 use Rattle.mcs_sat.proofs.LevelLemmas.{below-start}
 use Rattle.mcs_sat.proofs.StateLemmas.{FitsPair, IsFresh, starts-order, state-back, state-pushed, take-below}
 
@@ -155,10 +154,3 @@ level-there s c m turn is single some is-latest is-turn =
 -- the last of some levels, as the code reads it
 pub last-found : (xs ys : List Reach) (o : Option (Bor Reach)) (r : Bor Reach) → ys ≡ xs → option_copied o ≡ slice_get ys (length ys - 1) → o ≡ Some r → IsLastLevel xs r.now
 last-found xs ys o r same value is = subst (λ (zs : List Reach). slice_get zs (length zs - 1) ≡ Some r.now) same (sym value ∙ ap option_copied is)
-
-pub last-none : (xs ys : List Reach) (o : Option (Bor Reach)) → ys ≡ xs → option_copied o ≡ slice_get ys (length ys - 1) → o ≡ None → xs ≡ []
-last-none xs ys o same value is = empty xs (subst (λ (zs : List Reach). slice_get zs (length zs - 1) ≡ None) same (sym value ∙ ap option_copied is))
-  where
-    empty : (zs : List Reach) → slice_get zs (length zs - 1) ≡ None → zs ≡ []
-    empty [] e = refl
-    empty (z ∷ zs) e = absurd (let past = slice_get_none (z ∷ zs) (length (z ∷ zs) - 1) e in omega arith)

@@ -1,5 +1,5 @@
 -- A solver, as it is seen: its clauses, and level by level the literals made true (Davis, Logemann and Loveland 1962; Marques-Silva and Sakallah 1996).
-use Rattle.std.specs.Prelude.{◌≡◌, ◌≢◌, ℕ, suc, ◌+◌, ◌-◌, ◌<◌, ◌≤◌, ◌⊎◌, List, [], ◌∷◌, ◌++◌, ℤ, neg_ℤ, length, take, unsigned_abs, Option, Some, None, slice_get}
+use Rattle.std.specs.Prelude.{◌≡◌, ◌≢◌, ℕ, suc, ◌-◌, ◌<◌, ◌≤◌, ◌⊎◌, List, [], ◌∷◌, ◌++◌, ℤ, neg_ℤ, length, take, unsigned_abs, Some, slice_get}
 use Rattle.std.specs.List.{AllByRecursion, flat_map}
 use Rattle.mcs_base.specs.Listings.{IsAmong}
 use Rattle.mcs_trace.specs.Clauses.{IsClauseList}

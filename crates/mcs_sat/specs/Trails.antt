@@ -1,10 +1,9 @@
 -- The literals that a solver has made true, one after the other, and what they make of a clause.
-use Rattle.std.specs.Prelude.{◌≤◌, Some, slice_get, ◌⊎◌, neg_ℤ, ◌≡◌, ◌≢◌, ℕ, zero, suc, ◌+◌, ◌*◌, ◌-◌, ◌^◌, ◌<◌, cond, nat_eq, List, [], ◌∷◌, ◌++◌, map, length, take, ℤ, pos, negsuc, get_or, unsigned_abs, All, MatchOption}
+use Rattle.std.specs.Prelude.{◌≤◌, Some, slice_get, ◌⊎◌, neg_ℤ, ◌≡◌, ◌≢◌, ℕ, ◌+◌, ◌<◌, cond, nat_eq, List, [], ◌∷◌, ◌++◌, length, take, ℤ, pos, get_or, unsigned_abs}
 use Rattle.std.specs.List.{AllByRecursion}
 use Rattle.mcs_base.specs.Listings.{IsAmong}
-use Rattle.mcs_trace.specs.Clauses.{IsLiteral, IsClause, IsWithin, ClauseList}
-use Rattle.mcs_trace.specs.Traces.{numbered, clauses_of, inference_of, AreRightSteps, IsChainResolvent}
-use Rattle.mcs_trace.specs.declared.trace.Step.{Step}
+use Rattle.mcs_trace.specs.Clauses.{IsLiteral, IsClause}
+use Rattle.mcs_trace.specs.Traces.{numbered}
 use Rattle.mcs_sat.specs.declared.examine.Finding.{Finding}
 use Rattle.mcs_sat.specs.declared.examine.Finding.TheVariants.{Open, Forced, Conflict}
 use Rattle.mcs_sat.specs.declared.trail.Entry.{Entry}
@@ -46,10 +45,6 @@ IsOn entries l = (p : ℕ) × (p < length entries) × (literal_at entries p ≡ 
 
 abbrev pub IsOnBelow : List Entry → ℕ → ℤ → Type 0
 IsOnBelow entries n l = (p : ℕ) × (p < n) × (literal_at entries p ≡ l)
-
--- the second begins with the first
-abbrev pub Extends : List Entry → List Entry → Type 0
-Extends old new = (more : List Entry) × (new ≡ old ++ more)
 
 -- ---- what they make of a clause
 -- a literal of the clause is true

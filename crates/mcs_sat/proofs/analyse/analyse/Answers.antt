@@ -1,7 +1,9 @@
-use Rattle.std.proofs.Common.{◌≡◌, ◌++◌, List, ℤ, sym, subst, ◌∙◌, ap}
+use Rattle.std.proofs.Common.{◌≡◌, ◌+◌, ◌++◌, ◌∷◌, [], List, ℕ, suc, ℤ, sym, subst, ◌∙◌, ap, arith}
 use Rattle.mcs_trace.specs.Clauses.{IsClause}
+use Rattle.mcs_trace.specs.Traces.{IsChainResolvent, numbered}
 use Rattle.mcs_sat.specs.Learning.{IsLate}
 use Rattle.mcs_base.proofs.Each.{all_get}
+use Rattle.mcs_sat.proofs.KnownLemmas.{chain-start}
 use Rattle.mcs_sat.proofs.analyse.analyse.Goals as goal
 
 pub resolve_back-requires-clause-clause : goal.resolve_back-requires-clause-clause
@@ -15,3 +17,13 @@ resolve_back-requires-clause-late c =
     let row : List ℤ = c.row.result.now in
     let items : c.extend_from_slice.new.self.items ≡ row = c.in_ok-extend_from_slice.ensures.items ∙ ap (λ (x : List ℤ). x ++ row) c.new-current.ensures.items in
     subst (IsLate c.args.trail.now.entries.items c.args.start) (sym items) (c.requires.late row c.row.ensures)
+
+pub resolve_back-requires-clause-chain : goal.resolve_back-requires-clause-chain
+resolve_back-requires-clause-chain c =
+    let known : List (List ℤ) = c.args.clauses.now in
+    let row : List ℤ = c.row.result.now in
+    let n : ℕ = c.args.index + 1 in
+    let items : c.extend_from_slice.new.self.items ≡ row = c.in_ok-extend_from_slice.ensures.items ∙ ap (λ (x : List ℤ). x ++ row) c.new-current.ensures.items in
+    let chain : c.push.new.self.items ≡ n ∷ [] = c.in_ok-push.ensures.items ∙ ap (λ (x : List ℕ). x ++ n ∷ []) c.new-chain.ensures.items in
+    let number : n ≡ suc c.args.index = omega arith in
+    subst (λ (ns : List ℕ). IsChainResolvent known ns c.extend_from_slice.new.self.items) (sym chain) (subst (IsChainResolvent known (n ∷ [])) (sym items) (chain-start known n row (ap (numbered known) number ∙ c.row.ensures)))

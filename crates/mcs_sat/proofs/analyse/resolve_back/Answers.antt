@@ -47,6 +47,11 @@ cause_at c =
 pub returns-then-start-latest-clause-all_false : goal.returns-then-start-latest-clause-all_false
 returns-then-start-latest-clause-all_false c = false_below c.args.trail.now.entries.items c.loop-bound.bound c.loop-bound.current.items c.loop-bound.invariant.bound c.loop-bound.invariant.below
 
+pub returns-then-start-latest-clause-single : goal.returns-then-start-latest-clause-single
+returns-then-start-latest-clause-single c some =
+    let es : List Entry = c.args.trail.now.entries.items in
+    (c.in-Some.latest, subst (λ (x : List ℤ). IsLatest es x c.in-Some.latest) c.deref.ensures.value c.in-Some.ensures, c.if-latest-start.true, c.if-start-latest.true)
+
 pub overflow_sub-cause : goal.overflow_sub-cause
 overflow_sub-cause c =
     let (reason, e, is) = cause_at c in

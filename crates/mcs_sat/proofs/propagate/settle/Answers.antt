@@ -26,3 +26,6 @@ returns-in_ok-push-in-Forced-clause-trail c =
     let l : ℤ = c.in-Forced.literal in
     let is : IsLiteral l = literal_of c.args.clauses.now c.args.trail.now c.args.index c.row.result.now l c.requires.trail c.row.ensures c.in-Forced.ensures.0.0 in
     trail-push c.args.clauses.now c.args.trail.now c.push.new.self c.requires.trail c.push.ensures.placed c.push.ensures.positions c.args.index c.row.result.now l _ c.args.level c.row.ensures c.in-Forced.ensures.0.0 c.in-Forced.ensures.0.1 (read_literal l is) c.in_ok-push-in-Forced.ensures.entries
+
+pub returns-in-Conflict-clause-found : goal.returns-in-Conflict-clause-found
+returns-in-Conflict-clause-found c = (c.row.result.now, c.row.ensures, c.in-Conflict.ensures)

@@ -1,4 +1,3 @@
-use Rattle.std.proofs.Common.{◌≡◌}
 use Rattle.mcs_sat.proofs.SearchLemmas.{all-satisfied, less-decided, run-is, search-decided, search-run}
 use Rattle.mcs_sat.proofs.search.choose.Goals as goal
 

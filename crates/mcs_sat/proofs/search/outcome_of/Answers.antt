@@ -1,4 +1,4 @@
-use Rattle.std.proofs.Common.{◌≡◌, ◌+◌, ℕ, ℤ, List, Option, Some, None, map, subst, sym, arith}
+use Rattle.std.proofs.Common.{map, subst, arith}
 use Rattle.std.specs.List.{AllByRecursion}
 use Rattle.mcs_base.proofs.Each.{all_left}
 use Rattle.mcs_trace.specs.Clauses.{IsClause}

@@ -1,4 +1,4 @@
-use Rattle.std.proofs.Common.{◌≡◌, ◌+◌, ◌<◌, ◌++◌, ◌∷◌, [], ℕ, List, ℤ, sym, ap, ◌∙◌, arith, length, map, drop}
+use Rattle.std.proofs.Common.{◌+◌, ◌++◌, ◌∷◌, [], ℕ, List, ℤ, sym, ap, ◌∙◌, map, drop}
 use Rattle.std.proofs.lemmas.List.{append_assoc, map_push}
 use Rattle.mcs_trace.specs.Traces.{Inference, inference_of}
 use Rattle.mcs_sat.specs.Searches.{zipped}

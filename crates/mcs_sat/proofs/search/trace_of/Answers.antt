@@ -1,4 +1,4 @@
-use Rattle.std.proofs.Common.{◌≡◌, ◌≤◌, ◌<◌, ◌+◌, ℕ, ℤ, List, [], ◌∷◌, ◌++◌, sym, ap, ◌∙◌, subst, arith, length, drop}
+use Rattle.std.proofs.Common.{◌≡◌, ◌≤◌, ℤ, List, [], ◌∷◌, ◌++◌, sym, ap, ◌∙◌, subst, arith, length, drop}
 use Rattle.mcs_trace.specs.Traces.{inference_of, inferences_of}
 use Rattle.mcs_sat.specs.Learning.{AreImplied}
 use Rattle.mcs_sat.specs.Searches.{zipped}

@@ -1,16 +1,14 @@
-use Rattle.std.proofs.Common.{◌≡◌, ◌+◌, ◌-◌, ◌≤◌, ◌<◌, List, ℕ, ℤ, Some, length, slice_get, sym, subst, arith}
+use Rattle.std.proofs.Common.{◌-◌, List, ℕ, ℤ, length, sym, subst, arith}
 use Rattle.std.proofs.lemmas.Option.{slice_get_within}
 use Rattle.mcs_base.proofs.Each.{all_get}
-use Rattle.mcs_base.proofs.Lists.{slice_get_below}
 use Rattle.mcs_trace.specs.Traces.{IsChainResolvent}
 use Rattle.mcs_sat.specs.declared.state.Reach.{Reach}
 use Rattle.mcs_sat.specs.Learning.{IsSingle}
 use Rattle.mcs_sat.specs.States.{IsLastLevel}
-use Rattle.mcs_sat.specs.Trails.{IsOpen}
 use Rattle.mcs_sat.proofs.BackLemmas.{gone-back, less-learnt, search-learnt, single-last}
 use Rattle.mcs_sat.proofs.LevelLemmas.{implied-last}
 use Rattle.mcs_sat.proofs.SearchLemmas.{open-late, run-is, search-run}
-use Rattle.mcs_sat.proofs.TurnLemmas.{last-found, last-none}
+use Rattle.mcs_sat.proofs.TurnLemmas.{last-found}
 use Rattle.mcs_sat.proofs.search.turn_back.Goals as goal
 
 pub analyse-requires-clause-late : goal.analyse-requires-clause-late

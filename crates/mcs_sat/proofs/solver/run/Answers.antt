@@ -1,12 +1,9 @@
 use Rattle.std.proofs.Common.{◌≡◌, ◌≤◌, ℕ, List, sym, ap, ◌∙◌, subst, arith, length, Option, Some, None, MatchOption, false}
 use Rattle.std.specs.Option.{IfNone, is_some}
-use Rattle.std.specs.List.{AllByRecursion}
 use Rattle.mcs_sat.specs.declared.state.State.{State}
-use Rattle.mcs_sat.specs.declared.trail.Entry.{Entry}
 use Rattle.mcs_sat.specs.States.{IsState, reach_of}
-use Rattle.mcs_sat.specs.Trails.{Grows, IsOpen}
+use Rattle.mcs_sat.specs.Trails.{Grows}
 use Rattle.mcs_sat.specs.Watching.{AreSettled, IsReached}
-use Rattle.mcs_sat.proofs.GrowLemmas.{grows-more}
 use Rattle.mcs_sat.proofs.RunLemmas.{all-open, before-visited, state-settled, state-visited}
 use Rattle.mcs_sat.proofs.solver.run.Goals.{After-settle_from, After-visit_from}
 use Rattle.mcs_sat.proofs.solver.run.Goals as goal

@@ -1,7 +1,5 @@
-use Rattle.std.proofs.Common.{◌≡◌, ◌<◌, ◌*◌, ◌^◌, [], sym, refl, ap, subst, arith, inl, ℕ, ℤ, List, length, unsigned_abs, slice_get, Some, None, Option, MatchOption, IfSome}
-use Rattle.mcs_trace.specs.Clauses.{IsLiteral, place}
-use Rattle.mcs_sat.specs.declared.state.Reach.{Reach}
-use Rattle.mcs_sat.proofs.StateLemmas.{IsFresh, fits-literals, fits-lists, state-pushed, state-same, fresh-none, fresh-base}
+use Rattle.std.proofs.Common.{[], refl, arith, inl, length}
+use Rattle.mcs_sat.proofs.StateLemmas.{fits-literals, fits-lists, state-pushed, state-same, fresh-none, fresh-base}
 use Rattle.mcs_sat.proofs.state.add.Goals as goal
 
 pub push_clause-requires-clause-literals : goal.push_clause-requires-clause-literals

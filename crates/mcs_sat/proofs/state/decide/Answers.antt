@@ -1,4 +1,4 @@
-use Rattle.std.proofs.Common.{◌≡◌, ◌+◌, ◌-◌, ◌∷◌, ◌++◌, [], ℕ, List, sym, refl, ap, ◌∙◌, arith, length, take, w64, to_z, of_z}
+use Rattle.std.proofs.Common.{◌≡◌, ◌+◌, ◌-◌, ◌∷◌, ◌++◌, [], ℕ, List, refl, ap, ◌∙◌, arith, length, take, w64, to_z, of_z}
 use Rattle.std.proofs.Math.Seq.{take-append_seam}
 use Rattle.mcs_sat.proofs.StateLemmas.{state-same, state-decided}
 use Rattle.mcs_sat.specs.declared.state.Reach.{Reach}

@@ -1,11 +1,7 @@
-use Rattle.std.proofs.Common.{◌≡◌, ◌≢◌, ◌+◌, ◌-◌, ◌<◌, ◌≤◌, List, [], ◌∷◌, ℕ, ℤ, refl, sym, ap, ◌∙◌, subst, arith, length, take, Some, slice_get}
+use Rattle.std.proofs.Common.{◌≡◌, ◌-◌, refl, sym, ap, ◌∙◌, arith, length, take, Some, slice_get}
 use Rattle.std.proofs.lemmas.Option.{same_Some}
-use Rattle.mcs_base.specs.Listings.{IsAmong}
 use Rattle.mcs_base.proofs.Lists.{slice_get_below, slice_get_read_as}
 use Rattle.mcs_sat.specs.declared.state.Reach.{Reach}
-use Rattle.mcs_sat.specs.declared.trail.Entry.{Entry}
-use Rattle.mcs_sat.specs.Learning.{IsLatest, IsSingle}
-use Rattle.mcs_sat.specs.States.{IsBack, IsLastLevel}
 use Rattle.mcs_sat.proofs.StateLemmas.{state-same}
 use Rattle.mcs_sat.proofs.TurnLemmas.{level-there, single-some, state-learnt}
 use Rattle.mcs_sat.proofs.state.learn.Goals as goal

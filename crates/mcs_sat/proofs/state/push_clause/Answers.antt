@@ -1,4 +1,3 @@
-use Rattle.std.proofs.Common.{◌≡◌, ℤ, ℕ, subst, sym, ap, ◌∙◌, length}
 use Rattle.mcs_sat.proofs.StateLemmas.{kept-lists}
 use Rattle.mcs_sat.proofs.state.push_clause.Goals as goal
 

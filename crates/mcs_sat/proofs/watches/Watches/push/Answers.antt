@@ -1,4 +1,4 @@
-use Rattle.std.proofs.Common.{sym, ◌∙◌}
+use Rattle.std.proofs.Common.{◌∙◌}
 use Rattle.mcs_sat.proofs.watches.Watches.push.Goals as goal
 
 pub returns-in_err-list-in-Some-2-clause-kept : goal.returns-in_err-list-in-Some-2-clause-kept
