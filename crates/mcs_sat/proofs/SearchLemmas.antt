@@ -3,9 +3,8 @@ use Rattle.std.proofs.Common.{◌≡◌, ℕ, ◌+◌, ◌-◌, ◌<◌, ◌≤�
 use Rattle.std.specs.List.{AllByRecursion}
 use Rattle.std.specs.Option.{IfNone}
 use Rattle.std.proofs.Math.Seq.{drop-append_seam, take-append_seam}
-use Rattle.std.proofs.lemmas.Bool.{cases_lt}
 use Rattle.std.proofs.lemmas.Option.{slice_get_within}
-use Rattle.std.proofs.lemmas.List.{append_assoc, get_or-drop, length-drop, length_push, length-take-le, map_push, take-append-le, take-take}
+use Rattle.std.proofs.lemmas.List.{get_or-drop, length-drop, length_push, take-append-le}
 use Rattle.mcs_base.specs.Listings.{IsAmong}
 use Rattle.mcs_base.proofs.Among.{among_at}
 use Rattle.mcs_base.proofs.Distinct.{covers_below}

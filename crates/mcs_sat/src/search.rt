@@ -103,11 +103,7 @@ fn turn_back(
 }
 
 /// Takes back all that was decided, and makes true what follows without it.
-fn begin_anew(
-    cnf: &Cnf,
-    state: &mut State,
-    order: &mut Order,
-) -> Result<Option<usize>, Memory>
+fn begin_anew(cnf: &Cnf, state: &mut State, order: &mut Order) -> Result<Option<usize>, Memory>
     requires { IsSearch cnf.now state.old }
     ensures kept { OnOk result (IsSearch cnf.now state.new) }
     ensures run { IfOk result (IsRun state.new) }

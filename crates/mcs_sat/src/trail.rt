@@ -145,19 +145,4 @@ impl Trail {
         }
         None
     }
-
-    /// A free variable, looked for first from the number on.
-    pub fn free(&self, from: usize) -> Option<i64>
-        requires placed { ArePlaced self.now.entries.items self.now.positions.items }
-        requires vars { length self.now.positions.items ≤ 2 ^ 63 }
-        requires from { 0 < from }
-        ensures { MatchOption result
-            (AreAssigned self.now.entries.items 1 (length self.now.positions.items))
-            (λ l. IsLiteral l × (unsigned_abs l < length self.now.positions.items) × StandsNowhere self.now.entries.items (unsigned_abs l)) }
-    {
-        match self.first_free(from) {
-            Some(variable) => Some(variable),
-            None => self.first_free(1),
-        }
-    }
 }

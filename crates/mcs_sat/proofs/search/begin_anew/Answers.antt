@@ -1,4 +1,3 @@
-use Rattle.std.proofs.Common.{◌≡◌, ◌∙◌}
 use Rattle.mcs_sat.proofs.SearchLemmas.{run-is, search-back, search-run}
 use Rattle.mcs_sat.proofs.search.begin_anew.Goals as goal
 

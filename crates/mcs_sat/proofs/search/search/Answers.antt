@@ -1,4 +1,4 @@
-use Rattle.std.proofs.Common.{◌^◌, ◌<◌, ℕ, arith}
+use Rattle.std.proofs.Common.{◌^◌, ℕ, arith}
 use Rattle.mcs_sat.specs.Searches.{work_left}
 use Rattle.mcs_sat.proofs.WorkLemmas.{count_left-anew, work_left-bound}
 use Rattle.mcs_sat.proofs.SearchLemmas.{run-is, search-run}
