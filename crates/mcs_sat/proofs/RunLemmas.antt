@@ -1,5 +1,5 @@
 -- What stays right of a solver when literals are made true, and what it comes to when all was visited.
-use Rattle.std.proofs.Common.{◌≡◌, ◌≢◌, ℕ, ◌*◌, ◌^◌, ◌<◌, ◌≤◌, List, ◌⊎◌, inl, inr, refl, sym, ap, ◌∙◌, subst, arith, ℤ, zero, suc, pos, negsuc, neg_ℤ, unsigned_abs, length, length-append, take, get_or, Some, slice_get}
+use Rattle.std.proofs.Common.{◌≡◌, ◌≢◌, ℕ, ◌*◌, ◌^◌, ◌<◌, ◌≤◌, List, ◌⊎◌, inl, inr, refl, sym, ap, ◌∙◌, subst, arith, ℤ, zero, suc, pos, negsuc, neg_ℤ, unsigned_abs, length, take, get_or, Some, slice_get}
 use Rattle.std.proofs.Math.Seq.{take-append_seam}
 use Rattle.std.specs.List.{AllByRecursion}
 use Rattle.std.proofs.lemmas.Bool.{cases_lt, cases_eq}
@@ -18,6 +18,7 @@ use Rattle.mcs_sat.specs.declared.watches.Watches.{Watches}
 use Rattle.mcs_sat.specs.States.{AreStarts, IsState, reach_of}
 use Rattle.mcs_sat.specs.Trails.{AreCovered, AreExplained, AreLevelled, ArePlaced, Grows, IsOn, IsOnBelow, IsOpen, IsSatisfied, IsTrail, StandsNowhere, literal_at}
 use Rattle.mcs_sat.specs.Watching.{ArePair, AreSettled, AreWatched, IsOf, IsReached}
+use Rattle.mcs_sat.proofs.GrowLemmas.{grows-longer}
 use Rattle.mcs_sat.proofs.LevelLemmas.{levelled-more, starts-more}
 use Rattle.mcs_sat.proofs.StateLemmas.{reached-back, reached-more, reached-on}
 use Rattle.mcs_sat.proofs.TrailLemmas.{explained-back, placed-back}
@@ -29,16 +30,13 @@ reached-grows level known w es new r (more, e, all) entries visited is = subst (
 now-grows : (level : ℕ) (known : List (List ℤ)) (w : Watches) (es new : List Entry) (v s : ℕ) → Grows level es new → v ≤ length es → IsReached known w es (record { entries = length es; visited = v; settled = s }) → IsReached known w new (record { entries = length new; visited = v; settled = s })
 now-grows level known w es new v s (more, e, all) visited is = subst (λ (xs : List Entry). IsReached known w xs (record { entries = length new; visited = v; settled = s })) (sym e) (reached-on known w es more v s (length new) visited (ap length e) is)
 
-grows-length : (level : ℕ) (es new : List Entry) → Grows level es new → length es ≤ length new
-grows-length level es new (more, e, all) = omega (arith, ap length e, length-append es more)
-
 -- ---- short clauses are settled
 pub state-settled : (s : State) (t : Trail) (n : ℕ) → IsState s → IsTrail s.clauses t → length t.positions.items ≡ length s.trail.positions.items → Grows (length s.levels.items) s.trail.entries.items t.entries.items → AreSettled s.clauses s.watches.short.items t.entries.items s.settled n → n ≤ length s.watches.short.items
     → IsState (record { clauses = s.clauses; chains = s.chains; trail = t; watches = s.watches; levels = s.levels; visited = s.visited; settled = n })
 state-settled s t n is trail positions grows settled bound =
     let es : List Entry = s.trail.entries.items in
     let level : ℕ = length s.levels.items in
-    let longer = grows-length level es t.entries.items grows in
+    let longer = grows-longer level es t.entries.items grows in
     let before = now-grows level s.clauses s.watches es t.entries.items s.visited s.settled grows is.bound is.now in
     record {
       some = subst (λ (m : ℕ). 0 < m) (sym positions) is.some;
@@ -161,7 +159,7 @@ grows-front level es new (more, e, all) = ap (take (length es)) e ∙ take-appen
 -- what was reached before still holds of what is watched now
 pub before-visited : (level : ℕ) (known : List (List ℤ)) (w w' : Watches) (es new : List Entry) (r : Reach) → Grows level es new → r.entries ≤ length es → r.visited ≤ length es → IsReached known w es r → ((q : Reach) → q.visited ≤ length new → IsReached known w new q → IsReached known w' new q) → IsReached known w' es r
 before-visited level known w w' es new r grows entries visited is moved =
-    let longer = grows-length level es new grows in
+    let longer = grows-longer level es new grows in
     subst (λ (xs : List Entry). IsReached known w' xs r) (grows-front level es new grows) (reached-back known w' new (length es) r entries visited (moved r (omega arith) (reached-grows level known w es new r grows entries visited is)))
 
 -- the literals that were made true are taken back, and no more

@@ -23,6 +23,7 @@ use Rattle.mcs_sat.specs.Trails.{AreCovered, AreExplained, AreLevelled, ArePlace
 use Rattle.mcs_sat.specs.Watching.{AreKept, ArePair, AreWatched, IsLong, IsListed, IsOf, IsPaired, IsPushed, IsReached, no_pair}
 use Rattle.mcs_sat.proofs.LevelLemmas.{decisions-longer, levelled-back, levelled-decide, starts-back, starts-decide}
 use Rattle.mcs_sat.proofs.TrailLemmas.{entry-back, entry-old, explained-back, explained-known, explained-push, placed-back}
+use Rattle.mcs_sat.proofs.WatchLemmas.{reached-list}
 
 -- ---- parts that stay as they were
 pub covered-same : (known : List (List ℤ)) (ps ps' : List ℕ) → length ps' ≡ length ps → AllByRecursion (AreCovered ps) known → AllByRecursion (AreCovered ps') known
@@ -45,17 +46,11 @@ watched-same known w w' kept pairs short is = record {
   short = λ i c known' none. subst (λ (xs : List ℕ). IsAmong i xs) (sym short) (is.short i c known' none);
 }
 
-pub reached-same : (known : List (List ℤ)) (w w' : Watches) (es : List Entry) (r : Reach) → w'.pairs.items ≡ w.pairs.items → w'.short.items ≡ w.short.items → IsReached known w es r → IsReached known w' es r
-reached-same known w w' es r pairs short is = record {
-  visited = λ i c p l known' at. is.visited i c p l known' (subst (λ (ps : List Pair). slice_get ps i ≡ Some p) pairs at);
-  settled = λ j i c less at. is.settled j i c less (subst (λ (xs : List ℕ). slice_get xs j ≡ Some i) short at);
-}
-
 -- where nothing but memory changed
 pub state-same : (old new : State) → IsState old → new.clauses ≡ old.clauses → new.chains ≡ old.chains → new.trail.entries.items ≡ old.trail.entries.items → length new.trail.positions.items ≡ length old.trail.positions.items → ArePlaced new.trail.entries.items new.trail.positions.items → AreKept old.watches new.watches → new.watches.pairs.items ≡ old.watches.pairs.items → new.watches.short.items ≡ old.watches.short.items → new.levels.items ≡ old.levels.items → new.visited ≡ old.visited → new.settled ≡ old.settled → IsState new
 state-same old new is clauses chains entries positions placed kept pairs short levels visited settled =
     let reached : (r : Reach) → IsReached old.clauses old.watches old.trail.entries.items r → IsReached new.clauses new.watches new.trail.entries.items r = λ r h.
-    subst (λ (known : List (List ℤ)). IsReached known new.watches new.trail.entries.items r) (sym clauses) (subst (λ (es : List Entry). IsReached old.clauses new.watches es r) (sym entries) (reached-same old.clauses old.watches new.watches old.trail.entries.items r pairs short h)) in
+    subst (λ (known : List (List ℤ)). IsReached known new.watches new.trail.entries.items r) (sym clauses) (subst (λ (es : List Entry). IsReached old.clauses new.watches es r) (sym entries) (reached-list old.clauses old.watches new.watches old.trail.entries.items r pairs short h)) in
     record {
       some = subst (λ (n : ℕ). 0 < n) (sym positions) is.some;
       fits = subst (λ (n : ℕ). n ≤ 2 ^ 63) (sym positions) is.fits;

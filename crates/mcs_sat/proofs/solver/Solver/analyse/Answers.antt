@@ -1,4 +1,4 @@
-use Rattle.std.proofs.Common.{◌≡◌, ◌+◌, ◌-◌, ◌<◌, ◌≤◌, List, Option, Some, None, length, slice_get, sym, ap, ◌∙◌, subst, arith, Bor, Result, Ok, Err, IfOk}
+use Rattle.std.proofs.Common.{◌≡◌, ◌+◌, ◌-◌, ◌<◌, ◌≤◌, List, None, length, slice_get, sym, ap, ◌∙◌, subst, arith, Result, Ok, Err, IfOk}
 use Rattle.std.specs.List.{AllByRecursion}
 use Rattle.std.specs.Option.{option_copied}
 use Rattle.mcs_base.proofs.Among.{among_get}
@@ -11,6 +11,7 @@ use Rattle.mcs_sat.specs.Solvers.{IsAsserting, IsFalseNumber, IsOpenUnder, Solve
 use Rattle.mcs_sat.specs.States.{IsLastLevel}
 use Rattle.mcs_sat.proofs.AssertingLemmas.{asserting, last-implied, last-late, some-levels}
 use Rattle.mcs_sat.proofs.SolverLemmas.{number-false}
+use Rattle.mcs_sat.proofs.TurnLemmas.{last-found}
 use Rattle.mcs_sat.proofs.solver.Solver.analyse.Goals as goal
 
 pub unreachable-requires : goal.unreachable-requires
@@ -18,10 +19,6 @@ unreachable-requires c =
     let s : State = c.self.inside.state in
     let none : slice_get s.levels.items (length s.levels.items - 1) ≡ None = subst (λ (xs : List Reach). slice_get xs (length xs - 1) ≡ None) c.deref.ensures.value (sym c.last.ensures.value ∙ ap option_copied c.in-None.is) in
     omega (arith, slice_get_none s.levels.items (length s.levels.items - 1) none, some-levels s c.args.self.now c.self.invariant c.self.view_is c.requires.level)
-
--- where the last level begins
-last-found : (xs ys : List Reach) (o : Option (Bor Reach)) (r : Bor Reach) → ys ≡ xs → option_copied o ≡ slice_get ys (length ys - 1) → o ≡ Some r → IsLastLevel xs r.now
-last-found xs ys o r same value is = subst (λ (zs : List Reach). slice_get zs (length zs - 1) ≡ Some r.now) same (sym value ∙ ap option_copied is)
 
 pub analyse-requires-clause-conflict : goal.analyse-requires-clause-conflict
 analyse-requires-clause-conflict c = (number-false c.self.inside.state c.args.conflict (subst (λ (v : SolverView). IsFalseNumber v c.args.conflict) (sym c.self.view_is) c.requires.conflict)).1
