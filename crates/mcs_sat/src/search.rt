@@ -97,7 +97,10 @@ fn turn_back(
     let step = analyse(alloc, &state.clauses, &state.trail, start, index)?;
     raise(state, order, &step.chain);
     release(state, order, step.clause.literals());
-    learn(state, step.clause.literals(), &step.chain)?;
+    if let Err(error) = learn(state, step.clause.literals(), &step.chain) {
+        drop(step);
+        return Err(error);
+    }
     drop(step);
     Ok(Turn::Goes(run(state)?))
 }

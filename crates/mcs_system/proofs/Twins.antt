@@ -1,6 +1,7 @@
 -- Twins among names, found by a set of the names seen so far.
-use Rattle.std.proofs.Common.{◌≡◌, ℕ, Bool, true, false, ◌||◌, List, [], ◌∷◌, refl, sym, ap, ◌∙◌, Bor, Ordering, ◌+◌, ◌<◌, not, length, map, drop, get_or, add-one, drop-cons, ap₂, arith}
+use Rattle.std.proofs.Common.{◌≡◌, ℕ, Bool, true, false, ◌||◌, List, [], ◌∷◌, refl, sym, ap, ◌∙◌, Bor, Ordering, ◌+◌, ◌<◌, not, length, map, drop, get_or, ap₂, arith}
 use Rattle.std.proofs.lemmas.Bool.Decides.{same_from_decides, Decides-like}
+use Rattle.std.proofs.lemmas.List.{at_drop_more}
 use Rattle.std.proofs.lemmas.Map.Text.{is_eq-slice_cmp}
 use Rattle.std.proofs.lemmas.Slice.Eq.{bytes_eq-Decides}
 use Rattle.std.specs.declared.cmp.Ordering.TheVariants.{Less, Equal, Greater}
@@ -57,24 +58,18 @@ none_seen keys xs e = ap (λ ks. list_any (is_seen ks) xs) e ∙ none xs
     none [] = refl
     none (x ∷ xs) = none xs
 
--- what the code's names are
-abbrev pub names_of : List (Bor Name) → List Name
-names_of names = map (λ (n : Bor Name). n.now) names
-
 -- the names left are the next one and those after it
-next_left : (names : List (Bor Name)) (i : ℕ) (d : Bor Name) → i < length names → names_of (drop i names) ≡ (get_or names i d).now ∷ names_of (drop (i + 1) names)
-next_left names i d less = ap names_of (drop-cons names i d less ∙ ap (λ j. get_or names i d ∷ drop j names) (sym (add-one i)))
+pub next_named : {X : Type 0} (named : X → Name) (xs : List X) (k : ℕ) (x : X) (n : Name) → k < length xs → x ≡ get_or xs k x → n ≡ named x → map named (drop k xs) ≡ n ∷ map named (drop (k + 1) xs)
+next_named named xs k x n less is e = at_drop_more (map named) xs k x less ∙ ap (λ y. named y ∷ map named (drop (k + 1) xs)) (sym is) ∙ ap (λ m. m ∷ map named (drop (k + 1) xs)) (sym e)
 
 -- a twin among the names left, or of one of these and one that was seen
 abbrev pub has_twin_left : List (Bor Name) → List Name → Bool
 has_twin_left keys xs = list_any (is_seen keys) xs || has_twins xs
 
 -- the next name was seen before
-pub seen_twin : (keys names : List (Bor Name)) (i : ℕ) (d : Bor Name) (added : Bool) → i < length names → added ≡ not (list_any (is_at (name_cmp (get_or names i d))) keys) → added ≡ false → has_twin_left keys (names_of (drop i names)) ≡ true
-seen_twin keys names i d added less e new =
-    let n : Bor Name = get_or names i d in
-    let xs : List Name = names_of (drop (i + 1) names) in
-    ap (has_twin_left keys) (next_left names i d less)
+pub seen_twin : (keys : List (Bor Name)) (n : Bor Name) (names xs : List Name) (added : Bool) → names ≡ n.now ∷ xs → added ≡ not (list_any (is_at (name_cmp n)) keys) → added ≡ false → has_twin_left keys names ≡ true
+seen_twin keys n names xs added is e new =
+    ap (has_twin_left keys) is
     ∙ ap (λ b. (b || list_any (is_seen keys) xs) || has_twins (n.now ∷ xs)) (sym (found_is keys n) ∙ not-false (list_any (is_at (name_cmp n)) keys) (sym e ∙ new))
 
 seen_one : (keys : List (Bor Name)) (n : Bor Name) (xs : List Name) → is_seen keys n.now ≡ false → has_twin_left keys (n.now ∷ xs) ≡ has_twin_left (insert_key name_cmp keys n) xs
@@ -83,9 +78,7 @@ seen_one keys n xs unseen =
     ∙ (or_last (list_any (is_seen keys) xs) (is_in n.now xs) (has_twins xs) ∙ ap (λ b. b || has_twins xs) (sym (any_more keys n xs)))
 
 -- the next name was not
-pub seen_next : (keys later names : List (Bor Name)) (i : ℕ) (d : Bor Name) (added : Bool) → i < length names → later ≡ insert_key name_cmp keys (get_or names i d) → added ≡ not (list_any (is_at (name_cmp (get_or names i d))) keys) → added ≡ true → has_twin_left keys (names_of (drop i names)) ≡ has_twin_left later (names_of (drop (i + 1) names))
-seen_next keys later names i d added less e e' new =
-    let n : Bor Name = get_or names i d in
-    let xs : List Name = names_of (drop (i + 1) names) in
-    ap (has_twin_left keys) (next_left names i d less)
+pub seen_next : (keys later : List (Bor Name)) (n : Bor Name) (names xs : List Name) (added : Bool) → names ≡ n.now ∷ xs → later ≡ insert_key name_cmp keys n → added ≡ not (list_any (is_at (name_cmp n)) keys) → added ≡ true → has_twin_left keys names ≡ has_twin_left later xs
+seen_next keys later n names xs added is e e' new =
+    ap (has_twin_left keys) is
     ∙ (seen_one keys n xs (sym (found_is keys n) ∙ not-true (list_any (is_at (name_cmp n)) keys) (sym e' ∙ new)) ∙ ap (λ ks. has_twin_left ks xs) (sym e))

@@ -1,8 +1,10 @@
 //! Bridge rules, by which contexts read each other.
 
-ghost use Rattle.std.specs.Prelude.{◌≡◌, IfOk, map};
+ghost use Rattle.std.specs.Prelude.{◌≡◌, IfOk};
+ghost use Rattle.mcs_system.specs.Plain as plain;
 ghost use Rattle.mcs_system.specs.Seen.{bridge_of, read_of};
 
+use crate::copied::{Copied, copy_each};
 use crate::formula::Formula;
 use crate::name::Name;
 use mcs_base::Memory;
@@ -27,6 +29,16 @@ impl Read {
     }
 }
 
+impl Copied for Read {
+    ghost Seen = { plain.Read };
+
+    ghost seen = { read_of };
+
+    fn copied(&self, alloc: Global) -> Result<Read, Memory> {
+        self.copy(alloc)
+    }
+}
+
 /// A bridge rule: the head goes into the target where each positive read is believed and no negative one.
 #[derive(PartialEq, Drop)]
 pub struct Bridge {
@@ -43,8 +55,8 @@ impl Bridge {
         ensures { IfOk result (λ b. bridge_of b ≡ bridge_of self.now) }
     {
         let name = self.name.copy(alloc)?;
-        let pos = copy_reads(alloc, &self.pos)?;
-        let neg = copy_reads(alloc, &self.neg)?;
+        let pos = copy_each(alloc, &self.pos)?;
+        let neg = copy_each(alloc, &self.neg)?;
         Ok(Bridge {
             name,
             target: self.target,
@@ -53,15 +65,4 @@ impl Bridge {
             neg,
         })
     }
-}
-
-/// Equal reads, in the same order.
-fn copy_reads(alloc: Global, reads: &[Read]) -> Result<Vec<Read>, Memory>
-    ensures { IfOk result (λ copies. map read_of copies.items ≡ map read_of reads.now) }
-{
-    let mut copies = Vec::new(alloc);
-    for read in reads {
-        copies.push(read.copy(alloc)?)?;
-    }
-    Ok(copies)
 }

@@ -5,6 +5,7 @@ ghost use Rattle.std.specs.List.{list_any};
 ghost use Rattle.mcs_system.specs.declared.bridge.Bridge.{Bridge};
 ghost use Rattle.mcs_system.specs.declared.limit.Limit.TheVariants.{RulesPerContext, DefaultsPerContext, ItemsPerContext, FormulaSize};
 ghost use Rattle.mcs_system.specs.Faults.{default_count, exceeds, has_large_formula, has_large_item, has_large_part, has_misfit, has_misfits, has_twins, has_twin_names, has_unjustified, has_unknown_context, is_atom, is_large, is_large_rule, is_program, is_unjustified, points_outside};
+ghost use Rattle.mcs_system.specs.Plain.{Name};
 ghost use Rattle.mcs_system.specs.Seen.{bridge_of, context_of, formula_of, formula_size, item_of, kb_of, read_of, rule_of, system_of};
 
 use crate::bridge::{Bridge, Read};
@@ -41,37 +42,38 @@ pub(crate) fn has_unknown_context(contexts: &[Context], bridges: &[Bridge]) -> b
         .any(|bridge| points_outside(contexts.len(), bridge))
 }
 
-/// The names of the contexts.
-fn context_names(alloc: Global, contexts: &[Context]) -> Result<Vec<&[u8]>, Memory>
-    ensures { IfOk result
-        (λ names. map (λ n. n.now) names.items ≡ map (λ c. c.name) (map context_of contexts.now)) }
-{
-    let mut names = Vec::new(alloc);
-    for context in contexts {
-        names.push(context.name.bytes())?;
-    }
-    Ok(names)
+/// What has a name.
+trait HasName {
+    ghost named: { Self → Name };
+
+    /// The bytes of the name.
+    fn name_bytes(&self) -> &[u8]
+        ensures { result.now ≡ named self.now };
 }
 
-/// The names of the bridge rules.
-fn bridge_names(alloc: Global, bridges: &[Bridge]) -> Result<Vec<&[u8]>, Memory>
-    ensures { IfOk result
-        (λ names. map (λ n. n.now) names.items ≡ map (λ b. b.name) (map bridge_of bridges.now)) }
-{
-    let mut names = Vec::new(alloc);
-    for bridge in bridges {
-        names.push(bridge.name.bytes())?;
+impl HasName for Context {
+    ghost named = { λ c. c.name };
+
+    fn name_bytes(&self) -> &[u8] {
+        self.name.bytes()
     }
-    Ok(names)
 }
 
-/// Whether two of the names are the same.
-fn has_twins(alloc: Global, names: &[&[u8]]) -> Result<bool, Memory>
-    ensures { IfOk result (λ b. b ≡ has_twins (map (λ n. n.now) names.now)) }
+impl HasName for Bridge {
+    ghost named = { λ b. b.name };
+
+    fn name_bytes(&self) -> &[u8] {
+        self.name.bytes()
+    }
+}
+
+/// Whether two of the items have one name.
+fn has_twins<T: HasName>(alloc: Global, items: &[T]) -> Result<bool, Memory>
+    ensures { IfOk result (λ b. b ≡ has_twins (map T.named items.now)) }
 {
     let mut seen = BTreeSet::new(alloc);
-    for name in names {
-        if !seen.insert(*name)? {
+    for item in items {
+        if !seen.insert(item.name_bytes())? {
             return Ok(true);
         }
     }
@@ -86,9 +88,7 @@ pub(crate) fn has_twin_names(
 ) -> Result<bool, Memory>
     ensures { IfOk result (λ b. b ≡ has_twin_names (system_of contexts.now bridges.now)) }
 {
-    let contexts = context_names(alloc, contexts)?;
-    let bridges = bridge_names(alloc, bridges)?;
-    Ok(has_twins(alloc, &contexts)? || has_twins(alloc, &bridges)?)
+    Ok(has_twins(alloc, contexts)? || has_twins(alloc, bridges)?)
 }
 
 /// Whether the formula is an atom.

@@ -1,12 +1,14 @@
 //! Formulas of propositional logic.
 
-ghost use Rattle.std.specs.Prelude.{◌≡◌, IfOk, map};
+ghost use Rattle.std.specs.Prelude.{◌≡◌, IfOk};
 ghost use Rattle.std.specs.Cmp.{on_per};
 ghost use Rattle.std.specs.Ordering.{on};
 ghost use Rattle.mcs_system.specs.Equality.{same_formula-laws};
+ghost use Rattle.mcs_system.specs.Plain as plain;
 ghost use Rattle.mcs_system.specs.Seen.{formula_of};
 ghost use Rattle.mcs_system.specs.Systems.{same_formula};
 
+use crate::copied::Copied;
 use crate::name::Name;
 use crate::same::same_formula;
 use mcs_base::Memory;
@@ -66,13 +68,12 @@ fn copy_in_box(alloc: Global, formula: &Formula) -> Result<Box<Formula>, Memory>
     Ok(Box::new(alloc, copy)?)
 }
 
-/// Equal formulas, in the same order.
-pub(crate) fn copy_formulas(alloc: Global, formulas: &[Formula]) -> Result<Vec<Formula>, Memory>
-    ensures { IfOk result (λ copies. map formula_of copies.items ≡ map formula_of formulas.now) }
-{
-    let mut copies = Vec::new(alloc);
-    for formula in formulas {
-        copies.push(formula.copy(alloc)?)?;
+impl Copied for Formula {
+    ghost Seen = { plain.Formula };
+
+    ghost seen = { formula_of };
+
+    fn copied(&self, alloc: Global) -> Result<Formula, Memory> {
+        self.copy(alloc)
     }
-    Ok(copies)
 }

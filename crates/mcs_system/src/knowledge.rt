@@ -1,11 +1,13 @@
 //! What a context knows: formulas, a default theory or a program.
 
-ghost use Rattle.std.specs.Prelude.{◌≡◌, IfOk, map};
+ghost use Rattle.std.specs.Prelude.{◌≡◌, IfOk};
 ghost use Rattle.mcs_system.specs.Faults.{item_count};
+ghost use Rattle.mcs_system.specs.Plain as plain;
 ghost use Rattle.mcs_system.specs.Seen.{context_of, default_of, item_of, kb_of, rule_of};
 
-use crate::formula::{Formula, copy_formulas};
-use crate::name::{Name, copy_names};
+use crate::copied::{Copied, copy_each};
+use crate::formula::Formula;
+use crate::name::Name;
 use mcs_base::Memory;
 use std::alloc::Global;
 
@@ -22,7 +24,7 @@ impl Default {
     pub fn copy(&self, alloc: Global) -> Result<Default, Memory>
         ensures { IfOk result (λ d. default_of d ≡ default_of self.now) }
     {
-        let justs = copy_formulas(alloc, &self.justs)?;
+        let justs = copy_each(alloc, &self.justs)?;
         let pre = self.pre.copy(alloc)?;
         match self.conclusion.copy(alloc) {
             Ok(conclusion) => Ok(Default {
@@ -52,10 +54,20 @@ impl ProgRule {
         ensures { IfOk result (λ r. rule_of r ≡ rule_of self.now) }
     {
         Ok(ProgRule {
-            head: copy_names(alloc, &self.head)?,
-            pos: copy_names(alloc, &self.pos)?,
-            neg: copy_names(alloc, &self.neg)?,
+            head: copy_each(alloc, &self.head)?,
+            pos: copy_each(alloc, &self.pos)?,
+            neg: copy_each(alloc, &self.neg)?,
         })
+    }
+}
+
+impl Copied for ProgRule {
+    ghost Seen = { plain.ProgramRule };
+
+    ghost seen = { rule_of };
+
+    fn copied(&self, alloc: Global) -> Result<ProgRule, Memory> {
+        self.copy(alloc)
     }
 }
 
@@ -78,6 +90,16 @@ impl TheoryItem {
     }
 }
 
+impl Copied for TheoryItem {
+    ghost Seen = { plain.Item };
+
+    ghost seen = { item_of };
+
+    fn copied(&self, alloc: Global) -> Result<TheoryItem, Memory> {
+        self.copy(alloc)
+    }
+}
+
 /// A knowledge base, by its logic.
 #[derive(PartialEq, Drop)]
 pub enum Kb {
@@ -92,9 +114,9 @@ impl Kb {
         ensures { IfOk result (λ k. kb_of k ≡ kb_of self.now) }
     {
         Ok(match self {
-            Kb::Classical(formulas) => Kb::Classical(copy_formulas(alloc, formulas)?),
-            Kb::DefaultTheory(items) => Kb::DefaultTheory(copy_items(alloc, items)?),
-            Kb::Program(rules) => Kb::Program(copy_rules(alloc, rules)?),
+            Kb::Classical(formulas) => Kb::Classical(copy_each(alloc, formulas)?),
+            Kb::DefaultTheory(items) => Kb::DefaultTheory(copy_each(alloc, items)?),
+            Kb::Program(rules) => Kb::Program(copy_each(alloc, rules)?),
         })
     }
 
@@ -127,26 +149,4 @@ impl Context {
             kb: self.kb.copy(alloc)?,
         })
     }
-}
-
-/// Equal items, in the same order.
-fn copy_items(alloc: Global, items: &[TheoryItem]) -> Result<Vec<TheoryItem>, Memory>
-    ensures { IfOk result (λ copies. map item_of copies.items ≡ map item_of items.now) }
-{
-    let mut copies = Vec::new(alloc);
-    for item in items {
-        copies.push(item.copy(alloc)?)?;
-    }
-    Ok(copies)
-}
-
-/// Equal rules, in the same order.
-fn copy_rules(alloc: Global, rules: &[ProgRule]) -> Result<Vec<ProgRule>, Memory>
-    ensures { IfOk result (λ copies. map rule_of copies.items ≡ map rule_of rules.now) }
-{
-    let mut copies = Vec::new(alloc);
-    for rule in rules {
-        copies.push(rule.copy(alloc)?)?;
-    }
-    Ok(copies)
 }

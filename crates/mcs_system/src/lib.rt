@@ -4,6 +4,7 @@
 mod atoms;
 mod bridge;
 mod build;
+mod copied;
 mod fault;
 mod faults;
 mod formula;

@@ -1,11 +1,12 @@
 //! Names of contexts, rules and atoms.
 
-ghost use Rattle.std.specs.Prelude.{◌≡◌, IfOk, IfSome, IsTrue, is_some};
+ghost use Rattle.std.specs.Prelude.{◌≡◌, ℕ, List, IfOk, IfSome, IsTrue, is_some};
 ghost use Rattle.std.specs.Cmp.{partial_equiv_from_equiv};
 ghost use Rattle.std.proofs.lemmas.Cmp.{nat_list_eq_equiv};
 ghost use Rattle.mcs_base.specs.Words.{is_name};
 ghost use Rattle.mcs_system.specs.Logic.{same_name};
 
+use crate::copied::Copied;
 use mcs_base::{Memory, is_name};
 use std::alloc::Global;
 use std::marker::Model;
@@ -76,13 +77,12 @@ impl Name {
     }
 }
 
-/// Equal names, in the same order.
-pub(crate) fn copy_names(alloc: Global, names: &[Name]) -> Result<Vec<Name>, Memory>
-    ensures { IfOk result (λ copies. copies.items ≡ names.now) }
-{
-    let mut copies = Vec::new(alloc);
-    for name in names {
-        copies.push(name.copy(alloc)?)?;
+impl Copied for Name {
+    ghost Seen = { List ℕ };
+
+    ghost seen = { λ n. n };
+
+    fn copied(&self, alloc: Global) -> Result<Name, Memory> {
+        self.copy(alloc)
     }
-    Ok(copies)
 }

@@ -1,13 +1,13 @@
-use Rattle.std.proofs.Common.{◌≡◌, ℤ, List, ◌+◌, ◌*◌, ◌<◌, inl, inr, length, neg_ℤ, unsigned_abs, slice_get, Some, refl, sym, ◌∙◌, subst, arith, w64, to_z, of_z, to_z-of_z}
+use Rattle.std.proofs.Common.{◌≡◌, ℤ, List, [], ◌∷◌, ◌+◌, ◌*◌, ◌<◌, inl, inr, length, neg_ℤ, unsigned_abs, slice_get, Some, refl, sym, ◌∙◌, subst, arith, w64, to_z, of_z, to_z-of_z}
 use Rattle.std.proofs.lemmas.Option.{slice_get_read}
 use Rattle.mcs_base.specs.Listings.{IsAmong}
 use Rattle.mcs_trace.specs.Clauses.{IsLiteral, place}
 use Rattle.mcs_trace.proofs.OrderLemmas.{place-size}
 use Rattle.mcs_sat.specs.declared.trail.Entry.{Entry}
 use Rattle.mcs_sat.specs.declared.watches.Pair.{Pair}
-use Rattle.mcs_sat.specs.Trails.{IsOn}
+use Rattle.mcs_sat.specs.Trails.{Grows, IsOn}
 use Rattle.mcs_sat.specs.Watching.{ArePair, AreWatched, IsListed, IsOf, IsPairOf}
-use Rattle.mcs_sat.proofs.GrowLemmas.{clause_at, covered_at, literal_of, on-pushed, read_literal, trail-push, trail-same, within_of}
+use Rattle.mcs_sat.proofs.GrowLemmas.{clause_at, covered_at, grows-none, literal_of, on-pushed, read_literal, trail-push, trail-same, within_of}
 use Rattle.mcs_sat.proofs.TrailLemmas.{on_below}
 use Rattle.mcs_sat.proofs.WatchLemmas.{IsWatching, gone-move, reached-list, reached-move, watched-list, watched-move, watched_at, watching}
 use Rattle.mcs_sat.proofs.propagate.visit.Goals.{In-Some, In-Some-open_literal, After-list}
@@ -169,3 +169,184 @@ returns-clause-seen c = λ d is.
     let at = (goal.at.returns-clause-seen c).In-Some in
     let x : Entry = record { literal = to_z w64 (of_z w64 c.in-Some.other); reason = c.args.index + 1; level = c.args.level } in
     (x.literal, subst (λ (k : ℤ). IsAmong k d) (sym (other at)) (watches at d is).has_other, on-pushed c.args.trail.now.entries.items c.push.new.self.entries.items x c.in_ok-push.ensures.entries)
+
+-- ---- what stays as it is
+pub returns-then-index-len-clause-trail : goal.returns-then-index-len-clause-trail
+returns-then-index-len-clause-trail c = c.requires.trail
+
+pub returns-then-index-len-clause-positions : goal.returns-then-index-len-clause-positions
+returns-then-index-len-clause-positions c = refl
+
+pub returns-then-index-len-clause-grows : goal.returns-then-index-len-clause-grows
+returns-then-index-len-clause-grows c = grows-none c.args.level c.args.trail.now.entries.items
+
+pub returns-then-index-len-clause-lists : goal.returns-then-index-len-clause-lists
+returns-then-index-len-clause-lists c = refl
+
+pub returns-then-index-len-clause-watched : goal.returns-then-index-len-clause-watched
+returns-then-index-len-clause-watched c = c.requires.watched
+
+pub returns-then-index-len-clause-short : goal.returns-then-index-len-clause-short
+returns-then-index-len-clause-short c = refl
+
+pub returns-then-index-len-clause-reached : goal.returns-then-index-len-clause-reached
+returns-then-index-len-clause-reached c = λ r bound h. h
+
+pub returns-then-index-len-clause-list : goal.returns-then-index-len-clause-list
+returns-then-index-len-clause-list c = refl
+
+pub returns-in_default-clause-trail : goal.returns-in_default-clause-trail
+returns-in_default-clause-trail c = c.requires.trail
+
+pub returns-in_default-clause-positions : goal.returns-in_default-clause-positions
+returns-in_default-clause-positions c = refl
+
+pub returns-in_default-clause-grows : goal.returns-in_default-clause-grows
+returns-in_default-clause-grows c = grows-none c.args.level c.args.trail.now.entries.items
+
+pub returns-in_default-clause-lists : goal.returns-in_default-clause-lists
+returns-in_default-clause-lists c = refl
+
+pub returns-in_default-clause-watched : goal.returns-in_default-clause-watched
+returns-in_default-clause-watched c = c.requires.watched
+
+pub returns-in_default-clause-short : goal.returns-in_default-clause-short
+returns-in_default-clause-short c = refl
+
+pub returns-in_default-clause-reached : goal.returns-in_default-clause-reached
+returns-in_default-clause-reached c = λ r bound h. h
+
+pub returns-in_default-clause-list : goal.returns-in_default-clause-list
+returns-in_default-clause-list c = refl
+
+pub returns-then-is_true-clause-trail : goal.returns-then-is_true-clause-trail
+returns-then-is_true-clause-trail c = c.requires.trail
+
+pub returns-then-is_true-clause-positions : goal.returns-then-is_true-clause-positions
+returns-then-is_true-clause-positions c = refl
+
+pub returns-then-is_true-clause-grows : goal.returns-then-is_true-clause-grows
+returns-then-is_true-clause-grows c = grows-none c.args.level c.args.trail.now.entries.items
+
+pub returns-then-is_true-clause-lists : goal.returns-then-is_true-clause-lists
+returns-then-is_true-clause-lists c = refl
+
+pub returns-then-is_true-clause-watched : goal.returns-then-is_true-clause-watched
+returns-then-is_true-clause-watched c = c.requires.watched
+
+pub returns-then-is_true-clause-short : goal.returns-then-is_true-clause-short
+returns-then-is_true-clause-short c = refl
+
+pub returns-then-is_true-clause-reached : goal.returns-then-is_true-clause-reached
+returns-then-is_true-clause-reached c = λ r bound h. h
+
+pub returns-then-is_true-clause-list : goal.returns-then-is_true-clause-list
+returns-then-is_true-clause-list c = refl
+
+pub returns-then-is_false-clause-trail : goal.returns-then-is_false-clause-trail
+returns-then-is_false-clause-trail c = c.requires.trail
+
+pub returns-then-is_false-clause-positions : goal.returns-then-is_false-clause-positions
+returns-then-is_false-clause-positions c = refl
+
+pub returns-then-is_false-clause-grows : goal.returns-then-is_false-clause-grows
+returns-then-is_false-clause-grows c = grows-none c.args.level c.args.trail.now.entries.items
+
+pub returns-then-is_false-clause-lists : goal.returns-then-is_false-clause-lists
+returns-then-is_false-clause-lists c = refl
+
+pub returns-then-is_false-clause-watched : goal.returns-then-is_false-clause-watched
+returns-then-is_false-clause-watched c = c.requires.watched
+
+pub returns-then-is_false-clause-short : goal.returns-then-is_false-clause-short
+returns-then-is_false-clause-short c = refl
+
+pub returns-then-is_false-clause-reached : goal.returns-then-is_false-clause-reached
+returns-then-is_false-clause-reached c = λ r bound h. h
+
+pub returns-then-is_false-clause-list : goal.returns-then-is_false-clause-list
+returns-then-is_false-clause-list c = refl
+
+pub returns-in_err-list-clause-trail : goal.returns-in_err-list-clause-trail
+returns-in_err-list-clause-trail c = c.requires.trail
+
+pub returns-in_err-list-clause-positions : goal.returns-in_err-list-clause-positions
+returns-in_err-list-clause-positions c = refl
+
+pub returns-in_err-list-clause-grows : goal.returns-in_err-list-clause-grows
+returns-in_err-list-clause-grows c = grows-none c.args.level c.args.trail.now.entries.items
+
+pub returns-in_err-list-clause-lists : goal.returns-in_err-list-clause-lists
+returns-in_err-list-clause-lists c = c.list.ensures.sized
+
+pub returns-in_err-list-clause-short : goal.returns-in_err-list-clause-short
+returns-in_err-list-clause-short c = c.list.ensures.short
+
+pub returns-in-Some-open_literal-clause-trail : goal.returns-in-Some-open_literal-clause-trail
+returns-in-Some-open_literal-clause-trail c = c.requires.trail
+
+pub returns-in-Some-open_literal-clause-positions : goal.returns-in-Some-open_literal-clause-positions
+returns-in-Some-open_literal-clause-positions c = refl
+
+pub returns-in-Some-open_literal-clause-grows : goal.returns-in-Some-open_literal-clause-grows
+returns-in-Some-open_literal-clause-grows c = grows-none c.args.level c.args.trail.now.entries.items
+
+pub returns-in-Some-open_literal-clause-short : goal.returns-in-Some-open_literal-clause-short
+returns-in-Some-open_literal-clause-short c = c.list.ensures.short
+
+pub returns-in-Some-open_literal-clause-lists : goal.returns-in-Some-open_literal-clause-lists
+returns-in-Some-open_literal-clause-lists c = c.list.ensures.sized
+
+pub returns-in_err-push-clause-positions : goal.returns-in_err-push-clause-positions
+returns-in_err-push-clause-positions c = c.push.ensures.positions
+
+pub returns-in_err-push-clause-lists : goal.returns-in_err-push-clause-lists
+returns-in_err-push-clause-lists c = refl
+
+pub returns-in_err-push-clause-watched : goal.returns-in_err-push-clause-watched
+returns-in_err-push-clause-watched c = c.requires.watched
+
+pub returns-in_err-push-clause-short : goal.returns-in_err-push-clause-short
+returns-in_err-push-clause-short c = refl
+
+pub returns-in_err-push-clause-reached : goal.returns-in_err-push-clause-reached
+returns-in_err-push-clause-reached c = λ r bound h. h
+
+pub returns-in_err-push-clause-list : goal.returns-in_err-push-clause-list
+returns-in_err-push-clause-list c = refl
+
+pub returns-in_err-push-clause-grows : goal.returns-in_err-push-clause-grows
+returns-in_err-push-clause-grows c = subst (Grows c.args.level c.args.trail.now.entries.items) (sym c.in_err-push.ensures.err) (grows-none c.args.level c.args.trail.now.entries.items)
+
+pub returns-clause-positions : goal.returns-clause-positions
+returns-clause-positions c = c.push.ensures.positions
+
+pub returns-clause-lists : goal.returns-clause-lists
+returns-clause-lists c = refl
+
+pub returns-clause-watched : goal.returns-clause-watched
+returns-clause-watched c = c.requires.watched
+
+pub returns-clause-short : goal.returns-clause-short
+returns-clause-short c = refl
+
+pub returns-clause-reached : goal.returns-clause-reached
+returns-clause-reached c = λ r bound h. h
+
+pub returns-clause-list : goal.returns-clause-list
+returns-clause-list c = refl
+
+pub returns-clause-grows : goal.returns-clause-grows
+returns-clause-grows c = (_ ∷ [], c.in_ok-push.ensures.entries, ((omega arith, refl), tt))
+
+pub is_true-requires-clause-placed : goal.is_true-requires-clause-placed
+is_true-requires-clause-placed c = c.requires.trail.placed
+
+pub is_false-requires-clause-placed : goal.is_false-requires-clause-placed
+is_false-requires-clause-placed c = c.requires.trail.placed
+
+pub push-requires-clause-placed : goal.push-requires-clause-placed
+push-requires-clause-placed c = c.requires.trail.placed
+
+pub open_literal-requires-clause-placed : goal.open_literal-requires-clause-placed
+open_literal-requires-clause-placed c = c.requires.trail.placed

@@ -1,4 +1,4 @@
-use Rattle.std.proofs.Common.{◌≡◌, ℕ, ℤ, List, ◌<◌, ◌≤◌, length, neg_ℤ, Option, None, MatchOption, sym, ap, ◌∙◌, subst, arith, w64, to_z, of_z}
+use Rattle.std.proofs.Common.{◌≡◌, ℕ, ℤ, List, ◌*◌, ◌<◌, ◌≤◌, length, neg_ℤ, Option, None, MatchOption, sym, ap, ◌∙◌, subst, arith, w64, to_z, of_z}
 use Rattle.mcs_base.proofs.Booleans.{none_from_not_some}
 use Rattle.mcs_trace.specs.Clauses.{IsLiteral}
 use Rattle.mcs_sat.specs.declared.state.Reach.{Reach}
@@ -75,3 +75,79 @@ loop-from-preserved c =
       now = λ settled h. reached-next known c.visit_list.new.watches es' c.loop-from.from settled l
           (read' ∙ c.negated-literal.ensures ∙ ap (λ (x : Entry). neg_ℤ x.literal) (sym (entry-grown c.args.level es es' c.loop-from.from c.visit_list.ensures.grows here))) all (now at settled h);
     }
+
+-- ---- what the visits keep
+pub returns-in_err-found-clause-trail : goal.returns-in_err-found-clause-trail
+returns-in_err-found-clause-trail c = c.visit_list.ensures.trail
+
+pub returns-in_err-found-clause-positions : goal.returns-in_err-found-clause-positions
+returns-in_err-found-clause-positions c = c.visit_list.ensures.positions ∙ c.loop-from.invariant.positions
+
+pub returns-in_err-found-clause-lists : goal.returns-in_err-found-clause-lists
+returns-in_err-found-clause-lists c = c.visit_list.ensures.lists ∙ c.loop-from.invariant.lists
+
+pub returns-in_err-found-clause-watched : goal.returns-in_err-found-clause-watched
+returns-in_err-found-clause-watched c = c.visit_list.ensures.watched
+
+pub returns-in_err-found-clause-short : goal.returns-in_err-found-clause-short
+returns-in_err-found-clause-short c = c.visit_list.ensures.short ∙ c.loop-from.invariant.short
+
+pub returns-then-is_some-clause-trail : goal.returns-then-is_some-clause-trail
+returns-then-is_some-clause-trail c = c.visit_list.ensures.trail
+
+pub returns-then-is_some-clause-positions : goal.returns-then-is_some-clause-positions
+returns-then-is_some-clause-positions c = c.visit_list.ensures.positions ∙ c.loop-from.invariant.positions
+
+pub returns-then-is_some-clause-lists : goal.returns-then-is_some-clause-lists
+returns-then-is_some-clause-lists c = c.visit_list.ensures.lists ∙ c.loop-from.invariant.lists
+
+pub returns-then-is_some-clause-watched : goal.returns-then-is_some-clause-watched
+returns-then-is_some-clause-watched c = c.visit_list.ensures.watched
+
+pub returns-then-is_some-clause-short : goal.returns-then-is_some-clause-short
+returns-then-is_some-clause-short c = c.visit_list.ensures.short ∙ c.loop-from.invariant.short
+
+pub returns-in_err-found-clause-grows : goal.returns-in_err-found-clause-grows
+returns-in_err-found-clause-grows c = grows (goal.at.returns-in_err-found-clause-grows c).After-visit_list
+
+pub returns-in_err-found-clause-bound : goal.returns-in_err-found-clause-bound
+returns-in_err-found-clause-bound c = (let longer = grows-longer c.args.level c.loop-from.trail.entries.items c.visit_list.new.trail.entries.items c.visit_list.ensures.grows in let bound = c.loop-from.invariant.bound in omega arith)
+
+pub returns-then-is_some-clause-bound : goal.returns-then-is_some-clause-bound
+returns-then-is_some-clause-bound c = (let longer = grows-longer c.args.level c.loop-from.trail.entries.items c.visit_list.new.trail.entries.items c.visit_list.ensures.grows in let bound = c.loop-from.invariant.bound in omega arith)
+
+pub returns-clause-trail : goal.returns-clause-trail
+returns-clause-trail c = c.loop-from.invariant.trail
+
+pub returns-clause-positions : goal.returns-clause-positions
+returns-clause-positions c = c.loop-from.invariant.positions
+
+pub returns-clause-grows : goal.returns-clause-grows
+returns-clause-grows c = c.loop-from.invariant.grows
+
+pub returns-clause-lists : goal.returns-clause-lists
+returns-clause-lists c = c.loop-from.invariant.lists
+
+pub returns-clause-watched : goal.returns-clause-watched
+returns-clause-watched c = c.loop-from.invariant.watched
+
+pub returns-clause-short : goal.returns-clause-short
+returns-clause-short c = c.loop-from.invariant.short
+
+pub returns-clause-bound : goal.returns-clause-bound
+returns-clause-bound c = c.loop-from.invariant.bound
+
+pub returns-clause-reached : goal.returns-clause-reached
+returns-clause-reached c = c.loop-from.invariant.reached
+
+pub visit_list-requires-clause-trail : goal.visit_list-requires-clause-trail
+visit_list-requires-clause-trail c = c.loop-from.invariant.trail
+
+pub visit_list-requires-clause-watched : goal.visit_list-requires-clause-watched
+visit_list-requires-clause-watched c = c.loop-from.invariant.watched
+
+pub negated-literal-requires-clause-placed : goal.negated-literal-requires-clause-placed
+negated-literal-requires-clause-placed c = c.loop-from.invariant.trail.placed
+
+pub visit_list-requires-clause-lists : goal.visit_list-requires-clause-lists
+visit_list-requires-clause-lists c = c.loop-from.invariant.lists ∙ c.requires.lists ∙ ap (λ (n : ℕ). 2 * n) (sym c.loop-from.invariant.positions)

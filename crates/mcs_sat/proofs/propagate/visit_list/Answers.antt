@@ -150,3 +150,70 @@ returns-clause-found c =
     let ok = c.index.result.now.ok.0 in
     visited-all c.args.clauses.now c.loop-at.watches c.loop-at.trail.entries.items c.args.literal c.place-list.result c.loop-at.at c.index.result.now c.loop-at.invariant.watched c.requires.literal
     (c.place-list.ensures ∙ ap place (to_z-of_z c.ranges.literal)) (read c.loop-at.watches.lists.items c.place-list.result c.index.result.now (index_within at) c.index.ensures) (omega arith) c.loop-at.invariant.passed
+
+-- ---- what the visits keep
+pub returns-in_err-visit-clause-trail : goal.returns-in_err-visit-clause-trail
+returns-in_err-visit-clause-trail c = c.visit.ensures.trail
+
+pub returns-in_err-visit-clause-positions : goal.returns-in_err-visit-clause-positions
+returns-in_err-visit-clause-positions c = c.visit.ensures.positions ∙ c.loop-at.invariant.positions
+
+pub returns-in_err-visit-clause-grows : goal.returns-in_err-visit-clause-grows
+returns-in_err-visit-clause-grows c = grows-more c.args.level c.args.trail.now.entries.items c.loop-at.trail.entries.items c.visit.new.trail.entries.items c.loop-at.invariant.grows c.visit.ensures.grows
+
+pub returns-in_err-visit-clause-lists : goal.returns-in_err-visit-clause-lists
+returns-in_err-visit-clause-lists c = c.visit.ensures.lists ∙ c.loop-at.invariant.lists
+
+pub returns-in_err-visit-clause-watched : goal.returns-in_err-visit-clause-watched
+returns-in_err-visit-clause-watched c = c.visit.ensures.watched
+
+pub returns-in_err-visit-clause-short : goal.returns-in_err-visit-clause-short
+returns-in_err-visit-clause-short c = c.visit.ensures.short ∙ c.loop-at.invariant.short
+
+pub returns-in-Conflict-clause-trail : goal.returns-in-Conflict-clause-trail
+returns-in-Conflict-clause-trail c = c.visit.ensures.trail
+
+pub returns-in-Conflict-clause-positions : goal.returns-in-Conflict-clause-positions
+returns-in-Conflict-clause-positions c = c.visit.ensures.positions ∙ c.loop-at.invariant.positions
+
+pub returns-in-Conflict-clause-grows : goal.returns-in-Conflict-clause-grows
+returns-in-Conflict-clause-grows c = grows-more c.args.level c.args.trail.now.entries.items c.loop-at.trail.entries.items c.visit.new.trail.entries.items c.loop-at.invariant.grows c.visit.ensures.grows
+
+pub returns-in-Conflict-clause-lists : goal.returns-in-Conflict-clause-lists
+returns-in-Conflict-clause-lists c = c.visit.ensures.lists ∙ c.loop-at.invariant.lists
+
+pub returns-in-Conflict-clause-watched : goal.returns-in-Conflict-clause-watched
+returns-in-Conflict-clause-watched c = c.visit.ensures.watched
+
+pub returns-in-Conflict-clause-short : goal.returns-in-Conflict-clause-short
+returns-in-Conflict-clause-short c = c.visit.ensures.short ∙ c.loop-at.invariant.short
+
+pub returns-clause-trail : goal.returns-clause-trail
+returns-clause-trail c = c.loop-at.invariant.trail
+
+pub returns-clause-positions : goal.returns-clause-positions
+returns-clause-positions c = c.loop-at.invariant.positions
+
+pub returns-clause-grows : goal.returns-clause-grows
+returns-clause-grows c = c.loop-at.invariant.grows
+
+pub returns-clause-lists : goal.returns-clause-lists
+returns-clause-lists c = c.loop-at.invariant.lists
+
+pub returns-clause-watched : goal.returns-clause-watched
+returns-clause-watched c = c.loop-at.invariant.watched
+
+pub returns-clause-short : goal.returns-clause-short
+returns-clause-short c = c.loop-at.invariant.short
+
+pub returns-clause-reached : goal.returns-clause-reached
+returns-clause-reached c = c.loop-at.invariant.reached
+
+pub visit-requires-clause-trail : goal.visit-requires-clause-trail
+visit-requires-clause-trail c = c.loop-at.invariant.trail
+
+pub visit-requires-clause-watched : goal.visit-requires-clause-watched
+visit-requires-clause-watched c = c.loop-at.invariant.watched
+
+pub visit-requires-clause-lists : goal.visit-requires-clause-lists
+visit-requires-clause-lists c = c.loop-at.invariant.lists ∙ c.requires.lists ∙ ap (λ (n : ℕ). 2 * n) (sym c.loop-at.invariant.positions)

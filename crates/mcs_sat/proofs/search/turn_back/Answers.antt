@@ -1,3 +1,4 @@
+use Rattle.mcs_sat.specs.Trails.{IsFalse}
 use Rattle.std.proofs.Common.{◌-◌, List, ℕ, ℤ, length, sym, subst, arith}
 use Rattle.std.proofs.lemmas.Option.{slice_get_within}
 use Rattle.mcs_base.proofs.Each.{all_get}
@@ -43,7 +44,7 @@ returns-clause-kept c =
     let last : IsLastLevel s.levels.items c.in-Some.reach.now = last-found s.levels.items c.deref.result.now c.last.result c.in-Some.reach c.deref.ensures.value c.last.ensures.value c.in-Some.is in
     let single = subst (λ (x : List ℤ). (q : Reach) → IsLastLevel s.levels.items q → IsSingle s.trail.entries.items q.entries x) (sym c.literals-2.ensures.value) (single-last s c.in-Some.reach.now step.clause c.requires.search.state last c.in_ok-step.ensures.single) in
     let right = subst (IsChainResolvent s.clauses ns) (sym c.literals-2.ensures.value) (subst (λ (xs : List ℕ). IsChainResolvent s.clauses xs step.clause) (sym c.deref-3.ensures.value) c.in_ok-step.ensures.learnt.chain) in
-    let b = c.in_ok-learn.ensures.learnt in
+    let b = c.in_default-learn.ensures.learnt in
     let g = gone-back s c.learn.new.state cl ns c.requires.search.state b single in
     let r = c.in_ok-run.ensures in
     let kept = search-run f c.learn.new.state c.run.new.state (search-learnt f s c.learn.new.state cl ns c.requires.search c.learn.ensures.kept c.learn.ensures.positions right b g) r.kept r.same r.levels r.grows in
@@ -59,9 +60,37 @@ returns-clause-turn c =
     let last : IsLastLevel s.levels.items c.in-Some.reach.now = last-found s.levels.items c.deref.result.now c.last.result c.in-Some.reach c.deref.ensures.value c.last.ensures.value c.in-Some.is in
     let single = subst (λ (x : List ℤ). (q : Reach) → IsLastLevel s.levels.items q → IsSingle s.trail.entries.items q.entries x) (sym c.literals-2.ensures.value) (single-last s c.in-Some.reach.now step.clause c.requires.search.state last c.in_ok-step.ensures.single) in
     let right = subst (IsChainResolvent s.clauses ns) (sym c.literals-2.ensures.value) (subst (λ (xs : List ℕ). IsChainResolvent s.clauses xs step.clause) (sym c.deref-3.ensures.value) c.in_ok-step.ensures.learnt.chain) in
-    let b = c.in_ok-learn.ensures.learnt in
+    let b = c.in_default-learn.ensures.learnt in
     let g = gone-back s c.learn.new.state cl ns c.requires.search.state b single in
     let r = c.in_ok-run.ensures in
     let kept = search-run f c.learn.new.state c.run.new.state (search-learnt f s c.learn.new.state cl ns c.requires.search c.learn.ensures.kept c.learn.ensures.positions right b g) r.kept r.same r.levels r.grows in
     let run = run-is c.run.new.state c.in_ok-run.field-0 r.open r.conflict in
     (run, less-learnt f s c.learn.new.state c.run.new.state cl ns c.in_ok-run.field-0 c.requires.search kept b g r.same.clauses r.grows run)
+
+-- ---- what is asked of the calls
+pub analyse-requires-clause-conflict : goal.analyse-requires-clause-conflict
+analyse-requires-clause-conflict c = c.requires.conflict
+
+pub analyse-requires-clause-trail : goal.analyse-requires-clause-trail
+analyse-requires-clause-trail c = c.requires.search.state.trail
+
+pub learn-requires-clause-state : goal.learn-requires-clause-state
+learn-requires-clause-state c = c.requires.search.state
+
+pub release-requires-clause-state : goal.release-requires-clause-state
+release-requires-clause-state c = c.requires.search.state
+
+pub learn-requires-clause-all_false : goal.learn-requires-clause-all_false
+learn-requires-clause-all_false c = subst (IsFalse c.args.state.now.trail.entries.items) (sym c.literals-2.ensures.value) c.in_ok-step.ensures.learnt.all_false
+
+pub release-requires-clause-all_false : goal.release-requires-clause-all_false
+release-requires-clause-all_false c = subst (IsFalse c.args.state.now.trail.entries.items) (sym c.literals.ensures.value) c.in_ok-step.ensures.learnt.all_false
+
+pub learn-requires-clause-chain : goal.learn-requires-clause-chain
+learn-requires-clause-chain c = subst (IsChainResolvent c.args.state.now.clauses c.deref-3.result.now) (sym c.literals-2.ensures.value) (subst (λ (xs : List ℕ). IsChainResolvent c.args.state.now.clauses xs c.in_ok-step.step.clause) (sym c.deref-3.ensures.value) c.in_ok-step.ensures.learnt.chain)
+
+pub run-requires : goal.run-requires
+run-requires c = c.in_default-learn.ensures.kept
+
+pub returns-in_default-clause-kept : goal.returns-in_default-clause-kept
+returns-in_default-clause-kept c = c.requires.search

@@ -1,9 +1,10 @@
-use Rattle.std.proofs.Common.{◌≡◌, ◌≤◌, ℕ, List, sym, ap, ◌∙◌, subst, arith, length, Option, Some, None, MatchOption, false}
+use Rattle.std.proofs.Common.{◌≡◌, ◌*◌, ◌≤◌, ℕ, List, refl, sym, ap, ◌∙◌, subst, arith, length, Option, Some, None, MatchOption, false}
 use Rattle.std.specs.Option.{IfNone, is_some}
 use Rattle.mcs_sat.specs.declared.state.State.{State}
 use Rattle.mcs_sat.specs.States.{IsState, reach_of}
 use Rattle.mcs_sat.specs.Trails.{Grows}
 use Rattle.mcs_sat.specs.Watching.{AreSettled, IsReached}
+use Rattle.mcs_sat.proofs.GrowLemmas.{grows-more}
 use Rattle.mcs_sat.proofs.RunLemmas.{all-open, before-visited, state-settled, state-visited}
 use Rattle.mcs_sat.proofs.solver.run.Goals.{After-settle_from, After-visit_from}
 use Rattle.mcs_sat.proofs.solver.run.Goals as goal
@@ -72,3 +73,73 @@ returns-clause-open c =
     all-visited : (P R : Type 0) (Q : ℕ → Type 0) (o : Option ℕ) → MatchOption o P Q → (P → R) → IfNone o R
     all-visited P R Q None h f = f h
     all-visited P R Q (Some i) h f = tt
+
+-- ---- how the literals grow
+grows-settled : (c : After-settle_from) → Grows (length c.args.state.now.levels.items) c.args.state.now.trail.entries.items c.settle_from.new.trail.entries.items
+grows-settled c = subst (λ (n : ℕ). Grows n c.args.state.now.trail.entries.items c.settle_from.new.trail.entries.items) (level c) c.settle_from.ensures.grows
+
+grows-visited : (c : After-visit_from) → c.len-level.result ≡ length c.args.state.now.levels.items → Grows (length c.args.state.now.levels.items) c.args.state.now.trail.entries.items c.visit_from.new.trail.entries.items
+grows-visited c same =
+    subst (λ (n : ℕ). Grows n c.args.state.now.trail.entries.items c.visit_from.new.trail.entries.items) same
+    (grows-more c.len-level.result c.args.state.now.trail.entries.items c.settle_from.new.trail.entries.items c.visit_from.new.trail.entries.items c.settle_from.ensures.grows c.visit_from.ensures.grows)
+
+-- ---- what stays as it is
+pub returns-in_err-found-clause-same : goal.returns-in_err-found-clause-same
+returns-in_err-found-clause-same c = record { clauses = refl; chains = refl; positions = c.settle_from.ensures.positions }
+
+pub returns-in_err-found-clause-levels : goal.returns-in_err-found-clause-levels
+returns-in_err-found-clause-levels c = refl
+
+pub returns-in_err-found-clause-short : goal.returns-in_err-found-clause-short
+returns-in_err-found-clause-short c = refl
+
+pub returns-in_err-found-clause-grows : goal.returns-in_err-found-clause-grows
+returns-in_err-found-clause-grows c = grows-settled (goal.at.returns-in_err-found-clause-grows c).After-settle_from
+
+pub returns-then-is_some-clause-same : goal.returns-then-is_some-clause-same
+returns-then-is_some-clause-same c = record { clauses = refl; chains = refl; positions = c.settle_from.ensures.positions }
+
+pub returns-then-is_some-clause-levels : goal.returns-then-is_some-clause-levels
+returns-then-is_some-clause-levels c = refl
+
+pub returns-then-is_some-clause-short : goal.returns-then-is_some-clause-short
+returns-then-is_some-clause-short c = refl
+
+pub returns-then-is_some-clause-grows : goal.returns-then-is_some-clause-grows
+returns-then-is_some-clause-grows c = grows-settled (goal.at.returns-then-is_some-clause-grows c).After-settle_from
+
+pub returns-in_err-found-2-clause-same : goal.returns-in_err-found-2-clause-same
+returns-in_err-found-2-clause-same c = record { clauses = refl; chains = refl; positions = c.visit_from.ensures.positions ∙ c.settle_from.ensures.positions }
+
+pub returns-in_err-found-2-clause-levels : goal.returns-in_err-found-2-clause-levels
+returns-in_err-found-2-clause-levels c = refl
+
+pub returns-in_err-found-2-clause-short : goal.returns-in_err-found-2-clause-short
+returns-in_err-found-2-clause-short c = c.visit_from.ensures.short
+
+pub returns-in_err-found-2-clause-grows : goal.returns-in_err-found-2-clause-grows
+returns-in_err-found-2-clause-grows c = let at = goal.at.returns-in_err-found-2-clause-grows c in grows-visited at.After-visit_from (level at.After-settle_from)
+
+pub returns-clause-same : goal.returns-clause-same
+returns-clause-same c = record { clauses = refl; chains = refl; positions = c.visit_from.ensures.positions ∙ c.settle_from.ensures.positions }
+
+pub returns-clause-levels : goal.returns-clause-levels
+returns-clause-levels c = refl
+
+pub returns-clause-short : goal.returns-clause-short
+returns-clause-short c = c.visit_from.ensures.short
+
+pub returns-clause-grows : goal.returns-clause-grows
+returns-clause-grows c = let at = goal.at.returns-clause-grows c in grows-visited at.After-visit_from (level at.After-settle_from)
+
+pub visit_from-requires-clause-trail : goal.visit_from-requires-clause-trail
+visit_from-requires-clause-trail c = c.settle_from.ensures.trail
+
+pub visit_from-requires-clause-watched : goal.visit_from-requires-clause-watched
+visit_from-requires-clause-watched c = c.requires.watched
+
+pub settle_from-requires : goal.settle_from-requires
+settle_from-requires c = record { trail = c.requires.trail }
+
+pub visit_from-requires-clause-lists : goal.visit_from-requires-clause-lists
+visit_from-requires-clause-lists c = c.requires.lists ∙ ap (λ (n : ℕ). 2 * n) (sym c.settle_from.ensures.positions)

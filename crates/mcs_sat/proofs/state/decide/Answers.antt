@@ -1,4 +1,7 @@
-use Rattle.std.proofs.Common.{◌≡◌, ◌+◌, ◌-◌, ◌∷◌, ◌++◌, [], ℕ, List, refl, ap, ◌∙◌, arith, length, take, w64, to_z, of_z}
+use Rattle.mcs_sat.proofs.GrowLemmas.{read_literal}
+use Rattle.mcs_sat.specs.Trails.{StandsNowhere}
+use Rattle.mcs_trace.specs.Clauses.{IsLiteral}
+use Rattle.std.proofs.Common.{◌≡◌, ◌+◌, ◌-◌, ◌∷◌, ◌++◌, [], ℕ, List, refl, ap, ◌∙◌, arith, length, take, w64, to_z, of_z, ◌<◌, ℤ, sym, subst, unsigned_abs}
 use Rattle.std.proofs.Math.Seq.{take-append_seam}
 use Rattle.mcs_sat.proofs.StateLemmas.{state-same, state-decided}
 use Rattle.mcs_sat.specs.declared.state.Reach.{Reach}
@@ -22,3 +25,28 @@ returns-clause-kept c =
     (c.in_default.ensures.entries ∙ ap (λ (n : ℕ). let e : Entry = record { literal = to_z w64 (of_z w64 c.args.literal); reason = 0; level = n + 1 } in es ++ e ∷ []) count)
     c.in_default.ensures.placed c.push-2.ensures.positions
     (c.in_ok-push.ensures.items ∙ ap (λ (n : ℕ). let r : Reach = record { entries = n; visited = s.visited; settled = s.settled } in s.levels.items ++ r ∷ []) size)
+
+-- ---- what is as it was
+pub push-requires-2-clause-placed : goal.push-requires-2-clause-placed
+push-requires-2-clause-placed c = c.requires.state.trail.placed
+
+pub push-requires-2-clause-literal : goal.push-requires-2-clause-literal
+push-requires-2-clause-literal c = subst IsLiteral (sym (read_literal c.args.literal c.requires.literal)) c.requires.literal
+
+pub push-requires-2-clause-within : goal.push-requires-2-clause-within
+push-requires-2-clause-within c = subst (λ (l : ℤ). unsigned_abs l < length c.args.state.now.trail.positions.items) (sym (read_literal c.args.literal c.requires.literal)) c.requires.within
+
+pub push-requires-2-clause-free : goal.push-requires-2-clause-free
+push-requires-2-clause-free c = subst (λ (l : ℤ). StandsNowhere c.args.state.now.trail.entries.items (unsigned_abs l)) (sym (read_literal c.args.literal c.requires.literal)) c.requires.free
+
+pub returns-clause-same : goal.returns-clause-same
+returns-clause-same c = record { clauses = refl; chains = refl; positions = c.push-2.ensures.positions }
+
+pub returns-in-Err-clause-same : goal.returns-in-Err-clause-same
+returns-in-Err-clause-same c = record { clauses = refl; chains = refl; positions = c.push-2.ensures.positions }
+
+pub returns-in_err-push-clause-same : goal.returns-in_err-push-clause-same
+returns-in_err-push-clause-same c = record { clauses = refl; chains = refl; positions = refl }
+
+pub returns-in-Err-clause-err : goal.returns-in-Err-clause-err
+returns-in-Err-clause-err c = c.in-Err.ensures.err

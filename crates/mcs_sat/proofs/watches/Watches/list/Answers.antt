@@ -1,3 +1,4 @@
+use Rattle.std.proofs.lemmas.List.{length-set}
 use Rattle.std.proofs.Common.{◌≡◌, ◌<◌, length, Some, slice_get, refl, sym, ap, ◌∙◌, to_z-of_z, arith}
 use Rattle.std.proofs.lemmas.Option.{slice_get_read}
 use Rattle.mcs_trace.specs.Clauses.{place}
@@ -22,3 +23,22 @@ returns-clause-kept c = list-kept c.args.self.now.lists.items c.place.result c.i
 
 pub returns-clause-others : goal.returns-clause-others
 returns-clause-others c = λ l differ. slice_get-set_other c.args.self.now.lists.items c.place.result (place l) c.push.new.self (λ e. differ (e ∙ at c))
+
+-- ---- what stays as it is
+pub returns-clause-pairs : goal.returns-clause-pairs
+returns-clause-pairs c = refl
+
+pub returns-clause-short : goal.returns-clause-short
+returns-clause-short c = refl
+
+pub returns-in_err-push-clause-pairs : goal.returns-in_err-push-clause-pairs
+returns-in_err-push-clause-pairs c = refl
+
+pub returns-in_err-push-clause-short : goal.returns-in_err-push-clause-short
+returns-in_err-push-clause-short c = refl
+
+pub returns-clause-sized : goal.returns-clause-sized
+returns-clause-sized c = length-set c.args.self.now.lists.items c.place.result c.push.new.self
+
+pub returns-in_err-push-clause-sized : goal.returns-in_err-push-clause-sized
+returns-in_err-push-clause-sized c = length-set c.args.self.now.lists.items c.place.result c.push.new.self

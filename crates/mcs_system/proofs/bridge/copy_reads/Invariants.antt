@@ -1,6 +1,0 @@
-use Rattle.std.proofs.Common.{◌≡◌, map, take}
-use Rattle.mcs_system.specs.Seen.{read_of}
-use Rattle.mcs_system.proofs.bridge.copy_reads.Given as goal
-
-abbrev pub invariant-loop-read : goal.invariant-loop-read
-invariant-loop-read l = map read_of l.copies.items ≡ map read_of (take l.read-index l.reads)
