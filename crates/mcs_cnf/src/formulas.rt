@@ -13,7 +13,7 @@ use mcs_trace::Cnf;
 use std::alloc::Global;
 
 /// The atom's place among the atoms, from 1.
-fn atom_number(atoms: &[Name], name: &Name) -> u64
+pub fn atom_number(atoms: &[Name], name: &Name) -> u64
     ensures { result ≡ atom_number atoms.now name.now }
 {
     for (index, atom) in atoms.iter().enumerate() {

@@ -73,7 +73,7 @@ pub(crate) fn push_three(alloc: Global, cnf: &mut Cnf, a: i64, b: i64, c: i64) -
 }
 
 /// Adds the clause that says that the variable is true.
-pub(crate) fn push_unit(alloc: Global, cnf: &mut Cnf, variable: u64) -> Result<(), Memory>
+pub fn push_unit(alloc: Global, cnf: &mut Cnf, variable: u64) -> Result<(), Memory>
     requires { (0 < variable) × (variable ≤ cnf.old.vars) }
     ensures { IfOk result (λ _. cnf.new ≡ with_clause cnf.old (pos variable ∷ [])) }
 {

@@ -26,7 +26,7 @@ fn next_number(cnf: &mut Cnf) -> Result<u64, Memory>
 }
 
 /// Adds an occurrence of what is always true; its number.
-pub(crate) fn push_truth(alloc: Global, cnf: &mut Cnf) -> Result<u64, Memory>
+pub fn push_truth(alloc: Global, cnf: &mut Cnf) -> Result<u64, Memory>
     ensures { IfOk result (IsAdded truth_clauses cnf.old cnf.new) }
 {
     let n = next_number(cnf)?;
@@ -35,7 +35,7 @@ pub(crate) fn push_truth(alloc: Global, cnf: &mut Cnf) -> Result<u64, Memory>
 }
 
 /// Adds an occurrence of what is always false; its number.
-pub(crate) fn push_falsity(alloc: Global, cnf: &mut Cnf) -> Result<u64, Memory>
+pub fn push_falsity(alloc: Global, cnf: &mut Cnf) -> Result<u64, Memory>
     ensures { IfOk result (IsAdded falsity_clauses cnf.old cnf.new) }
 {
     let n = next_number(cnf)?;
@@ -44,7 +44,7 @@ pub(crate) fn push_falsity(alloc: Global, cnf: &mut Cnf) -> Result<u64, Memory>
 }
 
 /// Adds an occurrence of the negation of `x`; its number.
-pub(crate) fn push_not(alloc: Global, cnf: &mut Cnf, x: u64) -> Result<u64, Memory>
+pub fn push_not(alloc: Global, cnf: &mut Cnf, x: u64) -> Result<u64, Memory>
     requires part { (0 < x) × (x ≤ cnf.old.vars) }
     ensures { IfOk result (IsAdded (λ n. not_clauses n x) cnf.old cnf.new) }
 {
@@ -55,7 +55,7 @@ pub(crate) fn push_not(alloc: Global, cnf: &mut Cnf, x: u64) -> Result<u64, Memo
 }
 
 /// Adds an occurrence of `x` and `y`; its number.
-fn push_and(alloc: Global, cnf: &mut Cnf, x: u64, y: u64) -> Result<u64, Memory>
+pub fn push_and(alloc: Global, cnf: &mut Cnf, x: u64, y: u64) -> Result<u64, Memory>
     requires left { (0 < x) × (x ≤ cnf.old.vars) }
     requires right { (0 < y) × (y ≤ cnf.old.vars) }
     ensures { IfOk result (IsAdded (λ n. and_clauses n x y) cnf.old cnf.new) }
@@ -68,7 +68,7 @@ fn push_and(alloc: Global, cnf: &mut Cnf, x: u64, y: u64) -> Result<u64, Memory>
 }
 
 /// Adds an occurrence of `x` or `y`; its number.
-fn push_or(alloc: Global, cnf: &mut Cnf, x: u64, y: u64) -> Result<u64, Memory>
+pub fn push_or(alloc: Global, cnf: &mut Cnf, x: u64, y: u64) -> Result<u64, Memory>
     requires left { (0 < x) × (x ≤ cnf.old.vars) }
     requires right { (0 < y) × (y ≤ cnf.old.vars) }
     ensures { IfOk result (IsAdded (λ n. or_clauses n x y) cnf.old cnf.new) }
@@ -81,7 +81,7 @@ fn push_or(alloc: Global, cnf: &mut Cnf, x: u64, y: u64) -> Result<u64, Memory>
 }
 
 /// Adds an occurrence of `x` implies `y`; its number.
-fn push_implies(alloc: Global, cnf: &mut Cnf, x: u64, y: u64) -> Result<u64, Memory>
+pub fn push_implies(alloc: Global, cnf: &mut Cnf, x: u64, y: u64) -> Result<u64, Memory>
     requires left { (0 < x) × (x ≤ cnf.old.vars) }
     requires right { (0 < y) × (y ≤ cnf.old.vars) }
     ensures { IfOk result (IsAdded (λ n. implies_clauses n x y) cnf.old cnf.new) }

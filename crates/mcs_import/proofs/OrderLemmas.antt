@@ -147,7 +147,7 @@ order_length m xs h = follows_length m [] xs (such_that (length m.contexts) (λ 
 pub order_all : (m : System) (xs : List ℕ) → IsImportOrder m xs → All (λ j. j < length m.contexts) xs
 order_all m xs h = All-from_recursion (λ j. j < length m.contexts) xs (order_in_range m xs h)
 
-before_each : (P : ℕ → Type 0) (xs : List ℕ) (i : ℕ) → AllByRecursion P xs → AllByRecursion P (before_in xs i)
+pub before_each : (P : ℕ → Type 0) (xs : List ℕ) (i : ℕ) → AllByRecursion P xs → AllByRecursion P (before_in xs i)
 before_each P [] i h = tt
 before_each P (x ∷ xs) i h = at (eqb x i) (before_each P xs i h.1)
   where

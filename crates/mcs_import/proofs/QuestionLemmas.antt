@@ -24,7 +24,7 @@ use Rattle.mcs_system.proofs.VariableLemmas.{has-applicable, has-inputs_of, has-
 use Rattle.mcs_import.specs.Plans.{variables_of_all, guessed, AreSupplies}
 use Rattle.mcs_import.specs.States.{Joins, SomeJoins, SomeGrows, IsNear, IsAsked}
 use Rattle.mcs_import.proofs.OrderLemmas.{import_order_is_one}
-use Rattle.mcs_import.proofs.StateLemmas.{grows_is}
+use Rattle.mcs_import.proofs.StateLemmas.{states_found}
 
 -- ---- the order has each context once
 
@@ -71,7 +71,7 @@ possible_at m level (a ∷ front) j back τ none = let rest = possible_at m leve
   λ h. inr ((λ e. none (inl (sym e))), rest.1 h),
 )
 
-possible_is : (m : System) (order : List ℕ) → IsImportOrder m order → (level i j τ : ℕ) → IsAmong j (before_in order i) → IsPossibleFrom m level (reverse (before_in order i)) j τ ↔ IsPossible m order level j τ
+pub possible_is : (m : System) (order : List ℕ) → IsImportOrder m order → (level i j τ : ℕ) → IsAmong j (before_in order i) → IsPossibleFrom m level (reverse (before_in order i)) j τ ↔ IsPossible m order level j τ
 possible_is m order ordered level i j τ among =
     let (later, is) = split_before order i j among in
     let apart : ¬ IsAmong j later = middle_apart (before_in order j) j later (subst AreApart is (before_apart order i (follows_apart m [] order ordered))) in
@@ -151,19 +151,22 @@ same_applicable m i σ τ same = same_set _ _ (λ k. has-common (applicable m σ
     at k false e = rw (e, and-false (has (applicable m σ) k), and-false (has (applicable m τ) k)) refl
 
 -- ---- the variables of contexts
-one_context : (m : System) (j k v : ℕ) → has (variables_of m j) v ≡ true → has (variables_of m k) v ≡ true → j ≡ k
+pub one_context : (m : System) (j k v : ℕ) → has (variables_of m j) v ≡ true → has (variables_of m k) v ≡ true → j ≡ k
 one_context m j k v a b = let (r, is, e) = variable_there m j v a in let (q, is', e') = variable_there m k v b in let same : r ≡ q = cc in sym e ∙ ap (λ (p : Read). p.context) same ∙ e'
 
-context_known : (m : System) (j : ℕ) → Within (variables_of m j) (all_variables m)
+pub context_known : (m : System) (j : ℕ) → Within (variables_of m j) (all_variables m)
 unfolding variables_of
 context_known m j v e = has-such_that (length (variables m)) (λ w. true) v ∙ and_from (ltb v (length (variables m))) true (and_parts (ltb v (length (variables m))) (is_of_context j (slice_get (variables m) v)) (sym (has-such_that (length (variables m)) (λ w. is_of_context j (slice_get (variables m) w)) v) ∙ e)).0 refl
 
-inputs_known : (m : System) (i : ℕ) → Within (inputs_of m i) (all_variables m)
+pub inputs_known : (m : System) (i : ℕ) → Within (inputs_of m i) (all_variables m)
 unfolding inputs_of
 inputs_known m i v e = has-such_that (length (variables m)) (λ w. true) v ∙ and_from (ltb v (length (variables m))) true (and_parts (ltb v (length (variables m))) (is_read_into m i (slice_get (variables m) v)) (sym (has-such_that (length (variables m)) (λ w. is_read_into m i (slice_get (variables m) w)) v) ∙ e)).0 refl
 
-possible_within : (m : System) (order : List ℕ) (level j τ : ℕ) → IsPossible m order level j τ → Within τ (variables_of m j)
-possible_within m order level j τ (x, question, part) v member = let (r, is, of_j, believed) = (part.part v).0 member in has-variables_of m j v r is ∙ grind (arith, nat_tests)
+pub accepted_within : (m : System) (i x τ : ℕ) → IsAcceptedPart m i x τ → Within τ (variables_of m i)
+accepted_within m i x τ part v member = let (r, is, of_i, believed) = (part.part v).0 member in has-variables_of m i v r is ∙ grind (arith, nat_tests)
+
+pub possible_within : (m : System) (order : List ℕ) (level j τ : ℕ) → IsPossible m order level j τ → Within τ (variables_of m j)
+possible_within m order level j τ (x, question, part) = accepted_within m j x τ part
 
 in_all : (m : System) (j v : ℕ) (js : List ℕ) → IsAmong j js → has (variables_of m j) v ≡ true → has (variables_of_all m js) v ≡ true
 in_all m j v [] among e = absurd among
@@ -171,7 +174,7 @@ in_all m j v (k ∷ js) (inl same) e = has-union (variables_of m k) (variables_o
 in_all m j v (k ∷ js) (inr among) e = has-union (variables_of m k) (variables_of_all m js) v ∙ or_right (has (variables_of m k) v) (has (variables_of_all m js) v) (in_all m j v js among e)
 
 -- ---- by the one import order
-possible_in : (m : System) (order : List ℕ) → IsImportOrder m order → (level j τ : ℕ) → MaySupply m level j τ → IsPossible m order level j τ
+pub possible_in : (m : System) (order : List ℕ) → IsImportOrder m order → (level j τ : ℕ) → MaySupply m level j τ → IsPossible m order level j τ
 possible_in m order ordered level j τ (other, ordered', possible) = subst (λ (o : List ℕ). IsPossible m o level j τ) (import_order_is_one m other order ordered' ordered) possible
 
 pub question_in : (m : System) (order : List ℕ) → IsImportOrder m order → (level i x : ℕ) → IsQuestion m order level i x ↔ IsQuestionAt m level i x
@@ -252,7 +255,7 @@ module _ (m : System) (order : List ℕ) (ordered : IsImportOrder m order) (leve
   S = variables_of_all m (supplied m order i)
 
   -- what is joined and guessed is seen of a state that is allowed
-  state_for : (p g : ℕ) → Joins I xss 0 p → Within g G → (σ : ℕ) × IsAllowed m order level i σ × (common σ I ≡ union p g)
+  pub state_for : (p g : ℕ) → Joins I xss 0 p → Within g G → (σ : ℕ) × IsAllowed m order level i σ × (common σ I ≡ union p g)
   state_for p g joins within =
       let (σ, glued) = glue m order ordered level I (supplied m order i) xss supplies (supplied_apart m order i ordered) 0 (λ v e. absurd (true≢false (sym e ∙ has-empty v))) (λ j among v e. has-empty v) 0 p
       (same_set _ _ (λ v. has-empty v ∙ sym (has-common 0 I v ∙ ap (λ u. u && has I v) (has-empty v)))) joins in (
@@ -277,7 +280,7 @@ module _ (m : System) (order : List ℕ) (ordered : IsImportOrder m order) (leve
       apart j among v s false e = and-false (s || has g v) ∙ sym (and-false s)
 
   -- and what is seen of a state that is allowed is joined and guessed
-  parts_of : (σ : ℕ) → IsAllowed m order level i σ → (p : ℕ) × (g : ℕ) × Joins I xss 0 p × Within g G × (common σ I ≡ union p g)
+  pub parts_of : (σ : ℕ) → IsAllowed m order level i σ → (p : ℕ) × (g : ℕ) × Joins I xss 0 p × Within g G × (common σ I ≡ union p g)
   parts_of σ allowed = (
     union 0 (common (common σ S) I),
     common σ G,
@@ -313,27 +316,21 @@ module _ (m : System) (order : List ℕ) (ordered : IsImportOrder m order) (leve
 -- ---- what the code gathers
 module _ (m : System) (i : ℕ) (xss : List (List ℕ)) (guesses level : ℕ) (joined states sets : List ℕ) (of_joins : (ρ : ℕ) → IsAmong ρ joined ↔ SomeJoins (inputs_of m i) xss (0 ∷ []) ρ)
     (of_grows : (ρ : ℕ) → IsAmong ρ states ↔ SomeGrows (members guesses) joined ρ) (of_states : (a : ℕ) → IsAmong a sets ↔ IsAmong a (map (λ σ. common (applicable m σ) (rules_into m i)) states)) where
-  start : (p : ℕ) → SomeJoins (inputs_of m i) xss (0 ∷ []) p → Joins (inputs_of m i) xss 0 p
-  start p (a, inl e, joins) = subst (λ (z : ℕ). Joins (inputs_of m i) xss z p) e joins
-  start p (a, inr none, joins) = absurd none
-
   pub near_is_asked : (x : ℕ) → IsNear (rules_into m i) sets level x ↔ IsAsked m i xss guesses level x
   near_is_asked x = (
     λ h. (
         let (ρ, state, e) = map_among (λ σ. common (applicable m σ) (rules_into m i)) h.set states ((of_states h.set).0 h.listed) in
-        let (p, joined_p, grows) = (of_grows ρ).0 state in
-        let (g, within, e') = (grows_is guesses p ρ).0 grows in
+        let (p, g, joins, within, e') = (states_found (inputs_of m i) xss guesses joined states of_joins of_grows ρ).0 state in
         record {
           of_rules = h.of_rules;
           joined = p;
-          is_joined = start p ((of_joins p).0 joined_p);
+          is_joined = joins;
           guess = g;
           of_guesses = within;
           near = subst (λ (s : ℕ). size (bit_xor s x) ≤ level) (e ∙ ap (λ ρ. common (applicable m ρ) (rules_into m i)) e') h.near;
         }),
     λ h. (
-        let joined_p : IsAmong h.joined joined = (of_joins h.joined).1 (0, inl refl, h.is_joined) in
-        let state : IsAmong (union h.joined h.guess) states = (of_grows (union h.joined h.guess)).1 (h.joined, joined_p, (grows_is guesses h.joined (union h.joined h.guess)).1 (h.guess, h.of_guesses, refl)) in
+        let state : IsAmong (union h.joined h.guess) states = (states_found (inputs_of m i) xss guesses joined states of_joins of_grows (union h.joined h.guess)).1 (h.joined, h.guess, h.is_joined, h.of_guesses, refl) in
         record {
           of_rules = h.of_rules;
           set = common (applicable m (union h.joined h.guess)) (rules_into m i);

@@ -115,3 +115,15 @@ grown_from_none whole s = (to, λ within. (0, inl refl, (grows_is whole 0 s).1 (
     to : SomeGrows (members whole) (0 ∷ []) s → Within s whole
     to (a, inl e, h) = let (g, within, e') = (grows_is whole a s).0 h in subst (λ (z : ℕ). Within z whole) (sym (e' ∙ ap (λ z. union z g) e ∙ none-union g)) within
     to (a, inr h, grows) = absurd h
+
+-- ---- the states that are joined, from the empty one, and then grown
+pub states_found : (mask : ℕ) (xss : List (List ℕ)) (guesses : ℕ) (joined states : List ℕ) → ((ρ : ℕ) → IsAmong ρ joined ↔ SomeJoins mask xss (0 ∷ []) ρ) → ((ρ : ℕ) → IsAmong ρ states ↔ SomeGrows (members guesses) joined ρ)
+    → (ρ : ℕ) → IsAmong ρ states ↔ ((p : ℕ) × (g : ℕ) × Joins mask xss 0 p × Within g guesses × (ρ ≡ union p g))
+states_found mask xss guesses joined states of_joins of_grows ρ = (
+  λ among. let (p, here, grows) = (of_grows ρ).0 among in let (g, within, e) = (grows_is guesses p ρ).0 grows in (p, g, start p ((of_joins p).0 here), within, e),
+  λ (p, g, joins, within, e). (of_grows ρ).1 (p, (of_joins p).1 (0, inl refl, joins), (grows_is guesses p ρ).1 (g, within, e)),
+)
+  where
+    start : (p : ℕ) → SomeJoins mask xss (0 ∷ []) p → Joins mask xss 0 p
+    start p (a, inl e, joins) = subst (λ (z : ℕ). Joins mask xss z p) e joins
+    start p (a, inr none, joins) = absurd none

@@ -32,7 +32,7 @@ fn sets_of(alloc: Global, rules: Active) -> Result<Vec<Active>, Memory>
 }
 
 /// In how many rules the two sets differ.
-fn difference(a: Active, b: Active) -> u32
+pub fn difference(a: Active, b: Active) -> u32
     ensures { result ≡ size (bit_xor a b) }
 {
     a.minus(b).union(b.minus(a)).count()

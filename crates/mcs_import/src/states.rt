@@ -42,8 +42,9 @@ fn joined(alloc: Global, states: &[Vars], others: &[Vars]) -> Result<Vec<Vars>, 
     Ok(unions)
 }
 
-/// The states within the mask that come of one state of each supply.
-pub(crate) fn supplied_states(
+/// The states within the mask that come of one state of each supply: what the supplies say of the mask,
+/// united, in each combination.
+pub fn supplied_states(
     alloc: Global,
     supplies: &[Vec<Vars>],
     mask: Vars,
@@ -70,8 +71,8 @@ fn add_with(states: &mut Vec<Vars>, variable: u32) -> Result<(), Memory>
     Ok(())
 }
 
-/// The states with each choice of the guessed variables.
-pub(crate) fn guessed_states(mut states: Vec<Vars>, guessed: Vars) -> Result<Vec<Vars>, Memory>
+/// The states with each choice of the guessed variables: each state with any of these true.
+pub fn guessed_states(mut states: Vec<Vars>, guessed: Vars) -> Result<Vec<Vars>, Memory>
     ensures { IfOk result (λ all. (ρ : ℕ) → IsAmong ρ all.items ↔ SomeGrows (members guessed) states.items ρ) }
 {
     for variable in guessed.members() {

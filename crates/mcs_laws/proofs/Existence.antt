@@ -20,7 +20,7 @@ use Rattle.std.specs.Cmp.{both_ways}
 use Rattle.mcs_system.proofs.ContextSets.{states_known}
 use Rattle.mcs_sets.proofs.Lattice.{below_from_within}
 
-pub DecidesParts : System → Type 0
+unfoldable pub DecidesParts : System → Type 0
 DecidesParts m = (i x τ : ℕ) → i < length m.contexts → IsAcceptedPart m i x τ ⊎ (¬ IsAcceptedPart m i x τ)
 
 -- each context accepts its part of σ

@@ -11,7 +11,9 @@ mod literal;
 mod resolvent;
 mod trace;
 
-pub use certificate::{ClassicalCert, Entail};
+pub use certificate::{
+    AnswerSetCert, ClassicalCert, DefaultCert, Entail, Outside, ProgramCert, SetCert,
+};
 pub use checker::{check, numbered};
 pub use clause::Clause;
 pub use cnf::Cnf;

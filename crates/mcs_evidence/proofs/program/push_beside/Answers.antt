@@ -1,0 +1,32 @@
+use Rattle.std.proofs.Common.{◌≡◌, ◌∙◌, sym, ap, refl, map, filter, List, [], ◌∷◌, ◌++◌, Some}
+use Rattle.std.proofs.lemmas.Result.{IfOk-weaker}
+use Rattle.mcs_system.specs.Plain.{Formula, ProgramRule}
+use Rattle.mcs_system.specs.Seen.{rule_of}
+use Rattle.mcs_cnf.specs.ClauseLists.{with_formulas}
+use Rattle.mcs_evidence.specs.Programs.{atoms_as, conjunction, disjunction, is_broken_by}
+use Rattle.mcs_evidence.specs.Pushing.{HasConjunction}
+use Rattle.mcs_evidence.proofs.PushingLemmas.{conjunction_more}
+use Rattle.mcs_evidence.proofs.ProgramClauses.{within_names, beside_names, beside_is}
+use Rattle.mcs_evidence.proofs.program.push_beside.Goals as goal
+
+pub join_atoms-requires-clause-over : goal.join_atoms-requires-clause-over
+join_atoms-requires-clause-over c = within_names c.args.atoms.now c.deref.result.now c.args.less (c.deref.ensures.value ∙ c.in_ok-within.ensures)
+
+pub push_either-requires-clause-over : goal.push_either-requires-clause-over
+push_either-requires-clause-over c = beside_names c.args.atoms.now c.deref-2.result.now c.args.less (c.deref-2.ensures.value ∙ c.in_ok-beside.ensures)
+
+pub returns-clause-pushed : goal.returns-clause-pushed
+returns-clause-pushed c =
+    let names = c.args.atoms.now in
+    let start = c.args.cnf.now in
+    let rules = map rule_of c.args.rules.now in
+    let w = c.deref.result.now in
+    let b = c.deref-2.result.now in
+    let d = disjunction (atoms_as b) in
+    let first : HasConjunction names (atoms_as w) start c.join_atoms.new.cnf c.in_ok-all.all = c.in_ok-all.ensures.joined start [] (refl, refl) in
+    let second = conjunction_more names (atoms_as w) d start c.join_atoms.new.cnf c.push_either.new.cnf c.join.new.cnf c.in_ok-all.all c.in_ok-x.x c.in_ok-all-2.all first c.in_ok-x.ensures.occurs c.in_ok-all-2.ensures.joined in
+    let third = c.in_ok-all-3.ensures.joined start (atoms_as w ++ d ∷ []) second in
+    IfOk-weaker c.push_not_all.result _ _ (λ _ pushed.
+    pushed names start ((atoms_as w ++ d ∷ []) ++ map (λ (r : ProgramRule). disjunction (atoms_as r.neg)) (filter (is_broken_by c.deref-3.result.now) rules)) third
+    ∙ ap (λ (f : Formula). with_formulas names start (f ∷ [])) (beside_is names w b c.deref-3.result.now rules c.args.less (c.deref.ensures.value ∙ c.in_ok-within.ensures) (c.deref-2.ensures.value ∙ c.in_ok-beside.ensures) (c.deref-3.ensures.value ∙ c.in_ok-within.ensures)))
+    c.push_not_all.ensures.pushed

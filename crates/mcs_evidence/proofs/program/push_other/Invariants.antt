@@ -1,0 +1,16 @@
+use Rattle.std.proofs.Common.{◌≤◌, drop, map}
+use Rattle.mcs_system.specs.Plain.{Atom}
+use Rattle.mcs_evidence.specs.Programs.{literals_from}
+use Rattle.mcs_evidence.specs.Pushing.{AreNamesOf, IsPart, HasConjunction}
+use Rattle.mcs_evidence.proofs.PushingLemmas.{IsJoining}
+use Rattle.mcs_evidence.proofs.program.push_other.Given as goal
+
+abbrev pub invariant-loop-k : goal.invariant-loop-k
+invariant-loop-k l =
+    record {
+      grows : l.fn.cnf.vars ≤ l.cnf.vars;
+      over : AreNamesOf l.atoms (map (λ b. b.now) (drop l.k l.beliefs));
+      part : IsPart l.cnf l.all;
+      joined : IsJoining (λ gs o. HasConjunction l.atoms gs l.fn.cnf l.cnf o)
+          (literals_from 0 (map Atom (map (λ b. b.now) l.beliefs)) l.state) (literals_from l.k (map Atom (map (λ b. b.now) (drop l.k l.beliefs))) l.state) l.all;
+    }

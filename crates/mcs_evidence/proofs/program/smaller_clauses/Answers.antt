@@ -1,0 +1,30 @@
+use Rattle.std.proofs.Common.{◌∙◌, sym, ap, refl, map, List, [], ◌∷◌, ◌++◌}
+use Rattle.mcs_system.specs.Plain.{Name, Formula, Not}
+use Rattle.mcs_system.specs.Logic.{reduct, true_names}
+use Rattle.mcs_system.specs.Seen.{rule_of}
+use Rattle.mcs_trace.specs.Clauses.{ClauseList}
+use Rattle.mcs_cnf.specs.ClauseLists.{with_formulas}
+use Rattle.mcs_evidence.specs.Programs.{positive_formula, negated_atoms, atoms_as, conjunction, false_names, smaller_formulas}
+use Rattle.mcs_evidence.proofs.ProgramClauses.{three, within_names, beside_names}
+use Rattle.mcs_evidence.proofs.program.smaller_clauses.Goals as goal
+
+pub push_negations-requires-clause-over : goal.push_negations-requires-clause-over
+push_negations-requires-clause-over c = beside_names c.args.atoms.now c.deref-2.result.now c.args.model (c.deref-2.ensures.value ∙ c.in_ok-beside.ensures)
+
+pub join_atoms-requires-clause-over : goal.join_atoms-requires-clause-over
+join_atoms-requires-clause-over c = within_names c.args.atoms.now c.deref-3.result.now c.args.model (c.deref-3.ensures.value ∙ c.in_ok-within.ensures)
+
+pub returns : goal.returns
+returns c =
+    let names = c.args.atoms.now in
+    let rules = map rule_of c.args.rules.now in
+    let model = c.args.model in
+    let start = c.push_negations.new.cnf in
+    three names c.new-cnf.result c.push_reduct.new.cnf start c.push_not_all.new.cnf
+    (map positive_formula (reduct c.deref.result.now rules)) (negated_atoms c.deref-2.result.now) (Not (conjunction (atoms_as c.deref-3.result.now)) ∷ [])
+    c.in_ok-push_reduct.ensures.pushed c.in_ok-push_negations.ensures.pushed
+    (c.in_ok-push_not_all.ensures.pushed names start (atoms_as c.deref-3.result.now) (c.in_ok-all.ensures.joined start [] (refl, refl)))
+    ∙ ap (λ (a : List Name). with_formulas names c.new-cnf.result (map positive_formula (reduct a rules) ++ (negated_atoms c.deref-2.result.now ++ Not (conjunction (atoms_as c.deref-3.result.now)) ∷ []))) (c.deref.ensures.value ∙ c.in_ok-within.ensures)
+    ∙ ap (λ (b : List Name). with_formulas names c.new-cnf.result (map positive_formula (reduct (true_names 0 names model) rules) ++ (negated_atoms b ++ Not (conjunction (atoms_as c.deref-3.result.now)) ∷ []))) (c.deref-2.ensures.value ∙ c.in_ok-beside.ensures)
+    ∙ ap (λ (a : List Name). with_formulas names c.new-cnf.result (map positive_formula (reduct (true_names 0 names model) rules) ++ (negated_atoms (false_names 0 names model) ++ Not (conjunction (atoms_as a)) ∷ []))) (c.deref-3.ensures.value ∙ c.in_ok-within.ensures)
+    ∙ ap (λ (k : ClauseList). with_formulas names k (smaller_formulas names rules model)) c.new-cnf.ensures

@@ -1,0 +1,46 @@
+-- What accepted certificates of default theories and programs show, and that each has a listing.
+use Rattle.std.specs.Prelude.{◌≡◌, ℕ, false, List, length, Some, slice_get}
+use Rattle.std.specs.List.{sum_by}
+use Rattle.mcs_sets.specs.Orders.{StateBefore}
+use Rattle.mcs_base.specs.Listings.{IsListing, IsInventory}
+use Rattle.mcs_system.specs.Plain.{Name, Formula, Item, ProgramRule, DefaultTheory, Program, System}
+use Rattle.mcs_system.specs.Systems.{IsProjectedEquilibrium}
+use Rattle.mcs_system.specs.Levels.{IsQuestionAt, IsCount}
+use Rattle.mcs_system.specs.Views.{IsAcceptedView}
+use Rattle.mcs_system.specs.Faults.{has_twins}
+use Rattle.mcs_cnf.specs.ClauseLists.{AreOver}
+use Rattle.mcs_evidence.specs.Defaults.{Verdict, AreOverItems, IsAcceptedDefault}
+use Rattle.mcs_evidence.specs.Programs.{ProgramShown, AreOverRules, AreAtomsOf, IsAcceptedProgram}
+
+-- an accepted certificate of a default theory shows the listing of what it accepts
+abbrev pub DefaultCertificatesAreSound : Type 0
+DefaultCertificatesAreSound = (names : List Name) (items : List Item) (beliefs : List Formula) (outputs : List ℕ) (verdicts : List Verdict)
+    → AreOverItems names items → AreOver names beliefs
+    → IsAcceptedDefault names items beliefs outputs verdicts → IsListing (IsAcceptedView (DefaultTheory items) beliefs) StateBefore outputs
+
+-- so does one of a program
+abbrev pub ProgramCertificatesAreSound : Type 0
+ProgramCertificatesAreSound = (names : List Name) (rules : List ProgramRule) (beliefs : List Formula) (outputs : List ℕ) (shown : ProgramShown)
+    → has_twins names ≡ false → AreOverRules names rules → AreAtomsOf names beliefs
+    → IsAcceptedProgram names rules beliefs outputs shown → IsListing (IsAcceptedView (Program rules) beliefs) StateBefore outputs
+
+-- what a default theory accepts, seen through some beliefs, has a listing
+abbrev pub DefaultTheoriesHaveAListing : Type 0
+DefaultTheoriesHaveAListing = (items : List Item) (beliefs : List Formula) → (outputs : List ℕ) × IsListing (IsAcceptedView (DefaultTheory items) beliefs) StateBefore outputs
+
+-- and what a program accepts
+abbrev pub ProgramsHaveAListing : Type 0
+ProgramsHaveAListing = (rules : List ProgramRule) (beliefs : List Formula) → (outputs : List ℕ) × IsListing (IsAcceptedView (Program rules) beliefs) StateBefore outputs
+
+-- the projected equilibria of a system have a listing, also where it is changed
+abbrev pub StatesHaveAListing : Type 0
+StatesHaveAListing = (m : System) (r1 r2 : ℕ) → (xs : List ℕ) × IsListing (IsProjectedEquilibrium m r1 r2) StateBefore xs
+
+-- a level has a number of questions
+abbrev pub CountsExist : Type 0
+CountsExist = (m : System) (level : ℕ) → (n : ℕ) × IsCount m level n
+
+-- journals that have just these questions have their number
+abbrev pub JournalsAreCounted : Type 0
+JournalsAreCounted = (m : System) (level : ℕ) (journals : List (List ℕ)) → length journals ≡ length m.contexts
+    → ((i : ℕ) (xs : List ℕ) → slice_get journals i ≡ Some xs → IsInventory (IsQuestionAt m level i) xs) → IsCount m level (sum_by (λ (xs : List ℕ). length xs) journals)

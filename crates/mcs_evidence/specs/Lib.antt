@@ -1,0 +1,4 @@
+pub mod Defaults
+pub mod Programs
+pub mod Laws
+pub mod Pushing

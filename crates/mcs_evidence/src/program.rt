@@ -1,0 +1,253 @@
+//! The clauses that belong to a program: of what is smaller than a model, of what is beside it, and of other states.
+
+ghost use Rattle.std.specs.Prelude.{◌≡◌, ◌<◌, ◌≤◌, ◌++◌, List, [], ◌∷◌, None, Some, cond, length, map, filter, IfOk, IfSome, IsTrue};
+ghost use Rattle.mcs_system.specs.Logic.{true_names, reduct};
+ghost use Rattle.mcs_system.specs.Plain as plain;
+ghost use Rattle.mcs_system.specs.Seen.{rule_of};
+ghost use Rattle.mcs_trace.specs.Clauses.{ClauseList};
+ghost use Rattle.mcs_cnf.specs.ClauseLists.{with_formulas, clause_list};
+ghost use Rattle.mcs_evidence.specs.Programs.{atoms_as, negated_atoms, conjunction, disjunction, false_names, is_broken_by, literals_from, positive_formula, rule_formula, smaller_formulas, beside_formula, other_formula, rest_formulas, AreOverRules};
+ghost use Rattle.mcs_evidence.specs.Pushing.{AreNamesOf, IsVariable, IsPart, HasOccurrences, HasConjunction};
+
+use crate::places::{is_broken, names_at, names_beside, some_among};
+use crate::pushing::{
+    all_of, atom_of, join, join_atoms, push_either, push_negated, push_rule, push_rules,
+};
+use mcs_base::{Memory, Vars};
+use mcs_cnf::{push_not, push_unit};
+use mcs_system::{Name, ProgRule};
+use mcs_trace::Cnf;
+use std::alloc::Global;
+
+/// Adds the clauses of the rules of the reduct by the atoms of the model.
+fn push_reduct(
+    alloc: Global,
+    cnf: &mut Cnf,
+    atoms: &[Name],
+    rules: &[ProgRule],
+    model: &[Name],
+) -> Result<(), Memory>
+    requires over { AreOverRules atoms.now (map rule_of rules.now) }
+    requires room { length atoms.now ≤ cnf.old.vars }
+    ensures grows { IfOk result (λ _. cnf.old.vars ≤ cnf.new.vars) }
+    ensures pushed { IfOk result (λ _. cnf.new ≡ with_formulas atoms.now cnf.old (map positive_formula (reduct model.now (map rule_of rules.now)))) }
+{
+    for rule in rules {
+        if !some_among(&rule.neg, model) {
+            push_rule(alloc, cnf, atoms, &rule.head, &rule.pos, &[])?;
+        }
+    }
+    Ok(())
+}
+
+/// Adds the clauses that say of each of the names that it is false.
+fn push_negations(
+    alloc: Global,
+    cnf: &mut Cnf,
+    atoms: &[Name],
+    names: &[Name],
+) -> Result<(), Memory>
+    requires over { AreNamesOf atoms.now names.now }
+    requires room { length atoms.now ≤ cnf.old.vars }
+    ensures grows { IfOk result (λ _. cnf.old.vars ≤ cnf.new.vars) }
+    ensures pushed { IfOk result (λ _. cnf.new ≡ with_formulas atoms.now cnf.old (negated_atoms names.now)) }
+{
+    for name in names {
+        let n = push_negated(alloc, cnf, atoms, name)?;
+        push_unit(alloc, cnf, n)?;
+    }
+    Ok(())
+}
+
+/// Adds the clauses of the negation of a whole conjunction, of which `all` is the number if it has parts.
+fn push_not_all(alloc: Global, cnf: &mut Cnf, all: Option<u64>) -> Result<(), Memory>
+    requires part { IsPart cnf.old all }
+    ensures grows { IfOk result (λ _. cnf.old.vars ≤ cnf.new.vars) }
+    ensures pushed { IfOk result (λ _. (names : List plain.Name) (start : ClauseList) (fs : List plain.Formula)
+        → HasConjunction names fs start cnf.old all → cnf.new ≡ with_formulas names start (plain.Not (conjunction fs) ∷ [])) }
+{
+    let x = all_of(alloc, cnf, all)?;
+    let n = push_not(alloc, cnf, x)?;
+    push_unit(alloc, cnf, n)
+}
+
+/// The clauses that are satisfied by what is smaller than the model and satisfies the reduct by it.
+pub fn smaller_clauses(
+    alloc: Global,
+    atoms: &[Name],
+    rules: &[ProgRule],
+    model: Vars,
+) -> Result<Cnf, Memory>
+    requires few { length atoms.now ≤ 64 }
+    requires rules { AreOverRules atoms.now (map rule_of rules.now) }
+    ensures { IfOk result (λ f. f ≡ clause_list atoms.now (smaller_formulas atoms.now (map rule_of rules.now) model)) }
+{
+    let within = names_at(alloc, atoms, model)?;
+    let beside = names_beside(alloc, atoms, model)?;
+    let mut cnf = Cnf::new(alloc, atoms.len() as u64);
+    push_reduct(alloc, &mut cnf, atoms, rules, &within)?;
+    push_negations(alloc, &mut cnf, atoms, &beside)?;
+    let all = join_atoms(alloc, &mut cnf, atoms, &within, None)?;
+    push_not_all(alloc, &mut cnf, all)?;
+    Ok(cnf)
+}
+
+/// Adds to a conjunction, of each rule that the names break, that one of its negative atoms is true.
+fn join_broken(
+    alloc: Global,
+    cnf: &mut Cnf,
+    atoms: &[Name],
+    rules: &[ProgRule],
+    names: &[Name],
+    mut all: Option<u64>,
+) -> Result<Option<u64>, Memory>
+    requires over { AreOverRules atoms.now (map rule_of rules.now) }
+    requires room { length atoms.now ≤ cnf.old.vars }
+    requires part { IsPart cnf.old all }
+    ensures grows { IfOk result (λ _. cnf.old.vars ≤ cnf.new.vars) }
+    ensures part { IfOk result (IsPart cnf.new) }
+    ensures joined { IfOk result (λ o. (start : ClauseList) (fs : List plain.Formula) → HasConjunction atoms.now fs start cnf.old all
+        → HasConjunction atoms.now (fs ++ map (λ (r : plain.ProgramRule). disjunction (atoms_as r.neg)) (filter (is_broken_by names.now) (map rule_of rules.now))) start cnf.new o) }
+{
+    for rule in rules {
+        if is_broken(names, rule) {
+            let x = push_either(alloc, cnf, atoms, &rule.neg)?;
+            let n = join(alloc, cnf, all, x)?;
+            all = Some(n);
+        }
+    }
+    Ok(all)
+}
+
+/// Adds the clauses that are false where the atoms at these places are less than a model and satisfy the reduct by it.
+pub fn push_beside(
+    alloc: Global,
+    cnf: &mut Cnf,
+    atoms: &[Name],
+    rules: &[ProgRule],
+    less: Vars,
+) -> Result<(), Memory>
+    requires few { length atoms.now ≤ 64 }
+    requires rules { AreOverRules atoms.now (map rule_of rules.now) }
+    requires room { length atoms.now ≤ cnf.old.vars }
+    ensures grows { IfOk result (λ _. cnf.old.vars ≤ cnf.new.vars) }
+    ensures pushed { IfOk result (λ _. cnf.new ≡ with_formulas atoms.now cnf.old (beside_formula atoms.now (map rule_of rules.now) less ∷ [])) }
+{
+    let within = names_at(alloc, atoms, less)?;
+    let beside = names_beside(alloc, atoms, less)?;
+    let all = join_atoms(alloc, cnf, atoms, &within, None)?;
+    let x = push_either(alloc, cnf, atoms, &beside)?;
+    let all = join(alloc, cnf, all, x)?;
+    let all = join_broken(alloc, cnf, atoms, rules, &within, Some(all))?;
+    push_not_all(alloc, cnf, all)
+}
+
+/// Adds the belief to a conjunction, or its negation.
+fn push_literal(
+    alloc: Global,
+    cnf: &mut Cnf,
+    atoms: &[Name],
+    belief: &Name,
+    holds: bool,
+) -> Result<u64, Memory>
+    requires over { AreNamesOf atoms.now (belief.now ∷ []) }
+    requires room { length atoms.now ≤ cnf.old.vars }
+    ensures number { IfOk result (IsVariable cnf.new) }
+    ensures grows { IfOk result (λ _. cnf.old.vars ≤ cnf.new.vars) }
+    ensures occurs { IfOk result
+        (HasOccurrences atoms.now (cond holds (plain.Atom belief.now) (plain.Not (plain.Atom belief.now))) cnf.old cnf.new) }
+{
+    if holds {
+        Ok(atom_of(cnf, atoms, belief))
+    } else {
+        push_negated(alloc, cnf, atoms, belief)
+    }
+}
+
+/// Adds the clauses that are false where exactly the beliefs at these places are true.
+pub fn push_other(
+    alloc: Global,
+    cnf: &mut Cnf,
+    atoms: &[Name],
+    beliefs: &[&Name],
+    state: Vars,
+) -> Result<(), Memory>
+    requires few { length beliefs.now ≤ 64 }
+    requires beliefs { AreNamesOf atoms.now (map (λ b. b.now) beliefs.now) }
+    requires room { length atoms.now ≤ cnf.old.vars }
+    ensures grows { IfOk result (λ _. cnf.old.vars ≤ cnf.new.vars) }
+    ensures pushed { IfOk result (λ _. cnf.new ≡ with_formulas atoms.now cnf.old
+        (other_formula (map plain.Atom (map (λ b. b.now) beliefs.now)) state ∷ [])) }
+{
+    let mut all = None;
+    for (k, belief) in beliefs.iter().enumerate() {
+        let x = push_literal(alloc, cnf, atoms, belief, state.has(k as u32))?;
+        let n = join(alloc, cnf, all, x)?;
+        all = Some(n);
+    }
+    push_not_all(alloc, cnf, all)
+}
+
+/// Adds the clauses of what is beside models, in the order of the smaller sets.
+fn push_besides(
+    alloc: Global,
+    cnf: &mut Cnf,
+    atoms: &[Name],
+    rules: &[ProgRule],
+    smaller: &[Vars],
+) -> Result<(), Memory>
+    requires few { length atoms.now ≤ 64 }
+    requires rules { AreOverRules atoms.now (map rule_of rules.now) }
+    requires room { length atoms.now ≤ cnf.old.vars }
+    ensures grows { IfOk result (λ _. cnf.old.vars ≤ cnf.new.vars) }
+    ensures pushed { IfOk result (λ _. cnf.new ≡ with_formulas atoms.now cnf.old (map (beside_formula atoms.now (map rule_of rules.now)) smaller.now)) }
+{
+    for less in smaller {
+        push_beside(alloc, cnf, atoms, rules, *less)?;
+    }
+    Ok(())
+}
+
+/// Adds the clauses that the state is another one than each of these.
+fn push_others(
+    alloc: Global,
+    cnf: &mut Cnf,
+    atoms: &[Name],
+    beliefs: &[&Name],
+    states: &[Vars],
+) -> Result<(), Memory>
+    requires few { length beliefs.now ≤ 64 }
+    requires beliefs { AreNamesOf atoms.now (map (λ b. b.now) beliefs.now) }
+    requires room { length atoms.now ≤ cnf.old.vars }
+    ensures grows { IfOk result (λ _. cnf.old.vars ≤ cnf.new.vars) }
+    ensures pushed { IfOk result (λ _. cnf.new ≡ with_formulas atoms.now cnf.old
+        (map (other_formula (map plain.Atom (map (λ b. b.now) beliefs.now))) states.now)) }
+{
+    for state in states {
+        push_other(alloc, cnf, atoms, beliefs, *state)?;
+    }
+    Ok(())
+}
+
+/// The clauses that are satisfied by a model that has none of the smaller sets below it and a state of its own.
+pub fn rest_clauses(
+    alloc: Global,
+    atoms: &[Name],
+    rules: &[ProgRule],
+    beliefs: &[&Name],
+    smaller: &[Vars],
+    states: &[Vars],
+) -> Result<Cnf, Memory>
+    requires few { length atoms.now ≤ 64 }
+    requires few_beliefs { length beliefs.now ≤ 64 }
+    requires rules { AreOverRules atoms.now (map rule_of rules.now) }
+    requires beliefs { AreNamesOf atoms.now (map (λ b. b.now) beliefs.now) }
+    ensures { IfOk result (λ f. f ≡ clause_list atoms.now
+        (rest_formulas atoms.now (map rule_of rules.now) (map plain.Atom (map (λ b. b.now) beliefs.now)) smaller.now states.now)) }
+{
+    let mut cnf = Cnf::new(alloc, atoms.len() as u64);
+    push_rules(alloc, &mut cnf, atoms, rules)?;
+    push_besides(alloc, &mut cnf, atoms, rules, smaller)?;
+    push_others(alloc, &mut cnf, atoms, beliefs, states)?;
+    Ok(cnf)
+}

@@ -1,0 +1,216 @@
+//! The clauses of conjunctions and disjunctions of names, which are added name by name, and of the rules of programs. No
+//! formula is made.
+
+ghost use Rattle.std.specs.Prelude.{◌≡◌, ◌<◌, ◌≤◌, ◌++◌, List, [], ◌∷◌, None, Some, length, map, IfOk, IfSome, IsTrue};
+ghost use Rattle.mcs_system.specs.Logic.{is_in};
+ghost use Rattle.mcs_system.specs.Plain as plain;
+ghost use Rattle.mcs_system.specs.Seen.{rule_of};
+ghost use Rattle.mcs_trace.specs.Clauses.{ClauseList};
+ghost use Rattle.mcs_cnf.specs.ClauseLists.{with_formulas, and_clauses, or_clauses};
+ghost use Rattle.mcs_evidence.specs.Programs.{atoms_as, negated_atoms, conjunction, disjunction, rule_formula, AreOverRules, IsOverRule};
+ghost use Rattle.mcs_evidence.specs.Pushing.{AreNamesOf, IsVariable, IsPart, HasOccurrences, HasConjunction, HasDisjunction, IsJoined};
+
+use mcs_base::Memory;
+use mcs_cnf::{
+    atom_number, push_and, push_falsity, push_implies, push_not, push_or, push_truth, push_unit,
+};
+use mcs_system::{Name, ProgRule};
+use mcs_trace::Cnf;
+use std::alloc::Global;
+
+/// Adds an occurrence of what `all` is the number of and of `x`, whose number it gives; it is `x` itself where there was
+/// nothing before.
+pub fn join(alloc: Global, cnf: &mut Cnf, all: Option<u64>, x: u64) -> Result<u64, Memory>
+    requires part { IsPart cnf.old all }
+    requires next { IsVariable cnf.old x }
+    ensures number { IfOk result (IsVariable cnf.new) }
+    ensures grows { IfOk result (λ _. cnf.old.vars ≤ cnf.new.vars) }
+    ensures joined { IfOk result (IsJoined and_clauses cnf.old cnf.new all x) }
+{
+    match all {
+        None => Ok(x),
+        Some(y) => push_and(alloc, cnf, y, x),
+    }
+}
+
+/// The same with a disjunction.
+fn join_either(alloc: Global, cnf: &mut Cnf, any: Option<u64>, x: u64) -> Result<u64, Memory>
+    requires part { IsPart cnf.old any }
+    requires next { IsVariable cnf.old x }
+    ensures number { IfOk result (IsVariable cnf.new) }
+    ensures grows { IfOk result (λ _. cnf.old.vars ≤ cnf.new.vars) }
+    ensures joined { IfOk result (IsJoined or_clauses cnf.old cnf.new any x) }
+{
+    match any {
+        None => Ok(x),
+        Some(y) => push_or(alloc, cnf, y, x),
+    }
+}
+
+/// The number of an atom that is one of the names.
+#[tactic(auto, using(mcs_cnf::proofs::NumberLemmas::atom_positive, mcs_cnf::proofs::NumberLemmas::atom_within))]
+pub fn atom_of(cnf: &Cnf, atoms: &[Name], name: &Name) -> u64
+    requires over { IsTrue (is_in name.now atoms.now) }
+    requires room { length atoms.now ≤ cnf.now.vars }
+    ensures number { IsVariable cnf.now result }
+    ensures occurs { HasOccurrences atoms.now (plain.Atom name.now) cnf.now cnf.now result }
+{
+    atom_number(atoms, name)
+}
+
+/// Adds an occurrence of the negation of an atom that is one of the names; its number.
+pub fn push_negated(
+    alloc: Global,
+    cnf: &mut Cnf,
+    atoms: &[Name],
+    name: &Name,
+) -> Result<u64, Memory>
+    requires over { IsTrue (is_in name.now atoms.now) }
+    requires room { length atoms.now ≤ cnf.old.vars }
+    ensures number { IfOk result (IsVariable cnf.new) }
+    ensures grows { IfOk result (λ _. cnf.old.vars ≤ cnf.new.vars) }
+    ensures occurs { IfOk result
+        (HasOccurrences atoms.now (plain.Not (plain.Atom name.now)) cnf.old cnf.new) }
+{
+    let x = atom_of(cnf, atoms, name);
+    push_not(alloc, cnf, x)
+}
+
+/// Adds the names, as atoms, to a conjunction, of which `all` is the number if it has parts; its number from then on.
+pub fn join_atoms(
+    alloc: Global,
+    cnf: &mut Cnf,
+    atoms: &[Name],
+    names: &[Name],
+    mut all: Option<u64>,
+) -> Result<Option<u64>, Memory>
+    requires over { AreNamesOf atoms.now names.now }
+    requires room { length atoms.now ≤ cnf.old.vars }
+    requires part { IsPart cnf.old all }
+    ensures grows { IfOk result (λ _. cnf.old.vars ≤ cnf.new.vars) }
+    ensures part { IfOk result (IsPart cnf.new) }
+    ensures joined { IfOk result (λ o. (start : ClauseList) (fs : List plain.Formula)
+        → HasConjunction atoms.now fs start cnf.old all → HasConjunction atoms.now (fs ++ atoms_as names.now) start cnf.new o) }
+{
+    for name in names {
+        let x = atom_of(cnf, atoms, name);
+        let n = join(alloc, cnf, all, x)?;
+        all = Some(n);
+    }
+    Ok(all)
+}
+
+/// Adds the negations of the names to a conjunction in the same way.
+pub fn join_negated(
+    alloc: Global,
+    cnf: &mut Cnf,
+    atoms: &[Name],
+    names: &[Name],
+    mut all: Option<u64>,
+) -> Result<Option<u64>, Memory>
+    requires over { AreNamesOf atoms.now names.now }
+    requires room { length atoms.now ≤ cnf.old.vars }
+    requires part { IsPart cnf.old all }
+    ensures grows { IfOk result (λ _. cnf.old.vars ≤ cnf.new.vars) }
+    ensures part { IfOk result (IsPart cnf.new) }
+    ensures joined { IfOk result (λ o. (start : ClauseList) (fs : List plain.Formula)
+        → HasConjunction atoms.now fs start cnf.old all → HasConjunction atoms.now (fs ++ negated_atoms names.now) start cnf.new o) }
+{
+    for name in names {
+        let x = push_negated(alloc, cnf, atoms, name)?;
+        let n = join(alloc, cnf, all, x)?;
+        all = Some(n);
+    }
+    Ok(all)
+}
+
+/// The number of a whole conjunction, which is true where it has no parts.
+pub fn all_of(alloc: Global, cnf: &mut Cnf, all: Option<u64>) -> Result<u64, Memory>
+    requires part { IsPart cnf.old all }
+    ensures number { IfOk result (IsVariable cnf.new) }
+    ensures grows { IfOk result (λ _. cnf.old.vars ≤ cnf.new.vars) }
+    ensures whole { IfOk result (λ n. (names : List plain.Name) (start : ClauseList) (fs : List plain.Formula)
+        → HasConjunction names fs start cnf.old all → HasOccurrences names (conjunction fs) start cnf.new n) }
+{
+    match all {
+        None => push_truth(alloc, cnf),
+        Some(n) => Ok(n),
+    }
+}
+
+/// The number of a whole disjunction, which is false where it has no parts.
+fn any_of(alloc: Global, cnf: &mut Cnf, any: Option<u64>) -> Result<u64, Memory>
+    requires part { IsPart cnf.old any }
+    ensures number { IfOk result (IsVariable cnf.new) }
+    ensures grows { IfOk result (λ _. cnf.old.vars ≤ cnf.new.vars) }
+    ensures whole { IfOk result (λ n. (names : List plain.Name) (start : ClauseList) (fs : List plain.Formula)
+        → HasDisjunction names fs start cnf.old any → HasOccurrences names (disjunction fs) start cnf.new n) }
+{
+    match any {
+        None => push_falsity(alloc, cnf),
+        Some(n) => Ok(n),
+    }
+}
+
+/// Adds the disjunction of the names; its number.
+pub fn push_either(
+    alloc: Global,
+    cnf: &mut Cnf,
+    atoms: &[Name],
+    names: &[Name],
+) -> Result<u64, Memory>
+    requires over { AreNamesOf atoms.now names.now }
+    requires room { length atoms.now ≤ cnf.old.vars }
+    ensures number { IfOk result (IsVariable cnf.new) }
+    ensures grows { IfOk result (λ _. cnf.old.vars ≤ cnf.new.vars) }
+    ensures occurs { IfOk result (HasOccurrences atoms.now (disjunction (atoms_as names.now)) cnf.old cnf.new) }
+{
+    let mut any = None;
+    for name in names {
+        let x = atom_of(cnf, atoms, name);
+        let n = join_either(alloc, cnf, any, x)?;
+        any = Some(n);
+    }
+    any_of(alloc, cnf, any)
+}
+
+/// Adds the clauses of the rule of these parts.
+pub fn push_rule(
+    alloc: Global,
+    cnf: &mut Cnf,
+    atoms: &[Name],
+    head: &[Name],
+    pos: &[Name],
+    neg: &[Name],
+) -> Result<(), Memory>
+    requires over { IsOverRule atoms.now (record { head = head.now; pos = pos.now; neg = neg.now }) }
+    requires room { length atoms.now ≤ cnf.old.vars }
+    ensures grows { IfOk result (λ _. cnf.old.vars ≤ cnf.new.vars) }
+    ensures pushed { IfOk result (λ _. cnf.new ≡ with_formulas atoms.now cnf.old
+        (rule_formula (record { head = head.now; pos = pos.now; neg = neg.now }) ∷ [])) }
+{
+    let body = join_atoms(alloc, cnf, atoms, pos, None)?;
+    let body = join_negated(alloc, cnf, atoms, neg, body)?;
+    let x = all_of(alloc, cnf, body)?;
+    let y = push_either(alloc, cnf, atoms, head)?;
+    let n = push_implies(alloc, cnf, x, y)?;
+    push_unit(alloc, cnf, n)
+}
+
+/// Adds the clauses of the rules.
+pub fn push_rules(
+    alloc: Global,
+    cnf: &mut Cnf,
+    atoms: &[Name],
+    rules: &[ProgRule],
+) -> Result<(), Memory>
+    requires over { AreOverRules atoms.now (map rule_of rules.now) }
+    requires room { length atoms.now ≤ cnf.old.vars }
+    ensures grows { IfOk result (λ _. cnf.old.vars ≤ cnf.new.vars) }
+    ensures pushed { IfOk result (λ _. cnf.new ≡ with_formulas atoms.now cnf.old (map rule_formula (map rule_of rules.now))) }
+{
+    for rule in rules {
+        push_rule(alloc, cnf, atoms, &rule.head, &rule.pos, &rule.neg)?;
+    }
+    Ok(())
+}
