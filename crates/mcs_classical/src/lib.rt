@@ -7,3 +7,4 @@ mod refuting;
 
 pub use beliefs::{outputs, outputs_from};
 pub use consequence::{entails, entails_from};
+pub use refuting::true_places;

@@ -7,7 +7,7 @@ use mcs_base::Vars;
 
 /// The places, below `count`, of the values that are true.
 #[tactic(auto, unfolding(mcs_sets::specs::Sets::such_that))]
-pub(crate) fn true_places(values: &[bool], count: usize) -> Vars
+pub fn true_places(values: &[bool], count: usize) -> Vars
     requires few { count ≤ 64 }
     requires values { count ≤ length values.now }
     ensures { result ≡ such_that count (λ k. get_or values.now k false) }

@@ -1,0 +1,6 @@
+pub mod General
+pub mod PushLemmas
+pub mod AskLemmas
+pub mod OrderLemmas
+pub mod JudgeLemmas
+pub mod TheoryLemmas

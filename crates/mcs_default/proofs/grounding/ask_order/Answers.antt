@@ -1,0 +1,97 @@
+use Rattle.std.proofs.Common.{◌≡◌, ◌<◌, ◌≤◌, ◌^◌, ◌∙◌, ◌∷◌, ◌++◌, ℕ, List, [], length, map, sym, ap, subst, arith, Some, slice_get, slice_index_or}
+use Rattle.mcs_sets.specs.Sets.{minus, single, size, Within}
+use Rattle.mcs_sets.proofs.Lattice.{size-none, none_from_size, size-without, minus_within, minus-none}
+use Rattle.mcs_base.proofs.Lists.{slice_get-map_at}
+use Rattle.mcs_system.specs.Plain.{Default}
+use Rattle.mcs_system.specs.Seen.{default_of}
+use Rattle.mcs_trace.specs.Clauses.{ClauseList}
+use Rattle.mcs_cnf.specs.ClauseLists.{with_formulas}
+use Rattle.mcs_cnf.specs.Entailments.{entailment_of}
+use Rattle.std.proofs.lemmas.List.{map_push, length-map}
+use Rattle.mcs_evidence.specs.Defaults.{IsShown, AreDenied}
+use Rattle.mcs_default.specs.Theories.{IsOverDefault, consequents}
+use Rattle.mcs_default.specs.Told.{IsToldNext, IsNextInRange, AreNumbersOf, prerequisites}
+use Rattle.mcs_default.proofs.General.{each_read, grown_room}
+use Rattle.mcs_default.proofs.PushLemmas.{none-with}
+use Rattle.mcs_default.proofs.OrderLemmas.{numbers-none, numbers-more, derived-start, derived-more, derived-all, grown-more, same_default, stuck, not_all, part_small}
+use Rattle.mcs_default.proofs.grounding.ask_order.Goals as goal
+
+pub loop-alloc-init : goal.loop-alloc-init
+loop-alloc-init c = record {
+  part = λ k member. member;
+  grown = ([], sym (none-with c.args.atoms.now c.args.known.now));
+  numbers = numbers-none c.args.set c.new-order.result.items c.new-order.ensures.items;
+  derived = λ fs is. derived-start c.args.atoms.now fs (map (λ d. default_of d.now) c.args.defaults.now) c.args.set c.new-order.result.items c.new-pres.result.items c.args.known.now c.new-order.ensures.items c.new-pres.ensures.items is;
+}
+
+pub ask_next-requires-clause-room : goal.ask_next-requires-clause-room
+ask_next-requires-clause-room c = grown_room c.args.atoms.now c.args.known.now c.loop-alloc.known c.loop-alloc.invariant.grown.0 c.requires.room c.loop-alloc.invariant.grown.1
+
+pub push_formula-requires-clause-over : goal.push_formula-requires-clause-over
+push_formula-requires-clause-over c =
+    let found = subst (IsNextInRange (length c.args.defaults.now) c.loop-alloc.left) c.in-Supported.is c.in_ok-index.ensures.in_range in
+    (each_read (IsOverDefault c.args.atoms.now) (λ d. default_of d.now) c.args.defaults.now c.in-Supported.index c.index-defaults-index.result found.0 c.requires.over).2
+
+pub push_formula-requires-clause-room : goal.push_formula-requires-clause-room
+push_formula-requires-clause-room c = subst (λ (x : ClauseList). length c.args.atoms.now ≤ x.vars) (sym c.in_ok-index.ensures.kept)
+    (grown_room c.args.atoms.now c.args.known.now c.loop-alloc.known c.loop-alloc.invariant.grown.0 c.requires.room c.loop-alloc.invariant.grown.1)
+
+pub loop-alloc-smaller : goal.loop-alloc-smaller
+loop-alloc-smaller c =
+    let found = subst (IsNextInRange (length c.args.defaults.now) c.loop-alloc.left) c.in-Supported.is c.in_ok-index.ensures.in_range in
+    omega (arith, size-without c.loop-alloc.left c.in-Supported.index found.1, ap size c.without-left.ensures)
+
+pub loop-alloc-preserved : goal.loop-alloc-preserved
+loop-alloc-preserved c =
+    let names = c.args.atoms.now in
+    let set = c.args.set in
+    let left = c.loop-alloc.left in
+    let k = c.in-Supported.index in
+    let x = slice_index_or c.args.defaults.now k c.index-defaults-index.result in
+    let d : Default = default_of x.now in
+    let before = c.loop-alloc.invariant in
+    let found = subst (IsNextInRange (length c.args.defaults.now) left) c.in-Supported.is c.in_ok-index.ensures.in_range in
+    let pushed : c.push_formula.new.cnf ≡ with_formulas names c.loop-alloc.known (d.conclusion ∷ []) =
+    c.in_ok-push_formula-in-Supported.ensures.ok ∙ ap (λ (y : ClauseList). with_formulas names y (d.conclusion ∷ [])) c.in_ok-index.ensures.kept in
+    rw c.without-left.ensures (record {
+      part = λ j member. before.part j (minus_within left (single k) j member);
+      grown = grown-more names c.args.known.now c.loop-alloc.known c.push_formula.new.cnf d.conclusion before.grown pushed;
+      numbers = numbers-more set left k c.loop-alloc.order.items c.push-in-Supported.new.self.items (before.part k found.1) found.1 c.in_ok-push-in-Supported-2.ensures.items before.numbers;
+      derived = λ fs is. (let derived = before.derived fs is in
+          let at : slice_get (map (λ d. default_of d.now) c.args.defaults.now) k ≡ Some d = slice_get-map_at (λ d. default_of d.now) c.args.defaults.now k c.index-defaults-index.result found.0 in
+          let told = subst (IsToldNext names derived.formulas (map (λ d. default_of d.now) c.args.defaults.now) left) c.in-Supported.is (c.in_ok-index.ensures.told derived.formulas derived.clauses) in
+          let shown = subst (λ (d' : Default). IsShown names derived.formulas d'.pre (entailment_of c.in-Supported.pre)) (same_default (map (λ d. default_of d.now) c.args.defaults.now) k told.0 d told.1 at) told.2 in
+          derived-more names fs (map (λ d. default_of d.now) c.args.defaults.now) set left k d c.loop-alloc.order.items c.push-in-Supported.new.self.items (map entailment_of c.loop-alloc.pres.items) (map entailment_of c.push.new.self.items) (entailment_of c.in-Supported.pre) c.loop-alloc.known c.push_formula.new.cnf
+          at (each_read (IsOverDefault names) (λ d. default_of d.now) c.args.defaults.now k c.index-defaults-index.result found.0 c.requires.over).2 c.in_ok-push-in-Supported-2.ensures.items
+          (ap (map entailment_of) c.in_ok-push-in-Supported.ensures.items ∙ map_push entailment_of c.loop-alloc.pres.items c.in-Supported.pre) pushed derived shown);
+    })
+
+pub overflow_cast-closed : goal.overflow_cast-closed
+overflow_cast-closed c =
+    let is : c.number-closed.result ≡ minus c.args.set c.loop-alloc.left = c.number-closed.ensures ∙ c.minus.ensures in
+    let small : minus c.args.set c.loop-alloc.left < 2 ^ 10 = part_small c.args.set c.loop-alloc.left (length (map (λ d. default_of d.now) c.args.defaults.now)) (omega (arith, length-map c.args.defaults.now (λ d. default_of d.now), c.requires.few_defaults)) c.requires.set in
+    omega arith
+
+pub returns-in-Stuck-clause-told : goal.returns-in-Stuck-clause-told
+returns-in-Stuck-clause-told c fs is =
+    let names = c.args.atoms.now in
+    let set = c.args.set in
+    let left = c.loop-alloc.left in
+    let ds : List Default = map (λ d. default_of d.now) c.args.defaults.now in
+    let derived = c.loop-alloc.invariant.derived fs is in
+    let told = subst (IsToldNext names derived.formulas ds left) c.in-Stuck.is (c.in_ok-index.ensures.told derived.formulas derived.clauses) in
+    let some : ¬ (left ≡ 0) = λ none. (let empty : size left ≡ 0 = ap (λ (s : ℕ). size s) none ∙ size-none in absurd (omega (arith, c.count.ensures.number, c.loop-alloc-test.true))) in
+    subst (λ (s : ℕ). Within s set × (¬ (s ≡ set)) × AreDenied names (fs ++ consequents ds s) (prerequisites ds (minus set s)) (map entailment_of c.in-Stuck.denied.items)) (sym (c.number-closed.ensures ∙ c.minus.ensures)) (
+      minus_within set left,
+      not_all set left c.loop-alloc.invariant.part some,
+      stuck names fs ds set left c.loop-alloc.order.items (map entailment_of c.loop-alloc.pres.items) (map entailment_of c.in-Stuck.denied.items) c.loop-alloc.known c.loop-alloc.invariant.part derived told,
+    )
+
+pub returns-clause-told : goal.returns-clause-told
+returns-clause-told c fs is =
+    let set = c.args.set in
+    let none : c.loop-alloc.left ≡ 0 = none_from_size c.loop-alloc.left (omega (arith, c.count.ensures.number, c.loop-alloc-test.false)) in
+    let all : minus set c.loop-alloc.left ≡ set = ap (minus set) none ∙ minus-none set in (
+      subst (λ (s : ℕ). AreNumbersOf s c.loop-alloc.order.items) all c.loop-alloc.invariant.numbers,
+      λ items same. derived-all c.args.atoms.now fs (map (λ d. default_of d.now) c.args.defaults.now) (minus set c.loop-alloc.left) c.loop-alloc.order.items (map entailment_of c.loop-alloc.pres.items) c.loop-alloc.known (c.loop-alloc.invariant.derived fs is) items same,
+    )

@@ -1,0 +1,14 @@
+use Rattle.std.proofs.Common.{◌≡◌, List, map}
+use Rattle.mcs_system.specs.Plain.{Item}
+use Rattle.mcs_system.specs.Seen.{default_of, formula_of}
+use Rattle.mcs_evidence.specs.Defaults.{Verdict}
+use Rattle.mcs_default.specs.Theories.{AreParts}
+use Rattle.mcs_default.proofs.JudgeLemmas.{AreJudged}
+use Rattle.mcs_default.proofs.listing.list_all.Given as goal
+
+-- there are verdicts of which these are the views
+abbrev pub invariant-loop-number : goal.invariant-loop-number
+invariant-loop-number l = record {
+  kept : l.known ≡ l.fn.known;
+  judged : (items : List Item) → AreParts l.atoms items (map (λ d. default_of d.now) l.defaults) l.fn.known → (vs : List Verdict) × AreJudged l.atoms items (map (λ b. formula_of b.now) l.beliefs) l.number l.views.items vs;
+}

@@ -1,0 +1,2 @@
+pub mod Theories
+pub mod Told

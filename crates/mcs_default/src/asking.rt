@@ -1,0 +1,136 @@
+//! Questions about one default.
+
+ghost use Rattle.std.specs.Prelude.{◌≡◌, ◌≤◌, ◌+◌, List, false, length, map, IfOk};
+ghost use Rattle.mcs_system.specs.Faults.{has_twins};
+ghost use Rattle.mcs_system.specs.Plain as plain;
+ghost use Rattle.mcs_system.specs.Seen.{formula_of, default_of};
+ghost use Rattle.mcs_cnf.specs.ClauseLists.{IsOver, AreOver};
+ghost use Rattle.mcs_cnf.specs.Entailments.{entailment_of, says_yes, IsAcceptedEntailment};
+ghost use Rattle.mcs_default.specs.Theories.{AreClausesOf, IsOverDefault};
+ghost use Rattle.mcs_default.specs.Told.{IsToldOfJusts, IsToldOfDefault};
+
+use mcs_base::Memory;
+use mcs_classical::entails_from;
+use mcs_system::{Default, Formula, Name};
+use mcs_trace::{Cnf, Entail, Outside};
+use std::alloc::Global;
+
+/// What is told of the justifications of a default.
+#[derive(Drop)]
+pub(crate) enum Justs {
+    /// No negation of one follows.
+    Allowed(Vec<Entail>),
+    /// The negation of the one of this number follows.
+    Blocked(u32, Entail),
+}
+
+/// What is told of a default.
+#[derive(Drop)]
+pub(crate) enum Standing {
+    /// It does not apply.
+    Absent(Outside),
+    /// It applies: the prerequisite follows, and no negation of a justification does.
+    Applies(Entail, Vec<Entail>),
+}
+
+/// Whether the entailment says `yes`.
+pub(crate) fn says_yes(entail: &Entail) -> bool
+    ensures { result ≡ says_yes (entailment_of entail.now) }
+{
+    match entail {
+        Entail::Yes(_) => true,
+        Entail::No(_) => false,
+    }
+}
+
+/// The number, from 1, of what stands at the index. Certificates have no numbers from 2^32 on: there the answer is want
+/// of memory.
+fn numbered(index: usize) -> Result<u32, Memory>
+    ensures { IfOk result (λ n. n ≡ index + 1) }
+{
+    if index >= 0xffff_ffff {
+        return Err(Memory);
+    }
+    Ok(index as u32 + 1)
+}
+
+/// Whether the negation of the formula follows, as `entails_from` tells it of the formula.
+fn refutes_from(
+    alloc: Global,
+    known: &mut Cnf,
+    formula: &Formula,
+    atoms: &[Name],
+) -> Result<Entail, Memory>
+    requires few { length atoms.now ≤ 64 }
+    requires different { has_twins atoms.now ≡ false }
+    requires over { IsOver atoms.now (formula_of formula.now) }
+    requires room { length atoms.now ≤ known.old.vars }
+    ensures kept { known.new ≡ known.old }
+    ensures accepted { IfOk result (λ e. (fs : List plain.Formula) → AreClausesOf atoms.now fs known.old
+        → IsAcceptedEntailment atoms.now fs (plain.Not (formula_of formula.now)) (entailment_of e)) }
+{
+    let goal = Formula::Not(Box::new(alloc, formula.copy(alloc)?)?);
+    let entail = entails_from(alloc, known, &goal, atoms);
+    drop(goal);
+    entail
+}
+
+/// Asks of each justification whether its negation follows, up to the first of which it does.
+pub(crate) fn ask_justs(
+    alloc: Global,
+    known: &mut Cnf,
+    justs: &[Formula],
+    atoms: &[Name],
+) -> Result<Justs, Memory>
+    requires few { length atoms.now ≤ 64 }
+    requires different { has_twins atoms.now ≡ false }
+    requires over { AreOver atoms.now (map formula_of justs.now) }
+    requires room { length atoms.now ≤ known.old.vars }
+    ensures kept { known.new ≡ known.old }
+    ensures told { IfOk result (λ told. (fs : List plain.Formula) → AreClausesOf atoms.now fs known.old
+        → IsToldOfJusts atoms.now fs (map formula_of justs.now) told) }
+{
+    let mut allowed = Vec::new(alloc);
+    for (index, just) in justs.iter().enumerate() {
+        let number = numbered(index)?;
+        let entail = refutes_from(alloc, known, just, atoms)?;
+        if says_yes(&entail) {
+            return Ok(Justs::Blocked(number, entail));
+        }
+        allowed.push(entail)?;
+    }
+    Ok(Justs::Allowed(allowed))
+}
+
+/// Asks whether the default, which has this number, applies.
+pub(crate) fn ask_default(
+    alloc: Global,
+    known: &mut Cnf,
+    default: &Default,
+    number: u32,
+    atoms: &[Name],
+) -> Result<Standing, Memory>
+    requires few { length atoms.now ≤ 64 }
+    requires different { has_twins atoms.now ≡ false }
+    requires over { IsOverDefault atoms.now (default_of default.now) }
+    requires room { length atoms.now ≤ known.old.vars }
+    ensures kept { known.new ≡ known.old }
+    ensures told { IfOk result (λ told. (fs : List plain.Formula) → AreClausesOf atoms.now fs known.old
+        → IsToldOfDefault atoms.now fs (default_of default.now) number told) }
+{
+    let pre = entails_from(alloc, known, &default.pre, atoms)?;
+    if !says_yes(&pre) {
+        return Ok(Standing::Absent(Outside::Unsupported(number, pre)));
+    }
+    match ask_justs(alloc, known, &default.justs, atoms) {
+        Ok(Justs::Allowed(justs)) => Ok(Standing::Applies(pre, justs)),
+        Ok(Justs::Blocked(just, entail)) => {
+            drop(pre);
+            Ok(Standing::Absent(Outside::Blocked(number, just, entail)))
+        }
+        Err(want) => {
+            drop(pre);
+            Err(want)
+        }
+    }
+}

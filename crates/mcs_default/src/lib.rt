@@ -1,0 +1,12 @@
+//! The extensions of default theories (Reiter 1980), seen through beliefs, and what shows that they are all.
+#![tactic(auto)]
+
+mod asking;
+mod grounding;
+mod inside;
+mod listing;
+mod outside;
+mod theory;
+mod verdict;
+
+pub use listing::{extensions, extensions_from, list_extensions};

@@ -1,0 +1,169 @@
+//! The extensions of a default theory.
+
+ghost use Rattle.std.specs.Prelude.{◌≡◌, ◌≤◌, ◌++◌, ◌^◌, List, false, length, map, IfOk, OnOk};
+ghost use Rattle.mcs_sets.specs.Orders.{StateBefore};
+ghost use Rattle.mcs_base.specs.Listings.{IsListing};
+ghost use Rattle.mcs_system.specs.Faults.{has_twins};
+ghost use Rattle.mcs_system.specs.Logic.{with_heads};
+ghost use Rattle.mcs_system.specs.Plain.{DefaultTheory, Fact};
+ghost use Rattle.mcs_system.specs.Plain as plain;
+ghost use Rattle.mcs_system.specs.Seen.{default_of, formula_of, item_of};
+ghost use Rattle.mcs_system.specs.Views.{IsAcceptedView};
+ghost use Rattle.mcs_cnf.specs.ClauseLists.{AreOver};
+ghost use Rattle.mcs_evidence.specs.Defaults.{Verdict, AreOverItems, IsAcceptedDefault, defaults_of, verdicts_of};
+ghost use Rattle.mcs_default.specs.Theories.{AreOverDefaults, AreParts, with_view};
+
+use crate::theory::{defaults_of, facts};
+use crate::verdict::judge;
+use mcs_base::{Memory, Vars, list_states};
+use mcs_system::{Default, Formula, Name, TheoryItem};
+use mcs_trace::{Cnf, DefaultCert};
+use std::alloc::Global;
+
+/// How many sets there are of so many defaults.
+fn set_count(defaults: usize) -> u64
+    requires { defaults ≤ 10 }
+    ensures { result ≡ 2 ^ defaults }
+{
+    1 << defaults
+}
+
+/// Adds the view, if there is one.
+fn push_view(views: &mut Vec<Vars>, view: Option<Vars>) -> Result<(), Memory>
+    ensures { OnOk result (views.new.items ≡ with_view views.old.items view) }
+{
+    if let Some(view) = view {
+        views.push(view)?;
+    }
+    Ok(())
+}
+
+/// The views of the extensions, with the verdicts on all sets of the defaults. The clauses of the facts are `known`.
+fn judge_all(
+    alloc: Global,
+    known: &mut Cnf,
+    defaults: &[&Default],
+    beliefs: &[&Formula],
+    atoms: &[Name],
+) -> Result<(Vec<Vars>, DefaultCert), Memory>
+    requires few { length atoms.now ≤ 64 }
+    requires few_beliefs { length beliefs.now ≤ 64 }
+    requires few_defaults { length defaults.now ≤ 10 }
+    requires different { has_twins atoms.now ≡ false }
+    requires over { AreOverDefaults atoms.now (map (λ d. default_of d.now) defaults.now) }
+    requires beliefs { AreOver atoms.now (map (λ b. formula_of b.now) beliefs.now) }
+    requires room { length atoms.now ≤ known.old.vars }
+    ensures accepted { IfOk result (λ r. (items : List plain.Item) → AreParts atoms.now items (map (λ d. default_of d.now) defaults.now) known.old
+        → IsAcceptedDefault atoms.now items (map (λ b. formula_of b.now) beliefs.now) r.0.items (verdicts_of r.1)) }
+{
+    let mut views = Vec::new(alloc);
+    let mut sets = Vec::new(alloc);
+    for number in 0..set_count(defaults.len()) {
+        let set = Vars::numbered(number);
+        let judged = judge(alloc, known, defaults, set, beliefs, atoms)?;
+        sets.push(judged.verdict)?;
+        push_view(&mut views, judged.view)?;
+    }
+    list_states(&mut views);
+    Ok((views, DefaultCert { sets }))
+}
+
+/// The views of the extensions alone: each verdict is let go before the next set is judged.
+fn list_all(
+    alloc: Global,
+    known: &mut Cnf,
+    defaults: &[&Default],
+    beliefs: &[&Formula],
+    atoms: &[Name],
+) -> Result<Vec<Vars>, Memory>
+    requires few { length atoms.now ≤ 64 }
+    requires few_beliefs { length beliefs.now ≤ 64 }
+    requires few_defaults { length defaults.now ≤ 10 }
+    requires different { has_twins atoms.now ≡ false }
+    requires over { AreOverDefaults atoms.now (map (λ d. default_of d.now) defaults.now) }
+    requires beliefs { AreOver atoms.now (map (λ b. formula_of b.now) beliefs.now) }
+    requires room { length atoms.now ≤ known.old.vars }
+    ensures listed { IfOk result (λ views. (items : List plain.Item) → AreParts atoms.now items (map (λ d. default_of d.now) defaults.now) known.old
+        → (vs : List Verdict) × IsAcceptedDefault atoms.now items (map (λ b. formula_of b.now) beliefs.now) views.items vs) }
+{
+    let mut views = Vec::new(alloc);
+    for number in 0..set_count(defaults.len()) {
+        let set = Vars::numbered(number);
+        let judged = judge(alloc, known, defaults, set, beliefs, atoms)?;
+        drop(judged.verdict);
+        push_view(&mut views, judged.view)?;
+    }
+    list_states(&mut views);
+    Ok(views)
+}
+
+/// The views of the extensions of a default theory to which facts are added: of each the numbers, from 0, of the
+/// beliefs that it has, each view once, in the order of states; and what shows that these are all, for each set of the
+/// defaults a verdict. All atoms are among these, at most 64; there are at most 64 beliefs and 10 defaults. Where a
+/// justification has a number from 2^32 on, which no certificate tells, the answer is want of memory.
+pub fn extensions(
+    alloc: Global,
+    items: &[TheoryItem],
+    added: &[Formula],
+    beliefs: &[Formula],
+    atoms: &[Name],
+) -> Result<(Vec<Vars>, DefaultCert), Memory>
+    requires few { length atoms.now ≤ 64 }
+    requires few_beliefs { length beliefs.now ≤ 64 }
+    requires few_defaults { length (defaults_of (map item_of items.now)) ≤ 10 }
+    requires different { has_twins atoms.now ≡ false }
+    requires items { AreOverItems atoms.now (map item_of items.now) }
+    requires added { AreOver atoms.now (map formula_of added.now) }
+    requires beliefs { AreOver atoms.now (map formula_of beliefs.now) }
+    ensures exact { IfOk result (λ r. IsListing (IsAcceptedView (with_heads (DefaultTheory (map item_of items.now)) (map formula_of added.now)) (map formula_of beliefs.now)) StateBefore r.0.items) }
+    ensures accepted { IfOk result (λ r. IsAcceptedDefault atoms.now (map item_of items.now ++ map Fact (map formula_of added.now)) (map formula_of beliefs.now) r.0.items (verdicts_of r.1)) }
+{
+    let lent_added: Vec<&Formula> = added.iter().collect(alloc)?;
+    let lent_beliefs: Vec<&Formula> = beliefs.iter().collect(alloc)?;
+    extensions_from(alloc, items, &lent_added, &lent_beliefs, atoms)
+}
+
+/// The same where the added facts and the beliefs are lent one by one.
+pub fn extensions_from(
+    alloc: Global,
+    items: &[TheoryItem],
+    added: &[&Formula],
+    beliefs: &[&Formula],
+    atoms: &[Name],
+) -> Result<(Vec<Vars>, DefaultCert), Memory>
+    requires few { length atoms.now ≤ 64 }
+    requires few_beliefs { length beliefs.now ≤ 64 }
+    requires few_defaults { length (defaults_of (map item_of items.now)) ≤ 10 }
+    requires different { has_twins atoms.now ≡ false }
+    requires items { AreOverItems atoms.now (map item_of items.now) }
+    requires added { AreOver atoms.now (map (λ f. formula_of f.now) added.now) }
+    requires beliefs { AreOver atoms.now (map (λ b. formula_of b.now) beliefs.now) }
+    ensures exact { IfOk result (λ r. IsListing (IsAcceptedView (with_heads (DefaultTheory (map item_of items.now)) (map (λ f. formula_of f.now) added.now)) (map (λ b. formula_of b.now) beliefs.now)) StateBefore r.0.items) }
+    ensures accepted { IfOk result (λ r. IsAcceptedDefault atoms.now (map item_of items.now ++ map Fact (map (λ f. formula_of f.now) added.now)) (map (λ b. formula_of b.now) beliefs.now) r.0.items (verdicts_of r.1)) }
+{
+    let defaults = defaults_of(alloc, items)?;
+    let mut known = facts(alloc, items, added, atoms)?;
+    judge_all(alloc, &mut known, &defaults, beliefs, atoms)
+}
+
+/// The views of the extensions, as `extensions_from` lists them, without what shows it: of the verdicts none is kept.
+pub fn list_extensions(
+    alloc: Global,
+    items: &[TheoryItem],
+    added: &[&Formula],
+    beliefs: &[&Formula],
+    atoms: &[Name],
+) -> Result<Vec<Vars>, Memory>
+    requires few { length atoms.now ≤ 64 }
+    requires few_beliefs { length beliefs.now ≤ 64 }
+    requires few_defaults { length (defaults_of (map item_of items.now)) ≤ 10 }
+    requires different { has_twins atoms.now ≡ false }
+    requires items { AreOverItems atoms.now (map item_of items.now) }
+    requires added { AreOver atoms.now (map (λ f. formula_of f.now) added.now) }
+    requires beliefs { AreOver atoms.now (map (λ b. formula_of b.now) beliefs.now) }
+    ensures exact { IfOk result (λ r. IsListing (IsAcceptedView (with_heads (DefaultTheory (map item_of items.now)) (map (λ f. formula_of f.now) added.now)) (map (λ b. formula_of b.now) beliefs.now)) StateBefore r.items) }
+{
+    let defaults = defaults_of(alloc, items)?;
+    let mut known = facts(alloc, items, added, atoms)?;
+    list_all(alloc, &mut known, &defaults, beliefs, atoms)
+}

@@ -1,0 +1,102 @@
+//! The facts and the defaults of a theory.
+
+ghost use Rattle.std.specs.Prelude.{◌≡◌, ◌≤◌, ◌++◌, length, map, IfOk, OnOk};
+ghost use Rattle.mcs_system.specs.Seen.{formula_of, default_of, item_of};
+ghost use Rattle.mcs_cnf.specs.ClauseLists.{with_formulas, clause_list, AreOver};
+ghost use Rattle.mcs_evidence.specs.Defaults.{AreOverItems, facts_of, defaults_of};
+ghost use Rattle.mcs_default.specs.Theories.{AreOverDefaults, consequents};
+
+use mcs_base::{Memory, Vars};
+use mcs_cnf::push_formula;
+use mcs_system::{Default, Formula, Name, TheoryItem};
+use mcs_trace::Cnf;
+use std::alloc::Global;
+
+/// The defaults of the items, in their order.
+pub(crate) fn defaults_of(alloc: Global, items: &[TheoryItem]) -> Result<Vec<&Default>, Memory>
+    ensures { IfOk result (λ ds. map (λ d. default_of d.now) ds.items ≡ defaults_of (map item_of items.now)) }
+{
+    let mut defaults = Vec::new(alloc);
+    for item in items {
+        if let TheoryItem::Rule(default) = item {
+            defaults.push(default)?;
+        }
+    }
+    Ok(defaults)
+}
+
+/// Adds the clauses of the facts among the items.
+fn push_facts(
+    alloc: Global,
+    known: &mut Cnf,
+    items: &[TheoryItem],
+    atoms: &[Name],
+) -> Result<(), Memory>
+    requires over { AreOverItems atoms.now (map item_of items.now) }
+    requires room { length atoms.now ≤ known.old.vars }
+    ensures { OnOk result (known.new ≡ with_formulas atoms.now known.old (facts_of (map item_of items.now))) }
+{
+    for item in items {
+        match item {
+            TheoryItem::Fact(formula) => push_formula(alloc, known, atoms, formula)?,
+            TheoryItem::Rule(_) => {}
+        }
+    }
+    Ok(())
+}
+
+/// Adds the clauses of the formulas.
+fn push_all(
+    alloc: Global,
+    known: &mut Cnf,
+    formulas: &[&Formula],
+    atoms: &[Name],
+) -> Result<(), Memory>
+    requires over { AreOver atoms.now (map (λ f. formula_of f.now) formulas.now) }
+    requires room { length atoms.now ≤ known.old.vars }
+    ensures { OnOk result (known.new ≡ with_formulas atoms.now known.old (map (λ f. formula_of f.now) formulas.now)) }
+{
+    for formula in formulas {
+        push_formula(alloc, known, atoms, formula)?;
+    }
+    Ok(())
+}
+
+/// The clauses of the facts among the items, and then of those that are added.
+pub(crate) fn facts(
+    alloc: Global,
+    items: &[TheoryItem],
+    added: &[&Formula],
+    atoms: &[Name],
+) -> Result<Cnf, Memory>
+    requires few { length atoms.now ≤ 64 }
+    requires items { AreOverItems atoms.now (map item_of items.now) }
+    requires added { AreOver atoms.now (map (λ f. formula_of f.now) added.now) }
+    ensures { IfOk result (λ known. known ≡ clause_list atoms.now (facts_of (map item_of items.now) ++ map (λ f. formula_of f.now) added.now)) }
+{
+    let mut known = Cnf::new(alloc, atoms.len() as u64);
+    push_facts(alloc, &mut known, items, atoms)?;
+    push_all(alloc, &mut known, added, atoms)?;
+    Ok(known)
+}
+
+/// Adds the clauses of the consequents of the defaults of the set.
+pub(crate) fn push_consequents(
+    alloc: Global,
+    known: &mut Cnf,
+    defaults: &[&Default],
+    set: Vars,
+    atoms: &[Name],
+) -> Result<(), Memory>
+    requires few { length defaults.now ≤ 10 }
+    requires over { AreOverDefaults atoms.now (map (λ d. default_of d.now) defaults.now) }
+    requires room { length atoms.now ≤ known.old.vars }
+    ensures { OnOk result (known.new ≡ with_formulas atoms.now known.old (consequents (map (λ d. default_of d.now) defaults.now) set)) }
+{
+    for (index, default) in defaults.iter().enumerate() {
+        if set.has(index as u32) {
+            push_formula(alloc, known, atoms, &default.conclusion)?;
+        }
+    }
+    Ok(())
+}
