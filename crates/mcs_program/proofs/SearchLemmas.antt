@@ -1,0 +1,378 @@
+-- How the search for answer sets goes on.
+use Rattle.std.proofs.Common.{◌≡◌, ℕ, ◌+◌, ◌<◌, ◌≤◌, ◌^◌, zero, suc, Bool, true, false, ◌&&◌, cond, List, [], ◌∷◌, ◌++◌, ◌⊎◌, ◌↔◌, inl, inr, map, length, take, drop, get_or, insert, arith, refl, sym, ap, ◌∙◌, subst, append-nil, true≢false, ltb, Some, None, slice_get}
+use Rattle.std.proofs.lemmas.Bool.{and_parts, cases_lt}
+use Rattle.std.proofs.lemmas.Bool.Decides.{nat_tests}
+use Rattle.std.proofs.lemmas.List.Folds.{list_all-append}
+use Rattle.std.proofs.lemmas.List.{take-append-drop}
+use Rattle.std.specs.List.{AllByRecursion, AllZip, list_all}
+use Rattle.mcs_sets.specs.Sets.{has, single, union}
+use Rattle.mcs_sets.specs.Orders.{StateBefore}
+use Rattle.mcs_sets.proofs.SetLemmas.{has-empty, has-such_that, such_that-lt}
+use Rattle.mcs_sets.proofs.Lattice.{in_with}
+use Rattle.mcs_base.specs.Listings.{IsAmong, IsAscending, IsListing}
+use Rattle.mcs_base.specs.StateOrder.{StateBefore-total, StateBefore-transitive}
+use Rattle.mcs_base.proofs.Each.{all_among, all_push, all_from_among, all_weaker}
+use Rattle.mcs_base.proofs.Among.{zip_among}
+use Rattle.mcs_base.proofs.Ascending.{ascending_append, ascending_drop}
+use Rattle.mcs_system.specs.Plain.{Name, Formula, Atom, ProgramRule, Program}
+use Rattle.mcs_system.specs.Faults.{has_twins}
+use Rattle.mcs_system.specs.Logic.{holds, holds_all, true_names, BeliefSet, Theory, Atoms, Believes, Accepts}
+use Rattle.mcs_system.specs.Views.{Shows, IsAcceptedView}
+use Rattle.mcs_trace.specs.Clauses.{ClauseList, all_hold}
+use Rattle.mcs_trace.specs.Traces.{Inference, IsAcceptedTrace}
+use Rattle.mcs_sat.specs.Answers.{assignment_of}
+use Rattle.mcs_cnf.specs.ClauseLists.{with_formulas, clause_list, IsOver, AreOver}
+use Rattle.mcs_cnf.proofs.ListLemmas.{with_append}
+use Rattle.mcs_cnf.proofs.MeaningLemmas.{satisfied}
+use Rattle.mcs_classical.proofs.RefutingLemmas.{places, places_extend}
+use Rattle.mcs_evidence.specs.Programs.{rule_formula, beside_formula, other_formula, smaller_formulas, rest_formulas, model_shown_of, AreOverRules, AreAtomsOf, IsInRange, IsAcceptedModel}
+use Rattle.mcs_evidence.specs.Pushing.{AreNamesOf}
+use Rattle.mcs_evidence.proofs.Models.{refuted, smaller-over, rules-over, beside-over, other-over, atoms_are_over, answer_set_from_model, shows-below, own_state, view_among, smaller_places, beside_excludes}
+use Rattle.mcs_program.specs.declared.search.Search.{Search}
+use Rattle.mcs_program.specs.Searches.{IsModelOf, IsKnown, IsSearch, IsExcluded, IsListed, count_below, sets_left, IsExhausted}
+
+-- ---- what a satisfying assignment says
+pub modelled : (names : List Name) (fs : List Formula) (cnf : ClauseList) (values read : List Bool) (s : ℕ) → has_twins names ≡ false → AreOver names fs → cnf ≡ clause_list names fs → all_hold (assignment_of values) cnf.clauses ≡ true → read ≡ values
+    → s ≡ places names read → IsModelOf names fs s
+modelled names fs cnf values read s single over is h same e =
+    subst (IsModelOf names fs) (sym (e ∙ ap (places names) same)) (record {
+      in_range = λ k member.
+          let less : ltb k (length names) ≡ true = (and_parts _ _ (sym (has-such_that (length names) (λ k. get_or values k false) k) ∙ member)).0 in
+          grind (arith, nat_tests);
+      fits = such_that-lt (length names) (λ k. get_or values k false);
+      satisfies = satisfied fs names (true_names 0 names (places names values)) (assignment_of values) over (places_extend names values single) (ap (λ (x : ClauseList). all_hold (assignment_of values) x.clauses) (sym is) ∙ h);
+    })
+
+-- ---- views
+slice_push : (ps : List Formula) (p q : Formula) (k : ℕ) → (slice_get (ps ++ p ∷ []) k ≡ Some q) ↔ ((slice_get ps k ≡ Some q) ⊎ ((k ≡ length ps) × (p ≡ q)))
+slice_push [] p q zero = (
+  λ h. let same : p ≡ q = cc in inr (refl, same),
+  λ h. elim h [ inl none ↦ absurd (let e : None ≡ Some q = none in cc) | inr (_, same) ↦ ap Some same ],
+)
+slice_push [] p q (suc k) = (
+  λ h. absurd (let e : None ≡ Some q = h in cc),
+  λ h. elim h [ inl none ↦ none | inr (last, _) ↦ absurd (omega arith) ],
+)
+slice_push (x ∷ ps) p q zero = (
+  λ h. inl h,
+  λ h. elim h [ inl old ↦ old | inr (last, _) ↦ absurd (omega arith) ],
+)
+slice_push (x ∷ ps) p q (suc k) = (
+  λ h. elim ((slice_push ps p q k).0 h) [ inl old ↦ inl old | inr (last, same) ↦ inr (ap suc last, same) ],
+  λ h. (slice_push ps p q k).1 (elim h as (λ _. (slice_get ps k ≡ Some q) ⊎ ((k ≡ length ps) × (p ≡ q))) [ inl old ↦ inl old | inr (last, same) ↦ inr (omega (arith, last), same) ]),
+)
+
+pub shows_none : (b : BeliefSet) (s : ℕ) → s ≡ 0 → Shows b [] s
+shows_none b s e k = (
+  λ h. absurd (true≢false (sym h ∙ ap (λ x. has x k) e ∙ has-empty k)),
+  λ h. absurd (let none : None ≡ Some h.0 = h.1 in cc),
+)
+
+pub shows_with : (b : BeliefSet) (ps : List Formula) (p : Formula) (s i s' : ℕ) → length ps ≡ i → Believes b p → s' ≡ union s (single i) → Shows b ps s → Shows b (ps ++ p ∷ []) s'
+shows_with b ps p s i s' len is e old k = (
+  λ h. elim ((in_with s i k).0 (ap (λ x. has x k) (sym e) ∙ h)) [
+    | inl there ↦ let (q, at, believed) = (old k).0 there in (q, (slice_push ps p q k).1 (inl at), believed)
+    | inr last ↦ (p, (slice_push ps p p k).1 (inr (last ∙ sym len, refl)), is)
+  ],
+  λ (q, at, believed). ap (λ x. has x k) e ∙ (in_with s i k).1 (elim ((slice_push ps p q k).0 at) as (λ _. (has s k ≡ true) ⊎ (k ≡ i)) [
+    | inl there ↦ inl ((old k).1 (q, there, believed))
+    | inr (last, same) ↦ inr (last ∙ len)
+  ]),
+)
+
+pub shows_without : (b : BeliefSet) (ps : List Formula) (p : Formula) (s : ℕ) → ¬ Believes b p → Shows b ps s → Shows b (ps ++ p ∷ []) s
+shows_without b ps p s not_so old k = (
+  λ h. let (q, at, believed) = (old k).0 h in (q, (slice_push ps p q k).1 (inl at), believed),
+  λ (q, at, believed). elim ((slice_push ps p q k).0 at) [
+    | inl there ↦ (old k).1 (q, there, believed)
+    | inr (last, same) ↦ absurd (not_so (subst (Believes b) (sym same) believed))
+  ],
+)
+
+-- ---- names as beliefs
+pub atoms_of_names : (names ns : List Name) → AreNamesOf names ns → AreAtomsOf names (map Atom ns)
+atoms_of_names names [] all = tt
+atoms_of_names names (n ∷ ns) all = ((n, refl, all.0), atoms_of_names names ns all.1)
+
+-- ---- one formula more
+pub rest_value : (a names : List Name) (rules : List ProgramRule) (beliefs : List Formula) (smaller views : List ℕ)
+    → holds_all a (rest_formulas names rules beliefs smaller views) ≡ (holds_all a (map rule_formula rules) && (holds_all a (map (beside_formula names rules) smaller) && holds_all a (map (other_formula beliefs) views)))
+rest_value a names rules beliefs smaller views =
+    list_all-append (holds a) (map rule_formula rules) (map (beside_formula names rules) smaller ++ map (other_formula beliefs) views)
+    ∙ ap (λ (b : Bool). holds_all a (map rule_formula rules) && b) (list_all-append (holds a) (map (beside_formula names rules) smaller) (map (other_formula beliefs) views))
+
+-- of a list with one more inside
+inside : {A : Type 0} (p : A → Bool) (xs ys : List A) (x : A) → list_all p (xs ++ x ∷ ys) ≡ (list_all p (xs ++ ys) && p x)
+inside p [] ys x = turn (p x) (list_all p ys)
+  where
+    turn : (u v : Bool) → (u && v) ≡ (v && u)
+    turn true true = refl
+    turn true false = refl
+    turn false true = refl
+    turn false false = refl
+inside p (z ∷ xs) ys x = ap (λ (b : Bool). p z && b) (inside p xs ys x) ∙ assoc (p z) (list_all p (xs ++ ys)) (p x)
+  where
+    assoc : (u v w : Bool) → (u && (v && w)) ≡ ((u && v) && w)
+    assoc true v w = refl
+    assoc false v w = refl
+
+map_inside : {A B : Type 0} (f : A → B) (xs ys : List A) → map f (xs ++ ys) ≡ map f xs ++ map f ys
+map_inside f [] ys = refl
+map_inside f (x ∷ xs) ys = ap (λ zs. f x ∷ zs) (map_inside f xs ys)
+
+pub map_placed : {A B : Type 0} (f : A → B) (xs : List A) (k : ℕ) (x : A) → map f (insert xs k x) ≡ insert (map f xs) k (f x)
+map_placed f [] zero x = refl
+map_placed f [] (suc k) x = refl
+map_placed f (y ∷ xs) zero x = refl
+map_placed f (y ∷ xs) (suc k) x = ap (λ zs. f y ∷ zs) (map_placed f xs k x)
+
+mapped_inside : {A : Type 0} (a : List Name) (f : A → Formula) (xs ys : List A) (x : A) → holds_all a (map f (xs ++ x ∷ ys)) ≡ (holds_all a (map f (xs ++ ys)) && holds a (f x))
+mapped_inside a f xs ys x = ap (holds_all a) (map_inside f xs (x ∷ ys)) ∙ inside (holds a) (map f xs) (map f ys) (f x) ∙ ap (λ fs. holds_all a fs && holds a (f x)) (sym (map_inside f xs ys))
+
+pub smaller_more : (a names : List Name) (rules : List ProgramRule) (beliefs : List Formula) (smaller views : List ℕ) (less : ℕ)
+    → holds_all a (rest_formulas names rules beliefs (smaller ++ less ∷ []) views) ≡ (holds_all a (rest_formulas names rules beliefs smaller views) && holds a (beside_formula names rules less))
+smaller_more a names rules beliefs smaller views less =
+    rest_value a names rules beliefs (smaller ++ less ∷ []) views
+    ∙ ap (λ b. holds_all a (map rule_formula rules) && (b && holds_all a (map (other_formula beliefs) views))) (mapped_inside a (beside_formula names rules) smaller [] less ∙ ap (λ xs. holds_all a (map (beside_formula names rules) xs) && holds a (beside_formula names rules less)) (append-nil smaller))
+    ∙ move (holds_all a (map rule_formula rules)) (holds_all a (map (beside_formula names rules) smaller)) (holds_all a (map (other_formula beliefs) views)) (holds a (beside_formula names rules less))
+    ∙ ap (λ b. b && holds a (beside_formula names rules less)) (sym (rest_value a names rules beliefs smaller views))
+  where
+    move : (r b o x : Bool) → (r && ((b && x) && o)) ≡ ((r && (b && o)) && x)
+    move false b o x = refl
+    move true false o x = refl
+    move true true true true = refl
+    move true true true false = refl
+    move true true false true = refl
+    move true true false false = refl
+
+pub views_more : (a names : List Name) (rules : List ProgramRule) (beliefs : List Formula) (smaller views : List ℕ) (place view : ℕ)
+    → holds_all a (rest_formulas names rules beliefs smaller (insert views place view)) ≡ (holds_all a (rest_formulas names rules beliefs smaller views) && holds a (other_formula beliefs view))
+views_more a names rules beliefs smaller views place view =
+    rest_value a names rules beliefs smaller (insert views place view)
+    ∙ ap (λ b. holds_all a (map rule_formula rules) && (holds_all a (map (beside_formula names rules) smaller) && b))
+    (mapped_inside a (other_formula beliefs) (take place views) (drop place views) view ∙ ap (λ xs. holds_all a (map (other_formula beliefs) xs) && holds a (other_formula beliefs view)) (take-append-drop place views))
+    ∙ move (holds_all a (map rule_formula rules)) (holds_all a (map (beside_formula names rules) smaller)) (holds_all a (map (other_formula beliefs) views)) (holds a (other_formula beliefs view))
+    ∙ ap (λ b. b && holds a (other_formula beliefs view)) (sym (rest_value a names rules beliefs smaller views))
+  where
+    move : (r b o x : Bool) → (r && (b && (o && x))) ≡ ((r && (b && o)) && x)
+    move false b o x = refl
+    move true false o x = refl
+    move true true o x = refl
+
+-- ---- the measure
+pub fewer : (n m : ℕ) (p q : ℕ → Bool) → ((s : ℕ) → q s ≡ true → p s ≡ true) → m < n → p m ≡ true → q m ≡ false → count_below n q < count_below n p
+unfolding count_below
+fewer zero m p q within less is not_so = absurd (omega arith)
+fewer (suc n) m p q within less is not_so = elim (cases_lt m n) [
+  | inl below ↦ one (p n) (q n) (within n) (fewer n m p q within below is not_so)
+  | inr past ↦ let last : m ≡ n = omega arith in here (p n) (q n) (ap p (sym last) ∙ is) (ap q (sym last) ∙ not_so) (at_most n)
+]
+  where
+    one : (u v : Bool) → (v ≡ true → u ≡ true) → count_below n q < count_below n p → cond v (count_below n q + 1) (count_below n q) < cond u (count_below n p + 1) (count_below n p)
+    one true true h low = omega (arith, low)
+    one true false h low = omega (arith, low)
+    one false true h low = absurd (true≢false (sym (h refl)))
+    one false false h low = low
+
+    at_most : (k : ℕ) → count_below k q ≤ count_below k p
+    at_most zero = omega arith
+    at_most (suc k) = step (p k) (q k) (within k) (at_most k)
+      where
+        step : (u v : Bool) → (v ≡ true → u ≡ true) → count_below k q ≤ count_below k p → cond v (count_below k q + 1) (count_below k q) ≤ cond u (count_below k p + 1) (count_below k p)
+        step true true h low = omega (arith, low)
+        step true false h low = omega (arith, low)
+        step false true h low = absurd (true≢false (sym (h refl)))
+        step false false h low = low
+
+    here : (u v : Bool) → u ≡ true → v ≡ false → count_below n q ≤ count_below n p → cond v (count_below n q + 1) (count_below n q) < cond u (count_below n p + 1) (count_below n p)
+    here true false e e' low = omega (arith, low)
+    here true true e e' low = absurd (true≢false e')
+    here false v e e' low = absurd (true≢false (sym e))
+
+-- ---- from search to search
+module _ (names : List Name) (rules : List ProgramRule) (beliefs : List Formula) where
+  rest : Search → List Formula
+  rest s = rest_formulas names rules beliefs s.smaller.items s.views.items
+
+  -- all is known that was, and a formula
+  abbrev Narrows : Search → Search → Formula → Type 0
+  Narrows old new f = (a : List Name) → holds_all a (rest_formulas names rules beliefs new.smaller.items new.views.items) ≡ (holds_all a (rest_formulas names rules beliefs old.smaller.items old.views.items) && holds a f)
+
+  pub known_more : (old new : Search) (f : Formula) → new.known ≡ with_formulas names old.known (f ∷ []) → IsOver names f → Narrows old new f → IsKnown names rules beliefs old → IsKnown names rules beliefs new
+  known_more old new f pushed over narrows known = record {
+    formulas = known.formulas ++ f ∷ [];
+    is = pushed ∙ ap (λ (k : ClauseList). with_formulas names k (f ∷ [])) known.is ∙ with_append names (record { vars = length names; clauses = [] }) known.formulas (f ∷ []);
+    over = all_push (IsOver names) known.formulas f known.over over;
+    same = λ a. list_all-append (holds a) known.formulas (f ∷ []) ∙ ap (λ b. holds_all a known.formulas && b) (alone (holds a f)) ∙ ap (λ b. b && holds a f) (known.same a) ∙ sym (narrows a);
+  }
+    where
+      alone : (b : Bool) → (b && true) ≡ b
+      alone true = refl
+      alone false = refl
+
+  pub left_less : (old new : Search) (f : Formula) (model : ℕ) → Narrows old new f → IsModelOf names (rest_formulas names rules beliefs old.smaller.items old.views.items) model → holds (true_names 0 names model) f ≡ false
+      → sets_left names rules beliefs new < sets_left names rules beliefs old
+  left_less old new f model narrows is not_so =
+      fewer (2 ^ length names) model
+      (λ s. holds_all (true_names 0 names s) (rest_formulas names rules beliefs old.smaller.items old.views.items))
+      (λ s. holds_all (true_names 0 names s) (rest_formulas names rules beliefs new.smaller.items new.views.items))
+      (λ s h. (and_parts _ _ (sym (narrows (true_names 0 names s)) ∙ h)).0) is.fits is.satisfies
+      (narrows (true_names 0 names model) ∙ ap (λ b. holds_all (true_names 0 names model) (rest_formulas names rules beliefs old.smaller.items old.views.items) && b) not_so ∙ none (holds_all (true_names 0 names model) (rest_formulas names rules beliefs old.smaller.items old.views.items)))
+    where
+      none : (b : Bool) → (b && false) ≡ false
+      none true = refl
+      none false = refl
+
+  pub begun : (s : Search) → s.known ≡ clause_list names (map rule_formula rules) → s.smaller.items ≡ [] → s.views.items ≡ [] → s.models.items ≡ [] → AreOverRules names rules → IsSearch names rules beliefs s
+  begun s known smaller views models over = record {
+    known = record {
+      formulas = map rule_formula rules;
+      is = known;
+      over = rules-over names rules over;
+      same = λ a. sym (ap (λ xs. holds_all a (rest_formulas names rules beliefs xs s.views.items)) smaller ∙ ap (λ xs. holds_all a (rest_formulas names rules beliefs [] xs)) views ∙ ap (holds_all a) (append-nil (map rule_formula rules)));
+    };
+    ascending = subst (IsAscending StateBefore) (sym views) tt;
+    models = subst (λ xs. AllZip (IsAcceptedModel names rules beliefs) xs (map model_shown_of s.models.items)) (sym views) (subst (λ xs. AllZip (IsAcceptedModel names rules beliefs) [] (map model_shown_of xs)) (sym models) tt);
+    in_range = subst (AllByRecursion (IsInRange names)) (sym smaller) tt;
+  }
+
+  excluded_narrows : (old new : Search) (less : ℕ) → IsExcluded names rules less old new → Narrows old new (beside_formula names rules less)
+  excluded_narrows old new less e a =
+      ap (λ xs. holds_all a (rest_formulas names rules beliefs xs new.views.items)) e.smaller
+      ∙ ap (λ xs. holds_all a (rest_formulas names rules beliefs (old.smaller.items ++ less ∷ []) xs)) e.views
+      ∙ smaller_more a names rules beliefs old.smaller.items old.views.items less
+
+  pub excluded_search : (old new : Search) (less : ℕ) → AreOverRules names rules → IsInRange names less → IsExcluded names rules less old new → IsSearch names rules beliefs old → IsSearch names rules beliefs new
+  excluded_search old new less over range e was = record {
+    known = known_more old new (beside_formula names rules less) e.known (beside-over names rules less over) (excluded_narrows old new less e) was.known;
+    ascending = subst (IsAscending StateBefore) (sym e.views) was.ascending;
+    models = subst (λ xs. AllZip (IsAcceptedModel names rules beliefs) xs (map model_shown_of new.models.items)) (sym e.views) (subst (λ ms. AllZip (IsAcceptedModel names rules beliefs) old.views.items (map model_shown_of ms)) (sym e.models) was.models);
+    in_range = subst (AllByRecursion (IsInRange names)) (sym e.smaller) (all_push (IsInRange names) old.smaller.items less was.in_range range);
+  }
+
+  pub excluded_less : (old new : Search) (model less : ℕ) → IsExcluded names rules less old new → IsModelOf names (rest_formulas names rules beliefs old.smaller.items old.views.items) model → IsModelOf names (smaller_formulas names rules model) less
+      → sets_left names rules beliefs new < sets_left names rules beliefs old
+  excluded_less old new model less e is below =
+      let both = smaller_places names rules model less below.satisfies in
+      left_less old new (beside_formula names rules less) model (excluded_narrows old new less e) is (beside_excludes names rules model less both.0 both.1)
+
+-- ---- one view more
+ascending_take : (xs : List ℕ) (k : ℕ) → IsAscending StateBefore xs → IsAscending StateBefore (take k xs)
+ascending_take [] zero up = tt
+ascending_take [] (suc k) up = tt
+ascending_take (x ∷ xs) zero up = tt
+ascending_take (x ∷ xs) (suc k) up = (all_taken xs k up.0, ascending_take xs k up.1)
+  where
+    all_taken : (ys : List ℕ) (j : ℕ) → AllByRecursion (StateBefore x) ys → AllByRecursion (StateBefore x) (take j ys)
+    all_taken [] zero all = tt
+    all_taken [] (suc j) all = tt
+    all_taken (y ∷ ys) zero all = tt
+    all_taken (y ∷ ys) (suc j) all = (all.0, all_taken ys j all.1)
+
+-- what does not come before it and is not it comes after it
+past : (view : ℕ) (xs : List ℕ) → IsAscending StateBefore xs → ¬ IsAmong view xs → (0 < length xs → ¬ StateBefore (get_or xs 0 0) view) → AllByRecursion (StateBefore view) xs
+past view [] up new not_before = tt
+past view (x ∷ xs) up new not_before = (first, all_weaker (StateBefore x) (StateBefore view) (λ y h. StateBefore-transitive view x y first h) xs up.0)
+  where
+    first : StateBefore view x
+    first = elim (StateBefore-total view x) [ inl same ↦ absurd (new (inl same)) | inr (inl h) ↦ h | inr (inr h) ↦ absurd (not_before (omega arith) h) ]
+
+among_dropped : (view : ℕ) (xs : List ℕ) (k : ℕ) → IsAmong view (drop k xs) → IsAmong view xs
+among_dropped view xs zero h = h
+among_dropped view [] (suc k) h = h
+among_dropped view (x ∷ xs) (suc k) h = inr (among_dropped view xs k h)
+
+get_dropped : (xs : List ℕ) (k : ℕ) → get_or (drop k xs) 0 0 ≡ get_or xs k 0
+get_dropped xs zero = refl
+get_dropped [] (suc k) = refl
+get_dropped (x ∷ xs) (suc k) = get_dropped xs k
+
+some_dropped : (xs : List ℕ) (k : ℕ) → 0 < length (drop k xs) → k < length xs
+some_dropped xs zero h = h
+some_dropped [] (suc k) h = absurd (omega arith)
+some_dropped (x ∷ xs) (suc k) h = omega (arith, some_dropped xs k h)
+
+pub ascending_insert : (xs : List ℕ) (k view : ℕ) → IsAscending StateBefore xs → ¬ IsAmong view xs → AllByRecursion (λ v. StateBefore v view) (take k xs) → (k < length xs → ¬ StateBefore (get_or xs k 0) view) → IsAscending StateBefore (insert xs k view)
+ascending_insert xs k view up new before after =
+    let later : AllByRecursion (StateBefore view) (drop k xs) = past view (drop k xs) (ascending_drop StateBefore xs k up) (λ h. new (among_dropped view xs k h)) (λ h b. after (some_dropped xs k h) (subst (λ x. StateBefore x view) (get_dropped xs k) b)) in
+    ascending_append StateBefore (take k xs) (view ∷ drop k xs)
+    (λ x y h h'. let b : StateBefore x view = all_among (λ v. StateBefore v view) (take k xs) x before h in elim h' [
+      | inl same ↦ subst (StateBefore x) (sym same) b
+      | inr there ↦ StateBefore-transitive x view y b (all_among (StateBefore view) (drop k xs) y later there)
+    ])
+    (ascending_take xs k up) (later, ascending_drop StateBefore xs k up)
+
+zip_insert : {A B : Type 0} (R : A → B → Type 0) (xs : List A) (ys : List B) (k : ℕ) (x : A) (y : B) → AllZip R xs ys → R x y → AllZip R (insert xs k x) (insert ys k y)
+zip_insert R [] [] zero x y all one = (one, tt)
+zip_insert R [] [] (suc k) x y all one = (one, tt)
+zip_insert R [] (y' ∷ ys) k x y all one = absurd all
+zip_insert R (x' ∷ xs) [] k x y all one = absurd all
+zip_insert R (x' ∷ xs) (y' ∷ ys) zero x y all one = (one, all)
+zip_insert R (x' ∷ xs) (y' ∷ ys) (suc k) x y all one = (all.0, zip_insert R xs ys k x y all.1 one)
+
+module _ (names : List Name) (rules : List ProgramRule) (beliefs : List Formula) (old new : Search) (model : ℕ) (minimal : List Inference) (listed : IsListed names beliefs model minimal old new) where
+  view : ℕ
+  view = listed.placed.view
+
+  views_are : new.views.items ≡ insert old.views.items listed.place listed.placed.view
+  views_are = listed.views ∙ listed.placed.views
+
+  listed_narrows : (a : List Name) → holds_all a (rest_formulas names rules beliefs new.smaller.items new.views.items) ≡ (holds_all a (rest_formulas names rules beliefs old.smaller.items old.views.items) && holds a (other_formula beliefs listed.placed.view))
+  listed_narrows a =
+      ap (λ xs. holds_all a (rest_formulas names rules beliefs xs new.views.items)) (listed.smaller ∙ listed.placed.smaller)
+      ∙ ap (λ xs. holds_all a (rest_formulas names rules beliefs old.smaller.items xs)) views_are
+      ∙ views_more a names rules beliefs old.smaller.items old.views.items listed.place listed.placed.view
+
+  module _ (atoms : AreAtomsOf names beliefs) (is : IsModelOf names (rest_formulas names rules beliefs old.smaller.items old.views.items) model) where
+    own : holds (true_names 0 names model) (other_formula beliefs listed.placed.view) ≡ false
+    own = own_state names (true_names 0 names model) beliefs listed.placed.view atoms listed.placed.shows
+
+    parts : (holds_all (true_names 0 names model) (map rule_formula rules) ≡ true) × (holds_all (true_names 0 names model) (map (beside_formula names rules) old.smaller.items) && holds_all (true_names 0 names model) (map (other_formula beliefs) old.views.items) ≡ true)
+    parts = and_parts _ _ (sym (rest_value (true_names 0 names model) names rules beliefs old.smaller.items old.views.items) ∙ is.satisfies)
+
+    new_view : ¬ IsAmong listed.placed.view old.views.items
+    new_view h = true≢false (sym (each old.views.items (and_parts _ _ parts.1).1 h) ∙ own)
+      where
+        each : (xs : List ℕ) → holds_all (true_names 0 names model) (map (other_formula beliefs) xs) ≡ true → IsAmong listed.placed.view xs → holds (true_names 0 names model) (other_formula beliefs listed.placed.view) ≡ true
+        each [] all h = absurd h
+        each (x ∷ xs) all (inl same) = ap (λ v. holds (true_names 0 names model) (other_formula beliefs v)) same ∙ (and_parts _ _ all).0
+        each (x ∷ xs) all (inr h) = each xs (and_parts _ _ all).1 h
+
+    pub listed_less : sets_left names rules beliefs new < sets_left names rules beliefs old
+    listed_less = left_less names rules beliefs old new (other_formula beliefs listed.placed.view) model listed_narrows is own
+
+    pub listed_search : IsAcceptedTrace (clause_list names (smaller_formulas names rules model)).clauses minimal → IsSearch names rules beliefs old → IsSearch names rules beliefs new
+    listed_search refutes was = record {
+      known = known_more names rules beliefs old new (other_formula beliefs listed.placed.view) (listed.known ∙ listed.placed.known) (other-over names beliefs listed.placed.view (atoms_are_over names beliefs atoms)) listed_narrows was.known;
+      ascending = subst (IsAscending StateBefore) (sym views_are) (ascending_insert old.views.items listed.place listed.placed.view was.ascending new_view listed.placed.before listed.placed.after);
+      models = subst (λ xs. AllZip (IsAcceptedModel names rules beliefs) xs (map model_shown_of new.models.items)) (sym views_are)
+          (subst (AllZip (IsAcceptedModel names rules beliefs) (insert old.views.items listed.place listed.placed.view)) (sym listed.models)
+          (zip_insert (IsAcceptedModel names rules beliefs) old.views.items (map model_shown_of old.models.items) listed.place listed.placed.view (record { model = model; minimal = minimal }) was.models
+          (record { in_range = is.in_range; satisfies = parts.0; shows = listed.placed.shows; minimal = refutes })));
+      in_range = subst (AllByRecursion (IsInRange names)) (sym (listed.smaller ∙ listed.placed.smaller)) was.in_range;
+    }
+
+-- the views that were found have beliefs alone
+pub views_low : (names : List Name) (rules : List ProgramRule) (beliefs : List Formula) (s : Search) → IsSearch names rules beliefs s → AllByRecursion (λ state. (j : ℕ) → has state j ≡ true → j < length beliefs) s.views.items
+views_low names rules beliefs s found = all_from_among (λ state. (j : ℕ) → has state j ≡ true → j < length beliefs) s.views.items (λ state among.
+    let (m, there, is) = zip_among (IsAcceptedModel names rules beliefs) s.views.items (map model_shown_of s.models.items) found.models state among in
+    shows-below (true_names 0 names m.model) beliefs state is.shows)
+
+-- ---- at the end
+pub all_found : (names : List Name) (rules : List ProgramRule) (beliefs : List Formula) (s : Search) → has_twins names ≡ false → AreOverRules names rules → AreAtomsOf names beliefs → IsSearch names rules beliefs s → IsExhausted names rules beliefs s
+    → IsListing (IsAcceptedView (Program rules) beliefs) StateBefore s.views.items
+all_found names rules beliefs s single over atoms found none = record { exactly = λ x. (to x, from x); ascending = found.ascending }
+  where
+    to : (x : ℕ) → IsAmong x s.views.items → IsAcceptedView (Program rules) beliefs x
+    to x among = let (m, there, is) = zip_among (IsAcceptedModel names rules beliefs) s.views.items (map model_shown_of s.models.items) found.models x among in record {
+      belief_set = Atoms (true_names 0 names m.model);
+      accepted = answer_set_from_model names rules m.model single is.satisfies (refuted names (smaller_formulas names rules m.model) m.minimal (smaller-over names rules m.model over) is.minimal);
+      shown = is.shows;
+    }
+
+    from : (x : ℕ) → IsAcceptedView (Program rules) beliefs x → IsAmong x s.views.items
+    from x view = at view.belief_set view.accepted view.shown
+      where
+        at : (b : BeliefSet) → Accepts (Program rules) b → Shows b beliefs x → IsAmong x s.views.items
+        at (Theory e) none' shows = absurd none'
+        at (Atoms a) is shows = view_among names rules beliefs s.smaller.items s.views.items a x single atoms is shows (views_low names rules beliefs s found) (none a)

@@ -1,0 +1,33 @@
+use Rattle.std.proofs.Common.{subst, map}
+use Rattle.mcs_system.specs.Plain.{Atom}
+use Rattle.mcs_system.specs.Seen.{rule_of}
+use Rattle.mcs_system.specs.Logic.{true_names}
+use Rattle.mcs_classical.proofs.RefutingLemmas.{room_known}
+use Rattle.mcs_evidence.specs.Programs.{rest_formulas}
+use Rattle.mcs_evidence.proofs.Models.{rest-over, atoms_are_over}
+use Rattle.mcs_program.specs.Searches.{IsModelOf, IsAnswerOf}
+use Rattle.mcs_program.proofs.SearchLemmas.{atoms_of_names}
+use Rattle.mcs_program.proofs.outputs.refute_rest.Goals as goal
+
+pub ask-found-requires-clause-room : goal.ask-found-requires-clause-room
+ask-found-requires-clause-room c =
+    room_known c.args.atoms.now c.in_ok-rest.rest (rest_formulas c.args.atoms.now (map rule_of c.args.rules.now) (map Atom (map (λ b. b.now) c.args.beliefs.now)) c.args.smaller.now c.args.views.now) c.in_ok-rest.ensures
+
+pub unreachable-requires : goal.unreachable-requires
+unreachable-requires c =
+    let names = c.args.atoms.now in
+    let rules = map rule_of c.args.rules.now in
+    let beliefs = map Atom (map (λ b. b.now) c.args.beliefs.now) in
+    let fs = rest_formulas names rules beliefs c.args.smaller.now c.args.views.now in
+    let over = rest-over names rules beliefs c.args.smaller.now c.args.views.now c.requires.rules (atoms_are_over names beliefs (atoms_of_names names (map (λ b. b.now) c.args.beliefs.now) c.requires.beliefs)) in
+    let model : IsModelOf names fs c.in-Model._places = subst (IsAnswerOf names fs) c.in-Model.is (c.in_ok-trace.ensures fs c.in_ok-rest.ensures over) in
+    c.requires.none (true_names 0 names c.in-Model._places) model.satisfies
+
+pub returns : goal.returns
+returns c =
+    let names = c.args.atoms.now in
+    let rules = map rule_of c.args.rules.now in
+    let beliefs = map Atom (map (λ b. b.now) c.args.beliefs.now) in
+    let fs = rest_formulas names rules beliefs c.args.smaller.now c.args.views.now in
+    let over = rest-over names rules beliefs c.args.smaller.now c.args.views.now c.requires.rules (atoms_are_over names beliefs (atoms_of_names names (map (λ b. b.now) c.args.beliefs.now) c.requires.beliefs)) in
+    subst (IsAnswerOf names fs) c.in-Refuted.is (c.in_ok-trace.ensures fs c.in_ok-rest.ensures over)

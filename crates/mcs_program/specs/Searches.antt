@@ -1,0 +1,81 @@
+-- The search for the answer sets of a program: what it knows, what it has found, and what is left.
+use Rattle.std.specs.Prelude.{◌≡◌, ℕ, ◌+◌, ◌<◌, ◌≤◌, ◌^◌, zero, suc, cond, Bool, IsTrue, List, [], ◌∷◌, ◌++◌, length, map, take, get_or, insert}
+use Rattle.std.specs.List.{AllByRecursion, AllZip}
+use Rattle.mcs_sets.specs.Orders.{StateBefore}
+use Rattle.mcs_base.specs.Listings.{IsAscending}
+use Rattle.mcs_system.specs.Plain.{Name, Formula, ProgramRule}
+use Rattle.mcs_system.specs.Logic.{holds_all, true_names, Atoms}
+use Rattle.mcs_system.specs.Views.{Shows}
+use Rattle.mcs_trace.specs.Traces.{Inference, inferences_of}
+use Rattle.mcs_cnf.specs.ClauseLists.{with_formulas, clause_list, AreOver}
+use Rattle.mcs_evidence.specs.Programs.{model_shown_of, rest_formulas, beside_formula, other_formula, IsInRange, IsRefutation, IsAcceptedModel}
+use Rattle.mcs_program.specs.declared.answer.Answer.{Answer}
+use Rattle.mcs_program.specs.declared.answer.Answer.TheVariants.{Model, Refuted}
+use Rattle.mcs_program.specs.declared.search.Search.{Search}
+
+-- the formulas hold where exactly the atoms at these places are true
+pub record IsModelOf (names : List Name) (fs : List Formula) (places : ℕ) : Type 0 where
+  pub in_range : IsInRange names places
+  pub fits : places < 2 ^ length names
+  pub satisfies : IsTrue (holds_all (true_names 0 names places) fs)
+
+-- what is answered of formulas
+abbrev pub IsAnswerOf : List Name → List Formula → Answer → Type 0
+IsAnswerOf names fs (Model places) = IsModelOf names fs places
+IsAnswerOf names fs (Refuted trace) = IsRefutation names fs (inferences_of trace)
+
+-- the clauses are those of formulas that hold where those of the rest do
+pub record IsKnown (names : List Name) (rules : List ProgramRule) (beliefs : List Formula) (s : Search) : Type 0 where
+  pub formulas : List Formula
+  pub is : s.known ≡ clause_list names formulas
+  pub over : AreOver names formulas
+  pub same : (a : List Name) → holds_all a formulas ≡ holds_all a (rest_formulas names rules beliefs s.smaller.items s.views.items)
+
+-- the views that were found have their models
+pub record IsSearch (names : List Name) (rules : List ProgramRule) (beliefs : List Formula) (s : Search) : Type 0 where
+  pub known : IsKnown names rules beliefs s
+  pub ascending : IsAscending StateBefore s.views.items
+  pub models : AllZip (IsAcceptedModel names rules beliefs) s.views.items (map model_shown_of s.models.items)
+  pub in_range : AllByRecursion (IsInRange names) s.smaller.items
+
+-- one smaller set more, and its formula
+pub record IsExcluded (names : List Name) (rules : List ProgramRule) (less : ℕ) (old new : Search) : Type 0 where
+  pub known : new.known ≡ with_formulas names old.known (beside_formula names rules less ∷ [])
+  pub smaller : new.smaller.items ≡ old.smaller.items ++ less ∷ []
+  pub views : new.views.items ≡ old.views.items
+  pub models : new.models.items ≡ old.models.items
+
+-- the model's view stands at the place, behind those that come before it, and the others are to be other ones
+pub record IsPlaced (names : List Name) (beliefs : List Formula) (model place : ℕ) (old new : Search) : Type 0 where
+  pub view : ℕ
+  pub shows : Shows (Atoms (true_names 0 names model)) beliefs view
+  pub within : place ≤ length old.views.items
+  pub before : AllByRecursion (λ v. StateBefore v view) (take place old.views.items)
+  pub after : place < length old.views.items → ¬ StateBefore (get_or old.views.items place 0) view
+  pub known : new.known ≡ with_formulas names old.known (other_formula beliefs view ∷ [])
+  pub views : new.views.items ≡ insert old.views.items place view
+  pub smaller : new.smaller.items ≡ old.smaller.items
+  pub models : new.models.items ≡ old.models.items
+
+-- and so does the model
+pub record IsListed (names : List Name) (beliefs : List Formula) (model : ℕ) (minimal : List Inference) (old new : Search) : Type 0 where
+  pub place : ℕ
+  pub between : Search
+  pub placed : IsPlaced names beliefs model place old between
+  pub known : new.known ≡ between.known
+  pub views : new.views.items ≡ between.views.items
+  pub smaller : new.smaller.items ≡ between.smaller.items
+  pub models : map model_shown_of new.models.items ≡ insert (map model_shown_of old.models.items) place (record { model = model; minimal = minimal })
+
+-- how many numbers below n pass the test
+unfoldable pub count_below : ℕ → (ℕ → Bool) → ℕ
+count_below zero p = 0
+count_below (suc n) p = cond (p n) (count_below n p + 1) (count_below n p)
+
+-- how many sets of places satisfy all that is known
+abbrev pub sets_left : List Name → List ProgramRule → List Formula → Search → ℕ
+sets_left names rules beliefs s = count_below (2 ^ length names) (λ places. holds_all (true_names 0 names places) (rest_formulas names rules beliefs s.smaller.items s.views.items))
+
+-- no assignment satisfies all that is known
+abbrev pub IsExhausted : List Name → List ProgramRule → List Formula → Search → Type 0
+IsExhausted names rules beliefs s = (a : List Name) → ¬ IsTrue (holds_all a (rest_formulas names rules beliefs s.smaller.items s.views.items))

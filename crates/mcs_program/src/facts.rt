@@ -1,0 +1,50 @@
+//! Rules with facts added.
+
+ghost use Rattle.std.specs.Prelude.{◌≡◌, ◌++◌, [], ◌∷◌, map, IfOk};
+ghost use Rattle.std.specs.List.{filter_map};
+ghost use Rattle.mcs_system.specs.Plain as plain;
+ghost use Rattle.mcs_system.specs.Logic.{fact_of};
+ghost use Rattle.mcs_system.specs.Seen.{rule_of};
+
+use mcs_base::Memory;
+use mcs_system::{Name, ProgRule};
+use std::alloc::Global;
+
+/// The rule whose one head is the atom, with an empty body.
+fn fact(alloc: Global, atom: &Name) -> Result<ProgRule, Memory>
+    ensures { IfOk result (λ r. rule_of r ≡ record { head = atom.now ∷ []; pos = []; neg = [] }) }
+{
+    let mut head = Vec::new(alloc);
+    head.push(atom.copy(alloc)?)?;
+    Ok(ProgRule {
+        head,
+        pos: Vec::new(alloc),
+        neg: Vec::new(alloc),
+    })
+}
+
+/// Equal rules, in the same order.
+fn copies(alloc: Global, rules: &[ProgRule]) -> Result<Vec<ProgRule>, Memory>
+    ensures { IfOk result (λ all. map rule_of all.items ≡ map rule_of rules.now) }
+{
+    let mut all = Vec::new(alloc);
+    for rule in rules {
+        all.push(rule.copy(alloc)?)?;
+    }
+    Ok(all)
+}
+
+/// The rules, and after them each of the names as a fact.
+pub(crate) fn with_facts(
+    alloc: Global,
+    rules: &[ProgRule],
+    added: &[&Name],
+) -> Result<Vec<ProgRule>, Memory>
+    ensures { IfOk result (λ all. map rule_of all.items ≡ map rule_of rules.now ++ filter_map fact_of (map plain.Atom (map (λ b. b.now) added.now))) }
+{
+    let mut all = copies(alloc, rules)?;
+    for name in added {
+        all.push(fact(alloc, name)?)?;
+    }
+    Ok(all)
+}

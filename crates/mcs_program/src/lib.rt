@@ -1,0 +1,11 @@
+//! The answer sets of disjunctive programs, and what shows that they are all.
+#![tactic(auto)]
+
+mod answer;
+mod facts;
+mod outputs;
+mod search;
+mod small;
+mod view;
+
+pub use outputs::{answer_sets, answer_sets_from, list_answer_sets};

@@ -1,0 +1,244 @@
+//! The answer sets of programs as their views.
+
+ghost use Rattle.std.specs.Prelude.{◌≡◌, ◌≤◌, ◌++◌, List, false, length, map, IfOk, IsTrue};
+ghost use Rattle.std.specs.List.{AllByRecursion, filter_map};
+ghost use Rattle.mcs_sets.specs.Orders.{StateBefore};
+ghost use Rattle.mcs_base.specs.Listings.{IsListing};
+ghost use Rattle.mcs_system.specs.Faults.{has_twins};
+ghost use Rattle.mcs_system.specs.Logic.{is_in, fact_of, holds_all, with_heads};
+ghost use Rattle.mcs_system.specs.Plain as plain;
+ghost use Rattle.mcs_system.specs.Plain.{Atom, Program};
+ghost use Rattle.mcs_system.specs.Seen.{rule_of};
+ghost use Rattle.mcs_system.specs.Views.{IsAcceptedView};
+ghost use Rattle.mcs_trace.specs.Traces.{inferences_of};
+ghost use Rattle.mcs_evidence.specs.Programs.{program_shown_of, rest_formulas, AreOverRules, IsAcceptedProgram, IsRefutation};
+ghost use Rattle.mcs_evidence.specs.Pushing.{AreNamesOf};
+ghost use Rattle.mcs_program.specs.Searches.{IsSearch, IsExhausted};
+
+use crate::answer::{Answer, ask};
+use crate::facts::with_facts;
+use crate::search::{Search, find_all};
+use mcs_base::{Memory, Vars};
+use mcs_evidence::rest_clauses;
+use mcs_system::{Name, ProgRule};
+use mcs_trace::{ProgramCert, Trace};
+use std::alloc::Global;
+
+/// The trace that shows that there is nothing else: it refutes that a model has none of the smaller sets below it and a
+/// view that is none of these.
+fn refute_rest(
+    alloc: Global,
+    atoms: &[Name],
+    rules: &[ProgRule],
+    beliefs: &[&Name],
+    smaller: &[Vars],
+    views: &[Vars],
+) -> Result<Trace, Memory>
+    requires few { length atoms.now ≤ 64 }
+    requires few_beliefs { length beliefs.now ≤ 64 }
+    requires different { has_twins atoms.now ≡ false }
+    requires rules { AreOverRules atoms.now (map rule_of rules.now) }
+    requires beliefs { AreNamesOf atoms.now (map (λ b. b.now) beliefs.now) }
+    requires none { (a : List plain.Name) → ¬ IsTrue (holds_all a
+        (rest_formulas atoms.now (map rule_of rules.now) (map Atom (map (λ b. b.now) beliefs.now)) smaller.now views.now)) }
+    ensures { IfOk result (λ t. IsRefutation atoms.now
+        (rest_formulas atoms.now (map rule_of rules.now) (map Atom (map (λ b. b.now) beliefs.now)) smaller.now views.now) (inferences_of t)) }
+{
+    let rest = rest_clauses(alloc, atoms, rules, beliefs, smaller, views)?;
+    let found = ask(alloc, &rest, atoms);
+    drop(rest);
+    match found? {
+        Answer::Refuted(trace) => Ok(trace),
+        Answer::Model(_places) => unreachable!(),
+    }
+}
+
+/// The numbers of the sets.
+fn numbers(alloc: Global, sets: &[Vars]) -> Result<Vec<u64>, Memory>
+    ensures { IfOk result (λ numbers. numbers.items ≡ sets.now) }
+{
+    let mut numbers = Vec::new(alloc);
+    for set in sets {
+        numbers.push(set.number())?;
+    }
+    Ok(numbers)
+}
+
+/// The certificate of a search that has found all, and the views.
+fn certified(
+    alloc: Global,
+    atoms: &[Name],
+    rules: &[ProgRule],
+    beliefs: &[&Name],
+    search: Search,
+) -> Result<(Vec<Vars>, ProgramCert), Memory>
+    requires few { length atoms.now ≤ 64 }
+    requires few_beliefs { length beliefs.now ≤ 64 }
+    requires different { has_twins atoms.now ≡ false }
+    requires rules { AreOverRules atoms.now (map rule_of rules.now) }
+    requires beliefs { AreNamesOf atoms.now (map (λ b. b.now) beliefs.now) }
+    requires search { IsSearch atoms.now (map rule_of rules.now) (map Atom (map (λ b. b.now) beliefs.now)) search }
+    requires all { IsExhausted atoms.now (map rule_of rules.now) (map Atom (map (λ b. b.now) beliefs.now)) search }
+    ensures { IfOk result (λ r. IsAcceptedProgram atoms.now (map rule_of rules.now) (map Atom (map (λ b. b.now) beliefs.now)) r.0.items (program_shown_of r.1)) }
+{
+    let Search {
+        known,
+        smaller,
+        views,
+        models,
+    } = search;
+    drop(known);
+    match parts(alloc, atoms, rules, beliefs, &smaller, &views) {
+        Ok((smaller, none)) => Ok((
+            views,
+            ProgramCert {
+                models,
+                smaller,
+                none,
+            },
+        )),
+        Err(want) => {
+            drop((views, models));
+            Err(want)
+        }
+    }
+}
+
+/// What a certificate has beside its models.
+fn parts(
+    alloc: Global,
+    atoms: &[Name],
+    rules: &[ProgRule],
+    beliefs: &[&Name],
+    smaller: &[Vars],
+    views: &[Vars],
+) -> Result<(Vec<u64>, Trace), Memory>
+    requires few { length atoms.now ≤ 64 }
+    requires few_beliefs { length beliefs.now ≤ 64 }
+    requires different { has_twins atoms.now ≡ false }
+    requires rules { AreOverRules atoms.now (map rule_of rules.now) }
+    requires beliefs { AreNamesOf atoms.now (map (λ b. b.now) beliefs.now) }
+    requires none { (a : List plain.Name) → ¬ IsTrue (holds_all a
+        (rest_formulas atoms.now (map rule_of rules.now) (map Atom (map (λ b. b.now) beliefs.now)) smaller.now views.now)) }
+    ensures smaller { IfOk result (λ r. r.0.items ≡ smaller.now) }
+    ensures rest { IfOk result (λ r. IsRefutation atoms.now
+        (rest_formulas atoms.now (map rule_of rules.now) (map Atom (map (λ b. b.now) beliefs.now)) smaller.now views.now) (inferences_of r.1)) }
+{
+    let numbers = numbers(alloc, smaller)?;
+    let none = refute_rest(alloc, atoms, rules, beliefs, smaller, views)?;
+    Ok((numbers, none))
+}
+
+/// The answer sets of the rules, with what shows that they are all.
+fn found_and_shown(
+    alloc: Global,
+    atoms: &[Name],
+    rules: &[ProgRule],
+    beliefs: &[&Name],
+) -> Result<(Vec<Vars>, ProgramCert), Memory>
+    requires few { length atoms.now ≤ 64 }
+    requires few_beliefs { length beliefs.now ≤ 64 }
+    requires different { has_twins atoms.now ≡ false }
+    requires rules { AreOverRules atoms.now (map rule_of rules.now) }
+    requires beliefs { AreNamesOf atoms.now (map (λ b. b.now) beliefs.now) }
+    ensures { IfOk result (λ r. IsAcceptedProgram atoms.now (map rule_of rules.now) (map Atom (map (λ b. b.now) beliefs.now)) r.0.items (program_shown_of r.1)) }
+{
+    let search = find_all(alloc, atoms, rules, beliefs)?;
+    certified(alloc, atoms, rules, beliefs, search)
+}
+
+/// The views of the answer sets of the rules.
+fn found(
+    alloc: Global,
+    atoms: &[Name],
+    rules: &[ProgRule],
+    beliefs: &[&Name],
+) -> Result<Vec<Vars>, Memory>
+    requires few { length atoms.now ≤ 64 }
+    requires few_beliefs { length beliefs.now ≤ 64 }
+    requires different { has_twins atoms.now ≡ false }
+    requires rules { AreOverRules atoms.now (map rule_of rules.now) }
+    requires beliefs { AreNamesOf atoms.now (map (λ b. b.now) beliefs.now) }
+    ensures { IfOk result (λ r. IsListing (IsAcceptedView (Program (map rule_of rules.now)) (map Atom (map (λ b. b.now) beliefs.now))) StateBefore r.items) }
+{
+    let Search {
+        known,
+        smaller,
+        views,
+        models,
+    } = find_all(alloc, atoms, rules, beliefs)?;
+    drop((known, smaller, models));
+    Ok(views)
+}
+
+/// The views that a program with further facts accepts of the beliefs, one for each way in which its answer sets have
+/// them, in the order of states: the numbers, from 0, of those that an answer set has (Gelfond and Lifschitz 1991). With
+/// them what shows that they are all. The atoms of all are among these, at most 64, and there are at most 64 beliefs.
+pub fn answer_sets(
+    alloc: Global,
+    rules: &[ProgRule],
+    added: &[Name],
+    beliefs: &[Name],
+    atoms: &[Name],
+) -> Result<(Vec<Vars>, ProgramCert), Memory>
+    requires few { length atoms.now ≤ 64 }
+    requires few_beliefs { length beliefs.now ≤ 64 }
+    requires different { has_twins atoms.now ≡ false }
+    requires rules { AreOverRules atoms.now (map rule_of rules.now) }
+    requires added { AllByRecursion (λ n. IsTrue (is_in n atoms.now)) added.now }
+    requires beliefs { AllByRecursion (λ n. IsTrue (is_in n atoms.now)) beliefs.now }
+    ensures exact { IfOk result (λ r. IsListing (IsAcceptedView (with_heads (Program (map rule_of rules.now)) (map Atom added.now)) (map Atom beliefs.now)) StateBefore r.0.items) }
+    ensures accepted { IfOk result (λ r. IsAcceptedProgram atoms.now (map rule_of rules.now ++ filter_map fact_of (map Atom added.now)) (map Atom beliefs.now) r.0.items (program_shown_of r.1)) }
+{
+    let added: Vec<&Name> = added.iter().collect(alloc)?;
+    let beliefs: Vec<&Name> = beliefs.iter().collect(alloc)?;
+    answer_sets_from(alloc, rules, &added, &beliefs, atoms)
+}
+
+/// The same of names that are lent one by one.
+pub fn answer_sets_from(
+    alloc: Global,
+    rules: &[ProgRule],
+    added: &[&Name],
+    beliefs: &[&Name],
+    atoms: &[Name],
+) -> Result<(Vec<Vars>, ProgramCert), Memory>
+    requires few { length atoms.now ≤ 64 }
+    requires few_beliefs { length beliefs.now ≤ 64 }
+    requires different { has_twins atoms.now ≡ false }
+    requires rules { AreOverRules atoms.now (map rule_of rules.now) }
+    requires added { AllByRecursion (λ n. IsTrue (is_in n atoms.now)) (map (λ b. b.now) added.now) }
+    requires beliefs { AllByRecursion (λ n. IsTrue (is_in n atoms.now)) (map (λ b. b.now) beliefs.now) }
+    ensures exact { IfOk result (λ r. IsListing (IsAcceptedView (with_heads (Program (map rule_of rules.now)) (map Atom (map (λ b. b.now) added.now)))
+        (map Atom (map (λ b. b.now) beliefs.now))) StateBefore r.0.items) }
+    ensures accepted { IfOk result (λ r. IsAcceptedProgram atoms.now (map rule_of rules.now ++ filter_map fact_of (map Atom (map (λ b. b.now) added.now)))
+        (map Atom (map (λ b. b.now) beliefs.now)) r.0.items (program_shown_of r.1)) }
+{
+    let all = with_facts(alloc, rules, added)?;
+    let result = found_and_shown(alloc, atoms, &all, beliefs);
+    drop(all);
+    result
+}
+
+/// The views alone, of names that are lent one by one, without what shows them.
+pub fn list_answer_sets(
+    alloc: Global,
+    rules: &[ProgRule],
+    added: &[&Name],
+    beliefs: &[&Name],
+    atoms: &[Name],
+) -> Result<Vec<Vars>, Memory>
+    requires few { length atoms.now ≤ 64 }
+    requires few_beliefs { length beliefs.now ≤ 64 }
+    requires different { has_twins atoms.now ≡ false }
+    requires rules { AreOverRules atoms.now (map rule_of rules.now) }
+    requires added { AllByRecursion (λ n. IsTrue (is_in n atoms.now)) (map (λ b. b.now) added.now) }
+    requires beliefs { AllByRecursion (λ n. IsTrue (is_in n atoms.now)) (map (λ b. b.now) beliefs.now) }
+    ensures exact { IfOk result (λ r. IsListing (IsAcceptedView (with_heads (Program (map rule_of rules.now)) (map Atom (map (λ b. b.now) added.now)))
+        (map Atom (map (λ b. b.now) beliefs.now))) StateBefore r.items) }
+{
+    let all = with_facts(alloc, rules, added)?;
+    let result = found(alloc, atoms, &all, beliefs);
+    drop(all);
+    result
+}

@@ -1,0 +1,208 @@
+//! The search for answer sets.
+
+ghost use Rattle.std.specs.Prelude.{◌≡◌, ◌<◌, ◌≤◌, List, false, length, map, IfOk, IsTrue};
+ghost use Rattle.mcs_system.specs.Faults.{has_twins};
+ghost use Rattle.mcs_system.specs.Plain as plain;
+ghost use Rattle.mcs_system.specs.Seen.{rule_of};
+ghost use Rattle.mcs_trace.specs.Traces.{inferences_of};
+ghost use Rattle.mcs_evidence.specs.Programs.{rest_formulas, smaller_formulas, AreOverRules, IsRefutation};
+ghost use Rattle.mcs_evidence.specs.Pushing.{AreNamesOf};
+ghost use Rattle.mcs_program.specs.Searches.{IsModelOf, IsSearch, IsExcluded, IsPlaced, IsListed, IsExhausted, sets_left};
+
+use crate::answer::{Answer, ask};
+use crate::small::made_small;
+use crate::view::{place_of, view_of};
+use mcs_base::{Memory, Vars};
+use mcs_evidence::{push_beside, push_other, push_rules, smaller_clauses};
+use mcs_system::{Name, ProgRule};
+use mcs_trace::{AnswerSetCert, Cnf, Trace};
+use std::alloc::Global;
+
+/// The clauses of what is known of the answer sets that are not found yet; the sets of places that led on from models
+/// that are none; and the views of those that were found, in the order of states, each with its model.
+#[derive(Drop)]
+pub struct Search {
+    pub known: Cnf,
+    pub smaller: Vec<Vars>,
+    pub views: Vec<Vars>,
+    pub models: Vec<AnswerSetCert>,
+}
+
+impl Search {
+    /// What is known at first: the rules.
+    fn new(alloc: Global, atoms: &[Name], rules: &[ProgRule]) -> Result<Search, Memory>
+        requires few { length atoms.now ≤ 64 }
+        requires rules { AreOverRules atoms.now (map rule_of rules.now) }
+        ensures { IfOk result (λ s. (beliefs : List plain.Formula) → IsSearch atoms.now (map rule_of rules.now) beliefs s) }
+    {
+        let mut known = Cnf::new(alloc, atoms.len() as u64);
+        push_rules(alloc, &mut known, atoms, rules)?;
+        Ok(Search {
+            known,
+            smaller: Vec::new(alloc),
+            views: Vec::new(alloc),
+            models: Vec::new(alloc),
+        })
+    }
+
+    /// Adds that no answer set is beside the atoms at these places.
+    fn exclude(
+        &mut self,
+        alloc: Global,
+        atoms: &[Name],
+        rules: &[ProgRule],
+        less: Vars,
+    ) -> Result<(), Memory>
+        requires few { length atoms.now ≤ 64 }
+        requires rules { AreOverRules atoms.now (map rule_of rules.now) }
+        requires room { length atoms.now ≤ self.old.known.vars }
+        ensures { IfOk result (λ _. IsExcluded atoms.now (map rule_of rules.now) less self.old self.new) }
+    {
+        push_beside(alloc, &mut self.known, atoms, rules, less)?;
+        self.smaller.push(less)?;
+        Ok(())
+    }
+
+    /// Puts the model's view at its place among the views, and adds that those that are left have another one.
+    fn put_view(
+        &mut self,
+        alloc: Global,
+        atoms: &[Name],
+        beliefs: &[&Name],
+        model: Vars,
+    ) -> Result<usize, Memory>
+        requires few { length atoms.now ≤ 64 }
+        requires few_beliefs { length beliefs.now ≤ 64 }
+        requires beliefs { AreNamesOf atoms.now (map (λ b. b.now) beliefs.now) }
+        requires room { length atoms.now ≤ self.old.known.vars }
+        ensures { IfOk result (λ place. IsPlaced atoms.now (map plain.Atom (map (λ b. b.now) beliefs.now)) model place self.old self.new) }
+    {
+        let view = view_of(alloc, atoms, beliefs, model)?;
+        push_other(alloc, &mut self.known, atoms, beliefs, view)?;
+        let place = place_of(&self.views, view);
+        self.views.insert(place, view)?;
+        Ok(place)
+    }
+
+    /// Lists the model with the trace that shows that it is an answer set.
+    fn list(
+        &mut self,
+        alloc: Global,
+        atoms: &[Name],
+        beliefs: &[&Name],
+        model: Vars,
+        minimal: Trace,
+    ) -> Result<(), Memory>
+        requires few { length atoms.now ≤ 64 }
+        requires few_beliefs { length beliefs.now ≤ 64 }
+        requires beliefs { AreNamesOf atoms.now (map (λ b. b.now) beliefs.now) }
+        requires room { length atoms.now ≤ self.old.known.vars }
+        requires one_each { length self.old.models.items ≡ length self.old.views.items }
+        ensures { IfOk result (λ _. IsListed atoms.now (map plain.Atom (map (λ b. b.now) beliefs.now)) model (inferences_of minimal) self.old self.new) }
+    {
+        match self.put_view(alloc, atoms, beliefs, model) {
+            Ok(place) => {
+                let shown = AnswerSetCert {
+                    model: model.number(),
+                    minimal,
+                };
+                self.models.insert(place, shown)?;
+                Ok(())
+            }
+            Err(want) => {
+                drop(minimal);
+                Err(want)
+            }
+        }
+    }
+
+    /// Takes up a model of what is known: it is an answer set, or something smaller leads on.
+    fn take_up(
+        &mut self,
+        alloc: Global,
+        atoms: &[Name],
+        rules: &[ProgRule],
+        beliefs: &[&Name],
+        model: Vars,
+    ) -> Result<(), Memory>
+        requires few { length atoms.now ≤ 64 }
+        requires few_beliefs { length beliefs.now ≤ 64 }
+        requires different { has_twins atoms.now ≡ false }
+        requires rules { AreOverRules atoms.now (map rule_of rules.now) }
+        requires beliefs { AreNamesOf atoms.now (map (λ b. b.now) beliefs.now) }
+        requires search { IsSearch atoms.now (map rule_of rules.now) (map plain.Atom (map (λ b. b.now) beliefs.now)) self.old }
+        requires model { IsModelOf atoms.now
+            (rest_formulas atoms.now (map rule_of rules.now) (map plain.Atom (map (λ b. b.now) beliefs.now)) self.old.smaller.items self.old.views.items) model }
+        ensures search { IfOk result (λ _. IsSearch atoms.now (map rule_of rules.now) (map plain.Atom (map (λ b. b.now) beliefs.now)) self.new) }
+        ensures less { IfOk result (λ _. sets_left atoms.now (map rule_of rules.now) (map plain.Atom (map (λ b. b.now) beliefs.now)) self.new
+            < sets_left atoms.now (map rule_of rules.now) (map plain.Atom (map (λ b. b.now) beliefs.now)) self.old) }
+    {
+        let smaller = smaller_clauses(alloc, atoms, rules, model)?;
+        let found = ask(alloc, &smaller, atoms);
+        drop(smaller);
+        match found? {
+            Answer::Model(less) => self.exclude(alloc, atoms, rules, less),
+            Answer::Refuted(minimal) => self.list(alloc, atoms, beliefs, model, minimal),
+        }
+    }
+
+    /// Looks for one more model of what is known, makes it small and takes it up; whether there was one.
+    fn step(
+        &mut self,
+        alloc: Global,
+        atoms: &[Name],
+        rules: &[ProgRule],
+        beliefs: &[&Name],
+    ) -> Result<bool, Memory>
+        requires few { length atoms.now ≤ 64 }
+        requires few_beliefs { length beliefs.now ≤ 64 }
+        requires different { has_twins atoms.now ≡ false }
+        requires rules { AreOverRules atoms.now (map rule_of rules.now) }
+        requires beliefs { AreNamesOf atoms.now (map (λ b. b.now) beliefs.now) }
+        requires search { IsSearch atoms.now (map rule_of rules.now) (map plain.Atom (map (λ b. b.now) beliefs.now)) self.old }
+        ensures search { IfOk result (λ _. IsSearch atoms.now (map rule_of rules.now) (map plain.Atom (map (λ b. b.now) beliefs.now)) self.new) }
+        ensures goes { IfOk result (λ goes. IsTrue goes → sets_left atoms.now (map rule_of rules.now) (map plain.Atom (map (λ b. b.now) beliefs.now)) self.new
+            < sets_left atoms.now (map rule_of rules.now) (map plain.Atom (map (λ b. b.now) beliefs.now)) self.old) }
+        ensures ends { IfOk result (λ goes. goes ≡ false → IsExhausted atoms.now (map rule_of rules.now) (map plain.Atom (map (λ b. b.now) beliefs.now)) self.new) }
+    {
+        match ask(alloc, &self.known, atoms)? {
+            Answer::Model(model) => {
+                let small = made_small(alloc, atoms, rules, beliefs, self, model)?;
+                self.take_up(alloc, atoms, rules, beliefs, small)?;
+                Ok(true)
+            }
+            Answer::Refuted(trace) => {
+                drop(trace);
+                Ok(false)
+            }
+        }
+    }
+}
+
+/// Searches until all answer sets are found.
+pub(crate) fn find_all(
+    alloc: Global,
+    atoms: &[Name],
+    rules: &[ProgRule],
+    beliefs: &[&Name],
+) -> Result<Search, Memory>
+    requires few { length atoms.now ≤ 64 }
+    requires few_beliefs { length beliefs.now ≤ 64 }
+    requires different { has_twins atoms.now ≡ false }
+    requires rules { AreOverRules atoms.now (map rule_of rules.now) }
+    requires beliefs { AreNamesOf atoms.now (map (λ b. b.now) beliefs.now) }
+    ensures search { IfOk result (IsSearch atoms.now (map rule_of rules.now) (map plain.Atom (map (λ b. b.now) beliefs.now))) }
+    ensures all { IfOk result (IsExhausted atoms.now (map rule_of rules.now) (map plain.Atom (map (λ b. b.now) beliefs.now))) }
+{
+    let mut search = Search::new(alloc, atoms, rules)?;
+    loop {
+        match search.step(alloc, atoms, rules, beliefs) {
+            Ok(true) => {}
+            Ok(false) => return Ok(search),
+            Err(want) => {
+                drop(search);
+                return Err(want);
+            }
+        }
+    }
+}
