@@ -12,3 +12,4 @@ pub mod CommuteLemmas
 pub mod ExistLemmas
 pub mod ApartLemmas
 pub mod EliminationLemmas
+pub mod SemiLemmas

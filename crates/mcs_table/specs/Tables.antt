@@ -78,3 +78,15 @@ pub record IsJoin (a b : TableData) (level : ℕ) (t : TableData) : Type 0 where
 pub record IsForgetting (a : TableData) (keep : ℕ) (t : TableData) : Type 0 where
   pub scope : t.scope ≡ common a.scope keep
   pub rows : IsListing (IsMinimalRow (IsRestriction a.rows keep)) RowBefore t.rows
+
+-- one of the rows fits it, and both together have at most so many marks
+pub record HasPartner (xs : List Row) (level : ℕ) (r : Row) : Type 0 where
+  pub partner : Row
+  pub among : IsAmong partner xs
+  pub fit : Fits r.state partner.state
+  pub few : size (union r.marks partner.marks) ≤ level
+
+-- t has exactly the rows of a that have a partner in b
+pub record IsSemiJoin (a b : TableData) (level : ℕ) (t : TableData) : Type 0 where
+  pub scope : t.scope ≡ a.scope
+  pub rows : IsListing (λ r. IsAmong r a.rows × HasPartner b.rows level r) RowBefore t.rows

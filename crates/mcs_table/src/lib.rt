@@ -9,6 +9,7 @@ mod laws;
 mod minimal;
 mod partners;
 mod row;
+mod semi_joining;
 mod table;
 
 pub use fitting::matching;
@@ -19,4 +20,5 @@ pub use laws::{
     joins_are_minimal_unions,
 };
 pub use row::Row;
+pub use semi_joining::semi_join;
 pub use table::Table;

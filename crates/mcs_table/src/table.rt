@@ -62,8 +62,9 @@ impl Table {
         Table { scope, rows }
     }
 
-    /// The table of these rows, which are those of a table already. It takes no memory.
-    pub(crate) fn in_order(scope: Vars, rows: Vec<Row>) -> Table
+    /// The table of these rows, which are those of a table already: all on the variables of the scope, in
+    /// order and each once, as what is kept of a table's rows is. It takes no memory.
+    pub fn in_order(scope: Vars, rows: Vec<Row>) -> Table
         requires { IsTable (record { scope = scope; rows = rows.items }) }
         ensures { result ≡ record { scope = scope; rows = rows.items } }
     {

@@ -1,0 +1,4 @@
+pub mod General
+pub mod Filtered
+pub mod FoundLemmas
+pub mod CourseLemmas

@@ -1,0 +1,38 @@
+use Rattle.std.proofs.Common.{ap, sym, ◌∙◌, subst}
+use Rattle.std.proofs.lemmas.Result.{err_from_is_err_and}
+use Rattle.mcs_sets.specs.Sets.{size}
+use Rattle.mcs_base.proofs.Each.{all_push}
+use Rattle.mcs_system.specs.Plain.{System}
+use Rattle.mcs_system.specs.Repairs.{IsDiagnosis}
+use Rattle.mcs_states.proofs.Causes.{rest_kept, halted_before, done_again}
+use Rattle.mcs_diagnosis.specs.Diagnoses.{IsShown}
+use Rattle.mcs_diagnosis.proofs.FoundLemmas.{known, pairs-more, pairs-skip, all-found}
+use Rattle.mcs_diagnosis.proofs.found.diagnoses_of.Goals.{then-count-level+in_ok-shown+in_ok-push, else-count-level}
+use Rattle.mcs_diagnosis.proofs.found.diagnoses_of.Goals as goal
+
+pub show-requires-clause-diagnosis : goal.show-requires-clause-diagnosis
+show-requires-clause-diagnosis g c = subst (λ (m : System). IsDiagnosis m c.new.result) c.requires.same
+    (known _ c.args.level c.in_ok-pairs.pairs.items c.deref-marks-items.result.now c.loop-marks.marks-index c.marks-item.result c.new.result c.deref-marks-items.ensures.value c.in_ok-pairs.ensures.listing c.loop-marks-test.true c.marks-item.is c.new.ensures).one
+
+pub returns-in_err-shown-clause-cause : goal.returns-in_err-shown-clause-cause
+returns-in_err-shown-clause-cause g c = let p = err_from_is_err_and c.from_residual-in_err-shown.result c.from_residual-in_err-shown.ensures.1 in rw (p.1, p.2)
+    (halted_before _ _ _ c.args.level _ _ (ap size c.new.ensures ∙ sym c.count.ensures.number ∙ c.if-count-level.true) c.loop-marks.invariant.rest c.in_err-shown.ensures.halt)
+
+pub loop-marks-preserved : goal.loop-marks-preserved
+loop-marks-preserved g c = elim c.if-count-level.branch [
+  | then-count-level+in_ok-shown+in_ok-push w ↦ record {
+    pairs = rw (w.found-is, w.in_ok-push.ensures.items) (pairs-more c.args.level c.loop-marks.found.items c.deref-marks-items.result.now c.loop-marks.marks-index c.marks-item.result _ c.loop-marks-test.true c.marks-item.is (sym c.count.ensures.number ∙ w.if-count-level.true) (w.in_ok-shown.ensures.pair ∙ w.new.ensures) c.loop-marks.invariant.pairs);
+    shown = rw (w.found-is, w.in_ok-push.ensures.items) (all_push (IsShown c.args.system.now) _ _ c.loop-marks.invariant.shown w.in_ok-shown.ensures.shown);
+    done = rw w.evaluator-is (done_again _ _ _ c.args.level _ (ap size w.new.ensures ∙ sym c.count.ensures.number ∙ w.if-count-level.true) c.loop-marks.invariant.done w.in_ok-shown.ensures.done);
+    rest = rw w.evaluator-is (rest_kept _ _ _ c.loop-marks.invariant.rest w.in_ok-shown.ensures.rest);
+  }
+  | else-count-level w ↦ record {
+    pairs = rw w.found-is (pairs-skip c.args.level c.loop-marks.found.items c.deref-marks-items.result.now c.loop-marks.marks-index c.marks-item.result c.loop-marks-test.true c.marks-item.is (λ e. w.if-count-level.false (c.count.ensures.number ∙ e)) c.loop-marks.invariant.pairs);
+    shown = rw w.found-is c.loop-marks.invariant.shown;
+    done = rw w.evaluator-is c.loop-marks.invariant.done;
+    rest = rw w.evaluator-is c.loop-marks.invariant.rest;
+  }
+]
+
+pub returns-clause-found : goal.returns-clause-found
+returns-clause-found g c = all-found c.args.system.now _ c.args.level c.loop-marks.found.items c.in_ok-pairs.pairs.items c.deref-marks-items.result.now c.loop-marks.marks-index c.requires.same c.deref-marks-items.ensures.value c.in_ok-pairs.ensures.listing c.loop-marks-test.false c.loop-marks.invariant.pairs c.loop-marks.invariant.shown

@@ -1,0 +1,3 @@
+pub mod Diagnoses
+pub mod Courses
+pub mod Taken

@@ -1,0 +1,102 @@
+//! Minimal diagnoses, level by level.
+
+ghost use Rattle.std.specs.Prelude.{◌≡◌, ◌↔◌, false, IsTrue, IfOk, IfErr, OnErr};
+ghost use Rattle.std.specs.Arc.{arc_value};
+ghost use Rattle.mcs_states.specs.Evaluators.{KeepsRest, HasHaltCause, IsTold};
+ghost use Rattle.mcs_diagnosis.specs.Courses.{IsPast};
+ghost use Rattle.mcs_diagnosis.specs.Taken.{IsLevel, HasTaken};
+
+use crate::diagnosis::Level;
+use crate::found::diagnoses_of;
+use mcs_states::{Evaluator, Halt};
+use mcs_system::System;
+use std::alloc::Global;
+use std::marker::Model;
+use std::sync::Arc;
+
+/// The minimal diagnoses of a system, by the number of their marks. It is seen as the evaluator, and the
+/// number of the next level.
+pub struct Levels<E: Evaluator> {
+    evaluator: E,
+    system: Arc<System>,
+    level: u32,
+    // Whether the system is consistent, once level 0 was taken.
+    consistent: bool,
+}
+
+impl<E: Evaluator> Model for Levels<E> {
+    ghost use Rattle.std.specs.Arc.{arc_value};
+    ghost use Rattle.mcs_diagnosis.specs.Courses.{Course, IsCourse};
+
+    ghost Value = { Course E };
+
+    ghost view = { λ l. record { evaluator = l.evaluator; level = l.level } };
+
+    ghost invariant = { λ l. IsCourse (E.stands l.evaluator) (arc_value l.system) l.level l.consistent };
+}
+
+impl<E: Evaluator> Levels<E> {
+    /// The levels of the system, from level 0 on, by an evaluator of this system.
+    pub fn new(evaluator: E, system: Arc<System>) -> Levels<E>
+        requires same { (E.stands evaluator).system ≡ arc_value system }
+        requires going { (E.stands evaluator).halted ≡ false }
+        ensures { result ≡ record { evaluator = evaluator; level = 0 } }
+    {
+        let _few = system.bridges();
+        Levels {
+            evaluator,
+            system,
+            level: 0,
+            consistent: false,
+        }
+    }
+
+    // Whether there is no further level.
+    fn is_past(&self) -> bool
+        ensures { IsTrue result ↔ IsPast (E.stands self.now.evaluator).system self.now.level }
+    {
+        self.level > 0 && self.consistent || self.level as usize > self.system.bridges().len()
+    }
+
+    /// The minimal diagnoses of the next level, in the order of pairs. `Over` comes exactly after level 0 of a
+    /// consistent system, or after the level of as many marks as there are rules, and asks nothing. `Spent`
+    /// and `Missing` come for the causes of a call of this level; they are then the evaluator's own halt.
+    pub fn next(&mut self, alloc: Global) -> Result<Level, Halt>
+        requires { (E.stands self.old.evaluator).halted ≡ false }
+        ensures level { IfOk result (IsLevel (E.stands self.old.evaluator).system self.old.level) }
+        ensures taken { IfOk result (HasTaken E.stands self.old self.new) }
+        ensures cause { IfErr result (HasHaltCause (E.stands self.old.evaluator) self.old.level) }
+        ensures not_past { OnErr result (¬ IsPast (E.stands self.old.evaluator).system self.old.level) }
+        ensures told { IfErr result (IsTold (E.stands self.new.evaluator)) }
+        ensures stays { OnErr result (self.new.level ≡ self.old.level) }
+        ensures rest { KeepsRest (E.stands self.old.evaluator) (E.stands self.new.evaluator) }
+    {
+        if self.is_past() {
+            return Ok(Level::Over);
+        }
+        let found = diagnoses_of(alloc, &mut self.evaluator, &self.system, self.level)?;
+        self.consistent = self.level == 0 && !found.is_empty();
+        self.level += 1;
+        Ok(Level::Found(found))
+    }
+
+    /// The evaluator.
+    pub fn evaluator(&self) -> &E
+        ensures { result.now ≡ self.now.evaluator }
+    {
+        &self.evaluator
+    }
+
+    /// The evaluator, back.
+    pub fn into_evaluator(self) -> E
+        ensures { result ≡ self.evaluator }
+    {
+        let Levels {
+            evaluator,
+            system: _,
+            level: _,
+            consistent: _,
+        } = self;
+        evaluator
+    }
+}

@@ -1,0 +1,207 @@
+-- Lists of tables whose joint rows have the same minimal marks.
+use Rattle.std.proofs.Common.{◌≡◌, ◌<◌, ◌≤◌, ℕ, eqb, cond, Bool, true, false, true≢false, List, [], ◌∷◌, length, get_or, refl, sym, ap, ◌∙◌, subst, inl, inr, ◌↔◌, arith, IsTrue}
+use Rattle.std.proofs.lemmas.Bool.Decides.{nat_tests}
+use Rattle.std.proofs.lemmas.List.Edits.{Swapped, swapped_from_swap, length-swap}
+use Rattle.std.proofs.lemmas.List.Sorted.{IsPermutation-keeps}
+use Rattle.std.specs.List.{AllByRecursion, AllZip, swap}
+use Rattle.std.specs.List.Sorted.{IsPermutation}
+use Rattle.mcs_sets.specs.Sets.{has, size, Within}
+use Rattle.mcs_sets.proofs.SetLemmas.{has-empty}
+use Rattle.mcs_sets.proofs.Lattice.{within_antisymmetric, size_within}
+use Rattle.mcs_base.specs.Listings.{IsAmong}
+use Rattle.mcs_base.specs.Minimal.{IsMinimal}
+use Rattle.mcs_base.specs.Partials.{PartialState, Fits}
+use Rattle.mcs_base.proofs.Among.{zip_among}
+use Rattle.mcs_base.proofs.Each.{all_from_among}
+use Rattle.mcs_base.proofs.Lists.{length_zip, zip_get_or}
+use Rattle.mcs_base.proofs.ListingLemmas.{same_listing}
+use Rattle.mcs_table.specs.declared.row.Row.{Row}
+use Rattle.mcs_table.specs.RowOrder.{RowBefore}
+use Rattle.mcs_table.specs.Tables.{TableData, IsTable, IsUnion, IsMinimalRow, IsJoin, AreApart, unit_row, unit_table, united_row}
+use Rattle.mcs_table.specs.Joins.{union_of, united_rows, FitTogether}
+use Rattle.mcs_table.specs.Elimination.{AreJointMarks}
+use Rattle.mcs_table.proofs.ExistLemmas.{join_exists}
+use Rattle.mcs_table.proofs.JointLemmas.{join_presents, is_unit, unit_presents, unit-united}
+use Rattle.mcs_table.proofs.OrderLemmas.{RowBefore-asymmetric}
+use Rattle.mcs_table.proofs.OrderFreeLemmas.{in_some, some_in, table_is}
+use Rattle.mcs_table.proofs.TableLemmas.{unit-kept}
+use Rattle.mcs_joint.specs.Apart.{EachApart}
+
+-- ---- the same minimal marks
+-- the joint rows of the second list are marks of the first, and each of the first has one of the second within it
+pub record MarksCover (level : ℕ) (ts us : List TableData) : Type 0 where
+  pub from : (s : ℕ) → AreJointMarks level us s → AreJointMarks level ts s
+  pub below : (s : ℕ) → AreJointMarks level ts s → (t : ℕ) × AreJointMarks level us t × Within t s
+
+pub cover_minimal : (level : ℕ) (ts us : List TableData) → MarksCover level ts us → (s : ℕ) → IsMinimal (AreJointMarks level us) s ↔ IsMinimal (AreJointMarks level ts) s
+cover_minimal level ts us c s = (
+  λ h. record {
+    one = c.from s h.one;
+    least = λ t marks within.
+        let (u, marks', inside) = c.below t marks in
+        let same = h.least u marks' (λ v i. within v (inside v i)) in
+        within_antisymmetric t s within (subst (λ w. Within w t) same inside);
+  },
+  λ h.
+      let (u, marks, inside) = c.below s h.one in
+      let same : u ≡ s = h.least u (c.from u marks) inside in
+      record { one = subst (AreJointMarks level us) same marks; least = λ t marks' within. h.least t (c.from t marks') within },
+)
+
+pub covers-trans : (level : ℕ) (ts us vs : List TableData) → MarksCover level ts us → MarksCover level us vs → MarksCover level ts vs
+covers-trans level ts us vs c d = record {
+  from = λ s h. c.from s (d.from s h);
+  below = λ s h. let (t, marks, within) = c.below s h in let (u, marks', within') = d.below t marks in (u, marks', λ k i. within k (within' k i));
+}
+
+-- ---- the minimal rows with few marks
+-- the second table is what the first says, joined with the table of no variables
+abbrev pub IsMinimalTable : ℕ → TableData → TableData → Type 0
+IsMinimalTable level t u = IsJoin unit_table t level u
+
+pub minimal_among : (level : ℕ) (t u : TableData) → IsMinimalTable level t u → (p : Row) → IsAmong p u.rows → IsAmong p t.rows
+minimal_among level t u j p among =
+    let h = ((j.rows.exactly p).0 among).one in
+    let first : h.first ≡ unit_row = elim h.in_first [ inl e ↦ e | inr none ↦ absurd none ] in
+    let same : p ≡ h.second = h.is ∙ (ap (λ (w : Row). united_row w h.second) first ∙ unit-united h.second) in
+    subst (λ (w : Row). IsAmong w t.rows) (sym same) h.in_second
+
+pub join_is_table : (a b t : TableData) (level : ℕ) → IsTable a → IsTable b → IsJoin a b level t → IsTable t
+join_is_table a b t level is_a is_b j =
+    let (u, is_u, k) = join_exists a b level is_a is_b in
+    subst IsTable (table_is u t (k.scope ∙ sym j.scope) (same_listing RowBefore RowBefore-asymmetric (IsMinimalRow (IsUnion a.rows b.rows level)) u.rows t.rows k.rows j.rows)) is_u
+
+-- a row with few marks has a minimal one of its state
+minimal_below : (level : ℕ) (t u : TableData) → IsMinimalTable level t u → (p : Row) → IsAmong p t.rows → size p.marks ≤ level → (q : Row) × IsAmong q u.rows × ((q.state ≡ p.state) × Within q.marks p.marks)
+minimal_below level t u j p among few =
+    let presents = join_presents is_unit unit_table t u level unit_presents.covers j in
+    let (q, there, state, within) = presents.covers.below p (record { first = unit_row; second = p; holds = refl; in_second = among; fit = λ v none is. absurd (nothing v none); is = sym (unit-united p); few = few }) in
+    (q, there, (state, within))
+  where
+    nothing : (v : ℕ) → IsTrue (has 0 v) → ⊥
+    nothing v h = true≢false (sym h ∙ has-empty v)
+
+abbrev IsWithin : Row → Row → Type 0
+IsWithin q p = (q.state ≡ p.state) × Within q.marks p.marks
+
+-- parts of the one list of tables, and within them parts of the other
+parts_below : (level : ℕ) (ts us : List TableData) → AllZip (IsMinimalTable level) ts us → (ps : List Row) → AllZip (λ (p : Row) (t : TableData). IsAmong p t.rows) ps ts → AllByRecursion (λ (p : Row). size p.marks ≤ level) ps
+    → (qs : List Row) × AllZip (λ (q : Row) (u : TableData). IsAmong q u.rows) qs us × (AllZip IsWithin qs ps × AllZip (λ p q. IsWithin q p) ps qs)
+parts_below level [] [] all [] zip few = ([], tt, (tt, tt))
+parts_below level [] [] all (p ∷ ps) zip few = absurd zip
+parts_below level [] (u ∷ us) all ps zip few = absurd all
+parts_below level (t ∷ ts) [] all ps zip few = absurd all
+parts_below level (t ∷ ts) (u ∷ us) all [] zip few = absurd zip
+parts_below level (t ∷ ts) (u ∷ us) all (p ∷ ps) zip few =
+    let (q, there, within) = minimal_below level t u all.0 p zip.0 few.0 in
+    let (qs, zips, both) = parts_below level ts us all.1 ps zip.1 few.1 in
+    (q ∷ qs, (there, zips), ((within, both.0), (within, both.1)))
+
+parts_among : (level : ℕ) (ts us : List TableData) → AllZip (IsMinimalTable level) ts us → (ps : List Row) → AllZip (λ (p : Row) (u : TableData). IsAmong p u.rows) ps us → AllZip (λ (p : Row) (t : TableData). IsAmong p t.rows) ps ts
+parts_among level [] [] all ps zip = zip
+parts_among level [] (u ∷ us) all ps zip = absurd all
+parts_among level (t ∷ ts) [] all ps zip = absurd all
+parts_among level (t ∷ ts) (u ∷ us) all [] zip = absurd zip
+parts_among level (t ∷ ts) (u ∷ us) all (p ∷ ps) zip = (minimal_among level t u all.0 p zip.0, parts_among level ts us all.1 ps zip.1)
+
+-- rows of the same states fit together where the others do, and have no more marks together
+within_fit : (qs ps : List Row) → AllZip IsWithin qs ps → FitTogether ps → FitTogether qs
+within_fit qs ps zip fit x y in_x in_y =
+    let (p, in_p, same) = zip_among IsWithin qs ps zip x in_x in
+    let (p', in_p', same') = zip_among IsWithin qs ps zip y in_y in
+    subst (λ (s : PartialState). Fits s y.state) (sym same.0) (subst (λ (s : PartialState). Fits p.state s) (sym same'.0) (fit p p' in_p in_p'))
+
+within_marks : (qs ps : List Row) → AllZip IsWithin qs ps → Within (union_of (λ (r : Row). r.marks) qs) (union_of (λ (r : Row). r.marks) ps)
+within_marks qs ps zip k h =
+    let (q, in_q, there) = in_some (λ (r : Row). r.marks) qs k h in
+    let (p, in_p, same) = zip_among IsWithin qs ps zip q in_q in
+    some_in (λ (r : Row). r.marks) ps k p in_p (same.1 k there)
+
+pub minimal_tables_cover : (level : ℕ) (ts us : List TableData) → AllZip (IsMinimalTable level) ts us → MarksCover level ts us
+minimal_tables_cover level ts us all = record {
+  from = λ s (r, j, e). (r, record { parts = j.parts; of_tables = parts_among level ts us all j.parts j.of_tables; fit = j.fit; is = j.is; few = j.few }, e);
+  below = λ s (r, j, e).
+      let marks : r.marks ≡ union_of (λ (w : Row). w.marks) j.parts = ap (λ (w : Row). w.marks) j.is in
+      let few : AllByRecursion (λ (p : Row). size p.marks ≤ level) j.parts = all_from_among (λ (p : Row). size p.marks ≤ level) j.parts (λ p among.
+      let le = size_within p.marks r.marks (λ k h. subst (λ n. has n k ≡ true) (sym marks) (some_in (λ (w : Row). w.marks) j.parts k p among h)) in let few' = j.few in omega arith) in
+      let (qs, zips, both) = parts_below level ts us all j.parts j.of_tables few in
+      let within : Within (union_of (λ (w : Row). w.marks) qs) r.marks = λ k h. subst (λ n. has n k ≡ true) (sym marks) (within_marks qs j.parts both.0 k h) in
+      let le = size_within _ r.marks within in let few' = j.few in (
+        union_of (λ (w : Row). w.marks) qs,
+        (united_rows qs, record { parts = qs; of_tables = zips; fit = within_fit qs j.parts both.0 j.fit; is = refl; few = omega arith }, refl),
+        λ k h. subst (λ n. has n k ≡ true) (sym e) (within k h),
+      );
+}
+
+-- ---- no mark in common
+module _ (xs : List TableData) (a b : ℕ) (less_a : a < length xs) (less_b : b < length xs) where
+  abbrev place : ℕ → ℕ
+  place i = cond (eqb i a) b (cond (eqb i b) a i)
+
+  placed : (i : ℕ) → get_or (swap xs a b) i unit_table ≡ get_or xs (place i) unit_table
+  placed i = at (swapped_from_swap xs (swap xs a b) a b unit_table less_a less_b refl) (eqb i a) refl (eqb i b) refl
+    where
+      at : Swapped (λ k. get_or xs k unit_table) (λ k. get_or (swap xs a b) k unit_table) a b → (u : Bool) → eqb i a ≡ u → (v : Bool) → eqb i b ≡ v → get_or (swap xs a b) i unit_table ≡ get_or xs (cond u b (cond v a i)) unit_table
+      at s true e v e' = let same : i ≡ a = grind (arith, nat_tests) in ap (λ k. get_or (swap xs a b) k unit_table) same ∙ s.0
+      at s false e true e' = let same : i ≡ b = grind (arith, nat_tests) in ap (λ k. get_or (swap xs a b) k unit_table) same ∙ s.1
+      at s false e false e' = s.2 i (λ same. grind (arith, nat_tests)) (λ same. grind (arith, nat_tests))
+
+  place_in : (i : ℕ) → i < length xs → place i < length xs
+  place_in i less = at (eqb i a) (eqb i b)
+    where
+      at : (u v : Bool) → cond u b (cond v a i) < length xs
+      at true v = less_b
+      at false true = less_a
+      at false false = less
+
+  place_one : (i j : ℕ) → ¬ (i ≡ j) → ¬ (place i ≡ place j)
+  place_one i j differ same = differ (at (eqb i a) refl (eqb i b) refl (eqb j a) refl (eqb j b) refl same)
+    where
+      at : (u : Bool) → eqb i a ≡ u → (v : Bool) → eqb i b ≡ v → (u' : Bool) → eqb j a ≡ u' → (v' : Bool) → eqb j b ≡ v' → cond u b (cond v a i) ≡ cond u' b (cond v' a j) → i ≡ j
+      at true e v f true e' v' f' same = grind (arith, nat_tests)
+      at true e v f false e' true f' same = grind (arith, nat_tests)
+      at true e v f false e' false f' same = grind (arith, nat_tests)
+      at false e true f true e' v' f' same = grind (arith, nat_tests)
+      at false e true f false e' true f' same = grind (arith, nat_tests)
+      at false e true f false e' false f' same = grind (arith, nat_tests)
+      at false e false f true e' v' f' same = grind (arith, nat_tests)
+      at false e false f false e' true f' same = grind (arith, nat_tests)
+      at false e false f false e' false f' same = same
+
+  apart_swap : EachApart xs → EachApart (swap xs a b)
+  apart_swap apart = record { at = moved }
+    where
+      moved : (i j : ℕ) → i < length (swap xs a b) → j < length (swap xs a b) → ¬ (i ≡ j) → AreApart (get_or (swap xs a b) i unit_table).rows (get_or (swap xs a b) j unit_table).rows
+      moved i j less_i less_j differ =
+          let long = length-swap xs a b in
+          let h = apart.at (place i) (place j) (place_in i (omega arith)) (place_in j (omega arith)) (place_one i j differ) in
+          subst (λ (t : TableData). AreApart t.rows (get_or (swap xs a b) j unit_table).rows) (sym (placed i)) (subst (λ (t : TableData). AreApart (get_or xs (place i) unit_table).rows t.rows) (sym (placed j)) h)
+
+pub apart_moved : (ts us : List TableData) → IsPermutation ts us → EachApart ts → EachApart us
+apart_moved ts us moved apart = IsPermutation-keeps ts EachApart apart (λ l i j less_i less_j h. apart_swap l i j less_i less_j h) us moved
+
+-- tables with some of the rows of others have no more marks in common
+pub apart_fewer : (ts us : List TableData) → AllZip (λ (t u : TableData). (p : Row) → IsAmong p u.rows → IsAmong p t.rows) ts us → EachApart ts → EachApart us
+apart_fewer ts us zip apart = record { at = fewer }
+  where
+    fewer : (i j : ℕ) → i < length us → j < length us → ¬ (i ≡ j) → AreApart (get_or us i unit_table).rows (get_or us j unit_table).rows
+    fewer i j less_i less_j differ x y in_x in_y =
+        let long = length_zip (λ (t u : TableData). (p : Row) → IsAmong p u.rows → IsAmong p t.rows) ts us zip in
+        let at_i = zip_get_or (λ (t u : TableData). (p : Row) → IsAmong p u.rows → IsAmong p t.rows) ts us i unit_table unit_table zip (omega arith) in
+        let at_j = zip_get_or (λ (t u : TableData). (p : Row) → IsAmong p u.rows → IsAmong p t.rows) ts us j unit_table unit_table zip (omega arith) in
+        apart.at i j (omega arith) (omega arith) differ x y (at_i x in_x) (at_j y in_y)
+
+zip_weaker : {A B : Type 0} (R Q : A → B → Type 0) → ((x : A) (y : B) → R x y → Q x y) → (xs : List A) (ys : List B) → AllZip R xs ys → AllZip Q xs ys
+zip_weaker R Q weaker [] [] h = tt
+zip_weaker R Q weaker [] (y ∷ ys) h = absurd h
+zip_weaker R Q weaker (x ∷ xs) [] h = absurd h
+zip_weaker R Q weaker (x ∷ xs) (y ∷ ys) h = (weaker x y h.0, zip_weaker R Q weaker xs ys h.1)
+
+pub apart_minimal : (level : ℕ) (ts us : List TableData) → AllZip (IsMinimalTable level) ts us → EachApart ts → EachApart us
+apart_minimal level ts us all = apart_fewer ts us (zip_weaker (IsMinimalTable level) (λ (t u : TableData). (p : Row) → IsAmong p u.rows → IsAmong p t.rows) (λ t u j. minimal_among level t u j) ts us all)
+
+pub minimal_are_tables : (level : ℕ) (ts us : List TableData) → AllZip (IsMinimalTable level) ts us → AllByRecursion IsTable ts → AllByRecursion IsTable us
+minimal_are_tables level [] [] all is = tt
+minimal_are_tables level [] (u ∷ us) all is = absurd all
+minimal_are_tables level (t ∷ ts) [] all is = absurd all
+minimal_are_tables level (t ∷ ts) (u ∷ us) all is = (join_is_table unit_table t u level unit-kept is.0 all.0, minimal_are_tables level ts us all.1 is.1)

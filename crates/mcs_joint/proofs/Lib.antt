@@ -1,0 +1,9 @@
+pub mod General
+pub mod Joint
+pub mod Repairing
+pub mod Covering
+pub mod Eliminating
+pub mod Repaired
+pub mod Changing
+pub mod Joining
+pub mod Reducing

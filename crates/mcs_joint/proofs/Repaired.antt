@@ -1,0 +1,63 @@
+-- What is left of the tables of all contexts, with the minimal rows of each, in some order.
+use Rattle.std.proofs.Common.{◌≡◌, ◌≤◌, ℕ, List, length, map, min, Some, slice_get, subst, ◌↔◌, arith}
+use Rattle.std.proofs.lemmas.Option.{slice_get-get_or}
+use Rattle.std.specs.List.{AllByRecursion, AllZip}
+use Rattle.mcs_sets.specs.Sets.{size, Meets}
+use Rattle.mcs_sets.specs.Orders.{PairBefore}
+use Rattle.mcs_base.specs.Listings.{IsAmong, IsListing}
+use Rattle.mcs_base.specs.Minimal.{IsMinimal}
+use Rattle.mcs_base.proofs.ListingLemmas.{IsListing-same}
+use Rattle.mcs_system.specs.Plain.{System}
+use Rattle.mcs_system.specs.Faults.{IsValid}
+use Rattle.mcs_system.specs.Imports.{marks_at}
+use Rattle.mcs_system.specs.Repairs.{IsDiagnosis}
+use Rattle.mcs_laws.proofs.Counting.{minimal_is_small}
+use Rattle.mcs_laws.proofs.Questions.{marks_are_apart}
+use Rattle.mcs_table.specs.declared.row.Row.{Row}
+use Rattle.mcs_table.specs.Tables.{TableData, IsTable, unit_table}
+use Rattle.mcs_table.specs.Elimination.{EliminatesTo, AreJointMarks}
+use Rattle.mcs_table.proofs.EliminationLemmas.{elimination_gives_marks}
+use Rattle.mcs_rows.specs.Local.{IsRowOf, AreLocalTables}
+use Rattle.mcs_joint.specs.Apart.{EachApart}
+use Rattle.mcs_joint.proofs.Covering.{IsMinimalTable, MarksCover, cover_minimal, covers-trans, minimal_tables_cover, minimal_are_tables}
+use Rattle.mcs_joint.specs.Reduced.{IsReduced}
+use Rattle.mcs_joint.proofs.Repairing.{minimal_marks}
+use Rattle.mcs_joint.proofs.Reducing.{reduced_covers}
+
+-- rows of two contexts have no mark in common
+rows_apart : (m : System) (k i j : ℕ) (x y : Row) → IsRowOf m k i x → IsRowOf m k j y → ¬ (i ≡ j) → ¬ Meets x.marks y.marks
+rows_apart m k i j x y is_x is_y differ =
+    let (order, is_order, one) = is_x.local in
+    let (order', is_order', other) = is_y.local in
+    subst (λ n. ¬ Meets n y.marks) one.marks_is (subst (λ n. ¬ Meets (marks_at m i one.whole one.rules) n) other.marks_is (marks_are_apart m one.whole other.whole one.rules other.rules i j one.of_rules other.of_rules differ))
+
+pub own_apart : (m : System) (k : ℕ) (tables : List TableData) → ((i : ℕ) (t : TableData) (p : Row) → slice_get tables i ≡ Some t → IsAmong p t.rows → IsRowOf m k i p) → EachApart tables
+own_apart m k tables own = record {
+  at = λ i j less_i less_j differ x y in_x in_y.
+      rows_apart m k i j x y (own i _ x (slice_get-get_or tables i unit_table less_i) in_x) (own j _ y (slice_get-get_or tables j unit_table less_j) in_y) differ;
+}
+
+pub local_apart : (m : System) (k : ℕ) (tables : List TableData) → AreLocalTables m k tables → EachApart tables
+local_apart m k tables local = own_apart m k tables (λ i t p is among. ((local.local i t is).rows.exactly p).0 among)
+
+-- no minimal diagnosis has more marks than there are rules
+few_are_few : (m : System) (level most : ℕ) → most ≡ min level (length m.bridges) → (p : ℕ) → (IsMinimal (IsDiagnosis m) p × (size p ≤ most)) ↔ (IsMinimal (IsDiagnosis m) p × (size p ≤ level))
+few_are_few m level most e p = (λ h. (h.0, let few = h.1 in omega arith), λ h. (h.0, let few = h.1 in let small = minimal_is_small m p h.0 in omega arith))
+
+module _ (m : System) (valid : IsValid m) (k level most : ℕ) (is_most : most ≡ min level (length m.bridges)) (high : level ≤ k) (tables few ordered : List TableData)
+    (all : AllByRecursion IsTable tables) (local : AreLocalTables m k tables) (minimal : AllZip (IsMinimalTable most) tables few) (reduced : IsReduced most few ordered) where
+  ordered_tables : AllByRecursion IsTable ordered
+  ordered_tables = reduced.tables (minimal_are_tables most tables few minimal all)
+
+  covers : MarksCover most tables ordered
+  covers = covers-trans most tables few ordered (minimal_tables_cover most tables few minimal) (reduced_covers most few ordered reduced)
+
+  same : (p : ℕ) → IsMinimal (AreJointMarks most ordered) p ↔ (IsMinimal (IsDiagnosis m) p × (size p ≤ level))
+  same p =
+      let one = cover_minimal most tables ordered covers p in
+      let other = minimal_marks m valid k tables all local most (omega arith) p in
+      let last = few_are_few m level most is_most p in
+      (λ h. last.0 (other.0 (one.0 h)), λ h. one.1 (other.1 (last.1 h)))
+
+  pub repairs_listed : (t : TableData) → EliminatesTo most 0 ordered t → IsListing (λ p. IsMinimal (IsDiagnosis m) p × (size p ≤ level)) PairBefore (map (λ (r : Row). r.marks) t.rows)
+  repairs_listed t eliminates = IsListing-same PairBefore (IsMinimal (AreJointMarks most ordered)) (λ p. IsMinimal (IsDiagnosis m) p × (size p ≤ level)) (map (λ (r : Row). r.marks) t.rows) same (elimination_gives_marks most ordered t ordered_tables eliminates)

@@ -1,0 +1,14 @@
+-- Tables without rows that make no difference.
+use Rattle.std.specs.Prelude.{◌≡◌, ℕ, ◌↔◌, List, length}
+use Rattle.std.specs.List.{AllByRecursion}
+use Rattle.mcs_table.specs.declared.row.Row.{Row}
+use Rattle.mcs_table.specs.Tables.{TableData, IsTable}
+use Rattle.mcs_table.specs.Joins.{IsJointRow}
+use Rattle.mcs_joint.specs.Apart.{EachApart}
+
+-- as many tables, still without a mark in common, that have the same joint rows
+pub record IsReduced (level : ℕ) (all fewer : List TableData) : Type 0 where
+  pub one_each : length fewer ≡ length all
+  pub tables : AllByRecursion IsTable all → AllByRecursion IsTable fewer
+  pub apart : EachApart fewer
+  pub joint : (r : Row) → IsJointRow level all r ↔ IsJointRow level fewer r

@@ -1,0 +1,94 @@
+//! The minimal diagnoses with few marks, of the tables of all contexts.
+
+ghost use Rattle.std.specs.Prelude.{◌≡◌, ◌≤◌, ℕ, map, IfOk};
+ghost use Rattle.std.specs.List.{AllByRecursion, AllZip};
+ghost use Rattle.mcs_sets.specs.Sets.{size};
+ghost use Rattle.mcs_sets.specs.Orders.{PairBefore};
+ghost use Rattle.mcs_base.specs.Listings.{IsListing};
+ghost use Rattle.mcs_base.specs.Minimal.{IsMinimal};
+ghost use Rattle.mcs_system.specs.Repairs.{IsDiagnosis};
+ghost use Rattle.mcs_table.specs.declared.row.Row as declared;
+ghost use Rattle.mcs_table.specs.Elimination.{still_kept, EliminatesTo};
+ghost use Rattle.mcs_table.specs.Tables.{TableData, IsTable, AreApart, IsJoin, IsForgetting, unit_table};
+ghost use Rattle.mcs_rows.specs.Local.{AreLocalTables};
+ghost use Rattle.mcs_joint.specs.Apart.{EachApart};
+
+use crate::order::scopes;
+use crate::reduce::reduced;
+use mcs_base::{Marks, Memory};
+use mcs_import::Plan;
+use mcs_table::{Row, Table, forget, join};
+use std::alloc::Global;
+
+/// The minimal diagnoses of the plan's system that have at most so many marks, in the order of pairs. The
+/// tables are those of all contexts, in order, each with the local rows of its context at one level, which
+/// is this one or a higher one.
+pub fn repairs_in(
+    alloc: Global,
+    plan: &Plan,
+    tables: &[Table],
+    level: u32,
+) -> Result<Vec<Marks>, Memory>
+    requires { (k : ℕ) × (level ≤ k) × AreLocalTables plan.now k tables.now }
+    ensures { IfOk result (λ pairs. IsListing (λ p. IsMinimal (IsDiagnosis plan.now) p × (size p ≤ level)) PairBefore pairs.items) }
+{
+    let most = level.min(plan.system().bridges().len() as u32);
+    let few = minimal_tables(alloc, tables, most)?;
+    let fewer = reduced(alloc, few, most)?;
+    let left = eliminate(alloc, &fewer, most)?;
+    let pairs = marks_of(alloc, left.rows())?;
+    Ok(pairs)
+}
+
+/// The marks of each row.
+fn marks_of(alloc: Global, rows: &[Row]) -> Result<Vec<Marks>, Memory>
+    ensures { IfOk result (λ all. all.items ≡ map (λ (r : declared.Row). r.marks) rows.now) }
+{
+    let all = rows.iter().map(|row| row.marks).collect(alloc)?;
+    Ok(all)
+}
+
+/// Of each table the rows with at most so many marks, without those that hold the marks of another one of
+/// their state.
+fn minimal_tables(alloc: Global, tables: &[Table], level: u32) -> Result<Vec<Table>, Memory>
+    ensures kept { IfOk result (λ _. AllByRecursion IsTable tables.now) }
+    ensures minimal { IfOk result (λ few. AllZip (λ (t u : TableData). IsJoin unit_table t level u) tables.now few.items) }
+{
+    let unit = Table::unit(alloc)?;
+    let mut found = Vec::new(alloc);
+    for table in tables {
+        let few = join(alloc, &unit, table, level)?;
+        found.push(few)?;
+    }
+    let _all = scopes(tables);
+    Ok(found)
+}
+
+/// What is left of the tables where they are joined one after the other, and what no later table has is
+/// forgotten after each join.
+fn eliminate(alloc: Global, tables: &[Table], level: u32) -> Result<Table, Memory>
+    requires { EachApart tables.now }
+    ensures { IfOk result (EliminatesTo level 0 tables.now) }
+{
+    let mut left = Table::unit(alloc)?;
+    for k in 0..tables.len() {
+        left = eliminate_next(alloc, &left, &tables[k], &tables[k + 1..], level)?;
+    }
+    Ok(left)
+}
+
+/// Joins what is left of earlier tables with the next one, and forgets what no later one has.
+fn eliminate_next(
+    alloc: Global,
+    left: &Table,
+    next: &Table,
+    later: &[Table],
+    level: u32,
+) -> Result<Table, Memory>
+    requires { AreApart left.now.rows next.now.rows }
+    ensures { IfOk result (λ t. (joined : TableData) × IsJoin left.now next.now level joined × IsForgetting joined (still_kept 0 later.now) t) }
+{
+    let joined = join(alloc, left, next, level)?;
+    let rest = forget(alloc, &joined, scopes(later))?;
+    Ok(rest)
+}

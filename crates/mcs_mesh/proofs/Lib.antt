@@ -1,0 +1,4 @@
+pub mod General
+pub mod AskingLemmas
+pub mod RoundLemmas
+pub mod MeshLemmas

@@ -1,0 +1,9 @@
+//! The evaluation of a system on one thread: rounds of questions to its contexts, and one final step.
+#![tactic(auto)]
+
+mod asking;
+mod known;
+mod mesh;
+mod rounds;
+
+pub use mesh::Mesh;

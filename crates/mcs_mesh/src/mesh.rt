@@ -1,0 +1,182 @@
+//! The evaluator on one thread.
+
+ghost use Rattle.std.specs.Prelude.{◌≡◌, ℕ, ◌≤◌, false, true, [], Some, None, IfOk, IfErr, OnOk, map, length, slice_get};
+ghost use Rattle.mcs_states.specs.Evaluators.{KeepsRest, HasDone, HasHalted};
+ghost use Rattle.mcs_states.specs.Oracles.{OracleState};
+ghost use Rattle.mcs_states.specs.declared.halt.Halt.TheVariants as halts;
+ghost use Rattle.std.specs.Arc.{arc_value};
+ghost use Rattle.mcs_mesh.specs.Rounds.{state_of, AreFresh};
+
+use crate::known::Known;
+use crate::rounds::{Round, round_of};
+use mcs_base::{Marks, Memory, Pair, Vars};
+use mcs_import::Plan;
+use mcs_joint::{repairs_in, states_in};
+use mcs_ports::Gate;
+use mcs_states::{Evaluator, Halt, Oracle};
+use mcs_table::Table;
+use std::alloc::Global;
+use std::marker::Model;
+use std::mem;
+use std::sync::Arc;
+
+/// Evaluates a system on one thread: it asks each context, through its oracle and in import order, its questions of a
+/// level, makes the local rows of each, and joins these in one final step. It waits for nobody.
+#[derive(Drop)]
+pub struct Mesh<'a, O: Oracle, G: Gate> {
+    plan: Arc<Plan>,
+    oracles: Vec<O>,
+    known: Vec<Known>,
+    tables: Vec<Table>,
+    budget: u64,
+    gate: &'a G,
+    done: Option<u32>,
+    // The number of the questions of the greatest level done.
+    asked: u64,
+    halt: Option<Halt>,
+}
+
+impl<'a, O: Oracle, G: Gate> Model for Mesh<'a, O, G> {
+    ghost use Rattle.std.specs.Prelude.{map};
+    ghost use Rattle.std.specs.Arc.{arc_value};
+    ghost use Rattle.mcs_states.specs.Evaluators.{EvaluatorState};
+    ghost use Rattle.mcs_states.specs.Codes.{coded_evaluator};
+    ghost use Rattle.mcs_mesh.specs.Rounds.{IsMesh, state_of, knowledge_of};
+
+    ghost Value = { EvaluatorState };
+
+    ghost coded = { coded_evaluator };
+
+    ghost view = { λ l. state_of (arc_value l.plan) l.budget l.done l.halt (map O.stands l.oracles.items) };
+
+    ghost invariant = { λ l. IsMesh (state_of (arc_value l.plan) l.budget l.done l.halt (map O.stands l.oracles.items)) (map knowledge_of l.known.items) l.tables.items l.asked };
+}
+
+/// Whether this greatest level done is the level, or beyond it.
+fn is_reached(done: Option<u32>, level: u32) -> bool
+    ensures yes { result ≡ true → (d : ℕ) × (done ≡ Some d) × (level ≤ d) }
+    ensures not { result ≡ false → (d : ℕ) → done ≡ Some d → d ≤ level }
+{
+    match done {
+        Some(done) => level <= done,
+        None => false,
+    }
+}
+
+impl<'a, O: Oracle, G: Gate> Mesh<'a, O, G> {
+    /// An evaluator of the plan's system within a budget of questions, with one oracle for each context, in order, of
+    /// which none was asked. The gate is called before each question.
+    pub fn new(
+        alloc: Global,
+        plan: Arc<Plan>,
+        oracles: Vec<O>,
+        budget: u64,
+        gate: &'a G,
+    ) -> Result<Mesh<'a, O, G>, Memory>
+        requires one_each { length oracles.items ≡ length (arc_value plan).contexts }
+        requires own { AreFresh (arc_value plan) (map O.stands oracles.items) }
+        ensures { IfOk result (λ mesh. mesh ≡ state_of (arc_value plan) budget None None (map O.stands oracles.items)) }
+    {
+        let mut known = Vec::new(alloc);
+        for _ in 0..oracles.len() {
+            known.push(Known {
+                answers: Vec::new(alloc),
+                supplies: Vec::new(alloc),
+            })?;
+        }
+        Ok(Mesh {
+            plan,
+            oracles,
+            known,
+            tables: Vec::new(alloc),
+            budget,
+            gate,
+            done: None,
+            asked: 0,
+            halt: None,
+        })
+    }
+
+    /// Does the round of the level, unless it, or that of a greater one, was done.
+    fn reach(&mut self, alloc: Global, level: u32) -> Result<(), Halt>
+        requires { self.old.halted ≡ false }
+        ensures done { OnOk result (HasDone self.old self.new level) }
+        ensures halt { IfErr result (HasHalted self.old self.new level) }
+        ensures rest { KeepsRest self.old self.new }
+    {
+        if is_reached(self.done, level) {
+            return Ok(());
+        }
+        let round = round_of(
+            alloc,
+            &self.plan,
+            level,
+            self.budget,
+            &mut self.oracles,
+            &mut self.known,
+            self.gate,
+        );
+        match round {
+            Ok(Round { asked, tables }) => {
+                drop(mem::replace(&mut self.tables, tables));
+                self.asked = asked;
+                self.done = Some(level);
+                Ok(())
+            }
+            Err(halt) => {
+                let halt = &halt;
+                self.halt = Some(*halt);
+                Err(*halt)
+            }
+        }
+    }
+
+    /// Memory ran out: nothing more may be asked.
+    fn stop(&mut self)
+        ensures { self.new ≡ record self.old { halt = Some halts.Memory; halted = true } }
+    {
+        self.halt = Some(Halt::Memory);
+    }
+
+    /// The oracles, back, one for each context, in order.
+    pub fn into_oracles(self) -> Result<Vec<O>, Memory>
+        ensures { IfOk result (λ oracles. map O.stands oracles.items ≡ self.entry.oracles) }
+    {
+        let Mesh { oracles, .. } = self;
+        Ok(oracles)
+    }
+}
+
+impl<'a, O: Oracle, G: Gate> Evaluator for Mesh<'a, O, G> {
+    ghost stands = { λ e. e };
+
+    fn repairs(&mut self, alloc: Global, level: u32) -> Result<Vec<Marks>, Halt> {
+        self.reach(alloc, level)?;
+        match repairs_in(alloc, &self.plan, &self.tables, level) {
+            Ok(pairs) => Ok(pairs),
+            Err(Memory) => {
+                self.stop();
+                Err(Halt::Memory)
+            }
+        }
+    }
+
+    fn states(&mut self, alloc: Global, pair: Pair) -> Result<Vec<Vars>, Halt> {
+        self.reach(alloc, pair.marks().count())?;
+        match states_in(alloc, &self.plan, &self.tables, pair) {
+            Ok(states) => Ok(states),
+            Err(Memory) => {
+                self.stop();
+                Err(Halt::Memory)
+            }
+        }
+    }
+
+    fn asked(&self) -> u64 {
+        self.asked
+    }
+
+    fn halted(&self) -> bool {
+        self.halt.is_some()
+    }
+}

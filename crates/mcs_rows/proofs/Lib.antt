@@ -1,0 +1,4 @@
+pub mod General
+pub mod LocalLemmas
+pub mod MarkLemmas
+pub mod MakingLemmas

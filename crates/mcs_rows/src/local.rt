@@ -1,0 +1,146 @@
+//! The local rows of a context.
+
+ghost use Rattle.std.specs.Prelude.{◌≡◌, ◌<◌, ◌++◌, ℕ, List, map, filter, length, IfOk};
+ghost use Rattle.std.specs.List.{AllByRecursion, flat_map};
+ghost use Rattle.mcs_sets.specs.Sets.{common, Within};
+ghost use Rattle.mcs_system.specs.Imports.{IsImportOrder, supplied, rules_into};
+ghost use Rattle.mcs_system.specs.Systems.{applicable};
+ghost use Rattle.mcs_import.specs.Plans.{AreSupplies};
+ghost use Rattle.mcs_rows.specs.Answers.{answered_of};
+ghost use Rattle.mcs_rows.specs.Local.{AreAnswered, IsLocalTable};
+ghost use Rattle.mcs_rows.specs.Making.{agrees, row_with, rows_with};
+ghost use Rattle.mcs_rows.specs.declared.answer.Answer as declared;
+
+use crate::answer::Answer;
+use crate::marks::marks_of;
+use mcs_base::{Active, Marks, Memory, Partial, Vars};
+use mcs_import::{Plan, difference, guessed_states, supplied_states};
+use mcs_system::System;
+use mcs_table::{Row, Table};
+use std::alloc::Global;
+
+/// The row with these marks that says of the local variables which of them are true.
+fn row(local: Vars, values: Vars, marks: Marks) -> Row
+    ensures { result ≡ record { state = record { mask = local; values = common values local }; marks = marks } }
+{
+    Row {
+        state: Partial::new(local, values.common(local)),
+        marks,
+    }
+}
+
+/// Adds the rows of context `i` of the state at its inputs with each of the parts that agrees with it.
+fn add_parts(
+    rows: &mut Vec<Row>,
+    system: &System,
+    i: u32,
+    state: Vars,
+    marks: Marks,
+    parts: &[Vars],
+) -> Result<(), Memory>
+    requires { i < length system.now.contexts }
+    ensures { IfOk result (λ _. rows.new.items
+        ≡ rows.old.items ++ map (row_with system.now i state marks) (filter (agrees system.now i state) parts.now)) }
+{
+    let inputs = system.inputs_of(i);
+    let variables = system.vars_of(i);
+    let own = state.common(variables);
+    let local = variables.union(inputs);
+    for part in parts {
+        if part.common(inputs) == own {
+            rows.push(row(local, part.union(state), marks))?;
+        }
+    }
+    Ok(())
+}
+
+/// Adds the rows of context `i` of the state at its inputs with the answer, where what was asked differs in
+/// at most `level` rules from those that apply in the state.
+fn add_answer(
+    rows: &mut Vec<Row>,
+    system: &System,
+    i: u32,
+    state: Vars,
+    applying: Active,
+    answer: &Answer,
+    level: u32,
+) -> Result<(), Memory>
+    requires in_range { i < length system.now.contexts }
+    requires applying { applying ≡ common (applicable system.now state) (rules_into system.now i) }
+    requires of_rules { Within answer.now.active (rules_into system.now i) }
+    ensures { IfOk result (λ _. rows.new.items ≡ rows.old.items ++ rows_with system.now i level state answer.now) }
+{
+    if difference(applying, answer.active) > level {
+        return Ok(());
+    }
+    let marks = marks_of(applying.minus(answer.active), answer.active.minus(applying));
+    add_parts(rows, system, i, state, marks, &answer.parts)
+}
+
+/// Adds the rows of context `i` of the state at its inputs with each of the answers.
+fn add_answers(
+    rows: &mut Vec<Row>,
+    system: &System,
+    i: u32,
+    state: Vars,
+    answers: &[Answer],
+    level: u32,
+) -> Result<(), Memory>
+    requires in_range { i < length system.now.contexts }
+    requires of_rules { AllByRecursion (λ (a : declared.Answer). Within a.active (rules_into system.now i)) answers.now }
+    ensures { IfOk result (λ _. rows.new.items
+        ≡ rows.old.items ++ flat_map (rows_with system.now i level state) answers.now) }
+{
+    let applying = system.applicable(i, state);
+    for answer in answers {
+        add_answer(rows, system, i, state, applying, answer, level)?;
+    }
+    Ok(())
+}
+
+/// The rows of context `i` of each of the states at its inputs with each of the answers.
+fn rows_in(
+    alloc: Global,
+    system: &System,
+    i: u32,
+    states: &[Vars],
+    answers: &[Answer],
+    level: u32,
+) -> Result<Vec<Row>, Memory>
+    requires in_range { i < length system.now.contexts }
+    requires of_rules { AllByRecursion (λ (a : declared.Answer). Within a.active (rules_into system.now i)) answers.now }
+    ensures { IfOk result (λ rows. rows.items
+        ≡ flat_map (λ s. flat_map (rows_with system.now i level s) answers.now) states.now) }
+{
+    let mut rows = Vec::new(alloc);
+    for state in states {
+        add_answers(&mut rows, system, i, *state, answers, level)?;
+    }
+    Ok(rows)
+}
+
+/// The local rows of context `i` of the plan's system at the level, as a table on its local variables: what it
+/// accepts on these with the marks that this takes, at most `level` of them. `supplies` are what the contexts
+/// of `plan.supplied(i)` may supply at this level, in this order, each list in the order of states; `answers`
+/// are those of `i` to all its questions of the level, ascending by the numbers that stand for them.
+pub fn local_rows(
+    alloc: Global,
+    plan: &Plan,
+    i: u32,
+    supplies: &[Vec<Vars>],
+    answers: &[Answer],
+    level: u32,
+) -> Result<Table, Memory>
+    requires in_range { i < length plan.now.contexts }
+    requires supplied { (order : List ℕ) → IsImportOrder plan.now order
+        → AreSupplies plan.now level (supplied plan.now order i) (map (λ supply. supply.items) supplies.now) }
+    requires answered { AreAnswered plan.now level i (map answered_of answers.now) }
+    ensures { IfOk result (IsLocalTable plan.now level i) }
+{
+    let system = plan.system();
+    let inputs = system.inputs_of(i);
+    let joined = supplied_states(alloc, supplies, inputs)?;
+    let states = guessed_states(joined, plan.guessed(i))?;
+    let rows = rows_in(alloc, system, i, &states, answers, level)?;
+    Ok(Table::new(system.vars_of(i).union(inputs), rows))
+}

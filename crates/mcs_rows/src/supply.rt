@@ -1,0 +1,27 @@
+//! What a context may supply.
+
+ghost use Rattle.std.specs.Prelude.{ℕ, List, map, IfOk};
+ghost use Rattle.mcs_base.specs.Listings.{IsListing};
+ghost use Rattle.mcs_sets.specs.Orders.{StateBefore};
+ghost use Rattle.mcs_system.specs.Levels.{MaySupply};
+ghost use Rattle.mcs_system.specs.Plain.{System};
+ghost use Rattle.mcs_rows.specs.Answers.{answered_of};
+ghost use Rattle.mcs_rows.specs.Local.{AreAnswered};
+
+use crate::answer::Answer;
+use mcs_base::{Memory, Vars, list_states};
+use std::alloc::Global;
+
+/// What the context may supply whose answers these are: the parts of all answers, each once, in the order of
+/// states. The answers are those to all questions of a level.
+pub fn supplies(alloc: Global, answers: &[Answer]) -> Result<Vec<Vars>, Memory>
+    ensures { IfOk result (λ s. (m : System) (level i : ℕ)
+        → AreAnswered m level i (map answered_of answers.now) → IsListing (MaySupply m level i) StateBefore s.items) }
+{
+    let mut states = Vec::new(alloc);
+    for answer in answers {
+        states.extend_from_slice(&answer.parts)?;
+    }
+    list_states(&mut states);
+    Ok(states)
+}

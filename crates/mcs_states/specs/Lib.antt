@@ -1,0 +1,3 @@
+pub mod Oracles
+pub mod Evaluators
+pub mod Codes
