@@ -1,0 +1,89 @@
+use Rattle.std.proofs.Common.{◌≡◌, ◌∙◌, ℕ, List, length, map, get_or, slice_get, Some, sym, ap, subst, arith}
+use Rattle.std.proofs.lemmas.List.{length-map}
+use Rattle.mcs_sets.specs.Orders.{StateBefore}
+use Rattle.mcs_base.specs.Listings.{IsListing}
+use Rattle.mcs_system.specs.Plain.{Context, System}
+use Rattle.mcs_system.specs.Faults.{has_twins}
+use Rattle.mcs_system.specs.Logic.{with_heads}
+use Rattle.mcs_system.specs.Seen.{formula_of, context_of}
+use Rattle.mcs_system.specs.Systems.{variables_of, heads_into, IsAcceptedPart}
+use Rattle.mcs_system.specs.Views.{IsAcceptedView, at_places, beliefs_at}
+use Rattle.mcs_system.proofs.ValidLemmas.{few_defaults, few_variables}
+use Rattle.mcs_cnf.proofs.OverLemmas.{context_atoms}
+use Rattle.mcs_laws.proofs.Views.{view_listings}
+use Rattle.mcs_solver.proofs.AskingLemmas.{context_there}
+use Rattle.mcs_solver.proofs.CoverLemmas.{own_over, heads_over, beliefs_over, few_beliefs}
+use Rattle.mcs_solver.proofs.KindLemmas.{heads_of_kind, beliefs_of_kind}
+use Rattle.mcs_solver.proofs.General.{if_ok}
+use Rattle.mcs_solver.proofs.ViewLemmas.{made_there}
+use Rattle.mcs_solver.proofs.parts.parts_with.Goals as goal
+
+pub accepted_views-requires-clause-few_beliefs : goal.accepted_views-requires-clause-few_beliefs
+accepted_views-requires-clause-few_beliefs c =
+    let m : System = c.args.system.now in
+    let asked : map (λ f. formula_of f.now) c.deref-2.result.now ≡ beliefs_at m (variables_of m c.args.context) = ap (map (λ f. formula_of f.now)) c.deref-2.ensures.value ∙ c.in_ok-beliefs.ensures in
+    omega (arith, ap length asked, length-map c.deref-2.result.now (λ f. formula_of f.now), few_beliefs m c.args.context, few_variables m c.contexts.ensures.valid)
+
+pub accepted_views-requires-clause-few_defaults : goal.accepted_views-requires-clause-few_defaults
+accepted_views-requires-clause-few_defaults c =
+    let m : System = c.args.system.now in
+    few_defaults m c.contexts.ensures.valid c.args.context _ (context_there m c.contexts.result.now c.args.context c.index-contexts-context.result c.contexts.ensures.value c.requires.context)
+
+pub accepted_views-requires-clause-different : goal.accepted_views-requires-clause-different
+accepted_views-requires-clause-different c = ap has_twins c.atoms_of.ensures.value ∙ (context_atoms c.args.system.now c.args.context).0
+
+pub accepted_views-requires-clause-kb : goal.accepted_views-requires-clause-kb
+accepted_views-requires-clause-kb c =
+    let m : System = c.args.system.now in
+    rw c.atoms_of.ensures.value (own_over m c.args.context _ (context_there m c.contexts.result.now c.args.context c.index-contexts-context.result c.contexts.ensures.value c.requires.context))
+
+pub accepted_views-requires-clause-heads : goal.accepted_views-requires-clause-heads
+accepted_views-requires-clause-heads c =
+    let m : System = c.args.system.now in
+    let told : map (λ f. formula_of f.now) c.deref.result.now ≡ heads_into m c.args.context c.args.rules = ap (map (λ f. formula_of f.now)) c.deref.ensures.value ∙ c.in_ok-heads.ensures in
+    rw (c.atoms_of.ensures.value, told) (heads_over m c.args.context c.args.rules)
+
+pub accepted_views-requires-clause-beliefs : goal.accepted_views-requires-clause-beliefs
+accepted_views-requires-clause-beliefs c =
+    let m : System = c.args.system.now in
+    let asked : map (λ f. formula_of f.now) c.deref-2.result.now ≡ beliefs_at m (variables_of m c.args.context) = ap (map (λ f. formula_of f.now)) c.deref-2.ensures.value ∙ c.in_ok-beliefs.ensures in
+    rw (c.atoms_of.ensures.value, asked) (beliefs_over m c.args.context)
+
+pub accepted_views-requires-clause-fitting_heads : goal.accepted_views-requires-clause-fitting_heads
+accepted_views-requires-clause-fitting_heads c =
+    let m : System = c.args.system.now in
+    let told : map (λ f. formula_of f.now) c.deref.result.now ≡ heads_into m c.args.context c.args.rules = ap (map (λ f. formula_of f.now)) c.deref.ensures.value ∙ c.in_ok-heads.ensures in
+    rw told (heads_of_kind m c.contexts.ensures.valid c.args.context c.args.rules _ (context_there m c.contexts.result.now c.args.context c.index-contexts-context.result c.contexts.ensures.value c.requires.context))
+
+pub accepted_views-requires-clause-fitting_beliefs : goal.accepted_views-requires-clause-fitting_beliefs
+accepted_views-requires-clause-fitting_beliefs c =
+    let m : System = c.args.system.now in
+    let asked : map (λ f. formula_of f.now) c.deref-2.result.now ≡ beliefs_at m (variables_of m c.args.context) = ap (map (λ f. formula_of f.now)) c.deref-2.ensures.value ∙ c.in_ok-beliefs.ensures in
+    rw asked (beliefs_of_kind m c.contexts.ensures.valid c.args.context _ (context_there m c.contexts.result.now c.args.context c.index-contexts-context.result c.contexts.ensures.value c.requires.context))
+
+pub accepted_views-requires-clause-made : goal.accepted_views-requires-clause-made
+accepted_views-requires-clause-made c =
+    let m : System = c.args.system.now in
+    rw c.atoms_of.ensures.value (c.requires.made _ (context_there m c.contexts.result.now c.args.context c.index-contexts-context.result c.contexts.ensures.value c.requires.context))
+
+pub returns-in_err-views-clause-made : goal.returns-in_err-views-clause-made
+returns-in_err-views-clause-made c =
+    let m : System = c.args.system.now in
+    made_there m c.args.context _ _ (context_there m c.contexts.result.now c.args.context c.index-contexts-context.result c.contexts.ensures.value c.requires.context) (rw c.atoms_of.ensures.value at c.in_err-views.ensures.made)
+
+pub returns-clause-made : goal.returns-clause-made
+returns-clause-made c =
+    let m : System = c.args.system.now in
+    made_there m c.args.context _ _ (context_there m c.contexts.result.now c.args.context c.index-contexts-context.result c.contexts.ensures.value c.requires.context) (rw c.atoms_of.ensures.value at c.in_ok-views.ensures.made)
+
+pub returns-clause-exact : goal.returns-clause-exact
+returns-clause-exact c =
+    let m : System = c.args.system.now in
+    let i = c.args.context in
+    let told : map (λ f. formula_of f.now) c.deref.result.now ≡ heads_into m i c.args.rules = ap (map (λ f. formula_of f.now)) c.deref.ensures.value ∙ c.in_ok-heads.ensures in
+    let asked : map (λ f. formula_of f.now) c.deref-2.result.now ≡ beliefs_at m (variables_of m i) = ap (map (λ f. formula_of f.now)) c.deref-2.ensures.value ∙ c.in_ok-beliefs.ensures in
+    let d : Context = context_of (get_or c.contexts.result.now i c.index-contexts-context.result) in
+    let there : slice_get m.contexts i ≡ Some d = context_there m c.contexts.result.now i c.index-contexts-context.result c.contexts.ensures.value c.requires.context in
+    let listing : IsListing (IsAcceptedView (with_heads d.kb (heads_into m i c.args.rules)) (beliefs_at m (variables_of m i))) StateBefore c.in_ok-views.views.items = rw (asked, told) at c.in_ok-views.ensures.exact in
+    let parts = view_listings m i c.args.rules d c.in_ok-views.views.items there listing in
+    if_ok c.parts_at.result (λ ps same. subst (λ (xs : List ℕ). IsListing (IsAcceptedPart m i c.args.rules) StateBefore xs) (sym (same ∙ ap (map (at_places c.vars_of.result)) c.deref-3.ensures.value ∙ ap (λ (s : ℕ). map (at_places s) c.in_ok-views.views.items) c.vars_of.ensures)) parts) c.parts_at.ensures

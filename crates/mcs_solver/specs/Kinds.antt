@@ -1,0 +1,45 @@
+-- What each kind of knowledge base wants of what it is told and asked, and what is kept of it.
+use Rattle.std.specs.Prelude.{◌≡◌, ℕ, IsTrue, List, [], ◌∷◌, ◌++◌, Option, IfSome, Some, slice_get}
+use Rattle.std.specs.List.{AllByRecursion}
+use Rattle.mcs_system.specs.Plain.{Name, Formula, Kb, Classical, DefaultTheory, Program, Context, System}
+use Rattle.mcs_system.specs.Atoms.{atoms_of}
+use Rattle.mcs_system.specs.Views.{IsAcceptedView}
+use Rattle.mcs_system.specs.Faults.{is_atom}
+use Rattle.mcs_sets.specs.Orders.{StateBefore}
+use Rattle.mcs_base.specs.Listings.{IsListing}
+use Rattle.mcs_trace.specs.Clauses.{ClauseList}
+use Rattle.mcs_cnf.specs.ClauseLists.{AreOver, clause_list, with_formulas}
+use Rattle.mcs_evidence.specs.Defaults.{AreOverItems}
+use Rattle.mcs_evidence.specs.Programs.{AreOverRules}
+
+-- each atom of the knowledge base is one of the names
+abbrev pub IsOverKb : List Name → Kb → Type 0
+IsOverKb names (Classical formulas) = AreOver names formulas
+IsOverKb names (DefaultTheory items) = AreOverItems names items
+IsOverKb names (Program rules) = AreOverRules names rules
+
+-- formulas that it may be told and asked: of a program atoms alone
+abbrev pub AreOfKind : Kb → List Formula → Type 0
+AreOfKind (Program rules) fs = AllByRecursion (λ (f : Formula). IsTrue (is_atom f)) fs
+AreOfKind (Classical formulas) fs = Unit {0}
+AreOfKind (DefaultTheory items) fs = Unit {0}
+
+-- ---- clauses that are kept
+-- those of some formulas were added
+abbrev pub HasMore : List Name → ClauseList → ClauseList → Type 0
+HasMore names old new = (fs : List Formula) × (new ≡ with_formulas names old fs)
+
+-- if the clauses are those of formulas over the names, these accept this view alone with the heads
+abbrev pub IsOnlyView : List Name → ClauseList → List Formula → List Formula → ℕ → Type 0
+IsOnlyView names known heads beliefs view = (fs : List Formula) → known ≡ clause_list names fs → AreOver names fs
+    → IsListing (IsAcceptedView (Classical (fs ++ heads)) beliefs) StateBefore (view ∷ [])
+
+-- what is kept of a classical knowledge base, if anything, are the clauses of its formulas
+abbrev pub IsMadeOf : List Name → Kb → Option ClauseList → Type 0
+IsMadeOf names (Classical formulas) known = IfSome known (λ c. c ≡ clause_list names formulas)
+IsMadeOf names (DefaultTheory items) known = Unit {0}
+IsMadeOf names (Program rules) known = Unit {0}
+
+-- the same of a context of a system
+abbrev pub IsMadeOfContext : System → ℕ → Option ClauseList → Type 0
+IsMadeOfContext m i known = (c : Context) → slice_get m.contexts i ≡ Some c → IsMadeOf (atoms_of m i) c.kb known

@@ -1,0 +1,10 @@
+//! What one context of a system accepts, found by the logic of its kind.
+#![tactic(auto)]
+
+mod asking;
+mod parts;
+mod solver;
+mod views;
+
+pub use parts::accepted_parts;
+pub use solver::LocalSolver;

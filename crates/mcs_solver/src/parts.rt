@@ -1,0 +1,56 @@
+//! What a context accepts, through its variables.
+
+ghost use Rattle.std.specs.Prelude.{◌<◌, length, IfOk};
+ghost use Rattle.mcs_sets.specs.Orders.{StateBefore};
+ghost use Rattle.mcs_base.specs.Listings.{IsListing};
+ghost use Rattle.mcs_system.specs.Systems.{IsAcceptedPart};
+ghost use Rattle.mcs_solver.specs.Kinds.{IsMadeOfContext};
+
+use crate::asking::{beliefs_of, heads_into, parts_at};
+use crate::views::accepted_views;
+use mcs_base::{Active, Memory, Vars};
+use mcs_system::System;
+use mcs_trace::Cnf;
+use std::alloc::Global;
+
+/// The projected belief sets that the context of the system accepts with the heads of the rules: each once, in the
+/// order of states.
+pub fn accepted_parts(
+    alloc: Global,
+    system: &System,
+    context: u32,
+    rules: Active,
+) -> Result<Vec<Vars>, Memory>
+    requires { context < length system.now.contexts }
+    ensures { IfOk result (λ parts. IsListing (IsAcceptedPart system.now context rules) StateBefore parts.items) }
+{
+    let mut known = None;
+    parts_with(alloc, &mut known, system, context, rules)
+}
+
+/// The same, where the clauses of a classical context's formulas are kept for the next question.
+pub(crate) fn parts_with(
+    alloc: Global,
+    known: &mut Option<Cnf>,
+    system: &System,
+    context: u32,
+    rules: Active,
+) -> Result<Vec<Vars>, Memory>
+    requires context { context < length system.now.contexts }
+    requires made { IsMadeOfContext system.now context known.old }
+    ensures made { IsMadeOfContext system.now context known.new }
+    ensures exact { IfOk result (λ parts. IsListing (IsAcceptedPart system.now context rules) StateBefore parts.items) }
+{
+    let heads = heads_into(alloc, system, context, rules)?;
+    let beliefs = beliefs_of(alloc, system, context)?;
+    let knows = &system.contexts()[context as usize].kb;
+    let views = accepted_views(
+        alloc,
+        known,
+        knows,
+        &heads,
+        &beliefs,
+        system.atoms_of(context),
+    )?;
+    parts_at(alloc, system.vars_of(context), &views)
+}

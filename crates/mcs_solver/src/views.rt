@@ -1,0 +1,218 @@
+//! What a knowledge base accepts with heads, seen through beliefs: by the logic of its kind.
+
+ghost use Rattle.std.specs.Prelude.{◌≡◌, ◌≤◌, false, None, length, map, IfOk, IfSome, OnOk, IsTrue};
+ghost use Rattle.std.specs.List.{AllByRecursion};
+ghost use Rattle.mcs_sets.specs.Orders.{StateBefore};
+ghost use Rattle.mcs_base.specs.Listings.{IsListing};
+ghost use Rattle.mcs_system.specs.Faults.{has_twins, is_atom, default_count};
+ghost use Rattle.mcs_system.specs.Logic.{with_heads};
+ghost use Rattle.mcs_system.specs.Plain.{Atom, Classical, Program};
+ghost use Rattle.mcs_system.specs.Seen.{formula_of, rule_of, kb_of};
+ghost use Rattle.mcs_system.specs.Views.{IsAcceptedView};
+ghost use Rattle.mcs_cnf.specs.ClauseLists.{AreOver, clause_list, with_formulas};
+ghost use Rattle.mcs_evidence.specs.Programs.{AreOverRules};
+ghost use Rattle.mcs_solver.specs.Kinds.{IsOverKb, AreOfKind, HasMore, IsOnlyView, IsMadeOf};
+
+use mcs_base::{Memory, Vars};
+use mcs_classical::outputs_from;
+use mcs_cnf::{clauses, push_formula};
+use mcs_default::list_extensions;
+use mcs_program::list_answer_sets;
+use mcs_system::{Formula, Kb, Name, ProgRule};
+use mcs_trace::Cnf;
+use std::alloc::Global;
+
+/// Adds the clauses of the formulas; where memory runs out, those of the first ones alone.
+fn push_formulas(
+    alloc: Global,
+    known: &mut Cnf,
+    formulas: &[&Formula],
+    atoms: &[Name],
+) -> Result<(), Memory>
+    requires over { AreOver atoms.now (map (λ f. formula_of f.now) formulas.now) }
+    requires room { length atoms.now ≤ known.old.vars }
+    ensures ok { OnOk result (known.new ≡ with_formulas atoms.now known.old (map (λ f. formula_of f.now) formulas.now)) }
+    ensures more { HasMore atoms.now known.old known.new }
+{
+    for formula in formulas {
+        push_formula(alloc, known, atoms, formula)?;
+    }
+    Ok(())
+}
+
+/// The one view that a classical context accepts with the heads, where the clauses of its formulas are known: of the
+/// beliefs that follow. The clauses of the heads are added and stay.
+fn view_of(
+    alloc: Global,
+    known: &mut Cnf,
+    heads: &[&Formula],
+    beliefs: &[&Formula],
+    atoms: &[Name],
+) -> Result<Vars, Memory>
+    requires few { length atoms.now ≤ 64 }
+    requires few_beliefs { length beliefs.now ≤ 64 }
+    requires different { has_twins atoms.now ≡ false }
+    requires heads { AreOver atoms.now (map (λ f. formula_of f.now) heads.now) }
+    requires beliefs { AreOver atoms.now (map (λ f. formula_of f.now) beliefs.now) }
+    requires room { length atoms.now ≤ known.old.vars }
+    ensures more { HasMore atoms.now known.old known.new }
+    ensures exact { IfOk result
+        (IsOnlyView atoms.now known.old (map (λ f. formula_of f.now) heads.now) (map (λ f. formula_of f.now) beliefs.now)) }
+{
+    push_formulas(alloc, known, heads, atoms)?;
+    let (view, _) = outputs_from(alloc, known, beliefs, atoms)?;
+    Ok(view)
+}
+
+/// The same, where the clauses of the heads are taken off again, so that `known` is as before and serves for the next
+/// question, also where memory runs out.
+fn view_with(
+    alloc: Global,
+    known: &mut Cnf,
+    heads: &[&Formula],
+    beliefs: &[&Formula],
+    atoms: &[Name],
+) -> Result<Vars, Memory>
+    requires few { length atoms.now ≤ 64 }
+    requires few_beliefs { length beliefs.now ≤ 64 }
+    requires different { has_twins atoms.now ≡ false }
+    requires heads { AreOver atoms.now (map (λ f. formula_of f.now) heads.now) }
+    requires beliefs { AreOver atoms.now (map (λ f. formula_of f.now) beliefs.now) }
+    requires room { length atoms.now ≤ known.old.vars }
+    ensures kept { known.new ≡ known.old }
+    ensures exact { IfOk result
+        (IsOnlyView atoms.now known.old (map (λ f. formula_of f.now) heads.now) (map (λ f. formula_of f.now) beliefs.now)) }
+{
+    let vars = known.vars();
+    let count = known.clauses().len();
+    let view = view_of(alloc, known, heads, beliefs, atoms);
+    known.cut(vars, count);
+    view
+}
+
+/// The clauses of the formulas, taken from where they are kept, or made.
+fn kept_clauses(
+    alloc: Global,
+    known: &mut Option<Cnf>,
+    formulas: &[Formula],
+    atoms: &[Name],
+) -> Result<Cnf, Memory>
+    requires over { AreOver atoms.now (map formula_of formulas.now) }
+    requires made { IfSome known.old (λ c. c ≡ clause_list atoms.now (map formula_of formulas.now)) }
+    ensures ok { IfOk result (λ c. c ≡ clause_list atoms.now (map formula_of formulas.now)) }
+    ensures none { known.new ≡ None }
+{
+    match known.take() {
+        Some(kept) => Ok(kept),
+        None => clauses(alloc, formulas, atoms),
+    }
+}
+
+/// What a classical context accepts, where the clauses of its formulas are kept once they are made.
+fn classical_views(
+    alloc: Global,
+    known: &mut Option<Cnf>,
+    formulas: &[Formula],
+    heads: &[&Formula],
+    beliefs: &[&Formula],
+    atoms: &[Name],
+) -> Result<Vec<Vars>, Memory>
+    requires few { length atoms.now ≤ 64 }
+    requires few_beliefs { length beliefs.now ≤ 64 }
+    requires different { has_twins atoms.now ≡ false }
+    requires formulas { AreOver atoms.now (map formula_of formulas.now) }
+    requires heads { AreOver atoms.now (map (λ f. formula_of f.now) heads.now) }
+    requires beliefs { AreOver atoms.now (map (λ f. formula_of f.now) beliefs.now) }
+    requires made { IfSome known.old (λ c. c ≡ clause_list atoms.now (map formula_of formulas.now)) }
+    ensures made { IfSome known.new (λ c. c ≡ clause_list atoms.now (map formula_of formulas.now)) }
+    ensures exact { IfOk result (λ views. IsListing
+        (IsAcceptedView (with_heads (Classical (map formula_of formulas.now)) (map (λ f. formula_of f.now) heads.now)) (map (λ f. formula_of f.now) beliefs.now))
+        StateBefore views.items) }
+{
+    let mut own = kept_clauses(alloc, known, formulas, atoms)?;
+    let view = view_with(alloc, &mut own, heads, beliefs, atoms);
+    *known = Some(own);
+    let mut views = Vec::new(alloc);
+    views.push(view?)?;
+    Ok(views)
+}
+
+/// The name of a formula that is an atom.
+fn name_of(formula: &Formula) -> &Name
+    requires { IsTrue (is_atom (formula_of formula.now)) }
+    ensures { Atom result.now ≡ formula_of formula.now }
+{
+    match formula {
+        Formula::Atom(name) => name,
+        _ => unreachable!(),
+    }
+}
+
+/// The names of formulas that are atoms.
+fn names_of<'f>(alloc: Global, formulas: &[&'f Formula]) -> Result<Vec<&'f Name>, Memory>
+    requires { AllByRecursion (λ f. IsTrue (is_atom (formula_of f.now))) formulas.now }
+    ensures { IfOk result (λ names. map Atom (map (λ n. n.now) names.items) ≡ map (λ f. formula_of f.now) formulas.now) }
+{
+    let mut names = Vec::new(alloc);
+    for formula in formulas {
+        names.push(name_of(formula))?;
+    }
+    Ok(names)
+}
+
+/// The views of the answer sets of a program with the heads, which are atoms, as the beliefs are.
+fn program_views(
+    alloc: Global,
+    rules: &[ProgRule],
+    heads: &[&Formula],
+    beliefs: &[&Formula],
+    atoms: &[Name],
+) -> Result<Vec<Vars>, Memory>
+    requires few { length atoms.now ≤ 64 }
+    requires few_beliefs { length beliefs.now ≤ 64 }
+    requires different { has_twins atoms.now ≡ false }
+    requires rules { AreOverRules atoms.now (map rule_of rules.now) }
+    requires heads { AreOver atoms.now (map (λ f. formula_of f.now) heads.now) }
+    requires beliefs { AreOver atoms.now (map (λ f. formula_of f.now) beliefs.now) }
+    requires head_atoms { AllByRecursion (λ f. IsTrue (is_atom (formula_of f.now))) heads.now }
+    requires belief_atoms { AllByRecursion (λ f. IsTrue (is_atom (formula_of f.now))) beliefs.now }
+    ensures { IfOk result (λ views. IsListing
+        (IsAcceptedView (with_heads (Program (map rule_of rules.now)) (map (λ f. formula_of f.now) heads.now)) (map (λ f. formula_of f.now) beliefs.now))
+        StateBefore views.items) }
+{
+    let facts = names_of(alloc, heads)?;
+    let asked = names_of(alloc, beliefs)?;
+    list_answer_sets(alloc, rules, &facts, &asked, atoms)
+}
+
+/// What the knowledge base accepts with the heads, seen through the beliefs: each view once, in the order of states.
+/// The clauses of a classical knowledge base are kept once they are made.
+pub(crate) fn accepted_views(
+    alloc: Global,
+    known: &mut Option<Cnf>,
+    kb: &Kb,
+    heads: &[&Formula],
+    beliefs: &[&Formula],
+    atoms: &[Name],
+) -> Result<Vec<Vars>, Memory>
+    requires few { length atoms.now ≤ 64 }
+    requires few_beliefs { length beliefs.now ≤ 64 }
+    requires few_defaults { default_count (kb_of kb.now) ≤ 10 }
+    requires different { has_twins atoms.now ≡ false }
+    requires kb { IsOverKb atoms.now (kb_of kb.now) }
+    requires heads { AreOver atoms.now (map (λ f. formula_of f.now) heads.now) }
+    requires beliefs { AreOver atoms.now (map (λ f. formula_of f.now) beliefs.now) }
+    requires fitting_heads { AreOfKind (kb_of kb.now) (map (λ f. formula_of f.now) heads.now) }
+    requires fitting_beliefs { AreOfKind (kb_of kb.now) (map (λ f. formula_of f.now) beliefs.now) }
+    requires made { IsMadeOf atoms.now (kb_of kb.now) known.old }
+    ensures made { IsMadeOf atoms.now (kb_of kb.now) known.new }
+    ensures exact { IfOk result (λ views. IsListing
+        (IsAcceptedView (with_heads (kb_of kb.now) (map (λ f. formula_of f.now) heads.now)) (map (λ f. formula_of f.now) beliefs.now))
+        StateBefore views.items) }
+{
+    match kb {
+        Kb::Classical(formulas) => classical_views(alloc, known, formulas, heads, beliefs, atoms),
+        Kb::DefaultTheory(items) => list_extensions(alloc, items, heads, beliefs, atoms),
+        Kb::Program(rules) => program_views(alloc, rules, heads, beliefs, atoms),
+    }
+}
