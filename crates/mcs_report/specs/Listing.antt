@@ -1,11 +1,10 @@
 -- The lines of a listing, each with its line feed, and the listing of a system's equilibria.
 use Rattle.std.specs.Prelude.{◌≡◌, ℕ, ◌+◌, Bool, cond, nat_lt, List, [], ◌∷◌, ◌++◌, length, codes, ◌⊎◌}
 use Rattle.std.specs.Fmt.{decimal}
-use Rattle.std.specs.List.{AllByRecursion}
 use Rattle.mcs_sets.specs.Orders.{StateBefore}
 use Rattle.mcs_base.specs.Listings.{IsListing}
-use Rattle.mcs_system.specs.Plain.{Context, System}
-use Rattle.mcs_system.specs.Logic.{IsClassical}
+use Rattle.mcs_system.specs.Plain.{System}
+use Rattle.mcs_system.specs.Levels.{IsCount}
 use Rattle.mcs_system.specs.Systems.{variables, all_rules, applicable, IsProjectedEquilibrium}
 use Rattle.mcs_report.specs.Members.{state_text, rules_text}
 
@@ -29,23 +28,25 @@ equilibrium_lines m k (σ ∷ σs) = equilibrium_line m k σ ++ equilibrium_line
 abbrev pub verdict_line : Bool → List ℕ
 verdict_line consistent = cond consistent (codes "consistent\n") (codes "inconsistent\n")
 
--- end: E equilibria
-unfoldable pub equilibria_end_line : ℕ → List ℕ
-equilibria_end_line count = codes "end: " ++ (decimal count ++ (codes " equilibria\n"))
+-- end: E equilibria, need Q
+unfoldable pub short_end_line : ℕ → ℕ → List ℕ
+short_end_line count need = codes "end: " ++ (decimal count ++ (codes " equilibria, need " ++ (decimal need ++ codes "\n")))
 
--- what comes after the heading where these are the projected equilibria
-abbrev pub after_heading : System → List ℕ → List ℕ
-after_heading m states = equilibrium_lines m 1 states ++ (verdict_line (nat_lt 0 (length states)) ++ equilibria_end_line (length states))
+-- what comes after the heading where these are the projected equilibria, and so many questions are needed
+abbrev pub after_heading : System → List ℕ → ℕ → List ℕ
+after_heading m states need = equilibrium_lines m 1 states ++ (verdict_line (nat_lt 0 (length states)) ++ short_end_line (length states) need)
 
--- what is printed where these are the projected equilibria
-abbrev pub equilibria_text : System → List ℕ → List ℕ
-equilibria_text m states = heading m ++ after_heading m states
+-- what is printed then
+abbrev pub equilibria_text : System → List ℕ → ℕ → List ℕ
+equilibria_text m states need = heading m ++ after_heading m states need
 
--- the text of the system's projected equilibria, all of them, each once, in the order of states
+-- the text of the system's projected equilibria, all of them, each once, in the order of states, with the number of the questions of level 0
 pub record IsEquilibriaText (m : System) (text : List ℕ) : Type 0 where
   pub states : List ℕ
   pub listing : IsListing (IsProjectedEquilibrium m (all_rules m) 0) StateBefore states
-  pub text_is : text ≡ equilibria_text m states
+  pub need : ℕ
+  pub count : IsCount m 0 need
+  pub text_is : text ≡ equilibria_text m states need
 
 -- a stage of it: the heading, which asks for nothing, or the whole
 abbrev pub IsEquilibriaStage : System → List ℕ → Type 0
@@ -60,6 +61,6 @@ EquilibriaTextsAreOne = (m : System) (text other : List ℕ) → IsEquilibriaTex
 abbrev pub StagesAreFronts : Type 0
 StagesAreFronts = (m : System) (stage text : List ℕ) → IsEquilibriaStage m stage → IsEquilibriaText m text → (rest : List ℕ) × (stage ++ rest ≡ text)
 
--- where each context is classical, there is one
+-- and there is one
 abbrev pub EquilibriaTextsExist : Type 0
-EquilibriaTextsExist = (m : System) → AllByRecursion (λ (c : Context). IsClassical c.kb) m.contexts → (text : List ℕ) × IsEquilibriaText m text
+EquilibriaTextsExist = (m : System) → (text : List ℕ) × IsEquilibriaText m text

@@ -8,7 +8,7 @@ pub fn equilibria_texts_are_unambiguous()
     ensures stages { StagesAreFronts }
 {}
 
-/// A system of classical contexts has a listing of its equilibria.
+/// A system has a listing of its equilibria.
 pub fn equilibria_texts_exist()
     ensures { EquilibriaTextsExist }
 {}

@@ -1,10 +1,12 @@
-//! What a run prints of a system and its equilibria, line by line.
+//! What a run prints of a system, its equilibria, its diagnoses and its explanations, line by line.
 #![tactic(auto)]
 
 mod laws;
 mod lines;
 mod members;
+mod repair_lines;
 
 pub use laws::{equilibria_texts_are_unambiguous, equilibria_texts_exist};
-pub use lines::{equilibria_end_line, equilibrium_line, heading, verdict_line};
+pub use lines::{equilibrium_line, heading, short_end_line, verdict_line};
 pub use members::{Member, push_set};
+pub use repair_lines::{diagnosis_line, end_line, explanation_line};

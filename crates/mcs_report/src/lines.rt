@@ -3,7 +3,7 @@
 ghost use Rattle.std.specs.Prelude.{◌≡◌, ◌<◌, ◌++◌, OnOk, OnErr};
 ghost use Rattle.mcs_sets.specs.Sets.{Within};
 ghost use Rattle.mcs_system.specs.Systems.{all_variables};
-ghost use Rattle.mcs_report.specs.Listing.{heading, equilibrium_line, verdict_line, equilibria_end_line};
+ghost use Rattle.mcs_report.specs.Listing.{heading, equilibrium_line, verdict_line, short_end_line};
 
 use crate::members::{Member, push_set};
 use mcs_base::{Memory, Text, Vars};
@@ -63,15 +63,17 @@ pub fn verdict_line(consistent: bool, out: &mut Text) -> Result<(), Memory>
     })
 }
 
-/// Appends the last line of a list of equilibria: how many there are.
-#[tactic(auto, unfolding(crate::specs::Listing::equilibria_end_line))]
-pub fn equilibria_end_line(equilibria: u64, out: &mut Text) -> Result<(), Memory>
-    ensures ok { OnOk result (out.new ≡ out.old ++ equilibria_end_line equilibria) }
+/// Appends the last line of a list of equilibria: how many there are, and how many questions they needed.
+#[tactic(auto, unfolding(crate::specs::Listing::short_end_line))]
+pub fn short_end_line(equilibria: u64, need: u64, out: &mut Text) -> Result<(), Memory>
+    ensures ok { OnOk result (out.new ≡ out.old ++ short_end_line equilibria need) }
     ensures err { OnErr result (out.new ≡ out.old) }
 {
     let mut line = out.empty_like();
     line.push(b"end: ")?;
     line.push_number(equilibria)?;
-    line.push(b" equilibria\n")?;
+    line.push(b" equilibria, need ")?;
+    line.push_number(need)?;
+    line.push(b"\n")?;
     out.push(line.bytes())
 }

@@ -41,7 +41,7 @@ fn what_follows_in_64_steps_is_believed(rt: HostRuntime) -> Result<(), Fail> {
     let mut text = Text::new(rt.alloc());
     push_chain(&mut text)?;
     let listing =
-        "mcs 1: 2 contexts, 1 rules, 1 variables\nequilibrium 1: {c1:a64} applicable {r1}\nconsistent\nend: 1 equilibria\n";
+        "mcs 1: 2 contexts, 1 rules, 1 variables\nequilibrium 1: {c1:a64} applicable {r1}\nconsistent\nend: 1 equilibria, need 2\n";
     assert!(rt; is_listed(rt.alloc(), text.bytes(), listing)?);
     Ok(())
 }
@@ -95,11 +95,11 @@ fn sit(alloc: Global, count: u64, holes: u64, listing: &str) -> Result<bool, Mem
 fn pigeons_need_holes(rt: HostRuntime) -> Result<(), Fail> {
     // Nothing holds of four pigeons in three holes, so everything is believed.
     let all =
-        "mcs 1: 2 contexts, 2 rules, 2 variables\nequilibrium 1: {c:p0_0, c:~p0_0} applicable {r, s}\nconsistent\nend: 1 equilibria\n";
+        "mcs 1: 2 contexts, 2 rules, 2 variables\nequilibrium 1: {c:p0_0, c:~p0_0} applicable {r, s}\nconsistent\nend: 1 equilibria, need 2\n";
     assert!(rt; sit(rt.alloc(), 4, 3, all)?);
     // Five pigeons fit in five holes, and the first may sit anywhere.
     let none =
-        "mcs 1: 2 contexts, 2 rules, 2 variables\nequilibrium 1: {} applicable {}\nconsistent\nend: 1 equilibria\n";
+        "mcs 1: 2 contexts, 2 rules, 2 variables\nequilibrium 1: {} applicable {}\nconsistent\nend: 1 equilibria, need 2\n";
     assert!(rt; sit(rt.alloc(), 5, 5, none)?);
     Ok(())
 }
@@ -112,7 +112,7 @@ fn blanks(alloc: Global, back: &str) -> Result<Vec<u8>, Memory> {
 fn is_longest_taken(alloc: Global) -> Result<bool, Memory> {
     let text = blanks(alloc, "")?;
     let listing =
-        "mcs 1: 1 contexts, 0 rules, 0 variables\nequilibrium 1: {} applicable {}\nconsistent\nend: 1 equilibria\n";
+        "mcs 1: 1 contexts, 0 rules, 0 variables\nequilibrium 1: {} applicable {}\nconsistent\nend: 1 equilibria, need 1\n";
     Ok(text.len() == 1_048_576 && is_listed(alloc, &text, listing)?)
 }
 
@@ -139,7 +139,7 @@ const EIGHT_FREE_FRONT: &str =
     "mcs 1: 1 contexts, 8 rules, 8 variables\nequilibrium 1: {c:a1, c:a2, c:a3, c:a4, c:a5, c:a6, c:a7, c:a8} applicable {r1, r2, r3, r4, r5, r6, r7, r8}\nequilibrium 2: {c:a1, c:a2, c:a3, c:a4, c:a5, c:a6, c:a7} applicable {r1, r2, r3, r4, r5, r6, r7}\n";
 
 const EIGHT_FREE_BACK: &str =
-    "\nequilibrium 255: {c:a8} applicable {r8}\nequilibrium 256: {} applicable {}\nconsistent\nend: 256 equilibria\n";
+    "\nequilibrium 255: {c:a8} applicable {r8}\nequilibrium 256: {} applicable {}\nconsistent\nend: 256 equilibria, need 256\n";
 
 /// How many lines there are.
 fn lines(bytes: &[u8]) -> usize {
@@ -155,10 +155,10 @@ fn lines(bytes: &[u8]) -> usize {
 /// Whether this is a heading, 256 equilibria, a verdict and an end. The lines of the equilibria have 31 bytes each
 /// beside numbers, variables and rules, and 660 digits in all. The 1024 members of their states have 4 bytes each and
 /// as many rules 2; what separates two neighbours, 769 times in the states and as often in the rules, has 2. The other
-/// lines have 40, 11 and 20.
+/// lines have 40, 11 and 30.
 fn are_all_sets(written: &[u8]) -> bool {
     lines(written) == 259
-        && written.len() == 256 * 31 + 660 + 1024 * 6 + 769 * 4 + 71
+        && written.len() == 256 * 31 + 660 + 1024 * 6 + 769 * 4 + 81
         && written.starts_with(EIGHT_FREE_FRONT.as_bytes())
         && written.ends_with(EIGHT_FREE_BACK.as_bytes())
 }
@@ -182,11 +182,56 @@ fn wide(alloc: Global) -> Result<Text, Memory> {
 }
 
 const WIDE_LISTING: &str =
-    "mcs 1: 64 contexts, 64 rules, 2 variables\nequilibrium 1: {n0:x11, n63:y} applicable {r0, r1, r2, r3, r4, r5, r6, r7, r8, r9, r10, r11, r12, r13, r14, r15, r16, r17, r18, r19, r20, r21, r22, r23, r24, r25, r26, r27, r28, r29, r30, r31, r32, r33, r34, r35, r36, r37, r38, r39, r40, r41, r42, r43, r44, r45, r46, r47, r48, r49, r50, r51, r52, r53, r54, r55, r56, r57, r58, r59, r60, r61, r62, r63}\nequilibrium 2: {} applicable {}\nconsistent\nend: 2 equilibria\n";
+    "mcs 1: 64 contexts, 64 rules, 2 variables\nequilibrium 1: {n0:x11, n63:y} applicable {r0, r1, r2, r3, r4, r5, r6, r7, r8, r9, r10, r11, r12, r13, r14, r15, r16, r17, r18, r19, r20, r21, r22, r23, r24, r25, r26, r27, r28, r29, r30, r31, r32, r33, r34, r35, r36, r37, r38, r39, r40, r41, r42, r43, r44, r45, r46, r47, r48, r49, r50, r51, r52, r53, r54, r55, r56, r57, r58, r59, r60, r61, r62, r63}\nequilibrium 2: {} applicable {}\nconsistent\nend: 2 equilibria, need 117\n";
 
 #[test]
 fn as_many_contexts_and_rules_as_may_be_are_listed(rt: HostRuntime) -> Result<(), Fail> {
     let text = wide(rt.alloc())?;
     assert!(rt; is_listed(rt.alloc(), text.bytes(), WIDE_LISTING)?);
+    Ok(())
+}
+
+/// Contexts in a ring, each of which takes over what the one before it believes.
+fn ring(alloc: Global, count: u64) -> Result<Text, Memory> {
+    let mut text = Text::new(alloc);
+    push_rows(&mut text, "context n# classical {}\n", 0, count)?;
+    push_row(
+        &mut text,
+        "bridge r0: n0:a if n#:a.\n",
+        count.saturating_sub(1),
+    )?;
+    for number in 1..count {
+        push_row(&mut text, "bridge r#: n", number)?;
+        push_row(&mut text, "#:a if n", number)?;
+        push_row(&mut text, "#:a.\n", number - 1)?;
+    }
+    Ok(text)
+}
+
+/// All believe it, or none does. Each context is asked twice.
+fn push_ring_listing(text: &mut Text, count: u64) -> Result<(), Memory> {
+    push_row(text, "mcs 1: # contexts", count)?;
+    push_row(text, ", # rules", count)?;
+    push_row(text, ", # variables\nequilibrium 1: {n0:a", count)?;
+    push_rows(text, ", n#:a", 1, count)?;
+    text.push(b"} applicable {r0")?;
+    push_rows(text, ", r#", 1, count)?;
+    text.push(b"}\nequilibrium 2: {} applicable {}\nconsistent\n")?;
+    push_row(text, "end: 2 equilibria, need #\n", count.saturating_mul(2))
+}
+
+fn is_ring_listed(alloc: Global, count: u64) -> Result<bool, Memory> {
+    let text = ring(alloc, count)?;
+    let mut listing = Text::new(alloc);
+    push_ring_listing(&mut listing, count)?;
+    let mut sink = sink_of(alloc, SOUND)?;
+    let status = status_of(alloc, &JOB, text.bytes(), 0, &mut sink)?;
+    Ok(status == 0 && sink.written() == listing.bytes())
+}
+
+#[test]
+fn rings_of_contexts_are_listed(rt: HostRuntime) -> Result<(), Fail> {
+    assert!(rt; is_ring_listed(rt.alloc(), 3)?);
+    assert!(rt; is_ring_listed(rt.alloc(), 64)?);
     Ok(())
 }

@@ -5,9 +5,13 @@
 #[cfg(test)]
 mod bounds;
 #[cfg(test)]
+mod budgets;
+#[cfg(test)]
 mod devices;
 #[cfg(test)]
 mod equilibria;
+#[cfg(test)]
+mod kinds;
 #[cfg(test)]
 mod refusals;
 #[cfg(test)]

@@ -3,7 +3,7 @@
 use crate::runs::{is_refused, repeated};
 use std::test::Fail;
 
-const REFUSALS: [(&str, &str); 8] = [
+const REFUSALS: [(&str, &str); 5] = [
     (
         "context c1 program { a. }\nbridge r1: c1:b if c1:",
         "mcs: refused: F1 at 48\n",
@@ -23,19 +23,6 @@ const REFUSALS: [(&str, &str); 8] = [
     (
         "context c classical { aaaaaaaaaabbbbbbbbbbccccccccccddddddddddeeeeeeeeeeffffffffff12345. }",
         "mcs: refused: F5 at 22: name_bytes 64\n",
-    ),
-    // A kind is told before the number of variables, and both after the text's faults.
-    (
-        "context c1 classical {} context c2 default {}",
-        "mcs: refused: kind\n",
-    ),
-    (
-        "context c program {} bridge r: c:a if c:a1, c:a2, c:a3, c:a4, c:a5, c:a6, c:a7, c:a8, c:a9.",
-        "mcs: refused: kind\n",
-    ),
-    (
-        "context c classical {} bridge r: c:a if c:a1, c:a2, c:a3, c:a4, c:a5, c:a6, c:a7, c:a8, c:a9.",
-        "mcs: refused: size\n",
     ),
 ];
 

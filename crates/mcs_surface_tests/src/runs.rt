@@ -12,7 +12,7 @@ pub const JOB: [&str; 2] = ["equilibria", "f"];
 pub const SELF_SUPPORT: &str = "context c1 classical {} bridge r1: c1:a if c1:a.";
 
 pub const SELF_SUPPORT_LISTING: &str =
-    "mcs 1: 1 contexts, 1 rules, 1 variables\nequilibrium 1: {c1:a} applicable {r1}\nequilibrium 2: {} applicable {}\nconsistent\nend: 2 equilibria\n";
+    "mcs 1: 1 contexts, 1 rules, 1 variables\nequilibrium 1: {c1:a} applicable {r1}\nequilibrium 2: {} applicable {}\nconsistent\nend: 2 equilibria, need 2\n";
 
 /// A system that has none.
 pub const SELF_ATTACK: &str = "context c1 classical {} bridge r1: c1:a if not c1:a.";

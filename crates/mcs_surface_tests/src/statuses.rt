@@ -11,6 +11,7 @@ fn statuses_have_their_numbers(rt: HostRuntime) -> Result<(), Fail> {
         Status::Done.number() == 0
             && Status::Usage.number() == 2
             && Status::Refused.number() == 3
+            && Status::Unfinished.number() == 4
             && Status::ReadFault.number() == 5
             && Status::WriteFault.number() == 6
             && Status::OutOfMemory.number() == 7

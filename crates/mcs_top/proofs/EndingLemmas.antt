@@ -10,9 +10,9 @@ use Rattle.mcs_top.specs.declared.ending.Stop.TheVariants as stops
 use Rattle.mcs_top.specs.declared.status.Status.{Status}
 use Rattle.mcs_top.specs.declared.status.Status.TheVariants as statuses
 use Rattle.mcs_top.specs.Jobs.{File}
-use Rattle.mcs_top.specs.Endings.{line_of, status_of, refusal_line, stop_for_words, IsTold, IsToldAs}
-use Rattle.mcs_top.specs.Promise.{IsRefusal, LacksFile, CanBeDone, WritesOutput, WritesStage, TellsRefusal, Notes, IsUnlessMemory, HasCause, LeavesText}
-use Rattle.mcs_top.proofs.RefusalLemmas.{output_not_refused, output_not_missing, stage_not_refused, can_not_refused, stage_not_missing, refusal_not_missing}
+use Rattle.mcs_top.specs.Endings.{line_of, status_of, refusal_line, unfinished_line, stop_for_words, IsTold, IsToldAs}
+use Rattle.mcs_top.specs.Promise.{IsRefusal, IsOutputBeyond, budget_of, WritesBeyond, StopsBeyond, LacksFile, CanBeDone, WritesOutput, WritesStage, TellsRefusal, Notes, IsUnlessMemory, HasCause, LeavesText}
+use Rattle.mcs_top.proofs.RefusalLemmas.{whole_front, output_not_beyond, beyond_not_refused, beyond_not_missing, beyond_is_stage, can_not_beyond, output_not_refused, output_not_missing, stage_not_refused, can_not_refused, stage_not_missing, refusal_not_missing}
 
 -- ---- what a stop is told as
 pub told_status : (stop : Stop) (status : Status) (before now : Device) → IsTold stop status before now → IsUnlessMemory (status_of stop) status
@@ -30,6 +30,7 @@ notes_as stop status before now h = subst (λ (s : Status). Notes s before.notes
     at : (s : Stop) → now.notes ≡ noted before.notes (line_of s) → Notes (status_of s) before.notes now.notes
     at stops.Usage is = is
     at (stops.Refused why) is = (why, is)
+    at (stops.Unfinished level budget) is = (level, budget, is)
     at stops.ReadFault is = is
     at stops.WriteFault is = is
     at stops.Memory is = is
@@ -57,6 +58,7 @@ module _ (stop : Stop) (status : Status) (before now : Device) (told : IsTold st
       at : (s : Stop) → status_of s ≡ statuses.Usage → HasCause s shelf-rose sink-rose job files → ⊥
       at stops.Usage e h = h
       at (stops.Refused why) e h = cc
+      at (stops.Unfinished level budget) e h = cc
       at stops.ReadFault e h = cc
       at stops.WriteFault e h = cc
       at stops.Memory e h = cc
@@ -67,6 +69,7 @@ module _ (stop : Stop) (status : Status) (before now : Device) (told : IsTold st
       at : (s : Stop) → status_of s ≡ statuses.Done → ⊥
       at stops.Usage e = cc
       at (stops.Refused why) e = cc
+      at (stops.Unfinished level budget) e = cc
       at stops.ReadFault e = cc
       at stops.WriteFault e = cc
       at stops.Memory e = cc
@@ -77,6 +80,7 @@ module _ (stop : Stop) (status : Status) (before now : Device) (told : IsTold st
       at : (s : Stop) → status_of s ≡ statuses.ReadFault → HasCause s shelf-rose sink-rose job files → shelf-rose
       at stops.Usage e h = absurd h
       at (stops.Refused why) e h = absurd (cc)
+      at (stops.Unfinished level budget) e h = absurd (cc)
       at stops.ReadFault e h = h
       at stops.WriteFault e h = absurd (cc)
       at stops.Memory e h = absurd (cc)
@@ -87,6 +91,7 @@ module _ (stop : Stop) (status : Status) (before now : Device) (told : IsTold st
       at : (s : Stop) → status_of s ≡ statuses.WriteFault → HasCause s shelf-rose sink-rose job files → sink-rose
       at stops.Usage e h = absurd h
       at (stops.Refused why) e h = absurd (cc)
+      at (stops.Unfinished level budget) e h = absurd (cc)
       at stops.ReadFault e h = absurd (cc)
       at stops.WriteFault e h = h
       at stops.Memory e h = absurd (cc)
@@ -101,6 +106,7 @@ module _ (stop : Stop) (status : Status) (before now : Device) (told : IsTold st
       at : (s : Stop) → status_of s ≡ statuses.Refused → now.notes ≡ noted before.notes (line_of s) → HasCause s shelf-rose sink-rose job files → IfSome files (TellsRefusal before.notes now.notes job)
       at stops.Usage e line h = absurd h
       at (stops.Refused why) e line h = of why files line h
+      at (stops.Unfinished level budget) e line h = absurd (cc)
       at stops.ReadFault e line h = absurd (cc)
       at stops.WriteFault e line h = absurd (cc)
       at stops.Memory e line h = absurd (cc)
@@ -115,6 +121,7 @@ module _ (stop : Stop) (status : Status) (before now : Device) (told : IsTold st
         at s None due h left = tt
         at stops.Usage (Some fs) due h left = absurd h
         at (stops.Refused r) (Some fs) due h left = λ why reason calm. due
+        at (stops.Unfinished level budget) (Some fs) due h left = λ why reason calm. absurd (beyond_not_refused left.text level why job fs left.output reason)
         at stops.ReadFault (Some fs) due h left = λ why reason calm. absurd (calm h)
         at stops.WriteFault (Some fs) due h left = λ why reason calm. absurd (stage_not_refused left.text why job fs left.stage reason)
         at stops.Memory (Some fs) due h left = λ why reason calm. elim due [ inl is ↦ inr is | inr is ↦ inr is ]
@@ -127,21 +134,53 @@ module _ (stop : Stop) (status : Status) (before now : Device) (told : IsTold st
         at s None due h left = tt
         at stops.Usage (Some fs) due h left = absurd h
         at (stops.Refused r) (Some fs) due h left = λ lacks. absurd (refusal_not_missing r job fs h lacks)
+        at (stops.Unfinished level budget) (Some fs) due h left = λ lacks. absurd (beyond_not_missing left.text level job fs left.output lacks)
         at stops.ReadFault (Some fs) due h left = λ lacks. due
         at stops.WriteFault (Some fs) due h left = λ lacks. absurd (stage_not_missing left.text job fs left.stage lacks)
         at stops.Memory (Some fs) due h left = λ lacks. elim due [ inl is ↦ inr is | inr is ↦ inr is ]
 
     pub stop_completes : IfSome files (λ fs. CanBeDone job fs → ¬ shelf-rose → ¬ sink-rose → IsUnlessMemory statuses.Done status)
-    stop_completes = at stop files (told_status stop status before now told) cause
+    stop_completes = at stop files (told_status stop status before now told) cause leaves
+      where
+        at : (s : Stop) (fs : Option (List File)) → IsUnlessMemory (status_of s) status → HasCause s shelf-rose sink-rose job fs → LeavesText s job fs first last
+            → IfSome fs (λ gs. CanBeDone job gs → ¬ shelf-rose → ¬ sink-rose → IsUnlessMemory statuses.Done status)
+        at s None due h left = tt
+        at stops.Usage (Some fs) due h left = absurd h
+        at (stops.Refused r) (Some fs) due h left = λ can calm quiet. absurd (can_not_refused r job fs can h)
+        at (stops.Unfinished level budget) (Some fs) due h left = λ can calm quiet. absurd (can_not_beyond left.text level job fs can left.output)
+        at stops.ReadFault (Some fs) due h left = λ can calm quiet. absurd (calm h)
+        at stops.WriteFault (Some fs) due h left = λ can calm quiet. absurd (quiet h)
+        at stops.Memory (Some fs) due h left = λ can calm quiet. elim due [ inl is ↦ inr is | inr is ↦ inr is ]
+
+    pub stop_spends : IfSome files (λ fs. (text : List ℕ) (level : ℕ) → IsOutputBeyond text level job fs → ¬ shelf-rose → ¬ sink-rose → IsUnlessMemory statuses.Unfinished status)
+    stop_spends = at stop files (told_status stop status before now told) cause
       where
         at : (s : Stop) (fs : Option (List File)) → IsUnlessMemory (status_of s) status → HasCause s shelf-rose sink-rose job fs
-            → IfSome fs (λ gs. CanBeDone job gs → ¬ shelf-rose → ¬ sink-rose → IsUnlessMemory statuses.Done status)
+            → IfSome fs (λ gs. (text : List ℕ) (level : ℕ) → IsOutputBeyond text level job gs → ¬ shelf-rose → ¬ sink-rose → IsUnlessMemory statuses.Unfinished status)
         at s None due h = tt
         at stops.Usage (Some fs) due h = absurd h
-        at (stops.Refused r) (Some fs) due h = λ can calm quiet. absurd (can_not_refused r job fs can h)
-        at stops.ReadFault (Some fs) due h = λ can calm quiet. absurd (calm h)
-        at stops.WriteFault (Some fs) due h = λ can calm quiet. absurd (quiet h)
-        at stops.Memory (Some fs) due h = λ can calm quiet. elim due [ inl is ↦ inr is | inr is ↦ inr is ]
+        at (stops.Refused r) (Some fs) due h = λ text level beyond calm quiet. absurd (beyond_not_refused text level r job fs beyond h)
+        at (stops.Unfinished at_level budget) (Some fs) due h = λ text level beyond calm quiet. due
+        at stops.ReadFault (Some fs) due h = λ text level beyond calm quiet. absurd (calm h)
+        at stops.WriteFault (Some fs) due h = λ text level beyond calm quiet. absurd (quiet h)
+        at stops.Memory (Some fs) due h = λ text level beyond calm quiet. elim due [ inl is ↦ inr is | inr is ↦ inr is ]
+
+    pub stops_beyond : status ≡ statuses.Unfinished → IfSome files (StopsBeyond first last before.notes now.notes job)
+    stops_beyond is = let own = own_line stop status statuses.Unfinished before now told is (λ e. cc) in at stop own.0 own.1 cause leaves
+      where
+        of : (level budget : ℕ) (fs : Option (List File)) → now.notes ≡ noted before.notes (unfinished_line level budget) → budget ≡ budget_of job → IfSome fs (WritesBeyond level first last job)
+            → IfSome fs (StopsBeyond first last before.notes now.notes job)
+        of level budget None line same left = tt
+        of level budget (Some fs) line same left = record { level = level; writes = left; line = subst (λ (n : ℕ). now.notes ≡ noted before.notes (unfinished_line level n)) same line }
+
+        at : (s : Stop) → status_of s ≡ statuses.Unfinished → now.notes ≡ noted before.notes (line_of s) → HasCause s shelf-rose sink-rose job files → LeavesText s job files first last
+            → IfSome files (StopsBeyond first last before.notes now.notes job)
+        at stops.Usage e line h left = absurd h
+        at (stops.Refused why) e line h left = absurd (cc)
+        at (stops.Unfinished level budget) e line h left = of level budget files line h left
+        at stops.ReadFault e line h left = absurd (cc)
+        at stops.WriteFault e line h left = absurd (cc)
+        at stops.Memory e line h left = absurd (cc)
 
     pub unfinished : status ≡ statuses.WriteFault → IfSome files (WritesStage first last job)
     unfinished is = at stop (own_line stop status statuses.WriteFault before now told is (λ e. cc)).0 cause leaves
@@ -149,6 +188,7 @@ module _ (stop : Stop) (status : Status) (before now : Device) (told : IsTold st
         at : (s : Stop) → status_of s ≡ statuses.WriteFault → HasCause s shelf-rose sink-rose job files → LeavesText s job files first last → IfSome files (WritesStage first last job)
         at stops.Usage e h left = absurd h
         at (stops.Refused why) e h left = absurd (cc)
+        at (stops.Unfinished level budget) e h left = absurd (cc)
         at stops.ReadFault e h left = absurd (cc)
         at stops.WriteFault e h left = left
         at stops.Memory e h left = absurd (cc)
@@ -156,9 +196,14 @@ module _ (stop : Stop) (status : Status) (before now : Device) (told : IsTold st
     pub at_most : (last ≡ first) ⊎ IfSome files (WritesStage first last job)
     at_most = at stop leaves
       where
+        staged : (level : ℕ) (fs : Option (List File)) → IfSome fs (WritesBeyond level first last job) → IfSome fs (WritesStage first last job)
+        staged level None left = tt
+        staged level (Some fs) left = record { text = left.text; stage = beyond_is_stage left.text level job fs left.output; front = whole_front left.text first last left.written }
+
         at : (s : Stop) → LeavesText s job files first last → (last ≡ first) ⊎ IfSome files (WritesStage first last job)
         at stops.Usage left = inl left
         at (stops.Refused why) left = inl left
+        at (stops.Unfinished level budget) left = inr (staged level files left)
         at stops.ReadFault left = inl left
         at stops.WriteFault left = inr left
         at stops.Memory left = left
@@ -170,6 +215,7 @@ module _ (stop : Stop) (status : Status) (before now : Device) (told : IsTold st
         at : (s : Stop) → status_of s ≡ statuses.Refused → LeavesText s job files first last → last ≡ first
         at stops.Usage e left = left
         at (stops.Refused why) e left = left
+        at (stops.Unfinished level budget) e left = absurd (cc)
         at stops.ReadFault e left = left
         at stops.WriteFault e left = absurd (cc)
         at stops.Memory e left = absurd (cc)
@@ -178,6 +224,7 @@ module _ (stop : Stop) (status : Status) (before now : Device) (told : IsTold st
         at : (s : Stop) → status_of s ≡ statuses.ReadFault → LeavesText s job files first last → last ≡ first
         at stops.Usage e left = left
         at (stops.Refused why) e left = left
+        at (stops.Unfinished level budget) e left = absurd (cc)
         at stops.ReadFault e left = left
         at stops.WriteFault e left = absurd (cc)
         at stops.Memory e left = absurd (cc)
@@ -187,6 +234,11 @@ module _ (status : Status) (want : status ≡ statuses.OutOfMemory) (job : Reque
   pub memory_refuses : (files : Option (List File)) (shelf-rose : Type 0) → IfSome files (λ fs. (why : Refusal) → IsRefusal why job fs → ¬ shelf-rose → IsUnlessMemory statuses.Refused status)
   memory_refuses None shelf-rose = tt
   memory_refuses (Some fs) shelf-rose = λ why reason calm. inr want
+
+  pub memory_spends : (files : Option (List File)) (shelf-rose sink-rose : Type 0)
+      → IfSome files (λ fs. (text : List ℕ) (level : ℕ) → IsOutputBeyond text level job fs → ¬ shelf-rose → ¬ sink-rose → IsUnlessMemory statuses.Unfinished status)
+  memory_spends None shelf-rose sink-rose = tt
+  memory_spends (Some fs) shelf-rose sink-rose = λ text level beyond calm quiet. inr want
 
   pub memory_misses : (files : Option (List File)) → IfSome files (λ fs. LacksFile job fs → IsUnlessMemory statuses.ReadFault status)
   memory_misses None = tt
@@ -205,3 +257,8 @@ module _ (status : Status) (job : Request) (first last : Option (List ℕ)) wher
   pub done_misses : (files : Option (List File)) → IfSome files (WritesOutput first last job) → IfSome files (λ fs. LacksFile job fs → IsUnlessMemory statuses.ReadFault status)
   done_misses None h = tt
   done_misses (Some fs) h = λ lacks. absurd (output_not_missing h.text job fs h.output lacks)
+
+  pub done_spends : (files : Option (List File)) (shelf-rose sink-rose : Type 0) → IfSome files (WritesOutput first last job)
+      → IfSome files (λ fs. (text : List ℕ) (level : ℕ) → IsOutputBeyond text level job fs → ¬ shelf-rose → ¬ sink-rose → IsUnlessMemory statuses.Unfinished status)
+  done_spends None shelf-rose sink-rose h = tt
+  done_spends (Some fs) shelf-rose sink-rose h = λ text level beyond calm quiet. absurd (output_not_beyond h.text text level job fs h.output beyond)

@@ -1,7 +1,5 @@
 pub mod JobLemmas
 pub mod RefusalLemmas
 pub mod EndingLemmas
-pub mod CoverLemmas
-pub mod EquilibriumLemmas
-pub mod AskingLemmas
 pub mod StageLemmas
+pub mod EquilibriumLemmas

@@ -4,6 +4,8 @@ use Rattle.std.specs.Fmt.{decimal}
 use Rattle.mcs_ports.specs.Pieces.{Device, noted}
 use Rattle.mcs_text.specs.declared.unwritten.Unwritten.{Unwritten}
 use Rattle.mcs_text.specs.declared.unwritten.Unwritten.TheVariants as unwritten
+use Rattle.mcs_states.specs.declared.halt.Halt.{Halt}
+use Rattle.mcs_states.specs.declared.halt.Halt.TheVariants as halts
 use Rattle.mcs_system.specs.declared.limit.Limit.{Limit}
 use Rattle.mcs_system.specs.Limits.{limit_words}
 use Rattle.mcs_faults.specs.declared.fault.TextFault.{TextFault}
@@ -22,6 +24,7 @@ abbrev pub number_of : Status → ℕ
 number_of statuses.Done = 0
 number_of statuses.Usage = 2
 number_of statuses.Refused = 3
+number_of statuses.Unfinished = 4
 number_of statuses.ReadFault = 5
 number_of statuses.WriteFault = 6
 number_of statuses.OutOfMemory = 7
@@ -39,13 +42,16 @@ fault_line number offset limit = codes "mcs: refused: F" ++ (decimal number ++ (
 abbrev pub refusal_line : Refusal → List ℕ
 refusal_line refusals.TooLong = codes "mcs: refused: file longer than 1048576\n"
 refusal_line (refusals.Text number offset limit) = fault_line number offset limit
-refusal_line refusals.Kind = codes "mcs: refused: kind\n"
-refusal_line refusals.Size = codes "mcs: refused: size\n"
+
+-- mcs: unfinished at level K, budget N
+unfoldable pub unfinished_line : ℕ → ℕ → List ℕ
+unfinished_line level budget = codes "mcs: unfinished at level " ++ (decimal level ++ (codes ", budget " ++ (decimal budget ++ codes "\n")))
 
 -- the line that is noted where a run stops
 abbrev pub line_of : Stop → List ℕ
 line_of stops.Usage = codes "mcs: usage: mcs JOB FILE [REPORT] [--budget N] [--workers N] [--proof]\n"
 line_of (stops.Refused why) = refusal_line why
+line_of (stops.Unfinished level budget) = unfinished_line level budget
 line_of stops.ReadFault = codes "mcs: read fault\n"
 line_of stops.WriteFault = codes "mcs: write fault\n"
 line_of stops.Memory = codes "mcs: out of memory\n"
@@ -53,6 +59,7 @@ line_of stops.Memory = codes "mcs: out of memory\n"
 abbrev pub status_of : Stop → Status
 status_of stops.Usage = statuses.Usage
 status_of (stops.Refused why) = statuses.Refused
+status_of (stops.Unfinished level budget) = statuses.Unfinished
 status_of stops.ReadFault = statuses.ReadFault
 status_of stops.WriteFault = statuses.WriteFault
 status_of stops.Memory = statuses.OutOfMemory
@@ -69,6 +76,12 @@ stop_for_text texts.Memory = stops.Memory
 abbrev pub stop_for_line : Unwritten → Stop
 stop_for_line unwritten.Fault = stops.WriteFault
 stop_for_line unwritten.Memory = stops.Memory
+
+-- by what an evaluator told within a budget; no oracle of a run can miss
+abbrev pub stop_for_halt : ℕ → Halt → Stop
+stop_for_halt budget (halts.Spent level drawn) = stops.Unfinished level budget
+stop_for_halt budget (halts.Missing context active) = stops.Memory
+stop_for_halt budget halts.Memory = stops.Memory
 
 -- the stop is told by its own status and line
 pub record IsToldAs (stop : Stop) (status : Status) (before now : Device) : Type 0 where

@@ -1,5 +1,4 @@
 pub mod Jobs
 pub mod Endings
-pub mod Answers
-pub mod Admitted
+pub mod Texts
 pub mod Promise

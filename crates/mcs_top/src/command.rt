@@ -1,11 +1,11 @@
 //! The one call that the program makes.
 
-ghost use Rattle.std.specs.Prelude.{◌≡◌, ◌≤◌, ◌⊎◌};
+ghost use Rattle.std.specs.Prelude.{◌≡◌, ◌≤◌, ◌⊎◌, ℕ, List};
 ghost use Rattle.mcs_ports.specs.Causes.{Rose};
 ghost use Rattle.mcs_words.specs.Commands.{Request, IsJobOf};
 ghost use Rattle.mcs_words.specs.Reading.{texts_of};
 ghost use Rattle.mcs_top.specs.Jobs.{OfJob, IfJob};
-ghost use Rattle.mcs_top.specs.Promise.{IsRefusal, LacksFile, CanBeDone, WritesOutput, WritesStage, TellsRefusal, Notes, IsUnlessMemory};
+ghost use Rattle.mcs_top.specs.Promise.{IsRefusal, IsOutputBeyond, LacksFile, CanBeDone, WritesOutput, WritesStage, StopsBeyond, TellsRefusal, Notes, IsUnlessMemory};
 ghost use Rattle.mcs_top.specs.declared.ending.Refusal.{Refusal};
 
 use crate::ending::tell;
@@ -46,11 +46,19 @@ pub fn run<H: Shelf, K: Sink, G: Gate>(
     ensures missing { IfJob (texts_of words.now) (H.held shelf.old) (λ job files.
         LacksFile job files → IsUnlessMemory Status.ReadFault result) }
 
+    // A job stops at a level exactly where that has more questions than the budget; what is printed up to there was
+    // written, and the level is noted.
+    ensures beyond { result ≡ Status.Unfinished → OfJob (texts_of words.now) (H.held shelf.old)
+        (StopsBeyond (K.device sink.old).written (K.device sink.new).written (K.device sink.old).notes (K.device sink.new).notes) }
+    ensures spent { IfJob (texts_of words.now) (H.held shelf.old) (λ job files.
+        (text : List ℕ) (level : ℕ) → IsOutputBeyond text level job files → ¬ Rose (H.faults shelf.old) (H.faults shelf.new)
+        → ¬ Rose (K.device sink.old).faults (K.device sink.new).faults → IsUnlessMemory Status.Unfinished result) }
+
     // `Done` comes where the whole output of the job was written.
     ensures done { result ≡ Status.Done → OfJob (texts_of words.now) (H.held shelf.old)
         (WritesOutput (K.device sink.old).written (K.device sink.new).written) }
 
-    // It does come, unless memory ran out or a device failed.
+    // It does come where the budget suffices, unless memory ran out or a device failed.
     ensures complete { IfJob (texts_of words.now) (H.held shelf.old) (λ job files.
         CanBeDone job files → ¬ Rose (H.faults shelf.old) (H.faults shelf.new)
         → ¬ Rose (K.device sink.old).faults (K.device sink.new).faults → IsUnlessMemory Status.Done result) }

@@ -1,13 +1,14 @@
 //! Why a run stops before its end, and the line that it notes then.
 
 ghost use Rattle.std.specs.Prelude.{◌≡◌, ◌++◌, OnOk};
-ghost use Rattle.mcs_top.specs.Endings.{line_of, refusal_line, fault_line, told_limit, status_of, stop_for_words, stop_for_text, stop_for_line, IsTold, IsToldAs};
+ghost use Rattle.mcs_top.specs.Endings.{line_of, refusal_line, unfinished_line, fault_line, told_limit, status_of, stop_for_words, stop_for_text, stop_for_line, stop_for_halt, IsTold, IsToldAs};
 ghost use Rattle.mcs_top.specs.declared.ending.Stop.TheVariants as stops;
 
 use crate::status::Status;
 use mcs_base::{Memory, Text};
 use mcs_language::TextFault;
 use mcs_ports::Sink;
+use mcs_states::Halt;
 use mcs_system::Limit;
 use mcs_text::Unwritten;
 use mcs_words::WordsFault;
@@ -24,10 +25,6 @@ pub(crate) enum Refusal {
         offset: usize,
         limit: Option<Limit>,
     },
-    /// A context is of a kind that is not evaluated yet.
-    Kind,
-    /// There are more variables than are tried yet.
-    Size,
 }
 
 /// Why a run stops before its end.
@@ -35,6 +32,8 @@ pub(crate) enum Refusal {
 pub(crate) enum Stop {
     Usage,
     Refused(Refusal),
+    /// The system has more questions of the level than the budget.
+    Unfinished { level: u32, budget: u64 },
     ReadFault,
     WriteFault,
     Memory,
@@ -89,6 +88,16 @@ impl From<Unwritten> for Stop {
     }
 }
 
+/// Why a run stops whose evaluator halted so, within this budget. No oracle of a run can miss.
+pub(crate) fn stop_for_halt(halt: Halt, budget: u64) -> Stop
+    ensures { result ≡ stop_for_halt budget halt }
+{
+    match halt {
+        Halt::Spent { level, .. } => Stop::Unfinished { level, budget },
+        Halt::Missing { .. } | Halt::Memory => Stop::Memory,
+    }
+}
+
 impl Stop {
     /// The status of a run that stops so.
     fn status(self) -> Status
@@ -97,6 +106,7 @@ impl Stop {
         match self {
             Stop::Usage => Status::Usage,
             Stop::Refused(_) => Status::Refused,
+            Stop::Unfinished { .. } => Status::Unfinished,
             Stop::ReadFault => Status::ReadFault,
             Stop::WriteFault => Status::WriteFault,
             Stop::Memory => Status::OutOfMemory,
@@ -112,6 +122,7 @@ impl Stop {
                 b"mcs: usage: mcs JOB FILE [REPORT] [--budget N] [--workers N] [--proof]\n",
             ),
             Stop::Refused(why) => push_refusal(line, why),
+            Stop::Unfinished { level, budget } => push_unfinished(line, level, budget),
             Stop::ReadFault => line.push(b"mcs: read fault\n"),
             Stop::WriteFault => line.push(b"mcs: write fault\n"),
             Stop::Memory => line.push(OUT_OF_MEMORY),
@@ -133,9 +144,19 @@ fn push_refusal(line: &mut Text, why: Refusal) -> Result<(), Memory>
             offset,
             limit,
         } => push_fault(line, number, offset, limit),
-        Refusal::Kind => line.push(b"mcs: refused: kind\n"),
-        Refusal::Size => line.push(b"mcs: refused: size\n"),
     }
+}
+
+/// Appends the line of a run that stops at this level, since the budget is too small.
+#[tactic(auto, unfolding(crate::specs::Endings::unfinished_line))]
+fn push_unfinished(line: &mut Text, level: u32, budget: u64) -> Result<(), Memory>
+    ensures { OnOk result (line.new ≡ line.old ++ unfinished_line level budget) }
+{
+    line.push(b"mcs: unfinished at level ")?;
+    line.push_number(level as u64)?;
+    line.push(b", budget ")?;
+    line.push_number(budget)?;
+    line.push(b"\n")
 }
 
 /// Appends the line of a text with this fault at this offset.

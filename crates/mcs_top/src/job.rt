@@ -1,23 +1,24 @@
 //! The jobs: from the files that one names to what it prints.
 
-ghost use Rattle.std.specs.Prelude.{◌≡◌, ◌≤◌, [], ◌∷◌, ℕ, IfSome, IfOk, OnOk, IfErr};
+ghost use Rattle.std.specs.Prelude.{◌≡◌, ◌≤◌, [], ◌∷◌, ℕ, length, IfSome, IfOk, OnOk, IfErr};
+ghost use Rattle.std.specs.Arc.{arc_value};
 ghost use Rattle.mcs_ports.specs.Causes.{Rose};
 ghost use Rattle.mcs_words.specs.Commands.{equilibria};
 ghost use Rattle.mcs_words.specs.Reading.{request_of};
 ghost use Rattle.mcs_top.specs.Jobs.{told_all, files_in, OfOneFile};
-ghost use Rattle.mcs_top.specs.Admitted.{IsAdmitted, IsTextOf, StopsReading};
+ghost use Rattle.mcs_top.specs.Texts.{most_text_bytes, IsTextOf, StopsReading, StopsText};
 ghost use Rattle.mcs_top.specs.Promise.{HasCause, LeavesText, WritesOutput, PrintsEquilibria};
 
-use crate::admitted::admitted_system;
-use crate::asking::Contexts;
 use crate::ending::{Refusal, Stop};
-use crate::equilibria::equilibria;
+use crate::equilibria::find_equilibria;
 use crate::printing::{print_heading, print_listing};
+use mcs_base::Memory;
+use mcs_language::read_system;
 use mcs_ports::{Gate, ReadAnswer, Shelf, Sink, read_whole};
 use mcs_system::System;
-use mcs_text::Unwritten;
 use mcs_words::Job;
 use std::alloc::Global;
+use std::sync::Arc;
 
 /// The most bytes of a system text.
 const MOST_TEXT_BYTES: usize = 1_048_576;
@@ -43,14 +44,17 @@ pub(crate) fn do_job<H: Shelf, K: Sink, G: Gate>(
         (K.device sink.old).written (K.device sink.new).written) }
 {
     match job {
-        Job::Equilibria { file, .. } => list_equilibria(alloc, file, shelf, sink, gate),
+        Job::Equilibria { file, budget, .. } => {
+            list_equilibria(alloc, file, *budget, shelf, sink, gate)
+        }
     }
 }
 
-/// Prints the equilibria of the system whose text the file holds.
+/// Prints the equilibria of the system whose text the file holds, within a budget of questions.
 fn list_equilibria<H: Shelf, K: Sink, G: Gate>(
     alloc: Global,
     file: &str,
+    budget: u64,
     shelf: &mut H,
     sink: &mut K,
     gate: &G,
@@ -58,41 +62,46 @@ fn list_equilibria<H: Shelf, K: Sink, G: Gate>(
     ensures shelf_later { H.faults shelf.old ≤ H.faults shelf.new }
     ensures sink_later { (K.device sink.old).faults ≤ (K.device sink.new).faults }
     ensures notes { (K.device sink.new).notes ≡ (K.device sink.old).notes }
-    ensures ok { (budget workers : ℕ) → OnOk result (IfSome (told_all (H.held shelf.old) (file.now ∷ []))
+    ensures ok { (workers : ℕ) → OnOk result (IfSome (told_all (H.held shelf.old) (file.now ∷ []))
         (WritesOutput (K.device sink.old).written (K.device sink.new).written (equilibria file.now budget workers))) }
-    ensures cause { (budget workers : ℕ) → IfErr result (λ stop. HasCause stop
+    ensures cause { (workers : ℕ) → IfErr result (λ stop. HasCause stop
         (Rose (H.faults shelf.old) (H.faults shelf.new)) (Rose (K.device sink.old).faults (K.device sink.new).faults)
         (equilibria file.now budget workers) (told_all (H.held shelf.old) (file.now ∷ []))) }
-    ensures leaves { (budget workers : ℕ) → IfErr result (λ stop. LeavesText stop
+    ensures leaves { (workers : ℕ) → IfErr result (λ stop. LeavesText stop
         (equilibria file.now budget workers) (told_all (H.held shelf.old) (file.now ∷ []))
         (K.device sink.old).written (K.device sink.new).written) }
 {
-    let system = system_in(alloc, file, shelf)?;
-    let printed = print_equilibria(alloc, &system, sink, gate);
-    drop(system);
-    Ok(printed?)
+    let system = shared(alloc, system_in(alloc, file, shelf)?)?;
+    print_equilibria(alloc, &system, budget, sink, gate)
+}
+
+/// The system, to be shared by what asks its contexts.
+fn shared(alloc: Global, system: System) -> Result<Arc<System>, Memory>
+    ensures { IfOk result (λ shared. arc_value shared ≡ system) }
+{
+    Ok(Arc::new(alloc, system)?)
 }
 
 /// Prints the equilibria of the system: the heading before the first question, then the rest of the listing.
 fn print_equilibria<K: Sink, G: Gate>(
     alloc: Global,
-    system: &System,
+    system: &Arc<System>,
+    budget: u64,
     sink: &mut K,
     gate: &G,
-) -> Result<(), Unwritten>
-    requires { IsAdmitted system.now }
-    ensures { PrintsEquilibria system.now (K.device sink.old) (K.device sink.new) result }
+) -> Result<(), Stop>
+    ensures { PrintsEquilibria (arc_value system.now) budget (K.device sink.old) (K.device sink.new) result }
 {
     print_heading(alloc, system, sink)?;
-    let states = equilibria(alloc, &mut Contexts::new(alloc, system, gate))?;
-    print_listing(alloc, system, &states, sink)
+    let found = find_equilibria(alloc, system, budget, gate)?;
+    print_listing(alloc, system, &found.states, found.asked, sink)?;
+    Ok(())
 }
 
 /// The system whose text the file holds.
 fn system_in<H: Shelf>(alloc: Global, file: &str, shelf: &mut H) -> Result<System, Stop>
     ensures later { H.faults shelf.old ≤ H.faults shelf.new }
     ensures system { IfOk result (λ system. IfSome (told_all (H.held shelf.old) (file.now ∷ [])) (OfOneFile (IsTextOf system))) }
-    ensures admitted { IfOk result IsAdmitted }
     ensures stop { IfErr result (λ stop. StopsReading stop
         (Rose (H.faults shelf.old) (H.faults shelf.new)) (told_all (H.held shelf.old) (file.now ∷ []))) }
 {
@@ -102,5 +111,14 @@ fn system_in<H: Shelf>(alloc: Global, file: &str, shelf: &mut H) -> Result<Syste
         Err(ReadAnswer::TooLong) => return Err(Stop::Refused(Refusal::TooLong)),
         Err(ReadAnswer::Memory) => return Err(Stop::Memory),
     };
-    admitted_system(alloc, &bytes)
+    system_of(alloc, &bytes)
+}
+
+/// The system whose text the bytes are, or why they are none.
+fn system_of(alloc: Global, bytes: &[u8]) -> Result<System, Stop>
+    requires { length bytes.now ≤ most_text_bytes }
+    ensures system { IfOk result (λ system. IsTextOf system bytes.now) }
+    ensures stop { IfErr result (λ stop. StopsText stop bytes.now) }
+{
+    Ok(read_system(alloc, bytes)?)
 }

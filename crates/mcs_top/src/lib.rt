@@ -2,8 +2,6 @@
 //! list of equilibria.
 #![tactic(auto)]
 
-mod admitted;
-mod asking;
 mod command;
 mod ending;
 mod equilibria;

@@ -10,8 +10,10 @@ pub enum Status {
     Done,
     /// The words are no job.
     Usage,
-    /// The file is too long, or its text is no system that is evaluated.
+    /// The file is too long, or its text is no system.
     Refused,
+    /// The system has more questions than the budget.
+    Unfinished,
     /// The file could not be read.
     ReadFault,
     /// The listing could not be written.
@@ -22,7 +24,7 @@ pub enum Status {
 
 impl Status {
     /// The number that the program ends with: 0 where the job was done, 2 for words that are no job, 3 for a file
-    /// that is refused, 5 and 6 for a fault of reading and of writing, 7 where memory ran out.
+    /// that is refused, 4 where the budget was too small, 5 and 6 for a fault of reading and of writing, 7 where memory ran out.
     pub fn number(self) -> u8
         ensures { result ≡ number_of self }
     {
@@ -30,6 +32,7 @@ impl Status {
             Status::Done => 0,
             Status::Usage => 2,
             Status::Refused => 3,
+            Status::Unfinished => 4,
             Status::ReadFault => 5,
             Status::WriteFault => 6,
             Status::OutOfMemory => 7,

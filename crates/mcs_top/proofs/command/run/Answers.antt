@@ -1,11 +1,11 @@
-use Rattle.std.proofs.Common.{◌≡◌, ◌∙◌, inl, inr, sym}
+use Rattle.std.proofs.Common.{◌≡◌, ◌∙◌, ℕ, List, inl, inr, sym}
 use Rattle.mcs_ports.specs.Causes.{Rose}
 use Rattle.mcs_words.specs.Reading.{request_of}
-use Rattle.mcs_top.specs.Promise.{IsRefusal, LacksFile, CanBeDone, IsUnlessMemory}
+use Rattle.mcs_top.specs.Promise.{IsRefusal, IsOutputBeyond, LacksFile, CanBeDone, IsUnlessMemory}
 use Rattle.mcs_top.specs.declared.ending.Refusal.{Refusal}
 use Rattle.mcs_top.specs.declared.status.Status.TheVariants as statuses
 use Rattle.mcs_top.proofs.JobLemmas.{if_job}
-use Rattle.mcs_top.proofs.EndingLemmas.{words_told, memory_refuses, memory_misses, memory_completes, done_refuses, done_misses, stop_refuses, stop_misses, stop_completes}
+use Rattle.mcs_top.proofs.EndingLemmas.{words_told, memory_refuses, memory_misses, memory_completes, memory_spends, done_refuses, done_misses, done_spends, stop_refuses, stop_misses, stop_completes, stop_spends, at_most}
 use Rattle.mcs_top.proofs.command.run.Goals as goal
 
 -- ---- words that are no job
@@ -25,6 +25,12 @@ pub returns-in-Err-clause-missing : goal.returns-in-Err-clause-missing
 returns-in-Err-clause-missing g c job asked = elim (words_told c.in-Err.fault c.into.result c.tell.result _ _ c.into.ensures c.tell.ensures.told) [
   | inl both ↦ absurd (c.in-Err.ensures both.1 job asked)
   | inr want ↦ memory_misses c.tell.result want job _
+]
+
+pub returns-in-Err-clause-spent : goal.returns-in-Err-clause-spent
+returns-in-Err-clause-spent g c job asked = elim (words_told c.in-Err.fault c.into.result c.tell.result _ _ c.into.ensures c.tell.ensures.told) [
+  | inl both ↦ absurd (c.in-Err.ensures both.1 job asked)
+  | inr want ↦ memory_spends c.tell.result want job _ _ _
 ]
 
 pub returns-in-Err-clause-complete : goal.returns-in-Err-clause-complete
@@ -47,6 +53,12 @@ returns-in-Ok-do_job-clause-missing g c =
     if_job _ (request_of c.in-Ok.job) c.in-Ok.ensures (g.H.Shelf.held c.args.shelf.now) (λ job files. LacksFile job files → IsUnlessMemory statuses.ReadFault statuses.Done)
     (done_misses statuses.Done (request_of c.in-Ok.job) _ _ _ c.in-Ok-do_job.ensures.ok)
 
+pub returns-in-Ok-do_job-clause-spent : goal.returns-in-Ok-do_job-clause-spent
+returns-in-Ok-do_job-clause-spent g c =
+    if_job _ (request_of c.in-Ok.job) c.in-Ok.ensures (g.H.Shelf.held c.args.shelf.now)
+    (λ job files. (text : List ℕ) (level : ℕ) → IsOutputBeyond text level job files → ¬ Rose (g.H.Shelf.faults c.args.shelf.now) (g.H.Shelf.faults c.do_job.new.shelf) → ¬ Rose (g.K.Sink.device c.args.sink.now).faults (g.K.Sink.device c.do_job.new.sink).faults → IsUnlessMemory statuses.Unfinished statuses.Done)
+    (done_spends statuses.Done (request_of c.in-Ok.job) _ _ _ _ _ c.in-Ok-do_job.ensures.ok)
+
 -- ---- a job that stopped
 pub returns-clause-no_job : goal.returns-clause-no_job
 returns-clause-no_job g c none = absurd (none (request_of c.in-Ok.job) c.in-Ok.ensures)
@@ -66,3 +78,15 @@ returns-clause-complete g c =
     if_job _ (request_of c.in-Ok.job) c.in-Ok.ensures (g.H.Shelf.held c.args.shelf.now)
     (λ job files. CanBeDone job files → ¬ Rose (g.H.Shelf.faults c.args.shelf.now) (g.H.Shelf.faults c.do_job.new.shelf) → ¬ Rose (g.K.Sink.device c.args.sink.now).faults (g.K.Sink.device c.tell-in-Err-do_job.new.sink).faults → IsUnlessMemory statuses.Done c.tell-in-Err-do_job.result)
     (rw c.tell-in-Err-do_job.ensures.faults (stop_completes c.in-Err-do_job.stop c.tell-in-Err-do_job.result _ _ c.tell-in-Err-do_job.ensures.told _ _ (request_of c.in-Ok.job) _ c.in-Err-do_job.ensures.cause _ _ c.in-Err-do_job.ensures.leaves))
+
+pub returns-clause-spent : goal.returns-clause-spent
+returns-clause-spent g c =
+    if_job _ (request_of c.in-Ok.job) c.in-Ok.ensures (g.H.Shelf.held c.args.shelf.now)
+    (λ job files. (text : List ℕ) (level : ℕ) → IsOutputBeyond text level job files → ¬ Rose (g.H.Shelf.faults c.args.shelf.now) (g.H.Shelf.faults c.do_job.new.shelf) → ¬ Rose (g.K.Sink.device c.args.sink.now).faults (g.K.Sink.device c.tell-in-Err-do_job.new.sink).faults → IsUnlessMemory statuses.Unfinished c.tell-in-Err-do_job.result)
+    (rw c.tell-in-Err-do_job.ensures.faults (stop_spends c.in-Err-do_job.stop c.tell-in-Err-do_job.result _ _ c.tell-in-Err-do_job.ensures.told _ _ (request_of c.in-Ok.job) _ c.in-Err-do_job.ensures.cause _ _ c.in-Err-do_job.ensures.leaves))
+
+pub returns-clause-out_of_memory : goal.returns-clause-out_of_memory
+returns-clause-out_of_memory g c is = rw c.tell-in-Err-do_job.ensures.written (elim (at_most c.in-Err-do_job.stop c.tell-in-Err-do_job.result _ _ c.tell-in-Err-do_job.ensures.told _ _ (request_of c.in-Ok.job) _ c.in-Err-do_job.ensures.cause _ _ c.in-Err-do_job.ensures.leaves) [
+  | inl same ↦ inl same
+  | inr staged ↦ inr (record { job = request_of c.in-Ok.job; asked = c.in-Ok.ensures; of_files = staged })
+])

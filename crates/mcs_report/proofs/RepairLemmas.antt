@@ -1,0 +1,49 @@
+-- Marks that are written one after the other, and the number of the first edge that a set meets in one mark alone.
+use Rattle.std.proofs.Common.{◌≡◌, ℕ, ◌+◌, ◌*◌, ◌<◌, nat_eq, List, ◌++◌, length, get_or, Option, Some, None, MatchOption, IsSome, ap, ◌∙◌, append_assoc, arith, rules}
+use Rattle.std.proofs.lemmas.Bool.Decides.{nat_tests}
+use Rattle.std.proofs.lemmas.List.Sums.{position_or_len_is}
+use Rattle.std.specs.List.{AllByRecursion}
+use Rattle.mcs_sets.specs.Sets.{members, single, common, Within}
+use Rattle.mcs_base.specs.Transversals.{MeetAloneAt}
+use Rattle.mcs_base.proofs.Among.{place_among}
+use Rattle.mcs_base.proofs.ListingLemmas.{members_listing, all_from_among}
+use Rattle.mcs_system.specs.Plain.{System}
+use Rattle.mcs_system.specs.Repairs.{all_marks}
+use Rattle.mcs_transversal.specs.Transversals.{HasCriticalEdge, IsCritical, IsFirstCritical}
+use Rattle.mcs_report.specs.Repairs.{first_alone}
+use Rattle.mcs_report.proofs.LineLemmas.{each_below}
+
+-- the marks of a set of marks of the system's rules
+pub marks_below : (m : System) (t : ℕ) → Within t (all_marks m) → AllByRecursion (λ k. k < 2 * length m.bridges) (members t)
+unfolding all_marks
+marks_below m t within = each_below t (2 * length m.bridges) within
+
+-- each mark of the set has a critical edge
+pub each_critical : (edges : List ℕ) (t : ℕ) → IsCritical edges t → AllByRecursion (HasCriticalEdge edges t) (members t)
+each_critical edges t critical = all_from_among (HasCriticalEdge edges t) (members t) (λ k among. critical k (((members_listing t).exactly k).0 among))
+
+-- where a mark has a critical edge, the first one is found
+module _ (edges : List ℕ) (t k : ℕ) where
+  pub critical_some : (o : Option ℕ) → HasCriticalEdge edges t k → MatchOption o ((j : ℕ) → j < length edges → ¬ MeetAloneAt (get_or edges j 0) t k) (IsFirstCritical edges t k) → IsSome o
+  critical_some None critical none =
+      let (j, less, is) = place_among edges critical.edge critical.among in
+      absurd (none j less (ap (λ e. common e t) (is 0) ∙ critical.alone))
+  critical_some (Some i) critical first = search rules
+
+  -- its number, from 1
+  first_number : (i : ℕ) → IsFirstCritical edges t k i → i + 1 ≡ first_alone edges t k
+  first_number i first =
+      let place = position_or_len_is (λ e. nat_eq (common e t) (single k)) edges i 0 (omega (arith, first.in_range))
+      (λ j less. let differ = first.none_before j less in grind (arith, nat_tests))
+      (λ less. let same = first.alone in grind (arith, nat_tests)) in
+      omega (arith, place)
+
+  pub critical_number : (o : Option ℕ) (i : ℕ) → o ≡ Some i → MatchOption o ((j : ℕ) → j < length edges → ¬ MeetAloneAt (get_or edges j 0) t k) (IsFirstCritical edges t k) → i + 1 ≡ first_alone edges t k
+  critical_number o i is found = first_number i (rw is at found)
+
+-- ---- pieces that are appended one after the other
+pub five : (t a b c d e : List ℕ) → ((((t ++ a) ++ b) ++ c) ++ d) ++ e ≡ t ++ (a ++ (b ++ (c ++ (d ++ e))))
+five t a b c d e = simp append_assoc
+
+pub nine : (t a b c d e f g h i : List ℕ) → ((((((((t ++ a) ++ b) ++ c) ++ d) ++ e) ++ f) ++ g) ++ h) ++ i ≡ t ++ (a ++ (b ++ (c ++ (d ++ (e ++ (f ++ (g ++ (h ++ i))))))))
+nine t a b c d e f g h i = simp append_assoc

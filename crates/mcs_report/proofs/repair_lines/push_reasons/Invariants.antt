@@ -1,0 +1,15 @@
+use Rattle.std.proofs.Common.{◌≡◌, ◌<◌, ◌*◌, ◌++◌, length, map, codes}
+use Rattle.std.specs.List.{AllByRecursion}
+use Rattle.mcs_sets.specs.Sets.{members}
+use Rattle.mcs_text.specs.Separated.{separated}
+use Rattle.mcs_transversal.specs.Transversals.{HasCriticalEdge}
+use Rattle.mcs_report.specs.Repairs.{reason_text}
+use Rattle.mcs_report.proofs.LineLemmas.{left}
+use Rattle.mcs_report.proofs.repair_lines.push_reasons.Given as goal
+
+abbrev pub invariant-loop-mark : goal.invariant-loop-mark
+invariant-loop-mark l = record {
+  written : l.text ++ left l.is_first (map (reason_text l.system l.edges l.t) l.mark-iterator) ≡ l.fn.text ++ (codes "{" ++ separated (map (reason_text l.system l.edges l.t) (members l.t)));
+  known : AllByRecursion (λ k. k < 2 * length l.system.bridges) l.mark-iterator;
+  critical : AllByRecursion (HasCriticalEdge l.edges l.t) l.mark-iterator;
+}

@@ -1,0 +1,172 @@
+//! The lines of a report of diagnoses and explanations. Each call appends one line with its line feed; without memory
+//! the text stays as it was.
+
+ghost use Rattle.std.specs.Prelude.{◌≡◌, ◌<◌, ◌*◌, ◌++◌, map, length, OnOk, OnErr, decimal};
+ghost use Rattle.std.specs.List.{AllByRecursion};
+ghost use Rattle.mcs_sets.specs.Sets.{Within};
+ghost use Rattle.mcs_system.specs.Repairs.{all_marks};
+ghost use Rattle.mcs_system.specs.Systems.{all_rules, all_variables};
+ghost use Rattle.mcs_transversal.specs.Transversals.{IsCritical, HasCriticalEdge};
+ghost use Rattle.mcs_text.specs.Separated.{braced};
+ghost use Rattle.mcs_report.specs.Repairs.{mark_text, first_alone, reason_text, reasons_text, diagnosis_line, explanation_line, end_line};
+
+use crate::members::{Member, push_set};
+use mcs_base::{Marks, Members, Memory, Text};
+use mcs_diagnosis::Diagnosis;
+use mcs_system::System;
+use mcs_text::push_separator;
+use mcs_transversal::critical;
+
+/// Appends the mark of this number: `-NAME` where the rule of that name is removed, `+NAME` where it is forced.
+#[tactic(auto, using(mcs_system::proofs::SeenLemmas::loops))]
+fn push_mark(text: &mut Text, system: &System, mark: u32) -> Result<(), Memory>
+    requires { mark < 2 * length system.now.bridges }
+    ensures { OnOk result (text.new ≡ text.old ++ mark_text system.now mark) }
+{
+    text.push(if mark % 2 == 0 { b"-" } else { b"+" })?;
+    text.push(system.bridges()[(mark / 2) as usize].name.bytes())
+}
+
+/// Appends marks between braces to an own text.
+fn push_marks(text: &mut Text, system: &System, marks: Members) -> Result<(), Memory>
+    requires { AllByRecursion (λ k. k < 2 * length system.now.bridges) marks }
+    ensures { OnOk result (text.new ≡ text.old ++ braced (map (mark_text system.now) marks)) }
+{
+    text.push(b"{")?;
+    let mut is_first = true;
+    for mark in marks {
+        push_separator(text, is_first, b", ")?;
+        push_mark(text, system, mark)?;
+        is_first = false;
+    }
+    text.push(b"}")
+}
+
+/// The number, from 1, of the first edge that the set meets in this mark alone.
+fn first_alone(edges: &[Marks], t: Marks, mark: u32) -> u64
+    requires { HasCriticalEdge edges.now t mark }
+    ensures { result ≡ first_alone edges.now t mark }
+{
+    critical(edges, t, mark).unwrap() as u64 + 1
+}
+
+/// Appends a mark, and the number of the first edge that the set meets in it alone.
+fn push_reason(
+    text: &mut Text,
+    system: &System,
+    edges: &[Marks],
+    t: Marks,
+    mark: u32,
+) -> Result<(), Memory>
+    requires of_rule { mark < 2 * length system.now.bridges }
+    requires critical { HasCriticalEdge edges.now t mark }
+    ensures { OnOk result (text.new ≡ text.old ++ reason_text system.now edges.now t mark) }
+{
+    push_mark(text, system, mark)?;
+    text.push(b" by ")?;
+    text.push_number(first_alone(edges, t, mark))
+}
+
+/// Appends the marks of an explanation between braces, each with its reason, to an own text.
+fn push_reasons(text: &mut Text, system: &System, edges: &[Marks], t: Marks) -> Result<(), Memory>
+    requires of_rules { Within t (all_marks system.now) }
+    requires critical { IsCritical edges.now t }
+    ensures { OnOk result (text.new ≡ text.old ++ reasons_text system.now edges.now t) }
+{
+    text.push(b"{")?;
+    let mut is_first = true;
+    for mark in t.members() {
+        push_separator(text, is_first, b", ")?;
+        push_reason(text, system, edges, t, mark)?;
+        is_first = false;
+    }
+    text.push(b"}")
+}
+
+/// Appends the line of the diagnosis of this number: its marks, the first state of the changed system, and the
+/// rules that are active in it. All of them are of the system.
+#[tactic(auto, unfolding(crate::specs::Repairs::diagnosis_line))]
+pub fn diagnosis_line(
+    system: &System,
+    number: u64,
+    diagnosis: &Diagnosis,
+    out: &mut Text,
+) -> Result<(), Memory>
+    requires marks { Within diagnosis.now.pair (all_marks system.now) }
+    requires state { Within diagnosis.now.state (all_variables system.now) }
+    requires active { Within diagnosis.now.active (all_rules system.now) }
+    ensures ok { OnOk result (out.new ≡ out.old ++ diagnosis_line system.now number diagnosis.now) }
+    ensures err { OnErr result (out.new ≡ out.old) }
+{
+    let mut line = out.empty_like();
+    line.push(b"diagnosis ")?;
+    line.push_number(number)?;
+    line.push(b": ")?;
+    push_marks(&mut line, system, diagnosis.pair.marks().members())?;
+    line.push(b" state ")?;
+    push_set(
+        &mut line,
+        system,
+        Member::Variable,
+        diagnosis.state.members(),
+    )?;
+    line.push(b" active ")?;
+    push_set(&mut line, system, Member::Rule, diagnosis.active.members())?;
+    line.push(b"\n")?;
+    out.push(line.bytes())
+}
+
+/// Appends the line of the explanation of this number: its marks, each with the number, from 1, of the first
+/// diagnosis of the listing that the explanation meets in this mark alone. There is one for each mark: `critical`
+/// finds it. The marks are of rules of the system.
+#[tactic(auto, unfolding(crate::specs::Repairs::explanation_line))]
+pub fn explanation_line(
+    system: &System,
+    number: u64,
+    edges: &[Marks],
+    t: Marks,
+    out: &mut Text,
+) -> Result<(), Memory>
+    requires of_rules { Within t (all_marks system.now) }
+    requires critical { IsCritical edges.now t }
+    ensures ok { OnOk result (out.new ≡ out.old ++ explanation_line system.now number edges.now t) }
+    ensures err { OnErr result (out.new ≡ out.old) }
+{
+    let mut line = out.empty_like();
+    line.push(b"explanation ")?;
+    line.push_number(number)?;
+    line.push(b": ")?;
+    push_reasons(&mut line, system, edges, t)?;
+    line.push(b"\n")?;
+    out.push(line.bytes())
+}
+
+/// Appends a number, and what stands after it.
+fn push_count(text: &mut Text, number: u64, after: &[u8]) -> Result<(), Memory>
+    ensures { OnOk result (text.new ≡ text.old ++ (decimal number ++ after.now)) }
+{
+    text.push_number(number)?;
+    text.push(after)
+}
+
+/// Appends the last line of a report: how many equilibria, minimal diagnoses and minimal explanations there are, and
+/// the least number of questions with which they are found.
+#[tactic(auto, unfolding(crate::specs::Repairs::end_line))]
+pub fn end_line(
+    equilibria: u64,
+    diagnoses: u64,
+    explanations: u64,
+    need: u64,
+    out: &mut Text,
+) -> Result<(), Memory>
+    ensures ok { OnOk result (out.new ≡ out.old ++ end_line equilibria diagnoses explanations need) }
+    ensures err { OnErr result (out.new ≡ out.old) }
+{
+    let mut line = out.empty_like();
+    line.push(b"end: ")?;
+    push_count(&mut line, equilibria, b" equilibria, ")?;
+    push_count(&mut line, diagnoses, b" diagnoses, ")?;
+    push_count(&mut line, explanations, b" explanations, need ")?;
+    push_count(&mut line, need, b"\n")?;
+    out.push(line.bytes())
+}

@@ -1,0 +1,42 @@
+-- The texts that are systems, and why others are refused.
+use Rattle.std.specs.Prelude.{ℕ, ◌≤◌, List, length, Option, IfSome}
+use Rattle.mcs_system.specs.Plain.{System}
+use Rattle.mcs_grammar.specs.Texts.{Spells, HasFault}
+use Rattle.mcs_top.specs.Jobs.{File, OfOneFile}
+use Rattle.mcs_top.specs.declared.ending.Refusal.{Refusal}
+use Rattle.mcs_top.specs.declared.ending.Refusal.TheVariants as refusals
+use Rattle.mcs_top.specs.declared.ending.Stop.{Stop}
+use Rattle.mcs_top.specs.declared.ending.Stop.TheVariants as stops
+
+-- the most bytes of a system text
+abbrev pub most_text_bytes : ℕ
+most_text_bytes = 1048576
+
+-- the bytes are the text of this system
+pub record IsTextOf (m : System) (bytes : List ℕ) : Type 0 where
+  pub fits : length bytes ≤ most_text_bytes
+  pub spelled : Spells bytes m
+
+-- the reason for which a text is refused
+abbrev pub IsRefusedFor : Refusal → List ℕ → Type 0
+IsRefusedFor refusals.TooLong bytes = ¬ (length bytes ≤ most_text_bytes)
+IsRefusedFor (refusals.Text number offset limit) bytes = (length bytes ≤ most_text_bytes) × HasFault bytes number limit offset
+
+-- ---- why no system is had
+-- of a text that is there
+abbrev pub StopsText : Stop → List ℕ → Type 0
+StopsText (stops.Refused why) bytes = IsRefusedFor why bytes
+StopsText stops.Memory bytes = Unit {0}
+StopsText stops.Usage bytes = ⊥
+StopsText (stops.Unfinished level budget) bytes = ⊥
+StopsText stops.ReadFault bytes = ⊥
+StopsText stops.WriteFault bytes = ⊥
+
+-- of a file, by what a shelf tells of it
+abbrev pub StopsReading : Stop → Type 0 → Option (List File) → Type 0
+StopsReading (stops.Refused why) rose files = IfSome files (OfOneFile (IsRefusedFor why))
+StopsReading stops.ReadFault rose files = rose
+StopsReading stops.Memory rose files = Unit {0}
+StopsReading stops.Usage rose files = ⊥
+StopsReading (stops.Unfinished level budget) rose files = ⊥
+StopsReading stops.WriteFault rose files = ⊥
