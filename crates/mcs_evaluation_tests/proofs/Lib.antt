@@ -1,0 +1,3 @@
+mod General
+mod SolverLemmas
+mod NameLemmas
