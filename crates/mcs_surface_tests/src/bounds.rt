@@ -46,6 +46,26 @@ fn what_follows_in_64_steps_is_believed(rt: HostRuntime) -> Result<(), Fail> {
     Ok(())
 }
 
+/// A program of 64 atoms, of which each but the first has the one before for its reason.
+fn push_program(text: &mut Text) -> Result<(), Memory> {
+    text.push(b"context c1 program { a1.")?;
+    for number in 1..64 {
+        push_row(text, " a# :- a", number + 1)?;
+        push_row(text, "#.", number)?;
+    }
+    text.push(b" } context c2 classical {} bridge r1: c2:x if c1:a64.")
+}
+
+#[test]
+fn a_program_of_64_atoms_is_evaluated(rt: HostRuntime) -> Result<(), Fail> {
+    let mut text = Text::new(rt.alloc());
+    push_program(&mut text)?;
+    let listing =
+        "mcs 1: 2 contexts, 1 rules, 1 variables\nequilibrium 1: {c1:a64} applicable {r1}\nconsistent\nend: 1 equilibria, need 2\n";
+    assert!(rt; is_listed(rt.alloc(), text.bytes(), listing)?);
+    Ok(())
+}
+
 /// That the pigeon sits in a hole.
 fn push_seats(text: &mut Text, pigeon: u64, holes: u64) -> Result<(), Memory> {
     for hole in 0..holes {

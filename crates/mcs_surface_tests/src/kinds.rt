@@ -3,7 +3,7 @@
 use crate::runs::is_listed;
 use std::test::Fail;
 
-const LISTINGS: [(&str, &str); 18] = [
+const LISTINGS: [(&str, &str); 20] = [
     // Two extensions.
     (
         "context c1 default {\n  quaker. republican.\n  quaker : pacifist / pacifist.\n  republican : ~pacifist / ~pacifist.\n}\ncontext c2 classical {}\nbridge r1: c2:vote if c1:pacifist.\n",
@@ -93,6 +93,16 @@ const LISTINGS: [(&str, &str); 18] = [
     (
         "context c program { a. b :- a. } context e classical { x. } bridge t: c:a if e:x. bridge u: e:y if c:b.",
         "mcs 1: 2 contexts, 2 rules, 2 variables\nequilibrium 1: {c:b, e:x} applicable {t, u}\nconsistent\nend: 1 equilibria, need 3\n",
+    ),
+    // Constraints alone, which a head meets or not.
+    (
+        "context c program { :- not a. :- b. } context e classical {} bridge t: c:a if e:x. bridge u: e:x if c:a. bridge v: e:y if c:b.",
+        "mcs 1: 2 contexts, 3 rules, 3 variables\nequilibrium 1: {c:a, e:x} applicable {t, u}\nconsistent\nend: 1 equilibria, need 3\n",
+    ),
+    // A disjunction of twelve, seen through one of them.
+    (
+        "context c program { a0 | a1 | a2 | a3 | a4 | a5 | a6 | a7 | a8 | a9 | a10 | a11. } context e classical {} bridge t: e:x if c:a0.",
+        "mcs 1: 2 contexts, 1 rules, 1 variables\nequilibrium 1: {c:a0} applicable {t}\nequilibrium 2: {} applicable {}\nconsistent\nend: 2 equilibria, need 3\n",
     ),
 ];
 
