@@ -1,5 +1,5 @@
 -- The minimal diagnoses of a level, as they are shown.
-use Rattle.std.specs.Prelude.{◌≡◌, ℕ, List, map}
+use Rattle.std.specs.Prelude.{◌≡◌, ℕ, ◌<◌, List, map}
 use Rattle.std.specs.List.{AllByRecursion}
 use Rattle.mcs_sets.specs.Sets.{size, union, minus}
 use Rattle.mcs_sets.specs.Orders.{PairBefore}
@@ -31,4 +31,14 @@ pairs_of ds = map (λ (d : code.Diagnosis). d.pair) ds
 -- exactly the minimal diagnoses of so many marks, in the order of pairs, each as it is shown
 pub record AreFound (m : System) (level : ℕ) (ds : List code.Diagnosis) : Type 0 where
   pub listed : IsListing (IsOfLevel m level) PairBefore (pairs_of ds)
+  pub shown : AllByRecursion (IsShown m) ds
+
+-- exactly the minimal diagnoses with fewer marks than the level, in the order of pairs, each as it is shown
+pub record AreFoundBelow (m : System) (level : ℕ) (ds : List code.Diagnosis) : Type 0 where
+  pub listed : IsListing (λ p. IsMinimal (IsDiagnosis m) p × (size p < level)) PairBefore (pairs_of ds)
+  pub shown : AllByRecursion (IsShown m) ds
+
+-- exactly the minimal diagnoses, in the order of pairs, each as it is shown
+pub record AreDiagnoses (m : System) (ds : List code.Diagnosis) : Type 0 where
+  pub listed : IsListing (IsMinimal (IsDiagnosis m)) PairBefore (pairs_of ds)
   pub shown : AllByRecursion (IsShown m) ds

@@ -1,3 +1,4 @@
 pub mod Members
 pub mod Listing
 pub mod Repairs
+pub mod Solutions

@@ -1,0 +1,92 @@
+-- The whole listing of a system: its equilibria, its minimal diagnoses and its minimal explanations; and its stages.
+use Rattle.std.specs.Prelude.{◌≡◌, ℕ, ◌+◌, ◌≤◌, nat_lt, List, [], ◌∷◌, ◌++◌, length, ◌⊎◌, ◌↔◌}
+use Rattle.mcs_sets.specs.Orders.{StateBefore, PairBefore}
+use Rattle.mcs_base.specs.Listings.{IsListing}
+use Rattle.mcs_base.specs.Minimal.{IsMinimal}
+use Rattle.mcs_system.specs.Plain.{System}
+use Rattle.mcs_system.specs.Levels.{IsNeed}
+use Rattle.mcs_system.specs.Repairs.{IsDiagnosis, IsExplanation}
+use Rattle.mcs_system.specs.Systems.{all_rules, IsConsistent, IsProjectedEquilibrium}
+use Rattle.mcs_diagnosis.specs.declared.diagnosis.Diagnosis as code
+use Rattle.mcs_diagnosis.specs.Diagnoses.{AreDiagnoses, AreFoundBelow, pairs_of}
+use Rattle.mcs_report.specs.Listing.{heading, equilibrium_lines, verdict_line}
+use Rattle.mcs_report.specs.Repairs.{diagnosis_line, explanation_line, end_line}
+
+-- a line for each diagnosis, numbered from k on
+abbrev pub diagnosis_lines : System → ℕ → List code.Diagnosis → List ℕ
+diagnosis_lines m k [] = []
+diagnosis_lines m k (d ∷ ds) = diagnosis_line m k d ++ diagnosis_lines m (k + 1) ds
+
+-- a line for each explanation, numbered from k on, where these are the diagnoses
+abbrev pub explanation_lines : System → ℕ → List ℕ → List ℕ → List ℕ
+explanation_lines m k pairs [] = []
+explanation_lines m k pairs (t ∷ ts) = explanation_line m k pairs t ++ explanation_lines m (k + 1) pairs ts
+
+-- the equilibria, and whether there are any
+abbrev pub equilibria_part : System → List ℕ → List ℕ
+equilibria_part m states = equilibrium_lines m 1 states ++ verdict_line (nat_lt 0 (length states))
+
+-- the listing up to its last diagnosis, where these are the equilibria and the diagnoses
+abbrev pub listing_front : System → List ℕ → List code.Diagnosis → List ℕ
+listing_front m states ds = heading m ++ (equilibria_part m states ++ diagnosis_lines m 1 ds)
+
+-- what comes after it, where these are the explanations and so many questions are needed
+abbrev pub listing_rest : System → List ℕ → List code.Diagnosis → List ℕ → ℕ → List ℕ
+listing_rest m states ds ts need = explanation_lines m 1 (pairs_of ds) ts ++ end_line (length states) (length ds) (length ts) need
+
+-- the projected equilibria of the system, all of them, each once, in the order of states
+abbrev pub AreEquilibria : System → List ℕ → Type 0
+AreEquilibria m states = IsListing (IsProjectedEquilibrium m (all_rules m) 0) StateBefore states
+
+-- the whole listing: all projected equilibria in the order of states, all minimal diagnoses and all minimal explanations
+-- in the order of pairs, each once, with the number of the questions that the system needs
+pub record IsWholeListing (m : System) (text : List ℕ) : Type 0 where
+  pub states : List ℕ
+  pub equilibria : AreEquilibria m states
+  pub diagnoses : List code.Diagnosis
+  pub repairs : AreDiagnoses m diagnoses
+  pub explanations : List ℕ
+  pub causes : IsListing (IsMinimal (IsExplanation m)) PairBefore explanations
+  pub need : ℕ
+  pub needed : IsNeed m need
+  pub text_is : text ≡ listing_front m states diagnoses ++ listing_rest m states diagnoses explanations need
+
+-- the listing up to the verdict and the diagnoses with fewer marks than the level
+pub record IsListingBelow (m : System) (level : ℕ) (text : List ℕ) : Type 0 where
+  pub states : List ℕ
+  pub equilibria : AreEquilibria m states
+  pub diagnoses : List code.Diagnosis
+  pub repairs : AreFoundBelow m level diagnoses
+  pub text_is : text ≡ listing_front m states diagnoses
+
+-- the listing as far as it is known before this level: at first the heading, then the verdict and the diagnoses with fewer marks
+abbrev pub IsListingUpTo : System → ℕ → List ℕ → Type 0
+IsListingUpTo m 0 text = text ≡ heading m
+IsListingUpTo m (suc level) text = IsListingBelow m (suc level) text
+
+-- a stage of the listing: the heading, which asks for nothing; what is known below a level; the whole
+pub data IsListingStage (m : System) (text : List ℕ) : Type 0 where
+  first : text ≡ heading m → IsListingStage m text
+  below : (level : ℕ) → IsListingBelow m level text → IsListingStage m text
+  whole : IsWholeListing m text → IsListingStage m text
+
+-- ---- laws
+-- a system has one whole listing
+abbrev pub WholeListingsAreOne : Type 0
+WholeListingsAreOne = (m : System) (text other : List ℕ) → IsWholeListing m text → IsWholeListing m other → text ≡ other
+
+-- each stage is a front of it
+abbrev pub ListingStagesAreFronts : Type 0
+ListingStagesAreFronts = (m : System) (stage text : List ℕ) → IsListingStage m stage → IsWholeListing m text → (rest : List ℕ) × (stage ++ rest ≡ text)
+
+-- and there is one
+abbrev pub WholeListingsExist : Type 0
+WholeListingsExist = (m : System) → (text : List ℕ) × IsWholeListing m text
+
+-- a consistent system has the empty diagnosis alone, and no explanation
+abbrev pub ConsistentListingsExplainNothing : Type 0
+ConsistentListingsExplainNothing = (m : System) (text : List ℕ) (w : IsWholeListing m text) → IsConsistent m → (pairs_of w.diagnoses ≡ 0 ∷ []) × (w.explanations ≡ [])
+
+-- where there is no diagnosis, there is the empty explanation alone
+abbrev pub ListingsWithoutDiagnoses : Type 0
+ListingsWithoutDiagnoses = (m : System) (text : List ℕ) (w : IsWholeListing m text) → w.diagnoses ≡ [] → w.explanations ≡ 0 ∷ []
