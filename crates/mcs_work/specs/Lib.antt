@@ -1,0 +1,4 @@
+pub mod Tasks
+pub mod Work
+pub mod Course
+pub mod Printed

@@ -1,0 +1,49 @@
+-- What is printed for a task, and which levels it takes.
+use Rattle.std.specs.Prelude.{◌≡◌, ℕ, ◌≤◌, List, length, ◌⊎◌}
+use Rattle.mcs_system.specs.Plain.{System}
+use Rattle.mcs_system.specs.Systems.{IsConsistent}
+use Rattle.mcs_states.specs.declared.halt.Halt.{Halt}
+use Rattle.mcs_states.specs.declared.halt.Halt.TheVariants as halts
+use Rattle.mcs_text.specs.declared.unwritten.Unwritten.{Unwritten}
+use Rattle.mcs_text.specs.declared.unwritten.Unwritten.TheVariants as unwritten
+use Rattle.mcs_report.specs.Listing.{heading, IsEquilibriaText, IsEquilibriaStage}
+use Rattle.mcs_report.specs.Solutions.{IsWholeListing, IsListingStage, IsListingUpTo}
+use Rattle.mcs_work.specs.declared.task.Task.{Task}
+use Rattle.mcs_work.specs.declared.task.Task.TheVariants.{Equilibria, Solve}
+use Rattle.mcs_work.specs.declared.task.WorkStop.{WorkStop}
+use Rattle.mcs_work.specs.declared.task.WorkStop.TheVariants as stops
+
+-- the text of the task, whole
+abbrev pub IsTaskText : Task → System → List ℕ → Type 0
+IsTaskText Equilibria m text = IsEquilibriaText m text
+IsTaskText Solve m text = IsWholeListing m text
+
+-- a stage of it: what is there once that which it needs was computed
+abbrev pub IsTaskStage : Task → System → List ℕ → Type 0
+IsTaskStage Equilibria m text = IsEquilibriaStage m text
+IsTaskStage Solve m text = IsListingStage m text
+
+-- what is printed before this level is evaluated
+abbrev pub IsTaskUpTo : Task → System → ℕ → List ℕ → Type 0
+IsTaskUpTo Equilibria m level text = text ≡ heading m
+IsTaskUpTo Solve m level text = IsListingUpTo m level text
+
+-- a level that the task evaluates: the equilibria ask for level 0, and repairs of an inconsistent system for each level up to the number of its rules
+abbrev pub IsTaken : Task → System → ℕ → Type 0
+IsTaken Equilibria m level = level ≡ 0
+IsTaken Solve m level = (level ≡ 0) ⊎ ((¬ IsConsistent m) × (level ≤ length m.bridges))
+
+-- the greatest of them
+abbrev pub IsLastTaken : Task → System → ℕ → Type 0
+IsLastTaken Equilibria m level = level ≡ 0
+IsLastTaken Solve m level = (IsConsistent m × (level ≡ 0)) ⊎ ((¬ IsConsistent m) × (level ≡ length m.bridges))
+
+-- ---- why the work stops, by what stopped a part of it
+abbrev pub stop_for_halt : Halt → WorkStop
+stop_for_halt (halts.Spent level drawn) = stops.Spent level
+stop_for_halt (halts.Missing context active) = stops.Missing context active
+stop_for_halt halts.Memory = stops.Memory
+
+abbrev pub stop_for_line : Unwritten → WorkStop
+stop_for_line unwritten.Fault = stops.Write
+stop_for_line unwritten.Memory = stops.Memory

@@ -1,0 +1,208 @@
+//! The parts of a listing, printed line by line: each line is written as one piece.
+
+ghost use Rattle.std.specs.Prelude.{◌≡◌, ◌+◌, ◌<◌, ◌^◌, ◌++◌, length, nat_lt};
+ghost use Rattle.std.specs.List.{AllByRecursion};
+ghost use Rattle.mcs_sets.specs.Sets.{Within};
+ghost use Rattle.mcs_system.specs.Systems.{all_variables};
+ghost use Rattle.mcs_report.specs.Listing.{heading, equilibrium_line, equilibrium_lines, verdict_line, short_end_line, after_heading};
+ghost use Rattle.mcs_report.specs.Repairs.{diagnosis_line, explanation_line, end_line};
+ghost use Rattle.mcs_report.specs.Solutions.{equilibria_part, diagnosis_lines, explanation_lines};
+ghost use Rattle.mcs_text.specs.Writes.{Writes};
+ghost use Rattle.mcs_work.specs.Printed.{IsOfSystem, IsCauseOf};
+
+use mcs_base::{Marks, Text, Vars};
+use mcs_diagnosis::Diagnosis;
+use mcs_ports::Sink;
+use mcs_report::{
+    diagnosis_line, end_line, equilibrium_line, explanation_line, heading, short_end_line,
+    verdict_line,
+};
+use mcs_system::System;
+use mcs_text::{Unwritten, write_line};
+use std::alloc::Global;
+
+/// Prints the heading.
+pub(crate) fn print_heading<K: Sink>(
+    alloc: Global,
+    system: &System,
+    sink: &mut K,
+) -> Result<(), Unwritten>
+    ensures { Writes (heading system.now) (K.device sink.old) (K.device sink.new) result }
+{
+    let mut line = Text::new(alloc);
+    heading(system, &mut line)?;
+    write_line(&line, sink)
+}
+
+/// Prints what comes after the heading: a line for each state, the verdict, how many there are, and how many questions
+/// that needed.
+pub(crate) fn print_listing<K: Sink>(
+    alloc: Global,
+    system: &System,
+    states: &[Vars],
+    need: u64,
+    sink: &mut K,
+) -> Result<(), Unwritten>
+    requires { AllByRecursion (λ σ. Within σ (all_variables system.now)) states.now }
+    ensures { Writes (after_heading system.now states.now need) (K.device sink.old) (K.device sink.new) result }
+{
+    print_states(alloc, system, states, sink)?;
+    print_verdict(alloc, !states.is_empty(), sink)?;
+    print_short_end(alloc, states.len() as u64, need, sink)
+}
+
+/// Prints a line for each state, and the verdict.
+pub(crate) fn print_states_part<K: Sink>(
+    alloc: Global,
+    system: &System,
+    states: &[Vars],
+    sink: &mut K,
+) -> Result<(), Unwritten>
+    requires { AllByRecursion (λ σ. Within σ (all_variables system.now)) states.now }
+    ensures { Writes (equilibria_part system.now states.now) (K.device sink.old) (K.device sink.new) result }
+{
+    print_states(alloc, system, states, sink)?;
+    print_verdict(alloc, !states.is_empty(), sink)
+}
+
+/// Prints a line for each state, numbered from 1.
+fn print_states<K: Sink>(
+    alloc: Global,
+    system: &System,
+    states: &[Vars],
+    sink: &mut K,
+) -> Result<(), Unwritten>
+    requires { AllByRecursion (λ σ. Within σ (all_variables system.now)) states.now }
+    ensures { Writes (equilibrium_lines system.now 1 states.now) (K.device sink.old) (K.device sink.new) result }
+{
+    for (k, state) in states.iter().enumerate() {
+        print_state(alloc, system, k as u64 + 1, *state, sink)?;
+    }
+    Ok(())
+}
+
+/// Prints the line of the equilibrium of this number.
+fn print_state<K: Sink>(
+    alloc: Global,
+    system: &System,
+    number: u64,
+    state: Vars,
+    sink: &mut K,
+) -> Result<(), Unwritten>
+    requires { Within state (all_variables system.now) }
+    ensures { Writes (equilibrium_line system.now number state) (K.device sink.old) (K.device sink.new) result }
+{
+    let mut line = Text::new(alloc);
+    equilibrium_line(system, number, state, &mut line)?;
+    write_line(&line, sink)
+}
+
+/// Prints whether there is an equilibrium.
+fn print_verdict<K: Sink>(alloc: Global, consistent: bool, sink: &mut K) -> Result<(), Unwritten>
+    ensures { Writes (verdict_line consistent) (K.device sink.old) (K.device sink.new) result }
+{
+    let mut line = Text::new(alloc);
+    verdict_line(consistent, &mut line)?;
+    write_line(&line, sink)
+}
+
+/// Prints how many equilibria there are, and how many questions they needed.
+fn print_short_end<K: Sink>(
+    alloc: Global,
+    equilibria: u64,
+    need: u64,
+    sink: &mut K,
+) -> Result<(), Unwritten>
+    ensures { Writes (short_end_line equilibria need) (K.device sink.old) (K.device sink.new) result }
+{
+    let mut line = Text::new(alloc);
+    short_end_line(equilibria, need, &mut line)?;
+    write_line(&line, sink)
+}
+
+/// Prints a line for each diagnosis, numbered from this number on.
+pub(crate) fn print_diagnoses<K: Sink>(
+    alloc: Global,
+    system: &System,
+    first: u64,
+    diagnoses: &[Diagnosis],
+    sink: &mut K,
+) -> Result<(), Unwritten>
+    requires few { first + length diagnoses.now < 2 ^ 64 }
+    requires of_system { AllByRecursion (IsOfSystem system.now) diagnoses.now }
+    ensures { Writes (diagnosis_lines system.now first diagnoses.now) (K.device sink.old) (K.device sink.new) result }
+{
+    for (k, diagnosis) in diagnoses.iter().enumerate() {
+        print_diagnosis(alloc, system, first + k as u64, diagnosis, sink)?;
+    }
+    Ok(())
+}
+
+/// Prints the line of the diagnosis of this number.
+fn print_diagnosis<K: Sink>(
+    alloc: Global,
+    system: &System,
+    number: u64,
+    diagnosis: &Diagnosis,
+    sink: &mut K,
+) -> Result<(), Unwritten>
+    requires { IsOfSystem system.now diagnosis.now }
+    ensures { Writes (diagnosis_line system.now number diagnosis.now) (K.device sink.old) (K.device sink.new) result }
+{
+    let mut line = Text::new(alloc);
+    diagnosis_line(system, number, diagnosis, &mut line)?;
+    write_line(&line, sink)
+}
+
+/// Prints what comes after the diagnoses, of which these are the pairs: a line for each explanation, and the end line.
+pub(crate) fn print_rest<K: Sink>(
+    alloc: Global,
+    system: &System,
+    equilibria: u64,
+    pairs: &[Marks],
+    explanations: &[Marks],
+    need: u64,
+    sink: &mut K,
+) -> Result<(), Unwritten>
+    requires { AllByRecursion (IsCauseOf system.now pairs.now) explanations.now }
+    ensures { Writes (explanation_lines system.now 1 pairs.now explanations.now ++ end_line equilibria (length pairs.now) (length explanations.now) need) (K.device sink.old) (K.device sink.new) result }
+{
+    print_explanations(alloc, system, pairs, explanations, sink)?;
+    let mut line = Text::new(alloc);
+    end_line(equilibria, pairs.len() as u64, explanations.len() as u64, need, &mut line)?;
+    write_line(&line, sink)
+}
+
+/// Prints a line for each explanation, numbered from 1.
+fn print_explanations<K: Sink>(
+    alloc: Global,
+    system: &System,
+    pairs: &[Marks],
+    explanations: &[Marks],
+    sink: &mut K,
+) -> Result<(), Unwritten>
+    requires { AllByRecursion (IsCauseOf system.now pairs.now) explanations.now }
+    ensures { Writes (explanation_lines system.now 1 pairs.now explanations.now) (K.device sink.old) (K.device sink.new) result }
+{
+    for (k, explanation) in explanations.iter().enumerate() {
+        print_explanation(alloc, system, k as u64 + 1, pairs, *explanation, sink)?;
+    }
+    Ok(())
+}
+
+/// Prints the line of the explanation of this number.
+fn print_explanation<K: Sink>(
+    alloc: Global,
+    system: &System,
+    number: u64,
+    pairs: &[Marks],
+    explanation: Marks,
+    sink: &mut K,
+) -> Result<(), Unwritten>
+    requires { IsCauseOf system.now pairs.now explanation }
+    ensures { Writes (explanation_line system.now number pairs.now explanation) (K.device sink.old) (K.device sink.new) result }
+{
+    let mut line = Text::new(alloc);
+    explanation_line(system, number, pairs, explanation, &mut line)?;
+    write_line(&line, sink)
+}

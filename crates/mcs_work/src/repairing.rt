@@ -1,0 +1,181 @@
+//! The diagnoses and the explanations of a system, found level by level and printed.
+
+ghost use Rattle.std.specs.Prelude.{◌≡◌, ℕ, ◌≤◌, ◌++◌, List, [], ◌∷◌, false, None, length, IfOk, IfErr, OnOk};
+ghost use Rattle.std.specs.Arc.{arc_value};
+ghost use Rattle.std.specs.List.{AllByRecursion};
+ghost use Rattle.mcs_ports.specs.Pieces.{appended};
+ghost use Rattle.mcs_sets.specs.Orders.{PairBefore};
+ghost use Rattle.mcs_base.specs.Listings.{IsListing};
+ghost use Rattle.mcs_base.specs.Minimal.{IsMinimal};
+ghost use Rattle.mcs_base.specs.Transversals.{IsTransversalOf};
+ghost use Rattle.mcs_states.specs.Evaluators.{KeepsRest, HasDone};
+ghost use Rattle.mcs_diagnosis.specs.Courses.{IsPast};
+ghost use Rattle.mcs_diagnosis.specs.Diagnoses.{pairs_of};
+ghost use Rattle.mcs_report.specs.Solutions.{AreEquilibria, listing_front, diagnosis_lines};
+ghost use Rattle.mcs_work.specs.Course.{IsUnderWay, HasGone};
+ghost use Rattle.mcs_work.specs.Work.{HasStopped, Works};
+ghost use Rattle.mcs_work.specs.declared.task.Task.TheVariants as tasks;
+
+use crate::printing::{print_diagnoses, print_rest, print_states_part};
+use crate::states::find_states;
+use crate::task::WorkStop;
+use mcs_base::{Marks, Memory};
+use mcs_diagnosis::{Diagnosis, Level, Levels};
+use mcs_ports::Sink;
+use mcs_states::Evaluator;
+use mcs_system::System;
+use mcs_transversal::minimal_transversals;
+use std::alloc::Global;
+use std::sync::Arc;
+
+/// Prints the whole listing of the system.
+pub(crate) fn solve<E: Evaluator, K: Sink>(
+    alloc: Global,
+    evaluator: E,
+    system: Arc<System>,
+    sink: &mut K,
+) -> (Result<(), WorkStop>, E)
+    requires same { (E.stands evaluator).system ≡ arc_value system }
+    requires fresh { (E.stands evaluator).done ≡ None }
+    requires going { (E.stands evaluator).halted ≡ false }
+    ensures { Works tasks.Solve [] (E.stands evaluator) (E.stands result.1) (K.device sink.old) (K.device sink.new) result.0 }
+{
+    let mut evaluator = evaluator;
+    match print_equilibria(alloc, &mut evaluator, &system, sink) {
+        Ok(states) => repair(alloc, evaluator, system, states, sink),
+        Err(stop) => (Err(stop), evaluator),
+    }
+}
+
+/// Prints the heading, the equilibria and the verdict; how many equilibria there are.
+fn print_equilibria<E: Evaluator, K: Sink>(
+    alloc: Global,
+    evaluator: &mut E,
+    system: &System,
+    sink: &mut K,
+) -> Result<u64, WorkStop>
+    requires same { (E.stands evaluator.old).system ≡ system.now }
+    requires fresh { (E.stands evaluator.old).done ≡ None }
+    requires going { (E.stands evaluator.old).halted ≡ false }
+    ensures later { (K.device sink.old).faults ≤ (K.device sink.new).faults }
+    ensures notes { (K.device sink.new).notes ≡ (K.device sink.old).notes }
+    ensures rest { KeepsRest (E.stands evaluator.old) (E.stands evaluator.new) }
+    ensures under_way { OnOk result (IsUnderWay (E.stands evaluator.new) 0 []) }
+    ensures written { IfOk result (λ count. (states : List ℕ) × AreEquilibria system.now states × (length states ≡ count)
+        × ((K.device sink.new).written ≡ appended (K.device sink.old).written (listing_front system.now states []))) }
+    ensures stop { IfErr result (HasStopped tasks.Solve [] (E.stands evaluator.old) (E.stands evaluator.new) (K.device sink.old) (K.device sink.new)) }
+{
+    let states = find_states(alloc, evaluator, system, sink)?;
+    print_states_part(alloc, system, &states, sink)?;
+    Ok(states.len() as u64)
+}
+
+/// Prints what comes after the verdict, where there are so many equilibria.
+fn repair<E: Evaluator, K: Sink>(
+    alloc: Global,
+    evaluator: E,
+    system: Arc<System>,
+    states: u64,
+    sink: &mut K,
+) -> (Result<(), WorkStop>, E)
+    requires same { (E.stands evaluator).system ≡ arc_value system }
+    requires under_way { IsUnderWay (E.stands evaluator) 0 [] }
+    ensures { (σs : List ℕ) → AreEquilibria (arc_value system) σs → length σs ≡ states
+        → Works tasks.Solve (listing_front (arc_value system) σs []) (E.stands evaluator) (E.stands result.1) (K.device sink.old) (K.device sink.new) result.0 }
+{
+    let own = match system.clone() {
+        Ok(own) => own,
+        Err(_) => return (Err(WorkStop::Memory), evaluator),
+    };
+    let mut levels = Levels::new(evaluator, own);
+    let result = print_repairs(alloc, &mut levels, &system, states, sink);
+    (result, levels.into_evaluator())
+}
+
+/// Prints the diagnoses of all levels, the explanations and the end line.
+fn print_repairs<E: Evaluator, K: Sink>(
+    alloc: Global,
+    levels: &mut Levels<E>,
+    system: &System,
+    states: u64,
+    sink: &mut K,
+) -> Result<(), WorkStop>
+    requires same { (E.stands levels.old.evaluator).system ≡ system.now }
+    requires under_way { IsUnderWay (E.stands levels.old.evaluator) levels.old.level [] }
+    requires first { levels.old.level ≡ 0 }
+    ensures { (σs : List ℕ) → AreEquilibria system.now σs → length σs ≡ states
+        → Works tasks.Solve (listing_front system.now σs []) (E.stands levels.old.evaluator) (E.stands levels.new.evaluator) (K.device sink.old) (K.device sink.new) result }
+{
+    let found = print_levels(alloc, levels, system, sink)?;
+    let asked = levels.evaluator().asked();
+    let (pairs, explanations) = explain(alloc, &found)?;
+    print_rest(alloc, system, states, &pairs, &explanations, asked, sink)?;
+    Ok(())
+}
+
+/// Prints the diagnoses of all levels; these.
+fn print_levels<E: Evaluator, K: Sink>(
+    alloc: Global,
+    levels: &mut Levels<E>,
+    system: &System,
+    sink: &mut K,
+) -> Result<Vec<Diagnosis>, WorkStop>
+    requires same { (E.stands levels.old.evaluator).system ≡ system.now }
+    requires under_way { IsUnderWay (E.stands levels.old.evaluator) levels.old.level [] }
+    ensures later { (K.device sink.old).faults ≤ (K.device sink.new).faults }
+    ensures notes { (K.device sink.new).notes ≡ (K.device sink.old).notes }
+    ensures rest { KeepsRest (E.stands levels.old.evaluator) (E.stands levels.new.evaluator) }
+    ensures under_way { IfOk result (λ found. IsUnderWay (E.stands levels.new.evaluator) levels.new.level found.items) }
+    ensures past { OnOk result (IsPast system.now levels.new.level) }
+    ensures written { IfOk result (λ found. (K.device sink.new).written ≡ appended (K.device sink.old).written (diagnosis_lines system.now 1 found.items)) }
+    ensures stop { (σs : List ℕ) → AreEquilibria system.now σs
+        → IfErr result (HasStopped tasks.Solve (listing_front system.now σs []) (E.stands levels.old.evaluator) (E.stands levels.new.evaluator) (K.device sink.old) (K.device sink.new)) }
+{
+    let mut found = Vec::new(alloc);
+    loop {
+        if !print_level(alloc, levels, system, &mut found, sink)? {
+            return Ok(found);
+        }
+    }
+}
+
+/// Prints the diagnoses of the next level, after these, and adds them; whether there is such a level.
+fn print_level<E: Evaluator, K: Sink>(
+    alloc: Global,
+    levels: &mut Levels<E>,
+    system: &System,
+    found: &mut Vec<Diagnosis>,
+    sink: &mut K,
+) -> Result<bool, WorkStop>
+    requires same { (E.stands levels.old.evaluator).system ≡ system.now }
+    requires under_way { IsUnderWay (E.stands levels.old.evaluator) levels.old.level found.old.items }
+    ensures later { (K.device sink.old).faults ≤ (K.device sink.new).faults }
+    ensures notes { (K.device sink.new).notes ≡ (K.device sink.old).notes }
+    ensures rest { KeepsRest (E.stands levels.old.evaluator) (E.stands levels.new.evaluator) }
+    ensures under_way { OnOk result (IsUnderWay (E.stands levels.new.evaluator) levels.new.level found.new.items) }
+    ensures gone { IfOk result (HasGone system.now levels.old.level levels.new.level found.old.items found.new.items (K.device sink.old).written (K.device sink.new).written) }
+    ensures stop { (σs : List ℕ) → AreEquilibria system.now σs
+        → IfErr result (HasStopped tasks.Solve (listing_front system.now σs found.old.items) (E.stands levels.old.evaluator) (E.stands levels.new.evaluator) (K.device sink.old) (K.device sink.new)) }
+{
+    match levels.next(alloc)? {
+        Level::Over => Ok(false),
+        Level::Found(fresh) => {
+            print_diagnoses(alloc, system, found.len() as u64 + 1, &fresh, sink)?;
+            found.extend_from_slice(&fresh)?;
+            Ok(true)
+        }
+    }
+}
+
+/// The pairs of the diagnoses, and the minimal sets of marks that meet each of them.
+fn explain(alloc: Global, found: &[Diagnosis]) -> Result<(Vec<Marks>, Vec<Marks>), Memory>
+    ensures pairs { IfOk result (λ r. r.0.items ≡ pairs_of found.now) }
+    ensures listed { IfOk result (λ r. IsListing (IsMinimal (IsTransversalOf (pairs_of found.now))) PairBefore r.1.items) }
+{
+    let pairs: Vec<Marks> = found
+        .iter()
+        .map(|diagnosis| diagnosis.pair.marks())
+        .collect(alloc)?;
+    let explanations = minimal_transversals(alloc, &pairs)?;
+    Ok((pairs, explanations))
+}
