@@ -2,3 +2,4 @@ pub mod General
 pub mod Filtered
 pub mod FoundLemmas
 pub mod CourseLemmas
+pub mod BelowLemmas
