@@ -1,3 +1,4 @@
 pub mod LineLemmas
 pub mod ListingLaws
 pub mod RepairLemmas
+pub mod SolutionLemmas
