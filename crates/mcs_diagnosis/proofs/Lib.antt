@@ -3,3 +3,4 @@ pub mod Filtered
 pub mod FoundLemmas
 pub mod CourseLemmas
 pub mod BelowLemmas
+pub mod ShownLemmas
