@@ -1,11 +1,11 @@
 -- The whole listing of a system: its equilibria, its minimal diagnoses and its minimal explanations; and its stages.
-use Rattle.std.specs.Prelude.{◌≡◌, ℕ, ◌+◌, ◌≤◌, nat_lt, List, [], ◌∷◌, ◌++◌, length, ◌⊎◌, ◌↔◌}
+use Rattle.std.specs.Prelude.{◌≡◌, ℕ, zero, suc, ◌+◌, nat_lt, List, [], ◌∷◌, ◌++◌, length}
 use Rattle.mcs_sets.specs.Orders.{StateBefore, PairBefore}
 use Rattle.mcs_base.specs.Listings.{IsListing}
 use Rattle.mcs_base.specs.Minimal.{IsMinimal}
 use Rattle.mcs_system.specs.Plain.{System}
 use Rattle.mcs_system.specs.Levels.{IsNeed}
-use Rattle.mcs_system.specs.Repairs.{IsDiagnosis, IsExplanation}
+use Rattle.mcs_system.specs.Repairs.{IsExplanation}
 use Rattle.mcs_system.specs.Systems.{all_rules, IsConsistent, IsProjectedEquilibrium}
 use Rattle.mcs_diagnosis.specs.declared.diagnosis.Diagnosis as code
 use Rattle.mcs_diagnosis.specs.Diagnoses.{AreDiagnoses, AreFoundBelow, pairs_of}
@@ -61,7 +61,7 @@ pub record IsListingBelow (m : System) (level : ℕ) (text : List ℕ) : Type 0 
 
 -- the listing as far as it is known before this level: at first the heading, then the verdict and the diagnoses with fewer marks
 abbrev pub IsListingUpTo : System → ℕ → List ℕ → Type 0
-IsListingUpTo m 0 text = text ≡ heading m
+IsListingUpTo m zero text = text ≡ heading m
 IsListingUpTo m (suc level) text = IsListingBelow m (suc level) text
 
 -- a stage of the listing: the heading, which asks for nothing; what is known below a level; the whole
