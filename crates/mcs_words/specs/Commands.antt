@@ -78,17 +78,25 @@ IsChosen s (value ∷ (second ∷ values)) n = ⊥
 
 -- ---- jobs
 
+-- each is of the system that a file has, within a budget of questions, by a number of workers
 pub data Request : Type 0 where
+  -- to list the equilibria
   equilibria : Word → ℕ → ℕ → Request
+  -- to list the equilibria, the minimal diagnoses and the minimal explanations
+  solve : Word → ℕ → ℕ → Request
 
 -- the name of a file: not empty, and not `-`
 abbrev pub IsFile : Word → Type 0
 IsFile word = ¬ (word ≡ []) × ¬ (word ≡ codes "-")
 
+-- a command runs on a file: these are its plain words, the file can be one, and the numbers are those of its options
+abbrev pub RunsOn : Command → List Word → Word → ℕ → ℕ → Type 0
+RunsOn c words file budget workers = (c.plain ≡ words) × IsFile file × IsChosen Budget c.budgets budget × IsChosen Workers c.workers workers
+
 -- what a command asks for: its plain words are the job and the file
 abbrev pub AsksFor : Command → Request → Type 0
-AsksFor c (equilibria file budget workers) =
-    (c.plain ≡ codes "equilibria" ∷ file ∷ []) × IsFile file × IsChosen Budget c.budgets budget × IsChosen Workers c.workers workers
+AsksFor c (equilibria file budget workers) = RunsOn c (codes "equilibria" ∷ file ∷ []) file budget workers
+AsksFor c (solve file budget workers) = RunsOn c (codes "solve" ∷ file ∷ []) file budget workers
 
 -- the words ask for the job
 abbrev pub IsJobOf : List Word → Request → Type 0

@@ -4,10 +4,10 @@ use Rattle.std.specs.Borrow.{Bor}
 use Rattle.std.specs.Str.{bytes_eq}
 use Rattle.std.specs.Option.{option_map_or}
 use Rattle.std.specs.declared.alloc.Global.{Global}
-use Rattle.mcs_words.specs.Commands.{Word, Command, Request, equilibria, nothing, with_plain, with_value, begins_with_dash}
+use Rattle.mcs_words.specs.Commands.{Word, Command, Request, equilibria, solve, nothing, with_plain, with_value, begins_with_dash}
 use Rattle.mcs_words.specs.declared.given.Given.{Given}
 use Rattle.mcs_words.specs.declared.job.Job.{Job}
-use Rattle.mcs_words.specs.declared.job.Job.TheVariants.{Equilibria}
+use Rattle.mcs_words.specs.declared.job.Job.TheVariants.{Equilibria, Solve}
 use Rattle.mcs_words.specs.declared.kind.Kind.{Kind}
 use Rattle.mcs_words.specs.declared.kind.Kind.TheVariants as code
 use Rattle.mcs_words.specs.declared.reading.Place.{Place}
@@ -15,6 +15,8 @@ use Rattle.mcs_words.specs.declared.reading.Place.TheVariants.{Open, Value, Clos
 use Rattle.mcs_words.specs.declared.tally.Tally.{Tally}
 use Rattle.mcs_words.specs.declared.setting.Setting.{Setting}
 use Rattle.mcs_words.specs.declared.setting.Setting.TheVariants.{Budget, Workers}
+use Rattle.mcs_words.specs.declared.task.Task.{Task}
+use Rattle.mcs_words.specs.declared.task.Task.TheVariants as task
 
 -- ---- from the code's types to the definitions
 
@@ -23,6 +25,12 @@ texts_of words = map string_bytes words
 
 abbrev pub request_of : Job → Request
 request_of (Equilibria file budget workers) = equilibria (string_bytes file) budget workers
+request_of (Solve file budget workers) = solve (string_bytes file) budget workers
+
+-- the first plain word of a job
+abbrev pub task_name : Task → Word
+task_name task.Equilibria = codes "equilibria"
+task_name task.Solve = codes "solve"
 
 -- no value, or one
 abbrev pub listed : Option (Bor Word) → List Word

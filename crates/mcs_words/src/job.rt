@@ -17,6 +17,16 @@ pub enum Job {
         /// How many threads work: 1 to 64.
         workers: u32,
     },
+    /// To list the equilibria, the minimal diagnoses and the minimal explanations of the system that the file
+    /// has.
+    Solve {
+        /// The name of the file, which is not empty and not `-`.
+        file: String,
+        /// How many questions the run may ask: 1 to 4,294,967,295.
+        budget: u64,
+        /// How many threads work: 1 to 64.
+        workers: u32,
+    },
 }
 
 /// Why words give no job.

@@ -9,6 +9,7 @@ mod line;
 mod reading;
 mod setting;
 mod tally;
+mod task;
 
 pub use job::{Job, WordsFault};
 pub use laws::one_job;

@@ -10,6 +10,7 @@ use crate::job::{Job, WordsFault};
 use crate::kind::{Kind, begins_with_dash, kind_of};
 use crate::setting::Setting;
 use crate::tally::Tally;
+use crate::task::{Task, task_of};
 use mcs_base::number;
 use std::alloc::Global;
 
@@ -24,10 +25,10 @@ pub(crate) enum Place {
     Closed,
 }
 
-/// The job that the words ask for: `equilibria FILE`, with the options `--budget N` and `--workers N`
-/// anywhere before `--`, each once at most, also as `--budget=N`. FILE is not empty and not `-`. N is one or
-/// more digits: 1 to 4,294,967,295 for the budget, by default 100,000, and 1 to 64 for the workers, by
-/// default 1. After `--` every word is plain. The words are those after the program's name.
+/// The job that the words ask for: `equilibria FILE` or `solve FILE`, with the options `--budget N` and
+/// `--workers N` anywhere before `--`, each once at most, also as `--budget=N`. FILE is not empty and not `-`.
+/// N is one or more digits: 1 to 4,294,967,295 for the budget, by default 100,000, and 1 to 64 for the
+/// workers, by default 1. After `--` every word is plain. The words are those after the program's name.
 ///
 /// `Usage` comes exactly where the words ask for no job.
 pub fn read_words(alloc: Global, words: &[String]) -> Result<Job, WordsFault>
@@ -111,7 +112,10 @@ fn job(alloc: Global, given: &Given) -> Result<Job, WordsFault>
         (λ job. AsksFor (command_of given.now) (request_of job))
         (λ fault. fault ≡ WordsFault.Usage → (request : Request) → ¬ AsksFor (command_of given.now) request) }
 {
-    if given.job != "equilibria" || !is_file(given.file) {
+    let Some(task) = task_of(given.job) else {
+        return Err(WordsFault::Usage);
+    };
+    if !is_file(given.file) {
         return Err(WordsFault::Usage);
     }
     let Some(budget) = chosen(Setting::Budget, given.budget) else {
@@ -120,11 +124,20 @@ fn job(alloc: Global, given: &Given) -> Result<Job, WordsFault>
     let Some(workers) = chosen(Setting::Workers, given.workers) else {
         return Err(WordsFault::Usage);
     };
-    Ok(Job::Equilibria {
-        file: String::from_str(alloc, given.file)?,
-        budget,
-        workers: workers as u32,
-    })
+    let file = String::from_str(alloc, given.file)?;
+    let workers = workers as u32;
+    match task {
+        Task::Equilibria => Ok(Job::Equilibria {
+            file,
+            budget,
+            workers,
+        }),
+        Task::Solve => Ok(Job::Solve {
+            file,
+            budget,
+            workers,
+        }),
+    }
 }
 
 /// Whether the word can be the name of a file.

@@ -1,0 +1,27 @@
+//! The jobs by their names.
+
+ghost use Rattle.std.specs.Prelude.{◌≡◌, MatchOption};
+ghost use Rattle.mcs_words.specs.Reading.{task_name};
+
+/// What the first plain word asks for.
+#[derive(Clone, Copy)]
+pub(crate) enum Task {
+    /// `equilibria`.
+    Equilibria,
+    /// `solve`.
+    Solve,
+}
+
+/// The job that the word names.
+pub(crate) fn task_of(word: &str) -> Option<Task>
+    ensures { MatchOption result
+        ((task : Task) → ¬ (word.now ≡ task_name task)) (λ task. word.now ≡ task_name task) }
+{
+    if word == "equilibria" {
+        Some(Task::Equilibria)
+    } else if word == "solve" {
+        Some(Task::Solve)
+    } else {
+        None
+    }
+}
