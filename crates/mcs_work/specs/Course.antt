@@ -15,13 +15,13 @@ pub record IsUnderWay (e : EvaluatorState) (level : ℕ) (ds : List code.Diagnos
   pub repairs : AreFoundBelow e.system level ds
   pub within : (k : ℕ) → k ≤ level - 1 → ¬ IsBeyond e k
   pub answered : (k i x : ℕ) → k ≤ level - 1 → ¬ IsUnanswered e k i x
-  pub open : 0 < level → ¬ IsPast e.system (level - 1)
+  pub not_past : 0 < level → ¬ IsPast e.system (level - 1)
 
 -- so many diagnoses were listed before, and a line for each of these was written
 pub record AddsLines (m : System) (ds ds' : List code.Diagnosis) (before now : Option (List ℕ)) : Type 0 where
   pub fresh : List code.Diagnosis
   pub grown : ds' ≡ ds ++ fresh
-  pub written : now ≡ appended before (diagnosis_lines m (1 + length ds) fresh)
+  pub written : now ≡ appended before (diagnosis_lines m (length ds + 1) fresh)
 
 -- a level more was printed, or there is none
 abbrev pub HasGone : System → ℕ → ℕ → List code.Diagnosis → List code.Diagnosis → Option (List ℕ) → Option (List ℕ) → Bool → Type 0

@@ -168,8 +168,23 @@ pub(crate) fn print_rest<K: Sink>(
     ensures { Writes (explanation_lines system.now 1 pairs.now explanations.now ++ end_line equilibria (length pairs.now) (length explanations.now) need) (K.device sink.old) (K.device sink.new) result }
 {
     print_explanations(alloc, system, pairs, explanations, sink)?;
+    let (diagnoses, causes) = (pairs.len() as u64, explanations.len() as u64);
+    print_end(alloc, equilibria, diagnoses, causes, need, sink)
+}
+
+/// Prints how many equilibria, diagnoses and explanations there are, and how many questions they needed.
+fn print_end<K: Sink>(
+    alloc: Global,
+    equilibria: u64,
+    diagnoses: u64,
+    explanations: u64,
+    need: u64,
+    sink: &mut K,
+) -> Result<(), Unwritten>
+    ensures { Writes (end_line equilibria diagnoses explanations need) (K.device sink.old) (K.device sink.new) result }
+{
     let mut line = Text::new(alloc);
-    end_line(equilibria, pairs.len() as u64, explanations.len() as u64, need, &mut line)?;
+    end_line(equilibria, diagnoses, explanations, need, &mut line)?;
     write_line(&line, sink)
 }
 

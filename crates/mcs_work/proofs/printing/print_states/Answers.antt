@@ -5,7 +5,7 @@ use Rattle.mcs_sets.specs.Sets.{Within}
 use Rattle.mcs_system.specs.Systems.{all_variables}
 use Rattle.mcs_report.proofs.LineLemmas.{lines_more}
 use Rattle.mcs_text.proofs.WriteLaws.{goes_on, goes_cut, writes_nothing}
-use Rattle.mcs_top.proofs.printing.print_states.Goals as goal
+use Rattle.mcs_work.proofs.printing.print_states.Goals as goal
 
 pub print_state-requires : goal.print_state-requires
 print_state-requires g c =

@@ -4,7 +4,7 @@ use Rattle.mcs_sets.specs.Sets.{Within}
 use Rattle.mcs_system.specs.Systems.{all_variables}
 use Rattle.mcs_report.specs.Listing.{equilibrium_lines}
 use Rattle.mcs_text.proofs.WriteLaws.{Goes}
-use Rattle.mcs_top.proofs.printing.print_states.Given as goal
+use Rattle.mcs_work.proofs.printing.print_states.Given as goal
 
 abbrev pub invariant-loop-k : goal.invariant-loop-k
 invariant-loop-k g l = record {

@@ -1,0 +1,4 @@
+pub mod StateLemmas
+pub mod StopLemmas
+pub mod CourseLemmas
+pub mod EquilibriumLemmas

@@ -1,0 +1,18 @@
+use Rattle.std.proofs.Common.{◌≡◌, ◌+◌, ◌-◌, ◌≤◌, length}
+use Rattle.mcs_ports.specs.Pieces.{appended}
+use Rattle.mcs_states.specs.Evaluators.{KeepsRest}
+use Rattle.mcs_report.specs.Solutions.{diagnosis_lines}
+use Rattle.mcs_work.specs.Course.{IsUnderWay}
+use Rattle.mcs_work.proofs.repairing.print_levels.Given as goal
+
+abbrev pub invariant-loop-found : goal.invariant-loop-found
+invariant-loop-found g l = record {
+  later : (g.K.Sink.device l.fn.sink).faults ≤ (g.K.Sink.device l.sink).faults;
+  notes : (g.K.Sink.device l.sink).notes ≡ (g.K.Sink.device l.fn.sink).notes;
+  rest : KeepsRest (g.E.Evaluator.stands l.fn.levels.evaluator) (g.E.Evaluator.stands l.levels.evaluator);
+  under_way : IsUnderWay (g.E.Evaluator.stands l.levels.evaluator) l.levels.level l.found.items;
+  written : (g.K.Sink.device l.sink).written ≡ appended (g.K.Sink.device l.fn.sink).written (diagnosis_lines l.system 1 l.found.items);
+}
+
+abbrev pub decreases-loop-found : goal.decreases-loop-found
+decreases-loop-found g l = (length l.system.bridges + 1) - l.levels.level
