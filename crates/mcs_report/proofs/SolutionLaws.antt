@@ -12,7 +12,6 @@ use Rattle.mcs_base.specs.Transversals.{IsTransversalOf}
 use Rattle.mcs_base.proofs.Among.{nil_from_none}
 use Rattle.mcs_base.proofs.Each.{all_from_among}
 use Rattle.mcs_base.proofs.ListingLemmas.{same_listing}
-
 use Rattle.mcs_system.specs.Plain.{System}
 use Rattle.mcs_system.specs.Levels.{IsNeed}
 use Rattle.mcs_system.specs.Repairs.{all_marks, allowed_marks, IsDiagnosis, IsExplanation}
@@ -55,8 +54,8 @@ front_goes_on : (m : System) (states : List ℕ) (ds rest : List code.Diagnosis)
 front_goes_on m states ds rest more =
     sym (append_assoc (listing_front m states ds) (diagnosis_lines m (1 + length ds) rest) more)
     ∙ ap (λ (xs : List ℕ). xs ++ more) (
-      append_assoc (heading m) (equilibria_part m states ++ diagnosis_lines m 1 ds) _
-      ∙ ap (λ (xs : List ℕ). heading m ++ xs) (append_assoc (equilibria_part m states) (diagnosis_lines m 1 ds) _ ∙ ap (λ (xs : List ℕ). equilibria_part m states ++ xs) (sym (diagnosis_lines-append m 1 ds rest)))
+    append_assoc (heading m) (equilibria_part m states ++ diagnosis_lines m 1 ds) _
+    ∙ ap (λ (xs : List ℕ). heading m ++ xs) (append_assoc (equilibria_part m states) (diagnosis_lines m 1 ds) _ ∙ ap (λ (xs : List ℕ). equilibria_part m states ++ xs) (sym (diagnosis_lines-append m 1 ds rest)))
     )
 
 pub stages_of_whole : ListingStagesAreFronts
@@ -68,14 +67,13 @@ stages_of_whole m stage text (below level b) w =
     let more : List ℕ = listing_rest m w.states w.diagnoses w.explanations w.need in
     let states = equilibria_are_one m b.states w.states b.equilibria w.equilibria in
     let (rest, is) = below_is_front m level b.diagnoses w.diagnoses b.repairs w.repairs in
-    let later : List ℕ = diagnosis_lines m (1 + length b.diagnoses) rest ++ more in
-    (
+    let later : List ℕ = diagnosis_lines m (1 + length b.diagnoses) rest ++ more in (
       later,
       ap (λ (xs : List ℕ). xs ++ later) b.text_is
-      ∙ front_goes_on m b.states b.diagnoses rest more
-      ∙ ap (λ (ds : List code.Diagnosis). listing_front m b.states ds ++ more) is
-      ∙ ap (λ (xs : List ℕ). listing_front m xs w.diagnoses ++ more) states
-      ∙ sym w.text_is,
+          ∙ front_goes_on m b.states b.diagnoses rest more
+          ∙ ap (λ (ds : List code.Diagnosis). listing_front m b.states ds ++ more) is
+          ∙ ap (λ (xs : List ℕ). listing_front m xs w.diagnoses ++ more) states
+          ∙ sym w.text_is,
     )
 stages_of_whole m stage text (whole same) w = ([], append-nil stage ∙ whole_is_one m stage text same w)
 
@@ -131,8 +129,7 @@ whole_exists m =
     let (states, equilibria) = all_states_listed m (all_rules m) 0 in
     let (ds, repairs) = diagnoses_exist m in
     let (ts, causes) = explanations_exist m (pairs_of ds) repairs.listed in
-    let (need, needed) = need_exists m in
-    (
+    let (need, needed) = need_exists m in (
       listing_front m states ds ++ listing_rest m states ds ts need,
       record { states = states; equilibria = equilibria; diagnoses = ds; repairs = repairs; explanations = ts; causes = causes; need = need; needed = needed; text_is = refl },
     )

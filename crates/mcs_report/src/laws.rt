@@ -1,6 +1,7 @@
 //! Laws of the listings. The functions do nothing: each contract is a law.
 
 ghost use Rattle.mcs_report.specs.Listing.{EquilibriaTextsAreOne, StagesAreFronts, EquilibriaTextsExist};
+ghost use Rattle.mcs_report.specs.Solutions.{WholeListingsAreOne, ListingStagesAreFronts, WholeListingsExist, ConsistentListingsExplainNothing, ListingsWithoutDiagnoses};
 
 /// A system has at most one listing of its equilibria, and each stage of it is a front.
 pub fn equilibria_texts_are_unambiguous()
@@ -11,4 +12,23 @@ pub fn equilibria_texts_are_unambiguous()
 /// A system has a listing of its equilibria.
 pub fn equilibria_texts_exist()
     ensures { EquilibriaTextsExist }
+{}
+
+/// A system has at most one whole listing, of its equilibria, its minimal diagnoses and its minimal explanations, and
+/// each stage of it is a front.
+pub fn whole_listings_are_unambiguous()
+    ensures one { WholeListingsAreOne }
+    ensures stages { ListingStagesAreFronts }
+{}
+
+/// A system has a whole listing.
+pub fn whole_listings_exist()
+    ensures { WholeListingsExist }
+{}
+
+/// The whole listing of a consistent system has the empty pair as its one diagnosis, and no explanation; where it has
+/// no diagnosis, the empty pair is its one explanation.
+pub fn whole_listings_at_the_extremes()
+    ensures consistent { ConsistentListingsExplainNothing }
+    ensures without_diagnoses { ListingsWithoutDiagnoses }
 {}

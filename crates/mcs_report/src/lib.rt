@@ -6,7 +6,10 @@ mod lines;
 mod members;
 mod repair_lines;
 
-pub use laws::{equilibria_texts_are_unambiguous, equilibria_texts_exist};
+pub use laws::{
+    equilibria_texts_are_unambiguous, equilibria_texts_exist, whole_listings_are_unambiguous,
+    whole_listings_at_the_extremes, whole_listings_exist,
+};
 pub use lines::{equilibrium_line, heading, short_end_line, verdict_line};
 pub use members::{Member, push_set};
 pub use repair_lines::{diagnosis_line, end_line, explanation_line};

@@ -1,21 +1,21 @@
 //! The lines of a report of diagnoses and explanations. Each call appends one line with its line feed; without memory
 //! the text stays as it was.
 
-ghost use Rattle.std.specs.Prelude.{◌≡◌, ◌<◌, ◌*◌, ◌++◌, map, length, OnOk, OnErr, decimal};
+ghost use Rattle.std.specs.Prelude.{◌≡◌, ◌<◌, ◌*◌, ◌++◌, map, length, codes, OnOk, OnErr, decimal};
 ghost use Rattle.std.specs.List.{AllByRecursion};
 ghost use Rattle.mcs_sets.specs.Sets.{Within};
 ghost use Rattle.mcs_system.specs.Repairs.{all_marks};
 ghost use Rattle.mcs_system.specs.Systems.{all_rules, all_variables};
-ghost use Rattle.mcs_transversal.specs.Transversals.{IsCritical, HasCriticalEdge};
+ghost use Rattle.mcs_transversal.specs.Transversals.{IsCritical};
 ghost use Rattle.mcs_text.specs.Separated.{braced};
-ghost use Rattle.mcs_report.specs.Repairs.{mark_text, first_alone, reason_text, reasons_text, diagnosis_line, explanation_line, end_line};
+ghost use Rattle.mcs_report.specs.Repairs.{mark_text, reasons_text, diagnosis_line, explanation_line, end_line};
 
 use crate::members::{Member, push_set};
 use mcs_base::{Marks, Members, Memory, Text};
 use mcs_diagnosis::Diagnosis;
 use mcs_system::System;
 use mcs_text::push_separator;
-use mcs_transversal::critical;
+use mcs_transversal::first_critical_edges;
 
 /// Appends the mark of this number: `-NAME` where the rule of that name is removed, `+NAME` where it is forced.
 #[tactic(auto, using(mcs_system::proofs::SeenLemmas::loops))]
@@ -42,42 +42,30 @@ fn push_marks(text: &mut Text, system: &System, marks: Members) -> Result<(), Me
     text.push(b"}")
 }
 
-/// The number, from 1, of the first edge that the set meets in this mark alone.
-fn first_alone(edges: &[Marks], t: Marks, mark: u32) -> u64
-    requires { HasCriticalEdge edges.now t mark }
-    ensures { result ≡ first_alone edges.now t mark }
-{
-    critical(edges, t, mark).unwrap() as u64 + 1
-}
-
-/// Appends a mark, and the number of the first edge that the set meets in it alone.
-fn push_reason(
-    text: &mut Text,
-    system: &System,
-    edges: &[Marks],
-    t: Marks,
-    mark: u32,
-) -> Result<(), Memory>
-    requires of_rule { mark < 2 * length system.now.bridges }
-    requires critical { HasCriticalEdge edges.now t mark }
-    ensures { OnOk result (text.new ≡ text.old ++ reason_text system.now edges.now t mark) }
+/// Appends a mark, and the number of an edge.
+fn push_reason(text: &mut Text, system: &System, mark: u32, number: u64) -> Result<(), Memory>
+    requires { mark < 2 * length system.now.bridges }
+    ensures { OnOk result (text.new ≡ text.old ++ (mark_text system.now mark ++ (codes " by " ++ decimal number))) }
 {
     push_mark(text, system, mark)?;
     text.push(b" by ")?;
-    text.push_number(first_alone(edges, t, mark))
+    text.push_number(number)
 }
 
-/// Appends the marks of an explanation between braces, each with its reason, to an own text.
+/// Appends the marks of an explanation between braces to an own text, each with the number, from 1, of the first edge
+/// that the set meets in it alone.
 fn push_reasons(text: &mut Text, system: &System, edges: &[Marks], t: Marks) -> Result<(), Memory>
     requires of_rules { Within t (all_marks system.now) }
     requires critical { IsCritical edges.now t }
     ensures { OnOk result (text.new ≡ text.old ++ reasons_text system.now edges.now t) }
 {
+    let firsts = first_critical_edges(edges, t);
     text.push(b"{")?;
     let mut is_first = true;
     for mark in t.members() {
         push_separator(text, is_first, b", ")?;
-        push_reason(text, system, edges, t, mark)?;
+        let first = firsts[mark as usize].unwrap();
+        push_reason(text, system, mark, first as u64 + 1)?;
         is_first = false;
     }
     text.push(b"}")
@@ -117,8 +105,8 @@ pub fn diagnosis_line(
 }
 
 /// Appends the line of the explanation of this number: its marks, each with the number, from 1, of the first
-/// diagnosis of the listing that the explanation meets in this mark alone. There is one for each mark: `critical`
-/// finds it. The marks are of rules of the system.
+/// diagnosis of the listing that the explanation meets in this mark alone. There is one for each mark:
+/// `first_critical_edges` finds it. The marks are of rules of the system.
 #[tactic(auto, unfolding(crate::specs::Repairs::explanation_line))]
 pub fn explanation_line(
     system: &System,

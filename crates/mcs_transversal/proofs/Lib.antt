@@ -1,2 +1,3 @@
 pub mod CriticalLemmas
 pub mod BergeLemmas
+pub mod FirstLemmas

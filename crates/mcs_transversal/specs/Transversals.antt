@@ -1,5 +1,5 @@
 -- Critical edges of a transversal, and how transversals grow edge by edge (Berge 1989).
-use Rattle.std.specs.Prelude.{◌≡◌, ℕ, ◌<◌, List, ◌⊎◌, ◌↔◌, IsTrue, length, slice_index_or}
+use Rattle.std.specs.Prelude.{◌≡◌, ℕ, ◌<◌, List, ◌⊎◌, ◌↔◌, IsTrue, length, slice_index_or, Option, None, MatchOption}
 use Rattle.mcs_sets.specs.Sets.{has, single, union, Meets}
 use Rattle.mcs_base.specs.Listings.{IsAmong}
 use Rattle.mcs_base.specs.Minimal.{IsMinimal}
@@ -20,6 +20,11 @@ pub record IsFirstCritical (edges : List ℕ) (t k i : ℕ) : Type 0 where
   pub in_range : i < length edges
   pub alone : MeetAloneAt (slice_index_or edges i 0) t k
   pub none_before : (j : ℕ) → j < i → ¬ MeetAloneAt (slice_index_or edges j 0) t k
+
+-- at each mark the place of the first edge that meets the set in this mark alone, if there is one
+pub record AreFirstCritical (edges : List ℕ) (t : ℕ) (firsts : List (Option ℕ)) : Type 0 where
+  pub one_each : length firsts ≡ 128
+  pub each : (k : ℕ) → k < 128 → MatchOption (slice_index_or firsts k None) ((j : ℕ) → j < length edges → ¬ MeetAloneAt (slice_index_or edges j 0) t k) (IsFirstCritical edges t k)
 
 -- Berge's rule: x is t and one mark of the edge, and each mark of x has a critical edge
 pub record IsGrown (edges : List ℕ) (e t x : ℕ) : Type 0 where

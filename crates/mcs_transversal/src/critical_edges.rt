@@ -3,7 +3,7 @@
 ghost use Rattle.std.specs.Prelude.{◌≡◌, ◌<◌, ◌⊎◌, ◌↔◌, ℕ, IsTrue, MatchOption, IfSome, length, slice_index_or};
 ghost use Rattle.mcs_sets.specs.Sets.{has, single, common};
 ghost use Rattle.mcs_base.specs.Transversals.{MeetAloneAt};
-ghost use Rattle.mcs_transversal.specs.Transversals.{IsCritical, IsFirstCritical};
+ghost use Rattle.mcs_transversal.specs.Transversals.{IsCritical, IsFirstCritical, AreFirstCritical};
 
 use mcs_base::Marks;
 
@@ -46,6 +46,38 @@ pub fn critical(edges: &[Marks], t: Marks, mark: u32) -> Option<usize>
         }
     }
     None
+}
+
+/// The one mark in which the edge meets the set, if it is one of those that are left.
+fn new_mark(edge: Marks, t: Marks, left: Marks) -> Option<u32>
+    ensures value { MatchOption result
+        ((k : ℕ) → IsTrue (has left k) → ¬ MeetAloneAt edge t k)
+        (λ k. MeetAloneAt edge t k × IsTrue (has left k)) }
+    ensures below { IfSome result (λ k. k < 128) }
+{
+    let Some(mark) = only_common(edge, t) else {
+        return None;
+    };
+    if left.has(mark) { Some(mark) } else { None }
+}
+
+/// For each mark the index of the first edge that meets the set in this mark alone; `None` exactly where there is
+/// none. It takes no memory, and goes once along the edges, no further than to the last of these.
+pub fn first_critical_edges(edges: &[Marks], t: Marks) -> [Option<usize>; 128]
+    ensures { AreFirstCritical edges.now t result }
+{
+    let mut firsts = [None; 128];
+    let mut left = t;
+    for (index, edge) in edges.iter().enumerate() {
+        if left == Marks::empty() {
+            return firsts;
+        }
+        if let Some(mark) = new_mark(*edge, t, left) {
+            firsts[mark as usize] = Some(index);
+            left = left.without(mark);
+        }
+    }
+    firsts
 }
 
 /// The marks, and the one in which the edge meets the set, if it is one alone.

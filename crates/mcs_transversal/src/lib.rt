@@ -6,5 +6,5 @@ mod critical_edges;
 mod laws;
 
 pub use berge::minimal_transversals;
-pub use critical_edges::critical;
+pub use critical_edges::{critical, first_critical_edges};
 pub use laws::minimality_is_critical;

@@ -9,7 +9,8 @@ use Rattle.mcs_report.proofs.repair_lines.push_reasons.Given as goal
 
 abbrev pub invariant-loop-mark : goal.invariant-loop-mark
 invariant-loop-mark l = record {
-  written : l.text ++ left l.is_first (map (reason_text l.system l.edges l.t) l.mark-iterator) ≡ l.fn.text ++ (codes "{" ++ separated (map (reason_text l.system l.edges l.t) (members l.t)));
+  written : l.text ++ left l.is_first (map (reason_text l.system l.edges l.fn.t) l.mark-iterator) ≡ l.fn.text ++ (codes "{" ++ separated (map (reason_text l.system l.edges l.fn.t) (members l.fn.t)));
+  below : AllByRecursion (λ k. k < 128) l.mark-iterator;
   known : AllByRecursion (λ k. k < 2 * length l.system.bridges) l.mark-iterator;
-  critical : AllByRecursion (HasCriticalEdge l.edges l.t) l.mark-iterator;
+  critical : AllByRecursion (HasCriticalEdge l.edges l.fn.t) l.mark-iterator;
 }
