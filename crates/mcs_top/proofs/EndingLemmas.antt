@@ -11,8 +11,8 @@ use Rattle.mcs_top.specs.declared.status.Status.{Status}
 use Rattle.mcs_top.specs.declared.status.Status.TheVariants as statuses
 use Rattle.mcs_top.specs.Jobs.{File}
 use Rattle.mcs_top.specs.Endings.{line_of, status_of, refusal_line, unfinished_line, stop_for_words, IsTold, IsToldAs}
-use Rattle.mcs_top.specs.Promise.{IsRefusal, IsOutputBeyond, budget_of, WritesBeyond, StopsBeyond, LacksFile, CanBeDone, WritesOutput, WritesStage, TellsRefusal, Notes, IsUnlessMemory, HasCause, LeavesText}
-use Rattle.mcs_top.proofs.RefusalLemmas.{whole_front, output_not_beyond, beyond_not_refused, beyond_not_missing, beyond_is_stage, can_not_beyond, output_not_refused, output_not_missing, stage_not_refused, can_not_refused, stage_not_missing, refusal_not_missing}
+use Rattle.mcs_top.specs.Promise.{IsRefusal, LacksBudget, budget_of, WritesBeyond, StopsBeyond, LacksFile, CanBeDone, WritesOutput, WritesStage, TellsRefusal, Notes, IsUnlessMemory, HasCause, LeavesText}
+use Rattle.mcs_top.proofs.RefusalLemmas.{whole_front, output_not_short, short_not_refused, beyond_not_refused, beyond_not_missing, beyond_is_stage, can_not_beyond, output_not_refused, output_not_missing, stage_not_refused, can_not_refused, stage_not_missing, refusal_not_missing}
 
 -- ---- what a stop is told as
 pub told_status : (stop : Stop) (status : Status) (before now : Device) → IsTold stop status before now → IsUnlessMemory (status_of stop) status
@@ -152,18 +152,18 @@ module _ (stop : Stop) (status : Status) (before now : Device) (told : IsTold st
         at stops.WriteFault (Some fs) due h left = λ can calm quiet. absurd (quiet h)
         at stops.Memory (Some fs) due h left = λ can calm quiet. elim due [ inl is ↦ inr is | inr is ↦ inr is ]
 
-    pub stop_spends : IfSome files (λ fs. (text : List ℕ) (level : ℕ) → IsOutputBeyond text level job fs → ¬ shelf-rose → ¬ sink-rose → IsUnlessMemory statuses.Unfinished status)
+    pub stop_spends : IfSome files (λ fs. LacksBudget job fs → ¬ shelf-rose → ¬ sink-rose → IsUnlessMemory statuses.Unfinished status)
     stop_spends = at stop files (told_status stop status before now told) cause
       where
         at : (s : Stop) (fs : Option (List File)) → IsUnlessMemory (status_of s) status → HasCause s shelf-rose sink-rose job fs
-            → IfSome fs (λ gs. (text : List ℕ) (level : ℕ) → IsOutputBeyond text level job gs → ¬ shelf-rose → ¬ sink-rose → IsUnlessMemory statuses.Unfinished status)
+            → IfSome fs (λ gs. LacksBudget job gs → ¬ shelf-rose → ¬ sink-rose → IsUnlessMemory statuses.Unfinished status)
         at s None due h = tt
         at stops.Usage (Some fs) due h = absurd h
-        at (stops.Refused r) (Some fs) due h = λ text level beyond calm quiet. absurd (beyond_not_refused text level r job fs beyond h)
-        at (stops.Unfinished at_level budget) (Some fs) due h = λ text level beyond calm quiet. due
-        at stops.ReadFault (Some fs) due h = λ text level beyond calm quiet. absurd (calm h)
-        at stops.WriteFault (Some fs) due h = λ text level beyond calm quiet. absurd (quiet h)
-        at stops.Memory (Some fs) due h = λ text level beyond calm quiet. elim due [ inl is ↦ inr is | inr is ↦ inr is ]
+        at (stops.Refused r) (Some fs) due h = λ short calm quiet. absurd (short_not_refused r job fs short h)
+        at (stops.Unfinished at_level budget) (Some fs) due h = λ short calm quiet. due
+        at stops.ReadFault (Some fs) due h = λ short calm quiet. absurd (calm h)
+        at stops.WriteFault (Some fs) due h = λ short calm quiet. absurd (quiet h)
+        at stops.Memory (Some fs) due h = λ short calm quiet. elim due [ inl is ↦ inr is | inr is ↦ inr is ]
 
     pub stops_beyond : status ≡ statuses.Unfinished → IfSome files (StopsBeyond first last before.notes now.notes job)
     stops_beyond is = let own = own_line stop status statuses.Unfinished before now told is (λ e. cc) in at stop own.0 own.1 cause leaves
@@ -236,9 +236,9 @@ module _ (status : Status) (want : status ≡ statuses.OutOfMemory) (job : Reque
   memory_refuses (Some fs) shelf-rose = λ why reason calm. inr want
 
   pub memory_spends : (files : Option (List File)) (shelf-rose sink-rose : Type 0)
-      → IfSome files (λ fs. (text : List ℕ) (level : ℕ) → IsOutputBeyond text level job fs → ¬ shelf-rose → ¬ sink-rose → IsUnlessMemory statuses.Unfinished status)
+      → IfSome files (λ fs. LacksBudget job fs → ¬ shelf-rose → ¬ sink-rose → IsUnlessMemory statuses.Unfinished status)
   memory_spends None shelf-rose sink-rose = tt
-  memory_spends (Some fs) shelf-rose sink-rose = λ text level beyond calm quiet. inr want
+  memory_spends (Some fs) shelf-rose sink-rose = λ short calm quiet. inr want
 
   pub memory_misses : (files : Option (List File)) → IfSome files (λ fs. LacksFile job fs → IsUnlessMemory statuses.ReadFault status)
   memory_misses None = tt
@@ -259,6 +259,6 @@ module _ (status : Status) (job : Request) (first last : Option (List ℕ)) wher
   done_misses (Some fs) h = λ lacks. absurd (output_not_missing h.text job fs h.output lacks)
 
   pub done_spends : (files : Option (List File)) (shelf-rose sink-rose : Type 0) → IfSome files (WritesOutput first last job)
-      → IfSome files (λ fs. (text : List ℕ) (level : ℕ) → IsOutputBeyond text level job fs → ¬ shelf-rose → ¬ sink-rose → IsUnlessMemory statuses.Unfinished status)
+      → IfSome files (λ fs. LacksBudget job fs → ¬ shelf-rose → ¬ sink-rose → IsUnlessMemory statuses.Unfinished status)
   done_spends None shelf-rose sink-rose h = tt
-  done_spends (Some fs) shelf-rose sink-rose h = λ text level beyond calm quiet. absurd (output_not_beyond h.text text level job fs h.output beyond)
+  done_spends (Some fs) shelf-rose sink-rose h = λ short calm quiet. absurd (output_not_short h.text job fs h.output short)

@@ -2,4 +2,4 @@ pub mod JobLemmas
 pub mod RefusalLemmas
 pub mod EndingLemmas
 pub mod StageLemmas
-pub mod EquilibriumLemmas
+pub mod EvaluatorLemmas

@@ -1,15 +1,19 @@
 -- A job that can be done is refused for nothing, lacks no file, and does not stop at a level.
-use Rattle.std.proofs.Common.{◌≡◌, ℕ, List, [], ◌∷◌, Option, None, inl, subst}
+use Rattle.std.proofs.Common.{◌≡◌, ℕ, zero, suc, List, [], ◌∷◌, Option, None, inl, subst}
 use Rattle.std.proofs.lemmas.List.{append-nil}
 use Rattle.mcs_ports.specs.Pieces.{appended}
 use Rattle.mcs_text.specs.Writes.{WritesFront}
 use Rattle.mcs_system.specs.Plain.{System}
 use Rattle.mcs_reader.proofs.Unambiguous.{texts-unambiguous}
 use Rattle.mcs_grammar.proofs.OneFault.{no-fault}
-use Rattle.mcs_words.specs.Commands.{Request, equilibria}
+use Rattle.mcs_report.specs.Solutions.{first, below}
+use Rattle.mcs_work.specs.Tasks.{IsTaskStage, IsTaskUpTo, IsTaken}
+use Rattle.mcs_work.specs.declared.task.Task.{Task}
+use Rattle.mcs_work.specs.declared.task.Task.TheVariants.{Equilibria, Solve}
+use Rattle.mcs_words.specs.Commands.{Request, equilibria, solve}
 use Rattle.mcs_top.specs.Jobs.{File, OfOneFile}
 use Rattle.mcs_top.specs.Texts.{IsTextOf, IsRefusedFor}
-use Rattle.mcs_top.specs.Promise.{IsBeyond, ListsHeadingBeyond, IsOutput, IsOutputBeyond, IsStage, IsRefusal, LacksFile, CanBeDone}
+use Rattle.mcs_top.specs.Promise.{IsBeyond, Suffices, IsShort, IsLeastBeyond, OfSystem, IsListed, IsListedBefore, IsOutput, IsOutputBeyond, IsStage, LacksBudget, IsRefusal, LacksFile, CanBeDone}
 use Rattle.mcs_top.specs.declared.ending.Refusal.{Refusal}
 use Rattle.mcs_top.specs.declared.ending.Refusal.TheVariants as refusals
 use Rattle.mcs_top.proofs.JobLemmas.{apart_of_file, of_file}
@@ -22,45 +26,81 @@ not_refused : (bytes : List ℕ) (m : System) (why : Refusal) → IsTextOf m byt
 not_refused bytes m refusals.TooLong text long = long text.fits
 not_refused bytes m (refusals.Text number offset limit) text h = no-fault bytes m number limit offset text.spelled h.1
 
+-- the text of a system is refused for nothing
+of_system_apart : (P : System → Type 0) (why : Refusal) (files : List File) → OfOneFile (OfSystem P) files → OfOneFile (IsRefusedFor why) files → ⊥
+of_system_apart P why files = apart_of_file (OfSystem P) (IsRefusedFor why) (λ bytes (m, read, holds). not_refused bytes m why read) files
+
 -- of one text it can't be that the budget suffices and that it does not
-not_beyond : (bytes : List ℕ) (m n : System) (level budget : ℕ) → level ≡ 0 → IsTextOf m bytes → IsTextOf n bytes → ¬ IsBeyond m 0 budget → IsBeyond n level budget → ⊥
-not_beyond bytes m n level budget lowest text other within beyond =
-    within (subst (λ (o : System). IsBeyond o 0 budget) (texts-unambiguous bytes n m other.spelled text.spelled) (subst (λ (k : ℕ). IsBeyond n k budget) lowest beyond))
+two_systems_apart : (P Q : System → Type 0) → ((m : System) → P m → Q m → ⊥) → (files : List File) → OfOneFile (OfSystem P) files → OfOneFile (OfSystem Q) files → ⊥
+two_systems_apart P Q apart files = apart_of_file (OfSystem P) (OfSystem Q) (λ bytes (m, read, holds) (n, again, other). apart m holds (subst Q (texts-unambiguous bytes n m again.spelled read.spelled) other)) files
 
-pub output_not_refused : (text : List ℕ) (why : Refusal) (job : Request) (files : List File) → IsOutput text job files → IsRefusal why job files → ⊥
-output_not_refused text why (equilibria file budget workers) files = apart_of_file _ _ (λ bytes (m, read, within, listed). not_refused bytes m why read) files
+-- what is printed before a level is a stage
+up_to_stage : (task : Task) (m : System) (level : ℕ) (text : List ℕ) → IsTaskUpTo task m level text → IsTaskStage task m text
+up_to_stage Equilibria m level text is = inl is
+up_to_stage Solve m zero text is = first is
+up_to_stage Solve m (suc level) text h = below (suc level) h
 
-pub output_not_beyond : (text other : List ℕ) (level : ℕ) (job : Request) (files : List File) → IsOutput text job files → IsOutputBeyond other level job files → ⊥
-output_not_beyond text other level (equilibria file budget workers) files h (lowest, k) =
-    apart_of_file _ _ (λ bytes (m, read, within, listed) (n, again, beyond, is). not_beyond bytes m n level budget lowest read again within beyond) files h k
+module _ (task : Task) (budget : ℕ) (m : System) where
+  short_apart : Suffices task budget m → IsShort task budget m → ⊥
+  short_apart suffices short = suffices short.level short.taken short.beyond
 
-pub stage_not_refused : (text : List ℕ) (why : Refusal) (job : Request) (files : List File) → IsStage text job files → IsRefusal why job files → ⊥
-stage_not_refused text why (equilibria file budget workers) files = apart_of_file _ _ (λ bytes (m, read, listed). not_refused bytes m why read) files
+  listed_short : (text : List ℕ) → IsListed task budget text m → IsShort task budget m → ⊥
+  listed_short text listed short = short_apart listed.0 short
 
-pub beyond_not_refused : (text : List ℕ) (level : ℕ) (why : Refusal) (job : Request) (files : List File) → IsOutputBeyond text level job files → IsRefusal why job files → ⊥
-beyond_not_refused text level why (equilibria file budget workers) files (lowest, h) = apart_of_file _ _ (λ bytes (m, read, beyond, is). not_refused bytes m why read) files h
+  before_apart : (level : ℕ) (text : List ℕ) → Suffices task budget m → IsListedBefore task budget level text m → ⊥
+  before_apart level text suffices before = suffices level before.0.taken before.0.beyond
 
-pub beyond_is_stage : (text : List ℕ) (level : ℕ) (job : Request) (files : List File) → IsOutputBeyond text level job files → IsStage text job files
-beyond_is_stage text level (equilibria file budget workers) files (lowest, h) = of_file (ListsHeadingBeyond text level budget) _ (λ bytes (m, read, beyond, is). (m, read, inl is)) files h
-
-pub can_not_refused : (why : Refusal) (job : Request) (files : List File) → CanBeDone job files → IsRefusal why job files → ⊥
-can_not_refused why (equilibria file budget workers) files = apart_of_file _ _ (λ bytes (m, read, within). not_refused bytes m why read) files
-
-pub can_not_beyond : (text : List ℕ) (level : ℕ) (job : Request) (files : List File) → CanBeDone job files → IsOutputBeyond text level job files → ⊥
-can_not_beyond text level (equilibria file budget workers) files h (lowest, k) =
-    apart_of_file _ _ (λ bytes (m, read, within) (n, again, beyond, is). not_beyond bytes m n level budget lowest read again within beyond) files h k
+  before_stage : (level : ℕ) (text : List ℕ) → IsListedBefore task budget level text m → IsTaskStage task m text
+  before_stage level text before = up_to_stage task m level text before.1
 
 missing : (P : List ℕ → Type 0) (files : List File) → files ≡ None ∷ [] → OfOneFile P files → ⊥
 missing P files is h = subst (OfOneFile P) is h
 
+-- ---- by cases of the job
+pub output_not_refused : (text : List ℕ) (why : Refusal) (job : Request) (files : List File) → IsOutput text job files → IsRefusal why job files → ⊥
+output_not_refused text why (equilibria file budget workers) files = of_system_apart (IsListed Equilibria budget text) why files
+output_not_refused text why (solve file budget workers) files = of_system_apart (IsListed Solve budget text) why files
+
+pub output_not_short : (text : List ℕ) (job : Request) (files : List File) → IsOutput text job files → LacksBudget job files → ⊥
+output_not_short text (equilibria file budget workers) files = two_systems_apart (IsListed Equilibria budget text) (IsShort Equilibria budget) (λ m. listed_short Equilibria budget m text) files
+output_not_short text (solve file budget workers) files = two_systems_apart (IsListed Solve budget text) (IsShort Solve budget) (λ m. listed_short Solve budget m text) files
+
+pub stage_not_refused : (text : List ℕ) (why : Refusal) (job : Request) (files : List File) → IsStage text job files → IsRefusal why job files → ⊥
+stage_not_refused text why (equilibria file budget workers) files = of_system_apart (λ m. IsTaskStage Equilibria m text) why files
+stage_not_refused text why (solve file budget workers) files = of_system_apart (λ m. IsTaskStage Solve m text) why files
+
+pub beyond_not_refused : (text : List ℕ) (level : ℕ) (why : Refusal) (job : Request) (files : List File) → IsOutputBeyond text level job files → IsRefusal why job files → ⊥
+beyond_not_refused text level why (equilibria file budget workers) files = of_system_apart (IsListedBefore Equilibria budget level text) why files
+beyond_not_refused text level why (solve file budget workers) files = of_system_apart (IsListedBefore Solve budget level text) why files
+
+pub short_not_refused : (why : Refusal) (job : Request) (files : List File) → LacksBudget job files → IsRefusal why job files → ⊥
+short_not_refused why (equilibria file budget workers) files = of_system_apart (IsShort Equilibria budget) why files
+short_not_refused why (solve file budget workers) files = of_system_apart (IsShort Solve budget) why files
+
+pub beyond_is_stage : (text : List ℕ) (level : ℕ) (job : Request) (files : List File) → IsOutputBeyond text level job files → IsStage text job files
+beyond_is_stage text level (equilibria file budget workers) files = of_file (OfSystem (IsListedBefore Equilibria budget level text)) (OfSystem (λ m. IsTaskStage Equilibria m text)) (λ bytes (m, read, before). (m, read, before_stage Equilibria budget m level text before)) files
+beyond_is_stage text level (solve file budget workers) files = of_file (OfSystem (IsListedBefore Solve budget level text)) (OfSystem (λ m. IsTaskStage Solve m text)) (λ bytes (m, read, before). (m, read, before_stage Solve budget m level text before)) files
+
+pub can_not_refused : (why : Refusal) (job : Request) (files : List File) → CanBeDone job files → IsRefusal why job files → ⊥
+can_not_refused why (equilibria file budget workers) files = of_system_apart (Suffices Equilibria budget) why files
+can_not_refused why (solve file budget workers) files = of_system_apart (Suffices Solve budget) why files
+
+pub can_not_beyond : (text : List ℕ) (level : ℕ) (job : Request) (files : List File) → CanBeDone job files → IsOutputBeyond text level job files → ⊥
+can_not_beyond text level (equilibria file budget workers) files = two_systems_apart (Suffices Equilibria budget) (IsListedBefore Equilibria budget level text) (λ m. before_apart Equilibria budget m level text) files
+can_not_beyond text level (solve file budget workers) files = two_systems_apart (Suffices Solve budget) (IsListedBefore Solve budget level text) (λ m. before_apart Solve budget m level text) files
+
 pub output_not_missing : (text : List ℕ) (job : Request) (files : List File) → IsOutput text job files → LacksFile job files → ⊥
 output_not_missing text (equilibria file budget workers) files h is = missing _ files is h
+output_not_missing text (solve file budget workers) files h is = missing _ files is h
 
 pub stage_not_missing : (text : List ℕ) (job : Request) (files : List File) → IsStage text job files → LacksFile job files → ⊥
 stage_not_missing text (equilibria file budget workers) files h is = missing _ files is h
+stage_not_missing text (solve file budget workers) files h is = missing _ files is h
 
 pub beyond_not_missing : (text : List ℕ) (level : ℕ) (job : Request) (files : List File) → IsOutputBeyond text level job files → LacksFile job files → ⊥
-beyond_not_missing text level (equilibria file budget workers) files h is = missing _ files is h.1
+beyond_not_missing text level (equilibria file budget workers) files h is = missing _ files is h
+beyond_not_missing text level (solve file budget workers) files h is = missing _ files is h
 
 pub refusal_not_missing : (why : Refusal) (job : Request) (files : List File) → IsRefusal why job files → LacksFile job files → ⊥
 refusal_not_missing why (equilibria file budget workers) files h is = missing _ files is h
+refusal_not_missing why (solve file budget workers) files h is = missing _ files is h

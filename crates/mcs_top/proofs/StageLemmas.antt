@@ -1,111 +1,105 @@
--- What was written of a listing, and why its writing stopped.
-use Rattle.std.proofs.Common.{◌≡◌, ℕ, List, Option, Result, Ok, Err, IfSome, IfErr, OnOk, inl, inr, refl}
-use Rattle.std.specs.Result.{IsErrAnd}
+-- What the work on the system of a file wrote, and why it stopped.
+use Rattle.std.proofs.Common.{◌≡◌, ℕ, ◌+◌, List, [], ◌++◌, Option, Result, Ok, Err, IfSome, IfErr, OnOk, inr, refl, sym, subst}
 use Rattle.mcs_ports.specs.Causes.{Rose}
 use Rattle.mcs_ports.specs.Pieces.{Device, appended}
-use Rattle.mcs_text.specs.Writes.{Writes, WritesFront}
-use Rattle.mcs_text.specs.declared.unwritten.Unwritten.{Unwritten}
-use Rattle.mcs_text.specs.declared.unwritten.Unwritten.TheVariants as unwritten
-use Rattle.mcs_text.proofs.WriteLaws.{writes_then}
+use Rattle.mcs_text.specs.Writes.{WritesFront}
 use Rattle.mcs_system.specs.Plain.{System}
-use Rattle.mcs_report.specs.Listing.{heading, after_heading, equilibria_text, IsEquilibriaText, IsEquilibriaStage}
-use Rattle.mcs_words.specs.Commands.{Word, equilibria}
+use Rattle.mcs_system.specs.Levels.{HasQuestions}
+use Rattle.mcs_states.specs.Evaluators.{EvaluatorState}
+use Rattle.mcs_states.specs.Evaluators as evaluators
+use Rattle.mcs_work.specs.Tasks.{IsTaskText, IsTaskStage, IsTaskUpTo, IsTaken}
+use Rattle.mcs_work.specs.Work.{LeavesStage, IsDone, IsSpent, HasStopped}
+use Rattle.mcs_work.specs.declared.task.Task.{Task}
+use Rattle.mcs_work.specs.declared.task.Task.TheVariants.{Equilibria, Solve}
+use Rattle.mcs_work.specs.declared.task.WorkStop.{WorkStop}
+use Rattle.mcs_work.specs.declared.task.WorkStop.TheVariants as works
+use Rattle.mcs_words.specs.Commands.{Word}
 use Rattle.mcs_top.specs.Jobs.{File, OfOneFile}
 use Rattle.mcs_top.specs.Texts.{IsTextOf}
-use Rattle.mcs_top.specs.Endings.{stop_for_line}
-use Rattle.mcs_top.specs.Promise.{IsBeyond, WritesOutput, WritesStage, WritesBeyond, HasCause, LeavesText, StopsPrinting, PrintsEquilibria, AreFound, AreNotFound}
+use Rattle.mcs_top.specs.Endings.{stop_for_work}
+use Rattle.mcs_top.specs.Promise.{IsBeyond, OfSystem, IsListed, IsListedBefore, IsOutput, IsOutputBeyond, IsStage, WritesOutput, WritesStage, WritesBeyond, HasCause, LeavesText, IsNewMesh, request_for, budget_of}
 use Rattle.mcs_top.specs.declared.ending.Stop.{Stop}
-use Rattle.mcs_top.specs.declared.ending.Stop.TheVariants as stops
 use Rattle.mcs_top.proofs.JobLemmas.{told_also, of_file}
-use Rattle.mcs_top.proofs.RefusalLemmas.{whole_front}
 
--- ---- the heading, and then the rest
-module _ (m : System) (budget : ℕ) (before : Device) where
-  -- the line or the listing was cut off
-  cut : (text : List ℕ) → IsEquilibriaStage m text → (now : Device) (e : Unwritten) → Writes {T = Unit {0}} text before now (Err e) → StopsPrinting m budget before now (stop_for_line e)
-  cut text stage now unwritten.Fault f = (f.due, (text, stage, f.front))
-  cut text stage now unwritten.Memory f = (text, stage, f.front)
+-- ---- what the relations of a task's job come to
+output_of : (task : Task) (file : Word) (budget workers : ℕ) (text : List ℕ) (files : List File) → OfOneFile (OfSystem (IsListed task budget text)) files → IsOutput text (request_for task file budget workers) files
+output_of Equilibria file budget workers text files h = h
+output_of Solve file budget workers text files h = h
 
-  -- the heading was
-  pub prints_cut : (now : Device) (e : Unwritten) (r : Result (Unit {0}) Stop) → IsErrAnd r (λ s. s ≡ stop_for_line e) → Writes {T = Unit {0}} (heading m) before now (Err e) → PrintsEquilibria m budget before now r
-  prints_cut now e (Ok x) is f = absurd is
-  prints_cut now e (Err s) is f = record { later = f.later; notes = f.notes; whole = tt; stop = rw is (cut (heading m) (inl refl) now e f) }
+stage_of : (task : Task) (file : Word) (budget workers : ℕ) (text : List ℕ) (files : List File) → OfOneFile (OfSystem (λ m. IsTaskStage task m text)) files → IsStage text (request_for task file budget workers) files
+stage_of Equilibria file budget workers text files h = h
+stage_of Solve file budget workers text files h = h
 
-  -- after it nothing was found
-  pub prints_heading : (now : Device) (x : Unit {0}) (stop : Stop) (r : Result (Unit {0}) Stop) → IsErrAnd r (λ s. s ≡ stop) → AreNotFound m budget stop → Writes (heading m) before now (Ok x) → PrintsEquilibria m budget before now r
-  prints_heading now x stop (Ok y) is why f = absurd is
-  prints_heading now x stop (Err s) is why f = record { later = f.later; notes = f.notes; whole = tt; stop = rw is (at stop why) }
-    where
-      at : (s : Stop) → AreNotFound m budget s → StopsPrinting m budget before now s
-      at s (inl want) = rw want (heading m, inl refl, whole_front (heading m) before.written now.written f.whole)
-      at s (inr (spent, beyond)) = rw spent (refl, refl, beyond, f.whole)
+beyond_of : (task : Task) (file : Word) (budget workers : ℕ) (text : List ℕ) (level : ℕ) (files : List File) → OfOneFile (OfSystem (IsListedBefore task budget level text)) files → IsOutputBeyond text level (request_for task file budget workers) files
+beyond_of Equilibria file budget workers text level files h = h
+beyond_of Solve file budget workers text level files h = h
 
-  -- what comes after it was written, or a front of that
-  module _ (mid now : Device) (x : Unit {0}) (states : List ℕ) (asked : ℕ) (found : AreFound m budget states asked) (f : Writes (heading m) before mid (Ok x)) where
-    listed : IsEquilibriaText m (equilibria_text m states asked)
-    listed = record { states = states; listing = found.listing; need = asked; count = found.count; text_is = refl }
+own_budget : (task : Task) (file : Word) (budget workers : ℕ) → budget ≡ budget_of (request_for task file budget workers)
+own_budget Equilibria file budget workers = refl
+own_budget Solve file budget workers = refl
 
-    pub prints_rest : (y : Unit {0}) → Writes (after_heading m states asked) mid now (Ok y) → PrintsEquilibria m budget before now (Ok tt)
-    prints_rest y g =
-        let w = writes_then (heading m) (after_heading m states asked) before mid now x (Ok y) f g in
-        record { later = w.later; notes = w.notes; whole = (equilibria_text m states asked, listed, found.within, w.whole); stop = tt }
+-- ---- what the work did, of the system
+module _ (task : Task) (m : System) (budget : ℕ) (e e' : EvaluatorState) (fresh : IsNewMesh m budget e) where
+  beyond_here : (level : ℕ) → evaluators.IsBeyond e level → IsBeyond m level budget
+  beyond_here level h = subst (λ (n : System). HasQuestions n level (budget + 1)) fresh.system (subst (λ (b : ℕ). HasQuestions e.system level (b + 1)) fresh.budget_is h)
 
-    pub prints_front : (e : Unwritten) (r : Result (Unit {0}) Stop) → IsErrAnd r (λ s. s ≡ stop_for_line e) → Writes {T = Unit {0}} (after_heading m states asked) mid now (Err e) → PrintsEquilibria m budget before now r
-    prints_front e (Ok y) is g = absurd is
-    prints_front e (Err s) is g =
-        let w = writes_then (heading m) (after_heading m states asked) before mid now x (Err e) f g in
-        record { later = w.later; notes = w.notes; whole = tt; stop = rw is (cut (equilibria_text m states asked) (inr listed) now e w) }
+  beyond_there : (level : ℕ) → IsBeyond m level budget → evaluators.IsBeyond e level
+  beyond_there level h = subst (λ (b : ℕ). HasQuestions e.system level (b + 1)) (sym fresh.budget_is) (subst (λ (n : System). HasQuestions n level (budget + 1)) (sym fresh.system) h)
 
--- ---- of a file that is the text of the system
-module _ (m : System) (files : Option (List File)) (file : Word) (budget workers : ℕ) (read : IfSome files (OfOneFile (IsTextOf m))) where
-  output_written : (before now : Option (List ℕ)) → (text : List ℕ) × IsEquilibriaText m text × (¬ IsBeyond m 0 budget) × (now ≡ appended before text) → IfSome files (WritesOutput before now (equilibria file budget workers))
-  output_written before now (text, listed, within, is) = told_also files _ _ (λ fs h. record {
-    text = text;
-    output = of_file (IsTextOf m) _ (λ bytes spelled. (m, spelled, within, listed)) fs h;
-    written = is;
-  }) read
+  pub listed_done : (before now : Option (List ℕ)) → IsDone task [] e e' before now → (text : List ℕ) × IsListed task budget text m × (now ≡ appended before text)
+  listed_done before now d = (d.part, (
+    λ level taken beyond. d.within level (subst (λ (n : System). IsTaken task n level) (sym fresh.system) taken) (beyond_there level beyond),
+    subst (λ (n : System). IsTaskText task n d.part) fresh.system d.text,
+  ), d.written)
 
-  pub output_left : (before now : Option (List ℕ)) (r : Result (Unit {0}) Stop) → OnOk r ((text : List ℕ) × IsEquilibriaText m text × (¬ IsBeyond m 0 budget) × (now ≡ appended before text))
-      → OnOk r (IfSome files (WritesOutput before now (equilibria file budget workers)))
-  output_left before now (Ok x) h = output_written before now h
-  output_left before now (Err s) h = tt
+  stage_left : (before now : Option (List ℕ)) → LeavesStage task e.system [] before now → (text : List ℕ) × IsTaskStage task m text × WritesFront text before now
+  stage_left before now l = (l.part ++ l.rest, subst (λ (n : System). IsTaskStage task n (l.part ++ l.rest)) fresh.system l.stage, record { front = l.part; rest = l.rest; parts = refl; written = l.written })
 
-  stage_written : (before now : Option (List ℕ)) → (text : List ℕ) × IsEquilibriaStage m text × WritesFront text before now → IfSome files (WritesStage before now (equilibria file budget workers))
-  stage_written before now (text, stage, front) = told_also files _ _ (λ fs h. record {
-    text = text;
-    stage = of_file (IsTextOf m) _ (λ bytes spelled. (m, spelled, stage)) fs h;
-    front = front;
-  }) read
+  listed_before : (level : ℕ) (before now : Option (List ℕ)) → IsSpent task [] e e' level before now → (text : List ℕ) × IsListedBefore task budget level text m × (now ≡ appended before text)
+  listed_before level before now s = (s.part, (
+    record {
+      taken = subst (λ (n : System). IsTaken task n level) fresh.system s.taken;
+      beyond = beyond_here level s.beyond;
+      least = λ k less beyond. s.least k less (beyond_there k beyond);
+    },
+    subst (λ (n : System). IsTaskUpTo task n level s.part) fresh.system s.text,
+  ), s.written)
 
-  beyond_written : (level : ℕ) (before now : Option (List ℕ)) → level ≡ 0 → IsBeyond m 0 budget → now ≡ appended before (heading m) → IfSome files (WritesBeyond level before now (equilibria file budget workers))
-  beyond_written level before now lowest beyond is = rw lowest (told_also files _ _ (λ fs h. record {
-    text = heading m;
-    output = (refl, of_file (IsTextOf m) _ (λ bytes spelled. (m, spelled, beyond, refl)) fs h);
-    written = is;
-  }) read)
+  -- ---- of a file that is its text
+  module _ (files : Option (List File)) (file : Word) (workers : ℕ) (read : IfSome files (OfOneFile (IsTextOf m))) where
+    stage_written : (before now : Option (List ℕ)) → LeavesStage task e.system [] before now → IfSome files (WritesStage before now (request_for task file budget workers))
+    stage_written before now l =
+        let (text, stage, front) = stage_left before now l in
+        told_also files _ _ (λ fs h. record {
+          text = text;
+          stage = stage_of task file budget workers text fs (of_file (IsTextOf m) (OfSystem (λ n. IsTaskStage task n text)) (λ bytes spelled. (m, spelled, stage)) fs h);
+          front = front;
+        }) read
 
-  -- what is left where the printing stopped
-  pub printing_left : (before now : Device) (r : Result (Unit {0}) Stop) → IfErr r (StopsPrinting m budget before now) → IfErr r (λ s. LeavesText s (equilibria file budget workers) files before.written now.written)
-  printing_left before now (Ok x) h = tt
-  printing_left before now (Err s) h = at s h
-    where
-      at : (s : Stop) → StopsPrinting m budget before now s → LeavesText s (equilibria file budget workers) files before.written now.written
-      at stops.Usage h = absurd h
-      at (stops.Refused why) h = absurd h
-      at (stops.Unfinished level most) h = beyond_written level before.written now.written h.0 h.2 h.3
-      at stops.ReadFault h = absurd h
-      at stops.WriteFault h = stage_written before.written now.written h.1
-      at stops.Memory h = inr (stage_written before.written now.written h)
+    pub output_left : (before now : Device) (r : Result (Unit {0}) WorkStop) → OnOk r (IsDone task [] e e' before.written now.written) → OnOk r (IfSome files (WritesOutput before.written now.written (request_for task file budget workers)))
+    output_left before now (Ok x) d =
+        let (text, listed, is) = listed_done before.written now.written d in
+        told_also files _ _ (λ fs h. record {
+          text = text;
+          output = output_of task file budget workers text fs (of_file (IsTextOf m) (OfSystem (IsListed task budget text)) (λ bytes spelled. (m, spelled, listed)) fs h);
+          written = is;
+        }) read
+    output_left before now (Err stop) d = tt
 
-  -- and its cause
-  pub printing_cause : (before now : Device) (r : Result (Unit {0}) Stop) (shelf-rose : Type 0) → IfErr r (StopsPrinting m budget before now) → IfErr r (λ s. HasCause s shelf-rose (Rose before.faults now.faults) (equilibria file budget workers) files)
-  printing_cause before now (Ok x) shelf-rose h = tt
-  printing_cause before now (Err s) shelf-rose h = at s h
-    where
-      at : (s : Stop) → StopsPrinting m budget before now s → HasCause s shelf-rose (Rose before.faults now.faults) (equilibria file budget workers) files
-      at stops.Usage h = absurd h
-      at (stops.Refused why) h = absurd h
-      at (stops.Unfinished level most) h = h.1
-      at stops.ReadFault h = absurd h
-      at stops.WriteFault h = h.0
-      at stops.Memory h = tt
+    pub work_left : (before now : Device) (stop : WorkStop) → HasStopped task [] e e' before now stop → LeavesText (stop_for_work budget stop) (request_for task file budget workers) files before.written now.written
+    work_left before now works.Write h = stage_written before.written now.written h.1
+    work_left before now (works.Spent level) h =
+        let (text, listed, is) = listed_before level before.written now.written h in
+        told_also files _ _ (λ fs k. record {
+          text = text;
+          output = beyond_of task file budget workers text level fs (of_file (IsTextOf m) (OfSystem (IsListedBefore task budget level text)) (λ bytes spelled. (m, spelled, listed)) fs k);
+          written = is;
+        }) read
+    work_left before now (works.Missing context active) h = inr (stage_written before.written now.written h.left)
+    work_left before now works.Memory h = inr (stage_written before.written now.written h)
+
+    pub work_cause : (before now : Device) (stop : WorkStop) (shelf-rose : Type 0) → HasStopped task [] e e' before now stop → HasCause (stop_for_work budget stop) shelf-rose (Rose before.faults now.faults) (request_for task file budget workers) files
+    work_cause before now works.Write shelf-rose h = h.0
+    work_cause before now (works.Spent level) shelf-rose h = own_budget task file budget workers
+    work_cause before now (works.Missing context active) shelf-rose h = tt
+    work_cause before now works.Memory shelf-rose h = tt

@@ -2,10 +2,8 @@
 use Rattle.std.specs.Prelude.{◌≡◌, ◌⊎◌, ℕ, List, [], ◌++◌, codes, Option, Some, None}
 use Rattle.std.specs.Fmt.{decimal}
 use Rattle.mcs_ports.specs.Pieces.{Device, noted}
-use Rattle.mcs_text.specs.declared.unwritten.Unwritten.{Unwritten}
-use Rattle.mcs_text.specs.declared.unwritten.Unwritten.TheVariants as unwritten
-use Rattle.mcs_states.specs.declared.halt.Halt.{Halt}
-use Rattle.mcs_states.specs.declared.halt.Halt.TheVariants as halts
+use Rattle.mcs_work.specs.declared.task.WorkStop.{WorkStop}
+use Rattle.mcs_work.specs.declared.task.WorkStop.TheVariants as works
 use Rattle.mcs_system.specs.declared.limit.Limit.{Limit}
 use Rattle.mcs_system.specs.Limits.{limit_words}
 use Rattle.mcs_faults.specs.declared.fault.TextFault.{TextFault}
@@ -73,15 +71,12 @@ abbrev pub stop_for_text : TextFault → Stop
 stop_for_text (texts.Fault number offset limit) = stops.Refused (refusals.Text number offset limit)
 stop_for_text texts.Memory = stops.Memory
 
-abbrev pub stop_for_line : Unwritten → Stop
-stop_for_line unwritten.Fault = stops.WriteFault
-stop_for_line unwritten.Memory = stops.Memory
-
--- by what an evaluator told within a budget; no oracle of a run can miss
-abbrev pub stop_for_halt : ℕ → Halt → Stop
-stop_for_halt budget (halts.Spent level drawn) = stops.Unfinished level budget
-stop_for_halt budget (halts.Missing context active) = stops.Memory
-stop_for_halt budget halts.Memory = stops.Memory
+-- by what stopped the work within a budget; no oracle of a run can miss
+abbrev pub stop_for_work : ℕ → WorkStop → Stop
+stop_for_work budget works.Write = stops.WriteFault
+stop_for_work budget (works.Spent level) = stops.Unfinished level budget
+stop_for_work budget (works.Missing context active) = stops.Memory
+stop_for_work budget works.Memory = stops.Memory
 
 -- the stop is told by its own status and line
 pub record IsToldAs (stop : Stop) (status : Status) (before now : Device) : Type 0 where

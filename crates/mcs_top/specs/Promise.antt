@@ -1,17 +1,15 @@
 -- What a run promises, by cases of the job.
-use Rattle.std.specs.Prelude.{◌≡◌, ◌⊎◌, ℕ, ◌+◌, ◌≤◌, List, [], ◌∷◌, false, Option, Some, None, slice_get, IfSome, Result, OnOk, IfErr}
-use Rattle.mcs_ports.specs.Causes.{Rose}
-use Rattle.mcs_ports.specs.Pieces.{Device, appended, noted}
+use Rattle.std.specs.Prelude.{◌≡◌, ◌⊎◌, ℕ, ◌+◌, ◌<◌, ◌≤◌, List, [], ◌∷◌, false, Option, Some, None, slice_get, IfSome}
+use Rattle.mcs_ports.specs.Pieces.{appended, noted}
 use Rattle.mcs_text.specs.Writes.{WritesFront}
-use Rattle.mcs_sets.specs.Orders.{StateBefore}
-use Rattle.mcs_base.specs.Listings.{IsListing}
 use Rattle.mcs_system.specs.Plain.{System}
-use Rattle.mcs_system.specs.Levels.{HasQuestions, IsCount}
-use Rattle.mcs_system.specs.Systems.{all_rules, IsProjectedEquilibrium}
+use Rattle.mcs_system.specs.Levels.{HasQuestions}
 use Rattle.mcs_states.specs.Oracles.{OracleState}
 use Rattle.mcs_states.specs.Evaluators.{EvaluatorState}
-use Rattle.mcs_report.specs.Listing.{heading, IsEquilibriaText, IsEquilibriaStage}
-use Rattle.mcs_words.specs.Commands.{Request, equilibria}
+use Rattle.mcs_work.specs.Tasks.{IsTaskText, IsTaskStage, IsTaskUpTo, IsTaken}
+use Rattle.mcs_work.specs.declared.task.Task.{Task}
+use Rattle.mcs_work.specs.declared.task.Task.TheVariants.{Equilibria, Solve}
+use Rattle.mcs_words.specs.Commands.{Word, Request, equilibria, solve}
 use Rattle.mcs_top.specs.Jobs.{File, OfOneFile}
 use Rattle.mcs_top.specs.Texts.{IsTextOf, IsRefusedFor}
 use Rattle.mcs_top.specs.Endings.{refusal_line, unfinished_line, line_of}
@@ -21,55 +19,79 @@ use Rattle.mcs_top.specs.declared.ending.Stop.TheVariants as stops
 use Rattle.mcs_top.specs.declared.status.Status.{Status}
 use Rattle.mcs_top.specs.declared.status.Status.TheVariants as statuses
 
--- ---- a file that is the text of a system
+-- ---- a task within a budget, of a file that is the text of a system
 -- the system has more questions of the level than the budget
 abbrev pub IsBeyond : System → ℕ → ℕ → Type 0
 IsBeyond m level budget = HasQuestions m level (budget + 1)
 
--- the budget suffices for the equilibria of the system that the file spells
-abbrev pub HasSystemWithin : ℕ → List ℕ → Type 0
-HasSystemWithin budget bytes = (m : System) × IsTextOf m bytes × (¬ IsBeyond m 0 budget)
+-- no level of the task has
+abbrev pub Suffices : Task → ℕ → System → Type 0
+Suffices task budget m = (level : ℕ) → IsTaken task m level → ¬ IsBeyond m level budget
 
--- the text is the listing of the equilibria of the system that the file spells, and the budget suffices for it
-abbrev pub ListsEquilibria : List ℕ → ℕ → List ℕ → Type 0
-ListsEquilibria text budget bytes = (m : System) × IsTextOf m bytes × (¬ IsBeyond m 0 budget) × IsEquilibriaText m text
+-- some level has
+pub record IsShort (task : Task) (budget : ℕ) (m : System) : Type 0 where
+  pub level : ℕ
+  pub taken : IsTaken task m level
+  pub beyond : IsBeyond m level budget
 
--- it is a stage of that listing
-abbrev pub ListsEquilibriaUpTo : List ℕ → List ℕ → Type 0
-ListsEquilibriaUpTo text bytes = (m : System) × IsTextOf m bytes × IsEquilibriaStage m text
+-- this level is the least one that has
+pub record IsLeastBeyond (task : Task) (budget level : ℕ) (m : System) : Type 0 where
+  pub taken : IsTaken task m level
+  pub beyond : IsBeyond m level budget
+  pub least : (k : ℕ) → k < level → ¬ IsBeyond m k budget
 
--- the text is the heading of the system that the file spells, which has more questions of the level than the budget
-abbrev pub ListsHeadingBeyond : List ℕ → ℕ → ℕ → List ℕ → Type 0
-ListsHeadingBeyond text level budget bytes = (m : System) × IsTextOf m bytes × IsBeyond m level budget × (text ≡ heading m)
+-- the file spells a system for which this holds
+abbrev pub OfSystem : (System → Type 0) → List ℕ → Type 0
+OfSystem P bytes = (m : System) × IsTextOf m bytes × P m
+
+-- the text of the task for this system, for which the budget suffices
+abbrev pub IsListed : Task → ℕ → List ℕ → System → Type 0
+IsListed task budget text m = Suffices task budget m × IsTaskText task m text
+
+-- what is printed before the level, the least one that has more questions than the budget
+abbrev pub IsListedBefore : Task → ℕ → ℕ → List ℕ → System → Type 0
+IsListedBefore task budget level text m = IsLeastBeyond task budget level m × IsTaskUpTo task m level text
 
 -- ---- by cases of the job; each job to come adds its case here
 -- the most questions of a level that it may ask
 abbrev pub budget_of : Request → ℕ
 budget_of (equilibria file budget workers) = budget
+budget_of (solve file budget workers) = budget
 
 -- what the job prints where it is done
 abbrev pub IsOutput : List ℕ → Request → List File → Type 0
-IsOutput text (equilibria file budget workers) files = OfOneFile (ListsEquilibria text budget) files
+IsOutput text (equilibria file budget workers) files = OfOneFile (OfSystem (IsListed Equilibria budget text)) files
+IsOutput text (solve file budget workers) files = OfOneFile (OfSystem (IsListed Solve budget text)) files
 
 -- a stage of it: what is there once that which it needs was computed
 abbrev pub IsStage : List ℕ → Request → List File → Type 0
-IsStage text (equilibria file budget workers) files = OfOneFile (ListsEquilibriaUpTo text) files
+IsStage text (equilibria file budget workers) files = OfOneFile (OfSystem (λ m. IsTaskStage Equilibria m text)) files
+IsStage text (solve file budget workers) files = OfOneFile (OfSystem (λ m. IsTaskStage Solve m text)) files
 
 -- what the job prints where it stops at this level, the least one that has more questions than the budget
 abbrev pub IsOutputBeyond : List ℕ → ℕ → Request → List File → Type 0
-IsOutputBeyond text level (equilibria file budget workers) files = (level ≡ 0) × OfOneFile (ListsHeadingBeyond text level budget) files
+IsOutputBeyond text level (equilibria file budget workers) files = OfOneFile (OfSystem (IsListedBefore Equilibria budget level text)) files
+IsOutputBeyond text level (solve file budget workers) files = OfOneFile (OfSystem (IsListedBefore Solve budget level text)) files
+
+-- the budget does not suffice: a level that the job takes has more questions
+abbrev pub LacksBudget : Request → List File → Type 0
+LacksBudget (equilibria file budget workers) files = OfOneFile (OfSystem (IsShort Equilibria budget)) files
+LacksBudget (solve file budget workers) files = OfOneFile (OfSystem (IsShort Solve budget)) files
 
 -- why the job is refused
 abbrev pub IsRefusal : Refusal → Request → List File → Type 0
 IsRefusal why (equilibria file budget workers) files = OfOneFile (IsRefusedFor why) files
+IsRefusal why (solve file budget workers) files = OfOneFile (IsRefusedFor why) files
 
 -- a file that it reads is not there
 abbrev pub LacksFile : Request → List File → Type 0
 LacksFile (equilibria file budget workers) files = files ≡ None ∷ []
+LacksFile (solve file budget workers) files = files ≡ None ∷ []
 
 -- nothing but memory and the devices stands in its way
 abbrev pub CanBeDone : Request → List File → Type 0
-CanBeDone (equilibria file budget workers) files = OfOneFile (HasSystemWithin budget) files
+CanBeDone (equilibria file budget workers) files = OfOneFile (OfSystem (Suffices Equilibria budget)) files
+CanBeDone (solve file budget workers) files = OfOneFile (OfSystem (Suffices Solve budget)) files
 
 -- ---- what a run did
 -- the output of the job was added to what was written
@@ -135,32 +157,11 @@ LeavesText stops.ReadFault job files before now = now ≡ before
 LeavesText stops.WriteFault job files before now = IfSome files (WritesStage before now job)
 LeavesText stops.Memory job files before now = (now ≡ before) ⊎ IfSome files (WritesStage before now job)
 
--- why printing the equilibria of the system stopped, and what was written of them
-abbrev pub StopsPrinting : System → ℕ → Device → Device → Stop → Type 0
-StopsPrinting m budget before now stops.Usage = ⊥
-StopsPrinting m budget before now (stops.Refused why) = ⊥
-StopsPrinting m budget before now stops.ReadFault = ⊥
-StopsPrinting m budget before now (stops.Unfinished level most) = (level ≡ 0) × (most ≡ budget) × IsBeyond m 0 budget × (now.written ≡ appended before.written (heading m))
-StopsPrinting m budget before now stops.WriteFault = Rose before.faults now.faults × ((text : List ℕ) × IsEquilibriaStage m text × WritesFront text before.written now.written)
-StopsPrinting m budget before now stops.Memory = (text : List ℕ) × IsEquilibriaStage m text × WritesFront text before.written now.written
-
--- the listing of the equilibria was written within the budget, or it stopped; nothing else was changed
-pub record PrintsEquilibria (m : System) (budget : ℕ) (before now : Device) (result : Result (Unit {0}) Stop) : Type 0 where
-  pub later : before.faults ≤ now.faults
-  pub notes : now.notes ≡ before.notes
-  pub whole : OnOk result ((text : List ℕ) × IsEquilibriaText m text × (¬ IsBeyond m 0 budget) × (now.written ≡ appended before.written text))
-  pub stop : IfErr result (StopsPrinting m budget before now)
-
--- ---- the equilibria, as they are found
--- these are the equilibria, and so many questions were asked, within the budget
-pub record AreFound (m : System) (budget : ℕ) (states : List ℕ) (asked : ℕ) : Type 0 where
-  pub listing : IsListing (IsProjectedEquilibrium m (all_rules m) 0) StateBefore states
-  pub count : IsCount m 0 asked
-  pub within : ¬ IsBeyond m 0 budget
-
--- they were not, since the budget is too small or memory ran out
-abbrev pub AreNotFound : System → ℕ → Stop → Type 0
-AreNotFound m budget stop = (stop ≡ stops.Memory) ⊎ ((stop ≡ stops.Unfinished 0 budget) × IsBeyond m 0 budget)
+-- ---- the work on the system of a file
+-- the request of a task
+abbrev pub request_for : Task → Word → ℕ → ℕ → Request
+request_for Equilibria file budget workers = equilibria file budget workers
+request_for Solve file budget workers = solve file budget workers
 
 -- an evaluator of the system that was asked nothing, whose oracles never miss
 pub record IsNewMesh (m : System) (budget : ℕ) (e : EvaluatorState) : Type 0 where

@@ -1,11 +1,11 @@
 //! The one call that the program makes.
 
-ghost use Rattle.std.specs.Prelude.{◌≡◌, ◌≤◌, ◌⊎◌, ℕ, List};
+ghost use Rattle.std.specs.Prelude.{◌≡◌, ◌≤◌, ◌⊎◌};
 ghost use Rattle.mcs_ports.specs.Causes.{Rose};
 ghost use Rattle.mcs_words.specs.Commands.{Request, IsJobOf};
 ghost use Rattle.mcs_words.specs.Reading.{texts_of};
 ghost use Rattle.mcs_top.specs.Jobs.{OfJob, IfJob};
-ghost use Rattle.mcs_top.specs.Promise.{IsRefusal, IsOutputBeyond, LacksFile, CanBeDone, WritesOutput, WritesStage, StopsBeyond, TellsRefusal, Notes, IsUnlessMemory};
+ghost use Rattle.mcs_top.specs.Promise.{IsRefusal, LacksBudget, LacksFile, CanBeDone, WritesOutput, WritesStage, StopsBeyond, TellsRefusal, Notes, IsUnlessMemory};
 ghost use Rattle.mcs_top.specs.declared.ending.Refusal.{Refusal};
 
 use crate::ending::tell;
@@ -16,7 +16,8 @@ use mcs_words::read_words;
 use std::alloc::Global;
 
 /// Does what the words ask for: `equilibria FILE` prints the projected equilibria of the system whose text
-/// FILE holds, each once, in the order of states. `words` are the words after the program's name.
+/// FILE holds, each once, in the order of states; `solve FILE` its minimal diagnoses and its minimal explanations too,
+/// in the order of pairs. `words` are the words after the program's name.
 ///
 /// Answers the status; for each but `Done` one line is noted. Nothing is written but the listing, or a
 /// front of it.
@@ -46,12 +47,12 @@ pub fn run<H: Shelf, K: Sink, G: Gate>(
     ensures missing { IfJob (texts_of words.now) (H.held shelf.old) (λ job files.
         LacksFile job files → IsUnlessMemory Status.ReadFault result) }
 
-    // A job stops at a level exactly where that has more questions than the budget; what is printed up to there was
-    // written, and the level is noted.
+    // A job stops exactly where a level that it takes has more questions than the budget; what is printed before the
+    // least one was written, and that level is noted.
     ensures beyond { result ≡ Status.Unfinished → OfJob (texts_of words.now) (H.held shelf.old)
         (StopsBeyond (K.device sink.old).written (K.device sink.new).written (K.device sink.old).notes (K.device sink.new).notes) }
     ensures spent { IfJob (texts_of words.now) (H.held shelf.old) (λ job files.
-        (text : List ℕ) (level : ℕ) → IsOutputBeyond text level job files → ¬ Rose (H.faults shelf.old) (H.faults shelf.new)
+        LacksBudget job files → ¬ Rose (H.faults shelf.old) (H.faults shelf.new)
         → ¬ Rose (K.device sink.old).faults (K.device sink.new).faults → IsUnlessMemory Status.Unfinished result) }
 
     // `Done` comes where the whole output of the job was written.

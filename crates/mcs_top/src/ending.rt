@@ -1,17 +1,16 @@
 //! Why a run stops before its end, and the line that it notes then.
 
 ghost use Rattle.std.specs.Prelude.{◌≡◌, ◌++◌, OnOk};
-ghost use Rattle.mcs_top.specs.Endings.{line_of, refusal_line, unfinished_line, fault_line, told_limit, status_of, stop_for_words, stop_for_text, stop_for_line, stop_for_halt, IsTold, IsToldAs};
+ghost use Rattle.mcs_top.specs.Endings.{line_of, refusal_line, unfinished_line, fault_line, told_limit, status_of, stop_for_words, stop_for_text, stop_for_work, IsTold, IsToldAs};
 ghost use Rattle.mcs_top.specs.declared.ending.Stop.TheVariants as stops;
 
 use crate::status::Status;
 use mcs_base::{Memory, Text};
 use mcs_language::TextFault;
 use mcs_ports::Sink;
-use mcs_states::Halt;
 use mcs_system::Limit;
-use mcs_text::Unwritten;
 use mcs_words::WordsFault;
+use mcs_work::WorkStop;
 use std::alloc::Global;
 
 /// Why a file is refused.
@@ -77,24 +76,14 @@ impl From<TextFault> for Stop {
     }
 }
 
-impl From<Unwritten> for Stop {
-    ghost from_gives = { λ why stop. stop ≡ stop_for_line why };
-
-    fn from(why: Unwritten) -> Stop {
-        match why {
-            Unwritten::Fault => Stop::WriteFault,
-            Unwritten::Memory => Stop::Memory,
-        }
-    }
-}
-
-/// Why a run stops whose evaluator halted so, within this budget. No oracle of a run can miss.
-pub(crate) fn stop_for_halt(halt: Halt, budget: u64) -> Stop
-    ensures { result ≡ stop_for_halt budget halt }
+/// Why a run stops whose work stopped so, within this budget. No oracle of a run can miss.
+pub(crate) fn stop_for_work(stop: WorkStop, budget: u64) -> Stop
+    ensures { result ≡ stop_for_work budget stop }
 {
-    match halt {
-        Halt::Spent { level, .. } => Stop::Unfinished { level, budget },
-        Halt::Missing { .. } | Halt::Memory => Stop::Memory,
+    match stop {
+        WorkStop::Write => Stop::WriteFault,
+        WorkStop::Spent { level } => Stop::Unfinished { level, budget },
+        WorkStop::Missing { .. } | WorkStop::Memory => Stop::Memory,
     }
 }
 

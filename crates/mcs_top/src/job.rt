@@ -3,20 +3,19 @@
 ghost use Rattle.std.specs.Prelude.{◌≡◌, ◌≤◌, [], ◌∷◌, ℕ, length, IfSome, IfOk, OnOk, IfErr};
 ghost use Rattle.std.specs.Arc.{arc_value};
 ghost use Rattle.mcs_ports.specs.Causes.{Rose};
-ghost use Rattle.mcs_words.specs.Commands.{equilibria};
 ghost use Rattle.mcs_words.specs.Reading.{request_of};
 ghost use Rattle.mcs_top.specs.Jobs.{told_all, files_in, OfOneFile};
 ghost use Rattle.mcs_top.specs.Texts.{most_text_bytes, IsTextOf, StopsReading, StopsText};
-ghost use Rattle.mcs_top.specs.Promise.{HasCause, LeavesText, WritesOutput, PrintsEquilibria};
+ghost use Rattle.mcs_top.specs.Promise.{HasCause, LeavesText, WritesOutput, request_for};
 
-use crate::ending::{Refusal, Stop};
-use crate::equilibria::find_equilibria;
-use crate::printing::{print_heading, print_listing};
+use crate::ending::{Refusal, Stop, stop_for_work};
+use crate::evaluator::mesh_of;
 use mcs_base::Memory;
 use mcs_language::read_system;
 use mcs_ports::{Gate, ReadAnswer, Shelf, Sink, read_whole};
 use mcs_system::System;
 use mcs_words::Job;
+use mcs_work::{Task, work};
 use std::alloc::Global;
 use std::sync::Arc;
 
@@ -45,14 +44,18 @@ pub(crate) fn do_job<H: Shelf, K: Sink, G: Gate>(
 {
     match job {
         Job::Equilibria { file, budget, .. } => {
-            list_equilibria(alloc, file, *budget, shelf, sink, gate)
+            evaluate(alloc, Task::Equilibria, file, *budget, shelf, sink, gate)
+        }
+        Job::Solve { file, budget, .. } => {
+            evaluate(alloc, Task::Solve, file, *budget, shelf, sink, gate)
         }
     }
 }
 
-/// Prints the equilibria of the system whose text the file holds, within a budget of questions.
-fn list_equilibria<H: Shelf, K: Sink, G: Gate>(
+/// Does the task for the system whose text the file holds, within a budget of questions.
+fn evaluate<H: Shelf, K: Sink, G: Gate>(
     alloc: Global,
+    task: Task,
     file: &str,
     budget: u64,
     shelf: &mut H,
@@ -63,16 +66,22 @@ fn list_equilibria<H: Shelf, K: Sink, G: Gate>(
     ensures sink_later { (K.device sink.old).faults ≤ (K.device sink.new).faults }
     ensures notes { (K.device sink.new).notes ≡ (K.device sink.old).notes }
     ensures ok { (workers : ℕ) → OnOk result (IfSome (told_all (H.held shelf.old) (file.now ∷ []))
-        (WritesOutput (K.device sink.old).written (K.device sink.new).written (equilibria file.now budget workers))) }
+        (WritesOutput (K.device sink.old).written (K.device sink.new).written (request_for task file.now budget workers))) }
     ensures cause { (workers : ℕ) → IfErr result (λ stop. HasCause stop
         (Rose (H.faults shelf.old) (H.faults shelf.new)) (Rose (K.device sink.old).faults (K.device sink.new).faults)
-        (equilibria file.now budget workers) (told_all (H.held shelf.old) (file.now ∷ []))) }
+        (request_for task file.now budget workers) (told_all (H.held shelf.old) (file.now ∷ []))) }
     ensures leaves { (workers : ℕ) → IfErr result (λ stop. LeavesText stop
-        (equilibria file.now budget workers) (told_all (H.held shelf.old) (file.now ∷ []))
+        (request_for task file.now budget workers) (told_all (H.held shelf.old) (file.now ∷ []))
         (K.device sink.old).written (K.device sink.new).written) }
 {
     let system = shared(alloc, system_in(alloc, file, shelf)?)?;
-    print_equilibria(alloc, &system, budget, sink, gate)
+    let mesh = mesh_of(alloc, &system, budget, gate)?;
+    let (worked, mesh) = work(alloc, mesh, system, task, sink);
+    drop(mesh);
+    match worked {
+        Ok(()) => Ok(()),
+        Err(stop) => Err(stop_for_work(stop, budget)),
+    }
 }
 
 /// The system, to be shared by what asks its contexts.
@@ -80,22 +89,6 @@ fn shared(alloc: Global, system: System) -> Result<Arc<System>, Memory>
     ensures { IfOk result (λ shared. arc_value shared ≡ system) }
 {
     Ok(Arc::new(alloc, system)?)
-}
-
-/// Prints the equilibria of the system: the heading before the first question, then the rest of the listing.
-fn print_equilibria<K: Sink, G: Gate>(
-    alloc: Global,
-    system: &Arc<System>,
-    budget: u64,
-    sink: &mut K,
-    gate: &G,
-) -> Result<(), Stop>
-    ensures { PrintsEquilibria (arc_value system.now) budget (K.device sink.old) (K.device sink.new) result }
-{
-    print_heading(alloc, system, sink)?;
-    let found = find_equilibria(alloc, system, budget, gate)?;
-    print_listing(alloc, system, &found.states, found.asked, sink)?;
-    Ok(())
 }
 
 /// The system whose text the file holds.

@@ -1,14 +1,13 @@
-//! The evaluator's one call: from the words of the command line and the bytes of a file to the printed
-//! list of equilibria.
+//! The program's one call: from the words of the command line and the bytes of a file to the printed listing.
 #![tactic(auto)]
 
 mod command;
 mod ending;
-mod equilibria;
+mod evaluator;
 mod job;
-mod printing;
 mod status;
 
 pub use command::run;
 pub use ending::note_want_of_memory;
+pub use mcs_work::{Task, WorkStop, work};
 pub use status::Status;

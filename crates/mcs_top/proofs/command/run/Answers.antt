@@ -1,7 +1,7 @@
-use Rattle.std.proofs.Common.{◌≡◌, ◌∙◌, ℕ, List, inl, inr, sym}
+use Rattle.std.proofs.Common.{◌≡◌, ◌∙◌, inl, inr, sym}
 use Rattle.mcs_ports.specs.Causes.{Rose}
 use Rattle.mcs_words.specs.Reading.{request_of}
-use Rattle.mcs_top.specs.Promise.{IsRefusal, IsOutputBeyond, LacksFile, CanBeDone, IsUnlessMemory}
+use Rattle.mcs_top.specs.Promise.{IsRefusal, LacksBudget, LacksFile, CanBeDone, IsUnlessMemory}
 use Rattle.mcs_top.specs.declared.ending.Refusal.{Refusal}
 use Rattle.mcs_top.specs.declared.status.Status.TheVariants as statuses
 use Rattle.mcs_top.proofs.JobLemmas.{if_job}
@@ -56,7 +56,7 @@ returns-in-Ok-do_job-clause-missing g c =
 pub returns-in-Ok-do_job-clause-spent : goal.returns-in-Ok-do_job-clause-spent
 returns-in-Ok-do_job-clause-spent g c =
     if_job _ (request_of c.in-Ok.job) c.in-Ok.ensures (g.H.Shelf.held c.args.shelf.now)
-    (λ job files. (text : List ℕ) (level : ℕ) → IsOutputBeyond text level job files → ¬ Rose (g.H.Shelf.faults c.args.shelf.now) (g.H.Shelf.faults c.do_job.new.shelf) → ¬ Rose (g.K.Sink.device c.args.sink.now).faults (g.K.Sink.device c.do_job.new.sink).faults → IsUnlessMemory statuses.Unfinished statuses.Done)
+    (λ job files. LacksBudget job files → ¬ Rose (g.H.Shelf.faults c.args.shelf.now) (g.H.Shelf.faults c.do_job.new.shelf) → ¬ Rose (g.K.Sink.device c.args.sink.now).faults (g.K.Sink.device c.do_job.new.sink).faults → IsUnlessMemory statuses.Unfinished statuses.Done)
     (done_spends statuses.Done (request_of c.in-Ok.job) _ _ _ _ _ c.in-Ok-do_job.ensures.ok)
 
 -- ---- a job that stopped
@@ -82,7 +82,7 @@ returns-clause-complete g c =
 pub returns-clause-spent : goal.returns-clause-spent
 returns-clause-spent g c =
     if_job _ (request_of c.in-Ok.job) c.in-Ok.ensures (g.H.Shelf.held c.args.shelf.now)
-    (λ job files. (text : List ℕ) (level : ℕ) → IsOutputBeyond text level job files → ¬ Rose (g.H.Shelf.faults c.args.shelf.now) (g.H.Shelf.faults c.do_job.new.shelf) → ¬ Rose (g.K.Sink.device c.args.sink.now).faults (g.K.Sink.device c.tell-in-Err-do_job.new.sink).faults → IsUnlessMemory statuses.Unfinished c.tell-in-Err-do_job.result)
+    (λ job files. LacksBudget job files → ¬ Rose (g.H.Shelf.faults c.args.shelf.now) (g.H.Shelf.faults c.do_job.new.shelf) → ¬ Rose (g.K.Sink.device c.args.sink.now).faults (g.K.Sink.device c.tell-in-Err-do_job.new.sink).faults → IsUnlessMemory statuses.Unfinished c.tell-in-Err-do_job.result)
     (rw c.tell-in-Err-do_job.ensures.faults (stop_spends c.in-Err-do_job.stop c.tell-in-Err-do_job.result _ _ c.tell-in-Err-do_job.ensures.told _ _ (request_of c.in-Ok.job) _ c.in-Err-do_job.ensures.cause _ _ c.in-Err-do_job.ensures.leaves))
 
 pub returns-clause-out_of_memory : goal.returns-clause-out_of_memory

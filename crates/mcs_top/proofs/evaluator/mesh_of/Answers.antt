@@ -1,8 +1,8 @@
 use Rattle.std.proofs.Common.{◌∙◌, ap, sym, length}
 use Rattle.mcs_states.specs.Oracles.{OracleState}
 use Rattle.mcs_system.specs.Plain.{System}
-use Rattle.mcs_top.proofs.EquilibriumLemmas.{solvers_each, solver_seen, new_mesh}
-use Rattle.mcs_top.proofs.equilibria.mesh_of.Goals as goal
+use Rattle.mcs_top.proofs.EvaluatorLemmas.{solvers_each, solver_seen, new_mesh}
+use Rattle.mcs_top.proofs.evaluator.mesh_of.Goals as goal
 
 pub new-requires-2-clause-one_each : goal.new-requires-2-clause-one_each
 new-requires-2-clause-one_each g c = solvers_each _ _ c.in_ok-solvers.ensures ∙ sym (ap (λ (m : System). length m.contexts) (c.in_ok-plan.ensures.ok ∙ (c.in_ok-of.ensures ∙ c.in_ok-clone.ensures.cases)))

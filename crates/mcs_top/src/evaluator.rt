@@ -1,0 +1,42 @@
+//! The evaluator of a run: each context is asked by a solver of its own, and a mesh joins what they answer.
+
+ghost use Rattle.std.specs.Prelude.{◌≡◌, [], map, length, IfOk};
+ghost use Rattle.std.specs.Arc.{arc_value};
+ghost use Rattle.mcs_solver.specs.Solvers.{solver_of};
+ghost use Rattle.mcs_top.specs.Promise.{IsNewMesh};
+ghost use Rattle.std.specs.List.{range_with_len};
+
+use mcs_base::Memory;
+use mcs_import::Plan;
+use mcs_mesh::Mesh;
+use mcs_ports::Gate;
+use mcs_solver::LocalSolver;
+use mcs_system::System;
+use std::alloc::Global;
+use std::sync::Arc;
+
+/// An evaluator of the system, with a solver for each context.
+pub(crate) fn mesh_of<'g, G: Gate>(
+    alloc: Global,
+    system: &Arc<System>,
+    budget: u64,
+    gate: &'g G,
+) -> Result<Mesh<'g, LocalSolver, G>, Memory>
+    ensures { IfOk result (λ mesh. IsNewMesh (arc_value system.now) budget mesh) }
+{
+    let plan = Arc::new(alloc, Plan::of(alloc, system.clone()?)?)?;
+    let solvers = solvers_of(alloc, system)?;
+    Mesh::new(alloc, plan, solvers, budget, gate)
+}
+
+/// A solver for each context of the system, in order.
+fn solvers_of(alloc: Global, system: &Arc<System>) -> Result<Vec<LocalSolver>, Memory>
+    ensures { IfOk result (λ solvers.
+        solvers.items ≡ map (λ i. solver_of (arc_value system.now) i []) (range_with_len 0 (length (arc_value system.now).contexts))) }
+{
+    let mut solvers = Vec::new(alloc);
+    for context in 0..system.contexts().len() as u32 {
+        solvers.push(LocalSolver::new(alloc, system.clone()?, context))?;
+    }
+    Ok(solvers)
+}
