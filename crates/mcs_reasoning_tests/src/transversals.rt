@@ -1,7 +1,9 @@
 //! Minimal transversals: worked rows, and lists against the plain definition.
 
 use mcs_base::{Marks, Memory, list_pairs};
-use mcs_transversal::{critical, minimal_transversals, minimality_is_critical};
+use mcs_transversal::{
+    critical, first_critical_edges, minimal_transversals, minimality_is_critical,
+};
 use std::alloc::Global;
 use std::test::Fail;
 
@@ -62,12 +64,26 @@ fn are_told(edges: &[Marks], shared: Marks, own: Marks) -> bool {
         && critical(edges, shared, 130) == None
 }
 
+/// Whether they are told for all marks at once.
+fn are_told_at_once(edges: &[Marks], shared: Marks, own: Marks) -> bool {
+    let (of_shared, of_own) = (
+        first_critical_edges(edges, shared),
+        first_critical_edges(edges, own),
+    );
+    of_own[0] == Some(0)
+        && of_own[2] == None
+        && of_own[4] == Some(1)
+        && of_shared[0] == None
+        && of_shared[2] == Some(0)
+}
+
 #[test]
 fn two_edges_that_share_a_mark(rt: HostRuntime) -> Result<(), Fail> {
     let edges = [set_of(&[0, 2]), set_of(&[2, 4])];
     let (shared, own) = (set_of(&[2]), set_of(&[0, 4]));
     assert!(rt; are_minimal(rt.alloc(), &edges, &[shared, own])?);
     assert!(rt; are_told(&edges, shared, own));
+    assert!(rt; are_told_at_once(&edges, shared, own));
     minimality_is_critical();
     Ok(())
 }
