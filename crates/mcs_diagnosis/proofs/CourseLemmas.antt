@@ -22,15 +22,12 @@ consistent_found m level ds e f c none =
     let among : IsAmong 0 (pairs_of ds) = (f.listed.exactly 0).1 ((consistent_minimal m c.equilibrium c.balanced 0).1 refl, size-none ∙ sym e) in
     subst (λ (xs : List code.Diagnosis). IsAmong 0 (pairs_of xs)) none among
 
-pub at_most : (a b : ℕ) → ¬ (a < b) → b ≤ a
-at_most a b not = omega (arith, not)
-
 next_course : (e e' : EvaluatorState) (system : System) (level : ℕ) (was now : Bool) → IsCourse e system level was → KeepsRest e e' → ¬ IsPast system level
     → (now ≡ true → IsConsistent system) → (IsConsistent system → now ≡ true) → IsCourse e' system (level + 1) now
 next_course e e' system level was now c rest not_past knows tells = record {
   same = rest.system ∙ c.same;
   few = c.few;
-  within = let last : level ≤ length system.bridges = at_most (length system.bridges) level (λ more. not_past (inl more)) in omega arith;
+  within = let last : level ≤ length system.bridges = (let within : ¬ (length system.bridges < level) = λ more. not_past (inl more) in omega (arith, within)) in omega arith;
   knows = knows;
   tells = λ _ h. tells h;
 }

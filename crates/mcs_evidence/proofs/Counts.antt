@@ -23,17 +23,9 @@ use Rattle.mcs_system.specs.Levels.{IsQuestionAt}
 use Rattle.mcs_import.proofs.OrderLemmas.{import_order_exists, import_order_is_one, order_in_range, before_each}
 use Rattle.mcs_laws.proofs.Existence.{DecidesParts}
 use Rattle.mcs_system.proofs.ContextSets.{states_known}
-use Rattle.mcs_evidence.proofs.Decided.{cases_all, cases_implies, cases_some_below, cases_true}
+use Rattle.mcs_base.proofs.Deciding.{cases_all, cases_both, cases_implies, cases_le, cases_some_below, cases_true}
 use Rattle.mcs_evidence.proofs.SystemListings.{parts_decided}
 use Rattle.mcs_evidence.specs.Laws.{CountsExist, JournalsAreCounted}
-
-cases_both : {P Q : Type 0} → P ⊎ (¬ P) → Q ⊎ (¬ Q) → (P × Q) ⊎ (¬ (P × Q))
-cases_both (inl p) (inl q) = inl (p, q)
-cases_both (inl p) (inr never) = inr (λ h. never h.1)
-cases_both (inr never) d = inr (λ h. never h.0)
-
-cases_le : (a b : ℕ) → (a ≤ b) ⊎ (¬ (a ≤ b))
-cases_le a b = elim (cases_lt b a) [ inl less ↦ inr (λ h. omega (arith, less, h)) | inr most ↦ inl (omega (arith, most)) ]
 
 part_cases : (m : System) (i x τ : ℕ) → i < length m.contexts → IsAcceptedPart m i x τ ⊎ (¬ IsAcceptedPart m i x τ)
 unfolding DecidesParts

@@ -25,10 +25,6 @@ AreOfKind (Classical formulas) fs = Unit {0}
 AreOfKind (DefaultTheory items) fs = Unit {0}
 
 -- ---- clauses that are kept
--- those of some formulas were added
-abbrev pub HasMore : List Name → ClauseList → ClauseList → Type 0
-HasMore names old new = (fs : List Formula) × (new ≡ with_formulas names old fs)
-
 -- if the clauses are those of formulas over the names, these accept this view alone with the heads
 abbrev pub IsOnlyView : List Name → ClauseList → List Formula → List Formula → ℕ → Type 0
 IsOnlyView names known heads beliefs view = (fs : List Formula) → known ≡ clause_list names fs → AreOver names fs
