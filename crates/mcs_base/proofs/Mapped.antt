@@ -1,6 +1,6 @@
 -- The images of a list, by what is read at an index.
-use Rattle.std.proofs.Common.{◌≡◌, ℕ, ◌+◌, ◌<◌, List, [], ◌∷◌, map, length, drop, get_or, slice_get, Some, sym, ap, ◌∙◌, subst}
-use Rattle.std.proofs.lemmas.List.{drop_more}
+use Rattle.std.proofs.Common.{◌≡◌, ℕ, ◌+◌, ◌<◌, List, [], ◌∷◌, ◌++◌, map, length, drop, get_or, slice_get, Some, sym, ap, ◌∙◌, subst}
+use Rattle.std.proofs.lemmas.List.{drop_more, map_push}
 use Rattle.std.specs.List.{AllByRecursion}
 use Rattle.mcs_base.proofs.Each.{all_get}
 use Rattle.mcs_base.proofs.Lists.{slice_get-map_at}
@@ -23,6 +23,10 @@ module _ {A B : Type 0} where
   -- the images from an index on
   pub map-drop_more : (f : A → B) (xs : List A) (i : ℕ) (x : A) → i < length xs → x ≡ get_or xs i x → map f (drop i xs) ≡ f x ∷ map f (drop (i + 1) xs)
   map-drop_more f xs i x less is = ap (map f) (drop_more xs i x less) ∙ ap (λ y. f y ∷ map f (drop (i + 1) xs)) (sym is)
+
+  -- those of a list that is one with one more
+  pub map_push_as : (f : A → B) (xs ys : List A) (x : A) → ys ≡ xs ++ x ∷ [] → map f ys ≡ map f xs ++ f x ∷ []
+  map_push_as f xs ys x e = ap (map f) e ∙ map_push f xs x
 
 pub all_drop_parts : {A : Type 0} (P : A → Type 0) (xs : List A) (i : ℕ) (x : A) → i < length xs → x ≡ get_or xs i x → AllByRecursion P (drop i xs) → P x × AllByRecursion P (drop (i + 1) xs)
 all_drop_parts P xs i x less is all = subst (AllByRecursion P) (drop_more xs i x less ∙ ap (λ y. y ∷ drop (i + 1) xs) (sym is)) all

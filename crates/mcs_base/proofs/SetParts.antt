@@ -1,5 +1,5 @@
 -- Sets by their parts and what they miss.
-use Rattle.std.proofs.Common.{◌≡◌, ℕ, ◌+◌, ◌<◌, ◌≤◌, ◌^◌, Bool, true, false, not, ◌&&◌, ◌||◌, cond, eqb, ltb, [], ◌∷◌, ◌++◌, refl, sym, ap, ◌∙◌, subst, inl, inr, ◌⊎◌, arith, true≢false}
+use Rattle.std.proofs.Common.{◌≡◌, ℕ, ◌+◌, ◌<◌, ◌≤◌, ◌^◌, Bool, true, false, not, ◌&&◌, ◌||◌, cond, eqb, ltb, List, [], ◌∷◌, ◌++◌, refl, sym, ap, ◌∙◌, subst, inl, inr, ◌⊎◌, arith, true≢false}
 use Rattle.std.proofs.lemmas.Bool.{and_parts}
 use Rattle.std.proofs.lemmas.Bool.Decides.{nat_tests}
 use Rattle.std.proofs.Math.Bool.{or_assoc}
@@ -75,6 +75,9 @@ minus_is_less set left part some same = some (none_from_no_member left (λ k. at
         absurd (true≢false (sym (part k is) ∙ ap (λ (s : ℕ). has s k) (sym same) ∙ out))
 
 -- ---- sets of numbers below a bound
+abbrev pub AreBelow : ℕ → List ℕ → Type 0
+AreBelow n ks = AllByRecursion (λ k. k < n) ks
+
 pub below_from_fewer : (n w s : ℕ) → n ≤ w → Within s (such_that n (λ k. true)) → s < 2 ^ w
 below_from_fewer n w s few within = below_from_within s w (λ k member. wide k (has-such_that n (λ k. true) k) (within k member))
   where
@@ -87,7 +90,7 @@ below_from_fewer n w s few within = below_from_within s w (λ k member. wide k (
 pub minus_below : (set left n w : ℕ) → n ≤ w → Within set (such_that n (λ k. true)) → minus set left < 2 ^ w
 minus_below set left n w few within = omega (arith, minus-le set left, below_from_fewer n w set few within)
 
-pub members_below_all : (s n : ℕ) → Within s (such_that n (λ k. true)) → AllByRecursion (λ k. k < n) (members s)
+pub members_below_all : (s n : ℕ) → Within s (such_that n (λ k. true)) → AreBelow n (members s)
 members_below_all s n within = members_all_below s n (omega (arith, Within-le s _ within, such_that-lt n (λ k. true)))
 
 pub members_from-more : (s i : ℕ) (b : Bool) → has s i ≡ b → members_from 0 (i + 1) s ≡ members_from 0 i s ++ cond b (i ∷ []) []

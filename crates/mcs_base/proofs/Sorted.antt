@@ -1,11 +1,14 @@
--- Of lists in order and of listings: fronts, what comes after, the first one; and what is minimal, by what there is.
-use Rattle.std.proofs.Common.{◌≡◌, ℕ, ◌<◌, ◌≤◌, zero, suc, List, [], ◌∷◌, length, take, get_or, arith, refl, sym, subst, inl, inr, ◌⊎◌, ◌↔◌}
+-- Of lists in order and of listings: fronts, what comes after, the first one, how long they are; and what is minimal, by what there is.
+use Rattle.std.proofs.Common.{◌≡◌, ℕ, ◌<◌, ◌≤◌, zero, suc, true, eqb, List, [], ◌∷◌, filter, length, take, get_or, arith, refl, sym, subst, inl, inr, ◌⊎◌, ◌↔◌}
+use Rattle.std.proofs.lemmas.Bool.Decides.{nat_tests}
 use Rattle.std.specs.List.{AllByRecursion}
-use Rattle.mcs_base.specs.Listings.{IsAmong, IsAscending, IsListing}
+use Rattle.mcs_sets.specs.Sets.{size}
+use Rattle.mcs_base.specs.Listings.{IsAmong, IsAscending, IsInventory, IsListing}
 use Rattle.mcs_base.specs.Minimal.{IsMinimal}
 use Rattle.mcs_base.proofs.Among.{take_among}
 use Rattle.mcs_base.proofs.Each.{all_among, all_from_among, all_weaker}
-use Rattle.mcs_base.proofs.ListingLemmas.{minimal_same}
+use Rattle.mcs_base.proofs.Distinct.{distinct_fits, ascending_distinct}
+use Rattle.mcs_base.proofs.ListingLemmas.{IsListing-filter, IsListing-same, minimal_same}
 
 module _ {A : Type 0} (before : A → A → Type 0) where
   pub ascending_take : (xs : List A) (k : ℕ) → IsAscending before xs → IsAscending before (take k xs)
@@ -28,5 +31,23 @@ module _ {A : Type 0} (before : A → A → Type 0) where
   first_is_one P xs [] x same some is l = absurd (omega arith)
   first_is_one P xs (y ∷ ys) x same some is l = subst P (sym is) ((l.exactly y).0 (subst (IsAmong y) same (inl refl)))
 
+-- ---- those with so many members
+abbrev pub of_size : ℕ → List ℕ → List ℕ
+of_size n sets = filter (λ s. eqb (size s) n) sets
+
+pub IsListing-of_size : (P : ℕ → Type 0) (before : ℕ → ℕ → Type 0) (n : ℕ) (xs : List ℕ) → IsListing (λ s. P s × (size s ≤ n)) before xs → IsListing (λ s. P s × (size s ≡ n)) before (of_size n xs)
+IsListing-of_size P before n xs l = IsListing-same before _ _ (of_size n xs) (λ s. (
+  λ h. (h.0.0, let is : eqb (size s) n ≡ true = h.1 in grind (arith, nat_tests)),
+  λ h. ((h.0, omega (arith, h.1)), let e = h.1 in let is : eqb (size s) n ≡ true = grind (arith, nat_tests) in is),
+)) (IsListing-filter before _ (λ s. eqb (size s) n) xs l)
+
+-- ---- what is minimal, and how long lists are
 pub minimal_iff : (P Q : ℕ → Type 0) → ((s : ℕ) → P s ↔ Q s) → (s : ℕ) → IsMinimal P s ↔ IsMinimal Q s
 minimal_iff P Q same s = (minimal_same P Q same s, minimal_same Q P (λ t. ((same t).1, (same t).0)) s)
+
+-- an inventory is as long as a listing of the same
+pub inventory_fits : (xs ys : List ℕ) → IsInventory (λ x. IsAmong x ys) xs → IsAscending (λ a b. a < b) ys → length xs ≡ length ys
+inventory_fits xs ys inventory up =
+    let most = distinct_fits xs ys inventory.apart (λ x h. (inventory.exactly x).0 h) in
+    let least = distinct_fits ys xs (ascending_distinct ys up) (λ x h. (inventory.exactly x).1 h) in
+    omega (arith, most, least)

@@ -6,12 +6,11 @@ use Rattle.mcs_base.specs.Listings.{IsAmong}
 use Rattle.mcs_system.specs.Plain.{System}
 use Rattle.mcs_system.specs.Repairs.{IsDiagnosis}
 use Rattle.mcs_system.specs.Systems.{IsConsistent}
-use Rattle.mcs_laws.proofs.Choices.{consistent_minimal}
+use Rattle.mcs_laws.proofs.Choices.{consistent_minimal, consistent_where_nothing}
 use Rattle.mcs_states.specs.Evaluators.{EvaluatorState, KeepsRest}
 use Rattle.mcs_diagnosis.specs.declared.diagnosis.Diagnosis as code
 use Rattle.mcs_diagnosis.specs.Courses.{Course, IsCourse, IsPast}
 use Rattle.mcs_diagnosis.specs.Diagnoses.{AreFound, pairs_of}
-use Rattle.mcs_diagnosis.proofs.General.{consistent_where_nothing}
 
 pub found_consistent : (m : System) (level : ℕ) (ds : List code.Diagnosis) → level ≡ 0 → AreFound m level ds → ds ≢ [] → IsConsistent m
 found_consistent m level [] e f some = absurd (some refl)

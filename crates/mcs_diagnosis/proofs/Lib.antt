@@ -1,4 +1,2 @@
-pub mod General
-pub mod Filtered
 pub mod FoundLemmas
 pub mod CourseLemmas

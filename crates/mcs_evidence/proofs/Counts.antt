@@ -14,7 +14,7 @@ use Rattle.mcs_base.proofs.Each.{all_among, all_from_among}
 use Rattle.mcs_base.proofs.Booleans.{test_of, test_of-tells}
 use Rattle.mcs_base.proofs.Distinct.{distinct_fits, ascending_distinct}
 use Rattle.mcs_base.proofs.ListingLemmas.{listing_below, IsListing-same}
-use Rattle.mcs_base.proofs.Numbered.{distinct_from_apart, sum_by_smaller}
+use Rattle.mcs_base.proofs.Numbered.{sum_by_smaller}
 use Rattle.mcs_system.specs.Plain.{System}
 use Rattle.mcs_system.specs.Systems.{variables, variables_of, IsAcceptedPart}
 use Rattle.mcs_system.specs.Repairs.{allowed_marks}
@@ -135,7 +135,7 @@ pub journals_counted : JournalsAreCounted
 journals_counted m level journals one_each asked =
     let (n, (lists, listings, is)) = counts_exist m level in
     let most = sum_by_smaller (λ (xs : List ℕ). length xs) journals lists (one_each ∙ sym listings.one_each) (λ i xs ys at_i at_i'.
-    distinct_fits xs ys (distinct_from_apart xs (asked i xs at_i).apart) (λ x among. ((listings.listed i ys at_i').exactly x).1 (((asked i xs at_i).exactly x).0 among))) in
+    distinct_fits xs ys (asked i xs at_i).apart (λ x among. ((listings.listed i ys at_i').exactly x).1 (((asked i xs at_i).exactly x).0 among))) in
     let least = sum_by_smaller (λ (xs : List ℕ). length xs) lists journals (listings.one_each ∙ sym one_each) (λ i ys xs at_i' at_i.
     distinct_fits ys xs (ascending_distinct ys (listings.listed i ys at_i').ascending) (λ x among. ((asked i xs at_i).exactly x).1 (((listings.listed i ys at_i').exactly x).0 among))) in
     (lists, listings, (let e : sum_by (λ (xs : List ℕ). length xs) journals ≡ sum_by (λ (xs : List ℕ). length xs) lists = omega (arith, most, least) in e))

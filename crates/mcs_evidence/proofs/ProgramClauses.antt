@@ -1,5 +1,5 @@
 -- The clauses of a program's formulas, rule by rule and belief by belief.
-use Rattle.std.proofs.Common.{◌≡◌, ℕ, ◌+◌, ◌<◌, ◌≤◌, Bool, true, false, not, cond, List, [], ◌∷◌, ◌++◌, map, filter, length, drop, get_or, refl, sym, ap, ◌∙◌, subst, append_assoc, append-nil, arith, Option, Some, None, Bor}
+use Rattle.std.proofs.Common.{◌≡◌, ℕ, ◌+◌, ◌<◌, ◌≤◌, Bool, true, false, cond, List, [], ◌∷◌, ◌++◌, map, filter, length, drop, get_or, refl, sym, ap, ◌∙◌, subst, append_assoc, append-nil, Option}
 use Rattle.std.proofs.lemmas.List.{drop_more}
 use Rattle.std.specs.List.{AllByRecursion, list_any}
 use Rattle.mcs_sets.specs.Sets.{has}
@@ -8,10 +8,10 @@ use Rattle.mcs_system.specs.Logic.{is_in, true_names, reduct, without_negation}
 use Rattle.mcs_system.specs.Seen.{rule_of}
 use Rattle.mcs_system.specs.declared.knowledge.ProgRule as code
 use Rattle.mcs_trace.specs.Clauses.{ClauseList}
-use Rattle.mcs_cnf.specs.ClauseLists.{with_formulas, clause_list}
+use Rattle.mcs_cnf.specs.ClauseLists.{with_formulas}
 use Rattle.mcs_cnf.proofs.ListLemmas.{with_append}
 use Rattle.mcs_evidence.specs.Programs.{atoms_as, conjunction, disjunction, false_names, rule_formula, positive_formula, beside_formula, is_broken_by, literals_from, AreOverRules}
-use Rattle.mcs_evidence.specs.Pushing.{AreNamesOf, IsPart, HasOccurrences, HasConjunction}
+use Rattle.mcs_evidence.specs.Pushing.{AreNamesOf, IsPart, HasConjunction}
 use Rattle.mcs_base.proofs.Mapped.{map-drop_more}
 use Rattle.mcs_evidence.proofs.PushingLemmas.{pushed_more, IsJoining}
 use Rattle.mcs_base.proofs.Each.{all_from_among}

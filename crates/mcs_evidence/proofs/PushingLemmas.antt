@@ -1,14 +1,12 @@
 -- The occurrences of conjunctions and disjunctions that grow part by part.
-use Rattle.std.proofs.Common.{◌≡◌, ℕ, ◌+◌, ◌<◌, ◌≤◌, List, [], ◌∷◌, ◌++◌, map, length, drop, get_or, refl, sym, ap, ◌∙◌, subst, append_assoc, append-nil, arith, ℤ, pos, IsTrue, Option, Some, None}
+use Rattle.std.proofs.Common.{◌≡◌, ℕ, ◌+◌, List, [], ◌∷◌, ◌++◌, refl, sym, ap, ◌∙◌, subst, append_assoc, append-nil, ℤ, pos, Option, Some, None}
 use Rattle.std.proofs.lemmas.Option.{same_Some, none-some}
-use Rattle.std.specs.List.{AllByRecursion}
-use Rattle.mcs_system.specs.Plain.{Name, Formula, Truth, Falsity, Atom, Not, And, Or, Implies, ProgramRule}
-use Rattle.mcs_system.specs.Logic.{is_in}
+use Rattle.mcs_system.specs.Plain.{Name, Formula, Truth, Falsity, Atom, Not, And, Or, Implies}
 use Rattle.mcs_trace.specs.Clauses.{ClauseList}
-use Rattle.mcs_cnf.specs.ClauseLists.{clause_of, taken, number, formula_clauses, atom_number, taken_by_all, list_clauses, with_formulas, with_clause, not_clauses, and_clauses, or_clauses, implies_clauses, truth_clauses, falsity_clauses, IsAdded}
+use Rattle.mcs_cnf.specs.ClauseLists.{clause_of, taken, number, formula_clauses, atom_number, with_formulas, with_clause, not_clauses, and_clauses, or_clauses, implies_clauses, truth_clauses, falsity_clauses, IsAdded}
 use Rattle.mcs_cnf.proofs.ListLemmas.{with_append}
 use Rattle.mcs_evidence.specs.Programs.{and_from, or_from, conjunction, disjunction}
-use Rattle.mcs_evidence.specs.Pushing.{HasOccurrences, HasConjunction, HasDisjunction, IsJoined, AreNamesOf}
+use Rattle.mcs_evidence.specs.Pushing.{HasOccurrences, HasConjunction, HasDisjunction, IsJoined}
 
 abbrev list_of : ℕ → List (List ℤ) → ClauseList
 list_of n cs = record { vars = n; clauses = cs }

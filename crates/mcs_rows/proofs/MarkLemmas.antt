@@ -2,11 +2,11 @@
 use Rattle.std.proofs.Common.{◌≡◌, ℕ, ◌+◌, ◌*◌, ◌/◌, ◌%◌, ◌<◌, zero, suc, Bool, true, false, ◌&&◌, ◌||◌, cond, eqb, ltb, List, length, refl, sym, ap, ◌∙◌, arith}
 use Rattle.std.proofs.lemmas.Bool.{and_parts, and_from}
 use Rattle.std.proofs.lemmas.Bool.Decides.{nat_tests}
-use Rattle.std.proofs.Math.Bool.{or_assoc, and-false}
+use Rattle.std.proofs.Math.Bool.{and-false}
 use Rattle.std.specs.Cmp.{both_ways}
 use Rattle.std.specs.List.{list_any}
-use Rattle.mcs_sets.specs.Sets.{has, single, union, members, Within}
-use Rattle.mcs_sets.proofs.SetLemmas.{same_set, has-empty, has-single, has-union}
+use Rattle.mcs_sets.specs.Sets.{has, members, Within}
+use Rattle.mcs_sets.proofs.SetLemmas.{same_set, has-empty}
 use Rattle.mcs_base.proofs.Among.{any_get, among_any, among_get}
 use Rattle.mcs_base.proofs.ListingLemmas.{members_listing}
 use Rattle.mcs_system.specs.Plain.{System}

@@ -1,5 +1,5 @@
 -- The work that is left falls with each literal that is made true, and with each jump back to a decision.
-use Rattle.std.proofs.Common.{◌≡◌, ℕ, ◌+◌, ◌*◌, ◌^◌, ◌-◌, ◌<◌, ◌≤◌, zero, suc, cond, nat_eq, List, [], ◌∷◌, ◌++◌, sym, subst, arith, length, length-append, append-nil, append_assoc, take, get_or}
+use Rattle.std.proofs.Common.{◌≡◌, ℕ, ◌+◌, ◌*◌, ◌^◌, ◌<◌, ◌≤◌, zero, suc, cond, nat_eq, List, [], ◌∷◌, ◌++◌, sym, subst, arith, length, length-append, append-nil, append_assoc, take, get_or}
 use Rattle.std.proofs.lemmas.Bool.Decides.{nat_tests}
 use Rattle.std.proofs.Math.Nat.{pow-succ', one-le-pow}
 use Rattle.mcs_base.proofs.Numbers.{cond_times-le}

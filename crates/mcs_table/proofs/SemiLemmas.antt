@@ -1,6 +1,5 @@
 -- The rows of one table that have a partner in another.
-use Rattle.std.proofs.Common.{◌≡◌, ◌≤◌, ◌==◌, ℕ, ◌+◌, not, List, [], ◌∷◌, length, refl, inl, ◌↔◌, arith, IsTrue}
-use Rattle.std.proofs.lemmas.Bool.Decides.{nat_tests}
+use Rattle.std.proofs.Common.{◌≡◌, ◌≤◌, ℕ, ◌+◌, List, arith}
 use Rattle.std.specs.List.Sorted.{IsPermutation}
 use Rattle.mcs_sets.specs.Sets.{common, size}
 use Rattle.mcs_sets.proofs.Lattice.{size-union_apart}

@@ -1,9 +1,8 @@
-use Rattle.std.proofs.Common.{◌≡◌, ◌+◌, ◌≤◌, ◌∙◌, ◌++◌, sym, subst, List, drop, map, filter, length, Option, Some, ℕ, arith}
-use Rattle.std.specs.List.{AllByRecursion}
+use Rattle.std.proofs.Common.{◌+◌, ◌∙◌, ◌++◌, sym, subst, List, map, filter, arith}
 use Rattle.mcs_system.specs.Plain.{Name, Formula, ProgramRule}
 use Rattle.mcs_system.specs.Seen.{rule_of}
 use Rattle.mcs_trace.specs.Clauses.{ClauseList}
-use Rattle.mcs_evidence.specs.Programs.{atoms_as, disjunction, is_broken_by, AreOverRules, IsOverRule}
+use Rattle.mcs_evidence.specs.Programs.{atoms_as, disjunction, is_broken_by, AreOverRules}
 use Rattle.mcs_evidence.specs.Pushing.{AreNamesOf, HasOccurrences, HasConjunction}
 use Rattle.mcs_base.proofs.Mapped.{map-drop_more}
 use Rattle.mcs_evidence.proofs.PushingLemmas.{IsJoining, conjoining}

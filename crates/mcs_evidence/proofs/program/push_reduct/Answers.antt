@@ -1,9 +1,8 @@
-use Rattle.std.proofs.Common.{◌≡◌, ℕ, ◌+◌, Bool, List, [], ◌∷◌, refl, sym, ap, subst, ◌∙◌, map, length, drop, arith}
+use Rattle.std.proofs.Common.{◌+◌, List, [], ◌∷◌, sym, ap, subst, ◌∙◌, arith}
 use Rattle.std.specs.List.{list_any}
 use Rattle.mcs_system.specs.Seen.{rule_of}
 use Rattle.mcs_system.specs.Plain.{Name}
 use Rattle.mcs_system.specs.Logic.{is_in}
-use Rattle.mcs_trace.specs.Clauses.{ClauseList}
 use Rattle.mcs_cnf.specs.ClauseLists.{with_formulas}
 use Rattle.mcs_evidence.specs.Programs.{rule_formula, AreOverRules}
 use Rattle.mcs_base.proofs.Mapped.{map-drop_more}

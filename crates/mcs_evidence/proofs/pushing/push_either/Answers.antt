@@ -1,4 +1,4 @@
-use Rattle.std.proofs.Common.{◌++◌, arith}
+use Rattle.std.proofs.Common.{arith}
 use Rattle.mcs_system.specs.Plain.{Atom}
 use Rattle.mcs_evidence.specs.Programs.{atoms_as}
 use Rattle.mcs_base.proofs.Mapped.{map-drop_more, all_drop_parts}

@@ -1,5 +1,5 @@
-use Rattle.std.proofs.Common.{◌≡◌, ◌-◌, ◌≤◌, length}
-use Rattle.mcs_sat.specs.Trails.{Grows, IsTrail}
+use Rattle.std.proofs.Common.{◌-◌, ◌≤◌, length}
+use Rattle.mcs_sat.specs.Trails.{IsTrail}
 use Rattle.mcs_sat.specs.Watching.{AreSettled}
 use Rattle.mcs_sat.proofs.Keeping.{Extends}
 use Rattle.mcs_sat.proofs.propagate.settle_from.Given as goal

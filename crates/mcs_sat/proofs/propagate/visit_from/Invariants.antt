@@ -1,7 +1,6 @@
-use Rattle.std.proofs.Common.{◌≡◌, ◌≤◌, ◌-◌, ℕ, length}
-use Rattle.mcs_sat.specs.declared.state.Reach.{Reach}
-use Rattle.mcs_sat.specs.Trails.{Grows, IsTrail}
-use Rattle.mcs_sat.specs.Watching.{AreWatched, IsReached}
+use Rattle.std.proofs.Common.{◌≤◌, ◌-◌, ℕ, length}
+use Rattle.mcs_sat.specs.Trails.{IsTrail}
+use Rattle.mcs_sat.specs.Watching.{IsReached}
 use Rattle.mcs_sat.proofs.Keeping.{Extends, KeepsWatches}
 use Rattle.mcs_sat.proofs.propagate.visit_from.Given as goal
 

@@ -1,7 +1,5 @@
-use Rattle.std.proofs.Common.{◌≡◌, ◌≤◌, length, slice_get}
-use Rattle.mcs_sat.specs.declared.state.Reach.{Reach}
-use Rattle.mcs_sat.specs.Trails.{Grows, IsTrail}
-use Rattle.mcs_sat.specs.Watching.{AreWatched, IsReached}
+use Rattle.std.proofs.Common.{slice_get}
+use Rattle.mcs_sat.specs.Trails.{IsTrail}
 use Rattle.mcs_sat.proofs.WatchLemmas.{ArePassed, left_in}
 use Rattle.mcs_sat.proofs.Keeping.{Extends, KeepsWatches}
 use Rattle.mcs_sat.proofs.propagate.visit_list.Given as goal

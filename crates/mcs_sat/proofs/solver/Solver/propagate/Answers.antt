@@ -1,4 +1,4 @@
-use Rattle.std.proofs.Common.{◌≡◌, ℕ, ◌+◌, ◌↔◌, List, ℤ, Option, Some, None, IfSome, is_some, IsTrue, true≢false, Result, Ok, Err, IfOk, refl, sym, subst}
+use Rattle.std.proofs.Common.{ℕ, ◌+◌, ◌↔◌, List, ℤ, Option, Some, None, IfSome, is_some, IsTrue, true≢false, refl, sym, subst}
 use Rattle.std.specs.List.{AllByRecursion}
 use Rattle.std.specs.Option.{IfNone}
 use Rattle.mcs_base.proofs.Results.{IfOk-from_ok, IfOk-from_is_err}
