@@ -8,7 +8,7 @@ use Rattle.mcs_system.specs.Faults.{is_atom}
 use Rattle.mcs_sets.specs.Orders.{StateBefore}
 use Rattle.mcs_base.specs.Listings.{IsListing}
 use Rattle.mcs_trace.specs.Clauses.{ClauseList}
-use Rattle.mcs_cnf.specs.ClauseLists.{AreOver, clause_list, with_formulas}
+use Rattle.mcs_cnf.specs.ClauseLists.{AreOver, clause_list}
 use Rattle.mcs_evidence.specs.Defaults.{AreOverItems}
 use Rattle.mcs_evidence.specs.Programs.{AreOverRules}
 
