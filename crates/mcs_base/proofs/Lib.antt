@@ -18,3 +18,12 @@ pub mod Clausal
 pub mod Numbered
 pub mod Ranges
 pub mod RowLemmas
+pub mod Deciding
+pub mod Zipped
+pub mod Mapped
+pub mod Written
+pub mod Results
+pub mod Sorted
+pub mod NumberCases
+pub mod Lasts
+pub mod SetParts

@@ -8,7 +8,6 @@ use Rattle.std.specs.List.{range_with_len, sum_by}
 use Rattle.mcs_sets.specs.Sets.{single, union, common}
 use Rattle.mcs_sets.proofs.SetLemmas.{same_set, has-empty, has-common}
 use Rattle.mcs_base.specs.Listings.{IsAmong, AreApart, IsListing}
-use Rattle.mcs_base.proofs.Distinct.{AreDistinct}
 
 -- ---- what is common
 pub common_assoc : (a b c : ℕ) → common (common a b) c ≡ common a (common b c)
@@ -22,13 +21,12 @@ none-common a = same_set _ _ (λ k. grind (arith, has-common, has-empty))
 
 -- ---- lists without repeats
 module _ {A : Type 0} where
-  pub distinct_from_apart : (xs : List A) → AreApart xs → AreDistinct xs
-  distinct_from_apart [] h = tt
-  distinct_from_apart (x ∷ xs) h = (h.0, distinct_from_apart xs h.1)
+  -- two names of one word, until all that cite them do without
+  pub distinct_from_apart : (xs : List A) → AreApart xs → AreApart xs
+  distinct_from_apart xs h = h
 
-  pub apart_from_distinct : (xs : List A) → AreDistinct xs → AreApart xs
-  apart_from_distinct [] h = tt
-  apart_from_distinct (x ∷ xs) h = (h.0, apart_from_distinct xs h.1)
+  pub apart_from_distinct : (xs : List A) → AreApart xs → AreApart xs
+  apart_from_distinct xs h = h
 
   -- the listing of what a loop has mapped
   pub listed_map : {B : Type 0} (f : A → B) (xs : List A) (ys next : List B) (n : ℕ) (before : B → B → Type 0) → ys ≡ map f (take n xs) → length xs ≤ n → IsListing (λ y. IsAmong y ys) before next → (y : B) → IsAmong y next ↔ IsAmong y (map f xs)

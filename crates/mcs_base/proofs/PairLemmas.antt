@@ -2,7 +2,7 @@
 use Rattle.std.proofs.Common.{◌≡◌, ℕ, ◌+◌, ◌*◌, ◌^◌, ◌<◌, Bool, true, false, ◌&&◌, ltb, refl, sym, ◌∙◌, add-zero, arith}
 use Rattle.std.proofs.lemmas.Bool.Decides.{nat_tests}
 use Rattle.mcs_sets.specs.Sets.{has, such_that}
-use Rattle.mcs_sets.proofs.SetLemmas.{same_set, has-such_that, members_below, below_power}
+use Rattle.mcs_sets.proofs.SetLemmas.{same_set, has-empty, has-such_that, members_below, below_power}
 use Rattle.mcs_base.specs.Pairs.{removed_of, forced_of}
 pub use Rattle.mcs_sets.proofs.SetLemmas.{such_that_steps as loops}
 
@@ -33,3 +33,10 @@ module _ (n pair : ℕ) (small : pair < 2 ^ (2 * n)) where
 
 pub removed_from : (pair : ℕ) → pair < 2 ^ 128 → such_that 64 (λ r. has pair (2 * r + 0)) ≡ removed_of pair
 removed_from pair small = same_set _ _ (λ r. has-such_that 64 _ r ∙ rw add-zero refl ∙ sym (has-such_that 64 _ r)) ∙ removed-of_rules 64 pair small
+
+-- ---- no marks
+pub removed_of-none : removed_of 0 ≡ 0
+removed_of-none = same_set _ _ (λ r. has-removed_of 0 r ∙ has-empty (2 * r) ∙ sym (has-empty r))
+
+pub forced_of-none : forced_of 0 ≡ 0
+forced_of-none = same_set _ _ (λ r. has-forced_of 0 r ∙ has-empty (2 * r + 1) ∙ sym (has-empty r))

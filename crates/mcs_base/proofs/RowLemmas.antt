@@ -1,5 +1,5 @@
 -- Rows that lie one after the other: one more, one that is read, some that are taken off.
-use Rattle.std.proofs.Common.{◌≡◌, ℕ, ◌+◌, ◌-◌, ◌<◌, ◌≤◌, zero, suc, List, [], ◌∷◌, ◌++◌, refl, sym, ap, ◌∙◌, subst, arith, length, take, drop, get_or, slice_get, Option, Some, None}
+use Rattle.std.proofs.Common.{◌≡◌, ℕ, ◌+◌, ◌-◌, ◌<◌, ◌≤◌, zero, suc, List, [], ◌∷◌, ◌++◌, refl, sym, ap, ◌∙◌, arith, length, take, drop, get_or, slice_get, Some}
 use Rattle.std.proofs.lemmas.List.{length-drop, drop-append-le, drop-drop, drop-take, take-append-le}
 use Rattle.mcs_base.specs.Rows.{rows_from, AreEnds}
 

@@ -6,12 +6,11 @@ use Rattle.mcs_base.specs.Listings.{IsAmong}
 use Rattle.mcs_system.specs.Plain.{System}
 use Rattle.mcs_system.specs.Repairs.{IsDiagnosis}
 use Rattle.mcs_system.specs.Systems.{IsConsistent}
-use Rattle.mcs_laws.proofs.Choices.{consistent_minimal}
+use Rattle.mcs_laws.proofs.Choices.{consistent_minimal, consistent_where_nothing}
 use Rattle.mcs_states.specs.Evaluators.{EvaluatorState, KeepsRest}
 use Rattle.mcs_diagnosis.specs.declared.diagnosis.Diagnosis as code
 use Rattle.mcs_diagnosis.specs.Courses.{Course, IsCourse, IsPast}
 use Rattle.mcs_diagnosis.specs.Diagnoses.{AreFound, pairs_of}
-use Rattle.mcs_diagnosis.proofs.General.{consistent_where_nothing}
 
 pub found_consistent : (m : System) (level : ℕ) (ds : List code.Diagnosis) → level ≡ 0 → AreFound m level ds → ds ≢ [] → IsConsistent m
 found_consistent m level [] e f some = absurd (some refl)
@@ -22,15 +21,12 @@ consistent_found m level ds e f c none =
     let among : IsAmong 0 (pairs_of ds) = (f.listed.exactly 0).1 ((consistent_minimal m c.equilibrium c.balanced 0).1 refl, size-none ∙ sym e) in
     subst (λ (xs : List code.Diagnosis). IsAmong 0 (pairs_of xs)) none among
 
-pub at_most : (a b : ℕ) → ¬ (a < b) → b ≤ a
-at_most a b not = omega (arith, not)
-
 next_course : (e e' : EvaluatorState) (system : System) (level : ℕ) (was now : Bool) → IsCourse e system level was → KeepsRest e e' → ¬ IsPast system level
     → (now ≡ true → IsConsistent system) → (IsConsistent system → now ≡ true) → IsCourse e' system (level + 1) now
 next_course e e' system level was now c rest not_past knows tells = record {
   same = rest.system ∙ c.same;
   few = c.few;
-  within = let last : level ≤ length system.bridges = at_most (length system.bridges) level (λ more. not_past (inl more)) in omega arith;
+  within = let last : level ≤ length system.bridges = (let within : ¬ (length system.bridges < level) = λ more. not_past (inl more) in omega (arith, within)) in omega arith;
   knows = knows;
   tells = λ _ h. tells h;
 }

@@ -1,5 +1,3 @@
-pub mod General
-pub mod Filtered
 pub mod FoundLemmas
 pub mod CourseLemmas
 pub mod BelowLemmas

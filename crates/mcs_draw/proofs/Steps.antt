@@ -15,16 +15,12 @@ use Rattle.mcs_draw.specs.Steps.{IsKept, DrawTells, LookTells, first_view}
 pub table_begins : (base room : ℕ) → base + room < 2 ^ 63 → IsKept (record { base = base; room = room }) (opening (base ∷ []) [] (first_view (record { base = base; room = room })))
 table_begins base room small = record { word = base; is = refl; rule = begins base room small }
 
--- the number that a step finds is the word
-is_found : (ws : List ℕ) (n : ℕ) → ws ≡ n ∷ [] → slice_index ws 0 ≡ n
-is_found ws n is = ap (λ xs. slice_index xs 0) is
-
 pub draw_allowed : (k : Terms) (slots id amount : ℕ) (v : View) (held : List (ℕ × Unit {0})) → v.away ≡ false → amount ≤ v.account.left
     → Allows (IsKept k) slots id (v, held) 0 (λ n. (n + amount) % 2 ^ 64) (DrawTells (step slots 0 amount 0 none) (v, held))
 draw_allowed k slots id amount v held present le s kept homes at small =
     let n = kept.word in
     let b = kept.rule in
-    let found = is_found s.words n kept.is in
+    let found = ap (λ (ws : List ℕ). slice_index ws 0) kept.is in
     let fits : n + amount < 2 ^ 63 = omega (arith, b.left, b.small, sum_at (λ u. u.account.left) s.views id v at) in
     let below : n + amount < 2 ^ 64 = omega (arith, fits) in
     let total : (slice_index s.words 0 + amount) % 2 ^ 64 ≡ n + amount = ap (λ x. (x + amount) % 2 ^ 64) found ∙ mod-eq_of_lt below in (
@@ -64,7 +60,7 @@ look_allowed k slots id v held s kept homes at small =
       tt,
       record {
         word = kept.word;
-        is = ap (λ ws. set ws 0 (slice_index s.words 0)) kept.is ∙ ap (λ x. x ∷ []) (is_found s.words kept.word kept.is);
+        is = ap (λ ws. set ws 0 (slice_index s.words 0)) kept.is ∙ ap (λ ws. slice_index ws 0 ∷ []) kept.is;
         rule = subst (BudgetRule k.base k.room kept.word) (sym (set_again s.views id v at)) b;
       },
       record {

@@ -1,3 +1,2 @@
-mod General
 mod SolverLemmas
 mod NameLemmas

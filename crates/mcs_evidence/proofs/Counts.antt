@@ -14,7 +14,7 @@ use Rattle.mcs_base.proofs.Each.{all_among, all_from_among}
 use Rattle.mcs_base.proofs.Booleans.{test_of, test_of-tells}
 use Rattle.mcs_base.proofs.Distinct.{distinct_fits, ascending_distinct}
 use Rattle.mcs_base.proofs.ListingLemmas.{listing_below, IsListing-same}
-use Rattle.mcs_base.proofs.Numbered.{distinct_from_apart, sum_by_smaller}
+use Rattle.mcs_base.proofs.Numbered.{sum_by_smaller}
 use Rattle.mcs_system.specs.Plain.{System}
 use Rattle.mcs_system.specs.Systems.{variables, variables_of, IsAcceptedPart}
 use Rattle.mcs_system.specs.Repairs.{allowed_marks}
@@ -23,17 +23,9 @@ use Rattle.mcs_system.specs.Levels.{IsQuestionAt}
 use Rattle.mcs_import.proofs.OrderLemmas.{import_order_exists, import_order_is_one, order_in_range, before_each}
 use Rattle.mcs_laws.proofs.Existence.{DecidesParts}
 use Rattle.mcs_system.proofs.ContextSets.{states_known}
-use Rattle.mcs_evidence.proofs.Decided.{cases_all, cases_implies, cases_some_below, cases_true}
+use Rattle.mcs_base.proofs.Deciding.{cases_all, cases_both, cases_implies, cases_le, cases_some_below, cases_true}
 use Rattle.mcs_evidence.proofs.SystemListings.{parts_decided}
 use Rattle.mcs_evidence.specs.Laws.{CountsExist, JournalsAreCounted}
-
-cases_both : {P Q : Type 0} → P ⊎ (¬ P) → Q ⊎ (¬ Q) → (P × Q) ⊎ (¬ (P × Q))
-cases_both (inl p) (inl q) = inl (p, q)
-cases_both (inl p) (inr never) = inr (λ h. never h.1)
-cases_both (inr never) d = inr (λ h. never h.0)
-
-cases_le : (a b : ℕ) → (a ≤ b) ⊎ (¬ (a ≤ b))
-cases_le a b = elim (cases_lt b a) [ inl less ↦ inr (λ h. omega (arith, less, h)) | inr most ↦ inl (omega (arith, most)) ]
 
 part_cases : (m : System) (i x τ : ℕ) → i < length m.contexts → IsAcceptedPart m i x τ ⊎ (¬ IsAcceptedPart m i x τ)
 unfolding DecidesParts
@@ -143,7 +135,7 @@ pub journals_counted : JournalsAreCounted
 journals_counted m level journals one_each asked =
     let (n, (lists, listings, is)) = counts_exist m level in
     let most = sum_by_smaller (λ (xs : List ℕ). length xs) journals lists (one_each ∙ sym listings.one_each) (λ i xs ys at_i at_i'.
-    distinct_fits xs ys (distinct_from_apart xs (asked i xs at_i).apart) (λ x among. ((listings.listed i ys at_i').exactly x).1 (((asked i xs at_i).exactly x).0 among))) in
+    distinct_fits xs ys (asked i xs at_i).apart (λ x among. ((listings.listed i ys at_i').exactly x).1 (((asked i xs at_i).exactly x).0 among))) in
     let least = sum_by_smaller (λ (xs : List ℕ). length xs) lists journals (listings.one_each ∙ sym one_each) (λ i ys xs at_i' at_i.
     distinct_fits ys xs (ascending_distinct ys (listings.listed i ys at_i').ascending) (λ x among. ((asked i xs at_i).exactly x).1 (((listings.listed i ys at_i').exactly x).0 among))) in
     (lists, listings, (let e : sum_by (λ (xs : List ℕ). length xs) journals ≡ sum_by (λ (xs : List ℕ). length xs) lists = omega (arith, most, least) in e))

@@ -8,7 +8,7 @@ use Rattle.mcs_base.proofs.Each.{all_from_among, all_append, all_left, all_map}
 use Rattle.mcs_system.specs.Plain.{Formula, Default, Item, Fact, Rule}
 use Rattle.mcs_system.specs.Logic.{Entails}
 use Rattle.mcs_evidence.specs.Defaults.{facts_of, defaults_of, defaults_at, defaults_in, generated}
-use Rattle.mcs_evidence.proofs.Consequence.{member_follows, follow_themselves}
+use Rattle.mcs_system.proofs.Consequence.{member_follows, follow_themselves}
 
 -- ---- items, as facts and defaults
 pub by_kind : (R : Item → Type 0) (items : List Item) → AllByRecursion R items → AllByRecursion (λ p. R (Fact p)) (facts_of items) × AllByRecursion (λ d. R (Rule d)) (defaults_of items)

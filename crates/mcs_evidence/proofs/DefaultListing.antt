@@ -13,8 +13,8 @@ use Rattle.mcs_system.specs.Logic.{Theory, Entails}
 use Rattle.mcs_system.specs.Views.{Shows, IsAcceptedView}
 use Rattle.mcs_evidence.specs.Defaults.{defaults_of, generated}
 use Rattle.mcs_evidence.specs.Laws.{DefaultTheoriesHaveAListing}
-use Rattle.mcs_evidence.proofs.Consequence.{one_set, decided}
-use Rattle.mcs_evidence.proofs.Decided.{cases_not, cases_implies, cases_true, cases_false, cases_all_get, cases_some_below, places_where, has-places_where, places_where-lt}
+use Rattle.mcs_system.proofs.Consequence.{one_set, cases_entails}
+use Rattle.mcs_base.proofs.Deciding.{cases_not, cases_implies, cases_true, cases_false, cases_all_get, cases_some_below, places_where, has-places_where, places_where-lt}
 use Rattle.mcs_evidence.proofs.Extensions.{IsApplicable, applicable_or_not, NoneSupported, AllApply, NoOtherApplies, Generates, generated_view}
 
 -- ---- whether a set generates an extension
@@ -30,7 +30,7 @@ module _ (items : List Item) (set : ℕ) where
 
   cases_supported : (part : ℕ) → NoneSupported items set part ⊎ (¬ NoneSupported items set part)
   cases_supported part = cases_all_get (λ k d. has set k ≡ true → has part k ≡ false → ¬ Entails (generated items part) d.pre) (defaults_of items)
-      (λ k d. cases_implies (cases_true (has set k)) (cases_implies (cases_false (has part k)) (cases_not (decided (generated items part) d.pre))))
+      (λ k d. cases_implies (cases_true (has set k)) (cases_implies (cases_false (has part k)) (cases_not (cases_entails (generated items part) d.pre))))
 
   cases_grounded : ((part : ℕ) → part < set → Below part) ⊎ (¬ ((part : ℕ) → part < set → Below part))
   cases_grounded = cases_all_below Below set (λ part less. cases_implies (cases_within part set) (cases_not (cases_supported part)))
@@ -56,15 +56,15 @@ module _ (items : List Item) (set : ℕ) where
 -- ---- the views
 module _ (items : List Item) (beliefs : List Formula) where
   following : ℕ → ℕ
-  following set = places_where (Entails (generated items set)) (decided (generated items set)) beliefs
+  following set = places_where (Entails (generated items set)) (cases_entails (generated items set)) beliefs
 
   following_shown : (set : ℕ) → Shows (Theory (generated items set)) beliefs (following set)
   unfolding following
-  following_shown set k = has-places_where (Entails (generated items set)) (decided (generated items set)) beliefs k
+  following_shown set k = has-places_where (Entails (generated items set)) (cases_entails (generated items set)) beliefs k
 
   following-lt : (set : ℕ) → following set < 2 ^ length beliefs
   unfolding following
-  following-lt set = places_where-lt (Entails (generated items set)) (decided (generated items set)) beliefs
+  following-lt set = places_where-lt (Entails (generated items set)) (cases_entails (generated items set)) beliefs
 
   abbrev IsFollowing : ℕ → ℕ → Type 0
   IsFollowing places set = Generates items set × (places ≡ following set)

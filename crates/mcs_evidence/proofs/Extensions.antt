@@ -11,8 +11,8 @@ use Rattle.mcs_system.specs.Plain.{Formula, Not, Default, Item, Rule, DefaultThe
 use Rattle.mcs_system.specs.Logic.{BeliefSet, Theory, Atoms, Accepts, Entails, Owes, IsClosed, IsExtension}
 use Rattle.mcs_system.specs.Views.{Shows, IsAcceptedView}
 use Rattle.mcs_evidence.specs.Defaults.{facts_of, defaults_of, generated}
-use Rattle.mcs_evidence.proofs.Consequence.{follows_through, decided}
-use Rattle.mcs_evidence.proofs.Decided.{cases_not, cases_all, places_where, has-places_where, places_where-lt, all_from_get}
+use Rattle.mcs_system.proofs.Consequence.{follows_through, cases_entails}
+use Rattle.mcs_base.proofs.Deciding.{cases_not, cases_all, places_where, has-places_where, places_where-lt, all_from_get}
 use Rattle.mcs_evidence.proofs.DefaultLemmas.{by_kind, from_kinds, IsDefaultAt, generated_each, facts_follow, conclusion_follows}
 
 -- the formulas have the prerequisite and no negated justification
@@ -57,18 +57,18 @@ module _ (items : List Item) (set : ℕ) (generates : Generates items set) where
   ]
     where
       supported : ℕ
-      supported = places_where (λ (d : Default). Entails f d.pre) (λ d. decided f d.pre) (defaults_of items)
+      supported = places_where (λ (d : Default). Entails f d.pre) (λ d. cases_entails f d.pre) (defaults_of items)
 
       part : ℕ
       part = common set supported
 
       joins : (k : ℕ) (d : Default) → IsDefaultAt items k d → has set k ≡ true → Entails f d.pre → has part k ≡ true
-      joins k d is member follows = has-common set supported k ∙ and_from _ _ member ((has-places_where (λ (d : Default). Entails f d.pre) (λ d. decided f d.pre) (defaults_of items) k).1 (d, is, follows))
+      joins k d is member follows = has-common set supported k ∙ and_from _ _ member ((has-places_where (λ (d : Default). Entails f d.pre) (λ d. cases_entails f d.pre) (defaults_of items) k).1 (d, is, follows))
 
       owed : (k : ℕ) (d : Default) → IsDefaultAt items k d → has part k ≡ true → Entails f d.conclusion
       owed k d is member =
           let (in_set, in_supported) = in_common set supported k member in
-          let (c, is', follows) = (has-places_where (λ (d : Default). Entails f d.pre) (λ d. decided f d.pre) (defaults_of items) k).0 in_supported in
+          let (c, is', follows) = (has-places_where (λ (d : Default). Entails f d.pre) (λ d. cases_entails f d.pre) (defaults_of items) k).0 in_supported in
           let same : c ≡ d = cc in
           all_get (λ d. Owes f (generated items set) (Rule d)) (defaults_of items) k d (by_kind (Owes f (generated items set)) items owes).1 is (subst (λ (d : Default). Entails f d.pre) same follows) (generates.applied k d is in_set).allowed
 
@@ -85,9 +85,9 @@ record IsGenerated (items : List Item) (e : List Formula) (set : ℕ) : Type 0 w
   pub back : AllByRecursion (Entails (generated items set)) e
 
 pub applicable_or_not : (e : List Formula) (d : Default) → IsApplicable e d ⊎ (¬ IsApplicable e d)
-applicable_or_not e d = elim (decided e d.pre) [
+applicable_or_not e d = elim (cases_entails e d.pre) [
   | inr unsupported ↦ inr (λ applicable. unsupported applicable.supported)
-  | inl supported ↦ elim (cases_all (λ j. ¬ Entails e (Not j)) d.justs (λ j. cases_not (decided e (Not j)))) [
+  | inl supported ↦ elim (cases_all (λ j. ¬ Entails e (Not j)) d.justs (λ j. cases_not (cases_entails e (Not j)))) [
     | inr blocked ↦ inr (λ applicable. blocked applicable.allowed)
     | inl allowed ↦ inl (record { supported = supported; allowed = allowed })
   ]

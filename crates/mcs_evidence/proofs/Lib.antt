@@ -1,11 +1,8 @@
-pub mod General
 pub mod Models
 pub mod AnswerSets
 pub mod ProgramListings
 pub mod PushingLemmas
 pub mod ProgramClauses
-pub mod Decided
-pub mod Consequence
 pub mod DefaultLemmas
 pub mod Extensions
 pub mod DefaultCertificates

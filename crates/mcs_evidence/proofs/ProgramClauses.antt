@@ -1,5 +1,5 @@
 -- The clauses of a program's formulas, rule by rule and belief by belief.
-use Rattle.std.proofs.Common.{◌≡◌, ℕ, ◌+◌, ◌<◌, ◌≤◌, Bool, true, false, not, cond, List, [], ◌∷◌, ◌++◌, map, filter, length, drop, get_or, refl, sym, ap, ◌∙◌, subst, append_assoc, append-nil, arith, Option, Some, None, Bor}
+use Rattle.std.proofs.Common.{◌≡◌, ℕ, ◌+◌, ◌<◌, ◌≤◌, Bool, true, false, cond, List, [], ◌∷◌, ◌++◌, map, filter, length, drop, get_or, refl, sym, ap, ◌∙◌, subst, append_assoc, append-nil, Option}
 use Rattle.std.proofs.lemmas.List.{drop_more}
 use Rattle.std.specs.List.{AllByRecursion, list_any}
 use Rattle.mcs_sets.specs.Sets.{has}
@@ -8,11 +8,12 @@ use Rattle.mcs_system.specs.Logic.{is_in, true_names, reduct, without_negation}
 use Rattle.mcs_system.specs.Seen.{rule_of}
 use Rattle.mcs_system.specs.declared.knowledge.ProgRule as code
 use Rattle.mcs_trace.specs.Clauses.{ClauseList}
-use Rattle.mcs_cnf.specs.ClauseLists.{with_formulas, clause_list}
+use Rattle.mcs_cnf.specs.ClauseLists.{with_formulas}
 use Rattle.mcs_cnf.proofs.ListLemmas.{with_append}
 use Rattle.mcs_evidence.specs.Programs.{atoms_as, conjunction, disjunction, false_names, rule_formula, positive_formula, beside_formula, is_broken_by, literals_from, AreOverRules}
-use Rattle.mcs_evidence.specs.Pushing.{AreNamesOf, IsPart, HasOccurrences, HasConjunction}
-use Rattle.mcs_evidence.proofs.PushingLemmas.{rest_of, pushed_more, IsJoining}
+use Rattle.mcs_evidence.specs.Pushing.{AreNamesOf, IsPart, HasConjunction}
+use Rattle.mcs_base.proofs.Mapped.{map-drop_more}
+use Rattle.mcs_evidence.proofs.PushingLemmas.{pushed_more, IsJoining}
 use Rattle.mcs_base.proofs.Each.{all_from_among}
 use Rattle.mcs_system.proofs.NameLemmas.{is_in-among}
 
@@ -64,7 +65,7 @@ module _ (names a : List Name) (rules : List code.ProgRule) (i : ℕ) (r : code.
   rest j = map rule_of (drop j rules)
 
   next : rest i ≡ rule_of r ∷ rest (i + 1)
-  next = rest_of rule_of rules i r less is
+  next = map-drop_more rule_of rules i r less is
 
   pub reduct_pushed : (c c' : ClauseList) → list_any (λ n. is_in n a) r.neg.items ≡ false → c' ≡ with_formulas names c (rule_formula (record { head = r.head.items; pos = r.pos.items; neg = [] }) ∷ [])
       → with_formulas names c' (map positive_formula (reduct a (map rule_of (drop (i + 1) rules)))) ≡ with_formulas names c (map positive_formula (reduct a (map rule_of (drop i rules))))
@@ -99,14 +100,14 @@ blocked r = disjunction (atoms_as r.neg)
 
 pub broken_more : (a : List Name) (rules : List code.ProgRule) (i : ℕ) (r : code.ProgRule) → i < length rules → r ≡ get_or rules i r → is_broken_by a (rule_of r) ≡ true
     → map blocked (filter (is_broken_by a) (map rule_of (drop i rules))) ≡ disjunction (atoms_as r.neg.items) ∷ map blocked (filter (is_broken_by a) (map rule_of (drop (i + 1) rules)))
-broken_more a rules i r less is broken = ap (λ (rs : List ProgramRule). map blocked (filter (is_broken_by a) rs)) (rest_of rule_of rules i r less is) ∙ kept (map rule_of (drop (i + 1) rules))
+broken_more a rules i r less is broken = ap (λ (rs : List ProgramRule). map blocked (filter (is_broken_by a) rs)) (map-drop_more rule_of rules i r less is) ∙ kept (map rule_of (drop (i + 1) rules))
   where
     kept : (rs : List ProgramRule) → map blocked (filter (is_broken_by a) (rule_of r ∷ rs)) ≡ disjunction (atoms_as r.neg.items) ∷ map blocked (filter (is_broken_by a) rs)
     kept rs = rw broken refl
 
 pub broken_skipped : (a : List Name) (rules : List code.ProgRule) (i : ℕ) (r : code.ProgRule) → i < length rules → r ≡ get_or rules i r → is_broken_by a (rule_of r) ≡ false
     → map blocked (filter (is_broken_by a) (map rule_of (drop i rules))) ≡ map blocked (filter (is_broken_by a) (map rule_of (drop (i + 1) rules)))
-broken_skipped a rules i r less is whole = ap (λ (rs : List ProgramRule). map blocked (filter (is_broken_by a) rs)) (rest_of rule_of rules i r less is) ∙ left (map rule_of (drop (i + 1) rules))
+broken_skipped a rules i r less is whole = ap (λ (rs : List ProgramRule). map blocked (filter (is_broken_by a) rs)) (map-drop_more rule_of rules i r less is) ∙ left (map rule_of (drop (i + 1) rules))
   where
     left : (rs : List ProgramRule) → map blocked (filter (is_broken_by a) (rule_of r ∷ rs)) ≡ map blocked (filter (is_broken_by a) rs)
     left rs = rw whole refl
@@ -115,10 +116,10 @@ broken_skipped a rules i r less is whole = ap (λ (rs : List ProgramRule). map b
 module _ {A : Type 0} (seen : A → Name) where
   pub literals_more : (beliefs : List A) (k s : ℕ) (b : A) → k < length beliefs → b ≡ get_or beliefs k b
       → literals_from k (map Atom (map seen (drop k beliefs))) s ≡ cond (has s k) (Atom (seen b)) (Not (Atom (seen b))) ∷ literals_from (k + 1) (map Atom (map seen (drop (k + 1) beliefs))) s
-  literals_more beliefs k s b less is = ap (λ (ns : List Name). literals_from k (map Atom ns) s) (rest_of seen beliefs k b less is)
+  literals_more beliefs k s b less is = ap (λ (ns : List Name). literals_from k (map Atom ns) s) (map-drop_more seen beliefs k b less is)
 
   pub rest_names : (names : List Name) (beliefs : List A) (k : ℕ) (b : A) → k < length beliefs → b ≡ get_or beliefs k b → AreNamesOf names (map seen (drop k beliefs)) → AreNamesOf names (seen b ∷ []) × AreNamesOf names (map seen (drop (k + 1) beliefs))
-  rest_names names beliefs k b less is all = let both = subst (AreNamesOf names) (rest_of seen beliefs k b less is) all in ((both.0, tt), both.1)
+  rest_names names beliefs k b less is all = let both = subst (AreNamesOf names) (map-drop_more seen beliefs k b less is) all in ((both.0, tt), both.1)
 
 -- ---- lists one after the other
 pub three : (names : List Name) (c c1 c2 c3 : ClauseList) (fs gs hs : List Formula) → c1 ≡ with_formulas names c fs → c2 ≡ with_formulas names c1 gs → c3 ≡ with_formulas names c2 hs → c3 ≡ with_formulas names c (fs ++ (gs ++ hs))

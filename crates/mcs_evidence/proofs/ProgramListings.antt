@@ -22,7 +22,7 @@ use Rattle.mcs_system.proofs.Deciding.{decide}
 use Rattle.mcs_system.proofs.NameLemmas.{is_in-among, is_in-filter, is_in_flat_map, is_in_left, is_in_right, is_in-first_names, first_names-single}
 use Rattle.mcs_evidence.specs.Programs.{rule_formula, smaller_formulas, IsOverRule, AreOverRules}
 use Rattle.mcs_evidence.specs.Laws.{ProgramsHaveAListing}
-use Rattle.mcs_evidence.proofs.General.{places, true_names-places, places-lt}
+use Rattle.mcs_system.proofs.Tables.{places, true_names-places, places-lt}
 use Rattle.mcs_evidence.proofs.Models.{all_in, any_in, all_in_each, all_in_from, any_in_some, any_in_from, reduct_each, reduct_from, answer_set_from_model, no_answer_set, answer_set-holds, answer_set-known, shows-below}
 
 -- ---- the atoms of a program

@@ -1,14 +1,12 @@
 -- The occurrences of conjunctions and disjunctions that grow part by part.
-use Rattle.std.proofs.Common.{◌≡◌, ℕ, ◌+◌, ◌<◌, ◌≤◌, List, [], ◌∷◌, ◌++◌, map, length, drop, get_or, refl, sym, ap, ◌∙◌, subst, append_assoc, append-nil, arith, ℤ, pos, IsTrue, Option, Some, None}
-use Rattle.std.proofs.lemmas.List.{drop_more}
-use Rattle.std.specs.List.{AllByRecursion}
-use Rattle.mcs_system.specs.Plain.{Name, Formula, Truth, Falsity, Atom, Not, And, Or, Implies, ProgramRule}
-use Rattle.mcs_system.specs.Logic.{is_in}
+use Rattle.std.proofs.Common.{◌≡◌, ℕ, ◌+◌, List, [], ◌∷◌, ◌++◌, refl, sym, ap, ◌∙◌, subst, append_assoc, append-nil, ℤ, pos, Option, Some, None}
+use Rattle.std.proofs.lemmas.Option.{same_Some, none-some}
+use Rattle.mcs_system.specs.Plain.{Name, Formula, Truth, Falsity, Atom, Not, And, Or, Implies}
 use Rattle.mcs_trace.specs.Clauses.{ClauseList}
-use Rattle.mcs_cnf.specs.ClauseLists.{clause_of, taken, number, formula_clauses, atom_number, taken_by_all, list_clauses, with_formulas, with_clause, not_clauses, and_clauses, or_clauses, implies_clauses, truth_clauses, falsity_clauses, IsAdded}
+use Rattle.mcs_cnf.specs.ClauseLists.{clause_of, taken, number, formula_clauses, atom_number, with_formulas, with_clause, not_clauses, and_clauses, or_clauses, implies_clauses, truth_clauses, falsity_clauses, IsAdded}
 use Rattle.mcs_cnf.proofs.ListLemmas.{with_append}
 use Rattle.mcs_evidence.specs.Programs.{and_from, or_from, conjunction, disjunction}
-use Rattle.mcs_evidence.specs.Pushing.{HasOccurrences, HasConjunction, HasDisjunction, IsJoined, AreNamesOf}
+use Rattle.mcs_evidence.specs.Pushing.{HasOccurrences, HasConjunction, HasDisjunction, IsJoined}
 
 abbrev list_of : ℕ → List (List ℤ) → ClauseList
 list_of n cs = record { vars = n; clauses = cs }
@@ -77,9 +75,6 @@ occ_unit names f old c c' n h unit =
 pub pushed_more : (names : List Name) (c c' : ClauseList) (f : Formula) (fs : List Formula) → c' ≡ with_formulas names c (f ∷ []) → with_formulas names c' fs ≡ with_formulas names c (f ∷ fs)
 pushed_more names c c' f fs pushed = ap (λ (x : ClauseList). with_formulas names x fs) pushed ∙ with_append names c (f ∷ []) fs
 
-pub pushed_none : (names : List Name) (c : ClauseList) → with_formulas names c [] ≡ c
-pushed_none names c = ap (list_of c.vars) (append-nil c.clauses)
-
 -- ---- conjunctions
 and_push : (f : Formula) (fs : List Formula) (g : Formula) → and_from f (fs ++ g ∷ []) ≡ And (and_from f fs) g
 and_push f [] g = refl
@@ -114,27 +109,21 @@ disjunction_more names (f ∷ fs) g start c c' c'' o x n h h' joined =
     (n, refl, subst (λ (k : Formula). HasOccurrences names k start c'' n) (sym (or_push f fs g)) (occ_or names (or_from f fs) g start c c' c'' h.0 x n h.2 h' added))
 
 -- the whole
-some_is : (m n : ℕ) (o : Option ℕ) → o ≡ Some m → o ≡ Some n → m ≡ n
-some_is m n o e e' = let both : Some m ≡ Some n = sym e ∙ e' in cc
-
-none_is_some : (n : ℕ) (o : Option ℕ) → o ≡ Some n → o ≡ None → ⊥
-none_is_some n o e e' = let both : Some n ≡ None = sym e ∙ e' in absurd (cc)
-
 pub conjunction_some : (names : List Name) (fs : List Formula) (start c : ClauseList) (n : ℕ) → HasConjunction names fs start c (Some n) → HasOccurrences names (conjunction fs) start c n
-conjunction_some names [] start c n h = absurd (none_is_some n (Some n) refl h.0)
-conjunction_some names (f ∷ fs) start c n h = subst (HasOccurrences names (and_from f fs) start c) (some_is h.0 n (Some n) h.1 refl) h.2
+conjunction_some names [] start c n h = absurd (none-some n (sym h.0))
+conjunction_some names (f ∷ fs) start c n h = subst (HasOccurrences names (and_from f fs) start c) (same_Some h.0 n (sym h.1)) h.2
 
 pub conjunction_none : (names : List Name) (fs : List Formula) (start c c' : ClauseList) (n : ℕ) → HasConjunction names fs start c None → IsAdded truth_clauses c c' n → HasOccurrences names (conjunction fs) start c' n
 conjunction_none names [] start c c' n h added = subst (λ (k : ClauseList). HasOccurrences names Truth k c' n) h.1 (occ_truth names c c' n added)
-conjunction_none names (f ∷ fs) start c c' n h added = absurd (none_is_some h.0 None h.1 refl)
+conjunction_none names (f ∷ fs) start c c' n h added = absurd (none-some h.0 h.1)
 
 pub disjunction_some : (names : List Name) (fs : List Formula) (start c : ClauseList) (n : ℕ) → HasDisjunction names fs start c (Some n) → HasOccurrences names (disjunction fs) start c n
-disjunction_some names [] start c n h = absurd (none_is_some n (Some n) refl h.0)
-disjunction_some names (f ∷ fs) start c n h = subst (HasOccurrences names (or_from f fs) start c) (some_is h.0 n (Some n) h.1 refl) h.2
+disjunction_some names [] start c n h = absurd (none-some n (sym h.0))
+disjunction_some names (f ∷ fs) start c n h = subst (HasOccurrences names (or_from f fs) start c) (same_Some h.0 n (sym h.1)) h.2
 
 pub disjunction_none : (names : List Name) (fs : List Formula) (start c c' : ClauseList) (n : ℕ) → HasDisjunction names fs start c None → IsAdded falsity_clauses c c' n → HasOccurrences names (disjunction fs) start c' n
 disjunction_none names [] start c c' n h added = subst (λ (k : ClauseList). HasOccurrences names Falsity k c' n) h.1 (occ_falsity names c c' n added)
-disjunction_none names (f ∷ fs) start c c' n h added = absurd (none_is_some h.0 None h.1 refl)
+disjunction_none names (f ∷ fs) start c c' n h added = absurd (none-some h.0 h.1)
 
 -- ---- the code's loops
 -- of the formulas that are to be joined, these are left
@@ -165,10 +154,3 @@ disjoining names target rest rest' g start c c' c'' o x n next j h joined = reco
   is = append_assoc j.so_far (g ∷ []) rest' ∙ ap (λ (fs : List Formula). j.so_far ++ fs) (sym next) ∙ j.is;
   joined = disjunction_more names j.so_far g start c c' c'' o x n j.joined h joined;
 }
-
--- ---- lists by index
-pub rest_of : {A B : Type 0} (f : A → B) (xs : List A) (i : ℕ) (x : A) → i < length xs → x ≡ get_or xs i x → map f (drop i xs) ≡ f x ∷ map f (drop (i + 1) xs)
-rest_of f xs i x less is = ap (map f) (drop_more xs i x less) ∙ ap (λ y. f y ∷ map f (drop (i + 1) xs)) (sym is)
-
-pub rest_all : {A : Type 0} (P : A → Type 0) (xs : List A) (i : ℕ) (x : A) → i < length xs → x ≡ get_or xs i x → AllByRecursion P (drop i xs) → P x × AllByRecursion P (drop (i + 1) xs)
-rest_all P xs i x less is all = subst (AllByRecursion P) (drop_more xs i x less ∙ ap (λ y. y ∷ drop (i + 1) xs) (sym is)) all

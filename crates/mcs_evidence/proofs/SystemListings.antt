@@ -11,15 +11,15 @@ use Rattle.mcs_system.specs.Views.{IsAcceptedView, beliefs_at, at_places}
 use Rattle.mcs_laws.proofs.Existence.{DecidesParts, states_listed}
 use Rattle.mcs_laws.proofs.Views.{view_listings}
 use Rattle.mcs_cnf.proofs.EntailmentLemmas.{one_view}
-use Rattle.mcs_evidence.proofs.Consequence.{decided}
-use Rattle.mcs_evidence.proofs.Decided.{places_where, has-places_where}
+use Rattle.mcs_system.proofs.Consequence.{cases_entails}
+use Rattle.mcs_base.proofs.Deciding.{places_where, has-places_where}
 use Rattle.mcs_evidence.proofs.DefaultListing.{default_theories_listed}
 use Rattle.mcs_evidence.proofs.ProgramListings.{program_views_listed}
 use Rattle.mcs_evidence.specs.Laws.{StatesHaveAListing}
 
 -- what a knowledge base accepts
 views_listed : (kb : Kb) (beliefs : List Formula) → (outputs : List ℕ) × IsListing (IsAcceptedView kb beliefs) StateBefore outputs
-views_listed (Classical fs) beliefs = let view = places_where (Entails fs) (decided fs) beliefs in (view ∷ [], one_view fs beliefs view (has-places_where (Entails fs) (decided fs) beliefs))
+views_listed (Classical fs) beliefs = let view = places_where (Entails fs) (cases_entails fs) beliefs in (view ∷ [], one_view fs beliefs view (has-places_where (Entails fs) (cases_entails fs) beliefs))
 views_listed (DefaultTheory items) beliefs = default_theories_listed items beliefs
 views_listed (Program rules) beliefs = program_views_listed rules beliefs
 

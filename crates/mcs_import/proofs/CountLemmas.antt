@@ -8,7 +8,7 @@ use Rattle.mcs_system.specs.Imports.{rules_into, IsQuestionAfter, IsPossibleFrom
 use Rattle.mcs_system.specs.Levels.{IsQuestionAt, AreSomeQuestions, HasQuestions, rule_set_count}
 use Rattle.mcs_base.proofs.Among.{among_left, among_right}
 use Rattle.mcs_base.proofs.Distinct.{distinct_fits, ascending_distinct}
-use Rattle.mcs_base.proofs.Numbered.{distinct_from_apart, apart_from_distinct, with_some, length-with_some, sum_by_bounded, sum_by_smaller}
+use Rattle.mcs_base.proofs.Numbered.{with_some, length-with_some, sum_by_bounded, sum_by_smaller}
 use Rattle.mcs_sets.proofs.Lattice.{none-union}
 use Rattle.mcs_import.specs.Laws.{QuestionsAreBounded, QuestionsGrow, CountsAgree, CountIsOne, CountsGrow, NeedIsOne}
 use Rattle.mcs_import.specs.States.{Grows}
@@ -22,7 +22,7 @@ among_grown (v ∷ vs) a s (inr h) = among_right s (with_some vs a) (with_some v
 
 few_within : (whole : ℕ) (xs : List ℕ) → AreApart xs → ((x : ℕ) → IsAmong x xs → Within x whole) → length xs ≤ 2 ^ size whole
 few_within whole xs apart inside =
-    let few = distinct_fits xs (with_some (members whole) 0) (distinct_from_apart xs apart) (λ x among. among_grown (members whole) 0 x ((grows_is whole 0 x).1 (x, inside x among, sym (none-union x)))) in
+    let few = distinct_fits xs (with_some (members whole) 0) apart (λ x among. among_grown (members whole) 0 x ((grows_is whole 0 x).1 (x, inside x among, sym (none-union x)))) in
     omega (arith, few, length-with_some (members whole) 0)
 
 few_questions : (m : System) (level i : ℕ) (xs : List ℕ) → AreSomeQuestions m level i xs → length xs ≤ 2 ^ size (rules_into m i)
@@ -62,14 +62,14 @@ counts_agree m level n k (yss, listings, is) = (to, from)
   where
     to : HasQuestions m level k → k ≤ n
     to h =
-        let few = sum_by_smaller (λ (xs : List ℕ). length xs) h.lists yss (h.one_each ∙ sym listings.one_each) (λ i xs ys at_i at_i'. distinct_fits xs ys (distinct_from_apart xs (h.some i xs at_i).apart) (λ x among. ((listings.listed i ys at_i').exactly x).1 ((h.some i xs at_i).questions x among))) in
+        let few = sum_by_smaller (λ (xs : List ℕ). length xs) h.lists yss (h.one_each ∙ sym listings.one_each) (λ i xs ys at_i at_i'. distinct_fits xs ys (h.some i xs at_i).apart (λ x among. ((listings.listed i ys at_i').exactly x).1 ((h.some i xs at_i).questions x among))) in
         omega (arith, few, h.many, is)
 
     from : k ≤ n → HasQuestions m level k
     from less = record {
       lists = yss;
       one_each = listings.one_each;
-      some = λ i ys at_i. record { questions = λ x among. ((listings.listed i ys at_i).exactly x).0 among; apart = apart_from_distinct ys (ascending_distinct ys (listings.listed i ys at_i).ascending) };
+      some = λ i ys at_i. record { questions = λ x among. ((listings.listed i ys at_i).exactly x).0 among; apart = ascending_distinct ys (listings.listed i ys at_i).ascending };
       many = omega (arith, less, is);
     }
 

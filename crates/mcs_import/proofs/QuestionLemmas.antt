@@ -18,7 +18,6 @@ use Rattle.mcs_system.proofs.MarkLemmas.{size-marks_of, marks_known, has-all_rul
 use Rattle.mcs_base.proofs.Among.{among_left, among_right, filter_among, among_filter, among_reverse, among_map, map_among, all_same}
 use Rattle.mcs_base.proofs.Lists.{reverse-append_middle}
 use Rattle.mcs_base.proofs.Distinct.{distinct_filter}
-use Rattle.mcs_base.proofs.Numbered.{distinct_from_apart, apart_from_distinct}
 use Rattle.mcs_system.proofs.ContextSets.{before_among, rule_there, variable_there, same_believed}
 use Rattle.mcs_system.proofs.VariableLemmas.{has-applicable, has-inputs_of, has-variables_of}
 use Rattle.mcs_import.specs.Plans.{variables_of_all, guessed, AreSupplies}
@@ -46,7 +45,7 @@ before_apart (x ∷ xs) i h = at (eqb x i) (before_apart xs i h.1)
     at false rest = (λ among. h.0 (before_among x i xs among), rest)
 
 supplied_apart : (m : System) (order : List ℕ) (i : ℕ) → IsImportOrder m order → AreApart (supplied m order i)
-supplied_apart m order i h = apart_from_distinct _ (distinct_filter (imports m i) (before_in order i) (distinct_from_apart _ (before_apart order i (follows_apart m [] order h))))
+supplied_apart m order i h = distinct_filter (imports m i) (before_in order i) (before_apart order i (follows_apart m [] order h))
 
 split_before : (xs : List ℕ) (i j : ℕ) → IsAmong j (before_in xs i) → (later : List ℕ) × (before_in xs i ≡ before_in xs j ++ j ∷ later)
 split_before [] i j among = absurd among

@@ -1,13 +1,13 @@
 -- Minimal diagnoses come from choices, and what a consistent system has.
-use Rattle.std.proofs.Common.{◌≡◌, ℕ, ◌+◌, ◌*◌, Bool, true, false, not, ◌&&◌, ◌||◌, refl, sym, ap, ◌∙◌, inl, inr, ◌↔◌, arith, true≢false}
+use Rattle.std.proofs.Common.{◌≡◌, ℕ, ◌+◌, ◌*◌, Bool, true, false, not, ◌&&◌, ◌||◌, refl, sym, ap, ◌∙◌, subst, inl, inr, ◌↔◌, arith, true≢false}
 use Rattle.std.proofs.lemmas.Bool.Decides.{nat_tests}
 use Rattle.mcs_sets.specs.Sets.{has, common, minus, Within}
 use Rattle.mcs_sets.proofs.SetLemmas.{same_set, has-empty, has-minus, has-union, has-common}
 use Rattle.mcs_base.specs.Minimal.{IsMinimal}
 use Rattle.mcs_base.specs.Pairs.{removed_of, forced_of}
-use Rattle.mcs_base.proofs.PairLemmas.{has-removed_of, has-forced_of}
+use Rattle.mcs_base.proofs.PairLemmas.{has-removed_of, has-forced_of, removed_of-none, forced_of-none}
 use Rattle.mcs_system.specs.Plain.{System}
-use Rattle.mcs_system.specs.Systems.{all_rules, applicable, acting_at, IsProjectedEquilibrium}
+use Rattle.mcs_system.specs.Systems.{all_rules, applicable, acting_at, IsConsistent, IsProjectedEquilibrium}
 use Rattle.mcs_system.specs.Repairs.{allowed_marks, choice_marks, IsChoice, IsDiagnosis, IsExplanation}
 use Rattle.mcs_system.proofs.MarkLemmas.{has-marks_of, mark-even, mark-odd, by_parity, forced_known, removed-marks_of, forced-marks_of, applicable_within}
 use Rattle.mcs_laws.proofs.Transversals.{meets_each}
@@ -75,14 +75,14 @@ pub minimal_from_choice : (m : System) (pair σ : ℕ) → IsMinimal (IsDiagnosi
 minimal_from_choice m pair σ minimal at = minimal.least _ (choice_is_diagnosis m σ _ (state_is_choice m pair σ minimal.one.allowed at)) (choice_within m pair σ)
 
 -- ---- a consistent system
-nothing_removed : removed_of 0 ≡ 0
-nothing_removed = same_set _ _ (λ r. has-removed_of 0 r ∙ has-empty (2 * r) ∙ sym (has-empty r))
-
-nothing_forced : forced_of 0 ≡ 0
-nothing_forced = same_set _ _ (λ r. has-forced_of 0 r ∙ has-empty (2 * r + 1) ∙ sym (has-empty r))
-
 pub consistent_needs_nothing : (m : System) (σ : ℕ) → IsProjectedEquilibrium m (all_rules m) 0 σ → IsDiagnosis m 0
-consistent_needs_nothing m σ at = record { allowed = none_within _; equilibrium = σ; balanced = rw (nothing_removed, nothing_forced, minus-none (all_rules m)) at }
+consistent_needs_nothing m σ at = record { allowed = none_within _; equilibrium = σ; balanced = rw (removed_of-none, forced_of-none, minus-none (all_rules m)) at }
+
+pub consistent_where_nothing : (m : System) → IsDiagnosis m 0 → IsConsistent m
+consistent_where_nothing m d =
+    let unforced : IsProjectedEquilibrium m (minus (all_rules m) (removed_of 0)) 0 d.equilibrium = subst (λ (f : ℕ). IsProjectedEquilibrium m (minus (all_rules m) (removed_of 0)) f d.equilibrium) forced_of-none d.balanced in
+    let whole : IsProjectedEquilibrium m (minus (all_rules m) 0) 0 d.equilibrium = subst (λ (r : ℕ). IsProjectedEquilibrium m (minus (all_rules m) r) 0 d.equilibrium) removed_of-none unforced in
+    record { equilibrium = d.equilibrium; balanced = subst (λ (r : ℕ). IsProjectedEquilibrium m r 0 d.equilibrium) (minus-none (all_rules m)) whole }
 
 pub consistent_minimal : (m : System) (σ : ℕ) → IsProjectedEquilibrium m (all_rules m) 0 σ → (pair : ℕ) → IsMinimal (IsDiagnosis m) pair ↔ (pair ≡ 0)
 consistent_minimal m σ at pair = (

@@ -1,5 +1,5 @@
 -- What classical contexts accept.
-use Rattle.std.proofs.Common.{◌≡◌, ℕ, Bool, true, false, ◌&&◌, ltb, eqb, List, ◌++◌, length, Option, Some, None, slice_get, refl, sym, ap, ◌∙◌, subst, inl, inr, ◌⊎◌, ◌↔◌, arith, IsTrue, true≢false}
+use Rattle.std.proofs.Common.{◌≡◌, ℕ, Bool, true, false, ◌&&◌, ltb, eqb, List, ◌++◌, length, Option, Some, None, slice_get, refl, sym, ap, ◌∙◌, subst, ◌↔◌, arith, IsTrue, true≢false}
 use Rattle.std.proofs.lemmas.Bool.Decides.{nat_tests}
 use Rattle.std.proofs.lemmas.Bool.{and_parts}
 use Rattle.mcs_sets.specs.Sets.{has, such_that}
@@ -7,7 +7,7 @@ use Rattle.mcs_sets.proofs.SetLemmas.{has-such_that}
 use Rattle.mcs_system.specs.Plain.{Formula, Kb, Classical, Context, Read, System}
 use Rattle.mcs_system.specs.Logic.{BeliefSet, Theory, Atoms, Believes, SameModels, Accepts, Entails, with_heads}
 use Rattle.mcs_system.specs.Systems.{variables, heads_into, IsVariable, Follows, AcceptsWith, IsAcceptedPart}
-use Rattle.mcs_system.proofs.Deciding.{decide}
+use Rattle.mcs_system.proofs.Consequence.{cases_entails}
 use Rattle.std.proofs.lemmas.Option.{slice_get_within}
 use Rattle.mcs_base.proofs.Booleans.{test_of, test_of-tells}
 
@@ -41,12 +41,9 @@ classical_part m i x τ c fs is kb = (to, from)
     }
 
 -- ---- whether a variable follows is decided
-decided : (fs : List Formula) (p : Formula) → Entails fs p ⊎ (¬ Entails fs p)
-decided fs p = elim (decide fs p) [ inl follows ↦ inl follows | inr other ↦ inr (λ follows. true≢false (sym (follows other.0 other.1) ∙ other.2)) ]
-
 follows_test : ℕ → List Formula → Option Read → Bool
 follows_test i fs None = false
-follows_test i fs (Some r) = eqb r.context i && test_of (decided fs r.belief)
+follows_test i fs (Some r) = eqb r.context i && test_of (cases_entails fs r.belief)
 
 -- the variables of the context that follow
 pub following : System → ℕ → List Formula → ℕ
@@ -61,11 +58,11 @@ has-following m i fs v = (
   where
     to : (o : Option Read) → slice_get (variables m) v ≡ o → follows_test i fs o ≡ true → Follows m i fs v
     to None e t = absurd (true≢false (sym t))
-    to (Some r) e t = let parts = and_parts (eqb r.context i) (test_of (decided fs r.belief)) t in (r, e, grind (arith, nat_tests), (test_of-tells (decided fs r.belief)).0 parts.1)
+    to (Some r) e t = let parts = and_parts (eqb r.context i) (test_of (cases_entails fs r.belief)) t in (r, e, grind (arith, nat_tests), (test_of-tells (cases_entails fs r.belief)).0 parts.1)
 
     from : (r : Read) → IsVariable m v r → r.context ≡ i → Entails fs r.belief → (ltb v (length (variables m)) && follows_test i fs (slice_get (variables m) v)) ≡ true
     from r var own follows =
         let less = slice_get_within (variables m) v r var in
         let e : ltb v (length (variables m)) ≡ true = grind (arith, nat_tests) in
         let e' : eqb r.context i ≡ true = grind (arith, nat_tests) in
-        rw (e, var) (rw e' ((test_of-tells (decided fs r.belief)).1 follows))
+        rw (e, var) (rw e' ((test_of-tells (cases_entails fs r.belief)).1 follows))

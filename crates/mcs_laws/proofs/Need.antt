@@ -16,7 +16,8 @@ use Rattle.mcs_laws.specs.Laws.{NeedIsOfAllRules}
 use Rattle.mcs_laws.specs.Examples.{name_a, name_b, a_unless_a, paradox, told_paradox}
 use Rattle.mcs_laws.proofs.Projections.{parts_of}
 use Rattle.mcs_laws.proofs.Tiny.{has-1}
-use Rattle.mcs_laws.proofs.Worked.{needed, in_one, alone, fact_a}
+use Rattle.mcs_base.proofs.Deciding.{only_test}
+use Rattle.mcs_laws.proofs.Worked.{needed, in_one, fact_a}
 use Rattle.mcs_base.proofs.Ranges.{zero_or_one}
 
 -- ---- a :- not a. b.
@@ -32,7 +33,7 @@ no_answer_set names h = at (is_in name_a names) refl
   where
     at : (v : Bool) → is_in name_a names ≡ v → ⊥
     at true e =
-        let has_b : is_in name_b names ≡ true = alone (is_in name_b names) (sym (ap (list_all (satisfies names)) (reduced names true e)) ∙ h.model) in
+        let has_b : is_in name_b names ≡ true = only_test (is_in name_b names) (sym (ap (list_all (satisfies names)) (reduced names true e)) ∙ h.model) in
         true≢false (sym (needed _ names (name_b ∷ []) h (λ n inside. ap (λ z. is_in z names) (in_one n name_b inside) ∙ has_b) (ap (list_all (satisfies (name_b ∷ []))) (reduced names true e)) name_a e))
     at false e = true≢false (sym (sym (ap (list_all (satisfies names)) (reduced names false e)) ∙ h.model) ∙ rw e refl)
 

@@ -10,7 +10,7 @@ use Rattle.mcs_system.specs.Logic.{same_name, is_in, BeliefSet, Theory, Atoms, B
 use Rattle.mcs_system.specs.Systems.{variables, BelievesIn, IsVariable, IsProjection}
 use Rattle.mcs_laws.specs.Laws.{StatesHaveOneProjection, DisjunctionChooses, BirdFlies}
 use Rattle.mcs_laws.specs.Examples.{name_a, name_b, name_bird, name_flies}
-use Rattle.mcs_system.proofs.Deciding.{decide}
+use Rattle.mcs_system.proofs.Consequence.{cases_entails}
 use Rattle.mcs_system.proofs.Sameness.{same_name-is}
 use Rattle.std.proofs.lemmas.Option.{slice_get_within}
 use Rattle.mcs_base.proofs.Booleans.{test_of, test_of-tells}
@@ -18,7 +18,7 @@ use Rattle.std.specs.Cmp.{both_ways}
 
 -- ---- whether a belief is believed is decided
 decided : (b : BeliefSet) (p : Formula) → Believes b p ⊎ (¬ Believes b p)
-decided (Theory fs) p = elim (decide fs p) [ inl follows ↦ inl follows | inr other ↦ inr (λ follows. true≢false (sym (follows other.0 other.1) ∙ other.2)) ]
+decided (Theory fs) p = cases_entails fs p
 decided (Atoms names) (Atom n) = at (is_in n names)
   where
     at : (v : Bool) → (v ≡ true) ⊎ (¬ (v ≡ true))

@@ -12,7 +12,7 @@ use Rattle.mcs_system.specs.Plain.{Context, Read, System}
 use Rattle.mcs_system.specs.Logic.{Believes, Accepts, with_heads}
 use Rattle.mcs_system.specs.Systems.{variables, variables_of, heads_into, IsVariable, IsAcceptedPart}
 use Rattle.mcs_system.specs.Views.{Shows, IsAcceptedView, belief_of, belief_at, beliefs_at, at_places_from, at_places}
-use Rattle.mcs_base.proofs.Among.{get_among, among_get}
+use Rattle.mcs_base.proofs.Among.{get_among, among_get, among_map, map_among}
 use Rattle.std.proofs.lemmas.Option.{slice_get_within}
 use Rattle.mcs_base.proofs.Lists.{slice_get_below, slice_get-map_some, map_slice_get}
 use Rattle.mcs_system.proofs.VariableLemmas.{has-variables_of}
@@ -190,28 +190,18 @@ module _ (m : System) (i x : ℕ) (c : Context) (is_c : slice_get m.contexts i �
       let (v, at, same) = map_slice_get (belief_at m) (members (variables_of m i)) b.at f is in
       places_before (variables_of m i) p q b v at
 
-  among_part : (p : ℕ) (views : List ℕ) → IsAmong p views → IsAmong (part p) (map part views)
-  among_part p [] h = h
-  among_part p (q ∷ views) (inl e) = inl (ap part e)
-  among_part p (q ∷ views) (inr h) = inr (among_part p views h)
-
-  part_among : (τ : ℕ) (views : List ℕ) → IsAmong τ (map part views) → (p : ℕ) × IsAmong p views × (τ ≡ part p)
-  part_among τ [] h = absurd h
-  part_among τ (q ∷ views) (inl e) = (q, inl refl, e)
-  part_among τ (q ∷ views) (inr h) = let (p, among, e) = part_among τ views h in (p, inr among, e)
-
   parts_ascend : (views : List ℕ) → AllByRecursion IsView views → IsAscending StateBefore views → IsAscending StateBefore (map part views)
   parts_ascend [] all h = tt
   parts_ascend (p ∷ views) all h = (
-    all_from_among (StateBefore (part p)) (map part views) (λ τ among. let (q, inside, e) = part_among τ views among in subst (StateBefore (part p)) (sym e) (view_before p q all.0 (all_among (StateBefore p) views q h.0 inside))),
+    all_from_among (StateBefore (part p)) (map part views) (λ τ among. let (q, inside, e) = map_among part τ views among in subst (StateBefore (part p)) (sym e) (view_before p q all.0 (all_among (StateBefore p) views q h.0 inside))),
     parts_ascend views all.1 h.1,
   )
 
   pub parts_listed : (views : List ℕ) → IsListing IsView StateBefore views → IsListing (IsAcceptedPart m i x) StateBefore (map part views)
   parts_listed views listing = record {
     exactly = λ τ. (
-      λ among. (let (p, inside, e) = part_among τ views among in part_of_view m i x τ c is_c p ((listing.exactly p).0 inside) e),
-      λ h. (let (p, view, e) = view_of_part m i x τ c is_c h in subst (λ t. IsAmong t (map part views)) (sym e) (among_part p views ((listing.exactly p).1 view))),
+      λ among. (let (p, inside, e) = map_among part τ views among in part_of_view m i x τ c is_c p ((listing.exactly p).0 inside) e),
+      λ h. (let (p, view, e) = view_of_part m i x τ c is_c h in subst (λ t. IsAmong t (map part views)) (sym e) (among_map part p views ((listing.exactly p).1 view))),
     );
     ascending = parts_ascend views (all_from_among IsView views (λ p inside. (listing.exactly p).0 inside)) listing.ascending;
   }

@@ -4,6 +4,7 @@ use Rattle.std.proofs.lemmas.Bool.{and_parts, not_from_true, not_from_false}
 use Rattle.std.specs.List.{list_all}
 use Rattle.mcs_system.specs.Plain.{Name, Not, ProgramRule}
 use Rattle.mcs_system.specs.Logic.{same_name, is_in, holds, Entails, Theory, Atoms, satisfies, reduct, IsAnswerSet}
+use Rattle.mcs_base.proofs.Deciding.{only_test, test_with_implied}
 use Rattle.mcs_system.proofs.Sameness.{same_name-is}
 use Rattle.mcs_laws.specs.Laws.{NegationAllows, NegationUndoes, ProgramsDoNotSupportThemselves, HeadsAreFacts, DefaultsAreGrounded, DefaultsMayChoose, ToldFactsBlock, KindsAcceptTheirSort}
 use Rattle.mcs_laws.specs.Examples.{SameNames, name_a, name_b, p, q, a_unless_b, a_unless_a, a_if_a}
@@ -44,10 +45,6 @@ without_b : (names : List Name) (v : Bool) → is_in name_b names ≡ v → redu
 without_b names true e = rw e refl
 without_b names false e = rw e refl
 
-pub alone : (x : Bool) → ((x || false) && true) ≡ true → x ≡ true
-alone true h = refl
-alone false h = h
-
 pub negation_allows : NegationAllows
 negation_allows names = (to, from)
   where
@@ -62,7 +59,7 @@ negation_allows names = (to, from)
         )
           where
             has_a : is_in name_a names ≡ true
-            has_a = alone (is_in name_a names) (sym (ap (list_all (satisfies names)) (without_b names false e)) ∙ h.model)
+            has_a = only_test (is_in name_a names) (sym (ap (list_all (satisfies names)) (without_b names false e)) ∙ h.model)
 
     from : SameNames names (name_a ∷ []) → IsAnswerSet a_unless_b names
     from same = at (is_in name_b names) refl
@@ -74,7 +71,7 @@ negation_allows names = (to, from)
         at true e = absurd (true≢false (sym ((same name_b).0 e)))
         at false e = record {
           model = ap (list_all (satisfies names)) (without_b names false e) ∙ ap (λ v. (v || false) && true) has_a;
-          minimal = λ b sub sat. (let in_b : is_in name_a b ≡ true = alone (is_in name_a b) (sym (ap (list_all (satisfies b)) (without_b names false e)) ∙ sat) in
+          minimal = λ b sub sat. (let in_b : is_in name_a b ≡ true = only_test (is_in name_a b) (sym (ap (list_all (satisfies b)) (without_b names false e)) ∙ sat) in
               true≢false (sym (ap (λ z. is_in z b) (in_one sub.more name_a ((same sub.more).0 sub.in_second)) ∙ in_b) ∙ sub.not_in_first));
         }
 
@@ -88,7 +85,7 @@ negation_undoes names h = at (is_in name_a names) refl
   where
     at : (v : Bool) → is_in name_a names ≡ v → ⊥
     at true e = true≢false (sym (needed a_unless_a names [] h (λ n. nothing_in n names) (ap (list_all (satisfies [])) (without_a names true e)) name_a e))
-    at false e = true≢false (sym (alone (is_in name_a names) (sym (ap (list_all (satisfies names)) (without_a names false e)) ∙ h.model)) ∙ e)
+    at false e = true≢false (sym (only_test (is_in name_a names) (sym (ap (list_all (satisfies names)) (without_a names false e)) ∙ h.model)) ∙ e)
 
 -- ---- a :- a.
 pub no_self_support : ProgramsDoNotSupportThemselves
@@ -105,18 +102,13 @@ no_self_support names = (
     always false = refl
 
 -- ---- b :- a. with the head a
-both : (x y : Bool) → ((not (x && true) || (y || false)) && ((x || false) && true)) ≡ true → (x ≡ true) × (y ≡ true)
-both true true h = (refl, refl)
-both true false h = absurd (true≢false (sym h))
-both false y h = absurd (true≢false (sym h))
-
 pub heads_are_facts : HeadsAreFacts
 heads_are_facts (Theory fs) = (λ h. absurd h, λ (names, e, same). absurd (let no : Theory fs ≡ Atoms names = e in cc))
 heads_are_facts (Atoms names) = (
   λ h. (
     names,
     refl,
-    λ n. (let (in_a, in_b) = both (is_in name_a names) (is_in name_b names) h.model in (
+    λ n. (let (in_a, in_b) = test_with_implied (is_in name_a names) (is_in name_b names) h.model in (
       λ inside. needed _ names (name_a ∷ name_b ∷ []) h (λ k. in_two k name_a name_b names in_a in_b) refl n inside,
       in_two n name_a name_b names in_a in_b,
     )),
@@ -124,7 +116,7 @@ heads_are_facts (Atoms names) = (
   λ (others, e, same'). (let is : names ≡ others = (let e' : Atoms names ≡ Atoms others = e in cc) in let same : SameNames names (name_a ∷ name_b ∷ []) = subst (λ xs. SameNames xs (name_a ∷ name_b ∷ [])) (sym is) same' in
       let in_a : is_in name_a names ≡ true = (same name_a).1 refl in let in_b : is_in name_b names ≡ true = (same name_b).1 refl in record {
         model = rw (in_a, in_b) refl;
-        minimal = λ b sub sat. (let (b_a, b_b) = both (is_in name_a b) (is_in name_b b) sat in
+        minimal = λ b sub sat. (let (b_a, b_b) = test_with_implied (is_in name_a b) (is_in name_b b) sat in
             true≢false (sym (in_two sub.more name_a name_b b b_a b_b ((same sub.more).0 sub.in_second)) ∙ sub.not_in_first));
       }),
 )

@@ -40,17 +40,3 @@ module _ (V σ τ : ℕ) (inside : Within τ V) where
 
   pub replaced-known : (all : ℕ) → Within σ all → Within V all → Within replaced all
   replaced-known all known known' v e = let h = inside v in let a = known v in let b = known' v in grind (arith, sets)
-
--- what a state says of two sets is what its parts say
-pub from_parts : (V I w t s : ℕ) → common w V ≡ t → common w I ≡ s → common (union t s) (union V I) ≡ common w (union V I)
-from_parts V I w t s own seen = same_set _ _ (λ v. let a = ap (λ z. has z v) own in let b = ap (λ z. has z v) seen in at v a b)
-  where
-    at : (v : ℕ) → has (common w V) v ≡ has t v → has (common w I) v ≡ has s v → has (common (union t s) (union V I)) v ≡ has (common w (union V I)) v
-    at v a b = grind (arith, sets)
-
--- and parts of one state agree
-pub parts_agree : (V I w s : ℕ) → common w I ≡ s → common (common w V) I ≡ common s V
-parts_agree V I w s seen = same_set _ _ (λ v. let b = ap (λ z. has z v) seen in at v b)
-  where
-    at : (v : ℕ) → has (common w I) v ≡ has s v → has (common (common w V) I) v ≡ has (common s V) v
-    at v b = grind (arith, sets)

@@ -14,7 +14,8 @@ use Rattle.mcs_import.specs.Plans.{guessed, AreSupplies}
 use Rattle.mcs_import.specs.States.{Joins}
 use Rattle.mcs_import.proofs.QuestionLemmas.{size-marks_at, question_by_state, IsAllowed, same_applicable, one_context, accepted_within, context_known, state_for, parts_of}
 use Rattle.mcs_rows.specs.Making.{distance}
-use Rattle.mcs_rows.proofs.General.{not_before, replaced, replaced-own, replaced-elsewhere, replaced-inputs, replaced-known, from_parts, parts_agree}
+use Rattle.mcs_base.proofs.SetParts.{union_of_commons, commons_agree}
+use Rattle.mcs_rows.proofs.General.{not_before, replaced, replaced-own, replaced-elsewhere, replaced-inputs, replaced-known}
 
 -- ---- a row, by what it is made of: a state at the inputs, a question that is near what applies in it, and a part
 -- that is accepted with it and agrees with the state
@@ -63,7 +64,7 @@ module _ (m : System) (order : List ℕ) (ordered : IsImportOrder m order) (leve
                 let other : ¬ (j ≡ i) = λ e. not_before order i (subst (λ (n : ℕ). IsAmong n (before_in order i)) e before) in
                 subst (IsPossible m order level j) (sym (replaced-elsewhere (variables_of m i) σ h.part inside (variables_of m j) (λ v e e'. other (one_context m j i v e e'))))
                 (allowed.supplies j (among_filter (imports m i) j (before_in order i) before imported)));
-            state_is = sym (from_parts (variables_of m i) (inputs_of m i) w h.part s own seen') ∙ h.state_is;
+            state_is = sym (union_of_commons (variables_of m i) (inputs_of m i) w h.part s own seen') ∙ h.state_is;
             marks_is = sym (same_marks m i s w h.question same) ∙ h.marks_is;
             allowed = subst (λ (z : ℕ). Within z (all_marks m)) h.marks_is (marks_known m _ _);
             few = subst (λ (n : ℕ). n ≤ level) (sym (size-marks_at m i s h.question of_rules) ∙ ap (λ (z : ℕ). size z) h.marks_is) h.near;
@@ -88,8 +89,8 @@ module _ (m : System) (order : List ℕ) (ordered : IsImportOrder m order) (leve
         near = subst (λ (n : ℕ). n ≤ level) (same_distance m i r.whole (union p g) r.rules same) near;
         part = common r.whole (variables_of m i);
         accepted = r.accepted;
-        agree = parts_agree (variables_of m i) (inputs_of m i) r.whole (union p g) seen;
-        state_is = from_parts (variables_of m i) (inputs_of m i) r.whole (common r.whole (variables_of m i)) (union p g) refl seen ∙ r.state_is;
+        agree = commons_agree (variables_of m i) (inputs_of m i) r.whole (union p g) seen;
+        state_is = union_of_commons (variables_of m i) (inputs_of m i) r.whole (common r.whole (variables_of m i)) (union p g) refl seen ∙ r.state_is;
         marks_is = sym (same_marks m i r.whole (union p g) r.rules same) ∙ r.marks_is;
       }
 

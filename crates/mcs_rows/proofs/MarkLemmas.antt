@@ -2,11 +2,11 @@
 use Rattle.std.proofs.Common.{◌≡◌, ℕ, ◌+◌, ◌*◌, ◌/◌, ◌%◌, ◌<◌, zero, suc, Bool, true, false, ◌&&◌, ◌||◌, cond, eqb, ltb, List, length, refl, sym, ap, ◌∙◌, arith}
 use Rattle.std.proofs.lemmas.Bool.{and_parts, and_from}
 use Rattle.std.proofs.lemmas.Bool.Decides.{nat_tests}
-use Rattle.std.proofs.Math.Bool.{or_assoc, and-false}
+use Rattle.std.proofs.Math.Bool.{and-false}
 use Rattle.std.specs.Cmp.{both_ways}
 use Rattle.std.specs.List.{list_any}
-use Rattle.mcs_sets.specs.Sets.{has, single, union, members, Within}
-use Rattle.mcs_sets.proofs.SetLemmas.{same_set, has-empty, has-single, has-union}
+use Rattle.mcs_sets.specs.Sets.{has, members, Within}
+use Rattle.mcs_sets.proofs.SetLemmas.{same_set, has-empty}
 use Rattle.mcs_base.proofs.Among.{any_get, among_any, among_get}
 use Rattle.mcs_base.proofs.ListingLemmas.{members_listing}
 use Rattle.mcs_system.specs.Plain.{System}
@@ -36,9 +36,6 @@ marked-members offset rules k small = both_ways _ _ to from
         let rest : k % 2 ≡ offset = grind (arith, nat_tests) in
         let is : k ≡ 2 * (k / 2) + offset = omega arith in
         among_any (λ r. eqb k (2 * r + offset)) (members rules) (k / 2) (((members_listing rules).exactly (k / 2)).1 here) (grind (arith, nat_tests))
-
-pub marked-step : (all j k : ℕ) (rest whole : Bool) → (has all k || (eqb k j || rest)) ≡ whole → (has (union all (single j)) k || rest) ≡ whole
-marked-step all j k rest whole e = rw (has-union all (single j) k, has-single j k) (or_assoc (has all k) (eqb k j) rest ∙ e)
 
 pub marks_are : (m : System) (a b none mid all : ℕ) → Within a (all_rules m) → Within b (all_rules m) → none ≡ 0 → ((k : ℕ) → has mid k ≡ (has none k || (eqb (k % 2) 0 && has a (k / 2)))) → ((k : ℕ) → has all k ≡ (has mid k || (eqb (k % 2) 1 && has b (k / 2)))) → all ≡ marks_of m a b
 marks_are m a b none mid all within_a within_b is of_a of_b = same_set _ _ (λ k. of_b k ∙ ap (λ u. u || (eqb (k % 2) 1 && has b (k / 2))) (of_a k ∙ ap (λ u. u || (eqb (k % 2) 0 && has a (k / 2))) (ap (λ s. has s k) is ∙ has-empty k)) ∙ at k ∙ sym (has-marks_of m a b k))

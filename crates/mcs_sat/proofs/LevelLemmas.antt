@@ -1,15 +1,16 @@
 -- The levels of a trail: where they begin, and what is on each.
-use Rattle.std.proofs.Common.{◌≡◌, ℕ, ◌+◌, ◌-◌, ◌<◌, ◌≤◌, zero, suc, cond, nat_eq, List, [], ◌∷◌, ◌++◌, ◌⊎◌, inl, inr, refl, sym, ap, ◌∙◌, subst, arith, ℤ, pos, map, length, take, drop, get_or, Some, slice_get}
+use Rattle.std.proofs.Common.{◌≡◌, ℕ, ◌+◌, ◌-◌, ◌<◌, ◌≤◌, zero, suc, List, [], ◌∷◌, ◌++◌, ◌⊎◌, inl, inr, refl, sym, ap, ◌∙◌, subst, arith, ℤ, pos, map, length, take, drop, get_or, Some, slice_get}
 use Rattle.std.specs.List.{AllByRecursion}
-use Rattle.std.proofs.lemmas.Bool.{cases_lt, cond-false}
+use Rattle.std.proofs.lemmas.Bool.{cases_lt}
 use Rattle.std.proofs.lemmas.List.{drop_more, get_or_append_left, get_or-append_right, get_or_push, get_or-take, length-append, length_push, length-take, length-take-le, take-append-drop, take-append-le, take-take, take_all, take_at, take_more}
 use Rattle.std.proofs.lemmas.Option.{slice_get_within, slice_get-get_or, get_or_from_slice_get}
-use Rattle.std.proofs.Math.Dec.{eqb-suc-zero}
 use Rattle.std.proofs.Math.Seq.{take-append-add}
 use Rattle.mcs_base.specs.Listings.{IsAmong}
 use Rattle.mcs_base.proofs.Among.{among_at}
 use Rattle.mcs_base.proofs.Each.{all_among}
 use Rattle.mcs_base.proofs.Lists.{slice_get-append_left, slice_get_seam}
+use Rattle.mcs_base.proofs.Lasts.{AddsLast, onto_first, adds-after, adds-onto, adds-as}
+use Rattle.mcs_base.proofs.NumberCases.{cases_zero, cond_at_zero, cond_above_zero}
 use Rattle.mcs_sat.specs.declared.state.Reach.{Reach}
 use Rattle.mcs_sat.specs.declared.trail.Entry.{Entry}
 use Rattle.mcs_sat.specs.Learning.{AreImplied}
@@ -23,23 +24,15 @@ abbrev IsImplied : ℕ → Entry → Type 0
 IsImplied level e = (0 < e.reason) × (e.level ≡ level)
 
 -- ---- how many are decided
-when_decided : {A : Type 0} (n : ℕ) (x y : A) → n ≡ 0 → cond (nat_eq n 0) x y ≡ x
-when_decided zero x y e = refl
-when_decided (suc n) x y e = absurd (omega arith)
-
-when_implied : {A : Type 0} (n : ℕ) (x y : A) → 0 < n → cond (nat_eq n 0) x y ≡ y
-when_implied zero x y some = absurd (omega arith)
-when_implied (suc n) x y some = cond-false (nat_eq (suc n) 0) x y (eqb-suc-zero n)
-
 pub decisions-append : (xs ys : List Entry) → decisions (xs ++ ys) ≡ decisions xs + decisions ys
 decisions-append [] ys = omega arith
 decisions-append (x ∷ xs) ys = omega (arith, decisions-append xs ys)
 
 decisions-decided : (e : Entry) (es : List Entry) → e.reason ≡ 0 → decisions (e ∷ es) ≡ decisions es + 1
-decisions-decided e es none = omega (arith, when_decided {A = ℕ} e.reason 1 0 none)
+decisions-decided e es none = omega (arith, cond_at_zero {A = ℕ} e.reason 1 0 none)
 
 decisions-implied : (e : Entry) (es : List Entry) → 0 < e.reason → decisions (e ∷ es) ≡ decisions es
-decisions-implied e es some = omega (arith, when_implied {A = ℕ} e.reason 1 0 some)
+decisions-implied e es some = omega (arith, cond_above_zero {A = ℕ} e.reason 1 0 some)
 
 decisions-none : (level : ℕ) (more : List Entry) → AllByRecursion (IsImplied level) more → decisions more ≡ 0
 decisions-none level [] all = refl
@@ -197,59 +190,36 @@ pub implied-none : (es : List Entry) → decisions es ≡ 0 → AreImplied es (l
 implied-none es zeros i less none = absurd (omega (arith, decisions-next es i less none, decisions-part (i + 1) es))
 
 -- ---- what is on each level
-cases_reason : (n : ℕ) → (n ≡ 0) ⊎ (0 < n)
-cases_reason zero = inl refl
-cases_reason (suc n) = inr (omega arith)
-
--- the literal, put before those of the first level
-abbrev onto : ℤ → List (List ℤ) → List (List ℤ)
-onto l [] = []
-onto l (x ∷ xs) = (l ∷ x) ∷ xs
-
-levels-decided : (e : Entry) (es : List Entry) → e.reason ≡ 0 → levels_of (e ∷ es) ≡ [] ∷ onto e.literal (levels_of es)
+levels-decided : (e : Entry) (es : List Entry) → e.reason ≡ 0 → levels_of (e ∷ es) ≡ [] ∷ onto_first e.literal (levels_of es)
 levels-decided e es none =
-    let first : first_level (e ∷ es) ≡ [] = when_decided {A = List ℤ} e.reason [] (e.literal ∷ first_level es) none in
-    let later : later_levels (e ∷ es) ≡ (e.literal ∷ first_level es) ∷ later_levels es = when_decided {A = List (List ℤ)} e.reason ((e.literal ∷ first_level es) ∷ later_levels es) (later_levels es) none in
+    let first : first_level (e ∷ es) ≡ [] = cond_at_zero {A = List ℤ} e.reason [] (e.literal ∷ first_level es) none in
+    let later : later_levels (e ∷ es) ≡ (e.literal ∷ first_level es) ∷ later_levels es = cond_at_zero {A = List (List ℤ)} e.reason ((e.literal ∷ first_level es) ∷ later_levels es) (later_levels es) none in
     ap (λ (x : List ℤ). x ∷ later_levels (e ∷ es)) first ∙ ap (λ (xs : List (List ℤ)). [] ∷ xs) later
 
-levels-implied : (e : Entry) (es : List Entry) → 0 < e.reason → levels_of (e ∷ es) ≡ onto e.literal (levels_of es)
+levels-implied : (e : Entry) (es : List Entry) → 0 < e.reason → levels_of (e ∷ es) ≡ onto_first e.literal (levels_of es)
 levels-implied e es some =
-    let first : first_level (e ∷ es) ≡ e.literal ∷ first_level es = when_implied {A = List ℤ} e.reason [] (e.literal ∷ first_level es) some in
-    let later : later_levels (e ∷ es) ≡ later_levels es = when_implied {A = List (List ℤ)} e.reason ((e.literal ∷ first_level es) ∷ later_levels es) (later_levels es) some in
+    let first : first_level (e ∷ es) ≡ e.literal ∷ first_level es = cond_above_zero {A = List ℤ} e.reason [] (e.literal ∷ first_level es) some in
+    let later : later_levels (e ∷ es) ≡ later_levels es = cond_above_zero {A = List (List ℤ)} e.reason ((e.literal ∷ first_level es) ∷ later_levels es) (later_levels es) some in
     ap (λ (x : List ℤ). x ∷ later_levels (e ∷ es)) first ∙ ap (λ (xs : List (List ℤ)). (e.literal ∷ first_level es) ∷ xs) later
 
 pub levels-count : (es : List Entry) → length (levels_of es) ≡ decisions es + 1
 levels-count [] = refl
-levels-count (e ∷ es) = elim (cases_reason e.reason) [
+levels-count (e ∷ es) = elim (cases_zero e.reason) [
   | inl none ↦ omega (arith, ap length (levels-decided e es none), levels-count es, decisions-decided e es none)
   | inr some ↦ omega (arith, ap length (levels-implied e es some), levels-count es, decisions-implied e es some)
 ]
 
--- the literals are put after those of the last level
-abbrev pub AddsLast : List (List ℤ) → List ℤ → List (List ℤ) → Type 0
-AddsLast old literals new = (before : List (List ℤ)) × (last : List ℤ) × (old ≡ before ++ last ∷ []) × (new ≡ before ++ (last ++ literals) ∷ [])
-
-adds-after : (x : List ℤ) (old new : List (List ℤ)) (literals : List ℤ) → AddsLast old literals new → AddsLast (x ∷ old) literals (x ∷ new)
-adds-after x old new literals (before, last, e, e') = (x ∷ before, last, ap (λ (xs : List (List ℤ)). x ∷ xs) e, ap (λ (xs : List (List ℤ)). x ∷ xs) e')
-
-adds-onto : (l : ℤ) (old new : List (List ℤ)) (literals : List ℤ) → AddsLast old literals new → AddsLast (onto l old) literals (onto l new)
-adds-onto l old new literals ([], last, e, e') = ([], l ∷ last, ap (onto l) e, ap (onto l) e')
-adds-onto l old new literals (x ∷ before, last, e, e') = ((l ∷ x) ∷ before, last, ap (onto l) e, ap (onto l) e')
-
-adds-as : (old old' new new' : List (List ℤ)) (literals : List ℤ) → old' ≡ old → new' ≡ new → AddsLast old literals new → AddsLast old' literals new'
-adds-as old old' new new' literals e e' (before, last, is, is') = (before, last, e ∙ is, e' ∙ is')
-
 implied-levels : (level : ℕ) (more : List Entry) → AllByRecursion (IsImplied level) more → levels_of more ≡ map (λ (e : Entry). e.literal) more ∷ []
 implied-levels level [] all = refl
-implied-levels level (e ∷ more) all = levels-implied e more all.0.0 ∙ ap (onto e.literal) (implied-levels level more all.1)
+implied-levels level (e ∷ more) all = levels-implied e more all.0.0 ∙ ap (onto_first e.literal) (implied-levels level more all.1)
 
 adds-levels : (level : ℕ) (es more : List Entry) → AllByRecursion (IsImplied level) more → AddsLast (levels_of es) (map (λ (e : Entry). e.literal) more) (levels_of (es ++ more))
 adds-levels level [] more all = ([], [], refl, implied-levels level more all)
 adds-levels level (e ∷ es) more all =
     let rest = adds-onto e.literal (levels_of es) (levels_of (es ++ more)) (map (λ (e : Entry). e.literal) more) (adds-levels level es more all) in
-    elim (cases_reason e.reason) [
-      | inl none ↦ adds-as ([] ∷ onto e.literal (levels_of es)) (levels_of (e ∷ es)) ([] ∷ onto e.literal (levels_of (es ++ more))) (levels_of (e ∷ (es ++ more))) (map (λ (e : Entry). e.literal) more) (levels-decided e es none) (levels-decided e (es ++ more) none) (adds-after [] (onto e.literal (levels_of es)) (onto e.literal (levels_of (es ++ more))) (map (λ (e : Entry). e.literal) more) rest)
-      | inr some ↦ adds-as (onto e.literal (levels_of es)) (levels_of (e ∷ es)) (onto e.literal (levels_of (es ++ more))) (levels_of (e ∷ (es ++ more))) (map (λ (e : Entry). e.literal) more) (levels-implied e es some) (levels-implied e (es ++ more) some) rest
+    elim (cases_zero e.reason) [
+      | inl none ↦ adds-as ([] ∷ onto_first e.literal (levels_of es)) (levels_of (e ∷ es)) ([] ∷ onto_first e.literal (levels_of (es ++ more))) (levels_of (e ∷ (es ++ more))) (map (λ (e : Entry). e.literal) more) (levels-decided e es none) (levels-decided e (es ++ more) none) (adds-after [] (onto_first e.literal (levels_of es)) (onto_first e.literal (levels_of (es ++ more))) (map (λ (e : Entry). e.literal) more) rest)
+      | inr some ↦ adds-as (onto_first e.literal (levels_of es)) (levels_of (e ∷ es)) (onto_first e.literal (levels_of (es ++ more))) (levels_of (e ∷ (es ++ more))) (map (λ (e : Entry). e.literal) more) (levels-implied e es some) (levels-implied e (es ++ more) some) rest
     ]
 
 -- what is implied is on the last level
@@ -257,13 +227,13 @@ pub levels-more : (level : ℕ) (es new : List Entry) → Grows level es new →
 levels-more level es new (more, is, all) = (more, is, subst (λ (x : List Entry). AddsLast (levels_of es) (map (λ (e : Entry). e.literal) more) (levels_of x)) (sym is) (adds-levels level es more all))
 
 -- levels from a decision on follow those before
-levels-split : (es rest : List Entry) (e : Entry) → e.reason ≡ 0 → levels_of (es ++ e ∷ rest) ≡ levels_of es ++ onto e.literal (levels_of rest)
+levels-split : (es rest : List Entry) (e : Entry) → e.reason ≡ 0 → levels_of (es ++ e ∷ rest) ≡ levels_of es ++ onto_first e.literal (levels_of rest)
 levels-split [] rest e none = levels-decided e rest none
 levels-split (d ∷ es) rest e none =
-    let split = ap (onto d.literal) (levels-split es rest e none) in
-    elim (cases_reason d.reason) [
-      | inl decided ↦ levels-decided d (es ++ e ∷ rest) decided ∙ ap (λ (xs : List (List ℤ)). [] ∷ xs) split ∙ sym (ap (λ (xs : List (List ℤ)). xs ++ onto e.literal (levels_of rest)) (levels-decided d es decided))
-      | inr some ↦ levels-implied d (es ++ e ∷ rest) some ∙ split ∙ sym (ap (λ (xs : List (List ℤ)). xs ++ onto e.literal (levels_of rest)) (levels-implied d es some))
+    let split = ap (onto_first d.literal) (levels-split es rest e none) in
+    elim (cases_zero d.reason) [
+      | inl decided ↦ levels-decided d (es ++ e ∷ rest) decided ∙ ap (λ (xs : List (List ℤ)). [] ∷ xs) split ∙ sym (ap (λ (xs : List (List ℤ)). xs ++ onto_first e.literal (levels_of rest)) (levels-decided d es decided))
+      | inr some ↦ levels-implied d (es ++ e ∷ rest) some ∙ split ∙ sym (ap (λ (xs : List (List ℤ)). xs ++ onto_first e.literal (levels_of rest)) (levels-implied d es some))
     ]
 
 -- a decision is a level of its own
@@ -277,14 +247,14 @@ levels-back es levels k r s at =
     let rest : List Entry = drop (r.entries + 1) es in
     let split : take r.entries es ++ e ∷ rest ≡ es = sym (ap (λ (x : List Entry). take r.entries es ++ x) (drop_more es r.entries no_entry here)) ∙ take-append-drop r.entries es in
     let sized : length (levels_of (take r.entries es)) ≡ k + 1 = omega (arith, levels-count (take r.entries es), count) in
-    sym (ap (λ (x : List Entry). take (k + 1) (levels_of x)) (sym split) ∙ ap (take (k + 1)) (levels-split (take r.entries es) rest e none) ∙ take_at (levels_of (take r.entries es)) (onto e.literal (levels_of rest)) (k + 1) sized)
+    sym (ap (λ (x : List Entry). take (k + 1) (levels_of x)) (sym split) ∙ ap (take (k + 1)) (levels-split (take r.entries es) rest e none) ∙ take_at (levels_of (take r.entries es)) (onto_first e.literal (levels_of rest)) (k + 1) sized)
 
 -- ---- the literals of a level
-onto-has : (l : ℤ) (x : List ℤ) (xs : List (List ℤ)) (m : ℕ) (k : ℤ) → IsAmong k (get_or (x ∷ xs) m []) → IsAmong k (get_or (onto l (x ∷ xs)) m [])
+onto-has : (l : ℤ) (x : List ℤ) (xs : List (List ℤ)) (m : ℕ) (k : ℤ) → IsAmong k (get_or (x ∷ xs) m []) → IsAmong k (get_or (onto_first l (x ∷ xs)) m [])
 onto-has l x xs zero k among = inr among
 onto-has l x xs (suc m) k among = among
 
-onto-from : (l : ℤ) (x : List ℤ) (xs : List (List ℤ)) (m : ℕ) (k : ℤ) → IsAmong k (get_or (onto l (x ∷ xs)) m []) → ((m ≡ 0) × (k ≡ l)) ⊎ IsAmong k (get_or (x ∷ xs) m [])
+onto-from : (l : ℤ) (x : List ℤ) (xs : List (List ℤ)) (m : ℕ) (k : ℤ) → IsAmong k (get_or (onto_first l (x ∷ xs)) m []) → ((m ≡ 0) × (k ≡ l)) ⊎ IsAmong k (get_or (x ∷ xs) m [])
 onto-from l x xs zero k (inl e) = inl (refl, e)
 onto-from l x xs zero k (inr among) = inr among
 onto-from l x xs (suc m) k among = inr among
@@ -313,7 +283,7 @@ has-implied e es (suc j) some rest less =
 
 has-levels : (es : List Entry) (i : ℕ) → HasLevel es i
 has-levels [] i less = absurd (omega arith)
-has-levels (e ∷ es) i less = elim (cases_reason e.reason) [
+has-levels (e ∷ es) i less = elim (cases_zero e.reason) [
   | inl none ↦ has-decided e es i none (λ j. has-levels es j) less
   | inr some ↦ has-implied e es i some (λ j. has-levels es j) less
 ]
@@ -322,14 +292,14 @@ has-levels (e ∷ es) i less = elim (cases_reason e.reason) [
 abbrev StandsOn : List Entry → ℕ → ℤ → Type 0
 StandsOn es m k = (i : ℕ) × (i < length es) × (decisions (take (suc i) es) ≡ m) × (literal_at es i ≡ k)
 
-from-decided : (e : Entry) (es : List Entry) (m : ℕ) (k : ℤ) → e.reason ≡ 0 → ((n : ℕ) → IsAmong k (get_or (levels_of es) n []) → StandsOn es n k) → IsAmong k (get_or ([] ∷ onto e.literal (levels_of es)) m []) → StandsOn (e ∷ es) m k
+from-decided : (e : Entry) (es : List Entry) (m : ℕ) (k : ℤ) → e.reason ≡ 0 → ((n : ℕ) → IsAmong k (get_or (levels_of es) n []) → StandsOn es n k) → IsAmong k (get_or ([] ∷ onto_first e.literal (levels_of es)) m []) → StandsOn (e ∷ es) m k
 from-decided e es zero k none rest among = absurd among
 from-decided e es (suc m) k none rest among = elim (onto-from e.literal (first_level es) (later_levels es) m k among) [
   | inl first ↦ (0, omega arith, omega (arith, decisions-decided e [] none, first.0), sym first.1)
   | inr later ↦ let (j, less, count, is) = rest m later in (suc j, omega arith, omega (arith, decisions-decided e (take (suc j) es) none), is)
 ]
 
-from-implied : (e : Entry) (es : List Entry) (m : ℕ) (k : ℤ) → 0 < e.reason → ((n : ℕ) → IsAmong k (get_or (levels_of es) n []) → StandsOn es n k) → IsAmong k (get_or (onto e.literal (levels_of es)) m []) → StandsOn (e ∷ es) m k
+from-implied : (e : Entry) (es : List Entry) (m : ℕ) (k : ℤ) → 0 < e.reason → ((n : ℕ) → IsAmong k (get_or (levels_of es) n []) → StandsOn es n k) → IsAmong k (get_or (onto_first e.literal (levels_of es)) m []) → StandsOn (e ∷ es) m k
 from-implied e es m k some rest among = elim (onto-from e.literal (first_level es) (later_levels es) m k among) [
   | inl first ↦ (0, omega arith, omega (arith, decisions-implied e [] some, first.0), sym first.1)
   | inr later ↦ let (j, less, count, is) = rest m later in (suc j, omega arith, omega (arith, decisions-implied e (take (suc j) es) some), is)
@@ -338,7 +308,7 @@ from-implied e es m k some rest among = elim (onto-from e.literal (first_level e
 from-levels : (es : List Entry) (m : ℕ) (k : ℤ) → IsAmong k (get_or (levels_of es) m []) → StandsOn es m k
 from-levels [] zero k among = absurd among
 from-levels [] (suc m) k among = absurd among
-from-levels (e ∷ es) m k among = elim (cases_reason e.reason) [
+from-levels (e ∷ es) m k among = elim (cases_zero e.reason) [
   | inl none ↦ from-decided e es m k none (λ n. from-levels es n k) (subst (λ (xs : List (List ℤ)). IsAmong k (get_or xs m [])) (levels-decided e es none) among)
   | inr some ↦ from-implied e es m k some (λ n. from-levels es n k) (subst (λ (xs : List (List ℤ)). IsAmong k (get_or xs m [])) (levels-implied e es some) among)
 ]

@@ -16,3 +16,4 @@ pub mod ModelLemmas
 pub mod WorkLemmas
 pub mod SearchLemmas
 pub mod BackLemmas
+pub mod Keeping

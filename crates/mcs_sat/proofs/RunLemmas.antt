@@ -1,5 +1,5 @@
 -- What stays right of a solver when literals are made true, and what it comes to when all was visited.
-use Rattle.std.proofs.Common.{◌≡◌, ◌≢◌, ℕ, ◌*◌, ◌^◌, ◌<◌, ◌≤◌, List, ◌⊎◌, inl, inr, refl, sym, ap, ◌∙◌, subst, arith, ℤ, zero, suc, pos, negsuc, neg_ℤ, unsigned_abs, length, take, get_or, Some, slice_get}
+use Rattle.std.proofs.Common.{◌≡◌, ℕ, ◌*◌, ◌^◌, ◌<◌, ◌≤◌, List, ◌⊎◌, inl, inr, refl, sym, ap, ◌∙◌, subst, arith, ℤ, neg_ℤ, unsigned_abs, length, take, get_or, Some, slice_get}
 use Rattle.std.proofs.Math.Seq.{take-append_seam}
 use Rattle.std.specs.List.{AllByRecursion}
 use Rattle.std.proofs.lemmas.Bool.{cases_lt, cases_eq}
@@ -7,7 +7,7 @@ use Rattle.std.proofs.lemmas.Option.{slice_get_within}
 use Rattle.mcs_base.proofs.Among.{get_among}
 use Rattle.mcs_base.proofs.Each.{all_among, all_from_among, all_get}
 use Rattle.mcs_base.proofs.Lists.{slice_get_below}
-use Rattle.mcs_base.proofs.Numbers.{cases_eq_ℤ}
+use Rattle.mcs_base.proofs.NumberCases.{same_unsigned_abs}
 use Rattle.mcs_trace.specs.Clauses.{IsClause, IsLiteral}
 use Rattle.mcs_sat.specs.declared.state.Reach.{Reach}
 use Rattle.mcs_sat.specs.declared.state.State.{State}
@@ -90,24 +90,13 @@ state-visited s t w v is trail positions grows lists watched short bound reached
     }
 
 -- ---- where all was visited
--- a literal of the same size is the same or its negation
-same-size : (a b : ℤ) → unsigned_abs a ≡ unsigned_abs b → (a ≡ b) ⊎ (a ≡ neg_ℤ b)
-same-size a b e = elim (cases_eq_ℤ a b) [ inl same ↦ inl same | inr other ↦ inr (turned a b e other) ]
-  where
-    turned : (a b : ℤ) → unsigned_abs a ≡ unsigned_abs b → a ≢ b → a ≡ neg_ℤ b
-    turned (pos m) (pos n) e other = absurd (other (ap pos e))
-    turned (pos m) (negsuc n) e other = ap pos e
-    turned (negsuc m) (pos zero) e other = absurd (omega arith)
-    turned (negsuc m) (pos (suc n)) e other = ap negsuc (omega arith)
-    turned (negsuc m) (negsuc n) e other = absurd (other (ap negsuc (omega arith)))
-
 -- a literal has a value, or its variable stands nowhere
 value-or-free : (es : List Entry) (ps : List ℕ) (l : ℤ) → ArePlaced es ps → IsOn es l ⊎ (IsOn es (neg_ℤ l) ⊎ StandsNowhere es (unsigned_abs l))
 value-or-free es ps l placed =
     let p : ℕ = get_or ps (unsigned_abs l) 0 in
     elim (cases_lt p (length es)) [
       | inl less ↦ elim (cases_eq (unsigned_abs (literal_at es p)) (unsigned_abs l)) [
-        | inl same ↦ elim (same-size (literal_at es p) l same) [ inl is ↦ inl (p, less, is) | inr is ↦ inr (inl (p, less, is)) ]
+        | inl same ↦ elim (same_unsigned_abs (literal_at es p) l same) [ inl is ↦ inl (p, less, is) | inr is ↦ inr (inl (p, less, is)) ]
         | inr other ↦ inr (inr (λ i (less', size). other (ap (λ (n : ℕ). unsigned_abs (literal_at es n)) (sym (at i less' size)) ∙ size)))
       ]
       | inr past ↦ inr (inr (λ i (less', size). let e = at i less' size in omega arith))

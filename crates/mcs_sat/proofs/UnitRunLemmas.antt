@@ -8,6 +8,7 @@ use Rattle.std.proofs.lemmas.List.{map_push}
 use Rattle.mcs_base.specs.Listings.{IsAmong}
 use Rattle.mcs_base.proofs.Among.{among_at, among_either, among_get, among_map, map_among, place_among}
 use Rattle.mcs_base.proofs.Each.{all_among}
+use Rattle.mcs_base.proofs.Lasts.{flat_begun}
 use Rattle.mcs_base.proofs.Numbers.{unsigned_abs-neg_ℤ}
 use Rattle.mcs_sat.specs.declared.trail.Entry.{Entry}
 use Rattle.mcs_sat.specs.Solvers.{AreDecided, HasNoValue, IsFalseUnder, IsForcedBy, IsOpenUnder, IsUnitRun}
@@ -59,14 +60,10 @@ open-not_false ts c consistent (inr two) off = free-not_off ts two.first two.fre
 abbrev pub literals : List Entry → List ℤ
 literals es = map (λ (e : Entry). e.literal) es
 
-flat-step : (b : Bool) (l : ℤ) (f : List ℤ) (r : List (List ℤ)) → flat_map (λ (x : List ℤ). x) (cond b [] (l ∷ f) ∷ cond b ((l ∷ f) ∷ r) r) ≡ l ∷ (f ++ flat_map (λ (x : List ℤ). x) r)
-flat-step true l f r = refl
-flat-step false l f r = refl
-
 -- those of all levels
 pub flat-levels : (es : List Entry) → flat_map (λ (x : List ℤ). x) (levels_of es) ≡ literals es
 flat-levels [] = refl
-flat-levels (e ∷ es) = flat-step (nat_eq e.reason 0) e.literal (first_level es) (later_levels es) ∙ ap (λ (x : List ℤ). e.literal ∷ x) (flat-levels es)
+flat-levels (e ∷ es) = flat_begun (nat_eq e.reason 0) e.literal (first_level es) (later_levels es) ∙ ap (λ (x : List ℤ). e.literal ∷ x) (flat-levels es)
 
 pub on-among : (es : List Entry) (k : ℤ) → IsOn es k → IsAmong k (literals es)
 on-among es k (p, less, e) = subst (λ (x : ℤ). IsAmong x (literals es)) e (among_map (λ (d : Entry). d.literal) (entry_at es p) es (among_at es p (record { literal = pos 0; reason = 0; level = 0 }) less))

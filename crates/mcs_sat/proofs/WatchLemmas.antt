@@ -1,5 +1,5 @@
 -- Lists of what watches a literal, and pairs that are watched.
-use Rattle.std.proofs.Common.{◌≡◌, ◌≢◌, ℕ, zero, suc, ◌+◌, ◌-◌, ◌<◌, ◌≤◌, min, ◌⊎◌, ◌↔◌, inl, inr, List, [], ◌∷◌, ◌++◌, Option, refl, sym, ap, ◌∙◌, subst, arith, ℤ, pos, neg_ℤ, unsigned_abs, length, get_or, set, take, swap_remove, Some, None, slice_get, Vec}
+use Rattle.std.proofs.Common.{◌≡◌, ◌≢◌, ℕ, zero, suc, ◌+◌, ◌-◌, ◌<◌, ◌≤◌, min, ◌⊎◌, ◌↔◌, inl, inr, List, [], ◌∷◌, ◌++◌, Option, refl, sym, ap, ◌∙◌, subst, arith, ℤ, pos, neg_ℤ, unsigned_abs, length, get_or, set, swap_remove, Some, None, slice_get, Vec}
 use Rattle.std.specs.declared.alloc.Global.{Global}
 use Rattle.std.specs.List.{AllByRecursion}
 use Rattle.std.proofs.lemmas.Bool.{cases_eq, cases_lt}
@@ -11,6 +11,7 @@ use Rattle.mcs_base.specs.Listings.{IsAmong}
 use Rattle.mcs_base.proofs.Among.{among_permutation, among_push, get_among}
 use Rattle.mcs_base.proofs.Each.{all_among, all_get}
 use Rattle.mcs_base.proofs.Lists.{slice_get_below}
+use Rattle.mcs_base.proofs.Written.{slice_get-take}
 use Rattle.mcs_trace.specs.Clauses.{IsClause, IsLiteral, place}
 use Rattle.mcs_trace.proofs.OrderLemmas.{place-injective}
 use Rattle.mcs_sat.specs.declared.state.Reach.{Reach}
@@ -40,12 +41,6 @@ module _ {A : Type 0} where
   slice_get-set_same [] i y less = absurd (omega arith)
   slice_get-set_same (x ∷ xs) zero y less = refl
   slice_get-set_same (x ∷ xs) (suc i) y less = slice_get-set_same xs i y (omega arith)
-
-  pub slice_get-take : (n : ℕ) (xs : List A) (i : ℕ) → i < n → slice_get (take n xs) i ≡ slice_get xs i
-  slice_get-take zero xs i less = absurd (omega arith)
-  slice_get-take (suc n) [] i less = refl
-  slice_get-take (suc n) (x ∷ xs) zero less = refl
-  slice_get-take (suc n) (x ∷ xs) (suc i) less = slice_get-take n xs i (omega arith)
 
   -- one is taken out, and the last one takes its place
   pub slice_get-swap_remove : (xs : List A) (i : ℕ) (d : A) (j : ℕ) → i < length xs → j < i → slice_get (swap_remove xs i d) j ≡ slice_get xs j

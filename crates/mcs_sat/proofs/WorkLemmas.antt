@@ -1,5 +1,5 @@
 -- The work that is left falls with each literal that is made true, and with each jump back to a decision.
-use Rattle.std.proofs.Common.{◌≡◌, ℕ, ◌+◌, ◌*◌, ◌^◌, ◌-◌, ◌<◌, ◌≤◌, zero, suc, cond, nat_eq, List, [], ◌∷◌, ◌++◌, sym, subst, arith, length, length-append, append-nil, append_assoc, take, get_or}
+use Rattle.std.proofs.Common.{◌≡◌, ℕ, ◌+◌, ◌*◌, ◌^◌, ◌<◌, ◌≤◌, zero, suc, cond, nat_eq, List, [], ◌∷◌, ◌++◌, sym, subst, arith, length, length-append, append-nil, append_assoc, take, get_or}
 use Rattle.std.proofs.lemmas.Bool.Decides.{nat_tests}
 use Rattle.std.proofs.Math.Nat.{pow-succ', one-le-pow}
 use Rattle.mcs_base.proofs.Numbers.{cond_times-le}
@@ -46,13 +46,3 @@ work_left-more n es (e ∷ more) fits =
     let first : work_left n (es ++ e ∷ []) < work_left n es = work_left-push n es e (omega (arith, fits, length-append es (e ∷ more))) in
     let rest : work_left n ((es ++ e ∷ []) ++ more) ≤ work_left n (es ++ e ∷ []) = work_left-more n (es ++ e ∷ []) more fits' in
     subst (λ (xs : List Entry). work_left n xs ≤ work_left n es) same (omega arith)
-
--- a count above the work: it falls with the work, and with one beginning less
-pub count_left-turn : (b w w' u : ℕ) → w' < w → b * u + w' < b * u + w
-count_left-turn b w w' u less = omega arith
-
-pub count_left-anew : (b w w' u : ℕ) → 0 < b → w' < u → (b - 1) * u + w' < b * u + w
-count_left-anew zero w w' u some less = absurd (omega arith)
-count_left-anew (suc b) w w' u some less =
-    let one : suc b - 1 ≡ b = omega arith in
-    subst (λ (n : ℕ). n * u + w' < suc b * u + w) (sym one) (omega arith)

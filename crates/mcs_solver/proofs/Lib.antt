@@ -1,5 +1,5 @@
 pub mod AskingLemmas
 pub mod CoverLemmas
-pub mod General
 pub mod KindLemmas
+pub mod SystemSolvers
 pub mod ViewLemmas

@@ -12,7 +12,8 @@ use Rattle.mcs_system.specs.Logic.{is_in}
 use Rattle.mcs_trace.specs.Clauses.{ClauseList, IsClauseList, IsWithin}
 use Rattle.mcs_cnf.specs.ClauseLists.{clause_list, list_clauses, taken_by_all, with_formulas, IsOver, AreOver}
 use Rattle.mcs_cnf.proofs.ListLemmas.{with_append, all_take_grow}
-use Rattle.mcs_solver.specs.Kinds.{HasMore, IsMadeOf, IsMadeOfContext}
+use Rattle.mcs_default.specs.Theories.{IsGrown}
+use Rattle.mcs_solver.specs.Kinds.{IsMadeOf, IsMadeOfContext}
 
 -- ---- formulas one by one
 module _ {A : Type 0} (seen : A → Formula) where
@@ -32,7 +33,7 @@ pub pushed_none : (names : List Name) (c : ClauseList) → c ≡ with_formulas n
 pushed_none names c = sym (ap (list_of c.vars) (append-nil c.clauses))
 
 -- ---- clauses that are taken off again
-module _ (names : List Name) (known new : ClauseList) (more : HasMore names known new) where
+module _ (names : List Name) (known new : ClauseList) (more : IsGrown names known new) where
   first_kept : take (length known.clauses) new.clauses ≡ known.clauses
   first_kept = ap (λ (x : ClauseList). take (length known.clauses) x.clauses) more.1 ∙ take-append_seam known.clauses (list_clauses names known.vars more.0)
 

@@ -8,7 +8,7 @@ use Rattle.mcs_system.specs.Faults.{is_atom}
 use Rattle.mcs_sets.specs.Orders.{StateBefore}
 use Rattle.mcs_base.specs.Listings.{IsListing}
 use Rattle.mcs_trace.specs.Clauses.{ClauseList}
-use Rattle.mcs_cnf.specs.ClauseLists.{AreOver, clause_list, with_formulas}
+use Rattle.mcs_cnf.specs.ClauseLists.{AreOver, clause_list}
 use Rattle.mcs_evidence.specs.Defaults.{AreOverItems}
 use Rattle.mcs_evidence.specs.Programs.{AreOverRules}
 
@@ -25,10 +25,6 @@ AreOfKind (Classical formulas) fs = Unit {0}
 AreOfKind (DefaultTheory items) fs = Unit {0}
 
 -- ---- clauses that are kept
--- those of some formulas were added
-abbrev pub HasMore : List Name → ClauseList → ClauseList → Type 0
-HasMore names old new = (fs : List Formula) × (new ≡ with_formulas names old fs)
-
 -- if the clauses are those of formulas over the names, these accept this view alone with the heads
 abbrev pub IsOnlyView : List Name → ClauseList → List Formula → List Formula → ℕ → Type 0
 IsOnlyView names known heads beliefs view = (fs : List Formula) → known ≡ clause_list names fs → AreOver names fs

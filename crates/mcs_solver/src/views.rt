@@ -10,8 +10,9 @@ ghost use Rattle.mcs_system.specs.Plain.{Atom, Classical, Program};
 ghost use Rattle.mcs_system.specs.Seen.{formula_of, rule_of, kb_of};
 ghost use Rattle.mcs_system.specs.Views.{IsAcceptedView};
 ghost use Rattle.mcs_cnf.specs.ClauseLists.{AreOver, clause_list, with_formulas};
+ghost use Rattle.mcs_default.specs.Theories.{IsGrown};
 ghost use Rattle.mcs_evidence.specs.Programs.{AreOverRules};
-ghost use Rattle.mcs_solver.specs.Kinds.{IsOverKb, AreOfKind, HasMore, IsOnlyView, IsMadeOf};
+ghost use Rattle.mcs_solver.specs.Kinds.{IsOverKb, AreOfKind, IsOnlyView, IsMadeOf};
 
 use mcs_base::{Memory, Vars};
 use mcs_classical::outputs_from;
@@ -32,7 +33,7 @@ fn push_formulas(
     requires over { AreOver atoms.now (map (λ f. formula_of f.now) formulas.now) }
     requires room { length atoms.now ≤ known.old.vars }
     ensures ok { OnOk result (known.new ≡ with_formulas atoms.now known.old (map (λ f. formula_of f.now) formulas.now)) }
-    ensures more { HasMore atoms.now known.old known.new }
+    ensures more { IsGrown atoms.now known.old known.new }
 {
     for formula in formulas {
         push_formula(alloc, known, atoms, formula)?;
@@ -55,7 +56,7 @@ fn view_of(
     requires heads { AreOver atoms.now (map (λ f. formula_of f.now) heads.now) }
     requires beliefs { AreOver atoms.now (map (λ f. formula_of f.now) beliefs.now) }
     requires room { length atoms.now ≤ known.old.vars }
-    ensures more { HasMore atoms.now known.old known.new }
+    ensures more { IsGrown atoms.now known.old known.new }
     ensures exact { IfOk result
         (IsOnlyView atoms.now known.old (map (λ f. formula_of f.now) heads.now) (map (λ f. formula_of f.now) beliefs.now)) }
 {

@@ -10,7 +10,7 @@ pub rest_kept : (a b c : EvaluatorState) → KeepsRest a b → KeepsRest b c →
 rest_kept a b c h k = record { system = k.system ∙ h.system; budget = k.budget ∙ h.budget; oracles = k.oracles ∙ h.oracles }
 
 -- the oracle of a context, but for its journal
-same_oracle : (xs ys : List OracleState) → unasked xs ≡ unasked ys → (i : ℕ) (o : OracleState) → slice_get xs i ≡ Some o → (o' : OracleState) × (slice_get ys i ≡ Some o') × (o.holds ≡ o'.holds)
+pub same_oracle : (xs ys : List OracleState) → unasked xs ≡ unasked ys → (i : ℕ) (o : OracleState) → slice_get xs i ≡ Some o → (o' : OracleState) × (slice_get ys i ≡ Some o') × (o.holds ≡ o'.holds)
 same_oracle [] ys e i o is = absurd (cc)
 same_oracle (x ∷ xs) [] e i o is = absurd (cc)
 same_oracle (x ∷ xs) (y ∷ ys) e zero o is = (y, refl, (let h : x ≡ o = cc in ap (λ z. z.holds) (sym h)) ∙ (let k : with_journal [] x ≡ with_journal [] y = cc in ap (λ z. z.holds) k))

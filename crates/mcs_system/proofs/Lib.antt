@@ -1,5 +1,4 @@
 pub mod SeenLemmas
-pub mod Members
 pub mod Sameness
 pub mod VariableLemmas
 pub mod GatherLemmas
@@ -16,4 +15,5 @@ pub mod NameLemmas
 pub mod ContextSets
 pub mod Deciding
 pub mod Tables
+pub mod Consequence
 pub mod Equality

@@ -6,9 +6,9 @@ use Rattle.std.specs.Cmp.{both_ways}
 use Rattle.std.specs.List.{flat_map, position}
 use Rattle.std.proofs.lemmas.List.Quantifiers.{position-Some}
 use Rattle.std.proofs.lemmas.Option.{slice_get-get_or}
-use Rattle.mcs_base.specs.Listings.{IsAmong}
+use Rattle.mcs_base.specs.Listings.{IsAmong, AreApart}
 use Rattle.mcs_base.proofs.Among.{among_any, among_filter, among_flat_map, among_get, any_get, filter_among}
-use Rattle.mcs_base.proofs.Distinct.{AreDistinct, distinct_filter}
+use Rattle.mcs_base.proofs.Distinct.{distinct_filter}
 use Rattle.mcs_system.specs.Plain.{Name}
 use Rattle.mcs_system.specs.Logic.{same_name, is_in}
 use Rattle.mcs_system.specs.Faults.{has_twins}
@@ -64,14 +64,14 @@ first_names-among n (x ∷ xs) = let rest = first_names-among n xs in (
 pub is_in-first_names : (n : Name) (xs : List Name) → is_in n xs ≡ true → is_in n (first_names xs) ≡ true
 is_in-first_names n xs h = (is_in-among n (first_names xs)).1 ((first_names-among n xs).1 ((is_in-among n xs).0 h))
 
-pub first_names-distinct : (xs : List Name) → AreDistinct (first_names xs)
+pub first_names-distinct : (xs : List Name) → AreApart (first_names xs)
 first_names-distinct [] = tt
 first_names-distinct (x ∷ xs) = (
   λ h. true≢false (sym (filter_among (λ y. not (same_name x y)) x (first_names xs) h).1 ∙ ap not (same_name-itself x)),
   distinct_filter (λ y. not (same_name x y)) (first_names xs) (first_names-distinct xs),
 )
 
-pub no_twins : (xs : List Name) → (has_twins xs ≡ false) ↔ AreDistinct xs
+pub no_twins : (xs : List Name) → (has_twins xs ≡ false) ↔ AreApart xs
 no_twins [] = (λ e. tt, λ d. refl)
 no_twins (x ∷ xs) = let rest = no_twins xs in (
   λ e. let (new, single) = or_parts (is_in x xs) (has_twins xs) e in (λ h. true≢false (sym ((is_in-among x xs).1 h) ∙ new), rest.0 single),

@@ -1,6 +1,5 @@
 -- The rows of one table that have a partner in another.
-use Rattle.std.proofs.Common.{◌≡◌, ◌≤◌, ◌==◌, ℕ, ◌+◌, not, List, [], ◌∷◌, length, refl, inl, ◌↔◌, arith, IsTrue}
-use Rattle.std.proofs.lemmas.Bool.Decides.{nat_tests}
+use Rattle.std.proofs.Common.{◌≡◌, ◌≤◌, ℕ, ◌+◌, List, arith}
 use Rattle.std.specs.List.Sorted.{IsPermutation}
 use Rattle.mcs_sets.specs.Sets.{common, size}
 use Rattle.mcs_sets.proofs.Lattice.{size-union_apart}
@@ -11,11 +10,6 @@ use Rattle.mcs_table.specs.declared.row.Row.{Row}
 use Rattle.mcs_table.specs.RowOrder.{RowBefore}
 use Rattle.mcs_table.specs.Tables.{TableData, IsTable, IsRowOn, AreApart, HasPartner}
 use Rattle.mcs_table.proofs.JoinLemmas.{row_of, pair_fits, pair_where}
-
--- there is one of a list exactly where the list is not empty
-pub some_where : {A : Type 0} (P : A → Type 0) (xs : List A) → ((x : A) → IsAmong x xs ↔ P x) → IsTrue (not (length xs == 0)) ↔ ((x : A) × P x)
-some_where P [] same = (λ h. absurd (let none : ⊥ = grind (arith, nat_tests) in none), λ (x, p). absurd ((same x).1 p))
-some_where P (y ∷ ys) same = (λ h. (y, (same y).0 (inl refl)), λ p. grind (arith, nat_tests))
 
 -- rows of a that have a partner
 module _ (a b : TableData) (is_a : IsTable a) (is_b : IsTable b) (apart : AreApart a.rows b.rows) (level : ℕ) (x : Row) (in_a : IsAmong x a.rows) (sorted : List Row) (moved : IsPermutation b.rows sorted) where

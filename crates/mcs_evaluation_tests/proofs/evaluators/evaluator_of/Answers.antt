@@ -1,7 +1,8 @@
 use Rattle.std.proofs.Common.{◌∙◌, ap, sym, length}
 use Rattle.mcs_states.specs.Oracles.{OracleState}
 use Rattle.mcs_system.specs.Plain.{System}
-use Rattle.mcs_evaluation_tests.proofs.SolverLemmas.{solvers_each, solver_seen, new_mesh}
+use Rattle.mcs_solver.proofs.SystemSolvers.{solvers_each, solver_seen}
+use Rattle.mcs_evaluation_tests.proofs.SolverLemmas.{new_mesh}
 use Rattle.mcs_evaluation_tests.proofs.evaluators.evaluator_of.Goals as goal
 
 pub new-requires-2-clause-one_each : goal.new-requires-2-clause-one_each

@@ -1,11 +1,11 @@
-use Rattle.std.proofs.Common.{◌≡◌, ◌+◌, ◌≤◌, ◌∙◌, ◌++◌, sym, subst, List, drop, map, filter, length, Option, Some, ℕ, arith}
-use Rattle.std.specs.List.{AllByRecursion}
+use Rattle.std.proofs.Common.{◌+◌, ◌∙◌, ◌++◌, sym, subst, List, map, filter, arith}
 use Rattle.mcs_system.specs.Plain.{Name, Formula, ProgramRule}
 use Rattle.mcs_system.specs.Seen.{rule_of}
 use Rattle.mcs_trace.specs.Clauses.{ClauseList}
-use Rattle.mcs_evidence.specs.Programs.{atoms_as, disjunction, is_broken_by, AreOverRules, IsOverRule}
+use Rattle.mcs_evidence.specs.Programs.{atoms_as, disjunction, is_broken_by, AreOverRules}
 use Rattle.mcs_evidence.specs.Pushing.{AreNamesOf, HasOccurrences, HasConjunction}
-use Rattle.mcs_evidence.proofs.PushingLemmas.{IsJoining, conjoining, rest_of}
+use Rattle.mcs_base.proofs.Mapped.{map-drop_more}
+use Rattle.mcs_evidence.proofs.PushingLemmas.{IsJoining, conjoining}
 use Rattle.mcs_evidence.proofs.ProgramClauses.{IsBreaking, broken_more, broken_skipped}
 use Rattle.mcs_evidence.proofs.program.join_broken.Goals as goal
 use Rattle.mcs_evidence.proofs.program.join_broken.Goals.{then-is_broken+in_ok-x+in_ok-n, else-is_broken}
@@ -15,7 +15,7 @@ push_either-requires-clause-over c =
     let names = c.args.atoms.now in
     let i = c.loop-rule.rule-index in
     subst (AreNamesOf names) (sym c.deref.ensures.value)
-    ((subst (AreOverRules names) (rest_of rule_of c.args.rules.now i c.rule-item.result c.loop-rule-test.true c.rule-item.is) c.loop-rule.invariant.over).0.2)
+    ((subst (AreOverRules names) (map-drop_more rule_of c.args.rules.now i c.rule-item.result c.loop-rule-test.true c.rule-item.is) c.loop-rule.invariant.over).0.2)
 
 pub loop-rule-preserved : goal.loop-rule-preserved
 loop-rule-preserved c =
@@ -27,7 +27,7 @@ loop-rule-preserved c =
     let before = c.loop-rule.invariant in
     let less = c.loop-rule-test.true in
     let is = c.rule-item.is in
-    let over = (subst (AreOverRules names) (rest_of rule_of rules i r less is) before.over).1 in
+    let over = (subst (AreOverRules names) (map-drop_more rule_of rules i r less is) before.over).1 in
     let target : List Formula = map (λ (r : ProgramRule). disjunction (atoms_as r.neg)) (filter (is_broken_by a) (map rule_of rules)) in
     elim c.if-is_broken.branch [
       | then-is_broken+in_ok-x+in_ok-n w ↦

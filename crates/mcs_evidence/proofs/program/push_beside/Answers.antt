@@ -1,9 +1,9 @@
-use Rattle.std.proofs.Common.{◌≡◌, ◌∙◌, sym, ap, refl, map, filter, List, [], ◌∷◌, ◌++◌, Some}
+use Rattle.std.proofs.Common.{◌∙◌, ap, refl, map, filter, [], ◌∷◌, ◌++◌}
 use Rattle.std.proofs.lemmas.Result.{IfOk-weaker}
 use Rattle.mcs_system.specs.Plain.{Formula, ProgramRule}
 use Rattle.mcs_system.specs.Seen.{rule_of}
 use Rattle.mcs_cnf.specs.ClauseLists.{with_formulas}
-use Rattle.mcs_evidence.specs.Programs.{atoms_as, conjunction, disjunction, is_broken_by}
+use Rattle.mcs_evidence.specs.Programs.{atoms_as, disjunction, is_broken_by}
 use Rattle.mcs_evidence.specs.Pushing.{HasConjunction}
 use Rattle.mcs_evidence.proofs.PushingLemmas.{conjunction_more}
 use Rattle.mcs_evidence.proofs.ProgramClauses.{within_names, beside_names, beside_is}

@@ -1,6 +1,6 @@
-use Rattle.std.proofs.Common.{◌≡◌, ap, subst, sym, ◌∙◌, cond, Bool, map, arith}
+use Rattle.std.proofs.Common.{subst, cond, Bool, map, arith}
 use Rattle.mcs_sets.specs.Sets.{has}
-use Rattle.mcs_system.specs.Plain.{Formula, Atom, Not}
+use Rattle.mcs_system.specs.Plain.{Atom, Not}
 use Rattle.mcs_evidence.specs.Programs.{literals_from}
 use Rattle.mcs_evidence.specs.Pushing.{HasOccurrences}
 use Rattle.mcs_evidence.proofs.PushingLemmas.{conjoining}

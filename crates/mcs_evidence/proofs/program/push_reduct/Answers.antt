@@ -1,12 +1,11 @@
-use Rattle.std.proofs.Common.{◌≡◌, ℕ, ◌+◌, Bool, List, [], ◌∷◌, refl, sym, ap, subst, ◌∙◌, map, length, drop, arith}
+use Rattle.std.proofs.Common.{◌+◌, List, [], ◌∷◌, sym, ap, subst, ◌∙◌, arith}
 use Rattle.std.specs.List.{list_any}
 use Rattle.mcs_system.specs.Seen.{rule_of}
 use Rattle.mcs_system.specs.Plain.{Name}
 use Rattle.mcs_system.specs.Logic.{is_in}
-use Rattle.mcs_trace.specs.Clauses.{ClauseList}
 use Rattle.mcs_cnf.specs.ClauseLists.{with_formulas}
 use Rattle.mcs_evidence.specs.Programs.{rule_formula, AreOverRules}
-use Rattle.mcs_evidence.proofs.PushingLemmas.{rest_of}
+use Rattle.mcs_base.proofs.Mapped.{map-drop_more}
 use Rattle.mcs_evidence.proofs.ProgramClauses.{IsReducing, reduct_pushed, reduct_skipped}
 use Rattle.mcs_evidence.proofs.program.push_reduct.Goals as goal
 use Rattle.mcs_evidence.proofs.program.push_reduct.Goals.{then-not-some_among+in_ok-push_rule, else-not-some_among}
@@ -22,7 +21,7 @@ loop-rule-preserved c =
     let less = c.loop-rule-test.true in
     let is = c.rule-item.is in
     let some = c.some_among.ensures ∙ ap (list_any (λ n. is_in n a)) c.deref.ensures.value in
-    let over = (subst (AreOverRules names) (rest_of rule_of rules i r less is) before.over).1 in
+    let over = (subst (AreOverRules names) (map-drop_more rule_of rules i r less is) before.over).1 in
     elim c.if-not-some_among.branch [
       | then-not-some_among+in_ok-push_rule w ↦
           let pushed = w.in_ok-push_rule.ensures in

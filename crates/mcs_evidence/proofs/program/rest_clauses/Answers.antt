@@ -1,4 +1,4 @@
-use Rattle.std.proofs.Common.{◌∙◌, sym, ap, map}
+use Rattle.std.proofs.Common.{◌∙◌, ap, map}
 use Rattle.mcs_system.specs.Plain.{Atom}
 use Rattle.mcs_system.specs.Seen.{rule_of}
 use Rattle.mcs_trace.specs.Clauses.{ClauseList}

@@ -1,5 +1,5 @@
-use Rattle.std.proofs.Common.{◌∙◌, sym, ap, refl, map, List, [], ◌∷◌, ◌++◌}
-use Rattle.mcs_system.specs.Plain.{Name, Formula, Not}
+use Rattle.std.proofs.Common.{◌∙◌, ap, refl, map, List, [], ◌∷◌, ◌++◌}
+use Rattle.mcs_system.specs.Plain.{Name, Not}
 use Rattle.mcs_system.specs.Logic.{reduct, true_names}
 use Rattle.mcs_system.specs.Seen.{rule_of}
 use Rattle.mcs_trace.specs.Clauses.{ClauseList}

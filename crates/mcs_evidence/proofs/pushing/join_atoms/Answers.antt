@@ -1,8 +1,8 @@
 use Rattle.std.proofs.Common.{◌++◌, arith}
-use Rattle.mcs_system.specs.Logic.{is_in}
 use Rattle.mcs_system.specs.Plain.{Atom}
 use Rattle.mcs_evidence.specs.Programs.{atoms_as}
-use Rattle.mcs_evidence.proofs.PushingLemmas.{conjoining, rest_of, rest_all}
+use Rattle.mcs_base.proofs.Mapped.{map-drop_more, all_drop_parts}
+use Rattle.mcs_evidence.proofs.PushingLemmas.{conjoining}
 use Rattle.mcs_evidence.proofs.pushing.join_atoms.Goals as goal
 
 pub loop-name-preserved : goal.loop-name-preserved
@@ -14,8 +14,8 @@ loop-name-preserved c =
     let last = c.in_ok-n.ensures in
     record {
       grows = omega (arith, before.grows, last.grows);
-      over = (rest_all _ names i name c.loop-name-test.true c.name-item.is before.over).1;
+      over = (all_drop_parts _ names i name c.loop-name-test.true c.name-item.is before.over).1;
       part = last.number;
       joined = λ start fs h. conjoining c.args.atoms.now (fs ++ atoms_as names) _ _ (Atom name) start c.loop-name.cnf c.loop-name.cnf c.join.new.cnf c.loop-name.all c.atom_of-x.result c.in_ok-n.n
-          (rest_of Atom names i name c.loop-name-test.true c.name-item.is) (before.joined start fs h) c.atom_of-x.ensures.occurs last.joined;
+          (map-drop_more Atom names i name c.loop-name-test.true c.name-item.is) (before.joined start fs h) c.atom_of-x.ensures.occurs last.joined;
     }

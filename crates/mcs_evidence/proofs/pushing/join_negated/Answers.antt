@@ -1,7 +1,8 @@
 use Rattle.std.proofs.Common.{◌++◌, arith}
 use Rattle.mcs_system.specs.Plain.{Name, Atom, Not}
 use Rattle.mcs_evidence.specs.Programs.{negated_atoms}
-use Rattle.mcs_evidence.proofs.PushingLemmas.{conjoining, rest_of, rest_all}
+use Rattle.mcs_base.proofs.Mapped.{map-drop_more, all_drop_parts}
+use Rattle.mcs_evidence.proofs.PushingLemmas.{conjoining}
 use Rattle.mcs_evidence.proofs.pushing.join_negated.Goals as goal
 
 pub loop-name-preserved : goal.loop-name-preserved
@@ -14,8 +15,8 @@ loop-name-preserved c =
     let last = c.in_ok-n.ensures in
     record {
       grows = omega (arith, before.grows, pushed.grows, last.grows);
-      over = (rest_all _ names i name c.loop-name-test.true c.name-item.is before.over).1;
+      over = (all_drop_parts _ names i name c.loop-name-test.true c.name-item.is before.over).1;
       part = last.number;
       joined = λ start fs h. conjoining c.args.atoms.now (fs ++ negated_atoms names) _ _ (Not (Atom name)) start c.loop-name.cnf c.push_negated.new.cnf c.join.new.cnf c.loop-name.all c.in_ok-x.x c.in_ok-n.n
-          (rest_of (λ (n : Name). Not (Atom n)) names i name c.loop-name-test.true c.name-item.is) (before.joined start fs h) pushed.occurs last.joined;
+          (map-drop_more (λ (n : Name). Not (Atom n)) names i name c.loop-name-test.true c.name-item.is) (before.joined start fs h) pushed.occurs last.joined;
     }

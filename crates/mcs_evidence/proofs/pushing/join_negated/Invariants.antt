@@ -1,4 +1,4 @@
-use Rattle.std.proofs.Common.{◌≤◌, ◌++◌, List, drop, length}
+use Rattle.std.proofs.Common.{◌≤◌, ◌++◌, List, drop}
 use Rattle.mcs_system.specs.Plain.{Formula}
 use Rattle.mcs_trace.specs.Clauses.{ClauseList}
 use Rattle.mcs_evidence.specs.Programs.{negated_atoms}

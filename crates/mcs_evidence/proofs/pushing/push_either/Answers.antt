@@ -1,7 +1,8 @@
-use Rattle.std.proofs.Common.{◌++◌, arith}
+use Rattle.std.proofs.Common.{arith}
 use Rattle.mcs_system.specs.Plain.{Atom}
 use Rattle.mcs_evidence.specs.Programs.{atoms_as}
-use Rattle.mcs_evidence.proofs.PushingLemmas.{disjoining, rest_of, rest_all}
+use Rattle.mcs_base.proofs.Mapped.{map-drop_more, all_drop_parts}
+use Rattle.mcs_evidence.proofs.PushingLemmas.{disjoining}
 use Rattle.mcs_evidence.proofs.pushing.push_either.Goals as goal
 
 pub loop-name-preserved : goal.loop-name-preserved
@@ -13,8 +14,8 @@ loop-name-preserved c =
     let last = c.in_ok-n.ensures in
     record {
       grows = omega (arith, before.grows, last.grows);
-      over = (rest_all _ names i name c.loop-name-test.true c.name-item.is before.over).1;
+      over = (all_drop_parts _ names i name c.loop-name-test.true c.name-item.is before.over).1;
       part = last.number;
       joined = disjoining c.args.atoms.now (atoms_as names) _ _ (Atom name) c.args.cnf.now c.loop-name.cnf c.loop-name.cnf c.join_either.new.cnf c.loop-name.any c.atom_of-x.result c.in_ok-n.n
-          (rest_of Atom names i name c.loop-name-test.true c.name-item.is) before.joined c.atom_of-x.ensures.occurs last.joined;
+          (map-drop_more Atom names i name c.loop-name-test.true c.name-item.is) before.joined c.atom_of-x.ensures.occurs last.joined;
     }

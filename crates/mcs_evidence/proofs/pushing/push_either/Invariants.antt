@@ -1,4 +1,4 @@
-use Rattle.std.proofs.Common.{◌≤◌, ◌++◌, List, drop, length}
+use Rattle.std.proofs.Common.{◌≤◌, drop}
 use Rattle.mcs_evidence.specs.Programs.{atoms_as}
 use Rattle.mcs_evidence.specs.Pushing.{AreNamesOf, IsPart, HasDisjunction}
 use Rattle.mcs_evidence.proofs.PushingLemmas.{IsJoining}

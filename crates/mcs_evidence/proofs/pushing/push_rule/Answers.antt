@@ -1,4 +1,4 @@
-use Rattle.std.proofs.Common.{◌++◌, [], None, refl, arith}
+use Rattle.std.proofs.Common.{◌++◌, [], refl}
 use Rattle.std.proofs.lemmas.Result.{IfOk-weaker}
 use Rattle.mcs_evidence.specs.Pushing.{HasConjunction, HasOccurrences}
 use Rattle.mcs_evidence.specs.Programs.{atoms_as, negated_atoms, conjunction, disjunction, rule_formula}

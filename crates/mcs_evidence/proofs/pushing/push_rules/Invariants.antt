@@ -1,4 +1,4 @@
-use Rattle.std.proofs.Common.{◌≡◌, ◌≤◌, List, drop, map, length}
+use Rattle.std.proofs.Common.{◌≡◌, ◌≤◌, drop, map}
 use Rattle.mcs_system.specs.Seen.{rule_of}
 use Rattle.mcs_cnf.specs.ClauseLists.{with_formulas}
 use Rattle.mcs_evidence.specs.Programs.{rule_formula, AreOverRules}

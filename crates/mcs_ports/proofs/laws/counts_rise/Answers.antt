@@ -1,6 +1,5 @@
-use Rattle.std.proofs.Common.{◌≡◌, ℕ, ◌<◌, ◌≤◌, ◌-◌, ◌^◌, ◌⊎◌, inl, inr, min, arith}
+use Rattle.std.proofs.Common.{inl, inr, arith}
 use Rattle.std.proofs.lemmas.Bool.{cases_lt}
-use Rattle.mcs_ports.specs.Causes.{Rose}
 use Rattle.mcs_ports.proofs.laws.counts_rise.Goals as goal
 
 pub returns-clause-greater : goal.returns-clause-greater

@@ -3,7 +3,8 @@ use Rattle.std.proofs.lemmas.List.Elements.{recursion_from_All}
 use Rattle.std.proofs.Math.Bool.{or-false}
 use Rattle.std.specs.List.{AllByRecursion}
 use Rattle.mcs_sets.specs.Sets.{has, members}
-use Rattle.mcs_rows.proofs.MarkLemmas.{is_marked, marked-members, marked-step}
+use Rattle.mcs_base.proofs.SetParts.{has-with_or}
+use Rattle.mcs_rows.proofs.MarkLemmas.{is_marked, marked-members}
 use Rattle.mcs_rows.proofs.marks.with_marks.Goals as goal
 
 pub loop-rule-init : goal.loop-rule-init
@@ -16,7 +17,7 @@ loop-rule-init c =
 pub loop-rule-preserved : goal.loop-rule-preserved
 loop-rule-preserved c = record {
   marked = λ k. (let old = ap (λ (rs : List ℕ). has c.loop-rule.all k || is_marked c.args.offset rs k) (sym c.in-Some.ensures.steps) ∙ c.loop-rule.invariant.marked k in
-      ap (λ s. has s k || is_marked c.args.offset c.next.new.self k) c.with-all.ensures ∙ marked-step c.loop-rule.all (2 * c.in-Some.rule + c.args.offset) k (is_marked c.args.offset c.next.new.self k) _ old);
+      ap (λ s. has s k || is_marked c.args.offset c.next.new.self k) c.with-all.ensures ∙ has-with_or c.loop-rule.all (2 * c.in-Some.rule + c.args.offset) k (is_marked c.args.offset c.next.new.self k) _ old);
   known = (subst (AllByRecursion (λ k. k < 64)) c.in-Some.ensures.steps c.loop-rule.invariant.known).1;
 }
 

@@ -8,10 +8,10 @@ use Rattle.mcs_sat.proofs.propagate.settle_from.Goals as goal
 use Rattle.mcs_sat.proofs.propagate.settle_from.Goals.{After-settle}
 
 positions : (c : After-settle) → length c.settle.new.trail.positions.items ≡ length c.args.trail.now.positions.items
-positions c = c.settle.ensures.positions ∙ c.loop-from.invariant.positions
+positions c = c.settle.ensures.positions ∙ c.loop-from.invariant.kept.positions
 
 grows : (c : After-settle) → Grows c.args.level c.args.trail.now.entries.items c.settle.new.trail.entries.items
-grows c = grows-more c.args.level c.args.trail.now.entries.items c.loop-from.trail.entries.items c.settle.new.trail.entries.items c.loop-from.invariant.grows c.settle.ensures.grows
+grows c = grows-more c.args.level c.args.trail.now.entries.items c.loop-from.trail.entries.items c.settle.new.trail.entries.items c.loop-from.invariant.kept.grows c.settle.ensures.grows
 
 settled : (c : After-settle) → AreSettled c.args.clauses.now c.args.indices.now c.settle.new.trail.entries.items c.args.from.now c.loop-from.from
 settled c = settled-grown c.args.clauses.now c.args.indices.now c.args.level c.loop-from.trail.entries.items c.settle.new.trail.entries.items c.args.from.now c.loop-from.from c.settle.ensures.grows c.loop-from.invariant.settled
@@ -19,8 +19,10 @@ settled c = settled-grown c.args.clauses.now c.args.indices.now c.args.level c.l
 pub loop-from-init : goal.loop-from-init
 loop-from-init c = record {
   trail = c.requires.trail;
-  positions = refl;
-  grows = grows-none c.args.level c.args.trail.now.entries.items;
+  kept = record {
+    positions = refl;
+    grows = grows-none c.args.level c.args.trail.now.entries.items;
+  };
   bound = λ low. low;
   settled = settled-none c.args.clauses.now c.args.indices.now c.args.trail.now.entries.items c.args.from.now;
 }
@@ -52,8 +54,10 @@ loop-from-smaller c = omega arith
 pub loop-from-preserved : goal.loop-from-preserved
 loop-from-preserved c = record {
   trail = c.settle.ensures.trail;
-  positions = positions (goal.at.loop-from-preserved c).After-settle;
-  grows = grows (goal.at.loop-from-preserved c).After-settle;
+  kept = record {
+    positions = positions (goal.at.loop-from-preserved c).After-settle;
+    grows = grows (goal.at.loop-from-preserved c).After-settle;
+  };
   bound = λ low. (let less = c.loop-from-test.true in omega arith);
   settled = settled-more c.args.clauses.now c.args.indices.now c.settle.new.trail.entries.items c.args.from.now c.loop-from.from _
       (slice_get-get_or c.args.indices.now c.loop-from.from 0 c.loop-from-test.true)
@@ -65,10 +69,10 @@ pub returns-clause-trail : goal.returns-clause-trail
 returns-clause-trail c = c.loop-from.invariant.trail
 
 pub returns-clause-positions : goal.returns-clause-positions
-returns-clause-positions c = c.loop-from.invariant.positions
+returns-clause-positions c = c.loop-from.invariant.kept.positions
 
 pub returns-clause-grows : goal.returns-clause-grows
-returns-clause-grows c = c.loop-from.invariant.grows
+returns-clause-grows c = c.loop-from.invariant.kept.grows
 
 pub returns-clause-settled : goal.returns-clause-settled
 returns-clause-settled c = c.loop-from.invariant.settled

@@ -1,13 +1,13 @@
-use Rattle.std.proofs.Common.{◌≡◌, ◌-◌, ◌≤◌, length}
-use Rattle.mcs_sat.specs.Trails.{Grows, IsTrail}
+use Rattle.std.proofs.Common.{◌-◌, ◌≤◌, length}
+use Rattle.mcs_sat.specs.Trails.{IsTrail}
 use Rattle.mcs_sat.specs.Watching.{AreSettled}
+use Rattle.mcs_sat.proofs.Keeping.{Extends}
 use Rattle.mcs_sat.proofs.propagate.settle_from.Given as goal
 
 abbrev pub invariant-loop-from : goal.invariant-loop-from
 invariant-loop-from l = record {
   trail : IsTrail l.clauses l.trail;
-  positions : length l.trail.positions.items ≡ length l.initial.trail.positions.items;
-  grows : Grows l.level l.initial.trail.entries.items l.trail.entries.items;
+  kept : Extends l.level l.initial.trail l.trail;
   bound : l.initial.from ≤ length l.indices → l.from ≤ length l.indices;
   settled : AreSettled l.clauses l.indices l.trail.entries.items l.initial.from l.from;
 }

@@ -15,11 +15,11 @@ less : (c : After-visit_list) → c.loop-from.from < length c.loop-from.trail.en
 less c = let ok = c.loop-from.trail.entries.ok.0 in omega arith
 
 grows : (c : After-visit_list) → Grows c.args.level c.args.trail.now.entries.items c.visit_list.new.trail.entries.items
-grows c = grows-more c.args.level c.args.trail.now.entries.items c.loop-from.trail.entries.items c.visit_list.new.trail.entries.items c.loop-from.invariant.grows c.visit_list.ensures.grows
+grows c = grows-more c.args.level c.args.trail.now.entries.items c.loop-from.trail.entries.items c.visit_list.new.trail.entries.items c.loop-from.invariant.kept.grows c.visit_list.ensures.grows
 
 reached : (c : After-visit_list) (r : Reach) → r.visited ≤ length c.args.trail.now.entries.items → IsReached c.args.clauses.now c.args.watches.now c.args.trail.now.entries.items r
     → IsReached c.args.clauses.now c.visit_list.new.watches c.args.trail.now.entries.items r
-reached c r bound h = reached-across c.args.clauses.now c.args.level c.args.trail.now.entries.items c.loop-from.trail.entries.items c.requires.trail.clauses c.loop-from.invariant.grows r bound c.loop-from.watches c.visit_list.new.watches c.visit_list.ensures.reached (c.loop-from.invariant.reached r bound h)
+reached c r bound h = reached-across c.args.clauses.now c.args.level c.args.trail.now.entries.items c.loop-from.trail.entries.items c.requires.trail.clauses c.loop-from.invariant.kept.grows r bound c.loop-from.watches c.visit_list.new.watches c.visit_list.ensures.reached (c.loop-from.invariant.watches.reached r bound h)
 
 now : (c : After-visit_list) (settled : ℕ) → IsReached c.args.clauses.now c.args.watches.now c.args.trail.now.entries.items (record { entries = length c.args.trail.now.entries.items; visited = c.args.from.now; settled = settled })
     → IsReached c.args.clauses.now c.visit_list.new.watches c.visit_list.new.trail.entries.items (record { entries = length c.visit_list.new.trail.entries.items; visited = c.loop-from.from; settled = settled })
@@ -65,13 +65,17 @@ loop-from-preserved c =
     let all = subst (λ (o : Option ℕ). MatchOption o (AreVisited known c.visit_list.new.watches es' l) (IsFalseAt known es')) none c.in_ok-found.ensures.found in
     record {
       trail = c.visit_list.ensures.trail;
-      positions = c.visit_list.ensures.positions ∙ c.loop-from.invariant.positions;
-      grows = grows at;
-      lists = c.visit_list.ensures.lists ∙ c.loop-from.invariant.lists;
-      watched = c.visit_list.ensures.watched;
-      short = c.visit_list.ensures.short ∙ c.loop-from.invariant.short;
+      kept = record {
+        positions = c.visit_list.ensures.positions ∙ c.loop-from.invariant.kept.positions;
+        grows = grows at;
+      };
+      watches = record {
+        lists = c.visit_list.ensures.lists ∙ c.loop-from.invariant.watches.lists;
+        watched = c.visit_list.ensures.watched;
+        short = c.visit_list.ensures.short ∙ c.loop-from.invariant.watches.short;
+        reached = reached at;
+      };
       bound = omega arith;
-      reached = reached at;
       now = λ settled h. reached-next known c.visit_list.new.watches es' c.loop-from.from settled l
           (read' ∙ c.negated-literal.ensures ∙ ap (λ (x : Entry). neg_ℤ x.literal) (sym (entry-grown c.args.level es es' c.loop-from.from c.visit_list.ensures.grows here))) all (now at settled h);
     }
@@ -81,31 +85,31 @@ pub returns-in_err-found-clause-trail : goal.returns-in_err-found-clause-trail
 returns-in_err-found-clause-trail c = c.visit_list.ensures.trail
 
 pub returns-in_err-found-clause-positions : goal.returns-in_err-found-clause-positions
-returns-in_err-found-clause-positions c = c.visit_list.ensures.positions ∙ c.loop-from.invariant.positions
+returns-in_err-found-clause-positions c = c.visit_list.ensures.positions ∙ c.loop-from.invariant.kept.positions
 
 pub returns-in_err-found-clause-lists : goal.returns-in_err-found-clause-lists
-returns-in_err-found-clause-lists c = c.visit_list.ensures.lists ∙ c.loop-from.invariant.lists
+returns-in_err-found-clause-lists c = c.visit_list.ensures.lists ∙ c.loop-from.invariant.watches.lists
 
 pub returns-in_err-found-clause-watched : goal.returns-in_err-found-clause-watched
 returns-in_err-found-clause-watched c = c.visit_list.ensures.watched
 
 pub returns-in_err-found-clause-short : goal.returns-in_err-found-clause-short
-returns-in_err-found-clause-short c = c.visit_list.ensures.short ∙ c.loop-from.invariant.short
+returns-in_err-found-clause-short c = c.visit_list.ensures.short ∙ c.loop-from.invariant.watches.short
 
 pub returns-then-is_some-clause-trail : goal.returns-then-is_some-clause-trail
 returns-then-is_some-clause-trail c = c.visit_list.ensures.trail
 
 pub returns-then-is_some-clause-positions : goal.returns-then-is_some-clause-positions
-returns-then-is_some-clause-positions c = c.visit_list.ensures.positions ∙ c.loop-from.invariant.positions
+returns-then-is_some-clause-positions c = c.visit_list.ensures.positions ∙ c.loop-from.invariant.kept.positions
 
 pub returns-then-is_some-clause-lists : goal.returns-then-is_some-clause-lists
-returns-then-is_some-clause-lists c = c.visit_list.ensures.lists ∙ c.loop-from.invariant.lists
+returns-then-is_some-clause-lists c = c.visit_list.ensures.lists ∙ c.loop-from.invariant.watches.lists
 
 pub returns-then-is_some-clause-watched : goal.returns-then-is_some-clause-watched
 returns-then-is_some-clause-watched c = c.visit_list.ensures.watched
 
 pub returns-then-is_some-clause-short : goal.returns-then-is_some-clause-short
-returns-then-is_some-clause-short c = c.visit_list.ensures.short ∙ c.loop-from.invariant.short
+returns-then-is_some-clause-short c = c.visit_list.ensures.short ∙ c.loop-from.invariant.watches.short
 
 pub returns-in_err-found-clause-grows : goal.returns-in_err-found-clause-grows
 returns-in_err-found-clause-grows c = grows (goal.at.returns-in_err-found-clause-grows c).After-visit_list
@@ -120,34 +124,34 @@ pub returns-clause-trail : goal.returns-clause-trail
 returns-clause-trail c = c.loop-from.invariant.trail
 
 pub returns-clause-positions : goal.returns-clause-positions
-returns-clause-positions c = c.loop-from.invariant.positions
+returns-clause-positions c = c.loop-from.invariant.kept.positions
 
 pub returns-clause-grows : goal.returns-clause-grows
-returns-clause-grows c = c.loop-from.invariant.grows
+returns-clause-grows c = c.loop-from.invariant.kept.grows
 
 pub returns-clause-lists : goal.returns-clause-lists
-returns-clause-lists c = c.loop-from.invariant.lists
+returns-clause-lists c = c.loop-from.invariant.watches.lists
 
 pub returns-clause-watched : goal.returns-clause-watched
-returns-clause-watched c = c.loop-from.invariant.watched
+returns-clause-watched c = c.loop-from.invariant.watches.watched
 
 pub returns-clause-short : goal.returns-clause-short
-returns-clause-short c = c.loop-from.invariant.short
+returns-clause-short c = c.loop-from.invariant.watches.short
 
 pub returns-clause-bound : goal.returns-clause-bound
 returns-clause-bound c = c.loop-from.invariant.bound
 
 pub returns-clause-reached : goal.returns-clause-reached
-returns-clause-reached c = c.loop-from.invariant.reached
+returns-clause-reached c = c.loop-from.invariant.watches.reached
 
 pub visit_list-requires-clause-trail : goal.visit_list-requires-clause-trail
 visit_list-requires-clause-trail c = c.loop-from.invariant.trail
 
 pub visit_list-requires-clause-watched : goal.visit_list-requires-clause-watched
-visit_list-requires-clause-watched c = c.loop-from.invariant.watched
+visit_list-requires-clause-watched c = c.loop-from.invariant.watches.watched
 
 pub negated-literal-requires-clause-placed : goal.negated-literal-requires-clause-placed
 negated-literal-requires-clause-placed c = c.loop-from.invariant.trail.placed
 
 pub visit_list-requires-clause-lists : goal.visit_list-requires-clause-lists
-visit_list-requires-clause-lists c = c.loop-from.invariant.lists ∙ c.requires.lists ∙ ap (λ (n : ℕ). 2 * n) (sym c.loop-from.invariant.positions)
+visit_list-requires-clause-lists c = c.loop-from.invariant.watches.lists ∙ c.requires.lists ∙ ap (λ (n : ℕ). 2 * n) (sym c.loop-from.invariant.kept.positions)

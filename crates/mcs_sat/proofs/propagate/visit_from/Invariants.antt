@@ -1,19 +1,15 @@
-use Rattle.std.proofs.Common.{◌≡◌, ◌≤◌, ◌-◌, ℕ, length}
-use Rattle.mcs_sat.specs.declared.state.Reach.{Reach}
-use Rattle.mcs_sat.specs.Trails.{Grows, IsTrail}
-use Rattle.mcs_sat.specs.Watching.{AreWatched, IsReached}
+use Rattle.std.proofs.Common.{◌≤◌, ◌-◌, ℕ, length}
+use Rattle.mcs_sat.specs.Trails.{IsTrail}
+use Rattle.mcs_sat.specs.Watching.{IsReached}
+use Rattle.mcs_sat.proofs.Keeping.{Extends, KeepsWatches}
 use Rattle.mcs_sat.proofs.propagate.visit_from.Given as goal
 
 abbrev pub invariant-loop-from : goal.invariant-loop-from
 invariant-loop-from l = record {
   trail : IsTrail l.clauses l.trail;
-  positions : length l.trail.positions.items ≡ length l.initial.trail.positions.items;
-  grows : Grows l.level l.initial.trail.entries.items l.trail.entries.items;
-  lists : length l.watches.lists.items ≡ length l.initial.watches.lists.items;
-  watched : AreWatched l.clauses l.watches;
-  short : l.watches.short.items ≡ l.initial.watches.short.items;
+  kept : Extends l.level l.initial.trail l.trail;
+  watches : KeepsWatches l.clauses l.initial.watches l.watches l.initial.trail.entries.items;
   bound : l.from ≤ length l.trail.entries.items;
-  reached : (r : Reach) → r.visited ≤ length l.initial.trail.entries.items → IsReached l.clauses l.initial.watches l.initial.trail.entries.items r → IsReached l.clauses l.watches l.initial.trail.entries.items r;
   now : (settled : ℕ) → IsReached l.clauses l.initial.watches l.initial.trail.entries.items (record { entries = length l.initial.trail.entries.items; visited = l.initial.from; settled = settled })
       → IsReached l.clauses l.watches l.trail.entries.items (record { entries = length l.trail.entries.items; visited = l.from; settled = settled });
 }

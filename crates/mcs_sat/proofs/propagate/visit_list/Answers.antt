@@ -27,12 +27,12 @@ read lists p list less is = slice_get_read lists (length lists) p list refl less
 
 index_within : (c : After-index) → c.place-list.result < length c.loop-at.watches.lists.items
 index_within c = within (length c.loop-at.watches.lists.items) (length c.args.watches.now.lists.items) c.place-list.result c.args.literal c.args.trail.now.entries.items c.args.trail.now.positions.items
-    c.requires.trail.placed c.requires.off c.requires.lists c.loop-at.invariant.lists (c.place-list.ensures ∙ ap place (to_z-of_z c.ranges.literal))
+    c.requires.trail.placed c.requires.off c.requires.lists c.loop-at.invariant.watches.lists (c.place-list.ensures ∙ ap place (to_z-of_z c.ranges.literal))
 
 -- ---- a clause was visited
 visit_within : (c : After-visit) → c.place-list.result < length c.loop-at.watches.lists.items
 visit_within c = within (length c.loop-at.watches.lists.items) (length c.args.watches.now.lists.items) c.place-list.result c.args.literal c.args.trail.now.entries.items c.args.trail.now.positions.items
-    c.requires.trail.placed c.requires.off c.requires.lists c.loop-at.invariant.lists (c.place-list.ensures ∙ ap place (to_z-of_z c.ranges.literal))
+    c.requires.trail.placed c.requires.off c.requires.lists c.loop-at.invariant.watches.lists (c.place-list.ensures ∙ ap place (to_z-of_z c.ranges.literal))
 
 list_at : (c : After-visit) → slice_get c.loop-at.watches.lists.items c.place-list.result ≡ Some c.index-in-loop-at.result.now
 list_at c = read c.loop-at.watches.lists.items c.place-list.result c.index-in-loop-at.result.now (visit_within c) c.index-in-loop-at.ensures
@@ -52,10 +52,10 @@ kept : (c : After-visit) → slice_get c.visit.new.watches.lists.items c.place-l
 kept c = subst (λ (n : ℕ). slice_get c.visit.new.watches.lists.items n ≡ slice_get c.loop-at.watches.lists.items n) (sym c.place-list.ensures) c.visit.ensures.list
 
 grows : (c : After-visit) → Grows c.args.level c.args.trail.now.entries.items c.visit.new.trail.entries.items
-grows c = grows-more c.args.level c.args.trail.now.entries.items c.loop-at.trail.entries.items c.visit.new.trail.entries.items c.loop-at.invariant.grows c.visit.ensures.grows
+grows c = grows-more c.args.level c.args.trail.now.entries.items c.loop-at.trail.entries.items c.visit.new.trail.entries.items c.loop-at.invariant.kept.grows c.visit.ensures.grows
 
 reached : (c : After-visit) (r : Reach) → r.visited ≤ length c.args.trail.now.entries.items → IsReached c.args.clauses.now c.args.watches.now c.args.trail.now.entries.items r → IsReached c.args.clauses.now c.visit.new.watches c.args.trail.now.entries.items r
-reached c r bound h = reached-across c.args.clauses.now c.args.level c.args.trail.now.entries.items c.loop-at.trail.entries.items c.requires.trail.clauses c.loop-at.invariant.grows r bound c.loop-at.watches c.visit.new.watches c.visit.ensures.reached (c.loop-at.invariant.reached r bound h)
+reached c r bound h = reached-across c.args.clauses.now c.args.level c.args.trail.now.entries.items c.loop-at.trail.entries.items c.requires.trail.clauses c.loop-at.invariant.kept.grows r bound c.loop-at.watches c.visit.new.watches c.visit.ensures.reached (c.loop-at.invariant.watches.reached r bound h)
 
 pub returns-in_err-visit-clause-reached : goal.returns-in_err-visit-clause-reached
 returns-in_err-visit-clause-reached c = reached (goal.at.returns-in_err-visit-clause-reached c).After-visit
@@ -74,12 +74,16 @@ loop-at-preserved-in-Satisfied c =
     let at = (goal.at.loop-at-preserved-in-Satisfied c).After-visit in
     record {
       trail = c.visit.ensures.trail;
-      positions = c.visit.ensures.positions ∙ c.loop-at.invariant.positions;
-      grows = grows at;
-      lists = c.visit.ensures.lists ∙ c.loop-at.invariant.lists;
-      watched = c.visit.ensures.watched;
-      short = c.visit.ensures.short ∙ c.loop-at.invariant.short;
-      reached = reached at;
+      kept = record {
+        positions = c.visit.ensures.positions ∙ c.loop-at.invariant.kept.positions;
+        grows = grows at;
+      };
+      watches = record {
+        lists = c.visit.ensures.lists ∙ c.loop-at.invariant.watches.lists;
+        watched = c.visit.ensures.watched;
+        short = c.visit.ensures.short ∙ c.loop-at.invariant.watches.short;
+        reached = reached at;
+      };
       passed = passed-more c.args.clauses.now c.loop-at.watches.lists.items c.visit.new.watches.lists.items c.args.level c.loop-at.trail.entries.items c.visit.new.trail.entries.items c.place-list.result c.loop-at.at c.index-in-loop-at.result.now
           c.visit.ensures.grows (list_at at) c.loop-at.invariant.passed (kept at) c.index-index.result.now (index_at at)
           (subst (IsSeen c.args.clauses.now c.visit.new.watches c.visit.new.trail.entries.items c.index-index.result.now (to_z w64 (of_z w64 c.args.literal))) c.in-Satisfied.is c.in_ok-visit.ensures.seen);
@@ -89,7 +93,7 @@ loop-at-preserved-in-Satisfied c =
 removed_at : (c : After-index_mut) → slice_get c.visit.new.watches.lists.items c.place-list.result ≡ Some c.index_mut.result.now
 removed_at c =
     let less : c.place-list.result < length c.loop-at.watches.lists.items = within (length c.loop-at.watches.lists.items) (length c.args.watches.now.lists.items) c.place-list.result c.args.literal c.args.trail.now.entries.items c.args.trail.now.positions.items
-    c.requires.trail.placed c.requires.off c.requires.lists c.loop-at.invariant.lists (c.place-list.ensures ∙ ap place (to_z-of_z c.ranges.literal)) in
+    c.requires.trail.placed c.requires.off c.requires.lists c.loop-at.invariant.watches.lists (c.place-list.ensures ∙ ap place (to_z-of_z c.ranges.literal)) in
     let sizes : length c.visit.new.watches.lists.items ≡ length c.loop-at.watches.lists.items = c.visit.ensures.lists in
     read c.visit.new.watches.lists.items c.place-list.result c.index_mut.result.now (omega arith) c.index_mut.ensures.value
 
@@ -132,13 +136,17 @@ loop-at-preserved c =
     subst (IsSeen c.args.clauses.now c.visit.new.watches c.visit.new.trail.entries.items c.index-index.result.now l) c.in-Gone.is c.in_ok-visit.ensures.seen in
     record {
       trail = c.visit.ensures.trail;
-      positions = c.visit.ensures.positions ∙ c.loop-at.invariant.positions;
-      grows = grows at;
-      lists = length-set c.visit.new.watches.lists.items c.place-list.result c.swap_remove.new.self ∙ c.visit.ensures.lists ∙ c.loop-at.invariant.lists;
-      watched = watched-swap c.args.clauses.now c.visit.new.watches _ c.place-list.result l c.loop-at.at list c.swap_remove.new.self x c.visit.ensures.watched refl refl refl c.place-list.ensures (removed_at at') less
-          c.swap_remove.ensures.value c.swap_remove.ensures.items (λ q is. gone q (sym (ap (slice_get c.visit.new.watches.pairs.items) x-is) ∙ is));
-      short = c.visit.ensures.short ∙ c.loop-at.invariant.short;
-      reached = λ r bound h. reached-list c.args.clauses.now c.visit.new.watches _ c.args.trail.now.entries.items r refl refl (reached at r bound h);
+      kept = record {
+        positions = c.visit.ensures.positions ∙ c.loop-at.invariant.kept.positions;
+        grows = grows at;
+      };
+      watches = record {
+        lists = length-set c.visit.new.watches.lists.items c.place-list.result c.swap_remove.new.self ∙ c.visit.ensures.lists ∙ c.loop-at.invariant.watches.lists;
+        watched = watched-swap c.args.clauses.now c.visit.new.watches _ c.place-list.result l c.loop-at.at list c.swap_remove.new.self x c.visit.ensures.watched refl refl refl c.place-list.ensures (removed_at at') less
+            c.swap_remove.ensures.value c.swap_remove.ensures.items (λ q is. gone q (sym (ap (slice_get c.visit.new.watches.pairs.items) x-is) ∙ is));
+        short = c.visit.ensures.short ∙ c.loop-at.invariant.watches.short;
+        reached = λ r bound h. reached-list c.args.clauses.now c.visit.new.watches _ c.args.trail.now.entries.items r refl refl (reached at r bound h);
+      };
       passed = passed-swap c.args.clauses.now c.loop-at.watches.lists.items c.visit.new.watches.lists.items c.args.level c.loop-at.trail.entries.items c.visit.new.trail.entries.items c.place-list.result c.loop-at.at list
           c.visit.ensures.grows (sym (kept at) ∙ removed_at at') c.loop-at.invariant.passed less c.swap_remove.new.self x c.swap_remove.ensures.items;
     }
@@ -148,7 +156,7 @@ pub returns-clause-found : goal.returns-clause-found
 returns-clause-found c =
     let at = (goal.at.returns-clause-found c).After-index in
     let ok = c.index.result.now.ok.0 in
-    visited-all c.args.clauses.now c.loop-at.watches c.loop-at.trail.entries.items c.args.literal c.place-list.result c.loop-at.at c.index.result.now c.loop-at.invariant.watched c.requires.literal
+    visited-all c.args.clauses.now c.loop-at.watches c.loop-at.trail.entries.items c.args.literal c.place-list.result c.loop-at.at c.index.result.now c.loop-at.invariant.watches.watched c.requires.literal
     (c.place-list.ensures ∙ ap place (to_z-of_z c.ranges.literal)) (read c.loop-at.watches.lists.items c.place-list.result c.index.result.now (index_within at) c.index.ensures) (omega arith) c.loop-at.invariant.passed
 
 -- ---- what the visits keep
@@ -156,64 +164,64 @@ pub returns-in_err-visit-clause-trail : goal.returns-in_err-visit-clause-trail
 returns-in_err-visit-clause-trail c = c.visit.ensures.trail
 
 pub returns-in_err-visit-clause-positions : goal.returns-in_err-visit-clause-positions
-returns-in_err-visit-clause-positions c = c.visit.ensures.positions ∙ c.loop-at.invariant.positions
+returns-in_err-visit-clause-positions c = c.visit.ensures.positions ∙ c.loop-at.invariant.kept.positions
 
 pub returns-in_err-visit-clause-grows : goal.returns-in_err-visit-clause-grows
-returns-in_err-visit-clause-grows c = grows-more c.args.level c.args.trail.now.entries.items c.loop-at.trail.entries.items c.visit.new.trail.entries.items c.loop-at.invariant.grows c.visit.ensures.grows
+returns-in_err-visit-clause-grows c = grows-more c.args.level c.args.trail.now.entries.items c.loop-at.trail.entries.items c.visit.new.trail.entries.items c.loop-at.invariant.kept.grows c.visit.ensures.grows
 
 pub returns-in_err-visit-clause-lists : goal.returns-in_err-visit-clause-lists
-returns-in_err-visit-clause-lists c = c.visit.ensures.lists ∙ c.loop-at.invariant.lists
+returns-in_err-visit-clause-lists c = c.visit.ensures.lists ∙ c.loop-at.invariant.watches.lists
 
 pub returns-in_err-visit-clause-watched : goal.returns-in_err-visit-clause-watched
 returns-in_err-visit-clause-watched c = c.visit.ensures.watched
 
 pub returns-in_err-visit-clause-short : goal.returns-in_err-visit-clause-short
-returns-in_err-visit-clause-short c = c.visit.ensures.short ∙ c.loop-at.invariant.short
+returns-in_err-visit-clause-short c = c.visit.ensures.short ∙ c.loop-at.invariant.watches.short
 
 pub returns-in-Conflict-clause-trail : goal.returns-in-Conflict-clause-trail
 returns-in-Conflict-clause-trail c = c.visit.ensures.trail
 
 pub returns-in-Conflict-clause-positions : goal.returns-in-Conflict-clause-positions
-returns-in-Conflict-clause-positions c = c.visit.ensures.positions ∙ c.loop-at.invariant.positions
+returns-in-Conflict-clause-positions c = c.visit.ensures.positions ∙ c.loop-at.invariant.kept.positions
 
 pub returns-in-Conflict-clause-grows : goal.returns-in-Conflict-clause-grows
-returns-in-Conflict-clause-grows c = grows-more c.args.level c.args.trail.now.entries.items c.loop-at.trail.entries.items c.visit.new.trail.entries.items c.loop-at.invariant.grows c.visit.ensures.grows
+returns-in-Conflict-clause-grows c = grows-more c.args.level c.args.trail.now.entries.items c.loop-at.trail.entries.items c.visit.new.trail.entries.items c.loop-at.invariant.kept.grows c.visit.ensures.grows
 
 pub returns-in-Conflict-clause-lists : goal.returns-in-Conflict-clause-lists
-returns-in-Conflict-clause-lists c = c.visit.ensures.lists ∙ c.loop-at.invariant.lists
+returns-in-Conflict-clause-lists c = c.visit.ensures.lists ∙ c.loop-at.invariant.watches.lists
 
 pub returns-in-Conflict-clause-watched : goal.returns-in-Conflict-clause-watched
 returns-in-Conflict-clause-watched c = c.visit.ensures.watched
 
 pub returns-in-Conflict-clause-short : goal.returns-in-Conflict-clause-short
-returns-in-Conflict-clause-short c = c.visit.ensures.short ∙ c.loop-at.invariant.short
+returns-in-Conflict-clause-short c = c.visit.ensures.short ∙ c.loop-at.invariant.watches.short
 
 pub returns-clause-trail : goal.returns-clause-trail
 returns-clause-trail c = c.loop-at.invariant.trail
 
 pub returns-clause-positions : goal.returns-clause-positions
-returns-clause-positions c = c.loop-at.invariant.positions
+returns-clause-positions c = c.loop-at.invariant.kept.positions
 
 pub returns-clause-grows : goal.returns-clause-grows
-returns-clause-grows c = c.loop-at.invariant.grows
+returns-clause-grows c = c.loop-at.invariant.kept.grows
 
 pub returns-clause-lists : goal.returns-clause-lists
-returns-clause-lists c = c.loop-at.invariant.lists
+returns-clause-lists c = c.loop-at.invariant.watches.lists
 
 pub returns-clause-watched : goal.returns-clause-watched
-returns-clause-watched c = c.loop-at.invariant.watched
+returns-clause-watched c = c.loop-at.invariant.watches.watched
 
 pub returns-clause-short : goal.returns-clause-short
-returns-clause-short c = c.loop-at.invariant.short
+returns-clause-short c = c.loop-at.invariant.watches.short
 
 pub returns-clause-reached : goal.returns-clause-reached
-returns-clause-reached c = c.loop-at.invariant.reached
+returns-clause-reached c = c.loop-at.invariant.watches.reached
 
 pub visit-requires-clause-trail : goal.visit-requires-clause-trail
 visit-requires-clause-trail c = c.loop-at.invariant.trail
 
 pub visit-requires-clause-watched : goal.visit-requires-clause-watched
-visit-requires-clause-watched c = c.loop-at.invariant.watched
+visit-requires-clause-watched c = c.loop-at.invariant.watches.watched
 
 pub visit-requires-clause-lists : goal.visit-requires-clause-lists
-visit-requires-clause-lists c = c.loop-at.invariant.lists ∙ c.requires.lists ∙ ap (λ (n : ℕ). 2 * n) (sym c.loop-at.invariant.positions)
+visit-requires-clause-lists c = c.loop-at.invariant.watches.lists ∙ c.requires.lists ∙ ap (λ (n : ℕ). 2 * n) (sym c.loop-at.invariant.kept.positions)

@@ -1,19 +1,14 @@
-use Rattle.std.proofs.Common.{◌≡◌, ◌≤◌, length, slice_get}
-use Rattle.mcs_sat.specs.declared.state.Reach.{Reach}
-use Rattle.mcs_sat.specs.Trails.{Grows, IsTrail}
-use Rattle.mcs_sat.specs.Watching.{AreWatched, IsReached}
+use Rattle.std.proofs.Common.{slice_get}
+use Rattle.mcs_sat.specs.Trails.{IsTrail}
 use Rattle.mcs_sat.proofs.WatchLemmas.{ArePassed, left_in}
+use Rattle.mcs_sat.proofs.Keeping.{Extends, KeepsWatches}
 use Rattle.mcs_sat.proofs.propagate.visit_list.Given as goal
 
 abbrev pub invariant-loop-at : goal.invariant-loop-at
 invariant-loop-at l = record {
   trail : IsTrail l.clauses l.trail;
-  positions : length l.trail.positions.items ≡ length l.initial.trail.positions.items;
-  grows : Grows l.level l.initial.trail.entries.items l.trail.entries.items;
-  lists : length l.watches.lists.items ≡ length l.initial.watches.lists.items;
-  watched : AreWatched l.clauses l.watches;
-  short : l.watches.short.items ≡ l.initial.watches.short.items;
-  reached : (r : Reach) → r.visited ≤ length l.initial.trail.entries.items → IsReached l.clauses l.initial.watches l.initial.trail.entries.items r → IsReached l.clauses l.watches l.initial.trail.entries.items r;
+  kept : Extends l.level l.initial.trail l.trail;
+  watches : KeepsWatches l.clauses l.initial.watches l.watches l.initial.trail.entries.items;
   passed : ArePassed l.clauses l.watches.lists.items l.trail.entries.items l.list l.at;
 }
 

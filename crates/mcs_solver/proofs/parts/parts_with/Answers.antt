@@ -1,5 +1,6 @@
 use Rattle.std.proofs.Common.{◌≡◌, ◌∙◌, ℕ, List, length, map, get_or, slice_get, Some, sym, ap, subst, arith}
 use Rattle.std.proofs.lemmas.List.{length-map}
+use Rattle.std.proofs.lemmas.Result.{IfOk-weaker}
 use Rattle.mcs_sets.specs.Orders.{StateBefore}
 use Rattle.mcs_base.specs.Listings.{IsListing}
 use Rattle.mcs_system.specs.Plain.{Context, System}
@@ -14,7 +15,6 @@ use Rattle.mcs_laws.proofs.Views.{view_listings}
 use Rattle.mcs_solver.proofs.AskingLemmas.{context_there}
 use Rattle.mcs_solver.proofs.CoverLemmas.{own_over, heads_over, beliefs_over, few_beliefs}
 use Rattle.mcs_solver.proofs.KindLemmas.{heads_of_kind, beliefs_of_kind}
-use Rattle.mcs_solver.proofs.General.{if_ok}
 use Rattle.mcs_solver.proofs.ViewLemmas.{made_there}
 use Rattle.mcs_solver.proofs.parts.parts_with.Goals as goal
 
@@ -86,4 +86,4 @@ returns-clause-exact c =
     let there : slice_get m.contexts i ≡ Some d = context_there m c.contexts.result.now i c.index-contexts-context.result c.contexts.ensures.value c.requires.context in
     let listing : IsListing (IsAcceptedView (with_heads d.kb (heads_into m i c.args.rules)) (beliefs_at m (variables_of m i))) StateBefore c.in_ok-views.views.items = rw (asked, told) at c.in_ok-views.ensures.exact in
     let parts = view_listings m i c.args.rules d c.in_ok-views.views.items there listing in
-    if_ok c.parts_at.result (λ ps same. subst (λ (xs : List ℕ). IsListing (IsAcceptedPart m i c.args.rules) StateBefore xs) (sym (same ∙ ap (map (at_places c.vars_of.result)) c.deref-3.ensures.value ∙ ap (λ (s : ℕ). map (at_places s) c.in_ok-views.views.items) c.vars_of.ensures)) parts) c.parts_at.ensures
+    IfOk-weaker c.parts_at.result _ _ (λ ps same. subst (λ (xs : List ℕ). IsListing (IsAcceptedPart m i c.args.rules) StateBefore xs) (sym (same ∙ ap (map (at_places c.vars_of.result)) c.deref-3.ensures.value ∙ ap (λ (s : ℕ). map (at_places s) c.in_ok-views.views.items) c.vars_of.ensures)) parts) c.parts_at.ensures

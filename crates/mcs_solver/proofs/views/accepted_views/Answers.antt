@@ -5,7 +5,7 @@ use Rattle.mcs_system.specs.Seen.{formula_of, item_of, kb_of}
 use Rattle.mcs_system.specs.declared.knowledge.Kb as code
 use Rattle.mcs_solver.specs.Kinds.{AreOfKind}
 use Rattle.mcs_solver.proofs.KindLemmas.{defaults_counted}
-use Rattle.mcs_solver.proofs.General.{all_unmap}
+use Rattle.mcs_base.proofs.Mapped.{all_from_map}
 use Rattle.mcs_solver.proofs.views.accepted_views.Goals as goal
 
 pub list_extensions-requires-clause-few_defaults : goal.list_extensions-requires-clause-few_defaults
@@ -15,8 +15,8 @@ list_extensions-requires-clause-few_defaults c =
 
 pub program_views-requires-clause-head_atoms : goal.program_views-requires-clause-head_atoms
 program_views-requires-clause-head_atoms c =
-    all_unmap (λ (f : Formula). IsTrue (is_atom f)) (λ f. formula_of f.now) c.args.heads.now (subst (λ (k : code.Kb). AreOfKind (kb_of k) (map (λ f. formula_of f.now) c.args.heads.now)) c.in-Program.is c.requires.fitting_heads)
+    all_from_map (λ (f : Formula). IsTrue (is_atom f)) (λ f. formula_of f.now) c.args.heads.now (subst (λ (k : code.Kb). AreOfKind (kb_of k) (map (λ f. formula_of f.now) c.args.heads.now)) c.in-Program.is c.requires.fitting_heads)
 
 pub program_views-requires-clause-belief_atoms : goal.program_views-requires-clause-belief_atoms
 program_views-requires-clause-belief_atoms c =
-    all_unmap (λ (f : Formula). IsTrue (is_atom f)) (λ f. formula_of f.now) c.args.beliefs.now (subst (λ (k : code.Kb). AreOfKind (kb_of k) (map (λ f. formula_of f.now) c.args.beliefs.now)) c.in-Program.is c.requires.fitting_beliefs)
+    all_from_map (λ (f : Formula). IsTrue (is_atom f)) (λ f. formula_of f.now) c.args.beliefs.now (subst (λ (k : code.Kb). AreOfKind (kb_of k) (map (λ f. formula_of f.now) c.args.beliefs.now)) c.in-Program.is c.requires.fitting_beliefs)

@@ -2,7 +2,7 @@ use Rattle.std.proofs.Common.{◌≡◌, ◌≤◌, ◌+◌, ◌↔◌, arith}
 use Rattle.mcs_sets.specs.Sets.{common, size}
 use Rattle.mcs_base.specs.Listings.{IsAmong}
 use Rattle.mcs_table.specs.declared.row.Row.{Row}
-use Rattle.mcs_table.proofs.SemiLemmas.{some_where}
+use Rattle.mcs_base.proofs.Deciding.{some_where}
 use Rattle.mcs_table.proofs.semi_joining.has_partner.Goals as goal
 
 pub returns-in-Some : goal.returns-in-Some

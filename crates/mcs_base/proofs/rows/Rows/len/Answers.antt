@@ -1,4 +1,4 @@
-use Rattle.std.proofs.Common.{◌≡◌, ap, ◌∙◌, sym, arith, length}
+use Rattle.std.proofs.Common.{ap, ◌∙◌, sym, arith, length}
 use Rattle.mcs_base.proofs.RowLemmas.{rows-length}
 use Rattle.mcs_base.proofs.rows.Rows.len.Goals as goal
 

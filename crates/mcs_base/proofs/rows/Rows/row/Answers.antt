@@ -1,4 +1,4 @@
-use Rattle.std.proofs.Common.{◌≡◌, ◌+◌, ◌-◌, ◌<◌, ◌≤◌, ◌∷◌, ℕ, List, sym, ap, ◌∙◌, subst, arith, length, take, drop, get_or, slice_get, Some}
+use Rattle.std.proofs.Common.{◌≡◌, ◌-◌, ◌<◌, ◌≤◌, ◌∷◌, ℕ, List, sym, ap, ◌∙◌, arith, length, take, drop, get_or, slice_get, Some}
 use Rattle.std.proofs.lemmas.List.{get_or_read}
 use Rattle.mcs_base.proofs.RowLemmas.{row-bounds, rows-at, row-within}
 use Rattle.mcs_base.proofs.rows.Rows.row.Given as given

@@ -1,4 +1,4 @@
-use Rattle.std.proofs.Common.{◌≡◌, ◌+◌, ◌-◌, ◌<◌, ◌≤◌, ◌∷◌, ℕ, List, sym, ap, ◌∙◌, subst, arith, length, take, drop, get_or, slice_get, Some}
+use Rattle.std.proofs.Common.{◌≡◌, ◌∷◌, ℕ, List, sym, ap, ◌∙◌, subst, arith, length, take, get_or}
 use Rattle.std.proofs.lemmas.List.{length-take-le}
 use Rattle.mcs_base.specs.Rows.{AreEnds, rows_from}
 use Rattle.mcs_base.proofs.RowLemmas.{end_of, end_of-read, ends-take, rows-cut}

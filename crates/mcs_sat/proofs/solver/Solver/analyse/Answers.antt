@@ -1,8 +1,9 @@
-use Rattle.std.proofs.Common.{◌≡◌, ◌+◌, ◌-◌, ◌<◌, ◌≤◌, List, None, length, slice_get, sym, ap, ◌∙◌, subst, arith, Result, Ok, Err, IfOk}
+use Rattle.std.proofs.Common.{◌≡◌, ◌+◌, ◌-◌, ◌<◌, ◌≤◌, List, None, length, slice_get, sym, ap, ◌∙◌, subst, arith}
 use Rattle.std.specs.List.{AllByRecursion}
 use Rattle.std.specs.Option.{option_copied}
 use Rattle.mcs_base.proofs.Among.{among_get}
 use Rattle.mcs_base.proofs.Lists.{slice_get_none}
+use Rattle.mcs_base.proofs.Results.{IfOk-both}
 use Rattle.mcs_trace.specs.declared.trace.Step.{Step}
 use Rattle.mcs_sat.specs.declared.state.Reach.{Reach}
 use Rattle.mcs_sat.specs.declared.state.State.{State}
@@ -39,16 +40,12 @@ analyse-requires-clause-implied c =
     let last : IsLastLevel s.levels.items c.in-Some.reach.now = last-found s.levels.items c.deref.result.now c.last.result c.in-Some.reach c.deref.ensures.value c.last.ensures.value c.in-Some.is in
     last-implied s c.in-Some.reach.now c.self.invariant some last
 
-both : {T E : Type 0} (P Q R : T → Type 0) → ((x : T) → P x → Q x → R x) → (r : Result T E) → IfOk r P → IfOk r Q → IfOk r R
-both P Q R f (Ok x) p q = f x p q
-both P Q R f (Err e) p q = tt
-
 pub returns-clause-step : goal.returns-clause-step
 returns-clause-step c =
     let s : State = c.self.inside.state in
     let some : 0 < length s.levels.items = some-levels s c.args.self.now c.self.invariant c.self.view_is c.requires.level in
     let last : IsLastLevel s.levels.items c.in-Some.reach.now = last-found s.levels.items c.deref.result.now c.last.result c.in-Some.reach c.deref.ensures.value c.last.ensures.value c.in-Some.is in
     let r : Reach = c.in-Some.reach.now in
-    both (IsLearnt s.clauses s.trail.entries.items) (λ (step : Step). r.entries + 1 ≤ length s.trail.entries.items → IsSingle s.trail.entries.items r.entries step.clause) (IsAsserting c.args.self.now)
+    IfOk-both (IsLearnt s.clauses s.trail.entries.items) (λ (step : Step). r.entries + 1 ≤ length s.trail.entries.items → IsSingle s.trail.entries.items r.entries step.clause) (IsAsserting c.args.self.now)
     (λ step learnt single. subst (λ (v : SolverView). IsAsserting v step) c.self.view_is (asserting s r step c.self.invariant some last learnt single))
     c.analyse.result c.analyse.ensures.learnt c.analyse.ensures.single

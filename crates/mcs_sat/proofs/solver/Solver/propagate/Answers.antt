@@ -1,18 +1,13 @@
-use Rattle.std.proofs.Common.{◌≡◌, ℕ, ◌+◌, ◌↔◌, List, ℤ, Option, Some, None, IfSome, is_some, IsTrue, true≢false, Result, Ok, Err, IfOk, refl, sym, subst}
+use Rattle.std.proofs.Common.{ℕ, ◌+◌, ◌↔◌, List, ℤ, Option, Some, None, IfSome, is_some, IsTrue, true≢false, refl, sym, subst}
 use Rattle.std.specs.List.{AllByRecursion}
 use Rattle.std.specs.Option.{IfNone}
+use Rattle.mcs_base.proofs.Results.{IfOk-from_ok, IfOk-from_is_err}
 use Rattle.mcs_sat.specs.declared.state.State.{State}
 use Rattle.mcs_sat.specs.Solvers.{GoesOn, IsUnitRun, LeadsToConflict, SolverView, trues}
 use Rattle.mcs_sat.specs.Trails.{IsFalseAt, IsOpen, levels_of}
 use Rattle.mcs_sat.proofs.SolverLemmas.{false-number, grown-conflict, grown-goes_on, grown-no_conflict, opens-under}
 use Rattle.mcs_sat.proofs.solver.Solver.propagate.Goals as goal
 use Rattle.mcs_sat.proofs.solver.Solver.propagate.Goals.{in-Ok-Some, in-Ok-None, in-Err}
-
-if_ok_at : {T E : Type 0} (P : T → Type 0) (r : Result T E) (x : T) → r ≡ Ok x → P x → IfOk r P
-if_ok_at P r x is holds = subst (λ q. IfOk q P) (sym is) holds
-
-if_ok_none : {T E : Type 0} (P : T → Type 0) (r : Result T E) (e : E) → r ≡ Err e → IfOk r P
-if_ok_none P r e is = subst (λ q. IfOk q P) (sym is) tt
 
 -- the literals that follow on the levels of what is seen
 abbrev IsRunOn : State → SolverView → Type 0
@@ -23,9 +18,9 @@ returns-clause-run c =
     let s : State = c.self.inside.state in
     let new : State = c.run_or_restore.new.state in
     elim c.match-run_or_restore.branch [
-      | in-Ok-Some w ↦ if_ok_at (λ o. IsRunOn new c.args.self.now) c.match-run_or_restore.result (Some (w.in-Ok-Some.index + 1)) w.result-is (subst (IsRunOn new) c.self.view_is (grown-goes_on s new (w.in-Ok-Some.ensures.kept, w.in-Ok-Some.ensures.same.clauses, w.in-Ok-Some.ensures.grows)))
-      | in-Ok-None w ↦ if_ok_at (λ o. IsRunOn new c.args.self.now) c.match-run_or_restore.result None w.result-is (subst (IsRunOn new) c.self.view_is (grown-goes_on s new (w.in-Ok-None.ensures.kept, w.in-Ok-None.ensures.same.clauses, w.in-Ok-None.ensures.grows)))
-      | in-Err w ↦ if_ok_none (λ o. IsRunOn new c.args.self.now) c.match-run_or_restore.result w.in-Err.error w.result-is
+      | in-Ok-Some w ↦ IfOk-from_ok (λ o. IsRunOn new c.args.self.now) c.match-run_or_restore.result (Some (w.in-Ok-Some.index + 1)) w.result-is (subst (IsRunOn new) c.self.view_is (grown-goes_on s new (w.in-Ok-Some.ensures.kept, w.in-Ok-Some.ensures.same.clauses, w.in-Ok-Some.ensures.grows)))
+      | in-Ok-None w ↦ IfOk-from_ok (λ o. IsRunOn new c.args.self.now) c.match-run_or_restore.result None w.result-is (subst (IsRunOn new) c.self.view_is (grown-goes_on s new (w.in-Ok-None.ensures.kept, w.in-Ok-None.ensures.same.clauses, w.in-Ok-None.ensures.grows)))
+      | in-Err w ↦ IfOk-from_is_err (λ o. IsRunOn new c.args.self.now) c.match-run_or_restore.result w.in-Err.error w.result-is
     ]
 
 pub returns-clause-open : goal.returns-clause-open
@@ -33,18 +28,18 @@ returns-clause-open c =
     let s : State = c.self.inside.state in
     let new : State = c.run_or_restore.new.state in
     elim c.match-run_or_restore.branch [
-      | in-Ok-Some w ↦ if_ok_at _ c.match-run_or_restore.result (Some (w.in-Ok-Some.index + 1)) w.result-is tt
-      | in-Ok-None w ↦ if_ok_at _ c.match-run_or_restore.result None w.result-is (opens-under new (subst (λ (o : Option ℕ). IfNone o (AllByRecursion (IsOpen new.trail.entries.items) new.clauses)) w.in-Ok-None.field-0-is w.in-Ok-None.ensures.«open»))
-      | in-Err w ↦ if_ok_none _ c.match-run_or_restore.result w.in-Err.error w.result-is
+      | in-Ok-Some w ↦ IfOk-from_ok _ c.match-run_or_restore.result (Some (w.in-Ok-Some.index + 1)) w.result-is tt
+      | in-Ok-None w ↦ IfOk-from_ok _ c.match-run_or_restore.result None w.result-is (opens-under new (subst (λ (o : Option ℕ). IfNone o (AllByRecursion (IsOpen new.trail.entries.items) new.clauses)) w.in-Ok-None.field-0-is w.in-Ok-None.ensures.«open»))
+      | in-Err w ↦ IfOk-from_is_err _ c.match-run_or_restore.result w.in-Err.error w.result-is
     ]
 
 pub returns-clause-conflict : goal.returns-clause-conflict
 returns-clause-conflict c =
     let new : State = c.run_or_restore.new.state in
     elim c.match-run_or_restore.branch [
-      | in-Ok-Some w ↦ if_ok_at _ c.match-run_or_restore.result (Some (w.in-Ok-Some.index + 1)) w.result-is (false-number new w.in-Ok-Some.index (w.in-Ok-Some.index + 1) refl (subst (λ (o : Option ℕ). IfSome o (IsFalseAt new.clauses new.trail.entries.items)) w.in-Ok-Some.field-0-is w.in-Ok-Some.ensures.conflict))
-      | in-Ok-None w ↦ if_ok_at _ c.match-run_or_restore.result None w.result-is tt
-      | in-Err w ↦ if_ok_none _ c.match-run_or_restore.result w.in-Err.error w.result-is
+      | in-Ok-Some w ↦ IfOk-from_ok _ c.match-run_or_restore.result (Some (w.in-Ok-Some.index + 1)) w.result-is (false-number new w.in-Ok-Some.index (w.in-Ok-Some.index + 1) refl (subst (λ (o : Option ℕ). IfSome o (IsFalseAt new.clauses new.trail.entries.items)) w.in-Ok-Some.field-0-is w.in-Ok-Some.ensures.conflict))
+      | in-Ok-None w ↦ IfOk-from_ok _ c.match-run_or_restore.result None w.result-is tt
+      | in-Err w ↦ IfOk-from_is_err _ c.match-run_or_restore.result w.in-Err.error w.result-is
     ]
 
 -- a clause that is false was found exactly where the clauses lead to one
@@ -56,16 +51,16 @@ returns-clause-exact c =
     let s : State = c.self.inside.state in
     let new : State = c.run_or_restore.new.state in
     elim c.match-run_or_restore.branch [
-      | in-Ok-Some w ↦ if_ok_at (IsExactly c.args.self.now) c.match-run_or_restore.result (Some (w.in-Ok-Some.index + 1)) w.result-is (
+      | in-Ok-Some w ↦ IfOk-from_ok (IsExactly c.args.self.now) c.match-run_or_restore.result (Some (w.in-Ok-Some.index + 1)) w.result-is (
         λ yes. subst (λ (v : SolverView). LeadsToConflict v.clauses (trues v)) c.self.view_is (grown-conflict s new w.in-Ok-Some.index (w.in-Ok-Some.ensures.kept, w.in-Ok-Some.ensures.same.clauses, w.in-Ok-Some.ensures.grows)
             (subst (λ (o : Option ℕ). IfSome o (IsFalseAt new.clauses new.trail.entries.items)) w.in-Ok-Some.field-0-is w.in-Ok-Some.ensures.conflict)),
         λ leads. refl,
       )
-      | in-Ok-None w ↦ if_ok_at (IsExactly c.args.self.now) c.match-run_or_restore.result None w.result-is (
+      | in-Ok-None w ↦ IfOk-from_ok (IsExactly c.args.self.now) c.match-run_or_restore.result None w.result-is (
         λ yes. absurd (true≢false (sym yes)),
         λ leads. absurd (grown-no_conflict s new (w.in-Ok-None.ensures.kept, w.in-Ok-None.ensures.same.clauses, w.in-Ok-None.ensures.grows)
             (subst (λ (o : Option ℕ). IfNone o (AllByRecursion (IsOpen new.trail.entries.items) new.clauses)) w.in-Ok-None.field-0-is w.in-Ok-None.ensures.«open»)
             (subst (λ (v : SolverView). LeadsToConflict v.clauses (trues v)) (sym c.self.view_is) leads)),
       )
-      | in-Err w ↦ if_ok_none (IsExactly c.args.self.now) c.match-run_or_restore.result w.in-Err.error w.result-is
+      | in-Err w ↦ IfOk-from_is_err (IsExactly c.args.self.now) c.match-run_or_restore.result w.in-Err.error w.result-is
     ]

@@ -1,25 +1,25 @@
 -- What is decided where its parts are, and the places in a list of what has a decided property.
-use Rattle.std.proofs.Common.{◌≡◌, ℕ, zero, suc, ◌<◌, ◌^◌, Bool, true, false, ◌&&◌, ltb, List, [], ◌∷◌, length, Option, Some, None, slice_get, IsTrue, refl, sym, ◌∙◌, subst, inl, inr, ◌⊎◌, ◌↔◌, arith, true≢false}
+use Rattle.std.proofs.Common.{◌≡◌, ℕ, zero, suc, ◌<◌, ◌≤◌, ◌^◌, Bool, true, false, not, ◌&&◌, ◌||◌, ◌==◌, ltb, List, [], ◌∷◌, length, Option, Some, None, slice_get, IsTrue, refl, sym, ◌∙◌, subst, inl, inr, ◌⊎◌, ◌↔◌, arith, true≢false}
 use Rattle.std.specs.List.{AllByRecursion}
-use Rattle.std.proofs.lemmas.Bool.{and_parts, cases_eq}
+use Rattle.std.proofs.lemmas.Bool.{and_parts, cases_eq, cases_lt}
 use Rattle.std.proofs.lemmas.Bool.Decides.{nat_tests}
 use Rattle.std.proofs.lemmas.Option.{slice_get_within}
 use Rattle.mcs_sets.specs.Sets.{has, such_that}
 use Rattle.mcs_sets.proofs.SetLemmas.{has-such_that, such_that-lt}
+use Rattle.mcs_base.specs.Listings.{IsAmong}
 use Rattle.mcs_base.proofs.Among.{get_among}
 use Rattle.mcs_base.proofs.Booleans.{test_of, test_of-tells}
 use Rattle.mcs_base.proofs.Each.{all_from_among}
 
+-- ---- propositions
 pub cases_not : {P : Type 0} → P ⊎ (¬ P) → (¬ P) ⊎ (¬ (¬ P))
 cases_not (inl h) = inr (λ never. never h)
 cases_not (inr never) = inl never
 
-pub cases_all : {A : Type 0} (P : A → Type 0) (xs : List A) → ((x : A) → P x ⊎ (¬ P x)) → AllByRecursion P xs ⊎ (¬ AllByRecursion P xs)
-cases_all P [] each = inl tt
-cases_all P (x ∷ xs) each = elim (each x) [
-  | inr never ↦ inr (λ all. never all.0)
-  | inl here ↦ elim (cases_all P xs each) [ inl rest ↦ inl (here, rest) | inr never ↦ inr (λ all. never all.1) ]
-]
+pub cases_both : {P Q : Type 0} → P ⊎ (¬ P) → Q ⊎ (¬ Q) → (P × Q) ⊎ (¬ (P × Q))
+cases_both (inl p) (inl q) = inl (p, q)
+cases_both (inl p) (inr never) = inr (λ h. never h.1)
+cases_both (inr never) d = inr (λ h. never h.0)
 
 pub cases_implies : {P Q : Type 0} → P ⊎ (¬ P) → Q ⊎ (¬ Q) → (P → Q) ⊎ (¬ (P → Q))
 cases_implies p (inl q) = inl (λ _. q)
@@ -33,6 +33,17 @@ cases_true false = inr (λ e. true≢false (sym e))
 pub cases_false : (b : Bool) → (b ≡ false) ⊎ (¬ (b ≡ false))
 cases_false true = inr true≢false
 cases_false false = inl refl
+
+pub cases_le : (a b : ℕ) → (a ≤ b) ⊎ (¬ (a ≤ b))
+cases_le a b = elim (cases_lt b a) [ inl less ↦ inr (λ h. omega (arith, less, h)) | inr most ↦ inl (omega (arith, most)) ]
+
+-- ---- what holds of each, and of some
+pub cases_all : {A : Type 0} (P : A → Type 0) (xs : List A) → ((x : A) → P x ⊎ (¬ P x)) → AllByRecursion P xs ⊎ (¬ AllByRecursion P xs)
+cases_all P [] each = inl tt
+cases_all P (x ∷ xs) each = elim (each x) [
+  | inr never ↦ inr (λ all. never all.0)
+  | inl here ↦ elim (cases_all P xs each) [ inl rest ↦ inl (here, rest) | inr never ↦ inr (λ all. never all.1) ]
+]
 
 pub cases_all_get : {A : Type 0} (P : ℕ → A → Type 0) (xs : List A) → ((k : ℕ) (x : A) → P k x ⊎ (¬ P k x)) → ((k : ℕ) (x : A) → slice_get xs k ≡ Some x → P k x) ⊎ (¬ ((k : ℕ) (x : A) → slice_get xs k ≡ Some x → P k x))
 cases_all_get P [] each = inl (λ k x is. absurd (let none : None ≡ Some x = is in cc))
@@ -57,6 +68,14 @@ cases_some_below P (suc n) each = elim (each n) [
     | inr none ↦ inr (λ (i, less, p). elim (cases_eq i n) [ inl same ↦ never (subst P same p) | inr differ ↦ none (i, omega arith, p) ])
   ]
 ]
+
+pub all_from_get : {A : Type 0} (P : A → Type 0) (xs : List A) → ((k : ℕ) (x : A) → slice_get xs k ≡ Some x → P x) → AllByRecursion P xs
+all_from_get P xs each = all_from_among P xs (λ x among. let (k, is) = get_among x xs among in each k x is)
+
+-- there is one of a list exactly where the list is not empty
+pub some_where : {A : Type 0} (P : A → Type 0) (xs : List A) → ((x : A) → IsAmong x xs ↔ P x) → IsTrue (not (length xs == 0)) ↔ ((x : A) × P x)
+some_where P [] same = (λ h. absurd (let none : ⊥ = grind (arith, nat_tests) in none), λ (x, p). absurd ((same x).1 p))
+some_where P (y ∷ ys) same = (λ h. (y, (same y).0 (inl refl)), λ p. grind (arith, nat_tests))
 
 -- ---- the places in a list of what has a decided property
 module _ {A : Type 0} (Q : A → Type 0) (decides : (x : A) → Q x ⊎ (¬ Q x)) where
@@ -88,5 +107,12 @@ module _ {A : Type 0} (Q : A → Type 0) (decides : (x : A) → Q x ⊎ (¬ Q x)
           let e : ltb k (length xs) ≡ true = grind (arith, nat_tests) in
           rw (e, is) ((test_of-tells (decides x)).1 q)
 
-pub all_from_get : {A : Type 0} (P : A → Type 0) (xs : List A) → ((k : ℕ) (x : A) → slice_get xs k ≡ Some x → P x) → AllByRecursion P xs
-all_from_get P xs each = all_from_among P xs (λ x among. let (k, is) = get_among x xs among in each k x is)
+-- ---- tests as they compute: of one, and of two of which the first implies the second
+pub only_test : (x : Bool) → ((x || false) && true) ≡ true → x ≡ true
+only_test true h = refl
+only_test false h = h
+
+pub test_with_implied : (x y : Bool) → ((not (x && true) || (y || false)) && ((x || false) && true)) ≡ true → (x ≡ true) × (y ≡ true)
+test_with_implied true true h = (refl, refl)
+test_with_implied true false h = absurd (true≢false (sym h))
+test_with_implied false y h = absurd (true≢false (sym h))

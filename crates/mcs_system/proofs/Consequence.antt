@@ -1,4 +1,4 @@
--- What follows from formulas.
+-- What follows from formulas, that it is decided, and what a belief set shows of it.
 use Rattle.std.proofs.Common.{◌≡◌, ℕ, List, IsTrue, sym, ◌∙◌, inl, inr, ◌⊎◌, ◌↔◌, true≢false}
 use Rattle.std.specs.List.{AllByRecursion}
 use Rattle.std.specs.Cmp.{both_ways}
@@ -24,8 +24,8 @@ follow_themselves fs = all_from_among (Entails fs) fs (member_follows fs)
 pub follows_through : (fs gs : List Formula) (p : Formula) → AllByRecursion (Entails fs) gs → Entails gs p → Entails fs p
 follows_through fs gs p all follows a h = follows a ((each_holds a gs).0 (all_weaker (Entails fs) (λ q. IsTrue (holds a q)) (λ q f. f a h) gs all))
 
-pub decided : (fs : List Formula) (p : Formula) → Entails fs p ⊎ (¬ Entails fs p)
-decided fs p = elim (decide fs p) [ inl follows ↦ inl follows | inr other ↦ inr (λ follows. true≢false (sym (follows other.0 other.1) ∙ other.2)) ]
+pub cases_entails : (fs : List Formula) (p : Formula) → Entails fs p ⊎ (¬ Entails fs p)
+cases_entails fs p = elim (decide fs p) [ inl follows ↦ inl follows | inr other ↦ inr (λ follows. true≢false (sym (follows other.0 other.1) ∙ other.2)) ]
 
 -- the places that a belief set shows are one set
 pub one_set : (b : BeliefSet) (beliefs : List Formula) (places others : ℕ) → Shows b beliefs places → Shows b beliefs others → places ≡ others

@@ -1,0 +1,17 @@
+-- Results and options, beyond std's lemmas.
+use Rattle.std.proofs.Common.{◌≡◌, ◌↔◌, Some, None, Result, Ok, Err, IfOk, sym, subst}
+use Rattle.std.proofs.lemmas.Option.{none-some}
+
+pub IfOk-both : {T E : Type 0} (P Q R : T → Type 0) → ((x : T) → P x → Q x → R x) → (r : Result T E) → IfOk r P → IfOk r Q → IfOk r R
+IfOk-both P Q R f (Ok x) p q = f x p q
+IfOk-both P Q R f (Err e) p q = tt
+
+pub IfOk-from_ok : {T E : Type 0} (P : T → Type 0) (r : Result T E) (x : T) → r ≡ Ok x → P x → IfOk r P
+IfOk-from_ok P r x is holds = subst (λ q. IfOk q P) (sym is) holds
+
+pub IfOk-from_is_err : {T E : Type 0} (P : T → Type 0) (r : Result T E) (e : E) → r ≡ Err e → IfOk r P
+IfOk-from_is_err P r e is = subst (λ q. IfOk q P) (sym is) tt
+
+-- none is the view of what never holds
+pub none_is_never : {A : Type 0} {P : A → Type 0} → ((x : A) → ¬ P x) → (x : A) → P x ↔ (None ≡ Some x)
+none_is_never never x = (λ h. absurd (never x h), λ e. absurd (none-some x e))

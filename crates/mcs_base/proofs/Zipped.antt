@@ -1,0 +1,37 @@
+-- Lists that go together place by place.
+use Rattle.std.proofs.Common.{◌≡◌, ℕ, ◌<◌, zero, suc, List, [], ◌∷◌, ◌++◌, length, get_or, Some, slice_get, refl, subst, arith}
+use Rattle.std.specs.List.{AllZip}
+
+module _ {A B : Type 0} (R : A → B → Type 0) where
+  -- what stands at a place of the first goes with what stands there in the second
+  pub zip_get : (xs : List A) (ys : List B) → AllZip R xs ys → (i : ℕ) (x : A) → slice_get xs i ≡ Some x → (y : B) × (slice_get ys i ≡ Some y) × R x y
+  zip_get [] [] all i x is = cc
+  zip_get [] (y ∷ ys) all i x is = absurd all
+  zip_get (z ∷ xs) [] all i x is = absurd all
+  zip_get (z ∷ xs) (y ∷ ys) all zero x is = (y, refl, (let e : z ≡ x = cc in subst (λ (w : A). R w y) e all.0))
+  zip_get (z ∷ xs) (y ∷ ys) all (suc i) x is = zip_get xs ys all.1 i x is
+
+  -- lists of one length, where each that stands at a place of the first goes with what stands there in the second
+  pub zip_from_get : (xs : List A) (ys : List B) → length xs ≡ length ys → ((i : ℕ) (x : A) (y : B) → slice_get xs i ≡ Some x → slice_get ys i ≡ Some y → R x y) → AllZip R xs ys
+  zip_from_get [] [] long each = tt
+  zip_from_get [] (y ∷ ys) long each = absurd (omega (arith, long))
+  zip_from_get (x ∷ xs) [] long each = absurd (omega (arith, long))
+  zip_from_get (x ∷ xs) (y ∷ ys) long each = (each 0 x y refl refl, zip_from_get xs ys (omega (arith, long)) (λ i a b. each (suc i) a b))
+
+  pub zip_from_get_or : (xs : List A) (ys : List B) (d : A) (e : B) → length xs ≡ length ys → ((k : ℕ) → k < length ys → R (get_or xs k d) (get_or ys k e)) → AllZip R xs ys
+  zip_from_get_or [] [] d e long each = tt
+  zip_from_get_or [] (y ∷ ys) d e long each = absurd (omega (arith, long))
+  zip_from_get_or (x ∷ xs) [] d e long each = absurd (omega (arith, long))
+  zip_from_get_or (x ∷ xs) (y ∷ ys) d e long each = (each 0 (omega arith), zip_from_get_or xs ys d e (omega (arith, long)) (λ k less. each (suc k) (omega arith)))
+
+  pub zip_append : (xs xs' : List A) (ys ys' : List B) → AllZip R xs ys → AllZip R xs' ys' → AllZip R (xs ++ xs') (ys ++ ys')
+  zip_append [] xs' [] ys' h h' = h'
+  zip_append [] xs' (y ∷ ys) ys' h h' = absurd h
+  zip_append (x ∷ xs) xs' [] ys' h h' = absurd h
+  zip_append (x ∷ xs) xs' (y ∷ ys) ys' h h' = (h.0, zip_append xs xs' ys ys' h.1 h')
+
+  pub zip_weaker : (S : A → B → Type 0) → ((x : A) (y : B) → R x y → S x y) → (xs : List A) (ys : List B) → AllZip R xs ys → AllZip S xs ys
+  zip_weaker S weaker [] [] h = tt
+  zip_weaker S weaker [] (y ∷ ys) h = absurd h
+  zip_weaker S weaker (x ∷ xs) [] h = absurd h
+  zip_weaker S weaker (x ∷ xs) (y ∷ ys) h = (weaker x y h.0, zip_weaker S weaker xs ys h.1)

@@ -1,0 +1,20 @@
+-- What the visits of clauses keep of a trail and of the watches.
+use Rattle.std.proofs.Common.{◌≡◌, ℕ, ◌≤◌, ℤ, List, length}
+use Rattle.mcs_sat.specs.declared.state.Reach.{Reach}
+use Rattle.mcs_sat.specs.declared.trail.Entry.{Entry}
+use Rattle.mcs_sat.specs.declared.trail.Trail.{Trail}
+use Rattle.mcs_sat.specs.declared.watches.Watches.{Watches}
+use Rattle.mcs_sat.specs.Trails.{Grows}
+use Rattle.mcs_sat.specs.Watching.{AreWatched, IsReached}
+
+-- it has as many variables, and more literals, which are implied on the level
+pub record Extends (level : ℕ) (before after : Trail) : Type 0 where
+  pub positions : length after.positions.items ≡ length before.positions.items
+  pub grows : Grows level before.entries.items after.entries.items
+
+-- the lists are as many, and what was reached by these literals is reached still
+pub record KeepsWatches (known : List (List ℤ)) (before after : Watches) (entries : List Entry) : Type 0 where
+  pub lists : length after.lists.items ≡ length before.lists.items
+  pub watched : AreWatched known after
+  pub short : after.short.items ≡ before.short.items
+  pub reached : (r : Reach) → r.visited ≤ length entries → IsReached known before entries r → IsReached known after entries r
