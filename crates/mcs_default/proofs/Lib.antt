@@ -4,3 +4,5 @@ pub mod AskLemmas
 pub mod OrderLemmas
 pub mod JudgeLemmas
 pub mod TheoryLemmas
+pub mod FindingLemmas
+pub mod SearchLemmas

@@ -1,2 +1,4 @@
 pub mod Theories
 pub mod Told
+pub mod Searches
+pub mod Assignments

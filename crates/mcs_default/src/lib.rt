@@ -2,10 +2,15 @@
 #![tactic(auto)]
 
 mod asking;
+mod findings;
 mod grounding;
 mod inside;
 mod listing;
+mod models;
+mod nodes;
 mod outside;
+mod questions;
+mod search;
 mod theory;
 mod verdict;
 

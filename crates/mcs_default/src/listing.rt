@@ -13,6 +13,8 @@ ghost use Rattle.mcs_cnf.specs.ClauseLists.{AreOver};
 ghost use Rattle.mcs_evidence.specs.Defaults.{Verdict, AreOverItems, IsAcceptedDefault, defaults_of, verdicts_of};
 ghost use Rattle.mcs_default.specs.Theories.{AreOverDefaults, AreParts, with_view};
 
+use crate::findings::Findings;
+use crate::search::add_views;
 use crate::theory::{defaults_of, facts};
 use crate::verdict::judge;
 use mcs_base::{Memory, Vars, list_states};
@@ -68,10 +70,10 @@ fn judge_all(
     Ok((views, DefaultCert { sets }))
 }
 
-/// The views of the extensions alone: each verdict is let go before the next set is judged.
+/// The views of the extensions alone, by a search. The clauses of the facts are given.
 fn list_all(
     alloc: Global,
-    known: &mut Cnf,
+    facts: Cnf,
     defaults: &[&Default],
     beliefs: &[&Formula],
     atoms: &[Name],
@@ -82,17 +84,27 @@ fn list_all(
     requires different { has_twins atoms.now ≡ false }
     requires over { AreOverDefaults atoms.now (map (λ d. default_of d.now) defaults.now) }
     requires beliefs { AreOver atoms.now (map (λ b. formula_of b.now) beliefs.now) }
-    requires room { length atoms.now ≤ known.old.vars }
-    ensures listed { IfOk result (λ views. (items : List plain.Item) → AreParts atoms.now items (map (λ d. default_of d.now) defaults.now) known.old
-        → (vs : List Verdict) × IsAcceptedDefault atoms.now items (map (λ b. formula_of b.now) beliefs.now) views.items vs) }
+    requires room { length atoms.now ≤ facts.vars }
+    ensures exact { IfOk result (λ views. (items : List plain.Item) → AreParts atoms.now items (map (λ d. default_of d.now) defaults.now) facts
+        → IsListing (IsAcceptedView (DefaultTheory items) (map (λ b. formula_of b.now) beliefs.now)) StateBefore views.items) }
 {
+    let mut findings = Findings {
+        facts,
+        lower: Vec::new(alloc),
+        upper: Vec::new(alloc),
+    };
+    let all = Vars::numbered(set_count(defaults.len()) - 1);
     let mut views = Vec::new(alloc);
-    for number in 0..set_count(defaults.len()) {
-        let set = Vars::numbered(number);
-        let judged = judge(alloc, known, defaults, set, beliefs, atoms)?;
-        drop(judged.verdict);
-        push_view(&mut views, judged.view)?;
-    }
+    add_views(
+        alloc,
+        &mut findings,
+        defaults,
+        beliefs,
+        atoms,
+        Vars::empty(),
+        all,
+        &mut views,
+    )?;
     list_states(&mut views);
     Ok(views)
 }
@@ -164,6 +176,6 @@ pub fn list_extensions(
     ensures exact { IfOk result (λ r. IsListing (IsAcceptedView (with_heads (DefaultTheory (map item_of items.now)) (map (λ f. formula_of f.now) added.now)) (map (λ b. formula_of b.now) beliefs.now)) StateBefore r.items) }
 {
     let defaults = defaults_of(alloc, items)?;
-    let mut known = facts(alloc, items, added, atoms)?;
-    list_all(alloc, &mut known, &defaults, beliefs, atoms)
+    let known = facts(alloc, items, added, atoms)?;
+    list_all(alloc, known, &defaults, beliefs, atoms)
 }

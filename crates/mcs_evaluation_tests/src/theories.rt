@@ -116,6 +116,32 @@ fn are_listed(
     Ok(list_extensions(alloc, items, &[], &lent, atoms)?.as_slice() == views)
 }
 
+/// Whether these are the views of these numbers.
+fn are_numbered(views: &[Vars], numbers: &[u64]) -> bool {
+    views.len() == numbers.len()
+        && views.iter().zip(numbers).all(|(view, number)| view.number() == *number)
+}
+
+/// Whether the extensions of the theory are listed with the views of these numbers, with and without what shows it.
+fn are_found(
+    alloc: Global,
+    items: &[TheoryItem],
+    beliefs: &[Formula],
+    atoms: &[Name],
+    numbers: &[u64],
+) -> Result<bool, Memory>
+    requires over { AreOverItems atoms.now (map item_of items.now) }
+    requires beliefs { AreOver atoms.now (map formula_of beliefs.now) }
+    requires different { has_twins atoms.now ≡ false }
+    requires few { length atoms.now ≤ 64 }
+    requires few_beliefs { length beliefs.now ≤ 64 }
+    requires few_defaults { length (defaults_of (map item_of items.now)) ≤ 10 }
+{
+    let (found, certificate) = extensions(alloc, items, &[], beliefs, atoms)?;
+    drop(certificate);
+    Ok(are_numbered(&found, numbers) && are_listed(alloc, items, beliefs, atoms, &found)?)
+}
+
 /// Whether the first context, asked for the formulas of the second, has these views, by verdicts of which it is said
 /// whether they tell of an extension.
 fn has_views(alloc: Global, text: &str, views: &[Vars], generating: &[bool]) -> Result<bool, Fail> {
@@ -151,5 +177,62 @@ fn extensions_are_shown(rt: HostRuntime) -> Result<(), Fail> {
     let either = [false, true, true, false];
     assert!(rt; has_views(rt.alloc(), DIAMOND, &[one, none], &either)?);
     assert!(rt; has_views(rt.alloc(), UNGROUNDED, &[none], &[true, false])?);
+    Ok(())
+}
+
+/// A theory and the formulas for which it is asked, and the numbers of the views, in their order.
+const THEORIES: [(&str, &[u64]); 15] = [
+    ("context c default { a. a : b / b. b : c / c. } context d classical { b. c. }", &[3]),
+    ("context c default { a. a : b & ~c / b. a : c / c. } context d classical { b. c. }", &[2]),
+    ("context c default { true : a & ~b / a. true : b & ~c / b. true : c & ~a / c. } context d classical { a. }", &[]),
+    ("context c default { a : b / b. b : a / a. } context d classical { a. b. }", &[0]),
+    ("context c default { a : b / b. b : a / a. true : a | b / a | b. } context d classical { a. b. a | b. }", &[4]),
+    ("context c default { a. a : p / p. a : ~p / ~p. a : q / q. a : ~q / ~q. } context d classical { p. q. }", &[3, 1, 2, 0]),
+    ("context c default { a. ~a. true : b / b. } context d classical { a. b. ~b. }", &[7]),
+    ("context c default { a. a : b, c / d. a : ~b / ~b. } context d classical { d. ~b. }", &[2]),
+    ("context c default { a. a : b, ~b / c. } context d classical { b. ~b. c. }", &[4]),
+    ("context c default { true : a / ~a. } context d classical { a. }", &[]),
+    ("context c default { true : a / a. true : b / b. a & b : c / c. } context d classical { c. }", &[1]),
+    ("context c default { true : p / q. true : q / ~p. } context d classical { p. q. ~p. }", &[4]),
+    (PAIRS, &[3, 1, 2, 0]),
+    (RING, &[1, 2, 0]),
+    (CYCLE, &[7]),
+];
+
+/// Five pairs of contrary defaults, each of 32 choices.
+const PAIRS: &str = "context c default { b. b : p0 / p0. b : ~p0 / ~p0. b : p1 / p1. b : ~p1 / ~p1. b : p2 / p2.
+b : ~p2 / ~p2. b : p3 / p3. b : ~p3 / ~p3. b : p4 / p4. b : ~p4 / ~p4. } context d classical { p1. p4. }";
+
+/// The same where no two neighbours in a ring hold, each of 11 independent sets.
+const RING: &str = "context c default { b. b : p0 / p0. b : ~p0 / ~p0. b : p1 / p1. b : ~p1 / ~p1. b : p2 / p2.
+b : ~p2 / ~p2. b : p3 / p3. b : ~p3 / ~p3. b : p4 / p4. b : ~p4 / ~p4. ~(p0 & p1). ~(p1 & p2). ~(p2 & p3).
+~(p3 & p4). ~(p4 & p0). } context d classical { p0. p4. }";
+
+/// Each of ten defaults gives the prerequisite of the next one.
+const CYCLE: &str = "context c default { a4. a0 : a1 / a1. a1 : a2 / a2. a2 : a3 / a3. a3 : a4 / a4. a4 : a5 / a5.
+a5 : a6 / a6. a6 : a7 / a7. a7 : a8 / a8. a8 : a9 / a9. a9 : a0 / a0. } context d classical { a0. a3. a9. }";
+
+/// Whether the first context, asked for the formulas of the second, has the views of these numbers.
+fn has_numbered(alloc: Global, text: &str, numbers: &[u64]) -> Result<bool, Fail> {
+    let system = system_of(alloc, text)?;
+    if system.contexts().is_empty() {
+        return Ok(false);
+    }
+    let (knowledge, atoms) = first_knowledge(&system);
+    let Some(items) = theory_in(knowledge, atoms) else {
+        return Ok(false);
+    };
+    let beliefs = beliefs_of(&system);
+    if beliefs.len() > 64 || !are_different(atoms) || !are_over(atoms, beliefs) {
+        return Ok(false);
+    }
+    Ok(are_found(alloc, items, beliefs, atoms, numbers)?)
+}
+
+#[test]
+fn extensions_are_listed_with_and_without_what_shows_them(rt: HostRuntime) -> Result<(), Fail> {
+    for (text, numbers) in THEORIES {
+        assert!(rt; has_numbered(rt.alloc(), text, numbers)?);
+    }
     Ok(())
 }

@@ -11,7 +11,7 @@ use Rattle.mcs_system.specs.Logic.{BeliefSet, holds, holds_all, Entails}
 use Rattle.mcs_system.specs.Views.{Shows}
 use Rattle.mcs_system.proofs.Deciding.{decide}
 
-each_holds : (a : List Name) (fs : List Formula) → AllByRecursion (λ p. IsTrue (holds a p)) fs ↔ IsTrue (holds_all a fs)
+pub each_holds : (a : List Name) (fs : List Formula) → AllByRecursion (λ p. IsTrue (holds a p)) fs ↔ IsTrue (holds_all a fs)
 each_holds a fs = all_by_test (λ p. IsTrue (holds a p)) (holds a) fs (λ p _. (λ e. e, λ e. e))
 
 pub member_follows : (fs : List Formula) (p : Formula) → IsAmong p fs → Entails fs p

@@ -1,55 +1,34 @@
-use Rattle.std.proofs.Common.{◌≡◌, ◌<◌, ◌≤◌, ◌^◌, ◌++◌, ◌∷◌, ◌+◌, ◌∙◌, ℕ, List, [], length, map, refl, sym, ap, subst, arith}
+use Rattle.std.proofs.Common.{◌≡◌, ◌∙◌, ◌+◌, ◌<◌, ◌-◌, ◌^◌, ℕ, List, [], length, map, sym, ap, subst, arith}
 use Rattle.std.proofs.lemmas.List.{length-map}
 use Rattle.mcs_sets.specs.Sets.{Within}
-use Rattle.mcs_system.specs.Plain.{Default, Formula, Item}
+use Rattle.mcs_sets.proofs.Lattice.{none_within, none-lt}
+use Rattle.mcs_system.specs.Plain.{Formula, Default}
 use Rattle.mcs_system.specs.Seen.{default_of, formula_of}
-use Rattle.mcs_trace.specs.Clauses.{ClauseList}
-use Rattle.mcs_evidence.specs.Defaults.{Verdict, verdict_of, IsAcceptedDefault}
-use Rattle.mcs_default.specs.Theories.{AreParts, all_of}
-use Rattle.mcs_default.specs.Told.{IsJudged}
-use Rattle.mcs_default.proofs.JudgeLemmas.{AreJudged, judged-none, judged-more, judged-all, numbered_within}
+use Rattle.mcs_default.proofs.SearchLemmas.{AreAdded, all_added, all_numbered}
 use Rattle.mcs_default.proofs.listing.list_all.Goals as goal
 
-pub judge-requires-clause-room : goal.judge-requires-clause-room
-judge-requires-clause-room c = subst (λ (x : ClauseList). length c.args.atoms.now ≤ x.vars) (sym c.loop-number.invariant.kept) c.requires.room
+pub add_views-requires-clause-within : goal.add_views-requires-clause-within
+add_views-requires-clause-within c = subst (λ (s : ℕ). Within s c.numbered-all.result) (sym c.empty.ensures) (none_within c.numbered-all.result)
 
-pub judge-requires-clause-set : goal.judge-requires-clause-set
-judge-requires-clause-set c =
+count : (d n m : ℕ) → d ≡ 2 ^ n → m ≡ d - 1 → m + 1 ≡ 2 ^ n
+count d n m is less = let positive : 0 < 2 ^ n = none-lt n in omega arith
+
+pub add_views-requires-clause-all : goal.add_views-requires-clause-all
+add_views-requires-clause-all c =
     let ds : List Default = map (λ d. default_of d.now) c.args.defaults.now in
-    let small : c.loop-number.number < 2 ^ length ds =
-    subst (λ (n : ℕ). c.loop-number.number < 2 ^ n) (sym (length-map c.args.defaults.now (λ d. default_of d.now))) (subst (λ (n : ℕ). c.loop-number.number < n) c.set_count-number-end.ensures c.loop-number-test.true) in
-    subst (λ (s : ℕ). Within s (all_of ds)) (sym c.numbered-set.ensures) (numbered_within c.loop-number.number ds small)
-
-pub loop-number-init : goal.loop-number-init
-loop-number-init c = rw c.new-views.ensures.items (record { kept = refl; judged = λ items parts. ([], judged-none c.args.atoms.now items (map (λ b. formula_of b.now) c.args.beliefs.now)) })
-
-pub loop-number-preserved : goal.loop-number-preserved
-loop-number-preserved c =
-    let names = c.args.atoms.now in
-    let ds : List Default = map (λ d. default_of d.now) c.args.defaults.now in
-    let beliefs : List Formula = map (λ b. formula_of b.now) c.args.beliefs.now in
-    let n = c.loop-number.number in
-    let judged = c.in_ok-judged.judged in
-    record {
-      kept = c.in_ok-judged.ensures.kept ∙ c.loop-number.invariant.kept;
-      judged = λ items parts.
-          (let (vs, before) = c.loop-number.invariant.judged items parts in
-          let verdict =
-          subst (λ (s : ℕ). IsJudged names items beliefs s judged) c.numbered-set.ensures (c.in_ok-judged.ensures.judged items (subst (AreParts names items ds) (sym c.loop-number.invariant.kept) parts)) in (
-            vs ++ verdict_of judged.verdict ∷ [],
-            subst (λ (xs : List ℕ). AreJudged names items beliefs (n + 1) xs (vs ++ verdict_of judged.verdict ∷ [])) (sym c.in_ok-push_view.ensures)
-                (judged-more names items beliefs n c.loop-number.views.items vs (verdict_of judged.verdict) judged.view verdict before),
-          ));
-    }
+    let few : 2 ^ length c.args.defaults.now ≡ 2 ^ length ds = ap (λ (n : ℕ). 2 ^ n) (sym (length-map c.args.defaults.now (λ d. default_of d.now))) in
+    let all = all_numbered ds c.numbered-all.result (count c.set_count.result (length ds) c.numbered-all.result (c.set_count.ensures ∙ few) c.numbered-all.ensures) in
+    subst (λ (s : ℕ). Within c.numbered-all.result s) all (λ k member. member)
 
 pub returns : goal.returns
 returns c =
     let ds : List Default = map (λ d. default_of d.now) c.args.defaults.now in
     let beliefs : List Formula = map (λ b. formula_of b.now) c.args.beliefs.now in
-    let all : c.loop-number.number ≡ 2 ^ length ds =
-    (let e : length ds ≡ length c.args.defaults.now = length-map c.args.defaults.now (λ d. default_of d.now) in
-    let p : 2 ^ length ds ≡ 2 ^ length c.args.defaults.now = ap (λ (n : ℕ). 2 ^ n) e in omega (arith, c.set_count-number-end.ensures, c.loop-number-test.false)) in
-    let listed : (items : List Item) → AreParts c.args.atoms.now items ds c.args.known.now → (vs : List Verdict) × IsAcceptedDefault c.args.atoms.now items beliefs c.list_states.new.states.items vs =
-    λ items parts. (let (vs, judged) = c.loop-number.invariant.judged items parts in
-    (vs, judged-all c.args.atoms.now items beliefs c.loop-number.number c.loop-number.views.items c.list_states.new.states.items vs ds parts.0 all judged c.list_states.ensures)) in
-    record { listed = listed }
+    let few : 2 ^ length c.args.defaults.now ≡ 2 ^ length ds = ap (λ (n : ℕ). 2 ^ n) (sym (length-map c.args.defaults.now (λ d. default_of d.now))) in
+    let all = all_numbered ds c.numbered-all.result (count c.set_count.result (length ds) c.numbered-all.result (c.set_count.ensures ∙ few) c.numbered-all.ensures) in
+    record {
+      exact = λ items parts.
+          (let added = subst (λ (s : ℕ). AreAdded items beliefs s c.numbered-all.result c.new-views.result.items c.add_views.new.views.items) c.empty.ensures (c.in_ok-add_views.ensures.listed items parts) in
+          let from_none = subst (λ (xs : List ℕ). AreAdded items beliefs 0 c.numbered-all.result xs c.add_views.new.views.items) c.new-views.ensures.items added in
+          all_added items beliefs ds c.add_views.new.views.items c.list_states.new.states.items parts.0 (subst (λ (s : ℕ). AreAdded items beliefs 0 s [] c.add_views.new.views.items) all from_none) c.list_states.ensures);
+    }

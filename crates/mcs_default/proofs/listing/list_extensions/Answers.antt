@@ -10,7 +10,6 @@ use Rattle.mcs_system.specs.Seen.{default_of, formula_of, item_of}
 use Rattle.mcs_cnf.specs.ClauseLists.{clause_list}
 use Rattle.mcs_classical.proofs.RefutingLemmas.{room_known}
 use Rattle.mcs_evidence.specs.Defaults.{facts_of, defaults_of}
-use Rattle.mcs_evidence.proofs.DefaultCertificates.{defaults_sound}
 use Rattle.mcs_default.specs.Theories.{AreOverDefaults}
 use Rattle.mcs_default.proofs.TheoryLemmas.{facts_with, defaults_with, over_with_facts, over_facts, over_defaults}
 use Rattle.mcs_default.proofs.listing.list_extensions.Goals as goal
@@ -36,6 +35,5 @@ returns c =
     let same : map (λ d. default_of d.now) c.deref.result.now ≡ defaults_of (items ++ map Fact fs) = ap (map (λ d. default_of d.now)) c.deref.ensures.value ∙ c.in_ok-defaults.ensures ∙ sym (defaults_with items fs) in
     let known : c.in_ok-known.known ≡ clause_list names (facts_of (items ++ map Fact fs)) = c.in_ok-known.ensures ∙ ap (clause_list names) (sym (facts_with items fs)) in
     let exact : IfOk c.list_all.result (λ r. IsListing (IsAcceptedView (with_heads (DefaultTheory items) fs) beliefs) StateBefore r.items) =
-    IfOk-weaker c.list_all.result _ _ (λ r listed. (let (vs, accepted) = listed (items ++ map Fact fs) (same, (known, over_facts names (items ++ map Fact fs) over)) in
-    defaults_sound names (items ++ map Fact fs) beliefs r.items vs over c.requires.beliefs accepted)) c.list_all.ensures.listed in
+    IfOk-weaker c.list_all.result _ _ (λ r listed. listed (items ++ map Fact fs) (same, (known, over_facts names (items ++ map Fact fs) over))) c.list_all.ensures.exact in
     record { exact = exact }

@@ -1,0 +1,126 @@
+-- What is found by an answer, and that nothing else changes by it.
+use Rattle.std.proofs.Common.{◌≡◌, ℕ, ◌≤◌, Bool, true, not, ◌&&◌, ltb, List, [], ◌∷◌, ◌++◌, length, arith, sym, ap, ◌∙◌, subst, ◌↔◌, Some, slice_get, IsTrue, inl, inr, true≢false}
+use Rattle.std.proofs.lemmas.Bool.Decides.{nat_tests}
+use Rattle.std.proofs.lemmas.Option.{slice_get_within}
+use Rattle.std.specs.List.{AllByRecursion}
+use Rattle.mcs_sets.specs.Sets.{has, single, such_that}
+use Rattle.mcs_sets.proofs.SetLemmas.{has-such_that, has-empty}
+use Rattle.mcs_sets.proofs.Lattice.{in_with, none-union}
+use Rattle.mcs_base.proofs.Each.{all_append, all_left, all_push, all_weaker}
+use Rattle.mcs_system.specs.Plain.{Name, Formula, Not, Default, Item}
+use Rattle.mcs_system.specs.Logic.{holds, holds_all, true_names, Entails}
+use Rattle.mcs_trace.specs.Clauses.{ClauseList}
+use Rattle.mcs_trace.specs.declared.certificate.Entail as code
+use Rattle.mcs_cnf.specs.ClauseLists.{IsOver}
+use Rattle.mcs_cnf.specs.Entailments.{entailment_of, says_yes, IsAcceptedEntailment, IsRefuted}
+use Rattle.mcs_cnf.proofs.EntailmentLemmas.{sound}
+use Rattle.mcs_evidence.specs.Defaults.{facts_of, defaults_of, generated}
+use Rattle.mcs_evidence.proofs.Consequence.{each_holds}
+use Rattle.mcs_evidence.proofs.DefaultLemmas.{generated_each}
+use Rattle.mcs_default.specs.Theories.{AreClausesOf, AreOverDefaults, AreParts, consequents}
+use Rattle.mcs_default.specs.Assignments.{holds_part, holds_part_of, holds_part_at}
+use Rattle.mcs_default.specs.Searches.{IsSupportedAt, IsBlockedAt, IsLower, IsUpper, IsReady}
+use Rattle.mcs_default.specs.declared.models.Part as part
+use Rattle.mcs_default.specs.declared.models.Part.TheVariants as parts
+use Rattle.mcs_default.specs.declared.findings.Lower as lower
+use Rattle.mcs_default.specs.declared.findings.Upper as upper
+use Rattle.mcs_default.specs.declared.findings.Findings as findings
+use Rattle.mcs_default.proofs.General.{consequents_over}
+
+-- ---- what an assignment shows
+module _ (a : List Name) (ds : List Default) where
+  part_is : (p : part.Part) (s k : ℕ) (d : Default) → s ≡ such_that (length ds) (holds_part_at a p ds) → slice_get ds k ≡ Some d → has s k ≡ holds_part a p d
+  part_is p s k d is at =
+      let less = slice_get_within ds k d at in
+      let below : ltb k (length ds) ≡ true = grind (arith, nat_tests) in
+      ap (λ (t : ℕ). has t k) is ∙ has-such_that (length ds) (holds_part_at a p ds) k ∙ ap (λ (c : Bool). c && holds_part_at a p ds k) below ∙ ap (holds_part_of a p) at
+
+module _ (a : List Name) (items : List Item) (x : upper.Upper) (facts : IsTrue (holds_all a (facts_of items)))
+    (set : x.set ≡ such_that (length (defaults_of items)) (holds_part_at a parts.Consequent (defaults_of items)))
+    (supported : x.supported ≡ such_that (length (defaults_of items)) (holds_part_at a parts.Prerequisite (defaults_of items)))
+    (allowed : x.allowed ≡ such_that (length (defaults_of items)) (holds_part_at a parts.Justifications (defaults_of items))) where
+  all_hold : IsTrue (holds_all a (generated items x.set))
+  all_hold = (each_holds a (generated items x.set)).0 (generated_each items x.set (λ p. IsTrue (holds a p)) ((each_holds a (facts_of items)).1 facts)
+      (λ k d at member. sym (part_is a (defaults_of items) parts.Consequent x.set k d set at) ∙ member))
+
+  shown_upper : IsUpper items x
+  shown_upper = record {
+    unsupported = λ k out d at follows. true≢false (sym (follows a all_hold) ∙ sym (part_is a (defaults_of items) parts.Prerequisite x.supported k d supported at) ∙ out);
+    allowed = λ k member d at. all_weaker (λ j. IsTrue (holds a j)) (λ j. ¬ Entails (generated items x.set) (Not j)) (λ j h follows. true≢false (sym (follows a all_hold) ∙ ap not h)) d.justs
+        ((each_holds a d.justs).1 (sym (part_is a (defaults_of items) parts.Justifications x.allowed k d allowed at) ∙ member));
+  }
+
+-- what the assignment shows by which a goal is refuted
+pub refuted_upper : (names : List Name) (items : List Item) (ds : List Default) (n set places : ℕ) (g : Formula) (x : upper.Upper) → ds ≡ defaults_of items → n ≡ length ds → IsRefuted names (facts_of items ++ consequents ds set) g places
+    → x.set ≡ such_that n (holds_part_at (true_names 0 names places) parts.Consequent ds) → x.supported ≡ such_that n (holds_part_at (true_names 0 names places) parts.Prerequisite ds)
+    → x.allowed ≡ such_that n (holds_part_at (true_names 0 names places) parts.Justifications ds) → IsUpper items x
+refuted_upper names items ds n set places g x same size refuted is_set is_supported is_allowed =
+    let a : List Name = true_names 0 names places in
+    let facts : IsTrue (holds_all a (facts_of items)) = (each_holds a (facts_of items)).0 (all_left (λ p. IsTrue (holds a p)) (facts_of items) (consequents ds set) ((each_holds a (facts_of items ++ consequents ds set)).1 refuted.formulas)) in
+    shown_upper a items x facts (is_set ∙ moved parts.Consequent) (is_supported ∙ moved parts.Prerequisite) (is_allowed ∙ moved parts.Justifications)
+  where
+    moved : (p : part.Part) → such_that n (holds_part_at (true_names 0 names places) p ds) ≡ such_that (length (defaults_of items)) (holds_part_at (true_names 0 names places) p (defaults_of items))
+    moved p = ap (λ (m : ℕ). such_that m (holds_part_at (true_names 0 names places) p ds)) size ∙ ap (λ (xs : List Default). such_that (length xs) (holds_part_at (true_names 0 names places) p xs)) same
+
+-- ---- what an entailment says
+pub says_exactly : (names : List Name) (items : List Item) (ds : List Default) (known : ClauseList) (set : ℕ) (g : Formula) (e : code.Entail) → AreOverDefaults names ds → IsOver names g → AreParts names items ds known
+    → ((fs : List Formula) → AreClausesOf names fs known → IsAcceptedEntailment names (fs ++ consequents ds set) g (entailment_of e)) → IsTrue (says_yes (entailment_of e)) ↔ Entails (generated items set) g
+says_exactly names items ds known set g e over over' parts told = subst (λ (xs : List Default). IsTrue (says_yes (entailment_of e)) ↔ Entails (facts_of items ++ consequents xs set) g) parts.0
+    (sound (facts_of items ++ consequents ds set) g names (entailment_of e) (all_append (IsOver names) (facts_of items) (consequents ds set) parts.1.1 (consequents_over names 0 ds set over)) over' (told (facts_of items) parts.1))
+
+-- ---- what was found before stays right
+module _ (names : List Name) (ds : List Default) (f f' : findings.Findings) (ready : IsReady names ds f) (kept : f'.facts ≡ f.facts) where
+  parts_before : (items : List Item) → AreParts names items ds f'.facts → AreParts names items ds f.facts
+  parts_before items parts = subst (AreParts names items ds) kept parts
+
+  room_after : length names ≤ f'.facts.vars
+  room_after = subst (λ (k : ClauseList). length names ≤ k.vars) (sym kept) ready.room
+
+  pub ready_same : f'.lower.items ≡ f.lower.items → f'.upper.items ≡ f.upper.items → IsReady names ds f'
+  ready_same lows ups = record {
+    few = ready.few;
+    different = ready.different;
+    over = ready.over;
+    room = room_after;
+    right = λ items parts. (let right = ready.right items (parts_before items parts) in (subst (AllByRecursion (IsLower items)) (sym lows) right.0, subst (AllByRecursion (IsUpper items)) (sym ups) right.1));
+  }
+
+  pub ready_upper : (x : upper.Upper) → f'.lower.items ≡ f.lower.items → f'.upper.items ≡ f.upper.items ++ x ∷ [] → ((items : List Item) → AreParts names items ds f.facts → IsUpper items x) → IsReady names ds f'
+  ready_upper x lows pushed is = record {
+    few = ready.few;
+    different = ready.different;
+    over = ready.over;
+    room = room_after;
+    right = λ items parts. (let right = ready.right items (parts_before items parts) in (subst (AllByRecursion (IsLower items)) (sym lows) right.0, subst (AllByRecursion (IsUpper items)) (sym pushed) (all_push (IsUpper items) f.upper.items x right.1 (is items (parts_before items parts)))));
+  }
+
+  pub ready_lower : (x : lower.Lower) → f'.upper.items ≡ f.upper.items → f'.lower.items ≡ f.lower.items ++ x ∷ [] → ((items : List Item) → AreParts names items ds f.facts → IsLower items x) → IsReady names ds f'
+  ready_lower x ups pushed is = record {
+    few = ready.few;
+    different = ready.different;
+    over = ready.over;
+    room = room_after;
+    right = λ items parts. (let right = ready.right items (parts_before items parts) in (subst (AllByRecursion (IsLower items)) (sym pushed) (all_push (IsLower items) f.lower.items x right.0 (is items (parts_before items parts))), subst (AllByRecursion (IsUpper items)) (sym ups) right.1));
+  }
+
+-- ---- one default that is supported, or blocked
+no_members : (s : ℕ) → s ≡ 0 → (k : ℕ) → has s k ≡ true → ⊥
+no_members s none k member = true≢false (sym member ∙ ap (λ (t : ℕ). has t k) none ∙ has-empty k)
+
+only_member : (s i : ℕ) → s ≡ single i → (k : ℕ) → has s k ≡ true → k ≡ i
+only_member s i is k member = elim ((in_with 0 i k).0 (ap (λ (t : ℕ). has t k) (none-union (single i) ∙ sym is) ∙ member)) [
+  | inl none ↦ absurd (true≢false (sym none ∙ has-empty k))
+  | inr same ↦ same
+]
+
+pub lower_supported : (items : List Item) (x : lower.Lower) (set i : ℕ) → x.set ≡ set → x.supported ≡ single i → x.blocked ≡ 0 → IsSupportedAt items set i → IsLower items x
+lower_supported items x set i is one none supported = record {
+  supported = λ k member. subst (λ (j : ℕ). IsSupportedAt items x.set j) (sym (only_member x.supported i one k member)) (subst (λ (s : ℕ). IsSupportedAt items s i) (sym is) supported);
+  blocked = λ k member. absurd (no_members x.blocked none k member);
+}
+
+pub lower_blocked : (items : List Item) (x : lower.Lower) (set i : ℕ) → x.set ≡ set → x.supported ≡ 0 → x.blocked ≡ single i → IsBlockedAt items set i → IsLower items x
+lower_blocked items x set i is none one blocked = record {
+  supported = λ k member. absurd (no_members x.supported none k member);
+  blocked = λ k member. subst (λ (j : ℕ). IsBlockedAt items x.set j) (sym (only_member x.blocked i one k member)) (subst (λ (s : ℕ). IsBlockedAt items s i) (sym is) blocked);
+}

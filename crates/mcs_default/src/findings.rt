@@ -1,0 +1,91 @@
+//! What was found out of sets of defaults, which tells of larger sets or of smaller ones too.
+
+ghost use Rattle.std.specs.Prelude.{◌≡◌, ◌<◌, List, IsTrue};
+ghost use Rattle.std.specs.List.{AllByRecursion};
+ghost use Rattle.mcs_system.specs.Plain as plain;
+ghost use Rattle.mcs_default.specs.Searches.{IsLower, IsUpper, IsSupportedAt, IsUnsupportedAt, IsAllowedAt, IsBlockedAt};
+
+use mcs_base::Vars;
+use mcs_trace::Cnf;
+
+/// What the consequents of a set of defaults are enough for, and so those of each larger set.
+#[derive(Clone, Copy)]
+pub(crate) struct Lower {
+    /// The set.
+    pub(crate) set: Vars,
+    /// Defaults whose prerequisites follow.
+    pub(crate) supported: Vars,
+    /// Defaults that are blocked: the negation of a justification follows.
+    pub(crate) blocked: Vars,
+}
+
+/// What the consequents of a set of defaults are not enough for, nor those of any smaller set.
+#[derive(Clone, Copy)]
+pub(crate) struct Upper {
+    /// The set.
+    pub(crate) set: Vars,
+    /// The prerequisites of no other defaults follow.
+    pub(crate) supported: Vars,
+    /// Defaults that are not blocked.
+    pub(crate) allowed: Vars,
+}
+
+/// The clauses of the facts of a theory, and what was found of sets of its defaults.
+#[derive(Drop)]
+pub(crate) struct Findings {
+    pub(crate) facts: Cnf,
+    pub(crate) lower: Vec<Lower>,
+    pub(crate) upper: Vec<Upper>,
+}
+
+/// Whether it was found that the default at the index is supported by the set.
+pub(crate) fn is_supported(lower: &[Lower], set: Vars, index: u32) -> bool
+    requires { index < 64 }
+    ensures { (items : List plain.Item) → AllByRecursion (IsLower items) lower.now → IsTrue result → IsSupportedAt items set index }
+{
+    for found in lower {
+        if found.supported.has(index) && found.set.within(set) {
+            return true;
+        }
+    }
+    false
+}
+
+/// Whether it was found that the default at the index is blocked by the set.
+pub(crate) fn is_blocked(lower: &[Lower], set: Vars, index: u32) -> bool
+    requires { index < 64 }
+    ensures { (items : List plain.Item) → AllByRecursion (IsLower items) lower.now → IsTrue result → IsBlockedAt items set index }
+{
+    for found in lower {
+        if found.blocked.has(index) && found.set.within(set) {
+            return true;
+        }
+    }
+    false
+}
+
+/// Whether it was found that the default at the index is not supported by the set.
+pub(crate) fn is_unsupported(upper: &[Upper], set: Vars, index: u32) -> bool
+    requires { index < 64 }
+    ensures { (items : List plain.Item) → AllByRecursion (IsUpper items) upper.now → IsTrue result → IsUnsupportedAt items set index }
+{
+    for found in upper {
+        if !found.supported.has(index) && set.within(found.set) {
+            return true;
+        }
+    }
+    false
+}
+
+/// Whether it was found that the default at the index is not blocked by the set.
+pub(crate) fn is_allowed(upper: &[Upper], set: Vars, index: u32) -> bool
+    requires { index < 64 }
+    ensures { (items : List plain.Item) → AllByRecursion (IsUpper items) upper.now → IsTrue result → IsAllowedAt items set index }
+{
+    for found in upper {
+        if found.allowed.has(index) && set.within(found.set) {
+            return true;
+        }
+    }
+    false
+}

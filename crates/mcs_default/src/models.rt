@@ -1,0 +1,62 @@
+//! What an assignment shows of sets of defaults.
+
+ghost use Rattle.std.specs.Prelude.{◌≡◌, ◌≤◌, length, map};
+ghost use Rattle.mcs_sets.specs.Sets.{such_that};
+ghost use Rattle.mcs_system.specs.Logic.{true_names};
+ghost use Rattle.mcs_system.specs.Seen.{default_of};
+ghost use Rattle.mcs_default.specs.Assignments.{holds_part, holds_part_at};
+ghost use Rattle.mcs_default.specs.declared.models.Part.TheVariants as parts;
+
+use crate::findings::Upper;
+use mcs_base::Vars;
+use mcs_system::{Default, Name, all_hold_at, holds_at};
+
+/// A part of a default.
+#[derive(Clone, Copy)]
+pub(crate) enum Part {
+    Prerequisite,
+    Justifications,
+    Consequent,
+}
+
+/// Whether this part of the default holds where exactly those of the atoms are true whose places are in the set.
+fn holds(default: &Default, part: Part, atoms: &[Name], values: Vars) -> bool
+    requires { length atoms.now ≤ 64 }
+    ensures { result ≡ holds_part (true_names 0 atoms.now values) part (default_of default.now) }
+{
+    match part {
+        Part::Prerequisite => holds_at(atoms, values, &default.pre),
+        Part::Justifications => all_hold_at(atoms, values, &default.justs),
+        Part::Consequent => holds_at(atoms, values, &default.conclusion),
+    }
+}
+
+/// The defaults of which this part holds there.
+fn holding(defaults: &[&Default], part: Part, atoms: &[Name], values: Vars) -> Vars
+    requires few { length atoms.now ≤ 64 }
+    requires few_defaults { length defaults.now ≤ 10 }
+    ensures { result ≡ such_that (length defaults.now) (holds_part_at (true_names 0 atoms.now values) part (map (λ d. default_of d.now) defaults.now)) }
+{
+    let mut places = Vars::empty();
+    for (index, default) in defaults.iter().enumerate() {
+        if holds(default, part, atoms, values) {
+            places = places.with(index as u32);
+        }
+    }
+    places
+}
+
+/// What this assignment, under which the facts hold, shows.
+pub(crate) fn upper_at(defaults: &[&Default], atoms: &[Name], values: Vars) -> Upper
+    requires few { length atoms.now ≤ 64 }
+    requires few_defaults { length defaults.now ≤ 10 }
+    ensures set { result.set ≡ such_that (length defaults.now) (holds_part_at (true_names 0 atoms.now values) parts.Consequent (map (λ d. default_of d.now) defaults.now)) }
+    ensures supported { result.supported ≡ such_that (length defaults.now) (holds_part_at (true_names 0 atoms.now values) parts.Prerequisite (map (λ d. default_of d.now) defaults.now)) }
+    ensures allowed { result.allowed ≡ such_that (length defaults.now) (holds_part_at (true_names 0 atoms.now values) parts.Justifications (map (λ d. default_of d.now) defaults.now)) }
+{
+    Upper {
+        set: holding(defaults, Part::Consequent, atoms, values),
+        supported: holding(defaults, Part::Prerequisite, atoms, values),
+        allowed: holding(defaults, Part::Justifications, atoms, values),
+    }
+}

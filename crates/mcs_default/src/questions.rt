@@ -1,0 +1,212 @@
+//! Whether defaults are supported or allowed by a set of defaults.
+
+ghost use Rattle.std.specs.Prelude.{◌≡◌, ◌≤◌, ◌<◌, ◌++◌, ◌↔◌, List, false, length, map, IsTrue, IfOk, OnOk};
+ghost use Rattle.std.specs.List.{AllByRecursion};
+ghost use Rattle.mcs_system.specs.Faults.{has_twins};
+ghost use Rattle.mcs_system.specs.Logic.{Entails};
+ghost use Rattle.mcs_system.specs.Plain as plain;
+ghost use Rattle.mcs_system.specs.Seen.{default_of, formula_of};
+ghost use Rattle.mcs_cnf.specs.ClauseLists.{IsOver, AreOver};
+ghost use Rattle.mcs_cnf.specs.Entailments.{entailment_of, IsAcceptedEntailment};
+ghost use Rattle.mcs_evidence.specs.Defaults.{generated};
+ghost use Rattle.mcs_evidence.proofs.DefaultLemmas.{IsDefaultAt};
+ghost use Rattle.mcs_default.specs.Theories.{AreClausesOf, AreOverDefaults, AreParts, consequents};
+ghost use Rattle.mcs_default.specs.Searches.{IsReady, IsAllowedBy};
+
+use crate::findings::{Findings, Lower, is_allowed, is_blocked, is_supported, is_unsupported};
+use crate::models::upper_at;
+use crate::theory::push_consequents;
+use mcs_base::{Memory, Vars};
+use mcs_classical::entails_from;
+use mcs_system::{Default, Formula, Name};
+use mcs_trace::{Cnf, Entail};
+use std::alloc::Global;
+
+/// Whether the goal follows from the facts, whose clauses are `known`, and the consequents of the set.
+fn entailment(
+    alloc: Global,
+    known: &mut Cnf,
+    defaults: &[&Default],
+    atoms: &[Name],
+    set: Vars,
+    goal: &Formula,
+) -> Result<Entail, Memory>
+    requires few { length atoms.now ≤ 64 }
+    requires few_defaults { length defaults.now ≤ 10 }
+    requires different { has_twins atoms.now ≡ false }
+    requires over { AreOverDefaults atoms.now (map (λ d. default_of d.now) defaults.now) }
+    requires goal { IsOver atoms.now (formula_of goal.now) }
+    requires room { length atoms.now ≤ known.old.vars }
+    ensures kept { OnOk result (known.new ≡ known.old) }
+    ensures told { IfOk result (λ e. (fs : List plain.Formula) → AreClausesOf atoms.now fs known.old
+        → IsAcceptedEntailment atoms.now (fs ++ consequents (map (λ d. default_of d.now) defaults.now) set) (formula_of goal.now) (entailment_of e)) }
+{
+    let vars = known.vars();
+    let count = known.clauses().len();
+    push_consequents(alloc, known, defaults, set, atoms)?;
+    let entail = entails_from(alloc, known, goal, atoms)?;
+    known.cut(vars, count);
+    Ok(entail)
+}
+
+/// Whether the goal follows from the facts and the consequents of the set. Where it does not, an assignment shows that:
+/// what else this shows is kept.
+fn follows(
+    alloc: Global,
+    findings: &mut Findings,
+    defaults: &[&Default],
+    atoms: &[Name],
+    set: Vars,
+    goal: &Formula,
+) -> Result<bool, Memory>
+    requires few_defaults { length defaults.now ≤ 10 }
+    requires ready { IsReady atoms.now (map (λ d. default_of d.now) defaults.now) findings.old }
+    requires goal { IsOver atoms.now (formula_of goal.now) }
+    ensures kept { OnOk result (findings.new.facts ≡ findings.old.facts) }
+    ensures ready { OnOk result (IsReady atoms.now (map (λ d. default_of d.now) defaults.now) findings.new) }
+    ensures exact { IfOk result (λ b. (items : List plain.Item) → AreParts atoms.now items (map (λ d. default_of d.now) defaults.now) findings.old.facts
+        → IsTrue b ↔ Entails (generated items set) (formula_of goal.now)) }
+{
+    match entailment(alloc, &mut findings.facts, defaults, atoms, set, goal)? {
+        Entail::Yes(trace) => {
+            drop(trace);
+            Ok(true)
+        }
+        Entail::No(values) => {
+            let upper = upper_at(defaults, atoms, Vars::numbered(values));
+            findings.upper.push(upper)?;
+            Ok(false)
+        }
+    }
+}
+
+/// Whether the negation of the formula follows.
+fn refutes(
+    alloc: Global,
+    findings: &mut Findings,
+    defaults: &[&Default],
+    atoms: &[Name],
+    set: Vars,
+    formula: &Formula,
+) -> Result<bool, Memory>
+    requires few_defaults { length defaults.now ≤ 10 }
+    requires ready { IsReady atoms.now (map (λ d. default_of d.now) defaults.now) findings.old }
+    requires over { IsOver atoms.now (formula_of formula.now) }
+    ensures kept { OnOk result (findings.new.facts ≡ findings.old.facts) }
+    ensures ready { OnOk result (IsReady atoms.now (map (λ d. default_of d.now) defaults.now) findings.new) }
+    ensures exact { IfOk result (λ b. (items : List plain.Item) → AreParts atoms.now items (map (λ d. default_of d.now) defaults.now) findings.old.facts
+        → IsTrue b ↔ Entails (generated items set) (plain.Not (formula_of formula.now))) }
+{
+    let goal = Formula::Not(Box::new(alloc, formula.copy(alloc)?)?);
+    let is_refuted = follows(alloc, findings, defaults, atoms, set, &goal);
+    drop(goal);
+    is_refuted
+}
+
+/// Whether no negation of one of the justifications follows.
+fn allows_all(
+    alloc: Global,
+    findings: &mut Findings,
+    defaults: &[&Default],
+    atoms: &[Name],
+    set: Vars,
+    justs: &[Formula],
+) -> Result<bool, Memory>
+    requires few_defaults { length defaults.now ≤ 10 }
+    requires ready { IsReady atoms.now (map (λ d. default_of d.now) defaults.now) findings.old }
+    requires over { AreOver atoms.now (map formula_of justs.now) }
+    ensures kept { OnOk result (findings.new.facts ≡ findings.old.facts) }
+    ensures ready { OnOk result (IsReady atoms.now (map (λ d. default_of d.now) defaults.now) findings.new) }
+    ensures exact { IfOk result (λ b. (items : List plain.Item) → AreParts atoms.now items (map (λ d. default_of d.now) defaults.now) findings.old.facts
+        → IsTrue b ↔ AllByRecursion (λ j. ¬ Entails (generated items set) (plain.Not j)) (map formula_of justs.now)) }
+{
+    for just in justs {
+        if refutes(alloc, findings, defaults, atoms, set, just)? {
+            return Ok(false);
+        }
+    }
+    Ok(true)
+}
+
+/// Whether the prerequisite of the default at the index follows from the facts and the consequents of the set.
+pub(crate) fn supports(
+    alloc: Global,
+    findings: &mut Findings,
+    defaults: &[&Default],
+    atoms: &[Name],
+    set: Vars,
+    index: u32,
+) -> Result<bool, Memory>
+    requires few_defaults { length defaults.now ≤ 10 }
+    requires ready { IsReady atoms.now (map (λ d. default_of d.now) defaults.now) findings.old }
+    requires index { index < length defaults.now }
+    ensures kept { OnOk result (findings.new.facts ≡ findings.old.facts) }
+    ensures ready { OnOk result (IsReady atoms.now (map (λ d. default_of d.now) defaults.now) findings.new) }
+    ensures exact { IfOk result (λ b. (items : List plain.Item) → AreParts atoms.now items (map (λ d. default_of d.now) defaults.now) findings.old.facts
+        → (d : plain.Default) → IsDefaultAt items index d → IsTrue b ↔ Entails (generated items set) d.pre) }
+{
+    if is_supported(&findings.lower, set, index) {
+        return Ok(true);
+    }
+    if is_unsupported(&findings.upper, set, index) {
+        return Ok(false);
+    }
+    let is_supported = follows(
+        alloc,
+        findings,
+        defaults,
+        atoms,
+        set,
+        &defaults[index as usize].pre,
+    )?;
+    if is_supported {
+        findings.lower.push(Lower {
+            set,
+            supported: Vars::one(index),
+            blocked: Vars::empty(),
+        })?;
+    }
+    Ok(is_supported)
+}
+
+/// Whether no negation of a justification of the default at the index follows from the facts and the consequents of the
+/// set.
+pub(crate) fn allows(
+    alloc: Global,
+    findings: &mut Findings,
+    defaults: &[&Default],
+    atoms: &[Name],
+    set: Vars,
+    index: u32,
+) -> Result<bool, Memory>
+    requires few_defaults { length defaults.now ≤ 10 }
+    requires ready { IsReady atoms.now (map (λ d. default_of d.now) defaults.now) findings.old }
+    requires index { index < length defaults.now }
+    ensures kept { OnOk result (findings.new.facts ≡ findings.old.facts) }
+    ensures ready { OnOk result (IsReady atoms.now (map (λ d. default_of d.now) defaults.now) findings.new) }
+    ensures exact { IfOk result (λ b. (items : List plain.Item) → AreParts atoms.now items (map (λ d. default_of d.now) defaults.now) findings.old.facts
+        → (d : plain.Default) → IsDefaultAt items index d → IsTrue b ↔ IsAllowedBy (generated items set) d) }
+{
+    if is_allowed(&findings.upper, set, index) {
+        return Ok(true);
+    }
+    if is_blocked(&findings.lower, set, index) {
+        return Ok(false);
+    }
+    let is_allowed = allows_all(
+        alloc,
+        findings,
+        defaults,
+        atoms,
+        set,
+        &defaults[index as usize].justs,
+    )?;
+    if !is_allowed {
+        findings.lower.push(Lower {
+            set,
+            supported: Vars::empty(),
+            blocked: Vars::one(index),
+        })?;
+    }
+    Ok(is_allowed)
+}
