@@ -1,3 +1,6 @@
 pub mod SearchLemmas
 pub mod OutputLemmas
 pub mod SmallLemmas
+pub mod General
+pub mod PlaceLemmas
+pub mod ViewLemmas

@@ -4,6 +4,7 @@
 mod answer;
 mod facts;
 mod outputs;
+mod placing;
 mod search;
 mod small;
 mod view;

@@ -1,6 +1,9 @@
 //! The search for answer sets.
 
 ghost use Rattle.std.specs.Prelude.{◌≡◌, ◌<◌, ◌≤◌, List, false, length, map, IfOk, IsTrue};
+ghost use Rattle.std.specs.List.{AllZip};
+ghost use Rattle.mcs_sets.specs.Orders.{StateBefore};
+ghost use Rattle.mcs_base.specs.Listings.{IsAscending};
 ghost use Rattle.mcs_system.specs.Faults.{has_twins};
 ghost use Rattle.mcs_system.specs.Plain as plain;
 ghost use Rattle.mcs_system.specs.Seen.{rule_of};
@@ -8,8 +11,10 @@ ghost use Rattle.mcs_trace.specs.Traces.{inferences_of};
 ghost use Rattle.mcs_evidence.specs.Programs.{rest_formulas, smaller_formulas, AreOverRules, IsRefutation};
 ghost use Rattle.mcs_evidence.specs.Pushing.{AreNamesOf};
 ghost use Rattle.mcs_program.specs.Searches.{IsModelOf, IsSearch, IsExcluded, IsPlaced, IsListed, IsExhausted, sets_left};
+ghost use Rattle.mcs_program.specs.Placing.{IsPlaceOf, IsPlacing};
 
 use crate::answer::{Answer, ask};
+use crate::placing::Placing;
 use crate::small::made_small;
 use crate::view::{place_of, view_of};
 use mcs_base::{Memory, Vars};
@@ -69,15 +74,18 @@ impl Search {
         alloc: Global,
         atoms: &[Name],
         beliefs: &[&Name],
+        placing: &Placing,
         model: Vars,
     ) -> Result<usize, Memory>
         requires few { length atoms.now ≤ 64 }
         requires few_beliefs { length beliefs.now ≤ 64 }
         requires beliefs { AreNamesOf atoms.now (map (λ b. b.now) beliefs.now) }
+        requires placed { AllZip (IsPlaceOf atoms.now) (map (λ b. b.now) beliefs.now) placing.now.beliefs.items }
         requires room { length atoms.now ≤ self.old.known.vars }
+        requires ascending { IsAscending StateBefore self.old.views.items }
         ensures { IfOk result (λ place. IsPlaced atoms.now (map plain.Atom (map (λ b. b.now) beliefs.now)) model place self.old self.new) }
     {
-        let view = view_of(alloc, atoms, beliefs, model)?;
+        let view = view_of(&placing.beliefs, model);
         push_other(alloc, &mut self.known, atoms, beliefs, view)?;
         let place = place_of(&self.views, view);
         self.views.insert(place, view)?;
@@ -90,17 +98,20 @@ impl Search {
         alloc: Global,
         atoms: &[Name],
         beliefs: &[&Name],
+        placing: &Placing,
         model: Vars,
         minimal: Trace,
     ) -> Result<(), Memory>
         requires few { length atoms.now ≤ 64 }
         requires few_beliefs { length beliefs.now ≤ 64 }
         requires beliefs { AreNamesOf atoms.now (map (λ b. b.now) beliefs.now) }
+        requires placed { AllZip (IsPlaceOf atoms.now) (map (λ b. b.now) beliefs.now) placing.now.beliefs.items }
         requires room { length atoms.now ≤ self.old.known.vars }
+        requires ascending { IsAscending StateBefore self.old.views.items }
         requires one_each { length self.old.models.items ≡ length self.old.views.items }
         ensures { IfOk result (λ _. IsListed atoms.now (map plain.Atom (map (λ b. b.now) beliefs.now)) model (inferences_of minimal) self.old self.new) }
     {
-        match self.put_view(alloc, atoms, beliefs, model) {
+        match self.put_view(alloc, atoms, beliefs, placing, model) {
             Ok(place) => {
                 let shown = AnswerSetCert {
                     model: model.number(),
@@ -123,6 +134,7 @@ impl Search {
         atoms: &[Name],
         rules: &[ProgRule],
         beliefs: &[&Name],
+        placing: &Placing,
         model: Vars,
     ) -> Result<(), Memory>
         requires few { length atoms.now ≤ 64 }
@@ -130,6 +142,7 @@ impl Search {
         requires different { has_twins atoms.now ≡ false }
         requires rules { AreOverRules atoms.now (map rule_of rules.now) }
         requires beliefs { AreNamesOf atoms.now (map (λ b. b.now) beliefs.now) }
+        requires placed { IsPlacing atoms.now (map rule_of rules.now) (map (λ b. b.now) beliefs.now) placing.now }
         requires search { IsSearch atoms.now (map rule_of rules.now) (map plain.Atom (map (λ b. b.now) beliefs.now)) self.old }
         requires model { IsModelOf atoms.now
             (rest_formulas atoms.now (map rule_of rules.now) (map plain.Atom (map (λ b. b.now) beliefs.now)) self.old.smaller.items self.old.views.items) model }
@@ -142,7 +155,7 @@ impl Search {
         drop(smaller);
         match found? {
             Answer::Model(less) => self.exclude(alloc, atoms, rules, less),
-            Answer::Refuted(minimal) => self.list(alloc, atoms, beliefs, model, minimal),
+            Answer::Refuted(minimal) => self.list(alloc, atoms, beliefs, placing, model, minimal),
         }
     }
 
@@ -153,12 +166,14 @@ impl Search {
         atoms: &[Name],
         rules: &[ProgRule],
         beliefs: &[&Name],
+        placing: &Placing,
     ) -> Result<bool, Memory>
         requires few { length atoms.now ≤ 64 }
         requires few_beliefs { length beliefs.now ≤ 64 }
         requires different { has_twins atoms.now ≡ false }
         requires rules { AreOverRules atoms.now (map rule_of rules.now) }
         requires beliefs { AreNamesOf atoms.now (map (λ b. b.now) beliefs.now) }
+        requires placed { IsPlacing atoms.now (map rule_of rules.now) (map (λ b. b.now) beliefs.now) placing.now }
         requires search { IsSearch atoms.now (map rule_of rules.now) (map plain.Atom (map (λ b. b.now) beliefs.now)) self.old }
         ensures search { IfOk result (λ _. IsSearch atoms.now (map rule_of rules.now) (map plain.Atom (map (λ b. b.now) beliefs.now)) self.new) }
         ensures goes { IfOk result (λ goes. IsTrue goes → sets_left atoms.now (map rule_of rules.now) (map plain.Atom (map (λ b. b.now) beliefs.now)) self.new
@@ -167,13 +182,43 @@ impl Search {
     {
         match ask(alloc, &self.known, atoms)? {
             Answer::Model(model) => {
-                let small = made_small(alloc, atoms, rules, beliefs, self, model)?;
-                self.take_up(alloc, atoms, rules, beliefs, small)?;
+                let small = made_small(placing, self, model);
+                self.take_up(alloc, atoms, rules, beliefs, placing, small)?;
                 Ok(true)
             }
             Answer::Refuted(trace) => {
                 drop(trace);
                 Ok(false)
+            }
+        }
+    }
+}
+
+/// Takes steps until all answer sets are found.
+fn go_on(
+    alloc: Global,
+    atoms: &[Name],
+    rules: &[ProgRule],
+    beliefs: &[&Name],
+    placing: &Placing,
+) -> Result<Search, Memory>
+    requires few { length atoms.now ≤ 64 }
+    requires few_beliefs { length beliefs.now ≤ 64 }
+    requires different { has_twins atoms.now ≡ false }
+    requires rules { AreOverRules atoms.now (map rule_of rules.now) }
+    requires beliefs { AreNamesOf atoms.now (map (λ b. b.now) beliefs.now) }
+    requires placed { IsPlacing atoms.now (map rule_of rules.now) (map (λ b. b.now) beliefs.now) placing.now }
+    ensures search { IfOk result (IsSearch atoms.now (map rule_of rules.now) (map plain.Atom (map (λ b. b.now) beliefs.now))) }
+    ensures all { IfOk result (IsExhausted atoms.now (map rule_of rules.now) (map plain.Atom (map (λ b. b.now) beliefs.now))) }
+{
+    let mut search = Search::new(alloc, atoms, rules)?;
+    loop {
+        match search.step(alloc, atoms, rules, beliefs, placing) {
+            Ok(true) => {}
+            Ok(false) => return Ok(search),
+            Err(want) => {
+                drop(search);
+                return Err(want);
             }
         }
     }
@@ -194,15 +239,8 @@ pub(crate) fn find_all(
     ensures search { IfOk result (IsSearch atoms.now (map rule_of rules.now) (map plain.Atom (map (λ b. b.now) beliefs.now))) }
     ensures all { IfOk result (IsExhausted atoms.now (map rule_of rules.now) (map plain.Atom (map (λ b. b.now) beliefs.now))) }
 {
-    let mut search = Search::new(alloc, atoms, rules)?;
-    loop {
-        match search.step(alloc, atoms, rules, beliefs) {
-            Ok(true) => {}
-            Ok(false) => return Ok(search),
-            Err(want) => {
-                drop(search);
-                return Err(want);
-            }
-        }
-    }
+    let placing = Placing::of(alloc, atoms, rules, beliefs)?;
+    let found = go_on(alloc, atoms, rules, beliefs, &placing);
+    drop(placing);
+    found
 }

@@ -21,6 +21,9 @@ exclude-requires-clause-room c = room_known c.args.atoms.now c.args.self.now.kno
 pub list-requires-clause-room : goal.list-requires-clause-room
 list-requires-clause-room c = room_known c.args.atoms.now c.args.self.now.known c.requires.search.known.formulas c.requires.search.known.is
 
+pub list-requires-clause-placed : goal.list-requires-clause-placed
+list-requires-clause-placed c = c.requires.placed.placed_beliefs
+
 pub list-requires-clause-one_each : goal.list-requires-clause-one_each
 list-requires-clause-one_each c =
     sym (length_zip (IsAcceptedModel c.args.atoms.now (map rule_of c.args.rules.now) (map Atom (map (λ b. b.now) c.args.beliefs.now))) c.args.self.now.views.items (map model_shown_of c.args.self.now.models.items) c.requires.search.models
