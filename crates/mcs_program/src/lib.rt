@@ -2,6 +2,7 @@
 #![tactic(auto)]
 
 mod answer;
+mod atom_clauses;
 mod facts;
 mod outputs;
 mod placing;

@@ -13,12 +13,13 @@ ghost use Rattle.mcs_evidence.specs.Pushing.{AreNamesOf};
 ghost use Rattle.mcs_program.specs.Searches.{IsModelOf, IsSearch, IsExcluded, IsPlaced, IsListed, IsExhausted, sets_left};
 ghost use Rattle.mcs_program.specs.Placing.{IsPlaceOf, IsPlacing};
 
-use crate::answer::{Answer, ask};
+use crate::answer::{Answer, ask, find_model};
+use crate::atom_clauses::{clauses_of_rules, push_other};
 use crate::placing::Placing;
 use crate::small::made_small;
 use crate::view::{place_of, view_of};
 use mcs_base::{Memory, Vars};
-use mcs_evidence::{push_beside, push_other, push_rules, smaller_clauses};
+use mcs_evidence::{push_beside, smaller_clauses};
 use mcs_system::{Name, ProgRule};
 use mcs_trace::{AnswerSetCert, Cnf, Trace};
 use std::alloc::Global;
@@ -40,8 +41,7 @@ impl Search {
         requires rules { AreOverRules atoms.now (map rule_of rules.now) }
         ensures { IfOk result (λ s. (beliefs : List plain.Formula) → IsSearch atoms.now (map rule_of rules.now) beliefs s) }
     {
-        let mut known = Cnf::new(alloc, atoms.len() as u64);
-        push_rules(alloc, &mut known, atoms, rules)?;
+        let known = clauses_of_rules(alloc, atoms, rules)?;
         Ok(Search {
             known,
             smaller: Vec::new(alloc),
@@ -63,6 +63,8 @@ impl Search {
         requires room { length atoms.now ≤ self.old.known.vars }
         ensures { IfOk result (λ _. IsExcluded atoms.now (map rule_of rules.now) less self.old self.new) }
     {
+        // That the clauses are over the variables that there are, which the list keeps, is told by their number.
+        let _ = self.known.vars();
         push_beside(alloc, &mut self.known, atoms, rules, less)?;
         self.smaller.push(less)?;
         Ok(())
@@ -180,16 +182,13 @@ impl Search {
             < sets_left atoms.now (map rule_of rules.now) (map plain.Atom (map (λ b. b.now) beliefs.now)) self.old) }
         ensures ends { IfOk result (λ goes. goes ≡ false → IsExhausted atoms.now (map rule_of rules.now) (map plain.Atom (map (λ b. b.now) beliefs.now)) self.new) }
     {
-        match ask(alloc, &self.known, atoms)? {
-            Answer::Model(model) => {
+        match find_model(alloc, &self.known, atoms)? {
+            Some(model) => {
                 let small = made_small(placing, self, model);
                 self.take_up(alloc, atoms, rules, beliefs, placing, small)?;
                 Ok(true)
             }
-            Answer::Refuted(trace) => {
-                drop(trace);
-                Ok(false)
-            }
+            None => Ok(false),
         }
     }
 }
