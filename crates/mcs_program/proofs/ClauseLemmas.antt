@@ -1,18 +1,18 @@
 -- What clauses over the variables of atoms say, and clauses that mean one formula more.
-use Rattle.std.proofs.Common.{◌≡◌, ℕ, ◌+◌, ◌-◌, ◌^◌, ◌<◌, ◌≤◌, zero, suc, Bool, true, false, not, ◌&&◌, ◌||◌, ltb, cond, List, [], ◌∷◌, ◌++◌, map, length, get_or, arith, refl, sym, ap, ◌∙◌, subst, true≢false, ℤ, pos, negsuc}
+use Rattle.std.proofs.Common.{◌≡◌, ℕ, ◌+◌, ◌-◌, ◌^◌, ◌<◌, ◌≤◌, zero, suc, Bool, true, false, not, ◌&&◌, ◌||◌, ltb, cond, List, [], ◌∷◌, ◌++◌, map, length, get_or, arith, refl, sym, ap, ◌∙◌, subst, ℤ, pos, negsuc}
 use Rattle.std.proofs.lemmas.Bool.{and_parts, and_from}
 use Rattle.std.proofs.lemmas.Bool.Decides.{nat_tests}
 use Rattle.std.proofs.lemmas.List.Folds.{list_all-append, list_any-append}
 use Rattle.std.proofs.Math.Bool.{and-true}
 use Rattle.std.specs.Int.RustNames.{unsigned_abs}
-use Rattle.std.specs.List.{AllByRecursion, list_any, list_all}
+use Rattle.std.specs.List.{AllByRecursion, list_any}
 use Rattle.mcs_sets.specs.Sets.{has}
 use Rattle.mcs_base.proofs.Clausal.{Reads}
 use Rattle.mcs_base.proofs.Each.{all_append, all_weaker}
 use Rattle.mcs_system.specs.Plain.{Name, Formula, Atom, Not, ProgramRule}
 use Rattle.mcs_system.specs.Logic.{is_in, holds, holds_all}
-use Rattle.mcs_trace.specs.Clauses.{ClauseList, IsLiteral, IsClause, IsWithin, IsClauseList, literal_holds, clause_holds, all_hold}
-use Rattle.mcs_cnf.specs.ClauseLists.{atom_number, clause_of, non, with_clause, with_formulas, list_clauses, taken_by_all, IsThere, IsOver}
+use Rattle.mcs_trace.specs.Clauses.{ClauseList, IsLiteral, IsWithin, IsClauseList, literal_holds, clause_holds, all_hold}
+use Rattle.mcs_cnf.specs.ClauseLists.{atom_number, clause_of, with_clause, with_formulas, list_clauses, IsThere, IsOver}
 use Rattle.mcs_cnf.specs.Meaning.{Extends}
 use Rattle.mcs_cnf.proofs.ListLemmas.{all_take_grow}
 use Rattle.mcs_cnf.proofs.MeaningLemmas.{all_hold-parts, all_hold-both, list_says, extended}

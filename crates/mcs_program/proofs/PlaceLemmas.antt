@@ -1,5 +1,5 @@
 -- What tests of sets of places say of the atoms at them.
-use Rattle.std.proofs.Common.{◌≡◌, ℕ, ◌+◌, ◌-◌, ◌<◌, ◌≤◌, zero, suc, Bool, true, false, not, ◌&&◌, ◌||◌, ltb, List, [], ◌∷◌, ◌++◌, ◌⊎◌, ◌↔◌, inl, inr, map, length, get_or, Some, slice_get, arith, refl, sym, ap, ◌∙◌, subst, true≢false}
+use Rattle.std.proofs.Common.{◌≡◌, ℕ, ◌+◌, ◌-◌, ◌<◌, ◌≤◌, zero, suc, Bool, true, false, not, ◌&&◌, ◌||◌, ltb, List, [], ◌∷◌, ◌++◌, ◌↔◌, inl, inr, map, length, get_or, Some, slice_get, arith, refl, sym, ap, ◌∙◌, subst, true≢false}
 use Rattle.std.proofs.lemmas.Bool.{and_parts, and_from, or_parts, or_cases, or_left, or_right, eq-eqb, eqb-true, not_from_false, not-true, false_from_ne_true, true_from_ne_false}
 use Rattle.std.proofs.lemmas.Bool.Decides.{nat_tests}
 use Rattle.std.proofs.lemmas.List.{length-map}
@@ -8,10 +8,10 @@ use Rattle.std.proofs.lemmas.Option.{slice_get_within}
 use Rattle.std.proofs.Math.Bool.{and-true, or-false}
 use Rattle.std.specs.Cmp.{both_ways}
 use Rattle.std.specs.Prelude.{nat_eq}
-use Rattle.std.specs.List.{AllByRecursion, AllZip, list_any, list_all}
-use Rattle.mcs_sets.specs.Sets.{has, single, union, common, minus, Within, Meets}
+use Rattle.std.specs.List.{AllByRecursion, AllZip, list_all}
+use Rattle.mcs_sets.specs.Sets.{has, single, union, common, Within, Meets}
 use Rattle.mcs_sets.proofs.SetLemmas.{within_where_common, common_where_within, meets_where_common, common_where_meets, below_power, has-empty, has-such_that}
-use Rattle.mcs_sets.proofs.Lattice.{in_with, none_within, in_minus}
+use Rattle.mcs_sets.proofs.Lattice.{in_with, none_within}
 use Rattle.mcs_base.proofs.Lists.{slice_get-map_at, zip_get_or, length_zip}
 use Rattle.mcs_system.specs.Plain.{Name, Formula, Atom, ProgramRule}
 use Rattle.mcs_system.specs.Logic.{same_name, is_in, holds, holds_all, true_names, Atoms, Believes}
@@ -22,7 +22,7 @@ use Rattle.mcs_cnf.specs.ClauseLists.{atom_number}
 use Rattle.mcs_cnf.proofs.NumberLemmas.{atom_positive, atom_within}
 use Rattle.mcs_classical.proofs.RefutingLemmas.{named_at}
 use Rattle.mcs_evidence.specs.Programs.{false_names, rule_formula, beside_formula, other_formula, rest_formulas, is_broken_by, IsInRange}
-use Rattle.mcs_evidence.proofs.Models.{all_in, any_in, all_in_each, all_in_from, any_in_some, any_in_from, none_in, rule_formula-holds, beside-holds, true_names-known, false_names-known, true_or_false, true_not_false}
+use Rattle.mcs_evidence.proofs.Models.{all_in, any_in, all_in_each, all_in_from, any_in_some, none_in, rule_formula-holds, beside-holds, true_names-known, false_names-known, true_or_false, true_not_false}
 use Rattle.mcs_program.specs.declared.placing.PlacedRule.{PlacedRule}
 use Rattle.mcs_program.specs.declared.placing.Placing.{Placing}
 use Rattle.mcs_program.specs.Placing.{lies_within, do_meet, placed_holds, placed_blocked, lies_beside, view_at, may_be, is_other, IsPlaceOf, ArePlaces, IsPlacedRule, IsPlacing}

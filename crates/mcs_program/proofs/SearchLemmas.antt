@@ -1,14 +1,13 @@
 -- How the search for answer sets goes on.
-use Rattle.std.proofs.Common.{◌≡◌, ℕ, ◌+◌, ◌<◌, ◌≤◌, ◌^◌, zero, suc, Bool, true, false, ◌&&◌, cond, List, [], ◌∷◌, ◌++◌, ◌⊎◌, ◌↔◌, inl, inr, map, length, take, drop, get_or, insert, arith, refl, sym, ap, ◌∙◌, subst, append-nil, true≢false, ltb, Some, None, slice_get}
+use Rattle.std.proofs.Common.{◌≡◌, ℕ, ◌+◌, ◌<◌, ◌≤◌, ◌^◌, zero, suc, Bool, true, false, ◌&&◌, cond, List, [], ◌∷◌, ◌++◌, inl, inr, map, length, take, drop, get_or, insert, arith, refl, sym, ap, ◌∙◌, subst, append-nil, true≢false, ltb}
 use Rattle.std.proofs.lemmas.Bool.{and_parts, cases_lt}
 use Rattle.std.proofs.lemmas.Bool.Decides.{nat_tests}
 use Rattle.std.proofs.lemmas.List.Folds.{list_all-append}
 use Rattle.std.proofs.lemmas.List.{take-append-drop}
 use Rattle.std.specs.List.{AllByRecursion, AllZip, list_all}
-use Rattle.mcs_sets.specs.Sets.{has, single, union}
+use Rattle.mcs_sets.specs.Sets.{has, single}
 use Rattle.mcs_sets.specs.Orders.{StateBefore}
-use Rattle.mcs_sets.proofs.SetLemmas.{has-empty, has-such_that, such_that-lt}
-use Rattle.mcs_sets.proofs.Lattice.{in_with}
+use Rattle.mcs_sets.proofs.SetLemmas.{has-such_that, such_that-lt}
 use Rattle.mcs_base.specs.Listings.{IsAmong, IsAscending, IsListing}
 use Rattle.mcs_base.specs.StateOrder.{StateBefore-total, StateBefore-transitive}
 use Rattle.mcs_base.proofs.Each.{all_among, all_push, all_from_among, all_weaker}
@@ -16,7 +15,7 @@ use Rattle.mcs_base.proofs.Among.{zip_among}
 use Rattle.mcs_base.proofs.Ascending.{ascending_append, ascending_drop}
 use Rattle.mcs_system.specs.Plain.{Name, Formula, Atom, ProgramRule, Program}
 use Rattle.mcs_system.specs.Faults.{has_twins}
-use Rattle.mcs_system.specs.Logic.{holds, holds_all, true_names, BeliefSet, Theory, Atoms, Believes, Accepts}
+use Rattle.mcs_system.specs.Logic.{holds, holds_all, true_names, BeliefSet, Theory, Atoms, Accepts}
 use Rattle.mcs_system.specs.Views.{Shows, IsAcceptedView}
 use Rattle.mcs_trace.specs.Clauses.{ClauseList, all_hold}
 use Rattle.mcs_trace.specs.Traces.{Inference, IsAcceptedTrace}
@@ -27,7 +26,7 @@ use Rattle.mcs_cnf.proofs.MeaningLemmas.{satisfied}
 use Rattle.mcs_classical.proofs.RefutingLemmas.{places, places_extend}
 use Rattle.mcs_evidence.specs.Programs.{rule_formula, beside_formula, other_formula, smaller_formulas, rest_formulas, model_shown_of, AreOverRules, AreAtomsOf, IsInRange, IsAcceptedModel}
 use Rattle.mcs_evidence.specs.Pushing.{AreNamesOf}
-use Rattle.mcs_evidence.proofs.Models.{refuted, smaller-over, rules-over, beside-over, other-over, atoms_are_over, answer_set_from_model, shows-below, own_state, view_among, smaller_places, beside_excludes}
+use Rattle.mcs_evidence.proofs.Models.{refuted, smaller-over, answer_set_from_model, shows-below, own_state, view_among, smaller_places, beside_excludes}
 use Rattle.mcs_program.specs.Clauses.{AreMeantBy, AddsFormula}
 use Rattle.mcs_program.specs.declared.search.Search.{Search}
 use Rattle.mcs_program.specs.Searches.{IsModelOf, IsKnown, IsSearch, IsExcluded, IsListed, count_below, sets_left, IsExhausted}

@@ -1,8 +1,6 @@
 -- How a model of what is known is made small.
 use Rattle.std.proofs.Common.{◌≡◌, ℕ, ◌<◌, ◌^◌, Bool, true, false, not, ◌&&◌, ◌||◌, cond, List, [], ◌∷◌, ◌⊎◌, inl, inr, map, filter, length, refl, sym, ap, ◌∙◌, subst}
 use Rattle.std.proofs.lemmas.Bool.{false_from_ne_true, cases_eq, eq-eqb, eqb-true}
-use Rattle.std.proofs.lemmas.List.Folds.{list_all-map}
-use Rattle.std.proofs.Math.Bool.{and-true}
 use Rattle.std.specs.Prelude.{nat_eq}
 use Rattle.std.specs.List.{AllByRecursion, list_all}
 use Rattle.mcs_sets.specs.Sets.{has, single, minus}
@@ -12,13 +10,11 @@ use Rattle.mcs_system.specs.Plain.{Name, Formula, Atom, ProgramRule}
 use Rattle.mcs_system.specs.Logic.{holds, holds_all, is_in, true_names, Atoms}
 use Rattle.mcs_system.specs.Views.{Shows}
 use Rattle.mcs_system.proofs.NameLemmas.{is_in-among}
-use Rattle.mcs_system.specs.Seen.{rule_of}
-use Rattle.mcs_system.specs.declared.knowledge.ProgRule.{ProgRule}
-use Rattle.mcs_evidence.specs.Programs.{rule_formula, beside_formula, other_formula, rest_formulas, is_broken_by, false_names, AreAtomsOf}
+use Rattle.mcs_evidence.specs.Programs.{other_formula, is_broken_by, AreAtomsOf}
 use Rattle.mcs_evidence.specs.Pushing.{AreNamesOf}
-use Rattle.mcs_evidence.proofs.Models.{all_in, any_in, beside-holds, own_state, other_state}
+use Rattle.mcs_evidence.proofs.Models.{any_in, own_state, other_state}
 use Rattle.mcs_program.specs.Searches.{IsModelOf}
-use Rattle.mcs_program.proofs.SearchLemmas.{rest_value, atoms_of_names}
+use Rattle.mcs_program.proofs.SearchLemmas.{atoms_of_names}
 
 -- ---- smaller sets
 pub blocked_value : (a x : List Name) (rules : List ProgramRule) → list_all (λ (r : ProgramRule). any_in a r.neg) (filter (is_broken_by x) rules) ≡ list_all (λ (r : ProgramRule). not (is_broken_by x r) || any_in a r.neg) rules

@@ -1,5 +1,5 @@
 -- Clauses over the variables of atoms alone, and when clauses mean formulas.
-use Rattle.std.specs.Prelude.{◌≡◌, ℕ, ◌+◌, ◌≤◌, cond, Bool, true, false, not, IsTrue, List, [], ◌∷◌, ◌++◌, length, map, ℤ, pos}
+use Rattle.std.specs.Prelude.{ℕ, ◌+◌, ◌≤◌, cond, Bool, true, false, not, IsTrue, List, [], ◌∷◌, ◌++◌, length, map, ℤ, pos}
 use Rattle.mcs_sets.specs.Sets.{has}
 use Rattle.mcs_system.specs.Plain.{Name, Formula, ProgramRule}
 use Rattle.mcs_system.specs.Logic.{holds_all}

@@ -1,6 +1,6 @@
 -- Rules and beliefs by the places of their atoms among the names, and what is tested of sets of places.
-use Rattle.std.specs.Prelude.{◌≡◌, ℕ, ◌<◌, Bool, nat_eq, not, ◌&&◌, ◌||◌, false, IsTrue, List, map, get_or, length}
-use Rattle.std.specs.List.{AllByRecursion, AllZip, list_any, list_all}
+use Rattle.std.specs.Prelude.{◌≡◌, ℕ, ◌<◌, Bool, nat_eq, not, ◌&&◌, ◌||◌, false, List, map, get_or, length}
+use Rattle.std.specs.List.{AllZip, list_any, list_all}
 use Rattle.mcs_sets.specs.Sets.{has, common, such_that}
 use Rattle.mcs_system.specs.Plain.{Name, Atom, ProgramRule}
 use Rattle.mcs_system.specs.Logic.{is_in, true_names}

@@ -1,4 +1,4 @@
-use Rattle.std.proofs.Common.{◌≡◌, sym, subst, Option, Some, None}
+use Rattle.std.proofs.Common.{sym, subst}
 use Rattle.mcs_sat.specs.declared.outcome.Outcome.{Outcome}
 use Rattle.mcs_sat.specs.Answers.{IsAnswer, IsExact}
 use Rattle.mcs_program.specs.Searches.{IsFoundFor}

@@ -1,4 +1,4 @@
-use Rattle.std.proofs.Common.{◌≡◌, ◌+◌, ◌∙◌, ◌++◌, ◌∷◌, [], drop, map, ap, sym, arith, append_assoc, subst, to_z-of_z, List, ℤ}
+use Rattle.std.proofs.Common.{◌+◌, ◌∙◌, ◌++◌, ◌∷◌, [], drop, ap, sym, arith, append_assoc, subst, to_z-of_z, List, ℤ}
 use Rattle.mcs_cnf.proofs.NumberLemmas.{atom_positive, atom_within}
 use Rattle.mcs_cnf.specs.ClauseLists.{atom_number}
 use Rattle.mcs_system.specs.Plain.{Name}

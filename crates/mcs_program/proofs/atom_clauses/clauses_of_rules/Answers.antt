@@ -1,5 +1,4 @@
-use Rattle.std.proofs.Common.{◌≡◌, ◌∙◌, ◌++◌, ◌∷◌, [], ◌+◌, map, take, ap, sym, subst, refl, List}
-use Rattle.std.proofs.lemmas.List.{map_more}
+use Rattle.std.proofs.Common.{◌≡◌, ◌∙◌, ◌++◌, ◌∷◌, [], map, take, ap, sym, subst, refl, List}
 use Rattle.mcs_system.specs.Plain.{Formula, ProgramRule}
 use Rattle.mcs_system.specs.Seen.{rule_of}
 use Rattle.mcs_evidence.specs.Programs.{rule_formula, IsOverRule}

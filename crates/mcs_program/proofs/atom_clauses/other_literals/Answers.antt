@@ -1,4 +1,4 @@
-use Rattle.std.proofs.Common.{◌≡◌, arith, map}
+use Rattle.std.proofs.Common.{arith}
 use Rattle.mcs_cnf.proofs.NumberLemmas.{atom_within}
 use Rattle.mcs_evidence.proofs.ProgramClauses.{rest_names}
 use Rattle.mcs_program.proofs.atom_clauses.other_literals.Goals as goal

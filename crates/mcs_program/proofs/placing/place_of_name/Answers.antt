@@ -1,4 +1,4 @@
-use Rattle.std.proofs.Common.{◌∙◌, sym, ap, arith}
+use Rattle.std.proofs.Common.{arith}
 use Rattle.mcs_cnf.proofs.NumberLemmas.{atom_positive, atom_within}
 use Rattle.mcs_program.proofs.PlaceLemmas.{place_is}
 use Rattle.mcs_program.proofs.placing.place_of_name.Goals as goal

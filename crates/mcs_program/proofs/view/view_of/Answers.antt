@@ -1,8 +1,6 @@
 use Rattle.std.proofs.Common.{◌≡◌, ◌∙◌, ℕ, Bool, cond, sym, ap, get_or, length, arith}
 use Rattle.mcs_sets.specs.Sets.{has, single, union, such_that}
 use Rattle.mcs_sets.proofs.SetLemmas.{such_that-more, such_that-none}
-use Rattle.mcs_base.proofs.Among.{among_at}
-use Rattle.mcs_base.proofs.Each.{all_among}
 use Rattle.mcs_program.specs.Placing.{view_at}
 use Rattle.mcs_program.proofs.view.view_of.Goals.{then-has, else-has}
 use Rattle.mcs_program.proofs.view.view_of.Goals as goal
