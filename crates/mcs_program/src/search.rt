@@ -1,7 +1,7 @@
 //! The search for answer sets.
 
 ghost use Rattle.std.specs.Prelude.{◌≡◌, ◌<◌, ◌≤◌, List, false, length, map, IfOk, IsTrue};
-ghost use Rattle.std.specs.List.{AllZip};
+ghost use Rattle.std.specs.List.{AllByRecursion, AllZip};
 ghost use Rattle.mcs_sets.specs.Orders.{StateBefore};
 ghost use Rattle.mcs_base.specs.Listings.{IsAscending};
 ghost use Rattle.mcs_system.specs.Faults.{has_twins};
@@ -10,14 +10,14 @@ ghost use Rattle.mcs_system.specs.Seen.{rule_of};
 ghost use Rattle.mcs_trace.specs.Traces.{inferences_of};
 ghost use Rattle.mcs_evidence.specs.Programs.{rest_formulas, smaller_formulas, AreOverRules, IsRefutation};
 ghost use Rattle.mcs_evidence.specs.Pushing.{AreNamesOf};
-ghost use Rattle.mcs_program.specs.Searches.{IsModelOf, IsSearch, IsExcluded, IsPlaced, IsListed, IsExhausted, sets_left};
+ghost use Rattle.mcs_program.specs.Searches.{IsModelOf, IsFoundFor, IsSearch, IsExcluded, IsPlaced, IsListed, IsExhausted, sets_left};
 ghost use Rattle.mcs_program.specs.Placing.{IsPlaceOf, IsPlacing};
 
 use crate::answer::{Answer, ask, find_model};
 use crate::atom_clauses::{clauses_of_rules, push_other};
 use crate::placing::Placing;
-use crate::small::made_small;
-use crate::view::{place_of, view_of};
+use crate::small::{is_possible, made_small};
+use crate::view::{all_places, place_of, view_of};
 use mcs_base::{Memory, Vars};
 use mcs_evidence::{push_beside, smaller_clauses};
 use mcs_system::{Name, ProgRule};
@@ -161,6 +161,30 @@ impl Search {
         }
     }
 
+    /// A model of what is known; `None` where there is none. Where all atoms together are one, none is searched for, as
+    /// in a program without constraints until a view with all beliefs is found.
+    fn next_model(
+        &self,
+        alloc: Global,
+        atoms: &[Name],
+        placing: &Placing,
+    ) -> Result<Option<Vars>, Memory>
+        requires few { length atoms.now ≤ 64 }
+        requires few_beliefs { length placing.now.beliefs.items ≤ 64 }
+        requires places { AllByRecursion (λ k. k < 64) placing.now.beliefs.items }
+        requires different { has_twins atoms.now ≡ false }
+        requires room { length atoms.now ≤ self.now.known.vars }
+        requires ascending { IsAscending StateBefore self.now.views.items }
+        ensures { IfOk result (λ found. (rules : List plain.ProgramRule) (ns : List plain.Name) → IsPlacing atoms.now rules ns placing.now → IsSearch atoms.now rules (map plain.Atom ns) self.now
+            → IsFoundFor atoms.now (rest_formulas atoms.now rules (map plain.Atom ns) self.now.smaller.items self.now.views.items) found) }
+    {
+        let all = all_places(atoms.len());
+        if is_possible(placing, self, all) {
+            return Ok(Some(all));
+        }
+        find_model(alloc, &self.known, atoms)
+    }
+
     /// Looks for one more model of what is known, makes it small and takes it up; whether there was one.
     fn step(
         &mut self,
@@ -182,7 +206,7 @@ impl Search {
             < sets_left atoms.now (map rule_of rules.now) (map plain.Atom (map (λ b. b.now) beliefs.now)) self.old) }
         ensures ends { IfOk result (λ goes. goes ≡ false → IsExhausted atoms.now (map rule_of rules.now) (map plain.Atom (map (λ b. b.now) beliefs.now)) self.new) }
     {
-        match find_model(alloc, &self.known, atoms)? {
+        match self.next_model(alloc, atoms, placing)? {
             Some(model) => {
                 let small = made_small(placing, self, model);
                 self.take_up(alloc, atoms, rules, beliefs, placing, small)?;

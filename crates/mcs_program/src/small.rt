@@ -22,7 +22,7 @@ fn none_beside(rules: &[PlacedRule], smaller: &[Vars], places: Vars) -> bool
 }
 
 /// Whether all that is known holds where exactly the atoms at these places are true.
-fn is_possible(placing: &Placing, search: &Search, places: Vars) -> bool
+pub(crate) fn is_possible(placing: &Placing, search: &Search, places: Vars) -> bool
     requires few { length placing.now.beliefs.items ≤ 64 }
     requires places { AllByRecursion (λ k. k < 64) placing.now.beliefs.items }
     requires ascending { IsAscending StateBefore search.now.views.items }

@@ -1,12 +1,25 @@
-//! Views of models, and their places among others.
+//! Sets of places, views of models, and their places among others.
 
-ghost use Rattle.std.specs.Prelude.{◌≡◌, ◌<◌, ◌≤◌, length, get_or, take};
+ghost use Rattle.std.specs.Prelude.{◌≡◌, ◌<◌, ◌≤◌, true, length, get_or, take};
 ghost use Rattle.std.specs.List.{AllByRecursion};
+ghost use Rattle.mcs_sets.specs.Sets.{such_that};
 ghost use Rattle.mcs_sets.specs.Orders.{StateBefore};
 ghost use Rattle.mcs_base.specs.Listings.{IsAscending};
 ghost use Rattle.mcs_program.specs.Placing.{view_at, is_other};
 
 use mcs_base::Vars;
+
+/// The first places, so many.
+pub(crate) fn all_places(count: usize) -> Vars
+    requires { count ≤ 64 }
+    ensures { result ≡ such_that count (λ _. true) }
+{
+    let mut places = Vars::empty();
+    for place in 0..count {
+        places = places.with(place as u32);
+    }
+    places
+}
 
 /// The numbers of the beliefs that are true where exactly the atoms at the model's places are.
 pub(crate) fn view_of(beliefs: &[u32], model: Vars) -> Vars

@@ -7,8 +7,18 @@ use Rattle.mcs_program.specs.Searches.{IsModelOf, IsFoundFor}
 use Rattle.mcs_program.proofs.PlaceLemmas.{low_places, few_places}
 use Rattle.mcs_program.proofs.search.Search.step.Goals as goal
 
-pub find_model-requires-clause-room : goal.find_model-requires-clause-room
-find_model-requires-clause-room c = c.requires.search.known.room
+pub next_model-requires-clause-few_beliefs : goal.next_model-requires-clause-few_beliefs
+next_model-requires-clause-few_beliefs c =
+    let ns = map (λ b. b.now) c.args.beliefs.now in
+    few_places c.args.atoms.now ns c.args.placing.now.beliefs.items (subst (λ n. n ≤ 64) (sym (length-map c.args.beliefs.now (λ b. b.now))) c.requires.few_beliefs) c.requires.placed.placed_beliefs
+
+pub next_model-requires-clause-places : goal.next_model-requires-clause-places
+next_model-requires-clause-places c =
+    let ns = map (λ b. b.now) c.args.beliefs.now in
+    low_places c.args.atoms.now ns c.args.placing.now.beliefs.items c.requires.few c.requires.placed.placed_beliefs
+
+pub next_model-requires-clause-room : goal.next_model-requires-clause-room
+next_model-requires-clause-room c = c.requires.search.known.room
 
 pub made_small-small-requires-clause-few : goal.made_small-small-requires-clause-few
 made_small-small-requires-clause-few c =
@@ -26,11 +36,13 @@ take_up-requires-clause-model c =
     let rules = map rule_of c.args.rules.now in
     let ns = map (λ b. b.now) c.args.beliefs.now in
     let known = rest_formulas names rules (map Atom ns) c.args.self.now.smaller.items c.args.self.now.views.items in
-    let found : IsModelOf names known c.in-Some.model = subst (IsFoundFor names known) c.in-Some.is (c.in_ok-model.ensures known c.requires.search.known) in
+    let found : IsModelOf names known c.in-Some.model = subst (IsFoundFor names known) c.in-Some.is (c.in_ok-model.ensures rules ns c.requires.placed c.requires.search) in
     c.made_small-small.ensures.stays names rules ns c.requires.different c.requires.placed c.requires.search found
 
 pub returns-in-None-clause-ends : goal.returns-in-None-clause-ends
 returns-in-None-clause-ends c = λ _.
     let names = c.args.atoms.now in
-    let known = rest_formulas names (map rule_of c.args.rules.now) (map Atom (map (λ b. b.now) c.args.beliefs.now)) c.args.self.now.smaller.items c.args.self.now.views.items in
-    subst (IsFoundFor names known) c.in-None.is (c.in_ok-model.ensures known c.requires.search.known)
+    let rules = map rule_of c.args.rules.now in
+    let ns = map (λ b. b.now) c.args.beliefs.now in
+    let known = rest_formulas names rules (map Atom ns) c.args.self.now.smaller.items c.args.self.now.views.items in
+    subst (IsFoundFor names known) c.in-None.is (c.in_ok-model.ensures rules ns c.requires.placed c.requires.search)
