@@ -31,7 +31,7 @@ not_named n k s (m ∷ names) none = let (other, none') = or_parts (same_name n 
     at true other rest = rw other rest
     at false other rest = rest
 
-named_at : (n : Name) (k s j : ℕ) (names : List Name) → has_twins names ≡ false → is_in n names ≡ true → atom_number names n ≡ j + 1 → is_in n (true_names k names s) ≡ has s (k + j)
+pub named_at : (n : Name) (k s j : ℕ) (names : List Name) → has_twins names ≡ false → is_in n names ≡ true → atom_number names n ≡ j + 1 → is_in n (true_names k names s) ≡ has s (k + j)
 named_at n k s j [] single known at = absurd (true≢false (sym known))
 named_at n k s j (m ∷ names) single known number =
     let (apart, single') = or_parts (is_in m names) (has_twins names) single in

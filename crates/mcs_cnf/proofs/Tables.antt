@@ -33,7 +33,7 @@ unfolding clause_of
 clause_of-holds v [] = refl
 clause_of-holds v (l ∷ ls) = with_holds v l (clause_of ls) ∙ ap (λ b. literal_holds v l || b) (clause_of-holds v ls)
 
-non-holds : (v : ℕ → Bool) (n : ℕ) → 0 < n → literal_holds v (non n) ≡ not (v n)
+pub non-holds : (v : ℕ → Bool) (n : ℕ) → 0 < n → literal_holds v (non n) ≡ not (v n)
 non-holds v zero some = absurd (omega arith)
 non-holds v (suc n) some = let e : n + 1 ≡ suc n = omega arith in ap (λ m. not (v m)) e
 

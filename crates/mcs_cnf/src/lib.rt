@@ -13,6 +13,6 @@ pub use laws::{
     contexts_are_over_their_atoms, entailment_is_refutation, entailments_are_sound,
     formulas_are_over_their_atoms,
 };
-pub use literals::push_unit;
+pub use literals::{push_clause, push_unit};
 pub use occurrences::{push_and, push_falsity, push_implies, push_not, push_or, push_truth};
 pub use over::{are_different, are_over, is_over};

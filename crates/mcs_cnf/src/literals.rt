@@ -37,8 +37,8 @@ fn clause_of(alloc: Global, lits: &[i64]) -> Result<Clause, Memory>
     Ok(clause)
 }
 
-/// Adds the clause of these literals.
-fn push_clause(alloc: Global, cnf: &mut Cnf, lits: &[i64]) -> Result<(), Memory>
+/// Adds the clause of these literals, which may stand in any order.
+pub fn push_clause(alloc: Global, cnf: &mut Cnf, lits: &[i64]) -> Result<(), Memory>
     requires { AllByRecursion (IsThere cnf.old) lits.now }
     ensures { IfOk result (λ _. cnf.new ≡ with_clause cnf.old lits.now) }
 {

@@ -180,7 +180,7 @@ positives-hold b [] = refl
 positives-hold b (r ∷ rules) = ap (λ v. v && holds_all b (map positive_formula rules)) (positive_formula-holds b r) ∙ ap (λ v. satisfies b r && v) (positives-hold b rules)
 
 -- ---- the names at places and those at none
-true_names-known : (n : Name) (k : ℕ) (names : List Name) (s : ℕ) → is_in n (true_names k names s) ≡ true → is_in n names ≡ true
+pub true_names-known : (n : Name) (k : ℕ) (names : List Name) (s : ℕ) → is_in n (true_names k names s) ≡ true → is_in n names ≡ true
 true_names-known n k [] s h = h
 true_names-known n k (m ∷ names) s h = at (has s k) h (λ h. true_names-known n (k + 1) names s h)
   where
@@ -188,7 +188,7 @@ true_names-known n k (m ∷ names) s h = at (has s k) h (λ h. true_names-known 
     at true h later = elim (or_cases (same_name n m) (is_in n (true_names (k + 1) names s)) h) [ inl same ↦ or_left (same_name n m) (is_in n names) same | inr there ↦ or_right (same_name n m) (is_in n names) (later there) ]
     at false h later = or_right (same_name n m) (is_in n names) (later h)
 
-false_names-known : (n : Name) (k : ℕ) (names : List Name) (s : ℕ) → is_in n (false_names k names s) ≡ true → is_in n names ≡ true
+pub false_names-known : (n : Name) (k : ℕ) (names : List Name) (s : ℕ) → is_in n (false_names k names s) ≡ true → is_in n names ≡ true
 false_names-known n k [] s h = h
 false_names-known n k (m ∷ names) s h = at (has s k) h (λ h. false_names-known n (k + 1) names s h)
   where

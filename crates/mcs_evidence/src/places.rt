@@ -11,35 +11,35 @@ use mcs_system::{Name, ProgRule};
 use std::alloc::Global;
 
 /// Whether the name is one of these.
-pub fn is_among(name: &Name, names: &[Name]) -> bool
+pub(crate) fn is_among(name: &Name, names: &[Name]) -> bool
     ensures { result ≡ is_in name.now names.now }
 {
     names.iter().any(|other| name.is(other))
 }
 
 /// Whether one of the names is one of those.
-pub fn some_among(names: &[Name], those: &[Name]) -> bool
+pub(crate) fn some_among(names: &[Name], those: &[Name]) -> bool
     ensures { result ≡ list_any (λ n. is_in n those.now) names.now }
 {
     names.iter().any(|name| is_among(name, those))
 }
 
 /// Whether each of the names is one of those.
-pub fn all_among(names: &[Name], those: &[Name]) -> bool
+pub(crate) fn all_among(names: &[Name], those: &[Name]) -> bool
     ensures { result ≡ list_all (λ n. is_in n those.now) names.now }
 {
     names.iter().all(|name| is_among(name, those))
 }
 
 /// Whether the positive body of the rule lies within the names, and no head atom does.
-pub fn is_broken(names: &[Name], rule: &ProgRule) -> bool
+pub(crate) fn is_broken(names: &[Name], rule: &ProgRule) -> bool
     ensures { result ≡ is_broken_by names.now (rule_of rule.now) }
 {
     all_among(&rule.pos, names) && !some_among(&rule.head, names)
 }
 
 /// The atoms at the places, in order.
-pub fn names_at(alloc: Global, atoms: &[Name], places: Vars) -> Result<Vec<Name>, Memory>
+pub(crate) fn names_at(alloc: Global, atoms: &[Name], places: Vars) -> Result<Vec<Name>, Memory>
     requires few { length atoms.now ≤ 64 }
     ensures { IfOk result (λ names. names.items ≡ true_names 0 atoms.now places) }
 {
@@ -53,7 +53,7 @@ pub fn names_at(alloc: Global, atoms: &[Name], places: Vars) -> Result<Vec<Name>
 }
 
 /// The other atoms, in order.
-pub fn names_beside(alloc: Global, atoms: &[Name], places: Vars) -> Result<Vec<Name>, Memory>
+pub(crate) fn names_beside(alloc: Global, atoms: &[Name], places: Vars) -> Result<Vec<Name>, Memory>
     requires few { length atoms.now ≤ 64 }
     ensures { IfOk result (λ names. names.items ≡ false_names 0 atoms.now places) }
 {

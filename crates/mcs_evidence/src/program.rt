@@ -165,7 +165,7 @@ fn push_literal(
 }
 
 /// Adds the clauses that are false where exactly the beliefs at these places are true.
-pub fn push_other(
+pub(crate) fn push_other(
     alloc: Global,
     cnf: &mut Cnf,
     atoms: &[Name],

@@ -20,7 +20,7 @@ use std::alloc::Global;
 
 /// Adds an occurrence of what `all` is the number of and of `x`, whose number it gives; it is `x` itself where there was
 /// nothing before.
-pub fn join(alloc: Global, cnf: &mut Cnf, all: Option<u64>, x: u64) -> Result<u64, Memory>
+pub(crate) fn join(alloc: Global, cnf: &mut Cnf, all: Option<u64>, x: u64) -> Result<u64, Memory>
     requires part { IsPart cnf.old all }
     requires next { IsVariable cnf.old x }
     ensures number { IfOk result (IsVariable cnf.new) }
@@ -49,7 +49,7 @@ fn join_either(alloc: Global, cnf: &mut Cnf, any: Option<u64>, x: u64) -> Result
 
 /// The number of an atom that is one of the names.
 #[tactic(auto, using(mcs_cnf::proofs::NumberLemmas::atom_positive, mcs_cnf::proofs::NumberLemmas::atom_within))]
-pub fn atom_of(cnf: &Cnf, atoms: &[Name], name: &Name) -> u64
+pub(crate) fn atom_of(cnf: &Cnf, atoms: &[Name], name: &Name) -> u64
     requires over { IsTrue (is_in name.now atoms.now) }
     requires room { length atoms.now ≤ cnf.now.vars }
     ensures number { IsVariable cnf.now result }
@@ -59,7 +59,7 @@ pub fn atom_of(cnf: &Cnf, atoms: &[Name], name: &Name) -> u64
 }
 
 /// Adds an occurrence of the negation of an atom that is one of the names; its number.
-pub fn push_negated(
+pub(crate) fn push_negated(
     alloc: Global,
     cnf: &mut Cnf,
     atoms: &[Name],
@@ -77,7 +77,7 @@ pub fn push_negated(
 }
 
 /// Adds the names, as atoms, to a conjunction, of which `all` is the number if it has parts; its number from then on.
-pub fn join_atoms(
+pub(crate) fn join_atoms(
     alloc: Global,
     cnf: &mut Cnf,
     atoms: &[Name],
@@ -101,7 +101,7 @@ pub fn join_atoms(
 }
 
 /// Adds the negations of the names to a conjunction in the same way.
-pub fn join_negated(
+pub(crate) fn join_negated(
     alloc: Global,
     cnf: &mut Cnf,
     atoms: &[Name],
@@ -125,7 +125,7 @@ pub fn join_negated(
 }
 
 /// The number of a whole conjunction, which is true where it has no parts.
-pub fn all_of(alloc: Global, cnf: &mut Cnf, all: Option<u64>) -> Result<u64, Memory>
+pub(crate) fn all_of(alloc: Global, cnf: &mut Cnf, all: Option<u64>) -> Result<u64, Memory>
     requires part { IsPart cnf.old all }
     ensures number { IfOk result (IsVariable cnf.new) }
     ensures grows { IfOk result (λ _. cnf.old.vars ≤ cnf.new.vars) }
@@ -153,7 +153,7 @@ fn any_of(alloc: Global, cnf: &mut Cnf, any: Option<u64>) -> Result<u64, Memory>
 }
 
 /// Adds the disjunction of the names; its number.
-pub fn push_either(
+pub(crate) fn push_either(
     alloc: Global,
     cnf: &mut Cnf,
     atoms: &[Name],
@@ -175,7 +175,7 @@ pub fn push_either(
 }
 
 /// Adds the clauses of the rule of these parts.
-pub fn push_rule(
+pub(crate) fn push_rule(
     alloc: Global,
     cnf: &mut Cnf,
     atoms: &[Name],
@@ -198,7 +198,7 @@ pub fn push_rule(
 }
 
 /// Adds the clauses of the rules.
-pub fn push_rules(
+pub(crate) fn push_rules(
     alloc: Global,
     cnf: &mut Cnf,
     atoms: &[Name],

@@ -1,3 +1,7 @@
 pub mod SearchLemmas
 pub mod OutputLemmas
 pub mod SmallLemmas
+pub mod ClauseLemmas
+pub mod General
+pub mod PlaceLemmas
+pub mod ViewLemmas

@@ -1,14 +1,13 @@
 -- How the search for answer sets goes on.
-use Rattle.std.proofs.Common.{◌≡◌, ℕ, ◌+◌, ◌<◌, ◌≤◌, ◌^◌, zero, suc, Bool, true, false, ◌&&◌, cond, List, [], ◌∷◌, ◌++◌, ◌⊎◌, ◌↔◌, inl, inr, map, length, take, drop, get_or, insert, arith, refl, sym, ap, ◌∙◌, subst, append-nil, true≢false, ltb, Some, None, slice_get}
+use Rattle.std.proofs.Common.{◌≡◌, ℕ, ◌+◌, ◌<◌, ◌≤◌, ◌^◌, zero, suc, Bool, true, false, ◌&&◌, cond, List, [], ◌∷◌, ◌++◌, inl, inr, map, length, take, drop, get_or, insert, arith, refl, sym, ap, ◌∙◌, subst, append-nil, true≢false, ltb}
 use Rattle.std.proofs.lemmas.Bool.{and_parts, cases_lt}
 use Rattle.std.proofs.lemmas.Bool.Decides.{nat_tests}
 use Rattle.std.proofs.lemmas.List.Folds.{list_all-append}
 use Rattle.std.proofs.lemmas.List.{take-append-drop}
 use Rattle.std.specs.List.{AllByRecursion, AllZip, list_all}
-use Rattle.mcs_sets.specs.Sets.{has, single, union}
+use Rattle.mcs_sets.specs.Sets.{has, single}
 use Rattle.mcs_sets.specs.Orders.{StateBefore}
-use Rattle.mcs_sets.proofs.SetLemmas.{has-empty, has-such_that, such_that-lt}
-use Rattle.mcs_sets.proofs.Lattice.{in_with}
+use Rattle.mcs_sets.proofs.SetLemmas.{has-such_that, such_that-lt}
 use Rattle.mcs_base.specs.Listings.{IsAmong, IsAscending, IsListing}
 use Rattle.mcs_base.specs.StateOrder.{StateBefore-total, StateBefore-transitive}
 use Rattle.mcs_base.proofs.Each.{all_among, all_push, all_from_among, all_weaker}
@@ -16,78 +15,39 @@ use Rattle.mcs_base.proofs.Among.{zip_among}
 use Rattle.mcs_base.proofs.Ascending.{ascending_append, ascending_drop}
 use Rattle.mcs_system.specs.Plain.{Name, Formula, Atom, ProgramRule, Program}
 use Rattle.mcs_system.specs.Faults.{has_twins}
-use Rattle.mcs_system.specs.Logic.{holds, holds_all, true_names, BeliefSet, Theory, Atoms, Believes, Accepts}
+use Rattle.mcs_system.specs.Logic.{holds, holds_all, true_names, BeliefSet, Theory, Atoms, Accepts}
 use Rattle.mcs_system.specs.Views.{Shows, IsAcceptedView}
 use Rattle.mcs_trace.specs.Clauses.{ClauseList, all_hold}
 use Rattle.mcs_trace.specs.Traces.{Inference, IsAcceptedTrace}
 use Rattle.mcs_sat.specs.Answers.{assignment_of}
-use Rattle.mcs_cnf.specs.ClauseLists.{with_formulas, clause_list, IsOver, AreOver}
-use Rattle.mcs_cnf.proofs.ListLemmas.{with_append}
+use Rattle.mcs_cnf.specs.ClauseLists.{clause_list, AreOver}
+use Rattle.mcs_cnf.specs.Meaning.{Extends}
 use Rattle.mcs_cnf.proofs.MeaningLemmas.{satisfied}
 use Rattle.mcs_classical.proofs.RefutingLemmas.{places, places_extend}
 use Rattle.mcs_evidence.specs.Programs.{rule_formula, beside_formula, other_formula, smaller_formulas, rest_formulas, model_shown_of, AreOverRules, AreAtomsOf, IsInRange, IsAcceptedModel}
 use Rattle.mcs_evidence.specs.Pushing.{AreNamesOf}
-use Rattle.mcs_evidence.proofs.Models.{refuted, smaller-over, rules-over, beside-over, other-over, atoms_are_over, answer_set_from_model, shows-below, own_state, view_among, smaller_places, beside_excludes}
+use Rattle.mcs_evidence.proofs.Models.{refuted, smaller-over, answer_set_from_model, shows-below, own_state, view_among, smaller_places, beside_excludes}
+use Rattle.mcs_program.specs.Clauses.{AreMeantBy, AddsFormula}
 use Rattle.mcs_program.specs.declared.search.Search.{Search}
 use Rattle.mcs_program.specs.Searches.{IsModelOf, IsKnown, IsSearch, IsExcluded, IsListed, count_below, sets_left, IsExhausted}
+use Rattle.mcs_program.proofs.ClauseLemmas.{last_too, meant_same}
 
 -- ---- what a satisfying assignment says
-pub modelled : (names : List Name) (fs : List Formula) (cnf : ClauseList) (values read : List Bool) (s : ℕ) → has_twins names ≡ false → AreOver names fs → cnf ≡ clause_list names fs → all_hold (assignment_of values) cnf.clauses ≡ true → read ≡ values
+pub modelled : (names : List Name) (fs : List Formula) (values read : List Bool) (s : ℕ) → has_twins names ≡ false → ((a : List Name) → Extends names a (assignment_of values) → holds_all a fs ≡ true) → read ≡ values
     → s ≡ places names read → IsModelOf names fs s
-modelled names fs cnf values read s single over is h same e =
+modelled names fs values read s single meant same e =
     subst (IsModelOf names fs) (sym (e ∙ ap (places names) same)) (record {
       in_range = λ k member.
           let less : ltb k (length names) ≡ true = (and_parts _ _ (sym (has-such_that (length names) (λ k. get_or values k false) k) ∙ member)).0 in
           grind (arith, nat_tests);
       fits = such_that-lt (length names) (λ k. get_or values k false);
-      satisfies = satisfied fs names (true_names 0 names (places names values)) (assignment_of values) over (places_extend names values single) (ap (λ (x : ClauseList). all_hold (assignment_of values) x.clauses) (sym is) ∙ h);
+      satisfies = meant (true_names 0 names (places names values)) (places_extend names values single);
     })
 
--- ---- views
-slice_push : (ps : List Formula) (p q : Formula) (k : ℕ) → (slice_get (ps ++ p ∷ []) k ≡ Some q) ↔ ((slice_get ps k ≡ Some q) ⊎ ((k ≡ length ps) × (p ≡ q)))
-slice_push [] p q zero = (
-  λ h. let same : p ≡ q = cc in inr (refl, same),
-  λ h. elim h [ inl none ↦ absurd (let e : None ≡ Some q = none in cc) | inr (_, same) ↦ ap Some same ],
-)
-slice_push [] p q (suc k) = (
-  λ h. absurd (let e : None ≡ Some q = h in cc),
-  λ h. elim h [ inl none ↦ none | inr (last, _) ↦ absurd (omega arith) ],
-)
-slice_push (x ∷ ps) p q zero = (
-  λ h. inl h,
-  λ h. elim h [ inl old ↦ old | inr (last, _) ↦ absurd (omega arith) ],
-)
-slice_push (x ∷ ps) p q (suc k) = (
-  λ h. elim ((slice_push ps p q k).0 h) [ inl old ↦ inl old | inr (last, same) ↦ inr (ap suc last, same) ],
-  λ h. (slice_push ps p q k).1 (elim h as (λ _. (slice_get ps k ≡ Some q) ⊎ ((k ≡ length ps) × (p ≡ q))) [ inl old ↦ inl old | inr (last, same) ↦ inr (omega (arith, last), same) ]),
-)
-
-pub shows_none : (b : BeliefSet) (s : ℕ) → s ≡ 0 → Shows b [] s
-shows_none b s e k = (
-  λ h. absurd (true≢false (sym h ∙ ap (λ x. has x k) e ∙ has-empty k)),
-  λ h. absurd (let none : None ≡ Some h.0 = h.1 in cc),
-)
-
-pub shows_with : (b : BeliefSet) (ps : List Formula) (p : Formula) (s i s' : ℕ) → length ps ≡ i → Believes b p → s' ≡ union s (single i) → Shows b ps s → Shows b (ps ++ p ∷ []) s'
-shows_with b ps p s i s' len is e old k = (
-  λ h. elim ((in_with s i k).0 (ap (λ x. has x k) (sym e) ∙ h)) [
-    | inl there ↦ let (q, at, believed) = (old k).0 there in (q, (slice_push ps p q k).1 (inl at), believed)
-    | inr last ↦ (p, (slice_push ps p p k).1 (inr (last ∙ sym len, refl)), is)
-  ],
-  λ (q, at, believed). ap (λ x. has x k) e ∙ (in_with s i k).1 (elim ((slice_push ps p q k).0 at) as (λ _. (has s k ≡ true) ⊎ (k ≡ i)) [
-    | inl there ↦ inl ((old k).1 (q, there, believed))
-    | inr (last, same) ↦ inr (last ∙ len)
-  ]),
-)
-
-pub shows_without : (b : BeliefSet) (ps : List Formula) (p : Formula) (s : ℕ) → ¬ Believes b p → Shows b ps s → Shows b (ps ++ p ∷ []) s
-shows_without b ps p s not_so old k = (
-  λ h. let (q, at, believed) = (old k).0 h in (q, (slice_push ps p q k).1 (inl at), believed),
-  λ (q, at, believed). elim ((slice_push ps p q k).0 at) [
-    | inl there ↦ (old k).1 (q, there, believed)
-    | inr (last, same) ↦ absurd (not_so (subst (Believes b) (sym same) believed))
-  ],
-)
+-- of the clauses of formulas
+pub modelled_clauses : (names : List Name) (fs : List Formula) (cnf : ClauseList) (values : List Bool) → AreOver names fs → cnf ≡ clause_list names fs → all_hold (assignment_of values) cnf.clauses ≡ true
+    → (a : List Name) → Extends names a (assignment_of values) → holds_all a fs ≡ true
+modelled_clauses names fs cnf values over is h a extends = satisfied fs names a (assignment_of values) over extends (ap (λ (x : ClauseList). all_hold (assignment_of values) x.clauses) (sym is) ∙ h)
 
 -- ---- names as beliefs
 pub atoms_of_names : (names ns : List Name) → AreNamesOf names ns → AreAtomsOf names (map Atom ns)
@@ -191,24 +151,16 @@ fewer (suc n) m p q within less is not_so = elim (cases_lt m n) [
 
 -- ---- from search to search
 module _ (names : List Name) (rules : List ProgramRule) (beliefs : List Formula) where
-  rest : Search → List Formula
+  abbrev rest : Search → List Formula
   rest s = rest_formulas names rules beliefs s.smaller.items s.views.items
 
   -- all is known that was, and a formula
   abbrev Narrows : Search → Search → Formula → Type 0
   Narrows old new f = (a : List Name) → holds_all a (rest_formulas names rules beliefs new.smaller.items new.views.items) ≡ (holds_all a (rest_formulas names rules beliefs old.smaller.items old.views.items) && holds a f)
 
-  pub known_more : (old new : Search) (f : Formula) → new.known ≡ with_formulas names old.known (f ∷ []) → IsOver names f → Narrows old new f → IsKnown names rules beliefs old → IsKnown names rules beliefs new
-  known_more old new f pushed over narrows known = record {
-    formulas = known.formulas ++ f ∷ [];
-    is = pushed ∙ ap (λ (k : ClauseList). with_formulas names k (f ∷ [])) known.is ∙ with_append names (record { vars = length names; clauses = [] }) known.formulas (f ∷ []);
-    over = all_push (IsOver names) known.formulas f known.over over;
-    same = λ a. list_all-append (holds a) known.formulas (f ∷ []) ∙ ap (λ b. holds_all a known.formulas && b) (alone (holds a f)) ∙ ap (λ b. b && holds a f) (known.same a) ∙ sym (narrows a);
-  }
-    where
-      alone : (b : Bool) → (b && true) ≡ b
-      alone true = refl
-      alone false = refl
+  pub known_more : (old new : Search) (f : Formula) → AddsFormula names f old.known new.known → Narrows old new f → IsKnown names rules beliefs old → IsKnown names rules beliefs new
+  known_more old new f adds narrows known =
+      meant_same names (rest old ++ f ∷ []) (rest new) new.known (λ a. last_too a (rest old) f ∙ sym (narrows a)) (adds (rest old) known)
 
   pub left_less : (old new : Search) (f : Formula) (model : ℕ) → Narrows old new f → IsModelOf names (rest_formulas names rules beliefs old.smaller.items old.views.items) model → holds (true_names 0 names model) f ≡ false
       → sets_left names rules beliefs new < sets_left names rules beliefs old
@@ -223,14 +175,10 @@ module _ (names : List Name) (rules : List ProgramRule) (beliefs : List Formula)
       none true = refl
       none false = refl
 
-  pub begun : (s : Search) → s.known ≡ clause_list names (map rule_formula rules) → s.smaller.items ≡ [] → s.views.items ≡ [] → s.models.items ≡ [] → AreOverRules names rules → IsSearch names rules beliefs s
-  begun s known smaller views models over = record {
-    known = record {
-      formulas = map rule_formula rules;
-      is = known;
-      over = rules-over names rules over;
-      same = λ a. sym (ap (λ xs. holds_all a (rest_formulas names rules beliefs xs s.views.items)) smaller ∙ ap (λ xs. holds_all a (rest_formulas names rules beliefs [] xs)) views ∙ ap (holds_all a) (append-nil (map rule_formula rules)));
-    };
+  pub begun : (s : Search) → AreMeantBy names (map rule_formula rules) s.known → s.smaller.items ≡ [] → s.views.items ≡ [] → s.models.items ≡ [] → IsSearch names rules beliefs s
+  begun s known smaller views models = record {
+    known = meant_same names (map rule_formula rules) (rest s) s.known
+        (λ a. sym (ap (λ xs. holds_all a (rest_formulas names rules beliefs xs s.views.items)) smaller ∙ ap (λ xs. holds_all a (rest_formulas names rules beliefs [] xs)) views ∙ ap (holds_all a) (append-nil (map rule_formula rules)))) known;
     ascending = subst (IsAscending StateBefore) (sym views) tt;
     models = subst (λ xs. AllZip (IsAcceptedModel names rules beliefs) xs (map model_shown_of s.models.items)) (sym views) (subst (λ xs. AllZip (IsAcceptedModel names rules beliefs) [] (map model_shown_of xs)) (sym models) tt);
     in_range = subst (AllByRecursion (IsInRange names)) (sym smaller) tt;
@@ -242,9 +190,9 @@ module _ (names : List Name) (rules : List ProgramRule) (beliefs : List Formula)
       ∙ ap (λ xs. holds_all a (rest_formulas names rules beliefs (old.smaller.items ++ less ∷ []) xs)) e.views
       ∙ smaller_more a names rules beliefs old.smaller.items old.views.items less
 
-  pub excluded_search : (old new : Search) (less : ℕ) → AreOverRules names rules → IsInRange names less → IsExcluded names rules less old new → IsSearch names rules beliefs old → IsSearch names rules beliefs new
-  excluded_search old new less over range e was = record {
-    known = known_more old new (beside_formula names rules less) e.known (beside-over names rules less over) (excluded_narrows old new less e) was.known;
+  pub excluded_search : (old new : Search) (less : ℕ) → IsInRange names less → IsExcluded names rules less old new → IsSearch names rules beliefs old → IsSearch names rules beliefs new
+  excluded_search old new less range e was = record {
+    known = known_more old new (beside_formula names rules less) e.known (excluded_narrows old new less e) was.known;
     ascending = subst (IsAscending StateBefore) (sym e.views) was.ascending;
     models = subst (λ xs. AllZip (IsAcceptedModel names rules beliefs) xs (map model_shown_of new.models.items)) (sym e.views) (subst (λ ms. AllZip (IsAcceptedModel names rules beliefs) old.views.items (map model_shown_of ms)) (sym e.models) was.models);
     in_range = subst (AllByRecursion (IsInRange names)) (sym e.smaller) (all_push (IsInRange names) old.smaller.items less was.in_range range);
@@ -343,7 +291,7 @@ module _ (names : List Name) (rules : List ProgramRule) (beliefs : List Formula)
 
     pub listed_search : IsAcceptedTrace (clause_list names (smaller_formulas names rules model)).clauses minimal → IsSearch names rules beliefs old → IsSearch names rules beliefs new
     listed_search refutes was = record {
-      known = known_more names rules beliefs old new (other_formula beliefs listed.placed.view) (listed.known ∙ listed.placed.known) (other-over names beliefs listed.placed.view (atoms_are_over names beliefs atoms)) listed_narrows was.known;
+      known = known_more names rules beliefs old new (other_formula beliefs listed.placed.view) (λ fs m. subst (AreMeantBy names (fs ++ other_formula beliefs listed.placed.view ∷ [])) (sym listed.known) (listed.placed.known fs m)) listed_narrows was.known;
       ascending = subst (IsAscending StateBefore) (sym views_are) (ascending_insert old.views.items listed.place listed.placed.view was.ascending new_view listed.placed.before listed.placed.after);
       models = subst (λ xs. AllZip (IsAcceptedModel names rules beliefs) xs (map model_shown_of new.models.items)) (sym views_are)
           (subst (AllZip (IsAcceptedModel names rules beliefs) (insert old.views.items listed.place listed.placed.view)) (sym listed.models)

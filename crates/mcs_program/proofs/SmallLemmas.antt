@@ -1,8 +1,6 @@
 -- How a model of what is known is made small.
 use Rattle.std.proofs.Common.{◌≡◌, ℕ, ◌<◌, ◌^◌, Bool, true, false, not, ◌&&◌, ◌||◌, cond, List, [], ◌∷◌, ◌⊎◌, inl, inr, map, filter, length, refl, sym, ap, ◌∙◌, subst}
 use Rattle.std.proofs.lemmas.Bool.{false_from_ne_true, cases_eq, eq-eqb, eqb-true}
-use Rattle.std.proofs.lemmas.List.Folds.{list_all-map}
-use Rattle.std.proofs.Math.Bool.{and-true}
 use Rattle.std.specs.Prelude.{nat_eq}
 use Rattle.std.specs.List.{AllByRecursion, list_all}
 use Rattle.mcs_sets.specs.Sets.{has, single, minus}
@@ -12,20 +10,14 @@ use Rattle.mcs_system.specs.Plain.{Name, Formula, Atom, ProgramRule}
 use Rattle.mcs_system.specs.Logic.{holds, holds_all, is_in, true_names, Atoms}
 use Rattle.mcs_system.specs.Views.{Shows}
 use Rattle.mcs_system.proofs.NameLemmas.{is_in-among}
-use Rattle.mcs_system.specs.Seen.{rule_of}
-use Rattle.mcs_system.specs.declared.knowledge.ProgRule.{ProgRule}
-use Rattle.mcs_evidence.specs.Programs.{rule_formula, beside_formula, other_formula, rest_formulas, is_broken_by, false_names, AreAtomsOf}
+use Rattle.mcs_evidence.specs.Programs.{other_formula, is_broken_by, AreAtomsOf}
 use Rattle.mcs_evidence.specs.Pushing.{AreNamesOf}
-use Rattle.mcs_evidence.proofs.Models.{all_in, any_in, beside-holds, own_state, other_state}
+use Rattle.mcs_evidence.proofs.Models.{any_in, own_state, other_state}
 use Rattle.mcs_program.specs.Searches.{IsModelOf}
-use Rattle.mcs_program.proofs.SearchLemmas.{rest_value, atoms_of_names}
-
--- ---- rules
-pub rules_value : (a : List Name) (rules : List ProgRule) → list_all (λ r. holds a (rule_formula (rule_of r))) rules ≡ holds_all a (map rule_formula (map rule_of rules))
-rules_value a rules = sym (list_all-map (holds a) rule_formula (map rule_of rules) ∙ list_all-map (λ r. holds a (rule_formula r)) rule_of rules)
+use Rattle.mcs_program.proofs.SearchLemmas.{atoms_of_names}
 
 -- ---- smaller sets
-blocked_value : (a x : List Name) (rules : List ProgramRule) → list_all (λ (r : ProgramRule). any_in a r.neg) (filter (is_broken_by x) rules) ≡ list_all (λ (r : ProgramRule). not (is_broken_by x r) || any_in a r.neg) rules
+pub blocked_value : (a x : List Name) (rules : List ProgramRule) → list_all (λ (r : ProgramRule). any_in a r.neg) (filter (is_broken_by x) rules) ≡ list_all (λ (r : ProgramRule). not (is_broken_by x r) || any_in a r.neg) rules
 blocked_value a x [] = refl
 blocked_value a x (r ∷ rules) = at (is_broken_by x r) (blocked_value a x rules)
   where
@@ -33,15 +25,6 @@ blocked_value a x (r ∷ rules) = at (is_broken_by x r) (blocked_value a x rules
         → list_all (λ (r : ProgramRule). any_in a r.neg) (cond v (r ∷ filter (is_broken_by x) rules) (filter (is_broken_by x) rules)) ≡ ((not v || any_in a r.neg) && list_all (λ (r : ProgramRule). not (is_broken_by x r) || any_in a r.neg) rules)
     at true e = ap (λ b. any_in a r.neg && b) e
     at false e = e
-
-pub beside_value : (a names : List Name) (rules : List ProgRule) (less : ℕ) (x out : List Name) → x ≡ true_names 0 names less → out ≡ false_names 0 names less
-    → not (all_in a x && (any_in a out && list_all (λ (r : ProgRule). not (is_broken_by x (rule_of r)) || any_in a (rule_of r).neg) rules)) ≡ holds a (beside_formula names (map rule_of rules) less)
-beside_value a names rules less x out is_x is_out =
-    ap (λ (x : List Name). not (all_in a x && (any_in a out && list_all (λ (r : ProgRule). not (is_broken_by x (rule_of r)) || any_in a (rule_of r).neg) rules))) is_x
-    ∙ ap (λ (out : List Name). not (all_in a (true_names 0 names less) && (any_in a out && list_all (λ (r : ProgRule). not (is_broken_by (true_names 0 names less) (rule_of r)) || any_in a (rule_of r).neg) rules))) is_out
-    ∙ ap (λ b. not (all_in a (true_names 0 names less) && (any_in a (false_names 0 names less) && b)))
-    (sym (list_all-map (λ (r : ProgramRule). not (is_broken_by (true_names 0 names less) r) || any_in a r.neg) rule_of rules) ∙ sym (blocked_value a (true_names 0 names less) (map rule_of rules)))
-    ∙ sym (beside-holds a names (map rule_of rules) less)
 
 -- ---- views
 -- each of the views has beliefs alone
@@ -62,27 +45,6 @@ others_value a ns own (v ∷ views) shows low = ap (λ b. b && list_all (λ v. n
     here : (v ≡ own) ⊎ ¬ (v ≡ own) → not (nat_eq v own) ≡ holds a (other_formula (map Atom ns) v)
     here (inl same) = ap not (eq-eqb v own same) ∙ sym (ap (λ s. holds a (other_formula (map Atom ns) s)) same ∙ own_state ns a (map Atom ns) own atoms shows)
     here (inr differ) = ap not (false_from_ne_true (nat_eq v own) (λ h. differ (eqb-true v own h))) ∙ sym (other_state ns a (map Atom ns) own v atoms shows low.0 (λ e. differ (sym e)))
-
--- ---- all that is known
-pub rules_fail : (a names : List Name) (rules : List ProgramRule) (beliefs : List Formula) (smaller views : List ℕ) → holds_all a (map rule_formula rules) ≡ false → false ≡ holds_all a (rest_formulas names rules beliefs smaller views)
-rules_fail a names rules beliefs smaller views e =
-    sym (rest_value a names rules beliefs smaller views ∙ ap (λ b. b && (holds_all a (map (beside_formula names rules) smaller) && holds_all a (map (other_formula beliefs) views))) e)
-
-pub others_fail : (a names : List Name) (rules : List ProgramRule) (beliefs : List Formula) (smaller views : List ℕ) → holds_all a (map (other_formula beliefs) views) ≡ false → false ≡ holds_all a (rest_formulas names rules beliefs smaller views)
-others_fail a names rules beliefs smaller views e =
-    sym (rest_value a names rules beliefs smaller views ∙ ap (λ b. holds_all a (map rule_formula rules) && (holds_all a (map (beside_formula names rules) smaller) && b)) e
-    ∙ none (holds_all a (map rule_formula rules)) (holds_all a (map (beside_formula names rules) smaller)))
-  where
-    none : (r b : Bool) → (r && (b && false)) ≡ false
-    none true true = refl
-    none true false = refl
-    none false b = refl
-
-pub besides_decide : (a names : List Name) (rules : List ProgramRule) (beliefs : List Formula) (smaller views : List ℕ) → holds_all a (map rule_formula rules) ≡ true → holds_all a (map (other_formula beliefs) views) ≡ true
-    → holds_all a (map (beside_formula names rules) smaller) ≡ holds_all a (rest_formulas names rules beliefs smaller views)
-besides_decide a names rules beliefs smaller views e e' =
-    sym (rest_value a names rules beliefs smaller views ∙ ap (λ b. b && (holds_all a (map (beside_formula names rules) smaller) && holds_all a (map (other_formula beliefs) views))) e
-    ∙ ap (λ b. holds_all a (map (beside_formula names rules) smaller) && b) e' ∙ and-true (holds_all a (map (beside_formula names rules) smaller)))
 
 -- ---- what is left of a model
 pub without_place : (names : List Name) (fs : List Formula) (model k less : ℕ) → less ≡ minus model (single k) → IsModelOf names fs model → holds_all (true_names 0 names less) fs ≡ true → IsModelOf names fs less

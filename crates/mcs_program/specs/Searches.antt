@@ -1,5 +1,5 @@
 -- The search for the answer sets of a program: what it knows, what it has found, and what is left.
-use Rattle.std.specs.Prelude.{◌≡◌, ℕ, ◌+◌, ◌<◌, ◌≤◌, ◌^◌, zero, suc, cond, Bool, IsTrue, List, [], ◌∷◌, ◌++◌, length, map, take, get_or, insert}
+use Rattle.std.specs.Prelude.{◌≡◌, ℕ, ◌+◌, ◌<◌, ◌≤◌, ◌^◌, zero, suc, cond, Bool, IsTrue, List, [], ◌∷◌, ◌++◌, length, map, take, get_or, insert, Option, Some, None}
 use Rattle.std.specs.List.{AllByRecursion, AllZip}
 use Rattle.mcs_sets.specs.Orders.{StateBefore}
 use Rattle.mcs_base.specs.Listings.{IsAscending}
@@ -7,8 +7,8 @@ use Rattle.mcs_system.specs.Plain.{Name, Formula, ProgramRule}
 use Rattle.mcs_system.specs.Logic.{holds_all, true_names, Atoms}
 use Rattle.mcs_system.specs.Views.{Shows}
 use Rattle.mcs_trace.specs.Traces.{Inference, inferences_of}
-use Rattle.mcs_cnf.specs.ClauseLists.{with_formulas, clause_list, AreOver}
 use Rattle.mcs_evidence.specs.Programs.{model_shown_of, rest_formulas, beside_formula, other_formula, IsInRange, IsRefutation, IsAcceptedModel}
+use Rattle.mcs_program.specs.Clauses.{AreMeantBy, AddsFormula}
 use Rattle.mcs_program.specs.declared.answer.Answer.{Answer}
 use Rattle.mcs_program.specs.declared.answer.Answer.TheVariants.{Model, Refuted}
 use Rattle.mcs_program.specs.declared.search.Search.{Search}
@@ -24,12 +24,14 @@ abbrev pub IsAnswerOf : List Name → List Formula → Answer → Type 0
 IsAnswerOf names fs (Model places) = IsModelOf names fs places
 IsAnswerOf names fs (Refuted trace) = IsRefutation names fs (inferences_of trace)
 
--- the clauses are those of formulas that hold where those of the rest do
-pub record IsKnown (names : List Name) (rules : List ProgramRule) (beliefs : List Formula) (s : Search) : Type 0 where
-  pub formulas : List Formula
-  pub is : s.known ≡ clause_list names formulas
-  pub over : AreOver names formulas
-  pub same : (a : List Name) → holds_all a formulas ≡ holds_all a (rest_formulas names rules beliefs s.smaller.items s.views.items)
+-- what is found for formulas: a model, or that they have none
+abbrev pub IsFoundFor : List Name → List Formula → Option ℕ → Type 0
+IsFoundFor names fs None = (a : List Name) → ¬ IsTrue (holds_all a fs)
+IsFoundFor names fs (Some places) = IsModelOf names fs places
+
+-- the clauses mean the formulas of the program, of the smaller sets, and that the view is none of those found
+abbrev pub IsKnown : List Name → List ProgramRule → List Formula → Search → Type 0
+IsKnown names rules beliefs s = AreMeantBy names (rest_formulas names rules beliefs s.smaller.items s.views.items) s.known
 
 -- the views that were found have their models
 pub record IsSearch (names : List Name) (rules : List ProgramRule) (beliefs : List Formula) (s : Search) : Type 0 where
@@ -40,7 +42,7 @@ pub record IsSearch (names : List Name) (rules : List ProgramRule) (beliefs : Li
 
 -- one smaller set more, and its formula
 pub record IsExcluded (names : List Name) (rules : List ProgramRule) (less : ℕ) (old new : Search) : Type 0 where
-  pub known : new.known ≡ with_formulas names old.known (beside_formula names rules less ∷ [])
+  pub known : AddsFormula names (beside_formula names rules less) old.known new.known
   pub smaller : new.smaller.items ≡ old.smaller.items ++ less ∷ []
   pub views : new.views.items ≡ old.views.items
   pub models : new.models.items ≡ old.models.items
@@ -52,7 +54,7 @@ pub record IsPlaced (names : List Name) (beliefs : List Formula) (model place : 
   pub within : place ≤ length old.views.items
   pub before : AllByRecursion (λ v. StateBefore v view) (take place old.views.items)
   pub after : place < length old.views.items → ¬ StateBefore (get_or old.views.items place 0) view
-  pub known : new.known ≡ with_formulas names old.known (other_formula beliefs view ∷ [])
+  pub known : AddsFormula names (other_formula beliefs view) old.known new.known
   pub views : new.views.items ≡ insert old.views.items place view
   pub smaller : new.smaller.items ≡ old.smaller.items
   pub models : new.models.items ≡ old.models.items

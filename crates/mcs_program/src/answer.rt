@@ -1,10 +1,11 @@
-//! What is answered of formulas by their clauses.
+//! What is answered of formulas by clauses.
 
 ghost use Rattle.std.specs.Prelude.{◌≡◌, ◌≤◌, List, false, length, IfOk};
 ghost use Rattle.mcs_system.specs.Faults.{has_twins};
 ghost use Rattle.mcs_system.specs.Plain as plain;
 ghost use Rattle.mcs_cnf.specs.ClauseLists.{clause_list, AreOver};
-ghost use Rattle.mcs_program.specs.Searches.{IsAnswerOf};
+ghost use Rattle.mcs_program.specs.Clauses.{AreMeantBy};
+ghost use Rattle.mcs_program.specs.Searches.{IsAnswerOf, IsFoundFor};
 
 use mcs_base::{Memory, Vars};
 use mcs_classical::true_places;
@@ -31,5 +32,21 @@ pub(crate) fn ask(alloc: Global, cnf: &Cnf, atoms: &[Name]) -> Result<Answer, Me
     Ok(match solve(alloc, cnf)? {
         Outcome::Refuted(trace) => Answer::Refuted(trace),
         Outcome::Model(values) => Answer::Model(true_places(&values, atoms.len())),
+    })
+}
+
+/// The places of the atoms that are true under an assignment that satisfies all clauses; `None` where there is none.
+pub(crate) fn find_model(alloc: Global, cnf: &Cnf, atoms: &[Name]) -> Result<Option<Vars>, Memory>
+    requires few { length atoms.now ≤ 64 }
+    requires different { has_twins atoms.now ≡ false }
+    requires room { length atoms.now ≤ cnf.now.vars }
+    ensures { IfOk result (λ found. (fs : List plain.Formula) → AreMeantBy atoms.now fs cnf.now → IsFoundFor atoms.now fs found) }
+{
+    Ok(match solve(alloc, cnf)? {
+        Outcome::Refuted(trace) => {
+            drop(trace);
+            None
+        }
+        Outcome::Model(values) => Some(true_places(&values, atoms.len())),
     })
 }

@@ -2,8 +2,10 @@
 #![tactic(auto)]
 
 mod answer;
+mod atom_clauses;
 mod facts;
 mod outputs;
+mod placing;
 mod search;
 mod small;
 mod view;

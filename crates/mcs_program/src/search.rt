@@ -1,19 +1,25 @@
 //! The search for answer sets.
 
 ghost use Rattle.std.specs.Prelude.{◌≡◌, ◌<◌, ◌≤◌, List, false, length, map, IfOk, IsTrue};
+ghost use Rattle.std.specs.List.{AllByRecursion, AllZip};
+ghost use Rattle.mcs_sets.specs.Orders.{StateBefore};
+ghost use Rattle.mcs_base.specs.Listings.{IsAscending};
 ghost use Rattle.mcs_system.specs.Faults.{has_twins};
 ghost use Rattle.mcs_system.specs.Plain as plain;
 ghost use Rattle.mcs_system.specs.Seen.{rule_of};
 ghost use Rattle.mcs_trace.specs.Traces.{inferences_of};
 ghost use Rattle.mcs_evidence.specs.Programs.{rest_formulas, smaller_formulas, AreOverRules, IsRefutation};
 ghost use Rattle.mcs_evidence.specs.Pushing.{AreNamesOf};
-ghost use Rattle.mcs_program.specs.Searches.{IsModelOf, IsSearch, IsExcluded, IsPlaced, IsListed, IsExhausted, sets_left};
+ghost use Rattle.mcs_program.specs.Searches.{IsModelOf, IsFoundFor, IsSearch, IsExcluded, IsPlaced, IsListed, IsExhausted, sets_left};
+ghost use Rattle.mcs_program.specs.Placing.{IsPlaceOf, IsPlacing};
 
-use crate::answer::{Answer, ask};
-use crate::small::made_small;
-use crate::view::{place_of, view_of};
+use crate::answer::{Answer, ask, find_model};
+use crate::atom_clauses::{clauses_of_rules, push_other};
+use crate::placing::Placing;
+use crate::small::{is_possible, made_small};
+use crate::view::{all_places, place_of, view_of};
 use mcs_base::{Memory, Vars};
-use mcs_evidence::{push_beside, push_other, push_rules, smaller_clauses};
+use mcs_evidence::{push_beside, smaller_clauses};
 use mcs_system::{Name, ProgRule};
 use mcs_trace::{AnswerSetCert, Cnf, Trace};
 use std::alloc::Global;
@@ -35,8 +41,7 @@ impl Search {
         requires rules { AreOverRules atoms.now (map rule_of rules.now) }
         ensures { IfOk result (λ s. (beliefs : List plain.Formula) → IsSearch atoms.now (map rule_of rules.now) beliefs s) }
     {
-        let mut known = Cnf::new(alloc, atoms.len() as u64);
-        push_rules(alloc, &mut known, atoms, rules)?;
+        let known = clauses_of_rules(alloc, atoms, rules)?;
         Ok(Search {
             known,
             smaller: Vec::new(alloc),
@@ -58,6 +63,8 @@ impl Search {
         requires room { length atoms.now ≤ self.old.known.vars }
         ensures { IfOk result (λ _. IsExcluded atoms.now (map rule_of rules.now) less self.old self.new) }
     {
+        // That the clauses are over the variables that there are, which the list keeps, is told by their number.
+        let _ = self.known.vars();
         push_beside(alloc, &mut self.known, atoms, rules, less)?;
         self.smaller.push(less)?;
         Ok(())
@@ -69,15 +76,18 @@ impl Search {
         alloc: Global,
         atoms: &[Name],
         beliefs: &[&Name],
+        placing: &Placing,
         model: Vars,
     ) -> Result<usize, Memory>
         requires few { length atoms.now ≤ 64 }
         requires few_beliefs { length beliefs.now ≤ 64 }
         requires beliefs { AreNamesOf atoms.now (map (λ b. b.now) beliefs.now) }
+        requires placed { AllZip (IsPlaceOf atoms.now) (map (λ b. b.now) beliefs.now) placing.now.beliefs.items }
         requires room { length atoms.now ≤ self.old.known.vars }
+        requires ascending { IsAscending StateBefore self.old.views.items }
         ensures { IfOk result (λ place. IsPlaced atoms.now (map plain.Atom (map (λ b. b.now) beliefs.now)) model place self.old self.new) }
     {
-        let view = view_of(alloc, atoms, beliefs, model)?;
+        let view = view_of(&placing.beliefs, model);
         push_other(alloc, &mut self.known, atoms, beliefs, view)?;
         let place = place_of(&self.views, view);
         self.views.insert(place, view)?;
@@ -90,17 +100,20 @@ impl Search {
         alloc: Global,
         atoms: &[Name],
         beliefs: &[&Name],
+        placing: &Placing,
         model: Vars,
         minimal: Trace,
     ) -> Result<(), Memory>
         requires few { length atoms.now ≤ 64 }
         requires few_beliefs { length beliefs.now ≤ 64 }
         requires beliefs { AreNamesOf atoms.now (map (λ b. b.now) beliefs.now) }
+        requires placed { AllZip (IsPlaceOf atoms.now) (map (λ b. b.now) beliefs.now) placing.now.beliefs.items }
         requires room { length atoms.now ≤ self.old.known.vars }
+        requires ascending { IsAscending StateBefore self.old.views.items }
         requires one_each { length self.old.models.items ≡ length self.old.views.items }
         ensures { IfOk result (λ _. IsListed atoms.now (map plain.Atom (map (λ b. b.now) beliefs.now)) model (inferences_of minimal) self.old self.new) }
     {
-        match self.put_view(alloc, atoms, beliefs, model) {
+        match self.put_view(alloc, atoms, beliefs, placing, model) {
             Ok(place) => {
                 let shown = AnswerSetCert {
                     model: model.number(),
@@ -123,6 +136,7 @@ impl Search {
         atoms: &[Name],
         rules: &[ProgRule],
         beliefs: &[&Name],
+        placing: &Placing,
         model: Vars,
     ) -> Result<(), Memory>
         requires few { length atoms.now ≤ 64 }
@@ -130,6 +144,7 @@ impl Search {
         requires different { has_twins atoms.now ≡ false }
         requires rules { AreOverRules atoms.now (map rule_of rules.now) }
         requires beliefs { AreNamesOf atoms.now (map (λ b. b.now) beliefs.now) }
+        requires placed { IsPlacing atoms.now (map rule_of rules.now) (map (λ b. b.now) beliefs.now) placing.now }
         requires search { IsSearch atoms.now (map rule_of rules.now) (map plain.Atom (map (λ b. b.now) beliefs.now)) self.old }
         requires model { IsModelOf atoms.now
             (rest_formulas atoms.now (map rule_of rules.now) (map plain.Atom (map (λ b. b.now) beliefs.now)) self.old.smaller.items self.old.views.items) model }
@@ -142,8 +157,32 @@ impl Search {
         drop(smaller);
         match found? {
             Answer::Model(less) => self.exclude(alloc, atoms, rules, less),
-            Answer::Refuted(minimal) => self.list(alloc, atoms, beliefs, model, minimal),
+            Answer::Refuted(minimal) => self.list(alloc, atoms, beliefs, placing, model, minimal),
         }
+    }
+
+    /// A model of what is known; `None` where there is none. Where all atoms together are one, none is searched for, as
+    /// in a program without constraints until a view with all beliefs is found.
+    fn next_model(
+        &self,
+        alloc: Global,
+        atoms: &[Name],
+        placing: &Placing,
+    ) -> Result<Option<Vars>, Memory>
+        requires few { length atoms.now ≤ 64 }
+        requires few_beliefs { length placing.now.beliefs.items ≤ 64 }
+        requires places { AllByRecursion (λ k. k < 64) placing.now.beliefs.items }
+        requires different { has_twins atoms.now ≡ false }
+        requires room { length atoms.now ≤ self.now.known.vars }
+        requires ascending { IsAscending StateBefore self.now.views.items }
+        ensures { IfOk result (λ found. (rules : List plain.ProgramRule) (ns : List plain.Name) → IsPlacing atoms.now rules ns placing.now → IsSearch atoms.now rules (map plain.Atom ns) self.now
+            → IsFoundFor atoms.now (rest_formulas atoms.now rules (map plain.Atom ns) self.now.smaller.items self.now.views.items) found) }
+    {
+        let all = all_places(atoms.len());
+        if is_possible(placing, self, all) {
+            return Ok(Some(all));
+        }
+        find_model(alloc, &self.known, atoms)
     }
 
     /// Looks for one more model of what is known, makes it small and takes it up; whether there was one.
@@ -153,27 +192,56 @@ impl Search {
         atoms: &[Name],
         rules: &[ProgRule],
         beliefs: &[&Name],
+        placing: &Placing,
     ) -> Result<bool, Memory>
         requires few { length atoms.now ≤ 64 }
         requires few_beliefs { length beliefs.now ≤ 64 }
         requires different { has_twins atoms.now ≡ false }
         requires rules { AreOverRules atoms.now (map rule_of rules.now) }
         requires beliefs { AreNamesOf atoms.now (map (λ b. b.now) beliefs.now) }
+        requires placed { IsPlacing atoms.now (map rule_of rules.now) (map (λ b. b.now) beliefs.now) placing.now }
         requires search { IsSearch atoms.now (map rule_of rules.now) (map plain.Atom (map (λ b. b.now) beliefs.now)) self.old }
         ensures search { IfOk result (λ _. IsSearch atoms.now (map rule_of rules.now) (map plain.Atom (map (λ b. b.now) beliefs.now)) self.new) }
         ensures goes { IfOk result (λ goes. IsTrue goes → sets_left atoms.now (map rule_of rules.now) (map plain.Atom (map (λ b. b.now) beliefs.now)) self.new
             < sets_left atoms.now (map rule_of rules.now) (map plain.Atom (map (λ b. b.now) beliefs.now)) self.old) }
         ensures ends { IfOk result (λ goes. goes ≡ false → IsExhausted atoms.now (map rule_of rules.now) (map plain.Atom (map (λ b. b.now) beliefs.now)) self.new) }
     {
-        match ask(alloc, &self.known, atoms)? {
-            Answer::Model(model) => {
-                let small = made_small(alloc, atoms, rules, beliefs, self, model)?;
-                self.take_up(alloc, atoms, rules, beliefs, small)?;
+        match self.next_model(alloc, atoms, placing)? {
+            Some(model) => {
+                let small = made_small(placing, self, model);
+                self.take_up(alloc, atoms, rules, beliefs, placing, small)?;
                 Ok(true)
             }
-            Answer::Refuted(trace) => {
-                drop(trace);
-                Ok(false)
+            None => Ok(false),
+        }
+    }
+}
+
+/// Takes steps until all answer sets are found.
+fn go_on(
+    alloc: Global,
+    atoms: &[Name],
+    rules: &[ProgRule],
+    beliefs: &[&Name],
+    placing: &Placing,
+) -> Result<Search, Memory>
+    requires few { length atoms.now ≤ 64 }
+    requires few_beliefs { length beliefs.now ≤ 64 }
+    requires different { has_twins atoms.now ≡ false }
+    requires rules { AreOverRules atoms.now (map rule_of rules.now) }
+    requires beliefs { AreNamesOf atoms.now (map (λ b. b.now) beliefs.now) }
+    requires placed { IsPlacing atoms.now (map rule_of rules.now) (map (λ b. b.now) beliefs.now) placing.now }
+    ensures search { IfOk result (IsSearch atoms.now (map rule_of rules.now) (map plain.Atom (map (λ b. b.now) beliefs.now))) }
+    ensures all { IfOk result (IsExhausted atoms.now (map rule_of rules.now) (map plain.Atom (map (λ b. b.now) beliefs.now))) }
+{
+    let mut search = Search::new(alloc, atoms, rules)?;
+    loop {
+        match search.step(alloc, atoms, rules, beliefs, placing) {
+            Ok(true) => {}
+            Ok(false) => return Ok(search),
+            Err(want) => {
+                drop(search);
+                return Err(want);
             }
         }
     }
@@ -194,15 +262,8 @@ pub(crate) fn find_all(
     ensures search { IfOk result (IsSearch atoms.now (map rule_of rules.now) (map plain.Atom (map (λ b. b.now) beliefs.now))) }
     ensures all { IfOk result (IsExhausted atoms.now (map rule_of rules.now) (map plain.Atom (map (λ b. b.now) beliefs.now))) }
 {
-    let mut search = Search::new(alloc, atoms, rules)?;
-    loop {
-        match search.step(alloc, atoms, rules, beliefs) {
-            Ok(true) => {}
-            Ok(false) => return Ok(search),
-            Err(want) => {
-                drop(search);
-                return Err(want);
-            }
-        }
-    }
+    let placing = Placing::of(alloc, atoms, rules, beliefs)?;
+    let found = go_on(alloc, atoms, rules, beliefs, &placing);
+    drop(placing);
+    found
 }

@@ -1,55 +1,56 @@
-//! Views of models, and their places among others.
+//! Sets of places, views of models, and their places among others.
 
-ghost use Rattle.std.specs.Prelude.{◌≡◌, ◌<◌, ◌≤◌, ◌↔◌, length, map, get_or, take, IfOk, IsTrue};
+ghost use Rattle.std.specs.Prelude.{◌≡◌, ◌<◌, ◌≤◌, true, length, get_or, take};
 ghost use Rattle.std.specs.List.{AllByRecursion};
+ghost use Rattle.mcs_sets.specs.Sets.{such_that};
 ghost use Rattle.mcs_sets.specs.Orders.{StateBefore};
-ghost use Rattle.mcs_system.specs.Plain as plain;
-ghost use Rattle.mcs_system.specs.Logic.{true_names, Atoms};
-ghost use Rattle.mcs_system.specs.Views.{Shows};
+ghost use Rattle.mcs_base.specs.Listings.{IsAscending};
+ghost use Rattle.mcs_program.specs.Placing.{view_at, is_other};
 
-use mcs_base::{Memory, Vars, state_before};
-use mcs_evidence::{is_among, names_at};
-use mcs_system::Name;
-use std::alloc::Global;
+use mcs_base::Vars;
 
-/// The places of the beliefs that are among the names.
-pub(crate) fn places_of(beliefs: &[&Name], names: &[Name]) -> Vars
-    requires { length beliefs.now ≤ 64 }
-    ensures { Shows (Atoms names.now) (map plain.Atom (map (λ b. b.now) beliefs.now)) result }
+/// The first places, so many.
+pub(crate) fn all_places(count: usize) -> Vars
+    requires { count ≤ 64 }
+    ensures { result ≡ such_that count (λ _. true) }
 {
     let mut places = Vars::empty();
-    for (k, belief) in beliefs.iter().enumerate() {
-        if is_among(belief, names) {
-            places = places.with(k as u32);
-        }
+    for place in 0..count {
+        places = places.with(place as u32);
     }
     places
 }
 
-/// The places of the beliefs that are true where exactly the atoms at the model's places are.
-pub(crate) fn view_of(
-    alloc: Global,
-    atoms: &[Name],
-    beliefs: &[&Name],
-    model: Vars,
-) -> Result<Vars, Memory>
-    requires few { length atoms.now ≤ 64 }
-    requires few_beliefs { length beliefs.now ≤ 64 }
-    ensures { IfOk result (Shows (Atoms (true_names 0 atoms.now model)) (map plain.Atom (map (λ b. b.now) beliefs.now))) }
+/// The numbers of the beliefs that are true where exactly the atoms at the model's places are.
+pub(crate) fn view_of(beliefs: &[u32], model: Vars) -> Vars
+    requires few { length beliefs.now ≤ 64 }
+    requires places { AllByRecursion (λ k. k < 64) beliefs.now }
+    ensures { result ≡ view_at beliefs.now model }
 {
-    let names = names_at(alloc, atoms, model)?;
-    Ok(places_of(beliefs, &names))
+    let mut view = Vars::empty();
+    for (k, place) in beliefs.iter().enumerate() {
+        if model.has(*place) {
+            view = view.with(k as u32);
+        }
+    }
+    view
 }
 
-/// How many of the views come before this one, up to the first that does not.
+/// How many of the views come before this one.
 pub(crate) fn place_of(views: &[Vars], view: Vars) -> usize
+    requires { IsAscending StateBefore views.now }
     ensures bound { result ≤ length views.now }
     ensures before { AllByRecursion (λ v. StateBefore v view) (take result views.now) }
     ensures after { result < length views.now → ¬ StateBefore (get_or views.now result 0) view }
 {
-    let mut place = 0;
-    while place < views.len() && state_before(views[place], view) {
-        place += 1;
-    }
-    place
+    views.partition_point(|other| *other < view)
+}
+
+/// Whether the view is none of these.
+pub(crate) fn is_new(views: &[Vars], view: Vars) -> bool
+    requires { IsAscending StateBefore views.now }
+    ensures { result ≡ is_other views.now view }
+{
+    let place = place_of(views, view);
+    place == views.len() || views[place] != view
 }

@@ -4,7 +4,7 @@ use Rattle.mcs_trace.specs.Traces.{IsAcceptedTrace, inferences_of}
 use Rattle.mcs_sat.specs.declared.outcome.Outcome.{Outcome}
 use Rattle.mcs_sat.specs.Answers.{IsAnswer}
 use Rattle.mcs_program.specs.Searches.{IsAnswerOf}
-use Rattle.mcs_program.proofs.SearchLemmas.{modelled}
+use Rattle.mcs_program.proofs.SearchLemmas.{modelled, modelled_clauses}
 use Rattle.mcs_program.proofs.answer.ask.Goals.{in-Refuted, in-Model}
 use Rattle.mcs_program.proofs.answer.ask.Goals as goal
 
@@ -16,5 +16,5 @@ returns c = λ fs is over. elim c.match-branch-2.branch [
   | in-Model w ↦
       let answer : IsAnswer c.args.cnf.now (Outcome.Model w.in-Model.values) = subst (IsAnswer c.args.cnf.now) w.in-Model.is c.in_ok-trace.ensures.answer in
       subst (IsAnswerOf c.args.atoms.now fs) (sym w.result-is)
-      (modelled c.args.atoms.now fs c.args.cnf.now w.in-Model.values.items w.deref.result.now w.true_places.result c.requires.different over is answer.1 w.deref.ensures.value w.true_places.ensures)
+      (modelled c.args.atoms.now fs w.in-Model.values.items w.deref.result.now w.true_places.result c.requires.different (modelled_clauses c.args.atoms.now fs c.args.cnf.now w.in-Model.values.items over is answer.1) w.deref.ensures.value w.true_places.ensures)
 ]

@@ -2,15 +2,20 @@ use Rattle.std.proofs.Common.{◌∙◌, sym, ap, map}
 use Rattle.mcs_sets.specs.Sets.{has, single}
 use Rattle.mcs_sets.proofs.Lattice.{in_minus}
 use Rattle.mcs_system.specs.Plain.{Atom}
-use Rattle.mcs_system.specs.Seen.{rule_of}
 use Rattle.mcs_evidence.specs.Programs.{rest_formulas}
+use Rattle.mcs_program.proofs.SearchLemmas.{views_low}
 use Rattle.mcs_program.proofs.SmallLemmas.{without_place}
+use Rattle.mcs_program.proofs.PlaceLemmas.{possible_value}
 use Rattle.mcs_program.proofs.small.without_atom.Goals as goal
 
-pub returns-then-branch-clause-model : goal.returns-then-branch-clause-model
-returns-then-branch-clause-model c =
-    let known = rest_formulas c.args.atoms.now (map rule_of c.args.rules.now) (map Atom (map (λ b. b.now) c.args.beliefs.now)) c.args.search.now.smaller.items c.args.search.now.views.items in
-    without_place c.args.atoms.now known c.args.model c.args.place c.without-less.result c.without-less.ensures c.requires.model (sym c.in_ok-is_possible.ensures ∙ c.if-branch.true)
+pub returns-then-is_possible-clause-stays : goal.returns-then-is_possible-clause-stays
+returns-then-is_possible-clause-stays c = λ names rules ns single_names placed search is.
+    let s = c.args.search.now in
+    let less = c.without-less.result in
+    without_place names (rest_formulas names rules (map Atom ns) s.smaller.items s.views.items) c.args.model c.args.place less c.without-less.ensures is
+    (sym (possible_value names rules ns c.args.placing.now s.smaller.items s.views.items less single_names placed
+    (λ j member. is.in_range j (in_minus c.args.model (single c.args.place) j (ap (λ x. has x j) (sym c.without-less.ensures) ∙ member)).0)
+    search.in_range (views_low names rules (map Atom ns) s search)) ∙ sym c.is_possible.ensures ∙ c.if-is_possible.true)
 
-pub returns-then-branch-clause-within : goal.returns-then-branch-clause-within
-returns-then-branch-clause-within c = λ k member. (in_minus c.args.model (single c.args.place) k (ap (λ s. has s k) (sym c.without-less.ensures) ∙ member)).0
+pub returns-then-is_possible-clause-within : goal.returns-then-is_possible-clause-within
+returns-then-is_possible-clause-within c = λ k member. (in_minus c.args.model (single c.args.place) k (ap (λ s. has s k) (sym c.without-less.ensures) ∙ member)).0

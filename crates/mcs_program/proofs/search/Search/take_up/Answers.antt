@@ -16,10 +16,13 @@ pub ask-found-requires-clause-room : goal.ask-found-requires-clause-room
 ask-found-requires-clause-room c = room_known c.args.atoms.now c.in_ok-smaller.smaller (smaller_formulas c.args.atoms.now (map rule_of c.args.rules.now) c.args.model) c.in_ok-smaller.ensures
 
 pub exclude-requires-clause-room : goal.exclude-requires-clause-room
-exclude-requires-clause-room c = room_known c.args.atoms.now c.args.self.now.known c.requires.search.known.formulas c.requires.search.known.is
+exclude-requires-clause-room c = c.requires.search.known.room
 
 pub list-requires-clause-room : goal.list-requires-clause-room
-list-requires-clause-room c = room_known c.args.atoms.now c.args.self.now.known c.requires.search.known.formulas c.requires.search.known.is
+list-requires-clause-room c = c.requires.search.known.room
+
+pub list-requires-clause-placed : goal.list-requires-clause-placed
+list-requires-clause-placed c = c.requires.placed.placed_beliefs
 
 pub list-requires-clause-one_each : goal.list-requires-clause-one_each
 list-requires-clause-one_each c =
@@ -33,7 +36,7 @@ returns-in-Model-clause-search c =
     let beliefs = map Atom (map (λ b. b.now) c.args.beliefs.now) in
     let fs = smaller_formulas names rules c.args.model in
     let below : IsModelOf names fs c.in-Model.less = subst (IsAnswerOf names fs) c.in-Model.is (c.in_ok-less.ensures fs c.in_ok-smaller.ensures (smaller-over names rules c.args.model c.requires.rules)) in
-    IfOk-weaker c.exclude.result _ _ (λ _ e. excluded_search names rules beliefs c.args.self.now c.exclude.new.self c.in-Model.less c.requires.rules below.in_range e c.requires.search) c.exclude.ensures
+    IfOk-weaker c.exclude.result _ _ (λ _ e. excluded_search names rules beliefs c.args.self.now c.exclude.new.self c.in-Model.less below.in_range e c.requires.search) c.exclude.ensures
 
 pub returns-in-Model-clause-less : goal.returns-in-Model-clause-less
 returns-in-Model-clause-less c =

@@ -2,7 +2,7 @@ use Rattle.std.proofs.Common.{map}
 use Rattle.mcs_system.specs.Plain.{Atom}
 use Rattle.mcs_system.specs.Seen.{rule_of}
 use Rattle.mcs_program.specs.Searches.{IsSearch, sets_left}
-use Rattle.mcs_program.proofs.search.find_all.Given as goal
+use Rattle.mcs_program.proofs.search.go_on.Given as goal
 
 abbrev pub invariant-loop-search : goal.invariant-loop-search
 invariant-loop-search l = IsSearch l.atoms (map rule_of l.rules) (map Atom (map (λ b. b.now) l.beliefs)) l.search

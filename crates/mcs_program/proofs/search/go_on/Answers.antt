@@ -1,4 +1,4 @@
-use Rattle.mcs_program.proofs.search.find_all.Goals as goal
+use Rattle.mcs_program.proofs.search.go_on.Goals as goal
 
 pub returns-in-Ok-false-clause-all : goal.returns-in-Ok-false-clause-all
 returns-in-Ok-false-clause-all c = c.in-Ok-false.ensures.ends c.in-Ok-false.field-0-test

@@ -1,0 +1,11 @@
+use Rattle.std.proofs.Common.{◌≡◌, ◌++◌, drop}
+use Rattle.mcs_program.specs.Clauses.{literals_of}
+use Rattle.mcs_evidence.specs.Pushing.{AreNamesOf}
+use Rattle.mcs_program.proofs.atom_clauses.add_literals.Given as goal
+
+abbrev pub invariant-loop-name : goal.invariant-loop-name
+invariant-loop-name l =
+    record {
+      over : AreNamesOf l.atoms (drop l.name-index l.names);
+      added : l.literals.items ++ literals_of l.atoms l.sign (drop l.name-index l.names) ≡ l.fn.literals.items ++ literals_of l.atoms l.sign l.names;
+    }

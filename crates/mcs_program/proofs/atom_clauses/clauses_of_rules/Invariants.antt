@@ -1,0 +1,8 @@
+use Rattle.std.proofs.Common.{map, take}
+use Rattle.mcs_system.specs.Seen.{rule_of}
+use Rattle.mcs_evidence.specs.Programs.{rule_formula}
+use Rattle.mcs_program.specs.Clauses.{AreMeantBy}
+use Rattle.mcs_program.proofs.atom_clauses.clauses_of_rules.Given as goal
+
+abbrev pub invariant-loop-rule : goal.invariant-loop-rule
+invariant-loop-rule l = AreMeantBy l.atoms (map rule_formula (map rule_of (take l.rule-index l.rules))) l.cnf

@@ -1,0 +1,121 @@
+//! Clauses over the variables of atoms alone: those of rules, and one that a view is another one.
+
+ghost use Rattle.std.specs.Prelude.{◌≡◌, ◌<◌, ◌≤◌, ◌^◌, ◌++◌, length, map, IfOk};
+ghost use Rattle.mcs_system.specs.Plain as plain;
+ghost use Rattle.mcs_system.specs.Seen.{rule_of};
+ghost use Rattle.mcs_evidence.specs.Programs.{rule_formula, other_formula, AreOverRules, IsOverRule};
+ghost use Rattle.mcs_evidence.specs.Pushing.{AreNamesOf};
+ghost use Rattle.mcs_program.specs.Clauses.{literal_of, literals_of, rule_literals, other_literals, AddsFormula, AreMeantBy};
+
+use mcs_base::{Memory, Vars};
+use mcs_cnf::{atom_number, push_clause};
+use mcs_system::{Name, ProgRule};
+use mcs_trace::Cnf;
+use std::alloc::Global;
+
+/// The literal that says that the variable is true, or that it is false.
+fn literal(sign: bool, variable: u64) -> i64
+    requires { variable < 2 ^ 63 }
+    ensures { result ≡ literal_of sign variable }
+{
+    if sign {
+        variable as i64
+    } else {
+        -(variable as i64)
+    }
+}
+
+/// Adds the literals that say of each of the names that it is true, or that it is false.
+fn add_literals(
+    literals: &mut Vec<i64>,
+    atoms: &[Name],
+    sign: bool,
+    names: &[Name],
+) -> Result<(), Memory>
+    requires few { length atoms.now ≤ 64 }
+    requires over { AreNamesOf atoms.now names.now }
+    ensures { IfOk result (λ _. literals.new.items ≡ literals.old.items ++ literals_of atoms.now sign names.now) }
+{
+    for name in names {
+        literals.push(literal(sign, atom_number(atoms, name)))?;
+    }
+    Ok(())
+}
+
+/// The literals of the rule: a positive atom is false, or a negative one or one of the head is true.
+fn rule_literals(alloc: Global, atoms: &[Name], rule: &ProgRule) -> Result<Vec<i64>, Memory>
+    requires few { length atoms.now ≤ 64 }
+    requires over { IsOverRule atoms.now (rule_of rule.now) }
+    ensures { IfOk result (λ literals. literals.items ≡ rule_literals atoms.now (rule_of rule.now)) }
+{
+    let mut literals = Vec::new(alloc);
+    add_literals(&mut literals, atoms, false, &rule.pos)?;
+    add_literals(&mut literals, atoms, true, &rule.neg)?;
+    add_literals(&mut literals, atoms, true, &rule.head)?;
+    Ok(literals)
+}
+
+/// Adds the clause of the rule.
+fn push_rule(alloc: Global, cnf: &mut Cnf, atoms: &[Name], rule: &ProgRule) -> Result<(), Memory>
+    requires few { length atoms.now ≤ 64 }
+    requires over { IsOverRule atoms.now (rule_of rule.now) }
+    requires room { length atoms.now ≤ cnf.old.vars }
+    ensures { IfOk result (λ _. AddsFormula atoms.now (rule_formula (rule_of rule.now)) cnf.old cnf.new) }
+{
+    let literals = rule_literals(alloc, atoms, rule)?;
+    push_clause(alloc, cnf, &literals)
+}
+
+/// The clauses of the rules.
+pub(crate) fn clauses_of_rules(
+    alloc: Global,
+    atoms: &[Name],
+    rules: &[ProgRule],
+) -> Result<Cnf, Memory>
+    requires few { length atoms.now ≤ 64 }
+    requires rules { AreOverRules atoms.now (map rule_of rules.now) }
+    ensures { IfOk result (AreMeantBy atoms.now (map rule_formula (map rule_of rules.now))) }
+{
+    let mut cnf = Cnf::new(alloc, atoms.len() as u64);
+    for rule in rules {
+        push_rule(alloc, &mut cnf, atoms, rule)?;
+    }
+    Ok(cnf)
+}
+
+/// The literals of which one is true where the view of the beliefs is another one.
+fn other_literals(
+    alloc: Global,
+    atoms: &[Name],
+    beliefs: &[&Name],
+    view: Vars,
+) -> Result<Vec<i64>, Memory>
+    requires few { length atoms.now ≤ 64 }
+    requires few_beliefs { length beliefs.now ≤ 64 }
+    requires beliefs { AreNamesOf atoms.now (map (λ b. b.now) beliefs.now) }
+    ensures { IfOk result (λ literals. literals.items ≡ other_literals atoms.now 0 (map (λ b. b.now) beliefs.now) view) }
+{
+    let mut literals = Vec::new(alloc);
+    for (k, belief) in beliefs.iter().enumerate() {
+        literals.push(literal(!view.has(k as u32), atom_number(atoms, belief)))?;
+    }
+    Ok(literals)
+}
+
+/// Adds the clause that the view of the beliefs is another one.
+pub(crate) fn push_other(
+    alloc: Global,
+    cnf: &mut Cnf,
+    atoms: &[Name],
+    beliefs: &[&Name],
+    view: Vars,
+) -> Result<(), Memory>
+    requires few { length atoms.now ≤ 64 }
+    requires few_beliefs { length beliefs.now ≤ 64 }
+    requires beliefs { AreNamesOf atoms.now (map (λ b. b.now) beliefs.now) }
+    requires room { length atoms.now ≤ cnf.old.vars }
+    ensures { IfOk result (λ _. AddsFormula atoms.now (other_formula (map plain.Atom (map (λ b. b.now) beliefs.now)) view) cnf.old cnf.new) }
+{
+    let literals = other_literals(alloc, atoms, beliefs, view)?;
+    push_clause(alloc, cnf, &literals)
+}

@@ -1,0 +1,176 @@
+//! Rules and beliefs by the places of their atoms, and what is tested of sets of places.
+
+ghost use Rattle.std.specs.Prelude.{◌≡◌, ◌<◌, ◌≤◌, List, false, length, map, IfOk, IsTrue};
+ghost use Rattle.std.specs.List.{AllByRecursion, AllZip, list_all};
+ghost use Rattle.mcs_system.specs.Faults.{has_twins};
+ghost use Rattle.mcs_system.specs.Logic.{is_in};
+ghost use Rattle.mcs_system.specs.Plain as plain;
+ghost use Rattle.mcs_system.specs.Seen.{rule_of};
+ghost use Rattle.mcs_evidence.specs.Programs.{AreOverRules, IsOverRule};
+ghost use Rattle.mcs_evidence.specs.Pushing.{AreNamesOf};
+ghost use Rattle.mcs_program.specs.Placing.{lies_within, do_meet, placed_holds, placed_blocked, lies_beside, IsPlaceOf, ArePlaces, IsPlacedRule, IsPlacing};
+
+use mcs_base::{Memory, Vars};
+use mcs_cnf::atom_number;
+use mcs_system::{Name, ProgRule};
+use std::alloc::Global;
+
+/// A rule as three sets of places of atoms.
+#[derive(Clone, Copy)]
+pub struct PlacedRule {
+    pub head: Vars,
+    pub pos: Vars,
+    pub neg: Vars,
+}
+
+/// The rules of a program, and the places of the beliefs that are asked of it.
+#[derive(Drop)]
+pub struct Placing {
+    pub rules: Vec<PlacedRule>,
+    pub beliefs: Vec<u32>,
+}
+
+/// Whether each of the first places is in the second set.
+fn lies_within(places: Vars, others: Vars) -> bool
+    ensures { result ≡ lies_within places others }
+{
+    places.common(others) == places
+}
+
+/// Whether some place is in both sets.
+fn do_meet(places: Vars, others: Vars) -> bool
+    ensures { result ≡ do_meet places others }
+{
+    places.common(others) != Vars::empty()
+}
+
+/// The place of the name among the atoms.
+fn place_of_name(atoms: &[Name], name: &Name) -> u32
+    requires few { length atoms.now ≤ 64 }
+    requires different { has_twins atoms.now ≡ false }
+    requires over { IsTrue (is_in name.now atoms.now) }
+    ensures { IsPlaceOf atoms.now name.now result }
+{
+    atom_number(atoms, name) as u32 - 1
+}
+
+/// The places of the names among the atoms.
+fn places_of(atoms: &[Name], names: &[Name]) -> Vars
+    requires few { length atoms.now ≤ 64 }
+    requires different { has_twins atoms.now ≡ false }
+    requires over { AreNamesOf atoms.now names.now }
+    ensures { ArePlaces atoms.now names.now result }
+{
+    let mut places = Vars::empty();
+    for name in names {
+        places = places.with(place_of_name(atoms, name));
+    }
+    places
+}
+
+impl PlacedRule {
+    /// The rule by the places of its atoms.
+    fn of(atoms: &[Name], rule: &ProgRule) -> PlacedRule
+        requires few { length atoms.now ≤ 64 }
+        requires different { has_twins atoms.now ≡ false }
+        requires over { IsOverRule atoms.now (rule_of rule.now) }
+        ensures { IsPlacedRule atoms.now (rule_of rule.now) result }
+    {
+        PlacedRule {
+            head: places_of(atoms, &rule.head),
+            pos: places_of(atoms, &rule.pos),
+            neg: places_of(atoms, &rule.neg),
+        }
+    }
+
+    /// Whether the rule holds where exactly the atoms at these places are true.
+    fn holds(&self, places: Vars) -> bool
+        ensures { result ≡ placed_holds places self.now }
+    {
+        !lies_within(self.pos, places) || do_meet(self.neg, places) || do_meet(self.head, places)
+    }
+
+    /// Whether one of the places is that of a negative atom of the rule, if those of `less` break it.
+    fn is_blocked(&self, less: Vars, places: Vars) -> bool
+        ensures { result ≡ placed_blocked less places self.now }
+    {
+        !lies_within(self.pos, less) || do_meet(self.head, less) || do_meet(self.neg, places)
+    }
+}
+
+/// Whether each of the rules holds where exactly the atoms at these places are true.
+pub(crate) fn rules_hold(rules: &[PlacedRule], places: Vars) -> bool
+    ensures { result ≡ list_all (placed_holds places) rules.now }
+{
+    rules.iter().all(|rule| rule.holds(places))
+}
+
+/// Whether one of the places is that of a negative atom of each rule that those of `less` break.
+fn are_blocked(rules: &[PlacedRule], less: Vars, places: Vars) -> bool
+    ensures { result ≡ list_all (placed_blocked less places) rules.now }
+{
+    rules.iter().all(|rule| rule.is_blocked(less, places))
+}
+
+/// Whether `less` has less than these places and satisfies the reduct by them.
+pub(crate) fn lies_beside(rules: &[PlacedRule], places: Vars, less: Vars) -> bool
+    ensures { result ≡ lies_beside rules.now places less }
+{
+    lies_within(less, places) && !lies_within(places, less) && are_blocked(rules, less, places)
+}
+
+/// The rules by the places of their atoms, in order.
+fn placed_rules(
+    alloc: Global,
+    atoms: &[Name],
+    rules: &[ProgRule],
+) -> Result<Vec<PlacedRule>, Memory>
+    requires few { length atoms.now ≤ 64 }
+    requires different { has_twins atoms.now ≡ false }
+    requires rules { AreOverRules atoms.now (map rule_of rules.now) }
+    ensures { IfOk result (λ placed. AllZip (IsPlacedRule atoms.now) (map rule_of rules.now) placed.items) }
+{
+    let mut placed = Vec::new(alloc);
+    for rule in rules {
+        placed.push(PlacedRule::of(atoms, rule))?;
+    }
+    Ok(placed)
+}
+
+/// The places of the beliefs, in order.
+fn places_in_order(alloc: Global, atoms: &[Name], beliefs: &[&Name]) -> Result<Vec<u32>, Memory>
+    requires few { length atoms.now ≤ 64 }
+    requires different { has_twins atoms.now ≡ false }
+    requires beliefs { AreNamesOf atoms.now (map (λ b. b.now) beliefs.now) }
+    ensures { IfOk result (λ places. AllZip (IsPlaceOf atoms.now) (map (λ b. b.now) beliefs.now) places.items) }
+{
+    let mut places = Vec::new(alloc);
+    for belief in beliefs {
+        places.push(place_of_name(atoms, belief))?;
+    }
+    Ok(places)
+}
+
+impl Placing {
+    /// The rules and the beliefs by the places of their atoms.
+    pub(crate) fn of(
+        alloc: Global,
+        atoms: &[Name],
+        rules: &[ProgRule],
+        beliefs: &[&Name],
+    ) -> Result<Placing, Memory>
+        requires few { length atoms.now ≤ 64 }
+        requires few_beliefs { length beliefs.now ≤ 64 }
+        requires different { has_twins atoms.now ≡ false }
+        requires rules { AreOverRules atoms.now (map rule_of rules.now) }
+        requires beliefs { AreNamesOf atoms.now (map (λ b. b.now) beliefs.now) }
+        ensures { IfOk result (IsPlacing atoms.now (map rule_of rules.now) (map (λ b. b.now) beliefs.now)) }
+    {
+        let places = places_in_order(alloc, atoms, beliefs)?;
+        let rules = placed_rules(alloc, atoms, rules)?;
+        Ok(Placing {
+            rules,
+            beliefs: places,
+        })
+    }
+}
