@@ -1,10 +1,13 @@
 -- The rows of all contexts whose marks are those that a pair makes of their states: they fit together in the equilibria of the changed system.
-use Rattle.std.proofs.Common.{◌≡◌, ◌<◌, ◌≤◌, ℕ, Bool, true, false, not, ◌&&◌, ◌+◌, List, [], ◌∷◌, ◌++◌, length, map, None, Some, slice_get, get_or, refl, sym, ap, ◌∙◌, subst, inl, inr, arith}
+use Rattle.std.proofs.Common.{◌≡◌, ◌<◌, ◌≤◌, ℕ, Bool, true, false, not, ◌&&◌, ◌||◌, ◌+◌, ◌*◌, List, [], ◌∷◌, ◌++◌, length, map, None, Some, slice_get, get_or, refl, sym, ap, ◌∙◌, subst, inl, inr, arith}
 use Rattle.std.proofs.lemmas.Option.{slice_get-get_or, slice_get_within, slice_get_past}
 use Rattle.std.specs.List.{AllByRecursion}
 use Rattle.mcs_sets.specs.Sets.{has, common, union, minus, size, Within}
 use Rattle.mcs_sets.specs.Orders.{StateBefore}
-use Rattle.mcs_sets.proofs.SetLemmas.{same_set, sets, has-minus}
+use Rattle.std.proofs.lemmas.Bool.Decides.{nat_tests}
+use Rattle.mcs_sets.proofs.SetLemmas.{same_set, sets, has-minus, has-union, has-common}
+use Rattle.mcs_base.proofs.PairLemmas.{has-removed_of, has-forced_of}
+use Rattle.mcs_base.proofs.Ranges.{by_parity}
 use Rattle.mcs_sets.proofs.Lattice.{within_antisymmetric, size_within, not_within_before}
 use Rattle.mcs_base.specs.Listings.{IsAmong, IsListing}
 use Rattle.mcs_base.specs.Pairs.{removed_of, forced_of}
@@ -72,6 +75,27 @@ marks_same m valid σ x y in_x in_y same = within_antisymmetric _ _
 states_before : (x y : Row) → (x.state.values ≡ y.state.values → x.marks ≡ y.marks) → RowBefore x y → StateBefore x.state.values y.state.values
 states_before x y same (inl h) = h
 states_before x y same (inr h) = absurd (not_within_before x.marks y.marks h.1 (λ k i. subst (λ n. has n k ≡ true) (sym (same h.0)) i))
+
+-- a row that has the marks of a pair has no others
+pub marks_inside : (m : System) (i pair : ℕ) (r : Row) → HasMarksOf m i pair r → Within r.marks pair
+marks_inside m i pair r h k is = let (n, half) = by_parity k in elim half [ inl e ↦ ap (has pair) e ∙ even n (ap (has r.marks) (sym e) ∙ is) | inr e ↦ ap (has pair) e ∙ odd n (ap (has r.marks) (sym e) ∙ is) ]
+  where
+    a : ℕ
+    a = applicable_into m i r.state.values
+
+    x : ℕ
+    x = acting_into m i pair r.state.values
+
+    in_x : (n : ℕ) → has x n ≡ ((has a n && not (has (removed_of pair) n)) || (has (forced_of pair) n && has (rules_into m i) n))
+    in_x n = rw (has-union, has-minus, has-common (forced_of pair) (rules_into m i) n) refl
+
+    even : (n : ℕ) → has r.marks (2 * n) ≡ true → has pair (2 * n) ≡ true
+    even n e = let e1 = has-removed_of r.marks n in let e2 : has (removed_of r.marks) n ≡ has (minus a x) n = ap (λ s. has s n) h.removed in let e3 = has-minus a x n in let e4 = in_x n in
+        let e5 = has-removed_of pair n in grind (arith, nat_tests)
+
+    odd : (n : ℕ) → has r.marks (2 * n + 1) ≡ true → has pair (2 * n + 1) ≡ true
+    odd n e = let e1 = has-forced_of r.marks n in let e2 : has (forced_of r.marks) n ≡ has (minus x a) n = ap (λ s. has s n) h.forced in let e3 = has-minus x a n in let e4 = in_x n in
+        let e5 = has-forced_of pair n in grind (arith, nat_tests)
 
 module _ (m : System) (pair : ℕ) where
   abbrev acting : ℕ → ℕ

@@ -98,11 +98,14 @@ fn changed_table(
 
 /// Whether the marks of a row of a context are those that the pair makes of its state: a rule into the context
 /// that it removes and does not force is marked as removed where it applies, and one that it forces is marked
-/// as forced where it does not apply.
+/// as forced where it does not apply. Marks that are not of the pair are refused first, since they take less to see.
 fn has_marks_of(system: &System, context: u32, row: &Row, pair: Pair) -> bool
     requires { context < length system.now.contexts }
     ensures { IsTrue result ↔ HasMarksOf system.now context pair row.now }
 {
+    if !row.marks.within(pair.marks()) {
+        return false;
+    }
     let applicable = system.applicable(context, row.state.values());
     let forced = pair.forced().common(system.rules_of(context));
     let acting = applicable.minus(pair.removed()).union(forced);
