@@ -1,19 +1,21 @@
 -- The rows of all contexts whose marks are those that a pair makes of their states: they fit together in the equilibria of the changed system.
-use Rattle.std.proofs.Common.{◌≡◌, ◌<◌, ◌≤◌, ℕ, Bool, true, false, not, ◌&&◌, ◌+◌, List, [], ◌∷◌, ◌++◌, length, map, None, Some, slice_get, get_or, refl, sym, ap, ◌∙◌, subst, inl, inr, arith}
+use Rattle.std.proofs.Common.{◌≡◌, ◌<◌, ◌≤◌, ℕ, Bool, true, false, not, ◌&&◌, ◌||◌, ◌+◌, ◌*◌, List, [], ◌∷◌, ◌++◌, length, map, None, Some, slice_get, get_or, refl, sym, ap, ◌∙◌, subst, inl, inr, ◌↔◌, arith}
 use Rattle.std.proofs.lemmas.Option.{slice_get-get_or, slice_get_within, slice_get_past}
 use Rattle.std.specs.List.{AllByRecursion}
 use Rattle.mcs_sets.specs.Sets.{has, common, union, minus, size, Within}
 use Rattle.mcs_sets.specs.Orders.{StateBefore}
-use Rattle.mcs_sets.proofs.SetLemmas.{same_set, sets, has-minus}
-use Rattle.mcs_sets.proofs.Lattice.{within_antisymmetric, size_within, not_within_before}
+use Rattle.std.proofs.lemmas.Bool.Decides.{nat_tests}
+use Rattle.mcs_sets.proofs.SetLemmas.{same_set, sets, has-minus, has-union, has-common}
+use Rattle.mcs_base.proofs.PairLemmas.{has-removed_of, has-forced_of}
+use Rattle.mcs_base.proofs.Ranges.{by_parity}
+use Rattle.mcs_sets.proofs.Lattice.{within_antisymmetric, size_within}
 use Rattle.mcs_base.specs.Listings.{IsAmong, IsListing}
 use Rattle.mcs_base.specs.Pairs.{removed_of, forced_of}
 use Rattle.mcs_base.proofs.Among.{map_among, among_map, get_among}
-use Rattle.mcs_base.proofs.Ascending.{ascending_as, ascending_map}
 use Rattle.mcs_base.proofs.Each.{all_from_among}
+use Rattle.mcs_base.proofs.ListingLemmas.{IsListing-same}
 use Rattle.std.proofs.lemmas.List.{length-append}
 use Rattle.mcs_base.proofs.Lists.{slice_get_below, slice_get_push_at, length_zip}
-use Rattle.mcs_base.specs.Partials.{PartialState}
 use Rattle.mcs_system.specs.Plain.{Formula, System}
 use Rattle.mcs_system.specs.Faults.{IsValid}
 use Rattle.mcs_system.specs.Logic.{Accepts, with_heads}
@@ -29,10 +31,9 @@ use Rattle.mcs_laws.proofs.Questions.{heads-own, marks_are_united}
 use Rattle.mcs_import.proofs.OrderLemmas.{import_order_exists}
 use Rattle.mcs_import.proofs.QuestionLemmas.{same_applicable}
 use Rattle.mcs_table.specs.declared.row.Row.{Row}
-use Rattle.mcs_table.specs.RowOrder.{RowBefore, same_row}
-use Rattle.mcs_table.specs.Tables.{TableData, IsTable, IsMinimalRow}
-use Rattle.mcs_table.specs.Joins.{JoinsTo, IsJointRow}
-use Rattle.mcs_table.proofs.JointLemmas.{joins_are_minimal}
+use Rattle.mcs_table.specs.RowOrder.{same_row}
+use Rattle.mcs_table.specs.Tables.{TableData, IsTable}
+use Rattle.mcs_table.specs.Joins.{IsJointRow}
 use Rattle.mcs_rows.specs.Local.{IsRowOf, AreLocalTables}
 use Rattle.mcs_joint.specs.Apart.{EachApart}
 use Rattle.mcs_joint.specs.Reduced.{IsReduced}
@@ -68,10 +69,26 @@ marks_same m valid σ x y in_x in_y same = within_antisymmetric _ _
     (λ k h. let (i, less, there) = (marks_are_united m σ x k valid in_x).0 h in (marks_are_united m σ y k valid in_y).1 (i, less, ap (λ z. has (marks_at m i σ z) k) (sym (same i less)) ∙ there))
     (λ k h. let (i, less, there) = (marks_are_united m σ y k valid in_y).0 h in (marks_are_united m σ x k valid in_x).1 (i, less, ap (λ z. has (marks_at m i σ z) k) (same i less) ∙ there))
 
--- of rows that have the same marks where they have the same state, the order is that of the states
-states_before : (x y : Row) → (x.state.values ≡ y.state.values → x.marks ≡ y.marks) → RowBefore x y → StateBefore x.state.values y.state.values
-states_before x y same (inl h) = h
-states_before x y same (inr h) = absurd (not_within_before x.marks y.marks h.1 (λ k i. subst (λ n. has n k ≡ true) (sym (same h.0)) i))
+-- a row that has the marks of a pair has no others
+pub marks_inside : (m : System) (i pair : ℕ) (r : Row) → HasMarksOf m i pair r → Within r.marks pair
+marks_inside m i pair r h k is = let (n, half) = by_parity k in elim half [ inl e ↦ ap (has pair) e ∙ even n (ap (has r.marks) (sym e) ∙ is) | inr e ↦ ap (has pair) e ∙ odd n (ap (has r.marks) (sym e) ∙ is) ]
+  where
+    a : ℕ
+    a = applicable_into m i r.state.values
+
+    x : ℕ
+    x = acting_into m i pair r.state.values
+
+    in_x : (n : ℕ) → has x n ≡ ((has a n && not (has (removed_of pair) n)) || (has (forced_of pair) n && has (rules_into m i) n))
+    in_x n = rw (has-union, has-minus, has-common (forced_of pair) (rules_into m i) n) refl
+
+    even : (n : ℕ) → has r.marks (2 * n) ≡ true → has pair (2 * n) ≡ true
+    even n e = let e1 = has-removed_of r.marks n in let e2 : has (removed_of r.marks) n ≡ has (minus a x) n = ap (λ s. has s n) h.removed in let e3 = has-minus a x n in let e4 = in_x n in
+        let e5 = has-removed_of pair n in grind (arith, nat_tests)
+
+    odd : (n : ℕ) → has r.marks (2 * n + 1) ≡ true → has pair (2 * n + 1) ≡ true
+    odd n e = let e1 = has-forced_of r.marks n in let e2 : has (forced_of r.marks) n ≡ has (minus x a) n = ap (λ s. has s n) h.forced in let e3 = has-minus x a n in let e4 = in_x n in
+        let e5 = has-forced_of pair n in grind (arith, nat_tests)
 
 module _ (m : System) (pair : ℕ) where
   abbrev acting : ℕ → ℕ
@@ -179,28 +196,14 @@ module _ (m : System) (pair : ℕ) where
 
       -- ---- what their join says
       module _ (high : size pair ≤ k) (ordered : List TableData) (reduced : IsReduced (size pair) us ordered) where
-        ordered_tables : AllByRecursion IsTable ordered
-        ordered_tables = reduced.tables changed_are_tables
-
-        state_of : (r : Row) → IsJointRow (size pair) ordered r → IsProjectedEquilibrium m (minus (all_rules m) (removed_of pair)) (forced_of pair) r.state.values × (r.marks ≡ choice_marks m r.state.values (acting r.state.values))
-        state_of r j = joint_state (size pair) r ((reduced.joint r).1 j)
-
-        pub states_listed : (t : TableData) → JoinsTo (size pair) ordered t → IsListing (IsProjectedEquilibrium m (minus (all_rules m) (removed_of pair)) (forced_of pair)) StateBefore (map (λ (r : Row). r.state.values) t.rows)
-        states_listed t joins =
-            let rows = (joins_are_minimal (size pair) ordered t ordered_tables joins).rows in
+        pub states_listed : (rows : List Row) → ((r : Row) → IsAmong r rows ↔ IsJointRow (size pair) ordered r) → (xs : List ℕ) → IsListing (λ σ. IsAmong σ (map (λ (r : Row). r.state.values) rows)) StateBefore xs
+            → IsListing (IsProjectedEquilibrium m (minus (all_rules m) (removed_of pair)) (forced_of pair)) StateBefore xs
+        states_listed rows joint xs listed =
             let values = λ (r : Row). r.state.values in
-            record {
-              exactly = λ σ. (
-                λ among. let (r, there, e) = map_among values σ t.rows among in subst (IsProjectedEquilibrium m (minus (all_rules m) (removed_of pair)) (forced_of pair)) (sym e) (state_of r ((rows.exactly r).0 there).one).0,
-                λ at.
-                    let (r, j, e) = state_joint high σ at in
-                    let j' = (reduced.joint r).0 j in
-                    let minimal : IsMinimalRow (IsJointRow (size pair) ordered) r = record { one = j'; least = λ s joint state within. (state_of s joint).1 ∙ (ap (λ τ. choice_marks m τ (acting τ)) (ap (λ (p : PartialState). p.values) state) ∙ sym (state_of r j').1) } in
-                    subst (λ τ. IsAmong τ (map values t.rows)) e (among_map values r t.rows ((rows.exactly r).1 minimal)),
-              );
-              ascending = ascending_map (λ (x y : Row). StateBefore x.state.values y.state.values) values StateBefore (λ x y h. h) t.rows (ascending_as RowBefore (λ (x y : Row). StateBefore x.state.values y.state.values) t.rows (λ x y in_x in_y before.
-                  states_before x y (λ same. (state_of x ((rows.exactly x).0 in_x).one).1 ∙ (ap (λ τ. choice_marks m τ (acting τ)) same ∙ sym (state_of y ((rows.exactly y).0 in_y).one).1)) before) rows.ascending);
-            }
+            IsListing-same StateBefore (λ σ. IsAmong σ (map (λ (r : Row). r.state.values) rows)) (IsProjectedEquilibrium m (minus (all_rules m) (removed_of pair)) (forced_of pair)) xs (λ σ. (
+              λ among. let (r, there, e) = map_among values σ rows among in subst (IsProjectedEquilibrium m (minus (all_rules m) (removed_of pair)) (forced_of pair)) (sym e) (joint_state (size pair) r ((reduced.joint r).1 ((joint r).0 there))).0,
+              λ at. let (r, j, e) = state_joint high σ at in subst (λ τ. IsAmong τ (map values rows)) e (among_map values r rows ((joint r).1 ((reduced.joint r).0 j))),
+            )) listed
 
 -- ---- table after table
 -- those of the first contexts

@@ -5,5 +5,5 @@ pub mod Covering
 pub mod Eliminating
 pub mod Repaired
 pub mod Changing
-pub mod Joining
+pub mod Uniting
 pub mod Reducing

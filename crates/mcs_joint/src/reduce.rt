@@ -27,14 +27,43 @@ pub(crate) fn reduced(alloc: Global, tables: Vec<Table>, level: u32) -> Result<V
     Ok(tables)
 }
 
-/// Takes away, of each table in turn, the rows without a partner in another one. Whether some went.
+/// Takes away, of each table in turn, the rows without a partner in another one, and where some went, again in the
+/// other direction. Whether some went in the end.
 fn reduce_each(alloc: Global, tables: &mut Vec<Table>, level: u32) -> Result<bool, Memory>
+    requires { EachApart tables.old.items }
+    ensures { OnOk result (IsReduced level tables.old.items tables.new.items) }
+{
+    let some = reduce_forth(alloc, tables, level)?;
+    if !some {
+        return Ok(false);
+    }
+    let more = reduce_back(alloc, tables, level)?;
+    Ok(more)
+}
+
+/// Takes away, of each table from the first to the last, the rows without a partner in another one. Whether
+/// some went.
+fn reduce_forth(alloc: Global, tables: &mut Vec<Table>, level: u32) -> Result<bool, Memory>
     requires { EachApart tables.old.items }
     ensures { OnOk result (IsReduced level tables.old.items tables.new.items) }
 {
     let mut some = false;
     for i in 0..tables.len() {
         let went = reduce_by_all(alloc, tables, i, level)?;
+        some |= went;
+    }
+    Ok(some)
+}
+
+/// The same from the last to the first.
+fn reduce_back(alloc: Global, tables: &mut Vec<Table>, level: u32) -> Result<bool, Memory>
+    requires { EachApart tables.old.items }
+    ensures { OnOk result (IsReduced level tables.old.items tables.new.items) }
+{
+    let mut some = false;
+    let count = tables.len();
+    for k in 0..count {
+        let went = reduce_by_all(alloc, tables, count - 1 - k, level)?;
         some |= went;
     }
     Ok(some)

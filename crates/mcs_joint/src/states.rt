@@ -4,13 +4,13 @@ ghost use Rattle.std.specs.Prelude.{◌≡◌, ◌≤◌, ◌<◌, ◌↔◌, �
 ghost use Rattle.std.specs.List.{AllByRecursion};
 ghost use Rattle.mcs_sets.specs.Sets.{minus, size, Within};
 ghost use Rattle.mcs_sets.specs.Orders.{StateBefore};
-ghost use Rattle.mcs_base.specs.Listings.{IsListing};
+ghost use Rattle.mcs_base.specs.Listings.{IsAmong, IsListing};
 ghost use Rattle.mcs_base.specs.Pairs.{removed_of, forced_of};
 ghost use Rattle.mcs_system.specs.Faults.{IsValid};
 ghost use Rattle.mcs_system.specs.Repairs.{all_marks};
 ghost use Rattle.mcs_system.specs.Systems.{all_rules, IsProjectedEquilibrium};
 ghost use Rattle.mcs_table.specs.declared.row.Row as declared;
-ghost use Rattle.mcs_table.specs.Joins.{JoinsTo};
+ghost use Rattle.mcs_table.specs.Joins.{IsJointRow};
 ghost use Rattle.mcs_table.specs.Tables.{IsTable};
 ghost use Rattle.mcs_rows.specs.Local.{AreLocalTables};
 ghost use Rattle.mcs_joint.specs.Apart.{EachApart};
@@ -18,10 +18,10 @@ ghost use Rattle.mcs_joint.specs.Changed.{HasMarksOf, IsChangedTable, AreChanged
 
 use crate::order::scopes;
 use crate::reduce::reduced;
-use mcs_base::{Memory, Pair, Vars};
+use mcs_base::{Memory, Pair, Vars, list_states};
 use mcs_import::Plan;
 use mcs_system::System;
-use mcs_table::{Row, Table, join};
+use mcs_table::{Row, Table, unions};
 use std::alloc::Global;
 
 /// The projected equilibria of the plan's system that the pair changes, in the order of states: the rules that
@@ -41,8 +41,9 @@ pub fn states_in(
     let level = pair.marks().count();
     let own = changed_tables(alloc, plan.system(), tables, pair)?;
     let fewer = reduced(alloc, own, level)?;
-    let all = join_all(alloc, &fewer, level)?;
-    let states = values_of(alloc, all.rows())?;
+    let all = unite_all(alloc, &fewer, level)?;
+    let mut states = values_of(alloc, &all)?;
+    list_states(&mut states);
     Ok(states)
 }
 
@@ -98,11 +99,14 @@ fn changed_table(
 
 /// Whether the marks of a row of a context are those that the pair makes of its state: a rule into the context
 /// that it removes and does not force is marked as removed where it applies, and one that it forces is marked
-/// as forced where it does not apply.
+/// as forced where it does not apply. Marks that are not of the pair are refused first, since they take less to see.
 fn has_marks_of(system: &System, context: u32, row: &Row, pair: Pair) -> bool
     requires { context < length system.now.contexts }
     ensures { IsTrue result ↔ HasMarksOf system.now context pair row.now }
 {
+    if !row.marks.within(pair.marks()) {
+        return false;
+    }
     let applicable = system.applicable(context, row.state.values());
     let forced = pair.forced().common(system.rules_of(context));
     let acting = applicable.minus(pair.removed()).union(forced);
@@ -110,14 +114,18 @@ fn has_marks_of(system: &System, context: u32, row: &Row, pair: Pair) -> bool
     marks.removed() == applicable.minus(acting) && marks.forced() == acting.minus(applicable)
 }
 
-/// The join of all of the tables.
-fn join_all(alloc: Global, tables: &[Table], level: u32) -> Result<Table, Memory>
-    requires { EachApart tables.now }
-    ensures { IfOk result (JoinsTo level tables.now) }
+/// The unions of one row of each of the tables that fit all together. Each is there as often as it comes about.
+fn unite_all(alloc: Global, tables: &[Table], level: u32) -> Result<Vec<Row>, Memory>
+    requires tables { AllByRecursion IsTable tables.now }
+    requires apart { EachApart tables.now }
+    ensures { IfOk result (λ all. (r : declared.Row) → IsAmong r all.items ↔ IsJointRow level tables.now r) }
 {
-    let mut all = Table::unit(alloc)?;
+    let unit = Table::unit(alloc)?;
+    let mut all = Vec::from_slice(alloc, unit.rows())?;
+    let mut seen = Vars::empty();
     for table in tables {
-        all = join(alloc, &all, table, level)?;
+        all = unions(alloc, &all, seen, table, level)?;
+        seen = seen.union(table.scope());
     }
     Ok(all)
 }

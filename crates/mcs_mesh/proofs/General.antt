@@ -95,7 +95,7 @@ before_taken (x ∷ rest) (suc k) d j less h = at (nat_eq x (get_or rest k d)) h
     at false (inr h) later = inr (later h)
 
 -- ---- levels grow
-question_after : (m : System) (order : List ℕ) (level n i x : ℕ) → IsQuestion m order level i x → IsQuestion m order (level + n) i x
+pub question_after : (m : System) (order : List ℕ) (level n i x : ℕ) → IsQuestion m order level i x → IsQuestion m order (level + n) i x
 question_after m order level zero i x q = let e : level + 0 ≡ level = omega arith in subst (λ k. IsQuestion m order k i x) (sym e) q
 question_after m order level (suc n) i x q = let e : level + n + 1 ≡ level + suc n = omega arith in subst (λ k. IsQuestion m order k i x) e (question_grows m order (level + n) i x (question_after m order level n i x q))
 

@@ -2,3 +2,5 @@ pub mod General
 pub mod AskingLemmas
 pub mod RoundLemmas
 pub mod MeshLemmas
+pub mod LastingLemmas
+pub mod FoundLemmas

@@ -15,9 +15,10 @@ use Rattle.mcs_states.specs.Oracles.{OracleState, IsLacking, with_journal}
 use Rattle.mcs_states.specs.Evaluators.{EvaluatorState, HasDone, HasHalted, HasHaltCause, IsSettled, IsUnanswered, unasked, raised, asked_of}
 use Rattle.mcs_states.specs.declared.halt.Halt.{Halt}
 use Rattle.mcs_states.specs.declared.halt.Halt.TheVariants.{Spent, Missing, Memory}
-use Rattle.mcs_mesh.specs.Rounds.{Knowledge, AreFresh, HasAsked, HasAnswers, HasRoundCause, IsBegun, IsKnown, IsMesh, IsReady, IsRoundDone, answer_count, questions_in, state_of}
+use Rattle.mcs_mesh.specs.Rounds.{Knowledge, AreFresh, HasAsked, HasAnswers, HasRoundCause, IsBegun, HasFewRules, IsKnown, IsMesh, IsReady, IsRoundDone, answer_count, questions_in, state_of}
 use Rattle.mcs_mesh.proofs.General.{below_get, question_higher, same_lengths, same_oracle}
 use Rattle.mcs_mesh.proofs.RoundLemmas.{same_sums}
+use Rattle.mcs_mesh.proofs.LastingLemmas.{same_round, same_tables}
 use Rattle.mcs_base.proofs.Booleans.{none_from_not_some}
 
 -- ---- what a round leaves
@@ -145,6 +146,12 @@ module _ (m : System) (budget : ℕ) (reached : Option ℕ) (halt : Option Halt)
       subst (λ x. HasDone x (state_of m budget reached halt os) level) view
       (rw (is, none) (has_done m d os ks r budget few (Some d) None os refl level less top))
 
+  -- a level of which nothing is new is done with the one before
+  pub lasting_round : (d level : ℕ) → now.halted ≡ false → reached ≡ Some d → HasFewRules m d → d ≤ level → IsRoundDone m level os ks × (asked ≡ answer_count ks) × (asked ≤ budget) × AreLocalTables m level tables
+  lasting_round d level going is lasting less =
+      let (r, count, within, local) = ready_at d (no_halt going) is in
+      (same_round m d level lasting less os ks r, count, within, same_tables m d level lasting less tables local)
+
   pub tables_at : (before : EvaluatorState) (level : ℕ) → HasDone before now level → (k : ℕ) × (level ≤ k) × AreLocalTables m k tables
   tables_at before level h =
       let (k, is, less) = raised_reaches before.done level in
@@ -166,6 +173,17 @@ module _ (m : System) (budget : ℕ) (reached : Option ℕ) (halt : Option Halt)
     pub round_done_now : unasked after ≡ unasked os → HasDone now (state_of m budget (Some level) halt after) level
     round_done_now same = subst (λ x. HasDone x (state_of m budget (Some level) halt after) level) view
         (rw (no_halt going) (has_done m level after ks' r budget few reached None os same level (omega arith) (raised_to reached level low)))
+
+  -- its level has no questions and rows that the one before has not
+  module _ (level : ℕ) (going : now.halted ≡ false) (low : (d : ℕ) → reached ≡ Some d → d ≤ level) (m' : System) (same_m : m' ≡ m) (last : (d : ℕ) × (reached ≡ Some d) × HasFewRules m' d) where
+    lasting_now : IsRoundDone m level os ks × (asked ≡ answer_count ks) × (asked ≤ budget) × AreLocalTables m level tables
+    lasting_now = let (d, is, few) = last in lasting_round d level going is (subst (λ z. HasFewRules z d) same_m few) (low d is)
+
+    pub lasting_kept : IsMesh (state_of m budget (Some level) halt os) ks tables asked
+    lasting_kept = record { one_each = l.one_each; ready = λ _. lasting_now }
+
+    pub lasting_done : HasDone now (state_of m budget (Some level) halt os) level
+    lasting_done = let (r, count, within, local) = lasting_now in round_done_now level going low os ks r (omega (arith, count, within)) refl
 
   -- it stopped
   pub stop_kept : (reached' : Option ℕ) (h : Halt) (after : List OracleState) (ks' : List Knowledge) (tables' : List TableData) (n : ℕ) → unasked after ≡ unasked os → IsMesh (state_of m budget reached' (Some h) after) ks' tables' n

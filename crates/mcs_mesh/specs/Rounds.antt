@@ -2,9 +2,11 @@
 use Rattle.std.specs.Prelude.{◌≡◌, ℕ, ◌<◌, ◌≤◌, ◌⊎◌, List, [], ◌∷◌, map, length, Option, Some, None, slice_get, is_some}
 use Rattle.std.specs.List.{AllByRecursion, sum_by}
 use Rattle.mcs_sets.specs.Orders.{StateBefore}
+use Rattle.mcs_sets.specs.Sets.{size}
 use Rattle.mcs_base.specs.Listings.{IsAmong, IsAscending, IsInventory, IsListing}
 use Rattle.mcs_system.specs.Plain.{System}
 use Rattle.mcs_system.specs.Systems.{IsAcceptedPart}
+use Rattle.mcs_system.specs.Imports.{rules_into}
 use Rattle.mcs_system.specs.Levels.{IsQuestionAt, MaySupply, HasQuestions}
 use Rattle.mcs_rows.specs.Local.{Answered, AreAnswered, AreLocalTables}
 use Rattle.mcs_rows.specs.Answers.{answered_of}
@@ -108,6 +110,11 @@ abbrev pub HasAskingCause : ℕ → OracleState → List ℕ → Halt → Type 0
 HasAskingCause i o asked (Spent level drawn) = ⊥
 HasAskingCause i o asked (Missing context x) = (context ≡ i) × IsAmong x asked × Lacks o x
 HasAskingCause i o asked Memory = Unit {0}
+
+-- ---- levels that differ in nothing
+-- no context has more than so many rules into it, so that the questions and rows of each higher level are the same
+abbrev pub HasFewRules : System → ℕ → Type 0
+HasFewRules m level = (i : ℕ) → i < length m.contexts → size (rules_into m i) ≤ level
 
 -- ---- what a mesh keeps
 -- the evaluator's parts

@@ -2,7 +2,9 @@
 #![tactic(auto)]
 
 mod asking;
+mod found;
 mod known;
+mod lasting;
 mod mesh;
 mod rounds;
 

@@ -1,17 +1,19 @@
 //! The evaluator on one thread.
 
-ghost use Rattle.std.specs.Prelude.{◌≡◌, ℕ, ◌≤◌, false, true, [], Some, None, IfOk, IfErr, OnOk, map, length, slice_get};
+ghost use Rattle.std.specs.Prelude.{◌≡◌, ◌≤◌, ℕ, false, true, [], Some, None, IfOk, IfErr, OnOk, map, length, slice_get};
 ghost use Rattle.mcs_states.specs.Evaluators.{KeepsRest, HasDone, HasHalted};
 ghost use Rattle.mcs_states.specs.Oracles.{OracleState};
 ghost use Rattle.mcs_states.specs.declared.halt.Halt.TheVariants as halts;
 ghost use Rattle.std.specs.Arc.{arc_value};
 ghost use Rattle.mcs_mesh.specs.Rounds.{state_of, AreFresh};
 
+use crate::found::{Found, is_reached};
 use crate::known::Known;
+use crate::lasting::is_all_done;
 use crate::rounds::{Round, round_of};
 use mcs_base::{Marks, Memory, Pair, Vars};
 use mcs_import::Plan;
-use mcs_joint::{repairs_in, states_in};
+use mcs_joint::states_in;
 use mcs_ports::Gate;
 use mcs_states::{Evaluator, Halt, Oracle};
 use mcs_table::Table;
@@ -34,6 +36,7 @@ pub struct Mesh<'a, O: Oracle, G: Gate> {
     // The number of the questions of the greatest level done.
     asked: u64,
     halt: Option<Halt>,
+    found: Found,
 }
 
 impl<'a, O: Oracle, G: Gate> Model for Mesh<'a, O, G> {
@@ -42,6 +45,7 @@ impl<'a, O: Oracle, G: Gate> Model for Mesh<'a, O, G> {
     ghost use Rattle.mcs_states.specs.Evaluators.{EvaluatorState};
     ghost use Rattle.mcs_states.specs.Codes.{coded_evaluator};
     ghost use Rattle.mcs_mesh.specs.Rounds.{IsMesh, state_of, knowledge_of};
+    ghost use Rattle.mcs_mesh.specs.Found.{AreFound};
 
     ghost Value = { EvaluatorState };
 
@@ -49,18 +53,7 @@ impl<'a, O: Oracle, G: Gate> Model for Mesh<'a, O, G> {
 
     ghost view = { λ l. state_of (arc_value l.plan) l.budget l.done l.halt (map O.stands l.oracles.items) };
 
-    ghost invariant = { λ l. IsMesh (state_of (arc_value l.plan) l.budget l.done l.halt (map O.stands l.oracles.items)) (map knowledge_of l.known.items) l.tables.items l.asked };
-}
-
-/// Whether this greatest level done is the level, or beyond it.
-fn is_reached(done: Option<u32>, level: u32) -> bool
-    ensures yes { result ≡ true → (d : ℕ) × (done ≡ Some d) × (level ≤ d) }
-    ensures not { result ≡ false → (d : ℕ) → done ≡ Some d → d ≤ level }
-{
-    match done {
-        Some(done) => level <= done,
-        None => false,
-    }
+    ghost invariant = { λ l. IsMesh (state_of (arc_value l.plan) l.budget l.done l.halt (map O.stands l.oracles.items)) (map knowledge_of l.known.items) l.tables.items l.asked × AreFound (arc_value l.plan) l.found.level l.found.pairs.items };
 }
 
 impl<'a, O: Oracle, G: Gate> Mesh<'a, O, G> {
@@ -94,10 +87,15 @@ impl<'a, O: Oracle, G: Gate> Mesh<'a, O, G> {
             done: None,
             asked: 0,
             halt: None,
+            found: Found {
+                level: None,
+                pairs: Vec::new(alloc),
+            },
         })
     }
 
-    /// Does the round of the level, unless it, or that of a greater one, was done.
+    /// Does the round of the level, unless it, or that of a greater one, was done, or it has no other questions and
+    /// rows than the greatest one done.
     fn reach(&mut self, alloc: Global, level: u32) -> Result<(), Halt>
         requires { self.old.halted ≡ false }
         ensures done { OnOk result (HasDone self.old self.new level) }
@@ -105,6 +103,10 @@ impl<'a, O: Oracle, G: Gate> Mesh<'a, O, G> {
         ensures rest { KeepsRest self.old self.new }
     {
         if is_reached(self.done, level) {
+            return Ok(());
+        }
+        if is_all_done(self.plan.system(), self.done) {
+            self.done = Some(level);
             return Ok(());
         }
         let round = round_of(
@@ -152,7 +154,7 @@ impl<'a, O: Oracle, G: Gate> Evaluator for Mesh<'a, O, G> {
 
     fn repairs(&mut self, alloc: Global, level: u32) -> Result<Vec<Marks>, Halt> {
         self.reach(alloc, level)?;
-        match repairs_in(alloc, &self.plan, &self.tables, level) {
+        match self.found.repairs(alloc, &self.plan, &self.tables, level) {
             Ok(pairs) => Ok(pairs),
             Err(Memory) => {
                 self.stop();

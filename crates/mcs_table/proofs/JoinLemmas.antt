@@ -28,27 +28,30 @@ pub record AreUnions (xs ys : List Row) (level : ℕ) (unions : List Row) : Type
 pub unions_begin : (ys : List Row) (level : ℕ) → AreUnions [] ys level []
 unions_begin ys level = record { exactly = λ r. (λ h. absurd h, λ u. absurd u.in_first) }
 
+pub row_on : (t : TableData) → AllByRecursion (IsRowOn t.scope) t.rows → (r : Row) → IsAmong r t.rows → IsRowOn t.scope r
+row_on t on r among = all_among (IsRowOn t.scope) t.rows r on among
+
 pub row_of : (t : TableData) → IsTable t → (r : Row) → IsAmong r t.rows → IsRowOn t.scope r
 row_of t is r among = all_among (IsRowOn t.scope) t.rows r is.on_scope among
 
-module _ (a b : TableData) (is_a : IsTable a) (is_b : IsTable b) (x y : Row) (in_a : IsAmong x a.rows) (in_b : IsAmong y b.rows) where
+module _ (a b : TableData) (is_a : AllByRecursion (IsRowOn a.scope) a.rows) (is_b : IsTable b) (x y : Row) (in_a : IsAmong x a.rows) (in_b : IsAmong y b.rows) where
   -- rows of two tables fit where they say the same of what both tables speak of
   pub pair_fits : common y.state.values a.scope ≡ common x.state.values b.scope → Fits x.state y.state
   pair_fits e =
-      let rx = row_of a is_a x in_a in
+      let rx = row_on a is_a x in_a in
       let ry = row_of b is_b y in_b in
       where-fits x.state y.state (ap (common x.state.values) ry.mask ∙ sym e ∙ ap (common y.state.values) (sym rx.mask))
 
   pub pair_where : Fits x.state y.state → common y.state.values a.scope ≡ common x.state.values b.scope
   pair_where fit =
-      let rx = row_of a is_a x in_a in
+      let rx = row_on a is_a x in_a in
       let ry = row_of b is_b y in_b in
       ap (common y.state.values) (sym rx.mask) ∙ sym (fits-where x.state y.state rx.partial ry.partial fit) ∙ ap (common x.state.values) ry.mask
 
 pub union_more : (xs ys : List Row) (all : List Row) (level : ℕ) (r : Row) → ((s : Row) → IsAmong s xs → IsAmong s all) → IsUnion xs ys level r → IsUnion all ys level r
 union_more xs ys all level r more u = record { first = u.first; second = u.second; in_first = more u.first u.in_first; in_second = u.in_second; fit = u.fit; is = u.is; few = u.few }
 
-module _ (a b : TableData) (is_a : IsTable a) (is_b : IsTable b) (apart : AreApart a.rows b.rows) (level i : ℕ) (x : Row) (less : i < length a.rows) (here : x ≡ get_or a.rows i x) (unions : List Row) (so_far : AreUnions (take i a.rows) b.rows level unions) where
+module _ (a b : TableData) (is_a : AllByRecursion (IsRowOn a.scope) a.rows) (is_b : IsTable b) (apart : AreApart a.rows b.rows) (level i : ℕ) (x : Row) (less : i < length a.rows) (here : x ≡ get_or a.rows i x) (unions : List Row) (so_far : AreUnions (take i a.rows) b.rows level unions) where
   in_a : IsAmong x a.rows
   in_a = subst (λ (r : Row). IsAmong r a.rows) (sym here) (among_at a.rows i x less)
 

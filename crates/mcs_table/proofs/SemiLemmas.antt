@@ -17,13 +17,13 @@ module _ (a b : TableData) (is_a : IsTable a) (is_b : IsTable b) (apart : AreApa
   partner_known h =
       let e = size-union_apart x.marks h.partner.marks (apart x h.partner in_a h.among) in
       let few = h.few in
-      (h.partner, (among_permutation b.rows sorted moved h.partner).1 h.among, pair_where a b is_a is_b x h.partner in_a h.among h.fit, omega arith)
+      (h.partner, (among_permutation b.rows sorted moved h.partner).1 h.among, pair_where a b is_a.on_scope is_b x h.partner in_a h.among h.fit, omega arith)
 
   pub known_partner : ((r : Row) × IsAmong r sorted × (common r.state.values a.scope ≡ common x.state.values b.scope) × (size r.marks + size x.marks ≤ level)) → HasPartner b.rows level x
   known_partner (r, there, same, few) =
       let in_b = (among_permutation b.rows sorted moved r).0 there in
       let e = size-union_apart x.marks r.marks (apart x r in_a in_b) in
-      record { partner = r; among = in_b; fit = pair_fits a b is_a is_b x r in_a in_b same; few = omega arith }
+      record { partner = r; among = in_b; fit = pair_fits a b is_a.on_scope is_b x r in_a in_b same; few = omega arith }
 
 -- some rows of a table, in order, are those of a table
 pub part_is_table : (a : TableData) (Q : Row → Type 0) (rows : List Row) → IsTable a → IsListing (λ r. IsAmong r a.rows × Q r) RowBefore rows → IsTable (record { scope = a.scope; rows = rows })

@@ -2,16 +2,17 @@
 
 ghost use Rattle.std.specs.Prelude.{◌≡◌, ◌↔◌, ◌++◌, map, IfOk, IsTrue, OnOk};
 ghost use Rattle.std.specs.List.{AllByRecursion};
+ghost use Rattle.mcs_base.specs.Listings.{IsAmong};
 ghost use Rattle.mcs_base.specs.Partials.{Fits};
 ghost use Rattle.mcs_table.specs.Joins.{union_of};
-ghost use Rattle.mcs_table.specs.Tables.{AreApart, IsJoin, united_row};
+ghost use Rattle.mcs_table.specs.Tables.{AreApart, IsJoin, IsRowOn, IsUnion, united_row};
 ghost use Rattle.mcs_table.specs.declared.row.Row as declared;
 
 use crate::minimal::minimal_table;
 use crate::partners::{by_shared, partners};
 use crate::row::Row;
 use crate::table::Table;
-use mcs_base::{Marks, Memory};
+use mcs_base::{Marks, Memory, Vars};
 use std::alloc::Global;
 
 /// The join of two tables of which no mark of the one occurs in the other, up to a number of marks. It is on
@@ -22,15 +23,33 @@ pub fn join(alloc: Global, a: &Table, b: &Table, level: u32) -> Result<Table, Me
     ensures { IfOk result (IsJoin a.now b.now level) }
 {
     let (left, right) = (a.scope(), b.scope());
-    let sorted = by_shared(alloc, b.rows(), left)?;
+    let unions = unions(alloc, a.rows(), left, b, level)?;
+    Ok(minimal_table(left.union(right), unions))
+}
+
+/// The unions of a row that is on the variables of a scope with one of the table that fits it, no mark of which
+/// occurs in it, up to a number of marks. Each is there as often as it comes about.
+pub fn unions(
+    alloc: Global,
+    rows: &[Row],
+    scope: Vars,
+    t: &Table,
+    level: u32,
+) -> Result<Vec<Row>, Memory>
+    requires on_scope { AllByRecursion (IsRowOn scope) rows.now }
+    requires apart { AreApart rows.now t.now.rows }
+    ensures { IfOk result (λ all. (r : declared.Row) → IsAmong r all.items ↔ IsUnion rows.now t.now.rows level r) }
+{
+    let right = t.scope();
+    let sorted = by_shared(alloc, t.rows(), scope)?;
     let mut unions = Vec::new(alloc);
-    for row in a.rows() {
+    for row in rows {
         if let Some(room) = level.checked_sub(row.marks.count()) {
             let shared = row.state.values().common(right);
-            push_unions(&mut unions, row, partners(&sorted, left, shared, room))?;
+            push_unions(&mut unions, row, partners(&sorted, scope, shared, room))?;
         }
     }
-    Ok(minimal_table(left.union(right), unions))
+    Ok(unions)
 }
 
 /// Whether no mark of the one table occurs in the other, as `join` asks. It takes no memory.

@@ -1,0 +1,19 @@
+use Rattle.std.proofs.Common.{◌≡◌, ◌≤◌, ◌∙◌, ap, sym, subst, length, arith}
+use Rattle.std.proofs.lemmas.List.{length-map}
+use borrow.Author.Count.{below_more}
+use Rattle.mcs_sets.specs.Sets.{size}
+use Rattle.mcs_system.specs.Imports.{rules_into}
+use Rattle.mcs_system.specs.Seen.{context_of}
+use Rattle.mcs_mesh.proofs.lasting.has_few_rules.Goals as goal
+
+pub loop-context-preserved : goal.loop-context-preserved
+loop-context-preserved c =
+    let few : size (rules_into c.args.system.now c.loop-context.context) ≤ c.args.level = subst (λ n. size n ≤ c.args.level) c.rules_of.ensures (subst (λ n. n ≤ c.args.level) c.count.ensures.number c.if-count-level.false) in
+    below_more (λ i. size (rules_into c.args.system.now i) ≤ c.args.level) c.loop-context.context c.loop-context.invariant few
+
+pub returns : goal.returns
+returns c = λ _ i less.
+    let long : length c.contexts.result.now ≡ length c.args.system.now.contexts = sym (length-map c.contexts.result.now context_of) ∙ ap length c.contexts.ensures.value in
+    let low = c.loop-context-test.false in
+    let high = c.loop-context.auto.context-end in
+    c.loop-context.invariant i (omega (arith, long, low, high, less))

@@ -1,0 +1,91 @@
+//! The minimal diagnoses that were found.
+
+ghost use Rattle.std.specs.Prelude.{◌≡◌, ◌≤◌, ℕ, true, false, Some, IfOk, OnOk};
+ghost use Rattle.mcs_base.specs.Listings.{IsAmong, IsAscending, IsListing};
+ghost use Rattle.mcs_sets.specs.Orders.{PairBefore};
+ghost use Rattle.mcs_sets.specs.Sets.{size};
+ghost use Rattle.mcs_rows.specs.Local.{AreLocalTables};
+ghost use Rattle.mcs_states.specs.Evaluators.{AreRepairs};
+ghost use Rattle.mcs_mesh.specs.Found.{AreFound};
+
+use crate::lasting::level_ahead;
+use mcs_base::{Marks, Memory};
+use mcs_import::Plan;
+use mcs_joint::repairs_in;
+use mcs_table::Table;
+use std::alloc::Global;
+
+/// The minimal diagnoses with at most so many marks, in the order of pairs; none where no level is told.
+#[derive(Drop)]
+pub(crate) struct Found {
+    pub level: Option<u32>,
+    pub pairs: Vec<Marks>,
+}
+
+/// Whether this level, if there is one, is no less than the other.
+pub(crate) fn is_reached(done: Option<u32>, level: u32) -> bool
+    ensures yes { result ≡ true → (d : ℕ) × (done ≡ Some d) × (level ≤ d) }
+    ensures not { result ≡ false → (d : ℕ) → done ≡ Some d → d ≤ level }
+{
+    match done {
+        Some(done) => level <= done,
+        None => false,
+    }
+}
+
+impl Found {
+    /// The minimal diagnoses with at most so many marks, in the order of pairs: those that were found before, where
+    /// these are all. The tables are those of all contexts at the level, or at a higher one.
+    pub(crate) fn repairs(
+        &mut self,
+        alloc: Global,
+        plan: &Plan,
+        tables: &[Table],
+        level: u32,
+    ) -> Result<Vec<Marks>, Memory>
+        requires before { AreFound plan.now self.old.level self.old.pairs.items }
+        requires tables { (k : ℕ) × (level ≤ k) × AreLocalTables plan.now k tables.now }
+        ensures listing { IfOk result (λ pairs. AreRepairs plan.now level pairs.items) }
+        ensures kept { AreFound plan.now self.new.level self.new.pairs.items }
+    {
+        if !is_reached(self.level, level) {
+            self.find(alloc, plan, tables, level)?;
+        }
+        let few = few_of(alloc, &self.pairs, level)?;
+        Ok(few)
+    }
+
+    /// Finds the minimal diagnoses with at most so many marks, or more of them at once.
+    fn find(
+        &mut self,
+        alloc: Global,
+        plan: &Plan,
+        tables: &[Table],
+        level: u32,
+    ) -> Result<(), Memory>
+        requires before { AreFound plan.now self.old.level self.old.pairs.items }
+        requires tables { (k : ℕ) × (level ≤ k) × AreLocalTables plan.now k tables.now }
+        ensures found { OnOk result ((d : ℕ) × (self.new.level ≡ Some d) × (level ≤ d)) }
+        ensures kept { AreFound plan.now self.new.level self.new.pairs.items }
+    {
+        let ahead = level_ahead(plan.system(), level);
+        let pairs = repairs_in(alloc, plan, tables, ahead)?;
+        self.pairs = pairs;
+        self.level = Some(ahead);
+        Ok(())
+    }
+}
+
+/// Those of the sets of marks that have at most so many.
+fn few_of(alloc: Global, pairs: &[Marks], level: u32) -> Result<Vec<Marks>, Memory>
+    requires { IsAscending PairBefore pairs.now }
+    ensures { IfOk result (λ few. IsListing (λ p. IsAmong p pairs.now × (size p ≤ level)) PairBefore few.items) }
+{
+    let mut few = Vec::new(alloc);
+    for marks in pairs {
+        if marks.count() <= level {
+            few.push(*marks)?;
+        }
+    }
+    Ok(few)
+}
