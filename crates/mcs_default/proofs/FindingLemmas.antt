@@ -15,7 +15,7 @@ use Rattle.mcs_cnf.specs.ClauseLists.{IsOver}
 use Rattle.mcs_cnf.specs.Entailments.{entailment_of, says_yes, IsAcceptedEntailment, IsRefuted}
 use Rattle.mcs_cnf.proofs.EntailmentLemmas.{sound}
 use Rattle.mcs_evidence.specs.Defaults.{facts_of, defaults_of, generated}
-use Rattle.mcs_evidence.proofs.Consequence.{each_holds}
+use Rattle.mcs_system.proofs.Consequence.{each_holds}
 use Rattle.mcs_evidence.proofs.DefaultLemmas.{generated_each}
 use Rattle.mcs_default.specs.Theories.{AreClausesOf, AreOverDefaults, AreParts, consequents}
 use Rattle.mcs_default.specs.Assignments.{holds_part, holds_part_of, holds_part_at}

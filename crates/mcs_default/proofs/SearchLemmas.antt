@@ -18,7 +18,7 @@ use Rattle.mcs_system.specs.Plain.{Formula, Not, Default, Item, DefaultTheory}
 use Rattle.mcs_system.specs.Logic.{Theory, Entails}
 use Rattle.mcs_system.specs.Views.{Shows, IsAcceptedView}
 use Rattle.mcs_evidence.specs.Defaults.{defaults_of, generated}
-use Rattle.mcs_evidence.proofs.Consequence.{one_set, follows_through}
+use Rattle.mcs_system.proofs.Consequence.{one_set, follows_through}
 use Rattle.mcs_evidence.proofs.DefaultLemmas.{IsDefaultAt, generated_each, facts_follow, conclusion_follows}
 use Rattle.mcs_evidence.proofs.Extensions.{NoneSupported, Generates, generated_view}
 use Rattle.mcs_default.specs.Theories.{all_of}

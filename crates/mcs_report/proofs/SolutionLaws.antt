@@ -20,7 +20,7 @@ use Rattle.mcs_laws.proofs.Choices.{consistent_minimal, consistent_unexplained}
 use Rattle.mcs_laws.proofs.Transversals.{minimal_explanations}
 use Rattle.mcs_import.proofs.CountLemmas.{need_is_one}
 use Rattle.mcs_evidence.proofs.Counts.{counts_exist}
-use Rattle.mcs_evidence.proofs.Decided.{cases_all}
+use Rattle.mcs_base.proofs.Deciding.{cases_all}
 use Rattle.mcs_evidence.proofs.SystemListings.{all_states_listed}
 use Rattle.mcs_transversal.proofs.BergeLemmas.{none_before}
 use Rattle.mcs_diagnosis.specs.declared.diagnosis.Diagnosis as code

@@ -28,7 +28,6 @@ use Rattle.mcs_states.specs.declared.halt.Halt.TheVariants as halts
 use Rattle.mcs_diagnosis.specs.declared.diagnosis.Diagnosis as code
 use Rattle.mcs_diagnosis.specs.Courses.{IsPast}
 use Rattle.mcs_diagnosis.specs.Diagnoses.{AreFound, AreFoundBelow, AreDiagnoses, IsShown, pairs_of}
-use Rattle.mcs_diagnosis.proofs.CourseLemmas.{at_most}
 use Rattle.mcs_diagnosis.proofs.BelowLemmas.{none_below, more_below, all_of_consistent, all_below, shown_within}
 use Rattle.mcs_report.specs.Listing.{heading}
 use Rattle.mcs_report.specs.Repairs.{end_line}
@@ -42,6 +41,10 @@ use Rattle.mcs_work.specs.declared.task.Task.TheVariants.{Solve}
 use Rattle.mcs_work.specs.declared.task.WorkStop.TheVariants as stops
 use Rattle.mcs_work.proofs.StateLemmas.{beyond_before, unanswered_before, found_beyond, settled_count}
 use Rattle.mcs_work.proofs.StopLemmas.{left_nothing, cut_off, stopped_later}
+
+-- what is not below is at least
+at_most : (a b : ℕ) → ¬ (a < b) → b ≤ a
+at_most a b not = omega (arith, not)
 
 -- ---- one level after the other
 pub begun : (e e' : EvaluatorState) → e.done ≡ None → KeepsRest e e' → HasDone e e' 0 → IsUnderWay e' 0 []
