@@ -17,6 +17,8 @@ mod refusals;
 #[cfg(test)]
 mod runs;
 #[cfg(test)]
+mod solutions;
+#[cfg(test)]
 mod statuses;
 #[cfg(test)]
 mod usage;

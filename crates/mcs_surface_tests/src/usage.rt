@@ -12,7 +12,7 @@ const NO_JOBS: [&[&str]; 12] = [
     &["equilibria", "f", "--workers", "0"],
     &["equilibria", "f", "--budget", "5", "--budget", "5"],
     &["equilibria", "f", "f"],
-    &["solve", "f"],
+    &["solution", "f"],
     &["Equilibria", "f"],
     &["f", "equilibria"],
     &["", "f"],

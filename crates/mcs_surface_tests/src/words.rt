@@ -31,7 +31,7 @@ fn asks_for(
                 workers,
             },
         ) => Ok(file.as_str() == name && budget == questions && workers == threads),
-        Err(_) => Ok(false),
+        Ok(Job::Solve { .. }) | Err(_) => Ok(false),
     }
 }
 
@@ -81,7 +81,7 @@ const NO_JOBS: [&str; 29] = [
     "- f",
     "equilibria f g",
     "equilibria f -- g",
-    "solve f",
+    "solution f",
     " f",
     "equilibria f --budget 5 --budget 5",
     "equilibria f --budget 5 --budget=5",
