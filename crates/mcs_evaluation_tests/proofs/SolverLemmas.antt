@@ -1,14 +1,9 @@
 -- A mesh of solvers.
-use Rattle.std.proofs.Common.{◌≡◌, ℕ, ◌+◌, ◌<◌, false, List, [], map, length, Some, None, slice_get, Result, Ok, Err, IfOk, sym, ap, ◌∙◌, arith}
-use Rattle.std.proofs.lemmas.List.FromFn.{length-map-range_with_len, get_or-map-range_with_len}
-use Rattle.std.proofs.lemmas.Option.{slice_get_within, same_Some}
-use Rattle.std.specs.List.{range_with_len}
-use Rattle.mcs_base.proofs.Lists.{map_slice_get, slice_get_read_as}
+use Rattle.std.proofs.Common.{◌≡◌, ℕ, false, List, map, None, Result, Ok, Err, IfOk, ap, ◌∙◌}
 use Rattle.mcs_system.specs.Plain.{System}
 use Rattle.mcs_states.specs.Oracles.{OracleState}
 use Rattle.mcs_states.specs.Evaluators.{EvaluatorState}
 use Rattle.mcs_mesh.specs.Rounds.{state_of}
-use Rattle.mcs_solver.specs.Solvers.{solver_of}
 
 -- a mesh that was made of a system can be asked
 pub new_mesh : {E : Type 0} (m n : System) (budget : ℕ) (os : List OracleState) (r : Result EvaluatorState E) → n ≡ m → IfOk r (λ mesh. mesh ≡ state_of n budget None None (map (λ (x : OracleState). x) os)) → IfOk r (λ mesh. (mesh.system ≡ m) × (mesh.halted ≡ false))
