@@ -22,12 +22,6 @@ none-common a = same_set _ _ (λ k. grind (arith, has-common, has-empty))
 -- ---- lists without repeats
 module _ {A : Type 0} where
   -- two names of one word, until all that cite them do without
-  pub distinct_from_apart : (xs : List A) → AreApart xs → AreApart xs
-  distinct_from_apart xs h = h
-
-  pub apart_from_distinct : (xs : List A) → AreApart xs → AreApart xs
-  apart_from_distinct xs h = h
-
   -- the listing of what a loop has mapped
   pub listed_map : {B : Type 0} (f : A → B) (xs : List A) (ys next : List B) (n : ℕ) (before : B → B → Type 0) → ys ≡ map f (take n xs) → length xs ≤ n → IsListing (λ y. IsAmong y ys) before next → (y : B) → IsAmong y next ↔ IsAmong y (map f xs)
   listed_map f xs ys next n before is long listing y =

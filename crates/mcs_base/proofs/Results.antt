@@ -1,5 +1,5 @@
 -- Results and options, beyond std's lemmas.
-use Rattle.std.proofs.Common.{◌≡◌, ◌↔◌, Some, None, Result, Ok, Err, IfOk, sym, subst}
+use Rattle.std.proofs.Common.{◌≡◌, ◌↔◌, Option, Some, None, Result, Ok, Err, IfOk, refl, sym, subst}
 use Rattle.std.proofs.lemmas.Option.{none-some}
 
 pub IfOk-both : {T E : Type 0} (P Q R : T → Type 0) → ((x : T) → P x → Q x → R x) → (r : Result T E) → IfOk r P → IfOk r Q → IfOk r R
@@ -15,3 +15,7 @@ IfOk-from_is_err P r e is = subst (λ q. IfOk q P) (sym is) tt
 -- none is the view of what never holds
 pub none_is_never : {A : Type 0} {P : A → Type 0} → ((x : A) → ¬ P x) → (x : A) → P x ↔ (None ≡ Some x)
 none_is_never never x = (λ h. absurd (never x h), λ e. absurd (none-some x e))
+
+pub none_where_never : {A : Type 0} (o : Option A) → ((x : A) → ¬ (o ≡ Some x)) → o ≡ None
+none_where_never None never = refl
+none_where_never (Some x) never = absurd (never x refl)

@@ -7,6 +7,9 @@ use Rattle.mcs_sets.specs.Sets.{has, minus, members_from}
 use Rattle.mcs_sets.proofs.SetLemmas.{has-minus, has-such_that, members_from-append, members-width, such_that-lt}
 use Rattle.mcs_sets.proofs.Lattice.{minus-lt}
 use Rattle.mcs_base.proofs.Lists.{zip_push}
+use Rattle.mcs_base.proofs.Mapped.{slice_get-map_read}
+use Rattle.mcs_base.proofs.Zipped.{zip_append}
+use Rattle.mcs_base.proofs.SetParts.{members_from-more}
 use Rattle.mcs_system.specs.Plain.{Name, Formula, Not, Default}
 use Rattle.mcs_system.specs.Seen.{formula_of}
 use Rattle.mcs_system.specs.declared.formula.Formula as code
@@ -17,7 +20,7 @@ use Rattle.mcs_evidence.specs.Defaults.{Absence, absence_of, defaults_at, negate
 use Rattle.mcs_default.specs.Theories.{all_of}
 use Rattle.mcs_default.specs.declared.asking.Justs as justs
 use Rattle.mcs_default.specs.Told.{IsBlockedBy, IsToldOfJusts, IsAbsentOf, IsAbsentAt, AreAbsent, prerequisites}
-use Rattle.mcs_default.proofs.General.{image_at, formula_at, zip_append, picked_in, picked_out, negated_push}
+use Rattle.mcs_default.proofs.General.{formula_at, picked_in, picked_out, negated_push}
 
 -- ---- lists that are shown not to follow
 pub denied_same : (names : List Name) (fs gs hs : List Formula) (es es' : List Entailment) → gs ≡ hs → es ≡ es' → AreDenied names fs gs es → AreDenied names fs hs es'
@@ -37,7 +40,7 @@ justs_more justs i f less is =
 pub blocked_at : (names : List Name) (fs : List Formula) (justs : List code.Formula) (i n : ℕ) (f : code.Formula) (e : Entail) → i < length justs → f ≡ get_or justs i f → n ≡ i + 1
     → IsAcceptedEntailment names fs (Not (formula_of f)) (entailment_of e) → says_yes (entailment_of e) ≡ true → IsBlockedBy names fs (map formula_of justs) n (entailment_of e)
 blocked_at names fs justs i n f e less is number accepted said =
-    subst (λ (m : ℕ). IsBlockedBy names fs (map formula_of justs) m (entailment_of e)) (sym number) (formula_of f, formula_at (map formula_of justs) i ∙ image_at formula_of justs i f less is, (accepted, said))
+    subst (λ (m : ℕ). IsBlockedBy names fs (map formula_of justs) m (entailment_of e)) (sym number) (formula_of f, formula_at (map formula_of justs) i ∙ slice_get-map_read formula_of justs i f less is, (accepted, said))
 
 pub justs_told : (names : List Name) (fs : List Formula) (js js' : List code.Formula) (told : justs.Justs) → js ≡ js' → IsToldOfJusts names fs (map formula_of js) told → IsToldOfJusts names fs (map formula_of js') told
 justs_told names fs js js' told same h = subst (λ (xs : List code.Formula). IsToldOfJusts names fs (map formula_of xs) told) same h
@@ -70,21 +73,17 @@ has-others ds set i b less is =
     let below : ltb i (length ds) ≡ true = grind (arith, nat_tests) in
     has-minus (all_of ds) set i ∙ ap (λ c. c && not (has set i)) (has-such_that (length ds) (λ k. true) i ∙ ap (λ c. c && true) below) ∙ ap not is
 
-others_more : (s i : ℕ) (b : Bool) → has s i ≡ b → members_from 0 (i + 1) s ≡ members_from 0 i s ++ cond b (i ∷ []) []
-unfolding members_from
-others_more s i b is = members_from-append s i 1 0 ∙ (let z : 0 + i ≡ i = omega arith in ap (λ (n : ℕ). members_from 0 i s ++ cond (has s n) (n ∷ []) []) z) ∙ ap (λ c. members_from 0 i s ++ cond c (i ∷ []) []) is
-
 pub absent_more : (names : List Name) (fs : List Formula) (ds : List Default) (set i : ℕ) (d : Default) (os os' : List Outside) (o : Outside) → i < length ds → slice_get ds i ≡ Some d → has set i ≡ false → os' ≡ os ++ o ∷ []
     → IsAbsentOf names fs d (i + 1) (absence_of o) → AllZip (IsAbsentAt names fs ds) (members_from 0 i (others ds set)) (map absence_of os) → AllZip (IsAbsentAt names fs ds) (members_from 0 (i + 1) (others ds set)) (map absence_of os')
 absent_more names fs ds set i d os os' o less at out pushed told before =
-    subst (λ (ks : List ℕ). AllZip (IsAbsentAt names fs ds) ks (map absence_of os')) (sym (others_more (others ds set) i true (has-others ds set i false less out)))
+    subst (λ (ks : List ℕ). AllZip (IsAbsentAt names fs ds) ks (map absence_of os')) (sym (members_from-more (others ds set) i true (has-others ds set i false less out)))
     (subst (λ (xs : List Absence). AllZip (IsAbsentAt names fs ds) (members_from 0 i (others ds set) ++ i ∷ []) xs) (sym (ap (map absence_of) pushed ∙ map_push absence_of os o))
     (zip_push (IsAbsentAt names fs ds) _ _ i (absence_of o) before (d, at, told)))
 
 pub absent_same : (names : List Name) (fs : List Formula) (ds : List Default) (set i : ℕ) (xs : List Absence) → i < length ds → has set i ≡ true
     → AllZip (IsAbsentAt names fs ds) (members_from 0 i (others ds set)) xs → AllZip (IsAbsentAt names fs ds) (members_from 0 (i + 1) (others ds set)) xs
 absent_same names fs ds set i xs less is before =
-    subst (λ (ks : List ℕ). AllZip (IsAbsentAt names fs ds) ks xs) (sym (others_more (others ds set) i false (has-others ds set i true less is) ∙ append-nil (members_from 0 i (others ds set)))) before
+    subst (λ (ks : List ℕ). AllZip (IsAbsentAt names fs ds) ks xs) (sym (members_from-more (others ds set) i false (has-others ds set i true less is) ∙ append-nil (members_from 0 i (others ds set)))) before
 
 pub absent_all : (names : List Name) (fs : List Formula) (ds : List Default) (set i : ℕ) (xs : List Absence) → i ≡ length ds → AllZip (IsAbsentAt names fs ds) (members_from 0 i (others ds set)) xs → AreAbsent names fs ds set xs
 absent_all names fs ds set i xs all before =

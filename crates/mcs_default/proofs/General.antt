@@ -13,31 +13,6 @@ use Rattle.mcs_cnf.proofs.ListLemmas.{all_take_grow, with_append}
 use Rattle.mcs_evidence.specs.Defaults.{defaults_at, defaults_of, negated_justs, numbered_default, numbered_formula}
 use Rattle.mcs_default.specs.Theories.{AreClausesOf, AreOverDefaults, consequents}
 
--- ---- lists
-module _ {A B : Type 0} where
-  -- what holds of each image holds of that of the item at an index
-  pub each_at : (P : B → Type 0) (view : A → B) (xs : List A) (i : ℕ) (x : A) → i < length xs → x ≡ get_or xs i x → AllByRecursion P (map view xs) → P (view x)
-  each_at P view xs i x less is all = subst P (ap view (sym is)) (all_get P (map view xs) i (view (get_or xs i x)) all (slice_get-map_at view xs i x less))
-
-  -- whatever stands for a missing item
-  pub each_read : (P : B → Type 0) (view : A → B) (xs : List A) (i : ℕ) (d : A) → i < length xs → AllByRecursion P (map view xs) → P (view (get_or xs i d))
-  each_read P view xs i d less all = all_get P (map view xs) i (view (get_or xs i d)) all (slice_get-map_at view xs i d less)
-
-  pub image_at : (view : A → B) (xs : List A) (i : ℕ) (x : A) → i < length xs → x ≡ get_or xs i x → slice_get (map view xs) i ≡ Some (view x)
-  image_at view xs i x less is = slice_get-map_at view xs i x less ∙ ap (λ y. Some (view y)) (sym is)
-
-  pub zip_append : (R : A → B → Type 0) (xs xs' : List A) (ys ys' : List B) → AllZip R xs ys → AllZip R xs' ys' → AllZip R (xs ++ xs') (ys ++ ys')
-  zip_append R [] xs' [] ys' h h' = h'
-  zip_append R [] xs' (y ∷ ys) ys' h h' = absurd h
-  zip_append R (x ∷ xs) xs' [] ys' h h' = absurd h
-  zip_append R (x ∷ xs) xs' (y ∷ ys) ys' h h' = (h.0, zip_append R xs xs' ys ys' h.1 h')
-
-  pub zip_weaker : (R S : A → B → Type 0) → ((x : A) (y : B) → R x y → S x y) → (xs : List A) (ys : List B) → AllZip R xs ys → AllZip S xs ys
-  zip_weaker R S weaker [] [] h = tt
-  zip_weaker R S weaker [] (y ∷ ys) h = absurd h
-  zip_weaker R S weaker (x ∷ xs) [] h = absurd h
-  zip_weaker R S weaker (x ∷ xs) (y ∷ ys) h = (weaker x y h.0, zip_weaker R S weaker xs ys h.1)
-
 -- ---- the defaults of a set, one after the other
 at_push : (j : ℕ) (ds : List Default) (d : Default) (set : ℕ) → defaults_at j (ds ++ d ∷ []) set ≡ defaults_at j ds set ++ cond (has set (j + length ds)) (d ∷ []) []
 at_push j [] d set = let e : j + 0 ≡ j = omega arith in ap (λ n. cond (has set n) (d ∷ []) []) (sym e)

@@ -9,6 +9,8 @@ use Rattle.mcs_sets.proofs.SetLemmas.{has-such_that, members_below, same_set}
 use Rattle.mcs_base.specs.Listings.{IsAmong, IsListing}
 use Rattle.mcs_base.proofs.Among.{among_push}
 use Rattle.mcs_base.proofs.Lists.{slice_get_push_at, slice_get_kept, slice_get_seam}
+use Rattle.mcs_base.proofs.Zipped.{zip_weaker}
+use Rattle.mcs_base.proofs.Results.{none_is_never}
 use Rattle.mcs_system.specs.Plain.{Name, Formula, Default, Item}
 use Rattle.mcs_trace.specs.declared.certificate.Entail.{Entail}
 use Rattle.mcs_cnf.specs.Entailments.{Entailment, entailment_of}
@@ -16,14 +18,11 @@ use Rattle.mcs_cnf.specs.Classical.{AreShown}
 use Rattle.mcs_evidence.specs.Defaults.{Absence, Unsupported, Blocked, Verdict, Fails, Applied, Ungrounded, Extension, facts_of, defaults_of, defaults_at, defaults_in, numbered_default, generated, all_defaults, negated_justs, AreDenied, IsAbsent, AreGrounded, HasFailed, HasApplied, IsGenerating, IsAcceptedVerdict, ShowsView, IsAcceptedDefault}
 use Rattle.mcs_default.specs.Theories.{consequents, all_of, with_view}
 use Rattle.mcs_default.specs.Told.{IsAbsentOf, IsAbsentAt, AreAbsent, HasBlocked, HasAppliedOf, AreNumbersOf, prerequisites}
-use Rattle.mcs_default.proofs.General.{zip_weaker, numbered_at}
+use Rattle.mcs_default.proofs.General.{numbered_at}
 
 -- the verdict is accepted, and the view is the one that it shows
 abbrev pub IsVerdict : List Name → List Item → List Formula → ℕ → Verdict → Option ℕ → Type 0
 IsVerdict names items beliefs set v view = IsAcceptedVerdict names items beliefs set v × ((places : ℕ) → ShowsView names items beliefs set v places ↔ (view ≡ Some places))
-
-no_view : {P : ℕ → Type 0} → ((places : ℕ) → ¬ P places) → (places : ℕ) → P places ↔ (None ≡ Some places)
-no_view none places = (λ h. absurd (none places h), λ h. (let impossible : None ≡ Some places = h in absurd (cc)))
 
 -- ---- absence, by the items
 absent : (names : List Name) (items : List Item) (fs : List Formula) (number : ℕ) (d : Default) (a : Absence) → numbered_default items number ≡ Some d → IsAbsentOf names fs d number a → IsAbsent names items fs number a
@@ -33,7 +32,7 @@ absent names items fs number d (Blocked n j e) at (is, blocked) = (is, (d, ap (n
 -- ---- each verdict
 pub fails_verdict : (names : List Name) (items : List Item) (beliefs : List Formula) (set : ℕ) (ds : List Default) (a : Absence) → ds ≡ defaults_of items
     → HasBlocked names (facts_of items ++ consequents ds set) ds set a → IsVerdict names items beliefs set (Fails a) None
-fails_verdict names items beliefs set ds a same told = (failed, no_view (λ places h. h))
+fails_verdict names items beliefs set ds a same told = (failed, none_is_never (λ places h. h))
   where
     failed : HasFailed names items set a
     failed =
@@ -46,7 +45,7 @@ allowed_in names items set ds es same told = subst (λ (xs : List Default). AreD
 
 pub applied_verdict : (names : List Name) (items : List Item) (beliefs : List Formula) (set : ℕ) (ds : List Default) (number : ℕ) (pre : Entail) (es : List Entail) → ds ≡ defaults_of items
     → HasAppliedOf names (facts_of items ++ consequents ds set) ds set number pre es → IsVerdict names items beliefs set (Applied number (entailment_of pre) (map entailment_of es)) None
-applied_verdict names items beliefs set ds number pre es same told = (applied, no_view (λ places h. h))
+applied_verdict names items beliefs set ds number pre es same told = (applied, none_is_never (λ places h. h))
   where
     applied : HasApplied names items set number (entailment_of pre) (map entailment_of es)
     applied =
@@ -67,7 +66,7 @@ ungrounded_verdict names items beliefs set ds closed es same part less told = (
     less = less;
     unsupported = subst (λ (xs : List Default). AreDenied names (facts_of items ++ consequents xs closed) (prerequisites xs (minus set closed)) es) same told;
   },
-  no_view (λ places h. h),
+  none_is_never (λ places h. h),
 )
 
 pub extension_verdict : (names : List Name) (items : List Item) (beliefs : List Formula) (set : ℕ) (ds : List Default) (order : List ℕ) (pres justs : List Entailment) (outside : List Absence) (outputs : List Entailment) (view : ℕ)

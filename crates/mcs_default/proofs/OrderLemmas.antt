@@ -10,6 +10,8 @@ use Rattle.mcs_sets.proofs.Lattice.{in_minus, has-without_itself, within_antisym
 use Rattle.mcs_base.specs.Listings.{IsAmong, AreApart}
 use Rattle.mcs_base.proofs.Among.{among_push}
 use Rattle.mcs_base.proofs.Each.{all_push}
+use Rattle.mcs_base.proofs.Zipped.{zip_weaker}
+use Rattle.mcs_base.proofs.SetParts.{minus_less, less_minus}
 use Rattle.mcs_system.specs.Plain.{Name, Formula, Default, Item}
 use Rattle.mcs_system.specs.Logic.{holds, holds_all}
 use Rattle.mcs_trace.specs.Clauses.{ClauseList}
@@ -20,7 +22,7 @@ use Rattle.mcs_cnf.proofs.ListLemmas.{with_append}
 use Rattle.mcs_evidence.specs.Defaults.{defaults_of, defaults_at, numbered_default, IsShown, IsDenied, AreDenied, AreGrounded}
 use Rattle.mcs_default.specs.Theories.{AreClausesOf, IsGrown, consequents}
 use Rattle.mcs_default.specs.Told.{AreNumbersOf, prerequisites}
-use Rattle.mcs_default.proofs.General.{zip_weaker, numbered_at, get_later}
+use Rattle.mcs_default.proofs.General.{numbered_at, get_later}
 
 -- where the formulas hold, the consequents of the defaults of the set do
 abbrev AreMetBy : List Default → ℕ → List Name → Type 0
@@ -47,23 +49,6 @@ holds-push a fs f h =
     let (all, last) = and_parts (holds_all a fs) (holds_all a (f ∷ [])) (sym (list_all-append (holds a) fs (f ∷ [])) ∙ h) in
     (all, (and_parts (holds a f) true last).0)
 
-closed-more : (set left k i : ℕ) → has (minus set (minus left (single k))) i ≡ true → (has (minus set left) i ≡ true) ⊎ (i ≡ k)
-closed-more set left k i member =
-    let (inside, out) = in_minus set (minus left (single k)) i member in
-    at (has left i) (has (single k) i) refl refl inside (sym (has-minus left (single k) i) ∙ out)
-  where
-    at : (b e : Bool) → has left i ≡ b → has (single k) i ≡ e → has set i ≡ true → (has left i && not (has (single k) i)) ≡ false → (has (minus set left) i ≡ true) ⊎ (i ≡ k)
-    at false e is same inside none = inl (has-minus set left i ∙ ap (λ c. c && not (has left i)) inside ∙ ap not is)
-    at true true is same inside none = inr (grind (arith, has-single))
-    at true false is same inside none = absurd (true≢false (sym (ap (λ c. c && not (has (single k) i)) is ∙ ap not same) ∙ none))
-
-more-closed : (set left k i : ℕ) → (has (minus set left) i ≡ true) ⊎ (i ≡ k) → has set k ≡ true → has (minus set (minus left (single k))) i ≡ true
-more-closed set left k i (inl old) inside = let (is, out) = in_minus set left i old in
-    has-minus set (minus left (single k)) i ∙ ap (λ c. c && not (has (minus left (single k)) i)) is ∙ ap not (has-minus left (single k) i ∙ ap (λ c. c && not (has (single k) i)) out)
-more-closed set left k i (inr same) inside =
-    subst (λ (j : ℕ). has (minus set (minus left (single k))) j ≡ true) (sym same)
-    (has-minus set (minus left (single k)) k ∙ ap (λ c. c && not (has (minus left (single k)) k)) inside ∙ ap not (has-without_itself left k))
-
 pub numbers-more : (set left k : ℕ) (order order' : List ℕ) → has set k ≡ true → has left k ≡ true → order' ≡ order ++ (k + 1) ∷ [] → AreNumbersOf (minus set left) order → AreNumbersOf (minus set (minus left (single k))) order'
 numbers-more set left k order order' inside in_left pushed (apart, exactly) =
     subst (AreNumbersOf (minus set (minus left (single k)))) (sym pushed) (apart_push order (k + 1) apart fresh, λ n. (to n, from n))
@@ -82,12 +67,12 @@ numbers-more set left k order order' inside in_left pushed (apart, exactly) =
 
     to : (n : ℕ) → IsAmong n (order ++ (k + 1) ∷ []) → (j : ℕ) × (n ≡ j + 1) × (has (minus set (minus left (single k))) j ≡ true)
     to n among = elim ((among_push n order (k + 1)).0 among) [
-      | inl old ↦ let (j, same, member) = (exactly n).0 old in (j, same, more-closed set left k j (inl member) inside)
-      | inr same ↦ (k, same, more-closed set left k k (inr refl) inside)
+      | inl old ↦ let (j, same, member) = (exactly n).0 old in (j, same, less_minus set left k j (inl member) inside)
+      | inr same ↦ (k, same, less_minus set left k k (inr refl) inside)
     ]
 
     from : (n : ℕ) → (j : ℕ) × (n ≡ j + 1) × (has (minus set (minus left (single k))) j ≡ true) → IsAmong n (order ++ (k + 1) ∷ [])
-    from n (j, same, member) = (among_push n order (k + 1)).1 (elim (closed-more set left k j member) as (λ _. IsAmong n order ⊎ (n ≡ k + 1)) [
+    from n (j, same, member) = (among_push n order (k + 1)).1 (elim (minus_less set left k j member) as (λ _. IsAmong n order ⊎ (n ≡ k + 1)) [
       | inl old ↦ inl ((exactly n).1 (j, same, old))
       | inr e ↦ inr (same ∙ ap (λ (m : ℕ). m + 1) e)
     ])
@@ -113,7 +98,7 @@ derived-more names fs ds set left k d order order' pres pres' e known known' at 
           (let (old, last) = holds-push a gs d.conclusion h in
           let (base, met) = derived.met a old in (
             base,
-            λ i d' at' member. elim (closed-more set left k i member) [
+            λ i d' at' member. elim (minus_less set left k i member) [
               | inl before ↦ met i d' at' before
               | inr same ↦ let one : d' ≡ d = (let e' : Some d' ≡ Some d = sym at' ∙ ap (slice_get ds) same ∙ at in cc) in ap (λ (x : Default). holds a x.conclusion) one ∙ last
             ],
@@ -162,15 +147,6 @@ stuck names fs ds set left order pres es known part derived denied =
         at k true is inside none = is
         at k false is inside none = absurd (true≢false (sym (ap (λ c. c && not (has left k)) inside ∙ ap not is) ∙ none))
 
-pub not_all : (set left : ℕ) → Within left set → ¬ (left ≡ 0) → ¬ (minus set left ≡ set)
-not_all set left part some same = some (none_from_no_member left (λ k. at k (has left k) refl))
-  where
-    at : (k : ℕ) (b : Bool) → has left k ≡ b → has left k ≡ false
-    at k false is = is
-    at k true is =
-        let out : has (minus set left) k ≡ false = has-minus set left k ∙ ap (λ c. c && not (has left k)) (part k is) ∙ ap not is in
-        absurd (true≢false (sym (part k is) ∙ ap (λ (s : ℕ). has s k) (sym same) ∙ out))
-
 -- ---- the code's loop begins
 pub numbers-none : (set : ℕ) (order : List ℕ) → order ≡ [] → AreNumbersOf (minus set set) order
 numbers-none set order none = subst (AreNumbersOf (minus set set)) (sym none) (tt, λ n. (λ among. absurd among, λ (k, same, member). absurd (true≢false (sym member ∙ ap (λ (s : ℕ). has s k) (minus_itself set) ∙ has-empty k))))
@@ -183,15 +159,3 @@ derived-start names fs ds set order pres known none none' is =
 
 pub same_default : (ds : List Default) (k : ℕ) (d d' : Default) → slice_get ds k ≡ Some d → slice_get ds k ≡ Some d' → d ≡ d'
 same_default ds k d d' at at' = let e : Some d ≡ Some d' = sym at ∙ at' in cc
-
--- a part of at most ten numbers is a small number
-pub part_small : (set left n : ℕ) → n ≤ 10 → Within set (such_that n (λ k. true)) → minus set left < 2 ^ 10
-part_small set left n few within =
-    let small : set < 2 ^ 10 = below_from_within set 10 (λ k member. wide k (has-such_that n (λ k. true) k) (within k member)) in
-    omega (arith, minus-le set left)
-  where
-    wide : (k : ℕ) → has (such_that n (λ k. true)) k ≡ (ltb k n && true) → has (such_that n (λ k. true)) k ≡ true → has (such_that 10 (λ k. true)) k ≡ true
-    wide k e member =
-        let less : ltb k n ≡ true = (and_parts (ltb k n) true (sym e ∙ member)).0 in
-        let below : ltb k 10 ≡ true = (let bound : k < n = grind (arith, nat_tests) in let bound' : k < 10 = omega arith in grind (arith, nat_tests)) in
-        has-such_that 10 (λ k. true) k ∙ ap (λ c. c && true) below

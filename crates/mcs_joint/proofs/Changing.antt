@@ -16,6 +16,8 @@ use Rattle.mcs_base.proofs.Each.{all_from_among}
 use Rattle.mcs_base.proofs.ListingLemmas.{IsListing-same}
 use Rattle.std.proofs.lemmas.List.{length-append}
 use Rattle.mcs_base.proofs.Lists.{slice_get_below, slice_get_push_at, length_zip}
+use Rattle.mcs_base.proofs.SetParts.{same_from_minus}
+use Rattle.mcs_base.proofs.Zipped.{zip_get}
 use Rattle.mcs_system.specs.Plain.{Formula, System}
 use Rattle.mcs_system.specs.Faults.{IsValid}
 use Rattle.mcs_system.specs.Logic.{Accepts, with_heads}
@@ -38,31 +40,11 @@ use Rattle.mcs_rows.specs.Local.{IsRowOf, AreLocalTables}
 use Rattle.mcs_joint.specs.Apart.{EachApart}
 use Rattle.mcs_joint.specs.Reduced.{IsReduced}
 use Rattle.mcs_joint.specs.Changed.{applicable_into, acting_into, HasMarksOf, IsChangedTable, AreChangedTables}
-use Rattle.mcs_joint.proofs.General.{zip_at}
 use Rattle.mcs_joint.proofs.Joint.{row_at, AreParts, joint_choice, choice_joint}
 use Rattle.mcs_joint.proofs.Repairing.{row_there}
 use Rattle.mcs_joint.proofs.Repaired.{own_apart}
 
 -- ---- the rules that a row's marks tell
--- where the same is missing and the same is too much, it is the same
-same_rules : (a x y : ℕ) → minus a x ≡ minus a y → minus x a ≡ minus y a → x ≡ y
-same_rules a x y less more = same_set x y (λ k. at k (has a k) refl)
-  where
-    at : (k : ℕ) (v : Bool) → has a k ≡ v → has x k ≡ has y k
-    at k v e = let e1 = has-minus a x k in let e2 = has-minus a y k in let e3 = has-minus x a k in let e4 = has-minus y a k in
-        let f : has (minus a x) k ≡ has (minus a y) k = ap (λ s. has s k) less in let g : has (minus x a) k ≡ has (minus y a) k = ap (λ s. has s k) more in
-        each (has a k) (has x k) (has y k) (sym e1 ∙ (f ∙ e2)) (sym e3 ∙ (g ∙ e4))
-      where
-        each : (u v w : Bool) → (u && not v) ≡ (u && not w) → (v && not u) ≡ (w && not u) → v ≡ w
-        each true true true f g = refl
-        each true true false f g = sym f
-        each true false true f g = sym f
-        each true false false f g = refl
-        each false true true f g = refl
-        each false true false f g = g
-        each false false true f g = g
-        each false false false f g = refl
-
 -- the marks of a choice depend on the rules into each context
 marks_same : (m : System) → IsValid m → (σ x y : ℕ) → Within x (all_rules m) → Within y (all_rules m) → ((i : ℕ) → i < length m.contexts → common x (rules_into m i) ≡ common y (rules_into m i)) → choice_marks m σ x ≡ choice_marks m σ y
 marks_same m valid σ x y in_x in_y same = within_antisymmetric _ _
@@ -124,7 +106,7 @@ module _ (m : System) (pair : ℕ) where
 
   -- and only there
   marks_tell : (i σ x : ℕ) → HasMarksOf m i pair (row_at m σ x i) → common x (rules_into m i) ≡ acting_into m i pair σ
-  marks_tell i σ x h = same_rules (applicable_into m i σ) (common x (rules_into m i)) (acting_into m i pair σ)
+  marks_tell i σ x h = same_from_minus (applicable_into m i σ) (common x (rules_into m i)) (acting_into m i pair σ)
       (sym (removed-marks_of m _ _ (into_known i σ (common x (rules_into m i)))) ∙ (h.removed ∙ (ap (minus (applicable_into m i (common σ (local_of m i)))) (acting_local i σ) ∙ ap (λ a. minus a (acting_into m i pair σ)) (into_local i σ))))
       (sym (forced-marks_of m _ _ (own_known i (applicable_into m i σ) x)) ∙ (h.forced ∙ (ap (λ y. minus y (applicable_into m i (common σ (local_of m i)))) (acting_local i σ) ∙ ap (minus (acting_into m i pair σ)) (into_local i σ))))
 
@@ -164,7 +146,7 @@ module _ (m : System) (pair : ℕ) where
       rules_are i less =
           let zip = length_zip (λ (p : Row) (u : TableData). IsAmong p u.rows) j.parts us j.of_tables in
           let (p, is) = slice_get_below j.parts i (omega (arith, zip, long)) in
-          let (u, is_u, among) = zip_at (λ (q : Row) (w : TableData). IsAmong q w.rows) j.parts us j.of_tables i p is in
+          let (u, is_u, among) = zip_get (λ (q : Row) (w : TableData). IsAmong q w.rows) j.parts us j.of_tables i p is in
           let own = of_row i u p is_u among in
           let same : p ≡ row_at m σ x i = same_row p (row_at m σ x i) own.0.mask (sym (parts i p is).0) (sym (parts i p is).1) in
           marks_tell i σ x (subst (HasMarksOf m i pair) same own.1) ∙ sym (acting_own i σ)

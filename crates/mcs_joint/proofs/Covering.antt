@@ -15,6 +15,7 @@ use Rattle.mcs_base.proofs.Among.{zip_among}
 use Rattle.mcs_base.proofs.Each.{all_from_among}
 use Rattle.mcs_base.proofs.Lists.{length_zip, zip_get_or}
 use Rattle.mcs_base.proofs.ListingLemmas.{same_listing}
+use Rattle.mcs_base.proofs.Zipped.{zip_weaker}
 use Rattle.mcs_table.specs.declared.row.Row.{Row}
 use Rattle.mcs_table.specs.RowOrder.{RowBefore}
 use Rattle.mcs_table.specs.Tables.{TableData, IsTable, IsUnion, IsMinimalRow, IsJoin, AreApart, unit_row, unit_table, united_row}
@@ -190,12 +191,6 @@ apart_fewer ts us zip apart = record { at = fewer }
         let at_i = zip_get_or (λ (t u : TableData). (p : Row) → IsAmong p u.rows → IsAmong p t.rows) ts us i unit_table unit_table zip (omega arith) in
         let at_j = zip_get_or (λ (t u : TableData). (p : Row) → IsAmong p u.rows → IsAmong p t.rows) ts us j unit_table unit_table zip (omega arith) in
         apart.at i j (omega arith) (omega arith) differ x y (at_i x in_x) (at_j y in_y)
-
-zip_weaker : {A B : Type 0} (R Q : A → B → Type 0) → ((x : A) (y : B) → R x y → Q x y) → (xs : List A) (ys : List B) → AllZip R xs ys → AllZip Q xs ys
-zip_weaker R Q weaker [] [] h = tt
-zip_weaker R Q weaker [] (y ∷ ys) h = absurd h
-zip_weaker R Q weaker (x ∷ xs) [] h = absurd h
-zip_weaker R Q weaker (x ∷ xs) (y ∷ ys) h = (weaker x y h.0, zip_weaker R Q weaker xs ys h.1)
 
 pub apart_minimal : (level : ℕ) (ts us : List TableData) → AllZip (IsMinimalTable level) ts us → EachApart ts → EachApart us
 apart_minimal level ts us all = apart_fewer ts us (zip_weaker (IsMinimalTable level) (λ (t u : TableData). (p : Row) → IsAmong p u.rows → IsAmong p t.rows) (λ t u j. minimal_among level t u j) ts us all)

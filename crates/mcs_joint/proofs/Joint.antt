@@ -13,6 +13,7 @@ use Rattle.mcs_base.proofs.Among.{among_get, get_among}
 use Rattle.mcs_base.proofs.Each.{all_get}
 use Rattle.std.proofs.lemmas.List.{length-map}
 use Rattle.mcs_base.proofs.Lists.{slice_get_below, choose_below, map_slice_get, slice_get-map_some, length_zip}
+use Rattle.mcs_base.proofs.Zipped.{zip_get, zip_from_get}
 use Rattle.mcs_system.specs.Plain.{System}
 use Rattle.mcs_system.specs.Systems.{variables, variables_of}
 use Rattle.mcs_system.specs.Faults.{IsValid}
@@ -29,7 +30,6 @@ use Rattle.mcs_table.specs.Joins.{union_of, united_rows, IsJointRow}
 use Rattle.mcs_table.proofs.JoinLemmas.{row_of}
 use Rattle.mcs_table.proofs.OrderFreeLemmas.{in_some, some_in}
 use Rattle.mcs_rows.specs.Local.{IsRowOf}
-use Rattle.mcs_joint.proofs.General.{zip_at, zip_from}
 
 -- the row of context i in the state with the rules of x
 abbrev pub row_at : System → ℕ → ℕ → ℕ → Row
@@ -78,7 +78,7 @@ module _ (m : System) (order : List ℕ) (is_order : IsImportOrder m order) (k :
   -- what stands at a place of the parts
   module _ (level : ℕ) (r : Row) (j : IsJointRow level tables r) where
     pub part_at : (i : ℕ) (p : Row) → slice_get j.parts i ≡ Some p → (t : TableData) × (slice_get tables i ≡ Some t) × IsAmong p t.rows
-    part_at i p is = zip_at (λ (q : Row) (t : TableData). IsAmong q t.rows) j.parts tables j.of_tables i p is
+    part_at i p is = zip_get (λ (q : Row) (t : TableData). IsAmong q t.rows) j.parts tables j.of_tables i p is
 
     row_at_place : (i : ℕ) (p : Row) → slice_get j.parts i ≡ Some p → IsRowOf m k i p × IsPartial p.state
     row_at_place i p is = let (t, is_t, among) = part_at i p is in (own i t p is_t among, (row_of t (all_get IsTable tables i t all is_t) p among).partial)
@@ -132,7 +132,7 @@ choice_joint m tables long valid level σ x choice few there =
       united_rows parts,
       record {
         parts = parts;
-        of_tables = zip_from (λ (p : Row) (t : TableData). IsAmong p t.rows) parts tables (many ∙ sym long) (λ i p t is is_t. subst (λ (w : Row). IsAmong w t.rows) (sym (each i p is)) (there i t is_t));
+        of_tables = zip_from_get (λ (p : Row) (t : TableData). IsAmong p t.rows) parts tables (many ∙ sym long) (λ i p t is is_t. subst (λ (w : Row). IsAmong w t.rows) (sym (each i p is)) (there i t is_t));
         fit = λ p q in_p in_q.
             let (i, is) = get_among p parts in_p in
             let (j, is') = get_among q parts in_q in

@@ -11,6 +11,7 @@ use Rattle.mcs_base.specs.Listings.{IsAmong}
 use Rattle.mcs_base.proofs.Among.{among_permutation, among_at, place_among}
 use Rattle.mcs_base.proofs.Each.{all_among, all_from_among}
 use Rattle.mcs_base.proofs.Lists.{zip_get_or, length_zip}
+use Rattle.mcs_base.proofs.Zipped.{zip_from_get_or}
 use Rattle.mcs_table.specs.declared.row.Row.{Row}
 use Rattle.mcs_table.specs.Tables.{TableData, IsTable, HasPartner, IsSemiJoin, AreApart, unit_row, unit_table}
 use Rattle.mcs_table.specs.Joins.{union_of, IsJointRow}
@@ -45,13 +46,6 @@ reduced_covers level ts us reduced = record {
   below = λ s (r, j, e). (s, (r, (reduced.joint r).0 j, e), λ k h. h);
 }
 
--- lists of one length, where what stands at each place goes together
-zip_by_place : {A B : Type 0} (R : A → B → Type 0) (xs : List A) (ys : List B) (d : A) (e : B) → length xs ≡ length ys → ((k : ℕ) → k < length ys → R (get_or xs k d) (get_or ys k e)) → AllZip R xs ys
-zip_by_place R [] [] d e long each = tt
-zip_by_place R [] (y ∷ ys) d e long each = absurd (omega (arith, long))
-zip_by_place R (x ∷ xs) [] d e long each = absurd (omega (arith, long))
-zip_by_place R (x ∷ xs) (y ∷ ys) d e long each = (each 0 (omega arith), zip_by_place R xs ys d e (omega (arith, long)) (λ k less. each (suc k) (omega arith)))
-
 module _ (level : ℕ) (ts : List TableData) (i j : ℕ) (a b u : TableData) (less_i : i < length ts) (less_j : j < length ts) (differ : ¬ (i ≡ j)) (is_a : a ≡ get_or ts i a) (is_b : b ≡ get_or ts j b) (semi : IsSemiJoin a b level u) where
   at_i : get_or ts i unit_table ≡ a
   at_i = get_or_default ts i unit_table a less_i ∙ sym is_a
@@ -67,7 +61,7 @@ module _ (level : ℕ) (ts : List TableData) (i j : ℕ) (a b u : TableData) (le
   ]
 
   fewer : AllZip (λ (t w : TableData). (p : Row) → IsAmong p w.rows → IsAmong p t.rows) ts (set ts i u)
-  fewer = zip_by_place (λ (t w : TableData). (p : Row) → IsAmong p w.rows → IsAmong p t.rows) ts (set ts i u) unit_table unit_table (sym (length-set ts i u))
+  fewer = zip_from_get_or (λ (t w : TableData). (p : Row) → IsAmong p w.rows → IsAmong p t.rows) ts (set ts i u) unit_table unit_table (sym (length-set ts i u))
       (λ k less. placed (λ (t w : TableData). (p : Row) → IsAmong p w.rows → IsAmong p t.rows) (λ p among. ((semi.rows.exactly p).0 among).0) (λ t p among. among) k (let long = length-set ts i u in omega arith))
 
   back : (parts : List Row) (us : List TableData) (ws : List TableData) → AllZip (λ (t w : TableData). (p : Row) → IsAmong p w.rows → IsAmong p t.rows) us ws → AllZip (λ (p : Row) (w : TableData). IsAmong p w.rows) parts ws → AllZip (λ (p : Row) (t : TableData). IsAmong p t.rows) parts us
@@ -108,7 +102,7 @@ module _ (level : ℕ) (ts : List TableData) (i j : ℕ) (a b u : TableData) (le
       let parts = joint.parts in
       record {
         parts = parts;
-        of_tables = zip_by_place R parts (set ts i u) unit_row unit_table (long ∙ sym (length-set ts i u)) (λ k less.
+        of_tables = zip_from_get_or R parts (set ts i u) unit_row unit_table (long ∙ sym (length-set ts i u)) (λ k less.
             let less' : k < length ts = (let same = length-set ts i u in omega arith) in
             let there : IsAmong (get_or parts k unit_row) (get_or ts k unit_table).rows = zip_get_or R parts ts k unit_row unit_table joint.of_tables (omega (arith, long)) in
             elim (cases_eq k i) [

@@ -16,6 +16,7 @@ use Rattle.mcs_import.proofs.OrderLemmas.{import_order_exists, order_in_range}
 use Rattle.mcs_table.specs.Tables.{TableData, IsTable}
 use Rattle.mcs_table.specs.Elimination.{AreJointMarks}
 use Rattle.std.proofs.lemmas.Option.{slice_get_within}
+use Rattle.mcs_base.proofs.Sorted.{minimal_iff}
 use Rattle.mcs_rows.specs.Local.{IsRowOf, AreLocalTables}
 use Rattle.mcs_joint.proofs.Joint.{row_at, joint_choice, choice_joint}
 
@@ -85,17 +86,10 @@ minimal_choices m level s = (
   },
 )
 
--- what is minimal depends only on what there is
-pub minimal_same : (P Q : ℕ → Type 0) → ((s : ℕ) → P s ↔ Q s) → (s : ℕ) → IsMinimal P s ↔ IsMinimal Q s
-minimal_same P Q same s = (
-  λ h. record { one = (same s).0 h.one; least = λ t q. h.least t ((same t).1 q) },
-  λ h. record { one = (same s).1 h.one; least = λ t p. h.least t ((same t).0 p) },
-)
-
 -- the minimal marks of the joint rows are the minimal diagnoses with at most so many marks
 pub minimal_marks : (m : System) → IsValid m → (k : ℕ) (tables : List TableData) → AllByRecursion IsTable tables → AreLocalTables m k tables → (level : ℕ) → level ≤ k
     → (s : ℕ) → IsMinimal (AreJointMarks level tables) s ↔ (IsMinimal (IsDiagnosis m) s × (size s ≤ level))
 minimal_marks m valid k tables all local level le s =
-    let one = minimal_same (AreJointMarks level tables) (AreChoiceMarks m level) (joint_marks_are m valid k tables all local level le) s in
+    let one = minimal_iff (AreJointMarks level tables) (AreChoiceMarks m level) (joint_marks_are m valid k tables all local level le) s in
     let other = minimal_choices m level s in
     (λ h. other.0 (one.0 h), λ h. one.1 (other.1 h))

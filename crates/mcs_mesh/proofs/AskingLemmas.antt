@@ -7,7 +7,6 @@ use Rattle.mcs_base.proofs.Among.{among_push, among_drop_more, none_among_drop, 
 use Rattle.mcs_base.proofs.Ascending.{before_at, first_before}
 use Rattle.mcs_base.proofs.Each.{all_among, all_push, all_append, all_left, all_right}
 use Rattle.mcs_base.proofs.Distinct.{distinct_push}
-use Rattle.mcs_base.proofs.Numbered.{distinct_from_apart, apart_from_distinct}
 use Rattle.mcs_system.specs.Plain.{System}
 use Rattle.mcs_rows.specs.Local.{Answered}
 use Rattle.mcs_states.specs.Oracles.{OracleState, Lacks, IsLacking, with_journal, after_asking}
@@ -98,7 +97,7 @@ module _ (m : System) (i : ℕ) (o o' : OracleState) (asked : List ℕ) (up : Is
         λ h. (among_inserted x given before a).1 (elim ((among_push x o.journal q).0 h) [ inl there ↦ inl ((s.now.journal.exactly x).0 there) | inr e ↦ inr (e ∙ sym to) ]),
         λ h. (among_push x o.journal q).1 (elim ((among_inserted x given before a).0 h) [ inl there ↦ inl ((s.now.journal.exactly x).1 there) | inr e ↦ inr (e ∙ to) ]),
       );
-      apart = apart_from_distinct (o.journal ++ q ∷ []) (distinct_push o.journal q (distinct_from_apart o.journal s.now.journal.apart) (λ h. new_here other ((s.now.journal.exactly q).0 h)));
+      apart = distinct_push o.journal q s.now.journal.apart (λ h. new_here other ((s.now.journal.exactly q).0 h));
     };
     held = λ x h. elim ((among_inserted x given before a).0 h) [ inl there ↦ s.now.held x there | inr e ↦ subst (λ y. ¬ IsLacking o.holds y) (sym (e ∙ to)) held ];
   }

@@ -24,7 +24,7 @@ use Rattle.mcs_table.specs.declared.row.Row.{Row}
 use Rattle.mcs_table.specs.RowOrder.{RowBefore}
 use Rattle.mcs_table.specs.Tables.{TableData}
 use Rattle.mcs_mesh.specs.Rounds.{HasFewRules, Knowledge, IsRoundDone}
-use Rattle.mcs_mesh.proofs.General.{below_get, question_after}
+use Rattle.mcs_mesh.proofs.General.{question_after}
 
 -- a set of rules into a context has no more marks than there are rules into it
 marks_small : (m : System) (i σ x : ℕ) → Within x (rules_into m i) → size (marks_at m i σ x) ≤ size (rules_into m i)
@@ -133,7 +133,7 @@ module _ (m : System) (low high : ℕ) (few : HasFewRules m low) (less : low ≤
     oracles_each = r.oracles_each;
     known_each = r.known_each;
     asked = r.asked;
-    all = λ i k at. let one = r.all i k at in let b = below_get ks i k at in let each = r.known_each in record {
+    all = λ i k at. let one = r.all i k at in let b = slice_get_within ks i k at in let each = r.known_each in record {
       answered = record { questions = IsListing-same (λ a b. a < b) (IsQuestionAt m low i) (IsQuestionAt m high i) _ (λ x. same_questions i x (omega (arith, b, each))) one.answered.questions; parts = one.answered.parts };
       supplies = IsListing-same StateBefore (MaySupply m low i) (MaySupply m high i) k.supplies (λ τ. same_supplies i τ (omega (arith, b, each))) one.supplies;
     };

@@ -16,16 +16,19 @@ use Rattle.mcs_states.specs.Evaluators.{EvaluatorState, HasDone, HasHalted, HasH
 use Rattle.mcs_states.specs.declared.halt.Halt.{Halt}
 use Rattle.mcs_states.specs.declared.halt.Halt.TheVariants.{Spent, Missing, Memory}
 use Rattle.mcs_mesh.specs.Rounds.{Knowledge, AreFresh, HasAsked, HasAnswers, HasRoundCause, IsBegun, HasFewRules, IsKnown, IsMesh, IsReady, IsRoundDone, answer_count, questions_in, state_of}
-use Rattle.mcs_mesh.proofs.General.{below_get, question_higher, same_lengths, same_oracle}
+use Rattle.mcs_mesh.proofs.General.{question_higher}
 use Rattle.mcs_mesh.proofs.RoundLemmas.{same_sums}
 use Rattle.mcs_mesh.proofs.LastingLemmas.{same_round, same_tables}
 use Rattle.mcs_base.proofs.Booleans.{none_from_not_some}
+use Rattle.std.proofs.lemmas.Option.{slice_get_within}
+use Rattle.mcs_base.proofs.Sorted.{inventory_fits}
+use Rattle.mcs_states.proofs.Causes.{same_oracle}
 
 -- ---- what a round leaves
 module _ (m : System) (level : ℕ) (os : List OracleState) (ks : List Knowledge) (r : IsRoundDone m level os ks) where
   known_at : (i : ℕ) (o : OracleState) → slice_get os i ≡ Some o → (k : Knowledge) × (slice_get ks i ≡ Some k) × HasAsked m i o k.answers × IsKnown m level i k
   known_at i o at =
-      let less : i < length ks = let b = below_get os i o at in let e = r.oracles_each in let e' = r.known_each in omega (arith, b, e, e') in
+      let less : i < length ks = let b = slice_get_within os i o at in let e = r.oracles_each in let e' = r.known_each in omega (arith, b, e, e') in
       let (k, at') = slice_get_below ks i less in (k, at', r.asked i o k at at', r.all i k at')
 
   is_count : IsCount m level (answer_count ks)
@@ -94,7 +97,7 @@ journals_counted (o ∷ os) (k ∷ ks) e each =
 
 begun_counted : (m : System) (level : ℕ) (os : List OracleState) (ks : List Knowledge) → IsBegun m level os ks → sum_by (λ (o : OracleState). length o.journal) os ≡ answer_count ks
 begun_counted m level os ks b = journals_counted os ks (b.oracles_each ∙ sym b.known_each)
-    (λ i o k at at'. same_lengths o.journal (questions_in k.answers) (b.asked i o k at at').journal (b.answers i k at').ascending ∙ length-map k.answers (λ (a : Answered). a.question))
+    (λ i o k at at'. inventory_fits o.journal (questions_in k.answers) (b.asked i o k at at').journal (b.answers i k at').ascending ∙ length-map k.answers (λ (a : Answered). a.question))
 
 -- ---- the beginning
 none_answered : (ks : List Knowledge) → AllByRecursion (λ (k : Knowledge). k.answers ≡ []) ks → answer_count ks ≡ 0

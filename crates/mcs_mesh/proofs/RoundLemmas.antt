@@ -10,7 +10,10 @@ use Rattle.mcs_base.proofs.Among.{among_at, among_push, filter_among, take_among
 use Rattle.mcs_base.proofs.Each.{all_among, all_from_among}
 use Rattle.mcs_base.proofs.Lists.{map_slice_get, slice_get_below, slice_get-map_at, slice_get_push_at}
 use Rattle.mcs_base.proofs.Distinct.{ascending_distinct}
-use Rattle.mcs_base.proofs.Numbered.{apart_from_distinct}
+use Rattle.mcs_base.proofs.Written.{slice_get-slice_set, length-slice_set, map-slice_set, sum_of_lengths-slice_set}
+use Rattle.std.proofs.lemmas.Option.{slice_get_within}
+use Rattle.mcs_base.proofs.Mapped.{map_push_as}
+use Rattle.mcs_states.proofs.Causes.{same_oracle}
 use Rattle.mcs_system.specs.Plain.{System, Context}
 use Rattle.mcs_system.specs.Imports.{IsImportOrder, before_in, supplied, imports, rules_into}
 use Rattle.mcs_system.specs.Levels.{IsQuestionAt, MaySupply, AreSomeQuestions, HasQuestions}
@@ -24,7 +27,7 @@ use Rattle.mcs_states.specs.declared.halt.Halt.{Halt}
 use Rattle.mcs_states.specs.declared.halt.Halt.TheVariants.{Spent, Missing, Memory}
 use Rattle.mcs_mesh.specs.Rounds.{Knowledge, AreKnown, AreRight, HasAsked, HasAnswers, HasAskingCause, HasRoundCause, IsBegun, IsKnown, IsRoundDone, answer_count, knowledge_of, questions_in, supplies_at, supplies_in}
 use Rattle.mcs_mesh.specs.declared.known.Known as code
-use Rattle.mcs_mesh.proofs.General.{before_taken, below_get, follows_all, follows_apart, get_set, length-slice_set, map-slice_set, mapped-push, same_oracle, sum_set}
+use Rattle.mcs_mesh.proofs.General.{before_taken, follows_all, follows_apart}
 
 -- ---- supplies
 pub supplies_known : (m : System) (level : ℕ) (known : List Knowledge) (js : List ℕ) → ((j : ℕ) → IsAmong j js → (k : Knowledge) × (slice_get known j ≡ Some k) × IsKnown m level j k) → AreSupplies m level js (supplies_at known js)
@@ -67,11 +70,11 @@ module _ (m : System) (level : ℕ) (seen : List ℕ) (known : List Knowledge) (
   none_yet = let (xs, is) = slice_get_below s.lists i (let e = s.one_each in omega (arith, e, less)) in is ∙ ap (λ ys. Some ys) (s.untold i xs new is)
 
   sum_more : drawn + length asked ≡ sum_by (λ (xs : List ℕ). length xs) (slice_set s.lists i asked)
-  sum_more = let e = s.sum in omega (arith, e, sum_set s.lists i asked none_yet)
+  sum_more = let e = s.sum in omega (arith, e, sum_of_lengths-slice_set s.lists i asked none_yet)
 
   some_more : (c : ℕ) (xs : List ℕ) → slice_get (slice_set s.lists i asked) c ≡ Some xs → AreSomeQuestions m level c xs
-  some_more c xs is = elim (get_set s.lists i c asked xs is) [
-    | inl h ↦ subst (λ ys. AreSomeQuestions m level c ys) (sym h.1) (subst (λ n. AreSomeQuestions m level n asked) (sym h.0) (record { questions = λ x among. (listed.exactly x).0 among; apart = apart_from_distinct asked (ascending_distinct asked listed.ascending) }))
+  some_more c xs is = elim (slice_get-slice_set s.lists i c asked xs is) [
+    | inl h ↦ subst (λ ys. AreSomeQuestions m level c ys) (sym h.1) (subst (λ n. AreSomeQuestions m level n asked) (sym h.0) (record { questions = λ x among. (listed.exactly x).0 among; apart = ascending_distinct asked listed.ascending }))
     | inr h ↦ s.some c xs h.1
   ]
 
@@ -85,15 +88,15 @@ module _ (m : System) (level : ℕ) (seen : List ℕ) (known : List Knowledge) (
     one_each = length-slice_set s.lists i asked ∙ s.one_each;
     some = some_more;
     sum = e ∙ sum_more;
-    told = λ c xs k' h at at'. elim (get_set s.lists i c asked xs at) [
-      | inl here ↦ elim (get_set known i c k k' at') [ inl here' ↦ here.1 ∙ sym questions ∙ ap (λ z. questions_in z.answers) (sym here'.1) | inr other ↦ absurd (other.0 here.0) ]
-      | inr other ↦ elim (get_set known i c k k' at') [ inl here' ↦ absurd (other.0 here'.0) | inr other' ↦ elim ((among_push c seen i).0 h) [ inl before ↦ s.told c xs k' before other.1 other'.1 | inr last ↦ absurd (other.0 last) ] ]
+    told = λ c xs k' h at at'. elim (slice_get-slice_set s.lists i c asked xs at) [
+      | inl here ↦ elim (slice_get-slice_set known i c k k' at') [ inl here' ↦ here.1 ∙ sym questions ∙ ap (λ z. questions_in z.answers) (sym here'.1) | inr other ↦ absurd (other.0 here.0) ]
+      | inr other ↦ elim (slice_get-slice_set known i c k k' at') [ inl here' ↦ absurd (other.0 here'.0) | inr other' ↦ elim ((among_push c seen i).0 h) [ inl before ↦ s.told c xs k' before other.1 other'.1 | inr last ↦ absurd (other.0 last) ] ]
     ];
-    untold = λ c xs not at. elim (get_set s.lists i c asked xs at) [
+    untold = λ c xs not at. elim (slice_get-slice_set s.lists i c asked xs at) [
       | inl here ↦ absurd (not ((among_push c seen i).1 (inr here.0)))
       | inr other ↦ s.untold c xs (λ before. not ((among_push c seen i).1 (inl before))) other.1
     ];
-    each_known = λ c k' h at. elim (get_set known i c k k' at) [
+    each_known = λ c k' h at. elim (slice_get-slice_set known i c k k' at) [
       | inl here ↦ subst (λ z. IsKnown m level c z) (sym here.1) (subst (λ n. IsKnown m level n k) (sym here.0) one)
       | inr other ↦ elim ((among_push c seen i).0 h) [ inl before ↦ s.each_known c k' before other.1 | inr last ↦ absurd (other.0 last) ]
     ];
@@ -111,7 +114,7 @@ same_sums (xs ∷ lists) (k ∷ known) e each =
     omega (arith, here, rest, sum_by-cons (λ (ys : List ℕ). length ys) xs lists, sum_by-cons (λ (l : Knowledge). length l.answers) k known)
 
 pub all_counted : (m : System) (level : ℕ) (order : List ℕ) (known : List Knowledge) (drawn : ℕ) → IsPartly m level order known drawn → length known ≡ length m.contexts → ((c : ℕ) → c < length m.contexts → IsAmong c order) → drawn ≡ answer_count known
-all_counted m level order known drawn s each all = s.sum ∙ same_sums s.lists known (s.one_each ∙ sym each) (λ c xs k at at'. s.told c xs k (all c (let e = s.one_each in let l = below_get s.lists c xs at in omega (arith, e, l))) at at')
+all_counted m level order known drawn s each all = s.sum ∙ same_sums s.lists known (s.one_each ∙ sym each) (λ c xs k at at'. s.told c xs k (all c (let e = s.one_each in let l = slice_get_within s.lists c xs at in omega (arith, e, l))) at at')
 
 has_answers : (m : System) (level i : ℕ) (k : Knowledge) → IsKnown m level i k → HasAnswers m level i k.answers
 has_answers m level i k one = record { questions = λ x h. (one.answered.questions.exactly x).0 h; ascending = one.answered.questions.ascending; right = one.answered.parts }
@@ -121,11 +124,11 @@ begun_more : (m : System) (level : ℕ) (oracles : List OracleState) (known : Li
 begun_more m level oracles known b i o k asked one = record {
   oracles_each = length-slice_set oracles i o ∙ b.oracles_each;
   known_each = length-slice_set known i k ∙ b.known_each;
-  asked = λ c o' k' at at'. elim (get_set oracles i c o o' at) [
-    | inl here ↦ elim (get_set known i c k k' at') [ inl here' ↦ rw (here.0, here.1, here'.1) asked | inr other ↦ absurd (other.0 here.0) ]
-    | inr other ↦ elim (get_set known i c k k' at') [ inl here' ↦ absurd (other.0 here'.0) | inr other' ↦ b.asked c o' k' other.1 other'.1 ]
+  asked = λ c o' k' at at'. elim (slice_get-slice_set oracles i c o o' at) [
+    | inl here ↦ elim (slice_get-slice_set known i c k k' at') [ inl here' ↦ rw (here.0, here.1, here'.1) asked | inr other ↦ absurd (other.0 here.0) ]
+    | inr other ↦ elim (slice_get-slice_set known i c k k' at') [ inl here' ↦ absurd (other.0 here'.0) | inr other' ↦ b.asked c o' k' other.1 other'.1 ]
   ];
-  answers = λ c k' at. elim (get_set known i c k k' at) [ inl here ↦ rw (here.0, here.1) (has_answers m level i k one) | inr other ↦ b.answers c k' other.1 ];
+  answers = λ c k' at. elim (slice_get-slice_set known i c k k' at) [ inl here ↦ rw (here.0, here.1) (has_answers m level i k one) | inr other ↦ b.answers c k' other.1 ];
 }
 
 -- ---- the oracles but for their journals
@@ -214,7 +217,7 @@ module _ (m : System) (level budget : ℕ) (order : List ℕ) (ordered : IsImpor
     oracles_each = s.begun.oracles_each;
     known_each = s.begun.known_each;
     asked = s.begun.asked;
-    all = λ i l at. s.partly.each_known i l (all_seen i (let e = s.begun.known_each in let b = below_get known i l at in omega (arith, e, b))) at;
+    all = λ i l at. s.partly.each_known i l (all_seen i (let e = s.begun.known_each in let b = slice_get_within known i l at in omega (arith, e, b))) at;
   }
 
 -- ---- what is told
@@ -222,8 +225,8 @@ pub supplies_more : (known : List code.Known) (js : List ℕ) (k j : ℕ) (d : c
     → supply.items ≡ (get_or known j d).supplies.items → now ≡ told ++ supply ∷ [] → map (λ (v : Vec ℕ Global). v.items) told ≡ supplies_at (map knowledge_of known) (take k js) → map (λ (v : Vec ℕ Global). v.items) now ≡ supplies_at (map knowledge_of known) (take (k + 1) js)
 supplies_more known js k j d told now supply more is_j less same is so_far =
     let here : supply.items ≡ supplies_in (slice_get (map knowledge_of known) j) = same ∙ sym (ap supplies_in (slice_get-map_at knowledge_of known j d less)) in
-    mapped-push (λ (v : Vec ℕ Global). v.items) told now supply is ∙ ap (λ xss. xss ++ supply.items ∷ []) so_far ∙ ap (λ xs. supplies_at (map knowledge_of known) (take k js) ++ xs ∷ []) (here ∙ ap (λ n. supplies_in (slice_get (map knowledge_of known) n)) is_j)
-    ∙ sym (mapped-push (λ n. supplies_in (slice_get (map knowledge_of known) n)) (take k js) (take (k + 1) js) (get_or js k 0) (take_more js k 0 more))
+    map_push_as (λ (v : Vec ℕ Global). v.items) told now supply is ∙ ap (λ xss. xss ++ supply.items ∷ []) so_far ∙ ap (λ xs. supplies_at (map knowledge_of known) (take k js) ++ xs ∷ []) (here ∙ ap (λ n. supplies_in (slice_get (map knowledge_of known) n)) is_j)
+    ∙ sym (map_push_as (λ n. supplies_in (slice_get (map knowledge_of known) n)) (take k js) (take (k + 1) js) (get_or js k 0) (take_more js k 0 more))
 
 -- ---- the tables
 pub table_more : (m : System) (level i : ℕ) (tables now : List TableData) (t : TableData) → ((c : ℕ) (t : TableData) → slice_get tables c ≡ Some t → IsLocalTable m level c t) → length tables ≡ i → IsLocalTable m level i t → now ≡ tables ++ t ∷ []

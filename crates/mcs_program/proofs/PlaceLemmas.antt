@@ -12,6 +12,7 @@ use Rattle.std.specs.List.{AllByRecursion, AllZip, list_all}
 use Rattle.mcs_sets.specs.Sets.{has, single, union, common, such_that, Within, Meets}
 use Rattle.mcs_sets.proofs.SetLemmas.{within_where_common, common_where_within, meets_where_common, common_where_meets, below_power, has-empty, has-such_that, such_that-lt}
 use Rattle.mcs_sets.proofs.Lattice.{in_with, none_within}
+use Rattle.mcs_base.proofs.AntichainLemmas.{lies_within-is}
 use Rattle.mcs_base.proofs.Lists.{slice_get-map_at, zip_get_or, length_zip}
 use Rattle.mcs_system.specs.Plain.{Name, Formula, Atom, ProgramRule}
 use Rattle.mcs_system.specs.Logic.{same_name, is_in, holds, holds_all, true_names, Atoms, Believes}
@@ -31,12 +32,6 @@ use Rattle.mcs_program.proofs.SearchLemmas.{rest_value}
 use Rattle.mcs_program.proofs.SmallLemmas.{blocked_value, others_value, IsLow}
 
 -- ---- the tests
-pub within_test : (a b : ℕ) → (lies_within a b ≡ true) ↔ Within a b
-within_test a b = (
-  λ h. within_where_common a b (eqb-true (common a b) a h),
-  λ w. eq-eqb (common a b) a (common_where_within a b w),
-)
-
 pub meet_test : (a b : ℕ) → (do_meet a b ≡ true) ↔ Meets a b
 meet_test a b = (
   λ h. meets_where_common a b a (below_power a) (λ e. true≢false (sym h ∙ ap not (eq-eqb (common a b) 0 e))),
@@ -48,13 +43,13 @@ within_with p s j = both_ways _ _ to from
   where
     to : lies_within (union p (single j)) s ≡ true → (lies_within p s && has s j) ≡ true
     to h =
-        let w = (within_test (union p (single j)) s).0 h in
-        and_from (lies_within p s) (has s j) ((within_test p s).1 (λ k m. w k ((in_with p j k).1 (inl m)))) (w j ((in_with p j j).1 (inr refl)))
+        let w = (lies_within-is (union p (single j)) s).0 h in
+        and_from (lies_within p s) (has s j) ((lies_within-is p s).1 (λ k m. w k ((in_with p j k).1 (inl m)))) (w j ((in_with p j j).1 (inr refl)))
 
     from : (lies_within p s && has s j) ≡ true → lies_within (union p (single j)) s ≡ true
     from h =
         let (w, m) = and_parts (lies_within p s) (has s j) h in
-        (within_test (union p (single j)) s).1 (λ k there. elim ((in_with p j k).0 there) [ inl old ↦ (within_test p s).0 w k old | inr same ↦ ap (has s) same ∙ m ])
+        (lies_within-is (union p (single j)) s).1 (λ k there. elim ((in_with p j k).0 there) [ inl old ↦ (lies_within-is p s).0 w k old | inr same ↦ ap (has s) same ∙ m ])
 
 meet_with : (p s j : ℕ) → do_meet (union p (single j)) s ≡ (do_meet p s || has s j)
 meet_with p s j = both_ways _ _ to from
@@ -83,7 +78,7 @@ place_is names n j single known e =
 
 pub no_places : (names : List Name) (p : ℕ) → p ≡ 0 → ArePlaces names [] p
 no_places names p e = subst (ArePlaces names []) (sym e) (record {
-  all = λ s. (within_test 0 s).1 (none_within s);
+  all = λ s. (lies_within-is 0 s).1 (none_within s);
   some = λ s. false_from_ne_true (do_meet 0 s) (λ h. let m : Meets 0 s = (meet_test 0 s).0 h in true≢false (sym m.in_first ∙ has-empty m.member));
 })
 
@@ -119,10 +114,10 @@ module _ (names : List Name) (single : has_twins names ≡ false) where
       to : lies_within less s ≡ true → all_in (true_names 0 names s) (true_names 0 names less) ≡ true
       to h = all_in_from (true_names 0 names s) (true_names 0 names less) (λ n here.
           let (j, place) = place_at n (true_names-known n 0 names less here) in
-          place.tells s ∙ (within_test less s).0 h j (sym (place.tells less) ∙ here))
+          place.tells s ∙ (lies_within-is less s).0 h j (sym (place.tells less) ∙ here))
 
       from : all_in (true_names 0 names s) (true_names 0 names less) ≡ true → lies_within less s ≡ true
-      from h = (within_test less s).1 (λ k here.
+      from h = (lies_within-is less s).1 (λ k here.
           let (n, known, place) = name_at k (range k here) in
           sym (place.tells s) ∙ all_in_each (true_names 0 names s) (true_names 0 names less) h n (place.tells less ∙ here))
 
@@ -131,7 +126,7 @@ module _ (names : List Name) (single : has_twins names ≡ false) where
   beyond_own less s range = both_ways _ _ to from
     where
       to : not (lies_within s less) ≡ true → any_in (true_names 0 names s) (false_names 0 names less) ≡ true
-      to h = true_from_ne_false (any_in (true_names 0 names s) (false_names 0 names less)) (λ none. true≢false (sym ((within_test s less).1 (λ k here.
+      to h = true_from_ne_false (any_in (true_names 0 names s) (false_names 0 names less)) (λ none. true≢false (sym ((lies_within-is s less).1 (λ k here.
           let (n, known, place) = name_at k (range k here) in
           elim (true_or_false n 0 names less known) [
             | inl inside ↦ sym (place.tells less) ∙ inside
@@ -143,7 +138,7 @@ module _ (names : List Name) (single : has_twins names ≡ false) where
           let (n, beyond, here) = any_in_some (true_names 0 names s) (false_names 0 names less) h in
           let (j, place) = place_at n (false_names-known n 0 names less beyond) in
           not_from_false (lies_within s less) (false_from_ne_true (lies_within s less) (λ within.
-          true_not_false n 0 names less single (place.tells less ∙ (within_test s less).0 within j (sym (place.tells s) ∙ here)) beyond))
+          true_not_false n 0 names less single (place.tells less ∙ (lies_within-is s less).0 within j (sym (place.tells s) ∙ here)) beyond))
 
 -- ---- rules
 pub placed_rule_holds : (names : List Name) (r : ProgramRule) (p : PlacedRule) (s : ℕ) → IsPlacedRule names r p → placed_holds s p ≡ holds (true_names 0 names s) (rule_formula r)

@@ -3,7 +3,7 @@ use Rattle.std.proofs.Common.{◌≡◌, ℕ, ◌+◌, ◌<◌, ◌≤◌, ◌^�
 use Rattle.std.proofs.lemmas.Bool.{and_parts, cases_lt}
 use Rattle.std.proofs.lemmas.Bool.Decides.{nat_tests}
 use Rattle.std.proofs.lemmas.List.Folds.{list_all-append}
-use Rattle.std.proofs.lemmas.List.{take-append-drop}
+use Rattle.std.proofs.lemmas.List.{take-append-drop, map-append, length-drop, get_or-drop}
 use Rattle.std.specs.List.{AllByRecursion, AllZip, list_all}
 use Rattle.mcs_sets.specs.Sets.{has, single}
 use Rattle.mcs_sets.specs.Orders.{StateBefore}
@@ -11,8 +11,10 @@ use Rattle.mcs_sets.proofs.SetLemmas.{has-such_that, such_that-lt}
 use Rattle.mcs_base.specs.Listings.{IsAmong, IsAscending, IsListing}
 use Rattle.mcs_base.specs.StateOrder.{StateBefore-total, StateBefore-transitive}
 use Rattle.mcs_base.proofs.Each.{all_among, all_push, all_from_among, all_weaker}
-use Rattle.mcs_base.proofs.Among.{zip_among}
+use Rattle.mcs_base.proofs.Among.{zip_among, drop_among}
 use Rattle.mcs_base.proofs.Ascending.{ascending_append, ascending_drop}
+use Rattle.mcs_base.proofs.Written.{list_all-insert}
+use Rattle.mcs_base.proofs.Sorted.{all_after, ascending_take}
 use Rattle.mcs_system.specs.Plain.{Name, Formula, Atom, ProgramRule, Program}
 use Rattle.mcs_system.specs.Faults.{has_twins}
 use Rattle.mcs_system.specs.Logic.{holds, holds_all, true_names, BeliefSet, Theory, Atoms, Accepts}
@@ -61,25 +63,6 @@ rest_value a names rules beliefs smaller views =
     list_all-append (holds a) (map rule_formula rules) (map (beside_formula names rules) smaller ++ map (other_formula beliefs) views)
     ∙ ap (λ (b : Bool). holds_all a (map rule_formula rules) && b) (list_all-append (holds a) (map (beside_formula names rules) smaller) (map (other_formula beliefs) views))
 
--- of a list with one more inside
-inside : {A : Type 0} (p : A → Bool) (xs ys : List A) (x : A) → list_all p (xs ++ x ∷ ys) ≡ (list_all p (xs ++ ys) && p x)
-inside p [] ys x = turn (p x) (list_all p ys)
-  where
-    turn : (u v : Bool) → (u && v) ≡ (v && u)
-    turn true true = refl
-    turn true false = refl
-    turn false true = refl
-    turn false false = refl
-inside p (z ∷ xs) ys x = ap (λ (b : Bool). p z && b) (inside p xs ys x) ∙ assoc (p z) (list_all p (xs ++ ys)) (p x)
-  where
-    assoc : (u v w : Bool) → (u && (v && w)) ≡ ((u && v) && w)
-    assoc true v w = refl
-    assoc false v w = refl
-
-map_inside : {A B : Type 0} (f : A → B) (xs ys : List A) → map f (xs ++ ys) ≡ map f xs ++ map f ys
-map_inside f [] ys = refl
-map_inside f (x ∷ xs) ys = ap (λ zs. f x ∷ zs) (map_inside f xs ys)
-
 pub map_placed : {A B : Type 0} (f : A → B) (xs : List A) (k : ℕ) (x : A) → map f (insert xs k x) ≡ insert (map f xs) k (f x)
 map_placed f [] zero x = refl
 map_placed f [] (suc k) x = refl
@@ -87,7 +70,7 @@ map_placed f (y ∷ xs) zero x = refl
 map_placed f (y ∷ xs) (suc k) x = ap (λ zs. f y ∷ zs) (map_placed f xs k x)
 
 mapped_inside : {A : Type 0} (a : List Name) (f : A → Formula) (xs ys : List A) (x : A) → holds_all a (map f (xs ++ x ∷ ys)) ≡ (holds_all a (map f (xs ++ ys)) && holds a (f x))
-mapped_inside a f xs ys x = ap (holds_all a) (map_inside f xs (x ∷ ys)) ∙ inside (holds a) (map f xs) (map f ys) (f x) ∙ ap (λ fs. holds_all a fs && holds a (f x)) (sym (map_inside f xs ys))
+mapped_inside a f xs ys x = ap (holds_all a) (map-append f xs (x ∷ ys)) ∙ list_all-insert (holds a) (map f xs) (map f ys) (f x) ∙ ap (λ fs. holds_all a fs && holds a (f x)) (sym (map-append f xs ys))
 
 pub smaller_more : (a names : List Name) (rules : List ProgramRule) (beliefs : List Formula) (smaller views : List ℕ) (less : ℕ)
     → holds_all a (rest_formulas names rules beliefs (smaller ++ less ∷ []) views) ≡ (holds_all a (rest_formulas names rules beliefs smaller views) && holds a (beside_formula names rules less))
@@ -205,50 +188,16 @@ module _ (names : List Name) (rules : List ProgramRule) (beliefs : List Formula)
       left_less old new (beside_formula names rules less) model (excluded_narrows old new less e) is (beside_excludes names rules model less both.0 both.1)
 
 -- ---- one view more
-ascending_take : (xs : List ℕ) (k : ℕ) → IsAscending StateBefore xs → IsAscending StateBefore (take k xs)
-ascending_take [] zero up = tt
-ascending_take [] (suc k) up = tt
-ascending_take (x ∷ xs) zero up = tt
-ascending_take (x ∷ xs) (suc k) up = (all_taken xs k up.0, ascending_take xs k up.1)
-  where
-    all_taken : (ys : List ℕ) (j : ℕ) → AllByRecursion (StateBefore x) ys → AllByRecursion (StateBefore x) (take j ys)
-    all_taken [] zero all = tt
-    all_taken [] (suc j) all = tt
-    all_taken (y ∷ ys) zero all = tt
-    all_taken (y ∷ ys) (suc j) all = (all.0, all_taken ys j all.1)
-
--- what does not come before it and is not it comes after it
-past : (view : ℕ) (xs : List ℕ) → IsAscending StateBefore xs → ¬ IsAmong view xs → (0 < length xs → ¬ StateBefore (get_or xs 0 0) view) → AllByRecursion (StateBefore view) xs
-past view [] up new not_before = tt
-past view (x ∷ xs) up new not_before = (first, all_weaker (StateBefore x) (StateBefore view) (λ y h. StateBefore-transitive view x y first h) xs up.0)
-  where
-    first : StateBefore view x
-    first = elim (StateBefore-total view x) [ inl same ↦ absurd (new (inl same)) | inr (inl h) ↦ h | inr (inr h) ↦ absurd (not_before (omega arith) h) ]
-
-among_dropped : (view : ℕ) (xs : List ℕ) (k : ℕ) → IsAmong view (drop k xs) → IsAmong view xs
-among_dropped view xs zero h = h
-among_dropped view [] (suc k) h = h
-among_dropped view (x ∷ xs) (suc k) h = inr (among_dropped view xs k h)
-
-get_dropped : (xs : List ℕ) (k : ℕ) → get_or (drop k xs) 0 0 ≡ get_or xs k 0
-get_dropped xs zero = refl
-get_dropped [] (suc k) = refl
-get_dropped (x ∷ xs) (suc k) = get_dropped xs k
-
-some_dropped : (xs : List ℕ) (k : ℕ) → 0 < length (drop k xs) → k < length xs
-some_dropped xs zero h = h
-some_dropped [] (suc k) h = absurd (omega arith)
-some_dropped (x ∷ xs) (suc k) h = omega (arith, some_dropped xs k h)
-
 pub ascending_insert : (xs : List ℕ) (k view : ℕ) → IsAscending StateBefore xs → ¬ IsAmong view xs → AllByRecursion (λ v. StateBefore v view) (take k xs) → (k < length xs → ¬ StateBefore (get_or xs k 0) view) → IsAscending StateBefore (insert xs k view)
 ascending_insert xs k view up new before after =
-    let later : AllByRecursion (StateBefore view) (drop k xs) = past view (drop k xs) (ascending_drop StateBefore xs k up) (λ h. new (among_dropped view xs k h)) (λ h b. after (some_dropped xs k h) (subst (λ x. StateBefore x view) (get_dropped xs k) b)) in
+    let later : AllByRecursion (StateBefore view) (drop k xs) = all_after StateBefore StateBefore-transitive StateBefore-total view 0 (drop k xs) (ascending_drop StateBefore xs k up) (λ h. new (drop_among xs k view h))
+    (λ h b. after (omega (arith, h, length-drop k xs)) (subst (λ x. StateBefore x view) (get_or-drop k xs 0 0 ∙ (let e : k + 0 ≡ k = omega arith in ap (λ n. get_or xs n 0) e)) b)) in
     ascending_append StateBefore (take k xs) (view ∷ drop k xs)
     (λ x y h h'. let b : StateBefore x view = all_among (λ v. StateBefore v view) (take k xs) x before h in elim h' [
       | inl same ↦ subst (StateBefore x) (sym same) b
       | inr there ↦ StateBefore-transitive x view y b (all_among (StateBefore view) (drop k xs) y later there)
     ])
-    (ascending_take xs k up) (later, ascending_drop StateBefore xs k up)
+    (ascending_take StateBefore xs k up) (later, ascending_drop StateBefore xs k up)
 
 zip_insert : {A B : Type 0} (R : A → B → Type 0) (xs : List A) (ys : List B) (k : ℕ) (x : A) (y : B) → AllZip R xs ys → R x y → AllZip R (insert xs k x) (insert ys k y)
 zip_insert R [] [] zero x y all one = (one, tt)

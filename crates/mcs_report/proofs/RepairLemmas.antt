@@ -7,16 +7,20 @@ use Rattle.mcs_sets.specs.Sets.{members, single, common, Within}
 use Rattle.mcs_base.specs.Transversals.{MeetAloneAt}
 use Rattle.mcs_base.proofs.Among.{place_among}
 use Rattle.mcs_base.proofs.ListingLemmas.{members_listing, all_from_among}
+use Rattle.mcs_base.proofs.SetParts.{members_below_all}
 use Rattle.mcs_system.specs.Plain.{System}
 use Rattle.mcs_system.specs.Repairs.{all_marks}
 use Rattle.mcs_transversal.specs.Transversals.{HasCriticalEdge, IsCritical, IsFirstCritical}
 use Rattle.mcs_report.specs.Repairs.{first_alone}
-use Rattle.mcs_report.proofs.LineLemmas.{each_below}
+
+-- numbers of marks of a system's rules
+abbrev pub AreMarks : System → List ℕ → Type 0
+AreMarks m ks = AllByRecursion (λ k. k < 2 * length m.bridges) ks
 
 -- the marks of a set of marks of the system's rules
 pub marks_below : (m : System) (t : ℕ) → Within t (all_marks m) → AllByRecursion (λ k. k < 2 * length m.bridges) (members t)
 unfolding all_marks
-marks_below m t within = each_below t (2 * length m.bridges) within
+marks_below m t within = members_below_all t (2 * length m.bridges) within
 
 -- each mark of the set has a critical edge
 pub each_critical : (edges : List ℕ) (t : ℕ) → IsCritical edges t → AllByRecursion (HasCriticalEdge edges t) (members t)
@@ -40,10 +44,3 @@ module _ (edges : List ℕ) (t k : ℕ) where
 
   pub critical_number : (o : Option ℕ) (i : ℕ) → o ≡ Some i → MatchOption o ((j : ℕ) → j < length edges → ¬ MeetAloneAt (get_or edges j 0) t k) (IsFirstCritical edges t k) → i + 1 ≡ first_alone edges t k
   critical_number o i is found = first_number i (rw is at found)
-
--- ---- pieces that are appended one after the other
-pub five : (t a b c d e : List ℕ) → ((((t ++ a) ++ b) ++ c) ++ d) ++ e ≡ t ++ (a ++ (b ++ (c ++ (d ++ e))))
-five t a b c d e = simp append_assoc
-
-pub nine : (t a b c d e f g h i : List ℕ) → ((((((((t ++ a) ++ b) ++ c) ++ d) ++ e) ++ f) ++ g) ++ h) ++ i ≡ t ++ (a ++ (b ++ (c ++ (d ++ (e ++ (f ++ (g ++ (h ++ i))))))))
-nine t a b c d e f g h i = simp append_assoc

@@ -16,6 +16,7 @@ use Rattle.mcs_system.specs.Plain.{System}
 use Rattle.mcs_system.specs.Levels.{IsNeed}
 use Rattle.mcs_system.specs.Repairs.{all_marks, allowed_marks, IsDiagnosis, IsExplanation}
 use Rattle.mcs_system.specs.Systems.{all_rules, IsProjectedEquilibrium}
+use Rattle.mcs_system.proofs.MarkLemmas.{marks_small}
 use Rattle.mcs_laws.proofs.Choices.{consistent_minimal, consistent_unexplained}
 use Rattle.mcs_laws.proofs.Transversals.{minimal_explanations}
 use Rattle.mcs_import.proofs.CountLemmas.{need_is_one}
@@ -93,10 +94,6 @@ cases_diagnosis m pair = at (cases_within pair (allowed_marks m)) (cases_states 
     at (inl within) (inl (σ, is)) = inl (record { allowed = within; equilibrium = σ; balanced = is })
     at (inl within) (inr none) = inr (λ d. none d.equilibrium d.balanced)
     at (inr outside) states = inr (λ d. outside d.allowed)
-
-marks_small : (m : System) (pair : ℕ) → Within pair (all_marks m) → pair < 2 ^ (2 * length m.bridges)
-unfolding all_marks
-marks_small m pair within = below_from_within pair (2 * length m.bridges) within
 
 minimal_diagnoses_listed : (m : System) → (pairs : List ℕ) × IsListing (IsMinimal (IsDiagnosis m)) PairBefore pairs
 minimal_diagnoses_listed m = decided_listed (IsMinimal (IsDiagnosis m)) (2 * length m.bridges) (cases_minimal (IsDiagnosis m) (cases_diagnosis m)) (λ s minimal. marks_small m s minimal.one.allowed)

@@ -16,7 +16,7 @@ same_oracle (x ∷ xs) [] e i o is = absurd (cc)
 same_oracle (x ∷ xs) (y ∷ ys) e zero o is = (y, refl, (let h : x ≡ o = cc in ap (λ z. z.holds) (sym h)) ∙ (let k : with_journal [] x ≡ with_journal [] y = cc in ap (λ z. z.holds) k))
 same_oracle (x ∷ xs) (y ∷ ys) e (suc i) o is = same_oracle xs ys (cc) i o is
 
-unanswered_before : (a b : EvaluatorState) → KeepsRest a b → (level i x : ℕ) → IsUnanswered b level i x → IsUnanswered a level i x
+pub unanswered_before : (a b : EvaluatorState) → KeepsRest a b → (level i x : ℕ) → IsUnanswered b level i x → IsUnanswered a level i x
 unanswered_before a b h level i x u =
     let (o, is, same) = same_oracle b.oracles a.oracles h.oracles i u.oracle u.is_its in
     record { oracle = o; is_its = is; lacks = subst (λ (held : Option (List ℕ)). IsLacking held x) same u.lacks; question = subst (λ m. IsQuestionAt m level i x) h.system u.question }

@@ -1,33 +1,15 @@
 -- A new evaluator of a system: a solver for each context, of which none was asked.
-use Rattle.std.proofs.Common.{◌≡◌, ℕ, ◌+◌, ◌<◌, List, [], map, length, Option, Some, None, slice_get, Result, Ok, Err, IfOk, refl, sym, ap, ◌∙◌, subst, arith}
-use Rattle.std.proofs.lemmas.List.FromFn.{length-map-range_with_len, get_or-map-range_with_len}
-use Rattle.std.proofs.lemmas.Option.{slice_get_within, same_Some}
+use Rattle.std.proofs.Common.{◌≡◌, ℕ, List, [], map, length, Option, None, Result, Ok, Err, IfOk, refl, sym, ap, subst}
 use Rattle.std.specs.List.{range_with_len}
-use Rattle.mcs_base.proofs.Lists.{map_slice_get, slice_get_read_as}
 use Rattle.mcs_system.specs.Plain.{System}
 use Rattle.mcs_states.specs.Oracles.{OracleState}
 use Rattle.mcs_states.specs.Evaluators.{EvaluatorState}
 use Rattle.mcs_mesh.specs.Rounds.{state_of}
 use Rattle.mcs_solver.specs.Solvers.{solver_of}
+use Rattle.mcs_solver.proofs.SystemSolvers.{solver_seen}
 use Rattle.mcs_top.specs.Promise.{IsNewMesh}
 
--- ---- the solvers of a system
 module _ (m : System) (os : List OracleState) (are : os ≡ map (λ i. solver_of m i []) (range_with_len 0 (length m.contexts))) where
-  pub solvers_each : length os ≡ length m.contexts
-  solvers_each = ap length are ∙ length-map-range_with_len (λ i. solver_of m i []) 0 (length m.contexts)
-
-  pub solver_at : (i : ℕ) (o : OracleState) → slice_get os i ≡ Some o → o ≡ solver_of m i []
-  solver_at i o is =
-      let less : i < length m.contexts = omega (arith, slice_get_within os i o is, solvers_each) in
-      let zeroth : 0 + i ≡ i = omega arith in
-      let here = slice_get_read_as os (map (λ k. solver_of m k []) (range_with_len 0 (length m.contexts))) i (solver_of m i []) (sym are)
-      (omega (arith, less, length-map-range_with_len (λ k. solver_of m k []) 0 (length m.contexts)))
-      (sym (get_or-map-range_with_len (λ k. solver_of m k []) 0 (length m.contexts) i i (solver_of m i []) less zeroth)) in
-      same_Some _ _ (sym is ∙ here)
-
-  pub solver_seen : (i : ℕ) (o : OracleState) → slice_get (map (λ (x : OracleState). x) os) i ≡ Some o → o ≡ solver_of m i []
-  solver_seen i o is = let (x, at, same) = map_slice_get (λ (x : OracleState). x) os i o is in sym same ∙ solver_at i x at
-
   -- a mesh of them is a new one
   pub new_mesh : {E : Type 0} (n : System) (budget : ℕ) (r : Result EvaluatorState E) → n ≡ m → IfOk r (λ mesh. mesh ≡ state_of n budget None None (map (λ (x : OracleState). x) os)) → IfOk r (λ mesh. IsNewMesh m budget mesh)
   new_mesh n budget (Err e) same h = tt
@@ -36,5 +18,5 @@ module _ (m : System) (os : List OracleState) (are : os ≡ map (λ i. solver_of
     budget_is = refl;
     fresh = refl;
     going = refl;
-    sure = λ i o is. ap (λ (s : OracleState). s.holds) (solver_seen i o is);
+    sure = λ i o is. ap (λ (s : OracleState). s.holds) (solver_seen m os are i o is);
   })

@@ -25,6 +25,7 @@ use Rattle.mcs_laws.proofs.Transversals.{minimal_explanations}
 use Rattle.mcs_states.specs.Evaluators.{EvaluatorState, KeepsRest, HasDone, HasHaltCause, IsBeyond, IsUnanswered, IsTold, asked_of, raised}
 use Rattle.mcs_states.specs.declared.halt.Halt.{Halt}
 use Rattle.mcs_states.specs.declared.halt.Halt.TheVariants as halts
+use Rattle.mcs_states.proofs.Causes.{unanswered_before}
 use Rattle.mcs_diagnosis.specs.declared.diagnosis.Diagnosis as code
 use Rattle.mcs_diagnosis.specs.Courses.{IsPast}
 use Rattle.mcs_diagnosis.specs.Diagnoses.{AreFound, AreFoundBelow, AreDiagnoses, IsShown, pairs_of}
@@ -39,7 +40,7 @@ use Rattle.mcs_work.specs.Course.{IsUnderWay, AddsLines, HasGone}
 use Rattle.mcs_work.specs.Printed.{IsOfSystem, IsCauseOf}
 use Rattle.mcs_work.specs.declared.task.Task.TheVariants.{Solve}
 use Rattle.mcs_work.specs.declared.task.WorkStop.TheVariants as stops
-use Rattle.mcs_work.proofs.StateLemmas.{beyond_before, unanswered_before, found_beyond, settled_count}
+use Rattle.mcs_work.proofs.StateLemmas.{beyond_before, found_beyond, settled_count}
 use Rattle.mcs_work.proofs.StopLemmas.{left_nothing, cut_off, stopped_later}
 
 -- what is not below is at least

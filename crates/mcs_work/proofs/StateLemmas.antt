@@ -1,22 +1,19 @@
 -- An evaluator after some calls of it: what it tells holds as before, and its questions are counted.
-use Rattle.std.proofs.Common.{◌≡◌, ℕ, ◌+◌, ◌*◌, ◌≤◌, List, [], ◌∷◌, map, length, Option, Some, slice_get, refl, sym, ap, ◌∙◌, subst, arith}
+use Rattle.std.proofs.Common.{◌≡◌, ℕ, ◌+◌, ◌≤◌, List, [], ◌∷◌, map, length, Option, Some, slice_get, refl, sym, ap, ◌∙◌, subst, arith}
 use Rattle.std.proofs.lemmas.List.{length-map}
 use Rattle.std.specs.List.{fold, sum_by}
 use Rattle.mcs_sets.specs.Sets.{minus}
 use Rattle.mcs_sets.specs.Orders.{StateBefore}
-use Rattle.mcs_sets.proofs.SetLemmas.{same_set, has-empty}
 use Rattle.mcs_sets.proofs.Lattice.{minus-none}
 use Rattle.mcs_base.specs.Listings.{IsListing, IsInventory}
 use Rattle.mcs_base.specs.Pairs.{removed_of, forced_of}
-use Rattle.mcs_base.proofs.PairLemmas.{has-removed_of, has-forced_of}
+use Rattle.mcs_base.proofs.PairLemmas.{removed_of-none, forced_of-none}
 use Rattle.mcs_base.proofs.Lists.{map_slice_get}
 use Rattle.mcs_system.specs.Plain.{System}
 use Rattle.mcs_system.specs.Systems.{IsProjectedEquilibrium, all_rules}
 use Rattle.mcs_system.specs.Levels.{IsQuestionAt, HasQuestions, IsCount}
 use Rattle.mcs_states.specs.Oracles.{OracleState}
-use Rattle.mcs_states.specs.Evaluators.{EvaluatorState, IsAsked, IsSettled, KeepsRest, IsBeyond, IsUnanswered, AreStates, asked_of}
-use Rattle.mcs_states.specs.declared.halt.Halt.TheVariants as halts
-use Rattle.mcs_states.proofs.Causes.{cause_before}
+use Rattle.mcs_states.specs.Evaluators.{EvaluatorState, IsAsked, IsSettled, KeepsRest, IsBeyond, AreStates, asked_of}
 use Rattle.mcs_evidence.proofs.Counts.{journals_counted}
 use Rattle.mcs_report.specs.Solutions.{AreEquilibria}
 
@@ -26,9 +23,6 @@ rest_back a b h = record { system = sym h.system; budget = sym h.budget; oracles
 
 pub beyond_before : (a b : EvaluatorState) → KeepsRest a b → (level : ℕ) → IsBeyond b level → IsBeyond a level
 beyond_before a b h level beyond = subst (λ (m : System). HasQuestions m level (a.budget + 1)) h.system (subst (λ (n : ℕ). HasQuestions b.system level (n + 1)) h.budget beyond)
-
-pub unanswered_before : (a b : EvaluatorState) → KeepsRest a b → (level i x : ℕ) → IsUnanswered b level i x → IsUnanswered a level i x
-unanswered_before a b h level i x u = cause_before a b h level (halts.Missing i x) u
 
 -- more questions than the budget were found
 pub found_beyond : (e : EvaluatorState) (level drawn : ℕ) → e.budget + 1 ≤ drawn → HasQuestions e.system level drawn → IsBeyond e level
@@ -50,15 +44,9 @@ settled_count e level settled done =
     subst (λ (ys : List ℕ). IsInventory (IsQuestionAt e.system level i) ys) same asked))
 
 -- ---- the states that the empty pair leads to
-nothing_removed : removed_of 0 ≡ 0
-nothing_removed = same_set _ _ (λ r. has-removed_of 0 r ∙ has-empty (2 * r) ∙ sym (has-empty r))
-
-nothing_forced : forced_of 0 ≡ 0
-nothing_forced = same_set _ _ (λ r. has-forced_of 0 r ∙ has-empty (2 * r + 1) ∙ sym (has-empty r))
-
 pub unchanged : (m : System) (pair : ℕ) (states : List ℕ) → pair ≡ 0 → AreStates m pair states → AreEquilibria m states
 unchanged m pair states none h =
     let empty : AreStates m 0 states = subst (λ (p : ℕ). AreStates m p states) none h in
-    let unforced : IsListing (IsProjectedEquilibrium m (minus (all_rules m) (removed_of 0)) 0) StateBefore states = subst (λ (f : ℕ). IsListing (IsProjectedEquilibrium m (minus (all_rules m) (removed_of 0)) f) StateBefore states) nothing_forced empty in
-    let whole : IsListing (IsProjectedEquilibrium m (minus (all_rules m) 0) 0) StateBefore states = subst (λ (r : ℕ). IsListing (IsProjectedEquilibrium m (minus (all_rules m) r) 0) StateBefore states) nothing_removed unforced in
+    let unforced : IsListing (IsProjectedEquilibrium m (minus (all_rules m) (removed_of 0)) 0) StateBefore states = subst (λ (f : ℕ). IsListing (IsProjectedEquilibrium m (minus (all_rules m) (removed_of 0)) f) StateBefore states) forced_of-none empty in
+    let whole : IsListing (IsProjectedEquilibrium m (minus (all_rules m) 0) 0) StateBefore states = subst (λ (r : ℕ). IsListing (IsProjectedEquilibrium m (minus (all_rules m) r) 0) StateBefore states) removed_of-none unforced in
     subst (λ (r : ℕ). IsListing (IsProjectedEquilibrium m r 0) StateBefore states) (minus-none (all_rules m)) whole

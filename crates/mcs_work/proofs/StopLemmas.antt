@@ -1,5 +1,5 @@
 -- A stop of a later part of the work is one of the whole.
-use Rattle.std.proofs.Common.{◌≡◌, ℕ, ◌+◌, ◌<◌, ◌≤◌, zero, List, [], ◌++◌, length, Option, Some, Result, Ok, Err, IfErr, OnOk, refl, sym, ap, ◌∙◌, subst, append_assoc, inl, arith, false, IsTrue, true≢false}
+use Rattle.std.proofs.Common.{◌≡◌, ℕ, ◌+◌, ◌<◌, ◌≤◌, zero, List, [], ◌++◌, length, Option, Some, Result, Ok, Err, IfErr, OnOk, refl, sym, ap, ◌∙◌, subst, append_assoc, inl, arith}
 use Rattle.std.specs.Result.{IsErrAnd}
 use Rattle.std.proofs.lemmas.List.{append-nil}
 use Rattle.mcs_ports.specs.Causes.{Rose}
@@ -8,8 +8,7 @@ use Rattle.mcs_text.specs.Writes.{Writes, WritesFront}
 use Rattle.mcs_text.specs.declared.unwritten.Unwritten.{Unwritten}
 use Rattle.mcs_text.specs.declared.unwritten.Unwritten.TheVariants as unwritten
 use Rattle.mcs_text.proofs.WriteLaws.{appended-append, appended-none}
-use Rattle.mcs_sets.specs.Sets.{size, has}
-use Rattle.mcs_sets.proofs.SetLemmas.{has-empty}
+use Rattle.mcs_sets.specs.Sets.{size}
 use Rattle.mcs_sets.proofs.Lattice.{size-none}
 use Rattle.mcs_system.specs.Plain.{System}
 use Rattle.mcs_states.specs.Evaluators.{EvaluatorState, KeepsRest, HasDone, HasHalted}
@@ -17,14 +16,14 @@ use Rattle.mcs_states.specs.declared.halt.Halt.{Halt}
 use Rattle.mcs_states.specs.declared.halt.Halt.TheVariants as halts
 use Rattle.mcs_report.specs.Listing.{heading}
 use Rattle.mcs_report.specs.Solutions.{first}
-use Rattle.mcs_states.proofs.Causes.{rest_kept}
+use Rattle.mcs_states.proofs.Causes.{rest_kept, unanswered_before}
 use Rattle.mcs_work.specs.Tasks.{IsTaskText, IsTaskStage, IsTaskUpTo, IsTaken, IsLastTaken, stop_for_halt, stop_for_line}
 use Rattle.mcs_work.specs.Work.{LeavesStage, IsDone, IsSpent, IsMissing, HasStopped, Works}
 use Rattle.mcs_work.specs.declared.task.Task.{Task}
 use Rattle.mcs_work.specs.declared.task.Task.TheVariants.{Equilibria, Solve}
 use Rattle.mcs_work.specs.declared.task.WorkStop.{WorkStop}
 use Rattle.mcs_work.specs.declared.task.WorkStop.TheVariants as stops
-use Rattle.mcs_work.proofs.StateLemmas.{rest_back, beyond_before, unanswered_before, found_beyond}
+use Rattle.mcs_work.proofs.StateLemmas.{rest_back, beyond_before, found_beyond}
 
 pub regrouped : (a b c d : List ℕ) → (a ++ b) ++ (c ++ d) ≡ a ++ ((b ++ c) ++ d)
 regrouped a b c d = append_assoc a b (c ++ d) ∙ ap (λ t. a ++ t) (sym (append_assoc b c d))
@@ -162,9 +161,6 @@ module _ (task : Task) (m : System) (e e' : EvaluatorState) (same : e.system ≡
       }
       at halts.Memory told = heading_left is
 
--- the empty pair is one of a system's rules, and its level is 0
-pub none_of_rules : (pair all : ℕ) → pair ≡ 0 → (k : ℕ) → IsTrue (has pair k) → IsTrue (has all k)
-none_of_rules pair all none k h = absurd (true≢false (sym h ∙ ap (λ (p : ℕ). has p k) none ∙ has-empty k))
-
+-- the level of the empty pair is 0
 pub done_first : (e e' : EvaluatorState) (pair : ℕ) → pair ≡ 0 → HasDone e e' (size pair) → HasDone e e' 0
 done_first e e' pair none h = subst (λ (n : ℕ). HasDone e e' n) (ap (λ (p : ℕ). size p) none ∙ size-none) h

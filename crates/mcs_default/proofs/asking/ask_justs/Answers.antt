@@ -1,14 +1,14 @@
 use Rattle.std.proofs.Common.{◌≡◌, ◌∙◌, true, false, sym, map, take}
+use Rattle.mcs_base.proofs.Mapped.{image_each_read}
 use Rattle.mcs_system.specs.Plain.{Not}
 use Rattle.mcs_system.specs.Seen.{formula_of}
 use Rattle.mcs_cnf.specs.ClauseLists.{IsOver}
 use Rattle.mcs_cnf.specs.Entailments.{entailment_of, says_yes}
-use Rattle.mcs_default.proofs.General.{each_at}
 use Rattle.mcs_default.proofs.AskLemmas.{denied_push, justs_more, blocked_at}
 use Rattle.mcs_default.proofs.asking.ask_justs.Goals as goal
 
 pub refutes_from-requires-clause-over : goal.refutes_from-requires-clause-over
-refutes_from-requires-clause-over c = each_at (IsOver c.args.atoms.now) formula_of c.args.justs.now c.loop-index.index c.index-justs-index.result c.loop-index-test.true c.index-justs-index.is c.requires.over
+refutes_from-requires-clause-over c = image_each_read (IsOver c.args.atoms.now) formula_of c.args.justs.now c.loop-index.index c.index-justs-index.result c.loop-index-test.true c.index-justs-index.is c.requires.over
 
 pub returns-then-says_yes-clause-told : goal.returns-then-says_yes-clause-told
 returns-then-says_yes-clause-told c fs is =

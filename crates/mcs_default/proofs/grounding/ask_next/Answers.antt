@@ -1,23 +1,23 @@
 use Rattle.std.proofs.Common.{◌≡◌, true, false, ◌∙◌, sym, map, take, refl}
 use Rattle.mcs_sets.specs.Sets.{has}
+use Rattle.mcs_base.proofs.Mapped.{image_each_read, slice_get-map_read}
 use Rattle.mcs_system.specs.Seen.{default_of}
 use Rattle.mcs_cnf.specs.Entailments.{entailment_of, says_yes}
 use Rattle.mcs_default.specs.Theories.{AreClausesOf, IsOverDefault}
 use Rattle.mcs_default.specs.Told.{prerequisites}
-use Rattle.mcs_default.proofs.General.{each_at, image_at}
 use Rattle.mcs_default.proofs.AskLemmas.{denied_push, denied_same, next_more, next_same}
 use Rattle.mcs_default.proofs.grounding.ask_next.Goals.{then-has+in_ok-pre+else-says_yes+in_ok-push, else-has}
 use Rattle.mcs_default.proofs.grounding.ask_next.Goals as goal
 
 pub entails_from-requires-clause-goal : goal.entails_from-requires-clause-goal
 entails_from-requires-clause-goal c =
-    (each_at (IsOverDefault c.args.atoms.now) (λ d. default_of d.now) c.args.defaults.now c.loop-index.index c.index-defaults-index.result c.loop-index-test.true c.index-defaults-index.is c.requires.over).0
+    (image_each_read (IsOverDefault c.args.atoms.now) (λ d. default_of d.now) c.args.defaults.now c.loop-index.index c.index-defaults-index.result c.loop-index-test.true c.index-defaults-index.is c.requires.over).0
 
 pub returns-then-says_yes-clause-told : goal.returns-then-says_yes-clause-told
 returns-then-says_yes-clause-told c fs is =
     let said : says_yes (entailment_of c.in_ok-pre.pre) ≡ true = sym c.says_yes.ensures ∙ c.if-says_yes.true in
     let now : AreClausesOf c.args.atoms.now fs c.loop-index.known = rw c.loop-index.invariant.kept is in
-    (default_of c.index-defaults-index.result.now, image_at (λ d. default_of d.now) c.args.defaults.now c.loop-index.index c.index-defaults-index.result c.loop-index-test.true c.index-defaults-index.is, (c.in_ok-pre.ensures.accepted fs now.0 now.1, said))
+    (default_of c.index-defaults-index.result.now, slice_get-map_read (λ d. default_of d.now) c.args.defaults.now c.loop-index.index c.index-defaults-index.result c.loop-index-test.true c.index-defaults-index.is, (c.in_ok-pre.ensures.accepted fs now.0 now.1, said))
 
 pub loop-index-preserved : goal.loop-index-preserved
 loop-index-preserved c =

@@ -8,12 +8,14 @@ use Rattle.mcs_trace.specs.Clauses.{ClauseList}
 use Rattle.mcs_cnf.specs.ClauseLists.{with_formulas}
 use Rattle.mcs_cnf.specs.Entailments.{entailment_of}
 use Rattle.std.proofs.lemmas.List.{map_push, length-map}
+use Rattle.mcs_base.proofs.Mapped.{image_each_at}
+use Rattle.mcs_base.proofs.SetParts.{minus_is_less, minus_below}
 use Rattle.mcs_evidence.specs.Defaults.{IsShown, AreDenied}
 use Rattle.mcs_default.specs.Theories.{IsOverDefault, consequents}
 use Rattle.mcs_default.specs.Told.{IsToldNext, IsNextInRange, AreNumbersOf, prerequisites}
-use Rattle.mcs_default.proofs.General.{each_read, grown_room}
+use Rattle.mcs_default.proofs.General.{grown_room}
 use Rattle.mcs_default.proofs.PushLemmas.{none-with}
-use Rattle.mcs_default.proofs.OrderLemmas.{numbers-none, numbers-more, derived-start, derived-more, derived-all, grown-more, same_default, stuck, not_all, part_small}
+use Rattle.mcs_default.proofs.OrderLemmas.{numbers-none, numbers-more, derived-start, derived-more, derived-all, grown-more, same_default, stuck}
 use Rattle.mcs_default.proofs.grounding.ask_order.Goals as goal
 
 pub loop-alloc-init : goal.loop-alloc-init
@@ -30,7 +32,7 @@ ask_next-requires-clause-room c = grown_room c.args.atoms.now c.args.known.now c
 pub push_formula-requires-clause-over : goal.push_formula-requires-clause-over
 push_formula-requires-clause-over c =
     let found = subst (IsNextInRange (length c.args.defaults.now) c.loop-alloc.left) c.in-Supported.is c.in_ok-index.ensures.in_range in
-    (each_read (IsOverDefault c.args.atoms.now) (λ d. default_of d.now) c.args.defaults.now c.in-Supported.index c.index-defaults-index.result found.0 c.requires.over).2
+    (image_each_at (IsOverDefault c.args.atoms.now) (λ d. default_of d.now) c.args.defaults.now c.in-Supported.index c.index-defaults-index.result found.0 c.requires.over).2
 
 pub push_formula-requires-clause-room : goal.push_formula-requires-clause-room
 push_formula-requires-clause-room c = subst (λ (x : ClauseList). length c.args.atoms.now ≤ x.vars) (sym c.in_ok-index.ensures.kept)
@@ -62,14 +64,14 @@ loop-alloc-preserved c =
           let told = subst (IsToldNext names derived.formulas (map (λ d. default_of d.now) c.args.defaults.now) left) c.in-Supported.is (c.in_ok-index.ensures.told derived.formulas derived.clauses) in
           let shown = subst (λ (d' : Default). IsShown names derived.formulas d'.pre (entailment_of c.in-Supported.pre)) (same_default (map (λ d. default_of d.now) c.args.defaults.now) k told.0 d told.1 at) told.2 in
           derived-more names fs (map (λ d. default_of d.now) c.args.defaults.now) set left k d c.loop-alloc.order.items c.push-in-Supported.new.self.items (map entailment_of c.loop-alloc.pres.items) (map entailment_of c.push.new.self.items) (entailment_of c.in-Supported.pre) c.loop-alloc.known c.push_formula.new.cnf
-          at (each_read (IsOverDefault names) (λ d. default_of d.now) c.args.defaults.now k c.index-defaults-index.result found.0 c.requires.over).2 c.in_ok-push-in-Supported-2.ensures.items
+          at (image_each_at (IsOverDefault names) (λ d. default_of d.now) c.args.defaults.now k c.index-defaults-index.result found.0 c.requires.over).2 c.in_ok-push-in-Supported-2.ensures.items
           (ap (map entailment_of) c.in_ok-push-in-Supported.ensures.items ∙ map_push entailment_of c.loop-alloc.pres.items c.in-Supported.pre) pushed derived shown);
     })
 
 pub overflow_cast-closed : goal.overflow_cast-closed
 overflow_cast-closed c =
     let is : c.number-closed.result ≡ minus c.args.set c.loop-alloc.left = c.number-closed.ensures ∙ c.minus.ensures in
-    let small : minus c.args.set c.loop-alloc.left < 2 ^ 10 = part_small c.args.set c.loop-alloc.left (length (map (λ d. default_of d.now) c.args.defaults.now)) (omega (arith, length-map c.args.defaults.now (λ d. default_of d.now), c.requires.few_defaults)) c.requires.set in
+    let small : minus c.args.set c.loop-alloc.left < 2 ^ 10 = minus_below c.args.set c.loop-alloc.left (length (map (λ d. default_of d.now) c.args.defaults.now)) 10 (omega (arith, length-map c.args.defaults.now (λ d. default_of d.now), c.requires.few_defaults)) c.requires.set in
     omega arith
 
 pub returns-in-Stuck-clause-told : goal.returns-in-Stuck-clause-told
@@ -83,7 +85,7 @@ returns-in-Stuck-clause-told c fs is =
     let some : ¬ (left ≡ 0) = λ none. (let empty : size left ≡ 0 = ap (λ (s : ℕ). size s) none ∙ size-none in absurd (omega (arith, c.count.ensures.number, c.loop-alloc-test.true))) in
     subst (λ (s : ℕ). Within s set × (¬ (s ≡ set)) × AreDenied names (fs ++ consequents ds s) (prerequisites ds (minus set s)) (map entailment_of c.in-Stuck.denied.items)) (sym (c.number-closed.ensures ∙ c.minus.ensures)) (
       minus_within set left,
-      not_all set left c.loop-alloc.invariant.part some,
+      minus_is_less set left c.loop-alloc.invariant.part some,
       stuck names fs ds set left c.loop-alloc.order.items (map entailment_of c.loop-alloc.pres.items) (map entailment_of c.in-Stuck.denied.items) c.loop-alloc.known c.loop-alloc.invariant.part derived told,
     )
 

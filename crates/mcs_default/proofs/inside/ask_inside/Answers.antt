@@ -1,12 +1,13 @@
 use Rattle.std.proofs.Common.{◌≡◌, ◌∙◌, true, false, List, map, refl, sym, ap, subst}
 use Rattle.mcs_sets.specs.Sets.{has}
+use Rattle.mcs_base.proofs.Mapped.{image_each_read, slice_get-map_read}
 use Rattle.mcs_system.specs.Seen.{default_of, formula_of}
 use Rattle.mcs_system.specs.declared.formula.Formula.{Formula}
 use Rattle.mcs_cnf.specs.ClauseLists.{AreOver}
 use Rattle.mcs_evidence.specs.Defaults.{negated_justs}
 use Rattle.mcs_default.specs.Theories.{AreClausesOf, IsOverDefault}
 use Rattle.mcs_default.specs.Told.{IsToldOfJusts}
-use Rattle.mcs_default.proofs.General.{each_at, image_at, picked_out}
+use Rattle.mcs_default.proofs.General.{picked_out}
 use Rattle.mcs_default.proofs.AskLemmas.{denied_same, inside_more, justs_told}
 use Rattle.mcs_default.proofs.inside.ask_inside.Goals.{then-has+in_ok-justs+in-Allowed+in_ok-append-in-Allowed, else-has}
 use Rattle.mcs_default.proofs.inside.ask_inside.Goals as goal
@@ -14,7 +15,7 @@ use Rattle.mcs_default.proofs.inside.ask_inside.Goals as goal
 pub ask_justs-requires-clause-over : goal.ask_justs-requires-clause-over
 ask_justs-requires-clause-over c =
     subst (λ (js : List Formula). AreOver c.args.atoms.now (map formula_of js)) (sym c.deref.ensures.value)
-    (each_at (IsOverDefault c.args.atoms.now) (λ d. default_of d.now) c.args.defaults.now c.loop-index.index c.index-defaults-index.result c.loop-index-test.true c.index-defaults-index.is c.requires.over).1
+    (image_each_read (IsOverDefault c.args.atoms.now) (λ d. default_of d.now) c.args.defaults.now c.loop-index.index c.index-defaults-index.result c.loop-index-test.true c.index-defaults-index.is c.requires.over).1
 
 pub returns-in-Blocked-clause-told : goal.returns-in-Blocked-clause-told
 returns-in-Blocked-clause-told c fs is =
@@ -24,7 +25,7 @@ returns-in-Blocked-clause-told c fs is =
     let member : has c.args.set i ≡ true = sym c.has.ensures.value ∙ c.if-has.true in
     let now : AreClausesOf names fs c.loop-index.known = rw c.loop-index.invariant.kept is in
     let told = subst (IsToldOfJusts names fs (map formula_of x.now.justs.items)) c.in-Blocked.is (justs_told names fs c.deref.result.now x.now.justs.items c.in_ok-justs.field-0 c.deref.ensures.value (c.in_ok-justs.ensures.told fs now)) in
-    (i, default_of x.now, member, image_at (λ d. default_of d.now) c.args.defaults.now i x c.loop-index-test.true c.index-defaults-index.is, (refl, told))
+    (i, default_of x.now, member, slice_get-map_read (λ d. default_of d.now) c.args.defaults.now i x c.loop-index-test.true c.index-defaults-index.is, (refl, told))
 
 pub loop-index-preserved : goal.loop-index-preserved
 loop-index-preserved c =

@@ -1,4 +1,5 @@
 use Rattle.std.proofs.Common.{◌≡◌, ◌∙◌, ◌<◌, ℕ, true, length, map, refl, sym, ap, subst, IsTrue, IfSome, Option, Some, None}
+use Rattle.mcs_base.proofs.Results.{none_where_never}
 use Rattle.mcs_sets.specs.Sets.{has, minus, size, Within}
 use Rattle.mcs_sets.proofs.Lattice.{none_within, with_within, in_minus}
 use Rattle.mcs_system.specs.Seen.{default_of}
@@ -6,10 +7,6 @@ use Rattle.mcs_default.specs.Theories.{AreParts}
 use Rattle.mcs_default.specs.Searches.{IsNextOf}
 use Rattle.mcs_default.proofs.SearchLemmas.{IsDerivedPart, derived_none, derived_next, grounded_exactly, left_smaller, there_is}
 use Rattle.mcs_default.proofs.nodes.is_grounded.Goals as goal
-
-no_next : (o : Option ℕ) → ((k : ℕ) → ¬ (o ≡ Some k)) → o ≡ None
-no_next None never = refl
-no_next (Some k) never = absurd (never k refl)
 
 pub loop-index-init : goal.loop-index-init
 loop-index-init c = record {
@@ -50,6 +47,6 @@ returns-clause-exact c items parts =
     let set = c.args.set in
     let part = c.loop-index.part in
     let now = subst (AreParts c.args.atoms.now items (map (λ d. default_of d.now) c.args.defaults.now)) (sym c.loop-index.invariant.kept) parts in
-    let stuck = subst (IsNextOf items part c.minus.result) (no_next c.in_ok-index.field-0 c.in_default.not-Some) (c.in_ok-index.ensures.exact items now) in
+    let stuck = subst (IsNextOf items part c.minus.result) (none_where_never c.in_ok-index.field-0 c.in_default.not-Some) (c.in_ok-index.ensures.exact items now) in
     grounded_exactly items set part c.within.result c.loop-index.invariant.part (c.loop-index.invariant.derived items parts)
     (λ k left. stuck k (ap (λ (s : ℕ). has s k) c.minus.ensures ∙ left)) c.within.ensures

@@ -2,13 +2,13 @@ use Rattle.std.proofs.Common.{◌≡◌, ◌+◌, ◌<◌, ◌∙◌, true, fals
 use Rattle.std.specs.List.{AllZip}
 use Rattle.std.proofs.lemmas.List.{length-map}
 use Rattle.mcs_sets.specs.Sets.{has, minus, members_from}
+use Rattle.mcs_base.proofs.Mapped.{image_each_read, slice_get-map_read}
 use Rattle.mcs_system.specs.Plain.{Default}
 use Rattle.mcs_system.specs.Seen.{default_of}
 use Rattle.mcs_trace.specs.declared.certificate.Outside.{Outside}
 use Rattle.mcs_evidence.specs.Defaults.{absence_of}
 use Rattle.mcs_default.specs.Theories.{AreClausesOf, IsOverDefault, all_of}
 use Rattle.mcs_default.specs.Told.{IsToldOfDefault, IsAbsentAt}
-use Rattle.mcs_default.proofs.General.{each_at, image_at}
 use Rattle.mcs_default.proofs.AskLemmas.{absent_more, absent_same, absent_all, absent_none}
 use Rattle.mcs_default.proofs.outside.ask_outside.Goals.{then-not-has+in_ok-absence+in-Absent+in_ok-push-in-Absent, else-not-has}
 use Rattle.mcs_default.proofs.outside.ask_outside.Goals as goal
@@ -23,7 +23,7 @@ loop-index-init c = record {
 
 pub ask_default-requires-clause-over : goal.ask_default-requires-clause-over
 ask_default-requires-clause-over c =
-    each_at (IsOverDefault c.args.atoms.now) (λ d. default_of d.now) c.args.defaults.now c.loop-index.index c.index-defaults-index.result c.loop-index-test.true c.index-defaults-index.is c.requires.over
+    image_each_read (IsOverDefault c.args.atoms.now) (λ d. default_of d.now) c.args.defaults.now c.loop-index.index c.index-defaults-index.result c.loop-index-test.true c.index-defaults-index.is c.requires.over
 
 pub returns-in-Applies-clause-told : goal.returns-in-Applies-clause-told
 returns-in-Applies-clause-told c fs is =
@@ -33,7 +33,7 @@ returns-in-Applies-clause-told c fs is =
     let out : has c.args.set i ≡ false = sym c.has.ensures.value ∙ c.if-not-has.true in
     let now : AreClausesOf names fs c.loop-index.known = rw c.loop-index.invariant.kept is in
     let told = subst (IsToldOfDefault names fs (default_of x.now) (i + 1)) c.in-Applies.is (c.in_ok-absence.ensures.told fs now) in
-    (i, default_of x.now, refl, out, image_at (λ d. default_of d.now) c.args.defaults.now i x c.loop-index-test.true c.index-defaults-index.is, told)
+    (i, default_of x.now, refl, out, slice_get-map_read (λ d. default_of d.now) c.args.defaults.now i x c.loop-index-test.true c.index-defaults-index.is, told)
 
 pub loop-index-preserved : goal.loop-index-preserved
 loop-index-preserved c =
@@ -50,7 +50,7 @@ loop-index-preserved c =
             bound = omega (arith, c.loop-index-test.true);
             absent = λ fs is. (let now : AreClausesOf names fs c.loop-index.known = rw c.loop-index.invariant.kept is in
                 let told = subst (IsToldOfDefault names fs (default_of x.now) (i + 1)) w.in-Absent.is (w.in_ok-absence.ensures.told fs now) in
-                absent_more names fs ds c.args.set i (default_of x.now) c.loop-index.absent.items w.push.new.self.items w.in-Absent.absence less (image_at (λ d. default_of d.now) c.args.defaults.now i x c.loop-index-test.true c.index-defaults-index.is) out w.in_ok-push-in-Absent.ensures.items told (c.loop-index.invariant.absent fs is));
+                absent_more names fs ds c.args.set i (default_of x.now) c.loop-index.absent.items w.push.new.self.items w.in-Absent.absence less (slice_get-map_read (λ d. default_of d.now) c.args.defaults.now i x c.loop-index-test.true c.index-defaults-index.is) out w.in_ok-push-in-Absent.ensures.items told (c.loop-index.invariant.absent fs is));
           })
       | else-not-has w ↦
           let member : has c.args.set i ≡ true = sym c.has.ensures.value ∙ w.if-not-has.false in

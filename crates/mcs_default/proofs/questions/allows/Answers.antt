@@ -1,5 +1,6 @@
 use Rattle.std.proofs.Common.{◌≡◌, List, map, refl, subst, IsTrue, ◌↔◌, Bool}
 use Rattle.std.specs.List.{AllByRecursion}
+use Rattle.mcs_base.proofs.Mapped.{image_each_at}
 use Rattle.mcs_system.specs.Plain.{Formula, Not}
 use Rattle.mcs_system.specs.declared.formula.Formula as code
 use Rattle.mcs_system.specs.Logic.{Entails}
@@ -7,7 +8,6 @@ use Rattle.mcs_system.specs.Seen.{default_of, formula_of}
 use Rattle.mcs_evidence.specs.Defaults.{generated}
 use Rattle.mcs_default.specs.Theories.{AreParts, IsOverDefault}
 use Rattle.mcs_default.specs.Searches.{IsAllowedBy}
-use Rattle.mcs_default.proofs.General.{each_read}
 use Rattle.mcs_default.proofs.FindingLemmas.{lower_blocked, ready_lower}
 use Rattle.mcs_default.proofs.SearchLemmas.{default_there, not_from_false}
 use Rattle.mcs_default.proofs.questions.allows.Goals as goal
@@ -17,7 +17,7 @@ asked : (fs : List Formula) (js js' : List code.Formula) (b : Bool) → js' ≡ 
 asked fs js js' b same is = subst (λ (xs : List code.Formula). IsTrue b ↔ AllByRecursion (λ j. ¬ Entails fs (Not j)) (map formula_of xs)) same is
 
 pub allows_all-requires-clause-over : goal.allows_all-requires-clause-over
-allows_all-requires-clause-over c = rw c.deref-3.ensures.value ((each_read (IsOverDefault c.args.atoms.now) (λ d. default_of d.now) c.args.defaults.now c.args.index c.index-defaults-index.result c.requires.index c.requires.ready.over).1)
+allows_all-requires-clause-over c = rw c.deref-3.ensures.value ((image_each_at (IsOverDefault c.args.atoms.now) (λ d. default_of d.now) c.args.defaults.now c.args.index c.index-defaults-index.result c.requires.index c.requires.ready.over).1)
 
 pub returns-in_ok-push-clause-ready : goal.returns-in_ok-push-clause-ready
 returns-in_ok-push-clause-ready c =

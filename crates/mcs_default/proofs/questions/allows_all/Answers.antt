@@ -2,6 +2,7 @@ use Rattle.std.proofs.Common.{◌∙◌, ◌++◌, ◌∷◌, [], List, map, sym
 use Rattle.std.specs.List.{AllByRecursion}
 use Rattle.std.proofs.lemmas.List.{take_all, map_more}
 use Rattle.mcs_base.proofs.Each.{all_push}
+use Rattle.mcs_base.proofs.Mapped.{image_each_read, slice_get-map_read}
 use Rattle.mcs_system.specs.Plain.{Not}
 use Rattle.mcs_system.specs.declared.formula.Formula as code
 use Rattle.mcs_system.specs.Logic.{Entails}
@@ -9,19 +10,18 @@ use Rattle.mcs_system.specs.Seen.{default_of, formula_of}
 use Rattle.mcs_cnf.specs.ClauseLists.{IsOver}
 use Rattle.mcs_evidence.specs.Defaults.{generated}
 use Rattle.mcs_default.specs.Theories.{AreParts}
-use Rattle.mcs_default.proofs.General.{each_at, image_at}
 use Rattle.mcs_default.proofs.SearchLemmas.{not_allowed, false_exactly, true_exactly, not_from_false}
 use Rattle.mcs_default.proofs.questions.allows_all.Goals as goal
 
 pub refutes-requires-clause-over : goal.refutes-requires-clause-over
-refutes-requires-clause-over c = each_at (IsOver c.args.atoms.now) formula_of c.args.justs.now c.loop-just.just-index c.just-item.result c.loop-just-test.true c.just-item.is c.requires.over
+refutes-requires-clause-over c = image_each_read (IsOver c.args.atoms.now) formula_of c.args.justs.now c.loop-just.just-index c.just-item.result c.loop-just-test.true c.just-item.is c.requires.over
 
 pub returns-then-branch-clause-exact : goal.returns-then-branch-clause-exact
 returns-then-branch-clause-exact c items parts =
     let ds = map (λ d. default_of d.now) c.args.defaults.now in
     let now = subst (AreParts c.args.atoms.now items ds) (sym c.loop-just.invariant.kept) parts in
     false_exactly (not_allowed (generated items c.args.set) (map formula_of c.args.justs.now) c.loop-just.just-index (formula_of c.just-item.result)
-    (image_at formula_of c.args.justs.now c.loop-just.just-index c.just-item.result c.loop-just-test.true c.just-item.is) ((c.in_ok-refutes.ensures.exact items now).0 c.if-branch.true))
+    (slice_get-map_read formula_of c.args.justs.now c.loop-just.just-index c.just-item.result c.loop-just-test.true c.just-item.is) ((c.in_ok-refutes.ensures.exact items now).0 c.if-branch.true))
 
 pub loop-just-preserved : goal.loop-just-preserved
 loop-just-preserved c =

@@ -1,15 +1,15 @@
 use Rattle.std.proofs.Common.{map, refl, subst}
+use Rattle.mcs_base.proofs.Mapped.{image_each_at}
 use Rattle.mcs_system.specs.Logic.{Entails}
 use Rattle.mcs_system.specs.Seen.{default_of}
 use Rattle.mcs_evidence.specs.Defaults.{generated}
 use Rattle.mcs_default.specs.Theories.{AreParts, IsOverDefault}
-use Rattle.mcs_default.proofs.General.{each_read}
 use Rattle.mcs_default.proofs.FindingLemmas.{lower_supported, ready_lower}
 use Rattle.mcs_default.proofs.SearchLemmas.{default_there}
 use Rattle.mcs_default.proofs.questions.supports.Goals as goal
 
 pub follows-requires-clause-goal : goal.follows-requires-clause-goal
-follows-requires-clause-goal c = (each_read (IsOverDefault c.args.atoms.now) (λ d. default_of d.now) c.args.defaults.now c.args.index c.index-defaults-index.result c.requires.index c.requires.ready.over).0
+follows-requires-clause-goal c = (image_each_at (IsOverDefault c.args.atoms.now) (λ d. default_of d.now) c.args.defaults.now c.args.index c.index-defaults-index.result c.requires.index c.requires.ready.over).0
 
 pub returns-in_ok-push-clause-ready : goal.returns-in_ok-push-clause-ready
 returns-in_ok-push-clause-ready c =

@@ -1,15 +1,16 @@
 use Rattle.std.proofs.Common.{◌≡◌, true, false, ◌∙◌, sym}
 use Rattle.mcs_sets.specs.Sets.{has}
+use Rattle.mcs_base.proofs.Mapped.{image_each_read}
 use Rattle.mcs_system.specs.Seen.{default_of}
 use Rattle.mcs_cnf.proofs.ListLemmas.{room_kept}
 use Rattle.mcs_default.specs.Theories.{IsOverDefault}
-use Rattle.mcs_default.proofs.General.{each_at, consequents_in, consequents_out, consequents_all}
+use Rattle.mcs_default.proofs.General.{consequents_in, consequents_out, consequents_all}
 use Rattle.mcs_default.proofs.theory.push_consequents.Goals.{then-has+in_ok-push_formula, else-has}
 use Rattle.mcs_default.proofs.theory.push_consequents.Goals as goal
 
 pub push_formula-requires-clause-over : goal.push_formula-requires-clause-over
 push_formula-requires-clause-over c =
-    (each_at (IsOverDefault c.args.atoms.now) (λ d. default_of d.now) c.args.defaults.now c.loop-index.index c.index-defaults-index.result c.loop-index-test.true c.index-defaults-index.is c.requires.over).2
+    (image_each_read (IsOverDefault c.args.atoms.now) (λ d. default_of d.now) c.args.defaults.now c.loop-index.index c.index-defaults-index.result c.loop-index-test.true c.index-defaults-index.is c.requires.over).2
 
 pub loop-index-preserved : goal.loop-index-preserved
 loop-index-preserved c =

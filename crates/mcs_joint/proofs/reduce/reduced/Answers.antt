@@ -1,6 +1,6 @@
 use Rattle.std.specs.List.Sorted.{IsPermutation}
 use Rattle.std.proofs.lemmas.List.Sorted.{length_permutation}
-use Rattle.mcs_joint.proofs.General.{written_back}
+use Rattle.mcs_base.proofs.Written.{written_back}
 use Rattle.mcs_joint.proofs.Reducing.{reduced_moved}
 use Rattle.mcs_joint.proofs.reduce.reduced.Goals as goal
 

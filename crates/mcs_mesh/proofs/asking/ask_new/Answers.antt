@@ -1,9 +1,9 @@
 use Rattle.std.proofs.Common.{Vec, Global, ◌+◌, ◌∙◌, ap, map, sym, subst, refl, List}
 use Rattle.std.proofs.lemmas.Result.{err_from_is_err_and}
+use Rattle.mcs_base.proofs.Mapped.{map_push_as}
 use Rattle.mcs_rows.specs.Local.{Answered}
 use Rattle.mcs_rows.specs.Answers.{answered_of}
 use Rattle.mcs_rows.specs.declared.answer.Answer.{Answer}
-use Rattle.mcs_mesh.proofs.General.{mapped-push}
 use Rattle.mcs_mesh.proofs.AskingLemmas.{IsAsking, begun, one_more, all_right_now, all_asked, cause_of_one}
 use Rattle.mcs_mesh.proofs.asking.ask_new.Goals as goal
 
@@ -21,7 +21,7 @@ returns-in_err-answer-clause-cause g c = let p = err_from_is_err_and c.from_resi
 pub loop-question-preserved : goal.loop-question-preserved
 loop-question-preserved g c = record {
   asking = subst (λ (xs : List Answered). IsAsking (g.O.Oracle.stands c.args.oracle.now).system c.args.i (g.O.Oracle.stands c.answer_to.new.oracle) c.args.asked.now (c.loop-question.question-index + 1) xs (map answered_of c.answer_to.new.before.items))
-      (sym (mapped-push answered_of c.loop-question.answers.items c.push.new.self.items c.in_ok-answer.answer c.in_ok-push.ensures.items))
+      (sym (map_push_as answered_of c.loop-question.answers.items c.push.new.self.items c.in_ok-answer.answer c.in_ok-push.ensures.items))
       (one_more _ c.args.i _ _ c.args.asked.now c.requires.ascending c.loop-question.question-index c.question-item.result _ _ _ _ (answered_of c.in_ok-answer.answer) c.loop-question-test.true c.question-item.is c.loop-question.invariant.asking c.in_ok-answer.ensures.answer);
   rest = c.answer_to.ensures.rest ∙ c.loop-question.invariant.rest;
 }

@@ -1,7 +1,8 @@
 use Rattle.std.proofs.Common.{◌∙◌, ap, sym, length}
 use Rattle.mcs_states.specs.Oracles.{OracleState}
 use Rattle.mcs_system.specs.Plain.{System}
-use Rattle.mcs_top.proofs.EvaluatorLemmas.{solvers_each, solver_seen, new_mesh}
+use Rattle.mcs_solver.proofs.SystemSolvers.{solvers_each, solver_seen}
+use Rattle.mcs_top.proofs.EvaluatorLemmas.{new_mesh}
 use Rattle.mcs_top.proofs.evaluator.mesh_of.Goals as goal
 
 pub new-requires-2-clause-one_each : goal.new-requires-2-clause-one_each

@@ -1,9 +1,10 @@
 use Rattle.std.proofs.Common.{[], ◌∙◌, subst}
+use Rattle.mcs_base.proofs.SetParts.{none_is_within}
 use Rattle.mcs_system.specs.Plain.{System}
 use Rattle.mcs_states.specs.Evaluators.{AreStates}
 use Rattle.mcs_work.specs.Work.{HasStopped}
 use Rattle.mcs_work.proofs.StateLemmas.{unchanged}
-use Rattle.mcs_work.proofs.StopLemmas.{stop_told, heading_cut, first_halted, none_of_rules, done_first}
+use Rattle.mcs_work.proofs.StopLemmas.{stop_told, heading_cut, first_halted, done_first}
 use Rattle.mcs_work.proofs.states.find_states.Goals as goal
 
 pub returns-in_err-print_heading-clause-stop : goal.returns-in_err-print_heading-clause-stop
@@ -12,7 +13,7 @@ returns-in_err-print_heading-clause-stop g c task =
     (heading_cut task c.args.system.now _ _ c.requires.same (g.K.Sink.device c.args.sink.now) (g.K.Sink.device c.print_heading.new.sink) _ c.in_err-print_heading.ensures)
 
 pub list_states-requires-clause-of_rules : goal.list_states-requires-clause-of_rules
-list_states-requires-clause-of_rules g c = none_of_rules c.new.result _ (c.new.ensures ∙ c.empty.ensures)
+list_states-requires-clause-of_rules g c = none_is_within c.new.result _ (c.new.ensures ∙ c.empty.ensures)
 
 pub returns-in_err-states-clause-stop : goal.returns-in_err-states-clause-stop
 returns-in_err-states-clause-stop g c task =

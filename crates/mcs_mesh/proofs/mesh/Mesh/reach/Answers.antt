@@ -1,8 +1,8 @@
 use Rattle.std.proofs.Common.{◌∙◌, ap, length, map, refl, subst}
 use Rattle.std.specs.Arc.{arc_value}
+use Rattle.mcs_base.proofs.Written.{written_back}
 use Rattle.mcs_states.specs.Evaluators.{HasDone}
 use Rattle.mcs_mesh.specs.Rounds.{knowledge_of}
-use Rattle.mcs_mesh.proofs.General.{written_back}
 use Rattle.mcs_mesh.proofs.MeshLemmas.{again_done, lasting_done, lasting_kept, reach_begun, reach_done, reach_halted}
 use Rattle.mcs_mesh.proofs.mesh.Mesh.reach.Goals as goal
 
@@ -31,7 +31,7 @@ round_of-round-requires g c = reach_begun (arc_value c.self.inside.plan) c.self.
 pub returns-in-Ok-clause-done : goal.returns-in-Ok-clause-done
 returns-in-Ok-clause-done g c = reach_done (arc_value c.self.inside.plan) c.self.inside.budget c.self.inside.done c.self.inside.halt (map g.O.Oracle.stands c.self.inside.oracles.items) (map knowledge_of c.self.inside.known.items) c.self.inside.tables.items c.self.inside.asked c.self.invariant.0 c.args.self.now c.self.view_is
     c.args.level c.requires (c.is_reached.ensures.not c.if-is_reached.false) c.deref-2.result.now c.deref-2.ensures (map g.O.Oracle.stands c.deref_mut.result.now) (map g.O.Oracle.stands c.round_of-round.new.oracles) _ (ap (map g.O.Oracle.stands) c.deref_mut.ensures.value)
-    (ap (map g.O.Oracle.stands) (written_back c.self.inside.oracles.items c.round_of-round.new.oracles c.self.inside.oracles.len c.self.inside.oracles.ok.0 (c.round_of-round.auto.oracles ∙ ap length c.deref_mut.ensures.value)))
+    (ap (map g.O.Oracle.stands) (written_back c.self.inside.oracles.items c.round_of-round.new.oracles c.self.inside.oracles.len (c.round_of-round.auto.oracles ∙ ap length c.deref_mut.ensures.value) c.self.inside.oracles.ok.0))
     (map knowledge_of c.round_of-round.new.known) c.in-Ok.ensures.done c.in-Ok.ensures.within c.round_of-round.ensures.rest
 
 pub returns-in-Err-clause-halt : goal.returns-in-Err-clause-halt
