@@ -41,15 +41,26 @@ fn soonest(tables: &[Table], from: usize, seen: Vars) -> usize
     best
 }
 
+/// Moves a table up to an earlier place, so that those between keep their order.
+fn move_up(tables: &mut [Table], to: usize, from: usize)
+    requires { from < length tables.old }
+    ensures { IsPermutation tables.old tables.new }
+{
+    for k in (to..from).rev() {
+        tables.swap(k, k + 1);
+    }
+}
+
 /// Puts the tables in the order in which they are joined: next comes always one that shares variables with
-/// those before it, where there is one, and of these one with the fewest rows.
+/// those before it, where there is one, of these one with the fewest rows, and of these the first. So states
+/// that no table tells apart come of the joins in their order, as far as the tables stand in theirs.
 pub(crate) fn put_in_order(tables: &mut [Table])
     ensures { IsPermutation tables.old tables.new }
 {
     let mut seen = Vars::empty();
     for k in 0..tables.len() {
         let next = soonest(tables, k, seen);
-        tables.swap(k, next);
+        move_up(tables, k, next);
         seen = seen.union(tables[k].scope());
     }
 }

@@ -1,6 +1,6 @@
 //! The equilibria of a system that a pair changes, of the tables of all contexts.
 
-ghost use Rattle.std.specs.Prelude.{◌≡◌, ◌≤◌, ◌<◌, ◌↔◌, ℕ, map, length, IfOk, IsTrue};
+ghost use Rattle.std.specs.Prelude.{◌≡◌, ◌≤◌, ◌<◌, ◌↔◌, ℕ, List, map, length, IfOk, IsTrue};
 ghost use Rattle.std.specs.List.{AllByRecursion};
 ghost use Rattle.mcs_sets.specs.Sets.{minus, size, Within};
 ghost use Rattle.mcs_sets.specs.Orders.{StateBefore};
@@ -21,7 +21,7 @@ use crate::reduce::reduced;
 use mcs_base::{Memory, Pair, Vars, list_states};
 use mcs_import::Plan;
 use mcs_system::System;
-use mcs_table::{Row, Table, unions};
+use mcs_table::{Row, Table, union_states, unions};
 use std::alloc::Global;
 
 /// The projected equilibria of the plan's system that the pair changes, in the order of states: the rules that
@@ -41,8 +41,7 @@ pub fn states_in(
     let level = pair.marks().count();
     let own = changed_tables(alloc, plan.system(), tables, pair)?;
     let fewer = reduced(alloc, own, level)?;
-    let all = unite_all(alloc, &fewer, level)?;
-    let mut states = values_of(alloc, &all)?;
+    let mut states = united_states(alloc, &fewer, level)?;
     list_states(&mut states);
     Ok(states)
 }
@@ -114,18 +113,26 @@ fn has_marks_of(system: &System, context: u32, row: &Row, pair: Pair) -> bool
     marks.removed() == applicable.minus(acting) && marks.forced() == acting.minus(applicable)
 }
 
-/// The unions of one row of each of the tables that fit all together. Each is there as often as it comes about.
-fn unite_all(alloc: Global, tables: &[Table], level: u32) -> Result<Vec<Row>, Memory>
+/// The states of the unions of one row of each of the tables that fit all together, one for each union. The last
+/// table gives states alone, since there are most rows then.
+fn united_states(alloc: Global, tables: &[Table], level: u32) -> Result<Vec<Vars>, Memory>
     requires tables { AllByRecursion IsTable tables.now }
     requires apart { EachApart tables.now }
-    ensures { IfOk result (λ all. (r : declared.Row) → IsAmong r all.items ↔ IsJointRow level tables.now r) }
+    ensures { IfOk result (λ states. (all : List declared.Row) × ((r : declared.Row) → IsAmong r all ↔ IsJointRow level tables.now r)
+        × (states.items ≡ map (λ (r : declared.Row). r.state.values) all)) }
 {
     let unit = Table::unit(alloc)?;
     let mut all = Vec::from_slice(alloc, unit.rows())?;
     let mut seen = Vars::empty();
-    for table in tables {
+    for k in 0..tables.len() {
+        let table = &tables[k];
+        if k + 1 == tables.len() {
+            let states = union_states(alloc, &all, seen, table, level)?;
+            return Ok(states);
+        }
         all = unions(alloc, &all, seen, table, level)?;
         seen = seen.union(table.scope());
     }
-    Ok(all)
+    let states = values_of(alloc, &all)?;
+    Ok(states)
 }

@@ -1,5 +1,5 @@
 -- Collecting the unions of the rows of two tables.
-use Rattle.std.proofs.Common.{◌≡◌, ◌<◌, ◌≤◌, ℕ, ◌+◌, List, [], ◌++◌, map, length, get_or, take, refl, sym, ap, ◌∙◌, subst, inl, inr, ◌↔◌, arith}
+use Rattle.std.proofs.Common.{◌≡◌, ◌<◌, ◌≤◌, ℕ, ◌+◌, List, [], ◌∷◌, ◌++◌, map, length, get_or, take, refl, sym, ap, ◌∙◌, subst, inl, inr, ◌↔◌, arith}
 use Rattle.std.specs.List.{AllByRecursion}
 use Rattle.std.specs.List.Sorted.{IsPermutation}
 use Rattle.mcs_sets.specs.Sets.{union, common, size}
@@ -117,6 +117,21 @@ module _ (a b : TableData) (is_a : AllByRecursion (IsRowOn a.scope) a.rows) (is_
         ]),
       );
     }
+
+-- ---- the states of unions
+-- these are the states of the unions so far
+pub record AreUnionStates (xs ys : List Row) (level : ℕ) (states : List ℕ) : Type 0 where
+  pub all : List Row
+  pub unions : AreUnions xs ys level all
+  pub is : states ≡ map (λ (r : Row). r.state.values) all
+
+pub union_states_begin : (ys : List Row) (level : ℕ) → AreUnionStates [] ys level []
+union_states_begin ys level = record { all = []; unions = unions_begin ys level; is = refl }
+
+pub states_of_more : (x : Row) (unions found : List Row) → map (λ (r : Row). r.state.values) unions ++ map (λ (r : Row). union x.state.values r.state.values) found ≡ map (λ (r : Row). r.state.values) (unions ++ map (united_row x) found)
+states_of_more x (r ∷ unions) found = ap (λ states. r.state.values ∷ states) (states_of_more x unions found)
+states_of_more x [] [] = refl
+states_of_more x [] (r ∷ found) = ap (λ states. union x.state.values r.state.values ∷ states) (states_of_more x [] found)
 
 -- ---- the join of all unions
 module _ (a b : TableData) (is_a : IsTable a) (is_b : IsTable b) (level : ℕ) (unions : List Row) (all : AreUnions a.rows b.rows level unions) where

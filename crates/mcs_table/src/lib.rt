@@ -14,7 +14,7 @@ mod table;
 
 pub use fitting::matching;
 pub use forgetting::forget;
-pub use joining::{are_apart, join, unions};
+pub use joining::{are_apart, join, union_states, unions};
 pub use laws::{
     elimination_gives_minimal_rows, forgetting_commutes, forgetting_is_a_restriction,
     joins_are_minimal_unions,

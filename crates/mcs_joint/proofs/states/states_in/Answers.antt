@@ -1,4 +1,4 @@
-use Rattle.std.proofs.Common.{◌≡◌, ◌∙◌, ap, sym, subst, length, map, ℕ, List, ◌↔◌}
+use Rattle.std.proofs.Common.{◌≡◌, ◌∙◌, ap, sym, subst, length, ℕ, List, ◌↔◌}
 use Rattle.std.specs.List.{AllByRecursion}
 use Rattle.mcs_sets.specs.Orders.{StateBefore}
 use Rattle.mcs_base.specs.Listings.{IsAmong, IsListing}
@@ -25,29 +25,28 @@ reduced-requires c =
     let changed : AreChangedTables m c.args.pair c.args.tables.now own = subst (λ (s : System). AreChangedTables s c.args.pair c.args.tables.now own) c.system.ensures c.in_ok-own.ensures.changed in
     changed_apart m c.args.pair (subst IsValid c.system.ensures c.changed_tables.ensures.valid) k c.args.tables.now own c.changed_tables.ensures.kept local changed
 
-pub unite_all-requires-clause-tables : goal.unite_all-requires-clause-tables
-unite_all-requires-clause-tables c =
+pub united_states-requires-clause-tables : goal.united_states-requires-clause-tables
+united_states-requires-clause-tables c =
     let m = c.args.plan.now in
     let own = c.in_ok-own.own.items in
     let (k, high, local) = c.requires.tables in
     let changed : AreChangedTables m c.args.pair c.args.tables.now own = subst (λ (s : System). AreChangedTables s c.args.pair c.args.tables.now own) c.system.ensures c.in_ok-own.ensures.changed in
     subst (AllByRecursion IsTable) (sym c.deref.ensures.value) (c.in_ok-fewer.ensures.tables (changed_are_tables m c.args.pair (subst IsValid c.system.ensures c.changed_tables.ensures.valid) k c.args.tables.now own c.changed_tables.ensures.kept local changed))
 
-pub unite_all-requires-clause-apart : goal.unite_all-requires-clause-apart
-unite_all-requires-clause-apart c = subst EachApart (sym c.deref.ensures.value) c.in_ok-fewer.ensures.apart
+pub united_states-requires-clause-apart : goal.united_states-requires-clause-apart
+united_states-requires-clause-apart c = subst EachApart (sym c.deref.ensures.value) c.in_ok-fewer.ensures.apart
 
 pub returns : goal.returns
 returns c =
     let m = c.args.plan.now in
     let own = c.in_ok-own.own.items in
     let fewer = c.in_ok-fewer.fewer.items in
-    let rows = c.in_ok-all.all.items in
+    let (rows, same, values) = c.in_ok-states.ensures in
     let (k, high, local) = c.requires.tables in
     let changed : AreChangedTables m c.args.pair c.args.tables.now own = subst (λ (s : System). AreChangedTables s c.args.pair c.args.tables.now own) c.system.ensures c.in_ok-own.ensures.changed in
     let valid : IsValid m = subst IsValid c.system.ensures c.changed_tables.ensures.valid in
     let level : c.count-level.result ≡ size c.args.pair = c.count-level.ensures.number ∙ ap size c.marks.ensures in
     let reduced : IsReduced (size c.args.pair) own fewer = subst (λ n. IsReduced n own fewer) level c.in_ok-fewer.ensures in
-    let joint : (r : Row) → IsAmong r rows ↔ IsJointRow (size c.args.pair) fewer r = λ r. subst (λ n. IsAmong r rows ↔ IsJointRow n fewer r) level (subst (λ ts. IsAmong r rows ↔ IsJointRow c.count-level.result ts r) c.deref.ensures.value (c.in_ok-all.ensures r)) in
-    let values : c.in_ok-states.states.items ≡ map (λ (r : Row). r.state.values) rows = c.in_ok-states.ensures ∙ ap (map (λ (r : Row). r.state.values)) c.deref-2.ensures.value in
+    let joint : (r : Row) → IsAmong r rows ↔ IsJointRow (size c.args.pair) fewer r = λ r. subst (λ n. IsAmong r rows ↔ IsJointRow n fewer r) level (subst (λ ts. IsAmong r rows ↔ IsJointRow c.count-level.result ts r) c.deref.ensures.value (same r)) in
     let listed = subst (λ (ys : List ℕ). IsListing (λ σ. IsAmong σ ys) StateBefore c.list_states.new.states.items) values c.list_states.ensures in
     states_listed m c.args.pair valid k c.args.tables.now own c.changed_tables.ensures.kept local changed c.requires.of_rules high fewer reduced rows joint c.list_states.new.states.items listed
