@@ -119,7 +119,10 @@ fn are_listed(
 /// Whether these are the views of these numbers.
 fn are_numbered(views: &[Vars], numbers: &[u64]) -> bool {
     views.len() == numbers.len()
-        && views.iter().zip(numbers).all(|(view, number)| view.number() == *number)
+        && views
+            .iter()
+            .zip(numbers)
+            .all(|(view, number)| view.number() == *number)
 }
 
 /// Whether the extensions of the theory are listed with the views of these numbers, with and without what shows it.
@@ -182,34 +185,73 @@ fn extensions_are_shown(rt: HostRuntime) -> Result<(), Fail> {
 
 /// A theory and the formulas for which it is asked, and the numbers of the views, in their order.
 const THEORIES: [(&str, &[u64]); 15] = [
-    ("context c default { a. a : b / b. b : c / c. } context d classical { b. c. }", &[3]),
-    ("context c default { a. a : b & ~c / b. a : c / c. } context d classical { b. c. }", &[2]),
-    ("context c default { true : a & ~b / a. true : b & ~c / b. true : c & ~a / c. } context d classical { a. }", &[]),
-    ("context c default { a : b / b. b : a / a. } context d classical { a. b. }", &[0]),
-    ("context c default { a : b / b. b : a / a. true : a | b / a | b. } context d classical { a. b. a | b. }", &[4]),
-    ("context c default { a. a : p / p. a : ~p / ~p. a : q / q. a : ~q / ~q. } context d classical { p. q. }", &[3, 1, 2, 0]),
-    ("context c default { a. ~a. true : b / b. } context d classical { a. b. ~b. }", &[7]),
-    ("context c default { a. a : b, c / d. a : ~b / ~b. } context d classical { d. ~b. }", &[2]),
-    ("context c default { a. a : b, ~b / c. } context d classical { b. ~b. c. }", &[4]),
-    ("context c default { true : a / ~a. } context d classical { a. }", &[]),
-    ("context c default { true : a / a. true : b / b. a & b : c / c. } context d classical { c. }", &[1]),
-    ("context c default { true : p / q. true : q / ~p. } context d classical { p. q. ~p. }", &[4]),
+    (
+        "context c default { a. a : b / b. b : c / c. } context d classical { b. c. }",
+        &[3],
+    ),
+    (
+        "context c default { a. a : b & ~c / b. a : c / c. } context d classical { b. c. }",
+        &[2],
+    ),
+    (
+        "context c default { true : a & ~b / a. true : b & ~c / b. true : c & ~a / c. } context d classical { a. }",
+        &[],
+    ),
+    (
+        "context c default { a : b / b. b : a / a. } context d classical { a. b. }",
+        &[0],
+    ),
+    (
+        "context c default { a : b / b. b : a / a. true : a | b / a | b. } context d classical { a. b. a | b. }",
+        &[4],
+    ),
+    (
+        "context c default { a. a : p / p. a : ~p / ~p. a : q / q. a : ~q / ~q. } context d classical { p. q. }",
+        &[3, 1, 2, 0],
+    ),
+    (
+        "context c default { a. ~a. true : b / b. } context d classical { a. b. ~b. }",
+        &[7],
+    ),
+    (
+        "context c default { a. a : b, c / d. a : ~b / ~b. } context d classical { d. ~b. }",
+        &[2],
+    ),
+    (
+        "context c default { a. a : b, ~b / c. } context d classical { b. ~b. c. }",
+        &[4],
+    ),
+    (
+        "context c default { true : a / ~a. } context d classical { a. }",
+        &[],
+    ),
+    (
+        "context c default { true : a / a. true : b / b. a & b : c / c. } context d classical { c. }",
+        &[1],
+    ),
+    (
+        "context c default { true : p / q. true : q / ~p. } context d classical { p. q. ~p. }",
+        &[4],
+    ),
     (PAIRS, &[3, 1, 2, 0]),
     (RING, &[1, 2, 0]),
     (CYCLE, &[7]),
 ];
 
 /// Five pairs of contrary defaults, each of 32 choices.
-const PAIRS: &str = "context c default { b. b : p0 / p0. b : ~p0 / ~p0. b : p1 / p1. b : ~p1 / ~p1. b : p2 / p2.
+const PAIRS: &str =
+    "context c default { b. b : p0 / p0. b : ~p0 / ~p0. b : p1 / p1. b : ~p1 / ~p1. b : p2 / p2.
 b : ~p2 / ~p2. b : p3 / p3. b : ~p3 / ~p3. b : p4 / p4. b : ~p4 / ~p4. } context d classical { p1. p4. }";
 
 /// The same where no two neighbours in a ring hold, each of 11 independent sets.
-const RING: &str = "context c default { b. b : p0 / p0. b : ~p0 / ~p0. b : p1 / p1. b : ~p1 / ~p1. b : p2 / p2.
+const RING: &str =
+    "context c default { b. b : p0 / p0. b : ~p0 / ~p0. b : p1 / p1. b : ~p1 / ~p1. b : p2 / p2.
 b : ~p2 / ~p2. b : p3 / p3. b : ~p3 / ~p3. b : p4 / p4. b : ~p4 / ~p4. ~(p0 & p1). ~(p1 & p2). ~(p2 & p3).
 ~(p3 & p4). ~(p4 & p0). } context d classical { p0. p4. }";
 
 /// Each of ten defaults gives the prerequisite of the next one.
-const CYCLE: &str = "context c default { a4. a0 : a1 / a1. a1 : a2 / a2. a2 : a3 / a3. a3 : a4 / a4. a4 : a5 / a5.
+const CYCLE: &str =
+    "context c default { a4. a0 : a1 / a1. a1 : a2 / a2. a2 : a3 / a3. a3 : a4 / a4. a4 : a5 / a5.
 a5 : a6 / a6. a6 : a7 / a7. a7 : a8 / a8. a8 : a9 / a9. a9 : a0 / a0. } context d classical { a0. a3. a9. }";
 
 /// Whether the first context, asked for the formulas of the second, has the views of these numbers.

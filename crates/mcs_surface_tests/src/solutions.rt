@@ -106,7 +106,15 @@ fn ends_within(
     noted: &str,
 ) -> Result<bool, Memory> {
     let words = ["solve", "f", "--budget", budget];
-    ends(alloc, &words, text.as_bytes(), SOUND, status, written, noted)
+    ends(
+        alloc,
+        &words,
+        text.as_bytes(),
+        SOUND,
+        status,
+        written,
+        noted,
+    )
 }
 
 #[test]
@@ -156,7 +164,15 @@ fn is_cut(alloc: Global, write: usize) -> Result<bool, Memory> {
     } else {
         (0, "")
     };
-    ends(alloc, &SOLVE, ATTACK.as_bytes(), devices, status, written.as_str(), line)
+    ends(
+        alloc,
+        &SOLVE,
+        ATTACK.as_bytes(),
+        devices,
+        status,
+        written.as_str(),
+        line,
+    )
 }
 
 #[test]

@@ -47,23 +47,31 @@ module _ (task : Task) (m : System) (budget : ℕ) (e e' : EvaluatorState) (fres
   beyond_there level h = subst (λ (b : ℕ). HasQuestions e.system level (b + 1)) (sym fresh.budget_is) (subst (λ (n : System). HasQuestions n level (budget + 1)) (sym fresh.system) h)
 
   pub listed_done : (before now : Option (List ℕ)) → IsDone task [] e e' before now → (text : List ℕ) × IsListed task budget text m × (now ≡ appended before text)
-  listed_done before now d = (d.part, (
-    λ level taken beyond. d.within level (subst (λ (n : System). IsTaken task n level) (sym fresh.system) taken) (beyond_there level beyond),
-    subst (λ (n : System). IsTaskText task n d.part) fresh.system d.text,
-  ), d.written)
+  listed_done before now d = (
+    d.part,
+    (
+      λ level taken beyond. d.within level (subst (λ (n : System). IsTaken task n level) (sym fresh.system) taken) (beyond_there level beyond),
+      subst (λ (n : System). IsTaskText task n d.part) fresh.system d.text,
+    ),
+    d.written,
+  )
 
   stage_left : (before now : Option (List ℕ)) → LeavesStage task e.system [] before now → (text : List ℕ) × IsTaskStage task m text × WritesFront text before now
   stage_left before now l = (l.part ++ l.rest, subst (λ (n : System). IsTaskStage task n (l.part ++ l.rest)) fresh.system l.stage, record { front = l.part; rest = l.rest; parts = refl; written = l.written })
 
   listed_before : (level : ℕ) (before now : Option (List ℕ)) → IsSpent task [] e e' level before now → (text : List ℕ) × IsListedBefore task budget level text m × (now ≡ appended before text)
-  listed_before level before now s = (s.part, (
-    record {
-      taken = subst (λ (n : System). IsTaken task n level) fresh.system s.taken;
-      beyond = beyond_here level s.beyond;
-      least = λ k less beyond. s.least k less (beyond_there k beyond);
-    },
-    subst (λ (n : System). IsTaskUpTo task n level s.part) fresh.system s.text,
-  ), s.written)
+  listed_before level before now s = (
+    s.part,
+    (
+      record {
+        taken = subst (λ (n : System). IsTaken task n level) fresh.system s.taken;
+        beyond = beyond_here level s.beyond;
+        least = λ k less beyond. s.least k less (beyond_there k beyond);
+      },
+      subst (λ (n : System). IsTaskUpTo task n level s.part) fresh.system s.text,
+    ),
+    s.written,
+  )
 
   -- ---- of a file that is its text
   module _ (files : Option (List File)) (file : Word) (workers : ℕ) (read : IfSome files (OfOneFile (IsTextOf m))) where
