@@ -17,3 +17,6 @@ returns c = λ _ i less.
     let low = c.loop-context-test.false in
     let high = c.loop-context.auto.context-end in
     c.loop-context.invariant i (omega (arith, long, low, high, less))
+
+pub loop-context-init : goal.loop-context-init
+loop-context-init c = λ i less. absurd (omega arith)
