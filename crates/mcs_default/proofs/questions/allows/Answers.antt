@@ -1,4 +1,4 @@
-use Rattle.std.proofs.Common.{◌≡◌, ◌∙◌, map, refl, sym, subst, ap, IsTrue, ◌↔◌, Bool, true, false, List, [], ◌∷◌, length, arith, true≢false, slice_index_or}
+use Rattle.std.proofs.Common.{◌≡◌, ◌∙◌, map, refl, sym, subst, ap, IsTrue, ◌↔◌, Bool, false, List, [], ◌∷◌, length, arith, true≢false, slice_index_or}
 use Rattle.std.proofs.lemmas.Result.{IfOk-weaker}
 use Rattle.std.proofs.lemmas.Bool.Decides.{nat_tests}
 use Rattle.std.specs.Bool.{◌==◌}

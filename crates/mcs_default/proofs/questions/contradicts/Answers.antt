@@ -1,7 +1,6 @@
-use Rattle.std.proofs.Common.{◌≡◌, ◌∙◌, map, refl, sym, subst}
+use Rattle.std.proofs.Common.{map, refl, subst}
 use Rattle.mcs_system.specs.Seen.{default_of}
 use Rattle.mcs_default.specs.Theories.{AreParts}
-use Rattle.mcs_default.specs.Searches.{IsConflict}
 use Rattle.mcs_default.proofs.FindingLemmas.{ready_conflict}
 use Rattle.mcs_default.proofs.SearchLemmas.{true_exactly, false_exactly}
 use Rattle.mcs_default.proofs.questions.contradicts.Goals as goal
