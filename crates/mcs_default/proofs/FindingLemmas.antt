@@ -19,7 +19,7 @@ use Rattle.mcs_system.proofs.Consequence.{each_holds}
 use Rattle.mcs_evidence.proofs.DefaultLemmas.{generated_each}
 use Rattle.mcs_default.specs.Theories.{AreClausesOf, AreOverDefaults, AreParts, consequents}
 use Rattle.mcs_default.specs.Assignments.{holds_part, holds_part_of, holds_part_at}
-use Rattle.mcs_default.specs.Searches.{IsSupportedAt, IsBlockedAt, IsLower, IsUpper, IsReady}
+use Rattle.mcs_default.specs.Searches.{IsSupportedAt, IsBlockedAt, IsConflict, IsLower, IsUpper, IsReady}
 use Rattle.mcs_default.specs.declared.models.Part as part
 use Rattle.mcs_default.specs.declared.models.Part.TheVariants as parts
 use Rattle.mcs_default.specs.declared.findings.Lower as lower
@@ -45,6 +45,7 @@ module _ (a : List Name) (items : List Item) (x : upper.Upper) (facts : IsTrue (
 
   shown_upper : IsUpper items x
   shown_upper = record {
+    consistent = λ all. true≢false (sym (all a all_hold));
     unsupported = λ k out d at follows. true≢false (sym (follows a all_hold) ∙ sym (part_is a (defaults_of items) parts.Prerequisite x.supported k d supported at) ∙ out);
     allowed = λ k member d at. all_weaker (λ j. IsTrue (holds a j)) (λ j. ¬ Entails (generated items x.set) (Not j)) (λ j h follows. true≢false (sym (follows a all_hold) ∙ ap not h)) d.justs
         ((each_holds a d.justs).1 (sym (part_is a (defaults_of items) parts.Justifications x.allowed k d allowed at) ∙ member));
@@ -76,31 +77,40 @@ module _ (names : List Name) (ds : List Default) (f f' : findings.Findings) (rea
   room_after : length names ≤ f'.facts.vars
   room_after = subst (λ (k : ClauseList). length names ≤ k.vars) (sym kept) ready.room
 
-  pub ready_same : f'.lower.items ≡ f.lower.items → f'.upper.items ≡ f.upper.items → IsReady names ds f'
-  ready_same lows ups = record {
+  pub ready_same : f'.conflicts.items ≡ f.conflicts.items → f'.lower.items ≡ f.lower.items → f'.upper.items ≡ f.upper.items → IsReady names ds f'
+  ready_same conflicts lows ups = record {
     few = ready.few;
     different = ready.different;
     over = ready.over;
     room = room_after;
-    right = λ items parts. (let right = ready.right items (parts_before items parts) in (subst (AllByRecursion (IsLower items)) (sym lows) right.0, subst (AllByRecursion (IsUpper items)) (sym ups) right.1));
+    right = λ items parts. (let right = ready.right items (parts_before items parts) in (subst (AllByRecursion (IsLower items)) (sym lows) right.0, subst (AllByRecursion (IsUpper items)) (sym ups) right.1, subst (AllByRecursion (IsConflict items)) (sym conflicts) right.2));
   }
 
-  pub ready_upper : (x : upper.Upper) → f'.lower.items ≡ f.lower.items → f'.upper.items ≡ f.upper.items ++ x ∷ [] → ((items : List Item) → AreParts names items ds f.facts → IsUpper items x) → IsReady names ds f'
-  ready_upper x lows pushed is = record {
+  pub ready_upper : (x : upper.Upper) → f'.conflicts.items ≡ f.conflicts.items → f'.lower.items ≡ f.lower.items → f'.upper.items ≡ f.upper.items ++ x ∷ [] → ((items : List Item) → AreParts names items ds f.facts → IsUpper items x) → IsReady names ds f'
+  ready_upper x conflicts lows pushed is = record {
     few = ready.few;
     different = ready.different;
     over = ready.over;
     room = room_after;
-    right = λ items parts. (let right = ready.right items (parts_before items parts) in (subst (AllByRecursion (IsLower items)) (sym lows) right.0, subst (AllByRecursion (IsUpper items)) (sym pushed) (all_push (IsUpper items) f.upper.items x right.1 (is items (parts_before items parts)))));
+    right = λ items parts. (let right = ready.right items (parts_before items parts) in (subst (AllByRecursion (IsLower items)) (sym lows) right.0, subst (AllByRecursion (IsUpper items)) (sym pushed) (all_push (IsUpper items) f.upper.items x right.1 (is items (parts_before items parts))), subst (AllByRecursion (IsConflict items)) (sym conflicts) right.2));
   }
 
-  pub ready_lower : (x : lower.Lower) → f'.upper.items ≡ f.upper.items → f'.lower.items ≡ f.lower.items ++ x ∷ [] → ((items : List Item) → AreParts names items ds f.facts → IsLower items x) → IsReady names ds f'
-  ready_lower x ups pushed is = record {
+  pub ready_lower : (x : lower.Lower) → f'.conflicts.items ≡ f.conflicts.items → f'.upper.items ≡ f.upper.items → f'.lower.items ≡ f.lower.items ++ x ∷ [] → ((items : List Item) → AreParts names items ds f.facts → IsLower items x) → IsReady names ds f'
+  ready_lower x conflicts ups pushed is = record {
     few = ready.few;
     different = ready.different;
     over = ready.over;
     room = room_after;
-    right = λ items parts. (let right = ready.right items (parts_before items parts) in (subst (AllByRecursion (IsLower items)) (sym pushed) (all_push (IsLower items) f.lower.items x right.0 (is items (parts_before items parts))), subst (AllByRecursion (IsUpper items)) (sym ups) right.1));
+    right = λ items parts. (let right = ready.right items (parts_before items parts) in (subst (AllByRecursion (IsLower items)) (sym pushed) (all_push (IsLower items) f.lower.items x right.0 (is items (parts_before items parts))), subst (AllByRecursion (IsUpper items)) (sym ups) right.1, subst (AllByRecursion (IsConflict items)) (sym conflicts) right.2));
+  }
+
+  pub ready_conflict : (set : ℕ) → f'.lower.items ≡ f.lower.items → f'.upper.items ≡ f.upper.items → f'.conflicts.items ≡ f.conflicts.items ++ set ∷ [] → ((items : List Item) → AreParts names items ds f.facts → IsConflict items set) → IsReady names ds f'
+  ready_conflict set lows ups pushed is = record {
+    few = ready.few;
+    different = ready.different;
+    over = ready.over;
+    room = room_after;
+    right = λ items parts. (let right = ready.right items (parts_before items parts) in (subst (AllByRecursion (IsLower items)) (sym lows) right.0, subst (AllByRecursion (IsUpper items)) (sym ups) right.1, subst (AllByRecursion (IsConflict items)) (sym pushed) (all_push (IsConflict items) f.conflicts.items set right.2 (is items (parts_before items parts)))));
   }
 
 -- ---- one default that is supported, or blocked

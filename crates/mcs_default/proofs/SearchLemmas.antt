@@ -14,7 +14,7 @@ use Rattle.mcs_base.proofs.Among.{among_push}
 use Rattle.mcs_base.proofs.Each.{all_get, all_weaker}
 use Rattle.mcs_base.proofs.ListingLemmas.{IsListing-same}
 use Rattle.mcs_base.proofs.Lists.{slice_get_below, slice_get-map_at}
-use Rattle.mcs_system.specs.Plain.{Formula, Not, Default, Item, DefaultTheory}
+use Rattle.mcs_system.specs.Plain.{Formula, Falsity, Not, Default, Item, DefaultTheory}
 use Rattle.mcs_system.specs.Logic.{Theory, Entails}
 use Rattle.mcs_system.specs.Views.{Shows, IsAcceptedView}
 use Rattle.mcs_evidence.specs.Defaults.{defaults_of, generated}
@@ -22,7 +22,7 @@ use Rattle.mcs_system.proofs.Consequence.{one_set, follows_through}
 use Rattle.mcs_evidence.proofs.DefaultLemmas.{IsDefaultAt, generated_each, facts_follow, conclusion_follows}
 use Rattle.mcs_evidence.proofs.Extensions.{NoneSupported, Generates, generated_view}
 use Rattle.mcs_default.specs.Theories.{all_of}
-use Rattle.mcs_default.specs.Searches.{IsAllowedBy, IsSupportedAt, IsUnsupportedAt, IsAllowedAt, IsBlockedAt, IsLower, IsUpper, IsBelow, IsOpenAt, IsGroundedSet, IsViewBelow}
+use Rattle.mcs_default.specs.Searches.{IsAllowedBy, IsSupportedAt, IsUnsupportedAt, IsAllowedAt, IsBlockedAt, IsConflict, IsLower, IsUpper, IsBelow, IsOpenAt, IsGroundedSet, IsViewBelow}
 use Rattle.mcs_default.specs.declared.findings.Lower as lower
 use Rattle.mcs_default.specs.declared.findings.Upper as upper
 use Rattle.mcs_default.proofs.JudgeLemmas.{numbered_within}
@@ -51,6 +51,17 @@ module _ (items : List Item) where
 
   pub upper_allows : (xs : List upper.Upper) (i : ℕ) (x : upper.Upper) (set k : ℕ) → i < length xs → x ≡ get_or xs i x → has x.allowed k ≡ true → Within set x.set → AllByRecursion (IsUpper items) xs → IsAllowedAt items set k
   upper_allows xs i x set k less is member within all d at = allowed_less items set x.set within d ((all_get (IsUpper items) xs i x all (slice_get_read xs (length xs) i x refl less is)).allowed k member d at)
+
+  pub conflict_within : (xs : List ℕ) (i x set : ℕ) → i < length xs → x ≡ get_or xs i x → Within x set → AllByRecursion (IsConflict items) xs → IsConflict items set
+  conflict_within xs i x set less is within all = follows_more items x set within Falsity (all_get (IsConflict items) xs i x all (slice_get_read xs (length xs) i x refl less is))
+
+  pub upper_consistent : (xs : List upper.Upper) (i : ℕ) (x : upper.Upper) (set : ℕ) → i < length xs → x ≡ get_or xs i x → Within set x.set → AllByRecursion (IsUpper items) xs → ¬ IsConflict items set
+  upper_consistent xs i x set less is within all conflict = (all_get (IsUpper items) xs i x all (slice_get_read xs (length xs) i x refl less is)).consistent (follows_more items set x.set within Falsity conflict)
+
+  -- where everything follows, a default is allowed if it has no justification
+  pub allowed_by_none : (set : ℕ) (js : List Formula) (b : Bool) → IsConflict items set → IsTrue b ↔ (js ≡ []) → IsTrue b ↔ AllByRecursion (λ j. ¬ Entails (generated items set) (Not j)) js
+  allowed_by_none set [] b conflict is = (λ _. tt, λ _. is.1 refl)
+  allowed_by_none set (j ∷ js) b conflict is = (λ holds. absurd (let none : j ∷ js ≡ [] = is.0 holds in cc), λ allowed. absurd (allowed.0 (λ a h. absurd (true≢false (sym (conflict a h))))))
 
 -- ---- members of sets
 pub outside_larger : (a b k : ℕ) → Within a b → has b k ≡ false → has a k ≡ false

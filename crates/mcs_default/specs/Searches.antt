@@ -3,7 +3,7 @@ use Rattle.std.specs.Prelude.{◌≡◌, ℕ, ◌≤◌, true, false, List, leng
 use Rattle.std.specs.List.{AllByRecursion}
 use Rattle.mcs_sets.specs.Sets.{has, Within}
 use Rattle.mcs_system.specs.Faults.{has_twins}
-use Rattle.mcs_system.specs.Plain.{Name, Formula, Not, Default, Item}
+use Rattle.mcs_system.specs.Plain.{Name, Formula, Falsity, Not, Default, Item}
 use Rattle.mcs_system.specs.Logic.{Theory, Entails}
 use Rattle.mcs_system.specs.Views.{Shows}
 use Rattle.mcs_evidence.specs.Defaults.{generated}
@@ -32,19 +32,24 @@ IsAllowedAt items set k = (d : Default) → IsDefaultAt items k d → IsAllowedB
 abbrev pub IsBlockedAt : List Item → ℕ → ℕ → Type 0
 IsBlockedAt items set k = (d : Default) → IsDefaultAt items k d → ¬ IsAllowedBy (generated items set) d
 
+-- everything follows
+abbrev pub IsConflict : List Item → ℕ → Type 0
+IsConflict items set = Entails (generated items set) Falsity
+
 -- ---- what was found
 -- by the set these defaults are supported, and these are blocked
 pub record IsLower (items : List Item) (e : lower.Lower) : Type 0 where
   pub supported : (k : ℕ) → has e.supported k ≡ true → IsSupportedAt items e.set k
   pub blocked : (k : ℕ) → has e.blocked k ≡ true → IsBlockedAt items e.set k
 
--- by the set no others are supported, and these are allowed
+-- by the set not everything follows, no others are supported, and these are allowed
 pub record IsUpper (items : List Item) (e : upper.Upper) : Type 0 where
+  pub consistent : ¬ IsConflict items e.set
   pub unsupported : (k : ℕ) → has e.supported k ≡ false → IsUnsupportedAt items e.set k
   pub allowed : (k : ℕ) → has e.allowed k ≡ true → IsAllowedAt items e.set k
 
 abbrev pub IsRight : List Item → findings.Findings → Type 0
-IsRight items f = AllByRecursion (IsLower items) f.lower.items × AllByRecursion (IsUpper items) f.upper.items
+IsRight items f = AllByRecursion (IsLower items) f.lower.items × AllByRecursion (IsUpper items) f.upper.items × AllByRecursion (IsConflict items) f.conflicts.items
 
 -- the defaults can be asked about by what was found
 pub record IsReady (names : List Name) (ds : List Default) (f : findings.Findings) : Type 0 where

@@ -3,7 +3,7 @@
 ghost use Rattle.std.specs.Prelude.{◌≡◌, ◌<◌, List, IsTrue};
 ghost use Rattle.std.specs.List.{AllByRecursion};
 ghost use Rattle.mcs_system.specs.Plain as plain;
-ghost use Rattle.mcs_default.specs.Searches.{IsLower, IsUpper, IsSupportedAt, IsUnsupportedAt, IsAllowedAt, IsBlockedAt};
+ghost use Rattle.mcs_default.specs.Searches.{IsLower, IsUpper, IsSupportedAt, IsUnsupportedAt, IsAllowedAt, IsBlockedAt, IsConflict};
 
 use mcs_base::Vars;
 use mcs_trace::Cnf;
@@ -36,6 +36,8 @@ pub(crate) struct Findings {
     pub(crate) facts: Cnf,
     pub(crate) lower: Vec<Lower>,
     pub(crate) upper: Vec<Upper>,
+    /// Sets with whose consequents the facts contradict each other.
+    pub(crate) conflicts: Vec<Vars>,
 }
 
 /// Whether it was found that the default at the index is supported by the set.
@@ -84,6 +86,30 @@ pub(crate) fn is_allowed(upper: &[Upper], set: Vars, index: u32) -> bool
 {
     for found in upper {
         if found.allowed.has(index) && set.within(found.set) {
+            return true;
+        }
+    }
+    false
+}
+
+/// Whether it was found that the facts and the consequents of the set contradict each other.
+pub(crate) fn has_conflict(conflicts: &[Vars], set: Vars) -> bool
+    ensures { (items : List plain.Item) → AllByRecursion (IsConflict items) conflicts.now → IsTrue result → IsConflict items set }
+{
+    for conflict in conflicts {
+        if conflict.within(set) {
+            return true;
+        }
+    }
+    false
+}
+
+/// Whether it was found that they do not.
+pub(crate) fn is_consistent(upper: &[Upper], set: Vars) -> bool
+    ensures { (items : List plain.Item) → AllByRecursion (IsUpper items) upper.now → IsTrue result → ¬ IsConflict items set }
+{
+    for found in upper {
+        if set.within(found.set) {
             return true;
         }
     }

@@ -92,6 +92,7 @@ fn list_all(
         facts,
         lower: Vec::new(alloc),
         upper: Vec::new(alloc),
+        conflicts: Vec::new(alloc),
     };
     let all = Vars::numbered(set_count(defaults.len()) - 1);
     let mut views = Vec::new(alloc);

@@ -11,9 +11,12 @@ ghost use Rattle.mcs_cnf.specs.Entailments.{entailment_of, IsAcceptedEntailment}
 ghost use Rattle.mcs_evidence.specs.Defaults.{generated};
 ghost use Rattle.mcs_evidence.proofs.DefaultLemmas.{IsDefaultAt};
 ghost use Rattle.mcs_default.specs.Theories.{AreClausesOf, AreOverDefaults, AreParts, consequents};
-ghost use Rattle.mcs_default.specs.Searches.{IsReady, IsAllowedBy};
+ghost use Rattle.mcs_default.specs.Searches.{IsReady, IsAllowedBy, IsConflict};
 
-use crate::findings::{Findings, Lower, is_allowed, is_blocked, is_supported, is_unsupported};
+use crate::findings::{
+    Findings, Lower, has_conflict, is_allowed, is_blocked, is_consistent, is_supported,
+    is_unsupported,
+};
 use crate::models::upper_at;
 use crate::theory::push_consequents;
 use mcs_base::{Memory, Vars};
@@ -169,9 +172,111 @@ pub(crate) fn supports(
     Ok(is_supported)
 }
 
-/// Whether no negation of a justification of the default at the index follows from the facts and the consequents of the
-/// set.
-pub(crate) fn allows(
+/// Whether everything follows, by asking.
+fn entails_all(
+    alloc: Global,
+    findings: &mut Findings,
+    defaults: &[&Default],
+    atoms: &[Name],
+    set: Vars,
+) -> Result<bool, Memory>
+    requires few_defaults { length defaults.now ≤ 10 }
+    requires ready { IsReady atoms.now (map (λ d. default_of d.now) defaults.now) findings.old }
+    ensures kept { OnOk result (findings.new.facts ≡ findings.old.facts) }
+    ensures ready { OnOk result (IsReady atoms.now (map (λ d. default_of d.now) defaults.now) findings.new) }
+    ensures exact { IfOk result (λ b. (items : List plain.Item) → AreParts atoms.now items (map (λ d. default_of d.now) defaults.now) findings.old.facts
+        → IsTrue b ↔ IsConflict items set) }
+{
+    let falsity = Formula::False;
+    let is_conflict = follows(alloc, findings, defaults, atoms, set, &falsity);
+    drop(falsity);
+    is_conflict
+}
+
+/// The set, by which everything follows, without the default at the index if everything follows all the same.
+fn without_needless(
+    alloc: Global,
+    findings: &mut Findings,
+    defaults: &[&Default],
+    atoms: &[Name],
+    set: Vars,
+    index: u32,
+) -> Result<Vars, Memory>
+    requires few_defaults { length defaults.now ≤ 10 }
+    requires ready { IsReady atoms.now (map (λ d. default_of d.now) defaults.now) findings.old }
+    requires index { index < length defaults.now }
+    requires conflict { (items : List plain.Item) → AreParts atoms.now items (map (λ d. default_of d.now) defaults.now) findings.old.facts
+        → IsConflict items set }
+    ensures kept { OnOk result (findings.new.facts ≡ findings.old.facts) }
+    ensures ready { OnOk result (IsReady atoms.now (map (λ d. default_of d.now) defaults.now) findings.new) }
+    ensures conflict { IfOk result (λ least. (items : List plain.Item) → AreParts atoms.now items (map (λ d. default_of d.now) defaults.now) findings.old.facts
+        → IsConflict items least) }
+{
+    if !set.has(index) {
+        return Ok(set);
+    }
+    let smaller = set.without(index);
+    if entails_all(alloc, findings, defaults, atoms, smaller)? {
+        return Ok(smaller);
+    }
+    Ok(set)
+}
+
+/// A part of the set by which everything follows, of which nothing more can be left out.
+fn least_conflict(
+    alloc: Global,
+    findings: &mut Findings,
+    defaults: &[&Default],
+    atoms: &[Name],
+    set: Vars,
+) -> Result<Vars, Memory>
+    requires few_defaults { length defaults.now ≤ 10 }
+    requires ready { IsReady atoms.now (map (λ d. default_of d.now) defaults.now) findings.old }
+    requires conflict { (items : List plain.Item) → AreParts atoms.now items (map (λ d. default_of d.now) defaults.now) findings.old.facts
+        → IsConflict items set }
+    ensures kept { OnOk result (findings.new.facts ≡ findings.old.facts) }
+    ensures ready { OnOk result (IsReady atoms.now (map (λ d. default_of d.now) defaults.now) findings.new) }
+    ensures conflict { IfOk result (λ least. (items : List plain.Item) → AreParts atoms.now items (map (λ d. default_of d.now) defaults.now) findings.old.facts
+        → IsConflict items least) }
+{
+    let mut least = set;
+    for index in 0..defaults.len() {
+        least = without_needless(alloc, findings, defaults, atoms, least, index as u32)?;
+    }
+    Ok(least)
+}
+
+/// Whether the facts and the consequents of the set contradict each other. Where they do, a least part that does is kept.
+fn contradicts(
+    alloc: Global,
+    findings: &mut Findings,
+    defaults: &[&Default],
+    atoms: &[Name],
+    set: Vars,
+) -> Result<bool, Memory>
+    requires few_defaults { length defaults.now ≤ 10 }
+    requires ready { IsReady atoms.now (map (λ d. default_of d.now) defaults.now) findings.old }
+    ensures kept { OnOk result (findings.new.facts ≡ findings.old.facts) }
+    ensures ready { OnOk result (IsReady atoms.now (map (λ d. default_of d.now) defaults.now) findings.new) }
+    ensures exact { IfOk result (λ b. (items : List plain.Item) → AreParts atoms.now items (map (λ d. default_of d.now) defaults.now) findings.old.facts
+        → IsTrue b ↔ IsConflict items set) }
+{
+    if has_conflict(&findings.conflicts, set) {
+        return Ok(true);
+    }
+    if is_consistent(&findings.upper, set) {
+        return Ok(false);
+    }
+    if !entails_all(alloc, findings, defaults, atoms, set)? {
+        return Ok(false);
+    }
+    let least = least_conflict(alloc, findings, defaults, atoms, set)?;
+    findings.conflicts.push(least)?;
+    Ok(true)
+}
+
+/// Whether no negation of a justification of the default at the index follows, by asking where it is not known.
+fn allows_by_asking(
     alloc: Global,
     findings: &mut Findings,
     defaults: &[&Default],
@@ -209,4 +314,31 @@ pub(crate) fn allows(
         })?;
     }
     Ok(is_allowed)
+}
+
+/// Whether no negation of a justification of the default at the index follows from the facts and the consequents of the
+/// set.
+pub(crate) fn allows(
+    alloc: Global,
+    findings: &mut Findings,
+    defaults: &[&Default],
+    atoms: &[Name],
+    set: Vars,
+    index: u32,
+) -> Result<bool, Memory>
+    requires few_defaults { length defaults.now ≤ 10 }
+    requires ready { IsReady atoms.now (map (λ d. default_of d.now) defaults.now) findings.old }
+    requires index { index < length defaults.now }
+    ensures kept { OnOk result (findings.new.facts ≡ findings.old.facts) }
+    ensures ready { OnOk result (IsReady atoms.now (map (λ d. default_of d.now) defaults.now) findings.new) }
+    ensures exact { IfOk result (λ b. (items : List plain.Item) → AreParts atoms.now items (map (λ d. default_of d.now) defaults.now) findings.old.facts
+        → (d : plain.Default) → IsDefaultAt items index d → IsTrue b ↔ IsAllowedBy (generated items set) d) }
+{
+    if is_allowed(&findings.upper, set, index) {
+        return Ok(true);
+    }
+    if contradicts(alloc, findings, defaults, atoms, set)? {
+        return Ok(defaults[index as usize].justs.as_slice().is_empty());
+    }
+    allows_by_asking(alloc, findings, defaults, atoms, set, index)
 }

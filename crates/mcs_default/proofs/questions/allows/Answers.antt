@@ -1,39 +1,27 @@
-use Rattle.std.proofs.Common.{◌≡◌, List, map, refl, subst, IsTrue, ◌↔◌, Bool}
-use Rattle.std.specs.List.{AllByRecursion}
-use Rattle.mcs_base.proofs.Mapped.{image_each_at}
-use Rattle.mcs_system.specs.Plain.{Formula, Not}
+use Rattle.std.proofs.Common.{◌≡◌, ◌∙◌, map, refl, sym, subst, ap, IsTrue, ◌↔◌, Bool, false, List, [], ◌∷◌, length, arith, true≢false, slice_index_or}
+use Rattle.std.proofs.lemmas.Result.{IfOk-weaker}
+use Rattle.std.proofs.lemmas.Bool.Decides.{nat_tests}
+use Rattle.std.specs.Bool.{◌==◌}
 use Rattle.mcs_system.specs.declared.formula.Formula as code
-use Rattle.mcs_system.specs.Logic.{Entails}
 use Rattle.mcs_system.specs.Seen.{default_of, formula_of}
 use Rattle.mcs_evidence.specs.Defaults.{generated}
-use Rattle.mcs_default.specs.Theories.{AreParts, IsOverDefault}
+use Rattle.mcs_default.specs.Theories.{AreParts}
 use Rattle.mcs_default.specs.Searches.{IsAllowedBy}
-use Rattle.mcs_default.proofs.FindingLemmas.{lower_blocked, ready_lower}
-use Rattle.mcs_default.proofs.SearchLemmas.{default_there, not_from_false}
+use Rattle.mcs_default.proofs.SearchLemmas.{allowed_by_none, default_there}
 use Rattle.mcs_default.proofs.questions.allows.Goals as goal
 
--- the justifications that are asked are the default's
-asked : (fs : List Formula) (js js' : List code.Formula) (b : Bool) → js' ≡ js → IsTrue b ↔ AllByRecursion (λ j. ¬ Entails fs (Not j)) (map formula_of js') → IsTrue b ↔ AllByRecursion (λ j. ¬ Entails fs (Not j)) (map formula_of js)
-asked fs js js' b same is = subst (λ (xs : List code.Formula). IsTrue b ↔ AllByRecursion (λ j. ¬ Entails fs (Not j)) (map formula_of xs)) same is
+none_left : {A B : Type 0} (f : A → B) (xs : List A) (b : Bool) → b ≡ (length xs == 0) → IsTrue b ↔ (map f xs ≡ [])
+none_left f [] b e = (λ _. refl, λ _. e)
+none_left f (x ∷ xs) b e = (
+  λ holds. (let no : (length (x ∷ xs) == 0) ≡ false = grind (arith, nat_tests) in absurd (true≢false (sym holds ∙ e ∙ no))),
+  λ none. absurd (let impossible : f x ∷ map f xs ≡ [] = none in cc),
+)
 
-pub allows_all-requires-clause-over : goal.allows_all-requires-clause-over
-allows_all-requires-clause-over c = rw c.deref-3.ensures.value ((image_each_at (IsOverDefault c.args.atoms.now) (λ d. default_of d.now) c.args.defaults.now c.args.index c.index-defaults-index.result c.requires.index c.requires.ready.over).1)
+pub returns-then-branch-clause-exact : goal.returns-then-branch-clause-exact
+returns-then-branch-clause-exact c items parts d at =
+    let x = slice_index_or c.args.defaults.now c.args.index c.index-defaults-index.result in
+    default_there (λ x. default_of x.now) c.args.defaults.now items c.args.index c.index-defaults-index.result c.requires.index parts.0 d at (λ d. IsTrue c.is_empty.result ↔ IsAllowedBy (generated items c.args.set) d)
+    (allowed_by_none items c.args.set (default_of x.now).justs c.is_empty.result ((c.in_ok-contradicts.ensures.exact items parts).0 c.if-branch.true) (none_left formula_of x.now.justs.items c.is_empty.result (c.is_empty.ensures ∙ ap (λ (js : List code.Formula). length js == 0) c.as_slice.ensures.value)))
 
-pub returns-in_ok-push-clause-ready : goal.returns-in_ok-push-clause-ready
-returns-in_ok-push-clause-ready c =
-    let ds = map (λ d. default_of d.now) c.args.defaults.now in
-    ready_lower c.args.atoms.now ds c.allows_all.new.findings (record { facts = c.allows_all.new.findings.facts; lower = c.push.new.self; upper = c.allows_all.new.findings.upper }) c.in_ok-is_allowed.ensures.ready refl
-    (record { set = c.args.set; supported = c.empty.result; blocked = c.one.result }) refl c.in_ok-push.ensures.items (λ items parts.
-    (lower_blocked items (record { set = c.args.set; supported = c.empty.result; blocked = c.one.result }) c.args.set c.args.index refl c.empty.ensures c.one.ensures (λ d at.
-    (default_there (λ x. default_of x.now) c.args.defaults.now items c.args.index c.index-defaults-index.result c.requires.index parts.0 d at (λ d. ¬ IsAllowedBy (generated items c.args.set) d)
-    (not_from_false c.in_ok-is_allowed.is_allowed c.if-not-is_allowed.true (asked (generated items c.args.set) _ _ c.in_ok-is_allowed.is_allowed c.deref-3.ensures.value (c.in_ok-is_allowed.ensures.exact items (subst (AreParts c.args.atoms.now items ds) c.in_ok-is_allowed.ensures.kept parts))))))))
-
-pub returns-in_ok-push-clause-exact : goal.returns-in_ok-push-clause-exact
-returns-in_ok-push-clause-exact c items parts d at =
-    default_there (λ x. default_of x.now) c.args.defaults.now items c.args.index c.index-defaults-index.result c.requires.index parts.0 d at (λ d. IsTrue c.in_ok-is_allowed.is_allowed ↔ IsAllowedBy (generated items c.args.set) d)
-    (asked (generated items c.args.set) _ _ c.in_ok-is_allowed.is_allowed c.deref-3.ensures.value (c.in_ok-is_allowed.ensures.exact items parts))
-
-pub returns-else-not-is_allowed-clause-exact : goal.returns-else-not-is_allowed-clause-exact
-returns-else-not-is_allowed-clause-exact c items parts d at =
-    default_there (λ x. default_of x.now) c.args.defaults.now items c.args.index c.index-defaults-index.result c.requires.index parts.0 d at (λ d. IsTrue c.in_ok-is_allowed.is_allowed ↔ IsAllowedBy (generated items c.args.set) d)
-    (asked (generated items c.args.set) _ _ c.in_ok-is_allowed.is_allowed c.deref-3.ensures.value (c.in_ok-is_allowed.ensures.exact items parts))
+pub returns-clause-exact : goal.returns-clause-exact
+returns-clause-exact c = IfOk-weaker c.allows_by_asking.result _ _ (λ b h items parts. h items (subst (AreParts c.args.atoms.now items (map (λ d. default_of d.now) c.args.defaults.now)) (sym c.in_ok-contradicts.ensures.kept) parts)) c.allows_by_asking.ensures.exact

@@ -20,7 +20,7 @@ moved : (names : List Name) (ds : List Default) (n s v : ℕ) (p : part.Part) �
 moved names ds n s v p is = ap (λ (t : ℕ). such_that n (holds_part_at (true_names 0 names t) p ds)) is
 
 pub returns-in-Yes-clause-ready : goal.returns-in-Yes-clause-ready
-returns-in-Yes-clause-ready c = ready_same c.args.atoms.now (map (λ d. default_of d.now) c.args.defaults.now) c.args.findings.now (record { facts = c.entailment.new.known; lower = c.args.findings.now.lower; upper = c.args.findings.now.upper }) c.requires.ready c.in_ok-trace.ensures.kept refl refl
+returns-in-Yes-clause-ready c = ready_same c.args.atoms.now (map (λ d. default_of d.now) c.args.defaults.now) c.args.findings.now (record { facts = c.entailment.new.known; lower = c.args.findings.now.lower; upper = c.args.findings.now.upper; conflicts = c.args.findings.now.conflicts }) c.requires.ready c.in_ok-trace.ensures.kept refl refl refl
 
 pub returns-in-Yes-clause-exact : goal.returns-in-Yes-clause-exact
 returns-in-Yes-clause-exact c items parts =
@@ -31,7 +31,7 @@ pub returns-in_ok-push-in-No-clause-ready : goal.returns-in_ok-push-in-No-clause
 returns-in_ok-push-in-No-clause-ready c =
     let names = c.args.atoms.now in
     let ds = map (λ d. default_of d.now) c.args.defaults.now in
-    ready_upper names ds c.args.findings.now (record { facts = c.entailment.new.known; lower = c.args.findings.now.lower; upper = c.push.new.self }) c.requires.ready c.in_ok-trace.ensures.kept c.upper_at-upper.result refl c.in_ok-push-in-No.ensures.items (λ items is_of.
+    ready_upper names ds c.args.findings.now (record { facts = c.entailment.new.known; lower = c.args.findings.now.lower; upper = c.push.new.self; conflicts = c.args.findings.now.conflicts }) c.requires.ready c.in_ok-trace.ensures.kept c.upper_at-upper.result refl refl c.in_ok-push-in-No.ensures.items (λ items is_of.
     (refuted_upper names items ds (length c.args.defaults.now) c.args.set c.in-No.values (formula_of c.args.goal.now) c.upper_at-upper.result is_of.0 (sym (length-map c.args.defaults.now (λ d. default_of d.now)))
     (subst (λ (e : Entail). IsAcceptedEntailment names (facts_of items ++ consequents ds c.args.set) (formula_of c.args.goal.now) (entailment_of e)) c.in-No.is (c.in_ok-trace.ensures.told (facts_of items) is_of.1))
     (c.upper_at-upper.ensures.set ∙ moved names ds (length c.args.defaults.now) c.numbered.result c.in-No.values parts.Consequent c.numbered.ensures)

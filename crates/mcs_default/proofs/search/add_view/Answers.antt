@@ -13,7 +13,7 @@ use Rattle.mcs_default.proofs.search.add_view.Goals as goal
 
 pub returns-in_ok-push-clause-ready : goal.returns-in_ok-push-clause-ready
 returns-in_ok-push-clause-ready c = ready_same c.args.atoms.now (map (λ d. default_of d.now) c.args.defaults.now) c.is_grounded.new.findings
-    (record { facts = c.view_of.new.known; lower = c.is_grounded.new.findings.lower; upper = c.is_grounded.new.findings.upper }) c.in_ok-is_grounded.ensures.ready c.in_ok-view_of.ensures.kept refl refl
+    (record { facts = c.view_of.new.known; lower = c.is_grounded.new.findings.lower; upper = c.is_grounded.new.findings.upper; conflicts = c.is_grounded.new.findings.conflicts }) c.in_ok-is_grounded.ensures.ready c.in_ok-view_of.ensures.kept refl refl refl
 
 pub returns-in_ok-push-clause-listed : goal.returns-in_ok-push-clause-listed
 returns-in_ok-push-clause-listed c items parts within stays =
