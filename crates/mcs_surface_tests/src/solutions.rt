@@ -154,9 +154,8 @@ fn lines(alloc: Global, count: usize) -> Result<String, Memory> {
 /// Whether the lines before a failing write are there, with the write fault told.
 fn is_cut(alloc: Global, write: usize) -> Result<bool, Memory> {
     let devices = Devices {
-        failing_call: 0,
-        failing_write: write as u64 + 1,
-        most: 4096,
+        failing_write: (write as u64).saturating_add(1),
+        ..SOUND
     };
     let written = lines(alloc, write)?;
     let (status, line) = if write < ATTACK_LINES.len() {
