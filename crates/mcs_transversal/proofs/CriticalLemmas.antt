@@ -12,10 +12,10 @@ use Rattle.mcs_base.specs.Transversals.{IsTransversalOf, MeetAloneAt}
 use Rattle.mcs_transversal.specs.Transversals.{HasCriticalEdge, IsCritical, MinimalityIsCritical}
 
 -- ---- the one mark in which two sets meet
-alone-in_first : (e t k : ℕ) → MeetAloneAt e t k → has e k ≡ true
+pub alone-in_first : (e t k : ℕ) → MeetAloneAt e t k → has e k ≡ true
 alone-in_first e t k alone = let h : (has e k && has t k) ≡ true = sym (has-common e t k) ∙ ap (λ s. has s k) alone ∙ has-single_itself k in grind (arith, nat_tests)
 
-alone-only : (e t k j : ℕ) → MeetAloneAt e t k → has e j ≡ true → has t j ≡ true → j ≡ k
+pub alone-only : (e t k j : ℕ) → MeetAloneAt e t k → has e j ≡ true → has t j ≡ true → j ≡ k
 alone-only e t k j alone in_e in_t =
     let h : (has e j && has t j) ≡ eqb j k = sym (has-common e t j) ∙ ap (λ s. has s j) alone ∙ has-single k j in
     let here : eqb j k ≡ true = grind (arith, nat_tests) in

@@ -1,3 +1,4 @@
 pub mod CriticalLemmas
+pub mod BarredLemmas
 pub mod BergeLemmas
 pub mod FirstLemmas

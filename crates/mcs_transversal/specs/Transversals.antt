@@ -26,6 +26,15 @@ pub record AreFirstCritical (edges : List ℕ) (t : ℕ) (firsts : List (Option 
   pub one_each : length firsts ≡ 128
   pub each : (k : ℕ) → k < 128 → MatchOption (slice_index_or firsts k None) ((j : ℕ) → j < length edges → ¬ MeetAloneAt (slice_index_or edges j 0) t k) (IsFirstCritical edges t k)
 
+-- at each mark a set that lies in all edges that meet t in this mark alone
+pub record AreCommonParts (edges : List ℕ) (t : ℕ) (parts : List ℕ) : Type 0 where
+  pub one_each : length parts ≡ 128
+  pub each : (k : ℕ) → k < 128 → (m : ℕ) → IsTrue (has (slice_index_or parts k 0) m) → (e : ℕ) → IsAmong e edges → MeetAloneAt e t k → IsTrue (has e m)
+
+-- with none of these marks each mark of the set has a critical edge
+abbrev pub AreBarred : List ℕ → ℕ → ℕ → Type 0
+AreBarred edges t barred = (m : ℕ) → IsTrue (has barred m) → ¬ IsCritical edges (union t (single m))
+
 -- Berge's rule: x is t and one mark of the edge, and each mark of x has a critical edge
 pub record IsGrown (edges : List ℕ) (e t x : ℕ) : Type 0 where
   pub mark : ℕ

@@ -7,7 +7,7 @@ ghost use Rattle.mcs_base.specs.Minimal.{IsMinimal};
 ghost use Rattle.mcs_base.specs.Transversals.{IsTransversalOf};
 ghost use Rattle.mcs_transversal.specs.Transversals.{ComesOf, ComesOfOne};
 
-use crate::critical_edges::is_critical;
+use crate::barred::{barred, stays_critical};
 use mcs_base::{Marks, Memory, list_pairs};
 use std::alloc::Global;
 use std::mem;
@@ -23,10 +23,10 @@ fn extend(t: Marks, edge: Marks, edges: &[Marks], out: &mut Vec<Marks>) -> Resul
         out.push(t)?;
         return Ok(());
     }
+    let barred = barred(edges, t, edge);
     for mark in edge.members() {
-        let grown = t.with(mark);
-        if is_critical(edges, grown) {
-            out.push(grown)?;
+        if stays_critical(edges, t, mark, barred) {
+            out.push(t.with(mark))?;
         }
     }
     Ok(())

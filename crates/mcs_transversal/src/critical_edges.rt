@@ -8,7 +8,7 @@ ghost use Rattle.mcs_transversal.specs.Transversals.{IsCritical, IsFirstCritical
 use mcs_base::Marks;
 
 /// The one mark that is in both sets; `None` exactly where there is none, or more than one.
-fn only_common(a: Marks, b: Marks) -> Option<u32>
+pub(crate) fn only_common(a: Marks, b: Marks) -> Option<u32>
     ensures value { MatchOption result ((k : ℕ) → ¬ MeetAloneAt a b k) (λ k. MeetAloneAt a b k) }
     ensures below { IfSome result (λ k. k < 128) }
 {

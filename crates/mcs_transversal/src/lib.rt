@@ -1,6 +1,7 @@
 //! Minimal transversals of a hypergraph: the minimal sets of marks that meet each of its edges.
 #![tactic(auto)]
 
+mod barred;
 mod berge;
 mod critical_edges;
 mod laws;

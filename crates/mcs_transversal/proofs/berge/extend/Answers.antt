@@ -19,17 +19,17 @@ loop-mark-init c =
 pub loop-mark-preserved-in-Continue-branch-2 : goal.loop-mark-preserved-in-Continue-branch-2
 loop-mark-preserved-in-Continue-branch-2 c =
     let out : List ℕ = c.loop-mark.out.items in
-    let is : IsCritical c.args.edges.now (union c.args.t (single c.in-Some.mark)) = subst (IsCritical c.args.edges.now) c.with-grown.ensures (c.is_critical.ensures.0 c.if-is_critical.true) in
+    let is : IsCritical c.args.edges.now (union c.args.t (single c.in-Some.mark)) = c.stays_critical.ensures.0 c.if-stays_critical.true in
     let steps = c.in-Some.ensures.steps in record {
       below = (subst (AllByRecursion (λ k. k < 128)) steps c.loop-mark.invariant.below).1;
       put = λ x. let before = rw steps at (c.loop-mark.invariant.put x) in let more = grows-more c.args.edges.now out c.args.t c.in-Some.mark c.next.new.self is x in
-          rw (c.in_ok-push-2.ensures.items, c.with-grown.ensures) (λ h. more.0 (before.0 h), λ h. before.1 (more.1 h));
+          rw (c.in_ok-push-2.ensures.items, c.with.ensures) (λ h. more.0 (before.0 h), λ h. before.1 (more.1 h));
     }
 
 pub loop-mark-preserved : goal.loop-mark-preserved
 loop-mark-preserved c =
     let out : List ℕ = c.loop-mark.out.items in
-    let not : ¬ IsCritical c.args.edges.now (union c.args.t (single c.in-Some.mark)) = λ is. true≢false (sym (c.is_critical.ensures.1 (subst (IsCritical c.args.edges.now) (sym c.with-grown.ensures) is)) ∙ c.if-is_critical.false) in
+    let not : ¬ IsCritical c.args.edges.now (union c.args.t (single c.in-Some.mark)) = λ is. true≢false (sym (c.stays_critical.ensures.1 is) ∙ c.if-stays_critical.false) in
     let steps = c.in-Some.ensures.steps in record {
       below = (subst (AllByRecursion (λ k. k < 128)) steps c.loop-mark.invariant.below).1;
       put = λ x. let before = rw steps at (c.loop-mark.invariant.put x) in let skip = grows-skip c.args.edges.now out c.args.t c.in-Some.mark c.next.new.self not x in
