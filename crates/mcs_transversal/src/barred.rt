@@ -22,7 +22,8 @@ fn common_parts(edges: &[Marks], t: Marks, most: Marks) -> [Marks; 128]
 }
 
 /// The marks of the edge that are in all edges that are critical for some mark of the set: with one of them
-/// this mark would have none. All are found on one way along the edges.
+/// this mark would have none. They are found on one way along the edges. The clause says that each of them is
+/// barred, not that they are all that are: a mark that is left out costs a test of its own, and no answer.
 pub(crate) fn barred(edges: &[Marks], t: Marks, edge: Marks) -> Marks
     ensures { AreBarred edges.now t result }
 {
