@@ -1,29 +1,27 @@
 -- What stays right of a search that learns and goes back, and that less is left to do then.
-use Rattle.std.proofs.Common.{◌≡◌, ℕ, ◌+◌, ◌-◌, ◌<◌, ◌≤◌, List, [], ◌∷◌, ◌++◌, ◌⊎◌, inl, inr, refl, sym, ap, ◌∙◌, subst, arith, ℤ, pos, neg_ℤ, unsigned_abs, length, map, take, drop, Option, Some, None, slice_get}
+use Rattle.std.proofs.Common.{◌≡◌, ℕ, ◌+◌, ◌-◌, ◌<◌, ◌≤◌, List, [], ◌∷◌, ◌++◌, ◌⊎◌, inl, inr, refl, sym, ap, ◌∙◌, subst, arith, ℤ, pos, neg_ℤ, unsigned_abs, length, take, Option, Some, None, slice_get}
 use Rattle.std.proofs.Math.IntN.{neg_ℤ-neg_ℤ}
 use Rattle.std.specs.List.{AllByRecursion}
 use Rattle.std.proofs.lemmas.Bool.{cases_lt}
-use Rattle.std.proofs.lemmas.List.{append-nil, append_assoc, length-map, length-take-le, length_push, map_push, take-take}
+use Rattle.std.proofs.lemmas.List.{append-nil, append_assoc, length-take-le, take-take}
 use Rattle.std.proofs.lemmas.Option.{same_Some}
 use Rattle.mcs_base.specs.Listings.{IsAmong}
 use Rattle.mcs_base.proofs.Among.{among_push}
 use Rattle.mcs_base.proofs.Each.{all_among, all_get, all_push}
-use Rattle.mcs_base.proofs.Lists.{slice_get_below, slice_get_push_at, slice_get_seam, slice_get_take}
+use Rattle.mcs_base.proofs.Lists.{slice_get_below, slice_get_push_at, slice_get_take}
 use Rattle.mcs_base.proofs.Numbers.{unsigned_abs-neg_ℤ}
-use Rattle.mcs_trace.specs.Clauses.{ClauseList}
-use Rattle.mcs_trace.specs.Traces.{AreRightSteps, Inference, IsAcceptedTrace, IsChainResolvent}
 use Rattle.mcs_sat.specs.declared.latest.Latest.{Latest}
 use Rattle.mcs_sat.specs.declared.state.Reach.{Reach}
 use Rattle.mcs_sat.specs.declared.state.State.{State}
 use Rattle.mcs_sat.specs.declared.trail.Entry.{Entry}
 use Rattle.mcs_sat.specs.Learning.{IsLatest, IsSingle}
-use Rattle.mcs_sat.specs.Searches.{HasLearnt, IsRun, IsSearch, work_left, zipped}
-use Rattle.mcs_sat.specs.States.{IsLastLevel, IsLearntBack, IsState, no_chains}
+use Rattle.mcs_sat.specs.Searches.{IsRun, IsSearch, work_left, work_of}
+use Rattle.mcs_sat.specs.States.{IsLastLevel, IsLearntBack, IsState}
 use Rattle.mcs_sat.specs.Trails.{ArePlaced, Grows, IsFalse, IsOn, IsOpen, StandsNowhere, literal_at}
 use Rattle.mcs_sat.proofs.LevelLemmas.{before-start, below-start}
-use Rattle.mcs_sat.proofs.SearchLemmas.{open-not_false, trail-bound, zipped-steps}
+use Rattle.mcs_sat.proofs.SearchLemmas.{open-not_false}
 use Rattle.mcs_sat.proofs.StateLemmas.{starts-order}
-use Rattle.mcs_sat.proofs.TrailLemmas.{entry-back, not_both_on, on-back, placed-back, same_place}
+use Rattle.mcs_sat.proofs.TrailLemmas.{entry-back, not_both_on, on-back, placed-back, placed-most, same_place}
 use Rattle.mcs_sat.proofs.TurnLemmas.{single-latest}
 use Rattle.mcs_sat.proofs.WorkLemmas.{work_left-back, work_left-more}
 
@@ -119,31 +117,10 @@ open-below old new c ns k r is b g less at =
       free_second = nowhere-before es ps r.entries (m.others - 1) is.trail.placed later within;
     })
 
--- ---- steps
-right-push : (known : List (List ℤ)) (steps : List Inference) (s : Inference) → AreRightSteps known steps → IsChainResolvent (known ++ map (λ (i : Inference). i.clause) steps) s.chain s.clause → AreRightSteps known (steps ++ s ∷ [])
-right-push known [] s right chain = (subst (λ (ks : List (List ℤ)). IsChainResolvent ks s.chain s.clause) (append-nil known) chain, tt)
-right-push known (t ∷ steps) s right chain = (
-  right.0,
-  right-push (known ++ t.clause ∷ []) steps s right.1 (subst (λ (ks : List (List ℤ)). IsChainResolvent ks s.chain s.clause) (sym (append_assoc known (t.clause ∷ []) (map (λ (i : Inference). i.clause) steps))) chain),
-)
-
-learnt-more : (f : ClauseList) (old new : State) (c : List ℤ) (ns : List ℕ) → HasLearnt f old → new.clauses ≡ old.clauses ++ c ∷ [] → new.chains ≡ old.chains ++ ns ∷ [] → IsChainResolvent old.clauses ns c → HasLearnt f new
-learnt-more f old new c ns h clauses chains right =
-    let s : Inference = record { clause = c; chain = ns } in
-    let none : List (List ℕ) = no_chains f.clauses in
-    record {
-      steps = h.steps ++ s ∷ [];
-      clauses = clauses ∙ ap (λ (cs : List (List ℤ)). cs ++ c ∷ []) h.clauses ∙ append_assoc f.clauses (map (λ (i : Inference). i.clause) h.steps) (c ∷ []) ∙ ap (λ (cs : List (List ℤ)). f.clauses ++ cs) (sym (map_push (λ (i : Inference). i.clause) h.steps s));
-      chains = chains ∙ ap (λ (cs : List (List ℕ)). cs ++ ns ∷ []) h.chains ∙ append_assoc none (map (λ (i : Inference). i.chain) h.steps) (ns ∷ []) ∙ ap (λ (cs : List (List ℕ)). none ++ cs) (sym (map_push (λ (i : Inference). i.chain) h.steps s));
-      right = right-push f.clauses h.steps s h.right (subst (λ (ks : List (List ℤ)). IsChainResolvent ks ns c) h.clauses right);
-    }
-
 -- ---- the search
-pub search-learnt : (f : ClauseList) (old new : State) (c : List ℤ) (ns : List ℕ) → IsSearch f old → IsState new → length new.trail.positions.items ≡ length old.trail.positions.items → IsChainResolvent old.clauses ns c → (b : IsLearntBack old new c ns) → IsGoneBack old c b.latest b.level → IsSearch f new
-search-learnt f old new c ns is kept positions right b g = record {
-  vars = positions ∙ is.vars;
+pub search-learnt : (old new : State) (c : List ℤ) (ns : List ℕ) → IsSearch old → IsState new → (b : IsLearntBack old new c ns) → IsGoneBack old c b.latest b.level → IsSearch new
+search-learnt old new c ns is kept b g = record {
   state = kept;
-  learnt = learnt-more f old new c ns is.learnt b.clauses b.chains right;
   before = λ k r at.
       let es : List Entry = old.trail.entries.items in
       let (less, at') = slice_get_take b.level old.levels.items k r (subst (λ (ls : List Reach). slice_get ls k ≡ Some r) b.back.levels at) in
@@ -160,8 +137,8 @@ IsRunOf known xs None = AllByRecursion (IsOpen xs) known
 IsRunOf known xs (Some i) = (d : List ℤ) × (slice_get known i ≡ Some d) × IsFalse xs d
 
 -- after it a run makes at least one literal true
-run-some : (f : ClauseList) (old between new : State) (c : List ℤ) (ns : List ℕ) (found : Option ℕ) → IsSearch f old → (b : IsLearntBack old between c ns) → IsGoneBack old c b.latest b.level → new.clauses ≡ between.clauses → new.trail.entries.items ≡ between.trail.entries.items → IsRun new found → ⊥
-run-some f old between new c ns found is b g clauses entries run =
+run-some : (old between new : State) (c : List ℤ) (ns : List ℕ) (found : Option ℕ) → IsSearch old → (b : IsLearntBack old between c ns) → IsGoneBack old c b.latest b.level → new.clauses ≡ between.clauses → new.trail.entries.items ≡ between.trail.entries.items → IsRun new found → ⊥
+run-some old between new c ns found is b g clauses entries run =
     let es : List Entry = old.trail.entries.items in
     let ps : List ℕ = old.trail.positions.items in
     let known : new.clauses ≡ old.clauses ++ c ∷ [] = clauses ∙ b.clauses in
@@ -180,18 +157,18 @@ run-some f old between new c ns found is b g clauses entries run =
       | inr (last, same) ↦ forcing-not_false old.trail.entries.items old.trail.positions.items c b.latest g.reach.entries is.state.trail.placed b.is_latest g.late (subst (IsFalse (take g.reach.entries old.trail.entries.items)) same off)
     ]
 
-pub less-learnt : (f : ClauseList) (old between new : State) (c : List ℤ) (ns : List ℕ) (found : Option ℕ) → IsSearch f old → IsSearch f new → (b : IsLearntBack old between c ns) → IsGoneBack old c b.latest b.level → new.clauses ≡ between.clauses → Grows (length between.levels.items) between.trail.entries.items new.trail.entries.items → IsRun new found → work_left f.vars new.trail.entries.items < work_left f.vars old.trail.entries.items
-less-learnt f old between new c ns found is is' b g clauses (more, e, all) run = at more e all
+pub less-learnt : (old between new : State) (c : List ℤ) (ns : List ℕ) (found : Option ℕ) → IsSearch old → IsSearch new → (b : IsLearntBack old between c ns) → IsGoneBack old c b.latest b.level → new.clauses ≡ between.clauses → Grows (length between.levels.items) between.trail.entries.items new.trail.entries.items → IsRun new found → length new.trail.positions.items ≡ length old.trail.positions.items → work_of new < work_of old
+less-learnt old between new c ns found is is' b g clauses (more, e, all) run size = subst (λ (m : ℕ). work_left m new.trail.entries.items < work_of old) (sym size) (at more e all)
   where
-    at : (more : List Entry) → new.trail.entries.items ≡ between.trail.entries.items ++ more → AllByRecursion (λ (x : Entry). (0 < x.reason) × (x.level ≡ length between.levels.items)) more → work_left f.vars new.trail.entries.items < work_left f.vars old.trail.entries.items
-    at [] e all = absurd (run-some f old between new c ns found is b g clauses (e ∙ append-nil between.trail.entries.items) run)
+    at : (more : List Entry) → new.trail.entries.items ≡ between.trail.entries.items ++ more → AllByRecursion (λ (x : Entry). (0 < x.reason) × (x.level ≡ length between.levels.items)) more → work_left (length old.trail.positions.items) new.trail.entries.items < work_of old
+    at [] e all = absurd (run-some old between new c ns found is b g clauses (e ∙ append-nil between.trail.entries.items) run)
     at (x ∷ more) e all =
-        let n : ℕ = f.vars in
+        let n : ℕ = length old.trail.positions.items in
         let es : List Entry = old.trail.entries.items in
         let k : ℕ = g.reach.entries in
         let (here, none, count) = is.state.starts.start b.level g.reach g.at in
-        let bound = trail-bound f old is in
-        let bound' = trail-bound f new is' in
+        let bound = placed-most es old.trail.positions.items is.state.trail.placed in
+        let bound' = placed-most new.trail.entries.items new.trail.positions.items is'.state.trail.placed in
         let front : new.trail.entries.items ≡ (take k es ++ x ∷ []) ++ more = e ∙ ap (λ (xs : List Entry). xs ++ x ∷ more) (b.back.entries g.reach g.at) ∙ sym (append_assoc (take k es) (x ∷ []) more) in
         let first : work_left n (take k es ++ x ∷ []) < work_left n es = work_left-back n es k (record { literal = pos 0; reason = 0; level = 0 }) x here (omega arith) none (λ zero. let some = all.0.0 in omega arith) in
         let rest : work_left n ((take k es ++ x ∷ []) ++ more) ≤ work_left n (take k es ++ x ∷ []) = work_left-more n (take k es ++ x ∷ []) more (omega (arith, ap length front)) in
@@ -202,17 +179,3 @@ pub single-last : (s : State) (r : Reach) (c : List ℤ) → IsState s → IsLas
 single-last s r c is last single q at =
     let (below, none, count) = is.starts.start (length s.levels.items - 1) r last in
     subst (λ (x : Reach). IsSingle s.trail.entries.items x.entries c) (same_Some r q (sym last ∙ at)) (single (omega arith))
-
--- ---- the trace
--- the steps that were learnt, and one more whose clause is empty
-pub trace-accepted : (f : ClauseList) (s : State) (last : Inference) (steps : List Inference) → HasLearnt f s → IsChainResolvent s.clauses last.chain last.clause → last.clause ≡ [] → steps ≡ zipped (drop (length f.clauses) s.clauses) (drop (length f.clauses) s.chains) ++ last ∷ [] → IsAcceptedTrace f.clauses steps
-trace-accepted f s last steps h right empty is =
-    let e : zipped (drop (length f.clauses) s.clauses) (drop (length f.clauses) s.chains) ≡ h.steps =
-    ap (λ (cs : List (List ℤ)). zipped (drop (length f.clauses) cs) (drop (length f.clauses) s.chains)) h.clauses
-    ∙ ap (λ (ns : List (List ℕ)). zipped (drop (length f.clauses) (f.clauses ++ map (λ (i : Inference). i.clause) h.steps)) (drop (length f.clauses) ns)) h.chains
-    ∙ zipped-steps f.clauses (no_chains f.clauses) h.steps (length-map f.clauses (λ (c : List ℤ). [])) in
-    let whole : steps ≡ h.steps ++ last ∷ [] = is ∙ ap (λ (xs : List Inference). xs ++ last ∷ []) e in
-    subst (IsAcceptedTrace f.clauses) (sym whole) (
-      right-push f.clauses h.steps last h.right (subst (λ (ks : List (List ℤ)). IsChainResolvent ks last.chain last.clause) h.clauses right),
-      (last, (let size : length (h.steps ++ last ∷ []) - 1 ≡ length h.steps = omega (arith, length_push h.steps last) in ap (slice_get (h.steps ++ last ∷ [])) size ∙ slice_get_seam h.steps last [] (length h.steps) refl), empty),
-    )

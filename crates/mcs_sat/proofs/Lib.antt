@@ -17,3 +17,7 @@ pub mod WorkLemmas
 pub mod SearchLemmas
 pub mod BackLemmas
 pub mod Keeping
+pub mod StoreLemmas
+pub mod CutLemmas
+pub mod FollowLemmas
+pub mod NumberingLemmas

@@ -1,10 +1,10 @@
 -- What is true of all variables and of all clauses.
-use Rattle.std.proofs.Common.{◌≡◌, ℕ, ◌+◌, ◌<◌, zero, suc, List, [], ◌∷◌, ◌++◌, ◌↔◌, inl, inr, refl, sym, ap, ◌∙◌, subst, arith, ℤ, pos, negsuc, neg_ℤ, unsigned_abs, length, get_or, Bool, true, false, not, IsTrue, true≢false, ◌||◌, ◌&&◌}
+use Rattle.std.proofs.Common.{◌≡◌, ℕ, ◌+◌, ◌<◌, ◌≤◌, zero, suc, List, [], ◌∷◌, ◌++◌, ◌↔◌, inl, inr, refl, sym, ap, ◌∙◌, subst, arith, ℤ, pos, negsuc, neg_ℤ, unsigned_abs, length, get_or, Bool, true, false, not, IsTrue, true≢false, ◌||◌, ◌&&◌}
 use Rattle.std.specs.List.{AllByRecursion}
 use Rattle.std.proofs.lemmas.Bool.{cases_lt}
 use Rattle.std.proofs.lemmas.List.{get_or_append_left, get_or_push}
 use Rattle.mcs_base.specs.Listings.{IsAmong}
-use Rattle.mcs_trace.specs.Clauses.{literal_holds, clause_holds, all_hold}
+use Rattle.mcs_trace.specs.Clauses.{IsWithin, literal_holds, clause_holds, all_hold}
 use Rattle.mcs_sat.specs.Answers.{assignment_of}
 use Rattle.mcs_sat.specs.declared.trail.Entry.{Entry}
 use Rattle.mcs_sat.specs.Trails.{ArePlaced, IsOn, IsSatisfied}
@@ -26,43 +26,40 @@ model-more es model new v b size e here h (suc n) some less = elim (cases_lt n (
       subst (λ (x : Bool). IsTrue x ↔ IsOn es (pos (suc n))) (sym same) (subst (λ (w : ℕ). IsTrue b ↔ IsOn es (pos w)) v-is here)
 ]
 
-module _ (es : List Entry) (ps : List ℕ) (v : ℕ → Bool) (placed : ArePlaced es ps) (values : (w : ℕ) → 0 < w → w < length ps → (IsTrue (v w) ↔ IsOn es (pos w))) where
-  literal-on : (k : ℤ) → IsOn es k → literal_holds v k ≡ true
-  literal-on (pos n) (p, less, e) =
-      let (literal, within, at) = placed p less in
-      let some : 0 < n = subst (λ (l : ℤ). 0 < unsigned_abs l) e literal.0 in
-      let less' : n < length ps = subst (λ (l : ℤ). unsigned_abs l < length ps) e within in
-      (values n some less').1 (p, less, e)
-  literal-on (negsuc n) (p, less, e) =
-      let (literal, within, at) = placed p less in
-      let size : unsigned_abs (negsuc n) ≡ n + 1 = omega arith in
-      let less' : n + 1 < length ps = (let w : unsigned_abs (negsuc n) < length ps = subst (λ (l : ℤ). unsigned_abs l < length ps) e within in omega arith) in
-      let some : 0 < n + 1 = omega arith in
-      negated (v (n + 1)) (values (n + 1) some less') (p, less, e)
+module _ (es : List Entry) (ps : List ℕ) (v : ℕ → Bool) (n : ℕ) (placed : ArePlaced es ps) (values : (w : ℕ) → 0 < w → w < n + 1 → (IsTrue (v w) ↔ IsOn es (pos w))) where
+  literal-on : (k : ℤ) → unsigned_abs k ≤ n → IsOn es k → literal_holds v k ≡ true
+  literal-on (pos m) within (p, less, e) =
+      let literal = (placed p less).0 in
+      let some : 0 < m = subst (λ (l : ℤ). 0 < unsigned_abs l) e literal.0 in
+      let within' : m ≤ n = within in
+      (values m some (omega arith)).1 (p, less, e)
+  literal-on (negsuc m) within on =
+      let size : unsigned_abs (negsuc m) ≡ m + 1 = omega arith in
+      negated (v (m + 1)) (values (m + 1) (omega arith) (omega arith)) on
     where
-      neg-is : neg_ℤ (pos (n + 1)) ≡ negsuc n
-      neg-is = let s : n + 1 ≡ suc n = omega arith in ap (λ m. neg_ℤ (pos m)) s
+      neg-is : neg_ℤ (pos (m + 1)) ≡ negsuc m
+      neg-is = let s : m + 1 ≡ suc m = omega arith in ap (λ k. neg_ℤ (pos k)) s
 
-      negated : (b : Bool) → IsTrue b ↔ IsOn es (pos (n + 1)) → IsOn es (negsuc n) → not b ≡ true
+      negated : (b : Bool) → IsTrue b ↔ IsOn es (pos (m + 1)) → IsOn es (negsuc m) → not b ≡ true
       negated false same on = refl
-      negated true same on = absurd (not_both_on es ps (pos (n + 1)) placed (same.0 refl) (subst (IsOn es) (sym neg-is) on))
+      negated true same on = absurd (not_both_on es ps (pos (m + 1)) placed (same.0 refl) (subst (IsOn es) (sym neg-is) on))
 
-  clause-on : (c : List ℤ) (k : ℤ) → IsAmong k c → IsOn es k → clause_holds v c ≡ true
-  clause-on [] k among on = absurd among
-  clause-on (l ∷ c) k (inl e) on = first (literal_holds v l) (clause_holds v c) (ap (literal_holds v) (sym e) ∙ literal-on k on)
+  clause-on : (c : List ℤ) (k : ℤ) → IsWithin n c → IsAmong k c → IsOn es k → clause_holds v c ≡ true
+  clause-on [] k within among on = absurd among
+  clause-on (l ∷ c) k within (inl e) on = first (literal_holds v l) (clause_holds v c) (ap (literal_holds v) (sym e) ∙ literal-on k (subst (λ (j : ℤ). unsigned_abs j ≤ n) (sym e) within.0) on)
     where
       first : (a b : Bool) → a ≡ true → (a || b) ≡ true
       first true b e = refl
       first false b e = absurd (true≢false (sym e))
-  clause-on (l ∷ c) k (inr among) on = later (literal_holds v l) (clause_holds v c) (clause-on c k among on)
+  clause-on (l ∷ c) k within (inr among) on = later (literal_holds v l) (clause_holds v c) (clause-on c k within.1 among on)
     where
       later : (a b : Bool) → b ≡ true → (a || b) ≡ true
       later true b e = refl
       later false b e = e
 
-  pub all-on : (cs : List (List ℤ)) → AllByRecursion (IsSatisfied es) cs → IsTrue (all_hold v cs)
-  all-on [] all = refl
-  all-on (c ∷ cs) ((k, among, on), rest) = both (clause_holds v c) (all_hold v cs) (clause-on c k among on) (all-on cs rest)
+  pub all-on : (cs : List (List ℤ)) → AllByRecursion (IsWithin n) cs → AllByRecursion (IsSatisfied es) cs → IsTrue (all_hold v cs)
+  all-on [] within all = refl
+  all-on (c ∷ cs) (here, there) ((k, among, on), rest) = both (clause_holds v c) (all_hold v cs) (clause-on c k here among on) (all-on cs there rest)
     where
       both : (a b : Bool) → a ≡ true → b ≡ true → (a && b) ≡ true
       both true b e e' = e'

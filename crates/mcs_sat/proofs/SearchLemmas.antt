@@ -1,26 +1,22 @@
 -- What stays right of a search from turn to turn, and that less is left to do.
-use Rattle.std.proofs.Common.{◌≡◌, ℕ, ◌+◌, ◌-◌, ◌<◌, ◌≤◌, zero, suc, List, [], ◌∷◌, ◌++◌, inl, inr, refl, sym, ap, ◌∙◌, subst, arith, ℤ, neg_ℤ, unsigned_abs, length, length-append, map, take, drop, get_or, Option, Some, None, IfSome, slice_get}
+use Rattle.std.proofs.Common.{◌≡◌, ℕ, ◌+◌, ◌<◌, ◌≤◌, List, [], ◌++◌, inl, inr, sym, ap, ◌∙◌, subst, arith, ℤ, neg_ℤ, unsigned_abs, length, length-append, take, Option, Some, None, IfSome, slice_get}
 use Rattle.std.specs.List.{AllByRecursion}
 use Rattle.std.specs.Option.{IfNone}
-use Rattle.std.proofs.Math.Seq.{drop-append_seam, take-append_seam}
+use Rattle.std.proofs.Math.Seq.{take-append_seam}
 use Rattle.std.proofs.lemmas.Option.{slice_get_within}
-use Rattle.std.proofs.lemmas.List.{get_or-drop, length-drop, length_push, take-append-le}
-use Rattle.mcs_base.specs.Listings.{IsAmong}
-use Rattle.mcs_base.proofs.Among.{among_at}
-use Rattle.mcs_base.proofs.Distinct.{covers_below}
+use Rattle.std.proofs.lemmas.List.{length_push, take-append-le}
 use Rattle.mcs_base.proofs.Each.{all_among, all_from_among}
 use Rattle.mcs_base.proofs.Lists.{slice_get_push_at}
 use Rattle.mcs_base.proofs.Numbers.{unsigned_abs-neg_ℤ}
-use Rattle.mcs_trace.specs.Clauses.{ClauseList, IsClause, IsLiteral}
-use Rattle.mcs_trace.specs.Traces.{Inference}
+use Rattle.mcs_trace.specs.Clauses.{IsClause, IsLiteral}
 use Rattle.mcs_sat.specs.declared.state.Reach.{Reach}
 use Rattle.mcs_sat.specs.declared.state.State.{State}
 use Rattle.mcs_sat.specs.declared.trail.Entry.{Entry}
 use Rattle.mcs_sat.specs.Learning.{IsLate}
-use Rattle.mcs_sat.specs.Searches.{HasLearnt, IsRun, IsSearch, work_left, zipped}
+use Rattle.mcs_sat.specs.Searches.{IsRun, IsSearch, work_left, work_of}
 use Rattle.mcs_sat.specs.States.{IsDecided, IsState, SameClauses, reach_of}
-use Rattle.mcs_sat.specs.Trails.{AreAssigned, AreCovered, ArePlaced, Grows, IsFalse, IsFalseAt, IsOpen, IsSatisfied, literal_at}
-use Rattle.mcs_sat.proofs.TrailLemmas.{not_both_on, on-back, placed-back}
+use Rattle.mcs_sat.specs.Trails.{AreAssigned, AreCovered, ArePlaced, Grows, IsFalse, IsFalseAt, IsOpen, IsSatisfied}
+use Rattle.mcs_sat.proofs.TrailLemmas.{not_both_on, on-back, placed-back, placed-most}
 use Rattle.mcs_sat.proofs.WorkLemmas.{work_left-more, work_left-push}
 
 -- ---- open clauses
@@ -50,17 +46,12 @@ pub run-is : (s : State) (found : Option ℕ) → IfNone found (AllByRecursion (
 run-is s None opened conflict = opened
 run-is s (Some i) opened conflict = conflict
 
-learnt-same : (f : ClauseList) (old new : State) → SameClauses old new → HasLearnt f old → HasLearnt f new
-learnt-same f old new same h = record { steps = h.steps; clauses = same.clauses ∙ h.clauses; chains = same.chains ∙ h.chains; right = h.right }
-
 front-same : (es new : List Entry) (n : ℕ) (more : List Entry) → new ≡ es ++ more → n ≤ length es → take n new ≡ take n es
 front-same es new n more e bound = ap (take n) e ∙ take-append-le n es more bound
 
-pub search-run : (f : ClauseList) (old new : State) → IsSearch f old → IsState new → SameClauses old new → new.levels.items ≡ old.levels.items → Grows (length old.levels.items) old.trail.entries.items new.trail.entries.items → IsSearch f new
-search-run f old new is kept same levels (more, e, all) = record {
-  vars = same.positions ∙ is.vars;
+pub search-run : (old new : State) → IsSearch old → IsState new → SameClauses old new → new.levels.items ≡ old.levels.items → Grows (length old.levels.items) old.trail.entries.items new.trail.entries.items → IsSearch new
+search-run old new is kept same levels (more, e, all) = record {
   state = kept;
-  learnt = learnt-same f old new same is.learnt;
   before = λ k r at.
       let at' : slice_get old.levels.items k ≡ Some r = subst (λ (ls : List Reach). slice_get ls k ≡ Some r) levels at in
       let (below, none, count) = is.state.starts.start k r at' in
@@ -68,11 +59,9 @@ search-run f old new is kept same levels (more, e, all) = record {
       (subst (λ (xs : List Entry). AllByRecursion (IsOpen xs) old.clauses) (sym (front-same old.trail.entries.items new.trail.entries.items r.entries more e (omega arith))) (is.before k r at'));
 }
 
-pub search-decided : (f : ClauseList) (old new : State) (l : ℤ) → IsSearch f old → AllByRecursion (IsOpen old.trail.entries.items) old.clauses → IsState new → SameClauses old new → IsDecided old new l → IsSearch f new
-search-decided f old new l is opened kept same decided = record {
-  vars = same.positions ∙ is.vars;
+pub search-decided : (old new : State) (l : ℤ) → IsSearch old → AllByRecursion (IsOpen old.trail.entries.items) old.clauses → IsState new → SameClauses old new → IsDecided old new l → IsSearch new
+search-decided old new l is opened kept same decided = record {
   state = kept;
-  learnt = learnt-same f old new same is.learnt;
   before = λ k r at. subst (λ (cs : List (List ℤ)). AllByRecursion (IsOpen (take r.entries new.trail.entries.items)) cs) (sym same.clauses)
       (elim (slice_get_push_at old.levels.items (reach_of old) k r (subst (λ (ls : List Reach). slice_get ls k ≡ Some r) decided.levels at)) [
         | inl at' ↦
@@ -85,61 +74,21 @@ search-decided f old new l is opened kept same decided = record {
 }
 
 -- ---- less is left
--- there are no more literals than variables
-placed-bound : (es : List Entry) (ps : List ℕ) (n : ℕ) → ArePlaced es ps → length ps ≡ n + 1 → length es ≤ n
-placed-bound es ps n h size = let all = covers_below (length es) (drop 1 ps) there in omega (arith, length-drop 1 ps)
-  where
-    there : (i : ℕ) → i < length es → IsAmong i (drop 1 ps)
-    there i less =
-        let (literal, within, at) = h i less in
-        let v : ℕ = unsigned_abs (literal_at es i) in
-        let some : 0 < v = literal.0 in
-        let back : 1 + (v - 1) ≡ v = omega arith in
-        let e : get_or (drop 1 ps) (v - 1) 0 ≡ i = get_or-drop 1 ps (v - 1) 0 ∙ ap (λ j. get_or ps j 0) back ∙ at in
-        subst (λ (x : ℕ). IsAmong x (drop 1 ps)) e (among_at (drop 1 ps) (v - 1) 0 (omega (arith, length-drop 1 ps)))
-
-pub trail-bound : (f : ClauseList) (s : State) → IsSearch f s → length s.trail.entries.items ≤ f.vars
-trail-bound f s is = placed-bound s.trail.entries.items s.trail.positions.items f.vars is.state.trail.placed is.vars
-
 -- a literal was decided, and then a run came
-pub less-decided : (f : ClauseList) (old between new : State) (l : ℤ) → IsSearch f new → IsDecided old between l → Grows (length between.levels.items) between.trail.entries.items new.trail.entries.items → work_left f.vars new.trail.entries.items < work_left f.vars old.trail.entries.items
-less-decided f old between new l is decided (more, e, all) =
-    let n : ℕ = f.vars in
+pub less-decided : (old between new : State) (l : ℤ) → IsSearch new → IsDecided old between l → Grows (length between.levels.items) between.trail.entries.items new.trail.entries.items → length new.trail.positions.items ≡ length old.trail.positions.items → work_of new < work_of old
+less-decided old between new l is decided (more, e, all) size =
+    let n : ℕ = length old.trail.positions.items in
     let es : List Entry = old.trail.entries.items in
-    let bound = trail-bound f new is in
-    let size : length new.trail.entries.items ≡ length between.trail.entries.items + length more = ap length e ∙ length-append between.trail.entries.items more in
+    let bound : length new.trail.entries.items ≤ length new.trail.positions.items = placed-most new.trail.entries.items new.trail.positions.items is.state.trail.placed in
+    let longer : length new.trail.entries.items ≡ length between.trail.entries.items + length more = ap length e ∙ length-append between.trail.entries.items more in
     let size' : length between.trail.entries.items ≡ length es + 1 = ap length decided.entries ∙ length_push es _ in
     let first : work_left n between.trail.entries.items < work_left n es = subst (λ (xs : List Entry). work_left n xs < work_left n es) (sym decided.entries) (work_left-push n es _ (omega arith)) in
     let rest : work_left n new.trail.entries.items ≤ work_left n between.trail.entries.items = subst (λ (xs : List Entry). work_left n xs ≤ work_left n between.trail.entries.items) (sym e) (work_left-more n between.trail.entries.items more (omega (arith, ap length e))) in
-    omega arith
-
--- ---- clauses with their chains
-pub zipped-next : (cs : List (List ℤ)) (chains : List (List ℕ)) (i : ℕ) (c : List ℤ) (ns : List ℕ) → slice_get cs i ≡ Some c → slice_get chains i ≡ Some ns → zipped (drop i cs) (drop i chains) ≡ record { clause = c; chain = ns } ∷ zipped (drop (i + 1) cs) (drop (i + 1) chains)
-zipped-next [] chains i c ns at at' = cc
-zipped-next (x ∷ cs) [] i c ns at at' = cc
-zipped-next (x ∷ cs) (y ∷ chains) zero c ns at at' = cc
-zipped-next (x ∷ cs) (y ∷ chains) (suc i) c ns at at' =
-    let e : suc i + 1 ≡ suc (i + 1) = omega arith in
-    zipped-next cs chains i c ns at at' ∙ ap (λ (n : ℕ). (let s : Inference = record { clause = c; chain = ns } in s) ∷ zipped (drop n (x ∷ cs)) (drop n (y ∷ chains))) (sym e)
-
--- the clauses of the steps and their chains are the steps
-pub zipped-steps : (cs : List (List ℤ)) (none : List (List ℕ)) (steps : List Inference) → length none ≡ length cs
-    → zipped (drop (length cs) (cs ++ map (λ (i : Inference). i.clause) steps)) (drop (length cs) (none ++ map (λ (i : Inference). i.chain) steps)) ≡ steps
-zipped-steps cs none steps size =
-    ap (λ (xs : List (List ℤ)). zipped xs (drop (length cs) (none ++ map (λ (i : Inference). i.chain) steps))) (drop-append_seam cs (map (λ (i : Inference). i.clause) steps))
-    ∙ ap (λ (n : ℕ). zipped (map (λ (i : Inference). i.clause) steps) (drop n (none ++ map (λ (i : Inference). i.chain) steps))) (sym size)
-    ∙ ap (zipped (map (λ (i : Inference). i.clause) steps)) (drop-append_seam none (map (λ (i : Inference). i.chain) steps))
-    ∙ both steps
-  where
-    both : (steps : List Inference) → zipped (map (λ (i : Inference). i.clause) steps) (map (λ (i : Inference). i.chain) steps) ≡ steps
-    both [] = refl
-    both (s ∷ steps) = ap (λ (rest : List Inference). s ∷ rest) (both steps)
+    subst (λ (m : ℕ). work_left m new.trail.entries.items < work_left n es) (sym size) (omega arith)
 
 -- ---- all that was decided is taken back
-pub search-back : (f : ClauseList) (old new : State) → IsSearch f old → IsState new → SameClauses old new → new.levels.items ≡ [] → IsSearch f new
-search-back f old new is kept same none = record {
-  vars = same.positions ∙ is.vars;
+pub search-back : (old new : State) → IsSearch old → IsState new → SameClauses old new → new.levels.items ≡ [] → IsSearch new
+search-back old new is kept same none = record {
   state = kept;
-  learnt = learnt-same f old new same is.learnt;
   before = λ k r at. absurd (let less = slice_get_within new.levels.items k r at in omega (arith, ap length none));
 }

@@ -20,7 +20,7 @@ use Rattle.mcs_sat.specs.declared.watches.Pair.{Pair}
 use Rattle.mcs_sat.specs.declared.watches.Watches.{Watches}
 use Rattle.mcs_sat.specs.States.{AreChains, AreStarts, IsState, reach_of}
 use Rattle.mcs_sat.specs.Trails.{AreCovered, AreExplained, AreLevelled, ArePlaced, IsOnBelow, IsTrail}
-use Rattle.mcs_sat.specs.Watching.{AreKept, ArePair, AreWatched, IsLong, IsListed, IsOf, IsPaired, IsPushed, IsReached, no_pair}
+use Rattle.mcs_sat.specs.Watching.{AreKept, ArePair, AreWatched, IsFresh, IsLong, IsListed, IsOf, IsPaired, IsPushed, IsReached, no_pair}
 use Rattle.mcs_sat.proofs.LevelLemmas.{decisions-longer, levelled-back, levelled-decide, starts-back, starts-decide}
 use Rattle.mcs_sat.proofs.TrailLemmas.{entry-back, entry-old, explained-back, explained-known, explained-push, placed-back}
 use Rattle.mcs_sat.proofs.WatchLemmas.{reached-list}
@@ -283,10 +283,6 @@ watched-pushed known c old new o is kept pushed fits = record {
     | inr (last, same) ↦ subst (λ (n : ℕ). IsAmong n new.short.items) (sym (last ∙ sym is.sized)) (short-added old new o pushed (fits-short c o fits (subst (λ (x : List ℤ). ¬ IsLong x) same none)))
   ];
 }
-
--- no literal of the pair was false among the first n
-abbrev pub IsFresh : List Entry → ℕ → Option Pair → Type 0
-IsFresh es n o = MatchOption o (Unit {0}) (λ p. (l : ℤ) → IsOf l p → ¬ IsOnBelow es n (neg_ℤ l))
 
 fresh-at : (es : List Entry) (n : ℕ) (o : Option Pair) (l : ℤ) → IsFresh es n o → IsLiteral l → IsOf l (get_pair o) → ¬ IsOnBelow es n (neg_ℤ l)
 fresh-at es n (Some p) l fresh literal of = fresh l of

@@ -18,11 +18,11 @@ use Rattle.mcs_sat.specs.declared.watches.Watches.{Watches}
 use Rattle.mcs_sat.specs.Learning.{IsLatest, IsSingle}
 use Rattle.mcs_sat.specs.States.{AreStarts, IsLastLevel, IsState, IsTurn}
 use Rattle.mcs_sat.specs.Trails.{AreCovered, AreLevelled, ArePlaced, IsFalse, IsOnBelow, literal_at}
-use Rattle.mcs_sat.specs.Watching.{AreKept, IsLong, IsPushed}
+use Rattle.mcs_sat.specs.Watching.{AreKept, IsFresh, IsLong, IsPushed}
 use Rattle.mcs_sat.proofs.LatestLemmas.{covered-false}
 use Rattle.mcs_sat.proofs.TrailLemmas.{same_place}
 use Rattle.mcs_sat.proofs.LevelLemmas.{below-start}
-use Rattle.mcs_sat.proofs.StateLemmas.{FitsPair, IsFresh, starts-order, state-back, state-pushed, take-below}
+use Rattle.mcs_sat.proofs.StateLemmas.{FitsPair, starts-order, state-back, state-pushed, take-below}
 
 -- a place whose literal's negation is the literal
 turned : (es : List Entry) (p q : ℕ) → neg_ℤ (literal_at es p) ≡ neg_ℤ (literal_at es q) → literal_at es p ≡ literal_at es q

@@ -1,5 +1,6 @@
 -- What a search answers.
-use Rattle.std.specs.Prelude.{◌≡◌, ℕ, zero, suc, Bool, false, List, get_or, IsTrue, vec_len}
+use Rattle.std.specs.Prelude.{◌≡◌, ℕ, zero, suc, Bool, false, List, Option, Some, None, Vec, get_or, IsTrue, vec_len}
+use Rattle.std.specs.declared.alloc.Global.{Global}
 use Rattle.mcs_trace.specs.Clauses.{ClauseList, all_hold, IsUnsatisfiable}
 use Rattle.mcs_trace.specs.Traces.{IsAcceptedTrace, inferences_of}
 use Rattle.mcs_sat.specs.declared.outcome.Outcome.{Outcome}
@@ -19,3 +20,8 @@ IsAnswer f (Refuted trace) = IsAcceptedTrace f.clauses (inferences_of trace)
 abbrev pub IsExact : ClauseList → Outcome → Type 0
 IsExact f (Model values) = ¬ IsUnsatisfiable f.clauses
 IsExact f (Refuted trace) = IsUnsatisfiable f.clauses
+
+-- an assignment with a value for each variable that satisfies all clauses; or none, exactly where there is none
+abbrev pub IsSettled : ClauseList → Option (Vec Bool Global) → Type 0
+IsSettled f None = IsUnsatisfiable f.clauses
+IsSettled f (Some values) = (vec_len values ≡ f.vars) × IsTrue (all_hold (assignment_of values.items) f.clauses)

@@ -5,3 +5,5 @@ pub mod Watching
 pub mod Solvers
 pub mod States
 pub mod Searches
+pub mod Stores
+pub mod Numbering

@@ -1,5 +1,5 @@
 -- The two literals that a clause watches, and how far a solver has come with them (Moskewicz et al. 2001).
-use Rattle.std.specs.Prelude.{◌≡◌, ◌≢◌, ℕ, ◌<◌, ◌≤◌, ◌⊎◌, List, [], ◌∷◌, ◌++◌, ℤ, pos, neg_ℤ, length, Option, Some, None, Vec, slice_get}
+use Rattle.std.specs.Prelude.{◌≡◌, ◌≢◌, ℕ, ◌<◌, ◌≤◌, ◌⊎◌, List, [], ◌∷◌, ◌++◌, ℤ, pos, neg_ℤ, length, Option, Some, None, MatchOption, Vec, slice_get}
 use Rattle.std.specs.declared.alloc.Global.{Global}
 use Rattle.mcs_base.specs.Listings.{IsAmong}
 use Rattle.mcs_trace.specs.Clauses.{IsLiteral, place}
@@ -77,3 +77,11 @@ abbrev pub IsPushed : Watches → Watches → Option Pair → Type 0
 IsPushed old new (Some p) = (new.pairs.items ≡ old.pairs.items ++ p ∷ []) × (new.short.items ≡ old.short.items)
     × IsListed new.lists.items p.first (length old.pairs.items) × IsListed new.lists.items p.second (length old.pairs.items)
 IsPushed old new None = (new.pairs.items ≡ old.pairs.items ++ no_pair ∷ []) × (new.short.items ≡ old.short.items ++ length old.pairs.items ∷ [])
+
+-- no literal of the pair was false among the first n
+abbrev pub IsFresh : List Entry → ℕ → Option Pair → Type 0
+IsFresh es n o = MatchOption o (Unit {0}) (λ p. (l : ℤ) → IsOf l p → ¬ IsOnBelow es n (neg_ℤ l))
+
+-- there are the lists of one more variable
+abbrev pub IsWidened : List (Vec ℕ Global) → List (Vec ℕ Global) → Type 0
+IsWidened old new = (more : List (Vec ℕ Global)) × (new ≡ old ++ more) × (length more ≡ 2)

@@ -1,7 +1,9 @@
-//! A search for an assignment that satisfies clauses; where there is none, it makes a trace that shows so.
+//! Searches for an assignment that satisfies clauses; where there is none, a trace shows so.
 #![tactic(auto)]
 
+mod adding;
 mod analyse;
+mod base;
 mod examine;
 mod latest;
 mod model;
@@ -10,10 +12,12 @@ mod outcome;
 mod propagate;
 mod search;
 mod solver;
+mod solving;
 mod state;
+mod trace;
 mod trail;
 mod watches;
 
+pub use base::{ClauseBase, solve};
 pub use outcome::Outcome;
-pub use search::solve;
 pub use solver::Solver;

@@ -8,17 +8,17 @@ use crate::trail::Trail;
 use mcs_base::Memory;
 use std::alloc::Global;
 
-/// The values of the variables, of which the first is number 1; one that is free is false.
-pub(crate) fn model_of(alloc: Global, trail: &Trail) -> Result<Vec<bool>, Memory>
+/// The values of the variables 1 to `vars`; one that is free is false.
+pub(crate) fn model_of(alloc: Global, trail: &Trail, vars: u64) -> Result<Vec<bool>, Memory>
     requires placed { ArePlaced trail.now.entries.items trail.now.positions.items }
-    requires some { 0 < length trail.now.positions.items }
-    requires vars { length trail.now.positions.items ≤ 2 ^ 63 }
-    ensures len { IfOk result (λ m. vec_len m + 1 ≡ length trail.now.positions.items) }
-    ensures values { IfOk result (λ m. (v : ℕ) → 0 < v → v < length trail.now.positions.items
+    requires room { vars < length trail.now.positions.items }
+    requires fits { length trail.now.positions.items ≤ 2 ^ 63 }
+    ensures len { IfOk result (λ m. vec_len m ≡ vars) }
+    ensures values { IfOk result (λ m. (v : ℕ) → 0 < v → v < vars + 1
         → (IsTrue (assignment_of m.items v) ↔ IsOn trail.now.entries.items (pos v))) }
 {
     let mut model = Vec::new(alloc);
-    for variable in 1..trail.positions.len() {
+    for variable in 1..vars + 1 {
         model.push(trail.is_true(variable as i64))?;
     }
     Ok(model)

@@ -17,6 +17,16 @@ const FIRST_LIMIT: u64 = 100;
 /// How much smaller they are made, in bits.
 const SHRINK: u32 = 40;
 
+/// Puts the value at the end until there is one at the index.
+fn fill<T: Copy>(values: &mut Vec<T>, index: usize, value: T) -> Result<(), Memory> {
+    while values.len() <= index {
+        if values.push(value).is_err() {
+            return Err(Memory);
+        }
+    }
+    Ok(())
+}
+
 /// The variable, or its negation where the value is false, if it is one of the trail's variables and free there.
 fn free_literal(trail: &Trail, variable: usize, value: bool) -> Option<i64>
     requires placed { ArePlaced trail.now.entries.items trail.now.positions.items }
@@ -187,6 +197,20 @@ impl Order {
             }
             let _ = self.insert(variable);
         }
+    }
+
+    /// Adds the variable of the number, where it is missing.
+    pub fn widen(&mut self, variable: usize) -> Result<(), Memory> {
+        fill(&mut self.places, variable, None)?;
+        fill(&mut self.activities, variable, 0)?;
+        fill(&mut self.values, variable, false)?;
+        self.insert(variable)
+    }
+
+    /// Begins another search: how often it began anew is forgotten.
+    pub fn begin(&mut self) {
+        self.conflicts = 0;
+        self.limit = FIRST_LIMIT;
     }
 
     /// Makes all activities smaller.

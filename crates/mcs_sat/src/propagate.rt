@@ -24,7 +24,7 @@ pub(crate) enum Seen {
 }
 
 /// A literal of the clause, other than the one, that is not false.
-fn open_literal(trail: &Trail, literals: &[i64], other: i64) -> Option<i64>
+pub(crate) fn open_literal(trail: &Trail, literals: &[i64], other: i64) -> Option<i64>
     requires placed { ArePlaced trail.now.entries.items trail.now.positions.items }
     requires clause { IsClause literals.now }
     requires covered { AreCovered trail.now.positions.items literals.now }

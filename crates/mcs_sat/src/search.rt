@@ -1,23 +1,19 @@
 //! The search.
 
-ghost use Rattle.std.specs.Prelude.{◌≡◌, [], ◌∷◌, ◌++◌, IfOk, OnOk, length, map, drop};
+ghost use Rattle.std.specs.Prelude.{◌≡◌, IfOk, OnOk};
 ghost use Rattle.std.specs.List.{AllByRecursion};
 ghost use Rattle.mcs_trace.specs.Clauses.{IsClause};
-ghost use Rattle.mcs_trace.specs.Traces.{IsAcceptedTrace, inference_of, inferences_of};
-ghost use Rattle.mcs_sat.specs.Answers.{IsAnswer, IsExact};
 ghost use Rattle.mcs_sat.specs.States.{IsState};
-ghost use Rattle.mcs_sat.specs.Searches.{IsEnd, IsRun, IsSearch, IsTurned, zipped};
+ghost use Rattle.mcs_sat.specs.Stores.{IsLater};
+ghost use Rattle.mcs_sat.specs.Searches.{IsEnd, IsRun, IsSearch, IsTurned};
 ghost use Rattle.mcs_sat.specs.Trails.{IsFalse, IsFalseAt, IsOpen};
 
 use crate::analyse::analyse;
 use crate::latest::latest_of;
-use crate::model::model_of;
 use crate::order::Order;
-use crate::outcome::Outcome;
-use crate::solver::{run, state_of};
+use crate::solver::run;
 use crate::state::{State, back, decide, learn, turn_of};
-use mcs_base::{Memory, Rows};
-use mcs_trace::{Clause, Cnf, Step, Trace};
+use mcs_base::Memory;
 use std::alloc::Global;
 
 /// How often a search begins anew at most.
@@ -33,11 +29,12 @@ pub(crate) enum Turn {
 }
 
 /// Makes a free literal true, and what follows; where there is none, all clauses are satisfied.
-fn choose(cnf: &Cnf, state: &mut State, order: &mut Order) -> Result<Turn, Memory>
-    requires search { IsSearch cnf.now state.old }
+fn choose(state: &mut State, order: &mut Order) -> Result<Turn, Memory>
+    requires search { IsSearch state.old }
     requires open { AllByRecursion (IsOpen state.old.trail.entries.items) state.old.clauses }
-    ensures kept { OnOk result (IsSearch cnf.now state.new) }
-    ensures turn { IfOk result (IsTurned cnf.now state.old state.new) }
+    ensures later { IsLater state.old state.new }
+    ensures kept { OnOk result (IsSearch state.new) }
+    ensures turn { IfOk result (IsTurned state.old state.new) }
 {
     let literal = match order.next(&state.trail) {
         Some(literal) => literal,
@@ -80,15 +77,15 @@ fn release(state: &State, order: &mut Order, literals: &[i64])
 /// Learns from the clause of the index, which is false, goes back, and makes true what follows.
 fn turn_back(
     alloc: Global,
-    cnf: &Cnf,
     state: &mut State,
     order: &mut Order,
     index: usize,
 ) -> Result<Turn, Memory>
-    requires search { IsSearch cnf.now state.old }
+    requires search { IsSearch state.old }
     requires conflict { IsFalseAt state.old.clauses state.old.trail.entries.items index }
-    ensures kept { OnOk result (IsSearch cnf.now state.new) }
-    ensures turn { IfOk result (IsTurned cnf.now state.old state.new) }
+    ensures later { IsLater state.old state.new }
+    ensures kept { OnOk result (IsSearch state.new) }
+    ensures turn { IfOk result (IsTurned state.old state.new) }
 {
     let Some(reach) = state.levels.last() else {
         return Ok(Turn::Refuted(index));
@@ -106,9 +103,10 @@ fn turn_back(
 }
 
 /// Takes back all that was decided, and makes true what follows without it.
-fn begin_anew(cnf: &Cnf, state: &mut State, order: &mut Order) -> Result<Option<usize>, Memory>
-    requires { IsSearch cnf.now state.old }
-    ensures kept { OnOk result (IsSearch cnf.now state.new) }
+fn begin_anew(state: &mut State, order: &mut Order) -> Result<Option<usize>, Memory>
+    requires { IsSearch state.old }
+    ensures later { IsLater state.old state.new }
+    ensures kept { OnOk result (IsSearch state.new) }
     ensures run { IfOk result (IsRun state.new) }
 {
     order.release(&state.trail.entries);
@@ -120,31 +118,32 @@ fn begin_anew(cnf: &Cnf, state: &mut State, order: &mut Order) -> Result<Option<
 /// Turns back from a clause that is false, or chooses.
 fn take_turn(
     alloc: Global,
-    cnf: &Cnf,
     state: &mut State,
     order: &mut Order,
     found: Option<usize>,
 ) -> Result<Turn, Memory>
-    requires search { IsSearch cnf.now state.old }
+    requires search { IsSearch state.old }
     requires run { IsRun state.old found }
-    ensures kept { OnOk result (IsSearch cnf.now state.new) }
-    ensures turn { IfOk result (IsTurned cnf.now state.old state.new) }
+    ensures later { IsLater state.old state.new }
+    ensures kept { OnOk result (IsSearch state.new) }
+    ensures turn { IfOk result (IsTurned state.old state.new) }
 {
     match found {
-        Some(index) => turn_back(alloc, cnf, state, order, index),
-        None => choose(cnf, state, order),
+        Some(index) => turn_back(alloc, state, order, index),
+        None => choose(state, order),
     }
 }
 
 /// Takes turns until all clauses are satisfied, or one is false though nothing was decided; the index of this one.
-fn search(
+/// What was known before is known still: clauses are learnt, and none is given.
+pub(crate) fn search(
     alloc: Global,
-    cnf: &Cnf,
     state: &mut State,
     order: &mut Order,
 ) -> Result<Option<usize>, Memory>
-    requires { IsSearch cnf.now state.old }
-    ensures kept { OnOk result (IsSearch cnf.now state.new) }
+    requires { IsSearch state.old }
+    ensures later { IsLater state.old state.new }
+    ensures kept { OnOk result (IsSearch state.new) }
     ensures end { IfOk result (IsEnd state.new) }
 {
     let mut found = run(state)?;
@@ -152,103 +151,13 @@ fn search(
     loop {
         if left > 0 && found.is_none() && order.is_due() {
             left -= 1;
-            found = begin_anew(cnf, state, order)?;
+            found = begin_anew(state, order)?;
             continue;
         }
-        match take_turn(alloc, cnf, state, order, found)? {
+        match take_turn(alloc, state, order, found)? {
             Turn::Goes(next) => found = next,
             Turn::Satisfied => return Ok(None),
             Turn::Refuted(index) => return Ok(Some(index)),
         }
     }
-}
-
-/// The steps that were learnt, those of the clauses from the index on, and one more at the end.
-fn steps_of(
-    alloc: Global,
-    clauses: &Rows<i64>,
-    chains: &Rows<u64>,
-    first: usize,
-    last: Step,
-) -> Result<Vec<Step>, Memory>
-    requires sized { length chains.now ≡ length clauses.now }
-    requires clauses { AllByRecursion IsClause clauses.now }
-    ensures { IfOk result (λ steps. map inference_of steps.items ≡ zipped (drop first clauses.now) (drop first chains.now) ++ inference_of last ∷ []) }
-{
-    let mut steps = Vec::new(alloc);
-    for index in first..clauses.len() {
-        let step = step_of(alloc, clauses.row(index), chains.row(index))?;
-        steps.push(step)?;
-    }
-    steps.push(last)?;
-    Ok(steps)
-}
-
-/// A step of its own of the clause and the chain.
-fn step_of(alloc: Global, literals: &[i64], chain: &[u64]) -> Result<Step, Memory>
-    requires { IsClause literals.now }
-    ensures { IfOk result (λ step. inference_of step ≡ record { clause = literals.now; chain = chain.now }) }
-{
-    let Some(clause) = Clause::new(literals.to_vec(alloc)?) else {
-        unreachable!();
-    };
-    match chain.to_vec(alloc) {
-        Ok(chain) => Ok(Step { clause, chain }),
-        Err(error) => {
-            drop(clause);
-            Err(error.into())
-        }
-    }
-}
-
-/// The trace that the clause of the index gives, which is false though nothing was decided.
-fn trace_of(alloc: Global, cnf: &Cnf, state: &State, index: usize) -> Result<Trace, Memory>
-    requires search { IsSearch cnf.now state.now }
-    requires conflict { IsFalseAt state.now.clauses state.now.trail.entries.items index }
-    requires base { state.now.levels.items ≡ [] }
-    ensures { IfOk result (λ trace. IsAcceptedTrace cnf.now.clauses (inferences_of trace)) }
-{
-    let none = state.trail.entries.len();
-    let last = analyse(alloc, &state.clauses, &state.trail, none, index)?;
-    let first = cnf.clauses().len();
-    let steps = steps_of(alloc, &state.clauses, &state.chains, first, last)?;
-    Ok(Trace { steps })
-}
-
-/// What the search comes to: an assignment, or a trace.
-fn outcome_of(
-    alloc: Global,
-    cnf: &Cnf,
-    state: &mut State,
-    order: &mut Order,
-) -> Result<Outcome, Memory>
-    requires { IsSearch cnf.now state.old }
-    ensures answer { IfOk result (IsAnswer cnf.now) }
-    ensures exact { IfOk result (IsExact cnf.now) }
-{
-    match search(alloc, cnf, state, order)? {
-        None => Ok(Outcome::Model(model_of(alloc, &state.trail)?)),
-        Some(index) => Ok(Outcome::Refuted(trace_of(alloc, cnf, state, index)?)),
-    }
-}
-
-/// An assignment that satisfies the clauses, with a value for each variable; or, exactly where there is
-/// none, a trace that is accepted. The search makes literals true, learns from each clause that becomes
-/// false, and jumps back (Marques-Silva and Sakallah 1996); it decides first on variables that took part in
-/// recent conflicts (Moskewicz, Madigan, Zhao, Zhang and Malik 2001).
-pub fn solve(alloc: Global, cnf: &Cnf) -> Result<Outcome, Memory>
-    ensures answer { IfOk result (IsAnswer cnf.now) }
-    ensures exact { IfOk result (IsExact cnf.now) }
-{
-    let mut order = Order::new(alloc, cnf.vars())?;
-    let mut state = match state_of(alloc, cnf) {
-        Ok(state) => state,
-        Err(error) => {
-            drop(order);
-            return Err(error);
-        }
-    };
-    let outcome = outcome_of(alloc, cnf, &mut state, &mut order);
-    drop((state, order));
-    outcome
 }

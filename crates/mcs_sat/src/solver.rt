@@ -11,9 +11,10 @@ ghost use Rattle.mcs_sat.specs.States.{IsState, SameClauses, no_chains, reach_of
 ghost use Rattle.mcs_sat.specs.Watching.{IsReached};
 ghost use Rattle.mcs_sat.specs.Solvers.{GoesOn, HasNoValue, IsAsserting, IsFalseNumber, IsLearned, IsOpenUnder, IsSolver, IsUnitRun, LeadsToConflict, last_level, trues, trues_below};
 
+use crate::adding::add;
 use crate::analyse::analyse;
 use crate::propagate::{settle_from, visit_from};
-use crate::state::{State, add, decide, learn};
+use crate::state::{State, decide, learn};
 use mcs_base::Memory;
 use mcs_trace::{Clause, Cnf, Step};
 use std::alloc::Global;

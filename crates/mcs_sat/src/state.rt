@@ -69,7 +69,7 @@ impl State {
 }
 
 /// Adds the next clause, with its chain, which watches the pair; without one it has fewer than two literals.
-fn push_clause(
+pub(crate) fn push_clause(
     clauses: &mut Rows<i64>,
     chains: &mut Rows<u64>,
     watches: &mut Watches,
@@ -104,47 +104,6 @@ fn push_clause(
         return Err(error);
     }
     Ok(())
-}
-
-/// Adds a clause that was not learnt, where there is no level above 0.
-pub(crate) fn add(state: &mut State, literals: &[i64]) -> Result<(), Memory>
-    requires state { IsState state.old }
-    requires clause { IsClause literals.now }
-    requires covered { AreCovered state.old.trail.positions.items literals.now }
-    requires base { state.old.levels.items ≡ [] }
-    ensures kept { IsState state.new }
-    ensures positions { length state.new.trail.positions.items ≡ length state.old.trail.positions.items }
-    ensures entries { state.new.trail.entries.items ≡ state.old.trail.entries.items }
-    ensures levels { state.new.levels.items ≡ [] }
-    ensures clauses { OnOk result (state.new.clauses ≡ state.old.clauses ++ literals.now ∷ []) }
-    ensures chains { OnOk result (state.new.chains ≡ state.old.chains ++ [] ∷ []) }
-    ensures err { OnErr result ((state.new.clauses ≡ state.old.clauses) × (state.new.chains ≡ state.old.chains)) }
-{
-    let pair = first_pair(literals);
-    push_clause(
-        &mut state.clauses,
-        &mut state.chains,
-        &mut state.watches,
-        literals,
-        &[],
-        pair,
-    )?;
-    state.visited = 0;
-    Ok(())
-}
-
-/// The first two literals, where there are two.
-fn first_pair(literals: &[i64]) -> Option<Pair>
-    requires { IsClause literals.now }
-    ensures { MatchOption result (¬ IsLong literals.now) (ArePair literals.now) }
-{
-    match literals {
-        [first, second, ..] => Some(Pair {
-            first: *first,
-            second: *second,
-        }),
-        _ => None,
-    }
 }
 
 /// Opens a level and makes the literal true, which has no value.

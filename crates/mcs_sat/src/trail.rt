@@ -3,7 +3,7 @@
 ghost use Rattle.std.specs.Prelude.{◌≡◌, ℕ, ◌++◌, ◌∷◌, [], ◌<◌, ◌≤◌, ◌+◌, ◌^◌, length, unsigned_abs, neg_ℤ, take, ◌↔◌, IsTrue, MatchOption, IfOk, OnOk, OnErr};
 ghost use Rattle.std.specs.Bool.{MatchBool};
 ghost use Rattle.mcs_trace.specs.Clauses.{IsLiteral};
-ghost use Rattle.mcs_sat.specs.Trails.{ArePlaced, AreAssigned, StandsAt, StandsNowhere, IsOn, literal_at};
+ghost use Rattle.mcs_sat.specs.Trails.{ArePlaced, AreAssigned, StandsAt, StandsNowhere, IsOn, literal_at, reason_at};
 
 use mcs_base::Memory;
 use std::alloc::Global;
@@ -126,6 +126,29 @@ impl Trail {
         ensures positions { self.new.positions.items ≡ self.old.positions.items }
     {
         self.entries.truncate(place);
+    }
+
+    /// Adds a place for one more variable.
+    pub fn widen(&mut self) -> Result<(), Memory>
+        ensures ok { OnOk result (self.new.positions.items ≡ self.old.positions.items ++ 0 ∷ []) }
+        ensures err { OnErr result (self.new.positions.items ≡ self.old.positions.items) }
+        ensures entries { self.new.entries.items ≡ self.old.entries.items }
+    {
+        self.positions.push(0)?;
+        Ok(())
+    }
+
+    /// How many literals stand before the first one whose reason has a number above the one.
+    pub fn explained_within(&self, number: usize) -> usize
+        ensures bound { result ≤ length self.now.entries.items }
+        ensures reasons { (i : ℕ) → i < result → reason_at self.now.entries.items i ≤ number }
+    {
+        for (place, entry) in self.entries.iter().enumerate() {
+            if entry.reason > number as u64 {
+                return place;
+            }
+        }
+        self.entries.len()
     }
 
     /// The first variable from the number on that is free.

@@ -1,8 +1,8 @@
 //! Which clauses watch a literal.
 
-ghost use Rattle.std.specs.Prelude.{◌≡◌, ◌≢◌, ℕ, ℤ, ◌+◌, ◌*◌, ◌<◌, ◌^◌, ◌++◌, ◌∷◌, [], List, length, take, slice_get, MatchOption, IfOk, OnOk, OnErr, IfSome};
+ghost use Rattle.std.specs.Prelude.{◌≡◌, ◌≢◌, ℕ, ℤ, ◌+◌, ◌*◌, ◌<◌, ◌^◌, ◌++◌, ◌∷◌, [], List, length, take, slice_get, MatchOption, IfOk, OnOk, OnErr, IfSome, filter, ltb};
 ghost use Rattle.mcs_trace.specs.Clauses.{IsLiteral, place};
-ghost use Rattle.mcs_sat.specs.Watching.{AreKept, IsListed, IsOf, IsPairOf, IsPushed};
+ghost use Rattle.mcs_sat.specs.Watching.{AreKept, IsListed, IsOf, IsPairOf, IsPushed, IsWidened};
 
 use mcs_base::Memory;
 use mcs_trace::place;
@@ -119,5 +119,34 @@ impl Watches {
     {
         self.pairs.truncate(count);
         self.short.truncate(short);
+    }
+
+    /// Leaves the first `count` clauses, with the short ones among them. What stands in the lists of others is passed
+    /// over.
+    pub fn cut(&mut self, count: usize)
+        ensures pairs { self.new.pairs.items ≡ take count self.old.pairs.items }
+        ensures short { self.new.short.items ≡ filter (λ i. ltb i count) self.old.short.items }
+        ensures lists { self.new.lists.items ≡ self.old.lists.items }
+    {
+        self.pairs.truncate(count);
+        self.short.retain(|index| *index < count);
+    }
+
+    /// Adds the lists of the literals of one more variable.
+    pub fn widen(&mut self) -> Result<(), Memory>
+        ensures ok { OnOk result (IsWidened self.old.lists.items self.new.lists.items) }
+        ensures err { OnErr result (self.new.lists.items ≡ self.old.lists.items) }
+        ensures pairs { self.new.pairs.items ≡ self.old.pairs.items }
+        ensures short { self.new.short.items ≡ self.old.short.items }
+    {
+        let count = self.lists.len();
+        let alloc = *self.lists.allocator();
+        self.lists.push(Vec::new(alloc))?;
+        if let Err(error) = self.lists.push(Vec::new(alloc)) {
+            drop(error);
+            self.lists.truncate(count);
+            return Err(Memory);
+        }
+        Ok(())
     }
 }

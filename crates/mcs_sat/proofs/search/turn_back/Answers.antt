@@ -1,5 +1,5 @@
 use Rattle.mcs_sat.specs.Trails.{IsFalse}
-use Rattle.std.proofs.Common.{◌-◌, List, ℕ, ℤ, length, sym, subst, arith}
+use Rattle.std.proofs.Common.{◌-◌, ◌∙◌, List, ℕ, ℤ, length, sym, subst, arith}
 use Rattle.std.proofs.lemmas.Option.{slice_get_within}
 use Rattle.mcs_base.proofs.Each.{all_get}
 use Rattle.mcs_trace.specs.Traces.{IsChainResolvent}
@@ -9,6 +9,7 @@ use Rattle.mcs_sat.specs.States.{IsLastLevel}
 use Rattle.mcs_sat.proofs.BackLemmas.{gone-back, less-learnt, search-learnt, single-last}
 use Rattle.mcs_sat.proofs.LevelLemmas.{implied-last}
 use Rattle.mcs_sat.proofs.SearchLemmas.{open-late, run-is, search-run}
+use Rattle.mcs_sat.proofs.StoreLemmas.{later-learnt, later-same, later-then}
 use Rattle.mcs_sat.proofs.TurnLemmas.{last-found}
 use Rattle.mcs_sat.proofs.search.turn_back.Goals as goal
 
@@ -37,35 +38,31 @@ learn-requires-clause-single c =
 pub returns-clause-kept : goal.returns-clause-kept
 returns-clause-kept c =
     let s = c.args.state.now in
-    let f = c.args.cnf.now in
     let cl : List ℤ = c.literals-2.result.now in
     let ns : List ℕ = c.deref-3.result.now in
     let step = c.in_ok-step.step in
     let last : IsLastLevel s.levels.items c.in-Some.reach.now = last-found s.levels.items c.deref.result.now c.last.result c.in-Some.reach c.deref.ensures.value c.last.ensures.value c.in-Some.is in
     let single = subst (λ (x : List ℤ). (q : Reach) → IsLastLevel s.levels.items q → IsSingle s.trail.entries.items q.entries x) (sym c.literals-2.ensures.value) (single-last s c.in-Some.reach.now step.clause c.requires.search.state last c.in_ok-step.ensures.single) in
-    let right = subst (IsChainResolvent s.clauses ns) (sym c.literals-2.ensures.value) (subst (λ (xs : List ℕ). IsChainResolvent s.clauses xs step.clause) (sym c.deref-3.ensures.value) c.in_ok-step.ensures.learnt.chain) in
     let b = c.in_default-learn.ensures.learnt in
     let g = gone-back s c.learn.new.state cl ns c.requires.search.state b single in
     let r = c.in_ok-run.ensures in
-    let kept = search-run f c.learn.new.state c.run.new.state (search-learnt f s c.learn.new.state cl ns c.requires.search c.learn.ensures.kept c.learn.ensures.positions right b g) r.kept r.same r.levels r.grows in
+    let kept = search-run c.learn.new.state c.run.new.state (search-learnt s c.learn.new.state cl ns c.requires.search c.learn.ensures.kept b g) r.kept r.same r.levels r.grows in
     kept
 
 pub returns-clause-turn : goal.returns-clause-turn
 returns-clause-turn c =
     let s = c.args.state.now in
-    let f = c.args.cnf.now in
     let cl : List ℤ = c.literals-2.result.now in
     let ns : List ℕ = c.deref-3.result.now in
     let step = c.in_ok-step.step in
     let last : IsLastLevel s.levels.items c.in-Some.reach.now = last-found s.levels.items c.deref.result.now c.last.result c.in-Some.reach c.deref.ensures.value c.last.ensures.value c.in-Some.is in
     let single = subst (λ (x : List ℤ). (q : Reach) → IsLastLevel s.levels.items q → IsSingle s.trail.entries.items q.entries x) (sym c.literals-2.ensures.value) (single-last s c.in-Some.reach.now step.clause c.requires.search.state last c.in_ok-step.ensures.single) in
-    let right = subst (IsChainResolvent s.clauses ns) (sym c.literals-2.ensures.value) (subst (λ (xs : List ℕ). IsChainResolvent s.clauses xs step.clause) (sym c.deref-3.ensures.value) c.in_ok-step.ensures.learnt.chain) in
     let b = c.in_default-learn.ensures.learnt in
     let g = gone-back s c.learn.new.state cl ns c.requires.search.state b single in
     let r = c.in_ok-run.ensures in
-    let kept = search-run f c.learn.new.state c.run.new.state (search-learnt f s c.learn.new.state cl ns c.requires.search c.learn.ensures.kept c.learn.ensures.positions right b g) r.kept r.same r.levels r.grows in
+    let kept = search-run c.learn.new.state c.run.new.state (search-learnt s c.learn.new.state cl ns c.requires.search c.learn.ensures.kept b g) r.kept r.same r.levels r.grows in
     let run = run-is c.run.new.state c.in_ok-run.field-0 r.open r.conflict in
-    (run, less-learnt f s c.learn.new.state c.run.new.state cl ns c.in_ok-run.field-0 c.requires.search kept b g r.same.clauses r.grows run)
+    (run, less-learnt s c.learn.new.state c.run.new.state cl ns c.in_ok-run.field-0 c.requires.search kept b g r.same.clauses r.grows run (r.same.positions ∙ c.learn.ensures.positions))
 
 -- ---- what is asked of the calls
 pub analyse-requires-clause-conflict : goal.analyse-requires-clause-conflict
@@ -94,3 +91,22 @@ run-requires c = c.in_default-learn.ensures.kept
 
 pub returns-in_default-clause-kept : goal.returns-in_default-clause-kept
 returns-in_default-clause-kept c = c.requires.search
+
+-- ---- what comes later
+pub returns-in_err-run-clause-later : goal.returns-in_err-run-clause-later
+returns-in_err-run-clause-later c =
+    let s = c.args.state.now in
+    let cl : List ℤ = c.literals-2.result.now in
+    let ns : List ℕ = c.deref-3.result.now in
+    let right = subst (IsChainResolvent s.clauses ns) (sym c.literals-2.ensures.value) (subst (λ (xs : List ℕ). IsChainResolvent s.clauses xs c.in_ok-step.step.clause) (sym c.deref-3.ensures.value) c.in_ok-step.ensures.learnt.chain) in
+    let b = c.in_default-learn.ensures.learnt in
+    later-then s c.learn.new.state c.run.new.state (later-learnt s c.learn.new.state cl ns c.learn.ensures.kept c.learn.ensures.positions b.clauses b.chains right) (later-same c.learn.new.state c.run.new.state c.run.ensures.kept c.run.ensures.same)
+
+pub returns-clause-later : goal.returns-clause-later
+returns-clause-later c =
+    let s = c.args.state.now in
+    let cl : List ℤ = c.literals-2.result.now in
+    let ns : List ℕ = c.deref-3.result.now in
+    let right = subst (IsChainResolvent s.clauses ns) (sym c.literals-2.ensures.value) (subst (λ (xs : List ℕ). IsChainResolvent s.clauses xs c.in_ok-step.step.clause) (sym c.deref-3.ensures.value) c.in_ok-step.ensures.learnt.chain) in
+    let b = c.in_default-learn.ensures.learnt in
+    later-then s c.learn.new.state c.run.new.state (later-learnt s c.learn.new.state cl ns c.learn.ensures.kept c.learn.ensures.positions b.clauses b.chains right) (later-same c.learn.new.state c.run.new.state c.run.ensures.kept c.run.ensures.same)

@@ -1,0 +1,198 @@
+-- What stays right of a solver where nothing is decided, when clauses are taken off and when a variable is added.
+use Rattle.std.proofs.Common.{◌≡◌, ℕ, ◌+◌, ◌*◌, ◌^◌, ◌<◌, ◌≤◌, zero, suc, List, [], ◌∷◌, ◌++◌, ◌⊎◌, inl, inr, sym, ap, ◌∙◌, subst, arith, ℤ, unsigned_abs, length, length-append, take, drop, filter, ltb, min, Some, slice_get, Vec, Global}
+use Rattle.std.specs.List.{AllByRecursion}
+use Rattle.std.proofs.Math.Seq.{take-append_seam}
+use Rattle.std.proofs.lemmas.List.{get_or_append_left, length-take, length-take-le, take-append-drop, take-take, take_all}
+use Rattle.std.proofs.lemmas.Bool.{lt-ltb, ltb-true}
+use Rattle.std.proofs.lemmas.Option.{slice_get_within}
+use Rattle.mcs_base.specs.Listings.{IsAmong}
+use Rattle.mcs_base.proofs.Among.{among_filter, among_get, filter_among, get_among}
+use Rattle.mcs_base.proofs.Each.{all_among, all_get, all_left, all_weaker}
+use Rattle.mcs_base.proofs.Lists.{slice_get-append_left, slice_get_below, slice_get_take}
+use Rattle.mcs_trace.specs.Clauses.{IsClause, IsLiteral, place}
+use Rattle.mcs_trace.specs.Traces.{IsChainResolvent, numbered}
+use Rattle.mcs_sat.specs.declared.state.Reach.{Reach}
+use Rattle.mcs_sat.specs.declared.state.State.{State}
+use Rattle.mcs_sat.specs.declared.trail.Entry.{Entry}
+use Rattle.mcs_sat.specs.declared.trail.Trail.{Trail}
+use Rattle.mcs_sat.specs.declared.watches.Pair.{Pair}
+use Rattle.mcs_sat.specs.declared.watches.Watches.{Watches}
+use Rattle.mcs_sat.specs.States.{AreChains, AreStarts, IsState}
+use Rattle.mcs_sat.specs.Trails.{AreCovered, AreExplained, AreLevelled, ArePlaced, IsTrail, decisions, literal_at, reason_at}
+use Rattle.mcs_sat.specs.Watching.{AreKept, ArePair, AreWatched, IsListed, IsOf, IsReached, IsWidened}
+use Rattle.mcs_sat.proofs.LevelLemmas.{decisions-longer, levelled-back}
+use Rattle.mcs_sat.proofs.StateLemmas.{place-within}
+use Rattle.mcs_sat.proofs.TrailLemmas.{entry-back, explained-back, placed-back}
+use Rattle.mcs_sat.proofs.WatchLemmas.{reached-list}
+
+-- ---- the first clauses
+all-first : {A : Type 0} (P : A → Type 0) (k : ℕ) (xs : List A) → AllByRecursion P xs → AllByRecursion P (take k xs)
+all-first P k xs all = all_left P (take k xs) (drop k xs) (subst (AllByRecursion P) (sym (take-append-drop k xs)) all)
+
+get-first : {A : Type 0} (k : ℕ) (xs : List A) (i : ℕ) (x : A) → i < k → slice_get xs i ≡ Some x → slice_get (take k xs) i ≡ Some x
+get-first zero xs i x less at = absurd (omega arith)
+get-first (suc k) [] i x less at = cc
+get-first (suc k) (y ∷ xs) zero x less at = at
+get-first (suc k) (y ∷ xs) (suc i) x less at = get-first k xs i x (omega arith) at
+
+chains-first : (k : ℕ) (known : List (List ℤ)) (chains : List (List ℕ)) → AreChains known chains → AreChains (take k known) (take k chains)
+chains-first k known chains is = record {
+  sized = length-take k chains ∙ ap (min k) is.sized ∙ sym (length-take k known);
+  right = λ i c ns at at'.
+      let (less, here) = slice_get_take k known i c at in
+      let (less', here') = slice_get_take k chains i ns at' in
+      subst (λ (ks : List (List ℤ)). (ns ≡ []) ⊎ IsChainResolvent ks ns c) (sym (take-take i k known (omega arith))) (is.right i c ns here here');
+}
+
+numbered-first : (k : ℕ) (known : List (List ℤ)) (n : ℕ) (c : List ℤ) → n ≤ k → numbered known n ≡ Some c → numbered (take k known) n ≡ Some c
+numbered-first k known zero c less e = cc
+numbered-first k known (suc n) c less e = get-first k known n c (omega arith) e
+
+explained-first : (k : ℕ) (known : List (List ℤ)) (es : List Entry) → AreExplained known es → ((i : ℕ) → i < length es → reason_at es i ≤ k) → AreExplained (take k known) es
+explained-first k known es is few i less = elim (is i less) [
+  | inl none ↦ inl none
+  | inr (c, at, reason) ↦ inr (c, numbered-first k known (reason_at es i) c (few i less) at, reason)
+]
+
+watched-first : (k : ℕ) (known : List (List ℤ)) (w w' : Watches) → w'.pairs.items ≡ take k w.pairs.items → w'.lists.items ≡ w.lists.items → w'.short.items ≡ filter (λ (i : ℕ). ltb i k) w.short.items → AreWatched known w → AreWatched (take k known) w'
+watched-first k known w w' pairs lists short is = record {
+  sized = ap length pairs ∙ length-take k w.pairs.items ∙ ap (min k) is.sized ∙ sym (length-take k known);
+  paired = λ i c p at at'. is.paired i c p (slice_get_take k known i c at).1 (slice_get_take k w.pairs.items i p (subst (λ (ps : List Pair). slice_get ps i ≡ Some p) pairs at')).1;
+  listed = λ i p l at literal of. subst (λ (ls : List (Vec ℕ Global)). IsListed ls l i) (sym lists) (is.listed i p l (slice_get_take k w.pairs.items i p (subst (λ (ps : List Pair). slice_get ps i ≡ Some p) pairs at)).1 literal of);
+  short = λ i c at none.
+      let (less, here) = slice_get_take k known i c at in
+      subst (λ (xs : List ℕ). IsAmong i xs) (sym short) (among_filter (λ (i : ℕ). ltb i k) i w.short.items (is.short i c here none) (lt-ltb i k less));
+}
+
+reached-first : (k : ℕ) (known : List (List ℤ)) (w w' : Watches) (es : List Entry) (v s : ℕ) → w'.pairs.items ≡ take k w.pairs.items → IsReached known w es (record { entries = length es; visited = v; settled = s }) → IsReached (take k known) w' es (record { entries = length es; visited = v; settled = 0 })
+reached-first k known w w' es v s pairs is = record {
+  visited = λ i c p l at at' literal of off. is.visited i c p l (slice_get_take k known i c at).1 (slice_get_take k w.pairs.items i p (subst (λ (ps : List Pair). slice_get ps i ≡ Some p) pairs at')).1 literal of off;
+  settled = λ j i c less. absurd (omega arith);
+}
+
+reached-none : (known : List (List ℤ)) (w : Watches) (es : List Entry) (n : ℕ) → IsReached known w es (record { entries = n; visited = 0; settled = 0 })
+reached-none known w es n = record {
+  visited = λ i c p l at at' literal of (q, less, on). absurd (omega arith);
+  settled = λ j i c less. absurd (omega arith);
+}
+
+-- nothing was visited, or no literal goes and what was visited stays so
+abbrev pub IsVisitedStill : State → ℕ → ℕ → Type 0
+IsVisitedStill s n v = (v ≡ 0) ⊎ ((length s.trail.entries.items ≤ n) × (v ≡ s.visited))
+
+pub state-cut : (s : State) (cs : List (List ℤ)) (ms : List (List ℕ)) (t : Trail) (w : Watches) (k n v : ℕ) → IsState s → s.levels.items ≡ []
+    → cs ≡ take k s.clauses → ms ≡ take k s.chains → t.entries.items ≡ take n s.trail.entries.items → t.positions.items ≡ s.trail.positions.items → n ≤ length s.trail.entries.items → ((i : ℕ) → i < n → reason_at s.trail.entries.items i ≤ k)
+    → w.pairs.items ≡ take k s.watches.pairs.items → w.lists.items ≡ s.watches.lists.items → w.short.items ≡ filter (λ (i : ℕ). ltb i k) s.watches.short.items → IsVisitedStill s n v
+    → IsState (record { clauses = cs; chains = ms; trail = t; watches = w; levels = s.levels; visited = v; settled = 0 })
+state-cut s cs ms t w k n v is base clauses chains entries positions bound few pairs lists short still =
+    let es : List Entry = s.trail.entries.items in
+    let known : List (List ℤ) = take k s.clauses in
+    let size : length t.entries.items ≡ n = ap length entries ∙ length-take-le n es bound in
+    record {
+      some = subst (λ (ps : List ℕ). 0 < length ps) (sym positions) is.some;
+      fits = subst (λ (ps : List ℕ). length ps ≤ 2 ^ 63) (sym positions) is.fits;
+      lists = ap length lists ∙ is.lists ∙ ap (λ (ps : List ℕ). 2 * length ps) (sym positions);
+      chains = subst (λ (ks : List (List ℤ)). AreChains ks ms) (sym clauses) (subst (AreChains known) (sym chains) (chains-first k s.clauses s.chains is.chains));
+      trail = subst (λ (ks : List (List ℤ)). IsTrail ks t) (sym clauses) (record {
+        clauses = all-first IsClause k s.clauses is.trail.clauses;
+        covered = subst (λ (ps : List ℕ). AllByRecursion (AreCovered ps) known) (sym positions) (all-first (AreCovered s.trail.positions.items) k s.clauses is.trail.covered);
+        placed = subst (ArePlaced t.entries.items) (sym positions) (subst (λ (xs : List Entry). ArePlaced xs s.trail.positions.items) (sym entries) (placed-back es s.trail.positions.items n is.trail.placed));
+        explained = subst (AreExplained known) (sym entries) (explained-first k s.clauses (take n es) (explained-back s.clauses es n is.trail.explained) (λ i less.
+            let less' : i < n = omega (arith, length-take-le n es bound) in
+            subst (λ (e : Entry). e.reason ≤ k) (sym (entry-back es n i less')) (few i less')));
+      });
+      levelled = subst AreLevelled (sym entries) (levelled-back n es is.levelled);
+      starts = record {
+        count = (let none : length s.levels.items ≡ 0 = ap length base in let all = is.starts.count in let part = decisions-longer n (length es) es bound in omega (arith, ap decisions entries, ap decisions (take_all (length es) es (omega arith))));
+        start = λ j r at. absurd (let less = slice_get_within s.levels.items j r at in omega (arith, ap length base));
+      };
+      watched = subst (λ (ks : List (List ℤ)). AreWatched ks w) (sym clauses) (watched-first k s.clauses s.watches w pairs lists short is.watched);
+      shorts = λ j i at.
+          let (among, passes) = filter_among (λ (i : ℕ). ltb i k) i s.watches.short.items (among_get i (filter (λ (i : ℕ). ltb i k) s.watches.short.items) j (subst (λ (xs : List ℕ). slice_get xs j ≡ Some i) short at)) in
+          let less : i < k = ltb-true i k passes in
+          let (q, here) = get_among i s.watches.short.items among in
+          let within = is.shorts q i here in
+          subst (λ (ks : List (List ℤ)). i < length ks) (sym clauses) (omega (arith, length-take k s.clauses));
+      bound = elim still [ inl none ↦ omega arith | inr (all, same) ↦ (let b = is.bound in omega arith) ];
+      short_bound = omega arith;
+      bounds = λ j r at. absurd (let less = slice_get_within s.levels.items j r at in omega (arith, ap length base));
+      reached = λ j r at. absurd (let less = slice_get_within s.levels.items j r at in omega (arith, ap length base));
+      now = subst (λ (ks : List (List ℤ)). IsReached ks w t.entries.items (record { entries = length t.entries.items; visited = v; settled = 0 })) (sym clauses) (elim still [
+        | inl none ↦ subst (λ (m : ℕ). IsReached known w t.entries.items (record { entries = length t.entries.items; visited = m; settled = 0 })) (sym none) (reached-none known w t.entries.items (length t.entries.items))
+        | inr (all, same) ↦
+            let whole : t.entries.items ≡ es = entries ∙ take_all n es all in
+            subst (λ (m : ℕ). IsReached known w t.entries.items (record { entries = length t.entries.items; visited = m; settled = 0 })) (sym same)
+            (subst (λ (xs : List Entry). IsReached known w xs (record { entries = length xs; visited = s.visited; settled = 0 })) (sym whole)
+            (reached-first k s.clauses s.watches w es s.visited s.settled pairs is.now))
+      ]);
+    }
+
+-- ---- one more variable
+covered-more : (known : List (List ℤ)) (ps ps' : List ℕ) → length ps ≤ length ps' → AllByRecursion (AreCovered ps) known → AllByRecursion (AreCovered ps') known
+covered-more known ps ps' longer all = all_weaker (AreCovered ps) (AreCovered ps') (λ c covered. all_weaker (λ (l : ℤ). unsigned_abs l < length ps) (λ (l : ℤ). unsigned_abs l < length ps') (λ l less. omega arith) c covered) known all
+
+-- what a clause watches has a list
+watched-within : (known : List (List ℤ)) (ps : List ℕ) (w : Watches) (i : ℕ) (p : Pair) (l : ℤ) → AreWatched known w → AllByRecursion (AreCovered ps) known → slice_get w.pairs.items i ≡ Some p → IsLiteral l → IsOf l p → place l < 2 * length ps
+watched-within known ps w i p l is covered at literal of =
+    let less = slice_get_within w.pairs.items i p at in
+    let (c, here) = slice_get_below known i (omega (arith, is.sized)) in
+    let (has, long) = is.paired i c p here at in
+    let pair : ArePair c p = has (long l literal of) in
+    let among : IsAmong l c = elim of [ inl e ↦ subst (λ (k : ℤ). IsAmong k c) e pair.first | inr e ↦ subst (λ (k : ℤ). IsAmong k c) e pair.second ] in
+    place-within l (length ps) (all_among (λ (k : ℤ). unsigned_abs k < length ps) c l (all_get (AreCovered ps) known i c covered here) among)
+
+placed-more : (es : List Entry) (ps : List ℕ) → ArePlaced es ps → ArePlaced es (ps ++ 0 ∷ [])
+placed-more es ps is i less =
+    let (literal, within, at) = is i less in
+    (literal, omega (arith, length-append ps (0 ∷ [])), get_or_append_left ps (0 ∷ []) 0 (unsigned_abs (literal_at es i)) within ∙ at)
+
+pub state-widened : (s : State) (t : Trail) (w : Watches) → IsState s → length s.trail.positions.items < 2 ^ 63 → t.entries.items ≡ s.trail.entries.items → t.positions.items ≡ s.trail.positions.items ++ 0 ∷ []
+    → IsWidened s.watches.lists.items w.lists.items → w.pairs.items ≡ s.watches.pairs.items → w.short.items ≡ s.watches.short.items
+    → IsState (record { clauses = s.clauses; chains = s.chains; trail = t; watches = w; levels = s.levels; visited = s.visited; settled = s.settled })
+state-widened s t w is fits entries positions (more, lists, two) pairs short =
+    let ps : List ℕ = s.trail.positions.items in
+    let size : length t.positions.items ≡ length ps + 1 = omega (arith, ap length positions, length-append ps (0 ∷ [])) in
+    let reached : (r : Reach) → IsReached s.clauses s.watches s.trail.entries.items r → IsReached s.clauses w t.entries.items r = λ r h.
+    subst (λ (es : List Entry). IsReached s.clauses w es r) (sym entries) (reached-list s.clauses s.watches w s.trail.entries.items r pairs short h) in
+    record {
+      some = omega arith;
+      fits = omega arith;
+      lists = omega (arith, ap length lists, length-append s.watches.lists.items more, is.lists);
+      chains = is.chains;
+      trail = record {
+        clauses = is.trail.clauses;
+        covered = covered-more s.clauses ps t.positions.items (omega arith) is.trail.covered;
+        placed = subst (ArePlaced t.entries.items) (sym positions) (subst (λ (xs : List Entry). ArePlaced xs (ps ++ 0 ∷ [])) (sym entries) (placed-more s.trail.entries.items ps is.trail.placed));
+        explained = subst (AreExplained s.clauses) (sym entries) is.trail.explained;
+      };
+      levelled = subst AreLevelled (sym entries) is.levelled;
+      starts = subst (λ (xs : List Entry). AreStarts xs s.levels.items) (sym entries) is.starts;
+      watched = record {
+        sized = ap length pairs ∙ is.watched.sized;
+        paired = λ i c p known at. is.watched.paired i c p known (subst (λ (xs : List Pair). slice_get xs i ≡ Some p) pairs at);
+        listed = λ i p l at literal of.
+            let at' : slice_get s.watches.pairs.items i ≡ Some p = subst (λ (xs : List Pair). slice_get xs i ≡ Some p) pairs at in
+            let less : place l < length s.watches.lists.items = (let b = watched-within s.clauses ps s.watches i p l is.watched is.trail.covered at' literal of in omega (arith, is.lists)) in
+            λ list here. is.watched.listed i p l at' literal of list (sym (slice_get-append_left s.watches.lists.items more (place l) less) ∙ subst (λ (ls : List (Vec ℕ Global)). slice_get ls (place l) ≡ Some list) lists here);
+        short = λ i c known none. subst (λ (xs : List ℕ). IsAmong i xs) (sym short) (is.watched.short i c known none);
+      };
+      shorts = λ j i at. is.shorts j i (subst (λ (xs : List ℕ). slice_get xs j ≡ Some i) short at);
+      bound = (let b = is.bound in omega (arith, ap length entries));
+      short_bound = (let b = is.short_bound in omega (arith, ap length short));
+      bounds = λ k r at. let (b, n) = is.bounds k r at in (b, omega (arith, ap length short));
+      reached = λ k r at. reached r (is.reached k r at);
+      now = subst (λ (n : ℕ). IsReached s.clauses w t.entries.items (record { entries = n; visited = s.visited; settled = s.settled })) (sym (ap length entries)) (reached (record { entries = length s.trail.entries.items; visited = s.visited; settled = s.settled }) is.now);
+    }
+
+-- lists that were added and taken off again
+pub same-lists : (old between new : List (Vec ℕ Global)) (n : ℕ) → IsWidened old between → n ≡ length old → new ≡ take n between → new ≡ old
+same-lists old between new n (more, e, two) size cut = cut ∙ ap (take n) e ∙ ap (λ (m : ℕ). take m (old ++ more)) size ∙ take-append_seam old more
+
+pub kept-same : (old new : Watches) → new.lists.items ≡ old.lists.items → AreKept old new
+kept-same old new same = record {
+  sized = ap length same;
+  listed = λ l i listed. subst (λ (ls : List (Vec ℕ Global)). IsListed ls l i) (sym same) listed;
+}
+
+pub placed-same : (old new : Trail) → new.entries.items ≡ old.entries.items → new.positions.items ≡ old.positions.items → ArePlaced old.entries.items old.positions.items → ArePlaced new.entries.items new.positions.items
+placed-same old new entries positions placed = subst (ArePlaced new.entries.items) (sym positions) (subst (λ (es : List Entry). ArePlaced es old.positions.items) (sym entries) placed)

@@ -1,0 +1,257 @@
+//! A list of clauses that is made ready for many searches.
+
+ghost use Rattle.std.specs.Prelude.{◌≡◌, [], ◌∷◌, ◌++◌, ◌+◌, ◌<◌, ◌≤◌, ◌^◌, ℤ, List, length, take, IfOk, OnOk, OnErr};
+ghost use Rattle.std.specs.List.{AllByRecursion};
+ghost use Rattle.mcs_trace.specs.Clauses.{IsClause, IsClauseList, IsWithin};
+ghost use Rattle.mcs_sat.specs.Answers.{IsAnswer, IsExact, IsSettled};
+ghost use Rattle.mcs_sat.specs.States.{IsState};
+ghost use Rattle.mcs_sat.specs.Stores.{ArePlaces, IsFrontOf, given};
+
+use crate::adding::{add, cut, widen};
+use crate::order::Order;
+use crate::outcome::Outcome;
+use crate::solving::{assignment_of, go_back, outcome_of};
+use crate::state::State;
+use mcs_base::Memory;
+use mcs_trace::{Clause, Cnf};
+use std::alloc::Global;
+use std::marker::Model;
+
+/// Clauses over the variables 1 to `vars`, numbered from 1 in their order, ready for many searches, between which
+/// clauses are added or taken off. From one search to the next it keeps what was learnt from clauses that stay, the
+/// literals that are true before any decision, and the order of the variables with their last values.
+#[derive(Drop)]
+pub struct ClauseBase {
+    state: State,
+    order: Order,
+    places: Vec<usize>,
+    vars: u64,
+}
+
+impl Model for ClauseBase {
+    ghost use Rattle.mcs_trace.specs.Clauses.{ClauseList};
+    ghost use Rattle.mcs_sat.specs.Stores.{IsBase, list_of};
+
+    ghost Value = { ClauseList };
+
+    ghost view = { λ b. list_of b.state b.vars };
+
+    ghost invariant = { λ b. IsBase b.state b.places.items b.vars };
+}
+
+/// Leaves the first `count` of the clauses that were given, which stand at the places, with what was learnt before the
+/// first one that goes.
+fn leave_first(state: &mut State, order: &mut Order, places: &mut Vec<usize>, count: usize)
+    requires state { IsState state.old }
+    requires base { state.old.levels.items ≡ [] }
+    requires places { ArePlaces state.old.chains places.old.items }
+    ensures kept { IsState state.new }
+    ensures base { state.new.levels.items ≡ [] }
+    ensures positions { state.new.trail.positions.items ≡ state.old.trail.positions.items }
+    ensures clauses { given state.new.clauses state.new.chains ≡ take count (given state.old.clauses state.old.chains) }
+    ensures places { ArePlaces state.new.chains places.new.items }
+{
+    if count < places.len() {
+        cut(state, order, places[count]);
+        places.truncate(count);
+    }
+}
+
+/// Makes room for the variable, where there is none yet.
+fn make_room(state: &mut State, order: &mut Order, variable: usize) -> Result<(), Memory>
+    requires state { IsState state.old }
+    requires next { variable ≤ length state.old.trail.positions.items }
+    requires fits { variable < 2 ^ 63 }
+    ensures kept { IsState state.new }
+    ensures levels { state.new.levels.items ≡ state.old.levels.items }
+    ensures clauses { state.new.clauses ≡ state.old.clauses }
+    ensures chains { state.new.chains ≡ state.old.chains }
+    ensures longer { length state.old.trail.positions.items ≤ length state.new.trail.positions.items }
+    ensures room { OnOk result (variable < length state.new.trail.positions.items) }
+{
+    if variable >= state.trail.positions.len() {
+        order.widen(variable)?;
+        widen(state)?;
+    }
+    Ok(())
+}
+
+impl ClauseBase {
+    /// No clauses, over the variables 1 to `vars`.
+    pub fn new(alloc: Global, vars: u64) -> Result<ClauseBase, Memory>
+        requires { vars < 2 ^ 63 }
+        ensures { IfOk result (λ b. b ≡ record { vars = vars; clauses = [] }) }
+    {
+        let order = Order::new(alloc, vars)?;
+        match State::new(alloc, vars) {
+            Ok(state) => Ok(ClauseBase {
+                state,
+                order,
+                places: Vec::new(alloc),
+                vars,
+            }),
+            Err(error) => {
+                drop(order);
+                Err(error)
+            }
+        }
+    }
+
+    /// The clauses of the list.
+    pub fn of(alloc: Global, cnf: &Cnf) -> Result<ClauseBase, Memory>
+        ensures { IfOk result (λ b. b ≡ cnf.now) }
+    {
+        let mut base = ClauseBase::new(alloc, cnf.vars())?;
+        match base.append(cnf) {
+            Ok(()) => Ok(base),
+            Err(error) => {
+                drop(base);
+                Err(error)
+            }
+        }
+    }
+
+    /// How many variables there are.
+    pub fn vars(&self) -> u64
+        ensures value { result ≡ self.now.vars }
+        ensures kept { IsClauseList self.now }
+    {
+        self.vars
+    }
+
+    /// How many clauses there are.
+    pub fn count(&self) -> usize
+        ensures { result ≡ length self.now.clauses }
+    {
+        self.places.len()
+    }
+
+    /// Adds a variable, which no clause has yet; its number is the next one. Where memory runs out, there are as many as
+    /// before.
+    pub fn add_variable(&mut self) -> Result<u64, Memory>
+        requires { self.old.vars + 1 < 2 ^ 63 }
+        ensures number { IfOk result (λ number. number ≡ self.old.vars + 1) }
+        ensures ok { OnOk result (self.new ≡ record self.old { vars = self.old.vars + 1 }) }
+        ensures err { OnErr result (self.new ≡ self.old) }
+    {
+        make_room(&mut self.state, &mut self.order, self.vars as usize + 1)?;
+        self.vars += 1;
+        Ok(self.vars)
+    }
+
+    /// Adds a clause at the end, whose variables are those of the list. Where memory runs out, the list is as before.
+    pub fn add(&mut self, literals: &[i64]) -> Result<(), Memory>
+        requires clause { IsClause literals.now }
+        requires within { IsWithin self.old.vars literals.now }
+        ensures ok { OnOk result (self.new ≡ record self.old { clauses = self.old.clauses ++ literals.now ∷ [] }) }
+        ensures err { OnErr result (self.new ≡ self.old) }
+    {
+        self.places.push(self.state.clauses.len())?;
+        if let Err(error) = add(&mut self.state, literals) {
+            self.places.pop();
+            return Err(error);
+        }
+        Ok(())
+    }
+
+    /// Adds variables up to the number.
+    fn widen_to(&mut self, vars: u64) -> Result<(), Memory>
+        requires more { self.old.vars ≤ vars }
+        requires fits { vars < 2 ^ 63 }
+        ensures clauses { self.new.clauses ≡ self.old.clauses }
+        ensures bound { (self.old.vars ≤ self.new.vars) × (self.new.vars ≤ vars) }
+        ensures ok { OnOk result (self.new.vars ≡ vars) }
+    {
+        while self.vars < vars {
+            self.add_variable()?;
+        }
+        Ok(())
+    }
+
+    /// Adds the clauses; where memory runs out, the first ones of these alone.
+    fn add_all(&mut self, clauses: &[Clause]) -> Result<(), Memory>
+        requires { AllByRecursion (λ c. IsClause c × IsWithin self.old.vars c) clauses.now }
+        ensures vars { self.new.vars ≡ self.old.vars }
+        ensures added { IsFrontOf self.old.clauses self.new.clauses }
+        ensures ok { OnOk result (self.new.clauses ≡ self.old.clauses ++ clauses.now) }
+    {
+        for clause in clauses {
+            self.add(clause.literals())?;
+        }
+        Ok(())
+    }
+
+    /// Adds the clauses of a list over the same variables and perhaps more. Where memory runs out, nothing is added.
+    pub fn append(&mut self, cnf: &Cnf) -> Result<(), Memory>
+        requires { self.old.vars ≤ cnf.now.vars }
+        ensures ok { OnOk result (self.new ≡ record { vars = cnf.now.vars; clauses = self.old.clauses ++ cnf.now.clauses }) }
+        ensures err { OnErr result (self.new ≡ self.old) }
+    {
+        let vars = self.vars();
+        let count = self.count();
+        let done = self.append_part(cnf);
+        if done.is_err() {
+            self.cut(vars, count);
+        }
+        done
+    }
+
+    /// As `append`; where memory runs out, a part of it is added.
+    fn append_part(&mut self, cnf: &Cnf) -> Result<(), Memory>
+        requires { self.old.vars ≤ cnf.now.vars }
+        ensures vars { self.old.vars ≤ self.new.vars }
+        ensures added { IsFrontOf self.old.clauses self.new.clauses }
+        ensures ok { OnOk result (self.new ≡ record { vars = cnf.now.vars; clauses = self.old.clauses ++ cnf.now.clauses }) }
+    {
+        self.widen_to(cnf.vars())?;
+        self.add_all(cnf.clauses())
+    }
+
+    /// Leaves the first `count` clauses, over the variables 1 to `vars`, which have to be those of the clauses that are
+    /// left. What was learnt before the first clause that goes stays.
+    pub fn cut(&mut self, vars: u64, count: usize)
+        requires fewer { vars ≤ self.old.vars }
+        requires within { AllByRecursion (IsWithin vars) (take count self.old.clauses) }
+        ensures { self.new ≡ record { vars = vars; clauses = take count self.old.clauses } }
+    {
+        leave_first(&mut self.state, &mut self.order, &mut self.places, count);
+        self.vars = vars;
+    }
+
+    /// An assignment that satisfies the clauses, with a value for each variable; or, exactly where there is none, a trace
+    /// that is accepted, in which each step but the last is named by a later one. The list stays as it is.
+    pub fn solve(&mut self) -> Result<Outcome, Memory>
+        ensures same { self.new ≡ self.old }
+        ensures answer { IfOk result (IsAnswer self.old) }
+        ensures exact { IfOk result (IsExact self.old) }
+    {
+        let count = self.places.len();
+        let outcome = outcome_of(&mut self.state, &mut self.order, self.vars, count);
+        go_back(&mut self.state, &mut self.order);
+        outcome
+    }
+
+    /// The same without a trace: an assignment that satisfies the clauses, or `None` exactly where there is none.
+    pub fn satisfy(&mut self) -> Result<Option<Vec<bool>>, Memory>
+        ensures same { self.new ≡ self.old }
+        ensures exact { IfOk result (IsSettled self.old) }
+    {
+        let found = assignment_of(&mut self.state, &mut self.order, self.vars);
+        go_back(&mut self.state, &mut self.order);
+        found
+    }
+}
+
+/// An assignment that satisfies the clauses, with a value for each variable; or, exactly where there is
+/// none, a trace that is accepted. The search makes literals true, learns from each clause that becomes
+/// false, and jumps back (Marques-Silva and Sakallah 1996); it decides first on variables that took part in
+/// recent conflicts (Moskewicz, Madigan, Zhao, Zhang and Malik 2001).
+pub fn solve(alloc: Global, cnf: &Cnf) -> Result<Outcome, Memory>
+    ensures answer { IfOk result (IsAnswer cnf.now) }
+    ensures exact { IfOk result (IsExact cnf.now) }
+{
+    let mut base = ClauseBase::of(alloc, cnf)?;
+    let outcome = base.solve();
+    drop(base);
+    outcome
+}

@@ -1,0 +1,80 @@
+//! What a search comes to, and the way back from it.
+
+ghost use Rattle.std.specs.Prelude.{◌≡◌, [], ◌<◌, length, IfOk};
+ghost use Rattle.std.specs.List.{AllByRecursion};
+ghost use Rattle.mcs_trace.specs.Clauses.{IsWithin};
+ghost use Rattle.mcs_sat.specs.Answers.{IsAnswer, IsExact, IsSettled};
+ghost use Rattle.mcs_sat.specs.States.{IsState};
+ghost use Rattle.mcs_sat.specs.Stores.{IsLater, given, given_count, list_of};
+
+use crate::model::model_of;
+use crate::order::Order;
+use crate::outcome::Outcome;
+use crate::search::search;
+use crate::state::{State, back};
+use crate::trace::trace_of;
+use mcs_base::Memory;
+
+/// What a search comes to: an assignment, or a trace.
+pub(crate) fn outcome_of(
+    state: &mut State,
+    order: &mut Order,
+    vars: u64,
+    count: usize,
+) -> Result<Outcome, Memory>
+    requires state { IsState state.old }
+    requires base { state.old.levels.items ≡ [] }
+    requires room { vars < length state.old.trail.positions.items }
+    requires within { AllByRecursion (IsWithin vars) (given state.old.clauses state.old.chains) }
+    requires count { count ≡ given_count state.old.chains }
+    ensures later { IsLater state.old state.new }
+    ensures answer { IfOk result (IsAnswer (list_of state.old vars)) }
+    ensures exact { IfOk result (IsExact (list_of state.old vars)) }
+{
+    let alloc = *state.levels.allocator();
+    order.begin();
+    match search(alloc, state, order)? {
+        None => Ok(Outcome::Model(model_of(alloc, &state.trail, vars)?)),
+        Some(index) => Ok(Outcome::Refuted(trace_of(alloc, state, count, index)?)),
+    }
+}
+
+/// What a search comes to where no trace is wanted: an assignment, or none.
+pub(crate) fn assignment_of(
+    state: &mut State,
+    order: &mut Order,
+    vars: u64,
+) -> Result<Option<Vec<bool>>, Memory>
+    requires state { IsState state.old }
+    requires base { state.old.levels.items ≡ [] }
+    requires room { vars < length state.old.trail.positions.items }
+    requires within { AllByRecursion (IsWithin vars) (given state.old.clauses state.old.chains) }
+    ensures later { IsLater state.old state.new }
+    ensures exact { IfOk result (IsSettled (list_of state.old vars)) }
+{
+    let alloc = *state.levels.allocator();
+    order.begin();
+    match search(alloc, state, order)? {
+        None => Ok(Some(model_of(alloc, &state.trail, vars)?)),
+        Some(_index) => Ok(None),
+    }
+}
+
+/// Takes back all that was decided, and gives its variables back to the order.
+pub(crate) fn go_back(state: &mut State, order: &mut Order)
+    requires { IsState state.old }
+    ensures later { IsLater state.old state.new }
+    ensures base { state.new.levels.items ≡ [] }
+{
+    release(state, order);
+    back(state, 0);
+}
+
+/// Gives the variables back to the order that have their values from levels above 0.
+fn release(state: &State, order: &mut Order) {
+    if let Some(reach) = state.levels.first()
+        && let Some(entries) = state.trail.entries.get(reach.entries..)
+    {
+        order.release(entries);
+    }
+}
