@@ -1,5 +1,5 @@
 -- An assignment of variables, read as a set of places of atoms, refutes that a formula follows.
-use Rattle.std.proofs.Common.{◌≡◌, ℕ, ◌+◌, ◌-◌, ◌<◌, ◌≤◌, zero, suc, Bool, true, false, ◌&&◌, ◌||◌, ltb, cond, List, [], ◌∷◌, length, get_or, take, arith, refl, sym, ap, ◌∙◌, subst, true≢false, ℤ}
+use Rattle.std.proofs.Common.{◌≡◌, ℕ, ◌+◌, ◌-◌, ◌<◌, ◌≤◌, zero, suc, Bool, true, false, ◌&&◌, ◌||◌, ltb, cond, List, [], ◌∷◌, ◌++◌, length, get_or, take, arith, refl, sym, ap, ◌∙◌, subst, true≢false, ℤ}
 use Rattle.std.proofs.lemmas.Bool.{and_parts, or_parts}
 use Rattle.std.proofs.lemmas.Bool.Decides.{nat_tests}
 use Rattle.std.specs.List.{AllByRecursion}
@@ -121,3 +121,11 @@ answer_yes fs g names known new steps is pushed accepted = subst (λ (x : Clause
 
 pub room_known : (names : List Name) (known : ClauseList) (fs : List Formula) → known ≡ clause_list names fs → length names ≤ known.vars
 room_known names known fs is = let e : known.vars ≡ taken_by_all (length names) fs = ap (λ (x : ClauseList). x.vars) is in omega (arith, all_take_grow (length names) fs)
+
+-- ---- clauses that are made apart
+pub formula_apart : (names : List Name) (f : Formula) (known more new : ClauseList) → more ≡ with_formulas names (record { vars = known.vars; clauses = [] }) (f ∷ []) → new ≡ record { vars = more.vars; clauses = known.clauses ++ more.clauses } → new ≡ with_formulas names known (f ∷ [])
+formula_apart names f known more new made added = added ∙ ap (λ (m : ClauseList). (let g : ClauseList = record { vars = m.vars; clauses = known.clauses ++ m.clauses } in g)) made
+
+-- no clauses, over the variables of a list
+pub none_apart : (known empty : ClauseList) (n : ℕ) → n ≡ known.vars → empty ≡ record { vars = n; clauses = [] } → empty ≡ record { vars = known.vars; clauses = [] }
+none_apart known empty n value is = is ∙ ap (λ (m : ℕ). (let f : ClauseList = record { vars = m; clauses = [] } in f)) value

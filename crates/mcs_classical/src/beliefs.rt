@@ -13,9 +13,10 @@ ghost use Rattle.mcs_cnf.specs.ClauseLists.{clause_list, AreOver};
 ghost use Rattle.mcs_cnf.specs.Classical.{IsAcceptedClassical, certificate_of};
 ghost use Rattle.mcs_cnf.specs.Entailments.{entailment_of, says_yes};
 
-use crate::consequence::entails_from;
+use crate::consequence::entails_in;
 use mcs_base::{Memory, Vars};
 use mcs_cnf::clauses;
+use mcs_sat::ClauseBase;
 use mcs_system::{Formula, Name};
 use mcs_trace::{ClassicalCert, Cnf, Entail};
 use std::alloc::Global;
@@ -57,11 +58,11 @@ pub fn outputs(
 }
 
 /// The same of formulas whose clauses are `known`, and of beliefs that are lent one by one. The clauses of each belief are
-/// added for the search and taken off again, so that `known` is as before and serves for the next question, also where
-/// memory runs out.
-pub fn outputs_from(
+/// added for the search and taken off again, so that `known` is as before and serves for the next question, with what was
+/// learnt from it, also where memory runs out.
+pub fn outputs_in(
     alloc: Global,
-    known: &mut Cnf,
+    known: &mut ClauseBase,
     beliefs: &[&Formula],
     atoms: &[Name],
 ) -> Result<(Vars, ClassicalCert), Memory>
@@ -79,9 +80,33 @@ pub fn outputs_from(
     let mut state = Vars::empty();
     let mut entails = Vec::new(alloc);
     for (number, belief) in beliefs.iter().enumerate() {
-        let entail = entails_from(alloc, known, belief, atoms)?;
+        let entail = entails_in(alloc, known, belief, atoms)?;
         state = with_yes(state, number as u32, &entail);
         entails.push(entail)?;
     }
     Ok((state, ClassicalCert { entails }))
+}
+
+/// The same of a list of clauses, which is made ready once for all beliefs and stays as it is.
+pub fn outputs_from(
+    alloc: Global,
+    known: &mut Cnf,
+    beliefs: &[&Formula],
+    atoms: &[Name],
+) -> Result<(Vars, ClassicalCert), Memory>
+    requires few { length atoms.now ≤ 64 }
+    requires few_beliefs { length beliefs.now ≤ 64 }
+    requires different { has_twins atoms.now ≡ false }
+    requires beliefs { AreOver atoms.now (map (λ b. formula_of b.now) beliefs.now) }
+    requires room { length atoms.now ≤ known.old.vars }
+    ensures kept { known.new ≡ known.old }
+    ensures exact { IfOk result (λ r. (fs : List plain.Formula) → known.old ≡ clause_list atoms.now fs → AreOver atoms.now fs
+        → IsListing (IsAcceptedView (Classical fs) (map (λ b. formula_of b.now) beliefs.now)) StateBefore (r.0 ∷ [])) }
+    ensures accepted { IfOk result (λ r. (fs : List plain.Formula) → known.old ≡ clause_list atoms.now fs → AreOver atoms.now fs
+        → IsAcceptedClassical atoms.now fs (map (λ b. formula_of b.now) beliefs.now) (r.0 ∷ []) (certificate_of r.1)) }
+{
+    let mut base = ClauseBase::of(alloc, known)?;
+    let shown = outputs_in(alloc, &mut base, beliefs, atoms);
+    drop(base);
+    shown
 }

@@ -1,25 +1,74 @@
 //! Whether a formula follows.
 
-ghost use Rattle.std.specs.Prelude.{◌≡◌, ◌≤◌, ◌↔◌, List, false, length, map, IsTrue, IfOk, OnOk};
+ghost use Rattle.std.specs.Prelude.{◌≡◌, ◌≤◌, ◌↔◌, ◌∷◌, [], List, false, length, map, IsTrue, IfOk, OnOk, OnErr};
 ghost use Rattle.mcs_system.specs.Faults.{has_twins};
 ghost use Rattle.mcs_system.specs.Logic.{Entails};
 ghost use Rattle.mcs_system.specs.Plain as plain;
 ghost use Rattle.mcs_system.specs.Seen.{formula_of};
-ghost use Rattle.mcs_cnf.specs.ClauseLists.{clause_list, IsOver, AreOver};
+ghost use Rattle.mcs_cnf.specs.ClauseLists.{clause_list, with_formulas, IsOver, AreOver};
 ghost use Rattle.mcs_cnf.specs.Entailments.{entailment_of, says_yes, IsAcceptedEntailment};
 
 use crate::refuting::true_places;
 use mcs_base::Memory;
 use mcs_cnf::{clauses, push_negation};
-use mcs_sat::{Outcome, solve};
+use mcs_sat::{ClauseBase, Outcome};
 use mcs_system::{Formula, Name};
 use mcs_trace::{Cnf, Entail};
 use std::alloc::Global;
 
+/// Adds the clauses of the negated goal. Where memory runs out, what is known is as before.
+fn push_goal(
+    alloc: Global,
+    known: &mut ClauseBase,
+    goal: &Formula,
+    atoms: &[Name],
+) -> Result<(), Memory>
+    requires goal { IsOver atoms.now (formula_of goal.now) }
+    requires room { length atoms.now ≤ known.old.vars }
+    ensures ok { OnOk result (known.new ≡ with_formulas atoms.now known.old (plain.Not (formula_of goal.now) ∷ [])) }
+    ensures err { OnErr result (known.new ≡ known.old) }
+{
+    let mut more = Cnf::new(alloc, known.vars());
+    push_negation(alloc, &mut more, atoms, goal)?;
+    let added = known.append(&more);
+    drop(more);
+    added
+}
+
 /// Whether the goal follows from formulas whose clauses are `known`, with what shows it: a trace that refutes
 /// the formulas with the negated goal, or the places of the atoms that are true where the formulas hold and the
 /// goal does not. The goal's clauses are added for the search and taken off again, so that `known` is as before
-/// and serves for the next goal, also where memory runs out.
+/// and serves for the next goal, with what was learnt from it, also where memory runs out.
+pub fn entails_in(
+    alloc: Global,
+    known: &mut ClauseBase,
+    goal: &Formula,
+    atoms: &[Name],
+) -> Result<Entail, Memory>
+    requires few { length atoms.now ≤ 64 }
+    requires different { has_twins atoms.now ≡ false }
+    requires goal { IsOver atoms.now (formula_of goal.now) }
+    requires room { length atoms.now ≤ known.old.vars }
+    ensures kept { known.new ≡ known.old }
+    ensures accepted { IfOk result
+        (λ e. (fs : List plain.Formula) → known.old ≡ clause_list atoms.now fs → AreOver atoms.now fs
+        → IsAcceptedEntailment atoms.now fs (formula_of goal.now) (entailment_of e)) }
+    ensures exact { IfOk result
+        (λ e. (fs : List plain.Formula) → known.old ≡ clause_list atoms.now fs → AreOver atoms.now fs
+        → IsTrue (says_yes (entailment_of e)) ↔ Entails fs (formula_of goal.now)) }
+{
+    let vars = known.vars();
+    let count = known.count();
+    push_goal(alloc, known, goal, atoms)?;
+    let outcome = known.solve();
+    known.cut(vars, count);
+    match outcome? {
+        Outcome::Refuted(trace) => Ok(Entail::Yes(trace)),
+        Outcome::Model(values) => Ok(Entail::No(true_places(&values, atoms.len()).number())),
+    }
+}
+
+/// The same of a list of clauses, which is made ready for this goal alone and stays as it is.
 pub fn entails_from(
     alloc: Global,
     known: &mut Cnf,
@@ -38,15 +87,10 @@ pub fn entails_from(
         (λ e. (fs : List plain.Formula) → known.old ≡ clause_list atoms.now fs → AreOver atoms.now fs
         → IsTrue (says_yes (entailment_of e)) ↔ Entails fs (formula_of goal.now)) }
 {
-    let vars = known.vars();
-    let count = known.clauses().len();
-    push_negation(alloc, known, atoms, goal)?;
-    let outcome = solve(alloc, known);
-    known.cut(vars, count);
-    Ok(match outcome? {
-        Outcome::Refuted(trace) => Entail::Yes(trace),
-        Outcome::Model(values) => Entail::No(true_places(&values, atoms.len()).number()),
-    })
+    let mut base = ClauseBase::of(alloc, known)?;
+    let entail = entails_in(alloc, &mut base, goal, atoms);
+    drop(base);
+    entail
 }
 
 /// Whether the goal follows from the formulas, whose atoms and the goal's are among these, at most 64; with

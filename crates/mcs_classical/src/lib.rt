@@ -5,6 +5,6 @@ mod beliefs;
 mod consequence;
 mod refuting;
 
-pub use beliefs::{outputs, outputs_from};
-pub use consequence::{entails, entails_from};
+pub use beliefs::{outputs, outputs_from, outputs_in};
+pub use consequence::{entails, entails_from, entails_in};
 pub use refuting::true_places;

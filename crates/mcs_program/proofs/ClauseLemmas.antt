@@ -195,3 +195,7 @@ no_clauses names c is = subst (AreMeantBy names []) (sym is) (record {
   extends = λ a h. let (v, e, all) = extended [] names a tt refl in (v, e, refl);
   satisfied = λ a v e h. refl;
 })
+
+-- ---- clauses that are made apart
+pub clause_apart : (known more new : ClauseList) (ls : List ℤ) → more ≡ with_clause (record { vars = known.vars; clauses = [] }) ls → new ≡ record { vars = more.vars; clauses = known.clauses ++ more.clauses } → new ≡ with_clause known ls
+clause_apart known more new ls made added = added ∙ ap (λ (m : ClauseList). (let f : ClauseList = record { vars = m.vars; clauses = known.clauses ++ m.clauses } in f)) made

@@ -9,8 +9,8 @@ use Rattle.std.proofs.Math.Bool.{and-true, or-false}
 use Rattle.std.specs.Cmp.{both_ways}
 use Rattle.std.specs.Prelude.{nat_eq}
 use Rattle.std.specs.List.{AllByRecursion, AllZip, list_all}
-use Rattle.mcs_sets.specs.Sets.{has, single, union, common, such_that, Within, Meets}
-use Rattle.mcs_sets.proofs.SetLemmas.{within_where_common, common_where_within, meets_where_common, common_where_meets, below_power, has-empty, has-such_that, such_that-lt}
+use Rattle.mcs_sets.specs.Sets.{has, single, union, common, such_that, Meets}
+use Rattle.mcs_sets.proofs.SetLemmas.{meets_where_common, common_where_meets, below_power, has-empty, has-such_that, such_that-lt}
 use Rattle.mcs_sets.proofs.Lattice.{in_with, none_within}
 use Rattle.mcs_base.proofs.AntichainLemmas.{lies_within-is}
 use Rattle.mcs_base.proofs.Lists.{slice_get-map_at, zip_get_or, length_zip}

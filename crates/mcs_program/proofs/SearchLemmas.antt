@@ -4,13 +4,13 @@ use Rattle.std.proofs.lemmas.Bool.{and_parts, cases_lt}
 use Rattle.std.proofs.lemmas.Bool.Decides.{nat_tests}
 use Rattle.std.proofs.lemmas.List.Folds.{list_all-append}
 use Rattle.std.proofs.lemmas.List.{take-append-drop, map-append, length-drop, get_or-drop}
-use Rattle.std.specs.List.{AllByRecursion, AllZip, list_all}
+use Rattle.std.specs.List.{AllByRecursion, AllZip}
 use Rattle.mcs_sets.specs.Sets.{has, single}
 use Rattle.mcs_sets.specs.Orders.{StateBefore}
 use Rattle.mcs_sets.proofs.SetLemmas.{has-such_that, such_that-lt}
 use Rattle.mcs_base.specs.Listings.{IsAmong, IsAscending, IsListing}
 use Rattle.mcs_base.specs.StateOrder.{StateBefore-total, StateBefore-transitive}
-use Rattle.mcs_base.proofs.Each.{all_among, all_push, all_from_among, all_weaker}
+use Rattle.mcs_base.proofs.Each.{all_among, all_push, all_from_among}
 use Rattle.mcs_base.proofs.Among.{zip_among, drop_among}
 use Rattle.mcs_base.proofs.Ascending.{ascending_append, ascending_drop}
 use Rattle.mcs_base.proofs.Written.{list_all-insert}

@@ -9,7 +9,7 @@ ghost use Rattle.mcs_program.specs.Searches.{IsAnswerOf, IsFoundFor};
 
 use mcs_base::{Memory, Vars};
 use mcs_classical::true_places;
-use mcs_sat::{Outcome, solve};
+use mcs_sat::{ClauseBase, Outcome, solve};
 use mcs_system::Name;
 use mcs_trace::{Cnf, Trace};
 use std::alloc::Global;
@@ -36,17 +36,16 @@ pub(crate) fn ask(alloc: Global, cnf: &Cnf, atoms: &[Name]) -> Result<Answer, Me
 }
 
 /// The places of the atoms that are true under an assignment that satisfies all clauses; `None` where there is none.
-pub(crate) fn find_model(alloc: Global, cnf: &Cnf, atoms: &[Name]) -> Result<Option<Vars>, Memory>
+/// What is known stays as it is.
+pub(crate) fn find_model(known: &mut ClauseBase, atoms: &[Name]) -> Result<Option<Vars>, Memory>
     requires few { length atoms.now ≤ 64 }
     requires different { has_twins atoms.now ≡ false }
-    requires room { length atoms.now ≤ cnf.now.vars }
-    ensures { IfOk result (λ found. (fs : List plain.Formula) → AreMeantBy atoms.now fs cnf.now → IsFoundFor atoms.now fs found) }
+    requires room { length atoms.now ≤ known.old.vars }
+    ensures same { known.new ≡ known.old }
+    ensures found { IfOk result (λ found. (fs : List plain.Formula) → AreMeantBy atoms.now fs known.old → IsFoundFor atoms.now fs found) }
 {
-    Ok(match solve(alloc, cnf)? {
-        Outcome::Refuted(trace) => {
-            drop(trace);
-            None
-        }
-        Outcome::Model(values) => Some(true_places(&values, atoms.len())),
-    })
+    match known.satisfy()? {
+        Some(values) => Ok(Some(true_places(&values, atoms.len()))),
+        None => Ok(None),
+    }
 }

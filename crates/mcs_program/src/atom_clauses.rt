@@ -9,6 +9,7 @@ ghost use Rattle.mcs_program.specs.Clauses.{literal_of, literals_of, rule_litera
 
 use mcs_base::{Memory, Vars};
 use mcs_cnf::{atom_number, push_clause};
+use mcs_sat::ClauseBase;
 use mcs_system::{Name, ProgRule};
 use mcs_trace::Cnf;
 use std::alloc::Global;
@@ -102,10 +103,20 @@ fn other_literals(
     Ok(literals)
 }
 
+/// Adds the clauses of the list, which may be over more variables, and drops it.
+pub(crate) fn add_to(known: &mut ClauseBase, more: Cnf) -> Result<(), Memory>
+    requires { known.old.vars ≤ more.vars }
+    ensures { IfOk result (λ _. known.new ≡ record { vars = more.vars; clauses = known.old.clauses ++ more.clauses }) }
+{
+    let added = known.append(&more);
+    drop(more);
+    added
+}
+
 /// Adds the clause that the view of the beliefs is another one.
 pub(crate) fn push_other(
     alloc: Global,
-    cnf: &mut Cnf,
+    known: &mut ClauseBase,
     atoms: &[Name],
     beliefs: &[&Name],
     view: Vars,
@@ -113,9 +124,11 @@ pub(crate) fn push_other(
     requires few { length atoms.now ≤ 64 }
     requires few_beliefs { length beliefs.now ≤ 64 }
     requires beliefs { AreNamesOf atoms.now (map (λ b. b.now) beliefs.now) }
-    requires room { length atoms.now ≤ cnf.old.vars }
-    ensures { IfOk result (λ _. AddsFormula atoms.now (other_formula (map plain.Atom (map (λ b. b.now) beliefs.now)) view) cnf.old cnf.new) }
+    requires room { length atoms.now ≤ known.old.vars }
+    ensures { IfOk result (λ _. AddsFormula atoms.now (other_formula (map plain.Atom (map (λ b. b.now) beliefs.now)) view) known.old known.new) }
 {
     let literals = other_literals(alloc, atoms, beliefs, view)?;
-    push_clause(alloc, cnf, &literals)
+    let mut more = Cnf::new(alloc, known.vars());
+    push_clause(alloc, &mut more, &literals)?;
+    add_to(known, more)
 }

@@ -14,12 +14,13 @@ ghost use Rattle.mcs_program.specs.Searches.{IsModelOf, IsFoundFor, IsSearch, Is
 ghost use Rattle.mcs_program.specs.Placing.{IsPlaceOf, IsPlacing};
 
 use crate::answer::{Answer, ask, find_model};
-use crate::atom_clauses::{clauses_of_rules, push_other};
+use crate::atom_clauses::{add_to, clauses_of_rules, push_other};
 use crate::placing::Placing;
 use crate::small::{is_possible, made_small};
 use crate::view::{all_places, place_of, view_of};
 use mcs_base::{Memory, Vars};
 use mcs_evidence::{push_beside, smaller_clauses};
+use mcs_sat::ClauseBase;
 use mcs_system::{Name, ProgRule};
 use mcs_trace::{AnswerSetCert, Cnf, Trace};
 use std::alloc::Global;
@@ -28,7 +29,7 @@ use std::alloc::Global;
 /// that are none; and the views of those that were found, in the order of states, each with its model.
 #[derive(Drop)]
 pub struct Search {
-    pub known: Cnf,
+    pub known: ClauseBase,
     pub smaller: Vec<Vars>,
     pub views: Vec<Vars>,
     pub models: Vec<AnswerSetCert>,
@@ -41,7 +42,10 @@ impl Search {
         requires rules { AreOverRules atoms.now (map rule_of rules.now) }
         ensures { IfOk result (λ s. (beliefs : List plain.Formula) → IsSearch atoms.now (map rule_of rules.now) beliefs s) }
     {
-        let known = clauses_of_rules(alloc, atoms, rules)?;
+        let cnf = clauses_of_rules(alloc, atoms, rules)?;
+        let known = ClauseBase::of(alloc, &cnf);
+        drop(cnf);
+        let known = known?;
         Ok(Search {
             known,
             smaller: Vec::new(alloc),
@@ -63,9 +67,9 @@ impl Search {
         requires room { length atoms.now ≤ self.old.known.vars }
         ensures { IfOk result (λ _. IsExcluded atoms.now (map rule_of rules.now) less self.old self.new) }
     {
-        // That the clauses are over the variables that there are, which the list keeps, is told by their number.
-        let _ = self.known.vars();
-        push_beside(alloc, &mut self.known, atoms, rules, less)?;
+        let mut more = Cnf::new(alloc, self.known.vars());
+        push_beside(alloc, &mut more, atoms, rules, less)?;
+        add_to(&mut self.known, more)?;
         self.smaller.push(less)?;
         Ok(())
     }
@@ -163,26 +167,22 @@ impl Search {
 
     /// A model of what is known; `None` where there is none. Where all atoms together are one, none is searched for, as
     /// in a program without constraints until a view with all beliefs is found.
-    fn next_model(
-        &self,
-        alloc: Global,
-        atoms: &[Name],
-        placing: &Placing,
-    ) -> Result<Option<Vars>, Memory>
+    fn next_model(&mut self, atoms: &[Name], placing: &Placing) -> Result<Option<Vars>, Memory>
         requires few { length atoms.now ≤ 64 }
         requires few_beliefs { length placing.now.beliefs.items ≤ 64 }
         requires places { AllByRecursion (λ k. k < 64) placing.now.beliefs.items }
         requires different { has_twins atoms.now ≡ false }
-        requires room { length atoms.now ≤ self.now.known.vars }
-        requires ascending { IsAscending StateBefore self.now.views.items }
-        ensures { IfOk result (λ found. (rules : List plain.ProgramRule) (ns : List plain.Name) → IsPlacing atoms.now rules ns placing.now → IsSearch atoms.now rules (map plain.Atom ns) self.now
-            → IsFoundFor atoms.now (rest_formulas atoms.now rules (map plain.Atom ns) self.now.smaller.items self.now.views.items) found) }
+        requires room { length atoms.now ≤ self.old.known.vars }
+        requires ascending { IsAscending StateBefore self.old.views.items }
+        ensures same { self.new ≡ self.old }
+        ensures found { IfOk result (λ found. (rules : List plain.ProgramRule) (ns : List plain.Name) → IsPlacing atoms.now rules ns placing.now → IsSearch atoms.now rules (map plain.Atom ns) self.old
+            → IsFoundFor atoms.now (rest_formulas atoms.now rules (map plain.Atom ns) self.old.smaller.items self.old.views.items) found) }
     {
         let all = all_places(atoms.len());
         if is_possible(placing, self, all) {
             return Ok(Some(all));
         }
-        find_model(alloc, &self.known, atoms)
+        find_model(&mut self.known, atoms)
     }
 
     /// Looks for one more model of what is known, makes it small and takes it up; whether there was one.
@@ -206,7 +206,7 @@ impl Search {
             < sets_left atoms.now (map rule_of rules.now) (map plain.Atom (map (λ b. b.now) beliefs.now)) self.old) }
         ensures ends { IfOk result (λ goes. goes ≡ false → IsExhausted atoms.now (map rule_of rules.now) (map plain.Atom (map (λ b. b.now) beliefs.now)) self.new) }
     {
-        match self.next_model(alloc, atoms, placing)? {
+        match self.next_model(atoms, placing)? {
             Some(model) => {
                 let small = made_small(placing, self, model);
                 self.take_up(alloc, atoms, rules, beliefs, placing, small)?;

@@ -1,4 +1,4 @@
-use Rattle.std.proofs.Common.{◌≡◌, ◌∙◌, ℕ, true, sym, ap, arith}
+use Rattle.std.proofs.Common.{◌≡◌, ◌∙◌, true, sym, ap, arith}
 use Rattle.mcs_sets.specs.Sets.{single, union, such_that}
 use Rattle.mcs_sets.proofs.SetLemmas.{such_that-more, such_that-none}
 use Rattle.mcs_program.proofs.view.all_places.Goals as goal

@@ -3,7 +3,7 @@ use Rattle.mcs_system.specs.Plain.{Formula}
 use Rattle.mcs_system.specs.Seen.{formula_of}
 use Rattle.mcs_cnf.specs.ClauseLists.{clause_list, AreOver}
 use Rattle.mcs_classical.proofs.OutputLemmas.{IsShown}
-use Rattle.mcs_classical.proofs.beliefs.outputs_from.Given as goal
+use Rattle.mcs_classical.proofs.beliefs.outputs_in.Given as goal
 
 abbrev pub invariant-loop-number : goal.invariant-loop-number
 invariant-loop-number l =
