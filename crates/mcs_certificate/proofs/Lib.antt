@@ -1,1 +1,13 @@
-
+pub mod General
+pub mod PushLemmas
+pub mod AskingLemmas
+pub mod CoverLemmas
+pub mod KindLemmas
+pub mod AnswerLemmas
+pub mod OrderLemmas
+pub mod VerdictLemmas
+pub mod JudgingLemmas
+pub mod ModelLemmas
+pub mod CertifiedLemmas
+pub mod ShownLemmas
+pub mod TheoryLemmas

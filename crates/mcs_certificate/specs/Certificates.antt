@@ -1,11 +1,9 @@
 -- When a certificate is accepted as showing exactly what a context of a system accepts with the heads of some rules.
 use Rattle.std.specs.Prelude.{◌≡◌, ℕ, List, map, Some, slice_get}
-use Rattle.mcs_sets.specs.Orders.{StateBefore}
-use Rattle.mcs_base.specs.Listings.{IsListing}
 use Rattle.mcs_system.specs.Plain.{Name, Formula, Kb, Classical, DefaultTheory, Program, Context, System}
 use Rattle.mcs_system.specs.Logic.{with_heads}
 use Rattle.mcs_system.specs.Atoms.{atoms_of}
-use Rattle.mcs_system.specs.Systems.{variables_of, heads_into, IsAcceptedPart}
+use Rattle.mcs_system.specs.Systems.{variables_of, heads_into}
 use Rattle.mcs_system.specs.Views.{beliefs_at, at_places}
 use Rattle.mcs_cnf.specs.Entailments.{Entailment}
 use Rattle.mcs_cnf.specs.Classical.{IsAcceptedClassical, certificate_of}

@@ -1,5 +1,2 @@
-pub mod AskingLemmas
-pub mod CoverLemmas
-pub mod KindLemmas
 pub mod SystemSolvers
 pub mod ViewLemmas

@@ -1,28 +1,12 @@
--- What each kind of knowledge base wants of what it is told and asked, and what is kept of it.
-use Rattle.std.specs.Prelude.{◌≡◌, ℕ, IsTrue, List, [], ◌∷◌, ◌++◌, Option, IfSome, Some, slice_get}
-use Rattle.std.specs.List.{AllByRecursion}
+-- What is kept of a knowledge base.
+use Rattle.std.specs.Prelude.{◌≡◌, ℕ, List, [], ◌∷◌, ◌++◌, Option, IfSome, Some, slice_get}
 use Rattle.mcs_system.specs.Plain.{Name, Formula, Kb, Classical, DefaultTheory, Program, Context, System}
 use Rattle.mcs_system.specs.Atoms.{atoms_of}
 use Rattle.mcs_system.specs.Views.{IsAcceptedView}
-use Rattle.mcs_system.specs.Faults.{is_atom}
 use Rattle.mcs_sets.specs.Orders.{StateBefore}
 use Rattle.mcs_base.specs.Listings.{IsListing}
 use Rattle.mcs_trace.specs.Clauses.{ClauseList}
 use Rattle.mcs_cnf.specs.ClauseLists.{AreOver, clause_list}
-use Rattle.mcs_evidence.specs.Defaults.{AreOverItems}
-use Rattle.mcs_evidence.specs.Programs.{AreOverRules}
-
--- each atom of the knowledge base is one of the names
-abbrev pub IsOverKb : List Name → Kb → Type 0
-IsOverKb names (Classical formulas) = AreOver names formulas
-IsOverKb names (DefaultTheory items) = AreOverItems names items
-IsOverKb names (Program rules) = AreOverRules names rules
-
--- formulas that it may be told and asked: of a program atoms alone
-abbrev pub AreOfKind : Kb → List Formula → Type 0
-AreOfKind (Program rules) fs = AllByRecursion (λ (f : Formula). IsTrue (is_atom f)) fs
-AreOfKind (Classical formulas) fs = Unit {0}
-AreOfKind (DefaultTheory items) fs = Unit {0}
 
 -- ---- clauses that are kept
 -- if the clauses are those of formulas over the names, these accept this view alone with the heads

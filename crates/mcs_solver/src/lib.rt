@@ -1,7 +1,6 @@
 //! What one context of a system accepts, found by the logic of its kind.
 #![tactic(auto)]
 
-mod asking;
 mod parts;
 mod solver;
 mod views;

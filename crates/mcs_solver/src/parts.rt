@@ -6,9 +6,9 @@ ghost use Rattle.mcs_base.specs.Listings.{IsListing};
 ghost use Rattle.mcs_system.specs.Systems.{IsAcceptedPart};
 ghost use Rattle.mcs_solver.specs.Kinds.{IsMadeOfContext};
 
-use crate::asking::{beliefs_of, heads_into, parts_at};
 use crate::views::accepted_views;
 use mcs_base::{Active, Memory, Vars};
+use mcs_certificate::{beliefs_of, heads_into, parts_at};
 use mcs_system::System;
 use mcs_trace::Cnf;
 use std::alloc::Global;

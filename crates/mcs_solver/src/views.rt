@@ -12,7 +12,8 @@ ghost use Rattle.mcs_system.specs.Views.{IsAcceptedView};
 ghost use Rattle.mcs_cnf.specs.ClauseLists.{AreOver, clause_list, with_formulas};
 ghost use Rattle.mcs_default.specs.Theories.{IsGrown};
 ghost use Rattle.mcs_evidence.specs.Programs.{AreOverRules};
-ghost use Rattle.mcs_solver.specs.Kinds.{IsOverKb, AreOfKind, IsOnlyView, IsMadeOf};
+ghost use Rattle.mcs_certificate.specs.Kinds.{IsOverKb, AreOfKind};
+ghost use Rattle.mcs_solver.specs.Kinds.{IsOnlyView, IsMadeOf};
 
 use mcs_base::{Memory, Vars};
 use mcs_classical::outputs_from;

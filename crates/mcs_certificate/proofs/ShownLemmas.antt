@@ -1,0 +1,56 @@
+-- The places of entailments that say `yes`, and places in range.
+use Rattle.std.proofs.Common.{◌≡◌, ℕ, ◌<◌, ◌^◌, Bool, true, false, not, ◌&&◌, ltb, IsTrue, List, map, length, get_or, arith, refl, sym, ap, subst, ◌∙◌, ◌↔◌, Some, slice_get}
+use Rattle.std.proofs.lemmas.List.{length-map}
+use Rattle.std.proofs.lemmas.Option.{slice_get_within}
+use Rattle.mcs_base.proofs.Lists.{slice_get-map_some}
+use Rattle.std.proofs.lemmas.Bool.Decides.{nat_tests}
+use Rattle.mcs_sets.specs.Sets.{has}
+use Rattle.mcs_sets.proofs.SetLemmas.{members_below, has-such_that}
+use Rattle.mcs_sets.proofs.Lattice.{below_from_within}
+use Rattle.mcs_system.specs.Logic.{holds, holds_all, true_names}
+use Rattle.mcs_evidence.specs.Programs.{IsInRange}
+use Rattle.mcs_base.proofs.Mapped.{slice_get-map_read}
+use Rattle.mcs_system.specs.Plain.{Name, Formula}
+use Rattle.mcs_trace.specs.declared.certificate.Entail.{Entail}
+use Rattle.mcs_cnf.specs.Classical.{HasYes}
+use Rattle.mcs_cnf.specs.Entailments.{entailment_of, says_yes, IsRefuted}
+
+said_at : (es : List Entail) (i : ℕ) (e : Entail) (b : Bool) → i < length es → e ≡ get_or es i e → says_yes (entailment_of e) ≡ b → slice_get (map says_yes (map entailment_of es)) i ≡ Some b
+said_at es i e b less is said = slice_get-map_some says_yes (map entailment_of es) i (entailment_of e) (slice_get-map_read entailment_of es i e less is) ∙ some said
+  where
+    some : says_yes (entailment_of e) ≡ b → Some (says_yes (entailment_of e)) ≡ Some b
+    some h = cc
+
+pub yes_at : (es : List Entail) (i : ℕ) (e : Entail) → i < length es → e ≡ get_or es i e → says_yes (entailment_of e) ≡ true → HasYes (map entailment_of es) i
+yes_at es i e less is said = said_at es i e true less is said
+
+pub not_at : (es : List Entail) (i : ℕ) (e : Entail) → i < length es → e ≡ get_or es i e → says_yes (entailment_of e) ≡ false → ¬ HasYes (map entailment_of es) i
+not_at es i e less is said h = let impossible : Some false ≡ Some true = sym (said_at es i e false less is said) ∙ h in absurd (cc)
+
+pub yes_below : (es : List Entail) (b : ℕ) → HasYes (map entailment_of es) b → b < length es
+yes_below es b h = let inside = slice_get_within (map says_yes (map entailment_of es)) b true h in omega (arith, length-map (map entailment_of es) says_yes, length-map es entailment_of)
+
+-- ---- places in range
+range_low : (n s : ℕ) → ((k : ℕ) → has s k ≡ true → k < n) → s < 2 ^ n
+range_low n s low = below_from_within s n (λ k h. (let less : k < n = low k h in let is : ltb k n ≡ true = grind (arith, nat_tests) in has-such_that n (λ _. true) k ∙ ap (λ (b : Bool). b && true) is))
+
+pub range_test : (names : List Name) (s : ℕ) → IsTrue (ltb s (2 ^ length names)) ↔ IsInRange names s
+range_test names s = (
+  λ h k member. members_below s (length names) k (let test : ltb s (2 ^ length names) ≡ true = h in grind (arith, nat_tests)) member,
+  λ low. (let less : s < 2 ^ length names = range_low (length names) s low in grind (arith, nat_tests)),
+)
+
+pub refuted_iff : (names : List Name) (fs : List Formula) (g : Formula) (places values : ℕ) (b : Bool) → values ≡ places → b ≡ holds (true_names 0 names values) g → IsInRange names places → holds_all (true_names 0 names values) fs ≡ true
+    → IsTrue (not b) ↔ IsRefuted names fs g places
+refuted_iff names fs g places values b is told range all = (
+  λ h. record {
+    in_range = range;
+    formulas = subst (λ (v : ℕ). holds_all (true_names 0 names v) fs ≡ true) is all;
+    goal = subst (λ (v : ℕ). holds (true_names 0 names v) g ≡ false) is (sym told ∙ at b h);
+  },
+  λ r. ap not (told ∙ ap (λ (v : ℕ). holds (true_names 0 names v) g) is ∙ r.goal),
+)
+  where
+    at : (b : Bool) → not b ≡ true → b ≡ false
+    at true h = sym h
+    at false h = refl

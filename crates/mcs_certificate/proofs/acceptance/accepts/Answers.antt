@@ -1,0 +1,82 @@
+use Rattle.std.proofs.Common.{◌≡◌, ◌∙◌, ◌↔◌, IsTrue, ℕ, List, length, map, get_or, slice_get, Some, ap, subst, arith}
+use Rattle.std.proofs.lemmas.List.{length-map}
+use Rattle.std.proofs.lemmas.Slice.Eq.{slice_eq-Decides}
+use Rattle.std.specs.Cmp.{unsigned_Decides}
+use Rattle.mcs_base.proofs.Booleans.{false_tells}
+use Rattle.mcs_system.specs.Plain.{Name, Formula, Context, System}
+use Rattle.mcs_system.specs.Logic.{with_heads}
+use Rattle.mcs_system.specs.Seen.{formula_of, context_of}
+use Rattle.mcs_system.specs.Systems.{variables_of, heads_into}
+use Rattle.mcs_system.specs.Views.{at_places, beliefs_at}
+use Rattle.mcs_system.proofs.ValidLemmas.{few_defaults, few_variables}
+use Rattle.mcs_certificate.specs.Certificates.{plain_of, IsAcceptedFor}
+use Rattle.mcs_certificate.proofs.AnswerLemmas.{accepted_none, accepted_views, accepted_right, as_asked}
+use Rattle.mcs_certificate.proofs.AskingLemmas.{context_there}
+use Rattle.mcs_certificate.proofs.CoverLemmas.{own_over, heads_over, beliefs_over, few_beliefs}
+use Rattle.mcs_certificate.proofs.KindLemmas.{beliefs_of_kind}
+use Rattle.mcs_certificate.proofs.acceptance.accepts.Goals as goal
+
+pub shown_views-requires-clause-few_beliefs : goal.shown_views-requires-clause-few_beliefs
+shown_views-requires-clause-few_beliefs c =
+    let m : System = c.args.system.now in
+    let asked : map (λ f. formula_of f.now) c.deref-2.result.now ≡ beliefs_at m (variables_of m c.args.context) = ap (map (λ f. formula_of f.now)) c.deref-2.ensures.value ∙ c.in_ok-beliefs.ensures in
+    omega (arith, ap length asked, length-map c.deref-2.result.now (λ f. formula_of f.now), few_beliefs m c.args.context, few_variables m c.contexts.ensures.valid)
+
+pub shown_views-requires-clause-few_defaults : goal.shown_views-requires-clause-few_defaults
+shown_views-requires-clause-few_defaults c =
+    let m : System = c.args.system.now in
+    few_defaults m c.contexts.ensures.valid c.args.context _ (context_there m c.contexts.result.now c.args.context c.index-contexts-context.result c.contexts.ensures.value c.requires.context)
+
+pub shown_views-requires-clause-kb : goal.shown_views-requires-clause-kb
+shown_views-requires-clause-kb c =
+    let m : System = c.args.system.now in
+    rw c.atoms_of.ensures.value (own_over m c.args.context _ (context_there m c.contexts.result.now c.args.context c.index-contexts-context.result c.contexts.ensures.value c.requires.context))
+
+pub shown_views-requires-clause-heads : goal.shown_views-requires-clause-heads
+shown_views-requires-clause-heads c =
+    let m : System = c.args.system.now in
+    let told : map (λ f. formula_of f.now) c.deref.result.now ≡ heads_into m c.args.context c.args.active = ap (map (λ f. formula_of f.now)) c.deref.ensures.value ∙ c.in_ok-heads.ensures in
+    rw (c.atoms_of.ensures.value, told) (heads_over m c.args.context c.args.active)
+
+pub shown_views-requires-clause-beliefs : goal.shown_views-requires-clause-beliefs
+shown_views-requires-clause-beliefs c =
+    let m : System = c.args.system.now in
+    let asked : map (λ f. formula_of f.now) c.deref-2.result.now ≡ beliefs_at m (variables_of m c.args.context) = ap (map (λ f. formula_of f.now)) c.deref-2.ensures.value ∙ c.in_ok-beliefs.ensures in
+    rw (c.atoms_of.ensures.value, asked) (beliefs_over m c.args.context)
+
+pub shown_views-requires-clause-fitting_beliefs : goal.shown_views-requires-clause-fitting_beliefs
+shown_views-requires-clause-fitting_beliefs c =
+    let m : System = c.args.system.now in
+    let asked : map (λ f. formula_of f.now) c.deref-2.result.now ≡ beliefs_at m (variables_of m c.args.context) = ap (map (λ f. formula_of f.now)) c.deref-2.ensures.value ∙ c.in_ok-beliefs.ensures in
+    rw asked (beliefs_of_kind m c.contexts.ensures.valid c.args.context _ (context_there m c.contexts.result.now c.args.context c.index-contexts-context.result c.contexts.ensures.value c.requires.context))
+
+pub returns-in_default-clause-exact : goal.returns-in_default-clause-exact
+returns-in_default-clause-exact c =
+    let m : System = c.args.system.now in
+    let i = c.args.context in
+    let told : map (λ f. formula_of f.now) c.deref.result.now ≡ heads_into m i c.args.active = ap (map (λ f. formula_of f.now)) c.deref.ensures.value ∙ c.in_ok-heads.ensures in
+    let asked : map (λ f. formula_of f.now) c.deref-2.result.now ≡ beliefs_at m (variables_of m i) = ap (map (λ f. formula_of f.now)) c.deref-2.ensures.value ∙ c.in_ok-beliefs.ensures in
+    let d : Context = context_of (get_or c.contexts.result.now i c.index-contexts-context.result) in
+    let there : slice_get m.contexts i ≡ Some d = context_there m c.contexts.result.now i c.index-contexts-context.result c.contexts.ensures.value c.requires.context in
+    let none = rw c.in_default.is at c.in_ok-shown.ensures in
+    false_tells (accepted_none m i c.args.active c.args.outputs.now (plain_of c.args.cert.now) d there
+    (as_asked (λ (ns : List Name) (hs bs : List Formula). (views : List ℕ) → ¬ IsAcceptedFor ns (with_heads d.kb hs) bs views (plain_of c.args.cert.now)) _ _ _ _ _ _ c.atoms_of.ensures.value told asked none))
+
+pub returns-clause-exact : goal.returns-clause-exact
+returns-clause-exact c =
+    let m : System = c.args.system.now in
+    let i = c.args.context in
+    let told : map (λ f. formula_of f.now) c.deref.result.now ≡ heads_into m i c.args.active = ap (map (λ f. formula_of f.now)) c.deref.ensures.value ∙ c.in_ok-heads.ensures in
+    let asked : map (λ f. formula_of f.now) c.deref-2.result.now ≡ beliefs_at m (variables_of m i) = ap (map (λ f. formula_of f.now)) c.deref-2.ensures.value ∙ c.in_ok-beliefs.ensures in
+    let d : Context = context_of (get_or c.contexts.result.now i c.index-contexts-context.result) in
+    let there : slice_get m.contexts i ≡ Some d = context_there m c.contexts.result.now i c.index-contexts-context.result c.contexts.ensures.value c.requires.context in
+    let views : List ℕ = c.in-Some.views.items in
+    let parts : c.as_slice.result.now ≡ map (at_places (variables_of m i)) views =
+    c.as_slice.ensures.value ∙ c.in_ok-parts.ensures ∙ ap (map (at_places c.vars_of.result)) c.deref-3.ensures.value ∙ ap (λ (s : ℕ). map (at_places s) views) c.vars_of.ensures in
+    let shown = rw c.in-Some.is at c.in_ok-shown.ensures in
+    accepted_views m i c.args.active c.args.outputs.now (plain_of c.args.cert.now) d there views c.eq.result c.contexts.ensures.valid
+    (as_asked (λ (ns : List Name) (hs bs : List Formula). IsAcceptedFor ns (with_heads d.kb hs) bs views (plain_of c.args.cert.now)) _ _ _ _ _ _ c.atoms_of.ensures.value told asked shown)
+    (subst (λ (ps : List ℕ). IsTrue c.eq.result ↔ (ps ≡ c.args.outputs.now)) parts (slice_eq-Decides unsigned_Decides c.as_slice.result.now c.args.outputs.now c.eq.result c.eq.ensures))
+
+pub returns-clause-right : goal.returns-clause-right
+returns-clause-right c = λ h. accepted_right c.args.system.now c.args.context c.args.active c.args.outputs.now (plain_of c.args.cert.now) c.contexts.ensures.valid ((returns-clause-exact c).0 h)

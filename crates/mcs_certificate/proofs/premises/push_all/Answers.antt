@@ -1,0 +1,25 @@
+use Rattle.std.proofs.Common.{◌∙◌}
+use Rattle.mcs_system.specs.Seen.{formula_of}
+use Rattle.mcs_cnf.proofs.ListLemmas.{room_kept}
+use Rattle.mcs_certificate.proofs.PushLemmas.{lent_over, lent_pushed, lent_end}
+use Rattle.mcs_certificate.proofs.premises.push_all.Goals as goal
+
+pub loop-formula-preserved : goal.loop-formula-preserved
+loop-formula-preserved c =
+    let names = c.args.atoms.now in
+    let fs = c.args.formulas.now in
+    let i = c.loop-formula.formula-index in
+    let f = c.formula-item.result in
+    let pushed = c.in_ok-push_formula.ensures.ok in
+    record {
+      all = lent_pushed (λ f. formula_of f.now) names c.loop-formula.known c.push_formula.new.cnf fs i f c.loop-formula-test.true c.formula-item.is pushed ∙ c.loop-formula.invariant.all;
+      over = (lent_over (λ f. formula_of f.now) names fs i f c.loop-formula-test.true c.formula-item.is c.loop-formula.invariant.over).1;
+      room = room_kept names c.loop-formula.known c.push_formula.new.cnf (formula_of f.now) c.loop-formula.invariant.room pushed;
+    }
+
+pub push_formula-requires-clause-over : goal.push_formula-requires-clause-over
+push_formula-requires-clause-over c =
+    (lent_over (λ f. formula_of f.now) c.args.atoms.now c.args.formulas.now c.loop-formula.formula-index c.formula-item.result c.loop-formula-test.true c.formula-item.is c.loop-formula.invariant.over).0
+
+pub returns : goal.returns
+returns c = lent_end (λ f. formula_of f.now) c.args.atoms.now c.loop-formula.known c.args.known.now c.args.formulas.now c.loop-formula.formula-index c.loop-formula-test.false c.loop-formula.invariant.all

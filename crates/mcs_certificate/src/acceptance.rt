@@ -1,0 +1,96 @@
+//! Whether a certificate is accepted of a context.
+
+ghost use Rattle.std.specs.Prelude.{◌≡◌, ℕ, ◌<◌, ◌≤◌, ◌↔◌, List, length, map, IsTrue, IfOk, MatchOption};
+ghost use Rattle.mcs_sets.specs.Orders.{StateBefore};
+ghost use Rattle.mcs_sets.specs.Sets.{Within};
+ghost use Rattle.mcs_base.specs.Listings.{IsListing};
+ghost use Rattle.mcs_system.specs.Faults.{default_count};
+ghost use Rattle.mcs_system.specs.Imports.{rules_into};
+ghost use Rattle.mcs_system.specs.Logic.{with_heads};
+ghost use Rattle.mcs_system.specs.Seen.{formula_of, kb_of};
+ghost use Rattle.mcs_system.specs.Systems.{IsAcceptedPart};
+ghost use Rattle.mcs_cnf.specs.ClauseLists.{AreOver};
+ghost use Rattle.mcs_certificate.specs.Certificates.{plain_of, IsAccepted, IsAcceptedFor};
+ghost use Rattle.mcs_certificate.specs.Kinds.{IsOverKb, AreOfKind};
+
+use crate::asking::{beliefs_of, heads_into, parts_at};
+use crate::certificate::AnswerCert;
+use crate::classical::classical_views;
+use crate::default::default_views;
+use crate::program::program_views;
+use mcs_base::{Active, Memory, Vars};
+use mcs_system::{Formula, Kb, Name, System};
+use std::alloc::Global;
+
+/// The views that the certificate shows of the knowledge base with the heads, if it is accepted. A certificate of another
+/// kind is not.
+fn shown_views(
+    alloc: Global,
+    kb: &Kb,
+    heads: &[&Formula],
+    beliefs: &[&Formula],
+    atoms: &[Name],
+    cert: &AnswerCert,
+) -> Result<Option<Vec<Vars>>, Memory>
+    requires few { length atoms.now ≤ 64 }
+    requires few_beliefs { length beliefs.now ≤ 64 }
+    requires few_defaults { default_count (kb_of kb.now) ≤ 10 }
+    requires kb { IsOverKb atoms.now (kb_of kb.now) }
+    requires heads { AreOver atoms.now (map (λ f. formula_of f.now) heads.now) }
+    requires beliefs { AreOver atoms.now (map (λ f. formula_of f.now) beliefs.now) }
+    requires fitting_beliefs { AreOfKind (kb_of kb.now) (map (λ f. formula_of f.now) beliefs.now) }
+    ensures { IfOk result (λ shown. MatchOption shown
+        ((views : List ℕ) → ¬ IsAcceptedFor atoms.now (with_heads (kb_of kb.now) (map (λ f. formula_of f.now) heads.now)) (map (λ f. formula_of f.now) beliefs.now) views (plain_of cert.now))
+        (λ views. IsAcceptedFor atoms.now (with_heads (kb_of kb.now) (map (λ f. formula_of f.now) heads.now)) (map (λ f. formula_of f.now) beliefs.now) views.items (plain_of cert.now))) }
+{
+    match kb {
+        Kb::Classical(formulas) => match cert {
+            AnswerCert::Classical(cert) => {
+                classical_views(alloc, formulas, heads, beliefs, atoms, cert)
+            }
+            AnswerCert::Default(_) => Ok(None),
+            AnswerCert::Program(_) => Ok(None),
+        },
+        Kb::DefaultTheory(items) => match cert {
+            AnswerCert::Classical(_) => Ok(None),
+            AnswerCert::Default(cert) => default_views(alloc, items, heads, beliefs, atoms, cert),
+            AnswerCert::Program(_) => Ok(None),
+        },
+        Kb::Program(rules) => match cert {
+            AnswerCert::Classical(_) => Ok(None),
+            AnswerCert::Default(_) => Ok(None),
+            AnswerCert::Program(cert) => program_views(alloc, rules, heads, beliefs, atoms, cert),
+        },
+    }
+}
+
+/// Whether the certificate is accepted as showing that the context of the system, which is one of its contexts, accepts
+/// exactly these outputs with the heads of the rules, which are rules into it: sets of variables of the context, strictly
+/// ascending in the order of states. No search is made: traces are checked, and formulas and rules are evaluated. A
+/// certificate of another kind than the context's, or of the wrong shape, is just not accepted.
+///
+/// Where the answer is true, the outputs are what the context accepts (`accepted_answers_are_right`). Want of memory may
+/// come in place of an answer.
+pub fn accepts(
+    alloc: Global,
+    system: &System,
+    context: u32,
+    active: Active,
+    outputs: &[Vars],
+    cert: &AnswerCert,
+) -> Result<bool, Memory>
+    requires context { context < length system.now.contexts }
+    requires rules { Within active (rules_into system.now context) }
+    ensures exact { IfOk result (λ yes. IsTrue yes ↔ IsAccepted system.now context active outputs.now (plain_of cert.now)) }
+    ensures right { IfOk result (λ yes. IsTrue yes → IsListing (IsAcceptedPart system.now context active) StateBefore outputs.now) }
+{
+    let heads = heads_into(alloc, system, context, active)?;
+    let beliefs = beliefs_of(alloc, system, context)?;
+    let kb = &system.contexts()[context as usize].kb;
+    let shown = shown_views(alloc, kb, &heads, &beliefs, system.atoms_of(context), cert)?;
+    let Some(views) = shown else {
+        return Ok(false);
+    };
+    let parts = parts_at(alloc, system.vars_of(context), &views)?;
+    Ok(parts.as_slice() == outputs)
+}

@@ -1,0 +1,102 @@
+//! The oracle of one context whose answers are there from the first.
+
+ghost use Rattle.std.specs.Prelude.{◌≡◌, ◌<◌, ◌≤◌, [], length, MatchOption};
+ghost use Rattle.std.specs.Arc.{arc_value};
+ghost use Rattle.mcs_base.specs.Listings.{IsAmong};
+ghost use Rattle.mcs_certificate.specs.Certified.{certified_of, sets_of, AreRight, AreInOrder, EndsAt, HasAnswer};
+
+use mcs_base::{Active, Vars};
+use mcs_states::{Oracle, OracleStop};
+use mcs_system::System;
+use std::alloc::Global;
+use std::marker::Model;
+use std::sync::Arc;
+
+/// Answers what one context of a system accepts, from a list of answers, as accepted certificates show them. It misses the
+/// questions that are not in the list. It runs no solver.
+#[derive(Drop)]
+pub struct CertifiedOracle {
+    system: Arc<System>,
+    context: u32,
+    answers: Vec<(Active, Vec<Vars>)>,
+    journal: Vec<Active>,
+}
+
+impl Model for CertifiedOracle {
+    ghost use Rattle.std.specs.Prelude.{length, ◌<◌};
+    ghost use Rattle.std.specs.Arc.{arc_value};
+    ghost use Rattle.mcs_states.specs.Oracles.{OracleState};
+    ghost use Rattle.mcs_states.specs.Codes.{coded_oracle};
+    ghost use Rattle.mcs_certificate.specs.Certified.{certified_of, sets_of, AreRight, AreInOrder};
+
+    ghost Value = { OracleState };
+
+    ghost coded = { coded_oracle };
+
+    ghost view = { λ s. certified_of (arc_value s.system) s.context (sets_of s.answers.items) s.journal.items };
+
+    ghost invariant = { λ s. (s.context < length (arc_value s.system).contexts) × AreRight (arc_value s.system) s.context s.answers.items × AreInOrder s.answers.items };
+}
+
+/// How many of the answers are for a set before this one.
+fn place_of(answers: &[(Active, Vec<Vars>)], active: Active) -> usize
+    requires { AreInOrder answers.now }
+    ensures bound { result ≤ length answers.now }
+    ensures point { EndsAt active answers.now result }
+{
+    answers.partition_point(|answer| answer.0 < active)
+}
+
+/// The answer for this set, if there is one.
+fn answer_for(answers: &[(Active, Vec<Vars>)], active: Active) -> Option<&[Vars]>
+    requires { AreInOrder answers.now }
+    ensures { MatchOption result (¬ IsAmong active (sets_of answers.now)) (λ states. HasAnswer answers.now active states.now) }
+{
+    let place = place_of(answers, active);
+    if place >= answers.len() {
+        return None;
+    }
+    let answer = &answers[place];
+    if answer.0 != active {
+        return None;
+    }
+    Some(answer.1.as_slice())
+}
+
+impl CertifiedOracle {
+    /// The oracle of this context of the system, which is one of its contexts, with these answers: each what the context
+    /// accepts with the heads of a set of rules, as `accepts` tells of its certificate, the sets strictly ascending. It was
+    /// asked nothing.
+    pub fn new(
+        alloc: Global,
+        system: Arc<System>,
+        context: u32,
+        answers: Vec<(Active, Vec<Vars>)>,
+    ) -> CertifiedOracle
+        requires context { context < length (arc_value system).contexts }
+        requires right { AreRight (arc_value system) context answers.items }
+        requires ascending { AreInOrder answers.items }
+        ensures { result ≡ certified_of (arc_value system) context (sets_of answers.items) [] }
+    {
+        CertifiedOracle {
+            system,
+            context,
+            answers,
+            journal: Vec::new(alloc),
+        }
+    }
+}
+
+impl Oracle for CertifiedOracle {
+    ghost stands = { λ o. o };
+
+    fn ask(&mut self, alloc: Global, active: Active) -> Result<Vec<Vars>, OracleStop> {
+        self.journal.reserve(1)?;
+        let Some(states) = answer_for(&self.answers, active) else {
+            return Err(OracleStop::Missing(active));
+        };
+        let copy = states.to_vec(alloc)?;
+        self.journal.push(active)?;
+        Ok(copy)
+    }
+}

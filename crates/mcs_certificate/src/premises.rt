@@ -1,0 +1,81 @@
+//! The formulas that a context is asked with, and their clauses.
+
+ghost use Rattle.std.specs.Prelude.{◌≡◌, ◌≤◌, ◌++◌, length, map, IfOk, OnOk};
+ghost use Rattle.mcs_system.specs.Seen.{formula_of};
+ghost use Rattle.mcs_cnf.specs.ClauseLists.{with_formulas, clause_list, AreOver};
+
+use mcs_base::Memory;
+use mcs_cnf::push_formula;
+use mcs_system::{Formula, Name};
+use mcs_trace::Cnf;
+use std::alloc::Global;
+
+/// Adds the clauses of the formulas.
+pub(crate) fn push_all(
+    alloc: Global,
+    known: &mut Cnf,
+    formulas: &[&Formula],
+    atoms: &[Name],
+) -> Result<(), Memory>
+    requires over { AreOver atoms.now (map (λ f. formula_of f.now) formulas.now) }
+    requires room { length atoms.now ≤ known.old.vars }
+    ensures { OnOk result (known.new ≡ with_formulas atoms.now known.old (map (λ f. formula_of f.now) formulas.now)) }
+{
+    for formula in formulas {
+        push_formula(alloc, known, atoms, formula)?;
+    }
+    Ok(())
+}
+
+/// The clauses of the formulas.
+pub(crate) fn clauses_of(
+    alloc: Global,
+    formulas: &[&Formula],
+    atoms: &[Name],
+) -> Result<Cnf, Memory>
+    requires few { length atoms.now ≤ 64 }
+    requires over { AreOver atoms.now (map (λ f. formula_of f.now) formulas.now) }
+    ensures { IfOk result (λ known. known ≡ clause_list atoms.now (map (λ f. formula_of f.now) formulas.now)) }
+{
+    let mut known = Cnf::new(alloc, atoms.len() as u64);
+    push_all(alloc, &mut known, formulas, atoms)?;
+    Ok(known)
+}
+
+/// The formulas of a classical knowledge base, and after them those that are added.
+pub(crate) fn formulas_with<'f>(
+    alloc: Global,
+    formulas: &'f [Formula],
+    added: &[&'f Formula],
+) -> Result<Vec<&'f Formula>, Memory>
+    ensures { IfOk result (λ all. map (λ f. formula_of f.now) all.items ≡ map formula_of formulas.now ++ map (λ f. formula_of f.now) added.now) }
+{
+    let mut all = lend(alloc, formulas)?;
+    all.extend_from_slice(added)?;
+    Ok(all)
+}
+
+/// The formulas, each lent.
+pub(crate) fn lend(alloc: Global, formulas: &[Formula]) -> Result<Vec<&Formula>, Memory>
+    ensures { IfOk result (λ all. map (λ f. formula_of f.now) all.items ≡ map formula_of formulas.now) }
+{
+    let mut all = Vec::new(alloc);
+    for formula in formulas {
+        all.push(formula)?;
+    }
+    Ok(all)
+}
+
+/// The formulas, and after them those that are added.
+pub(crate) fn extended<'f>(
+    alloc: Global,
+    formulas: &[&'f Formula],
+    added: &[&'f Formula],
+) -> Result<Vec<&'f Formula>, Memory>
+    ensures { IfOk result (λ all. map (λ f. formula_of f.now) all.items ≡ map (λ f. formula_of f.now) formulas.now ++ map (λ f. formula_of f.now) added.now) }
+{
+    let mut all = Vec::new(alloc);
+    all.extend_from_slice(formulas)?;
+    all.extend_from_slice(added)?;
+    Ok(all)
+}

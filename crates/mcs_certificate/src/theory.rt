@@ -1,0 +1,129 @@
+//! The facts and the defaults of a theory, and the defaults of a set.
+
+ghost use Rattle.std.specs.Prelude.{◌≡◌, ◌≤◌, ◌++◌, length, map, IfOk};
+ghost use Rattle.mcs_system.specs.Plain.{Not};
+ghost use Rattle.mcs_system.specs.Seen.{formula_of, default_of, item_of};
+ghost use Rattle.mcs_evidence.specs.Defaults.{facts_of, defaults_of, defaults_at, negated_justs};
+ghost use Rattle.mcs_system.specs.Plain as plain;
+
+use mcs_base::{Memory, Vars};
+use mcs_system::{Default, Formula, TheoryItem};
+use std::alloc::Global;
+
+/// The defaults of the items, in their order.
+pub(crate) fn defaults_of(alloc: Global, items: &[TheoryItem]) -> Result<Vec<&Default>, Memory>
+    ensures { IfOk result (λ ds. map (λ d. default_of d.now) ds.items ≡ defaults_of (map item_of items.now)) }
+{
+    let mut defaults = Vec::new(alloc);
+    for item in items {
+        if let TheoryItem::Rule(default) = item {
+            defaults.push(default)?;
+        }
+    }
+    Ok(defaults)
+}
+
+/// The facts of the items, in their order.
+fn facts_of(alloc: Global, items: &[TheoryItem]) -> Result<Vec<&Formula>, Memory>
+    ensures { IfOk result (λ fs. map (λ f. formula_of f.now) fs.items ≡ facts_of (map item_of items.now)) }
+{
+    let mut facts = Vec::new(alloc);
+    for item in items {
+        if let TheoryItem::Fact(formula) = item {
+            facts.push(formula)?;
+        }
+    }
+    Ok(facts)
+}
+
+/// The facts of the items, and after them those that are added.
+pub(crate) fn facts_with<'f>(
+    alloc: Global,
+    items: &'f [TheoryItem],
+    added: &[&'f Formula],
+) -> Result<Vec<&'f Formula>, Memory>
+    ensures { IfOk result (λ all. map (λ f. formula_of f.now) all.items ≡ facts_of (map item_of items.now) ++ map (λ f. formula_of f.now) added.now) }
+{
+    let mut all = facts_of(alloc, items)?;
+    all.extend_from_slice(added)?;
+    Ok(all)
+}
+
+/// The defaults of the set, ascending.
+pub(crate) fn chosen<'f>(
+    alloc: Global,
+    defaults: &[&'f Default],
+    set: Vars,
+) -> Result<Vec<&'f Default>, Memory>
+    requires few { length defaults.now ≤ 64 }
+    ensures { IfOk result (λ ds. map (λ d. default_of d.now) ds.items ≡ defaults_at 0 (map (λ d. default_of d.now) defaults.now) set) }
+{
+    let mut chosen = Vec::new(alloc);
+    for (index, default) in defaults.iter().enumerate() {
+        if set.has(index as u32) {
+            chosen.push(*default)?;
+        }
+    }
+    Ok(chosen)
+}
+
+/// The prerequisites of the defaults.
+pub(crate) fn prerequisites<'f>(
+    alloc: Global,
+    defaults: &[&'f Default],
+) -> Result<Vec<&'f Formula>, Memory>
+    ensures { IfOk result (λ fs. map (λ f. formula_of f.now) fs.items ≡ map (λ (d : plain.Default). d.pre) (map (λ d. default_of d.now) defaults.now)) }
+{
+    let mut formulas = Vec::new(alloc);
+    for default in defaults {
+        formulas.push(&default.pre)?;
+    }
+    Ok(formulas)
+}
+
+/// The consequents of the defaults.
+pub(crate) fn consequents<'f>(
+    alloc: Global,
+    defaults: &[&'f Default],
+) -> Result<Vec<&'f Formula>, Memory>
+    ensures { IfOk result (λ fs. map (λ f. formula_of f.now) fs.items ≡ map (λ (d : plain.Default). d.conclusion) (map (λ d. default_of d.now) defaults.now)) }
+{
+    let mut formulas = Vec::new(alloc);
+    for default in defaults {
+        formulas.push(&default.conclusion)?;
+    }
+    Ok(formulas)
+}
+
+/// The negation of the formula.
+pub(crate) fn negated(alloc: Global, formula: &Formula) -> Result<Formula, Memory>
+    ensures { IfOk result (λ f. formula_of f ≡ Not (formula_of formula.now)) }
+{
+    let copy = formula.copy(alloc)?;
+    Ok(Formula::Not(Box::new(alloc, copy)?))
+}
+
+/// Adds the negations of the formulas.
+fn push_negations(
+    alloc: Global,
+    negations: &mut Vec<Formula>,
+    formulas: &[Formula],
+) -> Result<(), Memory>
+    ensures { IfOk result (λ _. map formula_of negations.new.items ≡ map formula_of negations.old.items ++ map Not (map formula_of formulas.now)) }
+{
+    for formula in formulas {
+        negations.push(negated(alloc, formula)?)?;
+    }
+    Ok(())
+}
+
+/// The negations of the justifications of the defaults, in order.
+pub(crate) fn negations(alloc: Global, defaults: &[&Default]) -> Result<Vec<Formula>, Memory>
+    ensures { IfOk result (λ fs. map formula_of fs.items ≡ negated_justs (map (λ d. default_of d.now) defaults.now)) }
+{
+    let mut negations = Vec::new(alloc);
+    for default in defaults {
+        push_negations(alloc, &mut negations, &default.justs)?;
+    }
+    Ok(negations)
+}
