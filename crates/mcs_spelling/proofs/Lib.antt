@@ -1,0 +1,5 @@
+pub mod General
+pub mod ClauseTests
+pub mod NumberTexts
+pub mod LiteralTexts
+pub mod SetTexts

@@ -1,0 +1,8 @@
+use Rattle.std.proofs.Common.{◌≡◌, ◌++◌, map, codes}
+use Rattle.mcs_text.specs.Separated.{separated}
+use Rattle.mcs_spelling.proofs.General.{left}
+use Rattle.mcs_spelling.specs.Parts.{atom_text}
+use Rattle.mcs_spelling.proofs.places.push_atoms_at.Given as goal
+
+abbrev pub invariant-loop-place : goal.invariant-loop-place
+invariant-loop-place l = l.text ++ left l.is_first (map (atom_text l.names) l.place-iterator) ≡ l.fn.text ++ (codes "{" ++ separated (map (atom_text l.names) l.fn.places))

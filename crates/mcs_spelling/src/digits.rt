@@ -1,0 +1,124 @@
+//! Decimal numbers from 1 to 2^63-1, without leading zeros, and literals.
+
+ghost use Rattle.std.specs.Prelude.{◌≡◌, ◌<◌, ◌^◌, IfOk, IfSome};
+ghost use Rattle.std.specs.Option.{option_map};
+ghost use Rattle.mcs_spelling.specs.Parts.{SpellsNumber};
+ghost use Rattle.mcs_spelling.specs.Words.{with_digit, number_of, numbers_of, signed, literals_of};
+
+use mcs_base::Memory;
+use std::alloc::Global;
+
+/// The greatest number.
+const MOST: u64 = 9_223_372_036_854_775_807;
+
+/// The number with one more digit, where 0 is the number of no digit. `None` where the byte is no digit, a number
+/// would begin with 0, or be too large.
+#[tactic(auto, unfolding(crate::specs::Words::with_digit))]
+fn with_digit(number: u64, byte: u8) -> Option<u64>
+    ensures value { result ≡ with_digit number byte }
+    ensures fits { IfSome result (λ n. n < 2 ^ 63) }
+{
+    if !byte.is_ascii_digit() {
+        return None;
+    }
+    let digit = u64::from(byte - b'0');
+    if number > (MOST - digit) / 10 || (number == 0 && digit == 0) {
+        return None;
+    }
+    Some(number * 10 + digit)
+}
+
+/// The number in the bytes.
+#[tactic(auto, unfolding(crate::specs::Words::number_of))]
+fn number_in(bytes: &[u8]) -> Option<u64>
+    ensures { result ≡ number_of bytes.now }
+{
+    let mut number = 0;
+    for byte in bytes {
+        number = with_digit(number, *byte)?;
+    }
+    if number == 0 { None } else { Some(number) }
+}
+
+/// The number from 1 to 2^63-1 that the bytes spell, in decimal without leading zeros. `None` exactly where they spell
+/// none.
+pub fn read_number(bytes: &[u8]) -> Option<u64>
+    ensures spelled { SpellsNumber bytes.now result }
+    ensures exact { result ≡ number_of bytes.now }
+{
+    number_in(bytes)
+}
+
+/// The numbers that the bytes spell, one or more, with one space between them.
+#[tactic(auto, unfolding(crate::specs::Words::numbers_of))]
+pub fn read_numbers(alloc: Global, bytes: &[u8]) -> Result<Option<Vec<u64>>, Memory>
+    ensures { IfOk result (λ o. option_map (λ v. v.items) o ≡ numbers_of bytes.now) }
+{
+    let mut numbers = Vec::new(alloc);
+    let mut number = 0;
+    for byte in bytes {
+        if *byte == b' ' {
+            if number == 0 {
+                return Ok(None);
+            }
+            numbers.push(number)?;
+            number = 0;
+        } else {
+            let Some(next) = with_digit(number, *byte) else {
+                return Ok(None);
+            };
+            number = next;
+        }
+    }
+    if number == 0 {
+        return Ok(None);
+    }
+    numbers.push(number)?;
+    Ok(Some(numbers))
+}
+
+/// The literal of this size.
+fn signed(size: u64, is_negative: bool) -> i64
+    requires { size < 2 ^ 63 }
+    ensures { result ≡ signed size is_negative }
+{
+    if is_negative {
+        -(size as i64)
+    } else {
+        size as i64
+    }
+}
+
+/// The literals that the bytes spell, each with one space after it.
+#[tactic(auto, unfolding(crate::specs::Words::literals_of))]
+pub fn read_literals(alloc: Global, bytes: &[u8]) -> Result<Option<Vec<i64>>, Memory>
+    ensures { IfOk result (λ o. option_map (λ v. v.items) o ≡ literals_of bytes.now) }
+{
+    let mut literals = Vec::new(alloc);
+    let mut size = 0;
+    let mut is_negative = false;
+    for byte in bytes {
+        if *byte == b' ' {
+            if size == 0 {
+                return Ok(None);
+            }
+            literals.push(signed(size, is_negative))?;
+            size = 0;
+            is_negative = false;
+        } else if *byte == b'-' {
+            if size != 0 || is_negative {
+                return Ok(None);
+            }
+            is_negative = true;
+        } else {
+            let Some(next) = with_digit(size, *byte) else {
+                return Ok(None);
+            };
+            size = next;
+        }
+    }
+    if size != 0 || is_negative {
+        return Ok(None);
+    }
+    Ok(Some(literals))
+}
