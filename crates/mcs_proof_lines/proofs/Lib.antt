@@ -1,0 +1,4 @@
+pub mod LineLemmas
+pub mod WalkLemmas
+pub mod VerdictLemmas
+pub mod ProgramLemmas

@@ -1,0 +1,88 @@
+-- Lines of bytes, split off one by one.
+use Rattle.std.proofs.Common.{◌≡◌, ℕ, ◌+◌, suc, Bool, true, false, cond, nat_eq, List, [], ◌∷◌, length, take, drop, Option, Some, None, refl, sym, ap, ◌∙◌, ◌&&◌, ◌==◌, subst, arith}
+use Rattle.std.specs.Borrow.{Bor}
+use Rattle.std.specs.List.{position_from}
+use Rattle.std.proofs.lemmas.Bool.Decides.{nat_tests}
+use Rattle.std.proofs.lemmas.Iterator.Adapters.{position_from-zero}
+use Rattle.mcs_spelling.specs.Words.{place_of}
+use Rattle.mcs_proof_lines.specs.Walks.{IsLast, lines_from}
+use Rattle.mcs_spelling.specs.Lines.{onto, complete_lines, is_empty, incomplete}
+
+abbrev is_feed : ℕ → Bool
+is_feed b = nat_eq b 10
+
+abbrev Found : List ℕ → ℕ → Type 0
+Found bytes j = (complete_lines bytes ≡ take j bytes ∷ complete_lines (drop (suc j) bytes)) × (incomplete bytes ≡ incomplete (drop (suc j) bytes))
+
+module _ (b : ℕ) (bytes : List ℕ) where
+  feed : nat_eq b 10 ≡ true → Found (b ∷ bytes) 0
+  feed v = (ap (λ (u : Bool). cond u ([] ∷ complete_lines bytes) (onto b (complete_lines bytes))) v, ap (λ (u : Bool). cond u (incomplete bytes) (cond (is_empty (complete_lines bytes)) (b ∷ bytes) (incomplete bytes))) v)
+
+  other : (j : ℕ) → nat_eq b 10 ≡ false → Found bytes j → Found (b ∷ bytes) (suc j)
+  other j v h = (
+    ap (λ (u : Bool). cond u ([] ∷ complete_lines bytes) (onto b (complete_lines bytes))) v ∙ ap (onto b) h.0,
+    ap (λ (u : Bool). cond u (incomplete bytes) (cond (is_empty (complete_lines bytes)) (b ∷ bytes) (incomplete bytes))) v ∙ (ap (λ ls. cond (is_empty ls) (b ∷ bytes) (incomplete bytes)) h.0 ∙ h.1),
+  )
+
+  none_more : nat_eq b 10 ≡ false → (complete_lines bytes ≡ []) × (incomplete bytes ≡ bytes) → (complete_lines (b ∷ bytes) ≡ []) × (incomplete (b ∷ bytes) ≡ b ∷ bytes)
+  none_more v h = (
+    ap (λ (u : Bool). cond u ([] ∷ complete_lines bytes) (onto b (complete_lines bytes))) v ∙ ap (onto b) h.0,
+    ap (λ (u : Bool). cond u (incomplete bytes) (cond (is_empty (complete_lines bytes)) (b ∷ bytes) (incomplete bytes))) v ∙ ap (λ ls. cond (is_empty ls) (b ∷ bytes) (incomplete bytes)) h.0,
+  )
+
+some_parts : (k i : ℕ) → Some k ≡ Some i → k ≡ i
+some_parts k i e = cc
+
+step : (k i b : ℕ) (bytes : List ℕ) → (position_from is_feed (k + 1) bytes ≡ Some i → (j : ℕ) × (i ≡ k + 1 + j) × Found bytes j) → (v : Bool) → nat_eq b 10 ≡ v
+    → cond v (Some k) (position_from is_feed (k + 1) bytes) ≡ Some i → (j : ℕ) × (i ≡ k + j) × Found (b ∷ bytes) j
+step k i b bytes again true v e = (0, (let same = some_parts k i e in omega arith), feed b bytes v)
+step k i b bytes again false v e = let (j, is, found) = again e in (suc j, omega (arith, is), other b bytes j v found)
+
+none_step : (k b : ℕ) (bytes : List ℕ) → (position_from is_feed (k + 1) bytes ≡ None → (complete_lines bytes ≡ []) × (incomplete bytes ≡ bytes)) → (v : Bool) → nat_eq b 10 ≡ v
+    → cond v (Some k) (position_from is_feed (k + 1) bytes) ≡ None → (complete_lines (b ∷ bytes) ≡ []) × (incomplete (b ∷ bytes) ≡ b ∷ bytes)
+none_step k b bytes again true v e = absurd (cc)
+none_step k b bytes again false v e = none_more b bytes v (again e)
+
+-- a line feed at this place, counted from k
+found_from : (k i : ℕ) (bytes : List ℕ) → position_from is_feed k bytes ≡ Some i → (j : ℕ) × (i ≡ k + j) × Found bytes j
+found_from k i [] e = absurd (cc)
+found_from k i (b ∷ bytes) e = step k i b bytes (λ e'. found_from (k + 1) i bytes e') (nat_eq b 10) refl e
+
+none_from : (k : ℕ) (bytes : List ℕ) → position_from is_feed k bytes ≡ None → (complete_lines bytes ≡ []) × (incomplete bytes ≡ bytes)
+none_from k [] e = (refl, refl)
+none_from k (b ∷ bytes) e = none_step k b bytes (λ e'. none_from (k + 1) bytes e') (nat_eq b 10) refl e
+
+-- the first line feed stands at this place
+pub first_line : (bytes : List ℕ) (place : ℕ) → place_of 10 bytes ≡ Some place
+    → (complete_lines bytes ≡ take place bytes ∷ complete_lines (drop (place + 1) bytes)) × (incomplete bytes ≡ incomplete (drop (place + 1) bytes))
+first_line bytes place e =
+    let (j, is, found) = found_from 0 place bytes (sym (position_from-zero is_feed bytes) ∙ e) in
+    let same : j ≡ place = omega (arith, is) in
+    let next : suc place ≡ place + 1 = omega arith in
+    let P : ℕ → ℕ → Type 0 = λ a b. (complete_lines bytes ≡ take a bytes ∷ complete_lines (drop b bytes)) × (incomplete bytes ≡ incomplete (drop b bytes)) in
+    subst (P place) next (subst (λ a. P a (suc a)) same found)
+
+pub no_line : (bytes : List ℕ) → place_of 10 bytes ≡ None → (complete_lines bytes ≡ []) × (incomplete bytes ≡ bytes)
+no_line bytes e = none_from 0 bytes (sym (position_from-zero is_feed bytes) ∙ e)
+
+-- where no line is left, what follows is all
+pub all_incomplete : (bytes : List ℕ) → complete_lines bytes ≡ [] → incomplete bytes ≡ bytes
+all_incomplete [] e = refl
+all_incomplete (b ∷ bytes) e = at (nat_eq b 10) refl e
+  where
+    none_onto : (lines : List (List ℕ)) → onto b lines ≡ [] → lines ≡ []
+    none_onto [] e = refl
+    none_onto (line ∷ lines) e = absurd (cc)
+
+    at : (v : Bool) → nat_eq b 10 ≡ v → cond v ([] ∷ complete_lines bytes) (onto b (complete_lines bytes)) ≡ [] → cond v (incomplete bytes) (cond (is_empty (complete_lines bytes)) (b ∷ bytes) (incomplete bytes)) ≡ b ∷ bytes
+    at true v e = absurd (cc)
+    at false v e = ap (λ ls. cond (is_empty ls) (b ∷ bytes) (incomplete bytes)) (none_onto (complete_lines bytes) e)
+
+none_long : (bytes : List ℕ) → (length bytes == 0) ≡ is_empty bytes
+none_long [] = refl
+none_long (b ∷ bytes) = grind (arith, nat_tests)
+
+-- nothing is left where no line is next and nothing follows
+pub at_end : (current : Option (Bor (List ℕ))) (later : List ℕ) → current ≡ None → IsLast current later → (length later == 0) ≡ (is_empty (lines_from current later) && is_empty (incomplete later))
+at_end None later e last = none_long later ∙ ap is_empty (sym (all_incomplete later last))
+at_end (Some line) later e last = absurd (cc)

@@ -1,0 +1,21 @@
+//! The lines of certificates, read one after the other.
+#![tactic(auto)]
+
+mod absences;
+mod evidence;
+mod fault;
+mod lines;
+mod programs;
+mod theory;
+mod verdicts;
+
+pub use absences::{number_after, take_absence, take_absences};
+pub use evidence::{
+    expect, is_next, out_of_place, take_all_no, take_all_yes, take_atoms, take_entailment,
+    take_entailments, take_no, take_trace, take_yes,
+};
+pub use fault::ReportFault;
+pub use lines::Lines;
+pub use programs::take_program;
+pub use theory::Theory;
+pub use verdicts::take_verdicts;

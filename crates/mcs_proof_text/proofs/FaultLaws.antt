@@ -1,0 +1,35 @@
+-- Faults of reports: a text that spells a report has none, and a text has one first fault at most.
+use Rattle.std.proofs.Common.{◌≡◌, ℕ, ◌+◌, ◌-◌, ◌<◌, ◌≤◌, zero, suc, List, [], ◌∷◌, ◌++◌, length, take, refl, ap, ◌∙◌, subst, arith, inl, inr, ◌⊎◌, append_assoc}
+use Rattle.std.proofs.lemmas.Bool.{cases_lt}
+use Rattle.mcs_system.specs.Plain.{System}
+use Rattle.mcs_spelling.specs.Lines.{complete_lines}
+use Rattle.mcs_proof_text.specs.Reports.{Begins, IsFirstFault, SpelledReportsHaveNoFault, ReportsHaveOneFault}
+
+-- a front of what begins a report begins one
+pub front_begins : (m : System) (front rest : List (List ℕ)) → Begins m (front ++ rest) → Begins m front
+front_begins m front rest h = record { listing = h.listing; answers = h.answers; report = h.report; rest = rest ++ h.rest; front = h.front ∙ append_assoc front rest h.rest }
+
+take_less : {A : Type 0} (j k : ℕ) (xs : List A) → j ≤ k → (rest : List A) × (take k xs ≡ take j xs ++ rest)
+take_less {A = A} zero k xs less = (take k xs, refl)
+take_less (suc j) zero xs less = absurd (omega arith)
+take_less (suc j) (suc k) [] less = ([], refl)
+take_less (suc j) (suc k) (x ∷ xs) less = let h = take_less j k xs (omega arith) in (h.0, ap (λ ys. x ∷ ys) h.1)
+
+shorter : (m : System) (j k : ℕ) (xs : List (List ℕ)) → j ≤ k → Begins m (take k xs) → Begins m (take j xs)
+shorter m j k xs less h = let t = take_less j k xs less in front_begins m (take j xs) t.0 (subst (Begins m) t.1 h)
+
+not_before : (m : System) (bytes : List ℕ) (j k : ℕ) → IsFirstFault m bytes j → IsFirstFault m bytes k → j < k → ⊥
+not_before m bytes j k f g less = at f.there
+  where
+    at : (j ≡ length (complete_lines bytes) + 1) ⊎ (¬ Begins m (take j (complete_lines bytes))) → ⊥
+    at (inl past) = let w = g.within in omega (arith, w, past)
+    at (inr refused) = refused (shorter m j (k - 1) (complete_lines bytes) (omega arith) g.before)
+
+pub one_fault : ReportsHaveOneFault
+one_fault m bytes j k f g = elim (cases_lt j k) [
+  | inl less ↦ absurd (not_before m bytes j k f g less)
+  | inr more ↦ elim (cases_lt k j) [ inl less ↦ absurd (not_before m bytes k j g f less) | inr less ↦ omega arith ]
+]
+
+pub no_fault : SpelledReportsHaveNoFault
+no_fault m bytes l as' line spells f = f.none l as' spells

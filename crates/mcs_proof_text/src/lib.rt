@@ -1,0 +1,11 @@
+//! The proof part of a report: answers with their certificates, written line by line.
+#![tactic(auto)]
+
+mod answer;
+mod defaults;
+mod laws;
+mod programs;
+mod traces;
+
+pub use answer::answer_lines;
+pub use laws::{reports_have_one_fault, spelled_reports_have_no_fault};
