@@ -1,0 +1,69 @@
+-- Ranges by one more, and values that stand once in a list.
+use Rattle.std.proofs.Common.{◌≡◌, ℕ, ◌+◌, ◌-◌, ◌≤◌, zero, suc, Bool, true, false, not, List, [], ◌∷◌, ◌++◌, map, length, refl, sym, ap, ◌∙◌, subst, inl, inr, append_assoc, add-one, arith, true≢false}
+use Rattle.std.proofs.lemmas.Bool.{false_from_ne_true}
+use Rattle.std.proofs.lemmas.List.{append-nil, map-append}
+use Rattle.std.proofs.lemmas.List.FromFn.{map-range_with_len_more}
+use Rattle.std.specs.List.{range_with_len, flat_map}
+use Rattle.mcs_base.specs.Listings.{IsAmong, AreApart, firsts}
+use Rattle.mcs_base.proofs.Among.{among_map, filter_among, any_none, range_among}
+use Rattle.mcs_base.proofs.Distinct.{distinct_filter, distinct_fits}
+use Rattle.mcs_system.specs.Plain.{Name}
+use Rattle.mcs_system.specs.Logic.{same_name, is_in}
+use Rattle.mcs_system.specs.Faults.{has_twins}
+use Rattle.mcs_system.proofs.Sameness.{same_name-is}
+
+range_on : {A : Type 0} (f : ℕ → List A) (a n j : ℕ) → a + n ≡ j → flat_map f (range_with_len a (suc n)) ≡ flat_map f (range_with_len a n) ++ f j
+range_on f a zero j e = let same : a ≡ j = omega arith in append-nil (f a) ∙ ap f same
+range_on f a (suc n) j e = ap (λ xs. f a ++ xs) (range_on f (a + 1) n j (omega arith)) ∙ sym (append_assoc (f a) (flat_map f (range_with_len (a + 1) n)) (f j))
+
+pub flat_map_range_more : {A : Type 0} (f : ℕ → List A) (a n j : ℕ) → a + n ≡ j → flat_map f (range_with_len a (n + 1)) ≡ flat_map f (range_with_len a n) ++ f j
+flat_map_range_more f a n j e = rw add-one (range_on f a n j e)
+
+pub map_goes_on : {A B : Type 0} (f : A → B) (g : ℕ → B) (start : List B) (xs ys : List A) (x : A) (j : ℕ) → 2 ≤ j → ys ≡ xs ++ x ∷ [] → f x ≡ g j → map f xs ≡ start ++ map g (range_with_len 2 (j - 2)) → map f ys ≡ start ++ map g (range_with_len 2 (j + 1 - 2))
+map_goes_on f g start xs ys x j low grown same is =
+    let next : j - 2 + 1 ≡ j + 1 - 2 = omega arith in
+    let here : 2 + (j - 2) ≡ j = omega arith in
+    ap (map f) grown ∙ map-append f xs (x ∷ []) ∙ ap (λ zs. zs ++ f x ∷ []) is ∙ append_assoc start (map g (range_with_len 2 (j - 2))) (f x ∷ [])
+    ∙ ap (λ zs. start ++ zs) (ap (λ y. map g (range_with_len 2 (j - 2)) ++ y ∷ []) same ∙ sym (map-range_with_len_more g 2 (j - 2) j here) ∙ ap (λ k. map g (range_with_len 2 k)) next)
+
+pub map_goes_up : {A B : Type 0} (f : A → B) (g : ℕ → B) (xs ys : List A) (x : A) (j : ℕ) → ys ≡ xs ++ x ∷ [] → f x ≡ g j → map f xs ≡ map g (range_with_len 0 j) → map f ys ≡ map g (range_with_len 0 (j + 1))
+map_goes_up f g xs ys x j grown same is =
+    ap (map f) grown ∙ map-append f xs (x ∷ []) ∙ ap (λ zs. zs ++ f x ∷ []) is ∙ ap (λ y. map g (range_with_len 0 j) ++ y ∷ []) same ∙ sym (map-range_with_len_more g 0 j j (omega arith))
+
+-- ---- values that stand once
+pub range_apart : (a n : ℕ) → AreApart (range_with_len a n)
+range_apart a zero = tt
+range_apart a (suc n) = (λ here. let low = (range_among a (a + 1) n here).0 in omega arith, range_apart (a + 1) n)
+
+module _ {A : Type 0} where
+  pub apart_from_images : {B : Type 0} (f : A → B) (xs : List A) → AreApart (map f xs) → AreApart xs
+  apart_from_images f [] apart = tt
+  apart_from_images f (x ∷ xs) apart = (λ here. apart.0 (among_map f x xs here), apart_from_images f xs apart.1)
+
+  -- where all are one, there is one
+  pub alike_few : (xs : List A) → AreApart xs → ((x y : A) → IsAmong x xs → IsAmong y xs → x ≡ y) → length xs ≤ 1
+  alike_few [] apart alike = omega arith
+  alike_few (x ∷ xs) apart alike = distinct_fits (x ∷ xs) (x ∷ []) apart (λ y here. inl (alike y x here (inl refl)))
+
+  pub firsts_from : (same : A → A → Bool) (x : A) (xs : List A) → IsAmong x (firsts same xs) → IsAmong x xs
+  firsts_from same x [] here = absurd here
+  firsts_from same x (y ∷ ys) (inl e) = inl e
+  firsts_from same x (y ∷ ys) (inr here) = inr (firsts_from same x ys (filter_among (λ z. not (same y z)) x (firsts same ys) here).0)
+
+  pub firsts_apart : (same : A → A → Bool) → ((x : A) → same x x ≡ true) → (xs : List A) → AreApart (firsts same xs)
+  firsts_apart same itself [] = tt
+  firsts_apart same itself (x ∷ xs) = (
+    λ here. true≢false (sym (itself x) ∙ flip (same x x) (filter_among (λ y. not (same x y)) x (firsts same xs) here).1),
+    distinct_filter (λ y. not (same x y)) (firsts same xs) (firsts_apart same itself xs),
+  )
+    where
+      flip : (b : Bool) → not b ≡ true → b ≡ false
+      flip true e = absurd (true≢false (sym e))
+      flip false e = refl
+
+-- names that stand once are no twins
+pub no_twins : (ns : List Name) → AreApart ns → has_twins ns ≡ false
+no_twins [] apart = refl
+no_twins (n ∷ ns) apart =
+    let first : is_in n ns ≡ false = any_none (same_name n) ns (λ x here. false_from_ne_true (same_name n x) (λ e. apart.0 (subst (λ y. IsAmong y ns) (sym (same_name-is n x e)) here))) in
+    let rest = no_twins ns apart.1 in rw (first, rest) refl

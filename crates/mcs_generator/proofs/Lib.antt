@@ -1,0 +1,4 @@
+pub mod General
+pub mod NameLemmas
+pub mod PartLemmas
+pub mod FaultLemmas

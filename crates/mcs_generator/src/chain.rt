@@ -1,0 +1,119 @@
+//! The links of a chain, as formulas and as rules of a program.
+
+ghost use Rattle.std.specs.Prelude.{◌≡◌, ◌≤◌, IfOk, [], ◌∷◌, codes};
+ghost use Rattle.mcs_system.specs.Plain as plain;
+ghost use Rattle.mcs_system.specs.Seen.{formula_of, default_of, rule_of};
+ghost use Rattle.mcs_generator.specs.Generated.{implication, first_formula, link_formula, first_default, rule, first_rule, link_rule};
+
+use crate::names::{break_name, link_name, rival_name, start_name};
+use mcs_base::Memory;
+use mcs_system::{Default, Formula, Name, ProgRule};
+use std::alloc::Global;
+
+/// The atom of this name, as a formula.
+pub(crate) fn atom(name: Name) -> Formula
+    ensures { formula_of result ≡ plain.Atom name }
+{
+    Formula::Atom(name)
+}
+
+/// That one atom implies another.
+fn implication(alloc: Global, from: Name, to: Name) -> Result<Formula, Memory>
+    ensures { IfOk result (λ f. formula_of f ≡ implication from to) }
+{
+    let from = Box::new(alloc, Formula::Atom(from))?;
+    let to = Box::new(alloc, Formula::Atom(to))?;
+    Ok(Formula::Implies(from, to))
+}
+
+/// That x implies the first link.
+pub(crate) fn first_formula(alloc: Global) -> Result<Formula, Memory>
+    ensures { IfOk result (λ f. formula_of f ≡ first_formula) }
+{
+    let from = start_name(alloc)?;
+    let to = link_name(alloc, 1)?;
+    implication(alloc, from, to)
+}
+
+/// That the link before this one implies it.
+pub(crate) fn link_formula(alloc: Global, link: u32) -> Result<Formula, Memory>
+    requires { 1 ≤ link }
+    ensures { IfOk result (λ f. formula_of f ≡ link_formula link) }
+{
+    let from = link_name(alloc, link - 1)?;
+    let to = link_name(alloc, link)?;
+    implication(alloc, from, to)
+}
+
+/// The one atom of this name, in a list.
+fn alone(alloc: Global, name: Name) -> Result<Vec<Name>, Memory>
+    ensures { IfOk result (λ ns. ns.items ≡ name ∷ []) }
+{
+    let mut names = Vec::new(alloc);
+    names.push(name)?;
+    Ok(names)
+}
+
+/// The first link, as a default: where x holds and the link is not refuted.
+pub(crate) fn first_default(alloc: Global) -> Result<Default, Memory>
+    ensures { IfOk result (λ d. default_of d ≡ first_default) }
+{
+    let mut justs = Vec::new(alloc);
+    justs.push(atom(link_name(alloc, 1)?))?;
+    let pre = start_name(alloc)?;
+    let conclusion = link_name(alloc, 1)?;
+    Ok(Default {
+        pre: atom(pre),
+        justs,
+        conclusion: atom(conclusion),
+    })
+}
+
+/// The first link, as a rule: from x.
+pub(crate) fn first_rule(alloc: Global) -> Result<ProgRule, Memory>
+    ensures { IfOk result (λ r. rule_of r ≡ first_rule) }
+{
+    let head = alone(alloc, link_name(alloc, 1)?)?;
+    let pos = alone(alloc, start_name(alloc)?)?;
+    Ok(ProgRule {
+        head,
+        pos,
+        neg: Vec::new(alloc),
+    })
+}
+
+/// A later link, as a rule: from the link before it, where b does not hold.
+pub(crate) fn link_rule(alloc: Global, link: u32) -> Result<ProgRule, Memory>
+    requires { 1 ≤ link }
+    ensures { IfOk result (λ r. rule_of r ≡ link_rule link) }
+{
+    let head = alone(alloc, link_name(alloc, link)?)?;
+    let pos = alone(alloc, link_name(alloc, link - 1)?)?;
+    let neg = alone(alloc, break_name(alloc)?)?;
+    Ok(ProgRule { head, pos, neg })
+}
+
+/// The rule that chooses between x and y.
+pub(crate) fn choice_rule(alloc: Global) -> Result<ProgRule, Memory>
+    ensures { IfOk result (λ r. rule_of r ≡ rule (codes "x" ∷ codes "y" ∷ []) [] []) }
+{
+    let mut head = alone(alloc, start_name(alloc)?)?;
+    head.push(rival_name(alloc)?)?;
+    Ok(ProgRule {
+        head,
+        pos: Vec::new(alloc),
+        neg: Vec::new(alloc),
+    })
+}
+
+/// The rule that forbids the atom.
+pub(crate) fn forbidding_rule(alloc: Global, atom: Name) -> Result<ProgRule, Memory>
+    ensures { IfOk result (λ r. rule_of r ≡ rule [] (atom ∷ []) []) }
+{
+    let pos = alone(alloc, atom)?;
+    Ok(ProgRule {
+        head: Vec::new(alloc),
+        pos,
+        neg: Vec::new(alloc),
+    })
+}

@@ -1,0 +1,8 @@
+//! Laws of generated systems. The functions do nothing: each contract is a law.
+
+ghost use Rattle.mcs_generator.specs.Laws.{GeneratedSystemsAreValid};
+
+/// A generated system has no fault.
+pub fn generated_systems_are_valid()
+    ensures { GeneratedSystemsAreValid }
+{}
