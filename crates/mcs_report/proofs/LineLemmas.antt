@@ -1,10 +1,6 @@
 -- Members that are written one after the other, and pieces of a line.
-use Rattle.std.proofs.Common.{◌≡◌, ℕ, ◌+◌, ◌<◌, ◌^◌, Bool, true, false, cond, List, [], ◌∷◌, ◌++◌, codes, Result, Ok, Err, OnOk, refl, sym, ap, ◌∙◌, length, get_or, drop, append_assoc, arith}
+use Rattle.std.proofs.Common.{◌≡◌, ℕ, ◌+◌, ◌<◌, Bool, true, false, cond, List, [], ◌∷◌, ◌++◌, codes, refl, sym, ap, ◌∙◌, length, get_or, drop, append_assoc}
 use Rattle.std.proofs.lemmas.List.{append-nil, drop_more}
-use Rattle.std.specs.List.{AllByRecursion}
-use Rattle.mcs_sets.specs.Sets.{members, such_that, Within}
-use Rattle.mcs_sets.proofs.SetLemmas.{members_below, such_that-lt, Within-le}
-use Rattle.mcs_base.proofs.ListingLemmas.{members_listing, all_from_among}
 use Rattle.mcs_system.specs.Plain.{System}
 use Rattle.mcs_text.specs.Separated.{further, separated}
 use Rattle.mcs_report.specs.Listing.{equilibrium_line, equilibrium_lines}

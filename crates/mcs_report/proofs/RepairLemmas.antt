@@ -1,5 +1,5 @@
 -- Marks that are written one after the other, and the number of the first edge that a set meets in one mark alone.
-use Rattle.std.proofs.Common.{◌≡◌, ℕ, ◌+◌, ◌*◌, ◌<◌, nat_eq, List, ◌++◌, length, get_or, Option, Some, None, MatchOption, IsSome, ap, ◌∙◌, append_assoc, arith, rules}
+use Rattle.std.proofs.Common.{◌≡◌, ℕ, ◌+◌, ◌*◌, ◌<◌, nat_eq, List, length, get_or, Option, Some, None, MatchOption, IsSome, ap, ◌∙◌, arith, rules}
 use Rattle.std.proofs.lemmas.Bool.Decides.{nat_tests}
 use Rattle.std.proofs.lemmas.List.Sums.{position_or_len_is}
 use Rattle.std.specs.List.{AllByRecursion}

@@ -1,9 +1,9 @@
 -- The whole listing of a system is one, its stages are fronts of it, and there is one.
-use Rattle.std.proofs.Common.{◌≡◌, ℕ, ◌+◌, ◌*◌, ◌^◌, ◌<◌, List, [], ◌∷◌, ◌++◌, length, refl, sym, ap, subst, inl, inr, ◌⊎◌, ◌↔◌, ◌∙◌, append_assoc}
+use Rattle.std.proofs.Common.{◌≡◌, ℕ, ◌+◌, ◌*◌, List, [], ◌∷◌, ◌++◌, length, refl, sym, ap, subst, inl, inr, ◌⊎◌, ◌↔◌, ◌∙◌, append_assoc}
 use Rattle.std.proofs.lemmas.List.{append-nil}
 use Rattle.mcs_sets.specs.Sets.{minus, Within, Meets}
 use Rattle.mcs_sets.specs.Orders.{StateBefore, PairBefore}
-use Rattle.mcs_sets.proofs.Lattice.{cases_within, below_from_within}
+use Rattle.mcs_sets.proofs.Lattice.{cases_within}
 use Rattle.mcs_sets.proofs.SetLemmas.{StateBefore-asymmetric, PairBefore-asymmetric}
 use Rattle.mcs_base.specs.Listings.{IsListing}
 use Rattle.mcs_base.specs.Minimal.{IsMinimal}
@@ -14,7 +14,7 @@ use Rattle.mcs_base.proofs.Each.{all_from_among}
 use Rattle.mcs_base.proofs.ListingLemmas.{same_listing}
 use Rattle.mcs_system.specs.Plain.{System}
 use Rattle.mcs_system.specs.Levels.{IsNeed}
-use Rattle.mcs_system.specs.Repairs.{all_marks, allowed_marks, IsDiagnosis, IsExplanation}
+use Rattle.mcs_system.specs.Repairs.{allowed_marks, IsDiagnosis, IsExplanation}
 use Rattle.mcs_system.specs.Systems.{all_rules, IsProjectedEquilibrium}
 use Rattle.mcs_system.proofs.MarkLemmas.{marks_small}
 use Rattle.mcs_laws.proofs.Choices.{consistent_minimal, consistent_unexplained}
@@ -28,7 +28,7 @@ use Rattle.mcs_diagnosis.specs.declared.diagnosis.Diagnosis as code
 use Rattle.mcs_diagnosis.specs.Diagnoses.{AreDiagnoses, pairs_of}
 use Rattle.mcs_diagnosis.proofs.ShownLemmas.{diagnoses_are_one, below_is_front, shown_exist}
 use Rattle.mcs_report.specs.Listing.{heading}
-use Rattle.mcs_report.specs.Solutions.{diagnosis_lines, equilibria_part, listing_front, listing_rest, AreEquilibria, first, below, whole, WholeListingsAreOne, ListingStagesAreFronts, WholeListingsExist, ConsistentListingsExplainNothing, ListingsWithoutDiagnoses}
+use Rattle.mcs_report.specs.Solutions.{diagnosis_lines, equilibria_part, listing_front, listing_rest, AreEquilibria, first, below, whole, summary_text, WholeListingsAreOne, ListingStagesAreFronts, WholeListingsExist, SummariesAreOne, SummaryStagesAreFronts, SummariesExist, ConsistentListingsExplainNothing, ListingsWithoutDiagnoses}
 use Rattle.mcs_report.proofs.General.{listed_alone, decided_listed, cases_meet, cases_minimal}
 use Rattle.mcs_report.proofs.SolutionLemmas.{diagnosis_lines-append}
 
@@ -129,6 +129,31 @@ whole_exists m =
     let (need, needed) = need_exists m in (
       listing_front m states ds ++ listing_rest m states ds ts need,
       record { states = states; equilibria = equilibria; diagnoses = ds; repairs = repairs; explanations = ts; causes = causes; need = need; needed = needed; text_is = refl },
+    )
+
+-- ---- the summary
+pub summary_is_one : SummariesAreOne
+summary_is_one m text other a b =
+    let states = equilibria_are_one m a.listed.states b.listed.states a.listed.equilibria b.listed.equilibria in
+    let ds = diagnoses_are_one m a.listed.diagnoses b.listed.diagnoses a.listed.repairs b.listed.repairs in
+    let ts = same_listing PairBefore PairBefore-asymmetric _ a.listed.explanations b.listed.explanations a.listed.causes b.listed.causes in
+    let need = need_is_one m a.listed.need b.listed.need a.listed.needed b.listed.needed in
+    a.text_is
+    ∙ ap (λ (xs : List ℕ). summary_text (length xs) (length a.listed.diagnoses) (length a.listed.explanations) a.listed.need) states
+    ∙ ap (λ (xs : List code.Diagnosis). summary_text (length b.listed.states) (length xs) (length a.listed.explanations) a.listed.need) ds
+    ∙ ap (λ (xs : List ℕ). summary_text (length b.listed.states) (length b.listed.diagnoses) (length xs) a.listed.need) ts
+    ∙ ap (λ (n : ℕ). summary_text (length b.listed.states) (length b.listed.diagnoses) (length b.listed.explanations) n) need
+    ∙ sym b.text_is
+
+pub stages_of_summary : SummaryStagesAreFronts
+stages_of_summary m stage text (inl none) s = (text, ap (λ (xs : List ℕ). xs ++ text) none)
+stages_of_summary m stage text (inr same) s = ([], append-nil stage ∙ summary_is_one m stage text same s)
+
+pub summary_exists : SummariesExist
+summary_exists m =
+    let (listing, w) = whole_exists m in (
+      summary_text (length w.states) (length w.diagnoses) (length w.explanations) w.need,
+      record { listing = listing; listed = w; text_is = refl },
     )
 
 -- ---- a consistent system, and one without diagnoses

@@ -1,5 +1,5 @@
 -- The whole listing of a system: its equilibria, its minimal diagnoses and its minimal explanations; and its stages.
-use Rattle.std.specs.Prelude.{◌≡◌, ℕ, zero, suc, ◌+◌, nat_lt, List, [], ◌∷◌, ◌++◌, length}
+use Rattle.std.specs.Prelude.{◌≡◌, ℕ, zero, suc, ◌+◌, nat_lt, List, [], ◌∷◌, ◌++◌, length, ◌⊎◌}
 use Rattle.mcs_sets.specs.Orders.{StateBefore, PairBefore}
 use Rattle.mcs_base.specs.Listings.{IsListing}
 use Rattle.mcs_base.specs.Minimal.{IsMinimal}
@@ -70,6 +70,21 @@ pub data IsListingStage (m : System) (text : List ℕ) : Type 0 where
   below : (level : ℕ) → IsListingBelow m level text → IsListingStage m text
   whole : IsWholeListing m text → IsListingStage m text
 
+-- ---- the listing without its parts
+-- the verdict, where there are so many equilibria, and the end line
+abbrev pub summary_text : ℕ → ℕ → ℕ → ℕ → List ℕ
+summary_text equilibria diagnoses explanations need = verdict_line (nat_lt 0 equilibria) ++ end_line equilibria diagnoses explanations need
+
+-- the verdict and the end line of the whole listing, and nothing else of it
+pub record IsSummary (m : System) (text : List ℕ) : Type 0 where
+  pub listing : List ℕ
+  pub listed : IsWholeListing m listing
+  pub text_is : text ≡ summary_text (length listed.states) (length listed.diagnoses) (length listed.explanations) listed.need
+
+-- a stage of it: nothing, or the whole
+abbrev pub IsSummaryStage : System → List ℕ → Type 0
+IsSummaryStage m text = (text ≡ []) ⊎ IsSummary m text
+
 -- ---- laws
 -- a system has one whole listing
 abbrev pub WholeListingsAreOne : Type 0
@@ -82,6 +97,18 @@ ListingStagesAreFronts = (m : System) (stage text : List ℕ) → IsListingStage
 -- and there is one
 abbrev pub WholeListingsExist : Type 0
 WholeListingsExist = (m : System) → (text : List ℕ) × IsWholeListing m text
+
+-- a system has one summary
+abbrev pub SummariesAreOne : Type 0
+SummariesAreOne = (m : System) (text other : List ℕ) → IsSummary m text → IsSummary m other → text ≡ other
+
+-- each stage is a front of it
+abbrev pub SummaryStagesAreFronts : Type 0
+SummaryStagesAreFronts = (m : System) (stage text : List ℕ) → IsSummaryStage m stage → IsSummary m text → (rest : List ℕ) × (stage ++ rest ≡ text)
+
+-- and there is one
+abbrev pub SummariesExist : Type 0
+SummariesExist = (m : System) → (text : List ℕ) × IsSummary m text
 
 -- a consistent system has the empty diagnosis alone, and no explanation
 abbrev pub ConsistentListingsExplainNothing : Type 0

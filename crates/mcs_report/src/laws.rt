@@ -1,7 +1,7 @@
 //! Laws of the listings. The functions do nothing: each contract is a law.
 
 ghost use Rattle.mcs_report.specs.Listing.{EquilibriaTextsAreOne, StagesAreFronts, EquilibriaTextsExist};
-ghost use Rattle.mcs_report.specs.Solutions.{WholeListingsAreOne, ListingStagesAreFronts, WholeListingsExist, ConsistentListingsExplainNothing, ListingsWithoutDiagnoses};
+ghost use Rattle.mcs_report.specs.Solutions.{WholeListingsAreOne, ListingStagesAreFronts, WholeListingsExist, SummariesAreOne, SummaryStagesAreFronts, SummariesExist, ConsistentListingsExplainNothing, ListingsWithoutDiagnoses};
 
 /// A system has at most one listing of its equilibria, and each stage of it is a front.
 pub fn equilibria_texts_are_unambiguous()
@@ -24,6 +24,13 @@ pub fn whole_listings_are_unambiguous()
 /// A system has a whole listing.
 pub fn whole_listings_exist()
     ensures { WholeListingsExist }
+{}
+
+/// A system has exactly one summary of its whole listing, the verdict and the end line, and each stage of it is a front.
+pub fn summaries_are_one()
+    ensures one { SummariesAreOne }
+    ensures stages { SummaryStagesAreFronts }
+    ensures some { SummariesExist }
 {}
 
 /// The whole listing of a consistent system has the empty pair as its one diagnosis, and no explanation; where it has

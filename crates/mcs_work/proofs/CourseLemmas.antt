@@ -1,12 +1,12 @@
 -- Levels are done one after the other, their diagnoses are printed, and then all is known.
-use Rattle.std.proofs.Common.{◌≡◌, ℕ, zero, suc, ◌+◌, ◌-◌, ◌<◌, ◌≤◌, max, Bool, true, false, List, [], ◌∷◌, ◌++◌, map, length, Option, Some, None, Result, Ok, Err, refl, sym, ap, ◌∙◌, subst, inl, inr, ◌⊎◌, append_assoc, arith}
+use Rattle.std.proofs.Common.{◌≡◌, ℕ, zero, suc, ◌+◌, ◌-◌, ◌<◌, ◌≤◌, max, nat_lt, Bool, true, false, List, [], ◌∷◌, ◌++◌, length, Option, Some, None, Err, refl, sym, ap, ◌∙◌, subst, inl, inr, ◌⊎◌, append_assoc, arith}
 use Rattle.std.proofs.lemmas.Bool.{cases_lt}
 use Rattle.std.proofs.lemmas.List.{append-nil, length-map}
 use Rattle.mcs_ports.specs.Pieces.{Device, appended}
 use Rattle.mcs_text.specs.Writes.{Writes}
 use Rattle.mcs_text.specs.declared.unwritten.Unwritten.{Unwritten}
 use Rattle.mcs_text.proofs.WriteLaws.{appended-none, appended-append}
-use Rattle.mcs_sets.specs.Orders.{StateBefore, PairBefore}
+use Rattle.mcs_sets.specs.Orders.{PairBefore}
 use Rattle.std.specs.List.{AllByRecursion}
 use Rattle.mcs_base.specs.Listings.{IsListing, IsAmong}
 use Rattle.mcs_base.specs.Minimal.{IsMinimal}
@@ -30,11 +30,14 @@ use Rattle.mcs_diagnosis.specs.declared.diagnosis.Diagnosis as code
 use Rattle.mcs_diagnosis.specs.Courses.{IsPast}
 use Rattle.mcs_diagnosis.specs.Diagnoses.{AreFound, AreFoundBelow, AreDiagnoses, IsShown, pairs_of}
 use Rattle.mcs_diagnosis.proofs.BelowLemmas.{none_below, more_below, all_of_consistent, all_below, shown_within}
-use Rattle.mcs_report.specs.Listing.{heading}
+use Rattle.mcs_report.specs.Listing.{verdict_line}
 use Rattle.mcs_report.specs.Repairs.{end_line}
-use Rattle.mcs_report.specs.Solutions.{AreEquilibria, IsWholeListing, diagnosis_lines, explanation_lines, equilibria_part, listing_front, below, whole}
+use Rattle.mcs_report.specs.Solutions.{AreEquilibria, IsWholeListing, IsSummary, explanation_lines, listing_front, summary_text, below, whole}
 use Rattle.mcs_report.proofs.SolutionLemmas.{diagnosis_lines-append}
-use Rattle.mcs_work.specs.Tasks.{IsTaskUpTo, IsTaskStage, IsTaken, IsLastTaken, stop_for_halt, stop_for_line}
+use Rattle.mcs_work.specs.Extents.{task_of, states_part, diagnoses_part, front_part, rest_part}
+use Rattle.mcs_work.specs.declared.extent.Extent.{Extent}
+use Rattle.mcs_work.specs.declared.extent.Extent.TheVariants.{Whole, Counts}
+use Rattle.mcs_work.specs.Tasks.{opening, IsTaskText, IsTaskUpTo, IsTaskStage, IsTaken, IsLastTaken, stop_for_halt, stop_for_line}
 use Rattle.mcs_work.specs.Work.{LeavesStage, IsDone, IsSpent, HasStopped}
 use Rattle.mcs_work.specs.Course.{IsUnderWay, AddsLines, HasGone}
 use Rattle.mcs_work.specs.Printed.{IsOfSystem, IsCauseOf}
@@ -82,49 +85,75 @@ module _ (e e' : EvaluatorState) (level : ℕ) (ds : List code.Diagnosis) (u : I
       ]
 
 -- ---- the text that is written so
-pub front_more : (m : System) (σs : List ℕ) (ds fresh : List code.Diagnosis) → listing_front m σs ds ++ diagnosis_lines m (length ds + 1) fresh ≡ listing_front m σs (ds ++ fresh)
-front_more m σs ds fresh =
+pub diagnoses_part-none : (x : Extent) (m : System) (k : ℕ) → diagnoses_part x m k [] ≡ []
+diagnoses_part-none Whole m k = refl
+diagnoses_part-none Counts m k = refl
+
+diagnoses_part-append : (x : Extent) (m : System) (k : ℕ) (ds fresh : List code.Diagnosis) → diagnoses_part x m k (ds ++ fresh) ≡ diagnoses_part x m k ds ++ diagnoses_part x m (k + length ds) fresh
+diagnoses_part-append Whole m k ds fresh = diagnosis_lines-append m k ds fresh
+diagnoses_part-append Counts m k ds fresh = refl
+
+pub front_more : (x : Extent) (m : System) (σs : List ℕ) (ds fresh : List code.Diagnosis) → front_part x m σs ds ++ diagnoses_part x m (length ds + 1) fresh ≡ front_part x m σs (ds ++ fresh)
+front_more x m σs ds fresh =
     let next : length ds + 1 ≡ 1 + length ds = omega arith in
-    append_assoc (heading m) (equilibria_part m σs ++ diagnosis_lines m 1 ds) (diagnosis_lines m (length ds + 1) fresh)
-    ∙ ap (λ t. heading m ++ t) (append_assoc (equilibria_part m σs) (diagnosis_lines m 1 ds) (diagnosis_lines m (length ds + 1) fresh)
-    ∙ ap (λ t. equilibria_part m σs ++ t) (ap (λ (n : ℕ). diagnosis_lines m 1 ds ++ diagnosis_lines m n fresh) next ∙ sym (diagnosis_lines-append m 1 ds fresh)))
+    append_assoc (opening (task_of x) m) (states_part x m σs ++ diagnoses_part x m 1 ds) (diagnoses_part x m (length ds + 1) fresh)
+    ∙ ap (λ t. opening (task_of x) m ++ t) (append_assoc (states_part x m σs) (diagnoses_part x m 1 ds) (diagnoses_part x m (length ds + 1) fresh)
+    ∙ ap (λ t. states_part x m σs ++ t) (ap (λ (n : ℕ). diagnoses_part x m 1 ds ++ diagnoses_part x m n fresh) next ∙ sym (diagnoses_part-append x m 1 ds fresh)))
 
-stage_below : (m : System) (σs : List ℕ) (ds : List code.Diagnosis) (level : ℕ) (text : List ℕ) → AreEquilibria m σs → AreFoundBelow m level ds → text ≡ listing_front m σs ds → IsTaskStage Solve m text
-stage_below m σs ds level text equilibria found is = below level (record { states = σs; equilibria = equilibria; diagnoses = ds; repairs = found; text_is = is })
+stage_below : (x : Extent) (m : System) (σs : List ℕ) (ds : List code.Diagnosis) (level : ℕ) (text : List ℕ) → AreEquilibria m σs → AreFoundBelow m level ds → text ≡ front_part x m σs ds → IsTaskStage (task_of x) m text
+stage_below Whole m σs ds level text equilibria found is = below level (record { states = σs; equilibria = equilibria; diagnoses = ds; repairs = found; text_is = is })
+stage_below Counts m σs ds level text equilibria found is = inl is
 
-listed_before : (m : System) (σs : List ℕ) (ds : List code.Diagnosis) (level : ℕ) → 0 < level → AreEquilibria m σs → AreFoundBelow m level ds → IsTaskUpTo Solve m level (listing_front m σs ds ++ [])
-listed_before m σs ds zero more equilibria found = absurd (omega (arith, more))
-listed_before m σs ds (suc n) more equilibria found = record { states = σs; equilibria = equilibria; diagnoses = ds; repairs = found; text_is = append-nil (listing_front m σs ds) }
+listed_before : (x : Extent) (m : System) (σs : List ℕ) (ds : List code.Diagnosis) (level : ℕ) → 0 < level → AreEquilibria m σs → AreFoundBelow m level ds → IsTaskUpTo (task_of x) m level (front_part x m σs ds ++ [])
+listed_before Whole m σs ds zero more equilibria found = absurd (omega (arith, more))
+listed_before Whole m σs ds (suc n) more equilibria found = record { states = σs; equilibria = equilibria; diagnoses = ds; repairs = found; text_is = append-nil (listing_front m σs ds) }
+listed_before Counts m σs ds level more equilibria found = refl
 
-taken_here : (m : System) (level : ℕ) → ¬ IsPast m level → IsTaken Solve m level
-taken_here m zero open_yet = inl refl
-taken_here m (suc n) open_yet = inr ((λ c. open_yet (inr (let more : 0 < suc n = omega arith in (more, c)))), at_most (length m.bridges) (suc n) (λ more. open_yet (inl more)))
+-- both extents take the same levels
+taken_as : (x : Extent) (m : System) (level : ℕ) → IsTaken Solve m level → IsTaken (task_of x) m level
+taken_as Whole m level taken = taken
+taken_as Counts m level taken = taken
+
+taken_back : (x : Extent) (m : System) (level : ℕ) → IsTaken (task_of x) m level → IsTaken Solve m level
+taken_back Whole m level taken = taken
+taken_back Counts m level taken = taken
+
+last_as : (x : Extent) (m : System) (level : ℕ) → IsLastTaken Solve m level → IsLastTaken (task_of x) m level
+last_as Whole m level last = last
+last_as Counts m level last = last
+
+repair_level : (m : System) (level : ℕ) → ¬ IsPast m level → IsTaken Solve m level
+repair_level m zero open_yet = inl refl
+repair_level m (suc n) open_yet = inr ((λ c. open_yet (inr (let more : 0 < suc n = omega arith in (more, c)))), at_most (length m.bridges) (suc n) (λ more. open_yet (inl more)))
+
+taken_here : (x : Extent) (m : System) (level : ℕ) → ¬ IsPast m level → IsTaken (task_of x) m level
+taken_here x m level open_yet = taken_as x m level (repair_level m level open_yet)
 
 -- ---- where a level stops
-module _ (σs : List ℕ) (e e' : EvaluatorState) (level : ℕ) (ds : List code.Diagnosis) (u : IsUnderWay e level ds) (open_yet : ¬ IsPast e.system level) (equilibria : AreEquilibria e.system σs) where
-  nothing_more : (at : Option (List ℕ)) → LeavesStage Solve e.system (listing_front e.system σs ds) at at
-  nothing_more at = left_nothing Solve e.system (listing_front e.system σs ds) at (stage_below e.system σs ds level _ equilibria u.repairs refl)
+module _ (x : Extent) (σs : List ℕ) (e e' : EvaluatorState) (level : ℕ) (ds : List code.Diagnosis) (u : IsUnderWay e level ds) (open_yet : ¬ IsPast e.system level) (equilibria : AreEquilibria e.system σs) where
+  nothing_more : (at : Option (List ℕ)) → LeavesStage (task_of x) e.system (front_part x e.system σs ds) at at
+  nothing_more at = left_nothing (task_of x) e.system (front_part x e.system σs ds) at (stage_below x e.system σs ds level _ equilibria u.repairs refl)
 
   later_level : IsBeyond e level → 0 < level
   later_level beyond = elim (cases_lt 0 level) [ inl more ↦ more | inr none ↦ absurd (u.within level (omega (arith, none)) beyond) ]
 
-  halted : (at : Device) (halt : Halt) → HasHaltCause e level halt → IsTold e' halt → HasStopped Solve (listing_front e.system σs ds) e e' at at (stop_for_halt halt)
+  halted : (at : Device) (halt : Halt) → HasHaltCause e level halt → IsTold e' halt → HasStopped (task_of x) (front_part x e.system σs ds) e e' at at (stop_for_halt halt)
   halted at (halts.Spent found drawn) (here, more, some) told =
       let beyond : IsBeyond e level = found_beyond e level drawn (omega (arith, more)) some in
-      subst (λ (l : ℕ). IsTold e' (halts.Spent l drawn) → IsSpent Solve (listing_front e.system σs ds) e e' l at.written at.written) (sym here) (λ said. record {
-        taken = taken_here e.system level open_yet;
+      subst (λ (l : ℕ). IsTold e' (halts.Spent l drawn) → IsSpent (task_of x) (front_part x e.system σs ds) e e' l at.written at.written) (sym here) (λ said. record {
+        taken = taken_here x e.system level open_yet;
         beyond = beyond;
         least = λ k less. u.within k (omega (arith, less));
         drawn = drawn;
         halt = said.0;
         over = said.1;
         part = [];
-        text = listed_before e.system σs ds level (later_level beyond) equilibria u.repairs;
+        text = listed_before x e.system σs ds level (later_level beyond) equilibria u.repairs;
         written = appended-none at.written;
       }) told
   halted at (halts.Missing context active) lacking told = record {
     level = level;
-    taken = taken_here e.system level open_yet;
+    taken = taken_here x e.system level open_yet;
     unanswered = lacking;
     halt = told.0;
     over = told.1;
@@ -133,36 +162,36 @@ module _ (σs : List ℕ) (e e' : EvaluatorState) (level : ℕ) (ds : List code.
   halted at halts.Memory h told = nothing_more at.written
 
   module _ (fresh : List code.Diagnosis) (found : AreFound e.system level fresh) where
-    with_level : IsTaskStage Solve e.system (listing_front e.system σs ds ++ diagnosis_lines e.system (length ds + 1) fresh)
-    with_level = stage_below e.system σs (ds ++ fresh) (level + 1) _ equilibria (more_below e.system level ds fresh u.repairs found) (front_more e.system σs ds fresh)
+    with_level : IsTaskStage (task_of x) e.system (front_part x e.system σs ds ++ diagnoses_part x e.system (length ds + 1) fresh)
+    with_level = stage_below x e.system σs (ds ++ fresh) (level + 1) _ equilibria (more_below e.system level ds fresh u.repairs found) (front_more x e.system σs ds fresh)
 
-    lines_cut : (before now : Device) (why : Unwritten) → Writes {T = Unit {0}} (diagnosis_lines e.system (length ds + 1) fresh) before now (Err why) → HasStopped Solve (listing_front e.system σs ds) e e' before now (stop_for_line why)
-    lines_cut before now why w = cut_off Solve (listing_front e.system σs ds) _ e e' before now why with_level w
+    lines_cut : (before now : Device) (why : Unwritten) → Writes {T = Unit {0}} (diagnoses_part x e.system (length ds + 1) fresh) before now (Err why) → HasStopped (task_of x) (front_part x e.system σs ds) e e' before now (stop_for_line why)
+    lines_cut before now why w = cut_off (task_of x) (front_part x e.system σs ds) _ e e' before now why with_level w
 
-    lines_left : (before now : Option (List ℕ)) → now ≡ appended before (diagnosis_lines e.system (length ds + 1) fresh) → LeavesStage Solve e.system (listing_front e.system σs ds) before now
+    lines_left : (before now : Option (List ℕ)) → now ≡ appended before (diagnoses_part x e.system (length ds + 1) fresh) → LeavesStage (task_of x) e.system (front_part x e.system σs ds) before now
     lines_left before now is = record {
-      part = diagnosis_lines e.system (length ds + 1) fresh;
+      part = diagnoses_part x e.system (length ds + 1) fresh;
       rest = [];
-      stage = subst (λ t. IsTaskStage Solve e.system (listing_front e.system σs ds ++ t)) (sym (append-nil (diagnosis_lines e.system (length ds + 1) fresh))) with_level;
+      stage = subst (λ t. IsTaskStage (task_of x) e.system (front_part x e.system σs ds ++ t)) (sym (append-nil (diagnoses_part x e.system (length ds + 1) fresh))) with_level;
       written = is;
     }
 
 -- the same for the system itself
-module _ (m : System) (e e' : EvaluatorState) (same : e.system ≡ m) (σs : List ℕ) (level : ℕ) (ds : List code.Diagnosis) (u : IsUnderWay e level ds) (open_yet : ¬ IsPast e.system level) (equilibria : AreEquilibria m σs) where
-  pub halted_at : (at : Device) (halt : Halt) → HasHaltCause e level halt → IsTold e' halt → HasStopped Solve (listing_front m σs ds) e e' at at (stop_for_halt halt)
-  halted_at at halt cause told = subst (λ (n : System). AreEquilibria n σs → HasStopped Solve (listing_front n σs ds) e e' at at (stop_for_halt halt)) same (λ eq. halted σs e e' level ds u open_yet eq at halt cause told) equilibria
+module _ (x : Extent) (m : System) (e e' : EvaluatorState) (same : e.system ≡ m) (σs : List ℕ) (level : ℕ) (ds : List code.Diagnosis) (u : IsUnderWay e level ds) (open_yet : ¬ IsPast e.system level) (equilibria : AreEquilibria m σs) where
+  pub halted_at : (at : Device) (halt : Halt) → HasHaltCause e level halt → IsTold e' halt → HasStopped (task_of x) (front_part x m σs ds) e e' at at (stop_for_halt halt)
+  halted_at at halt cause told = subst (λ (n : System). AreEquilibria n σs → HasStopped (task_of x) (front_part x n σs ds) e e' at at (stop_for_halt halt)) same (λ eq. halted x σs e e' level ds u open_yet eq at halt cause told) equilibria
 
-  pub lines_cut_at : (fresh : List code.Diagnosis) → AreFound e.system level fresh → (before now : Device) (why : Unwritten) → Writes {T = Unit {0}} (diagnosis_lines m (length ds + 1) fresh) before now (Err why)
-      → HasStopped Solve (listing_front m σs ds) e e' before now (stop_for_line why)
+  pub lines_cut_at : (fresh : List code.Diagnosis) → AreFound e.system level fresh → (before now : Device) (why : Unwritten) → Writes {T = Unit {0}} (diagnoses_part x m (length ds + 1) fresh) before now (Err why)
+      → HasStopped (task_of x) (front_part x m σs ds) e e' before now (stop_for_line why)
   lines_cut_at fresh found before now why w =
-      subst (λ (n : System). AreEquilibria n σs → Writes {T = Unit {0}} (diagnosis_lines n (length ds + 1) fresh) before now (Err why) → HasStopped Solve (listing_front n σs ds) e e' before now (stop_for_line why)) same
-      (λ eq v. lines_cut σs e e' level ds u open_yet eq fresh found before now why v) equilibria w
+      subst (λ (n : System). AreEquilibria n σs → Writes {T = Unit {0}} (diagnoses_part x n (length ds + 1) fresh) before now (Err why) → HasStopped (task_of x) (front_part x n σs ds) e e' before now (stop_for_line why)) same
+      (λ eq v. lines_cut x σs e e' level ds u open_yet eq fresh found before now why v) equilibria w
 
-  pub memory_at : (fresh : List code.Diagnosis) → AreFound e.system level fresh → (before now : Device) → now.written ≡ appended before.written (diagnosis_lines m (length ds + 1) fresh)
-      → HasStopped Solve (listing_front m σs ds) e e' before now stops.Memory
+  pub memory_at : (fresh : List code.Diagnosis) → AreFound e.system level fresh → (before now : Device) → now.written ≡ appended before.written (diagnoses_part x m (length ds + 1) fresh)
+      → HasStopped (task_of x) (front_part x m σs ds) e e' before now stops.Memory
   memory_at fresh found before now is =
-      subst (λ (n : System). AreEquilibria n σs → now.written ≡ appended before.written (diagnosis_lines n (length ds + 1) fresh) → HasStopped Solve (listing_front n σs ds) e e' before now stops.Memory) same
-      (λ eq w. lines_left σs e e' level ds u open_yet eq fresh found before.written now.written w) equilibria is
+      subst (λ (n : System). AreEquilibria n σs → now.written ≡ appended before.written (diagnoses_part x n (length ds + 1) fresh) → HasStopped (task_of x) (front_part x n σs ds) e e' before now stops.Memory) same
+      (λ eq w. lines_left x σs e e' level ds u open_yet eq fresh found before.written now.written w) equilibria is
 
 -- ---- in the end
 pub record IsEnded (e : EvaluatorState) (level : ℕ) (ds : List code.Diagnosis) : Type 0 where
@@ -216,7 +245,7 @@ decided_always m = let (σs, listing) = all_states_listed m (all_rules m) 0 in d
 -- once the explanations and the end line are written, all is
 module _ (e : EvaluatorState) (level : ℕ) (ds : List code.Diagnosis) (σs ts pairs : List ℕ) (count asked : ℕ) (u : IsUnderWay e level ds) (past : IsPast e.system level) (equilibria : AreEquilibria e.system σs)
     (counted : length σs ≡ count) (told : asked ≡ asked_of e) (paired : pairs ≡ pairs_of ds) (listed : IsListing (IsMinimal (IsTransversalOf (pairs_of ds))) PairBefore ts) where
-  all_known : IsWholeListing e.system (listing_front e.system σs ds ++ (explanation_lines e.system 1 pairs ts ++ end_line count (length pairs) (length ts) asked))
+  abbrev all_known : IsWholeListing e.system (listing_front e.system σs ds ++ (explanation_lines e.system 1 pairs ts ++ end_line count (length pairs) (length ts) asked))
   all_known =
       let end : IsEnded e level ds = ended e level ds u past (decided_always e.system) in
       let many : length pairs ≡ length ds = ap length paired ∙ length-map ds (λ (d : code.Diagnosis). d.pair) in
@@ -237,19 +266,39 @@ module _ (e : EvaluatorState) (level : ℕ) (ds : List code.Diagnosis) (σs ts p
             ∙ ap (λ (n : ℕ). explanation_lines e.system 1 (pairs_of ds) ts ++ end_line (length σs) (length ds) (length ts) n) told);
       }
 
-  all_done : (before now : Option (List ℕ)) → now ≡ appended before (explanation_lines e.system 1 pairs ts ++ end_line count (length pairs) (length ts) asked) → IsDone Solve (listing_front e.system σs ds) e e before now
-  all_done before now is =
+  counts_known : IsSummary e.system (verdict_line (nat_lt 0 count) ++ end_line count (length pairs) (length ts) asked)
+  counts_known =
+      let many : length pairs ≡ length ds = ap length paired ∙ length-map ds (λ (d : code.Diagnosis). d.pair) in
+      record {
+        listing = _;
+        listed = all_known;
+        text_is =
+            ap (λ (n : ℕ). summary_text n (length pairs) (length ts) asked) (sym counted)
+            ∙ ap (λ (n : ℕ). summary_text (length σs) n (length ts) asked) many
+            ∙ ap (λ (n : ℕ). summary_text (length σs) (length ds) (length ts) n) told;
+      }
+
+  text_known : (x : Extent) → IsTaskText (task_of x) e.system (front_part x e.system σs ds ++ rest_part x e.system count pairs ts asked)
+  text_known Whole = all_known
+  text_known Counts = counts_known
+
+  stage_known : (x : Extent) → IsTaskStage (task_of x) e.system (front_part x e.system σs ds ++ rest_part x e.system count pairs ts asked)
+  stage_known Whole = whole all_known
+  stage_known Counts = inr counts_known
+
+  all_done : (x : Extent) (before now : Option (List ℕ)) → now ≡ appended before (rest_part x e.system count pairs ts asked) → IsDone (task_of x) (front_part x e.system σs ds) e e before now
+  all_done x before now is =
       let end : IsEnded e level ds = ended e level ds u past (decided_always e.system) in
       record {
-        part = explanation_lines e.system 1 pairs ts ++ end_line count (length pairs) (length ts) asked;
-        text = all_known;
+        part = rest_part x e.system count pairs ts asked;
+        text = text_known x;
         written = is;
         level = level - 1;
-        last = end.last;
+        last = last_as x e.system (level - 1) end.last;
         level_done = u.done;
-        going = u.settled.going;
-        within = λ k taken. u.within k (end.reached k taken);
-        answered = λ k i x taken. u.answered k i x (end.reached k taken);
+        settled = u.settled;
+        within = λ k taken. u.within k (end.reached k (taken_back x e.system k taken));
+        answered = λ k i r taken. u.answered k i r (end.reached k (taken_back x e.system k taken));
       }
 
 -- ---- what is printed is of the system
@@ -263,19 +312,19 @@ pub lines_of_system : (m n : System) (level : ℕ) (ds : List code.Diagnosis) �
 lines_of_system m n level ds same found =
     subst (λ (s : System). AllByRecursion (IsOfSystem s) ds) same (each_of_system n ds (λ p among. ((found.listed.exactly p).0 among).0.one) found.shown)
 
-pub gone : (m n : System) (level level' : ℕ) (ds fresh ds' : List code.Diagnosis) (before now : Option (List ℕ)) → n ≡ m → ¬ IsPast n level → level' ≡ level + 1 → ds' ≡ ds ++ fresh → now ≡ appended before (diagnosis_lines m (length ds + 1) fresh)
-    → HasGone m level level' ds ds' before now true
-gone m n level level' ds fresh ds' before now same open_yet next grown is =
+pub gone : (x : Extent) (m n : System) (level level' : ℕ) (ds fresh ds' : List code.Diagnosis) (before now : Option (List ℕ)) → n ≡ m → ¬ IsPast n level → level' ≡ level + 1 → ds' ≡ ds ++ fresh → now ≡ appended before (diagnoses_part x m (length ds + 1) fresh)
+    → HasGone x m level level' ds ds' before now true
+gone x m n level level' ds fresh ds' before now same open_yet next grown is =
     (next, at_most (length m.bridges) level (λ more. open_yet (inl (subst (λ (s : System). length s.bridges < level) (sym same) more))), record { fresh = fresh; grown = grown; written = is })
 
-pub went_through : (m : System) (level level' : ℕ) (ds ds' : List code.Diagnosis) (before now : Option (List ℕ)) (b : Bool) → b ≡ true → HasGone m level level' ds ds' before now b → AddsLines m ds ds' before now
-went_through m level level' ds ds' before now b more h = (subst (HasGone m level level' ds ds' before now) more h).2
+pub went_through : (x : Extent) (m : System) (level level' : ℕ) (ds ds' : List code.Diagnosis) (before now : Option (List ℕ)) (b : Bool) → b ≡ true → HasGone x m level level' ds ds' before now b → AddsLines x m ds ds' before now
+went_through x m level level' ds ds' before now b more h = (subst (HasGone x m level level' ds ds' before now) more h).2
 
-pub lines_added : (m : System) (ds ds' : List code.Diagnosis) (start before now : Option (List ℕ)) → before ≡ appended start (diagnosis_lines m 1 ds) → AddsLines m ds ds' before now → now ≡ appended start (diagnosis_lines m 1 ds')
-lines_added m ds ds' start before now is added =
+pub lines_added : (x : Extent) (m : System) (ds ds' : List code.Diagnosis) (start before now : Option (List ℕ)) → before ≡ appended start (diagnoses_part x m 1 ds) → AddsLines x m ds ds' before now → now ≡ appended start (diagnoses_part x m 1 ds')
+lines_added x m ds ds' start before now is added =
     let next : length ds + 1 ≡ 1 + length ds = omega arith in
-    added.written ∙ ap (λ w. appended w (diagnosis_lines m (length ds + 1) added.fresh)) is ∙ appended-append start (diagnosis_lines m 1 ds) (diagnosis_lines m (length ds + 1) added.fresh)
-    ∙ ap (appended start) (ap (λ (n : ℕ). diagnosis_lines m 1 ds ++ diagnosis_lines m n added.fresh) next ∙ sym (diagnosis_lines-append m 1 ds added.fresh) ∙ ap (diagnosis_lines m 1) (sym added.grown))
+    added.written ∙ ap (λ w. appended w (diagnoses_part x m (length ds + 1) added.fresh)) is ∙ appended-append start (diagnoses_part x m 1 ds) (diagnoses_part x m (length ds + 1) added.fresh)
+    ∙ ap (appended start) (ap (λ (n : ℕ). diagnoses_part x m 1 ds ++ diagnoses_part x m n added.fresh) next ∙ sym (diagnoses_part-append x m 1 ds added.fresh) ∙ ap (diagnoses_part x m 1) (sym added.grown))
 
 -- ---- an explanation is of the rules and needs each of its marks
 pub causes_of : (m : System) (ds : List code.Diagnosis) (pairs ts : List ℕ) → pairs ≡ pairs_of ds → AreDiagnoses m ds → IsListing (IsMinimal (IsTransversalOf (pairs_of ds))) PairBefore ts → AllByRecursion (IsCauseOf m pairs) ts
@@ -284,43 +333,46 @@ causes_of m ds pairs ts paired repairs listed = all_from_among (IsCauseOf m pair
     let explanation = (minimal_explanations m (pairs_of ds) repairs.listed t).1 minimal in
     record { marks = explanation.one.of_rules; critical = subst (λ (ps : List ℕ). IsCritical ps t) (sym paired) ((minimality_is_critical (pairs_of ds) t).0 minimal).1 })
 
--- ---- the equilibria and the verdict
-module _ (m : System) (e e' : EvaluatorState) (same : e.system ≡ m) (σs : List ℕ) (equilibria : AreEquilibria m σs) where
-  front_stage : IsTaskStage Solve e.system (heading m ++ equilibria_part m σs)
-  front_stage = subst (λ (s : System). IsTaskStage Solve s (heading m ++ equilibria_part m σs)) (sym same)
-      (stage_below m σs [] 0 _ equilibria (none_below m) (ap (λ t. heading m ++ t) (sym (append-nil (equilibria_part m σs)))))
+-- ---- what is printed of the equilibria
+front_begins : (x : Extent) (m : System) (σs : List ℕ) → opening (task_of x) m ++ states_part x m σs ≡ front_part x m σs []
+front_begins x m σs = ap (λ t. opening (task_of x) m ++ t) (sym (append-nil (states_part x m σs)) ∙ ap (λ t. states_part x m σs ++ t) (sym (diagnoses_part-none x m 1)))
 
-  pub verdict_cut : (before mid now : Device) (why : Unwritten) → before.faults ≤ mid.faults → mid.written ≡ appended before.written (heading m) → Writes {T = Unit {0}} (equilibria_part m σs) mid now (Err why) → HasStopped Solve [] e e' before now (stop_for_line why)
+module _ (x : Extent) (m : System) (e e' : EvaluatorState) (same : e.system ≡ m) (σs : List ℕ) (equilibria : AreEquilibria m σs) where
+  front_stage : IsTaskStage (task_of x) e.system (opening (task_of x) m ++ states_part x m σs)
+  front_stage = subst (λ (s : System). IsTaskStage (task_of x) s (opening (task_of x) m ++ states_part x m σs)) (sym same)
+      (stage_below x m σs [] 0 _ equilibria (none_below m) (front_begins x m σs))
+
+  pub verdict_cut : (before mid now : Device) (why : Unwritten) → before.faults ≤ mid.faults → mid.written ≡ appended before.written (opening (task_of x) m) → Writes {T = Unit {0}} (states_part x m σs) mid now (Err why) → HasStopped (task_of x) [] e e' before now (stop_for_line why)
   verdict_cut before mid now why later wrote w =
-      stopped_later Solve [] (heading m) e e e' before mid now (record { system = refl; budget = refl; oracles = refl }) later wrote (stop_for_line why) (cut_off Solve (heading m) (equilibria_part m σs) e e' mid now why front_stage w)
+      stopped_later (task_of x) [] (opening (task_of x) m) e e e' before mid now (record { system = refl; budget = refl; oracles = refl }) later wrote (stop_for_line why) (cut_off (task_of x) (opening (task_of x) m) (states_part x m σs) e e' mid now why front_stage w)
 
-pub front_written : (m : System) (σs : List ℕ) (before mid now : Option (List ℕ)) → mid ≡ appended before (heading m) → now ≡ appended mid (equilibria_part m σs) → now ≡ appended before (listing_front m σs [])
-front_written m σs before mid now first next = next ∙ ap (λ w. appended w (equilibria_part m σs)) first ∙ appended-append before (heading m) (equilibria_part m σs) ∙ ap (λ t. appended before (heading m ++ t)) (sym (append-nil (equilibria_part m σs)))
+pub front_written : (x : Extent) (m : System) (σs : List ℕ) (before mid now : Option (List ℕ)) → mid ≡ appended before (opening (task_of x) m) → now ≡ appended mid (states_part x m σs) → now ≡ appended before (front_part x m σs [])
+front_written x m σs before mid now first next = next ∙ ap (λ w. appended w (states_part x m σs)) first ∙ appended-append before (opening (task_of x) m) (states_part x m σs) ∙ ap (appended before) (front_begins x m σs)
 
--- nothing after the verdict was written
-pub verdict_left : (m : System) (e e' : EvaluatorState) (same : e.system ≡ m) (σs : List ℕ) → AreEquilibria m σs → (at : Device) → HasStopped Solve (listing_front m σs []) e e' at at stops.Memory
-verdict_left m e e' same σs equilibria at = left_nothing Solve e.system (listing_front m σs []) at.written (subst (λ (s : System). IsTaskStage Solve s (listing_front m σs [])) (sym same) (stage_below m σs [] 0 _ equilibria (none_below m) refl))
+-- nothing after it was written
+pub verdict_left : (x : Extent) (m : System) (e e' : EvaluatorState) (same : e.system ≡ m) (σs : List ℕ) → AreEquilibria m σs → (at : Device) → HasStopped (task_of x) (front_part x m σs []) e e' at at stops.Memory
+verdict_left x m e e' same σs equilibria at = left_nothing (task_of x) e.system (front_part x m σs []) at.written (subst (λ (s : System). IsTaskStage (task_of x) s (front_part x m σs [])) (sym same) (stage_below x m σs [] 0 _ equilibria (none_below m) refl))
 
 -- ---- after the last level
-module _ (m : System) (e : EvaluatorState) (same : e.system ≡ m) (level : ℕ) (ds : List code.Diagnosis) (u : IsUnderWay e level ds) (σs : List ℕ) (equilibria : AreEquilibria m σs) where
-  all_stage : IsTaskStage Solve e.system (listing_front m σs ds)
-  all_stage = stage_below e.system σs ds level _ (subst (λ (s : System). AreEquilibria s σs) (sym same) equilibria) u.repairs (ap (λ (s : System). listing_front s σs ds) (sym same))
+module _ (x : Extent) (m : System) (e : EvaluatorState) (same : e.system ≡ m) (level : ℕ) (ds : List code.Diagnosis) (u : IsUnderWay e level ds) (σs : List ℕ) (equilibria : AreEquilibria m σs) where
+  all_stage : IsTaskStage (task_of x) e.system (front_part x m σs ds)
+  all_stage = stage_below x e.system σs ds level _ (subst (λ (s : System). AreEquilibria s σs) (sym same) equilibria) u.repairs (ap (λ (s : System). front_part x s σs ds) (sym same))
 
-  pub levels_left : (at : Device) → HasStopped Solve (listing_front m σs ds) e e at at stops.Memory
-  levels_left at = left_nothing Solve e.system (listing_front m σs ds) at.written all_stage
+  pub levels_left : (at : Device) → HasStopped (task_of x) (front_part x m σs ds) e e at at stops.Memory
+  levels_left at = left_nothing (task_of x) e.system (front_part x m σs ds) at.written all_stage
 
   module _ (past : IsPast m level) (ts pairs : List ℕ) (count asked : ℕ) (counted : length σs ≡ count) (told : e.halted ≡ false → asked ≡ asked_of e) (paired : pairs ≡ pairs_of ds) (listed : IsListing (IsMinimal (IsTransversalOf (pairs_of ds))) PairBefore ts) where
-    pub rest_done : (before now : Option (List ℕ)) → now ≡ appended before (explanation_lines m 1 pairs ts ++ end_line count (length pairs) (length ts) asked) → IsDone Solve (listing_front m σs ds) e e before now
-    rest_done before now is = subst (λ (s : System). IsPast s level → AreEquilibria s σs → now ≡ appended before (explanation_lines s 1 pairs ts ++ end_line count (length pairs) (length ts) asked) → IsDone Solve (listing_front s σs ds) e e before now) same
-        (λ past' eq' is'. all_done e level ds σs ts pairs count asked u past' eq' counted (told u.settled.going) paired listed before now is') past equilibria is
+    pub rest_done : (before now : Option (List ℕ)) → now ≡ appended before (rest_part x m count pairs ts asked) → IsDone (task_of x) (front_part x m σs ds) e e before now
+    rest_done before now is = subst (λ (s : System). IsPast s level → AreEquilibria s σs → now ≡ appended before (rest_part x s count pairs ts asked) → IsDone (task_of x) (front_part x s σs ds) e e before now) same
+        (λ past' eq' is'. all_done e level ds σs ts pairs count asked u past' eq' counted (told u.settled.going) paired listed x before now is') past equilibria is
 
     -- the whole text is a stage
-    whole_stage : IsTaskStage Solve e.system (listing_front m σs ds ++ (explanation_lines m 1 pairs ts ++ end_line count (length pairs) (length ts) asked))
-    whole_stage = subst (λ (s : System). IsPast s level → AreEquilibria s σs → IsTaskStage Solve e.system (listing_front s σs ds ++ (explanation_lines s 1 pairs ts ++ end_line count (length pairs) (length ts) asked))) same
-        (λ past' eq'. whole (all_known e level ds σs ts pairs count asked u past' eq' counted (told u.settled.going) paired listed)) past equilibria
+    whole_stage : IsTaskStage (task_of x) e.system (front_part x m σs ds ++ rest_part x m count pairs ts asked)
+    whole_stage = subst (λ (s : System). IsPast s level → AreEquilibria s σs → IsTaskStage (task_of x) e.system (front_part x s σs ds ++ rest_part x s count pairs ts asked)) same
+        (λ past' eq'. stage_known e level ds σs ts pairs count asked u past' eq' counted (told u.settled.going) paired listed x) past equilibria
 
-    pub rest_cut : (before now : Device) (why : Unwritten) → Writes {T = Unit {0}} (explanation_lines m 1 pairs ts ++ end_line count (length pairs) (length ts) asked) before now (Err why) → HasStopped Solve (listing_front m σs ds) e e before now (stop_for_line why)
-    rest_cut before now why w = cut_off Solve (listing_front m σs ds) _ e e before now why whole_stage w
+    pub rest_cut : (before now : Device) (why : Unwritten) → Writes {T = Unit {0}} (rest_part x m count pairs ts asked) before now (Err why) → HasStopped (task_of x) (front_part x m σs ds) e e before now (stop_for_line why)
+    rest_cut before now why w = cut_off (task_of x) (front_part x m σs ds) _ e e before now why whole_stage w
 
 pub causes_within : (m : System) (e : EvaluatorState) (level : ℕ) (ds : List code.Diagnosis) (pairs ts : List ℕ) → e.system ≡ m → IsUnderWay e level ds → IsPast m level → pairs ≡ pairs_of ds → IsListing (IsMinimal (IsTransversalOf (pairs_of ds))) PairBefore ts → AllByRecursion (IsCauseOf m pairs) ts
 causes_within m e level ds pairs ts same u past paired listed =

@@ -1,5 +1,5 @@
 -- The listing of the equilibria: the heading, and then the rest.
-use Rattle.std.proofs.Common.{◌≡◌, ℕ, ◌≤◌, false, List, [], ◌++◌, Option, None, Result, Ok, Err, refl, sym, ap, ◌∙◌, subst, inr, arith}
+use Rattle.std.proofs.Common.{◌≡◌, ℕ, ◌≤◌, false, List, [], None, Result, Ok, Err, refl, sym, ap, ◌∙◌, subst, inr, arith}
 use Rattle.std.specs.Result.{IsErrAnd}
 use Rattle.mcs_ports.specs.Pieces.{Device, appended}
 use Rattle.mcs_text.specs.Writes.{Writes}
@@ -10,13 +10,13 @@ use Rattle.mcs_system.specs.Levels.{IsCount}
 use Rattle.mcs_states.specs.Evaluators.{EvaluatorState, KeepsRest, HasDone, IsBeyond, IsUnanswered, asked_of}
 use Rattle.mcs_report.specs.Listing.{heading, after_heading, equilibria_text, IsEquilibriaText}
 use Rattle.mcs_report.specs.Solutions.{AreEquilibria}
-use Rattle.mcs_work.specs.Tasks.{stop_for_line, IsTaskStage, IsTaskText}
+use Rattle.mcs_work.specs.Tasks.{stop_for_line}
 use Rattle.mcs_work.specs.Work.{IsDone, HasStopped, Works}
 use Rattle.mcs_work.specs.declared.task.Task.{Task}
 use Rattle.mcs_work.specs.declared.task.Task.TheVariants.{Equilibria}
 use Rattle.mcs_work.specs.declared.task.WorkStop.{WorkStop}
 use Rattle.mcs_work.proofs.StateLemmas.{settled_count}
-use Rattle.mcs_work.proofs.StopLemmas.{stop_told, stopped_later, cut_off}
+use Rattle.mcs_work.proofs.StopLemmas.{stopped_later, cut_off}
 use Rattle.mcs_work.proofs.CourseLemmas.{begun}
 
 -- the work that stopped
@@ -64,7 +64,7 @@ module _ (m : System) (e e' : EvaluatorState) (same : e.system ≡ m) (fresh : e
       level = 0;
       last = refl;
       level_done = (begun e e' fresh kept h).done;
-      going = h.settled.going;
+      settled = h.settled;
       within = λ k lowest beyond. h.within (subst (λ (n : ℕ). IsBeyond e n) lowest beyond);
       answered = λ k i x lowest u. h.answered i x (subst (λ (n : ℕ). IsUnanswered e n i x) lowest u);
     };

@@ -1,12 +1,12 @@
 -- An evaluator after some calls of it: what it tells holds as before, and its questions are counted.
-use Rattle.std.proofs.Common.{◌≡◌, ℕ, ◌+◌, ◌≤◌, List, [], ◌∷◌, map, length, Option, Some, slice_get, refl, sym, ap, ◌∙◌, subst, arith}
+use Rattle.std.proofs.Common.{◌≡◌, ℕ, ◌+◌, ◌≤◌, List, [], ◌∷◌, map, length, Option, Some, refl, sym, ◌∙◌, subst, arith}
 use Rattle.std.proofs.lemmas.List.{length-map}
-use Rattle.std.specs.List.{fold, sum_by}
+use Rattle.std.specs.List.{fold}
 use Rattle.mcs_sets.specs.Sets.{minus}
 use Rattle.mcs_sets.specs.Orders.{StateBefore}
 use Rattle.mcs_sets.proofs.Lattice.{minus-none}
 use Rattle.mcs_base.specs.Listings.{IsListing, IsInventory}
-use Rattle.mcs_base.specs.Pairs.{removed_of, forced_of}
+use Rattle.mcs_base.specs.Pairs.{removed_of}
 use Rattle.mcs_base.proofs.PairLemmas.{removed_of-none, forced_of-none}
 use Rattle.mcs_base.proofs.Lists.{map_slice_get}
 use Rattle.mcs_system.specs.Plain.{System}

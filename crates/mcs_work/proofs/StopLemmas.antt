@@ -1,10 +1,9 @@
 -- A stop of a later part of the work is one of the whole.
-use Rattle.std.proofs.Common.{◌≡◌, ℕ, ◌+◌, ◌<◌, ◌≤◌, zero, List, [], ◌++◌, length, Option, Some, Result, Ok, Err, IfErr, OnOk, refl, sym, ap, ◌∙◌, subst, append_assoc, inl, arith}
+use Rattle.std.proofs.Common.{◌≡◌, ℕ, ◌≤◌, List, [], ◌++◌, Option, Some, Result, Ok, Err, IfErr, OnOk, refl, sym, ap, ◌∙◌, subst, append_assoc, inl, arith}
 use Rattle.std.specs.Result.{IsErrAnd}
 use Rattle.std.proofs.lemmas.List.{append-nil}
-use Rattle.mcs_ports.specs.Causes.{Rose}
 use Rattle.mcs_ports.specs.Pieces.{Device, appended}
-use Rattle.mcs_text.specs.Writes.{Writes, WritesFront}
+use Rattle.mcs_text.specs.Writes.{Writes}
 use Rattle.mcs_text.specs.declared.unwritten.Unwritten.{Unwritten}
 use Rattle.mcs_text.specs.declared.unwritten.Unwritten.TheVariants as unwritten
 use Rattle.mcs_text.proofs.WriteLaws.{appended-append, appended-none}
@@ -17,10 +16,10 @@ use Rattle.mcs_states.specs.declared.halt.Halt.TheVariants as halts
 use Rattle.mcs_report.specs.Listing.{heading}
 use Rattle.mcs_report.specs.Solutions.{first}
 use Rattle.mcs_states.proofs.Causes.{rest_kept, unanswered_before}
-use Rattle.mcs_work.specs.Tasks.{IsTaskText, IsTaskStage, IsTaskUpTo, IsTaken, IsLastTaken, stop_for_halt, stop_for_line}
-use Rattle.mcs_work.specs.Work.{LeavesStage, IsDone, IsSpent, IsMissing, HasStopped, Works}
+use Rattle.mcs_work.specs.Tasks.{opening, IsTaskText, IsTaskStage, IsTaskUpTo, IsTaken, IsLastTaken, stop_for_halt, stop_for_line}
+use Rattle.mcs_work.specs.Work.{LeavesStage, IsDone, IsSpent, HasStopped, Works}
 use Rattle.mcs_work.specs.declared.task.Task.{Task}
-use Rattle.mcs_work.specs.declared.task.Task.TheVariants.{Equilibria, Solve}
+use Rattle.mcs_work.specs.declared.task.Task.TheVariants.{Equilibria, Solve, Make}
 use Rattle.mcs_work.specs.declared.task.WorkStop.{WorkStop}
 use Rattle.mcs_work.specs.declared.task.WorkStop.TheVariants as stops
 use Rattle.mcs_work.proofs.StateLemmas.{rest_back, beyond_before, found_beyond}
@@ -72,7 +71,7 @@ module _ (task : Task) (so_far part : List ℕ) (e mid-e e' : EvaluatorState) (b
     level = d.level;
     last = subst (λ (m : System). IsLastTaken task m d.level) kept.system d.last;
     level_done = d.level_done;
-    going = d.going;
+    settled = d.settled;
     within = λ k taken beyond. d.within k (subst (λ (m : System). IsTaken task m k) (sym kept.system) taken) (beyond_before mid-e e (rest_back e mid-e kept) k beyond);
     answered = λ k i x taken u. d.answered k i x (subst (λ (m : System). IsTaken task m k) (sym kept.system) taken) (unanswered_before mid-e e (rest_back e mid-e kept) k i x u);
   }
@@ -108,33 +107,36 @@ pub cut_off : (task : Task) (so_far text : List ℕ) (e e' : EvaluatorState) (be
 cut_off task so_far text e e' before now unwritten.Fault stage w = (w.due, record { part = w.front.front; rest = w.front.rest; stage = subst (λ (t : List ℕ). IsTaskStage task e.system (so_far ++ t)) (sym w.front.parts) stage; written = w.front.written })
 cut_off task so_far text e e' before now unwritten.Memory stage w = record { part = w.front.front; rest = w.front.rest; stage = subst (λ (t : List ℕ). IsTaskStage task e.system (so_far ++ t)) (sym w.front.parts) stage; written = w.front.written }
 
--- ---- the heading, and then the equilibria
-heading_stage : (task : Task) (m n : System) → m ≡ n → IsTaskStage task m (heading n)
-heading_stage Equilibria m n same = inl (ap heading (sym same))
-heading_stage Solve m n same = first (ap heading (sym same))
+-- ---- what comes before the first question, and then the equilibria
+opening_stage : (task : Task) (m n : System) → m ≡ n → IsTaskStage task m (opening task n)
+opening_stage Equilibria m n same = inl (ap heading (sym same))
+opening_stage Solve m n same = first (ap heading (sym same))
+opening_stage Make m n same = inl refl
 
-heading_up_to : (task : Task) (m n : System) → m ≡ n → IsTaskUpTo task m 0 (heading n)
-heading_up_to Equilibria m n same = ap heading (sym same)
-heading_up_to Solve m n same = ap heading (sym same)
+opening_up_to : (task : Task) (m n : System) → m ≡ n → IsTaskUpTo task m 0 (opening task n)
+opening_up_to Equilibria m n same = ap heading (sym same)
+opening_up_to Solve m n same = ap heading (sym same)
+opening_up_to Make m n same = refl
 
 lowest_taken : (task : Task) (m : System) → IsTaken task m 0
 lowest_taken Equilibria m = refl
 lowest_taken Solve m = inl refl
+lowest_taken Make m = inl refl
 
 module _ (task : Task) (m : System) (e e' : EvaluatorState) (same : e.system ≡ m) (before now : Device) where
-  pub heading_cut : (why : Unwritten) → Writes {T = Unit {0}} (heading m) before now (Err why) → HasStopped task [] e e' before now (stop_for_line why)
-  heading_cut why w = cut_off task [] (heading m) e e' before now why (heading_stage task e.system m same) w
+  pub opening_cut : (why : Unwritten) → Writes {T = Unit {0}} (opening task m) before now (Err why) → HasStopped task [] e e' before now (stop_for_line why)
+  opening_cut why w = cut_off task [] (opening task m) e e' before now why (opening_stage task e.system m same) w
 
-  pub heading_left : now.written ≡ appended before.written (heading m) → LeavesStage task e.system [] before.written now.written
-  heading_left is = record {
-    part = heading m;
+  pub opening_left : now.written ≡ appended before.written (opening task m) → LeavesStage task e.system [] before.written now.written
+  opening_left is = record {
+    part = opening task m;
     rest = [];
-    stage = subst (λ (t : List ℕ). IsTaskStage task e.system t) (sym (append-nil (heading m))) (heading_stage task e.system m same);
+    stage = subst (λ (t : List ℕ). IsTaskStage task e.system t) (sym (append-nil (opening task m))) (opening_stage task e.system m same);
     written = is;
   }
 
   -- the round of level 0 halted
-  pub first_halted : (pair : ℕ) (halt : Halt) → pair ≡ 0 → HasHalted e e' (size pair) halt → now.written ≡ appended before.written (heading m) → HasStopped task [] e e' before now (stop_for_halt halt)
+  pub first_halted : (pair : ℕ) (halt : Halt) → pair ≡ 0 → HasHalted e e' (size pair) halt → now.written ≡ appended before.written (opening task m) → HasStopped task [] e e' before now (stop_for_halt halt)
   first_halted pair halt none halted is = at halt (subst (λ (n : ℕ). HasHalted e e' n halt) (ap (λ (p : ℕ). size p) none ∙ size-none) halted)
     where
       at : (h : Halt) → HasHalted e e' 0 h → HasStopped task [] e e' before now (stop_for_halt h)
@@ -147,8 +149,8 @@ module _ (task : Task) (m : System) (e e' : EvaluatorState) (same : e.system ≡
             drawn = drawn;
             halt = subst (λ (l : ℕ). e'.halt ≡ Some (halts.Spent l drawn)) lowest told.told;
             over = told.over;
-            part = heading m;
-            text = heading_up_to task e.system m same;
+            part = opening task m;
+            text = opening_up_to task e.system m same;
             written = is;
           })
       at (halts.Missing context active) told = record {
@@ -157,9 +159,9 @@ module _ (task : Task) (m : System) (e e' : EvaluatorState) (same : e.system ≡
         unanswered = told.cause;
         halt = told.told;
         over = told.over;
-        left = heading_left is;
+        left = opening_left is;
       }
-      at halts.Memory told = heading_left is
+      at halts.Memory told = opening_left is
 
 -- the level of the empty pair is 0
 pub done_first : (e e' : EvaluatorState) (pair : ℕ) → pair ≡ 0 → HasDone e e' (size pair) → HasDone e e' 0

@@ -6,7 +6,8 @@ use Rattle.mcs_states.specs.Evaluators.{EvaluatorState, IsSettled, IsBeyond, IsU
 use Rattle.mcs_diagnosis.specs.declared.diagnosis.Diagnosis as code
 use Rattle.mcs_diagnosis.specs.Courses.{IsPast}
 use Rattle.mcs_diagnosis.specs.Diagnoses.{AreFoundBelow}
-use Rattle.mcs_report.specs.Solutions.{diagnosis_lines}
+use Rattle.mcs_work.specs.Extents.{diagnoses_part}
+use Rattle.mcs_work.specs.declared.extent.Extent.{Extent}
 
 -- all levels before this one were done, level 0 always; these are their diagnoses
 pub record IsUnderWay (e : EvaluatorState) (level : ℕ) (ds : List code.Diagnosis) : Type 0 where
@@ -17,13 +18,13 @@ pub record IsUnderWay (e : EvaluatorState) (level : ℕ) (ds : List code.Diagnos
   pub answered : (k i x : ℕ) → k ≤ level - 1 → ¬ IsUnanswered e k i x
   pub not_past : 0 < level → ¬ IsPast e.system (level - 1)
 
--- so many diagnoses were listed before, and a line for each of these was written
-pub record AddsLines (m : System) (ds ds' : List code.Diagnosis) (before now : Option (List ℕ)) : Type 0 where
+-- so many diagnoses were listed before, and what is printed of these was written
+pub record AddsLines (x : Extent) (m : System) (ds ds' : List code.Diagnosis) (before now : Option (List ℕ)) : Type 0 where
   pub fresh : List code.Diagnosis
   pub grown : ds' ≡ ds ++ fresh
-  pub written : now ≡ appended before (diagnosis_lines m (length ds + 1) fresh)
+  pub written : now ≡ appended before (diagnoses_part x m (length ds + 1) fresh)
 
--- a level more was printed, or there is none
-abbrev pub HasGone : System → ℕ → ℕ → List code.Diagnosis → List code.Diagnosis → Option (List ℕ) → Option (List ℕ) → Bool → Type 0
-HasGone m level level' ds ds' before now true = (level' ≡ level + 1) × (level ≤ length m.bridges) × AddsLines m ds ds' before now
-HasGone m level level' ds ds' before now false = (level' ≡ level) × (ds' ≡ ds) × (now ≡ before) × IsPast m level
+-- a level more was taken, or there is none
+abbrev pub HasGone : Extent → System → ℕ → ℕ → List code.Diagnosis → List code.Diagnosis → Option (List ℕ) → Option (List ℕ) → Bool → Type 0
+HasGone x m level level' ds ds' before now true = (level' ≡ level + 1) × (level ≤ length m.bridges) × AddsLines x m ds ds' before now
+HasGone x m level level' ds ds' before now false = (level' ≡ level) × (ds' ≡ ds) × (now ≡ before) × IsPast m level

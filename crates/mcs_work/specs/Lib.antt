@@ -1,4 +1,5 @@
 pub mod Tasks
 pub mod Work
 pub mod Course
+pub mod Extents
 pub mod Printed

@@ -1,5 +1,5 @@
 -- What is printed for a task, and which levels it takes.
-use Rattle.std.specs.Prelude.{◌≡◌, ℕ, ◌≤◌, List, length, ◌⊎◌}
+use Rattle.std.specs.Prelude.{◌≡◌, ℕ, ◌≤◌, List, [], length, ◌⊎◌}
 use Rattle.mcs_system.specs.Plain.{System}
 use Rattle.mcs_system.specs.Systems.{IsConsistent}
 use Rattle.mcs_states.specs.declared.halt.Halt.{Halt}
@@ -7,9 +7,9 @@ use Rattle.mcs_states.specs.declared.halt.Halt.TheVariants as halts
 use Rattle.mcs_text.specs.declared.unwritten.Unwritten.{Unwritten}
 use Rattle.mcs_text.specs.declared.unwritten.Unwritten.TheVariants as unwritten
 use Rattle.mcs_report.specs.Listing.{heading, IsEquilibriaText, IsEquilibriaStage}
-use Rattle.mcs_report.specs.Solutions.{IsWholeListing, IsListingStage, IsListingUpTo}
+use Rattle.mcs_report.specs.Solutions.{IsWholeListing, IsListingStage, IsListingUpTo, IsSummary, IsSummaryStage}
 use Rattle.mcs_work.specs.declared.task.Task.{Task}
-use Rattle.mcs_work.specs.declared.task.Task.TheVariants.{Equilibria, Solve}
+use Rattle.mcs_work.specs.declared.task.Task.TheVariants.{Equilibria, Solve, Make}
 use Rattle.mcs_work.specs.declared.task.WorkStop.{WorkStop}
 use Rattle.mcs_work.specs.declared.task.WorkStop.TheVariants as stops
 
@@ -17,26 +17,45 @@ use Rattle.mcs_work.specs.declared.task.WorkStop.TheVariants as stops
 abbrev pub IsTaskText : Task → System → List ℕ → Type 0
 IsTaskText Equilibria m text = IsEquilibriaText m text
 IsTaskText Solve m text = IsWholeListing m text
+IsTaskText Make m text = IsSummary m text
 
 -- a stage of it: what is there once that which it needs was computed
 abbrev pub IsTaskStage : Task → System → List ℕ → Type 0
 IsTaskStage Equilibria m text = IsEquilibriaStage m text
 IsTaskStage Solve m text = IsListingStage m text
+IsTaskStage Make m text = IsSummaryStage m text
+
+-- what is printed before the first question
+abbrev pub opening : Task → System → List ℕ
+opening Equilibria m = heading m
+opening Solve m = heading m
+opening Make m = []
 
 -- what is printed before this level is evaluated
 abbrev pub IsTaskUpTo : Task → System → ℕ → List ℕ → Type 0
 IsTaskUpTo Equilibria m level text = text ≡ heading m
 IsTaskUpTo Solve m level text = IsListingUpTo m level text
+IsTaskUpTo Make m level text = text ≡ []
 
--- a level that the task evaluates: the equilibria ask for level 0, and repairs of an inconsistent system for each level up to the number of its rules
+-- a level that repairs ask for: level 0, and of an inconsistent system each level up to the number of its rules
+abbrev pub IsRepairLevel : System → ℕ → Type 0
+IsRepairLevel m level = (level ≡ 0) ⊎ ((¬ IsConsistent m) × (level ≤ length m.bridges))
+
+-- the greatest of them
+abbrev pub IsLastRepairLevel : System → ℕ → Type 0
+IsLastRepairLevel m level = (IsConsistent m × (level ≡ 0)) ⊎ ((¬ IsConsistent m) × (level ≡ length m.bridges))
+
+-- a level that the task evaluates: the equilibria ask for level 0
 abbrev pub IsTaken : Task → System → ℕ → Type 0
 IsTaken Equilibria m level = level ≡ 0
-IsTaken Solve m level = (level ≡ 0) ⊎ ((¬ IsConsistent m) × (level ≤ length m.bridges))
+IsTaken Solve m level = IsRepairLevel m level
+IsTaken Make m level = IsRepairLevel m level
 
 -- the greatest of them
 abbrev pub IsLastTaken : Task → System → ℕ → Type 0
 IsLastTaken Equilibria m level = level ≡ 0
-IsLastTaken Solve m level = (IsConsistent m × (level ≡ 0)) ⊎ ((¬ IsConsistent m) × (level ≡ length m.bridges))
+IsLastTaken Solve m level = IsLastRepairLevel m level
+IsLastTaken Make m level = IsLastRepairLevel m level
 
 -- ---- why the work stops, by what stopped a part of it
 abbrev pub stop_for_halt : Halt → WorkStop

@@ -1,9 +1,9 @@
 -- What the work of a task does to an evaluator and a device, from a text that was written before it on.
-use Rattle.std.specs.Prelude.{◌≡◌, ℕ, ◌<◌, ◌≤◌, true, false, List, ◌++◌, Option, Some, Result, OnOk, IfErr}
+use Rattle.std.specs.Prelude.{◌≡◌, ℕ, ◌<◌, ◌≤◌, true, List, ◌++◌, Option, Some, Result, OnOk, IfErr}
 use Rattle.mcs_ports.specs.Causes.{Rose}
 use Rattle.mcs_ports.specs.Pieces.{Device, appended}
 use Rattle.mcs_system.specs.Plain.{System}
-use Rattle.mcs_states.specs.Evaluators.{EvaluatorState, KeepsRest, IsBeyond, IsUnanswered}
+use Rattle.mcs_states.specs.Evaluators.{EvaluatorState, KeepsRest, IsSettled, IsBeyond, IsUnanswered}
 use Rattle.mcs_states.specs.declared.halt.Halt.TheVariants as halts
 use Rattle.mcs_work.specs.Tasks.{IsTaskText, IsTaskStage, IsTaskUpTo, IsTaken, IsLastTaken}
 use Rattle.mcs_work.specs.declared.task.Task.{Task}
@@ -17,7 +17,7 @@ pub record LeavesStage (task : Task) (m : System) (so_far : List ℕ) (before no
   pub stage : IsTaskStage task m (so_far ++ (part ++ rest))
   pub written : now ≡ appended before part
 
--- with what was written so far, the text of the task was written whole; each level of it was done, and the greatest is the last
+-- with what was written so far, the text of the task was written whole; each level of it was done, the greatest is the last, and the evaluator is settled: its journals hold exactly the questions of that level
 pub record IsDone (task : Task) (so_far : List ℕ) (e e' : EvaluatorState) (before now : Option (List ℕ)) : Type 0 where
   pub part : List ℕ
   pub text : IsTaskText task e.system (so_far ++ part)
@@ -25,7 +25,7 @@ pub record IsDone (task : Task) (so_far : List ℕ) (e e' : EvaluatorState) (bef
   pub level : ℕ
   pub last : IsLastTaken task e.system level
   pub level_done : e'.done ≡ Some level
-  pub going : e'.halted ≡ false
+  pub settled : IsSettled e'
   pub within : (k : ℕ) → IsTaken task e.system k → ¬ IsBeyond e k
   pub answered : (k i x : ℕ) → IsTaken task e.system k → ¬ IsUnanswered e k i x
 

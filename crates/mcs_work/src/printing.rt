@@ -1,6 +1,6 @@
 //! The parts of a listing, printed line by line: each line is written as one piece.
 
-ghost use Rattle.std.specs.Prelude.{◌≡◌, ◌+◌, ◌<◌, ◌^◌, ◌++◌, length, nat_lt};
+ghost use Rattle.std.specs.Prelude.{◌≡◌, ◌+◌, ◌<◌, ◌^◌, length};
 ghost use Rattle.std.specs.List.{AllByRecursion};
 ghost use Rattle.mcs_sets.specs.Sets.{Within};
 ghost use Rattle.mcs_system.specs.Systems.{all_variables};
@@ -8,8 +8,12 @@ ghost use Rattle.mcs_report.specs.Listing.{heading, equilibrium_line, equilibriu
 ghost use Rattle.mcs_report.specs.Repairs.{diagnosis_line, explanation_line, end_line};
 ghost use Rattle.mcs_report.specs.Solutions.{equilibria_part, diagnosis_lines, explanation_lines};
 ghost use Rattle.mcs_text.specs.Writes.{Writes};
+ghost use Rattle.mcs_work.specs.Extents.{states_part, diagnoses_part, explanations_part, rest_part};
 ghost use Rattle.mcs_work.specs.Printed.{IsOfSystem, IsCauseOf};
+ghost use Rattle.mcs_work.specs.Tasks.{opening};
 
+use crate::extent::Extent;
+use crate::task::Task;
 use mcs_base::{Marks, Text, Vars};
 use mcs_diagnosis::Diagnosis;
 use mcs_ports::Sink;
@@ -21,12 +25,23 @@ use mcs_system::System;
 use mcs_text::{Unwritten, write_line};
 use std::alloc::Global;
 
-/// Prints the heading.
-pub(crate) fn print_heading<K: Sink>(
+/// Prints what comes before the first question: the heading, and where only counts are printed nothing.
+pub(crate) fn print_opening<K: Sink>(
     alloc: Global,
+    task: Task,
     system: &System,
     sink: &mut K,
 ) -> Result<(), Unwritten>
+    ensures { Writes (opening task system.now) (K.device sink.old) (K.device sink.new) result }
+{
+    match task {
+        Task::Equilibria | Task::Solve => print_heading(alloc, system, sink),
+        Task::Make => Ok(()),
+    }
+}
+
+/// Prints the heading.
+fn print_heading<K: Sink>(alloc: Global, system: &System, sink: &mut K) -> Result<(), Unwritten>
     ensures { Writes (heading system.now) (K.device sink.old) (K.device sink.new) result }
 {
     let mut line = Text::new(alloc);
@@ -51,8 +66,25 @@ pub(crate) fn print_listing<K: Sink>(
     print_short_end(alloc, states.len() as u64, need, sink)
 }
 
-/// Prints a line for each state, and the verdict.
+/// Prints what is printed of the states: a line for each, and the verdict; or nothing.
 pub(crate) fn print_states_part<K: Sink>(
+    alloc: Global,
+    extent: Extent,
+    system: &System,
+    states: &[Vars],
+    sink: &mut K,
+) -> Result<(), Unwritten>
+    requires { AllByRecursion (λ σ. Within σ (all_variables system.now)) states.now }
+    ensures { Writes (states_part extent system.now states.now) (K.device sink.old) (K.device sink.new) result }
+{
+    match extent {
+        Extent::Whole => print_equilibria_part(alloc, system, states, sink),
+        Extent::Counts => Ok(()),
+    }
+}
+
+/// Prints a line for each state, and the verdict.
+fn print_equilibria_part<K: Sink>(
     alloc: Global,
     system: &System,
     states: &[Vars],
@@ -120,8 +152,27 @@ fn print_short_end<K: Sink>(
     write_line(&line, sink)
 }
 
+/// Prints what is printed of the diagnoses: a line for each, numbered from this number on; or nothing.
+pub(crate) fn print_diagnoses_part<K: Sink>(
+    alloc: Global,
+    extent: Extent,
+    system: &System,
+    first: u64,
+    diagnoses: &[Diagnosis],
+    sink: &mut K,
+) -> Result<(), Unwritten>
+    requires few { first + length diagnoses.now < 2 ^ 64 }
+    requires of_system { AllByRecursion (IsOfSystem system.now) diagnoses.now }
+    ensures { Writes (diagnoses_part extent system.now first diagnoses.now) (K.device sink.old) (K.device sink.new) result }
+{
+    match extent {
+        Extent::Whole => print_diagnoses(alloc, system, first, diagnoses, sink),
+        Extent::Counts => Ok(()),
+    }
+}
+
 /// Prints a line for each diagnosis, numbered from this number on.
-pub(crate) fn print_diagnoses<K: Sink>(
+fn print_diagnoses<K: Sink>(
     alloc: Global,
     system: &System,
     first: u64,
@@ -154,9 +205,11 @@ fn print_diagnosis<K: Sink>(
     write_line(&line, sink)
 }
 
-/// Prints what comes after the diagnoses, of which these are the pairs: a line for each explanation, and the end line.
+/// Prints what comes after the diagnoses, of which these are the pairs: a line for each explanation, or the verdict, and
+/// the end line.
 pub(crate) fn print_rest<K: Sink>(
     alloc: Global,
+    extent: Extent,
     system: &System,
     equilibria: u64,
     pairs: &[Marks],
@@ -165,11 +218,30 @@ pub(crate) fn print_rest<K: Sink>(
     sink: &mut K,
 ) -> Result<(), Unwritten>
     requires { AllByRecursion (IsCauseOf system.now pairs.now) explanations.now }
-    ensures { Writes (explanation_lines system.now 1 pairs.now explanations.now ++ end_line equilibria (length pairs.now) (length explanations.now) need) (K.device sink.old) (K.device sink.new) result }
+    ensures { Writes (rest_part extent system.now equilibria pairs.now explanations.now need) (K.device sink.old) (K.device sink.new) result }
 {
-    print_explanations(alloc, system, pairs, explanations, sink)?;
+    print_explanations_part(alloc, extent, system, equilibria, pairs, explanations, sink)?;
     let (diagnoses, causes) = (pairs.len() as u64, explanations.len() as u64);
     print_end(alloc, equilibria, diagnoses, causes, need, sink)
+}
+
+/// Prints what is printed of the explanations: a line for each; or in their place the verdict.
+fn print_explanations_part<K: Sink>(
+    alloc: Global,
+    extent: Extent,
+    system: &System,
+    equilibria: u64,
+    pairs: &[Marks],
+    explanations: &[Marks],
+    sink: &mut K,
+) -> Result<(), Unwritten>
+    requires { AllByRecursion (IsCauseOf system.now pairs.now) explanations.now }
+    ensures { Writes (explanations_part extent system.now equilibria pairs.now explanations.now) (K.device sink.old) (K.device sink.new) result }
+{
+    match extent {
+        Extent::Whole => print_explanations(alloc, system, pairs, explanations, sink),
+        Extent::Counts => print_verdict(alloc, equilibria > 0, sink),
+    }
 }
 
 /// Prints how many equilibria, diagnoses and explanations there are, and how many questions they needed.

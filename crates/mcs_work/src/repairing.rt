@@ -11,12 +11,13 @@ ghost use Rattle.mcs_base.specs.Transversals.{IsTransversalOf};
 ghost use Rattle.mcs_states.specs.Evaluators.{KeepsRest, HasDone};
 ghost use Rattle.mcs_diagnosis.specs.Courses.{IsPast};
 ghost use Rattle.mcs_diagnosis.specs.Diagnoses.{pairs_of};
-ghost use Rattle.mcs_report.specs.Solutions.{AreEquilibria, listing_front, diagnosis_lines};
+ghost use Rattle.mcs_report.specs.Solutions.{AreEquilibria};
 ghost use Rattle.mcs_work.specs.Course.{IsUnderWay, HasGone};
+ghost use Rattle.mcs_work.specs.Extents.{task_of, front_part, diagnoses_part};
 ghost use Rattle.mcs_work.specs.Work.{HasStopped, Works};
-ghost use Rattle.mcs_work.specs.declared.task.Task.TheVariants as tasks;
 
-use crate::printing::{print_diagnoses, print_rest, print_states_part};
+use crate::extent::Extent;
+use crate::printing::{print_diagnoses_part, print_rest, print_states_part};
 use crate::states::find_states;
 use crate::task::WorkStop;
 use mcs_base::{Marks, Memory};
@@ -28,9 +29,10 @@ use mcs_transversal::minimal_transversals;
 use std::alloc::Global;
 use std::sync::Arc;
 
-/// Prints the whole listing of the system.
+/// Prints the whole listing of the system, or the counts of it.
 pub(crate) fn solve<E: Evaluator, K: Sink>(
     alloc: Global,
+    extent: Extent,
     evaluator: E,
     system: Arc<System>,
     sink: &mut K,
@@ -38,18 +40,19 @@ pub(crate) fn solve<E: Evaluator, K: Sink>(
     requires same { (E.stands evaluator).system ≡ arc_value system }
     requires fresh { (E.stands evaluator).done ≡ None }
     requires going { (E.stands evaluator).halted ≡ false }
-    ensures { Works tasks.Solve [] (E.stands evaluator) (E.stands result.1) (K.device sink.old) (K.device sink.new) result.0 }
+    ensures { Works (task_of extent) [] (E.stands evaluator) (E.stands result.1) (K.device sink.old) (K.device sink.new) result.0 }
 {
     let mut evaluator = evaluator;
-    match print_equilibria(alloc, &mut evaluator, &system, sink) {
-        Ok(states) => repair(alloc, evaluator, system, states, sink),
+    match print_equilibria(alloc, extent, &mut evaluator, &system, sink) {
+        Ok(states) => repair(alloc, extent, evaluator, system, states, sink),
         Err(stop) => (Err(stop), evaluator),
     }
 }
 
-/// Prints the heading, the equilibria and the verdict; how many equilibria there are.
+/// Finds the equilibria, and prints what is printed up to the verdict; how many equilibria there are.
 fn print_equilibria<E: Evaluator, K: Sink>(
     alloc: Global,
+    extent: Extent,
     evaluator: &mut E,
     system: &System,
     sink: &mut K,
@@ -62,17 +65,18 @@ fn print_equilibria<E: Evaluator, K: Sink>(
     ensures rest { KeepsRest (E.stands evaluator.old) (E.stands evaluator.new) }
     ensures under_way { OnOk result (IsUnderWay (E.stands evaluator.new) 0 []) }
     ensures written { IfOk result (λ count. (states : List ℕ) × AreEquilibria system.now states × (length states ≡ count)
-        × ((K.device sink.new).written ≡ appended (K.device sink.old).written (listing_front system.now states []))) }
-    ensures stop { IfErr result (HasStopped tasks.Solve [] (E.stands evaluator.old) (E.stands evaluator.new) (K.device sink.old) (K.device sink.new)) }
+        × ((K.device sink.new).written ≡ appended (K.device sink.old).written (front_part extent system.now states []))) }
+    ensures stop { IfErr result (HasStopped (task_of extent) [] (E.stands evaluator.old) (E.stands evaluator.new) (K.device sink.old) (K.device sink.new)) }
 {
-    let states = find_states(alloc, evaluator, system, sink)?;
-    print_states_part(alloc, system, &states, sink)?;
+    let states = find_states(alloc, evaluator, extent.task(), system, sink)?;
+    print_states_part(alloc, extent, system, &states, sink)?;
     Ok(states.len() as u64)
 }
 
 /// Prints what comes after the verdict, where there are so many equilibria.
 fn repair<E: Evaluator, K: Sink>(
     alloc: Global,
+    extent: Extent,
     evaluator: E,
     system: Arc<System>,
     states: u64,
@@ -81,20 +85,21 @@ fn repair<E: Evaluator, K: Sink>(
     requires same { (E.stands evaluator).system ≡ arc_value system }
     requires under_way { IsUnderWay (E.stands evaluator) 0 [] }
     ensures { (σs : List ℕ) → AreEquilibria (arc_value system) σs → length σs ≡ states
-        → Works tasks.Solve (listing_front (arc_value system) σs []) (E.stands evaluator) (E.stands result.1) (K.device sink.old) (K.device sink.new) result.0 }
+        → Works (task_of extent) (front_part extent (arc_value system) σs []) (E.stands evaluator) (E.stands result.1) (K.device sink.old) (K.device sink.new) result.0 }
 {
     let own = match system.clone() {
         Ok(own) => own,
         Err(_) => return (Err(WorkStop::Memory), evaluator),
     };
     let mut levels = Levels::new(evaluator, own);
-    let result = print_repairs(alloc, &mut levels, &system, states, sink);
+    let result = print_repairs(alloc, extent, &mut levels, &system, states, sink);
     (result, levels.into_evaluator())
 }
 
-/// Prints the diagnoses of all levels, the explanations and the end line.
+/// Finds the diagnoses of all levels and the explanations, and prints what is printed of them, and the end line.
 fn print_repairs<E: Evaluator, K: Sink>(
     alloc: Global,
+    extent: Extent,
     levels: &mut Levels<E>,
     system: &System,
     states: u64,
@@ -104,18 +109,28 @@ fn print_repairs<E: Evaluator, K: Sink>(
     requires under_way { IsUnderWay (E.stands levels.old.evaluator) levels.old.level [] }
     requires first { levels.old.level ≡ 0 }
     ensures { (σs : List ℕ) → AreEquilibria system.now σs → length σs ≡ states
-        → Works tasks.Solve (listing_front system.now σs []) (E.stands levels.old.evaluator) (E.stands levels.new.evaluator) (K.device sink.old) (K.device sink.new) result }
+        → Works (task_of extent) (front_part extent system.now σs []) (E.stands levels.old.evaluator) (E.stands levels.new.evaluator) (K.device sink.old) (K.device sink.new) result }
 {
-    let found = print_levels(alloc, levels, system, sink)?;
+    let found = print_levels(alloc, extent, levels, system, sink)?;
     let asked = levels.evaluator().asked();
     let (pairs, explanations) = explain(alloc, &found)?;
-    print_rest(alloc, system, states, &pairs, &explanations, asked, sink)?;
+    print_rest(
+        alloc,
+        extent,
+        system,
+        states,
+        &pairs,
+        &explanations,
+        asked,
+        sink,
+    )?;
     Ok(())
 }
 
-/// Prints the diagnoses of all levels; these.
+/// Finds the diagnoses of all levels, and prints them where they are printed; these.
 fn print_levels<E: Evaluator, K: Sink>(
     alloc: Global,
+    extent: Extent,
     levels: &mut Levels<E>,
     system: &System,
     sink: &mut K,
@@ -127,21 +142,22 @@ fn print_levels<E: Evaluator, K: Sink>(
     ensures rest { KeepsRest (E.stands levels.old.evaluator) (E.stands levels.new.evaluator) }
     ensures under_way { IfOk result (λ found. IsUnderWay (E.stands levels.new.evaluator) levels.new.level found.items) }
     ensures past { OnOk result (IsPast system.now levels.new.level) }
-    ensures written { IfOk result (λ found. (K.device sink.new).written ≡ appended (K.device sink.old).written (diagnosis_lines system.now 1 found.items)) }
+    ensures written { IfOk result (λ found. (K.device sink.new).written ≡ appended (K.device sink.old).written (diagnoses_part extent system.now 1 found.items)) }
     ensures stop { (σs : List ℕ) → AreEquilibria system.now σs
-        → IfErr result (HasStopped tasks.Solve (listing_front system.now σs []) (E.stands levels.old.evaluator) (E.stands levels.new.evaluator) (K.device sink.old) (K.device sink.new)) }
+        → IfErr result (HasStopped (task_of extent) (front_part extent system.now σs []) (E.stands levels.old.evaluator) (E.stands levels.new.evaluator) (K.device sink.old) (K.device sink.new)) }
 {
     let mut found = Vec::new(alloc);
     loop {
-        if !print_level(alloc, levels, system, &mut found, sink)? {
+        if !print_level(alloc, extent, levels, system, &mut found, sink)? {
             return Ok(found);
         }
     }
 }
 
-/// Prints the diagnoses of the next level, after these, and adds them; whether there is such a level.
+/// Finds the diagnoses of the next level, prints them where they are printed, after these, and adds them; whether there is such a level.
 fn print_level<E: Evaluator, K: Sink>(
     alloc: Global,
+    extent: Extent,
     levels: &mut Levels<E>,
     system: &System,
     found: &mut Vec<Diagnosis>,
@@ -153,14 +169,14 @@ fn print_level<E: Evaluator, K: Sink>(
     ensures notes { (K.device sink.new).notes ≡ (K.device sink.old).notes }
     ensures rest { KeepsRest (E.stands levels.old.evaluator) (E.stands levels.new.evaluator) }
     ensures under_way { OnOk result (IsUnderWay (E.stands levels.new.evaluator) levels.new.level found.new.items) }
-    ensures gone { IfOk result (HasGone system.now levels.old.level levels.new.level found.old.items found.new.items (K.device sink.old).written (K.device sink.new).written) }
+    ensures gone { IfOk result (HasGone extent system.now levels.old.level levels.new.level found.old.items found.new.items (K.device sink.old).written (K.device sink.new).written) }
     ensures stop { (σs : List ℕ) → AreEquilibria system.now σs
-        → IfErr result (HasStopped tasks.Solve (listing_front system.now σs found.old.items) (E.stands levels.old.evaluator) (E.stands levels.new.evaluator) (K.device sink.old) (K.device sink.new)) }
+        → IfErr result (HasStopped (task_of extent) (front_part extent system.now σs found.old.items) (E.stands levels.old.evaluator) (E.stands levels.new.evaluator) (K.device sink.old) (K.device sink.new)) }
 {
     match levels.next(alloc)? {
         Level::Over => Ok(false),
         Level::Found(fresh) => {
-            print_diagnoses(alloc, system, found.len() as u64 + 1, &fresh, sink)?;
+            print_diagnoses_part(alloc, extent, system, found.len() as u64 + 1, &fresh, sink)?;
             found.extend_from_slice(&fresh)?;
             Ok(true)
         }

@@ -3,14 +3,13 @@
 ghost use Rattle.std.specs.Prelude.{◌≡◌, ◌≤◌, [], false, None, IfOk, IfErr, OnOk};
 ghost use Rattle.mcs_ports.specs.Pieces.{appended};
 ghost use Rattle.mcs_states.specs.Evaluators.{KeepsRest, HasDone};
-ghost use Rattle.mcs_report.specs.Listing.{heading};
 ghost use Rattle.mcs_report.specs.Solutions.{AreEquilibria};
+ghost use Rattle.mcs_work.specs.Tasks.{opening};
 ghost use Rattle.mcs_work.specs.Work.{HasStopped, Works};
-ghost use Rattle.mcs_work.specs.declared.task.Task.{Task};
 ghost use Rattle.mcs_work.specs.declared.task.Task.TheVariants as tasks;
 
-use crate::printing::{print_heading, print_listing};
-use crate::task::WorkStop;
+use crate::printing::{print_listing, print_opening};
+use crate::task::{Task, WorkStop};
 use mcs_base::{Marks, Pair, Vars};
 use mcs_equilibria::list_states;
 use mcs_ports::Sink;
@@ -18,11 +17,12 @@ use mcs_states::Evaluator;
 use mcs_system::System;
 use std::alloc::Global;
 
-/// Prints the heading, and then finds the projected equilibria of the system, in the order of states. The evaluator is
+/// Prints what comes before the first question, and then finds the projected equilibria of the system, in the order of states. The evaluator is
 /// one of this system that did no level yet.
 pub(crate) fn find_states<E: Evaluator, K: Sink>(
     alloc: Global,
     evaluator: &mut E,
+    task: Task,
     system: &System,
     sink: &mut K,
 ) -> Result<Vec<Vars>, WorkStop>
@@ -34,10 +34,10 @@ pub(crate) fn find_states<E: Evaluator, K: Sink>(
     ensures rest { KeepsRest (E.stands evaluator.old) (E.stands evaluator.new) }
     ensures found { IfOk result (λ states. AreEquilibria system.now states.items) }
     ensures done { OnOk result (HasDone (E.stands evaluator.old) (E.stands evaluator.new) 0) }
-    ensures written { OnOk result ((K.device sink.new).written ≡ appended (K.device sink.old).written (heading system.now)) }
-    ensures stop { (task : Task) → IfErr result (HasStopped task [] (E.stands evaluator.old) (E.stands evaluator.new) (K.device sink.old) (K.device sink.new)) }
+    ensures written { OnOk result ((K.device sink.new).written ≡ appended (K.device sink.old).written (opening task system.now)) }
+    ensures stop { IfErr result (HasStopped task [] (E.stands evaluator.old) (E.stands evaluator.new) (K.device sink.old) (K.device sink.new)) }
 {
-    print_heading(alloc, system, sink)?;
+    print_opening(alloc, task, system, sink)?;
     let states = list_states(alloc, evaluator, Pair::new(Marks::empty()))?;
     Ok(states)
 }
@@ -54,7 +54,7 @@ pub(crate) fn list_equilibria<E: Evaluator, K: Sink>(
     requires going { (E.stands evaluator.old).halted ≡ false }
     ensures { Works tasks.Equilibria [] (E.stands evaluator.old) (E.stands evaluator.new) (K.device sink.old) (K.device sink.new) result }
 {
-    let states = find_states(alloc, evaluator, system, sink)?;
+    let states = find_states(alloc, evaluator, Task::Equilibria, system, sink)?;
     print_listing(alloc, system, &states, evaluator.asked(), sink)?;
     Ok(())
 }

@@ -4,6 +4,7 @@ ghost use Rattle.std.specs.Prelude.{◌≡◌, [], false, None};
 ghost use Rattle.std.specs.Arc.{arc_value};
 ghost use Rattle.mcs_work.specs.Work.{Works};
 
+use crate::extent::Extent;
 use crate::repairing::solve;
 use crate::states::list_equilibria;
 use crate::task::{Task, WorkStop};
@@ -15,9 +16,11 @@ use std::sync::Arc;
 
 /// Does the task: prints what it lists of the system, each line as one piece, as soon as it is known. The heading comes
 /// before the first question; for `Solve` the equilibria and the verdict come before diagnoses are looked for, and the
-/// diagnoses of a level before the next level. The evaluator is one of this system that did no level yet; it is
+/// diagnoses of a level before the next level. For `Make` nothing is printed before all is known, and then the verdict and
+/// the end line alone. The evaluator is one of this system that did no level yet; it is
 /// handed back, and what it did is seen in it: after the whole text its greatest level done is the last one of the
-/// task, that is 0 for equilibria and for a consistent system, and else the number of its rules.
+/// task, that is 0 for equilibria and for a consistent system, and else the number of its rules; its journals hold
+/// exactly the questions of that level.
 ///
 /// `Write` comes only where the sink's count of faults rose. `Spent` comes with the least level of the task that has
 /// more questions than the budget, and what is printed before this level was written; `Missing` with a question of a
@@ -41,6 +44,7 @@ pub fn work<E: Evaluator, K: Sink>(
             let result = list_equilibria(alloc, &mut evaluator, &system, sink);
             (result, evaluator)
         }
-        Task::Solve => solve(alloc, evaluator, system, sink),
+        Task::Solve => solve(alloc, Extent::Whole, evaluator, system, sink),
+        Task::Make => solve(alloc, Extent::Counts, evaluator, system, sink),
     }
 }

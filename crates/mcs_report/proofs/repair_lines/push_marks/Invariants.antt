@@ -1,5 +1,4 @@
-use Rattle.std.proofs.Common.{◌≡◌, ◌<◌, ◌*◌, ◌++◌, length, map, codes}
-use Rattle.std.specs.List.{AllByRecursion}
+use Rattle.std.proofs.Common.{◌≡◌, ◌++◌, map, codes}
 use Rattle.mcs_report.proofs.RepairLemmas.{AreMarks}
 use Rattle.mcs_text.specs.Separated.{separated}
 use Rattle.mcs_report.specs.Repairs.{mark_text}

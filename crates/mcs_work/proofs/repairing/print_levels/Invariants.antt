@@ -1,7 +1,7 @@
 use Rattle.std.proofs.Common.{◌≡◌, ◌+◌, ◌-◌, ◌≤◌, length}
 use Rattle.mcs_ports.specs.Pieces.{appended}
 use Rattle.mcs_states.specs.Evaluators.{KeepsRest}
-use Rattle.mcs_report.specs.Solutions.{diagnosis_lines}
+use Rattle.mcs_work.specs.Extents.{diagnoses_part}
 use Rattle.mcs_work.specs.Course.{IsUnderWay}
 use Rattle.mcs_work.proofs.repairing.print_levels.Given as goal
 
@@ -11,7 +11,7 @@ invariant-loop-found g l = record {
   notes : (g.K.Sink.device l.sink).notes ≡ (g.K.Sink.device l.fn.sink).notes;
   rest : KeepsRest (g.E.Evaluator.stands l.fn.levels.evaluator) (g.E.Evaluator.stands l.levels.evaluator);
   under_way : IsUnderWay (g.E.Evaluator.stands l.levels.evaluator) l.levels.level l.found.items;
-  written : (g.K.Sink.device l.sink).written ≡ appended (g.K.Sink.device l.fn.sink).written (diagnosis_lines l.system 1 l.found.items);
+  written : (g.K.Sink.device l.sink).written ≡ appended (g.K.Sink.device l.fn.sink).written (diagnoses_part l.extent l.system 1 l.found.items);
 }
 
 abbrev pub decreases-loop-found : goal.decreases-loop-found

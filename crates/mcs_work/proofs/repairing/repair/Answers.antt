@@ -9,5 +9,5 @@ returns-in-Err g c σs equilibria counted = record {
   notes = refl;
   rest = record { system = refl; budget = refl; oracles = refl };
   done = tt;
-  stop = verdict_left (arc_value c.args.system) (g.E.Evaluator.stands c.args.evaluator) (g.E.Evaluator.stands c.args.evaluator) c.requires.same σs equilibria (g.K.Sink.device c.args.sink.now);
+  stop = verdict_left c.args.extent (arc_value c.args.system) (g.E.Evaluator.stands c.args.evaluator) (g.E.Evaluator.stands c.args.evaluator) c.requires.same σs equilibria (g.K.Sink.device c.args.sink.now);
 }

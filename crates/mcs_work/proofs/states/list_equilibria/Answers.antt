@@ -7,7 +7,7 @@ use Rattle.mcs_work.proofs.states.list_equilibria.Goals as goal
 
 pub returns-in_err-states : goal.returns-in_err-states
 returns-in_err-states g c = works_stopped Equilibria [] (g.E.Evaluator.stands c.args.evaluator.now) (g.E.Evaluator.stands c.find_states.new.evaluator) (g.K.Sink.device c.args.sink.now) (g.K.Sink.device c.find_states.new.sink) _ _ c.from_residual.ensures.1
-    c.in_err-states.ensures.later c.in_err-states.ensures.notes c.in_err-states.ensures.rest (c.in_err-states.ensures.stop Equilibria)
+    c.in_err-states.ensures.later c.in_err-states.ensures.notes c.in_err-states.ensures.rest c.in_err-states.ensures.stop
 
 pub print_listing-requires : goal.print_listing-requires
 print_listing-requires g c = rw c.deref.ensures.value (all_from_among _ c.in_ok-states.states.items (λ σ among. (parts_of _ _ 0 σ ((c.in_ok-states.ensures.found.exactly σ).0 among)).0))
