@@ -1,12 +1,13 @@
 -- Words ask for one job at most, and what is given tells which.
-use Rattle.std.proofs.Common.{◌≤◌, Option, option_map, subst, ◌≡◌, ℕ, List, [], ◌∷◌, Some, None, Ok, Err, Result, MatchResult, length, arith, codes, refl, sym, ap, ◌∙◌}
-use Rattle.mcs_words.specs.Commands.{Word, Command, Request, equilibria, solve, IsFile, IsChosen, RunsOn, AsksFor, IsJobOf}
+use Rattle.std.proofs.Common.{◌≤◌, Option, option_map, subst, ◌≡◌, ℕ, nat_eq, Bool, cond, List, [], ◌∷◌, Some, None, Ok, Err, Result, MatchResult, get_or, length, arith, codes, refl, sym, ap, ◌∙◌}
+use Rattle.std.specs.Str.{bytes_eq}
+use Rattle.mcs_base.specs.Numbers.{value_of_digits}
+use Rattle.mcs_words.specs.Commands.{Word, Command, Request, equilibria, solve, check, make, default_of, IsChosen, HasSettings, AsksFor, IsJobOf}
 use Rattle.mcs_words.specs.declared.setting.Setting.{Setting}
 use Rattle.mcs_words.specs.declared.setting.Setting.TheVariants.{Budget, Workers}
-use Rattle.mcs_words.specs.declared.given.Given.{Given}
 use Rattle.mcs_words.specs.declared.task.Task.{Task}
 use Rattle.mcs_words.specs.declared.task.Task.TheVariants as task
-use Rattle.mcs_words.specs.Reading.{read, request_of, command_of, listed, task_name, tally_of, IsWholeTally, IsWholeReading}
+use Rattle.mcs_words.specs.Reading.{read, request_of, task_name, tally_of, IsWholeTally, IsWholeReading}
 use Rattle.mcs_words.specs.declared.tally.Tally.{Tally}
 use Rattle.mcs_words.specs.declared.job.Job.{Job}
 use Rattle.mcs_words.specs.declared.job.WordsFault.{WordsFault}
@@ -14,27 +15,50 @@ use Rattle.mcs_words.specs.declared.job.WordsFault.TheVariants.{Usage}
 use Rattle.mcs_words.specs.declared.reading.Place.TheVariants.{Open}
 use Rattle.mcs_words.proofs.ReadingLemmas.{reads_read, job_read, job_asked}
 
-pub chosen_once : (s : Setting) (values : List Word) (m n : ℕ) → IsChosen s values m → IsChosen s values n → m ≡ n
-chosen_once s [] m n h k = h ∙ sym k
-chosen_once s (value ∷ []) m n h k = sym h.2 ∙ k.2
-chosen_once s (value ∷ (second ∷ values)) m n h k = absurd h
+-- the number that an option has with these values
+abbrev chosen_of : Setting → List Word → ℕ
+chosen_of s [] = default_of s
+chosen_of s (value ∷ values) = value_of_digits value
 
--- a command runs on one file at most, with one budget and one number of workers, whatever its job
-run_once : (c : Command) (a b file file' : Word) (budget budget' workers workers' : ℕ) → RunsOn c (a ∷ file ∷ []) file budget workers → RunsOn c (b ∷ file' ∷ []) file' budget' workers'
-    → (a ≡ b) × (file ≡ file') × (budget ≡ budget') × (workers ≡ workers')
-run_once c a b file file' budget budget' workers workers' h k =
-    let words : a ∷ file ∷ [] ≡ b ∷ file' ∷ [] = sym h.0 ∙ k.0 in
-    (cc, cc, chosen_once Budget c.budgets budget budget' h.2 k.2, chosen_once Workers c.workers workers workers' h.3 k.3)
+chosen_is : (s : Setting) (values : List Word) (n : ℕ) → IsChosen s values n → n ≡ chosen_of s values
+chosen_is s [] n h = h
+chosen_is s (value ∷ []) n h = sym h.2
+chosen_is s (value ∷ (second ∷ values)) n h = absurd h
+
+-- the job that a word names; any for another word
+abbrev task_at : Word → Task
+task_at word = cond (bytes_eq word (codes "equilibria")) task.Equilibria
+    (cond (bytes_eq word (codes "solve")) task.Solve (cond (bytes_eq word (codes "check")) task.Check task.Make))
+
+task_named : (t : Task) → task_at (task_name t) ≡ t
+task_named task.Equilibria = refl
+task_named task.Solve = refl
+task_named task.Check = refl
+task_named task.Make = refl
+
+abbrev request_at : Task → Word → Word → ℕ → ℕ → Bool → Request
+request_at task.Equilibria file report budget workers proof = equilibria file budget workers
+request_at task.Solve file report budget workers proof = solve file budget workers proof
+request_at task.Check file report budget workers proof = check file report
+request_at task.Make file report budget workers proof = make (value_of_digits file) budget workers
+
+-- what a command asks for, where it asks for anything
+abbrev request_by : List Word → ℕ → ℕ → Bool → Request
+request_by words = request_at (task_at (get_or words 0 [])) (get_or words 1 []) (get_or words 2 [])
+
+settings_are : (c : Command) (budget workers : ℕ) (proof : Bool) → HasSettings c budget workers proof
+    → request_by c.plain (chosen_of Budget c.budgets) (chosen_of Workers c.workers) (nat_eq c.proofs 1) ≡ request_by c.plain budget workers proof
+settings_are c budget workers proof h = rw (chosen_is Budget c.budgets budget h.budget_is, chosen_is Workers c.workers workers h.workers_are, h.proof_is.1) refl
+
+asks_for : (c : Command) (request : Request) → AsksFor c request → request_by c.plain (chosen_of Budget c.budgets) (chosen_of Workers c.workers) (nat_eq c.proofs 1) ≡ request
+asks_for c (equilibria file budget workers) h = settings_are c budget workers h.0 h.3 ∙ ap (λ (words : List Word). request_by words budget workers h.0) h.1
+asks_for c (solve file budget workers proof) h = settings_are c budget workers proof h.2 ∙ ap (λ (words : List Word). request_by words budget workers proof) h.0
+asks_for c (check file report) h = settings_are c h.0 h.1 h.2 h.6 ∙ ap (λ (words : List Word). request_by words h.0 h.1 h.2) h.3
+asks_for c (make number budget workers) h = settings_are c budget workers h.0 h.4
+    ∙ (ap (λ (words : List Word). request_by words budget workers h.0) h.2 ∙ ap (λ n. make n budget workers) h.3.2)
 
 pub asks_once : (c : Command) (a b : Request) → AsksFor c a → AsksFor c b → a ≡ b
-asks_once c (equilibria file budget workers) (equilibria file' budget' workers') h k =
-    let same = run_once c (codes "equilibria") (codes "equilibria") file file' budget budget' workers workers' h k in cc
-asks_once c (equilibria file budget workers) (solve file' budget' workers') h k =
-    let same = run_once c (codes "equilibria") (codes "solve") file file' budget budget' workers workers' h k in absurd (omega (arith, ap length same.0))
-asks_once c (solve file budget workers) (equilibria file' budget' workers') h k =
-    let same = run_once c (codes "solve") (codes "equilibria") file file' budget budget' workers workers' h k in absurd (omega (arith, ap length same.0))
-asks_once c (solve file budget workers) (solve file' budget' workers') h k =
-    let same = run_once c (codes "solve") (codes "solve") file file' budget budget' workers workers' h k in cc
+asks_once c a b h k = sym (asks_for c a h) ∙ asks_for c b k
 
 pub asked_once : (words : List Word) (a b : Request) → IsJobOf words a → IsJobOf words b → a ≡ b
 asked_once words a b h k = let e = reads_read h.1 in asks_once h.0 a b h.2 (job_asked words h.0 b e k)
@@ -51,12 +75,20 @@ one_value s [] n h = omega arith
 one_value s (value ∷ []) n h = omega arith
 one_value s (value ∷ (second ∷ values)) n h = absurd h
 
-run_whole : (c : Command) (name file : Word) (budget workers : ℕ) → RunsOn c (name ∷ file ∷ []) file budget workers → IsWholeTally (tally_of c)
-run_whole c name file budget workers h = (ap length h.0, one_value Budget c.budgets budget h.2, one_value Workers c.workers workers h.3)
+settings_whole : (c : Command) (budget workers : ℕ) (proof : Bool) → HasSettings c budget workers proof → 2 ≤ length c.plain → length c.plain ≤ 3 → IsWholeTally (tally_of c)
+settings_whole c budget workers proof h least most = record {
+  least = least;
+  most = most;
+  budgets = one_value Budget c.budgets budget h.budget_is;
+  workers = one_value Workers c.workers workers h.workers_are;
+  proofs = h.proof_is.0;
+}
 
 asks_whole : (c : Command) (request : Request) → AsksFor c request → IsWholeTally (tally_of c)
-asks_whole c (equilibria file budget workers) asks = run_whole c (codes "equilibria") file budget workers asks
-asks_whole c (solve file budget workers) asks = run_whole c (codes "solve") file budget workers asks
+asks_whole c (equilibria file budget workers) h = let words = ap length h.1 in settings_whole c budget workers h.0 h.3 (omega (arith, words)) (omega (arith, words))
+asks_whole c (solve file budget workers proof) h = let words = ap length h.0 in settings_whole c budget workers proof h.2 (omega (arith, words)) (omega (arith, words))
+asks_whole c (check file report) h = let words = ap length h.3 in settings_whole c h.0 h.1 h.2 h.6 (omega (arith, words)) (omega (arith, words))
+asks_whole c (make number budget workers) h = let words = ap length h.2 in settings_whole c budget workers h.0 h.4 (omega (arith, words)) (omega (arith, words))
 
 pub not_whole : (words : List Word) (t : Tally) (request : Request) → Some t ≡ option_map tally_of (read words Open) → ¬ IsWholeTally t → ¬ IsJobOf words request
 not_whole words t request e never job =
@@ -76,29 +108,9 @@ whole_reading words t e whole = at (read words Open) refl e
 
 -- ---- the job of what is given
 
--- what is given names a job and a file, and has its numbers
-pub record AsksOne (g : Given) : Type 0 where
-  pub task : Task
-  pub named : g.job.now ≡ task_name task
-  pub file : IsFile g.file.now
-  pub budget : ℕ
-  pub budget_chosen : IsChosen Budget (listed g.budget) budget
-  pub workers : ℕ
-  pub workers_chosen : IsChosen Workers (listed g.workers) workers
-
-run_asked : (g : Given) (t : Task) (file : Word) (budget workers : ℕ) → RunsOn (command_of g) (task_name t ∷ file ∷ []) file budget workers → AsksOne g
-run_asked g t file budget workers h =
-    let words : g.job.now ∷ g.file.now ∷ [] ≡ task_name t ∷ file ∷ [] = h.0 in
-    let file_is : file ≡ g.file.now = cc in
-    record { task = t; named = cc; file = subst IsFile file_is h.1; budget = budget; budget_chosen = h.2; workers = workers; workers_chosen = h.3 }
-
-pub asked_one : (g : Given) (request : Request) → AsksFor (command_of g) request → AsksOne g
-asked_one g (equilibria file budget workers) h = run_asked g task.Equilibria file budget workers h
-asked_one g (solve file budget workers) h = run_asked g task.Solve file budget workers h
-
--- a job that is named, with a file and its numbers, is asked for
-pub run_given : (g : Given) (t : Task) (file : Word) (budget workers : ℕ) → g.job.now ≡ task_name t → file ≡ g.file.now → IsFile g.file.now → IsChosen Budget (listed g.budget) budget → IsChosen Workers (listed g.workers) workers
-    → RunsOn (command_of g) (task_name t ∷ file ∷ []) file budget workers
-run_given g t file budget workers named same is_file b w =
-    let words : g.job.now ∷ g.file.now ∷ [] ≡ task_name t ∷ file ∷ [] = cc in
-    (words, subst IsFile (sym same) is_file, b, w)
+-- a job that is asked for is named by the first plain word
+pub named_first : (c : Command) (first : Word) (words : List Word) (request : Request) → c.plain ≡ first ∷ words → AsksFor c request → (t : Task) × (first ≡ task_name t)
+named_first c first words (equilibria file budget workers) e h = (task.Equilibria, cc (e, h.1))
+named_first c first words (solve file budget workers proof) e h = (task.Solve, cc (e, h.0))
+named_first c first words (check file report) e h = (task.Check, cc (e, h.3))
+named_first c first words (make number budget workers) e h = (task.Make, cc (e, h.2))

@@ -5,7 +5,7 @@ use Rattle.std.specs.Str.{bytes_eq}
 use Rattle.std.proofs.lemmas.Bool.Decides.{Decides-eqb}
 use Rattle.std.proofs.lemmas.Slice.Eq.{bytes_eq-Decides}
 use Rattle.mcs_words.specs.Commands.{Word, name_of, begins_with_dash, IsPlain}
-use Rattle.mcs_words.specs.Reading.{WordKind, dashes, name, joined, plain, unknown, after, other_kind, joined_kind, kind}
+use Rattle.mcs_words.specs.Reading.{WordKind, dashes, name, joined, flag, plain, unknown, after, other_kind, joined_kind, kind}
 use Rattle.mcs_words.specs.declared.setting.Setting.{Setting}
 use Rattle.mcs_words.specs.declared.setting.Setting.TheVariants.{Budget, Workers}
 
@@ -37,6 +37,7 @@ abbrev pub IsKind : Word → WordKind → Type 0
 IsKind word dashes = word ≡ codes "--"
 IsKind word (name s) = word ≡ name_of s
 IsKind word (joined s value) = word ≡ name_of s ++ 61 ∷ value
+IsKind word flag = word ≡ codes "--proof"
 IsKind word plain = IsPlain word
 IsKind word unknown = Unit {0}
 
@@ -62,9 +63,10 @@ kind_is word =
     by_text word (codes "--") _ _ (λ e. e)
     (by_text word (codes "--budget") _ _ (λ e. e)
     (by_text word (codes "--workers") _ _ (λ e. e)
+    (by_text word (codes "--proof") _ _ (λ e. e)
     (by_front word Budget (after (codes "--budget=") word) _ (λ value e. after_is (codes "--budget=") word value e)
     (by_front word Workers (after (codes "--workers=") word) _ (λ value e. after_is (codes "--workers=") word value e)
-    (other_is word)))))
+    (other_is word))))))
 
 pub plain_kind : (word : Word) → IsPlain word → kind word ≡ plain
 unfolding kind
@@ -85,6 +87,10 @@ unfolding kind
 name_is Budget = refl
 name_is Workers = refl
 
+pub flag_is : kind (codes "--proof") ≡ flag
+unfolding kind
+flag_is = refl
+
 pub dashes_is : kind (codes "--") ≡ dashes
 unfolding kind
 dashes_is = refl
@@ -104,10 +110,10 @@ budget_or word o = option_map_or (joined Budget) o (option_map_or (joined Worker
 abbrev workers_or : Word → Option Word → WordKind
 workers_or word o = option_map_or (joined Workers) o (other_kind word)
 
-module _ (word : Word) (no_dashes : bytes_eq word (codes "--") ≡ false) (no_budget : bytes_eq word (codes "--budget") ≡ false) (no_workers : bytes_eq word (codes "--workers") ≡ false) where
+module _ (word : Word) (no_dashes : bytes_eq word (codes "--") ≡ false) (no_budget : bytes_eq word (codes "--budget") ≡ false) (no_workers : bytes_eq word (codes "--workers") ≡ false) (no_flag : bytes_eq word (codes "--proof") ≡ false) where
   kind_at : kind word ≡ joined_kind word
   unfolding kind
-  kind_at = rw (no_dashes, no_budget, no_workers) refl
+  kind_at = rw (no_dashes, no_budget, no_workers, no_flag) refl
 
   pub budget_seen : is_some (after (codes "--budget=") word) ≡ true → (value : Word) × (kind word ≡ joined Budget value)
   budget_seen some =

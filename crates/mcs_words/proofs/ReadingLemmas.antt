@@ -2,15 +2,15 @@
 use Rattle.std.proofs.Common.{◌≡◌, ◌⊎◌, inl, inr, ◌<◌, ◌≤◌, ◌+◌, length, drop, get_or, string_bytes, String, Global, arith, add-zero, zero-add, ℕ, Bool, true, false, cond, List, [], ◌∷◌, ◌++◌, Option, Some, None, option_map, codes, refl, sym, ap, ◌∙◌, subst, true≢false}
 use Rattle.std.proofs.lemmas.List.{at_drop_more, at_drop_all}
 use Rattle.std.proofs.lemmas.Bool.{false_from_ne_true}
-use Rattle.mcs_words.specs.Commands.{Word, Command, Reads, ends, dashes, plain_word, joined, apart, Request, AsksFor, IsJobOf, name_of, nothing, only_plain, with_plain, with_value, begins_with_dash}
+use Rattle.mcs_words.specs.Commands.{Word, Command, Reads, ends, dashes, plain_word, joined, apart, flag, Request, AsksFor, IsJobOf, name_of, nothing, only_plain, with_plain, with_value, with_proof, begins_with_dash}
 use Rattle.mcs_words.specs.Reading as reading
-use Rattle.mcs_words.specs.Reading.{WordKind, kind, open_step, step, read, texts_of, at_end, counted, tally_of, total_of, no_tally, more_plain, more_values}
+use Rattle.mcs_words.specs.Reading.{WordKind, kind, open_step, step, read, texts_of, at_end, counted, tally_of, total_of, no_tally, more_plain, more_values, more_proofs}
 use Rattle.mcs_words.specs.declared.reading.Place.{Place}
 use Rattle.mcs_words.specs.declared.reading.Place.TheVariants.{Open, Value, Closed}
 use Rattle.mcs_words.specs.declared.tally.Tally.{Tally}
 use Rattle.mcs_words.specs.declared.setting.Setting.{Setting}
 use Rattle.mcs_words.specs.declared.setting.Setting.TheVariants.{Budget, Workers}
-use Rattle.mcs_words.proofs.KindLemmas.{IsKind, kind_is, plain_kind, joined_is, name_is, dashes_is}
+use Rattle.mcs_words.proofs.KindLemmas.{IsKind, kind_is, plain_kind, joined_is, name_is, flag_is, dashes_is}
 
 -- ---- what the definitions read, the function reads
 pub closed_reads : (words : List Word) → read words Closed ≡ Some (only_plain words)
@@ -26,6 +26,7 @@ reads_read (plain_word word words c plain r) = ap (λ k. open_step k word (read 
 reads_read (joined s value words c r) = ap (λ k. open_step k (name_of s ++ 61 ∷ value) (read words)) (joined_is s value) ∙ ap (option_map (with_value s value)) (reads_read r)
 reads_read (apart s value words c without r) = ap (λ k. open_step k (name_of s) (read (value ∷ words))) (name_is s)
     ∙ (ap (λ b. cond b None (option_map (with_value s value) (read words Open))) (false_from_ne_true (begins_with_dash value) without) ∙ ap (option_map (with_value s value)) (reads_read r))
+reads_read (flag words c r) = ap (λ k. open_step k (codes "--proof") (read words)) flag_is ∙ ap (option_map with_proof) (reads_read r)
 
 -- ---- what the function reads, the definitions read
 
@@ -46,6 +47,9 @@ open_reads word words c (reading.name s) is rest e = subst (λ (w : Word). Reads
 open_reads word words c (reading.joined s value) is rest e =
     let found = mapped (with_value s value) (read words Open) c e in
     subst (λ (w : Word). Reads (w ∷ words) c) (sym is) (subst (λ (d : Command). Reads ((name_of s ++ 61 ∷ value) ∷ words) d) found.2 (joined s value words found.0 (rest Open found.0 found.1)))
+open_reads word words c reading.flag is rest e =
+    let found = mapped with_proof (read words Open) c e in
+    subst (λ (w : Word). Reads (w ∷ words) c) (sym is) (subst (λ (d : Command). Reads (codes "--proof" ∷ words) d) found.2 (flag words found.0 (rest Open found.0 found.1)))
 open_reads word words c reading.plain is rest e =
     let found = mapped (with_plain word) (read words Open) c e in
     subst (λ (d : Command). Reads (word ∷ words) d) found.2 (plain_word word words found.0 is (rest Open found.0 found.1))
@@ -83,9 +87,6 @@ job_read words c request e asks = (c, read_reads words c e, asks)
 pub job_asked : (words : List Word) (c : Command) (request : Request) → read words Open ≡ Some c → IsJobOf words request → AsksFor c request
 job_asked words c request e job = subst (λ (d : Command). AsksFor d request) (read_once words c job.0 e job.1) job.2
 
-pub no_job : (words : List Word) (request : Request) → read words Open ≡ None → ¬ IsJobOf words request
-no_job words request e job = let no : None ≡ Some job.0 = sym e ∙ reads_read job.1 in cc
-
 -- ---- steps of the code
 counted_plain : (t : Tally) (word : Word) (o : Option Command) → option_map (counted (more_plain t)) o ≡ option_map (counted t) (option_map (with_plain word) o)
 counted_plain t word None = refl
@@ -97,6 +98,10 @@ counted_value Workers t value None = refl
 counted_value Budget t value (Some c) = let e : (t.budgets + 1) + length c.budgets ≡ t.budgets + length (value ∷ c.budgets) = omega arith in ap (λ n. Some (record (counted t c) { budgets = n })) e
 counted_value Workers t value (Some c) = let e : (t.workers + 1) + length c.workers ≡ t.workers + length (value ∷ c.workers) = omega arith in ap (λ n. Some (record (counted t c) { workers = n })) e
 
+counted_proof : (t : Tally) (o : Option Command) → option_map (counted (more_proofs t)) o ≡ option_map (counted t) (option_map with_proof o)
+counted_proof t None = refl
+counted_proof t (Some c) = let e : (t.proofs + 1) + c.proofs ≡ t.proofs + (c.proofs + 1) = omega arith in ap (λ n. Some (record (counted t c) { proofs = n })) e
+
 module _ (a b : Tally) (word : Word) (rest : Place → Option Command) where
   pub value_step : (place : Place) (s : Setting) → place ≡ Value s → b ≡ more_values s a → begins_with_dash word ≡ false → option_map (counted b) (rest Open) ≡ option_map (counted a) (step place word rest)
   value_step place s at more undashed = rw (at, undashed, more) (counted_value s a word (rest Open))
@@ -106,6 +111,9 @@ module _ (a b : Tally) (word : Word) (rest : Place → Option Command) where
 
   pub joined_step : (k : WordKind) (s : Setting) (value : Word) → k ≡ reading.joined s value → b ≡ more_values s a → option_map (counted b) (rest Open) ≡ option_map (counted a) (open_step k word rest)
   joined_step k s value at more = rw (at, more) (counted_value s a value (rest Open))
+
+  pub flag_step : (k : WordKind) → k ≡ reading.flag → b ≡ more_proofs a → option_map (counted b) (rest Open) ≡ option_map (counted a) (open_step k word rest)
+  flag_step k at more = rw (at, more) (counted_proof a (rest Open))
 
   pub plain_step : (k : WordKind) → k ≡ reading.plain → b ≡ more_plain a → option_map (counted b) (rest Open) ≡ option_map (counted a) (open_step k word rest)
   plain_step k at more = rw (at, more) (counted_plain a word (rest Open))
@@ -131,11 +139,11 @@ module _ (all : Option Tally) (a : Tally) (words : List (String Global)) (i : �
   end_read past = sym known ∙ at_drop_all (λ (ws : List (String Global)). option_map (counted a) (read (texts_of ws) p)) words i past
 
 counted_nothing : (a : Tally) → counted a nothing ≡ a
-counted_nothing a = rw (add-zero a.plain, add-zero a.budgets, add-zero a.workers) refl
+counted_nothing a = rw (add-zero a.plain, add-zero a.budgets, add-zero a.workers, add-zero a.proofs) refl
 
 pub counted_none : (o : Option Command) → option_map (counted no_tally) o ≡ option_map tally_of o
 counted_none None = refl
-counted_none (Some c) = rw (zero-add (length c.plain), zero-add (length c.budgets), zero-add (length c.workers)) refl
+counted_none (Some c) = rw (zero-add (length c.plain), zero-add (length c.budgets), zero-add (length c.workers), zero-add c.proofs) refl
 
 pub ended : (all : Option Tally) (a : Tally) (p : Place) → (p ≡ Open) ⊎ (p ≡ Closed) → all ≡ option_map (counted a) (at_end p) → all ≡ Some a
 ended all a p (inl e) h = (rw e at h) ∙ ap (λ (t : Tally). Some t) (counted_nothing a)
@@ -143,6 +151,9 @@ ended all a p (inr e) h = (rw e at h) ∙ ap (λ (t : Tally). Some t) (counted_n
 
 pub total_plain : (a b : Tally) → b ≡ more_plain a → total_of b ≤ total_of a + 1
 total_plain a b e = let less : total_of (more_plain a) ≤ total_of a + 1 = omega arith in subst (λ (t : Tally). total_of t ≤ total_of a + 1) (sym e) less
+
+pub total_proof : (a b : Tally) → b ≡ more_proofs a → total_of b ≤ total_of a + 1
+total_proof a b e = let less : total_of (more_proofs a) ≤ total_of a + 1 = omega arith in subst (λ (t : Tally). total_of t ≤ total_of a + 1) (sym e) less
 
 pub total_value : (s : Setting) (a b : Tally) → b ≡ more_values s a → total_of b ≤ total_of a + 1
 total_value Budget a b e = let less : total_of (more_values Budget a) ≤ total_of a + 1 = omega arith in subst (λ (t : Tally). total_of t ≤ total_of a + 1) (sym e) less

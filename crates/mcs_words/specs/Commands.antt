@@ -1,5 +1,5 @@
 -- The words of a command line, and the job that they ask for.
-use Rattle.std.specs.Prelude.{◌≡◌, ℕ, Bool, false, nat_eq, IsTrue, List, [], ◌∷◌, ◌++◌, codes}
+use Rattle.std.specs.Prelude.{◌≡◌, ◌+◌, ◌≤◌, ℕ, Bool, false, nat_eq, IsTrue, List, [], ◌∷◌, ◌++◌, codes}
 use Rattle.mcs_base.specs.Numbers.{IsNumber}
 use Rattle.mcs_words.specs.declared.setting.Setting.{Setting}
 use Rattle.mcs_words.specs.declared.setting.Setting.TheVariants.{Budget, Workers}
@@ -27,13 +27,15 @@ default_of Workers = 1
 
 -- ---- what words give
 
+-- the plain words, the values of each option, and how often `--proof` stands
 pub record Command : Type 0 where
   pub plain : List Word
   pub budgets : List Word
   pub workers : List Word
+  pub proofs : ℕ
 
 abbrev pub only_plain : List Word → Command
-only_plain words = record { plain = words; budgets = []; workers = [] }
+only_plain words = record { plain = words; budgets = []; workers = []; proofs = 0 }
 
 abbrev pub nothing : Command
 nothing = only_plain []
@@ -45,6 +47,9 @@ with_plain word c = record c { plain = word ∷ c.plain }
 abbrev pub with_value : Setting → Word → Command → Command
 with_value Budget value c = record c { budgets = value ∷ c.budgets }
 with_value Workers value c = record c { workers = value ∷ c.workers }
+
+abbrev pub with_proof : Command → Command
+with_proof c = record c { proofs = c.proofs + 1 }
 
 abbrev pub begins_with_dash : Word → Bool
 begins_with_dash [] = false
@@ -67,6 +72,8 @@ pub data Reads : List Word → Command → Type 0 where
   -- an option, whose value is the next word and does not begin with `-`
   apart : (s : Setting) (value : Word) (words : List Word) (c : Command) → ¬ IsTrue (begins_with_dash value) → Reads words c
       → Reads (name_of s ∷ value ∷ words) (with_value s value c)
+  -- the flag
+  flag : (words : List Word) (c : Command) → Reads words c → Reads (codes "--proof" ∷ words) (with_proof c)
 
 -- ---- numbers
 
@@ -76,27 +83,48 @@ IsChosen s [] n = n ≡ default_of s
 IsChosen s (value ∷ []) n = IsNumber (least_of s) (most_of s) value n
 IsChosen s (value ∷ (second ∷ values)) n = ⊥
 
+-- the flag stands once at most, and this says whether it does
+abbrev pub IsMarked : ℕ → Bool → Type 0
+IsMarked times stands = (times ≤ 1) × (stands ≡ nat_eq times 1)
+
+-- a command's budget, its number of workers, and whether its flag stands
+pub record HasSettings (c : Command) (budget workers : ℕ) (proof : Bool) : Type 0 where
+  pub budget_is : IsChosen Budget c.budgets budget
+  pub workers_are : IsChosen Workers c.workers workers
+  pub proof_is : IsMarked c.proofs proof
+
 -- ---- jobs
 
--- each is of the system that a file has, within a budget of questions, by a number of workers
 pub data Request : Type 0 where
-  -- to list the equilibria
+  -- to list the equilibria of the system that a file has: the file, a budget of questions, a number of workers
   equilibria : Word → ℕ → ℕ → Request
-  -- to list the equilibria, the minimal diagnoses and the minimal explanations
-  solve : Word → ℕ → ℕ → Request
+  -- to list its equilibria, minimal diagnoses and minimal explanations, and to add their proof or not
+  solve : Word → ℕ → ℕ → Bool → Request
+  -- to judge a report on the system that a file has: the file, and the file of the report
+  check : Word → Word → Request
+  -- to solve the system that is generated for a number: the number, a budget of questions, a number of workers
+  make : ℕ → ℕ → ℕ → Request
 
 -- the name of a file: not empty, and not `-`
 abbrev pub IsFile : Word → Type 0
 IsFile word = ¬ (word ≡ []) × ¬ (word ≡ codes "-")
 
--- a command runs on a file: these are its plain words, the file can be one, and the numbers are those of its options
-abbrev pub RunsOn : Command → List Word → Word → ℕ → ℕ → Type 0
-RunsOn c words file budget workers = (c.plain ≡ words) × IsFile file × IsChosen Budget c.budgets budget × IsChosen Workers c.workers workers
+-- the greatest number that a generated system has
+abbrev pub most_made : ℕ
+most_made = 4294967295
 
--- what a command asks for: its plain words are the job and the file
+-- what a command asks for: its plain words are the job, its file or number, and for `check` alone a report. Options and flag
+-- are what they may be also where they have no effect
 abbrev pub AsksFor : Command → Request → Type 0
-AsksFor c (equilibria file budget workers) = RunsOn c (codes "equilibria" ∷ file ∷ []) file budget workers
-AsksFor c (solve file budget workers) = RunsOn c (codes "solve" ∷ file ∷ []) file budget workers
+AsksFor c (equilibria file budget workers) =
+    (proof : Bool) × (c.plain ≡ codes "equilibria" ∷ file ∷ []) × IsFile file × HasSettings c budget workers proof
+AsksFor c (solve file budget workers proof) =
+    (c.plain ≡ codes "solve" ∷ file ∷ []) × IsFile file × HasSettings c budget workers proof
+AsksFor c (check file report) =
+    (budget : ℕ) × (workers : ℕ) × (proof : Bool)
+    × (c.plain ≡ codes "check" ∷ file ∷ report ∷ []) × IsFile file × IsFile report × HasSettings c budget workers proof
+AsksFor c (make number budget workers) =
+    (proof : Bool) × (digits : Word) × (c.plain ≡ codes "make" ∷ digits ∷ []) × IsNumber 0 most_made digits number × HasSettings c budget workers proof
 
 -- the words ask for the job
 abbrev pub IsJobOf : List Word → Request → Type 0

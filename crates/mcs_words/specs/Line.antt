@@ -1,5 +1,6 @@
 -- The command line as clap is told of it.
 use Rattle.std.specs.Prelude.{true, Some, codes}
+use Rattle.clap.specs.declared.builder.action.ArgAction.TheVariants.{SetTrue}
 use Rattle.clap.specs.Words.{App, Rule, new_app, new_rule, with_rule}
 use Rattle.clap.specs.Simple.{on_top}
 
@@ -13,12 +14,22 @@ job_rule = record (new_rule (codes "job")) { required = true }
 abbrev pub file_rule : Rule
 file_rule = record (new_rule (codes "file")) { required = true }
 
+abbrev pub report_rule : Rule
+report_rule = new_rule (codes "report")
+
 abbrev pub budget_rule : Rule
 budget_rule = record (new_rule (codes "budget")) { long = Some (codes "budget") }
 
 abbrev pub workers_rule : Rule
 workers_rule = record (new_rule (codes "workers")) { long = Some (codes "workers") }
 
--- a job and a file, and two options that take one text each
+abbrev pub proof_rule : Rule
+proof_rule = record (new_rule (codes "proof")) { long = Some (codes "proof"); action = Some SetTrue }
+
+-- a job, a file and no report or one
+abbrev pub plain_line : App
+plain_line = with_rule (with_rule (with_rule bare_line job_rule) file_rule) report_rule
+
+-- and two options that take one text each, and a flag
 abbrev pub line : App
-line = with_rule (with_rule (with_rule (with_rule bare_line job_rule) file_rule) budget_rule) workers_rule
+line = with_rule (with_rule (with_rule plain_line budget_rule) workers_rule) proof_rule

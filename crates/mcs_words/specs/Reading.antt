@@ -1,13 +1,14 @@
 -- The reading of the words as a function, by which the code is told.
-use Rattle.std.specs.Prelude.{◌≡◌, ◌+◌, ◌≤◌, length, ℕ, not, nat_eq, cond, ◌&&◌, List, [], ◌∷◌, map, codes, Option, Some, None, option_map, String, string_bytes}
+use Rattle.std.specs.Prelude.{◌≡◌, ◌+◌, ◌≤◌, length, ℕ, Bool, not, nat_eq, cond, ◌&&◌, List, [], ◌∷◌, map, codes, Option, Some, None, option_map, String, string_bytes}
 use Rattle.std.specs.Borrow.{Bor}
 use Rattle.std.specs.Str.{bytes_eq}
 use Rattle.std.specs.Option.{option_map_or}
 use Rattle.std.specs.declared.alloc.Global.{Global}
-use Rattle.mcs_words.specs.Commands.{Word, Command, Request, equilibria, solve, nothing, with_plain, with_value, begins_with_dash}
+use Rattle.mcs_base.specs.Numbers.{IsNumber}
+use Rattle.mcs_words.specs.Commands.{Word, Command, Request, equilibria, solve, check, make, nothing, with_plain, with_value, with_proof, begins_with_dash, IsFile, most_made}
 use Rattle.mcs_words.specs.declared.given.Given.{Given}
 use Rattle.mcs_words.specs.declared.job.Job.{Job}
-use Rattle.mcs_words.specs.declared.job.Job.TheVariants.{Equilibria, Solve}
+use Rattle.mcs_words.specs.declared.job.Job.TheVariants.{Equilibria, Solve, Check, Make}
 use Rattle.mcs_words.specs.declared.kind.Kind.{Kind}
 use Rattle.mcs_words.specs.declared.kind.Kind.TheVariants as code
 use Rattle.mcs_words.specs.declared.reading.Place.{Place}
@@ -25,27 +26,49 @@ texts_of words = map string_bytes words
 
 abbrev pub request_of : Job → Request
 request_of (Equilibria file budget workers) = equilibria (string_bytes file) budget workers
-request_of (Solve file budget workers) = solve (string_bytes file) budget workers
+request_of (Solve file budget workers proof) = solve (string_bytes file) budget workers proof
+request_of (Check file report) = check (string_bytes file) (string_bytes report)
+request_of (Make number budget workers) = make number budget workers
 
 -- the first plain word of a job
 abbrev pub task_name : Task → Word
 task_name task.Equilibria = codes "equilibria"
 task_name task.Solve = codes "solve"
+task_name task.Check = codes "check"
+task_name task.Make = codes "make"
+
+-- what its other plain words are
+abbrev pub IsOneFile : List Word → Type 0
+IsOneFile words = (file : Word) × (words ≡ file ∷ []) × IsFile file
+
+abbrev pub AreTwoFiles : List Word → Type 0
+AreTwoFiles words = (file : Word) × (report : Word) × (words ≡ file ∷ report ∷ []) × IsFile file × IsFile report
+
+abbrev pub IsOneNumber : List Word → Type 0
+IsOneNumber words = (digits : Word) × (number : ℕ) × (words ≡ digits ∷ []) × IsNumber 0 most_made digits number
 
 -- no value, or one
 abbrev pub listed : Option (Bor Word) → List Word
 listed None = []
 listed (Some value) = value.now ∷ []
 
+-- how often a flag stands that stands once at most
+abbrev pub times : Bool → ℕ
+times stands = cond stands 1 0
+
+-- the plain words after the name of the job
+abbrev pub targets_of : Given → List Word
+targets_of g = g.file.now ∷ listed g.report
+
 abbrev pub command_of : Given → Command
-command_of g = record { plain = g.job.now ∷ g.file.now ∷ []; budgets = listed g.budget; workers = listed g.workers }
+command_of g = record { plain = g.job.now ∷ targets_of g; budgets = listed g.budget; workers = listed g.workers; proofs = times g.proof }
 
 -- ---- how many words of each sort
 abbrev pub total_of : Tally → ℕ
-total_of t = t.plain + t.budgets + t.workers
+total_of t = t.plain + t.budgets + t.workers + t.proofs
 
 abbrev pub no_tally : Tally
-no_tally = record { plain = 0; budgets = 0; workers = 0 }
+no_tally = record { plain = 0; budgets = 0; workers = 0; proofs = 0 }
 
 abbrev pub more_plain : Tally → Tally
 more_plain t = record t { plain = t.plain + 1 }
@@ -54,16 +77,28 @@ abbrev pub more_values : Setting → Tally → Tally
 more_values Budget t = record t { budgets = t.budgets + 1 }
 more_values Workers t = record t { workers = t.workers + 1 }
 
+abbrev pub more_proofs : Tally → Tally
+more_proofs t = record t { proofs = t.proofs + 1 }
+
 abbrev pub tally_of : Command → Tally
-tally_of c = record { plain = length c.plain; budgets = length c.budgets; workers = length c.workers }
+tally_of c = record { plain = length c.plain; budgets = length c.budgets; workers = length c.workers; proofs = c.proofs }
 
 -- a command after what is counted
 abbrev pub counted : Tally → Command → Tally
-counted t c = record { plain = t.plain + length c.plain; budgets = t.budgets + length c.budgets; workers = t.workers + length c.workers }
+counted t c = record {
+  plain = t.plain + length c.plain;
+  budgets = t.budgets + length c.budgets;
+  workers = t.workers + length c.workers;
+  proofs = t.proofs + c.proofs;
+}
 
--- a job and a file, and each option once at most
-abbrev pub IsWholeTally : Tally → Type 0
-IsWholeTally t = (t.plain ≡ 2) × (t.budgets ≤ 1) × (t.workers ≤ 1)
+-- a job, a file and no report or one; each option and the flag once at most
+pub record IsWholeTally (t : Tally) : Type 0 where
+  pub least : 2 ≤ t.plain
+  pub most : t.plain ≤ 3
+  pub budgets : t.budgets ≤ 1
+  pub workers : t.workers ≤ 1
+  pub proofs : t.proofs ≤ 1
 
 -- ---- what a word is
 
@@ -71,6 +106,7 @@ pub data WordKind : Type 0 where
   dashes : WordKind
   name : Setting → WordKind
   joined : Setting → Word → WordKind
+  flag : WordKind
   plain : WordKind
   unknown : WordKind
 
@@ -79,6 +115,7 @@ abbrev pub IsKindSeen : Kind → WordKind → Type 0
 IsKindSeen code.Dashes k = k ≡ dashes
 IsKindSeen (code.Name s) k = k ≡ name s
 IsKindSeen (code.Joined s) k = (value : Word) × (k ≡ joined s value)
+IsKindSeen code.Flag k = k ≡ flag
 IsKindSeen code.Plain k = k ≡ plain
 IsKindSeen code.Unknown k = k ≡ unknown
 
@@ -98,7 +135,8 @@ joined_kind word = option_map_or (joined Budget) (after (codes "--budget=") word
 unfoldable pub kind : Word → WordKind
 kind word = cond (bytes_eq word (codes "--")) dashes
     (cond (bytes_eq word (codes "--budget")) (name Budget)
-    (cond (bytes_eq word (codes "--workers")) (name Workers) (joined_kind word)))
+    (cond (bytes_eq word (codes "--workers")) (name Workers)
+    (cond (bytes_eq word (codes "--proof")) flag (joined_kind word))))
 
 -- ---- the reading
 
@@ -107,6 +145,7 @@ abbrev pub open_step : WordKind → Word → (Place → Option Command) → Opti
 open_step dashes word rest = rest Closed
 open_step (name s) word rest = rest (Value s)
 open_step (joined s value) word rest = option_map (with_value s value) (rest Open)
+open_step flag word rest = option_map with_proof (rest Open)
 open_step plain word rest = option_map (with_plain word) (rest Open)
 open_step unknown word rest = None
 
@@ -125,6 +164,6 @@ unfoldable pub read : List Word → Place → Option Command
 read [] place = at_end place
 read (word ∷ words) place = step place word (read words)
 
--- the words are at no fault, and give a job and a file, and each option once at most
+-- the words are at no fault, and their plain words, options and flag are as many as they may be
 abbrev pub IsWholeReading : List Word → Type 0
 IsWholeReading words = (c : Command) × (read words Open ≡ Some c) × IsWholeTally (tally_of c)

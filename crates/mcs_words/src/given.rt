@@ -11,13 +11,15 @@ use clap::Error;
 use clap::error::ErrorKind;
 use std::alloc::Global;
 
-/// The plain words, and the values of the options.
+/// The plain words, the values of the options, and whether the flag stands.
 #[derive(Clone, Copy)]
 pub(crate) struct Given<'a> {
     pub(crate) job: &'a str,
     pub(crate) file: &'a str,
+    pub(crate) report: Option<&'a str>,
     pub(crate) budget: Option<&'a str>,
     pub(crate) workers: Option<&'a str>,
+    pub(crate) proof: bool,
 }
 
 /// What clap reads from words that it takes, so only memory can be wanting.
@@ -38,8 +40,10 @@ pub(crate) fn given_by<'a>(alloc: Global, words: &'a [String]) -> Result<Given<'
     Ok(Given {
         job,
         file,
+        report: matches.get_str("report"),
         budget: matches.get_str("budget"),
         workers: matches.get_str("workers"),
+        proof: matches.get_flag("proof"),
     })
 }
 

@@ -5,26 +5,33 @@ ghost use Rattle.mcs_words.specs.declared.job.WordsFault.TheVariants.{Memory};
 
 use std::alloc::AllocError;
 
-/// What the program is asked to do.
+/// What the program is asked to do. The names of files are not empty and not `-`. A budget, of questions that the run
+/// may ask, is 1 to 4,294,967,295; a number of workers, of threads, is 1 to 64.
 #[derive(Debug, Drop, PartialEq, Eq)]
 pub enum Job {
     /// To list the equilibria of the system that the file has.
     Equilibria {
-        /// The name of the file, which is not empty and not `-`.
         file: String,
-        /// How many questions the run may ask: 1 to 4,294,967,295.
         budget: u64,
-        /// How many threads work: 1 to 64.
         workers: u32,
     },
     /// To list the equilibria, the minimal diagnoses and the minimal explanations of the system that the file
-    /// has.
+    /// has, and to add their proof or not.
     Solve {
-        /// The name of the file, which is not empty and not `-`.
         file: String,
-        /// How many questions the run may ask: 1 to 4,294,967,295.
         budget: u64,
-        /// How many threads work: 1 to 64.
+        workers: u32,
+        proof: bool,
+    },
+    /// To judge the report, which is a file too, on the system that the file has.
+    Check {
+        file: String,
+        report: String,
+    },
+    /// To solve the system that is generated for the number, which is at most 4,294,967,295.
+    Make {
+        number: u64,
+        budget: u64,
         workers: u32,
     },
 }

@@ -15,6 +15,8 @@ pub(crate) enum Kind {
     Name(Setting),
     /// The name of an option, `=`, and its value.
     Joined(Setting),
+    /// `--proof`.
+    Flag,
     /// A word that does not begin with `-`, or `-` alone.
     Plain,
     /// Any other word, which is a fault.
@@ -49,6 +51,8 @@ pub(crate) fn kind_of(word: &str) -> Kind
         Kind::Name(Setting::Budget)
     } else if word == "--workers" {
         Kind::Name(Setting::Workers)
+    } else if word == "--proof" {
+        Kind::Flag
     } else if has_front(word, "--budget=") {
         Kind::Joined(Setting::Budget)
     } else if has_front(word, "--workers=") {

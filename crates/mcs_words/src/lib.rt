@@ -1,6 +1,7 @@
 //! The words of the command line, and the job that they ask for.
 #![tactic(auto)]
 
+mod asked;
 mod given;
 mod job;
 mod kind;

@@ -2,9 +2,9 @@
 
 ghost use Rattle.std.specs.Prelude.{◌≡◌, IfOk};
 ghost use Rattle.clap.specs.Words.{app_of};
-ghost use Rattle.mcs_words.specs.Line.{line, bare_line};
+ghost use Rattle.mcs_words.specs.Line.{line, plain_line, bare_line};
 
-use clap::{Arg, Command};
+use clap::{Arg, ArgAction, Command};
 use std::alloc::{AllocError, Global};
 
 /// The command with no arguments yet.
@@ -16,13 +16,26 @@ fn bare_line<'a>(alloc: Global) -> Command<'a>
         .disable_help_flag(true)
 }
 
-/// A job and a file, and the options `--budget` and `--workers`, which take one text each.
-pub(crate) fn line<'a>(alloc: Global) -> Result<Command<'a>, AllocError>
-    ensures { IfOk result (λ c. app_of c ≡ line) }
+/// The command with a job, a file and a report, which may be left out.
+fn plain_line<'a>(alloc: Global) -> Result<Command<'a>, AllocError>
+    ensures { IfOk result (λ c. app_of c ≡ plain_line) }
 {
     bare_line(alloc)
         .arg(Arg::new(alloc, "job").required(true))?
         .arg(Arg::new(alloc, "file").required(true))?
+        .arg(Arg::new(alloc, "report"))
+}
+
+/// The command with the options `--budget` and `--workers` too, which take one text each, and the flag `--proof`.
+pub(crate) fn line<'a>(alloc: Global) -> Result<Command<'a>, AllocError>
+    ensures { IfOk result (λ c. app_of c ≡ line) }
+{
+    plain_line(alloc)?
         .arg(Arg::new(alloc, "budget").long("budget"))?
-        .arg(Arg::new(alloc, "workers").long("workers"))
+        .arg(Arg::new(alloc, "workers").long("workers"))?
+        .arg(
+            Arg::new(alloc, "proof")
+                .long("proof")
+                .action(ArgAction::SetTrue),
+        )
 }

@@ -1,17 +1,15 @@
 //! From words to a job.
 
-ghost use Rattle.std.specs.Prelude.{◌≡◌, ◌+◌, ◌≤◌, ◌<◌, ◌^◌, ℕ, Option, Some, None, option_map, MatchOption, MatchResult, IfSome};
-ghost use Rattle.std.specs.Bool.{MatchBool};
-ghost use Rattle.mcs_words.specs.Commands.{Command, Request, IsJobOf, IsFile, IsChosen, AsksFor, most_of};
-ghost use Rattle.mcs_words.specs.Reading.{texts_of, request_of, command_of, listed, step, open_step, kind, read, counted, tally_of, total_of};
+ghost use Rattle.std.specs.Prelude.{◌≡◌, ◌+◌, ◌≤◌, ◌<◌, ◌^◌, Option, None, option_map, MatchOption, MatchResult, IfSome};
+ghost use Rattle.mcs_words.specs.Commands.{Command, Request, IsJobOf};
+ghost use Rattle.mcs_words.specs.Reading.{texts_of, request_of, step, open_step, kind, read, counted, tally_of, total_of};
 
-use crate::given::{Given, given_by};
+use crate::asked::job;
+use crate::given::given_by;
 use crate::job::{Job, WordsFault};
 use crate::kind::{Kind, begins_with_dash, kind_of};
 use crate::setting::Setting;
 use crate::tally::Tally;
-use crate::task::{Task, task_of};
-use mcs_base::number;
 use std::alloc::Global;
 
 /// Where a word stands.
@@ -25,10 +23,13 @@ pub(crate) enum Place {
     Closed,
 }
 
-/// The job that the words ask for: `equilibria FILE` or `solve FILE`, with the options `--budget N` and
-/// `--workers N` anywhere before `--`, each once at most, also as `--budget=N`. FILE is not empty and not `-`.
-/// N is one or more digits: 1 to 4,294,967,295 for the budget, by default 100,000, and 1 to 64 for the
-/// workers, by default 1. After `--` every word is plain. The words are those after the program's name.
+/// The job that the words ask for: `equilibria FILE`, `solve FILE`, `check FILE REPORT` or `make NUMBER`, with the
+/// options `--budget N` and `--workers N` and the flag `--proof` anywhere before `--`, each once at most; an option
+/// also as `--budget=N`. FILE and REPORT are not empty and not `-`. NUMBER and N are one or more digits: 0 to
+/// 4,294,967,295 for NUMBER, 1 to 4,294,967,295 for the budget, by default 100,000, and 1 to 64 for the workers, by
+/// default 1. After `--` every word is plain. The words are those after the program's name.
+///
+/// Options and flag may stand for each job: for `check` they change nothing, and the flag changes `solve` alone.
 ///
 /// `Usage` comes exactly where the words ask for no job.
 pub fn read_words(alloc: Global, words: &[String]) -> Result<Job, WordsFault>
@@ -101,60 +102,8 @@ fn take_open(tally: Tally, word: &str) -> Option<(Tally, Place)>
         Kind::Dashes => Some((tally, Place::Closed)),
         Kind::Name(setting) => Some((tally, Place::Value(setting))),
         Kind::Joined(setting) => Some((tally.with_value(setting), Place::Open)),
+        Kind::Flag => Some((tally.with_proof(), Place::Open)),
         Kind::Plain => Some((tally.with_plain(), Place::Open)),
         Kind::Unknown => None,
-    }
-}
-
-/// The job that these ask for.
-fn job(alloc: Global, given: &Given) -> Result<Job, WordsFault>
-    ensures { MatchResult result
-        (λ job. AsksFor (command_of given.now) (request_of job))
-        (λ fault. fault ≡ WordsFault.Usage → (request : Request) → ¬ AsksFor (command_of given.now) request) }
-{
-    let Some(task) = task_of(given.job) else {
-        return Err(WordsFault::Usage);
-    };
-    if !is_file(given.file) {
-        return Err(WordsFault::Usage);
-    }
-    let Some(budget) = chosen(Setting::Budget, given.budget) else {
-        return Err(WordsFault::Usage);
-    };
-    let Some(workers) = chosen(Setting::Workers, given.workers) else {
-        return Err(WordsFault::Usage);
-    };
-    let file = String::from_str(alloc, given.file)?;
-    let workers = workers as u32;
-    match task {
-        Task::Equilibria => Ok(Job::Equilibria {
-            file,
-            budget,
-            workers,
-        }),
-        Task::Solve => Ok(Job::Solve {
-            file,
-            budget,
-            workers,
-        }),
-    }
-}
-
-/// Whether the word can be the name of a file.
-fn is_file(word: &str) -> bool
-    ensures { MatchBool result (IsFile word.now) (¬ IsFile word.now) }
-{
-    !word.is_empty() && word != "-"
-}
-
-/// The number of an option with this value, or its default.
-fn chosen(setting: Setting, value: Option<&str>) -> Option<u64>
-    ensures number { MatchOption result
-        ((n : ℕ) → ¬ IsChosen setting (listed value.entry) n) (λ n. IsChosen setting (listed value.entry) n) }
-    ensures most { IfSome result (λ n. n ≤ most_of setting) }
-{
-    match value {
-        None => Some(setting.default()),
-        Some(value) => number(value.as_bytes(), setting.least(), setting.most()),
     }
 }

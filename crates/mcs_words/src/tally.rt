@@ -1,16 +1,17 @@
 //! How many words of each sort there are.
 
 ghost use Rattle.std.specs.Prelude.{◌≡◌, ◌+◌, ◌<◌, ◌^◌, ◌↔◌, IsTrue};
-ghost use Rattle.mcs_words.specs.Reading.{total_of, no_tally, more_plain, more_values, IsWholeTally};
+ghost use Rattle.mcs_words.specs.Reading.{total_of, no_tally, more_plain, more_values, more_proofs, IsWholeTally};
 
 use crate::setting::Setting;
 
-/// How many plain words there are, and how many values of each option.
+/// How many plain words there are, how many values of each option, and how often the flag stands.
 #[derive(Clone, Copy)]
 pub(crate) struct Tally {
     plain: usize,
     budgets: usize,
     workers: usize,
+    proofs: usize,
 }
 
 impl Tally {
@@ -21,6 +22,7 @@ impl Tally {
             plain: 0,
             budgets: 0,
             workers: 0,
+            proofs: 0,
         }
     }
 
@@ -52,10 +54,25 @@ impl Tally {
         }
     }
 
-    /// Whether there are a job and a file, and each option once at most.
+    /// The flag once more.
+    pub(crate) fn with_proof(self) -> Tally
+        requires { total_of self < 2 ^ 63 }
+        ensures { result ≡ more_proofs self }
+    {
+        Tally {
+            proofs: self.proofs + 1,
+            ..self
+        }
+    }
+
+    /// Whether there are a job, a file and no report or one, and each option and the flag once at most.
     pub(crate) fn is_whole(self) -> bool
         ensures { IsTrue result ↔ IsWholeTally self }
     {
-        self.plain == 2 && self.budgets <= 1 && self.workers <= 1
+        self.plain >= 2
+            && self.plain <= 3
+            && self.budgets <= 1
+            && self.workers <= 1
+            && self.proofs <= 1
     }
 }

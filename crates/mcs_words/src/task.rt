@@ -10,6 +10,10 @@ pub(crate) enum Task {
     Equilibria,
     /// `solve`.
     Solve,
+    /// `check`.
+    Check,
+    /// `make`.
+    Make,
 }
 
 /// The job that the word names.
@@ -21,6 +25,10 @@ pub(crate) fn task_of(word: &str) -> Option<Task>
         Some(Task::Equilibria)
     } else if word == "solve" {
         Some(Task::Solve)
+    } else if word == "check" {
+        Some(Task::Check)
+    } else if word == "make" {
+        Some(Task::Make)
     } else {
         None
     }
