@@ -1,4 +1,4 @@
-//! Lists the equilibria of multi-context systems.
+//! Lists the equilibria, minimal diagnoses and minimal explanations of multi-context systems.
 #![tactic(auto)]
 
 use mcs_ports::{FileShelf, IdleGate, StdSink};

@@ -13,6 +13,8 @@ mod equilibria;
 #[cfg(test)]
 mod kinds;
 #[cfg(test)]
+mod makes;
+#[cfg(test)]
 mod refusals;
 #[cfg(test)]
 mod runs;

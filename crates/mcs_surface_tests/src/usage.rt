@@ -3,12 +3,14 @@
 use crate::runs::{SELF_SUPPORT, SELF_SUPPORT_LISTING, SOUND, ends};
 use std::test::Fail;
 
-const NO_JOBS: [&[&str]; 12] = [
+const NO_JOBS: [&[&str]; 14] = [
     &[],
     &["equilibria"],
     &["equilibria", ""],
     &["equilibria", "-"],
-    &["equilibria", "f", "--proof"],
+    &["solve", "f", "--proof", "--proof"],
+    &["check", "f", "r"],
+    &["solve", "f", "--proof"],
     &["equilibria", "f", "--workers", "0"],
     &["equilibria", "f", "--budget", "5", "--budget", "5"],
     &["equilibria", "f", "f"],

@@ -14,104 +14,128 @@ fn words_of(alloc: Global, line: &str) -> Result<Vec<String>, Memory> {
     Ok(words)
 }
 
-/// Whether the words of the line ask for the equilibria of this file, with these options.
-fn asks_for(
-    alloc: Global,
-    line: &str,
-    name: &str,
-    questions: u64,
-    threads: u32,
-) -> Result<bool, Memory> {
-    let words = words_of(alloc, line)?;
-    match read_words(alloc, &words) {
-        Ok(
-            Job::Equilibria {
-                file,
-                budget,
-                workers,
-            },
-        ) => Ok(file.as_str() == name && budget == questions && workers == threads),
-        Ok(Job::Solve { .. }) | Err(_) => Ok(false),
+/// The job, in a line.
+fn told(alloc: Global, job: &Job) -> Result<String, Memory> {
+    match job {
+        Job::Equilibria {
+            file,
+            budget,
+            workers,
+        } => { Ok(format!(in alloc; "equilibria of {file}, budget {budget}, workers {workers}")?) }
+        Job::Solve {
+            file,
+            budget,
+            workers,
+        } => { Ok(format!(in alloc; "solve {file}, budget {budget}, workers {workers}")?) }
+        Job::Make {
+            number,
+            budget,
+            workers,
+        } => { Ok(format!(in alloc; "make {number}, budget {budget}, workers {workers}")?) }
     }
 }
 
-const JOBS: [(&str, &str, u64, u32); 9] = [
-    ("equilibria f", "f", 100_000, 1),
-    ("--budget 5 equilibria f", "f", 5, 1),
-    ("equilibria --budget=5 f", "f", 5, 1),
-    ("equilibria f --workers 2 --budget 0007", "f", 7, 2),
-    (
-        "--budget 4294967295 --workers=64 equilibria f",
-        "f",
-        4_294_967_295,
-        64,
-    ),
-    ("--workers 1 -- equilibria f", "f", 100_000, 1),
-    ("equilibria -- --budget", "--budget", 100_000, 1),
-    ("-- equilibria --", "--", 100_000, 1),
-    (
-        "--budget 0000000000000000000000000000000000001 -- equilibria -x",
-        "-x",
-        1,
-        1,
-    ),
-];
+/// Whether the words of the line ask for the job that is told so.
+fn asks_for(alloc: Global, line: &str, wanted: &str) -> Result<bool, Memory> {
+    let words = words_of(alloc, line)?;
+    match read_words(alloc, &words) {
+        Ok(job) => Ok(told(alloc, &job)?.as_str() == wanted),
+        Err(_) => Ok(false),
+    }
+}
+
+/// Words and what they ask for.
+const JOBS: &str = "equilibria f => equilibria of f, budget 100000, workers 1
+--budget 5 equilibria f => equilibria of f, budget 5, workers 1
+equilibria --budget=5 f => equilibria of f, budget 5, workers 1
+equilibria f --workers 2 --budget 0007 => equilibria of f, budget 7, workers 2
+--budget 4294967295 --workers=64 equilibria f => equilibria of f, budget 4294967295, workers 64
+--workers 1 -- equilibria f => equilibria of f, budget 100000, workers 1
+equilibria -- --budget => equilibria of --budget, budget 100000, workers 1
+-- equilibria -- => equilibria of --, budget 100000, workers 1
+--budget 0000000000000000000000000000000000001 -- equilibria -x => equilibria of -x, budget 1, workers 1
+solve f => solve f, budget 100000, workers 1
+solve f --workers=3 => solve f, budget 100000, workers 3
+solve -- --proof => solve --proof, budget 100000, workers 1
+make 0 => make 0, budget 100000, workers 1
+make 007 --budget 2 => make 7, budget 2, workers 1
+make 4294967295 => make 4294967295, budget 100000, workers 1
+make --workers 4 -- 1023 => make 1023, budget 100000, workers 4";
 
 #[test]
 fn words_that_ask_for_a_job(rt: HostRuntime) -> Result<(), Fail> {
-    for (line, name, questions, threads) in &JOBS {
-        assert!(rt; asks_for(rt.alloc(), line, name, *questions, *threads)?);
+    for row in JOBS.split('\n') {
+        let (line, wanted) = row.split_once(" => ").unwrap_or((row, ""));
+        assert!(rt; asks_for(rt.alloc(), line, wanted)?);
     }
     Ok(())
 }
 
-/// Whether the words of the line ask for no job.
-fn asks_for_none(alloc: Global, line: &str) -> Result<bool, Memory> {
-    let words = words_of(alloc, line)?;
-    match read_words(alloc, &words) {
-        Ok(_) => Ok(false),
-        Err(fault) => Ok(fault == WordsFault::Usage),
+/// Whether the words ask for no job.
+fn ask_for_none(alloc: Global, words: &[String]) -> bool {
+    match read_words(alloc, words) {
+        Ok(_) => false,
+        Err(fault) => fault == WordsFault::Usage,
     }
 }
 
-const NO_JOBS: [&str; 29] = [
-    "equilibria",
-    "equilibria ",
-    "equilibria -",
-    "- f",
-    "equilibria f g",
-    "equilibria f -- g",
-    "solution f",
-    " f",
-    "equilibria f --budget 5 --budget 5",
-    "equilibria f --budget 5 --budget=5",
-    "equilibria f --budget 0",
-    "equilibria f --budget 4294967296",
-    "equilibria f --budget 18446744073709551617",
-    "equilibria f --budget +5",
-    "equilibria f --budget ",
-    "equilibria f --budget=",
-    "equilibria f --budget -5",
-    "equilibria f --budget=-5",
-    "equilibria f --budget 5x",
-    "equilibria f --workers 0",
-    "equilibria f --workers 65",
-    "equilibria f --workers",
-    "--budget -- equilibria f",
-    "--help",
-    "equilibria f --help",
-    "equilibria f -h",
-    "equilibria f --bud 5",
-    "equilibria f --proof",
-    "equilibria f -x",
-];
+/// Words that ask for no job. Where two spaces stand together, a word is empty.
+const NO_JOBS: &str = "equilibria
+equilibria  --budget 5
+equilibria -
+- f
+equilibria f g
+equilibria f -- g
+solution f
+ f
+equilibria f --budget 5 --budget 5
+equilibria f --budget 5 --budget=5
+equilibria f --budget 0
+equilibria f --budget 4294967296
+equilibria f --budget 18446744073709551617
+equilibria f --budget +5
+equilibria f --budget  --workers 2
+equilibria f --budget=
+equilibria f --budget -5
+equilibria f --budget=-5
+equilibria f --budget 5x
+equilibria f --workers 0
+equilibria f --workers 65
+equilibria f --workers
+--budget -- equilibria f
+--help
+equilibria f --help
+equilibria f -h
+equilibria f --bud 5
+equilibria f -x
+equilibria f --proof --proof
+solve
+solve f r
+solve f --budget 5 --budget 5
+solve f --proof
+solve f --proof=true
+solve --proof --proof f
+check f
+check f  --proof
+check f -
+check  r
+check f r
+check f r x
+check f r --workers 0
+make
+make  --proof
+make 4294967296
+make +7
+make 7 r
+make 7 --budget 0";
 
 #[test]
 fn words_that_ask_for_none(rt: HostRuntime) -> Result<(), Fail> {
     one_job();
-    assert!(rt; read_words(rt.alloc(), &[]) == Err(WordsFault::Usage));
-    for line in &NO_JOBS {
-        assert!(rt; asks_for_none(rt.alloc(), line)?);
+    assert!(rt; ask_for_none(rt.alloc(), &[]));
+    for line in NO_JOBS.split('\n') {
+        let words = words_of(rt.alloc(), line)?;
+        assert!(rt; ask_for_none(rt.alloc(), &words));
     }
     Ok(())
 }

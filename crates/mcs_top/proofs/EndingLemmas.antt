@@ -121,9 +121,9 @@ module _ (stop : Stop) (status : Status) (before now : Device) (told : IsTold st
         at s None due h left = tt
         at stops.Usage (Some fs) due h left = absurd h
         at (stops.Refused r) (Some fs) due h left = λ why reason calm. due
-        at (stops.Unfinished level budget) (Some fs) due h left = λ why reason calm. absurd (beyond_not_refused left.text level why job fs left.output reason)
+        at (stops.Unfinished level budget) (Some fs) due h left = λ why reason calm. absurd (beyond_not_refused left.text level why job fs left.holds reason)
         at stops.ReadFault (Some fs) due h left = λ why reason calm. absurd (calm h)
-        at stops.WriteFault (Some fs) due h left = λ why reason calm. absurd (stage_not_refused left.text why job fs left.stage reason)
+        at stops.WriteFault (Some fs) due h left = λ why reason calm. absurd (stage_not_refused left.text why job fs left.holds reason)
         at stops.Memory (Some fs) due h left = λ why reason calm. elim due [ inl is ↦ inr is | inr is ↦ inr is ]
 
     pub stop_misses : IfSome files (λ fs. LacksFile job fs → IsUnlessMemory statuses.ReadFault status)
@@ -134,9 +134,9 @@ module _ (stop : Stop) (status : Status) (before now : Device) (told : IsTold st
         at s None due h left = tt
         at stops.Usage (Some fs) due h left = absurd h
         at (stops.Refused r) (Some fs) due h left = λ lacks. absurd (refusal_not_missing r job fs h lacks)
-        at (stops.Unfinished level budget) (Some fs) due h left = λ lacks. absurd (beyond_not_missing left.text level job fs left.output lacks)
+        at (stops.Unfinished level budget) (Some fs) due h left = λ lacks. absurd (beyond_not_missing left.text level job fs left.holds lacks)
         at stops.ReadFault (Some fs) due h left = λ lacks. due
-        at stops.WriteFault (Some fs) due h left = λ lacks. absurd (stage_not_missing left.text job fs left.stage lacks)
+        at stops.WriteFault (Some fs) due h left = λ lacks. absurd (stage_not_missing left.text job fs left.holds lacks)
         at stops.Memory (Some fs) due h left = λ lacks. elim due [ inl is ↦ inr is | inr is ↦ inr is ]
 
     pub stop_completes : IfSome files (λ fs. CanBeDone job fs → ¬ shelf-rose → ¬ sink-rose → IsUnlessMemory statuses.Done status)
@@ -147,7 +147,7 @@ module _ (stop : Stop) (status : Status) (before now : Device) (told : IsTold st
         at s None due h left = tt
         at stops.Usage (Some fs) due h left = absurd h
         at (stops.Refused r) (Some fs) due h left = λ can calm quiet. absurd (can_not_refused r job fs can h)
-        at (stops.Unfinished level budget) (Some fs) due h left = λ can calm quiet. absurd (can_not_beyond left.text level job fs can left.output)
+        at (stops.Unfinished level budget) (Some fs) due h left = λ can calm quiet. absurd (can_not_beyond left.text level job fs can left.holds)
         at stops.ReadFault (Some fs) due h left = λ can calm quiet. absurd (calm h)
         at stops.WriteFault (Some fs) due h left = λ can calm quiet. absurd (quiet h)
         at stops.Memory (Some fs) due h left = λ can calm quiet. elim due [ inl is ↦ inr is | inr is ↦ inr is ]
@@ -198,7 +198,7 @@ module _ (stop : Stop) (status : Status) (before now : Device) (told : IsTold st
       where
         staged : (level : ℕ) (fs : Option (List File)) → IfSome fs (WritesBeyond level first last job) → IfSome fs (WritesStage first last job)
         staged level None left = tt
-        staged level (Some fs) left = record { text = left.text; stage = beyond_is_stage left.text level job fs left.output; front = whole_front left.text first last left.written }
+        staged level (Some fs) left = record { text = left.text; holds = beyond_is_stage left.text level job fs left.holds; front = whole_front left.text first last left.written }
 
         at : (s : Stop) → LeavesText s job files first last → (last ≡ first) ⊎ IfSome files (WritesStage first last job)
         at stops.Usage left = inl left
@@ -252,13 +252,13 @@ module _ (status : Status) (want : status ≡ statuses.OutOfMemory) (job : Reque
 module _ (status : Status) (job : Request) (first last : Option (List ℕ)) where
   pub done_refuses : (files : Option (List File)) (shelf-rose : Type 0) → IfSome files (WritesOutput first last job) → IfSome files (λ fs. (why : Refusal) → IsRefusal why job fs → ¬ shelf-rose → IsUnlessMemory statuses.Refused status)
   done_refuses None shelf-rose h = tt
-  done_refuses (Some fs) shelf-rose h = λ why reason calm. absurd (output_not_refused h.text why job fs h.output reason)
+  done_refuses (Some fs) shelf-rose h = λ why reason calm. absurd (output_not_refused h.text why job fs h.holds reason)
 
   pub done_misses : (files : Option (List File)) → IfSome files (WritesOutput first last job) → IfSome files (λ fs. LacksFile job fs → IsUnlessMemory statuses.ReadFault status)
   done_misses None h = tt
-  done_misses (Some fs) h = λ lacks. absurd (output_not_missing h.text job fs h.output lacks)
+  done_misses (Some fs) h = λ lacks. absurd (output_not_missing h.text job fs h.holds lacks)
 
   pub done_spends : (files : Option (List File)) (shelf-rose sink-rose : Type 0) → IfSome files (WritesOutput first last job)
       → IfSome files (λ fs. LacksBudget job fs → ¬ shelf-rose → ¬ sink-rose → IsUnlessMemory statuses.Unfinished status)
   done_spends None shelf-rose sink-rose h = tt
-  done_spends (Some fs) shelf-rose sink-rose h = λ short calm quiet. absurd (output_not_short h.text job fs h.output short)
+  done_spends (Some fs) shelf-rose sink-rose h = λ short calm quiet. absurd (output_not_short h.text job fs h.holds short)

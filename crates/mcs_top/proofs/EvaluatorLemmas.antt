@@ -1,5 +1,5 @@
 -- A new evaluator of a system: a solver for each context, of which none was asked.
-use Rattle.std.proofs.Common.{◌≡◌, ℕ, List, [], map, length, Option, None, Result, Ok, Err, IfOk, refl, sym, ap, subst}
+use Rattle.std.proofs.Common.{◌≡◌, ℕ, List, [], map, length, None, Result, Ok, Err, IfOk, refl, sym, ap, subst}
 use Rattle.std.specs.List.{range_with_len}
 use Rattle.mcs_system.specs.Plain.{System}
 use Rattle.mcs_states.specs.Oracles.{OracleState}

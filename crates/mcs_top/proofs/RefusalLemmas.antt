@@ -7,13 +7,14 @@ use Rattle.mcs_system.specs.Plain.{System}
 use Rattle.mcs_reader.proofs.Unambiguous.{texts-unambiguous}
 use Rattle.mcs_grammar.proofs.OneFault.{no-fault}
 use Rattle.mcs_report.specs.Solutions.{first, below}
-use Rattle.mcs_work.specs.Tasks.{IsTaskStage, IsTaskUpTo, IsTaken}
+use Rattle.mcs_generator.specs.Generated.{generated_system}
+use Rattle.mcs_work.specs.Tasks.{IsTaskStage, IsTaskUpTo}
 use Rattle.mcs_work.specs.declared.task.Task.{Task}
-use Rattle.mcs_work.specs.declared.task.Task.TheVariants.{Equilibria, Solve}
-use Rattle.mcs_words.specs.Commands.{Request, equilibria, solve}
+use Rattle.mcs_work.specs.declared.task.Task.TheVariants.{Equilibria, Solve, Make}
+use Rattle.mcs_words.specs.Commands.{Request, equilibria, solve, make}
 use Rattle.mcs_top.specs.Jobs.{File, OfOneFile}
 use Rattle.mcs_top.specs.Texts.{IsTextOf, IsRefusedFor}
-use Rattle.mcs_top.specs.Promise.{IsBeyond, Suffices, IsShort, IsLeastBeyond, OfSystem, IsListed, IsListedBefore, IsOutput, IsOutputBeyond, IsStage, LacksBudget, IsRefusal, LacksFile, CanBeDone}
+use Rattle.mcs_top.specs.Promise.{Suffices, IsShort, OfSystem, IsListed, IsListedBefore, IsOutput, IsOutputBeyond, IsStage, LacksBudget, IsRefusal, LacksFile, CanBeDone}
 use Rattle.mcs_top.specs.declared.ending.Refusal.{Refusal}
 use Rattle.mcs_top.specs.declared.ending.Refusal.TheVariants as refusals
 use Rattle.mcs_top.proofs.JobLemmas.{apart_of_file, of_file}
@@ -39,6 +40,7 @@ up_to_stage : (task : Task) (m : System) (level : ℕ) (text : List ℕ) → IsT
 up_to_stage Equilibria m level text is = inl is
 up_to_stage Solve m zero text is = first is
 up_to_stage Solve m (suc level) text h = below (suc level) h
+up_to_stage Make m level text is = inl is
 
 module _ (task : Task) (budget : ℕ) (m : System) where
   short_apart : Suffices task budget m → IsShort task budget m → ⊥
@@ -58,49 +60,61 @@ missing P files is h = subst (OfOneFile P) is h
 
 -- ---- by cases of the job
 pub output_not_refused : (text : List ℕ) (why : Refusal) (job : Request) (files : List File) → IsOutput text job files → IsRefusal why job files → ⊥
-output_not_refused text why (equilibria file budget workers) files = of_system_apart (IsListed Equilibria budget text) why files
-output_not_refused text why (solve file budget workers) files = of_system_apart (IsListed Solve budget text) why files
+output_not_refused text why (equilibria file budget workers) files h k = of_system_apart (IsListed Equilibria budget text) why files h k
+output_not_refused text why (solve file budget workers) files h k = of_system_apart (IsListed Solve budget text) why files h k
+output_not_refused text why (make number budget workers) files h k = k
 
 pub output_not_short : (text : List ℕ) (job : Request) (files : List File) → IsOutput text job files → LacksBudget job files → ⊥
-output_not_short text (equilibria file budget workers) files = two_systems_apart (IsListed Equilibria budget text) (IsShort Equilibria budget) (λ m. listed_short Equilibria budget m text) files
-output_not_short text (solve file budget workers) files = two_systems_apart (IsListed Solve budget text) (IsShort Solve budget) (λ m. listed_short Solve budget m text) files
+output_not_short text (equilibria file budget workers) files h k = two_systems_apart (IsListed Equilibria budget text) (IsShort Equilibria budget) (λ m. listed_short Equilibria budget m text) files h k
+output_not_short text (solve file budget workers) files h k = two_systems_apart (IsListed Solve budget text) (IsShort Solve budget) (λ m. listed_short Solve budget m text) files h k
+output_not_short text (make number budget workers) files h k = listed_short Make budget (generated_system number) h.0 h.1 k
 
 pub stage_not_refused : (text : List ℕ) (why : Refusal) (job : Request) (files : List File) → IsStage text job files → IsRefusal why job files → ⊥
-stage_not_refused text why (equilibria file budget workers) files = of_system_apart (λ m. IsTaskStage Equilibria m text) why files
-stage_not_refused text why (solve file budget workers) files = of_system_apart (λ m. IsTaskStage Solve m text) why files
+stage_not_refused text why (equilibria file budget workers) files h k = of_system_apart (λ m. IsTaskStage Equilibria m text) why files h k
+stage_not_refused text why (solve file budget workers) files h k = of_system_apart (λ m. IsTaskStage Solve m text) why files h k
+stage_not_refused text why (make number budget workers) files h k = k
 
 pub beyond_not_refused : (text : List ℕ) (level : ℕ) (why : Refusal) (job : Request) (files : List File) → IsOutputBeyond text level job files → IsRefusal why job files → ⊥
-beyond_not_refused text level why (equilibria file budget workers) files = of_system_apart (IsListedBefore Equilibria budget level text) why files
-beyond_not_refused text level why (solve file budget workers) files = of_system_apart (IsListedBefore Solve budget level text) why files
+beyond_not_refused text level why (equilibria file budget workers) files h k = of_system_apart (IsListedBefore Equilibria budget level text) why files h k
+beyond_not_refused text level why (solve file budget workers) files h k = of_system_apart (IsListedBefore Solve budget level text) why files h k
+beyond_not_refused text level why (make number budget workers) files h k = k
 
 pub short_not_refused : (why : Refusal) (job : Request) (files : List File) → LacksBudget job files → IsRefusal why job files → ⊥
-short_not_refused why (equilibria file budget workers) files = of_system_apart (IsShort Equilibria budget) why files
-short_not_refused why (solve file budget workers) files = of_system_apart (IsShort Solve budget) why files
+short_not_refused why (equilibria file budget workers) files h k = of_system_apart (IsShort Equilibria budget) why files h k
+short_not_refused why (solve file budget workers) files h k = of_system_apart (IsShort Solve budget) why files h k
+short_not_refused why (make number budget workers) files h k = k
 
 pub beyond_is_stage : (text : List ℕ) (level : ℕ) (job : Request) (files : List File) → IsOutputBeyond text level job files → IsStage text job files
-beyond_is_stage text level (equilibria file budget workers) files = of_file (OfSystem (IsListedBefore Equilibria budget level text)) (OfSystem (λ m. IsTaskStage Equilibria m text)) (λ bytes (m, read, before). (m, read, before_stage Equilibria budget m level text before)) files
-beyond_is_stage text level (solve file budget workers) files = of_file (OfSystem (IsListedBefore Solve budget level text)) (OfSystem (λ m. IsTaskStage Solve m text)) (λ bytes (m, read, before). (m, read, before_stage Solve budget m level text before)) files
+beyond_is_stage text level (equilibria file budget workers) files h = of_file (OfSystem (IsListedBefore Equilibria budget level text)) (OfSystem (λ m. IsTaskStage Equilibria m text)) (λ bytes (m, read, before). (m, read, before_stage Equilibria budget m level text before)) files h
+beyond_is_stage text level (solve file budget workers) files h = of_file (OfSystem (IsListedBefore Solve budget level text)) (OfSystem (λ m. IsTaskStage Solve m text)) (λ bytes (m, read, before). (m, read, before_stage Solve budget m level text before)) files h
+beyond_is_stage text level (make number budget workers) files h = (h.0, before_stage Make budget (generated_system number) level h.0 h.1, h.2)
 
 pub can_not_refused : (why : Refusal) (job : Request) (files : List File) → CanBeDone job files → IsRefusal why job files → ⊥
-can_not_refused why (equilibria file budget workers) files = of_system_apart (Suffices Equilibria budget) why files
-can_not_refused why (solve file budget workers) files = of_system_apart (Suffices Solve budget) why files
+can_not_refused why (equilibria file budget workers) files h k = of_system_apart (Suffices Equilibria budget) why files h k
+can_not_refused why (solve file budget workers) files h k = of_system_apart (Suffices Solve budget) why files h k
+can_not_refused why (make number budget workers) files h k = k
 
 pub can_not_beyond : (text : List ℕ) (level : ℕ) (job : Request) (files : List File) → CanBeDone job files → IsOutputBeyond text level job files → ⊥
-can_not_beyond text level (equilibria file budget workers) files = two_systems_apart (Suffices Equilibria budget) (IsListedBefore Equilibria budget level text) (λ m. before_apart Equilibria budget m level text) files
-can_not_beyond text level (solve file budget workers) files = two_systems_apart (Suffices Solve budget) (IsListedBefore Solve budget level text) (λ m. before_apart Solve budget m level text) files
+can_not_beyond text level (equilibria file budget workers) files h k = two_systems_apart (Suffices Equilibria budget) (IsListedBefore Equilibria budget level text) (λ m. before_apart Equilibria budget m level text) files h k
+can_not_beyond text level (solve file budget workers) files h k = two_systems_apart (Suffices Solve budget) (IsListedBefore Solve budget level text) (λ m. before_apart Solve budget m level text) files h k
+can_not_beyond text level (make number budget workers) files h k = before_apart Make budget (generated_system number) level k.0 h k.1
 
 pub output_not_missing : (text : List ℕ) (job : Request) (files : List File) → IsOutput text job files → LacksFile job files → ⊥
 output_not_missing text (equilibria file budget workers) files h is = missing _ files is h
 output_not_missing text (solve file budget workers) files h is = missing _ files is h
+output_not_missing text (make number budget workers) files h k = k
 
 pub stage_not_missing : (text : List ℕ) (job : Request) (files : List File) → IsStage text job files → LacksFile job files → ⊥
 stage_not_missing text (equilibria file budget workers) files h is = missing _ files is h
 stage_not_missing text (solve file budget workers) files h is = missing _ files is h
+stage_not_missing text (make number budget workers) files h k = k
 
 pub beyond_not_missing : (text : List ℕ) (level : ℕ) (job : Request) (files : List File) → IsOutputBeyond text level job files → LacksFile job files → ⊥
 beyond_not_missing text level (equilibria file budget workers) files h is = missing _ files is h
 beyond_not_missing text level (solve file budget workers) files h is = missing _ files is h
+beyond_not_missing text level (make number budget workers) files h k = k
 
 pub refusal_not_missing : (why : Refusal) (job : Request) (files : List File) → IsRefusal why job files → LacksFile job files → ⊥
 refusal_not_missing why (equilibria file budget workers) files h is = missing _ files is h
 refusal_not_missing why (solve file budget workers) files h is = missing _ files is h
+refusal_not_missing why (make number budget workers) files h k = k

@@ -4,6 +4,8 @@ use Rattle.std.specs.Fmt.{decimal}
 use Rattle.mcs_ports.specs.Pieces.{Device, noted}
 use Rattle.mcs_work.specs.declared.task.WorkStop.{WorkStop}
 use Rattle.mcs_work.specs.declared.task.WorkStop.TheVariants as works
+use Rattle.mcs_text.specs.declared.unwritten.Unwritten.{Unwritten}
+use Rattle.mcs_text.specs.declared.unwritten.Unwritten.TheVariants as unwritten
 use Rattle.mcs_system.specs.declared.limit.Limit.{Limit}
 use Rattle.mcs_system.specs.Limits.{limit_words}
 use Rattle.mcs_faults.specs.declared.fault.TextFault.{TextFault}
@@ -70,6 +72,11 @@ stop_for_words words.Memory = stops.Memory
 abbrev pub stop_for_text : TextFault → Stop
 stop_for_text (texts.Fault number offset limit) = stops.Refused (refusals.Text number offset limit)
 stop_for_text texts.Memory = stops.Memory
+
+-- by why a line was not written
+abbrev pub stop_for_line : Unwritten → Stop
+stop_for_line unwritten.Fault = stops.WriteFault
+stop_for_line unwritten.Memory = stops.Memory
 
 -- by what stopped the work within a budget; no oracle of a run can miss
 abbrev pub stop_for_work : ℕ → WorkStop → Stop

@@ -1,7 +1,7 @@
 -- The job that the words of a command line ask for, and the files that it names.
 use Rattle.std.specs.Prelude.{ℕ, List, [], ◌∷◌, map, Option, Some, None, IfSome}
 use Rattle.std.specs.Option.{option_map}
-use Rattle.mcs_words.specs.Commands.{Word, Request, equilibria, solve, IsJobOf}
+use Rattle.mcs_words.specs.Commands.{Word, Request, equilibria, solve, make, IsJobOf}
 
 -- what a shelf tells of a name: the bytes of the file, or that there is none
 abbrev pub File : Type 0
@@ -11,6 +11,7 @@ File = Option (List ℕ)
 abbrev pub files_in : Request → List Word
 files_in (equilibria file budget workers) = file ∷ []
 files_in (solve file budget workers) = file ∷ []
+files_in (make number budget workers) = []
 
 -- what a shelf tells of these names; of no name it tells always
 abbrev pub told_all : Option (Word → File) → List Word → Option (List File)

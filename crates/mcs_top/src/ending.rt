@@ -1,7 +1,7 @@
 //! Why a run stops before its end, and the line that it notes then.
 
 ghost use Rattle.std.specs.Prelude.{◌≡◌, ◌++◌, OnOk};
-ghost use Rattle.mcs_top.specs.Endings.{line_of, refusal_line, unfinished_line, fault_line, told_limit, status_of, stop_for_words, stop_for_text, stop_for_work, IsTold, IsToldAs};
+ghost use Rattle.mcs_top.specs.Endings.{line_of, refusal_line, unfinished_line, fault_line, told_limit, status_of, stop_for_words, stop_for_text, stop_for_line, stop_for_work, IsTold, IsToldAs};
 ghost use Rattle.mcs_top.specs.declared.ending.Stop.TheVariants as stops;
 
 use crate::status::Status;
@@ -9,6 +9,7 @@ use mcs_base::{Memory, Text};
 use mcs_language::TextFault;
 use mcs_ports::Sink;
 use mcs_system::Limit;
+use mcs_text::Unwritten;
 use mcs_words::WordsFault;
 use mcs_work::WorkStop;
 use std::alloc::Global;
@@ -72,6 +73,17 @@ impl From<TextFault> for Stop {
                 limit,
             }),
             TextFault::Memory => Stop::Memory,
+        }
+    }
+}
+
+impl From<Unwritten> for Stop {
+    ghost from_gives = { λ why stop. stop ≡ stop_for_line why };
+
+    fn from(why: Unwritten) -> Stop {
+        match why {
+            Unwritten::Fault => Stop::WriteFault,
+            Unwritten::Memory => Stop::Memory,
         }
     }
 }

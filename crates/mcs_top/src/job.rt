@@ -6,11 +6,15 @@ ghost use Rattle.mcs_ports.specs.Causes.{Rose};
 ghost use Rattle.mcs_words.specs.Reading.{request_of};
 ghost use Rattle.mcs_top.specs.Jobs.{told_all, files_in, OfOneFile};
 ghost use Rattle.mcs_top.specs.Texts.{most_text_bytes, IsTextOf, StopsReading, StopsText};
-ghost use Rattle.mcs_top.specs.Promise.{HasCause, LeavesText, WritesOutput, request_for};
+ghost use Rattle.mcs_words.specs.Commands.{Request};
+ghost use Rattle.mcs_work.specs.declared.task.Task.TheVariants.{Make};
+ghost use Rattle.mcs_top.specs.Promise.{AfterNumber, HasCause, IsListed, LeavesText, Lists, Prints, StopsGenerated, StopsWork, WritesOutput};
 
 use crate::ending::{Refusal, Stop, stop_for_work};
 use crate::evaluator::mesh_of;
+use crate::number::print_number;
 use mcs_base::Memory;
+use mcs_generator::generate;
 use mcs_language::read_system;
 use mcs_ports::{Gate, ReadAnswer, Shelf, Sink, read_whole};
 use mcs_system::System;
@@ -49,6 +53,7 @@ pub(crate) fn do_job<H: Shelf, K: Sink, G: Gate>(
         Job::Solve { file, budget, .. } => {
             evaluate(alloc, Task::Solve, file, *budget, shelf, sink, gate)
         }
+        Job::Make { number, budget, .. } => { generated(alloc, *number, *budget, sink, gate) }
     }
 }
 
@@ -65,16 +70,55 @@ fn evaluate<H: Shelf, K: Sink, G: Gate>(
     ensures shelf_later { H.faults shelf.old ≤ H.faults shelf.new }
     ensures sink_later { (K.device sink.old).faults ≤ (K.device sink.new).faults }
     ensures notes { (K.device sink.new).notes ≡ (K.device sink.old).notes }
-    ensures ok { (workers : ℕ) → OnOk result (IfSome (told_all (H.held shelf.old) (file.now ∷ []))
-        (WritesOutput (K.device sink.old).written (K.device sink.new).written (request_for task file.now budget workers))) }
-    ensures cause { (workers : ℕ) → IfErr result (λ stop. HasCause stop
+    ensures ok { (job : Request) → Lists job task file.now budget → OnOk result (IfSome (told_all (H.held shelf.old) (file.now ∷ []))
+        (WritesOutput (K.device sink.old).written (K.device sink.new).written job)) }
+    ensures cause { (job : Request) → Lists job task file.now budget → IfErr result (λ stop. HasCause stop
         (Rose (H.faults shelf.old) (H.faults shelf.new)) (Rose (K.device sink.old).faults (K.device sink.new).faults)
-        (request_for task file.now budget workers) (told_all (H.held shelf.old) (file.now ∷ []))) }
-    ensures leaves { (workers : ℕ) → IfErr result (λ stop. LeavesText stop
-        (request_for task file.now budget workers) (told_all (H.held shelf.old) (file.now ∷ []))
+        job (told_all (H.held shelf.old) (file.now ∷ []))) }
+    ensures leaves { (job : Request) → Lists job task file.now budget → IfErr result (λ stop. LeavesText stop
+        job (told_all (H.held shelf.old) (file.now ∷ []))
         (K.device sink.old).written (K.device sink.new).written) }
 {
-    let system = shared(alloc, system_in(alloc, file, shelf)?)?;
+    let system = system_in(alloc, file, shelf)?;
+    list_system(alloc, task, system, budget, sink, gate)
+}
+
+/// Does the task for the system that is generated for the number, within a budget of questions: the line of the number
+/// comes first.
+fn generated<K: Sink, G: Gate>(
+    alloc: Global,
+    number: u64,
+    budget: u64,
+    sink: &mut K,
+    gate: &G,
+) -> Result<(), Stop>
+    ensures sink_later { (K.device sink.old).faults ≤ (K.device sink.new).faults }
+    ensures notes { (K.device sink.new).notes ≡ (K.device sink.old).notes }
+    ensures ok { OnOk result (Prints (AfterNumber (IsListed Make budget) number) (K.device sink.old).written (K.device sink.new).written) }
+    ensures stop { IfErr result (λ stop. StopsGenerated stop number budget
+        (Rose (K.device sink.old).faults (K.device sink.new).faults) (K.device sink.old).written (K.device sink.new).written) }
+{
+    let system = generate(alloc, number)?;
+    print_number(alloc, number, &system, sink)?;
+    list_system(alloc, Task::Make, system, budget, sink, gate)
+}
+
+/// Does the task for the system, within a budget of questions.
+fn list_system<K: Sink, G: Gate>(
+    alloc: Global,
+    task: Task,
+    system: System,
+    budget: u64,
+    sink: &mut K,
+    gate: &G,
+) -> Result<(), Stop>
+    ensures later { (K.device sink.old).faults ≤ (K.device sink.new).faults }
+    ensures notes { (K.device sink.new).notes ≡ (K.device sink.old).notes }
+    ensures ok { OnOk result (Prints (λ text. IsListed task budget text system) (K.device sink.old).written (K.device sink.new).written) }
+    ensures stop { IfErr result (λ stop. StopsWork stop task budget system
+        (Rose (K.device sink.old).faults (K.device sink.new).faults) (K.device sink.old).written (K.device sink.new).written) }
+{
+    let system = shared(alloc, system)?;
     let mesh = mesh_of(alloc, &system, budget, gate)?;
     let (worked, mesh) = work(alloc, mesh, system, task, sink);
     drop(mesh);

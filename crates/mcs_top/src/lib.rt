@@ -5,6 +5,7 @@ mod command;
 mod ending;
 mod evaluator;
 mod job;
+mod number;
 mod status;
 
 pub use command::run;

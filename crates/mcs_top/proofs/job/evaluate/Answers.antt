@@ -1,12 +1,31 @@
-use Rattle.std.proofs.Common.{Ok}
-use Rattle.mcs_top.proofs.StageLemmas.{output_left, work_left, work_cause}
+use Rattle.std.proofs.Common.{[], ◌∷◌}
+use Rattle.mcs_ports.specs.Causes.{Rose}
+use Rattle.mcs_top.specs.Jobs.{told_all}
+use Rattle.mcs_top.specs.Promise.{HasCause, LeavesText}
+use Rattle.mcs_top.proofs.StageLemmas.{stop_told, read_cause, read_left, file_listed, file_causes, file_leaves}
 use Rattle.mcs_top.proofs.job.evaluate.Goals as goal
 
-pub returns-in-Ok-clause-ok : goal.returns-in-Ok-clause-ok
-returns-in-Ok-clause-ok g c workers = output_left c.args.task c.in_ok-system_in.field-0 c.args.budget c.in_ok-mesh.mesh c.work-worked.result.1 (rw c.in_ok-system.ensures at c.in_ok-mesh.ensures) _ c.args.file.now workers c.in_ok-system_in.ensures.system (g.K.Sink.device c.args.sink.now) (g.K.Sink.device c.work-worked.new.sink) (Ok c.in-Ok.field-0) (rw c.in-Ok.is at c.work-worked.ensures.done)
+pub returns-in_err-system-clause-cause : goal.returns-in_err-system-clause-cause
+returns-in_err-system-clause-cause g c job lists =
+    let files = told_all (g.H.Shelf.held c.args.shelf.now) (c.args.file.now ∷ []) in
+    let rose = Rose (g.H.Shelf.faults c.args.shelf.now) (g.H.Shelf.faults c.system_in.new.shelf) in
+    let same = Rose (g.K.Sink.device c.args.sink.now).faults (g.K.Sink.device c.args.sink.now).faults in
+    stop_told (λ stop. HasCause stop rose same job files) _ _ c.from_residual.ensures.1
+    (read_cause job c.args.task c.args.file.now c.args.budget lists rose same files c.in_err-system.field-0.0 c.in_err-system.ensures.stop)
 
-pub returns-in-Err-clause-cause : goal.returns-in-Err-clause-cause
-returns-in-Err-clause-cause g c workers = rw c.stop_for_work.ensures (work_cause c.args.task c.in_ok-system_in.field-0 c.args.budget c.in_ok-mesh.mesh c.work-worked.result.1 (rw c.in_ok-system.ensures at c.in_ok-mesh.ensures) _ c.args.file.now workers c.in_ok-system_in.ensures.system (g.K.Sink.device c.args.sink.now) (g.K.Sink.device c.work-worked.new.sink) c.in-Err.stop _ (rw c.in-Err.is at c.work-worked.ensures.stop))
+pub returns-in_err-system-clause-leaves : goal.returns-in_err-system-clause-leaves
+returns-in_err-system-clause-leaves g c job lists =
+    let files = told_all (g.H.Shelf.held c.args.shelf.now) (c.args.file.now ∷ []) in
+    let rose = Rose (g.H.Shelf.faults c.args.shelf.now) (g.H.Shelf.faults c.system_in.new.shelf) in
+    let at = (g.K.Sink.device c.args.sink.now).written in
+    stop_told (λ stop. LeavesText stop job files at at) _ _ c.from_residual.ensures.1
+    (read_left job c.args.task c.args.file.now c.args.budget lists rose files at c.in_err-system.field-0.0 c.in_err-system.ensures.stop)
 
-pub returns-in-Err-clause-leaves : goal.returns-in-Err-clause-leaves
-returns-in-Err-clause-leaves g c workers = rw c.stop_for_work.ensures (work_left c.args.task c.in_ok-system_in.field-0 c.args.budget c.in_ok-mesh.mesh c.work-worked.result.1 (rw c.in_ok-system.ensures at c.in_ok-mesh.ensures) _ c.args.file.now workers c.in_ok-system_in.ensures.system (g.K.Sink.device c.args.sink.now) (g.K.Sink.device c.work-worked.new.sink) c.in-Err.stop (rw c.in-Err.is at c.work-worked.ensures.stop))
+pub returns-clause-ok : goal.returns-clause-ok
+returns-clause-ok g c job lists = file_listed job c.args.task c.args.file.now c.args.budget lists c.in_ok-system.system _ c.in_ok-system.ensures.system (g.K.Sink.device c.args.sink.now).written (g.K.Sink.device c.list_system.new.sink).written c.list_system.result c.list_system.ensures.ok
+
+pub returns-clause-cause : goal.returns-clause-cause
+returns-clause-cause g c job lists = file_causes job c.args.task c.args.file.now c.args.budget lists c.in_ok-system.system _ c.in_ok-system.ensures.system _ _ (g.K.Sink.device c.args.sink.now).written (g.K.Sink.device c.list_system.new.sink).written c.list_system.result c.list_system.ensures.stop
+
+pub returns-clause-leaves : goal.returns-clause-leaves
+returns-clause-leaves g c job lists = file_leaves job c.args.task c.args.file.now c.args.budget lists c.in_ok-system.system _ c.in_ok-system.ensures.system _ (g.K.Sink.device c.args.sink.now).written (g.K.Sink.device c.list_system.new.sink).written c.list_system.result c.list_system.ensures.stop

@@ -1,0 +1,13 @@
+use Rattle.mcs_top.specs.Promise.{StopsGenerated}
+use Rattle.mcs_top.proofs.StageLemmas.{stop_told, made_done, made_stops, line_stopped}
+use Rattle.mcs_top.proofs.job.generated.Goals as goal
+
+pub returns-in_err-print_number-clause-stop : goal.returns-in_err-print_number-clause-stop
+returns-in_err-print_number-clause-stop g c = stop_told (λ stop. StopsGenerated stop c.args.number c.args.budget _ _ _) _ _ c.from_residual-in_err-print_number.ensures.1
+    (line_stopped c.args.number c.args.budget (g.K.Sink.device c.args.sink.now) (g.K.Sink.device c.print_number.new.sink) (g.K.Sink.device c.print_number.new.sink) _ (rw c.in_ok-system.ensures at c.in_err-print_number.ensures))
+
+pub returns-clause-ok : goal.returns-clause-ok
+returns-clause-ok g c = made_done c.args.number c.args.budget (g.K.Sink.device c.args.sink.now) (g.K.Sink.device c.print_number.new.sink) (g.K.Sink.device c.list_system.new.sink) (rw c.in_ok-system.ensures at c.in_ok-print_number.ensures.whole) c.list_system.result (rw c.in_ok-system.ensures at c.list_system.ensures.ok)
+
+pub returns-clause-stop : goal.returns-clause-stop
+returns-clause-stop g c = made_stops c.args.number c.args.budget (g.K.Sink.device c.args.sink.now) (g.K.Sink.device c.print_number.new.sink) (g.K.Sink.device c.list_system.new.sink) (rw c.in_ok-system.ensures at c.in_ok-print_number.ensures.whole) c.list_system.result c.in_ok-print_number.ensures.later (rw c.in_ok-system.ensures at c.list_system.ensures.stop)
