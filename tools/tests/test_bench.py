@@ -1,0 +1,67 @@
+"""bench/: the texts and families can be read, are the same each time, and mean to clingo what the examples print."""
+import glob
+import os
+import re
+import shutil
+import sys
+import unittest
+
+from ground import EXAMPLES, TOP, Ground
+
+sys.path.insert(0, os.path.join(TOP, "bench", "clingo"))
+
+
+class Families(Ground):
+    def test_each_is_a_text_and_the_same_each_time(self):
+        status, listed, _ = self.ran("bench/families")
+        self.assertEqual(status, 0)
+        for name, sizes, most in re.findall(r"^(\w+) +([\d, ]+); at most (\d+)", listed, re.MULTILINE):
+            for size in sizes.split(", ") + [most]:
+                status, text, noted = self.ran("bench/families", name, size)
+                self.assertEqual((status, noted), (0, ""))
+                self.assertEqual(text, self.ran("bench/families", name, size, "1")[1])
+                self.assertEqual(self.ran("tools/draw", self.file("a text.mcs", text))[0], 0)
+        self.assertNotEqual(self.ran("bench/families", "ring", "9")[1], self.ran("bench/families", "ring", "9", "2")[1])
+
+    def test_words(self):
+        for words in (["rings", "3"], ["ring"], ["ring", "x"], ["ring", "1"], ["ring", "64"]):
+            status, text, noted = self.ran("bench/families", *words)
+            self.assertEqual((status, text), (2, ""), words)
+            self.assertOneLine(noted)
+
+
+class Run(Ground):
+    def test_words(self):
+        for words in (["--fast"], ["--program", "nothing"], ["nothing.mcs"]):
+            status, table, noted = self.ran("bench/run", *words)
+            self.assertEqual((status, table), (2, ""), words)
+            self.assertOneLine(noted)
+
+    def test_a_difference_is_told(self):
+        program = self.script("mcs", """#!/bin/sh
+[ "$2" = -- ] || exit 2
+printf '%s\\n' 'mcs 1: 1 contexts, 1 rules, 1 variables' 'equilibrium 1: {c:a} applicable {}' consistent 'end: 1 equilibria, need 1'
+""")
+        text = self.file("a text.mcs", "context c program { a. } bridge r: c:b if c:a.")
+        status, table, noted = self.ran("bench/run", "--quick", "--program", program, text)
+        self.assertIn("\na text              equilibria ", table)
+        self.assertRegex(table, r"solve --proof +- +- +- +-")
+        if shutil.which("clingo"):
+            self.assertEqual(status, 1)
+            self.assertEqual(noted, "run: a text: mcs has 0 diagnoses, clingo 1, and 0 are the same\n")
+        else:
+            self.assertEqual((status, noted), (0, ""))
+
+
+@unittest.skipUnless(shutil.which("clingo"), "clingo is not installed")
+class Clingo(Ground):
+    def test_the_examples_have_the_same_lists(self):
+        import questions
+        for path in glob.glob(os.path.join(EXAMPLES, "*.mcs")):
+            answers = questions.Answers(shutil.which("clingo"), path, self.room, 60)
+            with open(path.replace(".mcs", ".solve"), "rb") as file:
+                listed = questions.lists_of(file.read())
+            diagnoses = answers.diagnoses()[0]
+            self.assertEqual(listed["equilibrium"], answers.equilibria()[0], path)
+            self.assertEqual(listed["diagnosis"], diagnoses, path)
+            self.assertEqual(listed["explanation"], answers.explanations(diagnoses)[0], path)

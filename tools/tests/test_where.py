@@ -1,0 +1,100 @@
+"""tools/where: the place of a fault."""
+import glob
+import os
+import re
+import unittest
+
+from ground import PROGRAM, TOP, Ground, example
+
+
+class Where(Ground):
+    def noted(self, content, note, status=3, name="a text.mcs"):
+        """What is told of a text of which a program in the place of `mcs` notes this line."""
+        text = self.file(name, content)
+        program = self.script("mcs", f"#!/bin/sh\necho '{note}' >&2\nexit {status}\n")
+        return (text, *self.ran("tools/where", text, MCS=program))
+
+    def told(self, content, note):
+        text, status, told, noted = self.noted(content, note)
+        self.assertEqual((status, noted), (3, ""))
+        place, line, caret = told.split("\n")[:3]
+        self.assertTrue(place.startswith(text + ":"))
+        return place[len(text) + 1:], line, caret
+
+    def test_the_place_the_line_and_the_caret(self):
+        with open(example("refused", "unknown_context.mcs"), "rb") as file:
+            content = file.read()
+        self.assertEqual(self.told(content, "mcs: refused: F2 at 51"),
+                         ("2:14: F2: no context has this name",
+                          "bridge link: merged:linked if clinic:patient.", " " * 13 + "^"))
+
+    def test_tabs_stay_before_the_caret(self):
+        self.assertEqual(self.told("context c classical {\n\t\tp q. }", "mcs: refused: F1 at 26"),
+                         ("2:5: F1: `q` can't stand here: `.` or a sign that goes on is wanted", "\t\tp q. }", "\t\t  ^"))
+
+    def test_line_ends_of_two_bytes(self):
+        self.assertEqual(self.told("context c classical {\r\np q. }\r\n", "mcs: refused: F1 at 25")[1:], ("p q. }", "  ^"))
+
+    def test_letters_of_several_bytes(self):
+        content = "# \u00fc\u00e9 \u6f22\ncontext c classical { p } # \u00fc\u6f22"
+        offset = content.encode().index(b"}")
+        self.assertEqual(self.told(content, f"mcs: refused: F1 at {offset}")[0],
+                         "2:25: F1: `}` can't stand here: `.` or a sign that goes on is wanted")
+        content = "context c classical { # \u6f22\u00fc"
+        place, line, caret = self.told(content, f"mcs: refused: F1 at {len(content.encode())}")
+        self.assertEqual((place[:5], line, caret), ("1:27:", content, " " * 27 + "^"))
+
+    def test_the_end_of_the_text(self):
+        for content, line in [("context c", 1), ("context c\n", 1), ("\ncontext c\r\n", 2)]:
+            place, shown, caret = self.told(content, f"mcs: refused: F1 at {len(content)}")
+            self.assertEqual(place, f"{line}:10: F1: the end of the text can't stand here: "
+                                    "`classical`, `default` or `program` is wanted")
+            self.assertEqual((shown, caret), ("context c", " " * 9 + "^"))
+        self.assertEqual(self.told("", "mcs: refused: F1 at 0")[0][:4], "1:1:")
+
+    def test_stray_bytes_are_shown(self):
+        self.assertEqual(self.told(b"context \x1b c", "mcs: refused: F1 at 8")[1:], ("context \ufffd c", " " * 8 + "^"))
+        self.assertEqual(self.told(b"\xef\xbb\xbfcontext c", "mcs: refused: F1 at 0")[0],
+                         "1:1: F1: the byte 239, with which no token begins, can't stand here: "
+                         "`context` or `bridge` is wanted")
+
+    def test_each_limit_of_the_language_has_a_sentence(self):
+        with open(os.path.join(TOP, "docs", "LANGUAGE.md")) as file:
+            limits = re.findall(r"^\| `(\w+)` \| (\d+) \|", file.read(), re.MULTILINE)
+        self.assertGreater(len(limits), 5)
+        for name, number in limits:
+            place, _, _ = self.told("context c default { a. }", f"mcs: refused: F5 at 20: {name} {number}")
+            self.assertRegex(place, rf"^1:21: F5: .*\b{number}\b")
+            self.assertNotIn("above a limit", place)
+
+    def test_other_endings_are_those_of_mcs(self):
+        for note, status in [("mcs: read fault", 5), ("mcs: unfinished at level 0, budget 1", 4), ("mcs: out of memory", 7)]:
+            _, got, told, noted = self.noted("", note, status)
+            self.assertEqual((got, told, noted), (status, "", note + "\n"))
+        text, got, told, _ = self.noted("", "mcs: refused: file longer than 1048576")
+        self.assertEqual((got, told), (3, f"{text}:1:1: the file has more than 1048576 bytes, and longer ones are not taken\n"))
+
+    def test_words(self):
+        for words in ([], ["a", "b"], ["--all", "a"]):
+            status, told, noted = self.ran("tools/where", *words)
+            self.assertEqual((status, told, noted), (2, "", "usage: where FILE\n"))
+        status, told, noted = self.ran("tools/where", "a", MCS=os.path.join(self.room, "nothing"))
+        self.assertEqual((status, told), (127, ""))
+        self.assertOneLine(noted)
+
+    @unittest.skipUnless(os.access(PROGRAM, os.X_OK), "the program is not built")
+    def test_with_the_program(self):
+        for path in glob.glob(example("refused", "*.mcs")):
+            with open(path, "rb") as file:
+                content = file.read()
+            with open(path.replace(".mcs", ".refused")) as file:
+                number, offset = re.match(r"mcs: refused: F(\d) at (\d+)", file.read()).groups()
+            before = content[:int(offset)]
+            status, told, noted = self.ran("tools/where", path, MCS=PROGRAM)
+            self.assertEqual((status, noted), (3, ""))
+            place = f"{path}:{before.count(10) + 1}:{len(before) - before.rfind(10)}: F{number}: "
+            self.assertTrue(told.startswith(place), told)
+        text = self.file("a text.mcs", "context c classical {}")
+        self.assertEqual(self.ran("tools/where", text, MCS=PROGRAM), (0, "", ""))
+        status, told, noted = self.ran("tools/where", self.room + "/nothing.mcs", MCS=PROGRAM)
+        self.assertEqual((status, told, noted), (5, "", "mcs: read fault\n"))
