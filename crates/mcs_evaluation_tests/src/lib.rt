@@ -1,15 +1,14 @@
-//! Tests of what evaluates a system, over the libraries alone: solvers of contexts, the mesh that asks them, the levels
-//! of diagnoses, extensions and answer sets with what shows them, and the lines of a report.
+//! Tests of what evaluates a system, over the libraries alone: solvers of contexts, the mesh that asks them, extensions
+//! and answer sets with what shows them, and generated systems. Levels of diagnoses, and the lines of a report, are told by
+//! the listings of whole runs.
 #![tactic(auto)]
 
 #[cfg(test)]
-mod diagnoses;
-#[cfg(test)]
 mod evaluators;
 #[cfg(test)]
-mod laws;
+mod generated;
 #[cfg(test)]
-mod lines;
+mod laws;
 #[cfg(test)]
 mod meshes;
 #[cfg(test)]

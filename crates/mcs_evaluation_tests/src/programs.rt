@@ -2,13 +2,13 @@
 
 ghost use Rattle.std.specs.Prelude.{◌≤◌, length, map, IfSome};
 ghost use Rattle.mcs_system.specs.Seen.{kb_of, rule_of};
-ghost use Rattle.mcs_solver.specs.Kinds.{IsOverKb};
+ghost use Rattle.mcs_certificate.specs.Kinds.{IsOverKb};
 ghost use Rattle.mcs_evidence.specs.Programs.{AreOverRules};
 
 use crate::systems::{first_knowledge, system_of};
 use mcs_base::{Memory, Vars};
 use mcs_cnf::are_different;
-use mcs_program::{answer_sets, answer_sets_from, list_answer_sets};
+use mcs_program::{answer_sets, list_answer_sets};
 use mcs_system::{Kb, Name, ProgRule};
 use std::alloc::Global;
 use std::test::Fail;
@@ -44,27 +44,6 @@ fn are_shown(
     Ok(count == models && found.as_slice() == views)
 }
 
-/// The same where the atoms are lent one by one.
-fn are_shown_of_lent(
-    alloc: Global,
-    rules: &[ProgRule],
-    atoms: &[Name],
-    views: &[Vars],
-    models: usize,
-) -> Result<bool, Memory>
-    requires over { AreOverRules atoms.now (map rule_of rules.now) }
-    requires few { length atoms.now ≤ 64 }
-{
-    if !are_different(atoms) {
-        return Ok(false);
-    }
-    let lent: Vec<&Name> = atoms.iter().collect(alloc)?;
-    let (found, certificate) = answer_sets_from(alloc, rules, &[], &lent, atoms)?;
-    let count = certificate.models.len();
-    drop(certificate);
-    Ok(count == models && found.as_slice() == views)
-}
-
 /// Whether the answer sets of the rules are listed as these views.
 fn are_listed(
     alloc: Global,
@@ -92,11 +71,7 @@ fn has_views(alloc: Global, text: &str, views: &[Vars], models: usize) -> Result
     let Some(rules) = program_in(knowledge, atoms) else {
         return Ok(false);
     };
-    Ok(
-        are_shown(alloc, rules, atoms, views, models)?
-            && are_shown_of_lent(alloc, rules, atoms, views, models)?
-            && are_listed(alloc, rules, atoms, views)?,
-    )
+    Ok(are_shown(alloc, rules, atoms, views, models)? && are_listed(alloc, rules, atoms, views)?)
 }
 
 #[test]

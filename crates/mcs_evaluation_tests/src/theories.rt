@@ -4,13 +4,13 @@ ghost use Rattle.std.specs.Prelude.{◌≡◌, ◌≤◌, false, length, map, If
 ghost use Rattle.mcs_system.specs.Seen.{formula_of, item_of, kb_of};
 ghost use Rattle.mcs_system.specs.Faults.{default_count, has_twins};
 ghost use Rattle.mcs_cnf.specs.ClauseLists.{AreOver};
-ghost use Rattle.mcs_solver.specs.Kinds.{IsOverKb};
+ghost use Rattle.mcs_certificate.specs.Kinds.{IsOverKb};
 ghost use Rattle.mcs_evidence.specs.Defaults.{AreOverItems, defaults_of};
 
 use crate::systems::{first_knowledge, system_of};
 use mcs_base::{Memory, Vars};
 use mcs_cnf::{are_different, are_over};
-use mcs_default::{extensions, extensions_from, list_extensions};
+use mcs_default::{extensions, list_extensions};
 use mcs_system::{Context, Formula, Kb, Name, System, TheoryItem};
 use mcs_trace::{DefaultCert, SetCert};
 use std::alloc::Global;
@@ -52,51 +52,6 @@ fn are_judged(certificate: &DefaultCert, generating: &[bool]) -> bool {
         ) == *wanted)
 }
 
-/// Whether the theory has extensions with these views and, for each set of its defaults, a verdict as it is said.
-fn are_shown(
-    alloc: Global,
-    items: &[TheoryItem],
-    beliefs: &[Formula],
-    atoms: &[Name],
-    views: &[Vars],
-    generating: &[bool],
-) -> Result<bool, Memory>
-    requires over { AreOverItems atoms.now (map item_of items.now) }
-    requires beliefs { AreOver atoms.now (map formula_of beliefs.now) }
-    requires different { has_twins atoms.now ≡ false }
-    requires few { length atoms.now ≤ 64 }
-    requires few_beliefs { length beliefs.now ≤ 64 }
-    requires few_defaults { length (defaults_of (map item_of items.now)) ≤ 10 }
-{
-    let (found, certificate) = extensions(alloc, items, &[], beliefs, atoms)?;
-    let are_judged = are_judged(&certificate, generating);
-    drop(certificate);
-    Ok(are_judged && found.as_slice() == views)
-}
-
-/// The same where the beliefs are lent one by one.
-fn are_shown_of_lent(
-    alloc: Global,
-    items: &[TheoryItem],
-    beliefs: &[Formula],
-    atoms: &[Name],
-    views: &[Vars],
-    generating: &[bool],
-) -> Result<bool, Memory>
-    requires over { AreOverItems atoms.now (map item_of items.now) }
-    requires beliefs { AreOver atoms.now (map formula_of beliefs.now) }
-    requires different { has_twins atoms.now ≡ false }
-    requires few { length atoms.now ≤ 64 }
-    requires few_beliefs { length beliefs.now ≤ 64 }
-    requires few_defaults { length (defaults_of (map item_of items.now)) ≤ 10 }
-{
-    let lent: Vec<&Formula> = beliefs.iter().collect(alloc)?;
-    let (found, certificate) = extensions_from(alloc, items, &[], &lent, atoms)?;
-    let are_judged = are_judged(&certificate, generating);
-    drop(certificate);
-    Ok(are_judged && found.as_slice() == views)
-}
-
 /// Whether the extensions of the theory are listed with these views.
 fn are_listed(
     alloc: Global,
@@ -125,13 +80,15 @@ fn are_numbered(views: &[Vars], numbers: &[u64]) -> bool {
             .all(|(view, number)| view.number() == *number)
 }
 
-/// Whether the extensions of the theory are listed with the views of these numbers, with and without what shows it.
+/// Whether the extensions of the theory are listed with the views of these numbers, with and without what shows it, and
+/// where that is said the sets of its defaults are judged so.
 fn are_found(
     alloc: Global,
     items: &[TheoryItem],
     beliefs: &[Formula],
     atoms: &[Name],
     numbers: &[u64],
+    generating: Option<&[bool]>,
 ) -> Result<bool, Memory>
     requires over { AreOverItems atoms.now (map item_of items.now) }
     requires beliefs { AreOver atoms.now (map formula_of beliefs.now) }
@@ -141,29 +98,15 @@ fn are_found(
     requires few_defaults { length (defaults_of (map item_of items.now)) ≤ 10 }
 {
     let (found, certificate) = extensions(alloc, items, &[], beliefs, atoms)?;
-    drop(certificate);
-    Ok(are_numbered(&found, numbers) && are_listed(alloc, items, beliefs, atoms, &found)?)
-}
-
-/// Whether the first context, asked for the formulas of the second, has these views, by verdicts of which it is said
-/// whether they tell of an extension.
-fn has_views(alloc: Global, text: &str, views: &[Vars], generating: &[bool]) -> Result<bool, Fail> {
-    let system = system_of(alloc, text)?;
-    if system.contexts().is_empty() {
-        return Ok(false);
-    }
-    let (knowledge, atoms) = first_knowledge(&system);
-    let Some(items) = theory_in(knowledge, atoms) else {
-        return Ok(false);
+    let are_judged = match generating {
+        Some(wanted) => are_judged(&certificate, wanted),
+        None => true,
     };
-    let beliefs = beliefs_of(&system);
-    if beliefs.len() > 64 || !are_different(atoms) || !are_over(atoms, beliefs) {
-        return Ok(false);
-    }
+    drop(certificate);
     Ok(
-        are_shown(alloc, items, beliefs, atoms, views, generating)?
-            && are_shown_of_lent(alloc, items, beliefs, atoms, views, generating)?
-            && are_listed(alloc, items, beliefs, atoms, views)?,
+        are_judged
+            && are_numbered(&found, numbers)
+            && are_listed(alloc, items, beliefs, atoms, &found)?,
     )
 }
 
@@ -174,68 +117,74 @@ quaker : pacifist / pacifist. republican : ~pacifist / ~pacifist. } context c2 c
 /// Nothing but the default itself gives its prerequisite.
 const UNGROUNDED: &str = "context c1 default { p : p / p. } context c2 classical { p. }";
 
-#[test]
-fn extensions_are_shown(rt: HostRuntime) -> Result<(), Fail> {
-    let (none, one) = (Vars::empty(), Vars::one(0));
-    let either = [false, true, true, false];
-    assert!(rt; has_views(rt.alloc(), DIAMOND, &[one, none], &either)?);
-    assert!(rt; has_views(rt.alloc(), UNGROUNDED, &[none], &[true, false])?);
-    Ok(())
-}
-
-/// A theory and the formulas for which it is asked, and the numbers of the views, in their order.
-const THEORIES: [(&str, &[u64]); 15] = [
+/// A theory and the formulas for which it is asked, the numbers of the views, in their order, and of some which sets of
+/// defaults generate an extension.
+const THEORIES: [(&str, &[u64], Option<&[bool]>); 17] = [
+    (DIAMOND, &[1, 0], Some(&[false, true, true, false])),
+    (UNGROUNDED, &[0], Some(&[true, false])),
     (
         "context c default { a. a : b / b. b : c / c. } context d classical { b. c. }",
         &[3],
+        None,
     ),
     (
         "context c default { a. a : b & ~c / b. a : c / c. } context d classical { b. c. }",
         &[2],
+        None,
     ),
     (
         "context c default { true : a & ~b / a. true : b & ~c / b. true : c & ~a / c. } context d classical { a. }",
         &[],
+        None,
     ),
     (
         "context c default { a : b / b. b : a / a. } context d classical { a. b. }",
         &[0],
+        None,
     ),
     (
         "context c default { a : b / b. b : a / a. true : a | b / a | b. } context d classical { a. b. a | b. }",
         &[4],
+        None,
     ),
     (
         "context c default { a. a : p / p. a : ~p / ~p. a : q / q. a : ~q / ~q. } context d classical { p. q. }",
         &[3, 1, 2, 0],
+        None,
     ),
     (
         "context c default { a. ~a. true : b / b. } context d classical { a. b. ~b. }",
         &[7],
+        None,
     ),
     (
         "context c default { a. a : b, c / d. a : ~b / ~b. } context d classical { d. ~b. }",
         &[2],
+        None,
     ),
     (
         "context c default { a. a : b, ~b / c. } context d classical { b. ~b. c. }",
         &[4],
+        None,
     ),
     (
         "context c default { true : a / ~a. } context d classical { a. }",
         &[],
+        None,
     ),
     (
         "context c default { true : a / a. true : b / b. a & b : c / c. } context d classical { c. }",
         &[1],
+        None,
     ),
     (
         "context c default { true : p / q. true : q / ~p. } context d classical { p. q. ~p. }",
         &[4],
+        None,
     ),
-    (PAIRS, &[3, 1, 2, 0]),
-    (RING, &[1, 2, 0]),
-    (CYCLE, &[7]),
+    (PAIRS, &[3, 1, 2, 0], None),
+    (RING, &[1, 2, 0], None),
+    (CYCLE, &[7], None),
 ];
 
 /// Five pairs of contrary defaults, each of 32 choices.
@@ -255,7 +204,12 @@ const CYCLE: &str =
 a5 : a6 / a6. a6 : a7 / a7. a7 : a8 / a8. a8 : a9 / a9. a9 : a0 / a0. } context d classical { a0. a3. a9. }";
 
 /// Whether the first context, asked for the formulas of the second, has the views of these numbers.
-fn has_numbered(alloc: Global, text: &str, numbers: &[u64]) -> Result<bool, Fail> {
+fn has_views(
+    alloc: Global,
+    text: &str,
+    numbers: &[u64],
+    generating: Option<&[bool]>,
+) -> Result<bool, Fail> {
     let system = system_of(alloc, text)?;
     if system.contexts().is_empty() {
         return Ok(false);
@@ -268,13 +222,13 @@ fn has_numbered(alloc: Global, text: &str, numbers: &[u64]) -> Result<bool, Fail
     if beliefs.len() > 64 || !are_different(atoms) || !are_over(atoms, beliefs) {
         return Ok(false);
     }
-    Ok(are_found(alloc, items, beliefs, atoms, numbers)?)
+    Ok(are_found(alloc, items, beliefs, atoms, numbers, generating)?)
 }
 
 #[test]
 fn extensions_are_listed_with_and_without_what_shows_them(rt: HostRuntime) -> Result<(), Fail> {
-    for (text, numbers) in THEORIES {
-        assert!(rt; has_numbered(rt.alloc(), text, numbers)?);
+    for (text, numbers, generating) in THEORIES {
+        assert!(rt; has_views(rt.alloc(), text, numbers, generating)?);
     }
     Ok(())
 }

@@ -17,11 +17,13 @@ fn are_put_in(alloc: Global, sets: &[(Marks, bool)], left: &[Marks]) -> Result<b
 
 #[test]
 fn keeps_the_minimal_ones(rt: HostRuntime) -> Result<(), Fail> {
+    let (first, second) = (Marks::one(2), Marks::one(6));
     let sets = [
-        (Marks::one(0).with(2), true),
-        (Marks::one(2), true),
-        (Marks::one(2).with(4), false),
+        (first.with(0).with(4), true),
+        (second, true),
+        (first, true),
+        (first.with(4), false),
     ];
-    assert!(rt; are_put_in(rt.alloc(), &sets, &[Marks::one(2)])?);
+    assert!(rt; are_put_in(rt.alloc(), &sets, &[second, first])?);
     Ok(())
 }

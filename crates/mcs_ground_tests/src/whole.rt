@@ -79,6 +79,12 @@ fn is_faulty(alloc: Global, failing: u64) -> Result<bool, Memory> {
     Ok(is_unread(&mut shelf, alloc, "f", 5000, ReadAnswer::Fault))
 }
 
+/// Whether nothing is open where the open of a file fails.
+fn is_closed(alloc: Global) -> Result<bool, Memory> {
+    let mut shelf = shelf_of(alloc, 5000, 1)?;
+    Ok(shelf.open("f").is_err() && shelf.read(&mut [0; 8]) == Ok(0))
+}
+
 /// Whether a file of 5000 bytes is read where no call but the fifth fails, and then one that is not there is not.
 fn is_read_in_four_calls(alloc: Global) -> Result<bool, Memory> {
     let bytes = pattern(alloc, 5000)?;
@@ -95,7 +101,7 @@ fn a_failed_call_is_a_read_fault(rt: HostRuntime) -> Result<(), Fail> {
     for failing in 1..5 {
         assert!(rt; is_faulty(rt.alloc(), failing)?);
     }
-    assert!(rt; is_read_in_four_calls(rt.alloc())?);
+    assert!(rt; is_closed(rt.alloc())? && is_read_in_four_calls(rt.alloc())?);
     Ok(())
 }
 

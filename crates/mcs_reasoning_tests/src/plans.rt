@@ -27,7 +27,7 @@ fn is_planned(
 }
 
 /// Whether these supply the context and it guesses these.
-pub(crate) fn shares(plan: &Plan, i: u32, supplied: &[u32], guessed: Vars) -> bool {
+fn shares(plan: &Plan, i: u32, supplied: &[u32], guessed: Vars) -> bool {
     (i as usize) < plan.system().contexts().len()
         && plan.supplied(i) == supplied
         && plan.guessed(i) == guessed
@@ -63,52 +63,6 @@ fn orders_contexts(rt: HostRuntime) -> Result<(), Fail> {
     ] {
         assert!(rt; is_planned(rt.alloc(), text, order, i, supplied, guessed)?);
     }
-    Ok(())
-}
-
-/// Puts 64 contexts into the text.
-fn push_contexts(alloc: Global, text: &mut String) -> Result<(), Fail> {
-    for i in 0..64 {
-        text.push_str(format!(in alloc; "context n{i} classical {{}}\n")?.as_str())?;
-    }
-    Ok(())
-}
-
-/// Puts a rule for each context into the text, by which it imports the next one.
-fn push_rules(alloc: Global, text: &mut String) -> Result<(), Fail> {
-    for i in 0..64 {
-        let next = (i + 1) % 64;
-        text.push_str(format!(in alloc; "bridge r{i}: n{i}:true if n{next}:x.\n")?.as_str())?;
-    }
-    Ok(())
-}
-
-/// A plan for a ring of 64 contexts, each of which imports the next.
-fn plan_of_ring(alloc: Global) -> Result<Plan, Fail> {
-    let mut text = String::new(alloc);
-    push_contexts(alloc, &mut text)?;
-    push_rules(alloc, &mut text)?;
-    plan_of(alloc, text.as_str())
-}
-
-/// Whether these are the numbers from 0 up.
-fn ascend(order: &[u32]) -> bool {
-    let mut next = 0;
-    for number in order {
-        if *number != next {
-            return false;
-        }
-        next = number.saturating_add(1);
-    }
-    true
-}
-
-#[test]
-fn orders_a_ring_of_all(rt: HostRuntime) -> Result<(), Fail> {
-    let plan = plan_of_ring(rt.alloc())?;
-    assert!(rt; plan.system().contexts().len() == 64);
-    assert!(rt; plan.order().len() == 64 && ascend(plan.order()));
-    assert!(rt; shares(&plan, 63, &[0], Vars::empty()) && shares(&plan, 62, &[], Vars::one(63)));
     Ok(())
 }
 

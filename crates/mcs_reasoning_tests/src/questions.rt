@@ -1,6 +1,6 @@
 //! What contexts are asked.
 
-use crate::plans::{ITSELF, plan_of, shares};
+use crate::plans::{ITSELF, plan_of};
 use mcs_base::{Active, Memory, Vars};
 use mcs_import::{Plan, asked, questions};
 use mcs_language::read_system;
@@ -46,21 +46,6 @@ fn asks_by_guesses(rt: HostRuntime) -> Result<(), Fail> {
 /// `p` is told if `a` is believed, and `q` if `b` is not, which the second context forbids both.
 const ONE_DIAGNOSIS: &str = "context c1 program { a. } context c2 program { :- p. :- q. }
 bridge r1: c2:p if c1:a. bridge r2: c2:q if not c1:b.";
-
-/// Whether the first context comes first and supplies the second, which guesses nothing.
-fn is_in_order(plan: &Plan) -> bool {
-    plan.system().contexts().len() == 2
-        && plan.order() == [0, 1].as_slice()
-        && shares(plan, 1, &[0], Vars::empty())
-}
-
-#[test]
-fn plans_one_diagnosis(rt: HostRuntime) -> Result<(), Fail> {
-    let plan = plan_of(rt.alloc(), ONE_DIAGNOSIS)?;
-    assert!(rt; is_in_order(&plan));
-    assert!(rt; are_first(rt.alloc(), &plan, 2, &[Active::empty()])?);
-    Ok(())
-}
 
 /// What the second context is asked where the first may supply these.
 fn asked_of_second(

@@ -1,4 +1,4 @@
-//! Rows, pigeons and chains.
+//! Rows and pigeons.
 
 ghost use Rattle.std.specs.Prelude.{◌≤◌, ◌<◌, ◌≤ℤ◌, pos, length};
 
@@ -8,8 +8,6 @@ use std::alloc::Global;
 use std::test::Fail;
 
 const HOLES: u32 = 5;
-
-const LAST: u32 = 64;
 
 fn push(alloc: Global, cnf: &mut Cnf, lits: &[i64]) -> Result<(), Fail> {
     let clause = Clause::new(lits.to_vec(alloc)?).ok_or("no clause")?;
@@ -96,39 +94,6 @@ fn models_satisfy_the_clauses(rt: HostRuntime) -> Result<(), Fail> {
 fn the_empty_clause_is_refuted(rt: HostRuntime) -> Result<(), Fail> {
     let alloc = rt.alloc();
     let cnf = list(alloc, 1, &[&[1], &[]])?;
-    let refuted = is_refuted(alloc, &cnf);
-    drop(cnf);
-    assert!(rt; refuted?);
-    Ok(())
-}
-
-/// 1, each variable from 1 on implies the next, and not the last.
-fn implications(alloc: Global, last: bool) -> Result<Cnf, Fail> {
-    let mut cnf = Cnf::new(alloc, u64::from(LAST) + 1);
-    push(alloc, &mut cnf, &[1])?;
-    for number in 0..LAST {
-        let first = i64::from(number) + 1;
-        push(alloc, &mut cnf, &[-first, first + 1])?;
-    }
-    if last {
-        push(alloc, &mut cnf, &[-i64::from(LAST) - 1])?;
-    }
-    Ok(cnf)
-}
-
-fn model_of_chain(alloc: Global) -> Result<Vec<bool>, Fail> {
-    let cnf = implications(alloc, false)?;
-    let values = model(alloc, &cnf);
-    drop(cnf);
-    values
-}
-
-#[test]
-fn chains_are_followed(rt: HostRuntime) -> Result<(), Fail> {
-    let alloc = rt.alloc();
-    let values = model_of_chain(alloc)?;
-    assert!(rt; values.len() == 65 && values.iter().all(|value| *value));
-    let cnf = implications(alloc, true)?;
     let refuted = is_refuted(alloc, &cnf);
     drop(cnf);
     assert!(rt; refuted?);

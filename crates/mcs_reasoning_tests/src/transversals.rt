@@ -1,6 +1,6 @@
-//! Minimal transversals: worked rows, and lists against the plain definition.
+//! Minimal transversals.
 
-use mcs_base::{Marks, Memory, list_pairs};
+use mcs_base::{Marks, Memory};
 use mcs_transversal::{
     critical, first_critical_edges, minimal_transversals, minimality_is_critical,
 };
@@ -16,37 +16,6 @@ fn set_of(marks: &[u32]) -> Marks {
         }
     }
     set
-}
-
-/// The set of the marks below 6 whose bits are set in the number.
-fn subset(number: u32) -> Marks {
-    let mut set = Marks::empty();
-    for mark in 0..6 {
-        if (number >> mark) & 1 == 1 {
-            set = set.with(mark);
-        }
-    }
-    set
-}
-
-fn meets_each(edges: &[Marks], t: Marks) -> bool {
-    for edge in edges {
-        if !t.meets(*edge) {
-            return false;
-        }
-    }
-    true
-}
-
-/// Whether the set meets each edge, and no other set of marks below 6 within it does.
-fn is_minimal(edges: &[Marks], t: Marks) -> bool {
-    for number in 0..64 {
-        let other = subset(number);
-        if other != t && other.within(t) && meets_each(edges, other) {
-            return false;
-        }
-    }
-    meets_each(edges, t)
 }
 
 /// Whether these are the minimal transversals of the edges.
@@ -102,32 +71,5 @@ fn no_edges_and_an_empty_edge(rt: HostRuntime) -> Result<(), Fail> {
     let (none, pair) = (Marks::empty(), set_of(&[0, 2]));
     assert!(rt; are_degenerate(rt.alloc(), none, pair)?);
     assert!(rt; critical(&[], pair, 0) == None && critical(&[pair], pair, 0) == None);
-    Ok(())
-}
-
-/// The minimal transversals of the edges by the plain definition, in the order of pairs.
-fn expected(alloc: Global, edges: &[Marks]) -> Result<Vec<Marks>, Memory> {
-    let mut sets = Vec::new(alloc);
-    for number in 0..64 {
-        if is_minimal(edges, subset(number)) {
-            sets.push(subset(number))?;
-        }
-    }
-    list_pairs(&mut sets);
-    Ok(sets)
-}
-
-#[test]
-fn as_the_definition_says(rt: HostRuntime) -> Result<(), Fail> {
-    for numbers in [
-        [0b000011, 0b000110, 0b001100, 0b011000],
-        [0b000111, 0b111000, 0b010101, 0b101010],
-        [0b110000, 0b001110, 0b111111, 0b001000],
-        [0b011011, 0b101101, 0b110110, 0b000111],
-    ] {
-        let edges = numbers.map(|number| subset(number));
-        let sets = expected(rt.alloc(), &edges)?;
-        assert!(rt; are_minimal(rt.alloc(), &edges, &sets)?);
-    }
     Ok(())
 }

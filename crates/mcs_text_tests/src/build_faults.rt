@@ -2,8 +2,9 @@
 
 use crate::contents::THREE;
 use crate::copies::{bridges_of, contexts_of};
+use crate::limits::full_text;
 use mcs_language::read_system;
-use mcs_system::{Bridge, BuildFault, Context, Formula, Kb, Limit, Name, System};
+use mcs_system::{Bridge, BuildFault, Context, Formula, Kb, Limit, Name, Read, System};
 use std::alloc::Global;
 use std::test::Fail;
 
@@ -23,40 +24,42 @@ fn contexts_named(alloc: Global, names: &str, count: usize) -> Result<Vec<Contex
     Ok(contexts)
 }
 
-/// Adds a rule without reads that puts `true` into the context.
-fn push_rule(alloc: Global, rules: &mut Vec<Bridge>, text: &str, target: u32) -> Result<(), Fail> {
+/// The read of `true` in the context, if there is one.
+fn reads_of(alloc: Global, denied: Option<u32>) -> Result<Vec<Read>, Fail> {
+    let mut reads = Vec::new(alloc);
+    if let Some(context) = denied {
+        reads.push(Read {
+            context,
+            belief: Formula::True,
+        })?;
+    }
+    Ok(reads)
+}
+
+/// Adds a rule that puts the formula into the context, unless `true` is believed in the one that is denied.
+fn push_rule(
+    alloc: Global,
+    rules: &mut Vec<Bridge>,
+    text: &str,
+    (target, head): (u32, Formula),
+    denied: Option<u32>,
+) -> Result<(), Fail> {
+    let neg = reads_of(alloc, denied)?;
     let name = name(alloc, text)?;
     rules.push(Bridge {
         name,
         target,
-        head: Formula::True,
+        head,
         pos: Vec::new(alloc),
-        neg: Vec::new(alloc),
+        neg,
     })?;
     Ok(())
 }
 
-/// Rules of so many of the names, twelve into each context before the last one and all others into it.
-fn rules_named(alloc: Global, names: &str, count: usize, last: usize) -> Result<Vec<Bridge>, Fail> {
-    let mut rules = Vec::new(alloc);
-    for (number, text) in names.split(' ').take(count).enumerate() {
-        let target = (number / 12).min(last).min(64) as u32;
-        push_rule(alloc, &mut rules, text, target)?;
-    }
-    Ok(rules)
-}
-
-/// The fault of as many contexts and as many rules of these names.
-fn fault_of(
-    alloc: Global,
-    names: &str,
-    contexts: usize,
-    rules: usize,
-) -> Result<Option<BuildFault>, Fail> {
-    let last = contexts.saturating_sub(1);
-    let contexts = contexts_named(alloc, names, contexts)?;
-    let rules = rules_named(alloc, names, rules, last)?;
-    Ok(System::build(alloc, contexts, rules).err())
+/// The fault of so many contexts of these names, without rules.
+fn fault_of(alloc: Global, names: &str, count: usize) -> Result<Option<BuildFault>, Fail> {
+    let contexts = contexts_named(alloc, names, count)?;
+    Ok(System::build(alloc, contexts, Vec::new(alloc)).err())
 }
 
 /// The fault of this number, below 5.
@@ -69,69 +72,107 @@ fn fault(number: u8) -> BuildFault {
 
 #[test]
 fn finds_twins(rt: HostRuntime) -> Result<(), Fail> {
-    assert!(rt; fault_of(rt.alloc(), "b a ab", 3, 0)? == None);
-    assert!(rt; fault_of(rt.alloc(), "b a ab a", 4, 0)? == Some(fault(3)));
-    assert!(rt; fault_of(rt.alloc(), "", 0, 0)? == None);
+    assert!(rt; fault_of(rt.alloc(), "b a ab", 3)? == None);
+    assert!(rt; fault_of(rt.alloc(), "b a ab a", 4)? == Some(fault(3)));
+    assert!(rt; fault_of(rt.alloc(), "", 0)? == None);
+    // Of more contexts than there may be, too.
+    assert!(rt; fault_of(rt.alloc(), ONE_NAME, 65)? == Some(fault(3)));
     Ok(())
 }
 
-/// 66 names, each another one.
-const NAMES: &str =
-    "n0 n1 n2 n3 n4 n5 n6 n7 n8 n9 n10 n11 n12 n13 n14 n15 n16 n17 n18 n19 n20 n21 n22 n23 n24 n25 n26 n27 n28 n29 n30 n31 n32 n33 n34 n35 n36 n37 n38 n39 n40 n41 n42 n43 n44 n45 n46 n47 n48 n49 n50 n51 n52 n53 n54 n55 n56 n57 n58 n59 n60 n61 n62 n63 n64 n65";
+/// 65 names, all the same.
+const ONE_NAME: &str =
+    "a a a a a a a a a a a a a a a a a a a a a a a a a a a a a a a a a a a a a a a a a a a a a a a a a a a a a a a a a a a a a a a a a";
 
-/// Whether as many contexts and rules make a system, and as many others exceed the limit.
-fn keeps(
-    alloc: Global,
-    limit: Limit,
-    at: (usize, usize),
-    above: (usize, usize),
-) -> Result<bool, Fail> {
+/// Whether the contexts of the system exceed the limit with a rule that puts the formula into the first one.
+fn exceeds(alloc: Global, system: &System, limit: Limit, head: Formula) -> Result<bool, Fail> {
     let exceeded = BuildFault::Fault {
         number: 5,
         limit: Some(limit),
     };
-    Ok(
-        fault_of(alloc, NAMES, at.0, at.1)? == None
-            && fault_of(alloc, NAMES, above.0, above.1)? == Some(exceeded),
-    )
+    let mut rules = Vec::new(alloc);
+    push_rule(alloc, &mut rules, "r", (0, head), None)?;
+    let contexts = contexts_of(alloc, system)?;
+    Ok(System::build(alloc, contexts, rules).err() == Some(exceeded))
+}
+
+/// The denial of the last formula of the only context.
+fn denial_of_last(alloc: Global, system: &System) -> Result<Formula, Fail> {
+    let last = match system.contexts() {
+        [
+            Context {
+                kb: Kb::Classical(formulas),
+                ..
+            },
+        ] => formulas.last(),
+        _ => None,
+    };
+    let formula = last.ok_or("no formula")?.copy(alloc)?;
+    Ok(Formula::Not(Box::new(alloc, formula)?))
+}
+
+/// Whether 64 atoms are exceeded by the head of a rule with another one.
+fn keeps_limit_of_atoms(alloc: Global) -> Result<bool, Fail> {
+    let text = full_text(alloc, Limit::AtomsPerContext)?;
+    let system = read_system(alloc, text.bytes())?;
+    let other = Formula::Atom(name(alloc, "b")?);
+    exceeds(alloc, &system, Limit::AtomsPerContext, other)
+}
+
+/// Whether 512 signs and atoms are exceeded by the head of a rule with one negation more.
+fn keeps_limit_of_signs(alloc: Global) -> Result<bool, Fail> {
+    let text = full_text(alloc, Limit::FormulaSize)?;
+    let system = read_system(alloc, text.bytes())?;
+    let longer = denial_of_last(alloc, &system)?;
+    exceeds(alloc, &system, Limit::FormulaSize, longer)
 }
 
 #[test]
-fn keeps_limits(rt: HostRuntime) -> Result<(), Fail> {
-    assert!(rt; keeps(rt.alloc(), Limit::Contexts, (64, 0), (65, 0))?);
-    assert!(rt; keeps(rt.alloc(), Limit::Bridges, (6, 64), (6, 65))?);
-    assert!(rt; keeps(rt.alloc(), Limit::RulesPerContext, (1, 12), (1, 13))?);
+fn keeps_limits_of_heads(rt: HostRuntime) -> Result<(), Fail> {
+    assert!(rt; keeps_limit_of_atoms(rt.alloc())?);
+    assert!(rt; keeps_limit_of_signs(rt.alloc())?);
     Ok(())
 }
 
-/// The names and targets of rules that have the faults 4, 3 and 2 over `THREE`: what is no atom for a program,
-/// a name that is there, and a context that is not there.
-const FAULTY: [(&str, u32); 3] = [("r", 2), ("r0", 1), ("r9", 3)];
+/// The names, targets and denied contexts of rules that have the faults 4, 4, 3, 2 and 2 over `THREE`: what is no atom
+/// for a program as a head and as a read, a name that is there, and a context that is not there, told and read.
+const FAULTY: [(&str, u32, Option<u32>); 5] = [
+    ("r", 2, None),
+    ("s", 0, Some(2)),
+    ("r0", 1, None),
+    ("t", 3, None),
+    ("u", 0, Some(3)),
+];
 
-/// The rules of a system, and after them so many of `FAULTY`.
-fn rules_with(alloc: Global, system: &System, count: usize) -> Result<Vec<Bridge>, Fail> {
+/// The rules of a system, and after them those of `FAULTY` from the one place up to the other.
+fn rules_with(alloc: Global, system: &System, from: usize, to: usize) -> Result<Vec<Bridge>, Fail> {
     let mut rules = bridges_of(alloc, system)?;
-    for (text, target) in FAULTY.iter().take(count) {
-        push_rule(alloc, &mut rules, text, *target)?;
+    for (text, target, denied) in FAULTY.iter().take(to).skip(from) {
+        push_rule(alloc, &mut rules, text, (*target, Formula::True), *denied)?;
     }
     Ok(rules)
 }
 
-/// The fault of the contexts and rules of a system, and of so many of `FAULTY` after them.
-fn fault_with(alloc: Global, system: &System, count: usize) -> Result<Option<BuildFault>, Fail> {
-    let rules = rules_with(alloc, system, count)?;
+/// The fault of the contexts and rules of a system, and of those of `FAULTY` after them.
+fn fault_with(
+    alloc: Global,
+    system: &System,
+    from: usize,
+    to: usize,
+) -> Result<Option<BuildFault>, Fail> {
+    let rules = rules_with(alloc, system, from, to)?;
     let contexts = contexts_of(alloc, system)?;
     Ok(System::build(alloc, contexts, rules).err())
 }
 
 /// Whether the lowest fault is told of the contexts and rules of `THREE` with rules of `FAULTY`.
 fn is_lowest_told(alloc: Global, three: &System) -> Result<bool, Fail> {
-    for (count, number) in [(1, 4), (2, 3), (3, 2)] {
-        if fault_with(alloc, three, count)? != Some(fault(number)) {
+    for (from, to, number) in [(0, 1, 4), (1, 2, 4), (0, 3, 3), (0, 4, 2), (4, 5, 2)] {
+        if fault_with(alloc, three, from, to)? != Some(fault(number)) {
             return Ok(false);
         }
     }
-    Ok(fault_with(alloc, three, 0)? == None)
+    Ok(fault_with(alloc, three, 0, 0)? == None)
 }
 
 #[test]

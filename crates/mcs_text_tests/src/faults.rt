@@ -30,12 +30,13 @@ pub(crate) fn has_fault(
 
 /// Texts, the numbers of their faults, and their offsets: first where something is missing, too much, or begins no
 /// token, then of names.
-const FAULTS: [(&str, u8, usize); 19] = [
+const FAULTS: [(&str, u8, usize); 20] = [
     ("context", 1, 7),
     ("context context classical {}", 1, 8),
     ("context c logical {}", 1, 10),
     ("context c classical {} }", 1, 23),
     ("context c classical { p & | q. }", 1, 26),
+    ("context c classical { p ). }", 1, 24),
     ("context c classical { p : q / r. }", 1, 24),
     ("context c default { p : / r. }", 1, 24),
     ("context c program { a : b. }", 1, 22),

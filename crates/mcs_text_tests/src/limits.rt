@@ -138,6 +138,16 @@ const PARTS: [Parts; 9] = [
     },
 ];
 
+/// The first of the texts that keeps the limit.
+pub(crate) fn full_text(alloc: Global, limit: Limit) -> Result<Text, Memory> {
+    for parts in &PARTS {
+        if parts.limit == limit {
+            return parts.text(alloc, parts.most.saturating_add(1));
+        }
+    }
+    Ok(Text::new(alloc))
+}
+
 #[test]
 fn limits_of_parts_are_kept(rt: HostRuntime) -> Result<(), Fail> {
     for parts in &PARTS {

@@ -31,8 +31,8 @@ const CANONICAL: [(&str, &str); 6] = [
         "context c1 classical {\n  (a & b) -> c.\n}\n",
     ),
     (
-        "context c classical{a->b->c. (a|b)|c. ~(a<->b). ((true)).}",
-        "context c classical {\n  a -> (b -> c).\n  (a | b) | c.\n  ~(a <-> b).\n  true.\n}\n",
+        "context c classical{a->b->c. a<->b->c. (a|b)|c. ~(a<->b). ((true)).}",
+        "context c classical {\n  a -> (b -> c).\n  a <-> (b -> c).\n  (a | b) | c.\n  ~(a <-> b).\n  true.\n}\n",
     ),
     (
         "context d default{p:q,r&s/t.}",
