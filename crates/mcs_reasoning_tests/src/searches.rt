@@ -9,7 +9,7 @@ use std::test::Fail;
 
 const HOLES: u32 = 5;
 
-fn push(alloc: Global, cnf: &mut Cnf, lits: &[i64]) -> Result<(), Fail> {
+pub(crate) fn push(alloc: Global, cnf: &mut Cnf, lits: &[i64]) -> Result<(), Fail> {
     let clause = Clause::new(lits.to_vec(alloc)?).ok_or("no clause")?;
     if !cnf.can_push(&clause) {
         return Err(Fail::from("a variable too large"));
