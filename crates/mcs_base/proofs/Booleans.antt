@@ -110,3 +110,15 @@ if_none P (Some x) e h = cc
 pub if_some : {A : Type 0} (P : Type 0) (o : Option A) → is_some o ≡ true → IfNone o P
 if_some P None e = cc
 if_some P (Some x) e = tt
+
+-- ---- what is the same as what
+pub true_tells : {P : Type 0} → P → IsTrue true ↔ P
+true_tells p = (λ _. p, λ _. refl)
+
+pub iff_trans : {P Q R : Type 0} → P ↔ Q → Q ↔ R → P ↔ R
+iff_trans f g = (λ p. g.0 (f.0 p), λ r. f.1 (g.1 r))
+
+-- an option that is taken where a test holds
+pub cond_option : {A : Type 0} (b : Bool) (o : Option A) (x : A) → cond b o None ≡ Some x → (b ≡ true) × (o ≡ Some x)
+cond_option true o x e = (refl, e)
+cond_option false o x e = absurd (none-some x e)

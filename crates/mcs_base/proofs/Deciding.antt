@@ -4,12 +4,14 @@ use Rattle.std.specs.List.{AllByRecursion}
 use Rattle.std.proofs.lemmas.Bool.{and_parts, cases_eq, cases_lt}
 use Rattle.std.proofs.lemmas.Bool.Decides.{nat_tests}
 use Rattle.std.proofs.lemmas.Option.{slice_get_within}
-use Rattle.mcs_sets.specs.Sets.{has, such_that}
-use Rattle.mcs_sets.proofs.SetLemmas.{has-such_that, such_that-lt}
+use Rattle.mcs_sets.specs.Sets.{has, such_that, Within}
+use Rattle.mcs_sets.proofs.SetLemmas.{has-such_that, such_that-lt, Within-le}
 use Rattle.mcs_base.specs.Listings.{IsAmong}
 use Rattle.mcs_base.proofs.Among.{get_among}
-use Rattle.mcs_base.proofs.Booleans.{test_of, test_of-tells}
+use Rattle.mcs_base.proofs.Booleans.{test_of, test_of-tells, cases_all_below}
 use Rattle.mcs_base.proofs.Each.{all_from_among}
+use Rattle.mcs_sets.proofs.Lattice.{cases_within}
+use Rattle.mcs_base.specs.Minimal.{IsMinimal}
 
 -- ---- propositions
 pub cases_not : {P : Type 0} → P ⊎ (¬ P) → (¬ P) ⊎ (¬ (¬ P))
@@ -116,3 +118,21 @@ pub test_with_implied : (x y : Bool) → ((not (x && true) || (y || false)) && (
 test_with_implied true true h = (refl, refl)
 test_with_implied true false h = absurd (true≢false (sym h))
 test_with_implied false y h = absurd (true≢false (sym h))
+
+-- ---- where it is decided what holds, it is decided of which sets it holds minimally
+module _ (P : ℕ → Type 0) (decides : (s : ℕ) → P s ⊎ (¬ P s)) where
+  -- a smaller one within s
+  abbrev HasSmaller : ℕ → ℕ → Type 0
+  HasSmaller s t = P t × Within t s
+
+  pub cases_minimal : (s : ℕ) → IsMinimal P s ⊎ (¬ IsMinimal P s)
+  cases_minimal s = at (decides s) (cases_all_below (λ t. ¬ HasSmaller s t) s (λ t less. cases_not (cases_both (decides t) (cases_within t s))))
+    where
+      at : P s ⊎ (¬ P s) → ((t : ℕ) → t < s → ¬ HasSmaller s t) ⊎ (¬ ((t : ℕ) → t < s → ¬ HasSmaller s t)) → IsMinimal P s ⊎ (¬ IsMinimal P s)
+      at (inr not) h = inr (λ minimal. not minimal.one)
+      at (inl p) (inr some) = inr (λ minimal. some (λ t less h. let same = minimal.least t h.0 h.1 in omega arith))
+      at (inl p) (inl none) = inl (record { one = p; least = λ t q within. least t q within (cases_lt t s) })
+        where
+          least : (t : ℕ) → P t → Within t s → (t < s) ⊎ (s ≤ t) → t ≡ s
+          least t q within (inl less) = absurd (none t less (q, within))
+          least t q within (inr past) = omega (arith, Within-le t s within)

@@ -69,3 +69,6 @@ module _ {A : Type 0} where
 pub all_map : {A B : Type 0} (f : A → B) (P : A → Type 0) (Q : B → Type 0) → ((x : A) → P x → Q (f x)) → (xs : List A) → AllByRecursion P xs → AllByRecursion Q (map f xs)
 all_map f P Q each [] all = tt
 all_map f P Q each (x ∷ xs) all = (each x all.0, all_map f P Q each xs all.1)
+
+pub all_take : {A : Type 0} (P : A → Type 0) (k : ℕ) (xs : List A) → AllByRecursion P xs → AllByRecursion P (take k xs)
+all_take P k xs all = all_left P (take k xs) (drop k xs) (subst (AllByRecursion P) (sym (take-append-drop k xs)) all)

@@ -14,13 +14,15 @@ use Rattle.std.specs.List.Sorted.{IsPermutation, IsSorted, IsStrictlySortedBy}
 use Rattle.std.specs.Ordering.{MatchOrdering, nat_cmp, eq_by_cmp}
 use Rattle.mcs_sets.specs.Sets.{has, members, members_from}
 use Rattle.mcs_sets.specs.Orders.{StateBefore, PairBefore}
-use Rattle.mcs_sets.proofs.SetLemmas.{members_from-each, members-contains, members_below}
+use Rattle.mcs_sets.proofs.SetLemmas.{members_from-each, members-contains, members_below, PairBefore-asymmetric}
 use Rattle.mcs_base.specs.StateOrder.{state_cmp, state_cmp_total, less_is, equal_is, StateBefore-transitive, StateBefore-total}
 use Rattle.mcs_base.specs.PairOrder.{pair_cmp, pair_cmp_total, pair_less_is, pair_equal_is, PairBefore-transitive, PairBefore-total}
 use Rattle.mcs_base.specs.Listings.{IsAscending, IsAmong, IsListing}
 use Rattle.mcs_base.specs.Minimal.{IsMinimal}
-use Rattle.mcs_base.proofs.Among.{among_left, among_right, among_either, among_filter, filter_among, among_map, map_among as from_map, among_take_more}
+use Rattle.mcs_base.proofs.Among.{among_left, among_right, among_either, among_filter, filter_among, among_map, map_among as from_map, among_take_more, among_at}
 use Rattle.mcs_base.proofs.Ascending.{ascending_append, ascending_filter, ascending_map, before_at}
+use Rattle.std.proofs.lemmas.List.{get_or-take, length-take}
+use Rattle.mcs_base.proofs.Booleans.{test_of, test_of-tells}
 pub use Rattle.mcs_base.proofs.Among.{among_from_contains, contains_from_among, among_map as map_among}
 pub use Rattle.mcs_base.proofs.Each.{all_among, all_from_among}
 
@@ -275,3 +277,22 @@ members_listing s = record {
 
 pub members_all_below : (s n : ℕ) → s < 2 ^ n → AllByRecursion (λ k. k < n) (members s)
 members_all_below s n small = all_from_among (λ k. k < n) (members s) (λ k among. members_below s n k small (((members_listing s).exactly k).0 among))
+
+-- what ascends puts the earlier place before the later one
+pub ascending_at : (before : ℕ → ℕ → Type 0) (xs : List ℕ) (i j d : ℕ) → i < j → j < length xs → IsAscending before xs → before (get_or xs i d) (get_or xs j d)
+ascending_at before xs i j d less bound up =
+    before_at before xs j d bound up (get_or xs i d) (subst (λ v. IsAmong v (take j xs)) (get_or-take j xs i d less) (among_at (take j xs) i d (omega (arith, length-take j xs))))
+
+-- a listing of what holds of one value alone
+pub listed_alone : (P : ℕ → Type 0) (x : ℕ) (xs : List ℕ) → ((y : ℕ) → P y ↔ (y ≡ x)) → IsListing P PairBefore xs → xs ≡ x ∷ []
+listed_alone P x xs only l = same_listing PairBefore PairBefore-asymmetric P xs (x ∷ []) l (record {
+  exactly = λ y. (λ among. elim among [ inl e ↦ (only y).1 e | inr none ↦ absurd none ], λ p. inl ((only y).0 p));
+  ascending = (tt, tt);
+})
+
+-- what is decided, and holds of sets of numbers below n alone, has a listing
+pub decided_listed : (P : ℕ → Type 0) (n : ℕ) → ((s : ℕ) → P s ⊎ (¬ P s)) → ((s : ℕ) → P s → s < 2 ^ n) → (xs : List ℕ) × IsListing P PairBefore xs
+decided_listed P n decides small = let (xs, listing) = pairs_of_test n (λ s. test_of (decides s)) in (
+  xs,
+  IsListing-same PairBefore _ P xs (λ s. (λ h. (test_of-tells (decides s)).0 h.1, λ p. (small s p, (test_of-tells (decides s)).1 p))) listing,
+)

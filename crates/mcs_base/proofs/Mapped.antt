@@ -1,9 +1,11 @@
 -- The images of a list, by what is read at an index.
-use Rattle.std.proofs.Common.{◌≡◌, ℕ, ◌+◌, ◌<◌, List, [], ◌∷◌, ◌++◌, map, length, drop, get_or, slice_get, Some, sym, ap, ◌∙◌, subst}
-use Rattle.std.proofs.lemmas.List.{drop_more, map_push}
-use Rattle.std.specs.List.{AllByRecursion}
+use Rattle.std.proofs.Common.{◌≡◌, ℕ, ◌+◌, ◌<◌, List, [], ◌∷◌, ◌++◌, map, length, drop, get_or, slice_get, Some, sym, ap, ◌∙◌, subst, Bool, true, false, IsTrue, ◌-◌, ◌≤◌, ◌==◌, ◌↔◌, zero, suc, take, refl, append_assoc, add-one, arith, true≢false}
+use Rattle.std.proofs.lemmas.List.{drop_more, map_push, map_more, append-nil}
+use Rattle.std.specs.List.{AllByRecursion, flat_map, range_with_len}
 use Rattle.mcs_base.proofs.Each.{all_get}
 use Rattle.mcs_base.proofs.Lists.{slice_get-map_at}
+use Rattle.std.proofs.lemmas.Bool.Decides.{nat_tests}
+use Rattle.std.proofs.lemmas.List.FromFn.{map-range_with_len_more}
 
 module _ {A B : Type 0} where
   pub all_from_map : (P : B → Type 0) (f : A → B) (xs : List A) → AllByRecursion P (map f xs) → AllByRecursion (λ x. P (f x)) xs
@@ -30,3 +32,37 @@ module _ {A B : Type 0} where
 
 pub all_drop_parts : {A : Type 0} (P : A → Type 0) (xs : List A) (i : ℕ) (x : A) → i < length xs → x ≡ get_or xs i x → AllByRecursion P (drop i xs) → P x × AllByRecursion P (drop (i + 1) xs)
 all_drop_parts P xs i x less is all = subst (AllByRecursion P) (drop_more xs i x less ∙ ap (λ y. y ∷ drop (i + 1) xs) (sym is)) all
+
+-- the images up to an index, and that of the item there
+pub map-take_read : {A B : Type 0} (f : A → B) (xs : List A) (i : ℕ) (x : A) → i < length xs → x ≡ get_or xs i x → map f (take (i + 1) xs) ≡ map f (take i xs) ++ f x ∷ []
+map-take_read f xs i x less is = map_more f xs i x less ∙ ap (λ y. map f (take i xs) ++ f y ∷ []) (sym is)
+
+-- what has no images is empty
+pub no_images : {A B : Type 0} (f : A → B) (xs : List A) (b : Bool) → b ≡ (length xs == 0) → IsTrue b ↔ (map f xs ≡ [])
+no_images f [] b e = (λ _. refl, λ _. e)
+no_images f (x ∷ xs) b e = (
+  λ holds. (let no : (length (x ∷ xs) == 0) ≡ false = grind (arith, nat_tests) in absurd (true≢false (sym holds ∙ e ∙ no))),
+  λ none. absurd (let impossible : f x ∷ map f xs ≡ [] = none in cc),
+)
+
+-- the images of a list that are those of the numbers from 0 on, with one more
+pub map-range_grows : {A B : Type 0} (f : A → B) (g : ℕ → B) (xs ys : List A) (x : A) (j : ℕ) → ys ≡ xs ++ x ∷ [] → f x ≡ g j → map f xs ≡ map g (range_with_len 0 j) → map f ys ≡ map g (range_with_len 0 (j + 1))
+map-range_grows f g xs ys x j grown same is =
+    map_push_as f xs ys x grown ∙ ap (λ zs. zs ++ f x ∷ []) is ∙ ap (λ y. map g (range_with_len 0 j) ++ y ∷ []) same ∙ sym (map-range_with_len_more g 0 j j (omega arith))
+
+-- the same from 2 on, after a start
+pub map-range_grows_from_2 : {A B : Type 0} (f : A → B) (g : ℕ → B) (start : List B) (xs ys : List A) (x : A) (j : ℕ) → 2 ≤ j → ys ≡ xs ++ x ∷ [] → f x ≡ g j → map f xs ≡ start ++ map g (range_with_len 2 (j - 2))
+    → map f ys ≡ start ++ map g (range_with_len 2 (j + 1 - 2))
+map-range_grows_from_2 f g start xs ys x j low grown same is =
+    let next : j - 2 + 1 ≡ j + 1 - 2 = omega arith in
+    let here : 2 + (j - 2) ≡ j = omega arith in
+    map_push_as f xs ys x grown ∙ ap (λ zs. zs ++ f x ∷ []) is ∙ append_assoc start (map g (range_with_len 2 (j - 2))) (f x ∷ [])
+    ∙ ap (λ zs. start ++ zs) (ap (λ y. map g (range_with_len 2 (j - 2)) ++ y ∷ []) same ∙ sym (map-range_with_len_more g 2 (j - 2) j here) ∙ ap (λ k. map g (range_with_len 2 k)) next)
+
+-- what the numbers of a range give, with one more
+pub flat_map-range_more : {A : Type 0} (f : ℕ → List A) (a n j : ℕ) → a + n ≡ j → flat_map f (range_with_len a (n + 1)) ≡ flat_map f (range_with_len a n) ++ f j
+flat_map-range_more f a n j e = rw add-one (grown a n e)
+  where
+    grown : (a n : ℕ) → a + n ≡ j → flat_map f (range_with_len a (suc n)) ≡ flat_map f (range_with_len a n) ++ f j
+    grown a zero e = let same : a ≡ j = omega arith in append-nil (f a) ∙ ap f same
+    grown a (suc n) e = ap (λ xs. f a ++ xs) (grown (a + 1) n (omega arith)) ∙ sym (append_assoc (f a) (flat_map f (range_with_len (a + 1) n)) (f j))

@@ -1,8 +1,10 @@
 -- What a number's being zero chooses, counts that fall, and integers of one size.
-use Rattle.std.proofs.Common.{◌≡◌, ◌≢◌, ℕ, ◌+◌, ◌-◌, ◌*◌, ◌<◌, zero, suc, cond, nat_eq, refl, ap, subst, sym, inl, inr, ◌⊎◌, arith, ℤ, pos, negsuc, neg_ℤ, unsigned_abs}
+use Rattle.std.proofs.Common.{◌≡◌, ◌≢◌, ℕ, ◌+◌, ◌-◌, ◌*◌, ◌<◌, zero, suc, cond, nat_eq, refl, ap, subst, sym, inl, inr, ◌⊎◌, arith, ℤ, pos, negsuc, neg_ℤ, unsigned_abs, ◌≤◌, ◌^◌}
 use Rattle.std.proofs.lemmas.Bool.{cond-false}
 use Rattle.std.proofs.Math.Dec.{eqb-suc-zero}
 use Rattle.mcs_base.proofs.Numbers.{cases_eq_ℤ}
+use Rattle.std.proofs.lemmas.Nat.{pow_pos}
+use Rattle.std.proofs.Math.Pow.{pow_mono}
 
 pub cases_zero : (n : ℕ) → (n ≡ 0) ⊎ (0 < n)
 cases_zero zero = inl refl
@@ -33,3 +35,11 @@ same_unsigned_abs a b e = elim (cases_eq_ℤ a b) [ inl same ↦ inl same | inr 
     turned (negsuc m) (pos zero) e other = absurd (omega arith)
     turned (negsuc m) (pos (suc n)) e other = ap negsuc (omega arith)
     turned (negsuc m) (negsuc n) e other = absurd (other (ap negsuc (omega arith)))
+
+-- the greatest number below a power of 2
+pub power_less_one : (n : ℕ) → 2 ^ n - 1 + 1 ≡ 2 ^ n
+power_less_one n = let some : 0 < 2 ^ n = pow_pos n in omega arith
+
+-- a power of 2 up to 2 ^ 10
+pub power_up_to_ten : (n : ℕ) → n ≤ 10 → 2 ^ n ≤ 1024
+power_up_to_ten n few = pow_mono few

@@ -1,8 +1,10 @@
 -- Lists of which parts are read, written back, set or inserted, beyond std's lemmas.
-use Rattle.std.proofs.Common.{◌≡◌, ℕ, ◌+◌, ◌<◌, zero, suc, Bool, ◌&&◌, List, [], ◌∷◌, ◌++◌, map, length, take, drop, get_or, slice_get, slice_set, Some, refl, sym, ap, ◌∙◌, inl, inr, ◌⊎◌, arith}
+use Rattle.std.proofs.Common.{◌≡◌, ℕ, ◌+◌, ◌<◌, zero, suc, Bool, ◌&&◌, List, [], ◌∷◌, ◌++◌, map, length, take, drop, get_or, slice_get, slice_set, Some, refl, sym, ap, ◌∙◌, inl, inr, ◌⊎◌, arith, ◌-◌, ◌≤◌}
 use Rattle.std.proofs.lemmas.List.{append-nil, append_assoc, drop_all, take_all, take_more}
 use Rattle.std.proofs.lemmas.List.Sums.{sum_by-cons}
 use Rattle.std.specs.List.{list_all, sum_by}
+use Rattle.std.proofs.Math.Seq.{take-add}
+use Rattle.std.proofs.lemmas.Option.{slice_get_within, get_or_from_slice_get}
 
 module _ {A : Type 0} where
   -- ---- parts
@@ -70,3 +72,17 @@ append_seven t a b c d e f g = simp append_assoc
 
 pub append_nine : {A : Type 0} (t a b c d e f g h i : List A) → ((((((((t ++ a) ++ b) ++ c) ++ d) ++ e) ++ f) ++ g) ++ h) ++ i ≡ t ++ (a ++ (b ++ (c ++ (d ++ (e ++ (f ++ (g ++ (h ++ i))))))))
 append_nine t a b c d e f g h i = simp append_assoc
+
+-- the first items, with the next one
+pub take_next : {A : Type 0} (xs : List A) (i : ℕ) (x : A) → slice_get xs i ≡ Some x → take (i + 1) xs ≡ take i xs ++ x ∷ []
+take_next xs i x at = take_more xs i x (slice_get_within xs i x at) ∙ ap (λ y. take i xs ++ y ∷ []) (get_or_from_slice_get xs i x x at)
+
+-- fewer of the first items are a front of more of them
+pub take_front : {A : Type 0} (j k : ℕ) (xs : List A) → j ≤ k → (rest : List A) × (take k xs ≡ take j xs ++ rest)
+take_front j k xs fewer = (
+  take (k - j) (drop j xs),
+  ap (λ n. take n xs) (let e : k ≡ j + (k - j) = omega arith in e) ∙ take-add j (k - j) xs,
+)
+
+pub append_in_middle : {A : Type 0} (a b c d : List A) → (a ++ b) ++ (c ++ d) ≡ a ++ ((b ++ c) ++ d)
+append_in_middle a b c d = append_assoc a b (c ++ d) ∙ ap (λ t. a ++ t) (sym (append_assoc b c d))

@@ -1,6 +1,9 @@
 -- Lists that go together place by place.
-use Rattle.std.proofs.Common.{◌≡◌, ℕ, ◌<◌, zero, suc, List, [], ◌∷◌, ◌++◌, length, get_or, Some, slice_get, refl, subst, arith}
+use Rattle.std.proofs.Common.{◌≡◌, ℕ, ◌<◌, zero, suc, List, [], ◌∷◌, ◌++◌, length, get_or, Some, slice_get, refl, subst, arith, ◌+◌, map, take, sym, ◌∙◌}
 use Rattle.std.specs.List.{AllZip}
+use Rattle.std.proofs.lemmas.List.{length-map}
+use Rattle.mcs_base.proofs.Lists.{length_zip, zip_push}
+use Rattle.mcs_base.proofs.Mapped.{map-take_read}
 
 module _ {A B : Type 0} (R : A → B → Type 0) where
   -- what stands at a place of the first goes with what stands there in the second
@@ -35,3 +38,13 @@ module _ {A B : Type 0} (R : A → B → Type 0) where
   zip_weaker S weaker [] (y ∷ ys) h = absurd h
   zip_weaker S weaker (x ∷ xs) [] h = absurd h
   zip_weaker S weaker (x ∷ xs) (y ∷ ys) h = (weaker x y h.0, zip_weaker S weaker xs ys h.1)
+
+-- lists of two lengths do not go together
+pub zip_short : {A B C D : Type 0} (R : C → D → Type 0) (f : A → C) (g : B → D) (xs : List A) (ys : List B) → ¬ (length xs ≡ length ys) → ¬ AllZip R (map f xs) (map g ys)
+zip_short R f g xs ys differ all = differ (sym (length-map xs f) ∙ length_zip R (map f xs) (map g ys) all ∙ length-map ys g)
+
+-- one item more on both sides
+pub zip_take_read : {A B C : Type 0} (R : B → C → Type 0) (f : A → B) (xs : List A) (i : ℕ) (x : A) (ys ys' : List C) (y : C) → i < length xs → x ≡ get_or xs i x → ys' ≡ ys ++ y ∷ []
+    → AllZip R (map f (take i xs)) ys → R (f x) y → AllZip R (map f (take (i + 1) xs)) ys'
+zip_take_read {A} {B} {C} R f xs i x ys ys' y less is pushed all one =
+    subst (λ (zs : List B). AllZip R zs ys') (sym (map-take_read f xs i x less is)) (subst (AllZip R (map f (take i xs) ++ f x ∷ [])) (sym pushed) (zip_push R (map f (take i xs)) ys (f x) y all one))

@@ -1,10 +1,10 @@
 -- The lattice of finite sets: what is in unions, common parts and differences, what lies within what, and how many members there are.
-use Rattle.std.proofs.Common.{◌≡◌, ℕ, ◌+◌, ◌^◌, ◌<◌, ◌≤◌, Bool, true, false, cond, not, ◌&&◌, eqb, sym, ap, ◌∙◌, inl, inr, ◌⊎◌, ◌↔◌, arith, bit_xor, length, ◌∷◌}
-use Rattle.std.proofs.lemmas.Bool.{cases_Bool, false_from_ne_true}
+use Rattle.std.proofs.Common.{◌≡◌, ℕ, ◌+◌, ◌^◌, ◌<◌, ◌≤◌, Bool, true, false, cond, not, ◌&&◌, eqb, sym, ap, ◌∙◌, inl, inr, ◌⊎◌, ◌↔◌, arith, bit_xor, length, ◌∷◌, ltb, refl, true≢false}
+use Rattle.std.proofs.lemmas.Bool.{cases_Bool, false_from_ne_true, cases_eq}
 use Rattle.std.proofs.lemmas.Bool.Decides.{nat_tests}
 use Rattle.mcs_sets.specs.Sets.{has, single, union, common, minus, such_that, members, Within, Meets, size}
 use Rattle.mcs_sets.specs.Orders.{PairBefore}
-use Rattle.mcs_sets.proofs.SetLemmas.{same_set, has-empty, has-single, has-union, has-common, has-minus, has-differ, members-least, members-empty, below_power, single-lt, union-lt, such_that-lt, minus-le, Within-le, size-le, size-union, within_where_common, common_where_within, state_before_where_lex, size-count, count_all, has-such_that}
+use Rattle.mcs_sets.proofs.SetLemmas.{same_set, has-empty, has-single, has-union, has-common, has-minus, has-differ, members-least, members-empty, below_power, single-lt, union-lt, such_that-lt, minus-le, Within-le, size-le, size-union, within_where_common, common_where_within, state_before_where_lex, size-count, count_all, has-such_that, such_that-more, meets_or_not}
 
 -- ---- equations
 pub union-none : (a : ℕ) → union a 0 ≡ a
@@ -178,3 +178,44 @@ not_within_before a b (inl less) within = omega (arith, size_within b a within)
 not_within_before a b (inr (same, lex)) within =
     let before = state_before_where_lex a b (a + b) (omega (arith, below_power (a + b))) (omega (arith, below_power (a + b))) same lex in
     omega (arith, size-less a b before.at within before.in_first before.not_in_second)
+
+-- ---- members, and their lack
+pub no_member_of_none : (s : ℕ) → s ≡ 0 → (k : ℕ) → has s k ≡ true → ⊥
+no_member_of_none s none k member = true≢false (sym member ∙ ap (λ (t : ℕ). has t k) none ∙ has-empty k)
+
+pub only_member : (s i : ℕ) → s ≡ single i → (k : ℕ) → has s k ≡ true → k ≡ i
+only_member s i is k member = elim ((in_with 0 i k).0 (ap (λ (t : ℕ). has t k) (none-union (single i) ∙ sym is) ∙ member)) [
+  | inl none ↦ absurd (true≢false (sym none ∙ has-empty k))
+  | inr same ↦ same
+]
+
+-- what is not in the larger set is not in the smaller one
+pub outside_larger : (a b k : ℕ) → Within a b → has b k ≡ false → has a k ≡ false
+outside_larger a b k within out = false_from_ne_true (has a k) (λ member. true≢false (sym (within k member) ∙ out))
+
+pub within_without : (a b k : ℕ) → Within a b → has a k ≡ false → Within a (minus b (single k))
+within_without a b k within out j member = elim (cases_eq j k) [
+  | inl same ↦ absurd (true≢false (sym member ∙ ap (has a) same ∙ out))
+  | inr differ ↦ has-without_other b k j (within j member) (let e : eqb j k ≡ false = grind (arith, nat_tests) in e)
+]
+
+-- of a set of which nothing is missing in its part, that part is all
+pub nothing_missing : (part all : ℕ) → Within part all → minus all part ≡ 0 → part ≡ all
+nothing_missing part all within none = within_antisymmetric part all within (λ k member. elim (cases_Bool (has part k)) [
+  | inl inside ↦ inside
+  | inr out ↦ absurd (no_member_of_none (minus all part) none k (has-minus all part k ∙ rw (member, out) refl))
+])
+
+pub below_from_members : (n s : ℕ) → ((k : ℕ) → has s k ≡ true → k < n) → s < 2 ^ n
+below_from_members n s low = below_from_within s n (λ k member. (let less : k < n = low k member in let is : ltb k n ≡ true = grind (arith, nat_tests) in has-such_that n (λ _. true) k ∙ ap (λ (b : Bool). b && true) is))
+
+-- the numbers that pass a test, one by one
+pub such_that_next : (p : ℕ → Bool) (i s s' : ℕ) (b : Bool) → p i ≡ b → s ≡ such_that i p → s' ≡ cond b (union s (single i)) s → s' ≡ such_that (i + 1) p
+such_that_next p i s s' b at is done =
+    done ∙ ap (λ (t : ℕ). cond b (union t (single i)) t) is ∙ ap (λ (c : Bool). cond c (union (such_that i p) (single i)) (such_that i p)) (sym at) ∙ sym (such_that-more i p)
+
+pub cases_meet : (a b : ℕ) → Meets a b ⊎ (¬ Meets a b)
+cases_meet a b = elim (meets_or_not a b a (below_power a)) [
+  | inl meets ↦ inl meets
+  | inr none ↦ inr (λ meets. true≢false (sym meets.in_second ∙ none meets.member meets.in_first))
+]
