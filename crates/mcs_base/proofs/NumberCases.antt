@@ -43,3 +43,7 @@ power_less_one n = let some : 0 < 2 ^ n = pow_pos n in omega arith
 -- a power of 2 up to 2 ^ 10
 pub power_up_to_ten : (n : ℕ) → n ≤ 10 → 2 ^ n ≤ 1024
 power_up_to_ten n few = pow_mono few
+
+-- what is not below is at least
+pub not_less : (a b : ℕ) → ¬ (a < b) → b ≤ a
+not_less a b not = omega (arith, not)

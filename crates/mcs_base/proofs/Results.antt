@@ -1,6 +1,7 @@
 -- Results and options, beyond std's lemmas.
 use Rattle.std.proofs.Common.{◌≡◌, ◌↔◌, Option, Some, None, Result, Ok, Err, IfOk, refl, sym, subst}
 use Rattle.std.proofs.lemmas.Option.{none-some}
+use Rattle.std.specs.Result.{IfErr, IsErrAnd}
 
 pub IfOk-both : {T E : Type 0} (P Q R : T → Type 0) → ((x : T) → P x → Q x → R x) → (r : Result T E) → IfOk r P → IfOk r Q → IfOk r R
 IfOk-both P Q R f (Ok x) p q = f x p q
@@ -19,3 +20,8 @@ none_is_never never x = (λ h. absurd (never x h), λ e. absurd (none-some x e))
 pub none_where_never : {A : Type 0} (o : Option A) → ((x : A) → ¬ (o ≡ Some x)) → o ≡ None
 none_where_never None never = refl
 none_where_never (Some x) never = absurd (never x refl)
+
+-- what holds of an error holds of the result that tells it
+pub err_told : {T E : Type 0} (P : E → Type 0) (e : E) (r : Result T E) → IsErrAnd r (λ f. f ≡ e) → P e → IfErr r P
+err_told P e (Ok x) is h = absurd is
+err_told P e (Err f) is h = subst P (sym is) h

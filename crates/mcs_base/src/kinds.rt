@@ -44,6 +44,15 @@ impl Set<Variable> {
     }
 }
 
+impl Set<Rule> {
+    /// The set whose number this is, so that every set of numbers below `n` is one of the first `2^n`.
+    pub fn numbered(number: u64) -> Self
+        ensures { result ≡ number }
+    {
+        Set::of(SmallSet::numbered(number))
+    }
+}
+
 impl Kind for Variable {
     ghost use Rattle.std.proofs.Common.{arith};
     ghost use Rattle.mcs_base.specs.StateOrder.{state_cmp, state_cmp_total, state_tie};

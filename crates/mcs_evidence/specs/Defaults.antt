@@ -162,9 +162,13 @@ ShowsView names items beliefs set (Fails absence) places = ⊥
 ShowsView names items beliefs set (Applied number pre justs) places = ⊥
 ShowsView names items beliefs set (Ungrounded closed pres) places = ⊥
 
+-- there is one for each set of defaults
+abbrev pub HasOneForEach : List Item → List Verdict → Type 0
+HasOneForEach items verdicts = length verdicts ≡ 2 ^ length (defaults_of items)
+
 -- a certificate of a default theory: an accepted verdict on each set of defaults, and the views that are put out are exactly those of the extensions
 pub record IsAcceptedDefault (names : List Name) (items : List Item) (beliefs : List Formula) (outputs : List ℕ) (verdicts : List Verdict) : Type 0 where
-  pub one_each : length verdicts ≡ 2 ^ length (defaults_of items)
+  pub one_each : HasOneForEach items verdicts
   pub accepted : (set : ℕ) (v : Verdict) → slice_get verdicts set ≡ Some v → IsAcceptedVerdict names items beliefs set v
   pub ascending : IsAscending StateBefore outputs
   pub listed : (places : ℕ) → IsAmong places outputs ↔ ((set : ℕ) × (v : Verdict) × (slice_get verdicts set ≡ Some v) × ShowsView names items beliefs set v places)

@@ -1,7 +1,7 @@
 -- A generated system has none of the faults.
 use Rattle.std.proofs.Common.{◌≡◌, ℕ, ◌+◌, ◌*◌, ◌-◌, ◌<◌, ◌≤◌, zero, suc, Bool, true, false, not, ◌&&◌, ◌||◌, nat_eq, nat_lt, ltb, cond, List, [], ◌∷◌, ◌++◌, map, filter, length, count_by, Option, Some, None, slice_get, refl, sym, ap, ap₂, ◌∙◌, subst, inl, inr, ◌⊎◌, arith, true≢false, codes}
 use Rattle.std.proofs.lemmas.Bool.Decides.{nat_tests}
-use Rattle.std.proofs.lemmas.Bool.{and_parts}
+use Rattle.std.proofs.lemmas.Bool.{and_parts, le-ltb}
 use Rattle.std.proofs.lemmas.List.{length-append}
 use Rattle.std.proofs.lemmas.List.FromFn.{length-range_with_len, length-map-range_with_len}
 use Rattle.std.proofs.lemmas.List.Sums.{length-filter}
@@ -31,10 +31,7 @@ use Rattle.mcs_generator.specs.Laws.{GeneratedSystemsAreValid}
 use Rattle.mcs_generator.proofs.General.{range_apart, apart_from_images, alike_few, firsts_from, firsts_apart, no_twins}
 use Rattle.mcs_generator.proofs.NameLemmas.{context_names_differ, reached_names_differ, missed_names_differ, reached_is_not_missed}
 use Rattle.mcs_generator.proofs.PartLemmas.{contexts_counted, each_context, each_kb, each_formula, each_item, each_program_rule, each_rule, context_read_is, variable_is}
-
-and_false : (b : Bool) → (b && false) ≡ false
-and_false true = refl
-and_false false = refl
+use Rattle.std.proofs.Math.Bool.{and-false}
 
 -- ---- a context number is in range
 module _ (n : ℕ) where
@@ -110,22 +107,16 @@ module _ (n : ℕ) where
   justified = each_context n (λ c. has_unjustified c.kb ≡ false) (λ i less. each_kb n (λ kb. has_unjustified kb ≡ false) i refl refl
       (any_none is_unjustified (theory_items n) (each_item n (λ t. is_unjustified t ≡ false) refl (λ j low high. refl))))
 
-  atoms_alone : (u v : Bool) → ((u && false) || ((v && false) || false)) ≡ false
-  atoms_alone u v = rw (and_false u, and_false v) refl
-
   all_fitting : has_misfits (generated_system n) ≡ false
   all_fitting =
       let a = any_none (λ (c : Context). has_unjustified c.kb) (generated_contexts n) justified in
       let b = any_none (has_misfit (generated_contexts n)) (generated_bridges n)
       (each_rule n (λ b. has_misfit (generated_contexts n) b ≡ false)
-      (λ i low high. atoms_alone (is_program (slice_get (generated_contexts n) i)) (is_program (slice_get (generated_contexts n) (i - 1))))
-      (λ i low high. atoms_alone (is_program (slice_get (generated_contexts n) i)) (is_program (slice_get (generated_contexts n) (i - 1))))) in
+      (λ i low high. rw (and-false (is_program (slice_get (generated_contexts n) i)), and-false (is_program (slice_get (generated_contexts n) (i - 1)))) refl)
+      (λ i low high. rw (and-false (is_program (slice_get (generated_contexts n) i)), and-false (is_program (slice_get (generated_contexts n) (i - 1)))) refl)) in
       rw (a, b) refl
 
 -- ---- the limits are kept
-below : (most k : ℕ) → k ≤ most → nat_lt most k ≡ false
-below most k less = grind (arith, nat_tests)
-
 two_each : (n : ℕ) (ks : List ℕ) → length (flat_map (rules_to n) ks) ≡ 2 * length ks
 two_each n [] = refl
 two_each n (k ∷ ks) = let rest = two_each n ks in omega arith
@@ -140,14 +131,14 @@ one_default n = sym (length-filter is_default (theory_items n)) ∙ ap (λ (ts :
 module _ (n : ℕ) where
   few_contexts : exceeds (generated_system n) limits.Contexts ≡ false
   unfolding exceeds
-  few_contexts = let counted = contexts_counted n in below 64 _ (omega arith)
+  few_contexts = let counted = contexts_counted n in le-ltb 64 _ (omega arith)
 
   few_bridges : exceeds (generated_system n) limits.Bridges ≡ false
   unfolding exceeds
   few_bridges =
       let counted = two_each n (range_with_len 1 (context_count n - 1)) in
       let length_is = length-range_with_len 1 (context_count n - 1) in
-      below 64 _ (omega arith)
+      le-ltb 64 _ (omega arith)
 
   -- the rules into a context are the two that are made for it
   own_rules : (i : ℕ) → count_by (λ (b : Bridge). nat_eq b.target i) (generated_bridges n) ≤ 2
@@ -164,7 +155,7 @@ module _ (n : ℕ) where
 
   few_rules : exceeds (generated_system n) limits.RulesPerContext ≡ false
   unfolding exceeds
-  few_rules = any_none _ (range_with_len 0 (length (generated_contexts n))) (λ i here. let few = own_rules i in below 12 _ (omega arith))
+  few_rules = any_none _ (range_with_len 0 (length (generated_contexts n))) (λ i here. let few = own_rules i in le-ltb 12 _ (omega arith))
 
   -- each variable is the end of the chain of a context but the last
   few_variables : exceeds (generated_system n) limits.Variables ≡ false
@@ -174,7 +165,7 @@ module _ (n : ℕ) where
       (distinct_from_places (variables (generated_system n)) (λ j k r. one_number (generated_system n) j k r))
       (λ r here. let (i, low, high, is) = variable_is n r here in subst (λ q. IsAmong q (map (chain_end n) (range_with_len 1 (context_count n - 1)))) (sym is) (among_map (chain_end n) i (range_with_len 1 (context_count n - 1)) (among_range i 1 (context_count n - 1) low (omega arith)))) in
       let counted = length-map-range_with_len (chain_end n) 1 (context_count n - 1) in
-      below 64 _ (omega arith)
+      le-ltb 64 _ (omega arith)
 
   -- rules into a context read one variable
   read_into : (i : ℕ) (o : Option Read) → is_read_into (generated_system n) i o ≡ true → o ≡ Some (chain_end n i)
@@ -206,7 +197,7 @@ module _ (n : ℕ) where
 
   few_inputs : exceeds (generated_system n) limits.InputsPerContext ≡ false
   unfolding exceeds
-  few_inputs = any_none _ (range_with_len 0 (length (generated_contexts n))) (λ i here. let few = one_input i in below 16 _ (omega arith))
+  few_inputs = any_none _ (range_with_len 0 (length (generated_contexts n))) (λ i here. let few = one_input i in le-ltb 16 _ (omega arith))
 
   -- ---- the atoms of a context are x, y, b and the links
   abbrev chain_atoms : List Name
@@ -275,13 +266,13 @@ module _ (n : ℕ) where
 
   few_atoms : exceeds (generated_system n) limits.AtomsPerContext ≡ false
   unfolding exceeds
-  few_atoms = any_none _ (range_with_len 0 (length (generated_contexts n))) (λ i here. below 64 _ (few_names i))
+  few_atoms = any_none _ (range_with_len 0 (length (generated_contexts n))) (λ i here. le-ltb 64 _ (few_names i))
 
   -- ---- what stands in a context
   few_defaults : exceeds (generated_system n) limits.DefaultsPerContext ≡ false
   unfolding exceeds
   few_defaults = any_none _ (generated_contexts n) (each_context n (λ c. nat_lt 10 (default_count c.kb) ≡ false) (λ i less. each_kb n (λ kb. nat_lt 10 (default_count kb) ≡ false) i refl refl
-      (let one = one_default n in below 10 (default_count (DefaultTheory (theory_items n))) (omega arith))))
+      (let one = one_default n in le-ltb 10 (default_count (DefaultTheory (theory_items n))) (omega arith))))
 
   few_in_program : (i : ℕ) → length (program_rules n i) ≤ 4096
   few_in_program i =
@@ -305,9 +296,9 @@ module _ (n : ℕ) where
       let formulas = length-map-range_with_len link_formula 2 (chain_length n - 1) in
       let facts = length-map-range_with_len link_fact 2 (chain_length n - 1) in
       any_none _ (generated_contexts n) (each_context n (λ c. nat_lt 4096 (item_count c.kb) ≡ false) (λ i less. each_kb n (λ kb. nat_lt 4096 (item_count kb) ≡ false) i
-      (below 4096 (length (program_rules n i)) (few_in_program i))
-      (below 4096 (length (classical_formulas n)) (omega arith))
-      (below 4096 (length (theory_items n)) (omega arith))))
+      (le-ltb 4096 (length (program_rules n i)) (few_in_program i))
+      (le-ltb 4096 (length (classical_formulas n)) (omega arith))
+      (le-ltb 4096 (length (theory_items n)) (omega arith))))
 
   small_items : (c : Context) → IsAmong c (generated_contexts n) → has_large_item c.kb ≡ false
   small_items = each_context n (λ c. has_large_item c.kb ≡ false) (λ i less. each_kb n (λ kb. has_large_item kb ≡ false) i

@@ -12,24 +12,6 @@ use Rattle.mcs_system.specs.Logic.{same_name, is_in}
 use Rattle.mcs_system.specs.Faults.{has_twins}
 use Rattle.mcs_system.proofs.Sameness.{same_name-is}
 
-range_on : {A : Type 0} (f : ℕ → List A) (a n j : ℕ) → a + n ≡ j → flat_map f (range_with_len a (suc n)) ≡ flat_map f (range_with_len a n) ++ f j
-range_on f a zero j e = let same : a ≡ j = omega arith in append-nil (f a) ∙ ap f same
-range_on f a (suc n) j e = ap (λ xs. f a ++ xs) (range_on f (a + 1) n j (omega arith)) ∙ sym (append_assoc (f a) (flat_map f (range_with_len (a + 1) n)) (f j))
-
-pub flat_map_range_more : {A : Type 0} (f : ℕ → List A) (a n j : ℕ) → a + n ≡ j → flat_map f (range_with_len a (n + 1)) ≡ flat_map f (range_with_len a n) ++ f j
-flat_map_range_more f a n j e = rw add-one (range_on f a n j e)
-
-pub map_goes_on : {A B : Type 0} (f : A → B) (g : ℕ → B) (start : List B) (xs ys : List A) (x : A) (j : ℕ) → 2 ≤ j → ys ≡ xs ++ x ∷ [] → f x ≡ g j → map f xs ≡ start ++ map g (range_with_len 2 (j - 2)) → map f ys ≡ start ++ map g (range_with_len 2 (j + 1 - 2))
-map_goes_on f g start xs ys x j low grown same is =
-    let next : j - 2 + 1 ≡ j + 1 - 2 = omega arith in
-    let here : 2 + (j - 2) ≡ j = omega arith in
-    ap (map f) grown ∙ map-append f xs (x ∷ []) ∙ ap (λ zs. zs ++ f x ∷ []) is ∙ append_assoc start (map g (range_with_len 2 (j - 2))) (f x ∷ [])
-    ∙ ap (λ zs. start ++ zs) (ap (λ y. map g (range_with_len 2 (j - 2)) ++ y ∷ []) same ∙ sym (map-range_with_len_more g 2 (j - 2) j here) ∙ ap (λ k. map g (range_with_len 2 k)) next)
-
-pub map_goes_up : {A B : Type 0} (f : A → B) (g : ℕ → B) (xs ys : List A) (x : A) (j : ℕ) → ys ≡ xs ++ x ∷ [] → f x ≡ g j → map f xs ≡ map g (range_with_len 0 j) → map f ys ≡ map g (range_with_len 0 (j + 1))
-map_goes_up f g xs ys x j grown same is =
-    ap (map f) grown ∙ map-append f xs (x ∷ []) ∙ ap (λ zs. zs ++ f x ∷ []) is ∙ ap (λ y. map g (range_with_len 0 j) ++ y ∷ []) same ∙ sym (map-range_with_len_more g 0 j j (omega arith))
-
 -- ---- values that stand once
 pub range_apart : (a n : ℕ) → AreApart (range_with_len a n)
 range_apart a zero = tt

@@ -10,7 +10,7 @@ use Rattle.mcs_system.specs.Systems.{occurrences, context_variables, variables}
 use Rattle.mcs_system.proofs.VariableLemmas.{firsts_among}
 use Rattle.mcs_system.specs.Seen.{bridge_of}
 use Rattle.mcs_system.specs.declared.bridge.Bridge as code
-use Rattle.mcs_generator.proofs.General.{flat_map_range_more}
+use Rattle.mcs_base.proofs.Mapped.{flat_map-range_more}
 use Rattle.mcs_generator.specs.Generated.{context_count, chain_length, later_links, link_formula, link_fact, first_formula, first_default, rule, first_rule, link_rule, choice_rules, forbidding_rules, is_forbidding, program_rules, classical_formulas, theory_items, is_program_at, generated_kb, generated_context, generated_contexts, chain_end, reached_rule, missed_rule, rules_to, generated_bridges, generated_system}
 
 module _ (n : ℕ) where
@@ -114,4 +114,4 @@ rules_go_on n xs ys zs a b i low first second reached missed is =
     ap (map bridge_of) (second ∙ ap (λ (t : List code.Bridge). t ++ b ∷ []) first ∙ append_assoc xs (a ∷ []) (b ∷ [])) ∙ map-append bridge_of xs (a ∷ b ∷ [])
     ∙ ap (λ (t : List Bridge). t ++ bridge_of a ∷ bridge_of b ∷ []) is
     ∙ ap (λ (t : List Bridge). flat_map (rules_to n) (range_with_len 1 (i - 1)) ++ t) (ap (λ (t : Bridge). t ∷ bridge_of b ∷ []) reached ∙ ap (λ (t : Bridge). reached_rule n i ∷ t ∷ []) missed)
-    ∙ sym (flat_map_range_more (rules_to n) 1 (i - 1) i here) ∙ ap (λ k. flat_map (rules_to n) (range_with_len 1 k)) next
+    ∙ sym (flat_map-range_more (rules_to n) 1 (i - 1) i here) ∙ ap (λ k. flat_map (rules_to n) (range_with_len 1 k)) next

@@ -39,7 +39,7 @@ use Rattle.mcs_table.specs.Joins.{IsJointRow}
 use Rattle.mcs_rows.specs.Local.{IsRowOf, AreLocalTables}
 use Rattle.mcs_joint.specs.Apart.{EachApart}
 use Rattle.mcs_joint.specs.Reduced.{IsReduced}
-use Rattle.mcs_joint.specs.Changed.{applicable_into, acting_into, HasMarksOf, IsChangedTable, AreChangedTables}
+use Rattle.mcs_joint.specs.Changed.{AreEachChanged, applicable_into, acting_into, HasMarksOf, IsChangedTable, AreChangedTables}
 use Rattle.mcs_joint.proofs.Joint.{row_at, AreParts, joint_choice, choice_joint}
 use Rattle.mcs_joint.proofs.Repairing.{row_there}
 use Rattle.mcs_joint.proofs.Repaired.{own_apart}
@@ -191,7 +191,7 @@ module _ (m : System) (pair : ℕ) where
 -- those of the first contexts
 pub record AreSomeChanged (m : System) (pair : ℕ) (ts us : List TableData) (k : ℕ) : Type 0 where
   pub many : length us ≡ k
-  pub changed : (i : ℕ) (t u : TableData) → slice_get ts i ≡ Some t → slice_get us i ≡ Some u → IsChangedTable m i pair t u
+  pub changed : AreEachChanged m pair ts us
 
 pub changed_begin : (m : System) (pair : ℕ) (ts us : List TableData) → us ≡ [] → AreSomeChanged m pair ts us 0
 changed_begin m pair ts us e = record { many = ap length e; changed = λ i t u is is'. let none : slice_get [] i ≡ Some u = subst (λ xs. slice_get xs i ≡ Some u) e is' in absurd (let both : None ≡ Some u = sym (slice_get_past [] i (omega arith)) ∙ none in cc) }

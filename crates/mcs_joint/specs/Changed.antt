@@ -28,7 +28,11 @@ pub record IsChangedTable (m : System) (i pair : ℕ) (t u : TableData) : Type 0
   pub table : IsTable u
   pub rows : IsListing (λ r. IsAmong r t.rows × HasMarksOf m i pair r) RowBefore u.rows
 
+-- so it is of each of these
+abbrev pub AreEachChanged : System → ℕ → List TableData → List TableData → Type 0
+AreEachChanged m pair ts us = (i : ℕ) (t u : TableData) → slice_get ts i ≡ Some t → slice_get us i ≡ Some u → IsChangedTable m i pair t u
+
 -- so it is of each context
 pub record AreChangedTables (m : System) (pair : ℕ) (ts us : List TableData) : Type 0 where
   pub one_each : length us ≡ length ts
-  pub changed : (i : ℕ) (t u : TableData) → slice_get ts i ≡ Some t → slice_get us i ≡ Some u → IsChangedTable m i pair t u
+  pub changed : AreEachChanged m pair ts us

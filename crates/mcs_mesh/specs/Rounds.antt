@@ -11,7 +11,7 @@ use Rattle.mcs_system.specs.Levels.{IsQuestionAt, MaySupply, HasQuestions}
 use Rattle.mcs_rows.specs.Local.{Answered, AreAnswered, AreLocalTables}
 use Rattle.mcs_rows.specs.Answers.{answered_of}
 use Rattle.mcs_states.specs.Oracles.{OracleState, Lacks, after_asking}
-use Rattle.mcs_states.specs.Evaluators.{EvaluatorState}
+use Rattle.mcs_states.specs.Evaluators.{HasOracles, EvaluatorState}
 use Rattle.mcs_states.specs.declared.halt.Halt.{Halt}
 use Rattle.mcs_states.specs.declared.halt.Halt.TheVariants.{Spent, Missing, Memory}
 use Rattle.mcs_states.specs.declared.stop.OracleStop.{OracleStop}
@@ -129,7 +129,7 @@ IsReady e (Some level) known tables asked =
 
 -- nothing is kept once it halted, but that there is an oracle for each context
 pub record IsMesh (e : EvaluatorState) (known : List Knowledge) (tables : List TableData) (asked : ℕ) : Type 0 where
-  pub one_each : length e.oracles ≡ length e.system.contexts
+  pub one_each : HasOracles e
   pub ready : e.halt ≡ None → IsReady e e.done known tables asked
 
 -- the halt for an oracle that stopped

@@ -2,6 +2,5 @@ pub mod SearchLemmas
 pub mod OutputLemmas
 pub mod SmallLemmas
 pub mod ClauseLemmas
-pub mod General
 pub mod PlaceLemmas
 pub mod ViewLemmas

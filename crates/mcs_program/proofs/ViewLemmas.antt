@@ -16,6 +16,7 @@ use Rattle.mcs_base.proofs.Among.{place_among, among_at, among_parts, among_drop
 use Rattle.mcs_base.proofs.Ascending.{before_at, first_before}
 use Rattle.mcs_base.proofs.Each.{all_among, all_from_among}
 use Rattle.mcs_program.specs.Placing.{is_other}
+use Rattle.mcs_base.proofs.ListingLemmas.{ascending_at}
 
 -- the one comes before the other
 abbrev pub comes_before : ℕ → ℕ → Bool
@@ -32,14 +33,9 @@ before_test v view h = less_is v view (at (state_cmp v view) h)
 pub test_before : (v view : ℕ) → StateBefore v view → comes_before view v ≡ true
 test_before v view h = ap is_lt (sym (cmp-before v view h))
 
--- of two views that ascend the first comes before the second
-in_order : (xs : List ℕ) (i j d : ℕ) → i < j → j < length xs → IsAscending StateBefore xs → StateBefore (get_or xs i d) (get_or xs j d)
-in_order xs i j d less bound up =
-    before_at StateBefore xs j d bound up (get_or xs i d) (subst (λ v. IsAmong v (take j xs)) (get_or-take j xs i d less) (among_at (take j xs) i d (omega (arith, length-take j xs))))
-
 pub parted : (view : ℕ) (xs : List ℕ) → IsAscending StateBefore xs → IsPartitionedBy (comes_before view) xs
 parted view xs up i j d le less h = elim (cases_lt i j) [
-  | inl before ↦ test_before (get_or xs i d) view (StateBefore-transitive (get_or xs i d) (get_or xs j d) view (in_order xs i j d before less up) (before_test (get_or xs j d) view h))
+  | inl before ↦ test_before (get_or xs i d) view (StateBefore-transitive (get_or xs i d) (get_or xs j d) view (ascending_at StateBefore xs i j d before less up) (before_test (get_or xs j d) view h))
   | inr past ↦ let same : i ≡ j = omega arith in ap (λ k. comes_before view (get_or xs k d)) same ∙ h
 ]
 

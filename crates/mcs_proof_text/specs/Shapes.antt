@@ -11,7 +11,7 @@ use Rattle.mcs_system.specs.Systems.{variables_of}
 use Rattle.mcs_trace.specs.Traces.{Inference}
 use Rattle.mcs_spelling.specs.Parts.{IsStep}
 use Rattle.mcs_cnf.specs.Entailments.{Entailment, Yes, No}
-use Rattle.mcs_evidence.specs.Defaults.{Absence, Unsupported, Blocked, Verdict, Fails, Applied, Ungrounded, Extension, defaults_of, numbered_default, defaults_in, negated_justs, all_defaults}
+use Rattle.mcs_evidence.specs.Defaults.{Absence, Unsupported, Blocked, HasOneForEach, Verdict, Fails, Applied, Ungrounded, Extension, defaults_of, numbered_default, defaults_in, negated_justs, all_defaults}
 use Rattle.mcs_evidence.specs.Programs.{ModelShown, ProgramShown, IsInRange}
 use Rattle.mcs_certificate.specs.Certificates.{Certificate, OfFormulas, OfDefaults, OfProgram}
 use Rattle.mcs_proof_text.specs.Answers.{Answer}
@@ -92,7 +92,7 @@ IsVerdict names items beliefs set (Extension order pres justs outside outputs) =
 
 -- verdicts on the sets of defaults, in the order of their numbers
 pub record AreVerdicts (names : List Name) (items : List Item) (beliefs : ℕ) (verdicts : List Verdict) : Type 0 where
-  pub one_each : length verdicts ≡ 2 ^ length (defaults_of items)
+  pub one_each : HasOneForEach items verdicts
   pub each : (set : ℕ) (v : Verdict) → slice_get verdicts set ≡ Some v → IsVerdict names items beliefs set v
 
 -- ---- programs: a model for each state that is put out

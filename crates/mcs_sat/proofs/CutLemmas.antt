@@ -7,7 +7,7 @@ use Rattle.std.proofs.lemmas.Bool.{lt-ltb, ltb-true}
 use Rattle.std.proofs.lemmas.Option.{slice_get_within}
 use Rattle.mcs_base.specs.Listings.{IsAmong}
 use Rattle.mcs_base.proofs.Among.{among_filter, among_get, filter_among, get_among}
-use Rattle.mcs_base.proofs.Each.{all_among, all_get, all_left, all_weaker}
+use Rattle.mcs_base.proofs.Each.{all_among, all_get, all_left, all_weaker, all_take}
 use Rattle.mcs_base.proofs.Lists.{slice_get-append_left, slice_get_below, slice_get_take}
 use Rattle.mcs_trace.specs.Clauses.{IsClause, IsLiteral, place}
 use Rattle.mcs_trace.specs.Traces.{IsChainResolvent, numbered}
@@ -24,17 +24,9 @@ use Rattle.mcs_sat.proofs.LevelLemmas.{decisions-longer, levelled-back}
 use Rattle.mcs_sat.proofs.StateLemmas.{place-within}
 use Rattle.mcs_sat.proofs.TrailLemmas.{entry-back, explained-back, placed-back}
 use Rattle.mcs_sat.proofs.WatchLemmas.{reached-list}
+use Rattle.mcs_base.proofs.Written.{slice_get-take}
 
 -- ---- the first clauses
-all-first : {A : Type 0} (P : A → Type 0) (k : ℕ) (xs : List A) → AllByRecursion P xs → AllByRecursion P (take k xs)
-all-first P k xs all = all_left P (take k xs) (drop k xs) (subst (AllByRecursion P) (sym (take-append-drop k xs)) all)
-
-get-first : {A : Type 0} (k : ℕ) (xs : List A) (i : ℕ) (x : A) → i < k → slice_get xs i ≡ Some x → slice_get (take k xs) i ≡ Some x
-get-first zero xs i x less at = absurd (omega arith)
-get-first (suc k) [] i x less at = cc
-get-first (suc k) (y ∷ xs) zero x less at = at
-get-first (suc k) (y ∷ xs) (suc i) x less at = get-first k xs i x (omega arith) at
-
 chains-first : (k : ℕ) (known : List (List ℤ)) (chains : List (List ℕ)) → AreChains known chains → AreChains (take k known) (take k chains)
 chains-first k known chains is = record {
   sized = length-take k chains ∙ ap (min k) is.sized ∙ sym (length-take k known);
@@ -46,7 +38,7 @@ chains-first k known chains is = record {
 
 numbered-first : (k : ℕ) (known : List (List ℤ)) (n : ℕ) (c : List ℤ) → n ≤ k → numbered known n ≡ Some c → numbered (take k known) n ≡ Some c
 numbered-first k known zero c less e = cc
-numbered-first k known (suc n) c less e = get-first k known n c (omega arith) e
+numbered-first k known (suc n) c less e = slice_get-take k known n (omega arith) ∙ e
 
 explained-first : (k : ℕ) (known : List (List ℤ)) (es : List Entry) → AreExplained known es → ((i : ℕ) → i < length es → reason_at es i ≤ k) → AreExplained (take k known) es
 explained-first k known es is few i less = elim (is i less) [
@@ -94,8 +86,8 @@ state-cut s cs ms t w k n v is base clauses chains entries positions bound few p
       lists = ap length lists ∙ is.lists ∙ ap (λ (ps : List ℕ). 2 * length ps) (sym positions);
       chains = subst (λ (ks : List (List ℤ)). AreChains ks ms) (sym clauses) (subst (AreChains known) (sym chains) (chains-first k s.clauses s.chains is.chains));
       trail = subst (λ (ks : List (List ℤ)). IsTrail ks t) (sym clauses) (record {
-        clauses = all-first IsClause k s.clauses is.trail.clauses;
-        covered = subst (λ (ps : List ℕ). AllByRecursion (AreCovered ps) known) (sym positions) (all-first (AreCovered s.trail.positions.items) k s.clauses is.trail.covered);
+        clauses = all_take IsClause k s.clauses is.trail.clauses;
+        covered = subst (λ (ps : List ℕ). AllByRecursion (AreCovered ps) known) (sym positions) (all_take (AreCovered s.trail.positions.items) k s.clauses is.trail.covered);
         placed = subst (ArePlaced t.entries.items) (sym positions) (subst (λ (xs : List Entry). ArePlaced xs s.trail.positions.items) (sym entries) (placed-back es s.trail.positions.items n is.trail.placed));
         explained = subst (AreExplained known) (sym entries) (explained-first k s.clauses (take n es) (explained-back s.clauses es n is.trail.explained) (λ i less.
             let less' : i < n = omega (arith, length-take-le n es bound) in

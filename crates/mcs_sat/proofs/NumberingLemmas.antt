@@ -16,6 +16,7 @@ use Rattle.mcs_sat.specs.States.{AreChains}
 use Rattle.mcs_sat.specs.Stores.{given, given_count}
 use Rattle.mcs_sat.proofs.KnownLemmas.{numbered-more, numbered-row}
 use Rattle.mcs_sat.proofs.StoreLemmas.{given-at, given_count-append, length-given}
+use Rattle.mcs_base.proofs.Written.{take_next}
 
 -- ---- what a chain names
 resolves-names : (known : List (List ℤ)) (c : List ℤ) (ns : List ℕ) (last : List ℤ) → ResolvesTo known c ns last → (n : ℕ) → IsAmong n ns → (d : List ℤ) × (numbered known n ≡ Some d)
@@ -75,9 +76,6 @@ right-step known steps s c ns right is chain =
 clauses-push : (known : List (List ℤ)) (steps : List Step) (s : Step) (c : List ℤ) → s.clause ≡ c → known ++ clauses_of (steps ++ s ∷ []) ≡ (known ++ clauses_of steps) ++ c ∷ []
 clauses-push known steps s c e = ap (λ (xs : List (List ℤ)). known ++ xs) (map_push (λ (t : Step). t.clause) steps s) ∙ sym (append_assoc known (clauses_of steps) (s.clause ∷ [])) ∙ ap (λ (x : List ℤ). (known ++ clauses_of steps) ++ x ∷ []) e
 
-take-next : (chains : List (List ℕ)) (i : ℕ) (ns : List ℕ) → slice_get chains i ≡ Some ns → take (i + 1) chains ≡ take i chains ++ ns ∷ []
-take-next chains i ns at = take_more chains i [] (slice_get_within chains i ns at) ∙ ap (λ (x : List ℕ). take i chains ++ x ∷ []) (get_or_from_slice_get chains i ns [] at)
-
 module _ (known : List (List ℤ)) (chains : List (List ℕ)) (needed : List Bool) (is : AreChains known chains) (closed : AreNamed chains needed 0) where
   -- a chain of marked clauses is right by their numbers
   pub chain-now : (i : ℕ) (n : Numbering) (ns : List ℕ) (c : List ℤ) → IsNumbering known chains needed i n → AreMarked needed ns → IsChainResolvent (take i known) ns c → IsChainResolvent (given known chains ++ clauses_of n.steps.items) (map (number_now n.numbers.items) ns) c
@@ -105,7 +103,7 @@ module _ (known : List (List ℤ)) (chains : List (List ℕ)) (needed : List Boo
   next-given : (i : ℕ) (old new : Numbering) (c : List ℤ) → IsNumbering known chains needed i old → slice_get known i ≡ Some c → slice_get chains i ≡ Some [] → new.steps.items ≡ old.steps.items → new.given ≡ old.given + 1 → new.numbers.items ≡ old.numbers.items ++ (old.given + 1) ∷ [] → IsNumbering known chains needed (i + 1) new
   next-given i old new c so at none steps count numbers =
       let clauses : given known chains ++ clauses_of new.steps.items ≡ (given known chains ++ clauses_of old.steps.items) ++ [] = ap (λ (xs : List Step). given known chains ++ clauses_of xs) steps ∙ sym (append-nil (given known chains ++ clauses_of old.steps.items)) in
-      let counted : given_count (take (i + 1) chains) ≡ given_count (take i chains) + 1 = ap given_count (take-next chains i [] none) ∙ given_count-append (take i chains) ([] ∷ []) in
+      let counted : given_count (take (i + 1) chains) ≡ given_count (take i chains) + 1 = ap given_count (take_next chains i [] none) ∙ given_count-append (take i chains) ([] ∷ []) in
       record {
         sized = size-next i old new (old.given + 1) so numbers;
         counted = omega (arith, so.counted);
@@ -126,7 +124,7 @@ module _ (known : List (List ℤ)) (chains : List (List ℕ)) (needed : List Boo
       }
 
   given-not : (i m : ℕ) (ms : List ℕ) → slice_get chains i ≡ Some (m ∷ ms) → given_count (take (i + 1) chains) ≡ given_count (take i chains)
-  given-not i m ms at = ap given_count (take-next chains i (m ∷ ms) at) ∙ given_count-append (take i chains) ((m ∷ ms) ∷ []) ∙ omega arith
+  given-not i m ms at = ap given_count (take_next chains i (m ∷ ms) at) ∙ given_count-append (take i chains) ((m ∷ ms) ∷ []) ∙ omega arith
 
   -- one that is left out
   next-left : (i : ℕ) (old new : Numbering) (m : ℕ) (ms : List ℕ) → IsNumbering known chains needed i old → slice_get chains i ≡ Some (m ∷ ms) → get_or needed i false ≡ false → new.steps.items ≡ old.steps.items → new.given ≡ old.given → new.numbers.items ≡ old.numbers.items ++ 0 ∷ [] → IsNumbering known chains needed (i + 1) new
@@ -269,7 +267,7 @@ pub room-left : (chains : List (List ℕ)) (i : ℕ) (ns : List ℕ) (given step
 room-left chains i [] given steps at some counted few = absurd (omega arith)
 room-left chains i (m ∷ ms) given steps at some counted few =
     let less = slice_get_within chains i (m ∷ ms) at in
-    let same : given_count (take (i + 1) chains) ≡ given_count (take i chains) = ap given_count (take-next chains i (m ∷ ms) at) ∙ given_count-append (take i chains) ((m ∷ ms) ∷ []) ∙ omega arith in
+    let same : given_count (take (i + 1) chains) ≡ given_count (take i chains) = ap given_count (take_next chains i (m ∷ ms) at) ∙ given_count-append (take i chains) ((m ∷ ms) ∷ []) ∙ omega arith in
     let later = given-later chains (i + 1) in
     omega arith
 

@@ -46,11 +46,15 @@ pub record IsState (s : State) : Type 0 where
   pub now : IsReached s.clauses s.watches s.trail.entries.items (reach_of s)
 
 -- ---- what changes
+-- the variables stay
+abbrev pub SameRoom : State → State → Type 0
+SameRoom old new = length new.trail.positions.items ≡ length old.trail.positions.items
+
 -- the clauses and what they watch stay
 pub record SameClauses (old new : State) : Type 0 where
   pub clauses : new.clauses ≡ old.clauses
   pub chains : new.chains ≡ old.chains
-  pub positions : length new.trail.positions.items ≡ length old.trail.positions.items
+  pub positions : SameRoom old new
 
 -- a level is opened with the literal
 pub record IsDecided (old new : State) (literal : ℤ) : Type 0 where

@@ -4,7 +4,7 @@ use Rattle.std.specs.List.{AllByRecursion}
 use Rattle.mcs_trace.specs.Clauses.{ClauseList, IsWithin}
 use Rattle.mcs_trace.specs.Traces.{Inference}
 use Rattle.mcs_sat.specs.declared.state.State.{State}
-use Rattle.mcs_sat.specs.States.{IsState}
+use Rattle.mcs_sat.specs.States.{SameRoom, IsState}
 
 -- the clauses that were given, in their order
 abbrev pub given : List (List ℤ) → List (List ℕ) → List (List ℤ)
@@ -27,7 +27,7 @@ pub record ArePlaces (chains : List (List ℕ)) (places : List ℕ) : Type 0 whe
 -- a state that the one has led to: clauses were learnt, and none was given
 pub record IsLater (old new : State) : Type 0 where
   pub state : IsState new
-  pub positions : length new.trail.positions.items ≡ length old.trail.positions.items
+  pub positions : SameRoom old new
   pub more : List Inference
   pub clauses : new.clauses ≡ old.clauses ++ map (λ (i : Inference). i.clause) more
   pub chains : new.chains ≡ old.chains ++ map (λ (i : Inference). i.chain) more

@@ -47,11 +47,15 @@ abbrev pub IsAsked : System → Option ℕ → ℕ → ℕ → Type 0
 IsAsked m None i x = ⊥
 IsAsked m (Some level) i x = IsQuestionAt m level i x
 
+-- there is an oracle for each context
+abbrev pub HasOracles : EvaluatorState → Type 0
+HasOracles e = length e.oracles ≡ length e.system.contexts
+
 -- it can be asked on, and the journals hold exactly the questions of the greatest level done, each once
 pub record IsSettled (e : EvaluatorState) : Type 0 where
   pub going : e.halted ≡ false
   pub no_halt : e.halt ≡ None
-  pub one_each : length e.oracles ≡ length e.system.contexts
+  pub one_each : HasOracles e
   pub own : (i : ℕ) (o : OracleState) → slice_get e.oracles i ≡ Some o → (o.system ≡ e.system) × (o.context ≡ i)
   pub asked : (i : ℕ) (o : OracleState) → slice_get e.oracles i ≡ Some o → IsInventory (IsAsked e.system e.done i) o.journal
 

@@ -29,11 +29,6 @@ use Rattle.mcs_text.specs.declared.unwritten.Unwritten.{Unwritten}
 use Rattle.mcs_text.specs.declared.unwritten.Unwritten.TheVariants as unwritten
 use Rattle.mcs_top.proofs.JobLemmas.{told_also, of_file}
 
--- the stop that an error was made of
-pub stop_told : {T : Type 0} (P : Stop → Type 0) (stop : Stop) (r : Result T Stop) → IsErrAnd r (λ s. s ≡ stop) → P stop → IfErr r P
-stop_told P stop (Ok x) is h = absurd is
-stop_told P stop (Err s) is h = subst P (sym is) h
-
 -- ---- before the work
 -- what is printed before the first question is a stage
 opening_stage : (task : Task) (m : System) → IsTaskStage task m (opening task m)

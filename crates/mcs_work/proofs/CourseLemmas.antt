@@ -45,10 +45,7 @@ use Rattle.mcs_work.specs.declared.task.Task.TheVariants.{Solve}
 use Rattle.mcs_work.specs.declared.task.WorkStop.TheVariants as stops
 use Rattle.mcs_work.proofs.StateLemmas.{beyond_before, found_beyond, settled_count}
 use Rattle.mcs_work.proofs.StopLemmas.{left_nothing, cut_off, stopped_later}
-
--- what is not below is at least
-at_most : (a b : ℕ) → ¬ (a < b) → b ≤ a
-at_most a b not = omega (arith, not)
+use Rattle.mcs_base.proofs.NumberCases.{not_less}
 
 -- ---- one level after the other
 pub begun : (e e' : EvaluatorState) → e.done ≡ None → KeepsRest e e' → HasDone e e' 0 → IsUnderWay e' 0 []
@@ -124,7 +121,7 @@ last_as Counts m level last = last
 
 repair_level : (m : System) (level : ℕ) → ¬ IsPast m level → IsTaken Solve m level
 repair_level m zero open_yet = inl refl
-repair_level m (suc n) open_yet = inr ((λ c. open_yet (inr (let more : 0 < suc n = omega arith in (more, c)))), at_most (length m.bridges) (suc n) (λ more. open_yet (inl more)))
+repair_level m (suc n) open_yet = inr ((λ c. open_yet (inr (let more : 0 < suc n = omega arith in (more, c)))), not_less (length m.bridges) (suc n) (λ more. open_yet (inl more)))
 
 taken_here : (x : Extent) (m : System) (level : ℕ) → ¬ IsPast m level → IsTaken (task_of x) m level
 taken_here x m level open_yet = taken_as x m level (repair_level m level open_yet)
@@ -212,7 +209,7 @@ ended e level ds u past (inl c) = record {
     some = elim past [ inl more ↦ omega (arith, more) | inr both ↦ both.0 ]
 
     low : level - 1 ≤ 0
-    low = at_most 0 (level - 1) (λ more. u.not_past some (inr (more, c)))
+    low = not_less 0 (level - 1) (λ more. u.not_past some (inr (more, c)))
 
     first : level ≡ 1
     first = omega (arith, some, low)
@@ -228,7 +225,7 @@ ended e level ds u (inl more) (inr none) = record {
     some = omega (arith, more)
 
     most : level - 1 ≤ length e.system.bridges
-    most = at_most (length e.system.bridges) (level - 1) (λ over. u.not_past some (inl over))
+    most = not_less (length e.system.bridges) (level - 1) (λ over. u.not_past some (inl over))
 
     all_of_them : level - 1 ≡ length e.system.bridges
     all_of_them = omega (arith, more, most)
@@ -315,7 +312,7 @@ lines_of_system m n level ds same found =
 pub gone : (x : Extent) (m n : System) (level level' : ℕ) (ds fresh ds' : List code.Diagnosis) (before now : Option (List ℕ)) → n ≡ m → ¬ IsPast n level → level' ≡ level + 1 → ds' ≡ ds ++ fresh → now ≡ appended before (diagnoses_part x m (length ds + 1) fresh)
     → HasGone x m level level' ds ds' before now true
 gone x m n level level' ds fresh ds' before now same open_yet next grown is =
-    (next, at_most (length m.bridges) level (λ more. open_yet (inl (subst (λ (s : System). length s.bridges < level) (sym same) more))), record { fresh = fresh; grown = grown; written = is })
+    (next, not_less (length m.bridges) level (λ more. open_yet (inl (subst (λ (s : System). length s.bridges < level) (sym same) more))), record { fresh = fresh; grown = grown; written = is })
 
 pub went_through : (x : Extent) (m : System) (level level' : ℕ) (ds ds' : List code.Diagnosis) (before now : Option (List ℕ)) (b : Bool) → b ≡ true → HasGone x m level level' ds ds' before now b → AddsLines x m ds ds' before now
 went_through x m level level' ds ds' before now b more h = (subst (HasGone x m level level' ds ds' before now) more h).2

@@ -23,9 +23,7 @@ use Rattle.mcs_work.specs.declared.task.Task.TheVariants.{Equilibria, Solve, Mak
 use Rattle.mcs_work.specs.declared.task.WorkStop.{WorkStop}
 use Rattle.mcs_work.specs.declared.task.WorkStop.TheVariants as stops
 use Rattle.mcs_work.proofs.StateLemmas.{rest_back, beyond_before, found_beyond}
-
-pub regrouped : (a b c d : List ℕ) → (a ++ b) ++ (c ++ d) ≡ a ++ ((b ++ c) ++ d)
-regrouped a b c d = append_assoc a b (c ++ d) ∙ ap (λ t. a ++ t) (sym (append_assoc b c d))
+use Rattle.mcs_base.proofs.Written.{append_in_middle}
 
 -- the evaluator went on, and this part was written in between
 module _ (task : Task) (so_far part : List ℕ) (e mid-e e' : EvaluatorState) (before mid now : Device) (kept : KeepsRest e mid-e) (later : before.faults ≤ mid.faults) (wrote : mid.written ≡ appended before.written part) where
@@ -36,7 +34,7 @@ module _ (task : Task) (so_far part : List ℕ) (e mid-e e' : EvaluatorState) (b
   left_later l = record {
     part = part ++ l.part;
     rest = l.rest;
-    stage = subst (λ (t : List ℕ). IsTaskStage task e.system t) (regrouped so_far part l.part l.rest) (subst (λ (m : System). IsTaskStage task m ((so_far ++ part) ++ (l.part ++ l.rest))) kept.system l.stage);
+    stage = subst (λ (t : List ℕ). IsTaskStage task e.system t) (append_in_middle so_far part l.part l.rest) (subst (λ (m : System). IsTaskStage task m ((so_far ++ part) ++ (l.part ++ l.rest))) kept.system l.stage);
     written = written_later l.part l.written;
   }
 
@@ -94,10 +92,6 @@ module _ (task : Task) (so_far part : List ℕ) (e mid-e e' : EvaluatorState) (b
       at_stop (Err stop) h = stopped_later stop h
 
 -- ---- what stopped a part stops the work
-pub stop_told : {T : Type 0} (P : WorkStop → Type 0) (stop : WorkStop) (r : Result T WorkStop) → IsErrAnd r (λ s. s ≡ stop) → P stop → IfErr r P
-stop_told P stop (Ok x) is h = absurd is
-stop_told P stop (Err s) is h = subst P (sym is) h
-
 -- nothing was written
 pub left_nothing : (task : Task) (m : System) (so_far : List ℕ) (at : Option (List ℕ)) → IsTaskStage task m so_far → LeavesStage task m so_far at at
 left_nothing task m so_far at stage = record { part = []; rest = []; stage = subst (λ (t : List ℕ). IsTaskStage task m t) (sym (append-nil so_far)) stage; written = appended-none at }

@@ -75,12 +75,8 @@ negative-said [] [] = refl
 negative-said [] (n ∷ ns) = ap (λ l. n ∷ l) (negative-said [] ns)
 negative-said (p ∷ ps) neg = negative-said ps neg
 
-rule : List Name → List Name → List Name → ProgramRule
-rule head pos neg = record { head = head; pos = pos; neg = neg }
-
 rule-said : (r : ProgramRule) → rule_in (rule_written r) ≡ r
-unfolding rule
-rule-said r = ap₂ (λ pos neg. rule r.head pos neg) (positive-said r.pos r.neg) (negative-said r.pos r.neg)
+rule-said r = ap₂ (λ (pos neg : List Name). (let said : ProgramRule = record { head = r.head; pos = pos; neg = neg } in said)) (positive-said r.pos r.neg) (negative-said r.pos r.neg)
 
 kb-said : (kb : Kb) → has_unjustified kb ≡ false → kb_in (kb_written kb) ≡ kb
 kb-said (plain.Classical formulas) h = ap (λ fs. plain.Classical fs) (formulas-said formulas)

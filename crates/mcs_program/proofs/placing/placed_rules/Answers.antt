@@ -1,13 +1,14 @@
 use Rattle.mcs_system.specs.Seen.{rule_of}
 use Rattle.mcs_evidence.specs.Programs.{IsOverRule}
 use Rattle.mcs_program.specs.Placing.{IsPlacedRule}
-use Rattle.mcs_program.proofs.General.{all_item, zip_item}
+use Rattle.mcs_base.proofs.Mapped.{image_each_read}
+use Rattle.mcs_base.proofs.Zipped.{zip_take_read}
 use Rattle.mcs_program.proofs.placing.placed_rules.Goals as goal
 
 pub of-requires-clause-over : goal.of-requires-clause-over
-of-requires-clause-over c = all_item (IsOverRule c.args.atoms.now) rule_of c.args.rules.now c.loop-rule.rule-index c.rule-item.result c.loop-rule-test.true c.rule-item.is c.requires.rules
+of-requires-clause-over c = image_each_read (IsOverRule c.args.atoms.now) rule_of c.args.rules.now c.loop-rule.rule-index c.rule-item.result c.loop-rule-test.true c.rule-item.is c.requires.rules
 
 pub loop-rule-preserved : goal.loop-rule-preserved
 loop-rule-preserved c =
-    zip_item (IsPlacedRule c.args.atoms.now) rule_of c.args.rules.now c.loop-rule.rule-index c.rule-item.result c.loop-rule.placed.items c.push.new.self.items c.of.result
+    zip_take_read (IsPlacedRule c.args.atoms.now) rule_of c.args.rules.now c.loop-rule.rule-index c.rule-item.result c.loop-rule.placed.items c.push.new.self.items c.of.result
     c.loop-rule-test.true c.rule-item.is c.in_ok-push.ensures.items c.loop-rule.invariant c.of.ensures

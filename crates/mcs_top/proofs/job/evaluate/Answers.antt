@@ -2,7 +2,8 @@ use Rattle.std.proofs.Common.{[], ◌∷◌}
 use Rattle.mcs_ports.specs.Causes.{Rose}
 use Rattle.mcs_top.specs.Jobs.{told_all}
 use Rattle.mcs_top.specs.Promise.{HasCause, LeavesText}
-use Rattle.mcs_top.proofs.StageLemmas.{stop_told, read_cause, read_left, file_listed, file_causes, file_leaves}
+use Rattle.mcs_top.proofs.StageLemmas.{read_cause, read_left, file_listed, file_causes, file_leaves}
+use Rattle.mcs_base.proofs.Results.{err_told}
 use Rattle.mcs_top.proofs.job.evaluate.Goals as goal
 
 pub returns-in_err-system-clause-cause : goal.returns-in_err-system-clause-cause
@@ -10,7 +11,7 @@ returns-in_err-system-clause-cause g c job lists =
     let files = told_all (g.H.Shelf.held c.args.shelf.now) (c.args.file.now ∷ []) in
     let rose = Rose (g.H.Shelf.faults c.args.shelf.now) (g.H.Shelf.faults c.system_in.new.shelf) in
     let same = Rose (g.K.Sink.device c.args.sink.now).faults (g.K.Sink.device c.args.sink.now).faults in
-    stop_told (λ stop. HasCause stop rose same job files) _ _ c.from_residual.ensures.1
+    err_told (λ stop. HasCause stop rose same job files) _ _ c.from_residual.ensures.1
     (read_cause job c.args.task c.args.file.now c.args.budget lists rose same files c.in_err-system.field-0.0 c.in_err-system.ensures.stop)
 
 pub returns-in_err-system-clause-leaves : goal.returns-in_err-system-clause-leaves
@@ -18,7 +19,7 @@ returns-in_err-system-clause-leaves g c job lists =
     let files = told_all (g.H.Shelf.held c.args.shelf.now) (c.args.file.now ∷ []) in
     let rose = Rose (g.H.Shelf.faults c.args.shelf.now) (g.H.Shelf.faults c.system_in.new.shelf) in
     let at = (g.K.Sink.device c.args.sink.now).written in
-    stop_told (λ stop. LeavesText stop job files at at) _ _ c.from_residual.ensures.1
+    err_told (λ stop. LeavesText stop job files at at) _ _ c.from_residual.ensures.1
     (read_left job c.args.task c.args.file.now c.args.budget lists rose files at c.in_err-system.field-0.0 c.in_err-system.ensures.stop)
 
 pub returns-clause-ok : goal.returns-clause-ok

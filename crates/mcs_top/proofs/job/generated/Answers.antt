@@ -1,9 +1,10 @@
 use Rattle.mcs_top.specs.Promise.{StopsGenerated}
-use Rattle.mcs_top.proofs.StageLemmas.{stop_told, made_done, made_stops, line_stopped}
+use Rattle.mcs_top.proofs.StageLemmas.{made_done, made_stops, line_stopped}
+use Rattle.mcs_base.proofs.Results.{err_told}
 use Rattle.mcs_top.proofs.job.generated.Goals as goal
 
 pub returns-in_err-print_number-clause-stop : goal.returns-in_err-print_number-clause-stop
-returns-in_err-print_number-clause-stop g c = stop_told (λ stop. StopsGenerated stop c.args.number c.args.budget _ _ _) _ _ c.from_residual-in_err-print_number.ensures.1
+returns-in_err-print_number-clause-stop g c = err_told (λ stop. StopsGenerated stop c.args.number c.args.budget _ _ _) _ _ c.from_residual-in_err-print_number.ensures.1
     (line_stopped c.args.number c.args.budget (g.K.Sink.device c.args.sink.now) (g.K.Sink.device c.print_number.new.sink) (g.K.Sink.device c.print_number.new.sink) _ (rw c.in_ok-system.ensures at c.in_err-print_number.ensures))
 
 pub returns-clause-ok : goal.returns-clause-ok

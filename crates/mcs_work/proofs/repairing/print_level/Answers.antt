@@ -2,13 +2,13 @@ use Rattle.std.proofs.Common.{◌∙◌, ◌++◌, ap, subst}
 use Rattle.mcs_diagnosis.specs.Taken.{IsLevel, HasTaken}
 use Rattle.mcs_work.specs.Work.{HasStopped}
 use Rattle.mcs_work.specs.Extents.{task_of, front_part}
-use Rattle.mcs_work.proofs.StopLemmas.{stop_told}
+use Rattle.mcs_base.proofs.Results.{err_told}
 use Rattle.mcs_work.proofs.CourseLemmas.{halted_at, lines_cut_at, memory_at, went_on, lines_of_system, gone}
 use Rattle.mcs_work.proofs.repairing.print_level.Goals as goal
 
 pub returns-in_err-next-clause-stop : goal.returns-in_err-next-clause-stop
 returns-in_err-next-clause-stop g c σs equilibria =
-    stop_told (HasStopped (task_of c.args.extent) (front_part c.args.extent c.args.system.now σs c.args.found.now.items) (g.E.Evaluator.stands c.args.levels.now.evaluator) (g.E.Evaluator.stands c.next.new.self.evaluator) (g.K.Sink.device c.args.sink.now) (g.K.Sink.device c.args.sink.now)) _ _ c.from_residual.ensures.1
+    err_told (HasStopped (task_of c.args.extent) (front_part c.args.extent c.args.system.now σs c.args.found.now.items) (g.E.Evaluator.stands c.args.levels.now.evaluator) (g.E.Evaluator.stands c.next.new.self.evaluator) (g.K.Sink.device c.args.sink.now) (g.K.Sink.device c.args.sink.now)) _ _ c.from_residual.ensures.1
     (halted_at c.args.extent c.args.system.now _ _ c.requires.same σs c.args.levels.now.level c.args.found.now.items c.requires.under_way c.in_err-next.ensures.not_past equilibria (g.K.Sink.device c.args.sink.now) _ c.in_err-next.ensures.cause c.in_err-next.ensures.told)
 
 pub print_diagnoses_part-requires-clause-of_system : goal.print_diagnoses_part-requires-clause-of_system
@@ -17,7 +17,7 @@ print_diagnoses_part-requires-clause-of_system g c = rw c.deref.ensures.value (l
 pub returns-in_err-print_diagnoses_part-in-Found-clause-stop : goal.returns-in_err-print_diagnoses_part-in-Found-clause-stop
 returns-in_err-print_diagnoses_part-in-Found-clause-stop g c σs equilibria =
     let both = subst (IsLevel (g.E.Evaluator.stands c.args.levels.now.evaluator).system c.args.levels.now.level) c.in-Found.is c.in_ok-next.ensures.level in
-    stop_told (HasStopped (task_of c.args.extent) (front_part c.args.extent c.args.system.now σs c.args.found.now.items) (g.E.Evaluator.stands c.args.levels.now.evaluator) (g.E.Evaluator.stands c.next.new.self.evaluator) (g.K.Sink.device c.args.sink.now) (g.K.Sink.device c.print_diagnoses_part.new.sink)) _ _ c.from_residual-in_err-print_diagnoses_part-in-Found.ensures.1
+    err_told (HasStopped (task_of c.args.extent) (front_part c.args.extent c.args.system.now σs c.args.found.now.items) (g.E.Evaluator.stands c.args.levels.now.evaluator) (g.E.Evaluator.stands c.next.new.self.evaluator) (g.K.Sink.device c.args.sink.now) (g.K.Sink.device c.print_diagnoses_part.new.sink)) _ _ c.from_residual-in_err-print_diagnoses_part-in-Found.ensures.1
     (lines_cut_at c.args.extent c.args.system.now _ _ c.requires.same σs c.args.levels.now.level c.args.found.now.items c.requires.under_way both.1 equilibria c.in-Found.fresh.items both.0 (g.K.Sink.device c.args.sink.now) (g.K.Sink.device c.print_diagnoses_part.new.sink) _
     (rw (c.deref.ensures.value, c.len.ensures, c.args.found.now.ok.0) at c.in_err-print_diagnoses_part-in-Found.ensures))
 
@@ -25,7 +25,7 @@ pub returns-in_err-extend_from_slice-in-Found-clause-stop : goal.returns-in_err-
 returns-in_err-extend_from_slice-in-Found-clause-stop g c σs equilibria =
     let both = subst (IsLevel (g.E.Evaluator.stands c.args.levels.now.evaluator).system c.args.levels.now.level) c.in-Found.is c.in_ok-next.ensures.level in
     let written = rw (c.deref.ensures.value, c.len.ensures, c.args.found.now.ok.0) at c.in_ok-print_diagnoses_part-in-Found.ensures in
-    stop_told (HasStopped (task_of c.args.extent) (front_part c.args.extent c.args.system.now σs c.args.found.now.items) (g.E.Evaluator.stands c.args.levels.now.evaluator) (g.E.Evaluator.stands c.next.new.self.evaluator) (g.K.Sink.device c.args.sink.now) (g.K.Sink.device c.print_diagnoses_part.new.sink)) _ _ c.from_residual-in_err-extend_from_slice-in-Found.ensures.1
+    err_told (HasStopped (task_of c.args.extent) (front_part c.args.extent c.args.system.now σs c.args.found.now.items) (g.E.Evaluator.stands c.args.levels.now.evaluator) (g.E.Evaluator.stands c.next.new.self.evaluator) (g.K.Sink.device c.args.sink.now) (g.K.Sink.device c.print_diagnoses_part.new.sink)) _ _ c.from_residual-in_err-extend_from_slice-in-Found.ensures.1
     (memory_at c.args.extent c.args.system.now (g.E.Evaluator.stands c.args.levels.now.evaluator) (g.E.Evaluator.stands c.next.new.self.evaluator) c.requires.same σs c.args.levels.now.level c.args.found.now.items c.requires.under_way both.1 equilibria c.in-Found.fresh.items both.0 (g.K.Sink.device c.args.sink.now) (g.K.Sink.device c.print_diagnoses_part.new.sink) written.whole)
 
 pub returns-in_ok-extend_from_slice-in-Found-clause-under_way : goal.returns-in_ok-extend_from_slice-in-Found-clause-under_way
