@@ -4,6 +4,7 @@ use Rattle.std.specs.Borrow.{Bor}
 use Rattle.std.specs.List.{position_from}
 use Rattle.std.proofs.lemmas.Bool.Decides.{nat_tests}
 use Rattle.std.proofs.lemmas.Iterator.Adapters.{position_from-zero}
+use Rattle.std.proofs.lemmas.Option.{same_Some}
 use Rattle.mcs_spelling.specs.Words.{place_of}
 use Rattle.mcs_proof_lines.specs.Walks.{IsLast, lines_from}
 use Rattle.mcs_spelling.specs.Lines.{onto, complete_lines, is_empty, incomplete}
@@ -30,12 +31,9 @@ module _ (b : ℕ) (bytes : List ℕ) where
     ap (λ (u : Bool). cond u (incomplete bytes) (cond (is_empty (complete_lines bytes)) (b ∷ bytes) (incomplete bytes))) v ∙ ap (λ ls. cond (is_empty ls) (b ∷ bytes) (incomplete bytes)) h.0,
   )
 
-some_parts : (k i : ℕ) → Some k ≡ Some i → k ≡ i
-some_parts k i e = cc
-
 step : (k i b : ℕ) (bytes : List ℕ) → (position_from is_feed (k + 1) bytes ≡ Some i → (j : ℕ) × (i ≡ k + 1 + j) × Found bytes j) → (v : Bool) → nat_eq b 10 ≡ v
     → cond v (Some k) (position_from is_feed (k + 1) bytes) ≡ Some i → (j : ℕ) × (i ≡ k + j) × Found (b ∷ bytes) j
-step k i b bytes again true v e = (0, (let same = some_parts k i e in omega arith), feed b bytes v)
+step k i b bytes again true v e = (0, (let same = same_Some k i e in omega arith), feed b bytes v)
 step k i b bytes again false v e = let (j, is, found) = again e in (suc j, omega (arith, is), other b bytes j v found)
 
 none_step : (k b : ℕ) (bytes : List ℕ) → (position_from is_feed (k + 1) bytes ≡ None → (complete_lines bytes ≡ []) × (incomplete bytes ≡ bytes)) → (v : Bool) → nat_eq b 10 ≡ v

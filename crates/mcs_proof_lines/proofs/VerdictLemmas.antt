@@ -1,8 +1,6 @@
 -- Verdicts on sets of defaults, one after the other.
-use Rattle.std.proofs.Common.{◌≡◌, ℕ, ◌+◌, ◌-◌, ◌^◌, ◌<◌, ◌≤◌, zero, suc, List, [], ◌∷◌, ◌++◌, map, Ok, Err, refl, sym, ap, ◌∙◌, arith}
+use Rattle.std.proofs.Common.{◌≡◌, ℕ, ◌+◌, ◌-◌, ◌<◌, zero, suc, List, [], ◌∷◌, ◌++◌, map, Ok, Err, refl, sym, ap, ◌∙◌, arith}
 use Rattle.std.proofs.lemmas.List.{map-append}
-use Rattle.std.proofs.lemmas.Nat.{pow_pos}
-use Rattle.std.proofs.Math.Pow.{pow_mono}
 use Rattle.mcs_evidence.specs.Defaults.{Verdict}
 use Rattle.mcs_proof_lines.specs.Walks.{At, Reading, ◌>>=◌, after_front}
 use Rattle.mcs_proof_lines.specs.Verdicts.{Terms, set_at, sets_from}
@@ -26,9 +24,3 @@ front_none (Err k) = refl
 
 pub sets_begin : (t : Terms) (n m : ℕ) (at : At) → n ≡ m → after_front [] (sets_from t 0 n at) ≡ sets_from t 0 m at
 sets_begin t n m at is = front_none (sets_from t 0 n at) ∙ ap (λ k. sets_from t 0 k at) is
-
-pub full_count : (n : ℕ) → 2 ^ n - 1 + 1 ≡ 2 ^ n
-full_count n = omega (arith, pow_pos n)
-
-pub few_sets : (n : ℕ) → n ≤ 10 → 2 ^ n ≤ 1024
-few_sets n less = let h : 2 ^ n ≤ 2 ^ 10 = pow_mono less in h

@@ -1,6 +1,7 @@
 -- Faults of reports: a text that spells a report has none, and a text has one first fault at most.
-use Rattle.std.proofs.Common.{◌≡◌, ℕ, ◌+◌, ◌-◌, ◌<◌, ◌≤◌, zero, suc, List, [], ◌∷◌, ◌++◌, length, take, refl, ap, ◌∙◌, subst, arith, inl, inr, ◌⊎◌, append_assoc}
+use Rattle.std.proofs.Common.{◌≡◌, ℕ, ◌+◌, ◌-◌, ◌<◌, ◌≤◌, List, ◌++◌, length, take, ◌∙◌, subst, arith, inl, inr, ◌⊎◌, append_assoc}
 use Rattle.std.proofs.lemmas.Bool.{cases_lt}
+use Rattle.mcs_base.proofs.Written.{take_front}
 use Rattle.mcs_system.specs.Plain.{System}
 use Rattle.mcs_spelling.specs.Lines.{complete_lines}
 use Rattle.mcs_proof_text.specs.Reports.{Begins, IsFirstFault, SpelledReportsHaveNoFault, ReportsHaveOneFault}
@@ -9,14 +10,8 @@ use Rattle.mcs_proof_text.specs.Reports.{Begins, IsFirstFault, SpelledReportsHav
 pub front_begins : (m : System) (front rest : List (List ℕ)) → Begins m (front ++ rest) → Begins m front
 front_begins m front rest h = record { listing = h.listing; answers = h.answers; report = h.report; rest = rest ++ h.rest; front = h.front ∙ append_assoc front rest h.rest }
 
-take_less : {A : Type 0} (j k : ℕ) (xs : List A) → j ≤ k → (rest : List A) × (take k xs ≡ take j xs ++ rest)
-take_less {A = A} zero k xs less = (take k xs, refl)
-take_less (suc j) zero xs less = absurd (omega arith)
-take_less (suc j) (suc k) [] less = ([], refl)
-take_less (suc j) (suc k) (x ∷ xs) less = let h = take_less j k xs (omega arith) in (h.0, ap (λ ys. x ∷ ys) h.1)
-
 shorter : (m : System) (j k : ℕ) (xs : List (List ℕ)) → j ≤ k → Begins m (take k xs) → Begins m (take j xs)
-shorter m j k xs less h = let t = take_less j k xs less in front_begins m (take j xs) t.0 (subst (Begins m) t.1 h)
+shorter m j k xs less h = let t = take_front j k xs less in front_begins m (take j xs) t.0 (subst (Begins m) t.1 h)
 
 not_before : (m : System) (bytes : List ℕ) (j k : ℕ) → IsFirstFault m bytes j → IsFirstFault m bytes k → j < k → ⊥
 not_before m bytes j k f g less = at f.there

@@ -1,6 +1,5 @@
 pub mod LineLemmas
 pub mod ListingLaws
 pub mod RepairLemmas
-pub mod General
 pub mod SolutionLemmas
 pub mod SolutionLaws

@@ -3,7 +3,7 @@ use Rattle.std.proofs.Common.{◌≡◌, ℕ, ◌+◌, ◌*◌, List, [], ◌∷
 use Rattle.std.proofs.lemmas.List.{append-nil}
 use Rattle.mcs_sets.specs.Sets.{minus, Within, Meets}
 use Rattle.mcs_sets.specs.Orders.{StateBefore, PairBefore}
-use Rattle.mcs_sets.proofs.Lattice.{cases_within}
+use Rattle.mcs_sets.proofs.Lattice.{cases_within, cases_meet}
 use Rattle.mcs_sets.proofs.SetLemmas.{StateBefore-asymmetric, PairBefore-asymmetric}
 use Rattle.mcs_base.specs.Listings.{IsListing}
 use Rattle.mcs_base.specs.Minimal.{IsMinimal}
@@ -11,7 +11,7 @@ use Rattle.mcs_base.specs.Pairs.{removed_of, forced_of}
 use Rattle.mcs_base.specs.Transversals.{IsTransversalOf}
 use Rattle.mcs_base.proofs.Among.{nil_from_none}
 use Rattle.mcs_base.proofs.Each.{all_from_among}
-use Rattle.mcs_base.proofs.ListingLemmas.{same_listing}
+use Rattle.mcs_base.proofs.ListingLemmas.{same_listing, listed_alone, decided_listed}
 use Rattle.mcs_system.specs.Plain.{System}
 use Rattle.mcs_system.specs.Levels.{IsNeed}
 use Rattle.mcs_system.specs.Repairs.{allowed_marks, IsDiagnosis, IsExplanation}
@@ -21,7 +21,7 @@ use Rattle.mcs_laws.proofs.Choices.{consistent_minimal, consistent_unexplained}
 use Rattle.mcs_laws.proofs.Transversals.{minimal_explanations}
 use Rattle.mcs_import.proofs.CountLemmas.{need_is_one}
 use Rattle.mcs_evidence.proofs.Counts.{counts_exist}
-use Rattle.mcs_base.proofs.Deciding.{cases_all}
+use Rattle.mcs_base.proofs.Deciding.{cases_all, cases_minimal}
 use Rattle.mcs_evidence.proofs.SystemListings.{all_states_listed}
 use Rattle.mcs_transversal.proofs.BergeLemmas.{none_before}
 use Rattle.mcs_diagnosis.specs.declared.diagnosis.Diagnosis as code
@@ -29,7 +29,6 @@ use Rattle.mcs_diagnosis.specs.Diagnoses.{AreDiagnoses, pairs_of}
 use Rattle.mcs_diagnosis.proofs.ShownLemmas.{diagnoses_are_one, below_is_front, shown_exist}
 use Rattle.mcs_report.specs.Listing.{heading}
 use Rattle.mcs_report.specs.Solutions.{diagnosis_lines, equilibria_part, listing_front, listing_rest, AreEquilibria, first, below, whole, summary_text, WholeListingsAreOne, ListingStagesAreFronts, WholeListingsExist, SummariesAreOne, SummaryStagesAreFronts, SummariesExist, ConsistentListingsExplainNothing, ListingsWithoutDiagnoses}
-use Rattle.mcs_report.proofs.General.{listed_alone, decided_listed, cases_meet, cases_minimal}
 use Rattle.mcs_report.proofs.SolutionLemmas.{diagnosis_lines-append}
 
 -- ---- the whole listing is one

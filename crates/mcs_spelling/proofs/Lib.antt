@@ -1,4 +1,3 @@
-pub mod General
 pub mod ClauseTests
 pub mod NumberTexts
 pub mod LiteralTexts

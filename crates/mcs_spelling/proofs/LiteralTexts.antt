@@ -1,10 +1,13 @@
 -- Literals and steps are read as they are spelled, and nothing else is.
-use Rattle.std.proofs.Common.{◌≡◌, ℕ, ◌+◌, ◌%◌, ◌<◌, ◌^◌, zero, suc, Bool, true, false, not, ◌&&◌, cond, nat_eq, List, [], ◌∷◌, ◌++◌, map, length, take, drop, codes, decimal, ℤ, pos, negsuc, Option, Some, None, refl, sym, ap, ◌∙◌, subst, arith, append_assoc, true≢false}
+use Rattle.std.proofs.Common.{◌≡◌, ℕ, ◌+◌, ◌%◌, ◌<◌, ◌^◌, zero, suc, Bool, true, false, not, ◌&&◌, cond, nat_eq, List, [], ◌∷◌, ◌++◌, map, length, take, drop, codes, decimal, ℤ, pos, negsuc, Option, Some, None, refl, sym, ap, ◌∙◌, subst, arith, append_assoc}
+use Rattle.std.proofs.lemmas.Bool.{and_parts, eqb-false, eqb-true, ne_eqb, not-true}
 use Rattle.std.proofs.lemmas.Fmt.{decimal_by_steps}
 use Rattle.std.proofs.lemmas.Iterator.Adapters.{position_from-zero}
 use Rattle.std.proofs.lemmas.List.{append-nil, take-append-drop}
+use Rattle.std.proofs.lemmas.Option.{cond_some, none-some, same_Some}
 use Rattle.std.proofs.Math.Seq.{take-append_seam, drop-append_seam}
-use Rattle.mcs_base.proofs.Each.{all_append}
+use Rattle.mcs_base.proofs.Each.{all_append, all_push}
+use Rattle.mcs_base.proofs.Lists.{flat_map_push}
 use Rattle.mcs_base.proofs.Numbers.{zero-minus}
 use Rattle.std.proofs.lemmas.Slice.Eq.{bytes_eq-Decides}
 use Rattle.std.specs.List.{AllByRecursion, flat_map, position_from}
@@ -12,29 +15,18 @@ use Rattle.std.specs.Option.{option_and_then}
 use Rattle.std.specs.Str.{bytes_eq}
 use Rattle.mcs_trace.specs.Clauses.{IsLiteral, IsClause}
 use Rattle.mcs_trace.specs.Traces.{Inference}
-use Rattle.mcs_spelling.specs.Parts.{literal_text, spaced, step_text, SpellsStep}
+use Rattle.mcs_spelling.specs.Parts.{IsSmallNumber, literal_text, spaced, step_text, SpellsStep}
 use Rattle.mcs_spelling.specs.Words.{after, place_of, with_digit, signed, literals_from, literals_of, numbers_of, ascend_from, guarded, step_of}
 use Rattle.mcs_spelling.proofs.ClauseTests.{ascends, is_clause}
-use Rattle.mcs_spelling.proofs.NumberTexts.{begun, IsReadable, AreReadable, IsMore, more_of, of_more, begun_more, spelled_read, numbers_read, numbers_spelled, eq_of, ne_of, begun-is, bound, nothing_after, some_of}
+use Rattle.mcs_spelling.proofs.NumberTexts.{begun, IsMore, more_of, of_more, begun_more, spelled_read, numbers_read, numbers_spelled, begun-is, bound}
 
 -- each with a space after it
 abbrev pub trailed : List ℤ → List ℕ
 trailed ls = flat_map (λ l. literal_text l ++ codes " ") ls
 
-abbrev pub AreLiterals : List ℤ → Type 0
-AreLiterals ls = AllByRecursion IsLiteral ls
-
 abbrev pub signs : Bool → List ℕ
 signs true = codes "-"
 signs false = []
-
-trailed_push : (ls : List ℤ) (l : ℤ) → trailed (ls ++ l ∷ []) ≡ trailed ls ++ (literal_text l ++ codes " ")
-trailed_push [] l = nothing_after (literal_text l ++ codes " ")
-trailed_push (k ∷ ls) l = ap (λ t. (literal_text k ++ codes " ") ++ t) (trailed_push ls l) ∙ sym (append_assoc (literal_text k ++ codes " ") (trailed ls) (literal_text l ++ codes " "))
-
-all_push : (P : ℤ → Type 0) (xs : List ℤ) (x : ℤ) → AllByRecursion P xs → P x → AllByRecursion P (xs ++ x ∷ [])
-all_push P [] x all h = (h, tt)
-all_push P (y ∷ xs) x all h = (all.0, all_push P xs x all.1 h)
 
 negative : (n : ℕ) → signed (suc n) true ≡ negsuc n
 negative n = zero-minus (pos (suc n))
@@ -45,29 +37,21 @@ signed-text (suc n) true some few = subst (λ (l : ℤ). IsLiteral l × (literal
 signed-text (suc n) false some few = ((omega arith, few), refl)
 
 pub record AreSpelled (taken : List ℤ) (n : ℕ) (neg : Bool) (bytes : List ℕ) (r : List ℤ) : Type 0 where
-  pub literals : AreLiterals r
+  pub literals : AllByRecursion IsLiteral r
   pub text : trailed r ≡ trailed taken ++ (signs neg ++ (begun n ++ bytes))
 
-both_parts : (u v : Bool) → (u && v) ≡ true → (u ≡ true) × (v ≡ true)
-both_parts true v e = (refl, e)
-both_parts false v e = absurd (true≢false (sym e))
-
-not_parts : (v : Bool) → not v ≡ true → v ≡ false
-not_parts true e = absurd (true≢false (sym e))
-not_parts false e = refl
-
 module _ (r : List ℤ) where
-  ended : (taken : List ℤ) (n : ℕ) (neg : Bool) → AreLiterals taken → (v : Bool) → (nat_eq n 0 && not neg) ≡ v → cond v (Some taken) None ≡ Some r → AreSpelled taken n neg [] r
+  ended : (taken : List ℤ) (n : ℕ) (neg : Bool) → AllByRecursion IsLiteral taken → (v : Bool) → (nat_eq n 0 && not neg) ≡ v → cond v (Some taken) None ≡ Some r → AreSpelled taken n neg [] r
   ended taken n neg all false v e = absurd (cc)
   ended taken n neg all true v e =
-      let h = both_parts (nat_eq n 0) (not neg) v in
-      let zero_is = eq_of n 0 h.0 in
-      let plain = not_parts neg h.1 in
+      let h = and_parts (nat_eq n 0) (not neg) v in
+      let zero_is = eqb-true n 0 h.0 in
+      let plain = not-true neg h.1 in
       let is : taken ≡ r = cc in
-      record { literals = subst AreLiterals is all; text = ap trailed (sym is) ∙ rw (zero_is, plain) (sym (nothing_after (trailed taken))) }
+      record { literals = subst (AllByRecursion IsLiteral) is all; text = ap trailed (sym is) ∙ rw (zero_is, plain) (sym (append-nil (trailed taken))) }
 
-  module _ (bytes : List ℕ) (again : (taken : List ℤ) (n : ℕ) (neg : Bool) → AreLiterals taken → n < 2 ^ 63 → literals_from taken n neg bytes ≡ Some r → AreSpelled taken n neg bytes r) where
-    digit : (taken : List ℤ) (n : ℕ) (neg : Bool) (b : ℕ) → AreLiterals taken → option_and_then (λ next. literals_from taken next neg bytes) (with_digit n b) ≡ Some r → AreSpelled taken n neg (b ∷ bytes) r
+  module _ (bytes : List ℕ) (again : (taken : List ℤ) (n : ℕ) (neg : Bool) → AllByRecursion IsLiteral taken → n < 2 ^ 63 → literals_from taken n neg bytes ≡ Some r → AreSpelled taken n neg bytes r) where
+    digit : (taken : List ℤ) (n : ℕ) (neg : Bool) (b : ℕ) → AllByRecursion IsLiteral taken → option_and_then (λ next. literals_from taken next neg bytes) (with_digit n b) ≡ Some r → AreSpelled taken n neg (b ∷ bytes) r
     digit taken n neg b all e =
         let (next, step, rest) = bound (λ k. literals_from taken k neg bytes) (with_digit n b) r e in
         let more = more_of n b next step in
@@ -77,38 +61,38 @@ module _ (r : List ℤ) where
           text = h.text ∙ ap (λ t. trailed taken ++ (signs neg ++ t)) (ap (λ xs. xs ++ bytes) (begun_more n b next more) ∙ append_assoc (begun n) (b ∷ []) bytes);
         }
 
-    minus : (taken : List ℤ) (n : ℕ) (neg : Bool) (b : ℕ) → AreLiterals taken → b ≡ 45 → (u : Bool) → (nat_eq n 0 && not neg) ≡ u → cond u (literals_from taken 0 true bytes) None ≡ Some r → AreSpelled taken n neg (b ∷ bytes) r
+    minus : (taken : List ℤ) (n : ℕ) (neg : Bool) (b : ℕ) → AllByRecursion IsLiteral taken → b ≡ 45 → (u : Bool) → (nat_eq n 0 && not neg) ≡ u → cond u (literals_from taken 0 true bytes) None ≡ Some r → AreSpelled taken n neg (b ∷ bytes) r
     minus taken n neg b all dash false u e = absurd (cc)
     minus taken n neg b all dash true u e =
-        let h = both_parts (nat_eq n 0) (not neg) u in
-        let zero_is = eq_of n 0 h.0 in
-        let plain = not_parts neg h.1 in
+        let h = and_parts (nat_eq n 0) (not neg) u in
+        let zero_is = eqb-true n 0 h.0 in
+        let plain = not-true neg h.1 in
         let rest = again taken 0 true all (omega arith) e in
         record { literals = rest.literals; text = rest.text ∙ rw (zero_is, plain, dash) refl }
 
-    space : (taken : List ℤ) (n : ℕ) (neg : Bool) (b : ℕ) → AreLiterals taken → n < 2 ^ 63 → b ≡ 32 → (u : Bool) → nat_eq n 0 ≡ u
+    space : (taken : List ℤ) (n : ℕ) (neg : Bool) (b : ℕ) → AllByRecursion IsLiteral taken → n < 2 ^ 63 → b ≡ 32 → (u : Bool) → nat_eq n 0 ≡ u
         → cond u None (literals_from (taken ++ signed n neg ∷ []) 0 false bytes) ≡ Some r → AreSpelled taken n neg (b ∷ bytes) r
     space taken n neg b all few blank true u e = absurd (cc)
     space taken n neg b all few blank false u e =
-        let some = some_of n u in
+        let some : 0 < n = omega (arith, eqb-false n 0 u) in
         let l = signed-text n neg some few in
         let h = again (taken ++ signed n neg ∷ []) 0 false (all_push IsLiteral taken (signed n neg) all l.0) (omega arith) e in
         record {
           literals = h.literals;
-          text = h.text ∙ (ap (λ t. t ++ bytes) (trailed_push taken (signed n neg)) ∙ (append_assoc (trailed taken) (literal_text (signed n neg) ++ codes " ") bytes
+          text = h.text ∙ (ap (λ t. t ++ bytes) (flat_map_push (λ l. literal_text l ++ codes " ") taken (signed n neg)) ∙ (append_assoc (trailed taken) (literal_text (signed n neg) ++ codes " ") bytes
               ∙ ap (λ t. trailed taken ++ t) (ap (λ t. (t ++ codes " ") ++ bytes) l.1 ∙ (append_assoc (signs neg ++ decimal n) (codes " ") bytes ∙ (append_assoc (signs neg) (decimal n) (codes " " ++ bytes)
               ∙ ap (λ t. signs neg ++ t) (ap (λ c. decimal n ++ c ∷ bytes) (sym blank) ∙ ap (λ t. t ++ b ∷ bytes) (sym (begun-is n some))))))));
         }
 
-    either : (taken : List ℤ) (n : ℕ) (neg : Bool) (b : ℕ) → AreLiterals taken → n < 2 ^ 63 → (v : Bool) → nat_eq b 32 ≡ v → (w : Bool) → nat_eq b 45 ≡ w
+    either : (taken : List ℤ) (n : ℕ) (neg : Bool) (b : ℕ) → AllByRecursion IsLiteral taken → n < 2 ^ 63 → (v : Bool) → nat_eq b 32 ≡ v → (w : Bool) → nat_eq b 45 ≡ w
         → cond v (cond (nat_eq n 0) None (literals_from (taken ++ signed n neg ∷ []) 0 false bytes))
         (cond w (cond (nat_eq n 0 && not neg) (literals_from taken 0 true bytes) None) (option_and_then (λ next. literals_from taken next neg bytes) (with_digit n b))) ≡ Some r
         → AreSpelled taken n neg (b ∷ bytes) r
-    either taken n neg b all few true v w w' e = space taken n neg b all few (eq_of b 32 v) (nat_eq n 0) refl e
-    either taken n neg b all few false v true w e = minus taken n neg b all (eq_of b 45 w) (nat_eq n 0 && not neg) refl e
+    either taken n neg b all few true v w w' e = space taken n neg b all few (eqb-true b 32 v) (nat_eq n 0) refl e
+    either taken n neg b all few false v true w e = minus taken n neg b all (eqb-true b 45 w) (nat_eq n 0 && not neg) refl e
     either taken n neg b all few false v false w e = digit taken n neg b all e
 
-literals_sound : (taken : List ℤ) (n : ℕ) (neg : Bool) (bytes : List ℕ) (r : List ℤ) → AreLiterals taken → n < 2 ^ 63 → literals_from taken n neg bytes ≡ Some r → AreSpelled taken n neg bytes r
+literals_sound : (taken : List ℤ) (n : ℕ) (neg : Bool) (bytes : List ℕ) (r : List ℤ) → AllByRecursion IsLiteral taken → n < 2 ^ 63 → literals_from taken n neg bytes ≡ Some r → AreSpelled taken n neg bytes r
 literals_sound taken n neg [] r all few e = ended r taken n neg all (nat_eq n 0 && not neg) refl e
 literals_sound taken n neg (b ∷ bytes) r all few e =
     either r bytes (λ taken' n' neg' all' few' e'. literals_sound taken' n' neg' bytes r all' few' e') taken n neg b all few (nat_eq b 32) refl (nat_eq b 45) refl e
@@ -120,16 +104,16 @@ literals_spelled bytes r e = sym ((literals_sound [] 0 false bytes r tt (omega a
 
 literals_goes : (taken : List ℤ) (neg : Bool) (n b m : ℕ) (rest : List ℕ) → IsMore n b m → literals_from taken n neg (b ∷ rest) ≡ literals_from taken m neg rest
 literals_goes taken neg n b m rest h =
-    let space : nat_eq b 32 ≡ false = ne_of b 32 (λ e. let low = h.low in omega (arith, e)) in
-    let dash : nat_eq b 45 ≡ false = ne_of b 45 (λ e. let low = h.low in omega (arith, e)) in
+    let space : nat_eq b 32 ≡ false = ne_eqb b 32 (λ e. let low = h.low in omega (arith, e)) in
+    let dash : nat_eq b 45 ≡ false = ne_eqb b 45 (λ e. let low = h.low in omega (arith, e)) in
     rw (space, dash, of_more n b m h) refl
 
-one_read : (taken : List ℤ) (neg : Bool) (n : ℕ) (rest : List ℕ) → IsReadable n → literals_from taken 0 neg (decimal n ++ (codes " " ++ rest)) ≡ literals_from (taken ++ signed n neg ∷ []) 0 false rest
+one_read : (taken : List ℤ) (neg : Bool) (n : ℕ) (rest : List ℕ) → IsSmallNumber n → literals_from taken 0 neg (decimal n ++ (codes " " ++ rest)) ≡ literals_from (taken ++ signed n neg ∷ []) 0 false rest
 one_read taken neg n rest h =
     spelled_read (λ k bytes. literals_from taken k neg bytes) (λ k b m ys. literals_goes taken neg k b m ys) n (codes " " ++ rest) h
-    ∙ ap (λ (v : Bool). cond v None (literals_from (taken ++ signed n neg ∷ []) 0 false rest)) (ne_of n 0 (λ e. let p = h.0 in omega (arith, e)))
+    ∙ ap (λ (v : Bool). cond v None (literals_from (taken ++ signed n neg ∷ []) 0 false rest)) (ne_eqb n 0 (λ e. let p = h.0 in omega (arith, e)))
 
-literals_complete : (taken ls : List ℤ) → AreLiterals ls → literals_from taken 0 false (trailed ls) ≡ Some (taken ++ ls)
+literals_complete : (taken ls : List ℤ) → AllByRecursion IsLiteral ls → literals_from taken 0 false (trailed ls) ≡ Some (taken ++ ls)
 literals_complete taken [] all = ap Some (sym (append-nil taken))
 literals_complete taken (pos n ∷ ls) all =
     ap (literals_from taken 0 false) (append_assoc (decimal n) (codes " ") (trailed ls)) ∙ (one_read taken false n (trailed ls) all.0
@@ -138,15 +122,11 @@ literals_complete taken (negsuc n ∷ ls) all =
     ap (literals_from taken 0 true) (append_assoc (decimal (suc n)) (codes " ") (trailed ls)) ∙ (one_read taken true (suc n) (trailed ls) all.0
     ∙ (ap (λ (l : ℤ). literals_from (taken ++ l ∷ []) 0 false (trailed ls)) (negative n) ∙ literals_complete (taken ++ negsuc n ∷ []) ls all.1 ∙ ap Some (append_assoc taken (negsuc n ∷ []) ls)))
 
-pub literals_read : (ls : List ℤ) → AreLiterals ls → literals_of (trailed ls) ≡ Some ls
+pub literals_read : (ls : List ℤ) → AllByRecursion IsLiteral ls → literals_of (trailed ls) ≡ Some ls
 unfolding literals_of
 literals_read ls all = literals_complete [] ls all
 
 -- ---- fronts
-pub guard_parts : {A : Type 0} (u : Bool) (x y : A) → cond u (Some x) None ≡ Some y → (u ≡ true) × (x ≡ y)
-guard_parts true x y e = (refl, cc)
-guard_parts false x y e = absurd (cc)
-
 pub after_front : (front rest : List ℕ) → after front (front ++ rest) ≡ Some rest
 unfolding after
 after_front front rest = rw (take-append_seam front rest, (bytes_eq-Decides front front).1 refl) (ap Some (drop-append_seam front rest))
@@ -154,7 +134,7 @@ after_front front rest = rw (take-append_seam front rest, (bytes_eq-Decides fron
 pub after_is : (front bytes rest : List ℕ) → after front bytes ≡ Some rest → bytes ≡ front ++ rest
 unfolding after
 after_is front bytes rest e =
-    let h = guard_parts (bytes_eq (take (length front) bytes) front) (drop (length front) bytes) rest e in
+    let h = cond_some (bytes_eq (take (length front) bytes) front) (drop (length front) bytes) rest e in
     let t : take (length front) bytes ≡ front = (bytes_eq-Decides (take (length front) bytes) front).0 h.0 in
     sym (take-append-drop (length front) bytes) ∙ (ap (λ xs. xs ++ drop (length front) bytes) t ∙ ap (λ xs. front ++ xs) h.1)
 
@@ -171,10 +151,10 @@ place_is : (xs ys : List ℕ) → AllByRecursion NotB xs → place_of 98 (xs ++ 
 place_is xs ys h = position_from-zero (λ b. nat_eq b 98) (xs ++ 98 ∷ ys) ∙ (place_from 0 xs ys h ∙ ap Some (omega arith))
 
 decimal_notb : (n : ℕ) → n < 2 ^ 64 → AllByRecursion NotB (decimal n)
-decimal_notb n few = decimal_by_steps (λ k ds. AllByRecursion NotB ds) (λ k less. (ne_of (48 + k) 98 (λ e. omega (arith, e)), tt))
-    (λ k ds many h. all_append NotB ds ((48 + k % 10) ∷ []) h (ne_of (48 + k % 10) 98 (λ e. omega (arith, e)), tt)) n few
+decimal_notb n few = decimal_by_steps (λ k ds. AllByRecursion NotB ds) (λ k less. (ne_eqb (48 + k) 98 (λ e. omega (arith, e)), tt))
+    (λ k ds many h. all_append NotB ds ((48 + k % 10) ∷ []) h (ne_eqb (48 + k % 10) 98 (λ e. omega (arith, e)), tt)) n few
 
-trailed_notb : (ls : List ℤ) → AreLiterals ls → AllByRecursion NotB (trailed ls)
+trailed_notb : (ls : List ℤ) → AllByRecursion IsLiteral ls → AllByRecursion NotB (trailed ls)
 trailed_notb [] all = tt
 trailed_notb (pos n ∷ ls) all = all_append NotB (decimal n ++ codes " ") (trailed ls) (all_append NotB (decimal n) (codes " ") (decimal_notb n (let h : n < 2 ^ 63 = all.0.1 in omega arith)) (refl, tt)) (trailed_notb ls all.1)
 trailed_notb (negsuc n ∷ ls) all = (refl, all_append NotB (decimal (suc n) ++ codes " ") (trailed ls) (all_append NotB (decimal (suc n)) (codes " ") (decimal_notb (suc n) (let h : suc n < 2 ^ 63 = all.0.1 in omega arith)) (refl, tt)) (trailed_notb ls all.1))
@@ -197,8 +177,8 @@ pub record IsStepShape (s : Inference) : Type 0 where
   pub first : ℕ
   pub others : List ℕ
   pub chain : s.chain ≡ first ∷ others
-  pub readable : IsReadable first
-  pub others_readable : AreReadable others
+  pub readable : IsSmallNumber first
+  pub others_readable : AllByRecursion IsSmallNumber others
 
 chained : (s : Inference) (rest numbers : List ℕ) (by : ℕ) → after (codes "step ") (codes "step " ++ rest) ≡ Some rest → place_of 98 rest ≡ Some by
     → after (codes "by ") (drop by rest) ≡ Some numbers → literals_of (take by rest) ≡ Some s.clause → ascend_from 0 s.clause ≡ true → numbers_of numbers ≡ Some s.chain
@@ -228,11 +208,8 @@ pub record IsStepRead (line : List ℕ) (s : Inference) : Type 0 where
   pub first : ℕ
   pub others : List ℕ
   pub chain : s.chain ≡ first ∷ others
-  pub readable : AreReadable s.chain
+  pub readable : AllByRecursion IsSmallNumber s.chain
   pub text : line ≡ step_text s
-
-some_is : (s t : Inference) → Some s ≡ Some t → s ≡ t
-some_is s t e = cc
 
 -- one number or more
 first_of : (ns bytes : List ℕ) → spaced (map decimal ns) ≡ codes " " ++ bytes → (first : ℕ) × (others : List ℕ) × (ns ≡ first ∷ others)
@@ -242,7 +219,7 @@ first_of (n ∷ ns) bytes e = (n, ns, refl)
 read : (line rest numbers : List ℕ) (by : ℕ) (literals clause : List ℤ) (chain : List ℕ) (s : Inference) → after (codes "step ") line ≡ Some rest → after (codes "by ") (drop by rest) ≡ Some numbers
     → literals_of (take by rest) ≡ Some literals → guarded (ascend_from 0 literals) literals ≡ Some clause → numbers_of numbers ≡ Some chain → record { clause = clause; chain = chain } ≡ s → IsStepRead line s
 read line rest numbers by literals clause chain s a c d f g is =
-    let h = guard_parts (ascend_from 0 literals) literals clause f in
+    let h = cond_some (ascend_from 0 literals) literals clause f in
     let ns = numbers_spelled numbers chain g in
     let (first, others, chain_is) = first_of chain numbers ns.1 in
     let t : Inference = record { clause = clause; chain = chain } in
@@ -269,22 +246,16 @@ step_spelled line s e =
     let (literals, d, e4) = bound _ (literals_of (take by rest)) s e3 in
     let (clause, f, e5) = bound _ (guarded (ascend_from 0 literals) literals) s e4 in
     let (chain, g, e6) = bound _ (numbers_of numbers) s e5 in
-    let is : record { clause = clause; chain = chain } ≡ s = some_is _ _ e6 in
+    let is : record { clause = clause; chain = chain } ≡ s = same_Some {A = Inference} _ _ e6 in
     read line rest numbers by literals clause chain s a c d f g is
 
 -- ---- as it is told
-shape_from : (s : Inference) (chain : List ℕ) → s.chain ≡ chain → IsClause s.clause → ¬ (chain ≡ []) → AreReadable chain → IsStepShape s
+shape_from : (s : Inference) (chain : List ℕ) → s.chain ≡ chain → IsClause s.clause → ¬ (chain ≡ []) → AllByRecursion IsSmallNumber chain → IsStepShape s
 shape_from s [] is clause some numbers = absurd (some refl)
 shape_from s (n ∷ ns) is clause some numbers = record { clause = clause; first = n; others = ns; chain = is; readable = numbers.0; others_readable = numbers.1 }
 
-cons_some : (n : ℕ) (ns : List ℕ) → ¬ (n ∷ ns ≡ [])
-cons_some n ns e = cc
-
-none_is : (s : Inference) → None ≡ Some s → ⊥
-none_is s e = cc
-
 pub step_told : (line : List ℕ) (o : Option Inference) → o ≡ step_of line → SpellsStep line o
-step_told line None e = λ s h is. none_is s (e ∙ (ap step_of is ∙ step_read s (shape_from s s.chain refl h.clause h.some h.numbers)))
+step_told line None e = λ s h is. none-some s (e ∙ (ap step_of is ∙ step_read s (shape_from s s.chain refl h.clause h.some h.numbers)))
 step_told line (Some s) e =
     let h = step_spelled line s (sym e) in
-    (record { clause = h.clause; some = (λ none. cons_some h.first h.others (sym h.chain ∙ none)); numbers = h.readable }, h.text)
+    (record { clause = h.clause; some = (λ none. let e : h.first ∷ h.others ≡ [] = sym h.chain ∙ none in cc); numbers = h.readable }, h.text)

@@ -1,29 +1,28 @@
 -- Sets are read as they are spelled, and nothing else is.
-use Rattle.std.proofs.Common.{◌≡◌, ℕ, ◌+◌, ◌<◌, ◌≤◌, Bool, true, false, IsTrue, cond, ◌||◌, nat_eq, List, [], ◌∷◌, ◌++◌, length, codes, Option, Some, None, refl, sym, ap, ◌∙◌, subst, arith, append_assoc, inl, inr, true≢false}
-use Rattle.std.proofs.lemmas.Bool.{cases_Bool, cases_lt}
+use Rattle.std.proofs.Common.{◌≡◌, ℕ, ◌+◌, ◌<◌, ◌≤◌, Bool, true, false, cond, ◌||◌, nat_eq, List, [], ◌∷◌, ◌++◌, length, codes, Option, Some, None, refl, sym, ap, ◌∙◌, subst, arith, append_assoc, inl, inr, true≢false}
+use Rattle.std.proofs.lemmas.Bool.{cases_Bool, cases_lt, eqb-true, ne_eqb}
 use Rattle.std.proofs.lemmas.Bool.Decides.{nat_tests}
+use Rattle.std.proofs.lemmas.List.{append_cancel_left}
+use Rattle.std.proofs.lemmas.Option.{cond_some, none-some}
 use Rattle.std.proofs.lemmas.Slice.Eq.{bytes_eq-Decides}
 use Rattle.std.specs.List.{AllByRecursion}
 use Rattle.std.specs.Option.{option_and_then, option_map_or}
 use Rattle.std.specs.Str.{bytes_eq}
 use Rattle.mcs_sets.specs.Sets.{has, single, union}
+use Rattle.mcs_sets.proofs.Lattice.{in_with, no_member_of_none}
 use Rattle.mcs_sets.proofs.SetLemmas.{same_set, has-union, has-single, has-empty}
 use Rattle.mcs_base.specs.Listings.{IsAmong, AreApart}
+use Rattle.mcs_text.proofs.Members.{left, left-none}
 use Rattle.mcs_text.specs.Separated.{further, separated}
 use Rattle.mcs_spelling.specs.Parts.{chosen, set_text, IsAllowed, IsTellable, AreTellable, SpellsSet}
 use Rattle.mcs_spelling.specs.Words.{after, ends_member, guarded, after_member, set_from, set_of}
-use Rattle.mcs_spelling.proofs.General.{left}
-use Rattle.mcs_spelling.proofs.NumberTexts.{bound, eq_of, ne_of}
-use Rattle.mcs_spelling.proofs.LiteralTexts.{after_front, after_is, guard_parts}
+use Rattle.mcs_spelling.proofs.NumberTexts.{bound}
+use Rattle.mcs_spelling.proofs.LiteralTexts.{after_front, after_is}
 
 abbrev close : List ℕ
 close = codes "}"
 
 -- ---- members, and what follows
-left_none : (b : Bool) → left b [] ≡ []
-left_none true = refl
-left_none false = refl
-
 -- what stands before a member
 abbrev sep : Bool → List ℕ
 sep true = []
@@ -41,12 +40,12 @@ split_off : (b : Bool) (bytes t rest : List ℕ) → after_member bytes b t ≡ 
 unfolding after_member
 split_off true bytes t rest e =
     let (start, a, e1) = bound (λ r. guarded (ends_member r) r) (after t bytes) rest e in
-    let h = guard_parts (ends_member start) start rest e1 in
+    let h = cond_some (ends_member start) start rest e1 in
     (after_is t bytes start a ∙ ap (λ (r : List ℕ). t ++ r) h.1, subst (λ (r : List ℕ). ends_member r ≡ true) h.1 h.0)
 split_off false bytes t rest e =
     let (start, a, e1) = bound (λ s. option_and_then (λ r. guarded (ends_member r) r) (after t s)) (after (codes ", ") bytes) rest e in
     let (other, c, e2) = bound (λ r. guarded (ends_member r) r) (after t start) rest e1 in
-    let h = guard_parts (ends_member other) other rest e2 in
+    let h = cond_some (ends_member other) other rest e2 in
     (after_is (codes ", ") bytes start a ∙ ap (λ (r : List ℕ). codes ", " ++ r) (after_is t start other c ∙ ap (λ (r : List ℕ). t ++ r) h.1), subst (λ (r : List ℕ). ends_member r ≡ true) h.1 h.0)
 
 taken_off : (b : Bool) (t rest : List ℕ) → ends_member rest ≡ true → after_member (sep b ++ (t ++ rest)) b t ≡ Some rest
@@ -59,28 +58,23 @@ no_end : (b : ℕ) (x : List ℕ) → ¬ (b ≡ 44) → ¬ (b ≡ 125) → ends_
 no_end b x no_comma no_brace e = at (nat_eq b 44) (nat_eq b 125) refl refl e
   where
     at : (u v : Bool) → nat_eq b 44 ≡ u → nat_eq b 125 ≡ v → (u || v) ≡ true → ⊥
-    at true v u' v' e = no_comma (eq_of b 44 u')
-    at false true u' v' e = no_brace (eq_of b 125 v')
+    at true v u' v' e = no_comma (eqb-true b 44 u')
+    at false true u' v' e = no_brace (eqb-true b 125 v')
     at false false u' v' e = true≢false (sym e)
-
-head_is : (b c : ℕ) (x y : List ℕ) → b ∷ x ≡ c ∷ y → (b ≡ c) × (x ≡ y)
-head_is b c x y e = (cc, cc)
 
 same_text : (t u x y : List ℕ) → AllByRecursion (λ b. (¬ (b ≡ 44)) × (¬ (b ≡ 125))) t → AllByRecursion (λ b. (¬ (b ≡ 44)) × (¬ (b ≡ 125))) u → ends_member x ≡ true → ends_member y ≡ true → t ++ x ≡ u ++ y → t ≡ u
 same_text [] [] x y pt pu ex ey e = refl
 same_text [] (c ∷ u) x y pt pu ex ey e = absurd (no_end c (u ++ y) pu.0.0 pu.0.1 (subst (λ (r : List ℕ). ends_member r ≡ true) e ex))
 same_text (b ∷ t) [] x y pt pu ex ey e = absurd (no_end b (t ++ x) pt.0.0 pt.0.1 (subst (λ (r : List ℕ). ends_member r ≡ true) (sym e) ey))
 same_text (b ∷ t) (c ∷ u) x y pt pu ex ey e =
-    let h = head_is b c (t ++ x) (u ++ y) e in
-    ap (λ n. n ∷ t) h.0 ∙ ap (λ (r : List ℕ). c ∷ r) (same_text t u x y pt.1 pu.1 ex ey h.1)
+    let parts : b ∷ (t ++ x) ≡ c ∷ (u ++ y) = e in
+    let first : b ≡ c = cc in
+    let rest : t ++ x ≡ u ++ y = cc in
+    ap (λ n. n ∷ t) first ∙ ap (λ (r : List ℕ). c ∷ r) (same_text t u x y pt.1 pu.1 ex ey rest)
 
-same_tail : (b : Bool) (x y : List ℕ) → sep b ++ x ≡ sep b ++ y → x ≡ y
-same_tail true x y e = e
-same_tail false x y e = let h = head_is 44 44 (32 ∷ x) (32 ∷ y) e in (head_is 32 32 x y h.1).1
-
-not_empty : (t x y : List ℕ) → ¬ (t ≡ []) → AllByRecursion (λ b. (¬ (b ≡ 44)) × (¬ (b ≡ 125))) t → 125 ∷ y ≡ t ++ x → ⊥
-not_empty [] x y some pt e = some refl
-not_empty (b ∷ t) x y some pt e = pt.0.1 (sym (head_is 125 b y (t ++ x) e).0)
+not_empty : (t x y : List ℕ) → IsTellable t → 125 ∷ y ≡ t ++ x → ⊥
+not_empty [] x y tell e = tell.0 refl
+not_empty (b ∷ t) x y tell e = let parts : 125 ∷ y ≡ b ∷ (t ++ x) = e in let first : b ≡ 125 = cc in tell.1.0.1 first
 
 -- what is not the next member is not found there
 none_fits : (b : Bool) (t : List ℕ) (cs : List (List ℕ)) → IsTellable t → AllByRecursion IsTellable cs → ¬ IsAmong t cs → (o : Option (List ℕ)) → after_member (left b cs ++ close) b t ≡ o → o ≡ None
@@ -88,22 +82,16 @@ none_fits b t cs tell tells out None e = refl
 none_fits b t [] tell tells out (Some rest) e = absurd (nothing b (split_off b (left b [] ++ close) t rest e).0)
   where
     nothing : (v : Bool) → left v [] ++ close ≡ sep v ++ (t ++ rest) → ⊥
-    nothing true is = not_empty t rest [] tell.0 tell.1 is
+    nothing true is = not_empty t rest [] tell is
     nothing false is = cc
 none_fits b t (u ∷ us) tell tells out (Some rest) e =
     let h = split_off b (left b (u ∷ us) ++ close) t rest e in
-    let tails : u ++ (further us ++ close) ≡ t ++ rest = same_tail b (u ++ (further us ++ close)) (t ++ rest) (sym (left_more b u us) ∙ h.0) in
+    let tails : u ++ (further us ++ close) ≡ t ++ rest = append_cancel_left (sep b) (u ++ (further us ++ close)) (t ++ rest) (sym (left_more b u us) ∙ h.0) in
     absurd (out (inl (same_text t u rest (further us ++ close) tell.1 tells.0.1 h.1 (follows us) (sym tails))))
 
 -- ---- one more member
 more_is : (found k : ℕ) → nat_eq (union found (single k)) 0 ≡ false
-more_is found k = ne_of (union found (single k)) 0 (λ e. true≢false (sym (grind (arith, nat_tests, has-union, has-single)) ∙ (ap (λ s. has s k) e ∙ has-empty k)))
-
-is_true : (b : Bool) → IsTrue b → b ≡ true
-is_true b h = h
-
-of_true : (b : Bool) → b ≡ true → IsTrue b
-of_true b e = e
+more_is found k = ne_eqb (union found (single k)) 0 (λ none. no_member_of_none (union found (single k)) none k ((in_with found k k).1 (inr refl)))
 
 -- ---- what is read is spelled
 record IsRead (allowed k : ℕ) (ts : List (List ℕ)) (found : ℕ) (bytes : List ℕ) (r : ℕ) : Type 0 where
@@ -113,10 +101,10 @@ record IsRead (allowed k : ℕ) (ts : List (List ℕ)) (found : ℕ) (bytes : Li
 
 at_end : (allowed k found : ℕ) (bytes : List ℕ) (r : ℕ) → ((j : ℕ) → k ≤ j → has found j ≡ false) → guarded (bytes_eq bytes close) found ≡ Some r → IsRead allowed k [] found bytes r
 at_end allowed k found bytes r none e =
-    let h = guard_parts (bytes_eq bytes close) found r e in
+    let h = cond_some (bytes_eq bytes close) found r e in
     let is : bytes ≡ close = (bytes_eq-Decides bytes close).0 h.0 in
     record {
-      text = is ∙ sym (ap (λ (t : List ℕ). t ++ close) (left_none (nat_eq found 0)));
+      text = is ∙ sym (ap (λ (t : List ℕ). t ++ close) (left-none (nat_eq found 0)));
       below = (λ j less. ap (λ s. has s j) (sym h.1));
       above = (λ j more e'. absurd (true≢false (sym e' ∙ (ap (λ s. has s j) (sym h.1) ∙ none j more))));
     }
@@ -171,7 +159,7 @@ unfolding set_of
 set_spelled texts allowed bytes r e =
     let (rest, a, e1) = bound (λ x. set_from allowed 0 texts 0 x) (after (codes "{") bytes) r e in
     let h = sound allowed 0 texts 0 rest r (λ j more. has-empty j) e1 in
-    (λ k inside. let g = h.above k (omega arith) (is_true (has r k) inside) in (let b = g.0 in omega (arith, b), of_true (has allowed k) g.1), after_is (codes "{") bytes rest a ∙ ap (λ (x : List ℕ). codes "{" ++ x) h.text)
+    (λ k inside. let g = h.above k (omega arith) inside in (let b = g.0 in omega (arith, b), g.1), after_is (codes "{") bytes rest a ∙ ap (λ (x : List ℕ). codes "{" ++ x) h.text)
 
 -- ---- what is spelled is read
 out_of_chosen : (t : List ℕ) (r k : ℕ) (ts : List (List ℕ)) → ¬ IsAmong t ts → ¬ IsAmong t (chosen r k ts)
@@ -198,7 +186,7 @@ complete allowed k [] found r tells apart none below above =
       | inl less ↦ below j less
       | inr more ↦ none j more ∙ elim (cases_Bool (has r j)) [ inl e ↦ absurd (let b = (above j more e).0 in omega (arith, b)) | inr e ↦ sym e ]
     ]) in
-    rw (left_none (nat_eq found 0)) (ap Some is)
+    rw (left-none (nat_eq found 0)) (ap Some is)
 complete allowed k (t ∷ ts) found r tells apart none below above = at (has r k) refl
     (complete allowed (k + 1) ts (union found (single k)) r tells.1 apart.1 (λ j more. let n = none j (omega arith) in grind (arith, nat_tests, has-union, has-single)))
     (complete allowed (k + 1) ts found r tells.1 apart.1 (λ j more. none j (omega arith)))
@@ -238,11 +226,8 @@ pub set_read : (texts : List (List ℕ)) (allowed r : ℕ) → AreTellable texts
 unfolding set_of
 set_read texts allowed r tells within =
     ap (λ (o : Option (List ℕ)). option_and_then (λ rest. set_from allowed 0 texts 0 rest) o) (after_front (codes "{") (separated (chosen r 0 texts) ++ close))
-    ∙ complete allowed 0 texts 0 r tells.each tells.apart (λ j more. has-empty j) (λ j less. absurd (omega arith)) (λ j more e. let w = within j (of_true (has r j) e) in (let b = w.0 in omega (arith, b), is_true (has allowed j) w.1))
-
-none_is : (s : ℕ) → None ≡ Some s → ⊥
-none_is s e = cc
+    ∙ complete allowed 0 texts 0 r tells.each tells.apart (λ j more. has-empty j) (λ j less. absurd (omega arith)) (λ j more e. let w = within j e in (let b = w.0 in omega (arith, b), w.1))
 
 pub set_told : (texts : List (List ℕ)) (allowed : ℕ) (bytes : List ℕ) (o : Option ℕ) → AreTellable texts → o ≡ set_of texts allowed bytes → SpellsSet texts allowed bytes o
-set_told texts allowed bytes None tells e = λ s within is. none_is s (e ∙ (ap (set_of texts allowed) is ∙ set_read texts allowed s tells within))
+set_told texts allowed bytes None tells e = λ s within is. none-some s (e ∙ (ap (set_of texts allowed) is ∙ set_read texts allowed s tells within))
 set_told texts allowed bytes (Some s) tells e = set_spelled texts allowed bytes s (sym e)

@@ -2,7 +2,7 @@ use Rattle.std.proofs.Common.{◌≡◌, ◌<◌, ◌++◌, map, codes}
 use Rattle.std.specs.List.{AllByRecursion}
 use Rattle.mcs_text.specs.Separated.{separated}
 use Rattle.mcs_report.specs.Members.{member_text, member_count}
-use Rattle.mcs_report.proofs.LineLemmas.{left}
+use Rattle.mcs_text.proofs.Members.{left}
 use Rattle.mcs_report.proofs.members.push_braced.Given as goal
 
 abbrev pub invariant-loop-number : goal.invariant-loop-number

@@ -5,7 +5,7 @@ use Rattle.mcs_sets.specs.Sets.{members}
 use Rattle.mcs_text.specs.Separated.{separated}
 use Rattle.mcs_transversal.specs.Transversals.{HasCriticalEdge}
 use Rattle.mcs_report.specs.Repairs.{mark_text, reason_text}
-use Rattle.mcs_report.proofs.LineLemmas.{left, left-step}
+use Rattle.mcs_text.proofs.Members.{left, left-step}
 use Rattle.mcs_report.proofs.RepairLemmas.{marks_below, each_critical, critical_some, critical_number}
 use Rattle.mcs_report.proofs.repair_lines.push_reasons.Goals as goal
 

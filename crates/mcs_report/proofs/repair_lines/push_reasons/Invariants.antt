@@ -5,7 +5,7 @@ use Rattle.mcs_report.proofs.RepairLemmas.{AreMarks}
 use Rattle.mcs_text.specs.Separated.{separated}
 use Rattle.mcs_transversal.specs.Transversals.{HasCriticalEdge}
 use Rattle.mcs_report.specs.Repairs.{reason_text}
-use Rattle.mcs_report.proofs.LineLemmas.{left}
+use Rattle.mcs_text.proofs.Members.{left}
 use Rattle.mcs_report.proofs.repair_lines.push_reasons.Given as goal
 use Rattle.mcs_base.proofs.SetParts.{AreBelow}
 

@@ -1,6 +1,6 @@
 use Rattle.std.proofs.Common.{◌≡◌, ◌++◌, map, codes}
 use Rattle.mcs_text.specs.Separated.{separated}
-use Rattle.mcs_spelling.proofs.General.{left}
+use Rattle.mcs_text.proofs.Members.{left}
 use Rattle.mcs_spelling.specs.Parts.{atom_text}
 use Rattle.mcs_spelling.proofs.places.push_atoms_at.Given as goal
 
