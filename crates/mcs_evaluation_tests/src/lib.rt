@@ -1,8 +1,10 @@
 //! Tests of what evaluates a system, over the libraries alone: solvers of contexts, the mesh that asks them, extensions
-//! and answer sets with what shows them, and generated systems. Levels of diagnoses, and the lines of a report, are told by
-//! the listings of whole runs.
+//! and answer sets with what shows them, lines of certificates read and written, and generated systems. Levels of
+//! diagnoses, and the other lines of a report, are told by the listings of whole runs.
 #![tactic(auto)]
 
+#[cfg(test)]
+mod answers;
 #[cfg(test)]
 mod certificates;
 #[cfg(test)]
@@ -12,11 +14,15 @@ mod generated;
 #[cfg(test)]
 mod laws;
 #[cfg(test)]
+mod lines;
+#[cfg(test)]
 mod meshes;
 #[cfg(test)]
 mod programs;
 #[cfg(test)]
 mod solvers;
+#[cfg(test)]
+mod spelling;
 #[cfg(test)]
 mod systems;
 #[cfg(test)]
