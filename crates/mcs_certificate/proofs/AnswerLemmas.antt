@@ -6,7 +6,7 @@ use Rattle.mcs_sets.proofs.SetLemmas.{StateBefore-asymmetric}
 use Rattle.mcs_base.specs.Listings.{IsListing}
 use Rattle.mcs_base.proofs.Each.{all_append}
 use Rattle.mcs_base.proofs.ListingLemmas.{same_listing}
-use Rattle.mcs_system.specs.Plain.{Name, Formula, Truth, Falsity, Atom, Not, And, Or, Implies, Iff, Item, Fact, ProgramRule, Kb, Classical, DefaultTheory, Program, Context, System}
+use Rattle.mcs_system.specs.Plain.{Name, Formula, Truth, Falsity, Atom, Not, And, Or, Implies, Iff, Fact, ProgramRule, Kb, Classical, DefaultTheory, Program, Context, System}
 use Rattle.mcs_system.specs.Atoms.{atoms_of}
 use Rattle.mcs_system.specs.Faults.{IsValid, has_twins, is_atom}
 use Rattle.mcs_system.specs.Logic.{is_in, fact_of, with_heads}
@@ -15,11 +15,11 @@ use Rattle.mcs_system.specs.Views.{IsAcceptedView, at_places, beliefs_at}
 use Rattle.mcs_cnf.specs.ClauseLists.{IsOver, AreOver}
 use Rattle.mcs_cnf.proofs.OverLemmas.{context_atoms}
 use Rattle.mcs_cnf.proofs.EntailmentLemmas.{classical_sound}
-use Rattle.mcs_evidence.specs.Defaults.{IsOverItem, AreOverItems}
 use Rattle.mcs_evidence.specs.Programs.{IsOverRule, AreOverRules, AreAtomsOf}
 use Rattle.mcs_evidence.specs.Pushing.{AreNamesOf}
 use Rattle.mcs_evidence.proofs.AnswerSets.{program_sound}
 use Rattle.mcs_evidence.proofs.DefaultCertificates.{defaults_sound}
+use Rattle.mcs_evidence.proofs.TheoryLemmas.{over_with_facts}
 use Rattle.mcs_laws.proofs.Views.{view_listings}
 use Rattle.mcs_certificate.specs.Certificates.{Certificate, OfFormulas, OfDefaults, OfProgram, IsAccepted, IsAcceptedFor}
 use Rattle.mcs_certificate.specs.Kinds.{IsOverKb, AreOfKind}
@@ -28,13 +28,6 @@ use Rattle.mcs_certificate.proofs.CoverLemmas.{own_over, heads_over, beliefs_ove
 use Rattle.mcs_certificate.proofs.KindLemmas.{beliefs_of_kind}
 
 -- ---- what is added is over the names
-facts_over : (names : List Name) (fs : List Formula) → AreOver names fs → AreOverItems names (map Fact fs)
-facts_over names [] over = tt
-facts_over names (f ∷ fs) over = (over.0, facts_over names fs over.1)
-
-pub with_facts_over : (names : List Name) (items : List Item) (fs : List Formula) → AreOverItems names items → AreOver names fs → AreOverItems names (items ++ map Fact fs)
-with_facts_over names items fs over over' = all_append (IsOverItem names) items (map Fact fs) over (facts_over names fs over')
-
 heads_over_rules : (names : List Name) (fs : List Formula) → AreOver names fs → AreOverRules names (filter_map fact_of fs)
 heads_over_rules names [] over = tt
 heads_over_rules names (Truth ∷ fs) over = heads_over_rules names fs over.1
@@ -77,7 +70,7 @@ shown_listing names (Classical fs) heads beliefs views (OfFormulas es) single ov
 shown_listing names (Classical fs) heads beliefs views (OfDefaults vs) single over told asked fit shown = absurd shown
 shown_listing names (Classical fs) heads beliefs views (OfProgram p) single over told asked fit shown = absurd shown
 shown_listing names (DefaultTheory items) heads beliefs views (OfFormulas es) single over told asked fit shown = absurd shown
-shown_listing names (DefaultTheory items) heads beliefs views (OfDefaults vs) single over told asked fit shown = defaults_sound names (items ++ map Fact heads) beliefs views vs (with_facts_over names items heads over told) asked shown
+shown_listing names (DefaultTheory items) heads beliefs views (OfDefaults vs) single over told asked fit shown = defaults_sound names (items ++ map Fact heads) beliefs views vs (over_with_facts names items heads over told) asked shown
 shown_listing names (DefaultTheory items) heads beliefs views (OfProgram p) single over told asked fit shown = absurd shown
 shown_listing names (Program rules) heads beliefs views (OfFormulas es) single over told asked fit shown = absurd shown
 shown_listing names (Program rules) heads beliefs views (OfDefaults vs) single over told asked fit shown = absurd shown

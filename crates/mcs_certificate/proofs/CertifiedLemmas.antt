@@ -1,5 +1,5 @@
 -- Finding an answer among those of ascending sets.
-use Rattle.std.proofs.Common.{◌≡◌, ℕ, zero, suc, ◌<◌, ◌≤◌, Bool, true, false, not, List, [], ◌∷◌, length, get_or, take, Vec, Global, slice_get, Some, arith, refl, sym, ap, ◌∙◌, subst, inl, inr, true≢false}
+use Rattle.std.proofs.Common.{◌≡◌, ℕ, zero, suc, ◌<◌, ◌≤◌, true, not, List, [], ◌∷◌, length, get_or, take, Vec, Global, slice_get, Some, arith, refl, sym, ap, ◌∙◌, subst, inl, inr, true≢false}
 use Rattle.std.proofs.lemmas.Bool.{cases_lt}
 use Rattle.std.proofs.lemmas.Cmp.{ranked}
 use Rattle.std.proofs.lemmas.List.{get_or-map, length-map, get_or-take, length-take}
@@ -87,7 +87,3 @@ answer_is_held x answers states (k, a, at, set, items) = held answers k at
     held [] k is = cc
     held (b ∷ bs) zero is = inl (let same : b ≡ a = cc in sym (ap (λ (c : ℕ × Vec ℕ Global). c.0) same ∙ set))
     held (b ∷ bs) (suc k) is = inr (held bs k is)
-
-pub from_not : (b : Bool) → not b ≡ false → b ≡ true
-from_not true h = refl
-from_not false h = absurd (true≢false h)

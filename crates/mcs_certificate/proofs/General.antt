@@ -1,18 +1,11 @@
--- Two lists that are gone through together, sets of places that are gathered, and clauses that are added and taken off again.
-use Rattle.std.proofs.Common.{◌≡◌, ℕ, ◌+◌, ◌<◌, ◌≤◌, Bool, true, false, List, [], ◌∷◌, ◌++◌, map, length, get_or, take, drop, arith, refl, sym, ap, ◌∙◌, subst, ◌⊎◌, ◌↔◌, inl, inr, ℤ, IsTrue, true≢false}
-use Rattle.std.proofs.lemmas.List.{drop_all, append-nil, length-map}
-use Rattle.std.proofs.Math.Seq.{take-append_seam}
-use Rattle.std.specs.List.{AllByRecursion, AllZip}
+-- Two lists that are gone through together, and sets of places that are gathered.
+use Rattle.std.proofs.Common.{◌≡◌, ℕ, ◌+◌, ◌<◌, ◌≤◌, true, List, [], ◌∷◌, map, length, get_or, drop, arith, sym, ap, ◌∙◌, subst, ◌⊎◌, ◌↔◌, inl, inr, IsTrue, true≢false}
+use Rattle.std.proofs.lemmas.List.{drop_all}
+use Rattle.std.specs.List.{AllZip}
 use Rattle.mcs_sets.specs.Sets.{has, single, union}
 use Rattle.mcs_sets.proofs.Lattice.{in_with}
 use Rattle.mcs_sets.proofs.SetLemmas.{has-empty}
-use Rattle.mcs_base.proofs.Each.{all_weaker}
-use Rattle.mcs_base.proofs.Lists.{length_zip}
 use Rattle.mcs_base.proofs.Mapped.{map-drop_more}
-use Rattle.mcs_system.specs.Plain.{Name, Formula}
-use Rattle.mcs_trace.specs.Clauses.{IsWithin, ClauseList, IsClauseList}
-use Rattle.mcs_cnf.specs.ClauseLists.{taken_by_all, list_clauses, with_formulas, clause_list}
-use Rattle.mcs_cnf.proofs.ListLemmas.{all_take_grow, with_append}
 
 -- ---- two lists that go together
 module _ {A B C D : Type 0} (R : C → D → Type 0) (f : A → C) (g : B → D) (xs : List A) (ys : List B) where
@@ -76,61 +69,3 @@ module _ (P : ℕ → Type 0) where
 
   pub gathered_all : (s i n : ℕ) → n ≤ i → ((b : ℕ) → P b → b < n) → AreGathered s i → (b : ℕ) → IsTrue (has s b) ↔ P b
   gathered_all s i n past low gathered b = (λ h. ((gathered b).0 h).1, λ holds. (gathered b).1 ((let less = low b holds in omega arith), holds))
-
--- ---- clauses that are added and taken off again
-abbrev pub list_of : ℕ → List (List ℤ) → ClauseList
-list_of n cs = record { vars = n; clauses = cs }
-
-module _ (names : List Name) (known new : ClauseList) (fs : List Formula) (grown : new ≡ with_formulas names known fs) where
-  first_kept : take (length known.clauses) new.clauses ≡ known.clauses
-  first_kept = ap (λ (x : ClauseList). take (length known.clauses) x.clauses) grown ∙ take-append_seam known.clauses (list_clauses names known.vars fs)
-
-  pub grown_fewer : known.vars ≤ new.vars
-  grown_fewer = let e : new.vars ≡ taken_by_all known.vars fs = ap (λ (x : ClauseList). x.vars) grown in omega (arith, all_take_grow known.vars fs)
-
-  pub grown_room : length names ≤ known.vars → length names ≤ new.vars
-  grown_room room = let more = grown_fewer in omega arith
-
-  pub cut_fewer : (asked : ClauseList) (vars : ℕ) → vars ≡ known.vars → asked ≡ new → vars ≤ asked.vars
-  cut_fewer asked vars is kept = subst (λ (x : ClauseList). vars ≤ x.vars) (sym kept) (let more = grown_fewer in omega arith)
-
-  pub cut_within : (asked : ClauseList) (vars : ℕ) (cs : List (List ℤ)) → vars ≡ known.vars → cs ≡ known.clauses → IsClauseList known → asked ≡ new → AllByRecursion (IsWithin vars) (take (length cs) asked.clauses)
-  cut_within asked vars cs is same kept_is kept =
-      subst (λ (x : ClauseList). AllByRecursion (IsWithin vars) (take (length cs) x.clauses)) (sym kept)
-      (subst (λ (xs : List (List ℤ)). AllByRecursion (IsWithin vars) (take (length xs) new.clauses)) (sym same)
-      (subst (λ (n : ℕ). AllByRecursion (IsWithin n) (take (length known.clauses) new.clauses)) (sym is)
-      (subst (AllByRecursion (IsWithin known.vars)) (sym first_kept) (all_weaker _ (IsWithin known.vars) (λ c both. both.1) known.clauses kept_is.1))))
-
-  pub cut_back : (asked cut : ClauseList) (vars : ℕ) (cs : List (List ℤ)) → vars ≡ known.vars → cs ≡ known.clauses → asked ≡ new → cut ≡ list_of vars (take (length cs) asked.clauses) → cut ≡ known
-  cut_back asked cut vars cs is same kept done =
-      done ∙ ap (λ (x : ClauseList). list_of vars (take (length cs) x.clauses)) kept ∙ ap (λ (n : ℕ). list_of n (take (length cs) new.clauses)) is
-      ∙ ap (λ (xs : List (List ℤ)). list_of known.vars (take (length xs) new.clauses)) same ∙ ap (list_of known.vars) first_kept
-
-  -- the clauses of formulas with those of more
-  pub grown_clauses : (gs : List Formula) → known ≡ clause_list names gs → new ≡ clause_list names (gs ++ fs)
-  grown_clauses gs is = grown ∙ ap (λ (x : ClauseList). with_formulas names x fs) is ∙ with_append names (list_of (length names) []) gs fs
-
-pub room_known : (names : List Name) (known : ClauseList) (fs : List Formula) → known ≡ clause_list names fs → length names ≤ known.vars
-room_known names known fs is = let e : known.vars ≡ taken_by_all (length names) fs = ap (λ (x : ClauseList). x.vars) is in omega (arith, all_take_grow (length names) fs)
-
-pub none-with : (names : List Name) (c : ClauseList) → with_formulas names c [] ≡ c
-none-with names c = ap (list_of c.vars) (append-nil c.clauses)
-
--- ---- tests
-pub true_tells : {P : Type 0} → P → IsTrue true ↔ P
-true_tells p = (λ _. p, λ _. refl)
-
--- a test that is false tells that it does not hold
-pub untold : {P : Type 0} (b : Bool) → IsTrue b ↔ P → b ≡ false → ¬ P
-untold b tells is p = true≢false (sym (tells.1 p) ∙ is)
-
--- lists of two lengths do not go together
-pub zip_short : {A B C D : Type 0} (R : C → D → Type 0) (f : A → C) (g : B → D) (xs : List A) (ys : List B) → ¬ (length xs ≡ length ys) → ¬ AllZip R (map f xs) (map g ys)
-zip_short R f g xs ys differ all = differ (sym (length-map xs f) ∙ length_zip R (map f xs) (map g ys) all ∙ length-map ys g)
-
-pub map_itself : (xs : List ℕ) → map (λ (k : ℕ). k) xs ≡ xs
-map_itself [] = refl
-map_itself (x ∷ xs) = ap (λ (ys : List ℕ). x ∷ ys) (map_itself xs)
-
-pub iff_trans : {P Q R : Type 0} → P ↔ Q → Q ↔ R → P ↔ R
-iff_trans f g = (λ p. g.0 (f.0 p), λ r. f.1 (g.1 r))

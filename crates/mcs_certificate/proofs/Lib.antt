@@ -1,5 +1,4 @@
 pub mod General
-pub mod PushLemmas
 pub mod AskingLemmas
 pub mod CoverLemmas
 pub mod KindLemmas
@@ -10,4 +9,3 @@ pub mod JudgingLemmas
 pub mod ModelLemmas
 pub mod CertifiedLemmas
 pub mod ShownLemmas
-pub mod TheoryLemmas

@@ -17,8 +17,8 @@ use Rattle.mcs_cnf.specs.Entailments.{Entailment, entailment_of}
 use Rattle.mcs_cnf.proofs.ListLemmas.{with_append}
 use Rattle.mcs_trace.specs.declared.certificate.Entail.{Entail}
 use Rattle.mcs_evidence.specs.Defaults.{defaults_of, numbered_default, IsShown, AreGrounded}
-use Rattle.mcs_certificate.specs.Checks.{numbered, IsNumberIn, AreNumbersOf, IsGrown}
-use Rattle.mcs_certificate.proofs.General.{list_of, none-with}
+use Rattle.mcs_certificate.specs.Checks.{numbered, IsNumberIn, AreNumbersOf}
+use Rattle.mcs_cnf.proofs.GrowingLemmas.{list_of}
 
 -- ---- numbers of members
 -- the first number is a member's: the others are those of the other members
@@ -175,9 +175,3 @@ grounded_long names items fs (n ∷ ns) (e ∷ es) (d, at, shown, rest) = ap suc
 
 pub derives_short : (names : List Name) (items : List Item) (fs : List Formula) (order : List ℕ) (pres : List Entail) → ¬ (length order ≡ length pres) → ¬ AreGrounded names items fs order (map entailment_of pres)
 derives_short names items fs order pres differ h = differ (grounded_long names items fs order (map entailment_of pres) h ∙ length-map pres entailment_of)
-
-pub grown_more : (names : List Name) (c0 c c' : ClauseList) (f : Formula) → IsGrown names c0 c → c' ≡ with_formulas names c (f ∷ []) → IsGrown names c0 c'
-grown_more names c0 c c' f (fs, is) pushed = (fs ++ f ∷ [], pushed ∙ ap (λ (x : ClauseList). with_formulas names x (f ∷ [])) is ∙ with_append names c0 fs (f ∷ []))
-
-pub grown_none : (names : List Name) (c : ClauseList) → IsGrown names c c
-grown_none names c = ([], sym (none-with names c))

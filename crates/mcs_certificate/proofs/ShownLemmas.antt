@@ -1,12 +1,11 @@
 -- The places of entailments that say `yes`, and places in range.
-use Rattle.std.proofs.Common.{◌≡◌, ℕ, ◌<◌, ◌^◌, Bool, true, false, not, ◌&&◌, ltb, IsTrue, List, map, length, get_or, arith, refl, sym, ap, subst, ◌∙◌, ◌↔◌, Some, slice_get}
+use Rattle.std.proofs.Common.{◌≡◌, ℕ, ◌<◌, ◌^◌, Bool, true, false, not, ltb, IsTrue, List, map, length, get_or, arith, refl, sym, ap, subst, ◌∙◌, ◌↔◌, Some, slice_get}
 use Rattle.std.proofs.lemmas.List.{length-map}
 use Rattle.std.proofs.lemmas.Option.{slice_get_within}
 use Rattle.mcs_base.proofs.Lists.{slice_get-map_some}
 use Rattle.std.proofs.lemmas.Bool.Decides.{nat_tests}
-use Rattle.mcs_sets.specs.Sets.{has}
-use Rattle.mcs_sets.proofs.SetLemmas.{members_below, has-such_that}
-use Rattle.mcs_sets.proofs.Lattice.{below_from_within}
+use Rattle.mcs_sets.proofs.SetLemmas.{members_below}
+use Rattle.mcs_sets.proofs.Lattice.{below_from_members}
 use Rattle.mcs_system.specs.Logic.{holds, holds_all, true_names}
 use Rattle.mcs_evidence.specs.Programs.{IsInRange}
 use Rattle.mcs_base.proofs.Mapped.{slice_get-map_read}
@@ -31,13 +30,10 @@ pub yes_below : (es : List Entail) (b : ℕ) → HasYes (map entailment_of es) b
 yes_below es b h = let inside = slice_get_within (map says_yes (map entailment_of es)) b true h in omega (arith, length-map (map entailment_of es) says_yes, length-map es entailment_of)
 
 -- ---- places in range
-range_low : (n s : ℕ) → ((k : ℕ) → has s k ≡ true → k < n) → s < 2 ^ n
-range_low n s low = below_from_within s n (λ k h. (let less : k < n = low k h in let is : ltb k n ≡ true = grind (arith, nat_tests) in has-such_that n (λ _. true) k ∙ ap (λ (b : Bool). b && true) is))
-
 pub range_test : (names : List Name) (s : ℕ) → IsTrue (ltb s (2 ^ length names)) ↔ IsInRange names s
 range_test names s = (
   λ h k member. members_below s (length names) k (let test : ltb s (2 ^ length names) ≡ true = h in grind (arith, nat_tests)) member,
-  λ low. (let less : s < 2 ^ length names = range_low (length names) s low in grind (arith, nat_tests)),
+  λ low. (let less : s < 2 ^ length names = below_from_members (length names) s low in grind (arith, nat_tests)),
 )
 
 pub refuted_iff : (names : List Name) (fs : List Formula) (g : Formula) (places values : ℕ) (b : Bool) → values ≡ places → b ≡ holds (true_names 0 names values) g → IsInRange names places → holds_all (true_names 0 names values) fs ≡ true

@@ -1,11 +1,10 @@
 -- Each part of a verdict, by what is tested of it.
-use Rattle.std.proofs.Common.{◌≡◌, ℕ, zero, suc, ◌+◌, ◌<◌, Bool, true, false, cond, not, ◌&&◌, IsTrue, ltb, List, [], ◌∷◌, ◌++◌, map, length, arith, refl, sym, ap, ◌∙◌, subst, ◌↔◌, Option, Some, None, MatchOption, true≢false}
-use Rattle.std.proofs.lemmas.Bool.Decides.{nat_tests}
+use Rattle.std.proofs.Common.{◌≡◌, ℕ, zero, suc, ◌+◌, ◌<◌, Bool, true, false, not, IsTrue, List, [], ◌∷◌, ◌++◌, map, length, refl, sym, ap, ◌∙◌, subst, ◌↔◌, Option, Some, None, MatchOption, true≢false}
 use Rattle.std.proofs.lemmas.List.{append-nil}
 use Rattle.std.proofs.lemmas.Option.{none-some}
 use Rattle.std.specs.List.{AllZip, AllByRecursion}
 use Rattle.mcs_sets.specs.Sets.{has, minus, members, members_from, Within}
-use Rattle.mcs_sets.proofs.SetLemmas.{has-minus, has-such_that, members-width, such_that-lt}
+use Rattle.mcs_sets.proofs.SetLemmas.{members-width, such_that-lt}
 use Rattle.mcs_sets.proofs.Lattice.{minus-lt}
 use Rattle.mcs_base.proofs.Each.{all_get}
 use Rattle.mcs_base.proofs.SetParts.{members_from-more}
@@ -14,7 +13,9 @@ use Rattle.mcs_cnf.specs.Classical.{AreShown}
 use Rattle.mcs_cnf.specs.Entailments.{Entailment}
 use Rattle.mcs_cnf.specs.ClauseLists.{IsOver, AreOver}
 use Rattle.mcs_evidence.specs.Defaults.{Absence, Unsupported, Blocked, Verdict, Fails, Applied, Ungrounded, Extension, facts_of, defaults_of, defaults_in, defaults_at, all_defaults, generated, numbered_default, numbered_formula, negated_justs, IsShown, IsDenied, AreDenied, IsAbsent, AreGrounded, HasFailed, HasApplied, IsUngrounded, IsGenerating, IsAcceptedVerdict, ShowsView}
-use Rattle.mcs_certificate.specs.Checks.{judged_as, judged_by, numbered, number_in, all_of, IsNumberIn, AreNumbersOf, IsReady, IsComplete, IsJudged, AreOverDefaults, IsOverDefault}
+use Rattle.mcs_certificate.specs.Checks.{judged_as, judged_by, numbered, number_in, IsNumberIn, AreNumbersOf, IsReady, IsComplete, IsJudged}
+use Rattle.mcs_evidence.specs.Theories.{all_of, AreOverDefaults, IsOverDefault}
+use Rattle.mcs_evidence.proofs.TheoryLemmas.{others, has-others, consequents_over}
 use Rattle.mcs_certificate.proofs.OrderLemmas.{numbered_same}
 
 -- ---- absence
@@ -51,14 +52,6 @@ module _ (names : List Name) (items : List Item) (ds : List Default) (same : ds 
     )
 
 -- ---- the places outside a set
-abbrev pub others : List Default → ℕ → ℕ
-others ds set = minus (all_of ds) set
-
-has-others : (ds : List Default) (set i : ℕ) (b : Bool) → i < length ds → has set i ≡ b → has (others ds set) i ≡ not b
-has-others ds set i b less is =
-    let below : ltb i (length ds) ≡ true = grind (arith, nat_tests) in
-    has-minus (all_of ds) set i ∙ ap (λ c. c && not (has set i)) (has-such_that (length ds) (λ k. true) i ∙ ap (λ c. c && true) below) ∙ ap not is
-
 pub outside_none : (ds : List Default) (set : ℕ) → [] ≡ members_from 0 0 (others ds set)
 unfolding members_from
 outside_none ds set = refl
@@ -141,14 +134,6 @@ not_ready names items beliefs set (Ungrounded closed pres) other not_it = absurd
 not_ready names items beliefs set (Extension order pres justs outside outputs) other not_it = λ (places, g). not_it (ready names items beliefs set order pres justs outside outputs places g)
 
 -- ---- what is over the names
-consequents_over : (names : List Name) (j : ℕ) (ds : List Default) (set : ℕ) → AreOverDefaults names ds → AreOver names (map (λ (d : Default). d.conclusion) (defaults_at j ds set))
-consequents_over names j [] set over = tt
-consequents_over names j (d ∷ ds) set over = at (has set j) (consequents_over names (j + 1) ds set over.1)
-  where
-    at : (b : Bool) → AreOver names (map (λ (d : Default). d.conclusion) (defaults_at (j + 1) ds set)) → AreOver names (map (λ (d : Default). d.conclusion) (cond b (d ∷ defaults_at (j + 1) ds set) (defaults_at (j + 1) ds set)))
-    at true rest = (over.0.2, rest)
-    at false rest = rest
-
 pub chosen_over : (names : List Name) (ds : List Default) (set : ℕ) (chosen : List Default) → AreOverDefaults names ds → chosen ≡ defaults_at 0 ds set → AreOver names (map (λ (d : Default). d.conclusion) chosen)
 chosen_over names ds set chosen over is = subst (λ (xs : List Default). AreOver names (map (λ (d : Default). d.conclusion) xs)) (sym is) (consequents_over names 0 ds set over)
 

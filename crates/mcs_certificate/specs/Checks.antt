@@ -1,11 +1,9 @@
 -- What is tested of a certificate part by part.
-use Rattle.std.specs.Prelude.{◌≡◌, ℕ, zero, suc, ◌+◌, Bool, true, false, IsTrue, ◌↔◌, List, length, Option, Some, None, slice_get}
-use Rattle.std.specs.List.{AllByRecursion, AllZip}
-use Rattle.mcs_sets.specs.Sets.{has, minus, such_that, members}
+use Rattle.std.specs.Prelude.{◌≡◌, ℕ, zero, suc, ◌+◌, Bool, true, false, IsTrue, ◌↔◌, List, Option, Some, None, slice_get}
+use Rattle.std.specs.List.{AllZip}
+use Rattle.mcs_sets.specs.Sets.{has, minus, members}
 use Rattle.mcs_base.specs.Listings.{IsAmong, AreApart}
-use Rattle.mcs_system.specs.Plain.{Name, Formula, Default, Item}
-use Rattle.mcs_trace.specs.Clauses.{ClauseList}
-use Rattle.mcs_cnf.specs.ClauseLists.{with_formulas, IsOver, AreOver}
+use Rattle.mcs_system.specs.Plain.{Name, Formula, Item}
 use Rattle.mcs_cnf.specs.Entailments.{Entailment}
 use Rattle.mcs_cnf.specs.Classical.{AreShown}
 use Rattle.mcs_evidence.specs.Defaults.{Absence, Unsupported, Blocked, Verdict, Fails, Applied, Ungrounded, Extension, facts_of, defaults_in, all_defaults, negated_justs, AreDenied, IsAbsent, AreGrounded, IsAcceptedVerdict, ShowsView}
@@ -25,17 +23,6 @@ IsNumberIn set number = (k : ℕ) × (number ≡ k + 1) × IsTrue (has set k)
 abbrev pub AreNumbersOf : ℕ → List ℕ → Type 0
 AreNumbersOf set order = AreApart order × ((number : ℕ) → IsAmong number order ↔ IsNumberIn set number)
 
--- each atom of the default is one of the names
-abbrev pub IsOverDefault : List Name → Default → Type 0
-IsOverDefault names d = IsOver names d.pre × AreOver names d.justs × IsOver names d.conclusion
-
-abbrev pub AreOverDefaults : List Name → List Default → Type 0
-AreOverDefaults names ds = AllByRecursion (IsOverDefault names) ds
-
--- all of the defaults, as a set
-abbrev pub all_of : List Default → ℕ
-all_of ds = such_that (length ds) (λ k. true)
-
 -- each default outside the set is shown to be unsupported or blocked by the formulas
 abbrev pub AreAbsent : List Name → List Item → List Formula → List ℕ → List Absence → Type 0
 AreAbsent names items fs places absences = AllZip (λ k absence. IsAbsent names items fs (k + 1) absence) places absences
@@ -51,10 +38,6 @@ abbrev pub IsJudged : List Name → List Item → List Formula → ℕ → Verdi
 IsJudged names items beliefs set v variants.Refused = ¬ IsAcceptedVerdict names items beliefs set v
 IsJudged names items beliefs set v variants.Passed = IsAcceptedVerdict names items beliefs set v × ((places : ℕ) → ¬ ShowsView names items beliefs set v places)
 IsJudged names items beliefs set v (variants.Shows view) = ShowsView names items beliefs set v view
-
--- the clauses of some formulas are added
-abbrev pub IsGrown : List Name → ClauseList → ClauseList → Type 0
-IsGrown names old new = (fs : List Formula) × (new ≡ with_formulas names old fs)
 
 -- the number that an absence tells
 abbrev pub number_in : Absence → ℕ

@@ -8,7 +8,8 @@ ghost use Rattle.mcs_system.specs.Seen.{default_of, formula_of};
 ghost use Rattle.mcs_cnf.specs.ClauseLists.{clause_list, IsOver};
 ghost use Rattle.mcs_cnf.specs.Entailments.{entailment_of};
 ghost use Rattle.mcs_evidence.specs.Defaults.{absence_of, defaults_of, IsAbsent, IsShown, IsDenied};
-ghost use Rattle.mcs_certificate.specs.Checks.{numbered, all_of, AreOverDefaults, AreAbsent};
+ghost use Rattle.mcs_certificate.specs.Checks.{numbered, AreAbsent};
+ghost use Rattle.mcs_evidence.specs.Theories.{all_of, AreOverDefaults};
 
 use crate::entailment::{denies, shows};
 use crate::order::numbered_default;

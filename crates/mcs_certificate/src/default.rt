@@ -6,7 +6,7 @@ ghost use Rattle.mcs_system.specs.Plain as plain;
 ghost use Rattle.mcs_system.specs.Seen.{default_of, formula_of, item_of};
 ghost use Rattle.mcs_cnf.specs.ClauseLists.{clause_list, AreOver};
 ghost use Rattle.mcs_evidence.specs.Defaults.{AreOverItems, IsAcceptedDefault, facts_of, defaults_of, verdict_of, verdicts_of};
-ghost use Rattle.mcs_certificate.specs.Checks.{AreOverDefaults};
+ghost use Rattle.mcs_evidence.specs.Theories.{AreOverDefaults};
 
 use crate::premises::clauses_of;
 use crate::theory::{defaults_of, facts_with};

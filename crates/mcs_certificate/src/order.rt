@@ -1,13 +1,15 @@
 //! The order in which the defaults of a set apply.
 
 ghost use Rattle.std.specs.Prelude.{◌≡◌, ◌≤◌, ◌↔◌, List, length, map, IsTrue, IfOk, OnOk};
+ghost use Rattle.std.specs.Prelude.{MatchOption, None, Some};
 ghost use Rattle.mcs_system.specs.Plain as plain;
 ghost use Rattle.mcs_system.specs.Seen.{default_of};
 ghost use Rattle.mcs_cnf.specs.ClauseLists.{clause_list};
 ghost use Rattle.mcs_cnf.specs.Entailments.{entailment_of};
 ghost use Rattle.mcs_evidence.specs.Defaults.{defaults_of, AreGrounded};
-ghost use Rattle.std.specs.Prelude.{MatchOption, None, Some};
-ghost use Rattle.mcs_certificate.specs.Checks.{numbered, IsNumberIn, AreNumbersOf, AreOverDefaults, IsGrown};
+ghost use Rattle.mcs_certificate.specs.Checks.{numbered, IsNumberIn, AreNumbersOf};
+ghost use Rattle.mcs_cnf.specs.Growing.{IsGrown};
+ghost use Rattle.mcs_evidence.specs.Theories.{AreOverDefaults};
 
 use crate::entailment::shows;
 use mcs_base::{Memory, Vars};

@@ -1,31 +1,14 @@
 //! The formulas that a context is asked with, and their clauses.
 
-ghost use Rattle.std.specs.Prelude.{◌≡◌, ◌≤◌, ◌++◌, length, map, IfOk, OnOk};
+ghost use Rattle.std.specs.Prelude.{◌≡◌, ◌≤◌, ◌++◌, length, map, IfOk};
 ghost use Rattle.mcs_system.specs.Seen.{formula_of};
-ghost use Rattle.mcs_cnf.specs.ClauseLists.{with_formulas, clause_list, AreOver};
+ghost use Rattle.mcs_cnf.specs.ClauseLists.{clause_list, AreOver};
 
 use mcs_base::Memory;
-use mcs_cnf::push_formula;
+use mcs_cnf::push_all;
 use mcs_system::{Formula, Name};
 use mcs_trace::Cnf;
 use std::alloc::Global;
-
-/// Adds the clauses of the formulas.
-pub(crate) fn push_all(
-    alloc: Global,
-    known: &mut Cnf,
-    formulas: &[&Formula],
-    atoms: &[Name],
-) -> Result<(), Memory>
-    requires over { AreOver atoms.now (map (λ f. formula_of f.now) formulas.now) }
-    requires room { length atoms.now ≤ known.old.vars }
-    ensures { OnOk result (known.new ≡ with_formulas atoms.now known.old (map (λ f. formula_of f.now) formulas.now)) }
-{
-    for formula in formulas {
-        push_formula(alloc, known, atoms, formula)?;
-    }
-    Ok(())
-}
 
 /// The clauses of the formulas.
 pub(crate) fn clauses_of(

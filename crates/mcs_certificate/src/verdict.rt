@@ -6,14 +6,16 @@ ghost use Rattle.mcs_system.specs.Seen.{default_of, formula_of};
 ghost use Rattle.mcs_cnf.specs.ClauseLists.{clause_list, AreOver};
 ghost use Rattle.mcs_cnf.specs.Entailments.{entailment_of};
 ghost use Rattle.mcs_evidence.specs.Defaults.{absence_of, verdict_of, facts_of, defaults_of, defaults_at, generated, negated_justs, AreDenied, HasFailed, HasApplied, IsUngrounded};
-ghost use Rattle.mcs_certificate.specs.Checks.{AreOverDefaults, IsComplete, IsJudged, IsReady, number_in, judged_by, judged_as};
+ghost use Rattle.mcs_certificate.specs.Checks.{IsComplete, IsJudged, IsReady, number_in, judged_by, judged_as};
+ghost use Rattle.mcs_evidence.specs.Theories.{AreOverDefaults};
 
 use crate::absence::{are_absent, is_absent};
 use crate::entailment::{deny, shown_places, shows};
 use crate::order::{are_grounded, are_numbers, is_member, numbered_default};
-use crate::premises::{extended, lend, push_all};
+use crate::premises::{extended, lend};
 use crate::theory::{chosen, consequents, negations, prerequisites};
 use mcs_base::{Memory, Vars};
+use mcs_cnf::push_all;
 use mcs_system::{Default, Formula, Name};
 use mcs_trace::{Cnf, Entail, Outside, SetCert};
 use std::alloc::Global;

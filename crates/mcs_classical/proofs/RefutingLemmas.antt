@@ -1,23 +1,20 @@
 -- An assignment of variables, read as a set of places of atoms, refutes that a formula follows.
-use Rattle.std.proofs.Common.{◌≡◌, ℕ, ◌+◌, ◌-◌, ◌<◌, ◌≤◌, zero, suc, Bool, true, false, ◌&&◌, ◌||◌, ltb, cond, List, [], ◌∷◌, ◌++◌, length, get_or, take, arith, refl, sym, ap, ◌∙◌, subst, true≢false, ℤ}
+use Rattle.std.proofs.Common.{◌≡◌, ℕ, ◌+◌, ◌-◌, ◌<◌, zero, suc, Bool, true, false, ◌&&◌, ◌||◌, ltb, cond, List, [], ◌∷◌, ◌++◌, length, get_or, arith, refl, sym, ap, ◌∙◌, subst, true≢false}
 use Rattle.std.proofs.lemmas.Bool.{and_parts, or_parts}
 use Rattle.std.proofs.lemmas.Bool.Decides.{nat_tests}
-use Rattle.std.specs.List.{AllByRecursion}
-use Rattle.std.proofs.Math.Seq.{take-append_seam}
 use Rattle.mcs_sets.specs.Sets.{has, such_that}
 use Rattle.mcs_sets.proofs.SetLemmas.{has-such_that}
-use Rattle.mcs_base.proofs.Each.{all_weaker}
 use Rattle.mcs_system.specs.Plain.{Name, Formula, Not}
 use Rattle.mcs_system.specs.Logic.{same_name, is_in, true_names}
 use Rattle.mcs_system.specs.Faults.{has_twins}
 use Rattle.mcs_system.proofs.Sameness.{same_name-is}
-use Rattle.mcs_trace.specs.Clauses.{IsWithin, ClauseList, IsClauseList, all_hold}
+use Rattle.mcs_trace.specs.Clauses.{ClauseList, all_hold}
 use Rattle.mcs_trace.specs.Traces.{Inference, IsAcceptedTrace}
-use Rattle.mcs_cnf.specs.ClauseLists.{atom_number, taken_by_all, list_clauses, with_formulas, clause_list, IsOver, AreOver}
+use Rattle.mcs_cnf.specs.ClauseLists.{atom_number, with_formulas, clause_list, IsOver, AreOver}
 use Rattle.mcs_cnf.specs.Meaning.{Extends}
 use Rattle.mcs_cnf.specs.Entailments.{with_negated, IsRefuted}
 use Rattle.mcs_cnf.proofs.NumberLemmas.{atom_positive, atom_within}
-use Rattle.mcs_cnf.proofs.ListLemmas.{with_append, all_take_grow}
+use Rattle.mcs_cnf.proofs.GrowingLemmas.{grown_clauses}
 use Rattle.mcs_cnf.proofs.MeaningLemmas.{satisfied}
 use Rattle.mcs_cnf.proofs.EntailmentLemmas.{over_with, parts_with}
 use Rattle.mcs_sat.specs.Answers.{assignment_of}
@@ -90,23 +87,7 @@ refuted fs g names values single over over' h =
 
 -- ---- the goal's clauses after those of the formulas
 pub with_goal : (fs : List Formula) (g : Formula) (names : List Name) (known new : ClauseList) → known ≡ clause_list names fs → new ≡ with_formulas names known (Not g ∷ []) → new ≡ clause_list names (with_negated fs g)
-with_goal fs g names known new is pushed =
-    pushed ∙ ap (λ (x : ClauseList). with_formulas names x (Not g ∷ [])) is ∙ with_append names (record { vars = length names; clauses = [] }) fs (Not g ∷ [])
-
-pub cut_within : (known new : ClauseList) (names : List Name) (g : Formula) → IsClauseList known → new ≡ with_formulas names known (g ∷ []) → AllByRecursion (IsWithin known.vars) (take (length known.clauses) new.clauses)
-cut_within known new names g is pushed =
-    let e : take (length known.clauses) new.clauses ≡ known.clauses = ap (λ (x : ClauseList). take (length known.clauses) x.clauses) pushed ∙ take-append_seam known.clauses (list_clauses names known.vars (g ∷ [])) in
-    subst (AllByRecursion (IsWithin known.vars)) (sym e) (all_weaker _ (IsWithin known.vars) (λ c both. both.1) known.clauses is.1)
-
-pub cut_fewer : (known new : ClauseList) (names : List Name) (g : Formula) → new ≡ with_formulas names known (g ∷ []) → known.vars ≤ new.vars
-cut_fewer known new names g pushed =
-    let e : new.vars ≡ taken_by_all known.vars (g ∷ []) = ap (λ (x : ClauseList). x.vars) pushed in omega (arith, all_take_grow known.vars (g ∷ []))
-
-abbrev list_of : ℕ → List (List ℤ) → ClauseList
-list_of n cs = record { vars = n; clauses = cs }
-
-pub cut_back : (known new : ClauseList) (names : List Name) (g : Formula) → new ≡ with_formulas names known (g ∷ []) → list_of known.vars (take (length known.clauses) new.clauses) ≡ known
-cut_back known new names g pushed = ap (list_of known.vars) (ap (λ (x : ClauseList). take (length known.clauses) x.clauses) pushed ∙ take-append_seam known.clauses (list_clauses names known.vars (g ∷ [])))
+with_goal fs g names known new is pushed = grown_clauses names known new (Not g ∷ [], pushed) fs is
 
 -- ---- what the search answers
 pub answer_no : (fs : List Formula) (g : Formula) (names : List Name) (known new : ClauseList) (values read : List Bool) (s : ℕ) → known ≡ clause_list names fs → new ≡ with_formulas names known (Not g ∷ [])
@@ -118,9 +99,6 @@ answer_no fs g names known new values read s is pushed single over over' h same 
 pub answer_yes : (fs : List Formula) (g : Formula) (names : List Name) (known new : ClauseList) (steps : List Inference) → known ≡ clause_list names fs → new ≡ with_formulas names known (Not g ∷ [])
     → IsAcceptedTrace new.clauses steps → IsAcceptedTrace (clause_list names (with_negated fs g)).clauses steps
 answer_yes fs g names known new steps is pushed accepted = subst (λ (x : ClauseList). IsAcceptedTrace x.clauses steps) (with_goal fs g names known new is pushed) accepted
-
-pub room_known : (names : List Name) (known : ClauseList) (fs : List Formula) → known ≡ clause_list names fs → length names ≤ known.vars
-room_known names known fs is = let e : known.vars ≡ taken_by_all (length names) fs = ap (λ (x : ClauseList). x.vars) is in omega (arith, all_take_grow (length names) fs)
 
 -- ---- clauses that are made apart
 pub formula_apart : (names : List Name) (f : Formula) (known more new : ClauseList) → more ≡ with_formulas names (record { vars = known.vars; clauses = [] }) (f ∷ []) → new ≡ record { vars = more.vars; clauses = known.clauses ++ more.clauses } → new ≡ with_formulas names known (f ∷ [])

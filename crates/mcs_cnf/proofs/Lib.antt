@@ -1,6 +1,7 @@
 pub mod NumberLemmas
 pub mod ClauseLemmas
 pub mod ListLemmas
+pub mod GrowingLemmas
 pub mod Tables
 pub mod Values
 pub mod MeaningLemmas

@@ -100,6 +100,23 @@ pub fn push_negation(
     cnf.append(own)
 }
 
+/// Adds the clauses of the formulas, one after the other.
+pub fn push_all(
+    alloc: Global,
+    known: &mut Cnf,
+    formulas: &[&Formula],
+    atoms: &[Name],
+) -> Result<(), Memory>
+    requires over { AreOver atoms.now (map (λ f. formula_of f.now) formulas.now) }
+    requires room { length atoms.now ≤ known.old.vars }
+    ensures { OnOk result (known.new ≡ with_formulas atoms.now known.old (map (λ f. formula_of f.now) formulas.now)) }
+{
+    for formula in formulas {
+        push_formula(alloc, known, atoms, formula)?;
+    }
+    Ok(())
+}
+
 /// The clauses of formulas whose atoms are among `atoms`. Atom i has the variable i, from 1; each occurrence of
 /// a subformula that is no atom has a variable of its own, from the next number on (Tseitin 1968). The work is
 /// linear in the sizes of the formulas, times the number of atoms.

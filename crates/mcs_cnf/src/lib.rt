@@ -7,7 +7,7 @@ mod literals;
 mod occurrences;
 mod over;
 
-pub use formulas::{atom_number, clauses, push_formula, push_negation};
+pub use formulas::{atom_number, clauses, push_all, push_formula, push_negation};
 pub use laws::{
     classical_certificates_are_sound, clauses_are_sets, clauses_mean_the_formulas,
     contexts_are_over_their_atoms, entailment_is_refutation, entailments_are_sound,

@@ -1,10 +1,9 @@
 -- What is told of defaults, question by question.
-use Rattle.std.proofs.Common.{◌≡◌, ℕ, ◌+◌, ◌<◌, Bool, true, false, cond, ltb, not, ◌&&◌, List, [], ◌∷◌, ◌++◌, map, length, get_or, take, arith, refl, sym, ap, ◌∙◌, subst, Some, slice_get}
+use Rattle.std.proofs.Common.{◌≡◌, ℕ, ◌+◌, ◌<◌, true, false, not, List, [], ◌∷◌, ◌++◌, map, length, get_or, take, refl, sym, ap, ◌∙◌, subst, Some, slice_get}
 use Rattle.std.proofs.lemmas.List.{map_more, map_push, append-nil}
-use Rattle.std.proofs.lemmas.Bool.Decides.{nat_tests}
 use Rattle.std.specs.List.{AllZip}
-use Rattle.mcs_sets.specs.Sets.{has, minus, members_from}
-use Rattle.mcs_sets.proofs.SetLemmas.{has-minus, has-such_that, members_from-append, members-width, such_that-lt}
+use Rattle.mcs_sets.specs.Sets.{has, members_from}
+use Rattle.mcs_sets.proofs.SetLemmas.{members-width, such_that-lt}
 use Rattle.mcs_sets.proofs.Lattice.{minus-lt}
 use Rattle.mcs_base.proofs.Lists.{zip_push}
 use Rattle.mcs_base.proofs.Mapped.{slice_get-map_read}
@@ -17,7 +16,8 @@ use Rattle.mcs_trace.specs.declared.certificate.Entail.{Entail}
 use Rattle.mcs_trace.specs.declared.certificate.Outside.{Outside}
 use Rattle.mcs_cnf.specs.Entailments.{Entailment, entailment_of, says_yes, IsAcceptedEntailment}
 use Rattle.mcs_evidence.specs.Defaults.{Absence, absence_of, defaults_at, negated_justs, IsDenied, AreDenied}
-use Rattle.mcs_default.specs.Theories.{all_of}
+use Rattle.mcs_evidence.specs.Theories.{all_of}
+use Rattle.mcs_evidence.proofs.TheoryLemmas.{others, has-others}
 use Rattle.mcs_default.specs.declared.asking.Justs as justs
 use Rattle.mcs_default.specs.Told.{IsBlockedBy, IsToldOfJusts, IsAbsentOf, IsAbsentAt, AreAbsent, prerequisites}
 use Rattle.mcs_default.proofs.General.{formula_at, picked_in, picked_out, negated_push}
@@ -65,14 +65,6 @@ module _ {A : Type 0} (view : A → Default) where
   next_same xs set i x less is member = ap (map (λ (d : Default). d.pre)) (picked_out view xs set i x less is member)
 
 -- ---- those outside
-abbrev others : List Default → ℕ → ℕ
-others ds set = minus (all_of ds) set
-
-has-others : (ds : List Default) (set i : ℕ) (b : Bool) → i < length ds → has set i ≡ b → has (others ds set) i ≡ not b
-has-others ds set i b less is =
-    let below : ltb i (length ds) ≡ true = grind (arith, nat_tests) in
-    has-minus (all_of ds) set i ∙ ap (λ c. c && not (has set i)) (has-such_that (length ds) (λ k. true) i ∙ ap (λ c. c && true) below) ∙ ap not is
-
 pub absent_more : (names : List Name) (fs : List Formula) (ds : List Default) (set i : ℕ) (d : Default) (os os' : List Outside) (o : Outside) → i < length ds → slice_get ds i ≡ Some d → has set i ≡ false → os' ≡ os ++ o ∷ []
     → IsAbsentOf names fs d (i + 1) (absence_of o) → AllZip (IsAbsentAt names fs ds) (members_from 0 i (others ds set)) (map absence_of os) → AllZip (IsAbsentAt names fs ds) (members_from 0 (i + 1) (others ds set)) (map absence_of os')
 absent_more names fs ds set i d os os' o less at out pushed told before =

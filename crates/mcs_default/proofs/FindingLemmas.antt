@@ -1,11 +1,11 @@
 -- What is found by an answer, and that nothing else changes by it.
-use Rattle.std.proofs.Common.{◌≡◌, ℕ, ◌≤◌, Bool, true, not, ◌&&◌, ltb, List, [], ◌∷◌, ◌++◌, length, arith, sym, ap, ◌∙◌, subst, ◌↔◌, Some, slice_get, IsTrue, inl, inr, true≢false}
+use Rattle.std.proofs.Common.{◌≡◌, ℕ, ◌≤◌, Bool, true, not, ◌&&◌, ltb, List, [], ◌∷◌, ◌++◌, length, arith, sym, ap, ◌∙◌, subst, ◌↔◌, Some, slice_get, IsTrue, true≢false}
 use Rattle.std.proofs.lemmas.Bool.Decides.{nat_tests}
 use Rattle.std.proofs.lemmas.Option.{slice_get_within}
 use Rattle.std.specs.List.{AllByRecursion}
 use Rattle.mcs_sets.specs.Sets.{has, single, such_that}
-use Rattle.mcs_sets.proofs.SetLemmas.{has-such_that, has-empty}
-use Rattle.mcs_sets.proofs.Lattice.{in_with, none-union}
+use Rattle.mcs_sets.proofs.SetLemmas.{has-such_that}
+use Rattle.mcs_sets.proofs.Lattice.{no_member_of_none, only_member}
 use Rattle.mcs_base.proofs.Each.{all_append, all_left, all_push, all_weaker}
 use Rattle.mcs_system.specs.Plain.{Name, Formula, Not, Default, Item}
 use Rattle.mcs_system.specs.Logic.{holds, holds_all, true_names, Entails}
@@ -17,7 +17,8 @@ use Rattle.mcs_cnf.proofs.EntailmentLemmas.{sound}
 use Rattle.mcs_evidence.specs.Defaults.{facts_of, defaults_of, generated}
 use Rattle.mcs_system.proofs.Consequence.{each_holds}
 use Rattle.mcs_evidence.proofs.DefaultLemmas.{generated_each}
-use Rattle.mcs_default.specs.Theories.{AreClausesOf, AreOverDefaults, AreParts, consequents}
+use Rattle.mcs_default.specs.Theories.{AreClausesOf, AreParts, consequents}
+use Rattle.mcs_evidence.specs.Theories.{AreOverDefaults}
 use Rattle.mcs_default.specs.Assignments.{holds_part, holds_part_of, holds_part_at}
 use Rattle.mcs_default.specs.Searches.{IsSupportedAt, IsBlockedAt, IsConflict, IsLower, IsUpper, IsReady}
 use Rattle.mcs_default.specs.declared.models.Part as part
@@ -25,7 +26,7 @@ use Rattle.mcs_default.specs.declared.models.Part.TheVariants as parts
 use Rattle.mcs_default.specs.declared.findings.Lower as lower
 use Rattle.mcs_default.specs.declared.findings.Upper as upper
 use Rattle.mcs_default.specs.declared.findings.Findings as findings
-use Rattle.mcs_default.proofs.General.{consequents_over}
+use Rattle.mcs_evidence.proofs.TheoryLemmas.{consequents_over}
 
 -- ---- what an assignment shows
 module _ (a : List Name) (ds : List Default) where
@@ -114,23 +115,14 @@ module _ (names : List Name) (ds : List Default) (f f' : findings.Findings) (rea
   }
 
 -- ---- one default that is supported, or blocked
-no_members : (s : ℕ) → s ≡ 0 → (k : ℕ) → has s k ≡ true → ⊥
-no_members s none k member = true≢false (sym member ∙ ap (λ (t : ℕ). has t k) none ∙ has-empty k)
-
-only_member : (s i : ℕ) → s ≡ single i → (k : ℕ) → has s k ≡ true → k ≡ i
-only_member s i is k member = elim ((in_with 0 i k).0 (ap (λ (t : ℕ). has t k) (none-union (single i) ∙ sym is) ∙ member)) [
-  | inl none ↦ absurd (true≢false (sym none ∙ has-empty k))
-  | inr same ↦ same
-]
-
 pub lower_supported : (items : List Item) (x : lower.Lower) (set i : ℕ) → x.set ≡ set → x.supported ≡ single i → x.blocked ≡ 0 → IsSupportedAt items set i → IsLower items x
 lower_supported items x set i is one none supported = record {
   supported = λ k member. subst (λ (j : ℕ). IsSupportedAt items x.set j) (sym (only_member x.supported i one k member)) (subst (λ (s : ℕ). IsSupportedAt items s i) (sym is) supported);
-  blocked = λ k member. absurd (no_members x.blocked none k member);
+  blocked = λ k member. absurd (no_member_of_none x.blocked none k member);
 }
 
 pub lower_blocked : (items : List Item) (x : lower.Lower) (set i : ℕ) → x.set ≡ set → x.supported ≡ 0 → x.blocked ≡ single i → IsBlockedAt items set i → IsLower items x
 lower_blocked items x set i is none one blocked = record {
-  supported = λ k member. absurd (no_members x.supported none k member);
+  supported = λ k member. absurd (no_member_of_none x.supported none k member);
   blocked = λ k member. subst (λ (j : ℕ). IsBlockedAt items x.set j) (sym (only_member x.blocked i one k member)) (subst (λ (s : ℕ). IsBlockedAt items s i) (sym is) blocked);
 }

@@ -1,17 +1,18 @@
 -- Of lists, clause lists and the defaults of a set.
-use Rattle.std.proofs.Common.{◌≡◌, ℕ, ◌+◌, ◌<◌, ◌≤◌, suc, Bool, true, false, cond, List, [], ◌∷◌, ◌++◌, map, length, get_or, take, arith, sym, ap, ◌∙◌, subst, ℤ, Some, slice_get}
+use Rattle.std.proofs.Common.{◌≡◌, ℕ, ◌+◌, ◌<◌, ◌≤◌, suc, Bool, true, false, cond, List, [], ◌∷◌, ◌++◌, map, length, get_or, take, arith, sym, ap, ◌∙◌, slice_get}
 use Rattle.std.proofs.lemmas.List.{map_more, map_push, take_all, append-nil, length-map, length-take-le}
-use Rattle.std.proofs.Math.Seq.{take-append_seam}
-use Rattle.std.specs.List.{AllByRecursion, AllZip}
 use Rattle.mcs_sets.specs.Sets.{has}
-use Rattle.mcs_base.proofs.Each.{all_get, all_weaker, all_append}
-use Rattle.mcs_base.proofs.Lists.{slice_get-map_at, flat_map_push}
+use Rattle.mcs_base.proofs.Each.{all_append}
+use Rattle.mcs_base.proofs.Lists.{flat_map_push}
 use Rattle.mcs_system.specs.Plain.{Name, Formula, Not, Default, Item}
-use Rattle.mcs_trace.specs.Clauses.{IsWithin, ClauseList, IsClauseList}
-use Rattle.mcs_cnf.specs.ClauseLists.{taken_by_all, list_clauses, with_formulas, IsOver, AreOver}
-use Rattle.mcs_cnf.proofs.ListLemmas.{all_take_grow, with_append}
+use Rattle.mcs_trace.specs.Clauses.{ClauseList}
+use Rattle.mcs_cnf.specs.ClauseLists.{with_formulas, IsOver}
+use Rattle.mcs_cnf.proofs.ListLemmas.{with_append}
+use Rattle.mcs_cnf.proofs.GrowingLemmas.{grown_clauses}
 use Rattle.mcs_evidence.specs.Defaults.{defaults_at, defaults_of, negated_justs, numbered_default, numbered_formula}
-use Rattle.mcs_default.specs.Theories.{AreClausesOf, AreOverDefaults, consequents}
+use Rattle.mcs_evidence.proofs.TheoryLemmas.{consequents_over}
+use Rattle.mcs_default.specs.Theories.{AreClausesOf, consequents}
+use Rattle.mcs_evidence.specs.Theories.{AreOverDefaults}
 
 -- ---- the defaults of a set, one after the other
 at_push : (j : ℕ) (ds : List Default) (d : Default) (set : ℕ) → defaults_at j (ds ++ d ∷ []) set ≡ defaults_at j ds set ++ cond (has set (j + length ds)) (d ∷ []) []
@@ -70,52 +71,10 @@ negated_push ds d = flat_map_push (λ (d : Default). map Not d.justs) ds d
 pub negated_one : (d : Default) → negated_justs (d ∷ []) ≡ map Not d.justs
 negated_one d = append-nil (map Not d.justs)
 
--- ---- clauses that are added and cut off again
-pub grown_within : (known new : ClauseList) (names : List Name) (fs : List Formula) → IsClauseList known → new ≡ with_formulas names known fs → AllByRecursion (IsWithin known.vars) (take (length known.clauses) new.clauses)
-grown_within known new names fs is grown =
-    let e : take (length known.clauses) new.clauses ≡ known.clauses = ap (λ (x : ClauseList). take (length known.clauses) x.clauses) grown ∙ take-append_seam known.clauses (list_clauses names known.vars fs) in
-    subst (AllByRecursion (IsWithin known.vars)) (sym e) (all_weaker _ (IsWithin known.vars) (λ c both. both.1) known.clauses is.1)
-
-pub grown_fewer : (known new : ClauseList) (names : List Name) (fs : List Formula) → new ≡ with_formulas names known fs → known.vars ≤ new.vars
-grown_fewer known new names fs grown =
-    let e : new.vars ≡ taken_by_all known.vars fs = ap (λ (x : ClauseList). x.vars) grown in omega (arith, all_take_grow known.vars fs)
-
-abbrev list_of : ℕ → List (List ℤ) → ClauseList
-list_of n cs = record { vars = n; clauses = cs }
-
-pub grown_back : (known new : ClauseList) (names : List Name) (fs : List Formula) → new ≡ with_formulas names known fs → list_of known.vars (take (length known.clauses) new.clauses) ≡ known
-grown_back known new names fs grown = ap (list_of known.vars) (ap (λ (x : ClauseList). take (length known.clauses) x.clauses) grown ∙ take-append_seam known.clauses (list_clauses names known.vars fs))
-
--- ---- the clauses that are asked, and what is left of them
-pub grown_room : (names : List Name) (known new : ClauseList) (fs : List Formula) → length names ≤ known.vars → new ≡ with_formulas names known fs → length names ≤ new.vars
-grown_room names known new fs room grown = omega (arith, grown_fewer known new names fs grown)
-
-pub cut_fewer : (names : List Name) (known pushed asked : ClauseList) (fs : List Formula) (vars : ℕ) → vars ≡ known.vars → asked ≡ pushed → pushed ≡ with_formulas names known fs → vars ≤ asked.vars
-cut_fewer names known pushed asked fs vars is kept grown = omega (arith, grown_fewer known asked names fs (kept ∙ grown))
-
-pub cut_within : (names : List Name) (known pushed asked : ClauseList) (fs : List Formula) (vars : ℕ) (cs : List (List ℤ)) → vars ≡ known.vars → cs ≡ known.clauses → IsClauseList known → asked ≡ pushed → pushed ≡ with_formulas names known fs
-    → AllByRecursion (IsWithin vars) (take (length cs) asked.clauses)
-cut_within names known pushed asked fs vars cs is same kept_is kept grown =
-    subst (λ (xs : List (List ℤ)). AllByRecursion (IsWithin vars) (take (length xs) asked.clauses)) (sym same)
-    (subst (λ (n : ℕ). AllByRecursion (IsWithin n) (take (length known.clauses) asked.clauses)) (sym is) (grown_within known asked names fs kept_is (kept ∙ grown)))
-
-pub cut_back : (names : List Name) (known pushed asked cut : ClauseList) (fs : List Formula) (vars : ℕ) (cs : List (List ℤ)) → vars ≡ known.vars → cs ≡ known.clauses → asked ≡ pushed → pushed ≡ with_formulas names known fs
-    → cut ≡ list_of vars (take (length cs) asked.clauses) → cut ≡ known
-cut_back names known pushed asked cut fs vars cs is same kept grown done =
-    done ∙ ap (λ (n : ℕ). list_of n (take (length cs) asked.clauses)) is ∙ ap (λ (xs : List (List ℤ)). list_of known.vars (take (length xs) asked.clauses)) same ∙ grown_back known asked names fs (kept ∙ grown)
-
-pub consequents_over : (names : List Name) (j : ℕ) (ds : List Default) (set : ℕ) → AreOverDefaults names ds → AreOver names (map (λ (d : Default). d.conclusion) (defaults_at j ds set))
-consequents_over names j [] set over = tt
-consequents_over names j (d ∷ ds) set over = at (has set j) (consequents_over names (j + 1) ds set over.1)
-  where
-    at : (b : Bool) → AreOver names (map (λ (d : Default). d.conclusion) (defaults_at (j + 1) ds set)) → AreOver names (map (λ (d : Default). d.conclusion) (cond b (d ∷ defaults_at (j + 1) ds set) (defaults_at (j + 1) ds set)))
-    at true rest = (over.0.2, rest)
-    at false rest = rest
-
 -- the clauses of the facts and the consequents of a set
 pub generated_clauses : (names : List Name) (fs : List Formula) (ds : List Default) (set : ℕ) (known new : ClauseList) → AreOverDefaults names ds → new ≡ with_formulas names known (consequents ds set) → AreClausesOf names fs known → AreClausesOf names (fs ++ consequents ds set) new
 generated_clauses names fs ds set known new over grown (is, over') = (
-  grown ∙ ap (λ (x : ClauseList). with_formulas names x (consequents ds set)) is ∙ with_append names (record { vars = length names; clauses = [] }) fs (consequents ds set),
+  grown_clauses names known new (consequents ds set, grown) fs is,
   all_append (IsOver names) fs (consequents ds set) over' (consequents_over names 0 ds set over),
 )
 

@@ -16,7 +16,8 @@ use Rattle.mcs_trace.specs.declared.certificate.Entail.{Entail}
 use Rattle.mcs_cnf.specs.Entailments.{Entailment, entailment_of}
 use Rattle.mcs_cnf.specs.Classical.{AreShown}
 use Rattle.mcs_evidence.specs.Defaults.{Absence, Unsupported, Blocked, Verdict, Fails, Applied, Ungrounded, Extension, facts_of, defaults_of, defaults_at, defaults_in, numbered_default, generated, all_defaults, negated_justs, AreDenied, IsAbsent, AreGrounded, HasFailed, HasApplied, IsGenerating, IsAcceptedVerdict, ShowsView, IsAcceptedDefault}
-use Rattle.mcs_default.specs.Theories.{consequents, all_of, with_view}
+use Rattle.mcs_default.specs.Theories.{consequents, with_view}
+use Rattle.mcs_evidence.specs.Theories.{all_of}
 use Rattle.mcs_default.specs.Told.{IsAbsentOf, IsAbsentAt, AreAbsent, HasBlocked, HasAppliedOf, AreNumbersOf, prerequisites}
 use Rattle.mcs_default.proofs.General.{numbered_at}
 

@@ -3,6 +3,5 @@ pub mod PushLemmas
 pub mod AskLemmas
 pub mod OrderLemmas
 pub mod JudgeLemmas
-pub mod TheoryLemmas
 pub mod FindingLemmas
 pub mod SearchLemmas

@@ -1,12 +1,11 @@
 -- The order in which the prerequisites of the defaults of a set follow.
-use Rattle.std.proofs.Common.{◌≡◌, ℕ, ◌+◌, ◌<◌, ◌≤◌, ◌^◌, Bool, true, false, not, ◌&&◌, ltb, cond, List, [], ◌∷◌, ◌++◌, map, length, arith, refl, sym, ap, ◌∙◌, subst, append_assoc, ◌⊎◌, inl, inr, Some, slice_get, true≢false}
+use Rattle.std.proofs.Common.{◌≡◌, ℕ, ◌+◌, Bool, true, false, not, ◌&&◌, cond, List, [], ◌∷◌, ◌++◌, map, length, arith, refl, sym, ap, ◌∙◌, subst, append_assoc, ◌⊎◌, inl, inr, Some, slice_get, true≢false}
 use Rattle.std.proofs.lemmas.List.{append-nil}
 use Rattle.std.proofs.lemmas.List.Folds.{list_all-append}
 use Rattle.std.proofs.lemmas.Bool.{and_parts, and_from}
-use Rattle.std.proofs.lemmas.Bool.Decides.{nat_tests}
-use Rattle.mcs_sets.specs.Sets.{has, single, minus, such_that, Within}
-use Rattle.mcs_sets.proofs.SetLemmas.{has-minus, has-single, has-empty, minus-le, has-such_that}
-use Rattle.mcs_sets.proofs.Lattice.{in_minus, has-without_itself, within_antisymmetric, minus_itself, none_from_no_member, below_from_within}
+use Rattle.mcs_sets.specs.Sets.{has, single, minus, Within}
+use Rattle.mcs_sets.proofs.SetLemmas.{has-minus, has-empty}
+use Rattle.mcs_sets.proofs.Lattice.{in_minus, within_antisymmetric, minus_itself}
 use Rattle.mcs_base.specs.Listings.{IsAmong, AreApart}
 use Rattle.mcs_base.proofs.Among.{among_push}
 use Rattle.mcs_base.proofs.Each.{all_push}
@@ -20,7 +19,7 @@ use Rattle.mcs_trace.specs.declared.certificate.Entail.{Entail}
 use Rattle.mcs_cnf.specs.Entailments.{Entailment, Yes, No, entailment_of}
 use Rattle.mcs_cnf.proofs.ListLemmas.{with_append}
 use Rattle.mcs_evidence.specs.Defaults.{defaults_of, defaults_at, numbered_default, IsShown, IsDenied, AreDenied, AreGrounded}
-use Rattle.mcs_default.specs.Theories.{AreClausesOf, IsGrown, consequents}
+use Rattle.mcs_default.specs.Theories.{AreClausesOf, consequents}
 use Rattle.mcs_default.specs.Told.{AreNumbersOf, prerequisites}
 use Rattle.mcs_default.proofs.General.{numbered_at, get_later}
 
@@ -76,9 +75,6 @@ numbers-more set left k order order' inside in_left pushed (apart, exactly) =
       | inl old ↦ inl ((exactly n).1 (j, same, old))
       | inr e ↦ inr (same ∙ ap (λ (m : ℕ). m + 1) e)
     ])
-
-pub grown-more : (names : List Name) (c0 c c' : ClauseList) (f : Formula) → IsGrown names c0 c → c' ≡ with_formulas names c (f ∷ []) → IsGrown names c0 c'
-grown-more names c0 c c' f (fs, is) pushed = (fs ++ f ∷ [], pushed ∙ ap (λ (x : ClauseList). with_formulas names x (f ∷ [])) is ∙ with_append names c0 fs (f ∷ []))
 
 pub derived-more : (names : List Name) (fs : List Formula) (ds : List Default) (set left k : ℕ) (d : Default) (order order' : List ℕ) (pres pres' : List Entailment) (e : Entailment) (known known' : ClauseList)
     → slice_get ds k ≡ Some d → IsOver names d.conclusion → order' ≡ order ++ (k + 1) ∷ [] → pres' ≡ pres ++ e ∷ [] → known' ≡ with_formulas names known (d.conclusion ∷ [])

@@ -1,6 +1,7 @@
--- The clauses of lists of formulas, of facts and of consequents, one after the other.
+-- The clauses of the facts of a theory, one after the other.
 use Rattle.std.proofs.Common.{◌≡◌, ℕ, ◌+◌, ◌<◌, ◌≤◌, List, [], ◌∷◌, map, length, get_or, drop, sym, ap, ◌∙◌, subst}
-use Rattle.std.proofs.lemmas.List.{drop_more, drop_all, append-nil}
+use Rattle.std.proofs.lemmas.List.{drop_all}
+use Rattle.mcs_base.proofs.Mapped.{map-drop_more}
 use Rattle.mcs_system.specs.Plain.{Name, Formula}
 use Rattle.mcs_system.specs.Seen.{formula_of, item_of}
 use Rattle.mcs_system.specs.declared.knowledge.TheoryItem as code_item
@@ -8,39 +9,17 @@ use Rattle.mcs_system.specs.declared.knowledge.Default as code_default
 use Rattle.mcs_system.specs.declared.formula.Formula as code_formula
 use Rattle.mcs_system.specs.declared.knowledge.TheoryItem.TheVariants as items
 use Rattle.mcs_trace.specs.Clauses.{ClauseList}
-use Rattle.mcs_cnf.specs.ClauseLists.{with_formulas, IsOver, AreOver}
+use Rattle.mcs_cnf.specs.ClauseLists.{with_formulas}
 use Rattle.mcs_cnf.proofs.ListLemmas.{with_append}
+use Rattle.mcs_cnf.proofs.GrowingLemmas.{none-with}
 use Rattle.mcs_evidence.specs.Defaults.{facts_of, defaults_of, AreOverItems, IsOverItem}
 
-pub none-with : (names : List Name) (c : ClauseList) → with_formulas names c [] ≡ c
-none-with names c = ap (λ cs. record { vars = c.vars; clauses = cs }) (append-nil c.clauses)
-
-module _ {A : Type 0} (view : A → Formula) where
-  rest : (xs : List A) (i : ℕ) (x : A) → i < length xs → x ≡ get_or xs i x → map view (drop i xs) ≡ view x ∷ map view (drop (i + 1) xs)
-  rest xs i x less is = ap (map view) (drop_more xs i x less) ∙ ap (λ (y : A). view y ∷ map view (drop (i + 1) xs)) (sym is)
-
-  pub lent_over : (names : List Name) (xs : List A) (i : ℕ) (x : A) → i < length xs → x ≡ get_or xs i x → AreOver names (map view (drop i xs)) → IsOver names (view x) × AreOver names (map view (drop (i + 1) xs))
-  lent_over names xs i x less is over = subst (AreOver names) (rest xs i x less is) over
-
-  pub lent_pushed : (names : List Name) (c c' : ClauseList) (xs : List A) (i : ℕ) (x : A) → i < length xs → x ≡ get_or xs i x → c' ≡ with_formulas names c (view x ∷ [])
-      → with_formulas names c' (map view (drop (i + 1) xs)) ≡ with_formulas names c (map view (drop i xs))
-  lent_pushed names c c' xs i x less is pushed =
-      ap (λ (y : ClauseList). with_formulas names y (map view (drop (i + 1) xs))) pushed
-      ∙ with_append names c (view x ∷ []) (map view (drop (i + 1) xs))
-      ∙ ap (with_formulas names c) (sym (rest xs i x less is))
-
-  pub lent_end : (names : List Name) (c c0 : ClauseList) (xs : List A) (i : ℕ) → length xs ≤ i → with_formulas names c (map view (drop i xs)) ≡ with_formulas names c0 (map view xs) → c ≡ with_formulas names c0 (map view xs)
-  lent_end names c c0 xs i past all = sym (none-with names c) ∙ ap (λ (ys : List A). with_formulas names c (map view ys)) (sym (drop_all i xs past)) ∙ all
-
 -- ---- the items of a theory
-item_rest : (xs : List code_item.TheoryItem) (i : ℕ) (x : code_item.TheoryItem) → i < length xs → x ≡ get_or xs i x → map item_of (drop i xs) ≡ item_of x ∷ map item_of (drop (i + 1) xs)
-item_rest xs i x less is = ap (map item_of) (drop_more xs i x less) ∙ ap (λ (y : code_item.TheoryItem). item_of y ∷ map item_of (drop (i + 1) xs)) (sym is)
-
 pub items_over : (names : List Name) (xs : List code_item.TheoryItem) (i : ℕ) (x : code_item.TheoryItem) → i < length xs → x ≡ get_or xs i x → AreOverItems names (map item_of (drop i xs)) → IsOverItem names (item_of x) × AreOverItems names (map item_of (drop (i + 1) xs))
-items_over names xs i x less is over = subst (AreOverItems names) (item_rest xs i x less is) over
+items_over names xs i x less is over = subst (AreOverItems names) (map-drop_more item_of xs i x less is) over
 
 pub facts_next : (xs : List code_item.TheoryItem) (i : ℕ) (x : code_item.TheoryItem) → i < length xs → x ≡ get_or xs i x → facts_of (map item_of (drop i xs)) ≡ facts_of (item_of x ∷ map item_of (drop (i + 1) xs))
-facts_next xs i x less is = ap facts_of (item_rest xs i x less is)
+facts_next xs i x less is = ap facts_of (map-drop_more item_of xs i x less is)
 
 pub fact_next : (xs : List code_item.TheoryItem) (i : ℕ) (x : code_item.TheoryItem) (f : code_formula.Formula) → i < length xs → x ≡ get_or xs i x → x ≡ items.Fact f → facts_of (map item_of (drop i xs)) ≡ formula_of f ∷ facts_of (map item_of (drop (i + 1) xs))
 fact_next xs i x f less is fact = facts_next xs i x less is ∙ ap (λ (y : code_item.TheoryItem). facts_of (item_of y ∷ map item_of (drop (i + 1) xs))) fact
@@ -49,7 +28,7 @@ pub rule_next : (xs : List code_item.TheoryItem) (i : ℕ) (x : code_item.Theory
 rule_next xs i x d less is rule = facts_next xs i x less is ∙ ap (λ (y : code_item.TheoryItem). facts_of (item_of y ∷ map item_of (drop (i + 1) xs))) rule
 
 pub defaults_next : (xs : List code_item.TheoryItem) (i : ℕ) (x : code_item.TheoryItem) → i < length xs → x ≡ get_or xs i x → defaults_of (map item_of (drop i xs)) ≡ defaults_of (item_of x ∷ map item_of (drop (i + 1) xs))
-defaults_next xs i x less is = ap defaults_of (item_rest xs i x less is)
+defaults_next xs i x less is = ap defaults_of (map-drop_more item_of xs i x less is)
 
 pub fact_pushed : (names : List Name) (c c' : ClauseList) (f : Formula) (more whole : List Formula) (target : ClauseList) → c' ≡ with_formulas names c (f ∷ []) → whole ≡ f ∷ more → with_formulas names c whole ≡ target → with_formulas names c' more ≡ target
 fact_pushed names c c' f more whole target pushed split all =

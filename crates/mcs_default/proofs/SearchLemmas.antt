@@ -1,14 +1,13 @@
 -- What follows from the consequents of a set follows from those of a larger one, and what a search takes from that.
-use Rattle.std.proofs.Common.{◌≡◌, ℕ, ◌+◌, ◌<◌, ◌≤◌, ◌^◌, Bool, true, false, cond, eqb, not, List, [], ◌∷◌, ◌++◌, map, length, get_or, arith, refl, sym, ap, ◌∙◌, subst, ◌⊎◌, ◌↔◌, inl, inr, Some, slice_get, IsTrue, true≢false}
+use Rattle.std.proofs.Common.{◌≡◌, ℕ, ◌+◌, ◌<◌, ◌≤◌, ◌^◌, Bool, true, false, not, List, [], ◌∷◌, ◌++◌, map, length, get_or, arith, refl, sym, ap, ◌∙◌, subst, ◌⊎◌, ◌↔◌, inl, inr, Some, slice_get, IsTrue, true≢false}
 use Rattle.std.proofs.lemmas.List.{length-map}
 use Rattle.std.proofs.lemmas.Bool.{cases_eq}
-use Rattle.std.proofs.lemmas.Bool.Decides.{nat_tests}
 use Rattle.std.proofs.lemmas.Option.{slice_get_read, slice_get_within}
 use Rattle.std.specs.List.{AllByRecursion}
-use Rattle.mcs_sets.specs.Sets.{has, single, union, minus, such_that, size, Within}
+use Rattle.mcs_sets.specs.Sets.{has, single, union, minus, size, Within}
 use Rattle.mcs_sets.specs.Orders.{StateBefore}
-use Rattle.mcs_sets.proofs.SetLemmas.{has-empty, has-minus, such_that-more, such_that-lt, Within-le}
-use Rattle.mcs_sets.proofs.Lattice.{in_minus, in_with, has-without_itself, has-without_other, minus_within, within_union_left, with_within, within_antisymmetric, size-less, none_within}
+use Rattle.mcs_sets.proofs.SetLemmas.{has-minus, such_that-lt, Within-le}
+use Rattle.mcs_sets.proofs.Lattice.{in_minus, in_with, has-without_itself, minus_within, within_union_left, with_within, within_antisymmetric, size-less, none_within, outside_larger, within_without}
 use Rattle.mcs_base.specs.Listings.{IsAmong, IsListing}
 use Rattle.mcs_base.proofs.Among.{among_push}
 use Rattle.mcs_base.proofs.Each.{all_get, all_weaker}
@@ -21,7 +20,7 @@ use Rattle.mcs_evidence.specs.Defaults.{defaults_of, generated}
 use Rattle.mcs_system.proofs.Consequence.{one_set, follows_through}
 use Rattle.mcs_evidence.proofs.DefaultLemmas.{IsDefaultAt, generated_each, facts_follow, conclusion_follows}
 use Rattle.mcs_evidence.proofs.Extensions.{NoneSupported, Generates, generated_view}
-use Rattle.mcs_default.specs.Theories.{all_of}
+use Rattle.mcs_evidence.specs.Theories.{all_of}
 use Rattle.mcs_default.specs.Searches.{IsAllowedBy, IsSupportedAt, IsUnsupportedAt, IsAllowedAt, IsBlockedAt, IsConflict, IsLower, IsUpper, IsBelow, IsOpenAt, IsGroundedSet, IsViewBelow}
 use Rattle.mcs_default.specs.declared.findings.Lower as lower
 use Rattle.mcs_default.specs.declared.findings.Upper as upper
@@ -62,20 +61,6 @@ module _ (items : List Item) where
   pub allowed_by_none : (set : ℕ) (js : List Formula) (b : Bool) → IsConflict items set → IsTrue b ↔ (js ≡ []) → IsTrue b ↔ AllByRecursion (λ j. ¬ Entails (generated items set) (Not j)) js
   allowed_by_none set [] b conflict is = (λ _. tt, λ _. is.1 refl)
   allowed_by_none set (j ∷ js) b conflict is = (λ holds. absurd (let none : j ∷ js ≡ [] = is.0 holds in cc), λ allowed. absurd (allowed.0 (λ a h. absurd (true≢false (sym (conflict a h))))))
-
--- ---- members of sets
-pub outside_larger : (a b k : ℕ) → Within a b → has b k ≡ false → has a k ≡ false
-outside_larger a b k within out = at (has a k) refl
-  where
-    at : (c : Bool) → has a k ≡ c → c ≡ false
-    at true member = absurd (true≢false (sym (within k member) ∙ out))
-    at false e = refl
-
-pub within_without : (a b k : ℕ) → Within a b → has a k ≡ false → Within a (minus b (single k))
-within_without a b k within out j member = elim (cases_eq j k) [
-  | inl same ↦ absurd (true≢false (sym member ∙ ap (has a) same ∙ out))
-  | inr differ ↦ has-without_other b k j (within j member) (let e : eqb j k ≡ false = grind (arith, nat_tests) in e)
-]
 
 -- ---- a node and what is below it
 module _ (items : List Item) where
@@ -187,23 +172,9 @@ grounded_exactly items set part b within derived stuck is = (to, from)
       | inr differ ↦ absurd (grounded part within differ (λ k d at member out. stuck k (has-minus set part k ∙ rw (member, out) refl) d at))
     ]
 
--- ---- the code's loops
-pub such_that_step : (p : ℕ → Bool) (i s s' : ℕ) (b : Bool) → p i ≡ b → s ≡ such_that i p → s' ≡ cond b (union s (single i)) s → s' ≡ such_that (i + 1) p
-such_that_step p i s s' b at is done =
-    done ∙ ap (λ (t : ℕ). cond b (union t (single i)) t) is ∙ ap (λ (c : Bool). cond c (union (such_that i p) (single i)) (such_that i p)) (sym at) ∙ sym (such_that-more i p)
-
 -- ---- of the justifications, one after the other
 pub not_allowed : (fs : List Formula) (js : List Formula) (i : ℕ) (j : Formula) → slice_get js i ≡ Some j → Entails fs (Not j) → ¬ AllByRecursion (λ j. ¬ Entails fs (Not j)) js
 not_allowed fs js i j at follows allowed = all_get (λ j. ¬ Entails fs (Not j)) js i j allowed at follows
-
-pub false_exactly : {P : Type 0} → ¬ P → IsTrue false ↔ P
-false_exactly never = (λ e. absurd (true≢false (sym e)), λ h. absurd (never h))
-
-pub true_exactly : {P : Type 0} → P → IsTrue true ↔ P
-true_exactly h = (λ _. h, λ _. refl)
-
-pub not_from_false : {P : Type 0} (b : Bool) → b ≡ false → IsTrue b ↔ P → ¬ P
-not_from_false b e is h = true≢false (sym (is.1 h) ∙ e)
 
 -- the default that is read at an index is the one of the items
 pub default_there : {A : Type 0} (view : A → Default) (xs : List A) (items : List Item) (k : ℕ) (x : A) → k < length xs → map view xs ≡ defaults_of items → (d : Default) → IsDefaultAt items k d → (P : Default → Type 0) → P (view (get_or xs k x)) → P d
@@ -262,12 +233,3 @@ module _ (set part k : ℕ) (left : has (minus set part) k ≡ true) where
 -- the only set below a leaf is its own
 pub only_itself : (items : List Item) (set other : ℕ) → IsBelow set set other → Generates items other → Generates items set
 only_itself items set other below generates = subst (Generates items) (within_antisymmetric other set below.1 below.0) generates
-
-pub nothing_left : (taken all : ℕ) → Within taken all → minus all taken ≡ 0 → taken ≡ all
-nothing_left taken all within none = within_antisymmetric taken all within (λ k member. at k member (has taken k) refl)
-  where
-    at : (k : ℕ) → has all k ≡ true → (b : Bool) → has taken k ≡ b → b ≡ true
-    at k member true e = refl
-    at k member false out =
-        let there : has (minus all taken) k ≡ true = has-minus all taken k ∙ rw (member, out) refl in
-        absurd (true≢false (sym there ∙ ap (λ (s : ℕ). has s k) none ∙ has-empty k))

@@ -8,7 +8,8 @@ use Rattle.mcs_trace.specs.declared.certificate.Entail.{Entail}
 use Rattle.mcs_cnf.specs.Entailments.{Entailment, entailment_of}
 use Rattle.mcs_cnf.specs.Classical.{AreShown}
 use Rattle.mcs_evidence.specs.Defaults.{Absence, Unsupported, Blocked, absence_of, verdict_of, facts_of, defaults_of, defaults_at, defaults_in, generated, negated_justs, numbered_formula, IsShown, IsDenied, AreDenied, AreGrounded, IsAcceptedVerdict, ShowsView}
-use Rattle.mcs_default.specs.Theories.{consequents, all_of}
+use Rattle.mcs_default.specs.Theories.{consequents}
+use Rattle.mcs_evidence.specs.Theories.{all_of}
 use Rattle.mcs_default.specs.declared.asking.Justs as justs
 use Rattle.mcs_default.specs.declared.asking.Justs.TheVariants as justs_variants
 use Rattle.mcs_default.specs.declared.asking.Standing as standing

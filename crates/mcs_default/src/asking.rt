@@ -6,7 +6,8 @@ ghost use Rattle.mcs_system.specs.Plain as plain;
 ghost use Rattle.mcs_system.specs.Seen.{formula_of, default_of};
 ghost use Rattle.mcs_cnf.specs.ClauseLists.{IsOver, AreOver};
 ghost use Rattle.mcs_cnf.specs.Entailments.{entailment_of, says_yes, IsAcceptedEntailment};
-ghost use Rattle.mcs_default.specs.Theories.{AreClausesOf, IsOverDefault};
+ghost use Rattle.mcs_default.specs.Theories.{AreClausesOf};
+ghost use Rattle.mcs_evidence.specs.Theories.{IsOverDefault};
 ghost use Rattle.mcs_default.specs.Told.{IsToldOfJusts, IsToldOfDefault};
 
 use mcs_base::Memory;

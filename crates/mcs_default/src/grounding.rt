@@ -5,7 +5,9 @@ ghost use Rattle.mcs_sets.specs.Sets.{Within};
 ghost use Rattle.mcs_system.specs.Faults.{has_twins};
 ghost use Rattle.mcs_system.specs.Plain as plain;
 ghost use Rattle.mcs_system.specs.Seen.{default_of};
-ghost use Rattle.mcs_default.specs.Theories.{AreClausesOf, AreOverDefaults, IsGrown, all_of};
+ghost use Rattle.mcs_default.specs.Theories.{AreClausesOf};
+ghost use Rattle.mcs_cnf.specs.Growing.{IsGrown};
+ghost use Rattle.mcs_evidence.specs.Theories.{AreOverDefaults, all_of};
 ghost use Rattle.mcs_default.specs.Told.{IsToldNext, IsNextInRange, IsToldOfOrder};
 
 use crate::asking::says_yes;

@@ -4,7 +4,8 @@ ghost use Rattle.std.specs.Prelude.{◌≡◌, ◌≤◌, ◌++◌, List, false,
 ghost use Rattle.mcs_system.specs.Faults.{has_twins};
 ghost use Rattle.mcs_system.specs.Plain as plain;
 ghost use Rattle.mcs_system.specs.Seen.{default_of};
-ghost use Rattle.mcs_default.specs.Theories.{AreClausesOf, AreOverDefaults, consequents};
+ghost use Rattle.mcs_default.specs.Theories.{AreClausesOf, consequents};
+ghost use Rattle.mcs_evidence.specs.Theories.{AreOverDefaults};
 ghost use Rattle.mcs_default.specs.Told.{IsToldInside};
 
 use crate::asking::{Justs, ask_justs};

@@ -5,7 +5,8 @@ ghost use Rattle.mcs_system.specs.Faults.{has_twins};
 ghost use Rattle.mcs_system.specs.Plain as plain;
 ghost use Rattle.mcs_system.specs.Seen.{default_of, formula_of};
 ghost use Rattle.mcs_cnf.specs.ClauseLists.{AreOver};
-ghost use Rattle.mcs_default.specs.Theories.{AreClausesOf, AreOverDefaults, consequents};
+ghost use Rattle.mcs_default.specs.Theories.{AreClausesOf, consequents};
+ghost use Rattle.mcs_evidence.specs.Theories.{AreOverDefaults};
 ghost use Rattle.mcs_default.specs.Told.{IsToldOutside, IsToldOfRest};
 
 use crate::asking::{Standing, ask_default};

@@ -10,7 +10,8 @@ ghost use Rattle.mcs_cnf.specs.ClauseLists.{IsOver, AreOver};
 ghost use Rattle.mcs_cnf.specs.Entailments.{entailment_of, IsAcceptedEntailment};
 ghost use Rattle.mcs_evidence.specs.Defaults.{generated};
 ghost use Rattle.mcs_evidence.proofs.DefaultLemmas.{IsDefaultAt};
-ghost use Rattle.mcs_default.specs.Theories.{AreClausesOf, AreOverDefaults, AreParts, consequents};
+ghost use Rattle.mcs_default.specs.Theories.{AreClausesOf, AreParts, consequents};
+ghost use Rattle.mcs_evidence.specs.Theories.{AreOverDefaults};
 ghost use Rattle.mcs_default.specs.Searches.{IsReady, IsAllowedBy, IsConflict};
 
 use crate::findings::{

@@ -9,7 +9,8 @@ ghost use Rattle.mcs_system.specs.Plain as plain;
 ghost use Rattle.mcs_system.specs.Seen.{default_of, formula_of};
 ghost use Rattle.mcs_system.specs.Views.{Shows};
 ghost use Rattle.mcs_cnf.specs.ClauseLists.{AreOver};
-ghost use Rattle.mcs_default.specs.Theories.{AreClausesOf, AreOverDefaults, AreParts, all_of, consequents};
+ghost use Rattle.mcs_default.specs.Theories.{AreClausesOf, AreParts, consequents};
+ghost use Rattle.mcs_evidence.specs.Theories.{AreOverDefaults, all_of};
 ghost use Rattle.mcs_default.specs.Searches.{IsReady, IsOpenAt, IsViewBelow};
 
 use crate::findings::Findings;

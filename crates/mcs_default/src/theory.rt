@@ -4,10 +4,11 @@ ghost use Rattle.std.specs.Prelude.{◌≡◌, ◌≤◌, ◌++◌, length, map,
 ghost use Rattle.mcs_system.specs.Seen.{formula_of, default_of, item_of};
 ghost use Rattle.mcs_cnf.specs.ClauseLists.{with_formulas, clause_list, AreOver};
 ghost use Rattle.mcs_evidence.specs.Defaults.{AreOverItems, facts_of, defaults_of};
-ghost use Rattle.mcs_default.specs.Theories.{AreOverDefaults, consequents};
+ghost use Rattle.mcs_default.specs.Theories.{consequents};
+ghost use Rattle.mcs_evidence.specs.Theories.{AreOverDefaults};
 
 use mcs_base::{Memory, Vars};
-use mcs_cnf::push_formula;
+use mcs_cnf::{push_all, push_formula};
 use mcs_system::{Default, Formula, Name, TheoryItem};
 use mcs_trace::Cnf;
 use std::alloc::Global;
@@ -41,23 +42,6 @@ fn push_facts(
             TheoryItem::Fact(formula) => push_formula(alloc, known, atoms, formula)?,
             TheoryItem::Rule(_) => {}
         }
-    }
-    Ok(())
-}
-
-/// Adds the clauses of the formulas.
-fn push_all(
-    alloc: Global,
-    known: &mut Cnf,
-    formulas: &[&Formula],
-    atoms: &[Name],
-) -> Result<(), Memory>
-    requires over { AreOver atoms.now (map (λ f. formula_of f.now) formulas.now) }
-    requires room { length atoms.now ≤ known.old.vars }
-    ensures { OnOk result (known.new ≡ with_formulas atoms.now known.old (map (λ f. formula_of f.now) formulas.now)) }
-{
-    for formula in formulas {
-        push_formula(alloc, known, atoms, formula)?;
     }
     Ok(())
 }

@@ -6,7 +6,8 @@ ghost use Rattle.mcs_system.specs.Faults.{has_twins};
 ghost use Rattle.mcs_system.specs.Plain as plain;
 ghost use Rattle.mcs_system.specs.Seen.{default_of, formula_of};
 ghost use Rattle.mcs_cnf.specs.ClauseLists.{AreOver};
-ghost use Rattle.mcs_default.specs.Theories.{AreOverDefaults, AreParts, all_of};
+ghost use Rattle.mcs_default.specs.Theories.{AreParts};
+ghost use Rattle.mcs_evidence.specs.Theories.{AreOverDefaults, all_of};
 ghost use Rattle.mcs_default.specs.Told.{IsToldOfJustsIn, IsToldOrder, IsJudged};
 
 use crate::grounding::{Grounding, tell_order};

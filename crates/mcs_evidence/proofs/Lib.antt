@@ -4,6 +4,7 @@ pub mod ProgramListings
 pub mod PushingLemmas
 pub mod ProgramClauses
 pub mod DefaultLemmas
+pub mod TheoryLemmas
 pub mod Extensions
 pub mod DefaultCertificates
 pub mod DefaultListing

@@ -1,18 +1,17 @@
 -- Clauses and names of formulas that are lent, and clauses that are taken off again.
-use Rattle.std.proofs.Common.{◌≡◌, ℕ, ◌+◌, ◌<◌, ◌≤◌, map, length, get_or, take, List, [], ◌∷◌, ◌++◌, ℤ, Some, slice_get, IsTrue, sym, ap, ◌∙◌, subst, append-nil, arith}
+use Rattle.std.proofs.Common.{◌≡◌, ℕ, ◌+◌, ◌<◌, map, length, get_or, take, List, [], ◌∷◌, ◌++◌, Some, slice_get, IsTrue, sym, ap, ◌∙◌, subst}
 use Rattle.std.specs.Prelude.{Option}
 use Rattle.std.proofs.lemmas.List.{map_more}
 use Rattle.std.specs.List.{AllByRecursion}
-use Rattle.std.proofs.Math.Seq.{take-append_seam}
-use Rattle.mcs_base.proofs.Each.{all_get, all_weaker, all_append}
+use Rattle.mcs_base.proofs.Each.{all_get, all_append}
 use Rattle.mcs_base.proofs.Lists.{slice_get-map_at}
 use Rattle.mcs_system.specs.Plain.{Name, Formula, Atom, Context, System}
 use Rattle.mcs_system.specs.Atoms.{atoms_of}
 use Rattle.mcs_system.specs.Logic.{is_in}
-use Rattle.mcs_trace.specs.Clauses.{ClauseList, IsClauseList, IsWithin}
-use Rattle.mcs_cnf.specs.ClauseLists.{clause_list, list_clauses, taken_by_all, with_formulas, IsOver, AreOver}
-use Rattle.mcs_cnf.proofs.ListLemmas.{with_append, all_take_grow}
-use Rattle.mcs_default.specs.Theories.{IsGrown}
+use Rattle.mcs_trace.specs.Clauses.{ClauseList}
+use Rattle.mcs_cnf.specs.ClauseLists.{clause_list, with_formulas, IsOver, AreOver}
+use Rattle.mcs_cnf.proofs.ListLemmas.{with_append}
+use Rattle.mcs_cnf.proofs.GrowingLemmas.{none-with, grown_clauses}
 use Rattle.mcs_solver.specs.Kinds.{IsMadeOf, IsMadeOfContext}
 
 -- ---- formulas one by one
@@ -26,29 +25,12 @@ module _ {A : Type 0} (seen : A → Formula) where
       let more : map seen (take (i + 1) fs) ≡ map seen (take i fs) ++ seen f ∷ [] = rw is (map_more seen fs i f less) in
       pushed ∙ ap (λ (x : ClauseList). with_formulas names x (seen f ∷ [])) so_far ∙ with_append names c0 (map seen (take i fs)) (seen f ∷ []) ∙ ap (with_formulas names c0) (sym more)
 
-abbrev list_of : ℕ → List (List ℤ) → ClauseList
-list_of n cs = record { vars = n; clauses = cs }
-
 pub pushed_none : (names : List Name) (c : ClauseList) → c ≡ with_formulas names c []
-pushed_none names c = sym (ap (list_of c.vars) (append-nil c.clauses))
-
--- ---- clauses that are taken off again
-module _ (names : List Name) (known new : ClauseList) (more : IsGrown names known new) where
-  first_kept : take (length known.clauses) new.clauses ≡ known.clauses
-  first_kept = ap (λ (x : ClauseList). take (length known.clauses) x.clauses) more.1 ∙ take-append_seam known.clauses (list_clauses names known.vars more.0)
-
-  pub more_vars : known.vars ≤ new.vars
-  more_vars = let e : new.vars ≡ taken_by_all known.vars more.0 = ap (λ (x : ClauseList). x.vars) more.1 in omega (arith, all_take_grow known.vars more.0)
-
-  pub more_within : IsClauseList known → AllByRecursion (IsWithin known.vars) (take (length known.clauses) new.clauses)
-  more_within is = subst (AllByRecursion (IsWithin known.vars)) (sym first_kept) (all_weaker _ (IsWithin known.vars) (λ c both. both.1) known.clauses is.1)
-
-  pub more_back : list_of known.vars (take (length known.clauses) new.clauses) ≡ known
-  more_back = ap (list_of known.vars) first_kept
+pushed_none names c = sym (none-with names c)
 
 -- the clauses of formulas with those of the heads
 pub told_clauses : (names : List Name) (known new : ClauseList) (fs heads : List Formula) → known ≡ clause_list names fs → new ≡ with_formulas names known heads → new ≡ clause_list names (fs ++ heads)
-told_clauses names known new fs heads is told = told ∙ ap (λ (k : ClauseList). with_formulas names k heads) is ∙ with_append names (list_of (length names) []) fs heads
+told_clauses names known new fs heads is told = grown_clauses names known new (heads, told) fs is
 
 pub told_over : (names : List Name) (fs heads : List Formula) → AreOver names fs → AreOver names heads → AreOver names (fs ++ heads)
 told_over names fs heads over over' = all_append (IsOver names) fs heads over over'

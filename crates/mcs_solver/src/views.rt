@@ -10,7 +10,7 @@ ghost use Rattle.mcs_system.specs.Plain.{Atom, Classical, Program};
 ghost use Rattle.mcs_system.specs.Seen.{formula_of, rule_of, kb_of};
 ghost use Rattle.mcs_system.specs.Views.{IsAcceptedView};
 ghost use Rattle.mcs_cnf.specs.ClauseLists.{AreOver, clause_list, with_formulas};
-ghost use Rattle.mcs_default.specs.Theories.{IsGrown};
+ghost use Rattle.mcs_cnf.specs.Growing.{IsGrown};
 ghost use Rattle.mcs_evidence.specs.Programs.{AreOverRules};
 ghost use Rattle.mcs_certificate.specs.Kinds.{IsOverKb, AreOfKind};
 ghost use Rattle.mcs_solver.specs.Kinds.{IsOnlyView, IsMadeOf};

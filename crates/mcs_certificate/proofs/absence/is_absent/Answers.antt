@@ -6,7 +6,7 @@ use Rattle.mcs_system.specs.Seen.{default_of, formula_of}
 use Rattle.mcs_trace.specs.declared.certificate.Outside.{Outside}
 use Rattle.mcs_evidence.specs.Defaults.{absence_of, IsAbsent}
 use Rattle.mcs_cnf.specs.Entailments.{entailment_of}
-use Rattle.mcs_certificate.proofs.General.{room_known}
+use Rattle.mcs_cnf.proofs.GrowingLemmas.{room_known}
 use Rattle.mcs_certificate.proofs.VerdictLemmas.{absent_none, unsupported_iff, blocked_iff, numbered_over}
 use Rattle.mcs_certificate.proofs.absence.is_absent.Goals as goal
 

@@ -2,7 +2,7 @@ use Rattle.std.proofs.Common.{◌≡◌, ◌<◌, ◌≤◌, length, map}
 use Rattle.std.specs.List.{AllByRecursion}
 use Rattle.mcs_sets.specs.Sets.{members_from}
 use Rattle.mcs_system.specs.Seen.{default_of}
-use Rattle.mcs_certificate.proofs.VerdictLemmas.{others}
+use Rattle.mcs_evidence.proofs.TheoryLemmas.{others}
 use Rattle.mcs_certificate.proofs.absence.places_outside.Given as goal
 
 abbrev pub invariant-loop-index : goal.invariant-loop-index

@@ -1,9 +1,11 @@
 use Rattle.std.proofs.Common.{map, arith}
-use Rattle.mcs_base.proofs.Booleans.{false_tells}
+use Rattle.mcs_base.proofs.Booleans.{false_tells, true_tells}
 use Rattle.mcs_system.specs.Seen.{formula_of}
 use Rattle.mcs_cnf.specs.Entailments.{entailment_of}
 use Rattle.mcs_evidence.specs.Defaults.{IsDenied}
-use Rattle.mcs_certificate.proofs.General.{go_start, go_on, go_stop, go_end, true_tells, untold, zip_short}
+use Rattle.mcs_certificate.proofs.General.{go_start, go_on, go_stop, go_end}
+use Rattle.mcs_base.proofs.Zipped.{zip_short}
+use Rattle.std.proofs.lemmas.Bool.{iff_false}
 use Rattle.mcs_certificate.proofs.entailment.deny.Goals as goal
 
 pub returns-then-goals-entails : goal.returns-then-goals-entails
@@ -21,7 +23,7 @@ loop-index-preserved c =
 pub returns-then-not-denies : goal.returns-then-not-denies
 returns-then-not-denies c =
     false_tells (go_stop (IsDenied c.args.atoms.now (map (λ f. formula_of f.now) c.args.premises.now)) (λ f. formula_of f.now) entailment_of c.args.goals.now c.args.entails.now c.loop-index.index c.index-goals-index.result c.index-entails-index.result
-    c.loop-index-test.true (omega arith) c.index-goals-index.is c.index-entails-index.is c.loop-index.invariant (untold c.denies.result c.denies.ensures c.if-not-denies.true))
+    c.loop-index-test.true (omega arith) c.index-goals-index.is c.index-entails-index.is c.loop-index.invariant (iff_false c.denies.ensures c.if-not-denies.true))
 
 pub returns : goal.returns
 returns c =

@@ -2,12 +2,12 @@ use Rattle.std.proofs.Common.{◌∙◌, ℕ, map, sym, ap, true≢false}
 use Rattle.mcs_base.proofs.Booleans.{false_tells}
 use Rattle.mcs_system.specs.Logic.{holds_all, true_names}
 use Rattle.mcs_system.specs.Seen.{formula_of}
-use Rattle.mcs_certificate.proofs.General.{untold}
+use Rattle.std.proofs.lemmas.Bool.{iff_false}
 use Rattle.mcs_certificate.proofs.ShownLemmas.{refuted_iff}
 use Rattle.mcs_certificate.proofs.entailment.is_refuted_at.Goals as goal
 
 pub returns-then-not-is_in_range : goal.returns-then-not-is_in_range
-returns-then-not-is_in_range c = false_tells (λ h. untold c.is_in_range.result c.is_in_range.ensures c.if-not-is_in_range.true h.in_range)
+returns-then-not-is_in_range c = false_tells (λ h. iff_false c.is_in_range.ensures c.if-not-is_in_range.true h.in_range)
 
 pub returns-then-not-hold_at : goal.returns-then-not-hold_at
 returns-then-not-hold_at c =

@@ -1,10 +1,12 @@
 use Rattle.std.proofs.Common.{◌∙◌, map, refl, arith}
-use Rattle.mcs_base.proofs.Booleans.{false_tells}
+use Rattle.mcs_base.proofs.Booleans.{false_tells, true_tells}
 use Rattle.mcs_system.specs.Seen.{formula_of}
 use Rattle.mcs_cnf.specs.ClauseLists.{IsOver}
 use Rattle.mcs_cnf.specs.Entailments.{entailment_of, IsAcceptedEntailment}
 use Rattle.mcs_base.proofs.Mapped.{image_each_read}
-use Rattle.mcs_certificate.proofs.General.{go_start, go_on, go_stop, go_end, true_tells, untold, zip_short}
+use Rattle.mcs_certificate.proofs.General.{go_start, go_on, go_stop, go_end}
+use Rattle.mcs_base.proofs.Zipped.{zip_short}
+use Rattle.std.proofs.lemmas.Bool.{iff_false}
 use Rattle.mcs_certificate.proofs.entailment.tell.Goals as goal
 
 pub returns-then-goals-entails-clause-exact : goal.returns-then-goals-entails-clause-exact
@@ -30,7 +32,7 @@ loop-index-preserved c = record {
 pub returns-then-not-told-clause-exact : goal.returns-then-not-told-clause-exact
 returns-then-not-told-clause-exact c =
     false_tells (go_stop (IsAcceptedEntailment c.args.atoms.now (map (λ f. formula_of f.now) c.args.premises.now)) (λ f. formula_of f.now) entailment_of c.args.goals.now c.args.entails.now c.loop-index.index c.index-goals-index.result c.index-entails-index.result
-    c.loop-index-test.true (omega arith) c.index-goals-index.is c.index-entails-index.is c.loop-index.invariant.rest (untold c.in_ok-told.told c.in_ok-told.ensures.exact c.if-not-told.true))
+    c.loop-index-test.true (omega arith) c.index-goals-index.is c.index-entails-index.is c.loop-index.invariant.rest (iff_false c.in_ok-told.ensures.exact c.if-not-told.true))
 
 pub returns-clause-exact : goal.returns-clause-exact
 returns-clause-exact c =

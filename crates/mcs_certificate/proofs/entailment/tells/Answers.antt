@@ -1,6 +1,6 @@
 use Rattle.std.proofs.Common.{map}
 use Rattle.mcs_system.specs.Seen.{formula_of}
-use Rattle.mcs_certificate.proofs.General.{room_known}
+use Rattle.mcs_cnf.proofs.GrowingLemmas.{room_known}
 use Rattle.mcs_certificate.proofs.entailment.tells.Goals as goal
 
 pub is_refuted_by-requires-clause-room : goal.is_refuted_by-requires-clause-room

@@ -1,7 +1,7 @@
 use Rattle.std.proofs.Common.{◌∙◌, not, refl, sym, ap, true≢false}
-use Rattle.std.proofs.lemmas.Bool.{eq-eqb, eqb-true}
+use Rattle.std.proofs.lemmas.Bool.{eq-eqb, eqb-true, not-false}
 use Rattle.mcs_base.proofs.Lists.{slice_get_read_as}
-use Rattle.mcs_certificate.proofs.CertifiedLemmas.{none_past, none_other, from_not}
+use Rattle.mcs_certificate.proofs.CertifiedLemmas.{none_past, none_other}
 use Rattle.mcs_certificate.proofs.oracle.answer_for.Goals as goal
 
 pub returns-then-place-answers : goal.returns-then-place-answers
@@ -17,6 +17,6 @@ returns c = (
   c.place_of-place.result,
   c.index-answers-place.result,
   slice_get_read_as c.args.answers.now c.args.answers.now c.place_of-place.result c.index-answers-place.result refl c.if-place-answers.false c.index-answers-place.is,
-  eqb-true c.index-answers-place.result.0 c.args.active (from_not _ (sym c.ne.ensures ∙ c.if-ne.false)),
+  eqb-true c.index-answers-place.result.0 c.args.active (not-false _ (sym c.ne.ensures ∙ c.if-ne.false)),
   sym c.as_slice.ensures.value,
 )

@@ -1,7 +1,7 @@
 use Rattle.std.proofs.Common.{◌≡◌, ◌-◌, ◌≤◌, ◌∙◌, ℕ, get_or, refl, ap, arith}
 use Rattle.mcs_base.proofs.Booleans.{false_tells}
 use Rattle.mcs_sets.specs.Sets.{single, minus}
-use Rattle.mcs_certificate.proofs.General.{untold}
+use Rattle.std.proofs.lemmas.Bool.{iff_false}
 use Rattle.mcs_certificate.proofs.OrderLemmas.{numbers_on, numbers_off, numbers_done, empty_tells}
 use Rattle.mcs_certificate.proofs.order.are_numbers.Goals as goal
 
@@ -26,7 +26,7 @@ loop-number-preserved c =
 pub returns-then-not-is_member : goal.returns-then-not-is_member
 returns-then-not-is_member c =
     false_tells (numbers_off c.args.set c.args.numbers.now c.loop-number.left c.loop-number.number-index (get_or c.args.numbers.now c.loop-number.number-index 0) c.loop-number-test.true refl
-    (untold c.is_member.result c.is_member.ensures.exact c.if-not-is_member.true) c.loop-number.invariant)
+    (iff_false c.is_member.ensures.exact c.if-not-is_member.true) c.loop-number.invariant)
 
 pub returns : goal.returns
 returns c = empty_tells c.eq.result c.loop-number.left c.empty.result c.eq.ensures c.empty.ensures (numbers_done c.args.set c.args.numbers.now c.loop-number.left c.loop-number.number-index c.loop-number-test.false c.loop-number.invariant)

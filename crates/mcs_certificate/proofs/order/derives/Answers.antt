@@ -1,12 +1,13 @@
 use Rattle.std.proofs.Common.{◌≡◌, ◌∙◌, [], ◌∷◌, map, get_or, refl, ap, arith}
-use Rattle.mcs_base.proofs.Booleans.{false_tells}
+use Rattle.mcs_base.proofs.Booleans.{false_tells, true_tells}
 use Rattle.mcs_system.specs.Plain.{Default}
 use Rattle.mcs_system.specs.Seen.{default_of}
 use Rattle.mcs_trace.specs.Clauses.{ClauseList}
 use Rattle.mcs_cnf.specs.ClauseLists.{with_formulas}
 use Rattle.mcs_cnf.proofs.ListLemmas.{room_kept}
-use Rattle.mcs_certificate.proofs.General.{true_tells, untold}
-use Rattle.mcs_certificate.proofs.OrderLemmas.{derives_start, derives_none, derives_off, derives_on, derives_end, derives_short, grown_more, grown_none}
+use Rattle.std.proofs.lemmas.Bool.{iff_false}
+use Rattle.mcs_certificate.proofs.OrderLemmas.{derives_start, derives_none, derives_off, derives_on, derives_end, derives_short}
+use Rattle.mcs_cnf.proofs.GrowingLemmas.{grown_more, grown_none}
 use Rattle.mcs_certificate.proofs.VerdictLemmas.{numbered_over}
 use Rattle.mcs_certificate.proofs.order.derives.Goals as goal
 
@@ -36,7 +37,7 @@ pub returns-then-not-shown-clause-exact : goal.returns-then-not-shown-clause-exa
 returns-then-not-shown-clause-exact c items fs same is =
     let before = c.loop-index.invariant.rest items fs same is in
     false_tells (derives_off c.args.atoms.now items (map (λ d. default_of d.now) c.args.defaults.now) same fs c.args.order.now c.args.pres.now c.loop-index.known c.loop-index.index (get_or c.args.order.now c.loop-index.index 0) c.index-pres-index.result
-    c.loop-index-test.true (omega arith) refl c.index-pres-index.is before (default_of c.in-Some.default.now) c.in-Some.ensures (untold c.in_ok-shown.shown (c.in_ok-shown.ensures.exact before.formulas before.clauses) c.if-not-shown.true))
+    c.loop-index-test.true (omega arith) refl c.index-pres-index.is before (default_of c.in-Some.default.now) c.in-Some.ensures (iff_false (c.in_ok-shown.ensures.exact before.formulas before.clauses) c.if-not-shown.true))
 
 pub push_formula-requires-clause-over : goal.push_formula-requires-clause-over
 push_formula-requires-clause-over c =

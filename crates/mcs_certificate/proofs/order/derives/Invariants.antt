@@ -3,7 +3,7 @@ use Rattle.mcs_system.specs.Plain.{Formula, Item}
 use Rattle.mcs_system.specs.Seen.{default_of}
 use Rattle.mcs_cnf.specs.ClauseLists.{clause_list}
 use Rattle.mcs_evidence.specs.Defaults.{defaults_of}
-use Rattle.mcs_certificate.specs.Checks.{IsGrown}
+use Rattle.mcs_cnf.specs.Growing.{IsGrown}
 use Rattle.mcs_certificate.proofs.OrderLemmas.{DerivesFrom}
 use Rattle.mcs_certificate.proofs.order.derives.Given as goal
 

@@ -1,5 +1,5 @@
-use Rattle.mcs_base.proofs.Booleans.{false_tells}
-use Rattle.mcs_certificate.proofs.General.{true_tells, untold}
+use Rattle.mcs_base.proofs.Booleans.{false_tells, true_tells}
+use Rattle.std.proofs.lemmas.Bool.{iff_false}
 use Rattle.mcs_certificate.proofs.ModelLemmas.{ascend_start, ascend_on, ascend_off, ascend_end}
 use Rattle.mcs_certificate.proofs.program.are_ascending.Goals as goal
 
@@ -14,7 +14,7 @@ loop-index-preserved c =
 pub returns-then-not-state_before : goal.returns-then-not-state_before
 returns-then-not-state_before c =
     false_tells (ascend_off c.args.states.now c.loop-index.index c.index-states-index.result c.index-states-index-in-loop-index.result c.loop-index-test.true c.index-states-index.is c.index-states-index-in-loop-index.is c.loop-index.invariant
-    (untold c.state_before.result c.state_before.ensures c.if-not-state_before.true))
+    (iff_false c.state_before.ensures c.if-not-state_before.true))
 
 pub returns : goal.returns
 returns c = true_tells (ascend_end c.args.states.now c.loop-index.index c.loop-index-test.false c.loop-index.invariant)

@@ -4,12 +4,12 @@ use Rattle.mcs_base.proofs.Booleans.{false_tells}
 use Rattle.mcs_system.specs.Logic.{holds_all, true_names}
 use Rattle.mcs_system.specs.Seen.{rule_of}
 use Rattle.mcs_evidence.specs.Programs.{rule_formula, model_shown_of}
-use Rattle.mcs_certificate.proofs.General.{untold}
+use Rattle.std.proofs.lemmas.Bool.{iff_false}
 use Rattle.mcs_certificate.proofs.ModelLemmas.{model_iff}
 use Rattle.mcs_certificate.proofs.program.is_model_shown.Goals as goal
 
 pub returns-then-not-is_in_range : goal.returns-then-not-is_in_range
-returns-then-not-is_in_range c = false_tells (λ h. untold c.is_in_range.result c.is_in_range.ensures c.if-not-is_in_range.true h.in_range)
+returns-then-not-is_in_range c = false_tells (λ h. iff_false c.is_in_range.ensures c.if-not-is_in_range.true h.in_range)
 
 pub returns-then-not-rules_hold : goal.returns-then-not-rules_hold
 returns-then-not-rules_hold c =

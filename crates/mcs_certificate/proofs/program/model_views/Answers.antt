@@ -7,7 +7,7 @@ use Rattle.mcs_system.specs.Views.{Shows}
 use Rattle.mcs_trace.specs.declared.certificate.AnswerSetCert.{AnswerSetCert}
 use Rattle.mcs_evidence.specs.Programs.{model_shown_of}
 use Rattle.mcs_certificate.specs.Models.{AreModelsShown}
-use Rattle.mcs_certificate.proofs.General.{untold}
+use Rattle.std.proofs.lemmas.Bool.{iff_false}
 use Rattle.mcs_certificate.proofs.ModelLemmas.{shown_accepted, models_more, model_at}
 use Rattle.mcs_certificate.proofs.program.model_views.Goals as goal
 
@@ -16,7 +16,7 @@ loop-shown-init c = rw c.new-views.ensures.items tt
 
 pub returns-then-not-fine : goal.returns-then-not-fine
 returns-then-not-fine c = λ views all.
-    untold c.in_ok-fine.fine c.in_ok-fine.ensures c.if-not-fine.true
+    iff_false c.in_ok-fine.ensures c.if-not-fine.true
     (model_at c.args.atoms.now (map rule_of c.args.rules.now) (map Atom (map (λ b. b.now) c.args.beliefs.now)) c.args.models.now c.loop-shown.shown-index c.shown-item.result views c.loop-shown-test.true c.shown-item.is all)
 
 pub loop-shown-preserved : goal.loop-shown-preserved

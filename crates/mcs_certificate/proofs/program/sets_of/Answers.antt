@@ -4,11 +4,11 @@ use Rattle.std.specs.List.{AllByRecursion}
 use Rattle.mcs_base.proofs.Among.{among_at}
 use Rattle.mcs_base.proofs.Each.{all_among, all_take_more}
 use Rattle.mcs_evidence.specs.Programs.{IsInRange}
-use Rattle.mcs_certificate.proofs.General.{untold}
+use Rattle.std.proofs.lemmas.Bool.{iff_false}
 use Rattle.mcs_certificate.proofs.program.sets_of.Goals as goal
 
 pub returns-then-not-is_in_range : goal.returns-then-not-is_in_range
-returns-then-not-is_in_range c = λ all. untold c.is_in_range.result c.is_in_range.ensures c.if-not-is_in_range.true (all_among (IsInRange c.args.atoms.now) c.args.numbers.now (get_or c.args.numbers.now c.loop-number.number-index 0) all (among_at c.args.numbers.now c.loop-number.number-index 0 c.loop-number-test.true))
+returns-then-not-is_in_range c = λ all. iff_false c.is_in_range.ensures c.if-not-is_in_range.true (all_among (IsInRange c.args.atoms.now) c.args.numbers.now (get_or c.args.numbers.now c.loop-number.number-index 0) all (among_at c.args.numbers.now c.loop-number.number-index 0 c.loop-number-test.true))
 
 pub loop-number-init : goal.loop-number-init
 loop-number-init c = rw c.new-sets.ensures.items (record { same = refl; in_range = tt })

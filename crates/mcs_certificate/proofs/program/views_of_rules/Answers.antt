@@ -8,7 +8,7 @@ use Rattle.mcs_trace.specs.declared.certificate.AnswerSetCert.{AnswerSetCert}
 use Rattle.mcs_trace.specs.Traces.{inferences_of}
 use Rattle.mcs_evidence.specs.Programs.{model_shown_of, program_shown_of, rest_formulas, IsInRange, IsRefutation}
 use Rattle.mcs_certificate.specs.Models.{AreModelsShown}
-use Rattle.mcs_certificate.proofs.General.{untold}
+use Rattle.std.proofs.lemmas.Bool.{iff_false}
 use Rattle.mcs_certificate.proofs.ModelLemmas.{unless_range, unless_models, unless_ascending, unless_refuted, program_accepted}
 use Rattle.mcs_certificate.proofs.program.views_of_rules.Goals as goal
 
@@ -30,7 +30,7 @@ returns-then-not-are_ascending c =
     let beliefs : List Formula = map Atom (map (λ b. b.now) c.args.beliefs.now) in
     unless_ascending c.args.atoms.now rules beliefs (program_shown_of c.args.cert.now) c.in-Some-shown.views.items
     (subst (λ (ms : List AnswerSetCert). AreModelsShown c.args.atoms.now rules beliefs c.in-Some-shown.views.items (map model_shown_of ms)) c.deref-2.ensures.value (rw c.in-Some-shown.is at c.in_ok-shown.ensures))
-    (subst (λ (vs : List ℕ). ¬ IsAscending StateBefore vs) c.deref-3.ensures.value (untold c.are_ascending.result c.are_ascending.ensures c.if-not-are_ascending.true))
+    (subst (λ (vs : List ℕ). ¬ IsAscending StateBefore vs) c.deref-3.ensures.value (iff_false c.are_ascending.ensures c.if-not-are_ascending.true))
 
 pub returns-then-not-refuted : goal.returns-then-not-refuted
 returns-then-not-refuted c =
@@ -42,7 +42,7 @@ returns-then-not-refuted c =
     (subst (λ (ms : List AnswerSetCert). AreModelsShown c.args.atoms.now rules beliefs c.in-Some-shown.views.items (map model_shown_of ms)) c.deref-2.ensures.value (rw c.in-Some-shown.is at c.in_ok-shown.ensures))
     (subst (λ (ns : List ℕ). ¬ IsRefutation c.args.atoms.now (rest_formulas c.args.atoms.now rules beliefs ns c.in-Some-shown.views.items) (inferences_of c.args.cert.now.none)) smaller
     (subst (λ (vs : List ℕ). ¬ IsRefutation c.args.atoms.now (rest_formulas c.args.atoms.now rules beliefs c.deref-4.result.now vs) (inferences_of c.args.cert.now.none)) c.deref-5.ensures.value
-    (untold c.in_ok-refuted.refuted c.in_ok-refuted.ensures c.if-not-refuted.true)))
+    (iff_false c.in_ok-refuted.ensures c.if-not-refuted.true)))
 
 pub returns : goal.returns
 returns c =

@@ -5,7 +5,8 @@ use Rattle.mcs_system.specs.Plain.{Formula, Default}
 use Rattle.mcs_system.specs.Seen.{formula_of}
 use Rattle.mcs_cnf.specs.Entailments.{entailment_of}
 use Rattle.mcs_evidence.specs.Defaults.{absence_of, defaults_at, negated_justs, AreDenied}
-use Rattle.mcs_certificate.specs.Checks.{AreAbsent, all_of}
+use Rattle.mcs_certificate.specs.Checks.{AreAbsent}
+use Rattle.mcs_evidence.specs.Theories.{all_of}
 use Rattle.mcs_certificate.proofs.VerdictLemmas.{complete_view}
 use Rattle.mcs_certificate.proofs.verdict.complete_view.Goals as goal
 

@@ -4,7 +4,9 @@ use Rattle.mcs_system.specs.Plain.{Formula, Default}
 use Rattle.mcs_system.specs.Seen.{default_of, formula_of}
 use Rattle.mcs_cnf.specs.Entailments.{entailment_of}
 use Rattle.mcs_evidence.specs.Defaults.{generated, negated_justs, IsShown, AreDenied}
-use Rattle.mcs_certificate.proofs.General.{room_known, untold, iff_trans}
+use Rattle.std.proofs.lemmas.Bool.{iff_false}
+use Rattle.mcs_base.proofs.Booleans.{iff_trans}
+use Rattle.mcs_cnf.proofs.GrowingLemmas.{room_known}
 use Rattle.mcs_certificate.proofs.VerdictLemmas.{applied_iff}
 use Rattle.mcs_certificate.proofs.verdict.has_applied.Goals as goal
 
@@ -20,4 +22,4 @@ returns-clause-exact c = IfOk-weaker c.allow.result _ _ (λ yes told items same 
     let here : IsTrue yes ↔ AreDenied c.args.atoms.now (generated items c.args.set) (negated_justs (d ∷ [])) (map entailment_of c.args.justs.now) =
     subst (λ (fs : List Formula). IsTrue yes ↔ AreDenied c.args.atoms.now fs (negated_justs (d ∷ [])) (map entailment_of c.args.justs.now)) is told in
     iff_trans here (applied_iff c.args.atoms.now items c.args.set (map (λ d. default_of d.now) c.args.defaults.now) same c.args.number (entailment_of c.args.pre.now) (map entailment_of c.args.justs.now) d c.in-Some.ensures
-    (untold c.is_member.result c.is_member.ensures.exact c.if-is_member.false) shown))) c.allow.ensures
+    (iff_false c.is_member.ensures.exact c.if-is_member.false) shown))) c.allow.ensures

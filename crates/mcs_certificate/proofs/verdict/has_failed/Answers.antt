@@ -1,17 +1,17 @@
 use Rattle.std.proofs.Common.{ℕ, List, IsTrue, ◌↔◌, subst}
 use Rattle.std.proofs.lemmas.Result.{IfOk-weaker}
-use Rattle.mcs_base.proofs.Booleans.{false_tells}
+use Rattle.mcs_base.proofs.Booleans.{false_tells, iff_trans}
 use Rattle.mcs_system.specs.Plain.{Formula}
 use Rattle.mcs_evidence.specs.Defaults.{absence_of, generated, IsAbsent}
 use Rattle.mcs_certificate.specs.Checks.{number_in, IsNumberIn}
-use Rattle.mcs_certificate.proofs.General.{untold, iff_trans}
+use Rattle.std.proofs.lemmas.Bool.{iff_false}
 use Rattle.mcs_certificate.proofs.VerdictLemmas.{failed_not, failed_iff}
 use Rattle.mcs_certificate.proofs.verdict.has_failed.Goals as goal
 
 pub returns-then-not-is_member-clause-exact : goal.returns-then-not-is_member-clause-exact
 returns-then-not-is_member-clause-exact c items same is =
     false_tells (failed_not c.args.atoms.now items c.args.set (absence_of c.args.absence.now)
-    (subst (λ (n : ℕ). ¬ IsNumberIn c.args.set n) c.number_of-number.ensures (untold c.is_member.result c.is_member.ensures.exact c.if-not-is_member.true)))
+    (subst (λ (n : ℕ). ¬ IsNumberIn c.args.set n) c.number_of-number.ensures (iff_false c.is_member.ensures.exact c.if-not-is_member.true)))
 
 pub returns-clause-exact : goal.returns-clause-exact
 returns-clause-exact c = IfOk-weaker c.is_absent.result _ _ (λ yes told items same is. (

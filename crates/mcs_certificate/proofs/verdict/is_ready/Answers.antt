@@ -6,13 +6,13 @@ use Rattle.mcs_trace.specs.declared.certificate.SetCert.{SetCert}
 use Rattle.mcs_cnf.specs.Entailments.{entailment_of}
 use Rattle.mcs_evidence.specs.Defaults.{verdict_of, facts_of, AreGrounded}
 use Rattle.mcs_certificate.specs.Checks.{AreNumbersOf, IsReady}
-use Rattle.mcs_certificate.proofs.General.{untold}
+use Rattle.std.proofs.lemmas.Bool.{iff_false}
 use Rattle.mcs_certificate.proofs.verdict.is_ready.Goals as goal
 
 pub returns-then-not-are_numbers-clause-exact : goal.returns-then-not-are_numbers-clause-exact
 returns-then-not-are_numbers-clause-exact c items same is =
     subst (λ (v : SetCert). IsTrue false ↔ IsReady c.args.atoms.now items c.args.set (verdict_of v)) (sym c.in-Extension.is)
-    (false_tells (λ h. untold c.are_numbers.result c.are_numbers.ensures c.if-not-are_numbers.true (subst (AreNumbersOf c.args.set) (sym c.deref.ensures.value) h.0)))
+    (false_tells (λ h. iff_false c.are_numbers.ensures c.if-not-are_numbers.true (subst (AreNumbersOf c.args.set) (sym c.deref.ensures.value) h.0)))
 
 pub returns-else-not-are_numbers-clause-exact : goal.returns-else-not-are_numbers-clause-exact
 returns-else-not-are_numbers-clause-exact c = IfOk-weaker c.are_grounded.result _ _ (λ yes told items same is. (

@@ -2,7 +2,7 @@ use Rattle.std.proofs.Common.{◌∙◌, map, ap}
 use Rattle.std.proofs.lemmas.Result.{IfOk-weaker}
 use Rattle.mcs_system.specs.Seen.{formula_of}
 use Rattle.mcs_cnf.specs.ClauseLists.{clause_list}
-use Rattle.mcs_certificate.proofs.General.{room_known}
+use Rattle.mcs_cnf.proofs.GrowingLemmas.{room_known}
 use Rattle.mcs_certificate.proofs.verdict.judge.Goals as goal
 
 pub is_ready-requires-clause-room : goal.is_ready-requires-clause-room

@@ -8,7 +8,7 @@ use Rattle.mcs_system.specs.Plain.{Formula, Classical}
 use Rattle.mcs_system.specs.Views.{IsAcceptedView}
 use Rattle.mcs_cnf.specs.Classical.{IsAcceptedClassical, certificate_of}
 use Rattle.mcs_system.specs.Seen.{formula_of}
-use Rattle.mcs_classical.proofs.RefutingLemmas.{room_known}
+use Rattle.mcs_cnf.proofs.GrowingLemmas.{room_known}
 use Rattle.mcs_classical.proofs.OutputLemmas.{lent_formulas}
 use Rattle.mcs_classical.proofs.beliefs.outputs.Goals as goal
 

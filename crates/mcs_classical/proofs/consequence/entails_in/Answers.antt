@@ -9,19 +9,20 @@ use Rattle.mcs_sat.specs.declared.outcome.Outcome.{Outcome}
 use Rattle.mcs_sat.specs.Answers.{IsAnswer}
 use Rattle.mcs_cnf.specs.Entailments.{entailment_of}
 use Rattle.mcs_cnf.proofs.EntailmentLemmas.{sound}
-use Rattle.mcs_classical.proofs.RefutingLemmas.{cut_within, cut_fewer, answer_yes, answer_no}
+use Rattle.mcs_classical.proofs.RefutingLemmas.{answer_yes, answer_no}
+use Rattle.mcs_cnf.proofs.GrowingLemmas.{grown_within, grown_fewer}
 use Rattle.mcs_classical.proofs.consequence.entails_in.Goals as goal
 
 pub true_places-requires-clause-values : goal.true_places-requires-clause-values
 true_places-requires-clause-values c =
     let answer : IsAnswer c.push_goal.new.known (Outcome.Model c.in-Model.values) = subst (IsAnswer c.push_goal.new.known) c.in-Model.is c.in_ok-trace.ensures.answer in
-    let known : c.args.known.now.vars ≤ c.push_goal.new.known.vars = cut_fewer c.args.known.now c.push_goal.new.known c.args.atoms.now (Not (formula_of c.args.goal.now)) c.in_ok-push_goal.ensures.ok in
+    let known : c.args.known.now.vars ≤ c.push_goal.new.known.vars = grown_fewer c.args.atoms.now c.args.known.now c.push_goal.new.known ((Not (formula_of c.args.goal.now)) ∷ [], c.in_ok-push_goal.ensures.ok) in
     omega (arith, answer.0)
 
 pub cut-requires-clause-fewer : goal.cut-requires-clause-fewer
 cut-requires-clause-fewer c =
     let pushed = c.solve-outcome.ensures.same ∙ c.in_ok-push_goal.ensures.ok in
-    let known : c.args.known.now.vars ≤ c.solve-outcome.new.self.vars = cut_fewer c.args.known.now c.solve-outcome.new.self c.args.atoms.now (Not (formula_of c.args.goal.now)) pushed in
+    let known : c.args.known.now.vars ≤ c.solve-outcome.new.self.vars = grown_fewer c.args.atoms.now c.args.known.now c.solve-outcome.new.self ((Not (formula_of c.args.goal.now)) ∷ [], pushed) in
     omega arith
 
 pub cut-requires-clause-within : goal.cut-requires-clause-within
@@ -29,7 +30,7 @@ cut-requires-clause-within c =
     let pushed = c.solve-outcome.ensures.same ∙ c.in_ok-push_goal.ensures.ok in
     subst (λ (k : ℕ). AllByRecursion (IsWithin c.vars-vars.result) (take k c.solve-outcome.new.self.clauses)) (sym c.count-count.ensures)
     (subst (λ (n : ℕ). AllByRecursion (IsWithin n) (take (length c.args.known.now.clauses) c.solve-outcome.new.self.clauses)) (sym c.vars-vars.ensures.value)
-    (cut_within c.args.known.now c.solve-outcome.new.self c.args.atoms.now (Not (formula_of c.args.goal.now)) c.vars-vars.ensures.kept pushed))
+    (grown_within c.args.atoms.now c.args.known.now c.solve-outcome.new.self ((Not (formula_of c.args.goal.now)) ∷ [], pushed) c.vars-vars.ensures.kept))
 
 pub returns-in-Refuted-clause-accepted : goal.returns-in-Refuted-clause-accepted
 returns-in-Refuted-clause-accepted c = λ fs is over.

@@ -3,7 +3,8 @@ use Rattle.mcs_system.specs.Plain.{Not}
 use Rattle.mcs_system.specs.Seen.{formula_of}
 use Rattle.mcs_trace.specs.Clauses.{ClauseList}
 use Rattle.mcs_cnf.specs.ClauseLists.{with_formulas}
-use Rattle.mcs_classical.proofs.RefutingLemmas.{cut_fewer, none_apart}
+use Rattle.mcs_classical.proofs.RefutingLemmas.{none_apart}
+use Rattle.mcs_cnf.proofs.GrowingLemmas.{grown_fewer}
 use Rattle.mcs_classical.proofs.consequence.push_goal.Goals as goal
 
 pub append-added-requires : goal.append-added-requires
@@ -12,4 +13,4 @@ append-added-requires c =
     let empty : ClauseList = record { vars = known.vars; clauses = [] } in
     let f = Not (formula_of c.args.goal.now) in
     let made : c.push_negation.new.cnf ≡ with_formulas c.args.atoms.now empty (f ∷ []) = c.in_ok-push_negation.ensures.ok ∙ ap (λ (g : ClauseList). with_formulas c.args.atoms.now g (f ∷ [])) (none_apart known c.new-more.result c.vars.result c.vars.ensures.value c.new-more.ensures) in
-    cut_fewer empty c.push_negation.new.cnf c.args.atoms.now f made
+    grown_fewer c.args.atoms.now empty c.push_negation.new.cnf (f ∷ [], made)

@@ -3,7 +3,8 @@ use Rattle.mcs_sets.specs.Sets.{has}
 use Rattle.mcs_base.proofs.Mapped.{image_each_read, slice_get-map_read}
 use Rattle.mcs_system.specs.Seen.{default_of}
 use Rattle.mcs_cnf.specs.Entailments.{entailment_of, says_yes}
-use Rattle.mcs_default.specs.Theories.{AreClausesOf, IsOverDefault}
+use Rattle.mcs_default.specs.Theories.{AreClausesOf}
+use Rattle.mcs_evidence.specs.Theories.{IsOverDefault}
 use Rattle.mcs_default.specs.Told.{prerequisites}
 use Rattle.mcs_default.proofs.AskLemmas.{denied_push, denied_same, next_more, next_same}
 use Rattle.mcs_default.proofs.grounding.ask_next.Goals.{then-has+in_ok-pre+else-says_yes+in_ok-push, else-has}

@@ -11,11 +11,11 @@ use Rattle.std.proofs.lemmas.List.{map_push, length-map}
 use Rattle.mcs_base.proofs.Mapped.{image_each_at}
 use Rattle.mcs_base.proofs.SetParts.{minus_is_less, minus_below}
 use Rattle.mcs_evidence.specs.Defaults.{IsShown, AreDenied}
-use Rattle.mcs_default.specs.Theories.{IsOverDefault, consequents}
+use Rattle.mcs_default.specs.Theories.{consequents}
+use Rattle.mcs_evidence.specs.Theories.{IsOverDefault}
 use Rattle.mcs_default.specs.Told.{IsToldNext, IsNextInRange, AreNumbersOf, prerequisites}
-use Rattle.mcs_default.proofs.General.{grown_room}
-use Rattle.mcs_default.proofs.PushLemmas.{none-with}
-use Rattle.mcs_default.proofs.OrderLemmas.{numbers-none, numbers-more, derived-start, derived-more, derived-all, grown-more, same_default, stuck}
+use Rattle.mcs_cnf.proofs.GrowingLemmas.{grown_room, none-with, grown_more}
+use Rattle.mcs_default.proofs.OrderLemmas.{numbers-none, numbers-more, derived-start, derived-more, derived-all, same_default, stuck}
 use Rattle.mcs_default.proofs.grounding.ask_order.Goals as goal
 
 pub loop-alloc-init : goal.loop-alloc-init
@@ -27,7 +27,7 @@ loop-alloc-init c = record {
 }
 
 pub ask_next-requires-clause-room : goal.ask_next-requires-clause-room
-ask_next-requires-clause-room c = grown_room c.args.atoms.now c.args.known.now c.loop-alloc.known c.loop-alloc.invariant.grown.0 c.requires.room c.loop-alloc.invariant.grown.1
+ask_next-requires-clause-room c = grown_room c.args.atoms.now c.args.known.now c.loop-alloc.known c.loop-alloc.invariant.grown c.requires.room
 
 pub push_formula-requires-clause-over : goal.push_formula-requires-clause-over
 push_formula-requires-clause-over c =
@@ -36,7 +36,7 @@ push_formula-requires-clause-over c =
 
 pub push_formula-requires-clause-room : goal.push_formula-requires-clause-room
 push_formula-requires-clause-room c = subst (λ (x : ClauseList). length c.args.atoms.now ≤ x.vars) (sym c.in_ok-index.ensures.kept)
-    (grown_room c.args.atoms.now c.args.known.now c.loop-alloc.known c.loop-alloc.invariant.grown.0 c.requires.room c.loop-alloc.invariant.grown.1)
+    (grown_room c.args.atoms.now c.args.known.now c.loop-alloc.known c.loop-alloc.invariant.grown c.requires.room)
 
 pub loop-alloc-smaller : goal.loop-alloc-smaller
 loop-alloc-smaller c =
@@ -57,7 +57,7 @@ loop-alloc-preserved c =
     c.in_ok-push_formula-in-Supported.ensures.ok ∙ ap (λ (y : ClauseList). with_formulas names y (d.conclusion ∷ [])) c.in_ok-index.ensures.kept in
     rw c.without-left.ensures (record {
       part = λ j member. before.part j (minus_within left (single k) j member);
-      grown = grown-more names c.args.known.now c.loop-alloc.known c.push_formula.new.cnf d.conclusion before.grown pushed;
+      grown = grown_more names c.args.known.now c.loop-alloc.known c.push_formula.new.cnf d.conclusion before.grown pushed;
       numbers = numbers-more set left k c.loop-alloc.order.items c.push-in-Supported.new.self.items (before.part k found.1) found.1 c.in_ok-push-in-Supported-2.ensures.items before.numbers;
       derived = λ fs is. (let derived = before.derived fs is in
           let at : slice_get (map (λ d. default_of d.now) c.args.defaults.now) k ≡ Some d = slice_get-map_at (λ d. default_of d.now) c.args.defaults.now k c.index-defaults-index.result found.0 in

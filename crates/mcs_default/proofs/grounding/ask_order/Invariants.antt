@@ -3,7 +3,8 @@ use Rattle.mcs_sets.specs.Sets.{Within, size, minus}
 use Rattle.mcs_system.specs.Plain.{Formula}
 use Rattle.mcs_system.specs.Seen.{default_of}
 use Rattle.mcs_cnf.specs.Entailments.{entailment_of}
-use Rattle.mcs_default.specs.Theories.{AreClausesOf, IsGrown}
+use Rattle.mcs_default.specs.Theories.{AreClausesOf}
+use Rattle.mcs_cnf.specs.Growing.{IsGrown}
 use Rattle.mcs_default.specs.Told.{AreNumbersOf}
 use Rattle.mcs_default.proofs.OrderLemmas.{IsDerived}
 use Rattle.mcs_default.proofs.grounding.ask_order.Given as goal

@@ -5,7 +5,8 @@ use Rattle.mcs_system.specs.Seen.{default_of, formula_of}
 use Rattle.mcs_system.specs.declared.formula.Formula.{Formula}
 use Rattle.mcs_cnf.specs.ClauseLists.{AreOver}
 use Rattle.mcs_evidence.specs.Defaults.{negated_justs}
-use Rattle.mcs_default.specs.Theories.{AreClausesOf, IsOverDefault}
+use Rattle.mcs_default.specs.Theories.{AreClausesOf}
+use Rattle.mcs_evidence.specs.Theories.{IsOverDefault}
 use Rattle.mcs_default.specs.Told.{IsToldOfJusts}
 use Rattle.mcs_default.proofs.General.{picked_out}
 use Rattle.mcs_default.proofs.AskLemmas.{denied_same, inside_more, justs_told}

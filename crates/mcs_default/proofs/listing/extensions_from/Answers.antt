@@ -4,11 +4,11 @@ use Rattle.std.proofs.lemmas.List.{length-map}
 use Rattle.mcs_system.specs.Plain.{Fact}
 use Rattle.mcs_system.specs.Seen.{default_of, formula_of, item_of}
 use Rattle.mcs_cnf.specs.ClauseLists.{clause_list}
-use Rattle.mcs_classical.proofs.RefutingLemmas.{room_known}
+use Rattle.mcs_cnf.proofs.GrowingLemmas.{room_known}
 use Rattle.mcs_evidence.specs.Defaults.{facts_of, defaults_of, verdicts_of}
 use Rattle.mcs_evidence.proofs.DefaultCertificates.{defaults_sound}
-use Rattle.mcs_default.specs.Theories.{AreOverDefaults}
-use Rattle.mcs_default.proofs.TheoryLemmas.{facts_with, defaults_with, over_with_facts, over_facts, over_defaults}
+use Rattle.mcs_evidence.specs.Theories.{AreOverDefaults}
+use Rattle.mcs_evidence.proofs.TheoryLemmas.{facts_with, defaults_with, over_with_facts, over_facts, over_defaults}
 use Rattle.mcs_default.proofs.listing.extensions_from.Goals as goal
 
 pub judge_all-requires-clause-few_defaults : goal.judge_all-requires-clause-few_defaults

@@ -4,7 +4,7 @@ use Rattle.mcs_base.proofs.Mapped.{slice_get-map_read}
 use Rattle.mcs_system.specs.Logic.{true_names}
 use Rattle.mcs_system.specs.Seen.{default_of}
 use Rattle.mcs_default.specs.Assignments.{holds_part_of, holds_part_at}
-use Rattle.mcs_default.proofs.SearchLemmas.{such_that_step}
+use Rattle.mcs_sets.proofs.Lattice.{such_that_next}
 use Rattle.mcs_default.proofs.models.holding.Goals.{then-holds, else-holds}
 use Rattle.mcs_default.proofs.models.holding.Goals as goal
 
@@ -18,6 +18,6 @@ loop-index-preserved c =
     let i = c.loop-index.index in
     let at = ap (holds_part_of a c.args.part) (slice_get-map_read (λ d. default_of d.now) c.args.defaults.now i c.index-defaults-index.result c.loop-index-test.true c.index-defaults-index.is) in
     elim c.if-holds.branch [
-      | then-holds w ↦ such_that_step (holds_part_at a c.args.part ds) i c.loop-index.places c.if-holds.places true (at ∙ sym c.holds.ensures ∙ w.if-holds.true) c.loop-index.invariant (w.places-is ∙ w.with-places.ensures)
-      | else-holds w ↦ such_that_step (holds_part_at a c.args.part ds) i c.loop-index.places c.if-holds.places false (at ∙ sym c.holds.ensures ∙ w.if-holds.false) c.loop-index.invariant w.places-is
+      | then-holds w ↦ such_that_next (holds_part_at a c.args.part ds) i c.loop-index.places c.if-holds.places true (at ∙ sym c.holds.ensures ∙ w.if-holds.true) c.loop-index.invariant (w.places-is ∙ w.with-places.ensures)
+      | else-holds w ↦ such_that_next (holds_part_at a c.args.part ds) i c.loop-index.places c.if-holds.places false (at ∙ sym c.holds.ensures ∙ w.if-holds.false) c.loop-index.invariant w.places-is
     ]

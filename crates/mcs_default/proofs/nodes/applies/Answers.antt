@@ -2,7 +2,8 @@ use Rattle.std.proofs.Common.{sym, subst, map}
 use Rattle.std.proofs.lemmas.Result.{IfOk-weaker}
 use Rattle.mcs_system.specs.Seen.{default_of}
 use Rattle.mcs_default.specs.Theories.{AreParts}
-use Rattle.mcs_default.proofs.SearchLemmas.{false_exactly, not_from_false}
+use Rattle.std.proofs.lemmas.Bool.{iff_false}
+use Rattle.mcs_base.proofs.Booleans.{false_tells}
 use Rattle.mcs_default.proofs.nodes.applies.Goals as goal
 
 pub returns-then-branch-clause-exact : goal.returns-then-branch-clause-exact
@@ -12,4 +13,4 @@ returns-then-branch-clause-exact c = IfOk-weaker c.allows.result _ _ (λ b h ite
     (λ holds. (supported, allowed.0 holds), λ both. allowed.1 both.1))) c.allows.ensures.exact
 
 pub returns-clause-exact : goal.returns-clause-exact
-returns-clause-exact c items parts d at = false_exactly (λ both. not_from_false c.in_ok-supports.field-0 c.if-branch.false (c.in_ok-supports.ensures.exact items parts d at) both.0)
+returns-clause-exact c items parts d at = false_tells (λ both. iff_false (c.in_ok-supports.ensures.exact items parts d at) c.if-branch.false both.0)

@@ -3,7 +3,7 @@ use Rattle.std.proofs.Common.{◌∙◌, map, sym, subst, arith}
 use Rattle.mcs_system.specs.Seen.{default_of}
 use Rattle.mcs_default.specs.Theories.{AreParts}
 use Rattle.mcs_default.specs.Searches.{IsOpenAt}
-use Rattle.mcs_default.proofs.SearchLemmas.{true_exactly}
+use Rattle.mcs_base.proofs.Booleans.{true_tells}
 use Rattle.mcs_default.proofs.nodes.are_open.Goals as goal
 
 pub loop-index-preserved : goal.loop-index-preserved
@@ -16,4 +16,4 @@ loop-index-preserved c = record {
 }
 
 pub returns-clause-exact : goal.returns-clause-exact
-returns-clause-exact c items parts = true_exactly (λ k less. c.loop-index.invariant.each_open items parts k (omega arith))
+returns-clause-exact c items parts = true_tells (λ k less. c.loop-index.invariant.each_open items parts k (omega arith))

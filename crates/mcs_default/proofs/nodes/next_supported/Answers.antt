@@ -4,7 +4,8 @@ use Rattle.mcs_sets.specs.Sets.{has}
 use Rattle.mcs_system.specs.Seen.{default_of}
 use Rattle.mcs_default.specs.Theories.{AreParts}
 use Rattle.mcs_default.specs.Searches.{IsUnsupportedAt}
-use Rattle.mcs_default.proofs.SearchLemmas.{not_from_false, place_read}
+use Rattle.mcs_default.proofs.SearchLemmas.{place_read}
+use Rattle.std.proofs.lemmas.Bool.{iff_false}
 use Rattle.mcs_default.proofs.nodes.next_supported.Goals.{else-has-via-then-has+in_ok-supports+else-branch, else-has-via-else-has}
 use Rattle.mcs_default.proofs.nodes.next_supported.Goals as goal
 
@@ -18,7 +19,7 @@ loop-index-preserved c =
         ready = w.in_ok-supports.ensures.ready;
         none = λ items parts.
             (let now = subst (AreParts c.args.atoms.now items (map (λ d. default_of d.now) c.args.defaults.now)) (sym before.kept) parts in
-            below_more (λ (k : ℕ). has c.args.left k ≡ true → IsUnsupportedAt items c.args.set k) i (before.none items parts) (λ member d at. not_from_false w.in_ok-supports.field-0 w.if-branch.false (w.in_ok-supports.ensures.exact items now d at)));
+            below_more (λ (k : ℕ). has c.args.left k ≡ true → IsUnsupportedAt items c.args.set k) i (before.none items parts) (λ member d at. iff_false (w.in_ok-supports.ensures.exact items now d at) w.if-branch.false));
       })
       | else-has-via-else-has w ↦ rw w.findings-is (record {
         kept = before.kept;

@@ -10,7 +10,9 @@ use Rattle.mcs_system.specs.Seen.{default_of, formula_of}
 use Rattle.mcs_cnf.specs.ClauseLists.{IsOver}
 use Rattle.mcs_evidence.specs.Defaults.{generated}
 use Rattle.mcs_default.specs.Theories.{AreParts}
-use Rattle.mcs_default.proofs.SearchLemmas.{not_allowed, false_exactly, true_exactly, not_from_false}
+use Rattle.mcs_default.proofs.SearchLemmas.{not_allowed}
+use Rattle.std.proofs.lemmas.Bool.{iff_false}
+use Rattle.mcs_base.proofs.Booleans.{false_tells, true_tells}
 use Rattle.mcs_default.proofs.questions.allows_all.Goals as goal
 
 pub refutes-requires-clause-over : goal.refutes-requires-clause-over
@@ -20,7 +22,7 @@ pub returns-then-branch-clause-exact : goal.returns-then-branch-clause-exact
 returns-then-branch-clause-exact c items parts =
     let ds = map (λ d. default_of d.now) c.args.defaults.now in
     let now = subst (AreParts c.args.atoms.now items ds) (sym c.loop-just.invariant.kept) parts in
-    false_exactly (not_allowed (generated items c.args.set) (map formula_of c.args.justs.now) c.loop-just.just-index (formula_of c.just-item.result)
+    false_tells (not_allowed (generated items c.args.set) (map formula_of c.args.justs.now) c.loop-just.just-index (formula_of c.just-item.result)
     (slice_get-map_read formula_of c.args.justs.now c.loop-just.just-index c.just-item.result c.loop-just-test.true c.just-item.is) ((c.in_ok-refutes.ensures.exact items now).0 c.if-branch.true))
 
 pub loop-just-preserved : goal.loop-just-preserved
@@ -35,9 +37,9 @@ loop-just-preserved c =
           (let now = subst (AreParts c.args.atoms.now items ds) (sym c.loop-just.invariant.kept) parts in
           subst (AllByRecursion (λ j. ¬ Entails (generated items c.args.set) (Not j)))
           (sym (map_more formula_of c.args.justs.now i f c.loop-just-test.true ∙ ap (λ (g : code.Formula). map formula_of (take i c.args.justs.now) ++ formula_of g ∷ []) (sym c.just-item.is)))
-          (all_push (λ j. ¬ Entails (generated items c.args.set) (Not j)) (map formula_of (take i c.args.justs.now)) (formula_of f) (c.loop-just.invariant.allowed items parts) (not_from_false c.in_ok-refutes.field-0 c.if-branch.false (c.in_ok-refutes.ensures.exact items now))));
+          (all_push (λ j. ¬ Entails (generated items c.args.set) (Not j)) (map formula_of (take i c.args.justs.now)) (formula_of f) (c.loop-just.invariant.allowed items parts) (iff_false (c.in_ok-refutes.ensures.exact items now) c.if-branch.false)));
     }
 
 pub returns-clause-exact : goal.returns-clause-exact
 returns-clause-exact c items parts =
-    true_exactly (subst (λ (fs : List code.Formula). AllByRecursion (λ j. ¬ Entails (generated items c.args.set) (Not j)) (map formula_of fs)) (take_all c.loop-just.just-index c.args.justs.now c.loop-just-test.false) (c.loop-just.invariant.allowed items parts))
+    true_tells (subst (λ (fs : List code.Formula). AllByRecursion (λ j. ¬ Entails (generated items c.args.set) (Not j)) (map formula_of fs)) (take_all c.loop-just.just-index c.args.justs.now c.loop-just-test.false) (c.loop-just.invariant.allowed items parts))

@@ -6,10 +6,12 @@ use Rattle.mcs_system.specs.declared.formula.Formula as code
 use Rattle.mcs_system.specs.Logic.{Entails}
 use Rattle.mcs_system.specs.Seen.{default_of, formula_of}
 use Rattle.mcs_evidence.specs.Defaults.{generated}
-use Rattle.mcs_default.specs.Theories.{AreParts, IsOverDefault}
+use Rattle.mcs_default.specs.Theories.{AreParts}
+use Rattle.mcs_evidence.specs.Theories.{IsOverDefault}
 use Rattle.mcs_default.specs.Searches.{IsAllowedBy}
 use Rattle.mcs_default.proofs.FindingLemmas.{lower_blocked, ready_lower}
-use Rattle.mcs_default.proofs.SearchLemmas.{default_there, not_from_false}
+use Rattle.mcs_default.proofs.SearchLemmas.{default_there}
+use Rattle.std.proofs.lemmas.Bool.{iff_false}
 use Rattle.mcs_default.proofs.questions.allows_by_asking.Goals as goal
 
 -- the justifications that are asked are the default's
@@ -26,7 +28,7 @@ returns-in_ok-push-clause-ready c =
     (record { set = c.args.set; supported = c.empty.result; blocked = c.one.result }) refl refl c.in_ok-push.ensures.items (λ items parts.
     (lower_blocked items (record { set = c.args.set; supported = c.empty.result; blocked = c.one.result }) c.args.set c.args.index refl c.empty.ensures c.one.ensures (λ d at.
     (default_there (λ x. default_of x.now) c.args.defaults.now items c.args.index c.index-defaults-index.result c.requires.index parts.0 d at (λ d. ¬ IsAllowedBy (generated items c.args.set) d)
-    (not_from_false c.in_ok-is_allowed.is_allowed c.if-not-is_allowed.true (asked (generated items c.args.set) _ _ c.in_ok-is_allowed.is_allowed c.deref-3.ensures.value (c.in_ok-is_allowed.ensures.exact items (subst (AreParts c.args.atoms.now items ds) c.in_ok-is_allowed.ensures.kept parts))))))))
+    (iff_false (asked (generated items c.args.set) _ _ c.in_ok-is_allowed.is_allowed c.deref-3.ensures.value (c.in_ok-is_allowed.ensures.exact items (subst (AreParts c.args.atoms.now items ds) c.in_ok-is_allowed.ensures.kept parts))) c.if-not-is_allowed.true)))))
 
 pub returns-in_ok-push-clause-exact : goal.returns-in_ok-push-clause-exact
 returns-in_ok-push-clause-exact c items parts d at =

@@ -2,14 +2,14 @@ use Rattle.std.proofs.Common.{map, refl, subst}
 use Rattle.mcs_system.specs.Seen.{default_of}
 use Rattle.mcs_default.specs.Theories.{AreParts}
 use Rattle.mcs_default.proofs.FindingLemmas.{ready_conflict}
-use Rattle.mcs_default.proofs.SearchLemmas.{true_exactly, false_exactly}
+use Rattle.mcs_base.proofs.Booleans.{true_tells, false_tells}
 use Rattle.mcs_default.proofs.questions.contradicts.Goals as goal
 
 pub returns-then-has_conflict-clause-exact : goal.returns-then-has_conflict-clause-exact
-returns-then-has_conflict-clause-exact c items parts = true_exactly (c.has_conflict.ensures items (rw c.deref.ensures.value ((c.requires.ready.right items parts).2)) c.if-has_conflict.true)
+returns-then-has_conflict-clause-exact c items parts = true_tells (c.has_conflict.ensures items (rw c.deref.ensures.value ((c.requires.ready.right items parts).2)) c.if-has_conflict.true)
 
 pub returns-then-is_consistent-clause-exact : goal.returns-then-is_consistent-clause-exact
-returns-then-is_consistent-clause-exact c items parts = false_exactly (c.is_consistent.ensures items (rw c.deref-2.ensures.value ((c.requires.ready.right items parts).1)) c.if-is_consistent.true)
+returns-then-is_consistent-clause-exact c items parts = false_tells (c.is_consistent.ensures items (rw c.deref-2.ensures.value ((c.requires.ready.right items parts).1)) c.if-is_consistent.true)
 
 pub least_conflict-requires-clause-conflict : goal.least_conflict-requires-clause-conflict
 least_conflict-requires-clause-conflict c items parts =
@@ -23,4 +23,4 @@ returns-clause-ready c =
     (c.in_ok-least.ensures.conflict items (subst (AreParts c.args.atoms.now items ds) c.in_ok-least.ensures.kept parts)))
 
 pub returns-clause-exact : goal.returns-clause-exact
-returns-clause-exact c items parts = true_exactly ((c.in_ok-entails_all.ensures.exact items parts).0 c.if-not-branch.false)
+returns-clause-exact c items parts = true_tells ((c.in_ok-entails_all.ensures.exact items parts).0 c.if-not-branch.false)

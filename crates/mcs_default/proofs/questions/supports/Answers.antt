@@ -3,7 +3,8 @@ use Rattle.mcs_base.proofs.Mapped.{image_each_at}
 use Rattle.mcs_system.specs.Logic.{Entails}
 use Rattle.mcs_system.specs.Seen.{default_of}
 use Rattle.mcs_evidence.specs.Defaults.{generated}
-use Rattle.mcs_default.specs.Theories.{AreParts, IsOverDefault}
+use Rattle.mcs_default.specs.Theories.{AreParts}
+use Rattle.mcs_evidence.specs.Theories.{IsOverDefault}
 use Rattle.mcs_default.proofs.FindingLemmas.{lower_supported, ready_lower}
 use Rattle.mcs_default.proofs.SearchLemmas.{default_there}
 use Rattle.mcs_default.proofs.questions.supports.Goals as goal

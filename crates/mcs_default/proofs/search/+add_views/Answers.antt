@@ -1,19 +1,20 @@
-use Rattle.std.proofs.Common.{◌≡◌, ◌∙◌, ◌<◌, ℕ, true, List, length, map, sym, ap, subst, arith, refl, IfNone, IfSome, Option, Some, None}
+use Rattle.std.proofs.Common.{◌≡◌, ◌∙◌, ◌<◌, ℕ, true, List, length, map, sym, ap, subst, arith, IfNone, IfSome, Option, Some}
 use Rattle.std.proofs.lemmas.Result.{on_ok_weaker}
 use Rattle.mcs_base.proofs.Results.{none_where_never}
 use Rattle.mcs_sets.specs.Sets.{has, minus, single, size, Within, IsLeast}
-use Rattle.mcs_sets.proofs.Lattice.{in_minus, minus_within, with_within}
+use Rattle.mcs_sets.proofs.Lattice.{in_minus, minus_within, with_within, nothing_missing, within_without}
 use Rattle.mcs_system.specs.Plain.{Formula, Default}
 use Rattle.mcs_system.specs.Seen.{default_of, formula_of}
 use Rattle.mcs_default.specs.Theories.{AreParts}
 use Rattle.mcs_default.specs.Searches.{IsOpenAt}
-use Rattle.mcs_default.proofs.SearchLemmas.{open_above, AreAdded, none_added, both_added, not_from_false, nothing_left, left_smaller, left_smaller_out, within_without}
+use Rattle.mcs_default.proofs.SearchLemmas.{open_above, AreAdded, none_added, both_added, left_smaller, left_smaller_out}
+use Rattle.std.proofs.lemmas.Bool.{iff_false}
 use Rattle.mcs_default.proofs.search.+add_views.Goals as goal
 
 pub returns-then-not-branch-clause-listed : goal.returns-then-not-branch-clause-listed
 returns-then-not-branch-clause-listed t c items parts =
     none_added items (map (λ b. formula_of b.now) c.args.beliefs.now) c.args.taken c.args.all c.args.views.now.items (λ set below generates.
-    not_from_false c.in_ok-are_open.field-0 c.if-not-branch.true (c.in_ok-are_open.ensures.exact items parts) (λ k less. open_above items c.args.taken c.args.all set below generates k))
+    iff_false (c.in_ok-are_open.ensures.exact items parts) c.if-not-branch.true (λ k less. open_above items c.args.taken c.args.all set below generates k))
 
 pub returns-in_default-clause-listed : goal.returns-in_default-clause-listed
 returns-in_default-clause-listed t c =
@@ -21,7 +22,7 @@ returns-in_default-clause-listed t c =
     let beliefs : List Formula = map (λ b. formula_of b.now) c.args.beliefs.now in
     let taken = c.args.taken in
     let none : c.minus.result ≡ 0 = subst (λ (o : Option ℕ). IfNone o (c.minus.result ≡ 0)) (none_where_never c.first.result c.in_default.not-Some) c.first.ensures.empty in
-    let same : taken ≡ c.args.all = nothing_left taken c.args.all c.requires.within (sym c.minus.ensures ∙ none) in
+    let same : taken ≡ c.args.all = nothing_missing taken c.args.all c.requires.within (sym c.minus.ensures ∙ none) in
     on_ok_weaker c.add_view.result (λ listed items parts.
     (let stays = subst (λ (s : ℕ). (k : ℕ) → k < length c.args.defaults.now → IsOpenAt items taken s k) (sym same) ((c.in_ok-are_open.ensures.exact items parts).0 c.if-not-branch.false) in
     subst (λ (s : ℕ). AreAdded items beliefs taken s c.args.views.now.items c.add_view.new.views.items) same

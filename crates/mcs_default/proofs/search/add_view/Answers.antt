@@ -8,7 +8,8 @@ use Rattle.mcs_system.specs.Views.{Shows}
 use Rattle.mcs_evidence.specs.Defaults.{facts_of, defaults_of}
 use Rattle.mcs_default.specs.Theories.{AreParts, consequents}
 use Rattle.mcs_default.proofs.FindingLemmas.{ready_same}
-use Rattle.mcs_default.proofs.SearchLemmas.{leaf_generates, none_added, one_added, not_from_false, only_itself}
+use Rattle.mcs_default.proofs.SearchLemmas.{leaf_generates, none_added, one_added, only_itself}
+use Rattle.std.proofs.lemmas.Bool.{iff_false}
 use Rattle.mcs_default.proofs.search.add_view.Goals as goal
 
 pub returns-in_ok-push-clause-ready : goal.returns-in_ok-push-clause-ready
@@ -30,5 +31,5 @@ returns-in_ok-push-clause-listed c items parts within stays =
 pub returns-else-branch-clause-listed : goal.returns-else-branch-clause-listed
 returns-else-branch-clause-listed c items parts within stays =
     let set = c.args.set in
-    let never = not_from_false c.in_ok-is_grounded.field-0 c.if-branch.false (c.in_ok-is_grounded.ensures.exact items parts) in
+    let never = iff_false (c.in_ok-is_grounded.ensures.exact items parts) c.if-branch.false in
     none_added items (map (λ b. formula_of b.now) c.args.beliefs.now) set set c.args.views.now.items (λ other below generates. never (only_itself items set other below generates).grounded)

@@ -5,19 +5,20 @@ use Rattle.mcs_system.specs.Views.{Shows}
 use Rattle.mcs_cnf.specs.Classical.{certificate_of}
 use Rattle.mcs_cnf.proofs.EntailmentLemmas.{shown_follow}
 use Rattle.mcs_default.specs.Theories.{consequents}
-use Rattle.mcs_default.proofs.General.{grown_room, cut_fewer, cut_within, generated_clauses}
+use Rattle.mcs_default.proofs.General.{generated_clauses}
+use Rattle.mcs_cnf.proofs.GrowingLemmas.{grown_room, cut_fewer, cut_within}
 use Rattle.mcs_default.proofs.search.view_of.Goals as goal
 
 pub outputs_from-requires-clause-room : goal.outputs_from-requires-clause-room
-outputs_from-requires-clause-room c = grown_room c.args.atoms.now c.args.known.now c.push_consequents.new.known (consequents (map (λ d. default_of d.now) c.args.defaults.now) c.args.set) c.requires.room c.in_ok-push_consequents.ensures
+outputs_from-requires-clause-room c = grown_room c.args.atoms.now c.args.known.now c.push_consequents.new.known ((consequents (map (λ d. default_of d.now) c.args.defaults.now) c.args.set), c.in_ok-push_consequents.ensures) c.requires.room
 
 pub cut-requires-clause-fewer : goal.cut-requires-clause-fewer
 cut-requires-clause-fewer c =
-    cut_fewer c.args.atoms.now c.args.known.now c.push_consequents.new.known c.outputs_from.new.known (consequents (map (λ d. default_of d.now) c.args.defaults.now) c.args.set) c.vars-vars.result c.vars-vars.ensures.value c.in_ok-view.ensures.kept c.in_ok-push_consequents.ensures
+    cut_fewer c.args.atoms.now c.args.known.now c.push_consequents.new.known ((consequents (map (λ d. default_of d.now) c.args.defaults.now) c.args.set), c.in_ok-push_consequents.ensures) c.outputs_from.new.known c.vars-vars.result c.vars-vars.ensures.value c.in_ok-view.ensures.kept
 
 pub cut-requires-clause-within : goal.cut-requires-clause-within
 cut-requires-clause-within c =
-    cut_within c.args.atoms.now c.args.known.now c.push_consequents.new.known c.outputs_from.new.known (consequents (map (λ d. default_of d.now) c.args.defaults.now) c.args.set) c.vars-vars.result c.clauses-count.result.now c.vars-vars.ensures.value c.clauses-count.ensures.value c.vars-vars.ensures.kept c.in_ok-view.ensures.kept c.in_ok-push_consequents.ensures
+    cut_within c.args.atoms.now c.args.known.now c.push_consequents.new.known ((consequents (map (λ d. default_of d.now) c.args.defaults.now) c.args.set), c.in_ok-push_consequents.ensures) c.outputs_from.new.known c.vars-vars.result c.clauses-count.result.now c.vars-vars.ensures.value c.clauses-count.ensures.value c.vars-vars.ensures.kept c.in_ok-view.ensures.kept
 
 pub returns-clause-shown : goal.returns-clause-shown
 returns-clause-shown c fs is =

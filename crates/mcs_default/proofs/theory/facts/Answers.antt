@@ -3,7 +3,7 @@ use Rattle.mcs_system.specs.Seen.{formula_of, item_of}
 use Rattle.mcs_trace.specs.Clauses.{ClauseList}
 use Rattle.mcs_cnf.specs.ClauseLists.{with_formulas, clause_list}
 use Rattle.mcs_cnf.proofs.ListLemmas.{with_append}
-use Rattle.mcs_classical.proofs.RefutingLemmas.{room_known}
+use Rattle.mcs_cnf.proofs.GrowingLemmas.{room_known}
 use Rattle.mcs_evidence.specs.Defaults.{facts_of}
 use Rattle.mcs_default.proofs.theory.facts.Goals as goal
 

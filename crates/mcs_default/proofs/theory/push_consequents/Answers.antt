@@ -3,7 +3,7 @@ use Rattle.mcs_sets.specs.Sets.{has}
 use Rattle.mcs_base.proofs.Mapped.{image_each_read}
 use Rattle.mcs_system.specs.Seen.{default_of}
 use Rattle.mcs_cnf.proofs.ListLemmas.{room_kept}
-use Rattle.mcs_default.specs.Theories.{IsOverDefault}
+use Rattle.mcs_evidence.specs.Theories.{IsOverDefault}
 use Rattle.mcs_default.proofs.General.{consequents_in, consequents_out, consequents_all}
 use Rattle.mcs_default.proofs.theory.push_consequents.Goals.{then-has+in_ok-push_formula, else-has}
 use Rattle.mcs_default.proofs.theory.push_consequents.Goals as goal

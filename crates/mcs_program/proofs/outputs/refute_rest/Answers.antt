@@ -2,7 +2,7 @@ use Rattle.std.proofs.Common.{subst, map}
 use Rattle.mcs_system.specs.Plain.{Atom}
 use Rattle.mcs_system.specs.Seen.{rule_of}
 use Rattle.mcs_system.specs.Logic.{true_names}
-use Rattle.mcs_classical.proofs.RefutingLemmas.{room_known}
+use Rattle.mcs_cnf.proofs.GrowingLemmas.{room_known}
 use Rattle.mcs_evidence.specs.Programs.{rest_formulas}
 use Rattle.mcs_evidence.proofs.Models.{rest-over, atoms_are_over}
 use Rattle.mcs_program.specs.Searches.{IsModelOf, IsAnswerOf}

@@ -1,6 +1,6 @@
 use Rattle.std.proofs.Common.{map}
 use Rattle.mcs_system.specs.Seen.{formula_of}
-use Rattle.mcs_classical.proofs.RefutingLemmas.{room_known}
+use Rattle.mcs_cnf.proofs.GrowingLemmas.{room_known}
 use Rattle.mcs_solver.proofs.views.classical_views.Goals as goal
 
 pub view_with-view-requires-clause-room : goal.view_with-view-requires-clause-room

@@ -5,7 +5,7 @@ use Rattle.mcs_base.proofs.Lists.{length_zip}
 use Rattle.mcs_system.specs.Plain.{Atom}
 use Rattle.mcs_system.specs.Seen.{rule_of}
 use Rattle.mcs_trace.specs.Traces.{inferences_of}
-use Rattle.mcs_classical.proofs.RefutingLemmas.{room_known}
+use Rattle.mcs_cnf.proofs.GrowingLemmas.{room_known}
 use Rattle.mcs_evidence.specs.Programs.{smaller_formulas, model_shown_of, IsAcceptedModel, IsRefutation}
 use Rattle.mcs_evidence.proofs.Models.{smaller-over}
 use Rattle.mcs_program.specs.Searches.{IsModelOf, IsAnswerOf}

@@ -1,8 +1,8 @@
 use Rattle.std.proofs.Common.{◌∙◌}
 use Rattle.mcs_system.specs.Seen.{formula_of}
 use Rattle.mcs_cnf.proofs.ListLemmas.{room_kept}
-use Rattle.mcs_certificate.proofs.PushLemmas.{lent_over, lent_pushed, lent_end}
-use Rattle.mcs_certificate.proofs.premises.push_all.Goals as goal
+use Rattle.mcs_cnf.proofs.GrowingLemmas.{lent_over, lent_pushed, lent_end}
+use Rattle.mcs_cnf.proofs.formulas.push_all.Goals as goal
 
 pub loop-formula-preserved : goal.loop-formula-preserved
 loop-formula-preserved c =

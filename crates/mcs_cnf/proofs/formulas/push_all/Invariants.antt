@@ -1,7 +1,7 @@
 use Rattle.std.proofs.Common.{◌≡◌, ◌≤◌, drop, map, length}
 use Rattle.mcs_system.specs.Seen.{formula_of}
 use Rattle.mcs_cnf.specs.ClauseLists.{with_formulas, AreOver}
-use Rattle.mcs_certificate.proofs.premises.push_all.Given as goal
+use Rattle.mcs_cnf.proofs.formulas.push_all.Given as goal
 
 abbrev pub invariant-loop-formula : goal.invariant-loop-formula
 invariant-loop-formula l = record {
