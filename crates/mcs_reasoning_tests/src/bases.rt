@@ -85,3 +85,22 @@ fn each_question_is_answered_as_if_it_were_the_only_one(rt: HostRuntime) -> Resu
     drop(base);
     Ok(())
 }
+
+/// Whether the base has so many variables and clauses.
+fn has(base: &ClauseBase, vars: u64, count: usize) -> bool {
+    base.vars() == vars && base.count() == count
+}
+
+#[test]
+fn variables_and_clauses_are_added(rt: HostRuntime) -> Result<(), Fail> {
+    let mut base = ClauseBase::new(rt.alloc(), 0)?;
+    assert!(rt; base.add_variable()? == 1);
+    base.add(&[1])?;
+    assert!(rt; has(&base, 1, 1) && base.satisfy()?.is_some());
+    base.add(&[-1])?;
+    assert!(rt; has(&base, 1, 2) && base.satisfy()?.is_none());
+    base.cut(1, 1);
+    assert!(rt; has(&base, 1, 1) && base.satisfy()?.is_some());
+    drop(base);
+    Ok(())
+}

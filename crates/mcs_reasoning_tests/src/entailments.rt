@@ -75,6 +75,13 @@ fn goals_follow_or_are_refuted(rt: HostRuntime) -> Result<(), Fail> {
     Ok(())
 }
 
+/// Whether what is shown is of those that follow as it is said, one after the other.
+fn are_shown(entails: &[Entail], follow: &[bool]) -> bool {
+    entails.len() == follow.len()
+        && entails.iter().zip(follow).all(|(entail, wanted)| matches!(entail, Entail::Yes(_))
+            == *wanted)
+}
+
 /// Whether of the formulas from the number on just those of these places follow from the ones before, with
 /// what shows it of each.
 fn are_believed(
@@ -82,7 +89,7 @@ fn are_believed(
     formulas: &[Formula],
     number: usize,
     atoms: &[Name],
-    places: Vars,
+    (places, follow): (Vars, &[bool]),
 ) -> Result<bool, Memory> {
     if number > formulas.len() {
         return Ok(false);
@@ -97,7 +104,7 @@ fn are_believed(
         return Ok(false);
     }
     let (state, certificate) = outputs(alloc, kb, beliefs, atoms)?;
-    Ok(state == places && certificate.entails.len() == beliefs.len())
+    Ok(state == places && are_shown(&certificate.entails, follow))
 }
 
 #[test]
@@ -105,6 +112,23 @@ fn what_contradicts_itself_believes_everything(rt: HostRuntime) -> Result<(), Fa
     let system = system_of(rt.alloc(), b"context c classical { p. ~p. q. p. false. }")?;
     let (formulas, atoms) = (formulas_of(&system), atoms_of(&system));
     assert!(rt; formulas.len() == 5);
-    assert!(rt; are_believed(rt.alloc(), formulas, 2, atoms, Vars::numbered(0b111))?);
+    let all = (Vars::numbered(0b111), [true, true, true].as_slice());
+    assert!(rt; are_believed(rt.alloc(), formulas, 2, atoms, all)?);
+    Ok(())
+}
+
+/// Of five beliefs the first and the last follow. What makes the second false makes the third false too, and the fourth
+/// true.
+#[test]
+fn what_follows_is_believed(rt: HostRuntime) -> Result<(), Fail> {
+    let text = b"context c classical { p. p -> q. q. r. s. ~r. q & p. }";
+    let system = system_of(rt.alloc(), text)?;
+    let (formulas, atoms) = (formulas_of(&system), atoms_of(&system));
+    assert!(rt; formulas.len() == 7);
+    let ends = (
+        Vars::numbered(0b10001),
+        [true, false, false, false, true].as_slice(),
+    );
+    assert!(rt; are_believed(rt.alloc(), formulas, 2, atoms, ends)?);
     Ok(())
 }

@@ -17,6 +17,8 @@ mod plans;
 #[cfg(test)]
 mod questions;
 #[cfg(test)]
+mod satisfying;
+#[cfg(test)]
 mod searches;
 #[cfg(test)]
 mod solver;
