@@ -1,6 +1,6 @@
 //! How a clause that is learnt gets shorter.
 
-ghost use Rattle.std.specs.Prelude.{◌≡◌, ℕ, ◌+◌, ◌<◌, ◌≤◌, ◌↔◌, neg_ℤ, length, IsTrue, IfOk, MatchOption, OnOk};
+ghost use Rattle.std.specs.Prelude.{◌≡◌, ℕ, ◌+◌, ◌<◌, ◌≤◌, ◌↔◌, ℤ, List, neg_ℤ, length, IsTrue, IfOk, MatchOption, OnOk};
 ghost use Rattle.mcs_trace.specs.Clauses.{IsClause, IsLiteral};
 ghost use Rattle.mcs_trace.specs.Traces.{IsChainResolvent};
 ghost use Rattle.mcs_sat.specs.Trails.{ArePlaced, IsFalse, IsOn, IsTrail};
@@ -75,7 +75,8 @@ fn gets_shorter(
     requires clause { IsClause clause.now }
     requires reason { IsClause reason.now }
     requires all_false { IsFalse trail.now.entries.items clause.now }
-    ensures { IfOk result (λ yes. IsTrue yes → IsShorter trail.now.entries.items start clause.now reason.now out.new.items) }
+    ensures shorter { IfOk result (λ yes. IsTrue yes → IsShorter trail.now.entries.items start clause.now reason.now out.new.items) }
+    ensures any { IfOk result (λ yes. (other : List ℤ) → IsShorter trail.now.entries.items start clause.now reason.now other → IsTrue yes) }
 {
     if !resolve(clause, reason, out)? || out.len() >= clause.len() {
         return Ok(false);

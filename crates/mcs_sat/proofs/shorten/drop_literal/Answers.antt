@@ -33,7 +33,7 @@ returns-clause-chain c =
     let out : List ℤ = c.gets_shorter.new.out.items in
     let n : ℕ = c.in-Some.cause in
     let (reason, e, is) = early-reason known c.args.trail.now.entries.items c.args.start (to_z w64 (of_z w64 c.index.result.now)) n c.requires.trail.explained c.in-Some.ensures in
-    let shorter : IsShorter c.args.trail.now.entries.items c.args.start c.deref-else-not-covers.result.now c.row-reason.result.now out = c.in_ok-gets_shorter.ensures c.if-not-branch.false in
+    let shorter : IsShorter c.args.trail.now.entries.items c.args.start c.deref-else-not-covers.result.now c.row-reason.result.now out = c.in_ok-gets_shorter.ensures.shorter c.if-not-branch.false in
     let second : c.row-reason.result.now ≡ reason = sym (numbered-is known n reason c.row-reason.result.now e c.row-reason.ensures) in
     let r : IsResolvent current reason out =
     subst (λ (x : List ℤ). IsResolvent x reason out) c.deref-else-not-covers.ensures.value (subst (λ (x : List ℤ). IsResolvent c.deref-else-not-covers.result.now x out) second shorter.resolvent) in
