@@ -1,13 +1,13 @@
 -- What stays right of a solver where nothing is decided, when clauses are taken off and when a variable is added.
-use Rattle.std.proofs.Common.{◌≡◌, ℕ, ◌+◌, ◌*◌, ◌^◌, ◌<◌, ◌≤◌, zero, suc, List, [], ◌∷◌, ◌++◌, ◌⊎◌, inl, inr, sym, ap, ◌∙◌, subst, arith, ℤ, unsigned_abs, length, length-append, take, drop, filter, ltb, min, Some, slice_get, Vec, Global}
+use Rattle.std.proofs.Common.{◌≡◌, ℕ, ◌+◌, ◌*◌, ◌^◌, ◌<◌, ◌≤◌, zero, suc, List, [], ◌∷◌, ◌++◌, ◌⊎◌, inl, inr, sym, ap, ◌∙◌, subst, arith, ℤ, unsigned_abs, length, length-append, take, filter, ltb, min, Some, slice_get, Vec, Global}
 use Rattle.std.specs.List.{AllByRecursion}
 use Rattle.std.proofs.Math.Seq.{take-append_seam}
-use Rattle.std.proofs.lemmas.List.{get_or_append_left, length-take, length-take-le, take-append-drop, take-take, take_all}
+use Rattle.std.proofs.lemmas.List.{get_or_append_left, length-take, length-take-le, take-take, take_all}
 use Rattle.std.proofs.lemmas.Bool.{lt-ltb, ltb-true}
 use Rattle.std.proofs.lemmas.Option.{slice_get_within}
 use Rattle.mcs_base.specs.Listings.{IsAmong}
 use Rattle.mcs_base.proofs.Among.{among_filter, among_get, filter_among, get_among}
-use Rattle.mcs_base.proofs.Each.{all_among, all_get, all_left, all_weaker, all_take}
+use Rattle.mcs_base.proofs.Each.{all_among, all_get, all_weaker, all_take}
 use Rattle.mcs_base.proofs.Lists.{slice_get-append_left, slice_get_below, slice_get_take}
 use Rattle.mcs_trace.specs.Clauses.{IsClause, IsLiteral, place}
 use Rattle.mcs_trace.specs.Traces.{IsChainResolvent, numbered}

@@ -21,3 +21,4 @@ pub mod StoreLemmas
 pub mod CutLemmas
 pub mod FollowLemmas
 pub mod NumberingLemmas
+pub mod ShorterLemmas

@@ -7,6 +7,7 @@ ghost use Rattle.mcs_sat.specs.Trails.{IsFalse, IsFalseAt, IsTrail};
 ghost use Rattle.mcs_sat.specs.Learning.{AreImplied, IsLate, IsLearnt, IsSingle};
 
 use crate::latest::latest_of;
+use crate::shorten::shorten;
 use crate::trail::Trail;
 use mcs_base::{Memory, Rows};
 use mcs_trace::{Clause, Step, resolve};
@@ -78,6 +79,7 @@ pub(crate) fn analyse(
     prove!(index < clauses.len());
     chain.push(index as u64 + 1)?;
     resolve_back(clauses, trail, start, &mut chain, &mut current, &mut spare)?;
+    shorten(clauses, trail, start, &mut chain, &mut current, &mut spare)?;
     let Some(clause) = Clause::new(current) else {
         unreachable!();
     };

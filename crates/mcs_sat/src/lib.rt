@@ -11,6 +11,7 @@ mod order;
 mod outcome;
 mod propagate;
 mod search;
+mod shorten;
 mod solver;
 mod solving;
 mod state;

@@ -47,12 +47,12 @@ resolve_back-requires-clause-all_false c =
 
 pub returns-clause-learnt : goal.returns-clause-learnt
 returns-clause-learnt c = record {
-  chain = subst (IsChainResolvent c.args.clauses.now c.resolve_back.new.chain.items) (sym c.in-Some.ensures.0) c.in_ok-resolve_back.ensures.chain;
-  all_false = subst (IsFalse c.args.trail.now.entries.items) (sym c.in-Some.ensures.0) c.in_ok-resolve_back.ensures.all_false;
+  chain = subst (IsChainResolvent c.args.clauses.now c.shorten.new.chain.items) (sym c.in-Some.ensures.0) c.in_ok-shorten.ensures.chain;
+  all_false = subst (IsFalse c.args.trail.now.entries.items) (sym c.in-Some.ensures.0) c.in_ok-shorten.ensures.all_false;
 }
 
 pub returns-clause-single : goal.returns-clause-single
-returns-clause-single c = λ start. subst (IsSingle c.args.trail.now.entries.items c.args.start) (sym c.in-Some.ensures.0) (c.in_ok-resolve_back.ensures.single start)
+returns-clause-single c = λ start. subst (IsSingle c.args.trail.now.entries.items c.args.start) (sym c.in-Some.ensures.0) (c.in_ok-shorten.ensures.single start)
 
 pub returns-clause-empty : goal.returns-clause-empty
-returns-clause-empty c = λ none. c.in-Some.ensures.0 ∙ c.in_ok-resolve_back.ensures.empty none
+returns-clause-empty c = λ none. c.in-Some.ensures.0 ∙ c.in_ok-shorten.ensures.past none ∙ c.in_ok-resolve_back.ensures.empty none
