@@ -63,7 +63,7 @@ pub sound : (fs : List Formula) (g : Formula) (names : List Name) (e : Entailmen
 sound fs g names (Yes steps) over over' accepted =
     (λ _. (refutation fs g names over over').1 (refutes-any (list_clauses names (length names) (with_negated fs g)) steps (list_no_zero names (length names) (with_negated fs g)) accepted), λ _. refl)
 sound fs g names (No places) over over' refuted =
-    (λ e. absurd (true≢false (sym e)), λ follows. absurd (true≢false (sym (follows (true_names 0 names places) refuted.formulas) ∙ refuted.goal)))
+    (λ e. absurd (true≢false (sym e)), λ follows. absurd (true≢false (sym (follows (true_names 0 names places) refuted.model.formulas) ∙ refuted.goal)))
 
 -- ---- accepted certificates
 abbrev Follows : List Formula → List Formula → ℕ → Type 0
