@@ -18,10 +18,10 @@ use Rattle.mcs_trace.specs.Traces.{IsAcceptedTrace}
 use Rattle.mcs_cnf.specs.ClauseLists.{clause_list}
 use Rattle.mcs_system.specs.Logic.{is_in, holds_all, holds, true_names, Atoms, Believes}
 use Rattle.mcs_system.specs.Views.{Shows}
-use Rattle.mcs_evidence.specs.Programs.{ModelShown, ProgramShown, model_shown_of, rest_formulas, smaller_formulas, rule_formula, IsRefutation, IsAcceptedProgram, IsInRange, IsAcceptedModel}
+use Rattle.mcs_evidence.specs.Programs.{ModelShown, ProgramShown, model_shown_of, rest_formulas, smaller_formulas, rule_formula, IsRefutation, IsAcceptedProgram, IsInRange, IsModelShown, IsAcceptedModel}
 use Rattle.mcs_evidence.proofs.Models.{rule_formula-holds}
 use Rattle.mcs_trace.specs.declared.certificate.AnswerSetCert.{AnswerSetCert}
-use Rattle.mcs_certificate.specs.Models.{IsModelShown, AreModelsShown}
+use Rattle.mcs_certificate.specs.Models.{AreModelsShown}
 
 -- ---- rules
 pub rule_unmet : (a : List Name) (r : ProgramRule) → list_all (λ n. is_in n a) r.pos ≡ false → true ≡ holds a (rule_formula r)
@@ -69,17 +69,11 @@ pub shows_one : (a : List Name) (beliefs : List Formula) (v w : ℕ) → Shows (
 shows_one a beliefs v w shows shows' = same_set v w (λ k. same_from_decides {P = has w k ≡ true} (has v k) (has w k) (λ h. (shows' k).1 ((shows k).0 h), λ h. (shows k).1 ((shows' k).0 h)) (λ h. h, λ h. h))
 
 -- ---- models
-pub accepted_shown : (names : List Name) (rules : List ProgramRule) (beliefs : List Formula) (state : ℕ) (m : ModelShown) → IsAcceptedModel names rules beliefs state m → IsModelShown names rules m
-accepted_shown names rules beliefs state m h = record { in_range = h.in_range; satisfies = h.satisfies; minimal = h.minimal }
-
-pub shown_accepted : (names : List Name) (rules : List ProgramRule) (beliefs : List Formula) (state : ℕ) (m : ModelShown) → IsModelShown names rules m → Shows (Atoms (true_names 0 names m.model)) beliefs state → IsAcceptedModel names rules beliefs state m
-shown_accepted names rules beliefs state m h shows = record { in_range = h.in_range; satisfies = h.satisfies; shows = shows; minimal = h.minimal }
-
 pub models_shown : (names : List Name) (rules : List ProgramRule) (beliefs : List Formula) (views : List ℕ) (ms : List ModelShown) → AreModelsShown names rules beliefs views ms → AllByRecursion (IsModelShown names rules) ms
 models_shown names rules beliefs [] [] h = tt
 models_shown names rules beliefs [] (m ∷ ms) h = absurd h
 models_shown names rules beliefs (v ∷ views) [] h = absurd h
-models_shown names rules beliefs (v ∷ views) (m ∷ ms) h = (accepted_shown names rules beliefs v m h.0, models_shown names rules beliefs views ms h.1)
+models_shown names rules beliefs (v ∷ views) (m ∷ ms) h = (h.0.shown, models_shown names rules beliefs views ms h.1)
 
 pub models_one : (names : List Name) (rules : List ProgramRule) (beliefs : List Formula) (views others : List ℕ) (ms : List ModelShown) → AreModelsShown names rules beliefs views ms → AreModelsShown names rules beliefs others ms → views ≡ others
 models_one names rules beliefs [] [] [] h h' = refl

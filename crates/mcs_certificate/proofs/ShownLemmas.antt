@@ -40,8 +40,7 @@ pub refuted_iff : (names : List Name) (fs : List Formula) (g : Formula) (places 
     → IsTrue (not b) ↔ IsRefuted names fs g places
 refuted_iff names fs g places values b is told range all = (
   λ h. record {
-    in_range = range;
-    formulas = subst (λ (v : ℕ). holds_all (true_names 0 names v) fs ≡ true) is all;
+    model = record { in_range = range; formulas = subst (λ (v : ℕ). holds_all (true_names 0 names v) fs ≡ true) is all };
     goal = subst (λ (v : ℕ). holds (true_names 0 names v) g ≡ false) is (sym told ∙ at b h);
   },
   λ r. ap not (told ∙ ap (λ (v : ℕ). holds (true_names 0 names v) g) is ∙ r.goal),

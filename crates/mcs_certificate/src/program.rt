@@ -11,9 +11,9 @@ ghost use Rattle.mcs_system.specs.Seen.{formula_of, rule_of};
 ghost use Rattle.mcs_system.specs.Views.{Shows};
 ghost use Rattle.mcs_trace.specs.Traces.{inferences_of};
 ghost use Rattle.mcs_cnf.specs.ClauseLists.{AreOver};
-ghost use Rattle.mcs_evidence.specs.Programs.{rule_formula, rest_formulas, model_shown_of, program_shown_of, AreOverRules, IsInRange, IsRefutation, IsAcceptedProgram};
+ghost use Rattle.mcs_evidence.specs.Programs.{rule_formula, rest_formulas, model_shown_of, program_shown_of, AreOverRules, IsInRange, IsModelShown, IsRefutation, IsAcceptedProgram};
 ghost use Rattle.mcs_evidence.specs.Pushing.{AreNamesOf};
-ghost use Rattle.mcs_certificate.specs.Models.{IsModelShown, AreModelsShown};
+ghost use Rattle.mcs_certificate.specs.Models.{AreModelsShown};
 
 use crate::entailment::is_in_range;
 use crate::facts::{names_of, with_heads};

@@ -1,2 +1,3 @@
 pub mod RefutingLemmas
+pub mod ModelLemmas
 pub mod OutputLemmas

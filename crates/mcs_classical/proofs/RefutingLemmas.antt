@@ -1,18 +1,18 @@
--- An assignment of variables, read as a set of places of atoms, refutes that a formula follows.
+-- An assignment of variables, read as a set of places of atoms, is a model of formulas, and refutes that another one follows.
 use Rattle.std.proofs.Common.{◌≡◌, ℕ, ◌+◌, ◌-◌, ◌<◌, zero, suc, Bool, true, false, ◌&&◌, ◌||◌, ltb, cond, List, [], ◌∷◌, ◌++◌, length, get_or, arith, refl, sym, ap, ◌∙◌, subst, true≢false}
 use Rattle.std.proofs.lemmas.Bool.{and_parts, or_parts}
 use Rattle.std.proofs.lemmas.Bool.Decides.{nat_tests}
 use Rattle.mcs_sets.specs.Sets.{has, such_that}
 use Rattle.mcs_sets.proofs.SetLemmas.{has-such_that}
 use Rattle.mcs_system.specs.Plain.{Name, Formula, Not}
-use Rattle.mcs_system.specs.Logic.{same_name, is_in, true_names}
+use Rattle.mcs_system.specs.Logic.{same_name, is_in, holds_all, true_names}
 use Rattle.mcs_system.specs.Faults.{has_twins}
 use Rattle.mcs_system.proofs.Sameness.{same_name-is}
 use Rattle.mcs_trace.specs.Clauses.{ClauseList, all_hold}
 use Rattle.mcs_trace.specs.Traces.{Inference, IsAcceptedTrace}
 use Rattle.mcs_cnf.specs.ClauseLists.{atom_number, with_formulas, clause_list, IsOver, AreOver}
 use Rattle.mcs_cnf.specs.Meaning.{Extends}
-use Rattle.mcs_cnf.specs.Entailments.{with_negated, IsRefuted}
+use Rattle.mcs_cnf.specs.Entailments.{with_negated, IsModelAt, IsRefuted}
 use Rattle.mcs_cnf.proofs.NumberLemmas.{atom_positive, atom_within}
 use Rattle.mcs_cnf.proofs.GrowingLemmas.{grown_clauses}
 use Rattle.mcs_cnf.proofs.MeaningLemmas.{satisfied}
@@ -72,18 +72,31 @@ places_extend names values single n known = at (atom_number names n) refl
         ap (has (places names values)) (sym z) ∙ has-such_that (length names) (λ k. get_or values k false) j ∙ ap (λ b. b && get_or values j false) less in
         ap (assignment_of values) e ∙ sym member ∙ sym (named_at n 0 (places names values) j names single known number)
 
+-- ---- models
+places_within : (names : List Name) (values : List Bool) (k : ℕ) → has (places names values) k ≡ true → k < length names
+places_within names values k member =
+    let less : ltb k (length names) ≡ true = (and_parts _ _ (sym (has-such_that (length names) (λ k. get_or values k false) k) ∙ member)).0 in
+    grind (arith, nat_tests)
+
+pub modelled : (names : List Name) (fs : List Formula) (values read : List Bool) (s : ℕ) → has_twins names ≡ false → ((a : List Name) → Extends names a (assignment_of values) → holds_all a fs ≡ true) → read ≡ values
+    → s ≡ places names read → IsModelAt names fs s
+modelled names fs values read s single meant same e =
+    subst (IsModelAt names fs) (sym (e ∙ ap (places names) same)) (record {
+      in_range = places_within names values;
+      formulas = meant (true_names 0 names (places names values)) (places_extend names values single);
+    })
+
+-- of the clauses of formulas
+pub modelled_clauses : (names : List Name) (fs : List Formula) (cnf : ClauseList) (values : List Bool) → AreOver names fs → cnf ≡ clause_list names fs → all_hold (assignment_of values) cnf.clauses ≡ true
+    → (a : List Name) → Extends names a (assignment_of values) → holds_all a fs ≡ true
+modelled_clauses names fs cnf values over is h a extends = satisfied fs names a (assignment_of values) over extends (ap (λ (x : ClauseList). all_hold (assignment_of values) x.clauses) (sym is) ∙ h)
+
 pub refuted : (fs : List Formula) (g : Formula) (names : List Name) (values : List Bool) → has_twins names ≡ false → AreOver names fs → IsOver names g
     → all_hold (assignment_of values) (clause_list names (with_negated fs g)).clauses ≡ true → IsRefuted names fs g (places names values)
 refuted fs g names values single over over' h =
     let a : List Name = true_names 0 names (places names values) in
     let parts = parts_with a fs g (satisfied (with_negated fs g) names a (assignment_of values) (over_with names fs g over over') (places_extend names values single) h) in
-    record {
-      in_range = λ k member.
-          let less : ltb k (length names) ≡ true = (and_parts _ _ (sym (has-such_that (length names) (λ k. get_or values k false) k) ∙ member)).0 in
-          grind (arith, nat_tests);
-      formulas = parts.0;
-      goal = parts.1;
-    }
+    record { model = record { in_range = places_within names values; formulas = parts.0 }; goal = parts.1 }
 
 -- ---- the goal's clauses after those of the formulas
 pub with_goal : (fs : List Formula) (g : Formula) (names : List Name) (known new : ClauseList) → known ≡ clause_list names fs → new ≡ with_formulas names known (Not g ∷ []) → new ≡ clause_list names (with_negated fs g)

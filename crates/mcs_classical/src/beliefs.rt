@@ -12,8 +12,9 @@ ghost use Rattle.mcs_system.specs.Views.{IsAcceptedView};
 ghost use Rattle.mcs_cnf.specs.ClauseLists.{clause_list, AreOver};
 ghost use Rattle.mcs_cnf.specs.Classical.{IsAcceptedClassical, certificate_of};
 ghost use Rattle.mcs_cnf.specs.Entailments.{entailment_of, says_yes};
+ghost use Rattle.mcs_classical.specs.Models.{model_after};
 
-use crate::consequence::entails_in;
+use crate::consequence::entails_beside;
 use mcs_base::{Memory, Vars};
 use mcs_cnf::clauses;
 use mcs_sat::ClauseBase;
@@ -29,6 +30,16 @@ fn with_yes(state: Vars, number: u32, entail: &Entail) -> Vars
     match entail {
         Entail::Yes(_) => state.with(number),
         Entail::No(_) => state,
+    }
+}
+
+/// The model that the entailment shows, or the one that was known.
+fn model_shown(model: Option<Vars>, entail: &Entail) -> Option<Vars>
+    ensures { result ≡ model_after model (entailment_of entail.now) }
+{
+    match entail {
+        Entail::Yes(_) => model,
+        Entail::No(places) => Some(Vars::numbered(*places)),
     }
 }
 
@@ -59,7 +70,8 @@ pub fn outputs(
 
 /// The same of formulas whose clauses are `known`, and of beliefs that are lent one by one. The clauses of each belief are
 /// added for the search and taken off again, so that `known` is as before and serves for the next question, with what was
-/// learnt from it, also where memory runs out.
+/// learnt from it, also where memory runs out. The assignment under which a belief does not follow is tried on the next
+/// ones before any search.
 pub fn outputs_in(
     alloc: Global,
     known: &mut ClauseBase,
@@ -78,10 +90,12 @@ pub fn outputs_in(
         → IsAcceptedClassical atoms.now fs (map (λ b. formula_of b.now) beliefs.now) (r.0 ∷ []) (certificate_of r.1)) }
 {
     let mut state = Vars::empty();
+    let mut model: Option<Vars> = None;
     let mut entails = Vec::new(alloc);
     for (number, belief) in beliefs.iter().enumerate() {
-        let entail = entails_in(alloc, known, belief, atoms)?;
+        let entail = entails_beside(alloc, known, &model, belief, atoms)?;
         state = with_yes(state, number as u32, &entail);
+        model = model_shown(model, &entail);
         entails.push(entail)?;
     }
     Ok((state, ClassicalCert { entails }))

@@ -1,18 +1,18 @@
 //! Whether a formula follows.
 
-ghost use Rattle.std.specs.Prelude.{◌≡◌, ◌≤◌, ◌↔◌, ◌∷◌, [], List, false, length, map, IsTrue, IfOk, OnOk, OnErr};
+ghost use Rattle.std.specs.Prelude.{◌≡◌, ◌≤◌, ◌↔◌, ◌∷◌, [], List, Some, false, length, map, IsTrue, IfOk, IfSome, OnOk, OnErr};
 ghost use Rattle.mcs_system.specs.Faults.{has_twins};
-ghost use Rattle.mcs_system.specs.Logic.{Entails};
+ghost use Rattle.mcs_system.specs.Logic.{holds, true_names, Entails};
 ghost use Rattle.mcs_system.specs.Plain as plain;
 ghost use Rattle.mcs_system.specs.Seen.{formula_of};
 ghost use Rattle.mcs_cnf.specs.ClauseLists.{clause_list, with_formulas, IsOver, AreOver};
-ghost use Rattle.mcs_cnf.specs.Entailments.{entailment_of, says_yes, IsAcceptedEntailment};
+ghost use Rattle.mcs_cnf.specs.Entailments.{entailment_of, says_yes, IsModelAt, IsAcceptedEntailment};
 
 use crate::refuting::true_places;
-use mcs_base::Memory;
+use mcs_base::{Memory, Vars};
 use mcs_cnf::{clauses, push_negation};
 use mcs_sat::{ClauseBase, Outcome};
-use mcs_system::{Formula, Name};
+use mcs_system::{Formula, Name, holds_at};
 use mcs_trace::{Cnf, Entail};
 use std::alloc::Global;
 
@@ -112,4 +112,49 @@ pub fn entails(
 {
     let mut known = clauses(alloc, kb, atoms)?;
     entails_from(alloc, &mut known, goal, atoms)
+}
+
+/// The model, where the goal is false there.
+fn refuting(model: &Option<Vars>, goal: &Formula, atoms: &[Name]) -> Option<Vars>
+    requires { length atoms.now ≤ 64 }
+    ensures { IfSome result
+        (λ places. (model.now ≡ Some places) × (holds (true_names 0 atoms.now places) (formula_of goal.now) ≡ false)) }
+{
+    match model {
+        Some(places) => {
+            if holds_at(atoms, *places, goal) {
+                None
+            } else {
+                Some(*places)
+            }
+        }
+        None => None,
+    }
+}
+
+/// The same as `entails_in` answers, where a model of the formulas may be known from an earlier goal: the places of the
+/// atoms that are true under an assignment that satisfies them. It is tried on the goal before any search.
+pub fn entails_beside(
+    alloc: Global,
+    known: &mut ClauseBase,
+    model: &Option<Vars>,
+    goal: &Formula,
+    atoms: &[Name],
+) -> Result<Entail, Memory>
+    requires few { length atoms.now ≤ 64 }
+    requires different { has_twins atoms.now ≡ false }
+    requires goal { IsOver atoms.now (formula_of goal.now) }
+    requires room { length atoms.now ≤ known.old.vars }
+    ensures kept { known.new ≡ known.old }
+    ensures accepted { IfOk result
+        (λ e. (fs : List plain.Formula) → known.old ≡ clause_list atoms.now fs → AreOver atoms.now fs → IfSome model.now (IsModelAt atoms.now fs)
+        → IsAcceptedEntailment atoms.now fs (formula_of goal.now) (entailment_of e)) }
+    ensures exact { IfOk result
+        (λ e. (fs : List plain.Formula) → known.old ≡ clause_list atoms.now fs → AreOver atoms.now fs → IfSome model.now (IsModelAt atoms.now fs)
+        → IsTrue (says_yes (entailment_of e)) ↔ Entails fs (formula_of goal.now)) }
+{
+    match refuting(model, goal, atoms) {
+        Some(places) => Ok(Entail::No(places.number())),
+        None => entails_in(alloc, known, goal, atoms),
+    }
 }

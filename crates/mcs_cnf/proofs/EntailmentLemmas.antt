@@ -13,9 +13,10 @@ use Rattle.std.proofs.lemmas.List.Folds.{list_all-append}
 use Rattle.std.proofs.Math.Bool.{and-true}
 use Rattle.mcs_base.proofs.Each.{all_push}
 use Rattle.mcs_trace.specs.Clauses.{IsUnsatisfiable}
+use Rattle.mcs_trace.specs.Traces.{Inference, IsAcceptedTrace}
 use Rattle.mcs_trace.proofs.TraceLemmas.{refutes-any}
 use Rattle.mcs_system.proofs.NameLemmas.{is_in-filter}
-use Rattle.mcs_cnf.specs.ClauseLists.{atom_number, list_clauses, IsOver, AreOver}
+use Rattle.mcs_cnf.specs.ClauseLists.{atom_number, list_clauses, clause_list, IsOver, AreOver}
 use Rattle.mcs_cnf.specs.Meaning.{Extends}
 use Rattle.mcs_cnf.specs.Entailments.{Entailment, Yes, No, says_yes, with_negated, IsAcceptedEntailment}
 use Rattle.mcs_cnf.specs.Classical.{AreAcceptedEntailments, HasYes}
@@ -58,12 +59,19 @@ refutation fs g names over over' = (to, from)
             let (v, extends, h) = extended (with_negated fs g) names a (over_with names fs g over over') (holds_with a fs g ∙ and_from (holds_all a fs) (not (holds a g)) hs (ap not e)) in
             absurd (unsatisfiable v h)
 
+-- ---- accepted traces
+-- formulas whose clauses are refuted hold under no assignment
+pub none_hold : (names : List Name) (fs : List Formula) (steps : List Inference) → AreOver names fs → IsAcceptedTrace (clause_list names fs).clauses steps → (a : List Name) → ¬ (holds_all a fs ≡ true)
+none_hold names fs steps over accepted a h =
+    let (v, extends, all) = extended fs names a over h in
+    refutes-any _ steps (list_no_zero names (length names) fs) accepted v all
+
 -- ---- accepted entailments
 pub sound : (fs : List Formula) (g : Formula) (names : List Name) (e : Entailment) → AreOver names fs → IsOver names g → IsAcceptedEntailment names fs g e → (says_yes e ≡ true) ↔ Entails fs g
 sound fs g names (Yes steps) over over' accepted =
     (λ _. (refutation fs g names over over').1 (refutes-any (list_clauses names (length names) (with_negated fs g)) steps (list_no_zero names (length names) (with_negated fs g)) accepted), λ _. refl)
 sound fs g names (No places) over over' refuted =
-    (λ e. absurd (true≢false (sym e)), λ follows. absurd (true≢false (sym (follows (true_names 0 names places) refuted.formulas) ∙ refuted.goal)))
+    (λ e. absurd (true≢false (sym e)), λ follows. absurd (true≢false (sym (follows (true_names 0 names places) refuted.model.formulas) ∙ refuted.goal)))
 
 -- ---- accepted certificates
 abbrev Follows : List Formula → List Formula → ℕ → Type 0

@@ -25,10 +25,14 @@ says_yes (No places) = false
 abbrev pub with_negated : List Formula → Formula → List Formula
 with_negated fs g = fs ++ Not g ∷ []
 
--- the formulas hold and the goal does not where exactly the atoms at these places are true
-pub record IsRefuted (names : List Name) (fs : List Formula) (g : Formula) (places : ℕ) : Type 0 where
+-- the formulas hold where exactly the atoms at these places are true
+pub record IsModelAt (names : List Name) (fs : List Formula) (places : ℕ) : Type 0 where
   pub in_range : (k : ℕ) → IsTrue (has places k) → k < length names
   pub formulas : IsTrue (holds_all (true_names 0 names places) fs)
+
+-- and the goal does not
+pub record IsRefuted (names : List Name) (fs : List Formula) (g : Formula) (places : ℕ) : Type 0 where
+  pub model : IsModelAt names fs places
   pub goal : holds (true_names 0 names places) g ≡ false
 
 abbrev pub IsAcceptedEntailment : List Name → List Formula → Formula → Entailment → Type 0

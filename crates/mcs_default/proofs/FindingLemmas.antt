@@ -58,7 +58,7 @@ pub refuted_upper : (names : List Name) (items : List Item) (ds : List Default) 
     → x.allowed ≡ such_that n (holds_part_at (true_names 0 names places) parts.Justifications ds) → IsUpper items x
 refuted_upper names items ds n set places g x same size refuted is_set is_supported is_allowed =
     let a : List Name = true_names 0 names places in
-    let facts : IsTrue (holds_all a (facts_of items)) = (each_holds a (facts_of items)).0 (all_left (λ p. IsTrue (holds a p)) (facts_of items) (consequents ds set) ((each_holds a (facts_of items ++ consequents ds set)).1 refuted.formulas)) in
+    let facts : IsTrue (holds_all a (facts_of items)) = (each_holds a (facts_of items)).0 (all_left (λ p. IsTrue (holds a p)) (facts_of items) (consequents ds set) ((each_holds a (facts_of items ++ consequents ds set)).1 refuted.model.formulas)) in
     shown_upper a items x facts (is_set ∙ moved parts.Consequent) (is_supported ∙ moved parts.Prerequisite) (is_allowed ∙ moved parts.Justifications)
   where
     moved : (p : part.Part) → such_that n (holds_part_at (true_names 0 names places) p ds) ≡ such_that (length (defaults_of items)) (holds_part_at (true_names 0 names places) p (defaults_of items))

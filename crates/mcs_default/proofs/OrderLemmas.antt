@@ -122,7 +122,7 @@ consequents-hold a j (d ∷ ds) set met =
 
 weaker : (names : List Name) (gs hs : List Formula) → ((a : List Name) → holds_all a gs ≡ true → holds_all a hs ≡ true) → (p : Formula) (e : Entailment) → IsDenied names gs p e → IsDenied names hs p e
 weaker names gs hs more p (Yes steps) (accepted, said) = absurd (true≢false said)
-weaker names gs hs more p (No places) (refuted, said) = (record { in_range = refuted.in_range; formulas = more _ refuted.formulas; goal = refuted.goal }, said)
+weaker names gs hs more p (No places) (refuted, said) = (record { model = record { in_range = refuted.model.in_range; formulas = more _ refuted.model.formulas }; goal = refuted.goal }, said)
 
 pub stuck : (names : List Name) (fs : List Formula) (ds : List Default) (set left : ℕ) (order : List ℕ) (pres es : List Entailment) (known : ClauseList) → Within left set
     → (derived : IsDerived names fs ds (minus set left) order pres known) → AreDenied names derived.formulas (prerequisites ds left) es

@@ -18,19 +18,8 @@ use Rattle.mcs_system.specs.Views.{Shows}
 use Rattle.mcs_system.specs.Faults.{has_twins}
 use Rattle.mcs_system.proofs.NameLemmas.{is_in-among, is_in-filter, is_in_flat_map}
 use Rattle.mcs_system.proofs.Sameness.{same_name-is, same_name-itself}
-use Rattle.mcs_trace.specs.Traces.{Inference}
-use Rattle.mcs_trace.proofs.TraceLemmas.{refutes-any}
 use Rattle.mcs_cnf.specs.ClauseLists.{IsOver, AreOver}
-use Rattle.mcs_cnf.proofs.MeaningLemmas.{extended}
-use Rattle.mcs_cnf.proofs.NoZeros.{list_no_zero}
-use Rattle.mcs_evidence.specs.Programs.{and_from as and_all, or_from as or_all, conjunction, disjunction, atoms_as, negated_atoms, false_names, rule_formula, positive_formula, smaller_formulas, is_broken_by, beside_formula, literals_from, other_formula, rest_formulas, IsRefutation, IsOverRule, AreOverRules, AreAtomsOf}
-
--- ---- refutations
--- what is refuted holds under no assignment
-pub refuted : (names : List Name) (fs : List Formula) (steps : List Inference) → AreOver names fs → IsRefutation names fs steps → (a : List Name) → ¬ (holds_all a fs ≡ true)
-refuted names fs steps over refutation a h =
-    let (v, extends, all) = extended fs names a over h in
-    refutes-any _ steps (list_no_zero names (length names) fs) refutation v all
+use Rattle.mcs_evidence.specs.Programs.{and_from as and_all, or_from as or_all, conjunction, disjunction, atoms_as, negated_atoms, false_names, rule_formula, positive_formula, smaller_formulas, is_broken_by, beside_formula, literals_from, other_formula, rest_formulas, IsOverRule, AreOverRules, AreAtomsOf}
 
 -- ---- whether all names of a list, or one of them, are true
 abbrev pub all_in : List Name → List Name → Bool

@@ -97,12 +97,16 @@ IsRefutation names fs steps = IsAcceptedTrace (clause_list names fs).clauses ste
 abbrev pub IsInRange : List Name → ℕ → Type 0
 IsInRange names places = (k : ℕ) → IsTrue (has places k) → k < length names
 
--- the state is shown by a model of the rules, and no less than it satisfies its reduct
-pub record IsAcceptedModel (names : List Name) (rules : List ProgramRule) (beliefs : List Formula) (state : ℕ) (m : ModelShown) : Type 0 where
+-- the places are a model of the rules, and no less than it satisfies its reduct
+pub record IsModelShown (names : List Name) (rules : List ProgramRule) (m : ModelShown) : Type 0 where
   pub in_range : IsInRange names m.model
   pub satisfies : IsTrue (holds_all (true_names 0 names m.model) (map rule_formula rules))
-  pub shows : Shows (Atoms (true_names 0 names m.model)) beliefs state
   pub minimal : IsRefutation names (smaller_formulas names rules m.model) m.minimal
+
+-- the state is shown by such a model
+pub record IsAcceptedModel (names : List Name) (rules : List ProgramRule) (beliefs : List Formula) (state : ℕ) (m : ModelShown) : Type 0 where
+  pub shown : IsModelShown names rules m
+  pub shows : Shows (Atoms (true_names 0 names m.model)) beliefs state
 
 -- the formulas of the program, of the smaller sets, and that the state is none of those put out
 abbrev pub rest_formulas : List Name → List ProgramRule → List Formula → List ℕ → List ℕ → List Formula

@@ -1,5 +1,5 @@
 -- What tests of sets of places say of the atoms at them.
-use Rattle.std.proofs.Common.{◌≡◌, ℕ, ◌+◌, ◌-◌, ◌^◌, ◌<◌, ◌≤◌, zero, suc, Bool, true, false, not, ◌&&◌, ◌||◌, ltb, List, [], ◌∷◌, ◌++◌, ◌↔◌, inl, inr, map, length, get_or, Some, slice_get, arith, refl, sym, ap, ◌∙◌, subst, true≢false}
+use Rattle.std.proofs.Common.{◌≡◌, ℕ, ◌+◌, ◌-◌, ◌<◌, ◌≤◌, zero, suc, Bool, true, false, not, ◌&&◌, ◌||◌, ltb, List, [], ◌∷◌, ◌++◌, ◌↔◌, inl, inr, map, length, get_or, Some, slice_get, arith, refl, sym, ap, ◌∙◌, subst, true≢false}
 use Rattle.std.proofs.lemmas.Bool.{and_parts, and_from, or_parts, or_cases, or_left, or_right, eq-eqb, eqb-true, not_from_false, not-true, false_from_ne_true, true_from_ne_false}
 use Rattle.std.proofs.lemmas.Bool.Decides.{nat_tests}
 use Rattle.std.proofs.lemmas.List.{length-map}
@@ -10,7 +10,7 @@ use Rattle.std.specs.Cmp.{both_ways}
 use Rattle.std.specs.Prelude.{nat_eq}
 use Rattle.std.specs.List.{AllByRecursion, AllZip, list_all}
 use Rattle.mcs_sets.specs.Sets.{has, single, union, common, such_that, Meets}
-use Rattle.mcs_sets.proofs.SetLemmas.{meets_where_common, common_where_meets, below_power, has-empty, has-such_that, such_that-lt}
+use Rattle.mcs_sets.proofs.SetLemmas.{meets_where_common, common_where_meets, below_power, has-empty, has-such_that}
 use Rattle.mcs_sets.proofs.Lattice.{in_with, none_within}
 use Rattle.mcs_base.proofs.AntichainLemmas.{lies_within-is}
 use Rattle.mcs_base.proofs.Lists.{slice_get-map_at, zip_get_or, length_zip}
@@ -22,12 +22,12 @@ use Rattle.mcs_system.proofs.Sameness.{same_name-is, same_name-itself}
 use Rattle.mcs_cnf.specs.ClauseLists.{atom_number}
 use Rattle.mcs_cnf.proofs.NumberLemmas.{atom_positive, atom_within}
 use Rattle.mcs_classical.proofs.RefutingLemmas.{named_at}
+use Rattle.mcs_cnf.specs.Entailments.{IsModelAt}
 use Rattle.mcs_evidence.specs.Programs.{false_names, rule_formula, beside_formula, other_formula, rest_formulas, is_broken_by, IsInRange}
 use Rattle.mcs_evidence.proofs.Models.{all_in, any_in, all_in_each, all_in_from, any_in_some, none_in, rule_formula-holds, beside-holds, true_names-known, false_names-known, true_or_false, true_not_false}
 use Rattle.mcs_program.specs.declared.placing.PlacedRule.{PlacedRule}
 use Rattle.mcs_program.specs.declared.placing.Placing.{Placing}
 use Rattle.mcs_program.specs.Placing.{lies_within, do_meet, placed_holds, placed_blocked, lies_beside, view_at, may_be, is_other, IsPlaceOf, ArePlaces, IsPlacedRule, IsPlacing}
-use Rattle.mcs_program.specs.Searches.{IsModelOf}
 use Rattle.mcs_program.proofs.SearchLemmas.{rest_value}
 use Rattle.mcs_program.proofs.SmallLemmas.{blocked_value, others_value, IsLow}
 
@@ -240,11 +240,10 @@ possible_value names rules ns p smaller views s single placed range ranges low =
 
 -- all atoms together are a model where they are possible
 pub all_model : (names : List Name) (rules : List ProgramRule) (ns : List Name) (p : Placing) (smaller views : List ℕ) (s : ℕ) → has_twins names ≡ false → IsPlacing names rules ns p → s ≡ such_that (length names) (λ _. true)
-    → AllByRecursion (IsInRange names) smaller → IsLow (map Atom ns) views → may_be p smaller views s ≡ true → IsModelOf names (rest_formulas names rules (map Atom ns) smaller views) s
+    → AllByRecursion (IsInRange names) smaller → IsLow (map Atom ns) views → may_be p smaller views s ≡ true → IsModelAt names (rest_formulas names rules (map Atom ns) smaller views) s
 all_model names rules ns p smaller views s single placed e ranges low is = record {
   in_range = range;
-  fits = subst (λ n. n < 2 ^ length names) (sym e) (such_that-lt (length names) (λ _. true));
-  satisfies = sym (possible_value names rules ns p smaller views s single placed range ranges low) ∙ is;
+  formulas = sym (possible_value names rules ns p smaller views s single placed range ranges low) ∙ is;
 }
   where
     range : IsInRange names s

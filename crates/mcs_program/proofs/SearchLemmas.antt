@@ -1,13 +1,12 @@
 -- How the search for answer sets goes on.
-use Rattle.std.proofs.Common.{◌≡◌, ℕ, ◌+◌, ◌<◌, ◌≤◌, ◌^◌, zero, suc, Bool, true, false, ◌&&◌, cond, List, [], ◌∷◌, ◌++◌, inl, inr, map, length, take, drop, get_or, insert, arith, refl, sym, ap, ◌∙◌, subst, append-nil, true≢false, ltb}
+use Rattle.std.proofs.Common.{◌≡◌, ℕ, ◌+◌, ◌<◌, ◌≤◌, ◌^◌, zero, suc, Bool, true, false, ◌&&◌, cond, List, [], ◌∷◌, ◌++◌, inl, inr, map, length, take, drop, get_or, insert, arith, refl, sym, ap, ◌∙◌, subst, append-nil, true≢false}
 use Rattle.std.proofs.lemmas.Bool.{and_parts, cases_lt}
-use Rattle.std.proofs.lemmas.Bool.Decides.{nat_tests}
 use Rattle.std.proofs.lemmas.List.Folds.{list_all-append}
 use Rattle.std.proofs.lemmas.List.{take-append-drop, map-append, length-drop, get_or-drop}
 use Rattle.std.specs.List.{AllByRecursion, AllZip}
 use Rattle.mcs_sets.specs.Sets.{has, single}
 use Rattle.mcs_sets.specs.Orders.{StateBefore}
-use Rattle.mcs_sets.proofs.SetLemmas.{has-such_that, such_that-lt}
+use Rattle.mcs_sets.proofs.Lattice.{below_from_members}
 use Rattle.mcs_base.specs.Listings.{IsAmong, IsAscending, IsListing}
 use Rattle.mcs_base.specs.StateOrder.{StateBefore-total, StateBefore-transitive}
 use Rattle.mcs_base.proofs.Each.{all_among, all_push, all_from_among}
@@ -19,37 +18,17 @@ use Rattle.mcs_system.specs.Plain.{Name, Formula, Atom, ProgramRule, Program}
 use Rattle.mcs_system.specs.Faults.{has_twins}
 use Rattle.mcs_system.specs.Logic.{holds, holds_all, true_names, BeliefSet, Theory, Atoms, Accepts}
 use Rattle.mcs_system.specs.Views.{Shows, IsAcceptedView}
-use Rattle.mcs_trace.specs.Clauses.{ClauseList, all_hold}
 use Rattle.mcs_trace.specs.Traces.{Inference, IsAcceptedTrace}
-use Rattle.mcs_sat.specs.Answers.{assignment_of}
-use Rattle.mcs_cnf.specs.ClauseLists.{clause_list, AreOver}
-use Rattle.mcs_cnf.specs.Meaning.{Extends}
-use Rattle.mcs_cnf.proofs.MeaningLemmas.{satisfied}
-use Rattle.mcs_classical.proofs.RefutingLemmas.{places, places_extend}
+use Rattle.mcs_cnf.specs.ClauseLists.{clause_list}
+use Rattle.mcs_cnf.specs.Entailments.{IsModelAt}
+use Rattle.mcs_cnf.proofs.EntailmentLemmas.{none_hold}
 use Rattle.mcs_evidence.specs.Programs.{rule_formula, beside_formula, other_formula, smaller_formulas, rest_formulas, model_shown_of, AreOverRules, AreAtomsOf, IsInRange, IsAcceptedModel}
 use Rattle.mcs_evidence.specs.Pushing.{AreNamesOf}
-use Rattle.mcs_evidence.proofs.Models.{refuted, smaller-over, answer_set_from_model, shows-below, own_state, view_among, smaller_places, beside_excludes}
+use Rattle.mcs_evidence.proofs.Models.{smaller-over, answer_set_from_model, shows-below, own_state, view_among, smaller_places, beside_excludes}
 use Rattle.mcs_program.specs.Clauses.{AreMeantBy, AddsFormula}
 use Rattle.mcs_program.specs.declared.search.Search.{Search}
-use Rattle.mcs_program.specs.Searches.{IsModelOf, IsKnown, IsSearch, IsExcluded, IsListed, count_below, sets_left, IsExhausted}
+use Rattle.mcs_program.specs.Searches.{IsKnown, IsSearch, IsExcluded, IsListed, count_below, sets_left, IsExhausted}
 use Rattle.mcs_program.proofs.ClauseLemmas.{last_too, meant_same}
-
--- ---- what a satisfying assignment says
-pub modelled : (names : List Name) (fs : List Formula) (values read : List Bool) (s : ℕ) → has_twins names ≡ false → ((a : List Name) → Extends names a (assignment_of values) → holds_all a fs ≡ true) → read ≡ values
-    → s ≡ places names read → IsModelOf names fs s
-modelled names fs values read s single meant same e =
-    subst (IsModelOf names fs) (sym (e ∙ ap (places names) same)) (record {
-      in_range = λ k member.
-          let less : ltb k (length names) ≡ true = (and_parts _ _ (sym (has-such_that (length names) (λ k. get_or values k false) k) ∙ member)).0 in
-          grind (arith, nat_tests);
-      fits = such_that-lt (length names) (λ k. get_or values k false);
-      satisfies = meant (true_names 0 names (places names values)) (places_extend names values single);
-    })
-
--- of the clauses of formulas
-pub modelled_clauses : (names : List Name) (fs : List Formula) (cnf : ClauseList) (values : List Bool) → AreOver names fs → cnf ≡ clause_list names fs → all_hold (assignment_of values) cnf.clauses ≡ true
-    → (a : List Name) → Extends names a (assignment_of values) → holds_all a fs ≡ true
-modelled_clauses names fs cnf values over is h a extends = satisfied fs names a (assignment_of values) over extends (ap (λ (x : ClauseList). all_hold (assignment_of values) x.clauses) (sym is) ∙ h)
 
 -- ---- names as beliefs
 pub atoms_of_names : (names ns : List Name) → AreNamesOf names ns → AreAtomsOf names (map Atom ns)
@@ -145,13 +124,13 @@ module _ (names : List Name) (rules : List ProgramRule) (beliefs : List Formula)
   known_more old new f adds narrows known =
       meant_same names (rest old ++ f ∷ []) (rest new) new.known (λ a. last_too a (rest old) f ∙ sym (narrows a)) (adds (rest old) known)
 
-  pub left_less : (old new : Search) (f : Formula) (model : ℕ) → Narrows old new f → IsModelOf names (rest_formulas names rules beliefs old.smaller.items old.views.items) model → holds (true_names 0 names model) f ≡ false
+  pub left_less : (old new : Search) (f : Formula) (model : ℕ) → Narrows old new f → IsModelAt names (rest_formulas names rules beliefs old.smaller.items old.views.items) model → holds (true_names 0 names model) f ≡ false
       → sets_left names rules beliefs new < sets_left names rules beliefs old
   left_less old new f model narrows is not_so =
       fewer (2 ^ length names) model
       (λ s. holds_all (true_names 0 names s) (rest_formulas names rules beliefs old.smaller.items old.views.items))
       (λ s. holds_all (true_names 0 names s) (rest_formulas names rules beliefs new.smaller.items new.views.items))
-      (λ s h. (and_parts _ _ (sym (narrows (true_names 0 names s)) ∙ h)).0) is.fits is.satisfies
+      (λ s h. (and_parts _ _ (sym (narrows (true_names 0 names s)) ∙ h)).0) (below_from_members (length names) model is.in_range) is.formulas
       (narrows (true_names 0 names model) ∙ ap (λ b. holds_all (true_names 0 names model) (rest_formulas names rules beliefs old.smaller.items old.views.items) && b) not_so ∙ none (holds_all (true_names 0 names model) (rest_formulas names rules beliefs old.smaller.items old.views.items)))
     where
       none : (b : Bool) → (b && false) ≡ false
@@ -181,10 +160,10 @@ module _ (names : List Name) (rules : List ProgramRule) (beliefs : List Formula)
     in_range = subst (AllByRecursion (IsInRange names)) (sym e.smaller) (all_push (IsInRange names) old.smaller.items less was.in_range range);
   }
 
-  pub excluded_less : (old new : Search) (model less : ℕ) → IsExcluded names rules less old new → IsModelOf names (rest_formulas names rules beliefs old.smaller.items old.views.items) model → IsModelOf names (smaller_formulas names rules model) less
+  pub excluded_less : (old new : Search) (model less : ℕ) → IsExcluded names rules less old new → IsModelAt names (rest_formulas names rules beliefs old.smaller.items old.views.items) model → IsModelAt names (smaller_formulas names rules model) less
       → sets_left names rules beliefs new < sets_left names rules beliefs old
   excluded_less old new model less e is below =
-      let both = smaller_places names rules model less below.satisfies in
+      let both = smaller_places names rules model less below.formulas in
       left_less old new (beside_formula names rules less) model (excluded_narrows old new less e) is (beside_excludes names rules model less both.0 both.1)
 
 -- ---- one view more
@@ -220,12 +199,12 @@ module _ (names : List Name) (rules : List ProgramRule) (beliefs : List Formula)
       ∙ ap (λ xs. holds_all a (rest_formulas names rules beliefs old.smaller.items xs)) views_are
       ∙ views_more a names rules beliefs old.smaller.items old.views.items listed.place listed.placed.view
 
-  module _ (atoms : AreAtomsOf names beliefs) (is : IsModelOf names (rest_formulas names rules beliefs old.smaller.items old.views.items) model) where
+  module _ (atoms : AreAtomsOf names beliefs) (is : IsModelAt names (rest_formulas names rules beliefs old.smaller.items old.views.items) model) where
     own : holds (true_names 0 names model) (other_formula beliefs listed.placed.view) ≡ false
     own = own_state names (true_names 0 names model) beliefs listed.placed.view atoms listed.placed.shows
 
     parts : (holds_all (true_names 0 names model) (map rule_formula rules) ≡ true) × (holds_all (true_names 0 names model) (map (beside_formula names rules) old.smaller.items) && holds_all (true_names 0 names model) (map (other_formula beliefs) old.views.items) ≡ true)
-    parts = and_parts _ _ (sym (rest_value (true_names 0 names model) names rules beliefs old.smaller.items old.views.items) ∙ is.satisfies)
+    parts = and_parts _ _ (sym (rest_value (true_names 0 names model) names rules beliefs old.smaller.items old.views.items) ∙ is.formulas)
 
     new_view : ¬ IsAmong listed.placed.view old.views.items
     new_view h = true≢false (sym (each old.views.items (and_parts _ _ parts.1).1 h) ∙ own)
@@ -245,7 +224,7 @@ module _ (names : List Name) (rules : List ProgramRule) (beliefs : List Formula)
       models = subst (λ xs. AllZip (IsAcceptedModel names rules beliefs) xs (map model_shown_of new.models.items)) (sym views_are)
           (subst (AllZip (IsAcceptedModel names rules beliefs) (insert old.views.items listed.place listed.placed.view)) (sym listed.models)
           (zip_insert (IsAcceptedModel names rules beliefs) old.views.items (map model_shown_of old.models.items) listed.place listed.placed.view (record { model = model; minimal = minimal }) was.models
-          (record { in_range = is.in_range; satisfies = parts.0; shows = listed.placed.shows; minimal = refutes })));
+          (record { shown = record { in_range = is.in_range; satisfies = parts.0; minimal = refutes }; shows = listed.placed.shows })));
       in_range = subst (AllByRecursion (IsInRange names)) (sym (listed.smaller ∙ listed.placed.smaller)) was.in_range;
     }
 
@@ -263,7 +242,7 @@ all_found names rules beliefs s single over atoms found none = record { exactly 
     to : (x : ℕ) → IsAmong x s.views.items → IsAcceptedView (Program rules) beliefs x
     to x among = let (m, there, is) = zip_among (IsAcceptedModel names rules beliefs) s.views.items (map model_shown_of s.models.items) found.models x among in record {
       belief_set = Atoms (true_names 0 names m.model);
-      accepted = answer_set_from_model names rules m.model single is.satisfies (refuted names (smaller_formulas names rules m.model) m.minimal (smaller-over names rules m.model over) is.minimal);
+      accepted = answer_set_from_model names rules m.model single is.shown.satisfies (none_hold names (smaller_formulas names rules m.model) m.minimal (smaller-over names rules m.model over) is.shown.minimal);
       shown = is.shows;
     }
 

@@ -1,19 +1,19 @@
 -- How a model of what is known is made small.
-use Rattle.std.proofs.Common.{◌≡◌, ℕ, ◌<◌, ◌^◌, Bool, true, false, not, ◌&&◌, ◌||◌, cond, List, [], ◌∷◌, ◌⊎◌, inl, inr, map, filter, length, refl, sym, ap, ◌∙◌, subst}
+use Rattle.std.proofs.Common.{◌≡◌, ℕ, ◌<◌, Bool, true, false, not, ◌&&◌, ◌||◌, cond, List, [], ◌∷◌, ◌⊎◌, inl, inr, map, filter, length, refl, sym, ap, ◌∙◌}
 use Rattle.std.proofs.lemmas.Bool.{false_from_ne_true, cases_eq, eq-eqb, eqb-true}
 use Rattle.std.specs.Prelude.{nat_eq}
 use Rattle.std.specs.List.{AllByRecursion, list_all}
 use Rattle.mcs_sets.specs.Sets.{has, single, minus}
-use Rattle.mcs_sets.proofs.Lattice.{in_minus, minus-lt}
+use Rattle.mcs_sets.proofs.Lattice.{in_minus}
 use Rattle.mcs_base.proofs.Each.{all_from_among}
 use Rattle.mcs_system.specs.Plain.{Name, Formula, Atom, ProgramRule}
 use Rattle.mcs_system.specs.Logic.{holds, holds_all, is_in, true_names, Atoms}
 use Rattle.mcs_system.specs.Views.{Shows}
 use Rattle.mcs_system.proofs.NameLemmas.{is_in-among}
+use Rattle.mcs_cnf.specs.Entailments.{IsModelAt}
 use Rattle.mcs_evidence.specs.Programs.{other_formula, is_broken_by, AreAtomsOf}
 use Rattle.mcs_evidence.specs.Pushing.{AreNamesOf}
 use Rattle.mcs_evidence.proofs.Models.{any_in, own_state, other_state}
-use Rattle.mcs_program.specs.Searches.{IsModelOf}
 use Rattle.mcs_program.proofs.SearchLemmas.{atoms_of_names}
 
 -- ---- smaller sets
@@ -47,9 +47,8 @@ others_value a ns own (v ∷ views) shows low = ap (λ b. b && list_all (λ v. n
     here (inr differ) = ap not (false_from_ne_true (nat_eq v own) (λ h. differ (eqb-true v own h))) ∙ sym (other_state ns a (map Atom ns) own v atoms shows low.0 (λ e. differ (sym e)))
 
 -- ---- what is left of a model
-pub without_place : (names : List Name) (fs : List Formula) (model k less : ℕ) → less ≡ minus model (single k) → IsModelOf names fs model → holds_all (true_names 0 names less) fs ≡ true → IsModelOf names fs less
+pub without_place : (names : List Name) (fs : List Formula) (model k less : ℕ) → less ≡ minus model (single k) → IsModelAt names fs model → holds_all (true_names 0 names less) fs ≡ true → IsModelAt names fs less
 without_place names fs model k less e is h = record {
   in_range = λ j member. is.in_range j (in_minus model (single k) j (ap (λ s. has s j) (sym e) ∙ member)).0;
-  fits = subst (λ s. s < 2 ^ length names) (sym e) (minus-lt (length names) model (single k) is.fits);
-  satisfies = h;
+  formulas = h;
 }

@@ -13,7 +13,7 @@ use Rattle.mcs_sets.proofs.SetLemmas.{not_before_itself}
 use Rattle.mcs_base.specs.Listings.{IsAmong, IsAscending}
 use Rattle.mcs_base.specs.StateOrder.{state_cmp, less_is, cmp-before, StateBefore-transitive}
 use Rattle.mcs_base.proofs.Among.{place_among, among_at, among_parts, among_drop_more, none_among_drop}
-use Rattle.mcs_base.proofs.Ascending.{before_at, first_before}
+use Rattle.mcs_base.proofs.Ascending.{first_before}
 use Rattle.mcs_base.proofs.Each.{all_among, all_from_among}
 use Rattle.mcs_program.specs.Placing.{is_other}
 use Rattle.mcs_base.proofs.ListingLemmas.{ascending_at}

@@ -5,11 +5,12 @@ use Rattle.mcs_sets.specs.Sets.{has, common, such_that}
 use Rattle.mcs_system.specs.Plain.{Name, Atom, ProgramRule}
 use Rattle.mcs_system.specs.Logic.{is_in, true_names}
 use Rattle.mcs_system.specs.Faults.{has_twins}
+use Rattle.mcs_cnf.specs.Entailments.{IsModelAt}
 use Rattle.mcs_evidence.specs.Programs.{rest_formulas}
 use Rattle.mcs_program.specs.declared.placing.PlacedRule.{PlacedRule}
 use Rattle.mcs_program.specs.declared.placing.Placing.{Placing}
 use Rattle.mcs_program.specs.declared.search.Search.{Search}
-use Rattle.mcs_program.specs.Searches.{IsModelOf, IsSearch}
+use Rattle.mcs_program.specs.Searches.{IsSearch}
 
 -- ---- tests of sets of places
 -- each of the first is in the second
@@ -67,4 +68,4 @@ pub record IsPlacing (names : List Name) (rules : List ProgramRule) (beliefs : L
 -- where the one set of places is a model of what is known, so is the other
 abbrev pub StaysModel : Placing → Search → ℕ → ℕ → Type 0
 StaysModel p s model less = (names : List Name) (rules : List ProgramRule) (beliefs : List Name) → has_twins names ≡ false → IsPlacing names rules beliefs p → IsSearch names rules (map Atom beliefs) s
-    → IsModelOf names (rest_formulas names rules (map Atom beliefs) s.smaller.items s.views.items) model → IsModelOf names (rest_formulas names rules (map Atom beliefs) s.smaller.items s.views.items) less
+    → IsModelAt names (rest_formulas names rules (map Atom beliefs) s.smaller.items s.views.items) model → IsModelAt names (rest_formulas names rules (map Atom beliefs) s.smaller.items s.views.items) less

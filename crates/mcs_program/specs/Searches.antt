@@ -6,28 +6,16 @@ use Rattle.mcs_base.specs.Listings.{IsAscending}
 use Rattle.mcs_system.specs.Plain.{Name, Formula, ProgramRule}
 use Rattle.mcs_system.specs.Logic.{holds_all, true_names, Atoms}
 use Rattle.mcs_system.specs.Views.{Shows}
-use Rattle.mcs_trace.specs.Traces.{Inference, inferences_of}
-use Rattle.mcs_evidence.specs.Programs.{model_shown_of, rest_formulas, beside_formula, other_formula, IsInRange, IsRefutation, IsAcceptedModel}
+use Rattle.mcs_trace.specs.Traces.{Inference}
+use Rattle.mcs_cnf.specs.Entailments.{IsModelAt}
+use Rattle.mcs_evidence.specs.Programs.{model_shown_of, rest_formulas, beside_formula, other_formula, IsInRange, IsAcceptedModel}
 use Rattle.mcs_program.specs.Clauses.{AreMeantBy, AddsFormula}
-use Rattle.mcs_program.specs.declared.answer.Answer.{Answer}
-use Rattle.mcs_program.specs.declared.answer.Answer.TheVariants.{Model, Refuted}
 use Rattle.mcs_program.specs.declared.search.Search.{Search}
-
--- the formulas hold where exactly the atoms at these places are true
-pub record IsModelOf (names : List Name) (fs : List Formula) (places : ℕ) : Type 0 where
-  pub in_range : IsInRange names places
-  pub fits : places < 2 ^ length names
-  pub satisfies : IsTrue (holds_all (true_names 0 names places) fs)
-
--- what is answered of formulas
-abbrev pub IsAnswerOf : List Name → List Formula → Answer → Type 0
-IsAnswerOf names fs (Model places) = IsModelOf names fs places
-IsAnswerOf names fs (Refuted trace) = IsRefutation names fs (inferences_of trace)
 
 -- what is found for formulas: a model, or that they have none
 abbrev pub IsFoundFor : List Name → List Formula → Option ℕ → Type 0
 IsFoundFor names fs None = (a : List Name) → ¬ IsTrue (holds_all a fs)
-IsFoundFor names fs (Some places) = IsModelOf names fs places
+IsFoundFor names fs (Some places) = IsModelAt names fs places
 
 -- the clauses mean the formulas of the program, of the smaller sets, and that the view is none of those found
 abbrev pub IsKnown : List Name → List ProgramRule → List Formula → Search → Type 0

@@ -15,10 +15,10 @@ ghost use Rattle.mcs_evidence.specs.Programs.{program_shown_of, rest_formulas, A
 ghost use Rattle.mcs_evidence.specs.Pushing.{AreNamesOf};
 ghost use Rattle.mcs_program.specs.Searches.{IsSearch, IsExhausted};
 
-use crate::answer::{Answer, ask};
 use crate::facts::with_facts;
 use crate::search::{Search, find_all};
 use mcs_base::{Memory, Vars};
+use mcs_classical::{Satisfied, satisfy_from};
 use mcs_evidence::rest_clauses;
 use mcs_system::{Name, ProgRule};
 use mcs_trace::{ProgramCert, Trace};
@@ -45,11 +45,11 @@ fn refute_rest(
         (rest_formulas atoms.now (map rule_of rules.now) (map Atom (map (λ b. b.now) beliefs.now)) smaller.now views.now) (inferences_of t)) }
 {
     let rest = rest_clauses(alloc, atoms, rules, beliefs, smaller, views)?;
-    let found = ask(alloc, &rest, atoms);
+    let found = satisfy_from(alloc, &rest, atoms);
     drop(rest);
     match found? {
-        Answer::Refuted(trace) => Ok(trace),
-        Answer::Model(_places) => unreachable!(),
+        Satisfied::Refuted(trace) => Ok(trace),
+        Satisfied::Model(_places) => unreachable!(),
     }
 }
 

@@ -8,17 +8,19 @@ ghost use Rattle.mcs_system.specs.Faults.{has_twins};
 ghost use Rattle.mcs_system.specs.Plain as plain;
 ghost use Rattle.mcs_system.specs.Seen.{rule_of};
 ghost use Rattle.mcs_trace.specs.Traces.{inferences_of};
+ghost use Rattle.mcs_cnf.specs.Entailments.{IsModelAt};
 ghost use Rattle.mcs_evidence.specs.Programs.{rest_formulas, smaller_formulas, AreOverRules, IsRefutation};
 ghost use Rattle.mcs_evidence.specs.Pushing.{AreNamesOf};
-ghost use Rattle.mcs_program.specs.Searches.{IsModelOf, IsFoundFor, IsSearch, IsExcluded, IsPlaced, IsListed, IsExhausted, sets_left};
+ghost use Rattle.mcs_program.specs.Searches.{IsFoundFor, IsSearch, IsExcluded, IsPlaced, IsListed, IsExhausted, sets_left};
 ghost use Rattle.mcs_program.specs.Placing.{IsPlaceOf, IsPlacing};
 
-use crate::answer::{Answer, ask, find_model};
+use crate::answer::find_model;
 use crate::atom_clauses::{add_to, clauses_of_rules, push_other};
 use crate::placing::Placing;
 use crate::small::{is_possible, made_small};
 use crate::view::{all_places, place_of, view_of};
 use mcs_base::{Memory, Vars};
+use mcs_classical::{Satisfied, satisfy_from};
 use mcs_evidence::{push_beside, smaller_clauses};
 use mcs_sat::ClauseBase;
 use mcs_system::{Name, ProgRule};
@@ -150,18 +152,20 @@ impl Search {
         requires beliefs { AreNamesOf atoms.now (map (λ b. b.now) beliefs.now) }
         requires placed { IsPlacing atoms.now (map rule_of rules.now) (map (λ b. b.now) beliefs.now) placing.now }
         requires search { IsSearch atoms.now (map rule_of rules.now) (map plain.Atom (map (λ b. b.now) beliefs.now)) self.old }
-        requires model { IsModelOf atoms.now
+        requires model { IsModelAt atoms.now
             (rest_formulas atoms.now (map rule_of rules.now) (map plain.Atom (map (λ b. b.now) beliefs.now)) self.old.smaller.items self.old.views.items) model }
         ensures search { IfOk result (λ _. IsSearch atoms.now (map rule_of rules.now) (map plain.Atom (map (λ b. b.now) beliefs.now)) self.new) }
         ensures less { IfOk result (λ _. sets_left atoms.now (map rule_of rules.now) (map plain.Atom (map (λ b. b.now) beliefs.now)) self.new
             < sets_left atoms.now (map rule_of rules.now) (map plain.Atom (map (λ b. b.now) beliefs.now)) self.old) }
     {
         let smaller = smaller_clauses(alloc, atoms, rules, model)?;
-        let found = ask(alloc, &smaller, atoms);
+        let found = satisfy_from(alloc, &smaller, atoms);
         drop(smaller);
         match found? {
-            Answer::Model(less) => self.exclude(alloc, atoms, rules, less),
-            Answer::Refuted(minimal) => self.list(alloc, atoms, beliefs, placing, model, minimal),
+            Satisfied::Model(less) => self.exclude(alloc, atoms, rules, less),
+            Satisfied::Refuted(minimal) => self.list(
+                alloc, atoms, beliefs, placing, model, minimal,
+            ),
         }
     }
 

@@ -7,11 +7,11 @@ use Rattle.mcs_certificate.proofs.ShownLemmas.{refuted_iff}
 use Rattle.mcs_certificate.proofs.entailment.is_refuted_at.Goals as goal
 
 pub returns-then-not-is_in_range : goal.returns-then-not-is_in_range
-returns-then-not-is_in_range c = false_tells (λ h. iff_false c.is_in_range.ensures c.if-not-is_in_range.true h.in_range)
+returns-then-not-is_in_range c = false_tells (λ h. iff_false c.is_in_range.ensures c.if-not-is_in_range.true h.model.in_range)
 
 pub returns-then-not-hold_at : goal.returns-then-not-hold_at
 returns-then-not-hold_at c =
-    false_tells (λ h. true≢false (sym (c.hold_at.ensures ∙ ap (λ (v : ℕ). holds_all (true_names 0 c.args.atoms.now v) (map (λ f. formula_of f.now) c.args.premises.now)) c.numbered-values.ensures ∙ h.formulas) ∙ c.if-not-hold_at.true))
+    false_tells (λ h. true≢false (sym (c.hold_at.ensures ∙ ap (λ (v : ℕ). holds_all (true_names 0 c.args.atoms.now v) (map (λ f. formula_of f.now) c.args.premises.now)) c.numbered-values.ensures ∙ h.model.formulas) ∙ c.if-not-hold_at.true))
 
 pub returns : goal.returns
 returns c =

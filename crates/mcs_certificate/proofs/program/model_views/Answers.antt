@@ -8,7 +8,7 @@ use Rattle.mcs_trace.specs.declared.certificate.AnswerSetCert.{AnswerSetCert}
 use Rattle.mcs_evidence.specs.Programs.{model_shown_of}
 use Rattle.mcs_certificate.specs.Models.{AreModelsShown}
 use Rattle.std.proofs.lemmas.Bool.{iff_false}
-use Rattle.mcs_certificate.proofs.ModelLemmas.{shown_accepted, models_more, model_at}
+use Rattle.mcs_certificate.proofs.ModelLemmas.{models_more, model_at}
 use Rattle.mcs_certificate.proofs.program.model_views.Goals as goal
 
 pub loop-shown-init : goal.loop-shown-init
@@ -23,8 +23,10 @@ pub loop-shown-preserved : goal.loop-shown-preserved
 loop-shown-preserved c =
     models_more c.args.atoms.now (map rule_of c.args.rules.now) (map Atom (map (λ b. b.now) c.args.beliefs.now)) c.args.models.now c.loop-shown.shown-index c.shown-item.result c.loop-shown.views.items c.push.new.self.items c.view_of-view.result
     c.loop-shown-test.true c.shown-item.is c.in_ok-push.ensures.items
-    (shown_accepted c.args.atoms.now (map rule_of c.args.rules.now) (map Atom (map (λ b. b.now) c.args.beliefs.now)) c.view_of-view.result (model_shown_of c.shown-item.result) (c.in_ok-fine.ensures.0 c.if-not-fine.false)
-    (subst (λ (s : ℕ). Shows (Atoms (true_names 0 c.args.atoms.now s)) (map Atom (map (λ b. b.now) c.args.beliefs.now)) c.view_of-view.result) c.numbered.ensures c.view_of-view.ensures))
+    (record {
+      shown = c.in_ok-fine.ensures.0 c.if-not-fine.false;
+      shows = subst (λ (s : ℕ). Shows (Atoms (true_names 0 c.args.atoms.now s)) (map Atom (map (λ b. b.now) c.args.beliefs.now)) c.view_of-view.result) c.numbered.ensures c.view_of-view.ensures;
+    })
     c.loop-shown.invariant
 
 pub returns : goal.returns

@@ -1,7 +1,9 @@
-use Rattle.std.proofs.Common.{ℕ, List, [], ◌∙◌, refl, sym, subst, map}
+use Rattle.std.proofs.Common.{ℕ, List, [], Option, IfSome, ◌∙◌, refl, sym, subst, map}
 use Rattle.mcs_system.specs.Seen.{formula_of}
 use Rattle.mcs_trace.specs.declared.certificate.Entail.{Entail}
+use Rattle.mcs_cnf.specs.Entailments.{entailment_of, IsModelAt}
 use Rattle.mcs_cnf.proofs.EntailmentLemmas.{classical_sound}
+use Rattle.mcs_classical.proofs.ModelLemmas.{model-kept}
 use Rattle.mcs_classical.proofs.OutputLemmas.{IsShown, shown-none, shown-more, shown-all, rest_over}
 use Rattle.mcs_classical.proofs.beliefs.outputs_in.Goals as goal
 
@@ -11,6 +13,7 @@ loop-number-init c = record {
   over = c.requires.beliefs;
   shown = λ fs known over. subst (λ (es : List Entail). IsShown (λ b. formula_of b.now) c.args.atoms.now fs c.args.beliefs.now 0 c.empty-state.result es) (sym c.new-entails.ensures.items)
       (subst (λ (s : ℕ). IsShown (λ b. formula_of b.now) c.args.atoms.now fs c.args.beliefs.now 0 s []) (sym c.empty-state.ensures) (shown-none (λ b. formula_of b.now) c.args.atoms.now fs c.args.beliefs.now));
+  model = λ fs known over. tt;
 }
 
 pub loop-number-preserved : goal.loop-number-preserved
@@ -24,15 +27,17 @@ loop-number-preserved c =
       kept = c.in_ok-entail.ensures.kept ∙ before.kept;
       over = (rest_over (λ b. formula_of b.now) c.args.atoms.now c.args.beliefs.now i belief less is before.over).1;
       shown = λ fs known over. shown-more (λ b. formula_of b.now) c.args.atoms.now fs c.args.beliefs.now i c.loop-number.state c.with_yes-state.result c.loop-number.entails.items c.push.new.self.items belief c.in_ok-entail.entail less is
-          c.with_yes-state.ensures c.in_ok-push.ensures.items (c.in_ok-entail.ensures.accepted fs (before.kept ∙ known) over) (before.shown fs known over);
+          c.with_yes-state.ensures c.in_ok-push.ensures.items (c.in_ok-entail.ensures.accepted fs (before.kept ∙ known) over (before.model fs known over)) (before.shown fs known over);
+      model = λ fs known over. subst (λ (m : Option ℕ). IfSome m (IsModelAt c.args.atoms.now fs)) (sym c.model_shown-model.ensures)
+          (model-kept c.args.atoms.now fs (formula_of belief.now) c.loop-number.model (entailment_of c.in_ok-entail.entail) (before.model fs known over) (c.in_ok-entail.ensures.accepted fs (before.kept ∙ known) over (before.model fs known over)));
     }
 
-pub entails_in-requires-clause-goal : goal.entails_in-requires-clause-goal
-entails_in-requires-clause-goal c =
+pub entails_beside-requires-clause-goal : goal.entails_beside-requires-clause-goal
+entails_beside-requires-clause-goal c =
     (rest_over (λ b. formula_of b.now) c.args.atoms.now c.args.beliefs.now c.loop-number.number c.index-beliefs-number.result c.loop-number-test.true c.index-beliefs-number.is c.loop-number.invariant.over).0
 
-pub entails_in-requires-clause-room : goal.entails_in-requires-clause-room
-entails_in-requires-clause-room c = rw c.loop-number.invariant.kept c.requires.room
+pub entails_beside-requires-clause-room : goal.entails_beside-requires-clause-room
+entails_beside-requires-clause-room c = rw c.loop-number.invariant.kept c.requires.room
 
 pub returns-clause-accepted : goal.returns-clause-accepted
 returns-clause-accepted c fs known over =

@@ -1,7 +1,8 @@
-use Rattle.std.proofs.Common.{◌≡◌, drop, map, List}
+use Rattle.std.proofs.Common.{◌≡◌, drop, map, List, IfSome}
 use Rattle.mcs_system.specs.Plain.{Formula}
 use Rattle.mcs_system.specs.Seen.{formula_of}
 use Rattle.mcs_cnf.specs.ClauseLists.{clause_list, AreOver}
+use Rattle.mcs_cnf.specs.Entailments.{IsModelAt}
 use Rattle.mcs_classical.proofs.OutputLemmas.{IsShown}
 use Rattle.mcs_classical.proofs.beliefs.outputs_in.Given as goal
 
@@ -11,4 +12,5 @@ invariant-loop-number l =
       kept : l.known ≡ l.fn.known;
       over : AreOver l.atoms (map (λ b. formula_of b.now) (drop l.number l.beliefs));
       shown : (fs : List Formula) → l.fn.known ≡ clause_list l.atoms fs → AreOver l.atoms fs → IsShown (λ b. formula_of b.now) l.atoms fs l.beliefs l.number l.state l.entails.items;
+      model : (fs : List Formula) → l.fn.known ≡ clause_list l.atoms fs → AreOver l.atoms fs → IfSome l.model (IsModelAt l.atoms fs);
     }

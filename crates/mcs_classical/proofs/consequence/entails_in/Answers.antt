@@ -1,4 +1,4 @@
-use Rattle.std.proofs.Common.{◌≤◌, ◌∙◌, sym, subst, ℕ, length, take, arith}
+use Rattle.std.proofs.Common.{◌≤◌, ◌∙◌, [], ◌∷◌, sym, subst, ℕ, length, take, arith}
 use Rattle.std.specs.List.{AllByRecursion}
 use Rattle.mcs_system.specs.Plain.{Not}
 use Rattle.mcs_system.specs.Seen.{formula_of}

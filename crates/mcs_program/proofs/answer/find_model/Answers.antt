@@ -1,6 +1,6 @@
 use Rattle.std.proofs.Common.{subst, Some, None}
 use Rattle.mcs_sat.specs.Answers.{IsSettled}
-use Rattle.mcs_program.proofs.SearchLemmas.{modelled}
+use Rattle.mcs_classical.proofs.RefutingLemmas.{modelled}
 use Rattle.mcs_program.proofs.answer.find_model.Goals as goal
 
 pub returns-in-None-clause-found : goal.returns-in-None-clause-found
