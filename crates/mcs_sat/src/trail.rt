@@ -142,6 +142,7 @@ impl Trail {
     pub fn explained_within(&self, number: usize) -> usize
         ensures bound { result ≤ length self.now.entries.items }
         ensures reasons { (i : ℕ) → i < result → reason_at self.now.entries.items i ≤ number }
+        ensures first { result < length self.now.entries.items → number < reason_at self.now.entries.items result }
     {
         for (place, entry) in self.entries.iter().enumerate() {
             if entry.reason > number as u64 {
