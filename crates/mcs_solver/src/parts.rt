@@ -9,8 +9,8 @@ ghost use Rattle.mcs_solver.specs.Kinds.{IsMadeOfContext};
 use crate::views::accepted_views;
 use mcs_base::{Active, Memory, Vars};
 use mcs_certificate::{beliefs_of, heads_into, parts_at};
+use mcs_sat::ClauseBase;
 use mcs_system::System;
-use mcs_trace::Cnf;
 use std::alloc::Global;
 
 /// The projected belief sets that the context of the system accepts with the heads of the rules: each once, in the
@@ -31,7 +31,7 @@ pub fn accepted_parts(
 /// The same, where the clauses of a classical context's formulas are kept for the next question.
 pub(crate) fn parts_with(
     alloc: Global,
-    known: &mut Option<Cnf>,
+    known: &mut Option<ClauseBase>,
     system: &System,
     context: u32,
     rules: Active,

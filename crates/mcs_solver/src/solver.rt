@@ -7,8 +7,8 @@ ghost use Rattle.mcs_solver.specs.Solvers.{solver_of};
 use crate::parts::parts_with;
 use mcs_base::{Active, Vars};
 use mcs_states::{Oracle, OracleStop};
+use mcs_sat::ClauseBase;
 use mcs_system::System;
-use mcs_trace::Cnf;
 use std::alloc::Global;
 use std::marker::Model;
 use std::sync::Arc;
@@ -19,7 +19,7 @@ use std::sync::Arc;
 pub struct LocalSolver {
     system: Arc<System>,
     context: u32,
-    known: Option<Cnf>,
+    known: Option<ClauseBase>,
     journal: Vec<Active>,
 }
 

@@ -1,6 +1,6 @@
 //! What a knowledge base accepts with heads, seen through beliefs: by the logic of its kind.
 
-ghost use Rattle.std.specs.Prelude.{◌≡◌, ◌≤◌, false, None, length, map, IfOk, IfSome, OnOk, IsTrue};
+ghost use Rattle.std.specs.Prelude.{◌≡◌, ◌≤◌, false, None, length, map, IfOk, IfSome, OnOk, OnErr, IsTrue};
 ghost use Rattle.std.specs.List.{AllByRecursion};
 ghost use Rattle.mcs_sets.specs.Orders.{StateBefore};
 ghost use Rattle.mcs_base.specs.Listings.{IsListing};
@@ -16,10 +16,11 @@ ghost use Rattle.mcs_certificate.specs.Kinds.{IsOverKb, AreOfKind};
 ghost use Rattle.mcs_solver.specs.Kinds.{IsOnlyView, IsMadeOf};
 
 use mcs_base::{Memory, Vars};
-use mcs_classical::outputs_from;
+use mcs_classical::outputs_in;
 use mcs_cnf::{clauses, push_formula};
 use mcs_default::list_extensions;
 use mcs_program::list_answer_sets;
+use mcs_sat::ClauseBase;
 use mcs_system::{Formula, Kb, Name, ProgRule};
 use mcs_trace::Cnf;
 use std::alloc::Global;
@@ -42,35 +43,31 @@ fn push_formulas(
     Ok(())
 }
 
-/// The one view that a classical context accepts with the heads, where the clauses of its formulas are known: of the
-/// beliefs that follow. The clauses of the heads are added and stay.
-fn view_of(
+/// Adds the clauses of the heads. Where memory runs out, what is known is as before.
+fn push_heads(
     alloc: Global,
-    known: &mut Cnf,
+    known: &mut ClauseBase,
     heads: &[&Formula],
-    beliefs: &[&Formula],
     atoms: &[Name],
-) -> Result<Vars, Memory>
-    requires few { length atoms.now ≤ 64 }
-    requires few_beliefs { length beliefs.now ≤ 64 }
-    requires different { has_twins atoms.now ≡ false }
+) -> Result<(), Memory>
     requires heads { AreOver atoms.now (map (λ f. formula_of f.now) heads.now) }
-    requires beliefs { AreOver atoms.now (map (λ f. formula_of f.now) beliefs.now) }
     requires room { length atoms.now ≤ known.old.vars }
-    ensures more { IsGrown atoms.now known.old known.new }
-    ensures exact { IfOk result
-        (IsOnlyView atoms.now known.old (map (λ f. formula_of f.now) heads.now) (map (λ f. formula_of f.now) beliefs.now)) }
+    ensures ok { OnOk result (known.new ≡ with_formulas atoms.now known.old (map (λ f. formula_of f.now) heads.now)) }
+    ensures err { OnErr result (known.new ≡ known.old) }
 {
-    push_formulas(alloc, known, heads, atoms)?;
-    let (view, _) = outputs_from(alloc, known, beliefs, atoms)?;
-    Ok(view)
+    let mut more = Cnf::new(alloc, known.vars());
+    push_formulas(alloc, &mut more, heads, atoms)?;
+    let added = known.append(&more);
+    drop(more);
+    added
 }
 
-/// The same, where the clauses of the heads are taken off again, so that `known` is as before and serves for the next
-/// question, also where memory runs out.
+/// The one view that a classical context accepts with the heads, where the clauses of its formulas are known: of the
+/// beliefs that follow. The clauses of the heads are added for the search and taken off again, so that `known` is as
+/// before and serves for the next question, with what was learnt from it, also where memory runs out.
 fn view_with(
     alloc: Global,
-    known: &mut Cnf,
+    known: &mut ClauseBase,
     heads: &[&Formula],
     beliefs: &[&Formula],
     atoms: &[Name],
@@ -86,19 +83,32 @@ fn view_with(
         (IsOnlyView atoms.now known.old (map (λ f. formula_of f.now) heads.now) (map (λ f. formula_of f.now) beliefs.now)) }
 {
     let vars = known.vars();
-    let count = known.clauses().len();
-    let view = view_of(alloc, known, heads, beliefs, atoms);
+    let count = known.count();
+    push_heads(alloc, known, heads, atoms)?;
+    let shown = outputs_in(alloc, known, beliefs, atoms);
     known.cut(vars, count);
-    view
+    let (view, _) = shown?;
+    Ok(view)
+}
+
+/// The clauses of the formulas, made ready for searches.
+fn made_clauses(alloc: Global, formulas: &[Formula], atoms: &[Name]) -> Result<ClauseBase, Memory>
+    requires { AreOver atoms.now (map formula_of formulas.now) }
+    ensures { IfOk result (λ c. c ≡ clause_list atoms.now (map formula_of formulas.now)) }
+{
+    let made = clauses(alloc, formulas, atoms)?;
+    let known = ClauseBase::of(alloc, &made);
+    drop(made);
+    known
 }
 
 /// The clauses of the formulas, taken from where they are kept, or made.
 fn kept_clauses(
     alloc: Global,
-    known: &mut Option<Cnf>,
+    known: &mut Option<ClauseBase>,
     formulas: &[Formula],
     atoms: &[Name],
-) -> Result<Cnf, Memory>
+) -> Result<ClauseBase, Memory>
     requires over { AreOver atoms.now (map formula_of formulas.now) }
     requires made { IfSome known.old (λ c. c ≡ clause_list atoms.now (map formula_of formulas.now)) }
     ensures ok { IfOk result (λ c. c ≡ clause_list atoms.now (map formula_of formulas.now)) }
@@ -106,14 +116,14 @@ fn kept_clauses(
 {
     match known.take() {
         Some(kept) => Ok(kept),
-        None => clauses(alloc, formulas, atoms),
+        None => made_clauses(alloc, formulas, atoms),
     }
 }
 
 /// What a classical context accepts, where the clauses of its formulas are kept once they are made.
 fn classical_views(
     alloc: Global,
-    known: &mut Option<Cnf>,
+    known: &mut Option<ClauseBase>,
     formulas: &[Formula],
     heads: &[&Formula],
     beliefs: &[&Formula],
@@ -191,7 +201,7 @@ fn program_views(
 /// The clauses of a classical knowledge base are kept once they are made.
 pub(crate) fn accepted_views(
     alloc: Global,
-    known: &mut Option<Cnf>,
+    known: &mut Option<ClauseBase>,
     kb: &Kb,
     heads: &[&Formula],
     beliefs: &[&Formula],

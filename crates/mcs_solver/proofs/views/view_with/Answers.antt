@@ -1,18 +1,33 @@
-use Rattle.std.proofs.Common.{ℕ, ℤ, List, length, take, sym, subst, arith}
+use Rattle.std.proofs.Common.{◌≤◌, ◌∙◌, ℕ, length, map, take, sym, subst, arith}
 use Rattle.std.proofs.lemmas.Grind.{common_steps}
 use Rattle.std.specs.List.{AllByRecursion}
+use Rattle.mcs_system.specs.Seen.{formula_of}
 use Rattle.mcs_trace.specs.Clauses.{IsWithin}
 use Rattle.mcs_cnf.proofs.GrowingLemmas.{grown_fewer, grown_within}
+use Rattle.mcs_solver.proofs.ViewLemmas.{told_clauses, told_over}
 use Rattle.mcs_solver.proofs.views.view_with.Goals as goal
 
+pub outputs_in-shown-requires-clause-room : goal.outputs_in-shown-requires-clause-room
+outputs_in-shown-requires-clause-room c =
+    let heads = map (λ f. formula_of f.now) c.args.heads.now in
+    omega (arith, c.requires.room, grown_fewer c.args.atoms.now c.args.known.now c.push_heads.new.known (heads, c.in_ok-push_heads.ensures.ok))
+
 pub cut-requires-clause-fewer : goal.cut-requires-clause-fewer
-cut-requires-clause-fewer c = omega (arith, c.vars-vars.ensures.value, grown_fewer c.args.atoms.now c.args.known.now c.view_of-view.new.known c.view_of-view.ensures.more)
+cut-requires-clause-fewer c =
+    let heads = map (λ f. formula_of f.now) c.args.heads.now in
+    let pushed = c.outputs_in-shown.ensures.kept ∙ c.in_ok-push_heads.ensures.ok in
+    let known : c.args.known.now.vars ≤ c.outputs_in-shown.new.known.vars = grown_fewer c.args.atoms.now c.args.known.now c.outputs_in-shown.new.known (heads, pushed) in
+    omega arith
 
 pub cut-requires-clause-within : goal.cut-requires-clause-within
 cut-requires-clause-within c =
-    subst (λ (cs : List (List ℤ)). AllByRecursion (IsWithin c.vars-vars.result) (take (length cs) c.view_of-view.new.known.clauses)) (sym c.clauses-count.ensures.value)
-    (subst (λ (n : ℕ). AllByRecursion (IsWithin n) (take (length c.args.known.now.clauses) c.view_of-view.new.known.clauses)) (sym c.vars-vars.ensures.value)
-    (grown_within c.args.atoms.now c.args.known.now c.view_of-view.new.known c.view_of-view.ensures.more c.vars-vars.ensures.kept))
+    let heads = map (λ f. formula_of f.now) c.args.heads.now in
+    let pushed = c.outputs_in-shown.ensures.kept ∙ c.in_ok-push_heads.ensures.ok in
+    subst (λ (k : ℕ). AllByRecursion (IsWithin c.vars-vars.result) (take k c.outputs_in-shown.new.known.clauses)) (sym c.count-count.ensures)
+    (subst (λ (n : ℕ). AllByRecursion (IsWithin n) (take (length c.args.known.now.clauses) c.outputs_in-shown.new.known.clauses)) (sym c.vars-vars.ensures.value)
+    (grown_within c.args.atoms.now c.args.known.now c.outputs_in-shown.new.known (heads, pushed) c.vars-vars.ensures.kept))
 
-pub returns-clause-kept : goal.returns-clause-kept
-returns-clause-kept c = grind (arith, common_steps)
+pub returns-clause-exact : goal.returns-clause-exact
+returns-clause-exact c = λ fs is over.
+    let heads = map (λ f. formula_of f.now) c.args.heads.now in
+    c.in_ok-view.ensures.exact _ (told_clauses c.args.atoms.now c.args.known.now c.push_heads.new.known fs heads is c.in_ok-push_heads.ensures.ok) (told_over c.args.atoms.now fs heads over c.requires.heads)
