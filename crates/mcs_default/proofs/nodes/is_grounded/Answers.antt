@@ -1,4 +1,4 @@
-use Rattle.std.proofs.Common.{◌≡◌, ◌∙◌, ◌<◌, ℕ, true, length, map, refl, sym, ap, subst, IsTrue, IfSome, Option, Some, None}
+use Rattle.std.proofs.Common.{◌≡◌, ◌∙◌, ◌<◌, ℕ, true, length, map, refl, sym, ap, subst, IsTrue, IfSome, Option}
 use Rattle.mcs_base.proofs.Results.{none_where_never}
 use Rattle.mcs_sets.specs.Sets.{has, minus, size, Within}
 use Rattle.mcs_sets.proofs.Lattice.{none_within, with_within, in_minus}
