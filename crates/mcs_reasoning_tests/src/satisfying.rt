@@ -31,21 +31,27 @@ fn is_accepted(
     check(alloc, &cnf, trace)
 }
 
-/// The atoms under which the formulas hold, or `None` where a trace that is accepted refutes that there are any.
-fn model_of(
+/// Whether the formulas are told to hold where just the atoms at these places are true.
+fn hold_at(
     alloc: Global,
     formulas: &[Formula],
     atoms: &[Name],
-) -> Result<Result<Option<Vars>, ()>, Memory> {
-    match told(alloc, formulas, atoms)? {
-        Some(Satisfied::Model(places)) => Ok(Ok(Some(places))),
-        Some(Satisfied::Refuted(trace)) => {
-            let is_right = is_accepted(alloc, formulas, atoms, &trace);
-            drop(trace);
-            Ok(if is_right? { Ok(None) } else { Err(()) })
-        }
-        None => Ok(Err(())),
-    }
+    places: Vars,
+) -> Result<bool, Memory> {
+    let told = told(alloc, formulas, atoms)?;
+    let is_right = matches!(&told, Some(Satisfied::Model(found)) if *found == places);
+    drop(told);
+    Ok(is_right)
+}
+
+/// Whether the formulas are refuted by a trace that is accepted.
+fn are_refuted(alloc: Global, formulas: &[Formula], atoms: &[Name]) -> Result<bool, Memory> {
+    let Some(Satisfied::Refuted(trace)) = told(alloc, formulas, atoms)? else {
+        return Ok(false);
+    };
+    let is_right = is_accepted(alloc, formulas, atoms, &trace);
+    drop(trace);
+    is_right
 }
 
 #[test]
@@ -53,7 +59,7 @@ fn formulas_are_satisfied_or_refuted(rt: HostRuntime) -> Result<(), Fail> {
     let system = system_of(rt.alloc(), b"context c classical { p | q. ~p. ~q. }")?;
     let (formulas, atoms) = (formulas_of(&system), atoms_of(&system));
     assert!(rt; formulas.len() == 3);
-    assert!(rt; model_of(rt.alloc(), &formulas[..2], atoms)? == Ok(Some(Vars::numbered(0b10))));
-    assert!(rt; model_of(rt.alloc(), formulas, atoms)? == Ok(None));
+    assert!(rt; hold_at(rt.alloc(), &formulas[..2], atoms, Vars::one(1))?);
+    assert!(rt; are_refuted(rt.alloc(), formulas, atoms)?);
     Ok(())
 }

@@ -6,8 +6,8 @@ ghost use Rattle.mcs_solver.specs.Solvers.{solver_of};
 
 use crate::parts::parts_with;
 use mcs_base::{Active, Vars};
-use mcs_states::{Oracle, OracleStop};
 use mcs_sat::ClauseBase;
+use mcs_states::{Oracle, OracleStop};
 use mcs_system::System;
 use std::alloc::Global;
 use std::marker::Model;

@@ -1,5 +1,4 @@
 use Rattle.std.proofs.Common.{◌≤◌, ◌∙◌, ℕ, length, map, take, sym, subst, arith}
-use Rattle.std.proofs.lemmas.Grind.{common_steps}
 use Rattle.std.specs.List.{AllByRecursion}
 use Rattle.mcs_system.specs.Seen.{formula_of}
 use Rattle.mcs_trace.specs.Clauses.{IsWithin}
