@@ -26,13 +26,14 @@ fn has_states(alloc: Global, text: &str, marks: Marks, states: &[Vars]) -> Resul
 #[test]
 fn changed_systems_have_states(rt: HostRuntime) -> Result<(), Fail> {
     let (none, first, second) = (Vars::empty(), Vars::one(0), Vars::one(1));
-    let rows: [(&str, Marks, &[Vars]); 6] = [
+    let rows: [(&str, Marks, &[Vars]); 7] = [
         (FORBIDDEN, Marks::empty(), &[]),
         (FORBIDDEN, Marks::one(0), &[]),
         (FORBIDDEN, Marks::one(0).with(2), &[first]),
         (SELF_ATTACK, Marks::one(0), &[none]),
         (SELF_ATTACK, Marks::one(1), &[first]),
         (CHOICE, Marks::empty(), &[first, second]),
+        (CHOICE, Marks::one(0), &[second]),
     ];
     for (text, marks, states) in &rows {
         assert!(rt; has_states(rt.alloc(), text, *marks, states)?);

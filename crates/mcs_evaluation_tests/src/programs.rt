@@ -1,6 +1,7 @@
 //! Answer sets of programs, and what shows them.
 
-ghost use Rattle.std.specs.Prelude.{◌≤◌, length, map, IfSome};
+ghost use Rattle.std.specs.Prelude.{◌≡◌, ◌≤◌, false, length, map, IfSome};
+ghost use Rattle.mcs_system.specs.Faults.{has_twins};
 ghost use Rattle.mcs_system.specs.Seen.{kb_of, rule_of};
 ghost use Rattle.mcs_certificate.specs.Kinds.{IsOverKb};
 ghost use Rattle.mcs_evidence.specs.Programs.{AreOverRules};
@@ -10,11 +11,12 @@ use mcs_base::{Memory, Vars};
 use mcs_cnf::are_different;
 use mcs_program::{answer_sets, list_answer_sets};
 use mcs_system::{Kb, Name, ProgRule};
+use mcs_trace::ProgramCert;
 use std::alloc::Global;
 use std::test::Fail;
 
 /// The rules, where the knowledge is a program over the atoms.
-fn program_in<'k>(knowledge: &'k Kb, atoms: &[Name]) -> Option<&'k [ProgRule]>
+pub(crate) fn program_in<'k>(knowledge: &'k Kb, atoms: &[Name]) -> Option<&'k [ProgRule]>
     requires { IsOverKb atoms.now (kb_of knowledge.now) }
     ensures { IfSome result (λ rules. AreOverRules atoms.now (map rule_of rules.now)) }
 {
@@ -22,6 +24,20 @@ fn program_in<'k>(knowledge: &'k Kb, atoms: &[Name]) -> Option<&'k [ProgRule]>
         Kb::Program(rules) => Some(rules.as_slice()),
         Kb::Classical(_) | Kb::DefaultTheory(_) => None,
     }
+}
+
+/// What shows the answer sets of the rules, seen through the atoms.
+pub(crate) fn shown(
+    alloc: Global,
+    rules: &[ProgRule],
+    atoms: &[Name],
+) -> Result<ProgramCert, Memory>
+    requires over { AreOverRules atoms.now (map rule_of rules.now) }
+    requires few { length atoms.now ≤ 64 }
+    requires different { has_twins atoms.now ≡ false }
+{
+    let (_, certificate) = answer_sets(alloc, rules, &[], atoms, atoms)?;
+    Ok(certificate)
 }
 
 /// Whether the answer sets of the rules are seen through the atoms as these views, by so many models.

@@ -9,6 +9,18 @@ use std::alloc::Global;
 use std::sync::Arc;
 use std::test::Fail;
 
+/// Each of two contexts believes the atom of this name where the other does not.
+const TWINS: &str = "context c1 program {} context c2 program {}
+bridge r1: c1:a if not c2:a. bridge r2: c2:a if not c1:a.";
+
+/// Two choices, each seen through its first atom; all atoms together are no model.
+const TWO_CHOICES: &str = "context c1 program { a | c. b | d. :- a, c. } context c2 classical {}
+bridge r1: c2:x if c1:a, c1:b.";
+
+/// A choice of which nothing is read; all atoms together are no model.
+const HIDDEN_CHOICE: &str = "context c1 program { a | b. :- a, b. } context c2 classical {}
+bridge r1: c2:x if c1:e.";
+
 /// Whether these are what the context accepts with the heads of the rules.
 fn are_accepted(
     alloc: Global,
@@ -51,5 +63,14 @@ fn a_context_accepts_what_it_is_told(rt: HostRuntime) -> Result<(), Fail> {
                 && are_answers(rt.alloc(), &system, rules, &parts)?
         );
     }
+    let twins = system_of(rt.alloc(), TWINS)?;
+    assert!(rt; are_accepted(rt.alloc(), &twins, 1, Active::one(0), &[Vars::empty()])?);
+    assert!(rt; are_accepted(rt.alloc(), &twins, 1, Active::one(1), &[Vars::one(1)])?);
+    let choices = system_of(rt.alloc(), TWO_CHOICES)?;
+    let (first, second) = (Vars::one(0), Vars::one(1));
+    let parts = [first.with(1), first, second, Vars::empty()];
+    assert!(rt; are_accepted(rt.alloc(), &choices, 0, Active::empty(), &parts)?);
+    let hidden = system_of(rt.alloc(), HIDDEN_CHOICE)?;
+    assert!(rt; are_accepted(rt.alloc(), &hidden, 0, Active::empty(), &[Vars::empty()])?);
     Ok(())
 }

@@ -17,7 +17,7 @@ use std::alloc::Global;
 use std::test::Fail;
 
 /// The items, where the knowledge is a default theory over the atoms with few defaults.
-fn theory_in<'k>(knowledge: &'k Kb, atoms: &[Name]) -> Option<&'k [TheoryItem]>
+pub(crate) fn theory_in<'k>(knowledge: &'k Kb, atoms: &[Name]) -> Option<&'k [TheoryItem]>
     requires over { IsOverKb atoms.now (kb_of knowledge.now) }
     requires few { default_count (kb_of knowledge.now) ≤ 10 }
     ensures over { IfSome result (λ items. AreOverItems atoms.now (map item_of items.now)) }
@@ -30,7 +30,7 @@ fn theory_in<'k>(knowledge: &'k Kb, atoms: &[Name]) -> Option<&'k [TheoryItem]>
 }
 
 /// The formulas of the second context.
-fn beliefs_of(system: &System) -> &[Formula] {
+pub(crate) fn beliefs_of(system: &System) -> &[Formula] {
     match system.contexts() {
         [
             _,

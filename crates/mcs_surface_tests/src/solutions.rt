@@ -8,7 +8,7 @@ use std::test::Fail;
 /// The words that ask for the whole listing of the file `f`.
 const SOLVE: [&str; 2] = ["solve", "f"];
 
-const LISTINGS: [(&str, &str); 10] = [
+const LISTINGS: [(&str, &str); 11] = [
     // A text without contexts.
     (
         "",
@@ -33,6 +33,11 @@ const LISTINGS: [(&str, &str); 10] = [
     (
         "context c1 program {}\nbridge r1: c1:a if not c1:a.\n",
         "mcs 1: 1 contexts, 1 rules, 1 variables\ninconsistent\ndiagnosis 1: {-r1} state {} active {}\ndiagnosis 2: {+r1} state {c1:a} active {r1}\nexplanation 1: {-r1 by 1, +r1 by 2}\nend: 0 equilibria, 2 diagnoses, 1 explanations, need 2\n",
+    ),
+    // Two of these: each repair of the one goes with each of the other.
+    (
+        "context c1 program {}\ncontext c2 program {}\nbridge r1: c1:a if not c1:a.\nbridge r2: c2:b if not c2:b.\n",
+        "mcs 1: 2 contexts, 2 rules, 2 variables\ninconsistent\ndiagnosis 1: {-r1, -r2} state {} active {}\ndiagnosis 2: {-r1, +r2} state {c2:b} active {r2}\ndiagnosis 3: {+r1, -r2} state {c1:a} active {r1}\ndiagnosis 4: {+r1, +r2} state {c1:a, c2:b} active {r1, r2}\nexplanation 1: {-r1 by 1, +r1 by 3}\nexplanation 2: {-r2 by 1, +r2 by 2}\nend: 0 equilibria, 4 diagnoses, 2 explanations, need 4\n",
     ),
     // A program without answer sets, which no rule goes into: the empty explanation alone.
     (
