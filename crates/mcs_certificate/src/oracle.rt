@@ -85,6 +85,13 @@ impl CertifiedOracle {
             journal: Vec::new(alloc),
         }
     }
+
+    /// The sets of rules for which it gave an answer, in their order.
+    pub fn journal(&self) -> &[Active]
+        ensures { result.now ≡ self.now.journal }
+    {
+        self.journal.as_slice()
+    }
 }
 
 impl Oracle for CertifiedOracle {

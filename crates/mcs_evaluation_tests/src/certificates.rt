@@ -232,10 +232,11 @@ fn is_told(
     answers.push((rule, outputs))?;
     let mut oracle = CertifiedOracle::new(alloc, system.clone()?, 0, answers);
     let answer = oracle.ask(alloc, asked);
+    let is_noted = oracle.journal() == [asked].as_slice();
     drop(oracle);
     Ok(match answer {
-        Ok(states) => states.len() == 1 && states.first().copied() == state,
-        Err(stop) => stop == OracleStop::Missing(asked) && state.is_none(),
+        Ok(states) => is_noted && states.len() == 1 && states.first().copied() == state,
+        Err(stop) => !is_noted && stop == OracleStop::Missing(asked) && state.is_none(),
     })
 }
 

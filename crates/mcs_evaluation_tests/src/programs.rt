@@ -95,5 +95,14 @@ fn answer_sets_are_shown(rt: HostRuntime) -> Result<(), Fail> {
     let either = [Vars::one(0), Vars::one(1)];
     assert!(rt; has_views(rt.alloc(), "context c program { a | b. }", &either, 2)?);
     assert!(rt; has_views(rt.alloc(), "context c program { a. :- a. }", &[], 0)?);
+    let second = [Vars::one(1)];
+    assert!(rt;
+        has_views(
+            rt.alloc(),
+            "context c program { a :- a. b :- not a. }",
+            &second,
+            1
+        )?
+    );
     Ok(())
 }

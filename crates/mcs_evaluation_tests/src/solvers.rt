@@ -35,7 +35,7 @@ fn are_accepted(
     Ok(accepted_parts(alloc, system, context, rules)?.as_slice() == parts)
 }
 
-/// Whether these are the answers of the first context's oracle to the question.
+/// Whether these are the answers of the first context's oracle to the question, which it notes.
 fn are_answers(
     alloc: Global,
     system: &Arc<System>,
@@ -47,8 +47,9 @@ fn are_answers(
     }
     let mut solver = LocalSolver::new(alloc, system.clone()?, 0);
     let answer = solver.ask(alloc, rules);
+    let is_noted = solver.journal() == [rules].as_slice();
     drop(solver);
-    Ok(answer?.as_slice() == parts)
+    Ok(is_noted && answer?.as_slice() == parts)
 }
 
 #[test]

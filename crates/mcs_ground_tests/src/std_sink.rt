@@ -11,12 +11,14 @@ fn standard_output_takes_a_piece(rt: HostRuntime) {
     IdleGate.before(3);
 }
 
-/// Whether, of devices over these, the output takes four bytes and then nothing more; a note goes to the other.
+/// Whether, of devices over these, the output takes four bytes and then nothing more, which is counted as a fault; a note
+/// goes to the other.
 fn are_full_at_four(space: &mut [u8], line: &mut [u8]) -> bool {
     let mut full = StdSink::new(Cursor::new(space), Cursor::new(line));
     let is_full = full.write(b"abcdef") == Ok(4)
         && full.write(b"ef") == Err(Failed)
-        && full.write(b"") == Ok(0);
+        && full.write(b"") == Ok(0)
+        && full.faults() == 1;
     full.note(b"note, and more");
     is_full
 }

@@ -125,19 +125,8 @@ impl<'a, O: Oracle, G: Gate> Mesh<'a, O, G> {
                 self.done = Some(level);
                 Ok(())
             }
-            Err(halt) => {
-                let halt = &halt;
-                self.halt = Some(*halt);
-                Err(*halt)
-            }
+            Err(halt) => Err(halt.kept_in(&mut self.halt)),
         }
-    }
-
-    /// Memory ran out: nothing more may be asked.
-    fn stop(&mut self)
-        ensures { self.new ≡ record self.old { halt = Some halts.Memory; halted = true } }
-    {
-        self.halt = Some(Halt::Memory);
     }
 
     /// The oracles, back, one for each context, in order.
@@ -156,10 +145,7 @@ impl<'a, O: Oracle, G: Gate> Evaluator for Mesh<'a, O, G> {
         self.reach(alloc, level)?;
         match self.found.repairs(alloc, &self.plan, &self.tables, level) {
             Ok(pairs) => Ok(pairs),
-            Err(Memory) => {
-                self.stop();
-                Err(Halt::Memory)
-            }
+            Err(Memory) => Err(Halt::Memory.kept_in(&mut self.halt)),
         }
     }
 
@@ -167,10 +153,7 @@ impl<'a, O: Oracle, G: Gate> Evaluator for Mesh<'a, O, G> {
         self.reach(alloc, pair.marks().count())?;
         match states_in(alloc, &self.plan, &self.tables, pair) {
             Ok(states) => Ok(states),
-            Err(Memory) => {
-                self.stop();
-                Err(Halt::Memory)
-            }
+            Err(Memory) => Err(Halt::Memory.kept_in(&mut self.halt)),
         }
     }
 

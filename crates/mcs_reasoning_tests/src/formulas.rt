@@ -193,6 +193,25 @@ fn what_contradicts_itself_entails_everything(rt: HostRuntime) -> Result<(), Fai
     Ok(())
 }
 
+/// Whether each of the formulas is over both of two atoms, and over neither of them alone.
+fn need_both(formulas: &[Formula], atoms: &[Name]) -> bool {
+    atoms.len() == 2
+        && formulas.iter().all(|f| is_over(atoms, f)
+            && !is_over(&atoms[..1], f)
+            && !is_over(&atoms[1..], f))
+}
+
+#[test]
+fn formulas_are_over_the_atoms_of_all_their_parts(rt: HostRuntime) -> Result<(), Fail> {
+    let system = system_of(
+        rt.alloc(),
+        b"context c classical { p & q. p | ~q. p -> q. p <-> q. }",
+    )?;
+    let (formulas, atoms) = (formulas_of(&system), atoms_of(&system));
+    assert!(rt; formulas.len() == 4 && need_both(formulas, atoms));
+    Ok(())
+}
+
 /// The text of a context with one formula, that has so many negations.
 fn nested(alloc: Global, count: u32) -> Result<Vec<u8>, Memory> {
     let mut text = Vec::from_slice(alloc, b"context c classical { ")?;

@@ -3,7 +3,7 @@
 ghost use Rattle.std.specs.Prelude.{◌≡◌};
 
 use mcs_base::{Marks, Memory, Partial, Vars};
-use mcs_table::{Row, Table, are_apart, forget, join, matching};
+use mcs_table::{Row, Table, are_apart, forget, join, matching, union_states};
 use std::alloc::Global;
 use std::test::Fail;
 
@@ -71,18 +71,51 @@ fn are_given(
     Ok(gives(alloc, &a, &b, 2, two)? && gives(alloc, &a, &b, 1, one)?)
 }
 
-/// Whether these rows of the table fit the state in which its variables are false.
-fn fit(alloc: Global, a: Listed, rows: &[Row]) -> Result<bool, Memory> {
+/// Whether these rows of the table fit the state in which just these of its variables are true.
+fn fit(alloc: Global, a: Listed, values: u64, rows: &[Row]) -> Result<bool, Memory> {
     let a = table(alloc, a)?;
-    let off = row(a.scope(), 0, 0);
-    Ok(matching(alloc, &a, &off.state)?.as_slice() == rows)
+    let wanted = row(a.scope(), values, 0);
+    Ok(matching(alloc, &a, &wanted.state)?.as_slice() == rows)
+}
+
+/// Whether the unions of rows of two tables with at most so many marks have these states.
+fn have_states(
+    alloc: Global,
+    a: Listed,
+    b: Listed,
+    level: u32,
+    states: &[Vars],
+) -> Result<bool, Memory> {
+    let (a, b) = (table(alloc, a)?, table(alloc, b)?);
+    if !are_apart(&a, &b) {
+        return Ok(false);
+    }
+    Ok(union_states(alloc, a.rows(), a.scope(), &b, level)?.as_slice() == states)
 }
 
 #[test]
 fn a_join_takes_the_marks_of_both(rt: HostRuntime) -> Result<(), Fail> {
     let (a, b): (Listed, Listed) = ((0b1, &[(1, 0), (0, 0b1)]), (0b1, &[(0, 0b100)]));
     assert!(rt; are_given(rt.alloc(), a, b, (0b1, &[(0, 0b101)]), (0b1, &[]))?);
-    assert!(rt; fit(rt.alloc(), a, &[row(Vars::one(0), 0, 0b1)])?);
+    assert!(rt; fit(rt.alloc(), a, 0, &[row(Vars::one(0), 0, 0b1)])?);
+    assert!(rt; fit(rt.alloc(), a, 1, &[row(Vars::one(0), 1, 0)])?);
+    Ok(())
+}
+
+#[test]
+fn rows_fit_on_the_variables_of_both(rt: HostRuntime) -> Result<(), Fail> {
+    let (a, b): (Listed, Listed) = ((0b011, &[(0b11, 0b1)]), (0b110, &[(0b110, 0)]));
+    let joined: Listed = (0b111, &[(0b111, 0b1)]);
+    assert!(rt; are_given(rt.alloc(), a, b, joined, joined)?);
+    Ok(())
+}
+
+#[test]
+fn states_are_those_of_few_marks(rt: HostRuntime) -> Result<(), Fail> {
+    let (a, b): (Listed, Listed) = ((0b1, &[(1, 0b1)]), (0b1, &[(1, 0), (1, 0b10)]));
+    let once = [Vars::one(0)];
+    assert!(rt; have_states(rt.alloc(), a, b, 1, &once)?);
+    assert!(rt; have_states(rt.alloc(), a, b, 0, &[])?);
     Ok(())
 }
 

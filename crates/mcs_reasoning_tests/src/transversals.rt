@@ -53,6 +53,7 @@ fn two_edges_that_share_a_mark(rt: HostRuntime) -> Result<(), Fail> {
     assert!(rt; are_minimal(rt.alloc(), &edges, &[shared, own])?);
     assert!(rt; are_told(&edges, shared, own));
     assert!(rt; are_told_at_once(&edges, shared, own));
+    assert!(rt; first_critical_edges(&[edges[0], edges[0], edges[1]], own)[0] == Some(0));
     minimality_is_critical();
     Ok(())
 }

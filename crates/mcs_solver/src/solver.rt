@@ -53,6 +53,13 @@ impl LocalSolver {
             journal: Vec::new(alloc),
         }
     }
+
+    /// The sets of rules for which it gave an answer, in their order.
+    pub fn journal(&self) -> &[Active]
+        ensures { result.now ≡ self.now.journal }
+    {
+        self.journal.as_slice()
+    }
 }
 
 impl Oracle for LocalSolver {

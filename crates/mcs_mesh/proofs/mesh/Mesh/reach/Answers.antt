@@ -35,5 +35,5 @@ returns-in-Ok-clause-done g c = reach_done (arc_value c.self.inside.plan) c.self
     (map knowledge_of c.round_of-round.new.known) c.in-Ok.ensures.done c.in-Ok.ensures.within c.round_of-round.ensures.rest
 
 pub returns-in-Err-clause-halt : goal.returns-in-Err-clause-halt
-returns-in-Err-clause-halt g c = reach_halted (arc_value c.self.inside.plan) c.self.inside.budget c.self.inside.done c.self.inside.halt (map g.O.Oracle.stands c.self.inside.oracles.items) (map knowledge_of c.self.inside.known.items) c.self.inside.tables.items c.self.inside.asked c.self.invariant.0 c.args.self.now c.self.view_is
-    c.args.level c.requires (c.is_reached.ensures.not c.if-is_reached.false) c.deref-2.result.now c.deref-2.ensures (map g.O.Oracle.stands c.deref_mut.result.now) _ _ (ap (map g.O.Oracle.stands) c.deref_mut.ensures.value) refl c.in-Err.halt c.in-Err.ensures.cause
+returns-in-Err-clause-halt g c = rw (c.kept_in.ensures.kept, c.kept_in.ensures.same) (reach_halted (arc_value c.self.inside.plan) c.self.inside.budget c.self.inside.done c.self.inside.halt (map g.O.Oracle.stands c.self.inside.oracles.items) (map knowledge_of c.self.inside.known.items) c.self.inside.tables.items c.self.inside.asked c.self.invariant.0 c.args.self.now c.self.view_is
+    c.args.level c.requires (c.is_reached.ensures.not c.if-is_reached.false) c.deref-2.result.now c.deref-2.ensures (map g.O.Oracle.stands c.deref_mut.result.now) _ _ (ap (map g.O.Oracle.stands) c.deref_mut.ensures.value) refl c.in-Err.halt c.in-Err.ensures.cause)
