@@ -2,6 +2,7 @@
 
 use crate::systems::{SELF_ATTACK, system_of};
 use mcs_base::{Active, Memory, Vars};
+use mcs_certificate::accepts;
 use mcs_solver::{LocalSolver, accepted_parts};
 use mcs_states::{Oracle, OracleStop};
 use mcs_system::System;
@@ -20,6 +21,18 @@ bridge r1: c2:x if c1:a, c1:b.";
 /// A choice of which nothing is read; all atoms together are no model.
 const HIDDEN_CHOICE: &str = "context c1 program { a | b. :- a, b. } context c2 classical {}
 bridge r1: c2:x if c1:e.";
+
+/// Formulas, of which one follows from what the context is told, and the other does not.
+const TOLD_FORMULAS: &str = "context c1 classical { p -> q. } context c2 classical {}
+bridge r1: c1:p if not c2:x. bridge r2: c2:y if c1:q, c1:s.";
+
+/// A default that applies as long as the context is not told of an exception.
+const TOLD_THEORY: &str = "context c1 default { bird. bird : ~ill / flies. } context c2 classical {}
+bridge r1: c1:ill if not c2:x. bridge r2: c2:y if c1:flies.";
+
+/// A choice between two atoms, of which the one rules out what the context is told.
+const TOLD_PROGRAM: &str = "context c1 program { a | b. :- a, p. } context c2 classical {}
+bridge r1: c1:p if not c2:x. bridge r2: c2:y if c1:a, c1:b.";
 
 /// Whether these are what the context accepts with the heads of the rules.
 fn are_accepted(
@@ -45,7 +58,7 @@ fn are_answers(
     if system.contexts().is_empty() || !rules.within(system.rules_of(0)) {
         return Ok(false);
     }
-    let mut solver = LocalSolver::new(alloc, system.clone()?, 0);
+    let mut solver = LocalSolver::new(alloc, system.clone()?, 0, false);
     let answer = solver.ask(alloc, rules);
     let is_noted = solver.journal() == [rules].as_slice();
     drop(solver);
@@ -73,5 +86,43 @@ fn a_context_accepts_what_it_is_told(rt: HostRuntime) -> Result<(), Fail> {
     assert!(rt; are_accepted(rt.alloc(), &choices, 0, Active::empty(), &parts)?);
     let hidden = system_of(rt.alloc(), HIDDEN_CHOICE)?;
     assert!(rt; are_accepted(rt.alloc(), &hidden, 0, Active::empty(), &[Vars::empty()])?);
+    Ok(())
+}
+
+/// Whether the first context's oracle, after it was asked with the first rule alone, has a certificate of this question
+/// that is accepted with what was answered; nothing where it has none.
+fn is_shown(
+    alloc: Global,
+    system: &Arc<System>,
+    keep: bool,
+    question: Active,
+) -> Result<Option<bool>, Fail> {
+    let rule = Active::one(0);
+    if system.contexts().is_empty()
+        || !rule.within(system.rules_of(0))
+        || !question.within(system.rules_of(0))
+    {
+        return Ok(Some(false));
+    }
+    let mut solver = LocalSolver::new(alloc, system.clone()?, 0, keep);
+    let answer = solver.ask(alloc, rule);
+    let shown = match solver.certificate(question) {
+        Some((outputs, cert)) => Some(accepts(alloc, system, 0, question, outputs, cert)),
+        None => None,
+    };
+    drop(solver);
+    drop(answer?);
+    Ok(shown.transpose()?)
+}
+
+#[test]
+fn an_oracle_keeps_certificates_where_it_is_told_to(rt: HostRuntime) -> Result<(), Fail> {
+    let alloc = rt.alloc();
+    for text in [TOLD_FORMULAS, TOLD_THEORY, TOLD_PROGRAM] {
+        let system = system_of(alloc, text)?;
+        assert!(rt; is_shown(alloc, &system, true, Active::one(0))? == Some(true));
+        assert!(rt; is_shown(alloc, &system, true, Active::empty())?.is_none());
+        assert!(rt; is_shown(alloc, &system, false, Active::one(0))?.is_none());
+    }
     Ok(())
 }

@@ -1,2 +1,3 @@
 pub mod SystemSolvers
 pub mod ViewLemmas
+pub mod KeepingLemmas

@@ -1,6 +1,7 @@
 //! What one context of a system accepts, found by the logic of its kind.
 #![tactic(auto)]
 
+mod keeping;
 mod parts;
 mod solver;
 mod views;

@@ -4,11 +4,13 @@ ghost use Rattle.std.specs.Prelude.{◌<◌, length, IfOk};
 ghost use Rattle.mcs_sets.specs.Orders.{StateBefore};
 ghost use Rattle.mcs_base.specs.Listings.{IsListing};
 ghost use Rattle.mcs_system.specs.Systems.{IsAcceptedPart};
+ghost use Rattle.mcs_certificate.specs.Certificates.{IsAccepted};
 ghost use Rattle.mcs_solver.specs.Kinds.{IsMadeOfContext};
+ghost use Rattle.mcs_solver.specs.Certified.{IsCertified};
 
 use crate::views::accepted_views;
 use mcs_base::{Active, Memory, Vars};
-use mcs_certificate::{beliefs_of, heads_into, parts_at};
+use mcs_certificate::{AnswerCert, beliefs_of, heads_into, parts_at};
 use mcs_sat::ClauseBase;
 use mcs_system::System;
 use std::alloc::Global;
@@ -25,32 +27,44 @@ pub fn accepted_parts(
     ensures { IfOk result (λ parts. IsListing (IsAcceptedPart system.now context rules) StateBefore parts.items) }
 {
     let mut known = None;
-    parts_with(alloc, &mut known, system, context, rules)
+    let (parts, cert) = parts_with(alloc, false, &mut known, system, context, rules)?;
+    drop(cert);
+    Ok(parts)
 }
 
-/// The same, where the clauses of a classical context's formulas are kept for the next question.
+/// The same, with a certificate where one is wanted, and where the clauses of a classical context's formulas are kept for
+/// the next question.
 pub(crate) fn parts_with(
     alloc: Global,
+    certify: bool,
     known: &mut Option<ClauseBase>,
     system: &System,
     context: u32,
     rules: Active,
-) -> Result<Vec<Vars>, Memory>
+) -> Result<(Vec<Vars>, Option<AnswerCert>), Memory>
     requires context { context < length system.now.contexts }
     requires made { IsMadeOfContext system.now context known.old }
     ensures made { IsMadeOfContext system.now context known.new }
-    ensures exact { IfOk result (λ parts. IsListing (IsAcceptedPart system.now context rules) StateBefore parts.items) }
+    ensures exact { IfOk result (λ r. IsListing (IsAcceptedPart system.now context rules) StateBefore r.0.items) }
+    ensures certified { IfOk result (λ r. IsCertified certify (IsAccepted system.now context rules r.0.items) r.1) }
 {
     let heads = heads_into(alloc, system, context, rules)?;
     let beliefs = beliefs_of(alloc, system, context)?;
     let knows = &system.contexts()[context as usize].kb;
-    let views = accepted_views(
+    let (views, cert) = accepted_views(
         alloc,
+        certify,
         known,
         knows,
         &heads,
         &beliefs,
         system.atoms_of(context),
     )?;
-    parts_at(alloc, system.vars_of(context), &views)
+    match parts_at(alloc, system.vars_of(context), &views) {
+        Ok(parts) => Ok((parts, cert)),
+        Err(want) => {
+            drop(cert);
+            Err(want)
+        }
+    }
 }

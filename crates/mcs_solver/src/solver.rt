@@ -1,26 +1,36 @@
 //! The oracle of one context.
 
-ghost use Rattle.std.specs.Prelude.{◌≡◌, ◌<◌, [], length};
+ghost use Rattle.std.specs.Prelude.{◌≡◌, ◌<◌, ◌⊎◌, [], ◌∷◌, length, MatchOption, IfSome};
 ghost use Rattle.std.specs.Arc.{arc_value};
-ghost use Rattle.mcs_solver.specs.Solvers.{solver_of};
+ghost use Rattle.mcs_sets.specs.Orders.{StateBefore};
+ghost use Rattle.mcs_base.specs.Listings.{IsAmong, IsListing};
+ghost use Rattle.mcs_system.specs.Systems.{IsAcceptedPart};
+ghost use Rattle.mcs_certificate.specs.Certificates.{plain_of, IsAccepted};
+ghost use Rattle.mcs_solver.specs.Solvers.{solver_with};
 
+use crate::keeping::{Kept, keep_answer};
 use crate::parts::parts_with;
 use mcs_base::{Active, Vars};
+use mcs_certificate::AnswerCert;
 use mcs_sat::ClauseBase;
 use mcs_states::{Oracle, OracleStop};
 use mcs_system::System;
 use std::alloc::Global;
+use std::collections::BTreeMap;
 use std::marker::Model;
 use std::sync::Arc;
 
 /// Answers what one context of a system accepts, by the logic of the context's kind. It never misses. It keeps the
-/// journal of the questions asked and, once it was asked, the clauses of a classical context's formulas.
+/// journal of the questions asked; once it was asked, the clauses of a classical context's formulas; and, if it is made
+/// so, each answer with a certificate.
 #[derive(Drop)]
 pub struct LocalSolver {
     system: Arc<System>,
     context: u32,
     known: Option<ClauseBase>,
     journal: Vec<Active>,
+    keep: bool,
+    kept: BTreeMap<Active, Kept>,
 }
 
 impl Model for LocalSolver {
@@ -29,29 +39,47 @@ impl Model for LocalSolver {
     ghost use Rattle.mcs_states.specs.Oracles.{OracleState};
     ghost use Rattle.mcs_states.specs.Codes.{coded_oracle};
     ghost use Rattle.mcs_solver.specs.Kinds.{IsMadeOfContext};
-    ghost use Rattle.mcs_solver.specs.Solvers.{solver_of};
+    ghost use Rattle.mcs_solver.specs.Solvers.{solver_with, AreKept};
 
     ghost Value = { OracleState };
 
     ghost coded = { coded_oracle };
 
-    ghost view = { λ s. solver_of (arc_value s.system) s.context s.journal.items };
+    ghost view = { λ s. solver_with s.keep (arc_value s.system) s.context s.journal.items };
 
-    ghost invariant = { λ s. (s.context < length (arc_value s.system).contexts) × IsMadeOfContext (arc_value s.system) s.context s.known };
+    ghost invariant = { λ s. (s.context < length (arc_value s.system).contexts) × IsMadeOfContext (arc_value s.system) s.context s.known × AreKept (arc_value s.system) s.context s.keep s.journal.items s.kept };
 }
 
 impl LocalSolver {
-    /// The oracle of this context of the system, which is one of its contexts. It was asked nothing.
-    pub fn new(alloc: Global, system: Arc<System>, context: u32) -> LocalSolver
+    /// The oracle of this context of the system, which is one of its contexts. It was asked nothing. Where `keep` is true
+    /// it keeps each answer with a certificate, and its origin is the one empty string; else its origin has no string.
+    pub fn new(alloc: Global, system: Arc<System>, context: u32, keep: bool) -> LocalSolver
         requires { context < length (arc_value system).contexts }
-        ensures { result ≡ solver_of (arc_value system) context [] }
+        ensures { result ≡ solver_with keep (arc_value system) context [] }
     {
         LocalSolver {
             system,
             context,
             known: None,
             journal: Vec::new(alloc),
+            keep,
+            kept: BTreeMap::new(alloc),
         }
+    }
+
+    /// What was answered to the question, and the certificate that shows it, which is accepted: the outputs are what the
+    /// context accepts with the heads of these rules. `None` exactly where the solver keeps no answers, or the question is
+    /// not in its journal.
+    pub fn certificate(&self, active: Active) -> Option<(&[Vars], &AnswerCert)>
+        ensures told { MatchOption result ((self.now.origin ≡ []) ⊎ (¬ IsAmong active self.now.journal))
+            (λ r. (self.now.origin ≡ [] ∷ []) × IsAmong active self.now.journal) }
+        ensures accepted { IfSome result (λ r. IsAccepted self.now.system self.now.context active r.0.now (plain_of r.1.now)) }
+        ensures answered { IfSome result (λ r. IsListing (IsAcceptedPart self.now.system self.now.context active) StateBefore r.0.now) }
+    {
+        let Some(kept) = self.kept.get(&active) else {
+            return None;
+        };
+        Some((kept.outputs.as_slice(), &kept.cert))
     }
 
     /// The sets of rules for which it gave an answer, in their order.
@@ -67,7 +95,15 @@ impl Oracle for LocalSolver {
 
     fn ask(&mut self, alloc: Global, active: Active) -> Result<Vec<Vars>, OracleStop> {
         self.journal.reserve(1)?;
-        let parts = parts_with(alloc, &mut self.known, &self.system, self.context, active)?;
+        let (parts, cert) = parts_with(
+            alloc,
+            self.keep,
+            &mut self.known,
+            &self.system,
+            self.context,
+            active,
+        )?;
+        keep_answer(alloc, &mut self.kept, active, &parts, cert)?;
         self.journal.push(active)?;
         Ok(parts)
     }

@@ -6,23 +6,28 @@ ghost use Rattle.mcs_sets.specs.Orders.{StateBefore};
 ghost use Rattle.mcs_base.specs.Listings.{IsListing};
 ghost use Rattle.mcs_system.specs.Faults.{has_twins, is_atom, default_count};
 ghost use Rattle.mcs_system.specs.Logic.{with_heads};
-ghost use Rattle.mcs_system.specs.Plain.{Atom, Classical, Program};
-ghost use Rattle.mcs_system.specs.Seen.{formula_of, rule_of, kb_of};
+ghost use Rattle.mcs_system.specs.Plain.{Atom, Classical, DefaultTheory, Program};
+ghost use Rattle.mcs_system.specs.Seen.{formula_of, item_of, rule_of, kb_of};
 ghost use Rattle.mcs_system.specs.Views.{IsAcceptedView};
+ghost use Rattle.mcs_cnf.specs.Classical.{certificate_of};
 ghost use Rattle.mcs_cnf.specs.ClauseLists.{AreOver, clause_list, with_formulas};
 ghost use Rattle.mcs_cnf.specs.Growing.{IsGrown};
+ghost use Rattle.mcs_evidence.specs.Defaults.{AreOverItems, defaults_of};
 ghost use Rattle.mcs_evidence.specs.Programs.{AreOverRules};
+ghost use Rattle.mcs_certificate.specs.Certificates.{IsAcceptedFor};
 ghost use Rattle.mcs_certificate.specs.Kinds.{IsOverKb, AreOfKind};
-ghost use Rattle.mcs_solver.specs.Kinds.{IsOnlyView, IsMadeOf};
+ghost use Rattle.mcs_solver.specs.Kinds.{IsOnlyView, IsShownView, IsMadeOf};
+ghost use Rattle.mcs_solver.specs.Certified.{IsCertified};
 
 use mcs_base::{Memory, Vars};
+use mcs_certificate::AnswerCert;
 use mcs_classical::outputs_in;
 use mcs_cnf::{clauses, push_formula};
-use mcs_default::list_extensions;
-use mcs_program::list_answer_sets;
+use mcs_default::{extensions_from, list_extensions};
+use mcs_program::{answer_sets_from, list_answer_sets};
 use mcs_sat::ClauseBase;
-use mcs_system::{Formula, Kb, Name, ProgRule};
-use mcs_trace::Cnf;
+use mcs_system::{Formula, Kb, Name, ProgRule, TheoryItem};
+use mcs_trace::{ClassicalCert, Cnf};
 use std::alloc::Global;
 
 /// Adds the clauses of the formulas; where memory runs out, those of the first ones alone.
@@ -63,15 +68,15 @@ fn push_heads(
 }
 
 /// The one view that a classical context accepts with the heads, where the clauses of its formulas are known: of the
-/// beliefs that follow. The clauses of the heads are added for the search and taken off again, so that `known` is as
-/// before and serves for the next question, with what was learnt from it, also where memory runs out.
+/// beliefs that follow; and what shows it. The clauses of the heads are added for the search and taken off again, so that
+/// `known` is as before and serves for the next question, with what was learnt from it, also where memory runs out.
 fn view_with(
     alloc: Global,
     known: &mut ClauseBase,
     heads: &[&Formula],
     beliefs: &[&Formula],
     atoms: &[Name],
-) -> Result<Vars, Memory>
+) -> Result<(Vars, ClassicalCert), Memory>
     requires few { length atoms.now ≤ 64 }
     requires few_beliefs { length beliefs.now ≤ 64 }
     requires different { has_twins atoms.now ≡ false }
@@ -80,15 +85,16 @@ fn view_with(
     requires room { length atoms.now ≤ known.old.vars }
     ensures kept { known.new ≡ known.old }
     ensures exact { IfOk result
-        (IsOnlyView atoms.now known.old (map (λ f. formula_of f.now) heads.now) (map (λ f. formula_of f.now) beliefs.now)) }
+        (λ r. IsOnlyView atoms.now known.old (map (λ f. formula_of f.now) heads.now) (map (λ f. formula_of f.now) beliefs.now) r.0) }
+    ensures shown { IfOk result
+        (λ r. IsShownView atoms.now known.old (map (λ f. formula_of f.now) heads.now) (map (λ f. formula_of f.now) beliefs.now) r.0 (certificate_of r.1)) }
 {
     let vars = known.vars();
     let count = known.count();
     push_heads(alloc, known, heads, atoms)?;
     let shown = outputs_in(alloc, known, beliefs, atoms);
     known.cut(vars, count);
-    let (view, _) = shown?;
-    Ok(view)
+    shown
 }
 
 /// The clauses of the formulas, made ready for searches.
@@ -120,15 +126,17 @@ fn kept_clauses(
     }
 }
 
-/// What a classical context accepts, where the clauses of its formulas are kept once they are made.
+/// What a classical context accepts, with a certificate where one is wanted. The clauses of its formulas are kept once
+/// they are made.
 fn classical_views(
     alloc: Global,
+    certify: bool,
     known: &mut Option<ClauseBase>,
     formulas: &[Formula],
     heads: &[&Formula],
     beliefs: &[&Formula],
     atoms: &[Name],
-) -> Result<Vec<Vars>, Memory>
+) -> Result<(Vec<Vars>, Option<AnswerCert>), Memory>
     requires few { length atoms.now ≤ 64 }
     requires few_beliefs { length beliefs.now ≤ 64 }
     requires different { has_twins atoms.now ≡ false }
@@ -137,16 +145,57 @@ fn classical_views(
     requires beliefs { AreOver atoms.now (map (λ f. formula_of f.now) beliefs.now) }
     requires made { IfSome known.old (λ c. c ≡ clause_list atoms.now (map formula_of formulas.now)) }
     ensures made { IfSome known.new (λ c. c ≡ clause_list atoms.now (map formula_of formulas.now)) }
-    ensures exact { IfOk result (λ views. IsListing
+    ensures exact { IfOk result (λ r. IsListing
         (IsAcceptedView (with_heads (Classical (map formula_of formulas.now)) (map (λ f. formula_of f.now) heads.now)) (map (λ f. formula_of f.now) beliefs.now))
-        StateBefore views.items) }
+        StateBefore r.0.items) }
+    ensures certified { IfOk result (λ r. IsCertified certify
+        (IsAcceptedFor atoms.now (with_heads (Classical (map formula_of formulas.now)) (map (λ f. formula_of f.now) heads.now)) (map (λ f. formula_of f.now) beliefs.now) r.0.items)
+        r.1) }
 {
     let mut own = kept_clauses(alloc, known, formulas, atoms)?;
-    let view = view_with(alloc, &mut own, heads, beliefs, atoms);
+    let shown = view_with(alloc, &mut own, heads, beliefs, atoms);
     *known = Some(own);
+    let (view, cert) = shown?;
     let mut views = Vec::new(alloc);
-    views.push(view?)?;
-    Ok(views)
+    views.push(view)?;
+    if certify {
+        Ok((views, Some(AnswerCert::Classical(cert))))
+    } else {
+        drop(cert);
+        Ok((views, None))
+    }
+}
+
+/// What a default theory accepts with the heads, with a certificate where one is wanted.
+fn theory_views(
+    alloc: Global,
+    certify: bool,
+    items: &[TheoryItem],
+    heads: &[&Formula],
+    beliefs: &[&Formula],
+    atoms: &[Name],
+) -> Result<(Vec<Vars>, Option<AnswerCert>), Memory>
+    requires few { length atoms.now ≤ 64 }
+    requires few_beliefs { length beliefs.now ≤ 64 }
+    requires few_defaults { length (defaults_of (map item_of items.now)) ≤ 10 }
+    requires different { has_twins atoms.now ≡ false }
+    requires items { AreOverItems atoms.now (map item_of items.now) }
+    requires heads { AreOver atoms.now (map (λ f. formula_of f.now) heads.now) }
+    requires beliefs { AreOver atoms.now (map (λ f. formula_of f.now) beliefs.now) }
+    ensures exact { IfOk result (λ r. IsListing
+        (IsAcceptedView (with_heads (DefaultTheory (map item_of items.now)) (map (λ f. formula_of f.now) heads.now)) (map (λ f. formula_of f.now) beliefs.now))
+        StateBefore r.0.items) }
+    ensures certified { IfOk result (λ r. IsCertified certify
+        (IsAcceptedFor atoms.now (with_heads (DefaultTheory (map item_of items.now)) (map (λ f. formula_of f.now) heads.now)) (map (λ f. formula_of f.now) beliefs.now) r.0.items)
+        r.1) }
+{
+    if certify {
+        let (views, cert) = extensions_from(alloc, items, heads, beliefs, atoms)?;
+        Ok((views, Some(AnswerCert::Default(cert))))
+    } else {
+        let views = list_extensions(alloc, items, heads, beliefs, atoms)?;
+        Ok((views, None))
+    }
 }
 
 /// The name of a formula that is an atom.
@@ -172,14 +221,16 @@ fn names_of<'f>(alloc: Global, formulas: &[&'f Formula]) -> Result<Vec<&'f Name>
     Ok(names)
 }
 
-/// The views of the answer sets of a program with the heads, which are atoms, as the beliefs are.
+/// What a program accepts with the heads, which are atoms, as the beliefs are: the views of its answer sets, with a
+/// certificate where one is wanted.
 fn program_views(
     alloc: Global,
+    certify: bool,
     rules: &[ProgRule],
     heads: &[&Formula],
     beliefs: &[&Formula],
     atoms: &[Name],
-) -> Result<Vec<Vars>, Memory>
+) -> Result<(Vec<Vars>, Option<AnswerCert>), Memory>
     requires few { length atoms.now ≤ 64 }
     requires few_beliefs { length beliefs.now ≤ 64 }
     requires different { has_twins atoms.now ≡ false }
@@ -188,25 +239,35 @@ fn program_views(
     requires beliefs { AreOver atoms.now (map (λ f. formula_of f.now) beliefs.now) }
     requires head_atoms { AllByRecursion (λ f. IsTrue (is_atom (formula_of f.now))) heads.now }
     requires belief_atoms { AllByRecursion (λ f. IsTrue (is_atom (formula_of f.now))) beliefs.now }
-    ensures { IfOk result (λ views. IsListing
+    ensures exact { IfOk result (λ r. IsListing
         (IsAcceptedView (with_heads (Program (map rule_of rules.now)) (map (λ f. formula_of f.now) heads.now)) (map (λ f. formula_of f.now) beliefs.now))
-        StateBefore views.items) }
+        StateBefore r.0.items) }
+    ensures certified { IfOk result (λ r. IsCertified certify
+        (IsAcceptedFor atoms.now (with_heads (Program (map rule_of rules.now)) (map (λ f. formula_of f.now) heads.now)) (map (λ f. formula_of f.now) beliefs.now) r.0.items)
+        r.1) }
 {
     let facts = names_of(alloc, heads)?;
     let asked = names_of(alloc, beliefs)?;
-    list_answer_sets(alloc, rules, &facts, &asked, atoms)
+    if certify {
+        let (views, cert) = answer_sets_from(alloc, rules, &facts, &asked, atoms)?;
+        Ok((views, Some(AnswerCert::Program(cert))))
+    } else {
+        let views = list_answer_sets(alloc, rules, &facts, &asked, atoms)?;
+        Ok((views, None))
+    }
 }
 
-/// What the knowledge base accepts with the heads, seen through the beliefs: each view once, in the order of states.
-/// The clauses of a classical knowledge base are kept once they are made.
+/// What the knowledge base accepts with the heads, seen through the beliefs: each view once, in the order of states; with
+/// a certificate where one is wanted. The clauses of a classical knowledge base are kept once they are made.
 pub(crate) fn accepted_views(
     alloc: Global,
+    certify: bool,
     known: &mut Option<ClauseBase>,
     kb: &Kb,
     heads: &[&Formula],
     beliefs: &[&Formula],
     atoms: &[Name],
-) -> Result<Vec<Vars>, Memory>
+) -> Result<(Vec<Vars>, Option<AnswerCert>), Memory>
     requires few { length atoms.now ≤ 64 }
     requires few_beliefs { length beliefs.now ≤ 64 }
     requires few_defaults { default_count (kb_of kb.now) ≤ 10 }
@@ -218,13 +279,18 @@ pub(crate) fn accepted_views(
     requires fitting_beliefs { AreOfKind (kb_of kb.now) (map (λ f. formula_of f.now) beliefs.now) }
     requires made { IsMadeOf atoms.now (kb_of kb.now) known.old }
     ensures made { IsMadeOf atoms.now (kb_of kb.now) known.new }
-    ensures exact { IfOk result (λ views. IsListing
+    ensures exact { IfOk result (λ r. IsListing
         (IsAcceptedView (with_heads (kb_of kb.now) (map (λ f. formula_of f.now) heads.now)) (map (λ f. formula_of f.now) beliefs.now))
-        StateBefore views.items) }
+        StateBefore r.0.items) }
+    ensures certified { IfOk result (λ r. IsCertified certify
+        (IsAcceptedFor atoms.now (with_heads (kb_of kb.now) (map (λ f. formula_of f.now) heads.now)) (map (λ f. formula_of f.now) beliefs.now) r.0.items)
+        r.1) }
 {
     match kb {
-        Kb::Classical(formulas) => classical_views(alloc, known, formulas, heads, beliefs, atoms),
-        Kb::DefaultTheory(items) => list_extensions(alloc, items, heads, beliefs, atoms),
-        Kb::Program(rules) => program_views(alloc, rules, heads, beliefs, atoms),
+        Kb::Classical(formulas) => {
+            classical_views(alloc, certify, known, formulas, heads, beliefs, atoms)
+        }
+        Kb::DefaultTheory(items) => theory_views(alloc, certify, items, heads, beliefs, atoms),
+        Kb::Program(rules) => program_views(alloc, certify, rules, heads, beliefs, atoms),
     }
 }

@@ -36,7 +36,7 @@ fn solvers_of(alloc: Global, system: &Arc<System>) -> Result<Vec<LocalSolver>, M
 {
     let mut solvers = Vec::new(alloc);
     for context in 0..system.contexts().len() as u32 {
-        solvers.push(LocalSolver::new(alloc, system.clone()?, context))?;
+        solvers.push(LocalSolver::new(alloc, system.clone()?, context, false))?;
     }
     Ok(solvers)
 }

@@ -1,9 +1,8 @@
 use Rattle.std.proofs.Common.{◌≡◌, ◌∙◌, ℕ, List, length, map, get_or, slice_get, Some, sym, ap, subst, arith}
 use Rattle.std.proofs.lemmas.List.{length-map}
-use Rattle.std.proofs.lemmas.Result.{IfOk-weaker}
 use Rattle.mcs_sets.specs.Orders.{StateBefore}
 use Rattle.mcs_base.specs.Listings.{IsListing}
-use Rattle.mcs_system.specs.Plain.{Context, System}
+use Rattle.mcs_system.specs.Plain.{Name, Formula, Context, System}
 use Rattle.mcs_system.specs.Faults.{has_twins}
 use Rattle.mcs_system.specs.Logic.{with_heads}
 use Rattle.mcs_system.specs.Seen.{formula_of, context_of}
@@ -12,9 +11,13 @@ use Rattle.mcs_system.specs.Views.{IsAcceptedView, at_places, beliefs_at}
 use Rattle.mcs_system.proofs.ValidLemmas.{few_defaults, few_variables}
 use Rattle.mcs_cnf.proofs.OverLemmas.{context_atoms}
 use Rattle.mcs_laws.proofs.Views.{view_listings}
+use Rattle.mcs_certificate.specs.Certificates.{IsAcceptedFor}
+use Rattle.mcs_certificate.proofs.AnswerLemmas.{as_asked}
 use Rattle.mcs_certificate.proofs.AskingLemmas.{context_there}
 use Rattle.mcs_certificate.proofs.CoverLemmas.{own_over, heads_over, beliefs_over, few_beliefs}
 use Rattle.mcs_certificate.proofs.KindLemmas.{heads_of_kind, beliefs_of_kind}
+use Rattle.mcs_solver.specs.Certified.{IsCertified}
+use Rattle.mcs_solver.proofs.KeepingLemmas.{certified_there}
 use Rattle.mcs_solver.proofs.ViewLemmas.{made_there}
 use Rattle.mcs_solver.proofs.parts.parts_with.Goals as goal
 
@@ -71,13 +74,18 @@ returns-in_err-views-clause-made c =
     let m : System = c.args.system.now in
     made_there m c.args.context _ _ (context_there m c.contexts.result.now c.args.context c.index-contexts-context.result c.contexts.ensures.value c.requires.context) (rw c.atoms_of.ensures.value at c.in_err-views.ensures.made)
 
+pub returns-in-Ok-clause-made : goal.returns-in-Ok-clause-made
+returns-in-Ok-clause-made c =
+    let m : System = c.args.system.now in
+    made_there m c.args.context _ _ (context_there m c.contexts.result.now c.args.context c.index-contexts-context.result c.contexts.ensures.value c.requires.context) (rw c.atoms_of.ensures.value at c.in_ok-views.ensures.made)
+
 pub returns-clause-made : goal.returns-clause-made
 returns-clause-made c =
     let m : System = c.args.system.now in
     made_there m c.args.context _ _ (context_there m c.contexts.result.now c.args.context c.index-contexts-context.result c.contexts.ensures.value c.requires.context) (rw c.atoms_of.ensures.value at c.in_ok-views.ensures.made)
 
-pub returns-clause-exact : goal.returns-clause-exact
-returns-clause-exact c =
+pub returns-in-Ok-clause-exact : goal.returns-in-Ok-clause-exact
+returns-in-Ok-clause-exact c =
     let m : System = c.args.system.now in
     let i = c.args.context in
     let told : map (λ f. formula_of f.now) c.deref.result.now ≡ heads_into m i c.args.rules = ap (map (λ f. formula_of f.now)) c.deref.ensures.value ∙ c.in_ok-heads.ensures in
@@ -86,4 +94,17 @@ returns-clause-exact c =
     let there : slice_get m.contexts i ≡ Some d = context_there m c.contexts.result.now i c.index-contexts-context.result c.contexts.ensures.value c.requires.context in
     let listing : IsListing (IsAcceptedView (with_heads d.kb (heads_into m i c.args.rules)) (beliefs_at m (variables_of m i))) StateBefore c.in_ok-views.views.items = rw (asked, told) at c.in_ok-views.ensures.exact in
     let parts = view_listings m i c.args.rules d c.in_ok-views.views.items there listing in
-    IfOk-weaker c.parts_at.result _ _ (λ ps same. subst (λ (xs : List ℕ). IsListing (IsAcceptedPart m i c.args.rules) StateBefore xs) (sym (same ∙ ap (map (at_places c.vars_of.result)) c.deref-3.ensures.value ∙ ap (λ (s : ℕ). map (at_places s) c.in_ok-views.views.items) c.vars_of.ensures)) parts) c.parts_at.ensures
+    let same = c.in-Ok.ensures ∙ ap (map (at_places c.vars_of.result)) c.deref-3.ensures.value ∙ ap (λ (s : ℕ). map (at_places s) c.in_ok-views.views.items) c.vars_of.ensures in
+    subst (λ (xs : List ℕ). IsListing (IsAcceptedPart m i c.args.rules) StateBefore xs) (sym same) parts
+
+pub returns-in-Ok-clause-certified : goal.returns-in-Ok-clause-certified
+returns-in-Ok-clause-certified c =
+    let m : System = c.args.system.now in
+    let i = c.args.context in
+    let told : map (λ f. formula_of f.now) c.deref.result.now ≡ heads_into m i c.args.rules = ap (map (λ f. formula_of f.now)) c.deref.ensures.value ∙ c.in_ok-heads.ensures in
+    let asked : map (λ f. formula_of f.now) c.deref-2.result.now ≡ beliefs_at m (variables_of m i) = ap (map (λ f. formula_of f.now)) c.deref-2.ensures.value ∙ c.in_ok-beliefs.ensures in
+    let d : Context = context_of (get_or c.contexts.result.now i c.index-contexts-context.result) in
+    let there : slice_get m.contexts i ≡ Some d = context_there m c.contexts.result.now i c.index-contexts-context.result c.contexts.ensures.value c.requires.context in
+    let same = c.in-Ok.ensures ∙ ap (map (at_places c.vars_of.result)) c.deref-3.ensures.value ∙ ap (λ (s : ℕ). map (at_places s) c.in_ok-views.views.items) c.vars_of.ensures in
+    certified_there m i c.args.rules d c.args.certify c.in_ok-views.views.items _ c.in_ok-views.cert there same
+    (as_asked (λ (ns : List Name) (hs bs : List Formula). IsCertified c.args.certify (IsAcceptedFor ns (with_heads d.kb hs) bs c.in_ok-views.views.items) c.in_ok-views.cert) _ _ _ _ _ _ c.atoms_of.ensures.value told asked c.in_ok-views.ensures.certified)

@@ -8,8 +8,8 @@ use Rattle.mcs_certificate.proofs.KindLemmas.{defaults_counted}
 use Rattle.mcs_base.proofs.Mapped.{all_from_map}
 use Rattle.mcs_solver.proofs.views.accepted_views.Goals as goal
 
-pub list_extensions-requires-clause-few_defaults : goal.list_extensions-requires-clause-few_defaults
-list_extensions-requires-clause-few_defaults c =
+pub theory_views-requires-clause-few_defaults : goal.theory_views-requires-clause-few_defaults
+theory_views-requires-clause-few_defaults c =
     let few = subst (λ (k : code.Kb). default_count (kb_of k) ≤ 10) c.in-DefaultTheory.is c.requires.few_defaults in
     rw c.deref-in-DefaultTheory.ensures.value (omega (arith, few, defaults_counted (map item_of c.in-DefaultTheory.items.items)))
 

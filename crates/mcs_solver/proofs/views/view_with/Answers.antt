@@ -1,4 +1,5 @@
 use Rattle.std.proofs.Common.{◌≤◌, ◌∙◌, ℕ, length, map, take, sym, subst, arith}
+use Rattle.std.proofs.lemmas.Result.{IfOk-weaker}
 use Rattle.std.specs.List.{AllByRecursion}
 use Rattle.mcs_system.specs.Seen.{formula_of}
 use Rattle.mcs_trace.specs.Clauses.{IsWithin}
@@ -27,6 +28,13 @@ cut-requires-clause-within c =
     (grown_within c.args.atoms.now c.args.known.now c.outputs_in-shown.new.known (heads, pushed) c.vars-vars.ensures.kept))
 
 pub returns-clause-exact : goal.returns-clause-exact
-returns-clause-exact c = λ fs is over.
+returns-clause-exact c =
     let heads = map (λ f. formula_of f.now) c.args.heads.now in
-    c.in_ok-view.ensures.exact _ (told_clauses c.args.atoms.now c.args.known.now c.push_heads.new.known fs heads is c.in_ok-push_heads.ensures.ok) (told_over c.args.atoms.now fs heads over c.requires.heads)
+    IfOk-weaker c.outputs_in-shown.result _ _ (λ r h. λ fs is over. h _ (told_clauses c.args.atoms.now c.args.known.now c.push_heads.new.known fs heads is c.in_ok-push_heads.ensures.ok) (told_over c.args.atoms.now fs heads over c.requires.heads))
+    c.outputs_in-shown.ensures.exact
+
+pub returns-clause-shown : goal.returns-clause-shown
+returns-clause-shown c =
+    let heads = map (λ f. formula_of f.now) c.args.heads.now in
+    IfOk-weaker c.outputs_in-shown.result _ _ (λ r h. λ fs is over. h _ (told_clauses c.args.atoms.now c.args.known.now c.push_heads.new.known fs heads is c.in_ok-push_heads.ensures.ok) (told_over c.args.atoms.now fs heads over c.requires.heads))
+    c.outputs_in-shown.ensures.accepted

@@ -1,0 +1,44 @@
+//! Answers that are kept with their certificates.
+
+ghost use Rattle.std.specs.Prelude.{OnOk, OnErr};
+ghost use Rattle.std.specs.BTreeMap.{IsUnchanged};
+ghost use Rattle.mcs_solver.specs.Solvers.{HasKept};
+
+use mcs_base::{Active, Memory, Vars};
+use mcs_certificate::AnswerCert;
+use std::alloc::Global;
+use std::collections::BTreeMap;
+
+/// What was answered to a question, and the certificate that shows it.
+#[derive(Drop)]
+pub(crate) struct Kept {
+    pub(crate) outputs: Vec<Vars>,
+    pub(crate) cert: AnswerCert,
+}
+
+/// Keeps what was answered to the question, if there is a certificate of it, in place of what was kept of this question
+/// before. Where memory runs out, what is kept is as before.
+pub(crate) fn keep_answer(
+    alloc: Global,
+    kept: &mut BTreeMap<Active, Kept>,
+    active: Active,
+    outputs: &[Vars],
+    cert: Option<AnswerCert>,
+) -> Result<(), Memory>
+    ensures ok { OnOk result (HasKept active outputs.now cert kept.old kept.new) }
+    ensures err { OnErr result (IsUnchanged kept.old kept.new) }
+{
+    let Some(cert) = cert else {
+        return Ok(());
+    };
+    match outputs.to_vec(alloc) {
+        Ok(outputs) => {
+            drop(kept.insert(active, Kept { outputs, cert })?);
+            Ok(())
+        }
+        Err(refused) => {
+            drop(cert);
+            Err(Memory::from(refused))
+        }
+    }
+}
