@@ -51,7 +51,7 @@ latest-below es ps c placed off (suc n) bound =
     let up : n + 1 ≡ suc n = omega arith in
     (Some new, subst (λ (m : ℕ). LatestSoFar es c m (Some new)) up (latest-joined es ps c n q placed off less stands o new joined so_far))
 
-some-latest : (es : List Entry) (ps : List ℕ) (c : List ℤ) (l : ℤ) → ArePlaced es ps → IsFalse es c → IsAmong l c → (latest : Latest) × IsLatest es c latest
+pub some-latest : (es : List Entry) (ps : List ℕ) (c : List ℤ) (l : ℤ) → ArePlaced es ps → IsFalse es c → IsAmong l c → (latest : Latest) × IsLatest es c latest
 some-latest es ps c l placed off among = let (o, so_far) = latest-below es ps c placed off (length c) (omega arith) in at o (latest-end es c (length c) o (omega arith) so_far)
   where
     at : (o : Option Latest) → MatchOption o (c ≡ []) (IsLatest es c) → (latest : Latest) × IsLatest es c latest

@@ -7,8 +7,8 @@ use Rattle.mcs_base.proofs.Among.{among_drop_more, none_among_drop, among_at}
 use Rattle.mcs_base.proofs.Numbers.{unsigned_abs-neg_ℤ}
 use Rattle.mcs_sat.specs.declared.latest.Latest.{Latest}
 use Rattle.mcs_sat.specs.declared.trail.Entry.{Entry}
-use Rattle.mcs_sat.specs.Learning.{IsJoined, IsLate, IsLatest, IsSingle}
-use Rattle.mcs_sat.specs.Trails.{literal_at, ArePlaced, AreCovered, StandsAt, StandsNowhere, IsOn, IsOnBelow, IsFalse, IsFalseBelow}
+use Rattle.mcs_sat.specs.Learning.{IsJoined, IsLatest}
+use Rattle.mcs_sat.specs.Trails.{literal_at, ArePlaced, AreCovered, StandsAt, StandsNowhere, IsOn, IsOnBelow, IsFalse}
 use Rattle.mcs_sat.proofs.TrailLemmas.{same_place}
 
 -- each literal of the clause below i, or none where there is none, was false at the latest place or before
@@ -114,19 +114,3 @@ latest-end es c i (Some l) past (bound, ordered, among', last, h) = record {
   last = last;
   others = λ k among. elim (h k among) [ inl found ↦ found | inr rest ↦ absurd (none_among_drop c i k past rest) ];
 }
-
--- ---- what is false before a place
-pub none_below : (es : List Entry) (c : List ℤ) (n : ℕ) → n ≤ 0 → IsFalseBelow es n c → c ≡ []
-none_below es [] n none h = refl
-none_below es (x ∷ c) n none h = let (p, less, e) = h x (inl refl) in absurd (omega arith)
-
-pub latest_below : (es : List Entry) (ps : List ℕ) (c : List ℤ) (n : ℕ) (latest : Latest) → ArePlaced es ps → n ≤ length es → IsFalseBelow es n c → IsLatest es c latest → latest.place < n
-latest_below es ps c n latest placed bound h l =
-    let (j, less, e) = h (neg_ℤ (literal_at es latest.place)) l.has in
-    let same : j ≡ latest.place = same_place es ps j latest.place placed (omega arith) l.here (ap unsigned_abs (e ∙ neg_ℤ-neg_ℤ (literal_at es latest.place))) in
-    omega arith
-
--- a clause without literals is not late, where there is such a place
-pub none-late : (es : List Entry) (start : ℕ) (c : List ℤ) → c ≡ [] → IsLate es start c → start + 1 ≤ length es → IsSingle es start c
-none-late es start c none (inl late) within = absurd (late (subst (λ (x : List ℤ). IsFalseBelow es start x) (sym none) (λ k among. absurd among)))
-none-late es start c none (inr past) within = absurd (omega arith)

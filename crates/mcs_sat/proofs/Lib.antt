@@ -1,7 +1,6 @@
 pub mod FindingLemmas
 pub mod KnownLemmas
 pub mod LatestLemmas
-pub mod LearnLemmas
 pub mod TrailLemmas
 pub mod WatchLemmas
 pub mod GrowLemmas
@@ -21,4 +20,4 @@ pub mod StoreLemmas
 pub mod CutLemmas
 pub mod FollowLemmas
 pub mod NumberingLemmas
-pub mod ShorterLemmas
+pub mod MarkLemmas

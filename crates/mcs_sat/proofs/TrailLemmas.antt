@@ -11,7 +11,7 @@ use Rattle.mcs_trace.specs.Clauses.{IsClause, IsLiteral}
 use Rattle.mcs_trace.specs.Traces.{numbered}
 use Rattle.mcs_trace.proofs.OrderLemmas.{neg_differs}
 use Rattle.mcs_sat.specs.declared.trail.Entry.{Entry}
-use Rattle.mcs_sat.specs.Trails.{literal_at, reason_at, AreAssigned, ArePlaced, StandsAt, StandsNowhere, IsOn, IsOnBelow, IsFalse, IsFalseBelow, IsReason, AreExplained}
+use Rattle.mcs_sat.specs.Trails.{literal_at, reason_at, AreAssigned, ArePlaced, StandsAt, StandsNowhere, IsOn, IsOnBelow, IsReason, AreExplained}
 use Rattle.mcs_sat.proofs.KnownLemmas.{numbered-more}
 
 abbrev pub entry_at : List Entry → ℕ → Entry
@@ -49,13 +49,11 @@ on_below es n k bound (p, less, e) = (p, omega arith, e)
 pub on-back : (es : List Entry) (n : ℕ) (k : ℤ) → n ≤ length es → IsOnBelow es n k → IsOn (take n es) k
 on-back es n k bound (p, less, e) = (p, omega (arith, length-take n es), ap (λ (x : Entry). x.literal) (entry-back es n p less) ∙ e)
 
-pub false_below : (es : List Entry) (n : ℕ) (c : List ℤ) → n ≤ length es → IsFalseBelow es n c → IsFalse es c
-false_below es n c bound h k among = on_below es n (neg_ℤ k) bound (h k among)
-
-pub false_below-all : (es : List Entry) (c : List ℤ) → IsFalse es c → IsFalseBelow es (length es) c
-false_below-all es c h k among = h k among
-
 -- ---- reasons
+-- what the reason of an implied literal is
+pub reason_of : (known : List (List ℤ)) (es : List Entry) (p : ℕ) → AreExplained known es → p < length es → (reason_at es p ≡ 0 → ⊥) → (c : List ℤ) × (numbered known (reason_at es p) ≡ Some c) × IsReason es p c
+reason_of known es p explained less decided = elim (explained p less) [ inl none ↦ absurd (decided none) | inr found ↦ found ]
+
 reason-same : (es es' : List Entry) (i : ℕ) (c : List ℤ) → ((j : ℕ) → j ≤ i → entry_at es' j ≡ entry_at es j) → IsReason es i c → IsReason es' i c
 reason-same es es' i c same r =
     let here : literal_at es' i ≡ literal_at es i = ap (λ (x : Entry). x.literal) (same i (omega arith)) in

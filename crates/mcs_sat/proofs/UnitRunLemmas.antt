@@ -14,8 +14,7 @@ use Rattle.mcs_sat.specs.declared.trail.Entry.{Entry}
 use Rattle.mcs_sat.specs.Solvers.{AreDecided, HasNoValue, IsFalseUnder, IsForcedBy, IsOpenUnder, IsUnitRun}
 use Rattle.mcs_sat.specs.Trails.{AreExplained, ArePlaced, IsFalse, IsOn, IsOpen, StandsNowhere, first_level, later_levels, levels_of, literal_at, reason_at}
 use Rattle.mcs_sat.proofs.KnownLemmas.{numbered-row}
-use Rattle.mcs_sat.proofs.LearnLemmas.{reason_of}
-use Rattle.mcs_sat.proofs.TrailLemmas.{entry-old, entry_at, not_both_on, same_place}
+use Rattle.mcs_sat.proofs.TrailLemmas.{entry-old, entry_at, not_both_on, same_place, reason_of}
 
 -- ---- what unit runs lead to
 -- no literal stands there with its negation

@@ -1,13 +1,11 @@
 -- What is learnt of a clause that is false: the latest of its literals, and the others (Marques-Silva and Sakallah 1996).
-use Rattle.std.specs.Prelude.{◌≡◌, ℕ, ◌+◌, ◌-◌, ◌<◌, ◌≤◌, ◌⊎◌, List, ℤ, neg_ℤ, length, unsigned_abs}
+use Rattle.std.specs.Prelude.{◌≡◌, ℕ, ◌+◌, ◌-◌, ◌<◌, ◌≤◌, ◌⊎◌, List, ℤ, neg_ℤ, length}
 use Rattle.mcs_base.specs.Listings.{IsAmong}
-use Rattle.mcs_trace.specs.Clauses.{IsClause}
-use Rattle.mcs_trace.specs.Resolution.{IsResolvent}
 use Rattle.mcs_trace.specs.Traces.{IsChainResolvent}
 use Rattle.mcs_trace.specs.declared.trace.Step.{Step}
 use Rattle.mcs_sat.specs.declared.latest.Latest.{Latest}
 use Rattle.mcs_sat.specs.declared.trail.Entry.{Entry}
-use Rattle.mcs_sat.specs.Trails.{IsFalse, IsFalseBelow, IsOnBelow, StandsAt, literal_at, reason_at}
+use Rattle.mcs_sat.specs.Trails.{IsFalse, IsFalseBelow, IsOnBelow, literal_at, reason_at}
 
 -- the latest place is the new one, or as before
 abbrev pub IsJoined : Latest → ℕ → Latest → Type 0
@@ -40,16 +38,3 @@ AreImplied entries start = (i : ℕ) → i < length entries → reason_at entrie
 pub record IsLearnt (known : List (List ℤ)) (entries : List Entry) (step : Step) : Type 0 where
   pub chain : IsChainResolvent known step.chain.items step.clause
   pub all_false : IsFalse entries step.clause
-
--- ---- literals that are dropped (Sorensson and Biere 2009)
--- the literal's variable stands before the place, by the clause of the number
-abbrev pub IsEarlyCause : List Entry → ℕ → ℤ → ℕ → Type 0
-IsEarlyCause entries start literal n = (p : ℕ) × StandsAt entries (unsigned_abs literal) p × (p < start) × (reason_at entries p ≡ n) × (0 < n)
-
--- the resolvent of two clauses, which has fewer literals than the first, is false, and one alone of them became so from the place on
-pub record IsShorter (entries : List Entry) (start : ℕ) (first second out : List ℤ) : Type 0 where
-  pub resolvent : IsResolvent first second out
-  pub fewer : length out < length first
-  pub clause : IsClause out
-  pub all_false : IsFalse entries out
-  pub single : IsSingle entries start out

@@ -7,3 +7,4 @@ pub mod States
 pub mod Searches
 pub mod Stores
 pub mod Numbering
+pub mod Marking

@@ -6,6 +6,7 @@ mod analyse;
 mod base;
 mod examine;
 mod latest;
+mod marks;
 mod model;
 mod order;
 mod outcome;

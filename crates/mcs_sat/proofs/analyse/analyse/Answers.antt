@@ -1,58 +1,67 @@
-use Rattle.mcs_sat.specs.Trails.{IsFalse}
-use Rattle.std.proofs.Common.{◌≡◌, ◌+◌, ◌++◌, ◌∷◌, [], List, ℕ, suc, ℤ, sym, subst, ◌∙◌, ap, arith, Some}
-use Rattle.mcs_trace.specs.Clauses.{IsClause}
-use Rattle.mcs_trace.specs.Traces.{IsChainResolvent, numbered}
-use Rattle.mcs_sat.specs.Learning.{IsLate, IsSingle}
+use Rattle.std.proofs.Common.{◌≡◌, ◌+◌, ◌++◌, ◌∷◌, [], ◌∙◌, Bool, false, List, ℕ, suc, ℤ, Some, length, replicate, ap, subst, sym, arith}
+use Rattle.mcs_base.specs.Listings.{IsListing}
 use Rattle.mcs_base.proofs.Each.{all_get}
+use Rattle.mcs_trace.specs.Clauses.{IsClause, LiteralBefore}
+use Rattle.mcs_trace.specs.Traces.{IsChainResolvent, numbered}
+use Rattle.mcs_sat.specs.declared.trail.Entry.{Entry}
+use Rattle.mcs_sat.specs.Learning.{IsSingle}
+use Rattle.mcs_sat.specs.Marking.{IsMarked, IsMarking, IsOfMarks}
+use Rattle.mcs_sat.specs.Trails.{IsFalse}
 use Rattle.mcs_sat.proofs.KnownLemmas.{chain-start}
+use Rattle.mcs_sat.proofs.MarkLemmas.{free-empty, late-marked, marked-start, none-marked, same-clause, single-marked}
 use Rattle.mcs_sat.proofs.analyse.analyse.Goals as goal
+use Rattle.mcs_sat.proofs.analyse.analyse.Goals.{After-marks-3-1, After-drop-marks-2}
 
-pub resolve_back-requires-clause-clause : goal.resolve_back-requires-clause-clause
-resolve_back-requires-clause-clause c =
+-- the first marks are those of the clause
+marking_at : (c : After-marks-3-1) → IsMarking c.args.trail.now.entries.items c.mark_all.new.marks.items c.row.result.now
+marking_at c =
+    let known : List (List ℤ) = c.args.clauses.now in
+    let es : List Entry = c.args.trail.now.entries.items in
     let row : List ℤ = c.row.result.now in
-    let items : c.extend_from_slice.new.self.items ≡ row = c.in_ok-extend_from_slice.ensures.items ∙ ap (λ (x : List ℤ). x ++ row) c.new-current.ensures.items in
-    subst IsClause (sym items) (all_get IsClause c.args.clauses.now c.args.index row c.requires.trail.clauses c.row.ensures)
+    let none : c.in_ok-marks.marks.items ≡ replicate c.len.result false = c.in_ok-marks.ensures.items_if_clones_equal (λ y e. e) in
+    let sized : length c.mark_all.new.marks.items ≡ length es = (let ok = c.args.trail.now.entries.ok.0 in let ok' = c.in_ok-marks.marks.ok.0 in omega (arith, c.mark_all.ensures.sized, c.in_ok-marks.ensures.len, c.len.ensures)) in
+    let (d, at, off) = c.requires.conflict in
+    let both : Some d ≡ Some row = sym at ∙ c.row.ensures in
+    let same : d ≡ row = cc in
+    marked-start es c.args.trail.now.positions.items row c.in_ok-marks.marks.items c.mark_all.new.marks.items c.requires.trail.placed (all_get IsClause known c.args.index row c.requires.trail.clauses c.row.ensures)
+    (subst (IsFalse es) same off) sized (λ q. subst (λ (xs : List Bool). ¬ IsMarked xs q) (sym none) (none-marked c.len.result q)) c.mark_all.ensures.exactly
 
-pub resolve_back-requires-clause-late : goal.resolve_back-requires-clause-late
-resolve_back-requires-clause-late c =
-    let row : List ℤ = c.row.result.now in
-    let items : c.extend_from_slice.new.self.items ≡ row = c.in_ok-extend_from_slice.ensures.items ∙ ap (λ (x : List ℤ). x ++ row) c.new-current.ensures.items in
-    subst (IsLate c.args.trail.now.entries.items c.args.start) (sym items) (c.requires.late row c.row.ensures)
-
-pub resolve_back-requires-clause-chain : goal.resolve_back-requires-clause-chain
-resolve_back-requires-clause-chain c =
+pub resolve_back-requires-clause-marked : goal.resolve_back-requires-clause-marked
+resolve_back-requires-clause-marked c =
     let known : List (List ℤ) = c.args.clauses.now in
     let row : List ℤ = c.row.result.now in
     let n : ℕ = c.args.index + 1 in
-    let items : c.extend_from_slice.new.self.items ≡ row = c.in_ok-extend_from_slice.ensures.items ∙ ap (λ (x : List ℤ). x ++ row) c.new-current.ensures.items in
-    let chain : c.push.new.self.items ≡ n ∷ [] = c.in_ok-push.ensures.items ∙ ap (λ (x : List ℕ). x ++ n ∷ []) c.new-chain.ensures.items in
     let number : n ≡ suc c.args.index = omega arith in
-    subst (λ (ns : List ℕ). IsChainResolvent known ns c.extend_from_slice.new.self.items) (sym chain) (subst (IsChainResolvent known (n ∷ [])) (sym items) (chain-start known n row (ap (numbered known) number ∙ c.row.ensures)))
+    let chain : c.push.new.self.items ≡ n ∷ [] = c.in_ok-push.ensures.items ∙ ap (λ (x : List ℕ). x ++ n ∷ []) c.new-chain.ensures.items in
+    record { clause = row; right = subst (λ (ns : List ℕ). IsChainResolvent known ns row) (sym chain) (chain-start known n row (ap (numbered known) number ∙ c.row.ensures)); marking = marking_at c }
 
--- ---- what the resolving starts with
-pub resolve_back-requires-clause-trail : goal.resolve_back-requires-clause-trail
-resolve_back-requires-clause-trail c = c.requires.trail
+pub resolve_back-requires-clause-late : goal.resolve_back-requires-clause-late
+resolve_back-requires-clause-late c = late-marked c.args.trail.now.entries.items c.mark_all.new.marks.items c.row.result.now c.args.start (marking_at c) (c.requires.late c.row.result.now c.row.ensures)
 
-pub resolve_back-requires-clause-implied : goal.resolve_back-requires-clause-implied
-resolve_back-requires-clause-implied c = c.requires.implied
-
-pub resolve_back-requires-clause-all_false : goal.resolve_back-requires-clause-all_false
-resolve_back-requires-clause-all_false c =
-    let (d, at, off) = c.requires.conflict in
-    let row : List ℤ = c.row.result.now in
-    let items : c.extend_from_slice.new.self.items ≡ row = c.in_ok-extend_from_slice.ensures.items ∙ ap (λ (x : List ℤ). x ++ row) c.new-current.ensures.items in
-    let both : Some d ≡ Some row = sym at ∙ c.row.ensures in
-    let same : d ≡ row = cc in
-    subst (IsFalse c.args.trail.now.entries.items) (same ∙ sym items) off
+-- the clause that is learnt is that of the marks
+same_at : (c : After-drop-marks-2) → c.in_ok-shorten.ensures.marked.clause ≡ c.in_ok-clause.clause
+same_at c =
+    let es : List Entry = c.args.trail.now.entries.items in
+    let marks : List Bool = c.shorten.new.marks.items in
+    let m = c.in_ok-shorten.ensures.marked in
+    let listing : IsListing (IsOfMarks es marks (length marks)) LiteralBefore c.in_ok-clause.clause = subst (λ (xs : List Bool). IsListing (IsOfMarks es xs (length xs)) LiteralBefore c.in_ok-clause.clause) c.deref.ensures.value c.in_ok-clause.ensures in
+    same-clause es marks m.clause c.in_ok-clause.clause m.marking listing
 
 pub returns-clause-learnt : goal.returns-clause-learnt
-returns-clause-learnt c = record {
-  chain = subst (IsChainResolvent c.args.clauses.now c.shorten.new.chain.items) (sym c.in-Some.ensures.0) c.in_ok-shorten.ensures.chain;
-  all_false = subst (IsFalse c.args.trail.now.entries.items) (sym c.in-Some.ensures.0) c.in_ok-shorten.ensures.all_false;
-}
+returns-clause-learnt c =
+    let m = c.in_ok-shorten.ensures.marked in
+    record {
+      chain = subst (IsChainResolvent c.args.clauses.now c.shorten.new.chain.items) (same_at c) m.right;
+      all_false = subst (IsFalse c.args.trail.now.entries.items) (same_at c) m.marking.all_false;
+    }
 
 pub returns-clause-single : goal.returns-clause-single
-returns-clause-single c = λ start. subst (IsSingle c.args.trail.now.entries.items c.args.start) (sym c.in-Some.ensures.0) (c.in_ok-shorten.ensures.single start)
+returns-clause-single c = λ some.
+    let es : List Entry = c.args.trail.now.entries.items in
+    let m = c.in_ok-shorten.ensures.marked in
+    subst (IsSingle es c.args.start) (same_at c) (single-marked es c.args.trail.now.positions.items c.shorten.new.marks.items m.clause c.args.start c.requires.trail.placed m.marking (c.in_ok-shorten.ensures.single some))
 
 pub returns-clause-empty : goal.returns-clause-empty
-returns-clause-empty c = λ none. c.in-Some.ensures.0 ∙ c.in_ok-shorten.ensures.past none ∙ c.in_ok-resolve_back.ensures.empty none
+returns-clause-empty c = λ past.
+    let m = c.in_ok-shorten.ensures.marked in
+    sym (same_at c) ∙ free-empty c.args.trail.now.entries.items c.shorten.new.marks.items m.clause m.marking (c.in_ok-shorten.ensures.past past)

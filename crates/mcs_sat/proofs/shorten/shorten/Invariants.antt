@@ -1,17 +1,15 @@
-use Rattle.std.proofs.Common.{◌-◌, length}
-use Rattle.mcs_trace.specs.Clauses.{IsClause}
-use Rattle.mcs_trace.specs.Traces.{IsChainResolvent}
-use Rattle.mcs_sat.specs.Learning.{IsSingle}
-use Rattle.mcs_sat.specs.Trails.{IsFalse}
+use Rattle.std.proofs.Common.{◌≤◌, ◌+◌, length}
+use Rattle.mcs_sat.specs.Marking.{AreFree, IsMarkedChain, IsSingleMark}
 use Rattle.mcs_sat.proofs.shorten.shorten.Given as goal
 
-abbrev pub invariant-loop-index : goal.invariant-loop-index
-invariant-loop-index l = record {
-  clause : IsClause l.current.items;
-  all_false : IsFalse l.trail.entries.items l.current.items;
-  chain : IsChainResolvent l.clauses l.chain.items l.current.items;
-  single : IsSingle l.trail.entries.items l.start l.current.items;
+abbrev pub invariant-loop-bound : goal.invariant-loop-bound
+invariant-loop-bound l = record {
+  bound : l.bound ≤ length l.trail.entries.items;
+  early : l.bound ≤ l.start;
+  marked : IsMarkedChain l.clauses l.trail.entries.items l.chain.items l.marks.items;
+  single : l.start + 1 ≤ length l.trail.entries.items → IsSingleMark l.start l.marks.items;
+  past : length l.trail.entries.items ≤ l.start → AreFree l.marks.items l.bound (length l.trail.entries.items);
 }
 
-abbrev pub decreases-loop-index : goal.decreases-loop-index
-decreases-loop-index l = length l.current.items - l.index
+abbrev pub decreases-loop-bound : goal.decreases-loop-bound
+decreases-loop-bound l = l.bound
