@@ -10,6 +10,7 @@ ghost use Rattle.mcs_sat.specs.Stores.{ArePlaces, IsFrontOf, given};
 use crate::adding::{add, cut, widen};
 use crate::order::Order;
 use crate::outcome::Outcome;
+use crate::solver::run;
 use crate::solving::{assignment_of, go_back, outcome_of};
 use crate::state::State;
 use mcs_base::Memory;
@@ -216,6 +217,15 @@ impl ClauseBase {
     {
         leave_first(&mut self.state, &mut self.order, &mut self.places, count);
         self.vars = vars;
+    }
+
+    /// Makes true what follows from the clauses without any decision, which the searches to come then begin with. The list
+    /// stays as it is.
+    pub fn settle(&mut self) -> Result<(), Memory>
+        ensures { self.new ≡ self.old }
+    {
+        let _found = run(&mut self.state)?;
+        Ok(())
     }
 
     /// An assignment that satisfies the clauses, with a value for each variable; or, exactly where there is none, a trace

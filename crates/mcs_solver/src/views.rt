@@ -22,7 +22,7 @@ ghost use Rattle.mcs_solver.specs.Certified.{IsCertified};
 use mcs_base::{Memory, Vars};
 use mcs_certificate::AnswerCert;
 use mcs_classical::outputs_in;
-use mcs_cnf::{clauses, push_formula};
+use mcs_cnf::push_formula;
 use mcs_default::{extensions_from, list_extensions};
 use mcs_program::{answer_sets_from, list_answer_sets};
 use mcs_sat::ClauseBase;
@@ -97,15 +97,37 @@ fn view_with(
     shown
 }
 
+/// Adds the clauses of the formulas, one formula after the other, and makes true what follows from them; where memory
+/// runs out, those of the first ones alone.
+fn keep_formulas(
+    alloc: Global,
+    known: &mut ClauseBase,
+    formulas: &[Formula],
+    atoms: &[Name],
+) -> Result<(), Memory>
+    requires over { AreOver atoms.now (map formula_of formulas.now) }
+    requires room { length atoms.now ≤ known.old.vars }
+    ensures { OnOk result (known.new ≡ with_formulas atoms.now known.old (map formula_of formulas.now)) }
+{
+    for formula in formulas {
+        push_heads(alloc, known, &[formula], atoms)?;
+    }
+    known.settle()
+}
+
 /// The clauses of the formulas, made ready for searches.
 fn made_clauses(alloc: Global, formulas: &[Formula], atoms: &[Name]) -> Result<ClauseBase, Memory>
     requires { AreOver atoms.now (map formula_of formulas.now) }
     ensures { IfOk result (λ c. c ≡ clause_list atoms.now (map formula_of formulas.now)) }
 {
-    let made = clauses(alloc, formulas, atoms)?;
-    let known = ClauseBase::of(alloc, &made);
-    drop(made);
-    known
+    let mut known = ClauseBase::new(alloc, atoms.len() as u64)?;
+    match keep_formulas(alloc, &mut known, formulas, atoms) {
+        Ok(()) => Ok(known),
+        Err(error) => {
+            drop(known);
+            Err(error)
+        }
+    }
 }
 
 /// The clauses of the formulas, taken from where they are kept, or made.
