@@ -2,3 +2,10 @@ pub mod LineLemmas
 pub mod WalkLemmas
 pub mod VerdictLemmas
 pub mod ProgramLemmas
+pub mod Readings
+pub mod ReadingSequences
+pub mod ReadingLists
+pub mod WordReadings
+pub mod TraceReadings
+pub mod ReadingRuns
+pub mod NumberReadings

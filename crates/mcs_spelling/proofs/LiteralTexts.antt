@@ -250,7 +250,7 @@ step_spelled line s e =
     read line rest numbers by literals clause chain s a c d f g is
 
 -- ---- as it is told
-shape_from : (s : Inference) (chain : List ℕ) → s.chain ≡ chain → IsClause s.clause → ¬ (chain ≡ []) → AllByRecursion IsSmallNumber chain → IsStepShape s
+pub shape_from : (s : Inference) (chain : List ℕ) → s.chain ≡ chain → IsClause s.clause → ¬ (chain ≡ []) → AllByRecursion IsSmallNumber chain → IsStepShape s
 shape_from s [] is clause some numbers = absurd (some refl)
 shape_from s (n ∷ ns) is clause some numbers = record { clause = clause; first = n; others = ns; chain = is; readable = numbers.0; others_readable = numbers.1 }
 

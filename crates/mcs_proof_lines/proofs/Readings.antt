@@ -1,0 +1,167 @@
+-- Readings that are exact: what is read is spelled, what is spelled is read, and a reading that fails names the first line that is out of place.
+use Rattle.std.proofs.Common.{◌≡◌, ℕ, ◌+◌, ◌<◌, ◌≤◌, zero, suc, List, [], ◌∷◌, ◌++◌, length, take, drop, Option, Some, None, Ok, Err, refl, sym, ap, ◌∙◌, subst, arith}
+use Rattle.std.specs.Option.{option_and_then}
+use Rattle.mcs_spelling.specs.Words.{step_of}
+use Rattle.mcs_proof_lines.specs.Walks.{At, Reading, head_of, line_at, taken_at, advanced}
+
+-- so many lines taken, and these to come
+abbrev pub here : ℕ → List (List ℕ) → List ℕ → At
+here n rest tail = record { taken = n; rest = rest; tail = tail }
+
+-- the next line, if there is one, is no step
+abbrev pub Stops : List (List ℕ) → Type 0
+Stops rest = option_and_then step_of (head_of rest) ≡ None
+
+-- the lines of the value were read
+pub record IsReadOf {A : Type 0} (Is : A → Type 0) (lines : A → List (List ℕ)) (at now : At) (x : A) : Type 0 where
+  pub is : Is x
+  pub rest : at.rest ≡ lines x ++ now.rest
+  pub taken : now.taken ≡ at.taken + length (lines x)
+  pub tail : now.tail ≡ at.tail
+
+-- the lines begin those of a value
+pub record IsBegun {A : Type 0} (Is : A → Type 0) (lines : A → List (List ℕ)) (front : List (List ℕ)) : Type 0 where
+  pub value : A
+  pub is : Is value
+  pub more : List (List ℕ)
+  pub lines_are : lines value ≡ front ++ more
+
+-- the first k lines, if they are any, begin those of a value, and the line after them has this number
+pub record IsStuckAt {A : Type 0} (Is : A → Type 0) (lines : A → List (List ℕ)) (at : At) (n k : ℕ) : Type 0 where
+  pub number : n ≡ at.taken + k + 1
+  pub within : k ≤ length at.rest
+  pub begun : 0 < k → IsBegun Is lines (take k at.rest)
+
+-- the same of the first line
+pub stuck_first_line : {A : Type 0} (Is : A → Type 0) (lines : A → List (List ℕ)) (at : At) (n : ℕ) → n ≡ at.taken + 0 + 1 → IsStuckAt Is lines at n 0
+stuck_first_line Is lines at n number = record { number = number; within = omega arith; begun = λ less. absurd (omega (arith, less)) }
+
+-- the reading reads the lines of just these values, where what follows is as it has to be
+pub record Reads {A : Type 0} (Is : A → Type 0) (lines : A → List (List ℕ)) (End : List (List ℕ) → Type 0) (p : At → Reading A) : Type 0 where
+  pub sound : (at now : At) (x : A) → p at ≡ Ok (x, now) → IsReadOf Is lines at now x
+  pub complete : (x : A) (n : ℕ) (more : List (List ℕ)) (tail : List ℕ) → Is x → End more → p (here n (lines x ++ more) tail) ≡ Ok (x, here (n + length (lines x)) more tail)
+  pub fault : (at : At) (n : ℕ) → p at ≡ Err n → (k : ℕ) × IsStuckAt Is lines at n k
+  -- only the lines up to the one out of place matter
+  pub local : (at : At) (k : ℕ) (rest : List (List ℕ)) (tail : List ℕ) → p at ≡ Err (at.taken + k + 1) → k < length at.rest → take (k + 1) rest ≡ take (k + 1) at.rest → p (here at.taken rest tail) ≡ Err (at.taken + k + 1)
+  -- only the lines that are read, and the next one, matter
+  pub stable : (at now : At) (x : A) (rest : List (List ℕ)) (tail : List ℕ) → p at ≡ Ok (x, now) → head_of rest ≡ head_of now.rest → p (here at.taken (lines x ++ rest) tail) ≡ Ok (x, here now.taken rest tail)
+
+-- ---- heads and fronts
+head_take : (k : ℕ) (xs : List (List ℕ)) → head_of (take (k + 1) xs) ≡ head_of xs
+head_take k [] = let e : k + 1 ≡ suc k = omega arith in rw e refl
+head_take k (x ∷ xs) = let e : k + 1 ≡ suc k = omega arith in rw e refl
+
+pub same_head : (k : ℕ) (xs ys : List (List ℕ)) → take (k + 1) xs ≡ take (k + 1) ys → head_of xs ≡ head_of ys
+same_head k xs ys e = sym (head_take k xs) ∙ ap head_of e ∙ head_take k ys
+
+pub head_after : (ls xs ys : List (List ℕ)) → head_of xs ≡ head_of ys → head_of (ls ++ xs) ≡ head_of (ls ++ ys)
+head_after [] xs ys e = e
+head_after (l ∷ ls) xs ys e = refl
+
+-- lines of which a front is known
+pub split_front : {A : Type 0} (front xs ys : List A) (j k : ℕ) → k ≡ length front + j → take k xs ≡ front ++ ys → (xs ≡ front ++ drop (length front) xs) × (take j (drop (length front) xs) ≡ ys)
+split_front [] xs ys j k is e = (refl, let same : j ≡ k = omega (arith, is) in ap (λ (n : ℕ). take n xs) same ∙ e)
+split_front (f ∷ front) xs ys j zero is e = absurd (omega (arith, is))
+split_front (f ∷ front) [] ys j (suc k) is e = absurd (cc)
+split_front {A = A} (f ∷ front) (x ∷ xs) ys j (suc k) is e =
+    let less : k ≡ length front + j = omega (arith, is) in
+    let first : x ≡ f = cc in
+    let rest : take k xs ≡ front ++ ys = cc in
+    let again = split_front front xs ys j k less rest in
+    (ap (λ (y : A). y ∷ xs) first ∙ ap (λ (zs : List A). f ∷ zs) again.0, again.1)
+
+-- what two readings that are the same gave
+pub same_reading : {A : Type 0} (x y : A) (a b : At) → ◌≡◌ {A = Reading A} (Ok (x, a)) (Ok (y, b)) → (x ≡ y) × (a ≡ b)
+same_reading {A = A} x y a b e = let same : ◌≡◌ {A = A × At} (x, a) (y, b) = cc in (ap (λ (r : A × At). r.0) same, ap (λ (r : A × At). r.1) same)
+
+advanced_line : (n : ℕ) (line : List ℕ) (rest : List (List ℕ)) (tail : List ℕ) → advanced (here n (line ∷ rest) tail) ≡ here (n + 1) rest tail
+unfolding advanced
+advanced_line n line rest tail = refl
+
+-- ---- other words for the same
+module _ {A : Type 0} (Is Is' : A → Type 0) (lines lines' : A → List (List ℕ)) (End : List (List ℕ) → Type 0) (p p' : At → Reading A)
+    (h : Reads Is lines End p) (to : (x : A) → Is x → Is' x) (from : (x : A) → Is' x → Is x) (eq : (x : A) → Is x → lines x ≡ lines' x) (same : (at : At) → p at ≡ p' at) where
+  begun_same : (front : List (List ℕ)) → IsBegun Is lines front → IsBegun Is' lines' front
+  begun_same front b = record { value = b.value; is = to b.value b.is; more = b.more; lines_are = sym (eq b.value b.is) ∙ b.lines_are }
+
+  pub reads_same : Reads Is' lines' End p'
+  reads_same = record {
+    sound = λ at now x e. (let r = h.sound at now x (same at ∙ e) in record {
+      is = to x r.is;
+      rest = r.rest ∙ ap (λ (ls : List (List ℕ)). ls ++ now.rest) (eq x r.is);
+      taken = r.taken ∙ ap (λ (ls : List (List ℕ)). at.taken + length ls) (eq x r.is);
+      tail = r.tail;
+    });
+    complete = λ x n more tail is end. (let P : List (List ℕ) → Type 0 = λ ls. p' (here n (ls ++ more) tail) ≡ Ok (x, here (n + length ls) more tail) in
+        subst P (eq x (from x is)) (sym (same (here n (lines x ++ more) tail)) ∙ h.complete x n more tail (from x is) end));
+    fault = λ at n e. (let (k, s) = h.fault at n (same at ∙ e) in (k, record { number = s.number; within = s.within; begun = λ less. begun_same (take k at.rest) (s.begun less) }));
+    local = λ at k rest tail e less front. sym (same (here at.taken rest tail)) ∙ h.local at k rest tail (same at ∙ e) less front;
+    stable = λ at now x rest tail e next. (let r = h.sound at now x (same at ∙ e) in let P : List (List ℕ) → Type 0 = λ ls. p' (here at.taken (ls ++ rest) tail) ≡ Ok (x, here now.taken rest tail) in
+        subst P (eq x r.is) (sym (same (here at.taken (lines x ++ rest) tail)) ∙ h.stable at now x rest tail (same at ∙ e) next));
+  }
+
+-- ---- a line
+-- the function reads the lines of just these values
+pub record ReadsLine {A : Type 0} (Is : A → Type 0) (text : A → List ℕ) (f : List ℕ → Option A) : Type 0 where
+  pub sound : (line : List ℕ) (x : A) → f line ≡ Some x → Is x × (line ≡ text x)
+  pub complete : (x : A) → Is x → f (text x) ≡ Some x
+
+abbrev pub one_line : {A : Type 0} → (A → List ℕ) → A → List (List ℕ)
+one_line text x = text x ∷ []
+
+abbrev pub Anything : List (List ℕ) → Type 0
+Anything more = Unit {0}
+
+abbrev pub picked : {A : Type 0} → (List ℕ → Option A) → At → Reading A
+picked f at = taken_at at (line_at f at)
+
+module _ {A : Type 0} (Is : A → Type 0) (text : A → List ℕ) (f : List ℕ → Option A) (h : ReadsLine Is text f) where
+  line_sound : (n : ℕ) (rest : List (List ℕ)) (tail : List ℕ) (now : At) (x : A) → picked f (here n rest tail) ≡ Ok (x, now) → IsReadOf Is (one_line text) (here n rest tail) now x
+  line_sound n [] tail now x e = absurd (cc)
+  line_sound n (line ∷ rest) tail now x e = at (f line) refl e
+    where
+      at : (o : Option A) → f line ≡ o → taken_at (here n (line ∷ rest) tail) o ≡ Ok (x, now) → IsReadOf Is (one_line text) (here n (line ∷ rest) tail) now x
+      at None was e = absurd (cc)
+      at (Some y) was e =
+          let parts = same_reading y x (advanced (here n (line ∷ rest) tail)) now e in
+          let same : y ≡ x = parts.0 in
+          let moved : here (n + 1) rest tail ≡ now = sym (advanced_line n line rest tail) ∙ parts.1 in
+          let (is, spelled) = h.sound line x (was ∙ ap (λ (z : A). Some z) same) in
+          record {
+            is = is;
+            rest = ap (λ (l : List ℕ). l ∷ rest) spelled ∙ ap (λ (a : At). text x ∷ a.rest) moved;
+            taken = ap (λ (a : At). a.taken) (sym moved) ∙ omega arith;
+            tail = ap (λ (a : At). a.tail) (sym moved);
+          }
+
+  line_complete : (x : A) (n : ℕ) (more : List (List ℕ)) (tail : List ℕ) → Is x → picked f (here n (one_line text x ++ more) tail) ≡ Ok (x, here (n + length (one_line text x)) more tail)
+  unfolding advanced
+  line_complete x n more tail is =
+      let one : n + length (text x ∷ []) ≡ n + 1 = omega arith in
+      ap (taken_at (here n (text x ∷ more) tail)) (h.complete x is) ∙ ap (λ (m : ℕ). Ok (x, here m more tail)) (sym one)
+
+  line_fault : (n : ℕ) (rest : List (List ℕ)) (tail : List ℕ) (m : ℕ) → picked f (here n rest tail) ≡ Err m → (m ≡ n + 0 + 1) × (option_and_then f (head_of rest) ≡ None)
+  line_fault n rest tail m e = at (option_and_then f (head_of rest)) refl e
+    where
+      at : (o : Option A) → option_and_then f (head_of rest) ≡ o → taken_at (here n rest tail) o ≡ Err m → (m ≡ n + 0 + 1) × (option_and_then f (head_of rest) ≡ None)
+      at None was e = (let same : n + 1 ≡ m = cc in omega (arith, same), was)
+      at (Some y) was e = absurd (cc)
+
+  line_stable : (n : ℕ) (rest0 : List (List ℕ)) (tail0 : List ℕ) (now : At) (x : A) (rest : List (List ℕ)) (tail : List ℕ) → picked f (here n rest0 tail0) ≡ Ok (x, now) → picked f (here n (one_line text x ++ rest) tail) ≡ Ok (x, here now.taken rest tail)
+  line_stable n rest0 tail0 now x rest tail e =
+      let r = line_sound n rest0 tail0 now x e in
+      line_complete x n rest tail r.is ∙ ap (λ (m : ℕ). Ok (x, here m rest tail)) (sym r.taken)
+
+  pub reads_line : Reads Is (one_line text) Anything (picked f)
+  reads_line = record {
+    sound = λ at now x e. line_sound at.taken at.rest at.tail now x e;
+    complete = λ x n more tail is end. line_complete x n more tail is;
+    fault = λ at n e. (0, stuck_first_line Is (one_line text) at n (line_fault at.taken at.rest at.tail n e).0);
+    local = λ at k rest tail e less front. (
+        let (number, none) = line_fault at.taken at.rest at.tail (at.taken + k + 1) e in
+        let first : k ≡ 0 = omega (arith, number) in
+        let other : option_and_then f (head_of rest) ≡ None = ap (option_and_then f) (same_head k rest at.rest front) ∙ none in
+        let one : at.taken + 1 ≡ at.taken + k + 1 = omega (arith, first) in
+        ap (taken_at (here at.taken rest tail)) other ∙ ap (λ (m : ℕ). Err m) one);
+    stable = λ at now x rest tail e next. line_stable at.taken at.rest at.tail now x rest tail e;
+  }

@@ -1,0 +1,12 @@
+use Rattle.std.proofs.Common.{◌≡◌, map, count_by, sym, ap, ◌∙◌, arith}
+use Rattle.mcs_system.specs.Faults.{is_default, default_count}
+use Rattle.mcs_system.specs.Seen.{item_of, kb_of}
+use Rattle.mcs_certificate.proofs.KindLemmas.{defaults_counted}
+use Rattle.mcs_proof_reader.proofs.answer.take_shown.Goals as goal
+
+pub take_default-requires-clause-few : goal.take_default-requires-clause-few
+take_default-requires-clause-few c =
+    let counted = defaults_counted (map item_of c.deref.result.now) in
+    let same : count_by is_default (map item_of c.deref.result.now) ≡ default_count (kb_of c.args.kb.now) =
+    ap (λ xs. count_by is_default (map item_of xs)) c.deref.ensures.value ∙ sym (ap (λ kb. default_count (kb_of kb)) c.in-DefaultTheory.is) in
+    omega (arith, c.requires.few, counted, same)

@@ -1,0 +1,5 @@
+pub mod Questions
+pub mod Answers
+pub mod Readers
+pub mod Listings
+pub mod Whole

@@ -1,0 +1,198 @@
+//! The answers of a report, read one by one.
+
+ghost use Rattle.std.specs.Prelude.{◌≡◌, ◌≤◌, ◌<◌, ◌+◌, ◌∷◌, [], map, length, IfOk, Some};
+ghost use Rattle.mcs_system.specs.Faults.{default_count};
+ghost use Rattle.mcs_system.specs.Seen.{item_of, kb_of};
+ghost use Rattle.mcs_cnf.specs.Entailments.{entailment_of};
+ghost use Rattle.mcs_evidence.specs.Defaults.{defaults_of};
+ghost use Rattle.mcs_certificate.specs.Certificates.{OfFormulas};
+ghost use Rattle.mcs_proof_lines.specs.Walks.{Gives};
+ghost use Rattle.mcs_proof_reader.specs.Answers.{classical_at, default_at, models_at, shown_at, answer_at};
+ghost use Rattle.mcs_proof_reader.specs.Readers.{answer_of, shown_of_code, AreTexts};
+
+use crate::question::{next_question, next_state, take_states};
+use crate::texts::{Texts, just_counts, name_texts};
+use mcs_base::{Active, Memory, Vars};
+use mcs_certificate::AnswerCert;
+use mcs_proof_lines::{
+    Lines, ReportFault, Theory, expect, out_of_place, take_entailments, take_program, take_verdicts,
+};
+use mcs_system::{Kb, System, TheoryItem};
+use mcs_trace::{ClassicalCert, DefaultCert, Entail};
+use std::alloc::Global;
+
+/// An answer of a report: the number of its first line, counted from 1, the question, the states that are put out,
+/// and what is to show that these are all.
+#[derive(Drop)]
+pub struct ReportAnswer {
+    pub line: u64,
+    pub context: u32,
+    pub active: Active,
+    pub outputs: Vec<Vars>,
+    pub cert: AnswerCert,
+}
+
+/// What is put out, and why.
+#[derive(Drop)]
+struct Shown {
+    outputs: Vec<Vars>,
+    cert: AnswerCert,
+}
+
+/// One state, and what shows it.
+fn one_output(alloc: Global, state: Vars, entails: Vec<Entail>) -> Result<Shown, Memory>
+    ensures { IfOk result (λ s. shown_of_code s ≡ (state ∷ [], OfFormulas (map entailment_of entails.items))) }
+{
+    let mut outputs = Vec::new(alloc);
+    match outputs.push(state) {
+        Ok(()) => Ok(Shown {
+            outputs,
+            cert: AnswerCert::Classical(ClassicalCert { entails }),
+        }),
+        Err(refused) => {
+            drop(entails);
+            Err(Memory::from(refused))
+        }
+    }
+}
+
+/// Takes what a context of formulas puts out.
+#[tactic(auto, unfolding(crate::specs::Answers::classical_at))]
+fn take_classical(
+    alloc: Global,
+    system: &System,
+    texts: &Texts,
+    context: u32,
+    lines: &mut Lines<'_>,
+) -> Result<Shown, ReportFault>
+    requires context { context < length system.now.contexts }
+    requires texts { AreTexts system.now texts.now }
+    ensures { Gives shown_of_code result lines.new (classical_at system.now context lines.old) }
+{
+    let allowed = system.vars_of(context);
+    let Some(state) = next_state(system, texts, allowed, None, lines) else {
+        return Err(out_of_place(lines));
+    };
+    lines.advance();
+    let atoms = name_texts(alloc, system.atoms_of(context))?;
+    let entails = take_entailments(alloc, &atoms, allowed.count() as usize, lines)?;
+    Ok(one_output(alloc, state, entails)?)
+}
+
+/// Takes what a default theory puts out.
+#[tactic(auto, unfolding(crate::specs::Answers::default_at))]
+fn take_default(
+    alloc: Global,
+    system: &System,
+    texts: &Texts,
+    context: u32,
+    items: &[TheoryItem],
+    lines: &mut Lines<'_>,
+) -> Result<Shown, ReportFault>
+    requires context { context < length system.now.contexts }
+    requires texts { AreTexts system.now texts.now }
+    requires few { length (defaults_of (map item_of items.now)) ≤ 10 }
+    ensures { Gives shown_of_code result lines.new (default_at system.now context (map item_of items.now) lines.old) }
+{
+    let allowed = system.vars_of(context);
+    let outputs = take_states(alloc, system, texts, allowed, lines)?;
+    let atoms = name_texts(alloc, system.atoms_of(context))?;
+    let justs = just_counts(alloc, items)?;
+    let theory = Theory {
+        atoms: &atoms,
+        numbers: &texts.numbers,
+        justs: &justs,
+        beliefs: allowed.count() as usize,
+    };
+    match take_verdicts(alloc, &theory, lines) {
+        Ok(sets) => Ok(Shown {
+            outputs,
+            cert: AnswerCert::Default(DefaultCert { sets }),
+        }),
+        Err(fault) => Err(fault),
+    }
+}
+
+/// Takes what a program puts out.
+#[tactic(auto, unfolding(crate::specs::Answers::models_at))]
+fn take_models(
+    alloc: Global,
+    system: &System,
+    texts: &Texts,
+    context: u32,
+    lines: &mut Lines<'_>,
+) -> Result<Shown, ReportFault>
+    requires context { context < length system.now.contexts }
+    requires texts { AreTexts system.now texts.now }
+    ensures { Gives shown_of_code result lines.new (models_at system.now context lines.old) }
+{
+    let allowed = system.vars_of(context);
+    let outputs = take_states(alloc, system, texts, allowed, lines)?;
+    let atoms = name_texts(alloc, system.atoms_of(context))?;
+    match take_program(alloc, &atoms, outputs.len(), lines) {
+        Ok(cert) => Ok(Shown {
+            outputs,
+            cert: AnswerCert::Program(cert),
+        }),
+        Err(fault) => Err(fault),
+    }
+}
+
+/// Takes what the context puts out, by its kind.
+fn take_shown(
+    alloc: Global,
+    system: &System,
+    texts: &Texts,
+    context: u32,
+    kb: &Kb,
+    lines: &mut Lines<'_>,
+) -> Result<Shown, ReportFault>
+    requires context { context < length system.now.contexts }
+    requires texts { AreTexts system.now texts.now }
+    requires few { default_count (kb_of kb.now) ≤ 10 }
+    ensures { Gives shown_of_code result lines.new (shown_at system.now context (kb_of kb.now) lines.old) }
+{
+    match kb {
+        Kb::Classical(_) => take_classical(alloc, system, texts, context, lines),
+        Kb::DefaultTheory(items) => take_default(alloc, system, texts, context, items, lines),
+        Kb::Program(_) => take_models(alloc, system, texts, context, lines),
+    }
+}
+
+/// Takes an answer to a question that comes after the last one, by context, and then by rule set. The texts are those of
+/// the system.
+#[tactic(auto, unfolding(crate::specs::Answers::answer_at))]
+pub fn take_answer(
+    alloc: Global,
+    system: &System,
+    texts: &Texts,
+    last: Option<(u32, Active)>,
+    lines: &mut Lines<'_>,
+) -> Result<ReportAnswer, ReportFault>
+    requires { AreTexts system.now texts.now }
+    ensures read { Gives answer_of result lines.new (answer_at system.now last lines.old) }
+    ensures line { IfOk result (λ a. a.line ≡ lines.old.taken + 1) }
+    ensures shorter { IfOk result (λ a. length lines.new.rest < length lines.old.rest) }
+{
+    let line = lines.number();
+    let Some(question) = next_question(system, texts, last, lines) else {
+        return Err(out_of_place(lines));
+    };
+    let context = question.0;
+    lines.advance();
+    let kb = &system.contexts()[context as usize].kb;
+    let Shown { outputs, cert } = take_shown(alloc, system, texts, context, kb, lines)?;
+    match expect(lines, b"done") {
+        Ok(()) => Ok(ReportAnswer {
+            line,
+            context,
+            active: question.1,
+            outputs,
+            cert,
+        }),
+        Err(fault) => {
+            drop((outputs, cert));
+            Err(fault)
+        }
+    }
+}
