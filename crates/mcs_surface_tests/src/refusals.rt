@@ -1,6 +1,6 @@
 //! Texts that are refused, and what is noted of them.
 
-use crate::runs::{is_refused, repeated};
+use crate::runs::{SELF_SUPPORT, SOUND, ends, is_refused, repeated};
 use std::test::Fail;
 
 const REFUSALS: [(&str, &str); 5] = [
@@ -42,6 +42,26 @@ fn a_large_formula_is_refused(rt: HostRuntime) -> Result<(), Fail> {
             rt.alloc(),
             &text,
             "mcs: refused: F5 at 535: formula_size 512\n"
+        )?
+    );
+    Ok(())
+}
+
+#[test]
+fn the_file_is_read_before_its_report(rt: HostRuntime) -> Result<(), Fail> {
+    let words = ["check", "f", "r"];
+    let (faulty, line) = ("context", "mcs: refused: F1 at 7\n");
+    assert!(rt; ends(rt.alloc(), &words, faulty.as_bytes(), SOUND, 3, "", line)?);
+    let missing = "mcs: read fault\n";
+    assert!(rt;
+        ends(
+            rt.alloc(),
+            &words,
+            SELF_SUPPORT.as_bytes(),
+            SOUND,
+            5,
+            "",
+            missing
         )?
     );
     Ok(())

@@ -9,6 +9,7 @@ use std::test::Fail;
 fn statuses_have_their_numbers(rt: HostRuntime) -> Result<(), Fail> {
     assert!(rt;
         Status::Done.number() == 0
+            && Status::NotValid.number() == 1
             && Status::Usage.number() == 2
             && Status::Refused.number() == 3
             && Status::Unfinished.number() == 4

@@ -3,14 +3,13 @@
 use crate::runs::{SELF_SUPPORT, SELF_SUPPORT_LISTING, SOUND, ends};
 use std::test::Fail;
 
-const NO_JOBS: [&[&str]; 14] = [
+const NO_JOBS: [&[&str]; 13] = [
     &[],
     &["equilibria"],
     &["equilibria", ""],
     &["equilibria", "-"],
     &["solve", "f", "--proof", "--proof"],
-    &["check", "f", "r"],
-    &["solve", "f", "--proof"],
+    &["check", "f"],
     &["equilibria", "f", "--workers", "0"],
     &["equilibria", "f", "--budget", "5", "--budget", "5"],
     &["equilibria", "f", "f"],

@@ -26,7 +26,13 @@ fn told(alloc: Global, job: &Job) -> Result<String, Memory> {
             file,
             budget,
             workers,
-        } => { Ok(format!(in alloc; "solve {file}, budget {budget}, workers {workers}")?) }
+            proof,
+        } => {
+            Ok(format!(in alloc;
+                "solve {file}, budget {budget}, workers {workers}, proof {proof}"
+            )?)
+        }
+        Job::Check { file, report } => { Ok(format!(in alloc; "check {report} on {file}")?) }
         Job::Make {
             number,
             budget,
@@ -54,9 +60,15 @@ equilibria f --workers 2 --budget 0007 => equilibria of f, budget 7, workers 2
 equilibria -- --budget => equilibria of --budget, budget 100000, workers 1
 -- equilibria -- => equilibria of --, budget 100000, workers 1
 --budget 0000000000000000000000000000000000001 -- equilibria -x => equilibria of -x, budget 1, workers 1
-solve f => solve f, budget 100000, workers 1
-solve f --workers=3 => solve f, budget 100000, workers 3
-solve -- --proof => solve --proof, budget 100000, workers 1
+equilibria f --proof => equilibria of f, budget 100000, workers 1
+solve f => solve f, budget 100000, workers 1, proof false
+solve f --workers=3 => solve f, budget 100000, workers 3, proof false
+solve -- --proof => solve --proof, budget 100000, workers 1, proof false
+solve f --proof => solve f, budget 100000, workers 1, proof true
+--proof --budget 5 solve f => solve f, budget 5, workers 1, proof true
+check f r => check r on f
+check --budget 5 f --proof r => check r on f
+check -- -f --proof => check --proof on -f
 make 0 => make 0, budget 100000, workers 1
 make 007 --budget 2 => make 7, budget 2, workers 1
 make 4294967295 => make 4294967295, budget 100000, workers 1
@@ -112,14 +124,12 @@ equilibria f --proof --proof
 solve
 solve f r
 solve f --budget 5 --budget 5
-solve f --proof
 solve f --proof=true
 solve --proof --proof f
 check f
 check f  --proof
 check f -
 check  r
-check f r
 check f r x
 check f r --workers 0
 make

@@ -11,8 +11,9 @@ use Rattle.mcs_top.specs.declared.status.Status.{Status}
 use Rattle.mcs_top.specs.declared.status.Status.TheVariants as statuses
 use Rattle.mcs_top.specs.Jobs.{File}
 use Rattle.mcs_top.specs.Endings.{line_of, status_of, refusal_line, unfinished_line, stop_for_words, IsTold, IsToldAs}
-use Rattle.mcs_top.specs.Promise.{IsRefusal, LacksBudget, budget_of, WritesBeyond, StopsBeyond, LacksFile, CanBeDone, WritesOutput, WritesStage, TellsRefusal, Notes, IsUnlessMemory, HasCause, LeavesText}
-use Rattle.mcs_top.proofs.RefusalLemmas.{whole_front, output_not_short, short_not_refused, beyond_not_refused, beyond_not_missing, beyond_is_stage, can_not_beyond, output_not_refused, output_not_missing, stage_not_refused, can_not_refused, stage_not_missing, refusal_not_missing}
+use Rattle.mcs_top.specs.Promise.{IsRefusal, LacksBudget, budget_of, WritesBeyond, StopsBeyond, LacksFile, CanBeDone, CanBeRejected, EndsSo, WritesOutput, WritesRejection, WritesStage, TellsRefusal, Notes, IsUnlessMemory, HasCause, LeavesText}
+use Rattle.mcs_top.specs.declared.ending.Outcome.TheVariants as outcomes
+use Rattle.mcs_top.proofs.RefusalLemmas.{whole_front, output_not_short, short_not_refused, beyond_not_refused, beyond_not_missing, beyond_is_stage, can_not_beyond, output_not_refused, output_not_missing, stage_not_refused, can_not_refused, stage_not_missing, refusal_not_missing, rejection_not_refused, rejection_not_short, rejection_not_missing, rejected_not_refused, rejected_not_beyond}
 
 -- ---- what a stop is told as
 pub told_status : (stop : Stop) (status : Status) (before now : Device) → IsTold stop status before now → IsUnlessMemory (status_of stop) status
@@ -67,6 +68,17 @@ module _ (stop : Stop) (status : Status) (before now : Device) (told : IsTold st
   never_done is = at stop (own_line stop status statuses.Done before now told is (λ e. cc)).0
     where
       at : (s : Stop) → status_of s ≡ statuses.Done → ⊥
+      at stops.Usage e = cc
+      at (stops.Refused why) e = cc
+      at (stops.Unfinished level budget) e = cc
+      at stops.ReadFault e = cc
+      at stops.WriteFault e = cc
+      at stops.Memory e = cc
+
+  pub never_not_valid : status ≡ statuses.NotValid → ⊥
+  never_not_valid is = at stop (own_line stop status statuses.NotValid before now told is (λ e. cc)).0
+    where
+      at : (s : Stop) → status_of s ≡ statuses.NotValid → ⊥
       at stops.Usage e = cc
       at (stops.Refused why) e = cc
       at (stops.Unfinished level budget) e = cc
@@ -148,6 +160,19 @@ module _ (stop : Stop) (status : Status) (before now : Device) (told : IsTold st
         at stops.Usage (Some fs) due h left = absurd h
         at (stops.Refused r) (Some fs) due h left = λ can calm quiet. absurd (can_not_refused r job fs can h)
         at (stops.Unfinished level budget) (Some fs) due h left = λ can calm quiet. absurd (can_not_beyond left.text level job fs can left.holds)
+        at stops.ReadFault (Some fs) due h left = λ can calm quiet. absurd (calm h)
+        at stops.WriteFault (Some fs) due h left = λ can calm quiet. absurd (quiet h)
+        at stops.Memory (Some fs) due h left = λ can calm quiet. elim due [ inl is ↦ inr is | inr is ↦ inr is ]
+
+    pub stop_rejects : IfSome files (λ fs. CanBeRejected job fs → ¬ shelf-rose → ¬ sink-rose → IsUnlessMemory statuses.NotValid status)
+    stop_rejects = at stop files (told_status stop status before now told) cause leaves
+      where
+        at : (s : Stop) (fs : Option (List File)) → IsUnlessMemory (status_of s) status → HasCause s shelf-rose sink-rose job fs → LeavesText s job fs first last
+            → IfSome fs (λ gs. CanBeRejected job gs → ¬ shelf-rose → ¬ sink-rose → IsUnlessMemory statuses.NotValid status)
+        at s None due h left = tt
+        at stops.Usage (Some fs) due h left = absurd h
+        at (stops.Refused r) (Some fs) due h left = λ can calm quiet. absurd (rejected_not_refused r job fs can h)
+        at (stops.Unfinished level budget) (Some fs) due h left = λ can calm quiet. absurd (rejected_not_beyond left.text level job fs can left.holds)
         at stops.ReadFault (Some fs) due h left = λ can calm quiet. absurd (calm h)
         at stops.WriteFault (Some fs) due h left = λ can calm quiet. absurd (quiet h)
         at stops.Memory (Some fs) due h left = λ can calm quiet. elim due [ inl is ↦ inr is | inr is ↦ inr is ]
@@ -248,17 +273,56 @@ module _ (status : Status) (want : status ≡ statuses.OutOfMemory) (job : Reque
   memory_completes None shelf-rose sink-rose = tt
   memory_completes (Some fs) shelf-rose sink-rose = λ can calm quiet. inr want
 
+  pub memory_rejects : (files : Option (List File)) (shelf-rose sink-rose : Type 0) → IfSome files (λ fs. CanBeRejected job fs → ¬ shelf-rose → ¬ sink-rose → IsUnlessMemory statuses.NotValid status)
+  memory_rejects None shelf-rose sink-rose = tt
+  memory_rejects (Some fs) shelf-rose sink-rose = λ can calm quiet. inr want
+
 -- ---- a job that was done
 module _ (status : Status) (job : Request) (first last : Option (List ℕ)) where
-  pub done_refuses : (files : Option (List File)) (shelf-rose : Type 0) → IfSome files (WritesOutput first last job) → IfSome files (λ fs. (why : Refusal) → IsRefusal why job fs → ¬ shelf-rose → IsUnlessMemory statuses.Refused status)
+  pub done_refuses : (files : Option (List File)) (shelf-rose : Type 0) → IfSome files (EndsSo outcomes.Done first last job)
+      → IfSome files (λ fs. (why : Refusal) → IsRefusal why job fs → ¬ shelf-rose → IsUnlessMemory statuses.Refused status)
   done_refuses None shelf-rose h = tt
-  done_refuses (Some fs) shelf-rose h = λ why reason calm. absurd (output_not_refused h.text why job fs h.holds reason)
+  done_refuses (Some fs) shelf-rose h = λ why reason calm. absurd (output_not_refused h.writes.text why job fs h.writes.holds reason)
 
-  pub done_misses : (files : Option (List File)) → IfSome files (WritesOutput first last job) → IfSome files (λ fs. LacksFile job fs → IsUnlessMemory statuses.ReadFault status)
+  pub done_misses : (files : Option (List File)) → IfSome files (EndsSo outcomes.Done first last job) → IfSome files (λ fs. LacksFile job fs → IsUnlessMemory statuses.ReadFault status)
   done_misses None h = tt
-  done_misses (Some fs) h = λ lacks. absurd (output_not_missing h.text job fs h.holds lacks)
+  done_misses (Some fs) h = λ lacks. absurd (output_not_missing h.writes.text job fs h.writes.holds lacks)
 
-  pub done_spends : (files : Option (List File)) (shelf-rose sink-rose : Type 0) → IfSome files (WritesOutput first last job)
+  pub done_spends : (files : Option (List File)) (shelf-rose sink-rose : Type 0) → IfSome files (EndsSo outcomes.Done first last job)
       → IfSome files (λ fs. LacksBudget job fs → ¬ shelf-rose → ¬ sink-rose → IsUnlessMemory statuses.Unfinished status)
   done_spends None shelf-rose sink-rose h = tt
-  done_spends (Some fs) shelf-rose sink-rose h = λ short calm quiet. absurd (output_not_short h.text job fs h.holds short)
+  done_spends (Some fs) shelf-rose sink-rose h = λ short calm quiet. absurd (output_not_short h.writes.text job fs h.writes.holds short)
+
+  pub done_rejects : (files : Option (List File)) (shelf-rose sink-rose : Type 0) → IfSome files (EndsSo outcomes.Done first last job)
+      → IfSome files (λ fs. CanBeRejected job fs → ¬ shelf-rose → ¬ sink-rose → IsUnlessMemory statuses.NotValid status)
+  done_rejects None shelf-rose sink-rose h = tt
+  done_rejects (Some fs) shelf-rose sink-rose h = λ can calm quiet. absurd (h.only can)
+
+  pub done_writes : (files : Option (List File)) → IfSome files (EndsSo outcomes.Done first last job) → IfSome files (WritesOutput first last job)
+  done_writes None h = tt
+  done_writes (Some fs) h = h.writes
+
+-- ---- a job that found a report not valid
+module _ (status : Status) (job : Request) (first last : Option (List ℕ)) where
+  pub rejected_refuses : (files : Option (List File)) (shelf-rose : Type 0) → IfSome files (EndsSo outcomes.NotValid first last job)
+      → IfSome files (λ fs. (why : Refusal) → IsRefusal why job fs → ¬ shelf-rose → IsUnlessMemory statuses.Refused status)
+  rejected_refuses None shelf-rose h = tt
+  rejected_refuses (Some fs) shelf-rose h = λ why reason calm. absurd (rejection_not_refused h.writes.text why job fs h.writes.holds reason)
+
+  pub rejected_misses : (files : Option (List File)) → IfSome files (EndsSo outcomes.NotValid first last job) → IfSome files (λ fs. LacksFile job fs → IsUnlessMemory statuses.ReadFault status)
+  rejected_misses None h = tt
+  rejected_misses (Some fs) h = λ lacks. absurd (rejection_not_missing h.writes.text job fs h.writes.holds lacks)
+
+  pub rejected_spends : (files : Option (List File)) (shelf-rose sink-rose : Type 0) → IfSome files (EndsSo outcomes.NotValid first last job)
+      → IfSome files (λ fs. LacksBudget job fs → ¬ shelf-rose → ¬ sink-rose → IsUnlessMemory statuses.Unfinished status)
+  rejected_spends None shelf-rose sink-rose h = tt
+  rejected_spends (Some fs) shelf-rose sink-rose h = λ short calm quiet. absurd (rejection_not_short h.writes.text job fs h.writes.holds short)
+
+  pub rejected_completes : (files : Option (List File)) (shelf-rose sink-rose : Type 0) → IfSome files (EndsSo outcomes.NotValid first last job)
+      → IfSome files (λ fs. CanBeDone job fs → ¬ shelf-rose → ¬ sink-rose → IsUnlessMemory statuses.Done status)
+  rejected_completes None shelf-rose sink-rose h = tt
+  rejected_completes (Some fs) shelf-rose sink-rose h = λ can calm quiet. absurd (h.only can)
+
+  pub rejected_writes : (files : Option (List File)) → IfSome files (EndsSo outcomes.NotValid first last job) → IfSome files (WritesRejection first last job)
+  rejected_writes None h = tt
+  rejected_writes (Some fs) h = h.writes

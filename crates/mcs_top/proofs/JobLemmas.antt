@@ -2,7 +2,7 @@
 use Rattle.std.proofs.Common.{ℕ, List, [], ◌∷◌, Option, Some, None, IfSome, subst}
 use Rattle.mcs_words.specs.Commands.{Word, Request, IsJobOf}
 use Rattle.mcs_words.proofs.JobLemmas.{asked_once}
-use Rattle.mcs_top.specs.Jobs.{File, files_in, told_all, IfJob, OfOneFile}
+use Rattle.mcs_top.specs.Jobs.{File, files_in, told_all, IfJob, OfOneFile, OfFirstFile, OfTwoFiles}
 
 -- what holds of one file
 pub told_one : (held : Option (Word → File)) (name : Word) (P : List File → Type 0) → IfSome held (λ files. P (files name ∷ [])) → IfSome (told_all held (name ∷ [])) P
@@ -24,6 +24,49 @@ apart_of_file P Q f [] h k = h
 apart_of_file P Q f (None ∷ files) h k = h
 apart_of_file P Q f (Some bytes ∷ []) h k = f bytes h k
 apart_of_file P Q f (Some bytes ∷ (file ∷ files)) h k = h
+
+-- ---- what holds of two files
+first_there : (P : List ℕ → Type 0) (file : File) (files : List File) → OfOneFile P (file ∷ []) → OfFirstFile P (file ∷ files)
+first_there P None files h = h
+first_there P (Some bytes) files h = h
+
+pub told_first : (held : Option (Word → File)) (name other : Word) (P : List ℕ → Type 0) → IfSome (told_all held (name ∷ [])) (OfOneFile P) → IfSome (told_all held (name ∷ other ∷ [])) (OfFirstFile P)
+told_first None name other P h = tt
+told_first (Some files) name other P h = first_there P (files name) (files other ∷ []) h
+
+two_there : (P Q : List ℕ → Type 0) (file other : File) → OfOneFile P (file ∷ []) → OfOneFile Q (other ∷ []) → OfTwoFiles (λ bytes more. P bytes × Q more) (file ∷ (other ∷ []))
+two_there P Q None other h k = h
+two_there P Q (Some bytes) None h k = k
+two_there P Q (Some bytes) (Some more) h k = (h, k)
+
+pub told_two : (held : Option (Word → File)) (name other : Word) (P Q : List ℕ → Type 0) → IfSome (told_all held (name ∷ [])) (OfOneFile P) → IfSome (told_all held (other ∷ [])) (OfOneFile Q)
+    → IfSome (told_all held (name ∷ other ∷ [])) (OfTwoFiles (λ bytes more. P bytes × Q more))
+told_two None name other P Q h k = tt
+told_two (Some files) name other P Q h k = two_there P Q (files name) (files other) h k
+
+pub of_two : (P Q : List ℕ → List ℕ → Type 0) → ((bytes more : List ℕ) → P bytes more → Q bytes more) → (files : List File) → OfTwoFiles P files → OfTwoFiles Q files
+of_two P Q f [] h = h
+of_two P Q f (None ∷ files) h = h
+of_two P Q f (Some bytes ∷ []) h = h
+of_two P Q f (Some bytes ∷ (None ∷ files)) h = h
+of_two P Q f (Some bytes ∷ (Some more ∷ [])) h = f bytes more h
+of_two P Q f (Some bytes ∷ (Some more ∷ (file ∷ files))) h = h
+
+pub apart_of_two : (P Q : List ℕ → List ℕ → Type 0) → ((bytes more : List ℕ) → P bytes more → Q bytes more → ⊥) → (files : List File) → OfTwoFiles P files → OfTwoFiles Q files → ⊥
+apart_of_two P Q f [] h k = h
+apart_of_two P Q f (None ∷ files) h k = h
+apart_of_two P Q f (Some bytes ∷ []) h k = h
+apart_of_two P Q f (Some bytes ∷ (None ∷ files)) h k = h
+apart_of_two P Q f (Some bytes ∷ (Some more ∷ [])) h k = f bytes more h k
+apart_of_two P Q f (Some bytes ∷ (Some more ∷ (file ∷ files))) h k = h
+
+pub apart_of_first : (P : List ℕ → List ℕ → Type 0) (Q : List ℕ → Type 0) → ((bytes more : List ℕ) → P bytes more → Q bytes → ⊥) → (files : List File) → OfTwoFiles P files → OfFirstFile Q files → ⊥
+apart_of_first P Q f [] h k = h
+apart_of_first P Q f (None ∷ files) h k = h
+apart_of_first P Q f (Some bytes ∷ []) h k = h
+apart_of_first P Q f (Some bytes ∷ (None ∷ files)) h k = h
+apart_of_first P Q f (Some bytes ∷ (Some more ∷ [])) h k = f bytes more h k
+apart_of_first P Q f (Some bytes ∷ (Some more ∷ (file ∷ files))) h k = h
 
 -- what holds of the job that was found holds of each that the words ask for, since that is one
 pub if_job : (words : List Word) (job : Request) → IsJobOf words job → (held : Option (Word → File)) (P : Request → List File → Type 0)

@@ -3,3 +3,5 @@ pub mod RefusalLemmas
 pub mod EndingLemmas
 pub mod StageLemmas
 pub mod EvaluatorLemmas
+pub mod ProvingLemmas
+pub mod CheckingLemmas

@@ -1,5 +1,5 @@
 -- What the work on a system wrote, and why it stopped: of the system of a file, and of one that is generated.
-use Rattle.std.proofs.Common.{◌≡◌, ℕ, ◌+◌, ◌≤◌, List, [], ◌++◌, Option, Some, Result, Ok, Err, IfSome, IfErr, IsErrAnd, OnOk, inl, inr, refl, sym, ap, ◌∙◌, subst, append_assoc, arith}
+use Rattle.std.proofs.Common.{◌≡◌, ℕ, ◌+◌, ◌≤◌, true, false, List, [], ◌++◌, Option, Some, None, Result, Ok, Err, IfSome, IfOk, IfErr, OnOk, inl, inr, refl, sym, ap, ◌∙◌, subst, append_assoc, arith}
 use Rattle.std.proofs.lemmas.List.{append-nil}
 use Rattle.mcs_ports.specs.Causes.{Rose}
 use Rattle.mcs_ports.specs.Pieces.{Device, appended}
@@ -17,11 +17,12 @@ use Rattle.mcs_work.specs.declared.task.Task.{Task}
 use Rattle.mcs_work.specs.declared.task.Task.TheVariants.{Equilibria, Solve, Make}
 use Rattle.mcs_work.specs.declared.task.WorkStop.{WorkStop}
 use Rattle.mcs_work.specs.declared.task.WorkStop.TheVariants as works
-use Rattle.mcs_words.specs.Commands.{Word, Request, equilibria, solve, make}
+use Rattle.mcs_words.specs.Commands.{Word, Request, equilibria, solve, check, make}
 use Rattle.mcs_top.specs.Jobs.{File, OfOneFile}
 use Rattle.mcs_top.specs.Texts.{IsTextOf, IsRefusedFor, StopsReading}
 use Rattle.mcs_top.specs.Endings.{stop_for_work, stop_for_line}
-use Rattle.mcs_top.specs.Promise.{IsBeyond, OfSystem, IsListed, IsListedBefore, AfterNumber, number_line, IsOutput, IsOutputBeyond, IsStage, Prints, PrintsFront, WritesOutput, WritesStage, StopsWork, StopsGenerated, HasCause, LeavesText, IsRefusal, IsNewMesh, Lists, budget_of}
+use Rattle.mcs_top.specs.Promise.{IsBeyond, OfSystem, IsListed, IsListedBefore, AfterNumber, number_line, IsOutput, IsOutputBeyond, IsStage, Prints, PrintsFront, WritesOutput, WritesStage, StopsWork, StopsGenerated, HasCause, LeavesText, IsRefusal, IsNewMesh, Lists, budget_of, Excludes, EndsSo, as_done}
+use Rattle.mcs_top.specs.declared.ending.Outcome.TheVariants as outcomes
 use Rattle.mcs_top.specs.declared.ending.Refusal.{Refusal}
 use Rattle.mcs_top.specs.declared.ending.Stop.{Stop}
 use Rattle.mcs_top.specs.declared.ending.Stop.TheVariants as stops
@@ -52,7 +53,7 @@ module _ (task : Task) (m : System) (budget : ℕ) (e e' : EvaluatorState) (fres
   beyond_there : (level : ℕ) → IsBeyond m level budget → evaluators.IsBeyond e level
   beyond_there level h = subst (λ (b : ℕ). HasQuestions e.system level (b + 1)) (sym fresh.budget_is) (subst (λ (n : System). HasQuestions n level (budget + 1)) (sym fresh.system) h)
 
-  listed_done : (before now : Option (List ℕ)) → IsDone task [] e e' before now → Prints (λ text. IsListed task budget text m) before now
+  pub listed_done : (before now : Option (List ℕ)) → IsDone task [] e e' before now → Prints (λ text. IsListed task budget text m) before now
   listed_done before now d = record {
     text = d.part;
     holds = (
@@ -93,6 +94,15 @@ module _ (task : Task) (m : System) (budget : ℕ) (e e' : EvaluatorState) (fres
   work_stopped before now (works.Missing context active) h = stage_left before.written now.written h.left
   work_stopped before now works.Memory h = stage_left before.written now.written h
 
+-- ---- a file that could not be read, whatever the job
+pub read_left : (job : Request) (shelf-rose : Type 0) (told files : Option (List File)) (now : Option (List ℕ)) (stop : Stop) → StopsReading stop shelf-rose told → LeavesText stop job files now now
+read_left job shelf-rose told files now stops.Usage h = refl
+read_left job shelf-rose told files now (stops.Refused why) h = refl
+read_left job shelf-rose told files now (stops.Unfinished level limit) h = absurd h
+read_left job shelf-rose told files now stops.ReadFault h = refl
+read_left job shelf-rose told files now stops.WriteFault h = absurd h
+read_left job shelf-rose told files now stops.Memory h = inl refl
+
 -- ---- a job that lists the system of a file
 same_task : (P : Task → ℕ → Type 0) (task due : Task) (budget most : ℕ) → task ≡ due → budget ≡ most → P task most → P due budget
 same_task P task due budget most is own h = subst (λ (t : Task). P t budget) is (subst (λ (n : ℕ). P task n) (sym own) h)
@@ -103,7 +113,9 @@ module _ (job : Request) (task : Task) (name : Word) (most : ℕ) (lists : Lists
     where
       at : (j : Request) → Lists j task name most → OfOneFile (OfSystem (IsListed task most text)) files → IsOutput text j files
       at (equilibria file budget workers) (is, same, own) h = same_task (λ t n. OfOneFile (OfSystem (IsListed t n text)) files) task Equilibria budget most is own h
-      at (solve file budget workers) (is, same, own) h = same_task (λ t n. OfOneFile (OfSystem (IsListed t n text)) files) task Solve budget most is own h
+      at (solve file budget workers false) (is, same, own) h = same_task (λ t n. OfOneFile (OfSystem (IsListed t n text)) files) task Solve budget most is own h
+      at (solve file budget workers true) is h = absurd is
+      at (check file report) is h = absurd is
       at (make number budget workers) is h = absurd is
 
   stage_of : (text : List ℕ) (files : List File) → OfOneFile (OfSystem (λ n. IsTaskStage task n text)) files → IsStage text job files
@@ -111,7 +123,9 @@ module _ (job : Request) (task : Task) (name : Word) (most : ℕ) (lists : Lists
     where
       at : (j : Request) → Lists j task name most → OfOneFile (OfSystem (λ n. IsTaskStage task n text)) files → IsStage text j files
       at (equilibria file budget workers) (is, same, own) h = same_task (λ t k. OfOneFile (OfSystem (λ n. IsTaskStage t n text)) files) task Equilibria budget most is own h
-      at (solve file budget workers) (is, same, own) h = same_task (λ t k. OfOneFile (OfSystem (λ n. IsTaskStage t n text)) files) task Solve budget most is own h
+      at (solve file budget workers false) (is, same, own) h = same_task (λ t k. OfOneFile (OfSystem (λ n. IsTaskStage t n text)) files) task Solve budget most is own h
+      at (solve file budget workers true) is h = absurd is
+      at (check file report) is h = absurd is
       at (make number budget workers) is h = absurd is
 
   beyond_of : (text : List ℕ) (level : ℕ) (files : List File) → OfOneFile (OfSystem (IsListedBefore task most level text)) files → IsOutputBeyond text level job files
@@ -119,7 +133,9 @@ module _ (job : Request) (task : Task) (name : Word) (most : ℕ) (lists : Lists
     where
       at : (j : Request) → Lists j task name most → OfOneFile (OfSystem (IsListedBefore task most level text)) files → IsOutputBeyond text level j files
       at (equilibria file budget workers) (is, same, own) h = same_task (λ t n. OfOneFile (OfSystem (IsListedBefore t n level text)) files) task Equilibria budget most is own h
-      at (solve file budget workers) (is, same, own) h = same_task (λ t n. OfOneFile (OfSystem (IsListedBefore t n level text)) files) task Solve budget most is own h
+      at (solve file budget workers false) (is, same, own) h = same_task (λ t n. OfOneFile (OfSystem (IsListedBefore t n level text)) files) task Solve budget most is own h
+      at (solve file budget workers true) is h = absurd is
+      at (check file report) is h = absurd is
       at (make number budget workers) is h = absurd is
 
   own_budget : most ≡ budget_of job
@@ -127,7 +143,9 @@ module _ (job : Request) (task : Task) (name : Word) (most : ℕ) (lists : Lists
     where
       at : (j : Request) → Lists j task name most → most ≡ budget_of j
       at (equilibria file budget workers) (is, same, own) = sym own
-      at (solve file budget workers) (is, same, own) = sym own
+      at (solve file budget workers false) (is, same, own) = sym own
+      at (solve file budget workers true) is = absurd is
+      at (check file report) is = absurd is
       at (make number budget workers) is = absurd is
 
   refusal_of : (why : Refusal) (files : List File) → OfOneFile (IsRefusedFor why) files → IsRefusal why job files
@@ -135,7 +153,9 @@ module _ (job : Request) (task : Task) (name : Word) (most : ℕ) (lists : Lists
     where
       at : (j : Request) → Lists j task name most → OfOneFile (IsRefusedFor why) files → IsRefusal why j files
       at (equilibria file budget workers) is h = h
-      at (solve file budget workers) is h = h
+      at (solve file budget workers false) is h = h
+      at (solve file budget workers true) is h = absurd is
+      at (check file report) is h = absurd is
       at (make number budget workers) is h = absurd is
 
   pub read_cause : (shelf-rose sink-rose : Type 0) (files : Option (List File)) (stop : Stop) → StopsReading stop shelf-rose files → HasCause stop shelf-rose sink-rose job files
@@ -145,14 +165,6 @@ module _ (job : Request) (task : Task) (name : Word) (most : ℕ) (lists : Lists
   read_cause shelf-rose sink-rose files stops.ReadFault h = h
   read_cause shelf-rose sink-rose files stops.WriteFault h = absurd h
   read_cause shelf-rose sink-rose files stops.Memory h = tt
-
-  pub read_left : (shelf-rose : Type 0) (files : Option (List File)) (now : Option (List ℕ)) (stop : Stop) → StopsReading stop shelf-rose files → LeavesText stop job files now now
-  read_left shelf-rose files now stops.Usage h = refl
-  read_left shelf-rose files now (stops.Refused why) h = refl
-  read_left shelf-rose files now (stops.Unfinished level limit) h = absurd h
-  read_left shelf-rose files now stops.ReadFault h = refl
-  read_left shelf-rose files now stops.WriteFault h = absurd h
-  read_left shelf-rose files now stops.Memory h = inl refl
 
   module _ (m : System) (files : Option (List File)) (read : IfSome files (OfOneFile (IsTextOf m))) where
     stage_written : (before now : Option (List ℕ)) → PrintsFront (IsTaskStage task m) before now → IfSome files (WritesStage before now job)
@@ -282,3 +294,14 @@ module _ (number budget workers : ℕ) (before now : Option (List ℕ)) where
   pub made_leaves : (sink-rose : Type 0) (r : Result (Unit {0}) Stop) → IfErr r (λ stop. StopsGenerated stop number budget sink-rose before now) → IfErr r (λ stop. LeavesText stop (make number budget workers) (Some []) before now)
   made_leaves sink-rose (Ok x) h = tt
   made_leaves sink-rose (Err stop) h = made_left sink-rose stop h
+
+-- ---- a job that was done unless it stopped
+pub done_ends : (job : Request) (files : Option (List File)) (before now : Option (List ℕ)) → ((fs : List File) → Excludes outcomes.Done job fs) → (r : Result (Unit {0}) Stop) → OnOk r (IfSome files (WritesOutput before now job))
+    → IfOk (as_done r) (λ outcome. IfSome files (EndsSo outcome before now job))
+done_ends job None before now never (Ok x) w = tt
+done_ends job (Some fs) before now never (Ok x) w = record { writes = w; only = never fs }
+done_ends job files before now never (Err stop) w = tt
+
+pub done_stops : (P : Stop → Type 0) (r : Result (Unit {0}) Stop) → IfErr r P → IfErr (as_done r) P
+done_stops P (Ok x) h = tt
+done_stops P (Err stop) h = h

@@ -22,6 +22,7 @@ use Rattle.mcs_top.specs.declared.status.Status.TheVariants as statuses
 -- the number that a program with this status ends with
 abbrev pub number_of : Status → ℕ
 number_of statuses.Done = 0
+number_of statuses.NotValid = 1
 number_of statuses.Usage = 2
 number_of statuses.Refused = 3
 number_of statuses.Unfinished = 4
@@ -41,6 +42,7 @@ fault_line number offset limit = codes "mcs: refused: F" ++ (decimal number ++ (
 -- the line that is noted for a refusal, with its line feed
 abbrev pub refusal_line : Refusal → List ℕ
 refusal_line refusals.TooLong = codes "mcs: refused: file longer than 1048576\n"
+refusal_line refusals.ReportTooLong = codes "mcs: refused: report longer than 268435456\n"
 refusal_line (refusals.Text number offset limit) = fault_line number offset limit
 
 -- mcs: unfinished at level K, budget N

@@ -1,5 +1,5 @@
 -- What a run promises, by cases of the job.
-use Rattle.std.specs.Prelude.{◌≡◌, ◌⊎◌, ℕ, ◌+◌, ◌<◌, List, [], ◌∷◌, ◌++◌, length, codes, false, Option, Some, None, slice_get, IfSome}
+use Rattle.std.specs.Prelude.{◌≡◌, ◌⊎◌, ℕ, ◌+◌, ◌<◌, ◌≤◌, Bool, true, false, List, [], ◌∷◌, ◌++◌, length, codes, Option, Some, None, Result, Ok, Err, slice_get, IfSome}
 use Rattle.std.specs.Fmt.{decimal}
 use Rattle.mcs_ports.specs.Pieces.{appended, noted}
 use Rattle.mcs_text.specs.Writes.{WritesFront}
@@ -12,11 +12,20 @@ use Rattle.mcs_generator.specs.Generated.{generated_system}
 use Rattle.mcs_work.specs.Tasks.{IsTaskText, IsTaskStage, IsTaskUpTo, IsTaken}
 use Rattle.mcs_work.specs.declared.task.Task.{Task}
 use Rattle.mcs_work.specs.declared.task.Task.TheVariants.{Equilibria, Solve, Make}
-use Rattle.mcs_words.specs.Commands.{Word, Request, equilibria, solve, make}
-use Rattle.mcs_top.specs.Jobs.{File, OfOneFile}
-use Rattle.mcs_top.specs.Texts.{IsTextOf, IsRefusedFor}
+use Rattle.mcs_words.specs.Commands.{Word, Request, equilibria, solve, check, make}
+use Rattle.mcs_check.specs.Validity.{IsProvedListing, IsValidReport, IsFailure}
+use Rattle.mcs_check.specs.Findings.{finding_line}
+use Rattle.mcs_check.specs.declared.finding.Reason.{Reason}
+use Rattle.mcs_check.specs.declared.finding.Finding.{Finding}
+use Rattle.mcs_check.specs.declared.finding.Finding.TheVariants.{Valid, Fails}
+use Rattle.mcs_proof_writer.specs.Proving.{HasBegunProof}
+use Rattle.mcs_top.specs.Jobs.{File, OfOneFile, OfFirstFile, OfTwoFiles, LacksOneOfTwo}
+use Rattle.mcs_top.specs.Texts.{IsTextOf, IsRefusedFor, most_report_bytes}
 use Rattle.mcs_top.specs.Endings.{refusal_line, unfinished_line, line_of}
+use Rattle.mcs_top.specs.declared.ending.Outcome.{Outcome}
+use Rattle.mcs_top.specs.declared.ending.Outcome.TheVariants as outcomes
 use Rattle.mcs_top.specs.declared.ending.Refusal.{Refusal}
+use Rattle.mcs_top.specs.declared.ending.Refusal.TheVariants as refusals
 use Rattle.mcs_top.specs.declared.ending.Stop.{Stop}
 use Rattle.mcs_top.specs.declared.ending.Stop.TheVariants as stops
 use Rattle.mcs_top.specs.declared.status.Status.{Status}
@@ -55,6 +64,40 @@ IsListed task budget text m = Suffices task budget m × IsTaskText task m text
 abbrev pub IsListedBefore : Task → ℕ → ℕ → List ℕ → System → Type 0
 IsListedBefore task budget level text m = IsLeastBeyond task budget level m × IsTaskUpTo task m level text
 
+-- ---- the whole listing of a system, with the proof of it where that is asked for
+abbrev pub IsSolution : Bool → System → List ℕ → Type 0
+IsSolution false m text = IsTaskText Solve m text
+IsSolution true m text = IsProvedListing m text
+
+-- a stage of it: of the listing, or the listing with its proof
+abbrev pub IsSolutionStage : Bool → System → List ℕ → Type 0
+IsSolutionStage false m text = IsTaskStage Solve m text
+IsSolutionStage true m text = IsTaskStage Solve m text ⊎ IsProvedListing m text
+
+-- it, for a system for which the budget suffices
+abbrev pub IsSolved : Bool → ℕ → List ℕ → System → Type 0
+IsSolved proof budget text m = Suffices Solve budget m × IsSolution proof m text
+
+-- ---- a report on the system of a file
+-- the first bytes spell a system, the others are not too many, and this holds of both
+abbrev pub OfReport : (System → List ℕ → Type 0) → List ℕ → List ℕ → Type 0
+OfReport P bytes report = (m : System) × IsTextOf m bytes × (length report ≤ most_report_bytes) × P m report
+
+-- the report is valid, or fails a test, and the text tells which
+abbrev pub IsToldValid : List ℕ → System → List ℕ → Type 0
+IsToldValid text m report = IsValidReport m report × (text ≡ finding_line Valid)
+
+abbrev pub IsToldFailing : List ℕ → System → List ℕ → Type 0
+IsToldFailing text m report = (line : ℕ) × (reason : Reason) × IsFailure m report line reason × (text ≡ finding_line (Fails line reason))
+
+-- it fails one of the tests
+abbrev pub FailsATest : System → List ℕ → Type 0
+FailsATest m report = (line : ℕ) × (reason : Reason) × IsFailure m report line reason
+
+-- the report is longer than one may be
+abbrev pub IsReportTooLong : List ℕ → List ℕ → Type 0
+IsReportTooLong bytes report = (m : System) × IsTextOf m bytes × ¬ (length report ≤ most_report_bytes)
+
 -- ---- a system that is generated for a number
 -- make NUMBER: N contexts, R rules, V variables
 unfoldable pub number_line : ℕ → System → List ℕ
@@ -70,50 +113,78 @@ AfterNumber P number text = (rest : List ℕ) × P rest (generated_system number
 -- the most questions of a level that it may ask
 abbrev pub budget_of : Request → ℕ
 budget_of (equilibria file budget workers) = budget
-budget_of (solve file budget workers) = budget
+budget_of (solve file budget workers proof) = budget
+budget_of (check file report) = 4294967295
 budget_of (make number budget workers) = budget
 
 -- what the job prints where it is done
 abbrev pub IsOutput : List ℕ → Request → List File → Type 0
 IsOutput text (equilibria file budget workers) files = OfOneFile (OfSystem (IsListed Equilibria budget text)) files
-IsOutput text (solve file budget workers) files = OfOneFile (OfSystem (IsListed Solve budget text)) files
+IsOutput text (solve file budget workers proof) files = OfOneFile (OfSystem (IsSolved proof budget text)) files
+IsOutput text (check file report) files = OfTwoFiles (OfReport (IsToldValid text)) files
 IsOutput text (make number budget workers) files = AfterNumber (IsListed Make budget) number text
 
--- a stage of it: what is there once that which it needs was computed
+-- what it prints where it finds that a report is not valid
+abbrev pub IsRejection : List ℕ → Request → List File → Type 0
+IsRejection text (equilibria file budget workers) files = ⊥
+IsRejection text (solve file budget workers proof) files = ⊥
+IsRejection text (check file report) files = OfTwoFiles (OfReport (IsToldFailing text)) files
+IsRejection text (make number budget workers) files = ⊥
+
+-- a stage of what it prints: what is there once that which it needs was computed
 abbrev pub IsStage : List ℕ → Request → List File → Type 0
 IsStage text (equilibria file budget workers) files = OfOneFile (OfSystem (λ m. IsTaskStage Equilibria m text)) files
-IsStage text (solve file budget workers) files = OfOneFile (OfSystem (λ m. IsTaskStage Solve m text)) files
+IsStage text (solve file budget workers proof) files = OfOneFile (OfSystem (λ m. IsSolutionStage proof m text)) files
+IsStage text (check file report) files = IsOutput text (check file report) files ⊎ IsRejection text (check file report) files
 IsStage text (make number budget workers) files = AfterNumber (λ rest m. IsTaskStage Make m rest) number text
 
 -- what the job prints where it stops at this level, the least one that has more questions than the budget
 abbrev pub IsOutputBeyond : List ℕ → ℕ → Request → List File → Type 0
 IsOutputBeyond text level (equilibria file budget workers) files = OfOneFile (OfSystem (IsListedBefore Equilibria budget level text)) files
-IsOutputBeyond text level (solve file budget workers) files = OfOneFile (OfSystem (IsListedBefore Solve budget level text)) files
+IsOutputBeyond text level (solve file budget workers proof) files = OfOneFile (OfSystem (IsListedBefore Solve budget level text)) files
+IsOutputBeyond text level (check file report) files = ⊥
 IsOutputBeyond text level (make number budget workers) files = AfterNumber (IsListedBefore Make budget level) number text
 
 -- the budget does not suffice: a level that the job takes has more questions
 abbrev pub LacksBudget : Request → List File → Type 0
 LacksBudget (equilibria file budget workers) files = OfOneFile (OfSystem (IsShort Equilibria budget)) files
-LacksBudget (solve file budget workers) files = OfOneFile (OfSystem (IsShort Solve budget)) files
+LacksBudget (solve file budget workers proof) files = OfOneFile (OfSystem (IsShort Solve budget)) files
+LacksBudget (check file report) files = ⊥
 LacksBudget (make number budget workers) files = IsShort Make budget (generated_system number)
+
+-- why a report, or the file of its system, is refused
+abbrev pub IsCheckRefusal : Refusal → List File → Type 0
+IsCheckRefusal refusals.TooLong files = OfFirstFile (IsRefusedFor refusals.TooLong) files
+IsCheckRefusal refusals.ReportTooLong files = OfTwoFiles IsReportTooLong files
+IsCheckRefusal (refusals.Text number offset limit) files = OfFirstFile (IsRefusedFor (refusals.Text number offset limit)) files
 
 -- why the job is refused
 abbrev pub IsRefusal : Refusal → Request → List File → Type 0
 IsRefusal why (equilibria file budget workers) files = OfOneFile (IsRefusedFor why) files
-IsRefusal why (solve file budget workers) files = OfOneFile (IsRefusedFor why) files
+IsRefusal why (solve file budget workers proof) files = OfOneFile (IsRefusedFor why) files
+IsRefusal why (check file report) files = IsCheckRefusal why files
 IsRefusal why (make number budget workers) files = ⊥
 
 -- a file that it reads is not there
 abbrev pub LacksFile : Request → List File → Type 0
 LacksFile (equilibria file budget workers) files = files ≡ None ∷ []
-LacksFile (solve file budget workers) files = files ≡ None ∷ []
+LacksFile (solve file budget workers proof) files = files ≡ None ∷ []
+LacksFile (check file report) files = LacksOneOfTwo (λ bytes. (m : System) × IsTextOf m bytes) files
 LacksFile (make number budget workers) files = ⊥
 
 -- nothing but memory and the devices stands in its way
 abbrev pub CanBeDone : Request → List File → Type 0
 CanBeDone (equilibria file budget workers) files = OfOneFile (OfSystem (Suffices Equilibria budget)) files
-CanBeDone (solve file budget workers) files = OfOneFile (OfSystem (Suffices Solve budget)) files
+CanBeDone (solve file budget workers proof) files = OfOneFile (OfSystem (Suffices Solve budget)) files
+CanBeDone (check file report) files = OfTwoFiles (OfReport IsValidReport) files
 CanBeDone (make number budget workers) files = Suffices Make budget (generated_system number)
+
+-- the report that it checks is not valid
+abbrev pub CanBeRejected : Request → List File → Type 0
+CanBeRejected (equilibria file budget workers) files = ⊥
+CanBeRejected (solve file budget workers proof) files = ⊥
+CanBeRejected (check file report) files = OfTwoFiles (OfReport FailsATest) files
+CanBeRejected (make number budget workers) files = ⊥
 
 -- ---- what a run did
 -- a text for which this holds was written
@@ -131,6 +202,35 @@ pub record PrintsFront (P : List ℕ → Type 0) (before now : Option (List ℕ)
 -- the output of the job was
 abbrev pub WritesOutput : Option (List ℕ) → Option (List ℕ) → Request → List File → Type 0
 WritesOutput before now job files = Prints (λ text. IsOutput text job files) before now
+
+-- that a report is not valid was
+abbrev pub WritesRejection : Option (List ℕ) → Option (List ℕ) → Request → List File → Type 0
+WritesRejection before now job files = Prints (λ text. IsRejection text job files) before now
+
+-- what the job writes where it ends so
+abbrev pub WritesOutcome : Outcome → Option (List ℕ) → Option (List ℕ) → Request → List File → Type 0
+WritesOutcome outcomes.Done before now job files = WritesOutput before now job files
+WritesOutcome outcomes.NotValid before now job files = WritesRejection before now job files
+
+-- a job that ends so can't end otherwise
+abbrev pub Excludes : Outcome → Request → List File → Type 0
+Excludes outcomes.Done job files = ¬ CanBeRejected job files
+Excludes outcomes.NotValid job files = ¬ CanBeDone job files
+
+-- how the job ends that was not stopped
+pub record EndsSo (outcome : Outcome) (before now : Option (List ℕ)) (job : Request) (files : List File) : Type 0 where
+  pub writes : WritesOutcome outcome before now job files
+  pub only : Excludes outcome job files
+
+-- a job ends so that was done unless it stopped
+abbrev pub as_done : Result (Unit {0}) Stop → Result Outcome Stop
+as_done (Ok x) = Ok outcomes.Done
+as_done (Err stop) = Err stop
+
+-- how the check of a report ends, by what it finds
+abbrev pub outcome_of : Finding → Outcome
+outcome_of Valid = outcomes.Done
+outcome_of (Fails line reason) = outcomes.NotValid
 
 -- a front of a stage of it was
 abbrev pub WritesStage : Option (List ℕ) → Option (List ℕ) → Request → List File → Type 0
@@ -155,6 +255,7 @@ pub record TellsRefusal (before now : Option (List ℕ)) (job : Request) (files 
 -- what each status notes
 abbrev pub Notes : Status → Option (List ℕ) → Option (List ℕ) → Type 0
 Notes statuses.Done before now = now ≡ before
+Notes statuses.NotValid before now = now ≡ before
 Notes statuses.Usage before now = now ≡ noted before (line_of stops.Usage)
 Notes statuses.Refused before now = (why : Refusal) × (now ≡ noted before (refusal_line why))
 Notes statuses.Unfinished before now = (level budget : ℕ) × (now ≡ noted before (unfinished_line level budget))
@@ -204,11 +305,31 @@ StopsGenerated stops.ReadFault number budget sink_rose before now = ⊥
 StopsGenerated stops.WriteFault number budget sink_rose before now = sink_rose × PrintsFront (AfterNumber (λ rest m. IsTaskStage Make m rest) number) before now
 StopsGenerated stops.Memory number budget sink_rose before now = (now ≡ before) ⊎ PrintsFront (AfterNumber (λ rest m. IsTaskStage Make m rest) number) before now
 
+-- why the work on the listing with its proof stops, and what was written then
+abbrev pub StopsProof : Stop → ℕ → System → Type 0 → Option (List ℕ) → Option (List ℕ) → Type 0
+StopsProof stops.Usage budget m sink_rose before now = ⊥
+StopsProof (stops.Refused why) budget m sink_rose before now = ⊥
+StopsProof (stops.Unfinished level limit) budget m sink_rose before now = (limit ≡ budget) × Prints (λ text. IsListedBefore Solve budget level text m) before now
+StopsProof stops.ReadFault budget m sink_rose before now = ⊥
+StopsProof stops.WriteFault budget m sink_rose before now = sink_rose × PrintsFront (IsSolutionStage true m) before now
+StopsProof stops.Memory budget m sink_rose before now = PrintsFront (IsSolutionStage true m) before now
+
+-- why the writing of the proof itself stops, and what was written then: nothing, or a front of it
+abbrev pub StopsAnswers : Stop → System → ℕ → Type 0 → Option (List ℕ) → Option (List ℕ) → Type 0
+StopsAnswers stops.Usage m level sink_rose before now = ⊥
+StopsAnswers (stops.Refused why) m level sink_rose before now = ⊥
+StopsAnswers (stops.Unfinished at limit) m level sink_rose before now = ⊥
+StopsAnswers stops.ReadFault m level sink_rose before now = ⊥
+StopsAnswers stops.WriteFault m level sink_rose before now = sink_rose × ((now ≡ before) ⊎ HasBegunProof m level before now)
+StopsAnswers stops.Memory m level sink_rose before now = (now ≡ before) ⊎ HasBegunProof m level before now
+
 -- ---- the jobs that list the system of a file
 -- the job is the task for this file within this budget
 abbrev pub Lists : Request → Task → Word → ℕ → Type 0
 Lists (equilibria file budget workers) task name most = (task ≡ Equilibria) × (file ≡ name) × (budget ≡ most)
-Lists (solve file budget workers) task name most = (task ≡ Solve) × (file ≡ name) × (budget ≡ most)
+Lists (solve file budget workers false) task name most = (task ≡ Solve) × (file ≡ name) × (budget ≡ most)
+Lists (solve file budget workers true) task name most = ⊥
+Lists (check file report) task name most = ⊥
 Lists (make number budget workers) task name most = ⊥
 
 -- an evaluator of the system that was asked nothing, whose oracles never miss
@@ -218,3 +339,7 @@ pub record IsNewMesh (m : System) (budget : ℕ) (e : EvaluatorState) : Type 0 w
   pub fresh : e.done ≡ None
   pub going : e.halted ≡ false
   pub sure : (i : ℕ) (o : OracleState) → slice_get e.oracles i ≡ Some o → o.holds ≡ None
+
+-- each of the oracles has this origin
+abbrev pub HaveOrigin : List (List ℕ) → List OracleState → Type 0
+HaveOrigin origin oracles = (i : ℕ) (o : OracleState) → slice_get oracles i ≡ Some o → o.origin ≡ origin

@@ -12,6 +12,10 @@ use Rattle.mcs_top.specs.declared.ending.Stop.TheVariants as stops
 abbrev pub most_text_bytes : ℕ
 most_text_bytes = 1048576
 
+-- the most bytes of a report
+abbrev pub most_report_bytes : ℕ
+most_report_bytes = 268435456
+
 -- the bytes are the text of this system
 pub record IsTextOf (m : System) (bytes : List ℕ) : Type 0 where
   pub fits : length bytes ≤ most_text_bytes
@@ -20,6 +24,7 @@ pub record IsTextOf (m : System) (bytes : List ℕ) : Type 0 where
 -- the reason for which a text is refused
 abbrev pub IsRefusedFor : Refusal → List ℕ → Type 0
 IsRefusedFor refusals.TooLong bytes = ¬ (length bytes ≤ most_text_bytes)
+IsRefusedFor refusals.ReportTooLong bytes = ⊥
 IsRefusedFor (refusals.Text number offset limit) bytes = (length bytes ≤ most_text_bytes) × HasFault bytes number limit offset
 
 -- ---- why no system is had
@@ -40,3 +45,14 @@ StopsReading stops.Memory rose files = Unit {0}
 StopsReading stops.Usage rose files = ⊥
 StopsReading (stops.Unfinished level budget) rose files = ⊥
 StopsReading stops.WriteFault rose files = ⊥
+
+-- why no report is had of a file, by what a shelf tells of it
+abbrev pub StopsReport : Stop → Type 0 → Option (List File) → Type 0
+StopsReport (stops.Refused refusals.ReportTooLong) rose files = IfSome files (OfOneFile (λ bytes. ¬ (length bytes ≤ most_report_bytes)))
+StopsReport (stops.Refused refusals.TooLong) rose files = ⊥
+StopsReport (stops.Refused (refusals.Text number offset limit)) rose files = ⊥
+StopsReport stops.ReadFault rose files = rose
+StopsReport stops.Memory rose files = Unit {0}
+StopsReport stops.Usage rose files = ⊥
+StopsReport (stops.Unfinished level budget) rose files = ⊥
+StopsReport stops.WriteFault rose files = ⊥

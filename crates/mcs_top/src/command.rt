@@ -5,10 +5,10 @@ ghost use Rattle.mcs_ports.specs.Causes.{Rose};
 ghost use Rattle.mcs_words.specs.Commands.{Request, IsJobOf};
 ghost use Rattle.mcs_words.specs.Reading.{texts_of};
 ghost use Rattle.mcs_top.specs.Jobs.{OfJob, IfJob};
-ghost use Rattle.mcs_top.specs.Promise.{IsRefusal, LacksBudget, LacksFile, CanBeDone, WritesOutput, WritesStage, StopsBeyond, TellsRefusal, Notes, IsUnlessMemory};
+ghost use Rattle.mcs_top.specs.Promise.{IsRefusal, LacksBudget, LacksFile, CanBeDone, CanBeRejected, WritesOutput, WritesRejection, WritesStage, StopsBeyond, TellsRefusal, Notes, IsUnlessMemory};
 ghost use Rattle.mcs_top.specs.declared.ending.Refusal.{Refusal};
 
-use crate::ending::tell;
+use crate::ending::{Outcome, tell};
 use crate::job::do_job;
 use crate::status::Status;
 use mcs_ports::{Gate, Shelf, Sink};
@@ -17,10 +17,11 @@ use std::alloc::Global;
 
 /// Does what the words ask for: `equilibria FILE` prints the projected equilibria of the system whose text
 /// FILE holds, each once, in the order of states; `solve FILE` its minimal diagnoses and its minimal explanations too,
-/// in the order of pairs. `words` are the words after the program's name.
+/// in the order of pairs, and with `--proof` the answers that these rest on, each with a certificate; `check FILE REPORT`
+/// whether what REPORT holds is such a listing with its proof. `words` are the words after the program's name.
 ///
-/// Answers the status; for each but `Done` one line is noted. Nothing is written but the listing, or a
-/// front of it.
+/// Answers the status; for each but `Done` and `NotValid` one line is noted. Nothing is written but what the job prints,
+/// or a front of it.
 pub fn run<H: Shelf, K: Sink, G: Gate>(
     alloc: Global,
     words: &[String],
@@ -55,6 +56,13 @@ pub fn run<H: Shelf, K: Sink, G: Gate>(
         LacksBudget job files → ¬ Rose (H.faults shelf.old) (H.faults shelf.new)
         → ¬ Rose (K.device sink.old).faults (K.device sink.new).faults → IsUnlessMemory Status.Unfinished result) }
 
+    // `NotValid` comes where a report is not valid, and which of the tests it fails, at which line, was written.
+    ensures not_valid { result ≡ Status.NotValid → OfJob (texts_of words.now) (H.held shelf.old)
+        (WritesRejection (K.device sink.old).written (K.device sink.new).written) }
+    ensures invalid { IfJob (texts_of words.now) (H.held shelf.old) (λ job files.
+        CanBeRejected job files → ¬ Rose (H.faults shelf.old) (H.faults shelf.new)
+        → ¬ Rose (K.device sink.old).faults (K.device sink.new).faults → IsUnlessMemory Status.NotValid result) }
+
     // `Done` comes where the whole output of the job was written.
     ensures done { result ≡ Status.Done → OfJob (texts_of words.now) (H.held shelf.old)
         (WritesOutput (K.device sink.old).written (K.device sink.new).written) }
@@ -81,7 +89,8 @@ pub fn run<H: Shelf, K: Sink, G: Gate>(
         Err(fault) => return tell(alloc, sink, fault.into()),
     };
     match do_job(alloc, &job, shelf, sink, gate) {
-        Ok(()) => Status::Done,
+        Ok(Outcome::Done) => Status::Done,
+        Ok(Outcome::NotValid) => Status::NotValid,
         Err(stop) => tell(alloc, sink, stop),
     }
 }

@@ -12,19 +12,30 @@ use mcs_system::Limit;
 use mcs_text::Unwritten;
 use mcs_words::WordsFault;
 use mcs_work::WorkStop;
-use std::alloc::Global;
+use std::alloc::{AllocError, Global};
 
 /// Why a file is refused.
 #[derive(Clone, Copy, Debug, PartialEq, Eq)]
 pub(crate) enum Refusal {
     /// The file is longer than a system text may be.
     TooLong,
+    /// The file of the report is longer than one may be.
+    ReportTooLong,
     /// The text has a fault: its number, the offset of its token, and for number 5 the limit.
     Text {
         number: u8,
         offset: usize,
         limit: Option<Limit>,
     },
+}
+
+/// How a job ended that was not stopped.
+#[derive(Clone, Copy, Debug, PartialEq, Eq)]
+pub(crate) enum Outcome {
+    /// It was done.
+    Done,
+    /// It was to check a report, which is not valid.
+    NotValid,
 }
 
 /// Why a run stops before its end.
@@ -43,6 +54,14 @@ impl From<Memory> for Stop {
     ghost from_gives = { λ _ stop. stop ≡ stops.Memory };
 
     fn from(_want: Memory) -> Stop {
+        Stop::Memory
+    }
+}
+
+impl From<AllocError> for Stop {
+    ghost from_gives = { λ _ stop. stop ≡ stops.Memory };
+
+    fn from(_refused: AllocError) -> Stop {
         Stop::Memory
     }
 }
@@ -140,6 +159,7 @@ fn push_refusal(line: &mut Text, why: Refusal) -> Result<(), Memory>
 {
     match why {
         Refusal::TooLong => line.push(b"mcs: refused: file longer than 1048576\n"),
+        Refusal::ReportTooLong => line.push(b"mcs: refused: report longer than 268435456\n"),
         Refusal::Text {
             number,
             offset,

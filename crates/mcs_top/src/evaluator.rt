@@ -1,9 +1,9 @@
 //! The evaluator of a run: each context is asked by a solver of its own, and a mesh joins what they answer.
 
-ghost use Rattle.std.specs.Prelude.{◌≡◌, [], map, length, IfOk};
+ghost use Rattle.std.specs.Prelude.{◌≡◌, cond, [], ◌∷◌, map, length, IfOk};
 ghost use Rattle.std.specs.Arc.{arc_value};
-ghost use Rattle.mcs_solver.specs.Solvers.{solver_of};
-ghost use Rattle.mcs_top.specs.Promise.{IsNewMesh};
+ghost use Rattle.mcs_solver.specs.Solvers.{solver_with};
+ghost use Rattle.mcs_top.specs.Promise.{HaveOrigin, IsNewMesh};
 ghost use Rattle.std.specs.List.{range_with_len};
 
 use mcs_base::Memory;
@@ -15,28 +15,37 @@ use mcs_system::System;
 use std::alloc::Global;
 use std::sync::Arc;
 
-/// An evaluator of the system, with a solver for each context.
+/// An evaluator of the system, with a solver for each context. These keep certificates or not.
 pub(crate) fn mesh_of<'g, G: Gate>(
     alloc: Global,
     system: &Arc<System>,
     budget: u64,
+    keep: bool,
     gate: &'g G,
 ) -> Result<Mesh<'g, LocalSolver, G>, Memory>
-    ensures { IfOk result (λ mesh. IsNewMesh (arc_value system.now) budget mesh) }
+    ensures new { IfOk result (λ mesh. IsNewMesh (arc_value system.now) budget mesh) }
+    ensures keeps { IfOk result (λ mesh. HaveOrigin (cond keep ([] ∷ []) []) mesh.oracles) }
 {
     let plan = Arc::new(alloc, Plan::of(alloc, system.clone()?)?)?;
-    let solvers = solvers_of(alloc, system)?;
+    let solvers = solvers_of(alloc, system, keep)?;
     Mesh::new(alloc, plan, solvers, budget, gate)
 }
 
 /// A solver for each context of the system, in order.
-fn solvers_of(alloc: Global, system: &Arc<System>) -> Result<Vec<LocalSolver>, Memory>
+fn solvers_of(alloc: Global, system: &Arc<System>, keep: bool) -> Result<Vec<LocalSolver>, Memory>
     ensures { IfOk result (λ solvers.
-        solvers.items ≡ map (λ i. solver_of (arc_value system.now) i []) (range_with_len 0 (length (arc_value system.now).contexts))) }
+        solvers.items ≡ map (λ i. solver_with keep (arc_value system.now) i []) (range_with_len 0 (length (arc_value system.now).contexts))) }
 {
     let mut solvers = Vec::new(alloc);
     for context in 0..system.contexts().len() as u32 {
-        solvers.push(LocalSolver::new(alloc, system.clone()?, context, false))?;
+        solvers.push(LocalSolver::new(alloc, system.clone()?, context, keep))?;
     }
     Ok(solvers)
+}
+
+/// The system, to be shared by what asks its contexts.
+pub(crate) fn shared(alloc: Global, system: System) -> Result<Arc<System>, Memory>
+    ensures { IfOk result (λ shared. arc_value shared ≡ system) }
+{
+    Ok(Arc::new(alloc, system)?)
 }

@@ -1,11 +1,15 @@
 //! The program's one call: from the words of the command line and the bytes of a file to the printed listing.
 #![tactic(auto)]
 
+mod checking;
 mod command;
 mod ending;
 mod evaluator;
 mod job;
+mod listing;
 mod number;
+mod proving;
+mod reading;
 mod status;
 
 pub use command::run;

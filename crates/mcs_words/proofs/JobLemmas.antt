@@ -1,8 +1,8 @@
 -- Words ask for one job at most, and what is given tells which.
-use Rattle.std.proofs.Common.{◌≤◌, Option, option_map, subst, ◌≡◌, ℕ, cond, List, [], ◌∷◌, Some, None, Ok, Err, Result, MatchResult, get_or, length, arith, codes, refl, sym, ap, ◌∙◌}
+use Rattle.std.proofs.Common.{◌≤◌, Option, option_map, subst, ◌≡◌, ℕ, nat_eq, Bool, cond, List, [], ◌∷◌, Some, None, Ok, Err, Result, MatchResult, get_or, length, arith, codes, refl, sym, ap, ◌∙◌}
 use Rattle.std.specs.Str.{bytes_eq}
 use Rattle.mcs_base.specs.Numbers.{value_of_digits}
-use Rattle.mcs_words.specs.Commands.{Word, Command, Request, equilibria, solve, make, default_of, IsChosen, HasSettings, AsksFor, IsJobOf}
+use Rattle.mcs_words.specs.Commands.{Word, Command, Request, equilibria, solve, check, make, default_of, IsChosen, HasSettings, AsksFor, IsJobOf}
 use Rattle.mcs_words.specs.declared.setting.Setting.{Setting}
 use Rattle.mcs_words.specs.declared.setting.Setting.TheVariants.{Budget, Workers}
 use Rattle.mcs_words.specs.declared.task.Task.{Task}
@@ -27,30 +27,35 @@ chosen_is s (value ∷ (second ∷ values)) n h = absurd h
 
 -- the job that a word names; any for another word
 abbrev task_at : Word → Task
-task_at word = cond (bytes_eq word (codes "equilibria")) task.Equilibria (cond (bytes_eq word (codes "solve")) task.Solve task.Make)
+task_at word = cond (bytes_eq word (codes "equilibria")) task.Equilibria
+    (cond (bytes_eq word (codes "solve")) task.Solve (cond (bytes_eq word (codes "check")) task.Check task.Make))
 
 task_named : (t : Task) → task_at (task_name t) ≡ t
 task_named task.Equilibria = refl
 task_named task.Solve = refl
+task_named task.Check = refl
 task_named task.Make = refl
 
-abbrev request_at : Task → Word → ℕ → ℕ → Request
-request_at task.Equilibria file budget workers = equilibria file budget workers
-request_at task.Solve file budget workers = solve file budget workers
-request_at task.Make file budget workers = make (value_of_digits file) budget workers
+abbrev request_at : Task → Word → Word → ℕ → ℕ → Bool → Request
+request_at task.Equilibria file report budget workers proof = equilibria file budget workers
+request_at task.Solve file report budget workers proof = solve file budget workers proof
+request_at task.Check file report budget workers proof = check file report
+request_at task.Make file report budget workers proof = make (value_of_digits file) budget workers
 
 -- what a command asks for, where it asks for anything
-abbrev request_by : List Word → ℕ → ℕ → Request
-request_by words = request_at (task_at (get_or words 0 [])) (get_or words 1 [])
+abbrev request_by : List Word → ℕ → ℕ → Bool → Request
+request_by words = request_at (task_at (get_or words 0 [])) (get_or words 1 []) (get_or words 2 [])
 
-settings_are : (c : Command) (budget workers : ℕ) → HasSettings c budget workers
-    → request_by c.plain (chosen_of Budget c.budgets) (chosen_of Workers c.workers) ≡ request_by c.plain budget workers
-settings_are c budget workers h = rw (chosen_is Budget c.budgets budget h.budget_is, chosen_is Workers c.workers workers h.workers_are) refl
+settings_are : (c : Command) (budget workers : ℕ) (proof : Bool) → HasSettings c budget workers proof
+    → request_by c.plain (chosen_of Budget c.budgets) (chosen_of Workers c.workers) (nat_eq c.proofs 1) ≡ request_by c.plain budget workers proof
+settings_are c budget workers proof h = rw (chosen_is Budget c.budgets budget h.budget_is, chosen_is Workers c.workers workers h.workers_are, h.proof_is.1) refl
 
-asks_for : (c : Command) (request : Request) → AsksFor c request → request_by c.plain (chosen_of Budget c.budgets) (chosen_of Workers c.workers) ≡ request
-asks_for c (equilibria file budget workers) h = settings_are c budget workers h.2 ∙ ap (λ (words : List Word). request_by words budget workers) h.0
-asks_for c (solve file budget workers) h = settings_are c budget workers h.2 ∙ ap (λ (words : List Word). request_by words budget workers) h.0
-asks_for c (make number budget workers) h = settings_are c budget workers h.3 ∙ (ap (λ (words : List Word). request_by words budget workers) h.1 ∙ ap (λ n. make n budget workers) h.2.2)
+asks_for : (c : Command) (request : Request) → AsksFor c request → request_by c.plain (chosen_of Budget c.budgets) (chosen_of Workers c.workers) (nat_eq c.proofs 1) ≡ request
+asks_for c (equilibria file budget workers) h = settings_are c budget workers h.0 h.3 ∙ ap (λ (words : List Word). request_by words budget workers h.0) h.1
+asks_for c (solve file budget workers proof) h = settings_are c budget workers proof h.2 ∙ ap (λ (words : List Word). request_by words budget workers proof) h.0
+asks_for c (check file report) h = settings_are c h.0 h.1 h.2 h.6 ∙ ap (λ (words : List Word). request_by words h.0 h.1 h.2) h.3
+asks_for c (make number budget workers) h = settings_are c budget workers h.0 h.4
+    ∙ (ap (λ (words : List Word). request_by words budget workers h.0) h.2 ∙ ap (λ n. make n budget workers) h.3.2)
 
 pub asks_once : (c : Command) (a b : Request) → AsksFor c a → AsksFor c b → a ≡ b
 asks_once c a b h k = sym (asks_for c a h) ∙ asks_for c b k
@@ -70,19 +75,20 @@ one_value s [] n h = omega arith
 one_value s (value ∷ []) n h = omega arith
 one_value s (value ∷ (second ∷ values)) n h = absurd h
 
-settings_whole : (c : Command) (budget workers : ℕ) → HasSettings c budget workers → length c.plain ≡ 2 → IsWholeTally (tally_of c)
-settings_whole c budget workers h two = record {
-  least = omega (arith, two);
-  most = omega (arith, two);
+settings_whole : (c : Command) (budget workers : ℕ) (proof : Bool) → HasSettings c budget workers proof → 2 ≤ length c.plain → length c.plain ≤ 3 → IsWholeTally (tally_of c)
+settings_whole c budget workers proof h least most = record {
+  least = least;
+  most = most;
   budgets = one_value Budget c.budgets budget h.budget_is;
   workers = one_value Workers c.workers workers h.workers_are;
-  proofs = omega (arith, h.unmarked);
+  proofs = h.proof_is.0;
 }
 
 asks_whole : (c : Command) (request : Request) → AsksFor c request → IsWholeTally (tally_of c)
-asks_whole c (equilibria file budget workers) h = settings_whole c budget workers h.2 (ap length h.0)
-asks_whole c (solve file budget workers) h = settings_whole c budget workers h.2 (ap length h.0)
-asks_whole c (make number budget workers) h = settings_whole c budget workers h.3 (ap length h.1)
+asks_whole c (equilibria file budget workers) h = let words = ap length h.1 in settings_whole c budget workers h.0 h.3 (omega (arith, words)) (omega (arith, words))
+asks_whole c (solve file budget workers proof) h = let words = ap length h.0 in settings_whole c budget workers proof h.2 (omega (arith, words)) (omega (arith, words))
+asks_whole c (check file report) h = let words = ap length h.3 in settings_whole c h.0 h.1 h.2 h.6 (omega (arith, words)) (omega (arith, words))
+asks_whole c (make number budget workers) h = let words = ap length h.2 in settings_whole c budget workers h.0 h.4 (omega (arith, words)) (omega (arith, words))
 
 pub not_whole : (words : List Word) (t : Tally) (request : Request) → Some t ≡ option_map tally_of (read words Open) → ¬ IsWholeTally t → ¬ IsJobOf words request
 not_whole words t request e never job =
@@ -104,12 +110,7 @@ whole_reading words t e whole = at (read words Open) refl e
 
 -- a job that is asked for is named by the first plain word
 pub named_first : (c : Command) (first : Word) (words : List Word) (request : Request) → c.plain ≡ first ∷ words → AsksFor c request → (t : Task) × (first ≡ task_name t)
-named_first c first words (equilibria file budget workers) e h = (task.Equilibria, cc (e, h.0))
-named_first c first words (solve file budget workers) e h = (task.Solve, cc (e, h.0))
-named_first c first words (make number budget workers) e h = (task.Make, cc (e, h.1))
-
--- a job that is asked for has no flag
-pub not_marked : (c : Command) (request : Request) → AsksFor c request → c.proofs ≡ 0
-not_marked c (equilibria file budget workers) h = h.2.unmarked
-not_marked c (solve file budget workers) h = h.2.unmarked
-not_marked c (make number budget workers) h = h.3.unmarked
+named_first c first words (equilibria file budget workers) e h = (task.Equilibria, cc (e, h.1))
+named_first c first words (solve file budget workers proof) e h = (task.Solve, cc (e, h.0))
+named_first c first words (check file report) e h = (task.Check, cc (e, h.3))
+named_first c first words (make number budget workers) e h = (task.Make, cc (e, h.2))

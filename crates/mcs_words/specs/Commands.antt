@@ -83,19 +83,25 @@ IsChosen s [] n = n ≡ default_of s
 IsChosen s (value ∷ []) n = IsNumber (least_of s) (most_of s) value n
 IsChosen s (value ∷ (second ∷ values)) n = ⊥
 
--- a command's budget and its number of workers; no job takes the flag yet
-pub record HasSettings (c : Command) (budget workers : ℕ) : Type 0 where
+-- the flag stands once at most, and this says whether it does
+abbrev pub IsMarked : ℕ → Bool → Type 0
+IsMarked times stands = (times ≤ 1) × (stands ≡ nat_eq times 1)
+
+-- a command's budget, its number of workers, and whether its flag stands
+pub record HasSettings (c : Command) (budget workers : ℕ) (proof : Bool) : Type 0 where
   pub budget_is : IsChosen Budget c.budgets budget
   pub workers_are : IsChosen Workers c.workers workers
-  pub unmarked : c.proofs ≡ 0
+  pub proof_is : IsMarked c.proofs proof
 
 -- ---- jobs
 
 pub data Request : Type 0 where
   -- to list the equilibria of the system that a file has: the file, a budget of questions, a number of workers
   equilibria : Word → ℕ → ℕ → Request
-  -- to list its equilibria, minimal diagnoses and minimal explanations
-  solve : Word → ℕ → ℕ → Request
+  -- to list its equilibria, minimal diagnoses and minimal explanations, and to add their proof or not
+  solve : Word → ℕ → ℕ → Bool → Request
+  -- to judge a report on the system that a file has: the file, and the file of the report
+  check : Word → Word → Request
   -- to solve the system that is generated for a number: the number, a budget of questions, a number of workers
   make : ℕ → ℕ → ℕ → Request
 
@@ -107,11 +113,18 @@ IsFile word = ¬ (word ≡ []) × ¬ (word ≡ codes "-")
 abbrev pub most_made : ℕ
 most_made = 4294967295
 
--- what a command asks for: its plain words are the job and its file or number
+-- what a command asks for: its plain words are the job, its file or number, and for `check` alone a report. Options and flag
+-- are what they may be also where they have no effect
 abbrev pub AsksFor : Command → Request → Type 0
-AsksFor c (equilibria file budget workers) = (c.plain ≡ codes "equilibria" ∷ file ∷ []) × IsFile file × HasSettings c budget workers
-AsksFor c (solve file budget workers) = (c.plain ≡ codes "solve" ∷ file ∷ []) × IsFile file × HasSettings c budget workers
-AsksFor c (make number budget workers) = (digits : Word) × (c.plain ≡ codes "make" ∷ digits ∷ []) × IsNumber 0 most_made digits number × HasSettings c budget workers
+AsksFor c (equilibria file budget workers) =
+    (proof : Bool) × (c.plain ≡ codes "equilibria" ∷ file ∷ []) × IsFile file × HasSettings c budget workers proof
+AsksFor c (solve file budget workers proof) =
+    (c.plain ≡ codes "solve" ∷ file ∷ []) × IsFile file × HasSettings c budget workers proof
+AsksFor c (check file report) =
+    (budget : ℕ) × (workers : ℕ) × (proof : Bool)
+    × (c.plain ≡ codes "check" ∷ file ∷ report ∷ []) × IsFile file × IsFile report × HasSettings c budget workers proof
+AsksFor c (make number budget workers) =
+    (proof : Bool) × (digits : Word) × (c.plain ≡ codes "make" ∷ digits ∷ []) × IsNumber 0 most_made digits number × HasSettings c budget workers proof
 
 -- the words ask for the job
 abbrev pub IsJobOf : List Word → Request → Type 0

@@ -5,10 +5,10 @@ use Rattle.std.specs.Str.{bytes_eq}
 use Rattle.std.specs.Option.{option_map_or}
 use Rattle.std.specs.declared.alloc.Global.{Global}
 use Rattle.mcs_base.specs.Numbers.{IsNumber}
-use Rattle.mcs_words.specs.Commands.{Word, Command, Request, equilibria, solve, make, nothing, with_plain, with_value, with_proof, begins_with_dash, IsFile, most_made}
+use Rattle.mcs_words.specs.Commands.{Word, Command, Request, equilibria, solve, check, make, nothing, with_plain, with_value, with_proof, begins_with_dash, IsFile, most_made}
 use Rattle.mcs_words.specs.declared.given.Given.{Given}
 use Rattle.mcs_words.specs.declared.job.Job.{Job}
-use Rattle.mcs_words.specs.declared.job.Job.TheVariants.{Equilibria, Solve, Make}
+use Rattle.mcs_words.specs.declared.job.Job.TheVariants.{Equilibria, Solve, Check, Make}
 use Rattle.mcs_words.specs.declared.kind.Kind.{Kind}
 use Rattle.mcs_words.specs.declared.kind.Kind.TheVariants as code
 use Rattle.mcs_words.specs.declared.reading.Place.{Place}
@@ -26,18 +26,23 @@ texts_of words = map string_bytes words
 
 abbrev pub request_of : Job → Request
 request_of (Equilibria file budget workers) = equilibria (string_bytes file) budget workers
-request_of (Solve file budget workers) = solve (string_bytes file) budget workers
+request_of (Solve file budget workers proof) = solve (string_bytes file) budget workers proof
+request_of (Check file report) = check (string_bytes file) (string_bytes report)
 request_of (Make number budget workers) = make number budget workers
 
 -- the first plain word of a job
 abbrev pub task_name : Task → Word
 task_name task.Equilibria = codes "equilibria"
 task_name task.Solve = codes "solve"
+task_name task.Check = codes "check"
 task_name task.Make = codes "make"
 
 -- what its other plain words are
 abbrev pub IsOneFile : List Word → Type 0
 IsOneFile words = (file : Word) × (words ≡ file ∷ []) × IsFile file
+
+abbrev pub AreTwoFiles : List Word → Type 0
+AreTwoFiles words = (file : Word) × (report : Word) × (words ≡ file ∷ report ∷ []) × IsFile file × IsFile report
 
 abbrev pub IsOneNumber : List Word → Type 0
 IsOneNumber words = (digits : Word) × (number : ℕ) × (words ≡ digits ∷ []) × IsNumber 0 most_made digits number

@@ -4,7 +4,7 @@ ghost use Rattle.std.specs.Prelude.{◌≡◌, ◌∷◌, [], ◌≤◌, ℕ, Ma
 ghost use Rattle.std.specs.Bool.{MatchBool};
 ghost use Rattle.mcs_base.specs.Numbers.{IsNumber};
 ghost use Rattle.mcs_words.specs.Commands.{Request, IsFile, IsChosen, AsksFor, most_of, most_made};
-ghost use Rattle.mcs_words.specs.Reading.{request_of, command_of, listed, targets_of, IsOneFile, IsOneNumber};
+ghost use Rattle.mcs_words.specs.Reading.{request_of, command_of, listed, targets_of, IsOneFile, AreTwoFiles, IsOneNumber};
 ghost use Rattle.mcs_words.specs.declared.setting.Setting.TheVariants.{Budget, Workers};
 
 use crate::given::Given;
@@ -26,9 +26,6 @@ pub(crate) fn job(alloc: Global, given: &Given) -> Result<Job, WordsFault>
     let Some(task) = task_of(given.job) else {
         return Err(WordsFault::Usage);
     };
-    if given.proof {
-        return Err(WordsFault::Usage);
-    }
     let Some((budget, workers)) = numbers(given) else {
         return Err(WordsFault::Usage);
     };
@@ -47,7 +44,12 @@ pub(crate) fn job(alloc: Global, given: &Given) -> Result<Job, WordsFault>
                 file,
                 budget,
                 workers,
+                proof: given.proof,
             })
+        }
+        Task::Check => {
+            let (file, report) = two_files(alloc, given)?;
+            Ok(Job::Check { file, report })
         }
         Task::Make => {
             let number = one_number(given)?;
@@ -93,6 +95,20 @@ fn one_file(alloc: Global, given: &Given) -> Result<String, WordsFault>
         None => file_named(alloc, given.file),
         Some(_) => Err(WordsFault::Usage),
     }
+}
+
+/// The file and the report.
+fn two_files(alloc: Global, given: &Given) -> Result<(String, String), WordsFault>
+    ensures { MatchResult result
+        (λ p. (targets_of given.now ≡ string_bytes p.0 ∷ string_bytes p.1 ∷ []) × IsFile (string_bytes p.0) × IsFile (string_bytes p.1))
+        (λ fault. fault ≡ WordsFault.Usage → ¬ AreTwoFiles (targets_of given.now)) }
+{
+    let Some(report) = given.report else {
+        return Err(WordsFault::Usage);
+    };
+    let file = file_named(alloc, given.file)?;
+    let report = file_named(alloc, report)?;
+    Ok((file, report))
 }
 
 /// The number, where no report stands after it.

@@ -16,11 +16,17 @@ pub enum Job {
         workers: u32,
     },
     /// To list the equilibria, the minimal diagnoses and the minimal explanations of the system that the file
-    /// has.
+    /// has, and to add their proof or not.
     Solve {
         file: String,
         budget: u64,
         workers: u32,
+        proof: bool,
+    },
+    /// To judge the report, which is a file too, on the system that the file has.
+    Check {
+        file: String,
+        report: String,
     },
     /// To solve the system that is generated for the number, which is at most 4,294,967,295.
     Make {

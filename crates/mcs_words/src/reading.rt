@@ -23,11 +23,13 @@ pub(crate) enum Place {
     Closed,
 }
 
-/// The job that the words ask for: `equilibria FILE`, `solve FILE` or `make NUMBER`, with the options `--budget N` and
-/// `--workers N` anywhere before `--`, each once at most, also as `--budget=N`. FILE is not empty and not `-`. NUMBER
-/// and N are one or more digits: 0 to 4,294,967,295 for NUMBER, 1 to 4,294,967,295 for the budget, by default 100,000,
-/// and 1 to 64 for the workers, by default 1. After `--` every word is plain. The words are those after the program's
-/// name. The flag `--proof` and a third plain word are read, but no job takes them yet.
+/// The job that the words ask for: `equilibria FILE`, `solve FILE`, `check FILE REPORT` or `make NUMBER`, with the
+/// options `--budget N` and `--workers N` and the flag `--proof` anywhere before `--`, each once at most; an option
+/// also as `--budget=N`. FILE and REPORT are not empty and not `-`. NUMBER and N are one or more digits: 0 to
+/// 4,294,967,295 for NUMBER, 1 to 4,294,967,295 for the budget, by default 100,000, and 1 to 64 for the workers, by
+/// default 1. After `--` every word is plain. The words are those after the program's name.
+///
+/// Options and flag may stand for each job: for `check` they change nothing, and the flag changes `solve` alone.
 ///
 /// `Usage` comes exactly where the words ask for no job.
 pub fn read_words(alloc: Global, words: &[String]) -> Result<Job, WordsFault>

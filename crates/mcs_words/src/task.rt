@@ -10,6 +10,8 @@ pub(crate) enum Task {
     Equilibria,
     /// `solve`.
     Solve,
+    /// `check`.
+    Check,
     /// `make`.
     Make,
 }
@@ -23,6 +25,8 @@ pub(crate) fn task_of(word: &str) -> Option<Task>
         Some(Task::Equilibria)
     } else if word == "solve" {
         Some(Task::Solve)
+    } else if word == "check" {
+        Some(Task::Check)
     } else if word == "make" {
         Some(Task::Make)
     } else {

@@ -2,12 +2,12 @@ use Rattle.std.proofs.Common.{◌++◌, [], ◌∷◌, map, sym, ap, ◌∙◌, 
 use Rattle.std.proofs.lemmas.List.FromFn.{map-range_with_len_more}
 use Rattle.std.specs.Arc.{arc_value}
 use Rattle.std.specs.List.{range_with_len}
-use Rattle.mcs_solver.specs.Solvers.{solver_of}
+use Rattle.mcs_solver.specs.Solvers.{solver_with}
 use Rattle.mcs_top.proofs.evaluator.solvers_of.Goals as goal
 
 pub loop-context-preserved : goal.loop-context-preserved
 loop-context-preserved c =
     c.in_ok-push.ensures.items ∙ ap (λ ss. ss ++ c.new.result ∷ []) c.loop-context.invariant
-    ∙ ap (λ s. map (λ i. solver_of (arc_value c.args.system.now) i []) (range_with_len 0 c.loop-context.context) ++ s ∷ [])
-    (c.new.ensures ∙ ap (λ m. solver_of m c.loop-context.context []) c.in_ok-clone.ensures.cases)
-    ∙ sym (map-range_with_len_more (λ i. solver_of (arc_value c.args.system.now) i []) 0 c.loop-context.context c.loop-context.context (omega arith))
+    ∙ ap (λ s. map (λ i. solver_with c.args.keep (arc_value c.args.system.now) i []) (range_with_len 0 c.loop-context.context) ++ s ∷ [])
+    (c.new.ensures ∙ ap (λ m. solver_with c.args.keep m c.loop-context.context []) c.in_ok-clone.ensures.cases)
+    ∙ sym (map-range_with_len_more (λ i. solver_with c.args.keep (arc_value c.args.system.now) i []) 0 c.loop-context.context c.loop-context.context (omega arith))

@@ -1,6 +1,6 @@
 use Rattle.std.proofs.Common.{refl}
 use Rattle.mcs_words.specs.Reading.{command_of, targets_of}
-use Rattle.mcs_words.proofs.JobLemmas.{named_first, not_marked}
+use Rattle.mcs_words.proofs.JobLemmas.{named_first}
 use Rattle.mcs_words.proofs.asked.job.Goals as goal
 
 pub returns-in_default : goal.returns-in_default

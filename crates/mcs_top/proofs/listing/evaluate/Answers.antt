@@ -4,7 +4,7 @@ use Rattle.mcs_top.specs.Jobs.{told_all}
 use Rattle.mcs_top.specs.Promise.{HasCause, LeavesText}
 use Rattle.mcs_top.proofs.StageLemmas.{read_cause, read_left, file_listed, file_causes, file_leaves}
 use Rattle.mcs_base.proofs.Results.{err_told}
-use Rattle.mcs_top.proofs.job.evaluate.Goals as goal
+use Rattle.mcs_top.proofs.listing.evaluate.Goals as goal
 
 pub returns-in_err-system-clause-cause : goal.returns-in_err-system-clause-cause
 returns-in_err-system-clause-cause g c job lists =
@@ -20,7 +20,7 @@ returns-in_err-system-clause-leaves g c job lists =
     let rose = Rose (g.H.Shelf.faults c.args.shelf.now) (g.H.Shelf.faults c.system_in.new.shelf) in
     let at = (g.K.Sink.device c.args.sink.now).written in
     err_told (λ stop. LeavesText stop job files at at) _ _ c.from_residual.ensures.1
-    (read_left job c.args.task c.args.file.now c.args.budget lists rose files at c.in_err-system.field-0.0 c.in_err-system.ensures.stop)
+    (read_left job rose files files at c.in_err-system.field-0.0 c.in_err-system.ensures.stop)
 
 pub returns-clause-ok : goal.returns-clause-ok
 returns-clause-ok g c job lists = file_listed job c.args.task c.args.file.now c.args.budget lists c.in_ok-system.system _ c.in_ok-system.ensures.system (g.K.Sink.device c.args.sink.now).written (g.K.Sink.device c.list_system.new.sink).written c.list_system.result c.list_system.ensures.ok

@@ -1,7 +1,7 @@
 use Rattle.mcs_top.specs.Promise.{StopsGenerated}
 use Rattle.mcs_top.proofs.StageLemmas.{made_done, made_stops, line_stopped}
 use Rattle.mcs_base.proofs.Results.{err_told}
-use Rattle.mcs_top.proofs.job.generated.Goals as goal
+use Rattle.mcs_top.proofs.listing.generated.Goals as goal
 
 pub returns-in_err-print_number-clause-stop : goal.returns-in_err-print_number-clause-stop
 returns-in_err-print_number-clause-stop g c = err_told (λ stop. StopsGenerated stop c.args.number c.args.budget _ _ _) _ _ c.from_residual-in_err-print_number.ensures.1

@@ -1,0 +1,102 @@
+-- What the work on a system that is evaluated by answers tells of them.
+use Rattle.std.proofs.Common.{◌≡◌, ℕ, ◌<◌, ◌≤◌, List, [], length, Some, None, refl, sym, ap, subst, inl, inr, ◌⊎◌, arith}
+use Rattle.std.proofs.lemmas.Bool.{cases_lt}
+use Rattle.std.proofs.lemmas.Option.{same_Some, slice_get_within}
+use Rattle.mcs_base.proofs.Among.{cases_among}
+use Rattle.mcs_system.specs.Faults.{IsValid}
+use Rattle.mcs_system.specs.Levels.{IsQuestionAt}
+use Rattle.mcs_system.specs.Plain.{System}
+use Rattle.mcs_system.specs.Systems.{IsConsistent, all_rules}
+use Rattle.mcs_laws.proofs.Existence.{consistency_is_listed}
+use Rattle.mcs_evidence.proofs.SystemListings.{all_states_listed}
+use Rattle.mcs_states.specs.Oracles.{OracleState, Lacks}
+use Rattle.mcs_states.specs.Evaluators.{EvaluatorState}
+use Rattle.mcs_mesh.specs.Rounds.{state_of, AreFresh}
+use Rattle.mcs_mesh.proofs.General.{question_higher}
+use Rattle.mcs_ports.specs.Pieces.{Device}
+use Rattle.mcs_report.specs.Solutions.{IsWholeListing}
+use Rattle.mcs_work.specs.Tasks.{IsRepairLevel, IsLastRepairLevel}
+use Rattle.mcs_work.specs.Work.{IsDone, HasStopped}
+use Rattle.mcs_work.specs.declared.task.Task.TheVariants.{Solve}
+use Rattle.mcs_work.specs.declared.task.WorkStop.{WorkStop}
+use Rattle.mcs_work.specs.declared.task.WorkStop.TheVariants as stops
+use Rattle.mcs_proof_text.specs.Answers.{Answer}
+use Rattle.mcs_proof_text.specs.Proofs.{IsAnswered}
+use Rattle.mcs_check.specs.Validity.{IsNeeded}
+use Rattle.mcs_check.specs.Answers.{sets_to, oracle_for, oracles_for}
+use Rattle.mcs_check.specs.Relisting.{HoldAll, LackOne, IsSpentStop, IsMissingStop}
+use Rattle.mcs_check.proofs.Counting.{never_so_many}
+use Rattle.mcs_check.proofs.OwnAnswers.{oracle_there, oracle_is, set_answered, answered_set}
+
+-- ---- levels
+decided : (m : System) → IsConsistent m ⊎ (¬ IsConsistent m)
+decided m = let (σs, listing) = all_states_listed m (all_rules m) 0 in elim (cases_lt 0 (length σs)) [
+  | inl some ↦ inl ((consistency_is_listed m σs listing).1 some)
+  | inr none ↦ inr (λ c. let more : 0 < length σs = (consistency_is_listed m σs listing).0 c in absurd (omega (arith, more, none)))
+]
+
+last_is_taken : (m : System) (level : ℕ) → IsLastRepairLevel m level → IsRepairLevel m level
+last_is_taken m level (inl (consistent, first)) = inl first
+last_is_taken m level (inr (not, last)) = inr (not, omega (arith, last))
+
+-- a question of a level that is taken is one of the last level
+needed_of : (m : System) (level i x : ℕ) → i < length m.contexts → IsRepairLevel m level → IsQuestionAt m level i x → IsNeeded m i x
+needed_of m level i x less taken question = elim (decided m) [
+  | inl consistent ↦ (0, inl (consistent, refl), less, subst (λ (l : ℕ). IsQuestionAt m l i x) (lowest consistent taken) question)
+  | inr not ↦ (length m.bridges, inr (not, refl), less, question_higher m level (length m.bridges) i x (within taken) question)
+]
+  where
+    lowest : IsConsistent m → IsRepairLevel m level → level ≡ 0
+    lowest consistent (inl first) = first
+    lowest consistent (inr (not, within)) = absurd (not consistent)
+
+    within : IsRepairLevel m level → level ≤ length m.bridges
+    within (inl first) = omega (arith, first)
+    within (inr (not, high)) = high
+
+-- ---- what the work tells of the oracles
+abbrev pub start_of : System → List OracleState → EvaluatorState
+start_of m os = state_of m 4294967295 None None os
+
+module _ (m : System) (os : List OracleState) (each : length os ≡ length m.contexts) (e : EvaluatorState) where
+  pub told_listing : (text : List ℕ) → IsDone Solve [] (start_of m os) e (Some []) (Some text) → IsWholeListing m text × HoldAll m os
+  told_listing text d = (
+    subst (λ (t : List ℕ). IsWholeListing m t) (sym (same_Some _ _ d.written)) d.text,
+    λ i x o (level, last, less, question) is lacks. d.answered level i x (last_is_taken m level last) (record { oracle = o; is_its = is; lacks = lacks; question = question }),
+  )
+
+  pub told_stop : IsValid m → (before now : Device) (stop : WorkStop) → HasStopped Solve [] (start_of m os) e before now stop → ¬ IsSpentStop stop
+  told_stop valid before now stops.Write h = λ none. none
+  told_stop valid before now (stops.Spent level) h = λ _. never_so_many m valid level h.beyond
+  told_stop valid before now (stops.Missing context active) h = λ none. none
+  told_stop valid before now stops.Memory h = λ none. none
+
+  pub told_missing : (before now : Device) (stop : WorkStop) → HasStopped Solve [] (start_of m os) e before now stop → IsMissingStop stop → LackOne m os
+  told_missing before now stops.Write h none = absurd none
+  told_missing before now (stops.Spent level) h none = absurd none
+  told_missing before now (stops.Missing context active) h _ = record {
+    context = context;
+    active = active;
+    needed = needed_of m h.level context active (omega (arith, slice_get_within os context h.unanswered.oracle h.unanswered.is_its, each)) h.taken h.unanswered.question;
+    oracle = h.unanswered.oracle;
+    is_it = h.unanswered.is_its;
+    lacks = h.unanswered.lacks;
+  }
+  told_missing before now stops.Memory h none = absurd none
+
+-- ---- and so of the answers
+module _ (m : System) (answers : List Answer) where
+  pub fresh_oracles : AreFresh m (oracles_for m answers)
+  fresh_oracles i o is = let same = oracle_is m answers i o is in
+      (ap (λ (s : OracleState). s.system) same, ap (λ (s : OracleState). s.context) same, ap (λ (s : OracleState). s.journal) same)
+
+  pub all_answered : HoldAll m (oracles_for m answers) → (i x : ℕ) → IsNeeded m i x → IsAnswered answers i x
+  all_answered hold i x needed = elim (cases_among x (sets_to i answers)) [
+    | inl among ↦ set_answered m i answers x among
+    | inr none ↦ absurd (hold i x (oracle_for m answers i) needed (oracle_there m answers i needed.2) none)
+  ]
+
+  pub not_answered : (lack : LackOne m (oracles_for m answers)) → ¬ IsAnswered answers lack.context lack.active
+  not_answered lack a =
+      let same = oracle_is m answers lack.context lack.oracle lack.is_it in
+      subst (λ (o : OracleState). Lacks o lack.active) same lack.lacks (answered_set m lack.context answers lack.active a)

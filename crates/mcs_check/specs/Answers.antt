@@ -1,0 +1,55 @@
+-- The answers of a report, one by one and by their contexts, and oracles that hold them.
+use Rattle.std.specs.Prelude.{◌≡◌, ℕ, nat_eq, Bool, List, [], map, filter, take, length, Some, Vec, slice_get}
+use Rattle.std.specs.List.{AllByRecursion, range_with_len}
+use Rattle.std.specs.declared.alloc.Global.{Global}
+use Rattle.mcs_system.specs.Plain.{System}
+use Rattle.mcs_states.specs.Oracles.{OracleState}
+use Rattle.mcs_certificate.specs.Certified.{certified_of}
+use Rattle.mcs_proof_text.specs.Answers.{Answer}
+use Rattle.mcs_proof_reader.specs.Readers.{answer_of}
+use Rattle.mcs_proof_reader.specs.declared.answer.ReportAnswer as code
+use Rattle.mcs_proof_text.specs.Proofs.{IsRight, IsAnswered}
+use Rattle.mcs_check.specs.Validity.{IsNeeded}
+
+-- the first of the answers that is not right begins at this line
+pub record IsFirstWrong (m : System) (answers : List code.ReportAnswer) (line : ℕ) : Type 0 where
+  pub number : ℕ
+  pub answer : code.ReportAnswer
+  pub is_it : slice_get answers number ≡ Some answer
+  pub begins : answer.line ≡ line
+  pub wrong : ¬ IsRight m (answer_of answer)
+  pub before : AllByRecursion (IsRight m) (take number (map answer_of answers))
+
+-- each of the answers is right, and each question that is needed has one
+pub record AreEnough (m : System) (answers : List Answer) : Type 0 where
+  pub right : AllByRecursion (IsRight m) answers
+  pub complete : (i x : ℕ) → IsNeeded m i x → IsAnswered answers i x
+
+-- ---- the answers of one context
+-- a rule set, and the states that are put out
+pub record Answered : Type 0 where
+  pub active : ℕ
+  pub outputs : List ℕ
+
+abbrev pub answered : ℕ × Vec ℕ Global → Answered
+answered a = record { active = a.0; outputs = a.1.items }
+
+abbrev pub answered_by : Answer → Answered
+answered_by a = record { active = a.active; outputs = a.outputs }
+
+abbrev pub is_of : ℕ → Answer → Bool
+is_of i a = nat_eq a.context i
+
+abbrev pub answers_to : ℕ → List Answer → List Answered
+answers_to i answers = map answered_by (filter (is_of i) answers)
+
+-- the rule sets of its questions that are answered
+abbrev pub sets_to : ℕ → List Answer → List ℕ
+sets_to i answers = map (λ (a : Answered). a.active) (answers_to i answers)
+
+-- ---- an oracle for each context
+abbrev pub oracle_for : System → List Answer → ℕ → OracleState
+oracle_for m answers i = certified_of m i (sets_to i answers) []
+
+abbrev pub oracles_for : System → List Answer → List OracleState
+oracles_for m answers = map (oracle_for m answers) (range_with_len 0 (length m.contexts))

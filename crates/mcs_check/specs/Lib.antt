@@ -1,0 +1,5 @@
+pub mod Validity
+pub mod Findings
+pub mod Collected
+pub mod Answers
+pub mod Relisting

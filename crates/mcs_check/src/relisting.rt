@@ -1,0 +1,64 @@
+//! The listing of a system, worked out from answers alone.
+
+ghost use Rattle.std.specs.Prelude.{◌≡◌, length, IfOk, OnOk, MatchOption};
+ghost use Rattle.std.specs.Arc.{arc_value};
+ghost use Rattle.mcs_system.specs.Faults.{IsValid};
+ghost use Rattle.mcs_report.specs.Solutions.{IsWholeListing};
+ghost use Rattle.mcs_mesh.specs.Rounds.{AreFresh};
+ghost use Rattle.mcs_check.specs.Relisting.{HoldAll, LackOne, IsSpentStop, IsMissingStop};
+
+use crate::collecting::Collecting;
+use mcs_base::Memory;
+use mcs_certificate::CertifiedOracle;
+use mcs_import::Plan;
+use mcs_mesh::Mesh;
+use mcs_ports::IdleGate;
+use mcs_system::System;
+use mcs_work::{Task, WorkStop, work};
+use std::alloc::Global;
+use std::sync::Arc;
+
+/// The most questions of a level that may be asked: more than there are rule sets into the contexts of any system.
+const MOST_QUESTIONS: u64 = 4_294_967_295;
+
+/// Nothing, where an answer was missing; else memory ran out. The questions are never too many.
+fn missing(stop: WorkStop) -> Result<(), Memory>
+    requires { ¬ IsSpentStop stop }
+    ensures { OnOk result (IsMissingStop stop) }
+{
+    match stop {
+        WorkStop::Missing { .. } => Ok(()),
+        WorkStop::Spent { .. } => unreachable!(),
+        WorkStop::Write => Err(Memory),
+        WorkStop::Memory => Err(Memory),
+    }
+}
+
+/// The whole listing of the system, as the oracles of its contexts tell it; none where one of them lacks an answer that
+/// is needed.
+pub(crate) fn listing_by(
+    alloc: Global,
+    system: Arc<System>,
+    oracles: Vec<CertifiedOracle>,
+) -> Result<Option<Collecting>, Memory>
+    requires valid { IsValid (arc_value system) }
+    requires one_each { length oracles.items ≡ length (arc_value system).contexts }
+    requires own { AreFresh (arc_value system) oracles.items }
+    ensures { IfOk result (λ listed. MatchOption listed
+        (LackOne (arc_value system) oracles.items)
+        (λ sink. IsWholeListing (arc_value system) sink.text × HoldAll (arc_value system) oracles.items)) }
+{
+    let plan = Arc::new(alloc, Plan::of(alloc, system.clone()?)?)?;
+    let gate = IdleGate;
+    let mesh = Mesh::new(alloc, plan, oracles, MOST_QUESTIONS, &gate)?;
+    let mut sink = Collecting::new(alloc);
+    let (worked, mesh) = work(alloc, mesh, system, Task::Solve, &mut sink);
+    drop(mesh);
+    match worked {
+        Ok(()) => Ok(Some(sink)),
+        Err(stop) => {
+            missing(stop)?;
+            Ok(None)
+        }
+    }
+}

@@ -1,0 +1,188 @@
+-- The listing of a system with its proof: what was asked of its solvers, what was written, and why it stopped.
+use Rattle.std.proofs.Common.{◌≡◌, ℕ, ◌≤◌, ◌⊎◌, true, List, [], ◌∷◌, ◌++◌, length, map, map-id, Option, Some, Result, Ok, Err, slice_get, IfSome, IfErr, OnOk, inl, inr, refl, sym, ap, ◌∙◌, subst, append_assoc, arith}
+use Rattle.mcs_base.specs.Listings.{IsInventory}
+use Rattle.mcs_base.proofs.Lists.{map_slice_get, slice_get-map_some}
+use Rattle.mcs_ports.specs.Causes.{Rose}
+use Rattle.mcs_ports.specs.Pieces.{Device, appended}
+use Rattle.mcs_text.proofs.WriteLaws.{appended-append}
+use Rattle.mcs_text.specs.declared.unwritten.Unwritten.{Unwritten}
+use Rattle.mcs_text.specs.declared.unwritten.Unwritten.TheVariants as unwritten
+use Rattle.mcs_system.specs.Plain.{System}
+use Rattle.mcs_states.specs.Oracles.{OracleState, with_journal}
+use Rattle.mcs_states.specs.Evaluators.{EvaluatorState, KeepsRest, IsAsked}
+use Rattle.mcs_report.specs.Solutions.{IsWholeListing, whole}
+use Rattle.mcs_proof_text.specs.Lines.{text_of_lines}
+use Rattle.mcs_proof_text.specs.Answers.{Answer}
+use Rattle.mcs_proof_text.specs.Proofs.{AreProof, proof_lines}
+use Rattle.mcs_proof_writer.specs.Proving.{AreAsked, HasProved, HasBegunProof, Proves}
+use Rattle.mcs_check.specs.Validity.{IsProvedListing}
+use Rattle.mcs_work.specs.Tasks.{IsTaskStage, IsLastTaken}
+use Rattle.mcs_work.specs.Work.{IsDone}
+use Rattle.mcs_work.specs.declared.task.Task.TheVariants.{Solve}
+use Rattle.mcs_words.specs.Commands.{Word, solve}
+use Rattle.mcs_top.specs.Endings.{stop_for_line}
+use Rattle.mcs_top.specs.Jobs.{File, OfOneFile}
+use Rattle.mcs_top.specs.Texts.{IsTextOf, StopsReading}
+use Rattle.mcs_top.specs.Promise.{OfSystem, IsListedBefore, IsSolved, IsSolutionStage, Prints, PrintsFront, WritesOutput, WritesStage, StopsWork, StopsProof, StopsAnswers, HasCause, LeavesText, IsNewMesh, HaveOrigin}
+use Rattle.mcs_top.specs.declared.ending.Stop.{Stop}
+use Rattle.mcs_top.specs.declared.ending.Stop.TheVariants as stops
+use Rattle.mcs_top.proofs.JobLemmas.{told_also, of_file}
+use Rattle.mcs_top.proofs.RefusalLemmas.{whole_front}
+use Rattle.mcs_top.proofs.StageLemmas.{nothing_left, listed_done}
+
+-- ---- stages of the listing are stages of it with its proof
+front_of_stage : (m : System) (before now : Option (List ℕ)) → PrintsFront (IsTaskStage Solve m) before now → PrintsFront (IsSolutionStage true m) before now
+front_of_stage m before now p = record { text = p.text; holds = inl p.holds; front = p.front }
+
+pub nothing_proved : (m : System) (now : Option (List ℕ)) → PrintsFront (IsSolutionStage true m) now now
+nothing_proved m now = front_of_stage m now now (nothing_left Solve m now)
+
+pub work_stops_proof : (budget : ℕ) (m : System) (sink-rose : Type 0) (before now : Option (List ℕ)) (stop : Stop) → StopsWork stop Solve budget m sink-rose before now → StopsProof stop budget m sink-rose before now
+work_stops_proof budget m sink-rose before now stops.Usage h = h
+work_stops_proof budget m sink-rose before now (stops.Refused why) h = h
+work_stops_proof budget m sink-rose before now (stops.Unfinished level limit) h = h
+work_stops_proof budget m sink-rose before now stops.ReadFault h = h
+work_stops_proof budget m sink-rose before now stops.WriteFault h = (h.0, front_of_stage m before now h.1)
+work_stops_proof budget m sink-rose before now stops.Memory h = front_of_stage m before now h
+
+-- ---- after the listing
+module _ (m : System) (budget : ℕ) (e e' : EvaluatorState) (fresh : IsNewMesh m budget e) (rest : KeepsRest e e') (before mid : Option (List ℕ)) (d : IsDone Solve [] e e' before mid) where
+  system_kept : e'.system ≡ m
+  system_kept = rest.system ∙ fresh.system
+
+  origin_kept : HaveOrigin ([] ∷ []) e.oracles → (i : ℕ) (o : OracleState) → slice_get e'.oracles i ≡ Some o → o.origin ≡ [] ∷ []
+  origin_kept keeps i o is =
+      let (o', at, same) = map_slice_get (with_journal []) e.oracles i (with_journal [] o) (ap (λ (os : List OracleState). slice_get os i) (sym rest.oracles) ∙ slice_get-map_some (with_journal []) e'.oracles i o is) in
+      ap (λ (s : OracleState). s.origin) (sym same) ∙ keeps i o' at
+
+  -- its solvers were asked exactly the questions of the last level
+  pub solvers_asked : HaveOrigin ([] ∷ []) e.oracles → AreAsked m d.level e'.oracles
+  solvers_asked keeps = record {
+    one_each = d.settled.one_each ∙ ap (λ (n : System). length n.contexts) system_kept;
+    own = λ i o is. ((d.settled.own i o is).0 ∙ system_kept, (d.settled.own i o is).1);
+    keep = origin_kept keeps;
+    asked = λ i o is. subst (λ (n : System). IsInventory (IsAsked n (Some d.level) i) o.journal) system_kept (subst (λ (l : Option ℕ). IsInventory (IsAsked e'.system l i) o.journal) d.level_done (d.settled.asked i o is));
+  }
+
+  whole_listing : IsWholeListing m d.part
+  whole_listing = subst (λ (n : System). IsWholeListing n d.part) fresh.system d.text
+
+  last_level : IsLastTaken Solve m d.level
+  last_level = subst (λ (n : System). IsLastTaken Solve n d.level) fresh.system d.last
+
+  module _ (answers : List Answer) (proof : AreProof m d.level answers) where
+    proved_listing : IsProvedListing m (d.part ++ text_of_lines (proof_lines m answers))
+    proved_listing = record { listing = d.part; whole = whole_listing; level = d.level; last = last_level; answers = answers; proof = proof; text_is = refl }
+
+    after_listing : (part : List ℕ) (now : Option (List ℕ)) → now ≡ appended mid part → now ≡ appended before (d.part ++ part)
+    after_listing part now is = is ∙ ap (λ w. appended w part) d.written ∙ appended-append before d.part part
+
+  listing_left : PrintsFront (IsSolutionStage true m) before mid
+  listing_left = record { text = d.part; holds = inl (whole whole_listing); front = whole_front d.part before mid d.written }
+
+  proof_begun : (now : Option (List ℕ)) → HasBegunProof m d.level mid now → PrintsFront (IsSolutionStage true m) before now
+  proof_begun now b = record {
+    text = d.part ++ text_of_lines (proof_lines m b.answers);
+    holds = inr (proved_listing b.answers b.proof);
+    front = record {
+      front = d.part ++ b.front.front;
+      rest = b.front.rest;
+      parts = append_assoc d.part b.front.front b.front.rest ∙ ap (λ t. d.part ++ t) b.front.parts;
+      written = after_listing b.answers b.proof b.front.front now b.front.written;
+    };
+  }
+
+  proof_front : (now : Option (List ℕ)) → (now ≡ mid) ⊎ HasBegunProof m d.level mid now → PrintsFront (IsSolutionStage true m) before now
+  proof_front now (inl same) = subst (λ (w : Option (List ℕ)). PrintsFront (IsSolutionStage true m) before w) (sym same) listing_left
+  proof_front now (inr begun) = proof_begun now begun
+
+  proof_written : (now : Option (List ℕ)) → HasProved m d.level mid now → Prints (λ text. IsSolved true budget text m) before now
+  proof_written now p =
+      let listed = listed_done Solve m budget e e' fresh before mid d in
+      record {
+        text = d.part ++ text_of_lines (proof_lines m p.answers);
+        holds = (listed.holds.0, proved_listing p.answers p.proof);
+        written = after_listing p.answers p.proof (text_of_lines (proof_lines m p.answers)) now p.written;
+      }
+
+  pub proof_done : (now : Option (List ℕ)) (r : Result (Unit {0}) Stop) → OnOk r (HasProved m d.level mid now) → OnOk r (Prints (λ text. IsSolved true budget text m) before now)
+  proof_done now (Ok x) p = proof_written now p
+  proof_done now (Err stop) p = tt
+
+  proof_stopped : (first middle last : ℕ) → first ≤ middle → (now : Option (List ℕ)) (stop : Stop) → StopsAnswers stop m d.level (Rose middle last) mid now → StopsProof stop budget m (Rose first last) before now
+  proof_stopped first middle last up now stops.Usage h = h
+  proof_stopped first middle last up now (stops.Refused why) h = h
+  proof_stopped first middle last up now (stops.Unfinished level limit) h = absurd h
+  proof_stopped first middle last up now stops.ReadFault h = h
+  proof_stopped first middle last up now stops.WriteFault h = (omega (arith, up, h.0), proof_front now h.1)
+  proof_stopped first middle last up now stops.Memory h = proof_front now h
+
+  pub proof_stops : (first middle last : ℕ) → first ≤ middle → (now : Option (List ℕ)) (r : Result (Unit {0}) Stop) → IfErr r (λ stop. StopsAnswers stop m d.level (Rose middle last) mid now)
+      → IfErr r (λ stop. StopsProof stop budget m (Rose first last) before now)
+  proof_stops first middle last up now (Ok x) h = tt
+  proof_stops first middle last up now (Err stop) h = proof_stopped first middle last up now stop h
+
+-- ---- the proof itself
+-- the oracles that are handed back are those that were asked
+pub asked_also : (m : System) (level : ℕ) (solvers oracles : List OracleState) → map (λ (o : OracleState). o) solvers ≡ oracles → AreAsked m level oracles → AreAsked m level solvers
+asked_also m level solvers oracles same asked = subst (λ (os : List OracleState). AreAsked m level os) (sym same ∙ map-id solvers) asked
+
+pub answers_stopped : (m : System) (level : ℕ) (before now : Device) (why : Unwritten) → Proves {T = Unit {0}} m level before now (Err why) → StopsAnswers (stop_for_line why) m level (Rose before.faults now.faults) before.written now.written
+answers_stopped m level before now unwritten.Fault p = (p.due, p.front)
+answers_stopped m level before now unwritten.Memory p = p.front
+
+-- ---- the job of a command
+module _ (name : Word) (budget workers : ℕ) where
+  pub proof_read_cause : (shelf-rose sink-rose : Type 0) (files : Option (List File)) (stop : Stop) → StopsReading stop shelf-rose files → HasCause stop shelf-rose sink-rose (solve name budget workers true) files
+  proof_read_cause shelf-rose sink-rose files stops.Usage h = h
+  proof_read_cause shelf-rose sink-rose files (stops.Refused why) h = told_also files _ _ (λ fs k. k) h
+  proof_read_cause shelf-rose sink-rose files (stops.Unfinished level limit) h = absurd h
+  proof_read_cause shelf-rose sink-rose files stops.ReadFault h = h
+  proof_read_cause shelf-rose sink-rose files stops.WriteFault h = absurd h
+  proof_read_cause shelf-rose sink-rose files stops.Memory h = tt
+
+  module _ (m : System) (files : Option (List File)) (read : IfSome files (OfOneFile (IsTextOf m))) where
+    solution_stage : (before now : Option (List ℕ)) → PrintsFront (IsSolutionStage true m) before now → IfSome files (WritesStage before now (solve name budget workers true))
+    solution_stage before now p = told_also files _ _ (λ fs h. record {
+      text = p.text;
+      holds = of_file (IsTextOf m) (OfSystem (λ n. IsSolutionStage true n p.text)) (λ bytes spelled. (m, spelled, p.holds)) fs h;
+      front = p.front;
+    }) read
+
+    pub file_proved : (before now : Option (List ℕ)) (r : Result (Unit {0}) Stop) → OnOk r (Prints (λ text. IsSolved true budget text m) before now) → OnOk r (IfSome files (WritesOutput before now (solve name budget workers true)))
+    file_proved before now (Err stop) p = tt
+    file_proved before now (Ok x) p = told_also files _ _ (λ fs h. record {
+      text = p.text;
+      holds = of_file (IsTextOf m) (OfSystem (IsSolved true budget p.text)) (λ bytes spelled. (m, spelled, p.holds)) fs h;
+      written = p.written;
+    }) read
+
+    proof_cause : (shelf-rose sink-rose : Type 0) (before now : Option (List ℕ)) (stop : Stop) → StopsProof stop budget m sink-rose before now → HasCause stop shelf-rose sink-rose (solve name budget workers true) files
+    proof_cause shelf-rose sink-rose before now stops.Usage h = h
+    proof_cause shelf-rose sink-rose before now (stops.Refused why) h = absurd h
+    proof_cause shelf-rose sink-rose before now (stops.Unfinished level limit) h = h.0
+    proof_cause shelf-rose sink-rose before now stops.ReadFault h = absurd h
+    proof_cause shelf-rose sink-rose before now stops.WriteFault h = h.0
+    proof_cause shelf-rose sink-rose before now stops.Memory h = tt
+
+    proof_left : (sink-rose : Type 0) (before now : Option (List ℕ)) (stop : Stop) → StopsProof stop budget m sink-rose before now → LeavesText stop (solve name budget workers true) files before now
+    proof_left sink-rose before now stops.Usage h = absurd h
+    proof_left sink-rose before now (stops.Refused why) h = absurd h
+    proof_left sink-rose before now (stops.Unfinished level limit) h = told_also files _ _ (λ fs k. record {
+      text = h.1.text;
+      holds = of_file (IsTextOf m) (OfSystem (IsListedBefore Solve budget level h.1.text)) (λ bytes spelled. (m, spelled, h.1.holds)) fs k;
+      written = h.1.written;
+    }) read
+    proof_left sink-rose before now stops.ReadFault h = absurd h
+    proof_left sink-rose before now stops.WriteFault h = solution_stage before now h.1
+    proof_left sink-rose before now stops.Memory h = inr (solution_stage before now h)
+
+    pub proof_causes : (shelf-rose sink-rose : Type 0) (before now : Option (List ℕ)) (r : Result (Unit {0}) Stop) → IfErr r (λ stop. StopsProof stop budget m sink-rose before now)
+        → IfErr r (λ stop. HasCause stop shelf-rose sink-rose (solve name budget workers true) files)
+    proof_causes shelf-rose sink-rose before now (Ok x) h = tt
+    proof_causes shelf-rose sink-rose before now (Err stop) h = proof_cause shelf-rose sink-rose before now stop h
+
+    pub proof_leaves : (sink-rose : Type 0) (before now : Option (List ℕ)) (r : Result (Unit {0}) Stop) → IfErr r (λ stop. StopsProof stop budget m sink-rose before now)
+        → IfErr r (λ stop. LeavesText stop (solve name budget workers true) files before now)
+    proof_leaves sink-rose before now (Ok x) h = tt
+    proof_leaves sink-rose before now (Err stop) h = proof_left sink-rose before now stop h

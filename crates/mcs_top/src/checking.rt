@@ -1,0 +1,65 @@
+//! The check of a report: from the two files to the line that tells what was found.
+
+ghost use Rattle.std.specs.Prelude.{◌≡◌, ◌≤◌, [], ◌∷◌, IfSome, IfOk, IfErr};
+ghost use Rattle.mcs_ports.specs.Causes.{Rose};
+ghost use Rattle.mcs_text.specs.Writes.{Writes};
+ghost use Rattle.mcs_words.specs.Commands as commands;
+ghost use Rattle.mcs_check.specs.Findings.{finding_line};
+ghost use Rattle.mcs_top.specs.Jobs.{told_all};
+ghost use Rattle.mcs_top.specs.Promise.{EndsSo, HasCause, LeavesText, outcome_of};
+
+use crate::ending::{Outcome, Stop};
+use crate::evaluator::shared;
+use crate::reading::{report_in, system_in};
+use mcs_base::Text;
+use mcs_check::{Finding, check_report, finding_line};
+use mcs_ports::{Shelf, Sink};
+use mcs_text::{Unwritten, write_line};
+use std::alloc::Global;
+
+/// Tells of the report that the one file holds whether it is valid, for the system whose text the other one holds.
+pub(crate) fn check<H: Shelf, K: Sink>(
+    alloc: Global,
+    file: &str,
+    report: &str,
+    shelf: &mut H,
+    sink: &mut K,
+) -> Result<Outcome, Stop>
+    ensures shelf_later { H.faults shelf.old ≤ H.faults shelf.new }
+    ensures sink_later { (K.device sink.old).faults ≤ (K.device sink.new).faults }
+    ensures notes { (K.device sink.new).notes ≡ (K.device sink.old).notes }
+    ensures ok { IfOk result (λ outcome. IfSome (told_all (H.held shelf.old) (file.now ∷ report.now ∷ []))
+        (EndsSo outcome (K.device sink.old).written (K.device sink.new).written (commands.check file.now report.now))) }
+    ensures cause { IfErr result (λ stop. HasCause stop
+        (Rose (H.faults shelf.old) (H.faults shelf.new)) (Rose (K.device sink.old).faults (K.device sink.new).faults)
+        (commands.check file.now report.now) (told_all (H.held shelf.old) (file.now ∷ report.now ∷ []))) }
+    ensures leaves { IfErr result (λ stop. LeavesText stop
+        (commands.check file.now report.now) (told_all (H.held shelf.old) (file.now ∷ report.now ∷ []))
+        (K.device sink.old).written (K.device sink.new).written) }
+{
+    let read = system_in(alloc, file, shelf)?;
+    let system = shared(alloc, read)?;
+    let bytes = report_in(alloc, report, shelf)?;
+    let finding = check_report(alloc, system, &bytes)?;
+    print_finding(alloc, finding, sink)?;
+    Ok(outcome_of(finding))
+}
+
+/// Prints the line that tells what was found.
+fn print_finding<K: Sink>(alloc: Global, finding: Finding, sink: &mut K) -> Result<(), Unwritten>
+    ensures { Writes (finding_line finding) (K.device sink.old) (K.device sink.new) result }
+{
+    let mut line = Text::new(alloc);
+    finding_line(finding, &mut line)?;
+    write_line(&line, sink)
+}
+
+/// How the check of a report ends that finds this.
+fn outcome_of(finding: Finding) -> Outcome
+    ensures { result ≡ outcome_of finding }
+{
+    match finding {
+        Finding::Valid => Outcome::Done,
+        Finding::Fails { .. } => Outcome::NotValid,
+    }
+}

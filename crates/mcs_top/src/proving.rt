@@ -1,0 +1,90 @@
+//! The listing of a system with its proof.
+
+ghost use Rattle.std.specs.Prelude.{◌≡◌, ◌≤◌, ℕ, true, [], ◌∷◌, IfSome, OnOk, IfErr};
+ghost use Rattle.mcs_ports.specs.Causes.{Rose};
+ghost use Rattle.mcs_proof_writer.specs.Proving.{AreAsked, HasProved};
+ghost use Rattle.mcs_words.specs.Commands.{solve};
+ghost use Rattle.mcs_top.specs.Jobs.{told_all};
+ghost use Rattle.mcs_top.specs.Promise.{HasCause, IsSolved, LeavesText, Prints, StopsAnswers, StopsProof, WritesOutput};
+
+use crate::ending::{Stop, stop_for_work};
+use crate::evaluator::{mesh_of, shared};
+use crate::reading::system_in;
+use mcs_mesh::Mesh;
+use mcs_ports::{Gate, Shelf, Sink};
+use mcs_proof_writer::write_proof;
+use mcs_solver::LocalSolver;
+use mcs_system::System;
+use mcs_work::{Task, work};
+use std::alloc::Global;
+
+/// Lists the equilibria, minimal diagnoses and minimal explanations of the system whose text the file holds, within a budget
+/// of questions, and then the answers that these rest on, each with a certificate.
+pub(crate) fn prove<H: Shelf, K: Sink, G: Gate>(
+    alloc: Global,
+    file: &str,
+    budget: u64,
+    shelf: &mut H,
+    sink: &mut K,
+    gate: &G,
+) -> Result<(), Stop>
+    ensures shelf_later { H.faults shelf.old ≤ H.faults shelf.new }
+    ensures sink_later { (K.device sink.old).faults ≤ (K.device sink.new).faults }
+    ensures notes { (K.device sink.new).notes ≡ (K.device sink.old).notes }
+    ensures ok { (workers : ℕ) → OnOk result (IfSome (told_all (H.held shelf.old) (file.now ∷ []))
+        (WritesOutput (K.device sink.old).written (K.device sink.new).written (solve file.now budget workers true))) }
+    ensures cause { (workers : ℕ) → IfErr result (λ stop. HasCause stop
+        (Rose (H.faults shelf.old) (H.faults shelf.new)) (Rose (K.device sink.old).faults (K.device sink.new).faults)
+        (solve file.now budget workers true) (told_all (H.held shelf.old) (file.now ∷ []))) }
+    ensures leaves { (workers : ℕ) → IfErr result (λ stop. LeavesText stop
+        (solve file.now budget workers true) (told_all (H.held shelf.old) (file.now ∷ []))
+        (K.device sink.old).written (K.device sink.new).written) }
+{
+    let system = system_in(alloc, file, shelf)?;
+    prove_system(alloc, system, budget, sink, gate)
+}
+
+/// Lists them of the system, and then the answers.
+fn prove_system<K: Sink, G: Gate>(
+    alloc: Global,
+    system: System,
+    budget: u64,
+    sink: &mut K,
+    gate: &G,
+) -> Result<(), Stop>
+    ensures later { (K.device sink.old).faults ≤ (K.device sink.new).faults }
+    ensures notes { (K.device sink.new).notes ≡ (K.device sink.old).notes }
+    ensures ok { OnOk result (Prints (λ text. IsSolved true budget text system) (K.device sink.old).written (K.device sink.new).written) }
+    ensures stop { IfErr result (λ stop. StopsProof stop budget system
+        (Rose (K.device sink.old).faults (K.device sink.new).faults) (K.device sink.old).written (K.device sink.new).written) }
+{
+    let system = shared(alloc, system)?;
+    let listed = system.clone()?;
+    let mesh = mesh_of(alloc, &system, budget, true, gate)?;
+    let (worked, mesh) = work(alloc, mesh, listed, Task::Solve, sink);
+    match worked {
+        Ok(()) => write_answers(alloc, &system, mesh, sink),
+        Err(stop) => {
+            drop(mesh);
+            Err(stop_for_work(stop, budget))
+        }
+    }
+}
+
+/// Writes the answers that the solvers of the evaluator keep.
+fn write_answers<'g, K: Sink, G: Gate>(
+    alloc: Global,
+    system: &System,
+    mesh: Mesh<'g, LocalSolver, G>,
+    sink: &mut K,
+) -> Result<(), Stop>
+    requires { (level : ℕ) × AreAsked system.now level mesh.oracles }
+    ensures later { (K.device sink.old).faults ≤ (K.device sink.new).faults }
+    ensures notes { (K.device sink.new).notes ≡ (K.device sink.old).notes }
+    ensures ok { (level : ℕ) → AreAsked system.now level mesh.entry.oracles → OnOk result (HasProved system.now level (K.device sink.old).written (K.device sink.new).written) }
+    ensures stop { (level : ℕ) → AreAsked system.now level mesh.entry.oracles → IfErr result (λ stop. StopsAnswers stop system.now level
+        (Rose (K.device sink.old).faults (K.device sink.new).faults) (K.device sink.old).written (K.device sink.new).written) }
+{
+    let solvers = mesh.into_oracles()?;
+    Ok(write_proof(alloc, system, &solvers, sink)?)
+}
