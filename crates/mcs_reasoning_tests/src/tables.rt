@@ -78,7 +78,16 @@ fn fit(alloc: Global, a: Listed, values: u64, rows: &[Row]) -> Result<bool, Memo
     Ok(matching(alloc, &a, &wanted.state)?.as_slice() == rows)
 }
 
-/// Whether the unions of rows of two tables with at most so many marks have these states.
+/// The states of the unions of rows of two tables with at most so many marks, if they have no mark in common.
+fn states_of(alloc: Global, a: &Table, b: &Table, level: u32) -> Result<Option<Vec<Vars>>, Memory> {
+    if are_apart(a, b) {
+        Ok(Some(union_states(alloc, a.rows(), a.scope(), b, level)?))
+    } else {
+        Ok(None)
+    }
+}
+
+/// Whether those are these states.
 fn have_states(
     alloc: Global,
     a: Listed,
@@ -87,10 +96,10 @@ fn have_states(
     states: &[Vars],
 ) -> Result<bool, Memory> {
     let (a, b) = (table(alloc, a)?, table(alloc, b)?);
-    if !are_apart(&a, &b) {
-        return Ok(false);
+    match states_of(alloc, &a, &b, level)? {
+        Some(found) => Ok(found.as_slice() == states),
+        None => Ok(false),
     }
-    Ok(union_states(alloc, a.rows(), a.scope(), &b, level)?.as_slice() == states)
 }
 
 #[test]
