@@ -1,9 +1,9 @@
 -- What stays right of a solver where nothing is decided, when clauses are taken off and when a variable is added.
-use Rattle.std.proofs.Common.{◌≡◌, ℕ, ◌+◌, ◌*◌, ◌^◌, ◌<◌, ◌≤◌, zero, suc, List, [], ◌∷◌, ◌++◌, ◌⊎◌, inl, inr, sym, ap, ◌∙◌, subst, arith, ℤ, unsigned_abs, length, length-append, take, filter, ltb, min, Some, slice_get, Vec, Global}
+use Rattle.std.proofs.Common.{◌≡◌, ℕ, ◌+◌, ◌*◌, ◌^◌, ◌<◌, ◌≤◌, zero, suc, List, [], ◌∷◌, ◌++◌, ◌⊎◌, inl, inr, refl, sym, ap, ◌∙◌, subst, arith, ℤ, neg_ℤ, unsigned_abs, length, length-append, take, filter, ltb, min, Some, slice_get, Vec, Global}
 use Rattle.std.specs.List.{AllByRecursion}
 use Rattle.std.proofs.Math.Seq.{take-append_seam}
 use Rattle.std.proofs.lemmas.List.{get_or_append_left, length-take, length-take-le, take-take, take_all}
-use Rattle.std.proofs.lemmas.Bool.{lt-ltb, ltb-true}
+use Rattle.std.proofs.lemmas.Bool.{cases_lt, lt-ltb, ltb-true}
 use Rattle.std.proofs.lemmas.Option.{slice_get_within}
 use Rattle.mcs_base.specs.Listings.{IsAmong}
 use Rattle.mcs_base.proofs.Among.{among_filter, among_get, filter_among, get_among}
@@ -11,6 +11,7 @@ use Rattle.mcs_base.proofs.Each.{all_among, all_get, all_weaker, all_take}
 use Rattle.mcs_base.proofs.Lists.{slice_get-append_left, slice_get_below, slice_get_take}
 use Rattle.mcs_trace.specs.Clauses.{IsClause, IsLiteral, place}
 use Rattle.mcs_trace.specs.Traces.{IsChainResolvent, numbered}
+use Rattle.mcs_sat.specs.declared.state.Kept.{Kept}
 use Rattle.mcs_sat.specs.declared.state.Reach.{Reach}
 use Rattle.mcs_sat.specs.declared.state.State.{State}
 use Rattle.mcs_sat.specs.declared.trail.Entry.{Entry}
@@ -18,8 +19,9 @@ use Rattle.mcs_sat.specs.declared.trail.Trail.{Trail}
 use Rattle.mcs_sat.specs.declared.watches.Pair.{Pair}
 use Rattle.mcs_sat.specs.declared.watches.Watches.{Watches}
 use Rattle.mcs_sat.specs.States.{AreChains, AreStarts, IsState}
-use Rattle.mcs_sat.specs.Trails.{AreCovered, AreExplained, AreLevelled, ArePlaced, IsTrail, decisions, literal_at, reason_at}
-use Rattle.mcs_sat.specs.Watching.{AreKept, ArePair, AreWatched, IsListed, IsOf, IsReached, IsWidened}
+use Rattle.mcs_sat.specs.Trails.{AreCovered, AreExplained, AreLevelled, ArePlaced, IsOnBelow, IsSatisfiedBelow, IsTrail, decisions, literal_at, reason_at}
+use Rattle.mcs_sat.specs.Watching.{AreKept, ArePair, AreUnwatched, AreWatched, IsKept, IsListed, IsOf, IsReached, IsStillKept, IsWidened}
+use Rattle.mcs_sat.proofs.KeptLemmas.{first-same, first-take, front-same, front-take, kept-change, kept-none, later-none, moved-same, moved-take}
 use Rattle.mcs_sat.proofs.LevelLemmas.{decisions-longer, levelled-back}
 use Rattle.mcs_sat.proofs.StateLemmas.{place-within}
 use Rattle.mcs_sat.proofs.TrailLemmas.{entry-back, explained-back, placed-back}
@@ -72,11 +74,57 @@ reached-none known w es n = record {
 abbrev pub IsVisitedStill : State → ℕ → ℕ → Type 0
 IsVisitedStill s n v = (v ≡ 0) ⊎ ((length s.trail.entries.items ≤ n) × (v ≡ s.visited))
 
-pub state-cut : (s : State) (cs : List (List ℤ)) (ms : List (List ℕ)) (t : Trail) (w : Watches) (k n v : ℕ) → IsState s → s.levels.items ≡ []
+-- what is visited where some clauses and literals are left: so many literals as it is said in one of two ways, by what was visited and by what is kept
+module _ (s : State) (k n v : ℕ) (m : Kept) (t : Trail) (w : Watches) (is : IsState s) (base : s.levels.items ≡ []) (bound : n ≤ length s.trail.entries.items) (entries : t.entries.items ≡ take n s.trail.entries.items) (pairs : w.pairs.items ≡ take k s.watches.pairs.items) where
+  size : length t.entries.items ≡ n
+  size = ap length entries ∙ length-take-le n s.trail.entries.items bound
+
+  pub cut-kept : (cs : List (List ℤ)) → cs ≡ take k s.clauses → IsStillKept s.kept k n m → IsKept cs w t.entries.items s.levels.items m
+  cut-kept cs clauses (inl none) = kept-none cs w t.entries.items s.levels.items m none
+  cut-kept cs clauses (inr (low, fewer, few, same, same')) =
+      let b = is.kept.count in
+      let old : IsKept s.clauses s.watches s.trail.entries.items s.levels.items m = record {
+        count = omega arith;
+        within = (let h = is.kept.within in omega arith);
+        bound = (let h = is.kept.bound in omega arith);
+        early = later-none s.levels.items m.entries base;
+        visited = λ i c p l less here at literal of off.
+            let off' : IsOnBelow s.trail.entries.items s.kept.visited (neg_ℤ l) = subst (λ (x : ℕ). IsOnBelow s.trail.entries.items x (neg_ℤ l)) same' off in
+            subst (λ (x : ℕ). IsSatisfiedBelow s.trail.entries.items x c) (sym same) (is.kept.visited i c p l (omega arith) here at literal of off');
+      } in
+      kept-change s.clauses cs s.watches w s.trail.entries.items t.entries.items s.levels.items s.levels.items m (omega (arith, ap length clauses, length-take k s.clauses)) (omega (arith, size)) (later-none s.levels.items m.entries base)
+      (first-take s.clauses cs k m.count clauses) (moved-take m.count s.watches.pairs.items w.pairs.items k s.trail.entries.items m.visited pairs) (front-take s.trail.entries.items t.entries.items n m.entries (omega arith) entries) old
+
+  pub now-visited : IsVisitedStill s n v → IsReached (take k s.clauses) w t.entries.items (record { entries = length t.entries.items; visited = v; settled = 0 })
+  now-visited (inl none) = subst (λ (x : ℕ). IsReached (take k s.clauses) w t.entries.items (record { entries = length t.entries.items; visited = x; settled = 0 })) (sym none) (reached-none (take k s.clauses) w t.entries.items (length t.entries.items))
+  now-visited (inr (all, same)) =
+      let whole : t.entries.items ≡ s.trail.entries.items = entries ∙ take_all n s.trail.entries.items all in
+      subst (λ (x : ℕ). IsReached (take k s.clauses) w t.entries.items (record { entries = length t.entries.items; visited = x; settled = 0 })) (sym same)
+      (subst (λ (xs : List Entry). IsReached (take k s.clauses) w xs (record { entries = length xs; visited = s.visited; settled = 0 })) (sym whole)
+      (reached-first k s.clauses s.watches w s.trail.entries.items s.visited s.settled pairs is.now))
+
+  pub now-kept : (cs : List (List ℤ)) → cs ≡ take k s.clauses → IsKept cs w t.entries.items s.levels.items m → v ≤ m.visited → AreUnwatched t.entries.items w.pairs.items m.count (length w.pairs.items) v → IsReached (take k s.clauses) w t.entries.items (record { entries = length t.entries.items; visited = v; settled = 0 })
+  now-kept cs clauses kept low fresh = record {
+    visited = λ i c p l here at literal of (q, less, e). elim (cases_lt i m.count) [
+      | inl first ↦
+          let (j, among, (r, less', e')) = kept.visited i c p l first (subst (λ (ks : List (List ℤ)). slice_get ks i ≡ Some c) (sym clauses) here) at literal of (q, omega arith, e) in
+          let b = kept.within in
+          (j, among, (r, omega arith, e'))
+      | inr later ↦ absurd (fresh i p l later (slice_get_within w.pairs.items i p at) at literal of (q, less, e))
+    ];
+    settled = λ j i c less. absurd (omega arith);
+  }
+
+pub now-most : (known : List (List ℤ)) (w : Watches) (es : List Entry) (a b v : ℕ) → (v ≡ a) ⊎ (v ≡ b) → IsReached known w es (record { entries = length es; visited = a; settled = 0 }) → IsReached known w es (record { entries = length es; visited = b; settled = 0 }) → IsReached known w es (record { entries = length es; visited = v; settled = 0 })
+now-most known w es a b v (inl e) first second = subst (λ (x : ℕ). IsReached known w es (record { entries = length es; visited = x; settled = 0 })) (sym e) first
+now-most known w es a b v (inr e) first second = subst (λ (x : ℕ). IsReached known w es (record { entries = length es; visited = x; settled = 0 })) (sym e) second
+
+pub state-cut : (s : State) (cs : List (List ℤ)) (ms : List (List ℕ)) (t : Trail) (w : Watches) (k n v : ℕ) (m : Kept) → IsState s → s.levels.items ≡ []
     → cs ≡ take k s.clauses → ms ≡ take k s.chains → t.entries.items ≡ take n s.trail.entries.items → t.positions.items ≡ s.trail.positions.items → n ≤ length s.trail.entries.items → ((i : ℕ) → i < n → reason_at s.trail.entries.items i ≤ k)
-    → w.pairs.items ≡ take k s.watches.pairs.items → w.lists.items ≡ s.watches.lists.items → w.short.items ≡ filter (λ (i : ℕ). ltb i k) s.watches.short.items → IsVisitedStill s n v
-    → IsState (record { clauses = cs; chains = ms; trail = t; watches = w; levels = s.levels; visited = v; settled = 0 })
-state-cut s cs ms t w k n v is base clauses chains entries positions bound few pairs lists short still =
+    → w.pairs.items ≡ take k s.watches.pairs.items → w.lists.items ≡ s.watches.lists.items → w.short.items ≡ filter (λ (i : ℕ). ltb i k) s.watches.short.items
+    → v ≤ length t.entries.items → IsReached (take k s.clauses) w t.entries.items (record { entries = length t.entries.items; visited = v; settled = 0 }) → IsKept cs w t.entries.items s.levels.items m
+    → IsState (record { clauses = cs; chains = ms; trail = t; watches = w; levels = s.levels; visited = v; settled = 0; kept = m })
+state-cut s cs ms t w k n v m is base clauses chains entries positions bound few pairs lists short low visited kept =
     let es : List Entry = s.trail.entries.items in
     let known : List (List ℤ) = take k s.clauses in
     let size : length t.entries.items ≡ n = ap length entries ∙ length-take-le n es bound in
@@ -105,18 +153,12 @@ state-cut s cs ms t w k n v is base clauses chains entries positions bound few p
           let (q, here) = get_among i s.watches.short.items among in
           let within = is.shorts q i here in
           subst (λ (ks : List (List ℤ)). i < length ks) (sym clauses) (omega (arith, length-take k s.clauses));
-      bound = elim still [ inl none ↦ omega arith | inr (all, same) ↦ (let b = is.bound in omega arith) ];
+      bound = low;
       short_bound = omega arith;
       bounds = λ j r at. absurd (let less = slice_get_within s.levels.items j r at in omega (arith, ap length base));
       reached = λ j r at. absurd (let less = slice_get_within s.levels.items j r at in omega (arith, ap length base));
-      now = subst (λ (ks : List (List ℤ)). IsReached ks w t.entries.items (record { entries = length t.entries.items; visited = v; settled = 0 })) (sym clauses) (elim still [
-        | inl none ↦ subst (λ (m : ℕ). IsReached known w t.entries.items (record { entries = length t.entries.items; visited = m; settled = 0 })) (sym none) (reached-none known w t.entries.items (length t.entries.items))
-        | inr (all, same) ↦
-            let whole : t.entries.items ≡ es = entries ∙ take_all n es all in
-            subst (λ (m : ℕ). IsReached known w t.entries.items (record { entries = length t.entries.items; visited = m; settled = 0 })) (sym same)
-            (subst (λ (xs : List Entry). IsReached known w xs (record { entries = length xs; visited = s.visited; settled = 0 })) (sym whole)
-            (reached-first k s.clauses s.watches w es s.visited s.settled pairs is.now))
-      ]);
+      now = subst (λ (ks : List (List ℤ)). IsReached ks w t.entries.items (record { entries = length t.entries.items; visited = v; settled = 0 })) (sym clauses) visited;
+      kept = kept;
     }
 
 -- ---- one more variable
@@ -140,7 +182,7 @@ placed-more es ps is i less =
 
 pub state-widened : (s : State) (t : Trail) (w : Watches) → IsState s → length s.trail.positions.items < 2 ^ 63 → t.entries.items ≡ s.trail.entries.items → t.positions.items ≡ s.trail.positions.items ++ 0 ∷ []
     → IsWidened s.watches.lists.items w.lists.items → w.pairs.items ≡ s.watches.pairs.items → w.short.items ≡ s.watches.short.items
-    → IsState (record { clauses = s.clauses; chains = s.chains; trail = t; watches = w; levels = s.levels; visited = s.visited; settled = s.settled })
+    → IsState (record { clauses = s.clauses; chains = s.chains; trail = t; watches = w; levels = s.levels; visited = s.visited; settled = s.settled; kept = s.kept })
 state-widened s t w is fits entries positions (more, lists, two) pairs short =
     let ps : List ℕ = s.trail.positions.items in
     let size : length t.positions.items ≡ length ps + 1 = omega (arith, ap length positions, length-append ps (0 ∷ [])) in
@@ -174,6 +216,8 @@ state-widened s t w is fits entries positions (more, lists, two) pairs short =
       bounds = λ k r at. let (b, n) = is.bounds k r at in (b, omega (arith, ap length short));
       reached = λ k r at. reached r (is.reached k r at);
       now = subst (λ (n : ℕ). IsReached s.clauses w t.entries.items (record { entries = n; visited = s.visited; settled = s.settled })) (sym (ap length entries)) (reached (record { entries = length s.trail.entries.items; visited = s.visited; settled = s.settled }) is.now);
+      kept = (let b = is.kept.within in kept-change s.clauses s.clauses s.watches w s.trail.entries.items t.entries.items s.levels.items s.levels.items s.kept is.kept.count (omega (arith, ap length entries)) is.kept.early
+          (first-same s.clauses s.clauses s.kept.count refl) (moved-same s.kept.count s.watches.pairs.items w.pairs.items s.trail.entries.items s.kept.visited pairs) (front-same s.trail.entries.items t.entries.items s.kept.entries entries) is.kept);
     }
 
 -- lists that were added and taken off again

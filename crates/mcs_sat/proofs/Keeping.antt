@@ -5,7 +5,7 @@ use Rattle.mcs_sat.specs.declared.trail.Entry.{Entry}
 use Rattle.mcs_sat.specs.declared.trail.Trail.{Trail}
 use Rattle.mcs_sat.specs.declared.watches.Watches.{Watches}
 use Rattle.mcs_sat.specs.Trails.{Grows}
-use Rattle.mcs_sat.specs.Watching.{AreWatched, IsReached}
+use Rattle.mcs_sat.specs.Watching.{AreMoved, AreWatched, IsReached}
 
 -- it has as many variables, and more literals, which are implied on the level
 pub record Extends (level : ℕ) (before after : Trail) : Type 0 where
@@ -17,4 +17,5 @@ pub record KeepsWatches (known : List (List ℤ)) (before after : Watches) (entr
   pub lists : length after.lists.items ≡ length before.lists.items
   pub watched : AreWatched known after
   pub short : after.short.items ≡ before.short.items
+  pub moved : AreMoved before.pairs.items after.pairs.items entries
   pub reached : (r : Reach) → r.visited ≤ length entries → IsReached known before entries r → IsReached known after entries r

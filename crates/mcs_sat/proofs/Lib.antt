@@ -4,6 +4,7 @@ pub mod LatestLemmas
 pub mod TrailLemmas
 pub mod WatchLemmas
 pub mod GrowLemmas
+pub mod KeptLemmas
 pub mod LevelLemmas
 pub mod StateLemmas
 pub mod UnitRunLemmas

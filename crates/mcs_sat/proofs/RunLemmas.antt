@@ -9,6 +9,7 @@ use Rattle.mcs_base.proofs.Each.{all_among, all_from_among, all_get}
 use Rattle.mcs_base.proofs.Lists.{slice_get_below}
 use Rattle.mcs_base.proofs.NumberCases.{same_unsigned_abs}
 use Rattle.mcs_trace.specs.Clauses.{IsClause, IsLiteral}
+use Rattle.mcs_sat.specs.declared.state.Kept.{Kept}
 use Rattle.mcs_sat.specs.declared.state.Reach.{Reach}
 use Rattle.mcs_sat.specs.declared.state.State.{State}
 use Rattle.mcs_sat.specs.declared.trail.Entry.{Entry}
@@ -17,8 +18,9 @@ use Rattle.mcs_sat.specs.declared.watches.Pair.{Pair}
 use Rattle.mcs_sat.specs.declared.watches.Watches.{Watches}
 use Rattle.mcs_sat.specs.States.{AreStarts, IsState, reach_of}
 use Rattle.mcs_sat.specs.Trails.{AreCovered, AreExplained, AreLevelled, ArePlaced, Grows, IsOn, IsOnBelow, IsOpen, IsSatisfied, IsTrail, StandsNowhere, literal_at}
-use Rattle.mcs_sat.specs.Watching.{ArePair, AreSettled, AreWatched, IsOf, IsReached}
+use Rattle.mcs_sat.specs.Watching.{AreMoved, ArePair, AreSettled, AreWatched, IsOf, IsReached}
 use Rattle.mcs_sat.proofs.GrowLemmas.{grows-longer}
+use Rattle.mcs_sat.proofs.KeptLemmas.{first-same, front-grows, front-take, kept-change, moved-below, moved-same}
 use Rattle.mcs_sat.proofs.LevelLemmas.{levelled-more, starts-more}
 use Rattle.mcs_sat.proofs.StateLemmas.{reached-back, reached-more, reached-on}
 use Rattle.mcs_sat.proofs.TrailLemmas.{explained-back, placed-back}
@@ -32,7 +34,7 @@ now-grows level known w es new v s (more, e, all) visited is = subst (λ (xs : L
 
 -- ---- short clauses are settled
 pub state-settled : (s : State) (t : Trail) (n : ℕ) → IsState s → IsTrail s.clauses t → length t.positions.items ≡ length s.trail.positions.items → Grows (length s.levels.items) s.trail.entries.items t.entries.items → AreSettled s.clauses s.watches.short.items t.entries.items s.settled n → n ≤ length s.watches.short.items
-    → IsState (record { clauses = s.clauses; chains = s.chains; trail = t; watches = s.watches; levels = s.levels; visited = s.visited; settled = n })
+    → IsState (record { clauses = s.clauses; chains = s.chains; trail = t; watches = s.watches; levels = s.levels; visited = s.visited; settled = n; kept = s.kept })
 state-settled s t n is trail positions grows settled bound =
     let es : List Entry = s.trail.entries.items in
     let level : ℕ = length s.levels.items in
@@ -60,17 +62,20 @@ state-settled s t n is trail positions grows settled bound =
           | inr later ↦ settled j i c later less at known none
         ];
       };
+      kept = (let b = is.kept.within in kept-change s.clauses s.clauses s.watches s.watches es t.entries.items s.levels.items s.levels.items s.kept is.kept.count (omega arith) is.kept.early
+          (first-same s.clauses s.clauses s.kept.count refl) (moved-same s.kept.count s.watches.pairs.items s.watches.pairs.items es s.kept.visited refl) (front-grows level es t.entries.items s.kept.entries b grows) is.kept);
     }
 
 -- ---- clauses are visited
 pub state-visited : (s : State) (t : Trail) (w : Watches) (v : ℕ) → IsState s → IsTrail s.clauses t → length t.positions.items ≡ length s.trail.positions.items → Grows (length s.levels.items) s.trail.entries.items t.entries.items
-    → length w.lists.items ≡ length s.watches.lists.items → AreWatched s.clauses w → w.short.items ≡ s.watches.short.items → v ≤ length t.entries.items
+    → length w.lists.items ≡ length s.watches.lists.items → AreWatched s.clauses w → w.short.items ≡ s.watches.short.items → AreMoved s.watches.pairs.items w.pairs.items s.trail.entries.items → v ≤ length t.entries.items
     → ((r : Reach) → r.visited ≤ length s.trail.entries.items → IsReached s.clauses s.watches s.trail.entries.items r → IsReached s.clauses w s.trail.entries.items r)
     → ((n : ℕ) → IsReached s.clauses s.watches s.trail.entries.items (record { entries = length s.trail.entries.items; visited = s.visited; settled = n }) → IsReached s.clauses w t.entries.items (record { entries = length t.entries.items; visited = v; settled = n }))
-    → IsState (record { clauses = s.clauses; chains = s.chains; trail = t; watches = w; levels = s.levels; visited = v; settled = s.settled })
-state-visited s t w v is trail positions grows lists watched short bound reached now =
+    → IsState (record { clauses = s.clauses; chains = s.chains; trail = t; watches = w; levels = s.levels; visited = v; settled = s.settled; kept = s.kept })
+state-visited s t w v is trail positions grows lists watched short moved bound reached now =
     let es : List Entry = s.trail.entries.items in
     let level : ℕ = length s.levels.items in
+    let longer = grows-longer level es t.entries.items grows in
     record {
       some = subst (λ (m : ℕ). 0 < m) (sym positions) is.some;
       fits = subst (λ (m : ℕ). m ≤ 2 ^ 63) (sym positions) is.fits;
@@ -87,6 +92,8 @@ state-visited s t w v is trail positions grows lists watched short bound reached
       reached = λ k r at. let (below, none, count) = is.starts.start k r at in let (b, m) = is.bounds k r at in
           reached-grows level s.clauses w es t.entries.items r grows (omega arith) (omega arith) (reached r (omega arith) (is.reached k r at));
       now = now s.settled is.now;
+      kept = (let b = is.kept.within in let v' = is.kept.bound in kept-change s.clauses s.clauses s.watches w es t.entries.items s.levels.items s.levels.items s.kept is.kept.count (omega arith) is.kept.early
+          (first-same s.clauses s.clauses s.kept.count refl) (moved-below s.kept.count s.watches.pairs.items w.pairs.items es s.kept.visited (omega arith) moved) (front-grows level es t.entries.items s.kept.entries b grows) is.kept);
     }
 
 -- ---- where all was visited
@@ -152,10 +159,10 @@ before-visited level known w w' es new r grows entries visited is moved =
     subst (λ (xs : List Entry). IsReached known w' xs r) (grows-front level es new grows) (reached-back known w' new (length es) r entries visited (moved r (omega arith) (reached-grows level known w es new r grows entries visited is)))
 
 -- the literals that were made true are taken back, and no more
-pub state-restored : (old new : State) (t : Trail) → IsState old → IsState new → new.clauses ≡ old.clauses → length new.trail.positions.items ≡ length old.trail.positions.items → new.levels.items ≡ old.levels.items → new.watches.short.items ≡ old.watches.short.items → Grows (length old.levels.items) old.trail.entries.items new.trail.entries.items
+pub state-restored : (old new : State) (t : Trail) → IsState old → IsState new → new.clauses ≡ old.clauses → length new.trail.positions.items ≡ length old.trail.positions.items → new.levels.items ≡ old.levels.items → new.watches.short.items ≡ old.watches.short.items → new.kept ≡ old.kept → Grows (length old.levels.items) old.trail.entries.items new.trail.entries.items
     → IsReached new.clauses new.watches old.trail.entries.items (reach_of old) → t.entries.items ≡ take (length old.trail.entries.items) new.trail.entries.items → t.positions.items ≡ new.trail.positions.items
-    → IsState (record { clauses = new.clauses; chains = new.chains; trail = t; watches = new.watches; levels = new.levels; visited = old.visited; settled = old.settled })
-state-restored old new t is is' clauses positions levels short grows before entries places =
+    → IsState (record { clauses = new.clauses; chains = new.chains; trail = t; watches = new.watches; levels = new.levels; visited = old.visited; settled = old.settled; kept = new.kept })
+state-restored old new t is is' clauses positions levels short marked grows before entries places =
     let es : List Entry = old.trail.entries.items in
     let ps : List ℕ = new.trail.positions.items in
     let front : t.entries.items ≡ es = entries ∙ grows-front (length old.levels.items) es new.trail.entries.items grows in
@@ -181,4 +188,6 @@ state-restored old new t is is' clauses positions levels short grows before entr
       reached = λ k r here. let (below, none, count) = is.starts.start k r (at k r here) in let (b, n) = is.bounds k r (at k r here) in
           subst (λ (xs : List Entry). IsReached new.clauses new.watches xs r) (sym entries) (reached-back new.clauses new.watches new.trail.entries.items (length es) r (omega arith) (omega arith) (is'.reached k r here));
       now = subst (λ (xs : List Entry). IsReached new.clauses new.watches xs (record { entries = length xs; visited = old.visited; settled = old.settled })) (sym front) before;
+      kept = (let b = is.kept.within in let same : new.kept.entries ≡ old.kept.entries = ap (λ (m : Kept). m.entries) marked in kept-change new.clauses new.clauses new.watches new.watches new.trail.entries.items t.entries.items new.levels.items new.levels.items new.kept is'.kept.count (omega (arith, ap length front)) is'.kept.early
+          (first-same new.clauses new.clauses new.kept.count refl) (moved-same new.kept.count new.watches.pairs.items new.watches.pairs.items new.trail.entries.items new.kept.visited refl) (front-take new.trail.entries.items t.entries.items (length es) new.kept.entries (omega arith) entries) is'.kept);
     }

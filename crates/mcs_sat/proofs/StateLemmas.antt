@@ -20,7 +20,8 @@ use Rattle.mcs_sat.specs.declared.watches.Pair.{Pair}
 use Rattle.mcs_sat.specs.declared.watches.Watches.{Watches}
 use Rattle.mcs_sat.specs.States.{AreChains, AreStarts, IsState, reach_of}
 use Rattle.mcs_sat.specs.Trails.{AreCovered, AreExplained, AreLevelled, ArePlaced, IsOnBelow, IsTrail}
-use Rattle.mcs_sat.specs.Watching.{AreKept, ArePair, AreWatched, IsFresh, IsLong, IsListed, IsOf, IsPaired, IsPushed, IsReached, no_pair}
+use Rattle.mcs_sat.specs.Watching.{AreKept, ArePair, AreWatched, IsFresh, IsKept, IsLong, IsListed, IsOf, IsPaired, IsPushed, IsReached, no_pair}
+use Rattle.mcs_sat.proofs.KeptLemmas.{first-push, first-same, front-push, front-same, front-take, kept-change, later-push, later-same, later-take, moved-push, moved-same}
 use Rattle.mcs_sat.proofs.LevelLemmas.{decisions-longer, levelled-back, levelled-decide, starts-back, starts-decide}
 use Rattle.mcs_sat.proofs.TrailLemmas.{entry-back, entry-old, explained-back, explained-known, explained-push, placed-back}
 use Rattle.mcs_sat.proofs.WatchLemmas.{reached-list}
@@ -47,8 +48,8 @@ watched-same known w w' kept pairs short is = record {
 }
 
 -- where nothing but memory changed
-pub state-same : (old new : State) → IsState old → new.clauses ≡ old.clauses → new.chains ≡ old.chains → new.trail.entries.items ≡ old.trail.entries.items → length new.trail.positions.items ≡ length old.trail.positions.items → ArePlaced new.trail.entries.items new.trail.positions.items → AreKept old.watches new.watches → new.watches.pairs.items ≡ old.watches.pairs.items → new.watches.short.items ≡ old.watches.short.items → new.levels.items ≡ old.levels.items → new.visited ≡ old.visited → new.settled ≡ old.settled → IsState new
-state-same old new is clauses chains entries positions placed kept pairs short levels visited settled =
+pub state-same : (old new : State) → IsState old → new.clauses ≡ old.clauses → new.chains ≡ old.chains → new.trail.entries.items ≡ old.trail.entries.items → length new.trail.positions.items ≡ length old.trail.positions.items → ArePlaced new.trail.entries.items new.trail.positions.items → AreKept old.watches new.watches → new.watches.pairs.items ≡ old.watches.pairs.items → new.watches.short.items ≡ old.watches.short.items → new.levels.items ≡ old.levels.items → new.visited ≡ old.visited → new.settled ≡ old.settled → new.kept ≡ old.kept → IsState new
+state-same old new is clauses chains entries positions placed kept pairs short levels visited settled marked =
     let reached : (r : Reach) → IsReached old.clauses old.watches old.trail.entries.items r → IsReached new.clauses new.watches new.trail.entries.items r = λ r h.
     subst (λ (known : List (List ℤ)). IsReached known new.watches new.trail.entries.items r) (sym clauses) (subst (λ (es : List Entry). IsReached old.clauses new.watches es r) (sym entries) (reached-list old.clauses old.watches new.watches old.trail.entries.items r pairs short h)) in
     record {
@@ -66,6 +67,9 @@ state-same old new is clauses chains entries positions placed kept pairs short l
       bounds = λ k r at. let (b, s) = is.bounds k r (subst (λ (ls : List Reach). slice_get ls k ≡ Some r) levels at) in (b, omega (arith, ap length short));
       reached = λ k r at. reached r (is.reached k r (subst (λ (ls : List Reach). slice_get ls k ≡ Some r) levels at));
       now = subst (IsReached new.clauses new.watches new.trail.entries.items) (same-reach old new entries visited settled) (reached (reach_of old) is.now);
+      kept = subst (IsKept new.clauses new.watches new.trail.entries.items new.levels.items) (sym marked)
+          (kept-change old.clauses new.clauses old.watches new.watches old.trail.entries.items new.trail.entries.items old.levels.items new.levels.items old.kept (let b = is.kept.count in omega (arith, ap length clauses)) (let b = is.kept.within in omega (arith, ap length entries))
+          (later-same old.levels.items new.levels.items old.kept.entries levels is.kept.early) (first-same old.clauses new.clauses old.kept.count clauses) (moved-same old.kept.count old.watches.pairs.items new.watches.pairs.items old.trail.entries.items old.kept.visited pairs) (front-same old.trail.entries.items new.trail.entries.items old.kept.entries entries) is.kept);
     }
   where
     same-reach : (old new : State) → new.trail.entries.items ≡ old.trail.entries.items → new.visited ≡ old.visited → new.settled ≡ old.settled → reach_of old ≡ reach_of new
@@ -122,7 +126,7 @@ abbrev pub decided_entry : State → ℤ → Entry
 decided_entry s l = record { literal = l; reason = 0; level = length s.levels.items + 1 }
 
 pub state-decided : (s : State) (t : Trail) (ls : Vec Reach Global) (l : ℤ) → IsState s → t.entries.items ≡ s.trail.entries.items ++ decided_entry s l ∷ [] → ArePlaced t.entries.items t.positions.items → length t.positions.items ≡ length s.trail.positions.items → ls.items ≡ s.levels.items ++ reach_of s ∷ []
-    → IsState (record { clauses = s.clauses; chains = s.chains; trail = t; watches = s.watches; levels = ls; visited = s.visited; settled = s.settled })
+    → IsState (record { clauses = s.clauses; chains = s.chains; trail = t; watches = s.watches; levels = ls; visited = s.visited; settled = s.settled; kept = s.kept })
 state-decided s t ls l is entries placed positions levels =
     let es : List Entry = s.trail.entries.items in
     let e : Entry = decided_entry s l in
@@ -155,6 +159,8 @@ state-decided s t ls l is entries placed positions levels =
         | inr (last, same) ↦ subst (IsReached s.clauses s.watches t.entries.items) (sym same) (reached (reach_of s) (omega arith) is.bound is.now)
       ];
       now = subst (λ (xs : List Entry). IsReached s.clauses s.watches xs (record { entries = length t.entries.items; visited = s.visited; settled = s.settled })) (sym entries) (reached-on s.clauses s.watches es (e ∷ []) s.visited s.settled (length t.entries.items) is.bound (ap length entries) is.now);
+      kept = (let b = is.kept.within in kept-change s.clauses s.clauses s.watches s.watches es t.entries.items s.levels.items ls.items s.kept is.kept.count (omega (arith, longer))
+          (later-push s.levels.items ls.items (reach_of s) s.kept.entries b levels is.kept.early) (first-same s.clauses s.clauses s.kept.count refl) (moved-same s.kept.count s.watches.pairs.items s.watches.pairs.items es s.kept.visited refl) (front-push es t.entries.items e s.kept.entries b entries) is.kept);
     }
 
 -- ---- levels are taken back
@@ -170,7 +176,7 @@ starts-order es levels j k q r is less at at' =
 
 -- what all levels below that of the reach say stays, where the literals from it on are taken back
 pub state-back : (s : State) (t : Trail) (ls : Vec Reach Global) (k : ℕ) (r : Reach) → IsState s → slice_get s.levels.items k ≡ Some r → t.entries.items ≡ take r.entries s.trail.entries.items → t.positions.items ≡ s.trail.positions.items → ls.items ≡ take k s.levels.items
-    → IsState (record { clauses = s.clauses; chains = s.chains; trail = t; watches = s.watches; levels = ls; visited = r.visited; settled = r.settled })
+    → IsState (record { clauses = s.clauses; chains = s.chains; trail = t; watches = s.watches; levels = ls; visited = r.visited; settled = r.settled; kept = s.kept })
 state-back s t ls k r is at entries positions levels =
     let es : List Entry = s.trail.entries.items in
     let (here, none, count) = is.starts.start k r at in
@@ -202,6 +208,8 @@ state-back s t ls k r is at entries positions levels =
           let (w, m) = is.bounds j q at'' in
           reached q (omega arith) (omega arith) (is.reached j q at'');
       now = subst (λ (n : ℕ). IsReached s.clauses s.watches t.entries.items (record { entries = n; visited = r.visited; settled = r.settled })) (sym size) (reached r (omega arith) v (is.reached k r at));
+      kept = (let early = is.kept.early k r at in kept-change s.clauses s.clauses s.watches s.watches es t.entries.items s.levels.items ls.items s.kept is.kept.count (omega (arith, size))
+          (later-take s.levels.items ls.items k s.kept.entries levels is.kept.early) (first-same s.clauses s.clauses s.kept.count refl) (moved-same s.kept.count s.watches.pairs.items s.watches.pairs.items es s.kept.visited refl) (front-take es t.entries.items r.entries s.kept.entries early entries) is.kept);
     }
 
 -- ---- a clause is added
@@ -325,7 +333,7 @@ chains-pushed known chains c ns is right = record {
 -- a clause with its chain is added, and less may have been visited than before
 pub state-pushed : (s : State) (cs : List (List ℤ)) (ms : List (List ℕ)) (w : Watches) (c : List ℤ) (ns : List ℕ) (o : Option Pair) (v : ℕ) → IsState s → cs ≡ s.clauses ++ c ∷ [] → ms ≡ s.chains ++ ns ∷ [] → AreKept s.watches w → IsPushed s.watches w o → FitsPair c o → IsClause c → AreCovered s.trail.positions.items c → (ns ≡ []) ⊎ IsChainResolvent s.clauses ns c
     → v ≤ s.visited → IsFresh s.trail.entries.items v o → ((k : ℕ) (r : Reach) → slice_get s.levels.items k ≡ Some r → IsFresh s.trail.entries.items r.visited o)
-    → IsState (record { clauses = cs; chains = ms; trail = s.trail; watches = w; levels = s.levels; visited = v; settled = s.settled })
+    → IsState (record { clauses = cs; chains = ms; trail = s.trail; watches = w; levels = s.levels; visited = v; settled = s.settled; kept = s.kept })
 state-pushed s cs ms w c ns o v is clauses chains kept pushed fits clause covered right low fresh levels =
     let known : List (List ℤ) = s.clauses ++ c ∷ [] in
     let es : List Entry = s.trail.entries.items in
@@ -355,6 +363,8 @@ state-pushed s cs ms w c ns o v is clauses chains kept pushed fits clause covere
           subst (λ (ks : List (List ℤ)). IsReached ks w es r) (sym clauses) (reached-pushed s.clauses c s.watches w o es r is.watched pushed is.shorts n (levels k r at) (is.reached k r at));
       now = subst (λ (ks : List (List ℤ)). IsReached ks w es (record { entries = length es; visited = v; settled = s.settled })) (sym clauses)
           (reached-pushed s.clauses c s.watches w o es (record { entries = length es; visited = v; settled = s.settled }) is.watched pushed is.shorts is.short_bound fresh (reached-fewer s.clauses s.watches es (length es) s.visited v s.settled low is.now));
+      kept = (let b = is.kept.count in kept-change s.clauses cs s.watches w es es s.levels.items s.levels.items s.kept (omega (arith, ap length clauses, length_push s.clauses c)) is.kept.within is.kept.early
+          (first-push s.clauses c cs s.kept.count b clauses) (moved-push s.kept.count s.watches.pairs.items w.pairs.items (get_pair o) es s.kept.visited (omega (arith, is.watched.sized)) (pairs-pushed s.watches w o pushed)) (front-same es es s.kept.entries refl) is.kept);
     }
   where
     reached-fewer : (known : List (List ℤ)) (w : Watches) (es : List Entry) (n m v t : ℕ) → v ≤ m → IsReached known w es (record { entries = n; visited = m; settled = t }) → IsReached known w es (record { entries = n; visited = v; settled = t })

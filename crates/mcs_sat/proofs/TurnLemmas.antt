@@ -107,7 +107,7 @@ pub state-learnt : (s : State) (t : Trail) (ls : Vec Reach Global) (cs : List (L
     → IsLatest s.trail.entries.items c m → IsTurn s.trail.entries.items m turn → slice_get s.levels.items turn.level ≡ Some r
     → cs ≡ s.clauses ++ c ∷ [] → ms ≡ s.chains ++ ns ∷ [] → AreKept s.watches w → IsPushed s.watches w turn.pair
     → t.entries.items ≡ take r.entries s.trail.entries.items → t.positions.items ≡ s.trail.positions.items → ls.items ≡ take turn.level s.levels.items → v ≤ r.visited → v ≤ turn.place
-    → IsState (record { clauses = cs; chains = ms; trail = t; watches = w; levels = ls; visited = v; settled = r.settled })
+    → IsState (record { clauses = cs; chains = ms; trail = t; watches = w; levels = ls; visited = v; settled = r.settled; kept = s.kept })
 state-learnt s t ls cs ms w c ns m turn r v is clause all_false right single some is-latest is-turn at clauses chains kept pushed entries positions levels low low' =
     let es : List Entry = s.trail.entries.items in
     let ps : List ℕ = s.trail.positions.items in
@@ -117,7 +117,7 @@ state-learnt s t ls cs ms w c ns m turn r v is clause all_false right single som
     let order : r.entries ≤ last.entries = not-after es s.levels.items turn.level r last is.starts at at_last in
     let (bounded, count) = is.bounds turn.level r at in
     let before : AreCovered ps c = covered-false es ps c placed all_false in
-    state-pushed (record { clauses = s.clauses; chains = s.chains; trail = t; watches = s.watches; levels = ls; visited = r.visited; settled = r.settled }) cs ms w c ns turn.pair v
+    state-pushed (record { clauses = s.clauses; chains = s.chains; trail = t; watches = s.watches; levels = ls; visited = r.visited; settled = r.settled; kept = s.kept }) cs ms w c ns turn.pair v
     (state-back s t ls turn.level r is at entries positions levels) clauses chains kept pushed (turn-fits es ps c m turn placed clause is-latest is-turn) clause (subst (λ (xs : List ℕ). AreCovered xs c) (sym positions) before) (inr right) low
     (subst (λ (xs : List Entry). IsFresh xs v turn.pair) (sym entries) (turn-fresh es ps m turn v r.entries placed is-latest.here is-latest.before is-turn (omega arith) (omega arith) (λ there. let other = (is-turn.1 there).1 in omega arith)))
     (λ j q at'.

@@ -11,37 +11,20 @@ use Rattle.mcs_base.specs.Listings.{IsAmong}
 use Rattle.mcs_base.proofs.Among.{among_permutation, among_push, get_among}
 use Rattle.mcs_base.proofs.Each.{all_among, all_get}
 use Rattle.mcs_base.proofs.Lists.{slice_get_below}
-use Rattle.mcs_base.proofs.Written.{slice_get-take}
+use Rattle.mcs_base.proofs.Written.{slice_get_set, slice_get-set_other, slice_get-take}
 use Rattle.mcs_trace.specs.Clauses.{IsClause, IsLiteral, place}
 use Rattle.mcs_trace.proofs.OrderLemmas.{place-injective}
 use Rattle.mcs_sat.specs.declared.state.Reach.{Reach}
 use Rattle.mcs_sat.specs.declared.trail.Entry.{Entry}
 use Rattle.mcs_sat.specs.declared.watches.Pair.{Pair}
 use Rattle.mcs_sat.specs.declared.watches.Watches.{Watches}
-use Rattle.mcs_sat.specs.Trails.{Grows, IsOnBelow, IsSatisfied, IsSatisfiedBelow, literal_at}
-use Rattle.mcs_sat.specs.Watching.{ArePair, AreVisited, AreWatched, IsListed, IsLong, IsOf, IsPaired, IsPairOf, IsReached}
+use Rattle.mcs_sat.specs.Trails.{Grows, IsOn, IsOnBelow, IsSatisfied, IsSatisfiedBelow, literal_at}
+use Rattle.mcs_sat.specs.Watching.{AreMoved, ArePair, AreVisited, AreWatched, IsListed, IsLong, IsOf, IsPaired, IsPairOf, IsReached}
 use Rattle.mcs_sat.proofs.GrowLemmas.{entry-grown, grows-longer, satisfied-grown}
 use Rattle.mcs_sat.proofs.TrailLemmas.{below-same}
 
--- ---- what is read after a write
+-- ---- what is read after one is taken out
 module _ {A : Type 0} where
-  pub slice_get_set : (xs : List A) (i : ℕ) (y z : A) → slice_get (set xs i y) i ≡ Some z → z ≡ y
-  slice_get_set [] i y z e = absurd (cc)
-  slice_get_set (x ∷ xs) zero y z e = cc
-  slice_get_set (x ∷ xs) (suc i) y z e = slice_get_set xs i y z e
-
-  pub slice_get-set_other : (xs : List A) (i j : ℕ) (y : A) → j ≢ i → slice_get (set xs i y) j ≡ slice_get xs j
-  slice_get-set_other [] i j y differ = refl
-  slice_get-set_other (x ∷ xs) zero zero y differ = absurd (differ refl)
-  slice_get-set_other (x ∷ xs) zero (suc j) y differ = refl
-  slice_get-set_other (x ∷ xs) (suc i) zero y differ = refl
-  slice_get-set_other (x ∷ xs) (suc i) (suc j) y differ = slice_get-set_other xs i j y (λ e. differ (ap suc e))
-
-  pub slice_get-set_same : (xs : List A) (i : ℕ) (y : A) → i < length xs → slice_get (set xs i y) i ≡ Some y
-  slice_get-set_same [] i y less = absurd (omega arith)
-  slice_get-set_same (x ∷ xs) zero y less = refl
-  slice_get-set_same (x ∷ xs) (suc i) y less = slice_get-set_same xs i y (omega arith)
-
   -- one is taken out, and the last one takes its place
   pub slice_get-swap_remove : (xs : List A) (i : ℕ) (d : A) (j : ℕ) → i < length xs → j < i → slice_get (swap_remove xs i d) j ≡ slice_get xs j
   slice_get-swap_remove xs i d j within less =
@@ -165,6 +148,16 @@ module _ (known : List (List ℤ)) (w w' : Watches) (i : ℕ) (c : List ℤ) (q 
     settled = λ k j d less at. h.settled k j d less (sym (ap (λ (xs : List ℕ). slice_get xs k) short) ∙ at);
   }
 
+-- what is watched now
+pub moved-move : (pairs : List Pair) (i : ℕ) (old q : Pair) (es : List Entry) → slice_get pairs i ≡ Some old → ((l : ℤ) → IsOf l q → IsOf l old ⊎ (¬ IsOn es (neg_ℤ l))) → AreMoved pairs (set pairs i q) es
+moved-move pairs i old q es at each j p l here of = elim (cases_eq j i) [
+  | inl e ↦ elim (each l (subst (IsOf l) (slice_get_set pairs i q p (subst (λ (k : ℕ). slice_get (set pairs i q) k ≡ Some p) e here)) of)) [
+    | inl was ↦ inl (old, subst (λ (k : ℕ). slice_get pairs k ≡ Some old) (sym e) at, was)
+    | inr opened ↦ inr opened
+  ]
+  | inr differ ↦ inl (p, sym (slice_get-set_other pairs i j q differ) ∙ here, of)
+]
+
 pub gone-move : (pairs : List Pair) (i : ℕ) (q : Pair) (l : ℤ) → ¬ IsOf l q → (p : Pair) → slice_get (set pairs i q) i ≡ Some p → ¬ IsOf l p
 gone-move pairs i q l none p at of = none (subst (IsOf l) (slice_get_set pairs i q p at) of)
 
@@ -245,7 +238,7 @@ below-grown level es es' n k grows bound = (
 )
 
 -- no literal stands past the end
-below_end : (es : List Entry) (n : ℕ) (k : ℤ) → IsLiteral k → IsOnBelow es n k → IsOnBelow es (min n (length es)) k
+pub below_end : (es : List Entry) (n : ℕ) (k : ℤ) → IsLiteral k → IsOnBelow es n k → IsOnBelow es (min n (length es)) k
 below_end es n k literal (p, less, e) = elim (cases_lt p (length es)) [
   | inl here ↦ (p, omega arith, e)
   | inr past ↦

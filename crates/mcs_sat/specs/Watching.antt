@@ -5,11 +5,12 @@ use Rattle.mcs_base.specs.Listings.{IsAmong}
 use Rattle.mcs_trace.specs.Clauses.{IsLiteral, place}
 use Rattle.mcs_sat.specs.declared.propagate.Seen.{Seen}
 use Rattle.mcs_sat.specs.declared.propagate.Seen.TheVariants as seen
+use Rattle.mcs_sat.specs.declared.state.Kept.{Kept}
 use Rattle.mcs_sat.specs.declared.state.Reach.{Reach}
 use Rattle.mcs_sat.specs.declared.trail.Entry.{Entry}
 use Rattle.mcs_sat.specs.declared.watches.Pair.{Pair}
 use Rattle.mcs_sat.specs.declared.watches.Watches.{Watches}
-use Rattle.mcs_sat.specs.Trails.{IsFalseAt, IsOnBelow, IsSatisfied, IsSatisfiedBelow}
+use Rattle.mcs_sat.specs.Trails.{IsFalseAt, IsOn, IsOnBelow, IsSatisfied, IsSatisfiedBelow}
 
 -- a clause of two literals or more watches two
 abbrev pub IsLong : List ℤ → Type 0
@@ -53,6 +54,20 @@ pub record IsReached (known : List (List ℤ)) (w : Watches) (entries : List Ent
   pub visited : (i : ℕ) (c : List ℤ) (p : Pair) (l : ℤ) → slice_get known i ≡ Some c → slice_get w.pairs.items i ≡ Some p → IsLiteral l → IsOf l p → IsOnBelow entries r.visited (neg_ℤ l) → IsSatisfiedBelow entries r.entries c
   pub settled : (j i : ℕ) (c : List ℤ) → j < r.settled → slice_get w.short.items j ≡ Some i → slice_get known i ≡ Some c → ¬ IsLong c → IsSatisfiedBelow entries r.entries c
 
+-- what is kept of the visits of the first clauses: where a literal that one of them watches was false among those that were visited, it was satisfied, without any decision
+pub record IsKept (known : List (List ℤ)) (w : Watches) (entries : List Entry) (levels : List Reach) (m : Kept) : Type 0 where
+  pub count : m.count ≤ length known
+  pub within : m.entries ≤ length entries
+  pub bound : m.visited ≤ m.entries
+  pub early : (k : ℕ) (r : Reach) → slice_get levels k ≡ Some r → m.entries ≤ r.entries
+  pub visited : (i : ℕ) (c : List ℤ) (p : Pair) (l : ℤ) → i < m.count → slice_get known i ≡ Some c → slice_get w.pairs.items i ≡ Some p → IsLiteral l → IsOf l p → IsOnBelow entries m.visited (neg_ℤ l) → IsSatisfiedBelow entries m.entries c
+
+-- what is kept still where some clauses and literals are left: nothing, or of those clauses all
+abbrev pub IsStillKept : Kept → ℕ → ℕ → Kept → Type 0
+IsStillKept old count entries new =
+    (new ≡ record { count = 0; entries = 0; visited = 0 })
+    ⊎ ((old.entries ≤ entries) × (new.count ≤ old.count) × (new.count ≤ count) × (new.entries ≡ old.entries) × (new.visited ≡ old.visited))
+
 -- what became of the clause of the index, which stood in the list of the literal
 abbrev pub IsSeen : List (List ℤ) → Watches → List Entry → ℕ → ℤ → Seen → Type 0
 IsSeen known w entries i l seen.Satisfied = (c : List ℤ) → slice_get known i ≡ Some c → IsSatisfied entries c
@@ -71,6 +86,14 @@ AreSettled known indices entries from to = (j i : ℕ) (c : List ℤ) → from �
 pub record AreKept (old new : Watches) : Type 0 where
   pub sized : length new.lists.items ≡ length old.lists.items
   pub listed : (l : ℤ) (i : ℕ) → IsListed old.lists.items l i → IsListed new.lists.items l i
+
+-- no literal that a clause of the indices watches was false among the first n
+abbrev pub AreUnwatched : List Entry → List Pair → ℕ → ℕ → ℕ → Type 0
+AreUnwatched entries pairs from to n = (i : ℕ) (p : Pair) (l : ℤ) → from ≤ i → i < to → slice_get pairs i ≡ Some p → IsLiteral l → IsOf l p → ¬ IsOnBelow entries n (neg_ℤ l)
+
+-- each literal that a clause watches now it watched before, or it was not false
+abbrev pub AreMoved : List Pair → List Pair → List Entry → Type 0
+AreMoved old new entries = (i : ℕ) (p : Pair) (l : ℤ) → slice_get new i ≡ Some p → IsOf l p → ((q : Pair) × (slice_get old i ≡ Some q) × IsOf l q) ⊎ (¬ IsOn entries (neg_ℤ l))
 
 -- the next clause watches the pair; without one it is short
 abbrev pub IsPushed : Watches → Watches → Option Pair → Type 0

@@ -7,7 +7,7 @@ ghost use Rattle.mcs_sat.specs.Answers.{IsAnswer, IsExact, IsSettled};
 ghost use Rattle.mcs_sat.specs.States.{IsState};
 ghost use Rattle.mcs_sat.specs.Stores.{ArePlaces, IsFrontOf, given};
 
-use crate::adding::{add, cut, widen};
+use crate::adding::{add, cut, keep, widen};
 use crate::order::Order;
 use crate::outcome::Outcome;
 use crate::solver::run;
@@ -219,12 +219,13 @@ impl ClauseBase {
         self.vars = vars;
     }
 
-    /// Makes true what follows from the clauses without any decision, which the searches to come then begin with. The list
-    /// stays as it is.
+    /// Makes true what follows from the clauses without any decision, which the searches to come then begin with, also
+    /// where clauses that are added later are cut. The list stays as it is.
     pub fn settle(&mut self) -> Result<(), Memory>
         ensures { self.new ≡ self.old }
     {
         let _found = run(&mut self.state)?;
+        keep(&mut self.state);
         Ok(())
     }
 

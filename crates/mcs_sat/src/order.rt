@@ -17,6 +17,9 @@ const FIRST_LIMIT: u64 = 100;
 /// How much smaller they are made, in bits.
 const SHRINK: u32 = 40;
 
+/// What stands for the place of a variable that is not in the heap.
+const NOWHERE: u32 = u32::MAX;
+
 /// Puts the value at the end until there is one at the index.
 fn fill<T: Copy>(values: &mut Vec<T>, index: usize, value: T) -> Result<(), Memory> {
     while values.len() <= index {
@@ -44,11 +47,11 @@ fn free_literal(trail: &Trail, variable: usize, value: bool) -> Option<i64>
 
 /// The variables, those that took part in recent conflicts first: a heap of variables, for each variable its place
 /// there, its activity and its last value; and how much activity a conflict adds. That a variable is missing in the
-/// heap, or stands there though it has a value, makes no answer wrong.
+/// heap, or stands there though it has a value, makes no answer wrong; those past four bytes are missing.
 #[derive(Drop)]
 pub(crate) struct Order {
-    heap: Vec<usize>,
-    places: Vec<Option<usize>>,
+    heap: Vec<u32>,
+    places: Vec<u32>,
     activities: Vec<u64>,
     values: Vec<bool>,
     gain: u64,
@@ -63,10 +66,12 @@ impl Order {
     {
         let mut heap = Vec::new(alloc);
         let mut places = Vec::new(alloc);
-        places.push(None)?;
-        for place in 0..vars as usize {
-            heap.push(place + 1)?;
-            places.push(Some(place))?;
+        places.push(NOWHERE)?;
+        for number in 1..vars + 1 {
+            if let Ok(variable) = u32::try_from(number) {
+                heap.push(variable)?;
+                places.push(variable.saturating_sub(1))?;
+            }
         }
         Ok(Order {
             heap,
@@ -82,20 +87,24 @@ impl Order {
     /// The activity of the variable at the place of the heap.
     fn activity_at(&self, place: usize) -> u64 {
         match self.heap.get(place) {
-            Some(variable) => self.activities.get(*variable).copied().unwrap_or(0),
+            Some(variable) => self
+                .activities
+                .get(*variable as usize)
+                .copied()
+                .unwrap_or(0),
             None => 0,
         }
     }
 
     /// Puts the variable to the place of the heap.
-    fn put(&mut self, place: usize, variable: usize)
+    fn put(&mut self, place: usize, variable: u32)
         ensures { length self.new.heap.items ≡ length self.old.heap.items }
     {
         if let Some(here) = self.heap.get_mut(place) {
             *here = variable;
         }
-        if let Some(here) = self.places.get_mut(variable) {
-            *here = Some(place);
+        if let Some(here) = self.places.get_mut(variable as usize) {
+            *here = u32::try_from(place).unwrap_or(NOWHERE);
         }
     }
 
@@ -146,7 +155,7 @@ impl Order {
     }
 
     /// Takes the first variable of the heap, with its last value.
-    fn pop(&mut self) -> Option<(usize, bool)>
+    fn pop(&mut self) -> Option<(u32, bool)>
         ensures { IfSome result (λ _. length self.new.heap.items < length self.old.heap.items) }
     {
         let first = *self.heap.first()?;
@@ -155,10 +164,10 @@ impl Order {
             self.put(0, last);
             self.sink(0);
         }
-        if let Some(place) = self.places.get_mut(first) {
-            *place = None;
+        if let Some(place) = self.places.get_mut(first as usize) {
+            *place = NOWHERE;
         }
-        let value = self.values.get(first).copied().unwrap_or(false);
+        let value = self.values.get(first as usize).copied().unwrap_or(false);
         Some((first, value))
     }
 
@@ -169,7 +178,7 @@ impl Order {
         ensures { IfSome result (λ l. IsLiteral l × (unsigned_abs l < length trail.now.positions.items) × StandsNowhere trail.now.entries.items (unsigned_abs l)) }
     {
         while let Some((variable, value)) = self.pop() {
-            let literal = free_literal(trail, variable, value);
+            let literal = free_literal(trail, variable as usize, value);
             if literal.is_some() {
                 return literal;
             }
@@ -180,9 +189,12 @@ impl Order {
     /// Puts the variable into the heap again, where it is not there.
     fn insert(&mut self, variable: usize) -> Result<(), Memory> {
         let place = self.heap.len();
-        if let Some(None) = self.places.get(variable) {
-            self.heap.push(variable)?;
-            self.put(place, variable);
+        if let Ok(name) = u32::try_from(variable)
+            && let Some(here) = self.places.get(variable).copied()
+            && here == NOWHERE
+        {
+            self.heap.push(name)?;
+            self.put(place, name);
             self.rise(place);
         }
         Ok(())
@@ -201,7 +213,7 @@ impl Order {
 
     /// Adds the variable of the number, where it is missing.
     pub fn widen(&mut self, variable: usize) -> Result<(), Memory> {
-        fill(&mut self.places, variable, None)?;
+        fill(&mut self.places, variable, NOWHERE)?;
         fill(&mut self.activities, variable, 0)?;
         fill(&mut self.values, variable, false)?;
         self.insert(variable)
@@ -228,8 +240,10 @@ impl Order {
             if let Some(activity) = self.activities.get_mut(variable) {
                 *activity = activity.saturating_add(self.gain);
             }
-            if let Some(Some(place)) = self.places.get(variable).copied() {
-                self.rise(place);
+            if let Some(place) = self.places.get(variable).copied()
+                && place != NOWHERE
+            {
+                self.rise(place as usize);
             }
         }
     }

@@ -6,7 +6,7 @@ ghost use Rattle.mcs_base.specs.Listings.{IsAmong};
 ghost use Rattle.mcs_trace.specs.Clauses.{IsClause, IsLiteral, place};
 ghost use Rattle.mcs_sat.specs.declared.state.Reach.{Reach};
 ghost use Rattle.mcs_sat.specs.Trails.{AreCovered, ArePlaced, Grows, IsFalseAt, IsOn, IsSatisfied, IsTrail};
-ghost use Rattle.mcs_sat.specs.Watching.{AreSettled, AreVisited, AreWatched, IsLong, IsReached, IsSeen};
+ghost use Rattle.mcs_sat.specs.Watching.{AreMoved, AreSettled, AreVisited, AreWatched, IsLong, IsReached, IsSeen};
 
 use crate::examine::{Finding, examine};
 use crate::trail::Trail;
@@ -60,6 +60,7 @@ fn visit(
     ensures lists { length watches.new.lists.items ≡ length watches.old.lists.items }
     ensures watched { AreWatched clauses.now watches.new }
     ensures short { watches.new.short.items ≡ watches.old.short.items }
+    ensures moved { AreMoved watches.old.pairs.items watches.new.pairs.items trail.old.entries.items }
     ensures reached { (r : Reach) → r.visited ≤ length trail.old.entries.items
         → IsReached clauses.now watches.old trail.old.entries.items r → IsReached clauses.now watches.new trail.old.entries.items r }
     ensures list { slice_get watches.new.lists.items (place literal) ≡ slice_get watches.old.lists.items (place literal) }
@@ -108,6 +109,7 @@ fn visit_list(
     ensures lists { length watches.new.lists.items ≡ length watches.old.lists.items }
     ensures watched { AreWatched clauses.now watches.new }
     ensures short { watches.new.short.items ≡ watches.old.short.items }
+    ensures moved { AreMoved watches.old.pairs.items watches.new.pairs.items trail.old.entries.items }
     ensures reached { (r : Reach) → r.visited ≤ length trail.old.entries.items
         → IsReached clauses.now watches.old trail.old.entries.items r → IsReached clauses.now watches.new trail.old.entries.items r }
     ensures found { IfOk result (λ found. MatchOption found
@@ -148,6 +150,7 @@ pub(crate) fn visit_from(
     ensures lists { length watches.new.lists.items ≡ length watches.old.lists.items }
     ensures watched { AreWatched clauses.now watches.new }
     ensures short { watches.new.short.items ≡ watches.old.short.items }
+    ensures moved { AreMoved watches.old.pairs.items watches.new.pairs.items trail.old.entries.items }
     ensures bound { from.new ≤ length trail.new.entries.items }
     ensures reached { (r : Reach) → r.visited ≤ length trail.old.entries.items
         → IsReached clauses.now watches.old trail.old.entries.items r → IsReached clauses.now watches.new trail.old.entries.items r }

@@ -86,6 +86,7 @@ pub(crate) fn run(state: &mut State) -> Result<Option<usize>, Memory>
     ensures grows { Grows (length state.old.levels.items) state.old.trail.entries.items state.new.trail.entries.items }
     ensures levels { state.new.levels.items ≡ state.old.levels.items }
     ensures short { state.new.watches.short.items ≡ state.old.watches.short.items }
+    ensures marked { state.new.kept ≡ state.old.kept }
     ensures before { IsReached state.new.clauses state.new.watches state.old.trail.entries.items (reach_of state.old) }
     ensures open { IfOk result (λ found. IfNone found
         (AllByRecursion (IsOpen state.new.trail.entries.items) state.new.clauses)) }

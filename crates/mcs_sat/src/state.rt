@@ -24,9 +24,25 @@ pub(crate) struct Reach {
     pub settled: usize,
 }
 
+/// What was visited when clauses were settled where nothing was decided: how many clauses there were, how many literals
+/// were true, and for how many of these the clauses that watch their negation were visited.
+#[derive(Clone, Copy)]
+pub(crate) struct Kept {
+    pub count: usize,
+    pub entries: usize,
+    pub visited: usize,
+}
+
+/// Nothing is kept.
+pub(crate) const NOTHING: Kept = Kept {
+    count: 0,
+    entries: 0,
+    visited: 0,
+};
+
 /// Clauses, with the chains of those that were learnt; the literals that are true; what the clauses watch; how far
 /// it had come where each level above 0 began; for how many true literals the clauses were visited, and how many
-/// short ones were settled.
+/// short ones were settled; and what is kept of the visits for when clauses are taken off.
 #[derive(Drop)]
 pub(crate) struct State {
     pub clauses: Rows<i64>,
@@ -36,6 +52,7 @@ pub(crate) struct State {
     pub levels: Vec<Reach>,
     pub visited: usize,
     pub settled: usize,
+    pub kept: Kept,
 }
 
 impl State {
@@ -59,6 +76,7 @@ impl State {
                 levels: Vec::new(alloc),
                 visited: 0,
                 settled: 0,
+                kept: NOTHING,
             }),
             Err(error) => {
                 drop(trail);

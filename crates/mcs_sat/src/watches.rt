@@ -45,6 +45,19 @@ pub(crate) struct Watches {
     pub short: Vec<usize>,
 }
 
+/// Adds the index at the end. The first time room is made for two: most literals of a formula's parts are watched by
+/// two clauses.
+fn add_index(indices: &mut Vec<usize>, index: usize) -> Result<(), Memory>
+    ensures ok { OnOk result (indices.new.items ≡ indices.old.items ++ index ∷ []) }
+    ensures err { OnErr result (indices.new.items ≡ indices.old.items) }
+{
+    if indices.is_empty() {
+        indices.reserve_exact(2)?;
+    }
+    indices.push(index)?;
+    Ok(())
+}
+
 impl Watches {
     /// No clauses, with a list for each literal of the variables 1 to `vars`.
     pub fn new(alloc: Global, vars: u64) -> Result<Watches, Memory>
@@ -77,7 +90,7 @@ impl Watches {
         ensures pairs { self.new.pairs.items ≡ self.old.pairs.items }
         ensures short { self.new.short.items ≡ self.old.short.items }
     {
-        self.lists[place(literal) as usize].push(index)?;
+        add_index(&mut self.lists[place(literal) as usize], index)?;
         Ok(())
     }
 

@@ -8,8 +8,9 @@ use Rattle.mcs_sat.specs.declared.watches.Pair.{Pair}
 use Rattle.mcs_sat.specs.Trails.{Grows, IsOn}
 use Rattle.mcs_sat.specs.Watching.{ArePair, AreWatched, IsListed, IsOf, IsPairOf}
 use Rattle.mcs_sat.proofs.GrowLemmas.{clause_at, covered_at, grows-none, literal_of, on-pushed, read_literal, trail-push, trail-same, within_of}
+use Rattle.mcs_sat.proofs.KeptLemmas.{moved-list, moved-none, moved-then}
 use Rattle.mcs_sat.proofs.TrailLemmas.{on_below}
-use Rattle.mcs_sat.proofs.WatchLemmas.{IsWatching, gone-move, reached-list, reached-move, watched-list, watched-move, watched_at, watching}
+use Rattle.mcs_sat.proofs.WatchLemmas.{IsWatching, gone-move, moved-move, reached-list, reached-move, watched-list, watched-move, watched_at, watching}
 use Rattle.mcs_sat.proofs.propagate.visit.Goals.{In-Some, In-Some-open_literal, After-list}
 use Rattle.mcs_sat.proofs.propagate.visit.Goals as goal
 
@@ -350,3 +351,38 @@ push-requires-clause-placed c = c.requires.trail.placed
 
 pub open_literal-requires-clause-placed : goal.open_literal-requires-clause-placed
 open_literal-requires-clause-placed c = c.requires.trail.placed
+
+-- ---- what is watched now it watched before, or it was not false
+pub returns-in_err-list-clause-moved : goal.returns-in_err-list-clause-moved
+returns-in_err-list-clause-moved c = moved-list c.args.watches.now.pairs.items c.list.new.self.pairs.items c.args.trail.now.entries.items c.list.ensures.pairs
+
+pub returns-in-Some-open_literal-clause-moved : goal.returns-in-Some-open_literal-clause-moved
+returns-in-Some-open_literal-clause-moved c =
+    let at = (goal.at.returns-in-Some-open_literal-clause-moved c).In-Some in
+    let at' = (goal.at.returns-in-Some-open_literal-clause-moved c).In-Some-open_literal in
+    let es : List Entry = c.args.trail.now.entries.items in
+    let q : Pair = record { first = to_z w64 (of_z w64 c.in-Some.other); second = to_z w64 (of_z w64 c.in-Some-open_literal.open) } in
+    let old : slice_get c.list.new.self.pairs.items c.args.index ≡ Some c.index.result.now = subst (λ (ps : List Pair). slice_get ps c.args.index ≡ Some c.index.result.now) (sym c.list.ensures.pairs) (pair at) in
+    moved-then c.args.level c.args.watches.now.pairs.items c.list.new.self.pairs.items _ es es (grows-none c.args.level es) (moved-list c.args.watches.now.pairs.items c.list.new.self.pairs.items es c.list.ensures.pairs)
+    (moved-move c.list.new.self.pairs.items c.args.index c.index.result.now q es old (λ l of. elim of [
+      | inl first ↦ inl (subst (λ (k : ℤ). IsOf k c.index.result.now) (sym (other at) ∙ first) ((watches at c.row.result.now c.row.ensures).of_other c.index.result.now (pair at)))
+      | inr second ↦ inr (λ off. c.in-Some-open_literal.ensures.2 (subst (λ (k : ℤ). IsOn es (neg_ℤ k)) (sym second ∙ open_read at') off))
+    ]))
+
+pub returns-then-index-len-clause-moved : goal.returns-then-index-len-clause-moved
+returns-then-index-len-clause-moved c = moved-none c.args.watches.now.pairs.items c.args.trail.now.entries.items
+
+pub returns-in_default-clause-moved : goal.returns-in_default-clause-moved
+returns-in_default-clause-moved c = moved-none c.args.watches.now.pairs.items c.args.trail.now.entries.items
+
+pub returns-then-is_true-clause-moved : goal.returns-then-is_true-clause-moved
+returns-then-is_true-clause-moved c = moved-none c.args.watches.now.pairs.items c.args.trail.now.entries.items
+
+pub returns-then-is_false-clause-moved : goal.returns-then-is_false-clause-moved
+returns-then-is_false-clause-moved c = moved-none c.args.watches.now.pairs.items c.args.trail.now.entries.items
+
+pub returns-in_err-push-clause-moved : goal.returns-in_err-push-clause-moved
+returns-in_err-push-clause-moved c = moved-none c.args.watches.now.pairs.items c.args.trail.now.entries.items
+
+pub returns-clause-moved : goal.returns-clause-moved
+returns-clause-moved c = moved-none c.args.watches.now.pairs.items c.args.trail.now.entries.items

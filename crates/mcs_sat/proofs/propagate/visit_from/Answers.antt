@@ -4,8 +4,9 @@ use Rattle.mcs_trace.specs.Clauses.{IsLiteral}
 use Rattle.mcs_sat.specs.declared.state.Reach.{Reach}
 use Rattle.mcs_sat.specs.declared.trail.Entry.{Entry}
 use Rattle.mcs_sat.specs.Trails.{Grows, IsFalseAt, literal_at}
-use Rattle.mcs_sat.specs.Watching.{AreVisited, IsReached}
+use Rattle.mcs_sat.specs.Watching.{AreMoved, AreVisited, IsReached}
 use Rattle.mcs_sat.proofs.GrowLemmas.{entry-grown, grows-longer, grows-more, neg_literal, read_literal}
+use Rattle.mcs_sat.proofs.KeptLemmas.{moved-then}
 use Rattle.mcs_sat.proofs.TrailLemmas.{placed-most}
 use Rattle.mcs_sat.proofs.WatchLemmas.{reached-across, reached-grown, reached-next}
 use Rattle.mcs_sat.proofs.propagate.visit_from.Goals.{After-visit_list}
@@ -20,6 +21,18 @@ grows c = grows-more c.args.level c.args.trail.now.entries.items c.loop-from.tra
 reached : (c : After-visit_list) (r : Reach) → r.visited ≤ length c.args.trail.now.entries.items → IsReached c.args.clauses.now c.args.watches.now c.args.trail.now.entries.items r
     → IsReached c.args.clauses.now c.visit_list.new.watches c.args.trail.now.entries.items r
 reached c r bound h = reached-across c.args.clauses.now c.args.level c.args.trail.now.entries.items c.loop-from.trail.entries.items c.requires.trail.clauses c.loop-from.invariant.kept.grows r bound c.loop-from.watches c.visit_list.new.watches c.visit_list.ensures.reached (c.loop-from.invariant.watches.reached r bound h)
+
+moved : (c : After-visit_list) → AreMoved c.args.watches.now.pairs.items c.visit_list.new.watches.pairs.items c.args.trail.now.entries.items
+moved c = moved-then c.args.level c.args.watches.now.pairs.items c.loop-from.watches.pairs.items c.visit_list.new.watches.pairs.items c.args.trail.now.entries.items c.loop-from.trail.entries.items c.loop-from.invariant.kept.grows c.loop-from.invariant.watches.moved c.visit_list.ensures.moved
+
+pub returns-in_err-found-clause-moved : goal.returns-in_err-found-clause-moved
+returns-in_err-found-clause-moved c = moved (goal.at.returns-in_err-found-clause-moved c).After-visit_list
+
+pub returns-then-is_some-clause-moved : goal.returns-then-is_some-clause-moved
+returns-then-is_some-clause-moved c = moved (goal.at.returns-then-is_some-clause-moved c).After-visit_list
+
+pub returns-clause-moved : goal.returns-clause-moved
+returns-clause-moved c = c.loop-from.invariant.watches.moved
 
 now : (c : After-visit_list) (settled : ℕ) → IsReached c.args.clauses.now c.args.watches.now c.args.trail.now.entries.items (record { entries = length c.args.trail.now.entries.items; visited = c.args.from.now; settled = settled })
     → IsReached c.args.clauses.now c.visit_list.new.watches c.visit_list.new.trail.entries.items (record { entries = length c.visit_list.new.trail.entries.items; visited = c.loop-from.from; settled = settled })
@@ -73,6 +86,7 @@ loop-from-preserved c =
         lists = c.visit_list.ensures.lists ∙ c.loop-from.invariant.watches.lists;
         watched = c.visit_list.ensures.watched;
         short = c.visit_list.ensures.short ∙ c.loop-from.invariant.watches.short;
+        moved = moved at;
         reached = reached at;
       };
       bound = omega arith;

@@ -9,9 +9,11 @@ use Rattle.mcs_sat.specs.declared.propagate.Seen.TheVariants as seen
 use Rattle.mcs_sat.specs.declared.state.Reach.{Reach}
 use Rattle.mcs_sat.specs.declared.trail.Entry.{Entry}
 use Rattle.mcs_sat.specs.Trails.{ArePlaced, Grows, IsOn, literal_at}
-use Rattle.mcs_sat.specs.Watching.{IsReached, IsSeen}
+use Rattle.mcs_sat.specs.Watching.{AreMoved, IsReached, IsSeen}
 use Rattle.mcs_sat.proofs.GrowLemmas.{grows-more}
-use Rattle.mcs_sat.proofs.WatchLemmas.{left-more, left-swap, passed-more, passed-swap, reached-across, reached-list, slice_get-set_same, visited-all, watched-swap}
+use Rattle.mcs_sat.proofs.KeptLemmas.{moved-then}
+use Rattle.mcs_base.proofs.Written.{slice_get-set_same}
+use Rattle.mcs_sat.proofs.WatchLemmas.{left-more, left-swap, passed-more, passed-swap, reached-across, reached-list, visited-all, watched-swap}
 use Rattle.mcs_sat.proofs.propagate.visit_list.Goals.{After-index, After-index_mut, After-visit}
 use Rattle.mcs_sat.proofs.propagate.visit_list.Goals as goal
 
@@ -57,6 +59,19 @@ grows c = grows-more c.args.level c.args.trail.now.entries.items c.loop-at.trail
 reached : (c : After-visit) (r : Reach) → r.visited ≤ length c.args.trail.now.entries.items → IsReached c.args.clauses.now c.args.watches.now c.args.trail.now.entries.items r → IsReached c.args.clauses.now c.visit.new.watches c.args.trail.now.entries.items r
 reached c r bound h = reached-across c.args.clauses.now c.args.level c.args.trail.now.entries.items c.loop-at.trail.entries.items c.requires.trail.clauses c.loop-at.invariant.kept.grows r bound c.loop-at.watches c.visit.new.watches c.visit.ensures.reached (c.loop-at.invariant.watches.reached r bound h)
 
+-- what is watched now
+moved : (c : After-visit) → AreMoved c.args.watches.now.pairs.items c.visit.new.watches.pairs.items c.args.trail.now.entries.items
+moved c = moved-then c.args.level c.args.watches.now.pairs.items c.loop-at.watches.pairs.items c.visit.new.watches.pairs.items c.args.trail.now.entries.items c.loop-at.trail.entries.items c.loop-at.invariant.kept.grows c.loop-at.invariant.watches.moved c.visit.ensures.moved
+
+pub returns-in_err-visit-clause-moved : goal.returns-in_err-visit-clause-moved
+returns-in_err-visit-clause-moved c = moved (goal.at.returns-in_err-visit-clause-moved c).After-visit
+
+pub returns-in-Conflict-clause-moved : goal.returns-in-Conflict-clause-moved
+returns-in-Conflict-clause-moved c = moved (goal.at.returns-in-Conflict-clause-moved c).After-visit
+
+pub returns-clause-moved : goal.returns-clause-moved
+returns-clause-moved c = c.loop-at.invariant.watches.moved
+
 pub returns-in_err-visit-clause-reached : goal.returns-in_err-visit-clause-reached
 returns-in_err-visit-clause-reached c = reached (goal.at.returns-in_err-visit-clause-reached c).After-visit
 
@@ -82,6 +97,7 @@ loop-at-preserved-in-Satisfied c =
         lists = c.visit.ensures.lists ∙ c.loop-at.invariant.watches.lists;
         watched = c.visit.ensures.watched;
         short = c.visit.ensures.short ∙ c.loop-at.invariant.watches.short;
+        moved = moved at;
         reached = reached at;
       };
       passed = passed-more c.args.clauses.now c.loop-at.watches.lists.items c.visit.new.watches.lists.items c.args.level c.loop-at.trail.entries.items c.visit.new.trail.entries.items c.place-list.result c.loop-at.at c.index-in-loop-at.result.now
@@ -145,6 +161,7 @@ loop-at-preserved c =
         watched = watched-swap c.args.clauses.now c.visit.new.watches _ c.place-list.result l c.loop-at.at list c.swap_remove.new.self x c.visit.ensures.watched refl refl refl c.place-list.ensures (removed_at at') less
             c.swap_remove.ensures.value c.swap_remove.ensures.items (λ q is. gone q (sym (ap (slice_get c.visit.new.watches.pairs.items) x-is) ∙ is));
         short = c.visit.ensures.short ∙ c.loop-at.invariant.watches.short;
+        moved = moved at;
         reached = λ r bound h. reached-list c.args.clauses.now c.visit.new.watches _ c.args.trail.now.entries.items r refl refl (reached at r bound h);
       };
       passed = passed-swap c.args.clauses.now c.loop-at.watches.lists.items c.visit.new.watches.lists.items c.args.level c.loop-at.trail.entries.items c.visit.new.trail.entries.items c.place-list.result c.loop-at.at list

@@ -14,7 +14,7 @@ level : (c : After-settle_from) → c.len-level.result ≡ length c.args.state.n
 level c = let ok = c.args.state.now.levels.ok.0 in omega (arith, c.len-level.ensures)
 
 -- what is kept when the short clauses are settled
-settled : (c : After-settle_from) → IsState (record { clauses = c.args.state.now.clauses; chains = c.args.state.now.chains; trail = c.settle_from.new.trail; watches = c.args.state.now.watches; levels = c.args.state.now.levels; visited = c.args.state.now.visited; settled = c.settle_from.new.from })
+settled : (c : After-settle_from) → IsState (record { clauses = c.args.state.now.clauses; chains = c.args.state.now.chains; trail = c.settle_from.new.trail; watches = c.args.state.now.watches; levels = c.args.state.now.levels; visited = c.args.state.now.visited; settled = c.settle_from.new.from; kept = c.args.state.now.kept })
 settled c =
     let s = c.args.state.now in
     let e = c.settle_from.ensures in
@@ -24,15 +24,15 @@ settled c =
     (subst (λ (xs : List ℕ). c.settle_from.new.from ≤ length xs) c.deref.ensures.value (e.bound (let b = c.requires.short_bound in omega (arith, ap length c.deref.ensures.value))))
 
 -- and when the clauses are visited then
-after : (c : After-visit_from) → IsState (record { clauses = c.args.state.now.clauses; chains = c.args.state.now.chains; trail = c.settle_from.new.trail; watches = c.args.state.now.watches; levels = c.args.state.now.levels; visited = c.args.state.now.visited; settled = c.settle_from.new.from }) → c.len-level.result ≡ length c.args.state.now.levels.items
-    → IsState (record { clauses = c.args.state.now.clauses; chains = c.args.state.now.chains; trail = c.visit_from.new.trail; watches = c.visit_from.new.watches; levels = c.args.state.now.levels; visited = c.visit_from.new.from; settled = c.settle_from.new.from })
+after : (c : After-visit_from) → IsState (record { clauses = c.args.state.now.clauses; chains = c.args.state.now.chains; trail = c.settle_from.new.trail; watches = c.args.state.now.watches; levels = c.args.state.now.levels; visited = c.args.state.now.visited; settled = c.settle_from.new.from; kept = c.args.state.now.kept }) → c.len-level.result ≡ length c.args.state.now.levels.items
+    → IsState (record { clauses = c.args.state.now.clauses; chains = c.args.state.now.chains; trail = c.visit_from.new.trail; watches = c.visit_from.new.watches; levels = c.args.state.now.levels; visited = c.visit_from.new.from; settled = c.settle_from.new.from; kept = c.args.state.now.kept })
 after c before same =
     let s = c.args.state.now in
-    let between : State = record { clauses = s.clauses; chains = s.chains; trail = c.settle_from.new.trail; watches = s.watches; levels = s.levels; visited = s.visited; settled = c.settle_from.new.from } in
+    let between : State = record { clauses = s.clauses; chains = s.chains; trail = c.settle_from.new.trail; watches = s.watches; levels = s.levels; visited = s.visited; settled = c.settle_from.new.from; kept = s.kept } in
     let e = c.visit_from.ensures in
     state-visited between c.visit_from.new.trail c.visit_from.new.watches c.visit_from.new.from before e.trail e.positions
     (subst (λ (n : ℕ). Grows n c.settle_from.new.trail.entries.items c.visit_from.new.trail.entries.items) same e.grows)
-    e.lists e.watched e.short e.bound e.reached e.now
+    e.lists e.watched e.short e.moved e.bound e.reached e.now
 
 pub returns-in_err-found-clause-kept : goal.returns-in_err-found-clause-kept
 returns-in_err-found-clause-kept c = settled (goal.at.returns-in_err-found-clause-kept c).After-settle_from

@@ -16,7 +16,7 @@ pub returns-in_err-push_clause-clause-kept : goal.returns-in_err-push_clause-cla
 returns-in_err-push_clause-clause-kept c =
     let s = c.args.state.now in
     let e = c.in_err-push_clause.ensures in
-    state-same s _ c.requires.state e.err_clauses e.err_chains refl refl c.requires.state.trail.placed e.watches e.err_pairs e.err_short refl refl refl
+    state-same s _ c.requires.state e.err_clauses e.err_chains refl refl c.requires.state.trail.placed e.watches e.err_pairs e.err_short refl refl refl refl
 
 pub index-reach-requires : goal.index-reach-requires
 index-reach-requires c =
