@@ -1,5 +1,5 @@
 -- Lists of which parts are read, written back, set or inserted, beyond std's lemmas.
-use Rattle.std.proofs.Common.{◌≡◌, ℕ, ◌+◌, ◌<◌, zero, suc, Bool, ◌&&◌, List, [], ◌∷◌, ◌++◌, map, length, take, drop, get_or, slice_get, slice_set, Some, refl, sym, ap, ◌∙◌, inl, inr, ◌⊎◌, arith, ◌-◌, ◌≤◌}
+use Rattle.std.proofs.Common.{◌≡◌, ◌≢◌, ℕ, ◌+◌, ◌<◌, zero, suc, Bool, ◌&&◌, List, [], ◌∷◌, ◌++◌, map, length, take, drop, get_or, set, slice_get, slice_set, Some, refl, sym, ap, ◌∙◌, inl, inr, ◌⊎◌, arith, ◌-◌, ◌≤◌}
 use Rattle.std.proofs.lemmas.List.{append-nil, append_assoc, drop_all, take_all, take_more}
 use Rattle.std.proofs.lemmas.List.Sums.{sum_by-cons}
 use Rattle.std.specs.List.{list_all, sum_by}
@@ -22,6 +22,23 @@ module _ {A : Type 0} where
   written_back xs ys n long full = ap (λ zs. take n (ys ++ zs)) (drop_all (length ys) xs (omega (arith, long))) ∙ (ap (take n) (append-nil ys) ∙ take_all n ys (omega (arith, long, full)))
 
   -- ---- one place changed
+  pub slice_get_set : (xs : List A) (i : ℕ) (y z : A) → slice_get (set xs i y) i ≡ Some z → z ≡ y
+  slice_get_set [] i y z e = absurd (cc)
+  slice_get_set (x ∷ xs) zero y z e = cc
+  slice_get_set (x ∷ xs) (suc i) y z e = slice_get_set xs i y z e
+
+  pub slice_get-set_other : (xs : List A) (i j : ℕ) (y : A) → j ≢ i → slice_get (set xs i y) j ≡ slice_get xs j
+  slice_get-set_other [] i j y differ = refl
+  slice_get-set_other (x ∷ xs) zero zero y differ = absurd (differ refl)
+  slice_get-set_other (x ∷ xs) zero (suc j) y differ = refl
+  slice_get-set_other (x ∷ xs) (suc i) zero y differ = refl
+  slice_get-set_other (x ∷ xs) (suc i) (suc j) y differ = slice_get-set_other xs i j y (λ e. differ (ap suc e))
+
+  pub slice_get-set_same : (xs : List A) (i : ℕ) (y : A) → i < length xs → slice_get (set xs i y) i ≡ Some y
+  slice_get-set_same [] i y less = absurd (omega arith)
+  slice_get-set_same (x ∷ xs) zero y less = refl
+  slice_get-set_same (x ∷ xs) (suc i) y less = slice_get-set_same xs i y (omega arith)
+
   pub slice_get-slice_set : (xs : List A) (i j : ℕ) (y z : A) → slice_get (slice_set xs i y) j ≡ Some z → ((j ≡ i) × (z ≡ y)) ⊎ ((¬ (j ≡ i)) × (slice_get xs j ≡ Some z))
   slice_get-slice_set [] zero j y z is = absurd (cc)
   slice_get-slice_set [] (suc i) j y z is = absurd (cc)

@@ -1,17 +1,12 @@
 -- What holds of lists, import orders, levels and oracles, whatever a mesh is.
-use Rattle.std.proofs.Common.{◌≡◌, ℕ, ◌+◌, ◌-◌, ◌<◌, ◌≤◌, zero, suc, nat_eq, Bool, true, false, cond, List, [], ◌∷◌, ◌++◌, map, take, drop, length, get_or, slice_get, slice_set, Some, refl, sym, ap, ◌∙◌, subst, inl, inr, ◌⊎◌, arith}
+use Rattle.std.proofs.Common.{◌≡◌, ℕ, ◌+◌, ◌-◌, ◌<◌, ◌≤◌, zero, suc, nat_eq, Bool, true, false, cond, List, [], ◌∷◌, ◌++◌, take, length, get_or, sym, subst, inl, inr, arith}
 use Rattle.std.proofs.lemmas.Bool.Decides.{nat_tests}
 use Rattle.std.proofs.lemmas.List.{append_assoc, append-nil}
-use Rattle.std.proofs.lemmas.List.Sums.{sum_by-cons}
-use Rattle.std.specs.List.{sum_by}
-use Rattle.mcs_base.specs.Listings.{IsAmong, IsAscending, IsInventory}
-use Rattle.mcs_base.proofs.Distinct.{distinct_fits, ascending_distinct}
+use Rattle.mcs_base.specs.Listings.{IsAmong}
 use Rattle.mcs_system.specs.Plain.{System}
 use Rattle.mcs_system.specs.Imports.{FollowsOrder, IsQuestion, before_in}
 use Rattle.mcs_system.specs.Levels.{IsQuestionAt}
 use Rattle.mcs_laws.proofs.Questions.{questions_grow as question_grows}
-use Rattle.mcs_states.specs.Oracles.{OracleState, with_journal}
-use Rattle.mcs_states.specs.Evaluators.{unasked}
 
 -- ---- the import order
 pub follows_apart : (m : System) (taken order : List ℕ) (k d : ℕ) → FollowsOrder m taken order → k < length order → ¬ IsAmong (get_or order k d) (taken ++ take k order)

@@ -38,12 +38,10 @@ supplies_known m level known (j ∷ js) each = let (k, is, one) = each j (inl re
 -- ---- after some contexts
 -- the contexts seen are known, with the listings of their questions; the others have none as yet, and so many were drawn
 pub record IsPartly (m : System) (level : ℕ) (seen : List ℕ) (known : List Knowledge) (drawn : ℕ) : Type 0 where
-  pub lists : List (List ℕ)
-  pub one_each : length lists ≡ length m.contexts
-  pub some : (c : ℕ) (xs : List ℕ) → slice_get lists c ≡ Some xs → AreSomeQuestions m level c xs
-  pub sum : drawn ≡ sum_by (λ (xs : List ℕ). length xs) lists
-  pub told : (c : ℕ) (xs : List ℕ) (k : Knowledge) → IsAmong c seen → slice_get lists c ≡ Some xs → slice_get known c ≡ Some k → xs ≡ questions_in k.answers
-  pub untold : (c : ℕ) (xs : List ℕ) → ¬ IsAmong c seen → slice_get lists c ≡ Some xs → xs ≡ []
+  pub had : HasQuestions m level drawn
+  pub sum : drawn ≡ sum_by (λ (xs : List ℕ). length xs) had.lists
+  pub told : (c : ℕ) (xs : List ℕ) (k : Knowledge) → IsAmong c seen → slice_get had.lists c ≡ Some xs → slice_get known c ≡ Some k → xs ≡ questions_in k.answers
+  pub untold : (c : ℕ) (xs : List ℕ) → ¬ IsAmong c seen → slice_get had.lists c ≡ Some xs → xs ≡ []
   pub each_known : (c : ℕ) (k : Knowledge) → IsAmong c seen → slice_get known c ≡ Some k → IsKnown m level c k
 
 no_lists : (cs : List Context) → sum_by (λ (xs : List ℕ). length xs) (map (λ (c : Context). []) cs) ≡ 0
@@ -55,9 +53,12 @@ each_empty cs i xs is = let (c, there, e) = map_slice_get (λ (c : Context). [])
 
 pub partly_begun : (m : System) (level : ℕ) (known : List Knowledge) → IsPartly m level [] known 0
 partly_begun m level known = record {
-  lists = map (λ (c : Context). []) m.contexts;
-  one_each = length-map m.contexts (λ (c : Context). []);
-  some = λ c xs is. subst (λ ys. AreSomeQuestions m level c ys) (sym (each_empty m.contexts c xs is)) (record { questions = λ x h. absurd h; apart = tt });
+  had = record {
+    lists = map (λ (c : Context). []) m.contexts;
+    one_each = length-map m.contexts (λ (c : Context). []);
+    some = λ c xs is. subst (λ ys. AreSomeQuestions m level c ys) (sym (each_empty m.contexts c xs is)) (record { questions = λ x h. absurd h; apart = tt });
+    many = omega arith;
+  };
   sum = sym (no_lists m.contexts);
   told = λ c xs k h is is'. absurd h;
   untold = λ c xs other is. each_empty m.contexts c xs is;
@@ -66,33 +67,31 @@ partly_begun m level known = record {
 
 module _ (m : System) (level : ℕ) (seen : List ℕ) (known : List Knowledge) (drawn : ℕ) (s : IsPartly m level seen known drawn) (i : ℕ) (less : i < length m.contexts) (new : ¬ IsAmong i seen)
     (asked : List ℕ) (listed : IsListing (IsQuestionAt m level i) (λ a b. a < b) asked) where
-  none_yet : slice_get s.lists i ≡ Some []
-  none_yet = let (xs, is) = slice_get_below s.lists i (let e = s.one_each in omega (arith, e, less)) in is ∙ ap (λ ys. Some ys) (s.untold i xs new is)
+  none_yet : slice_get s.had.lists i ≡ Some []
+  none_yet = let (xs, is) = slice_get_below s.had.lists i (let e = s.had.one_each in omega (arith, e, less)) in is ∙ ap (λ ys. Some ys) (s.untold i xs new is)
 
-  sum_more : drawn + length asked ≡ sum_by (λ (xs : List ℕ). length xs) (slice_set s.lists i asked)
-  sum_more = let e = s.sum in omega (arith, e, sum_of_lengths-slice_set s.lists i asked none_yet)
+  sum_more : drawn + length asked ≡ sum_by (λ (xs : List ℕ). length xs) (slice_set s.had.lists i asked)
+  sum_more = let e = s.sum in omega (arith, e, sum_of_lengths-slice_set s.had.lists i asked none_yet)
 
-  some_more : (c : ℕ) (xs : List ℕ) → slice_get (slice_set s.lists i asked) c ≡ Some xs → AreSomeQuestions m level c xs
-  some_more c xs is = elim (slice_get-slice_set s.lists i c asked xs is) [
+  some_more : (c : ℕ) (xs : List ℕ) → slice_get (slice_set s.had.lists i asked) c ≡ Some xs → AreSomeQuestions m level c xs
+  some_more c xs is = elim (slice_get-slice_set s.had.lists i c asked xs is) [
     | inl h ↦ subst (λ ys. AreSomeQuestions m level c ys) (sym h.1) (subst (λ n. AreSomeQuestions m level n asked) (sym h.0) (record { questions = λ x among. (listed.exactly x).0 among; apart = ascending_distinct asked listed.ascending }))
-    | inr h ↦ s.some c xs h.1
+    | inr h ↦ s.had.some c xs h.1
   ]
 
   pub has_drawn : HasQuestions m level (drawn + length asked)
-  has_drawn = record { lists = slice_set s.lists i asked; one_each = length-slice_set s.lists i asked ∙ s.one_each; some = some_more; many = omega (arith, sum_more) }
+  has_drawn = record { lists = slice_set s.had.lists i asked; one_each = length-slice_set s.had.lists i asked ∙ s.had.one_each; some = some_more; many = omega (arith, sum_more) }
 
   -- the context has been asked
   pub partly_more : (k : Knowledge) → questions_in k.answers ≡ asked → IsKnown m level i k → (now : List ℕ) → now ≡ seen ++ i ∷ [] → (total : ℕ) → total ≡ drawn + length asked → IsPartly m level now (slice_set known i k) total
   partly_more k questions one now is total e = subst (λ xs. IsPartly m level xs (slice_set known i k) total) (sym is) (record {
-    lists = slice_set s.lists i asked;
-    one_each = length-slice_set s.lists i asked ∙ s.one_each;
-    some = some_more;
+    had = record { lists = slice_set s.had.lists i asked; one_each = length-slice_set s.had.lists i asked ∙ s.had.one_each; some = some_more; many = omega (arith, e, sum_more) };
     sum = e ∙ sum_more;
-    told = λ c xs k' h at at'. elim (slice_get-slice_set s.lists i c asked xs at) [
+    told = λ c xs k' h at at'. elim (slice_get-slice_set s.had.lists i c asked xs at) [
       | inl here ↦ elim (slice_get-slice_set known i c k k' at') [ inl here' ↦ here.1 ∙ sym questions ∙ ap (λ z. questions_in z.answers) (sym here'.1) | inr other ↦ absurd (other.0 here.0) ]
       | inr other ↦ elim (slice_get-slice_set known i c k k' at') [ inl here' ↦ absurd (other.0 here'.0) | inr other' ↦ elim ((among_push c seen i).0 h) [ inl before ↦ s.told c xs k' before other.1 other'.1 | inr last ↦ absurd (other.0 last) ] ]
     ];
-    untold = λ c xs not at. elim (slice_get-slice_set s.lists i c asked xs at) [
+    untold = λ c xs not at. elim (slice_get-slice_set s.had.lists i c asked xs at) [
       | inl here ↦ absurd (not ((among_push c seen i).1 (inr here.0)))
       | inr other ↦ s.untold c xs (λ before. not ((among_push c seen i).1 (inl before))) other.1
     ];
@@ -114,7 +113,7 @@ same_sums (xs ∷ lists) (k ∷ known) e each =
     omega (arith, here, rest, sum_by-cons (λ (ys : List ℕ). length ys) xs lists, sum_by-cons (λ (l : Knowledge). length l.answers) k known)
 
 pub all_counted : (m : System) (level : ℕ) (order : List ℕ) (known : List Knowledge) (drawn : ℕ) → IsPartly m level order known drawn → length known ≡ length m.contexts → ((c : ℕ) → c < length m.contexts → IsAmong c order) → drawn ≡ answer_count known
-all_counted m level order known drawn s each all = s.sum ∙ same_sums s.lists known (s.one_each ∙ sym each) (λ c xs k at at'. s.told c xs k (all c (let e = s.one_each in let l = slice_get_within s.lists c xs at in omega (arith, e, l))) at at')
+all_counted m level order known drawn s each all = s.sum ∙ same_sums s.had.lists known (s.had.one_each ∙ sym each) (λ c xs k at at'. s.told c xs k (all c (let e = s.had.one_each in let l = slice_get_within s.had.lists c xs at in omega (arith, e, l))) at at')
 
 has_answers : (m : System) (level i : ℕ) (k : Knowledge) → IsKnown m level i k → HasAnswers m level i k.answers
 has_answers m level i k one = record { questions = λ x h. (one.answered.questions.exactly x).0 h; ascending = one.answered.questions.ascending; right = one.answered.parts }

@@ -9,9 +9,6 @@ use Rattle.mcs_spelling.specs.Words.{place_of}
 use Rattle.mcs_proof_lines.specs.Walks.{IsLast, lines_from}
 use Rattle.mcs_spelling.specs.Lines.{onto, complete_lines, is_empty, incomplete}
 
-abbrev is_feed : ℕ → Bool
-is_feed b = nat_eq b 10
-
 abbrev Found : List ℕ → ℕ → Type 0
 Found bytes j = (complete_lines bytes ≡ take j bytes ∷ complete_lines (drop (suc j) bytes)) × (incomplete bytes ≡ incomplete (drop (suc j) bytes))
 
@@ -31,22 +28,22 @@ module _ (b : ℕ) (bytes : List ℕ) where
     ap (λ (u : Bool). cond u (incomplete bytes) (cond (is_empty (complete_lines bytes)) (b ∷ bytes) (incomplete bytes))) v ∙ ap (λ ls. cond (is_empty ls) (b ∷ bytes) (incomplete bytes)) h.0,
   )
 
-step : (k i b : ℕ) (bytes : List ℕ) → (position_from is_feed (k + 1) bytes ≡ Some i → (j : ℕ) × (i ≡ k + 1 + j) × Found bytes j) → (v : Bool) → nat_eq b 10 ≡ v
-    → cond v (Some k) (position_from is_feed (k + 1) bytes) ≡ Some i → (j : ℕ) × (i ≡ k + j) × Found (b ∷ bytes) j
+step : (k i b : ℕ) (bytes : List ℕ) → (position_from (λ b. nat_eq b 10) (k + 1) bytes ≡ Some i → (j : ℕ) × (i ≡ k + 1 + j) × Found bytes j) → (v : Bool) → nat_eq b 10 ≡ v
+    → cond v (Some k) (position_from (λ b. nat_eq b 10) (k + 1) bytes) ≡ Some i → (j : ℕ) × (i ≡ k + j) × Found (b ∷ bytes) j
 step k i b bytes again true v e = (0, (let same = same_Some k i e in omega arith), feed b bytes v)
 step k i b bytes again false v e = let (j, is, found) = again e in (suc j, omega (arith, is), other b bytes j v found)
 
-none_step : (k b : ℕ) (bytes : List ℕ) → (position_from is_feed (k + 1) bytes ≡ None → (complete_lines bytes ≡ []) × (incomplete bytes ≡ bytes)) → (v : Bool) → nat_eq b 10 ≡ v
-    → cond v (Some k) (position_from is_feed (k + 1) bytes) ≡ None → (complete_lines (b ∷ bytes) ≡ []) × (incomplete (b ∷ bytes) ≡ b ∷ bytes)
+none_step : (k b : ℕ) (bytes : List ℕ) → (position_from (λ b. nat_eq b 10) (k + 1) bytes ≡ None → (complete_lines bytes ≡ []) × (incomplete bytes ≡ bytes)) → (v : Bool) → nat_eq b 10 ≡ v
+    → cond v (Some k) (position_from (λ b. nat_eq b 10) (k + 1) bytes) ≡ None → (complete_lines (b ∷ bytes) ≡ []) × (incomplete (b ∷ bytes) ≡ b ∷ bytes)
 none_step k b bytes again true v e = absurd (cc)
 none_step k b bytes again false v e = none_more b bytes v (again e)
 
 -- a line feed at this place, counted from k
-found_from : (k i : ℕ) (bytes : List ℕ) → position_from is_feed k bytes ≡ Some i → (j : ℕ) × (i ≡ k + j) × Found bytes j
+found_from : (k i : ℕ) (bytes : List ℕ) → position_from (λ b. nat_eq b 10) k bytes ≡ Some i → (j : ℕ) × (i ≡ k + j) × Found bytes j
 found_from k i [] e = absurd (cc)
 found_from k i (b ∷ bytes) e = step k i b bytes (λ e'. found_from (k + 1) i bytes e') (nat_eq b 10) refl e
 
-none_from : (k : ℕ) (bytes : List ℕ) → position_from is_feed k bytes ≡ None → (complete_lines bytes ≡ []) × (incomplete bytes ≡ bytes)
+none_from : (k : ℕ) (bytes : List ℕ) → position_from (λ b. nat_eq b 10) k bytes ≡ None → (complete_lines bytes ≡ []) × (incomplete bytes ≡ bytes)
 none_from k [] e = (refl, refl)
 none_from k (b ∷ bytes) e = none_step k b bytes (λ e'. none_from (k + 1) bytes e') (nat_eq b 10) refl e
 
@@ -54,14 +51,14 @@ none_from k (b ∷ bytes) e = none_step k b bytes (λ e'. none_from (k + 1) byte
 pub first_line : (bytes : List ℕ) (place : ℕ) → place_of 10 bytes ≡ Some place
     → (complete_lines bytes ≡ take place bytes ∷ complete_lines (drop (place + 1) bytes)) × (incomplete bytes ≡ incomplete (drop (place + 1) bytes))
 first_line bytes place e =
-    let (j, is, found) = found_from 0 place bytes (sym (position_from-zero is_feed bytes) ∙ e) in
+    let (j, is, found) = found_from 0 place bytes (sym (position_from-zero (λ b. nat_eq b 10) bytes) ∙ e) in
     let same : j ≡ place = omega (arith, is) in
     let next : suc place ≡ place + 1 = omega arith in
     let P : ℕ → ℕ → Type 0 = λ a b. (complete_lines bytes ≡ take a bytes ∷ complete_lines (drop b bytes)) × (incomplete bytes ≡ incomplete (drop b bytes)) in
     subst (P place) next (subst (λ a. P a (suc a)) same found)
 
 pub no_line : (bytes : List ℕ) → place_of 10 bytes ≡ None → (complete_lines bytes ≡ []) × (incomplete bytes ≡ bytes)
-no_line bytes e = none_from 0 bytes (sym (position_from-zero is_feed bytes) ∙ e)
+no_line bytes e = none_from 0 bytes (sym (position_from-zero (λ b. nat_eq b 10) bytes) ∙ e)
 
 -- where no line is left, what follows is all
 pub all_incomplete : (bytes : List ℕ) → complete_lines bytes ≡ [] → incomplete bytes ≡ bytes

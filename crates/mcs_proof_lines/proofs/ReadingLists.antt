@@ -2,17 +2,11 @@
 use Rattle.std.proofs.Common.{◌≡◌, ℕ, ◌+◌, zero, suc, List, [], ◌∷◌, ◌++◌, length, Ok, Err, refl, sym, ap, ◌∙◌, subst, arith, append_assoc}
 use Rattle.std.specs.List.{AllByRecursion, AllZip, flat_map}
 use Rattle.mcs_proof_lines.specs.Walks.{At, Reading, ◌>>=◌, made, many_at, each_at}
-use Rattle.mcs_proof_lines.proofs.Readings.{here, Stops, IsReadOf, Reads, reads_same, same_reading}
-use Rattle.mcs_proof_lines.proofs.ReadingSequences.{both, paired, Image, reads_made, AreBoth, reads_both, AllStop}
-
--- each begins with a line that is no step
-abbrev pub Begin : {A : Type 0} → (A → Type 0) → (A → List (List ℕ)) → Type 0
-Begin {A = A} Is lines = (x : A) (rest : List (List ℕ)) → Is x → Stops (lines x ++ rest)
+use Rattle.mcs_proof_lines.specs.Readings.{here, Stops, IsReadOf, Reads, Image, AreBoth, AllStop, Begin, onto, IsMany, each_lines}
+use Rattle.mcs_proof_lines.proofs.Readings.{reads_same, same_reading}
+use Rattle.mcs_proof_lines.proofs.ReadingSequences.{both, paired, reads_made, reads_both}
 
 -- ---- one more at the front
-abbrev pub onto : {A : Type 0} → A × List A → List A
-onto xs = xs.0 ∷ xs.1
-
 abbrev pub read_onto : {A : Type 0} → Reading A → (At → Reading (List A)) → Reading (List A)
 read_onto r q = r >>= λ first. q first.1 >>= λ others. Ok (first.0 ∷ others.0, others.1)
 
@@ -63,9 +57,6 @@ module _ {A : Type 0} (Is : List A → Type 0) (lines : List A → List (List �
   }
 
 -- ---- so many of one kind
-abbrev pub IsMany : {A : Type 0} → (A → Type 0) → ℕ → List A → Type 0
-IsMany Is n xs = (length xs ≡ n) × AllByRecursion Is xs
-
 module _ {A : Type 0} (Is : A → Type 0) (lines : A → List (List ℕ)) (p : At → Reading A) (h : Reads Is lines Stops p) (begin : Begin Is lines) (some : (x : A) × Is x) where
   some_many : (n : ℕ) → (xs : List A) × IsMany Is n xs
   some_many zero = ([], (refl, tt))
@@ -97,11 +88,6 @@ module _ {A : Type 0} (Is : A → Type 0) (lines : A → List (List ℕ)) (p : A
       reads_same _ (IsMany Is (suc n)) _ (flat_map lines) Stops _ (many_at p (suc n)) made_of (to_more n) (from_more n) (λ xs is. refl) (λ at. onto_same (many_at p n) (p at))
 
 -- ---- one for each of some keys
-abbrev pub each_lines : {A : Type 0} → (ℕ → A → List (List ℕ)) → List ℕ → List A → List (List ℕ)
-each_lines lines [] xs = []
-each_lines lines (k ∷ ks) [] = []
-each_lines lines (k ∷ ks) (x ∷ xs) = lines k x ++ each_lines lines ks xs
-
 module _ {A : Type 0} (Is : ℕ → A → Type 0) (lines : ℕ → A → List (List ℕ)) (p : ℕ → At → Reading A) (Known : ℕ → Type 0)
     (h : (k : ℕ) → Known k → Reads (Is k) (lines k) Stops (p k)) (begin : (k : ℕ) → Begin (Is k) (lines k)) (some : (k : ℕ) → Known k → (x : A) × Is k x) where
   no_others : (xs : List A) → AllZip Is [] xs → xs ≡ []

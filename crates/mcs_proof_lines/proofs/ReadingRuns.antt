@@ -3,8 +3,8 @@ use Rattle.std.proofs.Common.{◌≡◌, ℕ, ◌+◌, List, [], ◌∷◌, ◌+
 use Rattle.std.proofs.lemmas.List.{length-map}
 use Rattle.std.specs.List.{AllByRecursion}
 use Rattle.std.specs.Option.{option_and_then}
-use Rattle.mcs_proof_lines.specs.Walks.{At, Reading, head_of}
-use Rattle.mcs_proof_lines.proofs.Readings.{here, IsReadOf, ReadsLine, Reads}
+use Rattle.mcs_proof_lines.specs.Walks.{At, Reading}
+use Rattle.mcs_proof_lines.specs.Readings.{here, IsReadOf, ReadsLine, Reads, IsOther}
 
 -- the values of the lines that are next, and where the reader is then
 abbrev pub with_one : {A : Type 0} → Option A → (List A × At) → At → (List A × At)
@@ -17,10 +17,6 @@ run_from f n (line ∷ rest) tail = with_one (f line) (run_from f (n + 1) rest t
 
 abbrev pub run_at : {A : Type 0} → (List ℕ → Option A) → At → Reading (List A)
 run_at f at = Ok (run_from f at.taken at.rest at.tail)
-
--- the next line is of another kind
-abbrev pub IsOther : {A : Type 0} → (List ℕ → Option A) → List (List ℕ) → Type 0
-IsOther f rest = option_and_then f (head_of rest) ≡ None
 
 module _ {A : Type 0} (Is : A → Type 0) (text : A → List ℕ) (f : List ℕ → Option A) (h : ReadsLine Is text f) where
   record IsRun (n : ℕ) (rest : List (List ℕ)) (tail : List ℕ) (r : List A × At) : Type 0 where

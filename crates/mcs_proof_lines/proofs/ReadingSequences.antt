@@ -2,7 +2,8 @@
 use Rattle.std.proofs.Common.{◌≡◌, ℕ, ◌+◌, ◌<◌, zero, suc, ◌⊎◌, inl, inr, Bool, true, false, cond, List, ◌++◌, length, take, drop, Option, Ok, Err, refl, sym, ap, ◌∙◌, subst, arith, append_assoc, length-append}
 use Rattle.std.proofs.Math.Seq.{take-append-add}
 use Rattle.mcs_proof_lines.specs.Walks.{At, Reading, ◌>>=◌, head_of, made}
-use Rattle.mcs_proof_lines.proofs.Readings.{here, Stops, IsReadOf, IsBegun, IsStuckAt, Reads, same_reading, same_head, head_after, split_front}
+use Rattle.mcs_proof_lines.specs.Readings.{here, Stops, IsReadOf, IsBegun, IsStuckAt, Reads, Image, AreBoth, both_lines, AllStop, IsEitherOf}
+use Rattle.mcs_proof_lines.proofs.Readings.{same_reading, same_head, head_after, split_front}
 
 -- ---- made into something else
 pub made_ok : {A C : Type 0} (f : A → C) (r : Reading A) (c : C) (now : At) → made f r ≡ Ok (c, now) → (x : A) × (c ≡ f x) × (r ≡ Ok (x, now))
@@ -12,9 +13,6 @@ made_ok f (Err n) c now e = absurd (cc)
 pub made_err : {A C : Type 0} (f : A → C) (r : Reading A) (n : ℕ) → made f r ≡ Err n → r ≡ Err n
 made_err f (Ok x) n e = absurd (cc)
 made_err f (Err m) n e = cc
-
-abbrev pub Image : {A C : Type 0} → (A → C) → (A → Type 0) → C → Type 0
-Image {A = A} f Is c = (x : A) × (c ≡ f x) × Is x
 
 module _ {A C : Type 0} (Is : A → Type 0) (lines : A → List (List ℕ)) (End : List (List ℕ) → Type 0) (p : At → Reading A) (f : A → C) (lines' : C → List (List ℕ))
     (h : Reads Is lines End p) (eq : (x : A) → Is x → lines x ≡ lines' (f x)) where
@@ -90,23 +88,11 @@ module _ {A B : Type 0} (q : A → At → Reading B) where
   both_second : (r : Reading A) (x : A) (mid : At) (n : ℕ) → r ≡ Ok (x, mid) → q x mid ≡ Err n → both q r ≡ Err n
   both_second r x mid n e1 e2 = ap (both q) e1 ∙ ap (λ (s : Reading B). paired x s) e2
 
-abbrev pub AreBoth : {A B : Type 0} → (A → Type 0) → (A → B → Type 0) → A × B → Type 0
-AreBoth IsA IsB xy = IsA xy.0 × IsB xy.0 xy.1
-
-abbrev pub both_lines : {A B : Type 0} → (A → List (List ℕ)) → (A → B → List (List ℕ)) → A × B → List (List ℕ)
-both_lines linesA linesB xy = linesA xy.0 ++ linesB xy.0 xy.1
-
 module _ {A B : Type 0} (IsA : A → Type 0) (linesA : A → List (List ℕ)) (EndA : List (List ℕ) → Type 0) (p : At → Reading A)
     (IsB : A → B → Type 0) (linesB : A → B → List (List ℕ)) (EndB : List (List ℕ) → Type 0) (q : A → At → Reading B)
     (hp : Reads IsA linesA EndA p) (hq : (x : A) → IsA x → Reads (IsB x) (linesB x) EndB (q x))
     (some : (x : A) → IsA x → (y : B) × IsB x y) (next : (x : A) (y : B) (more : List (List ℕ)) → IsA x → IsB x y → EndB more → EndA (linesB x y ++ more)) where
-  abbrev Pairs : A × B → Type 0
-  Pairs = AreBoth IsA IsB
-
-  abbrev pair_lines : A × B → List (List ℕ)
-  pair_lines = both_lines linesA linesB
-
-  both_sound : (at now : At) (xy : A × B) → both q (p at) ≡ Ok (xy, now) → IsReadOf Pairs pair_lines at now xy
+  both_sound : (at now : At) (xy : A × B) → both q (p at) ≡ Ok (xy, now) → IsReadOf (AreBoth IsA IsB) (both_lines linesA linesB) at now xy
   both_sound at now xy e =
       let (mid, e1, e2) = both_ok q (p at) xy now e in
       let r = hp.sound at mid xy.0 e1 in
@@ -118,7 +104,7 @@ module _ {A B : Type 0} (IsA : A → Type 0) (linesA : A → List (List ℕ)) (E
         tail = s.tail ∙ r.tail;
       }
 
-  both_complete : (xy : A × B) (n : ℕ) (more : List (List ℕ)) (tail : List ℕ) → Pairs xy → EndB more → both q (p (here n (pair_lines xy ++ more) tail)) ≡ Ok (xy, here (n + length (pair_lines xy)) more tail)
+  both_complete : (xy : A × B) (n : ℕ) (more : List (List ℕ)) (tail : List ℕ) → AreBoth IsA IsB xy → EndB more → both q (p (here n (both_lines linesA linesB xy ++ more) tail)) ≡ Ok (xy, here (n + length (both_lines linesA linesB xy)) more tail)
   both_complete (x, y) n more tail is end =
       let la = linesA x in
       let lb = linesB x y in
@@ -129,7 +115,7 @@ module _ {A B : Type 0} (IsA : A → Type 0) (linesA : A → List (List ℕ)) (E
       both_join q (p (here n ((la ++ lb) ++ more) tail)) x y (here (n + length la) (lb ++ more) tail) (here (n + length la + length lb) more tail) e1 e2
       ∙ ap (λ (m : ℕ). Ok ((x, y), here m more tail)) count
 
-  begun_first : (front : List (List ℕ)) → IsBegun IsA linesA front → IsBegun Pairs pair_lines front
+  begun_first : (front : List (List ℕ)) → IsBegun IsA linesA front → IsBegun (AreBoth IsA IsB) (both_lines linesA linesB) front
   begun_first front b =
       let (y, is) = some b.value b.is in
       record {
@@ -139,7 +125,7 @@ module _ {A B : Type 0} (IsA : A → Type 0) (linesA : A → List (List ℕ)) (E
         lines_are = ap (λ (ls : List (List ℕ)). ls ++ linesB b.value y) b.lines_are ∙ append_assoc front b.more (linesB b.value y);
       }
 
-  stuck_first : (at : At) (n k : ℕ) → IsStuckAt IsA linesA at n k → IsStuckAt Pairs pair_lines at n k
+  stuck_first : (at : At) (n k : ℕ) → IsStuckAt IsA linesA at n k → IsStuckAt (AreBoth IsA IsB) (both_lines linesA linesB) at n k
   stuck_first at n k s = record { number = s.number; within = s.within; begun = λ less. begun_first (take k at.rest) (s.begun less) }
 
   -- where the second is stuck at its first line, any value of it will do
@@ -147,7 +133,7 @@ module _ {A B : Type 0} (IsA : A → Type 0) (linesA : A → List (List ℕ)) (E
   begun_at mid x n zero is s = let (y, known) = some x is in record { value = y; is = known; more = linesB x y; lines_are = refl }
   begun_at mid x n (suc k) is s = s.begun (omega arith)
 
-  stuck_second : (at mid : At) (x : A) (n k : ℕ) → IsReadOf IsA linesA at mid x → IsStuckAt (IsB x) (linesB x) mid n k → IsStuckAt Pairs pair_lines at n (length (linesA x) + k)
+  stuck_second : (at mid : At) (x : A) (n k : ℕ) → IsReadOf IsA linesA at mid x → IsStuckAt (IsB x) (linesB x) mid n k → IsStuckAt (AreBoth IsA IsB) (both_lines linesA linesB) at n (length (linesA x) + k)
   stuck_second at mid x n k r s =
       let la = linesA x in
       let front : take (length la + k) at.rest ≡ la ++ take k mid.rest = ap (λ (ls : List (List ℕ)). take (length la + k) ls) r.rest ∙ take-append-add la mid.rest k in
@@ -164,10 +150,10 @@ module _ {A B : Type 0} (IsA : A → Type 0) (linesA : A → List (List ℕ)) (E
         };
       }
 
-  both_fault : (at : At) (n : ℕ) → both q (p at) ≡ Err n → (k : ℕ) × IsStuckAt Pairs pair_lines at n k
+  both_fault : (at : At) (n : ℕ) → both q (p at) ≡ Err n → (k : ℕ) × IsStuckAt (AreBoth IsA IsB) (both_lines linesA linesB) at n k
   both_fault at n e = cases (both_err q (p at) n e)
     where
-      cases : (p at ≡ Err n) ⊎ ((x : A) × (mid : At) × (p at ≡ Ok (x, mid)) × (q x mid ≡ Err n)) → (k : ℕ) × IsStuckAt Pairs pair_lines at n k
+      cases : (p at ≡ Err n) ⊎ ((x : A) × (mid : At) × (p at ≡ Ok (x, mid)) × (q x mid ≡ Err n)) → (k : ℕ) × IsStuckAt (AreBoth IsA IsB) (both_lines linesA linesB) at n k
       cases (inl first) = let (k, s) = hp.fault at n first in (k, stuck_first at n k s)
       cases (inr (x, mid, e1, e2)) =
           let r = hp.sound at mid x e1 in
@@ -200,7 +186,7 @@ module _ {A B : Type 0} (IsA : A → Type 0) (linesA : A → List (List ℕ)) (E
       cases (inl first) = both_first q (p (here at.taken rest tail)) (at.taken + k + 1) (hp.local at k rest tail first less front)
       cases (inr (x, mid, e1, e2)) = second x mid e1 e2
 
-  both_stable : (at now : At) (xy : A × B) (rest : List (List ℕ)) (tail : List ℕ) → both q (p at) ≡ Ok (xy, now) → head_of rest ≡ head_of now.rest → both q (p (here at.taken (pair_lines xy ++ rest) tail)) ≡ Ok (xy, here now.taken rest tail)
+  both_stable : (at now : At) (xy : A × B) (rest : List (List ℕ)) (tail : List ℕ) → both q (p at) ≡ Ok (xy, now) → head_of rest ≡ head_of now.rest → both q (p (here at.taken (both_lines linesA linesB xy ++ rest) tail)) ≡ Ok (xy, here now.taken rest tail)
   both_stable at now (x, y) rest tail e same =
       let (mid, e1, e2) = both_ok q (p at) (x, y) now e in
       let la = linesA x in
@@ -222,26 +208,16 @@ module _ {A B : Type 0} (IsA : A → Type 0) (linesA : A → List (List ℕ)) (E
   }
 
 -- ---- what comes before something else
--- where what follows is no step, neither is what the value's lines begin with
-abbrev pub AllStop : {A : Type 0} → (A → Type 0) → (A → List (List ℕ)) → Type 0
-AllStop {A = A} Is lines = (x : A) (more : List (List ℕ)) → Is x → Stops more → Stops (lines x ++ more)
-
 pub both_stop : {A B : Type 0} (IsA : A → Type 0) (IsB : A → B → Type 0) (linesA : A → List (List ℕ)) (linesB : A → B → List (List ℕ)) → AllStop IsA linesA → ((x : A) → AllStop (IsB x) (linesB x)) → AllStop (AreBoth IsA IsB) (both_lines linesA linesB)
 both_stop IsA IsB linesA linesB stopA stopB xy more is end = subst Stops (sym (append_assoc (linesA xy.0) (linesB xy.0 xy.1) more)) (stopA xy.0 (linesB xy.0 xy.1 ++ more) is.0 (stopB xy.0 xy.1 more is.1 end))
 
 -- ---- of two readings the one that the next line asks for
-abbrev pub IsEitherOf : {A : Type 0} → (A → Type 0) → (A → Type 0) → A → Type 0
-IsEitherOf Is1 Is2 x = Is1 x ⊎ Is2 x
-
 abbrev pub chosen_at : {A : Type 0} → (Option (List ℕ) → Bool) → (At → Reading A) → (At → Reading A) → At → Reading A
 chosen_at test p1 p2 at = cond (test (head_of at.rest)) (p1 at) (p2 at)
 
 module _ {A : Type 0} (Is1 Is2 : A → Type 0) (lines : A → List (List ℕ)) (End : List (List ℕ) → Type 0) (p1 p2 : At → Reading A) (test : Option (List ℕ) → Bool)
     (h1 : Reads Is1 lines End p1) (h2 : Reads Is2 lines End p2)
     (yes : (x : A) (rest : List (List ℕ)) → Is1 x → test (head_of (lines x ++ rest)) ≡ true) (no : (x : A) (rest : List (List ℕ)) → Is2 x → test (head_of (lines x ++ rest)) ≡ false) where
-  abbrev Choice : A → Type 0
-  Choice = IsEitherOf Is1 Is2
-
   abbrev choice_at : At → Reading A
   choice_at = chosen_at test p1 p2
 
@@ -251,33 +227,33 @@ module _ {A : Type 0} (Is1 Is2 : A → Type 0) (lines : A → List (List ℕ)) (
   as_second : (at : At) → test (head_of at.rest) ≡ false → choice_at at ≡ p2 at
   as_second at e = ap (λ (b : Bool). cond b (p1 at) (p2 at)) e
 
-  widen1 : (at now : At) (x : A) → IsReadOf Is1 lines at now x → IsReadOf Choice lines at now x
+  widen1 : (at now : At) (x : A) → IsReadOf Is1 lines at now x → IsReadOf (IsEitherOf Is1 Is2) lines at now x
   widen1 at now x r = record { is = inl r.is; rest = r.rest; taken = r.taken; tail = r.tail }
 
-  widen2 : (at now : At) (x : A) → IsReadOf Is2 lines at now x → IsReadOf Choice lines at now x
+  widen2 : (at now : At) (x : A) → IsReadOf Is2 lines at now x → IsReadOf (IsEitherOf Is1 Is2) lines at now x
   widen2 at now x r = record { is = inr r.is; rest = r.rest; taken = r.taken; tail = r.tail }
 
-  chosen_sound : (at now : At) (x : A) → choice_at at ≡ Ok (x, now) → IsReadOf Choice lines at now x
+  chosen_sound : (at now : At) (x : A) → choice_at at ≡ Ok (x, now) → IsReadOf (IsEitherOf Is1 Is2) lines at now x
   chosen_sound at now x e = by (test (head_of at.rest)) refl
     where
-      by : (b : Bool) → test (head_of at.rest) ≡ b → IsReadOf Choice lines at now x
+      by : (b : Bool) → test (head_of at.rest) ≡ b → IsReadOf (IsEitherOf Is1 Is2) lines at now x
       by true t = widen1 at now x (h1.sound at now x (sym (as_first at t) ∙ e))
       by false t = widen2 at now x (h2.sound at now x (sym (as_second at t) ∙ e))
 
-  chosen_complete : (x : A) (n : ℕ) (more : List (List ℕ)) (tail : List ℕ) → Choice x → End more → choice_at (here n (lines x ++ more) tail) ≡ Ok (x, here (n + length (lines x)) more tail)
+  chosen_complete : (x : A) (n : ℕ) (more : List (List ℕ)) (tail : List ℕ) → IsEitherOf Is1 Is2 x → End more → choice_at (here n (lines x ++ more) tail) ≡ Ok (x, here (n + length (lines x)) more tail)
   chosen_complete x n more tail (inl is) end = as_first (here n (lines x ++ more) tail) (yes x more is) ∙ h1.complete x n more tail is end
   chosen_complete x n more tail (inr is) end = as_second (here n (lines x ++ more) tail) (no x more is) ∙ h2.complete x n more tail is end
 
-  begun1 : (front : List (List ℕ)) → IsBegun Is1 lines front → IsBegun Choice lines front
+  begun1 : (front : List (List ℕ)) → IsBegun Is1 lines front → IsBegun (IsEitherOf Is1 Is2) lines front
   begun1 front b = record { value = b.value; is = inl b.is; more = b.more; lines_are = b.lines_are }
 
-  begun2 : (front : List (List ℕ)) → IsBegun Is2 lines front → IsBegun Choice lines front
+  begun2 : (front : List (List ℕ)) → IsBegun Is2 lines front → IsBegun (IsEitherOf Is1 Is2) lines front
   begun2 front b = record { value = b.value; is = inr b.is; more = b.more; lines_are = b.lines_are }
 
-  chosen_fault : (at : At) (n : ℕ) → choice_at at ≡ Err n → (k : ℕ) × IsStuckAt Choice lines at n k
+  chosen_fault : (at : At) (n : ℕ) → choice_at at ≡ Err n → (k : ℕ) × IsStuckAt (IsEitherOf Is1 Is2) lines at n k
   chosen_fault at n e = by (test (head_of at.rest)) refl
     where
-      by : (b : Bool) → test (head_of at.rest) ≡ b → (k : ℕ) × IsStuckAt Choice lines at n k
+      by : (b : Bool) → test (head_of at.rest) ≡ b → (k : ℕ) × IsStuckAt (IsEitherOf Is1 Is2) lines at n k
       by true t = let (k, s) = h1.fault at n (sym (as_first at t) ∙ e) in (k, record { number = s.number; within = s.within; begun = λ less. begun1 (take k at.rest) (s.begun less) })
       by false t = let (k, s) = h2.fault at n (sym (as_second at t) ∙ e) in (k, record { number = s.number; within = s.within; begun = λ less. begun2 (take k at.rest) (s.begun less) })
 

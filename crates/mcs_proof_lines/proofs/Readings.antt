@@ -1,50 +1,12 @@
--- Readings that are exact: what is read is spelled, what is spelled is read, and a reading that fails names the first line that is out of place.
-use Rattle.std.proofs.Common.{◌≡◌, ℕ, ◌+◌, ◌<◌, ◌≤◌, zero, suc, List, [], ◌∷◌, ◌++◌, length, take, drop, Option, Some, None, Ok, Err, refl, sym, ap, ◌∙◌, subst, arith}
+-- Readings of one line, and readings that are told by other words.
+use Rattle.std.proofs.Common.{◌≡◌, ℕ, ◌+◌, zero, suc, List, [], ◌∷◌, ◌++◌, length, take, drop, Option, Some, None, Ok, Err, refl, sym, ap, ◌∙◌, subst, arith}
 use Rattle.std.specs.Option.{option_and_then}
-use Rattle.mcs_spelling.specs.Words.{step_of}
 use Rattle.mcs_proof_lines.specs.Walks.{At, Reading, head_of, line_at, taken_at, advanced}
+use Rattle.mcs_proof_lines.specs.Readings.{here, IsReadOf, IsBegun, IsStuckAt, Reads, ReadsLine, one_line, Anything}
 
--- so many lines taken, and these to come
-abbrev pub here : ℕ → List (List ℕ) → List ℕ → At
-here n rest tail = record { taken = n; rest = rest; tail = tail }
-
--- the next line, if there is one, is no step
-abbrev pub Stops : List (List ℕ) → Type 0
-Stops rest = option_and_then step_of (head_of rest) ≡ None
-
--- the lines of the value were read
-pub record IsReadOf {A : Type 0} (Is : A → Type 0) (lines : A → List (List ℕ)) (at now : At) (x : A) : Type 0 where
-  pub is : Is x
-  pub rest : at.rest ≡ lines x ++ now.rest
-  pub taken : now.taken ≡ at.taken + length (lines x)
-  pub tail : now.tail ≡ at.tail
-
--- the lines begin those of a value
-pub record IsBegun {A : Type 0} (Is : A → Type 0) (lines : A → List (List ℕ)) (front : List (List ℕ)) : Type 0 where
-  pub value : A
-  pub is : Is value
-  pub more : List (List ℕ)
-  pub lines_are : lines value ≡ front ++ more
-
--- the first k lines, if they are any, begin those of a value, and the line after them has this number
-pub record IsStuckAt {A : Type 0} (Is : A → Type 0) (lines : A → List (List ℕ)) (at : At) (n k : ℕ) : Type 0 where
-  pub number : n ≡ at.taken + k + 1
-  pub within : k ≤ length at.rest
-  pub begun : 0 < k → IsBegun Is lines (take k at.rest)
-
--- the same of the first line
+-- stuck at the first line, before which none has to begin a value
 pub stuck_first_line : {A : Type 0} (Is : A → Type 0) (lines : A → List (List ℕ)) (at : At) (n : ℕ) → n ≡ at.taken + 0 + 1 → IsStuckAt Is lines at n 0
 stuck_first_line Is lines at n number = record { number = number; within = omega arith; begun = λ less. absurd (omega (arith, less)) }
-
--- the reading reads the lines of just these values, where what follows is as it has to be
-pub record Reads {A : Type 0} (Is : A → Type 0) (lines : A → List (List ℕ)) (End : List (List ℕ) → Type 0) (p : At → Reading A) : Type 0 where
-  pub sound : (at now : At) (x : A) → p at ≡ Ok (x, now) → IsReadOf Is lines at now x
-  pub complete : (x : A) (n : ℕ) (more : List (List ℕ)) (tail : List ℕ) → Is x → End more → p (here n (lines x ++ more) tail) ≡ Ok (x, here (n + length (lines x)) more tail)
-  pub fault : (at : At) (n : ℕ) → p at ≡ Err n → (k : ℕ) × IsStuckAt Is lines at n k
-  -- only the lines up to the one out of place matter
-  pub local : (at : At) (k : ℕ) (rest : List (List ℕ)) (tail : List ℕ) → p at ≡ Err (at.taken + k + 1) → k < length at.rest → take (k + 1) rest ≡ take (k + 1) at.rest → p (here at.taken rest tail) ≡ Err (at.taken + k + 1)
-  -- only the lines that are read, and the next one, matter
-  pub stable : (at now : At) (x : A) (rest : List (List ℕ)) (tail : List ℕ) → p at ≡ Ok (x, now) → head_of rest ≡ head_of now.rest → p (here at.taken (lines x ++ rest) tail) ≡ Ok (x, here now.taken rest tail)
 
 -- ---- heads and fronts
 head_take : (k : ℕ) (xs : List (List ℕ)) → head_of (take (k + 1) xs) ≡ head_of xs
@@ -101,17 +63,6 @@ module _ {A : Type 0} (Is Is' : A → Type 0) (lines lines' : A → List (List �
   }
 
 -- ---- a line
--- the function reads the lines of just these values
-pub record ReadsLine {A : Type 0} (Is : A → Type 0) (text : A → List ℕ) (f : List ℕ → Option A) : Type 0 where
-  pub sound : (line : List ℕ) (x : A) → f line ≡ Some x → Is x × (line ≡ text x)
-  pub complete : (x : A) → Is x → f (text x) ≡ Some x
-
-abbrev pub one_line : {A : Type 0} → (A → List ℕ) → A → List (List ℕ)
-one_line text x = text x ∷ []
-
-abbrev pub Anything : List (List ℕ) → Type 0
-Anything more = Unit {0}
-
 abbrev pub picked : {A : Type 0} → (List ℕ → Option A) → At → Reading A
 picked f at = taken_at at (line_at f at)
 

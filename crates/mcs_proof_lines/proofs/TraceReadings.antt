@@ -8,7 +8,8 @@ use Rattle.mcs_spelling.specs.Parts.{IsStep, step_text, SpellsStep}
 use Rattle.mcs_spelling.specs.Words.{step_of}
 use Rattle.mcs_spelling.proofs.LiteralTexts.{step_told, step_read, shape_from}
 use Rattle.mcs_proof_lines.specs.Walks.{At, Reading, with_step, steps_from, steps_at, one_or_more, trace_at}
-use Rattle.mcs_proof_lines.proofs.Readings.{here, Stops, IsReadOf, stuck_first_line, Reads, same_reading, same_head}
+use Rattle.mcs_proof_lines.specs.Readings.{here, Stops, IsReadOf, Reads}
+use Rattle.mcs_proof_lines.proofs.Readings.{stuck_first_line, same_reading, same_head}
 
 -- what is read of a line
 step_exact : (line : List ℕ) (s : Inference) → step_of line ≡ Some s → IsStep s × (line ≡ step_text s)

@@ -8,24 +8,16 @@ use Rattle.mcs_spelling.specs.Words.{after, guarded}
 use Rattle.mcs_spelling.proofs.NumberTexts.{bound}
 use Rattle.mcs_spelling.proofs.LiteralTexts.{after_front, after_is}
 use Rattle.mcs_proof_lines.specs.Walks.{At, Reading, ◌>>=◌, fault_at, taken_at, made, advanced, expect_at}
-use Rattle.mcs_proof_lines.proofs.Readings.{here, Anything, Reads, ReadsLine, one_line, picked, reads_line, reads_same}
-use Rattle.mcs_proof_lines.proofs.ReadingSequences.{both, paired, Image, AreBoth, reads_made, reads_both}
+use Rattle.mcs_proof_lines.specs.Readings.{here, Anything, Reads, ReadsLine, one_line, Image, AreBoth, word_of, Nothing, second}
+use Rattle.mcs_proof_lines.proofs.Readings.{picked, reads_line, reads_same}
+use Rattle.mcs_proof_lines.proofs.ReadingSequences.{both, paired, reads_made, reads_both}
 
 -- ---- a line that is a word
-abbrev pub word_of : List ℕ → List ℕ → Option (Unit {0})
-word_of word line = guarded (bytes_eq line word) tt
-
-abbrev pub Nothing : Unit {0} → Type 0
-Nothing u = Unit {0}
-
 pub word_line : (word : List ℕ) → ReadsLine Nothing (λ u. word) (word_of word)
 word_line word = record {
   sound = λ line u e. (tt, (bytes_eq-Decides line word).0 (cond_some (bytes_eq line word) tt u e).0);
   complete = λ u is. ap (λ (b : Bool). guarded b tt) ((bytes_eq-Decides word word).1 refl);
 }
-
-abbrev second : {A : Type 0} → Unit {0} × A → A
-second ux = ux.1
 
 module _ {A : Type 0} (word : List ℕ) (q : At → Reading A) where
   same_second : (r : Reading A) → made second (paired tt r) ≡ r

@@ -1,3 +1,4 @@
 pub mod Walks
 pub mod Verdicts
 pub mod Programs
+pub mod Readings

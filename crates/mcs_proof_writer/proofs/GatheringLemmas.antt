@@ -6,7 +6,7 @@ use Rattle.std.specs.List.{AllByRecursion, AllZip}
 use Rattle.mcs_base.specs.Listings.{IsAmong, IsAscending, IsListing}
 use Rattle.mcs_base.proofs.Among.{zip_among, among_zip}
 use Rattle.mcs_base.proofs.Each.{all_among, all_from_among, all_get}
-use Rattle.mcs_base.proofs.ListingLemmas.{IsListing-same, IsListing-nil, IsListing-append, IsListing-map}
+use Rattle.mcs_base.proofs.ListingLemmas.{IsListing-same, IsListing-append, IsListing-map}
 use Rattle.mcs_base.proofs.Lists.{slice_get_below, slice_get_read_as}
 use Rattle.mcs_base.proofs.Mapped.{map_push_as}
 use Rattle.mcs_base.proofs.Written.{take_read}
@@ -22,9 +22,6 @@ use Rattle.mcs_proof_writer.specs.declared.asking.Question.{Question}
 use Rattle.mcs_proof_writer.specs.declared.gathering.Shown.{Shown}
 
 -- ---- questions of one context after another
-pub first_none : (os : List OracleState) → AreOfFirst os 0 []
-first_none os = IsListing-nil QuestionBefore (IsAskedBelow os 0) (λ q (less, rest). omega arith)
-
 -- those to context k
 abbrev IsAskedOf : ℕ → OracleState → Question → Type 0
 IsAskedOf k o q = (x : ℕ) × IsAmong x o.journal × (q ≡ question_with k x)
@@ -54,7 +51,7 @@ pub adds_asked : (i : ℕ) (o : OracleState) (old new : List Question) (sets len
 adds_asked i o old new sets lent same asked after = record { sets = sets; asked = asked; after = after ∙ ap (λ (xs : List ℕ). old ++ map (question_with i) xs) same }
 
 -- those of one more oracle
-pub first_more : (os : List OracleState) (k : ℕ) (o : OracleState) (old new : List Question) → slice_get os k ≡ Some o → AreOfFirst os k old → AddsAsked k o old new → AreOfFirst os (k + 1) new
+first_more : (os : List OracleState) (k : ℕ) (o : OracleState) (old new : List Question) → slice_get os k ≡ Some o → AreOfFirst os k old → AddsAsked k o old new → AreOfFirst os (k + 1) new
 first_more os k o old new at first adds =
     subst (AreOfFirst os (k + 1)) (sym adds.after)
     (IsListing-same QuestionBefore (λ q. IsAskedBelow os k q ⊎ IsAskedOf k o q) (IsAskedBelow os (k + 1)) (old ++ map (question_with k) adds.sets) (asked_more os k o at)
@@ -120,7 +117,7 @@ module _ (m : System) (level : ℕ) (os : List OracleState) (asked : AreAsked m 
       question_is q i x c r = ap (λ (j : ℕ). question_with j q.active) c ∙ ap (question_with i) r
 
   -- they are a proof
-  pub answers_prove : (questions : List Question) (answers : List Answer) → AreOfFirst os (length m.contexts) questions → AllZip (IsAnswerOf os) questions answers → AreProof m level answers
+  answers_prove : (questions : List Question) (answers : List Answer) → AreOfFirst os (length m.contexts) questions → AllZip (IsAnswerOf os) questions answers → AreProof m level answers
   answers_prove questions answers listed each = record {
     ascending = answers_ascend questions answers listed.ascending each;
     right = each_right questions answers each;

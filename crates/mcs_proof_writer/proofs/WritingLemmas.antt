@@ -53,6 +53,11 @@ proof_writable m level answers proof = all_from_among (IsWritable m) answers (λ
   outputs = outputs_known m a.context a.active a.outputs a.cert (all_among (IsRight m) answers a proof.right among);
 })
 
+-- of the answers from an index on, the first one and the others
+pub writable_later : (m : System) (shown : List Shown) (k : ℕ) (s : Shown) → k < length shown → s ≡ get_or shown k s → AllByRecursion (IsWritable m) (answers_of (drop k shown))
+    → IsWritable m (answer_of s) × AllByRecursion (IsWritable m) (answers_of (drop (k + 1) shown))
+writable_later m shown k s less is all = subst (AllByRecursion (IsWritable m)) (map-drop_more answer_of shown k s less is) all
+
 -- ---- texts
 -- those of the answers from an index on
 pub answers_text-more : (m : System) (shown : List Shown) (k : ℕ) (s : Shown) → k < length shown → s ≡ get_or shown k s
@@ -87,8 +92,3 @@ module _ {T : Type 0} (m : System) (level : ℕ) where
   pub proved : (answers : List Answer) (before now : Device) (r : Result T Unwritten) → AreProof m level answers → Writes (text_of_lines (proof_lines m answers)) before now r → Proves m level before now r
   proved answers before now (Ok x) proof w = record { later = w.later; notes = w.notes; whole = record { answers = answers; proof = proof; written = w.whole }; front = tt; due = tt }
   proved answers before now (Err e) proof w = record { later = w.later; notes = w.notes; whole = tt; front = inr (record { answers = answers; proof = proof; front = w.front }); due = w.due }
-
--- ---- answers that are still to be written
-pub writable_later : (m : System) (shown : List Shown) (k : ℕ) (s : Shown) → k < length shown → s ≡ get_or shown k s → AllByRecursion (IsWritable m) (answers_of (drop k shown))
-    → IsWritable m (answer_of s) × AllByRecursion (IsWritable m) (answers_of (drop (k + 1) shown))
-writable_later m shown k s less is all = subst (AllByRecursion (IsWritable m)) (map-drop_more answer_of shown k s less is) all

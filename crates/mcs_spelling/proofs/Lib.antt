@@ -1,4 +1,5 @@
 pub mod ClauseTests
 pub mod NumberTexts
+pub mod PlaceTexts
 pub mod LiteralTexts
 pub mod SetTexts

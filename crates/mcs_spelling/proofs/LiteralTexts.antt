@@ -1,8 +1,6 @@
 -- Literals and steps are read as they are spelled, and nothing else is.
-use Rattle.std.proofs.Common.{◌≡◌, ℕ, ◌+◌, ◌%◌, ◌<◌, ◌^◌, zero, suc, Bool, true, false, not, ◌&&◌, cond, nat_eq, List, [], ◌∷◌, ◌++◌, map, length, take, drop, codes, decimal, ℤ, pos, negsuc, Option, Some, None, refl, sym, ap, ◌∙◌, subst, arith, append_assoc}
+use Rattle.std.proofs.Common.{◌≡◌, ℕ, ◌<◌, ◌^◌, zero, suc, Bool, true, false, not, ◌&&◌, cond, nat_eq, List, [], ◌∷◌, ◌++◌, map, length, take, drop, codes, decimal, ℤ, pos, negsuc, Option, Some, None, refl, sym, ap, ◌∙◌, subst, arith, append_assoc}
 use Rattle.std.proofs.lemmas.Bool.{and_parts, eqb-false, eqb-true, ne_eqb, not-true}
-use Rattle.std.proofs.lemmas.Fmt.{decimal_by_steps}
-use Rattle.std.proofs.lemmas.Iterator.Adapters.{position_from-zero}
 use Rattle.std.proofs.lemmas.List.{append-nil, take-append-drop}
 use Rattle.std.proofs.lemmas.Option.{cond_some, none-some, same_Some}
 use Rattle.std.proofs.Math.Seq.{take-append_seam, drop-append_seam}
@@ -10,7 +8,7 @@ use Rattle.mcs_base.proofs.Each.{all_append, all_push}
 use Rattle.mcs_base.proofs.Lists.{flat_map_push}
 use Rattle.mcs_base.proofs.Numbers.{zero-minus}
 use Rattle.std.proofs.lemmas.Slice.Eq.{bytes_eq-Decides}
-use Rattle.std.specs.List.{AllByRecursion, flat_map, position_from}
+use Rattle.std.specs.List.{AllByRecursion}
 use Rattle.std.specs.Option.{option_and_then}
 use Rattle.std.specs.Str.{bytes_eq}
 use Rattle.mcs_trace.specs.Clauses.{IsLiteral, IsClause}
@@ -18,15 +16,9 @@ use Rattle.mcs_trace.specs.Traces.{Inference}
 use Rattle.mcs_spelling.specs.Parts.{IsSmallNumber, literal_text, spaced, step_text, SpellsStep}
 use Rattle.mcs_spelling.specs.Words.{after, place_of, with_digit, signed, literals_from, literals_of, numbers_of, ascend_from, guarded, step_of}
 use Rattle.mcs_spelling.proofs.ClauseTests.{ascends, is_clause}
-use Rattle.mcs_spelling.proofs.NumberTexts.{begun, IsMore, more_of, of_more, begun_more, spelled_read, numbers_read, numbers_spelled, begun-is, bound}
-
--- each with a space after it
-abbrev pub trailed : List ℤ → List ℕ
-trailed ls = flat_map (λ l. literal_text l ++ codes " ") ls
-
-abbrev pub signs : Bool → List ℕ
-signs true = codes "-"
-signs false = []
+use Rattle.mcs_spelling.proofs.NumberTexts.{IsMore, more_of, of_more, begun_more, spelled_read, numbers_read, numbers_spelled, begun-is, bound}
+use Rattle.mcs_spelling.proofs.PlaceTexts.{place_is, decimal_without}
+use Rattle.mcs_spelling.specs.Spelled.{begun, signs, trailed}
 
 negative : (n : ℕ) → signed (suc n) true ≡ negsuc n
 negative n = zero-minus (pos (suc n))
@@ -138,26 +130,11 @@ after_is front bytes rest e =
     let t : take (length front) bytes ≡ front = (bytes_eq-Decides (take (length front) bytes) front).0 h.0 in
     sym (take-append-drop (length front) bytes) ∙ (ap (λ xs. xs ++ drop (length front) bytes) t ∙ ap (λ xs. front ++ xs) h.1)
 
--- ---- the place of a byte
-abbrev NotB : ℕ → Type 0
-NotB b = nat_eq b 98 ≡ false
-
-place_from : (k : ℕ) (xs ys : List ℕ) → AllByRecursion NotB xs → position_from (λ b. nat_eq b 98) k (xs ++ 98 ∷ ys) ≡ Some (k + length xs)
-place_from k [] ys h = ap Some (omega arith)
-place_from k (x ∷ xs) ys h =
-    ap (λ (v : Bool). cond v (Some k) (position_from (λ b. nat_eq b 98) (k + 1) (xs ++ 98 ∷ ys))) h.0 ∙ (place_from (k + 1) xs ys h.1 ∙ ap Some (omega arith))
-
-place_is : (xs ys : List ℕ) → AllByRecursion NotB xs → place_of 98 (xs ++ 98 ∷ ys) ≡ Some (length xs)
-place_is xs ys h = position_from-zero (λ b. nat_eq b 98) (xs ++ 98 ∷ ys) ∙ (place_from 0 xs ys h ∙ ap Some (omega arith))
-
-decimal_notb : (n : ℕ) → n < 2 ^ 64 → AllByRecursion NotB (decimal n)
-decimal_notb n few = decimal_by_steps (λ k ds. AllByRecursion NotB ds) (λ k less. (ne_eqb (48 + k) 98 (λ e. omega (arith, e)), tt))
-    (λ k ds many h. all_append NotB ds ((48 + k % 10) ∷ []) h (ne_eqb (48 + k % 10) 98 (λ e. omega (arith, e)), tt)) n few
-
-trailed_notb : (ls : List ℤ) → AllByRecursion IsLiteral ls → AllByRecursion NotB (trailed ls)
+-- ---- where the literals of a step end
+trailed_notb : (ls : List ℤ) → AllByRecursion IsLiteral ls → AllByRecursion (λ b. nat_eq b 98 ≡ false) (trailed ls)
 trailed_notb [] all = tt
-trailed_notb (pos n ∷ ls) all = all_append NotB (decimal n ++ codes " ") (trailed ls) (all_append NotB (decimal n) (codes " ") (decimal_notb n (let h : n < 2 ^ 63 = all.0.1 in omega arith)) (refl, tt)) (trailed_notb ls all.1)
-trailed_notb (negsuc n ∷ ls) all = (refl, all_append NotB (decimal (suc n) ++ codes " ") (trailed ls) (all_append NotB (decimal (suc n)) (codes " ") (decimal_notb (suc n) (let h : suc n < 2 ^ 63 = all.0.1 in omega arith)) (refl, tt)) (trailed_notb ls all.1))
+trailed_notb (pos n ∷ ls) all = all_append (λ b. nat_eq b 98 ≡ false) (decimal n ++ codes " ") (trailed ls) (all_append (λ b. nat_eq b 98 ≡ false) (decimal n) (codes " ") (decimal_without 98 (λ d less e. omega (arith, less, e)) n (let h : n < 2 ^ 63 = all.0.1 in omega arith)) (refl, tt)) (trailed_notb ls all.1)
+trailed_notb (negsuc n ∷ ls) all = (refl, all_append (λ b. nat_eq b 98 ≡ false) (decimal (suc n) ++ codes " ") (trailed ls) (all_append (λ b. nat_eq b 98 ≡ false) (decimal (suc n)) (codes " ") (decimal_without 98 (λ d less e. omega (arith, less, e)) (suc n) (let h : suc n < 2 ^ 63 = all.0.1 in omega arith)) (refl, tt)) (trailed_notb ls all.1))
 
 -- ---- steps
 trail : (ls : List ℤ) → spaced (map literal_text ls) ++ codes " " ≡ codes " " ++ trailed ls
@@ -193,7 +170,7 @@ step_read s h =
     let rest = trailed s.clause ++ (codes "by " ++ numbers) in
     let line : step_text s ≡ codes "step " ++ rest = step_line s ∙ ap (λ (c : List ℕ). codes "step " ++ (trailed s.clause ++ (codes "by" ++ spaced (map decimal c)))) h.chain in
     let a : after (codes "step ") (codes "step " ++ rest) ≡ Some rest = after_front (codes "step ") rest in
-    let b : place_of 98 rest ≡ Some (length (trailed s.clause)) = place_is (trailed s.clause) (121 ∷ 32 ∷ numbers) (trailed_notb s.clause h.clause.0) in
+    let b : place_of 98 rest ≡ Some (length (trailed s.clause)) = place_is 98 (trailed s.clause) (121 ∷ 32 ∷ numbers) (trailed_notb s.clause h.clause.0) in
     let c : drop (length (trailed s.clause)) rest ≡ codes "by " ++ numbers = drop-append_seam (trailed s.clause) (codes "by " ++ numbers) in
     let d : after (codes "by ") (codes "by " ++ numbers) ≡ Some numbers = after_front (codes "by ") numbers in
     let e : take (length (trailed s.clause)) rest ≡ trailed s.clause = take-append_seam (trailed s.clause) (codes "by " ++ numbers) in

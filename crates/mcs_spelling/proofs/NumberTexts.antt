@@ -12,10 +12,7 @@ use Rattle.mcs_base.proofs.Each.{all_push}
 use Rattle.mcs_base.proofs.Lists.{flat_map_push}
 use Rattle.mcs_spelling.specs.Parts.{spaced, IsSmallNumber, SpellsNumber}
 use Rattle.mcs_spelling.specs.Words.{with_digit, whole, number_from, number_of, numbers_from, numbers_of}
-
--- what is spelled of a number so far
-abbrev pub begun : ℕ → List ℕ
-begun n = cond (nat_eq n 0) [] (decimal n)
+use Rattle.mcs_spelling.specs.Spelled.{begun}
 
 pub begun-is : (n : ℕ) → 0 < n → begun n ≡ decimal n
 begun-is n h = ap (λ (v : Bool). cond v [] (decimal n)) (ne_eqb n 0 (λ e. omega (arith, e)))

@@ -18,16 +18,12 @@ use Rattle.mcs_spelling.specs.Parts.{chosen, set_text, IsAllowed, IsTellable, Ar
 use Rattle.mcs_spelling.specs.Words.{after, ends_member, guarded, after_member, set_from, set_of}
 use Rattle.mcs_spelling.proofs.NumberTexts.{bound}
 use Rattle.mcs_spelling.proofs.LiteralTexts.{after_front, after_is}
+use Rattle.mcs_spelling.specs.Spelled.{sep}
 
 abbrev close : List ℕ
 close = codes "}"
 
 -- ---- members, and what follows
--- what stands before a member
-abbrev sep : Bool → List ℕ
-sep true = []
-sep false = codes ", "
-
 left_more : (b : Bool) (t : List ℕ) (ts : List (List ℕ)) → left b (t ∷ ts) ++ close ≡ sep b ++ (t ++ (further ts ++ close))
 left_more true t ts = append_assoc t (further ts) close
 left_more false t ts = ap (λ (x : List ℕ). codes ", " ++ x) (append_assoc t (further ts) close)

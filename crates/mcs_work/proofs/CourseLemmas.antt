@@ -236,7 +236,7 @@ decided m σs equilibria = elim (cases_lt 0 (length σs)) [
   | inr none ↦ inr (λ c. let more : 0 < length σs = (consistency_is_listed m σs equilibria).0 c in absurd (omega (arith, more, none)))
 ]
 
-decided_always : (m : System) → IsConsistent m ⊎ (¬ IsConsistent m)
+pub decided_always : (m : System) → IsConsistent m ⊎ (¬ IsConsistent m)
 decided_always m = let (σs, listing) = all_states_listed m (all_rules m) 0 in decided m σs listing
 
 -- once the explanations and the end line are written, all is
