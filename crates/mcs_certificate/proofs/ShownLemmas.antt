@@ -12,7 +12,7 @@ use Rattle.mcs_base.proofs.Mapped.{slice_get-map_read}
 use Rattle.mcs_system.specs.Plain.{Name, Formula}
 use Rattle.mcs_trace.specs.declared.certificate.Entail.{Entail}
 use Rattle.mcs_cnf.specs.Classical.{HasYes}
-use Rattle.mcs_cnf.specs.Entailments.{entailment_of, says_yes, IsRefuted}
+use Rattle.mcs_cnf.specs.Entailments.{entailment_of, says_yes, IsModelAt, IsRefuted}
 
 said_at : (es : List Entail) (i : ℕ) (e : Entail) (b : Bool) → i < length es → e ≡ get_or es i e → says_yes (entailment_of e) ≡ b → slice_get (map says_yes (map entailment_of es)) i ≡ Some b
 said_at es i e b less is said = slice_get-map_some says_yes (map entailment_of es) i (entailment_of e) (slice_get-map_read entailment_of es i e less is) ∙ some said
@@ -36,13 +36,16 @@ range_test names s = (
   λ low. (let less : s < 2 ^ length names = below_from_members (length names) s low in grind (arith, nat_tests)),
 )
 
-pub refuted_iff : (names : List Name) (fs : List Formula) (g : Formula) (places values : ℕ) (b : Bool) → values ≡ places → b ≡ holds (true_names 0 names values) g → IsInRange names places → holds_all (true_names 0 names values) fs ≡ true
-    → IsTrue (not b) ↔ IsRefuted names fs g places
-refuted_iff names fs g places values b is told range all = (
-  λ h. record {
-    model = record { in_range = range; formulas = subst (λ (v : ℕ). holds_all (true_names 0 names v) fs ≡ true) is all };
-    goal = subst (λ (v : ℕ). holds (true_names 0 names v) g ≡ false) is (sym told ∙ at b h);
-  },
+-- ---- models that are known
+pub model_iff : (names : List Name) (fs : List Formula) (places values : ℕ) (b : Bool) → values ≡ places → b ≡ holds_all (true_names 0 names values) fs → IsInRange names places → IsTrue b ↔ IsModelAt names fs places
+model_iff names fs places values b is told range = (
+  λ h. record { in_range = range; formulas = subst (λ (v : ℕ). holds_all (true_names 0 names v) fs ≡ true) is (sym told ∙ h) },
+  λ model. told ∙ ap (λ (v : ℕ). holds_all (true_names 0 names v) fs) is ∙ model.formulas,
+)
+
+pub refuted_iff : (names : List Name) (fs : List Formula) (g : Formula) (places values : ℕ) (b : Bool) → values ≡ places → b ≡ holds (true_names 0 names values) g → IsModelAt names fs places → IsTrue (not b) ↔ IsRefuted names fs g places
+refuted_iff names fs g places values b is told model = (
+  λ h. record { model = model; goal = subst (λ (v : ℕ). holds (true_names 0 names v) g ≡ false) is (sym told ∙ at b h) },
   λ r. ap not (told ∙ ap (λ (v : ℕ). holds (true_names 0 names v) g) is ∙ r.goal),
 )
   where

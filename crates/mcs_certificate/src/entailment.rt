@@ -1,7 +1,7 @@
 //! Whether it is shown that formulas follow from others, or that they do not: by a trace, which is checked, or by an
 //! assignment, under which the formulas are evaluated.
 
-ghost use Rattle.std.specs.Prelude.{◌≡◌, ℕ, ◌≤◌, ◌↔◌, List, length, map, IsTrue, IfOk, MatchOption};
+ghost use Rattle.std.specs.Prelude.{◌≡◌, ℕ, ◌≤◌, ◌↔◌, List, length, map, IsTrue, IfOk, IfSome, MatchOption};
 ghost use Rattle.mcs_sets.specs.Sets.{has};
 ghost use Rattle.mcs_system.specs.Logic.{holds_all, true_names};
 ghost use Rattle.mcs_system.specs.Plain as plain;
@@ -9,13 +9,13 @@ ghost use Rattle.mcs_system.specs.Seen.{formula_of};
 ghost use Rattle.mcs_trace.specs.Traces.{inferences_of};
 ghost use Rattle.mcs_cnf.specs.ClauseLists.{clause_list, IsOver, AreOver};
 ghost use Rattle.mcs_cnf.specs.Classical.{HasYes, AreShown};
-ghost use Rattle.mcs_cnf.specs.Entailments.{Yes, entailment_of, says_yes, IsAcceptedEntailment, IsRefuted};
+ghost use Rattle.mcs_cnf.specs.Entailments.{Yes, entailment_of, says_yes, IsAcceptedEntailment, IsModelAt, IsRefuted};
 ghost use Rattle.mcs_evidence.specs.Defaults.{IsShown, IsDenied, AreDenied};
 ghost use Rattle.mcs_evidence.specs.Programs.{IsInRange};
 ghost use Rattle.mcs_cnf.specs.Classical.{AreAcceptedEntailments};
 
 use mcs_base::{Memory, Vars};
-use mcs_cnf::push_negation;
+use mcs_cnf::{model_shown, push_negation};
 use mcs_system::{Formula, Name, holds_at};
 use mcs_trace::{Cnf, Entail, Trace, check};
 use std::alloc::Global;
@@ -58,19 +58,39 @@ fn hold_at(atoms: &[Name], values: Vars, formulas: &[&Formula]) -> bool
     formulas.iter().all(|f| holds_at(atoms, values, f))
 }
 
-/// Whether the formulas hold and the goal does not where exactly the atoms at these places are true.
-fn is_refuted_at(atoms: &[Name], premises: &[&Formula], goal: &Formula, places: u64) -> bool
+/// Whether the places are those of atoms, and the formulas hold where exactly these are true. `model`, if it is given, was
+/// found to be such before.
+fn is_model_at(atoms: &[Name], premises: &[&Formula], places: u64, model: Option<Vars>) -> bool
     requires few { length atoms.now ≤ 64 }
-    ensures { IsTrue result ↔ IsRefuted atoms.now (map (λ f. formula_of f.now) premises.now) (formula_of goal.now) places }
+    requires known { IfSome model (IsModelAt atoms.now (map (λ f. formula_of f.now) premises.now)) }
+    ensures { IsTrue result ↔ IsModelAt atoms.now (map (λ f. formula_of f.now) premises.now) places }
 {
+    let values = Vars::numbered(places);
+    if model == Some(values) {
+        return true;
+    }
     if !is_in_range(atoms, places) {
         return false;
     }
-    let values = Vars::numbered(places);
-    if !hold_at(atoms, values, premises) {
+    hold_at(atoms, values, premises)
+}
+
+/// Whether the formulas hold and the goal does not where exactly the atoms at these places are true.
+fn is_refuted_at(
+    atoms: &[Name],
+    premises: &[&Formula],
+    goal: &Formula,
+    places: u64,
+    model: Option<Vars>,
+) -> bool
+    requires few { length atoms.now ≤ 64 }
+    requires known { IfSome model (IsModelAt atoms.now (map (λ f. formula_of f.now) premises.now)) }
+    ensures { IsTrue result ↔ IsRefuted atoms.now (map (λ f. formula_of f.now) premises.now) (formula_of goal.now) places }
+{
+    if !is_model_at(atoms, premises, places, model) {
         return false;
     }
-    !holds_at(atoms, values, goal)
+    !holds_at(atoms, Vars::numbered(places), goal)
 }
 
 /// Whether it is shown that the goal follows from the formulas whose clauses are `known`.
@@ -93,14 +113,21 @@ pub(crate) fn shows(
     }
 }
 
-/// Whether it is shown that the goal does not follow from the formulas.
-pub(crate) fn denies(atoms: &[Name], premises: &[&Formula], goal: &Formula, entail: &Entail) -> bool
+/// Whether it is shown that the goal does not follow from the formulas, of which a model may be known.
+pub(crate) fn denies(
+    atoms: &[Name],
+    premises: &[&Formula],
+    goal: &Formula,
+    entail: &Entail,
+    model: Option<Vars>,
+) -> bool
     requires few { length atoms.now ≤ 64 }
+    requires known { IfSome model (IsModelAt atoms.now (map (λ f. formula_of f.now) premises.now)) }
     ensures { IsTrue result ↔ IsDenied atoms.now (map (λ f. formula_of f.now) premises.now) (formula_of goal.now) (entailment_of entail.now) }
 {
     match entail {
         Entail::Yes(_) => false,
-        Entail::No(places) => is_refuted_at(atoms, premises, goal, *places),
+        Entail::No(places) => is_refuted_at(atoms, premises, goal, *places, model),
     }
 }
 
@@ -117,15 +144,19 @@ pub(crate) fn deny(
     if goals.len() != entails.len() {
         return false;
     }
+    let mut model = None;
     for (index, goal) in goals.iter().enumerate() {
-        if !denies(atoms, premises, goal, &entails[index]) {
+        let entail = &entails[index];
+        if !denies(atoms, premises, goal, entail, model) {
             return false;
         }
+        model = model_shown(model, entail);
     }
     true
 }
 
-/// Whether what is told of the goal, that it follows or that it does not, is shown.
+/// Whether what is told of the goal, that it follows from the formulas or that it does not, is shown. A model of the
+/// formulas may be known.
 fn tells(
     alloc: Global,
     known: &mut Cnf,
@@ -133,8 +164,10 @@ fn tells(
     goal: &Formula,
     atoms: &[Name],
     entail: &Entail,
+    model: Option<Vars>,
 ) -> Result<bool, Memory>
     requires few { length atoms.now ≤ 64 }
+    requires model { IfSome model (IsModelAt atoms.now (map (λ f. formula_of f.now) premises.now)) }
     requires goal { IsOver atoms.now (formula_of goal.now) }
     requires made { known.old ≡ clause_list atoms.now (map (λ f. formula_of f.now) premises.now) }
     ensures kept { known.new ≡ known.old }
@@ -143,7 +176,7 @@ fn tells(
 {
     match entail {
         Entail::Yes(trace) => is_refuted_by(alloc, known, goal, atoms, trace),
-        Entail::No(places) => Ok(is_refuted_at(atoms, premises, goal, *places)),
+        Entail::No(places) => Ok(is_refuted_at(atoms, premises, goal, *places, model)),
     }
 }
 
@@ -166,11 +199,14 @@ fn tell(
     if goals.len() != entails.len() {
         return Ok(false);
     }
+    let mut model = None;
     for (index, goal) in goals.iter().enumerate() {
-        let told = tells(alloc, known, premises, goal, atoms, &entails[index])?;
+        let entail = &entails[index];
+        let told = tells(alloc, known, premises, goal, atoms, entail, model)?;
         if !told {
             return Ok(false);
         }
+        model = model_shown(model, entail);
     }
     Ok(true)
 }

@@ -2,12 +2,7 @@
 use Rattle.std.proofs.Common.{◌≡◌, ℕ, false, List, Option, Some, IfSome, sym, ap, ◌∙◌, subst}
 use Rattle.mcs_system.specs.Plain.{Name, Formula}
 use Rattle.mcs_system.specs.Logic.{holds, true_names}
-use Rattle.mcs_cnf.specs.Entailments.{Entailment, Yes, No, IsModelAt, IsRefuted, IsAcceptedEntailment}
-use Rattle.mcs_classical.specs.Models.{model_after}
-
-pub model-kept : (names : List Name) (fs : List Formula) (g : Formula) (model : Option ℕ) (e : Entailment) → IfSome model (IsModelAt names fs) → IsAcceptedEntailment names fs g e → IfSome (model_after model e) (IsModelAt names fs)
-model-kept names fs g model (Yes steps) known accepted = known
-model-kept names fs g model (No places) known refuted = refuted.model
+use Rattle.mcs_cnf.specs.Entailments.{IsModelAt, IsRefuted}
 
 pub refuted_beside : (names : List Name) (fs : List Formula) (g : Formula) (model : Option ℕ) (places number : ℕ) → model ≡ Some places → holds (true_names 0 names places) g ≡ false → number ≡ places → IfSome model (IsModelAt names fs)
     → IsRefuted names fs g number

@@ -1,17 +1,12 @@
 -- Models that are found: places of atoms that are true where formulas hold.
-use Rattle.std.specs.Prelude.{ℕ, IsTrue, List, Option, Some}
+use Rattle.std.specs.Prelude.{IsTrue, List}
 use Rattle.mcs_system.specs.Plain.{Name, Formula}
 use Rattle.mcs_system.specs.Logic.{holds_all}
 use Rattle.mcs_trace.specs.Traces.{IsAcceptedTrace, inferences_of}
 use Rattle.mcs_cnf.specs.ClauseLists.{clause_list}
-use Rattle.mcs_cnf.specs.Entailments.{Entailment, Yes, No, IsModelAt}
+use Rattle.mcs_cnf.specs.Entailments.{IsModelAt}
 use Rattle.mcs_classical.specs.declared.satisfying.Satisfied.{Satisfied}
 use Rattle.mcs_classical.specs.declared.satisfying.Satisfied.TheVariants.{Model, Refuted}
-
--- the last model that was found, after one more entailment
-abbrev pub model_after : Option ℕ → Entailment → Option ℕ
-model_after model (Yes steps) = model
-model_after model (No places) = Some places
 
 -- a model of the formulas, or an accepted trace that refutes them, so that they have none
 abbrev pub IsSatisfied : List Name → List Formula → Satisfied → Type 0

@@ -12,11 +12,10 @@ ghost use Rattle.mcs_system.specs.Views.{IsAcceptedView};
 ghost use Rattle.mcs_cnf.specs.ClauseLists.{clause_list, AreOver};
 ghost use Rattle.mcs_cnf.specs.Classical.{IsAcceptedClassical, certificate_of};
 ghost use Rattle.mcs_cnf.specs.Entailments.{entailment_of, says_yes};
-ghost use Rattle.mcs_classical.specs.Models.{model_after};
 
 use crate::consequence::entails_beside;
 use mcs_base::{Memory, Vars};
-use mcs_cnf::clauses;
+use mcs_cnf::{clauses, model_shown};
 use mcs_sat::ClauseBase;
 use mcs_system::{Formula, Name};
 use mcs_trace::{ClassicalCert, Cnf, Entail};
@@ -30,16 +29,6 @@ fn with_yes(state: Vars, number: u32, entail: &Entail) -> Vars
     match entail {
         Entail::Yes(_) => state.with(number),
         Entail::No(_) => state,
-    }
-}
-
-/// The model that the entailment shows, or the one that was known.
-fn model_shown(model: Option<Vars>, entail: &Entail) -> Option<Vars>
-    ensures { result ≡ model_after model (entailment_of entail.now) }
-{
-    match entail {
-        Entail::Yes(_) => model,
-        Entail::No(places) => Some(Vars::numbered(*places)),
     }
 }
 

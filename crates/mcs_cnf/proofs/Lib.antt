@@ -6,5 +6,7 @@ pub mod Tables
 pub mod Values
 pub mod MeaningLemmas
 pub mod NoZeros
+pub mod SizeLemmas
 pub mod EntailmentLemmas
 pub mod OverLemmas
+pub mod ModelLemmas

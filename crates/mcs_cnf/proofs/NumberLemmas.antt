@@ -22,6 +22,14 @@ atom_positive (m ∷ names) n = at (same_name n m)
     at true = omega arith
     at false = omega arith
 
+pub atom_near : (names : List Name) (n : Name) → atom_number names n ≤ length names + 1
+atom_near [] n = omega arith
+atom_near (m ∷ names) n = at (same_name n m) (atom_near names n)
+  where
+    at : (b : Bool) → atom_number names n ≤ length names + 1 → cond b 1 (atom_number names n + 1) ≤ length (m ∷ names) + 1
+    at true near = omega arith
+    at false near = omega arith
+
 pub atom_within : (names : List Name) (n : Name) → is_in n names ≡ true → atom_number names n ≤ length names
 atom_within [] n known = absurd (true≢false (sym known))
 atom_within (m ∷ names) n known = at (same_name n m) known (atom_within names n)

@@ -1,5 +1,5 @@
 -- When it is accepted that a formula follows, or that it does not.
-use Rattle.std.specs.Prelude.{◌≡◌, ℕ, ◌<◌, Bool, true, false, IsTrue, List, [], ◌∷◌, ◌++◌, length}
+use Rattle.std.specs.Prelude.{◌≡◌, ℕ, ◌<◌, Bool, true, false, IsTrue, List, [], ◌∷◌, ◌++◌, length, Option, Some}
 use Rattle.mcs_sets.specs.Sets.{has}
 use Rattle.mcs_system.specs.Plain.{Name, Formula, Not}
 use Rattle.mcs_system.specs.Logic.{holds, holds_all, true_names}
@@ -38,3 +38,8 @@ pub record IsRefuted (names : List Name) (fs : List Formula) (g : Formula) (plac
 abbrev pub IsAcceptedEntailment : List Name → List Formula → Formula → Entailment → Type 0
 IsAcceptedEntailment names fs g (Yes steps) = IsAcceptedTrace (clause_list names (with_negated fs g)).clauses steps
 IsAcceptedEntailment names fs g (No places) = IsRefuted names fs g places
+
+-- a model of the formulas that is known after one more accepted entailment
+abbrev pub model_after : Option ℕ → Entailment → Option ℕ
+model_after model (Yes steps) = model
+model_after model (No places) = Some places

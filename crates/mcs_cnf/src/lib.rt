@@ -4,6 +4,7 @@
 mod formulas;
 mod laws;
 mod literals;
+mod model;
 mod occurrences;
 mod over;
 
@@ -14,5 +15,6 @@ pub use laws::{
     formulas_are_over_their_atoms,
 };
 pub use literals::{push_clause, push_unit};
+pub use model::model_shown;
 pub use occurrences::{push_and, push_falsity, push_implies, push_not, push_or, push_truth};
 pub use over::{are_different, are_over, is_over};

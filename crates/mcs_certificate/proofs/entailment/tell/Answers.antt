@@ -4,6 +4,7 @@ use Rattle.mcs_system.specs.Seen.{formula_of}
 use Rattle.mcs_cnf.specs.ClauseLists.{IsOver}
 use Rattle.mcs_cnf.specs.Entailments.{entailment_of, IsAcceptedEntailment}
 use Rattle.mcs_base.proofs.Mapped.{image_each_read}
+use Rattle.mcs_cnf.proofs.ModelLemmas.{model-kept}
 use Rattle.mcs_certificate.proofs.General.{go_start, go_on, go_stop, go_end}
 use Rattle.mcs_base.proofs.Zipped.{zip_short}
 use Rattle.std.proofs.lemmas.Bool.{iff_false}
@@ -14,7 +15,7 @@ returns-then-goals-entails-clause-exact c =
     false_tells (zip_short (IsAcceptedEntailment c.args.atoms.now (map (λ f. formula_of f.now) c.args.premises.now)) (λ f. formula_of f.now) entailment_of c.args.goals.now c.args.entails.now c.if-goals-entails.true)
 
 pub loop-index-init : goal.loop-index-init
-loop-index-init c = record { kept = refl; rest = go_start (IsAcceptedEntailment c.args.atoms.now (map (λ f. formula_of f.now) c.args.premises.now)) (λ f. formula_of f.now) entailment_of c.args.goals.now c.args.entails.now }
+loop-index-init c = record { model = tt; kept = refl; rest = go_start (IsAcceptedEntailment c.args.atoms.now (map (λ f. formula_of f.now) c.args.premises.now)) (λ f. formula_of f.now) entailment_of c.args.goals.now c.args.entails.now }
 
 pub tells-requires-clause-goal : goal.tells-requires-clause-goal
 tells-requires-clause-goal c = image_each_read (IsOver c.args.atoms.now) (λ f. formula_of f.now) c.args.goals.now c.loop-index.index c.index-goals-index.result c.loop-index-test.true c.index-goals-index.is c.requires.goals
@@ -23,11 +24,14 @@ pub tells-requires-clause-made : goal.tells-requires-clause-made
 tells-requires-clause-made c = c.loop-index.invariant.kept ∙ c.requires.made
 
 pub loop-index-preserved : goal.loop-index-preserved
-loop-index-preserved c = record {
-  kept = c.in_ok-told.ensures.kept ∙ c.loop-index.invariant.kept;
-  rest = go_on (IsAcceptedEntailment c.args.atoms.now (map (λ f. formula_of f.now) c.args.premises.now)) (λ f. formula_of f.now) entailment_of c.args.goals.now c.args.entails.now c.loop-index.index c.index-goals-index.result c.index-entails-index.result
-      c.loop-index-test.true (omega arith) c.index-goals-index.is c.index-entails-index.is c.loop-index.invariant.rest (c.in_ok-told.ensures.exact.0 c.if-not-told.false);
-}
+loop-index-preserved c =
+    let accepted = c.in_ok-told.ensures.exact.0 c.if-not-told.false in
+    record {
+      model = rw c.model_shown-model.ensures (model-kept c.args.atoms.now (map (λ f. formula_of f.now) c.args.premises.now) _ c.loop-index.model _ c.loop-index.invariant.model accepted);
+      kept = c.in_ok-told.ensures.kept ∙ c.loop-index.invariant.kept;
+      rest = go_on (IsAcceptedEntailment c.args.atoms.now (map (λ f. formula_of f.now) c.args.premises.now)) (λ f. formula_of f.now) entailment_of c.args.goals.now c.args.entails.now c.loop-index.index c.index-goals-index.result c.index-entails-index.result
+          c.loop-index-test.true (omega arith) c.index-goals-index.is c.index-entails-index.is c.loop-index.invariant.rest accepted;
+    }
 
 pub returns-then-not-told-clause-exact : goal.returns-then-not-told-clause-exact
 returns-then-not-told-clause-exact c =

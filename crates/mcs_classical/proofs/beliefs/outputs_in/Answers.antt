@@ -3,7 +3,7 @@ use Rattle.mcs_system.specs.Seen.{formula_of}
 use Rattle.mcs_trace.specs.declared.certificate.Entail.{Entail}
 use Rattle.mcs_cnf.specs.Entailments.{entailment_of, IsModelAt}
 use Rattle.mcs_cnf.proofs.EntailmentLemmas.{classical_sound}
-use Rattle.mcs_classical.proofs.ModelLemmas.{model-kept}
+use Rattle.mcs_cnf.proofs.ModelLemmas.{model-kept}
 use Rattle.mcs_classical.proofs.OutputLemmas.{IsShown, shown-none, shown-more, shown-all, rest_over}
 use Rattle.mcs_classical.proofs.beliefs.outputs_in.Goals as goal
 
