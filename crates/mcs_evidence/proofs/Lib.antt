@@ -3,8 +3,10 @@ pub mod AnswerSets
 pub mod ProgramListings
 pub mod PushingLemmas
 pub mod ProgramClauses
+pub mod ProgramSizes
 pub mod DefaultLemmas
 pub mod TheoryLemmas
+pub mod TheorySizes
 pub mod Extensions
 pub mod DefaultCertificates
 pub mod DefaultListing

@@ -18,3 +18,4 @@ pub mod TextSplits
 pub mod Pieces
 pub mod Spelled
 pub mod ReadAtoms
+pub mod JustificationLemmas

@@ -1,6 +1,7 @@
 -- Which text spells which system, and which text has which fault, by its bytes.
 use Rattle.std.specs.Prelude.{◌≡◌, ℕ, List, map, length, slice_range, Option, Some, None, slice_get}
 use Rattle.mcs_system.specs.Plain.{System}
+use Rattle.mcs_system.specs.Justifications.{SystemIsJustifiedUpTo}
 use Rattle.mcs_system.specs.declared.limit.Limit.{Limit}
 use Rattle.mcs_tokens.specs.Tokens.{AreTokens}
 use Rattle.mcs_tokens.specs.declared.scan.Span.{Span}
@@ -53,3 +54,7 @@ TextsHaveOneFault = (bytes : List ℕ) (number number' : ℕ) (limit limit' : Op
 -- a text that spells a system has no fault
 abbrev pub SpelledTextsHaveNoFault : Type 0
 SpelledTextsHaveNoFault = (bytes : List ℕ) (m : System) (number : ℕ) (limit : Option Limit) (offset : ℕ) → Spells bytes m → ¬ HasFault bytes number limit offset
+
+-- no default of a system has more justifications than its text has bytes
+abbrev pub SpelledDefaultsAreShort : Type 0
+SpelledDefaultsAreShort = (bytes : List ℕ) (m : System) → Spells bytes m → SystemIsJustifiedUpTo (length bytes) m

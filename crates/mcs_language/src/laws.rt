@@ -1,6 +1,6 @@
 //! Laws over the definitions of texts. The functions do nothing: each contract is a law.
 
-ghost use Rattle.mcs_grammar.specs.Texts.{SpelledTextsHaveNoFault, TextsAreUnambiguous, TextsHaveOneFault};
+ghost use Rattle.mcs_grammar.specs.Texts.{SpelledDefaultsAreShort, SpelledTextsHaveNoFault, TextsAreUnambiguous, TextsHaveOneFault};
 
 /// A text spells one system at most.
 pub fn texts_are_unambiguous()
@@ -15,4 +15,9 @@ pub fn texts_have_one_fault()
 /// A text that spells a system has no fault.
 pub fn spelled_texts_have_no_fault()
     ensures { SpelledTextsHaveNoFault }
+{}
+
+/// No default of a system has more justifications than its text has bytes.
+pub fn spelled_defaults_are_short()
+    ensures { SpelledDefaultsAreShort }
 {}

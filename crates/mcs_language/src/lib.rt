@@ -5,7 +5,10 @@ mod laws;
 mod numbers;
 mod reading;
 
-pub use laws::{spelled_texts_have_no_fault, texts_are_unambiguous, texts_have_one_fault};
+pub use laws::{
+    spelled_defaults_are_short, spelled_texts_have_no_fault, texts_are_unambiguous,
+    texts_have_one_fault,
+};
 pub use mcs_faults::TextFault;
 pub use mcs_writer::{push_read, write_system};
 pub use reading::read_system;

@@ -4,6 +4,7 @@ pub mod VariableLemmas
 pub mod GatherLemmas
 pub mod Twins
 pub mod ValidLemmas
+pub mod SizeLemmas
 pub mod Distinct
 pub mod AppliesLemmas
 pub mod AtomLemmas

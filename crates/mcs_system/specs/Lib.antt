@@ -11,6 +11,7 @@ pub mod Levels
 pub mod Views
 pub mod Atoms
 pub mod Limits
+pub mod Justifications
 pub mod Faults
 pub mod Texts
 pub mod Codes

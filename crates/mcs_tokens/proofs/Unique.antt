@@ -169,6 +169,11 @@ pub spans_ascend : (bytes : List ℕ) (at : ℕ) (spans : List Span) → AreToke
 spans_ascend bytes at [] h = tt
 spans_ascend bytes at (s ∷ spans) h = (all_weaker _ (λ (t : Span). s.to ≤ t.from) (λ t l. l.0) spans (spans_inside bytes s.to spans h.2), spans_ascend bytes s.to spans h.2)
 
+-- no more than the bytes that are left
+pub spans_few : (bytes : List ℕ) (at : ℕ) (spans : List Span) → AreTokens bytes at spans → length spans + at ≤ length bytes
+spans_few bytes at [] h = omega (arith, h.after)
+spans_few bytes at (s ∷ spans) h = omega (arith, h.0.after, (spans_inside bytes at (s ∷ spans) h).0.1, spans_few bytes s.to spans h.2)
+
 pub whole : (bytes : List ℕ) (at : ℕ) (spans : List Span) (i : ℕ) → AreTokens bytes at spans → at ≤ i → i < length bytes → LiesIn bytes at spans i
 whole bytes at [] i h from below = h.gap i from below
 whole bytes at (s ∷ spans) i h from below = elim (cases_lt i s.from) [

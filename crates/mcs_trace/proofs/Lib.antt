@@ -3,4 +3,5 @@ pub mod ClashLemmas
 pub mod JoinLemmas
 pub mod ResolventLemmas
 pub mod TraceLemmas
+pub mod StepLemmas
 pub mod InsertLemmas

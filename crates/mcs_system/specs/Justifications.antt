@@ -1,0 +1,16 @@
+-- Systems of whose defaults none has more justifications than a number.
+use Rattle.std.specs.Prelude.{ℕ, ◌≤◌, List, length}
+use Rattle.std.specs.List.{AllByRecursion}
+use Rattle.mcs_system.specs.Plain.{Formula, ProgramRule, Default, Item, Fact, Rule, Kb, Classical, DefaultTheory, Program, Context, System}
+
+abbrev pub IsJustifiedUpTo : ℕ → Item → Type 0
+IsJustifiedUpTo n (Fact f) = Unit {0}
+IsJustifiedUpTo n (Rule d) = length d.justs ≤ n
+
+abbrev pub KbIsJustifiedUpTo : ℕ → Kb → Type 0
+KbIsJustifiedUpTo n (Classical formulas) = Unit {0}
+KbIsJustifiedUpTo n (DefaultTheory items) = AllByRecursion (IsJustifiedUpTo n) items
+KbIsJustifiedUpTo n (Program rules) = Unit {0}
+
+abbrev pub SystemIsJustifiedUpTo : ℕ → System → Type 0
+SystemIsJustifiedUpTo n m = AllByRecursion (λ (c : Context). KbIsJustifiedUpTo n c.kb) m.contexts
