@@ -1,33 +1,50 @@
--- The numbers of the lines at which the answers of a report begin.
-use Rattle.std.proofs.Common.{◌≡◌, ℕ, ◌+◌, List, [], ◌∷◌, ◌++◌, map, length, Option, Ok, sym, ap, ◌∙◌, arith, length-append}
-use Rattle.std.proofs.lemmas.List.{map-append}
+-- What is kept of the answers of a report, one after the other.
+use Rattle.std.proofs.Common.{◌≡◌, ℕ, ◌+◌, ◌-◌, ◌<◌, ◌≤◌, false, List, [], ◌∷◌, ◌++◌, map, length, codes, Option, Some, None, Ok, Err, refl, sym, ap, ◌∙◌, subst, arith, length-append}
+use Rattle.std.proofs.lemmas.List.{length-map}
 use Rattle.std.specs.List.{flat_map}
 use Rattle.mcs_system.specs.Plain.{System}
 use Rattle.mcs_system.specs.Naming.{IsNamed}
 use Rattle.mcs_system.specs.Faults.{IsValid}
 use Rattle.mcs_proof_text.specs.Answers.{Answer, answer_lines}
-use Rattle.mcs_proof_lines.specs.Walks.{At}
-use Rattle.mcs_proof_reader.specs.Answers.{answer_at}
+use Rattle.mcs_proof_text.specs.Reports.{SpellsReport, report_lines}
+use Rattle.mcs_proof_text.specs.Shapes.{IsInShape}
+use Rattle.mcs_proof_lines.specs.declared.fault.ReportFault.{ReportFault}
+use Rattle.mcs_proof_lines.specs.declared.fault.ReportFault.TheVariants as faults
+use Rattle.mcs_proof_lines.specs.Walks.{At, is_next, after_front}
+use Rattle.mcs_proof_reader.specs.Answers.{answer_at, answers_at, question_in}
 use Rattle.mcs_proof_reader.specs.Readers.{answer_of}
-use Rattle.mcs_proof_reader.specs.Whole.{lines_from}
+use Rattle.mcs_proof_reader.specs.Whole.{listing_of, lines_from, IsReportOf, IsReportRead}
+use Rattle.mcs_proof_reader.specs.Keeping.{IsWhole, AreKept, IsKeptReport, IsReportFault}
 use Rattle.mcs_proof_reader.specs.declared.answer.ReportAnswer as code
+use Rattle.mcs_proof_reader.specs.declared.report.Report as reports
 use Rattle.mcs_proof_reader.proofs.AnswerReadings.{reads_answer}
+use Rattle.mcs_proof_reader.proofs.StepLemmas.{answers_begin, answers_go_on}
 
--- those of answers that were read after n lines, and where the reader is then
-pub record AreAt (m : System) (n : ℕ) (read : List code.ReportAnswer) (at : At) : Type 0 where
-  pub begins : map (λ (a : code.ReportAnswer). a.line) read ≡ lines_from m (n + 1) (map answer_of read)
-  pub taken : at.taken ≡ n + length (flat_map (answer_lines m) (map answer_of read))
+-- of the answers so far, which were read from the first place on, this is kept; where the reader is then, and those after the last one
+pub record IsKeptSoFar {K : Type 0} (keeps : System → Answer → ℕ → K → Type 0) (m : System) (start : At) (held : List K) (last : Option (ℕ × ℕ)) (at : At) : Type 0 where
+  pub answers : List Answer
+  -- each has taken a line or more
+  pub few : length at.rest + length answers ≤ length start.rest
+  pub taken : at.taken ≡ start.taken + length (flat_map (answer_lines m) answers)
+  pub read : (n : ℕ) → length start.rest ≤ n → after_front answers (answers_at m (n - length answers) last at) ≡ answers_at m n None start
+  pub kept : AreKept keeps m (start.taken + 1) answers held
 
-module _ (m : System) where
+-- an answer that is read is in shape
+pub read_in_shape : (m : System) → IsValid m → IsNamed m → (last : Option (ℕ × ℕ)) (at now : At) (a : Answer) → answer_at m last at ≡ Ok (a, now) → IsInShape m a
+read_in_shape m valid named last at now a e = ((reads_answer m valid named last).sound at now a e).is.0
+
+module _ {K : Type 0} (keeps : System → Answer → ℕ → K → Type 0) (m : System) where
   abbrev all_lines : List Answer → List (List ℕ)
   all_lines = flat_map (answer_lines m)
 
-  lines_more : (n : ℕ) (xs : List Answer) (y : Answer) → lines_from m n (xs ++ y ∷ []) ≡ lines_from m n xs ++ (n + length (all_lines xs)) ∷ []
-  lines_more n [] y = let e : n ≡ n + 0 = omega arith in ap (λ (k : ℕ). k ∷ []) e
-  lines_more n (x ∷ xs) y =
-      let long = length-append (answer_lines m x) (all_lines xs) in
-      let e : n + length (answer_lines m x) + length (all_lines xs) ≡ n + length (all_lines (x ∷ xs)) = omega (arith, long) in
-      ap (λ (ks : List ℕ). n ∷ ks) (lines_more (n + length (answer_lines m x)) xs y ∙ ap (λ (k : ℕ). lines_from m (n + length (answer_lines m x)) xs ++ k ∷ []) e)
+  kept_more : (n : ℕ) (answers : List Answer) (kept : List K) (a : Answer) (k : K) → AreKept keeps m n answers kept → keeps m a (n + length (all_lines answers)) k → AreKept keeps m n (answers ++ a ∷ []) (kept ++ k ∷ [])
+  kept_more n [] [] a k are h = let e : n + 0 ≡ n = omega arith in (subst (λ (j : ℕ). keeps m a j k) e h, tt)
+  kept_more n [] (x ∷ kept) a k are h = absurd are
+  kept_more n (b ∷ answers) [] a k are h = absurd are
+  kept_more n (b ∷ answers) (x ∷ kept) a k are h =
+      let long = length-append (answer_lines m b) (all_lines answers) in
+      let e : n + length (all_lines (b ∷ answers)) ≡ n + length (answer_lines m b) + length (all_lines answers) = omega (arith, long) in
+      (are.0, kept_more (n + length (answer_lines m b)) answers kept a k are.1 (subst (λ (j : ℕ). keeps m a j k) e h))
 
   count_more : (xs : List Answer) (y : Answer) → length (all_lines (xs ++ y ∷ [])) ≡ length (all_lines xs) + length (answer_lines m y)
   count_more [] y = let e = length-append (answer_lines m y) [] in omega (arith, e)
@@ -38,27 +55,53 @@ module _ (m : System) where
       omega (arith, whole, less, more)
 
   -- none so far
-  pub at_first : (n : ℕ) (none : List code.ReportAnswer) (at : At) → none ≡ [] → at.taken ≡ n → AreAt m n none at
-  at_first n none at is e =
-      let count : length (all_lines (map answer_of none)) ≡ 0 = ap (λ (xs : List code.ReportAnswer). length (all_lines (map answer_of xs))) is in
-      record {
-        begins = ap (map (λ (a : code.ReportAnswer). a.line)) is ∙ sym (ap (λ (xs : List code.ReportAnswer). lines_from m (n + 1) (map answer_of xs)) is);
-        taken = omega (arith, e, count);
-      }
+  pub kept_first : (none : List K) (at : At) → none ≡ [] → IsKeptSoFar keeps m at none None at
+  kept_first none at is = record {
+    answers = [];
+    few = omega arith;
+    taken = omega arith;
+    read = λ n enough. answers_begin m n at;
+    kept = subst (λ (ks : List K). AreKept keeps m (at.taken + 1) [] ks) (sym is) tt;
+  }
 
   -- one more
-  pub at_next : IsValid m → IsNamed m → (n : ℕ) (old new : List code.ReportAnswer) (a : code.ReportAnswer) (last : Option (ℕ × ℕ)) (at now : At) → AreAt m n old at → new ≡ old ++ a ∷ []
-      → answer_at m last at ≡ Ok (answer_of a, now) → a.line ≡ at.taken + 1 → AreAt m n new now
-  at_next valid named n old new a last at now h items e line =
-      let r = (reads_answer m valid named last).sound at now (answer_of a) e in
-      let pushed : map answer_of new ≡ map answer_of old ++ answer_of a ∷ [] = ap (map answer_of) items ∙ map-append answer_of old (a ∷ []) in
-      let numbers : map (λ (x : code.ReportAnswer). x.line) new ≡ map (λ (x : code.ReportAnswer). x.line) old ++ a.line ∷ [] = ap (map (λ (x : code.ReportAnswer). x.line)) items ∙ map-append (λ (x : code.ReportAnswer). x.line) old (a ∷ []) in
-      let before = h.taken in
-      let number : a.line ≡ n + 1 + length (all_lines (map answer_of old)) = omega (arith, line, before) in
-      let count : length (all_lines (map answer_of new)) ≡ length (all_lines (map answer_of old)) + length (answer_lines m (answer_of a)) = ap (λ (xs : List Answer). length (all_lines xs)) pushed ∙ count_more (map answer_of old) (answer_of a) in
-      let after = r.taken in
+  pub kept_next : IsValid m → IsNamed m → (start at now : At) (old new : List K) (k : K) (last : Option (ℕ × ℕ)) (a : Answer) (line : ℕ) → IsKeptSoFar keeps m start old last at → is_next (codes "end of proof") at ≡ false
+      → answer_at m last at ≡ Ok (a, now) → length now.rest < length at.rest → new ≡ old ++ k ∷ [] → line ≡ at.taken + 1 → keeps m a line k → IsKeptSoFar keeps m start new (Some (question_in a)) now
+  kept_next valid named start at now old new k last a line h test e shorter items begins keeps_it =
+      let r = ((reads_answer m valid named last).sound at now a e).taken in
+      let long = length-append h.answers (a ∷ []) in
+      let count = count_more h.answers a in
+      let few = h.few in
+      let taken = h.taken in
+      let number : line ≡ start.taken + 1 + length (all_lines h.answers) = omega (arith, begins, taken) in
       record {
-        begins = numbers ∙ (ap (λ (ks : List ℕ). ks ++ a.line ∷ []) h.begins ∙ (ap (λ (k : ℕ). lines_from m (n + 1) (map answer_of old) ++ k ∷ []) number
-            ∙ (sym (lines_more (n + 1) (map answer_of old) (answer_of a)) ∙ ap (lines_from m (n + 1)) (sym pushed))));
-        taken = omega (arith, after, before, count);
+        answers = h.answers ++ a ∷ [];
+        few = omega (arith, few, shorter, long);
+        taken = omega (arith, r, taken, count);
+        read = λ n enough. answers_go_on m h.answers (h.answers ++ a ∷ []) a n last at now (answers_at m n None start) test refl (omega (arith, few, shorter, enough)) e (h.read n enough);
+        kept = subst (λ (ks : List K). AreKept keeps m (start.taken + 1) (h.answers ++ a ∷ []) ks) (sym items)
+            (kept_more (start.taken + 1) h.answers old a k h.kept (subst (λ (j : ℕ). keeps m a j k) number keeps_it));
       }
+
+-- answers that are kept as they are
+pub all_whole : (m : System) (n : ℕ) (answers : List Answer) (kept : List code.ReportAnswer) → AreKept (λ m. IsWhole) m n answers kept → (map answer_of kept ≡ answers) × (map (λ (a : code.ReportAnswer). a.line) kept ≡ lines_from m n answers)
+all_whole m n [] [] are = (refl, refl)
+all_whole m n [] (k ∷ kept) are = absurd are
+all_whole m n (a ∷ answers) [] are = absurd are
+all_whole m n (a ∷ answers) (k ∷ kept) are =
+    let rest = all_whole m (n + length (answer_lines m a)) answers kept are.1 in
+    (ap (λ (x : Answer). x ∷ map answer_of kept) are.0.answer ∙ ap (λ (xs : List Answer). a ∷ xs) rest.0, ap (λ (j : ℕ). j ∷ map (λ (x : code.ReportAnswer). x.line) kept) are.0.begins ∙ ap (λ (js : List ℕ). n ∷ js) rest.1)
+
+-- so they are those of a report that is read whole
+pub whole_report : (m : System) (bytes : List ℕ) (r : reports.Report) → IsKeptReport (λ m. IsWhole) m bytes (listing_of r) r.answers.items r.last_line → IsReportOf m bytes r
+whole_report m bytes r h =
+    let (same, lines) = all_whole m (length (listing_of r) + 2) h.answers r.answers.items h.kept in
+    record {
+      spelled = subst (SpellsReport m bytes (listing_of r)) (sym same) h.spelled;
+      begins = lines ∙ (ap (λ (k : ℕ). lines_from m (k + 2) h.answers) (length-map r.listing.items (λ l. l.items)) ∙ ap (lines_from m (length r.listing.items + 2)) (sym same));
+      ends = h.ends ∙ ap (λ (as' : List Answer). length (report_lines m (listing_of r) as')) (sym same);
+    }
+
+pub whole_fault : (m : System) (bytes : List ℕ) (fault : ReportFault) → IsReportFault m bytes fault → IsReportRead m bytes (Err fault)
+whole_fault m bytes faults.Memory h = tt
+whole_fault m bytes (faults.Grammar line) h = h

@@ -27,18 +27,20 @@ use Rattle.mcs_proof_text.specs.Shapes.{IsEither, AreMany, AreVerdicts, IsCertif
 use Rattle.mcs_proof_lines.specs.Walks.{At, Reading, ◌>>=◌, taken_at, advanced, fault_at, made, many_at, entailment_at, expect_at}
 use Rattle.mcs_proof_lines.specs.Verdicts.{verdicts_at}
 use Rattle.mcs_proof_lines.specs.Programs.{program_at}
-use Rattle.mcs_proof_lines.proofs.Readings.{here, Stops, Anything, Reads, ReadsLine, one_line, picked, reads_line, reads_same}
-use Rattle.mcs_proof_lines.proofs.ReadingSequences.{both, Image, AreBoth, both_lines, reads_made, reads_both}
-use Rattle.mcs_proof_lines.proofs.WordReadings.{word_of, word_line}
+use Rattle.mcs_proof_lines.specs.Readings.{here, Stops, Anything, Reads, ReadsLine, one_line, Image, AreBoth, both_lines, word_of, IsOther, IsPassing}
+use Rattle.mcs_proof_lines.proofs.Readings.{picked, reads_line, reads_same}
+use Rattle.mcs_proof_lines.proofs.ReadingSequences.{both, reads_made, reads_both}
+use Rattle.mcs_proof_lines.proofs.WordReadings.{word_line}
 use Rattle.mcs_proof_reader.specs.Questions.{state_after, comes_after, next_question, state_of}
 use Rattle.mcs_proof_reader.specs.Answers.{Shown, terms_for, states_there, classical_at, default_at, models_at, shown_at, shown_of, answer_at, question_in}
-use Rattle.mcs_proof_reader.proofs.EvidenceReadings.{told, reads_either, either_begins, reads_several, some_either, empty}
+use Rattle.mcs_proof_reader.proofs.EvidenceReadings.{told, reads_either, either_begins, reads_several, some_either}
 use Rattle.mcs_proof_reader.proofs.AbsenceReadings.{justs_in, made_paired}
 use Rattle.mcs_proof_reader.proofs.VerdictReadings.{reads_verdicts, some_verdicts, some_many}
 use Rattle.mcs_proof_reader.proofs.ProgramReadings.{IsProgramOf, reads_program, some_program}
 use Rattle.mcs_proof_reader.proofs.QuestionReadings.{IsQuestion, text_of_question, next_line, state_line}
-use Rattle.mcs_proof_reader.proofs.StateReadings.{IsNoState, AreStatesAfter, are_states, states_are, read_states, reads_states}
+use Rattle.mcs_proof_reader.proofs.StateReadings.{AreStatesAfter, are_states, states_are, read_states, reads_states}
 use Rattle.mcs_proof_reader.proofs.AtomNames.{atoms_tell}
+use Rattle.mcs_sets.proofs.Lattice.{no_member_of_none}
 
 -- ---- one reading after the other, as the code is told
 chained : {A B C : Type 0} (f : A × B → C) (q : A → At → Reading B) (r : Reading A) → made f (both q r) ≡ (r >>= λ x. made (λ y. f (x.0, y)) (q x.0 x.1))
@@ -85,9 +87,6 @@ module _ (m : System) (valid : IsValid m) (named : IsNamed m) (i : ℕ) (less : 
   abbrev as_classical : ℕ × List Entailment → Shown
   as_classical se = (se.0 ∷ [], OfFormulas se.1)
 
-  abbrev IsFirst : ℕ → Type 0
-  IsFirst σ = Within σ own × (state_after None σ ≡ true)
-
   several : Reads (AreMany (IsEither names) beliefs) (told names all_entailment_lines) Stops (many_at (entailment_at names) beliefs)
   several = reads_several names few tells (IsEither names) (entailment_at names) (reads_either names few tells) (either_begins names few tells) (some_either names few tells) beliefs
 
@@ -99,13 +98,13 @@ module _ (m : System) (valid : IsValid m) (named : IsNamed m) (i : ℕ) (less : 
   classical_same at = chained as_classical (λ σ. many_at (entailment_at names) beliefs) (picked (state_of m own None) at)
 
   module _ (fs : List Formula) where
-    to_classical : (s : Shown) → Image as_classical (AreBoth IsFirst (λ σ. AreMany (IsEither names) beliefs)) s → IsShownFor m i (Classical fs) s
+    to_classical : (s : Shown) → Image as_classical (AreBoth (IsPassing (λ σ. Within σ own) (state_after None)) (λ σ. AreMany (IsEither names) beliefs)) s → IsShownFor m i (Classical fs) s
     to_classical s (se, is, known) = subst (IsShownFor m i (Classical fs)) (sym is) (((known.0.0, tt), (tt, tt)), (refl, known.1))
 
-    from_classical : (s : Shown) → IsShownFor m i (Classical fs) s → Image as_classical (AreBoth IsFirst (λ σ. AreMany (IsEither names) beliefs)) s
+    from_classical : (s : Shown) → IsShownFor m i (Classical fs) s → Image as_classical (AreBoth (IsPassing (λ σ. Within σ own) (state_after None)) (λ σ. AreMany (IsEither names) beliefs)) s
     from_classical (outputs, OfFormulas es) (states, (one, are)) = single outputs states.0 one
       where
-        single : (outputs : List ℕ) → AllByRecursion (λ σ. Within σ own) outputs → length outputs ≡ 1 → Image as_classical (AreBoth IsFirst (λ σ. AreMany (IsEither names) beliefs)) (outputs, OfFormulas es)
+        single : (outputs : List ℕ) → AllByRecursion (λ σ. Within σ own) outputs → length outputs ≡ 1 → Image as_classical (AreBoth (IsPassing (λ σ. Within σ own) (state_after None)) (λ σ. AreMany (IsEither names) beliefs)) (outputs, OfFormulas es)
         single [] within one = absurd (omega (arith, one))
         single (σ ∷ []) within one = ((σ, es), refl, ((within.0, refl), are))
         single (σ ∷ (τ ∷ σs)) within one = absurd (omega (arith, one))
@@ -114,8 +113,8 @@ module _ (m : System) (valid : IsValid m) (named : IsNamed m) (i : ℕ) (less : 
 
     reads_classical : Reads (IsShownFor m i (Classical fs)) (shown_lines m i) Stops (classical_at m i)
     reads_classical =
-        let line = reads_line IsFirst (output_text m) (state_of m own None) (state_line m valid named i None) in
-        let pair = reads_both IsFirst _ Anything (picked (state_of m own None)) (λ σ. AreMany (IsEither names) beliefs) (λ σ. told names all_entailment_lines) Stops (λ σ. many_at (entailment_at names) beliefs) line (λ σ is. several) (λ σ is. some_several) (λ σ es more is are end. tt) in
+        let line = reads_line (IsPassing (λ σ. Within σ own) (state_after None)) (output_text m) (state_of m own None) (state_line m valid named i None) in
+        let pair = reads_both (IsPassing (λ σ. Within σ own) (state_after None)) _ Anything (picked (state_of m own None)) (λ σ. AreMany (IsEither names) beliefs) (λ σ. told names all_entailment_lines) Stops (λ σ. many_at (entailment_at names) beliefs) line (λ σ is. several) (λ σ is. some_several) (λ σ es more is are end. tt) in
         let made_of = reads_made _ _ Stops _ as_classical (shown_lines m i) pair (λ se is. refl) in
         reads_same _ (IsShownFor m i (Classical fs)) _ (shown_lines m i) Stops _ (classical_at m i) made_of to_classical from_classical (λ s is. refl) classical_same
 
@@ -131,7 +130,7 @@ module _ (m : System) (valid : IsValid m) (named : IsNamed m) (i : ℕ) (less : 
     unfolding default_at
     default_same at = made_paired as_default (states_there m i at).0 (verdicts_at (terms_for m i items) (states_there m i at).1)
 
-    sets_other : (vs : List Verdict) (more : List (List ℕ)) → AreSets vs → IsNoState (told names (set_lines 0) vs ++ more)
+    sets_other : (vs : List Verdict) (more : List (List ℕ)) → AreSets vs → IsOther (after (codes "state ")) (told names (set_lines 0) vs ++ more)
     unfolding line_text after
     sets_other [] more are = absurd (let n = length (defaults_of items) in let one = are.one_each in let some = pow_pos n in omega (arith, one, some))
     sets_other (v ∷ vs) more are = refl
@@ -146,7 +145,7 @@ module _ (m : System) (valid : IsValid m) (named : IsNamed m) (i : ℕ) (less : 
 
     reads_default : Reads (IsShownFor m i (DefaultTheory items)) (shown_lines m i) Stops (default_at m i items)
     reads_default =
-        let pair = reads_both (AreStatesAfter m i None) _ IsNoState (read_states m valid named i) (λ ss. AreSets) (λ ss. told names (set_lines 0)) Stops (λ ss. verdicts_at (terms_for m i items)) (reads_states m valid named i)
+        let pair = reads_both (AreStatesAfter m i None) _ (IsOther (after (codes "state "))) (read_states m valid named i) (λ ss. AreSets) (λ ss. told names (set_lines 0)) Stops (λ ss. verdicts_at (terms_for m i items)) (reads_states m valid named i)
         (λ ss is. reads_verdicts names few tells items (map justs_in (defaults_of items)) refl few_rules beliefs) (λ ss is. some_verdicts names few tells items (map justs_in (defaults_of items)) refl few_rules beliefs) (λ ss vs more is are end. sets_other vs more are) in
         let made_of = reads_made _ _ Stops _ as_default (shown_lines m i) pair (λ sv is. refl) in
         reads_same _ (IsShownFor m i (DefaultTheory items)) _ (shown_lines m i) Stops _ (default_at m i items) made_of to_default from_default (λ s is. refl) default_same
@@ -163,11 +162,11 @@ module _ (m : System) (valid : IsValid m) (named : IsNamed m) (i : ℕ) (less : 
     unfolding models_at
     models_same at = made_paired as_models (states_there m i at).0 (program_at names (length (states_there m i at).0) (states_there m i at).1)
 
-    program_other : (ss : List ℕ) (p : ProgramShown) (more : List (List ℕ)) → IsNoState (told names program_lines p ++ more)
+    program_other : (ss : List ℕ) (p : ProgramShown) (more : List (List ℕ)) → IsOther (after (codes "state ")) (told names program_lines p ++ more)
     unfolding line_text after
     program_other ss p more = by p.models p.smaller
       where
-        by : (ms : List ModelShown) (smaller : List ℕ) → IsNoState (map (line_text names) (flat_map model_lines ms ++ (map SmallerLine smaller ++ NoneLine ∷ trace_lines p.rest)) ++ more)
+        by : (ms : List ModelShown) (smaller : List ℕ) → IsOther (after (codes "state ")) (map (line_text names) (flat_map model_lines ms ++ (map SmallerLine smaller ++ NoneLine ∷ trace_lines p.rest)) ++ more)
         by [] [] = refl
         by [] (s ∷ smaller) = refl
         by (k ∷ ms) smaller = refl
@@ -183,7 +182,7 @@ module _ (m : System) (valid : IsValid m) (named : IsNamed m) (i : ℕ) (less : 
 
     reads_models : Reads (IsShownFor m i (Program rules)) (shown_lines m i) Stops (models_at m i)
     reads_models =
-        let pair = reads_both (AreStatesAfter m i None) _ IsNoState (read_states m valid named i) IsOf (λ ss. told names program_lines) Stops (λ ss. program_at names (length ss)) (reads_states m valid named i)
+        let pair = reads_both (AreStatesAfter m i None) _ (IsOther (after (codes "state "))) (read_states m valid named i) IsOf (λ ss. told names program_lines) Stops (λ ss. program_at names (length ss)) (reads_states m valid named i)
         (λ ss is. reads_program names few tells (length ss)) (λ ss is. some_program names few tells (length ss)) (λ ss p more is are end. program_other ss p more) in
         let made_of = reads_made _ _ Stops _ as_models (shown_lines m i) pair (λ sp is. refl) in
         reads_same _ (IsShownFor m i (Program rules)) _ (shown_lines m i) Stops _ (models_at m i) made_of to_models from_models (λ s is. refl) models_same
@@ -195,7 +194,7 @@ module _ (m : System) (valid : IsValid m) (named : IsNamed m) (i : ℕ) (less : 
   reads_kind (Program rules) few_defaults = reads_models rules
 
   some_kind : (kb : Kb) → default_count kb ≤ 10 → (s : Shown) × IsShownFor m i kb s
-  some_kind (Classical fs) few_defaults = (as_classical (0, some_several.0), ((((λ k member. absurd (empty k member)), tt), (tt, tt)), (refl, some_several.1)))
+  some_kind (Classical fs) few_defaults = (as_classical (0, some_several.0), ((((λ k member. absurd (no_member_of_none 0 refl k member)), tt), (tt, tt)), (refl, some_several.1)))
   some_kind (DefaultTheory items) few_defaults =
       let few_rules : length (map justs_in (defaults_of items)) ≤ 10 = (let c = defaults_counted items in let long = length-map (defaults_of items) justs_in in omega (arith, few_defaults, c, long)) in
       let (vs, are) = some_verdicts names few tells items (map justs_in (defaults_of items)) refl few_rules beliefs in
@@ -213,7 +212,7 @@ module _ (m : System) (valid : IsValid m) (named : IsNamed m) (last : Option (�
   Question = ℕ × ℕ
 
   abbrev IsNext : Question → Type 0
-  IsNext q = IsQuestion m valid named q × (comes_after last q ≡ true)
+  IsNext q = IsQuestion m q × (comes_after last q ≡ true)
 
   abbrev IsShownOf : Question → Shown → Type 0
   IsShownOf q s = (c : Context) × (slice_get m.contexts q.0 ≡ Some c) × IsShownFor m q.0 c.kb s
@@ -263,7 +262,7 @@ module _ (m : System) (valid : IsValid m) (named : IsNamed m) (last : Option (�
   abbrev as_answer : Question × Rest → Answer
   as_answer qr = record { context = qr.0.0; active = qr.0.1; outputs = qr.1.0.0; cert = qr.1.0.1 }
 
-  answer_told : (qr : Question × Rest) → both_lines (one_line (text_of_question m valid named)) rest_lines qr ≡ answer_lines m (as_answer qr)
+  answer_told : (qr : Question × Rest) → both_lines (one_line (text_of_question m)) rest_lines qr ≡ answer_lines m (as_answer qr)
   answer_told (q, (s, u)) = ap (λ (ls : List (List ℕ)). question_text m q.0 q.1 ∷ ls) (append_assoc (map (output_text m) s.0) (map (line_text (atoms_of m q.0)) (certificate_lines s.1)) (codes "done" ∷ []))
 
   answer_same : (at : At) → made as_answer (both read_rest (picked (next_question m last) at)) ≡ answer_at m last at
@@ -289,7 +288,7 @@ module _ (m : System) (valid : IsValid m) (named : IsNamed m) (last : Option (�
 
   pub reads_answer : Reads (IsAnswerAfter m last) (answer_lines m) Anything (answer_at m last)
   reads_answer =
-      let line = reads_line IsNext (text_of_question m valid named) (next_question m last) (next_line m valid named last) in
+      let line = reads_line IsNext (text_of_question m) (next_question m last) (next_line m valid named last) in
       let pair = reads_both IsNext _ Anything (picked (next_question m last)) IsRest rest_lines Anything read_rest line reads_rest
       (λ q is. (((some_shown q is).0, tt), ((some_shown q is).1, tt))) (λ q r more is known end. tt) in
       let made_of = reads_made _ _ Anything _ as_answer (answer_lines m) pair (λ qr is. answer_told qr) in

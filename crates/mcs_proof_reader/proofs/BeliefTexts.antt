@@ -7,20 +7,17 @@ use Rattle.std.proofs.lemmas.Slice.Eq.{bytes_eq-Decides}
 use Rattle.std.specs.List.{list_all}
 use Rattle.std.specs.Option.{option_and_then, option_map}
 use Rattle.std.specs.Str.{bytes_eq}
-use Rattle.mcs_base.specs.Words.{is_letter, is_word_byte, is_word, is_reserved, most_name_bytes}
+use Rattle.mcs_base.specs.Words.{is_word_byte, is_word, is_reserved, most_name_bytes}
 use Rattle.mcs_base.specs.declared.keyword.Keyword.TheVariants as keywords
-use Rattle.mcs_base.proofs.WordLemmas.{EndsWord, keyword_word, name_is_word, letter_is_word_byte}
+use Rattle.mcs_base.proofs.WordLemmas.{EndsWord, keyword_word, name_is_word}
 use Rattle.mcs_system.specs.Plain.{Name, Formula, Truth, Falsity, Atom, Not, And, Or, Implies, Iff}
 use Rattle.mcs_system.specs.Naming.{IsName, IsNamedFormula}
 use Rattle.mcs_system.specs.Texts.{primary, in_parentheses}
 use Rattle.mcs_spelling.specs.Words.{after}
 use Rattle.mcs_spelling.proofs.LiteralTexts.{after_front}
+use Rattle.mcs_proof_text.proofs.PlainTexts.{all_word}
 
 -- ---- words
-pub all_word : (v : List ℕ) → IsTrue (is_word v) → IsTrue (list_all is_word_byte v)
-all_word [] is = absurd (true≢false (sym is))
-all_word (b ∷ bs) is = let (letter, rest) = and_parts (is_letter b) (list_all is_word_byte bs) is in rw (letter_is_word_byte b letter, rest) refl
-
 pub munch : (v w r s : List ℕ) → IsTrue (list_all is_word_byte v) → IsTrue (list_all is_word_byte w) → EndsWord r → EndsWord s → v ++ r ≡ w ++ s → (v ≡ w) × (r ≡ s)
 munch [] [] r s av aw er es e = (refl, e)
 munch [] (b ∷ w) r s av aw er es e = absurd (true≢false (sym (and_parts (is_word_byte b) (list_all is_word_byte w) aw).0 ∙ subst EndsWord e er))

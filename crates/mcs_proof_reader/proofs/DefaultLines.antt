@@ -24,9 +24,9 @@ use Rattle.mcs_spelling.proofs.LiteralTexts.{after_front, after_is}
 use Rattle.mcs_spelling.proofs.SetTexts.{set_spelled, set_read}
 use Rattle.mcs_proof_lines.specs.Verdicts.{Terms, defaults_of_line, within_from, some_order, order_of}
 use Rattle.mcs_proof_reader.specs.Questions.{decimals, ten}
-use Rattle.mcs_proof_lines.proofs.Readings.{ReadsLine}
+use Rattle.mcs_proof_lines.specs.Readings.{ReadsLine, IsUpTo}
 use Rattle.mcs_proof_lines.proofs.WordReadings.{after_line}
-use Rattle.mcs_proof_lines.proofs.NumberReadings.{guarded_line, IsUpTo}
+use Rattle.mcs_proof_lines.proofs.NumberReadings.{guarded_line}
 use Rattle.mcs_proof_reader.proofs.EvidenceReadings.{chosen_are}
 
 -- the same values by other words
@@ -46,21 +46,18 @@ decimal_at k zero j t e = absurd (cc)
 decimal_at k (suc n) zero t e = (let here : k + 0 ≡ k = omega arith in ap decimal here ∙ same_Some (decimal k) t e)
 decimal_at k (suc n) (suc j) t e = (let next : k + suc j ≡ k + 1 + j = omega arith in ap decimal next ∙ decimal_at (k + 1) n j t e)
 
-abbrev Plain : ℕ → Type 0
-Plain b = (¬ (b ≡ 44)) × (¬ (b ≡ 125))
-
-digit_plain : (d : ℕ) → d < 10 → Plain (48 + d)
-digit_plain d less = ((λ e. absurd (omega (arith, e))), (λ e. absurd (omega (arith, e))))
-
 decimal_tells : (n : ℕ) → n < 2 ^ 64 → IsTellable (decimal n)
 decimal_tells n few = decimal_by_steps (λ n ds. IsTellable ds) (λ n less. ((λ e. (cc)), (digit_plain n less, tt))) (λ n ds many before. more n ds before) n few
   where
+    digit_plain : (d : ℕ) → d < 10 → (¬ (48 + d ≡ 44)) × (¬ (48 + d ≡ 125))
+    digit_plain d less = ((λ e. absurd (omega (arith, e))), (λ e. absurd (omega (arith, e))))
+
     some : (ds : List ℕ) (d : ℕ) → ¬ (ds ++ d ∷ [] ≡ [])
     some [] d = λ e. (cc)
     some (x ∷ xs) d = λ e. (cc)
 
     more : (n : ℕ) (ds : List ℕ) → IsTellable ds → IsTellable (ds ++ (48 + n % 10) ∷ [])
-    more n ds before = (some ds (48 + n % 10), all_append Plain ds ((48 + n % 10) ∷ []) before.1 (digit_plain (n % 10) (omega arith), tt))
+    more n ds before = (some ds (48 + n % 10), all_append (λ b. (¬ (b ≡ 44)) × (¬ (b ≡ 125))) ds ((48 + n % 10) ∷ []) before.1 (digit_plain (n % 10) (omega arith), tt))
 
 decimals_tell : (k n : ℕ) → k + n < 2 ^ 63 → AllByRecursion IsTellable (decimals k n)
 decimals_tell k zero few = tt
@@ -104,10 +101,7 @@ module _ (items : List Item) (justs : List ℕ) (count : length justs ≡ length
   unfolding has
   outside_all k above = ap (λ (b : ℕ). nat_eq b 1) (bit_at_ones_above (length justs) k above)
 
-  abbrev pub IsSet : ℕ → Type 0
-  IsSet s = Within s (all_defaults items)
-
-  pub set_below : (s : ℕ) → IsSet s → (k : ℕ) → IsTrue (has s k) → k < length justs
+  pub set_below : (s : ℕ) → Within s (all_defaults items) → (k : ℕ) → IsTrue (has s k) → k < length justs
   set_below s within k member =
       let inside : has (all_defaults items) k ≡ true = within k member in
       let parts = and_parts (ltb k (length (defaults_of items))) true (sym (has-such_that (length (defaults_of items)) (λ j. true) k) ∙ inside) in
@@ -115,42 +109,42 @@ module _ (items : List Item) (justs : List ℕ) (count : length justs ≡ length
       let below : k < length (defaults_of items) = grind (arith, nat_tests) in
       omega (arith, below, count)
 
-  pub set_within : (s : ℕ) → ((k : ℕ) → IsTrue (has s k) → k < length justs) → IsSet s
+  pub set_within : (s : ℕ) → ((k : ℕ) → IsTrue (has s k) → k < length justs) → Within s (all_defaults items)
   set_within s below = λ k member.
       let b = below k member in
       let less : k < length (defaults_of items) = omega (arith, b, count) in
       let test : ltb k (length (defaults_of items)) ≡ true = grind (arith, nat_tests) in
       has-such_that (length (defaults_of items)) (λ j. true) k ∙ rw test refl
 
-  set_told : (s : ℕ) → IsSet s → set_text ten s ≡ defaults_text s
+  set_told : (s : ℕ) → Within s (all_defaults items) → set_text ten s ≡ defaults_text s
   set_told s within =
       let small : s < 2 ^ 10 = below_from_members 10 s (λ k member. (let b = set_below s within k member in omega (arith, b, few))) in
       ap braced (chosen_are s default_text 0 ten (λ j t e. (let shift : 0 + j + 1 ≡ 1 + j = omega arith in ap decimal shift ∙ decimal_at 1 10 j t e)) ∙ ap (map default_text) (sym (members-width s 10 small)))
 
-  set_line : ReadsLine IsSet defaults_text (set_of ten (2 ^ length justs - 1))
+  set_line : ReadsLine (λ s. Within s (all_defaults items)) defaults_text (set_of ten (2 ^ length justs - 1))
   set_line = record {
     sound = λ line s e. (
         let (is, spelled) = set_spelled ten (2 ^ length justs - 1) line s e in
-        let within : IsSet s = set_within s (λ k member. in_all k (is k member).1) in
+        let within : Within s (all_defaults items) = set_within s (λ k member. in_all k (is k member).1) in
         (within, spelled ∙ set_told s within));
     complete = λ s within. ap (set_of ten (2 ^ length justs - 1)) (sym (set_told s within)) ∙ set_read ten (2 ^ length justs - 1) s ten_tell (λ k member. (let b = set_below s within k member in (omega (arith, b, few), all_in k b)));
   }
 
   -- a set after a word
   module _ (t : Terms) (numbers_are : t.numbers ≡ ten) (justs_are : t.justs ≡ justs) (word : List ℕ) where
-    fits : (s : ℕ) → IsSet s → nat_lt s (2 ^ 32) ≡ true
+    fits : (s : ℕ) → Within s (all_defaults items) → nat_lt s (2 ^ 32) ≡ true
     fits s within = let small : s < 2 ^ 10 = below_from_members 10 s (λ k member. (let b = set_below s within k member in omega (arith, b, few))) in grind (arith, nat_tests)
 
-    plain_line : ReadsLine IsSet (λ s. word ++ defaults_text s) (λ line. option_and_then (λ s. guarded (nat_lt s (2 ^ 32)) s) (option_and_then (set_of ten (2 ^ length justs - 1)) (after word line)))
+    plain_line : ReadsLine (λ s. Within s (all_defaults items)) (λ s. word ++ defaults_text s) (λ line. option_and_then (λ s. guarded (nat_lt s (2 ^ 32)) s) (option_and_then (set_of ten (2 ^ length justs - 1)) (after word line)))
     plain_line =
-        let line = after_line word IsSet defaults_text (set_of ten (2 ^ length justs - 1)) set_line in
-        let small = guarded_line IsSet (λ s. word ++ defaults_text s) (λ line. option_and_then (set_of ten (2 ^ length justs - 1)) (after word line)) line (λ s. nat_lt s (2 ^ 32)) in
-        line_same _ IsSet _ (λ s. word ++ defaults_text s) _ small (λ s is. is.0) (λ s is. (is, fits s is)) (λ s is. refl)
+        let line = after_line word (λ s. Within s (all_defaults items)) defaults_text (set_of ten (2 ^ length justs - 1)) set_line in
+        let small = guarded_line (λ s. Within s (all_defaults items)) (λ s. word ++ defaults_text s) (λ line. option_and_then (set_of ten (2 ^ length justs - 1)) (after word line)) line (λ s. nat_lt s (2 ^ 32)) in
+        line_same _ (λ s. Within s (all_defaults items)) _ (λ s. word ++ defaults_text s) _ small (λ s is. is.0) (λ s is. (is, fits s is)) (λ s is. refl)
 
-    pub defaults_line : ReadsLine IsSet (λ s. word ++ defaults_text s) (defaults_of_line word t)
+    pub defaults_line : ReadsLine (λ s. Within s (all_defaults items)) (λ s. word ++ defaults_text s) (defaults_of_line word t)
     unfolding defaults_of_line
     defaults_line =
-        let P : List (List ℕ) → List ℕ → Type 0 = λ ns js. ReadsLine IsSet (λ s. word ++ defaults_text s) (λ line. option_and_then (λ s. guarded (nat_lt s (2 ^ 32)) s) (option_and_then (set_of ns (2 ^ length js - 1)) (after word line))) in
+        let P : List (List ℕ) → List ℕ → Type 0 = λ ns js. ReadsLine (λ s. Within s (all_defaults items)) (λ s. word ++ defaults_text s) (λ line. option_and_then (λ s. guarded (nat_lt s (2 ^ 32)) s) (option_and_then (set_of ns (2 ^ length js - 1)) (after word line))) in
         subst (λ (js : List ℕ). P t.numbers js) (sym justs_are) (subst (λ (ns : List (List ℕ)). P ns justs) (sym numbers_are) plain_line)
 
 -- ---- orders of defaults
@@ -179,22 +173,16 @@ lows : (most : ℕ) (ns : List ℕ) → AllByRecursion (IsUpTo most) ns → AllB
 lows most [] all = tt
 lows most (n ∷ ns) all = (all.0.1, lows most ns all.1)
 
-abbrev order_text : List ℕ → List ℕ
-order_text order = spaced (map decimal order)
-
-abbrev rest_of : ℕ → List ℕ → Option (List ℕ)
-rest_of most rest = cond (is_empty rest) (Some []) (some_order most rest)
-
-order_sound : (most : ℕ) (rest order : List ℕ) → rest_of most rest ≡ Some order → AllByRecursion (IsUpTo most) order × (rest ≡ order_text order)
-order_sound most [] order e = let none : [] ≡ order = same_Some [] order e in (subst (AllByRecursion (IsUpTo most)) none tt, ap order_text none)
+order_sound : (most : ℕ) (rest order : List ℕ) → cond (is_empty rest) (Some []) (some_order most rest) ≡ Some order → AllByRecursion (IsUpTo most) order × (rest ≡ spaced (map decimal order))
+order_sound most [] order e = let none : [] ≡ order = same_Some [] order e in (subst (AllByRecursion (IsUpTo most)) none tt, ap (λ (order : List ℕ). spaced (map decimal order)) none)
 order_sound most (b ∷ rest) order e =
     let (ns, first, within) = bound (within_from most []) (option_and_then numbers_of (after (codes " ") (b ∷ rest))) order e in
     let (bytes, front, numbers) = bound numbers_of (after (codes " ") (b ∷ rest)) ns first in
     let (small, spelled) = numbers_spelled bytes ns numbers in
     let (is, low) = within_told most [] ns order within in
-    (subst (AllByRecursion (IsUpTo most)) (sym is) (joined most ns small low), after_is (codes " ") (b ∷ rest) bytes front ∙ (sym spelled ∙ ap order_text (sym is)))
+    (subst (AllByRecursion (IsUpTo most)) (sym is) (joined most ns small low), after_is (codes " ") (b ∷ rest) bytes front ∙ (sym spelled ∙ ap (λ (order : List ℕ). spaced (map decimal order)) (sym is)))
 
-order_complete : (most : ℕ) (order : List ℕ) → AllByRecursion (IsUpTo most) order → rest_of most (order_text order) ≡ Some order
+order_complete : (most : ℕ) (order : List ℕ) → AllByRecursion (IsUpTo most) order → cond (is_empty (spaced (map decimal order))) (Some []) (some_order most (spaced (map decimal order))) ≡ Some order
 order_complete most [] all = refl
 order_complete most (n ∷ ns) all =
     let bytes = decimal n ++ spaced (map decimal ns) in
@@ -203,6 +191,6 @@ order_complete most (n ∷ ns) all =
     ap (λ (o : Option (List ℕ)). option_and_then (within_from most []) (option_and_then numbers_of o)) front
     ∙ (ap (option_and_then (within_from most [])) numbers ∙ within_read most [] (n ∷ ns) (lows most (n ∷ ns) all))
 
-pub order_line : (most : ℕ) → ReadsLine (AllByRecursion (IsUpTo most)) (λ order. codes "extension" ++ order_text order) (order_of most)
+pub order_line : (most : ℕ) → ReadsLine (AllByRecursion (IsUpTo most)) (λ order. codes "extension" ++ spaced (map decimal order)) (order_of most)
 unfolding order_of
-order_line most = after_line (codes "extension") (AllByRecursion (IsUpTo most)) order_text (rest_of most) (record { sound = order_sound most; complete = order_complete most })
+order_line most = after_line (codes "extension") (AllByRecursion (IsUpTo most)) (λ order. spaced (map decimal order)) (λ rest. cond (is_empty rest) (Some []) (some_order most rest)) (record { sound = order_sound most; complete = order_complete most })

@@ -1,13 +1,11 @@
 -- What shows that formulas follow or do not, read.
-use Rattle.std.proofs.Common.{◌≡◌, ℕ, ◌+◌, ◌<◌, ◌≤◌, suc, Bool, true, false, cond, inl, inr, IsTrue, nat_eq, List, [], ◌∷◌, ◌++◌, map, length, codes, slice_get, Option, Some, Result, Ok, Err, refl, sym, ap, ◌∙◌, subst, arith, true≢false}
+use Rattle.std.proofs.Common.{◌≡◌, ℕ, ◌+◌, ◌<◌, ◌≤◌, suc, Bool, true, false, cond, inl, inr, IsTrue, nat_eq, List, [], ◌∷◌, ◌++◌, map, length, codes, slice_get, Option, Some, Result, Ok, Err, refl, sym, ap, ◌∙◌, subst, arith}
 use Rattle.std.proofs.lemmas.List.{map-append}
 use Rattle.std.proofs.lemmas.Nat.Bits.{bit_at_ones}
 use Rattle.std.specs.List.{flat_map}
-use Rattle.std.specs.Option.{option_map_or}
-use Rattle.std.specs.Str.{bytes_eq}
 use Rattle.mcs_sets.specs.Sets.{has, members_from}
-use Rattle.mcs_sets.proofs.SetLemmas.{members-width, has-empty}
-use Rattle.mcs_sets.proofs.Lattice.{below_from_members}
+use Rattle.mcs_sets.proofs.SetLemmas.{members-width}
+use Rattle.mcs_sets.proofs.Lattice.{below_from_members, no_member_of_none}
 use Rattle.mcs_system.specs.Plain.{Name}
 use Rattle.mcs_text.specs.Separated.{braced}
 use Rattle.mcs_trace.specs.Traces.{Inference}
@@ -20,9 +18,10 @@ use Rattle.mcs_proof_text.specs.Lines.{Line, line_text}
 use Rattle.mcs_proof_text.specs.Answers.{trace_lines, entailment_lines, all_entailment_lines}
 use Rattle.mcs_proof_text.specs.Shapes.{IsTrace, IsYes, IsNo, IsEither, AreMany}
 use Rattle.mcs_proof_lines.specs.Walks.{At, Reading, ◌>>=◌, made, head_of, expect_at, everything, atoms_of_line, atoms_at, trace_at, yes_at, no_at, entailment_at, many_at}
-use Rattle.mcs_proof_lines.proofs.Readings.{Stops, Anything, Reads, ReadsLine, one_line, reads_line, reads_same}
-use Rattle.mcs_proof_lines.proofs.ReadingSequences.{Image, reads_made, IsEitherOf, chosen_at, reads_chosen}
-use Rattle.mcs_proof_lines.proofs.ReadingLists.{Begin, IsMany, reads_many}
+use Rattle.mcs_proof_lines.specs.Readings.{Stops, Anything, Reads, ReadsLine, one_line, Image, IsEitherOf, Begin, IsMany, is_line}
+use Rattle.mcs_proof_lines.proofs.Readings.{reads_line, reads_same}
+use Rattle.mcs_proof_lines.proofs.ReadingSequences.{reads_made, chosen_at, reads_chosen}
+use Rattle.mcs_proof_lines.proofs.ReadingLists.{reads_many}
 use Rattle.mcs_proof_lines.proofs.WordReadings.{reads_word, after_line}
 use Rattle.mcs_proof_lines.proofs.TraceReadings.{reads_trace, some_trace}
 
@@ -55,9 +54,6 @@ atoms_chosen names places inside =
     let small = below_from_members (length names) places inside in
     ap braced (chosen_are places (atom_text names) 0 names (λ j t e. (let same : 0 + j ≡ j = omega arith in ap (atom_text names) same ∙ ap (λ (o : Option Name). text_of_name o) e))
     ∙ ap (map (atom_text names)) (sym (members-width places (length names) small)))
-
-pub empty : (k : ℕ) → IsTrue (has 0 k) → ⊥
-empty k member = true≢false (sym member ∙ has-empty k)
 
 pub in_everything : (k : ℕ) → k < 64 → IsTrue (has everything k)
 unfolding has
@@ -133,15 +129,12 @@ module _ (names : List Name) (few : length names ≤ 64) (tells : AreTellable na
       reads_same _ IsYes _ (told names entailment_lines) Stops _ yes_at made_of is_yes yes_is (λ x is. refl) yes_same
 
   -- either
-  abbrev says : Option (List ℕ) → Bool
-  says o = option_map_or (λ next. bytes_eq next (codes "yes")) o false
-
-  yes_says : (e : Entailment) (rest : List (List ℕ)) → IsYes e → says (head_of (told names entailment_lines e ++ rest)) ≡ true
+  yes_says : (e : Entailment) (rest : List (List ℕ)) → IsYes e → is_line (codes "yes") (head_of (told names entailment_lines e ++ rest)) ≡ true
   unfolding line_text
   yes_says (Yes steps) rest is = refl
   yes_says (No places) rest is = absurd is
 
-  no_says : (e : Entailment) (rest : List (List ℕ)) → IsNo names e → says (head_of (told names entailment_lines e ++ rest)) ≡ false
+  no_says : (e : Entailment) (rest : List (List ℕ)) → IsNo names e → is_line (codes "yes") (head_of (told names entailment_lines e ++ rest)) ≡ false
   unfolding line_text
   no_says (Yes steps) rest is = absurd is
   no_says (No places) rest is = refl
@@ -156,13 +149,13 @@ module _ (names : List Name) (few : length names ≤ 64) (tells : AreTellable na
   is_either (No places) (inl is) = absurd is
   is_either (No places) (inr is) = is
 
-  either_same : (at : At) → chosen_at says yes_at (no_at names) at ≡ entailment_at names at
+  either_same : (at : At) → chosen_at (is_line (codes "yes")) yes_at (no_at names) at ≡ entailment_at names at
   unfolding entailment_at
   either_same at = refl
 
   pub reads_either : Reads (IsEither names) (told names entailment_lines) Stops (entailment_at names)
   reads_either = reads_same _ (IsEither names) _ (told names entailment_lines) Stops _ (entailment_at names)
-      (reads_chosen IsYes (IsNo names) (told names entailment_lines) Stops yes_at (no_at names) says reads_yes reads_no yes_says no_says) is_either either_is (λ x is. refl) either_same
+      (reads_chosen IsYes (IsNo names) (told names entailment_lines) Stops yes_at (no_at names) (is_line (codes "yes")) reads_yes reads_no yes_says no_says) is_either either_is (λ x is. refl) either_same
 
   -- ---- several
   pub yes_begins : Begin IsYes (told names entailment_lines)
@@ -180,7 +173,7 @@ module _ (names : List Name) (few : length names ≤ 64) (tells : AreTellable na
   either_begins (No places) rest is = no_begins (No places) rest is
 
   pub some_no : (e : Entailment) × IsNo names e
-  some_no = (No 0, λ k member. absurd (empty k member))
+  some_no = (No 0, λ k member. absurd (no_member_of_none 0 refl k member))
 
   pub some_yes : (e : Entailment) × IsYes e
   some_yes = (Yes some_trace.0, some_trace.1)

@@ -12,13 +12,22 @@ use Rattle.mcs_proof_text.specs.Answers.{trace_lines, model_lines, program_lines
 use Rattle.mcs_proof_text.specs.Shapes.{IsTrace, IsModel}
 use Rattle.mcs_proof_lines.specs.Walks.{At, Reading, ◌>>=◌, made, many_at, trace_at, atoms_of_line, atoms_at}
 use Rattle.mcs_proof_lines.specs.Programs.{model_at, with_smaller, smaller_from, smaller_at, rest_at, program_at}
-use Rattle.mcs_proof_lines.proofs.Readings.{here, Stops, Anything, Reads, one_line, reads_same}
-use Rattle.mcs_proof_lines.proofs.ReadingSequences.{both, paired, Image, AreBoth, both_lines, reads_made, reads_both, AllStop, both_stop}
-use Rattle.mcs_proof_lines.proofs.ReadingLists.{Begin, IsMany, reads_many}
+use Rattle.mcs_proof_lines.specs.Readings.{here, Stops, Anything, Reads, one_line, Image, AreBoth, both_lines, AllStop, Begin, IsMany, IsOther}
+use Rattle.mcs_proof_lines.proofs.Readings.{reads_same}
+use Rattle.mcs_proof_lines.proofs.ReadingSequences.{both, paired, reads_made, reads_both, both_stop}
+use Rattle.mcs_proof_lines.proofs.ReadingLists.{reads_many}
 use Rattle.mcs_proof_lines.proofs.WordReadings.{reads_word, after_line}
 use Rattle.mcs_proof_lines.proofs.TraceReadings.{reads_trace, some_trace}
-use Rattle.mcs_proof_lines.proofs.ReadingRuns.{with_one, run_from, run_at, IsOther, reads_run}
-use Rattle.mcs_proof_reader.proofs.EvidenceReadings.{told, told_all, trace_told, reads_atoms, set_line, empty}
+use Rattle.mcs_proof_lines.proofs.ReadingRuns.{with_one, run_from, run_at, reads_run}
+use Rattle.mcs_proof_reader.proofs.EvidenceReadings.{told, told_all, trace_told, reads_atoms, set_line}
+use Rattle.mcs_sets.proofs.Lattice.{no_member_of_none}
+
+-- a smaller set, and a line that says one
+abbrev smaller_text : List Name → ℕ → List ℕ
+smaller_text names places = codes "smaller " ++ atoms_text names places
+
+abbrev smaller_of : List Name → List ℕ → Option ℕ
+smaller_of names = atoms_of_line (codes "smaller ") names
 
 module _ (names : List Name) (few : length names ≤ 64) (tells : AreTellable names) where
   -- ---- a model
@@ -55,17 +64,11 @@ module _ (names : List Name) (few : length names ≤ 64) (tells : AreTellable na
   model_begins m rest is = refl
 
   some_model : (m : ModelShown) × IsModel names m
-  some_model = (as_model (0, some_trace.0), ((λ k member. absurd (empty k member)), some_trace.1))
+  some_model = (as_model (0, some_trace.0), ((λ k member. absurd (no_member_of_none 0 refl k member)), some_trace.1))
 
   -- ---- the smaller sets, and then the trace that refutes all others
-  abbrev smaller_of : List ℕ → Option ℕ
-  smaller_of = atoms_of_line (codes "smaller ") names
-
-  abbrev smaller_text : ℕ → List ℕ
-  smaller_text places = codes "smaller " ++ atoms_text names places
-
-  reads_smaller : Reads (AllByRecursion (IsInRange names)) (map smaller_text) (IsOther smaller_of) (run_at smaller_of)
-  reads_smaller = reads_run (IsInRange names) smaller_text smaller_of (after_line (codes "smaller ") (IsInRange names) (atoms_text names) _ (set_line names few tells))
+  reads_smaller : Reads (AllByRecursion (IsInRange names)) (map (smaller_text names)) (IsOther (smaller_of names)) (run_at (smaller_of names))
+  reads_smaller = reads_run (IsInRange names) (smaller_text names) (smaller_of names) (after_line (codes "smaller ") (IsInRange names) (atoms_text names) _ (set_line names few tells))
 
   abbrev rest_lines : List Inference → List (List ℕ)
   rest_lines steps = codes "none" ∷ map step_text steps
@@ -73,7 +76,7 @@ module _ (names : List Name) (few : length names ≤ 64) (tells : AreTellable na
   reads_rest : Reads IsTrace rest_lines Stops rest_at
   reads_rest = reads_word (codes "none") trace_at IsTrace (map step_text) Stops reads_trace some_trace
 
-  none_other : (steps : List Inference) (more : List (List ℕ)) → IsOther smaller_of (rest_lines steps ++ more)
+  none_other : (steps : List Inference) (more : List (List ℕ)) → IsOther (smaller_of names) (rest_lines steps ++ more)
   unfolding after
   none_other steps more = refl
 
@@ -84,15 +87,15 @@ module _ (names : List Name) (few : length names ≤ 64) (tells : AreTellable na
   IsRest = AreBoth (AllByRecursion (IsInRange names)) (λ ss. IsTrace)
 
   abbrev all_rest_lines : Rest → List (List ℕ)
-  all_rest_lines = both_lines (map smaller_text) (λ ss. rest_lines)
+  all_rest_lines = both_lines (map (smaller_text names)) (λ ss. rest_lines)
 
   abbrev read_rest : At → Reading Rest
-  read_rest at = both (λ ss. rest_at) (run_at smaller_of at)
+  read_rest at = both (λ ss. rest_at) (run_at (smaller_of names) at)
 
   reads_all_rest : Reads IsRest all_rest_lines Stops read_rest
-  reads_all_rest = reads_both (AllByRecursion (IsInRange names)) _ (IsOther smaller_of) (run_at smaller_of) (λ ss. IsTrace) (λ ss. rest_lines) Stops (λ ss. rest_at) reads_smaller (λ ss is. reads_rest) (λ ss is. some_trace) (λ ss t more is known end. none_other t more)
+  reads_all_rest = reads_both (AllByRecursion (IsInRange names)) _ (IsOther (smaller_of names)) (run_at (smaller_of names)) (λ ss. IsTrace) (λ ss. rest_lines) Stops (λ ss. rest_at) reads_smaller (λ ss is. reads_rest) (λ ss is. some_trace) (λ ss t more is known end. none_other t more)
 
-  smaller_stop : AllStop (AllByRecursion (IsInRange names)) (map smaller_text)
+  smaller_stop : AllStop (AllByRecursion (IsInRange names)) (map (smaller_text names))
   unfolding step_of after
   smaller_stop [] more is end = end
   smaller_stop (s ∷ ss) more is end = refl
@@ -102,7 +105,7 @@ module _ (names : List Name) (few : length names ≤ 64) (tells : AreTellable na
   none_stop steps more is end = refl
 
   rest_stop : AllStop IsRest all_rest_lines
-  rest_stop = both_stop (AllByRecursion (IsInRange names)) (λ ss. IsTrace) (map smaller_text) (λ ss. rest_lines) smaller_stop (λ ss. none_stop)
+  rest_stop = both_stop (AllByRecursion (IsInRange names)) (λ ss. IsTrace) (map (smaller_text names)) (λ ss. rest_lines) smaller_stop (λ ss. none_stop)
 
   some_rest : (r : Rest) × IsRest r
   some_rest = (([], some_trace.0), (tt, some_trace.1))
@@ -124,10 +127,10 @@ module _ (names : List Name) (few : length names ≤ 64) (tells : AreTellable na
     abbrev read_program : At → Reading ProgramShown
     read_program at = made as_program (both (λ ms. read_rest) (many_at (model_at names) count at))
 
-    smaller_told : (ss : List ℕ) → map smaller_text ss ≡ map (line_text names) (map SmallerLine ss)
+    smaller_told : (ss : List ℕ) → map (smaller_text names) ss ≡ map (line_text names) (map SmallerLine ss)
     unfolding line_text
     smaller_told [] = refl
-    smaller_told (s ∷ ss) = ap (λ (ls : List (List ℕ)). smaller_text s ∷ ls) (smaller_told ss)
+    smaller_told (s ∷ ss) = ap (λ (ls : List (List ℕ)). smaller_text names s ∷ ls) (smaller_told ss)
 
     none_told : (steps : List Inference) → rest_lines steps ≡ map (line_text names) (NoneLine ∷ trace_lines steps)
     unfolding line_text
@@ -136,17 +139,17 @@ module _ (names : List Name) (few : length names ≤ 64) (tells : AreTellable na
     program_told : (w : Whole) → whole_lines w ≡ told names program_lines (as_program w)
     program_told (ms, (ss, steps)) =
         let lt = line_text names in
-        let e2 : map smaller_text ss ++ rest_lines steps ≡ map lt (map SmallerLine ss ++ NoneLine ∷ trace_lines steps) =
+        let e2 : map (smaller_text names) ss ++ rest_lines steps ≡ map lt (map SmallerLine ss ++ NoneLine ∷ trace_lines steps) =
         ap (λ (ls : List (List ℕ)). ls ++ rest_lines steps) (smaller_told ss) ∙ (ap (λ (ls : List (List ℕ)). map lt (map SmallerLine ss) ++ ls) (none_told steps) ∙ sym (map-append lt (map SmallerLine ss) (NoneLine ∷ trace_lines steps))) in
-        ap (λ (ls : List (List ℕ)). ls ++ (map smaller_text ss ++ rest_lines steps)) (told_all names model_lines ms)
+        ap (λ (ls : List (List ℕ)). ls ++ (map (smaller_text names) ss ++ rest_lines steps)) (told_all names model_lines ms)
         ∙ (ap (λ (ls : List (List ℕ)). map lt (flat_map model_lines ms) ++ ls) e2 ∙ sym (map-append lt (flat_map model_lines ms) (map SmallerLine ss ++ NoneLine ∷ trace_lines steps)))
 
-    smaller_same : (n : ℕ) (rest : List (List ℕ)) (tail : List ℕ) → run_from smaller_of n rest tail ≡ smaller_from names n rest tail
+    smaller_same : (n : ℕ) (rest : List (List ℕ)) (tail : List ℕ) → run_from (smaller_of names) n rest tail ≡ smaller_from names n rest tail
     smaller_same n [] tail = refl
-    smaller_same n (line ∷ rest) tail = by (smaller_of line) (smaller_same (n + 1) rest tail)
+    smaller_same n (line ∷ rest) tail = by (smaller_of names line) (smaller_same (n + 1) rest tail)
       where
-        by : (o : Option ℕ) → run_from smaller_of (n + 1) rest tail ≡ smaller_from names (n + 1) rest tail
-            → with_one o (run_from smaller_of (n + 1) rest tail) (here n (line ∷ rest) tail) ≡ with_smaller o (smaller_from names (n + 1) rest tail) (here n (line ∷ rest) tail)
+        by : (o : Option ℕ) → run_from (smaller_of names) (n + 1) rest tail ≡ smaller_from names (n + 1) rest tail
+            → with_one o (run_from (smaller_of names) (n + 1) rest tail) (here n (line ∷ rest) tail) ≡ with_smaller o (smaller_from names (n + 1) rest tail) (here n (line ∷ rest) tail)
         by None again = refl
         by (Some s) again = ap (λ (r : List ℕ × At). (let t : List ℕ × At = (s ∷ r.0, r.1) in t)) again
 

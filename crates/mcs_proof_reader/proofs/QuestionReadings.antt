@@ -1,6 +1,6 @@
 -- The lines that name questions and states, read.
 use Rattle.std.proofs.Common.{◌≡◌, ℕ, ◌+◌, ◌<◌, ◌≤◌, zero, suc, Bool, true, false, cond, nat_eq, IsTrue, List, [], ◌∷◌, ◌++◌, map, length, take, drop, codes, slice_get, Option, Some, None, refl, sym, ap, ◌∙◌, subst, arith, true≢false}
-use Rattle.std.proofs.Math.Seq.{take-append_seam}
+use Rattle.std.proofs.Math.Seq.{take-append_seam, drop-append_seam}
 use Rattle.std.proofs.lemmas.Bool.{and_parts, or_parts}
 use Rattle.std.proofs.lemmas.Bool.Decides.{nat_tests}
 use Rattle.std.proofs.lemmas.List.{length-map}
@@ -31,13 +31,15 @@ use Rattle.mcs_spelling.proofs.NumberTexts.{bound}
 use Rattle.mcs_spelling.proofs.SetTexts.{set_spelled, set_read}
 use Rattle.mcs_proof_text.specs.Lines.{question_text, output_text}
 use Rattle.mcs_proof_lines.specs.Walks.{everything}
-use Rattle.mcs_proof_lines.proofs.Readings.{ReadsLine}
+use Rattle.mcs_proof_lines.specs.Readings.{ReadsLine, IsPassing}
 use Rattle.mcs_proof_lines.proofs.WordReadings.{after_line}
-use Rattle.mcs_proof_lines.proofs.NumberReadings.{guarded_line, space_is, split_at, drop_past}
+use Rattle.mcs_proof_lines.proofs.NumberReadings.{guarded_line}
 use Rattle.mcs_proof_reader.specs.Questions.{rule_names, variable_texts, context_from, rules_of_text, question_of, comes_after, next_question, state_after, state_of}
 use Rattle.mcs_proof_reader.proofs.EvidenceReadings.{chosen_are, in_everything}
-use Rattle.mcs_proof_reader.proofs.BeliefTexts.{all_word}
-use Rattle.mcs_proof_reader.proofs.SystemTexts.{contexts_apart, rules_tell, variables_tell, context_named}
+use Rattle.mcs_proof_text.proofs.PlainTexts.{all_word, context_named}
+use Rattle.mcs_proof_reader.proofs.SystemTexts.{contexts_apart, rules_tell, variables_tell}
+use Rattle.mcs_spelling.proofs.PlaceTexts.{place_is, split_at}
+use Rattle.mcs_base.proofs.Lists.{drop_past}
 
 -- ---- contexts by their names
 pub record IsContextAt (name : List ℕ) (cs : List Context) (place : ℕ) : Type 0 where
@@ -79,14 +81,18 @@ no_space (b ∷ v) all = let (first, rest) = and_parts (is_word_byte b) (list_al
     plain true e word = (let same : b ≡ 32 = grind (arith, nat_tests) in absurd (true≢false (sym word ∙ ap is_word_byte same)))
     plain false e word = e
 
+-- ---- questions
+abbrev pub IsQuestion : System → ℕ × ℕ → Type 0
+IsQuestion m q = ((c : Context) × (slice_get m.contexts q.0 ≡ Some c)) × Within q.1 (rules_into m q.0)
+
+abbrev pub text_of_question : System → ℕ × ℕ → List ℕ
+text_of_question m q = question_text m q.0 q.1
+
+-- a context's name, and a set of rules into it
+abbrev context_then : System → List ℕ → Option (ℕ × ℕ)
+context_then m rest = option_and_then (λ space. option_and_then (rules_of_text m (drop (space + 1) rest)) (context_from (take space rest) 0 m.contexts)) (place_of 32 rest)
+
 module _ (m : System) (valid : IsValid m) (named : IsNamed m) where
-  -- ---- questions
-  abbrev pub IsQuestion : ℕ × ℕ → Type 0
-  IsQuestion q = ((c : Context) × (slice_get m.contexts q.0 ≡ Some c)) × Within q.1 (rules_into m q.0)
-
-  abbrev pub text_of_question : ℕ × ℕ → List ℕ
-  text_of_question q = question_text m q.0 q.1
-
   rule_below : (i x : ℕ) → Within x (rules_into m i) → (k : ℕ) → IsTrue (has x k) → k < length (rule_names m)
   rule_below i x within k member =
       let (b, is, into) = rule_there m i k (within k member) in
@@ -145,10 +151,7 @@ module _ (m : System) (valid : IsValid m) (named : IsNamed m) where
           by k true e = let (inside, outside) = in_minus x (rules_into m i) k e in absurd (true≢false (sym (within k inside) ∙ outside))
           by k false e = e ∙ sym (has-empty k)
 
-  abbrev context_then : List ℕ → Option (ℕ × ℕ)
-  context_then rest = option_and_then (λ space. option_and_then (rules_of_text m (drop (space + 1) rest)) (context_from (take space rest) 0 m.contexts)) (place_of 32 rest)
-
-  context_line : ReadsLine IsQuestion (λ q. name_of_context (slice_get m.contexts q.0) ++ (codes " " ++ rules_text m q.1)) context_then
+  context_line : ReadsLine (IsQuestion m) (λ q. name_of_context (slice_get m.contexts q.0) ++ (codes " " ++ rules_text m q.1)) (context_then m)
   context_line = record {
     sound = λ rest q e. (
         let (space, a, e1) = bound (λ space. option_and_then (rules_of_text m (drop (space + 1) rest)) (context_from (take space rest) 0 m.contexts)) (place_of 32 rest) q e in
@@ -158,7 +161,7 @@ module _ (m : System) (valid : IsValid m) (named : IsNamed m) where
         let at : j ≡ q.0 = omega (arith, place, is.0) in
         let there : slice_get m.contexts q.0 ≡ Some h.context = ap (slice_get m.contexts) (sym at) ∙ h.is_it in
         let within : Within q.1 (rules_into m q.0) = subst (λ (k : ℕ). Within q.1 (rules_into m k)) (sym is.0) is.1 in
-        let text : rest ≡ h.context.name ++ (codes " " ++ rules_text m q.1) = split_at rest space a ∙ (ap (λ (t : List ℕ). t ++ 32 ∷ drop (space + 1) rest) (sym h.named) ∙ ap (λ (t : List ℕ). h.context.name ++ 32 ∷ t) spelled) in
+        let text : rest ≡ h.context.name ++ (codes " " ++ rules_text m q.1) = split_at 32 rest space a ∙ (ap (λ (t : List ℕ). t ++ 32 ∷ drop (space + 1) rest) (sym h.named) ∙ ap (λ (t : List ℕ). h.context.name ++ 32 ∷ t) spelled) in
         (((h.context, there), within), text ∙ ap (λ (o : Option Context). name_of_context o ++ (codes " " ++ rules_text m q.1)) (sym there)));
     complete = λ q is. (
         let c = is.0.0 in
@@ -166,25 +169,25 @@ module _ (m : System) (valid : IsValid m) (named : IsNamed m) where
         let name = c.name in
         let rest = name ++ (codes " " ++ rules_text m q.1) in
         let text : name_of_context (slice_get m.contexts q.0) ++ (codes " " ++ rules_text m q.1) ≡ rest = ap (λ (o : Option Context). name_of_context o ++ (codes " " ++ rules_text m q.1)) there in
-        let place : place_of 32 rest ≡ Some (length name) = space_is name (rules_text m q.1) (no_space name (all_word name (name_is_word name (context_named m valid named q.0 c there)))) in
+        let place : place_of 32 rest ≡ Some (length name) = place_is 32 name (rules_text m q.1) (no_space name (all_word name (name_is_word name (context_named m named q.0 c there)))) in
         let front : take (length name) rest ≡ name = take-append_seam name (codes " " ++ rules_text m q.1) in
-        let back : drop (length name + 1) rest ≡ rules_text m q.1 = drop_past name (rules_text m q.1) in
+        let back : drop (length name + 1) rest ≡ rules_text m q.1 = drop_past (length name) rest (32 ∷ []) (rules_text m q.1) (drop-append_seam name (codes " " ++ rules_text m q.1)) in
         let found : context_from name 0 m.contexts ≡ Some q.0 = context_found 0 q.0 m.contexts c (contexts_apart m valid named) there ∙ (let here : 0 + q.0 ≡ q.0 = omega arith in ap (λ (n : ℕ). Some n) here) in
-        ap context_then text
+        ap (context_then m) text
         ∙ (ap (option_and_then (λ space. option_and_then (rules_of_text m (drop (space + 1) rest)) (context_from (take space rest) 0 m.contexts))) place
         ∙ (ap (λ (t : List ℕ). option_and_then (rules_of_text m (drop (length name + 1) rest)) (context_from t 0 m.contexts)) front
         ∙ (ap (option_and_then (rules_of_text m (drop (length name + 1) rest))) found
         ∙ (ap (λ (t : List ℕ). rules_of_text m t q.0) back ∙ (rules_line q.0).complete q (refl, is.1))))));
   }
 
-  question_line : ReadsLine IsQuestion text_of_question (question_of m)
+  question_line : ReadsLine (IsQuestion m) (text_of_question m) (question_of m)
   unfolding question_of question_text
-  question_line = after_line (codes "answer ") IsQuestion (λ q. name_of_context (slice_get m.contexts q.0) ++ (codes " " ++ rules_text m q.1)) context_then context_line
+  question_line = after_line (codes "answer ") (IsQuestion m) (λ q. name_of_context (slice_get m.contexts q.0) ++ (codes " " ++ rules_text m q.1)) (context_then m) context_line
 
   -- one that comes after the last
-  pub next_line : (last : Option (ℕ × ℕ)) → ReadsLine (λ q. IsQuestion q × (comes_after last q ≡ true)) text_of_question (next_question m last)
+  pub next_line : (last : Option (ℕ × ℕ)) → ReadsLine (IsPassing (IsQuestion m) (comes_after last)) (text_of_question m) (next_question m last)
   unfolding next_question
-  next_line last = guarded_line IsQuestion text_of_question (question_of m) question_line (comes_after last)
+  next_line last = guarded_line (IsQuestion m) (text_of_question m) (question_of m) question_line (comes_after last)
 
   -- ---- states
   few_texts : length (variable_texts m) ≤ 64
@@ -218,7 +221,7 @@ module _ (m : System) (valid : IsValid m) (named : IsNamed m) where
           ∙ set_read (variable_texts m) (variables_of m i) σ (variables_tell m valid named) (λ k member. (own_below σ within k member, within k member));
     }
 
-    pub state_line : (last : Option ℕ) → ReadsLine (λ σ. Within σ (variables_of m i) × (state_after last σ ≡ true)) (output_text m) (state_of m (variables_of m i) last)
+    pub state_line : (last : Option ℕ) → ReadsLine (IsPassing (λ σ. Within σ (variables_of m i)) (state_after last)) (output_text m) (state_of m (variables_of m i) last)
     unfolding state_of output_text
     state_line last = guarded_line (λ σ. Within σ (variables_of m i)) (λ σ. codes "state " ++ state_text m σ) (λ line. option_and_then (set_of (variable_texts m) (variables_of m i)) (after (codes "state ") line))
         (after_line (codes "state ") (λ σ. Within σ (variables_of m i)) (state_text m) (set_of (variable_texts m) (variables_of m i)) set_line) (state_after last)

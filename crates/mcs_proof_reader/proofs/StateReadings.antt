@@ -1,7 +1,7 @@
 -- States, as many as come in order, read.
 use Rattle.std.proofs.Common.{◌≡◌, ℕ, ◌+◌, true, List, [], ◌∷◌, ◌++◌, map, length, codes, Option, Some, None, Ok, refl, sym, ap, ◌∙◌, subst, arith}
 use Rattle.std.proofs.lemmas.List.{length-map}
-use Rattle.std.specs.List.{AllByRecursion}
+use Rattle.std.specs.List.{AllByRecursion, last_or}
 use Rattle.std.specs.Option.{option_and_then}
 use Rattle.mcs_sets.specs.Sets.{Within}
 use Rattle.mcs_sets.specs.Orders.{StateBefore}
@@ -15,24 +15,15 @@ use Rattle.mcs_system.specs.Systems.{variables_of}
 use Rattle.mcs_spelling.specs.Words.{after, step_of, set_of, guarded}
 use Rattle.mcs_proof_text.specs.Lines.{output_text}
 use Rattle.mcs_proof_lines.specs.Walks.{At, Reading, head_of}
-use Rattle.mcs_proof_lines.proofs.Readings.{here, IsReadOf, Reads}
-use Rattle.mcs_proof_lines.proofs.ReadingSequences.{AllStop}
+use Rattle.mcs_proof_lines.specs.Readings.{here, IsReadOf, Reads, AllStop, IsOther}
 use Rattle.mcs_proof_reader.specs.Questions.{variable_texts, state_after, state_of, with_state, states_from, states_at}
 use Rattle.mcs_proof_reader.proofs.StateTests.{told_before, is_told}
 use Rattle.mcs_proof_reader.proofs.QuestionReadings.{state_line}
-
--- the line that is next names no state
-abbrev pub IsNoState : List (List ℕ) → Type 0
-IsNoState more = option_and_then (after (codes "state ")) (head_of more) ≡ None
 
 -- states of the variables, each after the one before
 abbrev pub AreStatesAfter : System → ℕ → Option ℕ → List ℕ → Type 0
 AreStatesAfter m i last [] = Unit {0}
 AreStatesAfter m i last (σ ∷ σs) = (Within σ (variables_of m i) × (state_after last σ ≡ true)) × AreStatesAfter m i (Some σ) σs
-
-abbrev last_of : Option ℕ → List ℕ → Option ℕ
-last_of last [] = last
-last_of last (σ ∷ σs) = last_of (Some σ) σs
 
 -- ---- as they are said to be
 to_states : (m : System) (i : ℕ) (last : Option ℕ) (σs : List ℕ) → AreStatesAfter m i last σs → AllByRecursion (λ σ. Within σ (variables_of m i)) σs × IsAscending StateBefore σs × AllByRecursion (λ σ. state_after last σ ≡ true) σs
@@ -64,15 +55,12 @@ module _ (m : System) (valid : IsValid m) (named : IsNamed m) (i : ℕ) where
   abbrev own : ℕ
   own = variables_of m i
 
-  abbrev texts : List ℕ → List (List ℕ)
-  texts σs = map (output_text m) σs
-
   record IsStateRun (last : Option ℕ) (n : ℕ) (rest : List (List ℕ)) (tail : List ℕ) (r : List ℕ × At) : Type 0 where
     pub values : AreStatesAfter m i last r.0
-    pub rest_is : rest ≡ texts r.0 ++ r.1.rest
+    pub rest_is : rest ≡ map (output_text m) r.0 ++ r.1.rest
     pub taken : r.1.taken ≡ n + length r.0
     pub tail_is : r.1.tail ≡ tail
-    pub other : option_and_then (state_of m own (last_of last r.0)) (head_of r.1.rest) ≡ None
+    pub other : option_and_then (state_of m own (last_or last r.0)) (head_of r.1.rest) ≡ None
 
   states_sound : (last : Option ℕ) (n : ℕ) (rest : List (List ℕ)) (tail : List ℕ) → IsStateRun last n rest tail (states_from m own last n rest tail)
   states_sound last n [] tail = record { values = tt; rest_is = refl; taken = omega arith; tail_is = refl; other = refl }
@@ -96,16 +84,16 @@ module _ (m : System) (valid : IsValid m) (named : IsNamed m) (i : ℕ) where
   states_none last n [] tail other = refl
   states_none last n (line ∷ rest) tail other = ap (λ (o : Option ℕ). with_state o (λ σ. states_from m own (Some σ) (n + 1) rest tail) (here n (line ∷ rest) tail)) other
 
-  states_complete : (last : Option ℕ) (σs : List ℕ) (n : ℕ) (more : List (List ℕ)) (tail : List ℕ) → AreStatesAfter m i last σs → option_and_then (state_of m own (last_of last σs)) (head_of more) ≡ None
-      → states_from m own last n (texts σs ++ more) tail ≡ (σs, here (n + length σs) more tail)
+  states_complete : (last : Option ℕ) (σs : List ℕ) (n : ℕ) (more : List (List ℕ)) (tail : List ℕ) → AreStatesAfter m i last σs → option_and_then (state_of m own (last_or last σs)) (head_of more) ≡ None
+      → states_from m own last n (map (output_text m) σs ++ more) tail ≡ (σs, here (n + length σs) more tail)
   states_complete last [] n more tail are other = states_none last n more tail other ∙ (let same : n ≡ n + length {A = ℕ} [] = omega arith in ap (λ (k : ℕ). (let r : List ℕ × At = ([], here k more tail) in r)) same)
   states_complete last (σ ∷ σs) n more tail are other =
       let again = states_complete (Some σ) σs (n + 1) more tail are.1 other in
       let count : n + 1 + length σs ≡ n + length (σ ∷ σs) = omega arith in
-      ap (λ (o : Option ℕ). with_state o (λ τ. states_from m own (Some τ) (n + 1) (texts σs ++ more) tail) (here n (output_text m σ ∷ (texts σs ++ more)) tail)) ((state_line m valid named i last).complete σ are.0)
+      ap (λ (o : Option ℕ). with_state o (λ τ. states_from m own (Some τ) (n + 1) (map (output_text m) σs ++ more) tail) (here n (output_text m σ ∷ (map (output_text m) σs ++ more)) tail)) ((state_line m valid named i last).complete σ are.0)
       ∙ (ap (λ (r : List ℕ × At). (let s : List ℕ × At = (σ ∷ r.0, r.1) in s)) again ∙ ap (λ (k : ℕ). (let s : List ℕ × At = (σ ∷ σs, here k more tail) in s)) count)
 
-  no_next : (last : Option ℕ) (more : List (List ℕ)) → IsNoState more → option_and_then (state_of m own last) (head_of more) ≡ None
+  no_next : (last : Option ℕ) (more : List (List ℕ)) → IsOther (after (codes "state ")) more → option_and_then (state_of m own last) (head_of more) ≡ None
   unfolding state_of
   no_next last [] none = refl
   no_next last (line ∷ more) none = ap (λ (o : Option (List ℕ)). option_and_then (λ σ. guarded (state_after last σ) σ) (option_and_then (set_of (variable_texts m) own) o)) none
@@ -113,31 +101,31 @@ module _ (m : System) (valid : IsValid m) (named : IsNamed m) (i : ℕ) where
   abbrev pub read_states : At → Reading (List ℕ)
   read_states at = Ok (states_at m (variables_of m i) None at)
 
-  long : (σs : List ℕ) → length (texts σs) ≡ length σs
+  long : (σs : List ℕ) → length (map (output_text m) σs) ≡ length σs
   long σs = length-map σs (output_text m)
 
-  read_sound : (at now : At) (σs : List ℕ) → read_states at ≡ Ok (σs, now) → IsReadOf (AreStatesAfter m i None) texts at now σs × (option_and_then (state_of m own (last_of None σs)) (head_of now.rest) ≡ None)
+  read_sound : (at now : At) (σs : List ℕ) → read_states at ≡ Ok (σs, now) → IsReadOf (AreStatesAfter m i None) (map (output_text m)) at now σs × (option_and_then (state_of m own (last_or None σs)) (head_of now.rest) ≡ None)
   unfolding states_at
   read_sound at now σs e =
       let same : ◌≡◌ {A = List ℕ × At} (states_from m own None at.taken at.rest at.tail) (σs, now) = cc in
       let r : IsStateRun None at.taken at.rest at.tail (σs, now) = subst (IsStateRun None at.taken at.rest at.tail) same (states_sound None at.taken at.rest at.tail) in
       (record { is = r.values; rest = r.rest_is; taken = (let t = r.taken in omega (arith, t, long σs)); tail = r.tail_is }, r.other)
 
-  read_complete : (σs : List ℕ) (n : ℕ) (more : List (List ℕ)) (tail : List ℕ) → AreStatesAfter m i None σs → option_and_then (state_of m own (last_of None σs)) (head_of more) ≡ None → read_states (here n (texts σs ++ more) tail) ≡ Ok (σs, here (n + length (texts σs)) more tail)
+  read_complete : (σs : List ℕ) (n : ℕ) (more : List (List ℕ)) (tail : List ℕ) → AreStatesAfter m i None σs → option_and_then (state_of m own (last_or None σs)) (head_of more) ≡ None → read_states (here n (map (output_text m) σs ++ more) tail) ≡ Ok (σs, here (n + length (map (output_text m) σs)) more tail)
   unfolding states_at
   read_complete σs n more tail are other =
-      let count : n + length σs ≡ n + length (texts σs) = omega (arith, long σs) in
+      let count : n + length σs ≡ n + length (map (output_text m) σs) = omega (arith, long σs) in
       ap (λ (r : List ℕ × At). (let s : Reading (List ℕ) = Ok r in s)) (states_complete None σs n more tail are other) ∙ ap (λ (k : ℕ). (let s : Reading (List ℕ) = Ok (σs, here k more tail) in s)) count
 
-  pub reads_states : Reads (AreStatesAfter m i None) (map (output_text m)) IsNoState read_states
+  pub reads_states : Reads (AreStatesAfter m i None) (map (output_text m)) (IsOther (after (codes "state "))) read_states
   reads_states = record {
     sound = λ at now σs e. (read_sound at now σs e).0;
-    complete = λ σs n more tail are none. read_complete σs n more tail are (no_next (last_of None σs) more none);
+    complete = λ σs n more tail are none. read_complete σs n more tail are (no_next (last_or None σs) more none);
     fault = λ at n e. absurd (cc);
     local = λ at k rest tail e less front. absurd (cc);
     stable = λ at now σs rest tail e next. (
         let (r, other) = read_sound at now σs e in
-        read_complete σs at.taken rest tail r.is (ap (option_and_then (state_of m own (last_of None σs))) next ∙ other) ∙ ap (λ (k : ℕ). (let s : Reading (List ℕ) = Ok (σs, here k rest tail) in s)) (sym r.taken));
+        read_complete σs at.taken rest tail r.is (ap (option_and_then (state_of m own (last_or None σs))) next ∙ other) ∙ ap (λ (k : ℕ). (let s : Reading (List ℕ) = Ok (σs, here k rest tail) in s)) (sym r.taken));
   }
 
   pub states_stop : AllStop (AreStatesAfter m i None) (map (output_text m))

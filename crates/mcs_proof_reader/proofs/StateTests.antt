@@ -10,21 +10,11 @@ use Rattle.mcs_base.specs.Listings.{IsAmong, IsAscending}
 use Rattle.mcs_base.proofs.Each.{all_among}
 use Rattle.mcs_base.proofs.ListingLemmas.{members_listing}
 use Rattle.mcs_proof_reader.specs.Questions.{first_of, is_before}
+use Rattle.std.proofs.lemmas.Bool.Decides.{nat_tests}
 
 module _ (a b : ℕ) where
   abbrev differ : ℕ
   differ = bit_xor a b
-
-  same_at : (v w : Bool) → cond v (not w) w ≡ false → v ≡ w
-  same_at true true e = refl
-  same_at true false e = absurd (true≢false e)
-  same_at false true e = absurd (true≢false e)
-  same_at false false e = refl
-
-  other_at : (v w : Bool) → cond v (not w) w ≡ true → v ≡ true → w ≡ false
-  other_at true true e is = absurd (true≢false (sym e))
-  other_at true false e is = refl
-  other_at false w e is = absurd (true≢false (sym is))
 
   first_least : (k : ℕ) (ks : List ℕ) → members differ ≡ k ∷ ks → IsLeast differ k
   first_least k ks e =
@@ -48,8 +38,8 @@ module _ (a b : ℕ) where
       record {
         at = k;
         in_first = is;
-        not_in_second = other_at (has a k) (has b k) (sym (has-differ a b k) ∙ least.in_set) is;
-        same_below = λ j less. same_at (has a j) (has b j) (sym (has-differ a b j) ∙ least.none_below j less);
+        not_in_second = (let e : cond (has a k) (not (has b k)) (has b k) ≡ true = sym (has-differ a b k) ∙ least.in_set in grind (arith, nat_tests));
+        same_below = λ j less. (let e : cond (has a j) (not (has b j)) (has b j) ≡ false = sym (has-differ a b j) ∙ least.none_below j less in grind (arith, nat_tests));
       }
 
   pub told_before : is_before a b ≡ true → StateBefore a b

@@ -102,47 +102,45 @@ module _ (m : System) where
   none_left last n [] tail few = refl
   none_left last n (line ∷ rest) tail few = absurd (omega (arith, few))
 
-  pub answers_end : {X : Type 0} (f : X → Answer) (old : List X) (n : ℕ) (last : Option (ℕ × ℕ)) (at : At) (goal : Reading (List Answer)) → is_next end_word at ≡ true
-      → after_front (map f old) (answers_at m n last at) ≡ goal → goal ≡ Ok (map f old, at)
-  answers_end f old n last at goal e known = sym known ∙ (ap (after_front (map f old)) (stops n last at e) ∙ ap (λ (xs : List Answer). Ok (xs, at)) (append-nil (map f old)))
+  pub answers_end : (old : List Answer) (n : ℕ) (last : Option (ℕ × ℕ)) (at : At) (goal : Reading (List Answer)) → is_next end_word at ≡ true → after_front old (answers_at m n last at) ≡ goal → goal ≡ Ok (old, at)
+  answers_end old n last at goal e known = sym known ∙ (ap (after_front old) (stops n last at e) ∙ ap (λ (xs : List Answer). Ok (xs, at)) (append-nil old))
 
-  pub answers_pushed : {X : Type 0} (f : X → Answer) (old new : List X) (y : X) (n : ℕ) (last : Option (ℕ × ℕ)) (at now : At) (goal : Reading (List Answer)) → is_next end_word at ≡ false
-      → new ≡ old ++ y ∷ [] → answer_at m last at ≡ Ok (f y, now) → after_front (map f old) (answers_at m (suc n) last at) ≡ goal
-      → after_front (map f new) (answers_at m n (Some (question_in (f y))) now) ≡ goal
-  answers_pushed f old new y n last at now goal test items e known =
-      let pushed : map f new ≡ map f old ++ f y ∷ [] = ap (map f) items ∙ map-append f old (y ∷ []) in
-      ap (λ (xs : List Answer). after_front xs (answers_at m n (Some (question_in (f y))) now)) pushed
-      ∙ (pushed_front (map f old) (f y) (answers_at m n (Some (question_in (f y))) now)
-      ∙ (ap (λ (r : Reading Answer). after_front (map f old) (one_then n r)) (sym e) ∙ (ap (after_front (map f old)) (sym (goes_on n last at test)) ∙ known)))
+  pub answers_pushed : (old new : List Answer) (y : Answer) (n : ℕ) (last : Option (ℕ × ℕ)) (at now : At) (goal : Reading (List Answer)) → is_next end_word at ≡ false
+      → new ≡ old ++ y ∷ [] → answer_at m last at ≡ Ok (y, now) → after_front old (answers_at m (suc n) last at) ≡ goal
+      → after_front new (answers_at m n (Some (question_in y)) now) ≡ goal
+  answers_pushed old new y n last at now goal test items e known =
+      ap (λ (xs : List Answer). after_front xs (answers_at m n (Some (question_in y)) now)) items
+      ∙ (pushed_front old y (answers_at m n (Some (question_in y)) now)
+      ∙ (ap (λ (r : Reading Answer). after_front old (one_then n r)) (sym e) ∙ (ap (after_front old) (sym (goes_on n last at test)) ∙ known)))
 
-  failed : {X : Type 0} (f : X → Answer) (old : List X) (n k : ℕ) (last : Option (ℕ × ℕ)) (at : At) (goal : Reading (List Answer)) → is_next end_word at ≡ false → length at.rest ≤ n
-      → answer_at m last at ≡ Err k → after_front (map f old) (answers_at m n last at) ≡ goal → goal ≡ Err k
-  failed f old zero k last at goal test few e known =
+  failed : (old : List Answer) (n k : ℕ) (last : Option (ℕ × ℕ)) (at : At) (goal : Reading (List Answer)) → is_next end_word at ≡ false → length at.rest ≤ n
+      → answer_at m last at ≡ Err k → after_front old (answers_at m n last at) ≡ goal → goal ≡ Err k
+  failed old zero k last at goal test few e known =
       let same : ◌≡◌ {A = Reading Answer} (fault_at at) (Err k) = sym (none_left last at.taken at.rest at.tail few) ∙ e in
       let number : at.taken + 1 ≡ k = cc in
-      sym known ∙ (ap (λ (b : Bool). after_front (map f old) (cond b (Ok ([], at)) (fault_at at))) test ∙ ap (λ (j : ℕ). (let r : Reading (List Answer) = Err j in r)) number)
-  failed f old (suc n) k last at goal test few e known = sym known ∙ (ap (after_front (map f old)) (goes_on n last at test) ∙ ap (λ (r : Reading Answer). after_front (map f old) (one_then n r)) e)
+      sym known ∙ (ap (λ (b : Bool). after_front old (cond b (Ok ([], at)) (fault_at at))) test ∙ ap (λ (j : ℕ). (let r : Reading (List Answer) = Err j in r)) number)
+  failed old (suc n) k last at goal test few e known = sym known ∙ (ap (after_front old) (goes_on n last at test) ∙ ap (λ (r : Reading Answer). after_front old (one_then n r)) e)
 
-  pub answers_failed : {X : Type 0} (f : X → Answer) (old : List X) (n : ℕ) (last : Option (ℕ × ℕ)) (at : At) (fault : ReportFault) (goal : Reading (List Answer)) → is_next end_word at ≡ false → length at.rest ≤ n
-      → Tells fault (answer_at m last at) → after_front (map f old) (answers_at m n last at) ≡ goal → Tells fault goal
-  answers_failed f old n last at faults.Memory goal test few e known = tt
-  answers_failed f old n last at (faults.Grammar k) goal test few e known = failed f old n k last at goal test few e known
+  pub answers_failed : (old : List Answer) (n : ℕ) (last : Option (ℕ × ℕ)) (at : At) (fault : ReportFault) (goal : Reading (List Answer)) → is_next end_word at ≡ false → length at.rest ≤ n
+      → Tells fault (answer_at m last at) → after_front old (answers_at m n last at) ≡ goal → Tells fault goal
+  answers_failed old n last at faults.Memory goal test few e known = tt
+  answers_failed old n last at (faults.Grammar k) goal test few e known = failed old n k last at goal test few e known
 
   front_none : (r : Reading (List Answer)) → after_front [] r ≡ r
   front_none (Ok r) = refl
   front_none (Err k) = refl
 
   -- none so far
-  pub answers_begin : {X : Type 0} (f : X → Answer) (none : List X) (n : ℕ) (at : At) → none ≡ [] → after_front (map f none) (answers_at m (n - length none) None at) ≡ answers_at m n None at
-  answers_begin {X = X} f none n at is =
-      let same : n - length {A = X} [] ≡ n = omega arith in
-      ap (λ (xs : List X). after_front (map f xs) (answers_at m (n - length xs) None at)) is ∙ (ap (λ (k : ℕ). after_front [] (answers_at m k None at)) same ∙ front_none (answers_at m n None at))
+  pub answers_begin : (n : ℕ) (at : At) → after_front [] (answers_at m (n - 0) None at) ≡ answers_at m n None at
+  answers_begin n at =
+      let same : n - 0 ≡ n = omega arith in
+      ap (λ (k : ℕ). after_front [] (answers_at m k None at)) same ∙ front_none (answers_at m n None at)
 
   -- one more
-  pub answers_go_on : {X : Type 0} (f : X → Answer) (old new : List X) (y : X) (n : ℕ) (last : Option (ℕ × ℕ)) (at now : At) (goal : Reading (List Answer)) → is_next end_word at ≡ false
-      → new ≡ old ++ y ∷ [] → length old < n → answer_at m last at ≡ Ok (f y, now) → after_front (map f old) (answers_at m (n - length old) last at) ≡ goal
-      → after_front (map f new) (answers_at m (n - length new) (Some (question_in (f y))) now) ≡ goal
-  answers_go_on f old new y n last at now goal test items less e known =
+  pub answers_go_on : (old new : List Answer) (y : Answer) (n : ℕ) (last : Option (ℕ × ℕ)) (at now : At) (goal : Reading (List Answer)) → is_next end_word at ≡ false
+      → new ≡ old ++ y ∷ [] → length old < n → answer_at m last at ≡ Ok (y, now) → after_front old (answers_at m (n - length old) last at) ≡ goal
+      → after_front new (answers_at m (n - length new) (Some (question_in y)) now) ≡ goal
+  answers_go_on old new y n last at now goal test items less e known =
       let long : length new ≡ length old + 1 = ap length items ∙ length-append old (y ∷ []) in
       let more : n - length old ≡ suc (n - length new) = omega (arith, long, less) in
-      answers_pushed f old new y (n - length new) last at now goal test items e (ap (λ (k : ℕ). after_front (map f old) (answers_at m k last at)) (sym more) ∙ known)
+      answers_pushed old new y (n - length new) last at now goal test items e (ap (λ (k : ℕ). after_front old (answers_at m k last at)) (sym more) ∙ known)

@@ -5,14 +5,14 @@ use Rattle.std.proofs.lemmas.Bool.Decides.{nat_tests}
 use Rattle.std.proofs.lemmas.List.{length-map, map-append, length-append}
 use Rattle.std.proofs.lemmas.Option.{cond_some, same_Some, slice_get-map, slice_get_within, get_or_from_slice_get}
 use Rattle.std.specs.Fmt.{decimal}
-use Rattle.std.specs.List.{AllByRecursion, AllZip, flat_map}
+use Rattle.std.specs.List.{AllByRecursion, AllZip, flat_map, range_with_len}
 use Rattle.std.specs.Option.{option_and_then, option_map, option_map_or}
 use Rattle.mcs_sets.specs.Sets.{has, members, members_from, minus, size, Within}
 use Rattle.mcs_sets.proofs.SetLemmas.{has-minus, has-such_that, members-width, members_below, same_set}
 use Rattle.mcs_sets.proofs.Lattice.{below_from_members}
 use Rattle.mcs_base.proofs.ListingLemmas.{members_all_below}
 use Rattle.mcs_base.proofs.Lists.{slice_get_below}
-use Rattle.mcs_base.proofs.Each.{all_weaker}
+use Rattle.mcs_base.proofs.Each.{all_weaker, all_from_among}
 use Rattle.mcs_system.specs.Plain.{Name, Default, Item, Not}
 use Rattle.mcs_cnf.specs.Entailments.{Entailment}
 use Rattle.mcs_evidence.specs.Defaults.{Absence, Unsupported, Blocked, Verdict, Fails, Applied, Ungrounded, Extension, defaults_of, numbered_default, all_defaults, negated_justs, defaults_at}
@@ -24,14 +24,16 @@ use Rattle.mcs_proof_text.specs.Answers.{entailment_lines, all_entailment_lines,
 use Rattle.mcs_proof_text.specs.Shapes.{IsYes, IsNo, IsEither, AreMany, IsDefaultNumber, IsAbsenceOf, just_count, IsAppliedShape, IsExtensionShape, IsVerdict, AreVerdicts}
 use Rattle.mcs_proof_lines.specs.Walks.{At, Reading, ◌>>=◌, head_of, line_at, taken_at, advanced, fault_at, made, many_at, each_at, number_after, no_at, yes_at, entailment_at, absence_at, absence_of_place}
 use Rattle.mcs_proof_lines.specs.Verdicts.{Terms, all_places, defaults_of_line, order_of, just_total, extension_at, applied_at, ungrounded_at, or_extension, or_ungrounded, or_applied, verdict_at, set_at, sets_from, verdicts_at}
-use Rattle.mcs_proof_lines.proofs.Readings.{here, Stops, Anything, Reads, ReadsLine, one_line, picked, reads_line, reads_same}
-use Rattle.mcs_proof_lines.proofs.ReadingSequences.{both, paired, Image, AreBoth, both_lines, reads_made, reads_both, AllStop, both_stop, IsEitherOf, chosen_at, reads_chosen}
-use Rattle.mcs_proof_lines.proofs.ReadingLists.{Begin, read_onto, each_lines, each_stop, reads_each}
-use Rattle.mcs_proof_lines.proofs.NumberReadings.{IsUpTo, number_after_line}
+use Rattle.mcs_proof_lines.specs.Readings.{here, Stops, Anything, Reads, ReadsLine, one_line, Image, AreBoth, both_lines, AllStop, IsEitherOf, Begin, each_lines, IsUpTo}
+use Rattle.mcs_proof_lines.proofs.Readings.{picked, reads_line, reads_same}
+use Rattle.mcs_proof_lines.proofs.ReadingSequences.{both, paired, reads_made, reads_both, both_stop, chosen_at, reads_chosen}
+use Rattle.mcs_proof_lines.proofs.ReadingLists.{read_onto, each_stop, reads_each}
+use Rattle.mcs_proof_lines.proofs.NumberReadings.{number_after_line}
 use Rattle.mcs_proof_reader.proofs.EvidenceReadings.{told, told_all, reads_no, reads_yes, reads_either, some_no, some_yes, some_either, yes_begins, no_begins, either_begins, reads_several}
-use Rattle.mcs_proof_reader.proofs.AbsenceReadings.{justs_in, numbered, made_paired, IsAbsenceFor, reads_absence, absence_begins}
+use Rattle.mcs_proof_reader.proofs.AbsenceReadings.{justs_in, numbered, made_paired, IsAbsenceFor, reads_absence, absence_begins, counted_justs}
 use Rattle.mcs_proof_reader.specs.Questions.{ten}
 use Rattle.mcs_proof_reader.proofs.DefaultLines.{set_below, set_within, in_all, all_in, outside_all, defaults_line, order_line}
+use Rattle.mcs_base.proofs.Among.{range_among}
 
 -- ---- several that may be none
 all_stop : (names : List Name) (Is : Entailment → Type 0) (begin : Begin Is (told names entailment_lines)) (n : ℕ) → AllStop (AreMany Is n) (told names all_entailment_lines)
@@ -61,20 +63,10 @@ total_is all set k (d ∷ ds) known =
     at false rest first = rest
 
 -- ---- the sets from number k on
-abbrev pub numbers_from : ℕ → ℕ → List ℕ
-numbers_from k zero = []
-numbers_from k (suc n) = k ∷ numbers_from (k + 1) n
-
-abbrev as_option : {A : Type 0} → Option A → Bool
-as_option o = is_some o
-
 -- ---- where the atoms have these names, and the defaults these numbers of justifications
 module _ (names : List Name) (few : length names ≤ 64) (tells : AreTellable names) (items : List Item) (justs : List ℕ) (justs_are : justs ≡ map justs_in (defaults_of items)) (few_defaults : length justs ≤ 10) (beliefs : ℕ) where
   abbrev terms : Terms
   terms = record { atoms = names; numbers = ten; justs = justs; beliefs = beliefs }
-
-  count : length justs ≡ length (defaults_of items)
-  count = ap length justs_are ∙ length-map (defaults_of items) justs_in
 
   just_at : (k : ℕ) (d : Default) → slice_get (defaults_of items) k ≡ Some d → slice_index justs k ≡ length d.justs
   just_at k d e = ap (λ (js : List ℕ). slice_index js k) justs_are ∙ get_or_from_slice_get (map justs_in (defaults_of items)) k (length d.justs) 0 (slice_get-map justs_in (defaults_of items) k ∙ ap (option_map justs_in) e)
@@ -103,14 +95,11 @@ module _ (names : List Name) (few : length names ≤ 64) (tells : AreTellable na
   abbrev as_applied : ℕ × (Entailment × List Entailment) → Verdict
   as_applied npj = Applied npj.0 npj.1.0 npj.1.1
 
-  abbrev applied_of : List ℕ → Option ℕ
-  applied_of = number_after (codes "applied ") (length justs)
-
   abbrev IsAppliedParts : Verdict → Type 0
   IsAppliedParts = Image as_applied (AreBoth (IsUpTo (length justs)) (λ n. AreBoth IsYes (λ pre. AreMany (IsNo names) (slice_index justs (n - 1)))))
 
   abbrev read_applied : At → Reading Verdict
-  read_applied at = made as_applied (both (λ n mid. both (λ pre. many_at (no_at names) (slice_index justs (n - 1))) (yes_at mid)) (picked applied_of at))
+  read_applied at = made as_applied (both (λ n mid. both (λ pre. many_at (no_at names) (slice_index justs (n - 1))) (yes_at mid)) (picked (number_after (codes "applied ") (length justs)) at))
 
   applied_told : (npj : ℕ × (Entailment × List Entailment)) → both_lines (one_line (λ n. codes "applied " ++ decimal n)) (λ n. both_lines (told names entailment_lines) (λ pre. no_lines)) npj ≡ told names verdict_lines (as_applied npj)
   unfolding line_text
@@ -118,8 +107,8 @@ module _ (names : List Name) (few : length names ≤ 64) (tells : AreTellable na
 
   reads_applied : Reads IsAppliedParts (told names verdict_lines) Stops read_applied
   reads_applied =
-      let line = reads_line (IsUpTo (length justs)) (λ n. codes "applied " ++ decimal n) applied_of (number_after_line (codes "applied ") (length justs)) in
-      let pair = reads_both (IsUpTo (length justs)) _ Anything (picked applied_of) (λ n. AreBoth IsYes (λ pre. AreMany (IsNo names) (slice_index justs (n - 1)))) (λ n. both_lines (told names entailment_lines) (λ pre. no_lines)) Stops
+      let line = reads_line (IsUpTo (length justs)) (λ n. codes "applied " ++ decimal n) (number_after (codes "applied ") (length justs)) (number_after_line (codes "applied ") (length justs)) in
+      let pair = reads_both (IsUpTo (length justs)) _ Anything (picked (number_after (codes "applied ") (length justs))) (λ n. AreBoth IsYes (λ pre. AreMany (IsNo names) (slice_index justs (n - 1)))) (λ n. both_lines (told names entailment_lines) (λ pre. no_lines)) Stops
       (λ n mid. both (λ pre. many_at (no_at names) (slice_index justs (n - 1))) (yes_at mid)) line (λ n is. applied_rest n)
       (λ n is. (((some_yes names few tells).0, (some_many (IsNo names) (some_no names few tells) (slice_index justs (n - 1))).0), ((some_yes names few tells).1, (some_many (IsNo names) (some_no names few tells) (slice_index justs (n - 1))).1))) (λ n pj more is known end. tt) in
       reads_made _ _ Stops _ as_applied (told names verdict_lines) pair (λ npj is. applied_told npj)
@@ -139,7 +128,7 @@ module _ (names : List Name) (few : length names ≤ 64) (tells : AreTellable na
     read_ungrounded at = made as_ungrounded (both (λ closed. many_at (no_at names) (size (minus set closed))) (picked ungrounded_of at))
 
     ungrounded_line : ReadsLine (λ closed. Within closed (all_defaults items)) (λ closed. codes "ungrounded " ++ defaults_text closed) ungrounded_of
-    ungrounded_line = defaults_line items justs count few_defaults terms refl refl (codes "ungrounded ")
+    ungrounded_line = defaults_line items justs (counted_justs items justs justs_are) few_defaults terms refl refl (codes "ungrounded ")
 
     ungrounded_told : (ce : ℕ × List Entailment) → both_lines (one_line (λ closed. codes "ungrounded " ++ defaults_text closed)) (λ closed. no_lines) ce ≡ told names verdict_lines (as_ungrounded ce)
     unfolding line_text
@@ -168,10 +157,10 @@ module _ (names : List Name) (few : length names ≤ 64) (tells : AreTellable na
     some_outside : (k : ℕ) → k < length justs → (a : Absence) × IsOutside k a
     some_outside k less =
         let (e, is) = some_no names few tells in
-        (Unsupported (k + 1) e, (((omega arith, (let c = count in omega (arith, less, c))), is), (grind (arith, nat_tests))))
+        (Unsupported (k + 1) e, (((omega arith, (let c = counted_justs items justs justs_are in omega (arith, less, c))), is), (grind (arith, nat_tests))))
 
     places_below : minus (all_places terms) set < 2 ^ length justs
-    places_below = below_from_members (length justs) (minus (all_places terms) set) (λ k member. in_all items justs count few_defaults k (first_part k member))
+    places_below = below_from_members (length justs) (minus (all_places terms) set) (λ k member. in_all items justs (counted_justs items justs justs_are) few_defaults k (first_part k member))
       where
         first_part : (k : ℕ) → has (minus (all_places terms) set) k ≡ true → has (all_places terms) k ≡ true
         first_part k member = (and_parts (has (all_places terms) k) (not (has set k)) (sym (has-minus (all_places terms) set k) ∙ member)).0
@@ -298,7 +287,7 @@ module _ (names : List Name) (few : length names ≤ 64) (tells : AreTellable na
 
     -- ---- which of these the line asks for
     abbrev test_applied : Option (List ℕ) → Bool
-    test_applied o = is_some (option_and_then applied_of o)
+    test_applied o = is_some (option_and_then (number_after (codes "applied ") (length justs)) o)
 
     abbrev test_ungrounded : Option (List ℕ) → Bool
     test_ungrounded o = is_some (option_and_then ungrounded_of o)
@@ -425,13 +414,13 @@ module _ (names : List Name) (few : length names ≤ 64) (tells : AreTellable na
 
     verdict_same : (at : At) → any_verdict at ≡ verdict_at terms set at
     unfolding verdict_at
-    verdict_same at = by_applied at (line_at applied_of at)
+    verdict_same at = by_applied at (line_at (number_after (codes "applied ") (length justs)) at)
 
     -- in its words
     to_applied : (n : ℕ) (pre : Entailment) (js : List Entailment) → IsUpTo (length justs) n → IsYes pre → AreMany (IsNo names) (slice_index justs (n - 1)) js → IsAppliedShape names items n pre js
     to_applied n pre js (small, low) follows are =
         let some = small.0 in
-        let c = count in
+        let c = counted_justs items justs justs_are in
         let most : n ≤ length justs = grind (arith, nat_tests) in
         let (d, there) = slice_get_below (defaults_of items) (n - 1) (omega (arith, some, most, c)) in
         record { default = d; is_it = numbered items n some ∙ there; supported = follows; allowed = subst (λ (m : ℕ). AreMany (IsNo names) m js) (just_at (n - 1) d there) are }
@@ -441,7 +430,7 @@ module _ (names : List Name) (few : length names ≤ 64) (tells : AreTellable na
         let some : 0 < n = from_some n h.default h.is_it in
         let there : slice_get (defaults_of items) (n - 1) ≡ Some h.default = sym (numbered items n some) ∙ h.is_it in
         let within = slice_get_within (defaults_of items) (n - 1) h.default there in
-        let c = count in
+        let c = counted_justs items justs justs_are in
         let most : n ≤ length justs = omega (arith, some, within, c) in
         let test : nat_le n (length justs) ≡ true = grind (arith, nat_tests) in
         ((((some, omega (arith, most, few_defaults)), test)), (h.supported, subst (λ (m : ℕ). AreMany (IsNo names) m js) (sym (just_at (n - 1) h.default there)) h.allowed))
@@ -456,30 +445,30 @@ module _ (names : List Name) (few : length names ≤ 64) (tells : AreTellable na
         by : (k : ℕ) (b : Bool) → nat_lt k (length justs) ≡ b → has (all_places terms) k ≡ has (all_defaults items) k
         by k true e =
             let less : k < length justs = grind (arith, nat_tests) in
-            let c = count in
+            let c = counted_justs items justs justs_are in
             let below : k < length (defaults_of items) = omega (arith, less, c) in
             let test : ltb k (length (defaults_of items)) ≡ true = grind (arith, nat_tests) in
-            all_in items justs count few_defaults k less ∙ sym (has-such_that (length (defaults_of items)) (λ j. true) k ∙ rw test refl)
+            all_in items justs (counted_justs items justs justs_are) few_defaults k less ∙ sym (has-such_that (length (defaults_of items)) (λ j. true) k ∙ rw test refl)
         by k false e =
             let past : length justs ≤ k = grind (arith, nat_tests) in
-            let c = count in
+            let c = counted_justs items justs justs_are in
             let above : length (defaults_of items) ≤ k = omega (arith, past, c) in
             let test : ltb k (length (defaults_of items)) ≡ false = grind (arith, nat_tests) in
-            outside_all items justs count few_defaults k past ∙ sym (has-such_that (length (defaults_of items)) (λ j. true) k ∙ rw test refl)
+            outside_all items justs (counted_justs items justs justs_are) few_defaults k past ∙ sym (has-such_that (length (defaults_of items)) (λ j. true) k ∙ rw test refl)
 
     module _ (within : Within set (all_defaults items)) where
       total_same : total ≡ just_count items set
       total_same =
-          let c = count in
-          let small : set < 2 ^ length (defaults_of items) = below_from_members (length (defaults_of items)) set (λ k member. (let b = set_below items justs count few_defaults set within k member in omega (arith, b, c))) in
+          let c = counted_justs items justs justs_are in
+          let small : set < 2 ^ length (defaults_of items) = below_from_members (length (defaults_of items)) set (λ k member. (let b = set_below items justs (counted_justs items justs justs_are) few_defaults set within k member in omega (arith, b, c))) in
           ap (just_total justs) (members-width set (length (defaults_of items)) small)
           ∙ total_is justs set 0 (defaults_of items) (λ j d e. (let here : 0 + j ≡ j = omega arith in ap (slice_index justs) here ∙ just_at j d e))
 
       to_number : (n : ℕ) → IsUpTo (length justs) n → IsDefaultNumber items n
-      to_number n (small, low) = let c = count in let most : n ≤ length justs = grind (arith, nat_tests) in (small.0, omega (arith, most, c))
+      to_number n (small, low) = let c = counted_justs items justs justs_are in let most : n ≤ length justs = grind (arith, nat_tests) in (small.0, omega (arith, most, c))
 
       from_number : (n : ℕ) → IsDefaultNumber items n → IsUpTo (length justs) n
-      from_number n (some, most) = let c = count in let low : n ≤ length justs = omega (arith, most, c) in ((some, omega (arith, low, few_defaults)), (grind (arith, nat_tests)))
+      from_number n (some, most) = let c = counted_justs items justs justs_are in let low : n ≤ length justs = omega (arith, most, c) in ((some, omega (arith, low, few_defaults)), (grind (arith, nat_tests)))
 
       to_outside : (k : ℕ) (a : Absence) → IsOutside k a → IsAbsenceOf names items k a
       to_outside k a (is, named) = ((grind (arith, nat_tests)), is)
@@ -547,7 +536,7 @@ module _ (names : List Name) (few : length names ≤ 64) (tells : AreTellable na
 
       mark_line : ReadsLine (λ u. Unit {0}) (λ u. codes "set " ++ defaults_text set) mark
       mark_line =
-          let line = defaults_line items justs count few_defaults terms refl refl (codes "set ") in
+          let line = defaults_line items justs (counted_justs items justs justs_are) few_defaults terms refl refl (codes "set ") in
           record {
             sound = λ l u e. (
                 let (s, was, e1) = bound (λ s. guarded (nat_eq set s) tt) (set_of_line l) u e in
@@ -593,17 +582,13 @@ module _ (names : List Name) (few : length names ≤ 64) (tells : AreTellable na
 
   -- ---- all sets of defaults
   below_within : (set : ℕ) → set < 2 ^ length justs → Within set (all_defaults items)
-  below_within set small = set_within items justs count few_defaults set (λ k member. members_below set (length justs) k small member)
+  below_within set small = set_within items justs (counted_justs items justs justs_are) few_defaults set (λ k member. members_below set (length justs) k small member)
 
   set_begins : (k : ℕ) → Begin (IsVerdict names items beliefs k) (told names (λ v. SetLine k ∷ verdict_lines v))
   unfolding line_text step_of after
   set_begins k v rest is = refl
 
-  numbers_below : (k n m : ℕ) → k + n ≤ m → AllByRecursion (λ j. j < m) (numbers_from k n)
-  numbers_below k zero m less = tt
-  numbers_below k (suc n) m less = (omega (arith, less), numbers_below (k + 1) n m (omega (arith, less)))
-
-  zip_to : (R : ℕ → Verdict → Type 0) (k n : ℕ) (vs : List Verdict) → AllZip R (numbers_from k n) vs → (length vs ≡ n) × ((j : ℕ) (v : Verdict) → slice_get vs j ≡ Some v → R (k + j) v)
+  zip_to : (R : ℕ → Verdict → Type 0) (k n : ℕ) (vs : List Verdict) → AllZip R (range_with_len k n) vs → (length vs ≡ n) × ((j : ℕ) (v : Verdict) → slice_get vs j ≡ Some v → R (k + j) v)
   zip_to R k zero [] are = (refl, λ j v e. absurd (cc))
   zip_to R k zero (v ∷ vs) are = absurd are
   zip_to R k (suc n) [] are = absurd are
@@ -613,7 +598,7 @@ module _ (names : List Name) (few : length names ≤ 64) (tells : AreTellable na
       at zero w e each = let here_is : k ≡ k + 0 = omega arith in let same : v ≡ w = same_Some v w e in subst (λ (i : ℕ). R i w) here_is (subst (R k) same are.0)
       at (suc j) w e each = let next : k + 1 + j ≡ k + suc j = omega arith in subst (λ (i : ℕ). R i w) next (each j w e)
 
-  zip_from : (R : ℕ → Verdict → Type 0) (k n : ℕ) (vs : List Verdict) → length vs ≡ n → ((j : ℕ) (v : Verdict) → slice_get vs j ≡ Some v → R (k + j) v) → AllZip R (numbers_from k n) vs
+  zip_from : (R : ℕ → Verdict → Type 0) (k n : ℕ) (vs : List Verdict) → length vs ≡ n → ((j : ℕ) (v : Verdict) → slice_get vs j ≡ Some v → R (k + j) v) → AllZip R (range_with_len k n) vs
   zip_from R k zero [] long each = tt
   zip_from R k zero (v ∷ vs) long each = absurd (omega (arith, long))
   zip_from R k (suc n) [] long each = absurd (omega (arith, long))
@@ -628,35 +613,35 @@ module _ (names : List Name) (few : length names ≤ 64) (tells : AreTellable na
   abbrev each_set : ℕ → Verdict → List (List ℕ)
   each_set k = told names (λ v. SetLine k ∷ verdict_lines v)
 
-  sets_told : (k n : ℕ) (vs : List Verdict) → AllZip IsOf (numbers_from k n) vs → each_lines each_set (numbers_from k n) vs ≡ told names (set_lines k) vs
+  sets_told : (k n : ℕ) (vs : List Verdict) → AllZip IsOf (range_with_len k n) vs → each_lines each_set (range_with_len k n) vs ≡ told names (set_lines k) vs
   sets_told k zero [] are = refl
   sets_told k zero (v ∷ vs) are = absurd are
   sets_told k (suc n) [] are = absurd are
   sets_told k (suc n) (v ∷ vs) are =
       ap (λ (ls : List (List ℕ)). each_set k v ++ ls) (sets_told (k + 1) n vs are.1) ∙ ap (λ (ls : List (List ℕ)). line_text names (SetLine k) ∷ ls) (sym (map-append (line_text names) (verdict_lines v) (set_lines (k + 1) vs)))
 
-  sets_same : (k n : ℕ) (at : At) → each_at (set_at terms) (numbers_from k n) at ≡ sets_from terms k n at
+  sets_same : (k n : ℕ) (at : At) → each_at (set_at terms) (range_with_len k n) at ≡ sets_from terms k n at
   sets_same k zero at = refl
   sets_same k (suc n) at = by (set_at terms k at) (sets_same (k + 1) n)
     where
-      by : (r : Reading Verdict) → ((mid : At) → each_at (set_at terms) (numbers_from (k + 1) n) mid ≡ sets_from terms (k + 1) n mid)
-          → read_onto r (each_at (set_at terms) (numbers_from (k + 1) n)) ≡ read_onto r (sets_from terms (k + 1) n)
+      by : (r : Reading Verdict) → ((mid : At) → each_at (set_at terms) (range_with_len (k + 1) n) mid ≡ sets_from terms (k + 1) n mid)
+          → read_onto r (each_at (set_at terms) (range_with_len (k + 1) n)) ≡ read_onto r (sets_from terms (k + 1) n)
       by (Ok r) again = ap (λ (s : Reading (List Verdict)). s >>= λ others. Ok (r.0 ∷ others.0, others.1)) (again r.1)
       by (Err m) again = refl
 
-  to_verdicts : (vs : List Verdict) → AllZip IsOf (numbers_from 0 (2 ^ length justs)) vs → AreVerdicts names items beliefs vs
+  to_verdicts : (vs : List Verdict) → AllZip IsOf (range_with_len 0 (2 ^ length justs)) vs → AreVerdicts names items beliefs vs
   to_verdicts vs are =
       let (long, each) = zip_to IsOf 0 (2 ^ length justs) vs are in
-      record { one_each = long ∙ ap (λ (n : ℕ). 2 ^ n) count; each = λ set v e. (let here_is : 0 + set ≡ set = omega arith in subst (λ (i : ℕ). IsOf i v) here_is (each set v e)) }
+      record { one_each = long ∙ ap (λ (n : ℕ). 2 ^ n) (counted_justs items justs justs_are); each = λ set v e. (let here_is : 0 + set ≡ set = omega arith in subst (λ (i : ℕ). IsOf i v) here_is (each set v e)) }
 
-  from_verdicts : (vs : List Verdict) → AreVerdicts names items beliefs vs → AllZip IsOf (numbers_from 0 (2 ^ length justs)) vs
-  from_verdicts vs h = zip_from IsOf 0 (2 ^ length justs) vs (h.one_each ∙ ap (λ (n : ℕ). 2 ^ n) (sym count)) (λ j v e. (let here_is : j ≡ 0 + j = omega arith in subst (λ (i : ℕ). IsOf i v) here_is (h.each j v e)))
+  from_verdicts : (vs : List Verdict) → AreVerdicts names items beliefs vs → AllZip IsOf (range_with_len 0 (2 ^ length justs)) vs
+  from_verdicts vs h = zip_from IsOf 0 (2 ^ length justs) vs (h.one_each ∙ ap (λ (n : ℕ). 2 ^ n) (sym (counted_justs items justs justs_are))) (λ j v e. (let here_is : j ≡ 0 + j = omega arith in subst (λ (i : ℕ). IsOf i v) here_is (h.each j v e)))
 
-  all_below : AllByRecursion (λ j. j < 2 ^ length justs) (numbers_from 0 (2 ^ length justs))
-  all_below = numbers_below 0 (2 ^ length justs) (2 ^ length justs) (omega arith)
+  all_below : AllByRecursion (λ j. j < 2 ^ length justs) (range_with_len 0 (2 ^ length justs))
+  all_below = all_from_among (λ j. j < 2 ^ length justs) (range_with_len 0 (2 ^ length justs)) (λ j among. (let less = (range_among j 0 (2 ^ length justs) among).1 in omega (arith, less)))
 
   pub some_verdicts : (vs : List Verdict) × AreVerdicts names items beliefs vs
-  some_verdicts = let (vs, are) = go (numbers_from 0 (2 ^ length justs)) all_below in (vs, to_verdicts vs are)
+  some_verdicts = let (vs, are) = go (range_with_len 0 (2 ^ length justs)) all_below in (vs, to_verdicts vs are)
     where
       go : (ks : List ℕ) → AllByRecursion (λ j. j < 2 ^ length justs) ks → (vs : List Verdict) × AllZip IsOf ks vs
       go [] all = ([], tt)
@@ -665,10 +650,10 @@ module _ (names : List Name) (few : length names ≤ 64) (tells : AreTellable na
   pub verdicts_stop : AllStop (AreVerdicts names items beliefs) (told names (set_lines 0))
   verdicts_stop vs more are end =
       subst (λ (ls : List (List ℕ)). Stops (ls ++ more)) (sets_told 0 (2 ^ length justs) vs (from_verdicts vs are))
-      (each_stop IsOf each_set (set_at terms) (λ j. j < 2 ^ length justs) (λ k known. reads_set k (below_within k known)) set_begins (λ k known. some_verdict k (below_within k known)) (numbers_from 0 (2 ^ length justs)) vs more (from_verdicts vs are) end)
+      (each_stop IsOf each_set (set_at terms) (λ j. j < 2 ^ length justs) (λ k known. reads_set k (below_within k known)) set_begins (λ k known. some_verdict k (below_within k known)) (range_with_len 0 (2 ^ length justs)) vs more (from_verdicts vs are) end)
 
   pub reads_verdicts : Reads (AreVerdicts names items beliefs) (told names (set_lines 0)) Stops (verdicts_at terms)
   unfolding verdicts_at
-  reads_verdicts = reads_same (AllZip IsOf (numbers_from 0 (2 ^ length justs))) (AreVerdicts names items beliefs) _ (told names (set_lines 0)) Stops (each_at (set_at terms) (numbers_from 0 (2 ^ length justs))) (verdicts_at terms)
-      (reads_each IsOf each_set (set_at terms) (λ j. j < 2 ^ length justs) (λ k known. reads_set k (below_within k known)) set_begins (λ k known. some_verdict k (below_within k known)) (numbers_from 0 (2 ^ length justs)) all_below)
+  reads_verdicts = reads_same (AllZip IsOf (range_with_len 0 (2 ^ length justs))) (AreVerdicts names items beliefs) _ (told names (set_lines 0)) Stops (each_at (set_at terms) (range_with_len 0 (2 ^ length justs))) (verdicts_at terms)
+      (reads_each IsOf each_set (set_at terms) (λ j. j < 2 ^ length justs) (λ k known. reads_set k (below_within k known)) set_begins (λ k known. some_verdict k (below_within k known)) (range_with_len 0 (2 ^ length justs)) all_below)
       to_verdicts from_verdicts (λ vs are. sets_told 0 (2 ^ length justs) vs are) (sets_same 0 (2 ^ length justs))

@@ -1,8 +1,8 @@
 -- A whole report, read: what is spelled is read, and nothing else; and else the line that is told is the first out of place.
-use Rattle.std.proofs.Common.{◌≡◌, ℕ, ◌+◌, ◌-◌, ◌<◌, ◌≤◌, zero, suc, Bool, true, false, cond, ◌&&◌, ◌||◌, not, nat_eq, nat_lt, is_some, List, [], ◌∷◌, ◌++◌, map, length, take, drop, codes, Option, Some, None, Ok, Err, refl, sym, ap, ◌∙◌, subst, arith, inl, inr, ◌⊎◌, true≢false, append_assoc, append-nil, length-append}
+use Rattle.std.proofs.Common.{◌≡◌, ℕ, ◌+◌, ◌-◌, ◌<◌, ◌≤◌, zero, suc, Bool, true, false, cond, ◌&&◌, ◌||◌, nat_eq, nat_lt, is_some, List, [], ◌∷◌, ◌++◌, map, length, take, drop, codes, Option, Some, None, Ok, Err, refl, sym, ap, ◌∙◌, subst, arith, inl, inr, ◌⊎◌, true≢false, append_assoc, append-nil, length-append}
 use Rattle.std.proofs.Math.Seq.{take-append_seam, take-append-add}
 use Rattle.std.proofs.lemmas.List.{take-append-drop, length-take-le}
-use Rattle.std.proofs.lemmas.Bool.{and_parts, false_from_ne_true}
+use Rattle.std.proofs.lemmas.Bool.{and_parts, false_from_ne_true, eqb-false}
 use Rattle.std.proofs.lemmas.Bool.Decides.{nat_tests}
 use Rattle.std.specs.List.{AllByRecursion, flat_map}
 use Rattle.mcs_base.specs.Listings.{IsAscending}
@@ -18,15 +18,19 @@ use Rattle.mcs_proof_text.specs.Answers.{Answer, answer_lines}
 use Rattle.mcs_proof_text.specs.Shapes.{IsInShape}
 use Rattle.mcs_proof_text.specs.Reports.{IsLineFeedFree, IsEndLine, IsListingPart, AnswerBefore, report_lines, IsReport, SpellsReport, Begins, IsFirstFault}
 use Rattle.mcs_proof_lines.specs.Walks.{At, Reading, ◌>>=◌, head_of, expect_at}
-use Rattle.mcs_proof_lines.proofs.Readings.{here, Anything, IsBegun, Reads, reads_line, one_line, picked, same_reading}
-use Rattle.mcs_proof_lines.proofs.ReadingSequences.{both, AreBoth, both_lines, reads_both}
-use Rattle.mcs_proof_lines.proofs.WordReadings.{word_of, word_line, reads_word}
+use Rattle.mcs_proof_lines.specs.Readings.{here, Anything, IsBegun, Reads, one_line, AreBoth, both_lines, word_of, itself, ComesNext}
+use Rattle.mcs_proof_lines.proofs.Readings.{reads_line, picked, same_reading}
+use Rattle.mcs_proof_lines.proofs.ReadingSequences.{both, reads_both}
+use Rattle.mcs_proof_lines.proofs.WordReadings.{word_line, reads_word}
 use Rattle.mcs_proof_reader.specs.Questions.{comes_after}
 use Rattle.mcs_proof_reader.specs.Answers.{answers_at, question_in}
 use Rattle.mcs_proof_reader.specs.Listings.{ends_listing, listing_at}
-use Rattle.mcs_proof_reader.proofs.ReportReadings.{IsPart, itself, reads_listing, AreAnswersAfter, IsEnd, reads_answers}
+use Rattle.mcs_proof_reader.proofs.ReportReadings.{reads_listing, AreAnswersAfter, reads_answers}
 use Rattle.mcs_proof_reader.proofs.TextLines.{lines_text, text_lines, free_lines}
+use Rattle.mcs_proof_text.specs.Reports.{feedless}
+use Rattle.mcs_proof_text.proofs.FreeTexts.{told_free}
 use Rattle.mcs_proof_reader.proofs.FreeAnswers.{answers_free}
+use Rattle.mcs_proof_reader.specs.Readings.{IsPart, cleaned}
 
 abbrev end_word : List ℕ
 end_word = codes "end of proof"
@@ -111,33 +115,16 @@ from_listing [] is = absurd is
 from_listing (l ∷ ls) (free, inl (end, none)) = (inl (told_end l end, none), (free, subst (AllByRecursion IsLineFeedFree) (sym none) tt))
 from_listing (l ∷ ls) (free, inr (other, part)) = let (is, rest) = from_listing ls part in (inr (false_from_ne_true (ends_listing l) (λ e. other (end_told l e)), is), (free, rest))
 
--- without line feeds: a line that has one is left empty, or as it begins
-abbrev feedless : List ℕ → Bool
-feedless [] = true
-feedless (b ∷ bytes) = not (nat_eq b 10) && feedless bytes
-
-abbrev cleaned : List ℕ → List ℕ
-cleaned line = cond (feedless line) line (cond (ends_listing line) (codes "end: ") [])
-
-feedless_told : (line : List ℕ) → feedless line ≡ true → IsLineFeedFree line
-feedless_told [] e = tt
-feedless_told (b ∷ bytes) e =
-    let (first, rest) = and_parts (not (nat_eq b 10)) (feedless bytes) e in
-    ((λ is. (let same : nat_eq b 10 ≡ true = grind (arith, nat_tests) in true≢false (sym first ∙ ap not same))), feedless_told bytes rest)
-
 told_feedless : (line : List ℕ) → IsLineFeedFree line → feedless line ≡ true
 told_feedless [] free = refl
 told_feedless (b ∷ bytes) free = let first : nat_eq b 10 ≡ false = false_from_ne_true (nat_eq b 10) (λ e. free.0 (grind (arith, nat_tests))) in rw (first, told_feedless bytes free.1) refl
-
-other : (b : ℕ) → nat_eq b 10 ≡ false → ¬ (b ≡ 10)
-other b e = λ is. true≢false (sym (ap (λ (x : ℕ). nat_eq x 10) is) ∙ e)
 
 cleaned_free : (line : List ℕ) → IsLineFeedFree (cleaned line)
 cleaned_free line = by (feedless line) refl (ends_listing line)
   where
     by : (v : Bool) → feedless line ≡ v → (w : Bool) → IsLineFeedFree (cond v line (cond w (codes "end: ") []))
-    by true e w = feedless_told line e
-    by false e true = (other 101 refl, (other 110 refl, (other 100 refl, (other 58 refl, (other 32 refl, tt)))))
+    by true e w = told_free line e
+    by false e true = told_free (codes "end: ") refl
     by false e false = tt
 
 cleaned_ends : (line : List ℕ) → ends_listing (cleaned line) ≡ ends_listing line
@@ -176,11 +163,11 @@ module _ (m : System) (valid : IsValid m) (named : IsNamed m) where
   abbrev proof_lines : Proof → List (List ℕ)
   proof_lines = both_lines (flat_map (answer_lines m)) (λ as'. one_line (λ (u : Unit {0}). end_word))
 
-  ends_it : (more : List (List ℕ)) → IsEnd (end_word ∷ more)
+  ends_it : (more : List (List ℕ)) → ComesNext end_word (end_word ∷ more)
   ends_it more = refl
 
   reads_proof : (n : ℕ) → Reads (IsProof n) proof_lines Anything (read_proof m n)
-  reads_proof n = reads_both (AreAnswersAfter m n None) (flat_map (answer_lines m)) IsEnd (answers_at m n None) (λ as' u. Unit {0}) (λ as'. one_line (λ (u : Unit {0}). end_word)) Anything (λ as'. picked (word_of end_word))
+  reads_proof n = reads_both (AreAnswersAfter m n None) (flat_map (answer_lines m)) (ComesNext end_word) (answers_at m n None) (λ as' u. Unit {0}) (λ as'. one_line (λ (u : Unit {0}). end_word)) Anything (λ as'. picked (word_of end_word))
       (reads_answers m valid named n None) (λ as' is. reads_line (λ (u : Unit {0}). Unit {0}) (λ u. end_word) (word_of end_word) (word_line end_word)) (λ as' is. (tt, tt)) (λ as' u more is known end. ends_it more)
 
   some_proof : (n : ℕ) → (p : Proof) × IsProof n p
@@ -200,15 +187,9 @@ module _ (m : System) (valid : IsValid m) (named : IsNamed m) where
   spelled_whole : (n : ℕ) (listing : List (List ℕ)) (as' : List Answer) → length as' ≤ n → IsReport m listing as' → IsWhole n (listing, (as', tt))
   spelled_whole n listing as' few h = ((from_listing listing h.listing_part).0, (from_answers m n None as' few h.shapes h.ascending (any_first m as'), tt))
 
-  proof_free : IsLineFeedFree (codes "proof")
-  proof_free = (other 112 refl, (other 114 refl, (other 111 refl, (other 111 refl, (other 102 refl, tt)))))
-
-  end_free : IsLineFeedFree end_word
-  end_free = (other 101 refl, (other 110 refl, (other 100 refl, (other 32 refl, (other 111 refl, (other 102 refl, (other 32 refl, (other 112 refl, (other 114 refl, (other 111 refl, (other 111 refl, (other 102 refl, tt))))))))))))
-
   report_free : (listing : List (List ℕ)) (as' : List Answer) → IsReport m listing as' → AllByRecursion IsLineFeedFree (report_lines m listing as')
   report_free listing as' h = all_append IsLineFeedFree listing (codes "proof" ∷ (flat_map (answer_lines m) as' ++ end_word ∷ [])) (from_listing listing h.listing_part).1
-      (proof_free, all_append IsLineFeedFree (flat_map (answer_lines m) as') (end_word ∷ []) (answers_free m valid named as' h.shapes) (end_free, tt))
+      (told_free (codes "proof") refl, all_append IsLineFeedFree (flat_map (answer_lines m) as') (end_word ∷ []) (answers_free m named as') (told_free end_word refl, tt))
 
   -- there are at most as many answers as lines
   few_answers : (as' : List Answer) → length as' ≤ length (flat_map (answer_lines m) as')
@@ -279,7 +260,7 @@ module _ (m : System) (valid : IsValid m) (named : IsNamed m) where
 
     -- ---- faults
     any_report : IsReport m (codes "end: " ∷ []) []
-    any_report = record { listing_part = ((other 101 refl, (other 110 refl, (other 100 refl, (other 58 refl, (other 32 refl, tt))))), inl (([], refl), refl)); shapes = tt; ascending = tt }
+    any_report = record { listing_part = (told_free (codes "end: ") refl, inl (([], refl), refl)); shapes = tt; ascending = tt }
 
     begins_none : Begins m []
     begins_none = record { listing = codes "end: " ∷ []; answers = []; report = any_report; rest = report_lines m (codes "end: " ∷ []) []; front = refl }

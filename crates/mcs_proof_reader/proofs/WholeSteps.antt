@@ -1,5 +1,5 @@
 -- The parts of a report, read one after the other: together they are a report, or name the first line that is out of place.
-use Rattle.std.proofs.Common.{◌≡◌, ℕ, ◌+◌, ◌≤◌, Bool, true, false, cond, ◌&&◌, List, [], ◌∷◌, length, codes, None, Result, Ok, Err, refl, sym, ap, ◌∙◌, subst, arith, true≢false, length-append}
+use Rattle.std.proofs.Common.{◌≡◌, ℕ, ◌+◌, ◌≤◌, Bool, true, false, cond, ◌&&◌, List, [], ◌∷◌, length, codes, None, Result, Ok, Err, MatchResult, refl, sym, ap, ◌∙◌, subst, arith, true≢false, length-append}
 use Rattle.std.proofs.lemmas.Bool.{and_parts}
 use Rattle.std.specs.Result.{IsErrAnd}
 use Rattle.std.specs.Str.{bytes_eq}
@@ -13,13 +13,13 @@ use Rattle.mcs_proof_text.specs.Reports.{SpellsReport, IsFirstFault, report_line
 use Rattle.mcs_proof_lines.specs.declared.fault.ReportFault.{ReportFault}
 use Rattle.mcs_proof_lines.specs.declared.fault.ReportFault.TheVariants as faults
 use Rattle.mcs_proof_lines.specs.Walks.{At, Reading, ◌>>=◌, Tells, is_next, fault_at, taken_at, advanced, advanced_by, expect_at}
-use Rattle.mcs_proof_lines.proofs.Readings.{here, picked}
+use Rattle.mcs_proof_lines.specs.Readings.{here, word_of}
+use Rattle.mcs_proof_lines.proofs.Readings.{picked}
 use Rattle.mcs_proof_lines.proofs.ReadingSequences.{both, paired}
-use Rattle.mcs_proof_lines.proofs.WordReadings.{word_of}
-use Rattle.mcs_proof_reader.specs.declared.report.Report as code
 use Rattle.mcs_proof_reader.specs.Answers.{answers_at}
 use Rattle.mcs_proof_reader.specs.Listings.{listing_at}
-use Rattle.mcs_proof_reader.specs.Whole.{IsReportRead, at_last, end_at}
+use Rattle.mcs_proof_reader.specs.Keeping.{IsReportFault}
+use Rattle.mcs_proof_reader.specs.Whole.{at_last, end_at}
 use Rattle.mcs_proof_reader.proofs.ReportReadings.{reads_listing}
 use Rattle.mcs_proof_reader.proofs.WholeReadings.{Proof, read_proof, read_whole, reads_whole, read_is_report, spells_read, fault_read, more_read}
 
@@ -160,21 +160,21 @@ module _ (m : System) (valid : IsValid m) (named : IsNamed m) (bytes : List ℕ)
             by (Ok there) is e = ended there is (is_empty there.rest && is_empty there.tail) refl e
 
   -- a fault that the code was told
-  pub told_fault : {A : Type 0} (e : ReportFault) (r : Result A ℕ) → Tells e r → ((k : ℕ) → r ≡ Err k → IsFirstFault m bytes k) → IsReportRead m bytes (Err e)
+  pub told_fault : {A : Type 0} (e : ReportFault) (r : Result A ℕ) → Tells e r → ((k : ℕ) → r ≡ Err k → IsFirstFault m bytes k) → IsReportFault m bytes e
   told_fault faults.Memory r told h = tt
   told_fault (faults.Grammar k) r told h = h k told
 
   -- a fault that is handed on
-  pub fault_on : {A : Type 0} (result : Result code.Report ReportFault) (r : Result A ℕ) (e : ReportFault) → IsErrAnd result (λ d. d ≡ e) → Tells e r → ((k : ℕ) → r ≡ Err k → IsFirstFault m bytes k) → IsReportRead m bytes result
-  fault_on (Ok x) r e same told h = absurd same
-  fault_on (Err d) r e same told h = subst (λ (f : ReportFault). IsReportRead m bytes (Err f)) (sym same) (told_fault e r told h)
+  pub fault_on : {X A : Type 0} (P : X → Type 0) (result : Result X ReportFault) (r : Result A ℕ) (e : ReportFault) → IsErrAnd result (λ d. d ≡ e) → Tells e r → ((k : ℕ) → r ≡ Err k → IsFirstFault m bytes k) → MatchResult result P (IsReportFault m bytes)
+  fault_on P (Ok x) r e same told h = absurd same
+  fault_on P (Err d) r e same told h = subst (IsReportFault m bytes) (sym same) (told_fault e r told h)
 
   -- the same of answers, which are told for each number that is enough
-  pub answers_fault : (ls : List (List ℕ)) (first : At) (listed : listing_at start ≡ Ok (ls, first)) (second : At) (begun : expect_at (codes "proof") first ≡ Ok second) (result : Result code.Report ReportFault) (e : ReportFault)
-      → IsErrAnd result (λ d. d ≡ e) → ((n : ℕ) → length second.rest ≤ n → Tells e (answers_at m n None second)) → IsReportRead m bytes result
-  answers_fault ls first listed second begun (Ok x) e same told = absurd same
-  answers_fault ls first listed second begun (Err d) e same told = subst (λ (f : ReportFault). IsReportRead m bytes (Err f)) (sym same) (by e told)
+  pub answers_fault : {X : Type 0} (P : X → Type 0) (ls : List (List ℕ)) (first : At) (listed : listing_at start ≡ Ok (ls, first)) (second : At) (begun : expect_at (codes "proof") first ≡ Ok second) (result : Result X ReportFault) (e : ReportFault)
+      → IsErrAnd result (λ d. d ≡ e) → ((n : ℕ) → length second.rest ≤ n → Tells e (answers_at m n None second)) → MatchResult result P (IsReportFault m bytes)
+  answers_fault P ls first listed second begun (Ok x) e same told = absurd same
+  answers_fault P ls first listed second begun (Err d) e same told = subst (IsReportFault m bytes) (sym same) (by e told)
     where
-      by : (f : ReportFault) → ((n : ℕ) → length second.rest ≤ n → Tells f (answers_at m n None second)) → IsReportRead m bytes (Err f)
+      by : (f : ReportFault) → ((n : ℕ) → length second.rest ≤ n → Tells f (answers_at m n None second)) → IsReportFault m bytes f
       by faults.Memory told = tt
       by (faults.Grammar k) told = no_answers ls first listed second begun k told

@@ -3,3 +3,5 @@ pub mod Answers
 pub mod Readers
 pub mod Listings
 pub mod Whole
+pub mod Keeping
+pub mod Readings

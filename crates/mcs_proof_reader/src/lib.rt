@@ -2,11 +2,13 @@
 #![tactic(auto)]
 
 mod answer;
+mod keep;
 mod listing;
 mod question;
 mod report;
 mod texts;
 
 pub use answer::{ReportAnswer, take_answer};
-pub use report::{Report, read_report};
+pub use keep::Keep;
+pub use report::{KeptReport, Report, read_kept, read_report};
 pub use texts::Texts;

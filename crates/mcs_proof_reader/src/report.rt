@@ -1,12 +1,14 @@
 //! A report, read whole.
 
-ghost use Rattle.std.specs.Prelude.{◌≡◌, ◌≤◌, ◌+◌, ℕ, None, length, map, IfOk};
-ghost use Rattle.mcs_proof_lines.specs.Walks.{Gives, Passes};
+ghost use Rattle.std.specs.Prelude.{◌≤◌, ℕ, None, length, map, MatchResult};
+ghost use Rattle.mcs_proof_lines.specs.Walks.{Tells, Passes};
 ghost use Rattle.mcs_proof_reader.specs.Answers.{answers_at};
-ghost use Rattle.mcs_proof_reader.specs.Readers.{answer_of, AreTexts};
-ghost use Rattle.mcs_proof_reader.specs.Whole.{IsReportRead, end_at, lines_from};
+ghost use Rattle.mcs_proof_reader.specs.Keeping.{AreReadAndKept, IsKeptReport, IsReportFault};
+ghost use Rattle.mcs_proof_reader.specs.Readers.{AreTexts};
+ghost use Rattle.mcs_proof_reader.specs.Whole.{IsReportRead, end_at};
 
 use crate::answer::{ReportAnswer, take_answer};
+use crate::keep::{Keep, Whole};
 use crate::listing::take_listing;
 use crate::texts::Texts;
 use mcs_proof_lines::{Lines, ReportFault, expect, is_next, out_of_place};
@@ -21,29 +23,72 @@ pub struct Report {
     pub last_line: u64,
 }
 
-/// Takes the answers that are next, up to the line that ends them.
-fn take_answers(
+/// Of a report: the lines of the listing, what was kept of each answer, in their order, and the number of the line
+/// `end of proof`, counted from 1.
+#[derive(Drop)]
+pub struct KeptReport<T> {
+    pub listing: Vec<Vec<u8>>,
+    pub answers: Vec<T>,
+    pub last_line: u64,
+}
+
+/// Takes the answers that are next, up to the line that ends them. Of each is kept what `keep` keeps.
+fn keep_answers<K: Keep>(
     alloc: Global,
     system: &System,
     texts: &Texts,
+    keep: &K,
     lines: &mut Lines<'_>,
-) -> Result<Vec<ReportAnswer>, ReportFault>
+) -> Result<Vec<K::Kept>, ReportFault>
     requires { AreTexts system.now texts.now }
-    ensures read { (n : ℕ) → length lines.old.rest ≤ n → Gives (λ v. map answer_of v.items) result lines.new (answers_at system.now n None lines.old) }
-    ensures begins { IfOk result (λ v. map (λ a. a.line) v.items ≡ lines_from system.now (lines.old.taken + 1) (map answer_of v.items)) }
+    ensures { MatchResult result
+        (λ kept. AreReadAndKept K.Keeps system.now lines.old lines.new kept.items)
+        (λ fault. (n : ℕ) → length lines.old.rest ≤ n → Tells fault (answers_at system.now n None lines.old)) }
 {
-    let mut answers = Vec::new(alloc);
+    let mut kept = Vec::new(alloc);
     let mut last = None;
     while !is_next(lines, b"end of proof") {
         match take_answer(alloc, system, texts, last, lines) {
             Ok(answer) => {
                 last = Some((answer.context, answer.active));
-                answers.push(answer)?;
+                kept.push(keep.keep(alloc, system, answer)?)?;
             }
             Err(fault) => return Err(fault),
         }
     }
-    Ok(answers)
+    Ok(kept)
+}
+
+/// What is kept of the report on the system that the bytes spell, as `read_report` reads it. Each answer is handed to
+/// `keep` as soon as it was read, and dropped but for what is kept of it before the next one is read. `Grammar` comes as
+/// there, also where an answer before that line was handed over.
+pub fn read_kept<K: Keep>(
+    alloc: Global,
+    system: &System,
+    bytes: &[u8],
+    keep: &K,
+) -> Result<KeptReport<K::Kept>, ReportFault>
+    ensures { MatchResult result
+        (λ r. IsKeptReport K.Keeps system.now bytes.now (map (λ l. l.items) r.listing.items) r.answers.items r.last_line)
+        (IsReportFault system.now bytes.now) }
+{
+    let texts = Texts::of(alloc, system)?;
+    let mut lines = Lines::new(bytes);
+    let listing = take_listing(alloc, &mut lines)?;
+    expect(&mut lines, b"proof")?;
+    let answers = keep_answers(alloc, system, &texts, keep, &mut lines)?;
+    let last_line = lines.number();
+    match end_of(&mut lines) {
+        Ok(()) => Ok(KeptReport {
+            listing,
+            answers,
+            last_line,
+        }),
+        Err(fault) => {
+            drop((listing, answers));
+            Err(fault)
+        }
+    }
 }
 
 /// The report on the system that the bytes spell: a listing, of which the last line alone begins with `end: `, the line
@@ -53,22 +98,13 @@ fn take_answers(
 pub fn read_report(alloc: Global, system: &System, bytes: &[u8]) -> Result<Report, ReportFault>
     ensures { IsReportRead system.now bytes.now result }
 {
-    let texts = Texts::of(alloc, system)?;
-    let mut lines = Lines::new(bytes);
-    let listing = take_listing(alloc, &mut lines)?;
-    expect(&mut lines, b"proof")?;
-    let answers = take_answers(alloc, system, &texts, &mut lines)?;
-    let last_line = lines.number();
-    match end_of(&mut lines) {
-        Ok(()) => Ok(Report {
-            listing,
-            answers,
-            last_line,
+    match read_kept(alloc, system, bytes, &Whole) {
+        Ok(report) => Ok(Report {
+            listing: report.listing,
+            answers: report.answers,
+            last_line: report.last_line,
         }),
-        Err(fault) => {
-            drop((listing, answers));
-            Err(fault)
-        }
+        Err(fault) => Err(fault),
     }
 }
 

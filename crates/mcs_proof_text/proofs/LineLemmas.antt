@@ -1,5 +1,5 @@
 -- Pieces of a line, and lines as bytes.
-use Rattle.std.proofs.Common.{◌≡◌, ℕ, List, [], ◌∷◌, ◌++◌, map, codes, refl, sym, ap, ◌∙◌, append_assoc}
+use Rattle.std.proofs.Common.{◌≡◌, ℕ, ◌≤◌, List, [], ◌∷◌, ◌++◌, map, length, codes, refl, sym, ap, ◌∙◌, append_assoc, arith, length-append}
 use Rattle.std.proofs.lemmas.List.Concat.{flat_map-append}
 use Rattle.mcs_system.specs.Plain.{Name}
 use Rattle.mcs_proof_text.specs.Lines.{Line, line_text, with_feed, text_of_lines, written}
@@ -26,3 +26,8 @@ answer_parts t q outs names ls =
   where
     grouped : (t a b c d : List ℕ) → (((t ++ a) ++ b) ++ c) ++ d ≡ t ++ (a ++ (b ++ (c ++ d)))
     grouped t a b c d = simp append_assoc
+
+-- no more lines than bytes
+pub lines_few : (lines : List (List ℕ)) → length lines ≤ length (text_of_lines lines)
+lines_few [] = omega arith
+lines_few (line ∷ lines) = omega (arith, length-append (with_feed line) (text_of_lines lines), length-append line (codes "\n"), lines_few lines)

@@ -1,8 +1,10 @@
 -- A whole report: a listing, then answers with their certificates.
-use Rattle.std.specs.Prelude.{◌≡◌, ℕ, ◌+◌, ◌-◌, ◌<◌, ◌≤◌, List, [], ◌∷◌, ◌++◌, length, take, codes, ◌⊎◌}
+use Rattle.std.specs.Prelude.{◌≡◌, ℕ, nat_eq, Bool, true, not, ◌&&◌, ◌+◌, ◌-◌, ◌<◌, ◌≤◌, List, [], ◌∷◌, ◌++◌, length, take, codes, ◌⊎◌}
 use Rattle.std.specs.List.{AllByRecursion, flat_map}
 use Rattle.mcs_base.specs.Listings.{IsAscending}
 use Rattle.mcs_system.specs.Plain.{System}
+use Rattle.mcs_system.specs.Naming.{IsNamed}
+use Rattle.mcs_report.specs.Solutions.{IsWholeListing}
 use Rattle.mcs_spelling.specs.Lines.{complete_lines}
 use Rattle.mcs_proof_text.specs.Lines.{text_of_lines}
 use Rattle.mcs_proof_text.specs.Answers.{Answer, answer_lines}
@@ -11,6 +13,11 @@ use Rattle.mcs_proof_text.specs.Shapes.{IsInShape}
 -- ---- the listing part
 abbrev pub IsLineFeedFree : List ℕ → Type 0
 IsLineFeedFree line = AllByRecursion (λ b. ¬ (b ≡ 10)) line
+
+-- the same by a test
+abbrev pub feedless : List ℕ → Bool
+feedless [] = true
+feedless (b ∷ bytes) = not (nat_eq b 10) && feedless bytes
 
 -- the line that ends it
 abbrev pub IsEndLine : List ℕ → Type 0
@@ -22,6 +29,10 @@ IsListingPart [] = ⊥
 IsListingPart (line ∷ lines) = IsLineFeedFree line × ((IsEndLine line × (lines ≡ [])) ⊎ ((¬ IsEndLine line) × IsListingPart lines))
 
 -- ---- reports
+-- the most bytes of one that is read
+abbrev pub most_report_bytes : ℕ
+most_report_bytes = 268435456
+
 -- by context, and then by rule set
 abbrev pub AnswerBefore : Answer → Answer → Type 0
 AnswerBefore a b = (a.context < b.context) ⊎ ((a.context ≡ b.context) × (a.active < b.active))
@@ -58,10 +69,10 @@ pub record IsFirstFault (m : System) (bytes : List ℕ) (line : ℕ) : Type 0 wh
   pub there : (line ≡ length (complete_lines bytes) + 1) ⊎ ¬ Begins m (take line (complete_lines bytes))
 
 -- ---- laws
--- a text spells one report at most
-abbrev pub ReportsAreUnambiguous : Type 0
-ReportsAreUnambiguous = (m : System) (bytes : List ℕ) (l l' : List (List ℕ)) (as' bs : List Answer)
-    → SpellsReport m bytes l as' → SpellsReport m bytes l' bs → (l ≡ l') × (as' ≡ bs)
+-- the whole listing of a system whose names are names is the text of a listing part
+abbrev pub WholeListingsAreListingParts : Type 0
+WholeListingsAreListingParts = (m : System) (text : List ℕ) → IsNamed m → IsWholeListing m text
+    → (lines : List (List ℕ)) × IsListingPart lines × (text ≡ text_of_lines lines)
 
 -- a text that spells a report has no fault
 abbrev pub SpelledReportsHaveNoFault : Type 0

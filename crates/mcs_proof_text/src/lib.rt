@@ -8,4 +8,6 @@ mod programs;
 mod traces;
 
 pub use answer::answer_lines;
-pub use laws::{reports_have_one_fault, spelled_reports_have_no_fault};
+pub use laws::{
+    reports_have_one_fault, spelled_reports_have_no_fault, whole_listings_are_listing_parts,
+};

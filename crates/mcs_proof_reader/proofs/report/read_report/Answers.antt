@@ -1,74 +1,8 @@
-use Rattle.std.proofs.Common.{◌≡◌, ℕ, ◌+◌, List, length, map, codes, Ok, sym, ap, ◌∙◌, arith}
-use Rattle.std.proofs.lemmas.List.{length-map}
-use Rattle.mcs_system.specs.Plain.{System}
-use Rattle.mcs_spelling.specs.Lines.{complete_lines, incomplete}
-use Rattle.mcs_proof_lines.specs.Walks.{At, expect_at}
-use Rattle.mcs_proof_lines.proofs.Readings.{here}
-use Rattle.mcs_proof_reader.specs.Listings.{listing_at}
-use Rattle.mcs_proof_reader.specs.Readers.{answer_of}
-use Rattle.mcs_proof_reader.specs.Whole.{end_at, lines_from}
-use Rattle.mcs_proof_reader.proofs.WholeSteps.{no_listing, no_proof, no_end, all_right, answers_begin_at, told_fault, fault_on, answers_fault, taken_one}
+use Rattle.mcs_proof_reader.proofs.AnswerPlaces.{whole_report, whole_fault}
 use Rattle.mcs_proof_reader.proofs.report.read_report.Goals as goal
 
-pub returns-in_err-listing : goal.returns-in_err-listing
-returns-in_err-listing c =
-    let m : System = c.args.system.now in
-    let bytes = c.args.bytes.now in
-    let texts = c.in_ok-texts.ensures in
-    fault_on m texts.valid texts.named bytes _ (listing_at c.new-lines.result) _ c.from_residual-in_err-listing.ensures.1 c.in_err-listing.ensures
-    (λ k e. no_listing m texts.valid texts.named bytes k (ap listing_at (sym c.new-lines.ensures) ∙ e))
-
-pub returns-in_err-expect : goal.returns-in_err-expect
-returns-in_err-expect c =
-    let m : System = c.args.system.now in
-    let bytes = c.args.bytes.now in
-    let texts = c.in_ok-texts.ensures in
-    let ls : List (List ℕ) = map (λ l. l.items) c.in_ok-listing.listing.items in
-    let first : At = c.take_listing.new.lines in
-    let listed : listing_at (here 0 (complete_lines bytes) (incomplete bytes)) ≡ Ok (ls, first) = ap listing_at (sym c.new-lines.ensures) ∙ c.in_ok-listing.ensures in
-    fault_on m texts.valid texts.named bytes _ (expect_at (codes "proof") first) _ c.from_residual-in_err-expect.ensures.1 c.in_err-expect.ensures
-    (no_proof m texts.valid texts.named bytes ls first listed)
-
-pub returns-in_err-answers : goal.returns-in_err-answers
-returns-in_err-answers c =
-    let m : System = c.args.system.now in
-    let bytes = c.args.bytes.now in
-    let texts = c.in_ok-texts.ensures in
-    let ls : List (List ℕ) = map (λ l. l.items) c.in_ok-listing.listing.items in
-    let first : At = c.take_listing.new.lines in
-    let second : At = c.expect.new.lines in
-    let listed : listing_at (here 0 (complete_lines bytes) (incomplete bytes)) ≡ Ok (ls, first) = ap listing_at (sym c.new-lines.ensures) ∙ c.in_ok-listing.ensures in
-    answers_fault m texts.valid texts.named bytes ls first listed second c.in_ok-expect.ensures _ _ c.from_residual-in_err-answers.ensures.1 c.in_err-answers.ensures.read
-
 pub returns-in-Ok : goal.returns-in-Ok
-returns-in-Ok c =
-    let m : System = c.args.system.now in
-    let bytes = c.args.bytes.now in
-    let texts = c.in_ok-texts.ensures in
-    let ls : List (List ℕ) = map (λ l. l.items) c.in_ok-listing.listing.items in
-    let first : At = c.take_listing.new.lines in
-    let second : At = c.expect.new.lines in
-    let third : At = c.take_answers.new.lines in
-    let listed : listing_at (here 0 (complete_lines bytes) (incomplete bytes)) ≡ Ok (ls, first) = ap listing_at (sym c.new-lines.ensures) ∙ c.in_ok-listing.ensures in
-    let (spells, number, closed) = all_right m texts.valid texts.named bytes ls first listed second c.in_ok-expect.ensures (map answer_of c.in_ok-answers.answers.items) third c.in_ok-answers.ensures.read c.end_of.new.lines c.in-Ok.ensures in
-    let first_line = answers_begin_at m texts.valid texts.named bytes ls first listed second c.in_ok-expect.ensures in
-    let many : length ls ≡ length c.in_ok-listing.listing.items = length-map c.in_ok-listing.listing.items (λ l. l.items) in
-    let from : second.taken + 1 ≡ length c.in_ok-listing.listing.items + 2 = omega (arith, first_line, many) in
-    record {
-      spelled = spells;
-      begins = c.in_ok-answers.ensures.begins ∙ ap (λ (k : ℕ). lines_from m k (map answer_of c.in_ok-answers.answers.items)) from;
-      ends = c.number-last_line.ensures ∙ (sym (taken_one (codes "end of proof") third c.end_of.new.lines closed) ∙ number);
-    }
+returns-in-Ok c = whole_report c.args.system.now c.args.bytes.now _ c.in-Ok.ensures
 
-pub returns : goal.returns
-returns c =
-    let m : System = c.args.system.now in
-    let bytes = c.args.bytes.now in
-    let texts = c.in_ok-texts.ensures in
-    let ls : List (List ℕ) = map (λ l. l.items) c.in_ok-listing.listing.items in
-    let first : At = c.take_listing.new.lines in
-    let second : At = c.expect.new.lines in
-    let third : At = c.take_answers.new.lines in
-    let listed : listing_at (here 0 (complete_lines bytes) (incomplete bytes)) ≡ Ok (ls, first) = ap listing_at (sym c.new-lines.ensures) ∙ c.in_ok-listing.ensures in
-    told_fault m texts.valid texts.named bytes c.in-Err.fault (end_at third) c.in-Err.ensures
-    (no_end m texts.valid texts.named bytes ls first listed second c.in_ok-expect.ensures (map answer_of c.in_ok-answers.answers.items) third c.in_ok-answers.ensures.read)
+pub returns-in-Err : goal.returns-in-Err
+returns-in-Err c = whole_fault c.args.system.now c.args.bytes.now c.in-Err.fault c.in-Err.ensures

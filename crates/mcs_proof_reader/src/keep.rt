@@ -1,0 +1,51 @@
+//! What is kept of the answers of a report.
+
+ghost use Rattle.std.specs.Prelude.{ℕ, IfOk};
+ghost use Rattle.mcs_system.specs.Plain as plain;
+ghost use Rattle.mcs_proof_text.specs.Answers.{Answer};
+ghost use Rattle.mcs_proof_text.specs.Shapes.{IsInShape};
+ghost use Rattle.mcs_proof_reader.specs.Readers.{answer_of};
+
+use crate::answer::ReportAnswer;
+use mcs_base::Memory;
+use mcs_system::System;
+use std::alloc::Global;
+
+/// What is kept of the answers of a report. Each answer is handed over as soon as it was read, before the next one is.
+pub trait Keep {
+    /// What is kept of an answer.
+    type Kept: Drop;
+
+    /// What holds of an answer, the number of its first line, counted from 1, and what is kept of it.
+    ghost Keeps: { plain.System → Answer → ℕ → Self.Kept → Type 0 };
+
+    /// What is kept of this answer to a question on the system.
+    fn keep(
+        &self,
+        alloc: Global,
+        system: &System,
+        answer: ReportAnswer,
+    ) -> Result<Self::Kept, Memory>
+        requires { IsInShape system.now (answer_of answer) }
+        ensures { IfOk result (λ kept. Keeps system.now (answer_of answer) answer.line kept) };
+}
+
+/// Keeps each answer as it is.
+pub(crate) struct Whole;
+
+impl Keep for Whole {
+    ghost use Rattle.mcs_proof_reader.specs.Keeping.{IsWhole};
+
+    type Kept = ReportAnswer;
+
+    ghost Keeps = { λ _. IsWhole };
+
+    fn keep(
+        &self,
+        _alloc: Global,
+        _system: &System,
+        answer: ReportAnswer,
+    ) -> Result<ReportAnswer, Memory> {
+        Ok(answer)
+    }
+}
