@@ -1,48 +1,57 @@
--- At which line an answer begins.
-use Rattle.std.proofs.Common.{◌≡◌, ℕ, ◌+◌, zero, suc, List, [], ◌∷◌, length, take, slice_get, Some, sym, ap, ◌∙◌, arith}
-use Rattle.std.proofs.lemmas.List.{length-append, length-map}
+-- At which line an answer begins, and what the judged ones tell of them.
+use Rattle.std.proofs.Common.{◌≡◌, ℕ, ◌+◌, zero, suc, List, [], ◌∷◌, length, take, slice_get, Some, IsTrue, refl, sym, ◌∙◌, subst, arith}
+use Rattle.std.proofs.lemmas.List.{length-append}
 use Rattle.std.proofs.lemmas.Option.{same_Some}
-use Rattle.std.specs.List.{flat_map}
-use Rattle.mcs_base.proofs.Lists.{slice_get-map_some}
+use Rattle.std.specs.List.{AllByRecursion, flat_map}
 use Rattle.mcs_system.specs.Plain.{System}
 use Rattle.mcs_proof_text.specs.Answers.{Answer, answer_lines}
-use Rattle.mcs_proof_reader.specs.Readers.{answer_of}
-use Rattle.mcs_proof_reader.specs.Whole.{IsReportOf, listing_of, answers_in, lines_from}
-use Rattle.mcs_proof_reader.specs.declared.answer.ReportAnswer as code_answer
-use Rattle.mcs_proof_reader.specs.declared.report.Report as code
+use Rattle.mcs_proof_text.specs.Proofs.{IsRight}
+use Rattle.mcs_proof_reader.specs.Keeping.{IsKeptReport}
+use Rattle.mcs_check.specs.Judging.{IsJudged, AreJudged, IsFirstWrong}
 use Rattle.mcs_check.specs.Validity.{HasWrongAnswer}
-use Rattle.mcs_check.specs.Answers.{IsFirstWrong}
+use Rattle.mcs_check.specs.declared.judging.Judged as code
 
-begins_at : (m : System) (n : ℕ) (answers : List Answer) (k : ℕ) (a : Answer) → slice_get answers k ≡ Some a → slice_get (lines_from m n answers) k ≡ Some (n + length (flat_map (answer_lines m) (take k answers)))
-begins_at m n [] k a is = cc
-begins_at m n (b ∷ answers) zero a is = ap (λ (j : ℕ). Some j) (let e : n ≡ n + 0 = omega arith in e)
-begins_at m n (b ∷ answers) (suc k) a is =
-    begins_at m (n + length (answer_lines m b)) answers k a is
-    ∙ ap (λ (j : ℕ). Some j) (sums n (length (answer_lines m b)) _ ∙ ap (λ (j : ℕ). n + j) (sym (length-append (answer_lines m b) (flat_map (answer_lines m) (take k answers)))))
-  where
-    sums : (n a b : ℕ) → n + a + b ≡ n + (a + b)
-    sums n a b = omega arith
+module _ (m : System) where
+  -- the answer that one of them stands for, and where it begins
+  judged_at : (n : ℕ) (answers : List Answer) (judged : List code.Judged) (k : ℕ) (j : code.Judged) → AreJudged m n answers judged → slice_get judged k ≡ Some j
+      → (a : Answer) × (slice_get answers k ≡ Some a) × IsJudged m a (n + length (flat_map (answer_lines m) (take k answers))) j
+  judged_at n [] [] k j are is = absurd (cc)
+  judged_at n [] (x ∷ judged) k j are is = absurd are
+  judged_at n (a ∷ answers) [] k j are is = absurd are
+  judged_at n (a ∷ answers) (x ∷ judged) zero j are is =
+      let e : n ≡ n + 0 = omega arith in
+      (a, refl, subst (λ (i : ℕ). IsJudged m a i j) e (subst (IsJudged m a n) (same_Some x j is) are.0))
+  judged_at n (a ∷ answers) (x ∷ judged) (suc k) j are is =
+      let (b, there, h) = judged_at (n + length (answer_lines m a)) answers judged k j are.1 is in
+      let long = length-append (answer_lines m a) (flat_map (answer_lines m) (take k answers)) in
+      let e : n + length (answer_lines m a) + length (flat_map (answer_lines m) (take k answers)) ≡ n + length (flat_map (answer_lines m) (take (suc k) (a ∷ answers))) = omega (arith, long) in
+      (b, there, subst (λ (i : ℕ). IsJudged m b i j) e h)
 
-pub wrong_found : (m : System) (bytes : List ℕ) (r : code.Report) (line : ℕ) → IsReportOf m bytes r → IsFirstWrong m r.answers.items line → HasWrongAnswer m bytes line
-wrong_found m bytes r line report first = record {
-  listing = listing_of r;
-  answers = answers_in r;
-  spelled = report.spelled;
-  number = first.number;
-  answer = answer_of first.answer;
-  is_it = there;
-  wrong = first.wrong;
-  before = first.before;
-  line_is = counted line (length r.listing.items) (length (listing_of r)) (length (flat_map (answer_lines m) (take first.number (answers_in r)))) (length-map r.listing.items (λ l. l.items)) same;
-}
-  where
-    there : slice_get (answers_in r) first.number ≡ Some (answer_of first.answer)
-    there = slice_get-map_some answer_of r.answers.items first.number first.answer first.is_it
+  right_before : (n : ℕ) (answers : List Answer) (judged : List code.Judged) (k : ℕ) → AreJudged m n answers judged → AllByRecursion (λ (j : code.Judged). IsTrue j.is_right) (take k judged) → AllByRecursion (IsRight m) (take k answers)
+  right_before n answers judged zero are right = tt
+  right_before n [] judged (suc k) are right = tt
+  right_before n (a ∷ answers) [] (suc k) are right = absurd are
+  right_before n (a ∷ answers) (x ∷ judged) (suc k) are right = (are.0.right.0 right.0, right_before (n + length (answer_lines m a)) answers judged k are.1 right.1)
 
-    same : line ≡ length r.listing.items + 2 + length (flat_map (answer_lines m) (take first.number (answers_in r)))
-    same = sym first.begins ∙ same_Some _ _ (
-        sym (slice_get-map_some (λ (a : code_answer.ReportAnswer). a.line) r.answers.items first.number first.answer first.is_it)
-        ∙ ap (λ (ns : List ℕ). slice_get ns first.number) report.begins ∙ begins_at m (length r.listing.items + 2) (answers_in r) first.number (answer_of first.answer) there)
+  pub all_right : (n : ℕ) (answers : List Answer) (judged : List code.Judged) → AreJudged m n answers judged → AllByRecursion (λ (j : code.Judged). IsTrue j.is_right) judged → AllByRecursion (IsRight m) answers
+  all_right n [] judged are right = tt
+  all_right n (a ∷ answers) [] are right = absurd are
+  all_right n (a ∷ answers) (x ∷ judged) are right = (are.0.right.0 right.0, all_right (n + length (answer_lines m a)) answers judged are.1 right.1)
 
-    counted : (line n k j : ℕ) → k ≡ n → line ≡ n + 2 + j → line ≡ k + 1 + j + 1
-    counted line n k j e is = omega arith
+  pub wrong_found : (bytes : List ℕ) (listing : List (List ℕ)) (judged : List code.Judged) (last line : ℕ) → IsKeptReport IsJudged m bytes listing judged last → IsFirstWrong judged line → HasWrongAnswer m bytes line
+  wrong_found bytes listing judged last line report first =
+      let (a, there, h) = judged_at (length listing + 2) report.answers judged first.number first.answer report.kept first.is_it in
+      record {
+        listing = listing;
+        answers = report.answers;
+        spelled = report.spelled;
+        number = first.number;
+        answer = a;
+        is_it = there;
+        wrong = λ right. first.wrong (h.right.1 right);
+        before = right_before (length listing + 2) report.answers judged first.number report.kept first.before;
+        line_is = counted line (length listing) (length (flat_map (answer_lines m) (take first.number report.answers))) (sym first.begins ∙ h.begins);
+      }
+    where
+      counted : (line n j : ℕ) → line ≡ n + 2 + j → line ≡ n + 1 + j + 1
+      counted line n j is = omega arith

@@ -2,7 +2,9 @@ pub mod LineEnds
 pub mod Differences
 pub mod AnswerLines
 pub mod OwnAnswers
+pub mod SortedAnswers
 pub mod Counting
 pub mod RelistingLemmas
 pub mod FindingLemmas
 pub mod OneFinding
+pub mod ProvedListings

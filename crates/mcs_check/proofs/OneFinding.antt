@@ -1,5 +1,5 @@
 -- A text has one finding, where it spells one report at most.
-use Rattle.std.proofs.Common.{◌≡◌, ℕ, ◌+◌, ◌<◌, zero, suc, List, [], ◌∷◌, length, take, slice_get, Some, refl, sym, ap, ◌∙◌, subst, inl, inr, ◌⊎◌, arith, Result, Ok, Err, IfOk}
+use Rattle.std.proofs.Common.{◌≡◌, ℕ, ◌+◌, ◌<◌, List, [], ◌∷◌, length, take, slice_get, Some, refl, sym, ap, ◌∙◌, subst, inl, inr, ◌⊎◌, arith, Result, Ok, Err, IfOk}
 use Rattle.std.proofs.lemmas.Bool.{cases_lt}
 use Rattle.std.specs.List.{AllByRecursion, flat_map}
 use Rattle.mcs_base.proofs.Each.{all_get}
@@ -18,33 +18,24 @@ use Rattle.mcs_proof_reader.proofs.TextLines.{text_lines}
 use Rattle.mcs_proof_reader.proofs.WholeReadings.{spelled_once}
 use Rattle.mcs_check.specs.Findings.{IsFinding, RulesOut}
 use Rattle.mcs_proof_text.specs.Proofs.{IsRight, IsAnswered}
-use Rattle.mcs_check.specs.Validity.{IsNeeded, DifferFirst}
+use Rattle.mcs_check.specs.Validity.{IsNeeded, DifferFirst, AreComplete}
 use Rattle.mcs_check.specs.declared.finding.Reason.{Reason}
 use Rattle.mcs_check.specs.declared.finding.Reason.TheVariants.{Grammar, Certificate, Missing, Listing}
 use Rattle.mcs_check.specs.declared.finding.Finding.{Finding}
 use Rattle.mcs_check.specs.declared.finding.Finding.TheVariants.{Valid, Fails}
+use Rattle.mcs_base.proofs.Written.{slice_get-take}
 
--- ---- lists
-get_in_front : {A : Type 0} (n : ℕ) (xs : List A) (k : ℕ) → k < n → slice_get (take n xs) k ≡ slice_get xs k
-get_in_front zero xs k less = absurd (omega arith)
-get_in_front (suc n) [] k less = refl
-get_in_front (suc n) (x ∷ xs) zero less = refl
-get_in_front (suc n) (x ∷ xs) (suc k) less = get_in_front n xs k (omega arith)
-
+-- ---- the first place of a kind
 one_of_two : (P : ℕ → Type 0) (a b : ℕ) → P a → P b → ((i j : ℕ) → P i → P j → i < j → ⊥) → a ≡ b
 one_of_two P a b p q never = elim (cases_lt a b) [
   | inl less ↦ absurd (never a b p q less)
   | inr past ↦ elim (cases_lt b a) [ inl less ↦ absurd (never b a q p less) | inr past' ↦ omega arith ]
 ]
 
-DiffersAt : List (List ℕ) → List (List ℕ) → ℕ → Type 0
-DiffersAt xs ys k = (take k xs ≡ take k ys) × (¬ (slice_get xs k ≡ slice_get ys k))
-
 differ_once : (xs ys : List (List ℕ)) (j k : ℕ) → DifferFirst xs ys j → DifferFirst xs ys k → j ≡ k
-unfolding DiffersAt
 differ_once xs ys j k d e =
-    let same = one_of_two (DiffersAt xs ys) d.index e.index (d.same, d.differ) (e.same, e.differ)
-    (λ a b p q less. p.1 (sym (get_in_front b xs a less) ∙ ap (λ (zs : List (List ℕ)). slice_get zs a) q.0 ∙ get_in_front b ys a less)) in
+    let same = one_of_two (λ k. (take k xs ≡ take k ys) × (¬ (slice_get xs k ≡ slice_get ys k))) d.index e.index (d.same, d.differ) (e.same, e.differ)
+    (λ a b p q less. p.1 (sym (slice_get-take b xs a less) ∙ ap (λ (zs : List (List ℕ)). slice_get zs a) q.0 ∙ slice_get-take b ys a less)) in
     d.line_is ∙ ap (λ (n : ℕ). n + 1) same ∙ sym e.line_is
 
 free_listing : (lines : List (List ℕ)) → IsListingPart lines → AllByRecursion IsLineFeedFree lines
@@ -59,7 +50,7 @@ free_listing (line ∷ lines) (free, rest) = (free, at rest (free_listing lines)
 module _ (m : System) (listing : List (List ℕ)) (answers : List Answer) where
   pub record ValidHere : Type 0 where
     pub right : AllByRecursion (IsRight m) answers
-    pub complete : (i x : ℕ) → IsNeeded m i x → IsAnswered answers i x
+    pub complete : AreComplete m answers
     pub same : IsWholeListing m (text_of_lines listing)
 
   pub record WrongHere (line : ℕ) : Type 0 where
@@ -80,7 +71,7 @@ module _ (m : System) (listing : List (List ℕ)) (answers : List Answer) where
 
   pub record OtherHere (line : ℕ) : Type 0 where
     pub right : AllByRecursion (IsRight m) answers
-    pub complete : (i x : ℕ) → IsNeeded m i x → IsAnswered answers i x
+    pub complete : AreComplete m answers
     pub due : List (List ℕ)
     pub free : AllByRecursion IsLineFeedFree due
     pub whole : IsWholeListing m (text_of_lines due)
@@ -102,7 +93,7 @@ module _ (m : System) (listing : List (List ℕ)) (answers : List Answer) where
   wrong_once : (j k : ℕ) → WrongHere j → WrongHere k → j ≡ k
   wrong_once j k h g =
       let same = one_of_two (λ n. (a : Answer) × (slice_get answers n ≡ Some a) × (¬ IsRight m a) × AllByRecursion (IsRight m) (take n answers)) h.number g.number (h.answer, h.is_it, h.wrong, h.before) (g.answer, g.is_it, g.wrong, g.before)
-      (λ a b (x, is, wrong, before) (y, is', wrong', before') less. wrong (all_get (IsRight m) (take b answers) a x before' (get_in_front b answers a less ∙ is))) in
+      (λ a b (x, is, wrong, before) (y, is', wrong', before') less. wrong (all_get (IsRight m) (take b answers) a x before' (slice_get-take b answers a less ∙ is))) in
       h.line_is ∙ ap (λ (n : ℕ). length listing + 1 + length (flat_map (answer_lines m) (take n answers)) + 1) same ∙ sym g.line_is
 
   module _ (free : AllByRecursion IsLineFeedFree listing) where

@@ -1,7 +1,6 @@
 -- The answers of one context, and the oracle that holds them.
-use Rattle.std.proofs.Common.{◌≡◌, ℕ, ◌+◌, ◌<◌, Bool, true, false, cond, List, [], ◌∷◌, ◌++◌, map, filter, length, Some, Vec, Global, slice_get, refl, sym, ap, ◌∙◌, subst, inl, inr, arith, append_assoc}
+use Rattle.std.proofs.Common.{◌≡◌, ℕ, ◌+◌, ◌<◌, true, List, map, filter, length, Some, Vec, Global, slice_get, refl, sym, ap, ◌∙◌, subst, inl, inr, arith}
 use Rattle.std.proofs.lemmas.Bool.Decides.{nat_tests}
-use Rattle.std.proofs.lemmas.List.{map_push}
 use Rattle.std.proofs.lemmas.List.FromFn.{length-map-range_with_len, get_or-map-range_with_len}
 use Rattle.std.proofs.lemmas.Option.{slice_get_within, same_Some}
 use Rattle.std.proofs.lemmas.Simd.{map-map}
@@ -30,20 +29,6 @@ of_context i a e = grind (arith, nat_tests)
 
 is_of_it : (i : ℕ) (a : Answer) → a.context ≡ i → is_of i a ≡ true
 is_of_it i a e = grind (arith, nat_tests)
-
--- one more answer, of the context or not
-pub own_more : (i : ℕ) (own more : List (ℕ × Vec ℕ Global)) (one : ℕ × Vec ℕ Global) (a : Answer) (rest : List Answer) (whole : List Answered) → more ≡ own ++ one ∷ [] → answered one ≡ answered_by a → a.context ≡ i
-    → map answered own ++ answers_to i (a ∷ rest) ≡ whole → map answered more ++ answers_to i rest ≡ whole
-own_more i own more one a rest whole pushed same here before =
-    ap (λ (os : List (ℕ × Vec ℕ Global)). map answered os ++ answers_to i rest) pushed
-    ∙ ap (λ (os : List Answered). os ++ answers_to i rest) (map_push answered own one ∙ ap (λ (o : Answered). map answered own ++ o ∷ []) same)
-    ∙ append_assoc (map answered own) (answered_by a ∷ []) (answers_to i rest)
-    ∙ ap (λ (b : Bool). map answered own ++ map answered_by (cond b (a ∷ filter (is_of i) rest) (filter (is_of i) rest))) (sym (is_of_it i a here))
-    ∙ before
-
-pub own_passed : (i : ℕ) (own : List (ℕ × Vec ℕ Global)) (a : Answer) (rest : List Answer) (whole : List Answered) → ¬ (a.context ≡ i) → map answered own ++ answers_to i (a ∷ rest) ≡ whole → map answered own ++ answers_to i rest ≡ whole
-own_passed i own a rest whole other before =
-    ap (λ (b : Bool). map answered own ++ map answered_by (cond b (a ∷ filter (is_of i) rest) (filter (is_of i) rest))) (let no : false ≡ is_of i a = grind (arith, nat_tests) in no) ∙ before
 
 -- ---- what holds of them
 module _ (m : System) (i : ℕ) (answers : List Answer) where

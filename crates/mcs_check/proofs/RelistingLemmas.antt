@@ -1,14 +1,11 @@
 -- What the work on a system that is evaluated by answers tells of them.
-use Rattle.std.proofs.Common.{◌≡◌, ℕ, ◌<◌, ◌≤◌, List, [], length, Some, None, refl, sym, ap, subst, inl, inr, ◌⊎◌, arith}
-use Rattle.std.proofs.lemmas.Bool.{cases_lt}
+use Rattle.std.proofs.Common.{◌≡◌, ℕ, ◌<◌, ◌≤◌, List, [], length, Some, None, refl, sym, ap, subst, inl, inr, arith}
 use Rattle.std.proofs.lemmas.Option.{same_Some, slice_get_within}
 use Rattle.mcs_base.proofs.Among.{cases_among}
 use Rattle.mcs_system.specs.Faults.{IsValid}
 use Rattle.mcs_system.specs.Levels.{IsQuestionAt}
 use Rattle.mcs_system.specs.Plain.{System}
-use Rattle.mcs_system.specs.Systems.{IsConsistent, all_rules}
-use Rattle.mcs_laws.proofs.Existence.{consistency_is_listed}
-use Rattle.mcs_evidence.proofs.SystemListings.{all_states_listed}
+use Rattle.mcs_system.specs.Systems.{IsConsistent}
 use Rattle.mcs_states.specs.Oracles.{OracleState, Lacks}
 use Rattle.mcs_states.specs.Evaluators.{EvaluatorState}
 use Rattle.mcs_mesh.specs.Rounds.{state_of, AreFresh}
@@ -27,21 +24,16 @@ use Rattle.mcs_check.specs.Answers.{sets_to, oracle_for, oracles_for}
 use Rattle.mcs_check.specs.Relisting.{HoldAll, LackOne, IsSpentStop, IsMissingStop}
 use Rattle.mcs_check.proofs.Counting.{never_so_many}
 use Rattle.mcs_check.proofs.OwnAnswers.{oracle_there, oracle_is, set_answered, answered_set}
+use Rattle.mcs_work.proofs.CourseLemmas.{decided_always}
 
 -- ---- levels
-decided : (m : System) → IsConsistent m ⊎ (¬ IsConsistent m)
-decided m = let (σs, listing) = all_states_listed m (all_rules m) 0 in elim (cases_lt 0 (length σs)) [
-  | inl some ↦ inl ((consistency_is_listed m σs listing).1 some)
-  | inr none ↦ inr (λ c. let more : 0 < length σs = (consistency_is_listed m σs listing).0 c in absurd (omega (arith, more, none)))
-]
-
 last_is_taken : (m : System) (level : ℕ) → IsLastRepairLevel m level → IsRepairLevel m level
 last_is_taken m level (inl (consistent, first)) = inl first
 last_is_taken m level (inr (not, last)) = inr (not, omega (arith, last))
 
 -- a question of a level that is taken is one of the last level
 needed_of : (m : System) (level i x : ℕ) → i < length m.contexts → IsRepairLevel m level → IsQuestionAt m level i x → IsNeeded m i x
-needed_of m level i x less taken question = elim (decided m) [
+needed_of m level i x less taken question = elim (decided_always m) [
   | inl consistent ↦ (0, inl (consistent, refl), less, subst (λ (l : ℕ). IsQuestionAt m l i x) (lowest consistent taken) question)
   | inr not ↦ (length m.bridges, inr (not, refl), less, question_higher m level (length m.bridges) i x (within taken) question)
 ]

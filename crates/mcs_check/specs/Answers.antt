@@ -1,29 +1,18 @@
 -- The answers of a report, one by one and by their contexts, and oracles that hold them.
-use Rattle.std.specs.Prelude.{◌≡◌, ℕ, nat_eq, Bool, List, [], map, filter, take, length, Some, Vec, slice_get}
+use Rattle.std.specs.Prelude.{ℕ, nat_eq, Bool, List, [], map, filter, length, Vec}
 use Rattle.std.specs.List.{AllByRecursion, range_with_len}
 use Rattle.std.specs.declared.alloc.Global.{Global}
 use Rattle.mcs_system.specs.Plain.{System}
 use Rattle.mcs_states.specs.Oracles.{OracleState}
 use Rattle.mcs_certificate.specs.Certified.{certified_of}
 use Rattle.mcs_proof_text.specs.Answers.{Answer}
-use Rattle.mcs_proof_reader.specs.Readers.{answer_of}
-use Rattle.mcs_proof_reader.specs.declared.answer.ReportAnswer as code
-use Rattle.mcs_proof_text.specs.Proofs.{IsRight, IsAnswered}
-use Rattle.mcs_check.specs.Validity.{IsNeeded}
-
--- the first of the answers that is not right begins at this line
-pub record IsFirstWrong (m : System) (answers : List code.ReportAnswer) (line : ℕ) : Type 0 where
-  pub number : ℕ
-  pub answer : code.ReportAnswer
-  pub is_it : slice_get answers number ≡ Some answer
-  pub begins : answer.line ≡ line
-  pub wrong : ¬ IsRight m (answer_of answer)
-  pub before : AllByRecursion (IsRight m) (take number (map answer_of answers))
+use Rattle.mcs_proof_text.specs.Proofs.{IsRight}
+use Rattle.mcs_check.specs.Validity.{AreComplete}
 
 -- each of the answers is right, and each question that is needed has one
 pub record AreEnough (m : System) (answers : List Answer) : Type 0 where
   pub right : AllByRecursion (IsRight m) answers
-  pub complete : (i x : ℕ) → IsNeeded m i x → IsAnswered answers i x
+  pub complete : AreComplete m answers
 
 -- ---- the answers of one context
 -- a rule set, and the states that are put out

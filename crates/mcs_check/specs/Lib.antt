@@ -2,4 +2,5 @@ pub mod Validity
 pub mod Findings
 pub mod Collected
 pub mod Answers
+pub mod Judging
 pub mod Relisting

@@ -1,12 +1,15 @@
 -- When a report on a system is valid, and the first line that shows that it is not.
-use Rattle.std.specs.Prelude.{◌≡◌, ℕ, ◌+◌, ◌<◌, List, ◌++◌, length, take, Some, slice_get}
+use Rattle.std.specs.Prelude.{◌≡◌, ℕ, ◌+◌, ◌^◌, ◌<◌, ◌≤◌, List, ◌++◌, length, take, Some, slice_get}
 use Rattle.std.specs.List.{AllByRecursion, flat_map}
 use Rattle.mcs_system.specs.Plain.{System}
+use Rattle.mcs_system.specs.Faults.{IsValid}
+use Rattle.mcs_system.specs.Naming.{IsNamed}
+use Rattle.mcs_system.specs.Justifications.{SystemIsJustifiedUpTo}
 use Rattle.mcs_system.specs.Levels.{IsQuestionAt}
 use Rattle.mcs_report.specs.Solutions.{IsWholeListing}
 use Rattle.mcs_proof_text.specs.Lines.{text_of_lines}
 use Rattle.mcs_proof_text.specs.Answers.{Answer, answer_lines}
-use Rattle.mcs_proof_text.specs.Reports.{SpellsReport, IsFirstFault, IsLineFeedFree, report_lines}
+use Rattle.mcs_proof_text.specs.Reports.{SpellsReport, IsFirstFault, IsLineFeedFree, report_lines, most_report_bytes}
 use Rattle.mcs_proof_text.specs.Proofs.{AreProof, IsAnswered, IsRight, proof_lines}
 use Rattle.mcs_work.specs.Tasks.{IsLastTaken}
 use Rattle.mcs_work.specs.declared.task.Task.TheVariants.{Solve}
@@ -17,6 +20,10 @@ use Rattle.mcs_check.specs.declared.finding.Reason.TheVariants as reasons
 abbrev pub IsNeeded : System → ℕ → ℕ → Type 0
 IsNeeded m i x = (level : ℕ) × IsLastTaken Solve m level × (i < length m.contexts) × IsQuestionAt m level i x
 
+-- each of them has an answer
+abbrev pub AreComplete : System → List Answer → Type 0
+AreComplete m answers = (i x : ℕ) → IsNeeded m i x → IsAnswered answers i x
+
 -- ---- a report
 -- it is spelled, each answer is right, each question that is needed has an answer, and its listing is that of the system
 pub record IsValidReport (m : System) (bytes : List ℕ) : Type 0 where
@@ -24,7 +31,7 @@ pub record IsValidReport (m : System) (bytes : List ℕ) : Type 0 where
   pub answers : List Answer
   pub spelled : SpellsReport m bytes listing answers
   pub right : AllByRecursion (IsRight m) answers
-  pub complete : (i x : ℕ) → IsNeeded m i x → IsAnswered answers i x
+  pub complete : AreComplete m answers
   pub same : IsWholeListing m (text_of_lines listing)
 
 -- it is spelled, and this is the number of the first answer that is not right, counted from 0
@@ -65,7 +72,7 @@ pub record HasOtherListing (m : System) (bytes : List ℕ) (line : ℕ) : Type 0
   pub answers : List Answer
   pub spelled : SpellsReport m bytes listing answers
   pub right : AllByRecursion (IsRight m) answers
-  pub complete : (i x : ℕ) → IsNeeded m i x → IsAnswered answers i x
+  pub complete : AreComplete m answers
   pub due : List (List ℕ)
   pub free : AllByRecursion IsLineFeedFree due
   pub whole : IsWholeListing m (text_of_lines due)
@@ -88,3 +95,9 @@ pub record IsProvedListing (m : System) (text : List ℕ) : Type 0 where
   pub answers : List Answer
   pub proof : AreProof m level answers
   pub text_is : text ≡ listing ++ text_of_lines (proof_lines m answers)
+
+-- ---- laws
+-- one that is no longer than a report is a valid report
+abbrev pub ProvedListingsAreValid : Type 0
+ProvedListingsAreValid = (m : System) (n : ℕ) (text : List ℕ) → IsValid m → IsNamed m → n < 2 ^ 32 → SystemIsJustifiedUpTo n m → length text ≤ most_report_bytes
+    → IsProvedListing m text → IsValidReport m text

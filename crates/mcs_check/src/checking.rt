@@ -1,21 +1,23 @@
 //! The check of a report.
 
-ghost use Rattle.std.specs.Prelude.{ℕ, List, IfOk};
+ghost use Rattle.std.specs.Prelude.{ℕ, List, map, IfOk};
 ghost use Rattle.std.specs.Arc.{arc_value};
 ghost use Rattle.mcs_system.specs.Plain as plain;
 ghost use Rattle.mcs_report.specs.Solutions.{IsWholeListing};
-ghost use Rattle.mcs_proof_reader.specs.Whole.{IsReportOf, answers_in};
+ghost use Rattle.mcs_proof_text.specs.Answers.{Answer};
+ghost use Rattle.mcs_proof_text.specs.Reports.{SpellsReport};
 ghost use Rattle.mcs_check.specs.Answers.{AreEnough};
 ghost use Rattle.mcs_check.specs.Findings.{IsFinding, RulesOut};
+ghost use Rattle.mcs_check.specs.Judging.{IsJudgedReport};
 
-use crate::acceptance::first_wrong;
 use crate::finding::{Finding, Reason};
+use crate::judging::{Judge, Judged, first_wrong};
 use crate::listing::first_difference;
 use crate::oracles::oracles_of;
 use crate::relisting::listing_by;
 use mcs_base::Memory;
 use mcs_proof_lines::ReportFault;
-use mcs_proof_reader::{Report, read_report};
+use mcs_proof_reader::{KeptReport, read_kept};
 use mcs_system::System;
 use std::alloc::Global;
 use std::sync::Arc;
@@ -31,12 +33,12 @@ pub fn check_report(alloc: Global, system: Arc<System>, bytes: &[u8]) -> Result<
     found_in(alloc, system, bytes)
 }
 
-/// What is found of the bytes.
+/// What is found of the bytes. Each answer is judged as soon as it was read, so that one certificate at most is held.
 fn found_in(alloc: Global, system: Arc<System>, bytes: &[u8]) -> Result<Finding, Memory>
     ensures { IfOk result (IsFinding (arc_value system) bytes.now) }
 {
-    match read_report(alloc, &system, bytes) {
-        Ok(report) => finding_of(alloc, system, &report),
+    match read_kept(alloc, &system, bytes, &Judge) {
+        Ok(report) => finding_of(alloc, system, report),
         Err(ReportFault::Grammar { line }) => Ok(Finding::Fails {
             line,
             reason: Reason::Grammar,
@@ -45,33 +47,37 @@ fn found_in(alloc: Global, system: Arc<System>, bytes: &[u8]) -> Result<Finding,
     }
 }
 
-/// What is found of a report that was read.
-fn finding_of(alloc: Global, system: Arc<System>, report: &Report) -> Result<Finding, Memory>
-    requires { (bytes : List ℕ) × IsReportOf (arc_value system) bytes report.now }
-    ensures { (bytes : List ℕ) → IsReportOf (arc_value system) bytes report.now → IfOk result (IsFinding (arc_value system) bytes) }
+/// What is found of a report that was read, with its answers judged.
+fn finding_of(
+    alloc: Global,
+    system: Arc<System>,
+    report: KeptReport<Judged>,
+) -> Result<Finding, Memory>
+    requires { (bytes : List ℕ) × IsJudgedReport (arc_value system) bytes report }
+    ensures { (bytes : List ℕ) → IsJudgedReport (arc_value system) bytes report → IfOk result (IsFinding (arc_value system) bytes) }
 {
-    if let Some(line) = first_wrong(alloc, &system, &report.answers)? {
+    if let Some(line) = first_wrong(&report.answers) {
         return Ok(Finding::Fails {
             line,
             reason: Reason::Certificate,
         });
     }
-    let oracles = oracles_of(alloc, &system, &report.answers)?;
+    let oracles = oracles_of(alloc, &system, report.answers)?;
     let Some(listed) = listing_by(alloc, system, oracles)? else {
         return Ok(Finding::Fails {
             line: report.last_line,
             reason: Reason::Missing,
         });
     };
-    Ok(compared(report, listed.bytes()))
+    Ok(compared(&report.listing, listed.bytes()))
 }
 
-/// What is found of a report with which nothing else is wrong, by the listing that is due.
-fn compared(report: &Report, due: &[u8]) -> Finding
-    ensures { (m : plain.System) (bytes : List ℕ) → IsReportOf m bytes report.now → AreEnough m (answers_in report.now)
+/// What is found of a report with this listing with which nothing else is wrong, by the listing that is due.
+fn compared(listing: &[Vec<u8>], due: &[u8]) -> Finding
+    ensures { (m : plain.System) (bytes : List ℕ) (as' : List Answer) → SpellsReport m bytes (map (λ l. l.items) listing.now) as' → AreEnough m as'
         → IsWholeListing m due.now → IsFinding m bytes result }
 {
-    match first_difference(&report.listing, due) {
+    match first_difference(listing, due) {
         Some(line) => Finding::Fails {
             line,
             reason: Reason::Listing,

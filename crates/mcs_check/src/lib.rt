@@ -2,13 +2,15 @@
 //! answers alone the listing is worked out anew.
 #![tactic(auto)]
 
-mod acceptance;
 mod checking;
 mod collecting;
 mod finding;
+mod judging;
+mod laws;
 mod listing;
 mod oracles;
 mod relisting;
 
 pub use checking::check_report;
 pub use finding::{Finding, Reason, finding_line};
+pub use laws::proved_listings_are_valid;

@@ -1,38 +1,56 @@
 //! Oracles that hold the answers of a report.
 
-ghost use Rattle.std.specs.Prelude.{◌≡◌, map, IfOk, OnOk};
+ghost use Rattle.std.specs.Prelude.{◌≡◌, ◌<◌, ℕ, List, [], length, IfOk, OnOk};
 ghost use Rattle.std.specs.Arc.{arc_value};
 ghost use Rattle.std.specs.List.{AllByRecursion};
-ghost use Rattle.mcs_base.specs.Listings.{IsAscending};
 ghost use Rattle.mcs_system.specs.Faults.{IsValid};
-ghost use Rattle.mcs_proof_text.specs.Reports.{AnswerBefore};
-ghost use Rattle.mcs_proof_reader.specs.Readers.{answer_of};
-ghost use Rattle.mcs_proof_text.specs.Proofs.{IsRight};
-ghost use Rattle.mcs_check.specs.Answers.{answered, answers_to, oracles_for};
+ghost use Rattle.mcs_proof_text.specs.Answers.{Answer};
+ghost use Rattle.mcs_check.specs.Answers.{oracles_for};
+ghost use Rattle.mcs_check.specs.Judging.{AreJudged, AreAllRight, AreSorted, HoldOneMore};
 
+use crate::judging::Judged;
 use mcs_base::{Active, Memory, Vars};
 use mcs_certificate::CertifiedOracle;
-use mcs_proof_reader::ReportAnswer;
 use mcs_system::System;
 use std::alloc::Global;
 use std::sync::Arc;
 
-/// The answers to the questions of this context, in their order: for each rule set the states that are put out.
-fn answers_of(
-    alloc: Global,
-    answers: &[ReportAnswer],
-    context: u32,
-) -> Result<Vec<(Active, Vec<Vars>)>, Memory>
-    ensures { IfOk result (λ own. map answered own.items ≡ answers_to context (map answer_of answers.now)) }
+/// So many lists without answers.
+fn no_answers(alloc: Global, contexts: usize) -> Result<Vec<Vec<(Active, Vec<Vars>)>>, Memory>
+    ensures many { IfOk result (λ lists. length lists.items ≡ contexts) }
+    ensures empty { IfOk result (λ lists. AllByRecursion (λ own. own.items ≡ []) lists.items) }
 {
-    let mut own = Vec::new(alloc);
-    for answer in answers {
-        if answer.context == context {
-            let outputs = answer.outputs.to_vec(alloc)?;
-            own.push((answer.active, outputs))?;
-        }
+    let mut lists = Vec::new(alloc);
+    for _ in 0..contexts {
+        lists.push(Vec::new(alloc))?;
     }
-    Ok(own)
+    Ok(lists)
+}
+
+/// Puts the answer at the end of the list of its context.
+fn put(lists: &mut Vec<Vec<(Active, Vec<Vars>)>>, answer: Judged) -> Result<(), Memory>
+    requires { answer.context < length lists.old.items }
+    ensures { OnOk result (HoldOneMore answer lists.old.items lists.new.items) }
+{
+    lists[answer.context as usize].push((answer.active, answer.outputs))?;
+    Ok(())
+}
+
+/// For each context, in order, the answers to its questions, in their order: for each rule set the states that are put
+/// out. Each is to a question of one of so many contexts.
+fn by_context(
+    alloc: Global,
+    contexts: usize,
+    answers: Vec<Judged>,
+) -> Result<Vec<Vec<(Active, Vec<Vars>)>>, Memory>
+    requires { AllByRecursion (λ a. a.context < contexts) answers.items }
+    ensures { IfOk result (λ lists. AreSorted contexts answers.items lists.items) }
+{
+    let mut lists = no_answers(alloc, contexts)?;
+    for answer in answers {
+        put(&mut lists, answer)?;
+    }
+    Ok(lists)
 }
 
 /// An oracle for each context of the system, in order, that holds the answers to its questions. None was asked. The
@@ -40,17 +58,18 @@ fn answers_of(
 pub(crate) fn oracles_of(
     alloc: Global,
     system: &Arc<System>,
-    answers: &[ReportAnswer],
+    answers: Vec<Judged>,
 ) -> Result<Vec<CertifiedOracle>, Memory>
-    requires right { AllByRecursion (IsRight (arc_value system.now)) (map answer_of answers.now) }
-    requires ascending { IsAscending AnswerBefore (map answer_of answers.now) }
-    ensures oracles { IfOk result (λ oracles. oracles.items ≡ oracles_for (arc_value system.now) (map answer_of answers.now)) }
+    requires { AreAllRight (arc_value system.now) answers.items }
+    ensures oracles { (n : ℕ) (as' : List Answer) → AreJudged (arc_value system.now) n as' answers.items
+        → IfOk result (λ oracles. oracles.items ≡ oracles_for (arc_value system.now) as') }
     ensures valid { OnOk result (IsValid (arc_value system.now)) }
 {
+    let lists = by_context(alloc, system.contexts().len(), answers)?;
     let mut oracles = Vec::new(alloc);
-    for context in 0..system.contexts().len() as u32 {
-        let own = answers_of(alloc, answers, context)?;
+    for own in lists {
         let shared = system.clone()?;
+        let context = oracles.len() as u32;
         oracles.push(CertifiedOracle::new(alloc, shared, context, own))?;
     }
     Ok(oracles)

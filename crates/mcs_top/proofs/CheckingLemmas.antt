@@ -14,7 +14,8 @@ use Rattle.mcs_check.specs.declared.finding.Finding.{Finding}
 use Rattle.mcs_check.specs.declared.finding.Finding.TheVariants.{Valid, Fails}
 use Rattle.mcs_top.specs.Endings.{stop_for_line}
 use Rattle.mcs_top.specs.Jobs.{File, told_all, OfOneFile, OfFirstFile, OfTwoFiles}
-use Rattle.mcs_top.specs.Texts.{most_report_bytes, IsTextOf, IsRefusedFor, StopsReading, StopsReport}
+use Rattle.mcs_proof_text.specs.Reports.{most_report_bytes}
+use Rattle.mcs_top.specs.Texts.{IsTextOf, IsRefusedFor, StopsReading, StopsReport}
 use Rattle.mcs_top.specs.Promise.{OfReport, IsToldValid, IsToldFailing, FailsATest, IsReportTooLong, IsCheckRefusal, WritesStage, HasCause, LeavesText, EndsSo, outcome_of}
 use Rattle.mcs_top.specs.declared.ending.Refusal.{Refusal}
 use Rattle.mcs_top.specs.declared.ending.Refusal.TheVariants as refusals

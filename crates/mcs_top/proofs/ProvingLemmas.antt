@@ -10,12 +10,16 @@ use Rattle.mcs_text.specs.declared.unwritten.Unwritten.TheVariants as unwritten
 use Rattle.mcs_system.specs.Plain.{System}
 use Rattle.mcs_states.specs.Oracles.{OracleState, with_journal}
 use Rattle.mcs_states.specs.Evaluators.{EvaluatorState, KeepsRest, IsAsked}
+use Rattle.mcs_system.specs.Faults.{IsValid}
+use Rattle.mcs_system.specs.Naming.{IsNamed}
+use Rattle.mcs_grammar.proofs.JustificationLemmas.{defaults-short}
 use Rattle.mcs_report.specs.Solutions.{IsWholeListing, whole}
 use Rattle.mcs_proof_text.specs.Lines.{text_of_lines}
 use Rattle.mcs_proof_text.specs.Answers.{Answer}
 use Rattle.mcs_proof_text.specs.Proofs.{AreProof, proof_lines}
 use Rattle.mcs_proof_writer.specs.Proving.{AreAsked, HasProved, HasBegunProof, Proves}
 use Rattle.mcs_check.specs.Validity.{IsProvedListing}
+use Rattle.mcs_check.proofs.ProvedListings.{proved_listings_valid}
 use Rattle.mcs_work.specs.Tasks.{IsTaskStage, IsLastTaken}
 use Rattle.mcs_work.specs.Work.{IsDone}
 use Rattle.mcs_work.specs.declared.task.Task.TheVariants.{Solve}
@@ -23,7 +27,7 @@ use Rattle.mcs_words.specs.Commands.{Word, solve}
 use Rattle.mcs_top.specs.Endings.{stop_for_line}
 use Rattle.mcs_top.specs.Jobs.{File, OfOneFile}
 use Rattle.mcs_top.specs.Texts.{IsTextOf, StopsReading}
-use Rattle.mcs_top.specs.Promise.{OfSystem, IsListedBefore, IsSolved, IsSolutionStage, Prints, PrintsFront, WritesOutput, WritesStage, StopsWork, StopsProof, StopsAnswers, HasCause, LeavesText, IsNewMesh, HaveOrigin}
+use Rattle.mcs_top.specs.Promise.{OfSystem, IsListedBefore, IsListedProved, IsSolved, IsSolutionStage, Prints, PrintsFront, WritesOutput, WritesStage, StopsWork, StopsProof, StopsAnswers, HasCause, LeavesText, IsNewMesh, HaveOrigin}
 use Rattle.mcs_top.specs.declared.ending.Stop.{Stop}
 use Rattle.mcs_top.specs.declared.ending.Stop.TheVariants as stops
 use Rattle.mcs_top.proofs.JobLemmas.{told_also, of_file}
@@ -96,7 +100,7 @@ module _ (m : System) (budget : ℕ) (e e' : EvaluatorState) (fresh : IsNewMesh 
   proof_front now (inl same) = subst (λ (w : Option (List ℕ)). PrintsFront (IsSolutionStage true m) before w) (sym same) listing_left
   proof_front now (inr begun) = proof_begun now begun
 
-  proof_written : (now : Option (List ℕ)) → HasProved m d.level mid now → Prints (λ text. IsSolved true budget text m) before now
+  proof_written : (now : Option (List ℕ)) → HasProved m d.level mid now → Prints (λ text. IsListedProved budget text m) before now
   proof_written now p =
       let listed = listed_done Solve m budget e e' fresh before mid d in
       record {
@@ -105,7 +109,7 @@ module _ (m : System) (budget : ℕ) (e e' : EvaluatorState) (fresh : IsNewMesh 
         written = after_listing p.answers p.proof (text_of_lines (proof_lines m p.answers)) now p.written;
       }
 
-  pub proof_done : (now : Option (List ℕ)) (r : Result (Unit {0}) Stop) → OnOk r (HasProved m d.level mid now) → OnOk r (Prints (λ text. IsSolved true budget text m) before now)
+  pub proof_done : (now : Option (List ℕ)) (r : Result (Unit {0}) Stop) → OnOk r (HasProved m d.level mid now) → OnOk r (Prints (λ text. IsListedProved budget text m) before now)
   proof_done now (Ok x) p = proof_written now p
   proof_done now (Err stop) p = tt
 
@@ -149,11 +153,20 @@ module _ (name : Word) (budget workers : ℕ) where
       front = p.front;
     }) read
 
-    pub file_proved : (before now : Option (List ℕ)) (r : Result (Unit {0}) Stop) → OnOk r (Prints (λ text. IsSolved true budget text m) before now) → OnOk r (IfSome files (WritesOutput before now (solve name budget workers true)))
-    file_proved before now (Err stop) p = tt
-    file_proved before now (Ok x) p = told_also files _ _ (λ fs h. record {
+    proved : IsValid m → IsNamed m → (bytes text : List ℕ) → IsTextOf m bytes → IsListedProved budget text m → IsSolved true budget text m
+    proved valid named bytes text spelled listed = (
+      listed.0,
+      record {
+        listing = listed.1;
+        valid = λ few. proved_listings_valid m (length bytes) text valid named (let short = spelled.fits in omega (arith, short)) (defaults-short bytes m spelled.spelled) few listed.1;
+      },
+    )
+
+    pub file_proved : IsValid m → IsNamed m → (before now : Option (List ℕ)) (r : Result (Unit {0}) Stop) → OnOk r (Prints (λ text. IsListedProved budget text m) before now) → OnOk r (IfSome files (WritesOutput before now (solve name budget workers true)))
+    file_proved valid named before now (Err stop) p = tt
+    file_proved valid named before now (Ok x) p = told_also files _ _ (λ fs h. record {
       text = p.text;
-      holds = of_file (IsTextOf m) (OfSystem (IsSolved true budget p.text)) (λ bytes spelled. (m, spelled, p.holds)) fs h;
+      holds = of_file (IsTextOf m) (OfSystem (IsSolved true budget p.text)) (λ bytes spelled. (m, spelled, proved valid named bytes p.text spelled p.holds)) fs h;
       written = p.written;
     }) read
 

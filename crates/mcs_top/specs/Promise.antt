@@ -20,7 +20,8 @@ use Rattle.mcs_check.specs.declared.finding.Finding.{Finding}
 use Rattle.mcs_check.specs.declared.finding.Finding.TheVariants.{Valid, Fails}
 use Rattle.mcs_proof_writer.specs.Proving.{HasBegunProof}
 use Rattle.mcs_top.specs.Jobs.{File, OfOneFile, OfFirstFile, OfTwoFiles, LacksOneOfTwo}
-use Rattle.mcs_top.specs.Texts.{IsTextOf, IsRefusedFor, most_report_bytes}
+use Rattle.mcs_proof_text.specs.Reports.{most_report_bytes}
+use Rattle.mcs_top.specs.Texts.{IsTextOf, IsRefusedFor}
 use Rattle.mcs_top.specs.Endings.{refusal_line, unfinished_line, line_of}
 use Rattle.mcs_top.specs.declared.ending.Outcome.{Outcome}
 use Rattle.mcs_top.specs.declared.ending.Outcome.TheVariants as outcomes
@@ -64,10 +65,20 @@ IsListed task budget text m = Suffices task budget m × IsTaskText task m text
 abbrev pub IsListedBefore : Task → ℕ → ℕ → List ℕ → System → Type 0
 IsListedBefore task budget level text m = IsLeastBeyond task budget level m × IsTaskUpTo task m level text
 
+-- ---- the listing of a system with its proof
+-- it is a valid report, where it is not longer than one may be
+pub record IsProved (m : System) (text : List ℕ) : Type 0 where
+  pub listing : IsProvedListing m text
+  pub valid : length text ≤ most_report_bytes → IsValidReport m text
+
+-- the budget suffices for the listing that is proved
+abbrev pub IsListedProved : ℕ → List ℕ → System → Type 0
+IsListedProved budget text m = Suffices Solve budget m × IsProvedListing m text
+
 -- ---- the whole listing of a system, with the proof of it where that is asked for
 abbrev pub IsSolution : Bool → System → List ℕ → Type 0
 IsSolution false m text = IsTaskText Solve m text
-IsSolution true m text = IsProvedListing m text
+IsSolution true m text = IsProved m text
 
 -- a stage of it: of the listing, or the listing with its proof
 abbrev pub IsSolutionStage : Bool → System → List ℕ → Type 0

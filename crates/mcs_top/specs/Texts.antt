@@ -2,6 +2,7 @@
 use Rattle.std.specs.Prelude.{ℕ, ◌≤◌, List, length, Option, IfSome}
 use Rattle.mcs_system.specs.Plain.{System}
 use Rattle.mcs_grammar.specs.Texts.{Spells, HasFault}
+use Rattle.mcs_proof_text.specs.Reports.{most_report_bytes}
 use Rattle.mcs_top.specs.Jobs.{File, OfOneFile}
 use Rattle.mcs_top.specs.declared.ending.Refusal.{Refusal}
 use Rattle.mcs_top.specs.declared.ending.Refusal.TheVariants as refusals
@@ -11,10 +12,6 @@ use Rattle.mcs_top.specs.declared.ending.Stop.TheVariants as stops
 -- the most bytes of a system text
 abbrev pub most_text_bytes : ℕ
 most_text_bytes = 1048576
-
--- the most bytes of a report
-abbrev pub most_report_bytes : ℕ
-most_report_bytes = 268435456
 
 -- the bytes are the text of this system
 pub record IsTextOf (m : System) (bytes : List ℕ) : Type 0 where

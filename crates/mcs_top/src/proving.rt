@@ -5,7 +5,7 @@ ghost use Rattle.mcs_ports.specs.Causes.{Rose};
 ghost use Rattle.mcs_proof_writer.specs.Proving.{AreAsked, HasProved};
 ghost use Rattle.mcs_words.specs.Commands.{solve};
 ghost use Rattle.mcs_top.specs.Jobs.{told_all};
-ghost use Rattle.mcs_top.specs.Promise.{HasCause, IsSolved, LeavesText, Prints, StopsAnswers, StopsProof, WritesOutput};
+ghost use Rattle.mcs_top.specs.Promise.{HasCause, IsListedProved, LeavesText, Prints, StopsAnswers, StopsProof, WritesOutput};
 
 use crate::ending::{Stop, stop_for_work};
 use crate::evaluator::{mesh_of, shared};
@@ -41,6 +41,8 @@ pub(crate) fn prove<H: Shelf, K: Sink, G: Gate>(
         (K.device sink.old).written (K.device sink.new).written) }
 {
     let system = system_in(alloc, file, shelf)?;
+    // That what is written is a valid report follows from what the contexts of a system tell of it.
+    let _ = system.contexts();
     prove_system(alloc, system, budget, sink, gate)
 }
 
@@ -54,7 +56,7 @@ fn prove_system<K: Sink, G: Gate>(
 ) -> Result<(), Stop>
     ensures later { (K.device sink.old).faults ≤ (K.device sink.new).faults }
     ensures notes { (K.device sink.new).notes ≡ (K.device sink.old).notes }
-    ensures ok { OnOk result (Prints (λ text. IsSolved true budget text system) (K.device sink.old).written (K.device sink.new).written) }
+    ensures ok { OnOk result (Prints (λ text. IsListedProved budget text system) (K.device sink.old).written (K.device sink.new).written) }
     ensures stop { IfErr result (λ stop. StopsProof stop budget system
         (Rose (K.device sink.old).faults (K.device sink.new).faults) (K.device sink.old).written (K.device sink.new).written) }
 {

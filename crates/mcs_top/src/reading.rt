@@ -3,7 +3,8 @@
 ghost use Rattle.std.specs.Prelude.{◌≡◌, ◌≤◌, [], ◌∷◌, length, IfSome, IfOk, IfErr};
 ghost use Rattle.mcs_ports.specs.Causes.{Rose};
 ghost use Rattle.mcs_top.specs.Jobs.{told_all, OfOneFile};
-ghost use Rattle.mcs_top.specs.Texts.{most_report_bytes, most_text_bytes, IsTextOf, StopsReading, StopsReport, StopsText};
+ghost use Rattle.mcs_proof_text.specs.Reports.{most_report_bytes};
+ghost use Rattle.mcs_top.specs.Texts.{most_text_bytes, IsTextOf, StopsReading, StopsReport, StopsText};
 
 use crate::ending::{Refusal, Stop};
 use mcs_language::read_system;

@@ -26,7 +26,7 @@ returns-in_err-system-clause-leaves g c workers =
     (read_left job rose files files at c.in_err-system.field-0.0 c.in_err-system.ensures.stop)
 
 pub returns-clause-ok : goal.returns-clause-ok
-returns-clause-ok g c workers = file_proved c.args.file.now c.args.budget workers c.in_ok-system.system _ c.in_ok-system.ensures.system (g.K.Sink.device c.args.sink.now).written (g.K.Sink.device c.prove_system.new.sink).written c.prove_system.result c.prove_system.ensures.ok
+returns-clause-ok g c workers = file_proved c.args.file.now c.args.budget workers c.in_ok-system.system _ c.in_ok-system.ensures.system c.contexts.ensures.valid c.contexts.ensures.named (g.K.Sink.device c.args.sink.now).written (g.K.Sink.device c.prove_system.new.sink).written c.prove_system.result c.prove_system.ensures.ok
 
 pub returns-clause-cause : goal.returns-clause-cause
 returns-clause-cause g c workers = proof_causes c.args.file.now c.args.budget workers c.in_ok-system.system _ c.in_ok-system.ensures.system _ _ (g.K.Sink.device c.args.sink.now).written (g.K.Sink.device c.prove_system.new.sink).written c.prove_system.result c.prove_system.ensures.stop
