@@ -20,6 +20,8 @@ mod meshes;
 #[cfg(test)]
 mod programs;
 #[cfg(test)]
+mod reports;
+#[cfg(test)]
 mod solvers;
 #[cfg(test)]
 mod spelling;

@@ -77,6 +77,15 @@ fn a_trace_that_names_no_clause_is_told(rt: HostRuntime) -> Result<(), Fail> {
     Ok(())
 }
 
+#[test]
+fn an_answer_that_is_not_needed_does_no_harm(rt: HostRuntime) -> Result<(), Fail> {
+    let alloc = rt.alloc();
+    let answer = "answer c2 {}\nstate {}\ndone\n";
+    let more = changed(alloc, CONTRADICTION_REPORT, (12, 11), answer)?;
+    assert!(rt; is_found(alloc, CONTRADICTION, &more, 0, "valid\n")?);
+    Ok(())
+}
+
 /// A context that may not believe what a rule tells it.
 const TOLD: &str =
     "context c1 program { a. }\ncontext c2 program { :- p. }\nbridge r1: c2:p if c1:a.\n";

@@ -156,14 +156,19 @@ fn limits_of_parts_are_kept(rt: HostRuntime) -> Result<(), Fail> {
     Ok(())
 }
 
-/// A formula in so many parentheses, from the text of its context on.
+/// Appends a formula in so many parentheses, from the text of its context on.
+fn push_nested(text: &mut Text, front: &[u8], depth: u64, closed: u64) -> Result<(), Memory> {
+    text.push(front)?;
+    push_rows(text, "(", 0, depth)?;
+    text.push(b"p")?;
+    push_rows(text, ")", 0, closed)?;
+    text.push(b". }")
+}
+
+/// That text.
 fn nested(alloc: Global, front: &[u8], depth: u64, closed: u64) -> Result<Text, Memory> {
     let mut text = Text::new(alloc);
-    text.push(front)?;
-    push_rows(&mut text, "(", 0, depth)?;
-    text.push(b"p")?;
-    push_rows(&mut text, ")", 0, closed)?;
-    text.push(b". }")?;
+    push_nested(&mut text, front, depth, closed)?;
     Ok(text)
 }
 
@@ -185,14 +190,20 @@ fn the_limit_of_open_parentheses_is_kept(rt: HostRuntime) -> Result<(), Fail> {
     Ok(())
 }
 
-/// Bridge rules, by turns into six contexts.
+/// Appends bridge rules, by turns into six contexts.
+fn push_rules(text: &mut Text, count: u64) -> Result<(), Memory> {
+    push_rows(text, "context c# classical {} ", 1, 7)?;
+    for number in 0..count {
+        push_row(text, "bridge r#: c", number)?;
+        push_row(text, "#:p. ", number % 6 + 1)?;
+    }
+    Ok(())
+}
+
+/// That text.
 fn many_rules(alloc: Global, count: u64) -> Result<Text, Memory> {
     let mut text = Text::new(alloc);
-    push_rows(&mut text, "context c# classical {} ", 1, 7)?;
-    for number in 0..count {
-        push_row(&mut text, "bridge r#: c", number)?;
-        push_row(&mut text, "#:p. ", number % 6 + 1)?;
-    }
+    push_rules(&mut text, count)?;
     Ok(text)
 }
 
@@ -205,17 +216,22 @@ fn the_limit_of_bridge_rules_is_kept(rt: HostRuntime) -> Result<(), Fail> {
     Ok(())
 }
 
-/// Four rules that read sixteen beliefs of a context each, and then one that reads this one.
-fn many_variables(alloc: Global, last: &str) -> Result<Text, Memory> {
-    let mut text = Text::new(alloc);
+/// Appends four rules that read sixteen beliefs of a context each, and then one that reads this one.
+fn push_variables(text: &mut Text, last: &str) -> Result<(), Memory> {
     text.push(b"context d classical {} ")?;
-    push_rows(&mut text, "context c# classical {} ", 1, 6)?;
+    push_rows(text, "context c# classical {} ", 1, 6)?;
     for rule in 1..5 {
-        push_row(&mut text, "bridge r#: c#:p if d:a#", rule)?;
-        push_rows(&mut text, ", d:b#", rule * 15, rule * 15 + 15)?;
+        push_row(text, "bridge r#: c#:p if d:a#", rule)?;
+        push_rows(text, ", d:b#", rule * 15, rule * 15 + 15)?;
         text.push(b". ")?;
     }
-    push_row(&mut text, last, 5)?;
+    push_row(text, last, 5)
+}
+
+/// That text.
+fn many_variables(alloc: Global, last: &str) -> Result<Text, Memory> {
+    let mut text = Text::new(alloc);
+    push_variables(&mut text, last)?;
     Ok(text)
 }
 

@@ -1,0 +1,87 @@
+//! Reports, read: the answers that stand in their text, whole or as they are kept.
+
+ghost use Rattle.std.specs.Prelude.{◌≡◌};
+
+use crate::systems::system_of;
+use mcs_base::{Active, Memory, Vars};
+use mcs_proof_reader::{Keep, Report, ReportAnswer, read_kept, read_report};
+use mcs_system::System;
+use std::alloc::Global;
+use std::test::Fail;
+
+/// A context that may not believe what a rule tells it.
+const TOLD: &str =
+    "context c1 program { a. }\ncontext c2 program { :- p. }\nbridge r1: c2:p if c1:a.\n";
+
+/// A report on it: a listing of five lines, and three answers.
+const TOLD_REPORT: &str =
+    "mcs 1: 2 contexts, 1 rules, 1 variables\ninconsistent\ndiagnosis 1: {-r1} state {c1:a} active {}\nexplanation 1: {-r1 by 1}\nend: 0 equilibria, 1 diagnoses, 1 explanations, need 3\nproof\nanswer c1 {}\nstate {c1:a}\nmodel {a}\nstep by 8 6 4 1 5\nnone\nstep by 8 6 4 1 5\ndone\nanswer c2 {}\nstate {}\nmodel {}\nstep by 12 10 9\nnone\nstep by 9 7 6\ndone\nanswer c2 {r1}\nnone\nstep by 10 9 6 4 1 5\ndone\nend of proof\n";
+
+/// Whether the answer begins at this line, is to the question of this context and these rules, and these are the states
+/// that it puts out.
+fn is_answer(
+    answer: &ReportAnswer,
+    line: u64,
+    context: u32,
+    active: Active,
+    outputs: &[Vars],
+) -> bool {
+    answer.line == line
+        && answer.context == context
+        && answer.active == active
+        && answer.outputs.as_slice() == outputs
+}
+
+/// Whether the report is the one above.
+fn is_told(report: &Report) -> bool {
+    let [first, second, third] = report.answers.as_slice() else {
+        return false;
+    };
+    report.listing.len() == 5
+        && is_answer(first, 7, 0, Active::empty(), &[Vars::one(0)])
+        && is_answer(second, 14, 1, Active::empty(), &[Vars::empty()])
+        && is_answer(third, 21, 1, Active::one(0), &[])
+        && report.last_line == 25
+}
+
+/// Whether it is read so.
+fn is_read(alloc: Global, system: &System) -> bool {
+    match read_report(alloc, system, TOLD_REPORT.as_bytes()) {
+        Ok(report) => is_told(&report),
+        Err(_) => false,
+    }
+}
+
+/// Keeps of each answer the number of its first line.
+struct FirstLines;
+
+impl Keep for FirstLines {
+    type Kept = u64;
+
+    ghost Keeps = { λ _ _ line kept. kept ≡ line };
+
+    fn keep(&self, _alloc: Global, _system: &System, answer: ReportAnswer) -> Result<u64, Memory> {
+        Ok(answer.line)
+    }
+}
+
+/// Whether the lines are kept at which its answers begin.
+fn is_kept(alloc: Global, system: &System) -> bool {
+    match read_kept(alloc, system, TOLD_REPORT.as_bytes(), &FirstLines) {
+        Ok(report) => {
+            report.listing.len() == 5
+                && report.answers.as_slice() == [7, 14, 21].as_slice()
+                && report.last_line == 25
+        }
+        Err(_) => false,
+    }
+}
+
+#[test]
+fn the_answers_of_a_report_are_read(rt: HostRuntime) -> Result<(), Fail> {
+    let alloc = rt.alloc();
+    let system = system_of(alloc, TOLD)?;
+    assert!(rt; is_read(alloc, &system));
+    assert!(rt; is_kept(alloc, &system));
+    Ok(())
+}
