@@ -96,7 +96,7 @@ pub(crate) fn is_absent(
             if *told != number {
                 return Ok(false);
             }
-            Ok(denies(atoms, premises, &default.pre, entail, None))
+            Ok(denies(atoms, premises, &default.pre, entail, &None))
         }
         Outside::Blocked(told, just, entail) => {
             if *told != number {

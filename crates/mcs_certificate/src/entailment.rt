@@ -60,13 +60,13 @@ fn hold_at(atoms: &[Name], values: Vars, formulas: &[&Formula]) -> bool
 
 /// Whether the places are those of atoms, and the formulas hold where exactly these are true. `model`, if it is given, was
 /// found to be such before.
-fn is_model_at(atoms: &[Name], premises: &[&Formula], places: u64, model: Option<Vars>) -> bool
+fn is_model_at(atoms: &[Name], premises: &[&Formula], places: u64, model: &Option<Vars>) -> bool
     requires few { length atoms.now ≤ 64 }
-    requires known { IfSome model (IsModelAt atoms.now (map (λ f. formula_of f.now) premises.now)) }
+    requires known { IfSome model.now (IsModelAt atoms.now (map (λ f. formula_of f.now) premises.now)) }
     ensures { IsTrue result ↔ IsModelAt atoms.now (map (λ f. formula_of f.now) premises.now) places }
 {
     let values = Vars::numbered(places);
-    if model == Some(values) {
+    if *model == Some(values) {
         return true;
     }
     if !is_in_range(atoms, places) {
@@ -81,10 +81,10 @@ fn is_refuted_at(
     premises: &[&Formula],
     goal: &Formula,
     places: u64,
-    model: Option<Vars>,
+    model: &Option<Vars>,
 ) -> bool
     requires few { length atoms.now ≤ 64 }
-    requires known { IfSome model (IsModelAt atoms.now (map (λ f. formula_of f.now) premises.now)) }
+    requires known { IfSome model.now (IsModelAt atoms.now (map (λ f. formula_of f.now) premises.now)) }
     ensures { IsTrue result ↔ IsRefuted atoms.now (map (λ f. formula_of f.now) premises.now) (formula_of goal.now) places }
 {
     if !is_model_at(atoms, premises, places, model) {
@@ -119,10 +119,10 @@ pub(crate) fn denies(
     premises: &[&Formula],
     goal: &Formula,
     entail: &Entail,
-    model: Option<Vars>,
+    model: &Option<Vars>,
 ) -> bool
     requires few { length atoms.now ≤ 64 }
-    requires known { IfSome model (IsModelAt atoms.now (map (λ f. formula_of f.now) premises.now)) }
+    requires known { IfSome model.now (IsModelAt atoms.now (map (λ f. formula_of f.now) premises.now)) }
     ensures { IsTrue result ↔ IsDenied atoms.now (map (λ f. formula_of f.now) premises.now) (formula_of goal.now) (entailment_of entail.now) }
 {
     match entail {
@@ -147,7 +147,7 @@ pub(crate) fn deny(
     let mut model = None;
     for (index, goal) in goals.iter().enumerate() {
         let entail = &entails[index];
-        if !denies(atoms, premises, goal, entail, model) {
+        if !denies(atoms, premises, goal, entail, &model) {
             return false;
         }
         model = model_shown(model, entail);
@@ -164,10 +164,10 @@ fn tells(
     goal: &Formula,
     atoms: &[Name],
     entail: &Entail,
-    model: Option<Vars>,
+    model: &Option<Vars>,
 ) -> Result<bool, Memory>
     requires few { length atoms.now ≤ 64 }
-    requires model { IfSome model (IsModelAt atoms.now (map (λ f. formula_of f.now) premises.now)) }
+    requires model { IfSome model.now (IsModelAt atoms.now (map (λ f. formula_of f.now) premises.now)) }
     requires goal { IsOver atoms.now (formula_of goal.now) }
     requires made { known.old ≡ clause_list atoms.now (map (λ f. formula_of f.now) premises.now) }
     ensures kept { known.new ≡ known.old }
@@ -202,7 +202,7 @@ fn tell(
     let mut model = None;
     for (index, goal) in goals.iter().enumerate() {
         let entail = &entails[index];
-        let told = tells(alloc, known, premises, goal, atoms, entail, model)?;
+        let told = tells(alloc, known, premises, goal, atoms, entail, &model)?;
         if !told {
             return Ok(false);
         }
