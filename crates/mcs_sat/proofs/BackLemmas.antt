@@ -16,7 +16,7 @@ use Rattle.mcs_sat.specs.declared.state.State.{State}
 use Rattle.mcs_sat.specs.declared.trail.Entry.{Entry}
 use Rattle.mcs_sat.specs.Learning.{IsLatest, IsSingle}
 use Rattle.mcs_sat.specs.Searches.{IsRun, IsSearch, work_left, work_of}
-use Rattle.mcs_sat.specs.States.{IsLastLevel, IsLearntBack, IsState}
+use Rattle.mcs_sat.specs.States.{IsFull, IsLastLevel, IsLearntBack, IsState}
 use Rattle.mcs_sat.specs.Trails.{ArePlaced, Grows, IsFalse, IsOn, IsOpen, StandsNowhere, literal_at}
 use Rattle.mcs_sat.proofs.LevelLemmas.{before-start, below-start}
 use Rattle.mcs_sat.proofs.SearchLemmas.{open-not_false}
@@ -118,8 +118,9 @@ open-below old new c ns k r is b g less at =
     })
 
 -- ---- the search
-pub search-learnt : (old new : State) (c : List ℤ) (ns : List ℕ) → IsSearch old → IsState new → (b : IsLearntBack old new c ns) → IsGoneBack old c b.latest b.level → IsSearch new
-search-learnt old new c ns is kept b g = record {
+pub search-learnt : (old new : State) (c : List ℤ) (ns : List ℕ) → IsSearch old → IsState new → (b : IsLearntBack old new c ns) → IsGoneBack old c b.latest b.level → IsFull new → IsSearch new
+search-learnt old new c ns is kept b g full = record {
+  full = full;
   state = kept;
   before = λ k r at.
       let es : List Entry = old.trail.entries.items in

@@ -20,10 +20,9 @@ use Rattle.mcs_sat.specs.declared.watches.Pair.{Pair}
 use Rattle.mcs_sat.specs.declared.watches.Watches.{Watches}
 use Rattle.mcs_sat.specs.States.{AreChains, AreStarts, IsState}
 use Rattle.mcs_sat.specs.Trails.{AreCovered, AreExplained, AreLevelled, ArePlaced, IsOnBelow, IsSatisfiedBelow, IsTrail, decisions, literal_at, reason_at}
-use Rattle.mcs_sat.specs.Watching.{AreKept, ArePair, AreUnwatched, AreWatched, IsKept, IsListed, IsOf, IsReached, IsStillKept, IsWidened}
-use Rattle.mcs_sat.proofs.KeptLemmas.{first-same, first-take, front-same, front-take, kept-change, kept-none, later-none, moved-same, moved-take}
+use Rattle.mcs_sat.specs.Watching.{AreKept, ArePair, AreUnwatched, AreWatched, IsKept, IsListed, IsOf, IsReached}
+use Rattle.mcs_sat.proofs.KeptLemmas.{first-take, front-take, kept-change, later-none, moved-take, still-take}
 use Rattle.mcs_sat.proofs.LevelLemmas.{decisions-longer, levelled-back}
-use Rattle.mcs_sat.proofs.StateLemmas.{place-within}
 use Rattle.mcs_sat.proofs.TrailLemmas.{entry-back, explained-back, placed-back}
 use Rattle.mcs_sat.proofs.WatchLemmas.{reached-list}
 use Rattle.mcs_base.proofs.Written.{slice_get-take}
@@ -48,23 +47,24 @@ explained-first k known es is few i less = elim (is i less) [
   | inr (c, at, reason) ↦ inr (c, numbered-first k known (reason_at es i) c (few i less) at, reason)
 ]
 
-watched-first : (k : ℕ) (known : List (List ℤ)) (w w' : Watches) → w'.pairs.items ≡ take k w.pairs.items → w'.lists.items ≡ w.lists.items → w'.short.items ≡ filter (λ (i : ℕ). ltb i k) w.short.items → AreWatched known w → AreWatched (take k known) w'
+pub watched-first : (k : ℕ) (known : List (List ℤ)) (w w' : Watches) → w'.pairs ≡ take k w.pairs → w'.lists.items ≡ w.lists.items → w'.short.items ≡ filter (λ (i : ℕ). ltb i k) w.short.items → AreWatched known w → AreWatched (take k known) w'
 watched-first k known w w' pairs lists short is = record {
-  sized = ap length pairs ∙ length-take k w.pairs.items ∙ ap (min k) is.sized ∙ sym (length-take k known);
-  paired = λ i c p at at'. is.paired i c p (slice_get_take k known i c at).1 (slice_get_take k w.pairs.items i p (subst (λ (ps : List Pair). slice_get ps i ≡ Some p) pairs at')).1;
-  listed = λ i p l at literal of. subst (λ (ls : List (Vec ℕ Global)). IsListed ls l i) (sym lists) (is.listed i p l (slice_get_take k w.pairs.items i p (subst (λ (ps : List Pair). slice_get ps i ≡ Some p) pairs at)).1 literal of);
-  short = λ i c at none.
+  sized = (let sized = is.sized in omega (arith, ap length pairs, length-take k w.pairs, length-take k known));
+  paired = λ i c p at at'. is.paired i c p (slice_get_take k known i c at).1 (slice_get_take k w.pairs i p (subst (λ (ps : List Pair). slice_get ps i ≡ Some p) pairs at')).1;
+  listed = λ i p l at literal of. subst (λ (ls : List (Vec ℕ Global)). IsListed ls l i) (sym lists) (is.listed i p l (slice_get_take k w.pairs i p (subst (λ (ps : List Pair). slice_get ps i ≡ Some p) pairs at)).1 literal of);
+  short = λ i c few at none.
       let (less, here) = slice_get_take k known i c at in
-      subst (λ (xs : List ℕ). IsAmong i xs) (sym short) (among_filter (λ (i : ℕ). ltb i k) i w.short.items (is.short i c here none) (lt-ltb i k less));
+      let within : i < length w.pairs = omega (arith, ap length pairs, length-take k w.pairs) in
+      subst (λ (xs : List ℕ). IsAmong i xs) (sym short) (among_filter (λ (i : ℕ). ltb i k) i w.short.items (is.short i c within here none) (lt-ltb i k less));
 }
 
-reached-first : (k : ℕ) (known : List (List ℤ)) (w w' : Watches) (es : List Entry) (v s : ℕ) → w'.pairs.items ≡ take k w.pairs.items → IsReached known w es (record { entries = length es; visited = v; settled = s }) → IsReached (take k known) w' es (record { entries = length es; visited = v; settled = 0 })
+reached-first : (k : ℕ) (known : List (List ℤ)) (w w' : Watches) (es : List Entry) (v s : ℕ) → w'.pairs ≡ take k w.pairs → IsReached known w es (record { entries = length es; visited = v; settled = s }) → IsReached (take k known) w' es (record { entries = length es; visited = v; settled = 0 })
 reached-first k known w w' es v s pairs is = record {
-  visited = λ i c p l at at' literal of off. is.visited i c p l (slice_get_take k known i c at).1 (slice_get_take k w.pairs.items i p (subst (λ (ps : List Pair). slice_get ps i ≡ Some p) pairs at')).1 literal of off;
+  visited = λ i c p l at at' literal of off. is.visited i c p l (slice_get_take k known i c at).1 (slice_get_take k w.pairs i p (subst (λ (ps : List Pair). slice_get ps i ≡ Some p) pairs at')).1 literal of off;
   settled = λ j i c less. absurd (omega arith);
 }
 
-reached-none : (known : List (List ℤ)) (w : Watches) (es : List Entry) (n : ℕ) → IsReached known w es (record { entries = n; visited = 0; settled = 0 })
+pub reached-none : (known : List (List ℤ)) (w : Watches) (es : List Entry) (n : ℕ) → IsReached known w es (record { entries = n; visited = 0; settled = 0 })
 reached-none known w es n = record {
   visited = λ i c p l at at' literal of (q, less, on). absurd (omega arith);
   settled = λ j i c less. absurd (omega arith);
@@ -75,14 +75,16 @@ abbrev pub IsVisitedStill : State → ℕ → ℕ → Type 0
 IsVisitedStill s n v = (v ≡ 0) ⊎ ((length s.trail.entries.items ≤ n) × (v ≡ s.visited))
 
 -- what is visited where some clauses and literals are left: so many literals as it is said in one of two ways, by what was visited and by what is kept
-module _ (s : State) (k n v : ℕ) (m : Kept) (t : Trail) (w : Watches) (is : IsState s) (base : s.levels.items ≡ []) (bound : n ≤ length s.trail.entries.items) (entries : t.entries.items ≡ take n s.trail.entries.items) (pairs : w.pairs.items ≡ take k s.watches.pairs.items) where
+module _ (s : State) (k n v : ℕ) (m : Kept) (t : Trail) (w : Watches) (is : IsState s) (base : s.levels.items ≡ []) (bound : n ≤ length s.trail.entries.items) (entries : t.entries.items ≡ take n s.trail.entries.items) (pairs : w.pairs ≡ take k s.watches.pairs) where
   size : length t.entries.items ≡ n
   size = ap length entries ∙ length-take-le n s.trail.entries.items bound
 
-  pub cut-kept : (cs : List (List ℤ)) → cs ≡ take k s.clauses → IsStillKept s.kept k n m → IsKept cs w t.entries.items s.levels.items m
-  cut-kept cs clauses (inl none) = kept-none cs w t.entries.items s.levels.items m none
-  cut-kept cs clauses (inr (low, fewer, few, same, same')) =
+  pub cut-kept : (cs : List (List ℤ)) → cs ≡ take k s.clauses → s.kept.entries ≤ n → m ≡ record { count = min s.kept.count k; entries = s.kept.entries; visited = s.kept.visited } → IsKept cs w t.entries.items s.levels.items m
+  cut-kept cs clauses low e =
       let b = is.kept.count in
+      let count : m.count ≡ min s.kept.count k = ap (λ (x : Kept). x.count) e in
+      let same : m.entries ≡ s.kept.entries = ap (λ (x : Kept). x.entries) e in
+      let same' : m.visited ≡ s.kept.visited = ap (λ (x : Kept). x.visited) e in
       let old : IsKept s.clauses s.watches s.trail.entries.items s.levels.items m = record {
         count = omega arith;
         within = (let h = is.kept.within in omega arith);
@@ -91,9 +93,10 @@ module _ (s : State) (k n v : ℕ) (m : Kept) (t : Trail) (w : Watches) (is : Is
         visited = λ i c p l less here at literal of off.
             let off' : IsOnBelow s.trail.entries.items s.kept.visited (neg_ℤ l) = subst (λ (x : ℕ). IsOnBelow s.trail.entries.items x (neg_ℤ l)) same' off in
             subst (λ (x : ℕ). IsSatisfiedBelow s.trail.entries.items x c) (sym same) (is.kept.visited i c p l (omega arith) here at literal of off');
+        spared = λ i c here at long. subst (λ (x : ℕ). IsSatisfiedBelow s.trail.entries.items x c) (sym same) (is.kept.spared i c here at long);
       } in
-      kept-change s.clauses cs s.watches w s.trail.entries.items t.entries.items s.levels.items s.levels.items m (omega (arith, ap length clauses, length-take k s.clauses)) (omega (arith, size)) (later-none s.levels.items m.entries base)
-      (first-take s.clauses cs k m.count clauses) (moved-take m.count s.watches.pairs.items w.pairs.items k s.trail.entries.items m.visited pairs) (front-take s.trail.entries.items t.entries.items n m.entries (omega arith) entries) old
+      kept-change s.clauses cs s.watches w s.trail.entries.items t.entries.items s.levels.items s.levels.items m (omega (arith, ap length pairs, length-take k s.watches.pairs)) (omega (arith, size)) (later-none s.levels.items m.entries base)
+      (first-take s.clauses cs k m.count clauses) (still-take s.clauses cs s.watches.pairs w.pairs k clauses pairs) (moved-take m.count s.watches.pairs w.pairs k s.trail.entries.items m.visited pairs) (front-take s.trail.entries.items t.entries.items n m.entries (omega arith) entries) old
 
   pub now-visited : IsVisitedStill s n v → IsReached (take k s.clauses) w t.entries.items (record { entries = length t.entries.items; visited = v; settled = 0 })
   now-visited (inl none) = subst (λ (x : ℕ). IsReached (take k s.clauses) w t.entries.items (record { entries = length t.entries.items; visited = x; settled = 0 })) (sym none) (reached-none (take k s.clauses) w t.entries.items (length t.entries.items))
@@ -103,14 +106,14 @@ module _ (s : State) (k n v : ℕ) (m : Kept) (t : Trail) (w : Watches) (is : Is
       (subst (λ (xs : List Entry). IsReached (take k s.clauses) w xs (record { entries = length xs; visited = s.visited; settled = 0 })) (sym whole)
       (reached-first k s.clauses s.watches w s.trail.entries.items s.visited s.settled pairs is.now))
 
-  pub now-kept : (cs : List (List ℤ)) → cs ≡ take k s.clauses → IsKept cs w t.entries.items s.levels.items m → v ≤ m.visited → AreUnwatched t.entries.items w.pairs.items m.count (length w.pairs.items) v → IsReached (take k s.clauses) w t.entries.items (record { entries = length t.entries.items; visited = v; settled = 0 })
+  pub now-kept : (cs : List (List ℤ)) → cs ≡ take k s.clauses → IsKept cs w t.entries.items s.levels.items m → v ≤ m.visited → AreUnwatched t.entries.items w.pairs m.count (length w.pairs) v → IsReached (take k s.clauses) w t.entries.items (record { entries = length t.entries.items; visited = v; settled = 0 })
   now-kept cs clauses kept low fresh = record {
     visited = λ i c p l here at literal of (q, less, e). elim (cases_lt i m.count) [
       | inl first ↦
           let (j, among, (r, less', e')) = kept.visited i c p l first (subst (λ (ks : List (List ℤ)). slice_get ks i ≡ Some c) (sym clauses) here) at literal of (q, omega arith, e) in
           let b = kept.within in
           (j, among, (r, omega arith, e'))
-      | inr later ↦ absurd (fresh i p l later (slice_get_within w.pairs.items i p at) at literal of (q, less, e))
+      | inr later ↦ absurd (fresh i p l later (slice_get_within w.pairs i p at) at literal of (q, less, e))
     ];
     settled = λ j i c less. absurd (omega arith);
   }
@@ -119,19 +122,42 @@ pub now-most : (known : List (List ℤ)) (w : Watches) (es : List Entry) (a b v 
 now-most known w es a b v (inl e) first second = subst (λ (x : ℕ). IsReached known w es (record { entries = length es; visited = x; settled = 0 })) (sym e) first
 now-most known w es a b v (inr e) first second = subst (λ (x : ℕ). IsReached known w es (record { entries = length es; visited = x; settled = 0 })) (sym e) second
 
+-- the short clauses among the first ones
+pub shorts-first : (s : State) (k : ℕ) (w : Watches) → IsState s → w.short.items ≡ filter (λ (i : ℕ). ltb i k) s.watches.short.items → (j i : ℕ) → slice_get w.short.items j ≡ Some i → i < length (take k s.clauses)
+shorts-first s k w is short j i at =
+    let (among, passes) = filter_among (λ (i : ℕ). ltb i k) i s.watches.short.items (among_get i (filter (λ (i : ℕ). ltb i k) s.watches.short.items) j (subst (λ (xs : List ℕ). slice_get xs j ≡ Some i) short at)) in
+    let less : i < k = ltb-true i k passes in
+    let (q, here) = get_among i s.watches.short.items among in
+    let within = is.shorts q i here in
+    omega (arith, length-take k s.clauses)
+
+-- where nothing is watched
+pub watched-none : (known : List (List ℤ)) (w : Watches) → w.pairs ≡ [] → AreWatched known w
+watched-none known w none = record {
+  sized = omega (arith, ap length none);
+  paired = λ i c p known' at. absurd (empty i p at);
+  listed = λ i p l at. absurd (empty i p at);
+  short = λ i c less. absurd (omega (arith, ap length none));
+}
+  where
+    empty : (i : ℕ) (p : Pair) → slice_get w.pairs i ≡ Some p → ⊥
+    empty i p at = let less = slice_get_within w.pairs i p at in omega (arith, ap length none)
+
+pub shorts-none : (n : ℕ) (w : Watches) → w.short.items ≡ [] → (j i : ℕ) → slice_get w.short.items j ≡ Some i → i < n
+shorts-none n w none j i at = absurd (let less = slice_get_within w.short.items j i at in omega (arith, ap length none))
+
 pub state-cut : (s : State) (cs : List (List ℤ)) (ms : List (List ℕ)) (t : Trail) (w : Watches) (k n v : ℕ) (m : Kept) → IsState s → s.levels.items ≡ []
     → cs ≡ take k s.clauses → ms ≡ take k s.chains → t.entries.items ≡ take n s.trail.entries.items → t.positions.items ≡ s.trail.positions.items → n ≤ length s.trail.entries.items → ((i : ℕ) → i < n → reason_at s.trail.entries.items i ≤ k)
-    → w.pairs.items ≡ take k s.watches.pairs.items → w.lists.items ≡ s.watches.lists.items → w.short.items ≡ filter (λ (i : ℕ). ltb i k) s.watches.short.items
+    → AreWatched (take k s.clauses) w → ((j i : ℕ) → slice_get w.short.items j ≡ Some i → i < length (take k s.clauses))
     → v ≤ length t.entries.items → IsReached (take k s.clauses) w t.entries.items (record { entries = length t.entries.items; visited = v; settled = 0 }) → IsKept cs w t.entries.items s.levels.items m
     → IsState (record { clauses = cs; chains = ms; trail = t; watches = w; levels = s.levels; visited = v; settled = 0; kept = m })
-state-cut s cs ms t w k n v m is base clauses chains entries positions bound few pairs lists short low visited kept =
+state-cut s cs ms t w k n v m is base clauses chains entries positions bound few watched shorts low visited kept =
     let es : List Entry = s.trail.entries.items in
     let known : List (List ℤ) = take k s.clauses in
     let size : length t.entries.items ≡ n = ap length entries ∙ length-take-le n es bound in
     record {
       some = subst (λ (ps : List ℕ). 0 < length ps) (sym positions) is.some;
       fits = subst (λ (ps : List ℕ). length ps ≤ 2 ^ 63) (sym positions) is.fits;
-      lists = ap length lists ∙ is.lists ∙ ap (λ (ps : List ℕ). 2 * length ps) (sym positions);
       chains = subst (λ (ks : List (List ℤ)). AreChains ks ms) (sym clauses) (subst (AreChains known) (sym chains) (chains-first k s.clauses s.chains is.chains));
       trail = subst (λ (ks : List (List ℤ)). IsTrail ks t) (sym clauses) (record {
         clauses = all_take IsClause k s.clauses is.trail.clauses;
@@ -146,13 +172,8 @@ state-cut s cs ms t w k n v m is base clauses chains entries positions bound few
         count = (let none : length s.levels.items ≡ 0 = ap length base in let all = is.starts.count in let part = decisions-longer n (length es) es bound in omega (arith, ap decisions entries, ap decisions (take_all (length es) es (omega arith))));
         start = λ j r at. absurd (let less = slice_get_within s.levels.items j r at in omega (arith, ap length base));
       };
-      watched = subst (λ (ks : List (List ℤ)). AreWatched ks w) (sym clauses) (watched-first k s.clauses s.watches w pairs lists short is.watched);
-      shorts = λ j i at.
-          let (among, passes) = filter_among (λ (i : ℕ). ltb i k) i s.watches.short.items (among_get i (filter (λ (i : ℕ). ltb i k) s.watches.short.items) j (subst (λ (xs : List ℕ). slice_get xs j ≡ Some i) short at)) in
-          let less : i < k = ltb-true i k passes in
-          let (q, here) = get_among i s.watches.short.items among in
-          let within = is.shorts q i here in
-          subst (λ (ks : List (List ℤ)). i < length ks) (sym clauses) (omega (arith, length-take k s.clauses));
+      watched = subst (λ (ks : List (List ℤ)). AreWatched ks w) (sym clauses) watched;
+      shorts = λ j i at. subst (λ (ks : List (List ℤ)). i < length ks) (sym clauses) (shorts j i at);
       bound = low;
       short_bound = omega arith;
       bounds = λ j r at. absurd (let less = slice_get_within s.levels.items j r at in omega (arith, ap length base));
@@ -165,33 +186,19 @@ state-cut s cs ms t w k n v m is base clauses chains entries positions bound few
 covered-more : (known : List (List ℤ)) (ps ps' : List ℕ) → length ps ≤ length ps' → AllByRecursion (AreCovered ps) known → AllByRecursion (AreCovered ps') known
 covered-more known ps ps' longer all = all_weaker (AreCovered ps) (AreCovered ps') (λ c covered. all_weaker (λ (l : ℤ). unsigned_abs l < length ps) (λ (l : ℤ). unsigned_abs l < length ps') (λ l less. omega arith) c covered) known all
 
--- what a clause watches has a list
-watched-within : (known : List (List ℤ)) (ps : List ℕ) (w : Watches) (i : ℕ) (p : Pair) (l : ℤ) → AreWatched known w → AllByRecursion (AreCovered ps) known → slice_get w.pairs.items i ≡ Some p → IsLiteral l → IsOf l p → place l < 2 * length ps
-watched-within known ps w i p l is covered at literal of =
-    let less = slice_get_within w.pairs.items i p at in
-    let (c, here) = slice_get_below known i (omega (arith, is.sized)) in
-    let (has, long) = is.paired i c p here at in
-    let pair : ArePair c p = has (long l literal of) in
-    let among : IsAmong l c = elim of [ inl e ↦ subst (λ (k : ℤ). IsAmong k c) e pair.first | inr e ↦ subst (λ (k : ℤ). IsAmong k c) e pair.second ] in
-    place-within l (length ps) (all_among (λ (k : ℤ). unsigned_abs k < length ps) c l (all_get (AreCovered ps) known i c covered here) among)
-
 placed-more : (es : List Entry) (ps : List ℕ) → ArePlaced es ps → ArePlaced es (ps ++ 0 ∷ [])
 placed-more es ps is i less =
     let (literal, within, at) = is i less in
     (literal, omega (arith, length-append ps (0 ∷ [])), get_or_append_left ps (0 ∷ []) 0 (unsigned_abs (literal_at es i)) within ∙ at)
 
-pub state-widened : (s : State) (t : Trail) (w : Watches) → IsState s → length s.trail.positions.items < 2 ^ 63 → t.entries.items ≡ s.trail.entries.items → t.positions.items ≡ s.trail.positions.items ++ 0 ∷ []
-    → IsWidened s.watches.lists.items w.lists.items → w.pairs.items ≡ s.watches.pairs.items → w.short.items ≡ s.watches.short.items
-    → IsState (record { clauses = s.clauses; chains = s.chains; trail = t; watches = w; levels = s.levels; visited = s.visited; settled = s.settled; kept = s.kept })
-state-widened s t w is fits entries positions (more, lists, two) pairs short =
+pub state-widened : (s : State) (t : Trail) → IsState s → length s.trail.positions.items < 2 ^ 63 → t.entries.items ≡ s.trail.entries.items → t.positions.items ≡ s.trail.positions.items ++ 0 ∷ []
+    → IsState (record { clauses = s.clauses; chains = s.chains; trail = t; watches = s.watches; levels = s.levels; visited = s.visited; settled = s.settled; kept = s.kept })
+state-widened s t is fits entries positions =
     let ps : List ℕ = s.trail.positions.items in
     let size : length t.positions.items ≡ length ps + 1 = omega (arith, ap length positions, length-append ps (0 ∷ [])) in
-    let reached : (r : Reach) → IsReached s.clauses s.watches s.trail.entries.items r → IsReached s.clauses w t.entries.items r = λ r h.
-    subst (λ (es : List Entry). IsReached s.clauses w es r) (sym entries) (reached-list s.clauses s.watches w s.trail.entries.items r pairs short h) in
     record {
       some = omega arith;
       fits = omega arith;
-      lists = omega (arith, ap length lists, length-append s.watches.lists.items more, is.lists);
       chains = is.chains;
       trail = record {
         clauses = is.trail.clauses;
@@ -201,32 +208,18 @@ state-widened s t w is fits entries positions (more, lists, two) pairs short =
       };
       levelled = subst AreLevelled (sym entries) is.levelled;
       starts = subst (λ (xs : List Entry). AreStarts xs s.levels.items) (sym entries) is.starts;
-      watched = record {
-        sized = ap length pairs ∙ is.watched.sized;
-        paired = λ i c p known at. is.watched.paired i c p known (subst (λ (xs : List Pair). slice_get xs i ≡ Some p) pairs at);
-        listed = λ i p l at literal of.
-            let at' : slice_get s.watches.pairs.items i ≡ Some p = subst (λ (xs : List Pair). slice_get xs i ≡ Some p) pairs at in
-            let less : place l < length s.watches.lists.items = (let b = watched-within s.clauses ps s.watches i p l is.watched is.trail.covered at' literal of in omega (arith, is.lists)) in
-            λ list here. is.watched.listed i p l at' literal of list (sym (slice_get-append_left s.watches.lists.items more (place l) less) ∙ subst (λ (ls : List (Vec ℕ Global)). slice_get ls (place l) ≡ Some list) lists here);
-        short = λ i c known none. subst (λ (xs : List ℕ). IsAmong i xs) (sym short) (is.watched.short i c known none);
-      };
-      shorts = λ j i at. is.shorts j i (subst (λ (xs : List ℕ). slice_get xs j ≡ Some i) short at);
+      watched = is.watched;
+      shorts = is.shorts;
       bound = (let b = is.bound in omega (arith, ap length entries));
-      short_bound = (let b = is.short_bound in omega (arith, ap length short));
-      bounds = λ k r at. let (b, n) = is.bounds k r at in (b, omega (arith, ap length short));
-      reached = λ k r at. reached r (is.reached k r at);
-      now = subst (λ (n : ℕ). IsReached s.clauses w t.entries.items (record { entries = n; visited = s.visited; settled = s.settled })) (sym (ap length entries)) (reached (record { entries = length s.trail.entries.items; visited = s.visited; settled = s.settled }) is.now);
-      kept = (let b = is.kept.within in kept-change s.clauses s.clauses s.watches w s.trail.entries.items t.entries.items s.levels.items s.levels.items s.kept is.kept.count (omega (arith, ap length entries)) is.kept.early
-          (first-same s.clauses s.clauses s.kept.count refl) (moved-same s.kept.count s.watches.pairs.items w.pairs.items s.trail.entries.items s.kept.visited pairs) (front-same s.trail.entries.items t.entries.items s.kept.entries entries) is.kept);
+      short_bound = is.short_bound;
+      bounds = is.bounds;
+      reached = λ k r at. subst (λ (es : List Entry). IsReached s.clauses s.watches es r) (sym entries) (is.reached k r at);
+      now = subst (λ (es : List Entry). IsReached s.clauses s.watches es (record { entries = length es; visited = s.visited; settled = s.settled })) (sym entries) is.now;
+      kept = subst (λ (es : List Entry). IsKept s.clauses s.watches es s.levels.items s.kept) (sym entries) is.kept;
     }
-
--- lists that were added and taken off again
-pub same-lists : (old between new : List (Vec ℕ Global)) (n : ℕ) → IsWidened old between → n ≡ length old → new ≡ take n between → new ≡ old
-same-lists old between new n (more, e, two) size cut = cut ∙ ap (take n) e ∙ ap (λ (m : ℕ). take m (old ++ more)) size ∙ take-append_seam old more
 
 pub kept-same : (old new : Watches) → new.lists.items ≡ old.lists.items → AreKept old new
 kept-same old new same = record {
-  sized = ap length same;
   listed = λ l i listed. subst (λ (ls : List (Vec ℕ Global)). IsListed ls l i) (sym same) listed;
 }
 

@@ -5,17 +5,19 @@ use Rattle.mcs_sat.specs.declared.trail.Entry.{Entry}
 use Rattle.mcs_sat.specs.declared.trail.Trail.{Trail}
 use Rattle.mcs_sat.specs.declared.watches.Watches.{Watches}
 use Rattle.mcs_sat.specs.Trails.{Grows}
-use Rattle.mcs_sat.specs.Watching.{AreMoved, AreWatched, IsReached}
+use Rattle.mcs_sat.specs.Watching.{AreMoved, AreSpared, AreWatched, IsReached}
 
 -- it has as many variables, and more literals, which are implied on the level
 pub record Extends (level : ℕ) (before after : Trail) : Type 0 where
   pub positions : length after.positions.items ≡ length before.positions.items
   pub grows : Grows level before.entries.items after.entries.items
 
--- the lists are as many, and what was reached by these literals is reached still
+-- the lists are no fewer, each clause that watched something still does, and what was reached by these literals is reached still
 pub record KeepsWatches (known : List (List ℤ)) (before after : Watches) (entries : List Entry) : Type 0 where
-  pub lists : length after.lists.items ≡ length before.lists.items
+  pub lists : length before.lists.items ≤ length after.lists.items
+  pub sized : length after.pairs ≡ length before.pairs
+  pub spared : AreSpared before.pairs after.pairs
   pub watched : AreWatched known after
   pub short : after.short.items ≡ before.short.items
-  pub moved : AreMoved before.pairs.items after.pairs.items entries
+  pub moved : AreMoved before.pairs after.pairs entries
   pub reached : (r : Reach) → r.visited ≤ length entries → IsReached known before entries r → IsReached known after entries r

@@ -10,8 +10,9 @@ use Rattle.mcs_sat.specs.declared.state.Reach.{Reach}
 use Rattle.mcs_sat.specs.declared.trail.Entry.{Entry}
 use Rattle.mcs_sat.specs.declared.watches.Pair.{Pair}
 use Rattle.mcs_sat.specs.declared.watches.Watches.{Watches}
+use Rattle.mcs_sat.specs.Pairs.{no_pair}
 use Rattle.mcs_sat.specs.Trails.{ArePlaced, Grows, IsOn, IsOnBelow, StandsAt, StandsNowhere, literal_at}
-use Rattle.mcs_sat.specs.Watching.{AreMoved, AreUnwatched, IsFresh, IsKept, IsOf, IsReached}
+use Rattle.mcs_sat.specs.Watching.{AreMoved, AreSpared, AreUnwatched, IsFresh, IsKept, IsLong, IsOf, IsReached}
 use Rattle.mcs_sat.proofs.GrowLemmas.{entry-grown, neg_literal, on-grown, read_literal}
 use Rattle.mcs_sat.proofs.TrailLemmas.{entry-back, entry-old, on_below, same_place}
 use Rattle.mcs_sat.proofs.WatchLemmas.{below_end}
@@ -32,9 +33,13 @@ SameFirst known known' n = (i : ℕ) (c : List ℤ) → i < n → slice_get know
 abbrev pub AreLater : List Reach → ℕ → Type 0
 AreLater levels n = (k : ℕ) (r : Reach) → slice_get levels k ≡ Some r → n ≤ r.entries
 
-pub kept-change : (known known' : List (List ℤ)) (w w' : Watches) (es es' : List Entry) (levels levels' : List Reach) (m : Kept) → m.count ≤ length known' → m.entries ≤ length es' → AreLater levels' m.entries → SameFirst known known' m.count → AreMovedBelow m.count w.pairs.items w'.pairs.items es m.visited → SameFront es es' m.entries
+-- each long clause that watches nothing did so before
+abbrev pub AreStillSpared : List (List ℤ) → List (List ℤ) → List Pair → List Pair → Type 0
+AreStillSpared known known' pairs pairs' = (i : ℕ) (c : List ℤ) → slice_get known' i ≡ Some c → slice_get pairs' i ≡ Some no_pair → IsLong c → (slice_get known i ≡ Some c) × (slice_get pairs i ≡ Some no_pair)
+
+pub kept-change : (known known' : List (List ℤ)) (w w' : Watches) (es es' : List Entry) (levels levels' : List Reach) (m : Kept) → m.count ≤ length w'.pairs → m.entries ≤ length es' → AreLater levels' m.entries → SameFirst known known' m.count → AreStillSpared known known' w.pairs w'.pairs → AreMovedBelow m.count w.pairs w'.pairs es m.visited → SameFront es es' m.entries
     → IsKept known w es levels m → IsKept known' w' es' levels' m
-kept-change known known' w w' es es' levels levels' m count within early first moved front is = record {
+kept-change known known' w w' es es' levels levels' m count within early first still moved front is = record {
   count = count;
   within = within;
   bound = is.bound;
@@ -48,6 +53,10 @@ kept-change known known' w w' es es' levels levels' m count within early first m
             (k, among, (r, low', front r low' ∙ e'))
         | inr opened ↦ absurd (opened off)
       ];
+  spared = λ i c here at long.
+      let (here', at') = still i c here at long in
+      let (k, among, (r, low, e)) = is.spared i c here' at' long in
+      (k, among, (r, low, front r low ∙ e));
 }
 
 -- ---- what stays
@@ -62,6 +71,32 @@ first-push known d known' n bound e i c less at = elim (slice_get_push_at known 
 
 pub first-take : (known known' : List (List ℤ)) (k n : ℕ) → known' ≡ take k known → SameFirst known known' n
 first-take known known' k n e i c less at = (slice_get_take k known i c (subst (λ (ks : List (List ℤ)). slice_get ks i ≡ Some c) e at)).1
+
+pub still-same : (known known' : List (List ℤ)) (old new : List Pair) → known' ≡ known → new ≡ old → AreStillSpared known known' old new
+still-same known known' old new clauses pairs i c here at long = (subst (λ (ks : List (List ℤ)). slice_get ks i ≡ Some c) clauses here, subst (λ (ps : List Pair). slice_get ps i ≡ Some no_pair) pairs at)
+
+pub still-moved : (known : List (List ℤ)) (old new : List Pair) → AreSpared old new → AreStillSpared known known old new
+still-moved known old new spared i c here at long = (here, spared i at)
+
+-- the clauses go on
+pub still-known : (known : List (List ℤ)) (d : List ℤ) (known' : List (List ℤ)) (pairs : List Pair) → length pairs ≤ length known → known' ≡ known ++ d ∷ [] → AreStillSpared known known' pairs pairs
+still-known known d known' pairs few e i c here at long = elim (slice_get_push_at known d i c (subst (λ (ks : List (List ℤ)). slice_get ks i ≡ Some c) e here)) [
+  | inl before ↦ (before, at)
+  | inr (last, same) ↦ absurd (let less = slice_get_within pairs i no_pair at in omega arith)
+]
+
+-- the next clause watches something, or is short
+pub still-push : (known : List (List ℤ)) (old new : List Pair) (q : Pair) → new ≡ old ++ q ∷ [] → ((c : List ℤ) → slice_get known (length old) ≡ Some c → q ≡ no_pair → ¬ IsLong c) → AreStillSpared known known old new
+still-push known old new q e short i c here at long = elim (slice_get_push_at old q i no_pair (subst (λ (ps : List Pair). slice_get ps i ≡ Some no_pair) e at)) [
+  | inl before ↦ (here, before)
+  | inr (last, same) ↦ absurd (short c (sym (ap (slice_get known) last) ∙ here) (sym same) long)
+]
+
+pub still-take : (known known' : List (List ℤ)) (old new : List Pair) (k : ℕ) → known' ≡ take k known → new ≡ take k old → AreStillSpared known known' old new
+still-take known known' old new k clauses pairs i c here at long = (
+  (slice_get_take k known i c (subst (λ (ks : List (List ℤ)). slice_get ks i ≡ Some c) clauses here)).1,
+  (slice_get_take k old i no_pair (subst (λ (ps : List Pair). slice_get ps i ≡ Some no_pair) pairs at)).1,
+)
 
 pub moved-same : (n : ℕ) (old new : List Pair) (es : List Entry) (v : ℕ) → new ≡ old → AreMovedBelow n old new es v
 moved-same n old new es v e i p l less at of = inl (p, subst (λ (ps : List Pair). slice_get ps i ≡ Some p) e at, of)
@@ -115,6 +150,15 @@ moved-none pairs es i p l at of = inl (p, at, of)
 pub moved-list : (old new : List Pair) (es : List Entry) → new ≡ old → AreMoved old new es
 moved-list old new es e i p l at of = inl (p, subst (λ (ps : List Pair). slice_get ps i ≡ Some p) e at, of)
 
+pub spared-none : (pairs : List Pair) → AreSpared pairs pairs
+spared-none pairs i at = at
+
+pub spared-list : (old new : List Pair) → new ≡ old → AreSpared old new
+spared-list old new e i at = subst (λ (ps : List Pair). slice_get ps i ≡ Some no_pair) e at
+
+pub spared-then : (a b c : List Pair) → AreSpared a b → AreSpared b c → AreSpared a c
+spared-then a b c first second i at = first i (second i at)
+
 pub moved-then : (level : ℕ) (a b c : List Pair) (es es' : List Entry) → Grows level es es' → AreMoved a b es → AreMoved b c es' → AreMoved a c es
 moved-then level a b c es es' grows first second i p l at of = elim (second i p l at of) [
   | inl (q, at', of') ↦ first i q l at' of'
@@ -122,23 +166,28 @@ moved-then level a b c es es' grows first second i p l at of = elim (second i p 
 ]
 
 -- ---- nothing is kept
-pub kept-none : (known : List (List ℤ)) (w : Watches) (es : List Entry) (levels : List Reach) (m : Kept) → m ≡ record { count = 0; entries = 0; visited = 0 } → IsKept known w es levels m
-kept-none known w es levels m none = subst (IsKept known w es levels) (sym none) (record {
+pub kept-none : (known : List (List ℤ)) (w : Watches) (es : List Entry) (levels : List Reach) (m : Kept) → m ≡ record { count = 0; entries = 0; visited = 0 } → w.pairs ≡ [] → IsKept known w es levels m
+kept-none known w es levels m none empty = subst (IsKept known w es levels) (sym none) (record {
   count = omega arith;
   within = omega arith;
   bound = omega arith;
   early = λ k r at. omega arith;
   visited = λ i c p l less. absurd (omega arith);
+  spared = λ i c here at. absurd (let less = slice_get_within w.pairs i no_pair at in omega (arith, ap length empty));
 })
 
 -- ---- all is kept that was visited
-pub kept-now : (known : List (List ℤ)) (w : Watches) (es : List Entry) (levels : List Reach) (v s : ℕ) → levels ≡ [] → v ≤ length es → IsReached known w es (record { entries = length es; visited = v; settled = s }) → IsKept known w es levels (record { count = length known; entries = length es; visited = v })
-kept-now known w es levels v s none bound is = record {
+pub kept-now : (known : List (List ℤ)) (w : Watches) (es : List Entry) (levels : List Reach) (v s : ℕ) (m : Kept) → levels ≡ [] → v ≤ length es → IsReached known w es (record { entries = length es; visited = v; settled = s }) → IsKept known w es levels m → IsKept known w es levels (record { count = length w.pairs; entries = length es; visited = v })
+kept-now known w es levels v s m none bound is before = record {
   count = omega arith;
   within = omega arith;
   bound = bound;
   early = later-none levels (length es) none;
   visited = λ i c p l less here at literal of off. is.visited i c p l here at literal of off;
+  spared = λ i c here at long.
+      let within = before.within in
+      let (k, among, (r, low, e)) = before.spared i c here at long in
+      (k, among, (r, omega arith, e));
 }
 
 -- ---- literals that were not false among the first ones

@@ -2,6 +2,7 @@ pub mod FindingLemmas
 pub mod KnownLemmas
 pub mod LatestLemmas
 pub mod TrailLemmas
+pub mod PairsLemmas
 pub mod WatchLemmas
 pub mod GrowLemmas
 pub mod KeptLemmas

@@ -16,11 +16,11 @@ use Rattle.mcs_sat.specs.declared.trail.Entry.{Entry}
 use Rattle.mcs_sat.specs.declared.trail.Trail.{Trail}
 use Rattle.mcs_sat.specs.declared.watches.Pair.{Pair}
 use Rattle.mcs_sat.specs.declared.watches.Watches.{Watches}
-use Rattle.mcs_sat.specs.States.{AreStarts, IsState, reach_of}
+use Rattle.mcs_sat.specs.States.{AreStarts, IsFull, IsState, reach_of}
 use Rattle.mcs_sat.specs.Trails.{AreCovered, AreExplained, AreLevelled, ArePlaced, Grows, IsOn, IsOnBelow, IsOpen, IsSatisfied, IsTrail, StandsNowhere, literal_at}
-use Rattle.mcs_sat.specs.Watching.{AreMoved, ArePair, AreSettled, AreWatched, IsOf, IsReached}
+use Rattle.mcs_sat.specs.Watching.{AreMoved, ArePair, AreSettled, AreSpared, AreWatched, IsOf, IsReached}
 use Rattle.mcs_sat.proofs.GrowLemmas.{grows-longer}
-use Rattle.mcs_sat.proofs.KeptLemmas.{first-same, front-grows, front-take, kept-change, moved-below, moved-same}
+use Rattle.mcs_sat.proofs.KeptLemmas.{first-same, front-grows, front-take, kept-change, moved-below, moved-same, still-moved, still-same}
 use Rattle.mcs_sat.proofs.LevelLemmas.{levelled-more, starts-more}
 use Rattle.mcs_sat.proofs.StateLemmas.{reached-back, reached-more, reached-on}
 use Rattle.mcs_sat.proofs.TrailLemmas.{explained-back, placed-back}
@@ -43,7 +43,6 @@ state-settled s t n is trail positions grows settled bound =
     record {
       some = subst (λ (m : ℕ). 0 < m) (sym positions) is.some;
       fits = subst (λ (m : ℕ). m ≤ 2 ^ 63) (sym positions) is.fits;
-      lists = is.lists ∙ ap (λ (m : ℕ). 2 * m) (sym positions);
       chains = is.chains;
       trail = trail;
       levelled = (levelled-more level es t.entries.items is.levelled grows is.starts.count).0;
@@ -63,23 +62,22 @@ state-settled s t n is trail positions grows settled bound =
         ];
       };
       kept = (let b = is.kept.within in kept-change s.clauses s.clauses s.watches s.watches es t.entries.items s.levels.items s.levels.items s.kept is.kept.count (omega arith) is.kept.early
-          (first-same s.clauses s.clauses s.kept.count refl) (moved-same s.kept.count s.watches.pairs.items s.watches.pairs.items es s.kept.visited refl) (front-grows level es t.entries.items s.kept.entries b grows) is.kept);
+          (first-same s.clauses s.clauses s.kept.count refl) (still-same s.clauses s.clauses s.watches.pairs s.watches.pairs refl refl) (moved-same s.kept.count s.watches.pairs s.watches.pairs es s.kept.visited refl) (front-grows level es t.entries.items s.kept.entries b grows) is.kept);
     }
 
 -- ---- clauses are visited
 pub state-visited : (s : State) (t : Trail) (w : Watches) (v : ℕ) → IsState s → IsTrail s.clauses t → length t.positions.items ≡ length s.trail.positions.items → Grows (length s.levels.items) s.trail.entries.items t.entries.items
-    → length w.lists.items ≡ length s.watches.lists.items → AreWatched s.clauses w → w.short.items ≡ s.watches.short.items → AreMoved s.watches.pairs.items w.pairs.items s.trail.entries.items → v ≤ length t.entries.items
+    → AreWatched s.clauses w → length w.pairs ≡ length s.watches.pairs → AreSpared s.watches.pairs w.pairs → w.short.items ≡ s.watches.short.items → AreMoved s.watches.pairs w.pairs s.trail.entries.items → v ≤ length t.entries.items
     → ((r : Reach) → r.visited ≤ length s.trail.entries.items → IsReached s.clauses s.watches s.trail.entries.items r → IsReached s.clauses w s.trail.entries.items r)
     → ((n : ℕ) → IsReached s.clauses s.watches s.trail.entries.items (record { entries = length s.trail.entries.items; visited = s.visited; settled = n }) → IsReached s.clauses w t.entries.items (record { entries = length t.entries.items; visited = v; settled = n }))
     → IsState (record { clauses = s.clauses; chains = s.chains; trail = t; watches = w; levels = s.levels; visited = v; settled = s.settled; kept = s.kept })
-state-visited s t w v is trail positions grows lists watched short moved bound reached now =
+state-visited s t w v is trail positions grows watched sized spared short moved bound reached now =
     let es : List Entry = s.trail.entries.items in
     let level : ℕ = length s.levels.items in
     let longer = grows-longer level es t.entries.items grows in
     record {
       some = subst (λ (m : ℕ). 0 < m) (sym positions) is.some;
       fits = subst (λ (m : ℕ). m ≤ 2 ^ 63) (sym positions) is.fits;
-      lists = lists ∙ is.lists ∙ ap (λ (m : ℕ). 2 * m) (sym positions);
       chains = is.chains;
       trail = trail;
       levelled = (levelled-more level es t.entries.items is.levelled grows is.starts.count).0;
@@ -92,13 +90,13 @@ state-visited s t w v is trail positions grows lists watched short moved bound r
       reached = λ k r at. let (below, none, count) = is.starts.start k r at in let (b, m) = is.bounds k r at in
           reached-grows level s.clauses w es t.entries.items r grows (omega arith) (omega arith) (reached r (omega arith) (is.reached k r at));
       now = now s.settled is.now;
-      kept = (let b = is.kept.within in let v' = is.kept.bound in kept-change s.clauses s.clauses s.watches w es t.entries.items s.levels.items s.levels.items s.kept is.kept.count (omega arith) is.kept.early
-          (first-same s.clauses s.clauses s.kept.count refl) (moved-below s.kept.count s.watches.pairs.items w.pairs.items es s.kept.visited (omega arith) moved) (front-grows level es t.entries.items s.kept.entries b grows) is.kept);
+      kept = (let b = is.kept.within in let v' = is.kept.bound in kept-change s.clauses s.clauses s.watches w es t.entries.items s.levels.items s.levels.items s.kept (let b = is.kept.count in omega arith) (omega arith) is.kept.early
+          (first-same s.clauses s.clauses s.kept.count refl) (still-moved s.clauses s.watches.pairs w.pairs spared) (moved-below s.kept.count s.watches.pairs w.pairs es s.kept.visited (omega arith) moved) (front-grows level es t.entries.items s.kept.entries b grows) is.kept);
     }
 
 -- ---- where all was visited
 -- a literal has a value, or its variable stands nowhere
-value-or-free : (es : List Entry) (ps : List ℕ) (l : ℤ) → ArePlaced es ps → IsOn es l ⊎ (IsOn es (neg_ℤ l) ⊎ StandsNowhere es (unsigned_abs l))
+pub value-or-free : (es : List Entry) (ps : List ℕ) (l : ℤ) → ArePlaced es ps → IsOn es l ⊎ (IsOn es (neg_ℤ l) ⊎ StandsNowhere es (unsigned_abs l))
 value-or-free es ps l placed =
     let p : ℕ = get_or ps (unsigned_abs l) 0 in
     elim (cases_lt p (length es)) [
@@ -125,19 +123,24 @@ pair-open es ps c p placed pair watched = elim (value-or-free es ps p.first plac
 ]
 
 -- each clause has a true literal, or two that are free
-pub all-open : (s : State) → IsState s → s.visited ≡ length s.trail.entries.items → length s.watches.short.items ≤ s.settled → AllByRecursion (IsOpen s.trail.entries.items) s.clauses
-all-open s is all settled = all_from_among (IsOpen s.trail.entries.items) s.clauses (λ c among.
+pub all-open : (s : State) → IsState s → IsFull s → s.visited ≡ length s.trail.entries.items → length s.watches.short.items ≤ s.settled → AllByRecursion (IsOpen s.trail.entries.items) s.clauses
+all-open s is full all settled = all_from_among (IsOpen s.trail.entries.items) s.clauses (λ c among.
     let (i, at) = get_among c s.clauses among in
     elim (cases_lt (length c) 2) [
       | inl short ↦
-          let (j, here) = get_among i s.watches.short.items (is.watched.short i c at (λ long. omega arith)) in
+          let (j, here) = get_among i s.watches.short.items (is.watched.short i c (let less = slice_get_within s.clauses i c at in omega arith) at (λ long. omega arith)) in
           let less = slice_get_within s.watches.short.items j i here in
           inl (is.now.settled j i c (omega arith) here at (λ long. omega arith))
       | inr long ↦
-          let (p, pair) = slice_get_below s.watches.pairs.items i (let less = slice_get_within s.clauses i c at in omega (arith, is.watched.sized)) in
-          let are : ArePair c p = (is.watched.paired i c p at pair).0 long in
-          pair-open s.trail.entries.items s.trail.positions.items c p is.trail.placed are (λ l of off.
-          is.now.visited i c p l at pair (literal c p l i at are of) of (subst (λ (n : ℕ). IsOnBelow s.trail.entries.items n (neg_ℤ l)) (sym all) off))
+          let (p, pair) = slice_get_below s.watches.pairs i (let less = slice_get_within s.clauses i c at in omega arith) in
+          elim (is.watched.paired i c p at pair) [
+            | inl none ↦
+                let (k, among', (q, less, e)) = is.kept.spared i c at (subst (λ (x : Pair). slice_get s.watches.pairs i ≡ Some x) none pair) long in
+                let within = is.kept.within in
+                inl (k, among', (q, omega arith, e))
+            | inr are ↦ pair-open s.trail.entries.items s.trail.positions.items c p is.trail.placed are (λ l of off.
+                is.now.visited i c p l at pair (literal c p l i at are of) of (subst (λ (n : ℕ). IsOnBelow s.trail.entries.items n (neg_ℤ l)) (sym all) off))
+          ]
     ])
   where
     literal : (c : List ℤ) (p : Pair) (l : ℤ) (i : ℕ) → slice_get s.clauses i ≡ Some c → ArePair c p → IsOf l p → IsLiteral l
@@ -170,7 +173,6 @@ state-restored old new t is is' clauses positions levels short marked grows befo
     record {
       some = subst (λ (xs : List ℕ). 0 < length xs) (sym places) is'.some;
       fits = subst (λ (xs : List ℕ). length xs ≤ 2 ^ 63) (sym places) is'.fits;
-      lists = is'.lists ∙ ap (λ (xs : List ℕ). 2 * length xs) (sym places);
       chains = is'.chains;
       trail = record {
         clauses = is'.trail.clauses;
@@ -189,5 +191,5 @@ state-restored old new t is is' clauses positions levels short marked grows befo
           subst (λ (xs : List Entry). IsReached new.clauses new.watches xs r) (sym entries) (reached-back new.clauses new.watches new.trail.entries.items (length es) r (omega arith) (omega arith) (is'.reached k r here));
       now = subst (λ (xs : List Entry). IsReached new.clauses new.watches xs (record { entries = length xs; visited = old.visited; settled = old.settled })) (sym front) before;
       kept = (let b = is.kept.within in let same : new.kept.entries ≡ old.kept.entries = ap (λ (m : Kept). m.entries) marked in kept-change new.clauses new.clauses new.watches new.watches new.trail.entries.items t.entries.items new.levels.items new.levels.items new.kept is'.kept.count (omega (arith, ap length front)) is'.kept.early
-          (first-same new.clauses new.clauses new.kept.count refl) (moved-same new.kept.count new.watches.pairs.items new.watches.pairs.items new.trail.entries.items new.kept.visited refl) (front-take new.trail.entries.items t.entries.items (length es) new.kept.entries (omega arith) entries) is'.kept);
+          (first-same new.clauses new.clauses new.kept.count refl) (still-same new.clauses new.clauses new.watches.pairs new.watches.pairs refl refl) (moved-same new.kept.count new.watches.pairs new.watches.pairs new.trail.entries.items new.kept.visited refl) (front-take new.trail.entries.items t.entries.items (length es) new.kept.entries (omega arith) entries) is'.kept);
     }

@@ -14,7 +14,7 @@ use Rattle.mcs_sat.specs.declared.state.State.{State}
 use Rattle.mcs_sat.specs.declared.trail.Entry.{Entry}
 use Rattle.mcs_sat.specs.Learning.{IsLate}
 use Rattle.mcs_sat.specs.Searches.{IsRun, IsSearch, work_left, work_of}
-use Rattle.mcs_sat.specs.States.{IsDecided, IsState, SameClauses, reach_of}
+use Rattle.mcs_sat.specs.States.{IsDecided, IsFull, IsState, SameClauses, reach_of}
 use Rattle.mcs_sat.specs.Trails.{AreAssigned, AreCovered, ArePlaced, Grows, IsFalse, IsFalseAt, IsOpen, IsSatisfied}
 use Rattle.mcs_sat.proofs.TrailLemmas.{not_both_on, on-back, placed-back, placed-most}
 use Rattle.mcs_sat.proofs.WorkLemmas.{work_left-more, work_left-push}
@@ -49,8 +49,9 @@ run-is s (Some i) opened conflict = conflict
 front-same : (es new : List Entry) (n : ℕ) (more : List Entry) → new ≡ es ++ more → n ≤ length es → take n new ≡ take n es
 front-same es new n more e bound = ap (take n) e ∙ take-append-le n es more bound
 
-pub search-run : (old new : State) → IsSearch old → IsState new → SameClauses old new → new.levels.items ≡ old.levels.items → Grows (length old.levels.items) old.trail.entries.items new.trail.entries.items → IsSearch new
-search-run old new is kept same levels (more, e, all) = record {
+pub search-run : (old new : State) → IsSearch old → IsState new → SameClauses old new → new.levels.items ≡ old.levels.items → Grows (length old.levels.items) old.trail.entries.items new.trail.entries.items → IsFull new → IsSearch new
+search-run old new is kept same levels (more, e, all) full = record {
+  full = full;
   state = kept;
   before = λ k r at.
       let at' : slice_get old.levels.items k ≡ Some r = subst (λ (ls : List Reach). slice_get ls k ≡ Some r) levels at in
@@ -59,8 +60,9 @@ search-run old new is kept same levels (more, e, all) = record {
       (subst (λ (xs : List Entry). AllByRecursion (IsOpen xs) old.clauses) (sym (front-same old.trail.entries.items new.trail.entries.items r.entries more e (omega arith))) (is.before k r at'));
 }
 
-pub search-decided : (old new : State) (l : ℤ) → IsSearch old → AllByRecursion (IsOpen old.trail.entries.items) old.clauses → IsState new → SameClauses old new → IsDecided old new l → IsSearch new
-search-decided old new l is opened kept same decided = record {
+pub search-decided : (old new : State) (l : ℤ) → IsSearch old → AllByRecursion (IsOpen old.trail.entries.items) old.clauses → IsState new → SameClauses old new → IsDecided old new l → IsFull new → IsSearch new
+search-decided old new l is opened kept same decided full = record {
+  full = full;
   state = kept;
   before = λ k r at. subst (λ (cs : List (List ℤ)). AllByRecursion (IsOpen (take r.entries new.trail.entries.items)) cs) (sym same.clauses)
       (elim (slice_get_push_at old.levels.items (reach_of old) k r (subst (λ (ls : List Reach). slice_get ls k ≡ Some r) decided.levels at)) [
@@ -87,8 +89,17 @@ less-decided old between new l is decided (more, e, all) size =
     subst (λ (m : ℕ). work_left m new.trail.entries.items < work_left n es) (sym size) (omega arith)
 
 -- ---- all that was decided is taken back
-pub search-back : (old new : State) → IsSearch old → IsState new → SameClauses old new → new.levels.items ≡ [] → IsSearch new
-search-back old new is kept same none = record {
+pub search-back : (old new : State) → IsSearch old → IsState new → SameClauses old new → new.levels.items ≡ [] → IsFull new → IsSearch new
+search-back old new is kept same none full = record {
+  full = full;
   state = kept;
   before = λ k r at. absurd (let less = slice_get_within new.levels.items k r at in omega (arith, ap length none));
+}
+
+-- where nothing is decided
+pub search-base : (s : State) → IsState s → IsFull s → s.levels.items ≡ [] → IsSearch s
+search-base s kept full none = record {
+  full = full;
+  state = kept;
+  before = λ k r at. absurd (let less = slice_get_within s.levels.items k r at in omega (arith, ap length none));
 }

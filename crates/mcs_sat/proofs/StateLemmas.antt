@@ -7,24 +7,24 @@ use Rattle.std.proofs.lemmas.Bool.{cases_lt}
 use Rattle.std.proofs.lemmas.Option.{slice_get_within}
 use Rattle.mcs_base.specs.Listings.{IsAmong}
 use Rattle.mcs_base.proofs.Among.{among_left, among_push}
-use Rattle.mcs_base.proofs.Each.{all_among, all_push}
-use Rattle.mcs_base.proofs.Lists.{slice_get_push_at, slice_get_take}
-use Rattle.mcs_trace.specs.Clauses.{IsClause, IsLiteral, place}
+use Rattle.mcs_base.proofs.Each.{all_among, all_get, all_push}
+use Rattle.mcs_base.proofs.Lists.{slice_get-append_right, slice_get_push_at, slice_get_take}
+use Rattle.mcs_trace.specs.Clauses.{IsClause, IsLiteral}
 use Rattle.mcs_trace.specs.Traces.{IsChainResolvent}
-use Rattle.mcs_trace.proofs.OrderLemmas.{place-size}
 use Rattle.mcs_sat.specs.declared.state.Reach.{Reach}
 use Rattle.mcs_sat.specs.declared.state.State.{State}
 use Rattle.mcs_sat.specs.declared.trail.Entry.{Entry}
 use Rattle.mcs_sat.specs.declared.trail.Trail.{Trail}
 use Rattle.mcs_sat.specs.declared.watches.Pair.{Pair}
 use Rattle.mcs_sat.specs.declared.watches.Watches.{Watches}
-use Rattle.mcs_sat.specs.States.{AreChains, AreStarts, IsState, reach_of}
-use Rattle.mcs_sat.specs.Trails.{AreCovered, AreExplained, AreLevelled, ArePlaced, IsOnBelow, IsTrail}
-use Rattle.mcs_sat.specs.Watching.{AreKept, ArePair, AreWatched, IsFresh, IsKept, IsLong, IsListed, IsOf, IsPaired, IsPushed, IsReached, no_pair}
-use Rattle.mcs_sat.proofs.KeptLemmas.{first-push, first-same, front-push, front-same, front-take, kept-change, later-push, later-same, later-take, moved-push, moved-same}
+use Rattle.mcs_sat.specs.States.{AreChains, AreStarts, IsFull, IsState, reach_of}
+use Rattle.mcs_sat.specs.Trails.{AreCovered, AreExplained, AreLevelled, ArePlaced, IsOnBelow, IsSatisfied, IsTrail}
+use Rattle.mcs_sat.specs.Pairs.{no_pair}
+use Rattle.mcs_sat.specs.Watching.{AreKept, ArePair, AreWatched, IsFresh, IsKept, IsLong, IsListed, IsOf, IsPaired, IsPushed, IsReached}
+use Rattle.mcs_sat.proofs.KeptLemmas.{first-push, first-same, front-push, front-same, front-take, kept-change, later-push, later-same, later-take, moved-push, moved-same, still-known, still-push, still-same}
 use Rattle.mcs_sat.proofs.LevelLemmas.{decisions-longer, levelled-back, levelled-decide, starts-back, starts-decide}
 use Rattle.mcs_sat.proofs.TrailLemmas.{entry-back, entry-old, explained-back, explained-known, explained-push, placed-back}
-use Rattle.mcs_sat.proofs.WatchLemmas.{reached-list}
+use Rattle.mcs_sat.proofs.WatchLemmas.{no-pair, pair-long, reached-list}
 
 -- ---- parts that stay as they were
 pub covered-same : (known : List (List ℤ)) (ps ps' : List ℕ) → length ps' ≡ length ps → AllByRecursion (AreCovered ps) known → AllByRecursion (AreCovered ps') known
@@ -39,23 +39,22 @@ trail-same known t t' entries positions placed is = record {
   explained = subst (AreExplained known) (sym entries) is.explained;
 }
 
-pub watched-same : (known : List (List ℤ)) (w w' : Watches) → AreKept w w' → w'.pairs.items ≡ w.pairs.items → w'.short.items ≡ w.short.items → AreWatched known w → AreWatched known w'
+pub watched-same : (known : List (List ℤ)) (w w' : Watches) → AreKept w w' → w'.pairs ≡ w.pairs → w'.short.items ≡ w.short.items → AreWatched known w → AreWatched known w'
 watched-same known w w' kept pairs short is = record {
-  sized = ap length pairs ∙ is.sized;
+  sized = (let sized = is.sized in omega (arith, ap length pairs));
   paired = λ i c p known' at. is.paired i c p known' (subst (λ (ps : List Pair). slice_get ps i ≡ Some p) pairs at);
   listed = λ i p l at literal of. kept.listed l i (is.listed i p l (subst (λ (ps : List Pair). slice_get ps i ≡ Some p) pairs at) literal of);
-  short = λ i c known' none. subst (λ (xs : List ℕ). IsAmong i xs) (sym short) (is.short i c known' none);
+  short = λ i c less known' none. subst (λ (xs : List ℕ). IsAmong i xs) (sym short) (is.short i c (omega (arith, ap length pairs)) known' none);
 }
 
 -- where nothing but memory changed
-pub state-same : (old new : State) → IsState old → new.clauses ≡ old.clauses → new.chains ≡ old.chains → new.trail.entries.items ≡ old.trail.entries.items → length new.trail.positions.items ≡ length old.trail.positions.items → ArePlaced new.trail.entries.items new.trail.positions.items → AreKept old.watches new.watches → new.watches.pairs.items ≡ old.watches.pairs.items → new.watches.short.items ≡ old.watches.short.items → new.levels.items ≡ old.levels.items → new.visited ≡ old.visited → new.settled ≡ old.settled → new.kept ≡ old.kept → IsState new
+pub state-same : (old new : State) → IsState old → new.clauses ≡ old.clauses → new.chains ≡ old.chains → new.trail.entries.items ≡ old.trail.entries.items → length new.trail.positions.items ≡ length old.trail.positions.items → ArePlaced new.trail.entries.items new.trail.positions.items → AreKept old.watches new.watches → new.watches.pairs ≡ old.watches.pairs → new.watches.short.items ≡ old.watches.short.items → new.levels.items ≡ old.levels.items → new.visited ≡ old.visited → new.settled ≡ old.settled → new.kept ≡ old.kept → IsState new
 state-same old new is clauses chains entries positions placed kept pairs short levels visited settled marked =
     let reached : (r : Reach) → IsReached old.clauses old.watches old.trail.entries.items r → IsReached new.clauses new.watches new.trail.entries.items r = λ r h.
     subst (λ (known : List (List ℤ)). IsReached known new.watches new.trail.entries.items r) (sym clauses) (subst (λ (es : List Entry). IsReached old.clauses new.watches es r) (sym entries) (reached-list old.clauses old.watches new.watches old.trail.entries.items r pairs short h)) in
     record {
       some = subst (λ (n : ℕ). 0 < n) (sym positions) is.some;
       fits = subst (λ (n : ℕ). n ≤ 2 ^ 63) (sym positions) is.fits;
-      lists = kept.sized ∙ is.lists ∙ ap (λ (n : ℕ). 2 * n) (sym positions);
       chains = subst (λ (known : List (List ℤ)). AreChains known new.chains) (sym clauses) (subst (AreChains old.clauses) (sym chains) is.chains);
       trail = subst (λ (known : List (List ℤ)). IsTrail known new.trail) (sym clauses) (trail-same old.clauses old.trail new.trail entries positions placed is.trail);
       levelled = subst AreLevelled (sym entries) is.levelled;
@@ -68,8 +67,8 @@ state-same old new is clauses chains entries positions placed kept pairs short l
       reached = λ k r at. reached r (is.reached k r (subst (λ (ls : List Reach). slice_get ls k ≡ Some r) levels at));
       now = subst (IsReached new.clauses new.watches new.trail.entries.items) (same-reach old new entries visited settled) (reached (reach_of old) is.now);
       kept = subst (IsKept new.clauses new.watches new.trail.entries.items new.levels.items) (sym marked)
-          (kept-change old.clauses new.clauses old.watches new.watches old.trail.entries.items new.trail.entries.items old.levels.items new.levels.items old.kept (let b = is.kept.count in omega (arith, ap length clauses)) (let b = is.kept.within in omega (arith, ap length entries))
-          (later-same old.levels.items new.levels.items old.kept.entries levels is.kept.early) (first-same old.clauses new.clauses old.kept.count clauses) (moved-same old.kept.count old.watches.pairs.items new.watches.pairs.items old.trail.entries.items old.kept.visited pairs) (front-same old.trail.entries.items new.trail.entries.items old.kept.entries entries) is.kept);
+          (kept-change old.clauses new.clauses old.watches new.watches old.trail.entries.items new.trail.entries.items old.levels.items new.levels.items old.kept (let b = is.kept.count in omega (arith, ap length pairs)) (let b = is.kept.within in omega (arith, ap length entries))
+          (later-same old.levels.items new.levels.items old.kept.entries levels is.kept.early) (first-same old.clauses new.clauses old.kept.count clauses) (still-same old.clauses new.clauses old.watches.pairs new.watches.pairs clauses pairs) (moved-same old.kept.count old.watches.pairs new.watches.pairs old.trail.entries.items old.kept.visited pairs) (front-same old.trail.entries.items new.trail.entries.items old.kept.entries entries) is.kept);
     }
   where
     same-reach : (old new : State) → new.trail.entries.items ≡ old.trail.entries.items → new.visited ≡ old.visited → new.settled ≡ old.settled → reach_of old ≡ reach_of new
@@ -136,7 +135,6 @@ state-decided s t ls l is entries placed positions levels =
     record {
       some = subst (λ (n : ℕ). 0 < n) (sym positions) is.some;
       fits = subst (λ (n : ℕ). n ≤ 2 ^ 63) (sym positions) is.fits;
-      lists = is.lists ∙ ap (λ (n : ℕ). 2 * n) (sym positions);
       chains = is.chains;
       trail = record {
         clauses = is.trail.clauses;
@@ -160,7 +158,7 @@ state-decided s t ls l is entries placed positions levels =
       ];
       now = subst (λ (xs : List Entry). IsReached s.clauses s.watches xs (record { entries = length t.entries.items; visited = s.visited; settled = s.settled })) (sym entries) (reached-on s.clauses s.watches es (e ∷ []) s.visited s.settled (length t.entries.items) is.bound (ap length entries) is.now);
       kept = (let b = is.kept.within in kept-change s.clauses s.clauses s.watches s.watches es t.entries.items s.levels.items ls.items s.kept is.kept.count (omega (arith, longer))
-          (later-push s.levels.items ls.items (reach_of s) s.kept.entries b levels is.kept.early) (first-same s.clauses s.clauses s.kept.count refl) (moved-same s.kept.count s.watches.pairs.items s.watches.pairs.items es s.kept.visited refl) (front-push es t.entries.items e s.kept.entries b entries) is.kept);
+          (later-push s.levels.items ls.items (reach_of s) s.kept.entries b levels is.kept.early) (first-same s.clauses s.clauses s.kept.count refl) (still-same s.clauses s.clauses s.watches.pairs s.watches.pairs refl refl) (moved-same s.kept.count s.watches.pairs s.watches.pairs es s.kept.visited refl) (front-push es t.entries.items e s.kept.entries b entries) is.kept);
     }
 
 -- ---- levels are taken back
@@ -187,7 +185,6 @@ state-back s t ls k r is at entries positions levels =
     record {
       some = subst (λ (ps : List ℕ). 0 < length ps) (sym positions) is.some;
       fits = subst (λ (ps : List ℕ). length ps ≤ 2 ^ 63) (sym positions) is.fits;
-      lists = is.lists ∙ ap (λ (ps : List ℕ). 2 * length ps) (sym positions);
       chains = is.chains;
       trail = record {
         clauses = is.trail.clauses;
@@ -209,7 +206,7 @@ state-back s t ls k r is at entries positions levels =
           reached q (omega arith) (omega arith) (is.reached j q at'');
       now = subst (λ (n : ℕ). IsReached s.clauses s.watches t.entries.items (record { entries = n; visited = r.visited; settled = r.settled })) (sym size) (reached r (omega arith) v (is.reached k r at));
       kept = (let early = is.kept.early k r at in kept-change s.clauses s.clauses s.watches s.watches es t.entries.items s.levels.items ls.items s.kept is.kept.count (omega (arith, size))
-          (later-take s.levels.items ls.items k s.kept.entries levels is.kept.early) (first-same s.clauses s.clauses s.kept.count refl) (moved-same s.kept.count s.watches.pairs.items s.watches.pairs.items es s.kept.visited refl) (front-take es t.entries.items r.entries s.kept.entries early entries) is.kept);
+          (later-take s.levels.items ls.items k s.kept.entries levels is.kept.early) (first-same s.clauses s.clauses s.kept.count refl) (still-same s.clauses s.clauses s.watches.pairs s.watches.pairs refl refl) (moved-same s.kept.count s.watches.pairs s.watches.pairs es s.kept.visited refl) (front-take es t.entries.items r.entries s.kept.entries early entries) is.kept);
     }
 
 -- ---- a clause is added
@@ -222,95 +219,111 @@ get_pair None = no_pair
 abbrev pub FitsPair : List ℤ → Option Pair → Type 0
 FitsPair c o = MatchOption o (¬ IsLong c) (ArePair c)
 
-no-pair : (l : ℤ) → IsLiteral l → IsOf l no_pair → ⊥
-no-pair l literal (inl e) = let size = ap unsigned_abs e in let some = literal.0 in omega arith
-no-pair l literal (inr e) = let size = ap unsigned_abs e in let some = literal.0 in omega arith
-
-pair-long : (c : List ℤ) (q : Pair) → ArePair c q → IsLong c
-pair-long [] q pair = absurd pair.first
-pair-long (x ∷ []) q pair = elim pair.first [ inl e ↦ elim pair.second [ inl e' ↦ absurd (pair.differ (e ∙ sym e')) | inr none ↦ absurd none ] | inr none ↦ absurd none ]
-pair-long (x ∷ y ∷ c) q pair = omega arith
-
 paired-pushed : (c : List ℤ) (o : Option Pair) (p : Pair) → FitsPair c o → p ≡ get_pair o → IsPaired c p
-paired-pushed c None p short same = (λ long. absurd (short long), λ l literal of. absurd (no-pair l literal (subst (IsOf l) same of)))
-paired-pushed c (Some q) p pair same = (λ long. subst (ArePair c) (sym same) pair, λ l literal of. pair-long c q pair)
+paired-pushed c None p short same = inl same
+paired-pushed c (Some q) p pair same = inr (subst (ArePair c) (sym same) pair)
+
+-- no literals are the pair of a short clause alone
+short-none : (c : List ℤ) (o : Option Pair) → AllByRecursion IsLiteral c → FitsPair c o → get_pair o ≡ no_pair → ¬ IsLong c
+short-none c None literals fits none = fits
+short-none c (Some p) literals fits none = absurd (no-pair p.first (all_among IsLiteral c p.first literals fits.first) (inl (ap (λ (q : Pair). q.first) (sym none))))
 
 fits-short : (c : List ℤ) (o : Option Pair) → FitsPair c o → ¬ IsLong c → o ≡ None
 fits-short c None fits none = refl
 fits-short c (Some p) fits none = absurd (none (pair-long c p fits))
 
-pairs-pushed : (old new : Watches) (o : Option Pair) → IsPushed old new o → new.pairs.items ≡ old.pairs.items ++ get_pair o ∷ []
+pairs-pushed : (old new : Watches) (o : Option Pair) → IsPushed old new o → new.pairs ≡ old.pairs ++ get_pair o ∷ []
 pairs-pushed old new (Some p) h = h.0
 pairs-pushed old new None h = h.0
 
 short-pushed : (old new : Watches) (o : Option Pair) (i : ℕ) → IsPushed old new o → IsAmong i old.short.items → IsAmong i new.short.items
 short-pushed old new (Some p) i h among = subst (λ (xs : List ℕ). IsAmong i xs) (sym h.1) among
-short-pushed old new None i h among = subst (λ (xs : List ℕ). IsAmong i xs) (sym h.1) (among_left i old.short.items (length old.pairs.items ∷ []) among)
+short-pushed old new None i h among = subst (λ (xs : List ℕ). IsAmong i xs) (sym h.1) (among_left i old.short.items (length old.pairs ∷ []) among)
 
-short-added : (old new : Watches) (o : Option Pair) → IsPushed old new o → o ≡ None → IsAmong (length old.pairs.items) new.short.items
-short-added old new None h e = subst (λ (xs : List ℕ). IsAmong (length old.pairs.items) xs) (sym h.1) ((among_push (length old.pairs.items) old.short.items (length old.pairs.items)).1 (inr refl))
+short-added : (old new : Watches) (o : Option Pair) → IsPushed old new o → o ≡ None → IsAmong (length old.pairs) new.short.items
+short-added old new None h e = subst (λ (xs : List ℕ). IsAmong (length old.pairs) xs) (sym h.1) ((among_push (length old.pairs) old.short.items (length old.pairs)).1 (inr refl))
 short-added old new (Some p) h e = cc
 
 -- an index of a short clause, before and after
-short-at : (old new : Watches) (o : Option Pair) (j i : ℕ) → IsPushed old new o → slice_get new.short.items j ≡ Some i → (slice_get old.short.items j ≡ Some i) ⊎ ((j ≡ length old.short.items) × (i ≡ length old.pairs.items))
+short-at : (old new : Watches) (o : Option Pair) (j i : ℕ) → IsPushed old new o → slice_get new.short.items j ≡ Some i → (slice_get old.short.items j ≡ Some i) ⊎ ((j ≡ length old.short.items) × (i ≡ length old.pairs))
 short-at old new (Some p) j i h at = inl (subst (λ (xs : List ℕ). slice_get xs j ≡ Some i) h.1 at)
-short-at old new None j i h at = slice_get_push_at old.short.items (length old.pairs.items) j i (subst (λ (xs : List ℕ). slice_get xs j ≡ Some i) h.1 at)
+short-at old new None j i h at = slice_get_push_at old.short.items (length old.pairs) j i (subst (λ (xs : List ℕ). slice_get xs j ≡ Some i) h.1 at)
 
 short-longer : (old new : Watches) (o : Option Pair) → IsPushed old new o → length old.short.items ≤ length new.short.items
 short-longer old new (Some p) h = omega (arith, ap length h.1)
-short-longer old new None h = omega (arith, ap length h.1, length_push old.short.items (length old.pairs.items))
+short-longer old new None h = omega (arith, ap length h.1, length_push old.short.items (length old.pairs))
 
-listed-pushed : (old new : Watches) (o : Option Pair) (l : ℤ) → IsPushed old new o → IsLiteral l → IsOf l (get_pair o) → IsListed new.lists.items l (length old.pairs.items)
-listed-pushed old new (Some p) l h literal (inl e) = subst (λ (k : ℤ). IsListed new.lists.items k (length old.pairs.items)) e h.2
-listed-pushed old new (Some p) l h literal (inr e) = subst (λ (k : ℤ). IsListed new.lists.items k (length old.pairs.items)) e h.3
+listed-pushed : (old new : Watches) (o : Option Pair) (l : ℤ) → IsPushed old new o → IsLiteral l → IsOf l (get_pair o) → IsListed new.lists.items l (length old.pairs)
+listed-pushed old new (Some p) l h literal (inl e) = subst (λ (k : ℤ). IsListed new.lists.items k (length old.pairs)) e h.2
+listed-pushed old new (Some p) l h literal (inr e) = subst (λ (k : ℤ). IsListed new.lists.items k (length old.pairs)) e h.3
 listed-pushed old new None l h literal of = absurd (no-pair l literal of)
 
 -- the pair of a clause that was there, or the new one
-pair-at : (old new : Watches) (o : Option Pair) (i : ℕ) (p : Pair) → IsPushed old new o → slice_get new.pairs.items i ≡ Some p → (slice_get old.pairs.items i ≡ Some p) ⊎ ((i ≡ length old.pairs.items) × (p ≡ get_pair o))
-pair-at old new o i p pushed at = slice_get_push_at old.pairs.items (get_pair o) i p (subst (λ (ps : List Pair). slice_get ps i ≡ Some p) (pairs-pushed old new o pushed) at)
+pair-at : (old new : Watches) (o : Option Pair) (i : ℕ) (p : Pair) → IsPushed old new o → slice_get new.pairs i ≡ Some p → (slice_get old.pairs i ≡ Some p) ⊎ ((i ≡ length old.pairs) × (p ≡ get_pair o))
+pair-at old new o i p pushed at = slice_get_push_at old.pairs (get_pair o) i p (subst (λ (ps : List Pair). slice_get ps i ≡ Some p) (pairs-pushed old new o pushed) at)
 
-watched-pushed : (known : List (List ℤ)) (c : List ℤ) (old new : Watches) (o : Option Pair) → AreWatched known old → AreKept old new → IsPushed old new o → FitsPair c o → AreWatched (known ++ c ∷ []) new
-watched-pushed known c old new o is kept pushed fits = record {
-  sized = omega (arith, ap length (pairs-pushed old new o pushed), length_push old.pairs.items (get_pair o), length_push known c, is.sized);
-  paired = λ i d p known' at. elim (slice_get_push_at known c i d known') [
-    | inl before ↦ elim (pair-at old new o i p pushed at) [
-      | inl at' ↦ is.paired i d p before at'
-      | inr (last, same) ↦ absurd (let less = slice_get_within known i d before in omega (arith, is.sized))
-    ]
-    | inr (last, same) ↦ elim (pair-at old new o i p pushed at) [
-      | inl at' ↦ absurd (let less = slice_get_within old.pairs.items i p at' in omega (arith, is.sized))
-      | inr (last', same') ↦ subst (λ (x : List ℤ). IsPaired x p) (sym same) (paired-pushed c o p fits same')
-    ]
+watched-pushed : (known : List (List ℤ)) (c : List ℤ) (old new : Watches) (o : Option Pair) → slice_get known (length old.pairs) ≡ Some c → AreWatched known old → AreKept old new → IsPushed old new o → FitsPair c o → AreWatched known new
+watched-pushed known c old new o here is kept pushed fits = record {
+  sized = (let less = slice_get_within known (length old.pairs) c here in omega (arith, ap length (pairs-pushed old new o pushed), length_push old.pairs (get_pair o)));
+  paired = λ i d p known' at. elim (pair-at old new o i p pushed at) [
+    | inl at' ↦ is.paired i d p known' at'
+    | inr (last, same) ↦ subst (λ (x : List ℤ). IsPaired x p) (this i d last known') (paired-pushed c o p fits same)
   ];
   listed = λ i p l at literal of. elim (pair-at old new o i p pushed at) [
     | inl at' ↦ kept.listed l i (is.listed i p l at' literal of)
     | inr (last, same) ↦ subst (λ (n : ℕ). IsListed new.lists.items l n) (sym last) (listed-pushed old new o l pushed literal (subst (IsOf l) same of))
   ];
-  short = λ i d known' none. elim (slice_get_push_at known c i d known') [
-    | inl before ↦ short-pushed old new o i pushed (is.short i d before none)
-    | inr (last, same) ↦ subst (λ (n : ℕ). IsAmong n new.short.items) (sym (last ∙ sym is.sized)) (short-added old new o pushed (fits-short c o fits (subst (λ (x : List ℤ). ¬ IsLong x) same none)))
+  short = λ i d less known' none. elim (cases_lt i (length old.pairs)) [
+    | inl before ↦ short-pushed old new o i pushed (is.short i d before known' none)
+    | inr past ↦
+        let last : i ≡ length old.pairs = omega (arith, ap length (pairs-pushed old new o pushed), length_push old.pairs (get_pair o)) in
+        subst (λ (n : ℕ). IsAmong n new.short.items) (sym last) (short-added old new o pushed (fits-short c o fits (subst (λ (x : List ℤ). ¬ IsLong x) (sym (this i d last known')) none)))
   ];
 }
+  where
+    this : (i : ℕ) (d : List ℤ) → i ≡ length old.pairs → slice_get known i ≡ Some d → c ≡ d
+    this i d last at = let both : Some c ≡ Some d = sym here ∙ ap (slice_get known) (sym last) ∙ at in cc
 
 fresh-at : (es : List Entry) (n : ℕ) (o : Option Pair) (l : ℤ) → IsFresh es n o → IsLiteral l → IsOf l (get_pair o) → ¬ IsOnBelow es n (neg_ℤ l)
 fresh-at es n (Some p) l fresh literal of = fresh l of
 fresh-at es n None l fresh literal of = absurd (no-pair l literal of)
 
-reached-pushed : (known : List (List ℤ)) (c : List ℤ) (old new : Watches) (o : Option Pair) (es : List Entry) (r : Reach) → AreWatched known old → IsPushed old new o → ((j i : ℕ) → slice_get old.short.items j ≡ Some i → i < length known) → r.settled ≤ length old.short.items → IsFresh es r.visited o → IsReached known old es r → IsReached (known ++ c ∷ []) new es r
-reached-pushed known c old new o es r watched pushed shorts settled fresh is = record {
+reached-pushed : (known : List (List ℤ)) (old new : Watches) (o : Option Pair) (es : List Entry) (r : Reach) → IsPushed old new o → r.settled ≤ length old.short.items → IsFresh es r.visited o → IsReached known old es r → IsReached known new es r
+reached-pushed known old new o es r pushed settled fresh is = record {
   visited = λ i d p l known' at literal of off. elim (pair-at old new o i p pushed at) [
-    | inl at' ↦ elim (slice_get_push_at known c i d known') [
-      | inl before ↦ is.visited i d p l before at' literal of off
-      | inr (last, same) ↦ absurd (let less = slice_get_within old.pairs.items i p at' in omega (arith, watched.sized))
-    ]
+    | inl at' ↦ is.visited i d p l known' at' literal of off
     | inr (last, same) ↦ absurd (fresh-at es r.visited o l fresh literal (subst (IsOf l) same of) off)
   ];
   settled = λ j i d less at known' none. elim (short-at old new o j i pushed at) [
-    | inl at' ↦ elim (slice_get_push_at known c i d known') [
-      | inl before ↦ is.settled j i d less at' before none
-      | inr (last, same) ↦ absurd (let within = shorts j i at' in omega arith)
-    ]
+    | inl at' ↦ is.settled j i d less at' known' none
     | inr (last, same) ↦ absurd (omega arith)
+  ];
+}
+
+-- where the clauses go on
+reached-known : (known : List (List ℤ)) (c : List ℤ) (w : Watches) (es : List Entry) (r : Reach) → AreWatched known w → ((j i : ℕ) → slice_get w.short.items j ≡ Some i → i < length known) → IsReached known w es r → IsReached (known ++ c ∷ []) w es r
+reached-known known c w es r watched shorts is = record {
+  visited = λ i d p l known' at literal of off. elim (slice_get_push_at known c i d known') [
+    | inl before ↦ is.visited i d p l before at literal of off
+    | inr (last, same) ↦ absurd (let sized = watched.sized in let less = slice_get_within w.pairs i p at in omega arith)
+  ];
+  settled = λ j i d less at known' none. elim (slice_get_push_at known c i d known') [
+    | inl before ↦ is.settled j i d less at before none
+    | inr (last, same) ↦ absurd (let within = shorts j i at in omega arith)
+  ];
+}
+
+watched-known : (known : List (List ℤ)) (c : List ℤ) (w : Watches) → AreWatched known w → AreWatched (known ++ c ∷ []) w
+watched-known known c w is = record {
+  sized = (let sized = is.sized in omega (arith, length_push known c));
+  paired = λ i d p known' at. elim (slice_get_push_at known c i d known') [
+    | inl before ↦ is.paired i d p before at
+    | inr (last, same) ↦ absurd (let sized = is.sized in let less = slice_get_within w.pairs i p at in omega arith)
+  ];
+  listed = is.listed;
+  short = λ i d less known' none. elim (slice_get_push_at known c i d known') [
+    | inl before ↦ is.short i d less before none
+    | inr (last, same) ↦ absurd (let sized = is.sized in omega arith)
   ];
 }
 
@@ -330,18 +343,15 @@ chains-pushed known chains c ns is right = record {
   ];
 }
 
--- a clause with its chain is added, and less may have been visited than before
-pub state-pushed : (s : State) (cs : List (List ℤ)) (ms : List (List ℕ)) (w : Watches) (c : List ℤ) (ns : List ℕ) (o : Option Pair) (v : ℕ) → IsState s → cs ≡ s.clauses ++ c ∷ [] → ms ≡ s.chains ++ ns ∷ [] → AreKept s.watches w → IsPushed s.watches w o → FitsPair c o → IsClause c → AreCovered s.trail.positions.items c → (ns ≡ []) ⊎ IsChainResolvent s.clauses ns c
-    → v ≤ s.visited → IsFresh s.trail.entries.items v o → ((k : ℕ) (r : Reach) → slice_get s.levels.items k ≡ Some r → IsFresh s.trail.entries.items r.visited o)
-    → IsState (record { clauses = cs; chains = ms; trail = s.trail; watches = w; levels = s.levels; visited = v; settled = s.settled; kept = s.kept })
-state-pushed s cs ms w c ns o v is clauses chains kept pushed fits clause covered right low fresh levels =
+-- a clause with its chain is added, which watches nothing yet
+pub state-added : (s : State) (cs : List (List ℤ)) (ms : List (List ℕ)) (c : List ℤ) (ns : List ℕ) → IsState s → cs ≡ s.clauses ++ c ∷ [] → ms ≡ s.chains ++ ns ∷ [] → IsClause c → AreCovered s.trail.positions.items c → (ns ≡ []) ⊎ IsChainResolvent s.clauses ns c
+    → IsState (record { clauses = cs; chains = ms; trail = s.trail; watches = s.watches; levels = s.levels; visited = s.visited; settled = s.settled; kept = s.kept })
+state-added s cs ms c ns is clauses chains clause covered right =
     let known : List (List ℤ) = s.clauses ++ c ∷ [] in
     let es : List Entry = s.trail.entries.items in
-    let longer = short-longer s.watches w o pushed in
     record {
       some = is.some;
       fits = is.fits;
-      lists = kept.sized ∙ is.lists;
       chains = subst (λ (ks : List (List ℤ)). AreChains ks ms) (sym clauses) (subst (AreChains known) (sym chains) (chains-pushed s.clauses s.chains c ns is.chains right));
       trail = subst (λ (ks : List (List ℤ)). IsTrail ks s.trail) (sym clauses) (record {
         clauses = all_push IsClause s.clauses c is.trail.clauses clause;
@@ -351,31 +361,131 @@ state-pushed s cs ms w c ns o v is clauses chains kept pushed fits clause covere
       });
       levelled = is.levelled;
       starts = is.starts;
-      watched = subst (λ (ks : List (List ℤ)). AreWatched ks w) (sym clauses) (watched-pushed s.clauses c s.watches w o is.watched kept pushed fits);
+      watched = subst (λ (ks : List (List ℤ)). AreWatched ks s.watches) (sym clauses) (watched-known s.clauses c s.watches is.watched);
+      shorts = λ j i at. let less = is.shorts j i at in omega (arith, ap length clauses, length_push s.clauses c);
+      bound = is.bound;
+      short_bound = is.short_bound;
+      bounds = is.bounds;
+      reached = λ k r at. subst (λ (ks : List (List ℤ)). IsReached ks s.watches es r) (sym clauses) (reached-known s.clauses c s.watches es r is.watched is.shorts (is.reached k r at));
+      now = subst (λ (ks : List (List ℤ)). IsReached ks s.watches es (reach_of s)) (sym clauses) (reached-known s.clauses c s.watches es (reach_of s) is.watched is.shorts is.now);
+      kept = (let b = is.kept.count in let few = is.watched.sized in kept-change s.clauses cs s.watches s.watches es es s.levels.items s.levels.items s.kept b is.kept.within is.kept.early
+          (first-push s.clauses c cs s.kept.count (omega arith) clauses) (still-known s.clauses c cs s.watches.pairs few clauses) (moved-same s.kept.count s.watches.pairs s.watches.pairs es s.kept.visited refl) (front-same es es s.kept.entries refl) is.kept);
+    }
+
+-- the next clause watches the pair, and less may have been visited than before
+pub state-attached : (s : State) (w : Watches) (c : List ℤ) (o : Option Pair) (v : ℕ) → IsState s → slice_get s.clauses (length s.watches.pairs) ≡ Some c → AreKept s.watches w → IsPushed s.watches w o → FitsPair c o
+    → v ≤ s.visited → IsFresh s.trail.entries.items v o → ((k : ℕ) (r : Reach) → slice_get s.levels.items k ≡ Some r → IsFresh s.trail.entries.items r.visited o)
+    → IsState (record { clauses = s.clauses; chains = s.chains; trail = s.trail; watches = w; levels = s.levels; visited = v; settled = s.settled; kept = s.kept })
+state-attached s w c o v is here kept pushed fits low fresh levels =
+    let es : List Entry = s.trail.entries.items in
+    let longer = short-longer s.watches w o pushed in
+    let within = slice_get_within s.clauses (length s.watches.pairs) c here in
+    record {
+      some = is.some;
+      fits = is.fits;
+      chains = is.chains;
+      trail = is.trail;
+      levelled = is.levelled;
+      starts = is.starts;
+      watched = watched-pushed s.clauses c s.watches w o here is.watched kept pushed fits;
       shorts = λ j i at. elim (short-at s.watches w o j i pushed at) [
-        | inl at' ↦ let less = is.shorts j i at' in omega (arith, ap length clauses, length_push s.clauses c)
-        | inr (last, same) ↦ omega (arith, ap length clauses, length_push s.clauses c, is.watched.sized)
+        | inl at' ↦ is.shorts j i at'
+        | inr (last, same) ↦ omega arith
       ];
       bound = (let b = is.bound in omega arith);
       short_bound = (let b = is.short_bound in omega arith);
       bounds = λ k r at. let (b, n) = is.bounds k r at in (b, omega arith);
-      reached = λ k r at. let (b, n) = is.bounds k r at in
-          subst (λ (ks : List (List ℤ)). IsReached ks w es r) (sym clauses) (reached-pushed s.clauses c s.watches w o es r is.watched pushed is.shorts n (levels k r at) (is.reached k r at));
-      now = subst (λ (ks : List (List ℤ)). IsReached ks w es (record { entries = length es; visited = v; settled = s.settled })) (sym clauses)
-          (reached-pushed s.clauses c s.watches w o es (record { entries = length es; visited = v; settled = s.settled }) is.watched pushed is.shorts is.short_bound fresh (reached-fewer s.clauses s.watches es (length es) s.visited v s.settled low is.now));
-      kept = (let b = is.kept.count in kept-change s.clauses cs s.watches w es es s.levels.items s.levels.items s.kept (omega (arith, ap length clauses, length_push s.clauses c)) is.kept.within is.kept.early
-          (first-push s.clauses c cs s.kept.count b clauses) (moved-push s.kept.count s.watches.pairs.items w.pairs.items (get_pair o) es s.kept.visited (omega (arith, is.watched.sized)) (pairs-pushed s.watches w o pushed)) (front-same es es s.kept.entries refl) is.kept);
+      reached = λ k r at. let (b, n) = is.bounds k r at in reached-pushed s.clauses s.watches w o es r pushed n (levels k r at) (is.reached k r at);
+      now = reached-pushed s.clauses s.watches w o es (record { entries = length es; visited = v; settled = s.settled }) pushed is.short_bound fresh (reached-fewer s.clauses s.watches es (length es) s.visited v s.settled low is.now);
+      kept = (let b = is.kept.count in kept-change s.clauses s.clauses s.watches w es es s.levels.items s.levels.items s.kept (omega (arith, ap length (pairs-pushed s.watches w o pushed), length_push s.watches.pairs (get_pair o))) is.kept.within is.kept.early
+          (first-same s.clauses s.clauses s.kept.count refl) (still-push s.clauses s.watches.pairs w.pairs (get_pair o) (pairs-pushed s.watches w o pushed) (λ d at none. short-none d o (all_get IsClause s.clauses (length s.watches.pairs) d is.trail.clauses at).0 (subst (λ (x : List ℤ). FitsPair x o) (this d at) fits) none))
+          (moved-push s.kept.count s.watches.pairs w.pairs (get_pair o) es s.kept.visited b (pairs-pushed s.watches w o pushed)) (front-same es es s.kept.entries refl) is.kept);
     }
   where
+    this : (d : List ℤ) → slice_get s.clauses (length s.watches.pairs) ≡ Some d → c ≡ d
+    this d at = let both : Some c ≡ Some d = sym here ∙ at in cc
+
     reached-fewer : (known : List (List ℤ)) (w : Watches) (es : List Entry) (n m v t : ℕ) → v ≤ m → IsReached known w es (record { entries = n; visited = m; settled = t }) → IsReached known w es (record { entries = n; visited = v; settled = t })
     reached-fewer known w es n m v t low is = record {
       visited = λ i c p l known' at literal of (q, less, on). is.visited i c p l known' at literal of (q, omega arith, on);
       settled = is.settled;
     }
 
+-- the next clause is satisfied, and watches nothing
+pub state-spared : (s : State) (w : Watches) (c : List ℤ) → IsState s → slice_get s.clauses (length s.watches.pairs) ≡ Some c → w.pairs ≡ s.watches.pairs ++ no_pair ∷ [] → w.lists.items ≡ s.watches.lists.items → w.short.items ≡ s.watches.short.items
+    → IsLong c → IsSatisfied s.trail.entries.items c → s.kept.entries ≡ length s.trail.entries.items
+    → IsState (record { clauses = s.clauses; chains = s.chains; trail = s.trail; watches = w; levels = s.levels; visited = s.visited; settled = s.settled; kept = s.kept })
+state-spared s w c is here pairs lists short long satisfied all =
+    let es : List Entry = s.trail.entries.items in
+    let within = slice_get_within s.clauses (length s.watches.pairs) c here in
+    let size : length w.pairs ≡ length s.watches.pairs + 1 = omega (arith, ap length pairs, length_push s.watches.pairs no_pair) in
+    let reached : (r : Reach) → IsReached s.clauses s.watches es r → IsReached s.clauses w es r = λ r h. record {
+      visited = λ i d p l known at literal of off. elim (before i p at) [
+        | inl at' ↦ h.visited i d p l known at' literal of off
+        | inr (last, same) ↦ absurd (no-pair l literal (subst (IsOf l) same of))
+      ];
+      settled = λ j i d less at known none. h.settled j i d less (subst (λ (xs : List ℕ). slice_get xs j ≡ Some i) short at) known none;
+    } in
+    record {
+      some = is.some;
+      fits = is.fits;
+      chains = is.chains;
+      trail = is.trail;
+      levelled = is.levelled;
+      starts = is.starts;
+      watched = record {
+        sized = omega arith;
+        paired = λ i d p known at. elim (before i p at) [ inl at' ↦ is.watched.paired i d p known at' | inr (last, same) ↦ inl same ];
+        listed = λ i p l at literal of. elim (before i p at) [
+          | inl at' ↦ subst (λ (ls : List (Vec ℕ Global)). IsListed ls l i) (sym lists) (is.watched.listed i p l at' literal of)
+          | inr (last, same) ↦ absurd (no-pair l literal (subst (IsOf l) same of))
+        ];
+        short = λ i d less known none. subst (λ (xs : List ℕ). IsAmong i xs) (sym short) (elim (cases_lt i (length s.watches.pairs)) [
+          | inl earlier ↦ is.watched.short i d earlier known none
+          | inr past ↦ absurd (none (subst IsLong (this i d (omega arith) known) long))
+        ]);
+      };
+      shorts = λ j i at. is.shorts j i (subst (λ (xs : List ℕ). slice_get xs j ≡ Some i) short at);
+      bound = is.bound;
+      short_bound = (let b = is.short_bound in omega (arith, ap length short));
+      bounds = λ k r at. let (b, n) = is.bounds k r at in (b, omega (arith, ap length short));
+      reached = λ k r at. reached r (is.reached k r at);
+      now = reached (reach_of s) is.now;
+      kept = record {
+        count = (let b = is.kept.count in omega arith);
+        within = is.kept.within;
+        bound = is.kept.bound;
+        early = is.kept.early;
+        visited = λ i d p l less known at literal of off. elim (before i p at) [
+          | inl at' ↦ is.kept.visited i d p l less known at' literal of off
+          | inr (last, same) ↦ absurd (no-pair l literal (subst (IsOf l) same of))
+        ];
+        spared = λ i d known at long'. elim (before i no_pair at) [
+          | inl at' ↦ is.kept.spared i d known at' long'
+          | inr (last, same) ↦
+              let (k, among, (p, less, e)) = subst (IsSatisfied es) (this i d last known) satisfied in
+              (k, among, (p, omega arith, e))
+        ];
+      };
+    }
+  where
+    before : (i : ℕ) (p : Pair) → slice_get w.pairs i ≡ Some p → (slice_get s.watches.pairs i ≡ Some p) ⊎ ((i ≡ length s.watches.pairs) × (p ≡ no_pair))
+    before i p at = slice_get_push_at s.watches.pairs no_pair i p (subst (λ (ps : List Pair). slice_get ps i ≡ Some p) pairs at)
+
+    this : (i : ℕ) (d : List ℤ) → i ≡ length s.watches.pairs → slice_get s.clauses i ≡ Some d → c ≡ d
+    this i d last at = let both : Some c ≡ Some d = sym here ∙ ap (slice_get s.clauses) (sym last) ∙ at in cc
+
+-- a clause with its chain is added and watches the pair, where each clause before it has its own
+pub state-pushed : (s : State) (cs : List (List ℤ)) (ms : List (List ℕ)) (w : Watches) (c : List ℤ) (ns : List ℕ) (o : Option Pair) (v : ℕ) → IsState s → IsFull s → cs ≡ s.clauses ++ c ∷ [] → ms ≡ s.chains ++ ns ∷ [] → AreKept s.watches w → IsPushed s.watches w o → FitsPair c o → IsClause c → AreCovered s.trail.positions.items c → (ns ≡ []) ⊎ IsChainResolvent s.clauses ns c
+    → v ≤ s.visited → IsFresh s.trail.entries.items v o → ((k : ℕ) (r : Reach) → slice_get s.levels.items k ≡ Some r → IsFresh s.trail.entries.items r.visited o)
+    → IsState (record { clauses = cs; chains = ms; trail = s.trail; watches = w; levels = s.levels; visited = v; settled = s.settled; kept = s.kept })
+state-pushed s cs ms w c ns o v is full clauses chains kept pushed fits clause covered right low fresh levels =
+    let last : length s.watches.pairs ≡ length s.clauses + 0 = omega (arith, full) in
+    let here : slice_get cs (length s.watches.pairs) ≡ Some c = ap (λ (ks : List (List ℤ)). slice_get ks (length s.watches.pairs)) clauses ∙ ap (slice_get (s.clauses ++ c ∷ [])) last ∙ slice_get-append_right s.clauses (c ∷ []) 0 in
+    state-attached (record { clauses = cs; chains = ms; trail = s.trail; watches = s.watches; levels = s.levels; visited = s.visited; settled = s.settled; kept = s.kept }) w c o v (state-added s cs ms c ns is clauses chains clause covered right) here kept pushed fits low fresh levels
+
 pub kept-lists : (old between new : Watches) → new.lists.items ≡ between.lists.items → AreKept old between → AreKept old new
 kept-lists old between new same kept = record {
-  sized = ap length same ∙ kept.sized;
   listed = λ l i listed. subst (λ (ls : List (Vec ℕ Global)). IsListed ls l i) (sym same) (kept.listed l i listed);
 }
 
@@ -386,15 +496,6 @@ fits-each P c (Some p) all fits = (all_among P c p.first all fits.first, all_amo
 
 pub fits-literals : (c : List ℤ) (o : Option Pair) → IsClause c → FitsPair c o → IfSome o (λ p. IsLiteral p.first × IsLiteral p.second)
 fits-literals c o clause fits = fits-each IsLiteral c o clause.0 fits
-
-pub place-within : (l : ℤ) (n : ℕ) → unsigned_abs l < n → place l < 2 * n
-place-within l n less = let size = place-size l in let high = size.1 in omega arith
-
-pub fits-lists : (c : List ℤ) (ps : List ℕ) (n : ℕ) (o : Option Pair) → AreCovered ps c → n ≡ 2 * length ps → FitsPair c o → IfSome o (λ p. (place p.first < n) × (place p.second < n))
-fits-lists c ps n None covered size fits = tt
-fits-lists c ps n (Some p) covered size fits =
-    let all : (l : ℤ) → IsAmong l c → place l < n = λ l among. let low = place-within l (length ps) (all_among (λ (k : ℤ). unsigned_abs k < length ps) c l covered among) in omega arith in
-    (all p.first fits.first, all p.second fits.second)
 
 pub fresh-none : (es : List Entry) (o : Option Pair) → IsFresh es 0 o
 fresh-none es None = tt

@@ -16,7 +16,7 @@ use Rattle.mcs_sat.specs.declared.trail.Entry.{Entry}
 use Rattle.mcs_sat.specs.declared.trail.Trail.{Trail}
 use Rattle.mcs_sat.specs.declared.watches.Watches.{Watches}
 use Rattle.mcs_sat.specs.Learning.{IsLatest, IsSingle}
-use Rattle.mcs_sat.specs.States.{AreStarts, IsLastLevel, IsState, IsTurn}
+use Rattle.mcs_sat.specs.States.{AreStarts, IsFull, IsLastLevel, IsState, IsTurn}
 use Rattle.mcs_sat.specs.Trails.{AreCovered, AreLevelled, ArePlaced, IsFalse, IsOnBelow, literal_at}
 use Rattle.mcs_sat.specs.Watching.{AreKept, IsFresh, IsLong, IsPushed}
 use Rattle.mcs_sat.proofs.LatestLemmas.{covered-false}
@@ -105,10 +105,10 @@ turn-fresh es ps m turn n k placed here before (none, others) low high early = e
 -- a clause is learnt, and the levels above its own are taken back
 pub state-learnt : (s : State) (t : Trail) (ls : Vec Reach Global) (cs : List (List ℤ)) (ms : List (List ℕ)) (w : Watches) (c : List ℤ) (ns : List ℕ) (m : Latest) (turn : Turn) (r : Reach) (v : ℕ) → IsState s → IsClause c → IsFalse s.trail.entries.items c → IsChainResolvent s.clauses ns c → ((q : Reach) → IsLastLevel s.levels.items q → IsSingle s.trail.entries.items q.entries c) → 0 < length s.levels.items
     → IsLatest s.trail.entries.items c m → IsTurn s.trail.entries.items m turn → slice_get s.levels.items turn.level ≡ Some r
-    → cs ≡ s.clauses ++ c ∷ [] → ms ≡ s.chains ++ ns ∷ [] → AreKept s.watches w → IsPushed s.watches w turn.pair
+    → IsFull s → cs ≡ s.clauses ++ c ∷ [] → ms ≡ s.chains ++ ns ∷ [] → AreKept s.watches w → IsPushed s.watches w turn.pair
     → t.entries.items ≡ take r.entries s.trail.entries.items → t.positions.items ≡ s.trail.positions.items → ls.items ≡ take turn.level s.levels.items → v ≤ r.visited → v ≤ turn.place
     → IsState (record { clauses = cs; chains = ms; trail = t; watches = w; levels = ls; visited = v; settled = r.settled; kept = s.kept })
-state-learnt s t ls cs ms w c ns m turn r v is clause all_false right single some is-latest is-turn at clauses chains kept pushed entries positions levels low low' =
+state-learnt s t ls cs ms w c ns m turn r v is clause all_false right single some is-latest is-turn at full clauses chains kept pushed entries positions levels low low' =
     let es : List Entry = s.trail.entries.items in
     let ps : List ℕ = s.trail.positions.items in
     let placed : ArePlaced es ps = is.trail.placed in
@@ -118,7 +118,7 @@ state-learnt s t ls cs ms w c ns m turn r v is clause all_false right single som
     let (bounded, count) = is.bounds turn.level r at in
     let before : AreCovered ps c = covered-false es ps c placed all_false in
     state-pushed (record { clauses = s.clauses; chains = s.chains; trail = t; watches = s.watches; levels = ls; visited = r.visited; settled = r.settled; kept = s.kept }) cs ms w c ns turn.pair v
-    (state-back s t ls turn.level r is at entries positions levels) clauses chains kept pushed (turn-fits es ps c m turn placed clause is-latest is-turn) clause (subst (λ (xs : List ℕ). AreCovered xs c) (sym positions) before) (inr right) low
+    (state-back s t ls turn.level r is at entries positions levels) full clauses chains kept pushed (turn-fits es ps c m turn placed clause is-latest is-turn) clause (subst (λ (xs : List ℕ). AreCovered xs c) (sym positions) before) (inr right) low
     (subst (λ (xs : List Entry). IsFresh xs v turn.pair) (sym entries) (turn-fresh es ps m turn v r.entries placed is-latest.here is-latest.before is-turn (omega arith) (omega arith) (λ there. let other = (is-turn.1 there).1 in omega arith)))
     (λ j q at'.
     let (less, here) = slice_get_take turn.level s.levels.items j q (subst (λ (xs : List Reach). slice_get xs j ≡ Some q) levels at') in

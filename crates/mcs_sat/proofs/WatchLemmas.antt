@@ -11,15 +11,16 @@ use Rattle.mcs_base.specs.Listings.{IsAmong}
 use Rattle.mcs_base.proofs.Among.{among_permutation, among_push, get_among}
 use Rattle.mcs_base.proofs.Each.{all_among, all_get}
 use Rattle.mcs_base.proofs.Lists.{slice_get_below}
-use Rattle.mcs_base.proofs.Written.{slice_get_set, slice_get-set_other, slice_get-take}
+use Rattle.mcs_base.proofs.Written.{slice_get_set, slice_get-set_other, slice_get-set_same, slice_get-take}
 use Rattle.mcs_trace.specs.Clauses.{IsClause, IsLiteral, place}
 use Rattle.mcs_trace.proofs.OrderLemmas.{place-injective}
 use Rattle.mcs_sat.specs.declared.state.Reach.{Reach}
 use Rattle.mcs_sat.specs.declared.trail.Entry.{Entry}
 use Rattle.mcs_sat.specs.declared.watches.Pair.{Pair}
 use Rattle.mcs_sat.specs.declared.watches.Watches.{Watches}
+use Rattle.mcs_sat.specs.Pairs.{no_pair}
 use Rattle.mcs_sat.specs.Trails.{Grows, IsOn, IsOnBelow, IsSatisfied, IsSatisfiedBelow, literal_at}
-use Rattle.mcs_sat.specs.Watching.{AreMoved, ArePair, AreVisited, AreWatched, IsListed, IsLong, IsOf, IsPaired, IsPairOf, IsReached}
+use Rattle.mcs_sat.specs.Watching.{AreMoved, ArePair, AreSpared, AreVisited, AreWatched, IsListed, IsLong, IsOf, IsPaired, IsPairOf, IsReached}
 use Rattle.mcs_sat.proofs.GrowLemmas.{entry-grown, grows-longer, satisfied-grown}
 use Rattle.mcs_sat.proofs.TrailLemmas.{below-same}
 
@@ -37,53 +38,76 @@ module _ {A : Type 0} where
   ]
 
 -- ---- lists
-pub listed-set : (lists : List (Vec ℕ Global)) (p : ℕ) (v : Vec ℕ Global) (l : ℤ) (i : ℕ) → (place l ≢ p → IsListed lists l i) → (place l ≡ p → IsAmong i v.items) → IsListed (set lists p v) l i
-listed-set lists p v l i other here list e = elim (cases_eq (place l) p) [
-  | inl same ↦ subst (λ (w : Vec ℕ Global). IsAmong i w.items) (sym (slice_get_set lists p v list (subst (λ (q : ℕ). slice_get (set lists p v) q ≡ Some list) same e))) (here same)
-  | inr differ ↦ other differ list (sym (slice_get-set_other lists p (place l) v differ) ∙ e)
+pub listed-set : (lists : List (Vec ℕ Global)) (p : ℕ) (v : Vec ℕ Global) (l : ℤ) (i : ℕ) → p < length lists → (place l ≢ p → IsListed lists l i) → (place l ≡ p → IsAmong i v.items) → IsListed (set lists p v) l i
+listed-set lists p v l i within other here = elim (cases_eq (place l) p) [
+  | inl same ↦ (v, ap (slice_get (set lists p v)) same ∙ slice_get-set_same lists p v within, here same)
+  | inr differ ↦ let (list, at, among) = other differ in (list, slice_get-set_other lists p (place l) v differ ∙ at, among)
 ]
+
+-- the one list of a literal
+pub among-listed : (lists : List (Vec ℕ Global)) (l : ℤ) (i p : ℕ) (list : Vec ℕ Global) → p ≡ place l → slice_get lists p ≡ Some list → IsListed lists l i → IsAmong i list.items
+among-listed lists l i p list place-is is (list', at, among) =
+    let both : Some list' ≡ Some list = sym at ∙ sym (ap (slice_get lists) place-is) ∙ is in
+    let same : list' ≡ list = cc in
+    subst (λ (v : Vec ℕ Global). IsAmong i v.items) same among
+
+-- where there are more lists
+pub listed-longer : (old new : List (Vec ℕ Global)) (l : ℤ) (i : ℕ) → ((p : ℕ) → p < length old → slice_get new p ≡ slice_get old p) → IsListed old l i → IsListed new l i
+listed-longer old new l i same (list, at, among) = (list, same (place l) (slice_get_within old (place l) list at) ∙ at, among)
 
 -- one more in the list of a literal
 module _ (lists : List (Vec ℕ Global)) (p : ℕ) (old new : Vec ℕ Global) (index : ℕ) (was : slice_get lists p ≡ Some old) (more : new.items ≡ old.items ++ index ∷ []) where
   pub list-kept : (l : ℤ) (i : ℕ) → IsListed lists l i → IsListed (set lists p new) l i
-  list-kept l i listed = listed-set lists p new l i (λ differ. listed) (λ same. subst (IsAmong i) (sym more) ((among_push i old.items index).1 (inl (listed old (ap (slice_get lists) same ∙ was)))))
+  list-kept l i listed = listed-set lists p new l i (slice_get_within lists p old was) (λ differ. listed) (λ same. subst (IsAmong i) (sym more) ((among_push i old.items index).1 (inl (among-listed lists l i p old (sym same) was listed))))
 
   pub list-listed : (l : ℤ) → place l ≡ p → IsListed (set lists p new) l index
-  list-listed l at = listed-set lists p new l index (λ differ. absurd (differ at)) (λ same. subst (IsAmong index) (sym more) ((among_push index old.items index).1 (inr refl)))
+  list-listed l at = listed-set lists p new l index (slice_get_within lists p old was) (λ differ. absurd (differ at)) (λ same. subst (IsAmong index) (sym more) ((among_push index old.items index).1 (inr refl)))
+
+-- the same list, in other memory
+pub list-same : (lists : List (Vec ℕ Global)) (p : ℕ) (old new : Vec ℕ Global) → slice_get lists p ≡ Some old → new.items ≡ old.items → (l : ℤ) (i : ℕ) → IsListed lists l i → IsListed (set lists p new) l i
+list-same lists p old new was same l i listed = listed-set lists p new l i (slice_get_within lists p old was) (λ differ. listed) (λ here. subst (IsAmong i) (sym same) (among-listed lists l i p old (sym here) was listed))
+
+-- ---- pairs
+pub no-pair : (l : ℤ) → IsLiteral l → IsOf l no_pair → ⊥
+no-pair l literal (inl e) = let size = ap unsigned_abs e in let some = literal.0 in omega arith
+no-pair l literal (inr e) = let size = ap unsigned_abs e in let some = literal.0 in omega arith
+
+pub pair-long : (c : List ℤ) (q : Pair) → ArePair c q → IsLong c
+pair-long [] q pair = absurd pair.first
+pair-long (x ∷ []) q pair = elim pair.first [ inl e ↦ elim pair.second [ inl e' ↦ absurd (pair.differ (e ∙ sym e')) | inr none ↦ absurd none ] | inr none ↦ absurd none ]
+pair-long (x ∷ y ∷ c) q pair = omega arith
+
+-- where a literal stands, the pair is one of the clause
+pub some-pair : (c : List ℤ) (p : Pair) (l : ℤ) → IsLiteral l → IsOf l p → IsPaired c p → ArePair c p
+some-pair c p l literal of (inl none) = absurd (no-pair l literal (subst (IsOf l) none of))
+some-pair c p l literal of (inr two) = two
 
 -- ---- what a clause watches
 -- the clause of the index watches the literal and the other one
 pub record IsWatching (known : List (List ℤ)) (w : Watches) (i : ℕ) (c : List ℤ) (l other : ℤ) : Type 0 where
-  pub long : IsLong c
   pub has : IsAmong l c
   pub has_other : IsAmong other c
   pub differ : other ≢ l
-  pub of_other : (p : Pair) → slice_get w.pairs.items i ≡ Some p → IsOf other p
+  pub of_other : (p : Pair) → slice_get w.pairs i ≡ Some p → IsOf other p
 
-pub watching : (known : List (List ℤ)) (w : Watches) (i : ℕ) (c : List ℤ) (p : Pair) (l other : ℤ) → AreWatched known w → IsLiteral l → slice_get known i ≡ Some c → slice_get w.pairs.items i ≡ Some p → IsPairOf p l other → IsWatching known w i c l other
+pub watching : (known : List (List ℤ)) (w : Watches) (i : ℕ) (c : List ℤ) (p : Pair) (l other : ℤ) → AreWatched known w → IsLiteral l → slice_get known i ≡ Some c → slice_get w.pairs i ≡ Some p → IsPairOf p l other → IsWatching known w i c l other
 watching known w i c p l other watched literal is at pair = by pair
   where
-    same : (q : Pair) → slice_get w.pairs.items i ≡ Some q → p ≡ q
+    same : (q : Pair) → slice_get w.pairs i ≡ Some q → p ≡ q
     same q at' = let both : Some p ≡ Some q = sym at ∙ at' in cc
 
     by : IsPairOf p l other → IsWatching known w i c l other
     by (inl (first, second)) =
-        let paired = watched.paired i c p is at in
-        let long : IsLong c = paired.1 l literal (inl first) in
-        let two : ArePair c p = paired.0 long in
+        let two : ArePair c p = some-pair c p l literal (inl first) (watched.paired i c p is at) in
         record {
-          long = long;
           has = subst (λ (k : ℤ). IsAmong k c) first two.first;
           has_other = subst (λ (k : ℤ). IsAmong k c) second two.second;
           differ = λ e. two.differ (first ∙ sym e ∙ sym second);
           of_other = λ q at'. subst (IsOf other) (same q at') (inr second);
         }
     by (inr (second, first)) =
-        let paired = watched.paired i c p is at in
-        let long : IsLong c = paired.1 l literal (inr second) in
-        let two : ArePair c p = paired.0 long in
+        let two : ArePair c p = some-pair c p l literal (inr second) (watched.paired i c p is at) in
         record {
-          long = long;
           has = subst (λ (k : ℤ). IsAmong k c) second two.second;
           has_other = subst (λ (k : ℤ). IsAmong k c) first two.first;
           differ = λ e. two.differ (first ∙ e ∙ sym second);
@@ -91,49 +115,49 @@ watching known w i c p l other watched literal is at pair = by pair
         }
 
 -- the clause of an index that has a pair
-pub watched_at : (known : List (List ℤ)) (w : Watches) (i : ℕ) → AreWatched known w → i < length w.pairs.items → (c : List ℤ) × (slice_get known i ≡ Some c)
-watched_at known w i watched less = slice_get_below known i (let sized : length w.pairs.items ≡ length known = watched.sized in omega arith)
+pub watched_at : (known : List (List ℤ)) (w : Watches) (i : ℕ) → AreWatched known w → i < length w.pairs → (c : List ℤ) × (slice_get known i ≡ Some c)
+watched_at known w i watched less = slice_get_below known i (let sized = watched.sized in omega arith)
 
 -- ---- lists that grow
-pub watched-list : (known : List (List ℤ)) (w w' : Watches) → AreWatched known w → w'.pairs.items ≡ w.pairs.items → w'.short.items ≡ w.short.items
+pub watched-list : (known : List (List ℤ)) (w w' : Watches) → AreWatched known w → w'.pairs ≡ w.pairs → w'.short.items ≡ w.short.items
     → ((l : ℤ) (i : ℕ) → IsListed w.lists.items l i → IsListed w'.lists.items l i) → AreWatched known w'
 watched-list known w w' watched pairs short kept = record {
-  sized = ap length pairs ∙ watched.sized;
+  sized = (let sized = watched.sized in omega (arith, ap length pairs));
   paired = λ i c p is at. watched.paired i c p is (sym (ap (λ (ps : List Pair). slice_get ps i) pairs) ∙ at);
   listed = λ i p l at literal of. kept l i (watched.listed i p l (sym (ap (λ (ps : List Pair). slice_get ps i) pairs) ∙ at) literal of);
-  short = λ i c is few. subst (IsAmong i) (sym short) (watched.short i c is few);
+  short = λ i c less is few. subst (IsAmong i) (sym short) (watched.short i c (omega (arith, ap length pairs)) is few);
 }
 
-pub reached-list : (known : List (List ℤ)) (w w' : Watches) (es : List Entry) (r : Reach) → w'.pairs.items ≡ w.pairs.items → w'.short.items ≡ w.short.items → IsReached known w es r → IsReached known w' es r
+pub reached-list : (known : List (List ℤ)) (w w' : Watches) (es : List Entry) (r : Reach) → w'.pairs ≡ w.pairs → w'.short.items ≡ w.short.items → IsReached known w es r → IsReached known w' es r
 reached-list known w w' es r pairs short h = record {
   visited = λ i c p l is at. h.visited i c p l is (sym (ap (λ (ps : List Pair). slice_get ps i) pairs) ∙ at);
   settled = λ j i c less at. h.settled j i c less (sym (ap (λ (xs : List ℕ). slice_get xs j) short) ∙ at);
 }
 
 -- ---- a pair that is replaced
-module _ (known : List (List ℤ)) (w w' : Watches) (i : ℕ) (c : List ℤ) (q : Pair) (is : slice_get known i ≡ Some c) (pairs : w'.pairs.items ≡ set w.pairs.items i q) (short : w'.short.items ≡ w.short.items) where
+module _ (known : List (List ℤ)) (w w' : Watches) (i : ℕ) (c : List ℤ) (q : Pair) (is : slice_get known i ≡ Some c) (pairs : w'.pairs ≡ set w.pairs i q) (short : w'.short.items ≡ w.short.items) where
   -- the pair of an index is the new one, or as before
-  pair_cases : (j : ℕ) (p : Pair) → slice_get w'.pairs.items j ≡ Some p → ((j ≡ i) × (p ≡ q)) ⊎ (slice_get w.pairs.items j ≡ Some p)
+  pair_cases : (j : ℕ) (p : Pair) → slice_get w'.pairs j ≡ Some p → ((j ≡ i) × (p ≡ q)) ⊎ (slice_get w.pairs j ≡ Some p)
   pair_cases j p at = elim (cases_eq j i) [
-    | inl e ↦ inl (e, slice_get_set w.pairs.items i q p (subst (λ (k : ℕ). slice_get (set w.pairs.items i q) k ≡ Some p) e (sym (ap (λ (ps : List Pair). slice_get ps j) pairs) ∙ at)))
-    | inr differ ↦ inr (sym (slice_get-set_other w.pairs.items i j q differ) ∙ sym (ap (λ (ps : List Pair). slice_get ps j) pairs) ∙ at)
+    | inl e ↦ inl (e, slice_get_set w.pairs i q p (subst (λ (k : ℕ). slice_get (set w.pairs i q) k ≡ Some p) e (sym (ap (λ (ps : List Pair). slice_get ps j) pairs) ∙ at)))
+    | inr differ ↦ inr (sym (slice_get-set_other w.pairs i j q differ) ∙ sym (ap (λ (ps : List Pair). slice_get ps j) pairs) ∙ at)
   ]
 
-  pub watched-move : AreWatched known w → w'.lists.items ≡ w.lists.items → IsLong c → ArePair c q → ((l : ℤ) → IsLiteral l → IsOf l q → IsListed w.lists.items l i) → AreWatched known w'
-  watched-move watched lists long two listed = record {
-    sized = ap length pairs ∙ length-set w.pairs.items i q ∙ watched.sized;
+  pub watched-move : AreWatched known w → w'.lists.items ≡ w.lists.items → ArePair c q → ((l : ℤ) → IsLiteral l → IsOf l q → IsListed w.lists.items l i) → AreWatched known w'
+  watched-move watched lists two listed = record {
+    sized = (let sized = watched.sized in omega (arith, ap length pairs, length-set w.pairs i q));
     paired = λ j d p is' at. elim (pair_cases j p at) [
       | inl (e, e') ↦
           let both : Some c ≡ Some d = sym is ∙ ap (slice_get known) (sym e) ∙ is' in
           let same : c ≡ d = cc in
-          subst (λ (x : List ℤ). IsPaired x p) same (subst (IsPaired c) (sym e') (λ _. two, λ l literal of. long))
+          subst (λ (x : List ℤ). IsPaired x p) same (subst (IsPaired c) (sym e') (inr two))
       | inr old ↦ watched.paired j d p is' old
     ];
     listed = λ j p l at literal of. subst (λ (ls : List (Vec ℕ Global)). IsListed ls l j) (sym lists) (elim (pair_cases j p at) [
       | inl (e, e') ↦ subst (IsListed w.lists.items l) (sym e) (listed l literal (subst (IsOf l) e' of))
       | inr old ↦ watched.listed j p l old literal of
     ]);
-    short = λ j d is' few. subst (IsAmong j) (sym short) (watched.short j d is' few);
+    short = λ j d less is' few. subst (IsAmong j) (sym short) (watched.short j d (omega (arith, ap length pairs, length-set w.pairs i q)) is' few);
   }
 
   pub reached-move : (es : List Entry) (r : Reach) → IsReached known w es r → ((l : ℤ) → IsLiteral l → IsOf l q → IsOnBelow es r.visited (neg_ℤ l) → IsSatisfiedBelow es r.entries c) → IsReached known w' es r
@@ -156,6 +180,13 @@ moved-move pairs i old q es at each j p l here of = elim (cases_eq j i) [
     | inr opened ↦ inr opened
   ]
   | inr differ ↦ inl (p, sym (slice_get-set_other pairs i j q differ) ∙ here, of)
+]
+
+-- what watches nothing is the same
+pub spared-move : (pairs : List Pair) (i : ℕ) (q : Pair) → q ≢ no_pair → AreSpared pairs (set pairs i q)
+spared-move pairs i q some j at = elim (cases_eq j i) [
+  | inl e ↦ absurd (some (sym (slice_get_set pairs i q no_pair (subst (λ (k : ℕ). slice_get (set pairs i q) k ≡ Some no_pair) e at))))
+  | inr differ ↦ sym (slice_get-set_other pairs i j q differ) ∙ at
 ]
 
 pub gone-move : (pairs : List Pair) (i : ℕ) (q : Pair) (l : ℤ) → ¬ IsOf l q → (p : Pair) → slice_get (set pairs i q) i ≡ Some p → ¬ IsOf l p
@@ -205,29 +236,35 @@ module _ (known : List (List ℤ)) (lists lists' : List (Vec ℕ Global)) (level
       satisfied-grown level es es' c grows (passed list j i c is less here known-is)
 
 -- an index that does not watch the literal any more is taken out of its list
-pub watched-swap : (known : List (List ℤ)) (w w' : Watches) (p : ℕ) (l : ℤ) (at : ℕ) (list list' : Vec ℕ Global) (x : ℕ) → AreWatched known w → w'.pairs.items ≡ w.pairs.items → w'.short.items ≡ w.short.items → w'.lists.items ≡ set w.lists.items p list'
-    → p ≡ place l → slice_get w.lists.items p ≡ Some list → at < length list.items → x ≡ get_or list.items at x → list'.items ≡ swap_remove list.items at x → ((q : Pair) → slice_get w.pairs.items x ≡ Some q → ¬ IsOf l q) → AreWatched known w'
+pub watched-swap : (known : List (List ℤ)) (w w' : Watches) (p : ℕ) (l : ℤ) (at : ℕ) (list list' : Vec ℕ Global) (x : ℕ) → AreWatched known w → w'.pairs ≡ w.pairs → w'.short.items ≡ w.short.items → w'.lists.items ≡ set w.lists.items p list'
+    → p ≡ place l → slice_get w.lists.items p ≡ Some list → at < length list.items → x ≡ get_or list.items at x → list'.items ≡ swap_remove list.items at x → ((q : Pair) → slice_get w.pairs x ≡ Some q → ¬ IsOf l q) → AreWatched known w'
 watched-swap known w w' p l at list list' x watched pairs short lists place-is is within read swapped gone = record {
-  sized = ap length pairs ∙ watched.sized;
+  sized = (let sized = watched.sized in omega (arith, ap length pairs));
   paired = λ i c q known-is here. watched.paired i c q known-is (before i q here);
   listed = λ i q k here literal of. subst (λ (ls : List (Vec ℕ Global)). IsListed ls k i) (sym lists)
-      (listed-set w.lists.items p list' k i (λ differ. watched.listed i q k (before i q here) literal of) (λ same.
+      (listed-set w.lists.items p list' k i (slice_get_within w.lists.items p list is) (λ differ. watched.listed i q k (before i q here) literal of) (λ same.
       let k-is : k ≡ l = place-injective k l (same ∙ place-is) in
-      let among : IsAmong i list.items = watched.listed i q k (before i q here) literal of list (ap (slice_get w.lists.items) same ∙ is) in
-      subst (IsAmong i) (sym swapped) (among_swap_remove list.items at x i within read among (λ e. gone q (sym (ap (slice_get w.pairs.items) e) ∙ before i q here) (subst (λ (m : ℤ). IsOf m q) k-is of)))));
-  short = λ i c known-is few. subst (IsAmong i) (sym short) (watched.short i c known-is few);
+      let among : IsAmong i list.items = among-listed w.lists.items k i p list (sym same) is (watched.listed i q k (before i q here) literal of) in
+      subst (IsAmong i) (sym swapped) (among_swap_remove list.items at x i within read among (λ e. gone q (sym (ap (slice_get w.pairs) e) ∙ before i q here) (subst (λ (m : ℤ). IsOf m q) k-is of)))));
+  short = λ i c less known-is few. subst (IsAmong i) (sym short) (watched.short i c (omega (arith, ap length pairs)) known-is few);
 }
   where
-    before : (i : ℕ) (q : Pair) → slice_get w'.pairs.items i ≡ Some q → slice_get w.pairs.items i ≡ Some q
+    before : (i : ℕ) (q : Pair) → slice_get w'.pairs i ≡ Some q → slice_get w.pairs i ≡ Some q
     before i q here = sym (ap (λ (ps : List Pair). slice_get ps i) pairs) ∙ here
 
 -- all of the list
 pub visited-all : (known : List (List ℤ)) (w : Watches) (es : List Entry) (l : ℤ) (p at : ℕ) (list : Vec ℕ Global) → AreWatched known w → IsLiteral l → p ≡ place l → slice_get w.lists.items p ≡ Some list → length list.items ≤ at → ArePassed known w.lists.items es p at → AreVisited known w es l
 visited-all known w es l p at list watched literal place-is is all passed i c q known-is here of =
-    let among : IsAmong i list.items = watched.listed i q l here literal of list (sym (ap (slice_get w.lists.items) place-is) ∙ is) in
+    let among : IsAmong i list.items = among-listed w.lists.items l i p list place-is is (watched.listed i q l here literal of) in
     let (j, at-j) = get_among i list.items among in
     let less : j < length list.items = slice_get_within list.items j i at-j in
     passed list j i c is (omega arith) at-j known-is
+
+-- where there is no list
+pub visited-none : (known : List (List ℤ)) (w : Watches) (es : List Entry) (l : ℤ) → AreWatched known w → IsLiteral l → length w.lists.items ≤ place l → AreVisited known w es l
+visited-none known w es l watched literal past i c q known-is here of =
+    let (list, at, among) = watched.listed i q l here literal of in
+    absurd (let less = slice_get_within w.lists.items (place l) list at in omega arith)
 
 -- ---- a trail that grows
 -- what was true below a place within the first trail

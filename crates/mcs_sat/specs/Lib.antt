@@ -1,6 +1,7 @@
 pub mod Answers
 pub mod Trails
 pub mod Learning
+pub mod Pairs
 pub mod Watching
 pub mod Solvers
 pub mod States

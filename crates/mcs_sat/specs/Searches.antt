@@ -6,7 +6,7 @@ use Rattle.mcs_sat.specs.declared.search.Turn.TheVariants as turn
 use Rattle.mcs_sat.specs.declared.state.Reach.{Reach}
 use Rattle.mcs_sat.specs.declared.state.State.{State}
 use Rattle.mcs_sat.specs.declared.trail.Entry.{Entry}
-use Rattle.mcs_sat.specs.States.{IsState}
+use Rattle.mcs_sat.specs.States.{IsFull, IsState}
 use Rattle.mcs_sat.specs.Trails.{IsFalseAt, IsOpen, IsSatisfied}
 
 -- where a level began each clause had a true literal, or two that were free
@@ -15,6 +15,7 @@ AreOpenBelow s = (k : ℕ) (r : Reach) → slice_get s.levels.items k ≡ Some r
 
 pub record IsSearch (s : State) : Type 0 where
   pub state : IsState s
+  pub full : IsFull s
   pub before : AreOpenBelow s
 
 -- what the last run of unit clauses came to

@@ -32,7 +32,6 @@ reach_of s = record { entries = length s.trail.entries.items; visited = s.visite
 pub record IsState (s : State) : Type 0 where
   pub some : 0 < length s.trail.positions.items
   pub fits : length s.trail.positions.items ≤ 2 ^ 63
-  pub lists : length s.watches.lists.items ≡ 2 * length s.trail.positions.items
   pub chains : AreChains s.clauses s.chains
   pub trail : IsTrail s.clauses s.trail
   pub levelled : AreLevelled s.trail.entries.items
@@ -45,6 +44,10 @@ pub record IsState (s : State) : Type 0 where
   pub reached : (k : ℕ) (r : Reach) → slice_get s.levels.items k ≡ Some r → IsReached s.clauses s.watches s.trail.entries.items r
   pub now : IsReached s.clauses s.watches s.trail.entries.items (reach_of s)
   pub kept : IsKept s.clauses s.watches s.trail.entries.items s.levels.items s.kept
+
+-- each clause has its pair
+abbrev pub IsFull : State → Type 0
+IsFull s = length s.watches.pairs ≡ length s.clauses
 
 -- ---- what changes
 -- the variables stay

@@ -1,5 +1,5 @@
 -- The two literals that a clause watches, and how far a solver has come with them (Moskewicz et al. 2001).
-use Rattle.std.specs.Prelude.{◌≡◌, ◌≢◌, ℕ, ◌<◌, ◌≤◌, ◌⊎◌, List, [], ◌∷◌, ◌++◌, ℤ, pos, neg_ℤ, length, Option, Some, None, MatchOption, Vec, slice_get}
+use Rattle.std.specs.Prelude.{◌≡◌, ◌≢◌, ℕ, ◌<◌, ◌≤◌, ◌⊎◌, List, [], ◌∷◌, ◌++◌, ℤ, neg_ℤ, length, Option, Some, None, MatchOption, Vec, slice_get}
 use Rattle.std.specs.declared.alloc.Global.{Global}
 use Rattle.mcs_base.specs.Listings.{IsAmong}
 use Rattle.mcs_trace.specs.Clauses.{IsLiteral, place}
@@ -10,6 +10,7 @@ use Rattle.mcs_sat.specs.declared.state.Reach.{Reach}
 use Rattle.mcs_sat.specs.declared.trail.Entry.{Entry}
 use Rattle.mcs_sat.specs.declared.watches.Pair.{Pair}
 use Rattle.mcs_sat.specs.declared.watches.Watches.{Watches}
+use Rattle.mcs_sat.specs.Pairs.{no_pair}
 use Rattle.mcs_sat.specs.Trails.{IsFalseAt, IsOn, IsOnBelow, IsSatisfied, IsSatisfiedBelow}
 
 -- a clause of two literals or more watches two
@@ -24,59 +25,50 @@ IsOf l p = (p.first ≡ l) ⊎ (p.second ≡ l)
 abbrev pub IsPairOf : Pair → ℤ → ℤ → Type 0
 IsPairOf p l other = ((p.first ≡ l) × (p.second ≡ other)) ⊎ ((p.second ≡ l) × (p.first ≡ other))
 
--- what stands where a clause watches nothing
-abbrev pub no_pair : Pair
-no_pair = record { first = pos 0; second = pos 0 }
-
 -- two literals of the clause
 pub record ArePair (c : List ℤ) (p : Pair) : Type 0 where
   pub first : IsAmong p.first c
   pub second : IsAmong p.second c
   pub differ : p.first ≢ p.second
 
--- a long clause has a pair; for a short one no literal stands there
+-- no literals, or two of the clause
 abbrev pub IsPaired : List ℤ → Pair → Type 0
-IsPaired c p = (IsLong c → ArePair c p) × ((l : ℤ) → IsLiteral l → IsOf l p → IsLong c)
+IsPaired c p = (p ≡ no_pair) ⊎ ArePair c p
 
 -- the index is in the list of the literal
 abbrev pub IsListed : List (Vec ℕ Global) → ℤ → ℕ → Type 0
-IsListed lists l i = (list : Vec ℕ Global) → slice_get lists (place l) ≡ Some list → IsAmong i list.items
+IsListed lists l i = (list : Vec ℕ Global) × (slice_get lists (place l) ≡ Some list) × IsAmong i list.items
 
--- each clause has its pair, and is in the lists of both of its literals; the short ones are among those of a list of their own
+-- each of the first clauses has its pair, and is in the lists of both of its literals; the short ones of them are among those of a list of their own
 pub record AreWatched (known : List (List ℤ)) (w : Watches) : Type 0 where
-  pub sized : length w.pairs.items ≡ length known
-  pub paired : (i : ℕ) (c : List ℤ) (p : Pair) → slice_get known i ≡ Some c → slice_get w.pairs.items i ≡ Some p → IsPaired c p
-  pub listed : (i : ℕ) (p : Pair) (l : ℤ) → slice_get w.pairs.items i ≡ Some p → IsLiteral l → IsOf l p → IsListed w.lists.items l i
-  pub short : (i : ℕ) (c : List ℤ) → slice_get known i ≡ Some c → ¬ IsLong c → IsAmong i w.short.items
+  pub sized : length w.pairs ≤ length known
+  pub paired : (i : ℕ) (c : List ℤ) (p : Pair) → slice_get known i ≡ Some c → slice_get w.pairs i ≡ Some p → IsPaired c p
+  pub listed : (i : ℕ) (p : Pair) (l : ℤ) → slice_get w.pairs i ≡ Some p → IsLiteral l → IsOf l p → IsListed w.lists.items l i
+  pub short : (i : ℕ) (c : List ℤ) → i < length w.pairs → slice_get known i ≡ Some c → ¬ IsLong c → IsAmong i w.short.items
 
 -- where a literal that a clause watches was false among those that were visited, the clause was satisfied; the short clauses that were settled were so too
 pub record IsReached (known : List (List ℤ)) (w : Watches) (entries : List Entry) (r : Reach) : Type 0 where
-  pub visited : (i : ℕ) (c : List ℤ) (p : Pair) (l : ℤ) → slice_get known i ≡ Some c → slice_get w.pairs.items i ≡ Some p → IsLiteral l → IsOf l p → IsOnBelow entries r.visited (neg_ℤ l) → IsSatisfiedBelow entries r.entries c
+  pub visited : (i : ℕ) (c : List ℤ) (p : Pair) (l : ℤ) → slice_get known i ≡ Some c → slice_get w.pairs i ≡ Some p → IsLiteral l → IsOf l p → IsOnBelow entries r.visited (neg_ℤ l) → IsSatisfiedBelow entries r.entries c
   pub settled : (j i : ℕ) (c : List ℤ) → j < r.settled → slice_get w.short.items j ≡ Some i → slice_get known i ≡ Some c → ¬ IsLong c → IsSatisfiedBelow entries r.entries c
 
--- what is kept of the visits of the first clauses: where a literal that one of them watches was false among those that were visited, it was satisfied, without any decision
+-- what is kept of the visits of the first clauses: where a literal that one of them watches was false among those that were visited, it was satisfied, without any decision; and so was each long clause that watches nothing
 pub record IsKept (known : List (List ℤ)) (w : Watches) (entries : List Entry) (levels : List Reach) (m : Kept) : Type 0 where
-  pub count : m.count ≤ length known
+  pub count : m.count ≤ length w.pairs
   pub within : m.entries ≤ length entries
   pub bound : m.visited ≤ m.entries
   pub early : (k : ℕ) (r : Reach) → slice_get levels k ≡ Some r → m.entries ≤ r.entries
-  pub visited : (i : ℕ) (c : List ℤ) (p : Pair) (l : ℤ) → i < m.count → slice_get known i ≡ Some c → slice_get w.pairs.items i ≡ Some p → IsLiteral l → IsOf l p → IsOnBelow entries m.visited (neg_ℤ l) → IsSatisfiedBelow entries m.entries c
-
--- what is kept still where some clauses and literals are left: nothing, or of those clauses all
-abbrev pub IsStillKept : Kept → ℕ → ℕ → Kept → Type 0
-IsStillKept old count entries new =
-    (new ≡ record { count = 0; entries = 0; visited = 0 })
-    ⊎ ((old.entries ≤ entries) × (new.count ≤ old.count) × (new.count ≤ count) × (new.entries ≡ old.entries) × (new.visited ≡ old.visited))
+  pub visited : (i : ℕ) (c : List ℤ) (p : Pair) (l : ℤ) → i < m.count → slice_get known i ≡ Some c → slice_get w.pairs i ≡ Some p → IsLiteral l → IsOf l p → IsOnBelow entries m.visited (neg_ℤ l) → IsSatisfiedBelow entries m.entries c
+  pub spared : (i : ℕ) (c : List ℤ) → slice_get known i ≡ Some c → slice_get w.pairs i ≡ Some no_pair → IsLong c → IsSatisfiedBelow entries m.entries c
 
 -- what became of the clause of the index, which stood in the list of the literal
 abbrev pub IsSeen : List (List ℤ) → Watches → List Entry → ℕ → ℤ → Seen → Type 0
 IsSeen known w entries i l seen.Satisfied = (c : List ℤ) → slice_get known i ≡ Some c → IsSatisfied entries c
-IsSeen known w entries i l seen.Gone = (p : Pair) → slice_get w.pairs.items i ≡ Some p → ¬ IsOf l p
+IsSeen known w entries i l seen.Gone = (p : Pair) → slice_get w.pairs i ≡ Some p → ¬ IsOf l p
 IsSeen known w entries i l seen.Conflict = IsFalseAt known entries i
 
 -- each clause that watches the literal is satisfied
 abbrev pub AreVisited : List (List ℤ) → Watches → List Entry → ℤ → Type 0
-AreVisited known w entries l = (i : ℕ) (c : List ℤ) (p : Pair) → slice_get known i ≡ Some c → slice_get w.pairs.items i ≡ Some p → IsOf l p → IsSatisfied entries c
+AreVisited known w entries l = (i : ℕ) (c : List ℤ) (p : Pair) → slice_get known i ≡ Some c → slice_get w.pairs i ≡ Some p → IsOf l p → IsSatisfied entries c
 
 -- those of the short clauses from the one place up to the other are satisfied
 abbrev pub AreSettled : List (List ℤ) → List ℕ → List Entry → ℕ → ℕ → Type 0
@@ -84,7 +76,6 @@ AreSettled known indices entries from to = (j i : ℕ) (c : List ℤ) → from �
 
 -- ---- what a change of the lists keeps
 pub record AreKept (old new : Watches) : Type 0 where
-  pub sized : length new.lists.items ≡ length old.lists.items
   pub listed : (l : ℤ) (i : ℕ) → IsListed old.lists.items l i → IsListed new.lists.items l i
 
 -- no literal that a clause of the indices watches was false among the first n
@@ -95,16 +86,16 @@ AreUnwatched entries pairs from to n = (i : ℕ) (p : Pair) (l : ℤ) → from �
 abbrev pub AreMoved : List Pair → List Pair → List Entry → Type 0
 AreMoved old new entries = (i : ℕ) (p : Pair) (l : ℤ) → slice_get new i ≡ Some p → IsOf l p → ((q : Pair) × (slice_get old i ≡ Some q) × IsOf l q) ⊎ (¬ IsOn entries (neg_ℤ l))
 
+-- where a clause watches nothing now, it watched nothing before
+abbrev pub AreSpared : List Pair → List Pair → Type 0
+AreSpared old new = (i : ℕ) → slice_get new i ≡ Some no_pair → slice_get old i ≡ Some no_pair
+
 -- the next clause watches the pair; without one it is short
 abbrev pub IsPushed : Watches → Watches → Option Pair → Type 0
-IsPushed old new (Some p) = (new.pairs.items ≡ old.pairs.items ++ p ∷ []) × (new.short.items ≡ old.short.items)
-    × IsListed new.lists.items p.first (length old.pairs.items) × IsListed new.lists.items p.second (length old.pairs.items)
-IsPushed old new None = (new.pairs.items ≡ old.pairs.items ++ no_pair ∷ []) × (new.short.items ≡ old.short.items ++ length old.pairs.items ∷ [])
+IsPushed old new (Some p) = (new.pairs ≡ old.pairs ++ p ∷ []) × (new.short.items ≡ old.short.items)
+    × IsListed new.lists.items p.first (length old.pairs) × IsListed new.lists.items p.second (length old.pairs)
+IsPushed old new None = (new.pairs ≡ old.pairs ++ no_pair ∷ []) × (new.short.items ≡ old.short.items ++ length old.pairs ∷ [])
 
 -- no literal of the pair was false among the first n
 abbrev pub IsFresh : List Entry → ℕ → Option Pair → Type 0
 IsFresh es n o = MatchOption o (Unit {0}) (λ p. (l : ℤ) → IsOf l p → ¬ IsOnBelow es n (neg_ℤ l))
-
--- there are the lists of one more variable
-abbrev pub IsWidened : List (Vec ℕ Global) → List (Vec ℕ Global) → Type 0
-IsWidened old new = (more : List (Vec ℕ Global)) × (new ≡ old ++ more) × (length more ≡ 2)

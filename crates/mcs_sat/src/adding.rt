@@ -1,14 +1,15 @@
 //! Clauses that are given, where nothing is decided: they are added, and taken off again.
 
-ghost use Rattle.std.specs.Prelude.{◌≡◌, ℕ, ℤ, ◌+◌, ◌<◌, ◌≤◌, ◌^◌, ◌++◌, ◌∷◌, [], ◌⊎◌, neg_ℤ, length, take, MatchOption, OnOk, OnErr, IfSome, Some, slice_get};
+ghost use Rattle.std.specs.Prelude.{◌≡◌, ℕ, ℤ, ◌+◌, ◌<◌, ◌≤◌, ◌^◌, ◌++◌, ◌∷◌, [], ◌⊎◌, neg_ℤ, length, take, IsTrue, MatchOption, OnOk, OnErr, IfSome, Some, slice_get};
 ghost use Rattle.mcs_trace.specs.Clauses.{IsClause, IsLiteral};
-ghost use Rattle.mcs_sat.specs.Trails.{AreCovered, ArePlaced, IsOn, IsOnBelow};
-ghost use Rattle.mcs_sat.specs.Watching.{ArePair, AreUnwatched, IsFresh, IsLong, IsStillKept};
-ghost use Rattle.mcs_sat.specs.States.{IsState, SameClauses};
+ghost use Rattle.mcs_sat.specs.Trails.{AreCovered, ArePlaced, IsOn, IsOnBelow, IsSatisfied};
+ghost use Rattle.mcs_sat.specs.Watching.{ArePair, AreUnwatched, IsFresh, IsLong};
+ghost use Rattle.mcs_sat.specs.States.{IsFull, IsState, SameClauses};
 
 use crate::order::Order;
-use crate::propagate::open_literal;
-use crate::state::{Kept, NOTHING, State, push_clause};
+use crate::pairs::Pairs;
+use crate::propagate::{open_literal, settle};
+use crate::state::{Kept, NOTHING, State};
 use crate::trail::Trail;
 use crate::watches::Pair;
 use mcs_base::Memory;
@@ -102,7 +103,7 @@ fn beginning_of(trail: &Trail, visited: usize, literals: &[i64]) -> Beginning
     }
 }
 
-/// Adds a clause, where there is no level above 0.
+/// Adds a clause, where there is no level above 0. It watches nothing yet.
 pub(crate) fn add(state: &mut State, literals: &[i64]) -> Result<(), Memory>
     requires state { IsState state.old }
     requires clause { IsClause literals.now }
@@ -116,16 +117,126 @@ pub(crate) fn add(state: &mut State, literals: &[i64]) -> Result<(), Memory>
     ensures chains { OnOk result (state.new.chains ≡ state.old.chains ++ [] ∷ []) }
     ensures err { OnErr result ((state.new.clauses ≡ state.old.clauses) × (state.new.chains ≡ state.old.chains)) }
 {
+    let count = state.clauses.len();
+    state.clauses.push(literals)?;
+    if let Err(error) = state.chains.push(&[]) {
+        state.clauses.truncate(count);
+        return Err(error);
+    }
+    Ok(())
+}
+
+/// Lets the next clause watch two of its literals, where it has two.
+fn attach_next(state: &mut State) -> Result<(), Memory>
+    requires state { IsState state.old }
+    requires base { state.old.levels.items ≡ [] }
+    requires next { length state.old.watches.pairs < length state.old.clauses }
+    ensures kept { IsState state.new }
+    ensures same { SameClauses state.old state.new }
+    ensures entries { state.new.trail.entries.items ≡ state.old.trail.entries.items }
+    ensures levels { state.new.levels.items ≡ state.old.levels.items }
+    ensures marked { state.new.kept ≡ state.old.kept }
+    ensures next { OnOk result (length state.new.watches.pairs ≡ length state.old.watches.pairs + 1) }
+{
+    let literals = state.clauses.row(state.watches.pairs.len());
     let beginning = beginning_of(&state.trail, state.visited, literals);
-    push_clause(
-        &mut state.clauses,
-        &mut state.chains,
-        &mut state.watches,
-        literals,
-        &[],
-        beginning.pair,
-    )?;
+    prove!(state.watches.pairs.len() < state.clauses.len());
+    state.watches.push(beginning.pair)?;
     state.visited = beginning.visited;
+    Ok(())
+}
+
+/// Lets each clause that watches nothing yet watch two of its literals, where there is no level above 0.
+pub(crate) fn attach(state: &mut State) -> Result<(), Memory>
+    requires state { IsState state.old }
+    requires base { state.old.levels.items ≡ [] }
+    ensures kept { IsState state.new }
+    ensures same { SameClauses state.old state.new }
+    ensures entries { state.new.trail.entries.items ≡ state.old.trail.entries.items }
+    ensures levels { state.new.levels.items ≡ state.old.levels.items }
+    ensures full { OnOk result (IsFull state.new) }
+{
+    while state.watches.pairs.len() < state.clauses.len() {
+        attach_next(state)?;
+    }
+    Ok(())
+}
+
+/// Makes true what a clause that watches nothing yet has as its last literal that is not false, from the last one back to
+/// the first one: of the clauses of a formula those of the whole come last. The index of one that is false.
+fn sweep(state: &mut State) -> Result<Option<usize>, Memory>
+    requires state { IsState state.old }
+    requires base { state.old.levels.items ≡ [] }
+    ensures kept { IsState state.new }
+    ensures same { SameClauses state.old state.new }
+    ensures levels { state.new.levels.items ≡ state.old.levels.items }
+{
+    let mut index = state.clauses.len();
+    while index > state.watches.pairs.len() {
+        index -= 1;
+        if settle(&state.clauses, &mut state.trail, 0, index)? {
+            return Ok(Some(index));
+        }
+    }
+    Ok(None)
+}
+
+/// Whether the clause has two literals or more, and one of them is true.
+fn is_spared(trail: &Trail, literals: &[i64]) -> bool
+    requires placed { ArePlaced trail.now.entries.items trail.now.positions.items }
+    requires clause { IsClause literals.now }
+    requires covered { AreCovered trail.now.positions.items literals.now }
+    ensures { IsTrue result → IsLong literals.now × IsSatisfied trail.now.entries.items literals.now }
+{
+    if literals.len() < 2 {
+        return false;
+    }
+    for literal in literals {
+        if trail.is_true(*literal) {
+            return true;
+        }
+    }
+    false
+}
+
+/// As `attach_next`, but a clause of which a literal is true watches nothing.
+fn attach_open(state: &mut State) -> Result<(), Memory>
+    requires state { IsState state.old }
+    requires base { state.old.levels.items ≡ [] }
+    requires next { length state.old.watches.pairs < length state.old.clauses }
+    requires all { state.old.kept.entries ≡ length state.old.trail.entries.items }
+    ensures kept { IsState state.new }
+    ensures same { SameClauses state.old state.new }
+    ensures entries { state.new.trail.entries.items ≡ state.old.trail.entries.items }
+    ensures levels { state.new.levels.items ≡ state.old.levels.items }
+    ensures marked { state.new.kept ≡ state.old.kept }
+    ensures next { OnOk result (length state.new.watches.pairs ≡ length state.old.watches.pairs + 1) }
+{
+    let index = state.watches.pairs.len();
+    if is_spared(&state.trail, state.clauses.row(index)) {
+        prove!(state.watches.pairs.len() < state.clauses.len());
+        state.watches.pairs.push_none()?;
+    } else {
+        attach_next(state)?;
+    }
+    Ok(())
+}
+
+/// Settles the clauses that watch nothing yet, where there is no level above 0, and lets those watch two of their
+/// literals that are not satisfied by it.
+pub(crate) fn settle_all(state: &mut State) -> Result<(), Memory>
+    requires state { IsState state.old }
+    requires base { state.old.levels.items ≡ [] }
+    ensures kept { IsState state.new }
+    ensures same { SameClauses state.old state.new }
+    ensures levels { state.new.levels.items ≡ state.old.levels.items }
+    ensures full { OnOk result (IsFull state.new) }
+{
+    let _found = sweep(state)?;
+    keep(state);
+    while state.watches.pairs.len() < state.clauses.len() {
+        attach_open(state)?;
+    }
     Ok(())
 }
 
@@ -136,9 +247,12 @@ pub(crate) fn keep(state: &mut State)
     ensures kept { IsState state.new }
     ensures same { SameClauses state.old state.new }
     ensures levels { state.new.levels.items ≡ state.old.levels.items }
+    ensures entries { state.new.trail.entries.items ≡ state.old.trail.entries.items }
+    ensures all { state.new.kept.entries ≡ length state.old.trail.entries.items }
+    ensures pairs { state.new.watches.pairs ≡ state.old.watches.pairs }
 {
     state.kept = Kept {
-        count: state.clauses.len(),
+        count: state.watches.pairs.len(),
         entries: state.trail.entries.len(),
         visited: state.visited,
     };
@@ -146,35 +260,22 @@ pub(crate) fn keep(state: &mut State)
 
 /// How many literals there are, at most so many, before the first one that makes false what a clause from the index on
 /// watches.
-fn unwatched(trail: &Trail, pairs: &[Pair], from: usize, most: usize) -> usize
+fn unwatched(trail: &Trail, pairs: &Pairs, from: usize, most: usize) -> usize
     requires placed { ArePlaced trail.now.entries.items trail.now.positions.items }
     ensures low { result ≤ most }
     ensures fresh { AreUnwatched trail.now.entries.items pairs.now from (length pairs.now) result }
 {
     let mut place = most;
     for index in from..pairs.len() {
-        place = false_before(trail, pairs[index].first, place);
-        place = false_before(trail, pairs[index].second, place);
+        let pair = pairs.get(index);
+        place = false_before(trail, pair.first, place);
+        place = false_before(trail, pair.second, place);
     }
     place
 }
 
-/// What is kept where the first `count` clauses and so many literals are left.
-fn still_kept(kept: Kept, count: usize, entries: usize) -> Kept
-    ensures { IsStillKept kept count entries result }
-{
-    if kept.entries > entries {
-        return NOTHING;
-    }
-    Kept {
-        count: kept.count.min(count),
-        entries: kept.entries,
-        visited: kept.visited,
-    }
-}
-
 /// For how many literals the clauses are visited still, of those for which they were kept.
-fn still_visited(trail: &Trail, pairs: &[Pair], kept: Kept) -> usize
+fn still_visited(trail: &Trail, pairs: &Pairs, kept: Kept) -> usize
     requires placed { ArePlaced trail.now.entries.items trail.now.positions.items }
     ensures low { result ≤ kept.visited }
     ensures fresh { AreUnwatched trail.now.entries.items pairs.now kept.count (length pairs.now) result }
@@ -217,8 +318,14 @@ pub(crate) fn cut(state: &mut State, order: &mut Order, count: usize)
     state.settled = 0;
     state.clauses.truncate(count);
     state.chains.truncate(count);
+    if state.kept.entries > stays {
+        state.watches.clear();
+        state.kept = NOTHING;
+        state.visited = 0;
+        return;
+    }
     state.watches.cut(count);
-    state.kept = still_kept(state.kept, count, stays);
+    state.kept.count = state.kept.count.min(count);
     state.visited = visited.max(still_visited(&state.trail, &state.watches.pairs, state.kept));
 }
 
@@ -233,11 +340,6 @@ pub(crate) fn widen(state: &mut State) -> Result<(), Memory>
     ensures ok { OnOk result (length state.new.trail.positions.items ≡ length state.old.trail.positions.items + 1) }
     ensures err { OnErr result (length state.new.trail.positions.items ≡ length state.old.trail.positions.items) }
 {
-    let count = state.watches.lists.len();
-    state.watches.widen()?;
-    if let Err(error) = state.trail.widen() {
-        state.watches.lists.truncate(count);
-        return Err(error);
-    }
+    state.trail.widen()?;
     Ok(())
 }

@@ -7,7 +7,7 @@ ghost use Rattle.mcs_sat.specs.Answers.{IsAnswer, IsExact, IsSettled};
 ghost use Rattle.mcs_sat.specs.States.{IsState};
 ghost use Rattle.mcs_sat.specs.Stores.{ArePlaces, IsFrontOf, given};
 
-use crate::adding::{add, cut, keep, widen};
+use crate::adding::{add, cut, keep, settle_all, widen};
 use crate::order::Order;
 use crate::outcome::Outcome;
 use crate::solver::run;
@@ -224,6 +224,7 @@ impl ClauseBase {
     pub fn settle(&mut self) -> Result<(), Memory>
         ensures { self.new ≡ self.old }
     {
+        settle_all(&mut self.state)?;
         let _found = run(&mut self.state)?;
         keep(&mut self.state);
         Ok(())

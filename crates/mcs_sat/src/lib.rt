@@ -10,6 +10,7 @@ mod marks;
 mod model;
 mod order;
 mod outcome;
+mod pairs;
 mod propagate;
 mod search;
 mod shorten;

@@ -6,7 +6,7 @@ ghost use Rattle.mcs_base.specs.Listings.{IsAmong};
 ghost use Rattle.mcs_trace.specs.Clauses.{IsClause, IsLiteral, place};
 ghost use Rattle.mcs_sat.specs.declared.state.Reach.{Reach};
 ghost use Rattle.mcs_sat.specs.Trails.{AreCovered, ArePlaced, Grows, IsFalseAt, IsOn, IsSatisfied, IsTrail};
-ghost use Rattle.mcs_sat.specs.Watching.{AreMoved, AreSettled, AreVisited, AreWatched, IsLong, IsReached, IsSeen};
+ghost use Rattle.mcs_sat.specs.Watching.{AreMoved, AreSettled, AreSpared, AreVisited, AreWatched, IsLong, IsReached, IsSeen};
 
 use crate::examine::{Finding, examine};
 use crate::trail::Trail;
@@ -50,26 +50,27 @@ fn visit(
     literal: i64,
 ) -> Result<Seen, Memory>
     requires trail { IsTrail clauses.now trail.old }
-    requires lists { length watches.old.lists.items ≡ 2 * length trail.old.positions.items }
     requires watched { AreWatched clauses.now watches.old }
     requires literal { IsLiteral literal }
     requires off { IsOn trail.old.entries.items (neg_ℤ literal) }
     ensures trail { IsTrail clauses.now trail.new }
     ensures positions { length trail.new.positions.items ≡ length trail.old.positions.items }
     ensures grows { Grows level trail.old.entries.items trail.new.entries.items }
-    ensures lists { length watches.new.lists.items ≡ length watches.old.lists.items }
+    ensures lists { length watches.old.lists.items ≤ length watches.new.lists.items }
     ensures watched { AreWatched clauses.now watches.new }
     ensures short { watches.new.short.items ≡ watches.old.short.items }
-    ensures moved { AreMoved watches.old.pairs.items watches.new.pairs.items trail.old.entries.items }
+    ensures moved { AreMoved watches.old.pairs watches.new.pairs trail.old.entries.items }
+    ensures sized { length watches.new.pairs ≡ length watches.old.pairs }
+    ensures spared { AreSpared watches.old.pairs watches.new.pairs }
     ensures reached { (r : Reach) → r.visited ≤ length trail.old.entries.items
         → IsReached clauses.now watches.old trail.old.entries.items r → IsReached clauses.now watches.new trail.old.entries.items r }
-    ensures list { slice_get watches.new.lists.items (place literal) ≡ slice_get watches.old.lists.items (place literal) }
+    ensures list { place literal < length watches.old.lists.items → slice_get watches.new.lists.items (place literal) ≡ slice_get watches.old.lists.items (place literal) }
     ensures seen { IfOk result (IsSeen clauses.now watches.new trail.new.entries.items index literal) }
 {
     if index >= watches.pairs.len() {
         return Ok(Seen::Gone);
     }
-    let Some(other) = watches.pairs[index].other(literal) else {
+    let Some(other) = watches.pairs.get(index).other(literal) else {
         return Ok(Seen::Gone);
     };
     if trail.is_true(other) {
@@ -77,10 +78,11 @@ fn visit(
     }
     if let Some(open) = open_literal(trail, clauses.row(index), other) {
         watches.list(open, index)?;
-        watches.pairs[index] = Pair {
+        let pair = Pair {
             first: other,
             second: open,
         };
+        watches.pairs.set(index, pair);
         return Ok(Seen::Gone);
     }
     if trail.is_false(other) {
@@ -99,17 +101,18 @@ fn visit_list(
     literal: i64,
 ) -> Result<Option<usize>, Memory>
     requires trail { IsTrail clauses.now trail.old }
-    requires lists { length watches.old.lists.items ≡ 2 * length trail.old.positions.items }
     requires watched { AreWatched clauses.now watches.old }
     requires literal { IsLiteral literal }
     requires off { IsOn trail.old.entries.items (neg_ℤ literal) }
     ensures trail { IsTrail clauses.now trail.new }
     ensures positions { length trail.new.positions.items ≡ length trail.old.positions.items }
     ensures grows { Grows level trail.old.entries.items trail.new.entries.items }
-    ensures lists { length watches.new.lists.items ≡ length watches.old.lists.items }
+    ensures lists { length watches.old.lists.items ≤ length watches.new.lists.items }
     ensures watched { AreWatched clauses.now watches.new }
     ensures short { watches.new.short.items ≡ watches.old.short.items }
-    ensures moved { AreMoved watches.old.pairs.items watches.new.pairs.items trail.old.entries.items }
+    ensures moved { AreMoved watches.old.pairs watches.new.pairs trail.old.entries.items }
+    ensures sized { length watches.new.pairs ≡ length watches.old.pairs }
+    ensures spared { AreSpared watches.old.pairs watches.new.pairs }
     ensures reached { (r : Reach) → r.visited ≤ length trail.old.entries.items
         → IsReached clauses.now watches.old trail.old.entries.items r → IsReached clauses.now watches.new trail.old.entries.items r }
     ensures found { IfOk result (λ found. MatchOption found
@@ -117,6 +120,9 @@ fn visit_list(
         (IsFalseAt clauses.now trail.new.entries.items)) }
 {
     let list = place(literal) as usize;
+    if list >= watches.lists.len() {
+        return Ok(None);
+    }
     let mut at = 0;
     while at < watches.lists[list].len() {
         let index = watches.lists[list][at];
@@ -141,16 +147,17 @@ pub(crate) fn visit_from(
     from: &mut usize,
 ) -> Result<Option<usize>, Memory>
     requires trail { IsTrail clauses.now trail.old }
-    requires lists { length watches.old.lists.items ≡ 2 * length trail.old.positions.items }
     requires watched { AreWatched clauses.now watches.old }
     requires bound { from.old ≤ length trail.old.entries.items }
     ensures trail { IsTrail clauses.now trail.new }
     ensures positions { length trail.new.positions.items ≡ length trail.old.positions.items }
     ensures grows { Grows level trail.old.entries.items trail.new.entries.items }
-    ensures lists { length watches.new.lists.items ≡ length watches.old.lists.items }
+    ensures lists { length watches.old.lists.items ≤ length watches.new.lists.items }
     ensures watched { AreWatched clauses.now watches.new }
     ensures short { watches.new.short.items ≡ watches.old.short.items }
-    ensures moved { AreMoved watches.old.pairs.items watches.new.pairs.items trail.old.entries.items }
+    ensures moved { AreMoved watches.old.pairs watches.new.pairs trail.old.entries.items }
+    ensures sized { length watches.new.pairs ≡ length watches.old.pairs }
+    ensures spared { AreSpared watches.old.pairs watches.new.pairs }
     ensures bound { from.new ≤ length trail.new.entries.items }
     ensures reached { (r : Reach) → r.visited ≤ length trail.old.entries.items
         → IsReached clauses.now watches.old trail.old.entries.items r → IsReached clauses.now watches.new trail.old.entries.items r }
@@ -173,7 +180,7 @@ pub(crate) fn visit_from(
 }
 
 /// Makes the last literal of the clause of the index true where the others are false; whether all are false.
-fn settle(
+pub(crate) fn settle(
     clauses: &Rows<i64>,
     trail: &mut Trail,
     level: usize,

@@ -1,6 +1,6 @@
 //! The search.
 
-ghost use Rattle.std.specs.Prelude.{◌≡◌, IfOk, OnOk};
+ghost use Rattle.std.specs.Prelude.{◌≡◌, [], IfOk, OnOk};
 ghost use Rattle.std.specs.List.{AllByRecursion};
 ghost use Rattle.mcs_trace.specs.Clauses.{IsClause};
 ghost use Rattle.mcs_sat.specs.States.{IsState};
@@ -8,6 +8,7 @@ ghost use Rattle.mcs_sat.specs.Stores.{IsLater};
 ghost use Rattle.mcs_sat.specs.Searches.{IsEnd, IsRun, IsSearch, IsTurned};
 ghost use Rattle.mcs_sat.specs.Trails.{IsFalse, IsFalseAt, IsOpen};
 
+use crate::adding::attach;
 use crate::analyse::analyse;
 use crate::latest::latest_of;
 use crate::order::Order;
@@ -141,11 +142,13 @@ pub(crate) fn search(
     state: &mut State,
     order: &mut Order,
 ) -> Result<Option<usize>, Memory>
-    requires { IsSearch state.old }
+    requires state { IsState state.old }
+    requires base { state.old.levels.items ≡ [] }
     ensures later { IsLater state.old state.new }
     ensures kept { OnOk result (IsSearch state.new) }
     ensures end { IfOk result (IsEnd state.new) }
 {
+    attach(state)?;
     let mut found = run(state)?;
     let mut left = MOST_BEGINNINGS;
     loop {

@@ -7,11 +7,11 @@ ghost use Rattle.std.specs.Option.{IfNone, is_some};
 ghost use Rattle.mcs_base.specs.Listings.{IsAmong};
 ghost use Rattle.mcs_trace.specs.Clauses.{IsClause, IsLiteral};
 ghost use Rattle.mcs_sat.specs.Trails.{AreCovered, Grows, IsFalseAt, IsOpen};
-ghost use Rattle.mcs_sat.specs.States.{IsState, SameClauses, no_chains, reach_of};
+ghost use Rattle.mcs_sat.specs.States.{IsFull, IsState, SameClauses, no_chains, reach_of};
 ghost use Rattle.mcs_sat.specs.Watching.{IsReached};
 ghost use Rattle.mcs_sat.specs.Solvers.{GoesOn, HasNoValue, IsAsserting, IsFalseNumber, IsLearned, IsOpenUnder, IsSolver, IsUnitRun, LeadsToConflict, last_level, trues, trues_below};
 
-use crate::adding::add;
+use crate::adding::{add, attach};
 use crate::analyse::analyse;
 use crate::propagate::{settle_from, visit_from};
 use crate::state::{State, decide, learn};
@@ -31,13 +31,13 @@ pub struct Solver {
 
 impl Model for Solver {
     ghost use Rattle.mcs_sat.specs.Solvers.{SolverView};
-    ghost use Rattle.mcs_sat.specs.States.{IsState, view_of};
+    ghost use Rattle.mcs_sat.specs.States.{IsFull, IsState, view_of};
 
     ghost Value = { SolverView };
 
     ghost view = { λ s. view_of s.state };
 
-    ghost invariant = { λ s. IsState s.state };
+    ghost invariant = { λ s. IsState s.state × IsFull s.state };
 }
 
 /// Adds the clauses of the list, where there is no level above 0.
@@ -58,6 +58,24 @@ fn add_all(state: &mut State, clauses: &[Clause]) -> Result<(), Memory>
     Ok(())
 }
 
+/// Adds the clauses of the list, where there is no level above 0, and lets each watch two of its literals.
+fn add_watched(state: &mut State, clauses: &[Clause]) -> Result<(), Memory>
+    requires state { IsState state.old }
+    requires clauses { (i : ℕ) (c : List ℤ) → slice_get clauses.now i ≡ Some c → IsClause c × AreCovered state.old.trail.positions.items c }
+    requires base { state.old.levels.items ≡ [] }
+    ensures kept { IsState state.new }
+    ensures positions { length state.new.trail.positions.items ≡ length state.old.trail.positions.items }
+    ensures entries { state.new.trail.entries.items ≡ state.old.trail.entries.items }
+    ensures levels { state.new.levels.items ≡ [] }
+    ensures clauses { OnOk result (state.new.clauses ≡ state.old.clauses ++ clauses.now) }
+    ensures chains { OnOk result (state.new.chains ≡ state.old.chains ++ no_chains clauses.now) }
+    ensures full { OnOk result (IsFull state.new) }
+{
+    add_all(state, clauses)?;
+    attach(state)?;
+    Ok(())
+}
+
 /// The state of a solver of the clauses of the list, in which nothing is true yet.
 pub(crate) fn state_of(alloc: Global, cnf: &Cnf) -> Result<State, Memory>
     ensures kept { IfOk result IsState }
@@ -66,9 +84,10 @@ pub(crate) fn state_of(alloc: Global, cnf: &Cnf) -> Result<State, Memory>
     ensures chains { IfOk result (λ s. s.chains ≡ no_chains cnf.now.clauses) }
     ensures entries { IfOk result (λ s. s.trail.entries.items ≡ []) }
     ensures levels { IfOk result (λ s. s.levels.items ≡ []) }
+    ensures full { IfOk result IsFull }
 {
     let mut state = State::new(alloc, cnf.vars())?;
-    match add_all(&mut state, cnf.clauses()) {
+    match add_watched(&mut state, cnf.clauses()) {
         Ok(()) => Ok(state),
         Err(error) => {
             drop(state);
@@ -80,8 +99,10 @@ pub(crate) fn state_of(alloc: Global, cnf: &Cnf) -> Result<State, Memory>
 /// Settles the short clauses and visits what became false, as far as that leads; the index of a clause that is
 /// false.
 pub(crate) fn run(state: &mut State) -> Result<Option<usize>, Memory>
-    requires { IsState state.old }
+    requires state { IsState state.old }
+    requires full { IsFull state.old }
     ensures kept { IsState state.new }
+    ensures full { IsFull state.new }
     ensures same { SameClauses state.old state.new }
     ensures grows { Grows (length state.old.levels.items) state.old.trail.entries.items state.new.trail.entries.items }
     ensures levels { state.new.levels.items ≡ state.old.levels.items }
@@ -116,8 +137,10 @@ pub(crate) fn run(state: &mut State) -> Result<Option<usize>, Memory>
 
 /// As `run`, but where memory runs out all is as before.
 fn run_or_restore(state: &mut State) -> Result<Option<usize>, Memory>
-    requires { IsState state.old }
+    requires state { IsState state.old }
+    requires full { IsFull state.old }
     ensures kept { IsState state.new }
+    ensures full { IsFull state.new }
     ensures same { SameClauses state.old state.new }
     ensures grows { OnOk result (Grows (length state.old.levels.items) state.old.trail.entries.items state.new.trail.entries.items) }
     ensures open { IfOk result (λ found. IfNone found
@@ -189,7 +212,10 @@ impl Solver {
         ensures err { OnErr result (self.new ≡ self.old) }
     {
         match run_or_restore(&mut self.state) {
-            Ok(Some(index)) => Ok(Some(index as u64 + 1)),
+            Ok(Some(index)) => {
+                prove!(index < self.state.clauses.len());
+                Ok(Some(index as u64 + 1))
+            }
             Ok(None) => Ok(None),
             Err(error) => Err(error),
         }

@@ -2,12 +2,12 @@
 
 ghost use Rattle.std.specs.Prelude.{◌≡◌, ◌≢◌, ℕ, ℤ, ◌+◌, ◌*◌, ◌<◌, ◌≤◌, ◌⊎◌, ◌^◌, ◌++◌, ◌∷◌, [], List, min, length, take, unsigned_abs, slice_get, Some, MatchOption, IfOk, OnOk, OnErr, IfSome};
 ghost use Rattle.std.specs.List.{AllByRecursion};
-ghost use Rattle.mcs_trace.specs.Clauses.{IsClause, IsLiteral, place};
+ghost use Rattle.mcs_trace.specs.Clauses.{IsClause, IsLiteral};
 ghost use Rattle.mcs_trace.specs.Traces.{IsChainResolvent};
 ghost use Rattle.mcs_sat.specs.Trails.{AreCovered, ArePlaced, IsFalse, StandsNowhere};
 ghost use Rattle.mcs_sat.specs.Watching.{AreKept, ArePair, IsLong, IsPushed};
 ghost use Rattle.mcs_sat.specs.Learning.{IsSingle};
-ghost use Rattle.mcs_sat.specs.States.{IsBack, IsDecided, IsLastLevel, IsLearntBack, IsState, IsTurn, IsUnchanged, SameClauses};
+ghost use Rattle.mcs_sat.specs.States.{IsBack, IsDecided, IsFull, IsLastLevel, IsLearntBack, IsState, IsTurn, IsUnchanged, SameClauses};
 
 use crate::latest::{Latest, latest_of};
 use crate::trail::Trail;
@@ -66,23 +66,16 @@ impl State {
         ensures levels { IfOk result (λ s. s.levels.items ≡ []) }
         ensures entries { IfOk result (λ s. s.trail.entries.items ≡ []) }
     {
-        let trail = Trail::new(alloc, vars)?;
-        match Watches::new(alloc, vars) {
-            Ok(watches) => Ok(State {
-                clauses: Rows::new(alloc),
-                chains: Rows::new(alloc),
-                trail,
-                watches,
-                levels: Vec::new(alloc),
-                visited: 0,
-                settled: 0,
-                kept: NOTHING,
-            }),
-            Err(error) => {
-                drop(trail);
-                Err(error)
-            }
-        }
+        Ok(State {
+            clauses: Rows::new(alloc),
+            chains: Rows::new(alloc),
+            trail: Trail::new(alloc, vars)?,
+            watches: Watches::new(alloc),
+            levels: Vec::new(alloc),
+            visited: 0,
+            settled: 0,
+            kept: NOTHING,
+        })
     }
 }
 
@@ -95,30 +88,28 @@ pub(crate) fn push_clause(
     chain: &[u64],
     pair: Option<Pair>,
 ) -> Result<(), Memory>
-    requires pairs { length watches.old.pairs.items ≡ length clauses.old }
+    requires pairs { length watches.old.pairs ≡ length clauses.old }
     requires chains { length chains.old ≡ length clauses.old }
     requires literals { IfSome pair (λ p. IsLiteral p.first × IsLiteral p.second) }
-    requires within { IfSome pair
-        (λ p. (place p.first < length watches.old.lists.items) × (place p.second < length watches.old.lists.items)) }
     ensures clauses { OnOk result (clauses.new ≡ clauses.old ++ literals.now ∷ []) }
     ensures chains { OnOk result (chains.new ≡ chains.old ++ chain.now ∷ []) }
     ensures pushed { OnOk result (IsPushed watches.old watches.new pair) }
     ensures watches { AreKept watches.old watches.new }
     ensures err_clauses { OnErr result (clauses.new ≡ clauses.old) }
     ensures err_chains { OnErr result (chains.new ≡ chains.old) }
-    ensures err_pairs { OnErr result (watches.new.pairs.items ≡ watches.old.pairs.items) }
+    ensures err_pairs { OnErr result (watches.new.pairs ≡ watches.old.pairs) }
     ensures err_short { OnErr result (watches.new.short.items ≡ watches.old.short.items) }
 {
     let count = clauses.len();
-    let short = watches.short.len();
-    watches.push(pair)?;
-    if let Err(error) = clauses.push(literals) {
-        watches.truncate(count, short);
-        return Err(error);
-    }
+    clauses.push(literals)?;
     if let Err(error) = chains.push(chain) {
         clauses.truncate(count);
-        watches.truncate(count, short);
+        return Err(error);
+    }
+    prove!(watches.pairs.len() < clauses.len());
+    if let Err(error) = watches.push(pair) {
+        clauses.truncate(count);
+        chains.truncate(count);
         return Err(error);
     }
     Ok(())
@@ -132,6 +123,7 @@ pub(crate) fn decide(state: &mut State, literal: i64) -> Result<(), Memory>
     requires free { StandsNowhere state.old.trail.entries.items (unsigned_abs literal) }
     ensures kept { IsState state.new }
     ensures same { SameClauses state.old state.new }
+    ensures full { IsFull state.old → IsFull state.new }
     ensures decided { OnOk result (IsDecided state.old state.new literal) }
     ensures err { OnErr result (state.new.trail.entries.items ≡ state.old.trail.entries.items) }
 {
@@ -153,6 +145,7 @@ pub(crate) fn back(state: &mut State, level: usize)
     requires { IsState state.old }
     ensures kept { IsState state.new }
     ensures same { SameClauses state.old state.new }
+    ensures full { IsFull state.old → IsFull state.new }
     ensures back { IsBack state.old state.new level }
     ensures stays { length state.old.levels.items ≤ level → state.new.trail.entries.items ≡ state.old.trail.entries.items }
 {
@@ -207,7 +200,9 @@ pub(crate) fn learn(state: &mut State, literals: &[i64], chain: &[u64]) -> Resul
     requires chain { IsChainResolvent state.old.clauses chain.now literals.now }
     requires single { (r : Reach) → IsLastLevel state.old.levels.items r → IsSingle state.old.trail.entries.items r.entries literals.now }
     requires some { 0 < length state.old.levels.items }
+    requires full { IsFull state.old }
     ensures kept { IsState state.new }
+    ensures full { IsFull state.new }
     ensures positions { length state.new.trail.positions.items ≡ length state.old.trail.positions.items }
     ensures learnt { OnOk result (IsLearntBack state.old state.new literals.now chain.now) }
     ensures err { OnErr result (IsUnchanged state.old state.new) }

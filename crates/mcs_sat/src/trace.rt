@@ -169,7 +169,6 @@ fn trace_to(
     requires clauses { AllByRecursion IsClause clauses.now }
     requires chains { AreChains clauses.now chains.now }
     requires count { count ≡ given_count chains.now }
-    requires fits { length clauses.now < 2 ^ 63 }
     requires last { IsChainResolvent clauses.now last.now.chain.items [] }
     requires empty { last.now.clause ≡ [] }
     ensures { IfOk result (λ trace. IsAcceptedTrace (given clauses.now chains.now) (inferences_of trace)) }

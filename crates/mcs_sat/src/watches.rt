@@ -1,9 +1,10 @@
 //! Which clauses watch a literal.
 
-ghost use Rattle.std.specs.Prelude.{◌≡◌, ◌≢◌, ℕ, ℤ, ◌+◌, ◌*◌, ◌<◌, ◌^◌, ◌++◌, ◌∷◌, [], List, length, take, slice_get, MatchOption, IfOk, OnOk, OnErr, IfSome, filter, ltb};
+ghost use Rattle.std.specs.Prelude.{◌≡◌, ◌≢◌, ℕ, ℤ, ◌+◌, ◌*◌, ◌<◌, ◌≤◌, ◌^◌, ◌++◌, ◌∷◌, [], List, length, take, slice_get, MatchOption, IfOk, OnOk, OnErr, IfSome, filter, ltb};
 ghost use Rattle.mcs_trace.specs.Clauses.{IsLiteral, place};
-ghost use Rattle.mcs_sat.specs.Watching.{AreKept, IsListed, IsOf, IsPairOf, IsPushed, IsWidened};
+ghost use Rattle.mcs_sat.specs.Watching.{AreKept, IsListed, IsOf, IsPairOf, IsPushed};
 
+use crate::pairs::Pairs;
 use mcs_base::Memory;
 use mcs_trace::place;
 use std::alloc::Global;
@@ -16,7 +17,7 @@ pub(crate) struct Pair {
 }
 
 /// What stands for the pair of a clause of fewer than two literals.
-const NO_PAIR: Pair = Pair {
+pub(crate) const NO_PAIR: Pair = Pair {
     first: 0,
     second: 0,
 };
@@ -36,11 +37,12 @@ impl Pair {
     }
 }
 
-/// For each clause the two literals that it watches, by its index; for each literal the indices of clauses, among
-/// them those that watch it, by its place; and the indices of clauses, among them those of fewer than two literals.
+/// For each of the first clauses the two literals that it watches, by its index; for each literal the indices of clauses,
+/// among them those that watch it, by its place, where there is a list there; and the indices of clauses, among them
+/// those of fewer than two literals.
 #[derive(Drop)]
 pub(crate) struct Watches {
-    pub pairs: Vec<Pair>,
+    pub pairs: Pairs,
     pub lists: Vec<Vec<usize>>,
     pub short: Vec<usize>,
 }
@@ -58,39 +60,47 @@ fn add_index(indices: &mut Vec<usize>, index: usize) -> Result<(), Memory>
     Ok(())
 }
 
+/// Adds empty lists up to the place.
+fn make_lists(lists: &mut Vec<Vec<usize>>, place: usize) -> Result<(), Memory>
+    ensures within { OnOk result (place < length lists.new.items) }
+    ensures longer { length lists.old.items ≤ length lists.new.items }
+    ensures same { (p : ℕ) → p < length lists.old.items → slice_get lists.new.items p ≡ slice_get lists.old.items p }
+{
+    let alloc = *lists.allocator();
+    while lists.len() <= place {
+        lists.push(Vec::new(alloc))?;
+    }
+    Ok(())
+}
+
 impl Watches {
-    /// No clauses, with a list for each literal of the variables 1 to `vars`.
-    pub fn new(alloc: Global, vars: u64) -> Result<Watches, Memory>
-        requires { vars < 2 ^ 63 }
-        ensures lists { IfOk result (λ w. length w.lists.items ≡ 2 * (vars + 1)) }
-        ensures pairs { IfOk result (λ w. w.pairs.items ≡ []) }
-        ensures short { IfOk result (λ w. w.short.items ≡ []) }
+    /// No clauses.
+    pub fn new(alloc: Global) -> Watches
+        ensures lists { result.lists.items ≡ [] }
+        ensures pairs { result.pairs ≡ [] }
+        ensures short { result.short.items ≡ [] }
     {
-        let mut lists = Vec::new(alloc);
-        for _ in 0..vars + 1 {
-            lists.push(Vec::new(alloc))?;
-            lists.push(Vec::new(alloc))?;
-        }
-        Ok(Watches {
-            pairs: Vec::new(alloc),
-            lists,
+        Watches {
+            pairs: Pairs::new(alloc),
+            lists: Vec::new(alloc),
             short: Vec::new(alloc),
-        })
+        }
     }
 
     /// Puts the index into the list of the literal.
     pub fn list(&mut self, literal: i64, index: usize) -> Result<(), Memory>
         requires literal { IsLiteral literal }
-        requires within { place literal < length self.old.lists.items }
-        ensures sized { length self.new.lists.items ≡ length self.old.lists.items }
         ensures listed { OnOk result (IsListed self.new.lists.items literal index) }
+        ensures longer { length self.old.lists.items ≤ length self.new.lists.items }
         ensures kept { (l : ℤ) (i : ℕ) → IsListed self.old.lists.items l i → IsListed self.new.lists.items l i }
-        ensures others { (l : ℤ) → place l ≢ place literal
+        ensures others { (l : ℤ) → place l < length self.old.lists.items → place l ≢ place literal
             → slice_get self.new.lists.items (place l) ≡ slice_get self.old.lists.items (place l) }
-        ensures pairs { self.new.pairs.items ≡ self.old.pairs.items }
+        ensures pairs { self.new.pairs ≡ self.old.pairs }
         ensures short { self.new.short.items ≡ self.old.short.items }
     {
-        add_index(&mut self.lists[place(literal) as usize], index)?;
+        let place = place(literal) as usize;
+        make_lists(&mut self.lists, place)?;
+        add_index(&mut self.lists[place], index)?;
         Ok(())
     }
 
@@ -98,11 +108,10 @@ impl Watches {
     /// out, no clause is added.
     pub fn push(&mut self, pair: Option<Pair>) -> Result<(), Memory>
         requires literals { IfSome pair (λ p. IsLiteral p.first × IsLiteral p.second) }
-        requires within { IfSome pair
-            (λ p. (place p.first < length self.old.lists.items) × (place p.second < length self.old.lists.items)) }
+        requires fits { length self.old.pairs + 1 < 2 ^ 64 }
         ensures kept { AreKept self.old self.new }
         ensures pushed { OnOk result (IsPushed self.old self.new pair) }
-        ensures err_pairs { OnErr result (self.new.pairs.items ≡ self.old.pairs.items) }
+        ensures err_pairs { OnErr result (self.new.pairs ≡ self.old.pairs) }
         ensures err_short { OnErr result (self.new.short.items ≡ self.old.short.items) }
     {
         let index = self.pairs.len();
@@ -114,30 +123,19 @@ impl Watches {
             }
             None => {
                 self.short.push(index)?;
-                if let Err(error) = self.pairs.push(NO_PAIR) {
+                if let Err(error) = self.pairs.push_none() {
                     self.short.pop();
-                    return Err(error.into());
+                    return Err(error);
                 }
             }
         }
         Ok(())
     }
 
-    /// Leaves the first `count` clauses, of which the first `short` short ones are. What stands in the lists of
-    /// others is passed over.
-    pub fn truncate(&mut self, count: usize, short: usize)
-        ensures pairs { self.new.pairs.items ≡ take count self.old.pairs.items }
-        ensures short { self.new.short.items ≡ take short self.old.short.items }
-        ensures lists { self.new.lists.items ≡ self.old.lists.items }
-    {
-        self.pairs.truncate(count);
-        self.short.truncate(short);
-    }
-
     /// Leaves the first `count` clauses, with the short ones among them. What stands in the lists of others is passed
     /// over.
     pub fn cut(&mut self, count: usize)
-        ensures pairs { self.new.pairs.items ≡ take count self.old.pairs.items }
+        ensures pairs { self.new.pairs ≡ take count self.old.pairs }
         ensures short { self.new.short.items ≡ filter (λ i. ltb i count) self.old.short.items }
         ensures lists { self.new.lists.items ≡ self.old.lists.items }
     {
@@ -145,21 +143,13 @@ impl Watches {
         self.short.retain(|index| *index < count);
     }
 
-    /// Adds the lists of the literals of one more variable.
-    pub fn widen(&mut self) -> Result<(), Memory>
-        ensures ok { OnOk result (IsWidened self.old.lists.items self.new.lists.items) }
-        ensures err { OnErr result (self.new.lists.items ≡ self.old.lists.items) }
-        ensures pairs { self.new.pairs.items ≡ self.old.pairs.items }
-        ensures short { self.new.short.items ≡ self.old.short.items }
+    /// Leaves no clause.
+    pub fn clear(&mut self)
+        ensures pairs { self.new.pairs ≡ [] }
+        ensures short { self.new.short.items ≡ [] }
     {
-        let count = self.lists.len();
-        let alloc = *self.lists.allocator();
-        self.lists.push(Vec::new(alloc))?;
-        if let Err(error) = self.lists.push(Vec::new(alloc)) {
-            drop(error);
-            self.lists.truncate(count);
-            return Err(Memory);
-        }
-        Ok(())
+        self.pairs.truncate(0);
+        self.lists.truncate(0);
+        self.short.truncate(0);
     }
 }

@@ -1,5 +1,4 @@
-use Rattle.std.proofs.Common.{List, pos, get_or, arith}
-use Rattle.std.proofs.lemmas.Option.{slice_get-get_or}
+use Rattle.std.proofs.Common.{List, arith}
 use Rattle.mcs_sat.specs.declared.trail.Entry.{Entry}
 use Rattle.mcs_sat.specs.declared.watches.Pair.{Pair}
 use Rattle.mcs_sat.proofs.KeptLemmas.{as-read, unwatched-more}
@@ -12,14 +11,14 @@ pub loop-index-preserved : goal.loop-index-preserved
 loop-index-preserved c =
     let es : List Entry = c.args.trail.now.entries.items in
     let ps : List Pair = c.args.pairs.now in
-    let p : Pair = get_or ps c.loop-index.index (record { first = pos 0; second = pos 0 }) in
+    let p : Pair = c.get-pair.result in
     let one = c.false_before-place.ensures in
     let two = c.false_before-place-in-loop-index.ensures in
     let low = one.low in
     let low' = two.low in
     let most = c.loop-index.invariant.0 in (
       omega arith,
-      unwatched-more es ps c.args.from c.loop-index.index c.loop-index.place c.false_before-place.result c.false_before-place-in-loop-index.result p (slice_get-get_or ps c.loop-index.index (record { first = pos 0; second = pos 0 }) c.loop-index-test.true) low low'
+      unwatched-more es ps c.args.from c.loop-index.index c.loop-index.place c.false_before-place.result c.false_before-place-in-loop-index.result p c.get-pair.ensures low low'
           (as-read es c.false_before-place.result p.first one.fresh) (as-read es c.false_before-place-in-loop-index.result p.second two.fresh) c.loop-index.invariant.1,
     )
 

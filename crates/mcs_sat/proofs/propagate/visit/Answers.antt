@@ -1,29 +1,31 @@
-use Rattle.std.proofs.Common.{◌≡◌, ℤ, List, [], ◌∷◌, ◌+◌, ◌*◌, ◌<◌, inl, inr, length, neg_ℤ, unsigned_abs, slice_get, Some, refl, sym, ◌∙◌, subst, arith, w64, to_z, of_z, to_z-of_z}
+use Rattle.std.proofs.Common.{◌≡◌, ◌≢◌, ap, true≢false, ℤ, List, [], ◌∷◌, ◌+◌, ◌*◌, ◌<◌, inl, inr, length, neg_ℤ, unsigned_abs, slice_get, Some, refl, sym, ◌∙◌, subst, arith, w64, to_z, of_z, to_z-of_z}
 use Rattle.std.proofs.lemmas.Option.{slice_get_read}
 use Rattle.mcs_base.specs.Listings.{IsAmong}
 use Rattle.mcs_trace.specs.Clauses.{IsLiteral, place}
-use Rattle.mcs_trace.proofs.OrderLemmas.{place-size}
+use Rattle.mcs_trace.proofs.OrderLemmas.{place-injective}
 use Rattle.mcs_sat.specs.declared.trail.Entry.{Entry}
 use Rattle.mcs_sat.specs.declared.watches.Pair.{Pair}
+use Rattle.mcs_sat.specs.Pairs.{no_pair}
 use Rattle.mcs_sat.specs.Trails.{Grows, IsOn}
-use Rattle.mcs_sat.specs.Watching.{ArePair, AreWatched, IsListed, IsOf, IsPairOf}
+use Rattle.mcs_sat.specs.Watching.{AreMoved, ArePair, AreSpared, AreWatched, IsListed, IsOf, IsPairOf}
 use Rattle.mcs_sat.proofs.GrowLemmas.{clause_at, covered_at, grows-none, literal_of, on-pushed, read_literal, trail-push, trail-same, within_of}
-use Rattle.mcs_sat.proofs.KeptLemmas.{moved-list, moved-none, moved-then}
+use Rattle.mcs_sat.proofs.KeptLemmas.{moved-list, moved-none, moved-then, spared-list, spared-then}
+use Rattle.mcs_sat.proofs.RunLemmas.{value-or-free}
 use Rattle.mcs_sat.proofs.TrailLemmas.{on_below}
-use Rattle.mcs_sat.proofs.WatchLemmas.{IsWatching, gone-move, moved-move, reached-list, reached-move, watched-list, watched-move, watched_at, watching}
+use Rattle.mcs_sat.proofs.WatchLemmas.{IsWatching, gone-move, moved-move, no-pair, reached-list, reached-move, spared-move, watched-list, watched-move, watched_at, watching}
 use Rattle.mcs_sat.proofs.propagate.visit.Goals.{In-Some, In-Some-open_literal, After-list}
 use Rattle.mcs_sat.proofs.propagate.visit.Goals as goal
 
 -- ---- the pair of the clause
-within : (c : In-Some) → c.args.index < length c.args.watches.now.pairs.items
-within c = let ok = c.args.watches.now.pairs.ok.0 in omega arith
+within : (c : In-Some) → c.args.index < length c.args.watches.now.pairs
+within c = let past = c.if-index-len.false in omega (arith, c.len.ensures)
 
-pair : (c : In-Some) → slice_get c.args.watches.now.pairs.items c.args.index ≡ Some c.index.result.now
-pair c = slice_get_read c.args.watches.now.pairs.items (length c.args.watches.now.pairs.items) c.args.index c.index.result.now refl (within c) c.index.ensures
+pair : (c : In-Some) → slice_get c.args.watches.now.pairs c.args.index ≡ Some c.get.result
+pair c = c.get.ensures
 
 watches : (c : In-Some) (d : List ℤ) → slice_get c.args.clauses.now c.args.index ≡ Some d → IsWatching c.args.clauses.now c.args.watches.now c.args.index d c.args.literal c.in-Some.other
-watches c d is = watching c.args.clauses.now c.args.watches.now c.args.index d c.index.result.now c.args.literal c.in-Some.other c.requires.watched c.requires.literal is (pair c)
-    (subst (λ (l : ℤ). IsPairOf c.index.result.now l c.in-Some.other) (to_z-of_z c.ranges.literal) c.in-Some.ensures)
+watches c d is = watching c.args.clauses.now c.args.watches.now c.args.index d c.get.result c.args.literal c.in-Some.other c.requires.watched c.requires.literal is (pair c)
+    (subst (λ (l : ℤ). IsPairOf c.get.result l c.in-Some.other) (to_z-of_z c.ranges.literal) c.in-Some.ensures)
 
 other_of : (c : In-Some) → IsLiteral c.in-Some.other × (unsigned_abs c.in-Some.other < length c.args.trail.now.positions.items)
 other_of c =
@@ -66,19 +68,10 @@ open_of c = (
 open_read : (c : In-Some-open_literal) → to_z w64 (of_z w64 c.in-Some-open_literal.open) ≡ c.in-Some-open_literal.open
 open_read c = read_literal c.in-Some-open_literal.open (open_of c).0
 
-pub list-requires-clause-literal : goal.list-requires-clause-literal
-list-requires-clause-literal c =
-    let at = (goal.at.list-requires-clause-literal c).In-Some-open_literal in
-    subst IsLiteral (sym (open_read at)) (open_of at).0
-
-pub list-requires-clause-within : goal.list-requires-clause-within
-list-requires-clause-within c =
-    let at = (goal.at.list-requires-clause-within c).In-Some-open_literal in
-    let l : ℤ = c.in-Some-open_literal.open in
-    let small : unsigned_abs l < length c.args.trail.now.positions.items = (open_of at).1 in
-    let size : length c.args.watches.now.lists.items ≡ 2 * length c.args.trail.now.positions.items = c.requires.lists in
-    let less : place l < length c.args.watches.now.lists.items = omega (arith, place-size l) in
-    subst (λ (k : ℤ). place k < length c.args.watches.now.lists.items) (sym (open_read at)) less
+pub list-requires : goal.list-requires
+list-requires c =
+    let at = (goal.at.list-requires c).In-Some-open_literal in
+    record { literal = subst IsLiteral (sym (open_read at)) (open_of at).0 }
 
 listed : (c : After-list) → AreWatched c.args.clauses.now c.list.new.self
 listed c = watched-list c.args.clauses.now c.args.watches.now c.list.new.self c.requires.watched c.list.ensures.pairs c.list.ensures.short c.list.ensures.kept
@@ -102,10 +95,10 @@ returns-in-Some-open_literal-clause-watched c =
       differ = λ e. c.in-Some-open_literal.ensures.1 (sym (e ∙ open_read at'));
     } in
     let in_list : (l : ℤ) → IsLiteral l → IsOf l q → IsListed c.list.new.self.lists.items l c.args.index = λ l literal of. elim of [
-      | inl first ↦ c.list.ensures.kept l c.args.index (c.requires.watched.listed c.args.index c.index.result.now l (pair at) literal (subst (λ (k : ℤ). IsOf k c.index.result.now) (sym (other at) ∙ first) (h.of_other c.index.result.now (pair at))))
+      | inl first ↦ c.list.ensures.kept l c.args.index (c.requires.watched.listed c.args.index c.get.result l (pair at) literal (subst (λ (k : ℤ). IsOf k c.get.result) (sym (other at) ∙ first) (h.of_other c.get.result (pair at))))
       | inr second ↦ subst (λ (k : ℤ). IsListed c.list.new.self.lists.items k c.args.index) second c.in_ok-list.ensures.listed
     ] in
-    watched-move c.args.clauses.now c.list.new.self _ c.args.index d q c.row.ensures refl refl (listed (goal.at.returns-in-Some-open_literal-clause-watched c).After-list) refl h.long two in_list
+    watched-move c.args.clauses.now c.list.new.self _ c.args.index d q c.row.ensures c.set.ensures refl (listed (goal.at.returns-in-Some-open_literal-clause-watched c).After-list) refl two in_list
 
 pub returns-in-Some-open_literal-clause-reached : goal.returns-in-Some-open_literal-clause-reached
 returns-in-Some-open_literal-clause-reached c = λ r bound h.
@@ -114,22 +107,41 @@ returns-in-Some-open_literal-clause-reached c = λ r bound h.
     let es : List Entry = c.args.trail.now.entries.items in
     let d : List ℤ = c.row.result.now in
     let q : Pair = record { first = to_z w64 (of_z w64 c.in-Some.other); second = to_z w64 (of_z w64 c.in-Some-open_literal.open) } in
-    reached-move c.args.clauses.now c.list.new.self _ c.args.index d q c.row.ensures refl refl es r
+    reached-move c.args.clauses.now c.list.new.self _ c.args.index d q c.row.ensures c.set.ensures refl es r
     (reached-list c.args.clauses.now c.args.watches.now c.list.new.self es r c.list.ensures.pairs c.list.ensures.short h)
     (λ l literal of below. elim of [
-      | inl first ↦ h.visited c.args.index d c.index.result.now l c.row.ensures (pair at) literal (subst (λ (k : ℤ). IsOf k c.index.result.now) (sym (other at) ∙ first) ((watches at d c.row.ensures).of_other c.index.result.now (pair at))) below
+      | inl first ↦ h.visited c.args.index d c.get.result l c.row.ensures (pair at) literal (subst (λ (k : ℤ). IsOf k c.get.result) (sym (other at) ∙ first) ((watches at d c.row.ensures).of_other c.get.result (pair at))) below
       | inr second ↦ absurd (c.in-Some-open_literal.ensures.2 (subst (λ (k : ℤ). IsOn es (neg_ℤ k)) (sym second ∙ open_read at') (on_below es r.visited (neg_ℤ l) bound below)))
     ])
 
 pub returns-in-Some-open_literal-clause-seen : goal.returns-in-Some-open_literal-clause-seen
-returns-in-Some-open_literal-clause-seen c =
+returns-in-Some-open_literal-clause-seen c = λ p here.
     let at = (goal.at.returns-in-Some-open_literal-clause-seen c).In-Some in
     let at' = (goal.at.returns-in-Some-open_literal-clause-seen c).In-Some-open_literal in
     let q : Pair = record { first = to_z w64 (of_z w64 c.in-Some.other); second = to_z w64 (of_z w64 c.in-Some-open_literal.open) } in
-    gone-move c.list.new.self.pairs.items c.args.index q c.args.literal (λ of. elim of [
+    gone-move c.list.new.self.pairs c.args.index q c.args.literal (λ of. elim of [
       | inl first ↦ (watches at c.row.result.now c.row.ensures).differ (sym (other at) ∙ first)
       | inr second ↦ c.in-Some-open_literal.ensures.2 (subst (λ (k : ℤ). IsOn c.args.trail.now.entries.items (neg_ℤ k)) (sym (sym (open_read at') ∙ second)) c.requires.off)
-    ])
+    ]) p (subst (λ (ps : List Pair). slice_get ps c.args.index ≡ Some p) c.set.ensures here)
+
+pub returns-in-Some-open_literal-clause-spared : goal.returns-in-Some-open_literal-clause-spared
+returns-in-Some-open_literal-clause-spared c =
+    let at = (goal.at.returns-in-Some-open_literal-clause-spared c).In-Some in
+    let old : List Pair = c.args.watches.now.pairs in
+    let between : List Pair = c.list.new.self.pairs in
+    let q : Pair = record { first = to_z w64 (of_z w64 c.in-Some.other); second = to_z w64 (of_z w64 c.in-Some-open_literal.open) } in
+    let some : q ≢ no_pair = λ e. no-pair q.first (other_literal at) (inl (ap (λ (p : Pair). p.first) (sym e))) in
+    spared-then old between c.set.new.self (spared-list old between c.list.ensures.pairs) (subst (AreSpared between) (sym c.set.ensures) (spared-move between c.args.index q some))
+
+pub returns-in-Some-open_literal-clause-list : goal.returns-in-Some-open_literal-clause-list
+returns-in-Some-open_literal-clause-list c = λ there.
+    let at' = (goal.at.returns-in-Some-open_literal-clause-list c).In-Some-open_literal in
+    c.list.ensures.others c.args.literal there (λ e. c.in-Some-open_literal.ensures.2 (subst (λ (k : ℤ). IsOn c.args.trail.now.entries.items (neg_ℤ k)) (place-injective c.args.literal _ e ∙ open_read at') c.requires.off))
+
+pub returns-in_err-list-clause-list : goal.returns-in_err-list-clause-list
+returns-in_err-list-clause-list c = λ there.
+    let at' = (goal.at.returns-in_err-list-clause-list c).In-Some-open_literal in
+    c.list.ensures.others c.args.literal there (λ e. c.in-Some-open_literal.ensures.2 (subst (λ (k : ℤ). IsOn c.args.trail.now.entries.items (neg_ℤ k)) (place-injective c.args.literal _ e ∙ open_read at') c.requires.off))
 
 -- ---- the other literals are false
 pub is_false-requires-clause-literal : goal.is_false-requires-clause-literal
@@ -181,9 +193,6 @@ returns-then-index-len-clause-positions c = refl
 pub returns-then-index-len-clause-grows : goal.returns-then-index-len-clause-grows
 returns-then-index-len-clause-grows c = grows-none c.args.level c.args.trail.now.entries.items
 
-pub returns-then-index-len-clause-lists : goal.returns-then-index-len-clause-lists
-returns-then-index-len-clause-lists c = refl
-
 pub returns-then-index-len-clause-watched : goal.returns-then-index-len-clause-watched
 returns-then-index-len-clause-watched c = c.requires.watched
 
@@ -194,7 +203,7 @@ pub returns-then-index-len-clause-reached : goal.returns-then-index-len-clause-r
 returns-then-index-len-clause-reached c = λ r bound h. h
 
 pub returns-then-index-len-clause-list : goal.returns-then-index-len-clause-list
-returns-then-index-len-clause-list c = refl
+returns-then-index-len-clause-list c = λ there. refl
 
 pub returns-in_default-clause-trail : goal.returns-in_default-clause-trail
 returns-in_default-clause-trail c = c.requires.trail
@@ -204,9 +213,6 @@ returns-in_default-clause-positions c = refl
 
 pub returns-in_default-clause-grows : goal.returns-in_default-clause-grows
 returns-in_default-clause-grows c = grows-none c.args.level c.args.trail.now.entries.items
-
-pub returns-in_default-clause-lists : goal.returns-in_default-clause-lists
-returns-in_default-clause-lists c = refl
 
 pub returns-in_default-clause-watched : goal.returns-in_default-clause-watched
 returns-in_default-clause-watched c = c.requires.watched
@@ -218,7 +224,7 @@ pub returns-in_default-clause-reached : goal.returns-in_default-clause-reached
 returns-in_default-clause-reached c = λ r bound h. h
 
 pub returns-in_default-clause-list : goal.returns-in_default-clause-list
-returns-in_default-clause-list c = refl
+returns-in_default-clause-list c = λ there. refl
 
 pub returns-then-is_true-clause-trail : goal.returns-then-is_true-clause-trail
 returns-then-is_true-clause-trail c = c.requires.trail
@@ -228,9 +234,6 @@ returns-then-is_true-clause-positions c = refl
 
 pub returns-then-is_true-clause-grows : goal.returns-then-is_true-clause-grows
 returns-then-is_true-clause-grows c = grows-none c.args.level c.args.trail.now.entries.items
-
-pub returns-then-is_true-clause-lists : goal.returns-then-is_true-clause-lists
-returns-then-is_true-clause-lists c = refl
 
 pub returns-then-is_true-clause-watched : goal.returns-then-is_true-clause-watched
 returns-then-is_true-clause-watched c = c.requires.watched
@@ -242,7 +245,7 @@ pub returns-then-is_true-clause-reached : goal.returns-then-is_true-clause-reach
 returns-then-is_true-clause-reached c = λ r bound h. h
 
 pub returns-then-is_true-clause-list : goal.returns-then-is_true-clause-list
-returns-then-is_true-clause-list c = refl
+returns-then-is_true-clause-list c = λ there. refl
 
 pub returns-then-is_false-clause-trail : goal.returns-then-is_false-clause-trail
 returns-then-is_false-clause-trail c = c.requires.trail
@@ -252,9 +255,6 @@ returns-then-is_false-clause-positions c = refl
 
 pub returns-then-is_false-clause-grows : goal.returns-then-is_false-clause-grows
 returns-then-is_false-clause-grows c = grows-none c.args.level c.args.trail.now.entries.items
-
-pub returns-then-is_false-clause-lists : goal.returns-then-is_false-clause-lists
-returns-then-is_false-clause-lists c = refl
 
 pub returns-then-is_false-clause-watched : goal.returns-then-is_false-clause-watched
 returns-then-is_false-clause-watched c = c.requires.watched
@@ -266,7 +266,7 @@ pub returns-then-is_false-clause-reached : goal.returns-then-is_false-clause-rea
 returns-then-is_false-clause-reached c = λ r bound h. h
 
 pub returns-then-is_false-clause-list : goal.returns-then-is_false-clause-list
-returns-then-is_false-clause-list c = refl
+returns-then-is_false-clause-list c = λ there. refl
 
 pub returns-in_err-list-clause-trail : goal.returns-in_err-list-clause-trail
 returns-in_err-list-clause-trail c = c.requires.trail
@@ -276,9 +276,6 @@ returns-in_err-list-clause-positions c = refl
 
 pub returns-in_err-list-clause-grows : goal.returns-in_err-list-clause-grows
 returns-in_err-list-clause-grows c = grows-none c.args.level c.args.trail.now.entries.items
-
-pub returns-in_err-list-clause-lists : goal.returns-in_err-list-clause-lists
-returns-in_err-list-clause-lists c = c.list.ensures.sized
 
 pub returns-in_err-list-clause-short : goal.returns-in_err-list-clause-short
 returns-in_err-list-clause-short c = c.list.ensures.short
@@ -295,14 +292,8 @@ returns-in-Some-open_literal-clause-grows c = grows-none c.args.level c.args.tra
 pub returns-in-Some-open_literal-clause-short : goal.returns-in-Some-open_literal-clause-short
 returns-in-Some-open_literal-clause-short c = c.list.ensures.short
 
-pub returns-in-Some-open_literal-clause-lists : goal.returns-in-Some-open_literal-clause-lists
-returns-in-Some-open_literal-clause-lists c = c.list.ensures.sized
-
 pub returns-in_err-push-clause-positions : goal.returns-in_err-push-clause-positions
 returns-in_err-push-clause-positions c = c.push.ensures.positions
-
-pub returns-in_err-push-clause-lists : goal.returns-in_err-push-clause-lists
-returns-in_err-push-clause-lists c = refl
 
 pub returns-in_err-push-clause-watched : goal.returns-in_err-push-clause-watched
 returns-in_err-push-clause-watched c = c.requires.watched
@@ -314,16 +305,13 @@ pub returns-in_err-push-clause-reached : goal.returns-in_err-push-clause-reached
 returns-in_err-push-clause-reached c = λ r bound h. h
 
 pub returns-in_err-push-clause-list : goal.returns-in_err-push-clause-list
-returns-in_err-push-clause-list c = refl
+returns-in_err-push-clause-list c = λ there. refl
 
 pub returns-in_err-push-clause-grows : goal.returns-in_err-push-clause-grows
 returns-in_err-push-clause-grows c = subst (Grows c.args.level c.args.trail.now.entries.items) (sym c.in_err-push.ensures.err) (grows-none c.args.level c.args.trail.now.entries.items)
 
 pub returns-clause-positions : goal.returns-clause-positions
 returns-clause-positions c = c.push.ensures.positions
-
-pub returns-clause-lists : goal.returns-clause-lists
-returns-clause-lists c = refl
 
 pub returns-clause-watched : goal.returns-clause-watched
 returns-clause-watched c = c.requires.watched
@@ -335,7 +323,7 @@ pub returns-clause-reached : goal.returns-clause-reached
 returns-clause-reached c = λ r bound h. h
 
 pub returns-clause-list : goal.returns-clause-list
-returns-clause-list c = refl
+returns-clause-list c = λ there. refl
 
 pub returns-clause-grows : goal.returns-clause-grows
 returns-clause-grows c = (_ ∷ [], c.in_ok-push.ensures.entries, ((omega arith, refl), tt))
@@ -354,7 +342,7 @@ open_literal-requires-clause-placed c = c.requires.trail.placed
 
 -- ---- what is watched now it watched before, or it was not false
 pub returns-in_err-list-clause-moved : goal.returns-in_err-list-clause-moved
-returns-in_err-list-clause-moved c = moved-list c.args.watches.now.pairs.items c.list.new.self.pairs.items c.args.trail.now.entries.items c.list.ensures.pairs
+returns-in_err-list-clause-moved c = moved-list c.args.watches.now.pairs c.list.new.self.pairs c.args.trail.now.entries.items c.list.ensures.pairs
 
 pub returns-in-Some-open_literal-clause-moved : goal.returns-in-Some-open_literal-clause-moved
 returns-in-Some-open_literal-clause-moved c =
@@ -362,27 +350,36 @@ returns-in-Some-open_literal-clause-moved c =
     let at' = (goal.at.returns-in-Some-open_literal-clause-moved c).In-Some-open_literal in
     let es : List Entry = c.args.trail.now.entries.items in
     let q : Pair = record { first = to_z w64 (of_z w64 c.in-Some.other); second = to_z w64 (of_z w64 c.in-Some-open_literal.open) } in
-    let old : slice_get c.list.new.self.pairs.items c.args.index ≡ Some c.index.result.now = subst (λ (ps : List Pair). slice_get ps c.args.index ≡ Some c.index.result.now) (sym c.list.ensures.pairs) (pair at) in
-    moved-then c.args.level c.args.watches.now.pairs.items c.list.new.self.pairs.items _ es es (grows-none c.args.level es) (moved-list c.args.watches.now.pairs.items c.list.new.self.pairs.items es c.list.ensures.pairs)
-    (moved-move c.list.new.self.pairs.items c.args.index c.index.result.now q es old (λ l of. elim of [
-      | inl first ↦ inl (subst (λ (k : ℤ). IsOf k c.index.result.now) (sym (other at) ∙ first) ((watches at c.row.result.now c.row.ensures).of_other c.index.result.now (pair at)))
+    let old : slice_get c.list.new.self.pairs c.args.index ≡ Some c.get.result = subst (λ (ps : List Pair). slice_get ps c.args.index ≡ Some c.get.result) (sym c.list.ensures.pairs) (pair at) in
+    subst (λ (ps : List Pair). AreMoved c.args.watches.now.pairs ps es) (sym c.set.ensures)
+    (moved-then c.args.level c.args.watches.now.pairs c.list.new.self.pairs _ es es (grows-none c.args.level es) (moved-list c.args.watches.now.pairs c.list.new.self.pairs es c.list.ensures.pairs)
+    (moved-move c.list.new.self.pairs c.args.index c.get.result q es old (λ l of. elim of [
+      | inl first ↦ inl (subst (λ (k : ℤ). IsOf k c.get.result) (sym (other at) ∙ first) ((watches at c.row.result.now c.row.ensures).of_other c.get.result (pair at)))
       | inr second ↦ inr (λ off. c.in-Some-open_literal.ensures.2 (subst (λ (k : ℤ). IsOn es (neg_ℤ k)) (sym second ∙ open_read at') off))
-    ]))
+    ])))
 
 pub returns-then-index-len-clause-moved : goal.returns-then-index-len-clause-moved
-returns-then-index-len-clause-moved c = moved-none c.args.watches.now.pairs.items c.args.trail.now.entries.items
+returns-then-index-len-clause-moved c = moved-none c.args.watches.now.pairs c.args.trail.now.entries.items
 
 pub returns-in_default-clause-moved : goal.returns-in_default-clause-moved
-returns-in_default-clause-moved c = moved-none c.args.watches.now.pairs.items c.args.trail.now.entries.items
+returns-in_default-clause-moved c = moved-none c.args.watches.now.pairs c.args.trail.now.entries.items
 
 pub returns-then-is_true-clause-moved : goal.returns-then-is_true-clause-moved
-returns-then-is_true-clause-moved c = moved-none c.args.watches.now.pairs.items c.args.trail.now.entries.items
+returns-then-is_true-clause-moved c = moved-none c.args.watches.now.pairs c.args.trail.now.entries.items
 
 pub returns-then-is_false-clause-moved : goal.returns-then-is_false-clause-moved
-returns-then-is_false-clause-moved c = moved-none c.args.watches.now.pairs.items c.args.trail.now.entries.items
+returns-then-is_false-clause-moved c = moved-none c.args.watches.now.pairs c.args.trail.now.entries.items
 
 pub returns-in_err-push-clause-moved : goal.returns-in_err-push-clause-moved
-returns-in_err-push-clause-moved c = moved-none c.args.watches.now.pairs.items c.args.trail.now.entries.items
+returns-in_err-push-clause-moved c = moved-none c.args.watches.now.pairs c.args.trail.now.entries.items
 
 pub returns-clause-moved : goal.returns-clause-moved
-returns-clause-moved c = moved-none c.args.watches.now.pairs.items c.args.trail.now.entries.items
+returns-clause-moved c = moved-none c.args.watches.now.pairs c.args.trail.now.entries.items
+
+-- ---- the other literal is free
+pub push-requires-clause-free : goal.push-requires-clause-free
+push-requires-clause-free c = elim (value-or-free c.args.trail.now.entries.items c.args.trail.now.positions.items _ c.requires.trail.placed) [
+  | inl on ↦ absurd (true≢false (sym (c.is_true.ensures.1 on) ∙ c.if-is_true.false))
+  | inr (inl off) ↦ absurd (true≢false (sym (c.is_false.ensures.1 off) ∙ c.if-is_false.false))
+  | inr (inr free) ↦ free
+]

@@ -4,9 +4,9 @@ use Rattle.mcs_trace.specs.Clauses.{IsLiteral}
 use Rattle.mcs_sat.specs.declared.state.Reach.{Reach}
 use Rattle.mcs_sat.specs.declared.trail.Entry.{Entry}
 use Rattle.mcs_sat.specs.Trails.{Grows, IsFalseAt, literal_at}
-use Rattle.mcs_sat.specs.Watching.{AreMoved, AreVisited, IsReached}
+use Rattle.mcs_sat.specs.Watching.{AreMoved, AreSpared, AreVisited, IsReached}
 use Rattle.mcs_sat.proofs.GrowLemmas.{entry-grown, grows-longer, grows-more, neg_literal, read_literal}
-use Rattle.mcs_sat.proofs.KeptLemmas.{moved-then}
+use Rattle.mcs_sat.proofs.KeptLemmas.{moved-then, spared-then}
 use Rattle.mcs_sat.proofs.TrailLemmas.{placed-most}
 use Rattle.mcs_sat.proofs.WatchLemmas.{reached-across, reached-grown, reached-next}
 use Rattle.mcs_sat.proofs.propagate.visit_from.Goals.{After-visit_list}
@@ -22,8 +22,29 @@ reached : (c : After-visit_list) (r : Reach) → r.visited ≤ length c.args.tra
     → IsReached c.args.clauses.now c.visit_list.new.watches c.args.trail.now.entries.items r
 reached c r bound h = reached-across c.args.clauses.now c.args.level c.args.trail.now.entries.items c.loop-from.trail.entries.items c.requires.trail.clauses c.loop-from.invariant.kept.grows r bound c.loop-from.watches c.visit_list.new.watches c.visit_list.ensures.reached (c.loop-from.invariant.watches.reached r bound h)
 
-moved : (c : After-visit_list) → AreMoved c.args.watches.now.pairs.items c.visit_list.new.watches.pairs.items c.args.trail.now.entries.items
-moved c = moved-then c.args.level c.args.watches.now.pairs.items c.loop-from.watches.pairs.items c.visit_list.new.watches.pairs.items c.args.trail.now.entries.items c.loop-from.trail.entries.items c.loop-from.invariant.kept.grows c.loop-from.invariant.watches.moved c.visit_list.ensures.moved
+moved : (c : After-visit_list) → AreMoved c.args.watches.now.pairs c.visit_list.new.watches.pairs c.args.trail.now.entries.items
+moved c = moved-then c.args.level c.args.watches.now.pairs c.loop-from.watches.pairs c.visit_list.new.watches.pairs c.args.trail.now.entries.items c.loop-from.trail.entries.items c.loop-from.invariant.kept.grows c.loop-from.invariant.watches.moved c.visit_list.ensures.moved
+
+spared : (c : After-visit_list) → AreSpared c.args.watches.now.pairs c.visit_list.new.watches.pairs
+spared c = spared-then c.args.watches.now.pairs c.loop-from.watches.pairs c.visit_list.new.watches.pairs c.loop-from.invariant.watches.spared c.visit_list.ensures.spared
+
+pub returns-in_err-found-clause-spared : goal.returns-in_err-found-clause-spared
+returns-in_err-found-clause-spared c = spared (goal.at.returns-in_err-found-clause-spared c).After-visit_list
+
+pub returns-then-is_some-clause-spared : goal.returns-then-is_some-clause-spared
+returns-then-is_some-clause-spared c = spared (goal.at.returns-then-is_some-clause-spared c).After-visit_list
+
+pub returns-clause-spared : goal.returns-clause-spared
+returns-clause-spared c = c.loop-from.invariant.watches.spared
+
+pub returns-in_err-found-clause-sized : goal.returns-in_err-found-clause-sized
+returns-in_err-found-clause-sized c = c.visit_list.ensures.sized ∙ c.loop-from.invariant.watches.sized
+
+pub returns-then-is_some-clause-sized : goal.returns-then-is_some-clause-sized
+returns-then-is_some-clause-sized c = c.visit_list.ensures.sized ∙ c.loop-from.invariant.watches.sized
+
+pub returns-clause-sized : goal.returns-clause-sized
+returns-clause-sized c = c.loop-from.invariant.watches.sized
 
 pub returns-in_err-found-clause-moved : goal.returns-in_err-found-clause-moved
 returns-in_err-found-clause-moved c = moved (goal.at.returns-in_err-found-clause-moved c).After-visit_list
@@ -83,8 +104,10 @@ loop-from-preserved c =
         grows = grows at;
       };
       watches = record {
-        lists = c.visit_list.ensures.lists ∙ c.loop-from.invariant.watches.lists;
+        lists = (let a = c.visit_list.ensures.lists in let b = c.loop-from.invariant.watches.lists in omega arith);
         watched = c.visit_list.ensures.watched;
+        sized = c.visit_list.ensures.sized ∙ c.loop-from.invariant.watches.sized;
+        spared = spared at;
         short = c.visit_list.ensures.short ∙ c.loop-from.invariant.watches.short;
         moved = moved at;
         reached = reached at;
@@ -102,7 +125,7 @@ pub returns-in_err-found-clause-positions : goal.returns-in_err-found-clause-pos
 returns-in_err-found-clause-positions c = c.visit_list.ensures.positions ∙ c.loop-from.invariant.kept.positions
 
 pub returns-in_err-found-clause-lists : goal.returns-in_err-found-clause-lists
-returns-in_err-found-clause-lists c = c.visit_list.ensures.lists ∙ c.loop-from.invariant.watches.lists
+returns-in_err-found-clause-lists c = (let a = c.visit_list.ensures.lists in let b = c.loop-from.invariant.watches.lists in omega arith)
 
 pub returns-in_err-found-clause-watched : goal.returns-in_err-found-clause-watched
 returns-in_err-found-clause-watched c = c.visit_list.ensures.watched
@@ -117,7 +140,7 @@ pub returns-then-is_some-clause-positions : goal.returns-then-is_some-clause-pos
 returns-then-is_some-clause-positions c = c.visit_list.ensures.positions ∙ c.loop-from.invariant.kept.positions
 
 pub returns-then-is_some-clause-lists : goal.returns-then-is_some-clause-lists
-returns-then-is_some-clause-lists c = c.visit_list.ensures.lists ∙ c.loop-from.invariant.watches.lists
+returns-then-is_some-clause-lists c = (let a = c.visit_list.ensures.lists in let b = c.loop-from.invariant.watches.lists in omega arith)
 
 pub returns-then-is_some-clause-watched : goal.returns-then-is_some-clause-watched
 returns-then-is_some-clause-watched c = c.visit_list.ensures.watched
@@ -166,6 +189,3 @@ visit_list-requires-clause-watched c = c.loop-from.invariant.watches.watched
 
 pub negated-literal-requires-clause-placed : goal.negated-literal-requires-clause-placed
 negated-literal-requires-clause-placed c = c.loop-from.invariant.trail.placed
-
-pub visit_list-requires-clause-lists : goal.visit_list-requires-clause-lists
-visit_list-requires-clause-lists c = c.loop-from.invariant.watches.lists ∙ c.requires.lists ∙ ap (λ (n : ℕ). 2 * n) (sym c.loop-from.invariant.kept.positions)

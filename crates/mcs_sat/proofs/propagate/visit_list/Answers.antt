@@ -9,32 +9,24 @@ use Rattle.mcs_sat.specs.declared.propagate.Seen.TheVariants as seen
 use Rattle.mcs_sat.specs.declared.state.Reach.{Reach}
 use Rattle.mcs_sat.specs.declared.trail.Entry.{Entry}
 use Rattle.mcs_sat.specs.Trails.{ArePlaced, Grows, IsOn, literal_at}
-use Rattle.mcs_sat.specs.Watching.{AreMoved, IsReached, IsSeen}
+use Rattle.mcs_sat.specs.Watching.{AreMoved, AreSpared, IsReached, IsSeen}
 use Rattle.mcs_sat.proofs.GrowLemmas.{grows-more}
-use Rattle.mcs_sat.proofs.KeptLemmas.{moved-then}
+use Rattle.mcs_sat.proofs.KeptLemmas.{moved-then, spared-then}
 use Rattle.mcs_base.proofs.Written.{slice_get-set_same}
-use Rattle.mcs_sat.proofs.WatchLemmas.{left-more, left-swap, passed-more, passed-swap, reached-across, reached-list, visited-all, watched-swap}
+use Rattle.mcs_sat.proofs.WatchLemmas.{left-more, left-swap, passed-more, passed-swap, reached-across, reached-list, visited-all, visited-none, watched-swap}
 use Rattle.mcs_sat.proofs.propagate.visit_list.Goals.{After-index, After-index_mut, After-visit}
 use Rattle.mcs_sat.proofs.propagate.visit_list.Goals as goal
 
 -- ---- the list of the literal
-within : (lists before p : ℕ) (l : ℤ) (es : List Entry) (ps : List ℕ) → ArePlaced es ps → IsOn es (neg_ℤ l) → before ≡ 2 * length ps → lists ≡ before → p ≡ place l → p < lists
-within lists before p l es ps placed (q, less, e) double same at =
-    let size : unsigned_abs (literal_at es q) ≡ unsigned_abs l = ap unsigned_abs e ∙ unsigned_abs-neg_ℤ l in
-    let small : unsigned_abs (literal_at es q) < length ps = (placed q less).1 in
-    omega (arith, place-size l)
-
 read : (lists : List (Vec ℕ Global)) (p : ℕ) (list : Vec ℕ Global) → p < length lists → list ≡ get_or lists p list → slice_get lists p ≡ Some list
 read lists p list less is = slice_get_read lists (length lists) p list refl less is
 
 index_within : (c : After-index) → c.place-list.result < length c.loop-at.watches.lists.items
-index_within c = within (length c.loop-at.watches.lists.items) (length c.args.watches.now.lists.items) c.place-list.result c.args.literal c.args.trail.now.entries.items c.args.trail.now.positions.items
-    c.requires.trail.placed c.requires.off c.requires.lists c.loop-at.invariant.watches.lists (c.place-list.ensures ∙ ap place (to_z-of_z c.ranges.literal))
+index_within c = let past = c.if-list-len.false in let more = c.loop-at.invariant.watches.lists in let ok = c.args.watches.now.lists.ok.0 in omega arith
 
 -- ---- a clause was visited
 visit_within : (c : After-visit) → c.place-list.result < length c.loop-at.watches.lists.items
-visit_within c = within (length c.loop-at.watches.lists.items) (length c.args.watches.now.lists.items) c.place-list.result c.args.literal c.args.trail.now.entries.items c.args.trail.now.positions.items
-    c.requires.trail.placed c.requires.off c.requires.lists c.loop-at.invariant.watches.lists (c.place-list.ensures ∙ ap place (to_z-of_z c.ranges.literal))
+visit_within c = let past = c.if-list-len.false in let more = c.loop-at.invariant.watches.lists in let ok = c.args.watches.now.lists.ok.0 in omega arith
 
 list_at : (c : After-visit) → slice_get c.loop-at.watches.lists.items c.place-list.result ≡ Some c.index-in-loop-at.result.now
 list_at c = read c.loop-at.watches.lists.items c.place-list.result c.index-in-loop-at.result.now (visit_within c) c.index-in-loop-at.ensures
@@ -51,7 +43,7 @@ index_at : (c : After-visit) → slice_get c.index-in-loop-at.result.now.items c
 index_at c = slice_get_read c.index-in-loop-at.result.now.items (length c.index-in-loop-at.result.now.items) c.loop-at.at c.index-index.result.now refl (less_at c) c.index-index.ensures
 
 kept : (c : After-visit) → slice_get c.visit.new.watches.lists.items c.place-list.result ≡ slice_get c.loop-at.watches.lists.items c.place-list.result
-kept c = subst (λ (n : ℕ). slice_get c.visit.new.watches.lists.items n ≡ slice_get c.loop-at.watches.lists.items n) (sym c.place-list.ensures) c.visit.ensures.list
+kept c = subst (λ (n : ℕ). slice_get c.visit.new.watches.lists.items n ≡ slice_get c.loop-at.watches.lists.items n) (sym c.place-list.ensures) (c.visit.ensures.list (let less = visit_within c in omega (arith, c.place-list.ensures)))
 
 grows : (c : After-visit) → Grows c.args.level c.args.trail.now.entries.items c.visit.new.trail.entries.items
 grows c = grows-more c.args.level c.args.trail.now.entries.items c.loop-at.trail.entries.items c.visit.new.trail.entries.items c.loop-at.invariant.kept.grows c.visit.ensures.grows
@@ -60,8 +52,29 @@ reached : (c : After-visit) (r : Reach) → r.visited ≤ length c.args.trail.no
 reached c r bound h = reached-across c.args.clauses.now c.args.level c.args.trail.now.entries.items c.loop-at.trail.entries.items c.requires.trail.clauses c.loop-at.invariant.kept.grows r bound c.loop-at.watches c.visit.new.watches c.visit.ensures.reached (c.loop-at.invariant.watches.reached r bound h)
 
 -- what is watched now
-moved : (c : After-visit) → AreMoved c.args.watches.now.pairs.items c.visit.new.watches.pairs.items c.args.trail.now.entries.items
-moved c = moved-then c.args.level c.args.watches.now.pairs.items c.loop-at.watches.pairs.items c.visit.new.watches.pairs.items c.args.trail.now.entries.items c.loop-at.trail.entries.items c.loop-at.invariant.kept.grows c.loop-at.invariant.watches.moved c.visit.ensures.moved
+moved : (c : After-visit) → AreMoved c.args.watches.now.pairs c.visit.new.watches.pairs c.args.trail.now.entries.items
+moved c = moved-then c.args.level c.args.watches.now.pairs c.loop-at.watches.pairs c.visit.new.watches.pairs c.args.trail.now.entries.items c.loop-at.trail.entries.items c.loop-at.invariant.kept.grows c.loop-at.invariant.watches.moved c.visit.ensures.moved
+
+spared : (c : After-visit) → AreSpared c.args.watches.now.pairs c.visit.new.watches.pairs
+spared c = spared-then c.args.watches.now.pairs c.loop-at.watches.pairs c.visit.new.watches.pairs c.loop-at.invariant.watches.spared c.visit.ensures.spared
+
+pub returns-in_err-visit-clause-spared : goal.returns-in_err-visit-clause-spared
+returns-in_err-visit-clause-spared c = spared (goal.at.returns-in_err-visit-clause-spared c).After-visit
+
+pub returns-in-Conflict-clause-spared : goal.returns-in-Conflict-clause-spared
+returns-in-Conflict-clause-spared c = spared (goal.at.returns-in-Conflict-clause-spared c).After-visit
+
+pub returns-clause-spared : goal.returns-clause-spared
+returns-clause-spared c = c.loop-at.invariant.watches.spared
+
+pub returns-in_err-visit-clause-sized : goal.returns-in_err-visit-clause-sized
+returns-in_err-visit-clause-sized c = c.visit.ensures.sized ∙ c.loop-at.invariant.watches.sized
+
+pub returns-in-Conflict-clause-sized : goal.returns-in-Conflict-clause-sized
+returns-in-Conflict-clause-sized c = c.visit.ensures.sized ∙ c.loop-at.invariant.watches.sized
+
+pub returns-clause-sized : goal.returns-clause-sized
+returns-clause-sized c = c.loop-at.invariant.watches.sized
 
 pub returns-in_err-visit-clause-moved : goal.returns-in_err-visit-clause-moved
 returns-in_err-visit-clause-moved c = moved (goal.at.returns-in_err-visit-clause-moved c).After-visit
@@ -94,8 +107,10 @@ loop-at-preserved-in-Satisfied c =
         grows = grows at;
       };
       watches = record {
-        lists = c.visit.ensures.lists ∙ c.loop-at.invariant.watches.lists;
+        lists = (let a = c.visit.ensures.lists in let b = c.loop-at.invariant.watches.lists in omega arith);
         watched = c.visit.ensures.watched;
+        sized = c.visit.ensures.sized ∙ c.loop-at.invariant.watches.sized;
+        spared = spared at;
         short = c.visit.ensures.short ∙ c.loop-at.invariant.watches.short;
         moved = moved at;
         reached = reached at;
@@ -108,9 +123,10 @@ loop-at-preserved-in-Satisfied c =
 -- ---- it is gone
 removed_at : (c : After-index_mut) → slice_get c.visit.new.watches.lists.items c.place-list.result ≡ Some c.index_mut.result.now
 removed_at c =
-    let less : c.place-list.result < length c.loop-at.watches.lists.items = within (length c.loop-at.watches.lists.items) (length c.args.watches.now.lists.items) c.place-list.result c.args.literal c.args.trail.now.entries.items c.args.trail.now.positions.items
-    c.requires.trail.placed c.requires.off c.requires.lists c.loop-at.invariant.watches.lists (c.place-list.ensures ∙ ap place (to_z-of_z c.ranges.literal)) in
-    let sizes : length c.visit.new.watches.lists.items ≡ length c.loop-at.watches.lists.items = c.visit.ensures.lists in
+    let past = c.if-list-len.false in
+    let more = c.loop-at.invariant.watches.lists in
+    let ok = c.args.watches.now.lists.ok.0 in
+    let sizes = c.visit.ensures.lists in
     read c.visit.new.watches.lists.items c.place-list.result c.index_mut.result.now (omega arith) c.index_mut.ensures.value
 
 same_list : (c : After-visit) (list : Vec ℕ Global) → slice_get c.visit.new.watches.lists.items c.place-list.result ≡ Some list → list ≡ c.index-in-loop-at.result.now
@@ -133,7 +149,7 @@ loop-at-smaller c =
     let list : Vec ℕ Global = c.index_mut.result.now in
     let one : length c.swap_remove.new.self.items + 1 ≡ length list.items =
     (let ok = list.ok.0 in let ok' = c.swap_remove.new.self.ok.0 in let len = c.swap_remove.ensures.len in omega arith) in
-    let here : c.place-list.result < length c.visit.new.watches.lists.items = (let sizes : length c.visit.new.watches.lists.items ≡ length c.loop-at.watches.lists.items = c.visit.ensures.lists in let less = visit_within at in omega arith) in
+    let here : c.place-list.result < length c.visit.new.watches.lists.items = (let sizes = c.visit.ensures.lists in let less = visit_within at in omega arith) in
     left-swap (slice_get c.loop-at.watches.lists.items c.place-list.result) _ list c.swap_remove.new.self c.loop-at.at (sym (kept at) ∙ removed_at at') (slice_get-set_same c.visit.new.watches.lists.items c.place-list.result c.swap_remove.new.self here) one (less_in at list (removed_at at'))
 
 pub loop-at-preserved : goal.loop-at-preserved
@@ -157,9 +173,11 @@ loop-at-preserved c =
         grows = grows at;
       };
       watches = record {
-        lists = length-set c.visit.new.watches.lists.items c.place-list.result c.swap_remove.new.self ∙ c.visit.ensures.lists ∙ c.loop-at.invariant.watches.lists;
+        lists = (let a = c.visit.ensures.lists in let b = c.loop-at.invariant.watches.lists in omega (arith, length-set c.visit.new.watches.lists.items c.place-list.result c.swap_remove.new.self));
         watched = watched-swap c.args.clauses.now c.visit.new.watches _ c.place-list.result l c.loop-at.at list c.swap_remove.new.self x c.visit.ensures.watched refl refl refl c.place-list.ensures (removed_at at') less
-            c.swap_remove.ensures.value c.swap_remove.ensures.items (λ q is. gone q (sym (ap (slice_get c.visit.new.watches.pairs.items) x-is) ∙ is));
+            c.swap_remove.ensures.value c.swap_remove.ensures.items (λ q is. gone q (sym (ap (slice_get c.visit.new.watches.pairs) x-is) ∙ is));
+        sized = c.visit.ensures.sized ∙ c.loop-at.invariant.watches.sized;
+        spared = spared at;
         short = c.visit.ensures.short ∙ c.loop-at.invariant.watches.short;
         moved = moved at;
         reached = λ r bound h. reached-list c.args.clauses.now c.visit.new.watches _ c.args.trail.now.entries.items r refl refl (reached at r bound h);
@@ -176,6 +194,13 @@ returns-clause-found c =
     visited-all c.args.clauses.now c.loop-at.watches c.loop-at.trail.entries.items c.args.literal c.place-list.result c.loop-at.at c.index.result.now c.loop-at.invariant.watches.watched c.requires.literal
     (c.place-list.ensures ∙ ap place (to_z-of_z c.ranges.literal)) (read c.loop-at.watches.lists.items c.place-list.result c.index.result.now (index_within at) c.index.ensures) (omega arith) c.loop-at.invariant.passed
 
+-- ---- there is none
+pub returns-then-list-len-clause-found : goal.returns-then-list-len-clause-found
+returns-then-list-len-clause-found c =
+    let past = c.if-list-len.true in
+    let ok = c.args.watches.now.lists.ok.0 in
+    visited-none c.args.clauses.now c.args.watches.now c.args.trail.now.entries.items c.args.literal c.requires.watched c.requires.literal (omega (arith, c.place-list.ensures, ap place (to_z-of_z c.ranges.literal)))
+
 -- ---- what the visits keep
 pub returns-in_err-visit-clause-trail : goal.returns-in_err-visit-clause-trail
 returns-in_err-visit-clause-trail c = c.visit.ensures.trail
@@ -187,7 +212,7 @@ pub returns-in_err-visit-clause-grows : goal.returns-in_err-visit-clause-grows
 returns-in_err-visit-clause-grows c = grows-more c.args.level c.args.trail.now.entries.items c.loop-at.trail.entries.items c.visit.new.trail.entries.items c.loop-at.invariant.kept.grows c.visit.ensures.grows
 
 pub returns-in_err-visit-clause-lists : goal.returns-in_err-visit-clause-lists
-returns-in_err-visit-clause-lists c = c.visit.ensures.lists ∙ c.loop-at.invariant.watches.lists
+returns-in_err-visit-clause-lists c = (let a = c.visit.ensures.lists in let b = c.loop-at.invariant.watches.lists in omega arith)
 
 pub returns-in_err-visit-clause-watched : goal.returns-in_err-visit-clause-watched
 returns-in_err-visit-clause-watched c = c.visit.ensures.watched
@@ -205,7 +230,7 @@ pub returns-in-Conflict-clause-grows : goal.returns-in-Conflict-clause-grows
 returns-in-Conflict-clause-grows c = grows-more c.args.level c.args.trail.now.entries.items c.loop-at.trail.entries.items c.visit.new.trail.entries.items c.loop-at.invariant.kept.grows c.visit.ensures.grows
 
 pub returns-in-Conflict-clause-lists : goal.returns-in-Conflict-clause-lists
-returns-in-Conflict-clause-lists c = c.visit.ensures.lists ∙ c.loop-at.invariant.watches.lists
+returns-in-Conflict-clause-lists c = (let a = c.visit.ensures.lists in let b = c.loop-at.invariant.watches.lists in omega arith)
 
 pub returns-in-Conflict-clause-watched : goal.returns-in-Conflict-clause-watched
 returns-in-Conflict-clause-watched c = c.visit.ensures.watched
@@ -239,6 +264,3 @@ visit-requires-clause-trail c = c.loop-at.invariant.trail
 
 pub visit-requires-clause-watched : goal.visit-requires-clause-watched
 visit-requires-clause-watched c = c.loop-at.invariant.watches.watched
-
-pub visit-requires-clause-lists : goal.visit-requires-clause-lists
-visit-requires-clause-lists c = c.loop-at.invariant.watches.lists ∙ c.requires.lists ∙ ap (λ (n : ℕ). 2 * n) (sym c.loop-at.invariant.kept.positions)

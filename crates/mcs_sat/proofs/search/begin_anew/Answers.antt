@@ -5,7 +5,7 @@ use Rattle.mcs_sat.proofs.search.begin_anew.Goals as goal
 pub returns-clause-kept : goal.returns-clause-kept
 returns-clause-kept c =
     let r = c.run.ensures in
-    search-run c.back.new.state c.run.new.state (search-back c.args.state.now c.back.new.state c.requires c.back.ensures.kept c.back.ensures.same c.back.ensures.back.levels) r.kept r.same r.levels r.grows
+    search-run c.back.new.state c.run.new.state (search-back c.args.state.now c.back.new.state c.requires c.back.ensures.kept c.back.ensures.same c.back.ensures.back.levels (c.back.ensures.full c.requires.full)) r.kept r.same r.levels r.grows r.full
 
 pub returns-clause-run : goal.returns-clause-run
 returns-clause-run c = run-is c.run.new.state c.in_ok-found.found c.in_ok-found.ensures.open c.in_ok-found.ensures.conflict

@@ -1,16 +1,22 @@
-use Rattle.std.proofs.Common.{◌^◌, ◌*◌, ◌+◌, ◌-◌, ℕ, ◌<◌, arith, length, subst, sym}
+use Rattle.std.proofs.Common.{◌^◌, ◌*◌, ◌+◌, ◌-◌, ℕ, ◌<◌, ◌∙◌, arith, length, subst, sym}
 use Rattle.mcs_sat.specs.declared.search.Turn.TheVariants as turn
 use Rattle.mcs_sat.specs.Searches.{IsTurned, work_left, work_of}
 use Rattle.mcs_base.proofs.NumberCases.{rounds_fall}
 use Rattle.mcs_sat.proofs.WorkLemmas.{work_left-bound}
-use Rattle.mcs_sat.proofs.SearchLemmas.{run-is, search-run}
+use Rattle.mcs_sat.proofs.SearchLemmas.{run-is, search-base, search-run}
 use Rattle.mcs_sat.proofs.StoreLemmas.{later-same, later-then}
 use Rattle.mcs_sat.proofs.search.search.Goals as goal
 
 pub loop-left-init : goal.loop-left-init
 loop-left-init c =
+    let a = c.attach.ensures in
     let r = c.in_ok-found.ensures in
-    record { later = later-same c.args.state.now c.run.new.state r.kept r.same; kept = search-run c.args.state.now c.run.new.state c.requires r.kept r.same r.levels r.grows; run = run-is c.run.new.state c.in_ok-found.found r.open r.conflict }
+    let full = c.in_ok-attach.ensures.full in
+    record {
+      later = later-then c.args.state.now c.attach.new.state c.run.new.state (later-same c.args.state.now c.attach.new.state a.kept a.same) (later-same c.attach.new.state c.run.new.state r.kept r.same);
+      kept = search-run c.attach.new.state c.run.new.state (search-base c.attach.new.state a.kept full (a.levels ∙ c.requires.base)) r.kept r.same r.levels r.grows r.full;
+      run = run-is c.run.new.state c.in_ok-found.found r.open r.conflict;
+    }
 
 pub loop-left-smaller-then-is_due : goal.loop-left-smaller-then-is_due
 loop-left-smaller-then-is_due c =

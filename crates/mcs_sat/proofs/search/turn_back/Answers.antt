@@ -46,7 +46,7 @@ returns-clause-kept c =
     let b = c.in_default-learn.ensures.learnt in
     let g = gone-back s c.learn.new.state cl ns c.requires.search.state b single in
     let r = c.in_ok-run.ensures in
-    let kept = search-run c.learn.new.state c.run.new.state (search-learnt s c.learn.new.state cl ns c.requires.search c.learn.ensures.kept b g) r.kept r.same r.levels r.grows in
+    let kept = search-run c.learn.new.state c.run.new.state (search-learnt s c.learn.new.state cl ns c.requires.search c.learn.ensures.kept b g c.learn.ensures.full) r.kept r.same r.levels r.grows r.full in
     kept
 
 pub returns-clause-turn : goal.returns-clause-turn
@@ -60,7 +60,7 @@ returns-clause-turn c =
     let b = c.in_default-learn.ensures.learnt in
     let g = gone-back s c.learn.new.state cl ns c.requires.search.state b single in
     let r = c.in_ok-run.ensures in
-    let kept = search-run c.learn.new.state c.run.new.state (search-learnt s c.learn.new.state cl ns c.requires.search c.learn.ensures.kept b g) r.kept r.same r.levels r.grows in
+    let kept = search-run c.learn.new.state c.run.new.state (search-learnt s c.learn.new.state cl ns c.requires.search c.learn.ensures.kept b g c.learn.ensures.full) r.kept r.same r.levels r.grows r.full in
     let run = run-is c.run.new.state c.in_ok-run.field-0 r.open r.conflict in
     (run, less-learnt s c.learn.new.state c.run.new.state cl ns c.in_ok-run.field-0 c.requires.search kept b g r.same.clauses r.grows run (r.same.positions ∙ c.learn.ensures.positions))
 
@@ -87,7 +87,7 @@ pub learn-requires-clause-chain : goal.learn-requires-clause-chain
 learn-requires-clause-chain c = subst (IsChainResolvent c.args.state.now.clauses c.deref-3.result.now) (sym c.literals-2.ensures.value) (subst (λ (xs : List ℕ). IsChainResolvent c.args.state.now.clauses xs c.in_ok-step.step.clause) (sym c.deref-3.ensures.value) c.in_ok-step.ensures.learnt.chain)
 
 pub run-requires : goal.run-requires
-run-requires c = c.in_default-learn.ensures.kept
+run-requires c = record { state = c.learn.ensures.kept; full = c.learn.ensures.full }
 
 pub returns-in_default-clause-kept : goal.returns-in_default-clause-kept
 returns-in_default-clause-kept c = c.requires.search

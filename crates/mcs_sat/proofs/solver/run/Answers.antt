@@ -18,10 +18,10 @@ settled : (c : After-settle_from) → IsState (record { clauses = c.args.state.n
 settled c =
     let s = c.args.state.now in
     let e = c.settle_from.ensures in
-    state-settled s c.settle_from.new.trail c.settle_from.new.from c.requires e.trail e.positions
+    state-settled s c.settle_from.new.trail c.settle_from.new.from c.requires.state e.trail e.positions
     (subst (λ (n : ℕ). Grows n s.trail.entries.items c.settle_from.new.trail.entries.items) (level c) e.grows)
     (subst (λ (xs : List ℕ). AreSettled s.clauses xs c.settle_from.new.trail.entries.items s.settled c.settle_from.new.from) c.deref.ensures.value e.settled)
-    (subst (λ (xs : List ℕ). c.settle_from.new.from ≤ length xs) c.deref.ensures.value (e.bound (let b = c.requires.short_bound in omega (arith, ap length c.deref.ensures.value))))
+    (subst (λ (xs : List ℕ). c.settle_from.new.from ≤ length xs) c.deref.ensures.value (e.bound (let b = c.requires.state.short_bound in omega (arith, ap length c.deref.ensures.value))))
 
 -- and when the clauses are visited then
 after : (c : After-visit_from) → IsState (record { clauses = c.args.state.now.clauses; chains = c.args.state.now.chains; trail = c.settle_from.new.trail; watches = c.args.state.now.watches; levels = c.args.state.now.levels; visited = c.args.state.now.visited; settled = c.settle_from.new.from; kept = c.args.state.now.kept }) → c.len-level.result ≡ length c.args.state.now.levels.items
@@ -32,7 +32,7 @@ after c before same =
     let e = c.visit_from.ensures in
     state-visited between c.visit_from.new.trail c.visit_from.new.watches c.visit_from.new.from before e.trail e.positions
     (subst (λ (n : ℕ). Grows n c.settle_from.new.trail.entries.items c.visit_from.new.trail.entries.items) same e.grows)
-    e.lists e.watched e.short e.moved e.bound e.reached e.now
+    e.watched e.sized e.spared e.short e.moved e.bound e.reached e.now
 
 pub returns-in_err-found-clause-kept : goal.returns-in_err-found-clause-kept
 returns-in_err-found-clause-kept c = settled (goal.at.returns-in_err-found-clause-kept c).After-settle_from
@@ -48,7 +48,7 @@ before : (c : After-visit_from) → c.len-level.result ≡ length c.args.state.n
 before c same =
     let s = c.args.state.now in
     before-visited (length s.levels.items) s.clauses s.watches c.visit_from.new.watches s.trail.entries.items c.settle_from.new.trail.entries.items (reach_of s)
-    (subst (λ (n : ℕ). Grows n s.trail.entries.items c.settle_from.new.trail.entries.items) same c.settle_from.ensures.grows) (omega arith) c.requires.bound c.requires.now c.visit_from.ensures.reached
+    (subst (λ (n : ℕ). Grows n s.trail.entries.items c.settle_from.new.trail.entries.items) same c.settle_from.ensures.grows) (omega arith) c.requires.state.bound c.requires.state.now c.visit_from.ensures.reached
 
 pub returns-in_err-found-2-clause-before : goal.returns-in_err-found-2-clause-before
 returns-in_err-found-2-clause-before c = let at = goal.at.returns-in_err-found-2-clause-before c in before at.After-visit_from (level at.After-settle_from)
@@ -64,7 +64,7 @@ returns-clause-open c =
     let at = goal.at.returns-clause-open c in
     let is = after at.After-visit_from (settled at.After-settle_from) (level at.After-settle_from) in
     let done : length c.deref.result.now ≤ c.settle_from.new.from = none-found _ _ c.in_ok-found.found (sym c.is_some.ensures ∙ c.if-is_some.false) c.in_ok-found.ensures.found in
-    all-visited _ _ _ c.in_ok-found-2.found c.in_ok-found-2.ensures.found (λ whole. all-open _ is whole (omega (arith, ap length c.visit_from.ensures.short, ap length c.deref.ensures.value)))
+    all-visited _ _ _ c.in_ok-found-2.found c.in_ok-found-2.ensures.found (λ whole. all-open _ is (c.visit_from.ensures.sized ∙ c.requires.full) whole (omega (arith, ap length c.visit_from.ensures.short, ap length c.deref.ensures.value)))
   where
     none-found : (P : Type 0) (Q : ℕ → Type 0) (o : Option ℕ) → is_some o ≡ false → MatchOption o P Q → P
     none-found P Q None e h = h
@@ -136,10 +136,7 @@ pub visit_from-requires-clause-trail : goal.visit_from-requires-clause-trail
 visit_from-requires-clause-trail c = c.settle_from.ensures.trail
 
 pub visit_from-requires-clause-watched : goal.visit_from-requires-clause-watched
-visit_from-requires-clause-watched c = c.requires.watched
+visit_from-requires-clause-watched c = c.requires.state.watched
 
 pub settle_from-requires : goal.settle_from-requires
-settle_from-requires c = record { trail = c.requires.trail }
-
-pub visit_from-requires-clause-lists : goal.visit_from-requires-clause-lists
-visit_from-requires-clause-lists c = c.requires.lists ∙ ap (λ (n : ℕ). 2 * n) (sym c.settle_from.ensures.positions)
+settle_from-requires c = record { trail = c.requires.state.trail }

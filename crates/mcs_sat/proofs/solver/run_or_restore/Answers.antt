@@ -7,4 +7,4 @@ returns-in-Err-clause-kept c =
     let s = c.args.state.now in
     let e = c.run.ensures in
     let size : c.len-entries.result ≡ length s.trail.entries.items = (let ok = s.trail.entries.ok.0 in omega (arith, c.len-entries.ensures)) in
-    state-restored s c.run.new.state c.back.new.self c.requires e.kept e.same.clauses e.same.positions e.levels e.short e.marked e.grows e.before (c.back.ensures.entries ∙ ap (λ (n : ℕ). take n c.run.new.state.trail.entries.items) size) c.back.ensures.positions
+    state-restored s c.run.new.state c.back.new.self c.requires.state e.kept e.same.clauses e.same.positions e.levels e.short e.marked e.grows e.before (c.back.ensures.entries ∙ ap (λ (n : ℕ). take n c.run.new.state.trail.entries.items) size) c.back.ensures.positions

@@ -3,8 +3,8 @@ use Rattle.mcs_base.proofs.Each.{all_get, all_weaker}
 use Rattle.mcs_trace.specs.Clauses.{IsClause, IsWithin}
 use Rattle.mcs_sat.proofs.solver.state_of.Goals as goal
 
-pub add_all-requires-clause-clauses : goal.add_all-requires-clause-clauses
-add_all-requires-clause-clauses c = λ i clause at.
+pub add_watched-requires-clause-clauses : goal.add_watched-requires-clause-clauses
+add_watched-requires-clause-clauses c = λ i clause at.
     let vars : ℕ = c.args.cnf.now.vars in
     let ps : List ℕ = c.in_ok-state.state.trail.positions.items in
     let size : length ps ≡ vars + 1 = c.in_ok-state.ensures.sized ∙ ap (λ (n : ℕ). n + 1) c.vars.ensures.value in

@@ -12,7 +12,7 @@ pub returns-in-Err-clause-kept : goal.returns-in-Err-clause-kept
 returns-in-Err-clause-kept c =
     let ls = c.args.state.now.levels.items in
     let count : c.len-level.result + 1 - 1 ≡ length ls = (let ok = c.args.state.now.levels.ok.0 in omega (arith, c.len-level.ensures)) in
-    state-same c.args.state.now _ c.requires.state refl refl (c.in-Err.ensures.err) c.push-2.ensures.positions c.in-Err.ensures.placed (record { sized = refl; listed = λ l i h. h }) refl refl
+    state-same c.args.state.now _ c.requires.state refl refl (c.in-Err.ensures.err) c.push-2.ensures.positions c.in-Err.ensures.placed (record { listed = λ l i h. h }) refl refl
     (c.truncate.ensures.items ∙ ap (λ (n : ℕ). take n c.push.new.self.items) count ∙ ap (take (length ls)) c.in_ok-push.ensures.items ∙ take-append_seam ls _) refl refl refl
 
 pub returns-clause-kept : goal.returns-clause-kept

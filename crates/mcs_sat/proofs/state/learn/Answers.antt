@@ -34,7 +34,7 @@ returns-clause-kept c =
     let there = level-there s c.args.literals.now c.in-Some.latest turn c.requires.state c.requires.single c.requires.some c.in-Some.ensures c.turn_of-turn.ensures in
     let at : slice_get s.levels.items turn.level ≡ Some r = slice_get_read_as s.levels.items s.levels.items turn.level r refl there c.index-reach.ensures in
     state-learnt s c.back.new.self c.truncate.new.self c.push_clause.new.clauses c.push_clause.new.chains c.push_clause.new.watches c.args.literals.now c.args.chain.now c.in-Some.latest turn r c.min-state.result
-    c.requires.state c.requires.clause c.requires.all_false c.requires.chain c.requires.single c.requires.some c.in-Some.ensures c.turn_of-turn.ensures at
+    c.requires.state c.requires.clause c.requires.all_false c.requires.chain c.requires.single c.requires.some c.in-Some.ensures c.turn_of-turn.ensures at c.requires.full
     e.clauses e.chains e.watches e.pushed c.back.ensures.entries c.back.ensures.positions c.truncate.ensures.items (omega (arith, c.min-state.ensures)) (omega (arith, c.min-state.ensures))
 
 pub returns-clause-learnt : goal.returns-clause-learnt

@@ -21,10 +21,10 @@ learn-requires-clause-single c = λ r at.
     let step : Step = c.args.step.now in
     let a : IsAsserting (view_of s) step = subst (λ (v : SolverView). IsAsserting v step) (sym c.self.view_is) c.requires.step in
     subst (IsSingle s.trail.entries.items r.entries) (sym c.literals.ensures.value)
-    (asserting-single s r step c.self.invariant (some-levels s c.args.self.now c.self.invariant c.self.view_is c.requires.level) at a)
+    (asserting-single s r step c.self.invariant.0 (some-levels s c.args.self.now c.self.invariant.0 c.self.view_is c.requires.level) at a)
 
 pub learn-requires-clause-some : goal.learn-requires-clause-some
-learn-requires-clause-some c = some-levels c.self.inside.state c.args.self.now c.self.invariant c.self.view_is c.requires.level
+learn-requires-clause-some c = some-levels c.self.inside.state c.args.self.now c.self.invariant.0 c.self.view_is c.requires.level
 
 pub returns-clause-learnt : goal.returns-clause-learnt
 returns-clause-learnt c =
@@ -34,4 +34,4 @@ returns-clause-learnt c =
     let a : IsAsserting (view_of s) step = subst (λ (v : SolverView). IsAsserting v step) (sym c.self.view_is) c.requires.step in
     let back : IsLearntBack s new step.clause step.chain.items = subst (λ (ns : List ℕ). IsLearntBack s new step.clause ns) c.deref.ensures.value (subst (λ (k : List ℤ). IsLearntBack s new k c.deref.result.now) c.literals.ensures.value c.in_ok-learn.ensures.learnt) in
     subst (λ (v : SolverView). IsLearned v (view_of new) step) c.self.view_is
-    (learned s new step c.self.invariant a (some-levels s c.args.self.now c.self.invariant c.self.view_is c.requires.level) c.learn.ensures.positions back)
+    (learned s new step c.self.invariant.0 a (some-levels s c.args.self.now c.self.invariant.0 c.self.view_is c.requires.level) c.learn.ensures.positions back)

@@ -7,7 +7,7 @@ use Rattle.mcs_sat.specs.Solvers.{GoesOn, IsUnitRun, LeadsToConflict, SolverView
 use Rattle.mcs_sat.specs.Trails.{IsFalseAt, IsOpen, levels_of}
 use Rattle.mcs_sat.proofs.SolverLemmas.{false-number, grown-conflict, grown-goes_on, grown-no_conflict, opens-under}
 use Rattle.mcs_sat.proofs.solver.Solver.propagate.Goals as goal
-use Rattle.mcs_sat.proofs.solver.Solver.propagate.Goals.{in-Ok-Some, in-Ok-None, in-Err}
+use Rattle.mcs_sat.proofs.solver.Solver.propagate.Goals.{in-Ok-Some+else-prove, in-Ok-None, in-Err}
 
 -- the literals that follow on the levels of what is seen
 abbrev IsRunOn : State → SolverView → Type 0
@@ -18,7 +18,7 @@ returns-clause-run c =
     let s : State = c.self.inside.state in
     let new : State = c.run_or_restore.new.state in
     elim c.match-run_or_restore.branch [
-      | in-Ok-Some w ↦ IfOk-from_ok (λ o. IsRunOn new c.args.self.now) c.match-run_or_restore.result (Some (w.in-Ok-Some.index + 1)) w.result-is (subst (IsRunOn new) c.self.view_is (grown-goes_on s new (w.in-Ok-Some.ensures.kept, w.in-Ok-Some.ensures.same.clauses, w.in-Ok-Some.ensures.grows)))
+      | in-Ok-Some+else-prove w ↦ IfOk-from_ok (λ o. IsRunOn new c.args.self.now) c.match-run_or_restore.result (Some (w.in-Ok-Some.index + 1)) w.result-is (subst (IsRunOn new) c.self.view_is (grown-goes_on s new (w.in-Ok-Some.ensures.kept, w.in-Ok-Some.ensures.same.clauses, w.in-Ok-Some.ensures.grows)))
       | in-Ok-None w ↦ IfOk-from_ok (λ o. IsRunOn new c.args.self.now) c.match-run_or_restore.result None w.result-is (subst (IsRunOn new) c.self.view_is (grown-goes_on s new (w.in-Ok-None.ensures.kept, w.in-Ok-None.ensures.same.clauses, w.in-Ok-None.ensures.grows)))
       | in-Err w ↦ IfOk-from_is_err (λ o. IsRunOn new c.args.self.now) c.match-run_or_restore.result w.in-Err.error w.result-is
     ]
@@ -28,7 +28,7 @@ returns-clause-open c =
     let s : State = c.self.inside.state in
     let new : State = c.run_or_restore.new.state in
     elim c.match-run_or_restore.branch [
-      | in-Ok-Some w ↦ IfOk-from_ok _ c.match-run_or_restore.result (Some (w.in-Ok-Some.index + 1)) w.result-is tt
+      | in-Ok-Some+else-prove w ↦ IfOk-from_ok _ c.match-run_or_restore.result (Some (w.in-Ok-Some.index + 1)) w.result-is tt
       | in-Ok-None w ↦ IfOk-from_ok _ c.match-run_or_restore.result None w.result-is (opens-under new (subst (λ (o : Option ℕ). IfNone o (AllByRecursion (IsOpen new.trail.entries.items) new.clauses)) w.in-Ok-None.field-0-is w.in-Ok-None.ensures.«open»))
       | in-Err w ↦ IfOk-from_is_err _ c.match-run_or_restore.result w.in-Err.error w.result-is
     ]
@@ -37,7 +37,7 @@ pub returns-clause-conflict : goal.returns-clause-conflict
 returns-clause-conflict c =
     let new : State = c.run_or_restore.new.state in
     elim c.match-run_or_restore.branch [
-      | in-Ok-Some w ↦ IfOk-from_ok _ c.match-run_or_restore.result (Some (w.in-Ok-Some.index + 1)) w.result-is (false-number new w.in-Ok-Some.index (w.in-Ok-Some.index + 1) refl (subst (λ (o : Option ℕ). IfSome o (IsFalseAt new.clauses new.trail.entries.items)) w.in-Ok-Some.field-0-is w.in-Ok-Some.ensures.conflict))
+      | in-Ok-Some+else-prove w ↦ IfOk-from_ok _ c.match-run_or_restore.result (Some (w.in-Ok-Some.index + 1)) w.result-is (false-number new w.in-Ok-Some.index (w.in-Ok-Some.index + 1) refl (subst (λ (o : Option ℕ). IfSome o (IsFalseAt new.clauses new.trail.entries.items)) w.in-Ok-Some.field-0-is w.in-Ok-Some.ensures.conflict))
       | in-Ok-None w ↦ IfOk-from_ok _ c.match-run_or_restore.result None w.result-is tt
       | in-Err w ↦ IfOk-from_is_err _ c.match-run_or_restore.result w.in-Err.error w.result-is
     ]
@@ -51,7 +51,7 @@ returns-clause-exact c =
     let s : State = c.self.inside.state in
     let new : State = c.run_or_restore.new.state in
     elim c.match-run_or_restore.branch [
-      | in-Ok-Some w ↦ IfOk-from_ok (IsExactly c.args.self.now) c.match-run_or_restore.result (Some (w.in-Ok-Some.index + 1)) w.result-is (
+      | in-Ok-Some+else-prove w ↦ IfOk-from_ok (IsExactly c.args.self.now) c.match-run_or_restore.result (Some (w.in-Ok-Some.index + 1)) w.result-is (
         λ yes. subst (λ (v : SolverView). LeadsToConflict v.clauses (trues v)) c.self.view_is (grown-conflict s new w.in-Ok-Some.index (w.in-Ok-Some.ensures.kept, w.in-Ok-Some.ensures.same.clauses, w.in-Ok-Some.ensures.grows)
             (subst (λ (o : Option ℕ). IfSome o (IsFalseAt new.clauses new.trail.entries.items)) w.in-Ok-Some.field-0-is w.in-Ok-Some.ensures.conflict)),
         λ leads. refl,
