@@ -2,6 +2,7 @@ pub mod Answers
 pub mod Trails
 pub mod Learning
 pub mod Watching
+pub mod Chains
 pub mod Solvers
 pub mod States
 pub mod Searches
