@@ -157,7 +157,7 @@ given_count-cut count learnt rows place bound is cut low high =
     let whole : bound - 0 ≡ bound = omega arith in
     let first : spread 0 bound (take place learnt) (take place rows) ≡ take bound (spread 0 count learnt rows) = spread-cut 0 count learnt rows place bound is cut (omega arith) high ∙ ap (λ (n : ℕ). take n (spread 0 count learnt rows)) whole in
     let size : length (take place learnt) ≡ place = length-take-le place learnt cut.within in
-    let count : given_count (spread 0 bound (take place learnt) (take place rows)) + length (take place learnt) ≡ bound - 0 = spread-given 0 bound (take place learnt) (take place rows) (learnt-cut 0 count learnt rows place bound is cut (omega arith)) in
+    let few : given_count (spread 0 bound (take place learnt) (take place rows)) + length (take place learnt) ≡ bound - 0 = spread-given 0 bound (take place learnt) (take place rows) (learnt-cut 0 count learnt rows place bound is cut (omega arith)) in
     omega (arith, ap given_count first)
 
 -- ---- one that is read

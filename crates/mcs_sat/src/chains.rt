@@ -28,7 +28,7 @@ impl Model for Chains {
     ghost invariant = { λ c. (c.count < 2 ^ 64) × AreLearnt 0 c.count c.learnt.items c.rows };
 }
 
-/// How many of the indices come before the one.
+/// How many of the indices, which ascend, come before the one.
 fn before(indices: &[usize], index: usize) -> usize
     requires { AreSpaced indices.now }
     ensures { IsCut indices.now result index }
@@ -39,7 +39,7 @@ fn before(indices: &[usize], index: usize) -> usize
     }
 }
 
-/// How many of the learnt clauses come before the clause that was given after so many others.
+/// How many of the learnt clauses, whose indices ascend, come before the clause that was given after so many others.
 fn before_given(learnt: &[usize], number: usize) -> usize
     requires { AreSpaced learnt.now }
     ensures { IsCut learnt.now result (number + result) }
@@ -76,7 +76,7 @@ impl Chains {
         self.count
     }
 
-    /// Of how many clauses that were given.
+    /// How many of the clauses were given.
     pub fn given(&self) -> usize
         ensures { result ≡ given_count self.now }
     {
