@@ -19,6 +19,7 @@ pub mod SearchLemmas
 pub mod BackLemmas
 pub mod Keeping
 pub mod StoreLemmas
+pub mod ChainLemmas
 pub mod CutLemmas
 pub mod FollowLemmas
 pub mod NumberingLemmas

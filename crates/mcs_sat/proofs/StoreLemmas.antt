@@ -1,17 +1,13 @@
 -- The clauses that were given among those that were learnt, and what a state that comes later has in common with the one before.
-use Rattle.std.proofs.Common.{◌≡◌, ◌≢◌, ℕ, ◌+◌, ◌<◌, ◌≤◌, zero, suc, List, [], ◌∷◌, ◌++◌, inl, inr, refl, sym, ap, ◌∙◌, subst, arith, ℤ, unsigned_abs, length, length-append, map, take, drop, Some, slice_get}
+use Rattle.std.proofs.Common.{◌≡◌, ◌≢◌, ℕ, ◌+◌, ◌<◌, ◌≤◌, zero, suc, List, [], ◌∷◌, ◌++◌, refl, sym, ap, ◌∙◌, subst, arith, ℤ, unsigned_abs, length, map, take, Some, slice_get}
 use Rattle.std.specs.List.{AllByRecursion}
-use Rattle.std.proofs.lemmas.List.{append-nil, append_assoc, length-take-le, length_push, map-append, take-append-drop, take-append-le, take-take}
-use Rattle.std.proofs.Math.Seq.{take-append_seam}
-use Rattle.std.proofs.lemmas.Bool.{cases_lt}
-use Rattle.std.proofs.lemmas.Option.{slice_get_within}
+use Rattle.std.proofs.lemmas.List.{append-nil, append_assoc, map-append}
 use Rattle.mcs_base.proofs.Each.{all_append, all_both, all_push, all_weaker}
-use Rattle.mcs_base.proofs.Lists.{slice_get_push_at, slice_get_take}
 use Rattle.mcs_trace.specs.Clauses.{ClauseList, IsClause, IsClauseList, IsWithin}
 use Rattle.mcs_trace.specs.Traces.{Inference, IsChainResolvent}
 use Rattle.mcs_sat.specs.declared.state.State.{State}
 use Rattle.mcs_sat.specs.States.{IsState, SameClauses}
-use Rattle.mcs_sat.specs.Stores.{ArePlaces, IsBase, IsLater, given, given_count, list_of}
+use Rattle.mcs_sat.specs.Stores.{IsBase, IsLater, given, given_count, list_of}
 use Rattle.mcs_sat.specs.Trails.{AreCovered}
 
 -- ---- what comes later
@@ -120,26 +116,16 @@ later-given old new is later =
     ∙ given-append old.clauses (map (λ (i : Inference). i.clause) later.more) old.chains (map (λ (i : Inference). i.chain) later.more) is.chains.sized
     ∙ ap (λ (xs : List (List ℤ)). given old.clauses old.chains ++ xs) (given-learnt later.more later.learnt) ∙ append-nil (given old.clauses old.chains)
 
-places-more : (chains added : List (List ℕ)) (places : List ℕ) → given_count added ≡ 0 → ArePlaces chains places → ArePlaces (chains ++ added) places
-places-more chains added places none is = record {
-  count = is.count ∙ sym (given_count-append chains added ∙ omega arith);
-  here = λ j i at. let (less, n) = is.here j i at in (omega (arith, length-append chains added), ap given_count (take-append-le i chains added (omega arith)) ∙ n);
-}
-
-pub later-places : (old new : State) (places : List ℕ) → IsLater old new → ArePlaces old.chains places → ArePlaces new.chains places
-later-places old new places later is = subst (λ (xs : List (List ℕ)). ArePlaces xs places) (sym later.chains) (places-more old.chains (map (λ (i : Inference). i.chain) later.more) places (given_count-learnt later.more later.learnt) is)
-
 pub later-count : (old new : State) → IsLater old new → given_count new.chains ≡ given_count old.chains
 later-count old new later = ap given_count later.chains ∙ given_count-append old.chains (map (λ (i : Inference). i.chain) later.more) ∙ omega (arith, given_count-learnt later.more later.learnt)
 
 -- ---- one list of clauses for many searches
-pub base-later : (old new : State) (places : List ℕ) (vars : ℕ) → IsBase old places vars → IsLater old new → new.levels.items ≡ [] → IsBase new places vars
-base-later old new places vars is later base = record {
+pub base-later : (old new : State) (vars : ℕ) → IsBase old vars → IsLater old new → new.levels.items ≡ [] → IsBase new vars
+base-later old new vars is later base = record {
   state = later.state;
   base = base;
   room = (let r = is.room in omega (arith, later.positions));
   within = subst (AllByRecursion (IsWithin vars)) (sym (later-given old new is.state later)) is.within;
-  here = later-places old new places later is.here;
 }
 
 pub base-list : (old new : State) (vars : ℕ) → IsState old → IsLater old new → list_of new vars ≡ list_of old vars
@@ -152,70 +138,40 @@ given-push known chains c size = given-append known (c ∷ []) chains ([] ∷ []
 pub added-list : (old new : State) (c : List ℤ) → IsState old → new.clauses ≡ old.clauses ++ c ∷ [] → new.chains ≡ old.chains ++ [] ∷ [] → given new.clauses new.chains ≡ given old.clauses old.chains ++ c ∷ []
 added-list old new c is clauses chains = ap (λ (cs : List (List ℤ)). given cs new.chains) clauses ∙ ap (given (old.clauses ++ c ∷ [])) chains ∙ given-push old.clauses old.chains c is.chains.sized
 
-pub base-added : (old new : State) (places : List ℕ) (vars : ℕ) (c : List ℤ) → IsBase old places vars → IsState new → new.levels.items ≡ [] → length new.trail.positions.items ≡ length old.trail.positions.items → new.clauses ≡ old.clauses ++ c ∷ [] → new.chains ≡ old.chains ++ [] ∷ [] → IsWithin vars c → IsBase new (places ++ length old.clauses ∷ []) vars
-base-added old new places vars c is kept base positions clauses chains within = record {
+pub base-added : (old new : State) (vars : ℕ) (c : List ℤ) → IsBase old vars → IsState new → new.levels.items ≡ [] → length new.trail.positions.items ≡ length old.trail.positions.items → new.clauses ≡ old.clauses ++ c ∷ [] → new.chains ≡ old.chains ++ [] ∷ [] → IsWithin vars c → IsBase new vars
+base-added old new vars c is kept base positions clauses chains within = record {
   state = kept;
   base = base;
   room = (let r = is.room in omega (arith, positions));
   within = subst (AllByRecursion (IsWithin vars)) (sym (added-list old new c is.state clauses chains)) (all_push (IsWithin vars) (given old.clauses old.chains) c is.within within);
-  here = subst (λ (ms : List (List ℕ)). ArePlaces ms (places ++ length old.clauses ∷ [])) (sym chains) (record {
-    count = omega (arith, length_push places (length old.clauses), is.here.count, given_count-append old.chains ([] ∷ []));
-    here = λ j i at. elim (slice_get_push_at places (length old.clauses) j i at) [
-      | inl before ↦ let (less, n) = is.here.here j i before in (omega (arith, length_push old.chains []), ap given_count (take-append-le i old.chains ([] ∷ []) (omega arith)) ∙ n)
-      | inr (last, same) ↦
-          let whole : i ≡ length old.chains = omega (arith, is.state.chains.sized) in
-          (omega (arith, length_push old.chains []), ap (λ (n : ℕ). given_count (take n (old.chains ++ [] ∷ []))) whole ∙ ap given_count (take-append_seam old.chains ([] ∷ [])) ∙ sym is.here.count ∙ sym last)
-    ];
-  });
 }
 
 -- clauses are taken off
-pub cut-list : (old new : State) (places : List ℕ) (count i : ℕ) → IsState old → ArePlaces old.chains places → slice_get places count ≡ Some i → new.clauses ≡ take i old.clauses → new.chains ≡ take i old.chains → given new.clauses new.chains ≡ take count (given old.clauses old.chains)
-cut-list old new places count i is here at clauses chains =
+pub cut-list : (old new : State) (count i : ℕ) → IsState old → given_count (take i old.chains) ≡ count → new.clauses ≡ take i old.clauses → new.chains ≡ take i old.chains → given new.clauses new.chains ≡ take count (given old.clauses old.chains)
+cut-list old new count i is number clauses chains =
     ap (λ (cs : List (List ℤ)). given cs new.chains) clauses ∙ ap (given (take i old.clauses)) chains ∙ given-take i old.clauses old.chains is.chains.sized
-    ∙ ap (λ (n : ℕ). take n (given old.clauses old.chains)) (here.here count i at).1
-
-given_count-longer : (m n : ℕ) (chains : List (List ℕ)) → m ≤ n → given_count (take m chains) ≤ given_count (take n chains)
-given_count-longer m n chains order =
-    omega (arith, ap given_count (take-take m n chains order), ap given_count (take-append-drop m (take n chains)), given_count-append (take m (take n chains)) (drop m (take n chains)))
-
-pub cut-places : (chains new : List (List ℕ)) (places : List ℕ) (count i : ℕ) → ArePlaces chains places → slice_get places count ≡ Some i → new ≡ take i chains → ArePlaces new (take count places)
-cut-places chains new places count i is at cut =
-    let (low, number) = is.here count i at in
-    let few = slice_get_within places count i at in
-    subst (λ (ms : List (List ℕ)). ArePlaces ms (take count places)) (sym cut) (record {
-      count = length-take-le count places (omega arith) ∙ sym number;
-      here = λ j k at'.
-          let (below, at'') = slice_get_take count places j k at' in
-          let (low', number') = is.here j k at'' in
-          let earlier : k < i = elim (cases_lt k i) [
-            | inl before ↦ before
-            | inr not ↦ absurd (let more = given_count-longer i k chains not in omega arith)
-          ] in
-          (omega (arith, length-take-le i chains (omega arith)), ap given_count (take-take k i chains (omega arith)) ∙ number');
-    })
+    ∙ ap (λ (n : ℕ). take n (given old.clauses old.chains)) number
 
 -- other variables
-pub base-vars : (s : State) (places : List ℕ) (vars less : ℕ) → IsBase s places vars → less < length s.trail.positions.items → AllByRecursion (IsWithin less) (given s.clauses s.chains) → IsBase s places less
-base-vars s places vars less is room within = record { state = is.state; base = is.base; room = room; within = within; here = is.here }
+pub base-vars : (s : State) (vars less : ℕ) → IsBase s vars → less < length s.trail.positions.items → AllByRecursion (IsWithin less) (given s.clauses s.chains) → IsBase s less
+base-vars s vars less is room within = record { state = is.state; base = is.base; room = room; within = within }
 
 pub within-more : (vars more : ℕ) (cs : List (List ℤ)) → vars ≤ more → AllByRecursion (IsWithin vars) cs → AllByRecursion (IsWithin more) cs
 within-more vars more cs order all = all_weaker (IsWithin vars) (IsWithin more) (λ c within. all_weaker (λ (l : ℤ). unsigned_abs l ≤ vars) (λ (l : ℤ). unsigned_abs l ≤ more) (λ l low. omega arith) c within) cs all
 
-pub base-widened : (old new : State) (places : List ℕ) (vars : ℕ) → IsBase old places vars → IsState new → new.levels.items ≡ old.levels.items → new.clauses ≡ old.clauses → new.chains ≡ old.chains → length old.trail.positions.items ≤ length new.trail.positions.items → IsBase new places vars
-base-widened old new places vars is kept levels clauses chains positions = record {
+pub base-widened : (old new : State) (vars : ℕ) → IsBase old vars → IsState new → new.levels.items ≡ old.levels.items → new.clauses ≡ old.clauses → new.chains ≡ old.chains → length old.trail.positions.items ≤ length new.trail.positions.items → IsBase new vars
+base-widened old new vars is kept levels clauses chains positions = record {
   state = kept;
   base = levels ∙ is.base;
   room = (let r = is.room in omega arith);
   within = subst (λ (cs : List (List ℤ)). AllByRecursion (IsWithin vars) (given cs new.chains)) (sym clauses) (subst (λ (ms : List (List ℕ)). AllByRecursion (IsWithin vars) (given old.clauses ms)) (sym chains) is.within);
-  here = subst (λ (ms : List (List ℕ)). ArePlaces ms places) (sym chains) is.here;
 }
 
-pub base-clauses : (s : State) (places : List ℕ) (vars : ℕ) → IsBase s places vars → IsClauseList (list_of s vars)
-base-clauses s places vars is = ((let r = is.room in let f = is.state.fits in omega arith), all_both IsClause (IsWithin vars) (given s.clauses s.chains) (given-all IsClause s.clauses s.chains is.state.trail.clauses) is.within)
+pub base-clauses : (s : State) (vars : ℕ) → IsBase s vars → IsClauseList (list_of s vars)
+base-clauses s vars is = ((let r = is.room in let f = is.state.fits in omega arith), all_both IsClause (IsWithin vars) (given s.clauses s.chains) (given-all IsClause s.clauses s.chains is.state.trail.clauses) is.within)
 
-pub base-count : (s : State) (places : List ℕ) (vars : ℕ) → IsBase s places vars → length places ≡ length (given s.clauses s.chains)
-base-count s places vars is = is.here.count ∙ sym (length-given s.clauses s.chains is.state.chains.sized)
+pub base-count : (s : State) (vars : ℕ) → IsBase s vars → given_count s.chains ≡ length (given s.clauses s.chains)
+base-count s vars is = sym (length-given s.clauses s.chains is.state.chains.sized)
 
 -- a clause within the variables has places for them
 pub covered-within : (vars : ℕ) (ps : List ℕ) (c : List ℤ) → vars < length ps → IsWithin vars c → AreCovered ps c

@@ -3,6 +3,7 @@ pub mod Trails
 pub mod Learning
 pub mod Pairs
 pub mod Watching
+pub mod Chains
 pub mod Solvers
 pub mod States
 pub mod Searches

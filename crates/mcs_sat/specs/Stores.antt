@@ -1,5 +1,5 @@
 -- One store of clauses: those that were given and, between them, those that were learnt from earlier ones. A clause that was given has no chain.
-use Rattle.std.specs.Prelude.{◌≡◌, ◌≢◌, ℕ, ◌+◌, ◌<◌, List, [], ◌∷◌, ◌++◌, ℤ, length, map, take, Some, slice_get}
+use Rattle.std.specs.Prelude.{◌≡◌, ◌≢◌, ℕ, ◌+◌, ◌<◌, List, [], ◌∷◌, ◌++◌, ℤ, length, map}
 use Rattle.std.specs.List.{AllByRecursion}
 use Rattle.mcs_trace.specs.Clauses.{ClauseList, IsWithin}
 use Rattle.mcs_trace.specs.Traces.{Inference}
@@ -19,11 +19,6 @@ given_count [] = 0
 given_count ([] ∷ chains) = 1 + given_count chains
 given_count ((n ∷ ns) ∷ chains) = given_count chains
 
--- where each clause that was given stands in the store
-pub record ArePlaces (chains : List (List ℕ)) (places : List ℕ) : Type 0 where
-  pub count : length places ≡ given_count chains
-  pub here : (j i : ℕ) → slice_get places j ≡ Some i → (i < length chains) × (given_count (take i chains) ≡ j)
-
 -- a state that the one has led to: clauses were learnt, and none was given
 pub record IsLater (old new : State) : Type 0 where
   pub state : IsState new
@@ -34,12 +29,11 @@ pub record IsLater (old new : State) : Type 0 where
   pub learnt : AllByRecursion (λ (i : Inference). i.chain ≢ []) more
 
 -- clauses over the variables 1 to `vars` as they are given, where nothing is decided
-pub record IsBase (s : State) (places : List ℕ) (vars : ℕ) : Type 0 where
+pub record IsBase (s : State) (vars : ℕ) : Type 0 where
   pub state : IsState s
   pub base : s.levels.items ≡ []
   pub room : vars < length s.trail.positions.items
   pub within : AllByRecursion (IsWithin vars) (given s.clauses s.chains)
-  pub here : ArePlaces s.chains places
 
 abbrev pub list_of : State → ℕ → ClauseList
 list_of s vars = record { vars = vars; clauses = given s.clauses s.chains }

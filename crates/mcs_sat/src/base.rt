@@ -5,7 +5,7 @@ ghost use Rattle.std.specs.List.{AllByRecursion};
 ghost use Rattle.mcs_trace.specs.Clauses.{IsClause, IsClauseList, IsWithin};
 ghost use Rattle.mcs_sat.specs.Answers.{IsAnswer, IsExact, IsSettled};
 ghost use Rattle.mcs_sat.specs.States.{IsState};
-ghost use Rattle.mcs_sat.specs.Stores.{ArePlaces, IsFrontOf, given};
+ghost use Rattle.mcs_sat.specs.Stores.{IsFrontOf, given};
 
 use crate::adding::{add, cut, keep, settle_all, widen};
 use crate::order::Order;
@@ -25,7 +25,6 @@ use std::marker::Model;
 pub struct ClauseBase {
     state: State,
     order: Order,
-    places: Vec<usize>,
     vars: u64,
 }
 
@@ -37,24 +36,21 @@ impl Model for ClauseBase {
 
     ghost view = { λ b. list_of b.state b.vars };
 
-    ghost invariant = { λ b. IsBase b.state b.places.items b.vars };
+    ghost invariant = { λ b. IsBase b.state b.vars };
 }
 
-/// Leaves the first `count` of the clauses that were given, which stand at the places, with what was learnt before the
-/// first one that goes.
-fn leave_first(state: &mut State, order: &mut Order, places: &mut Vec<usize>, count: usize)
+/// Leaves the first `count` of the clauses that were given, with what was learnt before the first one that goes.
+fn leave_first(state: &mut State, order: &mut Order, count: usize)
     requires state { IsState state.old }
     requires base { state.old.levels.items ≡ [] }
-    requires places { ArePlaces state.old.chains places.old.items }
     ensures kept { IsState state.new }
     ensures base { state.new.levels.items ≡ [] }
     ensures positions { state.new.trail.positions.items ≡ state.old.trail.positions.items }
     ensures clauses { given state.new.clauses state.new.chains ≡ take count (given state.old.clauses state.old.chains) }
-    ensures places { ArePlaces state.new.chains places.new.items }
 {
-    if count < places.len() {
-        cut(state, order, places[count]);
-        places.truncate(count);
+    if count < state.chains.given() {
+        let place = state.chains.place_of(count);
+        cut(state, order, place);
     }
 }
 
@@ -85,12 +81,7 @@ impl ClauseBase {
     {
         let order = Order::new(alloc, vars)?;
         match State::new(alloc, vars) {
-            Ok(state) => Ok(ClauseBase {
-                state,
-                order,
-                places: Vec::new(alloc),
-                vars,
-            }),
+            Ok(state) => Ok(ClauseBase { state, order, vars }),
             Err(error) => {
                 drop(order);
                 Err(error)
@@ -124,7 +115,7 @@ impl ClauseBase {
     pub fn count(&self) -> usize
         ensures { result ≡ length self.now.clauses }
     {
-        self.places.len()
+        self.state.chains.given()
     }
 
     /// Adds a variable, which no clause has yet; its number is the next one. Where memory runs out, there are as many as
@@ -147,11 +138,7 @@ impl ClauseBase {
         ensures ok { OnOk result (self.new ≡ record self.old { clauses = self.old.clauses ++ literals.now ∷ [] }) }
         ensures err { OnErr result (self.new ≡ self.old) }
     {
-        self.places.push(self.state.clauses.len())?;
-        if let Err(error) = add(&mut self.state, literals) {
-            self.places.pop();
-            return Err(error);
-        }
+        add(&mut self.state, literals)?;
         Ok(())
     }
 
@@ -215,7 +202,7 @@ impl ClauseBase {
         requires within { AllByRecursion (IsWithin vars) (take count self.old.clauses) }
         ensures { self.new ≡ record { vars = vars; clauses = take count self.old.clauses } }
     {
-        leave_first(&mut self.state, &mut self.order, &mut self.places, count);
+        leave_first(&mut self.state, &mut self.order, count);
         self.vars = vars;
     }
 
@@ -237,7 +224,7 @@ impl ClauseBase {
         ensures answer { IfOk result (IsAnswer self.old) }
         ensures exact { IfOk result (IsExact self.old) }
     {
-        let count = self.places.len();
+        let count = self.state.chains.given();
         let outcome = outcome_of(&mut self.state, &mut self.order, self.vars, count);
         go_back(&mut self.state, &mut self.order);
         outcome

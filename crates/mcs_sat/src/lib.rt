@@ -4,6 +4,7 @@
 mod adding;
 mod analyse;
 mod base;
+mod chains;
 mod examine;
 mod latest;
 mod marks;

@@ -9,6 +9,7 @@ ghost use Rattle.mcs_sat.specs.Watching.{AreKept, ArePair, IsLong, IsPushed};
 ghost use Rattle.mcs_sat.specs.Learning.{IsSingle};
 ghost use Rattle.mcs_sat.specs.States.{IsBack, IsDecided, IsFull, IsLastLevel, IsLearntBack, IsState, IsTurn, IsUnchanged, SameClauses};
 
+use crate::chains::Chains;
 use crate::latest::{Latest, latest_of};
 use crate::trail::Trail;
 use crate::watches::{Pair, Watches};
@@ -46,7 +47,7 @@ pub(crate) const NOTHING: Kept = Kept {
 #[derive(Drop)]
 pub(crate) struct State {
     pub clauses: Rows<i64>,
-    pub chains: Rows<u64>,
+    pub chains: Chains,
     pub trail: Trail,
     pub watches: Watches,
     pub levels: Vec<Reach>,
@@ -66,10 +67,11 @@ impl State {
         ensures levels { IfOk result (λ s. s.levels.items ≡ []) }
         ensures entries { IfOk result (λ s. s.trail.entries.items ≡ []) }
     {
+        let trail = Trail::new(alloc, vars)?;
         Ok(State {
             clauses: Rows::new(alloc),
-            chains: Rows::new(alloc),
-            trail: Trail::new(alloc, vars)?,
+            chains: Chains::new(alloc),
+            trail,
             watches: Watches::new(alloc),
             levels: Vec::new(alloc),
             visited: 0,
@@ -82,7 +84,7 @@ impl State {
 /// Adds the next clause, with its chain, which watches the pair; without one it has fewer than two literals.
 pub(crate) fn push_clause(
     clauses: &mut Rows<i64>,
-    chains: &mut Rows<u64>,
+    chains: &mut Chains,
     watches: &mut Watches,
     literals: &[i64],
     chain: &[u64],

@@ -11,6 +11,7 @@ ghost use Rattle.mcs_sat.specs.Stores.{given, given_count};
 ghost use Rattle.mcs_sat.specs.Trails.{IsFalseAt};
 
 use crate::analyse::analyse;
+use crate::chains::Chains;
 use crate::state::State;
 use mcs_base::{Memory, Rows};
 use mcs_trace::{Clause, Step, Trace};
@@ -31,7 +32,7 @@ fn mark(needed: &mut Vec<bool>, numbers: &[u64])
 }
 
 /// Which clauses the last chain names, or the chain of one that is needed.
-fn needed_for(alloc: Global, chains: &Rows<u64>, last: &[u64]) -> Result<Vec<bool>, Memory>
+fn needed_for(alloc: Global, chains: &Chains, last: &[u64]) -> Result<Vec<bool>, Memory>
     requires chains { NamesAt chains.now }
     requires last { NameBelow (length chains.now) last.now }
     ensures len { IfOk result (λ needed. length needed.items ≡ length chains.now) }
@@ -126,7 +127,7 @@ impl Numbering {
 fn numbering_of(
     alloc: Global,
     clauses: &Rows<i64>,
-    chains: &Rows<u64>,
+    chains: &Chains,
     needed: &[bool],
     count: usize,
 ) -> Result<Numbering, Memory>
@@ -162,7 +163,7 @@ fn numbering_of(
 fn trace_to(
     alloc: Global,
     clauses: &Rows<i64>,
-    chains: &Rows<u64>,
+    chains: &Chains,
     count: usize,
     last: &Step,
 ) -> Result<Trace, Memory>

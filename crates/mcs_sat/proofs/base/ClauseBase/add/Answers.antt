@@ -1,6 +1,5 @@
-use Rattle.std.proofs.Common.{◌≡◌, ◌++◌, ◌∷◌, [], ◌∙◌, ℕ, ℤ, List, ap, length, subst, sym}
+use Rattle.std.proofs.Common.{◌++◌, ◌∷◌, [], ◌∙◌, ℤ, List, ap, subst, sym}
 use Rattle.mcs_trace.specs.Clauses.{ClauseList, IsWithin}
-use Rattle.mcs_sat.specs.Stores.{IsBase}
 use Rattle.mcs_sat.proofs.StoreLemmas.{added-list, base-added, covered-within}
 use Rattle.mcs_sat.proofs.base.ClauseBase.add.Goals as goal
 
@@ -9,18 +8,16 @@ add-requires-clause-covered c =
     let b = c.self.inside in
     covered-within b.vars b.state.trail.positions.items c.args.literals.now c.self.invariant.room (subst (λ (f : ClauseList). IsWithin f.vars c.args.literals.now) (sym c.self.view_is) c.requires.within)
 
-pub invariant_of-self-in_default : goal.invariant_of-self-in_default
-invariant_of-self-in_default c =
+pub invariant_of-self-2 : goal.invariant_of-self-2
+invariant_of-self-2 c =
     let b = c.self.inside in
-    let e = c.in_default.ensures in
-    let places : c.push.new.self.items ≡ b.places.items ++ length b.state.clauses ∷ [] = c.in_ok-push.ensures.items ∙ ap (λ (n : ℕ). b.places.items ++ n ∷ []) c.len.ensures in
-    subst (λ (xs : List ℕ). IsBase c.add.new.state xs b.vars) (sym places)
-    (base-added b.state c.add.new.state b.places.items b.vars c.args.literals.now c.self.invariant e.kept e.levels e.positions e.clauses e.chains
-    (subst (λ (f : ClauseList). IsWithin f.vars c.args.literals.now) (sym c.self.view_is) c.requires.within))
+    let e = c.in_ok-add.ensures in
+    base-added b.state c.add.new.state b.vars c.args.literals.now c.self.invariant e.kept e.levels e.positions e.clauses e.chains
+    (subst (λ (f : ClauseList). IsWithin f.vars c.args.literals.now) (sym c.self.view_is) c.requires.within)
 
 pub returns-clause-ok : goal.returns-clause-ok
 returns-clause-ok c =
     let b = c.self.inside in
-    let e = c.in_default.ensures in
+    let e = c.in_ok-add.ensures in
     ap (λ (cs : List (List ℤ)). (let f : ClauseList = record { vars = b.vars; clauses = cs } in f)) (added-list b.state c.add.new.state c.args.literals.now c.self.invariant.state e.clauses e.chains)
     ∙ ap (λ (g : ClauseList). (let f : ClauseList = record { vars = g.vars; clauses = g.clauses ++ c.args.literals.now ∷ [] } in f)) c.self.view_is

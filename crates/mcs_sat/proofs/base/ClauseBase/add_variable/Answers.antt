@@ -7,12 +7,12 @@ pub invariant_of-self : goal.invariant_of-self
 invariant_of-self c =
     let b = c.self.inside in
     let e = c.make_room.ensures in
-    base-widened b.state c.make_room.new.state b.places.items b.vars c.self.invariant e.kept e.levels e.clauses e.chains e.longer
+    base-widened b.state c.make_room.new.state b.vars c.self.invariant e.kept e.levels e.clauses e.chains e.longer
 
 pub invariant_of-self-2 : goal.invariant_of-self-2
 invariant_of-self-2 c =
     let b = c.self.inside in
     let e = c.make_room.ensures in
     let s = c.make_room.new.state in
-    let base = base-widened b.state s b.places.items b.vars c.self.invariant e.kept e.levels e.clauses e.chains e.longer in
-    base-vars s b.places.items b.vars (b.vars + 1) base c.in_ok-make_room.ensures.room (within-more b.vars (b.vars + 1) (given s.clauses s.chains) (omega arith) base.within)
+    let base = base-widened b.state s b.vars c.self.invariant e.kept e.levels e.clauses e.chains e.longer in
+    base-vars s b.vars (b.vars + 1) base c.in_ok-make_room.ensures.room (within-more b.vars (b.vars + 1) (given s.clauses s.chains) (omega arith) base.within)

@@ -15,7 +15,6 @@ invariant_of-self c =
       base = e.base;
       room = (let r = c.self.invariant.room in omega (arith, ap length e.positions));
       within = subst (AllByRecursion (IsWithin c.args.vars)) (sym e.clauses) within;
-      here = e.places;
     }
 
 pub returns : goal.returns

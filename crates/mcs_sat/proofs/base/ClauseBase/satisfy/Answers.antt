@@ -5,7 +5,7 @@ use Rattle.mcs_sat.proofs.base.ClauseBase.satisfy.Goals as goal
 pub invariant_of-self : goal.invariant_of-self
 invariant_of-self c =
     let b = c.self.inside in
-    base-later b.state c.go_back.new.state b.places.items b.vars c.self.invariant (later-then b.state c.assignment_of-found.new.state c.go_back.new.state c.assignment_of-found.ensures.later c.go_back.ensures.later) c.go_back.ensures.base
+    base-later b.state c.go_back.new.state b.vars c.self.invariant (later-then b.state c.assignment_of-found.new.state c.go_back.new.state c.assignment_of-found.ensures.later c.go_back.ensures.later) c.go_back.ensures.base
 
 pub returns-clause-same : goal.returns-clause-same
 returns-clause-same c =

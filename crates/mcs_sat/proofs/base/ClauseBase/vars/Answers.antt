@@ -4,4 +4,4 @@ use Rattle.mcs_sat.proofs.StoreLemmas.{base-clauses}
 use Rattle.mcs_sat.proofs.base.ClauseBase.vars.Goals as goal
 
 pub returns-clause-kept : goal.returns-clause-kept
-returns-clause-kept c = let b = c.self.inside in subst IsClauseList c.self.view_is (base-clauses b.state b.places.items b.vars c.self.invariant)
+returns-clause-kept c = let b = c.self.inside in subst IsClauseList c.self.view_is (base-clauses b.state b.vars c.self.invariant)
