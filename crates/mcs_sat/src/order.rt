@@ -46,8 +46,9 @@ fn free_literal(trail: &Trail, variable: usize, value: bool) -> Option<i64>
 }
 
 /// The variables, those that took part in recent conflicts first: a heap of variables, for each variable its place
-/// there, its activity and its last value; and how much activity a conflict adds. That a variable is missing in the
-/// heap, or stands there though it has a value, makes no answer wrong; those past four bytes are missing.
+/// there, its activity and its last value, where it has had one; and how much activity a conflict adds. That a variable
+/// is missing in the heap, or stands there though it has a value, makes no answer wrong; those past four bytes are
+/// missing.
 #[derive(Drop)]
 pub(crate) struct Order {
     heap: Vec<u32>,
@@ -76,8 +77,8 @@ impl Order {
         Ok(Order {
             heap,
             places,
-            activities: vec![in alloc; 0; vars as usize + 1]?,
-            values: vec![in alloc; false; vars as usize + 1]?,
+            activities: Vec::new(alloc),
+            values: Vec::new(alloc),
             gain: 1,
             conflicts: 0,
             limit: FIRST_LIMIT,
@@ -204,7 +205,9 @@ impl Order {
     pub fn release(&mut self, entries: &[Entry]) {
         for entry in entries {
             let variable = entry.literal.unsigned_abs() as usize;
-            if let Some(value) = self.values.get_mut(variable) {
+            if fill(&mut self.values, variable, false).is_ok()
+                && let Some(value) = self.values.get_mut(variable)
+            {
                 *value = entry.literal > 0;
             }
             let _ = self.insert(variable);
@@ -214,8 +217,6 @@ impl Order {
     /// Adds the variable of the number, where it is missing.
     pub fn widen(&mut self, variable: usize) -> Result<(), Memory> {
         fill(&mut self.places, variable, NOWHERE)?;
-        fill(&mut self.activities, variable, 0)?;
-        fill(&mut self.values, variable, false)?;
         self.insert(variable)
     }
 
@@ -237,7 +238,9 @@ impl Order {
     pub fn raise(&mut self, literals: &[i64]) {
         for literal in literals {
             let variable = literal.unsigned_abs() as usize;
-            if let Some(activity) = self.activities.get_mut(variable) {
+            if fill(&mut self.activities, variable, 0).is_ok()
+                && let Some(activity) = self.activities.get_mut(variable)
+            {
                 *activity = activity.saturating_add(self.gain);
             }
             if let Some(place) = self.places.get(variable).copied()
