@@ -70,7 +70,7 @@ impl Parts {
         let fits = fault_of(alloc, text.bytes()) == None;
         text.clear();
         self.push(&mut text, self.most.saturating_add(1))?;
-        Ok(fits && exceeds(alloc, text.bytes(), self.limit, self.tail.as_bytes()))
+        Ok(fits & exceeds(alloc, text.bytes(), self.limit, self.tail.as_bytes()))
     }
 }
 
@@ -153,8 +153,9 @@ const PARTS: [Parts; 9] = [
 pub(crate) fn full_text(alloc: Global, limit: Limit) -> Result<Text, Memory> {
     let mut text = Text::new(alloc);
     for parts in &PARTS {
-        if parts.limit == limit && text.bytes().is_empty() {
+        if parts.limit == limit {
             parts.push(&mut text, parts.most)?;
+            break;
         }
     }
     Ok(text)
@@ -183,7 +184,7 @@ fn is_kept(
     text.push(other.as_bytes())?;
     let offset = text.bytes().len();
     push_all(text, last)?;
-    Ok(fits && has_fault(alloc, text.bytes(), 5, offset, Some(limit)))
+    Ok(fits & has_fault(alloc, text.bytes(), 5, offset, Some(limit)))
 }
 
 /// A formula in 512 parentheses, from the last one that is opened on; and one in 513, from there on.

@@ -12,14 +12,19 @@ fn push_span(text: &mut Text, span: Span) -> Result<(), Memory> {
     text.push(b" ")
 }
 
-/// Whether these are the offsets from and up to which the tokens of the text stand, with a space after each token.
+/// The offsets from and up to which tokens stand, with a space after each token.
+fn told(alloc: Global, spans: &[Span]) -> Result<Text, Memory> {
+    let mut text = Text::new(alloc);
+    for span in spans {
+        push_span(&mut text, *span)?;
+    }
+    Ok(text)
+}
+
+/// Whether the tokens of the text stand from and up to these offsets.
 fn has_tokens(alloc: Global, text: &str, offsets: &str) -> Result<bool, Memory> {
     let spans = token_list(alloc, text.as_bytes())?;
-    let mut told = Text::new(alloc);
-    for span in &spans {
-        push_span(&mut told, *span)?;
-    }
-    Ok(told.bytes() == offsets.as_bytes())
+    Ok(told(alloc, &spans)?.bytes() == offsets.as_bytes())
 }
 
 /// Whether the text of this byte has the token that the byte is, and this is of its kind.
@@ -69,16 +74,24 @@ const SIGNS: [&[u8]; 14] = [
     b"{", b"}", b".", b",", b":", b":-", b"/", b"|", b"&", b"~", b"->", b"<->", b"(", b")",
 ];
 
+/// Whether there are two tokens, the one up to the middle and the other from there up to the end.
+fn are_two(spans: &[Span], middle: usize, end: usize) -> bool {
+    match spans {
+        [one, other] => { (one.from, one.to, other.from, other.to) == (0, middle, middle, end) }
+        _ => false,
+    }
+}
+
 /// Whether the one sign after the other has two tokens, of which the second begins where the first sign ends.
 fn are_two_tokens(alloc: Global, first: &[u8], second: &[u8]) -> Result<bool, Memory> {
     let mut text = Text::new(alloc);
     text.push(first)?;
     text.push(second)?;
+    let spans = token_list(alloc, text.bytes())?;
     // `:->` begins with `:-`, which is the longest sign there.
     let longest = text.bytes() == b":->".as_slice();
-    let (from, to) = (if longest { 2 } else { first.len() }, text.bytes().len());
-    let spans = token_list(alloc, text.bytes())?;
-    Ok(spans.as_slice() == [Span { from: 0, to: from }, Span { from, to }].as_slice())
+    let middle = if longest { 2 } else { first.len() };
+    Ok(are_two(&spans, middle, text.bytes().len()))
 }
 
 /// Whether the sign and each sign after it have two tokens.
