@@ -1,54 +1,69 @@
 //! Runs within a budget of questions.
 
-use crate::runs::{SELF_ATTACK, SOUND, ends};
-use mcs_base::Memory;
-use std::alloc::Global;
-use std::test::Fail;
+use crate::reports::TOLD;
+use crate::runs::{Run, SELF_ATTACK};
 
 /// Two contexts of which each is asked twice.
 const CHOICE: &str =
     "context c1 program {} context c2 program {} bridge r1: c1:a if not c2:b. bridge r2: c2:b if not c1:a.";
 
-const CHOICE_HEADING: &str = "mcs 1: 2 contexts, 2 rules, 2 variables\n";
-
-const CHOICE_LISTING: &str =
-    "mcs 1: 2 contexts, 2 rules, 2 variables\nequilibrium 1: {c1:a} applicable {r1}\nequilibrium 2: {c2:b} applicable {r2}\nconsistent\nend: 2 equilibria, need 4\n";
-
-/// Whether a run within the budget stops after the heading, and notes this line.
-fn is_unfinished(
-    alloc: Global,
-    text: &str,
-    budget: &str,
-    heading: &str,
-    line: &str,
-) -> Result<bool, Memory> {
-    let words = ["equilibria", "f", "--budget", budget];
-    ends(alloc, &words, text.as_bytes(), SOUND, 4, heading, line)
-}
+/// A budget below the need leaves what is listed before its level.
+const RUNS: [Run; 7] = [
+    Run {
+        words: "equilibria f --budget 1",
+        text: SELF_ATTACK,
+        status: 4,
+        written: "mcs 1: 1 contexts, 1 rules, 1 variables\n",
+        noted: "mcs: unfinished at level 0, budget 1\n",
+    },
+    Run {
+        words: "equilibria f --budget 3",
+        text: CHOICE,
+        status: 4,
+        written: "mcs 1: 2 contexts, 2 rules, 2 variables\n",
+        noted: "mcs: unfinished at level 0, budget 3\n",
+    },
+    Run {
+        words: "equilibria f --budget 4",
+        text: CHOICE,
+        status: 0,
+        written: "mcs 1: 2 contexts, 2 rules, 2 variables\nequilibrium 1: {c1:a} applicable {r1}\nequilibrium 2: {c2:b} applicable {r2}\nconsistent\nend: 2 equilibria, need 4\n",
+        noted: "",
+    },
+    Run {
+        words: "solve f --budget 2",
+        text: TOLD,
+        status: 4,
+        written: "mcs 1: 2 contexts, 1 rules, 1 variables\ninconsistent\n",
+        noted: "mcs: unfinished at level 1, budget 2\n",
+    },
+    Run {
+        words: "solve f --budget 3",
+        text: TOLD,
+        status: 0,
+        written: "mcs 1: 2 contexts, 1 rules, 1 variables\ninconsistent\ndiagnosis 1: {-r1} state {c1:a} active {}\nexplanation 1: {-r1 by 1}\nend: 0 equilibria, 1 diagnoses, 1 explanations, need 3\n",
+        noted: "",
+    },
+    Run {
+        words: "solve f --budget 1",
+        text: TOLD,
+        status: 4,
+        written: "mcs 1: 2 contexts, 1 rules, 1 variables\n",
+        noted: "mcs: unfinished at level 0, budget 1\n",
+    },
+    // A system that is made has a need, too.
+    Run {
+        words: "make 0 --budget 2",
+        text: "",
+        status: 4,
+        written: "make 0: 2 contexts, 2 rules, 1 variables\n",
+        noted: "mcs: unfinished at level 0, budget 2\n",
+    },
+];
 
 #[test]
-fn a_budget_below_the_need_leaves_the_heading(rt: HostRuntime) -> Result<(), Fail> {
-    let heading = "mcs 1: 1 contexts, 1 rules, 1 variables\n";
-    let line = "mcs: unfinished at level 0, budget 1\n";
-    assert!(rt; is_unfinished(rt.alloc(), SELF_ATTACK, "1", heading, line)?);
-    let line = "mcs: unfinished at level 0, budget 3\n";
-    assert!(rt; is_unfinished(rt.alloc(), CHOICE, "3", CHOICE_HEADING, line)?);
-    Ok(())
-}
-
-#[test]
-fn a_budget_of_the_need_suffices(rt: HostRuntime) -> Result<(), Fail> {
-    let words = ["equilibria", "f", "--budget", "4"];
-    assert!(rt;
-        ends(
-            rt.alloc(),
-            &words,
-            CHOICE.as_bytes(),
-            SOUND,
-            0,
-            CHOICE_LISTING,
-            ""
-        )?
-    );
-    Ok(())
+fn budgets_suffice_or_leave_what_is_before_their_level(rt: HostRuntime) {
+    for run in &RUNS {
+        assert!(rt; run.ends_so(rt.alloc()) == Ok(true));
+    }
 }

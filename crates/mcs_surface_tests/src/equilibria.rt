@@ -1,49 +1,50 @@
 //! Systems by their texts, and their listings.
 
-use crate::runs::{SELF_ATTACK, SELF_SUPPORT, SELF_SUPPORT_LISTING, is_listed};
-use std::test::Fail;
+use crate::runs::{JOB, Listed, SELF_ATTACK, SELF_SUPPORT, SELF_SUPPORT_LISTING};
 
-const LISTINGS: [(&str, &str); 8] = [
+const LISTINGS: [Listed; 8] = [
     // A context without a model believes everything.
-    (
-        "context c1 classical { p. ~p. }\ncontext c2 classical {}\nbridge r1: c2:x if c1:q.\n",
-        "mcs 1: 2 contexts, 1 rules, 1 variables\nequilibrium 1: {c1:q} applicable {r1}\nconsistent\nend: 1 equilibria, need 2\n",
-    ),
+    Listed {
+        text: "context c1 classical { p. ~p. }\ncontext c2 classical {}\nbridge r1: c2:x if c1:q.\n",
+        listing: "mcs 1: 2 contexts, 1 rules, 1 variables\nequilibrium 1: {c1:q} applicable {r1}\nconsistent\nend: 1 equilibria, need 2\n",
+    },
     // So does one that a rule contradicts.
-    (
-        "context c1 classical { ~p. } context c2 classical {} bridge r: c1:p. bridge s: c2:x if c1:q.",
-        "mcs 1: 2 contexts, 2 rules, 1 variables\nequilibrium 1: {c1:q} applicable {r, s}\nconsistent\nend: 1 equilibria, need 2\n",
-    ),
-    (SELF_SUPPORT, SELF_SUPPORT_LISTING),
-    (
-        SELF_ATTACK,
-        "mcs 1: 1 contexts, 1 rules, 1 variables\ninconsistent\nend: 0 equilibria, need 2\n",
-    ),
-    (
-        "",
-        "mcs 1: 0 contexts, 0 rules, 0 variables\nequilibrium 1: {} applicable {}\nconsistent\nend: 1 equilibria, need 0\n",
-    ),
+    Listed {
+        text: "context c1 classical { ~p. } context c2 classical {} bridge r: c1:p. bridge s: c2:x if c1:q.",
+        listing: "mcs 1: 2 contexts, 2 rules, 1 variables\nequilibrium 1: {c1:q} applicable {r, s}\nconsistent\nend: 1 equilibria, need 2\n",
+    },
+    Listed {
+        text: SELF_SUPPORT,
+        listing: SELF_SUPPORT_LISTING,
+    },
+    Listed {
+        text: SELF_ATTACK,
+        listing: "mcs 1: 1 contexts, 1 rules, 1 variables\ninconsistent\nend: 0 equilibria, need 2\n",
+    },
+    Listed {
+        text: "",
+        listing: "mcs 1: 0 contexts, 0 rules, 0 variables\nequilibrium 1: {} applicable {}\nconsistent\nend: 1 equilibria, need 0\n",
+    },
     // Two rules of which each attacks the other: the state with the first variable comes first.
-    (
-        "context b classical {} context a classical {} bridge s: a:p if not b:q. bridge r: b:q if not a:p.",
-        "mcs 1: 2 contexts, 2 rules, 2 variables\nequilibrium 1: {b:q} applicable {r}\nequilibrium 2: {a:p} applicable {s}\nconsistent\nend: 2 equilibria, need 4\n",
-    ),
+    Listed {
+        text: "context b classical {} context a classical {} bridge s: a:p if not b:q. bridge r: b:q if not a:p.",
+        listing: "mcs 1: 2 contexts, 2 rules, 2 variables\nequilibrium 1: {b:q} applicable {r}\nequilibrium 2: {a:p} applicable {s}\nconsistent\nend: 2 equilibria, need 4\n",
+    },
     // Formulas, and a belief that is one.
-    (
-        "context c1 classical { p. p -> q. } bridge r: c1:s if c1:(p & q), not c1:~p.",
-        "mcs 1: 1 contexts, 1 rules, 2 variables\nequilibrium 1: {c1:(p & q)} applicable {r}\nconsistent\nend: 1 equilibria, need 2\n",
-    ),
+    Listed {
+        text: "context c1 classical { p. p -> q. } bridge r: c1:s if c1:(p & q), not c1:~p.",
+        listing: "mcs 1: 1 contexts, 1 rules, 2 variables\nequilibrium 1: {c1:(p & q)} applicable {r}\nconsistent\nend: 1 equilibria, need 2\n",
+    },
     // What is fixed is believed together, in the order of the contexts.
-    (
-        "context b classical { q. } context a classical { p. } bridge r: a:x if a:p, b:q. bridge s: b:y.",
-        "mcs 1: 2 contexts, 2 rules, 2 variables\nequilibrium 1: {b:q, a:p} applicable {r, s}\nconsistent\nend: 1 equilibria, need 3\n",
-    ),
+    Listed {
+        text: "context b classical { q. } context a classical { p. } bridge r: a:x if a:p, b:q. bridge s: b:y.",
+        listing: "mcs 1: 2 contexts, 2 rules, 2 variables\nequilibrium 1: {b:q, a:p} applicable {r, s}\nconsistent\nend: 1 equilibria, need 3\n",
+    },
 ];
 
 #[test]
-fn equilibria_are_listed(rt: HostRuntime) -> Result<(), Fail> {
-    for (text, listing) in &LISTINGS {
-        assert!(rt; is_listed(rt.alloc(), text.as_bytes(), listing)?);
+fn equilibria_are_listed(rt: HostRuntime) {
+    for listed in &LISTINGS {
+        assert!(rt; listed.is_given(rt.alloc(), JOB) == Ok(true));
     }
-    Ok(())
 }

@@ -13,6 +13,8 @@ mod equilibria;
 #[cfg(test)]
 mod kinds;
 #[cfg(test)]
+mod made;
+#[cfg(test)]
 mod makes;
 #[cfg(test)]
 mod refusals;

@@ -1,68 +1,77 @@
 //! Texts that are refused, and what is noted of them.
 
-use crate::runs::{SELF_SUPPORT, SOUND, ends, is_refused, repeated};
-use std::test::Fail;
+use crate::made::Rows;
+use crate::runs::{Run, SELF_SUPPORT, made_ends};
 
-const REFUSALS: [(&str, &str); 5] = [
-    (
-        "context c1 program { a. }\nbridge r1: c1:b if c1:",
-        "mcs: refused: F1 at 48\n",
-    ),
-    (
-        "context c1 program { a. }\nbridge r1: c1:b if c9:a.",
-        "mcs: refused: F2 at 45\n",
-    ),
-    (
-        "context c1 program {}\ncontext c1 program {}",
-        "mcs: refused: F3 at 30\n",
-    ),
-    (
-        "context c1 program {}\nbridge r1: c1:~a.",
-        "mcs: refused: F4 at 36\n",
-    ),
-    (
-        "context c classical { aaaaaaaaaabbbbbbbbbbccccccccccddddddddddeeeeeeeeeeffffffffff12345. }",
-        "mcs: refused: F5 at 22: name_bytes 64\n",
-    ),
+const REFUSALS: [Run; 7] = [
+    Run {
+        words: "equilibria f",
+        text: "context c1 program { a. }\nbridge r1: c1:b if c1:",
+        status: 3,
+        written: "",
+        noted: "mcs: refused: F1 at 48\n",
+    },
+    Run {
+        words: "equilibria f",
+        text: "context c1 program { a. }\nbridge r1: c1:b if c9:a.",
+        status: 3,
+        written: "",
+        noted: "mcs: refused: F2 at 45\n",
+    },
+    Run {
+        words: "equilibria f",
+        text: "context c1 program {}\ncontext c1 program {}",
+        status: 3,
+        written: "",
+        noted: "mcs: refused: F3 at 30\n",
+    },
+    Run {
+        words: "equilibria f",
+        text: "context c1 program {}\nbridge r1: c1:~a.",
+        status: 3,
+        written: "",
+        noted: "mcs: refused: F4 at 36\n",
+    },
+    Run {
+        words: "equilibria f",
+        text: "context c classical { aaaaaaaaaabbbbbbbbbbccccccccccddddddddddeeeeeeeeeeffffffffff12345. }",
+        status: 3,
+        written: "",
+        noted: "mcs: refused: F5 at 22: name_bytes 64\n",
+    },
+    // The file is read before its report, which is not there.
+    Run {
+        words: "check f r",
+        text: "context",
+        status: 3,
+        written: "",
+        noted: "mcs: refused: F1 at 7\n",
+    },
+    Run {
+        words: "check f r",
+        text: SELF_SUPPORT,
+        status: 5,
+        written: "",
+        noted: "mcs: read fault\n",
+    },
 ];
 
 #[test]
-fn texts_are_refused_for_what_is_wrong_with_them(rt: HostRuntime) -> Result<(), Fail> {
-    for (text, line) in &REFUSALS {
-        assert!(rt; is_refused(rt.alloc(), text.as_bytes(), line)?);
+fn texts_are_refused_for_what_is_wrong_with_them(rt: HostRuntime) {
+    for run in &REFUSALS {
+        assert!(rt; run.ends_so(rt.alloc()) == Ok(true));
     }
-    Ok(())
 }
 
-#[test]
-fn a_large_formula_is_refused(rt: HostRuntime) -> Result<(), Fail> {
-    let text = repeated(rt.alloc(), "context c1 classical { ", "~", 512, "p. }")?;
-    assert!(rt;
-        is_refused(
-            rt.alloc(),
-            &text,
-            "mcs: refused: F5 at 535: formula_size 512\n"
-        )?
-    );
-    Ok(())
-}
+/// A formula with 512 signs before its atom.
+const LARGE: [Rows; 3] = [
+    ("context c1 classical { ", 0, 1),
+    ("~", 0, 512),
+    ("p. }", 0, 1),
+];
 
 #[test]
-fn the_file_is_read_before_its_report(rt: HostRuntime) -> Result<(), Fail> {
-    let words = ["check", "f", "r"];
-    let (faulty, line) = ("context", "mcs: refused: F1 at 7\n");
-    assert!(rt; ends(rt.alloc(), &words, faulty.as_bytes(), SOUND, 3, "", line)?);
-    let missing = "mcs: read fault\n";
-    assert!(rt;
-        ends(
-            rt.alloc(),
-            &words,
-            SELF_SUPPORT.as_bytes(),
-            SOUND,
-            5,
-            "",
-            missing
-        )?
-    );
-    Ok(())
+fn a_large_formula_is_refused(rt: HostRuntime) {
+    let noted = "mcs: refused: F5 at 535: formula_size 512\n";
+    assert!(rt; made_ends(rt.alloc(), &LARGE, (3, b"", noted)) == Ok(true));
 }

@@ -1,12 +1,13 @@
 //! Runs over devices in memory.
 
+use crate::made::{Rows, text_of};
 use mcs_base::Memory;
 use mcs_ports::{IdleGate, MemoryShelf, MemorySink};
 use mcs_top::run;
 use std::alloc::Global;
 
 /// The words that ask for the equilibria of the file `f`.
-pub const JOB: [&str; 2] = ["equilibria", "f"];
+pub const JOB: &str = "equilibria f";
 
 /// A system that has two equilibria.
 pub const SELF_SUPPORT: &str = "context c1 classical {} bridge r1: c1:a if c1:a.";
@@ -35,19 +36,31 @@ pub const SOUND: Devices = Devices {
 /// The most bytes that are written.
 const ROOM: usize = 32_768;
 
-fn strings_of(alloc: Global, words: &[&str]) -> Result<Vec<String>, Memory> {
-    let mut strings = Vec::new(alloc);
-    for word in words {
-        strings.push(String::from_str(alloc, word)?)?;
+/// The words of the line, between two of which stands one space. An empty line has none.
+pub fn words_of(alloc: Global, line: &str) -> Result<Vec<String>, Memory> {
+    let mut words = Vec::new(alloc);
+    if line.is_empty() {
+        return Ok(words);
     }
-    Ok(strings)
+    for word in line.split(' ') {
+        words.push(String::from_str(alloc, word)?)?;
+    }
+    Ok(words)
 }
 
-/// A shelf with one file `f`, on which one call fails.
-fn shelf_of(alloc: Global, text: &[u8], failing: u64) -> Result<MemoryShelf, Memory> {
-    let mut files = Vec::new(alloc);
-    files.push((String::from_str(alloc, "f")?, Vec::from_slice(alloc, text)?))?;
-    Ok(MemoryShelf::new(files, [failing].to_vec(alloc)?))
+/// A file of this name.
+fn file_of(alloc: Global, name: &str, bytes: &[u8]) -> Result<(String, Vec<u8>), Memory> {
+    let bytes = Vec::from_slice(alloc, bytes)?;
+    Ok((String::from_str(alloc, name)?, bytes))
+}
+
+/// A shelf with these files, on which one call fails.
+fn shelf_of(alloc: Global, files: &[(&str, &[u8])], failing: u64) -> Result<MemoryShelf, Memory> {
+    let mut kept = Vec::new(alloc);
+    for (name, bytes) in files {
+        kept.push(file_of(alloc, name, bytes)?)?;
+    }
+    Ok(MemoryShelf::new(kept, [failing].to_vec(alloc)?))
 }
 
 /// The sink of these devices.
@@ -56,57 +69,75 @@ pub fn sink_of(alloc: Global, devices: Devices) -> Result<MemorySink, Memory> {
     MemorySink::new(alloc, fails, devices.most.max(1), ROOM)
 }
 
-/// What the words give over a file `f` of this text: the status by its number.
+/// What the words give over these files: the status by its number.
 pub fn status_of(
     alloc: Global,
-    words: &[&str],
-    text: &[u8],
+    words: &str,
+    files: &[(&str, &[u8])],
     failing_call: u64,
     sink: &mut MemorySink,
 ) -> Result<u8, Memory> {
-    let strings = strings_of(alloc, words)?;
-    let mut shelf = shelf_of(alloc, text, failing_call)?;
-    let status = run(alloc, &strings, &mut shelf, sink, &IdleGate);
-    Ok(status.number())
+    let mut shelf = shelf_of(alloc, files, failing_call)?;
+    let words = words_of(alloc, words)?;
+    Ok(run(alloc, &words, &mut shelf, sink, &IdleGate).number())
 }
 
-/// Whether the words end with this status over a file `f` of this text, with this written and this noted.
+/// How a run ends: the status, what is written, and what is noted.
+pub type End<'a> = (u8, &'a [u8], &'a str);
+
+/// Whether the words end so over these files.
 pub fn ends(
     alloc: Global,
-    words: &[&str],
-    text: &[u8],
+    words: &str,
+    files: &[(&str, &[u8])],
     devices: Devices,
-    status: u8,
-    written: &str,
-    noted: &str,
+    (status, written, noted): End<'_>,
 ) -> Result<bool, Memory> {
     let mut sink = sink_of(alloc, devices)?;
-    let ended = status_of(alloc, words, text, devices.failing_call, &mut sink)?;
-    Ok(ended == status && sink.written() == written.as_bytes() && sink.noted() == noted.as_bytes())
+    let ended = status_of(alloc, words, files, devices.failing_call, &mut sink)?;
+    let (is_written, is_noted) = (sink.written() == written, sink.noted() == noted.as_bytes());
+    Ok((ended == status) & is_written & is_noted)
 }
 
-/// Whether this is the whole listing of the system of this text, and nothing is noted.
-pub fn is_listed(alloc: Global, text: &[u8], listing: &str) -> Result<bool, Memory> {
-    ends(alloc, &JOB, text, SOUND, 0, listing, "")
+/// Whether the equilibria of a file of these rows end so.
+pub fn made_ends(alloc: Global, rows: &[Rows], end: End<'_>) -> Result<bool, Memory> {
+    let text = text_of(alloc, rows)?;
+    ends(alloc, JOB, &[("f", text.bytes())], SOUND, end)
 }
 
-/// Whether the text is refused with this line, and nothing is written.
-pub fn is_refused(alloc: Global, text: &[u8], line: &str) -> Result<bool, Memory> {
-    ends(alloc, &JOB, text, SOUND, 3, "", line)
+/// Words over a file `f` of this text, and how the run over devices that fail nowhere ends.
+pub struct Run {
+    pub words: &'static str,
+    pub text: &'static str,
+    pub status: u8,
+    pub written: &'static str,
+    pub noted: &'static str,
 }
 
-/// A front, then a piece so many times, then a back.
-pub fn repeated(
-    alloc: Global,
-    front: &str,
-    piece: &str,
-    times: usize,
-    back: &str,
-) -> Result<Vec<u8>, Memory> {
-    let mut text = Vec::from_slice(alloc, front.as_bytes())?;
-    for _ in 0..times {
-        text.extend_from_slice(piece.as_bytes())?;
+impl Run {
+    /// Whether the run ends so.
+    pub fn ends_so(&self, alloc: Global) -> Result<bool, Memory> {
+        let end = (self.status, self.written.as_bytes(), self.noted);
+        ends(
+            alloc,
+            self.words,
+            &[("f", self.text.as_bytes())],
+            SOUND,
+            end,
+        )
     }
-    text.extend_from_slice(back.as_bytes())?;
-    Ok(text)
+}
+
+/// The text of a system, and its whole listing.
+pub struct Listed {
+    pub text: &'static str,
+    pub listing: &'static str,
+}
+
+impl Listed {
+    /// Whether the words give this listing, and nothing is noted.
+    pub fn is_given(&self, alloc: Global, words: &str) -> Result<bool, Memory> {
+        let end = (0, self.listing.as_bytes(), "");
+        ends(alloc, words, &[("f", self.text.as_bytes())], SOUND, end)
+    }
 }

@@ -1,45 +1,30 @@
 //! Words of the command line, and the runs that they start.
 
-use crate::runs::{SELF_SUPPORT, SELF_SUPPORT_LISTING, SOUND, ends};
-use std::test::Fail;
+use crate::runs::{End, SELF_SUPPORT, SELF_SUPPORT_LISTING, SOUND, ends};
+use mcs_base::Memory;
+use std::alloc::Global;
 
-const NO_JOBS: [&[&str]; 13] = [
-    &[],
-    &["equilibria"],
-    &["equilibria", ""],
-    &["equilibria", "-"],
-    &["solve", "f", "--proof", "--proof"],
-    &["check", "f"],
-    &["equilibria", "f", "--workers", "0"],
-    &["equilibria", "f", "--budget", "5", "--budget", "5"],
-    &["equilibria", "f", "f"],
-    &["solution", "f"],
-    &["Equilibria", "f"],
-    &["f", "equilibria"],
-    &["", "f"],
-];
-
-#[test]
-fn words_that_are_no_job_are_told(rt: HostRuntime) -> Result<(), Fail> {
-    let text = SELF_SUPPORT.as_bytes();
-    let line = "mcs: usage: mcs JOB FILE [REPORT] [--budget N] [--workers N] [--proof]\n";
-    for words in &NO_JOBS {
-        assert!(rt; ends(rt.alloc(), words, text, SOUND, 2, "", line)?);
+/// Whether the words of each line end so over a file `f`.
+fn all_end(alloc: Global, lines: &str, end: End<'_>) -> Result<bool, Memory> {
+    for words in lines.split('\n') {
+        if !ends(alloc, words, &[("f", SELF_SUPPORT.as_bytes())], SOUND, end)? {
+            return Ok(false);
+        }
     }
-    Ok(())
+    Ok(true)
 }
 
-const JOBS: [&[&str]; 3] = [
-    &["equilibria", "f", "--budget", "5", "--workers=64"],
-    &["--workers", "007", "equilibria", "f"],
-    &["--", "equilibria", "f"],
-];
+/// Words that ask for no job, at first none at all. Where a line ends or begins with a space, an empty word stands.
+const NO_JOBS: &str =
+    "\nequilibria\nequilibria \nequilibria -\nsolve f --proof --proof\ncheck f\nequilibria f --workers 0\nequilibria f --budget 5 --budget 5\nequilibria f f\nsolution f\nEquilibria f\nf equilibria\n f";
+
+/// Words with options, and after two dashes.
+const JOBS: &str =
+    "equilibria f --budget 5 --workers=64\n--workers 007 equilibria f\n-- equilibria f";
 
 #[test]
-fn options_and_words_after_two_dashes_are_taken(rt: HostRuntime) -> Result<(), Fail> {
-    let (text, listing) = (SELF_SUPPORT.as_bytes(), SELF_SUPPORT_LISTING);
-    for words in &JOBS {
-        assert!(rt; ends(rt.alloc(), words, text, SOUND, 0, listing, "")?);
-    }
-    Ok(())
+fn words_start_runs_or_are_told_to_be_no_job(rt: HostRuntime) {
+    let usage = "mcs: usage: mcs JOB FILE [REPORT] [--budget N] [--workers N] [--proof]\n";
+    assert!(rt; all_end(rt.alloc(), NO_JOBS, (2, b"", usage)) == Ok(true));
+    assert!(rt; all_end(rt.alloc(), JOBS, (0, SELF_SUPPORT_LISTING.as_bytes(), "")) == Ok(true));
 }

@@ -1,51 +1,75 @@
 //! Words of the command line, and the job that they ask for.
 
-use mcs_base::Memory;
+use crate::runs::words_of;
+use mcs_base::{Memory, Text};
 use mcs_words::{Job, WordsFault, one_job, read_words};
 use std::alloc::Global;
-use std::test::Fail;
 
-/// The words of the line, between two of which stands one space.
-fn words_of(alloc: Global, line: &str) -> Result<Vec<String>, Memory> {
-    let mut words = Vec::new(alloc);
-    for word in line.split(' ') {
-        words.push(String::from_str(alloc, word)?)?;
-    }
-    Ok(words)
+/// Appends how many questions may be asked, and by how many workers.
+fn push_limits(text: &mut Text, budget: u64, workers: u64) -> Result<(), Memory> {
+    text.push(b", budget ")?;
+    text.push_number(budget)?;
+    text.push(b", workers ")?;
+    text.push_number(workers)
 }
 
-/// The job, in a line.
-fn told(alloc: Global, job: &Job) -> Result<String, Memory> {
+/// Appends the job, in a line.
+fn push_job(text: &mut Text, job: &Job) -> Result<(), Memory> {
     match job {
         Job::Equilibria {
             file,
             budget,
             workers,
-        } => { Ok(format!(in alloc; "equilibria of {file}, budget {budget}, workers {workers}")?) }
+        } => {
+            text.push(b"equilibria of ")?;
+            text.push(file.as_bytes())?;
+            push_limits(text, *budget, *workers as u64)
+        }
         Job::Solve {
             file,
             budget,
             workers,
             proof,
         } => {
-            Ok(format!(in alloc;
-                "solve {file}, budget {budget}, workers {workers}, proof {proof}"
-            )?)
+            text.push(b"solve ")?;
+            text.push(file.as_bytes())?;
+            push_limits(text, *budget, *workers as u64)?;
+            text.push(if *proof {
+                b", proof true".as_slice()
+            } else {
+                b", proof false"
+            })
         }
-        Job::Check { file, report } => { Ok(format!(in alloc; "check {report} on {file}")?) }
+        Job::Check { file, report } => {
+            text.push(b"check ")?;
+            text.push(report.as_bytes())?;
+            text.push(b" on ")?;
+            text.push(file.as_bytes())
+        }
         Job::Make {
             number,
             budget,
             workers,
-        } => { Ok(format!(in alloc; "make {number}, budget {budget}, workers {workers}")?) }
+        } => {
+            text.push(b"make ")?;
+            text.push_number(*number)?;
+            push_limits(text, *budget, *workers as u64)
+        }
     }
+}
+
+/// Whether this line is of the job.
+fn is_told(alloc: Global, job: &Job, wanted: &str) -> Result<bool, Memory> {
+    let mut told = Text::new(alloc);
+    push_job(&mut told, job)?;
+    Ok(told.bytes() == wanted.as_bytes())
 }
 
 /// Whether the words of the line ask for the job that is told so.
 fn asks_for(alloc: Global, line: &str, wanted: &str) -> Result<bool, Memory> {
     let words = words_of(alloc, line)?;
     match read_words(alloc, &words) {
-        Ok(job) => Ok(told(alloc, &job)?.as_str() == wanted),
+        Ok(job) => is_told(alloc, &job, wanted),
         Err(_) => Ok(false),
     }
 }
@@ -75,24 +99,22 @@ make 4294967295 => make 4294967295, budget 100000, workers 1
 make --workers 4 -- 1023 => make 1023, budget 100000, workers 4";
 
 #[test]
-fn words_that_ask_for_a_job(rt: HostRuntime) -> Result<(), Fail> {
+fn words_that_ask_for_a_job(rt: HostRuntime) {
     for row in JOBS.split('\n') {
         let (line, wanted) = row.split_once(" => ").unwrap_or((row, ""));
-        assert!(rt; asks_for(rt.alloc(), line, wanted)?);
-    }
-    Ok(())
-}
-
-/// Whether the words ask for no job.
-fn ask_for_none(alloc: Global, words: &[String]) -> bool {
-    match read_words(alloc, words) {
-        Ok(_) => false,
-        Err(fault) => fault == WordsFault::Usage,
+        assert!(rt; asks_for(rt.alloc(), line, wanted) == Ok(true));
     }
 }
 
-/// Words that ask for no job. Where two spaces stand together, a word is empty.
-const NO_JOBS: &str = "equilibria
+/// Whether the words of the line ask for no job.
+fn asks_for_none(alloc: Global, line: &str) -> Result<bool, Memory> {
+    let words = words_of(alloc, line)?;
+    Ok(read_words(alloc, &words).err() == Some(WordsFault::Usage))
+}
+
+/// Words that ask for no job, at first none at all. Where two spaces stand together, a word is empty.
+const NO_JOBS: &str = "
+equilibria
 equilibria  --budget 5
 equilibria -
 - f
@@ -140,12 +162,9 @@ make 7 r
 make 7 --budget 0";
 
 #[test]
-fn words_that_ask_for_none(rt: HostRuntime) -> Result<(), Fail> {
+fn words_that_ask_for_none(rt: HostRuntime) {
     one_job();
-    assert!(rt; ask_for_none(rt.alloc(), &[]));
     for line in NO_JOBS.split('\n') {
-        let words = words_of(rt.alloc(), line)?;
-        assert!(rt; ask_for_none(rt.alloc(), &words));
+        assert!(rt; asks_for_none(rt.alloc(), line) == Ok(true));
     }
-    Ok(())
 }

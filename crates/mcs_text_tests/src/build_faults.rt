@@ -1,104 +1,92 @@
 //! Contexts and bridge rules that make no system.
 
 use crate::contents::THREE;
-use crate::copies::{bridges_of, contexts_of};
+use crate::copies::built;
 use crate::limits::full_text;
-use mcs_language::read_system;
-use mcs_system::{Bridge, BuildFault, Context, Formula, Kb, Limit, Name, Read, System};
+use mcs_base::Memory;
+use mcs_language::{TextFault, read_system};
+use mcs_system::{Bridge, BuildFault, Context, Formula, Kb, Limit, System};
 use std::alloc::Global;
-use std::test::Fail;
 
-/// The name that the text spells.
-fn name(alloc: Global, text: &str) -> Result<Name, Fail> {
-    Ok(Name::read(alloc, text.as_bytes())?.ok_or("no name")?)
+const TWIN: Option<BuildFault> = Some(BuildFault::Fault {
+    number: 3,
+    limit: None,
+});
+
+/// The fault of all these contexts and bridge rules.
+fn fault_of(alloc: Global, contexts: &[&[Context]], bridges: &[&[Bridge]]) -> Option<BuildFault> {
+    built(alloc, contexts, bridges).err()
 }
 
-/// Classical contexts of so many of the names, between two of which stands one space.
-fn contexts_named(alloc: Global, names: &str, count: usize) -> Result<Vec<Context>, Fail> {
-    let mut contexts = Vec::new(alloc);
-    for text in names.split(' ').take(count) {
-        let name = name(alloc, text)?;
-        let kb = Kb::Classical(Vec::new(alloc));
-        contexts.push(Context { name, kb })?;
-    }
-    Ok(contexts)
+/// Whether twins are found where the second context stands behind all once more, and among more contexts than there may
+/// be.
+fn are_twins_found(alloc: Global, contexts: &[Context]) -> bool {
+    let second = contexts.get(1..2).unwrap_or(&[]);
+    fault_of(alloc, &[contexts], &[]) == None
+        && fault_of(alloc, &[contexts, second], &[]) == TWIN
+        && fault_of(alloc, &[], &[]) == None
+        && fault_of(alloc, &[second; 65], &[]) == TWIN
 }
 
-/// The read of `true` in the context, if there is one.
-fn reads_of(alloc: Global, denied: Option<u32>) -> Result<Vec<Read>, Fail> {
-    let mut reads = Vec::new(alloc);
-    if let Some(context) = denied {
-        reads.push(Read {
-            context,
-            belief: Formula::True,
-        })?;
-    }
-    Ok(reads)
-}
+/// Contexts with three names.
+const NAMED: &[u8] = b"context b classical {} context a classical {} context ab classical {}";
 
-/// Adds a rule that puts the formula into the context, unless `true` is believed in the one that is denied.
-fn push_rule(
-    alloc: Global,
-    rules: &mut Vec<Bridge>,
-    text: &str,
-    (target, head): (u32, Formula),
-    denied: Option<u32>,
-) -> Result<(), Fail> {
-    let neg = reads_of(alloc, denied)?;
-    let name = name(alloc, text)?;
-    rules.push(Bridge {
-        name,
-        target,
-        head,
-        pos: Vec::new(alloc),
-        neg,
-    })?;
-    Ok(())
-}
-
-/// The fault of so many contexts of these names, without rules.
-fn fault_of(alloc: Global, names: &str, count: usize) -> Result<Option<BuildFault>, Fail> {
-    let contexts = contexts_named(alloc, names, count)?;
-    Ok(System::build(alloc, contexts, Vec::new(alloc)).err())
-}
-
-/// The fault of this number, below 5.
-fn fault(number: u8) -> BuildFault {
-    BuildFault::Fault {
-        number,
-        limit: None,
-    }
+fn are_twins_of_named_found(alloc: Global) -> Result<bool, TextFault> {
+    let named = read_system(alloc, NAMED)?;
+    Ok(are_twins_found(alloc, named.contexts()))
 }
 
 #[test]
-fn finds_twins(rt: HostRuntime) -> Result<(), Fail> {
-    assert!(rt; fault_of(rt.alloc(), "b a ab", 3)? == None);
-    assert!(rt; fault_of(rt.alloc(), "b a ab a", 4)? == Some(fault(3)));
-    assert!(rt; fault_of(rt.alloc(), "", 0)? == None);
-    // Of more contexts than there may be, too.
-    assert!(rt; fault_of(rt.alloc(), ONE_NAME, 65)? == Some(fault(3)));
-    Ok(())
+fn finds_twins(rt: HostRuntime) {
+    assert!(rt; are_twins_of_named_found(rt.alloc()) == Ok(true));
 }
 
-/// 65 names, all the same.
-const ONE_NAME: &str =
-    "a a a a a a a a a a a a a a a a a a a a a a a a a a a a a a a a a a a a a a a a a a a a a a a a a a a a a a a a a a a a a a a a a";
-
-/// Whether the contexts of the system exceed the limit with a rule that puts the formula into the first one.
-fn exceeds(alloc: Global, system: &System, limit: Limit, head: Formula) -> Result<bool, Fail> {
+/// Whether the contexts with the rules exceed the limit.
+fn exceed(alloc: Global, contexts: &[Context], rules: &[Bridge], limit: Limit) -> bool {
     let exceeded = BuildFault::Fault {
         number: 5,
         limit: Some(limit),
     };
-    let mut rules = Vec::new(alloc);
-    push_rule(alloc, &mut rules, "r", (0, head), None)?;
-    let contexts = contexts_of(alloc, system)?;
-    Ok(System::build(alloc, contexts, rules).err() == Some(exceeded))
+    fault_of(alloc, &[contexts], &[rules]) == Some(exceeded)
 }
 
-/// The denial of the last formula of the only context.
-fn denial_of_last(alloc: Global, system: &System) -> Result<Formula, Fail> {
-    let last = match system.contexts() {
+/// A rule with another atom than the texts that are full.
+const OTHER_HEAD: &[u8] = b"context c classical {} bridge r: c:b.";
+
+/// Whether 64 atoms are exceeded by the head of a rule with another one.
+fn keeps_limit_of_atoms(alloc: Global, other: &System) -> Result<bool, TextFault> {
+    let text = full_text(alloc, Limit::AtomsPerContext)?;
+    let system = read_system(alloc, text.bytes())?;
+    Ok(exceed(
+        alloc,
+        system.contexts(),
+        other.bridges(),
+        Limit::AtomsPerContext,
+    ))
+}
+
+/// The denial of the formula.
+fn denial(alloc: Global, formula: &Formula) -> Result<Formula, Memory> {
+    let copy = formula.copy(alloc)?;
+    Ok(Formula::Not(Box::new(alloc, copy)?))
+}
+
+/// A rule with the name of the other one, which puts the denial of the formula into the first context.
+fn denying(alloc: Global, other: &Bridge, formula: &Formula) -> Result<Bridge, Memory> {
+    let name = other.name.copy(alloc)?;
+    let head = denial(alloc, formula)?;
+    Ok(Bridge {
+        name,
+        target: 0,
+        head,
+        pos: Vec::new(alloc),
+        neg: Vec::new(alloc),
+    })
+}
+
+/// The last formula of the only context.
+fn last_formula(system: &System) -> Option<&Formula> {
+    match system.contexts() {
         [
             Context {
                 kb: Kb::Classical(formulas),
@@ -106,78 +94,70 @@ fn denial_of_last(alloc: Global, system: &System) -> Result<Formula, Fail> {
             },
         ] => formulas.last(),
         _ => None,
-    };
-    let formula = last.ok_or("no formula")?.copy(alloc)?;
-    Ok(Formula::Not(Box::new(alloc, formula)?))
+    }
 }
 
-/// Whether 64 atoms are exceeded by the head of a rule with another one.
-fn keeps_limit_of_atoms(alloc: Global) -> Result<bool, Fail> {
-    let text = full_text(alloc, Limit::AtomsPerContext)?;
-    let system = read_system(alloc, text.bytes())?;
-    let other = Formula::Atom(name(alloc, "b")?);
-    exceeds(alloc, &system, Limit::AtomsPerContext, other)
+/// Whether the denial of the last formula in the head of a rule exceeds the limit of its signs and atoms.
+fn is_denial_longer(alloc: Global, system: &System, other: &System) -> Result<bool, Memory> {
+    match (last_formula(system), other.bridges().first()) {
+        (Some(formula), Some(rule)) => {
+            let rule = denying(alloc, rule, formula)?;
+            Ok(exceed(alloc, system.contexts(), &[rule], Limit::FormulaSize))
+        }
+        _ => Ok(false),
+    }
 }
 
 /// Whether 512 signs and atoms are exceeded by the head of a rule with one negation more.
-fn keeps_limit_of_signs(alloc: Global) -> Result<bool, Fail> {
+fn keeps_limit_of_signs(alloc: Global, other: &System) -> Result<bool, TextFault> {
     let text = full_text(alloc, Limit::FormulaSize)?;
     let system = read_system(alloc, text.bytes())?;
-    let longer = denial_of_last(alloc, &system)?;
-    exceeds(alloc, &system, Limit::FormulaSize, longer)
+    Ok(is_denial_longer(alloc, &system, other)?)
+}
+
+fn are_limits_of_heads_kept(alloc: Global) -> Result<bool, TextFault> {
+    let other = read_system(alloc, OTHER_HEAD)?;
+    let atoms = keeps_limit_of_atoms(alloc, &other);
+    let signs = keeps_limit_of_signs(alloc, &other);
+    Ok(atoms == Ok(true) && signs == Ok(true))
 }
 
 #[test]
-fn keeps_limits_of_heads(rt: HostRuntime) -> Result<(), Fail> {
-    assert!(rt; keeps_limit_of_atoms(rt.alloc())?);
-    assert!(rt; keeps_limit_of_signs(rt.alloc())?);
-    Ok(())
+fn keeps_limits_of_heads(rt: HostRuntime) {
+    assert!(rt; are_limits_of_heads_kept(rt.alloc()) == Ok(true));
 }
 
-/// The names, targets and denied contexts of rules that have the faults 4, 4, 3, 2 and 2 over `THREE`: what is no atom
-/// for a program as a head and as a read, a name that is there, and a context that is not there, told and read.
-const FAULTY: [(&str, u32, Option<u32>); 5] = [
-    ("r", 2, None),
-    ("s", 0, Some(2)),
-    ("r0", 1, None),
-    ("t", 3, None),
-    ("u", 0, Some(3)),
-];
+/// Rules that have the faults 4, 4, 3, 2 and 2 in the contexts of `THREE`: what is no atom for a program as a head and
+/// as a read, a name that is there, and a context that is not there, told and read.
+const FAULTY: &[u8] =
+    b"context a classical {} context b classical {} context c classical {} context d classical {}
+bridge r: c:true. bridge s: a:true if not c:true. bridge r0: b:true. bridge t: d:true. bridge u: a:true if not d:true.";
 
-/// The rules of a system, and after them those of `FAULTY` from the one place up to the other.
-fn rules_with(alloc: Global, system: &System, from: usize, to: usize) -> Result<Vec<Bridge>, Fail> {
-    let mut rules = bridges_of(alloc, system)?;
-    for (text, target, denied) in FAULTY.iter().take(to).skip(from) {
-        push_rule(alloc, &mut rules, text, (*target, Formula::True), *denied)?;
-    }
-    Ok(rules)
-}
+/// From and up to which of these rules are added to those of `THREE`, and the number of the fault that is told.
+const ADDED: [(usize, usize, u8); 5] = [(0, 1, 4), (1, 2, 4), (0, 3, 3), (0, 4, 2), (4, 5, 2)];
 
-/// The fault of the contexts and rules of a system, and of those of `FAULTY` after them.
-fn fault_with(
-    alloc: Global,
-    system: &System,
-    from: usize,
-    to: usize,
-) -> Result<Option<BuildFault>, Fail> {
-    let rules = rules_with(alloc, system, from, to)?;
-    let contexts = contexts_of(alloc, system)?;
-    Ok(System::build(alloc, contexts, rules).err())
-}
-
-/// Whether the lowest fault is told of the contexts and rules of `THREE` with rules of `FAULTY`.
-fn is_lowest_told(alloc: Global, three: &System) -> Result<bool, Fail> {
-    for (from, to, number) in [(0, 1, 4), (1, 2, 4), (0, 3, 3), (0, 4, 2), (4, 5, 2)] {
-        if fault_with(alloc, three, from, to)? != Some(fault(number)) {
-            return Ok(false);
+/// Whether the lowest fault is told of the contexts and rules of the one system with rules of the other.
+fn is_lowest_told<'s>(alloc: Global, three: &'s System, faulty: &'s System) -> bool {
+    for (from, to, number) in &ADDED {
+        let rules = faulty.bridges().get(*from..*to).unwrap_or(&[]);
+        let fault = BuildFault::Fault {
+            number: *number,
+            limit: None,
+        };
+        if fault_of(alloc, &[three.contexts()], &[three.bridges(), rules]) != Some(fault) {
+            return false;
         }
     }
-    Ok(fault_with(alloc, three, 0, 0)? == None)
+    fault_of(alloc, &[three.contexts()], &[three.bridges()]) == None
+}
+
+fn is_lowest_of_faulty_told(alloc: Global) -> Result<bool, TextFault> {
+    let three = read_system(alloc, THREE)?;
+    let faulty = read_system(alloc, FAULTY)?;
+    Ok(is_lowest_told(alloc, &three, &faulty))
 }
 
 #[test]
-fn tells_lowest_number(rt: HostRuntime) -> Result<(), Fail> {
-    let system = read_system(rt.alloc(), THREE)?;
-    assert!(rt; is_lowest_told(rt.alloc(), &system)?);
-    Ok(())
+fn tells_lowest_number(rt: HostRuntime) {
+    assert!(rt; is_lowest_of_faulty_told(rt.alloc()) == Ok(true));
 }

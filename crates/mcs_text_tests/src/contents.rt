@@ -1,9 +1,9 @@
 //! What a system tells of its contexts and rules.
 
 use mcs_base::{Active, Vars};
-use mcs_language::read_system;
+use mcs_language::{TextFault, read_system};
 use mcs_system::{Formula, Name, Read, System};
-use std::test::Fail;
+use std::alloc::Global;
 
 /// A classical context, a default theory and a program, and rules by which they read each other.
 pub(crate) const THREE: &[u8] =
@@ -13,11 +13,12 @@ bridge r2: rules:y if facts:b, not rules:x. bridge r3: theory:t.";
 
 /// Whether these are the names.
 fn are_named(names: &[Name], texts: &[&str]) -> bool {
+    for (name, text) in names.iter().zip(texts) {
+        if name.bytes() != text.as_bytes() {
+            return false;
+        }
+    }
     names.len() == texts.len()
-        && names
-            .iter()
-            .zip(texts)
-            .all(|(name, text)| name.bytes() == text.as_bytes())
 }
 
 /// Whether the read is of this atom.
@@ -49,11 +50,11 @@ fn is_told(
     inputs: Vars,
     rules: Active,
 ) -> bool {
-    (i as usize) < system.contexts().len()
-        && are_named(system.atoms_of(i), atoms)
-        && system.vars_of(i) == vars
-        && system.inputs_of(i) == inputs
-        && system.rules_of(i) == rules
+    if (i as usize) >= system.contexts().len() {
+        return false;
+    }
+    let told = (system.vars_of(i), system.inputs_of(i), system.rules_of(i));
+    told == (vars, inputs, rules) && are_named(system.atoms_of(i), atoms)
 }
 
 /// Whether these rules into the context apply.
@@ -103,13 +104,21 @@ fn are_applicable(system: &System) -> bool {
         && system.applicable_rules(state.with(1)) == Active::one(0).with(3)
 }
 
+/// Whether the system has three contexts, four rules and five variables, and tells what the text says.
+fn is_three(system: &System) -> bool {
+    system.contexts().len() == 3
+        && system.bridges().len() == 4
+        && are_five(system.variables())
+        && are_told(system)
+        && are_applicable(system)
+}
+
+fn is_three_read(alloc: Global) -> Result<bool, TextFault> {
+    let system = read_system(alloc, THREE)?;
+    Ok(is_three(&system))
+}
+
 #[test]
-fn tells_of_contexts_and_rules(rt: HostRuntime) -> Result<(), Fail> {
-    let system = read_system(rt.alloc(), THREE)?;
-    assert!(rt;
-        system.contexts().len() == 3 && system.bridges().len() == 4 && are_five(system.variables())
-    );
-    assert!(rt; are_told(&system));
-    assert!(rt; are_applicable(&system));
-    Ok(())
+fn tells_of_contexts_and_rules(rt: HostRuntime) {
+    assert!(rt; is_three_read(rt.alloc()) == Ok(true));
 }

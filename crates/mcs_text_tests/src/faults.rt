@@ -4,9 +4,9 @@ use mcs_language::{TextFault, read_system};
 use mcs_system::Limit;
 use std::alloc::Global;
 
-/// Whether the text spells a system.
-pub(crate) fn is_text(alloc: Global, text: &[u8]) -> bool {
-    read_system(alloc, text).is_ok()
+/// The fault of the text, if it spells no system.
+pub(crate) fn fault_of(alloc: Global, text: &[u8]) -> Option<TextFault> {
+    read_system(alloc, text).err()
 }
 
 /// Whether the text has the fault of this number at this offset, with this limit.
@@ -17,15 +17,12 @@ pub(crate) fn has_fault(
     offset: usize,
     limit: Option<Limit>,
 ) -> bool {
-    match read_system(alloc, text) {
-        Ok(_) => false,
-        Err(fault) => fault
-            == TextFault::Fault {
-                number,
-                offset,
-                limit,
-            },
-    }
+    let fault = TextFault::Fault {
+        number,
+        offset,
+        limit,
+    };
+    fault_of(alloc, text) == Some(fault)
 }
 
 /// Texts, the numbers of their faults, and their offsets: first where something is missing, too much, or begins no
@@ -81,7 +78,7 @@ const FAULTLESS: [&str; 3] = [
 #[test]
 fn texts_without_faults_are_read(rt: HostRuntime) {
     for text in &FAULTLESS {
-        assert!(rt; is_text(rt.alloc(), text.as_bytes()));
+        assert!(rt; fault_of(rt.alloc(), text.as_bytes()) == None);
     }
 }
 
@@ -93,13 +90,11 @@ pub(crate) const EACH_CONSTRUCT: &str =
 /// its end. The text may end at nothing, after each context with the comment and the blanks there, and after the rule.
 /// The fronts that end with the first letters of `not` name a context that is not there.
 fn is_front(alloc: Global, end: usize) -> bool {
-    let Some(front) = EACH_CONSTRUCT.as_bytes().get(..end) else {
-        return false;
-    };
+    let front = EACH_CONSTRUCT.as_bytes().get(..end).unwrap_or(b"?");
     let whole = matches!(end, 0 | 55..=60 | 98 | 99 | 152 | 153 | 190);
-    match read_system(alloc, front) {
-        Ok(_) => whole,
-        Err(
+    match fault_of(alloc, front) {
+        None => whole,
+        Some(
             TextFault::Fault {
                 number,
                 offset,
@@ -113,7 +108,7 @@ fn is_front(alloc: Global, end: usize) -> bool {
                 && offset <= end
                 && offset.saturating_add(9) > end
         }
-        Err(TextFault::Memory) => false,
+        Some(TextFault::Memory) => false,
     }
 }
 

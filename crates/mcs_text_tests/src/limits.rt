@@ -1,26 +1,24 @@
 //! A text keeps each limit, and with one more it exceeds it, where the one begins.
 
-use crate::faults::{has_fault, is_text};
+use crate::faults::{fault_of, has_fault};
 use mcs_base::{Memory, Text};
 use mcs_system::Limit;
 use std::alloc::Global;
-use std::test::Fail;
 
-/// Whether the one text has no fault, and the other exceeds the limit where the tail begins.
-fn is_kept(alloc: Global, limit: Limit, at: &[u8], above: &[u8], tail: &[u8]) -> bool {
-    let offset = above.len().saturating_sub(tail.len());
-    above.ends_with(tail) && is_text(alloc, at) && has_fault(alloc, above, 5, offset, Some(limit))
+/// Whether the text exceeds the limit where the tail begins.
+fn exceeds(alloc: Global, text: &[u8], limit: Limit, tail: &[u8]) -> bool {
+    let offset = text.len().saturating_sub(tail.len());
+    text.ends_with(tail) && has_fault(alloc, text, 5, offset, Some(limit))
 }
 
 /// Appends the row with the number in place of each `#`.
 fn push_row(text: &mut Text, row: &str, number: u64) -> Result<(), Memory> {
-    let mut is_first = true;
-    for part in row.split('#') {
-        if !is_first {
+    for byte in row.as_bytes() {
+        if *byte == b'#' {
             text.push_number(number)?;
+        } else {
+            text.push(&[*byte])?;
         }
-        text.push(part.as_bytes())?;
-        is_first = false;
     }
     Ok(())
 }
@@ -33,8 +31,19 @@ fn push_rows(text: &mut Text, row: &str, first: u64, end: u64) -> Result<(), Mem
     Ok(())
 }
 
-/// A text of a front, a row for each number from 1 up to a count, which stands in place of each `#`, and a back. With
-/// the count `most` it keeps the limit, and with one more it exceeds it where the tail begins.
+/// A row, and from and up to before which number it stands.
+type Rows = (&'static str, u64, u64);
+
+/// Appends all the rows.
+fn push_all(text: &mut Text, all: &[Rows]) -> Result<(), Memory> {
+    for (row, first, end) in all {
+        push_rows(text, row, *first, *end)?;
+    }
+    Ok(())
+}
+
+/// A text of a front, a row for each number from 1 up to a count, and a back. With the count `most` it keeps the limit,
+/// and with one more it exceeds it where the tail begins.
 struct Parts {
     limit: Limit,
     most: u64,
@@ -45,21 +54,23 @@ struct Parts {
 }
 
 impl Parts {
-    /// The text with the rows for the numbers before the end.
-    fn text(&self, alloc: Global, end: u64) -> Result<Text, Memory> {
-        let mut text = Text::new(alloc);
-        text.push(self.front.as_bytes())?;
-        push_rows(&mut text, self.row, 1, end)?;
-        text.push(self.back.as_bytes())?;
-        Ok(text)
+    /// Appends the text with so many rows.
+    fn push(&self, text: &mut Text, count: u64) -> Result<(), Memory> {
+        let end = count.saturating_add(1);
+        push_all(
+            text,
+            &[(self.front, 0, 1), (self.row, 1, end), (self.back, 0, 1)],
+        )
     }
 
     /// Whether it keeps the limit and exceeds it so.
     fn is_kept(&self, alloc: Global) -> Result<bool, Memory> {
-        let at = self.text(alloc, self.most.saturating_add(1))?;
-        let above = self.text(alloc, self.most.saturating_add(2))?;
-        let tail = self.tail.as_bytes();
-        Ok(is_kept(alloc, self.limit, at.bytes(), above.bytes(), tail))
+        let mut text = Text::new(alloc);
+        self.push(&mut text, self.most)?;
+        let fits = fault_of(alloc, text.bytes()) == None;
+        text.clear();
+        self.push(&mut text, self.most.saturating_add(1))?;
+        Ok(fits & exceeds(alloc, text.bytes(), self.limit, self.tail.as_bytes()))
     }
 }
 
@@ -140,54 +151,60 @@ const PARTS: [Parts; 9] = [
 
 /// The first of the texts that keeps the limit.
 pub(crate) fn full_text(alloc: Global, limit: Limit) -> Result<Text, Memory> {
+    let mut text = Text::new(alloc);
     for parts in &PARTS {
         if parts.limit == limit {
-            return parts.text(alloc, parts.most.saturating_add(1));
+            parts.push(&mut text, parts.most)?;
+            break;
         }
     }
-    Ok(Text::new(alloc))
-}
-
-#[test]
-fn limits_of_parts_are_kept(rt: HostRuntime) -> Result<(), Fail> {
-    for parts in &PARTS {
-        assert!(rt; parts.is_kept(rt.alloc())?);
-    }
-    Ok(())
-}
-
-/// Appends a formula in so many parentheses, from the text of its context on.
-fn push_nested(text: &mut Text, front: &[u8], depth: u64, closed: u64) -> Result<(), Memory> {
-    text.push(front)?;
-    push_rows(text, "(", 0, depth)?;
-    text.push(b"p")?;
-    push_rows(text, ")", 0, closed)?;
-    text.push(b". }")
-}
-
-/// That text.
-fn nested(alloc: Global, front: &[u8], depth: u64, closed: u64) -> Result<Text, Memory> {
-    let mut text = Text::new(alloc);
-    push_nested(&mut text, front, depth, closed)?;
     Ok(text)
 }
 
 #[test]
-fn the_limit_of_open_parentheses_is_kept(rt: HostRuntime) -> Result<(), Fail> {
-    let alloc = rt.alloc();
-    let at = nested(alloc, b"context c classical { ", 512, 512)?;
-    let above = nested(alloc, b"context c classical { ", 513, 513)?;
-    let tail = nested(alloc, b"", 1, 513)?;
-    assert!(rt;
-        is_kept(
-            alloc,
-            Limit::OpenParentheses,
-            at.bytes(),
-            above.bytes(),
-            tail.bytes()
-        )
-    );
-    Ok(())
+fn limits_of_parts_are_kept(rt: HostRuntime) {
+    for parts in &PARTS {
+        assert!(rt; parts.is_kept(rt.alloc()) == Ok(true));
+    }
+}
+
+/// Whether the text keeps the limit with the rest behind it, and exceeds it with the other rows, where the last of
+/// them begin.
+fn is_kept(
+    alloc: Global,
+    text: &mut Text,
+    limit: Limit,
+    rest: &[Rows],
+    (other, last): (&str, &[Rows]),
+) -> Result<bool, Memory> {
+    let front = text.bytes().len();
+    push_all(text, rest)?;
+    let fits = fault_of(alloc, text.bytes()) == None;
+    text.cut(front);
+    text.push(other.as_bytes())?;
+    let offset = text.bytes().len();
+    push_all(text, last)?;
+    Ok(fits & has_fault(alloc, text.bytes(), 5, offset, Some(limit)))
+}
+
+/// A formula in 512 parentheses, from the last one that is opened on; and one in 513, from there on.
+const NESTED: [Rows; 3] = [("p", 0, 1), (")", 0, 512), (". }", 0, 1)];
+
+const NESTED_DEEPER: [Rows; 3] = [("(p", 0, 1), (")", 0, 513), (". }", 0, 1)];
+
+fn is_limit_of_parentheses_kept(alloc: Global) -> Result<bool, Memory> {
+    let mut text = Text::new(alloc);
+    push_all(
+        &mut text,
+        &[("context c classical { ", 0, 1), ("(", 0, 512)],
+    )?;
+    is_kept(
+        alloc,
+        &mut text,
+        Limit::OpenParentheses,
+        &NESTED,
+        ("", &NESTED_DEEPER),
+    )
 }
 
 /// Appends bridge rules, by turns into six contexts.
@@ -200,46 +217,48 @@ fn push_rules(text: &mut Text, count: u64) -> Result<(), Memory> {
     Ok(())
 }
 
-/// That text.
-fn many_rules(alloc: Global, count: u64) -> Result<Text, Memory> {
+fn is_limit_of_rules_kept(alloc: Global) -> Result<bool, Memory> {
     let mut text = Text::new(alloc);
-    push_rules(&mut text, count)?;
-    Ok(text)
+    push_rules(&mut text, 64)?;
+    is_kept(
+        alloc,
+        &mut text,
+        Limit::Bridges,
+        &[],
+        ("", &[("bridge r64: c5:p. ", 0, 1)]),
+    )
+}
+
+/// Four rules that read sixteen beliefs of a context each, and the front of a rule that reads one more.
+const VARIABLES: [Rows; 11] = [
+    ("context d classical {} ", 0, 1),
+    ("context c# classical {} ", 1, 6),
+    ("bridge r1: c1:p if d:a1", 0, 1),
+    (", d:b#", 15, 30),
+    (". bridge r2: c2:p if d:a2", 0, 1),
+    (", d:b#", 30, 45),
+    (". bridge r3: c3:p if d:a3", 0, 1),
+    (", d:b#", 45, 60),
+    (". bridge r4: c4:p if d:a4", 0, 1),
+    (", d:b#", 60, 75),
+    (". bridge s: c5:p if ", 0, 1),
+];
+
+fn is_limit_of_variables_kept(alloc: Global) -> Result<bool, Memory> {
+    let mut text = Text::new(alloc);
+    push_all(&mut text, &VARIABLES)?;
+    is_kept(
+        alloc,
+        &mut text,
+        Limit::Variables,
+        &[("d:a1. ", 0, 1)],
+        ("c1:", &[("b. ", 0, 1)]),
+    )
 }
 
 #[test]
-fn the_limit_of_bridge_rules_is_kept(rt: HostRuntime) -> Result<(), Fail> {
-    let alloc = rt.alloc();
-    let (at, above) = (many_rules(alloc, 64)?, many_rules(alloc, 65)?);
-    let tail = b"bridge r64: c5:p. ";
-    assert!(rt; is_kept(alloc, Limit::Bridges, at.bytes(), above.bytes(), tail));
-    Ok(())
-}
-
-/// Appends four rules that read sixteen beliefs of a context each, and then one that reads this one.
-fn push_variables(text: &mut Text, last: &str) -> Result<(), Memory> {
-    text.push(b"context d classical {} ")?;
-    push_rows(text, "context c# classical {} ", 1, 6)?;
-    for rule in 1..5 {
-        push_row(text, "bridge r#: c#:p if d:a#", rule)?;
-        push_rows(text, ", d:b#", rule * 15, rule * 15 + 15)?;
-        text.push(b". ")?;
-    }
-    push_row(text, last, 5)
-}
-
-/// That text.
-fn many_variables(alloc: Global, last: &str) -> Result<Text, Memory> {
-    let mut text = Text::new(alloc);
-    push_variables(&mut text, last)?;
-    Ok(text)
-}
-
-#[test]
-fn the_limit_of_variables_is_kept(rt: HostRuntime) -> Result<(), Fail> {
-    let alloc = rt.alloc();
-    let at = many_variables(alloc, "bridge s: c#:p if d:a1. ")?;
-    let above = many_variables(alloc, "bridge s: c#:p if c1:b. ")?;
-    assert!(rt; is_kept(alloc, Limit::Variables, at.bytes(), above.bytes(), b"b. "));
-    Ok(())
+fn limits_of_texts_are_kept(rt: HostRuntime) {
+    assert!(rt; is_limit_of_parentheses_kept(rt.alloc()) == Ok(true));
+    assert!(rt; is_limit_of_rules_kept(rt.alloc()) == Ok(true));
+    assert!(rt; is_limit_of_variables_kept(rt.alloc()) == Ok(true));
 }

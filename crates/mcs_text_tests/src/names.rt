@@ -3,7 +3,6 @@
 use mcs_base::Memory;
 use mcs_system::Name;
 use std::alloc::Global;
-use std::test::Fail;
 
 /// Whether the bytes spell a name, which then has them, or spell none.
 fn reads(alloc: Global, bytes: &[u8], spells: bool) -> Result<bool, Memory> {
@@ -31,9 +30,8 @@ const SPELLED: [(&str, bool); 7] = [
 ];
 
 #[test]
-fn reads_names(rt: HostRuntime) -> Result<(), Fail> {
+fn reads_names(rt: HostRuntime) {
     for (text, spells) in &SPELLED {
-        assert!(rt; reads(rt.alloc(), text.as_bytes(), *spells)?);
+        assert!(rt; reads(rt.alloc(), text.as_bytes(), *spells) == Ok(true));
     }
-    Ok(())
 }

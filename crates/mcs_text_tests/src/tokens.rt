@@ -1,19 +1,30 @@
 //! The tokens of a text, and their kinds.
 
-use mcs_tokens::{Keyword, Sign, TokenKind, kind_of, next_token, token_list};
+use mcs_base::{Memory, Text};
+use mcs_tokens::{Keyword, Sign, Span, TokenKind, kind_of, next_token, token_list};
 use std::alloc::Global;
-use std::test::Fail;
 
-/// Whether the text has tokens exactly from and up to these offsets.
-fn has_tokens(alloc: Global, text: &[u8], expected: &[(usize, usize)]) -> Result<bool, Fail> {
-    let spans = token_list(alloc, text)?;
-    Ok(
-        spans.len() == expected.len()
-            && spans
-                .iter()
-                .zip(expected)
-                .all(|(span, pair)| span.from == pair.0 && span.to == pair.1),
-    )
+/// Appends the offsets from and up to which a token stands.
+fn push_span(text: &mut Text, span: Span) -> Result<(), Memory> {
+    text.push_number(span.from as u64)?;
+    text.push(b"-")?;
+    text.push_number(span.to as u64)?;
+    text.push(b" ")
+}
+
+/// The offsets from and up to which tokens stand, with a space after each token.
+fn told(alloc: Global, spans: &[Span]) -> Result<Text, Memory> {
+    let mut text = Text::new(alloc);
+    for span in spans {
+        push_span(&mut text, *span)?;
+    }
+    Ok(text)
+}
+
+/// Whether the tokens of the text stand from and up to these offsets.
+fn has_tokens(alloc: Global, text: &str, offsets: &str) -> Result<bool, Memory> {
+    let spans = token_list(alloc, text.as_bytes())?;
+    Ok(told(alloc, &spans)?.bytes() == offsets.as_bytes())
 }
 
 /// Whether the text of this byte has the token that the byte is, and this is of its kind.
@@ -36,46 +47,55 @@ fn one_byte(rt: HostRuntime) {
 }
 
 /// Texts, and the offsets from and up to which their tokens stand: first of gaps, then of words and signs.
-const SPANS: [(&[u8], &[(usize, usize)]); 13] = [
-    (b"", &[]),
-    (b" \t\r\n", &[]),
-    (b"a#b", &[(0, 1)]),
-    (b"#a\nb", &[(3, 4)]),
-    (b"#a\r.\nb", &[(5, 6)]),
-    (b"a\r\nb\r", &[(0, 1), (3, 4)]),
-    (b"a##\n#\n_", &[(0, 1), (6, 7)]),
-    (b"_a1 1a", &[(0, 3), (4, 5), (5, 6)]),
-    (b"<->", &[(0, 3)]),
-    (b"<-", &[(0, 1), (1, 2)]),
-    (b"<<->->", &[(0, 1), (1, 4), (4, 6)]),
-    (b"::-:", &[(0, 1), (1, 3), (3, 4)]),
-    (b"-->", &[(0, 1), (1, 3)]),
+const SPANS: [(&str, &str); 13] = [
+    ("", ""),
+    (" \t\r\n", ""),
+    ("a#b", "0-1 "),
+    ("#a\nb", "3-4 "),
+    ("#a\r.\nb", "5-6 "),
+    ("a\r\nb\r", "0-1 3-4 "),
+    ("a##\n#\n_", "0-1 6-7 "),
+    ("_a1 1a", "0-3 4-5 5-6 "),
+    ("<->", "0-3 "),
+    ("<-", "0-1 1-2 "),
+    ("<<->->", "0-1 1-4 4-6 "),
+    ("::-:", "0-1 1-3 3-4 "),
+    ("-->", "0-1 1-3 "),
 ];
 
 #[test]
-fn gaps_words_and_signs(rt: HostRuntime) -> Result<(), Fail> {
-    for (text, expected) in &SPANS {
-        assert!(rt; has_tokens(rt.alloc(), text, expected)?);
+fn gaps_words_and_signs(rt: HostRuntime) {
+    for (text, offsets) in &SPANS {
+        assert!(rt; has_tokens(rt.alloc(), text, offsets) == Ok(true));
     }
-    Ok(())
 }
 
 const SIGNS: [&[u8]; 14] = [
     b"{", b"}", b".", b",", b":", b":-", b"/", b"|", b"&", b"~", b"->", b"<->", b"(", b")",
 ];
 
+/// Whether there are two tokens, the one up to the middle and the other from there up to the end.
+fn are_two(spans: &[Span], middle: usize, end: usize) -> bool {
+    match spans {
+        [one, other] => { (one.from, one.to, other.from, other.to) == (0, middle, middle, end) }
+        _ => false,
+    }
+}
+
 /// Whether the one sign after the other has two tokens, of which the second begins where the first sign ends.
-fn are_two_tokens(alloc: Global, first: &[u8], second: &[u8]) -> Result<bool, Fail> {
-    let mut text = Vec::from_slice(alloc, first)?;
-    text.extend_from_slice(second)?;
+fn are_two_tokens(alloc: Global, first: &[u8], second: &[u8]) -> Result<bool, Memory> {
+    let mut text = Text::new(alloc);
+    text.push(first)?;
+    text.push(second)?;
+    let spans = token_list(alloc, text.bytes())?;
     // `:->` begins with `:-`, which is the longest sign there.
-    let longest = text.as_slice() == b":->".as_slice();
+    let longest = text.bytes() == b":->".as_slice();
     let middle = if longest { 2 } else { first.len() };
-    has_tokens(alloc, &text, &[(0, middle), (middle, text.len())])
+    Ok(are_two(&spans, middle, text.bytes().len()))
 }
 
 /// Whether the sign and each sign after it have two tokens.
-fn ends_before_each(alloc: Global, first: &[u8]) -> Result<bool, Fail> {
+fn ends_before_each(alloc: Global, first: &[u8]) -> Result<bool, Memory> {
     for second in &SIGNS {
         if !are_two_tokens(alloc, first, second)? {
             return Ok(false);
@@ -85,25 +105,30 @@ fn ends_before_each(alloc: Global, first: &[u8]) -> Result<bool, Fail> {
 }
 
 #[test]
-fn pairs_of_signs(rt: HostRuntime) -> Result<(), Fail> {
+fn pairs_of_signs(rt: HostRuntime) {
     for first in &SIGNS {
-        assert!(rt; ends_before_each(rt.alloc(), first)?);
+        assert!(rt; ends_before_each(rt.alloc(), first) == Ok(true));
     }
-    Ok(())
 }
 
+/// As long as no name may be.
+const LONG_WORD: &str = "xxxxxxxxxxxxxxxxxxxxxxxxxxxxxxxxxxxxxxxxxxxxxxxxxxxxxxxxxxxxxxxxx";
+
+const KINDS: [(&str, TokenKind); 5] = [
+    (LONG_WORD, TokenKind::LongName),
+    (
+        "xxxxxxxxxxxxxxxxxxxxxxxxxxxxxxxxxxxxxxxxxxxxxxxxxxxxxxxxxxxxxxxx",
+        TokenKind::Name,
+    ),
+    ("know", TokenKind::Keyword(Keyword::Know)),
+    ("knows", TokenKind::Name),
+    (":-", TokenKind::Sign(Sign::If)),
+];
+
 #[test]
-fn long_words_and_reserved_words(rt: HostRuntime) -> Result<(), Fail> {
-    let word = vec![in rt.alloc(); b'x'; 65]?;
-    assert!(rt;
-        next_token(&word, 0) == (0, 65)
-            && kind_of(&word) == TokenKind::LongName
-            && kind_of(&word[..64]) == TokenKind::Name
-    );
-    assert!(rt;
-        kind_of(b"know") == TokenKind::Keyword(Keyword::Know)
-            && kind_of(b"knows") == TokenKind::Name
-            && kind_of(b":-") == TokenKind::Sign(Sign::If)
-    );
-    Ok(())
+fn long_words_and_reserved_words(rt: HostRuntime) {
+    assert!(rt; next_token(LONG_WORD.as_bytes(), 0) == (0, 65));
+    for (text, kind) in &KINDS {
+        assert!(rt; kind_of(text.as_bytes()) == *kind);
+    }
 }
