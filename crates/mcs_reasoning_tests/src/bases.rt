@@ -49,9 +49,9 @@ fn are_told(
 }
 
 /// 1, 2 or 3; 1 implies 2; 2 implies 3.
-const FRONT: [&[i64]; 3] = [&[1, 2, 3], &[-1, 2], &[-2, 3]];
+static FRONT: [&[i64]; 3] = [&[1, 2, 3], &[-1, 2], &[-2, 3]];
 
-const QUESTIONS: [(&[&[i64]], bool); 9] = [
+static QUESTIONS: [(&[&[i64]], bool); 9] = [
     (&[&[-3]], false),
     (&[&[-2]], true),
     (&[&[-2, -3], &[2]], false),

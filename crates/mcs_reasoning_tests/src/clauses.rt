@@ -4,7 +4,7 @@ use mcs_base::Memory;
 use mcs_trace::{Clause, Cnf, is_literal, resolve};
 use std::alloc::Global;
 
-const ORDERED: [(&[i64], bool); 6] = [
+static ORDERED: [(&[i64], bool); 6] = [
     (&[1, -1, 2, -3], true),
     (&[-1, 1], false),
     (&[2, 2], false),
@@ -47,7 +47,7 @@ fn literals_stand_in_order(rt: HostRuntime) {
     assert!(rt; are_inserted(rt.alloc(), &[2, -1, 1, 2], &[1, -1, 2]) == Ok(true));
 }
 
-const RESOLVENTS: [(&[i64], &[i64], Option<&[i64]>); 3] = [
+static RESOLVENTS: [(&[i64], &[i64], Option<&[i64]>); 3] = [
     (&[1, 2, -3, 4], &[-2, 4, 5], Some(&[1, -3, 4, 5])),
     (&[1, 2, -3, 4], &[-2, 3], None),
     (&[-2, 4, 5], &[-2, 3], None),

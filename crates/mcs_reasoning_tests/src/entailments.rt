@@ -94,7 +94,7 @@ struct Beliefs {
     follow: &'static [bool],
 }
 
-const BELIEFS: [Beliefs; 2] = [
+static BELIEFS: [Beliefs; 2] = [
     // What contradicts itself believes everything.
     Beliefs {
         text: "context c classical { p. ~p. q. p. false. }",

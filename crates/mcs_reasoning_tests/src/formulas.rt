@@ -41,7 +41,7 @@ fn have_clauses(
 const EACH: &[u8] =
     b"context c classical { true. false. ~x. x & y. x | y. x -> y. x <-> y. x & x. }";
 
-const CLAUSES_OF_EACH: [&[i64]; 28] = [
+static CLAUSES_OF_EACH: [&[i64]; 28] = [
     &[3],
     &[3],
     &[-4],
@@ -131,7 +131,7 @@ fn pushed(alloc: Global, atoms: &[Name], formulas: &[(&Formula, bool)]) -> Resul
     Ok(cnf)
 }
 
-const CONTRADICTION: [&[i64]; 7] = [&[1], &[-1, -3], &[1, 3], &[3], &[-2, -4], &[2, 4], &[4]];
+static CONTRADICTION: [&[i64]; 7] = [&[1], &[-1, -3], &[1, 3], &[3], &[-2, -4], &[2, 4], &[4]];
 
 /// Whether a fact, its denial and that of a goal have the clauses of the contradiction, and are refuted by the clauses of
 /// the fact and of its denial.

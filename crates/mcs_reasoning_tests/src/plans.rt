@@ -48,7 +48,7 @@ struct Order {
     guessed: u64,
 }
 
-const ORDERS: [Order; 4] = [
+static ORDERS: [Order; 4] = [
     Order {
         text: LATER,
         order: &[1, 0],
@@ -106,7 +106,7 @@ const SPACED: &str = "context c1 classical {a&b.}\ncontext c2 default {p. q:r/s.
 context c3 program {x:-y,not z.}\nbridge r1: c1:a if c2:p, not c3:x.";
 
 /// Texts, and whether their plan is that of the first.
-const TEXTS: [(&str, bool); 4] = [
+static TEXTS: [(&str, bool); 4] = [
     (SPACED, true),
     // Another rule of the program.
     (

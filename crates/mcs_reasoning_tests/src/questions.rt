@@ -33,7 +33,7 @@ const TWO_RULES: &str =
 
 /// A text, a level, and the questions to its only context, each as bits of a number. Without a rule, with one that
 /// reads its own context, and with two of these.
-const GUESSES: [(&str, u32, &[u64]); 4] = [
+static GUESSES: [(&str, u32, &[u64]); 4] = [
     (NO_RULE, 1, &[0b0]),
     (ITSELF, 0, &[0b0, 0b1]),
     (TWO_RULES, 0, &[0b00, 0b11]),
@@ -73,7 +73,7 @@ fn are_asked(
 
 /// A level, and what the second context is asked at it where the first supplies its first variable alone, so that both
 /// rules apply.
-const LEVELS: [(u32, &[u64]); 3] = [
+static LEVELS: [(u32, &[u64]); 3] = [
     (0, &[0b11]),
     (1, &[0b01, 0b10, 0b11]),
     (2, &[0b00, 0b01, 0b10, 0b11]),

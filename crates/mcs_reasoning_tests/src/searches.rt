@@ -68,7 +68,7 @@ struct Search {
     known: Option<&'static [(usize, bool)]>,
 }
 
-const SEARCHES: [Search; 4] = [
+static SEARCHES: [Search; 4] = [
     Search {
         vars: 2,
         clauses: &[&[1, 2], &[-1]],
@@ -103,7 +103,7 @@ fn clauses_are_satisfied_or_refuted(rt: HostRuntime) -> Result<(), Fail> {
 }
 
 /// Six pigeons, each of which sits in one of five holes.
-const SEATS: [[i64; 5]; 6] = [
+static SEATS: [[i64; 5]; 6] = [
     [1, 2, 3, 4, 5],
     [6, 7, 8, 9, 10],
     [11, 12, 13, 14, 15],

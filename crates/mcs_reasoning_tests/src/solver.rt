@@ -83,7 +83,7 @@ fn runs(alloc: Global, run: &Run) -> Result<bool, Fail> {
     Ok(is_right?)
 }
 
-const RUNS: [Run; 5] = [
+static RUNS: [Run; 5] = [
     // A chain of unit clauses.
     Run {
         vars: 3,
@@ -203,7 +203,7 @@ fn learns(alloc: Global, lesson: &Lesson) -> Result<bool, Fail> {
     Ok(is_right?)
 }
 
-const LESSONS: [Lesson; 3] = [
+static LESSONS: [Lesson; 3] = [
     // A unit clause is learnt.
     Lesson {
         vars: 2,

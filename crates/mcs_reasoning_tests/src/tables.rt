@@ -126,7 +126,7 @@ const LEFT: Listed = (0b011, &[(0b10, 0b1), (0b10, 0b11), (0, 0b10)]);
 
 const RIGHT: Listed = (0b110, &[(0b110, 0), (0b110, 0b1000), (0b100, 0b100)]);
 
-const PAIRINGS: [Pairing; 8] = [
+static PAIRINGS: [Pairing; 8] = [
     // A join takes the marks of both.
     (
         MARKED,

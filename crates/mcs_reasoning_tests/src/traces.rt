@@ -33,7 +33,7 @@ pub(crate) fn is_told(
 }
 
 /// Traces, the last of which has no steps.
-const TRACES: [(&[&[u64]], bool); 7] = [
+static TRACES: [(&[&[u64]], bool); 7] = [
     (&[&[1, 2]], true),
     (&[&[2, 1]], true),
     (&[&[1, 1]], false),

@@ -33,7 +33,7 @@ fn is_critical(edges: &[Marks], set: Marks, mark: u32, edge: Option<usize>) -> b
 }
 
 /// Of a set, a mark and two edges that share the mark 2, the critical edge.
-const CRITICAL: [(&[u32], u32, Option<usize>); 7] = [
+static CRITICAL: [(&[u32], u32, Option<usize>); 7] = [
     (&[0, 4], 0, Some(0)),
     (&[0, 4], 2, None),
     (&[0, 4], 4, Some(1)),
