@@ -2,10 +2,10 @@
 
 use crate::pattern::pattern;
 use crate::whole::{is_read, is_unread};
+use mcs_base::Memory;
 use mcs_ports::{FileShelf, ReadAnswer, Shelf};
 use std::alloc::Global;
 use std::fs;
-use std::test::Fail;
 
 /// Whether the shelf has a file `pattern` of these 5000 bytes and no file `missing`, and a directory is no file.
 fn are_files<H: Shelf>(shelf: &mut H, alloc: Global, bytes: &[u8]) -> bool {
@@ -17,10 +17,11 @@ fn are_files<H: Shelf>(shelf: &mut H, alloc: Global, bytes: &[u8]) -> bool {
 }
 
 #[test]
-fn files_of_the_system_are_read(rt: HostRuntime) -> Result<(), Fail> {
+fn files_of_the_system_are_read(rt: HostRuntime) -> Result<(), Memory> {
     let bytes = pattern(rt.alloc(), 5000)?;
-    fs::write(&rt, "pattern", bytes.as_slice())?;
-    assert!(rt; are_files(&mut FileShelf::new(&rt), rt.alloc(), &bytes));
-    fs::remove_file(&rt, "pattern")?;
+    let is_written = fs::write(&rt, "pattern", bytes.as_slice()).is_ok();
+    let are_files = are_files(&mut FileShelf::new(&rt), rt.alloc(), &bytes);
+    let is_removed = fs::remove_file(&rt, "pattern").is_ok();
+    assert!(rt; is_written && are_files && is_removed);
     Ok(())
 }

@@ -2,27 +2,26 @@
 
 use mcs_base::{Active, Marks, Vars, pair_before, state_before};
 
-/// Whether each call of one kind of sets, whose greatest number is `$top`, answers rightly.
+/// Whether each call of one kind of sets, whose greatest number is `$top`, answers rightly: of each set how many numbers
+/// it has, its first one, and whether it meets the set of the greatest number and lies within it.
 macro_rules! are_right {
     ($Set:ident, $top:literal) => {{
         let (low, high) = ($Set::one(0), $Set::one($top));
         let ends = low.with($top);
-        let mut right = ends.has(0) && !ends.has(7) && ends.has($top);
-        for (set, count, first, meets_high, within_high) in [
-            ($Set::empty(), 0, None, false, true),
-            (low.union(high), 2, Some(0), true, false),
-            (ends.without(0), 1, Some($top), true, true),
-            (ends.common(high), 1, Some($top), true, true),
-            (ends.minus(high), 1, Some(0), false, false),
+        let mut right = [ends.has(0), ends.has(7), ends.has($top)] == [true, false, true];
+        for (set, answers) in [
+            ($Set::empty(), (0, None, false, true)),
+            (low.union(high), (2, Some(0), true, false)),
+            (ends.without(0), (1, Some($top), true, true)),
+            (ends.common(high), (1, Some($top), true, true)),
+            (ends.minus(high), (1, Some(0), false, false)),
         ] {
-            right = right
-                && set.count() == count
-                && set.first() == first
-                && set.meets(high) == meets_high
-                && set.within(high) == within_high;
+            let found = (set.count(), set.first(), set.meets(high), set.within(high));
+            right = right && found == answers;
         }
         let mut members = ends.members();
-        right && members.next() == Some(0) && members.next() == Some($top) && members.next() == None
+        let found = [members.next(), members.next(), members.next()];
+        right && found == [Some(0), Some($top), None]
     }};
 }
 
@@ -40,9 +39,8 @@ fn are_marks_right() -> bool {
 
 #[test]
 fn sets_reach_their_greatest_numbers(rt: HostRuntime) {
-    assert!(rt; are_vars_right() && Vars::numbered(0b101).number() == 0b101);
-    assert!(rt; are_active_right());
-    assert!(rt; are_marks_right());
+    assert!(rt; are_vars_right() && are_active_right() && are_marks_right());
+    assert!(rt; Vars::numbered(0b101).number() == 0b101);
 }
 
 #[test]

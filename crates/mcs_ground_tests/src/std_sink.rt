@@ -15,12 +15,10 @@ fn standard_output_takes_a_piece(rt: HostRuntime) {
 /// goes to the other.
 fn are_full_at_four(space: &mut [u8], line: &mut [u8]) -> bool {
     let mut full = StdSink::new(Cursor::new(space), Cursor::new(line));
-    let is_full = full.write(b"abcdef") == Ok(4)
-        && full.write(b"ef") == Err(Failed)
-        && full.write(b"") == Ok(0)
-        && full.faults() == 1;
+    let taken = [full.write(b"abcdef"), full.write(b"ef"), full.write(b"")];
+    let faults = full.faults();
     full.note(b"note, and more");
-    is_full
+    taken == [Ok(4), Err(Failed), Ok(0)] && faults == 1
 }
 
 #[test]

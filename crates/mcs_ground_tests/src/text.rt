@@ -1,12 +1,9 @@
 //! A growing text.
 
 use mcs_base::{Memory, Text};
-use std::alloc::Global;
-use std::test::Fail;
 
-/// Whether a text of words and numbers is in decimal digits, also after it was made empty.
-fn is_decimal(alloc: Global) -> Result<bool, Memory> {
-    let mut text = Text::new(alloc);
+/// Whether words and numbers that are added to the empty text are in decimal digits, also after it was made empty.
+fn is_decimal(text: &mut Text) -> Result<bool, Memory> {
     text.push(b"n = ")?;
     text.push_number(1204)?;
     let is_first = text.bytes() == b"n = 1204".as_slice();
@@ -17,7 +14,7 @@ fn is_decimal(alloc: Global) -> Result<bool, Memory> {
 }
 
 #[test]
-fn grows(rt: HostRuntime) -> Result<(), Fail> {
-    assert!(rt; is_decimal(rt.alloc())?);
-    Ok(())
+fn grows(rt: HostRuntime) {
+    let mut text = Text::new(rt.alloc());
+    assert!(rt; is_decimal(&mut text) == Ok(true));
 }

@@ -4,7 +4,6 @@ use crate::pattern::pattern;
 use mcs_base::Memory;
 use mcs_ports::{MemoryShelf, MemorySink, ReadAnswer, Shelf, read_whole, write_whole};
 use std::alloc::Global;
-use std::test::Fail;
 
 /// Whether the file of this name is read whole at this limit, and holds these bytes.
 pub fn is_read<H: Shelf>(
@@ -55,7 +54,7 @@ fn is_too_long(alloc: Global, limit: usize) -> Result<bool, Memory> {
 }
 
 #[test]
-fn whole_files_are_read_up_to_the_limit(rt: HostRuntime) -> Result<(), Fail> {
+fn whole_files_are_read_up_to_the_limit(rt: HostRuntime) {
     for (size, limit) in [
         (0, 0),
         (1, 1),
@@ -65,12 +64,11 @@ fn whole_files_are_read_up_to_the_limit(rt: HostRuntime) -> Result<(), Fail> {
         (8192, 8192),
         (9000, 9000),
     ] {
-        assert!(rt; fits(rt.alloc(), size, limit)?);
+        assert!(rt; fits(rt.alloc(), size, limit) == Ok(true));
     }
     for limit in [0, 1, 4095, 4096, 8192] {
-        assert!(rt; is_too_long(rt.alloc(), limit)?);
+        assert!(rt; is_too_long(rt.alloc(), limit) == Ok(true));
     }
-    Ok(())
 }
 
 /// Whether a file of 5000 bytes is not read where the call of this number fails.
@@ -96,13 +94,13 @@ fn is_read_in_four_calls(alloc: Global) -> Result<bool, Memory> {
 }
 
 #[test]
-fn a_failed_call_is_a_read_fault(rt: HostRuntime) -> Result<(), Fail> {
+fn a_failed_call_is_a_read_fault(rt: HostRuntime) {
     // The open, then reads of 4096, 904 and no bytes.
     for failing in 1..5 {
-        assert!(rt; is_faulty(rt.alloc(), failing)?);
+        assert!(rt; is_faulty(rt.alloc(), failing) == Ok(true));
     }
-    assert!(rt; is_closed(rt.alloc())? && is_read_in_four_calls(rt.alloc())?);
-    Ok(())
+    let told = [is_closed(rt.alloc()), is_read_in_four_calls(rt.alloc())];
+    assert!(rt; told == [Ok(true), Ok(true)]);
 }
 
 /// A sink that takes one byte in a write, and on which one write fails.
@@ -126,7 +124,7 @@ fn is_written(alloc: Global) -> Result<bool, Memory> {
 }
 
 #[test]
-fn a_piece_is_written_whole_or_to_a_failure(rt: HostRuntime) -> Result<(), Fail> {
+fn a_piece_is_written_whole_or_to_a_failure(rt: HostRuntime) {
     for (failing, room, want) in [
         (1, 9, ""),
         (2, 9, "a"),
@@ -134,8 +132,7 @@ fn a_piece_is_written_whole_or_to_a_failure(rt: HostRuntime) -> Result<(), Fail>
         (0, 0, ""),
         (0, 2, "ab"),
     ] {
-        assert!(rt; fails_after(rt.alloc(), room, failing, want)?);
+        assert!(rt; fails_after(rt.alloc(), room, failing, want) == Ok(true));
     }
-    assert!(rt; is_written(rt.alloc())?);
-    Ok(())
+    assert!(rt; is_written(rt.alloc()) == Ok(true));
 }

@@ -1,48 +1,57 @@
 //! Many questions over one list of clauses.
 
-use crate::searches::{list, push};
+ghost use Rattle.std.specs.Prelude.{◌≡◌, []};
+
+use crate::searches::{list, push_all};
 use mcs_base::Memory;
 use mcs_sat::{ClauseBase, Outcome};
 use mcs_trace::{Cnf, check};
 use std::alloc::Global;
 use std::test::Fail;
 
-/// What is told of the clauses with some more, which are taken off again: whether there is an assignment, as a search
-/// with a trace tells it; `None` where one without a trace tells another thing, or the trace is not accepted.
-fn asked(
+/// Whether a search with a trace tells this of the base's clauses, which are those of the list. A trace is accepted.
+fn is_shown(
     alloc: Global,
     base: &mut ClauseBase,
-    more: &Cnf,
     whole: &Cnf,
-) -> Result<Option<bool>, Memory> {
-    let vars = base.vars();
-    let count = base.count();
-    if more.vars() < vars {
-        return Ok(None);
-    }
-    base.append(more)?;
-    let outcome = base.solve();
-    let found = base.satisfy();
-    base.cut(vars, count);
-    let has_model = found?.is_some();
-    match outcome? {
-        Outcome::Model(_values) => Ok(if has_model { Some(true) } else { None }),
+    has_model: bool,
+) -> Result<bool, Memory>
+    ensures { base.new ≡ base.old }
+{
+    match base.solve()? {
+        Outcome::Model(_values) => Ok(has_model),
         Outcome::Refuted(trace) => {
             let is_right = check(alloc, whole, &trace);
             drop(trace);
-            Ok(if is_right? && !has_model {
-                Some(false)
-            } else {
-                None
-            })
+            Ok(is_right? && !has_model)
         }
     }
 }
 
-/// 1, 2 or 3; 1 implies 2; 2 implies 3.
-const FRONT: [&[i64]; 3] = [&[1, 2, 3], &[-1, 2], &[-2, 3]];
+/// Whether a search with a trace and one without tell this of the base's clauses with some more, which are taken off
+/// again.
+fn are_told(
+    alloc: Global,
+    base: &mut ClauseBase,
+    more: &Cnf,
+    whole: &Cnf,
+    has_model: bool,
+) -> Result<bool, Memory> {
+    let (vars, count) = (base.vars(), base.count());
+    if more.vars() < vars {
+        return Ok(false);
+    }
+    base.append(more)?;
+    let is_shown = is_shown(alloc, base, whole, has_model);
+    let found = base.satisfy();
+    base.cut(vars, count);
+    Ok(found?.is_some() == has_model && is_shown?)
+}
 
-const QUESTIONS: [(&[&[i64]], bool); 9] = [
+/// 1, 2 or 3; 1 implies 2; 2 implies 3.
+static FRONT: [&[i64]; 3] = [&[1, 2, 3], &[-1, 2], &[-2, 3]];
+
+static QUESTIONS: [(&[&[i64]], bool); 9] = [
     (&[&[-3]], false),
     (&[&[-2]], true),
     (&[&[-2, -3], &[2]], false),
@@ -54,36 +63,25 @@ const QUESTIONS: [(&[&[i64]], bool); 9] = [
     (&[&[-3]], false),
 ];
 
-/// Whether the clauses with some more have an assignment exactly where it is said.
-fn is_told(
+/// The first clauses, and more.
+fn front_and(alloc: Global, more: &[&[i64]]) -> Result<Cnf, Fail> {
+    let mut whole = list(alloc, 4, &FRONT)?;
+    push_all(alloc, &mut whole, more)?;
+    Ok(whole)
+}
+
+/// Whether the base's clauses, which are the first ones, have an assignment with some more exactly where it is said.
+fn is_answered(
     alloc: Global,
     base: &mut ClauseBase,
     more: &[&[i64]],
     has_model: bool,
 ) -> Result<bool, Fail> {
     let own = list(alloc, 4, more)?;
-    let mut whole = list(alloc, 4, &FRONT)?;
-    for lits in more {
-        push(alloc, &mut whole, lits)?;
-    }
-    let told = asked(alloc, base, &own, &whole);
+    let whole = front_and(alloc, more)?;
+    let is_right = are_told(alloc, base, &own, &whole, has_model);
     drop((own, whole));
-    Ok(told? == Some(has_model))
-}
-
-#[test]
-fn each_question_is_answered_as_if_it_were_the_only_one(rt: HostRuntime) -> Result<(), Fail> {
-    let alloc = rt.alloc();
-    let front = list(alloc, 3, &FRONT)?;
-    let base = ClauseBase::of(alloc, &front);
-    drop(front);
-    let mut base = base?;
-    for (more, has_model) in &QUESTIONS {
-        assert!(rt; is_told(alloc, &mut base, more, *has_model)?);
-    }
-    assert!(rt; base.vars() == 3 && base.count() == 3);
-    drop(base);
-    Ok(())
+    Ok(is_right?)
 }
 
 /// Whether the base has so many variables and clauses.
@@ -91,16 +89,60 @@ fn has(base: &ClauseBase, vars: u64, count: usize) -> bool {
     base.vars() == vars && base.count() == count
 }
 
+/// Whether the base of the first clauses answers each question, and then has these clauses alone.
+fn are_answered(alloc: Global, base: &mut ClauseBase) -> Result<bool, Fail> {
+    for (more, has_model) in &QUESTIONS {
+        if !is_answered(alloc, base, more, *has_model)? {
+            return Ok(false);
+        }
+    }
+    Ok(has(base, 3, 3))
+}
+
+/// A base of the first clauses.
+fn front(alloc: Global) -> Result<ClauseBase, Fail> {
+    let front = list(alloc, 3, &FRONT)?;
+    let base = ClauseBase::of(alloc, &front);
+    drop(front);
+    Ok(base?)
+}
+
+#[test]
+fn each_question_is_answered_as_if_it_were_the_only_one(rt: HostRuntime) -> Result<(), Fail> {
+    let mut base = front(rt.alloc())?;
+    let are_answered = are_answered(rt.alloc(), &mut base);
+    drop(base);
+    assert!(rt; are_answered?);
+    Ok(())
+}
+
+/// Whether the base has one variable and so many clauses, which have an assignment exactly where it is said.
+fn is_told(base: &mut ClauseBase, count: usize, has_model: bool) -> Result<bool, Memory>
+    ensures { base.new ≡ base.old }
+{
+    let found = base.satisfy()?;
+    Ok(found.is_some() == has_model && has(base, 1, count))
+}
+
+/// Whether a base without variables and clauses is told rightly as a variable, the clause that it is true and the one
+/// that it is false are added, and the last is taken off again.
+fn is_told_as_it_grows(base: &mut ClauseBase) -> Result<bool, Memory>
+    requires { base.old ≡ record { vars = 0; clauses = [] } }
+{
+    let number = base.add_variable()?;
+    base.add(&[1])?;
+    let is_first_right = is_told(base, 1, true)?;
+    base.add(&[-1])?;
+    let is_second_right = is_told(base, 2, false)?;
+    base.cut(1, 1);
+    Ok(is_told(base, 1, true)? && number == 1 && is_first_right && is_second_right)
+}
+
 #[test]
 fn variables_and_clauses_are_added(rt: HostRuntime) -> Result<(), Fail> {
     let mut base = ClauseBase::new(rt.alloc(), 0)?;
-    assert!(rt; base.add_variable()? == 1);
-    base.add(&[1])?;
-    assert!(rt; has(&base, 1, 1) && base.satisfy()?.is_some());
-    base.add(&[-1])?;
-    assert!(rt; has(&base, 1, 2) && base.satisfy()?.is_none());
-    base.cut(1, 1);
-    assert!(rt; has(&base, 1, 1) && base.satisfy()?.is_some());
+    let is_right = is_told_as_it_grows(&mut base);
     drop(base);
+    assert!(rt; is_right == Ok(true));
     Ok(())
 }

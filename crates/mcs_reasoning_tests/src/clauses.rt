@@ -3,9 +3,8 @@
 use mcs_base::Memory;
 use mcs_trace::{Clause, Cnf, is_literal, resolve};
 use std::alloc::Global;
-use std::test::Fail;
 
-const ORDERED: [(&[i64], bool); 6] = [
+static ORDERED: [(&[i64], bool); 6] = [
     (&[1, -1, 2, -3], true),
     (&[-1, 1], false),
     (&[2, 2], false),
@@ -35,16 +34,20 @@ fn inserted(alloc: Global, literals: &[i64]) -> Result<Clause, Memory> {
     Ok(clause)
 }
 
-#[test]
-fn literals_stand_in_order(rt: HostRuntime) -> Result<(), Fail> {
-    assert!(rt; are_told(rt.alloc(), &ORDERED)?);
-    assert!(rt; Clause::empty(rt.alloc()).is_empty());
-    let clause = inserted(rt.alloc(), &[2, -1, 1, 2])?;
-    assert!(rt; clause.literals() == [1, -1, 2].as_slice());
-    Ok(())
+/// Whether the literals, added one after the other, are these.
+fn are_inserted(alloc: Global, literals: &[i64], expected: &[i64]) -> Result<bool, Memory> {
+    let clause = inserted(alloc, literals)?;
+    Ok(clause.literals() == expected)
 }
 
-const RESOLVENTS: [(&[i64], &[i64], Option<&[i64]>); 3] = [
+#[test]
+fn literals_stand_in_order(rt: HostRuntime) {
+    assert!(rt; are_told(rt.alloc(), &ORDERED) == Ok(true));
+    assert!(rt; Clause::empty(rt.alloc()).is_empty());
+    assert!(rt; are_inserted(rt.alloc(), &[2, -1, 1, 2], &[1, -1, 2]) == Ok(true));
+}
+
+static RESOLVENTS: [(&[i64], &[i64], Option<&[i64]>); 3] = [
     (&[1, 2, -3, 4], &[-2, 4, 5], Some(&[1, -3, 4, 5])),
     (&[1, 2, -3, 4], &[-2, 3], None),
     (&[-2, 4, 5], &[-2, 3], None),
@@ -58,13 +61,11 @@ fn have_resolvent(
     expected: Option<&[i64]>,
     out: &mut Vec<i64>,
 ) -> Result<bool, Memory> {
-    let Some(first) = Clause::new(first.to_vec(alloc)?) else {
-        return Ok(false);
-    };
-    let Some(second) = Clause::new(second.to_vec(alloc)?) else {
-        return Ok(false);
-    };
-    let found = resolve(first.literals(), second.literals(), out)?;
+    let first = inserted(alloc, first)?;
+    let second = inserted(alloc, second)?;
+    let found = resolve(first.literals(), second.literals(), out);
+    drop((first, second));
+    let found = found?;
     Ok(match expected {
         Some(literals) => found && out.as_slice() == literals,
         None => !found,
@@ -72,21 +73,20 @@ fn have_resolvent(
 }
 
 #[test]
-fn resolvents_keep_what_does_not_clash(rt: HostRuntime) -> Result<(), Fail> {
+fn resolvents_keep_what_does_not_clash(rt: HostRuntime) {
     let mut out = Vec::new(rt.alloc());
-    for (first, second, expected) in RESOLVENTS {
-        assert!(rt; have_resolvent(rt.alloc(), first, second, expected, &mut out)?);
+    for (first, second, expected) in &RESOLVENTS {
+        assert!(rt; have_resolvent(rt.alloc(), first, second, *expected, &mut out) == Ok(true));
     }
-    Ok(())
 }
 
 #[test]
-fn clause_lists_grow_and_are_cut(rt: HostRuntime) -> Result<(), Fail> {
+fn clause_lists_grow_and_are_cut(rt: HostRuntime) {
     let mut cnf = Cnf::new(rt.alloc(), 0);
-    assert!(rt; cnf.add_variable() == 1);
-    cnf.push(Clause::empty(rt.alloc()))?;
-    assert!(rt; cnf.clauses().len() == 1);
+    let number = cnf.add_variable();
+    let is_pushed = cnf.push(Clause::empty(rt.alloc())).is_ok();
+    let count = cnf.clauses().len();
     cnf.cut(0, 0);
+    assert!(rt; is_pushed && number == 1 && count == 1);
     assert!(rt; cnf.vars() == 0 && cnf.clauses().is_empty());
-    Ok(())
 }

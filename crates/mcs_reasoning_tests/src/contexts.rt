@@ -1,5 +1,11 @@
 //! What the tests of formulas take from a text of one context.
 
+ghost use Rattle.std.specs.Prelude.{◌≡◌, ◌≤◌, false, length, map, IsTrue};
+ghost use Rattle.mcs_system.specs.Faults.{has_twins};
+ghost use Rattle.mcs_system.specs.Seen.{formula_of};
+ghost use Rattle.mcs_cnf.specs.ClauseLists.{AreOver};
+
+use mcs_cnf::{are_different, are_over};
 use mcs_language::read_system;
 use mcs_system::{Context, Formula, Kb, Name, System};
 use std::alloc::Global;
@@ -31,4 +37,13 @@ pub(crate) fn atoms_of(system: &System) -> &[Name] {
     } else {
         &[]
     }
+}
+
+/// Whether questions may be asked of the formulas over the atoms: these are few and different, and the formulas have no
+/// others.
+pub(crate) fn may_be_asked(formulas: &[Formula], atoms: &[Name]) -> bool
+    ensures { IsTrue result
+        → (length atoms.now ≤ 64) × (has_twins atoms.now ≡ false) × AreOver atoms.now (map formula_of formulas.now) }
+{
+    atoms.len() <= 64 && are_different(atoms) && are_over(atoms, formulas)
 }

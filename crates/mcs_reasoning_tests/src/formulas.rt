@@ -1,6 +1,7 @@
 //! The clauses of formulas.
 
 use crate::contexts::{atoms_of, formulas_of, system_of};
+use crate::traces::is_told;
 use mcs_base::Memory;
 use mcs_cnf::{
     are_different, are_over, classical_certificates_are_sound, clauses, clauses_are_sets,
@@ -8,16 +9,17 @@ use mcs_cnf::{
     entailments_are_sound, formulas_are_over_their_atoms, is_over, push_formula, push_negation,
 };
 use mcs_system::{Context, Formula, Kb, Name, System};
-use mcs_trace::{Clause, Cnf, Step, Trace, check};
+use mcs_trace::{Clause, Cnf};
 use std::alloc::Global;
 use std::test::Fail;
 
+/// Whether the clauses have these literals.
 fn are_those(clauses: &[Clause], expected: &[&[i64]]) -> bool {
-    clauses.len() == expected.len()
-        && clauses
-            .iter()
-            .zip(expected)
-            .all(|(clause, literals)| clause.literals() == *literals)
+    let mut same = clauses.len() == expected.len();
+    for (clause, literals) in clauses.iter().zip(expected) {
+        same = same && clause.literals() == *literals;
+    }
+    same
 }
 
 /// Whether the formulas are over the atoms, and have so many variables and these clauses.
@@ -39,7 +41,7 @@ fn have_clauses(
 const EACH: &[u8] =
     b"context c classical { true. false. ~x. x & y. x | y. x -> y. x <-> y. x & x. }";
 
-const CLAUSES_OF_EACH: [&[i64]; 28] = [
+static CLAUSES_OF_EACH: [&[i64]; 28] = [
     &[3],
     &[3],
     &[-4],
@@ -74,9 +76,8 @@ const CLAUSES_OF_EACH: [&[i64]; 28] = [
 fn each_connective_has_its_clauses(rt: HostRuntime) -> Result<(), Fail> {
     let system = system_of(rt.alloc(), EACH)?;
     let (formulas, atoms) = (formulas_of(&system), atoms_of(&system));
-    assert!(rt; have_clauses(rt.alloc(), formulas, atoms, 10, &CLAUSES_OF_EACH)?);
-    assert!(rt; atoms.len() == 2);
-    assert!(rt; !are_over(&atoms[1..], formulas));
+    let told = have_clauses(rt.alloc(), formulas, atoms, 10, &CLAUSES_OF_EACH);
+    assert!(rt; told == Ok(true) && atoms.len() == 2 && !are_over(&atoms[1..], formulas));
     Ok(())
 }
 
@@ -103,102 +104,73 @@ fn names_that_are_the_same_are_told(rt: HostRuntime) -> Result<(), Fail> {
     Ok(())
 }
 
-/// Adds the clauses of the formula, where they can be added.
-fn push_stated(
+/// Adds the clauses of the formula, or of its negation, where they can be added.
+fn push(
     alloc: Global,
     cnf: &mut Cnf,
     atoms: &[Name],
     formula: &Formula,
-) -> Result<bool, Memory> {
+    is_denied: bool,
+) -> Result<(), Memory> {
     if !is_over(atoms, formula) || cnf.vars() < atoms.len() as u64 {
-        return Ok(false);
+        return Ok(());
     }
-    push_formula(alloc, cnf, atoms, formula)?;
-    Ok(true)
-}
-
-/// Adds the clauses of the formula's negation, where they can be added.
-fn push_denied(
-    alloc: Global,
-    cnf: &mut Cnf,
-    atoms: &[Name],
-    formula: &Formula,
-) -> Result<bool, Memory> {
-    if !is_over(atoms, formula) || cnf.vars() < atoms.len() as u64 {
-        return Ok(false);
+    if is_denied {
+        push_negation(alloc, cnf, atoms, formula)
+    } else {
+        push_formula(alloc, cnf, atoms, formula)
     }
-    push_negation(alloc, cnf, atoms, formula)?;
-    Ok(true)
 }
 
-/// The empty clause, from the clauses of a fact and of its denial.
-fn refutation(alloc: Global) -> Result<Trace, Memory> {
-    let chain = [4, 2, 1].to_vec(alloc)?;
-    let mut steps = Vec::new(alloc);
-    steps.push(Step {
-        clause: Clause::empty(alloc),
-        chain,
-    })?;
-    Ok(Trace { steps })
+/// The clauses of no formulas, to which those of each of these are added, or of its negation where it is denied.
+fn pushed(alloc: Global, atoms: &[Name], formulas: &[(&Formula, bool)]) -> Result<Cnf, Memory> {
+    let mut cnf = clauses(alloc, &[], atoms)?;
+    for (formula, is_denied) in formulas {
+        push(alloc, &mut cnf, atoms, formula, *is_denied)?;
+    }
+    Ok(cnf)
 }
 
-const CONTRADICTION: [&[i64]; 7] = [&[1], &[-1, -3], &[1, 3], &[3], &[-2, -4], &[2, 4], &[4]];
+static CONTRADICTION: [&[i64]; 7] = [&[1], &[-1, -3], &[1, 3], &[3], &[-2, -4], &[2, 4], &[4]];
 
-/// Whether the trace of the contradiction is accepted for the clauses.
-fn is_refuted(alloc: Global, cnf: &Cnf) -> Result<bool, Memory> {
-    let trace = refutation(alloc)?;
-    check(alloc, cnf, &trace)
-}
-
-/// Whether a fact, its denial and that of a goal have the clauses of the contradiction, and are refuted; their
-/// clauses are added to the list, which has none.
-fn is_contradiction(
-    alloc: Global,
-    cnf: &mut Cnf,
-    atoms: &[Name],
-    fact: &Formula,
-    goal: &Formula,
-) -> Result<bool, Memory> {
-    Ok(
-        push_stated(alloc, cnf, atoms, fact)?
-            && push_denied(alloc, cnf, atoms, fact)?
-            && push_denied(alloc, cnf, atoms, goal)?
-            && cnf.vars() == 4
-            && are_those(cnf.clauses(), &CONTRADICTION)
-            && is_refuted(alloc, cnf)?,
-    )
-}
-
-/// Whether a fact, its denial and that of a goal are a contradiction, from no formulas on.
+/// Whether a fact, its denial and that of a goal have the clauses of the contradiction, and are refuted by the clauses of
+/// the fact and of its denial.
 fn are_refuted(alloc: Global, formulas: &[Formula], atoms: &[Name]) -> Result<bool, Memory> {
     let [fact, goal] = formulas else {
         return Ok(false);
     };
-    if !are_over(atoms, &[]) {
-        return Ok(false);
-    }
-    let mut cnf = clauses(alloc, &[], atoms)?;
-    let told = is_contradiction(alloc, &mut cnf, atoms, fact, goal);
+    let cnf = pushed(alloc, atoms, &[(fact, false), (fact, true), (goal, true)])?;
+    let is_stated = cnf.vars() == 4 && are_those(cnf.clauses(), &CONTRADICTION);
+    let is_refuted = is_told(alloc, &cnf, &[&[4, 2, 1]], true);
     drop(cnf);
-    told
+    Ok(is_refuted? && is_stated)
 }
 
 #[test]
 fn what_contradicts_itself_entails_everything(rt: HostRuntime) -> Result<(), Fail> {
     let system = system_of(rt.alloc(), b"context c classical { p. q. }")?;
     let (formulas, atoms) = (formulas_of(&system), atoms_of(&system));
-    assert!(rt; are_refuted(rt.alloc(), formulas, atoms)?);
-    assert!(rt; formulas.len() == 2 && atoms.len() == 2);
-    assert!(rt; !is_over(&atoms[1..], &formulas[0]));
+    let told = are_refuted(rt.alloc(), formulas, atoms);
+    assert!(rt;
+        told == Ok(true)
+            && formulas.len() == 2
+            && atoms.len() == 2
+            && !is_over(&atoms[1..], &formulas[0])
+    );
     Ok(())
 }
 
 /// Whether each of the formulas is over both of two atoms, and over neither of them alone.
 fn need_both(formulas: &[Formula], atoms: &[Name]) -> bool {
-    atoms.len() == 2
-        && formulas.iter().all(|f| is_over(atoms, f)
-            && !is_over(&atoms[..1], f)
-            && !is_over(&atoms[1..], f))
+    if atoms.len() != 2 {
+        return false;
+    }
+    let (first, second) = atoms.split_at(1);
+    let mut both = true;
+    for f in formulas {
+        both = both && is_over(atoms, f) && !is_over(first, f) && !is_over(second, f);
+    }
+    both
 }
 
 #[test]
@@ -233,31 +205,19 @@ fn has_size(
     let [formula] = formulas else {
         return Ok(false);
     };
-    if !are_over(atoms, &[]) {
-        return Ok(false);
-    }
-    let mut cnf = clauses(alloc, &[], atoms)?;
-    Ok(
-        push_denied(alloc, &mut cnf, atoms, formula)?
-            && cnf.vars() == vars
-            && cnf.clauses().len() == count,
-    )
+    let cnf = pushed(alloc, atoms, &[(formula, true)])?;
+    Ok(cnf.vars() == vars && cnf.clauses().len() == count)
 }
 
 /// A formula of 513 occurrences, one more than a text may have.
 #[test]
 fn deep_formulas_have_clauses(rt: HostRuntime) -> Result<(), Fail> {
     let text = nested(rt.alloc(), 511)?;
-    let system = system_of(rt.alloc(), &text)?;
-    assert!(rt;
-        has_size(
-            rt.alloc(),
-            formulas_of(&system),
-            atoms_of(&system),
-            513,
-            1025
-        )?
-    );
+    let system = system_of(rt.alloc(), &text);
+    drop(text);
+    let system = system?;
+    let (formulas, atoms) = (formulas_of(&system), atoms_of(&system));
+    assert!(rt; has_size(rt.alloc(), formulas, atoms, 513, 1025) == Ok(true));
     Ok(())
 }
 

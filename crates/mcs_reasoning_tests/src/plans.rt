@@ -13,24 +13,12 @@ pub(crate) fn plan_of(alloc: Global, text: &str) -> Result<Plan, Fail> {
     Ok(Plan::of(alloc, system)?)
 }
 
-/// Whether the system that a text spells has this order, and these supply the context and it guesses these.
-fn is_planned(
-    alloc: Global,
-    text: &str,
-    order: &[u32],
-    i: u32,
-    supplied: &[u32],
-    guessed: Vars,
-) -> Result<bool, Fail> {
-    let plan = plan_of(alloc, text)?;
-    Ok(shares(&plan, i, supplied, guessed) && plan.order() == order)
-}
-
-/// Whether these supply the context and it guesses these.
-fn shares(plan: &Plan, i: u32, supplied: &[u32], guessed: Vars) -> bool {
-    (i as usize) < plan.system().contexts().len()
-        && plan.supplied(i) == supplied
-        && plan.guessed(i) == guessed
+/// Whether the plan is this one.
+fn is_planned(plan: &Plan, wanted: &Order) -> bool {
+    (wanted.context as usize) < plan.system().contexts().len()
+        && plan.order() == wanted.order
+        && plan.supplied(wanted.context) == wanted.supplied
+        && plan.guessed(wanted.context) == Vars::numbered(wanted.guessed)
 }
 
 /// It imports a context of a higher number.
@@ -51,25 +39,63 @@ bridge r0: n0:true if n1:x. bridge r1: n1:true if n2:x. bridge r2: n2:true if n0
 bridge r3: n3:true if n4:x. bridge r4: n4:true if n5:x. bridge r5: n5:true if n3:x.
 bridge r6: n0:true if n3:x.";
 
+/// A text, the order of its contexts, and for one of them what supplies it and what it guesses, as bits of a number.
+struct Order {
+    text: &'static str,
+    order: &'static [u32],
+    context: u32,
+    supplied: &'static [u32],
+    guessed: u64,
+}
+
+static ORDERS: [Order; 4] = [
+    Order {
+        text: LATER,
+        order: &[1, 0],
+        context: 0,
+        supplied: &[1],
+        guessed: 0b0,
+    },
+    Order {
+        text: ITSELF,
+        order: &[0],
+        context: 0,
+        supplied: &[],
+        guessed: 0b1,
+    },
+    Order {
+        text: MIDDLE,
+        order: &[0, 1, 2],
+        context: 1,
+        supplied: &[0],
+        guessed: 0b110,
+    },
+    Order {
+        text: TWO_RINGS,
+        order: &[3, 4, 5, 0, 1, 2],
+        context: 0,
+        supplied: &[3],
+        guessed: 0b10,
+    },
+];
+
 #[test]
 fn orders_contexts(rt: HostRuntime) -> Result<(), Fail> {
-    let in_order: &[u32] = &[0, 1, 2];
-    let second_first: &[u32] = &[3, 4, 5, 0, 1, 2];
-    for (text, order, i, supplied, guessed) in [
-        (LATER, [1, 0].as_slice(), 0, [1].as_slice(), Vars::empty()),
-        (ITSELF, [0].as_slice(), 0, [].as_slice(), Vars::one(0)),
-        (MIDDLE, in_order, 1, [0].as_slice(), Vars::one(1).with(2)),
-        (TWO_RINGS, second_first, 0, [3].as_slice(), Vars::one(1)),
-    ] {
-        assert!(rt; is_planned(rt.alloc(), text, order, i, supplied, guessed)?);
+    for wanted in &ORDERS {
+        let plan = plan_of(rt.alloc(), wanted.text)?;
+        let is_right = is_planned(&plan, wanted);
+        drop(plan);
+        assert!(rt; is_right);
     }
     Ok(())
 }
 
-/// Whether the plans for the systems that the texts spell are the same.
-fn are_same(alloc: Global, one: &str, other: &str) -> Result<bool, Fail> {
-    let (one, other) = (plan_of(alloc, one)?, plan_of(alloc, other)?);
-    Ok(one.is(&other))
+/// Whether the plan is the same as that for the system that a text spells.
+fn is_of(alloc: Global, plan: &Plan, text: &str) -> Result<bool, Fail> {
+    let other = plan_of(alloc, text)?;
+    let same = plan.is(&other);
+    drop(other);
+    Ok(same)
 }
 
 const KINDS: &str = "context c1 classical { a & b. } context c2 default { p. q : r / s. }
@@ -79,21 +105,34 @@ context c3 program { x :- y, not z. } bridge r1: c1:a if c2:p, not c3:x.";
 const SPACED: &str = "context c1 classical {a&b.}\ncontext c2 default {p. q:r/s.}
 context c3 program {x:-y,not z.}\nbridge r1: c1:a if c2:p, not c3:x.";
 
-/// Another rule of the program, another read of the bridge rule, and no bridge rule.
-const OTHERS: [&str; 3] = [
-    "context c1 classical { a & b. } context c2 default { p. q : r / s. }
+/// Texts, and whether their plan is that of the first.
+static TEXTS: [(&str, bool); 4] = [
+    (SPACED, true),
+    // Another rule of the program.
+    (
+        "context c1 classical { a & b. } context c2 default { p. q : r / s. }
 context c3 program { x :- y, not y. } bridge r1: c1:a if c2:p, not c3:x.",
-    "context c1 classical { a & b. } context c2 default { p. q : r / s. }
+        false,
+    ),
+    // Another read of the bridge rule.
+    (
+        "context c1 classical { a & b. } context c2 default { p. q : r / s. }
 context c3 program { x :- y, not z. } bridge r1: c1:a if c2:p, not c3:y.",
-    "context c1 classical { a & b. } context c2 default { p. q : r / s. }
+        false,
+    ),
+    // No bridge rule.
+    (
+        "context c1 classical { a & b. } context c2 default { p. q : r / s. }
 context c3 program { x :- y, not z. }",
+        false,
+    ),
 ];
 
 #[test]
 fn plans_of_one_system_are_the_same(rt: HostRuntime) -> Result<(), Fail> {
-    assert!(rt; are_same(rt.alloc(), KINDS, SPACED)?);
-    for text in OTHERS {
-        assert!(rt; !are_same(rt.alloc(), KINDS, text)?);
+    let plan = plan_of(rt.alloc(), KINDS)?;
+    for (text, same) in &TEXTS {
+        assert!(rt; is_of(rt.alloc(), &plan, text)? == *same);
     }
     Ok(())
 }

@@ -1,25 +1,29 @@
 //! What contexts are asked.
 
+use crate::contexts::system_of;
 use crate::plans::{ITSELF, plan_of};
 use mcs_base::{Active, Memory, Vars};
 use mcs_import::{Plan, asked, questions};
-use mcs_language::read_system;
 use mcs_system::System;
 use std::alloc::Global;
 use std::test::Fail;
 
-/// Whether nothing supplies the first context, and these are the questions to it.
-fn are_first(alloc: Global, plan: &Plan, level: u32, sets: &[Active]) -> Result<bool, Memory> {
-    if plan.system().contexts().is_empty() || !plan.supplied(0).is_empty() {
-        return Ok(false);
+/// Whether the sets are those of these numbers.
+fn are_sets(found: &[Active], sets: &[u64]) -> bool {
+    let mut same = found.len() == sets.len();
+    for (set, number) in found.iter().zip(sets) {
+        same = same && *set == Active::numbered(*number);
     }
-    Ok(questions(alloc, plan, 0, &[], level)?.as_slice() == sets)
+    same
 }
 
-/// Whether these are the questions to the only context of the system that a text spells.
-fn are_questions(alloc: Global, text: &str, level: u32, sets: &[Active]) -> Result<bool, Fail> {
-    let plan = plan_of(alloc, text)?;
-    Ok(plan.system().contexts().len() == 1 && are_first(alloc, &plan, level, sets)?)
+/// Whether nothing supplies the only context, and these are the questions to it.
+fn are_questions(alloc: Global, plan: &Plan, level: u32, sets: &[u64]) -> Result<bool, Memory> {
+    if plan.system().contexts().len() != 1 || !plan.supplied(0).is_empty() {
+        return Ok(false);
+    }
+    let found = questions(alloc, plan, 0, &[], level)?;
+    Ok(are_sets(&found, sets))
 }
 
 const NO_RULE: &str = "context n0 classical {}";
@@ -27,18 +31,22 @@ const NO_RULE: &str = "context n0 classical {}";
 const TWO_RULES: &str =
     "context n0 classical {} bridge r0: n0:true if n0:x. bridge r1: n0:true if n0:x.";
 
-/// Without a rule, with one that reads its own context, and with two of these.
+/// A text, a level, and the questions to its only context, each as bits of a number. Without a rule, with one that
+/// reads its own context, and with two of these.
+static GUESSES: [(&str, u32, &[u64]); 4] = [
+    (NO_RULE, 1, &[0b0]),
+    (ITSELF, 0, &[0b0, 0b1]),
+    (TWO_RULES, 0, &[0b00, 0b11]),
+    (TWO_RULES, 1, &[0b00, 0b01, 0b10, 0b11]),
+];
+
 #[test]
 fn asks_by_guesses(rt: HostRuntime) -> Result<(), Fail> {
-    let (none, one, two) = (Active::empty(), Active::one(0), Active::one(1));
-    let both = one.with(1);
-    for (text, level, sets) in [
-        (NO_RULE, 1, [none].as_slice()),
-        (ITSELF, 0, [none, one].as_slice()),
-        (TWO_RULES, 0, [none, both].as_slice()),
-        (TWO_RULES, 1, [none, one, two, both].as_slice()),
-    ] {
-        assert!(rt; are_questions(rt.alloc(), text, level, sets)?);
+    for (text, level, sets) in &GUESSES {
+        let plan = plan_of(rt.alloc(), text)?;
+        let told = are_questions(rt.alloc(), &plan, *level, sets);
+        drop(plan);
+        assert!(rt; told == Ok(true));
     }
     Ok(())
 }
@@ -47,53 +55,38 @@ fn asks_by_guesses(rt: HostRuntime) -> Result<(), Fail> {
 const ONE_DIAGNOSIS: &str = "context c1 program { a. } context c2 program { :- p. :- q. }
 bridge r1: c2:p if c1:a. bridge r2: c2:q if not c1:b.";
 
-/// What the second context is asked where the first may supply these.
-fn asked_of_second(
-    alloc: Global,
-    system: &System,
-    supply: &[Vars],
-    level: u32,
-) -> Result<Option<Vec<Active>>, Memory> {
-    if system.contexts().len() != 2 {
-        return Ok(None);
-    }
-    let mut supplies = Vec::new(alloc);
-    supplies.push(supply.to_vec(alloc)?)?;
-    Ok(Some(asked(alloc, system, 1, &supplies, Vars::empty(), level)?))
-}
-
-/// Whether these are what the second context is asked where the first may supply these.
+/// Whether these are what the second of two contexts is asked where the first may supply these.
 fn are_asked(
     alloc: Global,
     system: &System,
     supply: &[Vars],
     level: u32,
-    sets: &[Active],
+    sets: &[u64],
 ) -> Result<bool, Memory> {
-    match asked_of_second(alloc, system, supply, level)? {
-        Some(found) => Ok(found.as_slice() == sets),
-        None => Ok(false),
+    if system.contexts().len() != 2 {
+        return Ok(false);
     }
+    let supplies = [supply.to_vec(alloc)?];
+    let found = asked(alloc, system, 1, &supplies, Vars::empty(), level)?;
+    Ok(are_sets(&found, sets))
 }
 
-/// Whether the second context is asked the right questions of each level.
-fn are_asked_by_level(alloc: Global, system: &System) -> Result<bool, Memory> {
-    let (none, one, two) = (Active::empty(), Active::one(0), Active::one(1));
-    let both = one.with(1);
-    // The first context supplies its first variable alone, so that both rules apply.
-    let supply = [Vars::one(0)];
-    Ok(
-        are_asked(alloc, system, &supply, 0, &[both])?
-            && are_asked(alloc, system, &supply, 1, &[one, two, both])?
-            && are_asked(alloc, system, &supply, 2, &[none, one, two, both])?,
-    )
-}
+/// A level, and what the second context is asked at it where the first supplies its first variable alone, so that both
+/// rules apply.
+static LEVELS: [(u32, &[u64]); 3] = [
+    (0, &[0b11]),
+    (1, &[0b01, 0b10, 0b11]),
+    (2, &[0b00, 0b01, 0b10, 0b11]),
+];
 
 #[test]
 fn asks_by_level(rt: HostRuntime) -> Result<(), Fail> {
-    let system = read_system(rt.alloc(), ONE_DIAGNOSIS.as_bytes())?;
-    assert!(rt; are_asked_by_level(rt.alloc(), &system)?);
+    let system = system_of(rt.alloc(), ONE_DIAGNOSIS.as_bytes())?;
+    let supply = [Vars::one(0)];
+    for (level, sets) in &LEVELS {
+        assert!(rt; are_asked(rt.alloc(), &system, &supply, *level, sets) == Ok(true));
+    }
     // Nothing is asked where a context supplies nothing.
-    assert!(rt; are_asked(rt.alloc(), &system, &[], 2, &[])?);
+    assert!(rt; are_asked(rt.alloc(), &system, &[], 2, &[]) == Ok(true));
     Ok(())
 }

@@ -1,139 +1,140 @@
 //! Rows and pigeons.
 
-ghost use Rattle.std.specs.Prelude.{◌≤◌, ◌<◌, ◌≤ℤ◌, pos, length};
-
+use mcs_base::Memory;
 use mcs_sat::{Outcome, solve};
-use mcs_trace::{Clause, Cnf, Step, Trace, check};
+use mcs_trace::{Clause, Cnf, Trace, check};
 use std::alloc::Global;
+use std::mem;
 use std::test::Fail;
 
-const HOLES: u32 = 5;
-
-pub(crate) fn push(alloc: Global, cnf: &mut Cnf, lits: &[i64]) -> Result<(), Fail> {
-    let clause = Clause::new(lits.to_vec(alloc)?).ok_or("no clause")?;
-    if !cnf.can_push(&clause) {
-        return Err(Fail::from("a variable too large"));
+fn push(alloc: Global, cnf: &mut Cnf, lits: &[i64]) -> Result<(), Fail> {
+    match Clause::new(lits.to_vec(alloc)?) {
+        Some(clause) => {
+            if cnf.can_push(&clause) {
+                Ok(cnf.push(clause)?)
+            } else {
+                Err(Fail::from("a variable too large"))
+            }
+        }
+        None => Err(Fail::from("no clause")),
     }
-    cnf.push(clause)?;
+}
+
+/// Adds the clauses.
+pub(crate) fn push_all(alloc: Global, cnf: &mut Cnf, clauses: &[&[i64]]) -> Result<(), Fail> {
+    for lits in clauses {
+        push(alloc, cnf, lits)?;
+    }
     Ok(())
 }
 
 /// The list of the clauses.
 pub(crate) fn list(alloc: Global, vars: u32, clauses: &[&[i64]]) -> Result<Cnf, Fail> {
     let mut cnf = Cnf::new(alloc, u64::from(vars));
-    for lits in clauses {
-        push(alloc, &mut cnf, lits)?;
-    }
+    push_all(alloc, &mut cnf, clauses)?;
     Ok(cnf)
 }
 
-/// The values that satisfy the clauses.
-fn model(alloc: Global, cnf: &Cnf) -> Result<Vec<bool>, Fail> {
-    match solve(alloc, cnf)? {
-        Outcome::Model(values) => Ok(values),
-        Outcome::Refuted(trace) => {
-            drop(trace);
-            Err(Fail::from("refuted"))
-        }
-    }
-}
-
-fn model_of(alloc: Global, vars: u32, clauses: &[&[i64]]) -> Result<Vec<bool>, Fail> {
-    let cnf = list(alloc, vars, clauses)?;
-    let values = model(alloc, &cnf);
-    drop(cnf);
-    values
-}
-
-/// The trace that refutes the clauses.
-fn refutation(alloc: Global, cnf: &Cnf) -> Result<Trace, Fail> {
-    match solve(alloc, cnf)? {
-        Outcome::Refuted(trace) => Ok(trace),
-        Outcome::Model(_) => Err(Fail::from("model")),
-    }
-}
-
-/// Whether the clauses are refuted by a trace that is accepted.
-fn is_refuted(alloc: Global, cnf: &Cnf) -> Result<bool, Fail> {
-    let trace = refutation(alloc, cnf)?;
-    let is_right = check(alloc, cnf, &trace);
-    drop(trace);
-    Ok(is_right?)
-}
-
-/// Whether the clauses are satisfied, with these values at these places.
-fn has_values(
-    alloc: Global,
-    vars: u32,
-    clauses: &[&[i64]],
-    known: &[(usize, bool)],
-) -> Result<bool, Fail> {
-    let values = model_of(alloc, vars, clauses)?;
+/// Whether there are so many values, with these at their places.
+fn are_values(values: &[bool], vars: u64, known: &[(usize, bool)]) -> bool {
+    let mut as_said = values.len() as u64 == vars;
     for (place, value) in known {
-        if values.get(*place).copied() != Some(*value) {
-            return Ok(false);
+        as_said = as_said && values.get(*place).copied() == Some(*value);
+    }
+    as_said
+}
+
+/// Whether the clauses are satisfied by values with these at their places, or refuted by a trace that is accepted, where
+/// none are given.
+fn are_told(alloc: Global, cnf: &Cnf, known: Option<&[(usize, bool)]>) -> Result<bool, Memory> {
+    match solve(alloc, cnf)? {
+        Outcome::Model(values) => Ok(match known {
+            Some(known) => are_values(&values, cnf.vars(), known),
+            None => false,
+        }),
+        Outcome::Refuted(trace) => {
+            let is_right = check(alloc, cnf, &trace);
+            drop(trace);
+            Ok(is_right? && known.is_none())
         }
     }
-    Ok(values.len() as u64 == u64::from(vars))
 }
 
-const PAIR: [&[i64]; 2] = [&[1, 2], &[-1]];
+/// Clauses over so many variables.
+struct Search {
+    vars: u32,
+    clauses: &'static [&'static [i64]],
+    /// Values that satisfy them; none where there are no such values.
+    known: Option<&'static [(usize, bool)]>,
+}
 
-const TRIANGLE: [&[i64]; 3] = [&[-1, -2], &[-1, 2], &[1, 3]];
+static SEARCHES: [Search; 4] = [
+    Search {
+        vars: 2,
+        clauses: &[&[1, 2], &[-1]],
+        known: Some(&[(0, false), (1, true)]),
+    },
+    Search {
+        vars: 3,
+        clauses: &[],
+        known: Some(&[]),
+    },
+    Search {
+        vars: 3,
+        clauses: &[&[-1, -2], &[-1, 2], &[1, 3]],
+        known: Some(&[(0, false), (2, true)]),
+    },
+    Search {
+        vars: 1,
+        clauses: &[&[1], &[]],
+        known: None,
+    },
+];
 
 #[test]
-fn models_satisfy_the_clauses(rt: HostRuntime) -> Result<(), Fail> {
-    let alloc = rt.alloc();
-    assert!(rt; has_values(alloc, 2, &PAIR, &[(0, false), (1, true)])?);
-    assert!(rt; has_values(alloc, 3, &[], &[])?);
-    assert!(rt; has_values(alloc, 3, &TRIANGLE, &[(0, false), (2, true)])?);
+fn clauses_are_satisfied_or_refuted(rt: HostRuntime) -> Result<(), Fail> {
+    for search in &SEARCHES {
+        let cnf = list(rt.alloc(), search.vars, search.clauses)?;
+        let told = are_told(rt.alloc(), &cnf, search.known);
+        drop(cnf);
+        assert!(rt; told == Ok(true));
+    }
     Ok(())
 }
 
-#[test]
-fn the_empty_clause_is_refuted(rt: HostRuntime) -> Result<(), Fail> {
-    let alloc = rt.alloc();
-    let cnf = list(alloc, 1, &[&[1], &[]])?;
-    let refuted = is_refuted(alloc, &cnf);
-    drop(cnf);
-    assert!(rt; refuted?);
-    Ok(())
-}
+/// Six pigeons, each of which sits in one of five holes.
+static SEATS: [[i64; 5]; 6] = [
+    [1, 2, 3, 4, 5],
+    [6, 7, 8, 9, 10],
+    [11, 12, 13, 14, 15],
+    [16, 17, 18, 19, 20],
+    [21, 22, 23, 24, 25],
+    [26, 27, 28, 29, 30],
+];
 
-fn sits(pigeon: u32, hole: u32) -> i64
-    requires pigeon { pigeon ≤ 5 }
-    requires hole { hole < 5 }
-    ensures low { pos 1 ≤ℤ result }
-    ensures high { result ≤ℤ pos 30 }
-{
-    i64::from(pigeon * HOLES + hole + 1)
-}
-
-/// Each of six pigeons sits in one of five holes.
+/// Each pigeon sits in a hole.
 fn push_seats(alloc: Global, cnf: &mut Cnf) -> Result<(), Fail> {
-    for pigeon in 0..HOLES + 1 {
-        let mut lits = Vec::new(alloc);
-        for hole in 0..HOLES {
-            lits.push(sits(pigeon, hole))?;
-        }
-        push(alloc, cnf, &lits)?;
+    for seats in &SEATS {
+        push(alloc, cnf, seats)?;
     }
     Ok(())
 }
 
-/// No two of six pigeons sit in one of five holes.
+/// No two pigeons sit in one hole.
 fn push_apart(alloc: Global, cnf: &mut Cnf) -> Result<(), Fail> {
-    for hole in 0..HOLES {
-        for second in 0..HOLES + 1 {
+    for hole in 0..5 {
+        for second in 0..6 {
             for first in 0..second {
-                push(alloc, cnf, &[-sits(first, hole), -sits(second, hole)])?;
+                let one = SEATS[first][hole].wrapping_neg();
+                let other = SEATS[second][hole].wrapping_neg();
+                push(alloc, cnf, &[one, other])?;
             }
         }
     }
     Ok(())
 }
 
-/// Each of six pigeons sits in one of five holes, and no two in one.
+/// Each pigeon sits in a hole, and no two in one.
 fn pigeons(alloc: Global) -> Result<Cnf, Fail> {
     let mut cnf = Cnf::new(alloc, 30);
     push_seats(alloc, &mut cnf)?;
@@ -141,76 +142,102 @@ fn pigeons(alloc: Global) -> Result<Cnf, Fail> {
     Ok(cnf)
 }
 
-/// A number of a step: a literal of its clause, or a name in its chain.
-#[derive(Clone, Copy)]
-enum Spot {
-    Literal(usize),
-    Name(usize),
-}
-
-/// The step, with one number changed where a spot is given: a literal is turned, or a name is that of no clause.
-fn changed_step(alloc: Global, step: &Step, spot: Option<Spot>) -> Result<Step, Fail> {
-    let mut chain = step.chain.to_vec(alloc)?;
-    let mut lits = step.clause.literals().to_vec(alloc)?;
-    match spot {
-        Some(Spot::Literal(place)) => {
-            if place < lits.len() {
-                lits[place] = lits[place].wrapping_neg();
-            }
-        }
-        Some(Spot::Name(place)) => {
-            if place < chain.len() {
-                chain[place] = chain[place].wrapping_add(1000);
-            }
-        }
-        None => {}
+/// The name at the place of the step's chain.
+fn name_at(trace: &mut Trace, at: usize, place: usize) -> Option<&mut u64> {
+    match trace.steps.get_mut(at) {
+        Some(step) => step.chain.get_mut(place),
+        None => None,
     }
-    let clause = Clause::new(lits).ok_or("no clause")?;
-    Ok(Step { clause, chain })
 }
 
-/// The trace with one number of the step changed.
-fn changed(alloc: Global, trace: &Trace, at: usize, spot: Spot) -> Result<Trace, Fail> {
-    let mut steps = Vec::new(alloc);
-    for (index, step) in trace.steps.iter().enumerate() {
-        let here = if index == at { Some(spot) } else { None };
-        steps.push(changed_step(alloc, step, here)?)?;
-    }
-    Ok(Trace { steps })
-}
-
-/// Whether the trace with one number of the step changed is accepted.
-fn is_accepted(
+/// Whether the trace is accepted with the name of no clause at this place of the step's chain, if it has the place.
+fn is_loose_name(
     alloc: Global,
     cnf: &Cnf,
-    trace: &Trace,
+    trace: &mut Trace,
     at: usize,
-    spot: Spot,
-) -> Result<bool, Fail> {
-    let other = changed(alloc, trace, at, spot)?;
-    let is_right = check(alloc, cnf, &other);
-    drop(other);
-    Ok(is_right?)
-}
-
-/// Whether some literal of the step's clause may be another.
-fn has_loose_literal(alloc: Global, cnf: &Cnf, trace: &Trace, at: usize) -> Result<bool, Fail>
-    requires { at < length trace.now.steps.items }
-{
-    for place in 0..trace.steps[at].clause.literals().len() {
-        if is_accepted(alloc, cnf, trace, at, Spot::Literal(place))? {
-            return Ok(true);
-        }
+    place: usize,
+) -> Result<bool, Memory> {
+    match name_at(trace, at, place) {
+        Some(name) => *name = name.wrapping_add(1000),
+        None => return Ok(false),
     }
-    Ok(false)
+    let is_accepted = check(alloc, cnf, trace);
+    if let Some(name) = name_at(trace, at, place) {
+        *name = name.wrapping_sub(1000);
+    }
+    is_accepted
 }
 
-/// Whether some name of the step's chain may be another.
-fn has_loose_name(alloc: Global, cnf: &Cnf, trace: &Trace, at: usize) -> Result<bool, Fail>
-    requires { at < length trace.now.steps.items }
-{
-    for place in 0..trace.steps[at].chain.len() {
-        if is_accepted(alloc, cnf, trace, at, Spot::Name(place))? {
+/// The clause with the literal at the place turned, if it is a clause.
+fn turned(alloc: Global, literals: &[i64], place: usize) -> Result<Option<Clause>, Memory> {
+    let mut literals = literals.to_vec(alloc)?;
+    if let Some(literal) = literals.get_mut(place) {
+        *literal = literal.wrapping_neg();
+    }
+    Ok(Clause::new(literals))
+}
+
+/// Puts the clause in the place of that of the step, if there is one.
+fn swap_clause(trace: &mut Trace, at: usize, clause: &mut Clause) {
+    if let Some(step) = trace.steps.get_mut(at) {
+        mem::swap(&mut step.clause, clause);
+    }
+}
+
+/// Whether the trace is accepted with this clause in the step.
+fn is_accepted_with(
+    alloc: Global,
+    cnf: &Cnf,
+    trace: &mut Trace,
+    at: usize,
+    clause: &mut Clause,
+) -> Result<bool, Memory> {
+    swap_clause(trace, at, clause);
+    let is_accepted = check(alloc, cnf, trace);
+    swap_clause(trace, at, clause);
+    is_accepted
+}
+
+/// Whether the trace is accepted with the literal at this place of the step's clause turned, if it has the place.
+fn is_loose_literal(
+    alloc: Global,
+    cnf: &Cnf,
+    trace: &mut Trace,
+    at: usize,
+    place: usize,
+) -> Result<bool, Memory> {
+    let literals = literals_of(trace, at);
+    if place >= literals.len() {
+        return Ok(false);
+    }
+    match turned(alloc, literals, place)? {
+        Some(mut clause) => {
+            let is_accepted = is_accepted_with(alloc, cnf, trace, at, &mut clause);
+            drop(clause);
+            is_accepted
+        }
+        None => Ok(true),
+    }
+}
+
+/// The literals of the step's clause.
+fn literals_of(trace: &Trace, at: usize) -> &[i64] {
+    match trace.steps.get(at) {
+        Some(step) => step.clause.literals(),
+        None => &[],
+    }
+}
+
+/// Whether some literal of the step's clause or some name of its chain may be another.
+fn is_loose(alloc: Global, cnf: &Cnf, trace: &mut Trace, at: usize) -> Result<bool, Memory> {
+    let places = match trace.steps.get(at) {
+        Some(step) => step.clause.literals().len().max(step.chain.len()),
+        None => 0,
+    };
+    for place in 0..places {
+        let is_loose_literal = is_loose_literal(alloc, cnf, trace, at, place)?;
+        if is_loose_name(alloc, cnf, trace, at, place)? || is_loose_literal {
             return Ok(true);
         }
     }
@@ -218,20 +245,32 @@ fn has_loose_name(alloc: Global, cnf: &Cnf, trace: &Trace, at: usize) -> Result<
 }
 
 /// Whether the trace is accepted, and no longer with any one number changed.
-fn is_tight(alloc: Global, cnf: &Cnf, trace: &Trace) -> Result<bool, Fail> {
+fn is_tight(alloc: Global, cnf: &Cnf, trace: &mut Trace) -> Result<bool, Memory> {
     for at in 0..trace.steps.len() {
-        if has_loose_literal(alloc, cnf, trace, at)? || has_loose_name(alloc, cnf, trace, at)? {
+        if is_loose(alloc, cnf, trace, at)? {
             return Ok(false);
         }
     }
-    Ok(check(alloc, cnf, trace)?)
+    check(alloc, cnf, trace)
+}
+
+/// Whether the clauses are refuted by a trace that is accepted, and no longer with any one number changed.
+fn are_refuted_tightly(alloc: Global, cnf: &Cnf) -> Result<bool, Memory> {
+    match solve(alloc, cnf)? {
+        Outcome::Refuted(mut trace) => {
+            let is_tight = is_tight(alloc, cnf, &mut trace);
+            drop(trace);
+            is_tight
+        }
+        Outcome::Model(_values) => Ok(false),
+    }
 }
 
 #[test]
 fn pigeons_are_refuted_by_each_number_of_the_trace(rt: HostRuntime) -> Result<(), Fail> {
-    let alloc = rt.alloc();
-    let cnf = pigeons(alloc)?;
-    let trace = refutation(alloc, &cnf)?;
-    assert!(rt; is_tight(alloc, &cnf, &trace)?);
+    let cnf = pigeons(rt.alloc())?;
+    let told = are_refuted_tightly(rt.alloc(), &cnf);
+    drop(cnf);
+    assert!(rt; told == Ok(true));
     Ok(())
 }

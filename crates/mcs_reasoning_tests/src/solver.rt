@@ -1,6 +1,8 @@
 //! A solver in parts: what unit clauses lead to, and what is learnt from a conflict.
 
-ghost use Rattle.std.specs.Prelude.{◌≡◌};
+ghost use Rattle.std.specs.Prelude.{◌≡◌, ◌≤◌, unsigned_abs, IsTrue};
+ghost use Rattle.mcs_trace.specs.Clauses.{IsLiteral};
+ghost use Rattle.mcs_sat.specs.Solvers.{HasNoValue, trues};
 
 use crate::searches::list;
 use mcs_base::Memory;
@@ -24,15 +26,25 @@ fn have_values(solver: &Solver, vars: u64, values: &[(i64, Option<bool>)]) -> bo
     true
 }
 
+/// Whether the literal can be decided: its variable is one of the solver's, and has no value.
+fn is_free(solver: &Solver, vars: u64, literal: i64) -> bool
+    requires { vars ≡ solver.now.vars }
+    ensures { IsTrue result
+        → IsLiteral literal × (unsigned_abs literal ≤ solver.now.vars) × HasNoValue (trues solver.now) literal }
+{
+    is_literal(literal) && literal.unsigned_abs() <= vars && solver.value(literal).is_none()
+}
+
 /// Decides the literal, where it can be decided.
 fn decide(solver: &mut Solver, vars: u64, literal: i64) -> Result<(), Memory>
     requires { vars ≡ solver.old.vars }
     ensures { solver.new.vars ≡ solver.old.vars }
 {
-    if !is_literal(literal) || literal.unsigned_abs() > vars || solver.value(literal).is_some() {
-        return Ok(());
+    if is_free(solver, vars, literal) {
+        solver.decide(literal)
+    } else {
+        Ok(())
     }
-    solver.decide(literal)
 }
 
 /// Clauses, and decisions that are made before anything is propagated.
@@ -62,56 +74,62 @@ fn is_run(solver: &mut Solver, vars: u64, run: &Run) -> Result<bool, Memory>
 /// Whether a solver of the run's clauses does what it says.
 fn runs(alloc: Global, run: &Run) -> Result<bool, Fail> {
     let cnf = list(alloc, run.vars, run.clauses)?;
-    let mut solver = Solver::new(alloc, &cnf)?;
-    let is_right = is_run(&mut solver, cnf.vars(), run);
-    drop((cnf, solver));
+    let vars = cnf.vars();
+    let solver = Solver::new(alloc, &cnf);
+    drop(cnf);
+    let mut solver = solver?;
+    let is_right = is_run(&mut solver, vars, run);
+    drop(solver);
     Ok(is_right?)
 }
 
-const CHAIN: Run = Run {
-    vars: 3,
-    clauses: &[&[1], &[-1, 2], &[-2, 3]],
-    decisions: &[],
-    conflicts: &[],
-    values: &[(1, Some(true)), (2, Some(true)), (-3, Some(false))],
-};
-
-const UNITS: Run = Run {
-    vars: 1,
-    clauses: &[&[1], &[-1]],
-    decisions: &[],
-    conflicts: &[1, 2],
-    values: &[],
-};
-
-const EMPTY: Run = Run {
-    vars: 0,
-    clauses: &[&[]],
-    decisions: &[],
-    conflicts: &[1],
-    values: &[],
-};
-
-const SQUARE: Run = Run {
-    vars: 2,
-    clauses: &[&[1, 2], &[-1, 2]],
-    decisions: &[-2],
-    conflicts: &[1, 2],
-    values: &[(2, Some(false))],
-};
-
-const TWO_DECISIONS: Run = Run {
-    vars: 4,
-    clauses: &[&[-1, 2], &[-1, 3], &[-2, -3]],
-    decisions: &[1, 4],
-    conflicts: &[1, 2, 3],
-    values: &[(1, Some(true)), (4, Some(true))],
-};
+static RUNS: [Run; 5] = [
+    // A chain of unit clauses.
+    Run {
+        vars: 3,
+        clauses: &[&[1], &[-1, 2], &[-2, 3]],
+        decisions: &[],
+        conflicts: &[],
+        values: &[(1, Some(true)), (2, Some(true)), (-3, Some(false))],
+    },
+    // Two unit clauses that contradict one another.
+    Run {
+        vars: 1,
+        clauses: &[&[1], &[-1]],
+        decisions: &[],
+        conflicts: &[1, 2],
+        values: &[],
+    },
+    // The empty clause.
+    Run {
+        vars: 0,
+        clauses: &[&[]],
+        decisions: &[],
+        conflicts: &[1],
+        values: &[],
+    },
+    // A decision that makes two clauses units.
+    Run {
+        vars: 2,
+        clauses: &[&[1, 2], &[-1, 2]],
+        decisions: &[-2],
+        conflicts: &[1, 2],
+        values: &[(2, Some(false))],
+    },
+    // Two decisions, the first of which leads to a conflict.
+    Run {
+        vars: 4,
+        clauses: &[&[-1, 2], &[-1, 3], &[-2, -3]],
+        decisions: &[1, 4],
+        conflicts: &[1, 2, 3],
+        values: &[(1, Some(true)), (4, Some(true))],
+    },
+];
 
 #[test]
 fn unit_clauses_are_followed(rt: HostRuntime) -> Result<(), Fail> {
     let alloc = rt.alloc();
-    for run in [&CHAIN, &UNITS, &EMPTY, &SQUARE, &TWO_DECISIONS] {
+    for run in &RUNS {
         assert!(rt; runs(alloc, run)?);
     }
     Ok(())
@@ -136,11 +154,7 @@ fn learn(solver: &mut Solver, vars: u64, literal: i64) -> Result<Option<(u64, St
     requires { vars ≡ solver.old.vars }
     ensures { solver.new.vars ≡ solver.old.vars }
 {
-    if solver.propagate()?.is_some()
-        || !is_literal(literal)
-        || literal.unsigned_abs() > vars
-        || solver.value(literal).is_some()
-    {
+    if solver.propagate()?.is_some() || !is_free(solver, vars, literal) {
         return Ok(None);
     }
     solver.decide(literal)?;
@@ -180,51 +194,57 @@ fn is_lesson(solver: &mut Solver, vars: u64, lesson: &Lesson) -> Result<bool, Me
 /// Whether a solver of the lesson's clauses does what it says.
 fn learns(alloc: Global, lesson: &Lesson) -> Result<bool, Fail> {
     let cnf = list(alloc, lesson.vars, lesson.clauses)?;
-    let mut solver = Solver::new(alloc, &cnf)?;
-    let is_right = is_lesson(&mut solver, cnf.vars(), lesson);
-    drop((cnf, solver));
+    let vars = cnf.vars();
+    let solver = Solver::new(alloc, &cnf);
+    drop(cnf);
+    let mut solver = solver?;
+    let is_right = is_lesson(&mut solver, vars, lesson);
+    drop(solver);
     Ok(is_right?)
 }
 
-const UNIT_IS_LEARNT: Lesson = Lesson {
-    vars: 2,
-    clauses: &[&[1, 2], &[-1, 2]],
-    decisions: &[-2],
-    number: 3,
-    learnt: &[2],
-    before: &[(1, None), (2, None)],
-    after: &[(1, None), (2, Some(true))],
-};
-
-const LAST_LEVEL_GOES: Lesson = Lesson {
-    vars: 4,
-    clauses: &[&[-1, 2], &[-3, -4], &[-2, -3, 4]],
-    decisions: &[1, 3],
-    number: 4,
-    learnt: &[-2, -3],
-    before: &[(1, Some(true)), (2, Some(true)), (3, None), (4, None)],
-    after: &[
-        (1, Some(true)),
-        (2, Some(true)),
-        (3, Some(false)),
-        (4, None),
-    ],
-};
-
-const TWO_LEVELS_GO: Lesson = Lesson {
-    vars: 5,
-    clauses: &[&[-1, 2], &[-3, -4], &[-2, -3, 4]],
-    decisions: &[1, 5, 3],
-    number: 4,
-    learnt: &[-2, -3],
-    before: &[(2, Some(true)), (3, None), (5, None)],
-    after: &[(2, Some(true)), (3, Some(false)), (5, None)],
-};
+static LESSONS: [Lesson; 3] = [
+    // A unit clause is learnt.
+    Lesson {
+        vars: 2,
+        clauses: &[&[1, 2], &[-1, 2]],
+        decisions: &[-2],
+        number: 3,
+        learnt: &[2],
+        before: &[(1, None), (2, None)],
+        after: &[(1, None), (2, Some(true))],
+    },
+    // The last level goes.
+    Lesson {
+        vars: 4,
+        clauses: &[&[-1, 2], &[-3, -4], &[-2, -3, 4]],
+        decisions: &[1, 3],
+        number: 4,
+        learnt: &[-2, -3],
+        before: &[(1, Some(true)), (2, Some(true)), (3, None), (4, None)],
+        after: &[
+            (1, Some(true)),
+            (2, Some(true)),
+            (3, Some(false)),
+            (4, None),
+        ],
+    },
+    // Two levels go.
+    Lesson {
+        vars: 5,
+        clauses: &[&[-1, 2], &[-3, -4], &[-2, -3, 4]],
+        decisions: &[1, 5, 3],
+        number: 4,
+        learnt: &[-2, -3],
+        before: &[(2, Some(true)), (3, None), (5, None)],
+        after: &[(2, Some(true)), (3, Some(false)), (5, None)],
+    },
+];
 
 #[test]
 fn clauses_are_learnt_from_conflicts(rt: HostRuntime) -> Result<(), Fail> {
     let alloc = rt.alloc();
-    for lesson in [&UNIT_IS_LEARNT, &LAST_LEVEL_GOES, &TWO_LEVELS_GO] {
+    for lesson in &LESSONS {
         assert!(rt; learns(alloc, lesson)?);
     }
     Ok(())

@@ -5,7 +5,6 @@ ghost use Rattle.std.specs.Prelude.{◌≡◌};
 use mcs_base::{Marks, Memory, Partial, Vars};
 use mcs_table::{Row, Table, are_apart, forget, join, matching, union_states};
 use std::alloc::Global;
-use std::test::Fail;
 
 /// A row. The bits of the numbers are the variables that are true, and the marks.
 #[tactic(auto, using(mcs_table::proofs::MarkLemmas::common_within))]
@@ -36,117 +35,155 @@ fn table(alloc: Global, (scope, rows): Listed) -> Result<Table, Memory> {
     Ok(Table::new(scope, all))
 }
 
-/// The join of two tables, if they have no mark in common.
-fn joined(alloc: Global, a: &Table, b: &Table, level: u32) -> Result<Option<Table>, Memory> {
-    if are_apart(a, b) {
-        Ok(Some(join(alloc, a, b, level)?))
-    } else {
-        Ok(None)
-    }
-}
-
 /// Whether the table has this scope and these rows.
 fn is_listed(alloc: Global, found: &Table, wanted: Listed) -> Result<bool, Memory> {
     let wanted = table(alloc, wanted)?;
     Ok(found.scope() == wanted.scope() && found.rows() == wanted.rows())
 }
 
-/// Whether the join has this scope and these rows.
-fn gives(alloc: Global, a: &Table, b: &Table, level: u32, wanted: Listed) -> Result<bool, Memory> {
-    match joined(alloc, a, b, level)? {
-        Some(found) => is_listed(alloc, &found, wanted),
-        None => Ok(false),
-    }
+/// What two tables give at a level.
+#[derive(Clone, Copy)]
+enum Given {
+    /// Their join.
+    Joined(Listed),
+    /// The states of the unions of their rows with at most so many marks, as bits of numbers.
+    States(&'static [u64]),
 }
 
-/// Whether the join at level 2 and the join at level 1 have these scopes and rows.
-fn are_given(
+/// Whether the join has this scope and these rows, if the tables have no mark in common.
+fn is_joined(
     alloc: Global,
-    a: Listed,
-    b: Listed,
-    two: Listed,
-    one: Listed,
+    a: &Table,
+    b: &Table,
+    level: u32,
+    wanted: Listed,
 ) -> Result<bool, Memory> {
-    let (a, b) = (table(alloc, a)?, table(alloc, b)?);
-    Ok(gives(alloc, &a, &b, 2, two)? && gives(alloc, &a, &b, 1, one)?)
-}
-
-/// Whether these rows of the table fit the state in which just these of its variables are true.
-fn fit(alloc: Global, a: Listed, values: u64, rows: &[Row]) -> Result<bool, Memory> {
-    let a = table(alloc, a)?;
-    let wanted = row(a.scope(), values, 0);
-    Ok(matching(alloc, &a, &wanted.state)?.as_slice() == rows)
-}
-
-/// The states of the unions of rows of two tables with at most so many marks, if they have no mark in common.
-fn states_of(alloc: Global, a: &Table, b: &Table, level: u32) -> Result<Option<Vec<Vars>>, Memory> {
     if are_apart(a, b) {
-        Ok(Some(union_states(alloc, a.rows(), a.scope(), b, level)?))
+        let found = join(alloc, a, b, level)?;
+        let is_listed = is_listed(alloc, &found, wanted);
+        drop(found);
+        is_listed
     } else {
-        Ok(None)
+        Ok(false)
     }
 }
 
-/// Whether those are these states.
+/// Whether the states are those of these numbers.
+fn are_states(found: &[Vars], states: &[u64]) -> bool {
+    let mut same = found.len() == states.len();
+    for (state, number) in found.iter().zip(states) {
+        same = same && state.number() == *number;
+    }
+    same
+}
+
+/// Whether the unions have these states, if the tables have no mark in common.
 fn have_states(
     alloc: Global,
-    a: Listed,
-    b: Listed,
+    a: &Table,
+    b: &Table,
     level: u32,
-    states: &[Vars],
+    states: &[u64],
 ) -> Result<bool, Memory> {
-    let (a, b) = (table(alloc, a)?, table(alloc, b)?);
-    match states_of(alloc, &a, &b, level)? {
-        Some(found) => Ok(found.as_slice() == states),
-        None => Ok(false),
+    if are_apart(a, b) {
+        let found = union_states(alloc, a.rows(), a.scope(), b, level)?;
+        Ok(are_states(&found, states))
+    } else {
+        Ok(false)
     }
 }
 
+/// Two tables, a level, and what they give at it.
+type Pairing = (Listed, Listed, u32, Given);
+
+/// Whether the two tables give this.
+fn is_given(alloc: Global, (a, b, level, given): Pairing) -> Result<bool, Memory> {
+    let a = table(alloc, a)?;
+    let b = table(alloc, b)?;
+    let is_right = match given {
+        Given::Joined(wanted) => is_joined(alloc, &a, &b, level, wanted),
+        Given::States(states) => have_states(alloc, &a, &b, level, states),
+    };
+    drop((a, b));
+    is_right
+}
+
+const MARKED: Listed = (0b1, &[(1, 0), (0, 0b1)]);
+
+const OTHERWISE_MARKED: Listed = (0b1, &[(0, 0b100)]);
+
+const BOTH_TRUE: Listed = (0b011, &[(0b11, 0b1)]);
+
+const NEXT_TRUE: Listed = (0b110, &[(0b110, 0)]);
+
+const ALL_TRUE: Listed = (0b111, &[(0b111, 0b1)]);
+
+const ONCE: Listed = (0b1, &[(1, 0b1)]);
+
+const TWICE: Listed = (0b1, &[(1, 0), (1, 0b10)]);
+
+const LEFT: Listed = (0b011, &[(0b10, 0b1), (0b10, 0b11), (0, 0b10)]);
+
+const RIGHT: Listed = (0b110, &[(0b110, 0), (0b110, 0b1000), (0b100, 0b100)]);
+
+static PAIRINGS: [Pairing; 8] = [
+    // A join takes the marks of both.
+    (
+        MARKED,
+        OTHERWISE_MARKED,
+        2,
+        Given::Joined((0b1, &[(0, 0b101)])),
+    ),
+    (MARKED, OTHERWISE_MARKED, 1, Given::Joined((0b1, &[]))),
+    // Rows fit on the variables of both.
+    (BOTH_TRUE, NEXT_TRUE, 2, Given::Joined(ALL_TRUE)),
+    (BOTH_TRUE, NEXT_TRUE, 1, Given::Joined(ALL_TRUE)),
+    // States are those of few marks.
+    (ONCE, TWICE, 1, Given::States(&[0b1])),
+    (ONCE, TWICE, 0, Given::States(&[])),
+    // Each state keeps its minimal rows.
+    (
+        LEFT,
+        RIGHT,
+        2,
+        Given::Joined((0b111, &[(0b110, 0b1), (0b100, 0b110)])),
+    ),
+    (LEFT, RIGHT, 1, Given::Joined((0b111, &[(0b110, 0b1)]))),
+];
+
 #[test]
-fn a_join_takes_the_marks_of_both(rt: HostRuntime) -> Result<(), Fail> {
-    let (a, b): (Listed, Listed) = ((0b1, &[(1, 0), (0, 0b1)]), (0b1, &[(0, 0b100)]));
-    assert!(rt; are_given(rt.alloc(), a, b, (0b1, &[(0, 0b101)]), (0b1, &[]))?);
-    assert!(rt; fit(rt.alloc(), a, 0, &[row(Vars::one(0), 0, 0b1)])?);
-    assert!(rt; fit(rt.alloc(), a, 1, &[row(Vars::one(0), 1, 0)])?);
-    Ok(())
+fn tables_are_joined(rt: HostRuntime) {
+    for pairing in &PAIRINGS {
+        assert!(rt; is_given(rt.alloc(), *pairing) == Ok(true));
+    }
+}
+
+/// Whether the row with these values and marks is the only one of the table that fits these values.
+fn fits_alone(alloc: Global, of: Listed, values: u64, marks: u8) -> Result<bool, Memory> {
+    let of = table(alloc, of)?;
+    let wanted = row(of.scope(), values, marks);
+    let found = matching(alloc, &of, &wanted.state);
+    drop(of);
+    Ok(found?.as_slice() == [wanted].as_slice())
 }
 
 #[test]
-fn rows_fit_on_the_variables_of_both(rt: HostRuntime) -> Result<(), Fail> {
-    let (a, b): (Listed, Listed) = ((0b011, &[(0b11, 0b1)]), (0b110, &[(0b110, 0)]));
-    let joined: Listed = (0b111, &[(0b111, 0b1)]);
-    assert!(rt; are_given(rt.alloc(), a, b, joined, joined)?);
-    Ok(())
-}
-
-#[test]
-fn states_are_those_of_few_marks(rt: HostRuntime) -> Result<(), Fail> {
-    let (a, b): (Listed, Listed) = ((0b1, &[(1, 0b1)]), (0b1, &[(1, 0), (1, 0b10)]));
-    let once = [Vars::one(0)];
-    assert!(rt; have_states(rt.alloc(), a, b, 1, &once)?);
-    assert!(rt; have_states(rt.alloc(), a, b, 0, &[])?);
-    Ok(())
-}
-
-#[test]
-fn each_state_keeps_its_minimal_rows(rt: HostRuntime) -> Result<(), Fail> {
-    let a: Listed = (0b011, &[(0b10, 0b1), (0b10, 0b11), (0, 0b10)]);
-    let b: Listed = (0b110, &[(0b110, 0), (0b110, 0b1000), (0b100, 0b100)]);
-    let two: Listed = (0b111, &[(0b110, 0b1), (0b100, 0b110)]);
-    assert!(rt; are_given(rt.alloc(), a, b, two, (0b111, &[(0b110, 0b1)]))?);
-    Ok(())
+fn a_row_fits_its_own_state(rt: HostRuntime) {
+    assert!(rt; fits_alone(rt.alloc(), MARKED, 0, 0b1) == Ok(true));
+    assert!(rt; fits_alone(rt.alloc(), MARKED, 1, 0) == Ok(true));
 }
 
 /// Whether a table without the variables that are not of the other's scope is the other.
 fn leaves(alloc: Global, of: Listed, wanted: Listed) -> Result<bool, Memory> {
     let of = table(alloc, of)?;
-    let left = forget(alloc, &of, Vars::numbered(wanted.0))?;
-    is_listed(alloc, &left, wanted)
+    let left = forget(alloc, &of, Vars::numbered(wanted.0));
+    drop(of);
+    is_listed(alloc, &left?, wanted)
 }
 
 #[test]
-fn forgetting_keeps_minimal_rows(rt: HostRuntime) -> Result<(), Fail> {
+fn forgetting_keeps_minimal_rows(rt: HostRuntime) {
     let of: Listed = (0b11, &[(0b01, 0b1), (0b11, 0b11), (0b11, 0b100), (0b10, 0)]);
-    assert!(rt; leaves(rt.alloc(), of, (0b1, &[(1, 0b1), (1, 0b100), (0, 0)]))?);
-    Ok(())
+    let wanted: Listed = (0b1, &[(1, 0b1), (1, 0b100), (0, 0)]);
+    assert!(rt; leaves(rt.alloc(), of, wanted) == Ok(true));
 }
