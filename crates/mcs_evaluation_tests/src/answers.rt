@@ -166,7 +166,7 @@ fn answers_are_written(rt: HostRuntime) -> Result<(), Fail> {
     let system = system_of(rt.alloc(), TOLD)?;
     for (kind, lines) in ANSWERS {
         let shown = certificate(rt.alloc(), kind)?;
-        assert!(rt; is_written(rt.alloc(), &system, shown, lines)?);
+        assert!(rt; is_written(rt.alloc(), &system, shown, lines) == Ok(true));
     }
     Ok(())
 }

@@ -1,5 +1,6 @@
 //! Certificates of what a context accepts, made by hand.
 
+use crate::numbered::are_numbered;
 use crate::programs::{program_in, shown};
 use crate::systems::{first_knowledge, system_of};
 use crate::theories::{beliefs_of, theory_in};
@@ -10,8 +11,9 @@ use mcs_cnf::{are_different, are_over};
 use mcs_default::extensions;
 use mcs_states::{Oracle, OracleStop};
 use mcs_system::System;
-use mcs_trace::{ClassicalCert, DefaultCert, Entail, ProgramCert, Trace};
+use mcs_trace::{ClassicalCert, DefaultCert, Entail, Trace};
 use std::alloc::Global;
+use std::mem;
 use std::sync::Arc;
 use std::test::Fail;
 
@@ -123,46 +125,9 @@ fn a_right_trace_alone_shows_what_is_believed(rt: HostRuntime) -> Result<(), Fai
     Ok(())
 }
 
-/// What is done to what shows the answer sets of a program.
-enum Change {
-    Nothing,
-    /// The trace that refutes all others has no step any more.
-    LastTraceEmpty,
-    /// A model comes once more.
-    ModelTwice,
-}
-
-/// The certificate, changed so; a further model is taken of the other one.
-fn changed(
-    alloc: Global,
-    mut shown: ProgramCert,
-    mut other: ProgramCert,
-    change: &Change,
-) -> Result<ProgramCert, Memory> {
-    match change {
-        Change::Nothing => {}
-        Change::LastTraceEmpty => {
-            shown.none = Trace {
-                steps: Vec::new(alloc),
-            };
-        }
-        Change::ModelTwice => {
-            if let Some(model) = other.models.pop() {
-                shown.models.push(model)?;
-            }
-        }
-    }
-    Ok(shown)
-}
-
-/// Whether what shows the answer sets of the program of the first context, through all its atoms, is accepted after the
-/// change; each of them comes as often as there are models.
-fn is_program_shown(
-    alloc: Global,
-    system: &System,
-    outputs: &[Vars],
-    change: &Change,
-) -> Result<bool, Memory> {
+/// Whether what shows the answer sets of the program of the first context, through all its atoms, is accepted as showing
+/// the state of the first atom alone: as it is, or where the trace that refutes all others has no step any more.
+fn is_program_shown(alloc: Global, system: &System, has_trace: bool) -> Result<bool, Memory> {
     if system.contexts().is_empty() {
         return Ok(false);
     }
@@ -173,29 +138,24 @@ fn is_program_shown(
     if !are_different(atoms) {
         return Ok(false);
     }
-    let (first, second) = (shown(alloc, rules, atoms)?, shown(alloc, rules, atoms)?);
-    let shown = AnswerCert::Program(changed(alloc, first, second, change)?);
-    let accepted = is_accepted(alloc, system, 0, outputs, &shown);
+    let mut cert = shown(alloc, rules, atoms)?;
+    if !has_trace {
+        let steps = Vec::new(alloc);
+        drop(mem::replace(&mut cert.none, Trace { steps }));
+    }
+    let shown = AnswerCert::Program(cert);
+    let accepted = is_accepted(alloc, system, 0, &[Vars::one(0)], &shown);
     drop(shown);
     accepted
-}
-
-/// Whether it is accepted so unchanged, where its last trace is empty, and where a model comes twice.
-fn are_programs_shown(alloc: Global, system: &System) -> Result<[bool; 3], Memory> {
-    let (one, twice) = ([Vars::one(0)], [Vars::one(0), Vars::one(0)]);
-    Ok([
-        is_program_shown(alloc, system, &one, &Change::Nothing)?,
-        is_program_shown(alloc, system, &one, &Change::LastTraceEmpty)?,
-        is_program_shown(alloc, system, &twice, &Change::ModelTwice)?,
-    ])
 }
 
 #[test]
 fn a_program_is_shown_by_all_parts_of_its_certificate(rt: HostRuntime) -> Result<(), Fail> {
     let system = system_of(rt.alloc(), ONE)?;
-    let shown = are_programs_shown(rt.alloc(), &system);
+    let whole = is_program_shown(rt.alloc(), &system, true);
+    let without_trace = is_program_shown(rt.alloc(), &system, false);
     drop(system);
-    assert!(rt; shown == Ok([true, false, false]));
+    assert!(rt; whole == Ok(true) && without_trace == Ok(false));
     Ok(())
 }
 
@@ -230,14 +190,14 @@ fn a_theory_is_shown_by_each_set_of_its_defaults(rt: HostRuntime) -> Result<(), 
     Ok(())
 }
 
-/// Whether an oracle that holds the answer for the rule alone, as the certificate shows it, tells this state where it is
-/// asked, or misses the answer where there is none.
+/// Whether an oracle that holds the answer for the rule alone, as the certificate shows it, tells that the belief follows
+/// where the answer is held that it is asked for, and misses it where it is not.
 fn is_told(
     alloc: Global,
     system: &Arc<System>,
     shown: &AnswerCert,
     asked: Active,
-    state: Option<Vars>,
+    is_held: bool,
 ) -> Result<bool, Memory> {
     let rule = Active::one(0);
     if system.contexts().is_empty() {
@@ -255,21 +215,20 @@ fn is_told(
     let mut answers = Vec::new(alloc);
     answers.push((rule, outputs))?;
     let mut oracle = CertifiedOracle::new(alloc, system.clone()?, 0, answers);
-    let is_right = match (oracle.ask(alloc, asked), state) {
-        (Ok(states), Some(state)) => states.as_slice() == [state].as_slice(),
-        (Err(stop), None) => stop == OracleStop::Missing(asked),
-        _ => false,
+    let is_right = match oracle.ask(alloc, asked) {
+        Ok(states) => is_held && are_numbered(&states, &[1]),
+        Err(stop) => !is_held && stop == OracleStop::Missing(asked),
     };
     let is_noted = oracle.journal() == [asked].as_slice();
     drop(oracle);
-    Ok(is_right && is_noted == state.is_some())
+    Ok(is_right && is_noted == is_held)
 }
 
 /// Whether it tells the belief where it is asked with the rule, and has no answer where it is asked with none.
 fn are_told(alloc: Global, system: &Arc<System>) -> Result<[bool; 2], Fail> {
     let shown = certificate(alloc, &Claim::Follows("step by 1 2 4\n"))?;
-    let with_rule = is_told(alloc, system, &shown, Active::one(0), Some(Vars::one(0)));
-    let without = is_told(alloc, system, &shown, Active::empty(), None);
+    let with_rule = is_told(alloc, system, &shown, Active::one(0), true);
+    let without = is_told(alloc, system, &shown, Active::empty(), false);
     drop(shown);
     Ok([with_rule?, without?])
 }

@@ -33,7 +33,7 @@ fn lines_are_counted(rt: HostRuntime) {
 }
 
 /// What is taken, over the atoms `a` and `b` and two defaults, of which the first has two justifications and the second
-/// has one: two entailments, where they are several; that a default, or just the first, does not apply; that both do not.
+/// has one: two entailments, where they are several; that a default, or just this one, does not apply; that both do not.
 enum Part {
     Done,
     Trace,
@@ -44,8 +44,7 @@ enum Part {
     AllYes,
     AllNo,
     AllEither,
-    Absence,
-    First,
+    Absence(Option<u32>),
     Absences,
     Program,
     Verdicts,
@@ -74,8 +73,7 @@ fn take(
         Part::AllYes => take_all_yes(alloc, 2, lines).map(drop),
         Part::AllNo => take_all_no(alloc, atoms, 2, lines).map(drop),
         Part::AllEither => take_entailments(alloc, atoms, 2, lines).map(drop),
-        Part::Absence => take_absence(alloc, atoms, justs, None, lines).map(drop),
-        Part::First => take_absence(alloc, atoms, justs, Some(1), lines).map(drop),
+        Part::Absence(only) => take_absence(alloc, atoms, justs, *only, lines).map(drop),
         Part::Absences => take_absences(alloc, atoms, justs, places, lines).map(drop),
         Part::Program => take_program(alloc, atoms, 1, lines).map(drop),
         Part::Verdicts => take_verdicts(alloc, theory, lines).map(drop),
@@ -100,13 +98,17 @@ const TAKEN: &[(Part, &str, Result<u64, u64>)] = &[
     (Part::AllNo, "no {}\nno {a}\n", Ok(3)),
     (Part::AllNo, "no {}\nyes\nstep by 1\n", Err(2)),
     (Part::AllEither, "yes\nstep by 1\nno {}\n", Ok(4)),
-    (Part::Absence, "unsupported 2\nno {}\n", Ok(3)),
-    (Part::First, "unsupported 2\nno {}\n", Err(1)),
-    (Part::Absence, "unsupported 3\nno {}\n", Err(1)),
-    (Part::Absence, "unsupported 0\nno {}\n", Err(1)),
-    (Part::First, "blocked 1 2\nyes\nstep by 1\n", Ok(4)),
-    (Part::Absence, "blocked 2 2\nyes\nstep by 1\n", Err(1)),
-    (Part::Absence, "blocked 1 2\nno {}\n", Err(2)),
+    (Part::Absence(None), "unsupported 2\nno {}\n", Ok(3)),
+    (Part::Absence(Some(1)), "unsupported 2\nno {}\n", Err(1)),
+    (Part::Absence(None), "unsupported 3\nno {}\n", Err(1)),
+    (Part::Absence(None), "unsupported 0\nno {}\n", Err(1)),
+    (
+        Part::Absence(Some(1)),
+        "blocked 1 2\nyes\nstep by 1\n",
+        Ok(4),
+    ),
+    (Part::Absence(None), "blocked 2 2\nyes\nstep by 1\n", Err(1)),
+    (Part::Absence(None), "blocked 1 2\nno {}\n", Err(2)),
     (Part::Absences, ABSENCES, Ok(6)),
     (Part::Absences, "unsupported 2\nno {}\n", Err(1)),
     (Part::Program, PROGRAM, Ok(6)),
