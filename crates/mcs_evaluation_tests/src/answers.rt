@@ -1,15 +1,13 @@
 //! Lines of answers with certificates of each kind, made by hand, as they are written.
 
 use crate::systems::system_of;
+use crate::traces::trace_of;
 use mcs_base::{Memory, Text, Vars};
 use mcs_certificate::AnswerCert;
 use mcs_proof_text::{answer_lines, reports_have_one_fault, spelled_reports_have_no_fault};
 use mcs_spelling::push_atoms;
 use mcs_system::System;
-use mcs_trace::{
-    AnswerSetCert, ClassicalCert, Clause, DefaultCert, Entail, Outside, ProgramCert, SetCert, Step,
-    Trace,
-};
+use mcs_trace::{AnswerSetCert, ClassicalCert, DefaultCert, Entail, Outside, ProgramCert, SetCert};
 use std::alloc::Global;
 use std::test::Fail;
 
@@ -17,93 +15,107 @@ use std::test::Fail;
 const TOLD: &str = "context c1 classical { a | b. } context c2 classical {}
 bridge r1: c1:b if c1:a. bridge r2: c1:a if not c1:b.";
 
-/// One step.
-fn one_step(alloc: Global, literals: &[i64], chain: &[u64]) -> Result<Trace, Fail> {
-    let clause = Clause::new(literals.to_vec(alloc)?).ok_or("no clause")?;
-    let chain = chain.to_vec(alloc)?;
-    let mut steps = Vec::new(alloc);
-    steps.push(Step { clause, chain })?;
-    Ok(Trace { steps })
-}
-
 /// By one step that it follows.
 fn yes(alloc: Global) -> Result<Entail, Fail> {
-    Ok(Entail::Yes(one_step(alloc, &[], &[1, 2])?))
+    Ok(Entail::Yes(trace_of(alloc, "step by 1 2\n")?))
 }
 
-/// By these sets of atoms that it does not follow.
-fn all_no(alloc: Global, sets: &[u64]) -> Result<Vec<Entail>, Memory> {
+/// By this set of atoms that it does not follow, alone.
+fn only_no(alloc: Global, set: u64) -> Result<Vec<Entail>, Memory> {
     let mut entails = Vec::new(alloc);
-    for set in sets {
-        entails.push(Entail::No(*set))?;
-    }
+    entails.push(Entail::No(set))?;
     Ok(entails)
 }
 
 /// Entailments, one that follows and one that does not.
 fn of_formulas(alloc: Global) -> Result<AnswerCert, Fail> {
-    let mut entails = all_no(alloc, &[2])?;
+    let mut entails = only_no(alloc, 2)?;
     entails.push(yes(alloc)?)?;
     Ok(AnswerCert::Classical(ClassicalCert { entails }))
 }
 
-/// Verdicts of each kind.
-fn of_defaults(alloc: Global) -> Result<AnswerCert, Fail> {
-    let (mut sets, mut pres, mut outside) = (Vec::new(alloc), Vec::new(alloc), Vec::new(alloc));
-    sets.push(SetCert::Fails(Outside::Blocked(1, 2, yes(alloc)?)))?;
-    let (pre, justs) = (yes(alloc)?, all_no(alloc, &[1])?);
-    sets.push(SetCert::Applied {
-        number: 2,
-        pre,
-        justs,
-    })?;
-    let beside = all_no(alloc, &[2])?;
-    sets.push(SetCert::Ungrounded {
-        closed: 1,
-        pres: beside,
-    })?;
+/// What shows of one of the sets of two defaults whether it generates an extension: each shows it in its own way.
+enum Verdict {
+    Blocked,
+    Applied,
+    Ungrounded,
+    Extension,
+}
+
+/// The verdicts on the sets in their order.
+const VERDICTS: &[Verdict] = &[
+    Verdict::Blocked,
+    Verdict::Applied,
+    Verdict::Ungrounded,
+    Verdict::Extension,
+];
+
+/// That the set of both defaults generates an extension.
+fn extension(alloc: Global) -> Result<SetCert, Fail> {
+    let (mut pres, mut outside) = (Vec::new(alloc), Vec::new(alloc));
     pres.push(yes(alloc)?)?;
     outside.push(Outside::Unsupported(1, Entail::No(1)))?;
-    let (order, justs, outputs) = (
-        [2, 1].to_vec(alloc)?,
-        all_no(alloc, &[0])?,
-        all_no(alloc, &[3])?,
-    );
-    sets.push(SetCert::Extension {
-        order,
+    Ok(SetCert::Extension {
+        order: [2, 1].to_vec(alloc)?,
         pres,
-        justs,
+        justs: only_no(alloc, 0)?,
         outside,
-        outputs,
-    })?;
+        outputs: only_no(alloc, 3)?,
+    })
+}
+
+/// The verdict.
+fn shown(alloc: Global, verdict: &Verdict) -> Result<SetCert, Fail> {
+    Ok(match verdict {
+        Verdict::Blocked => SetCert::Fails(Outside::Blocked(1, 2, yes(alloc)?)),
+        Verdict::Applied => SetCert::Applied {
+            number: 2,
+            pre: yes(alloc)?,
+            justs: only_no(alloc, 1)?,
+        },
+        Verdict::Ungrounded => SetCert::Ungrounded {
+            closed: 1,
+            pres: only_no(alloc, 2)?,
+        },
+        Verdict::Extension => extension(alloc)?,
+    })
+}
+
+/// Verdicts of each kind.
+fn of_defaults(alloc: Global) -> Result<AnswerCert, Fail> {
+    let mut sets = Vec::new(alloc);
+    for verdict in VERDICTS {
+        sets.push(shown(alloc, verdict)?)?;
+    }
     Ok(AnswerCert::Default(DefaultCert { sets }))
 }
 
 /// A model, two smaller sets, and a last trace.
 fn of_program(alloc: Global) -> Result<AnswerCert, Fail> {
     let mut models = Vec::new(alloc);
-    let minimal = one_step(alloc, &[1, -2], &[3])?;
+    let minimal = trace_of(alloc, "step 1 -2 by 3\n")?;
     models.push(AnswerSetCert { model: 1, minimal })?;
-    let smaller = [0, 2].to_vec(alloc)?;
-    let none = one_step(alloc, &[], &[4])?;
     Ok(AnswerCert::Program(ProgramCert {
         models,
-        smaller,
-        none,
+        smaller: [0, 2].to_vec(alloc)?,
+        none: trace_of(alloc, "step by 4\n")?,
     }))
 }
 
-const FORMULAS: &str = "no {b}\nyes\nstep by 1 2\n";
+const FORMULAS: &str =
+    "answer c1 {r1, r2}\nstate {c1:a, c1:b}\nstate {}\nno {b}\nyes\nstep by 1 2\ndone\n{b}";
 
 const DEFAULTS: &str =
-    "set {}\nblocked 1 2\nyes\nstep by 1 2\nset {1}\napplied 2\nyes\nstep by 1 2\nno {a}\n\
-set {2}\nungrounded {1}\nno {b}\nset {1, 2}\nextension 2 1\nyes\nstep by 1 2\nno {}\nunsupported 1\nno {a}\n\
-no {a, b}\n";
+    "answer c1 {r1, r2}\nstate {c1:a, c1:b}\nstate {}\nset {}\nblocked 1 2\nyes\nstep by 1 2\n\
+set {1}\napplied 2\nyes\nstep by 1 2\nno {a}\nset {2}\nungrounded {1}\nno {b}\nset {1, 2}\nextension 2 1\nyes\n\
+step by 1 2\nno {}\nunsupported 1\nno {a}\nno {a, b}\ndone\n{b}";
 
-const PROGRAM: &str = "model {a}\nstep 1 -2 by 3\nsmaller {}\nsmaller {b}\nnone\nstep by 4\n";
+const PROGRAM: &str =
+    "answer c1 {r1, r2}\nstate {c1:a, c1:b}\nstate {}\nmodel {a}\nstep 1 -2 by 3\nsmaller {}\nsmaller {b}\nnone\n\
+step by 4\ndone\n{b}";
 
-/// Whether the lines of an answer are these, of the first context with each rule into it, where a state with all its
-/// variables and the empty state are put out.
+/// Whether the lines of an answer, and then the set of the second atom, are this text: the answer of the first context
+/// with each rule into it, where a state with all its variables and the empty state are put out.
 #[tactic(auto, using(mcs_system::proofs::ContextSets::rules_into_known))]
 fn is_written(
     alloc: Global,
@@ -112,29 +124,49 @@ fn is_written(
     lines: &str,
 ) -> Result<bool, Memory> {
     if system.contexts().is_empty() {
+        drop(shown);
         return Ok(false);
     }
     let outputs = [system.vars_of(0), Vars::empty()];
-    let (mut text, mut wanted) = (Text::new(alloc), Text::new(alloc));
+    let mut text = Text::new(alloc);
     let done = answer_lines(system, 0, system.rules_of(0), &outputs, &shown, &mut text);
     drop(shown);
     done?;
-    wanted.push(b"answer c1 {r1, r2}\nstate {c1:a, c1:b}\nstate {}\n")?;
-    wanted.push(lines.as_bytes())?;
-    wanted.push(b"done\n")?;
     push_atoms(&mut text, system.atoms_of(0), 2)?;
-    wanted.push(b"{b}")?;
-    Ok(text.bytes() == wanted.bytes())
+    Ok(text.bytes() == lines.as_bytes())
 }
+
+/// The kinds of certificates.
+enum Kind {
+    Formulas,
+    Defaults,
+    Program,
+}
+
+/// The certificate of the kind.
+fn certificate(alloc: Global, kind: &Kind) -> Result<AnswerCert, Fail> {
+    match kind {
+        Kind::Formulas => of_formulas(alloc),
+        Kind::Defaults => of_defaults(alloc),
+        Kind::Program => of_program(alloc),
+    }
+}
+
+/// Kinds of certificates, and the texts of answers with them.
+const ANSWERS: &[(Kind, &str)] = &[
+    (Kind::Formulas, FORMULAS),
+    (Kind::Defaults, DEFAULTS),
+    (Kind::Program, PROGRAM),
+];
 
 #[test]
 fn answers_are_written(rt: HostRuntime) -> Result<(), Fail> {
     spelled_reports_have_no_fault();
     reports_have_one_fault();
-    let alloc = rt.alloc();
-    let system = system_of(alloc, TOLD)?;
-    assert!(rt; is_written(alloc, &system, of_formulas(alloc)?, FORMULAS)?);
-    assert!(rt; is_written(alloc, &system, of_defaults(alloc)?, DEFAULTS)?);
-    assert!(rt; is_written(alloc, &system, of_program(alloc)?, PROGRAM)?);
+    let system = system_of(rt.alloc(), TOLD)?;
+    for (kind, lines) in ANSWERS {
+        let shown = certificate(rt.alloc(), kind)?;
+        assert!(rt; is_written(rt.alloc(), &system, shown, lines) == Ok(true));
+    }
     Ok(())
 }

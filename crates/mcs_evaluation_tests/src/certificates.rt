@@ -1,16 +1,19 @@
 //! Certificates of what a context accepts, made by hand.
 
+use crate::numbered::are_numbered;
 use crate::programs::{program_in, shown};
 use crate::systems::{first_knowledge, system_of};
 use crate::theories::{beliefs_of, theory_in};
+use crate::traces::trace_of;
 use mcs_base::{Active, Memory, Vars};
 use mcs_certificate::{AnswerCert, CertifiedOracle, accepts};
 use mcs_cnf::{are_different, are_over};
 use mcs_default::extensions;
 use mcs_states::{Oracle, OracleStop};
 use mcs_system::System;
-use mcs_trace::{ClassicalCert, Clause, DefaultCert, Entail, ProgramCert, Step, Trace};
+use mcs_trace::{ClassicalCert, DefaultCert, Entail, Trace};
 use std::alloc::Global;
+use std::mem;
 use std::sync::Arc;
 use std::test::Fail;
 
@@ -33,21 +36,33 @@ const BIRD: &str = "context c1 default { bird. bird : flies / flies. flies : win
 context c2 classical { flies. }
 bridge r: c2:x if c1:flies.";
 
-/// One step, from the clauses of these numbers to the empty clause. Clause 1 is the fact; clauses 2 and 3 say that variable
-/// 2 is the negation of variable 1, that of the fact; clause 4 is that the negation holds.
-fn one_step(alloc: Global, chain: &[u64]) -> Result<Trace, Fail> {
-    let clause = Clause::new(Vec::new(alloc)).ok_or("no clause")?;
-    let chain = chain.to_vec(alloc)?;
-    let mut steps = Vec::new(alloc);
-    steps.push(Step { clause, chain })?;
-    Ok(Trace { steps })
+/// What a certificate of a context with one fact says of its one belief. Clause 1 is the fact; clauses 2 and 3 say that
+/// variable 2 is the negation of variable 1, that of the fact; clause 4 is that the negation holds.
+enum Claim {
+    /// It follows, by this trace.
+    Follows(&'static str),
+    /// It does not follow, since it does not hold where no atom does.
+    Fails,
+    /// Nothing: it is a certificate of a default theory.
+    OfAnotherKind,
 }
 
 /// The certificate that says this of the one belief.
-fn certificate(alloc: Global, entail: Entail) -> Result<AnswerCert, Memory> {
+fn of_belief(alloc: Global, entail: Entail) -> Result<AnswerCert, Fail> {
     let mut entails = Vec::new(alloc);
     entails.push(entail)?;
     Ok(AnswerCert::Classical(ClassicalCert { entails }))
+}
+
+/// The certificate that says this.
+fn certificate(alloc: Global, claim: &Claim) -> Result<AnswerCert, Fail> {
+    match claim {
+        Claim::Follows(lines) => of_belief(alloc, Entail::Yes(trace_of(alloc, lines)?)),
+        Claim::Fails => of_belief(alloc, Entail::No(0)),
+        Claim::OfAnotherKind => Ok(AnswerCert::Default(DefaultCert {
+            sets: Vec::new(alloc),
+        })),
+    }
 }
 
 /// Whether the certificate is accepted of the context, with no rule, as showing the outputs.
@@ -66,92 +81,53 @@ fn is_accepted(
     accepts(alloc, system, context, Active::empty(), outputs, shown)
 }
 
-/// Of which of three lists of outputs of the context it is accepted: the belief alone, nothing believed, and no output.
-fn accepted_of(
+/// Whether the certificate that says this is accepted of the context as showing the state of this number alone.
+fn is_claimed(
     alloc: Global,
     system: &System,
     context: u32,
-    shown: AnswerCert,
-) -> Result<[bool; 3], Memory> {
-    let believed = is_accepted(alloc, system, context, &[Vars::one(0)], &shown);
-    let doubted = is_accepted(alloc, system, context, &[Vars::empty()], &shown);
-    let refused = is_accepted(alloc, system, context, &[], &shown);
+    claim: &Claim,
+    state: u64,
+) -> Result<bool, Fail> {
+    let shown = certificate(alloc, claim)?;
+    let accepted = is_accepted(alloc, system, context, &[Vars::numbered(state)], &shown);
     drop(shown);
-    Ok([believed?, doubted?, refused?])
+    Ok(accepted?)
 }
+
+/// Of a context with one fact what a certificate says, the number of the state that it is to show, and whether it is
+/// accepted: 1 where the fact is believed, and 0 where it is not.
+const CLAIMS: &[(&str, u32, Claim, u64, bool)] = &[
+    (FACT, 0, Claim::Follows("step by 1 2 4\n"), 1, true),
+    (FACT, 0, Claim::Follows("step by 4 2 1\n"), 1, true),
+    (SECOND_FACT, 1, Claim::Follows("step by 1 2 4\n"), 1, true),
+    (FACT, 0, Claim::Follows("step by 1 2 4\n"), 0, false),
+    (FACT, 0, Claim::Follows("step by 4 2 1\n"), 0, false),
+    (SECOND_FACT, 1, Claim::Follows("step by 1 2 4\n"), 0, false),
+    (FACT, 0, Claim::Follows("step by 1\n"), 1, false),
+    (FACT, 0, Claim::Follows("step by 1\n"), 0, false),
+    (FACT, 0, Claim::Follows("step by 1 2 5\n"), 1, false),
+    (FACT, 0, Claim::Follows("step by 1 2 5\n"), 0, false),
+    (FACT, 0, Claim::Fails, 1, false),
+    (FACT, 0, Claim::Fails, 0, false),
+    (FACT, 0, Claim::OfAnotherKind, 1, false),
+    (FACT, 0, Claim::OfAnotherKind, 0, false),
+];
 
 #[test]
-fn a_right_trace_shows_what_is_believed(rt: HostRuntime) -> Result<(), Fail> {
-    let alloc = rt.alloc();
-    let system = system_of(alloc, FACT)?;
-    let right = certificate(alloc, Entail::Yes(one_step(alloc, &[1, 2, 4])?))?;
-    assert!(rt; accepted_of(alloc, &system, 0, right)? == [true, false, false]);
-    let turned = certificate(alloc, Entail::Yes(one_step(alloc, &[4, 2, 1])?))?;
-    assert!(rt; accepted_of(alloc, &system, 0, turned)? == [true, false, false]);
-    let second = system_of(alloc, SECOND_FACT)?;
-    let right = certificate(alloc, Entail::Yes(one_step(alloc, &[1, 2, 4])?))?;
-    assert!(rt; accepted_of(alloc, &second, 1, right)? == [true, false, false]);
-    Ok(())
-}
-
-#[test]
-fn what_shows_nothing_is_not_accepted(rt: HostRuntime) -> Result<(), Fail> {
-    let alloc = rt.alloc();
-    let system = system_of(alloc, FACT)?;
-    let fact_alone = certificate(alloc, Entail::Yes(one_step(alloc, &[1])?))?;
-    assert!(rt; accepted_of(alloc, &system, 0, fact_alone)? == [false; 3]);
-    let above_the_last = certificate(alloc, Entail::Yes(one_step(alloc, &[1, 2, 5])?))?;
-    assert!(rt; accepted_of(alloc, &system, 0, above_the_last)? == [false; 3]);
-    let denied = certificate(alloc, Entail::No(0))?;
-    assert!(rt; accepted_of(alloc, &system, 0, denied)? == [false; 3]);
-    let of_another_kind = AnswerCert::Default(DefaultCert {
-        sets: Vec::new(alloc),
-    });
-    assert!(rt; accepted_of(alloc, &system, 0, of_another_kind)? == [false; 3]);
-    Ok(())
-}
-
-/// What is done to what shows the answer sets of a program.
-#[derive(Clone, Copy, Debug, PartialEq, Eq)]
-enum Change {
-    Nothing,
-    /// The trace that refutes all others has no step any more.
-    LastTraceEmpty,
-    /// A model comes once more.
-    ModelTwice,
-}
-
-/// The certificate, changed so; a further model is taken of the other one.
-fn changed(
-    alloc: Global,
-    mut shown: ProgramCert,
-    mut other: ProgramCert,
-    change: Change,
-) -> Result<ProgramCert, Memory> {
-    match change {
-        Change::Nothing => {}
-        Change::LastTraceEmpty => {
-            shown.none = Trace {
-                steps: Vec::new(alloc),
-            };
-        }
-        Change::ModelTwice => {
-            if let Some(model) = other.models.pop() {
-                shown.models.push(model)?;
-            }
-        }
+fn a_right_trace_alone_shows_what_is_believed(rt: HostRuntime) -> Result<(), Fail> {
+    for (text, context, claim, state, is_right) in CLAIMS {
+        let system = system_of(rt.alloc(), text)?;
+        let accepted = is_claimed(rt.alloc(), &system, *context, claim, *state);
+        drop(system);
+        assert!(rt; accepted? == *is_right);
     }
-    Ok(shown)
+    Ok(())
 }
 
-/// Whether what shows the answer sets of the program of the first context, through all its atoms, is accepted after the
-/// change; each of them comes as often as there are models.
-fn is_program_shown(
-    alloc: Global,
-    system: &System,
-    outputs: &[Vars],
-    change: Change,
-) -> Result<bool, Memory> {
+/// Whether what shows the answer sets of the program of the first context, through all its atoms, is accepted as showing
+/// the state of the first atom alone: as it is, or where the trace that refutes all others has no step any more.
+fn is_program_shown(alloc: Global, system: &System, has_trace: bool) -> Result<bool, Memory> {
     if system.contexts().is_empty() {
         return Ok(false);
     }
@@ -162,26 +138,30 @@ fn is_program_shown(
     if !are_different(atoms) {
         return Ok(false);
     }
-    let (first, second) = (shown(alloc, rules, atoms)?, shown(alloc, rules, atoms)?);
-    let shown = AnswerCert::Program(changed(alloc, first, second, change)?);
-    is_accepted(alloc, system, 0, outputs, &shown)
+    let mut cert = shown(alloc, rules, atoms)?;
+    if !has_trace {
+        let steps = Vec::new(alloc);
+        drop(mem::replace(&mut cert.none, Trace { steps }));
+    }
+    let shown = AnswerCert::Program(cert);
+    let accepted = is_accepted(alloc, system, 0, &[Vars::one(0)], &shown);
+    drop(shown);
+    accepted
 }
 
 #[test]
 fn a_program_is_shown_by_all_parts_of_its_certificate(rt: HostRuntime) -> Result<(), Fail> {
-    let alloc = rt.alloc();
-    let system = system_of(alloc, ONE)?;
-    let one = [Vars::one(0)];
-    let twice = [Vars::one(0), Vars::one(0)];
-    assert!(rt; is_program_shown(alloc, &system, &one, Change::Nothing)?);
-    assert!(rt; !is_program_shown(alloc, &system, &one, Change::LastTraceEmpty)?);
-    assert!(rt; !is_program_shown(alloc, &system, &twice, Change::ModelTwice)?);
+    let system = system_of(rt.alloc(), ONE)?;
+    let whole = is_program_shown(rt.alloc(), &system, true);
+    let without_trace = is_program_shown(rt.alloc(), &system, false);
+    drop(system);
+    assert!(rt; whole == Ok(true) && without_trace == Ok(false));
     Ok(())
 }
 
 /// Whether what shows the extensions of the theory of the first context, through the formulas of the second, is
-/// accepted with these outputs.
-fn is_theory_shown(alloc: Global, system: &System, outputs: &[Vars]) -> Result<bool, Memory> {
+/// accepted as showing that the first of these is believed.
+fn is_theory_shown(alloc: Global, system: &System) -> Result<bool, Memory> {
     if system.contexts().is_empty() {
         return Ok(false);
     }
@@ -193,28 +173,32 @@ fn is_theory_shown(alloc: Global, system: &System, outputs: &[Vars]) -> Result<b
     if beliefs.len() > 64 || !are_over(atoms, beliefs) || !are_different(atoms) {
         return Ok(false);
     }
-    let (_, cert) = extensions(alloc, items, &[], beliefs, atoms)?;
-    is_accepted(alloc, system, 0, outputs, &AnswerCert::Default(cert))
+    let (views, cert) = extensions(alloc, items, &[], beliefs, atoms)?;
+    drop(views);
+    let shown = AnswerCert::Default(cert);
+    let accepted = is_accepted(alloc, system, 0, &[Vars::one(0)], &shown);
+    drop(shown);
+    accepted
 }
 
 #[test]
 fn a_theory_is_shown_by_each_set_of_its_defaults(rt: HostRuntime) -> Result<(), Fail> {
-    let alloc = rt.alloc();
-    let system = system_of(alloc, BIRD)?;
-    assert!(rt; is_theory_shown(alloc, &system, &[Vars::one(0)])?);
-    assert!(rt; !is_theory_shown(alloc, &system, &[Vars::empty()])?);
+    let system = system_of(rt.alloc(), BIRD)?;
+    let is_shown = is_theory_shown(rt.alloc(), &system);
+    drop(system);
+    assert!(rt; is_shown == Ok(true));
     Ok(())
 }
 
-/// Whether an oracle that holds the answer for the rule alone, as the certificate shows it, tells this state where it is
-/// asked, or misses the answer where there is none.
+/// Whether an oracle that holds the answer for the rule alone, as the certificate shows it, tells that the belief follows
+/// where the answer is held that it is asked for, and misses it where it is not.
 fn is_told(
     alloc: Global,
     system: &Arc<System>,
     shown: &AnswerCert,
     asked: Active,
-    state: Option<Vars>,
-) -> Result<bool, Fail> {
+    is_held: bool,
+) -> Result<bool, Memory> {
     let rule = Active::one(0);
     if system.contexts().is_empty() {
         return Ok(false);
@@ -231,21 +215,29 @@ fn is_told(
     let mut answers = Vec::new(alloc);
     answers.push((rule, outputs))?;
     let mut oracle = CertifiedOracle::new(alloc, system.clone()?, 0, answers);
-    let answer = oracle.ask(alloc, asked);
+    let is_right = match oracle.ask(alloc, asked) {
+        Ok(states) => is_held && are_numbered(&states, &[1]),
+        Err(stop) => !is_held && stop == OracleStop::Missing(asked),
+    };
     let is_noted = oracle.journal() == [asked].as_slice();
     drop(oracle);
-    Ok(match answer {
-        Ok(states) => is_noted && states.len() == 1 && states.first().copied() == state,
-        Err(stop) => !is_noted && stop == OracleStop::Missing(asked) && state.is_none(),
-    })
+    Ok(is_right && is_noted == is_held)
+}
+
+/// Whether it tells the belief where it is asked with the rule, and has no answer where it is asked with none.
+fn are_told(alloc: Global, system: &Arc<System>) -> Result<[bool; 2], Fail> {
+    let shown = certificate(alloc, &Claim::Follows("step by 1 2 4\n"))?;
+    let with_rule = is_told(alloc, system, &shown, Active::one(0), true);
+    let without = is_told(alloc, system, &shown, Active::empty(), false);
+    drop(shown);
+    Ok([with_rule?, without?])
 }
 
 #[test]
 fn an_oracle_of_certificates_holds_its_answers_alone(rt: HostRuntime) -> Result<(), Fail> {
-    let alloc = rt.alloc();
-    let system = system_of(alloc, TOLD)?;
-    let shown = certificate(alloc, Entail::Yes(one_step(alloc, &[1, 2, 4])?))?;
-    assert!(rt; is_told(alloc, &system, &shown, Active::one(0), Some(Vars::one(0)))?);
-    assert!(rt; is_told(alloc, &system, &shown, Active::empty(), None)?);
+    let system = system_of(rt.alloc(), TOLD)?;
+    let told = are_told(rt.alloc(), &system);
+    drop(system);
+    assert!(rt; told? == [true; 2]);
     Ok(())
 }

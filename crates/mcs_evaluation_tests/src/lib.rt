@@ -18,6 +18,8 @@ mod lines;
 #[cfg(test)]
 mod meshes;
 #[cfg(test)]
+mod numbered;
+#[cfg(test)]
 mod programs;
 #[cfg(test)]
 mod reports;
@@ -31,3 +33,5 @@ mod systems;
 mod tables;
 #[cfg(test)]
 mod theories;
+#[cfg(test)]
+mod traces;

@@ -3,7 +3,7 @@
 ghost use Rattle.std.specs.Prelude.{◌≤◌, length};
 
 use crate::spelling::texts_of;
-use mcs_base::{Memory, Vars};
+use mcs_base::{Text, Vars};
 use mcs_proof_lines::{
     Lines, ReportFault, Theory, expect, is_next, number_after, out_of_place, take_absence,
     take_absences, take_all_no, take_all_yes, take_atoms, take_entailment, take_entailments,
@@ -13,23 +13,27 @@ use std::alloc::Global;
 use std::test::Fail;
 
 #[test]
-fn lines_are_counted(rt: HostRuntime) -> Result<(), Fail> {
-    for (text, is_whole) in [("yes\n\n", true), ("yes\n\nno", false)] {
+fn lines_are_counted(rt: HostRuntime) {
+    for (text, is_whole) in &[("yes\n\n", true), ("yes\n\nno", false)] {
         let mut lines = Lines::new(text.as_bytes());
-        assert!(rt; is_next(&lines, b"yes") && lines.number() == 1 && !lines.is_at_end());
+        let is_first = is_next(&lines, b"yes") && lines.number() == 1;
+        let is_ended_by_one = lines.is_at_end();
         lines.advance();
-        assert!(rt; lines.current() == Some(b"".as_slice()) && !lines.is_at_end());
+        let is_second = lines.current() == Some(b"".as_slice());
+        let is_ended_by_two = lines.is_at_end();
         lines.advance();
         lines.advance();
-        assert!(rt; lines.current().is_none() && lines.is_at_end() == is_whole);
-        assert!(rt; out_of_place(&lines) == ReportFault::Grammar { line: 3 });
+        let is_none = lines.current().is_none();
+        let is_third = out_of_place(&lines) == ReportFault::Grammar { line: 3 };
+        assert!(rt; [is_first, is_second, is_none, is_third] == [true; 4]);
+        assert!(rt;
+            [is_ended_by_one, is_ended_by_two, lines.is_at_end()] == [false, false, *is_whole]
+        );
     }
-    Ok(())
 }
 
 /// What is taken, over the atoms `a` and `b` and two defaults, of which the first has two justifications and the second
-/// has one: two entailments, where they are several; that a default, or just the first, does not apply; that both do not.
-#[derive(Clone, Copy)]
+/// has one: two entailments, where they are several; that a default, or just this one, does not apply; that both do not.
 enum Part {
     Done,
     Trace,
@@ -40,8 +44,7 @@ enum Part {
     AllYes,
     AllNo,
     AllEither,
-    Absence,
-    First,
+    Absence(Option<u32>),
     Absences,
     Program,
     Verdicts,
@@ -51,7 +54,7 @@ enum Part {
 fn take(
     alloc: Global,
     theory: &Theory<'_>,
-    part: Part,
+    part: &Part,
     lines: &mut Lines<'_>,
 ) -> Result<(), ReportFault>
     requires atoms { length theory.now.atoms.now ≤ 64 }
@@ -61,26 +64,24 @@ fn take(
     let (atoms, justs) = (theory.atoms, theory.justs);
     let places = theory.places().members();
     match part {
-        Part::Done => expect(lines, b"done")?,
-        Part::Trace => drop(take_trace(alloc, lines)?),
-        Part::Yes => drop(take_yes(alloc, lines)?),
-        Part::No => drop(take_no(atoms, lines)?),
-        Part::Model => drop(take_atoms(b"model ", atoms, lines)?),
-        Part::Either => drop(take_entailment(alloc, atoms, lines)?),
-        Part::AllYes => drop(take_all_yes(alloc, 2, lines)?),
-        Part::AllNo => drop(take_all_no(alloc, atoms, 2, lines)?),
-        Part::AllEither => drop(take_entailments(alloc, atoms, 2, lines)?),
-        Part::Absence => drop(take_absence(alloc, atoms, justs, None, lines)?),
-        Part::First => drop(take_absence(alloc, atoms, justs, Some(1), lines)?),
-        Part::Absences => drop(take_absences(alloc, atoms, justs, places, lines)?),
-        Part::Program => drop(take_program(alloc, atoms, 1, lines)?),
-        Part::Verdicts => drop(take_verdicts(alloc, theory, lines)?),
+        Part::Done => expect(lines, b"done"),
+        Part::Trace => take_trace(alloc, lines).map(drop),
+        Part::Yes => take_yes(alloc, lines).map(drop),
+        Part::No => take_no(atoms, lines).map(drop),
+        Part::Model => take_atoms(b"model ", atoms, lines).map(drop),
+        Part::Either => take_entailment(alloc, atoms, lines).map(drop),
+        Part::AllYes => take_all_yes(alloc, 2, lines).map(drop),
+        Part::AllNo => take_all_no(alloc, atoms, 2, lines).map(drop),
+        Part::AllEither => take_entailments(alloc, atoms, 2, lines).map(drop),
+        Part::Absence(only) => take_absence(alloc, atoms, justs, *only, lines).map(drop),
+        Part::Absences => take_absences(alloc, atoms, justs, places, lines).map(drop),
+        Part::Program => take_program(alloc, atoms, 1, lines).map(drop),
+        Part::Verdicts => take_verdicts(alloc, theory, lines).map(drop),
     }
-    Ok(())
 }
 
 /// Parts and texts; the number of the line that is next where the part is taken, or else of the one that is out of place.
-const TAKEN: [(Part, &str, Result<u64, u64>); 29] = [
+const TAKEN: &[(Part, &str, Result<u64, u64>)] = &[
     (Part::Done, "done\n", Ok(2)),
     (Part::Done, "done", Err(1)),
     (Part::Trace, "step 1 by 2\nstep by 3\nyes\n", Ok(3)),
@@ -97,13 +98,17 @@ const TAKEN: [(Part, &str, Result<u64, u64>); 29] = [
     (Part::AllNo, "no {}\nno {a}\n", Ok(3)),
     (Part::AllNo, "no {}\nyes\nstep by 1\n", Err(2)),
     (Part::AllEither, "yes\nstep by 1\nno {}\n", Ok(4)),
-    (Part::Absence, "unsupported 2\nno {}\n", Ok(3)),
-    (Part::First, "unsupported 2\nno {}\n", Err(1)),
-    (Part::Absence, "unsupported 3\nno {}\n", Err(1)),
-    (Part::Absence, "unsupported 0\nno {}\n", Err(1)),
-    (Part::First, "blocked 1 2\nyes\nstep by 1\n", Ok(4)),
-    (Part::Absence, "blocked 2 2\nyes\nstep by 1\n", Err(1)),
-    (Part::Absence, "blocked 1 2\nno {}\n", Err(2)),
+    (Part::Absence(None), "unsupported 2\nno {}\n", Ok(3)),
+    (Part::Absence(Some(1)), "unsupported 2\nno {}\n", Err(1)),
+    (Part::Absence(None), "unsupported 3\nno {}\n", Err(1)),
+    (Part::Absence(None), "unsupported 0\nno {}\n", Err(1)),
+    (
+        Part::Absence(Some(1)),
+        "blocked 1 2\nyes\nstep by 1\n",
+        Ok(4),
+    ),
+    (Part::Absence(None), "blocked 2 2\nyes\nstep by 1\n", Err(1)),
+    (Part::Absence(None), "blocked 1 2\nno {}\n", Err(2)),
     (Part::Absences, ABSENCES, Ok(6)),
     (Part::Absences, "unsupported 2\nno {}\n", Err(1)),
     (Part::Program, PROGRAM, Ok(6)),
@@ -122,44 +127,54 @@ const VERDICTS: &str =
 set {2}\nungrounded {}\nno {b}\nset {1, 2}\nextension 2 1\nyes\nstep by 1 2\nyes\nstep by 1 2\nno {}\nno {}\nno {a}\n\
 no {a, b}\nno {}\n";
 
-/// How far the part is taken from the text, or not, where the theory has two beliefs.
-fn taken(alloc: Global, part: Part, text: &str) -> Result<Option<Result<u64, u64>>, Memory> {
-    let (atoms, numbers) = (texts_of(alloc, &["a", "b"])?, texts_of(alloc, &["1", "2"])?);
+/// Whether the part is taken so far from the text, or not, where the theory has two beliefs.
+fn is_taken(
+    alloc: Global,
+    atoms: &[Text],
+    numbers: &[Text],
+    part: &Part,
+    text: &str,
+    wanted: Result<u64, u64>,
+) -> bool {
     if atoms.len() > 64 || numbers.len() > 64 {
-        return Ok(None);
+        return false;
     }
     let theory = Theory {
-        atoms: &atoms,
-        numbers: &numbers,
+        atoms,
+        numbers,
         justs: &[2, 1],
         beliefs: 2,
     };
     let mut lines = Lines::new(text.as_bytes());
     match take(alloc, &theory, part, &mut lines) {
-        Ok(()) => Ok(Some(Ok(lines.number()))),
-        Err(ReportFault::Grammar { line }) => Ok(Some(Err(line))),
-        Err(ReportFault::Memory) => Err(Memory),
+        Ok(()) => wanted == Ok(lines.number()),
+        Err(ReportFault::Grammar { line }) => wanted == Err(line),
+        Err(ReportFault::Memory) => false,
     }
 }
 
 #[test]
 fn lines_are_taken(rt: HostRuntime) -> Result<(), Fail> {
+    let alloc = rt.alloc();
+    let (atoms, numbers) = (texts_of(alloc, &["a", "b"])?, texts_of(alloc, &["1", "2"])?);
     for (part, text, wanted) in TAKEN {
-        assert!(rt; taken(rt.alloc(), part, text)? == Some(wanted));
+        assert!(rt; is_taken(alloc, &atoms, &numbers, part, text, *wanted));
     }
     Ok(())
 }
 
+/// Lines, and the number of one of two defaults after the word `applied`.
+const APPLIED: &[(&str, Option<u32>)] = &[
+    ("applied 2", Some(2)),
+    ("applied 3", None),
+    ("applied 0", None),
+    ("set 1", None),
+];
+
 #[test]
-fn defaults_have_numbers_and_justifications(rt: HostRuntime) -> Result<(), Fail> {
-    let numbers = [
-        ("applied 2", Some(2)),
-        ("applied 3", None),
-        ("applied 0", None),
-        ("set 1", None),
-    ];
-    for (line, number) in numbers {
-        assert!(rt; number_after(b"applied ", 2, line.as_bytes()) == number);
+fn defaults_have_numbers_and_justifications(rt: HostRuntime) {
+    for (line, number) in APPLIED {
+        assert!(rt; number_after(b"applied ", 2, line.as_bytes()) == *number);
     }
     let theory = Theory {
         atoms: &[],
@@ -167,7 +182,7 @@ fn defaults_have_numbers_and_justifications(rt: HostRuntime) -> Result<(), Fail>
         justs: &[2, 1, 4],
         beliefs: 0,
     };
-    assert!(rt; theory.places().number() == 7 && theory.just_count(2) == 4);
-    assert!(rt; theory.count_justs(Vars::numbered(5).members()) == Some(6));
-    Ok(())
+    let (places, last) = (theory.places().number(), theory.just_count(2));
+    let both = theory.count_justs(Vars::numbered(5).members());
+    assert!(rt; places == 7 && last == 4 && both == Some(6));
 }

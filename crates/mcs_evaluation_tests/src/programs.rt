@@ -6,11 +6,12 @@ ghost use Rattle.mcs_system.specs.Seen.{kb_of, rule_of};
 ghost use Rattle.mcs_certificate.specs.Kinds.{IsOverKb};
 ghost use Rattle.mcs_evidence.specs.Programs.{AreOverRules};
 
+use crate::numbered::are_numbered;
 use crate::systems::{first_knowledge, system_of};
-use mcs_base::{Memory, Vars};
+use mcs_base::Memory;
 use mcs_cnf::are_different;
-use mcs_program::{answer_sets, list_answer_sets};
-use mcs_system::{Kb, Name, ProgRule};
+use mcs_program::answer_sets;
+use mcs_system::{Kb, Name, ProgRule, System};
 use mcs_trace::ProgramCert;
 use std::alloc::Global;
 use std::test::Fail;
@@ -40,12 +41,12 @@ pub(crate) fn shown(
     Ok(certificate)
 }
 
-/// Whether the answer sets of the rules are seen through the atoms as these views, by so many models.
+/// Whether the answer sets of the rules are seen through the atoms as the views of these numbers, by so many models.
 fn are_shown(
     alloc: Global,
     rules: &[ProgRule],
     atoms: &[Name],
-    views: &[Vars],
+    views: &[u64],
     models: usize,
 ) -> Result<bool, Memory>
     requires over { AreOverRules atoms.now (map rule_of rules.now) }
@@ -57,52 +58,35 @@ fn are_shown(
     let (found, certificate) = answer_sets(alloc, rules, &[], atoms, atoms)?;
     let count = certificate.models.len();
     drop(certificate);
-    Ok(count == models && found.as_slice() == views)
-}
-
-/// Whether the answer sets of the rules are listed as these views.
-fn are_listed(
-    alloc: Global,
-    rules: &[ProgRule],
-    atoms: &[Name],
-    views: &[Vars],
-) -> Result<bool, Memory>
-    requires over { AreOverRules atoms.now (map rule_of rules.now) }
-    requires few { length atoms.now ≤ 64 }
-{
-    if !are_different(atoms) {
-        return Ok(false);
-    }
-    let lent: Vec<&Name> = atoms.iter().collect(alloc)?;
-    Ok(list_answer_sets(alloc, rules, &[], &lent, atoms)?.as_slice() == views)
+    Ok(count == models && are_numbered(&found, views))
 }
 
 /// Whether the program of the only context has these answer sets, by so many models.
-fn has_views(alloc: Global, text: &str, views: &[Vars], models: usize) -> Result<bool, Fail> {
-    let system = system_of(alloc, text)?;
+fn has_views(alloc: Global, system: &System, views: &[u64], models: usize) -> Result<bool, Memory> {
     if system.contexts().is_empty() {
         return Ok(false);
     }
-    let (knowledge, atoms) = first_knowledge(&system);
+    let (knowledge, atoms) = first_knowledge(system);
     let Some(rules) = program_in(knowledge, atoms) else {
         return Ok(false);
     };
-    Ok(are_shown(alloc, rules, atoms, views, models)? && are_listed(alloc, rules, atoms, views)?)
+    are_shown(alloc, rules, atoms, views, models)
 }
+
+/// Programs, the numbers of the views of their answer sets, and how many models show these.
+const PROGRAMS: &[(&str, &[u64], usize)] = &[
+    ("context c program { a | b. }", &[1, 2], 2),
+    ("context c program { a. :- a. }", &[], 0),
+    ("context c program { a :- a. b :- not a. }", &[2], 1),
+];
 
 #[test]
 fn answer_sets_are_shown(rt: HostRuntime) -> Result<(), Fail> {
-    let either = [Vars::one(0), Vars::one(1)];
-    assert!(rt; has_views(rt.alloc(), "context c program { a | b. }", &either, 2)?);
-    assert!(rt; has_views(rt.alloc(), "context c program { a. :- a. }", &[], 0)?);
-    let second = [Vars::one(1)];
-    assert!(rt;
-        has_views(
-            rt.alloc(),
-            "context c program { a :- a. b :- not a. }",
-            &second,
-            1
-        )?
-    );
+    for (text, views, models) in PROGRAMS {
+        let system = system_of(rt.alloc(), text)?;
+        let is_right = has_views(rt.alloc(), &system, views, *models);
+        drop(system);
+        assert!(rt; is_right == Ok(true));
+    }
     Ok(())
 }

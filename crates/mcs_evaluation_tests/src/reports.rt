@@ -2,8 +2,9 @@
 
 ghost use Rattle.std.specs.Prelude.{◌≡◌};
 
+use crate::numbered::are_numbered;
 use crate::systems::system_of;
-use mcs_base::{Active, Memory, Vars};
+use mcs_base::{Active, Memory};
 use mcs_proof_reader::{Keep, Report, ReportAnswer, read_kept, read_report};
 use mcs_system::System;
 use std::alloc::Global;
@@ -17,19 +18,19 @@ const TOLD: &str =
 const TOLD_REPORT: &str =
     "mcs 1: 2 contexts, 1 rules, 1 variables\ninconsistent\ndiagnosis 1: {-r1} state {c1:a} active {}\nexplanation 1: {-r1 by 1}\nend: 0 equilibria, 1 diagnoses, 1 explanations, need 3\nproof\nanswer c1 {}\nstate {c1:a}\nmodel {a}\nstep by 8 6 4 1 5\nnone\nstep by 8 6 4 1 5\ndone\nanswer c2 {}\nstate {}\nmodel {}\nstep by 12 10 9\nnone\nstep by 9 7 6\ndone\nanswer c2 {r1}\nnone\nstep by 10 9 6 4 1 5\ndone\nend of proof\n";
 
-/// Whether the answer begins at this line, is to the question of this context and these rules, and these are the states
-/// that it puts out.
+/// Whether the answer begins at this line, is to the question of this context and these rules, and puts out the states of
+/// these numbers.
 fn is_answer(
     answer: &ReportAnswer,
     line: u64,
     context: u32,
     active: Active,
-    outputs: &[Vars],
+    outputs: &[u64],
 ) -> bool {
     answer.line == line
         && answer.context == context
         && answer.active == active
-        && answer.outputs.as_slice() == outputs
+        && are_numbered(&answer.outputs, outputs)
 }
 
 /// Whether the report is the one above.
@@ -37,11 +38,11 @@ fn is_told(report: &Report) -> bool {
     let [first, second, third] = report.answers.as_slice() else {
         return false;
     };
-    report.listing.len() == 5
-        && is_answer(first, 7, 0, Active::empty(), &[Vars::one(0)])
-        && is_answer(second, 14, 1, Active::empty(), &[Vars::empty()])
-        && is_answer(third, 21, 1, Active::one(0), &[])
-        && report.last_line == 25
+    let is_first = is_answer(first, 7, 0, Active::empty(), &[1]);
+    let is_second = is_answer(second, 14, 1, Active::empty(), &[0]);
+    let is_third = is_answer(third, 21, 1, Active::one(0), &[]);
+    let is_whole = report.listing.len() == 5 && report.last_line == 25;
+    [is_first, is_second, is_third, is_whole] == [true; 4]
 }
 
 /// Whether it is read so.
@@ -69,9 +70,10 @@ impl Keep for FirstLines {
 fn is_kept(alloc: Global, system: &System) -> bool {
     match read_kept(alloc, system, TOLD_REPORT.as_bytes(), &FirstLines) {
         Ok(report) => {
-            report.listing.len() == 5
-                && report.answers.as_slice() == [7, 14, 21].as_slice()
-                && report.last_line == 25
+            let are_lines = report.answers.as_slice() == [7, 14, 21].as_slice();
+            let is_whole = report.listing.len() == 5 && report.last_line == 25;
+            drop(report);
+            are_lines && is_whole
         }
         Err(_) => false,
     }
@@ -79,9 +81,10 @@ fn is_kept(alloc: Global, system: &System) -> bool {
 
 #[test]
 fn the_answers_of_a_report_are_read(rt: HostRuntime) -> Result<(), Fail> {
-    let alloc = rt.alloc();
-    let system = system_of(alloc, TOLD)?;
-    assert!(rt; is_read(alloc, &system));
-    assert!(rt; is_kept(alloc, &system));
+    let system = system_of(rt.alloc(), TOLD)?;
+    let is_read = is_read(rt.alloc(), &system);
+    let is_kept = is_kept(rt.alloc(), &system);
+    drop(system);
+    assert!(rt; is_read && is_kept);
     Ok(())
 }

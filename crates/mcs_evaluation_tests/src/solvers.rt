@@ -1,10 +1,11 @@
 //! What one context accepts, and its oracle.
 
+use crate::numbered::are_numbered;
 use crate::systems::{SELF_ATTACK, system_of};
-use mcs_base::{Active, Memory, Vars};
+use mcs_base::{Active, Memory};
 use mcs_certificate::accepts;
 use mcs_solver::{LocalSolver, accepted_parts};
-use mcs_states::{Oracle, OracleStop};
+use mcs_states::Oracle;
 use mcs_system::System;
 use std::alloc::Global;
 use std::sync::Arc;
@@ -34,58 +35,63 @@ bridge r1: c1:ill if not c2:x. bridge r2: c2:y if c1:flies.";
 const TOLD_PROGRAM: &str = "context c1 program { a | b. :- a, p. } context c2 classical {}
 bridge r1: c1:p if not c2:x. bridge r2: c2:y if c1:a, c1:b.";
 
+/// Texts of systems, a context of each, and the numbers of a set of rules and of the parts that the context accepts with
+/// their heads; and whether the context's oracle may be asked with them, which has to be rules into the context.
+const ACCEPTED: &[(&str, u32, u64, &[u64], bool)] = &[
+    (SELF_ATTACK, 0, 0, &[0], true),
+    (SELF_ATTACK, 0, 1, &[1], true),
+    (TWINS, 1, 1, &[0], false),
+    (TWINS, 1, 2, &[2], true),
+    (TWO_CHOICES, 0, 0, &[3, 1, 2, 0], true),
+    (HIDDEN_CHOICE, 0, 0, &[0], true),
+];
+
 /// Whether these are what the context accepts with the heads of the rules.
 fn are_accepted(
     alloc: Global,
     system: &System,
     context: u32,
     rules: Active,
-    parts: &[Vars],
+    parts: &[u64],
 ) -> Result<bool, Memory> {
     if context as usize >= system.contexts().len() {
         return Ok(false);
     }
-    Ok(accepted_parts(alloc, system, context, rules)?.as_slice() == parts)
+    Ok(are_numbered(&accepted_parts(alloc, system, context, rules)?, parts))
 }
 
-/// Whether these are the answers of the first context's oracle to the question, which it notes.
+/// Whether these are the answers of the context's oracle to the question, which it notes.
 fn are_answers(
     alloc: Global,
     system: &Arc<System>,
+    context: u32,
     rules: Active,
-    parts: &[Vars],
-) -> Result<bool, Fail> {
-    if system.contexts().is_empty() || !rules.within(system.rules_of(0)) {
+    parts: &[u64],
+) -> Result<bool, Memory> {
+    if context as usize >= system.contexts().len() || !rules.within(system.rules_of(context)) {
         return Ok(false);
     }
-    let mut solver = LocalSolver::new(alloc, system.clone()?, 0, false);
-    let answer = solver.ask(alloc, rules);
+    let mut solver = LocalSolver::new(alloc, system.clone()?, context, false);
+    let is_right = match solver.ask(alloc, rules) {
+        Ok(found) => are_numbered(&found, parts),
+        Err(_) => false,
+    };
     let is_noted = solver.journal() == [rules].as_slice();
     drop(solver);
-    Ok(is_noted && answer?.as_slice() == parts)
+    Ok(is_right && is_noted)
 }
 
 #[test]
 fn a_context_accepts_what_it_is_told(rt: HostRuntime) -> Result<(), Fail> {
-    let system = system_of(rt.alloc(), SELF_ATTACK)?;
-    for (rules, parts) in [
-        (Active::empty(), [Vars::empty()]),
-        (Active::one(0), [Vars::one(0)]),
-    ] {
-        assert!(rt;
-            are_accepted(rt.alloc(), &system, 0, rules, &parts)?
-                && are_answers(rt.alloc(), &system, rules, &parts)?
-        );
+    let alloc = rt.alloc();
+    for (text, context, rules, parts, may_ask) in ACCEPTED {
+        let rules = Active::numbered(*rules);
+        let system = system_of(alloc, text)?;
+        let accepted = are_accepted(alloc, &system, *context, rules, parts);
+        let answered = are_answers(alloc, &system, *context, rules, parts);
+        drop(system);
+        assert!(rt; accepted == Ok(true) && answered == Ok(*may_ask));
     }
-    let twins = system_of(rt.alloc(), TWINS)?;
-    assert!(rt; are_accepted(rt.alloc(), &twins, 1, Active::one(0), &[Vars::empty()])?);
-    assert!(rt; are_accepted(rt.alloc(), &twins, 1, Active::one(1), &[Vars::one(1)])?);
-    let choices = system_of(rt.alloc(), TWO_CHOICES)?;
-    let (first, second) = (Vars::one(0), Vars::one(1));
-    let parts = [first.with(1), first, second, Vars::empty()];
-    assert!(rt; are_accepted(rt.alloc(), &choices, 0, Active::empty(), &parts)?);
-    let hidden = system_of(rt.alloc(), HIDDEN_CHOICE)?;
-    assert!(rt; are_accepted(rt.alloc(), &hidden, 0, Active::empty(), &[Vars::empty()])?);
     Ok(())
 }
 
@@ -96,7 +102,7 @@ fn is_shown(
     system: &Arc<System>,
     keep: bool,
     question: Active,
-) -> Result<Option<bool>, Fail> {
+) -> Result<Option<bool>, Memory> {
     let rule = Active::one(0);
     if system.contexts().is_empty()
         || !rule.within(system.rules_of(0))
@@ -105,24 +111,35 @@ fn is_shown(
         return Ok(Some(false));
     }
     let mut solver = LocalSolver::new(alloc, system.clone()?, 0, keep);
-    let answer = solver.ask(alloc, rule);
+    let is_answered = solver.ask(alloc, rule).is_ok();
     let shown = match solver.certificate(question) {
         Some((outputs, cert)) => Some(accepts(alloc, system, 0, question, outputs, cert)),
         None => None,
     };
     drop(solver);
-    drop(answer?);
-    Ok(shown.transpose()?)
+    if !is_answered {
+        return Ok(Some(false));
+    }
+    shown.transpose()
+}
+
+/// What is shown of the question that was asked and of another one where certificates are kept, and of the first where
+/// they are not.
+fn are_shown(alloc: Global, system: &Arc<System>) -> Result<[Option<bool>; 3], Memory> {
+    Ok([
+        is_shown(alloc, system, true, Active::one(0))?,
+        is_shown(alloc, system, true, Active::empty())?,
+        is_shown(alloc, system, false, Active::one(0))?,
+    ])
 }
 
 #[test]
 fn an_oracle_keeps_certificates_where_it_is_told_to(rt: HostRuntime) -> Result<(), Fail> {
-    let alloc = rt.alloc();
-    for text in [TOLD_FORMULAS, TOLD_THEORY, TOLD_PROGRAM] {
-        let system = system_of(alloc, text)?;
-        assert!(rt; is_shown(alloc, &system, true, Active::one(0))? == Some(true));
-        assert!(rt; is_shown(alloc, &system, true, Active::empty())?.is_none());
-        assert!(rt; is_shown(alloc, &system, false, Active::one(0))?.is_none());
+    for text in &[TOLD_FORMULAS, TOLD_THEORY, TOLD_PROGRAM] {
+        let system = system_of(rt.alloc(), text)?;
+        let shown = are_shown(rt.alloc(), &system);
+        drop(system);
+        assert!(rt; shown == Ok([Some(true), None, None]));
     }
     Ok(())
 }

@@ -5,49 +5,52 @@ use mcs_spelling::{
     find, push_chain, push_defaults, push_order, push_step, read_number, read_numbers, read_set,
     read_step, strip,
 };
+use mcs_trace::Step;
 use std::alloc::Global;
 use std::test::Fail;
 
 /// The greatest number.
 const MOST: u64 = 9_223_372_036_854_775_807;
 
-/// Texts, and the numbers that they spell.
-const NUMBERS: [(&str, &[u64]); 3] = [
-    ("1", &[1]),
-    ("10 2", &[10, 2]),
-    ("9223372036854775807", &[MOST]),
+/// Texts, the numbers that they spell, and the number that they spell where it is one.
+const NUMBERS: &[(&str, Option<&[u64]>, Option<u64>)] = &[
+    ("1", Some(&[1]), Some(1)),
+    ("10", Some(&[10]), Some(10)),
+    ("10 2", Some(&[10, 2]), None),
+    ("9223372036854775807", Some(&[MOST]), Some(MOST)),
+    ("9223372036854775808", None, None),
+    ("18446744073709551617", None, None),
+    ("0", None, None),
+    ("01", None, None),
+    ("1 02", None, None),
+    ("", None, None),
+    ("1 ", None, None),
+    (" 1", None, None),
+    ("1  2", None, None),
+    ("-1", None, None),
+    ("1a", None, None),
 ];
 
-/// Texts that spell no numbers, with a stroke between them.
-const NO_NUMBERS: &str = "9223372036854775808|18446744073709551617|0|01|1 02||1 | 1|1  2|-1|1a";
-
 /// Whether the text spells just these numbers.
-fn spells(alloc: Global, text: &str, numbers: Option<&[u64]>) -> Result<bool, Memory> {
+fn spells(alloc: Global, text: &str, numbers: &Option<&[u64]>) -> Result<bool, Memory> {
     Ok(match (read_numbers(alloc, text.as_bytes())?, numbers) {
-        (Some(found), Some(wanted)) => found.as_slice() == wanted,
+        (Some(found), Some(wanted)) => found.as_slice() == *wanted,
         (None, None) => true,
         _ => false,
     })
 }
 
 #[test]
-fn numbers_are_read(rt: HostRuntime) -> Result<(), Fail> {
-    for (text, numbers) in NUMBERS {
-        assert!(rt; spells(rt.alloc(), text, Some(numbers))?);
+fn numbers_are_read(rt: HostRuntime) {
+    for (text, numbers, number) in NUMBERS {
+        assert!(rt; spells(rt.alloc(), text, numbers) == Ok(true));
+        assert!(rt; read_number(text.as_bytes()) == *number);
     }
-    for text in NO_NUMBERS.split('|') {
-        assert!(rt; spells(rt.alloc(), text, None)? && read_number(text.as_bytes()).is_none());
-    }
-    assert!(rt;
-        read_number(b"10") == Some(10) && read_number(b"9223372036854775807") == Some(MOST)
-    );
-    assert!(rt; read_number(b"10 2").is_none());
-    Ok(())
 }
 
 /// Texts of sets of the numbers 0 to 2, by their names `a`, `ab` and `b`: the set that each is where all may be members,
 /// and where 0 may not be.
-const SETS: [(&str, Option<u64>, Option<u64>); 10] = [
+const SETS: &[(&str, Option<u64>, Option<u64>)] = &[
     ("{}", Some(0), Some(0)),
     ("{a}", Some(1), None),
     ("{ab}", Some(2), Some(2)),
@@ -84,65 +87,91 @@ fn is_set(texts: &[Text], allowed: u64, bytes: &[u8], set: Option<u64>) -> bool 
 fn sets_are_read(rt: HostRuntime) -> Result<(), Fail> {
     let texts = texts_of(rt.alloc(), &["a", "ab", "b"])?;
     for (text, of_all, of_the_last) in SETS {
-        assert!(rt; is_set(&texts, 7, text.as_bytes(), of_all));
-        assert!(rt; is_set(&texts, 6, text.as_bytes(), of_the_last));
+        assert!(rt;
+            is_set(&texts, 7, text.as_bytes(), *of_all)
+                && is_set(&texts, 6, text.as_bytes(), *of_the_last)
+        );
     }
     Ok(())
 }
 
-/// Steps, with their literals and numbers.
-const STEPS: [(&str, &[i64], &[u64]); 3] = [
-    ("step by 1", &[], &[1]),
-    ("step 1 -2 by 12 3", &[1, -2], &[12, 3]),
-    ("step -1 by 9223372036854775807", &[-1], &[MOST]),
+/// The literals and the numbers of a step.
+type StepParts = (&'static [i64], &'static [u64]);
+
+/// Lines, and the parts of the step that each is.
+const STEPS: &[(&str, Option<StepParts>)] = &[
+    ("step by 1", Some((&[], &[1]))),
+    ("step 1 -2 by 12 3", Some((&[1, -2], &[12, 3]))),
+    ("step -1 by 9223372036854775807", Some((&[-1], &[MOST]))),
+    ("step", None),
+    ("step 1 by", None),
+    ("step 1by 1", None),
+    ("step 1 by1", None),
+    ("step  by 1", None),
+    ("step by 1 ", None),
+    ("step 0 by 1", None),
+    ("step 01 by 1", None),
+    ("step - by 1", None),
+    ("step --1 by 1", None),
+    ("step -2 1 by 1", None),
+    ("steps by 1", None),
+    ("step 1 by 0", None),
 ];
 
-/// Lines that are no steps, with a stroke between them.
-const NO_STEPS: &str = "step|step 1 by|step 1by 1|step 1 by1|step  by 1|step by 1 |step 0 by 1|\
-step 01 by 1|step - by 1|step --1 by 1|step -2 1 by 1|steps by 1|step 1 by 0";
-
-/// Whether the line is the step, read and written.
-fn is_step(alloc: Global, line: &str, literals: &[i64], chain: &[u64]) -> Result<bool, Memory> {
-    let Some(step) = read_step(alloc, line.as_bytes())? else {
-        return Ok(false);
-    };
+/// Whether the step has these parts, and is written as the line.
+fn is_step(alloc: Global, step: &Step, parts: &StepParts, line: &str) -> Result<bool, Memory> {
     let mut text = Text::new(alloc);
-    push_step(&mut text, &step)?;
+    push_step(&mut text, step)?;
+    let (literals, chain) = *parts;
     Ok(
-        step.clause.literals() == literals
-            && step.chain.as_slice() == chain
-            && text.bytes() == line.as_bytes(),
+        text.bytes() == line.as_bytes()
+            && step.clause.literals() == literals
+            && step.chain.as_slice() == chain,
     )
 }
 
-#[test]
-fn steps_are_read_and_written(rt: HostRuntime) -> Result<(), Fail> {
-    for (line, literals, chain) in STEPS {
-        assert!(rt; is_step(rt.alloc(), line, literals, chain)?);
+/// Whether the line is just the step of these parts, read and written.
+fn is_read(alloc: Global, line: &str, parts: &Option<StepParts>) -> Result<bool, Memory> {
+    match (read_step(alloc, line.as_bytes())?, parts) {
+        (Some(step), Some(parts)) => {
+            let is_right = is_step(alloc, &step, parts, line);
+            drop(step);
+            is_right
+        }
+        (None, None) => Ok(true),
+        _ => Ok(false),
     }
-    for line in NO_STEPS.split('|') {
-        assert!(rt; read_step(rt.alloc(), line.as_bytes())?.is_none());
-    }
-    Ok(())
 }
 
 #[test]
-fn fronts_and_bytes_are_found(rt: HostRuntime) -> Result<(), Fail> {
-    assert!(rt;
-        strip(b"set {1}", b"set ") == Some(b"{1}".as_slice()) && strip(b"set", b"set ").is_none()
-    );
-    assert!(rt; find(b"a b ", b' ') == Some(1) && find(b"ab", b' ').is_none());
-    Ok(())
+fn steps_are_read_and_written(rt: HostRuntime) {
+    for (line, parts) in STEPS {
+        assert!(rt; is_read(rt.alloc(), line, parts) == Ok(true));
+    }
+}
+
+#[test]
+fn fronts_and_bytes_are_found(rt: HostRuntime) {
+    let is_stripped = strip(b"set {1}", b"set ") == Some(b"{1}".as_slice());
+    let is_kept = strip(b"set", b"set ").is_none();
+    let is_found = find(b"a b ", b' ') == Some(1);
+    let is_missed = find(b"ab", b' ').is_none();
+    assert!(rt; [is_stripped, is_kept, is_found, is_missed] == [true; 4]);
+}
+
+/// Appends three sets of defaults, and the numbers of a chain and of an order.
+fn push_each(text: &mut Text) -> Result<(), Memory> {
+    push_defaults(text, 0)?;
+    push_defaults(text, 1)?;
+    push_defaults(text, 6)?;
+    push_chain(text, &[3, MOST])?;
+    push_order(text, &[2, 10])
 }
 
 #[test]
 fn sets_of_defaults_and_orders_are_written(rt: HostRuntime) -> Result<(), Fail> {
     let mut text = Text::new(rt.alloc());
-    for set in [0, 1, 6] {
-        push_defaults(&mut text, set)?;
-    }
-    push_chain(&mut text, &[3, MOST])?;
-    push_order(&mut text, &[2, 10])?;
+    push_each(&mut text)?;
     assert!(rt; text.bytes() == b"{}{1}{2, 3} 3 9223372036854775807 2 10".as_slice());
     Ok(())
 }

@@ -7,10 +7,11 @@ ghost use Rattle.mcs_cnf.specs.ClauseLists.{AreOver};
 ghost use Rattle.mcs_certificate.specs.Kinds.{IsOverKb};
 ghost use Rattle.mcs_evidence.specs.Defaults.{AreOverItems, defaults_of};
 
+use crate::numbered::are_numbered;
 use crate::systems::{first_knowledge, system_of};
-use mcs_base::{Memory, Vars};
+use mcs_base::Memory;
 use mcs_cnf::{are_different, are_over};
-use mcs_default::{extensions, list_extensions};
+use mcs_default::extensions;
 use mcs_system::{Context, Formula, Kb, Name, System, TheoryItem};
 use mcs_trace::{DefaultCert, SetCert};
 use std::alloc::Global;
@@ -45,43 +46,19 @@ pub(crate) fn beliefs_of(system: &System) -> &[Formula] {
 
 /// Whether those sets of defaults generate extensions of which it is said.
 fn are_judged(certificate: &DefaultCert, generating: &[bool]) -> bool {
-    certificate.sets.len() == generating.len()
-        && certificate.sets.iter().zip(generating).all(|(set, wanted)| matches!(
-            set,
-            SetCert::Extension { .. }
-        ) == *wanted)
+    if certificate.sets.len() != generating.len() {
+        return false;
+    }
+    for (set, wanted) in certificate.sets.iter().zip(generating) {
+        if matches!(set, SetCert::Extension { .. }) != *wanted {
+            return false;
+        }
+    }
+    true
 }
 
-/// Whether the extensions of the theory are listed with these views.
-fn are_listed(
-    alloc: Global,
-    items: &[TheoryItem],
-    beliefs: &[Formula],
-    atoms: &[Name],
-    views: &[Vars],
-) -> Result<bool, Memory>
-    requires over { AreOverItems atoms.now (map item_of items.now) }
-    requires beliefs { AreOver atoms.now (map formula_of beliefs.now) }
-    requires different { has_twins atoms.now ≡ false }
-    requires few { length atoms.now ≤ 64 }
-    requires few_beliefs { length beliefs.now ≤ 64 }
-    requires few_defaults { length (defaults_of (map item_of items.now)) ≤ 10 }
-{
-    let lent: Vec<&Formula> = beliefs.iter().collect(alloc)?;
-    Ok(list_extensions(alloc, items, &[], &lent, atoms)?.as_slice() == views)
-}
-
-/// Whether these are the views of these numbers.
-fn are_numbered(views: &[Vars], numbers: &[u64]) -> bool {
-    views.len() == numbers.len()
-        && views
-            .iter()
-            .zip(numbers)
-            .all(|(view, number)| view.number() == *number)
-}
-
-/// Whether the extensions of the theory are listed with the views of these numbers, with and without what shows it, and
-/// where that is said the sets of its defaults are judged so.
+/// Whether the extensions of the theory are listed with the views of these numbers, and where that is said the sets of
+/// its defaults are judged so.
 fn are_found(
     alloc: Global,
     items: &[TheoryItem],
@@ -98,16 +75,14 @@ fn are_found(
     requires few_defaults { length (defaults_of (map item_of items.now)) ≤ 10 }
 {
     let (found, certificate) = extensions(alloc, items, &[], beliefs, atoms)?;
-    let are_judged = match generating {
+    let is_judged = match generating {
         Some(wanted) => are_judged(&certificate, wanted),
         None => true,
     };
     drop(certificate);
-    Ok(
-        are_judged
-            && are_numbered(&found, numbers)
-            && are_listed(alloc, items, beliefs, atoms, &found)?,
-    )
+    let is_found = are_numbered(&found, numbers);
+    drop(found);
+    Ok(is_judged && is_found)
 }
 
 /// Each of the defaults keeps out the other one.
@@ -119,7 +94,7 @@ const UNGROUNDED: &str = "context c1 default { p : p / p. } context c2 classical
 
 /// A theory and the formulas for which it is asked, the numbers of the views, in their order, and of some which sets of
 /// defaults generate an extension.
-const THEORIES: [(&str, &[u64], Option<&[bool]>); 17] = [
+const THEORIES: &[(&str, &[u64], Option<&[bool]>)] = &[
     (DIAMOND, &[1, 0], Some(&[false, true, true, false])),
     (UNGROUNDED, &[0], Some(&[true, false])),
     (
@@ -206,29 +181,31 @@ a5 : a6 / a6. a6 : a7 / a7. a7 : a8 / a8. a8 : a9 / a9. a9 : a0 / a0. } context 
 /// Whether the first context, asked for the formulas of the second, has the views of these numbers.
 fn has_views(
     alloc: Global,
-    text: &str,
+    system: &System,
     numbers: &[u64],
     generating: Option<&[bool]>,
-) -> Result<bool, Fail> {
-    let system = system_of(alloc, text)?;
+) -> Result<bool, Memory> {
     if system.contexts().is_empty() {
         return Ok(false);
     }
-    let (knowledge, atoms) = first_knowledge(&system);
+    let (knowledge, atoms) = first_knowledge(system);
+    let beliefs = beliefs_of(system);
     let Some(items) = theory_in(knowledge, atoms) else {
         return Ok(false);
     };
-    let beliefs = beliefs_of(&system);
     if beliefs.len() > 64 || !are_different(atoms) || !are_over(atoms, beliefs) {
         return Ok(false);
     }
-    Ok(are_found(alloc, items, beliefs, atoms, numbers, generating)?)
+    are_found(alloc, items, beliefs, atoms, numbers, generating)
 }
 
 #[test]
-fn extensions_are_listed_with_and_without_what_shows_them(rt: HostRuntime) -> Result<(), Fail> {
+fn extensions_are_listed_with_what_shows_them(rt: HostRuntime) -> Result<(), Fail> {
     for (text, numbers, generating) in THEORIES {
-        assert!(rt; has_views(rt.alloc(), text, numbers, generating)?);
+        let system = system_of(rt.alloc(), text)?;
+        let is_right = has_views(rt.alloc(), &system, numbers, *generating);
+        drop(system);
+        assert!(rt; is_right == Ok(true));
     }
     Ok(())
 }
