@@ -1,6 +1,7 @@
 pub mod Answers
 pub mod Trails
 pub mod Learning
+pub mod Flattening
 pub mod Pairs
 pub mod Watching
 pub mod Chains

@@ -2,6 +2,7 @@
 
 ghost use Rattle.std.specs.Prelude.{◌≡◌, ℕ, ℤ, ◌+◌, ◌<◌, ◌≤◌, ◌^◌, ◌++◌, ◌∷◌, [], ◌⊎◌, neg_ℤ, length, take, IsTrue, MatchOption, OnOk, OnErr, IfSome, Some, slice_get};
 ghost use Rattle.mcs_trace.specs.Clauses.{IsClause, IsLiteral};
+ghost use Rattle.mcs_trace.specs.Traces.{IsChainResolvent};
 ghost use Rattle.mcs_sat.specs.Trails.{AreCovered, ArePlaced, IsOn, IsOnBelow, IsSatisfied};
 ghost use Rattle.mcs_sat.specs.Watching.{ArePair, AreUnwatched, IsFresh, IsLong};
 ghost use Rattle.mcs_sat.specs.States.{IsFull, IsState, SameClauses};
@@ -103,7 +104,35 @@ fn beginning_of(trail: &Trail, visited: usize, literals: &[i64]) -> Beginning
     }
 }
 
-/// Adds a clause, where there is no level above 0. It watches nothing yet.
+/// Adds a clause with its chain, which watches nothing yet.
+pub(crate) fn push_unwatched(
+    state: &mut State,
+    literals: &[i64],
+    chain: &[u64],
+) -> Result<(), Memory>
+    requires state { IsState state.old }
+    requires clause { IsClause literals.now }
+    requires covered { AreCovered state.old.trail.positions.items literals.now }
+    requires chain { (chain.now ≡ []) ⊎ IsChainResolvent state.old.clauses chain.now literals.now }
+    ensures kept { IsState state.new }
+    ensures positions { length state.new.trail.positions.items ≡ length state.old.trail.positions.items }
+    ensures entries { state.new.trail.entries.items ≡ state.old.trail.entries.items }
+    ensures levels { state.new.levels.items ≡ state.old.levels.items }
+    ensures pairs { state.new.watches.pairs ≡ state.old.watches.pairs }
+    ensures clauses { OnOk result (state.new.clauses ≡ state.old.clauses ++ literals.now ∷ []) }
+    ensures chains { OnOk result (state.new.chains ≡ state.old.chains ++ chain.now ∷ []) }
+    ensures err { OnErr result ((state.new.clauses ≡ state.old.clauses) × (state.new.chains ≡ state.old.chains)) }
+{
+    let count = state.clauses.len();
+    state.clauses.push(literals)?;
+    if let Err(error) = state.chains.push(chain) {
+        state.clauses.truncate(count);
+        return Err(error);
+    }
+    Ok(())
+}
+
+/// Adds a clause that is given, where there is no level above 0. It watches nothing yet.
 pub(crate) fn add(state: &mut State, literals: &[i64]) -> Result<(), Memory>
     requires state { IsState state.old }
     requires clause { IsClause literals.now }
@@ -117,17 +146,11 @@ pub(crate) fn add(state: &mut State, literals: &[i64]) -> Result<(), Memory>
     ensures chains { OnOk result (state.new.chains ≡ state.old.chains ++ [] ∷ []) }
     ensures err { OnErr result ((state.new.clauses ≡ state.old.clauses) × (state.new.chains ≡ state.old.chains)) }
 {
-    let count = state.clauses.len();
-    state.clauses.push(literals)?;
-    if let Err(error) = state.chains.push(&[]) {
-        state.clauses.truncate(count);
-        return Err(error);
-    }
-    Ok(())
+    push_unwatched(state, literals, &[])
 }
 
 /// Lets the next clause watch two of its literals, where it has two.
-fn attach_next(state: &mut State) -> Result<(), Memory>
+pub(crate) fn attach_next(state: &mut State) -> Result<(), Memory>
     requires state { IsState state.old }
     requires base { state.old.levels.items ≡ [] }
     requires next { length state.old.watches.pairs < length state.old.clauses }

@@ -8,6 +8,7 @@ ghost use Rattle.mcs_sat.specs.States.{IsState};
 ghost use Rattle.mcs_sat.specs.Stores.{IsFrontOf, given};
 
 use crate::adding::{add, cut, keep, settle_all, widen};
+use crate::flatten::flatten_from;
 use crate::order::Order;
 use crate::outcome::Outcome;
 use crate::solver::run;
@@ -211,7 +212,9 @@ impl ClauseBase {
     pub fn settle(&mut self) -> Result<(), Memory>
         ensures { self.new ≡ self.old }
     {
+        let from = self.state.watches.pairs.len();
         settle_all(&mut self.state)?;
+        flatten_from(&mut self.state, from)?;
         let _found = run(&mut self.state)?;
         keep(&mut self.state);
         Ok(())

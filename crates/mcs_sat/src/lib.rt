@@ -6,6 +6,7 @@ mod analyse;
 mod base;
 mod chains;
 mod examine;
+mod flatten;
 mod latest;
 mod marks;
 mod model;

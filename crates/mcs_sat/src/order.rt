@@ -21,7 +21,7 @@ const SHRINK: u32 = 40;
 const NOWHERE: u32 = u32::MAX;
 
 /// Puts the value at the end until there is one at the index.
-fn fill<T: Copy>(values: &mut Vec<T>, index: usize, value: T) -> Result<(), Memory> {
+pub(crate) fn fill<T: Copy>(values: &mut Vec<T>, index: usize, value: T) -> Result<(), Memory> {
     while values.len() <= index {
         if values.push(value).is_err() {
             return Err(Memory);

@@ -1,11 +1,11 @@
-use Rattle.std.proofs.Common.{◌≡◌, ◌∙◌, ◌∷◌, [], ℕ, refl, inl, ap, length, take}
+use Rattle.std.proofs.Common.{◌≡◌, ◌∙◌, ◌∷◌, [], ℕ, refl, ap, length, take}
 use Rattle.std.proofs.Math.Seq.{take-append_seam}
 use Rattle.mcs_sat.proofs.CutLemmas.{kept-same}
 use Rattle.mcs_sat.proofs.StateLemmas.{state-added, state-same}
-use Rattle.mcs_sat.proofs.adding.add.Goals as goal
+use Rattle.mcs_sat.proofs.adding.push_unwatched.Goals as goal
 
 pub returns-clause-kept : goal.returns-clause-kept
-returns-clause-kept c = state-added c.args.state.now c.push.new.self c.push-2.new.self c.args.literals.now [] c.requires.state c.in_ok-push.ensures.ok c.in_default.ensures.ok c.requires.clause c.requires.covered (inl refl)
+returns-clause-kept c = state-added c.args.state.now c.push.new.self c.push-2.new.self c.args.literals.now c.args.chain.now c.requires.state c.in_ok-push.ensures.ok c.in_default.ensures.ok c.requires.clause c.requires.covered c.requires.chain
 
 pub returns-in_err-push-clause-kept : goal.returns-in_err-push-clause-kept
 returns-in_err-push-clause-kept c =
