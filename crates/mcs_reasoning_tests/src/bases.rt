@@ -48,24 +48,64 @@ fn are_told(
     Ok(found?.is_some() == has_model && is_shown?)
 }
 
-/// 1, 2 or 3; 1 implies 2; 2 implies 3.
-static FRONT: [&[i64]; 3] = [&[1, 2, 3], &[-1, 2], &[-2, 3]];
+/// Clauses over the variables 1 to `vars`, and clauses that are added to them, with one variable more, and whether they
+/// then have an assignment.
+struct Asked {
+    vars: u8,
+    front: &'static [&'static [i64]],
+    questions: &'static [(&'static [&'static [i64]], bool)],
+}
 
-static QUESTIONS: [(&[&[i64]], bool); 9] = [
-    (&[&[-3]], false),
-    (&[&[-2]], true),
-    (&[&[-2, -3], &[2]], false),
-    (&[&[3, 4], &[-4]], true),
-    (&[&[-1, -3], &[1, 4], &[-4]], false),
-    (&[&[1], &[]], false),
-    (&[&[-3, -4], &[4]], false),
-    (&[], true),
-    (&[&[-3]], false),
-];
+/// 1, 2 or 3; 1 implies 2; 2 implies 3.
+static ORDERED: Asked = Asked {
+    vars: 3,
+    front: &[&[1, 2, 3], &[-1, 2], &[-2, 3]],
+    questions: &[
+        (&[&[-3]], false),
+        (&[&[-2]], true),
+        (&[&[-2, -3], &[2]], false),
+        (&[&[3, 4], &[-4]], true),
+        (&[&[-1, -3], &[1, 4], &[-4]], false),
+        (&[&[1], &[]], false),
+        (&[&[-3, -4], &[4]], false),
+        (&[], true),
+        (&[&[-3]], false),
+    ],
+};
+
+/// 1 or 2, which 3 stands for; and not both: 4 stands for both, and 5 for its denial.
+static EITHER: Asked = Asked {
+    vars: 5,
+    front: &[
+        &[3, -1],
+        &[3, -2],
+        &[-3, 1, 2],
+        &[3],
+        &[-4, 1],
+        &[-4, 2],
+        &[4, -1, -2],
+        &[-5, -4],
+        &[5, 4],
+        &[5],
+    ],
+    questions: &[
+        (&[], true),
+        (&[&[-1], &[-2]], false),
+        (&[&[1], &[2]], false),
+        (&[&[1]], true),
+        (&[&[-1]], true),
+        (&[&[1, -2], &[-1, 2]], false),
+        (&[&[-1, -2], &[6, 1], &[6, 2]], true),
+        (&[&[-6, 1], &[-6, 2], &[6]], false),
+        (&[&[-3]], false),
+        (&[&[4, -5]], false),
+        (&[], true),
+    ],
+};
 
 /// The first clauses, and more.
-fn front_and(alloc: Global, more: &[&[i64]]) -> Result<Cnf, Fail> {
-    let mut whole = list(alloc, 4, &FRONT)?;
+fn front_and(alloc: Global, asked: &Asked, more: &[&[i64]]) -> Result<Cnf, Fail> {
+    let mut whole = list(alloc, u32::from(asked.vars) + 1, asked.front)?;
     push_all(alloc, &mut whole, more)?;
     Ok(whole)
 }
@@ -74,11 +114,12 @@ fn front_and(alloc: Global, more: &[&[i64]]) -> Result<Cnf, Fail> {
 fn is_answered(
     alloc: Global,
     base: &mut ClauseBase,
+    asked: &Asked,
     more: &[&[i64]],
     has_model: bool,
 ) -> Result<bool, Fail> {
-    let own = list(alloc, 4, more)?;
-    let whole = front_and(alloc, more)?;
+    let own = list(alloc, u32::from(asked.vars) + 1, more)?;
+    let whole = front_and(alloc, asked, more)?;
     let is_right = are_told(alloc, base, &own, &whole, has_model);
     drop((own, whole));
     Ok(is_right?)
@@ -90,29 +131,66 @@ fn has(base: &ClauseBase, vars: u64, count: usize) -> bool {
 }
 
 /// Whether the base of the first clauses answers each question, and then has these clauses alone.
-fn are_answered(alloc: Global, base: &mut ClauseBase) -> Result<bool, Fail> {
-    for (more, has_model) in &QUESTIONS {
-        if !is_answered(alloc, base, more, *has_model)? {
+fn are_answered(alloc: Global, base: &mut ClauseBase, asked: &Asked) -> Result<bool, Fail> {
+    for (more, has_model) in asked.questions {
+        if !is_answered(alloc, base, asked, more, *has_model)? {
             return Ok(false);
         }
     }
-    Ok(has(base, 3, 3))
+    Ok(has(base, u64::from(asked.vars), asked.front.len()))
 }
 
 /// A base of the first clauses.
-fn front(alloc: Global) -> Result<ClauseBase, Fail> {
-    let front = list(alloc, 3, &FRONT)?;
+fn front(alloc: Global, asked: &Asked) -> Result<ClauseBase, Fail> {
+    let front = list(alloc, u32::from(asked.vars), asked.front)?;
     let base = ClauseBase::of(alloc, &front);
     drop(front);
     Ok(base?)
 }
 
+/// Whether the base answers each question before it is settled and then.
+fn are_answered_twice(alloc: Global, base: &mut ClauseBase, asked: &Asked) -> Result<bool, Fail> {
+    let is_right = are_answered(alloc, base, asked)?;
+    base.settle()?;
+    Ok(is_right && are_answered(alloc, base, asked)?)
+}
+
+/// Whether a base of the clauses answers each question, and once it is settled too.
+fn is_right(alloc: Global, asked: &Asked) -> Result<bool, Fail> {
+    let mut base = front(alloc, asked)?;
+    let is_right = are_answered_twice(alloc, &mut base, asked);
+    drop(base);
+    is_right
+}
+
 #[test]
 fn each_question_is_answered_as_if_it_were_the_only_one(rt: HostRuntime) -> Result<(), Fail> {
-    let mut base = front(rt.alloc())?;
-    let are_answered = are_answered(rt.alloc(), &mut base);
+    assert!(rt; is_right(rt.alloc(), &ORDERED)?);
+    assert!(rt; is_right(rt.alloc(), &EITHER)?);
+    Ok(())
+}
+
+/// Whether the settled base of `EITHER`, cut down to what 3 stands for, has assignments in which 3 is false.
+fn is_cut(base: &mut ClauseBase) -> Result<bool, Memory> {
+    base.settle()?;
+    let vars = base.vars();
+    if vars < 3 {
+        return Ok(false);
+    }
+    base.cut(vars, 3);
+    base.add(&[-3])?;
+    let denied = base.satisfy()?;
+    base.add(&[1])?;
+    let refuted = base.satisfy()?;
+    Ok(denied.is_some() && refuted.is_none() && has(base, 5, 5))
+}
+
+#[test]
+fn a_settled_base_is_cut(rt: HostRuntime) -> Result<(), Fail> {
+    let mut base = front(rt.alloc(), &EITHER)?;
+    let is_cut = is_cut(&mut base);
     drop(base);
-    assert!(rt; are_answered?);
+    assert!(rt; is_cut?);
     Ok(())
 }
 
