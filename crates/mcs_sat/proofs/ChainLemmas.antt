@@ -7,7 +7,7 @@ use Rattle.std.proofs.Math.Seq.{take-append-add}
 use Rattle.mcs_base.proofs.Lists.{slice_get-append_left, slice_get-append_right, slice_get_seam}
 use Rattle.mcs_sat.specs.Chains.{AreLearnt, AreSpaced, IsCut, spread}
 use Rattle.mcs_sat.specs.Stores.{given_count}
-use Rattle.mcs_sat.proofs.StoreLemmas.{given_count-append}
+use Rattle.mcs_sat.proofs.StoreLemmas.{given_count-append, given_count-left}
 
 -- ---- the learnt ones
 pub learnt-bound : (from count : ℕ) (learnt : List ℕ) (rows : List (List ℕ)) → AreLearnt from count learnt rows → from + length learnt ≤ count
@@ -57,10 +57,6 @@ empty-count : (n : ℕ) → given_count (replicate n []) ≡ n
 empty-count zero = refl
 empty-count (suc n) = let h = empty-count n in omega arith
 
-row-count : (row : List ℕ) (rows : List (List ℕ)) → row ≢ [] → given_count (row ∷ rows) ≡ given_count rows
-row-count [] rows some = absurd (some refl)
-row-count (n ∷ row) rows some = refl
-
 pub spread-given : (from count : ℕ) (learnt : List ℕ) (rows : List (List ℕ)) → AreLearnt from count learnt rows → given_count (spread from count learnt rows) + length learnt ≡ count - from
 spread-given from count [] [] is = let h = empty-count (count - from) in omega arith
 spread-given from count [] (row ∷ rows) is = absurd is
@@ -72,7 +68,7 @@ spread-given from count (i ∷ learnt) (row ∷ rows) (low, some, rest) =
     let size : given_count gap ≡ i - from = empty-count (i - from) in
     let h = spread-given (i + 1) count learnt rows rest in
     let whole = given_count-append gap (row ∷ later) in
-    let skip = row-count row later some in
+    let skip = given_count-left row later some in
     omega arith
 
 -- ---- one more

@@ -1,18 +1,16 @@
 -- What stays right of a solver where nothing is decided, when clauses are taken off and when a variable is added.
-use Rattle.std.proofs.Common.{◌≡◌, ℕ, ◌+◌, ◌*◌, ◌^◌, ◌<◌, ◌≤◌, zero, suc, List, [], ◌∷◌, ◌++◌, ◌⊎◌, inl, inr, refl, sym, ap, ◌∙◌, subst, arith, ℤ, neg_ℤ, unsigned_abs, length, length-append, take, filter, ltb, min, Some, slice_get, Vec, Global}
+use Rattle.std.proofs.Common.{◌≡◌, ℕ, ◌+◌, ◌^◌, ◌<◌, ◌≤◌, zero, suc, List, [], ◌∷◌, ◌++◌, ◌⊎◌, inl, inr, sym, ap, ◌∙◌, subst, arith, ℤ, neg_ℤ, unsigned_abs, length, length-append, take, filter, ltb, min, Some, slice_get, Vec, Global}
 use Rattle.std.specs.List.{AllByRecursion}
-use Rattle.std.proofs.Math.Seq.{take-append_seam}
 use Rattle.std.proofs.lemmas.List.{get_or_append_left, length-take, length-take-le, take-take, take_all}
 use Rattle.std.proofs.lemmas.Bool.{cases_lt, lt-ltb, ltb-true}
 use Rattle.std.proofs.lemmas.Option.{slice_get_within}
 use Rattle.mcs_base.specs.Listings.{IsAmong}
 use Rattle.mcs_base.proofs.Among.{among_filter, among_get, filter_among, get_among}
-use Rattle.mcs_base.proofs.Each.{all_among, all_get, all_weaker, all_take}
-use Rattle.mcs_base.proofs.Lists.{slice_get-append_left, slice_get_below, slice_get_take}
-use Rattle.mcs_trace.specs.Clauses.{IsClause, IsLiteral, place}
+use Rattle.mcs_base.proofs.Each.{all_weaker, all_take}
+use Rattle.mcs_base.proofs.Lists.{slice_get_take}
+use Rattle.mcs_trace.specs.Clauses.{IsClause}
 use Rattle.mcs_trace.specs.Traces.{IsChainResolvent, numbered}
 use Rattle.mcs_sat.specs.declared.state.Kept.{Kept}
-use Rattle.mcs_sat.specs.declared.state.Reach.{Reach}
 use Rattle.mcs_sat.specs.declared.state.State.{State}
 use Rattle.mcs_sat.specs.declared.trail.Entry.{Entry}
 use Rattle.mcs_sat.specs.declared.trail.Trail.{Trail}
@@ -20,11 +18,10 @@ use Rattle.mcs_sat.specs.declared.watches.Pair.{Pair}
 use Rattle.mcs_sat.specs.declared.watches.Watches.{Watches}
 use Rattle.mcs_sat.specs.States.{AreChains, AreStarts, IsState}
 use Rattle.mcs_sat.specs.Trails.{AreCovered, AreExplained, AreLevelled, ArePlaced, IsOnBelow, IsSatisfiedBelow, IsTrail, decisions, literal_at, reason_at}
-use Rattle.mcs_sat.specs.Watching.{AreKept, ArePair, AreUnwatched, AreWatched, IsKept, IsListed, IsOf, IsReached}
+use Rattle.mcs_sat.specs.Watching.{AreKept, AreUnwatched, AreWatched, IsKept, IsListed, IsReached}
 use Rattle.mcs_sat.proofs.KeptLemmas.{first-take, front-take, kept-change, later-none, moved-take, still-take}
 use Rattle.mcs_sat.proofs.LevelLemmas.{decisions-longer, levelled-back}
 use Rattle.mcs_sat.proofs.TrailLemmas.{entry-back, explained-back, placed-back}
-use Rattle.mcs_sat.proofs.WatchLemmas.{reached-list}
 use Rattle.mcs_base.proofs.Written.{slice_get-take}
 
 -- ---- the first clauses

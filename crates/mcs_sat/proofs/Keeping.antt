@@ -1,9 +1,11 @@
--- What the visits of clauses keep of a trail and of the watches.
+-- What the visits of clauses keep of a trail and of the watches, and what is kept where clauses begin to watch.
 use Rattle.std.proofs.Common.{◌≡◌, ℕ, ◌≤◌, ℤ, List, length}
 use Rattle.mcs_sat.specs.declared.state.Reach.{Reach}
+use Rattle.mcs_sat.specs.declared.state.State.{State}
 use Rattle.mcs_sat.specs.declared.trail.Entry.{Entry}
 use Rattle.mcs_sat.specs.declared.trail.Trail.{Trail}
 use Rattle.mcs_sat.specs.declared.watches.Watches.{Watches}
+use Rattle.mcs_sat.specs.States.{IsState, SameClauses}
 use Rattle.mcs_sat.specs.Trails.{Grows}
 use Rattle.mcs_sat.specs.Watching.{AreMoved, AreSpared, AreWatched, IsReached}
 
@@ -21,3 +23,14 @@ pub record KeepsWatches (known : List (List ℤ)) (before after : Watches) (entr
   pub short : after.short.items ≡ before.short.items
   pub moved : AreMoved before.pairs after.pairs entries
   pub reached : (r : Reach) → r.visited ≤ length entries → IsReached known before entries r → IsReached known after entries r
+
+-- it has the same clauses and levels
+pub record KeepsState (before after : State) : Type 0 where
+  pub kept : IsState after
+  pub same : SameClauses before after
+  pub levels : after.levels.items ≡ before.levels.items
+
+-- and the same literals are true
+pub record KeepsLiterals (before after : State) : Type 0 where
+  pub state : KeepsState before after
+  pub entries : after.trail.entries.items ≡ before.trail.entries.items

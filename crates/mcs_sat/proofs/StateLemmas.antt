@@ -1,5 +1,5 @@
 -- What stays right of a solver when a level is opened, when levels are taken back, and when a clause is added.
-use Rattle.std.proofs.Common.{◌≡◌, ℕ, ◌+◌, ◌*◌, ◌^◌, ◌<◌, ◌≤◌, List, [], ◌∷◌, ◌++◌, ◌⊎◌, inl, inr, refl, sym, ap, ◌∙◌, subst, arith, ℤ, neg_ℤ, unsigned_abs, length, length-append, take, Option, Some, None, MatchOption, IfSome, slice_get, Vec, Global}
+use Rattle.std.proofs.Common.{◌≡◌, ℕ, ◌+◌, ◌^◌, ◌<◌, ◌≤◌, List, [], ◌∷◌, ◌++◌, ◌⊎◌, inl, inr, refl, sym, ap, ◌∙◌, subst, arith, ℤ, neg_ℤ, unsigned_abs, length, length-append, take, Option, Some, None, MatchOption, IfSome, slice_get, Vec, Global}
 use Rattle.std.specs.List.{AllByRecursion}
 use Rattle.std.proofs.Math.Seq.{take-append_seam}
 use Rattle.std.proofs.lemmas.List.{length_push, length-take-le, take-append-le}
@@ -483,11 +483,6 @@ state-pushed s cs ms w c ns o v is full clauses chains kept pushed fits clause c
     let last : length s.watches.pairs ≡ length s.clauses + 0 = omega (arith, full) in
     let here : slice_get cs (length s.watches.pairs) ≡ Some c = ap (λ (ks : List (List ℤ)). slice_get ks (length s.watches.pairs)) clauses ∙ ap (slice_get (s.clauses ++ c ∷ [])) last ∙ slice_get-append_right s.clauses (c ∷ []) 0 in
     state-attached (record { clauses = cs; chains = ms; trail = s.trail; watches = s.watches; levels = s.levels; visited = s.visited; settled = s.settled; kept = s.kept }) w c o v (state-added s cs ms c ns is clauses chains clause covered right) here kept pushed fits low fresh levels
-
-pub kept-lists : (old between new : Watches) → new.lists.items ≡ between.lists.items → AreKept old between → AreKept old new
-kept-lists old between new same kept = record {
-  listed = λ l i listed. subst (λ (ls : List (Vec ℕ Global)). IsListed ls l i) (sym same) (kept.listed l i listed);
-}
 
 -- ---- pairs of a clause
 fits-each : (P : ℤ → Type 0) (c : List ℤ) (o : Option Pair) → AllByRecursion P c → FitsPair c o → IfSome o (λ p. P p.first × P p.second)

@@ -62,7 +62,7 @@ given-left : (c : List ℤ) (ns : List ℕ) (known : List (List ℤ)) (chains : 
 given-left c [] known chains none = absurd (none refl)
 given-left c (n ∷ ns) known chains other = refl
 
-given_count-left : (ns : List ℕ) (chains : List (List ℕ)) → ns ≢ [] → given_count (ns ∷ chains) ≡ given_count chains
+pub given_count-left : (ns : List ℕ) (chains : List (List ℕ)) → ns ≢ [] → given_count (ns ∷ chains) ≡ given_count chains
 given_count-left [] chains none = absurd (none refl)
 given_count-left (n ∷ ns) chains other = refl
 

@@ -1,4 +1,4 @@
-use Rattle.std.proofs.Common.{◌≡◌, ◌∙◌, List, ℤ, ℕ, Some, slice_get, ap, sym, length, refl}
+use Rattle.std.proofs.Common.{◌≡◌, ◌∙◌, Some, slice_get, ap, sym, length, refl}
 use Rattle.mcs_sat.proofs.GrowLemmas.{clause_at}
 use Rattle.mcs_sat.proofs.StateLemmas.{fits-literals, fresh-base, state-attached, state-same}
 use Rattle.mcs_sat.proofs.adding.attach_next.Goals as goal

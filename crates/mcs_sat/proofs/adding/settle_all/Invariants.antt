@@ -1,13 +1,11 @@
 use Rattle.std.proofs.Common.{◌≡◌, ◌-◌, length}
-use Rattle.mcs_sat.specs.States.{IsState, SameClauses}
+use Rattle.mcs_sat.proofs.Keeping.{KeepsState}
 use Rattle.mcs_sat.proofs.adding.settle_all.Given as goal
 
 abbrev pub invariant-loop-state : goal.invariant-loop-state
 invariant-loop-state l = record {
-  kept : IsState l.state;
-  same : SameClauses l.fn.state l.state;
+  state : KeepsState l.fn.state l.state;
   all : l.state.kept.entries ≡ length l.state.trail.entries.items;
-  levels : l.state.levels.items ≡ l.fn.state.levels.items;
 }
 
 abbrev pub decreases-loop-state : goal.decreases-loop-state

@@ -1,4 +1,4 @@
-use Rattle.std.proofs.Common.{◌≡◌, ap, arith, length, length-append, map}
+use Rattle.std.proofs.Common.{ap, arith, length, length-append, map}
 use Rattle.mcs_trace.specs.Traces.{Inference}
 use Rattle.mcs_sat.proofs.StoreLemmas.{later-then}
 use Rattle.mcs_sat.proofs.flatten.flatten_from.Goals as goal

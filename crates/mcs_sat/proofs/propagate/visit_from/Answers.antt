@@ -1,4 +1,4 @@
-use Rattle.std.proofs.Common.{◌≡◌, ℕ, ℤ, List, ◌*◌, ◌<◌, ◌≤◌, length, neg_ℤ, Option, None, MatchOption, sym, ap, ◌∙◌, subst, arith, w64, to_z, of_z}
+use Rattle.std.proofs.Common.{◌≡◌, ℕ, ℤ, List, ◌<◌, ◌≤◌, length, neg_ℤ, Option, None, MatchOption, sym, ap, ◌∙◌, subst, arith, w64, to_z, of_z}
 use Rattle.mcs_base.proofs.Booleans.{none_from_not_some}
 use Rattle.mcs_trace.specs.Clauses.{IsLiteral}
 use Rattle.mcs_sat.specs.declared.state.Reach.{Reach}

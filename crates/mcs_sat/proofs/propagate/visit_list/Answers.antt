@@ -1,14 +1,11 @@
-use Rattle.std.proofs.Common.{◌≡◌, ℕ, ℤ, List, ◌+◌, ◌*◌, ◌<◌, ◌≤◌, length, slice_get, get_or, neg_ℤ, unsigned_abs, Some, Vec, refl, sym, ap, ◌∙◌, subst, arith, w64, to_z, of_z, to_z-of_z}
+use Rattle.std.proofs.Common.{◌≡◌, ℕ, ℤ, List, ◌+◌, ◌<◌, ◌≤◌, length, slice_get, get_or, Some, Vec, refl, sym, ap, ◌∙◌, subst, arith, w64, to_z, of_z, to_z-of_z}
 use Rattle.std.specs.declared.alloc.Global.{Global}
 use Rattle.std.proofs.lemmas.List.{length-set}
 use Rattle.std.proofs.lemmas.Option.{slice_get_read}
-use Rattle.mcs_base.proofs.Numbers.{unsigned_abs-neg_ℤ}
 use Rattle.mcs_trace.specs.Clauses.{place}
-use Rattle.mcs_trace.proofs.OrderLemmas.{place-size}
 use Rattle.mcs_sat.specs.declared.propagate.Seen.TheVariants as seen
 use Rattle.mcs_sat.specs.declared.state.Reach.{Reach}
-use Rattle.mcs_sat.specs.declared.trail.Entry.{Entry}
-use Rattle.mcs_sat.specs.Trails.{ArePlaced, Grows, IsOn, literal_at}
+use Rattle.mcs_sat.specs.Trails.{Grows}
 use Rattle.mcs_sat.specs.Watching.{AreMoved, AreSpared, IsReached, IsSeen}
 use Rattle.mcs_sat.proofs.GrowLemmas.{grows-more}
 use Rattle.mcs_sat.proofs.KeptLemmas.{moved-then, spared-then}

@@ -1,4 +1,4 @@
-use Rattle.std.proofs.Common.{◌≡◌, ◌*◌, ◌≤◌, ℕ, List, refl, sym, ap, ◌∙◌, subst, arith, length, Option, Some, None, MatchOption, false}
+use Rattle.std.proofs.Common.{◌≡◌, ◌≤◌, ℕ, List, refl, sym, ap, ◌∙◌, subst, arith, length, Option, Some, None, MatchOption, false}
 use Rattle.std.specs.Option.{IfNone, is_some}
 use Rattle.mcs_sat.specs.declared.state.State.{State}
 use Rattle.mcs_sat.specs.States.{IsState, reach_of}

@@ -1,4 +1,4 @@
-use Rattle.std.proofs.Common.{◌≡◌, ◌∙◌}
+use Rattle.std.proofs.Common.{◌∙◌}
 use Rattle.mcs_sat.specs.Stores.{IsLater}
 use Rattle.mcs_sat.proofs.StoreLemmas.{base-later, base-list, later-same, later-then}
 use Rattle.mcs_sat.proofs.base.ClauseBase.settle.Goals.{After-flatten_from, After-run}

@@ -1,4 +1,4 @@
-use Rattle.std.proofs.Common.{◌≡◌, ◌+◌, ◌-◌, List, ◌∙◌, ap, sym, subst, refl, arith, length, slice_get, Some}
+use Rattle.std.proofs.Common.{◌-◌, List, ◌∙◌, ap, sym, refl, arith, length, slice_get}
 use Rattle.std.proofs.lemmas.Option.{slice_get_read}
 use Rattle.mcs_sat.specs.declared.watches.Pair.{Pair}
 use Rattle.mcs_sat.proofs.PairsLemmas.{none-at, rest-at, size-pairs}

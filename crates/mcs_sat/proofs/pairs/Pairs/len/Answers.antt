@@ -1,4 +1,4 @@
-use Rattle.std.proofs.Common.{◌≡◌, ◌+◌, ◌∙◌, ap, sym, arith, length}
+use Rattle.std.proofs.Common.{ap, arith, length}
 use Rattle.mcs_sat.proofs.PairsLemmas.{size-pairs}
 use Rattle.mcs_sat.proofs.pairs.Pairs.len.Goals as goal
 

@@ -1,4 +1,4 @@
-use Rattle.std.proofs.Common.{◌≡◌, ◌+◌, List, ◌∙◌, ap, sym, subst, ◌≢◌, arith, length, set, slice_get, Some}
+use Rattle.std.proofs.Common.{List, ◌∙◌, ap, sym, subst, ◌≢◌, arith, length, set, slice_get, Some}
 use Rattle.std.proofs.lemmas.List.{set-append_right}
 use Rattle.mcs_sat.specs.declared.watches.Pair.{Pair}
 use Rattle.mcs_sat.specs.Pairs.{no_pair, no_pairs}

@@ -1,4 +1,4 @@
-use Rattle.std.proofs.Common.{◌≡◌, ◌-◌, ◌++◌, List, ℕ, ap, sym, ◌∙◌, take, min}
+use Rattle.std.proofs.Common.{◌++◌, List, ℕ, ap, ◌∙◌, take, min}
 use Rattle.mcs_sat.specs.declared.watches.Pair.{Pair}
 use Rattle.mcs_sat.specs.Pairs.{no_pairs}
 use Rattle.mcs_sat.proofs.PairsLemmas.{first-pairs}

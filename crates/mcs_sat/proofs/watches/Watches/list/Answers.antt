@@ -1,4 +1,4 @@
-use Rattle.std.proofs.Common.{◌≡◌, ◌<◌, ◌∙◌, length, Some, slice_get, sym, ap, to_z-of_z, arith, refl}
+use Rattle.std.proofs.Common.{◌≡◌, ◌∙◌, length, Some, slice_get, sym, ap, to_z-of_z, arith, refl}
 use Rattle.std.proofs.lemmas.Option.{slice_get_read}
 use Rattle.mcs_trace.specs.Clauses.{place}
 use Rattle.mcs_base.proofs.Written.{slice_get-set_other}
