@@ -18,8 +18,11 @@ use mcs_trace::resolve;
 use std::alloc::Global;
 use std::mem;
 
-/// Of how many literals a clause is that is resolved further, at most.
-const MOST_LITERALS: usize = 16;
+/// Of how many literals a clause is that is learnt, at least.
+const LEAST_LITERALS: usize = 3;
+
+/// Of how many literals a clause is that is resolved further or learnt, at most.
+const MOST_LITERALS: usize = 6;
 
 /// With how many clauses one is resolved, at most.
 const MOST_STEPS: usize = 64;
@@ -192,7 +195,8 @@ fn are_covered(trail: &Trail, literals: &[i64]) -> bool
     literals.iter().all(|literal| (literal.unsigned_abs() as usize) < trail.positions.len())
 }
 
-/// Learns the clause, where nothing is decided.
+/// Learns the clause, where nothing is decided, if it is neither short, so that unit clauses lead through the wholes, nor
+/// long.
 fn learn_flat(state: &mut State, flat: &Flat) -> Result<(), Memory>
     requires state { IsState state.old }
     requires base { state.old.levels.items ≡ [] }
@@ -202,7 +206,11 @@ fn learn_flat(state: &mut State, flat: &Flat) -> Result<(), Memory>
     ensures base { state.new.levels.items ≡ [] }
     ensures full { OnOk result (IsFull state.new) }
 {
-    if flat.chain.len() < 2 || !are_covered(&state.trail, &flat.literals) {
+    let size = flat.literals.len();
+    if flat.chain.len() < 2 || size < LEAST_LITERALS || size > MOST_LITERALS {
+        return Ok(());
+    }
+    if !are_covered(&state.trail, &flat.literals) {
         return Ok(());
     }
     push_unwatched(state, &flat.literals, &flat.chain)?;
