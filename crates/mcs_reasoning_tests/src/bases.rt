@@ -103,6 +103,35 @@ static EITHER: Asked = Asked {
     ],
 };
 
+/// 1 exactly where 2, 3 or 4: 5 stands for 3 or 4, 6 for 2 or 5, and 7 for the whole.
+static DEFINED: Asked = Asked {
+    vars: 7,
+    front: &[
+        &[-3, 5],
+        &[-4, 5],
+        &[3, 4, -5],
+        &[-2, 6],
+        &[-5, 6],
+        &[2, 5, -6],
+        &[1, 6, 7],
+        &[-1, -6, 7],
+        &[-1, 6, -7],
+        &[1, -6, -7],
+        &[7],
+    ],
+    questions: &[
+        (&[], true),
+        (&[&[1]], true),
+        (&[&[1], &[-2], &[-3]], true),
+        (&[&[1], &[-2], &[-3], &[-4]], false),
+        (&[&[-1]], true),
+        (&[&[-1], &[4]], false),
+        (&[&[-1], &[2, 8], &[-8]], false),
+        (&[&[5], &[-6]], false),
+        (&[&[-7]], false),
+    ],
+};
+
 /// The first clauses, and more.
 fn front_and(alloc: Global, asked: &Asked, more: &[&[i64]]) -> Result<Cnf, Fail> {
     let mut whole = list(alloc, u32::from(asked.vars) + 1, asked.front)?;
@@ -167,6 +196,74 @@ fn is_right(alloc: Global, asked: &Asked) -> Result<bool, Fail> {
 fn each_question_is_answered_as_if_it_were_the_only_one(rt: HostRuntime) -> Result<(), Fail> {
     assert!(rt; is_right(rt.alloc(), &ORDERED)?);
     assert!(rt; is_right(rt.alloc(), &EITHER)?);
+    assert!(rt; is_right(rt.alloc(), &DEFINED)?);
+    Ok(())
+}
+
+/// All disjunctions of 1, 2 and 3, each as it is or denied.
+static DISJUNCTIONS: [[i8; 3]; 8] = [
+    [1, 2, 3],
+    [1, 2, -3],
+    [1, -2, 3],
+    [1, -2, -3],
+    [-1, 2, 3],
+    [-1, 2, -3],
+    [-1, -2, 3],
+    [-1, -2, -3],
+];
+
+/// Adds what says that the disjunction is true, where the variable of the number stands for the last two, and the next
+/// one for the whole.
+fn push_disjunction(
+    alloc: Global,
+    whole: &mut Cnf,
+    literals: [i8; 3],
+    number: u8,
+) -> Result<(), Fail> {
+    let [first, second, third] = literals.map(i64::from);
+    let (last_two, all) = (i64::from(number), i64::from(number) + 1);
+    push_all(
+        alloc,
+        whole,
+        &[
+            &[-second, last_two],
+            &[-third, last_two],
+            &[second, third, -last_two],
+            &[-first, all],
+            &[-last_two, all],
+            &[first, last_two, -all],
+            &[all],
+        ],
+    )
+}
+
+/// What says that the first ones of the disjunctions are true.
+fn disjunctions(alloc: Global, count: usize) -> Result<Cnf, Fail> {
+    let mut whole = list(alloc, 19, &[])?;
+    let mut number = 4;
+    for literals in DISJUNCTIONS.iter().take(count) {
+        push_disjunction(alloc, &mut whole, *literals, number)?;
+        number = number.saturating_add(2);
+    }
+    Ok(whole)
+}
+
+/// Whether a settled base of the clauses has an assignment exactly where it is said.
+fn is_settled_rightly(alloc: Global, whole: &Cnf, has_model: bool) -> Result<bool, Memory> {
+    let mut base = ClauseBase::of(alloc, whole)?;
+    base.settle()?;
+    let is_shown = is_shown(alloc, &mut base, whole, has_model)?;
+    Ok(is_shown && base.satisfy()?.is_some() == has_model)
+}
+
+#[test]
+fn disjunctions_have_a_model_until_all_are_there(rt: HostRuntime) -> Result<(), Fail> {
+    for count in 0..=DISJUNCTIONS.len() {
+        let whole = disjunctions(rt.alloc(), count)?;
+        let is_right = is_settled_rightly(rt.alloc(), &whole, count < DISJUNCTIONS.len());
+        drop(whole);
+        assert!(rt; is_right?);
+    }
     Ok(())
 }
 

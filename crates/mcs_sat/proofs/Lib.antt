@@ -23,4 +23,5 @@ pub mod ChainLemmas
 pub mod CutLemmas
 pub mod FollowLemmas
 pub mod NumberingLemmas
+pub mod PartLemmas
 pub mod MarkLemmas

@@ -49,7 +49,7 @@ resolves-renumbered : (known new : List (List ℤ)) (f : ℕ → ℕ) (c : List 
 resolves-renumbered known new f c [] last same h = h
 resolves-renumbered known new f c (m ∷ ns) last same (d, at, (between, is, rest)) = (d, same m d (inl refl) at, (between, is, resolves-renumbered known new f between ns last (λ n d among. same n d (inr among)) rest))
 
-chain-renumbered : (known new : List (List ℤ)) (f : ℕ → ℕ) (ns : List ℕ) (c : List ℤ) → ((n : ℕ) (d : List ℤ) → IsAmong n ns → numbered known n ≡ Some d → numbered new (f n) ≡ Some d) → IsChainResolvent known ns c → IsChainResolvent new (map f ns) c
+pub chain-renumbered : (known new : List (List ℤ)) (f : ℕ → ℕ) (ns : List ℕ) (c : List ℤ) → ((n : ℕ) (d : List ℤ) → IsAmong n ns → numbered known n ≡ Some d → numbered new (f n) ≡ Some d) → IsChainResolvent known ns c → IsChainResolvent new (map f ns) c
 chain-renumbered known new f [] c same h = h
 chain-renumbered known new f (m ∷ ns) c same (first, at, rest) = (first, same m first (inl refl) at, resolves-renumbered known new f first ns c (λ n d among. same n d (inr among)) rest)
 

@@ -4,13 +4,14 @@ ghost use Rattle.std.specs.Prelude.{◌≡◌, [], ◌∷◌, ◌++◌, ◌+◌,
 ghost use Rattle.std.specs.List.{AllByRecursion};
 ghost use Rattle.mcs_trace.specs.Clauses.{IsClause, IsClauseList, IsWithin};
 ghost use Rattle.mcs_sat.specs.Answers.{IsAnswer, IsExact, IsSettled};
-ghost use Rattle.mcs_sat.specs.States.{IsState};
-ghost use Rattle.mcs_sat.specs.Stores.{IsFrontOf, given};
+ghost use Rattle.mcs_sat.specs.States.{IsFull, IsState};
+ghost use Rattle.mcs_sat.specs.Stores.{IsFrontOf, IsLater, given};
 
-use crate::adding::{add, cut, keep, settle_all, widen};
+use crate::adding::{add, attach, cut, keep, settle_all, widen};
 use crate::flatten::flatten_from;
 use crate::order::Order;
 use crate::outcome::Outcome;
+use crate::part::search_part;
 use crate::solver::run;
 use crate::solving::{assignment_of, go_back, outcome_of};
 use crate::state::State;
@@ -71,6 +72,23 @@ fn make_room(state: &mut State, order: &mut Order, variable: usize) -> Result<()
         order.widen(variable)?;
         widen(state)?;
     }
+    Ok(())
+}
+
+/// Learns clauses over parts of formulas from the clauses from the index on, and what a search learns of these alone.
+fn learn_beforehand(state: &mut State, order: &mut Order, from: usize) -> Result<(), Memory>
+    requires state { IsState state.old }
+    requires base { state.old.levels.items ≡ [] }
+    requires full { IsFull state.old }
+    ensures later { IsLater state.old state.new }
+    ensures base { state.new.levels.items ≡ [] }
+    ensures full { OnOk result (IsFull state.new) }
+{
+    let marked = flatten_from(state, from)?;
+    let searched = search_part(state, order, &marked);
+    drop(marked);
+    searched?;
+    attach(state)?;
     Ok(())
 }
 
@@ -214,7 +232,7 @@ impl ClauseBase {
     {
         let from = self.state.watches.pairs.len();
         settle_all(&mut self.state)?;
-        flatten_from(&mut self.state, from)?;
+        learn_beforehand(&mut self.state, &mut self.order, from)?;
         let _found = run(&mut self.state)?;
         keep(&mut self.state);
         Ok(())

@@ -49,6 +49,13 @@ pub(crate) struct Flat {
     pub chain: Vec<u64>,
 }
 
+/// The variables that were resolved away where clauses were learnt, and the clauses that these were resolved from.
+#[derive(Drop)]
+struct Resolved {
+    variables: Vec<bool>,
+    clauses: Vec<bool>,
+}
+
 /// Notes that the clause of the index is one more that defines the variable.
 fn note(side: &mut Vec<Definition>, variable: usize, index: usize) -> Result<(), Memory> {
     fill(side, variable, Definition::None)?;
@@ -86,6 +93,92 @@ impl Definitions {
     }
 }
 
+/// Marks the number.
+fn mark(marks: &mut Vec<bool>, number: usize) -> Result<(), Memory> {
+    fill(marks, number, false)?;
+    if let Some(here) = marks.get_mut(number) {
+        *here = true;
+    }
+    Ok(())
+}
+
+/// Whether the number is marked.
+fn is_marked(marks: &[bool], number: usize) -> bool {
+    marks.get(number).copied().unwrap_or(false)
+}
+
+impl Resolved {
+    /// Notes that the clause of the index was resolved with others by its last literal, if this one has no value.
+    fn note_definition(
+        &mut self,
+        clauses: &Rows<i64>,
+        trail: &Trail,
+        index: usize,
+    ) -> Result<(), Memory>
+        requires { index < length clauses.now }
+    {
+        if let Some(last) = clauses.row(index).last()
+            && !has_value(trail, *last)
+        {
+            mark(&mut self.variables, last.unsigned_abs() as usize)?;
+        }
+        mark(&mut self.clauses, index)
+    }
+
+    /// Notes that a clause was learnt from those of the numbers.
+    fn note(&mut self, clauses: &Rows<i64>, trail: &Trail, chain: &[u64]) -> Result<(), Memory> {
+        let Some((first, others)) = chain.split_first() else {
+            return Ok(());
+        };
+        mark(&mut self.clauses, first.saturating_sub(1) as usize)?;
+        for number in others {
+            let index = number.saturating_sub(1) as usize;
+            if index < clauses.len() {
+                self.note_definition(clauses, trail, index)?;
+            }
+        }
+        Ok(())
+    }
+
+    /// Lets go of the variables of the clause of the index, if it was not resolved, and is no definition of a variable
+    /// that was resolved away.
+    fn spare(&mut self, clauses: &Rows<i64>, index: usize)
+        requires { index < length clauses.now }
+    {
+        let literals = clauses.row(index);
+        let Some(last) = literals.last() else {
+            return;
+        };
+        if is_marked(&self.clauses, index)
+            || is_marked(&self.variables, last.unsigned_abs() as usize)
+        {
+            return;
+        }
+        for literal in literals {
+            if let Some(here) = self.variables.get_mut(literal.unsigned_abs() as usize) {
+                *here = false;
+            }
+        }
+    }
+
+    /// The variables that were resolved away in all clauses from the index on that have them, but in their definitions.
+    /// The clauses of a whole come after those of its parts.
+    fn variables_of(mut self, clauses: &Rows<i64>, pairs: &Pairs, from: usize) -> Vec<bool>
+        requires { length pairs.now ≡ length clauses.now }
+    {
+        let mut index = pairs.len();
+        while index > from {
+            index -= 1;
+            if pairs.get(index).first != 0 {
+                self.spare(clauses, index);
+            }
+        }
+        let Resolved { variables, clauses } = self;
+        drop(clauses);
+        variables
+    }
+}
+
 /// What defines the variables in the clauses from the index on that watch something.
 fn definitions_of(
     alloc: Global,
@@ -107,6 +200,17 @@ fn definitions_of(
         }
     }
     Ok(definitions)
+}
+
+/// Whether the literal is true or false.
+fn has_value(trail: &Trail, literal: i64) -> bool {
+    if let Some(position) = trail.positions.get(literal.unsigned_abs() as usize)
+        && let Some(entry) = trail.entries.get(*position)
+    {
+        entry.literal.unsigned_abs() == literal.unsigned_abs()
+    } else {
+        false
+    }
 }
 
 /// The index of the clause that made the negation of the literal true.
@@ -196,8 +300,8 @@ fn are_covered(trail: &Trail, literals: &[i64]) -> bool
 }
 
 /// Learns the clause, where nothing is decided, if it is neither short, so that unit clauses lead through the wholes, nor
-/// long.
-fn learn_flat(state: &mut State, flat: &Flat) -> Result<(), Memory>
+/// long; whether it is learnt.
+fn learn_flat(state: &mut State, flat: &Flat) -> Result<bool, Memory>
     requires state { IsState state.old }
     requires base { state.old.levels.items ≡ [] }
     requires full { IsFull state.old }
@@ -208,14 +312,14 @@ fn learn_flat(state: &mut State, flat: &Flat) -> Result<(), Memory>
 {
     let size = flat.literals.len();
     if flat.chain.len() < 2 || size < LEAST_LITERALS || size > MOST_LITERALS {
-        return Ok(());
+        return Ok(false);
     }
     if !are_covered(&state.trail, &flat.literals) {
-        return Ok(());
+        return Ok(false);
     }
     push_unwatched(state, &flat.literals, &flat.chain)?;
     attach_next(state)?;
-    Ok(())
+    Ok(true)
 }
 
 /// Whether the clause of the index watches something, and a literal of it is false.
@@ -232,7 +336,12 @@ fn is_shorter(state: &State, index: usize) -> bool
 }
 
 /// Learns what the clause of the index is resolved to, where a literal of it is false.
-fn flatten(state: &mut State, definitions: &Definitions, index: usize) -> Result<(), Memory>
+fn flatten(
+    state: &mut State,
+    definitions: &Definitions,
+    resolved: &mut Resolved,
+    index: usize,
+) -> Result<(), Memory>
     requires state { IsState state.old }
     requires base { state.old.levels.items ≡ [] }
     requires full { IsFull state.old }
@@ -246,16 +355,20 @@ fn flatten(state: &mut State, definitions: &Definitions, index: usize) -> Result
     }
     let alloc = *state.levels.allocator();
     let flat = flat_of(alloc, &state.clauses, &state.trail, definitions, index)?;
-    let learnt = learn_flat(state, &flat);
+    let noted = match learn_flat(state, &flat) {
+        Ok(true) => resolved.note(&state.clauses, &state.trail, &flat.chain),
+        Ok(false) => Ok(()),
+        Err(error) => Err(error),
+    };
     drop(flat);
-    learnt
+    noted
 }
 
 /// Learns clauses over the parts of the formulas whose clauses stand from the index on: each clause of these of which a
 /// literal is false is resolved with those that made its literals false, and then with those that define what is left,
 /// one after the other, by their last literals. So what a formula says of its parts is found without the variables that
-/// stand for its parts.
-pub(crate) fn flatten_from(state: &mut State, from: usize) -> Result<(), Memory>
+/// stand for its parts. Marked are the variables that are not needed any more to find it, none where nothing is learnt.
+pub(crate) fn flatten_from(state: &mut State, from: usize) -> Result<Vec<bool>, Memory>
     requires state { IsState state.old }
     requires base { state.old.levels.items ≡ [] }
     requires full { IsFull state.old }
@@ -266,9 +379,13 @@ pub(crate) fn flatten_from(state: &mut State, from: usize) -> Result<(), Memory>
     let alloc = *state.levels.allocator();
     let count = state.clauses.len();
     let definitions = definitions_of(alloc, &state.clauses, &state.watches.pairs, from)?;
+    let mut resolved = Resolved {
+        variables: Vec::new(alloc),
+        clauses: Vec::new(alloc),
+    };
     for index in from..count {
-        flatten(state, &definitions, index)?;
+        flatten(state, &definitions, &mut resolved, index)?;
     }
     drop(definitions);
-    Ok(())
+    Ok(resolved.variables_of(&state.clauses, &state.watches.pairs, from))
 }

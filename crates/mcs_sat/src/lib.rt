@@ -13,6 +13,7 @@ mod model;
 mod order;
 mod outcome;
 mod pairs;
+mod part;
 mod propagate;
 mod search;
 mod shorten;

@@ -104,7 +104,7 @@ fn turn_back(
 }
 
 /// Takes back all that was decided, and makes true what follows without it.
-fn begin_anew(state: &mut State, order: &mut Order) -> Result<Option<usize>, Memory>
+pub(crate) fn begin_anew(state: &mut State, order: &mut Order) -> Result<Option<usize>, Memory>
     requires { IsSearch state.old }
     ensures later { IsLater state.old state.new }
     ensures kept { OnOk result (IsSearch state.new) }
@@ -117,7 +117,7 @@ fn begin_anew(state: &mut State, order: &mut Order) -> Result<Option<usize>, Mem
 }
 
 /// Turns back from a clause that is false, or chooses.
-fn take_turn(
+pub(crate) fn take_turn(
     alloc: Global,
     state: &mut State,
     order: &mut Order,

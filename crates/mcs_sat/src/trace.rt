@@ -52,7 +52,7 @@ fn needed_for(alloc: Global, chains: &Chains, last: &[u64]) -> Result<Vec<bool>,
 }
 
 /// The chain with the numbers that its clauses have in a trace.
-fn renumbered(alloc: Global, numbers: &[u64], chain: &[u64]) -> Result<Vec<u64>, Memory>
+pub(crate) fn renumbered(alloc: Global, numbers: &[u64], chain: &[u64]) -> Result<Vec<u64>, Memory>
     requires { NameBelow (length numbers.now) chain.now }
     ensures { IfOk result (λ r. r.items ≡ map (number_now numbers.now) chain.now) }
 {

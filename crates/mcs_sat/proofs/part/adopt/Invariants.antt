@@ -1,0 +1,14 @@
+use Rattle.std.proofs.Common.{◌≡◌, ◌-◌, [], length}
+use Rattle.mcs_sat.specs.Parts.{IsPart}
+use Rattle.mcs_sat.specs.Stores.{IsLater}
+use Rattle.mcs_sat.proofs.part.adopt.Given as goal
+
+abbrev pub invariant-loop-alloc : goal.invariant-loop-alloc
+invariant-loop-alloc l = record {
+  later : IsLater l.fn.state l.state;
+  base : l.state.levels.items ≡ [];
+  part : IsPart l.state l.part l.numbers.items;
+}
+
+abbrev pub decreases-loop-alloc : goal.decreases-loop-alloc
+decreases-loop-alloc l = length l.part.clauses - length l.numbers.items
