@@ -4,6 +4,7 @@
 mod adding;
 mod analyse;
 mod base;
+mod blocks;
 mod chains;
 mod examine;
 mod flatten;

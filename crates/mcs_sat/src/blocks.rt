@@ -1,0 +1,57 @@
+//! Values by their indices, which take memory only where there are some.
+
+use crate::order::fill;
+use mcs_base::Memory;
+use std::alloc::Global;
+
+/// How many values stand in a block at most.
+const BLOCK: usize = 512;
+
+/// Values by their indices. They stand in blocks of neighbouring indices; a block in which there is no value takes no
+/// memory.
+#[derive(Drop)]
+pub(crate) struct Blocks<T: Copy> {
+    pub blocks: Vec<Vec<T>>,
+}
+
+/// Adds empty blocks up to the number.
+fn make_blocks<T: Drop>(blocks: &mut Vec<Vec<T>>, number: usize) -> Result<(), Memory> {
+    let alloc = *blocks.allocator();
+    while blocks.len() <= number {
+        blocks.push(Vec::new(alloc))?;
+    }
+    Ok(())
+}
+
+impl<T: Copy> Blocks<T> {
+    /// No values.
+    pub fn new(alloc: Global) -> Blocks<T> {
+        Blocks {
+            blocks: Vec::new(alloc),
+        }
+    }
+
+    /// The value at the index, where there is one.
+    pub fn get(&self, index: usize) -> Option<T> {
+        self.blocks.get(index / BLOCK)?.get(index % BLOCK).copied()
+    }
+
+    /// Puts the value to the index, where there is one already.
+    pub fn replace(&mut self, index: usize, value: T) {
+        if let Some(block) = self.blocks.get_mut(index / BLOCK)
+            && let Some(here) = block.get_mut(index % BLOCK)
+        {
+            *here = value;
+        }
+    }
+
+    /// Puts the value to the index. Where its block ends before it, the filler stands up to it.
+    pub fn set(&mut self, index: usize, value: T, filler: T) -> Result<(), Memory> {
+        make_blocks(&mut self.blocks, index / BLOCK)?;
+        if let Some(block) = self.blocks.get_mut(index / BLOCK) {
+            fill(block, index % BLOCK, filler)?;
+        }
+        self.replace(index, value);
+        Ok(())
+    }
+}
