@@ -3,6 +3,7 @@ pub mod Trails
 pub mod Learning
 pub mod Flattening
 pub mod Pairs
+pub mod Lists
 pub mod Watching
 pub mod Chains
 pub mod Solvers

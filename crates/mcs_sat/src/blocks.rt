@@ -1,11 +1,14 @@
 //! Values by their indices, which take memory only where there are some.
 
+ghost use Rattle.std.specs.Prelude.{◌≡◌, ℕ, ◌<◌, length, OnOk};
+ghost use Rattle.mcs_sat.specs.Lists.{row_at};
+
 use crate::order::fill;
 use mcs_base::Memory;
 use std::alloc::Global;
 
-/// How many values stand in a block at most.
-const BLOCK: usize = 512;
+/// How many neighbours stand in a block at most.
+pub(crate) const BLOCK: usize = 512;
 
 /// Values by their indices. They stand in blocks of neighbouring indices; a block in which there is no value takes no
 /// memory.
@@ -14,11 +17,14 @@ pub(crate) struct Blocks<T: Copy> {
     pub blocks: Vec<Vec<T>>,
 }
 
-/// Adds empty blocks up to the number.
-fn make_blocks<T: Drop>(blocks: &mut Vec<Vec<T>>, number: usize) -> Result<(), Memory> {
-    let alloc = *blocks.allocator();
-    while blocks.len() <= number {
-        blocks.push(Vec::new(alloc))?;
+/// Adds empty rows up to the number.
+pub(crate) fn make_rows<T: Drop>(rows: &mut Vec<Vec<T>>, number: usize) -> Result<(), Memory>
+    ensures within { OnOk result (number < length rows.new.items) }
+    ensures same { (p : ℕ) → row_at rows.new.items p ≡ row_at rows.old.items p }
+{
+    let alloc = *rows.allocator();
+    while rows.len() <= number {
+        rows.push(Vec::new(alloc))?;
     }
     Ok(())
 }
@@ -47,7 +53,7 @@ impl<T: Copy> Blocks<T> {
 
     /// Puts the value to the index. Where its block ends before it, the filler stands up to it.
     pub fn set(&mut self, index: usize, value: T, filler: T) -> Result<(), Memory> {
-        make_blocks(&mut self.blocks, index / BLOCK)?;
+        make_rows(&mut self.blocks, index / BLOCK)?;
         if let Some(block) = self.blocks.get_mut(index / BLOCK) {
             fill(block, index % BLOCK, filler)?;
         }

@@ -9,6 +9,7 @@ mod chains;
 mod examine;
 mod flatten;
 mod latest;
+mod lists;
 mod marks;
 mod model;
 mod order;
