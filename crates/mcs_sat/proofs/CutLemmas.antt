@@ -1,5 +1,5 @@
 -- What stays right of a solver where nothing is decided, when clauses are taken off and when a variable is added.
-use Rattle.std.proofs.Common.{◌≡◌, ℕ, ◌+◌, ◌^◌, ◌<◌, ◌≤◌, zero, suc, List, [], ◌∷◌, ◌++◌, ◌⊎◌, inl, inr, sym, ap, ◌∙◌, subst, arith, ℤ, neg_ℤ, unsigned_abs, length, length-append, take, filter, ltb, min, Some, slice_get, Vec, Global}
+use Rattle.std.proofs.Common.{◌≡◌, ℕ, ◌+◌, ◌^◌, ◌<◌, ◌≤◌, zero, suc, List, [], ◌∷◌, ◌++◌, ◌⊎◌, inl, inr, sym, ap, ◌∙◌, subst, arith, ℤ, neg_ℤ, unsigned_abs, length, length-append, take, filter, ltb, min, Some, slice_get}
 use Rattle.std.specs.List.{AllByRecursion}
 use Rattle.std.proofs.lemmas.List.{get_or_append_left, length-take, length-take-le, take-take, take_all}
 use Rattle.std.proofs.lemmas.Bool.{cases_lt, lt-ltb, ltb-true}
@@ -10,6 +10,7 @@ use Rattle.mcs_base.proofs.Each.{all_weaker, all_take}
 use Rattle.mcs_base.proofs.Lists.{slice_get_take}
 use Rattle.mcs_trace.specs.Clauses.{IsClause}
 use Rattle.mcs_trace.specs.Traces.{IsChainResolvent, numbered}
+use Rattle.mcs_sat.specs.declared.lists.Lists.{Lists}
 use Rattle.mcs_sat.specs.declared.state.Kept.{Kept}
 use Rattle.mcs_sat.specs.declared.state.State.{State}
 use Rattle.mcs_sat.specs.declared.trail.Entry.{Entry}
@@ -44,11 +45,11 @@ explained-first k known es is few i less = elim (is i less) [
   | inr (c, at, reason) ↦ inr (c, numbered-first k known (reason_at es i) c (few i less) at, reason)
 ]
 
-pub watched-first : (k : ℕ) (known : List (List ℤ)) (w w' : Watches) → w'.pairs ≡ take k w.pairs → w'.lists.items ≡ w.lists.items → w'.short.items ≡ filter (λ (i : ℕ). ltb i k) w.short.items → AreWatched known w → AreWatched (take k known) w'
+pub watched-first : (k : ℕ) (known : List (List ℤ)) (w w' : Watches) → w'.pairs ≡ take k w.pairs → w'.lists ≡ w.lists → w'.short.items ≡ filter (λ (i : ℕ). ltb i k) w.short.items → AreWatched known w → AreWatched (take k known) w'
 watched-first k known w w' pairs lists short is = record {
   sized = (let sized = is.sized in omega (arith, ap length pairs, length-take k w.pairs, length-take k known));
   paired = λ i c p at at'. is.paired i c p (slice_get_take k known i c at).1 (slice_get_take k w.pairs i p (subst (λ (ps : List Pair). slice_get ps i ≡ Some p) pairs at')).1;
-  listed = λ i p l at literal of. subst (λ (ls : List (Vec ℕ Global)). IsListed ls l i) (sym lists) (is.listed i p l (slice_get_take k w.pairs i p (subst (λ (ps : List Pair). slice_get ps i ≡ Some p) pairs at)).1 literal of);
+  listed = λ i p l at literal of. subst (λ (ls : Lists). IsListed ls l i) (sym lists) (is.listed i p l (slice_get_take k w.pairs i p (subst (λ (ps : List Pair). slice_get ps i ≡ Some p) pairs at)).1 literal of);
   short = λ i c few at none.
       let (less, here) = slice_get_take k known i c at in
       let within : i < length w.pairs = omega (arith, ap length pairs, length-take k w.pairs) in
@@ -215,9 +216,9 @@ state-widened s t is fits entries positions =
       kept = subst (λ (es : List Entry). IsKept s.clauses s.watches es s.levels.items s.kept) (sym entries) is.kept;
     }
 
-pub kept-same : (old new : Watches) → new.lists.items ≡ old.lists.items → AreKept old new
+pub kept-same : (old new : Watches) → new.lists ≡ old.lists → AreKept old new
 kept-same old new same = record {
-  listed = λ l i listed. subst (λ (ls : List (Vec ℕ Global)). IsListed ls l i) (sym same) listed;
+  listed = λ l i listed. subst (λ (ls : Lists). IsListed ls l i) (sym same) listed;
 }
 
 pub placed-same : (old new : Trail) → new.entries.items ≡ old.entries.items → new.positions.items ≡ old.positions.items → ArePlaced old.entries.items old.positions.items → ArePlaced new.entries.items new.positions.items

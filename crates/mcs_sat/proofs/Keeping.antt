@@ -14,9 +14,8 @@ pub record Extends (level : ℕ) (before after : Trail) : Type 0 where
   pub positions : length after.positions.items ≡ length before.positions.items
   pub grows : Grows level before.entries.items after.entries.items
 
--- the lists are no fewer, each clause that watched something still does, and what was reached by these literals is reached still
+-- each clause that watched something still does, and what was reached by these literals is reached still
 pub record KeepsWatches (known : List (List ℤ)) (before after : Watches) (entries : List Entry) : Type 0 where
-  pub lists : length before.lists.items ≤ length after.lists.items
   pub sized : length after.pairs ≡ length before.pairs
   pub spared : AreSpared before.pairs after.pairs
   pub watched : AreWatched known after

@@ -3,6 +3,7 @@ pub mod KnownLemmas
 pub mod LatestLemmas
 pub mod TrailLemmas
 pub mod PairsLemmas
+pub mod ListsLemmas
 pub mod WatchLemmas
 pub mod GrowLemmas
 pub mod KeptLemmas

@@ -11,6 +11,7 @@ use Rattle.mcs_base.proofs.Each.{all_among, all_get, all_push}
 use Rattle.mcs_base.proofs.Lists.{slice_get-append_right, slice_get_push_at, slice_get_take}
 use Rattle.mcs_trace.specs.Clauses.{IsClause, IsLiteral}
 use Rattle.mcs_trace.specs.Traces.{IsChainResolvent}
+use Rattle.mcs_sat.specs.declared.lists.Lists.{Lists}
 use Rattle.mcs_sat.specs.declared.state.Reach.{Reach}
 use Rattle.mcs_sat.specs.declared.state.State.{State}
 use Rattle.mcs_sat.specs.declared.trail.Entry.{Entry}
@@ -253,9 +254,9 @@ short-longer : (old new : Watches) (o : Option Pair) → IsPushed old new o → 
 short-longer old new (Some p) h = omega (arith, ap length h.1)
 short-longer old new None h = omega (arith, ap length h.1, length_push old.short.items (length old.pairs))
 
-listed-pushed : (old new : Watches) (o : Option Pair) (l : ℤ) → IsPushed old new o → IsLiteral l → IsOf l (get_pair o) → IsListed new.lists.items l (length old.pairs)
-listed-pushed old new (Some p) l h literal (inl e) = subst (λ (k : ℤ). IsListed new.lists.items k (length old.pairs)) e h.2
-listed-pushed old new (Some p) l h literal (inr e) = subst (λ (k : ℤ). IsListed new.lists.items k (length old.pairs)) e h.3
+listed-pushed : (old new : Watches) (o : Option Pair) (l : ℤ) → IsPushed old new o → IsLiteral l → IsOf l (get_pair o) → IsListed new.lists l (length old.pairs)
+listed-pushed old new (Some p) l h literal (inl e) = subst (λ (k : ℤ). IsListed new.lists k (length old.pairs)) e h.2
+listed-pushed old new (Some p) l h literal (inr e) = subst (λ (k : ℤ). IsListed new.lists k (length old.pairs)) e h.3
 listed-pushed old new None l h literal of = absurd (no-pair l literal of)
 
 -- the pair of a clause that was there, or the new one
@@ -271,7 +272,7 @@ watched-pushed known c old new o here is kept pushed fits = record {
   ];
   listed = λ i p l at literal of. elim (pair-at old new o i p pushed at) [
     | inl at' ↦ kept.listed l i (is.listed i p l at' literal of)
-    | inr (last, same) ↦ subst (λ (n : ℕ). IsListed new.lists.items l n) (sym last) (listed-pushed old new o l pushed literal (subst (IsOf l) same of))
+    | inr (last, same) ↦ subst (λ (n : ℕ). IsListed new.lists l n) (sym last) (listed-pushed old new o l pushed literal (subst (IsOf l) same of))
   ];
   short = λ i d less known' none. elim (cases_lt i (length old.pairs)) [
     | inl before ↦ short-pushed old new o i pushed (is.short i d before known' none)
@@ -412,7 +413,7 @@ state-attached s w c o v is here kept pushed fits low fresh levels =
     }
 
 -- the next clause is satisfied, and watches nothing
-pub state-spared : (s : State) (w : Watches) (c : List ℤ) → IsState s → slice_get s.clauses (length s.watches.pairs) ≡ Some c → w.pairs ≡ s.watches.pairs ++ no_pair ∷ [] → w.lists.items ≡ s.watches.lists.items → w.short.items ≡ s.watches.short.items
+pub state-spared : (s : State) (w : Watches) (c : List ℤ) → IsState s → slice_get s.clauses (length s.watches.pairs) ≡ Some c → w.pairs ≡ s.watches.pairs ++ no_pair ∷ [] → w.lists ≡ s.watches.lists → w.short.items ≡ s.watches.short.items
     → IsLong c → IsSatisfied s.trail.entries.items c → s.kept.entries ≡ length s.trail.entries.items
     → IsState (record { clauses = s.clauses; chains = s.chains; trail = s.trail; watches = w; levels = s.levels; visited = s.visited; settled = s.settled; kept = s.kept })
 state-spared s w c is here pairs lists short long satisfied all =
@@ -437,7 +438,7 @@ state-spared s w c is here pairs lists short long satisfied all =
         sized = omega arith;
         paired = λ i d p known at. elim (before i p at) [ inl at' ↦ is.watched.paired i d p known at' | inr (last, same) ↦ inl same ];
         listed = λ i p l at literal of. elim (before i p at) [
-          | inl at' ↦ subst (λ (ls : List (Vec ℕ Global)). IsListed ls l i) (sym lists) (is.watched.listed i p l at' literal of)
+          | inl at' ↦ subst (λ (ls : Lists). IsListed ls l i) (sym lists) (is.watched.listed i p l at' literal of)
           | inr (last, same) ↦ absurd (no-pair l literal (subst (IsOf l) same of))
         ];
         short = λ i d less known none. subst (λ (xs : List ℕ). IsAmong i xs) (sym short) (elim (cases_lt i (length s.watches.pairs)) [

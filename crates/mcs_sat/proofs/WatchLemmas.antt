@@ -1,23 +1,24 @@
 -- Lists of what watches a literal, and pairs that are watched.
-use Rattle.std.proofs.Common.{◌≡◌, ◌≢◌, ℕ, ◌+◌, ◌-◌, ◌<◌, ◌≤◌, min, ◌⊎◌, ◌↔◌, inl, inr, List, [], ◌∷◌, ◌++◌, Option, refl, sym, ap, ◌∙◌, subst, arith, ℤ, pos, neg_ℤ, unsigned_abs, length, get_or, set, swap_remove, Some, None, slice_get, Vec}
-use Rattle.std.specs.declared.alloc.Global.{Global}
+use Rattle.std.proofs.Common.{◌≡◌, ◌≢◌, ℕ, ◌+◌, ◌-◌, ◌<◌, ◌≤◌, min, ◌⊎◌, ◌↔◌, inl, inr, List, [], ◌∷◌, ◌++◌, refl, sym, ap, ◌∙◌, subst, arith, ℤ, pos, neg_ℤ, unsigned_abs, length, get_or, set, swap_remove, Some, Result, Ok, Err, OnOk, OnErr, slice_get}
 use Rattle.std.specs.List.{AllByRecursion}
 use Rattle.std.proofs.lemmas.Bool.{cases_eq, cases_lt}
-use Rattle.std.proofs.lemmas.List.{get_or_past, length-set}
+use Rattle.std.proofs.lemmas.List.{get_or_past, length-set, length-take}
 use Rattle.std.proofs.lemmas.List.Sorted.{IsPermutation-swap_remove}
-use Rattle.std.proofs.lemmas.Option.{slice_get_within}
+use Rattle.std.proofs.lemmas.Option.{get_or_from_slice_get, slice_get_within}
 use Rattle.std.proofs.Math.IntN.{neg_ℤ-neg_ℤ}
 use Rattle.mcs_base.specs.Listings.{IsAmong}
 use Rattle.mcs_base.proofs.Among.{among_permutation, among_push, get_among}
 use Rattle.mcs_base.proofs.Each.{all_among, all_get}
 use Rattle.mcs_base.proofs.Lists.{slice_get_below}
-use Rattle.mcs_base.proofs.Written.{slice_get_set, slice_get-set_other, slice_get-set_same, slice_get-take}
+use Rattle.mcs_base.proofs.Written.{slice_get_set, slice_get-set_other, slice_get-take}
 use Rattle.mcs_trace.specs.Clauses.{IsClause, IsLiteral, place}
 use Rattle.mcs_trace.proofs.OrderLemmas.{place-injective}
+use Rattle.mcs_sat.specs.declared.lists.Lists.{Lists}
 use Rattle.mcs_sat.specs.declared.state.Reach.{Reach}
 use Rattle.mcs_sat.specs.declared.trail.Entry.{Entry}
 use Rattle.mcs_sat.specs.declared.watches.Pair.{Pair}
 use Rattle.mcs_sat.specs.declared.watches.Watches.{Watches}
+use Rattle.mcs_sat.specs.Lists.{list_at}
 use Rattle.mcs_sat.specs.Pairs.{no_pair}
 use Rattle.mcs_sat.specs.Trails.{Grows, IsOn, IsOnBelow, IsSatisfied, IsSatisfiedBelow, literal_at}
 use Rattle.mcs_sat.specs.Watching.{AreMoved, ArePair, AreSpared, AreVisited, AreWatched, IsListed, IsLong, IsOf, IsPaired, IsPairOf, IsReached}
@@ -38,34 +39,26 @@ module _ {A : Type 0} where
   ]
 
 -- ---- lists
-pub listed-set : (lists : List (Vec ℕ Global)) (p : ℕ) (v : Vec ℕ Global) (l : ℤ) (i : ℕ) → p < length lists → (place l ≢ p → IsListed lists l i) → (place l ≡ p → IsAmong i v.items) → IsListed (set lists p v) l i
-listed-set lists p v l i within other here = elim (cases_eq (place l) p) [
-  | inl same ↦ (v, ap (slice_get (set lists p v)) same ∙ slice_get-set_same lists p v within, here same)
-  | inr differ ↦ let (list, at, among) = other differ in (list, slice_get-set_other lists p (place l) v differ ∙ at, among)
-]
+-- one more in the list of a place
+module _ (old new : Lists) (p index : ℕ) (more : list_at new p ≡ list_at old p ++ index ∷ []) (others : (q : ℕ) → q ≢ p → list_at new q ≡ list_at old q) where
+  pub listed-kept : (l : ℤ) (i : ℕ) → IsListed old l i → IsListed new l i
+  listed-kept l i listed = elim (cases_eq (place l) p) [
+    | inl here ↦ subst (IsAmong i) (sym (ap (list_at new) here ∙ more)) ((among_push i (list_at old p) index).1 (inl (subst (λ (q : ℕ). IsAmong i (list_at old q)) here listed)))
+    | inr differ ↦ subst (IsAmong i) (sym (others (place l) differ)) listed
+  ]
 
--- the one list of a literal
-pub among-listed : (lists : List (Vec ℕ Global)) (l : ℤ) (i p : ℕ) (list : Vec ℕ Global) → p ≡ place l → slice_get lists p ≡ Some list → IsListed lists l i → IsAmong i list.items
-among-listed lists l i p list place-is is (list', at, among) =
-    let both : Some list' ≡ Some list = sym at ∙ sym (ap (slice_get lists) place-is) ∙ is in
-    let same : list' ≡ list = cc in
-    subst (λ (v : Vec ℕ Global). IsAmong i v.items) same among
+  pub listed-more : (l : ℤ) → place l ≡ p → IsListed new l index
+  listed-more l here = subst (IsAmong index) (sym (ap (list_at new) here ∙ more)) ((among_push index (list_at old p) index).1 (inr refl))
 
--- where there are more lists
-pub listed-longer : (old new : List (Vec ℕ Global)) (l : ℤ) (i : ℕ) → ((p : ℕ) → p < length old → slice_get new p ≡ slice_get old p) → IsListed old l i → IsListed new l i
-listed-longer old new l i same (list, at, among) = (list, same (place l) (slice_get_within old (place l) list at) ∙ at, among)
+-- the same lists
+pub listed-same : (old new : Lists) → ((p : ℕ) → list_at new p ≡ list_at old p) → (l : ℤ) (i : ℕ) → IsListed old l i → IsListed new l i
+listed-same old new same l i = subst (IsAmong i) (sym (same (place l)))
 
--- one more in the list of a literal
-module _ (lists : List (Vec ℕ Global)) (p : ℕ) (old new : Vec ℕ Global) (index : ℕ) (was : slice_get lists p ≡ Some old) (more : new.items ≡ old.items ++ index ∷ []) where
-  pub list-kept : (l : ℤ) (i : ℕ) → IsListed lists l i → IsListed (set lists p new) l i
-  list-kept l i listed = listed-set lists p new l i (slice_get_within lists p old was) (λ differ. listed) (λ same. subst (IsAmong i) (sym more) ((among_push i old.items index).1 (inl (among-listed lists l i p old (sym same) was listed))))
-
-  pub list-listed : (l : ℤ) → place l ≡ p → IsListed (set lists p new) l index
-  list-listed l at = listed-set lists p new l index (slice_get_within lists p old was) (λ differ. absurd (differ at)) (λ same. subst (IsAmong index) (sym more) ((among_push index old.items index).1 (inr refl)))
-
--- the same list, in other memory
-pub list-same : (lists : List (Vec ℕ Global)) (p : ℕ) (old new : Vec ℕ Global) → slice_get lists p ≡ Some old → new.items ≡ old.items → (l : ℤ) (i : ℕ) → IsListed lists l i → IsListed (set lists p new) l i
-list-same lists p old new was same l i listed = listed-set lists p new l i (slice_get_within lists p old was) (λ differ. listed) (λ here. subst (IsAmong i) (sym same) (among-listed lists l i p old (sym here) was listed))
+-- one more, or the same
+pub listed-after : {E : Type 0} (r : Result (Unit {0}) E) (old new : Lists) (p index : ℕ) → OnOk r (list_at new p ≡ list_at old p ++ index ∷ []) → OnErr r ((q : ℕ) → list_at new q ≡ list_at old q) → ((q : ℕ) → q ≢ p → list_at new q ≡ list_at old q)
+    → (l : ℤ) (i : ℕ) → IsListed old l i → IsListed new l i
+listed-after (Ok done) old new p index more same others = listed-kept old new p index more others
+listed-after (Err error) old new p index more same others = listed-same old new same
 
 -- ---- pairs
 pub no-pair : (l : ℤ) → IsLiteral l → IsOf l no_pair → ⊥
@@ -120,7 +113,7 @@ watched_at known w i watched less = slice_get_below known i (let sized = watched
 
 -- ---- lists that grow
 pub watched-list : (known : List (List ℤ)) (w w' : Watches) → AreWatched known w → w'.pairs ≡ w.pairs → w'.short.items ≡ w.short.items
-    → ((l : ℤ) (i : ℕ) → IsListed w.lists.items l i → IsListed w'.lists.items l i) → AreWatched known w'
+    → ((l : ℤ) (i : ℕ) → IsListed w.lists l i → IsListed w'.lists l i) → AreWatched known w'
 watched-list known w w' watched pairs short kept = record {
   sized = (let sized = watched.sized in omega (arith, ap length pairs));
   paired = λ i c p is at. watched.paired i c p is (sym (ap (λ (ps : List Pair). slice_get ps i) pairs) ∙ at);
@@ -143,7 +136,7 @@ module _ (known : List (List ℤ)) (w w' : Watches) (i : ℕ) (c : List ℤ) (q 
     | inr differ ↦ inr (sym (slice_get-set_other w.pairs i j q differ) ∙ sym (ap (λ (ps : List Pair). slice_get ps j) pairs) ∙ at)
   ]
 
-  pub watched-move : AreWatched known w → w'.lists.items ≡ w.lists.items → ArePair c q → ((l : ℤ) → IsLiteral l → IsOf l q → IsListed w.lists.items l i) → AreWatched known w'
+  pub watched-move : AreWatched known w → w'.lists ≡ w.lists → ArePair c q → ((l : ℤ) → IsLiteral l → IsOf l q → IsListed w.lists l i) → AreWatched known w'
   watched-move watched lists two listed = record {
     sized = (let sized = watched.sized in omega (arith, ap length pairs, length-set w.pairs i q));
     paired = λ j d p is' at. elim (pair_cases j p at) [
@@ -153,8 +146,8 @@ module _ (known : List (List ℤ)) (w w' : Watches) (i : ℕ) (c : List ℤ) (q 
           subst (λ (x : List ℤ). IsPaired x p) same (subst (IsPaired c) (sym e') (inr two))
       | inr old ↦ watched.paired j d p is' old
     ];
-    listed = λ j p l at literal of. subst (λ (ls : List (Vec ℕ Global)). IsListed ls l j) (sym lists) (elim (pair_cases j p at) [
-      | inl (e, e') ↦ subst (IsListed w.lists.items l) (sym e) (listed l literal (subst (IsOf l) e' of))
+    listed = λ j p l at literal of. subst (λ (ls : Lists). IsListed ls l j) (sym lists) (elim (pair_cases j p at) [
+      | inl (e, e') ↦ subst (IsListed w.lists l) (sym e) (listed l literal (subst (IsOf l) e' of))
       | inr old ↦ watched.listed j p l old literal of
     ]);
     short = λ j d less is' few. subst (IsAmong j) (sym short) (watched.short j d (omega (arith, ap length pairs, length-set w.pairs i q)) is' few);
@@ -193,59 +186,49 @@ pub gone-move : (pairs : List Pair) (i : ℕ) (q : Pair) (l : ℤ) → ¬ IsOf l
 gone-move pairs i q l none p at of = none (subst (IsOf l) (slice_get_set pairs i q p at) of)
 
 -- ---- a list that is gone through
--- the clauses of the first indices in the list of the place are satisfied
-abbrev pub ArePassed : List (List ℤ) → List (Vec ℕ Global) → List Entry → ℕ → ℕ → Type 0
-ArePassed known lists es p at = (list : Vec ℕ Global) (j i : ℕ) (c : List ℤ) → slice_get lists p ≡ Some list → j < at → slice_get list.items j ≡ Some i → slice_get known i ≡ Some c → IsSatisfied es c
+-- the clauses of the first indices in the list are satisfied
+abbrev pub ArePassed : List (List ℤ) → List ℕ → List Entry → ℕ → Type 0
+ArePassed known list es at = (j i : ℕ) (c : List ℤ) → j < at → slice_get list j ≡ Some i → slice_get known i ≡ Some c → IsSatisfied es c
 
--- how many indices the list has from the place on
-abbrev pub left_in : Option (Vec ℕ Global) → ℕ → ℕ
-left_in None at = 0
-left_in (Some list) at = length list.items - at
-
-pub left-more : (o o' : Option (Vec ℕ Global)) (list : Vec ℕ Global) (at : ℕ) → o ≡ Some list → o' ≡ o → at < length list.items → left_in o' (at + 1) < left_in o at
-left-more o o' list at is same less =
-    let before : left_in o at ≡ length list.items - at = ap (λ (x : Option (Vec ℕ Global)). left_in x at) is in
-    let after : left_in o' (at + 1) ≡ length list.items - (at + 1) = ap (λ (x : Option (Vec ℕ Global)). left_in x (at + 1)) (same ∙ is) in
-    omega arith
-
-pub left-swap : (o o' : Option (Vec ℕ Global)) (list list' : Vec ℕ Global) (at : ℕ) → o ≡ Some list → o' ≡ Some list' → length list'.items + 1 ≡ length list.items → at < length list.items → left_in o' at < left_in o at
-left-swap o o' list list' at is is' one less =
-    let before : left_in o at ≡ length list.items - at = ap (λ (x : Option (Vec ℕ Global)). left_in x at) is in
-    let after : left_in o' at ≡ length list'.items - at = ap (λ (x : Option (Vec ℕ Global)). left_in x at) is' in
-    omega arith
-
-module _ (known : List (List ℤ)) (lists lists' : List (Vec ℕ Global)) (level : ℕ) (es es' : List Entry) (p at : ℕ) (list : Vec ℕ Global) (grows : Grows level es es') (is : slice_get lists p ≡ Some list) (passed : ArePassed known lists es p at) where
+module _ (known : List (List ℤ)) (list list' : List ℕ) (level : ℕ) (es es' : List Entry) (at : ℕ) (grows : Grows level es es') (passed : ArePassed known list es at) where
   -- the clause of the index at the place is satisfied too
-  pub passed-more : slice_get lists' p ≡ slice_get lists p → (index : ℕ) → slice_get list.items at ≡ Some index → ((c : List ℤ) → slice_get known index ≡ Some c → IsSatisfied es' c) → ArePassed known lists' es' p (at + 1)
-  passed-more same index here satisfied list' j i c is' less at' known-is = elim (cases_lt j at) [
-    | inl before ↦ satisfied-grown level es es' c grows (passed list' j i c (sym same ∙ is') before at' known-is)
-    | inr past ↦
-        let at-is : j ≡ at = omega arith in
-        let both : Some list ≡ Some list' = sym is ∙ sym same ∙ is' in
-        let list-is : list ≡ list' = cc in
-        let both' : Some index ≡ Some i = sym here ∙ sym (ap (slice_get list.items) at-is) ∙ ap (λ (v : Vec ℕ Global). slice_get v.items j) list-is ∙ at' in
-        let index-is : i ≡ index = cc in
-        satisfied c (sym (ap (slice_get known) index-is) ∙ known-is)
-  ]
+  pub passed-more : list' ≡ list → (index : ℕ) → slice_get list at ≡ Some index → ((c : List ℤ) → slice_get known index ≡ Some c → IsSatisfied es' c) → ArePassed known list' es' (at + 1)
+  passed-more same index here satisfied j i c less at' known-is =
+      let was : slice_get list j ≡ Some i = sym (ap (λ (xs : List ℕ). slice_get xs j) same) ∙ at' in
+      elim (cases_lt j at) [
+        | inl before ↦ satisfied-grown level es es' c grows (passed j i c before was known-is)
+        | inr past ↦
+            let at-is : j ≡ at = omega arith in
+            let both : Some index ≡ Some i = sym here ∙ sym (ap (slice_get list) at-is) ∙ was in
+            let index-is : i ≡ index = cc in
+            satisfied c (sym (ap (slice_get known) index-is) ∙ known-is)
+      ]
 
   -- the index at the place is taken out
-  pub passed-swap : at < length list.items → (list' : Vec ℕ Global) (x : ℕ) → list'.items ≡ swap_remove list.items at x → ArePassed known (set lists' p list') es' p at
-  passed-swap within list' x swapped list'' j i c is' less at' known-is =
-      let list-is : list'' ≡ list' = slice_get_set lists' p list' list'' is' in
-      let here : slice_get list.items j ≡ Some i = sym (slice_get-swap_remove list.items at x j within less) ∙ sym (ap (λ (xs : List ℕ). slice_get xs j) swapped) ∙ sym (ap (λ (v : Vec ℕ Global). slice_get v.items j) list-is) ∙ at' in
-      satisfied-grown level es es' c grows (passed list j i c is less here known-is)
+  pub passed-swap : at < length list → (x : ℕ) → list' ≡ swap_remove list at x → ArePassed known list' es' at
+  passed-swap within x swapped j i c less at' known-is =
+      let was : slice_get list j ≡ Some i = sym (slice_get-swap_remove list at x j within less) ∙ sym (ap (λ (xs : List ℕ). slice_get xs j) swapped) ∙ at' in
+      satisfied-grown level es es' c grows (passed j i c less was known-is)
+
+pub length-swap_remove : (xs : List ℕ) (at x : ℕ) → at < length xs → length (swap_remove xs at x) + 1 ≡ length xs
+length-swap_remove xs at x less = omega (arith, length-take (length xs - 1) (set xs at (get_or xs (length xs - 1) x)), length-set xs at (get_or xs (length xs - 1) x))
 
 -- an index that does not watch the literal any more is taken out of its list
-pub watched-swap : (known : List (List ℤ)) (w w' : Watches) (p : ℕ) (l : ℤ) (at : ℕ) (list list' : Vec ℕ Global) (x : ℕ) → AreWatched known w → w'.pairs ≡ w.pairs → w'.short.items ≡ w.short.items → w'.lists.items ≡ set w.lists.items p list'
-    → p ≡ place l → slice_get w.lists.items p ≡ Some list → at < length list.items → x ≡ get_or list.items at x → list'.items ≡ swap_remove list.items at x → ((q : Pair) → slice_get w.pairs x ≡ Some q → ¬ IsOf l q) → AreWatched known w'
-watched-swap known w w' p l at list list' x watched pairs short lists place-is is within read swapped gone = record {
+pub watched-swap : (known : List (List ℤ)) (w w' : Watches) (l : ℤ) (p at x : ℕ) → AreWatched known w → w'.pairs ≡ w.pairs → w'.short.items ≡ w.short.items → p ≡ place l
+    → slice_get (list_at w.lists p) at ≡ Some x → list_at w'.lists p ≡ swap_remove (list_at w.lists p) at x → ((q : ℕ) → q ≢ p → list_at w'.lists q ≡ list_at w.lists q)
+    → ((q : Pair) → slice_get w.pairs x ≡ Some q → ¬ IsOf l q) → AreWatched known w'
+watched-swap known w w' l p at x watched pairs short place-is is swapped others gone = record {
   sized = (let sized = watched.sized in omega (arith, ap length pairs));
   paired = λ i c q known-is here. watched.paired i c q known-is (before i q here);
-  listed = λ i q k here literal of. subst (λ (ls : List (Vec ℕ Global)). IsListed ls k i) (sym lists)
-      (listed-set w.lists.items p list' k i (slice_get_within w.lists.items p list is) (λ differ. watched.listed i q k (before i q here) literal of) (λ same.
-      let k-is : k ≡ l = place-injective k l (same ∙ place-is) in
-      let among : IsAmong i list.items = among-listed w.lists.items k i p list (sym same) is (watched.listed i q k (before i q here) literal of) in
-      subst (IsAmong i) (sym swapped) (among_swap_remove list.items at x i within read among (λ e. gone q (sym (ap (slice_get w.pairs) e) ∙ before i q here) (subst (λ (m : ℤ). IsOf m q) k-is of)))));
+  listed = λ i q k here literal of. elim (cases_eq (place k) p) [
+    | inl same ↦
+        let list : List ℕ = list_at w.lists p in
+        let k-is : k ≡ l = place-injective k l (same ∙ place-is) in
+        let among : IsAmong i list = subst (λ (n : ℕ). IsAmong i (list_at w.lists n)) same (watched.listed i q k (before i q here) literal of) in
+        subst (IsAmong i) (sym (ap (list_at w'.lists) same ∙ swapped))
+        (among_swap_remove list at x i (slice_get_within list at x is) (sym (get_or_from_slice_get list at x x is)) among (λ e. gone q (sym (ap (slice_get w.pairs) e) ∙ before i q here) (subst (λ (m : ℤ). IsOf m q) k-is of)))
+    | inr differ ↦ subst (IsAmong i) (sym (others (place k) differ)) (watched.listed i q k (before i q here) literal of)
+  ];
   short = λ i c less known-is few. subst (IsAmong i) (sym short) (watched.short i c (omega (arith, ap length pairs)) known-is few);
 }
   where
@@ -253,18 +236,13 @@ watched-swap known w w' p l at list list' x watched pairs short lists place-is i
     before i q here = sym (ap (λ (ps : List Pair). slice_get ps i) pairs) ∙ here
 
 -- all of the list
-pub visited-all : (known : List (List ℤ)) (w : Watches) (es : List Entry) (l : ℤ) (p at : ℕ) (list : Vec ℕ Global) → AreWatched known w → IsLiteral l → p ≡ place l → slice_get w.lists.items p ≡ Some list → length list.items ≤ at → ArePassed known w.lists.items es p at → AreVisited known w es l
-visited-all known w es l p at list watched literal place-is is all passed i c q known-is here of =
-    let among : IsAmong i list.items = among-listed w.lists.items l i p list place-is is (watched.listed i q l here literal of) in
-    let (j, at-j) = get_among i list.items among in
-    let less : j < length list.items = slice_get_within list.items j i at-j in
-    passed list j i c is (omega arith) at-j known-is
-
--- where there is no list
-pub visited-none : (known : List (List ℤ)) (w : Watches) (es : List Entry) (l : ℤ) → AreWatched known w → IsLiteral l → length w.lists.items ≤ place l → AreVisited known w es l
-visited-none known w es l watched literal past i c q known-is here of =
-    let (list, at, among) = watched.listed i q l here literal of in
-    absurd (let less = slice_get_within w.lists.items (place l) list at in omega arith)
+pub visited-all : (known : List (List ℤ)) (w : Watches) (es : List Entry) (l : ℤ) (p at : ℕ) → AreWatched known w → IsLiteral l → p ≡ place l → length (list_at w.lists p) ≤ at → ArePassed known (list_at w.lists p) es at → AreVisited known w es l
+visited-all known w es l p at watched literal place-is all passed i c q known-is here of =
+    let list : List ℕ = list_at w.lists p in
+    let among : IsAmong i list = subst (λ (n : ℕ). IsAmong i (list_at w.lists n)) (sym place-is) (watched.listed i q l here literal of) in
+    let (j, at-j) = get_among i list among in
+    let less : j < length list = slice_get_within list j i at-j in
+    passed j i c (omega arith) at-j known-is
 
 -- ---- a trail that grows
 -- what was true below a place within the first trail

@@ -4,6 +4,7 @@ pub mod Learning
 pub mod Flattening
 pub mod Pairs
 pub mod Parts
+pub mod Lists
 pub mod Watching
 pub mod Chains
 pub mod Solvers

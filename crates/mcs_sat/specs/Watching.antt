@@ -1,8 +1,8 @@
 -- The two literals that a clause watches, and how far a solver has come with them (Moskewicz et al. 2001).
-use Rattle.std.specs.Prelude.{◌≡◌, ◌≢◌, ℕ, ◌<◌, ◌≤◌, ◌⊎◌, List, [], ◌∷◌, ◌++◌, ℤ, neg_ℤ, length, Option, Some, None, MatchOption, Vec, slice_get}
-use Rattle.std.specs.declared.alloc.Global.{Global}
+use Rattle.std.specs.Prelude.{◌≡◌, ◌≢◌, ℕ, ◌<◌, ◌≤◌, ◌⊎◌, List, [], ◌∷◌, ◌++◌, ℤ, neg_ℤ, length, Option, Some, None, MatchOption, slice_get}
 use Rattle.mcs_base.specs.Listings.{IsAmong}
 use Rattle.mcs_trace.specs.Clauses.{IsLiteral, place}
+use Rattle.mcs_sat.specs.declared.lists.Lists.{Lists}
 use Rattle.mcs_sat.specs.declared.propagate.Seen.{Seen}
 use Rattle.mcs_sat.specs.declared.propagate.Seen.TheVariants as seen
 use Rattle.mcs_sat.specs.declared.state.Kept.{Kept}
@@ -10,6 +10,7 @@ use Rattle.mcs_sat.specs.declared.state.Reach.{Reach}
 use Rattle.mcs_sat.specs.declared.trail.Entry.{Entry}
 use Rattle.mcs_sat.specs.declared.watches.Pair.{Pair}
 use Rattle.mcs_sat.specs.declared.watches.Watches.{Watches}
+use Rattle.mcs_sat.specs.Lists.{list_at}
 use Rattle.mcs_sat.specs.Pairs.{no_pair}
 use Rattle.mcs_sat.specs.Trails.{IsFalseAt, IsOn, IsOnBelow, IsSatisfied, IsSatisfiedBelow}
 
@@ -36,14 +37,14 @@ abbrev pub IsPaired : List ℤ → Pair → Type 0
 IsPaired c p = (p ≡ no_pair) ⊎ ArePair c p
 
 -- the index is in the list of the literal
-abbrev pub IsListed : List (Vec ℕ Global) → ℤ → ℕ → Type 0
-IsListed lists l i = (list : Vec ℕ Global) × (slice_get lists (place l) ≡ Some list) × IsAmong i list.items
+abbrev pub IsListed : Lists → ℤ → ℕ → Type 0
+IsListed lists l i = IsAmong i (list_at lists (place l))
 
 -- each of the first clauses has its pair, and is in the lists of both of its literals; the short ones of them are among those of a list of their own
 pub record AreWatched (known : List (List ℤ)) (w : Watches) : Type 0 where
   pub sized : length w.pairs ≤ length known
   pub paired : (i : ℕ) (c : List ℤ) (p : Pair) → slice_get known i ≡ Some c → slice_get w.pairs i ≡ Some p → IsPaired c p
-  pub listed : (i : ℕ) (p : Pair) (l : ℤ) → slice_get w.pairs i ≡ Some p → IsLiteral l → IsOf l p → IsListed w.lists.items l i
+  pub listed : (i : ℕ) (p : Pair) (l : ℤ) → slice_get w.pairs i ≡ Some p → IsLiteral l → IsOf l p → IsListed w.lists l i
   pub short : (i : ℕ) (c : List ℤ) → i < length w.pairs → slice_get known i ≡ Some c → ¬ IsLong c → IsAmong i w.short.items
 
 -- where a literal that a clause watches was false among those that were visited, the clause was satisfied; the short clauses that were settled were so too
@@ -76,7 +77,7 @@ AreSettled known indices entries from to = (j i : ℕ) (c : List ℤ) → from �
 
 -- ---- what a change of the lists keeps
 pub record AreKept (old new : Watches) : Type 0 where
-  pub listed : (l : ℤ) (i : ℕ) → IsListed old.lists.items l i → IsListed new.lists.items l i
+  pub listed : (l : ℤ) (i : ℕ) → IsListed old.lists l i → IsListed new.lists l i
 
 -- no literal that a clause of the indices watches was false among the first n
 abbrev pub AreUnwatched : List Entry → List Pair → ℕ → ℕ → ℕ → Type 0
@@ -93,7 +94,7 @@ AreSpared old new = (i : ℕ) → slice_get new i ≡ Some no_pair → slice_get
 -- the next clause watches the pair; without one it is short
 abbrev pub IsPushed : Watches → Watches → Option Pair → Type 0
 IsPushed old new (Some p) = (new.pairs ≡ old.pairs ++ p ∷ []) × (new.short.items ≡ old.short.items)
-    × IsListed new.lists.items p.first (length old.pairs) × IsListed new.lists.items p.second (length old.pairs)
+    × IsListed new.lists p.first (length old.pairs) × IsListed new.lists p.second (length old.pairs)
 IsPushed old new None = (new.pairs ≡ old.pairs ++ no_pair ∷ []) × (new.short.items ≡ old.short.items ++ length old.pairs ∷ [])
 
 -- no literal of the pair was false among the first n

@@ -57,7 +57,7 @@ fn leave_first(state: &mut State, order: &mut Order, count: usize)
 }
 
 /// Makes room for the variable, where there is none yet.
-fn make_room(state: &mut State, order: &mut Order, variable: usize) -> Result<(), Memory>
+fn make_room(state: &mut State, variable: usize) -> Result<(), Memory>
     requires state { IsState state.old }
     requires next { variable ≤ length state.old.trail.positions.items }
     requires fits { variable < 2 ^ 63 }
@@ -69,7 +69,6 @@ fn make_room(state: &mut State, order: &mut Order, variable: usize) -> Result<()
     ensures room { OnOk result (variable < length state.new.trail.positions.items) }
 {
     if variable >= state.trail.positions.len() {
-        order.widen(variable)?;
         widen(state)?;
     }
     Ok(())
@@ -98,14 +97,12 @@ impl ClauseBase {
         requires { vars < 2 ^ 63 }
         ensures { IfOk result (λ b. b ≡ record { vars = vars; clauses = [] }) }
     {
-        let order = Order::new(alloc, vars)?;
-        match State::new(alloc, vars) {
-            Ok(state) => Ok(ClauseBase { state, order, vars }),
-            Err(error) => {
-                drop(order);
-                Err(error)
-            }
-        }
+        let state = State::new(alloc, vars)?;
+        Ok(ClauseBase {
+            state,
+            order: Order::new(alloc),
+            vars,
+        })
     }
 
     /// The clauses of the list.
@@ -145,7 +142,7 @@ impl ClauseBase {
         ensures ok { OnOk result (self.new ≡ record self.old { vars = self.old.vars + 1 }) }
         ensures err { OnErr result (self.new ≡ self.old) }
     {
-        make_room(&mut self.state, &mut self.order, self.vars as usize + 1)?;
+        make_room(&mut self.state, self.vars as usize + 1)?;
         self.vars += 1;
         Ok(self.vars)
     }

@@ -4,10 +4,12 @@
 mod adding;
 mod analyse;
 mod base;
+mod blocks;
 mod chains;
 mod examine;
 mod flatten;
 mod latest;
+mod lists;
 mod marks;
 mod model;
 mod order;

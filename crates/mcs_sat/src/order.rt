@@ -1,9 +1,10 @@
 //! Which variable is decided next, and with which value.
 
-ghost use Rattle.std.specs.Prelude.{◌≡◌, ◌<◌, ◌^◌, length, unsigned_abs, IfSome};
+ghost use Rattle.std.specs.Prelude.{◌≡◌, ◌<◌, length, unsigned_abs, IfSome};
 ghost use Rattle.mcs_trace.specs.Clauses.{IsLiteral};
 ghost use Rattle.mcs_sat.specs.Trails.{ArePlaced, StandsNowhere};
 
+use crate::blocks::Blocks;
 use crate::trail::{Entry, Trail};
 use mcs_base::Memory;
 use std::alloc::Global;
@@ -17,9 +18,6 @@ const FIRST_LIMIT: u64 = 100;
 /// How much smaller they are made, in bits.
 const SHRINK: u32 = 40;
 
-/// What stands for the place of a variable that is not in the heap.
-const NOWHERE: u32 = u32::MAX;
-
 /// Puts the value at the end until there is one at the index.
 pub(crate) fn fill<T: Copy>(values: &mut Vec<T>, index: usize, value: T) -> Result<(), Memory> {
     while values.len() <= index {
@@ -28,6 +26,13 @@ pub(crate) fn fill<T: Copy>(values: &mut Vec<T>, index: usize, value: T) -> Resu
         }
     }
     Ok(())
+}
+
+/// Makes the activities smaller.
+fn shrink_all(activities: &mut [u64]) {
+    for activity in activities {
+        *activity >>= SHRINK;
+    }
 }
 
 /// The variable, or its negation where the value is false, if it is one of the trail's variables and free there.
@@ -46,53 +51,45 @@ fn free_literal(trail: &Trail, variable: usize, value: bool) -> Option<i64>
 }
 
 /// The variables, those that took part in recent conflicts first: a heap of variables, for each variable its place
-/// there, its activity and its last value, where it has had one; and how much activity a conflict adds. That a variable
-/// is missing in the heap, or stands there though it has a value, makes no answer wrong; those past four bytes are
-/// missing.
+/// there, where it is there, its activity and its last value, where it has had one; and how much activity a conflict
+/// adds. The variables from `seen` on were not looked at yet. That a variable is missing in the heap, or stands there
+/// though it has a value, makes no answer wrong; those past four bytes are missing.
 #[derive(Drop)]
 pub(crate) struct Order {
     heap: Vec<u32>,
-    places: Vec<u32>,
-    activities: Vec<u64>,
-    values: Vec<bool>,
+    places: Blocks<Option<u32>>,
+    activities: Blocks<u64>,
+    values: Blocks<bool>,
+    seen: usize,
     gain: u64,
     conflicts: u64,
     limit: u64,
 }
 
 impl Order {
-    /// The variables 1 to `vars`, in their order.
-    pub fn new(alloc: Global, vars: u64) -> Result<Order, Memory>
-        requires { vars < 2 ^ 63 }
-    {
-        let mut heap = Vec::new(alloc);
-        let mut places = Vec::new(alloc);
-        places.push(NOWHERE)?;
-        for number in 1..vars + 1 {
-            if let Ok(variable) = u32::try_from(number) {
-                heap.push(variable)?;
-                places.push(variable.saturating_sub(1))?;
-            }
-        }
-        Ok(Order {
-            heap,
-            places,
-            activities: Vec::new(alloc),
-            values: Vec::new(alloc),
+    /// No variables.
+    pub fn new(alloc: Global) -> Order {
+        Order {
+            heap: Vec::new(alloc),
+            places: Blocks::new(alloc),
+            activities: Blocks::new(alloc),
+            values: Blocks::new(alloc),
+            seen: 0,
             gain: 1,
             conflicts: 0,
             limit: FIRST_LIMIT,
-        })
+        }
+    }
+
+    /// The place of the variable in the heap, where it is there.
+    fn place_of(&self, variable: usize) -> Option<u32> {
+        self.places.get(variable)?
     }
 
     /// The activity of the variable at the place of the heap.
     fn activity_at(&self, place: usize) -> u64 {
         match self.heap.get(place) {
-            Some(variable) => self
-                .activities
-                .get(*variable as usize)
-                .copied()
-                .unwrap_or(0),
+            Some(variable) => self.activities.get(*variable as usize).unwrap_or(0),
             None => 0,
         }
     }
@@ -104,9 +101,8 @@ impl Order {
         if let Some(here) = self.heap.get_mut(place) {
             *here = variable;
         }
-        if let Some(here) = self.places.get_mut(variable as usize) {
-            *here = u32::try_from(place).unwrap_or(NOWHERE);
-        }
+        self.places
+            .replace(variable as usize, u32::try_from(place).ok());
     }
 
     /// Exchanges what stands at the two places of the heap.
@@ -165,10 +161,8 @@ impl Order {
             self.put(0, last);
             self.sink(0);
         }
-        if let Some(place) = self.places.get_mut(first as usize) {
-            *place = NOWHERE;
-        }
-        let value = self.values.get(first as usize).copied().unwrap_or(false);
+        self.places.replace(first as usize, None);
+        let value = self.values.get(first as usize).unwrap_or(false);
         Some((first, value))
     }
 
@@ -191,9 +185,9 @@ impl Order {
     fn insert(&mut self, variable: usize) -> Result<(), Memory> {
         let place = self.heap.len();
         if let Ok(name) = u32::try_from(variable)
-            && let Some(here) = self.places.get(variable).copied()
-            && here == NOWHERE
+            && self.place_of(variable).is_none()
         {
+            self.places.set(variable, None, None)?;
             self.heap.push(name)?;
             self.put(place, name);
             self.rise(place);
@@ -205,31 +199,30 @@ impl Order {
     pub fn release(&mut self, entries: &[Entry]) {
         for entry in entries {
             let variable = entry.literal.unsigned_abs() as usize;
-            if fill(&mut self.values, variable, false).is_ok()
-                && let Some(value) = self.values.get_mut(variable)
-            {
-                *value = entry.literal > 0;
-            }
+            let _ = self.values.set(variable, entry.literal > 0, false);
             let _ = self.insert(variable);
         }
     }
 
-    /// Adds the variable of the number, where it is missing.
-    pub fn widen(&mut self, variable: usize) -> Result<(), Memory> {
-        fill(&mut self.places, variable, NOWHERE)?;
-        self.insert(variable)
-    }
-
-    /// Begins another search: how often it began anew is forgotten.
-    pub fn begin(&mut self) {
+    /// Begins another search, where nothing is decided: how often it began anew is forgotten; and of the variables that
+    /// were not looked at yet those without a value are put into the heap. Where memory runs out they are left out.
+    pub fn begin(&mut self, trail: &Trail)
+        requires placed { ArePlaced trail.now.entries.items trail.now.positions.items }
+    {
         self.conflicts = 0;
         self.limit = FIRST_LIMIT;
+        for variable in self.seen..trail.positions.len() {
+            if free_literal(trail, variable, true).is_some() {
+                let _ = self.insert(variable);
+            }
+        }
+        self.seen = self.seen.max(trail.positions.len());
     }
 
     /// Makes all activities smaller.
     fn shrink(&mut self) {
-        for activity in &mut self.activities {
-            *activity >>= SHRINK;
+        for block in &mut self.activities.blocks {
+            shrink_all(block);
         }
         self.gain = (self.gain >> SHRINK) + 1;
     }
@@ -238,14 +231,11 @@ impl Order {
     pub fn raise(&mut self, literals: &[i64]) {
         for literal in literals {
             let variable = literal.unsigned_abs() as usize;
-            if fill(&mut self.activities, variable, 0).is_ok()
-                && let Some(activity) = self.activities.get_mut(variable)
-            {
-                *activity = activity.saturating_add(self.gain);
-            }
-            if let Some(place) = self.places.get(variable).copied()
-                && place != NOWHERE
-            {
+            let activity = self.activities.get(variable).unwrap_or(0);
+            let _ = self
+                .activities
+                .set(variable, activity.saturating_add(self.gain), 0);
+            if let Some(place) = self.place_of(variable) {
                 self.rise(place as usize);
             }
         }

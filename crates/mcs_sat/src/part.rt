@@ -107,6 +107,7 @@ fn explore(alloc: Global, state: &mut State, order: &mut Order) -> Result<(), Me
     requires base { state.old.levels.items ≡ [] }
     ensures later { IsLater state.old state.new }
 {
+    order.begin(&state.trail);
     attach(state)?;
     let mut found = run(state)?;
     for _ in 0..MOST_TURNS {
@@ -183,7 +184,7 @@ pub(crate) fn search_part(
     }
     let alloc = *state.levels.allocator();
     let mut part = part_of(alloc, state, marked)?;
-    let mut own = Order::new(alloc, state.trail.positions.len() as u64 - 1)?;
+    let mut own = Order::new(alloc);
     let explored = explore(alloc, &mut part.state, &mut own);
     go_back(&mut part.state, &mut own);
     mem::swap(order, &mut own);

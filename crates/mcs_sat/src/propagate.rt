@@ -5,6 +5,7 @@ ghost use Rattle.std.specs.Bool.{MatchBool};
 ghost use Rattle.mcs_base.specs.Listings.{IsAmong};
 ghost use Rattle.mcs_trace.specs.Clauses.{IsClause, IsLiteral, place};
 ghost use Rattle.mcs_sat.specs.declared.state.Reach.{Reach};
+ghost use Rattle.mcs_sat.specs.Lists.{list_at};
 ghost use Rattle.mcs_sat.specs.Trails.{AreCovered, ArePlaced, Grows, IsFalseAt, IsOn, IsSatisfied, IsTrail};
 ghost use Rattle.mcs_sat.specs.Watching.{AreMoved, AreSettled, AreSpared, AreVisited, AreWatched, IsLong, IsReached, IsSeen};
 
@@ -56,7 +57,6 @@ fn visit(
     ensures trail { IsTrail clauses.now trail.new }
     ensures positions { length trail.new.positions.items ≡ length trail.old.positions.items }
     ensures grows { Grows level trail.old.entries.items trail.new.entries.items }
-    ensures lists { length watches.old.lists.items ≤ length watches.new.lists.items }
     ensures watched { AreWatched clauses.now watches.new }
     ensures short { watches.new.short.items ≡ watches.old.short.items }
     ensures moved { AreMoved watches.old.pairs watches.new.pairs trail.old.entries.items }
@@ -64,7 +64,7 @@ fn visit(
     ensures spared { AreSpared watches.old.pairs watches.new.pairs }
     ensures reached { (r : Reach) → r.visited ≤ length trail.old.entries.items
         → IsReached clauses.now watches.old trail.old.entries.items r → IsReached clauses.now watches.new trail.old.entries.items r }
-    ensures list { place literal < length watches.old.lists.items → slice_get watches.new.lists.items (place literal) ≡ slice_get watches.old.lists.items (place literal) }
+    ensures list { list_at watches.new.lists (place literal) ≡ list_at watches.old.lists (place literal) }
     ensures seen { IfOk result (IsSeen clauses.now watches.new trail.new.entries.items index literal) }
 {
     if index >= watches.pairs.len() {
@@ -107,7 +107,6 @@ fn visit_list(
     ensures trail { IsTrail clauses.now trail.new }
     ensures positions { length trail.new.positions.items ≡ length trail.old.positions.items }
     ensures grows { Grows level trail.old.entries.items trail.new.entries.items }
-    ensures lists { length watches.old.lists.items ≤ length watches.new.lists.items }
     ensures watched { AreWatched clauses.now watches.new }
     ensures short { watches.new.short.items ≡ watches.old.short.items }
     ensures moved { AreMoved watches.old.pairs watches.new.pairs trail.old.entries.items }
@@ -120,16 +119,13 @@ fn visit_list(
         (IsFalseAt clauses.now trail.new.entries.items)) }
 {
     let list = place(literal) as usize;
-    if list >= watches.lists.len() {
-        return Ok(None);
-    }
     let mut at = 0;
-    while at < watches.lists[list].len() {
-        let index = watches.lists[list][at];
+    while at < watches.lists.get(list).len() {
+        let index = watches.lists.get(list)[at];
         match visit(clauses, watches, trail, level, index, literal)? {
             Seen::Satisfied => at += 1,
             Seen::Gone => {
-                watches.lists[list].swap_remove(at);
+                watches.lists.swap_remove(list, at);
             }
             Seen::Conflict => return Ok(Some(index)),
         }
@@ -152,7 +148,6 @@ pub(crate) fn visit_from(
     ensures trail { IsTrail clauses.now trail.new }
     ensures positions { length trail.new.positions.items ≡ length trail.old.positions.items }
     ensures grows { Grows level trail.old.entries.items trail.new.entries.items }
-    ensures lists { length watches.old.lists.items ≤ length watches.new.lists.items }
     ensures watched { AreWatched clauses.now watches.new }
     ensures short { watches.new.short.items ≡ watches.old.short.items }
     ensures moved { AreMoved watches.old.pairs watches.new.pairs trail.old.entries.items }

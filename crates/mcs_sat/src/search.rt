@@ -103,6 +103,15 @@ fn turn_back(
     Ok(Turn::Goes(run(state)?))
 }
 
+/// Gives the variables back to the order that have their values from levels above 0.
+pub(crate) fn release_decided(state: &State, order: &mut Order) {
+    if let Some(reach) = state.levels.first()
+        && let Some(entries) = state.trail.entries.get(reach.entries..)
+    {
+        order.release(entries);
+    }
+}
+
 /// Takes back all that was decided, and makes true what follows without it.
 pub(crate) fn begin_anew(state: &mut State, order: &mut Order) -> Result<Option<usize>, Memory>
     requires { IsSearch state.old }
@@ -110,7 +119,7 @@ pub(crate) fn begin_anew(state: &mut State, order: &mut Order) -> Result<Option<
     ensures kept { OnOk result (IsSearch state.new) }
     ensures run { IfOk result (IsRun state.new) }
 {
-    order.release(&state.trail.entries);
+    release_decided(state, order);
     back(state, 0);
     let found = run(state)?;
     Ok(found)
@@ -150,6 +159,7 @@ pub(crate) fn search(
 {
     attach(state)?;
     let mut found = run(state)?;
+    order.begin(&state.trail);
     let mut left = MOST_BEGINNINGS;
     loop {
         if left > 0 && found.is_none() && order.is_due() {

@@ -10,7 +10,7 @@ ghost use Rattle.mcs_sat.specs.Stores.{IsLater, given, given_count, list_of};
 use crate::model::model_of;
 use crate::order::Order;
 use crate::outcome::Outcome;
-use crate::search::search;
+use crate::search::{release_decided, search};
 use crate::state::{State, back};
 use crate::trace::trace_of;
 use mcs_base::Memory;
@@ -32,7 +32,6 @@ pub(crate) fn outcome_of(
     ensures exact { IfOk result (IsExact (list_of state.old vars)) }
 {
     let alloc = *state.levels.allocator();
-    order.begin();
     match search(alloc, state, order)? {
         None => Ok(Outcome::Model(model_of(alloc, &state.trail, vars)?)),
         Some(index) => Ok(Outcome::Refuted(trace_of(alloc, state, count, index)?)),
@@ -53,7 +52,6 @@ pub(crate) fn assignment_of(
     ensures exact { IfOk result (IsSettled (list_of state.old vars)) }
 {
     let alloc = *state.levels.allocator();
-    order.begin();
     match search(alloc, state, order)? {
         None => Ok(Some(model_of(alloc, &state.trail, vars)?)),
         Some(_index) => Ok(None),
@@ -66,15 +64,6 @@ pub(crate) fn go_back(state: &mut State, order: &mut Order)
     ensures later { IsLater state.old state.new }
     ensures base { state.new.levels.items ≡ [] }
 {
-    release(state, order);
+    release_decided(state, order);
     back(state, 0);
-}
-
-/// Gives the variables back to the order that have their values from levels above 0.
-fn release(state: &State, order: &mut Order) {
-    if let Some(reach) = state.levels.first()
-        && let Some(entries) = state.trail.entries.get(reach.entries..)
-    {
-        order.release(entries);
-    }
 }

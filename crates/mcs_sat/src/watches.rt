@@ -1,9 +1,11 @@
 //! Which clauses watch a literal.
 
-ghost use Rattle.std.specs.Prelude.{◌≡◌, ◌≢◌, ℕ, ℤ, ◌+◌, ◌*◌, ◌<◌, ◌≤◌, ◌^◌, ◌++◌, ◌∷◌, [], List, length, take, slice_get, MatchOption, IfOk, OnOk, OnErr, IfSome, filter, ltb};
+ghost use Rattle.std.specs.Prelude.{◌≡◌, ◌≢◌, ℕ, ℤ, ◌+◌, ◌<◌, ◌^◌, [], length, take, MatchOption, OnOk, OnErr, IfSome, filter, ltb};
 ghost use Rattle.mcs_trace.specs.Clauses.{IsLiteral, place};
+ghost use Rattle.mcs_sat.specs.Lists.{list_at};
 ghost use Rattle.mcs_sat.specs.Watching.{AreKept, IsListed, IsOf, IsPairOf, IsPushed};
 
+use crate::lists::Lists;
 use crate::pairs::Pairs;
 use mcs_base::Memory;
 use mcs_trace::place;
@@ -38,51 +40,25 @@ impl Pair {
 }
 
 /// For each of the first clauses the two literals that it watches, by its index; for each literal the indices of clauses,
-/// among them those that watch it, by its place, where there is a list there; and the indices of clauses, among them
-/// those of fewer than two literals.
+/// among them those that watch it, by its place; and the indices of clauses, among them those of fewer than two
+/// literals.
 #[derive(Drop)]
 pub(crate) struct Watches {
     pub pairs: Pairs,
-    pub lists: Vec<Vec<usize>>,
+    pub lists: Lists,
     pub short: Vec<usize>,
-}
-
-/// Adds the index at the end. The first time room is made for two: most literals of a formula's parts are watched by
-/// two clauses.
-fn add_index(indices: &mut Vec<usize>, index: usize) -> Result<(), Memory>
-    ensures ok { OnOk result (indices.new.items ≡ indices.old.items ++ index ∷ []) }
-    ensures err { OnErr result (indices.new.items ≡ indices.old.items) }
-{
-    if indices.is_empty() {
-        indices.reserve_exact(2)?;
-    }
-    indices.push(index)?;
-    Ok(())
-}
-
-/// Adds empty lists up to the place.
-fn make_lists(lists: &mut Vec<Vec<usize>>, place: usize) -> Result<(), Memory>
-    ensures within { OnOk result (place < length lists.new.items) }
-    ensures longer { length lists.old.items ≤ length lists.new.items }
-    ensures same { (p : ℕ) → p < length lists.old.items → slice_get lists.new.items p ≡ slice_get lists.old.items p }
-{
-    let alloc = *lists.allocator();
-    while lists.len() <= place {
-        lists.push(Vec::new(alloc))?;
-    }
-    Ok(())
 }
 
 impl Watches {
     /// No clauses.
     pub fn new(alloc: Global) -> Watches
-        ensures lists { result.lists.items ≡ [] }
+        ensures lists { (p : ℕ) → list_at result.lists p ≡ [] }
         ensures pairs { result.pairs ≡ [] }
         ensures short { result.short.items ≡ [] }
     {
         Watches {
             pairs: Pairs::new(alloc),
-            lists: Vec::new(alloc),
+            lists: Lists::new(alloc),
             short: Vec::new(alloc),
         }
     }
@@ -90,18 +66,13 @@ impl Watches {
     /// Puts the index into the list of the literal.
     pub fn list(&mut self, literal: i64, index: usize) -> Result<(), Memory>
         requires literal { IsLiteral literal }
-        ensures listed { OnOk result (IsListed self.new.lists.items literal index) }
-        ensures longer { length self.old.lists.items ≤ length self.new.lists.items }
-        ensures kept { (l : ℤ) (i : ℕ) → IsListed self.old.lists.items l i → IsListed self.new.lists.items l i }
-        ensures others { (l : ℤ) → place l < length self.old.lists.items → place l ≢ place literal
-            → slice_get self.new.lists.items (place l) ≡ slice_get self.old.lists.items (place l) }
+        ensures listed { OnOk result (IsListed self.new.lists literal index) }
+        ensures kept { (l : ℤ) (i : ℕ) → IsListed self.old.lists l i → IsListed self.new.lists l i }
+        ensures others { (p : ℕ) → p ≢ place literal → list_at self.new.lists p ≡ list_at self.old.lists p }
         ensures pairs { self.new.pairs ≡ self.old.pairs }
         ensures short { self.new.short.items ≡ self.old.short.items }
     {
-        let place = place(literal) as usize;
-        make_lists(&mut self.lists, place)?;
-        add_index(&mut self.lists[place], index)?;
-        Ok(())
+        self.lists.push(place(literal) as usize, index)
     }
 
     /// Adds the next clause, which watches the pair; without one it has fewer than two literals. Where memory runs
@@ -137,7 +108,7 @@ impl Watches {
     pub fn cut(&mut self, count: usize)
         ensures pairs { self.new.pairs ≡ take count self.old.pairs }
         ensures short { self.new.short.items ≡ filter (λ i. ltb i count) self.old.short.items }
-        ensures lists { self.new.lists.items ≡ self.old.lists.items }
+        ensures lists { self.new.lists ≡ self.old.lists }
     {
         self.pairs.truncate(count);
         self.short.retain(|index| *index < count);
@@ -149,7 +120,7 @@ impl Watches {
         ensures short { self.new.short.items ≡ [] }
     {
         self.pairs.truncate(0);
-        self.lists.truncate(0);
+        self.lists.clear();
         self.short.truncate(0);
     }
 }

@@ -1,6 +1,6 @@
 use Rattle.std.proofs.Common.{◌≡◌, ◌≢◌, ap, true≢false, ℤ, List, [], ◌∷◌, ◌+◌, ◌<◌, inl, inr, length, neg_ℤ, unsigned_abs, slice_get, Some, refl, sym, ◌∙◌, subst, arith, w64, to_z, of_z, to_z-of_z}
 use Rattle.mcs_base.specs.Listings.{IsAmong}
-use Rattle.mcs_trace.specs.Clauses.{IsLiteral}
+use Rattle.mcs_trace.specs.Clauses.{IsLiteral, place}
 use Rattle.mcs_trace.proofs.OrderLemmas.{place-injective}
 use Rattle.mcs_sat.specs.declared.trail.Entry.{Entry}
 use Rattle.mcs_sat.specs.declared.watches.Pair.{Pair}
@@ -93,9 +93,9 @@ returns-in-Some-open_literal-clause-watched c =
       second = subst (λ (k : ℤ). IsAmong k d) (sym (open_read at')) c.in-Some-open_literal.ensures.0;
       differ = λ e. c.in-Some-open_literal.ensures.1 (sym (e ∙ open_read at'));
     } in
-    let in_list : (l : ℤ) → IsLiteral l → IsOf l q → IsListed c.list.new.self.lists.items l c.args.index = λ l literal of. elim of [
+    let in_list : (l : ℤ) → IsLiteral l → IsOf l q → IsListed c.list.new.self.lists l c.args.index = λ l literal of. elim of [
       | inl first ↦ c.list.ensures.kept l c.args.index (c.requires.watched.listed c.args.index c.get.result l (pair at) literal (subst (λ (k : ℤ). IsOf k c.get.result) (sym (other at) ∙ first) (h.of_other c.get.result (pair at))))
-      | inr second ↦ subst (λ (k : ℤ). IsListed c.list.new.self.lists.items k c.args.index) second c.in_ok-list.ensures.listed
+      | inr second ↦ subst (λ (k : ℤ). IsListed c.list.new.self.lists k c.args.index) second c.in_ok-list.ensures.listed
     ] in
     watched-move c.args.clauses.now c.list.new.self _ c.args.index d q c.row.ensures c.set.ensures refl (listed (goal.at.returns-in-Some-open_literal-clause-watched c).After-list) refl two in_list
 
@@ -133,14 +133,14 @@ returns-in-Some-open_literal-clause-spared c =
     spared-then old between c.set.new.self (spared-list old between c.list.ensures.pairs) (subst (AreSpared between) (sym c.set.ensures) (spared-move between c.args.index q some))
 
 pub returns-in-Some-open_literal-clause-list : goal.returns-in-Some-open_literal-clause-list
-returns-in-Some-open_literal-clause-list c = λ there.
+returns-in-Some-open_literal-clause-list c =
     let at' = (goal.at.returns-in-Some-open_literal-clause-list c).In-Some-open_literal in
-    c.list.ensures.others c.args.literal there (λ e. c.in-Some-open_literal.ensures.2 (subst (λ (k : ℤ). IsOn c.args.trail.now.entries.items (neg_ℤ k)) (place-injective c.args.literal _ e ∙ open_read at') c.requires.off))
+    c.list.ensures.others (place c.args.literal) (λ e. c.in-Some-open_literal.ensures.2 (subst (λ (k : ℤ). IsOn c.args.trail.now.entries.items (neg_ℤ k)) (place-injective c.args.literal _ e ∙ open_read at') c.requires.off))
 
 pub returns-in_err-list-clause-list : goal.returns-in_err-list-clause-list
-returns-in_err-list-clause-list c = λ there.
+returns-in_err-list-clause-list c =
     let at' = (goal.at.returns-in_err-list-clause-list c).In-Some-open_literal in
-    c.list.ensures.others c.args.literal there (λ e. c.in-Some-open_literal.ensures.2 (subst (λ (k : ℤ). IsOn c.args.trail.now.entries.items (neg_ℤ k)) (place-injective c.args.literal _ e ∙ open_read at') c.requires.off))
+    c.list.ensures.others (place c.args.literal) (λ e. c.in-Some-open_literal.ensures.2 (subst (λ (k : ℤ). IsOn c.args.trail.now.entries.items (neg_ℤ k)) (place-injective c.args.literal _ e ∙ open_read at') c.requires.off))
 
 -- ---- the other literals are false
 pub is_false-requires-clause-literal : goal.is_false-requires-clause-literal
@@ -202,7 +202,7 @@ pub returns-then-index-len-clause-reached : goal.returns-then-index-len-clause-r
 returns-then-index-len-clause-reached c = λ r bound h. h
 
 pub returns-then-index-len-clause-list : goal.returns-then-index-len-clause-list
-returns-then-index-len-clause-list c = λ there. refl
+returns-then-index-len-clause-list c = refl
 
 pub returns-in_default-clause-trail : goal.returns-in_default-clause-trail
 returns-in_default-clause-trail c = c.requires.trail
@@ -223,7 +223,7 @@ pub returns-in_default-clause-reached : goal.returns-in_default-clause-reached
 returns-in_default-clause-reached c = λ r bound h. h
 
 pub returns-in_default-clause-list : goal.returns-in_default-clause-list
-returns-in_default-clause-list c = λ there. refl
+returns-in_default-clause-list c = refl
 
 pub returns-then-is_true-clause-trail : goal.returns-then-is_true-clause-trail
 returns-then-is_true-clause-trail c = c.requires.trail
@@ -244,7 +244,7 @@ pub returns-then-is_true-clause-reached : goal.returns-then-is_true-clause-reach
 returns-then-is_true-clause-reached c = λ r bound h. h
 
 pub returns-then-is_true-clause-list : goal.returns-then-is_true-clause-list
-returns-then-is_true-clause-list c = λ there. refl
+returns-then-is_true-clause-list c = refl
 
 pub returns-then-is_false-clause-trail : goal.returns-then-is_false-clause-trail
 returns-then-is_false-clause-trail c = c.requires.trail
@@ -265,7 +265,7 @@ pub returns-then-is_false-clause-reached : goal.returns-then-is_false-clause-rea
 returns-then-is_false-clause-reached c = λ r bound h. h
 
 pub returns-then-is_false-clause-list : goal.returns-then-is_false-clause-list
-returns-then-is_false-clause-list c = λ there. refl
+returns-then-is_false-clause-list c = refl
 
 pub returns-in_err-list-clause-trail : goal.returns-in_err-list-clause-trail
 returns-in_err-list-clause-trail c = c.requires.trail
@@ -304,7 +304,7 @@ pub returns-in_err-push-clause-reached : goal.returns-in_err-push-clause-reached
 returns-in_err-push-clause-reached c = λ r bound h. h
 
 pub returns-in_err-push-clause-list : goal.returns-in_err-push-clause-list
-returns-in_err-push-clause-list c = λ there. refl
+returns-in_err-push-clause-list c = refl
 
 pub returns-in_err-push-clause-grows : goal.returns-in_err-push-clause-grows
 returns-in_err-push-clause-grows c = subst (Grows c.args.level c.args.trail.now.entries.items) (sym c.in_err-push.ensures.err) (grows-none c.args.level c.args.trail.now.entries.items)
@@ -322,7 +322,7 @@ pub returns-clause-reached : goal.returns-clause-reached
 returns-clause-reached c = λ r bound h. h
 
 pub returns-clause-list : goal.returns-clause-list
-returns-clause-list c = λ there. refl
+returns-clause-list c = refl
 
 pub returns-clause-grows : goal.returns-clause-grows
 returns-clause-grows c = (_ ∷ [], c.in_ok-push.ensures.entries, ((omega arith, refl), tt))

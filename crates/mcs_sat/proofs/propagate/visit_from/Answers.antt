@@ -104,7 +104,6 @@ loop-from-preserved c =
         grows = grows at;
       };
       watches = record {
-        lists = (let a = c.visit_list.ensures.lists in let b = c.loop-from.invariant.watches.lists in omega arith);
         watched = c.visit_list.ensures.watched;
         sized = c.visit_list.ensures.sized ∙ c.loop-from.invariant.watches.sized;
         spared = spared at;
@@ -124,9 +123,6 @@ returns-in_err-found-clause-trail c = c.visit_list.ensures.trail
 pub returns-in_err-found-clause-positions : goal.returns-in_err-found-clause-positions
 returns-in_err-found-clause-positions c = c.visit_list.ensures.positions ∙ c.loop-from.invariant.kept.positions
 
-pub returns-in_err-found-clause-lists : goal.returns-in_err-found-clause-lists
-returns-in_err-found-clause-lists c = (let a = c.visit_list.ensures.lists in let b = c.loop-from.invariant.watches.lists in omega arith)
-
 pub returns-in_err-found-clause-watched : goal.returns-in_err-found-clause-watched
 returns-in_err-found-clause-watched c = c.visit_list.ensures.watched
 
@@ -138,9 +134,6 @@ returns-then-is_some-clause-trail c = c.visit_list.ensures.trail
 
 pub returns-then-is_some-clause-positions : goal.returns-then-is_some-clause-positions
 returns-then-is_some-clause-positions c = c.visit_list.ensures.positions ∙ c.loop-from.invariant.kept.positions
-
-pub returns-then-is_some-clause-lists : goal.returns-then-is_some-clause-lists
-returns-then-is_some-clause-lists c = (let a = c.visit_list.ensures.lists in let b = c.loop-from.invariant.watches.lists in omega arith)
 
 pub returns-then-is_some-clause-watched : goal.returns-then-is_some-clause-watched
 returns-then-is_some-clause-watched c = c.visit_list.ensures.watched
@@ -165,9 +158,6 @@ returns-clause-positions c = c.loop-from.invariant.kept.positions
 
 pub returns-clause-grows : goal.returns-clause-grows
 returns-clause-grows c = c.loop-from.invariant.kept.grows
-
-pub returns-clause-lists : goal.returns-clause-lists
-returns-clause-lists c = c.loop-from.invariant.watches.lists
 
 pub returns-clause-watched : goal.returns-clause-watched
 returns-clause-watched c = c.loop-from.invariant.watches.watched

@@ -1,6 +1,7 @@
-use Rattle.std.proofs.Common.{slice_get}
+use Rattle.std.proofs.Common.{◌-◌, length}
+use Rattle.mcs_sat.specs.Lists.{list_at}
 use Rattle.mcs_sat.specs.Trails.{IsTrail}
-use Rattle.mcs_sat.proofs.WatchLemmas.{ArePassed, left_in}
+use Rattle.mcs_sat.proofs.WatchLemmas.{ArePassed}
 use Rattle.mcs_sat.proofs.Keeping.{Extends, KeepsWatches}
 use Rattle.mcs_sat.proofs.propagate.visit_list.Given as goal
 
@@ -9,8 +10,8 @@ invariant-loop-at l = record {
   trail : IsTrail l.clauses l.trail;
   kept : Extends l.level l.initial.trail l.trail;
   watches : KeepsWatches l.clauses l.initial.watches l.watches l.initial.trail.entries.items;
-  passed : ArePassed l.clauses l.watches.lists.items l.trail.entries.items l.list l.at;
+  passed : ArePassed l.clauses (list_at l.watches.lists l.list) l.trail.entries.items l.at;
 }
 
 abbrev pub decreases-loop-at : goal.decreases-loop-at
-decreases-loop-at l = left_in (slice_get l.watches.lists.items l.list) l.at
+decreases-loop-at l = length (list_at l.watches.lists l.list) - l.at

@@ -1,0 +1,68 @@
+//! Values by their indices, which take memory only where there are some.
+
+ghost use Rattle.std.specs.Prelude.{◌≡◌, ℕ, ◌<◌, length, OnOk};
+ghost use Rattle.mcs_sat.specs.Lists.{row_at};
+
+use crate::order::fill;
+use mcs_base::Memory;
+use std::alloc::Global;
+
+/// How many neighbours stand in a block at most.
+pub(crate) const BLOCK: usize = 512;
+
+/// Values by their indices. They stand in blocks of neighbouring indices; a block in which there is no value takes no
+/// memory.
+#[derive(Drop)]
+pub(crate) struct Blocks<T: Copy> {
+    pub blocks: Vec<Vec<T>>,
+}
+
+/// Adds empty rows up to the number.
+pub(crate) fn make_rows<T: Drop>(rows: &mut Vec<Vec<T>>, number: usize) -> Result<(), Memory>
+    ensures within { OnOk result (number < length rows.new.items) }
+    ensures same { (p : ℕ) → row_at rows.new.items p ≡ row_at rows.old.items p }
+{
+    let alloc = *rows.allocator();
+    while rows.len() <= number {
+        rows.push(Vec::new(alloc))?;
+    }
+    Ok(())
+}
+
+impl<T: Copy> Blocks<T> {
+    /// No values.
+    pub fn new(alloc: Global) -> Blocks<T> {
+        Blocks {
+            blocks: Vec::new(alloc),
+        }
+    }
+
+    /// The value at the index, where there is one.
+    pub fn get(&self, index: usize) -> Option<T> {
+        self.blocks.get(index / BLOCK)?.get(index % BLOCK).copied()
+    }
+
+    /// Puts the value to the index, where there is one already; whether there is.
+    pub fn replace(&mut self, index: usize, value: T) -> bool {
+        if let Some(block) = self.blocks.get_mut(index / BLOCK)
+            && let Some(here) = block.get_mut(index % BLOCK)
+        {
+            *here = value;
+            return true;
+        }
+        false
+    }
+
+    /// Puts the value to the index. Where its block ends before it, the filler stands up to it.
+    pub fn set(&mut self, index: usize, value: T, filler: T) -> Result<(), Memory> {
+        if self.replace(index, value) {
+            return Ok(());
+        }
+        make_rows(&mut self.blocks, index / BLOCK)?;
+        if let Some(block) = self.blocks.get_mut(index / BLOCK) {
+            fill(block, index % BLOCK, filler)?;
+        }
+        self.replace(index, value);
+        Ok(())
+    }
+}
