@@ -1,6 +1,6 @@
 //! Numbers, as digits spell them.
 
-ghost use Rattle.std.specs.Prelude.{◌≡◌, ℕ, MatchOption};
+ghost use Rattle.std.specs.Prelude.{ℕ, MatchOption};
 ghost use Rattle.mcs_base.specs.Numbers.{IsNumber};
 
 /// The number that the bytes spell: one or more digits, whose value is within the bounds. `None` exactly

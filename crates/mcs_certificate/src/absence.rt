@@ -1,13 +1,13 @@
 //! Whether defaults are shown to be unsupported or blocked.
 
-ghost use Rattle.std.specs.Prelude.{◌≡◌, ◌≤◌, ◌<◌, ◌+◌, ◌↔◌, List, length, map, IsTrue, IfOk, MatchOption, None, Some};
+ghost use Rattle.std.specs.Prelude.{◌≡◌, ◌≤◌, ◌<◌, ◌↔◌, List, length, map, IsTrue, IfOk, MatchOption, None, Some};
 ghost use Rattle.std.specs.List.{AllByRecursion};
 ghost use Rattle.mcs_sets.specs.Sets.{minus, members};
 ghost use Rattle.mcs_system.specs.Plain as plain;
 ghost use Rattle.mcs_system.specs.Seen.{default_of, formula_of};
 ghost use Rattle.mcs_cnf.specs.ClauseLists.{clause_list, IsOver};
 ghost use Rattle.mcs_cnf.specs.Entailments.{entailment_of};
-ghost use Rattle.mcs_evidence.specs.Defaults.{absence_of, defaults_of, IsAbsent, IsShown, IsDenied};
+ghost use Rattle.mcs_evidence.specs.Defaults.{absence_of, defaults_of, IsAbsent, IsShown};
 ghost use Rattle.mcs_certificate.specs.Checks.{numbered, AreAbsent};
 ghost use Rattle.mcs_evidence.specs.Theories.{all_of, AreOverDefaults};
 

@@ -1,7 +1,6 @@
 //! A sink that keeps the bytes it is given.
 
-ghost use Rattle.std.specs.Prelude.{◌≡◌, [], ◌++◌, Some, None};
-ghost use Rattle.mcs_ports.specs.Pieces.{Device};
+ghost use Rattle.std.specs.Prelude.{◌≡◌, [], Some, None};
 
 use mcs_base::Text;
 use mcs_ports::{Failed, Sink};

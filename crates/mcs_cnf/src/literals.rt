@@ -1,6 +1,6 @@
 //! Literals of a variable, and clauses from literals in any order.
 
-ghost use Rattle.std.specs.Prelude.{◌≡◌, ◌<◌, ◌^◌, ◌≤◌, ◌++◌, [], ◌∷◌, pos, IfOk};
+ghost use Rattle.std.specs.Prelude.{◌≡◌, ◌<◌, ◌^◌, ◌≤◌, [], ◌∷◌, pos, IfOk};
 ghost use Rattle.std.specs.List.{AllByRecursion};
 ghost use Rattle.mcs_trace.specs.Clauses.{IsLiteral};
 ghost use Rattle.mcs_cnf.specs.ClauseLists.{clause_of, non, with_clause, IsThere};

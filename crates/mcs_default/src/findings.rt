@@ -1,6 +1,6 @@
 //! What was found out of sets of defaults, which tells of larger sets or of smaller ones too.
 
-ghost use Rattle.std.specs.Prelude.{◌≡◌, ◌<◌, List, IsTrue};
+ghost use Rattle.std.specs.Prelude.{◌<◌, List, IsTrue};
 ghost use Rattle.std.specs.List.{AllByRecursion};
 ghost use Rattle.mcs_system.specs.Plain as plain;
 ghost use Rattle.mcs_default.specs.Searches.{IsLower, IsUpper, IsSupportedAt, IsUnsupportedAt, IsAllowedAt, IsBlockedAt, IsConflict};

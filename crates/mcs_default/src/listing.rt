@@ -10,7 +10,7 @@ ghost use Rattle.mcs_system.specs.Plain as plain;
 ghost use Rattle.mcs_system.specs.Seen.{default_of, formula_of, item_of};
 ghost use Rattle.mcs_system.specs.Views.{IsAcceptedView};
 ghost use Rattle.mcs_cnf.specs.ClauseLists.{AreOver};
-ghost use Rattle.mcs_evidence.specs.Defaults.{Verdict, AreOverItems, IsAcceptedDefault, defaults_of, verdicts_of};
+ghost use Rattle.mcs_evidence.specs.Defaults.{AreOverItems, IsAcceptedDefault, defaults_of, verdicts_of};
 ghost use Rattle.mcs_default.specs.Theories.{AreParts, with_view};
 ghost use Rattle.mcs_evidence.specs.Theories.{AreOverDefaults};
 

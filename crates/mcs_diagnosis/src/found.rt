@@ -1,8 +1,7 @@
 //! The diagnoses of one level.
 
-ghost use Rattle.std.specs.Prelude.{◌≡◌, ℕ, false, Some, IfOk, IfErr, OnOk};
+ghost use Rattle.std.specs.Prelude.{◌≡◌, false, IfOk, IfErr, OnOk};
 ghost use Rattle.mcs_states.specs.Evaluators.{KeepsRest, HasDone, HasHalted, HasHaltCause, IsTold};
-ghost use Rattle.mcs_states.specs.declared.halt.Halt.TheVariants.{Memory};
 ghost use Rattle.mcs_sets.specs.Sets.{size};
 ghost use Rattle.mcs_system.specs.Repairs.{IsDiagnosis};
 ghost use Rattle.mcs_diagnosis.specs.Diagnoses.{AreFound, IsShown, active_in};

@@ -1,6 +1,6 @@
 //! Names at places, and names among others.
 
-ghost use Rattle.std.specs.Prelude.{◌≡◌, ◌≤◌, ◌&&◌, not, length, IfOk};
+ghost use Rattle.std.specs.Prelude.{◌≡◌, ◌≤◌, length, IfOk};
 ghost use Rattle.std.specs.List.{list_any, list_all};
 ghost use Rattle.mcs_system.specs.Logic.{is_in, true_names};
 ghost use Rattle.mcs_system.specs.Seen.{rule_of};

@@ -1,12 +1,12 @@
 //! The clauses that belong to a program: of what is smaller than a model, of what is beside it, and of other states.
 
-ghost use Rattle.std.specs.Prelude.{◌≡◌, ◌<◌, ◌≤◌, ◌++◌, List, [], ◌∷◌, None, Some, cond, length, map, filter, IfOk, IfSome, IsTrue};
-ghost use Rattle.mcs_system.specs.Logic.{true_names, reduct};
+ghost use Rattle.std.specs.Prelude.{◌≡◌, ◌≤◌, ◌++◌, List, [], ◌∷◌, None, Some, cond, length, map, filter, IfOk};
+ghost use Rattle.mcs_system.specs.Logic.{reduct};
 ghost use Rattle.mcs_system.specs.Plain as plain;
 ghost use Rattle.mcs_system.specs.Seen.{rule_of};
 ghost use Rattle.mcs_trace.specs.Clauses.{ClauseList};
 ghost use Rattle.mcs_cnf.specs.ClauseLists.{with_formulas, clause_list};
-ghost use Rattle.mcs_evidence.specs.Programs.{atoms_as, negated_atoms, conjunction, disjunction, false_names, is_broken_by, literals_from, positive_formula, rule_formula, smaller_formulas, beside_formula, other_formula, rest_formulas, AreOverRules};
+ghost use Rattle.mcs_evidence.specs.Programs.{atoms_as, negated_atoms, conjunction, disjunction, is_broken_by, positive_formula, smaller_formulas, beside_formula, other_formula, rest_formulas, AreOverRules};
 ghost use Rattle.mcs_evidence.specs.Pushing.{AreNamesOf, IsVariable, IsPart, HasOccurrences, HasConjunction};
 
 use crate::places::{is_broken, names_at, names_beside, some_among};

@@ -1,6 +1,6 @@
 //! What the watch keeps of a token that has no fault.
 
-ghost use Rattle.std.specs.Prelude.{◌≡◌, ◌<◌, ◌++◌, List, [], ◌∷◌, IfOk, IsTrue, length, map};
+ghost use Rattle.std.specs.Prelude.{◌≡◌, ◌<◌, ◌++◌, List, [], ◌∷◌, IfOk, IsTrue, map};
 ghost use Rattle.mcs_base.specs.Words.{is_name};
 ghost use Rattle.mcs_sets.specs.Sets.{single, union};
 ghost use Rattle.mcs_system.specs.Plain.{Name};

@@ -1,6 +1,6 @@
 //! Formulas token by token.
 
-ghost use Rattle.std.specs.Prelude.{◌≡◌, ℕ, ◌+◌, ◌-◌, ◌<◌, min, IfOk, IsTrue, Option, List, is_some};
+ghost use Rattle.std.specs.Prelude.{◌≡◌, min, IfOk, IsTrue, Option, List, is_some};
 ghost use Rattle.mcs_base.specs.Words.{is_name};
 ghost use Rattle.mcs_system.specs.Seen.{formula_of};
 ghost use Rattle.mcs_tokens.specs.Kinds.{IsKind};
@@ -10,7 +10,7 @@ ghost use Rattle.mcs_grammar.specs.Written.{Written};
 ghost use Rattle.mcs_grammar.specs.Entries.{formula_in, size_of};
 ghost use Rattle.mcs_grammar.specs.FormulaSteps.{PartFormula, Parenthesis, no_formula, waits, size_so_far, opened_so_far, settle, reduce, finished, finished_primary};
 ghost use Rattle.mcs_grammar.specs.FormulaSteps as written;
-ghost use Rattle.mcs_grammar.specs.FormulaImages.{waiting_of, waiting_level, made, most_counted, one_more, AreStacked, AreImages, IsImage, IsReader, IsWaitingMore, IsAnswer};
+ghost use Rattle.mcs_grammar.specs.FormulaImages.{waiting_of, waiting_level, made, most_counted, AreStacked, AreImages, IsImage, IsReader, IsWaitingMore, IsAnswer};
 
 use mcs_base::Memory;
 use mcs_system::{Formula, Name};

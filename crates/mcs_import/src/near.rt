@@ -1,7 +1,6 @@
 //! Sets of rules that differ little from given ones.
 
-ghost use Rattle.std.specs.Prelude.{◌≡◌, ◌<◌, ◌≤◌, ◌++◌, ◌↔◌, ℕ, map, true, bit_xor, IfOk};
-ghost use Rattle.std.specs.List.{list_any};
+ghost use Rattle.std.specs.Prelude.{◌≡◌, ◌<◌, ◌++◌, ◌↔◌, ℕ, map, bit_xor, IfOk};
 ghost use Rattle.mcs_sets.specs.Sets.{union, single, size, Within};
 ghost use Rattle.mcs_base.specs.Listings.{IsAmong, IsListing};
 ghost use Rattle.mcs_import.specs.States.{IsNear, is_near};

@@ -1,6 +1,6 @@
 //! What a context is asked.
 
-ghost use Rattle.std.specs.Prelude.{◌≡◌, ◌<◌, ◌↔◌, ℕ, List, map, length, IfOk};
+ghost use Rattle.std.specs.Prelude.{◌<◌, ◌↔◌, ℕ, List, map, length, IfOk};
 ghost use Rattle.mcs_sets.specs.Sets.{common};
 ghost use Rattle.mcs_base.specs.Listings.{IsAmong, IsListing};
 ghost use Rattle.mcs_system.specs.Imports.{IsImportOrder, supplied, rules_into};

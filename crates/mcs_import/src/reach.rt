@@ -1,8 +1,7 @@
 //! Which contexts a context imports, and which of those that it reaches do not reach it.
 
-ghost use Rattle.std.specs.Prelude.{◌≡◌, ℕ, ◌<◌, ◌≤◌, true, false, length, map, get_or, IfOk};
+ghost use Rattle.std.specs.Prelude.{◌≡◌, ◌<◌, ◌≤◌, length, map, IfOk};
 ghost use Rattle.std.specs.List.{range_with_len};
-ghost use Rattle.mcs_sets.specs.Sets.{such_that};
 ghost use Rattle.mcs_system.specs.Faults.{IsValid};
 ghost use Rattle.mcs_system.specs.Imports.{imports};
 ghost use Rattle.mcs_import.specs.Reach.{through, rows_through, import_row, ahead_row, AreReached, AreAhead};

@@ -1,8 +1,7 @@
 //! The evaluator on one thread.
 
-ghost use Rattle.std.specs.Prelude.{◌≡◌, ◌≤◌, ℕ, false, true, [], Some, None, IfOk, IfErr, OnOk, map, length, slice_get};
+ghost use Rattle.std.specs.Prelude.{◌≡◌, false, Some, None, IfOk, IfErr, OnOk, map, length};
 ghost use Rattle.mcs_states.specs.Evaluators.{KeepsRest, HasDone, HasHalted};
-ghost use Rattle.mcs_states.specs.Oracles.{OracleState};
 ghost use Rattle.mcs_states.specs.declared.halt.Halt.TheVariants as halts;
 ghost use Rattle.std.specs.Arc.{arc_value};
 ghost use Rattle.mcs_mesh.specs.Rounds.{state_of, AreFresh};

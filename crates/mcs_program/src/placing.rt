@@ -1,7 +1,7 @@
 //! Rules and beliefs by the places of their atoms, and what is tested of sets of places.
 
-ghost use Rattle.std.specs.Prelude.{◌≡◌, ◌<◌, ◌≤◌, List, false, length, map, IfOk, IsTrue};
-ghost use Rattle.std.specs.List.{AllByRecursion, AllZip, list_all};
+ghost use Rattle.std.specs.Prelude.{◌≡◌, ◌≤◌, false, length, map, IfOk, IsTrue};
+ghost use Rattle.std.specs.List.{AllZip, list_all};
 ghost use Rattle.mcs_system.specs.Faults.{has_twins};
 ghost use Rattle.mcs_system.specs.Logic.{is_in};
 ghost use Rattle.mcs_system.specs.Plain as plain;

@@ -9,7 +9,7 @@ ghost use Rattle.mcs_system.specs.Plain as plain;
 ghost use Rattle.mcs_system.specs.Seen.{rule_of};
 ghost use Rattle.mcs_trace.specs.Traces.{inferences_of};
 ghost use Rattle.mcs_cnf.specs.Entailments.{IsModelAt};
-ghost use Rattle.mcs_evidence.specs.Programs.{rest_formulas, smaller_formulas, AreOverRules, IsRefutation};
+ghost use Rattle.mcs_evidence.specs.Programs.{rest_formulas, AreOverRules};
 ghost use Rattle.mcs_evidence.specs.Pushing.{AreNamesOf};
 ghost use Rattle.mcs_program.specs.Searches.{IsFoundFor, IsSearch, IsExcluded, IsPlaced, IsListed, IsExhausted, sets_left};
 ghost use Rattle.mcs_program.specs.Placing.{IsPlaceOf, IsPlacing};

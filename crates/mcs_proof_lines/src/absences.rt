@@ -1,6 +1,6 @@
 //! What shows of defaults that they do not apply, read.
 
-ghost use Rattle.std.specs.Prelude.{◌≡◌, ◌≤◌, ◌<◌, ◌^◌, ◌+◌, length, map, IfSome};
+ghost use Rattle.std.specs.Prelude.{◌≡◌, ◌≤◌, ◌<◌, length, map, IfSome};
 ghost use Rattle.std.specs.List.{AllByRecursion};
 ghost use Rattle.mcs_evidence.specs.Defaults.{absence_of};
 ghost use Rattle.mcs_proof_lines.specs.Walks.{Gives, may_be, may_block, is_just, number_after, unsupported_of, blocked_of, absence_at, absence_of_place, each_at, line_at};

@@ -1,12 +1,12 @@
 //! Traces and entailments, read.
 
-ghost use Rattle.std.specs.Prelude.{◌≡◌, ◌≤◌, length, map, codes, IfOk, ◌+◌};
+ghost use Rattle.std.specs.Prelude.{◌≡◌, ◌≤◌, length, map, IfOk, ◌+◌};
 ghost use Rattle.std.specs.Option.{option_map};
 ghost use Rattle.mcs_trace.specs.Traces.{inference_of, inferences_of};
 ghost use Rattle.mcs_spelling.specs.Words.{step_of};
 ghost use Rattle.mcs_cnf.specs.Entailments.{entailment_of};
 ghost use Rattle.mcs_proof_lines.specs.declared.fault.ReportFault.TheVariants as faults;
-ghost use Rattle.mcs_proof_lines.specs.Walks.{atoms_of_line, Gives, Passes, is_next, expect_at, advanced, line_at, steps_at, trace_at, yes_at, atoms_at, no_at, entailment_at, many_at};
+ghost use Rattle.mcs_proof_lines.specs.Walks.{atoms_of_line, Gives, Passes, is_next, expect_at, line_at, steps_at, trace_at, yes_at, atoms_at, no_at, entailment_at, many_at};
 
 use crate::fault::ReportFault;
 use crate::lines::Lines;

@@ -1,9 +1,9 @@
 //! Certificates of programs, read.
 
-ghost use Rattle.std.specs.Prelude.{◌≡◌, ◌≤◌, length, map, codes, IfOk};
+ghost use Rattle.std.specs.Prelude.{◌≡◌, ◌≤◌, length, map, IfOk};
 ghost use Rattle.mcs_trace.specs.Traces.{inferences_of};
 ghost use Rattle.mcs_evidence.specs.Programs.{model_shown_of, program_shown_of};
-ghost use Rattle.mcs_proof_lines.specs.Walks.{Gives, line_at, atoms_of_line, many_at};
+ghost use Rattle.mcs_proof_lines.specs.Walks.{Gives, many_at};
 ghost use Rattle.mcs_proof_lines.specs.Programs.{model_at, rest_at, smaller_at, program_at};
 
 use crate::evidence::{expect, next_atoms, take_atoms, take_trace};

@@ -1,12 +1,10 @@
 //! Verdicts on sets of defaults, read.
 
-ghost use Rattle.std.specs.Prelude.{◌≡◌, ◌≤◌, ◌<◌, ◌-◌, ◌^◌, [], length, map, codes, IfOk, IfSome, slice_index};
-ghost use Rattle.std.specs.List.{AllByRecursion};
+ghost use Rattle.std.specs.Prelude.{◌≡◌, ◌≤◌, ◌<◌, ◌^◌, [], length, map, codes, IfOk, IfSome};
 ghost use Rattle.std.specs.Option.{option_map};
-ghost use Rattle.mcs_sets.specs.Sets.{members};
 ghost use Rattle.mcs_evidence.specs.Defaults.{verdict_of};
 ghost use Rattle.mcs_proof_lines.specs.Walks.{Gives, line_at, number_after};
-ghost use Rattle.mcs_proof_lines.specs.Verdicts.{within_from, order_of, just_total, terms_of, all_places, defaults_of_line, extension_at, applied_at, ungrounded_at, verdict_at, names_set, set_at, verdicts_at};
+ghost use Rattle.mcs_proof_lines.specs.Verdicts.{within_from, order_of, terms_of, defaults_of_line, extension_at, applied_at, ungrounded_at, verdict_at, names_set, set_at, verdicts_at};
 
 use crate::absences::{number_after, take_absence, take_absences};
 use crate::evidence::{out_of_place, take_all_no, take_all_yes, take_entailments, take_yes};

@@ -1,9 +1,6 @@
 //! Questions and states, read.
 
-ghost use Rattle.std.specs.Prelude.{◌≡◌, ◌+◌, ◌<◌, ◌≤◌, length, map, IfOk, IfSome, None};
-ghost use Rattle.std.specs.Option.{option_map};
-ghost use Rattle.mcs_sets.specs.Sets.{Within};
-ghost use Rattle.mcs_system.specs.Imports.{rules_into};
+ghost use Rattle.std.specs.Prelude.{◌≡◌, ◌<◌, length, IfOk, IfSome, None};
 ghost use Rattle.mcs_system.specs.Seen.{context_of};
 ghost use Rattle.mcs_proof_lines.specs.Walks.{line_at};
 ghost use Rattle.mcs_proof_reader.specs.Questions.{context_from, rules_of_text, question_of, next_question, comes_after, state_of, state_after, states_at};

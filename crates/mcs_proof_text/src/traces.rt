@@ -1,7 +1,6 @@
 //! The lines of traces and of entailments.
 
 ghost use Rattle.std.specs.Prelude.{◌≡◌, ◌++◌, map, OnOk};
-ghost use Rattle.std.specs.List.{flat_map};
 ghost use Rattle.mcs_trace.specs.Traces.{inference_of, inferences_of};
 ghost use Rattle.mcs_cnf.specs.Entailments.{entailment_of};
 ghost use Rattle.mcs_proof_text.specs.Lines.{YesLine, NoLine, StepLine, line_with_feed, written};

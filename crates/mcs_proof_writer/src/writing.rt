@@ -1,6 +1,5 @@
 //! Proofs, written line by line.
 
-ghost use Rattle.std.specs.Prelude.{length};
 ghost use Rattle.std.specs.List.{AllByRecursion, flat_map};
 ghost use Rattle.mcs_text.specs.Writes.{Writes};
 ghost use Rattle.mcs_proof_text.specs.Lines.{text_of_lines};

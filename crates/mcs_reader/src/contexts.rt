@@ -1,6 +1,6 @@
 //! The tokens with which a context begins.
 
-ghost use Rattle.std.specs.Prelude.{◌≡◌, ℕ, nat_eq, IfOk, List, [], length};
+ghost use Rattle.std.specs.Prelude.{◌≡◌, nat_eq, IfOk, length};
 ghost use Rattle.mcs_system.specs.Seen.{context_of};
 ghost use Rattle.mcs_grammar.specs.Written.{WrittenContext};
 ghost use Rattle.mcs_grammar.specs.Saying.{context_in};

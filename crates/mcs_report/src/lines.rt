@@ -1,6 +1,6 @@
 //! The lines of a listing. Each call appends one line with its line feed; without memory the text stays as it was.
 
-ghost use Rattle.std.specs.Prelude.{◌≡◌, ◌<◌, ◌++◌, OnOk, OnErr};
+ghost use Rattle.std.specs.Prelude.{◌≡◌, ◌++◌, OnOk, OnErr};
 ghost use Rattle.mcs_sets.specs.Sets.{Within};
 ghost use Rattle.mcs_system.specs.Systems.{all_variables};
 ghost use Rattle.mcs_report.specs.Listing.{heading, equilibrium_line, verdict_line, short_end_line};

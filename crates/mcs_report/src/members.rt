@@ -1,6 +1,6 @@
 //! Sets of variables and of bridge rules, as they are printed.
 
-ghost use Rattle.std.specs.Prelude.{◌≡◌, ◌<◌, ◌++◌, length, map, codes, List, ℕ, OnOk, OnErr};
+ghost use Rattle.std.specs.Prelude.{◌≡◌, ◌<◌, ◌++◌, length, map, OnOk, OnErr};
 ghost use Rattle.mcs_sets.specs.Sets.{members};
 ghost use Rattle.std.specs.List.{AllByRecursion};
 ghost use Rattle.mcs_system.specs.Systems.{variables};

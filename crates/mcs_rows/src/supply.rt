@@ -1,6 +1,6 @@
 //! What a context may supply.
 
-ghost use Rattle.std.specs.Prelude.{ℕ, List, map, IfOk};
+ghost use Rattle.std.specs.Prelude.{ℕ, map, IfOk};
 ghost use Rattle.mcs_base.specs.Listings.{IsListing};
 ghost use Rattle.mcs_sets.specs.Orders.{StateBefore};
 ghost use Rattle.mcs_system.specs.Levels.{MaySupply};

@@ -1,9 +1,8 @@
 -- Clauses that a state of its own takes in, and what it learns of them.
-use Rattle.std.proofs.Common.{◌≡◌, ◌≢◌, ℕ, ◌+◌, ◌-◌, suc, ◌<◌, ◌≤◌, List, [], ◌∷◌, ◌++◌, ◌⊎◌, inl, inr, sym, ap, ◌∙◌, subst, arith, ℤ, unsigned_abs, length, length-append, map, take, get_or, Some, slice_get}
-use Rattle.std.specs.List.{AllByRecursion}
+use Rattle.std.proofs.Common.{◌≡◌, ◌≢◌, ℕ, ◌+◌, ◌-◌, suc, ◌<◌, List, [], ◌∷◌, ◌++◌, inl, inr, sym, ap, ◌∙◌, subst, arith, ℤ, unsigned_abs, length, length-append, map, take, get_or, Some, slice_get}
 use Rattle.std.proofs.lemmas.Bool.{cases_lt}
 use Rattle.std.proofs.lemmas.List.{get_or_append_left, get_or_push, length_push}
-use Rattle.std.proofs.lemmas.Option.{same_Some, slice_get_within}
+use Rattle.std.proofs.lemmas.Option.{slice_get_within}
 use Rattle.mcs_base.proofs.Each.{all_get, all_weaker}
 use Rattle.mcs_base.proofs.Lists.{map_slice_get, slice_get_push_at, slice_get_seam, slice_get_take, slice_get-append_left, slice_get-append_right}
 use Rattle.mcs_trace.specs.Traces.{Inference, IsChainResolvent, numbered}
@@ -65,6 +64,7 @@ part-later whole old new ns is later base = record {
   where
     added : List (List ℤ)
     added = map (λ (s : Inference). s.clause) later.more
+
     chains : List (List ℕ)
     chains = map (λ (s : Inference). s.chain) later.more
 
@@ -110,5 +110,6 @@ part-adopted whole new part ns ms c is room clauses here numbers = record {
   where
     size : length ms ≡ length ns + 1
     size = ap length numbers ∙ length_push ns (length new.clauses)
+
     refl-length : length whole.clauses ≡ length whole.clauses
     refl-length = omega arith

@@ -1,6 +1,6 @@
 //! Clauses that are given, where nothing is decided: they are added, and taken off again.
 
-ghost use Rattle.std.specs.Prelude.{◌≡◌, ℕ, ℤ, ◌+◌, ◌<◌, ◌≤◌, ◌^◌, ◌++◌, ◌∷◌, [], ◌⊎◌, neg_ℤ, length, take, IsTrue, MatchOption, OnOk, OnErr, IfSome, Some, slice_get};
+ghost use Rattle.std.specs.Prelude.{◌≡◌, ◌+◌, ◌<◌, ◌≤◌, ◌^◌, ◌++◌, ◌∷◌, [], ◌⊎◌, neg_ℤ, length, take, IsTrue, MatchOption, OnOk, OnErr, IfSome, Some};
 ghost use Rattle.mcs_trace.specs.Clauses.{IsClause, IsLiteral};
 ghost use Rattle.mcs_trace.specs.Traces.{IsChainResolvent};
 ghost use Rattle.mcs_sat.specs.Trails.{AreCovered, ArePlaced, IsOn, IsOnBelow, IsSatisfied};

@@ -1,6 +1,6 @@
 //! A list of clauses that is made ready for many searches.
 
-ghost use Rattle.std.specs.Prelude.{◌≡◌, [], ◌∷◌, ◌++◌, ◌+◌, ◌<◌, ◌≤◌, ◌^◌, ℤ, List, length, take, IfOk, OnOk, OnErr};
+ghost use Rattle.std.specs.Prelude.{◌≡◌, [], ◌∷◌, ◌++◌, ◌+◌, ◌<◌, ◌≤◌, ◌^◌, length, take, IfOk, OnOk, OnErr};
 ghost use Rattle.std.specs.List.{AllByRecursion};
 ghost use Rattle.mcs_trace.specs.Clauses.{IsClause, IsClauseList, IsWithin};
 ghost use Rattle.mcs_sat.specs.Answers.{IsAnswer, IsExact, IsSettled};

@@ -1,6 +1,6 @@
 //! Clauses over the parts of a formula, in place of those over its whole.
 
-ghost use Rattle.std.specs.Prelude.{◌≡◌, ℤ, List, [], ◌<◌, length, IsTrue, IfOk, OnOk};
+ghost use Rattle.std.specs.Prelude.{◌≡◌, [], ◌<◌, length, IsTrue, IfOk, OnOk};
 ghost use Rattle.std.specs.List.{AllByRecursion};
 ghost use Rattle.mcs_trace.specs.Clauses.{IsClause};
 ghost use Rattle.mcs_sat.specs.Flattening.{IsFlat};

@@ -3,7 +3,7 @@
 ghost use Rattle.std.specs.Prelude.{◌≡◌, ◌≢◌, ◌≤◌, ◌<◌, ◌⊎◌, ◌↔◌, ℕ, length, unsigned_abs, IfOk, OnOk};
 ghost use Rattle.std.specs.Bool.{MatchBool};
 ghost use Rattle.mcs_base.specs.Listings.{IsListing};
-ghost use Rattle.mcs_trace.specs.Clauses.{IsClause, IsLiteral, LiteralBefore};
+ghost use Rattle.mcs_trace.specs.Clauses.{IsClause, LiteralBefore};
 ghost use Rattle.mcs_sat.specs.Trails.{AreCovered, ArePlaced, IsTrail, literal_at, reason_at};
 ghost use Rattle.mcs_sat.specs.Marking.{AreFree, IsMarked, IsMarkedChain, IsMarkedWithin, IsMetAt, IsOfMarks, IsTakenOff};
 

@@ -66,7 +66,10 @@ fn is_left(whole: &State, marked: &[bool], index: usize) -> bool
 {
     whole.watches.pairs.get(index).first != 0
         && !whole.clauses.row(index).iter().any(|literal| {
-            marked.get(literal.unsigned_abs() as usize).copied().unwrap_or(false)
+            marked
+                .get(literal.unsigned_abs() as usize)
+                .copied()
+                .unwrap_or(false)
         })
 }
 
@@ -107,9 +110,9 @@ fn explore(alloc: Global, state: &mut State, order: &mut Order) -> Result<(), Me
     requires base { state.old.levels.items ≡ [] }
     ensures later { IsLater state.old state.new }
 {
-    order.begin(&state.trail);
     attach(state)?;
     let mut found = run(state)?;
+    order.begin(&state.trail);
     for _ in 0..MOST_TURNS {
         if found.is_none() && order.is_due() {
             found = begin_anew(state, order)?;

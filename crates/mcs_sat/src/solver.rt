@@ -1,6 +1,6 @@
 //! A clause solver in parts.
 
-ghost use Rattle.std.specs.Prelude.{◌≡◌, [], ◌∷◌, ◌++◌, ◌<◌, ◌≤◌, ◌+◌, ◌^◌, List, ℕ, ℤ, slice_get, neg_ℤ, length, unsigned_abs, IsTrue, ◌↔◌, Some, IfOk, IfSome, OnOk, OnErr, MatchOption};
+ghost use Rattle.std.specs.Prelude.{◌≡◌, [], ◌∷◌, ◌++◌, ◌<◌, ◌≤◌, ◌+◌, List, ℕ, ℤ, slice_get, neg_ℤ, length, unsigned_abs, IsTrue, ◌↔◌, Some, IfOk, IfSome, OnOk, OnErr, MatchOption};
 ghost use Rattle.std.specs.Bool.{MatchBool};
 ghost use Rattle.std.specs.List.{AllByRecursion};
 ghost use Rattle.std.specs.Option.{IfNone, is_some};

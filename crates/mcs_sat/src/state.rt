@@ -1,11 +1,10 @@
 //! What a solver keeps.
 
-ghost use Rattle.std.specs.Prelude.{◌≡◌, ◌≢◌, ℕ, ℤ, ◌+◌, ◌*◌, ◌<◌, ◌≤◌, ◌⊎◌, ◌^◌, ◌++◌, ◌∷◌, [], List, min, length, take, unsigned_abs, slice_get, Some, MatchOption, IfOk, OnOk, OnErr, IfSome};
-ghost use Rattle.std.specs.List.{AllByRecursion};
+ghost use Rattle.std.specs.Prelude.{◌≡◌, ◌+◌, ◌<◌, ◌≤◌, ◌^◌, ◌++◌, ◌∷◌, [], length, unsigned_abs, Some, IfOk, OnOk, OnErr, IfSome};
 ghost use Rattle.mcs_trace.specs.Clauses.{IsClause, IsLiteral};
 ghost use Rattle.mcs_trace.specs.Traces.{IsChainResolvent};
-ghost use Rattle.mcs_sat.specs.Trails.{AreCovered, ArePlaced, IsFalse, StandsNowhere};
-ghost use Rattle.mcs_sat.specs.Watching.{AreKept, ArePair, IsLong, IsPushed};
+ghost use Rattle.mcs_sat.specs.Trails.{ArePlaced, IsFalse, StandsNowhere};
+ghost use Rattle.mcs_sat.specs.Watching.{AreKept, IsPushed};
 ghost use Rattle.mcs_sat.specs.Learning.{IsSingle};
 ghost use Rattle.mcs_sat.specs.States.{IsBack, IsDecided, IsFull, IsLastLevel, IsLearntBack, IsState, IsTurn, IsUnchanged, SameClauses};
 

@@ -1,7 +1,6 @@
 //! Sets of atoms and of defaults, as lines name them.
 
 ghost use Rattle.std.specs.Prelude.{◌≡◌, ◌++◌, map, OnOk};
-ghost use Rattle.mcs_sets.specs.Sets.{members};
 ghost use Rattle.mcs_text.specs.Separated.{braced};
 ghost use Rattle.mcs_spelling.specs.Parts.{atom_text, atoms_text, default_text, defaults_text};
 

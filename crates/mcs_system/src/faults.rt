@@ -1,12 +1,12 @@
 //! The tests by which lists of contexts and bridge rules make a system or not.
 
-ghost use Rattle.std.specs.Prelude.{◌≡◌, ◌&&◌, IfOk, List, not, nat_eq, nat_lt, count_by, length, map, min, slice_get};
+ghost use Rattle.std.specs.Prelude.{◌≡◌, ◌&&◌, IfOk, List, not, nat_eq, nat_lt, count_by, map, min, slice_get};
 ghost use Rattle.std.specs.List.{list_any};
 ghost use Rattle.mcs_system.specs.declared.bridge.Bridge.{Bridge};
 ghost use Rattle.mcs_system.specs.declared.limit.Limit.TheVariants.{RulesPerContext, DefaultsPerContext, ItemsPerContext, FormulaSize};
 ghost use Rattle.mcs_system.specs.Faults.{default_count, exceeds, has_large_formula, has_large_item, has_large_part, has_misfit, has_misfits, has_twins, has_twin_names, has_unjustified, has_unknown_context, is_atom, is_large, is_large_rule, is_program, is_unjustified, points_outside};
 ghost use Rattle.mcs_system.specs.Plain.{Name};
-ghost use Rattle.mcs_system.specs.Seen.{bridge_of, context_of, formula_of, formula_size, item_of, kb_of, read_of, rule_of, system_of};
+ghost use Rattle.mcs_system.specs.Seen.{bridge_of, context_of, formula_of, formula_size, item_of, kb_of, rule_of, system_of};
 
 use crate::bridge::{Bridge, Read};
 use crate::formula::Formula;

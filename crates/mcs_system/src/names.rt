@@ -3,8 +3,8 @@
 
 ghost use Rattle.std.specs.Prelude.{map};
 ghost use Rattle.std.specs.List.{AllByRecursion};
-ghost use Rattle.mcs_system.specs.Seen.{formula_of, default_of, item_of, rule_of, kb_of, context_of, read_of, bridge_of, system_of};
-ghost use Rattle.mcs_system.specs.Naming.{IsName, AreNames, IsNamedFormula, IsNamedDefault, IsNamedItem, IsNamedRule, IsNamedKb, IsNamedContext, AreNamedReads, IsNamedBridge, IsNamed};
+ghost use Rattle.mcs_system.specs.Seen.{formula_of, default_of, item_of, rule_of, context_of, read_of, bridge_of, system_of};
+ghost use Rattle.mcs_system.specs.Naming.{IsName, AreNames, IsNamedFormula, IsNamedDefault, IsNamedItem, IsNamedRule, IsNamedContext, AreNamedReads, IsNamedBridge, IsNamed};
 
 use crate::bridge::{Bridge, Read};
 use crate::formula::Formula;

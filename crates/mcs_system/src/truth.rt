@@ -1,7 +1,6 @@
 //! What a formula says under an assignment of its atoms.
 
 ghost use Rattle.std.specs.Prelude.{◌≡◌, ◌≤◌, length, map};
-ghost use Rattle.std.specs.List.{list_all};
 ghost use Rattle.mcs_system.specs.Logic.{holds, holds_all, true_names};
 ghost use Rattle.mcs_system.specs.Seen.{formula_of};
 ghost use Rattle.mcs_system.specs.Logic.{is_in};

@@ -4,7 +4,7 @@ ghost use Rattle.std.specs.Prelude.{◌≡◌, ◌<◌, ◌≤◌, map, length, 
 ghost use Rattle.std.specs.List.{list_any};
 ghost use Rattle.mcs_system.specs.declared.limit.Limit.TheVariants.{Variables};
 ghost use Rattle.mcs_system.specs.Gathered.{GathersReads, IsDue, reads_in};
-ghost use Rattle.mcs_system.specs.Seen.{read_of, bridge_of, system_of};
+ghost use Rattle.mcs_system.specs.Seen.{read_of, system_of};
 ghost use Rattle.mcs_system.specs.Systems.{same_read, context_variables, variables};
 
 use crate::bridge::{Bridge, Read};

@@ -5,7 +5,7 @@ ghost use Rattle.std.specs.List.{AllByRecursion};
 ghost use Rattle.mcs_base.specs.Listings.{IsAmong, IsListing};
 ghost use Rattle.mcs_base.specs.Partials.{IsPartial};
 ghost use Rattle.mcs_table.specs.RowOrder.{RowBefore, row_cmp};
-ghost use Rattle.mcs_table.specs.Tables.{IsTable, IsRowOn, unit_table};
+ghost use Rattle.mcs_table.specs.Tables.{IsTable, unit_table};
 ghost use Rattle.std.specs.declared.cmp.Ordering.TheVariants.{Less};
 ghost use Rattle.mcs_table.specs.declared.row.Row as declared;
 

@@ -1,6 +1,5 @@
 //! What a token is, by its bytes.
 
-ghost use Rattle.std.specs.Prelude.{◌≡◌};
 ghost use Rattle.mcs_tokens.specs.Kinds.{IsKind};
 
 use crate::sign::Sign;

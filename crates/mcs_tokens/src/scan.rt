@@ -1,6 +1,6 @@
 //! Where the tokens of a text stand.
 
-ghost use Rattle.std.specs.Prelude.{◌≡◌, ◌≢◌, ◌≤◌, ◌<◌, length, List, ℕ, IfOk, IsTrue, take, drop, slice_index, slice_range, All};
+ghost use Rattle.std.specs.Prelude.{◌≡◌, ◌≢◌, ◌≤◌, ◌<◌, length, IfOk, IsTrue, take, drop, slice_index, slice_range, All};
 ghost use Rattle.std.specs.List.{list_all};
 ghost use Rattle.mcs_tokens.specs.Tokens.{IsNext, IsGap, IsGapByte, IsToken, AreTokens, IsSpanOf, is_separator, hash};
 ghost use Rattle.mcs_base.specs.Words.{is_letter, is_word_byte};

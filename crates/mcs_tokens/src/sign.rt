@@ -1,6 +1,6 @@
 //! The signs of a system text.
 
-ghost use Rattle.std.specs.Prelude.{◌≡◌, ◌≤◌, length, List, ℕ, MatchOption, IsTrue, ◌↔◌};
+ghost use Rattle.std.specs.Prelude.{◌≡◌, ◌≤◌, length, MatchOption, IsTrue, ◌↔◌};
 ghost use Rattle.mcs_tokens.specs.Spelling.{sign_bytes};
 ghost use Rattle.mcs_tokens.specs.Tokens.{BeginsWith};
 

@@ -1,6 +1,6 @@
 //! Marks with which a set has no longer a critical edge for each of its marks.
 
-ghost use Rattle.std.specs.Prelude.{◌≡◌, ◌<◌, ◌↔◌, ℕ, IsTrue};
+ghost use Rattle.std.specs.Prelude.{◌<◌, ◌↔◌, IsTrue};
 ghost use Rattle.mcs_sets.specs.Sets.{has, single, union};
 ghost use Rattle.mcs_transversal.specs.Transversals.{IsCritical, AreCommonParts, AreBarred};
 

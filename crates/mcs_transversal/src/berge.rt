@@ -1,6 +1,6 @@
 //! Minimal transversals, edge after edge.
 
-ghost use Rattle.std.specs.Prelude.{◌≡◌, ◌⊎◌, ◌↔◌, ℕ, OnOk, IfOk};
+ghost use Rattle.std.specs.Prelude.{◌⊎◌, ◌↔◌, ℕ, OnOk, IfOk};
 ghost use Rattle.mcs_sets.specs.Orders.{PairBefore};
 ghost use Rattle.mcs_base.specs.Listings.{IsAmong, IsListing};
 ghost use Rattle.mcs_base.specs.Minimal.{IsMinimal};

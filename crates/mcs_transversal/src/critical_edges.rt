@@ -1,7 +1,7 @@
 //! The edges that meet a set in one mark alone.
 
-ghost use Rattle.std.specs.Prelude.{◌≡◌, ◌<◌, ◌⊎◌, ◌↔◌, ℕ, IsTrue, MatchOption, IfSome, length, slice_index_or};
-ghost use Rattle.mcs_sets.specs.Sets.{has, single, common};
+ghost use Rattle.std.specs.Prelude.{◌<◌, ◌⊎◌, ◌↔◌, ℕ, IsTrue, MatchOption, IfSome, length, slice_index_or};
+ghost use Rattle.mcs_sets.specs.Sets.{has};
 ghost use Rattle.mcs_base.specs.Transversals.{MeetAloneAt};
 ghost use Rattle.mcs_transversal.specs.Transversals.{IsCritical, IsFirstCritical, AreFirstCritical};
 

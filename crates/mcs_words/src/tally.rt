@@ -1,6 +1,6 @@
 //! How many words of each sort there are.
 
-ghost use Rattle.std.specs.Prelude.{◌≡◌, ◌+◌, ◌<◌, ◌^◌, ◌↔◌, IsTrue};
+ghost use Rattle.std.specs.Prelude.{◌≡◌, ◌<◌, ◌^◌, ◌↔◌, IsTrue};
 ghost use Rattle.mcs_words.specs.Reading.{total_of, no_tally, more_plain, more_values, more_proofs, IsWholeTally};
 
 use crate::setting::Setting;

@@ -1,14 +1,13 @@
 //! The diagnoses and the explanations of a system, found level by level and printed.
 
-ghost use Rattle.std.specs.Prelude.{◌≡◌, ℕ, ◌≤◌, ◌++◌, List, [], ◌∷◌, false, None, length, IfOk, IfErr, OnOk};
+ghost use Rattle.std.specs.Prelude.{◌≡◌, ℕ, ◌≤◌, List, [], false, None, length, IfOk, IfErr, OnOk};
 ghost use Rattle.std.specs.Arc.{arc_value};
-ghost use Rattle.std.specs.List.{AllByRecursion};
 ghost use Rattle.mcs_ports.specs.Pieces.{appended};
 ghost use Rattle.mcs_sets.specs.Orders.{PairBefore};
 ghost use Rattle.mcs_base.specs.Listings.{IsListing};
 ghost use Rattle.mcs_base.specs.Minimal.{IsMinimal};
 ghost use Rattle.mcs_base.specs.Transversals.{IsTransversalOf};
-ghost use Rattle.mcs_states.specs.Evaluators.{KeepsRest, HasDone};
+ghost use Rattle.mcs_states.specs.Evaluators.{KeepsRest};
 ghost use Rattle.mcs_diagnosis.specs.Courses.{IsPast};
 ghost use Rattle.mcs_diagnosis.specs.Diagnoses.{pairs_of};
 ghost use Rattle.mcs_report.specs.Solutions.{AreEquilibria};

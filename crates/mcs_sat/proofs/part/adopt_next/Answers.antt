@@ -1,4 +1,4 @@
-use Rattle.std.proofs.Common.{◌≡◌, ◌∙◌, ◌++◌, ◌∷◌, [], List, ℕ, ℤ, inr, map, subst, sym, ap, arith, Some, length, slice_get}
+use Rattle.std.proofs.Common.{◌≡◌, ◌∙◌, ◌++◌, ◌∷◌, [], List, ℕ, inr, map, subst, sym, ap, arith, Some, length, slice_get}
 use Rattle.mcs_trace.specs.Traces.{IsChainResolvent}
 use Rattle.mcs_sat.specs.Numbering.{NameBelow, number_now}
 use Rattle.mcs_sat.specs.Stores.{IsLater}

@@ -1,12 +1,11 @@
-use Rattle.std.proofs.Common.{◌∙◌, subst}
+use Rattle.std.proofs.Common.{subst}
 use Rattle.mcs_sat.specs.declared.search.Turn.TheVariants as turn
 use Rattle.mcs_sat.specs.Searches.{IsTurned}
-use Rattle.mcs_sat.proofs.SearchLemmas.{run-is, search-base, search-run}
-use Rattle.mcs_sat.proofs.StoreLemmas.{later-same, later-then}
+use Rattle.mcs_sat.proofs.StoreLemmas.{later-then}
 use Rattle.mcs_sat.proofs.part.explore.Goals as goal
 
 pub returns-in_err-found-2 : goal.returns-in_err-found-2
-returns-in_err-found-2 c = record { later = later-then c.args.state.now c.loop.state c.begin_anew.new.state c.loop.invariant.later c.begin_anew.ensures.later; }
+returns-in_err-found-2 c = record { later = later-then c.args.state.now c.loop.state c.begin_anew.new.state c.loop.invariant.later c.begin_anew.ensures.later }
 
 pub loop-preserved-then-is_due : goal.loop-preserved-then-is_due
 loop-preserved-then-is_due c = record {
@@ -16,10 +15,10 @@ loop-preserved-then-is_due c = record {
 }
 
 pub returns-in_err-next : goal.returns-in_err-next
-returns-in_err-next c = record { later = later-then c.args.state.now c.loop.state c.take_turn.new.state c.loop.invariant.later c.take_turn.ensures.later; }
+returns-in_err-next c = record { later = later-then c.args.state.now c.loop.state c.take_turn.new.state c.loop.invariant.later c.take_turn.ensures.later }
 
 pub returns-in-Satisfied : goal.returns-in-Satisfied
-returns-in-Satisfied c = record { later = later-then c.args.state.now c.loop.state c.take_turn.new.state c.loop.invariant.later c.take_turn.ensures.later; }
+returns-in-Satisfied c = record { later = later-then c.args.state.now c.loop.state c.take_turn.new.state c.loop.invariant.later c.take_turn.ensures.later }
 
 pub loop-preserved : goal.loop-preserved
 loop-preserved c =
