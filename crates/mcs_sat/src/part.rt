@@ -163,6 +163,8 @@ fn adopt(
     requires part { IsPart state.old part.now numbers.old.items }
     ensures later { IsLater state.old state.new }
     ensures base { state.new.levels.items ≡ [] }
+    ensures part { OnOk result (IsPart state.new part.now numbers.new.items) }
+    ensures all { OnOk result (length numbers.new.items ≡ length part.now.clauses) }
 {
     while numbers.len() < part.clauses.len() {
         adopt_next(alloc, state, part, numbers)?;
