@@ -102,43 +102,48 @@ fn clauses_are_satisfied_or_refuted(rt: HostRuntime) -> Result<(), Fail> {
     Ok(())
 }
 
-/// Six pigeons, each of which sits in one of five holes.
-static SEATS: [[i64; 5]; 6] = [
-    [1, 2, 3, 4, 5],
-    [6, 7, 8, 9, 10],
-    [11, 12, 13, 14, 15],
-    [16, 17, 18, 19, 20],
-    [21, 22, 23, 24, 25],
-    [26, 27, 28, 29, 30],
-];
-
-/// Each pigeon sits in a hole.
-fn push_seats(alloc: Global, cnf: &mut Cnf) -> Result<(), Fail> {
-    for seats in &SEATS {
-        push(alloc, cnf, seats)?;
-    }
-    Ok(())
+/// What says that the pigeon sits in the hole.
+fn sits(pigeon: u8, hole: u8, holes: u8) -> i64 {
+    i64::from(pigeon) * i64::from(holes) + i64::from(hole) + 1
 }
 
-/// No two pigeons sit in one hole.
-fn push_apart(alloc: Global, cnf: &mut Cnf) -> Result<(), Fail> {
-    for hole in 0..5 {
-        for second in 0..6 {
-            for first in 0..second {
-                let one = SEATS[first][hole].wrapping_neg();
-                let other = SEATS[second][hole].wrapping_neg();
-                push(alloc, cnf, &[one, other])?;
-            }
+/// The pigeon sits in a hole.
+fn push_seats(alloc: Global, cnf: &mut Cnf, pigeon: u8, holes: u8) -> Result<(), Fail> {
+    let mut seats = Vec::new(alloc);
+    for hole in 0..holes {
+        seats.push(sits(pigeon, hole, holes))?;
+    }
+    push(alloc, cnf, &seats)
+}
+
+/// No two pigeons sit in the hole.
+fn push_apart(alloc: Global, cnf: &mut Cnf, hole: u8, holes: u8) -> Result<(), Fail> {
+    for second in 0..holes.saturating_add(1) {
+        for first in 0..second {
+            let one = sits(first, hole, holes).wrapping_neg();
+            let other = sits(second, hole, holes).wrapping_neg();
+            push(alloc, cnf, &[one, other])?;
         }
     }
     Ok(())
 }
 
-/// Each pigeon sits in a hole, and no two in one.
-fn pigeons(alloc: Global) -> Result<Cnf, Fail> {
-    let mut cnf = Cnf::new(alloc, 30);
-    push_seats(alloc, &mut cnf)?;
-    push_apart(alloc, &mut cnf)?;
+/// Each pigeon, one more than there are holes, sits in a hole.
+fn push_all_seats(alloc: Global, cnf: &mut Cnf, holes: u8) -> Result<(), Fail> {
+    for pigeon in 0..holes.saturating_add(1) {
+        push_seats(alloc, cnf, pigeon, holes)?;
+    }
+    Ok(())
+}
+
+/// One pigeon more than there are holes: each sits in a hole, and no two in one.
+fn pigeons(alloc: Global, holes: u8) -> Result<Cnf, Fail> {
+    let vars = u64::from(holes) * (u64::from(holes) + 1);
+    let mut cnf = Cnf::new(alloc, vars);
+    push_all_seats(alloc, &mut cnf, holes)?;
+    for hole in 0..holes {
+        push_apart(alloc, &mut cnf, hole, holes)?;
+    }
     Ok(cnf)
 }
 
@@ -268,9 +273,30 @@ fn are_refuted_tightly(alloc: Global, cnf: &Cnf) -> Result<bool, Memory> {
 
 #[test]
 fn pigeons_are_refuted_by_each_number_of_the_trace(rt: HostRuntime) -> Result<(), Fail> {
-    let cnf = pigeons(rt.alloc())?;
+    let cnf = pigeons(rt.alloc(), 5)?;
     let told = are_refuted_tightly(rt.alloc(), &cnf);
     drop(cnf);
     assert!(rt; told == Ok(true));
+    Ok(())
+}
+
+/// Whether the clauses are refuted by an accepted trace.
+fn are_refuted(alloc: Global, cnf: &Cnf) -> Result<bool, Memory> {
+    match solve(alloc, cnf)? {
+        Outcome::Refuted(trace) => {
+            let is_right = check(alloc, cnf, &trace);
+            drop(trace);
+            is_right
+        }
+        Outcome::Model(_values) => Ok(false),
+    }
+}
+
+#[test]
+fn nine_pigeons_do_not_fit_into_eight_holes(rt: HostRuntime) -> Result<(), Fail> {
+    let cnf = pigeons(rt.alloc(), 8)?;
+    let are_refuted = are_refuted(rt.alloc(), &cnf);
+    drop(cnf);
+    assert!(rt; are_refuted?);
     Ok(())
 }

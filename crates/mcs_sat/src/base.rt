@@ -11,7 +11,7 @@ use crate::adding::{add, attach, cut, keep, settle_all, widen};
 use crate::flatten::flatten_from;
 use crate::order::Order;
 use crate::outcome::Outcome;
-use crate::part::search_part;
+use crate::part::search_left;
 use crate::solver::run;
 use crate::solving::{assignment_of, go_back, outcome_of};
 use crate::state::State;
@@ -83,9 +83,9 @@ fn learn_beforehand(state: &mut State, order: &mut Order, from: usize) -> Result
     ensures base { state.new.levels.items ≡ [] }
     ensures full { OnOk result (IsFull state.new) }
 {
-    let marked = flatten_from(state, from)?;
-    let searched = search_part(state, order, &marked);
-    drop(marked);
+    let left_out = flatten_from(state, from)?;
+    let searched = search_left(state, order, &left_out);
+    drop(left_out);
     searched?;
     attach(state)?;
     Ok(())

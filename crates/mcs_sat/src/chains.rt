@@ -119,6 +119,12 @@ impl Chains {
         }
     }
 
+    /// Where the last ones of the learnt clauses begin, so many at most.
+    pub fn last_from(&self, most: usize) -> usize {
+        let before = self.learnt.len().saturating_sub(most);
+        self.learnt.get(before).copied().unwrap_or(self.count)
+    }
+
     /// Where the clause stands that was given after so many others.
     pub fn place_of(&self, number: usize) -> usize
         requires { number < given_count self.now }

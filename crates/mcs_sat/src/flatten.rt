@@ -94,7 +94,7 @@ impl Definitions {
 }
 
 /// Marks the number.
-fn mark(marks: &mut Vec<bool>, number: usize) -> Result<(), Memory> {
+pub(crate) fn mark(marks: &mut Vec<bool>, number: usize) -> Result<(), Memory> {
     fill(marks, number, false)?;
     if let Some(here) = marks.get_mut(number) {
         *here = true;
@@ -103,7 +103,7 @@ fn mark(marks: &mut Vec<bool>, number: usize) -> Result<(), Memory> {
 }
 
 /// Whether the number is marked.
-fn is_marked(marks: &[bool], number: usize) -> bool {
+pub(crate) fn is_marked(marks: &[bool], number: usize) -> bool {
     marks.get(number).copied().unwrap_or(false)
 }
 

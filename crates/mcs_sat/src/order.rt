@@ -15,6 +15,12 @@ const MOST_GAIN: u64 = 1 << 60;
 /// After how many conflicts the search begins anew for the first time.
 const FIRST_LIMIT: u64 = 100;
 
+/// After how many conflicts what was learnt long ago is in the way of a search.
+const MANY_CONFLICTS: u64 = 2000;
+
+/// For how many turns a search goes on without that the first time.
+const FIRST_TURNS: usize = 8_000;
+
 /// How much smaller they are made, in bits.
 const SHRINK: u32 = 40;
 
@@ -53,7 +59,9 @@ fn free_literal(trail: &Trail, variable: usize, value: bool) -> Option<i64>
 /// The variables, those that took part in recent conflicts first: a heap of variables, for each variable its place
 /// there, where it is there, its activity and its last value, where it has had one; and how much activity a conflict
 /// adds. The variables from `seen` on were not looked at yet. That a variable is missing in the heap, or stands there
-/// though it has a value, makes no answer wrong; those past four bytes are missing.
+/// though it has a value, makes no answer wrong; those past four bytes are missing. The conflicts since the search began
+/// anew are counted, up to the limit where it does so again, and those of the whole search, with the rounds in which it
+/// left clauses aside.
 #[derive(Drop)]
 pub(crate) struct Order {
     heap: Vec<u32>,
@@ -64,6 +72,8 @@ pub(crate) struct Order {
     gain: u64,
     conflicts: u64,
     limit: u64,
+    total: u64,
+    rounds: usize,
 }
 
 impl Order {
@@ -78,6 +88,8 @@ impl Order {
             gain: 1,
             conflicts: 0,
             limit: FIRST_LIMIT,
+            total: 0,
+            rounds: 0,
         }
     }
 
@@ -244,10 +256,33 @@ impl Order {
     /// Lets what a conflict adds grow, so that older ones count for less.
     pub fn decay(&mut self) {
         self.conflicts = self.conflicts.saturating_add(1);
+        self.total = self.total.saturating_add(1);
         self.gain = self.gain.saturating_add(self.gain / 16 + 1);
         if self.gain >= MOST_GAIN {
             self.shrink();
         }
+    }
+
+    /// Begins to count the conflicts of a search.
+    pub fn count_anew(&mut self) {
+        self.total = 0;
+        self.rounds = 0;
+    }
+
+    /// Whether a search met so many conflicts that what it learnt long ago is in its way.
+    pub fn is_hard(&self) -> bool {
+        self.total >= MANY_CONFLICTS
+    }
+
+    /// For how many turns a search goes on without what it learnt long ago; each time for more.
+    pub fn next_turns(&mut self) -> usize {
+        self.rounds = self.rounds.saturating_add(1);
+        FIRST_TURNS.saturating_add(self.rounds.saturating_mul(FIRST_TURNS / 4))
+    }
+
+    /// Lets the search begin anew at once.
+    pub fn hurry(&mut self) {
+        self.conflicts = self.limit;
     }
 
     /// Whether there were so many conflicts since the search began anew that it should do so again; then it may go

@@ -6,6 +6,7 @@ ghost use Rattle.mcs_sat.specs.States.{IsState};
 ghost use Rattle.mcs_sat.specs.Stores.{IsLater};
 
 use crate::adding::{add, attach, push_unwatched};
+use crate::flatten::{is_marked, mark};
 use crate::order::Order;
 use crate::search::{Turn, begin_anew, take_turn};
 use crate::solver::run;
@@ -14,10 +15,12 @@ use crate::state::State;
 use crate::trace::renumbered;
 use mcs_base::Memory;
 use std::alloc::Global;
-use std::mem;
 
-/// How many turns such a search takes at most.
+/// How many turns a search takes at most before any question.
 const MOST_TURNS: usize = 1 << 16;
+
+/// How many of the clauses that were learnt last are searched with those that were given.
+const MOST_RECENT: usize = 1500;
 
 /// Clauses of a state, over its variables, and the number that each has there.
 #[derive(Drop)]
@@ -59,22 +62,32 @@ fn take_reasons(part: &mut Part, whole: &State) -> Result<(), Memory>
     Ok(())
 }
 
-/// Whether the clause of the index watches something, and none of its variables is one of those that are marked.
-fn is_left(whole: &State, marked: &[bool], index: usize) -> bool
+/// Whether the clause of the index watches something, none of its variables is one of those that are left out, and it
+/// was given, or is one of the recent ones, where such are marked.
+fn is_taken(whole: &State, left_out: &[bool], recent: &[bool], index: usize) -> bool
     requires within { index < length whole.now.clauses }
     requires paired { index < length whole.now.watches.pairs }
+    requires chains { length whole.now.chains ≡ length whole.now.clauses }
 {
-    whole.watches.pairs.get(index).first != 0
-        && !whole.clauses.row(index).iter().any(|literal| {
-            marked
-                .get(literal.unsigned_abs() as usize)
-                .copied()
-                .unwrap_or(false)
-        })
+    if whole.watches.pairs.get(index).first == 0 {
+        return false;
+    }
+    if !recent.is_empty() && !is_marked(recent, index) && !whole.chains.row(index).is_empty() {
+        return false;
+    }
+    !whole.clauses.row(index).iter().any(|literal| is_marked(
+        left_out,
+        literal.unsigned_abs() as usize,
+    ))
 }
 
-/// Takes in the clauses that watch something and have no variable that is marked.
-fn take_left(part: &mut Part, whole: &State, marked: &[bool]) -> Result<(), Memory>
+/// Takes in the clauses that are to be taken, as `is_taken` says.
+fn take_some(
+    part: &mut Part,
+    whole: &State,
+    left_out: &[bool],
+    recent: &[bool],
+) -> Result<(), Memory>
     requires whole { IsState whole.now }
     requires part { IsPart whole.now part.old.state part.old.numbers.items }
     requires all { length part.old.numbers.items ≡ length part.old.state.clauses }
@@ -82,15 +95,15 @@ fn take_left(part: &mut Part, whole: &State, marked: &[bool]) -> Result<(), Memo
     ensures all { OnOk result (length part.new.numbers.items ≡ length part.new.state.clauses) }
 {
     for index in 0..whole.watches.pairs.len() {
-        if is_left(whole, marked, index) {
+        if is_taken(whole, left_out, recent, index) {
             take_in(part, whole, index)?;
         }
     }
     Ok(())
 }
 
-/// The clauses that made literals true, and those that watch something and have no variable that is marked.
-fn part_of(alloc: Global, whole: &State, marked: &[bool]) -> Result<Part, Memory>
+/// The clauses that made literals true, and those that are neither left out nor learnt long ago.
+fn part_of(alloc: Global, whole: &State, left_out: &[bool], recent: &[bool]) -> Result<Part, Memory>
     requires whole { IsState whole.now }
     ensures { IfOk result (λ p. IsPart whole.now p.state p.numbers.items) }
 {
@@ -100,12 +113,17 @@ fn part_of(alloc: Global, whole: &State, marked: &[bool]) -> Result<Part, Memory
         numbers: Vec::new(alloc),
     };
     take_reasons(&mut part, whole)?;
-    take_left(&mut part, whole, marked)?;
+    take_some(&mut part, whole, left_out, recent)?;
     Ok(part)
 }
 
-/// Takes turns, at most so many, from where nothing is decided.
-fn explore(alloc: Global, state: &mut State, order: &mut Order) -> Result<(), Memory>
+/// Takes turns, at most so many, from where nothing is decided; whether the search has ended then.
+fn explore(
+    alloc: Global,
+    state: &mut State,
+    order: &mut Order,
+    turns: usize,
+) -> Result<bool, Memory>
     requires state { IsState state.old }
     requires base { state.old.levels.items ≡ [] }
     ensures later { IsLater state.old state.new }
@@ -113,17 +131,17 @@ fn explore(alloc: Global, state: &mut State, order: &mut Order) -> Result<(), Me
     attach(state)?;
     let mut found = run(state)?;
     order.begin(&state.trail);
-    for _ in 0..MOST_TURNS {
+    for _ in 0..turns {
         if found.is_none() && order.is_due() {
             found = begin_anew(state, order)?;
             continue;
         }
         match take_turn(alloc, state, order, found)? {
             Turn::Goes(next) => found = next,
-            Turn::Satisfied | Turn::Refuted(_) => return Ok(()),
+            Turn::Satisfied | Turn::Refuted(_) => return Ok(true),
         }
     }
-    Ok(())
+    Ok(false)
 }
 
 /// Learns the clause of the part that comes next, by the numbers of those that it is resolved from.
@@ -172,29 +190,76 @@ fn adopt(
     Ok(())
 }
 
-/// Searches, for some turns, the clauses that have no variable that is marked, where nothing is decided, and learns
-/// what is learnt of them; the order is that of this search then, with its last values.
-pub(crate) fn search_part(
+/// Searches some of the clauses for so many turns, where nothing is decided, and learns what is learnt of them; whether
+/// that search has ended. Clauses with a variable that is left out are not among them, nor are learnt ones that are not
+/// recent, where such are marked.
+fn search_part(
     state: &mut State,
     order: &mut Order,
-    marked: &[bool],
+    left_out: &[bool],
+    recent: &[bool],
+    turns: usize,
+) -> Result<bool, Memory>
+    requires state { IsState state.old }
+    requires base { state.old.levels.items ≡ [] }
+    ensures later { IsLater state.old state.new }
+    ensures base { state.new.levels.items ≡ [] }
+{
+    let alloc = *state.levels.allocator();
+    let mut part = part_of(alloc, state, left_out, recent)?;
+    let explored = explore(alloc, &mut part.state, order, turns);
+    go_back(&mut part.state, order);
+    match explored {
+        Ok(ended) => {
+            adopt(alloc, state, &part.state, &mut part.numbers)?;
+            Ok(ended)
+        }
+        Err(error) => Err(error),
+    }
+}
+
+/// Searches the clauses that have no variable that is left out, where there is such a variable, before any question, and
+/// learns what is learnt of them.
+pub(crate) fn search_left(
+    state: &mut State,
+    order: &mut Order,
+    left_out: &[bool],
 ) -> Result<(), Memory>
     requires state { IsState state.old }
     requires base { state.old.levels.items ≡ [] }
     ensures later { IsLater state.old state.new }
     ensures base { state.new.levels.items ≡ [] }
 {
-    if marked.is_empty() {
-        return Ok(());
+    if !left_out.is_empty() {
+        search_part(state, order, left_out, &[], MOST_TURNS)?;
     }
+    Ok(())
+}
+
+/// Marks the last ones of the clauses that were learnt, so many at most, and those that they were resolved from.
+fn recent_of(alloc: Global, state: &State, most: usize) -> Result<Vec<bool>, Memory> {
+    let mut marks = Vec::new(alloc);
+    for index in state.chains.last_from(most)..state.chains.len() {
+        mark(&mut marks, index)?;
+        for number in state.chains.row(index) {
+            mark(&mut marks, number.saturating_sub(1) as usize)?;
+        }
+    }
+    Ok(marks)
+}
+
+/// Searches the clauses that were given, with those that were learnt of late, for some turns, where nothing is decided,
+/// and learns what is learnt of them; whether that search has ended.
+pub(crate) fn search_recent(state: &mut State, order: &mut Order) -> Result<bool, Memory>
+    requires state { IsState state.old }
+    requires base { state.old.levels.items ≡ [] }
+    ensures later { IsLater state.old state.new }
+    ensures base { state.new.levels.items ≡ [] }
+{
     let alloc = *state.levels.allocator();
-    let mut part = part_of(alloc, state, marked)?;
-    let mut own = Order::new(alloc);
-    let explored = explore(alloc, &mut part.state, &mut own);
-    go_back(&mut part.state, &mut own);
-    mem::swap(order, &mut own);
-    match explored {
-        Ok(()) => adopt(alloc, state, &part.state, &mut part.numbers),
-        Err(error) => Err(error),
-    }
+    let recent = recent_of(alloc, state, MOST_RECENT)?;
+    let turns = order.next_turns();
+    let ended = search_part(state, order, &[], &recent, turns);
+    drop(recent);
+    ended
 }

@@ -12,6 +12,7 @@ use crate::adding::attach;
 use crate::analyse::analyse;
 use crate::latest::latest_of;
 use crate::order::Order;
+use crate::part::search_recent;
 use crate::solver::run;
 use crate::state::{State, back, decide, learn, turn_of};
 use mcs_base::Memory;
@@ -125,6 +126,29 @@ pub(crate) fn begin_anew(state: &mut State, order: &mut Order) -> Result<Option<
     Ok(found)
 }
 
+/// Begins anew as `begin_anew` does. Where many conflicts were met, the clauses that were learnt long ago are left
+/// aside before, for a search of its own, and what this learns is learnt.
+fn renew(state: &mut State, order: &mut Order) -> Result<Option<usize>, Memory>
+    requires { IsSearch state.old }
+    ensures later { IsLater state.old state.new }
+    ensures kept { OnOk result (IsSearch state.new) }
+    ensures run { IfOk result (IsRun state.new) }
+{
+    if !order.is_hard() {
+        return begin_anew(state, order);
+    }
+    release_decided(state, order);
+    back(state, 0);
+    if search_recent(state, order)? {
+        order.begin(&state.trail);
+    } else {
+        order.hurry();
+    }
+    attach(state)?;
+    let found = run(state)?;
+    Ok(found)
+}
+
 /// Turns back from a clause that is false, or chooses.
 pub(crate) fn take_turn(
     alloc: Global,
@@ -160,11 +184,12 @@ pub(crate) fn search(
     attach(state)?;
     let mut found = run(state)?;
     order.begin(&state.trail);
+    order.count_anew();
     let mut left = MOST_BEGINNINGS;
     loop {
         if left > 0 && found.is_none() && order.is_due() {
             left -= 1;
-            found = begin_anew(state, order)?;
+            found = renew(state, order)?;
             continue;
         }
         match take_turn(alloc, state, order, found)? {

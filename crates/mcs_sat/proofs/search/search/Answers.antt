@@ -22,17 +22,17 @@ pub loop-left-smaller-then-is_due : goal.loop-left-smaller-then-is_due
 loop-left-smaller-then-is_due c =
     let s = c.loop-left.state in
     let n : ℕ = length s.trail.positions.items in
-    let es = c.begin_anew.new.state.trail.entries.items in
+    let es = c.renew.new.state.trail.entries.items in
     let left : ℕ = c.loop-left.left in
-    subst (λ (m : ℕ). (left - 1) * 3 ^ m + work_left m es < left * 3 ^ n + work_of s) (sym c.begin_anew.ensures.later.positions)
+    subst (λ (m : ℕ). (left - 1) * 3 ^ m + work_left m es < left * 3 ^ n + work_of s) (sym c.renew.ensures.later.positions)
     (rounds_fall left (work_of s) (work_left n es) (3 ^ n) (let some = c.if-left-gt0.true in omega arith) (work_left-bound n es))
 
 pub returns-in_err-found-2-clause-later : goal.returns-in_err-found-2-clause-later
-returns-in_err-found-2-clause-later c = later-then c.args.state.now c.loop-left.state c.begin_anew.new.state c.loop-left.invariant.later c.begin_anew.ensures.later
+returns-in_err-found-2-clause-later c = later-then c.args.state.now c.loop-left.state c.renew.new.state c.loop-left.invariant.later c.renew.ensures.later
 
 pub loop-left-preserved-then-is_due : goal.loop-left-preserved-then-is_due
 loop-left-preserved-then-is_due c = record {
-  later = later-then c.args.state.now c.loop-left.state c.begin_anew.new.state c.loop-left.invariant.later c.begin_anew.ensures.later;
+  later = later-then c.args.state.now c.loop-left.state c.renew.new.state c.loop-left.invariant.later c.renew.ensures.later;
   kept = c.in_ok-found-2.ensures.kept;
   run = c.in_ok-found-2.ensures.run;
 }

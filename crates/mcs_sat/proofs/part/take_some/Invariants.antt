@@ -1,6 +1,6 @@
 use Rattle.std.proofs.Common.{◌≡◌, length}
 use Rattle.mcs_sat.specs.Parts.{IsPart}
-use Rattle.mcs_sat.proofs.part.take_left.Given as goal
+use Rattle.mcs_sat.proofs.part.take_some.Given as goal
 
 abbrev pub invariant-loop-index : goal.invariant-loop-index
 invariant-loop-index l = record {
