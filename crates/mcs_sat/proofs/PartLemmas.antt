@@ -8,7 +8,7 @@ use Rattle.mcs_base.proofs.Lists.{map_slice_get, slice_get_push_at, slice_get_se
 use Rattle.mcs_trace.specs.Traces.{Inference, IsChainResolvent, numbered}
 use Rattle.mcs_sat.specs.declared.state.State.{State}
 use Rattle.mcs_sat.specs.Numbering.{NameBelow, number_now}
-use Rattle.mcs_sat.specs.Parts.{IsPart}
+use Rattle.mcs_sat.specs.Parts.{IsGathered, IsPart}
 use Rattle.mcs_sat.specs.States.{IsState, SameRoom}
 use Rattle.mcs_sat.specs.Stores.{IsLater}
 use Rattle.mcs_sat.specs.Trails.{AreCovered}
@@ -19,27 +19,30 @@ numbered-next : (known : List (List ℤ)) (i : ℕ) → numbered known (i + 1) �
 numbered-next known i = let next : i + 1 ≡ suc i = omega arith in ap (numbered known) next
 
 -- ---- a clause is taken in
-pub part-taken : (whole old new : State) (ns ms : List ℕ) (i : ℕ) (c : List ℤ) → IsPart whole old ns → length ns ≡ length old.clauses → IsState new → new.levels.items ≡ [] → SameRoom old new
-    → new.clauses ≡ old.clauses ++ c ∷ [] → slice_get whole.clauses i ≡ Some c → ms ≡ ns ++ (i + 1) ∷ [] → IsPart whole new ms
-part-taken whole old new ns ms i c is all kept base room clauses here numbers = record {
-  state = kept;
-  base = base;
-  positions = room ∙ is.positions;
-  sized = omega (arith, size, ap length numbers, length_push ns (i + 1));
-  numbered = λ j d less at. elim (slice_get_push_at old.clauses c j d (subst (λ (cs : List (List ℤ)). slice_get cs j ≡ Some d) clauses at)) [
-    | inl before ↦
-        let within = slice_get_within old.clauses j d before in
-        let same : get_or ms j 0 ≡ get_or ns j 0 = ap (λ (xs : List ℕ). get_or xs j 0) numbers ∙ get_or_append_left ns ((i + 1) ∷ []) 0 j (omega arith) in
-        ap (numbered whole.clauses) same ∙ is.numbered j d (omega arith) before
-    | inr (last, e) ↦
-        let same : get_or ms j 0 ≡ i + 1 = ap (λ (xs : List ℕ). get_or xs j 0) numbers ∙ get_or_push ns (i + 1) 0 j (all ∙ sym last) in
-        ap (numbered whole.clauses) same ∙ numbered-next whole.clauses i ∙ here ∙ ap Some (sym e)
-  ];
-  learnt = λ j past none. let less = slice_get_within new.chains j [] none in omega (arith, kept.chains.sized, size, ap length numbers, length_push ns (i + 1));
+pub gathered-more : (whole old new : State) (ns ms : List ℕ) (i : ℕ) (c : List ℤ) → IsGathered whole old ns → IsState new → new.levels.items ≡ [] → SameRoom old new
+    → new.clauses ≡ old.clauses ++ c ∷ [] → slice_get whole.clauses i ≡ Some c → ms ≡ ns ++ (i + 1) ∷ [] → IsGathered whole new ms
+gathered-more whole old new ns ms i c is kept base room clauses here numbers = record {
+  taken = record {
+    state = kept;
+    base = base;
+    positions = room ∙ is.taken.positions;
+    sized = (let all = sizes in omega arith);
+    numbered = λ j d less at. elim (slice_get_push_at old.clauses c j d (subst (λ (cs : List (List ℤ)). slice_get cs j ≡ Some d) clauses at)) [
+      | inl before ↦
+          let within = slice_get_within old.clauses j d before in
+          let same : get_or ms j 0 ≡ get_or ns j 0 = ap (λ (xs : List ℕ). get_or xs j 0) numbers ∙ get_or_append_left ns ((i + 1) ∷ []) 0 j (omega (arith, is.all)) in
+          ap (numbered whole.clauses) same ∙ is.taken.numbered j d (omega (arith, is.all)) before
+      | inr (last, e) ↦
+          let same : get_or ms j 0 ≡ i + 1 = ap (λ (xs : List ℕ). get_or xs j 0) numbers ∙ get_or_push ns (i + 1) 0 j (is.all ∙ sym last) in
+          ap (numbered whole.clauses) same ∙ numbered-next whole.clauses i ∙ here ∙ ap Some (sym e)
+    ];
+    learnt = λ j past none. let all = sizes in let less = slice_get_within new.chains j [] none in omega (arith, kept.chains.sized);
+  };
+  all = sizes;
 }
   where
-    size : length new.clauses ≡ length old.clauses + 1
-    size = ap length clauses ∙ length_push old.clauses c
+    sizes : length ms ≡ length new.clauses
+    sizes = omega (arith, is.all, ap length numbers, length_push ns (i + 1), ap length clauses, length_push old.clauses c)
 
 -- ---- more was learnt
 pub part-later : (whole old new : State) (ns : List ℕ) → IsPart whole old ns → IsLater old new → new.levels.items ≡ [] → IsPart whole new ns

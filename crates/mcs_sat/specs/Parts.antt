@@ -16,3 +16,8 @@ pub record IsPart (whole part : State) (numbers : List ℕ) : Type 0 where
   pub sized : length numbers ≤ length part.clauses
   pub numbered : AreNumbered part.clauses numbers whole.clauses
   pub learnt : (i : ℕ) → length numbers ≤ i → slice_get part.chains i ≢ Some []
+
+-- a part that has learnt nothing: each of its clauses has its number
+pub record IsGathered (whole part : State) (numbers : List ℕ) : Type 0 where
+  pub taken : IsPart whole part numbers
+  pub all : length numbers ≡ length part.clauses

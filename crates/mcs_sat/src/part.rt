@@ -1,7 +1,7 @@
 //! A search over some of the clauses, whose learnt clauses are taken over.
 
 ghost use Rattle.std.specs.Prelude.{◌≡◌, [], ◌+◌, ◌<◌, length, IfOk, OnOk};
-ghost use Rattle.mcs_sat.specs.Parts.{IsPart};
+ghost use Rattle.mcs_sat.specs.Parts.{IsGathered, IsPart};
 ghost use Rattle.mcs_sat.specs.States.{IsState};
 ghost use Rattle.mcs_sat.specs.Stores.{IsLater};
 
@@ -32,11 +32,9 @@ pub(crate) struct Part {
 /// Takes in the clause of the index.
 fn take_in(part: &mut Part, whole: &State, index: usize) -> Result<(), Memory>
     requires whole { IsState whole.now }
-    requires part { IsPart whole.now part.old.state part.old.numbers.items }
-    requires all { length part.old.numbers.items ≡ length part.old.state.clauses }
+    requires gathered { IsGathered whole.now part.old.state part.old.numbers.items }
     requires within { index < length whole.now.clauses }
-    ensures part { OnOk result (IsPart whole.now part.new.state part.new.numbers.items) }
-    ensures all { OnOk result (length part.new.numbers.items ≡ length part.new.state.clauses) }
+    ensures gathered { OnOk result (IsGathered whole.now part.new.state part.new.numbers.items) }
 {
     prove!(index < whole.clauses.len());
     add(&mut part.state, whole.clauses.row(index))?;
@@ -47,10 +45,8 @@ fn take_in(part: &mut Part, whole: &State, index: usize) -> Result<(), Memory>
 /// Takes in the clauses that made literals true.
 fn take_reasons(part: &mut Part, whole: &State) -> Result<(), Memory>
     requires whole { IsState whole.now }
-    requires part { IsPart whole.now part.old.state part.old.numbers.items }
-    requires all { length part.old.numbers.items ≡ length part.old.state.clauses }
-    ensures part { OnOk result (IsPart whole.now part.new.state part.new.numbers.items) }
-    ensures all { OnOk result (length part.new.numbers.items ≡ length part.new.state.clauses) }
+    requires gathered { IsGathered whole.now part.old.state part.old.numbers.items }
+    ensures gathered { OnOk result (IsGathered whole.now part.new.state part.new.numbers.items) }
 {
     for entry in &whole.trail.entries {
         if let Some(index) = entry.reason.checked_sub(1)
@@ -89,10 +85,8 @@ fn take_some(
     recent: &[bool],
 ) -> Result<(), Memory>
     requires whole { IsState whole.now }
-    requires part { IsPart whole.now part.old.state part.old.numbers.items }
-    requires all { length part.old.numbers.items ≡ length part.old.state.clauses }
-    ensures part { OnOk result (IsPart whole.now part.new.state part.new.numbers.items) }
-    ensures all { OnOk result (length part.new.numbers.items ≡ length part.new.state.clauses) }
+    requires gathered { IsGathered whole.now part.old.state part.old.numbers.items }
+    ensures gathered { OnOk result (IsGathered whole.now part.new.state part.new.numbers.items) }
 {
     for index in 0..whole.watches.pairs.len() {
         if is_taken(whole, left_out, recent, index) {
@@ -105,7 +99,7 @@ fn take_some(
 /// The clauses that made literals true, and those that are neither left out nor learnt long ago.
 fn part_of(alloc: Global, whole: &State, left_out: &[bool], recent: &[bool]) -> Result<Part, Memory>
     requires whole { IsState whole.now }
-    ensures { IfOk result (λ p. IsPart whole.now p.state p.numbers.items) }
+    ensures { IfOk result (λ p. IsGathered whole.now p.state p.numbers.items) }
 {
     let vars = whole.trail.positions.len() as u64 - 1;
     let mut part = Part {
