@@ -9,9 +9,10 @@ ghost use Rattle.mcs_evidence.specs.Defaults.{AreOverItems, IsAcceptedDefault, f
 ghost use Rattle.mcs_evidence.specs.Theories.{AreOverDefaults};
 
 use crate::premises::clauses_of;
-use crate::theory::{defaults_of, facts_with};
+use crate::theory::facts_with;
 use crate::verdict::{Judged, judge};
 use mcs_base::{Memory, Vars, list_states};
+use mcs_evidence::defaults_of;
 use mcs_system::{Default, Formula, Name, TheoryItem};
 use mcs_trace::{Cnf, DefaultCert, SetCert};
 use std::alloc::Global;

@@ -9,7 +9,6 @@ mod certificate;
 mod classical;
 mod default;
 mod entailment;
-mod facts;
 mod laws;
 mod oracle;
 mod order;

@@ -16,10 +16,9 @@ ghost use Rattle.mcs_evidence.specs.Pushing.{AreNamesOf};
 ghost use Rattle.mcs_certificate.specs.Models.{AreModelsShown};
 
 use crate::entailment::is_in_range;
-use crate::facts::{names_of, with_heads};
 use mcs_base::{Memory, Vars, state_before};
 use mcs_evidence::{rest_clauses, smaller_clauses};
-use mcs_system::{Formula, Name, ProgRule};
+use mcs_system::{Formula, Name, ProgRule, names_of, with_heads};
 use mcs_trace::{AnswerSetCert, ProgramCert, Trace, check};
 use std::alloc::Global;
 

@@ -1,27 +1,14 @@
-//! The facts and the defaults of a theory, and the defaults of a set.
+//! The facts of a theory, and the defaults of a set.
 
 ghost use Rattle.std.specs.Prelude.{◌≡◌, ◌≤◌, ◌++◌, length, map, IfOk};
 ghost use Rattle.mcs_system.specs.Plain.{Not};
 ghost use Rattle.mcs_system.specs.Seen.{formula_of, default_of, item_of};
-ghost use Rattle.mcs_evidence.specs.Defaults.{facts_of, defaults_of, defaults_at, negated_justs};
+ghost use Rattle.mcs_evidence.specs.Defaults.{facts_of, defaults_at, negated_justs};
 ghost use Rattle.mcs_system.specs.Plain as plain;
 
 use mcs_base::{Memory, Vars};
 use mcs_system::{Default, Formula, TheoryItem};
 use std::alloc::Global;
-
-/// The defaults of the items, in their order.
-pub(crate) fn defaults_of(alloc: Global, items: &[TheoryItem]) -> Result<Vec<&Default>, Memory>
-    ensures { IfOk result (λ ds. map (λ d. default_of d.now) ds.items ≡ defaults_of (map item_of items.now)) }
-{
-    let mut defaults = Vec::new(alloc);
-    for item in items {
-        if let TheoryItem::Rule(default) = item {
-            defaults.push(default)?;
-        }
-    }
-    Ok(defaults)
-}
 
 /// The facts of the items, in their order.
 fn facts_of(alloc: Global, items: &[TheoryItem]) -> Result<Vec<&Formula>, Memory>

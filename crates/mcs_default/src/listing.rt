@@ -16,9 +16,10 @@ ghost use Rattle.mcs_evidence.specs.Theories.{AreOverDefaults};
 
 use crate::findings::Findings;
 use crate::search::add_views;
-use crate::theory::{defaults_of, facts};
+use crate::theory::facts;
 use crate::verdict::judge;
 use mcs_base::{Memory, Vars, list_states};
+use mcs_evidence::defaults_of;
 use mcs_system::{Default, Formula, Name, TheoryItem};
 use mcs_trace::{Cnf, DefaultCert};
 use std::alloc::Global;

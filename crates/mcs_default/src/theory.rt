@@ -1,9 +1,9 @@
-//! The facts and the defaults of a theory.
+//! The facts of a theory, and the conclusions of its defaults.
 
 ghost use Rattle.std.specs.Prelude.{◌≡◌, ◌≤◌, ◌++◌, length, map, IfOk, OnOk};
 ghost use Rattle.mcs_system.specs.Seen.{formula_of, default_of, item_of};
 ghost use Rattle.mcs_cnf.specs.ClauseLists.{with_formulas, clause_list, AreOver};
-ghost use Rattle.mcs_evidence.specs.Defaults.{AreOverItems, facts_of, defaults_of};
+ghost use Rattle.mcs_evidence.specs.Defaults.{AreOverItems, facts_of};
 ghost use Rattle.mcs_default.specs.Theories.{consequents};
 ghost use Rattle.mcs_evidence.specs.Theories.{AreOverDefaults};
 
@@ -12,19 +12,6 @@ use mcs_cnf::{push_all, push_formula};
 use mcs_system::{Default, Formula, Name, TheoryItem};
 use mcs_trace::Cnf;
 use std::alloc::Global;
-
-/// The defaults of the items, in their order.
-pub(crate) fn defaults_of(alloc: Global, items: &[TheoryItem]) -> Result<Vec<&Default>, Memory>
-    ensures { IfOk result (λ ds. map (λ d. default_of d.now) ds.items ≡ defaults_of (map item_of items.now)) }
-{
-    let mut defaults = Vec::new(alloc);
-    for item in items {
-        if let TheoryItem::Rule(default) = item {
-            defaults.push(default)?;
-        }
-    }
-    Ok(defaults)
-}
 
 /// Adds the clauses of the facts among the items.
 fn push_facts(

@@ -3,7 +3,6 @@
 
 mod answer;
 mod atom_clauses;
-mod facts;
 mod outputs;
 mod placing;
 mod search;

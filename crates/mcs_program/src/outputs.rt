@@ -15,12 +15,11 @@ ghost use Rattle.mcs_evidence.specs.Programs.{program_shown_of, rest_formulas, A
 ghost use Rattle.mcs_evidence.specs.Pushing.{AreNamesOf};
 ghost use Rattle.mcs_program.specs.Searches.{IsSearch, IsExhausted};
 
-use crate::facts::with_facts;
 use crate::search::{Search, find_all};
 use mcs_base::{Memory, Vars};
 use mcs_classical::{Satisfied, satisfy_from};
 use mcs_evidence::rest_clauses;
-use mcs_system::{Name, ProgRule};
+use mcs_system::{Name, ProgRule, with_facts};
 use mcs_trace::{ProgramCert, Trace};
 use std::alloc::Global;
 

@@ -6,7 +6,7 @@ ghost use Rattle.mcs_sets.specs.Orders.{StateBefore};
 ghost use Rattle.mcs_base.specs.Listings.{IsListing};
 ghost use Rattle.mcs_system.specs.Faults.{has_twins, is_atom, default_count};
 ghost use Rattle.mcs_system.specs.Logic.{with_heads};
-ghost use Rattle.mcs_system.specs.Plain.{Atom, Classical, DefaultTheory, Program};
+ghost use Rattle.mcs_system.specs.Plain.{Classical, DefaultTheory, Program};
 ghost use Rattle.mcs_system.specs.Seen.{formula_of, item_of, rule_of, kb_of};
 ghost use Rattle.mcs_system.specs.Views.{IsAcceptedView};
 ghost use Rattle.mcs_cnf.specs.Classical.{certificate_of};
@@ -26,7 +26,7 @@ use mcs_cnf::push_formula;
 use mcs_default::{extensions_from, list_extensions};
 use mcs_program::{answer_sets_from, list_answer_sets};
 use mcs_sat::ClauseBase;
-use mcs_system::{Formula, Kb, Name, ProgRule, TheoryItem};
+use mcs_system::{Formula, Kb, Name, ProgRule, TheoryItem, names_of};
 use mcs_trace::{ClassicalCert, Cnf};
 use std::alloc::Global;
 
@@ -218,29 +218,6 @@ fn theory_views(
         let views = list_extensions(alloc, items, heads, beliefs, atoms)?;
         Ok((views, None))
     }
-}
-
-/// The name of a formula that is an atom.
-fn name_of(formula: &Formula) -> &Name
-    requires { IsTrue (is_atom (formula_of formula.now)) }
-    ensures { Atom result.now ≡ formula_of formula.now }
-{
-    match formula {
-        Formula::Atom(name) => name,
-        _ => unreachable!(),
-    }
-}
-
-/// The names of formulas that are atoms.
-fn names_of<'f>(alloc: Global, formulas: &[&'f Formula]) -> Result<Vec<&'f Name>, Memory>
-    requires { AllByRecursion (λ f. IsTrue (is_atom (formula_of f.now))) formulas.now }
-    ensures { IfOk result (λ names. map Atom (map (λ n. n.now) names.items) ≡ map (λ f. formula_of f.now) formulas.now) }
-{
-    let mut names = Vec::new(alloc);
-    for formula in formulas {
-        names.push(name_of(formula))?;
-    }
-    Ok(names)
 }
 
 /// What a program accepts with the heads, which are atoms, as the beliefs are: the views of its answer sets, with a

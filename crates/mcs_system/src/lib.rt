@@ -1,10 +1,12 @@
 //! Multi-context systems: their data, and what it means.
 #![tactic(auto)]
 
+mod atomic;
 mod atoms;
 mod bridge;
 mod build;
 mod copied;
+mod facts;
 mod fault;
 mod faults;
 mod formula;
@@ -18,7 +20,9 @@ mod system;
 mod truth;
 mod variables;
 
+pub use atomic::names_of;
 pub use bridge::{Bridge, Read};
+pub use facts::{with_facts, with_heads};
 pub use fault::BuildFault;
 pub use formula::Formula;
 pub use knowledge::{Context, Default, Kb, ProgRule, TheoryItem};

@@ -4,10 +4,12 @@ ghost use Rattle.std.specs.Prelude.{◌≡◌, ◌++◌, [], ◌∷◌, map, IfO
 ghost use Rattle.std.specs.List.{filter_map};
 ghost use Rattle.mcs_system.specs.Plain as plain;
 ghost use Rattle.mcs_system.specs.Logic.{fact_of};
-ghost use Rattle.mcs_system.specs.Seen.{rule_of};
+ghost use Rattle.mcs_system.specs.Seen.{formula_of, rule_of};
 
+use crate::formula::Formula;
+use crate::knowledge::ProgRule;
+use crate::name::Name;
 use mcs_base::Memory;
-use mcs_system::{Name, ProgRule};
 use std::alloc::Global;
 
 /// The rule whose one head is the atom, with an empty body.
@@ -35,7 +37,7 @@ fn copies(alloc: Global, rules: &[ProgRule]) -> Result<Vec<ProgRule>, Memory>
 }
 
 /// The rules, and after them each of the names as a fact.
-pub(crate) fn with_facts(
+pub fn with_facts(
     alloc: Global,
     rules: &[ProgRule],
     added: &[&Name],
@@ -45,6 +47,23 @@ pub(crate) fn with_facts(
     let mut all = copies(alloc, rules)?;
     for name in added {
         all.push(fact(alloc, name)?)?;
+    }
+    Ok(all)
+}
+
+/// The rules, and after them each of the heads that is an atom as a fact.
+pub fn with_heads(
+    alloc: Global,
+    rules: &[ProgRule],
+    heads: &[&Formula],
+) -> Result<Vec<ProgRule>, Memory>
+    ensures { IfOk result (λ all. map rule_of all.items ≡ map rule_of rules.now ++ filter_map fact_of (map (λ f. formula_of f.now) heads.now)) }
+{
+    let mut all = copies(alloc, rules)?;
+    for head in heads {
+        if let Formula::Atom(name) = *head {
+            all.push(fact(alloc, name)?)?;
+        }
     }
     Ok(all)
 }
