@@ -19,7 +19,7 @@ const FIRST_LIMIT: u64 = 100;
 const MANY_CONFLICTS: u64 = 2000;
 
 /// For how many turns a search goes on without that the first time.
-const FIRST_TURNS: usize = 8_000;
+const FIRST_TURNS: usize = 5_000;
 
 /// How much smaller they are made, in bits.
 const SHRINK: u32 = 40;

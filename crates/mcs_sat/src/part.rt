@@ -19,8 +19,11 @@ use std::alloc::Global;
 /// How many turns a search takes at most before any question.
 const MOST_TURNS: usize = 1 << 16;
 
+/// Of how many literals a learnt clause is at most that is never left aside.
+const FEW_LITERALS: usize = 6;
+
 /// How many of the clauses that were learnt last are searched with those that were given.
-const MOST_RECENT: usize = 1500;
+const MOST_RECENT: usize = 1000;
 
 /// Clauses of a state, over its variables, and the number that each has there.
 #[derive(Drop)]
@@ -59,7 +62,7 @@ fn take_reasons(part: &mut Part, whole: &State) -> Result<(), Memory>
 }
 
 /// Whether the clause of the index watches something, none of its variables is one of those that are left out, and it
-/// was given, or is one of the recent ones, where such are marked.
+/// was given, has few literals, or is one of the recent ones, where such are marked.
 fn is_taken(whole: &State, left_out: &[bool], recent: &[bool], index: usize) -> bool
     requires within { index < length whole.now.clauses }
     requires paired { index < length whole.now.watches.pairs }
@@ -68,13 +71,12 @@ fn is_taken(whole: &State, left_out: &[bool], recent: &[bool], index: usize) -> 
     if whole.watches.pairs.get(index).first == 0 {
         return false;
     }
-    if !recent.is_empty() && !is_marked(recent, index) && !whole.chains.row(index).is_empty() {
+    let literals = whole.clauses.row(index);
+    let is_old = !recent.is_empty() && !is_marked(recent, index);
+    if is_old && literals.len() > FEW_LITERALS && !whole.chains.row(index).is_empty() {
         return false;
     }
-    !whole.clauses.row(index).iter().any(|literal| is_marked(
-        left_out,
-        literal.unsigned_abs() as usize,
-    ))
+    !literals.iter().any(|literal| is_marked(left_out, literal.unsigned_abs() as usize))
 }
 
 /// Takes in the clauses that are to be taken, as `is_taken` says.
