@@ -223,7 +223,8 @@ impl ClauseBase {
     }
 
     /// Makes true what follows from the clauses without any decision, which the searches to come then begin with, also
-    /// where clauses that are added later are cut. The list stays as it is.
+    /// where clauses that are added later are cut, and learns of the clauses what a bounded search finds. It is worth
+    /// its time where many questions follow. The list stays as it is.
     pub fn settle(&mut self) -> Result<(), Memory>
         ensures { self.new ≡ self.old }
     {
