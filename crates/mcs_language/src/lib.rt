@@ -4,11 +4,13 @@
 mod laws;
 mod numbers;
 mod reading;
+mod writing;
 
 pub use laws::{
     spelled_defaults_are_short, spelled_texts_have_no_fault, texts_are_unambiguous,
     texts_have_one_fault,
 };
 pub use mcs_faults::TextFault;
-pub use mcs_writer::{push_read, write_system};
+pub use mcs_writer::push_read;
 pub use reading::read_system;
+pub use writing::write_system;

@@ -5,4 +5,3 @@ pub mod CanonicalSays
 pub mod SpelledFormulas
 pub mod SpelledContexts
 pub mod SpelledBridges
-pub mod CanonicalReads

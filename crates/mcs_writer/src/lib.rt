@@ -4,4 +4,4 @@
 mod item_writer;
 mod writer;
 
-pub use writer::{push_read, write_system};
+pub use writer::{push_read, push_system};

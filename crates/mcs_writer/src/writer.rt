@@ -7,7 +7,6 @@ ghost use Rattle.mcs_system.specs.Plain as plain;
 ghost use Rattle.mcs_system.specs.Seen.{formula_of, item_of, rule_of, kb_of, context_of, read_of, bridge_of};
 ghost use Rattle.mcs_system.specs.Texts.{belief_text};
 ghost use Rattle.mcs_writer.specs.Canonical.{formula_text, theory_item_text, listed, program_rule_text, kind_word, item_line, items_text, context_text, if_word, bridge_text, canonical_text};
-ghost use Rattle.mcs_grammar.specs.Texts.{Spells};
 
 use crate::item_writer::{push_formula, push_primary, push_program_rule, push_theory_item};
 use mcs_base::{Memory, Text};
@@ -184,21 +183,11 @@ fn push_bridges(text: &mut Text, system: &System) -> Result<(), Memory>
     Ok(())
 }
 
-/// The canonical text of the system spells it.
-fn canonical_text_spells(system: &System)
-    ensures { Spells (canonical_text system.now) system.now }
-{
-    let _contexts = system.contexts();
-}
-
-/// Appends the canonical text of a system. It spells the system, so that who reads it has the same again. Without
-/// the memory for all of it `out` stays as it was.
-pub fn write_system(system: &System, out: &mut Text) -> Result<(), Memory>
+/// Appends the canonical text of a system. Without the memory for all of it `out` stays as it was.
+pub fn push_system(out: &mut Text, system: &System) -> Result<(), Memory>
     ensures text { OnOk result (out.new ≡ out.old ++ canonical_text system.now) }
     ensures unchanged { OnErr result (out.new ≡ out.old) }
-    ensures reads_back { Spells (canonical_text system.now) system.now }
 {
-    canonical_text_spells(system);
     let mut text = out.empty_like();
     push_contexts(&mut text, system)?;
     push_bridges(&mut text, system)?;
