@@ -11,6 +11,5 @@ pub use laws::{
     texts_have_one_fault,
 };
 pub use mcs_faults::TextFault;
-pub use mcs_writer::push_read;
 pub use reading::read_system;
 pub use writing::write_system;

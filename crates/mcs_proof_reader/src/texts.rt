@@ -8,8 +8,8 @@ ghost use Rattle.mcs_proof_reader.specs.Questions.{variable_texts, ten};
 ghost use Rattle.mcs_proof_reader.specs.Readers.{AreTexts};
 
 use mcs_base::{Memory, Text};
-use mcs_language::push_read;
 use mcs_system::{Bridge, Name, Read, System, TheoryItem};
+use mcs_writer::push_read;
 use std::alloc::Global;
 
 /// The texts that the lines of a report on a system may hold: those of its variables, the names of its rules, and

@@ -9,9 +9,9 @@ ghost use Rattle.mcs_report.specs.declared.members.Member.TheVariants as kinds;
 ghost use Rattle.mcs_text.specs.Separated.{braced};
 
 use mcs_base::{Members, Memory, Text};
-use mcs_language::push_read;
 use mcs_system::System;
 use mcs_text::push_separator;
+use mcs_writer::push_read;
 
 /// What the numbers of a set stand for.
 #[derive(Clone, Copy, Debug, PartialEq, Eq)]
