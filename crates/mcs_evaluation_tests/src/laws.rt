@@ -2,8 +2,8 @@
 
 use mcs_evidence::{
     default_certificates_are_sound, kinds_have_listings, program_certificates_are_sound,
-    questions_are_counted, states_have_a_listing,
 };
+use mcs_existence::{questions_are_counted, states_have_a_listing};
 
 #[test]
 fn laws_are_called(_rt: HostRuntime) {

@@ -10,5 +10,3 @@ pub mod TheorySizes
 pub mod Extensions
 pub mod DefaultCertificates
 pub mod DefaultListing
-pub mod SystemListings
-pub mod Counts

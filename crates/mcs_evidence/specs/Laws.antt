@@ -1,11 +1,8 @@
 -- What accepted certificates of default theories and programs show, and that each has a listing.
-use Rattle.std.specs.Prelude.{◌≡◌, ℕ, false, List, length, Some, slice_get}
-use Rattle.std.specs.List.{sum_by}
+use Rattle.std.specs.Prelude.{◌≡◌, ℕ, false, List}
 use Rattle.mcs_sets.specs.Orders.{StateBefore}
-use Rattle.mcs_base.specs.Listings.{IsListing, IsInventory}
-use Rattle.mcs_system.specs.Plain.{Name, Formula, Item, ProgramRule, DefaultTheory, Program, System}
-use Rattle.mcs_system.specs.Systems.{IsProjectedEquilibrium}
-use Rattle.mcs_system.specs.Levels.{IsQuestionAt, IsCount}
+use Rattle.mcs_base.specs.Listings.{IsListing}
+use Rattle.mcs_system.specs.Plain.{Name, Formula, Item, ProgramRule, DefaultTheory, Program}
 use Rattle.mcs_system.specs.Views.{IsAcceptedView}
 use Rattle.mcs_system.specs.Faults.{has_twins}
 use Rattle.mcs_cnf.specs.ClauseLists.{AreOver}
@@ -31,16 +28,3 @@ DefaultTheoriesHaveAListing = (items : List Item) (beliefs : List Formula) → (
 -- and what a program accepts
 abbrev pub ProgramsHaveAListing : Type 0
 ProgramsHaveAListing = (rules : List ProgramRule) (beliefs : List Formula) → (outputs : List ℕ) × IsListing (IsAcceptedView (Program rules) beliefs) StateBefore outputs
-
--- the projected equilibria of a system have a listing, also where it is changed
-abbrev pub StatesHaveAListing : Type 0
-StatesHaveAListing = (m : System) (r1 r2 : ℕ) → (xs : List ℕ) × IsListing (IsProjectedEquilibrium m r1 r2) StateBefore xs
-
--- a level has a number of questions
-abbrev pub CountsExist : Type 0
-CountsExist = (m : System) (level : ℕ) → (n : ℕ) × IsCount m level n
-
--- journals that have just these questions have their number
-abbrev pub JournalsAreCounted : Type 0
-JournalsAreCounted = (m : System) (level : ℕ) (journals : List (List ℕ)) → length journals ≡ length m.contexts
-    → ((i : ℕ) (xs : List ℕ) → slice_get journals i ≡ Some xs → IsInventory (IsQuestionAt m level i) xs) → IsCount m level (sum_by (λ (xs : List ℕ). length xs) journals)

@@ -1,6 +1,6 @@
 //! Laws over the definitions. The functions do nothing: each contract is a law.
 
-ghost use Rattle.mcs_evidence.specs.Laws.{DefaultCertificatesAreSound, ProgramCertificatesAreSound, DefaultTheoriesHaveAListing, ProgramsHaveAListing, StatesHaveAListing, CountsExist, JournalsAreCounted};
+ghost use Rattle.mcs_evidence.specs.Laws.{DefaultCertificatesAreSound, ProgramCertificatesAreSound, DefaultTheoriesHaveAListing, ProgramsHaveAListing};
 
 /// An accepted certificate of a default theory shows the listing of the views of its extensions.
 pub fn default_certificates_are_sound()
@@ -16,15 +16,4 @@ pub fn program_certificates_are_sound()
 pub fn kinds_have_listings()
     ensures default_theories { DefaultTheoriesHaveAListing }
     ensures programs { ProgramsHaveAListing }
-{}
-
-/// The projected equilibria of a system have a listing, also of one that is changed.
-pub fn states_have_a_listing()
-    ensures { StatesHaveAListing }
-{}
-
-/// A level has a number of questions, and journals that have just these questions have their number.
-pub fn questions_are_counted()
-    ensures exist { CountsExist }
-    ensures journals { JournalsAreCounted }
 {}

@@ -1,8 +1,10 @@
 -- Laws of import orders and of the number of questions: each is the contract of a function of `laws`.
-use Rattle.std.specs.Prelude.{◌≡◌, ◌↔◌, ℕ, ◌≤◌, List}
+use Rattle.std.specs.Prelude.{◌≡◌, ◌↔◌, ℕ, ◌≤◌, List, length, Some, slice_get}
+use Rattle.std.specs.List.{sum_by}
+use Rattle.mcs_base.specs.Listings.{IsInventory}
 use Rattle.mcs_system.specs.Plain.{System}
 use Rattle.mcs_system.specs.Imports.{IsImportOrder}
-use Rattle.mcs_system.specs.Levels.{HasQuestions, IsCount, IsNeed, rule_set_count}
+use Rattle.mcs_system.specs.Levels.{IsQuestionAt, HasQuestions, IsCount, IsNeed, rule_set_count}
 
 -- no system has two import orders
 abbrev pub ImportOrderIsOne : Type 0
@@ -27,6 +29,11 @@ CountsAgree = (m : System) (level n k : ℕ) → IsCount m level n → HasQuesti
 -- a level has one number of questions
 abbrev pub CountIsOne : Type 0
 CountIsOne = (m : System) (level n k : ℕ) → IsCount m level n → IsCount m level k → n ≡ k
+
+-- journals that have just the questions of a level, each once, have their number
+abbrev pub JournalsAreCounted : Type 0
+JournalsAreCounted = (m : System) (level : ℕ) (journals : List (List ℕ)) → length journals ≡ length m.contexts
+    → ((i : ℕ) (xs : List ℕ) → slice_get journals i ≡ Some xs → IsInventory (IsQuestionAt m level i) xs) → IsCount m level (sum_by (λ (xs : List ℕ). length xs) journals)
 
 -- a higher level has no smaller number of questions
 abbrev pub CountsGrow : Type 0

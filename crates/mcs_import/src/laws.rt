@@ -1,6 +1,6 @@
 //! Laws of import orders and of the number of questions. The functions do nothing: each contract is a law.
 
-ghost use Rattle.mcs_import.specs.Laws.{ImportOrderIsOne, ImportOrderExists, QuestionsAreBounded, QuestionsGrow, CountsAgree, CountIsOne, CountsGrow, NeedIsOne};
+ghost use Rattle.mcs_import.specs.Laws.{ImportOrderIsOne, ImportOrderExists, QuestionsAreBounded, QuestionsGrow, CountsAgree, CountIsOne, JournalsAreCounted, CountsGrow, NeedIsOne};
 
 /// A system has at most one import order.
 pub fn import_order_is_one()
@@ -20,10 +20,12 @@ pub fn questions_are_bounded()
 {}
 
 /// That there are at least so many questions agrees with their count, of which a level has at most one and a higher
-/// level no smaller one. A system has at most one need.
+/// level no smaller one. Journals that have just the questions of a level, each once, have their count. A system has at
+/// most one need.
 pub fn question_counts_are_one()
     ensures agree { CountsAgree }
     ensures level { CountIsOne }
+    ensures journals { JournalsAreCounted }
     ensures grow { CountsGrow }
     ensures need { NeedIsOne }
 {}

@@ -2,8 +2,8 @@
 use Rattle.std.proofs.Common.{ℕ, List, [], ◌++◌, inl, inr, refl, sym, ap, ◌∙◌}
 use Rattle.std.proofs.lemmas.List.{append-nil}
 use Rattle.mcs_system.specs.Systems.{all_rules}
-use Rattle.mcs_evidence.proofs.SystemListings.{all_states_listed}
-use Rattle.mcs_evidence.proofs.Counts.{counts_exist}
+use Rattle.mcs_existence.proofs.SystemListings.{all_states_listed}
+use Rattle.mcs_existence.proofs.Counts.{counts_exist}
 use Rattle.mcs_import.proofs.CountLemmas.{count_is_one}
 use Rattle.mcs_base.proofs.ListingLemmas.{same_listing}
 use Rattle.mcs_sets.specs.Orders.{StateBefore}

@@ -20,9 +20,9 @@ use Rattle.mcs_system.proofs.MarkLemmas.{marks_small}
 use Rattle.mcs_laws.proofs.Choices.{consistent_minimal, consistent_unexplained}
 use Rattle.mcs_laws.proofs.Transversals.{minimal_explanations}
 use Rattle.mcs_import.proofs.CountLemmas.{need_is_one}
-use Rattle.mcs_evidence.proofs.Counts.{counts_exist}
+use Rattle.mcs_existence.proofs.Counts.{counts_exist}
 use Rattle.mcs_base.proofs.Deciding.{cases_all, cases_minimal}
-use Rattle.mcs_evidence.proofs.SystemListings.{all_states_listed}
+use Rattle.mcs_existence.proofs.SystemListings.{all_states_listed}
 use Rattle.mcs_transversal.proofs.BergeLemmas.{none_before}
 use Rattle.mcs_diagnosis.specs.declared.diagnosis.Diagnosis as code
 use Rattle.mcs_diagnosis.specs.Diagnoses.{AreDiagnoses, pairs_of}

@@ -17,7 +17,7 @@ use Rattle.mcs_transversal.specs.Transversals.{IsCritical}
 use Rattle.mcs_transversal.proofs.CriticalLemmas.{minimality_is_critical}
 use Rattle.mcs_system.specs.Plain.{System}
 use Rattle.mcs_system.specs.Systems.{IsConsistent, all_rules}
-use Rattle.mcs_evidence.proofs.SystemListings.{all_states_listed}
+use Rattle.mcs_existence.proofs.SystemListings.{all_states_listed}
 use Rattle.mcs_system.specs.Levels.{IsCount, IsNeed}
 use Rattle.mcs_system.specs.Repairs.{IsExplanation, IsDiagnosis}
 use Rattle.mcs_laws.proofs.Existence.{consistency_is_listed}

@@ -14,7 +14,7 @@ use Rattle.mcs_system.specs.Systems.{IsProjectedEquilibrium, all_rules}
 use Rattle.mcs_system.specs.Levels.{IsQuestionAt, HasQuestions, IsCount}
 use Rattle.mcs_states.specs.Oracles.{OracleState}
 use Rattle.mcs_states.specs.Evaluators.{EvaluatorState, IsAsked, IsSettled, KeepsRest, IsBeyond, AreStates, asked_of}
-use Rattle.mcs_evidence.proofs.Counts.{journals_counted}
+use Rattle.mcs_import.proofs.CountLemmas.{journals_counted}
 use Rattle.mcs_report.specs.Solutions.{AreEquilibria}
 
 -- what stays, seen from the later one

@@ -15,7 +15,7 @@ use Rattle.mcs_system.proofs.Consequence.{cases_entails}
 use Rattle.mcs_base.proofs.Deciding.{places_where, has-places_where}
 use Rattle.mcs_evidence.proofs.DefaultListing.{default_theories_listed}
 use Rattle.mcs_evidence.proofs.ProgramListings.{program_views_listed}
-use Rattle.mcs_evidence.specs.Laws.{StatesHaveAListing}
+use Rattle.mcs_existence.specs.Laws.{StatesHaveAListing}
 
 -- what a knowledge base accepts
 views_listed : (kb : Kb) (beliefs : List Formula) → (outputs : List ℕ) × IsListing (IsAcceptedView kb beliefs) StateBefore outputs

@@ -1,4 +1,4 @@
--- How many questions a level has: each question is decided, so there is a listing of them; and journals that have just these have their number.
+-- That a level has a number of questions: each question is decided, so there is a listing of them.
 use Rattle.std.proofs.Common.{◌≡◌, ℕ, ◌+◌, ◌^◌, ◌<◌, ◌≤◌, IsTrue, List, [], ◌∷◌, length, map, reverse, Some, slice_get, refl, sym, ◌∙◌, inl, inr, ◌⊎◌, subst, arith}
 use Rattle.std.proofs.lemmas.Bool.{cases_eq, cases_lt}
 use Rattle.std.proofs.lemmas.List.FromFn.{length-map-range_with_len, get_or-map-range_with_len}
@@ -12,9 +12,7 @@ use Rattle.mcs_base.specs.Listings.{IsListing}
 use Rattle.mcs_base.proofs.Among.{among_reverse}
 use Rattle.mcs_base.proofs.Each.{all_among, all_from_among}
 use Rattle.mcs_base.proofs.Booleans.{test_of, test_of-tells}
-use Rattle.mcs_base.proofs.Distinct.{distinct_fits, ascending_distinct}
 use Rattle.mcs_base.proofs.ListingLemmas.{listing_below, IsListing-same}
-use Rattle.mcs_base.proofs.Numbered.{sum_by_smaller}
 use Rattle.mcs_system.specs.Plain.{System}
 use Rattle.mcs_system.specs.Systems.{variables, variables_of, IsAcceptedPart}
 use Rattle.mcs_system.specs.Repairs.{allowed_marks}
@@ -24,8 +22,8 @@ use Rattle.mcs_import.proofs.OrderLemmas.{import_order_exists, import_order_is_o
 use Rattle.mcs_laws.proofs.Existence.{DecidesParts}
 use Rattle.mcs_system.proofs.ContextSets.{states_known}
 use Rattle.mcs_base.proofs.Deciding.{cases_all, cases_both, cases_implies, cases_le, cases_some_below, cases_true}
-use Rattle.mcs_evidence.proofs.SystemListings.{parts_decided}
-use Rattle.mcs_evidence.specs.Laws.{CountsExist, JournalsAreCounted}
+use Rattle.mcs_existence.proofs.SystemListings.{parts_decided}
+use Rattle.mcs_existence.specs.Laws.{CountsExist}
 
 part_cases : (m : System) (i x τ : ℕ) → i < length m.contexts → IsAcceptedPart m i x τ ⊎ (¬ IsAcceptedPart m i x τ)
 unfolding DecidesParts
@@ -130,12 +128,3 @@ counts_exist m level =
         let there = slice_get_read_as _ _ i (questions_listed m level i).0 refl (slice_get_within _ i xs is) (sym (get_or-map-range_with_len (λ i. (questions_listed m level i).0) 0 (length m.contexts) i i (questions_listed m level i).0 less (let e : 0 + i ≡ i = omega arith in e))) in
         let same : (questions_listed m level i).0 ≡ xs = same_Some _ _ (sym there ∙ is) in
         subst (IsListing (IsQuestionAt m level i) (λ a b. a < b)) same (questions_listed m level i).1
-
-pub journals_counted : JournalsAreCounted
-journals_counted m level journals one_each asked =
-    let (n, (lists, listings, is)) = counts_exist m level in
-    let most = sum_by_smaller (λ (xs : List ℕ). length xs) journals lists (one_each ∙ sym listings.one_each) (λ i xs ys at_i at_i'.
-    distinct_fits xs ys (asked i xs at_i).apart (λ x among. ((listings.listed i ys at_i').exactly x).1 (((asked i xs at_i).exactly x).0 among))) in
-    let least = sum_by_smaller (λ (xs : List ℕ). length xs) lists journals (listings.one_each ∙ sym one_each) (λ i ys xs at_i' at_i.
-    distinct_fits ys xs (ascending_distinct ys (listings.listed i ys at_i').ascending) (λ x among. ((asked i xs at_i).exactly x).1 (((listings.listed i ys at_i').exactly x).0 among))) in
-    (lists, listings, (let e : sum_by (λ (xs : List ℕ). length xs) journals ≡ sum_by (λ (xs : List ℕ). length xs) lists = omega (arith, most, least) in e))

@@ -1,0 +1,2 @@
+pub mod SystemListings
+pub mod Counts
