@@ -1,8 +1,4 @@
 pub mod General
-pub mod AskingLemmas
-pub mod CoverLemmas
-pub mod KindLemmas
-pub mod AnswerLemmas
 pub mod OrderLemmas
 pub mod VerdictLemmas
 pub mod JudgingLemmas

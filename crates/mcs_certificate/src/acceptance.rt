@@ -10,14 +10,13 @@ ghost use Rattle.mcs_system.specs.Logic.{with_heads};
 ghost use Rattle.mcs_system.specs.Seen.{formula_of, kb_of};
 ghost use Rattle.mcs_system.specs.Systems.{IsAcceptedPart};
 ghost use Rattle.mcs_cnf.specs.ClauseLists.{AreOver};
-ghost use Rattle.mcs_certificate.specs.Certificates.{plain_of, IsAccepted, IsAcceptedFor};
-ghost use Rattle.mcs_certificate.specs.Kinds.{IsOverKb, AreOfKind};
+ghost use Rattle.mcs_asking.specs.Certificates.{plain_of, IsAccepted, IsAcceptedFor};
+ghost use Rattle.mcs_asking.specs.Kinds.{IsOverKb, AreOfKind};
 
-use crate::asking::{beliefs_of, heads_into, parts_at};
-use crate::certificate::AnswerCert;
 use crate::classical::classical_views;
 use crate::default::default_views;
 use crate::program::program_views;
+use mcs_asking::{AnswerCert, beliefs_of, heads_into, parts_at};
 use mcs_base::{Active, Memory, Vars};
 use mcs_system::{Formula, Kb, Name, System};
 use std::alloc::Global;

@@ -4,12 +4,9 @@
 
 mod absence;
 mod acceptance;
-mod asking;
-mod certificate;
 mod classical;
 mod default;
 mod entailment;
-mod laws;
 mod oracle;
 mod order;
 mod premises;
@@ -18,7 +15,5 @@ mod theory;
 mod verdict;
 
 pub use acceptance::accepts;
-pub use asking::{beliefs_of, heads_into, parts_at};
-pub use certificate::AnswerCert;
-pub use laws::accepted_answers_are_right;
+pub use mcs_asking::AnswerCert;
 pub use oracle::CertifiedOracle;

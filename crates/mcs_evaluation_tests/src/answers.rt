@@ -2,8 +2,8 @@
 
 use crate::systems::system_of;
 use crate::traces::trace_of;
+use mcs_asking::AnswerCert;
 use mcs_base::{Memory, Text, Vars};
-use mcs_certificate::AnswerCert;
 use mcs_proof_text::{answer_lines, reports_have_one_fault, spelled_reports_have_no_fault};
 use mcs_spelling::push_atoms;
 use mcs_system::System;

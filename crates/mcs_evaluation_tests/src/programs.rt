@@ -3,7 +3,7 @@
 ghost use Rattle.std.specs.Prelude.{◌≡◌, ◌≤◌, false, length, map, IfSome};
 ghost use Rattle.mcs_system.specs.Faults.{has_twins};
 ghost use Rattle.mcs_system.specs.Seen.{kb_of, rule_of};
-ghost use Rattle.mcs_certificate.specs.Kinds.{IsOverKb};
+ghost use Rattle.mcs_asking.specs.Kinds.{IsOverKb};
 ghost use Rattle.mcs_evidence.specs.Programs.{AreOverRules};
 
 use crate::numbered::are_numbered;

@@ -5,7 +5,7 @@ ghost use Rattle.mcs_sets.specs.Sets.{Within};
 ghost use Rattle.mcs_system.specs.Faults.{default_count};
 ghost use Rattle.mcs_system.specs.Repairs.{all_marks};
 ghost use Rattle.mcs_system.specs.Seen.{kb_of};
-ghost use Rattle.mcs_certificate.specs.Kinds.{IsOverKb};
+ghost use Rattle.mcs_asking.specs.Kinds.{IsOverKb};
 
 use mcs_base::Marks;
 use mcs_language::read_system;

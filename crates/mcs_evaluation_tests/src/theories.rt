@@ -4,7 +4,7 @@ ghost use Rattle.std.specs.Prelude.{◌≡◌, ◌≤◌, false, length, map, If
 ghost use Rattle.mcs_system.specs.Seen.{formula_of, item_of, kb_of};
 ghost use Rattle.mcs_system.specs.Faults.{default_count, has_twins};
 ghost use Rattle.mcs_cnf.specs.ClauseLists.{AreOver};
-ghost use Rattle.mcs_certificate.specs.Kinds.{IsOverKb};
+ghost use Rattle.mcs_asking.specs.Kinds.{IsOverKb};
 ghost use Rattle.mcs_evidence.specs.Defaults.{AreOverItems, defaults_of};
 
 use crate::numbered::are_numbered;

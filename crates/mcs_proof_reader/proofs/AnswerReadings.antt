@@ -17,8 +17,8 @@ use Rattle.mcs_system.proofs.ValidLemmas.{few_atoms, few_defaults}
 use Rattle.mcs_cnf.specs.Entailments.{Entailment}
 use Rattle.mcs_evidence.specs.Defaults.{Verdict, defaults_of}
 use Rattle.mcs_evidence.specs.Programs.{ModelShown, ProgramShown}
-use Rattle.mcs_certificate.specs.Certificates.{OfFormulas, OfDefaults, OfProgram}
-use Rattle.mcs_certificate.proofs.KindLemmas.{defaults_counted}
+use Rattle.mcs_asking.specs.Certificates.{OfFormulas, OfDefaults, OfProgram}
+use Rattle.mcs_asking.proofs.KindLemmas.{defaults_counted}
 use Rattle.mcs_spelling.specs.Words.{after, step_of, guarded}
 use Rattle.mcs_spelling.specs.Parts.{AreTellable}
 use Rattle.mcs_proof_text.specs.Lines.{SmallerLine, NoneLine, line_text, question_text, output_text}

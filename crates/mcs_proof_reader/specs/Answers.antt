@@ -5,7 +5,7 @@ use Rattle.mcs_system.specs.Plain.{Default, Item, Kb, Classical, DefaultTheory, 
 use Rattle.mcs_system.specs.Atoms.{atoms_of}
 use Rattle.mcs_system.specs.Systems.{variables_of}
 use Rattle.mcs_evidence.specs.Defaults.{defaults_of}
-use Rattle.mcs_certificate.specs.Certificates.{Certificate, OfFormulas, OfDefaults, OfProgram}
+use Rattle.mcs_asking.specs.Certificates.{Certificate, OfFormulas, OfDefaults, OfProgram}
 use Rattle.mcs_proof_text.specs.Answers.{Answer}
 use Rattle.mcs_proof_lines.specs.Walks.{At, Reading, ◌>>=◌, fault_at, line_at, taken_at, expect_at, is_next, many_at, entailment_at}
 use Rattle.mcs_proof_lines.specs.Verdicts.{Terms, verdicts_at}

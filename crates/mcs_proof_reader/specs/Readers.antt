@@ -3,7 +3,7 @@ use Rattle.std.specs.Prelude.{◌≡◌, ◌≤◌, length}
 use Rattle.mcs_system.specs.Plain.{System}
 use Rattle.mcs_system.specs.Naming.{IsNamed}
 use Rattle.mcs_system.specs.Faults.{IsValid}
-use Rattle.mcs_certificate.specs.Certificates.{plain_of}
+use Rattle.mcs_asking.specs.Certificates.{plain_of}
 use Rattle.mcs_proof_text.specs.Answers.{Answer}
 use Rattle.mcs_proof_reader.specs.Questions.{rule_names, variable_texts, ten}
 use Rattle.mcs_proof_reader.specs.Answers.{Shown}

@@ -5,15 +5,15 @@ ghost use Rattle.mcs_system.specs.Faults.{default_count};
 ghost use Rattle.mcs_system.specs.Seen.{item_of, kb_of};
 ghost use Rattle.mcs_cnf.specs.Entailments.{entailment_of};
 ghost use Rattle.mcs_evidence.specs.Defaults.{defaults_of};
-ghost use Rattle.mcs_certificate.specs.Certificates.{OfFormulas};
+ghost use Rattle.mcs_asking.specs.Certificates.{OfFormulas};
 ghost use Rattle.mcs_proof_lines.specs.Walks.{Gives};
 ghost use Rattle.mcs_proof_reader.specs.Answers.{classical_at, default_at, models_at, shown_at, answer_at};
 ghost use Rattle.mcs_proof_reader.specs.Readers.{answer_of, shown_of_code, AreTexts};
 
 use crate::question::{next_question, next_state, take_states};
 use crate::texts::{Texts, just_counts, name_texts};
+use mcs_asking::AnswerCert;
 use mcs_base::{Active, Memory, Vars};
-use mcs_certificate::AnswerCert;
 use mcs_proof_lines::{
     Lines, ReportFault, Theory, expect, out_of_place, take_entailments, take_program, take_verdicts,
 };

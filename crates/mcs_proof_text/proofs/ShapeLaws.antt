@@ -18,9 +18,9 @@ use Rattle.mcs_import.proofs.QuestionLemmas.{accepted_within}
 use Rattle.mcs_cnf.proofs.SizeLemmas.{sizes_up_to}
 use Rattle.mcs_evidence.proofs.ProgramSizes.{added_rules}
 use Rattle.mcs_evidence.proofs.TheoryLemmas.{defaults_with}
-use Rattle.mcs_certificate.specs.Certificates.{Certificate, OfFormulas, OfDefaults, OfProgram, IsAcceptedFor}
-use Rattle.mcs_certificate.proofs.AnswerLemmas.{accepted_right}
-use Rattle.mcs_certificate.proofs.CoverLemmas.{few_beliefs}
+use Rattle.mcs_asking.specs.Certificates.{Certificate, OfFormulas, OfDefaults, OfProgram, IsAcceptedFor}
+use Rattle.mcs_asking.proofs.AnswerLemmas.{accepted_right}
+use Rattle.mcs_asking.proofs.CoverLemmas.{few_beliefs}
 use Rattle.mcs_proof_text.specs.Lines.{line_text, output_text}
 use Rattle.mcs_proof_text.specs.Answers.{Answer, certificate_lines, answer_lines}
 use Rattle.mcs_proof_text.specs.Shapes.{IsCertificate}

@@ -7,7 +7,7 @@ use Rattle.mcs_trace.specs.Traces.{Inference}
 use Rattle.mcs_cnf.specs.Entailments.{Entailment, Yes, No}
 use Rattle.mcs_evidence.specs.Defaults.{Absence, Unsupported, Blocked, Verdict, Fails, Applied, Ungrounded, Extension}
 use Rattle.mcs_evidence.specs.Programs.{ModelShown, ProgramShown}
-use Rattle.mcs_certificate.specs.Certificates.{Certificate, OfFormulas, OfDefaults, OfProgram}
+use Rattle.mcs_asking.specs.Certificates.{Certificate, OfFormulas, OfDefaults, OfProgram}
 use Rattle.mcs_proof_text.specs.Lines.{Line, YesLine, NoLine, StepLine, SetLine, UnsupportedLine, BlockedLine, AppliedLine, UngroundedLine, ExtensionLine, ModelLine, SmallerLine, NoneLine, line_text, question_text, output_text}
 
 -- what context i is said to accept with the heads of the rules of x: the states that are put out, and why

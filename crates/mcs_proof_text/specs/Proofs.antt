@@ -8,7 +8,7 @@ use Rattle.mcs_system.specs.Faults.{IsValid}
 use Rattle.mcs_system.specs.Imports.{rules_into}
 use Rattle.mcs_system.specs.Justifications.{SystemIsJustifiedUpTo}
 use Rattle.mcs_system.specs.Levels.{IsQuestionAt}
-use Rattle.mcs_certificate.specs.Certificates.{IsAccepted}
+use Rattle.mcs_asking.specs.Certificates.{IsAccepted}
 use Rattle.mcs_proof_text.specs.Answers.{Answer, answer_lines}
 use Rattle.mcs_proof_text.specs.Reports.{AnswerBefore, most_report_bytes}
 use Rattle.mcs_proof_text.specs.Shapes.{IsInShape}

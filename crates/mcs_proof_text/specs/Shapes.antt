@@ -13,7 +13,7 @@ use Rattle.mcs_spelling.specs.Parts.{IsStep}
 use Rattle.mcs_cnf.specs.Entailments.{Entailment, Yes, No}
 use Rattle.mcs_evidence.specs.Defaults.{Absence, Unsupported, Blocked, HasOneForEach, Verdict, Fails, Applied, Ungrounded, Extension, defaults_of, numbered_default, defaults_in, negated_justs, all_defaults}
 use Rattle.mcs_evidence.specs.Programs.{ModelShown, ProgramShown, IsInRange}
-use Rattle.mcs_certificate.specs.Certificates.{Certificate, OfFormulas, OfDefaults, OfProgram}
+use Rattle.mcs_asking.specs.Certificates.{Certificate, OfFormulas, OfDefaults, OfProgram}
 use Rattle.mcs_proof_text.specs.Answers.{Answer}
 
 -- ---- traces

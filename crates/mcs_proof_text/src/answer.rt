@@ -5,15 +5,15 @@ ghost use Rattle.std.specs.List.{AllByRecursion};
 ghost use Rattle.mcs_sets.specs.Sets.{Within};
 ghost use Rattle.mcs_system.specs.Systems.{all_rules, all_variables};
 ghost use Rattle.mcs_system.specs.Texts.{name_of_context};
-ghost use Rattle.mcs_certificate.specs.Certificates.{plain_of};
+ghost use Rattle.mcs_asking.specs.Certificates.{plain_of};
 ghost use Rattle.mcs_proof_text.specs.Lines.{question_text, output_text, with_feed, text_of_lines, written};
 ghost use Rattle.mcs_proof_text.specs.Answers.{certificate_lines, answer_lines};
 
 use crate::defaults::push_verdicts;
 use crate::programs::push_program;
 use crate::traces::push_entailments;
+use mcs_asking::AnswerCert;
 use mcs_base::{Active, Memory, Text, Vars};
-use mcs_certificate::AnswerCert;
 use mcs_report::{Member, push_set};
 use mcs_system::{Name, System};
 

@@ -19,7 +19,7 @@ use Rattle.mcs_system.specs.Views.{at_places}
 use Rattle.mcs_system.specs.Levels.{IsQuestionAt}
 use Rattle.mcs_system.proofs.ContextSets.{rules_into_known, states_known, variables_of-lt}
 use Rattle.mcs_laws.proofs.Views.{has-at_places}
-use Rattle.mcs_certificate.specs.Certificates.{Certificate, IsAccepted}
+use Rattle.mcs_asking.specs.Certificates.{Certificate, IsAccepted}
 use Rattle.mcs_proof_text.specs.Lines.{with_feed, text_of_lines}
 use Rattle.mcs_proof_text.specs.Answers.{Answer, answer_lines}
 use Rattle.mcs_proof_text.specs.Proofs.{AreProof, IsRight, proof_lines}

@@ -6,7 +6,7 @@ use Rattle.mcs_base.specs.Listings.{IsAmong, IsListing}
 use Rattle.mcs_system.specs.Plain.{System}
 use Rattle.mcs_system.specs.Systems.{all_rules, all_variables}
 use Rattle.mcs_states.specs.Oracles.{OracleState}
-use Rattle.mcs_certificate.specs.Certificates.{plain_of}
+use Rattle.mcs_asking.specs.Certificates.{plain_of}
 use Rattle.mcs_proof_text.specs.Answers.{Answer}
 use Rattle.mcs_proof_text.specs.Proofs.{IsRight}
 use Rattle.mcs_proof_writer.specs.declared.asking.Question.{Question}

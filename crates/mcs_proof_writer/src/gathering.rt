@@ -5,8 +5,8 @@ ghost use Rattle.std.specs.Prelude.{IfOk};
 ghost use Rattle.mcs_proof_writer.specs.Gathered.{answer_of, answers_of, IsKeptIn, IsKept, IsAnswerIn, IsAnswerOf};
 
 use crate::asking::Question;
+use mcs_asking::AnswerCert;
 use mcs_base::{Memory, Vars};
-use mcs_certificate::AnswerCert;
 use mcs_solver::LocalSolver;
 use std::alloc::Global;
 

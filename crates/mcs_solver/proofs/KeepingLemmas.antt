@@ -16,8 +16,8 @@ use Rattle.mcs_system.specs.Atoms.{atoms_of}
 use Rattle.mcs_system.specs.Logic.{with_heads}
 use Rattle.mcs_system.specs.Systems.{variables_of, heads_into, IsAcceptedPart}
 use Rattle.mcs_system.specs.Views.{at_places, beliefs_at}
-use Rattle.mcs_certificate.specs.Certificates.{plain_of, IsAccepted, IsAcceptedFor}
-use Rattle.mcs_certificate.specs.declared.certificate.AnswerCert as code
+use Rattle.mcs_asking.specs.Certificates.{plain_of, IsAccepted, IsAcceptedFor}
+use Rattle.mcs_asking.specs.declared.certificate.AnswerCert as code
 use Rattle.mcs_solver.specs.Certified.{IsCertified}
 use Rattle.mcs_solver.specs.Solvers.{IsKeptFor, IsKeptAt, AreKept, IsKeptNow, HasKept}
 use Rattle.mcs_solver.specs.declared.keeping.Kept.{Kept}

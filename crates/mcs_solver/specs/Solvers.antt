@@ -7,8 +7,8 @@ use Rattle.mcs_base.specs.Listings.{IsAmong, IsListing}
 use Rattle.mcs_system.specs.Plain.{System}
 use Rattle.mcs_system.specs.Systems.{IsAcceptedPart}
 use Rattle.mcs_states.specs.Oracles.{OracleState}
-use Rattle.mcs_certificate.specs.Certificates.{plain_of, IsAccepted}
-use Rattle.mcs_certificate.specs.declared.certificate.AnswerCert as code
+use Rattle.mcs_asking.specs.Certificates.{plain_of, IsAccepted}
+use Rattle.mcs_asking.specs.declared.certificate.AnswerCert as code
 use Rattle.mcs_solver.specs.declared.keeping.Kept.{Kept}
 
 -- an oracle of this context of the system that never misses; its origin is the one empty string where it keeps its answers with certificates, and no string where not

@@ -4,8 +4,8 @@ ghost use Rattle.std.specs.Prelude.{OnOk, OnErr};
 ghost use Rattle.std.specs.BTreeMap.{IsUnchanged};
 ghost use Rattle.mcs_solver.specs.Solvers.{HasKept};
 
+use mcs_asking::AnswerCert;
 use mcs_base::{Active, Memory, Vars};
-use mcs_certificate::AnswerCert;
 use std::alloc::Global;
 use std::collections::BTreeMap;
 

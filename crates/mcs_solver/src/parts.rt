@@ -4,13 +4,13 @@ ghost use Rattle.std.specs.Prelude.{◌<◌, length, IfOk};
 ghost use Rattle.mcs_sets.specs.Orders.{StateBefore};
 ghost use Rattle.mcs_base.specs.Listings.{IsListing};
 ghost use Rattle.mcs_system.specs.Systems.{IsAcceptedPart};
-ghost use Rattle.mcs_certificate.specs.Certificates.{IsAccepted};
+ghost use Rattle.mcs_asking.specs.Certificates.{IsAccepted};
 ghost use Rattle.mcs_solver.specs.Kinds.{IsMadeOfContext};
 ghost use Rattle.mcs_solver.specs.Certified.{IsCertified};
 
 use crate::views::accepted_views;
+use mcs_asking::{AnswerCert, beliefs_of, heads_into, parts_at};
 use mcs_base::{Active, Memory, Vars};
-use mcs_certificate::{AnswerCert, beliefs_of, heads_into, parts_at};
 use mcs_sat::ClauseBase;
 use mcs_system::System;
 use std::alloc::Global;

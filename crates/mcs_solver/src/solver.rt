@@ -5,13 +5,13 @@ ghost use Rattle.std.specs.Arc.{arc_value};
 ghost use Rattle.mcs_sets.specs.Orders.{StateBefore};
 ghost use Rattle.mcs_base.specs.Listings.{IsAmong, IsListing};
 ghost use Rattle.mcs_system.specs.Systems.{IsAcceptedPart};
-ghost use Rattle.mcs_certificate.specs.Certificates.{plain_of, IsAccepted};
+ghost use Rattle.mcs_asking.specs.Certificates.{plain_of, IsAccepted};
 ghost use Rattle.mcs_solver.specs.Solvers.{solver_with};
 
 use crate::keeping::{Kept, keep_answer};
 use crate::parts::parts_with;
+use mcs_asking::AnswerCert;
 use mcs_base::{Active, Vars};
-use mcs_certificate::AnswerCert;
 use mcs_sat::ClauseBase;
 use mcs_states::{Oracle, OracleStop};
 use mcs_system::System;

@@ -14,13 +14,13 @@ ghost use Rattle.mcs_cnf.specs.ClauseLists.{AreOver, clause_list, with_formulas}
 ghost use Rattle.mcs_cnf.specs.Growing.{IsGrown};
 ghost use Rattle.mcs_evidence.specs.Defaults.{AreOverItems, defaults_of};
 ghost use Rattle.mcs_evidence.specs.Programs.{AreOverRules};
-ghost use Rattle.mcs_certificate.specs.Certificates.{IsAcceptedFor};
-ghost use Rattle.mcs_certificate.specs.Kinds.{IsOverKb, AreOfKind};
+ghost use Rattle.mcs_asking.specs.Certificates.{IsAcceptedFor};
+ghost use Rattle.mcs_asking.specs.Kinds.{IsOverKb, AreOfKind};
 ghost use Rattle.mcs_solver.specs.Kinds.{IsOnlyView, IsShownView, IsMadeOf};
 ghost use Rattle.mcs_solver.specs.Certified.{IsCertified};
 
+use mcs_asking::AnswerCert;
 use mcs_base::{Memory, Vars};
-use mcs_certificate::AnswerCert;
 use mcs_classical::outputs_in;
 use mcs_cnf::push_formula;
 use mcs_default::{extensions_from, list_extensions};

@@ -9,11 +9,11 @@ use Rattle.mcs_system.specs.Seen.{formula_of, context_of}
 use Rattle.mcs_system.specs.Systems.{variables_of, heads_into}
 use Rattle.mcs_system.specs.Views.{at_places, beliefs_at}
 use Rattle.mcs_system.proofs.ValidLemmas.{few_defaults, few_variables}
-use Rattle.mcs_certificate.specs.Certificates.{plain_of, IsAcceptedFor}
-use Rattle.mcs_certificate.proofs.AnswerLemmas.{accepted_none, accepted_views, accepted_right, as_asked}
-use Rattle.mcs_certificate.proofs.AskingLemmas.{context_there}
-use Rattle.mcs_certificate.proofs.CoverLemmas.{own_over, heads_over, beliefs_over, few_beliefs}
-use Rattle.mcs_certificate.proofs.KindLemmas.{beliefs_of_kind}
+use Rattle.mcs_asking.specs.Certificates.{plain_of, IsAcceptedFor}
+use Rattle.mcs_asking.proofs.AnswerLemmas.{accepted_none, accepted_views, accepted_right, as_asked}
+use Rattle.mcs_asking.proofs.AskingLemmas.{context_there}
+use Rattle.mcs_asking.proofs.CoverLemmas.{own_over, heads_over, beliefs_over, few_beliefs}
+use Rattle.mcs_asking.proofs.KindLemmas.{beliefs_of_kind}
 use Rattle.mcs_certificate.proofs.acceptance.accepts.Goals as goal
 
 pub shown_views-requires-clause-few_beliefs : goal.shown_views-requires-clause-few_beliefs

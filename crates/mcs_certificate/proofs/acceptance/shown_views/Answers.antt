@@ -4,8 +4,8 @@ use Rattle.mcs_system.specs.Faults.{is_atom, default_count}
 use Rattle.mcs_system.specs.Seen.{formula_of, item_of, kb_of}
 use Rattle.mcs_system.specs.declared.knowledge.Kb as code
 use Rattle.mcs_base.proofs.Mapped.{all_from_map}
-use Rattle.mcs_certificate.specs.Kinds.{AreOfKind}
-use Rattle.mcs_certificate.proofs.KindLemmas.{defaults_counted}
+use Rattle.mcs_asking.specs.Kinds.{AreOfKind}
+use Rattle.mcs_asking.proofs.KindLemmas.{defaults_counted}
 use Rattle.mcs_certificate.proofs.acceptance.shown_views.Goals as goal
 
 pub default_views-requires-clause-few_defaults : goal.default_views-requires-clause-few_defaults

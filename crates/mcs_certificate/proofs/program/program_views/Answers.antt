@@ -6,7 +6,7 @@ use Rattle.mcs_system.specs.Plain.{Name, Atom, Formula, ProgramRule}
 use Rattle.mcs_system.specs.Logic.{fact_of}
 use Rattle.mcs_system.specs.Seen.{formula_of, rule_of}
 use Rattle.mcs_evidence.specs.Programs.{program_shown_of, AreOverRules, IsAcceptedProgram}
-use Rattle.mcs_certificate.proofs.AnswerLemmas.{with_heads_over, names_over}
+use Rattle.mcs_asking.proofs.AnswerLemmas.{with_heads_over, names_over}
 use Rattle.mcs_certificate.proofs.program.program_views.Goals as goal
 
 pub views_of_rules-shown-requires-clause-rules : goal.views_of_rules-shown-requires-clause-rules

@@ -1,5 +1,5 @@
-use Rattle.mcs_certificate.proofs.AskingLemmas.{context_there}
-use Rattle.mcs_certificate.proofs.CoverLemmas.{own_over}
+use Rattle.mcs_asking.proofs.AskingLemmas.{context_there}
+use Rattle.mcs_asking.proofs.CoverLemmas.{own_over}
 use Rattle.mcs_system.proofs.ValidLemmas.{few_defaults}
 use Rattle.mcs_evaluation_tests.proofs.systems.first_knowledge.Goals as goal
 

@@ -2,7 +2,7 @@ use Rattle.std.proofs.Common.{◌≤◌, map, subst, arith}
 use Rattle.mcs_system.specs.Faults.{default_count}
 use Rattle.mcs_system.specs.Seen.{item_of, kb_of}
 use Rattle.mcs_system.specs.declared.knowledge.Kb as code
-use Rattle.mcs_certificate.proofs.KindLemmas.{defaults_counted}
+use Rattle.mcs_asking.proofs.KindLemmas.{defaults_counted}
 use Rattle.mcs_evaluation_tests.proofs.theories.theory_in.Goals as goal
 
 pub returns-in-DefaultTheory-clause-few : goal.returns-in-DefaultTheory-clause-few

@@ -2,7 +2,7 @@ use Rattle.std.proofs.Common.{◌≡◌, Some, get_or, slice_get, sym}
 use Rattle.mcs_system.specs.Plain.{Context, System}
 use Rattle.mcs_system.specs.Seen.{context_of}
 use Rattle.mcs_system.proofs.ValidLemmas.{few_defaults}
-use Rattle.mcs_certificate.proofs.AskingLemmas.{context_there}
+use Rattle.mcs_asking.proofs.AskingLemmas.{context_there}
 use Rattle.mcs_proof_lines.specs.Walks.{line_at}
 use Rattle.mcs_proof_reader.specs.Questions.{next_question}
 use Rattle.mcs_proof_reader.specs.Readers.{shown_of_code}

@@ -1,7 +1,7 @@
 use Rattle.std.proofs.Common.{◌≡◌, map, count_by, sym, ap, ◌∙◌, arith}
 use Rattle.mcs_system.specs.Faults.{is_default, default_count}
 use Rattle.mcs_system.specs.Seen.{item_of, kb_of}
-use Rattle.mcs_certificate.proofs.KindLemmas.{defaults_counted}
+use Rattle.mcs_asking.proofs.KindLemmas.{defaults_counted}
 use Rattle.mcs_proof_reader.proofs.answer.take_shown.Goals as goal
 
 pub take_default-requires-clause-few : goal.take_default-requires-clause-few

@@ -1,7 +1,7 @@
 use Rattle.std.proofs.Common.{◌∙◌, map}
 use Rattle.std.proofs.lemmas.Result.{on_ok_weaker}
 use Rattle.mcs_system.specs.Atoms.{atoms_of}
-use Rattle.mcs_certificate.specs.Certificates.{plain_of}
+use Rattle.mcs_asking.specs.Certificates.{plain_of}
 use Rattle.mcs_proof_text.specs.Lines.{question_text, output_text}
 use Rattle.mcs_proof_text.specs.Answers.{certificate_lines}
 use Rattle.mcs_proof_text.proofs.LineLemmas.{answer_parts}

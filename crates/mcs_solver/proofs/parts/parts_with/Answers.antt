@@ -11,11 +11,11 @@ use Rattle.mcs_system.specs.Views.{IsAcceptedView, at_places, beliefs_at}
 use Rattle.mcs_system.proofs.ValidLemmas.{few_defaults, few_variables}
 use Rattle.mcs_cnf.proofs.OverLemmas.{context_atoms}
 use Rattle.mcs_laws.proofs.Views.{view_listings}
-use Rattle.mcs_certificate.specs.Certificates.{IsAcceptedFor}
-use Rattle.mcs_certificate.proofs.AnswerLemmas.{as_asked}
-use Rattle.mcs_certificate.proofs.AskingLemmas.{context_there}
-use Rattle.mcs_certificate.proofs.CoverLemmas.{own_over, heads_over, beliefs_over, few_beliefs}
-use Rattle.mcs_certificate.proofs.KindLemmas.{heads_of_kind, beliefs_of_kind}
+use Rattle.mcs_asking.specs.Certificates.{IsAcceptedFor}
+use Rattle.mcs_asking.proofs.AnswerLemmas.{as_asked}
+use Rattle.mcs_asking.proofs.AskingLemmas.{context_there}
+use Rattle.mcs_asking.proofs.CoverLemmas.{own_over, heads_over, beliefs_over, few_beliefs}
+use Rattle.mcs_asking.proofs.KindLemmas.{heads_of_kind, beliefs_of_kind}
 use Rattle.mcs_solver.specs.Certified.{IsCertified}
 use Rattle.mcs_solver.proofs.KeepingLemmas.{certified_there}
 use Rattle.mcs_solver.proofs.ViewLemmas.{made_there}

@@ -3,8 +3,8 @@ use Rattle.mcs_system.specs.Plain.{Formula}
 use Rattle.mcs_system.specs.Faults.{is_atom, default_count}
 use Rattle.mcs_system.specs.Seen.{formula_of, item_of, kb_of}
 use Rattle.mcs_system.specs.declared.knowledge.Kb as code
-use Rattle.mcs_certificate.specs.Kinds.{AreOfKind}
-use Rattle.mcs_certificate.proofs.KindLemmas.{defaults_counted}
+use Rattle.mcs_asking.specs.Kinds.{AreOfKind}
+use Rattle.mcs_asking.proofs.KindLemmas.{defaults_counted}
 use Rattle.mcs_base.proofs.Mapped.{all_from_map}
 use Rattle.mcs_solver.proofs.views.accepted_views.Goals as goal
 

@@ -5,7 +5,7 @@ use Rattle.mcs_sets.specs.Orders.{StateBefore}
 use Rattle.mcs_base.specs.Listings.{IsListing}
 use Rattle.mcs_system.specs.Plain.{System}
 use Rattle.mcs_system.specs.Systems.{IsAcceptedPart}
-use Rattle.mcs_certificate.specs.Certificates.{IsAccepted}
+use Rattle.mcs_asking.specs.Certificates.{IsAccepted}
 use Rattle.mcs_solver.specs.Certified.{IsCertified}
 use Rattle.mcs_solver.specs.Kinds.{IsMadeOfContext}
 use Rattle.mcs_solver.specs.Solvers.{AreKept, HasKept}

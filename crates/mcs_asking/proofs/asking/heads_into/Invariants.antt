@@ -1,7 +1,7 @@
 use Rattle.std.proofs.Common.{◌≡◌, ◌++◌, map, drop}
 use Rattle.mcs_system.specs.Seen.{formula_of, bridge_of}
 use Rattle.mcs_system.specs.Systems.{heads_from, heads_into}
-use Rattle.mcs_certificate.proofs.asking.heads_into.Given as goal
+use Rattle.mcs_asking.proofs.asking.heads_into.Given as goal
 
 -- with those of the rules that are still to come the heads are all
 abbrev pub invariant-loop-k : goal.invariant-loop-k

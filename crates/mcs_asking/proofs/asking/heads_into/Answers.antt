@@ -4,9 +4,9 @@ use Rattle.std.proofs.lemmas.List.{drop_more, drop_all}
 use Rattle.std.proofs.Common.{append-nil}
 use Rattle.mcs_sets.specs.Sets.{has}
 use Rattle.mcs_system.specs.Seen.{formula_of, bridge_of}
-use Rattle.mcs_certificate.proofs.AskingLemmas.{head_taken, head_passed}
-use Rattle.mcs_certificate.proofs.asking.heads_into.Goals as goal
-use Rattle.mcs_certificate.proofs.asking.heads_into.Goals.{then-has+then-rule-context+in_ok-push, else-has, else-has-via-then-has+else-rule-context, else-has-via-else-has}
+use Rattle.mcs_asking.proofs.AskingLemmas.{head_taken, head_passed}
+use Rattle.mcs_asking.proofs.asking.heads_into.Goals as goal
+use Rattle.mcs_asking.proofs.asking.heads_into.Goals.{then-has+then-rule-context+in_ok-push, else-has, else-has-via-then-has+else-rule-context, else-has-via-else-has}
 
 pub loop-k-init : goal.loop-k-init
 loop-k-init c = rw (c.bridges-rule-items.ensures.value, c.new-heads.ensures.items) (record { all = refl })

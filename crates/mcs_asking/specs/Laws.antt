@@ -5,7 +5,7 @@ use Rattle.mcs_base.specs.Listings.{IsListing}
 use Rattle.mcs_system.specs.Faults.{IsValid}
 use Rattle.mcs_system.specs.Plain.{System}
 use Rattle.mcs_system.specs.Systems.{IsAcceptedPart}
-use Rattle.mcs_certificate.specs.Certificates.{Certificate, IsAccepted}
+use Rattle.mcs_asking.specs.Certificates.{Certificate, IsAccepted}
 
 -- in a valid system the outputs of an accepted certificate are the listing of what the context accepts with the heads of the rules
 abbrev pub AcceptedAnswersAreRight : Type 0

@@ -9,8 +9,8 @@ use Rattle.mcs_cnf.specs.Entailments.{Entailment}
 use Rattle.mcs_cnf.specs.Classical.{IsAcceptedClassical, certificate_of}
 use Rattle.mcs_evidence.specs.Defaults.{Verdict, verdicts_of, IsAcceptedDefault}
 use Rattle.mcs_evidence.specs.Programs.{ProgramShown, program_shown_of, IsAcceptedProgram}
-use Rattle.mcs_certificate.specs.declared.certificate.AnswerCert as code
-use Rattle.mcs_certificate.specs.declared.certificate.AnswerCert.TheVariants as variants
+use Rattle.mcs_asking.specs.declared.certificate.AnswerCert as code
+use Rattle.mcs_asking.specs.declared.certificate.AnswerCert.TheVariants as variants
 
 -- ---- certificates as plain data
 pub data Certificate : Type 0 where

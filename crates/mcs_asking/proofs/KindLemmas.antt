@@ -16,8 +16,8 @@ use Rattle.mcs_system.proofs.ContextSets.{variable_there}
 use Rattle.mcs_system.proofs.ValidLemmas.{head_is_atom, belief_is_atom}
 use Rattle.mcs_system.proofs.VariableLemmas.{firsts_among}
 use Rattle.mcs_evidence.specs.Defaults.{defaults_of}
-use Rattle.mcs_certificate.specs.Kinds.{AreOfKind}
-use Rattle.mcs_certificate.proofs.CoverLemmas.{head_among, own_variable}
+use Rattle.mcs_asking.specs.Kinds.{AreOfKind}
+use Rattle.mcs_asking.proofs.CoverLemmas.{head_among, own_variable}
 
 -- the defaults of a theory are its items that are defaults
 pub defaults_counted : (items : List Item) → length (defaults_of items) ≡ count_by is_default items

@@ -4,7 +4,7 @@ use Rattle.std.proofs.lemmas.List.Elements.{recursion_from_All}
 use Rattle.mcs_sets.specs.Sets.{has, union}
 use Rattle.mcs_sets.proofs.Lattice.{union_assoc, none-union, union-none}
 use Rattle.mcs_system.specs.Views.{at_places, at_places_from}
-use Rattle.mcs_certificate.proofs.asking.at_places.Goals as goal
+use Rattle.mcs_asking.proofs.asking.at_places.Goals as goal
 
 pub loop-place-init : goal.loop-place-init
 loop-place-init c = rw (c.into_iter-place-iterator.ensures.into_iter_gives, c.enumerate-place-items.ensures.source, c.enumerate-place-items.ensures.count, c.empty-chosen.ensures) (record {

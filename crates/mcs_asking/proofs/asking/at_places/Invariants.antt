@@ -2,7 +2,7 @@ use Rattle.std.proofs.Common.{◌≡◌, ◌+◌, ◌<◌, ◌≤◌, length}
 use Rattle.std.specs.List.{AllByRecursion}
 use Rattle.mcs_sets.specs.Sets.{union}
 use Rattle.mcs_system.specs.Views.{at_places, at_places_from}
-use Rattle.mcs_certificate.proofs.asking.at_places.Given as goal
+use Rattle.mcs_asking.proofs.asking.at_places.Given as goal
 
 -- with those that are still to come the chosen are all
 abbrev pub invariant-loop-place : goal.invariant-loop-place

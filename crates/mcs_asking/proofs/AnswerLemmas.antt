@@ -21,11 +21,11 @@ use Rattle.mcs_evidence.proofs.AnswerSets.{program_sound}
 use Rattle.mcs_evidence.proofs.DefaultCertificates.{defaults_sound}
 use Rattle.mcs_evidence.proofs.TheoryLemmas.{over_with_facts}
 use Rattle.mcs_laws.proofs.Views.{view_listings}
-use Rattle.mcs_certificate.specs.Certificates.{Certificate, OfFormulas, OfDefaults, OfProgram, IsAccepted, IsAcceptedFor}
-use Rattle.mcs_certificate.specs.Kinds.{IsOverKb, AreOfKind}
-use Rattle.mcs_certificate.specs.Laws.{AcceptedAnswersAreRight}
-use Rattle.mcs_certificate.proofs.CoverLemmas.{own_over, heads_over, beliefs_over}
-use Rattle.mcs_certificate.proofs.KindLemmas.{beliefs_of_kind}
+use Rattle.mcs_asking.specs.Certificates.{Certificate, OfFormulas, OfDefaults, OfProgram, IsAccepted, IsAcceptedFor}
+use Rattle.mcs_asking.specs.Kinds.{IsOverKb, AreOfKind}
+use Rattle.mcs_asking.specs.Laws.{AcceptedAnswersAreRight}
+use Rattle.mcs_asking.proofs.CoverLemmas.{own_over, heads_over, beliefs_over}
+use Rattle.mcs_asking.proofs.KindLemmas.{beliefs_of_kind}
 
 -- ---- what is added is over the names
 heads_over_rules : (names : List Name) (fs : List Formula) → AreOver names fs → AreOverRules names (filter_map fact_of fs)

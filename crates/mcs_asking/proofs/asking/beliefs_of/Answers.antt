@@ -6,8 +6,8 @@ use Rattle.mcs_system.specs.Plain.{System}
 use Rattle.mcs_system.specs.Seen.{formula_of, read_of}
 use Rattle.mcs_system.specs.Systems.{variables, variables_of}
 use Rattle.mcs_system.specs.Views.{belief_at, beliefs_at}
-use Rattle.mcs_certificate.proofs.AskingLemmas.{lent_belief, lent_more, variables_known}
-use Rattle.mcs_certificate.proofs.asking.beliefs_of.Goals as goal
+use Rattle.mcs_asking.proofs.AskingLemmas.{lent_belief, lent_more, variables_known}
+use Rattle.mcs_asking.proofs.asking.beliefs_of.Goals as goal
 
 pub loop-variable-init : goal.loop-variable-init
 loop-variable-init c =

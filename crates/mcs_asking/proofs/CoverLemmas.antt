@@ -21,7 +21,7 @@ use Rattle.mcs_cnf.specs.ClauseLists.{IsOver, AreOver}
 use Rattle.mcs_cnf.proofs.OverLemmas.{over_atoms, context_atoms}
 use Rattle.mcs_evidence.specs.Defaults.{IsOverItem}
 use Rattle.mcs_evidence.specs.Programs.{IsOverRule}
-use Rattle.mcs_certificate.specs.Kinds.{IsOverKb}
+use Rattle.mcs_asking.specs.Kinds.{IsOverKb}
 
 -- ---- what is built of known names is over them
 over_item : (names : List Name) (item : Item) → ((n : Name) → is_in n (item_atoms item) ≡ true → is_in n names ≡ true) → IsOverItem names item

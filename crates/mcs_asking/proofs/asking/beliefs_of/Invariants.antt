@@ -3,7 +3,7 @@ use Rattle.std.specs.List.{AllByRecursion}
 use Rattle.mcs_system.specs.Seen.{formula_of}
 use Rattle.mcs_system.specs.Systems.{variables, variables_of}
 use Rattle.mcs_system.specs.Views.{belief_at, beliefs_at}
-use Rattle.mcs_certificate.proofs.asking.beliefs_of.Given as goal
+use Rattle.mcs_asking.proofs.asking.beliefs_of.Given as goal
 
 -- with those that are still to come the beliefs are all
 abbrev pub invariant-loop-variable : goal.invariant-loop-variable

@@ -1,0 +1,4 @@
+pub mod AskingLemmas
+pub mod CoverLemmas
+pub mod KindLemmas
+pub mod AnswerLemmas

@@ -1,0 +1,10 @@
+//! What a context is asked with, its heads and beliefs, and when an answer of it is accepted.
+#![tactic(auto)]
+
+mod asking;
+mod certificate;
+mod laws;
+
+pub use asking::{beliefs_of, heads_into, parts_at};
+pub use certificate::AnswerCert;
+pub use laws::accepted_answers_are_right;
