@@ -3,5 +3,4 @@ pub mod OrderLemmas
 pub mod VerdictLemmas
 pub mod JudgingLemmas
 pub mod ModelLemmas
-pub mod CertifiedLemmas
 pub mod ShownLemmas

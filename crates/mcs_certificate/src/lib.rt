@@ -1,5 +1,4 @@
-//! Whether a certificate shows what a context accepts, tested by no search; and the oracle of a context whose answers
-//! were shown so.
+//! Whether a certificate shows what a context accepts, tested by no search.
 #![tactic(auto)]
 
 mod absence;
@@ -7,7 +6,6 @@ mod acceptance;
 mod classical;
 mod default;
 mod entailment;
-mod oracle;
 mod order;
 mod premises;
 mod program;
@@ -16,4 +14,3 @@ mod verdict;
 
 pub use acceptance::accepts;
 pub use mcs_asking::AnswerCert;
-pub use oracle::CertifiedOracle;

@@ -1,3 +1,4 @@
+pub mod CertifiedLemmas
 pub mod LineEnds
 pub mod Differences
 pub mod AnswerLines

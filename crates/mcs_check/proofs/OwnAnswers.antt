@@ -16,7 +16,7 @@ use Rattle.mcs_system.specs.Faults.{IsValid}
 use Rattle.mcs_system.specs.Plain.{System}
 use Rattle.mcs_system.specs.Systems.{IsAcceptedPart}
 use Rattle.mcs_states.specs.Oracles.{OracleState}
-use Rattle.mcs_certificate.specs.Certified.{AreRight, AreInOrder, sets_of}
+use Rattle.mcs_check.specs.Certified.{AreRight, AreInOrder, sets_of}
 use Rattle.mcs_asking.proofs.AnswerLemmas.{accepted_right}
 use Rattle.mcs_proof_text.specs.Answers.{Answer}
 use Rattle.mcs_proof_text.specs.Reports.{AnswerBefore}

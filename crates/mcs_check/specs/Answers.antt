@@ -4,7 +4,7 @@ use Rattle.std.specs.List.{AllByRecursion, range_with_len}
 use Rattle.std.specs.declared.alloc.Global.{Global}
 use Rattle.mcs_system.specs.Plain.{System}
 use Rattle.mcs_states.specs.Oracles.{OracleState}
-use Rattle.mcs_certificate.specs.Certified.{certified_of}
+use Rattle.mcs_check.specs.Certified.{certified_of}
 use Rattle.mcs_proof_text.specs.Answers.{Answer}
 use Rattle.mcs_proof_text.specs.Proofs.{IsRight}
 use Rattle.mcs_check.specs.Validity.{AreComplete}

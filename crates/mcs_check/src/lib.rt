@@ -2,6 +2,7 @@
 //! answers alone the listing is worked out anew.
 #![tactic(auto)]
 
+mod certified;
 mod checking;
 mod collecting;
 mod finding;
@@ -11,6 +12,7 @@ mod listing;
 mod oracles;
 mod relisting;
 
+pub use certified::CertifiedOracle;
 pub use checking::check_report;
 pub use finding::{Finding, Reason, finding_line};
 pub use laws::proved_listings_are_valid;

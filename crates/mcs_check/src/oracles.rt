@@ -8,9 +8,9 @@ ghost use Rattle.mcs_proof_text.specs.Answers.{Answer};
 ghost use Rattle.mcs_check.specs.Answers.{oracles_for};
 ghost use Rattle.mcs_check.specs.Judging.{AreJudged, AreAllRight, AreSorted, HoldOneMore};
 
+use crate::certified::CertifiedOracle;
 use crate::judging::Judged;
 use mcs_base::{Active, Memory, Vars};
-use mcs_certificate::CertifiedOracle;
 use mcs_system::System;
 use std::alloc::Global;
 use std::sync::Arc;

@@ -1,15 +1,15 @@
 //! The listing of a system, worked out from answers alone.
 
-ghost use Rattle.std.specs.Prelude.{◌≡◌, length, IfOk, OnOk, MatchOption};
+ghost use Rattle.std.specs.Prelude.{◌≡◌, length, IfOk, OnOk, OnErr, MatchOption};
 ghost use Rattle.std.specs.Arc.{arc_value};
 ghost use Rattle.mcs_system.specs.Faults.{IsValid};
 ghost use Rattle.mcs_report.specs.Solutions.{IsWholeListing};
 ghost use Rattle.mcs_mesh.specs.Rounds.{AreFresh};
 ghost use Rattle.mcs_check.specs.Relisting.{HoldAll, LackOne, IsSpentStop, IsMissingStop};
 
+use crate::certified::CertifiedOracle;
 use crate::collecting::Collecting;
 use mcs_base::Memory;
-use mcs_certificate::CertifiedOracle;
 use mcs_import::Plan;
 use mcs_mesh::Mesh;
 use mcs_ports::IdleGate;
@@ -24,7 +24,8 @@ const MOST_QUESTIONS: u64 = 4_294_967_295;
 /// Nothing, where an answer was missing; else memory ran out. The questions are never too many.
 fn missing(stop: WorkStop) -> Result<(), Memory>
     requires { ¬ IsSpentStop stop }
-    ensures { OnOk result (IsMissingStop stop) }
+    ensures missing { OnOk result (IsMissingStop stop) }
+    ensures other { OnErr result (¬ IsMissingStop stop) }
 {
     match stop {
         WorkStop::Missing { .. } => Ok(()),

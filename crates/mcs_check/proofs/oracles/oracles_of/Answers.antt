@@ -9,7 +9,7 @@ use Rattle.std.specs.List.{range_with_len}
 use Rattle.mcs_system.specs.Faults.{IsValid}
 use Rattle.mcs_system.specs.Plain.{System}
 use Rattle.mcs_states.specs.Oracles.{OracleState}
-use Rattle.mcs_certificate.specs.Certified.{AreRight, certified_of, sets_of}
+use Rattle.mcs_check.specs.Certified.{AreRight, certified_of, sets_of}
 use Rattle.mcs_check.specs.Answers.{oracle_for}
 use Rattle.mcs_check.proofs.OwnAnswers.{own_sets, own_right, own_in_order}
 use Rattle.mcs_check.proofs.SortedAnswers.{same_answers, all_within}

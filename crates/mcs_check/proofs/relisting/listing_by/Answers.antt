@@ -53,4 +53,4 @@ returns-in_ok-missing-in-Err c =
     let now : Device = record { written = Some c.work-worked.new.sink.text; notes = None; faults = c.work-worked.new.sink.faults } in
     told_missing m os c.requires.one_each c.work-worked.result.1 before now c.in-Err.stop
     (subst (λ (e : EvaluatorState). HasStopped Solve [] e c.work-worked.result.1 before now c.in-Err.stop) begun (rw c.in-Err.is at c.work-worked.ensures.stop))
-    c.in_ok-missing-in-Err.ensures
+    c.in_ok-missing-in-Err.ensures.missing

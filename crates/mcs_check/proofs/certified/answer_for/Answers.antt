@@ -1,8 +1,8 @@
 use Rattle.std.proofs.Common.{◌∙◌, not, refl, sym, ap, true≢false}
 use Rattle.std.proofs.lemmas.Bool.{eq-eqb, eqb-true, not-false}
 use Rattle.mcs_base.proofs.Lists.{slice_get_read_as}
-use Rattle.mcs_certificate.proofs.CertifiedLemmas.{none_past, none_other}
-use Rattle.mcs_certificate.proofs.oracle.answer_for.Goals as goal
+use Rattle.mcs_check.proofs.CertifiedLemmas.{none_past, none_other}
+use Rattle.mcs_check.proofs.certified.answer_for.Goals as goal
 
 pub returns-then-place-answers : goal.returns-then-place-answers
 returns-then-place-answers c = none_past c.args.answers.now c.requires c.args.active c.place_of-place.result c.place_of-place.ensures.point c.if-place-answers.true

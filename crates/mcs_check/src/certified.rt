@@ -1,9 +1,10 @@
 //! The oracle of one context whose answers are there from the first.
 
-ghost use Rattle.std.specs.Prelude.{◌≡◌, ◌<◌, ◌≤◌, [], length, MatchOption};
+ghost use Rattle.std.specs.Prelude.{◌≡◌, ◌<◌, ◌≤◌, [], length, IfErr, IfOk, MatchOption, OnOk};
 ghost use Rattle.std.specs.Arc.{arc_value};
 ghost use Rattle.mcs_base.specs.Listings.{IsAmong};
-ghost use Rattle.mcs_certificate.specs.Certified.{certified_of, sets_of, AreRight, AreInOrder, EndsAt, HasAnswer};
+ghost use Rattle.mcs_states.specs.declared.stop.OracleStop.TheVariants as stops;
+ghost use Rattle.mcs_check.specs.Certified.{certified_of, sets_of, AreRight, AreInOrder, EndsAt, HasAnswer};
 
 use mcs_base::{Active, Vars};
 use mcs_states::{Oracle, OracleStop};
@@ -27,7 +28,7 @@ impl Model for CertifiedOracle {
     ghost use Rattle.std.specs.Arc.{arc_value};
     ghost use Rattle.mcs_states.specs.Oracles.{OracleState};
     ghost use Rattle.mcs_states.specs.Codes.{coded_oracle};
-    ghost use Rattle.mcs_certificate.specs.Certified.{certified_of, sets_of, AreRight, AreInOrder};
+    ghost use Rattle.mcs_check.specs.Certified.{certified_of, sets_of, AreRight, AreInOrder};
 
     ghost Value = { OracleState };
 
@@ -61,6 +62,19 @@ fn answer_for(answers: &[(Active, Vec<Vars>)], active: Active) -> Option<&[Vars]
         return None;
     }
     Some(answer.1.as_slice())
+}
+
+/// The answer for this set; or that it is missing, where there is none.
+fn held_answer(answers: &[(Active, Vec<Vars>)], active: Active) -> Result<&[Vars], OracleStop>
+    requires { AreInOrder answers.now }
+    ensures answer { IfOk result (λ states. HasAnswer answers.now active states.now) }
+    ensures held { OnOk result (IsAmong active (sets_of answers.now)) }
+    ensures missing { IfErr result (λ stop. (¬ IsAmong active (sets_of answers.now)) × (stop ≡ stops.Missing active)) }
+{
+    match answer_for(answers, active) {
+        Some(states) => Ok(states),
+        None => Err(OracleStop::Missing(active)),
+    }
 }
 
 impl CertifiedOracle {
@@ -98,10 +112,7 @@ impl Oracle for CertifiedOracle {
     ghost stands = { λ o. o };
 
     fn ask(&mut self, alloc: Global, active: Active) -> Result<Vec<Vars>, OracleStop> {
-        self.journal.reserve(1)?;
-        let Some(states) = answer_for(&self.answers, active) else {
-            return Err(OracleStop::Missing(active));
-        };
+        let states = held_answer(&self.answers, active)?;
         let copy = states.to_vec(alloc)?;
         self.journal.push(active)?;
         Ok(copy)

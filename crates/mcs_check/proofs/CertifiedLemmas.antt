@@ -15,7 +15,7 @@ use Rattle.mcs_base.proofs.Lists.{slice_get_below}
 use Rattle.mcs_sets.specs.Orders.{StateBefore}
 use Rattle.mcs_system.specs.Plain.{System}
 use Rattle.mcs_system.specs.Systems.{IsAcceptedPart}
-use Rattle.mcs_certificate.specs.Certified.{sets_of, is_before, AreRight, AreInOrder, EndsAt, HasAnswer}
+use Rattle.mcs_check.specs.Certified.{sets_of, is_before, AreRight, AreInOrder, EndsAt, HasAnswer}
 
 less_test : (a x : ℕ) → a < x → is_lt (nat_cmp a x) ≡ true
 less_test a x less = at (nat_cmp a x) (ranked a x _ refl)
