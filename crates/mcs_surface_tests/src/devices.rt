@@ -1,7 +1,7 @@
 //! Devices that fail.
 
 use crate::made::text_of;
-use crate::reports::{CONTRADICTION, CONTRADICTION_REPORT};
+use crate::reports::CONTRADICTION;
 use crate::runs::{
     Devices, End, JOB, SELF_ATTACK, SELF_DENIAL, SELF_SUPPORT, SELF_SUPPORT_LISTING, SOUND, ends,
 };
@@ -81,6 +81,10 @@ fn a_failed_read_is_told(rt: HostRuntime) {
 const DENIAL_LISTING: &str =
     "mcs 1: 1 contexts, 1 rules, 1 variables\ninconsistent\ndiagnosis 1: {-r1} state {} active {}\ndiagnosis 2: {+r1} state {c1:a} active {r1}\nexplanation 1: {-r1 by 1, +r1 by 2}\nend: 0 equilibria, 2 diagnoses, 1 explanations, need 2\n";
 
+/// The whole listing of a context that contradicts itself, with its proof.
+const CONTRADICTION_PROVED: &str =
+    "mcs 1: 2 contexts, 1 rules, 1 variables\nequilibrium 1: {c1:q} applicable {r1}\nconsistent\ndiagnosis 1: {} state {c1:q} active {r1}\nend: 1 equilibria, 1 diagnoses, 0 explanations, need 2\nproof\nanswer c1 {}\nstate {c1:q}\nyes\nstep by 1 2 4\ndone\nanswer c2 {r1}\nstate {}\ndone\nend of proof\n";
+
 /// The first lines of the text.
 fn lines(text: &str, count: usize) -> &[u8] {
     let mut left = count;
@@ -116,7 +120,13 @@ impl Printed {
             (0, "")
         };
         let end = (status, lines(self.written, write), noted);
-        ends(alloc, self.words, &[("f", self.text.as_bytes())], devices, end)
+        ends(
+            alloc,
+            self.words,
+            &[("f", self.text.as_bytes())],
+            devices,
+            end,
+        )
     }
 }
 
@@ -131,7 +141,7 @@ const PRINTED: [Printed; 2] = [
     Printed {
         words: "solve f --proof",
         text: CONTRADICTION,
-        written: CONTRADICTION_REPORT,
+        written: CONTRADICTION_PROVED,
         count: 15,
     },
 ];
@@ -164,7 +174,13 @@ impl Fault {
             ..SOUND
         };
         let end = (self.status, self.written.as_bytes(), self.noted);
-        ends(alloc, self.words, &[("f", SELF_DENIAL.as_bytes())], devices, end)
+        ends(
+            alloc,
+            self.words,
+            &[("f", SELF_DENIAL.as_bytes())],
+            devices,
+            end,
+        )
     }
 }
 
@@ -257,7 +273,8 @@ fn is_bare(alloc: Global, words: &str, end: End<'_>) -> Result<bool, Memory> {
 
 #[test]
 fn what_names_no_file_opens_none(rt: HostRuntime) {
-    let made = b"make 0: 2 contexts, 2 rules, 1 variables\nconsistent\nend: 2 equilibria, 1 diagnoses, 0 explanations, need 3\n";
+    let made =
+        b"make 0: 2 contexts, 2 rules, 1 variables\nconsistent\nend: 2 equilibria, 1 diagnoses, 0 explanations, need 3\n";
     assert!(rt; is_bare(rt.alloc(), "make 0", (0, made, "")) == Ok(true));
     assert!(rt; is_bare(rt.alloc(), "make", (2, b"", USAGE)) == Ok(true));
 }

@@ -88,7 +88,7 @@ fn are_told(
 pub const CONTRADICTION: &str =
     "context c1 classical { p. ~p. }\ncontext c2 classical {}\nbridge r1: c2:x if c1:q.\n";
 
-pub const CONTRADICTION_REPORT: &str =
+const CONTRADICTION_REPORT: &str =
     "mcs 1: 2 contexts, 1 rules, 1 variables\nequilibrium 1: {c1:q} applicable {r1}\nconsistent\ndiagnosis 1: {} state {c1:q} active {r1}\nend: 1 equilibria, 1 diagnoses, 0 explanations, need 2\nproof\nanswer c1 {}\nstate {c1:q}\nyes\nstep by 4 2 1\ndone\nanswer c2 {r1}\nstate {}\ndone\nend of proof\n";
 
 /// A trace that names no clause.

@@ -58,7 +58,11 @@ fn file_of(alloc: Global, name: &str, bytes: &[u8]) -> Result<(String, Vec<u8>),
 }
 
 /// A shelf with these files, on which one call fails.
-pub fn shelf_of(alloc: Global, files: &[(&str, &[u8])], failing: u64) -> Result<MemoryShelf, Memory> {
+pub fn shelf_of(
+    alloc: Global,
+    files: &[(&str, &[u8])],
+    failing: u64,
+) -> Result<MemoryShelf, Memory> {
     let mut kept = Vec::new(alloc);
     for (name, bytes) in files {
         kept.push(file_of(alloc, name, bytes)?)?;

@@ -93,13 +93,13 @@ lacks_second (Some files) name other P Q failed broke f up h (inr broken) = inr 
 
 -- ---- a file that could not be read
 -- a call on it failed, unless it is not there
-pub fault_of_one : (held : Option (Word → File)) (name : Word) (failed : Type 0) → IfSome held (λ files. IsSome (files name) → failed) → IfSome (told_all held (name ∷ [])) (λ fs. (fs ≡ None ∷ []) ⊎ failed)
-fault_of_one None name failed h = tt
-fault_of_one (Some files) name failed h = at (files name) h
+pub fault_of_one : (held : Option (Word → File)) (name : Word) (told failed : Type 0) → told → IfSome held (λ files. IsSome (files name) → told → failed) → IfSome (told_all held (name ∷ [])) (λ fs. (fs ≡ None ∷ []) ⊎ failed)
+fault_of_one None name told failed is h = tt
+fault_of_one (Some files) name told failed is h = at (files name) h
   where
-    at : (file : File) → (IsSome file → failed) → (file ∷ [] ≡ None ∷ []) ⊎ failed
+    at : (file : File) → (IsSome file → told → failed) → (file ∷ [] ≡ None ∷ []) ⊎ failed
     at None broke = inl refl
-    at (Some bytes) broke = inr (broke refl)
+    at (Some bytes) broke = inr (broke refl is)
 
 -- what holds of the job that was found holds of each that the words ask for, since that is one
 pub if_job : (words : List Word) (job : Request) → IsJobOf words job → (held : Option (Word → File)) (P : Request → List File → Type 0)

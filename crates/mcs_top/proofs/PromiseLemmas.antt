@@ -26,6 +26,16 @@ module _ (asked_words : List Word) (held : Option (Word → File)) (faults fault
   abbrev Kept : Status → Type 0
   Kept status = KeepsPromise asked_words held faults faults' failures failures' device device' status
 
+  -- the counts that rose
+  abbrev rose : Type 0
+  rose = Rose faults faults'
+
+  abbrev failed : Type 0
+  failed = Rose failures failures'
+
+  abbrev wrote : Type 0
+  wrote = Rose device.faults device'.faults
+
   -- ---- nothing was written, and no write failed
   module _ (written : device'.written ≡ device.written) (still : device'.faults ≡ device.faults) where
     -- memory ran out
@@ -200,12 +210,3 @@ module _ (asked_words : List Word) (held : Option (Word → File)) (faults fault
       silent = endings.silent stop status device device' told rose failed wrote job files cause device.written device'.written leaves;
       notes = endings.told_notes stop status device device' told;
     }
-      where
-        abbrev rose : Type 0
-        rose = Rose faults faults'
-
-        abbrev failed : Type 0
-        failed = Rose failures failures'
-
-        abbrev wrote : Type 0
-        wrote = Rose device.faults device'.faults

@@ -15,6 +15,6 @@ mod reading;
 mod status;
 
 pub use command::run;
-pub use program::run_program;
 pub use mcs_work::{Task, WorkStop, work};
+pub use program::run_program;
 pub use status::Status;

@@ -27,16 +27,30 @@ pub fn run_program<H: Shelf, K: Sink, G: Gate>(
         (H.failures shelf.old) (H.failures shelf.new) (K.device sink.old) (K.device sink.new) status }
     ensures unread { NamesNoFile (words_given words) → shelf.new ≡ shelf.old }
 {
-    let status = match kept_words(alloc, words) {
+    done_so(alloc, words, shelf, sink, gate).number()
+}
+
+/// Does what the words ask for that the system gives; the status.
+fn done_so<H: Shelf, K: Sink, G: Gate>(
+    alloc: Global,
+    words: io::Result<env::Args>,
+    shelf: &mut H,
+    sink: &mut K,
+    gate: &G,
+) -> Status
+    ensures kept { KeepsPromise (words_given words) (H.held shelf.old) (H.faults shelf.old) (H.faults shelf.new)
+        (H.failures shelf.old) (H.failures shelf.new) (K.device sink.old) (K.device sink.new) result }
+    ensures unread { NamesNoFile (words_given words) → shelf.new ≡ shelf.old }
+{
+    match kept_words(alloc, words) {
         Ok(words) => run(alloc, after_name(&words), shelf, sink, gate),
         Err(_) => note_want_of_memory(sink),
-    };
-    status.number()
+    }
 }
 
 /// The words that the system gives, its name among them; none where it fails to.
 fn kept_words(alloc: Global, words: io::Result<env::Args>) -> Result<Vec<String>, AllocError>
-    ensures { IfOk result (λ kept. all_given words ≡ kept.items) }
+    ensures { IfOk result (λ kept. kept.items ≡ all_given words) }
 {
     match words {
         Ok(words) => words.collect(alloc),

@@ -136,26 +136,31 @@ module _ (x : Extent) (σs : List ℕ) (e e' : EvaluatorState) (level : ℕ) (ds
 
   halted : (at : Device) (halt : Halt) → HasHaltCause e level halt → IsTold e' halt → HasStopped (task_of x) (front_part x e.system σs ds) e e' at at (stop_for_halt halt)
   halted at (halts.Spent found drawn) (here, more, some) told =
-      let beyond : IsBeyond e level = found_beyond e level drawn (omega (arith, more)) some in
-      (refl, subst (λ (l : ℕ). IsTold e' (halts.Spent l drawn) → IsSpent (task_of x) (front_part x e.system σs ds) e e' l at.written at.written) (sym here) (λ said. record {
-        taken = taken_here x e.system level open_yet;
-        beyond = beyond;
-        least = λ k less. u.within k (omega (arith, less));
-        drawn = drawn;
-        halt = said.0;
-        over = said.1;
-        part = [];
-        text = listed_before x e.system σs ds level (later_level beyond) equilibria u.repairs;
-        written = appended-none at.written;
-      }) told)
-  halted at (halts.Missing context active) lacking told = (refl, record {
-    level = level;
-    taken = taken_here x e.system level open_yet;
-    unanswered = lacking;
-    halt = told.0;
-    over = told.1;
-    left = nothing_more at.written;
-  })
+      let beyond : IsBeyond e level = found_beyond e level drawn (omega (arith, more)) some in (
+        refl,
+        subst (λ (l : ℕ). IsTold e' (halts.Spent l drawn) → IsSpent (task_of x) (front_part x e.system σs ds) e e' l at.written at.written) (sym here) (λ said. record {
+          taken = taken_here x e.system level open_yet;
+          beyond = beyond;
+          least = λ k less. u.within k (omega (arith, less));
+          drawn = drawn;
+          halt = said.0;
+          over = said.1;
+          part = [];
+          text = listed_before x e.system σs ds level (later_level beyond) equilibria u.repairs;
+          written = appended-none at.written;
+        }) told,
+      )
+  halted at (halts.Missing context active) lacking told = (
+    refl,
+    record {
+      level = level;
+      taken = taken_here x e.system level open_yet;
+      unanswered = lacking;
+      halt = told.0;
+      over = told.1;
+      left = nothing_more at.written;
+    },
+  )
   halted at halts.Memory h told = (refl, nothing_more at.written)
 
   module _ (fresh : List code.Diagnosis) (found : AreFound e.system level fresh) where

@@ -40,25 +40,31 @@ module _ (task : Task) (so_far part : List ℕ) (e mid-e e' : EvaluatorState) (b
 
   pub stopped_later : (stop : WorkStop) → HasStopped task (so_far ++ part) mid-e e' mid now stop → HasStopped task so_far e e' before now stop
   stopped_later stops.Write (rose, l) = (omega (arith, still, rose), left_later l)
-  stopped_later (stops.Spent level) (same, s) = (same ∙ still, record {
-    taken = subst (λ (m : System). IsTaken task m level) kept.system s.taken;
-    beyond = beyond_before e mid-e kept level s.beyond;
-    least = λ k less beyond. s.least k less (beyond_before mid-e e (rest_back e mid-e kept) k beyond);
-    drawn = s.drawn;
-    halt = s.halt;
-    over = s.over;
-    part = part ++ s.part;
-    text = subst (λ (t : List ℕ). IsTaskUpTo task e.system level t) (append_assoc so_far part s.part) (subst (λ (m : System). IsTaskUpTo task m level ((so_far ++ part) ++ s.part)) kept.system s.text);
-    written = written_later s.part s.written;
-  })
-  stopped_later (stops.Missing context active) (same, s) = (same ∙ still, record {
-    level = s.level;
-    taken = subst (λ (m : System). IsTaken task m s.level) kept.system s.taken;
-    unanswered = unanswered_before e mid-e kept s.level context active s.unanswered;
-    halt = s.halt;
-    over = s.over;
-    left = left_later s.left;
-  })
+  stopped_later (stops.Spent level) (same, s) = (
+    same ∙ still,
+    record {
+      taken = subst (λ (m : System). IsTaken task m level) kept.system s.taken;
+      beyond = beyond_before e mid-e kept level s.beyond;
+      least = λ k less beyond. s.least k less (beyond_before mid-e e (rest_back e mid-e kept) k beyond);
+      drawn = s.drawn;
+      halt = s.halt;
+      over = s.over;
+      part = part ++ s.part;
+      text = subst (λ (t : List ℕ). IsTaskUpTo task e.system level t) (append_assoc so_far part s.part) (subst (λ (m : System). IsTaskUpTo task m level ((so_far ++ part) ++ s.part)) kept.system s.text);
+      written = written_later s.part s.written;
+    },
+  )
+  stopped_later (stops.Missing context active) (same, s) = (
+    same ∙ still,
+    record {
+      level = s.level;
+      taken = subst (λ (m : System). IsTaken task m s.level) kept.system s.taken;
+      unanswered = unanswered_before e mid-e kept s.level context active s.unanswered;
+      halt = s.halt;
+      over = s.over;
+      left = left_later s.left;
+    },
+  )
   stopped_later stops.Memory (same, l) = (same ∙ still, left_later l)
 
   pub done_later : IsDone task (so_far ++ part) mid-e e' mid.written now.written → IsDone task so_far e e' before.written now.written
@@ -140,26 +146,31 @@ module _ (task : Task) (m : System) (e e' : EvaluatorState) (same : e.system ≡
     where
       at : (h : Halt) → HasHalted e e' 0 h → HasStopped task [] e e' before now (stop_for_halt h)
       at (halts.Spent level drawn) told =
-          let lowest : level ≡ 0 = told.cause.0 in
-          (still, subst (λ (l : ℕ). IsSpent task [] e e' l before.written now.written) (sym lowest) (record {
-            taken = lowest_taken task e.system;
-            beyond = found_beyond e 0 drawn (omega (arith, told.cause.1)) told.cause.2;
-            least = λ k less. absurd (omega (arith, less));
-            drawn = drawn;
-            halt = subst (λ (l : ℕ). e'.halt ≡ Some (halts.Spent l drawn)) lowest told.told;
-            over = told.over;
-            part = opening task m;
-            text = opening_up_to task e.system m same;
-            written = is;
-          }))
-      at (halts.Missing context active) told = (still, record {
-        level = 0;
-        taken = lowest_taken task e.system;
-        unanswered = told.cause;
-        halt = told.told;
-        over = told.over;
-        left = opening_left is;
-      })
+          let lowest : level ≡ 0 = told.cause.0 in (
+            still,
+            subst (λ (l : ℕ). IsSpent task [] e e' l before.written now.written) (sym lowest) (record {
+              taken = lowest_taken task e.system;
+              beyond = found_beyond e 0 drawn (omega (arith, told.cause.1)) told.cause.2;
+              least = λ k less. absurd (omega (arith, less));
+              drawn = drawn;
+              halt = subst (λ (l : ℕ). e'.halt ≡ Some (halts.Spent l drawn)) lowest told.told;
+              over = told.over;
+              part = opening task m;
+              text = opening_up_to task e.system m same;
+              written = is;
+            }),
+          )
+      at (halts.Missing context active) told = (
+        still,
+        record {
+          level = 0;
+          taken = lowest_taken task e.system;
+          unanswered = told.cause;
+          halt = told.told;
+          over = told.over;
+          left = opening_left is;
+        },
+      )
       at halts.Memory told = (still, opening_left is)
 
 -- the level of the empty pair is 0
