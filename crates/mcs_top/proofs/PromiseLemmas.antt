@@ -71,7 +71,7 @@ module _ (asked_words : List Word) (held : Option (Word → File)) (faults fault
     usage_kept : ((job : Request) → ¬ IsJobOf asked_words job) → device'.notes ≡ noted device.notes (line_of stops.Usage) → Kept statuses.Usage
     usage_kept none line = record {
       usage = λ is. none;
-      no_job = λ no. inl refl;
+      no_job = λ words_ask. inl refl;
       read_fault = λ is. absurd (cc);
       write_fault = λ is. absurd (cc);
       shelf_later = later;
@@ -98,10 +98,10 @@ module _ (asked_words : List Word) (held : Option (Word → File)) (faults fault
     words_kept fault stop status is none told = at fault none (subst (λ (s : Stop). IsTold s status device device') is told)
       where
         at : (f : WordsFault) → (f ≡ words.Usage → (job : Request) → ¬ IsJobOf asked_words job) → IsTold (stop_for_words f) status device device' → Kept status
-        at words.Usage no (inl own) = subst Kept (sym own.status_is) (usage_kept (no refl) own.notes)
-        at words.Usage no (inr want) = memory_kept status want
-        at words.Memory no (inl own) = memory_kept status own
-        at words.Memory no (inr want) = memory_kept status want
+        at words.Usage never (inl own) = subst Kept (sym own.status_is) (usage_kept (never refl) own.notes)
+        at words.Usage never (inr want) = memory_kept status want
+        at words.Memory never (inl own) = memory_kept status own
+        at words.Memory never (inr want) = memory_kept status want
 
   -- ---- the words ask for a job
   module _ (job : Request) (asked : IsJobOf asked_words job) where
