@@ -59,14 +59,14 @@ module _ (m : System) (os : List OracleState) (each : length os ≡ length m.con
 
   pub told_stop : IsValid m → (before now : Device) (stop : WorkStop) → HasStopped Solve [] (start_of m os) e before now stop → ¬ IsSpentStop stop
   told_stop valid before now stops.Write h = λ none. none
-  told_stop valid before now (stops.Spent level) h = λ _. never_so_many m valid level h.beyond
+  told_stop valid before now (stops.Spent level) (same, h) = λ _. never_so_many m valid level h.beyond
   told_stop valid before now (stops.Missing context active) h = λ none. none
   told_stop valid before now stops.Memory h = λ none. none
 
   pub told_missing : (before now : Device) (stop : WorkStop) → HasStopped Solve [] (start_of m os) e before now stop → IsMissingStop stop → LackOne m os
   told_missing before now stops.Write h none = absurd none
   told_missing before now (stops.Spent level) h none = absurd none
-  told_missing before now (stops.Missing context active) h _ = record {
+  told_missing before now (stops.Missing context active) (same, h) _ = record {
     context = context;
     active = active;
     needed = needed_of m h.level context active (omega (arith, slice_get_within os context h.unanswered.oracle h.unanswered.is_its, each)) h.taken h.unanswered.question;

@@ -1,6 +1,6 @@
 //! Whole reads and whole writes over the devices.
 
-ghost use Rattle.std.specs.Prelude.{◌≡◌, ◌⊎◌, ℕ, ◌<◌, ◌≤◌, ◌+◌, [], List, Some, length, take, drop, is_some, IsNone, IfSome, IfOk, OnOk, OnErr, IsErrOf};
+ghost use Rattle.std.specs.Prelude.{◌≡◌, ◌⊎◌, ℕ, ◌<◌, ◌≤◌, ◌+◌, [], List, Some, length, take, drop, is_some, IsNone, IsSome, IfSome, IfOk, OnOk, OnErr, IsErrOf};
 ghost use Rattle.mcs_ports.specs.Causes.{Rose, HasCause};
 ghost use Rattle.mcs_ports.specs.Pieces.{TakesAtMost, appended};
 ghost use Rattle.mcs_ports.specs.declared.whole.ReadAnswer.TheVariants.{Memory};
@@ -46,7 +46,8 @@ const PIECE: usize = 4096;
 
 /// Reads the file of this name whole, if it has at most `limit` bytes, which may be any number.
 ///
-/// `Fault` comes only where the shelf's count of faults rose, as it does where the file is not there.
+/// `Fault` comes only where the shelf's count of faults rose, as it does where the file is not there; of a file
+/// that is there, only where its count of failures rose too.
 /// `TooLong` comes exactly where the file has more than `limit` bytes; one more than those is read.
 /// `Memory` comes where memory ran out. Whatever the answer, no more than `limit + 1` bytes are taken.
 pub fn read_whole<H: Shelf>(
@@ -56,6 +57,7 @@ pub fn read_whole<H: Shelf>(
     limit: usize,
 ) -> Result<Vec<u8>, ReadAnswer>
     ensures later { H.faults shelf.old ≤ H.faults shelf.new }
+    ensures failures_later { H.failures shelf.old ≤ H.failures shelf.new }
     ensures fault { IsErrOf result ReadAnswer.Fault → Rose (H.faults shelf.old) (H.faults shelf.new) }
     ensures within { IfOk result (λ bytes. length bytes.items ≤ limit) }
     ensures same_held { H.held shelf.new ≡ H.held shelf.old }
@@ -75,6 +77,9 @@ pub fn read_whole<H: Shelf>(
         ⊎ (IsErrOf result ReadAnswer.Fault × (H.left shelf.new ≡ Some [])))) }
     ensures missing { IfSome (H.held shelf.old)
         (λ files. IsNone (files name.now) → IsErrOf result ReadAnswer.Fault) }
+    ensures failure { IfSome (H.held shelf.old)
+        (λ files. IsSome (files name.now) → IsErrOf result ReadAnswer.Fault
+        → Rose (H.failures shelf.old) (H.failures shelf.new)) }
     ensures at_end { OnOk result (IfSome (H.left shelf.new) (λ l. l ≡ [])) }
 {
     if shelf.open(name).is_err() {
@@ -86,7 +91,9 @@ pub fn read_whole<H: Shelf>(
 // Reads what is left of the open file, if that is at most `limit` bytes.
 fn read_rest<H: Shelf>(alloc: Global, shelf: &mut H, limit: usize) -> Result<Vec<u8>, ReadAnswer>
     ensures later { H.faults shelf.old ≤ H.faults shelf.new }
+    ensures failures_later { H.failures shelf.old ≤ H.failures shelf.new }
     ensures fault { IsErrOf result ReadAnswer.Fault → Rose (H.faults shelf.old) (H.faults shelf.new) }
+    ensures failure { IsErrOf result ReadAnswer.Fault → Rose (H.failures shelf.old) (H.failures shelf.new) }
     ensures within { IfOk result (λ bytes. length bytes.items ≤ limit) }
     ensures same_held { H.held shelf.new ≡ H.held shelf.old }
     ensures tells { is_some (H.left shelf.new) ≡ is_some (H.left shelf.old) }
@@ -114,9 +121,11 @@ fn read_rest<H: Shelf>(alloc: Global, shelf: &mut H, limit: usize) -> Result<Vec
 
 /// Writes the piece whole. It takes no memory.
 ///
-/// `Failed` comes only where the sink's count of faults rose; then a front of the piece was written.
+/// `Failed` comes only where the sink's count of faults rose; then a front of the piece was written. Where it is written
+/// whole, no write failed: the count is as before.
 pub fn write_whole<K: Sink>(sink: &mut K, bytes: &[u8]) -> Result<(), Failed>
     ensures cause { HasCause (K.device sink.old).faults (K.device sink.new).faults result }
+    ensures quiet { OnOk result ((K.device sink.new).faults ≡ (K.device sink.old).faults) }
     ensures written { OnOk result ((K.device sink.new).written ≡ appended (K.device sink.old).written bytes.now) }
     ensures prefix { OnErr result ((n : ℕ) × (n ≤ length bytes.now)
         × ((K.device sink.new).written ≡ appended (K.device sink.old).written (take n bytes.now))) }

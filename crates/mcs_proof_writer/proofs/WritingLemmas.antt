@@ -90,5 +90,5 @@ module _ {T U : Type 0} (m : System) (answers : List Answer) where
 
 module _ {T : Type 0} (m : System) (level : ℕ) where
   pub proved : (answers : List Answer) (before now : Device) (r : Result T Unwritten) → AreProof m level answers → Writes (text_of_lines (proof_lines m answers)) before now r → Proves m level before now r
-  proved answers before now (Ok x) proof w = record { later = w.later; notes = w.notes; whole = record { answers = answers; proof = proof; written = w.whole }; front = tt; due = tt }
-  proved answers before now (Err e) proof w = record { later = w.later; notes = w.notes; whole = tt; front = inr (record { answers = answers; proof = proof; front = w.front }); due = w.due }
+  proved answers before now (Ok x) proof w = record { later = w.later; notes = w.notes; quiet = w.quiet; whole = record { answers = answers; proof = proof; written = w.whole }; front = tt; due = tt }
+  proved answers before now (Err e) proof w = record { later = w.later; notes = w.notes; quiet = tt; whole = tt; front = inr (record { answers = answers; proof = proof; front = w.front }); due = w.due }

@@ -1,7 +1,6 @@
 -- Solvers that keep what shows their answers, and what it is to write the proof that these make up.
 use Rattle.std.specs.Prelude.{◌≡◌, ◌⊎◌, ℕ, ◌≤◌, List, [], ◌∷◌, length, Some, slice_get, Option, Result, OnOk, OnErr, IfErr}
 use Rattle.mcs_base.specs.Listings.{IsInventory}
-use Rattle.mcs_ports.specs.Causes.{Rose}
 use Rattle.mcs_ports.specs.Pieces.{Device, appended}
 use Rattle.mcs_text.specs.Writes.{WritesFront, IsDue}
 use Rattle.mcs_text.specs.declared.unwritten.Unwritten.{Unwritten}
@@ -31,10 +30,12 @@ pub record HasBegunProof (m : System) (level : ℕ) (before now : Option (List �
   pub proof : AreProof m level answers
   pub front : WritesFront (text_of_lines (proof_lines m answers)) before now
 
--- the proof part was written, or it stopped for a reason, with nothing or a front of it written; nothing else was changed
+-- the proof part was written and no write failed, or it stopped for a reason, with nothing or a front of it written; nothing
+-- else was changed
 pub record Proves {T : Type 0} (m : System) (level : ℕ) (before now : Device) (result : Result T Unwritten) : Type 0 where
   pub later : before.faults ≤ now.faults
   pub notes : now.notes ≡ before.notes
+  pub quiet : OnOk result (now.faults ≡ before.faults)
   pub whole : OnOk result (HasProved m level before.written now.written)
   pub front : OnErr result ((now.written ≡ before.written) ⊎ HasBegunProof m level before.written now.written)
-  pub due : IfErr result (λ e. IsDue e (Rose before.faults now.faults))
+  pub due : IfErr result (λ e. IsDue e before.faults now.faults)

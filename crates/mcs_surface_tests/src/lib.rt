@@ -17,6 +17,8 @@ mod made;
 #[cfg(test)]
 mod makes;
 #[cfg(test)]
+mod programs;
+#[cfg(test)]
 mod refusals;
 #[cfg(test)]
 mod reports;

@@ -85,7 +85,7 @@ fn are_told(
 }
 
 /// A context that contradicts itself believes what a rule reads.
-const CONTRADICTION: &str =
+pub const CONTRADICTION: &str =
     "context c1 classical { p. ~p. }\ncontext c2 classical {}\nbridge r1: c2:x if c1:q.\n";
 
 const CONTRADICTION_REPORT: &str =

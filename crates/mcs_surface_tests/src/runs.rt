@@ -33,6 +33,9 @@ pub const SOUND: Devices = Devices {
     most: 4096,
 };
 
+/// A rule against its own context.
+pub const SELF_DENIAL: &str = "context c1 program {}\nbridge r1: c1:a if not c1:a.\n";
+
 /// The most bytes that are written.
 const ROOM: usize = 32_768;
 
@@ -55,7 +58,11 @@ fn file_of(alloc: Global, name: &str, bytes: &[u8]) -> Result<(String, Vec<u8>),
 }
 
 /// A shelf with these files, on which one call fails.
-fn shelf_of(alloc: Global, files: &[(&str, &[u8])], failing: u64) -> Result<MemoryShelf, Memory> {
+pub fn shelf_of(
+    alloc: Global,
+    files: &[(&str, &[u8])],
+    failing: u64,
+) -> Result<MemoryShelf, Memory> {
     let mut kept = Vec::new(alloc);
     for (name, bytes) in files {
         kept.push(file_of(alloc, name, bytes)?)?;

@@ -1,8 +1,6 @@
 //! The equilibria, diagnoses and explanations of systems by their texts, in runs of `solve`.
 
-use crate::runs::{Devices, Listed, SOUND, ends};
-use mcs_base::Memory;
-use std::alloc::Global;
+use crate::runs::Listed;
 
 /// The words that ask for the whole listing of the file `f`.
 const SOLVE: &str = "solve f";
@@ -74,47 +72,5 @@ const LISTINGS: [Listed; 12] = [
 fn systems_are_solved(rt: HostRuntime) {
     for listed in &LISTINGS {
         assert!(rt; listed.is_given(rt.alloc(), SOLVE) == Ok(true));
-    }
-}
-
-/// A rule against its own context, whose listing has six lines.
-const ATTACK: &str = "context c1 program {}\nbridge r1: c1:a if not c1:a.\n";
-
-const ATTACK_LISTING: &str =
-    "mcs 1: 1 contexts, 1 rules, 1 variables\ninconsistent\ndiagnosis 1: {-r1} state {} active {}\ndiagnosis 2: {+r1} state {c1:a} active {r1}\nexplanation 1: {-r1 by 1, +r1 by 2}\nend: 0 equilibria, 2 diagnoses, 1 explanations, need 2\n";
-
-/// The first lines of the listing.
-fn lines(listing: &str, count: usize) -> &[u8] {
-    let mut left = count;
-    for (place, byte) in listing.as_bytes().iter().enumerate() {
-        if left == 0 {
-            return listing.as_bytes().get(..place).unwrap_or(b"");
-        }
-        if *byte == b'\n' {
-            left = left.saturating_sub(1);
-        }
-    }
-    listing.as_bytes()
-}
-
-/// Whether the lines before a failing write are there, with the write fault told.
-fn is_cut(alloc: Global, write: usize) -> Result<bool, Memory> {
-    let devices = Devices {
-        failing_write: (write as u64).saturating_add(1),
-        ..SOUND
-    };
-    let (status, noted) = if write < 6 {
-        (6, "mcs: write fault\n")
-    } else {
-        (0, "")
-    };
-    let end = (status, lines(ATTACK_LISTING, write), noted);
-    ends(alloc, SOLVE, &[("f", ATTACK.as_bytes())], devices, end)
-}
-
-#[test]
-fn a_failed_write_leaves_the_lines_before_it(rt: HostRuntime) {
-    for write in 0..7 {
-        assert!(rt; is_cut(rt.alloc(), write) == Ok(true));
     }
 }

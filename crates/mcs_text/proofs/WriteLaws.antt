@@ -1,5 +1,5 @@
 -- How writes join.
-use Rattle.std.proofs.Common.{◌≡◌, ℕ, ◌≤◌, List, [], ◌++◌, take, drop, length, Option, Some, None, Result, Ok, Err, refl, sym, ap, ◌∙◌, append_assoc, arith}
+use Rattle.std.proofs.Common.{◌≡◌, ℕ, ◌≤◌, List, [], ◌++◌, take, drop, length, Option, Some, None, Result, Ok, Err, refl, sym, ap, ◌∙◌, subst, append_assoc, arith}
 use Rattle.std.specs.Result.{IsErrAnd}
 use Rattle.std.proofs.lemmas.List.{append-nil, take-append-drop}
 use Rattle.mcs_ports.specs.Causes.{Rose}
@@ -16,9 +16,8 @@ pub appended-none : (told : Option (List ℕ)) → told ≡ appended told []
 appended-none None = refl
 appended-none (Some w) = ap (λ t. Some t) (sym (append-nil w))
 
-due_later : (e : Unwritten) (a b c : ℕ) → a ≤ b → IsDue e (Rose b c) → IsDue e (Rose a c)
-due_later why.Fault a b c later rose = omega arith
-due_later why.Memory a b c later rose = tt
+due_later : (e : Unwritten) (a b c : ℕ) → b ≡ a → IsDue e b c → IsDue e a c
+due_later e a b c same due = subst (λ (n : ℕ). IsDue e n c) same due
 
 module _ {T U : Type 0} where
   -- one text after the other
@@ -27,6 +26,7 @@ module _ {T U : Type 0} where
   writes_then a b before mid now x (Ok y) f g = record {
     later = omega (arith, f.later, g.later);
     notes = g.notes ∙ f.notes;
+    quiet = g.quiet ∙ f.quiet;
     whole = g.whole ∙ ap (λ w. appended w b) f.whole ∙ appended-append before.written a b;
     front = tt;
     due = tt;
@@ -34,6 +34,7 @@ module _ {T U : Type 0} where
   writes_then a b before mid now x (Err e) f g = record {
     later = omega (arith, f.later, g.later);
     notes = g.notes ∙ f.notes;
+    quiet = tt;
     whole = tt;
     front = record {
       front = a ++ g.front.front;
@@ -41,7 +42,7 @@ module _ {T U : Type 0} where
       parts = append_assoc a g.front.front g.front.rest ∙ ap (λ t. a ++ t) g.front.parts;
       written = g.front.written ∙ ap (λ w. appended w g.front.front) f.whole ∙ appended-append before.written a g.front.front;
     };
-    due = due_later e before.faults mid.faults now.faults f.later g.due;
+    due = due_later e before.faults mid.faults now.faults f.quiet g.due;
   }
 
   -- a write that is cut off: what follows is not written
@@ -51,6 +52,7 @@ module _ {T U : Type 0} where
   writes_cut a b before now e (Err d) is f = record {
     later = f.later;
     notes = f.notes;
+    quiet = tt;
     whole = tt;
     front = record {
       front = f.front.front;
@@ -68,14 +70,15 @@ module _ {T : Type 0} where
   writes_none text at (Err d) is = record {
     later = omega arith;
     notes = refl;
+    quiet = tt;
     whole = tt;
     front = record { front = []; rest = text; parts = refl; written = appended-none at.written };
-    due = rw is tt;
+    due = rw is refl;
   }
 
   -- the empty text
   pub writes_nothing : (at : Device) (x : T) → Writes [] at at (Ok x)
-  writes_nothing at x = record { later = omega arith; notes = refl; whole = appended-none at.written; front = tt; due = tt }
+  writes_nothing at x = record { later = omega arith; notes = refl; quiet = refl; whole = appended-none at.written; front = tt; due = tt }
 
 module _ {T U : Type 0} where
   -- the same, of a line that is the first text
@@ -93,6 +96,7 @@ pub writes_fault : {T : Type 0} (text bytes : List ℕ) (before now : Device) �
 writes_fault text bytes before now same rose later notes (n, within, is) = record {
   later = later;
   notes = notes;
+  quiet = tt;
   whole = tt;
   front = record { front = take n bytes; rest = drop n bytes; parts = take-append-drop n bytes ∙ same; written = is };
   due = rose;

@@ -21,7 +21,7 @@ use Rattle.mcs_top.specs.declared.ending.Refusal.{Refusal}
 use Rattle.mcs_top.specs.declared.ending.Refusal.TheVariants as refusals
 use Rattle.mcs_top.specs.declared.ending.Stop.{Stop}
 use Rattle.mcs_top.specs.declared.ending.Stop.TheVariants as stops
-use Rattle.mcs_top.proofs.JobLemmas.{told_also, told_first, told_two, of_two, apart_of_two}
+use Rattle.mcs_top.proofs.JobLemmas.{told_also, told_first, told_two, of_two, apart_of_two, lacks_first, lacks_second}
 
 -- ---- why a file of it is not had
 never_first : (files : List File) → OfFirstFile (λ bytes. ⊥) files → ⊥
@@ -35,37 +35,37 @@ first_refused refusals.ReportTooLong files h = absurd (never_first files h)
 first_refused (refusals.Text number offset limit) files h = h
 
 module _ (held : Option (Word → File)) (file report : Word) where
-  pub check_read_cause : (shelf-rose sink-rose : Type 0) (stop : Stop) → StopsReading stop shelf-rose (told_all held (file ∷ [])) → HasCause stop shelf-rose sink-rose (check file report) (told_all held (file ∷ report ∷ []))
-  check_read_cause shelf-rose sink-rose stops.Usage h = h
-  check_read_cause shelf-rose sink-rose (stops.Refused why) h = told_also (told_all held (file ∷ report ∷ [])) _ _ (first_refused why) (told_first held file report (IsRefusedFor why) h)
-  check_read_cause shelf-rose sink-rose (stops.Unfinished level limit) h = absurd h
-  check_read_cause shelf-rose sink-rose stops.ReadFault h = h
-  check_read_cause shelf-rose sink-rose stops.WriteFault h = absurd h
-  check_read_cause shelf-rose sink-rose stops.Memory h = tt
+  pub check_read_cause : (shelf-rose failed sink-rose : Type 0) (stop : Stop) → StopsReading stop shelf-rose failed (told_all held (file ∷ [])) → HasCause stop shelf-rose failed sink-rose (check file report) (told_all held (file ∷ report ∷ []))
+  check_read_cause shelf-rose failed sink-rose stops.Usage h = h
+  check_read_cause shelf-rose failed sink-rose (stops.Refused why) h = told_also (told_all held (file ∷ report ∷ [])) _ _ (first_refused why) (told_first held file report (IsRefusedFor why) h)
+  check_read_cause shelf-rose failed sink-rose (stops.Unfinished level limit) h = absurd h
+  check_read_cause shelf-rose failed sink-rose stops.ReadFault h = (h.0, lacks_first held file report (λ bytes. (m : System) × IsTextOf m bytes) failed h.1)
+  check_read_cause shelf-rose failed sink-rose stops.WriteFault h = absurd h
+  check_read_cause shelf-rose failed sink-rose stops.Memory h = tt
 
   module _ (m : System) (read : IfSome (told_all held (file ∷ [])) (OfOneFile (IsTextOf m))) where
     too_long : IfSome (told_all held (report ∷ [])) (OfOneFile (λ bytes. ¬ (length bytes ≤ most_report_bytes))) → IfSome (told_all held (file ∷ report ∷ [])) (OfTwoFiles IsReportTooLong)
     too_long long = told_also (told_all held (file ∷ report ∷ [])) _ _ (λ fs. of_two (λ bytes more. IsTextOf m bytes × ¬ (length more ≤ most_report_bytes)) IsReportTooLong (λ bytes more (spelled, more_long). (m, spelled, more_long)) fs)
         (told_two held file report (IsTextOf m) (λ bytes. ¬ (length bytes ≤ most_report_bytes)) read long)
 
-    pub report_cause : (shelf-rose more-rose sink-rose : Type 0) → (more-rose → shelf-rose) → (stop : Stop) → StopsReport stop more-rose (told_all held (report ∷ []))
-        → HasCause stop shelf-rose sink-rose (check file report) (told_all held (file ∷ report ∷ []))
-    report_cause shelf-rose more-rose sink-rose up stops.Usage h = h
-    report_cause shelf-rose more-rose sink-rose up (stops.Refused refusals.TooLong) h = absurd h
-    report_cause shelf-rose more-rose sink-rose up (stops.Refused refusals.ReportTooLong) h = too_long h
-    report_cause shelf-rose more-rose sink-rose up (stops.Refused (refusals.Text number offset limit)) h = absurd h
-    report_cause shelf-rose more-rose sink-rose up (stops.Unfinished level limit) h = absurd h
-    report_cause shelf-rose more-rose sink-rose up stops.ReadFault h = up h
-    report_cause shelf-rose more-rose sink-rose up stops.WriteFault h = absurd h
-    report_cause shelf-rose more-rose sink-rose up stops.Memory h = tt
+    pub report_cause : (shelf-rose failed sink-rose more-rose more-failed : Type 0) → (more-rose → shelf-rose) → (more-failed → failed) → (stop : Stop) → StopsReport stop more-rose more-failed (told_all held (report ∷ []))
+        → HasCause stop shelf-rose failed sink-rose (check file report) (told_all held (file ∷ report ∷ []))
+    report_cause shelf-rose failed sink-rose more-rose more-failed up higher stops.Usage h = h
+    report_cause shelf-rose failed sink-rose more-rose more-failed up higher (stops.Refused refusals.TooLong) h = absurd h
+    report_cause shelf-rose failed sink-rose more-rose more-failed up higher (stops.Refused refusals.ReportTooLong) h = too_long h
+    report_cause shelf-rose failed sink-rose more-rose more-failed up higher (stops.Refused (refusals.Text number offset limit)) h = absurd h
+    report_cause shelf-rose failed sink-rose more-rose more-failed up higher (stops.Unfinished level limit) h = absurd h
+    report_cause shelf-rose failed sink-rose more-rose more-failed up higher stops.ReadFault h = (up h.0, lacks_second held file report (IsTextOf m) (λ bytes. (n : System) × IsTextOf n bytes) failed more-failed (λ bytes spelled. (m, spelled)) higher read h.1)
+    report_cause shelf-rose failed sink-rose more-rose more-failed up higher stops.WriteFault h = absurd h
+    report_cause shelf-rose failed sink-rose more-rose more-failed up higher stops.Memory h = tt
 
-    pub report_left : (more-rose : Type 0) (now : Option (List ℕ)) (stop : Stop) → StopsReport stop more-rose (told_all held (report ∷ [])) → LeavesText stop (check file report) (told_all held (file ∷ report ∷ [])) now now
-    report_left more-rose now stops.Usage h = refl
-    report_left more-rose now (stops.Refused why) h = refl
-    report_left more-rose now (stops.Unfinished level limit) h = absurd h
-    report_left more-rose now stops.ReadFault h = refl
-    report_left more-rose now stops.WriteFault h = absurd h
-    report_left more-rose now stops.Memory h = inl refl
+    pub report_left : (more-rose more-failed : Type 0) (now : Option (List ℕ)) (stop : Stop) → StopsReport stop more-rose more-failed (told_all held (report ∷ [])) → LeavesText stop (check file report) (told_all held (file ∷ report ∷ [])) now now
+    report_left more-rose more-failed now stops.Usage h = refl
+    report_left more-rose more-failed now (stops.Refused why) h = refl
+    report_left more-rose more-failed now (stops.Unfinished level limit) h = absurd h
+    report_left more-rose more-failed now stops.ReadFault h = refl
+    report_left more-rose more-failed now stops.WriteFault h = absurd h
+    report_left more-rose more-failed now stops.Memory h = inl refl
 
     -- ---- once both were read
     module _ (bytes : List ℕ) (few : length bytes ≤ most_report_bytes) (there : IfSome (told_all held (report ∷ [])) (OfOneFile (λ told. told ≡ bytes))) where
@@ -106,10 +106,10 @@ module _ (held : Option (Word → File)) (file report : Word) where
       }) both_read
 
       -- its line was not written whole
-      pub finding_cause : (found : Finding) (shelf-rose : Type 0) (before now : Device) (why : Unwritten) → Writes {T = Unit {0}} (finding_line found) before now (Err why)
-          → HasCause (stop_for_line why) shelf-rose (Rose before.faults now.faults) (check file report) (told_all held (file ∷ report ∷ []))
-      finding_cause found shelf-rose before now unwritten.Fault w = w.due
-      finding_cause found shelf-rose before now unwritten.Memory w = tt
+      pub finding_cause : (found : Finding) (shelf-rose failed : Type 0) (before now : Device) (why : Unwritten) → Writes {T = Unit {0}} (finding_line found) before now (Err why)
+          → HasCause (stop_for_line why) shelf-rose failed (Rose before.faults now.faults) (check file report) (told_all held (file ∷ report ∷ []))
+      finding_cause found shelf-rose failed before now unwritten.Fault w = w.due
+      finding_cause found shelf-rose failed before now unwritten.Memory w = tt
 
       pub finding_left : (found : Finding) → IsFinding m bytes found → (before now : Device) (why : Unwritten) → Writes {T = Unit {0}} (finding_line found) before now (Err why)
           → LeavesText (stop_for_line why) (check file report) (told_all held (file ∷ report ∷ [])) before.written now.written

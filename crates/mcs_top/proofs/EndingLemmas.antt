@@ -1,6 +1,10 @@
 -- What a run answers, notes and leaves where it stops.
-use Rattle.std.proofs.Common.{◌≡◌, ◌⊎◌, ℕ, List, Option, Some, None, IfSome, inl, inr, refl, sym, ◌∙◌, subst}
+use Rattle.std.proofs.Common.{◌≡◌, ◌⊎◌, ℕ, List, Option, Some, None, Result, Ok, Err, IfSome, inl, inr, refl, sym, ap, ◌∙◌, subst}
+use Rattle.std.specs.Result.{IsErrAnd}
 use Rattle.mcs_ports.specs.Pieces.{Device, noted}
+use Rattle.mcs_text.specs.Writes.{IsDue}
+use Rattle.mcs_text.specs.declared.unwritten.Unwritten.{Unwritten}
+use Rattle.mcs_text.specs.declared.unwritten.Unwritten.TheVariants as unwritten
 use Rattle.mcs_words.specs.Commands.{Request}
 use Rattle.mcs_words.specs.declared.job.WordsFault.{WordsFault}
 use Rattle.mcs_words.specs.declared.job.WordsFault.TheVariants as words
@@ -10,10 +14,10 @@ use Rattle.mcs_top.specs.declared.ending.Stop.TheVariants as stops
 use Rattle.mcs_top.specs.declared.status.Status.{Status}
 use Rattle.mcs_top.specs.declared.status.Status.TheVariants as statuses
 use Rattle.mcs_top.specs.Jobs.{File}
-use Rattle.mcs_top.specs.Endings.{line_of, status_of, refusal_line, unfinished_line, stop_for_words, IsTold, IsToldAs}
-use Rattle.mcs_top.specs.Promise.{IsRefusal, LacksBudget, budget_of, WritesBeyond, StopsBeyond, LacksFile, CanBeDone, CanBeRejected, EndsSo, WritesOutput, WritesRejection, WritesStage, TellsRefusal, Notes, IsUnlessMemory, HasCause, LeavesText}
+use Rattle.mcs_top.specs.Endings.{line_of, status_of, refusal_line, unfinished_line, stop_for_words, stop_for_line, IsTold, IsToldAs}
+use Rattle.mcs_top.specs.Promise.{IsRefusal, LacksBudget, budget_of, WritesBeyond, StopsBeyond, LacksFile, CanBeDone, CanBeRejected, EndsSo, WritesOutput, WritesRejection, WritesStage, TellsRefusal, Notes, IsUnlessMemory, CannotBeRead, HasCause, LeavesText, as_done}
 use Rattle.mcs_top.specs.declared.ending.Outcome.TheVariants as outcomes
-use Rattle.mcs_top.proofs.RefusalLemmas.{whole_front, output_not_short, short_not_refused, beyond_not_refused, beyond_not_missing, beyond_is_stage, can_not_beyond, output_not_refused, output_not_missing, stage_not_refused, can_not_refused, stage_not_missing, refusal_not_missing, rejection_not_refused, rejection_not_short, rejection_not_missing, rejected_not_refused, rejected_not_beyond}
+use Rattle.mcs_top.proofs.RefusalLemmas.{whole_front, output_not_short, short_not_refused, beyond_not_refused, beyond_not_missing, beyond_is_stage, can_not_beyond, output_not_refused, output_not_missing, stage_not_refused, can_not_refused, can_not_missing, rejected_not_missing, short_not_missing, stage_not_missing, refusal_not_missing, rejection_not_refused, rejection_not_short, rejection_not_missing, rejected_not_refused, rejected_not_beyond}
 
 -- ---- what a stop is told as
 pub told_status : (stop : Stop) (status : Status) (before now : Device) → IsTold stop status before now → IsUnlessMemory (status_of stop) status
@@ -52,11 +56,11 @@ words_told fault stop status before now is told = at fault (told_status (stop_fo
     at words.Memory (inr want) = inr want
 
 -- ---- a job that stops
-module _ (stop : Stop) (status : Status) (before now : Device) (told : IsTold stop status before now) (shelf-rose sink-rose : Type 0) (job : Request) (files : Option (List File)) (cause : HasCause stop shelf-rose sink-rose job files) where
+module _ (stop : Stop) (status : Status) (before now : Device) (told : IsTold stop status before now) (shelf-rose failed sink-rose : Type 0) (job : Request) (files : Option (List File)) (cause : HasCause stop shelf-rose failed sink-rose job files) where
   pub never_usage : status ≡ statuses.Usage → ⊥
   never_usage is = at stop (own_line stop status statuses.Usage before now told is (λ e. cc)).0 cause
     where
-      at : (s : Stop) → status_of s ≡ statuses.Usage → HasCause s shelf-rose sink-rose job files → ⊥
+      at : (s : Stop) → status_of s ≡ statuses.Usage → HasCause s shelf-rose failed sink-rose job files → ⊥
       at stops.Usage e h = h
       at (stops.Refused why) e h = cc
       at (stops.Unfinished level budget) e h = cc
@@ -89,18 +93,29 @@ module _ (stop : Stop) (status : Status) (before now : Device) (told : IsTold st
   pub read_rose : status ≡ statuses.ReadFault → shelf-rose
   read_rose is = at stop (own_line stop status statuses.ReadFault before now told is (λ e. cc)).0 cause
     where
-      at : (s : Stop) → status_of s ≡ statuses.ReadFault → HasCause s shelf-rose sink-rose job files → shelf-rose
+      at : (s : Stop) → status_of s ≡ statuses.ReadFault → HasCause s shelf-rose failed sink-rose job files → shelf-rose
       at stops.Usage e h = absurd h
       at (stops.Refused why) e h = absurd (cc)
       at (stops.Unfinished level budget) e h = absurd (cc)
-      at stops.ReadFault e h = h
+      at stops.ReadFault e h = h.0
+      at stops.WriteFault e h = absurd (cc)
+      at stops.Memory e h = absurd (cc)
+
+  pub read_lacks : status ≡ statuses.ReadFault → IfSome files (CannotBeRead failed job)
+  read_lacks is = at stop (own_line stop status statuses.ReadFault before now told is (λ e. cc)).0 cause
+    where
+      at : (s : Stop) → status_of s ≡ statuses.ReadFault → HasCause s shelf-rose failed sink-rose job files → IfSome files (CannotBeRead failed job)
+      at stops.Usage e h = absurd h
+      at (stops.Refused why) e h = absurd (cc)
+      at (stops.Unfinished level budget) e h = absurd (cc)
+      at stops.ReadFault e h = h.1
       at stops.WriteFault e h = absurd (cc)
       at stops.Memory e h = absurd (cc)
 
   pub write_rose : status ≡ statuses.WriteFault → sink-rose
   write_rose is = at stop (own_line stop status statuses.WriteFault before now told is (λ e. cc)).0 cause
     where
-      at : (s : Stop) → status_of s ≡ statuses.WriteFault → HasCause s shelf-rose sink-rose job files → sink-rose
+      at : (s : Stop) → status_of s ≡ statuses.WriteFault → HasCause s shelf-rose failed sink-rose job files → sink-rose
       at stops.Usage e h = absurd h
       at (stops.Refused why) e h = absurd (cc)
       at (stops.Unfinished level budget) e h = absurd (cc)
@@ -115,7 +130,7 @@ module _ (stop : Stop) (status : Status) (before now : Device) (told : IsTold st
       of why None line h = tt
       of why (Some fs) line h = record { why = why; reason = h; line = line }
 
-      at : (s : Stop) → status_of s ≡ statuses.Refused → now.notes ≡ noted before.notes (line_of s) → HasCause s shelf-rose sink-rose job files → IfSome files (TellsRefusal before.notes now.notes job)
+      at : (s : Stop) → status_of s ≡ statuses.Refused → now.notes ≡ noted before.notes (line_of s) → HasCause s shelf-rose failed sink-rose job files → IfSome files (TellsRefusal before.notes now.notes job)
       at stops.Usage e line h = absurd h
       at (stops.Refused why) e line h = of why files line h
       at (stops.Unfinished level budget) e line h = absurd (cc)
@@ -125,23 +140,23 @@ module _ (stop : Stop) (status : Status) (before now : Device) (told : IsTold st
 
   -- ---- and what it leaves
   module _ (first last : Option (List ℕ)) (leaves : LeavesText stop job files first last) where
-    pub stop_refuses : IfSome files (λ fs. (why : Refusal) → IsRefusal why job fs → ¬ shelf-rose → IsUnlessMemory statuses.Refused status)
+    pub stop_refuses : IfSome files (λ fs. (why : Refusal) → IsRefusal why job fs → ¬ failed → IsUnlessMemory statuses.Refused status)
     stop_refuses = at stop files (told_status stop status before now told) cause leaves
       where
-        at : (s : Stop) (fs : Option (List File)) → IsUnlessMemory (status_of s) status → HasCause s shelf-rose sink-rose job fs → LeavesText s job fs first last
-            → IfSome fs (λ gs. (why : Refusal) → IsRefusal why job gs → ¬ shelf-rose → IsUnlessMemory statuses.Refused status)
+        at : (s : Stop) (fs : Option (List File)) → IsUnlessMemory (status_of s) status → HasCause s shelf-rose failed sink-rose job fs → LeavesText s job fs first last
+            → IfSome fs (λ gs. (why : Refusal) → IsRefusal why job gs → ¬ failed → IsUnlessMemory statuses.Refused status)
         at s None due h left = tt
         at stops.Usage (Some fs) due h left = absurd h
         at (stops.Refused r) (Some fs) due h left = λ why reason calm. due
         at (stops.Unfinished level budget) (Some fs) due h left = λ why reason calm. absurd (beyond_not_refused left.text level why job fs left.holds reason)
-        at stops.ReadFault (Some fs) due h left = λ why reason calm. absurd (calm h)
+        at stops.ReadFault (Some fs) due h left = λ why reason calm. absurd (elim h.1 [ inl lacks ↦ refusal_not_missing why job fs reason lacks | inr broken ↦ calm broken ])
         at stops.WriteFault (Some fs) due h left = λ why reason calm. absurd (stage_not_refused left.text why job fs left.holds reason)
         at stops.Memory (Some fs) due h left = λ why reason calm. elim due [ inl is ↦ inr is | inr is ↦ inr is ]
 
     pub stop_misses : IfSome files (λ fs. LacksFile job fs → IsUnlessMemory statuses.ReadFault status)
     stop_misses = at stop files (told_status stop status before now told) cause leaves
       where
-        at : (s : Stop) (fs : Option (List File)) → IsUnlessMemory (status_of s) status → HasCause s shelf-rose sink-rose job fs → LeavesText s job fs first last
+        at : (s : Stop) (fs : Option (List File)) → IsUnlessMemory (status_of s) status → HasCause s shelf-rose failed sink-rose job fs → LeavesText s job fs first last
             → IfSome fs (λ gs. LacksFile job gs → IsUnlessMemory statuses.ReadFault status)
         at s None due h left = tt
         at stops.Usage (Some fs) due h left = absurd h
@@ -151,42 +166,42 @@ module _ (stop : Stop) (status : Status) (before now : Device) (told : IsTold st
         at stops.WriteFault (Some fs) due h left = λ lacks. absurd (stage_not_missing left.text job fs left.holds lacks)
         at stops.Memory (Some fs) due h left = λ lacks. elim due [ inl is ↦ inr is | inr is ↦ inr is ]
 
-    pub stop_completes : IfSome files (λ fs. CanBeDone job fs → ¬ shelf-rose → ¬ sink-rose → IsUnlessMemory statuses.Done status)
+    pub stop_completes : IfSome files (λ fs. CanBeDone job fs → ¬ failed → ¬ sink-rose → IsUnlessMemory statuses.Done status)
     stop_completes = at stop files (told_status stop status before now told) cause leaves
       where
-        at : (s : Stop) (fs : Option (List File)) → IsUnlessMemory (status_of s) status → HasCause s shelf-rose sink-rose job fs → LeavesText s job fs first last
-            → IfSome fs (λ gs. CanBeDone job gs → ¬ shelf-rose → ¬ sink-rose → IsUnlessMemory statuses.Done status)
+        at : (s : Stop) (fs : Option (List File)) → IsUnlessMemory (status_of s) status → HasCause s shelf-rose failed sink-rose job fs → LeavesText s job fs first last
+            → IfSome fs (λ gs. CanBeDone job gs → ¬ failed → ¬ sink-rose → IsUnlessMemory statuses.Done status)
         at s None due h left = tt
         at stops.Usage (Some fs) due h left = absurd h
         at (stops.Refused r) (Some fs) due h left = λ can calm quiet. absurd (can_not_refused r job fs can h)
         at (stops.Unfinished level budget) (Some fs) due h left = λ can calm quiet. absurd (can_not_beyond left.text level job fs can left.holds)
-        at stops.ReadFault (Some fs) due h left = λ can calm quiet. absurd (calm h)
+        at stops.ReadFault (Some fs) due h left = λ can calm quiet. absurd (elim h.1 [ inl lacks ↦ can_not_missing job fs can lacks | inr broken ↦ calm broken ])
         at stops.WriteFault (Some fs) due h left = λ can calm quiet. absurd (quiet h)
         at stops.Memory (Some fs) due h left = λ can calm quiet. elim due [ inl is ↦ inr is | inr is ↦ inr is ]
 
-    pub stop_rejects : IfSome files (λ fs. CanBeRejected job fs → ¬ shelf-rose → ¬ sink-rose → IsUnlessMemory statuses.NotValid status)
+    pub stop_rejects : IfSome files (λ fs. CanBeRejected job fs → ¬ failed → ¬ sink-rose → IsUnlessMemory statuses.NotValid status)
     stop_rejects = at stop files (told_status stop status before now told) cause leaves
       where
-        at : (s : Stop) (fs : Option (List File)) → IsUnlessMemory (status_of s) status → HasCause s shelf-rose sink-rose job fs → LeavesText s job fs first last
-            → IfSome fs (λ gs. CanBeRejected job gs → ¬ shelf-rose → ¬ sink-rose → IsUnlessMemory statuses.NotValid status)
+        at : (s : Stop) (fs : Option (List File)) → IsUnlessMemory (status_of s) status → HasCause s shelf-rose failed sink-rose job fs → LeavesText s job fs first last
+            → IfSome fs (λ gs. CanBeRejected job gs → ¬ failed → ¬ sink-rose → IsUnlessMemory statuses.NotValid status)
         at s None due h left = tt
         at stops.Usage (Some fs) due h left = absurd h
         at (stops.Refused r) (Some fs) due h left = λ can calm quiet. absurd (rejected_not_refused r job fs can h)
         at (stops.Unfinished level budget) (Some fs) due h left = λ can calm quiet. absurd (rejected_not_beyond left.text level job fs can left.holds)
-        at stops.ReadFault (Some fs) due h left = λ can calm quiet. absurd (calm h)
+        at stops.ReadFault (Some fs) due h left = λ can calm quiet. absurd (elim h.1 [ inl lacks ↦ rejected_not_missing job fs can lacks | inr broken ↦ calm broken ])
         at stops.WriteFault (Some fs) due h left = λ can calm quiet. absurd (quiet h)
         at stops.Memory (Some fs) due h left = λ can calm quiet. elim due [ inl is ↦ inr is | inr is ↦ inr is ]
 
-    pub stop_spends : IfSome files (λ fs. LacksBudget job fs → ¬ shelf-rose → ¬ sink-rose → IsUnlessMemory statuses.Unfinished status)
+    pub stop_spends : IfSome files (λ fs. LacksBudget job fs → ¬ failed → ¬ sink-rose → IsUnlessMemory statuses.Unfinished status)
     stop_spends = at stop files (told_status stop status before now told) cause
       where
-        at : (s : Stop) (fs : Option (List File)) → IsUnlessMemory (status_of s) status → HasCause s shelf-rose sink-rose job fs
-            → IfSome fs (λ gs. LacksBudget job gs → ¬ shelf-rose → ¬ sink-rose → IsUnlessMemory statuses.Unfinished status)
+        at : (s : Stop) (fs : Option (List File)) → IsUnlessMemory (status_of s) status → HasCause s shelf-rose failed sink-rose job fs
+            → IfSome fs (λ gs. LacksBudget job gs → ¬ failed → ¬ sink-rose → IsUnlessMemory statuses.Unfinished status)
         at s None due h = tt
         at stops.Usage (Some fs) due h = absurd h
         at (stops.Refused r) (Some fs) due h = λ short calm quiet. absurd (short_not_refused r job fs short h)
         at (stops.Unfinished at_level budget) (Some fs) due h = λ short calm quiet. due
-        at stops.ReadFault (Some fs) due h = λ short calm quiet. absurd (calm h)
+        at stops.ReadFault (Some fs) due h = λ short calm quiet. absurd (elim h.1 [ inl lacks ↦ short_not_missing job fs short lacks | inr broken ↦ calm broken ])
         at stops.WriteFault (Some fs) due h = λ short calm quiet. absurd (quiet h)
         at stops.Memory (Some fs) due h = λ short calm quiet. elim due [ inl is ↦ inr is | inr is ↦ inr is ]
 
@@ -198,7 +213,7 @@ module _ (stop : Stop) (status : Status) (before now : Device) (told : IsTold st
         of level budget None line same left = tt
         of level budget (Some fs) line same left = record { level = level; writes = left; line = subst (λ (n : ℕ). now.notes ≡ noted before.notes (unfinished_line level n)) same line }
 
-        at : (s : Stop) → status_of s ≡ statuses.Unfinished → now.notes ≡ noted before.notes (line_of s) → HasCause s shelf-rose sink-rose job files → LeavesText s job files first last
+        at : (s : Stop) → status_of s ≡ statuses.Unfinished → now.notes ≡ noted before.notes (line_of s) → HasCause s shelf-rose failed sink-rose job files → LeavesText s job files first last
             → IfSome files (StopsBeyond first last before.notes now.notes job)
         at stops.Usage e line h left = absurd h
         at (stops.Refused why) e line h left = absurd (cc)
@@ -210,7 +225,7 @@ module _ (stop : Stop) (status : Status) (before now : Device) (told : IsTold st
     pub unfinished : status ≡ statuses.WriteFault → IfSome files (WritesStage first last job)
     unfinished is = at stop (own_line stop status statuses.WriteFault before now told is (λ e. cc)).0 cause leaves
       where
-        at : (s : Stop) → status_of s ≡ statuses.WriteFault → HasCause s shelf-rose sink-rose job files → LeavesText s job files first last → IfSome files (WritesStage first last job)
+        at : (s : Stop) → status_of s ≡ statuses.WriteFault → HasCause s shelf-rose failed sink-rose job files → LeavesText s job files first last → IfSome files (WritesStage first last job)
         at stops.Usage e h left = absurd h
         at (stops.Refused why) e h left = absurd (cc)
         at (stops.Unfinished level budget) e h left = absurd (cc)
@@ -256,47 +271,47 @@ module _ (stop : Stop) (status : Status) (before now : Device) (told : IsTold st
 
 -- ---- a run that wants memory, whatever the job
 module _ (status : Status) (want : status ≡ statuses.OutOfMemory) (job : Request) where
-  pub memory_refuses : (files : Option (List File)) (shelf-rose : Type 0) → IfSome files (λ fs. (why : Refusal) → IsRefusal why job fs → ¬ shelf-rose → IsUnlessMemory statuses.Refused status)
-  memory_refuses None shelf-rose = tt
-  memory_refuses (Some fs) shelf-rose = λ why reason calm. inr want
+  pub memory_refuses : (files : Option (List File)) (failed : Type 0) → IfSome files (λ fs. (why : Refusal) → IsRefusal why job fs → ¬ failed → IsUnlessMemory statuses.Refused status)
+  memory_refuses None failed = tt
+  memory_refuses (Some fs) failed = λ why reason calm. inr want
 
-  pub memory_spends : (files : Option (List File)) (shelf-rose sink-rose : Type 0)
-      → IfSome files (λ fs. LacksBudget job fs → ¬ shelf-rose → ¬ sink-rose → IsUnlessMemory statuses.Unfinished status)
-  memory_spends None shelf-rose sink-rose = tt
-  memory_spends (Some fs) shelf-rose sink-rose = λ short calm quiet. inr want
+  pub memory_spends : (files : Option (List File)) (failed sink-rose : Type 0)
+      → IfSome files (λ fs. LacksBudget job fs → ¬ failed → ¬ sink-rose → IsUnlessMemory statuses.Unfinished status)
+  memory_spends None failed sink-rose = tt
+  memory_spends (Some fs) failed sink-rose = λ short calm quiet. inr want
 
   pub memory_misses : (files : Option (List File)) → IfSome files (λ fs. LacksFile job fs → IsUnlessMemory statuses.ReadFault status)
   memory_misses None = tt
   memory_misses (Some fs) = λ lacks. inr want
 
-  pub memory_completes : (files : Option (List File)) (shelf-rose sink-rose : Type 0) → IfSome files (λ fs. CanBeDone job fs → ¬ shelf-rose → ¬ sink-rose → IsUnlessMemory statuses.Done status)
-  memory_completes None shelf-rose sink-rose = tt
-  memory_completes (Some fs) shelf-rose sink-rose = λ can calm quiet. inr want
+  pub memory_completes : (files : Option (List File)) (failed sink-rose : Type 0) → IfSome files (λ fs. CanBeDone job fs → ¬ failed → ¬ sink-rose → IsUnlessMemory statuses.Done status)
+  memory_completes None failed sink-rose = tt
+  memory_completes (Some fs) failed sink-rose = λ can calm quiet. inr want
 
-  pub memory_rejects : (files : Option (List File)) (shelf-rose sink-rose : Type 0) → IfSome files (λ fs. CanBeRejected job fs → ¬ shelf-rose → ¬ sink-rose → IsUnlessMemory statuses.NotValid status)
-  memory_rejects None shelf-rose sink-rose = tt
-  memory_rejects (Some fs) shelf-rose sink-rose = λ can calm quiet. inr want
+  pub memory_rejects : (files : Option (List File)) (failed sink-rose : Type 0) → IfSome files (λ fs. CanBeRejected job fs → ¬ failed → ¬ sink-rose → IsUnlessMemory statuses.NotValid status)
+  memory_rejects None failed sink-rose = tt
+  memory_rejects (Some fs) failed sink-rose = λ can calm quiet. inr want
 
 -- ---- a job that was done
 module _ (status : Status) (job : Request) (first last : Option (List ℕ)) where
-  pub done_refuses : (files : Option (List File)) (shelf-rose : Type 0) → IfSome files (EndsSo outcomes.Done first last job)
-      → IfSome files (λ fs. (why : Refusal) → IsRefusal why job fs → ¬ shelf-rose → IsUnlessMemory statuses.Refused status)
-  done_refuses None shelf-rose h = tt
-  done_refuses (Some fs) shelf-rose h = λ why reason calm. absurd (output_not_refused h.writes.text why job fs h.writes.holds reason)
+  pub done_refuses : (files : Option (List File)) (failed : Type 0) → IfSome files (EndsSo outcomes.Done first last job)
+      → IfSome files (λ fs. (why : Refusal) → IsRefusal why job fs → ¬ failed → IsUnlessMemory statuses.Refused status)
+  done_refuses None failed h = tt
+  done_refuses (Some fs) failed h = λ why reason calm. absurd (output_not_refused h.writes.text why job fs h.writes.holds reason)
 
   pub done_misses : (files : Option (List File)) → IfSome files (EndsSo outcomes.Done first last job) → IfSome files (λ fs. LacksFile job fs → IsUnlessMemory statuses.ReadFault status)
   done_misses None h = tt
   done_misses (Some fs) h = λ lacks. absurd (output_not_missing h.writes.text job fs h.writes.holds lacks)
 
-  pub done_spends : (files : Option (List File)) (shelf-rose sink-rose : Type 0) → IfSome files (EndsSo outcomes.Done first last job)
-      → IfSome files (λ fs. LacksBudget job fs → ¬ shelf-rose → ¬ sink-rose → IsUnlessMemory statuses.Unfinished status)
-  done_spends None shelf-rose sink-rose h = tt
-  done_spends (Some fs) shelf-rose sink-rose h = λ short calm quiet. absurd (output_not_short h.writes.text job fs h.writes.holds short)
+  pub done_spends : (files : Option (List File)) (failed sink-rose : Type 0) → IfSome files (EndsSo outcomes.Done first last job)
+      → IfSome files (λ fs. LacksBudget job fs → ¬ failed → ¬ sink-rose → IsUnlessMemory statuses.Unfinished status)
+  done_spends None failed sink-rose h = tt
+  done_spends (Some fs) failed sink-rose h = λ short calm quiet. absurd (output_not_short h.writes.text job fs h.writes.holds short)
 
-  pub done_rejects : (files : Option (List File)) (shelf-rose sink-rose : Type 0) → IfSome files (EndsSo outcomes.Done first last job)
-      → IfSome files (λ fs. CanBeRejected job fs → ¬ shelf-rose → ¬ sink-rose → IsUnlessMemory statuses.NotValid status)
-  done_rejects None shelf-rose sink-rose h = tt
-  done_rejects (Some fs) shelf-rose sink-rose h = λ can calm quiet. absurd (h.only can)
+  pub done_rejects : (files : Option (List File)) (failed sink-rose : Type 0) → IfSome files (EndsSo outcomes.Done first last job)
+      → IfSome files (λ fs. CanBeRejected job fs → ¬ failed → ¬ sink-rose → IsUnlessMemory statuses.NotValid status)
+  done_rejects None failed sink-rose h = tt
+  done_rejects (Some fs) failed sink-rose h = λ can calm quiet. absurd (h.only can)
 
   pub done_writes : (files : Option (List File)) → IfSome files (EndsSo outcomes.Done first last job) → IfSome files (WritesOutput first last job)
   done_writes None h = tt
@@ -304,25 +319,35 @@ module _ (status : Status) (job : Request) (first last : Option (List ℕ)) wher
 
 -- ---- a job that found a report not valid
 module _ (status : Status) (job : Request) (first last : Option (List ℕ)) where
-  pub rejected_refuses : (files : Option (List File)) (shelf-rose : Type 0) → IfSome files (EndsSo outcomes.NotValid first last job)
-      → IfSome files (λ fs. (why : Refusal) → IsRefusal why job fs → ¬ shelf-rose → IsUnlessMemory statuses.Refused status)
-  rejected_refuses None shelf-rose h = tt
-  rejected_refuses (Some fs) shelf-rose h = λ why reason calm. absurd (rejection_not_refused h.writes.text why job fs h.writes.holds reason)
+  pub rejected_refuses : (files : Option (List File)) (failed : Type 0) → IfSome files (EndsSo outcomes.NotValid first last job)
+      → IfSome files (λ fs. (why : Refusal) → IsRefusal why job fs → ¬ failed → IsUnlessMemory statuses.Refused status)
+  rejected_refuses None failed h = tt
+  rejected_refuses (Some fs) failed h = λ why reason calm. absurd (rejection_not_refused h.writes.text why job fs h.writes.holds reason)
 
   pub rejected_misses : (files : Option (List File)) → IfSome files (EndsSo outcomes.NotValid first last job) → IfSome files (λ fs. LacksFile job fs → IsUnlessMemory statuses.ReadFault status)
   rejected_misses None h = tt
   rejected_misses (Some fs) h = λ lacks. absurd (rejection_not_missing h.writes.text job fs h.writes.holds lacks)
 
-  pub rejected_spends : (files : Option (List File)) (shelf-rose sink-rose : Type 0) → IfSome files (EndsSo outcomes.NotValid first last job)
-      → IfSome files (λ fs. LacksBudget job fs → ¬ shelf-rose → ¬ sink-rose → IsUnlessMemory statuses.Unfinished status)
-  rejected_spends None shelf-rose sink-rose h = tt
-  rejected_spends (Some fs) shelf-rose sink-rose h = λ short calm quiet. absurd (rejection_not_short h.writes.text job fs h.writes.holds short)
+  pub rejected_spends : (files : Option (List File)) (failed sink-rose : Type 0) → IfSome files (EndsSo outcomes.NotValid first last job)
+      → IfSome files (λ fs. LacksBudget job fs → ¬ failed → ¬ sink-rose → IsUnlessMemory statuses.Unfinished status)
+  rejected_spends None failed sink-rose h = tt
+  rejected_spends (Some fs) failed sink-rose h = λ short calm quiet. absurd (rejection_not_short h.writes.text job fs h.writes.holds short)
 
-  pub rejected_completes : (files : Option (List File)) (shelf-rose sink-rose : Type 0) → IfSome files (EndsSo outcomes.NotValid first last job)
-      → IfSome files (λ fs. CanBeDone job fs → ¬ shelf-rose → ¬ sink-rose → IsUnlessMemory statuses.Done status)
-  rejected_completes None shelf-rose sink-rose h = tt
-  rejected_completes (Some fs) shelf-rose sink-rose h = λ can calm quiet. absurd (h.only can)
+  pub rejected_completes : (files : Option (List File)) (failed sink-rose : Type 0) → IfSome files (EndsSo outcomes.NotValid first last job)
+      → IfSome files (λ fs. CanBeDone job fs → ¬ failed → ¬ sink-rose → IsUnlessMemory statuses.Done status)
+  rejected_completes None failed sink-rose h = tt
+  rejected_completes (Some fs) failed sink-rose h = λ can calm quiet. absurd (h.only can)
 
   pub rejected_writes : (files : Option (List File)) → IfSome files (EndsSo outcomes.NotValid first last job) → IfSome files (WritesRejection first last job)
   rejected_writes None h = tt
   rejected_writes (Some fs) h = h.writes
+
+-- ---- unless a write fault is told, no write failed
+-- a line that was not written whole
+pub line_unfailed : {T : Type 0} (why : Unwritten) (before now : ℕ) (r : Result T Stop) → IsErrAnd r (λ s. s ≡ stop_for_line why) → IsDue why before now → ¬ (r ≡ Err stops.WriteFault) → now ≡ before
+line_unfailed unwritten.Fault before now (Ok x) is due other = absurd is
+line_unfailed unwritten.Fault before now (Err s) is due other = absurd (other (ap (λ (e : Stop). Err e) is))
+line_unfailed unwritten.Memory before now r is due other = due
+
+pub done_unfailed : (P : Type 0) (r : Result (Unit {0}) Stop) → (¬ (r ≡ Err stops.WriteFault) → P) → ¬ (as_done r ≡ Err stops.WriteFault) → P
+done_unfailed P r f other = f (λ is. other (ap as_done is))

@@ -1,8 +1,8 @@
 -- The one job that words ask for, and what a shelf tells of its files.
-use Rattle.std.proofs.Common.{ℕ, List, [], ◌∷◌, Option, Some, None, IfSome, subst}
+use Rattle.std.proofs.Common.{◌≡◌, ◌⊎◌, ℕ, List, [], ◌∷◌, Option, Some, None, IfSome, IsSome, refl, inl, inr, subst}
 use Rattle.mcs_words.specs.Commands.{Word, Request, IsJobOf}
 use Rattle.mcs_words.proofs.JobLemmas.{asked_once}
-use Rattle.mcs_top.specs.Jobs.{File, files_in, told_all, IfJob, OfOneFile, OfFirstFile, OfTwoFiles}
+use Rattle.mcs_top.specs.Jobs.{File, files_in, told_all, IfJob, OfOneFile, OfFirstFile, OfTwoFiles, LacksOneOfTwo}
 
 -- what holds of one file
 pub told_one : (held : Option (Word → File)) (name : Word) (P : List File → Type 0) → IfSome held (λ files. P (files name ∷ [])) → IfSome (told_all held (name ∷ [])) P
@@ -67,6 +67,39 @@ apart_of_first P Q f (Some bytes ∷ []) h k = h
 apart_of_first P Q f (Some bytes ∷ (None ∷ files)) h k = h
 apart_of_first P Q f (Some bytes ∷ (Some more ∷ [])) h k = f bytes more h k
 apart_of_first P Q f (Some bytes ∷ (Some more ∷ (file ∷ files))) h k = h
+
+-- the first file is not there
+first_absent : (P : List ℕ → Type 0) (file : File) (files : List File) → file ∷ [] ≡ None ∷ [] → LacksOneOfTwo P (file ∷ files)
+first_absent P None files is = tt
+first_absent P (Some bytes) files is = absurd (cc)
+
+pub lacks_first : (held : Option (Word → File)) (name other : Word) (P : List ℕ → Type 0) (failed : Type 0) → IfSome (told_all held (name ∷ [])) (λ fs. (fs ≡ None ∷ []) ⊎ failed)
+    → IfSome (told_all held (name ∷ other ∷ [])) (λ fs. LacksOneOfTwo P fs ⊎ failed)
+lacks_first None name other P failed h = tt
+lacks_first (Some files) name other P failed (inl absent) = inl (first_absent P (files name) (files other ∷ []) absent)
+lacks_first (Some files) name other P failed (inr broken) = inr broken
+
+-- the first file is there, and the second is not
+second_absent : (P Q : List ℕ → Type 0) → ((bytes : List ℕ) → P bytes → Q bytes) → (file other : File) → OfOneFile P (file ∷ []) → other ∷ [] ≡ None ∷ [] → LacksOneOfTwo Q (file ∷ (other ∷ []))
+second_absent P Q f None other h is = tt
+second_absent P Q f (Some bytes) None h is = f bytes h
+second_absent P Q f (Some bytes) (Some more) h is = absurd (cc)
+
+pub lacks_second : (held : Option (Word → File)) (name other : Word) (P Q : List ℕ → Type 0) (failed broke : Type 0) → ((bytes : List ℕ) → P bytes → Q bytes) → (broke → failed) → IfSome (told_all held (name ∷ [])) (OfOneFile P)
+    → IfSome (told_all held (other ∷ [])) (λ fs. (fs ≡ None ∷ []) ⊎ broke) → IfSome (told_all held (name ∷ other ∷ [])) (λ fs. LacksOneOfTwo Q fs ⊎ failed)
+lacks_second None name other P Q failed broke f up h k = tt
+lacks_second (Some files) name other P Q failed broke f up h (inl absent) = inl (second_absent P Q f (files name) (files other) h absent)
+lacks_second (Some files) name other P Q failed broke f up h (inr broken) = inr (up broken)
+
+-- ---- a file that could not be read
+-- a call on it failed, unless it is not there
+pub fault_of_one : (held : Option (Word → File)) (name : Word) (told failed : Type 0) → told → IfSome held (λ files. IsSome (files name) → told → failed) → IfSome (told_all held (name ∷ [])) (λ fs. (fs ≡ None ∷ []) ⊎ failed)
+fault_of_one None name told failed is h = tt
+fault_of_one (Some files) name told failed is h = at (files name) h
+  where
+    at : (file : File) → (IsSome file → told → failed) → (file ∷ [] ≡ None ∷ []) ⊎ failed
+    at None broke = inl refl
+    at (Some bytes) broke = inr (broke refl is)
 
 -- what holds of the job that was found holds of each that the words ask for, since that is one
 pub if_job : (words : List Word) (job : Request) → IsJobOf words job → (held : Option (Word → File)) (P : Request → List File → Type 0)

@@ -5,3 +5,4 @@ pub mod StageLemmas
 pub mod EvaluatorLemmas
 pub mod ProvingLemmas
 pub mod CheckingLemmas
+pub mod PromiseLemmas

@@ -137,13 +137,13 @@ answers_stopped m level before now unwritten.Memory p = p.front
 
 -- ---- the job of a command
 module _ (name : Word) (budget workers : ℕ) where
-  pub proof_read_cause : (shelf-rose sink-rose : Type 0) (files : Option (List File)) (stop : Stop) → StopsReading stop shelf-rose files → HasCause stop shelf-rose sink-rose (solve name budget workers true) files
-  proof_read_cause shelf-rose sink-rose files stops.Usage h = h
-  proof_read_cause shelf-rose sink-rose files (stops.Refused why) h = told_also files _ _ (λ fs k. k) h
-  proof_read_cause shelf-rose sink-rose files (stops.Unfinished level limit) h = absurd h
-  proof_read_cause shelf-rose sink-rose files stops.ReadFault h = h
-  proof_read_cause shelf-rose sink-rose files stops.WriteFault h = absurd h
-  proof_read_cause shelf-rose sink-rose files stops.Memory h = tt
+  pub proof_read_cause : (shelf-rose failed sink-rose : Type 0) (files : Option (List File)) (stop : Stop) → StopsReading stop shelf-rose failed files → HasCause stop shelf-rose failed sink-rose (solve name budget workers true) files
+  proof_read_cause shelf-rose failed sink-rose files stops.Usage h = h
+  proof_read_cause shelf-rose failed sink-rose files (stops.Refused why) h = told_also files _ _ (λ fs k. k) h
+  proof_read_cause shelf-rose failed sink-rose files (stops.Unfinished level limit) h = absurd h
+  proof_read_cause shelf-rose failed sink-rose files stops.ReadFault h = h
+  proof_read_cause shelf-rose failed sink-rose files stops.WriteFault h = absurd h
+  proof_read_cause shelf-rose failed sink-rose files stops.Memory h = tt
 
   module _ (m : System) (files : Option (List File)) (read : IfSome files (OfOneFile (IsTextOf m))) where
     solution_stage : (before now : Option (List ℕ)) → PrintsFront (IsSolutionStage true m) before now → IfSome files (WritesStage before now (solve name budget workers true))
@@ -170,13 +170,13 @@ module _ (name : Word) (budget workers : ℕ) where
       written = p.written;
     }) read
 
-    proof_cause : (shelf-rose sink-rose : Type 0) (before now : Option (List ℕ)) (stop : Stop) → StopsProof stop budget m sink-rose before now → HasCause stop shelf-rose sink-rose (solve name budget workers true) files
-    proof_cause shelf-rose sink-rose before now stops.Usage h = h
-    proof_cause shelf-rose sink-rose before now (stops.Refused why) h = absurd h
-    proof_cause shelf-rose sink-rose before now (stops.Unfinished level limit) h = h.0
-    proof_cause shelf-rose sink-rose before now stops.ReadFault h = absurd h
-    proof_cause shelf-rose sink-rose before now stops.WriteFault h = h.0
-    proof_cause shelf-rose sink-rose before now stops.Memory h = tt
+    proof_cause : (shelf-rose failed sink-rose : Type 0) (before now : Option (List ℕ)) (stop : Stop) → StopsProof stop budget m sink-rose before now → HasCause stop shelf-rose failed sink-rose (solve name budget workers true) files
+    proof_cause shelf-rose failed sink-rose before now stops.Usage h = h
+    proof_cause shelf-rose failed sink-rose before now (stops.Refused why) h = absurd h
+    proof_cause shelf-rose failed sink-rose before now (stops.Unfinished level limit) h = h.0
+    proof_cause shelf-rose failed sink-rose before now stops.ReadFault h = absurd h
+    proof_cause shelf-rose failed sink-rose before now stops.WriteFault h = h.0
+    proof_cause shelf-rose failed sink-rose before now stops.Memory h = tt
 
     proof_left : (sink-rose : Type 0) (before now : Option (List ℕ)) (stop : Stop) → StopsProof stop budget m sink-rose before now → LeavesText stop (solve name budget workers true) files before now
     proof_left sink-rose before now stops.Usage h = absurd h
@@ -190,10 +190,10 @@ module _ (name : Word) (budget workers : ℕ) where
     proof_left sink-rose before now stops.WriteFault h = solution_stage before now h.1
     proof_left sink-rose before now stops.Memory h = inr (solution_stage before now h)
 
-    pub proof_causes : (shelf-rose sink-rose : Type 0) (before now : Option (List ℕ)) (r : Result (Unit {0}) Stop) → IfErr r (λ stop. StopsProof stop budget m sink-rose before now)
-        → IfErr r (λ stop. HasCause stop shelf-rose sink-rose (solve name budget workers true) files)
-    proof_causes shelf-rose sink-rose before now (Ok x) h = tt
-    proof_causes shelf-rose sink-rose before now (Err stop) h = proof_cause shelf-rose sink-rose before now stop h
+    pub proof_causes : (shelf-rose failed sink-rose : Type 0) (before now : Option (List ℕ)) (r : Result (Unit {0}) Stop) → IfErr r (λ stop. StopsProof stop budget m sink-rose before now)
+        → IfErr r (λ stop. HasCause stop shelf-rose failed sink-rose (solve name budget workers true) files)
+    proof_causes shelf-rose failed sink-rose before now (Ok x) h = tt
+    proof_causes shelf-rose failed sink-rose before now (Err stop) h = proof_cause shelf-rose failed sink-rose before now stop h
 
     pub proof_leaves : (sink-rose : Type 0) (before now : Option (List ℕ)) (r : Result (Unit {0}) Stop) → IfErr r (λ stop. StopsProof stop budget m sink-rose before now)
         → IfErr r (λ stop. LeavesText stop (solve name budget workers true) files before now)

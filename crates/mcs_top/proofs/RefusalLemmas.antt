@@ -172,6 +172,18 @@ refusal_not_missing why (solve file budget workers proof) files h is = missing _
 refusal_not_missing why (check file report) files h k = check_refusal_not_missing why files h k
 refusal_not_missing why (make number budget workers) files h k = k
 
+pub can_not_missing : (job : Request) (files : List File) → CanBeDone job files → LacksFile job files → ⊥
+can_not_missing (equilibria file budget workers) files h is = missing _ files is h
+can_not_missing (solve file budget workers proof) files h is = missing _ files is h
+can_not_missing (check file report) files h k = both_there (OfReport IsValidReport) (λ bytes. (m : System) × IsTextOf m bytes) files h k
+can_not_missing (make number budget workers) files h k = k
+
+pub short_not_missing : (job : Request) (files : List File) → LacksBudget job files → LacksFile job files → ⊥
+short_not_missing (equilibria file budget workers) files h is = missing _ files is h
+short_not_missing (solve file budget workers proof) files h is = missing _ files is h
+short_not_missing (check file report) files h k = h
+short_not_missing (make number budget workers) files h k = k
+
 -- ---- that a report is not valid
 pub rejection_not_refused : (text : List ℕ) (why : Refusal) (job : Request) (files : List File) → IsRejection text job files → IsRefusal why job files → ⊥
 rejection_not_refused text why (equilibria file budget workers) files h k = h
@@ -202,3 +214,9 @@ rejected_not_beyond text level (equilibria file budget workers) files h k = h
 rejected_not_beyond text level (solve file budget workers proof) files h k = h
 rejected_not_beyond text level (check file report) files h k = k
 rejected_not_beyond text level (make number budget workers) files h k = h
+
+pub rejected_not_missing : (job : Request) (files : List File) → CanBeRejected job files → LacksFile job files → ⊥
+rejected_not_missing (equilibria file budget workers) files h k = h
+rejected_not_missing (solve file budget workers proof) files h k = h
+rejected_not_missing (check file report) files h k = both_there (OfReport FailsATest) (λ bytes. (m : System) × IsTextOf m bytes) files h k
+rejected_not_missing (make number budget workers) files h k = h

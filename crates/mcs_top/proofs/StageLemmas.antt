@@ -1,5 +1,5 @@
 -- What the work on a system wrote, and why it stopped: of the system of a file, and of one that is generated.
-use Rattle.std.proofs.Common.{◌≡◌, ℕ, ◌+◌, ◌≤◌, true, false, List, [], ◌++◌, Option, Some, None, Result, Ok, Err, IfSome, IfOk, IfErr, OnOk, inl, inr, refl, sym, ap, ◌∙◌, subst, append_assoc, arith}
+use Rattle.std.proofs.Common.{◌≡◌, ℕ, ◌+◌, ◌≤◌, true, false, List, [], ◌∷◌, ◌++◌, Option, Some, None, Result, Ok, Err, IfSome, IfOk, IfErr, OnOk, inl, inr, ◌⊎◌, refl, sym, ap, ◌∙◌, subst, append_assoc, arith}
 use Rattle.std.proofs.lemmas.List.{append-nil}
 use Rattle.mcs_ports.specs.Causes.{Rose}
 use Rattle.mcs_ports.specs.Pieces.{Device, appended}
@@ -21,7 +21,7 @@ use Rattle.mcs_words.specs.Commands.{Word, Request, equilibria, solve, check, ma
 use Rattle.mcs_top.specs.Jobs.{File, OfOneFile}
 use Rattle.mcs_top.specs.Texts.{IsTextOf, IsRefusedFor, StopsReading}
 use Rattle.mcs_top.specs.Endings.{stop_for_work, stop_for_line}
-use Rattle.mcs_top.specs.Promise.{IsBeyond, OfSystem, IsListed, IsListedBefore, AfterNumber, number_line, IsOutput, IsOutputBeyond, IsStage, Prints, PrintsFront, WritesOutput, WritesStage, StopsWork, StopsGenerated, HasCause, LeavesText, IsRefusal, IsNewMesh, Lists, budget_of, Excludes, EndsSo, as_done}
+use Rattle.mcs_top.specs.Promise.{IsBeyond, OfSystem, IsListed, IsListedBefore, AfterNumber, number_line, IsOutput, IsOutputBeyond, IsStage, Prints, PrintsFront, WritesOutput, WritesStage, LacksFile, CannotBeRead, StopsWork, StopsGenerated, HasCause, LeavesText, IsRefusal, IsNewMesh, Lists, budget_of, Excludes, EndsSo, as_done}
 use Rattle.mcs_top.specs.declared.ending.Outcome.TheVariants as outcomes
 use Rattle.mcs_top.specs.declared.ending.Refusal.{Refusal}
 use Rattle.mcs_top.specs.declared.ending.Stop.{Stop}
@@ -90,18 +90,25 @@ module _ (task : Task) (m : System) (budget : ℕ) (e e' : EvaluatorState) (fres
 
   pub work_stopped : (before now : Device) (stop : WorkStop) → HasStopped task [] e e' before now stop → StopsWork (stop_for_work budget stop) task budget m (Rose before.faults now.faults) before.written now.written
   work_stopped before now works.Write h = (h.0, stage_left before.written now.written h.1)
-  work_stopped before now (works.Spent level) h = (refl, listed_before level before.written now.written h)
-  work_stopped before now (works.Missing context active) h = stage_left before.written now.written h.left
-  work_stopped before now works.Memory h = stage_left before.written now.written h
+  work_stopped before now (works.Spent level) (same, h) = (refl, listed_before level before.written now.written h)
+  work_stopped before now (works.Missing context active) (same, h) = stage_left before.written now.written h.left
+  work_stopped before now works.Memory (same, h) = stage_left before.written now.written h
+
+  -- unless a write failed, the count is as before
+  pub work_unfailed : (before now : Device) (stop : WorkStop) → HasStopped task [] e e' before now stop → ¬ (stop_for_work budget stop ≡ stops.WriteFault) → now.faults ≡ before.faults
+  work_unfailed before now works.Write h other = absurd (other refl)
+  work_unfailed before now (works.Spent level) (same, h) other = same
+  work_unfailed before now (works.Missing context active) (same, h) other = same
+  work_unfailed before now works.Memory (same, h) other = same
 
 -- ---- a file that could not be read, whatever the job
-pub read_left : (job : Request) (shelf-rose : Type 0) (told files : Option (List File)) (now : Option (List ℕ)) (stop : Stop) → StopsReading stop shelf-rose told → LeavesText stop job files now now
-read_left job shelf-rose told files now stops.Usage h = refl
-read_left job shelf-rose told files now (stops.Refused why) h = refl
-read_left job shelf-rose told files now (stops.Unfinished level limit) h = absurd h
-read_left job shelf-rose told files now stops.ReadFault h = refl
-read_left job shelf-rose told files now stops.WriteFault h = absurd h
-read_left job shelf-rose told files now stops.Memory h = inl refl
+pub read_left : (job : Request) (shelf-rose failed : Type 0) (told files : Option (List File)) (now : Option (List ℕ)) (stop : Stop) → StopsReading stop shelf-rose failed told → LeavesText stop job files now now
+read_left job shelf-rose failed told files now stops.Usage h = refl
+read_left job shelf-rose failed told files now (stops.Refused why) h = refl
+read_left job shelf-rose failed told files now (stops.Unfinished level limit) h = absurd h
+read_left job shelf-rose failed told files now stops.ReadFault h = refl
+read_left job shelf-rose failed told files now stops.WriteFault h = absurd h
+read_left job shelf-rose failed told files now stops.Memory h = inl refl
 
 -- ---- a job that lists the system of a file
 same_task : (P : Task → ℕ → Type 0) (task due : Task) (budget most : ℕ) → task ≡ due → budget ≡ most → P task most → P due budget
@@ -158,13 +165,27 @@ module _ (job : Request) (task : Task) (name : Word) (most : ℕ) (lists : Lists
       at (check file report) is h = absurd is
       at (make number budget workers) is h = absurd is
 
-  pub read_cause : (shelf-rose sink-rose : Type 0) (files : Option (List File)) (stop : Stop) → StopsReading stop shelf-rose files → HasCause stop shelf-rose sink-rose job files
-  read_cause shelf-rose sink-rose files stops.Usage h = h
-  read_cause shelf-rose sink-rose files (stops.Refused why) h = told_also files _ _ (refusal_of why) h
-  read_cause shelf-rose sink-rose files (stops.Unfinished level limit) h = absurd h
-  read_cause shelf-rose sink-rose files stops.ReadFault h = h
-  read_cause shelf-rose sink-rose files stops.WriteFault h = absurd h
-  read_cause shelf-rose sink-rose files stops.Memory h = tt
+  absent_of : (files : List File) → files ≡ None ∷ [] → LacksFile job files
+  absent_of files = at job lists
+    where
+      at : (j : Request) → Lists j task name most → files ≡ None ∷ [] → LacksFile j files
+      at (equilibria file budget workers) is absent = absent
+      at (solve file budget workers false) is absent = absent
+      at (solve file budget workers true) is absent = absurd is
+      at (check file report) is absent = absurd is
+      at (make number budget workers) is absent = absurd is
+
+  unread_of : (failed : Type 0) (files : List File) → (files ≡ None ∷ []) ⊎ failed → CannotBeRead failed job files
+  unread_of failed files (inl absent) = inl (absent_of files absent)
+  unread_of failed files (inr broken) = inr broken
+
+  pub read_cause : (shelf-rose failed sink-rose : Type 0) (files : Option (List File)) (stop : Stop) → StopsReading stop shelf-rose failed files → HasCause stop shelf-rose failed sink-rose job files
+  read_cause shelf-rose failed sink-rose files stops.Usage h = h
+  read_cause shelf-rose failed sink-rose files (stops.Refused why) h = told_also files _ _ (refusal_of why) h
+  read_cause shelf-rose failed sink-rose files (stops.Unfinished level limit) h = absurd h
+  read_cause shelf-rose failed sink-rose files stops.ReadFault h = (h.0, told_also files _ _ (unread_of failed) h.1)
+  read_cause shelf-rose failed sink-rose files stops.WriteFault h = absurd h
+  read_cause shelf-rose failed sink-rose files stops.Memory h = tt
 
   module _ (m : System) (files : Option (List File)) (read : IfSome files (OfOneFile (IsTextOf m))) where
     stage_written : (before now : Option (List ℕ)) → PrintsFront (IsTaskStage task m) before now → IfSome files (WritesStage before now job)
@@ -182,13 +203,13 @@ module _ (job : Request) (task : Task) (name : Word) (most : ℕ) (lists : Lists
       written = p.written;
     }) read
 
-    file_cause : (shelf-rose sink-rose : Type 0) (before now : Option (List ℕ)) (stop : Stop) → StopsWork stop task most m sink-rose before now → HasCause stop shelf-rose sink-rose job files
-    file_cause shelf-rose sink-rose before now stops.Usage h = h
-    file_cause shelf-rose sink-rose before now (stops.Refused why) h = absurd h
-    file_cause shelf-rose sink-rose before now (stops.Unfinished level limit) h = h.0 ∙ own_budget
-    file_cause shelf-rose sink-rose before now stops.ReadFault h = absurd h
-    file_cause shelf-rose sink-rose before now stops.WriteFault h = h.0
-    file_cause shelf-rose sink-rose before now stops.Memory h = tt
+    file_cause : (shelf-rose failed sink-rose : Type 0) (before now : Option (List ℕ)) (stop : Stop) → StopsWork stop task most m sink-rose before now → HasCause stop shelf-rose failed sink-rose job files
+    file_cause shelf-rose failed sink-rose before now stops.Usage h = h
+    file_cause shelf-rose failed sink-rose before now (stops.Refused why) h = absurd h
+    file_cause shelf-rose failed sink-rose before now (stops.Unfinished level limit) h = h.0 ∙ own_budget
+    file_cause shelf-rose failed sink-rose before now stops.ReadFault h = absurd h
+    file_cause shelf-rose failed sink-rose before now stops.WriteFault h = h.0
+    file_cause shelf-rose failed sink-rose before now stops.Memory h = tt
 
     file_left : (sink-rose : Type 0) (before now : Option (List ℕ)) (stop : Stop) → StopsWork stop task most m sink-rose before now → LeavesText stop job files before now
     file_left sink-rose before now stops.Usage h = absurd h
@@ -202,9 +223,9 @@ module _ (job : Request) (task : Task) (name : Word) (most : ℕ) (lists : Lists
     file_left sink-rose before now stops.WriteFault h = stage_written before now h.1
     file_left sink-rose before now stops.Memory h = inr (stage_written before now h)
 
-    pub file_causes : (shelf-rose sink-rose : Type 0) (before now : Option (List ℕ)) (r : Result (Unit {0}) Stop) → IfErr r (λ stop. StopsWork stop task most m sink-rose before now) → IfErr r (λ stop. HasCause stop shelf-rose sink-rose job files)
-    file_causes shelf-rose sink-rose before now (Ok x) h = tt
-    file_causes shelf-rose sink-rose before now (Err stop) h = file_cause shelf-rose sink-rose before now stop h
+    pub file_causes : (shelf-rose failed sink-rose : Type 0) (before now : Option (List ℕ)) (r : Result (Unit {0}) Stop) → IfErr r (λ stop. StopsWork stop task most m sink-rose before now) → IfErr r (λ stop. HasCause stop shelf-rose failed sink-rose job files)
+    file_causes shelf-rose failed sink-rose before now (Ok x) h = tt
+    file_causes shelf-rose failed sink-rose before now (Err stop) h = file_cause shelf-rose failed sink-rose before now stop h
 
     pub file_leaves : (sink-rose : Type 0) (before now : Option (List ℕ)) (r : Result (Unit {0}) Stop) → IfErr r (λ stop. StopsWork stop task most m sink-rose before now) → IfErr r (λ stop. LeavesText stop job files before now)
     file_leaves sink-rose before now (Ok x) h = tt
@@ -270,13 +291,13 @@ module _ (number budget workers : ℕ) (before now : Option (List ℕ)) where
   made_output (Err stop) p = tt
   made_output (Ok x) p = record { text = p.text; holds = p.holds; written = p.written }
 
-  made_cause : (shelf-rose sink-rose : Type 0) (stop : Stop) → StopsGenerated stop number budget sink-rose before now → HasCause stop shelf-rose sink-rose (make number budget workers) (Some [])
-  made_cause shelf-rose sink-rose stops.Usage h = h
-  made_cause shelf-rose sink-rose (stops.Refused why) h = absurd h
-  made_cause shelf-rose sink-rose (stops.Unfinished level limit) h = h.0
-  made_cause shelf-rose sink-rose stops.ReadFault h = absurd h
-  made_cause shelf-rose sink-rose stops.WriteFault h = h.0
-  made_cause shelf-rose sink-rose stops.Memory h = tt
+  made_cause : (shelf-rose failed sink-rose : Type 0) (stop : Stop) → StopsGenerated stop number budget sink-rose before now → HasCause stop shelf-rose failed sink-rose (make number budget workers) (Some [])
+  made_cause shelf-rose failed sink-rose stops.Usage h = h
+  made_cause shelf-rose failed sink-rose (stops.Refused why) h = absurd h
+  made_cause shelf-rose failed sink-rose (stops.Unfinished level limit) h = h.0
+  made_cause shelf-rose failed sink-rose stops.ReadFault h = absurd h
+  made_cause shelf-rose failed sink-rose stops.WriteFault h = h.0
+  made_cause shelf-rose failed sink-rose stops.Memory h = tt
 
   made_left : (sink-rose : Type 0) (stop : Stop) → StopsGenerated stop number budget sink-rose before now → LeavesText stop (make number budget workers) (Some []) before now
   made_left sink-rose stops.Usage h = absurd h
@@ -287,9 +308,9 @@ module _ (number budget workers : ℕ) (before now : Option (List ℕ)) where
   made_left sink-rose stops.Memory (inl same) = inl same
   made_left sink-rose stops.Memory (inr h) = inr (record { text = h.text; holds = h.holds; front = h.front })
 
-  pub made_causes : (shelf-rose sink-rose : Type 0) (r : Result (Unit {0}) Stop) → IfErr r (λ stop. StopsGenerated stop number budget sink-rose before now) → IfErr r (λ stop. HasCause stop shelf-rose sink-rose (make number budget workers) (Some []))
-  made_causes shelf-rose sink-rose (Ok x) h = tt
-  made_causes shelf-rose sink-rose (Err stop) h = made_cause shelf-rose sink-rose stop h
+  pub made_causes : (shelf-rose failed sink-rose : Type 0) (r : Result (Unit {0}) Stop) → IfErr r (λ stop. StopsGenerated stop number budget sink-rose before now) → IfErr r (λ stop. HasCause stop shelf-rose failed sink-rose (make number budget workers) (Some []))
+  made_causes shelf-rose failed sink-rose (Ok x) h = tt
+  made_causes shelf-rose failed sink-rose (Err stop) h = made_cause shelf-rose failed sink-rose stop h
 
   pub made_leaves : (sink-rose : Type 0) (r : Result (Unit {0}) Stop) → IfErr r (λ stop. StopsGenerated stop number budget sink-rose before now) → IfErr r (λ stop. LeavesText stop (make number budget workers) (Some []) before now)
   made_leaves sink-rose (Ok x) h = tt

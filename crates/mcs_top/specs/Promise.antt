@@ -1,7 +1,8 @@
 -- What a run promises, by cases of the job.
 use Rattle.std.specs.Prelude.{◌≡◌, ◌⊎◌, ℕ, ◌+◌, ◌<◌, ◌≤◌, Bool, true, false, List, [], ◌∷◌, ◌++◌, length, codes, Option, Some, None, Result, Ok, Err, slice_get, IfSome}
 use Rattle.std.specs.Fmt.{decimal}
-use Rattle.mcs_ports.specs.Pieces.{appended, noted}
+use Rattle.mcs_ports.specs.Causes.{Rose}
+use Rattle.mcs_ports.specs.Pieces.{Device, appended, noted}
 use Rattle.mcs_text.specs.Writes.{WritesFront}
 use Rattle.mcs_system.specs.Plain.{System}
 use Rattle.mcs_system.specs.Systems.{variables}
@@ -12,14 +13,14 @@ use Rattle.mcs_generator.specs.Generated.{generated_system}
 use Rattle.mcs_work.specs.Tasks.{IsTaskText, IsTaskStage, IsTaskUpTo, IsTaken}
 use Rattle.mcs_work.specs.declared.task.Task.{Task}
 use Rattle.mcs_work.specs.declared.task.Task.TheVariants.{Equilibria, Solve, Make}
-use Rattle.mcs_words.specs.Commands.{Word, Request, equilibria, solve, check, make}
+use Rattle.mcs_words.specs.Commands.{Word, Request, equilibria, solve, check, make, IsJobOf}
 use Rattle.mcs_check.specs.Validity.{IsProvedListing, IsValidReport, IsFailure}
 use Rattle.mcs_check.specs.Findings.{finding_line}
 use Rattle.mcs_check.specs.declared.finding.Reason.{Reason}
 use Rattle.mcs_check.specs.declared.finding.Finding.{Finding}
 use Rattle.mcs_check.specs.declared.finding.Finding.TheVariants.{Valid, Fails}
 use Rattle.mcs_proof_writer.specs.Proving.{HasBegunProof}
-use Rattle.mcs_top.specs.Jobs.{File, OfOneFile, OfFirstFile, OfTwoFiles, LacksOneOfTwo}
+use Rattle.mcs_top.specs.Jobs.{File, files_in, OfJob, IfJob, OfOneFile, OfFirstFile, OfTwoFiles, LacksOneOfTwo}
 use Rattle.mcs_proof_text.specs.Reports.{most_report_bytes}
 use Rattle.mcs_top.specs.Texts.{IsTextOf, IsRefusedFor}
 use Rattle.mcs_top.specs.Endings.{refusal_line, unfinished_line, line_of}
@@ -183,6 +184,10 @@ LacksFile (solve file budget workers proof) files = files ≡ None ∷ []
 LacksFile (check file report) files = LacksOneOfTwo (λ bytes. (m : System) × IsTextOf m bytes) files
 LacksFile (make number budget workers) files = ⊥
 
+-- such a file is not there, or a call on one that is there failed
+abbrev pub CannotBeRead : Type 0 → Request → List File → Type 0
+CannotBeRead failed job files = LacksFile job files ⊎ failed
+
 -- nothing but memory and the devices stands in its way
 abbrev pub CanBeDone : Request → List File → Type 0
 CanBeDone (equilibria file budget workers) files = OfOneFile (OfSystem (Suffices Equilibria budget)) files
@@ -278,15 +283,57 @@ Notes statuses.OutOfMemory before now = now ≡ noted before (line_of stops.Memo
 abbrev pub IsUnlessMemory : Status → Status → Type 0
 IsUnlessMemory due status = (status ≡ due) ⊎ (status ≡ statuses.OutOfMemory)
 
+-- ---- what a run promises
+-- The words after the program's name, what the shelf holds by name where it tells, its counts of faults and of failures before
+-- and after the run, the device before and after it, and the status that the run answers.
+pub record KeepsPromise (words : List Word) (held : Option (Word → File)) (faults faults' failures failures' : ℕ) (device device' : Device) (status : Status) : Type 0 where
+  -- a usage fault is told only where the words ask for no job, and there it is told
+  pub usage : status ≡ statuses.Usage → (job : Request) → ¬ IsJobOf words job
+  pub no_job : ((job : Request) → ¬ IsJobOf words job) → IsUnlessMemory statuses.Usage status
+  -- a fault of a device is told only where its count rose in this call
+  pub read_fault : status ≡ statuses.ReadFault → Rose faults faults'
+  pub write_fault : status ≡ statuses.WriteFault → Rose device.faults device'.faults
+  pub shelf_later : faults ≤ faults'
+  pub sink_later : device.faults ≤ device'.faults
+  -- unless a write fault is told, no write failed
+  pub unfailed : ¬ (status ≡ statuses.WriteFault) → device'.faults ≡ device.faults
+  -- a job is refused exactly for what is wrong with its files, and that is noted
+  pub refused : status ≡ statuses.Refused → OfJob words held (TellsRefusal device.notes device'.notes)
+  pub refusal : IfJob words held (λ job files. (why : Refusal) → IsRefusal why job files → ¬ Rose failures failures' → IsUnlessMemory statuses.Refused status)
+  -- a file is not read exactly where it is not there, or a call on it failed
+  pub unreadable : status ≡ statuses.ReadFault → OfJob words held (CannotBeRead (Rose failures failures'))
+  pub missing : IfJob words held (λ job files. LacksFile job files → IsUnlessMemory statuses.ReadFault status)
+  -- a job stops exactly where a level that it takes has more questions than the budget; what is printed before the least one was
+  -- written, and that level is noted
+  pub beyond : status ≡ statuses.Unfinished → OfJob words held (StopsBeyond device.written device'.written device.notes device'.notes)
+  pub spent : IfJob words held (λ job files. LacksBudget job files → ¬ Rose failures failures' → ¬ Rose device.faults device'.faults → IsUnlessMemory statuses.Unfinished status)
+  -- that a report is not valid comes where it is not, and which of the tests it fails, at which line, was written
+  pub not_valid : status ≡ statuses.NotValid → OfJob words held (WritesRejection device.written device'.written)
+  pub invalid : IfJob words held (λ job files. CanBeRejected job files → ¬ Rose failures failures' → ¬ Rose device.faults device'.faults → IsUnlessMemory statuses.NotValid status)
+  -- that the job was done comes where its whole output was written
+  pub done : status ≡ statuses.Done → OfJob words held (WritesOutput device.written device'.written)
+  -- it does come where the budget suffices, unless memory ran out or a device failed
+  pub complete : IfJob words held (λ job files. CanBeDone job files → ¬ Rose failures failures' → ¬ Rose device.faults device'.faults → IsUnlessMemory statuses.Done status)
+  -- otherwise a front of a stage of the output was written, or nothing
+  pub unfinished : status ≡ statuses.WriteFault → OfJob words held (WritesStage device.written device'.written)
+  pub out_of_memory : status ≡ statuses.OutOfMemory → (device'.written ≡ device.written) ⊎ OfJob words held (WritesStage device.written device'.written)
+  pub silent : (status ≡ statuses.Usage) ⊎ ((status ≡ statuses.Refused) ⊎ (status ≡ statuses.ReadFault)) → device'.written ≡ device.written
+  -- the line of the status is noted, and nothing else
+  pub notes : Notes status device.notes device'.notes
+
+-- the words name no file: each job that they ask for reads none
+abbrev pub NamesNoFile : List Word → Type 0
+NamesNoFile words = (job : Request) → IsJobOf words job → files_in job ≡ []
+
 -- ---- why a job stops, and what was written then
--- the cause of each stop: a count of faults that rose, or a reason to refuse
-abbrev pub HasCause : Stop → Type 0 → Type 0 → Request → Option (List File) → Type 0
-HasCause stops.Usage shelf_rose sink_rose job files = ⊥
-HasCause (stops.Refused why) shelf_rose sink_rose job files = IfSome files (IsRefusal why job)
-HasCause (stops.Unfinished level budget) shelf_rose sink_rose job files = budget ≡ budget_of job
-HasCause stops.ReadFault shelf_rose sink_rose job files = shelf_rose
-HasCause stops.WriteFault shelf_rose sink_rose job files = sink_rose
-HasCause stops.Memory shelf_rose sink_rose job files = Unit {0}
+-- the cause of each stop: a count that rose, a file that is not there, or a reason to refuse
+abbrev pub HasCause : Stop → Type 0 → Type 0 → Type 0 → Request → Option (List File) → Type 0
+HasCause stops.Usage shelf_rose failed sink_rose job files = ⊥
+HasCause (stops.Refused why) shelf_rose failed sink_rose job files = IfSome files (IsRefusal why job)
+HasCause (stops.Unfinished level budget) shelf_rose failed sink_rose job files = budget ≡ budget_of job
+HasCause stops.ReadFault shelf_rose failed sink_rose job files = shelf_rose × IfSome files (CannotBeRead failed job)
+HasCause stops.WriteFault shelf_rose failed sink_rose job files = sink_rose
+HasCause stops.Memory shelf_rose failed sink_rose job files = Unit {0}
 
 -- nothing was written, or a front of a stage; where no write was tried, nothing
 abbrev pub LeavesText : Stop → Request → Option (List File) → Option (List ℕ) → Option (List ℕ) → Type 0

@@ -1,5 +1,5 @@
 -- The texts that are systems, and why others are refused.
-use Rattle.std.specs.Prelude.{ℕ, ◌≤◌, List, length, Option, IfSome}
+use Rattle.std.specs.Prelude.{◌≡◌, ◌⊎◌, ℕ, ◌≤◌, List, [], ◌∷◌, length, Option, None, IfSome}
 use Rattle.mcs_system.specs.Plain.{System}
 use Rattle.mcs_grammar.specs.Texts.{Spells, HasFault}
 use Rattle.mcs_proof_text.specs.Reports.{most_report_bytes}
@@ -34,22 +34,22 @@ StopsText (stops.Unfinished level budget) bytes = ⊥
 StopsText stops.ReadFault bytes = ⊥
 StopsText stops.WriteFault bytes = ⊥
 
--- of a file, by what a shelf tells of it
-abbrev pub StopsReading : Stop → Type 0 → Option (List File) → Type 0
-StopsReading (stops.Refused why) rose files = IfSome files (OfOneFile (IsRefusedFor why))
-StopsReading stops.ReadFault rose files = rose
-StopsReading stops.Memory rose files = Unit {0}
-StopsReading stops.Usage rose files = ⊥
-StopsReading (stops.Unfinished level budget) rose files = ⊥
-StopsReading stops.WriteFault rose files = ⊥
+-- of a file, by what a shelf tells of it: it can't be read where it is not there, or a call on it failed
+abbrev pub StopsReading : Stop → Type 0 → Type 0 → Option (List File) → Type 0
+StopsReading (stops.Refused why) rose failed files = IfSome files (OfOneFile (IsRefusedFor why))
+StopsReading stops.ReadFault rose failed files = rose × IfSome files (λ fs. (fs ≡ None ∷ []) ⊎ failed)
+StopsReading stops.Memory rose failed files = Unit {0}
+StopsReading stops.Usage rose failed files = ⊥
+StopsReading (stops.Unfinished level budget) rose failed files = ⊥
+StopsReading stops.WriteFault rose failed files = ⊥
 
 -- why no report is had of a file, by what a shelf tells of it
-abbrev pub StopsReport : Stop → Type 0 → Option (List File) → Type 0
-StopsReport (stops.Refused refusals.ReportTooLong) rose files = IfSome files (OfOneFile (λ bytes. ¬ (length bytes ≤ most_report_bytes)))
-StopsReport (stops.Refused refusals.TooLong) rose files = ⊥
-StopsReport (stops.Refused (refusals.Text number offset limit)) rose files = ⊥
-StopsReport stops.ReadFault rose files = rose
-StopsReport stops.Memory rose files = Unit {0}
-StopsReport stops.Usage rose files = ⊥
-StopsReport (stops.Unfinished level budget) rose files = ⊥
-StopsReport stops.WriteFault rose files = ⊥
+abbrev pub StopsReport : Stop → Type 0 → Type 0 → Option (List File) → Type 0
+StopsReport (stops.Refused refusals.ReportTooLong) rose failed files = IfSome files (OfOneFile (λ bytes. ¬ (length bytes ≤ most_report_bytes)))
+StopsReport (stops.Refused refusals.TooLong) rose failed files = ⊥
+StopsReport (stops.Refused (refusals.Text number offset limit)) rose failed files = ⊥
+StopsReport stops.ReadFault rose failed files = rose × IfSome files (λ fs. (fs ≡ None ∷ []) ⊎ failed)
+StopsReport stops.Memory rose failed files = Unit {0}
+StopsReport stops.Usage rose failed files = ⊥
+StopsReport (stops.Unfinished level budget) rose failed files = ⊥
+StopsReport stops.WriteFault rose failed files = ⊥

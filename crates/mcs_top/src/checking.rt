@@ -1,6 +1,6 @@
 //! The check of a report: from the two files to the line that tells what was found.
 
-ghost use Rattle.std.specs.Prelude.{◌≡◌, ◌≤◌, [], ◌∷◌, IfSome, IfOk, IfErr};
+ghost use Rattle.std.specs.Prelude.{◌≡◌, ◌≤◌, [], ◌∷◌, IfSome, IfOk, IfErr, IsErrOf};
 ghost use Rattle.mcs_ports.specs.Causes.{Rose};
 ghost use Rattle.mcs_text.specs.Writes.{Writes};
 ghost use Rattle.mcs_words.specs.Commands as commands;
@@ -27,11 +27,13 @@ pub(crate) fn check<H: Shelf, K: Sink>(
 ) -> Result<Outcome, Stop>
     ensures shelf_later { H.faults shelf.old ≤ H.faults shelf.new }
     ensures sink_later { (K.device sink.old).faults ≤ (K.device sink.new).faults }
+    ensures unfailed { ¬ IsErrOf result Stop.WriteFault → (K.device sink.new).faults ≡ (K.device sink.old).faults }
     ensures notes { (K.device sink.new).notes ≡ (K.device sink.old).notes }
     ensures ok { IfOk result (λ outcome. IfSome (told_all (H.held shelf.old) (file.now ∷ report.now ∷ []))
         (EndsSo outcome (K.device sink.old).written (K.device sink.new).written (commands.check file.now report.now))) }
     ensures cause { IfErr result (λ stop. HasCause stop
-        (Rose (H.faults shelf.old) (H.faults shelf.new)) (Rose (K.device sink.old).faults (K.device sink.new).faults)
+        (Rose (H.faults shelf.old) (H.faults shelf.new)) (Rose (H.failures shelf.old) (H.failures shelf.new))
+        (Rose (K.device sink.old).faults (K.device sink.new).faults)
         (commands.check file.now report.now) (told_all (H.held shelf.old) (file.now ∷ report.now ∷ []))) }
     ensures leaves { IfErr result (λ stop. LeavesText stop
         (commands.check file.now report.now) (told_all (H.held shelf.old) (file.now ∷ report.now ∷ []))

@@ -144,11 +144,14 @@ impl Stop {
             Stop::Refused(why) => push_refusal(line, why),
             Stop::Unfinished { level, budget } => push_unfinished(line, level, budget),
             Stop::ReadFault => line.push(b"mcs: read fault\n"),
-            Stop::WriteFault => line.push(b"mcs: write fault\n"),
+            Stop::WriteFault => line.push(WRITE_FAULT),
             Stop::Memory => line.push(OUT_OF_MEMORY),
         }
     }
 }
+
+/// The line that is noted where a write failed.
+const WRITE_FAULT: &[u8] = b"mcs: write fault\n";
 
 /// The line that is noted where memory ran out.
 const OUT_OF_MEMORY: &[u8] = b"mcs: out of memory\n";
@@ -211,12 +214,18 @@ fn push_limit(line: &mut Text, limit: Option<Limit>) -> Result<(), Memory>
     line.push_number(limit.most() as u64)
 }
 
-/// Notes why a run stops, and answers its status. Where there is no memory for the line, that is told instead.
+/// Notes why a run stops, and answers its status. Where there is no memory for the line, that is told instead; the line of
+/// a write fault needs none.
 pub(crate) fn tell<K: Sink>(alloc: Global, sink: &mut K, stop: Stop) -> Status
     ensures told { IsTold stop result (K.device sink.old) (K.device sink.new) }
+    ensures fault { stop ≡ stops.WriteFault → result ≡ Status.WriteFault }
     ensures written { (K.device sink.new).written ≡ (K.device sink.old).written }
     ensures faults { (K.device sink.new).faults ≡ (K.device sink.old).faults }
 {
+    if let Stop::WriteFault = stop {
+        sink.note(WRITE_FAULT);
+        return Status::WriteFault;
+    }
     let mut line = Text::new(alloc);
     if stop.push_line(&mut line).is_err() {
         return note_want_of_memory(sink);
@@ -225,8 +234,8 @@ pub(crate) fn tell<K: Sink>(alloc: Global, sink: &mut K, stop: Stop) -> Status
     stop.status()
 }
 
-/// Notes that memory ran out, and answers that status: for a program that finds no memory before its run.
-pub fn note_want_of_memory<K: Sink>(sink: &mut K) -> Status
+/// Notes that memory ran out, and answers that status.
+pub(crate) fn note_want_of_memory<K: Sink>(sink: &mut K) -> Status
     ensures told { IsToldAs stops.Memory result (K.device sink.old) (K.device sink.new) }
     ensures written { (K.device sink.new).written ≡ (K.device sink.old).written }
     ensures faults { (K.device sink.new).faults ≡ (K.device sink.old).faults }

@@ -1,6 +1,6 @@
 //! The jobs: from the files that one names to what it prints.
 
-ghost use Rattle.std.specs.Prelude.{◌≡◌, ◌≤◌, IfSome, IfOk, IfErr};
+ghost use Rattle.std.specs.Prelude.{◌≡◌, ◌≤◌, [], IfSome, IfOk, IfErr, IsErrOf};
 ghost use Rattle.mcs_ports.specs.Causes.{Rose};
 ghost use Rattle.mcs_words.specs.Reading.{request_of};
 ghost use Rattle.mcs_top.specs.Jobs.{told_all, files_in};
@@ -15,7 +15,7 @@ use mcs_words::Job;
 use mcs_work::Task;
 use std::alloc::Global;
 
-/// Does the job.
+/// Does the job. One that names no file leaves the shelf as it is.
 pub(crate) fn do_job<H: Shelf, K: Sink, G: Gate>(
     alloc: Global,
     job: &Job,
@@ -24,12 +24,15 @@ pub(crate) fn do_job<H: Shelf, K: Sink, G: Gate>(
     gate: &G,
 ) -> Result<Outcome, Stop>
     ensures shelf_later { H.faults shelf.old ≤ H.faults shelf.new }
+    ensures unread { files_in (request_of job.now) ≡ [] → shelf.new ≡ shelf.old }
     ensures sink_later { (K.device sink.old).faults ≤ (K.device sink.new).faults }
+    ensures unfailed { ¬ IsErrOf result Stop.WriteFault → (K.device sink.new).faults ≡ (K.device sink.old).faults }
     ensures notes { (K.device sink.new).notes ≡ (K.device sink.old).notes }
     ensures ok { IfOk result (λ outcome. IfSome (told_all (H.held shelf.old) (files_in (request_of job.now)))
         (EndsSo outcome (K.device sink.old).written (K.device sink.new).written (request_of job.now))) }
     ensures cause { IfErr result (λ stop. HasCause stop
-        (Rose (H.faults shelf.old) (H.faults shelf.new)) (Rose (K.device sink.old).faults (K.device sink.new).faults)
+        (Rose (H.faults shelf.old) (H.faults shelf.new)) (Rose (H.failures shelf.old) (H.failures shelf.new))
+        (Rose (K.device sink.old).faults (K.device sink.new).faults)
         (request_of job.now) (told_all (H.held shelf.old) (files_in (request_of job.now)))) }
     ensures leaves { IfErr result (λ stop. LeavesText stop
         (request_of job.now) (told_all (H.held shelf.old) (files_in (request_of job.now)))

@@ -1,4 +1,5 @@
-//! The program's one call: from the words of the command line and the bytes of a file to the printed listing.
+//! The program's one call: from the words of the command line and the bytes of a file to the printed listing, and to
+//! the number of its status.
 #![tactic(auto)]
 
 mod checking;
@@ -8,11 +9,12 @@ mod evaluator;
 mod job;
 mod listing;
 mod number;
+mod program;
 mod proving;
 mod reading;
 mod status;
 
 pub use command::run;
-pub use ending::note_want_of_memory;
 pub use mcs_work::{Task, WorkStop, work};
+pub use program::run_program;
 pub use status::Status;

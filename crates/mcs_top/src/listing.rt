@@ -1,6 +1,6 @@
 //! The listing of a system: of a file, or one that is generated.
 
-ghost use Rattle.std.specs.Prelude.{◌≡◌, ◌≤◌, [], ◌∷◌, IfSome, OnOk, IfErr};
+ghost use Rattle.std.specs.Prelude.{◌≡◌, ◌≤◌, [], ◌∷◌, IfSome, OnOk, IfErr, IsErrOf};
 ghost use Rattle.mcs_ports.specs.Causes.{Rose};
 ghost use Rattle.mcs_words.specs.Commands.{Request};
 ghost use Rattle.mcs_work.specs.declared.task.Task.TheVariants.{Make};
@@ -29,11 +29,13 @@ pub(crate) fn evaluate<H: Shelf, K: Sink, G: Gate>(
 ) -> Result<(), Stop>
     ensures shelf_later { H.faults shelf.old ≤ H.faults shelf.new }
     ensures sink_later { (K.device sink.old).faults ≤ (K.device sink.new).faults }
+    ensures unfailed { ¬ IsErrOf result Stop.WriteFault → (K.device sink.new).faults ≡ (K.device sink.old).faults }
     ensures notes { (K.device sink.new).notes ≡ (K.device sink.old).notes }
     ensures ok { (job : Request) → Lists job task file.now budget → OnOk result (IfSome (told_all (H.held shelf.old) (file.now ∷ []))
         (WritesOutput (K.device sink.old).written (K.device sink.new).written job)) }
     ensures cause { (job : Request) → Lists job task file.now budget → IfErr result (λ stop. HasCause stop
-        (Rose (H.faults shelf.old) (H.faults shelf.new)) (Rose (K.device sink.old).faults (K.device sink.new).faults)
+        (Rose (H.faults shelf.old) (H.faults shelf.new)) (Rose (H.failures shelf.old) (H.failures shelf.new))
+        (Rose (K.device sink.old).faults (K.device sink.new).faults)
         job (told_all (H.held shelf.old) (file.now ∷ []))) }
     ensures leaves { (job : Request) → Lists job task file.now budget → IfErr result (λ stop. LeavesText stop
         job (told_all (H.held shelf.old) (file.now ∷ []))
@@ -53,6 +55,7 @@ pub(crate) fn generated<K: Sink, G: Gate>(
     gate: &G,
 ) -> Result<(), Stop>
     ensures sink_later { (K.device sink.old).faults ≤ (K.device sink.new).faults }
+    ensures unfailed { ¬ IsErrOf result Stop.WriteFault → (K.device sink.new).faults ≡ (K.device sink.old).faults }
     ensures notes { (K.device sink.new).notes ≡ (K.device sink.old).notes }
     ensures ok { OnOk result (Prints (AfterNumber (IsListed Make budget) number) (K.device sink.old).written (K.device sink.new).written) }
     ensures stop { IfErr result (λ stop. StopsGenerated stop number budget
@@ -73,6 +76,7 @@ fn list_system<K: Sink, G: Gate>(
     gate: &G,
 ) -> Result<(), Stop>
     ensures later { (K.device sink.old).faults ≤ (K.device sink.new).faults }
+    ensures unfailed { ¬ IsErrOf result Stop.WriteFault → (K.device sink.new).faults ≡ (K.device sink.old).faults }
     ensures notes { (K.device sink.new).notes ≡ (K.device sink.old).notes }
     ensures ok { OnOk result (Prints (λ text. IsListed task budget text system) (K.device sink.old).written (K.device sink.new).written) }
     ensures stop { IfErr result (λ stop. StopsWork stop task budget system

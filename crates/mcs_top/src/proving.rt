@@ -1,6 +1,6 @@
 //! The listing of a system with its proof.
 
-ghost use Rattle.std.specs.Prelude.{◌≡◌, ◌≤◌, ℕ, true, [], ◌∷◌, IfSome, OnOk, IfErr};
+ghost use Rattle.std.specs.Prelude.{◌≡◌, ◌≤◌, ℕ, true, [], ◌∷◌, IfSome, OnOk, IfErr, IsErrOf};
 ghost use Rattle.mcs_ports.specs.Causes.{Rose};
 ghost use Rattle.mcs_proof_writer.specs.Proving.{AreAsked, HasProved};
 ghost use Rattle.mcs_words.specs.Commands.{solve};
@@ -30,11 +30,13 @@ pub(crate) fn prove<H: Shelf, K: Sink, G: Gate>(
 ) -> Result<(), Stop>
     ensures shelf_later { H.faults shelf.old ≤ H.faults shelf.new }
     ensures sink_later { (K.device sink.old).faults ≤ (K.device sink.new).faults }
+    ensures unfailed { ¬ IsErrOf result Stop.WriteFault → (K.device sink.new).faults ≡ (K.device sink.old).faults }
     ensures notes { (K.device sink.new).notes ≡ (K.device sink.old).notes }
     ensures ok { (workers : ℕ) → OnOk result (IfSome (told_all (H.held shelf.old) (file.now ∷ []))
         (WritesOutput (K.device sink.old).written (K.device sink.new).written (solve file.now budget workers true))) }
     ensures cause { (workers : ℕ) → IfErr result (λ stop. HasCause stop
-        (Rose (H.faults shelf.old) (H.faults shelf.new)) (Rose (K.device sink.old).faults (K.device sink.new).faults)
+        (Rose (H.faults shelf.old) (H.faults shelf.new)) (Rose (H.failures shelf.old) (H.failures shelf.new))
+        (Rose (K.device sink.old).faults (K.device sink.new).faults)
         (solve file.now budget workers true) (told_all (H.held shelf.old) (file.now ∷ []))) }
     ensures leaves { (workers : ℕ) → IfErr result (λ stop. LeavesText stop
         (solve file.now budget workers true) (told_all (H.held shelf.old) (file.now ∷ []))
@@ -55,6 +57,7 @@ fn prove_system<K: Sink, G: Gate>(
     gate: &G,
 ) -> Result<(), Stop>
     ensures later { (K.device sink.old).faults ≤ (K.device sink.new).faults }
+    ensures unfailed { ¬ IsErrOf result Stop.WriteFault → (K.device sink.new).faults ≡ (K.device sink.old).faults }
     ensures notes { (K.device sink.new).notes ≡ (K.device sink.old).notes }
     ensures ok { OnOk result (Prints (λ text. IsListedProved budget text system) (K.device sink.old).written (K.device sink.new).written) }
     ensures stop { IfErr result (λ stop. StopsProof stop budget system
@@ -82,6 +85,7 @@ fn write_answers<'g, K: Sink, G: Gate>(
 ) -> Result<(), Stop>
     requires { (level : ℕ) × AreAsked system.now level mesh.oracles }
     ensures later { (K.device sink.old).faults ≤ (K.device sink.new).faults }
+    ensures unfailed { ¬ IsErrOf result Stop.WriteFault → (K.device sink.new).faults ≡ (K.device sink.old).faults }
     ensures notes { (K.device sink.new).notes ≡ (K.device sink.old).notes }
     ensures ok { (level : ℕ) → AreAsked system.now level mesh.entry.oracles → OnOk result (HasProved system.now level (K.device sink.old).written (K.device sink.new).written) }
     ensures stop { (level : ℕ) → AreAsked system.now level mesh.entry.oracles → IfErr result (λ stop. StopsAnswers stop system.now level

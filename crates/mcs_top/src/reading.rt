@@ -21,10 +21,12 @@ const MOST_REPORT_BYTES: usize = 268_435_456;
 /// The system whose text the file holds.
 pub(crate) fn system_in<H: Shelf>(alloc: Global, file: &str, shelf: &mut H) -> Result<System, Stop>
     ensures later { H.faults shelf.old ≤ H.faults shelf.new }
+    ensures failures_later { H.failures shelf.old ≤ H.failures shelf.new }
     ensures held { H.held shelf.new ≡ H.held shelf.old }
     ensures system { IfOk result (λ system. IfSome (told_all (H.held shelf.old) (file.now ∷ [])) (OfOneFile (IsTextOf system))) }
     ensures stop { IfErr result (λ stop. StopsReading stop
-        (Rose (H.faults shelf.old) (H.faults shelf.new)) (told_all (H.held shelf.old) (file.now ∷ []))) }
+        (Rose (H.faults shelf.old) (H.faults shelf.new)) (Rose (H.failures shelf.old) (H.failures shelf.new))
+        (told_all (H.held shelf.old) (file.now ∷ []))) }
 {
     let bytes = match read_whole(alloc, shelf, file, MOST_TEXT_BYTES) {
         Ok(bytes) => bytes,
@@ -50,7 +52,8 @@ pub(crate) fn report_in<H: Shelf>(alloc: Global, file: &str, shelf: &mut H) -> R
     ensures few { IfOk result (λ bytes. length bytes.items ≤ most_report_bytes) }
     ensures bytes { IfOk result (λ bytes. IfSome (told_all (H.held shelf.old) (file.now ∷ [])) (OfOneFile (λ told. told ≡ bytes.items))) }
     ensures stop { IfErr result (λ stop. StopsReport stop
-        (Rose (H.faults shelf.old) (H.faults shelf.new)) (told_all (H.held shelf.old) (file.now ∷ []))) }
+        (Rose (H.faults shelf.old) (H.faults shelf.new)) (Rose (H.failures shelf.old) (H.failures shelf.new))
+        (told_all (H.held shelf.old) (file.now ∷ []))) }
 {
     match read_whole(alloc, shelf, file, MOST_REPORT_BYTES) {
         Ok(bytes) => Ok(bytes),

@@ -136,27 +136,32 @@ module _ (x : Extent) (σs : List ℕ) (e e' : EvaluatorState) (level : ℕ) (ds
 
   halted : (at : Device) (halt : Halt) → HasHaltCause e level halt → IsTold e' halt → HasStopped (task_of x) (front_part x e.system σs ds) e e' at at (stop_for_halt halt)
   halted at (halts.Spent found drawn) (here, more, some) told =
-      let beyond : IsBeyond e level = found_beyond e level drawn (omega (arith, more)) some in
-      subst (λ (l : ℕ). IsTold e' (halts.Spent l drawn) → IsSpent (task_of x) (front_part x e.system σs ds) e e' l at.written at.written) (sym here) (λ said. record {
-        taken = taken_here x e.system level open_yet;
-        beyond = beyond;
-        least = λ k less. u.within k (omega (arith, less));
-        drawn = drawn;
-        halt = said.0;
-        over = said.1;
-        part = [];
-        text = listed_before x e.system σs ds level (later_level beyond) equilibria u.repairs;
-        written = appended-none at.written;
-      }) told
-  halted at (halts.Missing context active) lacking told = record {
-    level = level;
-    taken = taken_here x e.system level open_yet;
-    unanswered = lacking;
-    halt = told.0;
-    over = told.1;
-    left = nothing_more at.written;
-  }
-  halted at halts.Memory h told = nothing_more at.written
+      let beyond : IsBeyond e level = found_beyond e level drawn (omega (arith, more)) some in (
+        refl,
+        subst (λ (l : ℕ). IsTold e' (halts.Spent l drawn) → IsSpent (task_of x) (front_part x e.system σs ds) e e' l at.written at.written) (sym here) (λ said. record {
+          taken = taken_here x e.system level open_yet;
+          beyond = beyond;
+          least = λ k less. u.within k (omega (arith, less));
+          drawn = drawn;
+          halt = said.0;
+          over = said.1;
+          part = [];
+          text = listed_before x e.system σs ds level (later_level beyond) equilibria u.repairs;
+          written = appended-none at.written;
+        }) told,
+      )
+  halted at (halts.Missing context active) lacking told = (
+    refl,
+    record {
+      level = level;
+      taken = taken_here x e.system level open_yet;
+      unanswered = lacking;
+      halt = told.0;
+      over = told.1;
+      left = nothing_more at.written;
+    },
+  )
+  halted at halts.Memory h told = (refl, nothing_more at.written)
 
   module _ (fresh : List code.Diagnosis) (found : AreFound e.system level fresh) where
     with_level : IsTaskStage (task_of x) e.system (front_part x e.system σs ds ++ diagnoses_part x e.system (length ds + 1) fresh)
@@ -184,11 +189,11 @@ module _ (x : Extent) (m : System) (e e' : EvaluatorState) (same : e.system ≡ 
       subst (λ (n : System). AreEquilibria n σs → Writes {T = Unit {0}} (diagnoses_part x n (length ds + 1) fresh) before now (Err why) → HasStopped (task_of x) (front_part x n σs ds) e e' before now (stop_for_line why)) same
       (λ eq v. lines_cut x σs e e' level ds u open_yet eq fresh found before now why v) equilibria w
 
-  pub memory_at : (fresh : List code.Diagnosis) → AreFound e.system level fresh → (before now : Device) → now.written ≡ appended before.written (diagnoses_part x m (length ds + 1) fresh)
+  pub memory_at : (fresh : List code.Diagnosis) → AreFound e.system level fresh → (before now : Device) → now.faults ≡ before.faults → now.written ≡ appended before.written (diagnoses_part x m (length ds + 1) fresh)
       → HasStopped (task_of x) (front_part x m σs ds) e e' before now stops.Memory
-  memory_at fresh found before now is =
+  memory_at fresh found before now still is =
       subst (λ (n : System). AreEquilibria n σs → now.written ≡ appended before.written (diagnoses_part x n (length ds + 1) fresh) → HasStopped (task_of x) (front_part x n σs ds) e e' before now stops.Memory) same
-      (λ eq w. lines_left x σs e e' level ds u open_yet eq fresh found before.written now.written w) equilibria is
+      (λ eq w. (still, lines_left x σs e e' level ds u open_yet eq fresh found before.written now.written w)) equilibria is
 
 -- ---- in the end
 pub record IsEnded (e : EvaluatorState) (level : ℕ) (ds : List code.Diagnosis) : Type 0 where
@@ -339,16 +344,16 @@ module _ (x : Extent) (m : System) (e e' : EvaluatorState) (same : e.system ≡ 
   front_stage = subst (λ (s : System). IsTaskStage (task_of x) s (opening (task_of x) m ++ states_part x m σs)) (sym same)
       (stage_below x m σs [] 0 _ equilibria (none_below m) (front_begins x m σs))
 
-  pub verdict_cut : (before mid now : Device) (why : Unwritten) → before.faults ≤ mid.faults → mid.written ≡ appended before.written (opening (task_of x) m) → Writes {T = Unit {0}} (states_part x m σs) mid now (Err why) → HasStopped (task_of x) [] e e' before now (stop_for_line why)
-  verdict_cut before mid now why later wrote w =
-      stopped_later (task_of x) [] (opening (task_of x) m) e e e' before mid now (record { system = refl; budget = refl; oracles = refl }) later wrote (stop_for_line why) (cut_off (task_of x) (opening (task_of x) m) (states_part x m σs) e e' mid now why front_stage w)
+  pub verdict_cut : (before mid now : Device) (why : Unwritten) → mid.faults ≡ before.faults → mid.written ≡ appended before.written (opening (task_of x) m) → Writes {T = Unit {0}} (states_part x m σs) mid now (Err why) → HasStopped (task_of x) [] e e' before now (stop_for_line why)
+  verdict_cut before mid now why still wrote w =
+      stopped_later (task_of x) [] (opening (task_of x) m) e e e' before mid now (record { system = refl; budget = refl; oracles = refl }) still wrote (stop_for_line why) (cut_off (task_of x) (opening (task_of x) m) (states_part x m σs) e e' mid now why front_stage w)
 
 pub front_written : (x : Extent) (m : System) (σs : List ℕ) (before mid now : Option (List ℕ)) → mid ≡ appended before (opening (task_of x) m) → now ≡ appended mid (states_part x m σs) → now ≡ appended before (front_part x m σs [])
 front_written x m σs before mid now first next = next ∙ ap (λ w. appended w (states_part x m σs)) first ∙ appended-append before (opening (task_of x) m) (states_part x m σs) ∙ ap (appended before) (front_begins x m σs)
 
 -- nothing after it was written
 pub verdict_left : (x : Extent) (m : System) (e e' : EvaluatorState) (same : e.system ≡ m) (σs : List ℕ) → AreEquilibria m σs → (at : Device) → HasStopped (task_of x) (front_part x m σs []) e e' at at stops.Memory
-verdict_left x m e e' same σs equilibria at = left_nothing (task_of x) e.system (front_part x m σs []) at.written (subst (λ (s : System). IsTaskStage (task_of x) s (front_part x m σs [])) (sym same) (stage_below x m σs [] 0 _ equilibria (none_below m) refl))
+verdict_left x m e e' same σs equilibria at = (refl, left_nothing (task_of x) e.system (front_part x m σs []) at.written (subst (λ (s : System). IsTaskStage (task_of x) s (front_part x m σs [])) (sym same) (stage_below x m σs [] 0 _ equilibria (none_below m) refl)))
 
 -- ---- after the last level
 module _ (x : Extent) (m : System) (e : EvaluatorState) (same : e.system ≡ m) (level : ℕ) (ds : List code.Diagnosis) (u : IsUnderWay e level ds) (σs : List ℕ) (equilibria : AreEquilibria m σs) where
@@ -356,7 +361,7 @@ module _ (x : Extent) (m : System) (e : EvaluatorState) (same : e.system ≡ m) 
   all_stage = stage_below x e.system σs ds level _ (subst (λ (s : System). AreEquilibria s σs) (sym same) equilibria) u.repairs (ap (λ (s : System). front_part x s σs ds) (sym same))
 
   pub levels_left : (at : Device) → HasStopped (task_of x) (front_part x m σs ds) e e at at stops.Memory
-  levels_left at = left_nothing (task_of x) e.system (front_part x m σs ds) at.written all_stage
+  levels_left at = (refl, left_nothing (task_of x) e.system (front_part x m σs ds) at.written all_stage)
 
   module _ (past : IsPast m level) (ts pairs : List ℕ) (count asked : ℕ) (counted : length σs ≡ count) (told : e.halted ≡ false → asked ≡ asked_of e) (paired : pairs ≡ pairs_of ds) (listed : IsListing (IsMinimal (IsTransversalOf (pairs_of ds))) PairBefore ts) where
     pub rest_done : (before now : Option (List ℕ)) → now ≡ appended before (rest_part x m count pairs ts asked) → IsDone (task_of x) (front_part x m σs ds) e e before now

@@ -26,7 +26,7 @@ use Rattle.mcs_work.proofs.StateLemmas.{rest_back, beyond_before, found_beyond}
 use Rattle.mcs_base.proofs.Written.{append_in_middle}
 
 -- the evaluator went on, and this part was written in between
-module _ (task : Task) (so_far part : List ℕ) (e mid-e e' : EvaluatorState) (before mid now : Device) (kept : KeepsRest e mid-e) (later : before.faults ≤ mid.faults) (wrote : mid.written ≡ appended before.written part) where
+module _ (task : Task) (so_far part : List ℕ) (e mid-e e' : EvaluatorState) (before mid now : Device) (kept : KeepsRest e mid-e) (still : mid.faults ≡ before.faults) (wrote : mid.written ≡ appended before.written part) where
   written_later : (more : List ℕ) → now.written ≡ appended mid.written more → now.written ≡ appended before.written (part ++ more)
   written_later more is = is ∙ ap (λ w. appended w more) wrote ∙ appended-append before.written part more
 
@@ -39,27 +39,33 @@ module _ (task : Task) (so_far part : List ℕ) (e mid-e e' : EvaluatorState) (b
   }
 
   pub stopped_later : (stop : WorkStop) → HasStopped task (so_far ++ part) mid-e e' mid now stop → HasStopped task so_far e e' before now stop
-  stopped_later stops.Write (rose, l) = (omega (arith, later, rose), left_later l)
-  stopped_later (stops.Spent level) s = record {
-    taken = subst (λ (m : System). IsTaken task m level) kept.system s.taken;
-    beyond = beyond_before e mid-e kept level s.beyond;
-    least = λ k less beyond. s.least k less (beyond_before mid-e e (rest_back e mid-e kept) k beyond);
-    drawn = s.drawn;
-    halt = s.halt;
-    over = s.over;
-    part = part ++ s.part;
-    text = subst (λ (t : List ℕ). IsTaskUpTo task e.system level t) (append_assoc so_far part s.part) (subst (λ (m : System). IsTaskUpTo task m level ((so_far ++ part) ++ s.part)) kept.system s.text);
-    written = written_later s.part s.written;
-  }
-  stopped_later (stops.Missing context active) s = record {
-    level = s.level;
-    taken = subst (λ (m : System). IsTaken task m s.level) kept.system s.taken;
-    unanswered = unanswered_before e mid-e kept s.level context active s.unanswered;
-    halt = s.halt;
-    over = s.over;
-    left = left_later s.left;
-  }
-  stopped_later stops.Memory l = left_later l
+  stopped_later stops.Write (rose, l) = (omega (arith, still, rose), left_later l)
+  stopped_later (stops.Spent level) (same, s) = (
+    same ∙ still,
+    record {
+      taken = subst (λ (m : System). IsTaken task m level) kept.system s.taken;
+      beyond = beyond_before e mid-e kept level s.beyond;
+      least = λ k less beyond. s.least k less (beyond_before mid-e e (rest_back e mid-e kept) k beyond);
+      drawn = s.drawn;
+      halt = s.halt;
+      over = s.over;
+      part = part ++ s.part;
+      text = subst (λ (t : List ℕ). IsTaskUpTo task e.system level t) (append_assoc so_far part s.part) (subst (λ (m : System). IsTaskUpTo task m level ((so_far ++ part) ++ s.part)) kept.system s.text);
+      written = written_later s.part s.written;
+    },
+  )
+  stopped_later (stops.Missing context active) (same, s) = (
+    same ∙ still,
+    record {
+      level = s.level;
+      taken = subst (λ (m : System). IsTaken task m s.level) kept.system s.taken;
+      unanswered = unanswered_before e mid-e kept s.level context active s.unanswered;
+      halt = s.halt;
+      over = s.over;
+      left = left_later s.left;
+    },
+  )
+  stopped_later stops.Memory (same, l) = (same ∙ still, left_later l)
 
   pub done_later : IsDone task (so_far ++ part) mid-e e' mid.written now.written → IsDone task so_far e e' before.written now.written
   done_later d = record {
@@ -76,13 +82,18 @@ module _ (task : Task) (so_far part : List ℕ) (e mid-e e' : EvaluatorState) (b
 
   pub works_later : mid.notes ≡ before.notes → (r : Result (Unit {0}) WorkStop) → Works task (so_far ++ part) mid-e e' mid now r → Works task so_far e e' before now r
   works_later notes r w = record {
-    later = omega (arith, later, w.later);
+    later = omega (arith, still, w.later);
     notes = w.notes ∙ notes;
     rest = rest_kept e mid-e e' kept w.rest;
+    quiet = at_quiet r w.quiet;
     done = at_done r w.done;
     stop = at_stop r w.stop;
   }
     where
+      at_quiet : (s : Result (Unit {0}) WorkStop) → OnOk s (now.faults ≡ mid.faults) → OnOk s (now.faults ≡ before.faults)
+      at_quiet (Ok x) same = same ∙ still
+      at_quiet (Err stop) same = tt
+
       at_done : (s : Result (Unit {0}) WorkStop) → OnOk s (IsDone task (so_far ++ part) mid-e e' mid.written now.written) → OnOk s (IsDone task so_far e e' before.written now.written)
       at_done (Ok x) d = done_later d
       at_done (Err stop) d = tt
@@ -99,7 +110,7 @@ left_nothing task m so_far at stage = record { part = []; rest = []; stage = sub
 -- a text that makes a stage with what was written so far was cut off
 pub cut_off : (task : Task) (so_far text : List ℕ) (e e' : EvaluatorState) (before now : Device) {T : Type 0} (why : Unwritten) → IsTaskStage task e.system (so_far ++ text) → Writes {T = T} text before now (Err why) → HasStopped task so_far e e' before now (stop_for_line why)
 cut_off task so_far text e e' before now unwritten.Fault stage w = (w.due, record { part = w.front.front; rest = w.front.rest; stage = subst (λ (t : List ℕ). IsTaskStage task e.system (so_far ++ t)) (sym w.front.parts) stage; written = w.front.written })
-cut_off task so_far text e e' before now unwritten.Memory stage w = record { part = w.front.front; rest = w.front.rest; stage = subst (λ (t : List ℕ). IsTaskStage task e.system (so_far ++ t)) (sym w.front.parts) stage; written = w.front.written }
+cut_off task so_far text e e' before now unwritten.Memory stage w = (w.due, record { part = w.front.front; rest = w.front.rest; stage = subst (λ (t : List ℕ). IsTaskStage task e.system (so_far ++ t)) (sym w.front.parts) stage; written = w.front.written })
 
 -- ---- what comes before the first question, and then the equilibria
 opening_stage : (task : Task) (m n : System) → m ≡ n → IsTaskStage task m (opening task n)
@@ -130,32 +141,37 @@ module _ (task : Task) (m : System) (e e' : EvaluatorState) (same : e.system ≡
   }
 
   -- the round of level 0 halted
-  pub first_halted : (pair : ℕ) (halt : Halt) → pair ≡ 0 → HasHalted e e' (size pair) halt → now.written ≡ appended before.written (opening task m) → HasStopped task [] e e' before now (stop_for_halt halt)
-  first_halted pair halt none halted is = at halt (subst (λ (n : ℕ). HasHalted e e' n halt) (ap (λ (p : ℕ). size p) none ∙ size-none) halted)
+  pub first_halted : (pair : ℕ) (halt : Halt) → pair ≡ 0 → HasHalted e e' (size pair) halt → now.faults ≡ before.faults → now.written ≡ appended before.written (opening task m) → HasStopped task [] e e' before now (stop_for_halt halt)
+  first_halted pair halt none halted still is = at halt (subst (λ (n : ℕ). HasHalted e e' n halt) (ap (λ (p : ℕ). size p) none ∙ size-none) halted)
     where
       at : (h : Halt) → HasHalted e e' 0 h → HasStopped task [] e e' before now (stop_for_halt h)
       at (halts.Spent level drawn) told =
-          let lowest : level ≡ 0 = told.cause.0 in
-          subst (λ (l : ℕ). IsSpent task [] e e' l before.written now.written) (sym lowest) (record {
-            taken = lowest_taken task e.system;
-            beyond = found_beyond e 0 drawn (omega (arith, told.cause.1)) told.cause.2;
-            least = λ k less. absurd (omega (arith, less));
-            drawn = drawn;
-            halt = subst (λ (l : ℕ). e'.halt ≡ Some (halts.Spent l drawn)) lowest told.told;
-            over = told.over;
-            part = opening task m;
-            text = opening_up_to task e.system m same;
-            written = is;
-          })
-      at (halts.Missing context active) told = record {
-        level = 0;
-        taken = lowest_taken task e.system;
-        unanswered = told.cause;
-        halt = told.told;
-        over = told.over;
-        left = opening_left is;
-      }
-      at halts.Memory told = opening_left is
+          let lowest : level ≡ 0 = told.cause.0 in (
+            still,
+            subst (λ (l : ℕ). IsSpent task [] e e' l before.written now.written) (sym lowest) (record {
+              taken = lowest_taken task e.system;
+              beyond = found_beyond e 0 drawn (omega (arith, told.cause.1)) told.cause.2;
+              least = λ k less. absurd (omega (arith, less));
+              drawn = drawn;
+              halt = subst (λ (l : ℕ). e'.halt ≡ Some (halts.Spent l drawn)) lowest told.told;
+              over = told.over;
+              part = opening task m;
+              text = opening_up_to task e.system m same;
+              written = is;
+            }),
+          )
+      at (halts.Missing context active) told = (
+        still,
+        record {
+          level = 0;
+          taken = lowest_taken task e.system;
+          unanswered = told.cause;
+          halt = told.told;
+          over = told.over;
+          left = opening_left is;
+        },
+      )
+      at halts.Memory told = (still, opening_left is)
 
 -- the level of the empty pair is 0
 pub done_first : (e e' : EvaluatorState) (pair : ℕ) → pair ≡ 0 → HasDone e e' (size pair) → HasDone e e' 0

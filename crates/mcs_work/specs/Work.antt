@@ -50,17 +50,18 @@ pub record IsMissing (task : Task) (so_far : List ℕ) (e e' : EvaluatorState) (
   pub over : e'.halted ≡ true
   pub left : LeavesStage task e.system so_far before now
 
--- the cause of a stop, and what was written then
+-- the cause of a stop, and what was written then; a write failed exactly where that is the cause
 abbrev pub HasStopped : Task → List ℕ → EvaluatorState → EvaluatorState → Device → Device → WorkStop → Type 0
 HasStopped task so_far e e' before now stops.Write = Rose before.faults now.faults × LeavesStage task e.system so_far before.written now.written
-HasStopped task so_far e e' before now (stops.Spent level) = IsSpent task so_far e e' level before.written now.written
-HasStopped task so_far e e' before now (stops.Missing context active) = IsMissing task so_far e e' context active before.written now.written
-HasStopped task so_far e e' before now stops.Memory = LeavesStage task e.system so_far before.written now.written
+HasStopped task so_far e e' before now (stops.Spent level) = (now.faults ≡ before.faults) × IsSpent task so_far e e' level before.written now.written
+HasStopped task so_far e e' before now (stops.Missing context active) = (now.faults ≡ before.faults) × IsMissing task so_far e e' context active before.written now.written
+HasStopped task so_far e e' before now stops.Memory = (now.faults ≡ before.faults) × LeavesStage task e.system so_far before.written now.written
 
--- the work was done, or it stopped; nothing else was changed
+-- the work was done and no write failed, or it stopped; nothing else was changed
 pub record Works (task : Task) (so_far : List ℕ) (e e' : EvaluatorState) (before now : Device) (r : Result (Unit {0}) WorkStop) : Type 0 where
   pub later : before.faults ≤ now.faults
   pub notes : now.notes ≡ before.notes
   pub rest : KeepsRest e e'
+  pub quiet : OnOk r (now.faults ≡ before.faults)
   pub done : OnOk r (IsDone task so_far e e' before.written now.written)
   pub stop : IfErr r (HasStopped task so_far e e' before now)

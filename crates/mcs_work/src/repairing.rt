@@ -60,6 +60,7 @@ fn print_equilibria<E: Evaluator, K: Sink>(
     requires fresh { (E.stands evaluator.old).done ≡ None }
     requires going { (E.stands evaluator.old).halted ≡ false }
     ensures later { (K.device sink.old).faults ≤ (K.device sink.new).faults }
+    ensures quiet { OnOk result ((K.device sink.new).faults ≡ (K.device sink.old).faults) }
     ensures notes { (K.device sink.new).notes ≡ (K.device sink.old).notes }
     ensures rest { KeepsRest (E.stands evaluator.old) (E.stands evaluator.new) }
     ensures under_way { OnOk result (IsUnderWay (E.stands evaluator.new) 0 []) }
@@ -137,6 +138,7 @@ fn print_levels<E: Evaluator, K: Sink>(
     requires same { (E.stands levels.old.evaluator).system ≡ system.now }
     requires under_way { IsUnderWay (E.stands levels.old.evaluator) levels.old.level [] }
     ensures later { (K.device sink.old).faults ≤ (K.device sink.new).faults }
+    ensures quiet { OnOk result ((K.device sink.new).faults ≡ (K.device sink.old).faults) }
     ensures notes { (K.device sink.new).notes ≡ (K.device sink.old).notes }
     ensures rest { KeepsRest (E.stands levels.old.evaluator) (E.stands levels.new.evaluator) }
     ensures under_way { IfOk result (λ found. IsUnderWay (E.stands levels.new.evaluator) levels.new.level found.items) }
@@ -165,6 +167,7 @@ fn print_level<E: Evaluator, K: Sink>(
     requires same { (E.stands levels.old.evaluator).system ≡ system.now }
     requires under_way { IsUnderWay (E.stands levels.old.evaluator) levels.old.level found.old.items }
     ensures later { (K.device sink.old).faults ≤ (K.device sink.new).faults }
+    ensures quiet { OnOk result ((K.device sink.new).faults ≡ (K.device sink.old).faults) }
     ensures notes { (K.device sink.new).notes ≡ (K.device sink.old).notes }
     ensures rest { KeepsRest (E.stands levels.old.evaluator) (E.stands levels.new.evaluator) }
     ensures under_way { OnOk result (IsUnderWay (E.stands levels.new.evaluator) levels.new.level found.new.items) }

@@ -30,6 +30,7 @@ pub(crate) fn find_states<E: Evaluator, K: Sink>(
     requires fresh { (E.stands evaluator.old).done ≡ None }
     requires going { (E.stands evaluator.old).halted ≡ false }
     ensures later { (K.device sink.old).faults ≤ (K.device sink.new).faults }
+    ensures quiet { OnOk result ((K.device sink.new).faults ≡ (K.device sink.old).faults) }
     ensures notes { (K.device sink.new).notes ≡ (K.device sink.old).notes }
     ensures rest { KeepsRest (E.stands evaluator.old) (E.stands evaluator.new) }
     ensures found { IfOk result (λ states. AreEquilibria system.now states.items) }

@@ -22,7 +22,7 @@ use std::sync::Arc;
 /// task, that is 0 for equilibria and for a consistent system, and else the number of its rules; its journals hold
 /// exactly the questions of that level.
 ///
-/// `Write` comes only where the sink's count of faults rose. `Spent` comes with the least level of the task that has
+/// `Write` comes only where the sink's count of faults rose; unless it comes, that count is as before. `Spent` comes with the least level of the task that has
 /// more questions than the budget, and what is printed before this level was written; `Missing` with a question of a
 /// level of the task for which an oracle holds no answer. Where neither has a cause, neither comes, and where one has,
 /// the work is not done. After each stop a front of the text was written.

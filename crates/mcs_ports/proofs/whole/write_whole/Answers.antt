@@ -7,7 +7,7 @@ pub loop-taken-preserved : goal.loop-taken-preserved
 loop-taken-preserved g c =
     record {
       within = search rules;
-      later = omega (arith, c.in_ok-taken.ensures.cause.later);
+      quiet = c.in_ok-taken.ensures.quiet ∙ c.loop-taken.invariant.quiet;
       written = c.in_ok-taken.ensures.written
           ∙ appended-more (g.K.Sink.device c.args.sink.now).written (g.K.Sink.device c.loop-taken.sink).written c.args.bytes.now c.loop-taken.taken c.in_ok-taken.field-0 c.loop-taken.invariant.written;
       notes = search rules;

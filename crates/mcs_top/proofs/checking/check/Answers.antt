@@ -6,39 +6,45 @@ use Rattle.mcs_top.specs.Jobs.{told_all}
 use Rattle.mcs_top.specs.Promise.{HasCause, LeavesText}
 use Rattle.mcs_top.proofs.StageLemmas.{read_left}
 use Rattle.mcs_top.proofs.CheckingLemmas.{check_read_cause, report_cause, report_left, told_finding, finding_left}
+use Rattle.mcs_top.proofs.EndingLemmas.{line_unfailed}
 use Rattle.mcs_top.proofs.checking.check.Goals as goal
 
 -- ---- the file of the system
 pub returns-in_err-read-clause-cause : goal.returns-in_err-read-clause-cause
 returns-in_err-read-clause-cause g c =
     let rose = Rose (g.H.Shelf.faults c.args.shelf.now) (g.H.Shelf.faults c.system_in.new.shelf) in
+    let failed = Rose (g.H.Shelf.failures c.args.shelf.now) (g.H.Shelf.failures c.system_in.new.shelf) in
     let same = Rose (g.K.Sink.device c.args.sink.now).faults (g.K.Sink.device c.args.sink.now).faults in
-    err_told (λ stop. HasCause stop rose same (check c.args.file.now c.args.report.now) (told_all (g.H.Shelf.held c.args.shelf.now) (c.args.file.now ∷ c.args.report.now ∷ []))) _ _ c.from_residual.ensures.1
-    (check_read_cause (g.H.Shelf.held c.args.shelf.now) c.args.file.now c.args.report.now rose same c.in_err-read.field-0.0 c.in_err-read.ensures.stop)
+    err_told (λ stop. HasCause stop rose failed same (check c.args.file.now c.args.report.now) (told_all (g.H.Shelf.held c.args.shelf.now) (c.args.file.now ∷ c.args.report.now ∷ []))) _ _ c.from_residual.ensures.1
+    (check_read_cause (g.H.Shelf.held c.args.shelf.now) c.args.file.now c.args.report.now rose failed same c.in_err-read.field-0.0 c.in_err-read.ensures.stop)
 
 pub returns-in_err-read-clause-leaves : goal.returns-in_err-read-clause-leaves
 returns-in_err-read-clause-leaves g c =
     let rose = Rose (g.H.Shelf.faults c.args.shelf.now) (g.H.Shelf.faults c.system_in.new.shelf) in
+    let failed = Rose (g.H.Shelf.failures c.args.shelf.now) (g.H.Shelf.failures c.system_in.new.shelf) in
     let at = (g.K.Sink.device c.args.sink.now).written in
     err_told (λ stop. LeavesText stop (check c.args.file.now c.args.report.now) (told_all (g.H.Shelf.held c.args.shelf.now) (c.args.file.now ∷ c.args.report.now ∷ [])) at at) _ _ c.from_residual.ensures.1
-    (read_left (check c.args.file.now c.args.report.now) rose (told_all (g.H.Shelf.held c.args.shelf.now) (c.args.file.now ∷ [])) (told_all (g.H.Shelf.held c.args.shelf.now) (c.args.file.now ∷ c.args.report.now ∷ [])) at c.in_err-read.field-0.0 c.in_err-read.ensures.stop)
+    (read_left (check c.args.file.now c.args.report.now) rose failed (told_all (g.H.Shelf.held c.args.shelf.now) (c.args.file.now ∷ [])) (told_all (g.H.Shelf.held c.args.shelf.now) (c.args.file.now ∷ c.args.report.now ∷ [])) at c.in_err-read.field-0.0 c.in_err-read.ensures.stop)
 
 -- ---- the file of the report
 pub returns-in_err-bytes-clause-cause : goal.returns-in_err-bytes-clause-cause
 returns-in_err-bytes-clause-cause g c =
     let rose = Rose (g.H.Shelf.faults c.args.shelf.now) (g.H.Shelf.faults c.report_in.new.shelf) in
+    let failed = Rose (g.H.Shelf.failures c.args.shelf.now) (g.H.Shelf.failures c.report_in.new.shelf) in
     let more = Rose (g.H.Shelf.faults c.system_in.new.shelf) (g.H.Shelf.faults c.report_in.new.shelf) in
+    let broken = Rose (g.H.Shelf.failures c.system_in.new.shelf) (g.H.Shelf.failures c.report_in.new.shelf) in
     let same = Rose (g.K.Sink.device c.args.sink.now).faults (g.K.Sink.device c.args.sink.now).faults in
-    err_told (λ stop. HasCause stop rose same (check c.args.file.now c.args.report.now) (told_all (g.H.Shelf.held c.args.shelf.now) (c.args.file.now ∷ c.args.report.now ∷ []))) _ _ c.from_residual-in_err-bytes.ensures.1
-    (report_cause (g.H.Shelf.held c.args.shelf.now) c.args.file.now c.args.report.now c.in_ok-read.read c.in_ok-read.ensures.system rose more same
-    (λ r. omega (arith, c.system_in.ensures.later, r)) c.in_err-bytes.field-0.0 (rw c.system_in.ensures.held at c.in_err-bytes.ensures.stop))
+    err_told (λ stop. HasCause stop rose failed same (check c.args.file.now c.args.report.now) (told_all (g.H.Shelf.held c.args.shelf.now) (c.args.file.now ∷ c.args.report.now ∷ []))) _ _ c.from_residual-in_err-bytes.ensures.1
+    (report_cause (g.H.Shelf.held c.args.shelf.now) c.args.file.now c.args.report.now c.in_ok-read.read c.in_ok-read.ensures.system rose failed same more broken
+    (λ r. omega (arith, c.system_in.ensures.later, r)) (λ r. omega (arith, c.system_in.ensures.failures_later, r)) c.in_err-bytes.field-0.0 (rw c.system_in.ensures.held at c.in_err-bytes.ensures.stop))
 
 pub returns-in_err-bytes-clause-leaves : goal.returns-in_err-bytes-clause-leaves
 returns-in_err-bytes-clause-leaves g c =
     let more = Rose (g.H.Shelf.faults c.system_in.new.shelf) (g.H.Shelf.faults c.report_in.new.shelf) in
+    let broken = Rose (g.H.Shelf.failures c.system_in.new.shelf) (g.H.Shelf.failures c.report_in.new.shelf) in
     let at = (g.K.Sink.device c.args.sink.now).written in
     err_told (λ stop. LeavesText stop (check c.args.file.now c.args.report.now) (told_all (g.H.Shelf.held c.args.shelf.now) (c.args.file.now ∷ c.args.report.now ∷ [])) at at) _ _ c.from_residual-in_err-bytes.ensures.1
-    (report_left (g.H.Shelf.held c.args.shelf.now) c.args.file.now c.args.report.now c.in_ok-read.read c.in_ok-read.ensures.system more at c.in_err-bytes.field-0.0
+    (report_left (g.H.Shelf.held c.args.shelf.now) c.args.file.now c.args.report.now c.in_ok-read.read c.in_ok-read.ensures.system more broken at c.in_err-bytes.field-0.0
     (rw c.system_in.ensures.held at c.in_err-bytes.ensures.stop))
 
 -- ---- the line of what was found
@@ -52,3 +58,9 @@ pub returns-clause-ok : goal.returns-clause-ok
 returns-clause-ok g c = rw c.outcome_of.ensures (told_finding (g.H.Shelf.held c.args.shelf.now) c.args.file.now c.args.report.now c.in_ok-read.read c.in_ok-read.ensures.system c.in_ok-bytes.bytes.items c.in_ok-bytes.ensures.few
     (rw c.system_in.ensures.held at c.in_ok-bytes.ensures.bytes) c.in_ok-finding.finding (rw (c.in_ok-system.ensures, c.deref.ensures.value) at c.in_ok-finding.ensures.found) (rw (c.in_ok-system.ensures, c.deref.ensures.value) at c.in_ok-finding.ensures.only)
     (g.K.Sink.device c.args.sink.now).written (g.K.Sink.device c.print_finding.new.sink).written c.in_ok-print_finding.ensures.whole)
+
+pub returns-in_err-print_finding-clause-unfailed : goal.returns-in_err-print_finding-clause-unfailed
+returns-in_err-print_finding-clause-unfailed g c = line_unfailed _ _ _ _ c.from_residual-in_err-print_finding.ensures.1 c.in_err-print_finding.ensures.due
+
+pub returns-clause-unfailed : goal.returns-clause-unfailed
+returns-clause-unfailed g c other = c.in_ok-print_finding.ensures.quiet

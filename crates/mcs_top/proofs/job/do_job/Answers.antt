@@ -1,6 +1,7 @@
 use Rattle.std.proofs.Common.{[], Some, true, false, refl}
 use Rattle.mcs_words.specs.Commands.{equilibria, solve, make}
 use Rattle.mcs_top.proofs.StageLemmas.{made_output, made_causes, made_leaves, done_ends, done_stops}
+use Rattle.mcs_top.proofs.EndingLemmas.{done_unfailed}
 use Rattle.mcs_top.proofs.job.do_job.Goals as goal
 
 pub returns-in-Equilibria-clause-ok : goal.returns-in-Equilibria-clause-ok
@@ -34,7 +35,33 @@ pub returns-in-Make-clause-ok : goal.returns-in-Make-clause-ok
 returns-in-Make-clause-ok g c = rw (c.in-Make.is, c.done-in-Make.ensures) (done_ends (make c.in-Make.number c.in-Make.budget c.in-Make.workers) (Some []) _ _ (λ fs h. h) c.generated.result (made_output _ _ c.in-Make.workers _ _ c.generated.result c.generated.ensures.ok))
 
 pub returns-in-Make-clause-cause : goal.returns-in-Make-clause-cause
-returns-in-Make-clause-cause g c = rw (c.in-Make.is, c.done-in-Make.ensures) (done_stops _ c.generated.result (made_causes _ _ c.in-Make.workers _ _ _ _ c.generated.result c.generated.ensures.stop))
+returns-in-Make-clause-cause g c = rw (c.in-Make.is, c.done-in-Make.ensures) (done_stops _ c.generated.result (made_causes _ _ c.in-Make.workers _ _ _ _ _ c.generated.result c.generated.ensures.stop))
 
 pub returns-in-Make-clause-leaves : goal.returns-in-Make-clause-leaves
 returns-in-Make-clause-leaves g c = rw (c.in-Make.is, c.done-in-Make.ensures) (done_stops _ c.generated.result (made_leaves _ _ c.in-Make.workers _ _ _ c.generated.result c.generated.ensures.stop))
+
+-- ---- unless a write fault is told, no write failed
+pub returns-in-Equilibria-clause-unfailed : goal.returns-in-Equilibria-clause-unfailed
+returns-in-Equilibria-clause-unfailed g c other = done_unfailed _ c.evaluate.result c.evaluate.ensures.unfailed (rw c.done.ensures at other)
+
+pub returns-then-proof-clause-unfailed : goal.returns-then-proof-clause-unfailed
+returns-then-proof-clause-unfailed g c other = done_unfailed _ c.prove.result c.prove.ensures.unfailed (rw c.done-then-proof.ensures at other)
+
+pub returns-else-proof-clause-unfailed : goal.returns-else-proof-clause-unfailed
+returns-else-proof-clause-unfailed g c other = done_unfailed _ c.evaluate-else-proof.result c.evaluate-else-proof.ensures.unfailed (rw c.done-else-proof.ensures at other)
+
+pub returns-in-Make-clause-unfailed : goal.returns-in-Make-clause-unfailed
+returns-in-Make-clause-unfailed g c other = done_unfailed _ c.generated.result c.generated.ensures.unfailed (rw c.done-in-Make.ensures at other)
+
+-- ---- a job that names a file
+pub returns-in-Equilibria-clause-unread : goal.returns-in-Equilibria-clause-unread
+returns-in-Equilibria-clause-unread g c none = absurd (let no = rw c.in-Equilibria.is at none in cc)
+
+pub returns-then-proof-clause-unread : goal.returns-then-proof-clause-unread
+returns-then-proof-clause-unread g c none = absurd (let no = rw c.in-Solve.is at none in cc)
+
+pub returns-else-proof-clause-unread : goal.returns-else-proof-clause-unread
+returns-else-proof-clause-unread g c none = absurd (let no = rw c.in-Solve.is at none in cc)
+
+pub returns-in-Check-clause-unread : goal.returns-in-Check-clause-unread
+returns-in-Check-clause-unread g c none = absurd (let no = rw c.in-Check.is at none in cc)

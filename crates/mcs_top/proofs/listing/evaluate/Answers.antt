@@ -10,23 +10,25 @@ pub returns-in_err-system-clause-cause : goal.returns-in_err-system-clause-cause
 returns-in_err-system-clause-cause g c job lists =
     let files = told_all (g.H.Shelf.held c.args.shelf.now) (c.args.file.now ∷ []) in
     let rose = Rose (g.H.Shelf.faults c.args.shelf.now) (g.H.Shelf.faults c.system_in.new.shelf) in
+    let failed = Rose (g.H.Shelf.failures c.args.shelf.now) (g.H.Shelf.failures c.system_in.new.shelf) in
     let same = Rose (g.K.Sink.device c.args.sink.now).faults (g.K.Sink.device c.args.sink.now).faults in
-    err_told (λ stop. HasCause stop rose same job files) _ _ c.from_residual.ensures.1
-    (read_cause job c.args.task c.args.file.now c.args.budget lists rose same files c.in_err-system.field-0.0 c.in_err-system.ensures.stop)
+    err_told (λ stop. HasCause stop rose failed same job files) _ _ c.from_residual.ensures.1
+    (read_cause job c.args.task c.args.file.now c.args.budget lists rose failed same files c.in_err-system.field-0.0 c.in_err-system.ensures.stop)
 
 pub returns-in_err-system-clause-leaves : goal.returns-in_err-system-clause-leaves
 returns-in_err-system-clause-leaves g c job lists =
     let files = told_all (g.H.Shelf.held c.args.shelf.now) (c.args.file.now ∷ []) in
     let rose = Rose (g.H.Shelf.faults c.args.shelf.now) (g.H.Shelf.faults c.system_in.new.shelf) in
+    let failed = Rose (g.H.Shelf.failures c.args.shelf.now) (g.H.Shelf.failures c.system_in.new.shelf) in
     let at = (g.K.Sink.device c.args.sink.now).written in
     err_told (λ stop. LeavesText stop job files at at) _ _ c.from_residual.ensures.1
-    (read_left job rose files files at c.in_err-system.field-0.0 c.in_err-system.ensures.stop)
+    (read_left job rose failed files files at c.in_err-system.field-0.0 c.in_err-system.ensures.stop)
 
 pub returns-clause-ok : goal.returns-clause-ok
 returns-clause-ok g c job lists = file_listed job c.args.task c.args.file.now c.args.budget lists c.in_ok-system.system _ c.in_ok-system.ensures.system (g.K.Sink.device c.args.sink.now).written (g.K.Sink.device c.list_system.new.sink).written c.list_system.result c.list_system.ensures.ok
 
 pub returns-clause-cause : goal.returns-clause-cause
-returns-clause-cause g c job lists = file_causes job c.args.task c.args.file.now c.args.budget lists c.in_ok-system.system _ c.in_ok-system.ensures.system _ _ (g.K.Sink.device c.args.sink.now).written (g.K.Sink.device c.list_system.new.sink).written c.list_system.result c.list_system.ensures.stop
+returns-clause-cause g c job lists = file_causes job c.args.task c.args.file.now c.args.budget lists c.in_ok-system.system _ c.in_ok-system.ensures.system _ _ _ (g.K.Sink.device c.args.sink.now).written (g.K.Sink.device c.list_system.new.sink).written c.list_system.result c.list_system.ensures.stop
 
 pub returns-clause-leaves : goal.returns-clause-leaves
 returns-clause-leaves g c job lists = file_leaves job c.args.task c.args.file.now c.args.budget lists c.in_ok-system.system _ c.in_ok-system.ensures.system _ (g.K.Sink.device c.args.sink.now).written (g.K.Sink.device c.list_system.new.sink).written c.list_system.result c.list_system.ensures.stop

@@ -1,5 +1,7 @@
+use Rattle.std.proofs.Common.{◌∙◌}
 use Rattle.mcs_top.specs.Promise.{StopsGenerated}
 use Rattle.mcs_top.proofs.StageLemmas.{made_done, made_stops, line_stopped}
+use Rattle.mcs_top.proofs.EndingLemmas.{line_unfailed}
 use Rattle.mcs_base.proofs.Results.{err_told}
 use Rattle.mcs_top.proofs.listing.generated.Goals as goal
 
@@ -12,3 +14,9 @@ returns-clause-ok g c = made_done c.args.number c.args.budget (g.K.Sink.device c
 
 pub returns-clause-stop : goal.returns-clause-stop
 returns-clause-stop g c = made_stops c.args.number c.args.budget (g.K.Sink.device c.args.sink.now) (g.K.Sink.device c.print_number.new.sink) (g.K.Sink.device c.list_system.new.sink) (rw c.in_ok-system.ensures at c.in_ok-print_number.ensures.whole) c.list_system.result c.in_ok-print_number.ensures.later (rw c.in_ok-system.ensures at c.list_system.ensures.stop)
+
+pub returns-in_err-print_number-clause-unfailed : goal.returns-in_err-print_number-clause-unfailed
+returns-in_err-print_number-clause-unfailed g c = line_unfailed _ _ _ _ c.from_residual-in_err-print_number.ensures.1 c.in_err-print_number.ensures.due
+
+pub returns-clause-unfailed : goal.returns-clause-unfailed
+returns-clause-unfailed g c other = c.list_system.ensures.unfailed other ∙ c.in_ok-print_number.ensures.quiet

@@ -1,6 +1,7 @@
-use Rattle.std.proofs.Common.{Ok}
+use Rattle.std.proofs.Common.{Ok, Err, ap, ◌∙◌}
+use Rattle.mcs_top.specs.declared.ending.Stop.{Stop}
 use Rattle.mcs_top.specs.Promise.{StopsWork}
-use Rattle.mcs_top.proofs.StageLemmas.{nothing_left, work_done, work_stopped}
+use Rattle.mcs_top.proofs.StageLemmas.{nothing_left, work_done, work_stopped, work_unfailed}
 use Rattle.mcs_base.proofs.Results.{err_told}
 use Rattle.mcs_top.proofs.listing.list_system.Goals as goal
 
@@ -15,3 +16,10 @@ returns-in-Ok-clause-ok g c = work_done c.args.task c.args.system c.args.budget 
 
 pub returns-in-Err-clause-stop : goal.returns-in-Err-clause-stop
 returns-in-Err-clause-stop g c = rw c.stop_for_work.ensures (work_stopped c.args.task c.args.system c.args.budget c.in_ok-mesh.mesh c.work-worked.result.1 (rw c.in_ok-system.ensures at c.in_ok-mesh.ensures.new) (g.K.Sink.device c.args.sink.now) (g.K.Sink.device c.work-worked.new.sink) c.in-Err.stop (rw c.in-Err.is at c.work-worked.ensures.stop))
+
+pub returns-in-Ok-clause-unfailed : goal.returns-in-Ok-clause-unfailed
+returns-in-Ok-clause-unfailed g c other = rw c.in-Ok.is at c.work-worked.ensures.quiet
+
+pub returns-in-Err-clause-unfailed : goal.returns-in-Err-clause-unfailed
+returns-in-Err-clause-unfailed g c other = work_unfailed c.args.task c.args.system c.args.budget c.in_ok-mesh.mesh c.work-worked.result.1 (rw c.in_ok-system.ensures at c.in_ok-mesh.ensures.new) (g.K.Sink.device c.args.sink.now) (g.K.Sink.device c.work-worked.new.sink) c.in-Err.stop (rw c.in-Err.is at c.work-worked.ensures.stop)
+    (λ is. other (ap (λ (s : Stop). Err s) (c.stop_for_work.ensures ∙ is)))

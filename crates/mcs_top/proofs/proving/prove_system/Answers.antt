@@ -1,7 +1,9 @@
+use Rattle.std.proofs.Common.{Err, ap, ◌∙◌}
+use Rattle.mcs_top.specs.declared.ending.Stop.{Stop}
 use Rattle.mcs_base.proofs.Results.{err_told}
 use Rattle.mcs_top.specs.Promise.{StopsProof}
 use Rattle.mcs_top.proofs.ProvingLemmas.{nothing_proved, work_stops_proof, solvers_asked, proof_done, proof_stops}
-use Rattle.mcs_top.proofs.StageLemmas.{work_stopped}
+use Rattle.mcs_top.proofs.StageLemmas.{work_stopped, work_unfailed}
 use Rattle.mcs_work.specs.declared.task.Task.TheVariants.{Solve}
 use Rattle.mcs_top.proofs.proving.prove_system.Goals as goal
 
@@ -40,3 +42,10 @@ returns-in-Ok-clause-stop g c =
 pub returns-clause-stop : goal.returns-clause-stop
 returns-clause-stop g c = rw c.stop_for_work.ensures (work_stops_proof c.args.budget c.args.system _ _ _ _
     (work_stopped Solve c.args.system c.args.budget c.in_ok-mesh.mesh c.work-worked.result.1 (rw c.in_ok-system.ensures at c.in_ok-mesh.ensures.new) (g.K.Sink.device c.args.sink.now) (g.K.Sink.device c.work-worked.new.sink) c.in-Err.stop (rw c.in-Err.is at c.work-worked.ensures.stop)))
+
+pub returns-in-Ok-clause-unfailed : goal.returns-in-Ok-clause-unfailed
+returns-in-Ok-clause-unfailed g c other = c.write_answers.ensures.unfailed other ∙ rw c.in-Ok.is at c.work-worked.ensures.quiet
+
+pub returns-clause-unfailed : goal.returns-clause-unfailed
+returns-clause-unfailed g c other = work_unfailed Solve c.args.system c.args.budget c.in_ok-mesh.mesh c.work-worked.result.1 (rw c.in_ok-system.ensures at c.in_ok-mesh.ensures.new) (g.K.Sink.device c.args.sink.now) (g.K.Sink.device c.work-worked.new.sink) c.in-Err.stop (rw c.in-Err.is at c.work-worked.ensures.stop)
+    (λ is. other (ap (λ (s : Stop). Err s) (c.stop_for_work.ensures ∙ is)))

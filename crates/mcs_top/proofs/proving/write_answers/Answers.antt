@@ -3,6 +3,7 @@ use Rattle.mcs_ports.specs.Causes.{Rose}
 use Rattle.mcs_base.proofs.Results.{err_told}
 use Rattle.mcs_top.specs.Promise.{StopsAnswers}
 use Rattle.mcs_top.proofs.ProvingLemmas.{answers_stopped, asked_also}
+use Rattle.mcs_top.proofs.EndingLemmas.{line_unfailed}
 use Rattle.mcs_top.proofs.proving.write_answers.Goals as goal
 
 pub write_proof-requires : goal.write_proof-requires
@@ -34,3 +35,9 @@ returns-clause-notes g c = (c.in_ok-write_proof.ensures c.requires.0 (rw c.deref
 
 pub returns-clause-ok : goal.returns-clause-ok
 returns-clause-ok g c level asked = (c.in_ok-write_proof.ensures level (rw c.deref.ensures.value (asked_also c.args.system.now level c.in_ok-solvers.solvers.items _ c.in_ok-solvers.ensures asked))).whole
+
+pub returns-in_err-write_proof-clause-unfailed : goal.returns-in_err-write_proof-clause-unfailed
+returns-in_err-write_proof-clause-unfailed g c = line_unfailed _ _ _ _ c.from_residual-in_err-write_proof.ensures.1 (c.in_err-write_proof.ensures c.requires.0 (rw c.deref.ensures.value (asked_also c.args.system.now c.requires.0 c.in_ok-solvers.solvers.items _ c.in_ok-solvers.ensures c.requires.1))).due
+
+pub returns-clause-unfailed : goal.returns-clause-unfailed
+returns-clause-unfailed g c other = (c.in_ok-write_proof.ensures c.requires.0 (rw c.deref.ensures.value (asked_also c.args.system.now c.requires.0 c.in_ok-solvers.solvers.items _ c.in_ok-solvers.ensures c.requires.1))).quiet

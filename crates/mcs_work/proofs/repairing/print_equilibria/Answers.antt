@@ -15,7 +15,7 @@ print_states_part-requires g c = rw c.deref.ensures.value (all_from_among _ c.in
 
 pub returns-in_err-print_states_part-clause-stop : goal.returns-in_err-print_states_part-clause-stop
 returns-in_err-print_states_part-clause-stop g c = err_told (HasStopped (task_of c.args.extent) [] (g.E.Evaluator.stands c.args.evaluator.now) (g.E.Evaluator.stands c.find_states.new.evaluator) (g.K.Sink.device c.args.sink.now) (g.K.Sink.device c.print_states_part.new.sink)) _ _ c.from_residual-in_err-print_states_part.ensures.1
-    (verdict_cut c.args.extent c.args.system.now (g.E.Evaluator.stands c.args.evaluator.now) (g.E.Evaluator.stands c.find_states.new.evaluator) c.requires.same c.in_ok-states.states.items c.in_ok-states.ensures.found (g.K.Sink.device c.args.sink.now) (g.K.Sink.device c.find_states.new.sink) (g.K.Sink.device c.print_states_part.new.sink) _ c.in_ok-states.ensures.later (rw c.task.ensures at c.in_ok-states.ensures.written) (rw c.deref.ensures.value at c.in_err-print_states_part.ensures))
+    (verdict_cut c.args.extent c.args.system.now (g.E.Evaluator.stands c.args.evaluator.now) (g.E.Evaluator.stands c.find_states.new.evaluator) c.requires.same c.in_ok-states.states.items c.in_ok-states.ensures.found (g.K.Sink.device c.args.sink.now) (g.K.Sink.device c.find_states.new.sink) (g.K.Sink.device c.print_states_part.new.sink) _ c.in_ok-states.ensures.quiet (rw c.task.ensures at c.in_ok-states.ensures.written) (rw c.deref.ensures.value at c.in_err-print_states_part.ensures))
 
 pub returns-clause-under_way : goal.returns-clause-under_way
 returns-clause-under_way g c = begun (g.E.Evaluator.stands c.args.evaluator.now) (g.E.Evaluator.stands c.find_states.new.evaluator) c.requires.fresh c.in_ok-states.ensures.rest c.in_ok-states.ensures.done

@@ -26,7 +26,7 @@ returns-in_err-extend_from_slice-in-Found-clause-stop g c σs equilibria =
     let both = subst (IsLevel (g.E.Evaluator.stands c.args.levels.now.evaluator).system c.args.levels.now.level) c.in-Found.is c.in_ok-next.ensures.level in
     let written = rw (c.deref.ensures.value, c.len.ensures, c.args.found.now.ok.0) at c.in_ok-print_diagnoses_part-in-Found.ensures in
     err_told (HasStopped (task_of c.args.extent) (front_part c.args.extent c.args.system.now σs c.args.found.now.items) (g.E.Evaluator.stands c.args.levels.now.evaluator) (g.E.Evaluator.stands c.next.new.self.evaluator) (g.K.Sink.device c.args.sink.now) (g.K.Sink.device c.print_diagnoses_part.new.sink)) _ _ c.from_residual-in_err-extend_from_slice-in-Found.ensures.1
-    (memory_at c.args.extent c.args.system.now (g.E.Evaluator.stands c.args.levels.now.evaluator) (g.E.Evaluator.stands c.next.new.self.evaluator) c.requires.same σs c.args.levels.now.level c.args.found.now.items c.requires.under_way both.1 equilibria c.in-Found.fresh.items both.0 (g.K.Sink.device c.args.sink.now) (g.K.Sink.device c.print_diagnoses_part.new.sink) written.whole)
+    (memory_at c.args.extent c.args.system.now (g.E.Evaluator.stands c.args.levels.now.evaluator) (g.E.Evaluator.stands c.next.new.self.evaluator) c.requires.same σs c.args.levels.now.level c.args.found.now.items c.requires.under_way both.1 equilibria c.in-Found.fresh.items both.0 (g.K.Sink.device c.args.sink.now) (g.K.Sink.device c.print_diagnoses_part.new.sink) written.quiet written.whole)
 
 pub returns-in_ok-extend_from_slice-in-Found-clause-under_way : goal.returns-in_ok-extend_from_slice-in-Found-clause-under_way
 returns-in_ok-extend_from_slice-in-Found-clause-under_way g c =

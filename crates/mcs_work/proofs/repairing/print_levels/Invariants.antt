@@ -1,4 +1,4 @@
-use Rattle.std.proofs.Common.{◌≡◌, ◌+◌, ◌-◌, ◌≤◌, length}
+use Rattle.std.proofs.Common.{◌≡◌, ◌+◌, ◌-◌, length}
 use Rattle.mcs_ports.specs.Pieces.{appended}
 use Rattle.mcs_states.specs.Evaluators.{KeepsRest}
 use Rattle.mcs_work.specs.Extents.{diagnoses_part}
@@ -7,7 +7,7 @@ use Rattle.mcs_work.proofs.repairing.print_levels.Given as goal
 
 abbrev pub invariant-loop-found : goal.invariant-loop-found
 invariant-loop-found g l = record {
-  later : (g.K.Sink.device l.fn.sink).faults ≤ (g.K.Sink.device l.sink).faults;
+  quiet : (g.K.Sink.device l.sink).faults ≡ (g.K.Sink.device l.fn.sink).faults;
   notes : (g.K.Sink.device l.sink).notes ≡ (g.K.Sink.device l.fn.sink).notes;
   rest : KeepsRest (g.E.Evaluator.stands l.fn.levels.evaluator) (g.E.Evaluator.stands l.levels.evaluator);
   under_way : IsUnderWay (g.E.Evaluator.stands l.levels.evaluator) l.levels.level l.found.items;

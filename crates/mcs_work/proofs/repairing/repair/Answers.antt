@@ -8,6 +8,7 @@ returns-in-Err g c σs equilibria counted = record {
   later = omega arith;
   notes = refl;
   rest = record { system = refl; budget = refl; oracles = refl };
+  quiet = tt;
   done = tt;
   stop = verdict_left c.args.extent (arc_value c.args.system) (g.E.Evaluator.stands c.args.evaluator) (g.E.Evaluator.stands c.args.evaluator) c.requires.same σs equilibria (g.K.Sink.device c.args.sink.now);
 }

@@ -19,7 +19,7 @@ list_states-requires-clause-of_rules g c = none_is_within c.new.result _ (c.new.
 pub returns-in_err-states-clause-stop : goal.returns-in_err-states-clause-stop
 returns-in_err-states-clause-stop g c =
     err_told (HasStopped c.args.task [] (g.E.Evaluator.stands c.args.evaluator.now) (g.E.Evaluator.stands c.list_states.new.evaluator) (g.K.Sink.device c.args.sink.now) (g.K.Sink.device c.print_opening.new.sink)) _ _ c.from_residual-in_err-states.ensures.1
-    (first_halted c.args.task c.args.system.now _ _ c.requires.same (g.K.Sink.device c.args.sink.now) (g.K.Sink.device c.print_opening.new.sink) c.new.result _ (c.new.ensures ∙ c.empty.ensures) c.in_err-states.ensures.halt c.in_ok-print_opening.ensures.whole)
+    (first_halted c.args.task c.args.system.now _ _ c.requires.same (g.K.Sink.device c.args.sink.now) (g.K.Sink.device c.print_opening.new.sink) c.new.result _ (c.new.ensures ∙ c.empty.ensures) c.in_err-states.ensures.halt c.in_ok-print_opening.ensures.quiet c.in_ok-print_opening.ensures.whole)
 
 pub returns-clause-found : goal.returns-clause-found
 returns-clause-found g c = unchanged c.args.system.now c.new.result _ (c.new.ensures ∙ c.empty.ensures) (subst (λ (m : System). AreStates m c.new.result c.in_ok-states.states.items) c.requires.same c.in_ok-states.ensures.listing)

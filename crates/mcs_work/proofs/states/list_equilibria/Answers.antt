@@ -14,8 +14,8 @@ print_listing-requires g c = rw c.deref.ensures.value (all_from_among _ c.in_ok-
 
 pub returns-in_err-print_listing : goal.returns-in_err-print_listing
 returns-in_err-print_listing g c = listing_cut c.args.system.now (g.E.Evaluator.stands c.args.evaluator.now) (g.E.Evaluator.stands c.find_states.new.evaluator) c.requires.same c.requires.fresh c.in_ok-states.ensures.rest c.in_ok-states.ensures.done c.in_ok-states.states.items c.asked.result c.in_ok-states.ensures.found c.asked.ensures
-    (g.K.Sink.device c.args.sink.now) (g.K.Sink.device c.find_states.new.sink) c.in_ok-states.ensures.later c.in_ok-states.ensures.notes c.in_ok-states.ensures.written (g.K.Sink.device c.print_listing.new.sink) _ _ c.from_residual-in_err-print_listing.ensures.1 (rw c.deref.ensures.value at c.in_err-print_listing.ensures)
+    (g.K.Sink.device c.args.sink.now) (g.K.Sink.device c.find_states.new.sink) c.in_ok-states.ensures.quiet c.in_ok-states.ensures.notes c.in_ok-states.ensures.written (g.K.Sink.device c.print_listing.new.sink) _ _ c.from_residual-in_err-print_listing.ensures.1 (rw c.deref.ensures.value at c.in_err-print_listing.ensures)
 
 pub returns : goal.returns
 returns g c = listing_done c.args.system.now (g.E.Evaluator.stands c.args.evaluator.now) (g.E.Evaluator.stands c.find_states.new.evaluator) c.requires.same c.requires.fresh c.in_ok-states.ensures.rest c.in_ok-states.ensures.done c.in_ok-states.states.items c.asked.result c.in_ok-states.ensures.found c.asked.ensures
-    (g.K.Sink.device c.args.sink.now) (g.K.Sink.device c.find_states.new.sink) c.in_ok-states.ensures.later c.in_ok-states.ensures.notes c.in_ok-states.ensures.written (g.K.Sink.device c.print_listing.new.sink) _ (rw c.deref.ensures.value at c.in_ok-print_listing.ensures)
+    (g.K.Sink.device c.args.sink.now) (g.K.Sink.device c.find_states.new.sink) c.in_ok-states.ensures.quiet c.in_ok-states.ensures.notes c.in_ok-states.ensures.written (g.K.Sink.device c.print_listing.new.sink) _ (rw c.deref.ensures.value at c.in_ok-print_listing.ensures)

@@ -1,0 +1,45 @@
+//! Runs of the whole program, from the words that a system gives.
+
+use crate::runs::{End, SELF_SUPPORT, SELF_SUPPORT_LISTING, SOUND, shelf_of, sink_of, words_of};
+use mcs_base::Memory;
+use mcs_ports::IdleGate;
+use mcs_top::run_program;
+use std::alloc::Global;
+use std::{env, io};
+
+/// Whether the program ends so on these words, over a file `f`.
+fn is_run(
+    alloc: Global,
+    words: io::Result<env::Args>,
+    (number, written, noted): End<'_>,
+) -> Result<bool, Memory> {
+    let mut shelf = shelf_of(alloc, &[("f", SELF_SUPPORT.as_bytes())], 0)?;
+    let mut sink = sink_of(alloc, SOUND)?;
+    let ended = run_program(alloc, words, &mut shelf, &mut sink, &IdleGate);
+    let (is_written, is_noted) = (sink.written() == written, sink.noted() == noted.as_bytes());
+    Ok((ended == number) & is_written & is_noted)
+}
+
+/// Whether it ends so on the words of the line.
+fn is_line_run(alloc: Global, line: &str, end: End<'_>) -> Result<bool, Memory> {
+    let words = words_of(alloc, line)?;
+    is_run(alloc, Ok(words.into_iter()), end)
+}
+
+const USAGE: &str = "mcs: usage: mcs JOB FILE [REPORT] [--budget N] [--workers N] [--proof]\n";
+
+#[test]
+fn the_name_of_the_program_is_left_out(rt: HostRuntime) {
+    let listed = (0, SELF_SUPPORT_LISTING.as_bytes(), "");
+    assert!(rt; is_line_run(rt.alloc(), "mcs equilibria f", listed) == Ok(true));
+    for line in ["", "mcs", "equilibria f", "mcs mcs equilibria f"] {
+        assert!(rt; is_line_run(rt.alloc(), line, (2, b"", USAGE)) == Ok(true));
+    }
+}
+
+#[test]
+fn words_that_do_not_come_are_no_job(rt: HostRuntime) {
+    for kind in [io::ErrorKind::InvalidData, io::ErrorKind::OutOfMemory] {
+        assert!(rt; is_run(rt.alloc(), Err(io::Error::from(kind)), (2, b"", USAGE)) == Ok(true));
+    }
+}
