@@ -100,7 +100,7 @@ pub fn push_negation(
     cnf.append(own)
 }
 
-/// Adds the clauses of the formulas, one after the other.
+/// Adds the clauses of the formulas, one after the other. Where memory runs out, the list is as before.
 pub fn push_all(
     alloc: Global,
     known: &mut Cnf,
@@ -109,12 +109,14 @@ pub fn push_all(
 ) -> Result<(), Memory>
     requires over { AreOver atoms.now (map (λ f. formula_of f.now) formulas.now) }
     requires room { length atoms.now ≤ known.old.vars }
-    ensures { OnOk result (known.new ≡ with_formulas atoms.now known.old (map (λ f. formula_of f.now) formulas.now)) }
+    ensures ok { OnOk result (known.new ≡ with_formulas atoms.now known.old (map (λ f. formula_of f.now) formulas.now)) }
+    ensures err { OnErr result (known.new ≡ known.old) }
 {
+    let mut own = Cnf::new(alloc, known.vars());
     for formula in formulas {
-        push_formula(alloc, known, atoms, formula)?;
+        push_formula(alloc, &mut own, atoms, formula)?;
     }
-    Ok(())
+    known.append(own)
 }
 
 /// The clauses of formulas whose atoms are among `atoms`. Atom i has the variable i, from 1; each occurrence of

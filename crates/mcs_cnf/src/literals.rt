@@ -1,6 +1,6 @@
 //! Literals of a variable, and clauses from literals in any order.
 
-ghost use Rattle.std.specs.Prelude.{◌≡◌, ◌<◌, ◌^◌, ◌≤◌, [], ◌∷◌, pos, IfOk};
+ghost use Rattle.std.specs.Prelude.{◌≡◌, ◌+◌, ◌<◌, ◌^◌, ◌≤◌, [], ◌∷◌, ◌++◌, map, pos, IfOk, OnOk, OnErr};
 ghost use Rattle.std.specs.List.{AllByRecursion};
 ghost use Rattle.mcs_trace.specs.Clauses.{IsLiteral};
 ghost use Rattle.mcs_cnf.specs.ClauseLists.{clause_of, non, with_clause, IsThere};
@@ -37,10 +37,11 @@ fn clause_of(alloc: Global, lits: &[i64]) -> Result<Clause, Memory>
     Ok(clause)
 }
 
-/// Adds the clause of these literals, which may stand in any order.
+/// Adds the clause of these literals, which may stand in any order. Where memory runs out, the list is as before.
 pub fn push_clause(alloc: Global, cnf: &mut Cnf, lits: &[i64]) -> Result<(), Memory>
     requires { AllByRecursion (IsThere cnf.old) lits.now }
-    ensures { IfOk result (λ _. cnf.new ≡ with_clause cnf.old lits.now) }
+    ensures ok { IfOk result (λ _. cnf.new ≡ with_clause cnf.old lits.now) }
+    ensures err { OnErr result (cnf.new ≡ cnf.old) }
 {
     // That there are fewer than 2^63 variables, which the list keeps, is told by their number.
     let _ = cnf.vars();
@@ -48,36 +49,33 @@ pub fn push_clause(alloc: Global, cnf: &mut Cnf, lits: &[i64]) -> Result<(), Mem
     cnf.push(clause)
 }
 
-/// Adds the clause of one literal.
-pub(crate) fn push_one(alloc: Global, cnf: &mut Cnf, a: i64) -> Result<(), Memory>
-    requires { IsThere cnf.old a }
-    ensures { IfOk result (λ _. cnf.new ≡ with_clause cnf.old (a ∷ [])) }
-{
-    push_clause(alloc, cnf, &[a])
-}
-
-/// Adds the clause of two literals.
-pub(crate) fn push_two(alloc: Global, cnf: &mut Cnf, a: i64, b: i64) -> Result<(), Memory>
-    requires { IsThere cnf.old a × IsThere cnf.old b }
-    ensures { IfOk result (λ _. cnf.new ≡ with_clause cnf.old (a ∷ b ∷ [])) }
-{
-    push_clause(alloc, cnf, &[a, b])
-}
-
-/// Adds the clause of three literals.
-pub(crate) fn push_three(alloc: Global, cnf: &mut Cnf, a: i64, b: i64, c: i64) -> Result<(), Memory>
-    requires { IsThere cnf.old a × IsThere cnf.old b × IsThere cnf.old c }
-    ensures { IfOk result (λ _. cnf.new ≡ with_clause cnf.old (a ∷ b ∷ c ∷ [])) }
-{
-    push_clause(alloc, cnf, &[a, b, c])
-}
-
-/// Adds the clause that says that the variable is true.
+/// Adds the clause that says that the variable is true. Where memory runs out, the list is as before.
 pub fn push_unit(alloc: Global, cnf: &mut Cnf, variable: u64) -> Result<(), Memory>
     requires { (0 < variable) × (variable ≤ cnf.old.vars) }
-    ensures { IfOk result (λ _. cnf.new ≡ with_clause cnf.old (pos variable ∷ [])) }
+    ensures ok { IfOk result (λ _. cnf.new ≡ with_clause cnf.old (pos variable ∷ [])) }
+    ensures err { OnErr result (cnf.new ≡ cnf.old) }
 {
     // That the number fits, since the list has fewer than 2^63 variables.
     let _ = cnf.vars();
-    push_one(alloc, cnf, yes(variable))
+    push_clause(alloc, cnf, &[yes(variable)])
+}
+
+/// Adds the next variable, and clauses of it and of those before it, each of literals in any order. Where memory runs
+/// out, the list is as before.
+pub(crate) fn push_variable(alloc: Global, cnf: &mut Cnf, rows: &[&[i64]]) -> Result<(), Memory>
+    requires room { cnf.old.vars + 1 < 2 ^ 63 }
+    requires rows { AllByRecursion (λ r. AllByRecursion (IsThere (record cnf.old { vars = cnf.old.vars + 1 })) r.now) rows.now }
+    ensures ok { OnOk result (cnf.new ≡ record { vars = cnf.old.vars + 1; clauses = cnf.old.clauses ++ map (λ r. clause_of r.now) rows.now }) }
+    ensures err { OnErr result (cnf.new ≡ cnf.old) }
+{
+    let vars = cnf.vars();
+    let count = cnf.clauses().len();
+    cnf.add_variable();
+    for row in rows {
+        if let Err(error) = push_clause(alloc, cnf, row) {
+            cnf.cut(vars, count);
+            return Err(error);
+        }
+    }
+    Ok(())
 }

@@ -1,10 +1,10 @@
 //! The clauses of one occurrence of a subformula.
 
-ghost use Rattle.std.specs.Prelude.{◌≡◌, ◌+◌, ◌<◌, ◌≤◌, ◌^◌, IfOk};
+ghost use Rattle.std.specs.Prelude.{◌≡◌, ◌+◌, ◌<◌, ◌≤◌, ◌^◌, IfOk, OnErr};
 ghost use Rattle.mcs_system.specs.Seen.{formula_of};
 ghost use Rattle.mcs_cnf.specs.ClauseLists.{truth_clauses, falsity_clauses, not_clauses, and_clauses, or_clauses, implies_clauses, iff_clauses, own_clauses, IsAdded};
 
-use crate::literals::{no, push_one, push_three, push_two, yes};
+use crate::literals::{no, push_variable, yes};
 use mcs_base::Memory;
 use mcs_system::Formula;
 use mcs_trace::Cnf;
@@ -14,82 +14,92 @@ use std::alloc::Global;
 const MOST_VARIABLES: u64 = 0x7fff_ffff_ffff_ffff;
 
 /// The next number. Where all are taken the answer is want of memory, since no memory holds their clauses.
-fn next_number(cnf: &mut Cnf) -> Result<u64, Memory>
-    ensures number { IfOk result (λ n. n ≡ cnf.old.vars + 1) }
+fn next_number(cnf: &Cnf) -> Result<u64, Memory>
+    ensures number { IfOk result (λ n. n ≡ cnf.now.vars + 1) }
     ensures fits { IfOk result (λ n. n < 2 ^ 63) }
-    ensures added { IfOk result (λ _. cnf.new ≡ record cnf.old { vars = cnf.old.vars + 1 }) }
 {
     if cnf.vars() >= MOST_VARIABLES {
         return Err(Memory);
     }
-    Ok(cnf.add_variable())
+    Ok(cnf.vars() + 1)
 }
 
-/// Adds an occurrence of what is always true; its number.
+/// Adds an occurrence of what is always true; its number. Where memory runs out, the list is as before.
 pub fn push_truth(alloc: Global, cnf: &mut Cnf) -> Result<u64, Memory>
-    ensures { IfOk result (IsAdded truth_clauses cnf.old cnf.new) }
+    ensures ok { IfOk result (IsAdded truth_clauses cnf.old cnf.new) }
+    ensures err { OnErr result (cnf.new ≡ cnf.old) }
 {
     let n = next_number(cnf)?;
-    push_one(alloc, cnf, yes(n))?;
+    push_variable(alloc, cnf, &[&[yes(n)]])?;
     Ok(n)
 }
 
-/// Adds an occurrence of what is always false; its number.
+/// Adds an occurrence of what is always false; its number. Where memory runs out, the list is as before.
 pub fn push_falsity(alloc: Global, cnf: &mut Cnf) -> Result<u64, Memory>
-    ensures { IfOk result (IsAdded falsity_clauses cnf.old cnf.new) }
+    ensures ok { IfOk result (IsAdded falsity_clauses cnf.old cnf.new) }
+    ensures err { OnErr result (cnf.new ≡ cnf.old) }
 {
     let n = next_number(cnf)?;
-    push_one(alloc, cnf, no(n))?;
+    push_variable(alloc, cnf, &[&[no(n)]])?;
     Ok(n)
 }
 
-/// Adds an occurrence of the negation of `x`; its number.
+/// Adds an occurrence of the negation of `x`; its number. Where memory runs out, the list is as before.
 pub fn push_not(alloc: Global, cnf: &mut Cnf, x: u64) -> Result<u64, Memory>
     requires part { (0 < x) × (x ≤ cnf.old.vars) }
-    ensures { IfOk result (IsAdded (λ n. not_clauses n x) cnf.old cnf.new) }
+    ensures ok { IfOk result (IsAdded (λ n. not_clauses n x) cnf.old cnf.new) }
+    ensures err { OnErr result (cnf.new ≡ cnf.old) }
 {
     let n = next_number(cnf)?;
-    push_two(alloc, cnf, no(n), no(x))?;
-    push_two(alloc, cnf, yes(n), yes(x))?;
+    push_variable(alloc, cnf, &[&[no(n), no(x)], &[yes(n), yes(x)]])?;
     Ok(n)
 }
 
-/// Adds an occurrence of `x` and `y`; its number.
+/// Adds an occurrence of `x` and `y`; its number. Where memory runs out, the list is as before.
 pub fn push_and(alloc: Global, cnf: &mut Cnf, x: u64, y: u64) -> Result<u64, Memory>
     requires left { (0 < x) × (x ≤ cnf.old.vars) }
     requires right { (0 < y) × (y ≤ cnf.old.vars) }
-    ensures { IfOk result (IsAdded (λ n. and_clauses n x y) cnf.old cnf.new) }
+    ensures ok { IfOk result (IsAdded (λ n. and_clauses n x y) cnf.old cnf.new) }
+    ensures err { OnErr result (cnf.new ≡ cnf.old) }
 {
     let n = next_number(cnf)?;
-    push_two(alloc, cnf, no(n), yes(x))?;
-    push_two(alloc, cnf, no(n), yes(y))?;
-    push_three(alloc, cnf, yes(n), no(x), no(y))?;
+    push_variable(
+        alloc,
+        cnf,
+        &[&[no(n), yes(x)], &[no(n), yes(y)], &[yes(n), no(x), no(y)]],
+    )?;
     Ok(n)
 }
 
-/// Adds an occurrence of `x` or `y`; its number.
+/// Adds an occurrence of `x` or `y`; its number. Where memory runs out, the list is as before.
 pub fn push_or(alloc: Global, cnf: &mut Cnf, x: u64, y: u64) -> Result<u64, Memory>
     requires left { (0 < x) × (x ≤ cnf.old.vars) }
     requires right { (0 < y) × (y ≤ cnf.old.vars) }
-    ensures { IfOk result (IsAdded (λ n. or_clauses n x y) cnf.old cnf.new) }
+    ensures ok { IfOk result (IsAdded (λ n. or_clauses n x y) cnf.old cnf.new) }
+    ensures err { OnErr result (cnf.new ≡ cnf.old) }
 {
     let n = next_number(cnf)?;
-    push_two(alloc, cnf, yes(n), no(x))?;
-    push_two(alloc, cnf, yes(n), no(y))?;
-    push_three(alloc, cnf, no(n), yes(x), yes(y))?;
+    push_variable(
+        alloc,
+        cnf,
+        &[&[yes(n), no(x)], &[yes(n), no(y)], &[no(n), yes(x), yes(y)]],
+    )?;
     Ok(n)
 }
 
-/// Adds an occurrence of `x` implies `y`; its number.
+/// Adds an occurrence of `x` implies `y`; its number. Where memory runs out, the list is as before.
 pub fn push_implies(alloc: Global, cnf: &mut Cnf, x: u64, y: u64) -> Result<u64, Memory>
     requires left { (0 < x) × (x ≤ cnf.old.vars) }
     requires right { (0 < y) × (y ≤ cnf.old.vars) }
-    ensures { IfOk result (IsAdded (λ n. implies_clauses n x y) cnf.old cnf.new) }
+    ensures ok { IfOk result (IsAdded (λ n. implies_clauses n x y) cnf.old cnf.new) }
+    ensures err { OnErr result (cnf.new ≡ cnf.old) }
 {
     let n = next_number(cnf)?;
-    push_two(alloc, cnf, yes(n), yes(x))?;
-    push_two(alloc, cnf, yes(n), no(y))?;
-    push_three(alloc, cnf, no(n), no(x), yes(y))?;
+    push_variable(
+        alloc,
+        cnf,
+        &[&[yes(n), yes(x)], &[yes(n), no(y)], &[no(n), no(x), yes(y)]],
+    )?;
     Ok(n)
 }
 
@@ -97,13 +107,20 @@ pub fn push_implies(alloc: Global, cnf: &mut Cnf, x: u64, y: u64) -> Result<u64,
 fn push_iff(alloc: Global, cnf: &mut Cnf, x: u64, y: u64) -> Result<u64, Memory>
     requires left { (0 < x) × (x ≤ cnf.old.vars) }
     requires right { (0 < y) × (y ≤ cnf.old.vars) }
-    ensures { IfOk result (IsAdded (λ n. iff_clauses n x y) cnf.old cnf.new) }
+    ensures ok { IfOk result (IsAdded (λ n. iff_clauses n x y) cnf.old cnf.new) }
+    ensures err { OnErr result (cnf.new ≡ cnf.old) }
 {
     let n = next_number(cnf)?;
-    push_three(alloc, cnf, no(n), no(x), yes(y))?;
-    push_three(alloc, cnf, no(n), yes(x), no(y))?;
-    push_three(alloc, cnf, yes(n), yes(x), yes(y))?;
-    push_three(alloc, cnf, yes(n), no(x), no(y))?;
+    push_variable(
+        alloc,
+        cnf,
+        &[
+            &[no(n), no(x), yes(y)],
+            &[no(n), yes(x), no(y)],
+            &[yes(n), yes(x), yes(y)],
+            &[yes(n), no(x), no(y)],
+        ],
+    )?;
     Ok(n)
 }
 
@@ -117,13 +134,18 @@ pub(crate) fn push_sign(
 ) -> Result<u64, Memory>
     requires left { (0 < x) × (x ≤ cnf.old.vars) }
     requires right { (0 < y) × (y ≤ cnf.old.vars) }
-    ensures { IfOk result (IsAdded (λ n. own_clauses (formula_of formula.now) n x y) cnf.old cnf.new) }
+    ensures ok { IfOk result (IsAdded (λ n. own_clauses (formula_of formula.now) n x y) cnf.old cnf.new) }
+    ensures err { OnErr result (cnf.new ≡ cnf.old) }
 {
     match formula {
         Formula::And(_, _) => push_and(alloc, cnf, x, y),
         Formula::Or(_, _) => push_or(alloc, cnf, x, y),
         Formula::Implies(_, _) => push_implies(alloc, cnf, x, y),
         Formula::Iff(_, _) => push_iff(alloc, cnf, x, y),
-        _ => next_number(cnf),
+        _ => {
+            let n = next_number(cnf)?;
+            push_variable(alloc, cnf, &[])?;
+            Ok(n)
+        }
     }
 }

@@ -1,6 +1,6 @@
 //! Questions about one default.
 
-ghost use Rattle.std.specs.Prelude.{◌≡◌, ◌≤◌, ◌+◌, List, false, length, map, IfOk};
+ghost use Rattle.std.specs.Prelude.{◌≡◌, ◌≤◌, ◌+◌, ◌^◌, List, false, length, map, IfOk, OnErr};
 ghost use Rattle.mcs_system.specs.Faults.{has_twins};
 ghost use Rattle.mcs_system.specs.Plain as plain;
 ghost use Rattle.mcs_system.specs.Seen.{formula_of, default_of};
@@ -44,10 +44,11 @@ pub(crate) fn says_yes(entail: &Entail) -> bool
     }
 }
 
-/// The number, from 1, of what stands at the index. Certificates have no numbers from 2^32 on: there the answer is want
-/// of memory.
+/// The number, from 1, of what stands at the index. Certificates have no numbers from 2^32 on: there, and only there,
+/// the answer is want of memory.
 fn numbered(index: usize) -> Result<u32, Memory>
-    ensures { IfOk result (λ n. n ≡ index + 1) }
+    ensures number { IfOk result (λ n. n ≡ index + 1) }
+    ensures none { OnErr result (2 ^ 32 ≤ index + 1) }
 {
     if index >= 0xffff_ffff {
         return Err(Memory);

@@ -1,6 +1,6 @@
 //! The clauses that belong to a program: of what is smaller than a model, of what is beside it, and of other states.
 
-ghost use Rattle.std.specs.Prelude.{◌≡◌, ◌≤◌, ◌++◌, List, [], ◌∷◌, None, Some, cond, length, map, filter, IfOk};
+ghost use Rattle.std.specs.Prelude.{◌≡◌, ◌≤◌, ◌++◌, List, [], ◌∷◌, None, Some, cond, length, map, filter, IfOk, OnErr};
 ghost use Rattle.mcs_system.specs.Logic.{reduct};
 ghost use Rattle.mcs_system.specs.Plain as plain;
 ghost use Rattle.mcs_system.specs.Seen.{rule_of};
@@ -119,8 +119,9 @@ fn join_broken(
     Ok(all)
 }
 
-/// Adds the clauses that are false where the atoms at these places are less than a model and satisfy the reduct by it.
-pub fn push_beside(
+/// Adds the clauses that are false where the atoms at these places are less than a model and satisfy the reduct by it,
+/// to an own list.
+fn push_one_beside(
     alloc: Global,
     cnf: &mut Cnf,
     atoms: &[Name],
@@ -140,6 +141,27 @@ pub fn push_beside(
     let all = join(alloc, cnf, all, x)?;
     let all = join_broken(alloc, cnf, atoms, rules, &within, Some(all))?;
     push_not_all(alloc, cnf, all)
+}
+
+/// Adds the clauses that are false where the atoms at these places are less than a model and satisfy the reduct by it.
+/// Where memory runs out, the list is as before.
+pub fn push_beside(
+    alloc: Global,
+    cnf: &mut Cnf,
+    atoms: &[Name],
+    rules: &[ProgRule],
+    less: Vars,
+) -> Result<(), Memory>
+    requires few { length atoms.now ≤ 64 }
+    requires rules { AreOverRules atoms.now (map rule_of rules.now) }
+    requires room { length atoms.now ≤ cnf.old.vars }
+    ensures grows { IfOk result (λ _. cnf.old.vars ≤ cnf.new.vars) }
+    ensures pushed { IfOk result (λ _. cnf.new ≡ with_formulas atoms.now cnf.old (beside_formula atoms.now (map rule_of rules.now) less ∷ [])) }
+    ensures err { OnErr result (cnf.new ≡ cnf.old) }
+{
+    let mut own = Cnf::new(alloc, cnf.vars());
+    push_one_beside(alloc, &mut own, atoms, rules, less)?;
+    cnf.append(own)
 }
 
 /// Adds the belief to a conjunction, or its negation.
@@ -203,7 +225,7 @@ fn push_besides(
     ensures pushed { IfOk result (λ _. cnf.new ≡ with_formulas atoms.now cnf.old (map (beside_formula atoms.now (map rule_of rules.now)) smaller.now)) }
 {
     for less in smaller {
-        push_beside(alloc, cnf, atoms, rules, *less)?;
+        push_one_beside(alloc, cnf, atoms, rules, *less)?;
     }
     Ok(())
 }

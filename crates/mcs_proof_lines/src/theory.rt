@@ -1,6 +1,6 @@
 //! What the lines of a default theory's certificate may name.
 
-ghost use Rattle.std.specs.Prelude.{◌≡◌, ◌≤◌, length, IfSome, slice_index};
+ghost use Rattle.std.specs.Prelude.{◌≡◌, ◌≤◌, ◌^◌, length, MatchOption, slice_index};
 ghost use Rattle.mcs_proof_lines.specs.Verdicts.{terms_of, all_places, just_total};
 
 use mcs_base::{Members, Text, Vars};
@@ -37,9 +37,9 @@ impl Theory<'_> {
         }
     }
 
-    /// How many justifications the defaults at the places have, if that is a number of 64 bits.
+    /// How many justifications the defaults at the places have; `None` exactly where that is no number of 64 bits.
     pub fn count_justs(&self, places: Members) -> Option<usize>
-        ensures { IfSome result (λ n. n ≡ just_total self.now.justs.now places) }
+        ensures { MatchOption result (2 ^ 64 ≤ just_total self.now.justs.now places) (λ n. n ≡ just_total self.now.justs.now places) }
     {
         let mut count: usize = 0;
         for place in places {

@@ -143,8 +143,12 @@ fn push_verdict(text: &mut Text, names: &[Name], verdict: &SetCert) -> Result<()
     }
 }
 
-/// Appends the lines of the verdicts on all sets of defaults, each after the line that names its set.
-pub fn push_verdicts(text: &mut Text, names: &[Name], verdicts: &[SetCert]) -> Result<(), Memory>
+/// Appends the lines of the verdicts on all sets of defaults, each after the line that names its set, to an own text.
+pub(crate) fn push_verdicts(
+    text: &mut Text,
+    names: &[Name],
+    verdicts: &[SetCert],
+) -> Result<(), Memory>
     ensures { OnOk result (text.new ≡ text.old ++ written names.now (set_lines 0 (map verdict_of verdicts.now))) }
 {
     for (set, verdict) in verdicts.iter().enumerate() {

@@ -61,8 +61,12 @@ fn push_smaller(text: &mut Text, names: &[Name], smaller: &[u64]) -> Result<(), 
     Ok(())
 }
 
-/// Appends the lines of a certificate of a program.
-pub fn push_program(text: &mut Text, names: &[Name], cert: &ProgramCert) -> Result<(), Memory>
+/// Appends the lines of a certificate of a program to an own text.
+pub(crate) fn push_program(
+    text: &mut Text,
+    names: &[Name],
+    cert: &ProgramCert,
+) -> Result<(), Memory>
     ensures { OnOk result (text.new ≡ text.old ++ written names.now (program_lines (program_shown_of cert.now))) }
 {
     push_models(text, names, &cert.models)?;

@@ -20,8 +20,8 @@ fn push_step_line(text: &mut Text, names: &[Name], step: &Step) -> Result<(), Me
     text.push(b"\n")
 }
 
-/// Appends the lines of a trace.
-pub fn push_trace(text: &mut Text, names: &[Name], trace: &Trace) -> Result<(), Memory>
+/// Appends the lines of a trace to an own text.
+pub(crate) fn push_trace(text: &mut Text, names: &[Name], trace: &Trace) -> Result<(), Memory>
     ensures { OnOk result (text.new ≡ text.old ++ written names.now (trace_lines (inferences_of trace.now))) }
 {
     for step in &trace.steps {
@@ -48,8 +48,12 @@ fn push_yes(text: &mut Text, names: &[Name]) -> Result<(), Memory>
     text.push(b"yes\n")
 }
 
-/// Appends the lines of an entailment.
-pub fn push_entailment(text: &mut Text, names: &[Name], entail: &Entail) -> Result<(), Memory>
+/// Appends the lines of an entailment to an own text.
+pub(crate) fn push_entailment(
+    text: &mut Text,
+    names: &[Name],
+    entail: &Entail,
+) -> Result<(), Memory>
     ensures { OnOk result (text.new ≡ text.old ++ written names.now (entailment_lines (entailment_of entail.now))) }
 {
     match entail {
@@ -61,8 +65,12 @@ pub fn push_entailment(text: &mut Text, names: &[Name], entail: &Entail) -> Resu
     }
 }
 
-/// Appends the lines of entailments, one after the other.
-pub fn push_entailments(text: &mut Text, names: &[Name], entails: &[Entail]) -> Result<(), Memory>
+/// Appends the lines of entailments, one after the other, to an own text.
+pub(crate) fn push_entailments(
+    text: &mut Text,
+    names: &[Name],
+    entails: &[Entail],
+) -> Result<(), Memory>
     ensures { OnOk result (text.new ≡ text.old ++ written names.now (all_entailment_lines (map entailment_of entails.now))) }
 {
     for entail in entails {

@@ -26,3 +26,4 @@ pub mod FollowLemmas
 pub mod NumberingLemmas
 pub mod PartLemmas
 pub mod MarkLemmas
+pub mod ReasonLemmas

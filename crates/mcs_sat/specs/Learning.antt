@@ -1,11 +1,12 @@
 -- What is learnt of a clause that is false: the latest of its literals, and the others (Marques-Silva and Sakallah 1996).
-use Rattle.std.specs.Prelude.{◌≡◌, ℕ, ◌+◌, ◌-◌, ◌<◌, ◌≤◌, ◌⊎◌, List, ℤ, neg_ℤ, length}
+use Rattle.std.specs.Prelude.{◌≡◌, ℕ, ◌+◌, ◌-◌, ◌<◌, ◌≤◌, ◌⊎◌, List, ◌++◌, ℤ, neg_ℤ, length, Some}
+use Rattle.std.specs.List.{AllByRecursion}
 use Rattle.mcs_base.specs.Listings.{IsAmong}
-use Rattle.mcs_trace.specs.Traces.{IsChainResolvent}
+use Rattle.mcs_trace.specs.Traces.{IsChainResolvent, numbered}
 use Rattle.mcs_trace.specs.declared.trace.Step.{Step}
 use Rattle.mcs_sat.specs.declared.latest.Latest.{Latest}
 use Rattle.mcs_sat.specs.declared.trail.Entry.{Entry}
-use Rattle.mcs_sat.specs.Trails.{IsFalse, IsFalseBelow, IsOnBelow, literal_at, reason_at}
+use Rattle.mcs_sat.specs.Trails.{IsFalse, IsFalseBelow, IsOnBelow, IsReason, literal_at, reason_at}
 
 -- the latest place is the new one, or as before
 abbrev pub IsJoined : Latest → ℕ → Latest → Type 0
@@ -29,6 +30,16 @@ IsSingle entries start c = (l : Latest) × IsLatest entries c l × (l.others ≤
 -- not all were false before the place; or that is no place
 abbrev pub IsLate : List Entry → ℕ → List ℤ → Type 0
 IsLate entries start c = (IsFalseBelow entries start c → ⊥) ⊎ (length entries ≤ start)
+
+-- the clause of the number is the reason of a literal made true
+abbrev pub IsReasonNumbered : List (List ℤ) → List Entry → ℕ → Type 0
+IsReasonNumbered known entries n = (p : ℕ) × (p < length entries) × ((c : List ℤ) × (numbered known n ≡ Some c) × IsReason entries p c)
+
+-- the chain goes on with the numbers of reasons
+pub record GoesOnByReasons (known : List (List ℤ)) (entries : List Entry) (old new : List ℕ) : Type 0 where
+  pub more : List ℕ
+  pub is : new ≡ old ++ more
+  pub reasons : AllByRecursion (IsReasonNumbered known entries) more
 
 -- only literals up to the place were decided; where it is no place, none
 abbrev pub AreImplied : List Entry → ℕ → Type 0

@@ -83,6 +83,17 @@ pub record GoesOn (old new : List (List ℤ)) (more : List ℤ) : Type 0 where
 abbrev pub IsFalseNumber : SolverView → ℕ → Type 0
 IsFalseNumber s n = (c : List ℤ) × (numbered s.clauses n ≡ Some c) × IsFalseUnder (trues s) c
 
+-- the clause of the number has a literal made true, and its other literals were false before it
+pub record IsReasonNumber (s : SolverView) (n : ℕ) : Type 0 where
+  pub clause : List ℤ
+  pub numbers : numbered s.clauses n ≡ Some clause
+  pub literal : ℤ
+  pub before : List ℤ
+  pub after : List ℤ
+  pub made : trues s ≡ before ++ literal ∷ after
+  pub has : IsAmong literal clause
+  pub others : (k : ℤ) → IsAmong k clause → (k ≡ literal) ⊎ IsAmong (neg_ℤ k) before
+
 -- the literals made true below the level
 abbrev pub trues_below : List (List ℤ) → ℕ → List ℤ
 trues_below levels k = flat_map (λ l. l) (take k levels)

@@ -1,8 +1,8 @@
 //! What is learnt of a clause that is false.
 
-ghost use Rattle.std.specs.Prelude.{◌≡◌, [], ◌+◌, ◌≤◌, ◌⊎◌, ℤ, List, length, slice_get, Some, IfOk, OnOk};
+ghost use Rattle.std.specs.Prelude.{◌≡◌, [], ◌∷◌, ◌+◌, ◌≤◌, ◌⊎◌, ℤ, List, length, slice_get, Some, IfOk, OnOk};
 ghost use Rattle.mcs_sat.specs.Trails.{IsFalseAt, IsTrail};
-ghost use Rattle.mcs_sat.specs.Learning.{AreImplied, IsLate, IsLearnt, IsSingle};
+ghost use Rattle.mcs_sat.specs.Learning.{AreImplied, GoesOnByReasons, IsLate, IsLearnt, IsSingle};
 ghost use Rattle.mcs_sat.specs.Marking.{IsMarkedChain, IsMarkedWithin, IsSingleMark};
 
 use crate::marks::{clause_of, is_any_marked, mark_all, resolve_at};
@@ -27,6 +27,7 @@ fn resolve_back(
     requires implied { AreImplied trail.now.entries.items start }
     ensures marked { OnOk result (IsMarkedChain clauses.now trail.now.entries.items chain.new.items marks.new.items) }
     ensures single { OnOk result (start + 1 ≤ length trail.now.entries.items → IsSingleMark start marks.new.items) }
+    ensures reasons { OnOk result (GoesOnByReasons clauses.now trail.now.entries.items chain.old.items chain.new.items) }
 {
     let mut bound = trail.entries.len();
     while bound > start {
@@ -42,8 +43,8 @@ fn resolve_back(
     Ok(())
 }
 
-/// The step that the clause of the index, which is false, gives: one literal alone of its clause became false from
-/// the place on; where there is no such place, its clause is empty.
+/// The step that the clause of the index, which is false, gives by the reasons of its literals: one literal alone of
+/// its clause became false from the place on; where there is no such place, its clause is empty.
 pub(crate) fn analyse(
     alloc: Global,
     clauses: &Rows<i64>,
@@ -58,6 +59,7 @@ pub(crate) fn analyse(
     ensures learnt { IfOk result (IsLearnt clauses.now trail.now.entries.items) }
     ensures single { IfOk result (λ step. start + 1 ≤ length trail.now.entries.items → IsSingle trail.now.entries.items start step.clause) }
     ensures empty { IfOk result (λ step. length trail.now.entries.items ≤ start → step.clause ≡ []) }
+    ensures chain { IfOk result (λ step. GoesOnByReasons clauses.now trail.now.entries.items ((index + 1) ∷ []) step.chain.items) }
 {
     let mut marks = vec![in alloc; false; trail.entries.len()]?;
     mark_all(trail, clauses.row(index), &mut marks);

@@ -5,6 +5,7 @@ ghost use Rattle.std.specs.Bool.{MatchBool};
 ghost use Rattle.mcs_base.specs.Listings.{IsListing};
 ghost use Rattle.mcs_trace.specs.Clauses.{IsClause, LiteralBefore};
 ghost use Rattle.mcs_sat.specs.Trails.{AreCovered, ArePlaced, IsTrail, literal_at, reason_at};
+ghost use Rattle.mcs_sat.specs.Learning.{GoesOnByReasons};
 ghost use Rattle.mcs_sat.specs.Marking.{AreFree, IsMarked, IsMarkedChain, IsMarkedWithin, IsMetAt, IsOfMarks, IsTakenOff};
 
 use crate::trail::Trail;
@@ -90,6 +91,7 @@ pub(crate) fn resolve_at(
     requires implied { reason_at trail.now.entries.items place ≢ 0 }
     ensures marked { OnOk result (IsMarkedChain clauses.now trail.now.entries.items chain.new.items marks.new.items) }
     ensures off { OnOk result (IsTakenOff marks.old.items marks.new.items place) }
+    ensures reasons { OnOk result (GoesOnByReasons clauses.now trail.now.entries.items chain.old.items chain.new.items) }
 {
     let cause = trail.entries[place].reason;
     chain.push(cause)?;

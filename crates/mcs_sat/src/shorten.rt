@@ -2,7 +2,7 @@
 
 ghost use Rattle.std.specs.Prelude.{◌≡◌, ◌≢◌, ◌+◌, ◌<◌, ◌≤◌, length, IsTrue, OnOk};
 ghost use Rattle.mcs_sat.specs.Trails.{IsTrail, reason_at};
-ghost use Rattle.mcs_sat.specs.Learning.{AreImplied};
+ghost use Rattle.mcs_sat.specs.Learning.{AreImplied, GoesOnByReasons};
 ghost use Rattle.mcs_sat.specs.Marking.{AreFree, IsMarked, IsMarkedChain, IsSingleMark};
 
 use crate::marks::{are_marked, resolve_at};
@@ -60,6 +60,7 @@ pub(crate) fn shorten(
     ensures marked { OnOk result (IsMarkedChain clauses.now trail.now.entries.items chain.new.items marks.new.items) }
     ensures single { OnOk result (start + 1 ≤ length trail.now.entries.items → IsSingleMark start marks.new.items) }
     ensures past { OnOk result (length trail.now.entries.items ≤ start → AreFree marks.new.items 0 (length trail.now.entries.items)) }
+    ensures reasons { OnOk result (GoesOnByReasons clauses.now trail.now.entries.items chain.old.items chain.new.items) }
 {
     let mut bound = start.min(trail.entries.len());
     while bound > 0 {

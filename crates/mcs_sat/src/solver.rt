@@ -1,6 +1,6 @@
 //! A clause solver in parts.
 
-ghost use Rattle.std.specs.Prelude.{◌≡◌, [], ◌∷◌, ◌++◌, ◌<◌, ◌≤◌, ◌+◌, List, ℕ, ℤ, slice_get, neg_ℤ, length, unsigned_abs, IsTrue, ◌↔◌, Some, IfOk, IfSome, OnOk, OnErr, MatchOption};
+ghost use Rattle.std.specs.Prelude.{◌≡◌, [], ◌∷◌, ◌++◌, ◌<◌, ◌≤◌, ◌+◌, List, ℕ, ℤ, drop, slice_get, neg_ℤ, length, unsigned_abs, IsTrue, ◌↔◌, Some, IfOk, IfSome, OnOk, OnErr, MatchOption};
 ghost use Rattle.std.specs.Bool.{MatchBool};
 ghost use Rattle.std.specs.List.{AllByRecursion};
 ghost use Rattle.std.specs.Option.{IfNone, is_some};
@@ -9,7 +9,7 @@ ghost use Rattle.mcs_trace.specs.Clauses.{IsClause, IsLiteral};
 ghost use Rattle.mcs_sat.specs.Trails.{AreCovered, Grows, IsFalseAt, IsOpen};
 ghost use Rattle.mcs_sat.specs.States.{IsFull, IsState, SameClauses, no_chains, reach_of};
 ghost use Rattle.mcs_sat.specs.Watching.{IsReached};
-ghost use Rattle.mcs_sat.specs.Solvers.{GoesOn, HasNoValue, IsAsserting, IsFalseNumber, IsLearned, IsOpenUnder, IsSolver, IsUnitRun, LeadsToConflict, last_level, trues, trues_below};
+ghost use Rattle.mcs_sat.specs.Solvers.{GoesOn, HasNoValue, IsAsserting, IsFalseNumber, IsLearned, IsOpenUnder, IsReasonNumber, IsSolver, IsUnitRun, LeadsToConflict, last_level, trues, trues_below};
 
 use crate::adding::{add, attach};
 use crate::analyse::analyse;
@@ -223,14 +223,17 @@ impl Solver {
 
     /// A step from the clause of the number and the reasons of its literals, in the order in which it is resolved
     /// with them (Marques-Silva and Sakallah 1996): it is right, its clause is false, and exactly one literal of it
-    /// has its value from the last level. The clause of the number is false, there is a level above 0, and under the
-    /// literals of the levels before the last each clause has a true literal, or at least two without value. The
-    /// clauses and the literals made true stay as they are.
+    /// has its value from the last level. Its chain begins with the number, and each other one is that of a clause
+    /// with a literal made true, whose other literals were false before it. The clause of the number is false, there
+    /// is a level above 0, and under the literals of the levels before the last each clause has a true literal, or
+    /// at least two without value. The clauses and the literals made true stay as they are.
     pub fn analyse(&mut self, conflict: u64) -> Result<Step, Memory>
         requires conflict { IsFalseNumber self.old conflict }
         requires level { 1 < length self.old.levels }
         requires before { AllByRecursion (IsOpenUnder (trues_below self.old.levels (last_level self.old))) self.old.clauses }
         ensures step { IfOk result (IsAsserting self.old) }
+        ensures begins { IfOk result (λ step. (ns : List ℕ) × (step.chain.items ≡ conflict ∷ ns)) }
+        ensures reasons { IfOk result (λ step. AllByRecursion (IsReasonNumber self.old) (drop 1 step.chain.items)) }
         ensures same { self.new ≡ self.old }
     {
         let start = match self.state.levels.last() {

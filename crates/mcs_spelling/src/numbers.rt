@@ -1,14 +1,14 @@
 //! Numbers and literals, each after a space, and steps of resolution.
 
-ghost use Rattle.std.specs.Prelude.{◌≡◌, ◌++◌, map, OnOk, decimal};
+ghost use Rattle.std.specs.Prelude.{◌≡◌, ◌++◌, map, OnOk, OnErr, decimal};
 ghost use Rattle.mcs_trace.specs.Traces.{inference_of};
 ghost use Rattle.mcs_spelling.specs.Parts.{sign_of, literal_text, spaced, step_text};
 
 use mcs_base::{Memory, Text};
 use mcs_trace::Step;
 
-/// Appends the clause numbers.
-pub fn push_chain(text: &mut Text, numbers: &[u64]) -> Result<(), Memory>
+/// Appends the numbers to an own text.
+fn push_numbers(text: &mut Text, numbers: &[u64]) -> Result<(), Memory>
     ensures { OnOk result (text.new ≡ text.old ++ spaced (map decimal numbers.now)) }
 {
     for number in numbers {
@@ -18,15 +18,27 @@ pub fn push_chain(text: &mut Text, numbers: &[u64]) -> Result<(), Memory>
     Ok(())
 }
 
-/// Appends the numbers of defaults.
-pub fn push_order(text: &mut Text, numbers: &[u32]) -> Result<(), Memory>
-    ensures { OnOk result (text.new ≡ text.old ++ spaced (map decimal numbers.now)) }
+/// Appends the clause numbers. Without memory the text stays as it was.
+pub fn push_chain(text: &mut Text, numbers: &[u64]) -> Result<(), Memory>
+    ensures ok { OnOk result (text.new ≡ text.old ++ spaced (map decimal numbers.now)) }
+    ensures err { OnErr result (text.new ≡ text.old) }
 {
+    let mut own = text.empty_like();
+    push_numbers(&mut own, numbers)?;
+    text.push(own.bytes())
+}
+
+/// Appends the numbers of defaults. Without memory the text stays as it was.
+pub fn push_order(text: &mut Text, numbers: &[u32]) -> Result<(), Memory>
+    ensures ok { OnOk result (text.new ≡ text.old ++ spaced (map decimal numbers.now)) }
+    ensures err { OnErr result (text.new ≡ text.old) }
+{
+    let mut own = text.empty_like();
     for number in numbers {
-        text.push(b" ")?;
-        text.push_number(u64::from(*number))?;
+        own.push(b" ")?;
+        own.push_number(u64::from(*number))?;
     }
-    Ok(())
+    text.push(own.bytes())
 }
 
 /// What stands before the size of a literal.
@@ -36,7 +48,7 @@ fn sign(literal: i64) -> &'static [u8]
     if literal < 0 { b"-" } else { b"" }
 }
 
-/// Appends a literal.
+/// Appends a literal to an own text.
 fn push_literal(text: &mut Text, literal: i64) -> Result<(), Memory>
     ensures { OnOk result (text.new ≡ text.old ++ literal_text literal) }
 {
@@ -44,7 +56,7 @@ fn push_literal(text: &mut Text, literal: i64) -> Result<(), Memory>
     text.push_number(literal.unsigned_abs())
 }
 
-/// Appends the literals.
+/// Appends the literals to an own text.
 fn push_literals(text: &mut Text, literals: &[i64]) -> Result<(), Memory>
     ensures { OnOk result (text.new ≡ text.old ++ spaced (map literal_text literals.now)) }
 {
@@ -55,13 +67,16 @@ fn push_literals(text: &mut Text, literals: &[i64]) -> Result<(), Memory>
     Ok(())
 }
 
-/// Appends a step of resolution: its literals and its chain.
+/// Appends a step of resolution: its literals and its chain. Without memory the text stays as it was.
 #[tactic(auto, unfolding(crate::specs::Parts::step_text))]
 pub fn push_step(text: &mut Text, step: &Step) -> Result<(), Memory>
-    ensures { OnOk result (text.new ≡ text.old ++ step_text (inference_of step.now)) }
+    ensures ok { OnOk result (text.new ≡ text.old ++ step_text (inference_of step.now)) }
+    ensures err { OnErr result (text.new ≡ text.old) }
 {
-    text.push(b"step")?;
-    push_literals(text, step.clause.literals())?;
-    text.push(b" by")?;
-    push_chain(text, &step.chain)
+    let mut own = text.empty_like();
+    own.push(b"step")?;
+    push_literals(&mut own, step.clause.literals())?;
+    own.push(b" by")?;
+    push_numbers(&mut own, &step.chain)?;
+    text.push(own.bytes())
 }

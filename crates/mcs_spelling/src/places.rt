@@ -1,6 +1,6 @@
 //! Sets of atoms and of defaults, as lines name them.
 
-ghost use Rattle.std.specs.Prelude.{◌≡◌, ◌++◌, map, OnOk};
+ghost use Rattle.std.specs.Prelude.{◌≡◌, ◌++◌, map, OnOk, OnErr};
 ghost use Rattle.mcs_text.specs.Separated.{braced};
 ghost use Rattle.mcs_spelling.specs.Parts.{atom_text, atoms_text, default_text, defaults_text};
 
@@ -18,7 +18,7 @@ fn push_atom(text: &mut Text, names: &[Name], place: u32) -> Result<(), Memory>
     }
 }
 
-/// Appends the names of the atoms at the places, between braces.
+/// Appends the names of the atoms at the places, between braces, to an own text.
 fn push_atoms_at(text: &mut Text, names: &[Name], places: Members) -> Result<(), Memory>
     ensures { OnOk result (text.new ≡ text.old ++ braced (map (atom_text names.now) places)) }
 {
@@ -32,14 +32,17 @@ fn push_atoms_at(text: &mut Text, names: &[Name], places: Members) -> Result<(),
     text.push(b"}")
 }
 
-/// Appends a set of atoms, of which bit i stands for the name of number i.
+/// Appends a set of atoms, of which bit i stands for the name of number i. Without memory the text stays as it was.
 pub fn push_atoms(text: &mut Text, names: &[Name], atoms: u64) -> Result<(), Memory>
-    ensures { OnOk result (text.new ≡ text.old ++ atoms_text names.now atoms) }
+    ensures ok { OnOk result (text.new ≡ text.old ++ atoms_text names.now atoms) }
+    ensures err { OnErr result (text.new ≡ text.old) }
 {
-    push_atoms_at(text, names, Vars::numbered(atoms).members())
+    let mut own = text.empty_like();
+    push_atoms_at(&mut own, names, Vars::numbered(atoms).members())?;
+    text.push(own.bytes())
 }
 
-/// Appends the numbers of the defaults at the places, between braces.
+/// Appends the numbers of the defaults at the places, between braces, to an own text.
 fn push_defaults_at(text: &mut Text, places: Members) -> Result<(), Memory>
     ensures { OnOk result (text.new ≡ text.old ++ braced (map default_text places)) }
 {
@@ -53,9 +56,12 @@ fn push_defaults_at(text: &mut Text, places: Members) -> Result<(), Memory>
     text.push(b"}")
 }
 
-/// Appends a set of defaults, of which bit i stands for default i+1.
+/// Appends a set of defaults, of which bit i stands for default i+1. Without memory the text stays as it was.
 pub fn push_defaults(text: &mut Text, set: u64) -> Result<(), Memory>
-    ensures { OnOk result (text.new ≡ text.old ++ defaults_text set) }
+    ensures ok { OnOk result (text.new ≡ text.old ++ defaults_text set) }
+    ensures err { OnErr result (text.new ≡ text.old) }
 {
-    push_defaults_at(text, Vars::numbered(set).members())
+    let mut own = text.empty_like();
+    push_defaults_at(&mut own, Vars::numbered(set).members())?;
+    text.push(own.bytes())
 }

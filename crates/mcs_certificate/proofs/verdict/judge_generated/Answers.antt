@@ -20,7 +20,7 @@ judge_from-requires-clause-made c =
     let added : map (λ f. formula_of f.now) c.deref-2.result.now ≡ map (λ f. formula_of f.now) c.deref-3.result.now = ap (map (λ f. formula_of f.now)) (c.deref-2.ensures.value ∙ sym c.deref-3.ensures.value) in
     let premises : map (λ f. formula_of f.now) c.deref-4.result.now ≡ map (λ f. formula_of f.now) c.args.facts.now ++ map (λ f. formula_of f.now) c.deref-3.result.now =
     ap (map (λ f. formula_of f.now)) c.deref-4.ensures.value ∙ c.in_ok-premises.ensures ∙ ap (λ (fs : List Formula). map (λ f. formula_of f.now) c.args.facts.now ++ fs) added in
-    grown_clauses c.args.atoms.now c.args.known.now c.push_all.new.known ((map (λ f. formula_of f.now) c.deref-3.result.now), c.in_ok-push_all.ensures) (map (λ f. formula_of f.now) c.args.facts.now) c.requires.made
+    grown_clauses c.args.atoms.now c.args.known.now c.push_all.new.known ((map (λ f. formula_of f.now) c.deref-3.result.now), c.in_ok-push_all.ensures.ok) (map (λ f. formula_of f.now) c.args.facts.now) c.requires.made
     ∙ ap (clause_list c.args.atoms.now) (sym premises)
 
 pub judge_from-requires-clause-inside : goal.judge_from-requires-clause-inside
@@ -28,16 +28,16 @@ judge_from-requires-clause-inside c = ap (map (λ d. default_of d.now)) c.deref-
 
 pub cut-requires-clause-fewer : goal.cut-requires-clause-fewer
 cut-requires-clause-fewer c =
-    cut_fewer c.args.atoms.now c.args.known.now c.push_all.new.known ((map (λ f. formula_of f.now) c.deref-3.result.now), c.in_ok-push_all.ensures) c.judge_from.new.known c.vars-vars.result c.vars-vars.ensures.value c.in_ok-judged.ensures.kept
+    cut_fewer c.args.atoms.now c.args.known.now c.push_all.new.known ((map (λ f. formula_of f.now) c.deref-3.result.now), c.in_ok-push_all.ensures.ok) c.judge_from.new.known c.vars-vars.result c.vars-vars.ensures.value c.in_ok-judged.ensures.kept
 
 pub cut-requires-clause-within : goal.cut-requires-clause-within
 cut-requires-clause-within c =
-    cut_within c.args.atoms.now c.args.known.now c.push_all.new.known ((map (λ f. formula_of f.now) c.deref-3.result.now), c.in_ok-push_all.ensures) c.judge_from.new.known c.vars-vars.result c.clauses-count.result.now
+    cut_within c.args.atoms.now c.args.known.now c.push_all.new.known ((map (λ f. formula_of f.now) c.deref-3.result.now), c.in_ok-push_all.ensures.ok) c.judge_from.new.known c.vars-vars.result c.clauses-count.result.now
     c.vars-vars.ensures.value c.clauses-count.ensures.value c.vars-vars.ensures.kept c.in_ok-judged.ensures.kept
 
 pub returns-clause-kept : goal.returns-clause-kept
 returns-clause-kept c =
-    cut_back c.args.atoms.now c.args.known.now c.push_all.new.known ((map (λ f. formula_of f.now) c.deref-3.result.now), c.in_ok-push_all.ensures) c.judge_from.new.known c.cut.new.self c.vars-vars.result c.clauses-count.result.now
+    cut_back c.args.atoms.now c.args.known.now c.push_all.new.known ((map (λ f. formula_of f.now) c.deref-3.result.now), c.in_ok-push_all.ensures.ok) c.judge_from.new.known c.cut.new.self c.vars-vars.result c.clauses-count.result.now
     c.vars-vars.ensures.value c.clauses-count.ensures.value c.in_ok-judged.ensures.kept c.cut.ensures
 
 pub returns-clause-exact : goal.returns-clause-exact

@@ -18,4 +18,4 @@ returns c =
     let fs = facts_of (map item_of c.args.items.now) in
     let gs = map (λ f. formula_of f.now) c.args.added.now in
     let known : c.push_facts.new.known ≡ clause_list names fs = c.in_ok-push_facts.ensures ∙ ap (λ (x : ClauseList). with_formulas names x fs) c.new-known.ensures in
-    c.in_ok-push_all.ensures ∙ ap (λ (x : ClauseList). with_formulas names x gs) known ∙ with_append names (record { vars = length names; clauses = [] }) fs gs
+    c.in_ok-push_all.ensures.ok ∙ ap (λ (x : ClauseList). with_formulas names x gs) known ∙ with_append names (record { vars = length names; clauses = [] }) fs gs

@@ -15,5 +15,5 @@ returns-clause-pushed c =
     let second : HasConjunction names (pos ++ neg) start c.join_negated.new.cnf c.in_ok-body-2.body = c.in_ok-body-2.ensures.joined start pos first in
     let body : HasOccurrences names (conjunction (pos ++ neg)) start c.all_of.new.cnf c.in_ok-x.x = c.in_ok-x.ensures.whole names start (pos ++ neg) second in
     let head = disjunction (atoms_as c.args.head.now) in
-    let rule = occ_implies names (conjunction (pos ++ neg)) head start c.all_of.new.cnf c.push_either.new.cnf c.push_implies.new.cnf c.in_ok-x.x c.in_ok-y.y c.in_ok-n.n body c.in_ok-y.ensures.occurs c.in_ok-n.ensures in
-    IfOk-weaker c.push_unit.result _ _ (λ _ unit. occ_unit names (rule_formula (record { head = c.args.head.now; pos = c.args.pos.now; neg = c.args.neg.now })) start c.push_implies.new.cnf c.push_unit.new.cnf c.in_ok-n.n rule unit) c.push_unit.ensures
+    let rule = occ_implies names (conjunction (pos ++ neg)) head start c.all_of.new.cnf c.push_either.new.cnf c.push_implies.new.cnf c.in_ok-x.x c.in_ok-y.y c.in_ok-n.n body c.in_ok-y.ensures.occurs c.in_ok-n.ensures.ok in
+    IfOk-weaker c.push_unit.result _ _ (λ _ unit. occ_unit names (rule_formula (record { head = c.args.head.now; pos = c.args.pos.now; neg = c.args.neg.now })) start c.push_implies.new.cnf c.push_unit.new.cnf c.in_ok-n.n rule unit) c.push_unit.ensures.ok

@@ -24,6 +24,6 @@ returns c =
     let known : ClauseList = c.args.known.now in
     let empty : ClauseList = record { vars = known.vars; clauses = [] } in
     let ls = other_literals names 0 ns c.args.view in
-    let made : c.push_clause.new.cnf ≡ with_clause empty ls = c.in_ok-push_clause.ensures ∙ ap (λ (f : ClauseList). with_clause f c.deref.result.now) (none_apart known c.new-more.result c.vars.result c.vars.ensures.value c.new-more.ensures) ∙ ap (with_clause empty) (c.deref.ensures.value ∙ c.in_ok-literals.ensures) in
+    let made : c.push_clause.new.cnf ≡ with_clause empty ls = c.in_ok-push_clause.ensures.ok ∙ ap (λ (f : ClauseList). with_clause f c.deref.result.now) (none_apart known c.new-more.result c.vars.result c.vars.ensures.value c.new-more.ensures) ∙ ap (with_clause empty) (c.deref.ensures.value ∙ c.in_ok-literals.ensures) in
     IfOk-weaker c.add_to.result _ _ (λ _ e. adds_clause names (other_formula (map Atom ns) c.args.view) ls known c.add_to.new.known (clause_apart known c.push_clause.new.cnf c.add_to.new.known ls made e)
     (λ a v extends. other_says v names a extends ns c.args.view c.requires.beliefs)) c.add_to.ensures

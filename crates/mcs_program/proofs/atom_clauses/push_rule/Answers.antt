@@ -17,4 +17,4 @@ returns c =
     let names = c.args.atoms.now in
     let r = rule_of c.args.rule.now in
     IfOk-weaker c.push_clause.result _ _ (λ _ e. adds_clause names (rule_formula r) (rule_literals names r) c.args.cnf.now c.push_clause.new.cnf (e ∙ ap (with_clause c.args.cnf.now) (c.deref.ensures.value ∙ c.in_ok-literals.ensures))
-    (λ a v extends. rule_says v names a extends r c.requires.over)) c.push_clause.ensures
+    (λ a v extends. rule_says v names a extends r c.requires.over)) c.push_clause.ensures.ok

@@ -4,11 +4,12 @@ use Rattle.mcs_base.proofs.Each.{all_get}
 use Rattle.mcs_trace.specs.Clauses.{IsClause, LiteralBefore}
 use Rattle.mcs_trace.specs.Traces.{IsChainResolvent, numbered}
 use Rattle.mcs_sat.specs.declared.trail.Entry.{Entry}
-use Rattle.mcs_sat.specs.Learning.{IsSingle}
+use Rattle.mcs_sat.specs.Learning.{GoesOnByReasons, IsSingle}
 use Rattle.mcs_sat.specs.Marking.{IsMarked, IsMarking, IsOfMarks}
 use Rattle.mcs_sat.specs.Trails.{IsFalse}
 use Rattle.mcs_sat.proofs.KnownLemmas.{chain-start}
 use Rattle.mcs_sat.proofs.MarkLemmas.{free-empty, late-marked, marked-start, none-marked, same-clause, single-marked}
+use Rattle.mcs_sat.proofs.ReasonLemmas.{reasons-more}
 use Rattle.mcs_sat.proofs.analyse.analyse.Goals as goal
 use Rattle.mcs_sat.proofs.analyse.analyse.Goals.{After-marks-3-1, After-drop-marks-2}
 
@@ -54,6 +55,15 @@ returns-clause-learnt c =
       chain = subst (IsChainResolvent c.args.clauses.now c.shorten.new.chain.items) (same_at c) m.right;
       all_false = subst (IsFalse c.args.trail.now.entries.items) (same_at c) m.marking.all_false;
     }
+
+pub returns-clause-chain : goal.returns-clause-chain
+returns-clause-chain c =
+    let known : List (List ℤ) = c.args.clauses.now in
+    let es : List Entry = c.args.trail.now.entries.items in
+    let n : ℕ = c.args.index + 1 in
+    let chain : c.push.new.self.items ≡ n ∷ [] = c.in_ok-push.ensures.items ∙ ap (λ (x : List ℕ). x ++ n ∷ []) c.new-chain.ensures.items in
+    subst (λ (ns : List ℕ). GoesOnByReasons known es ns c.shorten.new.chain.items) chain
+    (reasons-more known es c.push.new.self.items c.resolve_back.new.chain.items c.shorten.new.chain.items c.in_ok-resolve_back.ensures.reasons c.in_ok-shorten.ensures.reasons)
 
 pub returns-clause-single : goal.returns-clause-single
 returns-clause-single c = λ some.

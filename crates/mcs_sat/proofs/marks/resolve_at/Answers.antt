@@ -1,4 +1,4 @@
-use Rattle.std.proofs.Common.{◌≡◌, ◌<◌, ◌↔◌, ◌⊎◌, ◌∙◌, ℕ, ℤ, List, Bool, false, Some, length, set, ap, sym, subst}
+use Rattle.std.proofs.Common.{◌≡◌, ◌<◌, ◌↔◌, ◌⊎◌, ◌∙◌, ℕ, ℤ, List, [], ◌∷◌, Bool, false, Some, length, set, ap, sym, subst}
 use Rattle.mcs_trace.specs.Traces.{numbered}
 use Rattle.mcs_sat.specs.declared.trail.Entry.{Entry}
 use Rattle.mcs_sat.specs.Marking.{IsMarked, IsMarkedChain, IsMetAt}
@@ -31,6 +31,11 @@ returns-clause-marked c =
     let (reason, at, is, same) = reason_at_place c in
     subst (λ (ns : List ℕ). IsMarkedChain known es ns (set all c.args.place false)) (sym c.in_ok-push.ensures.items)
     (marked-resolved known es c.args.trail.now.positions.items c.args.chain.now.items c.args.marks.now.items all c.args.place c.index.result.now.reason reason c.requires.trail.clauses c.requires.trail.placed c.requires.within at is c.requires.here c.requires.marked c.mark_all.ensures.sized (exactly_at c reason same))
+
+pub returns-clause-reasons : goal.returns-clause-reasons
+returns-clause-reasons c =
+    let (reason, at, is, same) = reason_at_place c in
+    record { more = c.index.result.now.reason ∷ []; is = c.in_ok-push.ensures.items; reasons = ((c.args.place, c.requires.within, (reason, at, is)), tt) }
 
 pub returns-clause-off : goal.returns-clause-off
 returns-clause-off c =

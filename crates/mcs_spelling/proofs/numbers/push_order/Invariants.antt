@@ -3,4 +3,4 @@ use Rattle.mcs_spelling.specs.Parts.{spaced}
 use Rattle.mcs_spelling.proofs.numbers.push_order.Given as goal
 
 abbrev pub invariant-loop-number : goal.invariant-loop-number
-invariant-loop-number l = l.text ++ spaced (map decimal (drop l.number-index l.numbers)) ≡ l.fn.text ++ spaced (map decimal l.numbers)
+invariant-loop-number l = l.own ++ spaced (map decimal (drop l.number-index l.numbers)) ≡ spaced (map decimal l.numbers)

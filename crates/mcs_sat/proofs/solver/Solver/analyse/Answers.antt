@@ -1,5 +1,6 @@
-use Rattle.std.proofs.Common.{◌≡◌, ◌+◌, ◌-◌, ◌<◌, ◌≤◌, List, None, length, slice_get, sym, ap, ◌∙◌, subst, arith}
+use Rattle.std.proofs.Common.{◌≡◌, ℕ, ◌∷◌, ◌+◌, ◌-◌, ◌<◌, ◌≤◌, List, None, length, slice_get, sym, ap, ◌∙◌, subst, arith}
 use Rattle.std.specs.List.{AllByRecursion}
+use Rattle.std.proofs.lemmas.Result.{IfOk-weaker}
 use Rattle.std.specs.Option.{option_copied}
 use Rattle.mcs_base.proofs.Among.{among_get}
 use Rattle.mcs_base.proofs.Lists.{slice_get_none}
@@ -11,6 +12,7 @@ use Rattle.mcs_sat.specs.Learning.{IsLearnt, IsSingle}
 use Rattle.mcs_sat.specs.Solvers.{IsAsserting, IsFalseNumber, IsOpenUnder, SolverView, last_level, trues_below}
 use Rattle.mcs_sat.specs.States.{IsLastLevel}
 use Rattle.mcs_sat.proofs.AssertingLemmas.{asserting, last-implied, last-late, some-levels}
+use Rattle.mcs_sat.proofs.ReasonLemmas.{rest-seen}
 use Rattle.mcs_sat.proofs.SolverLemmas.{number-false}
 use Rattle.mcs_sat.proofs.TurnLemmas.{last-found}
 use Rattle.mcs_sat.proofs.solver.Solver.analyse.Goals as goal
@@ -49,3 +51,12 @@ returns-clause-step c =
     IfOk-both (IsLearnt s.clauses s.trail.entries.items) (λ (step : Step). r.entries + 1 ≤ length s.trail.entries.items → IsSingle s.trail.entries.items r.entries step.clause) (IsAsserting c.args.self.now)
     (λ step learnt single. subst (λ (v : SolverView). IsAsserting v step) c.self.view_is (asserting s r step c.self.invariant.0 some last learnt single))
     c.analyse.result c.analyse.ensures.learnt c.analyse.ensures.single
+
+pub returns-clause-begins : goal.returns-clause-begins
+returns-clause-begins c =
+    let some : 0 < c.args.conflict = (number-false c.self.inside.state c.args.conflict (subst (λ (v : SolverView). IsFalseNumber v c.args.conflict) (sym c.self.view_is) c.requires.conflict)).0 in
+    let same : c.args.conflict - 1 + 1 ≡ c.args.conflict = omega arith in
+    IfOk-weaker c.analyse.result _ _ (λ step g. (g.more, g.is ∙ ap (λ (n : ℕ). n ∷ g.more) same)) c.analyse.ensures.chain
+
+pub returns-clause-reasons : goal.returns-clause-reasons
+returns-clause-reasons c = IfOk-weaker c.analyse.result _ _ (λ step g. rest-seen c.self.inside.state c.args.self.now _ step.chain.items c.self.view_is g) c.analyse.ensures.chain

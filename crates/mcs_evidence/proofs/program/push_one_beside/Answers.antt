@@ -7,7 +7,7 @@ use Rattle.mcs_evidence.specs.Programs.{atoms_as, disjunction, is_broken_by}
 use Rattle.mcs_evidence.specs.Pushing.{HasConjunction}
 use Rattle.mcs_evidence.proofs.PushingLemmas.{conjunction_more}
 use Rattle.mcs_evidence.proofs.ProgramClauses.{within_names, beside_names, beside_is}
-use Rattle.mcs_evidence.proofs.program.push_beside.Goals as goal
+use Rattle.mcs_evidence.proofs.program.push_one_beside.Goals as goal
 
 pub join_atoms-requires-clause-over : goal.join_atoms-requires-clause-over
 join_atoms-requires-clause-over c = within_names c.args.atoms.now c.deref.result.now c.args.less (c.deref.ensures.value ∙ c.in_ok-within.ensures)
