@@ -13,7 +13,7 @@ use Rattle.mcs_base.specs.Transversals.{IsTransversalOf}
 use Rattle.mcs_system.specs.Plain.{Name, Formula, Atom, Not, ProgramRule, Item, Classical, DefaultTheory, Program, Context, System}
 use Rattle.mcs_system.specs.Logic.{is_in, atoms, all_atoms, true_names, holds, holds_all, Entails, BeliefSet, Theory, Atoms, Believes, Accepts, with_heads, IsAnswerSet, IsExtension, IsClassical}
 use Rattle.mcs_system.specs.Systems.{heads_into, Follows, IsConsistent, IsProjection, IsProjectedEquilibrium, IsAcceptedPart, acting_at, variables_of, all_variables, all_rules}
-use Rattle.mcs_laws.specs.Examples.{SameNames, self_support, against_itself, one_reads_other, told_paradox, p, q, a_or_b, a_unless_b, a_unless_a, a_if_a, b_if_a, name_a, name_b, birds, bird, flies, p_by_itself, p_by_default, p_or_q}
+use Rattle.mcs_laws.specs.Examples.{SameNames, self_support, against_itself, one_reads_other, one_reads_fact, told_paradox, p, q, a_or_b, a_unless_b, a_unless_a, a_if_a, b_if_a, name_a, name_b, birds, bird, flies, p_by_itself, p_by_default, p_or_q}
 use Rattle.mcs_base.specs.Minimal.{IsMinimal}
 use Rattle.mcs_system.specs.Repairs.{all_marks, allowed_marks, IsDiagnosis, IsExplanation, IsChoice, choice_marks}
 use Rattle.mcs_base.specs.Listings.{IsListing}
@@ -95,6 +95,10 @@ RowsKeepToSupplies = (marks : ℕ) → ¬ IsRow one_reads_other (0 ∷ 1 ∷ [])
 -- nor is it asked with the rule that reads p there: at level 0 its one question is that without the rule, and the other context has one too
 abbrev pub QuestionsKeepToSupplies : Type 0
 QuestionsKeepToSupplies = IsQuestionAt one_reads_other 0 1 0 × (¬ IsQuestionAt one_reads_other 0 1 1) × IsCount one_reads_other 0 2
+
+-- where the other context has p as a fact, it is asked with that rule, and not without it
+abbrev pub QuestionsTakeSupplies : Type 0
+QuestionsTakeSupplies = (¬ IsQuestionAt one_reads_fact 0 1 0) × IsQuestionAt one_reads_fact 0 1 1 × IsCount one_reads_fact 0 2
 
 -- each choice is a diagnosis by its marks
 abbrev pub ChoicesAreDiagnoses : Type 0
