@@ -8,8 +8,8 @@ mod pushing;
 mod theory;
 
 pub use laws::{
-    default_certificates_are_sound, kinds_have_listings, program_certificates_are_sound,
-    questions_are_counted, states_have_a_listing,
+    default_certificates_are_sound, extensions_are_generated, kinds_have_listings,
+    program_certificates_are_sound, questions_are_counted, states_have_a_listing,
 };
 pub use program::{push_beside, rest_clauses, smaller_clauses};
 pub use theory::defaults_of;
