@@ -18,7 +18,7 @@ use Rattle.mcs_proof_reader.proofs.TextLines.{text_lines}
 use Rattle.mcs_proof_reader.proofs.WholeReadings.{spelled_once}
 use Rattle.mcs_check.specs.Findings.{IsFinding, RulesOut}
 use Rattle.mcs_proof_text.specs.Proofs.{IsRight, IsAnswered}
-use Rattle.mcs_check.specs.Validity.{IsNeeded, DifferFirst, AreComplete}
+use Rattle.mcs_check.specs.Validity.{IsNeeded, DifferFirst, AreComplete, ValidReportsFailNothing}
 use Rattle.mcs_check.specs.declared.finding.Reason.{Reason}
 use Rattle.mcs_check.specs.declared.finding.Reason.TheVariants.{Grammar, Certificate, Missing, Listing}
 use Rattle.mcs_check.specs.declared.finding.Finding.{Finding}
@@ -183,3 +183,6 @@ module _ (m : System) (bytes : List ℕ) where
 pub only_finding : (m : System) → IsValid m → IsNamed m → (bytes : List ℕ) (r : Result Finding Memory) → IfOk r (IsFinding m bytes) → IfOk r (RulesOut m bytes)
 only_finding m valid named bytes (Ok f) h = rules_out m bytes (spelled_once m valid named bytes) f h
 only_finding m valid named bytes (Err e) h = tt
+
+pub valid_fails_nothing : ValidReportsFailNothing
+valid_fails_nothing m bytes line reason valid named h = rules_out m bytes (spelled_once m valid named bytes) Valid h line reason

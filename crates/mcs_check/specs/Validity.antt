@@ -101,3 +101,7 @@ pub record IsProvedListing (m : System) (text : List ℕ) : Type 0 where
 abbrev pub ProvedListingsAreValid : Type 0
 ProvedListingsAreValid = (m : System) (n : ℕ) (text : List ℕ) → IsValid m → IsNamed m → n < 2 ^ 32 → SystemIsJustifiedUpTo n m → length text ≤ most_report_bytes
     → IsProvedListing m text → IsValidReport m text
+
+-- a valid report on a system that can be read fails no test
+abbrev pub ValidReportsFailNothing : Type 0
+ValidReportsFailNothing = (m : System) (bytes : List ℕ) (line : ℕ) (reason : Reason) → IsValid m → IsNamed m → IsValidReport m bytes → ¬ IsFailure m bytes line reason

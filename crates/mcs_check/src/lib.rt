@@ -15,4 +15,4 @@ mod relisting;
 pub use certified::CertifiedOracle;
 pub use checking::check_report;
 pub use finding::{Finding, Reason, finding_line};
-pub use laws::proved_listings_are_valid;
+pub use laws::{proved_listings_are_valid, valid_reports_fail_nothing};

@@ -18,8 +18,9 @@ use Rattle.mcs_system.specs.Logic.{Theory, Entails}
 use Rattle.mcs_system.specs.Views.{Shows, IsAcceptedView}
 use Rattle.mcs_evidence.specs.Defaults.{defaults_of, generated}
 use Rattle.mcs_system.proofs.Consequence.{one_set, follows_through}
-use Rattle.mcs_evidence.proofs.DefaultLemmas.{IsDefaultAt, generated_each, facts_follow, conclusion_follows}
-use Rattle.mcs_evidence.proofs.Extensions.{NoneSupported, Generates, generated_view}
+use Rattle.mcs_evidence.proofs.DefaultLemmas.{generated_each, facts_follow, conclusion_follows}
+use Rattle.mcs_evidence.specs.Theories.{IsDefaultAt, NoneSupported, Generates}
+use Rattle.mcs_evidence.proofs.Extensions.{generated_view}
 use Rattle.mcs_evidence.specs.Theories.{all_of}
 use Rattle.mcs_default.specs.Searches.{IsAllowedBy, IsSupportedAt, IsUnsupportedAt, IsAllowedAt, IsBlockedAt, IsConflict, IsLower, IsUpper, IsBelow, IsOpenAt, IsGroundedSet, IsViewBelow}
 use Rattle.mcs_default.specs.declared.findings.Lower as lower

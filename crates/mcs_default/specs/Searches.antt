@@ -7,10 +7,8 @@ use Rattle.mcs_system.specs.Plain.{Name, Formula, Falsity, Not, Default, Item}
 use Rattle.mcs_system.specs.Logic.{Theory, Entails}
 use Rattle.mcs_system.specs.Views.{Shows}
 use Rattle.mcs_evidence.specs.Defaults.{generated}
-use Rattle.mcs_evidence.proofs.DefaultLemmas.{IsDefaultAt}
-use Rattle.mcs_evidence.proofs.Extensions.{NoneSupported, Generates}
 use Rattle.mcs_default.specs.Theories.{AreParts}
-use Rattle.mcs_evidence.specs.Theories.{AreOverDefaults}
+use Rattle.mcs_evidence.specs.Theories.{AreOverDefaults, IsDefaultAt, NoneSupported, Generates}
 use Rattle.mcs_default.specs.declared.findings.Lower as lower
 use Rattle.mcs_default.specs.declared.findings.Upper as upper
 use Rattle.mcs_default.specs.declared.findings.Findings as findings

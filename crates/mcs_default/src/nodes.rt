@@ -6,7 +6,7 @@ ghost use Rattle.mcs_system.specs.Logic.{Entails};
 ghost use Rattle.mcs_system.specs.Plain as plain;
 ghost use Rattle.mcs_system.specs.Seen.{default_of};
 ghost use Rattle.mcs_evidence.specs.Defaults.{generated};
-ghost use Rattle.mcs_evidence.proofs.DefaultLemmas.{IsDefaultAt};
+ghost use Rattle.mcs_evidence.specs.Theories.{IsDefaultAt};
 ghost use Rattle.mcs_default.specs.Theories.{AreParts};
 ghost use Rattle.mcs_default.specs.Searches.{IsReady, IsAllowedBy, IsOpenAt, IsNextOf, IsGroundedSet};
 

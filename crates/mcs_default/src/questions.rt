@@ -9,9 +9,8 @@ ghost use Rattle.mcs_system.specs.Seen.{default_of, formula_of};
 ghost use Rattle.mcs_cnf.specs.ClauseLists.{IsOver, AreOver};
 ghost use Rattle.mcs_cnf.specs.Entailments.{entailment_of, IsAcceptedEntailment};
 ghost use Rattle.mcs_evidence.specs.Defaults.{generated};
-ghost use Rattle.mcs_evidence.proofs.DefaultLemmas.{IsDefaultAt};
 ghost use Rattle.mcs_default.specs.Theories.{AreClausesOf, AreParts, consequents};
-ghost use Rattle.mcs_evidence.specs.Theories.{AreOverDefaults};
+ghost use Rattle.mcs_evidence.specs.Theories.{AreOverDefaults, IsDefaultAt};
 ghost use Rattle.mcs_default.specs.Searches.{IsReady, IsAllowedBy, IsConflict};
 
 use crate::findings::{

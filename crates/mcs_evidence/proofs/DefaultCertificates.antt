@@ -20,8 +20,9 @@ use Rattle.mcs_cnf.proofs.EntailmentLemmas.{sound, shown_follow}
 use Rattle.mcs_evidence.specs.Defaults.{facts_of, defaults_of, numbered_default, numbered_formula, defaults_in, generated, all_defaults, IsOverItem, AreOverItems, Absence, Unsupported, Blocked, Verdict, Fails, Applied, Ungrounded, Extension, IsShown, IsDenied, AreDenied, negated_justs, IsAbsent, AreGrounded, HasFailed, HasApplied, IsUngrounded, IsGenerating, IsAcceptedVerdict, ShowsView}
 use Rattle.mcs_evidence.specs.Laws.{DefaultCertificatesAreSound}
 use Rattle.mcs_system.proofs.Consequence.{one_set, follows_through}
-use Rattle.mcs_evidence.proofs.DefaultLemmas.{by_kind, IsDefaultAt, in_defaults, generated_each, facts_follow, conclusion_follows}
-use Rattle.mcs_evidence.proofs.Extensions.{IsApplicable, NoneSupported, Generates, IsGeneratedView, generated_view}
+use Rattle.mcs_evidence.proofs.DefaultLemmas.{by_kind, in_defaults, generated_each, facts_follow, conclusion_follows}
+use Rattle.mcs_evidence.specs.Theories.{IsDefaultAt, IsApplicable, NoneSupported, Generates}
+use Rattle.mcs_evidence.proofs.Extensions.{IsGeneratedView, generated_view}
 
 numbered_among : (fs : List Formula) (n : ℕ) (f : Formula) → numbered_formula fs n ≡ Some f → IsAmong f fs
 numbered_among fs zero f is = absurd (let none : None ≡ Some f = is in cc)

@@ -8,6 +8,7 @@ use Rattle.mcs_base.proofs.Each.{all_from_among, all_append, all_left, all_map}
 use Rattle.mcs_system.specs.Plain.{Formula, Default, Item, Fact, Rule}
 use Rattle.mcs_system.specs.Logic.{Entails}
 use Rattle.mcs_evidence.specs.Defaults.{facts_of, defaults_of, defaults_at, defaults_in, generated}
+use Rattle.mcs_evidence.specs.Theories.{IsDefaultAt}
 use Rattle.mcs_system.proofs.Consequence.{member_follows, follow_themselves}
 
 -- ---- items, as facts and defaults
@@ -20,10 +21,6 @@ pub from_kinds : (R : Item → Type 0) (items : List Item) → AllByRecursion (�
 from_kinds R [] facts defaults = tt
 from_kinds R (Fact p ∷ items) facts defaults = (facts.0, from_kinds R items facts.1 defaults)
 from_kinds R (Rule d ∷ items) facts defaults = (defaults.0, from_kinds R items facts defaults.1)
-
--- the default at this place, the first one being at 0
-abbrev pub IsDefaultAt : List Item → ℕ → Default → Type 0
-IsDefaultAt items k d = slice_get (defaults_of items) k ≡ Some d
 
 -- ---- the defaults of a set
 in_defaults_at : (k j : ℕ) (ds : List Default) (set : ℕ) (d : Default) → slice_get ds j ≡ Some d → has set (k + j) ≡ true → IsAmong d (defaults_at k ds set)

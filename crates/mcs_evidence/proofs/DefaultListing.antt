@@ -15,7 +15,8 @@ use Rattle.mcs_evidence.specs.Defaults.{defaults_of, generated}
 use Rattle.mcs_evidence.specs.Laws.{DefaultTheoriesHaveAListing}
 use Rattle.mcs_system.proofs.Consequence.{one_set, cases_entails}
 use Rattle.mcs_base.proofs.Deciding.{cases_not, cases_implies, cases_true, cases_false, cases_all_get, cases_some_below, places_where, has-places_where, places_where-lt}
-use Rattle.mcs_evidence.proofs.Extensions.{IsApplicable, applicable_or_not, NoneSupported, AllApply, NoOtherApplies, Generates, generated_view}
+use Rattle.mcs_evidence.specs.Theories.{IsApplicable, NoneSupported, AllApply, NoOtherApplies, Generates}
+use Rattle.mcs_evidence.proofs.Extensions.{applicable_or_not, generated_view}
 
 -- ---- whether a set generates an extension
 module _ (items : List Item) (set : ℕ) where

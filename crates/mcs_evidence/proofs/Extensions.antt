@@ -13,31 +13,8 @@ use Rattle.mcs_system.specs.Views.{Shows, IsAcceptedView}
 use Rattle.mcs_evidence.specs.Defaults.{facts_of, defaults_of, generated}
 use Rattle.mcs_system.proofs.Consequence.{follows_through, cases_entails}
 use Rattle.mcs_base.proofs.Deciding.{cases_not, cases_all, places_where, has-places_where, places_where-lt, all_from_get}
-use Rattle.mcs_evidence.proofs.DefaultLemmas.{by_kind, from_kinds, IsDefaultAt, generated_each, facts_follow, conclusion_follows}
-
--- the formulas have the prerequisite and no negated justification
-pub record IsApplicable (fs : List Formula) (d : Default) : Type 0 where
-  pub supported : Entails fs d.pre
-  pub allowed : AllByRecursion (λ j. ¬ Entails fs (Not j)) d.justs
-
--- by the defaults of a part of the set none of the others is supported
-abbrev pub NoneSupported : List Item → ℕ → ℕ → Type 0
-NoneSupported items set part = (k : ℕ) (d : Default) → IsDefaultAt items k d → has set k ≡ true → has part k ≡ false → ¬ Entails (generated items part) d.pre
-
--- each default of the set is applicable to what it generates
-abbrev pub AllApply : List Item → ℕ → Type 0
-AllApply items set = (k : ℕ) (d : Default) → IsDefaultAt items k d → has set k ≡ true → IsApplicable (generated items set) d
-
--- and no other one is
-abbrev pub NoOtherApplies : List Item → ℕ → Type 0
-NoOtherApplies items set = (k : ℕ) (d : Default) → IsDefaultAt items k d → has set k ≡ false → ¬ IsApplicable (generated items set) d
-
--- of the defaults exactly those of the set are applicable to what it generates, and they can be applied one after the other
-pub record Generates (items : List Item) (set : ℕ) : Type 0 where
-  pub inside : set < 2 ^ length (defaults_of items)
-  pub applied : AllApply items set
-  pub complete : NoOtherApplies items set
-  pub grounded : (part : ℕ) → Within part set → ¬ (part ≡ set) → ¬ NoneSupported items set part
+use Rattle.mcs_evidence.specs.Theories.{IsDefaultAt, IsApplicable, NoneSupported, Generates, ExtensionsAreGenerated}
+use Rattle.mcs_evidence.proofs.DefaultLemmas.{by_kind, from_kinds, generated_each, facts_follow, conclusion_follows}
 
 -- ---- what such a set generates is an extension
 module _ (items : List Item) (set : ℕ) (generates : Generates items set) where
@@ -165,6 +142,15 @@ module _ (items : List Item) (e : List Formula) (extension : IsExtension items e
     there = there;
     back = back;
   }
+
+pub extensions_are_generated : ExtensionsAreGenerated
+extensions_are_generated items = (generated_is_extension items, of_set)
+  where
+    of_set : (e : List Formula) → IsExtension items e → (set : ℕ) × Generates items set × ((p : Formula) → Entails e p ↔ Entails (generated items set) p)
+    of_set e extension =
+        let set : ℕ = applicable items e extension in
+        let h = is_generated items e extension in
+        (set, h.generates, λ p. (follows_through (generated items set) e p h.back, follows_through e (generated items set) p h.there))
 
 -- ---- the views of a default theory
 abbrev pub IsGeneratedView : List Item → List Formula → ℕ → Type 0

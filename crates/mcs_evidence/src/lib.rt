@@ -8,7 +8,8 @@ mod pushing;
 mod theory;
 
 pub use laws::{
-    default_certificates_are_sound, kinds_have_listings, program_certificates_are_sound,
+    default_certificates_are_sound, extensions_are_generated, kinds_have_listings,
+    program_certificates_are_sound,
 };
 pub use program::{push_beside, rest_clauses, smaller_clauses};
 pub use theory::defaults_of;

@@ -12,3 +12,4 @@ pub mod Views
 pub mod Worked
 pub mod Need
 pub mod Rows
+pub mod Supplies

@@ -1,5 +1,5 @@
 -- What holds the rows of tiny systems back: the marks, and what earlier contexts supply.
-use Rattle.std.proofs.Common.{◌≡◌, ℕ, ◌≤◌, Bool, true, false, ◌&&◌, cond, [], ◌∷◌, refl, sym, ap, ◌∙◌, subst, inl, inr, arith, true≢false}
+use Rattle.std.proofs.Common.{◌≡◌, ℕ, ◌≤◌, zero, suc, Bool, true, false, ◌&&◌, cond, [], ◌∷◌, refl, sym, ap, ◌∙◌, subst, inl, inr, arith, true≢false}
 use Rattle.std.proofs.lemmas.Bool.{and_from}
 use Rattle.mcs_sets.specs.Sets.{has, common, union, minus, single, such_that, size}
 use Rattle.mcs_sets.proofs.SetLemmas.{Within-le, has-common, has-empty}
@@ -87,15 +87,16 @@ local-other : local_of one_reads_other 1 ≡ 1
 unfolding variables variables_of inputs_of such_that union single
 local-other = refl
 
-variables_of-first : variables_of one_reads_other 0 ≡ 1
+pub variables_of-first : variables_of one_reads_other 0 ≡ 1
 unfolding variables_of variables such_that union single
 variables_of-first = refl
 
-only_read : (r : Read) → IsVariable one_reads_other 0 r → r ≡ p_of_0
+pub only_read : (v : ℕ) (r : Read) → IsVariable one_reads_other v r → r ≡ p_of_0
 unfolding variables
-only_read r is = cc
+only_read zero r is = cc
+only_read (suc v) r is = cc
 
-no_heads : (x : ℕ) → heads_into one_reads_other 0 x ≡ []
+pub no_heads : (x : ℕ) → heads_into one_reads_other 0 x ≡ []
 no_heads x = at (has x 0)
   where
     at : (v : Bool) → cond (v && false) (p ∷ []) [] ≡ []
@@ -111,11 +112,16 @@ disbelieves x (Theory e) (c, is, accepts) believes =
 disbelieves x (Atoms names) (c, is, accepts) believes =
     let same : c ≡ empty_context = cc in absurd (subst (λ (d : Context). Accepts (with_heads d.kb (heads_into one_reads_other 0 x)) (Atoms names)) same accepts)
 
+-- so it supplies no state with p
+pub supplies_no_p : (x whole : ℕ) → has whole 0 ≡ true → ¬ IsAcceptedPart one_reads_other 0 x (common whole (variables_of one_reads_other 0))
+supplies_no_p x whole inside accepted =
+    let member : has (common whole (variables_of one_reads_other 0)) 0 ≡ true = rw variables_of-first (has-common whole 1 0 ∙ and_from _ _ inside has-1) in
+    let (r, var, own, believes) = (accepted.part 0).0 member in
+    disbelieves x accepted.belief accepted.accepted (subst (λ (q : Read). Believes accepted.belief q.belief) (only_read 0 r var) believes)
+
 pub rows_keep_to_supplies : RowsKeepToSupplies
 rows_keep_to_supplies marks row =
     let state : common row.whole 1 ≡ 1 = rw local-other at row.state_is in
     let inside : has row.whole 0 ≡ true = (in_common row.whole 1 0 (ap (λ s. has s 0) state ∙ has-1)).0 in
     let (x, question, accepted) = row.supplies 0 (inl refl) refl in
-    let member : has (common row.whole (variables_of one_reads_other 0)) 0 ≡ true = rw variables_of-first (has-common row.whole 1 0 ∙ and_from _ _ inside has-1) in
-    let (r, var, own, believes) = (accepted.part 0).0 member in
-    disbelieves x accepted.belief accepted.accepted (subst (λ (q : Read). Believes accepted.belief q.belief) (only_read r var) believes)
+    supplies_no_p x row.whole inside accepted

@@ -41,7 +41,7 @@ unfolding has
 has-1 = refl
 
 -- p follows from p, and not from nothing
-p_follows : Entails (p ∷ []) p
+pub p_follows : Entails (p ∷ []) p
 p_follows a h = (and_parts _ _ h).0
 
 pub p_is_open : ¬ Entails [] p

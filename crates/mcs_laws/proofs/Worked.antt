@@ -2,11 +2,11 @@
 use Rattle.std.proofs.Common.{◌≡◌, Bool, true, false, not, ◌&&◌, ◌||◌, cond, List, [], ◌∷◌, codes, refl, sym, ap, ◌∙◌, subst, true≢false}
 use Rattle.std.proofs.lemmas.Bool.{and_parts, not_from_true, not_from_false}
 use Rattle.std.specs.List.{list_all}
-use Rattle.mcs_system.specs.Plain.{Name, Not, ProgramRule}
+use Rattle.mcs_system.specs.Plain.{Name, Truth, Falsity, Atom, Not, And, Or, Implies, Iff, ProgramRule}
 use Rattle.mcs_system.specs.Logic.{same_name, is_in, holds, Entails, Theory, Atoms, satisfies, reduct, IsAnswerSet}
 use Rattle.mcs_base.proofs.Deciding.{only_test, test_with_implied}
 use Rattle.mcs_system.proofs.Sameness.{same_name-is}
-use Rattle.mcs_laws.specs.Laws.{NegationAllows, NegationUndoes, ProgramsDoNotSupportThemselves, HeadsAreFacts, DefaultsAreGrounded, DefaultsMayChoose, ToldFactsBlock, KindsAcceptTheirSort}
+use Rattle.mcs_laws.specs.Laws.{NegationAllows, NegationUndoes, ProgramsDoNotSupportThemselves, HeadsAreFacts, DefaultsAreGrounded, DefaultsMayChoose, ToldFactsBlock, ProgramsBelieveAtoms, KindsAcceptTheirSort}
 use Rattle.mcs_laws.specs.Examples.{SameNames, name_a, name_b, p, q, a_unless_b, a_unless_a, a_if_a}
 
 -- ---- names
@@ -150,11 +150,25 @@ defaults_may_choose = (
   )).0 [] refl)),
 )
 
+told_follows : Entails (Not p ∷ []) (Not p)
+told_follows a h = (and_parts (not (holds a p)) true h).0
+
 pub told_facts_block : ToldFactsBlock
-told_facts_block h = true≢false (sym ((h.least (Not p ∷ []) (
-  (λ pre justs. absurd (justs.0 (λ a g. (and_parts (not (holds a p)) (holds a p && true) g).0))),
-  ((λ a g. (and_parts (not (holds a p)) true g).0), tt),
-)).1.0 [] refl))
+told_facts_block = (
+  record { closed = (λ pre justs. absurd (justs.0 told_follows), (told_follows, tt)); least = λ f h. (h.1.0, tt) },
+  λ h. true≢false (sym (h.closed.1.0 (codes "p" ∷ []) refl)),
+)
+
+-- ---- what a set of names believes
+pub programs_believe_atoms : ProgramsBelieveAtoms
+programs_believe_atoms names Truth = (λ h. absurd h, λ (n, is, inside). cc)
+programs_believe_atoms names Falsity = (λ h. absurd h, λ (n, is, inside). cc)
+programs_believe_atoms names (Atom k) = (λ h. (k, refl, h), λ (n, is, inside). let same : n ≡ k = cc in subst (λ (x : Name). is_in x names ≡ true) same inside)
+programs_believe_atoms names (Not f) = (λ h. absurd h, λ (n, is, inside). cc)
+programs_believe_atoms names (And f g) = (λ h. absurd h, λ (n, is, inside). cc)
+programs_believe_atoms names (Or f g) = (λ h. absurd h, λ (n, is, inside). cc)
+programs_believe_atoms names (Implies f g) = (λ h. absurd h, λ (n, is, inside). cc)
+programs_believe_atoms names (Iff f g) = (λ h. absurd h, λ (n, is, inside). cc)
 
 pub kinds_accept_their_sort : KindsAcceptTheirSort
 kinds_accept_their_sort = (λ fs ns h. h, λ is ns h. h, λ rs fs h. h)

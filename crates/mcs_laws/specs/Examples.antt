@@ -47,6 +47,13 @@ one_reads_other = record {
   bridges = record { name = codes "r"; target = 1; head = p; pos = p_of_0 ∷ []; neg = [] } ∷ [];
 }
 
+-- p. in a, (b: p) <- (a: p).
+abbrev pub one_reads_fact : System
+one_reads_fact = record {
+  contexts = record { name = name_a; kb = Classical (p ∷ []) } ∷ record { name = name_b; kb = Classical [] } ∷ [];
+  bridges = record { name = codes "r"; target = 1; head = p; pos = p_of_0 ∷ []; neg = [] } ∷ [];
+}
+
 -- ---- programs
 -- a | b.
 abbrev pub a_or_b : List ProgramRule

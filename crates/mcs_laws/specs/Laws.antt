@@ -5,15 +5,15 @@ use Rattle.mcs_sets.specs.Orders.{StateBefore, PairBefore}
 use Rattle.std.specs.List.{AllByRecursion}
 use Rattle.mcs_system.specs.Rows.{IsRow, AgreeOnCommon, HasParts, local_of}
 use Rattle.mcs_system.specs.Imports.{IsQuestion, rules_into, marks_at}
-use Rattle.mcs_system.specs.Levels.{IsCount, IsNeed, IsLocalRow}
+use Rattle.mcs_system.specs.Levels.{IsQuestionAt, IsCount, IsNeed, IsLocalRow}
 use Rattle.mcs_system.specs.Views.{IsAcceptedView, beliefs_at, at_places}
 use Rattle.mcs_system.specs.Faults.{IsValid}
 use Rattle.mcs_base.specs.Pairs.{removed_of, forced_of}
 use Rattle.mcs_base.specs.Transversals.{IsTransversalOf}
 use Rattle.mcs_system.specs.Plain.{Name, Formula, Atom, Not, ProgramRule, Item, Classical, DefaultTheory, Program, Context, System}
-use Rattle.mcs_system.specs.Logic.{is_in, atoms, all_atoms, true_names, holds, holds_all, Entails, BeliefSet, Theory, Atoms, Accepts, with_heads, IsAnswerSet, IsExtension, IsClassical}
+use Rattle.mcs_system.specs.Logic.{is_in, atoms, all_atoms, true_names, holds, holds_all, Entails, BeliefSet, Theory, Atoms, Believes, Accepts, with_heads, IsAnswerSet, IsExtension, IsClassical}
 use Rattle.mcs_system.specs.Systems.{heads_into, Follows, IsConsistent, IsProjection, IsProjectedEquilibrium, IsAcceptedPart, acting_at, variables_of, all_variables, all_rules}
-use Rattle.mcs_laws.specs.Examples.{SameNames, self_support, against_itself, one_reads_other, told_paradox, p, q, a_or_b, a_unless_b, a_unless_a, a_if_a, b_if_a, name_a, name_b, birds, bird, flies, p_by_itself, p_by_default, p_or_q}
+use Rattle.mcs_laws.specs.Examples.{SameNames, self_support, against_itself, one_reads_other, one_reads_fact, told_paradox, p, q, a_or_b, a_unless_b, a_unless_a, a_if_a, b_if_a, name_a, name_b, birds, bird, flies, p_by_itself, p_by_default, p_or_q}
 use Rattle.mcs_base.specs.Minimal.{IsMinimal}
 use Rattle.mcs_system.specs.Repairs.{all_marks, allowed_marks, IsDiagnosis, IsExplanation, IsChoice, choice_marks}
 use Rattle.mcs_base.specs.Listings.{IsListing}
@@ -91,6 +91,14 @@ RowsHaveFewMarks = ((state marks : ℕ) → ¬ IsLocalRow against_itself 0 0 sta
 -- a context that reads p of another one has no row with it, where the other one, which comes first, does not believe it
 abbrev pub RowsKeepToSupplies : Type 0
 RowsKeepToSupplies = (marks : ℕ) → ¬ IsRow one_reads_other (0 ∷ 1 ∷ []) 0 1 1 marks
+
+-- nor is it asked with the rule that reads p there: at level 0 its one question is that without the rule, and the other context has one too
+abbrev pub QuestionsKeepToSupplies : Type 0
+QuestionsKeepToSupplies = IsQuestionAt one_reads_other 0 1 0 × (¬ IsQuestionAt one_reads_other 0 1 1) × IsCount one_reads_other 0 2
+
+-- where the other context has p as a fact, it is asked with that rule, and not without it
+abbrev pub QuestionsTakeSupplies : Type 0
+QuestionsTakeSupplies = (¬ IsQuestionAt one_reads_fact 0 1 0) × IsQuestionAt one_reads_fact 0 1 1 × IsCount one_reads_fact 0 2
 
 -- each choice is a diagnosis by its marks
 abbrev pub ChoicesAreDiagnoses : Type 0
@@ -183,6 +191,10 @@ ProgramsDoNotSupportThemselves = (names : List Name) → IsAnswerSet a_if_a name
 abbrev pub HeadsAreFacts : Type 0
 HeadsAreFacts = (b : BeliefSet) → Accepts (with_heads (Program b_if_a) (Atom name_a ∷ [])) b ↔ ((names : List Name) × (b ≡ Atoms names) × SameNames names (name_a ∷ name_b ∷ []))
 
+-- a set of names believes no formula but the atoms that it names
+abbrev pub ProgramsBelieveAtoms : Type 0
+ProgramsBelieveAtoms = (names : List Name) (f : Formula) → Believes (Atoms names) f ↔ ((n : Name) × (f ≡ Atom n) × IsTrue (is_in n names))
+
 -- p : p / p. has the extension of nothing, and not that of p
 abbrev pub DefaultsAreGrounded : Type 0
 DefaultsAreGrounded = IsExtension p_by_itself [] × (¬ IsExtension p_by_itself (p ∷ []))
@@ -191,9 +203,10 @@ DefaultsAreGrounded = IsExtension p_by_itself [] × (¬ IsExtension p_by_itself 
 abbrev pub DefaultsMayChoose : Type 0
 DefaultsMayChoose = IsExtension p_or_q (p ∷ []) × IsExtension p_or_q (q ∷ []) × (¬ IsExtension p_or_q (p ∷ q ∷ []))
 
--- a default does not act against a fact that is told
+-- a default does not act against a fact that is told: the theory of the fact is an extension, and that of the default's conclusion is none
 abbrev pub ToldFactsBlock : Type 0
-ToldFactsBlock = ¬ Accepts (with_heads (DefaultTheory p_by_default) (Not p ∷ [])) (Theory (Not p ∷ p ∷ []))
+ToldFactsBlock = Accepts (with_heads (DefaultTheory p_by_default) (Not p ∷ [])) (Theory (Not p ∷ []))
+    × (¬ Accepts (with_heads (DefaultTheory p_by_default) (Not p ∷ [])) (Theory (p ∷ [])))
 
 -- each kind accepts belief sets of its own sort
 abbrev pub KindsAcceptTheirSort : Type 0

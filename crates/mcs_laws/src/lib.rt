@@ -1,7 +1,7 @@
 //! Laws over the definitions of multi-context systems. The functions do nothing: each contract is a law.
 #![tactic(auto)]
 
-ghost use Rattle.mcs_laws.specs.Laws.{StatesHaveOneListing, DiagnosesHaveOneListing, WithoutDiagnosesNothingExplains, ChangedStatesAreChoices, MinimalDiagnosesAreDifferences, ExplanationsMeetDiagnoses, MinimalExplanationsAreMinimalTransversals, EquilibriaAreByParts, ConsequenceIsDecided, SelfSupportHasTwo, AgainstItselfHasNone, NeedIsOfAllRules, RowsHaveFewMarks, RowsKeepToSupplies, ChoicesAreDiagnoses, ConsistentNeedsNothing, StatesHaveOneProjection, MinimalDiagnosesAreSmall, QuestionsGrow, RowsMakeChoices, ChoicesAskQuestions, ChoicesHaveRows, MarksAreUnited, MarksAreApart, PartsAreViews, ViewListingsGivePartListings, NegationAllows, NegationUndoes, ProgramsDoNotSupportThemselves, HeadsAreFacts, DefaultsAreGrounded, DefaultsMayChoose, ToldFactsBlock, KindsAcceptTheirSort, DisjunctionChooses, BirdFlies, TablesDecide, ClassicalContextsAcceptWhatFollows, ClassicalStatesHaveAListing, ConsistencyIsListed};
+ghost use Rattle.mcs_laws.specs.Laws.{StatesHaveOneListing, DiagnosesHaveOneListing, WithoutDiagnosesNothingExplains, ChangedStatesAreChoices, MinimalDiagnosesAreDifferences, ExplanationsMeetDiagnoses, MinimalExplanationsAreMinimalTransversals, EquilibriaAreByParts, ConsequenceIsDecided, SelfSupportHasTwo, AgainstItselfHasNone, NeedIsOfAllRules, RowsHaveFewMarks, RowsKeepToSupplies, QuestionsKeepToSupplies, QuestionsTakeSupplies, ChoicesAreDiagnoses, ConsistentNeedsNothing, StatesHaveOneProjection, MinimalDiagnosesAreSmall, QuestionsGrow, RowsMakeChoices, ChoicesAskQuestions, ChoicesHaveRows, MarksAreUnited, MarksAreApart, PartsAreViews, ViewListingsGivePartListings, NegationAllows, NegationUndoes, ProgramsDoNotSupportThemselves, HeadsAreFacts, ProgramsBelieveAtoms, DefaultsAreGrounded, DefaultsMayChoose, ToldFactsBlock, KindsAcceptTheirSort, DisjunctionChooses, BirdFlies, TablesDecide, ClassicalContextsAcceptWhatFollows, ClassicalStatesHaveAListing, ConsistencyIsListed};
 
 /// Of a property of states, or of pairs, there is at most one listing.
 pub fn listings_are_unique()
@@ -51,11 +51,14 @@ pub fn tiny_systems()
 {}
 
 /// What tiny systems need and have by levels: without equilibria the level of all rules counts, rows have no more
-/// marks than their level, and keep to what earlier contexts may supply.
+/// marks than their level, rows and questions keep to what earlier contexts may supply, and questions take up what they
+/// do supply.
 pub fn tiny_levels()
     ensures need { NeedIsOfAllRules }
     ensures few { RowsHaveFewMarks }
     ensures supplies { RowsKeepToSupplies }
+    ensures questions { QuestionsKeepToSupplies }
+    ensures supplied { QuestionsTakeSupplies }
 {}
 
 /// Each choice of what the contexts accept is a diagnosis by its marks; each state of a changed system makes a
@@ -106,7 +109,13 @@ pub fn worked_programs()
     ensures heads { HeadsAreFacts }
 {}
 
-/// Worked default theories: extensions are grounded, contrary defaults choose, and what is told blocks a default.
+/// What a program accepts believes no formula but atoms, those that it names.
+pub fn programs_believe_atoms()
+    ensures { ProgramsBelieveAtoms }
+{}
+
+/// Worked default theories: extensions are grounded, contrary defaults choose, and a fact that is told is believed and
+/// blocks a default.
 pub fn worked_default_theories()
     ensures grounded { DefaultsAreGrounded }
     ensures choose { DefaultsMayChoose }

@@ -9,5 +9,6 @@ mod traces;
 
 pub use answer::answer_lines;
 pub use laws::{
-    reports_have_one_fault, spelled_reports_have_no_fault, whole_listings_are_listing_parts,
+    reports_have_one_fault, right_answers_are_in_shape, spelled_reports_have_no_fault,
+    whole_listings_are_listing_parts,
 };

@@ -1,7 +1,8 @@
 -- The whole listing of a system is one, its stages are fronts of it, and there is one.
-use Rattle.std.proofs.Common.{◌≡◌, ℕ, ◌+◌, ◌*◌, List, [], ◌∷◌, ◌++◌, length, refl, sym, ap, subst, inl, inr, ◌⊎◌, ◌↔◌, ◌∙◌, append_assoc}
+use Rattle.std.proofs.Common.{◌≡◌, ℕ, ◌+◌, ◌*◌, nat_eq, nat_lt, List, [], ◌∷◌, ◌++◌, length, refl, sym, ap, subst, inl, inr, ◌⊎◌, ◌↔◌, ◌∙◌, append_assoc}
 use Rattle.std.proofs.lemmas.List.{append-nil}
-use Rattle.mcs_sets.specs.Sets.{minus, Within, Meets}
+use Rattle.std.specs.List.{position_or_len}
+use Rattle.mcs_sets.specs.Sets.{common, single, minus, Within, Meets}
 use Rattle.mcs_sets.specs.Orders.{StateBefore, PairBefore}
 use Rattle.mcs_sets.proofs.Lattice.{cases_within, cases_meet}
 use Rattle.mcs_sets.proofs.SetLemmas.{StateBefore-asymmetric, PairBefore-asymmetric}
@@ -24,11 +25,13 @@ use Rattle.mcs_existence.proofs.Counts.{counts_exist}
 use Rattle.mcs_base.proofs.Deciding.{cases_all, cases_minimal}
 use Rattle.mcs_existence.proofs.SystemListings.{all_states_listed}
 use Rattle.mcs_transversal.proofs.BergeLemmas.{none_before}
+use Rattle.mcs_transversal.proofs.CriticalLemmas.{critical_from_minimal}
 use Rattle.mcs_diagnosis.specs.declared.diagnosis.Diagnosis as code
 use Rattle.mcs_diagnosis.specs.Diagnoses.{AreDiagnoses, pairs_of}
 use Rattle.mcs_diagnosis.proofs.ShownLemmas.{diagnoses_are_one, below_is_front, shown_exist}
-use Rattle.mcs_report.specs.Listing.{heading}
-use Rattle.mcs_report.specs.Solutions.{diagnosis_lines, equilibria_part, listing_front, listing_rest, AreEquilibria, first, below, whole, summary_text, WholeListingsAreOne, ListingStagesAreFronts, WholeListingsExist, SummariesAreOne, SummaryStagesAreFronts, SummariesExist, ConsistentListingsExplainNothing, ListingsWithoutDiagnoses}
+use Rattle.mcs_report.specs.Listing.{heading, verdict_line}
+use Rattle.mcs_report.specs.Solutions.{diagnosis_lines, explanation_lines, equilibria_part, listing_front, listing_rest, AreEquilibria, first, below, whole, summary_text, WholeListingsAreOne, ListingStagesAreFronts, WholeListingsExist, SummariesAreOne, SummaryStagesAreFronts, SummariesExist, SummariesEndAsListings, ExplanationsHaveReasons, ConsistentListingsExplainNothing, ListingsWithoutDiagnoses}
+use Rattle.mcs_report.proofs.RepairLemmas.{number_first, number_within}
 use Rattle.mcs_report.proofs.SolutionLemmas.{diagnosis_lines-append}
 
 -- ---- the whole listing is one
@@ -176,3 +179,25 @@ nothing_to_meet m text w none = listed_alone (IsMinimal (IsExplanation m)) 0 w.e
       λ minimal. alone t ((minimal_explanations m [] no_edges t).0 minimal),
       λ e. (minimal_explanations m [] no_edges t).1 ((none_before t).0 (inl e)),
     )
+
+-- ---- the last line
+pub summaries_end : SummariesEndAsListings
+summaries_end m summary listing s w = (
+  (
+    verdict_line (nat_lt 0 (length w.states)),
+    summary_is_one m summary _ s (record { listing = listing; listed = w; text_is = refl }),
+  ),
+  (
+    listing_front m w.states w.diagnoses ++ explanation_lines m 1 (pairs_of w.diagnoses) w.explanations,
+    w.text_is ∙ sym (append_assoc (listing_front m w.states w.diagnoses) (explanation_lines m 1 (pairs_of w.diagnoses) w.explanations) _),
+  ),
+)
+
+-- ---- the reasons of explanations
+pub explanations_have_reasons : ExplanationsHaveReasons
+explanations_have_reasons m text w t k among member =
+    let pairs : List ℕ = pairs_of w.diagnoses in
+    let transversal = (minimal_explanations m pairs w.repairs.listed t).0 ((w.causes.exactly t).0 among) in
+    let critical = critical_from_minimal pairs t transversal k member in
+    let place : ℕ = position_or_len (λ e. nat_eq (common e t) (single k)) pairs in
+    (place, number_first pairs t k place (number_within pairs t k critical) refl, refl)

@@ -1,10 +1,11 @@
 -- The lines of a report of diagnoses and explanations, each with its line feed.
-use Rattle.std.specs.Prelude.{ℕ, ◌+◌, ◌/◌, ◌%◌, cond, nat_eq, List, ◌++◌, map, codes, slice_get}
+use Rattle.std.specs.Prelude.{◌≡◌, ℕ, ◌+◌, ◌<◌, ◌/◌, ◌%◌, ◌↔◌, length, cond, nat_eq, List, ◌++◌, map, codes, slice_get}
 use Rattle.std.specs.Fmt.{decimal}
 use Rattle.std.specs.List.{position_or_len}
 use Rattle.mcs_sets.specs.Sets.{members, single, common}
 use Rattle.mcs_system.specs.Plain.{System}
 use Rattle.mcs_diagnosis.specs.declared.diagnosis.Diagnosis as code
+use Rattle.mcs_transversal.specs.Transversals.{IsFirstCritical}
 use Rattle.mcs_text.specs.Separated.{braced}
 use Rattle.mcs_report.specs.Members.{name_of_rule, state_text, rules_text}
 
@@ -43,3 +44,8 @@ unfoldable pub end_line : ℕ → ℕ → ℕ → ℕ → List ℕ
 end_line equilibria diagnoses explanations need =
     codes "end: " ++ (decimal equilibria ++ (codes " equilibria, " ++ (decimal diagnoses ++ (codes " diagnoses, "
     ++ (decimal explanations ++ (codes " explanations, need " ++ (decimal need ++ codes "\n")))))))
+
+-- ---- laws
+-- the number is one more than the index of the first edge that the set meets in this mark alone
+abbrev pub ReasonsAreNumbered : Type 0
+ReasonsAreNumbered = (edges : List ℕ) (t k i : ℕ) → IsFirstCritical edges t k i ↔ ((i < length edges) × (first_alone edges t k ≡ i + 1))

@@ -1,7 +1,8 @@
 -- The whole listing of a system: its equilibria, its minimal diagnoses and its minimal explanations; and its stages.
-use Rattle.std.specs.Prelude.{◌≡◌, ℕ, zero, suc, ◌+◌, nat_lt, List, [], ◌∷◌, ◌++◌, length, ◌⊎◌}
+use Rattle.std.specs.Prelude.{◌≡◌, ℕ, zero, suc, ◌+◌, nat_lt, IsTrue, List, [], ◌∷◌, ◌++◌, length, ◌⊎◌}
+use Rattle.mcs_sets.specs.Sets.{has}
 use Rattle.mcs_sets.specs.Orders.{StateBefore, PairBefore}
-use Rattle.mcs_base.specs.Listings.{IsListing}
+use Rattle.mcs_base.specs.Listings.{IsAmong, IsListing}
 use Rattle.mcs_base.specs.Minimal.{IsMinimal}
 use Rattle.mcs_system.specs.Plain.{System}
 use Rattle.mcs_system.specs.Levels.{IsNeed}
@@ -9,8 +10,9 @@ use Rattle.mcs_system.specs.Repairs.{IsExplanation}
 use Rattle.mcs_system.specs.Systems.{all_rules, IsConsistent, IsProjectedEquilibrium}
 use Rattle.mcs_diagnosis.specs.declared.diagnosis.Diagnosis as code
 use Rattle.mcs_diagnosis.specs.Diagnoses.{AreDiagnoses, AreFoundBelow, pairs_of}
+use Rattle.mcs_transversal.specs.Transversals.{IsFirstCritical}
 use Rattle.mcs_report.specs.Listing.{heading, equilibrium_lines, verdict_line}
-use Rattle.mcs_report.specs.Repairs.{diagnosis_line, explanation_line, end_line}
+use Rattle.mcs_report.specs.Repairs.{first_alone, diagnosis_line, explanation_line, end_line}
 
 -- a line for each diagnosis, numbered from k on
 abbrev pub diagnosis_lines : System → ℕ → List code.Diagnosis → List ℕ
@@ -117,3 +119,21 @@ ConsistentListingsExplainNothing = (m : System) (text : List ℕ) (w : IsWholeLi
 -- where there is no diagnosis, there is the empty explanation alone
 abbrev pub ListingsWithoutDiagnoses : Type 0
 ListingsWithoutDiagnoses = (m : System) (text : List ℕ) (w : IsWholeListing m text) → w.diagnoses ≡ [] → w.explanations ≡ 0 ∷ []
+
+-- each mark of an explanation is shown with the number of a diagnosis, the first one that the explanation meets in this mark alone
+abbrev pub ExplanationsHaveReasons : Type 0
+ExplanationsHaveReasons = (m : System) (text : List ℕ) (w : IsWholeListing m text) (t k : ℕ) → IsAmong t w.explanations → IsTrue (has t k)
+    → (i : ℕ) × IsFirstCritical (pairs_of w.diagnoses) t k i × (first_alone (pairs_of w.diagnoses) t k ≡ i + 1)
+
+-- the text ends with this line
+abbrev pub EndsWith : List ℕ → List ℕ → Type 0
+EndsWith text line = (front : List ℕ) × (text ≡ front ++ line)
+
+-- the last line of the whole listing
+abbrev pub last_line_of : (m : System) (text : List ℕ) → IsWholeListing m text → List ℕ
+last_line_of m text w = end_line (length w.states) (length w.diagnoses) (length w.explanations) w.need
+
+-- it is the last line of the summary too
+abbrev pub SummariesEndAsListings : Type 0
+SummariesEndAsListings = (m : System) (summary listing : List ℕ) → IsSummary m summary → (w : IsWholeListing m listing)
+    → EndsWith summary (last_line_of m listing w) × EndsWith listing (last_line_of m listing w)

@@ -1,7 +1,8 @@
 //! Laws of the listings. The functions do nothing: each contract is a law.
 
 ghost use Rattle.mcs_report.specs.Listing.{EquilibriaTextsAreOne, StagesAreFronts, EquilibriaTextsExist};
-ghost use Rattle.mcs_report.specs.Solutions.{WholeListingsAreOne, ListingStagesAreFronts, WholeListingsExist, SummariesAreOne, SummaryStagesAreFronts, SummariesExist, ConsistentListingsExplainNothing, ListingsWithoutDiagnoses};
+ghost use Rattle.mcs_report.specs.Repairs.{ReasonsAreNumbered};
+ghost use Rattle.mcs_report.specs.Solutions.{WholeListingsAreOne, ListingStagesAreFronts, WholeListingsExist, SummariesAreOne, SummaryStagesAreFronts, SummariesExist, SummariesEndAsListings, ExplanationsHaveReasons, ConsistentListingsExplainNothing, ListingsWithoutDiagnoses};
 
 /// A system has at most one listing of its equilibria, and each stage of it is a front.
 pub fn equilibria_texts_are_unambiguous()
@@ -31,6 +32,18 @@ pub fn summaries_are_one()
     ensures one { SummariesAreOne }
     ensures stages { SummaryStagesAreFronts }
     ensures some { SummariesExist }
+{}
+
+/// The summary of a system ends with the last line of its whole listing, which has the same four counts.
+pub fn summaries_end_as_listings()
+    ensures { SummariesEndAsListings }
+{}
+
+/// What stands by a mark of an explanation is the number, from 1, of the first diagnosis that the explanation meets in
+/// this mark alone; and each mark has one.
+pub fn reasons_are_diagnoses()
+    ensures number { ReasonsAreNumbered }
+    ensures each { ExplanationsHaveReasons }
 {}
 
 /// The whole listing of a consistent system has the empty pair as its one diagnosis, and no explanation; where it has

@@ -7,7 +7,8 @@ mod members;
 mod repair_lines;
 
 pub use laws::{
-    equilibria_texts_are_unambiguous, equilibria_texts_exist, whole_listings_are_unambiguous,
+    equilibria_texts_are_unambiguous, equilibria_texts_exist, reasons_are_diagnoses,
+    summaries_are_one, summaries_end_as_listings, whole_listings_are_unambiguous,
     whole_listings_at_the_extremes, whole_listings_exist,
 };
 pub use lines::{equilibrium_line, heading, short_end_line, verdict_line};
