@@ -1,5 +1,5 @@
 -- The clauses that say that sets of atoms have support, rule by rule.
-use Rattle.std.proofs.Common.{◌≡◌, ℕ, ◌<◌, ◌≤◌, true, false, List, [], ◌∷◌, map, filter, length, drop, get_or, ◌+◌, refl, ap, ◌∙◌, Option}
+use Rattle.std.proofs.Common.{◌≡◌, ℕ, ◌<◌, ◌≤◌, true, false, List, ◌∷◌, map, filter, length, drop, get_or, ◌+◌, refl, ap, ◌∙◌, Option}
 use Rattle.mcs_system.specs.Plain.{Name, Formula, ProgramRule}
 use Rattle.mcs_system.specs.Seen.{rule_of}
 use Rattle.mcs_system.specs.declared.knowledge.ProgRule as code

@@ -1,18 +1,18 @@
 -- Answer sets give each set that they meet support from outside, and a smaller set that satisfies the reduct leaves one without it.
-use Rattle.std.proofs.Common.{◌≡◌, Bool, true, false, not, ◌&&◌, ◌||◌, List, [], ◌∷◌, ◌++◌, ◌⊎◌, inl, inr, map, filter, refl, sym, ap, ◌∙◌, subst, true≢false}
-use Rattle.std.proofs.lemmas.Bool.{and_parts, and_from, or_cases, or_left, or_right, not-true, not_from_false, false_from_ne_true, true_from_ne_false}
+use Rattle.std.proofs.Common.{◌≡◌, Bool, true, false, not, ◌&&◌, ◌||◌, List, [], ◌∷◌, ◌++◌, map, filter, refl, sym, ap, ◌∙◌, true≢false}
+use Rattle.std.proofs.lemmas.Bool.{and_parts, and_from, not-true, not_from_false, false_from_ne_true, true_from_ne_false}
 use Rattle.std.proofs.lemmas.List.Folds.{list_all-append}
 use Rattle.std.proofs.Math.Bool.{or-false}
-use Rattle.std.specs.List.{AllByRecursion, list_any, list_all}
+use Rattle.std.specs.List.{list_any, list_all}
 use Rattle.mcs_base.specs.Listings.{IsAmong}
 use Rattle.mcs_base.proofs.Among.{among_any, among_filter, filter_among, any_get, among_get}
-use Rattle.mcs_base.proofs.Each.{all_append, all_map, all_filter, all_from_among, all_among}
-use Rattle.mcs_system.specs.Plain.{Name, Formula, ProgramRule}
+use Rattle.mcs_base.proofs.Each.{all_append, all_map, all_filter}
+use Rattle.mcs_system.specs.Plain.{Name, ProgramRule}
 use Rattle.mcs_system.specs.Logic.{same_name, is_in, holds, holds_all, reduct, satisfies, IsProperSubset, IsAnswerSet}
-use Rattle.mcs_system.proofs.NameLemmas.{is_in-among, is_in-filter}
-use Rattle.mcs_system.proofs.Sameness.{same_name-is, same_name-itself}
+use Rattle.mcs_system.proofs.NameLemmas.{is_in-filter}
+use Rattle.mcs_system.proofs.Sameness.{same_name-is}
 use Rattle.mcs_cnf.specs.ClauseLists.{IsOver}
-use Rattle.mcs_evidence.specs.Programs.{atoms_as, negated_atoms, conjunction, disjunction, rule_formula, IsOverRule, AreOverRules}
+use Rattle.mcs_evidence.specs.Programs.{atoms_as, negated_atoms, disjunction, IsOverRule, AreOverRules}
 use Rattle.mcs_evidence.specs.Pushing.{AreNamesOf}
 use Rattle.mcs_evidence.specs.Supports.{IsOutsideSupport, HasOutsideSupport, IsBased, Based, may_support, outside_formula, support_formula}
 use Rattle.mcs_evidence.specs.Laws.{AnswerSetsAreSupported, SupportedModelsAreAnswerSets}

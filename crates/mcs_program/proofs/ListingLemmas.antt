@@ -1,8 +1,8 @@
 -- How the search for answer sets that are listed goes on: sets without support from outside, and answer sets.
-use Rattle.std.proofs.Common.{◌≡◌, ℕ, ◌<◌, zero, suc, Bool, true, false, not, ◌&&◌, List, [], ◌∷◌, ◌++◌, inl, inr, map, length, insert, refl, sym, ap, ◌∙◌, subst, true≢false}
-use Rattle.std.proofs.lemmas.Bool.{and_parts, and_from, or_cases, or_left, not_from_false, false_from_ne_true}
+use Rattle.std.proofs.Common.{◌≡◌, ℕ, ◌<◌, zero, suc, true, false, not, ◌&&◌, List, [], ◌∷◌, ◌++◌, inl, inr, map, length, insert, refl, sym, ap, ◌∙◌, subst, true≢false}
+use Rattle.std.proofs.lemmas.Bool.{and_parts, and_from, or_cases, or_left, not_from_false}
 use Rattle.std.proofs.lemmas.List.Folds.{list_all-append}
-use Rattle.std.specs.List.{AllByRecursion, list_all}
+use Rattle.std.specs.List.{AllByRecursion}
 use Rattle.mcs_sets.specs.Sets.{has, minus}
 use Rattle.mcs_sets.specs.Orders.{StateBefore}
 use Rattle.mcs_sets.proofs.SetLemmas.{has-minus}
@@ -15,7 +15,6 @@ use Rattle.mcs_system.specs.Faults.{has_twins}
 use Rattle.mcs_system.specs.Logic.{same_name, is_in, holds, holds_all, true_names, BeliefSet, Theory, Atoms, Accepts, IsAnswerSet}
 use Rattle.mcs_system.specs.Views.{Shows, IsAcceptedView}
 use Rattle.mcs_system.proofs.Sameness.{same_name-is, same_name-itself}
-use Rattle.mcs_trace.specs.Clauses.{ClauseList}
 use Rattle.mcs_cnf.specs.Entailments.{IsModelAt}
 use Rattle.mcs_evidence.specs.Programs.{rule_formula, other_formula, smaller_formulas, AreAtomsOf}
 use Rattle.mcs_evidence.specs.Supports.{IsBased, support_formula}

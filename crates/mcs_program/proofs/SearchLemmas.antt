@@ -4,31 +4,28 @@ use Rattle.std.proofs.lemmas.Bool.{and_parts, cases_lt}
 use Rattle.std.proofs.lemmas.List.Folds.{list_all-append}
 use Rattle.std.proofs.lemmas.List.{take-append-drop, map-append, length-drop, get_or-drop}
 use Rattle.std.specs.List.{AllByRecursion, AllZip}
-use Rattle.mcs_sets.specs.Sets.{has, single}
+use Rattle.mcs_sets.specs.Sets.{has}
 use Rattle.mcs_sets.specs.Orders.{StateBefore}
 use Rattle.mcs_sets.proofs.Lattice.{below_from_members}
-use Rattle.mcs_base.specs.Listings.{IsAmong, IsAscending, IsListing}
+use Rattle.mcs_base.specs.Listings.{IsAmong, IsAscending}
 use Rattle.mcs_base.specs.StateOrder.{StateBefore-total, StateBefore-transitive}
 use Rattle.mcs_base.proofs.Each.{all_among, all_push, all_from_among}
 use Rattle.mcs_base.proofs.Among.{zip_among, drop_among}
 use Rattle.mcs_base.proofs.Ascending.{ascending_append, ascending_drop}
 use Rattle.mcs_base.proofs.Written.{list_all-insert}
 use Rattle.mcs_base.proofs.Sorted.{all_after, ascending_take}
-use Rattle.mcs_system.specs.Plain.{Name, Formula, Atom, ProgramRule, Program}
-use Rattle.mcs_system.specs.Faults.{has_twins}
-use Rattle.mcs_system.specs.Logic.{holds, holds_all, true_names, BeliefSet, Theory, Atoms, Accepts}
-use Rattle.mcs_system.specs.Views.{Shows, IsAcceptedView}
+use Rattle.mcs_system.specs.Plain.{Name, Formula, Atom, ProgramRule}
+use Rattle.mcs_system.specs.Logic.{holds, holds_all, true_names}
 use Rattle.mcs_trace.specs.Clauses.{ClauseList}
 use Rattle.mcs_trace.specs.Traces.{Inference, IsAcceptedTrace}
 use Rattle.mcs_cnf.specs.ClauseLists.{clause_list}
 use Rattle.mcs_cnf.specs.Entailments.{IsModelAt}
-use Rattle.mcs_cnf.proofs.EntailmentLemmas.{none_hold}
-use Rattle.mcs_evidence.specs.Programs.{rule_formula, beside_formula, other_formula, smaller_formulas, rest_formulas, model_shown_of, AreOverRules, AreAtomsOf, IsInRange, IsAcceptedModel}
+use Rattle.mcs_evidence.specs.Programs.{rule_formula, beside_formula, other_formula, smaller_formulas, rest_formulas, model_shown_of, AreAtomsOf, IsInRange, IsAcceptedModel}
 use Rattle.mcs_evidence.specs.Pushing.{AreNamesOf}
-use Rattle.mcs_evidence.proofs.Models.{smaller-over, answer_set_from_model, shows-below, own_state, view_among, smaller_places, beside_excludes}
+use Rattle.mcs_evidence.proofs.Models.{shows-below, own_state, smaller_places, beside_excludes}
 use Rattle.mcs_program.specs.Clauses.{AreMeantBy, AddsFormula}
 use Rattle.mcs_program.specs.declared.search.Search.{Search}
-use Rattle.mcs_program.specs.Searches.{IsKnown, IsSearch, IsExcluded, IsListed, count_below, sets_left, IsExhausted}
+use Rattle.mcs_program.specs.Searches.{IsKnown, IsSearch, IsExcluded, IsListed, count_below, sets_left}
 use Rattle.mcs_program.proofs.ClauseLemmas.{last_too, meant_same}
 
 -- ---- names as beliefs

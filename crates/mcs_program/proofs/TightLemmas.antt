@@ -1,19 +1,18 @@
 -- Sets of places of atoms from which no positive body leads on without end.
-use Rattle.std.proofs.Common.{◌≡◌, ℕ, ◌<◌, true, false, not, List, [], ◌∷◌, length, sym, ap, ◌∙◌, subst, true≢false, arith, refl, ltb, ◌+◌}
+use Rattle.std.proofs.Common.{◌≡◌, ℕ, true, false, List, [], ◌∷◌, length, sym, ap, ◌∙◌, true≢false, arith, refl, ltb, ◌+◌}
 use Rattle.std.proofs.lemmas.Bool.{and_from}
 use Rattle.std.proofs.lemmas.Bool.Decides.{nat_tests}
 use Rattle.std.specs.List.{AllByRecursion, AllZip}
 use Rattle.mcs_sets.specs.Sets.{has, minus, such_that, Meets}
 use Rattle.mcs_sets.proofs.SetLemmas.{has-empty, has-such_that}
 use Rattle.mcs_sets.proofs.Lattice.{in_minus}
-use Rattle.mcs_base.specs.Listings.{IsAmong}
 use Rattle.mcs_base.proofs.Among.{zip_among}
 use Rattle.mcs_base.proofs.Each.{all_among, all_weaker}
 use Rattle.mcs_system.specs.Plain.{Name, ProgramRule}
 use Rattle.mcs_system.specs.Faults.{has_twins}
 use Rattle.mcs_system.specs.Logic.{is_in, true_names}
 use Rattle.mcs_evidence.specs.Supports.{IsBased, Based}
-use Rattle.mcs_evidence.proofs.Models.{all_in_each, any_in_from, none_in}
+use Rattle.mcs_evidence.proofs.Models.{all_in_each, any_in_from}
 use Rattle.mcs_program.specs.declared.placing.PlacedRule.{PlacedRule}
 use Rattle.mcs_program.specs.Placing.{lies_within, do_meet, IsPlacedRule}
 use Rattle.mcs_program.proofs.PlaceLemmas.{meet_test, place_at}

@@ -1,4 +1,4 @@
-use Rattle.std.proofs.Common.{◌+◌, ◌∙◌, sym, subst, map, arith}
+use Rattle.std.proofs.Common.{◌+◌, ◌∙◌, sym, subst, arith}
 use Rattle.mcs_system.specs.Seen.{rule_of}
 use Rattle.mcs_trace.specs.Clauses.{ClauseList}
 use Rattle.mcs_evidence.specs.Programs.{AreOverRules}

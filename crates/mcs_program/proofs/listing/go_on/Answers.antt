@@ -1,7 +1,3 @@
-use Rattle.std.proofs.Common.{map}
-use Rattle.mcs_system.specs.Seen.{rule_of}
-use Rattle.mcs_system.specs.Plain.{Atom}
-use Rattle.std.proofs.Common.{refl}
 use Rattle.mcs_program.proofs.listing.go_on.Goals as goal
 
 pub returns-in-Ok-false-clause-all : goal.returns-in-Ok-false-clause-all

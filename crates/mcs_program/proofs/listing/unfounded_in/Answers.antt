@@ -1,4 +1,4 @@
-use Rattle.std.proofs.Common.{◌∙◌, map, sym, ap, subst}
+use Rattle.std.proofs.Common.{◌∙◌, map, ap, subst}
 use Rattle.mcs_system.specs.Seen.{rule_of}
 use Rattle.mcs_system.specs.Logic.{true_names, holds}
 use Rattle.mcs_cnf.proofs.GrowingLemmas.{room_known}

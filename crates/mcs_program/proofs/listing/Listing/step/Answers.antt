@@ -1,4 +1,4 @@
-use Rattle.std.proofs.Common.{map, sym, subst, Some, None}
+use Rattle.std.proofs.Common.{map, sym, subst}
 use Rattle.mcs_system.specs.Plain.{Atom}
 use Rattle.mcs_system.specs.Seen.{rule_of}
 use Rattle.mcs_trace.specs.Clauses.{ClauseList}
