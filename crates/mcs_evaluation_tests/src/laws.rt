@@ -1,7 +1,8 @@
 //! Laws: the functions do nothing, and are called once.
 
 use mcs_evidence::{
-    default_certificates_are_sound, kinds_have_listings, program_certificates_are_sound,
+    answer_sets_are_supported, default_certificates_are_sound, extensions_are_generated,
+    kinds_have_listings, program_certificates_are_sound,
 };
 use mcs_existence::{questions_are_counted, states_have_a_listing};
 
@@ -9,6 +10,8 @@ use mcs_existence::{questions_are_counted, states_have_a_listing};
 fn laws_are_called(_rt: HostRuntime) {
     default_certificates_are_sound();
     program_certificates_are_sound();
+    answer_sets_are_supported();
+    extensions_are_generated();
     kinds_have_listings();
     states_have_a_listing();
     questions_are_counted();

@@ -8,9 +8,9 @@ ghost use Rattle.mcs_evidence.specs.Programs.{AreOverRules};
 
 use crate::numbered::are_numbered;
 use crate::systems::{first_knowledge, system_of};
-use mcs_base::Memory;
+use mcs_base::{Memory, Vars};
 use mcs_cnf::are_different;
-use mcs_program::answer_sets;
+use mcs_program::{answer_sets, list_answer_sets};
 use mcs_system::{Kb, Name, ProgRule, System};
 use mcs_trace::ProgramCert;
 use std::alloc::Global;
@@ -41,7 +41,18 @@ pub(crate) fn shown(
     Ok(certificate)
 }
 
-/// Whether the answer sets of the rules are seen through the atoms as the views of these numbers, by so many models.
+/// The views of the answer sets of the rules through the atoms, without what shows them.
+fn listed(alloc: Global, rules: &[ProgRule], atoms: &[Name]) -> Result<Vec<Vars>, Memory>
+    requires over { AreOverRules atoms.now (map rule_of rules.now) }
+    requires few { length atoms.now ≤ 64 }
+    requires different { has_twins atoms.now ≡ false }
+{
+    let beliefs: Vec<&Name> = atoms.iter().collect(alloc)?;
+    list_answer_sets(alloc, rules, &[], &beliefs, atoms)
+}
+
+/// Whether the answer sets of the rules are seen through the atoms as the views of these numbers, by so many models,
+/// and listed as the same ones where nothing shows them.
 fn are_shown(
     alloc: Global,
     rules: &[ProgRule],
@@ -58,7 +69,8 @@ fn are_shown(
     let (found, certificate) = answer_sets(alloc, rules, &[], atoms, atoms)?;
     let count = certificate.models.len();
     drop(certificate);
-    Ok(count == models && are_numbered(&found, views))
+    let listed = listed(alloc, rules, atoms)?;
+    Ok(count == models && are_numbered(&found, views) && are_numbered(&listed, views))
 }
 
 /// Whether the program of the only context has these answer sets, by so many models.
@@ -77,7 +89,26 @@ fn has_views(alloc: Global, system: &System, views: &[u64], models: usize) -> Re
 const PROGRAMS: &[(&str, &[u64], usize)] = &[
     ("context c program { a | b. }", &[1, 2], 2),
     ("context c program { a. :- a. }", &[], 0),
+    ("context c program { :- a. }", &[0], 1),
+    ("context c program { a :- not a. }", &[], 0),
+    ("context c program { a :- not b. b :- not a. }", &[1, 2], 2),
+    ("context c program { a :- not b. b :- not c. c :- not d. }", &[5], 1),
+    ("context c program { a. b :- a, not c. c :- b. }", &[], 0),
     ("context c program { a :- a. b :- not a. }", &[2], 1),
+    ("context c program { a :- b. b :- a. }", &[0], 1),
+    ("context c program { a :- a, not b. b :- not a. }", &[2], 1),
+    ("context c program { a :- b. b :- a. a :- not c. c :- not a. }", &[3, 4], 2),
+    ("context c program { a :- b, not c. b :- a. c :- not b. b :- not c. }", &[3, 4], 2),
+    ("context c program { a | b. :- a. }", &[2], 1),
+    ("context c program { a | b. b | c. }", &[5, 2], 2),
+    ("context c program { a | b. b | c. :- b. }", &[5], 1),
+    ("context c program { a | b. c :- a. c :- b. :- not c. }", &[5, 6], 2),
+    ("context c program { a | b. c | d. :- a, c. :- b, d. }", &[9, 6], 2),
+    ("context c program { a | b :- c. c :- not d. d :- not c. }", &[5, 6, 8], 3),
+    ("context c program { a | b. a :- b. b :- a. }", &[3], 1),
+    ("context c program { a | b | c. a :- b. b :- c. c :- a. }", &[7], 1),
+    ("context c program { a :- b, c. b :- a. c :- a. b | c. }", &[2, 4], 2),
+    ("context c program { a | b. a :- c. c :- a. :- not c. }", &[5], 1),
 ];
 
 #[test]

@@ -1,8 +1,10 @@
 pub mod Models
+pub mod Supports
 pub mod AnswerSets
 pub mod ProgramListings
 pub mod PushingLemmas
 pub mod ProgramClauses
+pub mod SupportClauses
 pub mod ProgramSizes
 pub mod DefaultLemmas
 pub mod TheoryLemmas

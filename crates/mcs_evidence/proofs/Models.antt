@@ -19,6 +19,7 @@ use Rattle.mcs_system.specs.Faults.{has_twins}
 use Rattle.mcs_system.proofs.NameLemmas.{is_in-among, is_in-filter, is_in_flat_map}
 use Rattle.mcs_system.proofs.Sameness.{same_name-is, same_name-itself}
 use Rattle.mcs_cnf.specs.ClauseLists.{IsOver, AreOver}
+use Rattle.mcs_evidence.specs.Pushing.{AreNamesOf}
 use Rattle.mcs_evidence.specs.Programs.{and_from as and_all, or_from as or_all, conjunction, disjunction, atoms_as, negated_atoms, false_names, rule_formula, positive_formula, smaller_formulas, is_broken_by, beside_formula, literals_from, other_formula, rest_formulas, IsOverRule, AreOverRules, AreAtomsOf}
 
 -- ---- whether all names of a list, or one of them, are true
@@ -465,9 +466,6 @@ own_state names a beliefs x atoms shows = not_from_true (holds a (conjunction (l
     (conjunction-holds a (literals_from 0 beliefs x) ∙ literals-hold a 0 beliefs x (λ j p is. let e : j ≡ 0 + j = omega arith in shows-holds names a beliefs x atoms shows j p is ∙ ap (has x) e))
 
 -- ---- the formulas are over the names
-known : List Name → List Name → Type 0
-known names ns = AllByRecursion (λ n. is_in n names ≡ true) ns
-
 and_all-over : (names : List Name) (f : Formula) (gs : List Formula) → IsOver names f → AreOver names gs → IsOver names (and_all f gs)
 and_all-over names f [] over all = over
 and_all-over names f (g ∷ gs) over all = and_all-over names (And f g) gs (over, all.0) all.1
@@ -484,31 +482,25 @@ pub disjunction-over : (names : List Name) (fs : List Formula) → AreOver names
 disjunction-over names [] all = tt
 disjunction-over names (f ∷ fs) all = or_all-over names f fs all.0 all.1
 
-atoms-over : (names ns : List Name) → known names ns → AreOver names (atoms_as ns)
-unfolding known
+pub atoms-over : (names ns : List Name) → AreNamesOf names ns → AreOver names (atoms_as ns)
 atoms-over names ns all = all_map Atom (λ n. is_in n names ≡ true) (IsOver names) (λ n h. h) ns all
 
-negated-over : (names ns : List Name) → known names ns → AreOver names (negated_atoms ns)
-unfolding known
+pub negated-over : (names ns : List Name) → AreNamesOf names ns → AreOver names (negated_atoms ns)
 negated-over names ns all = all_map (λ (n : Name). Not (Atom n)) (λ n. is_in n names ≡ true) (IsOver names) (λ n h. h) ns all
 
-true_names-over : (names : List Name) (s : ℕ) → known names (true_names 0 names s)
-unfolding known
+true_names-over : (names : List Name) (s : ℕ) → AreNamesOf names (true_names 0 names s)
 true_names-over names s = all_from_among (λ n. is_in n names ≡ true) (true_names 0 names s) (λ n h. true_names-known n 0 names s ((is_in-among n (true_names 0 names s)).1 h))
 
-false_names-over : (names : List Name) (s : ℕ) → known names (false_names 0 names s)
-unfolding known
+false_names-over : (names : List Name) (s : ℕ) → AreNamesOf names (false_names 0 names s)
 false_names-over names s = all_from_among (λ n. is_in n names ≡ true) (false_names 0 names s) (λ n h. false_names-known n 0 names s ((is_in-among n (false_names 0 names s)).1 h))
 
 pub rule_formula-over : (names : List Name) (r : ProgramRule) → IsOverRule names r → IsOver names (rule_formula r)
-unfolding known
 rule_formula-over names r over = (
   conjunction-over names (atoms_as r.pos ++ negated_atoms r.neg) (all_append (IsOver names) (atoms_as r.pos) (negated_atoms r.neg) (atoms-over names r.pos over.1) (negated-over names r.neg over.2)),
   disjunction-over names (atoms_as r.head) (atoms-over names r.head over.0),
 )
 
 pub positive_formula-over : (names : List Name) (r : ProgramRule) → IsOverRule names r → IsOver names (positive_formula r)
-unfolding known
 positive_formula-over names r over = (conjunction-over names (atoms_as r.pos) (atoms-over names r.pos over.1), disjunction-over names (atoms_as r.head) (atoms-over names r.head over.0))
 
 pub rules-over : (names : List Name) (rules : List ProgramRule) → AreOverRules names rules → AreOver names (map rule_formula rules)
@@ -530,7 +522,6 @@ smaller-over names rules model over = all_append (IsOver names) (map positive_fo
         (all_filter (IsOverRule names) (λ r. not (any_in a r.neg)) rules over))
 
 pub beside-over : (names : List Name) (rules : List ProgramRule) (less : ℕ) → AreOverRules names rules → IsOver names (beside_formula names rules less)
-unfolding known
 beside-over names rules less over = conjunction-over names (atoms_as x ++ (disjunction (atoms_as out) ∷ map blocked broken))
     (all_append (IsOver names) (atoms_as x) (disjunction (atoms_as out) ∷ map blocked broken) (atoms-over names x (true_names-over names less)) (
       disjunction-over names (atoms_as out) (atoms-over names out (false_names-over names less)),
@@ -574,24 +565,31 @@ rest-over names rules beliefs smaller outputs over over' = all_append (IsOver na
     each f (x ∷ xs) h = (h x, each f xs h)
 
 -- ---- where all else is refuted
--- an answer set whose view is not put out would be a model
-pub rest-hold : (names : List Name) (rules : List ProgramRule) (beliefs : List Formula) (smaller outputs : List ℕ) (a : List Name) (x : ℕ) → has_twins names ≡ false → AreAtomsOf names beliefs → IsAnswerSet rules a → Shows (Atoms a) beliefs x
-    → AllByRecursion (λ state. (j : ℕ) → has state j ≡ true → j < length beliefs) outputs → ¬ IsAmong x outputs → holds_all a (rest_formulas names rules beliefs smaller outputs) ≡ true
-rest-hold names rules beliefs smaller outputs a x single atoms is shows low new =
-    list_all-append (holds a) (map rule_formula rules) (map (beside_formula names rules) smaller ++ map (other_formula beliefs) outputs)
-    ∙ and_from (holds_all a (map rule_formula rules)) (holds_all a (map (beside_formula names rules) smaller ++ map (other_formula beliefs) outputs)) (answer_set-holds rules a is) (
-    list_all-append (holds a) (map (beside_formula names rules) smaller) (map (other_formula beliefs) outputs)
-    ∙ and_from (holds_all a (map (beside_formula names rules) smaller)) (holds_all a (map (other_formula beliefs) outputs)) (besides smaller) (others outputs low new)
+-- of formulas that a set of atoms makes true, a view that is not put out would be of a model
+pub sides-hold : (base : List Formula) (side : ℕ → Formula) (names : List Name) (beliefs : List Formula) (sets outputs : List ℕ) (a : List Name) (x : ℕ) → AreAtomsOf names beliefs → Shows (Atoms a) beliefs x
+    → holds_all a base ≡ true → ((s : ℕ) → holds a (side s) ≡ true) → AllByRecursion (λ state. (j : ℕ) → has state j ≡ true → j < length beliefs) outputs → ¬ IsAmong x outputs
+    → holds_all a (base ++ (map side sets ++ map (other_formula beliefs) outputs)) ≡ true
+sides-hold base side names beliefs sets outputs a x atoms shows first met low new =
+    list_all-append (holds a) base (map side sets ++ map (other_formula beliefs) outputs)
+    ∙ and_from (holds_all a base) (holds_all a (map side sets ++ map (other_formula beliefs) outputs)) first (
+    list_all-append (holds a) (map side sets) (map (other_formula beliefs) outputs)
+    ∙ and_from (holds_all a (map side sets)) (holds_all a (map (other_formula beliefs) outputs)) (each sets) (others outputs low new)
     )
   where
-    besides : (xs : List ℕ) → holds_all a (map (beside_formula names rules) xs) ≡ true
-    besides [] = refl
-    besides (less ∷ xs) = and_from (holds a (beside_formula names rules less)) (holds_all a (map (beside_formula names rules) xs)) (beside_answer_set names rules less a single is) (besides xs)
+    each : (xs : List ℕ) → holds_all a (map side xs) ≡ true
+    each [] = refl
+    each (s ∷ xs) = and_from (holds a (side s)) (holds_all a (map side xs)) (met s) (each xs)
 
     others : (xs : List ℕ) → AllByRecursion (λ state. (j : ℕ) → has state j ≡ true → j < length beliefs) xs → ¬ IsAmong x xs → holds_all a (map (other_formula beliefs) xs) ≡ true
     others [] low new = refl
     others (state ∷ xs) low new =
         and_from (holds a (other_formula beliefs state)) (holds_all a (map (other_formula beliefs) xs)) (other_state names a beliefs x state atoms shows low.0 (λ e. new (inl e))) (others xs low.1 (λ h. new (inr h)))
+
+-- so it would be one of those of the rules and the smaller sets
+pub rest-hold : (names : List Name) (rules : List ProgramRule) (beliefs : List Formula) (smaller outputs : List ℕ) (a : List Name) (x : ℕ) → has_twins names ≡ false → AreAtomsOf names beliefs → IsAnswerSet rules a → Shows (Atoms a) beliefs x
+    → AllByRecursion (λ state. (j : ℕ) → has state j ≡ true → j < length beliefs) outputs → ¬ IsAmong x outputs → holds_all a (rest_formulas names rules beliefs smaller outputs) ≡ true
+rest-hold names rules beliefs smaller outputs a x single atoms is shows low new =
+    sides-hold (map rule_formula rules) (beside_formula names rules) names beliefs smaller outputs a x atoms shows (answer_set-holds rules a is) (λ less. beside_answer_set names rules less a single is) low new
 
 pub view_among : (names : List Name) (rules : List ProgramRule) (beliefs : List Formula) (smaller outputs : List ℕ) (a : List Name) (x : ℕ) → has_twins names ≡ false → AreAtomsOf names beliefs → IsAnswerSet rules a → Shows (Atoms a) beliefs x
     → AllByRecursion (λ state. (j : ℕ) → has state j ≡ true → j < length beliefs) outputs → ¬ (holds_all a (rest_formulas names rules beliefs smaller outputs) ≡ true) → IsAmong x outputs

@@ -1,5 +1,6 @@
 pub mod Defaults
 pub mod Theories
 pub mod Programs
+pub mod Supports
 pub mod Laws
 pub mod Pushing

@@ -1,6 +1,6 @@
 //! Laws over the definitions. The functions do nothing: each contract is a law.
 
-ghost use Rattle.mcs_evidence.specs.Laws.{DefaultCertificatesAreSound, ProgramCertificatesAreSound, DefaultTheoriesHaveAListing, ProgramsHaveAListing};
+ghost use Rattle.mcs_evidence.specs.Laws.{DefaultCertificatesAreSound, ProgramCertificatesAreSound, AnswerSetsAreSupported, SupportedModelsAreAnswerSets, DefaultTheoriesHaveAListing, ProgramsHaveAListing};
 ghost use Rattle.mcs_evidence.specs.Theories.{ExtensionsAreGenerated};
 
 /// An accepted certificate of a default theory shows the listing of the views of its extensions.
@@ -17,6 +17,13 @@ pub fn program_certificates_are_sound()
 /// which none applies, and which are grounded (Reiter 1980).
 pub fn extensions_are_generated()
     ensures { ExtensionsAreGenerated }
+{}
+
+/// Each set of atoms that meets an answer set has support from outside in it; and a model is an answer set where each of
+/// its atoms has support of its own and no positive body leads from it on without end.
+pub fn answer_sets_are_supported()
+    ensures each_set { AnswerSetsAreSupported }
+    ensures without_loops { SupportedModelsAreAnswerSets }
 {}
 
 /// What a default theory accepts has a listing, and so has what a program accepts.

@@ -5,11 +5,14 @@ mod laws;
 mod places;
 mod program;
 mod pushing;
+mod support;
 mod theory;
 
 pub use laws::{
-    default_certificates_are_sound, extensions_are_generated, kinds_have_listings,
-    program_certificates_are_sound,
+    answer_sets_are_supported, default_certificates_are_sound, extensions_are_generated,
+    kinds_have_listings, program_certificates_are_sound,
 };
+pub use places::names_at;
 pub use program::{push_beside, rest_clauses, smaller_clauses};
+pub use support::push_support;
 pub use theory::defaults_of;

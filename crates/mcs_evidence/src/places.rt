@@ -1,6 +1,6 @@
 //! Names at places, and names among others.
 
-ghost use Rattle.std.specs.Prelude.{◌≡◌, ◌≤◌, length, IfOk};
+ghost use Rattle.std.specs.Prelude.{◌≡◌, ◌≤◌, not, length, filter, IfOk};
 ghost use Rattle.std.specs.List.{list_any, list_all};
 ghost use Rattle.mcs_system.specs.Logic.{is_in, true_names};
 ghost use Rattle.mcs_system.specs.Seen.{rule_of};
@@ -39,7 +39,7 @@ pub(crate) fn is_broken(names: &[Name], rule: &ProgRule) -> bool
 }
 
 /// The atoms at the places, in order.
-pub(crate) fn names_at(alloc: Global, atoms: &[Name], places: Vars) -> Result<Vec<Name>, Memory>
+pub fn names_at(alloc: Global, atoms: &[Name], places: Vars) -> Result<Vec<Name>, Memory>
     requires few { length atoms.now ≤ 64 }
     ensures { IfOk result (λ names. names.items ≡ true_names 0 atoms.now places) }
 {
@@ -64,4 +64,21 @@ pub(crate) fn names_beside(alloc: Global, atoms: &[Name], places: Vars) -> Resul
         }
     }
     Ok(names)
+}
+
+/// Those of the names that are none of the others, in order.
+pub(crate) fn names_apart(
+    alloc: Global,
+    names: &[Name],
+    others: &[Name],
+) -> Result<Vec<Name>, Memory>
+    ensures { IfOk result (λ apart. apart.items ≡ filter (λ n. not (is_in n others.now)) names.now) }
+{
+    let mut apart = Vec::new(alloc);
+    for name in names {
+        if !is_among(name, others) {
+            apart.push(name.copy(alloc)?)?;
+        }
+    }
+    Ok(apart)
 }

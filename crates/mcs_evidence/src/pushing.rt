@@ -34,7 +34,12 @@ pub(crate) fn join(alloc: Global, cnf: &mut Cnf, all: Option<u64>, x: u64) -> Re
 }
 
 /// The same with a disjunction.
-fn join_either(alloc: Global, cnf: &mut Cnf, any: Option<u64>, x: u64) -> Result<u64, Memory>
+pub(crate) fn join_either(
+    alloc: Global,
+    cnf: &mut Cnf,
+    any: Option<u64>,
+    x: u64,
+) -> Result<u64, Memory>
     requires part { IsPart cnf.old any }
     requires next { IsVariable cnf.old x }
     ensures number { IfOk result (IsVariable cnf.new) }
@@ -139,7 +144,7 @@ pub(crate) fn all_of(alloc: Global, cnf: &mut Cnf, all: Option<u64>) -> Result<u
 }
 
 /// The number of a whole disjunction, which is false where it has no parts.
-fn any_of(alloc: Global, cnf: &mut Cnf, any: Option<u64>) -> Result<u64, Memory>
+pub(crate) fn any_of(alloc: Global, cnf: &mut Cnf, any: Option<u64>) -> Result<u64, Memory>
     requires part { IsPart cnf.old any }
     ensures number { IfOk result (IsVariable cnf.new) }
     ensures grows { IfOk result (λ _. cnf.old.vars ≤ cnf.new.vars) }

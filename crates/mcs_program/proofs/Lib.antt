@@ -4,3 +4,5 @@ pub mod SmallLemmas
 pub mod ClauseLemmas
 pub mod PlaceLemmas
 pub mod ViewLemmas
+pub mod ListingLemmas
+pub mod TightLemmas

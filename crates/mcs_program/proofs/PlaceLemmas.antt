@@ -104,7 +104,7 @@ module _ (names : List Name) (single : has_twins names ≡ false) where
   name_at : (k : ℕ) → k < length names → (n : Name) × (is_in n names ≡ true) × IsPlaceOf names n k
   name_at k less = let (n, known, number) = named names k single less in (n, known, place_is names n k single known (omega arith))
 
-  place_at : (n : Name) → is_in n names ≡ true → (j : ℕ) × IsPlaceOf names n j
+  pub place_at : (n : Name) → is_in n names ≡ true → (j : ℕ) × IsPlaceOf names n j
   place_at n known = (atom_number names n - 1, place_is names n (atom_number names n - 1) single known refl)
 
   -- the names at places that are true are those at places of the set

@@ -4,30 +4,28 @@ use Rattle.std.proofs.lemmas.Bool.{and_parts, cases_lt}
 use Rattle.std.proofs.lemmas.List.Folds.{list_all-append}
 use Rattle.std.proofs.lemmas.List.{take-append-drop, map-append, length-drop, get_or-drop}
 use Rattle.std.specs.List.{AllByRecursion, AllZip}
-use Rattle.mcs_sets.specs.Sets.{has, single}
+use Rattle.mcs_sets.specs.Sets.{has}
 use Rattle.mcs_sets.specs.Orders.{StateBefore}
 use Rattle.mcs_sets.proofs.Lattice.{below_from_members}
-use Rattle.mcs_base.specs.Listings.{IsAmong, IsAscending, IsListing}
+use Rattle.mcs_base.specs.Listings.{IsAmong, IsAscending}
 use Rattle.mcs_base.specs.StateOrder.{StateBefore-total, StateBefore-transitive}
 use Rattle.mcs_base.proofs.Each.{all_among, all_push, all_from_among}
 use Rattle.mcs_base.proofs.Among.{zip_among, drop_among}
 use Rattle.mcs_base.proofs.Ascending.{ascending_append, ascending_drop}
 use Rattle.mcs_base.proofs.Written.{list_all-insert}
 use Rattle.mcs_base.proofs.Sorted.{all_after, ascending_take}
-use Rattle.mcs_system.specs.Plain.{Name, Formula, Atom, ProgramRule, Program}
-use Rattle.mcs_system.specs.Faults.{has_twins}
-use Rattle.mcs_system.specs.Logic.{holds, holds_all, true_names, BeliefSet, Theory, Atoms, Accepts}
-use Rattle.mcs_system.specs.Views.{Shows, IsAcceptedView}
+use Rattle.mcs_system.specs.Plain.{Name, Formula, Atom, ProgramRule}
+use Rattle.mcs_system.specs.Logic.{holds, holds_all, true_names}
+use Rattle.mcs_trace.specs.Clauses.{ClauseList}
 use Rattle.mcs_trace.specs.Traces.{Inference, IsAcceptedTrace}
 use Rattle.mcs_cnf.specs.ClauseLists.{clause_list}
 use Rattle.mcs_cnf.specs.Entailments.{IsModelAt}
-use Rattle.mcs_cnf.proofs.EntailmentLemmas.{none_hold}
-use Rattle.mcs_evidence.specs.Programs.{rule_formula, beside_formula, other_formula, smaller_formulas, rest_formulas, model_shown_of, AreOverRules, AreAtomsOf, IsInRange, IsAcceptedModel}
+use Rattle.mcs_evidence.specs.Programs.{rule_formula, beside_formula, other_formula, smaller_formulas, rest_formulas, model_shown_of, AreAtomsOf, IsInRange, IsAcceptedModel}
 use Rattle.mcs_evidence.specs.Pushing.{AreNamesOf}
-use Rattle.mcs_evidence.proofs.Models.{smaller-over, answer_set_from_model, shows-below, own_state, view_among, smaller_places, beside_excludes}
+use Rattle.mcs_evidence.proofs.Models.{shows-below, own_state, smaller_places, beside_excludes}
 use Rattle.mcs_program.specs.Clauses.{AreMeantBy, AddsFormula}
 use Rattle.mcs_program.specs.declared.search.Search.{Search}
-use Rattle.mcs_program.specs.Searches.{IsKnown, IsSearch, IsExcluded, IsListed, count_below, sets_left, IsExhausted}
+use Rattle.mcs_program.specs.Searches.{IsKnown, IsSearch, IsExcluded, IsListed, count_below, sets_left}
 use Rattle.mcs_program.proofs.ClauseLemmas.{last_too, meant_same}
 
 -- ---- names as beliefs
@@ -36,11 +34,16 @@ atoms_of_names names [] all = tt
 atoms_of_names names (n ∷ ns) all = ((n, refl, all.0), atoms_of_names names ns all.1)
 
 -- ---- one formula more
+-- of formulas to begin with, one of each set, and that the view is none of those found
+pub sides_value : (base : List Formula) (side : ℕ → Formula) (a : List Name) (beliefs : List Formula) (sets views : List ℕ)
+    → holds_all a (base ++ (map side sets ++ map (other_formula beliefs) views)) ≡ (holds_all a base && (holds_all a (map side sets) && holds_all a (map (other_formula beliefs) views)))
+sides_value base side a beliefs sets views =
+    list_all-append (holds a) base (map side sets ++ map (other_formula beliefs) views)
+    ∙ ap (λ (b : Bool). holds_all a base && b) (list_all-append (holds a) (map side sets) (map (other_formula beliefs) views))
+
 pub rest_value : (a names : List Name) (rules : List ProgramRule) (beliefs : List Formula) (smaller views : List ℕ)
     → holds_all a (rest_formulas names rules beliefs smaller views) ≡ (holds_all a (map rule_formula rules) && (holds_all a (map (beside_formula names rules) smaller) && holds_all a (map (other_formula beliefs) views)))
-rest_value a names rules beliefs smaller views =
-    list_all-append (holds a) (map rule_formula rules) (map (beside_formula names rules) smaller ++ map (other_formula beliefs) views)
-    ∙ ap (λ (b : Bool). holds_all a (map rule_formula rules) && b) (list_all-append (holds a) (map (beside_formula names rules) smaller) (map (other_formula beliefs) views))
+rest_value a names rules beliefs smaller views = sides_value (map rule_formula rules) (beside_formula names rules) a beliefs smaller views
 
 pub map_placed : {A B : Type 0} (f : A → B) (xs : List A) (k : ℕ) (x : A) → map f (insert xs k x) ≡ insert (map f xs) k (f x)
 map_placed f [] zero x = refl
@@ -51,13 +54,13 @@ map_placed f (y ∷ xs) (suc k) x = ap (λ zs. f y ∷ zs) (map_placed f xs k x)
 mapped_inside : {A : Type 0} (a : List Name) (f : A → Formula) (xs ys : List A) (x : A) → holds_all a (map f (xs ++ x ∷ ys)) ≡ (holds_all a (map f (xs ++ ys)) && holds a (f x))
 mapped_inside a f xs ys x = ap (holds_all a) (map-append f xs (x ∷ ys)) ∙ list_all-insert (holds a) (map f xs) (map f ys) (f x) ∙ ap (λ fs. holds_all a fs && holds a (f x)) (sym (map-append f xs ys))
 
-pub smaller_more : (a names : List Name) (rules : List ProgramRule) (beliefs : List Formula) (smaller views : List ℕ) (less : ℕ)
-    → holds_all a (rest_formulas names rules beliefs (smaller ++ less ∷ []) views) ≡ (holds_all a (rest_formulas names rules beliefs smaller views) && holds a (beside_formula names rules less))
-smaller_more a names rules beliefs smaller views less =
-    rest_value a names rules beliefs (smaller ++ less ∷ []) views
-    ∙ ap (λ b. holds_all a (map rule_formula rules) && (b && holds_all a (map (other_formula beliefs) views))) (mapped_inside a (beside_formula names rules) smaller [] less ∙ ap (λ xs. holds_all a (map (beside_formula names rules) xs) && holds a (beside_formula names rules less)) (append-nil smaller))
-    ∙ move (holds_all a (map rule_formula rules)) (holds_all a (map (beside_formula names rules) smaller)) (holds_all a (map (other_formula beliefs) views)) (holds a (beside_formula names rules less))
-    ∙ ap (λ b. b && holds a (beside_formula names rules less)) (sym (rest_value a names rules beliefs smaller views))
+pub sides_more : (base : List Formula) (side : ℕ → Formula) (a : List Name) (beliefs : List Formula) (sets views : List ℕ) (set : ℕ)
+    → holds_all a (base ++ (map side (sets ++ set ∷ []) ++ map (other_formula beliefs) views)) ≡ (holds_all a (base ++ (map side sets ++ map (other_formula beliefs) views)) && holds a (side set))
+sides_more base side a beliefs sets views set =
+    sides_value base side a beliefs (sets ++ set ∷ []) views
+    ∙ ap (λ b. holds_all a base && (b && holds_all a (map (other_formula beliefs) views))) (mapped_inside a side sets [] set ∙ ap (λ xs. holds_all a (map side xs) && holds a (side set)) (append-nil sets))
+    ∙ move (holds_all a base) (holds_all a (map side sets)) (holds_all a (map (other_formula beliefs) views)) (holds a (side set))
+    ∙ ap (λ b. b && holds a (side set)) (sym (sides_value base side a beliefs sets views))
   where
     move : (r b o x : Bool) → (r && ((b && x) && o)) ≡ ((r && (b && o)) && x)
     move false b o x = refl
@@ -67,19 +70,33 @@ smaller_more a names rules beliefs smaller views less =
     move true true false true = refl
     move true true false false = refl
 
-pub views_more : (a names : List Name) (rules : List ProgramRule) (beliefs : List Formula) (smaller views : List ℕ) (place view : ℕ)
-    → holds_all a (rest_formulas names rules beliefs smaller (insert views place view)) ≡ (holds_all a (rest_formulas names rules beliefs smaller views) && holds a (other_formula beliefs view))
-views_more a names rules beliefs smaller views place view =
-    rest_value a names rules beliefs smaller (insert views place view)
-    ∙ ap (λ b. holds_all a (map rule_formula rules) && (holds_all a (map (beside_formula names rules) smaller) && b))
+pub smaller_more : (a names : List Name) (rules : List ProgramRule) (beliefs : List Formula) (smaller views : List ℕ) (less : ℕ)
+    → holds_all a (rest_formulas names rules beliefs (smaller ++ less ∷ []) views) ≡ (holds_all a (rest_formulas names rules beliefs smaller views) && holds a (beside_formula names rules less))
+smaller_more a names rules beliefs smaller views less = sides_more (map rule_formula rules) (beside_formula names rules) a beliefs smaller views less
+
+pub others_more : (base : List Formula) (side : ℕ → Formula) (a : List Name) (beliefs : List Formula) (sets views : List ℕ) (place view : ℕ)
+    → holds_all a (base ++ (map side sets ++ map (other_formula beliefs) (insert views place view))) ≡ (holds_all a (base ++ (map side sets ++ map (other_formula beliefs) views)) && holds a (other_formula beliefs view))
+others_more base side a beliefs sets views place view =
+    sides_value base side a beliefs sets (insert views place view)
+    ∙ ap (λ b. holds_all a base && (holds_all a (map side sets) && b))
     (mapped_inside a (other_formula beliefs) (take place views) (drop place views) view ∙ ap (λ xs. holds_all a (map (other_formula beliefs) xs) && holds a (other_formula beliefs view)) (take-append-drop place views))
-    ∙ move (holds_all a (map rule_formula rules)) (holds_all a (map (beside_formula names rules) smaller)) (holds_all a (map (other_formula beliefs) views)) (holds a (other_formula beliefs view))
-    ∙ ap (λ b. b && holds a (other_formula beliefs view)) (sym (rest_value a names rules beliefs smaller views))
+    ∙ move (holds_all a base) (holds_all a (map side sets)) (holds_all a (map (other_formula beliefs) views)) (holds a (other_formula beliefs view))
+    ∙ ap (λ b. b && holds a (other_formula beliefs view)) (sym (sides_value base side a beliefs sets views))
   where
     move : (r b o x : Bool) → (r && (b && (o && x))) ≡ ((r && (b && o)) && x)
     move false b o x = refl
     move true false o x = refl
     move true true o x = refl
+
+pub views_more : (a names : List Name) (rules : List ProgramRule) (beliefs : List Formula) (smaller views : List ℕ) (place view : ℕ)
+    → holds_all a (rest_formulas names rules beliefs smaller (insert views place view)) ≡ (holds_all a (rest_formulas names rules beliefs smaller views) && holds a (other_formula beliefs view))
+views_more a names rules beliefs smaller views place view = others_more (map rule_formula rules) (beside_formula names rules) a beliefs smaller views place view
+
+-- a view that no formula of those found allows is a new one
+pub other_view : (a : List Name) (beliefs : List Formula) (view : ℕ) (views : List ℕ) → holds_all a (map (other_formula beliefs) views) ≡ true → holds a (other_formula beliefs view) ≡ false → ¬ IsAmong view views
+other_view a beliefs view [] all own h = absurd h
+other_view a beliefs view (x ∷ xs) all own (inl same) = true≢false (sym (ap (λ v. holds a (other_formula beliefs v)) same ∙ (and_parts _ _ all).0) ∙ own)
+other_view a beliefs view (x ∷ xs) all own (inr h) = other_view a beliefs view xs (and_parts _ _ all).1 own h
 
 -- ---- the measure
 pub fewer : (n m : ℕ) (p q : ℕ → Bool) → ((s : ℕ) → q s ≡ true → p s ≡ true) → m < n → p m ≡ true → q m ≡ false → count_below n q < count_below n p
@@ -111,6 +128,23 @@ fewer (suc n) m p q within less is not_so = elim (cases_lt m n) [
     here true true e e' low = absurd (true≢false e')
     here false v e e' low = absurd (true≢false (sym e))
 
+-- ---- from formulas to formulas
+-- the clauses mean a formula more
+pub meant_more : (names : List Name) (fs gs : List Formula) (f : Formula) (old new : ClauseList) → AddsFormula names f old new → ((a : List Name) → holds_all a gs ≡ (holds_all a fs && holds a f)) → AreMeantBy names fs old → AreMeantBy names gs new
+meant_more names fs gs f old new adds narrows known = meant_same names (fs ++ f ∷ []) gs new (λ a. last_too a fs f ∙ sym (narrows a)) (adds fs known)
+
+-- one model is left less
+pub models_less : (names : List Name) (fs gs : List Formula) (f : Formula) (model : ℕ) → ((a : List Name) → holds_all a gs ≡ (holds_all a fs && holds a f)) → IsModelAt names fs model → holds (true_names 0 names model) f ≡ false
+    → count_below (2 ^ length names) (λ s. holds_all (true_names 0 names s) gs) < count_below (2 ^ length names) (λ s. holds_all (true_names 0 names s) fs)
+models_less names fs gs f model narrows is not_so =
+    fewer (2 ^ length names) model (λ s. holds_all (true_names 0 names s) fs) (λ s. holds_all (true_names 0 names s) gs)
+    (λ s h. (and_parts _ _ (sym (narrows (true_names 0 names s)) ∙ h)).0) (below_from_members (length names) model is.in_range) is.formulas
+    (narrows (true_names 0 names model) ∙ ap (λ b. holds_all (true_names 0 names model) fs && b) not_so ∙ none (holds_all (true_names 0 names model) fs))
+  where
+    none : (b : Bool) → (b && false) ≡ false
+    none true = refl
+    none false = refl
+
 -- ---- from search to search
 module _ (names : List Name) (rules : List ProgramRule) (beliefs : List Formula) where
   abbrev rest : Search → List Formula
@@ -121,21 +155,11 @@ module _ (names : List Name) (rules : List ProgramRule) (beliefs : List Formula)
   Narrows old new f = (a : List Name) → holds_all a (rest_formulas names rules beliefs new.smaller.items new.views.items) ≡ (holds_all a (rest_formulas names rules beliefs old.smaller.items old.views.items) && holds a f)
 
   pub known_more : (old new : Search) (f : Formula) → AddsFormula names f old.known new.known → Narrows old new f → IsKnown names rules beliefs old → IsKnown names rules beliefs new
-  known_more old new f adds narrows known =
-      meant_same names (rest old ++ f ∷ []) (rest new) new.known (λ a. last_too a (rest old) f ∙ sym (narrows a)) (adds (rest old) known)
+  known_more old new f adds narrows known = meant_more names (rest old) (rest new) f old.known new.known adds narrows known
 
   pub left_less : (old new : Search) (f : Formula) (model : ℕ) → Narrows old new f → IsModelAt names (rest_formulas names rules beliefs old.smaller.items old.views.items) model → holds (true_names 0 names model) f ≡ false
       → sets_left names rules beliefs new < sets_left names rules beliefs old
-  left_less old new f model narrows is not_so =
-      fewer (2 ^ length names) model
-      (λ s. holds_all (true_names 0 names s) (rest_formulas names rules beliefs old.smaller.items old.views.items))
-      (λ s. holds_all (true_names 0 names s) (rest_formulas names rules beliefs new.smaller.items new.views.items))
-      (λ s h. (and_parts _ _ (sym (narrows (true_names 0 names s)) ∙ h)).0) (below_from_members (length names) model is.in_range) is.formulas
-      (narrows (true_names 0 names model) ∙ ap (λ b. holds_all (true_names 0 names model) (rest_formulas names rules beliefs old.smaller.items old.views.items) && b) not_so ∙ none (holds_all (true_names 0 names model) (rest_formulas names rules beliefs old.smaller.items old.views.items)))
-    where
-      none : (b : Bool) → (b && false) ≡ false
-      none true = refl
-      none false = refl
+  left_less old new f model narrows is not_so = models_less names (rest old) (rest new) f model narrows is not_so
 
   pub begun : (s : Search) → AreMeantBy names (map rule_formula rules) s.known → s.smaller.items ≡ [] → s.views.items ≡ [] → s.models.items ≡ [] → IsSearch names rules beliefs s
   begun s known smaller views models = record {
@@ -207,12 +231,7 @@ module _ (names : List Name) (rules : List ProgramRule) (beliefs : List Formula)
     parts = and_parts _ _ (sym (rest_value (true_names 0 names model) names rules beliefs old.smaller.items old.views.items) ∙ is.formulas)
 
     new_view : ¬ IsAmong listed.placed.view old.views.items
-    new_view h = true≢false (sym (each old.views.items (and_parts _ _ parts.1).1 h) ∙ own)
-      where
-        each : (xs : List ℕ) → holds_all (true_names 0 names model) (map (other_formula beliefs) xs) ≡ true → IsAmong listed.placed.view xs → holds (true_names 0 names model) (other_formula beliefs listed.placed.view) ≡ true
-        each [] all h = absurd h
-        each (x ∷ xs) all (inl same) = ap (λ v. holds (true_names 0 names model) (other_formula beliefs v)) same ∙ (and_parts _ _ all).0
-        each (x ∷ xs) all (inr h) = each xs (and_parts _ _ all).1 h
+    new_view = other_view (true_names 0 names model) beliefs listed.placed.view old.views.items (and_parts _ _ parts.1).1 own
 
     pub listed_less : sets_left names rules beliefs new < sets_left names rules beliefs old
     listed_less = left_less names rules beliefs old new (other_formula beliefs listed.placed.view) model listed_narrows is own
@@ -233,22 +252,3 @@ pub views_low : (names : List Name) (rules : List ProgramRule) (beliefs : List F
 views_low names rules beliefs s found = all_from_among (λ state. (j : ℕ) → has state j ≡ true → j < length beliefs) s.views.items (λ state among.
     let (m, there, is) = zip_among (IsAcceptedModel names rules beliefs) s.views.items (map model_shown_of s.models.items) found.models state among in
     shows-below (true_names 0 names m.model) beliefs state is.shows)
-
--- ---- at the end
-pub all_found : (names : List Name) (rules : List ProgramRule) (beliefs : List Formula) (s : Search) → has_twins names ≡ false → AreOverRules names rules → AreAtomsOf names beliefs → IsSearch names rules beliefs s → IsExhausted names rules beliefs s
-    → IsListing (IsAcceptedView (Program rules) beliefs) StateBefore s.views.items
-all_found names rules beliefs s single over atoms found none = record { exactly = λ x. (to x, from x); ascending = found.ascending }
-  where
-    to : (x : ℕ) → IsAmong x s.views.items → IsAcceptedView (Program rules) beliefs x
-    to x among = let (m, there, is) = zip_among (IsAcceptedModel names rules beliefs) s.views.items (map model_shown_of s.models.items) found.models x among in record {
-      belief_set = Atoms (true_names 0 names m.model);
-      accepted = answer_set_from_model names rules m.model single is.shown.satisfies (none_hold names (smaller_formulas names rules m.model) m.minimal (smaller-over names rules m.model over) is.shown.minimal);
-      shown = is.shows;
-    }
-
-    from : (x : ℕ) → IsAcceptedView (Program rules) beliefs x → IsAmong x s.views.items
-    from x view = at view.belief_set view.accepted view.shown
-      where
-        at : (b : BeliefSet) → Accepts (Program rules) b → Shows b beliefs x → IsAmong x s.views.items
-        at (Theory e) none' shows = absurd none'
-        at (Atoms a) is shows = view_among names rules beliefs s.smaller.items s.views.items a x single atoms is shows (views_low names rules beliefs s found) (none a)

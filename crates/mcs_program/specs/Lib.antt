@@ -1,3 +1,4 @@
 pub mod Searches
 pub mod Clauses
 pub mod Placing
+pub mod Listings

@@ -3,10 +3,13 @@
 
 mod answer;
 mod atom_clauses;
+mod listing;
 mod outputs;
 mod placing;
+mod putting;
 mod search;
 mod small;
+mod tight;
 mod view;
 
 pub use outputs::{answer_sets, answer_sets_from, list_answer_sets};

@@ -15,6 +15,7 @@ ghost use Rattle.mcs_evidence.specs.Programs.{program_shown_of, rest_formulas, A
 ghost use Rattle.mcs_evidence.specs.Pushing.{AreNamesOf};
 ghost use Rattle.mcs_program.specs.Searches.{IsSearch, IsExhausted};
 
+use crate::listing::{Listing, list_all};
 use crate::search::{Search, find_all};
 use mcs_base::{Memory, Vars};
 use mcs_classical::{Satisfied, satisfy_from};
@@ -160,13 +161,12 @@ fn found(
     requires beliefs { AreNamesOf atoms.now (map (λ b. b.now) beliefs.now) }
     ensures { IfOk result (λ r. IsListing (IsAcceptedView (Program (map rule_of rules.now)) (map Atom (map (λ b. b.now) beliefs.now))) StateBefore r.items) }
 {
-    let Search {
+    let Listing {
         known,
-        smaller,
+        supported,
         views,
-        models,
-    } = find_all(alloc, atoms, rules, beliefs)?;
-    drop((known, smaller, models));
+    } = list_all(alloc, atoms, rules, beliefs)?;
+    drop((known, supported));
     Ok(views)
 }
 

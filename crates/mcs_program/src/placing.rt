@@ -31,7 +31,7 @@ pub struct Placing {
 }
 
 /// Whether each of the first places is in the second set.
-fn lies_within(places: Vars, others: Vars) -> bool
+pub(crate) fn lies_within(places: Vars, others: Vars) -> bool
     ensures { result ≡ lies_within places others }
 {
     places.common(others) == places

@@ -15,10 +15,11 @@ ghost use Rattle.mcs_program.specs.Searches.{IsFoundFor, IsSearch, IsExcluded, I
 ghost use Rattle.mcs_program.specs.Placing.{IsPlaceOf, IsPlacing};
 
 use crate::answer::find_model;
-use crate::atom_clauses::{add_to, clauses_of_rules, push_other};
+use crate::atom_clauses::{add_to, clauses_of_rules};
 use crate::placing::Placing;
+use crate::putting::put_view;
 use crate::small::{is_possible, made_small};
-use crate::view::{all_places, place_of, view_of};
+use crate::view::all_places;
 use mcs_base::{Memory, Vars};
 use mcs_classical::{Satisfied, satisfy_from};
 use mcs_evidence::{push_beside, smaller_clauses};
@@ -93,11 +94,15 @@ impl Search {
         requires ascending { IsAscending StateBefore self.old.views.items }
         ensures { IfOk result (λ place. IsPlaced atoms.now (map plain.Atom (map (λ b. b.now) beliefs.now)) model place self.old self.new) }
     {
-        let view = view_of(&placing.beliefs, model);
-        push_other(alloc, &mut self.known, atoms, beliefs, view)?;
-        let place = place_of(&self.views, view);
-        self.views.insert(place, view)?;
-        Ok(place)
+        put_view(
+            alloc,
+            &mut self.known,
+            &mut self.views,
+            atoms,
+            beliefs,
+            placing,
+            model,
+        )
     }
 
     /// Lists the model with the trace that shows that it is an answer set.

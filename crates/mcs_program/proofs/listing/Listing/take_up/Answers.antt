@@ -1,0 +1,70 @@
+use Rattle.std.proofs.Common.{map, refl, subst, Some, None}
+use Rattle.std.proofs.lemmas.Result.{IfOk-weaker}
+use Rattle.mcs_system.specs.Plain.{Atom}
+use Rattle.mcs_system.specs.Seen.{rule_of}
+use Rattle.mcs_system.specs.Logic.{true_names}
+use Rattle.mcs_evidence.proofs.Models.{true_names-known}
+use Rattle.mcs_program.specs.declared.listing.Listing.{Listing}
+use Rattle.mcs_program.specs.Listings.{IsUnfounded}
+use Rattle.mcs_program.proofs.SearchLemmas.{atoms_of_names}
+use Rattle.mcs_program.proofs.ListingLemmas.{first_parts, left_parts, set_listed, set_less, view_listed, view_less}
+use Rattle.mcs_program.proofs.listing.Listing.take_up.Goals as goal
+
+pub unfounded_in-requires-clause-model : goal.unfounded_in-requires-clause-model
+unfounded_in-requires-clause-model c =
+    let names = c.args.atoms.now in
+    let rules = map rule_of c.args.rules.now in
+    let a = true_names 0 names c.args.model in
+    record {
+      in_range = c.requires.model.in_range;
+      formulas = (first_parts a names rules (left_parts a names rules (map Atom (map (λ b. b.now) c.args.beliefs.now)) c.args.self.now.supported.items c.args.self.now.views.items c.requires.model.formulas).0).0;
+    }
+
+pub unfounded_in-requires-clause-own : goal.unfounded_in-requires-clause-own
+unfounded_in-requires-clause-own c = λ n here.
+    let names = c.args.atoms.now in
+    let rules = map rule_of c.args.rules.now in
+    let a = true_names 0 names c.args.model in
+    (first_parts a names rules (left_parts a names rules (map Atom (map (λ b. b.now) c.args.beliefs.now)) c.args.self.now.supported.items c.args.self.now.views.items c.requires.model.formulas).0).1 n (true_names-known n 0 names c.args.model here)
+
+pub support-requires-clause-room : goal.support-requires-clause-room
+support-requires-clause-room c = c.requires.listed.known.room
+
+pub put_view-requires-clause-room : goal.put_view-requires-clause-room
+put_view-requires-clause-room c = c.requires.listed.known.room
+
+pub put_view-requires-clause-placed : goal.put_view-requires-clause-placed
+put_view-requires-clause-placed c = c.requires.placed.placed_beliefs
+
+pub put_view-requires-clause-ascending : goal.put_view-requires-clause-ascending
+put_view-requires-clause-ascending c = c.requires.listed.ascending
+
+pub returns-in-Some-clause-listed : goal.returns-in-Some-clause-listed
+returns-in-Some-clause-listed c =
+    IfOk-weaker c.support.result _ _ (λ _ e. set_listed c.args.atoms.now (map rule_of c.args.rules.now) (map Atom (map (λ b. b.now) c.args.beliefs.now)) c.args.self.now c.support.new.self c.in-Some.set e c.requires.listed) c.support.ensures
+
+pub returns-in-Some-clause-less : goal.returns-in-Some-clause-less
+returns-in-Some-clause-less c =
+    let names = c.args.atoms.now in
+    let rules = map rule_of c.args.rules.now in
+    let found : IsUnfounded names rules c.args.model (Some c.in-Some.set) = subst (IsUnfounded names rules c.args.model) c.in-Some.is c.in_ok-set.ensures in
+    IfOk-weaker c.support.result _ _ (λ _ e. set_less names rules (map Atom (map (λ b. b.now) c.args.beliefs.now)) c.args.self.now c.support.new.self c.in-Some.set e c.args.model c.requires.model found) c.support.ensures
+
+pub returns-in_ok-put_view-in-None-clause-listed : goal.returns-in_ok-put_view-in-None-clause-listed
+returns-in_ok-put_view-in-None-clause-listed c =
+    let names = c.args.atoms.now in
+    let rules = map rule_of c.args.rules.now in
+    let ns = map (λ b. b.now) c.args.beliefs.now in
+    let old : Listing = c.args.self.now in
+    let new : Listing = record { known = c.put_view.new.known; supported = old.supported; views = c.put_view.new.views } in
+    let found : IsUnfounded names rules c.args.model None = subst (IsUnfounded names rules c.args.model) c.in-None.is c.in_ok-set.ensures in
+    view_listed names rules (map Atom ns) old new c.args.model c.in_ok-put_view-in-None.field-0 c.in_ok-put_view-in-None.ensures refl (atoms_of_names names ns c.requires.beliefs) c.requires.model found c.requires.listed
+
+pub returns-in_ok-put_view-in-None-clause-less : goal.returns-in_ok-put_view-in-None-clause-less
+returns-in_ok-put_view-in-None-clause-less c =
+    let names = c.args.atoms.now in
+    let rules = map rule_of c.args.rules.now in
+    let ns = map (λ b. b.now) c.args.beliefs.now in
+    let old : Listing = c.args.self.now in
+    let new : Listing = record { known = c.put_view.new.known; supported = old.supported; views = c.put_view.new.views } in
+    view_less names rules (map Atom ns) old new c.args.model c.in_ok-put_view-in-None.field-0 c.in_ok-put_view-in-None.ensures refl (atoms_of_names names ns c.requires.beliefs) c.requires.model

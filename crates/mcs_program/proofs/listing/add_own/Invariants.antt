@@ -1,0 +1,9 @@
+use Rattle.std.proofs.Common.{[], ◌∷◌, ◌++◌, map, take}
+use Rattle.mcs_system.specs.Seen.{rule_of}
+use Rattle.mcs_evidence.specs.Programs.{rule_formula}
+use Rattle.mcs_evidence.specs.Supports.{support_formula}
+use Rattle.mcs_program.specs.Clauses.{AreMeantBy}
+use Rattle.mcs_program.proofs.listing.add_own.Given as goal
+
+abbrev pub invariant-loop-atom : goal.invariant-loop-atom
+invariant-loop-atom l = AreMeantBy l.atoms (map rule_formula (map rule_of l.rules) ++ map (λ n. support_formula (map rule_of l.rules) (n ∷ [])) (take l.atom-index l.atoms)) l.known

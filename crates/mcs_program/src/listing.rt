@@ -1,0 +1,265 @@
+//! The search for answer sets that are listed and not shown. Sets of atoms without support from outside lead it on.
+
+ghost use Rattle.std.specs.Prelude.{◌≡◌, ◌<◌, ◌≤◌, ◌++◌, ℕ, List, [], ◌∷◌, true, false, length, map, IfOk, IsTrue};
+ghost use Rattle.mcs_system.specs.Faults.{has_twins};
+ghost use Rattle.mcs_system.specs.Logic.{is_in, holds, holds_all, true_names};
+ghost use Rattle.mcs_system.specs.Plain as plain;
+ghost use Rattle.mcs_system.specs.Seen.{rule_of};
+ghost use Rattle.mcs_cnf.specs.Entailments.{IsModelAt};
+ghost use Rattle.mcs_evidence.specs.Programs.{rule_formula, AreOverRules};
+ghost use Rattle.mcs_evidence.specs.Pushing.{AreNamesOf};
+ghost use Rattle.mcs_evidence.specs.Supports.{support_formula, IsBased};
+ghost use Rattle.mcs_program.specs.Clauses.{AddsFormula, AreMeantBy};
+ghost use Rattle.mcs_program.specs.Listings.{first_formulas, left_of, models_left, IsListed, IsUnfounded, IsSupported};
+ghost use Rattle.mcs_program.specs.Placing.{IsPlacing};
+
+use crate::answer::find_model;
+use crate::atom_clauses::{add_to, clauses_of_rules};
+use crate::placing::Placing;
+use crate::putting::put_view;
+use crate::tight::is_tight;
+use mcs_base::{Memory, Vars};
+use mcs_classical::{Satisfied, satisfy_from};
+use mcs_evidence::{names_at, push_support, smaller_clauses};
+use mcs_sat::ClauseBase;
+use mcs_system::{Name, ProgRule};
+use mcs_trace::Cnf;
+use std::alloc::Global;
+use std::slice;
+
+/// The clauses of what is known of the answer sets that are not listed yet; the sets of places of which it is known that
+/// they have support from outside if one of their atoms is true, beside those of one atom; and the views of those that were found, in the order of
+/// states.
+#[derive(Drop)]
+pub struct Listing {
+    pub known: ClauseBase,
+    pub supported: Vec<Vars>,
+    pub views: Vec<Vars>,
+}
+
+/// Adds that the set of atoms has support from outside if one of them is true.
+fn add_support(
+    alloc: Global,
+    known: &mut ClauseBase,
+    atoms: &[Name],
+    rules: &[ProgRule],
+    set: &[Name],
+) -> Result<(), Memory>
+    requires rules { AreOverRules atoms.now (map rule_of rules.now) }
+    requires over { AreNamesOf atoms.now set.now }
+    requires room { length atoms.now ≤ known.old.vars }
+    ensures { IfOk result (λ _. AddsFormula atoms.now (support_formula (map rule_of rules.now) set.now) known.old known.new) }
+{
+    let mut more = Cnf::new(alloc, known.vars());
+    push_support(alloc, &mut more, atoms, rules, set)?;
+    add_to(known, more)
+}
+
+/// Adds that each atom has support of its own.
+fn add_own(
+    alloc: Global,
+    known: &mut ClauseBase,
+    atoms: &[Name],
+    rules: &[ProgRule],
+) -> Result<(), Memory>
+    requires rules { AreOverRules atoms.now (map rule_of rules.now) }
+    requires known { AreMeantBy atoms.now (map rule_formula (map rule_of rules.now)) known.old }
+    ensures { IfOk result (λ _. AreMeantBy atoms.now (first_formulas atoms.now (map rule_of rules.now)) known.new) }
+{
+    for atom in atoms {
+        add_support(alloc, known, atoms, rules, slice::from_ref(atom))?;
+    }
+    Ok(())
+}
+
+/// A set of places that has no support from outside in the model, which makes an atom of it true; `None` where there is
+/// none, so that the model is an answer set. Where no positive body leads on without end, none is searched for, since each
+/// atom has support of its own.
+fn unfounded_in(
+    alloc: Global,
+    atoms: &[Name],
+    rules: &[ProgRule],
+    tight: bool,
+    model: Vars,
+) -> Result<Option<Vars>, Memory>
+    requires few { length atoms.now ≤ 64 }
+    requires different { has_twins atoms.now ≡ false }
+    requires rules { AreOverRules atoms.now (map rule_of rules.now) }
+    requires tight { IsTrue tight → (n : plain.Name) → IsTrue (is_in n atoms.now) → IsBased (map rule_of rules.now) n }
+    requires model { IsModelAt atoms.now (map rule_formula (map rule_of rules.now)) model }
+    requires own { (n : plain.Name) → IsTrue (is_in n (true_names 0 atoms.now model)) → IsTrue (holds (true_names 0 atoms.now model) (support_formula (map rule_of rules.now) (n ∷ []))) }
+    ensures { IfOk result (IsUnfounded atoms.now (map rule_of rules.now) model) }
+{
+    if tight {
+        return Ok(None);
+    }
+    let smaller = smaller_clauses(alloc, atoms, rules, model)?;
+    let found = satisfy_from(alloc, &smaller, atoms);
+    drop(smaller);
+    match found? {
+        Satisfied::Model(less) => Ok(Some(model.minus(less))),
+        Satisfied::Refuted(_minimal) => Ok(None),
+    }
+}
+
+impl Listing {
+    /// What is known at first: the rules, and that each atom has support of its own.
+    fn new(alloc: Global, atoms: &[Name], rules: &[ProgRule]) -> Result<Listing, Memory>
+        requires few { length atoms.now ≤ 64 }
+        requires rules { AreOverRules atoms.now (map rule_of rules.now) }
+        ensures { IfOk result (λ s. (beliefs : List plain.Formula) → IsListed atoms.now (map rule_of rules.now) beliefs s) }
+    {
+        let cnf = clauses_of_rules(alloc, atoms, rules)?;
+        let mut known = ClauseBase::of(alloc, &cnf)?;
+        add_own(alloc, &mut known, atoms, rules)?;
+        Ok(Listing {
+            known,
+            supported: Vec::new(alloc),
+            views: Vec::new(alloc),
+        })
+    }
+
+    /// Adds that the set of the atoms at these places has support from outside if one of them is true.
+    fn support(
+        &mut self,
+        alloc: Global,
+        atoms: &[Name],
+        rules: &[ProgRule],
+        set: Vars,
+    ) -> Result<(), Memory>
+        requires few { length atoms.now ≤ 64 }
+        requires rules { AreOverRules atoms.now (map rule_of rules.now) }
+        requires room { length atoms.now ≤ self.old.known.vars }
+        ensures { IfOk result (λ _. IsSupported atoms.now (map rule_of rules.now) set self.old self.new) }
+    {
+        let names = names_at(alloc, atoms, set)?;
+        add_support(alloc, &mut self.known, atoms, rules, &names)?;
+        self.supported.push(set)?;
+        Ok(())
+    }
+
+    /// Takes up a model of what is known: it is an answer set, or a set without support leads on.
+    fn take_up(
+        &mut self,
+        alloc: Global,
+        atoms: &[Name],
+        rules: &[ProgRule],
+        beliefs: &[&Name],
+        placing: &Placing,
+        tight: bool,
+        model: Vars,
+    ) -> Result<(), Memory>
+        requires few { length atoms.now ≤ 64 }
+        requires few_beliefs { length beliefs.now ≤ 64 }
+        requires different { has_twins atoms.now ≡ false }
+        requires rules { AreOverRules atoms.now (map rule_of rules.now) }
+        requires beliefs { AreNamesOf atoms.now (map (λ b. b.now) beliefs.now) }
+        requires placed { IsPlacing atoms.now (map rule_of rules.now) (map (λ b. b.now) beliefs.now) placing.now }
+        requires tight { IsTrue tight → (n : plain.Name) → IsTrue (is_in n atoms.now) → IsBased (map rule_of rules.now) n }
+        requires listed { IsListed atoms.now (map rule_of rules.now) (map plain.Atom (map (λ b. b.now) beliefs.now)) self.old }
+        requires model { IsModelAt atoms.now (left_of atoms.now (map rule_of rules.now) (map plain.Atom (map (λ b. b.now) beliefs.now)) self.old) model }
+        ensures listed { IfOk result (λ _. IsListed atoms.now (map rule_of rules.now) (map plain.Atom (map (λ b. b.now) beliefs.now)) self.new) }
+        ensures less { IfOk result (λ _. models_left atoms.now (left_of atoms.now (map rule_of rules.now) (map plain.Atom (map (λ b. b.now) beliefs.now)) self.new)
+            < models_left atoms.now (left_of atoms.now (map rule_of rules.now) (map plain.Atom (map (λ b. b.now) beliefs.now)) self.old)) }
+    {
+        match unfounded_in(alloc, atoms, rules, tight, model)? {
+            Some(set) => self.support(alloc, atoms, rules, set),
+            None => {
+                put_view(
+                    alloc,
+                    &mut self.known,
+                    &mut self.views,
+                    atoms,
+                    beliefs,
+                    placing,
+                    model,
+                )?;
+                Ok(())
+            }
+        }
+    }
+
+    /// Looks for one more model of what is known, and takes it up; whether there was one.
+    fn step(
+        &mut self,
+        alloc: Global,
+        atoms: &[Name],
+        rules: &[ProgRule],
+        beliefs: &[&Name],
+        placing: &Placing,
+        tight: bool,
+    ) -> Result<bool, Memory>
+        requires few { length atoms.now ≤ 64 }
+        requires few_beliefs { length beliefs.now ≤ 64 }
+        requires different { has_twins atoms.now ≡ false }
+        requires rules { AreOverRules atoms.now (map rule_of rules.now) }
+        requires beliefs { AreNamesOf atoms.now (map (λ b. b.now) beliefs.now) }
+        requires placed { IsPlacing atoms.now (map rule_of rules.now) (map (λ b. b.now) beliefs.now) placing.now }
+        requires tight { IsTrue tight → (n : plain.Name) → IsTrue (is_in n atoms.now) → IsBased (map rule_of rules.now) n }
+        requires listed { IsListed atoms.now (map rule_of rules.now) (map plain.Atom (map (λ b. b.now) beliefs.now)) self.old }
+        ensures listed { IfOk result (λ _. IsListed atoms.now (map rule_of rules.now) (map plain.Atom (map (λ b. b.now) beliefs.now)) self.new) }
+        ensures goes { IfOk result (λ goes. IsTrue goes → models_left atoms.now (left_of atoms.now (map rule_of rules.now) (map plain.Atom (map (λ b. b.now) beliefs.now)) self.new)
+            < models_left atoms.now (left_of atoms.now (map rule_of rules.now) (map plain.Atom (map (λ b. b.now) beliefs.now)) self.old)) }
+        ensures ends { IfOk result (λ goes. goes ≡ false → (a : List plain.Name) → ¬ IsTrue (holds_all a (left_of atoms.now (map rule_of rules.now) (map plain.Atom (map (λ b. b.now) beliefs.now)) self.new))) }
+    {
+        match find_model(&mut self.known, atoms)? {
+            Some(model) => {
+                self.take_up(alloc, atoms, rules, beliefs, placing, tight, model)?;
+                Ok(true)
+            }
+            None => Ok(false),
+        }
+    }
+}
+
+/// Takes steps until all answer sets are listed.
+fn go_on(
+    alloc: Global,
+    atoms: &[Name],
+    rules: &[ProgRule],
+    beliefs: &[&Name],
+    placing: &Placing,
+) -> Result<Listing, Memory>
+    requires few { length atoms.now ≤ 64 }
+    requires few_beliefs { length beliefs.now ≤ 64 }
+    requires different { has_twins atoms.now ≡ false }
+    requires rules { AreOverRules atoms.now (map rule_of rules.now) }
+    requires beliefs { AreNamesOf atoms.now (map (λ b. b.now) beliefs.now) }
+    requires placed { IsPlacing atoms.now (map rule_of rules.now) (map (λ b. b.now) beliefs.now) placing.now }
+    ensures listed { IfOk result (IsListed atoms.now (map rule_of rules.now) (map plain.Atom (map (λ b. b.now) beliefs.now))) }
+    ensures all { IfOk result (λ s. (a : List plain.Name) → ¬ IsTrue (holds_all a (left_of atoms.now (map rule_of rules.now) (map plain.Atom (map (λ b. b.now) beliefs.now)) s))) }
+{
+    let tight = is_tight(placing, atoms.len());
+    let mut listing = Listing::new(alloc, atoms, rules)?;
+    loop {
+        match listing.step(alloc, atoms, rules, beliefs, placing, tight) {
+            Ok(true) => {}
+            Ok(false) => return Ok(listing),
+            Err(want) => {
+                drop(listing);
+                return Err(want);
+            }
+        }
+    }
+}
+
+/// Lists the views of all answer sets.
+pub(crate) fn list_all(
+    alloc: Global,
+    atoms: &[Name],
+    rules: &[ProgRule],
+    beliefs: &[&Name],
+) -> Result<Listing, Memory>
+    requires few { length atoms.now ≤ 64 }
+    requires few_beliefs { length beliefs.now ≤ 64 }
+    requires different { has_twins atoms.now ≡ false }
+    requires rules { AreOverRules atoms.now (map rule_of rules.now) }
+    requires beliefs { AreNamesOf atoms.now (map (λ b. b.now) beliefs.now) }
+    ensures listed { IfOk result (IsListed atoms.now (map rule_of rules.now) (map plain.Atom (map (λ b. b.now) beliefs.now))) }
+    ensures all { IfOk result (λ s. (a : List plain.Name) → ¬ IsTrue (holds_all a (left_of atoms.now (map rule_of rules.now) (map plain.Atom (map (λ b. b.now) beliefs.now)) s))) }
+{
+    let placing = Placing::of(alloc, atoms, rules, beliefs)?;
+    let listing = go_on(alloc, atoms, rules, beliefs, &placing);
+    drop(placing);
+    listing
+}
