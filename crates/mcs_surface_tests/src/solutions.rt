@@ -78,7 +78,7 @@ fn systems_are_solved(rt: HostRuntime) {
 }
 
 /// A rule against its own context, whose listing has six lines.
-const ATTACK: &str = "context c1 program {}\nbridge r1: c1:a if not c1:a.\n";
+pub const ATTACK: &str = "context c1 program {}\nbridge r1: c1:a if not c1:a.\n";
 
 const ATTACK_LISTING: &str =
     "mcs 1: 1 contexts, 1 rules, 1 variables\ninconsistent\ndiagnosis 1: {-r1} state {} active {}\ndiagnosis 2: {+r1} state {c1:a} active {r1}\nexplanation 1: {-r1 by 1, +r1 by 2}\nend: 0 equilibria, 2 diagnoses, 1 explanations, need 2\n";
