@@ -22,6 +22,8 @@ mod numbered;
 #[cfg(test)]
 mod programs;
 #[cfg(test)]
+mod questions;
+#[cfg(test)]
 mod reports;
 #[cfg(test)]
 mod solvers;

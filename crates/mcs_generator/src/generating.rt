@@ -37,8 +37,8 @@ fn bridges(alloc: Global, number: u64) -> Result<Vec<Bridge>, Memory>
 /// The generated system of this number: `2 + number % 32` contexts in a row, programs, classical contexts and default
 /// theories in turn, each with a chain of `1 + number / 32 % 32` links from `x` on. Two rules go into each but the
 /// first: one says `x` where the context before it believes its last link, and one says `y` where it does not. The first
-/// context chooses between `x` and `y`. Where `number / 1024` is odd, the last context is a program that forbids both,
-/// so that the system is inconsistent; else it is consistent.
+/// context chooses between `x` and `y`. Where `number / 1024` is odd, the last context is a program that forbids both.
+/// This is meant to make the system inconsistent, and each other one is meant to be consistent; no clause says so.
 pub fn generate(alloc: Global, number: u64) -> Result<System, Memory>
     ensures { IfOk result (λ s. s ≡ generated_system number) }
 {

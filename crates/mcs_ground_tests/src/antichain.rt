@@ -26,3 +26,10 @@ fn keeps_the_minimal_ones(rt: HostRuntime) {
     ];
     assert!(rt; are_put_in(rt.alloc(), &sets, &[second, first]) == Ok(true));
 }
+
+#[test]
+fn a_smaller_set_takes_the_place_of_a_larger_one(rt: HostRuntime) {
+    let set = Marks::one(2);
+    let sets = [(set.with(0), true), (set, true), (set.with(4), false)];
+    assert!(rt; are_put_in(rt.alloc(), &sets, &[set]) == Ok(true));
+}

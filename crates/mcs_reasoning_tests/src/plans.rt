@@ -39,6 +39,10 @@ bridge r0: n0:true if n1:x. bridge r1: n1:true if n2:x. bridge r2: n2:true if n0
 bridge r3: n3:true if n4:x. bridge r4: n4:true if n5:x. bridge r5: n5:true if n3:x.
 bridge r6: n0:true if n3:x.";
 
+/// `p` is told if `a` is believed, and `q` if `b` is not, which the second context forbids both.
+pub(crate) const FORBIDDEN: &str = "context c1 program { a. } context c2 program { :- p. :- q. }
+bridge r1: c2:p if c1:a. bridge r2: c2:q if not c1:b.";
+
 /// A text, the order of its contexts, and for one of them what supplies it and what it guesses, as bits of a number.
 struct Order {
     text: &'static str,
@@ -48,7 +52,7 @@ struct Order {
     guessed: u64,
 }
 
-static ORDERS: [Order; 4] = [
+static ORDERS: [Order; 5] = [
     Order {
         text: LATER,
         order: &[1, 0],
@@ -76,6 +80,13 @@ static ORDERS: [Order; 4] = [
         context: 0,
         supplied: &[3],
         guessed: 0b10,
+    },
+    Order {
+        text: FORBIDDEN,
+        order: &[0, 1],
+        context: 1,
+        supplied: &[0],
+        guessed: 0b0,
     },
 ];
 

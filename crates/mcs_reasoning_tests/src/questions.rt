@@ -1,7 +1,7 @@
 //! What contexts are asked.
 
 use crate::contexts::system_of;
-use crate::plans::{ITSELF, plan_of};
+use crate::plans::{FORBIDDEN, ITSELF, plan_of};
 use mcs_base::{Active, Memory, Vars};
 use mcs_import::{Plan, asked, questions};
 use mcs_system::System;
@@ -51,10 +51,6 @@ fn asks_by_guesses(rt: HostRuntime) -> Result<(), Fail> {
     Ok(())
 }
 
-/// `p` is told if `a` is believed, and `q` if `b` is not, which the second context forbids both.
-const ONE_DIAGNOSIS: &str = "context c1 program { a. } context c2 program { :- p. :- q. }
-bridge r1: c2:p if c1:a. bridge r2: c2:q if not c1:b.";
-
 /// Whether these are what the second of two contexts is asked where the first may supply these.
 fn are_asked(
     alloc: Global,
@@ -81,7 +77,7 @@ static LEVELS: [(u32, &[u64]); 3] = [
 
 #[test]
 fn asks_by_level(rt: HostRuntime) -> Result<(), Fail> {
-    let system = system_of(rt.alloc(), ONE_DIAGNOSIS.as_bytes())?;
+    let system = system_of(rt.alloc(), FORBIDDEN.as_bytes())?;
     let supply = [Vars::one(0)];
     for (level, sets) in &LEVELS {
         assert!(rt; are_asked(rt.alloc(), &system, &supply, *level, sets) == Ok(true));

@@ -1,14 +1,14 @@
 //! Runs within a budget of questions.
 
 use crate::reports::TOLD;
-use crate::runs::{Run, SELF_ATTACK};
+use crate::runs::{Run, SELF_ATTACK, SELF_DENIAL};
 
 /// Two contexts of which each is asked twice.
 const CHOICE: &str =
     "context c1 program {} context c2 program {} bridge r1: c1:a if not c2:b. bridge r2: c2:b if not c1:a.";
 
 /// A budget below the need leaves what is listed before its level.
-const RUNS: [Run; 7] = [
+const RUNS: [Run; 8] = [
     Run {
         words: "equilibria f --budget 1",
         text: SELF_ATTACK,
@@ -49,6 +49,13 @@ const RUNS: [Run; 7] = [
         text: TOLD,
         status: 4,
         written: "mcs 1: 2 contexts, 1 rules, 1 variables\n",
+        noted: "mcs: unfinished at level 0, budget 1\n",
+    },
+    Run {
+        words: "solve f --budget 1",
+        text: SELF_DENIAL,
+        status: 4,
+        written: "mcs 1: 1 contexts, 1 rules, 1 variables\n",
         noted: "mcs: unfinished at level 0, budget 1\n",
     },
     // A system that is made has a need, too.

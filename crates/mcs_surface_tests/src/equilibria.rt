@@ -2,7 +2,7 @@
 
 use crate::runs::{JOB, Listed, SELF_ATTACK, SELF_SUPPORT, SELF_SUPPORT_LISTING};
 
-const LISTINGS: [Listed; 8] = [
+const LISTINGS: [Listed; 9] = [
     // A context without a model believes everything.
     Listed {
         text: "context c1 classical { p. ~p. }\ncontext c2 classical {}\nbridge r1: c2:x if c1:q.\n",
@@ -24,6 +24,11 @@ const LISTINGS: [Listed; 8] = [
     Listed {
         text: "",
         listing: "mcs 1: 0 contexts, 0 rules, 0 variables\nequilibrium 1: {} applicable {}\nconsistent\nend: 1 equilibria, need 0\n",
+    },
+    // A context that nothing reads.
+    Listed {
+        text: "context c1 classical { p. p -> q. }",
+        listing: "mcs 1: 1 contexts, 0 rules, 0 variables\nequilibrium 1: {} applicable {}\nconsistent\nend: 1 equilibria, need 1\n",
     },
     // Two rules of which each attacks the other: the state with the first variable comes first.
     Listed {

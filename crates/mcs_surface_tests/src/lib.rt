@@ -11,6 +11,8 @@ mod devices;
 #[cfg(test)]
 mod equilibria;
 #[cfg(test)]
+mod gates;
+#[cfg(test)]
 mod kinds;
 #[cfg(test)]
 mod made;

@@ -75,3 +75,16 @@ fn a_large_formula_is_refused(rt: HostRuntime) {
     let noted = "mcs: refused: F5 at 535: formula_size 512\n";
     assert!(rt; made_ends(rt.alloc(), &LARGE, (3, b"", noted)) == Ok(true));
 }
+
+/// Thirteen rules into one context, numbered with two digits.
+const MANY_RULES: [Rows; 3] = [
+    ("context c1 program {}", 0, 1),
+    ("\nbridge r0#: c1:a.", 1, 10),
+    ("\nbridge r#: c1:a.", 10, 14),
+];
+
+#[test]
+fn too_many_rules_into_one_context_are_refused(rt: HostRuntime) {
+    let noted = "mcs: refused: F5 at 250: rules_per_context 12\n";
+    assert!(rt; made_ends(rt.alloc(), &MANY_RULES, (3, b"", noted)) == Ok(true));
+}

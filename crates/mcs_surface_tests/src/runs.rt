@@ -2,7 +2,7 @@
 
 use crate::made::{Rows, text_of};
 use mcs_base::Memory;
-use mcs_ports::{IdleGate, MemoryShelf, MemorySink};
+use mcs_ports::{Gate, IdleGate, MemoryShelf, MemorySink};
 use mcs_top::run;
 use std::alloc::Global;
 
@@ -76,6 +76,20 @@ pub fn sink_of(alloc: Global, devices: Devices) -> Result<MemorySink, Memory> {
     MemorySink::new(alloc, fails, devices.most.max(1), ROOM)
 }
 
+/// What the words give over these files, with a gate before each question: the status by its number.
+pub fn status_with<G: Gate>(
+    alloc: Global,
+    words: &str,
+    files: &[(&str, &[u8])],
+    failing_call: u64,
+    sink: &mut MemorySink,
+    gate: &G,
+) -> Result<u8, Memory> {
+    let mut shelf = shelf_of(alloc, files, failing_call)?;
+    let words = words_of(alloc, words)?;
+    Ok(run(alloc, &words, &mut shelf, sink, gate).number())
+}
+
 /// What the words give over these files: the status by its number.
 pub fn status_of(
     alloc: Global,
@@ -84,9 +98,7 @@ pub fn status_of(
     failing_call: u64,
     sink: &mut MemorySink,
 ) -> Result<u8, Memory> {
-    let mut shelf = shelf_of(alloc, files, failing_call)?;
-    let words = words_of(alloc, words)?;
-    Ok(run(alloc, &words, &mut shelf, sink, &IdleGate).number())
+    status_with(alloc, words, files, failing_call, sink, &IdleGate)
 }
 
 /// How a run ends: the status, what is written, and what is noted.

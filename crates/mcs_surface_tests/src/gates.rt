@@ -1,0 +1,80 @@
+//! What a gate is told of the questions of a run.
+
+use crate::runs::{SOUND, sink_of, status_with};
+use mcs_base::Memory;
+use mcs_ports::Gate;
+use std::alloc::Global;
+use std::sync::atomic::{AtomicU64, Ordering};
+
+/// A gate that counts the questions to the first context, to the second, and to any other.
+#[derive(Drop)]
+struct Counts {
+    first: AtomicU64,
+    second: AtomicU64,
+    other: AtomicU64,
+}
+
+impl Counts {
+    /// No question yet.
+    fn new() -> Self {
+        Counts {
+            first: AtomicU64::new(0),
+            second: AtomicU64::new(0),
+            other: AtomicU64::new(0),
+        }
+    }
+
+    /// The three counts.
+    fn counted(&self) -> (u64, u64, u64) {
+        (
+            self.first.load(Ordering::SeqCst),
+            self.second.load(Ordering::SeqCst),
+            self.other.load(Ordering::SeqCst),
+        )
+    }
+}
+
+impl Gate for Counts {
+    fn before(&self, context: u32) {
+        let count = match context {
+            0 => &self.first,
+            1 => &self.second,
+            _ => &self.other,
+        };
+        count.fetch_add(1, Ordering::SeqCst);
+    }
+}
+
+/// The first context has one question. The second has one of level 0, two more of level 1 and one more of level 2.
+const FORBIDDEN: &str = "context c1 program { a. } context c2 program { :- p. :- q. }
+bridge r1: c2:p if c1:a. bridge r2: c2:q if not c1:b.";
+
+/// Whether the words over the system end with this status, and these are the questions that the gate was called before.
+fn is_called(
+    alloc: Global,
+    words: &str,
+    status: u8,
+    counted: (u64, u64, u64),
+) -> Result<bool, Memory> {
+    let mut sink = sink_of(alloc, SOUND)?;
+    let gate = Counts::new();
+    let files: [(&str, &[u8]); 1] = [("f", FORBIDDEN.as_bytes())];
+    let ended = status_with(alloc, words, &files, 0, &mut sink, &gate)?;
+    Ok(ended == status && gate.counted() == counted)
+}
+
+/// Words, the status with which they end, and the questions. Where the budget does not suffice for a context, nothing
+/// is asked of it at that level.
+const CALLS: [(&str, u8, (u64, u64, u64)); 4] = [
+    ("equilibria f", 0, (1, 1, 0)),
+    ("solve f", 0, (1, 4, 0)),
+    ("solve f --budget 1", 4, (1, 0, 0)),
+    ("solve f --budget 4", 4, (1, 3, 0)),
+];
+
+#[test]
+fn the_gate_is_called_once_before_each_question(rt: HostRuntime) {
+    for (words, status, counted) in &CALLS {
+        assert!(rt; is_called(rt.alloc(), words, *status, *counted) == Ok(true));
+    }
+}
