@@ -5,6 +5,7 @@ pub mod Choices
 pub mod Tiny
 pub mod Questions
 pub mod Transversals
+pub mod Free
 pub mod Gluing
 pub mod Classical
 pub mod Existence

@@ -15,6 +15,7 @@ use Rattle.mcs_system.specs.Levels.{IsLocalRow}
 use Rattle.mcs_system.proofs.MarkLemmas.{marks_known}
 use Rattle.mcs_laws.specs.Laws.{RowsHaveFewMarks, RowsKeepToSupplies}
 use Rattle.mcs_laws.specs.Examples.{p, p_of_0, empty_context, against_itself, one_reads_other}
+use Rattle.mcs_laws.proofs.Free.{all_allowed}
 use Rattle.mcs_laws.proofs.Need.{alone_first}
 use Rattle.mcs_laws.proofs.Tiny.{has-1, p_is_open, all_variables-against, variables_of-against, only_against, acts_and_may_not, rests_and_must_act}
 use Rattle.mcs_base.proofs.Ranges.{zero_or_one}
@@ -39,7 +40,7 @@ no_row state marks (order, is, row) = by (zero_or_one row.whole (rw all_variable
     marked w x e e' = rw (← e, ← e', row.marks_is) row.few
 
     part : (w x : ℕ) → row.whole ≡ w → row.rules ≡ x → IsAcceptedPart against_itself 0 x (common w 1)
-    part w x e e' = rw (← e, ← e', ← variables_of-against) row.accepted
+    part w x e e' = subst (λ (s : ℕ). IsAcceptedPart against_itself 0 x (common w s)) variables_of-against (rw (← e, ← e') row.accepted)
 
     by : IsAmong row.whole (1 ∷ 0 ∷ []) → IsAmong row.rules (1 ∷ 0 ∷ []) → ⊥
     by (inl w) (inr (inr none)) = absurd none
@@ -74,7 +75,7 @@ one_row = (
     supplies = λ j nothing. absurd nothing;
     state_is = refl;
     marks_is = refl;
-    allowed = marks_known against_itself 1 0;
+    allowed = rw (all_allowed against_itself ((refl, refl), tt)) (marks_known against_itself 1 0);
     few = let some = one_removed in omega arith;
   },
 )

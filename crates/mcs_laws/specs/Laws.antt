@@ -15,6 +15,7 @@ use Rattle.mcs_system.specs.Logic.{is_in, atoms, all_atoms, true_names, holds, h
 use Rattle.mcs_system.specs.Systems.{heads_into, Follows, IsConsistent, IsProjection, IsProjectedEquilibrium, IsAcceptedPart, acting_at, variables_of, all_variables, all_rules}
 use Rattle.mcs_laws.specs.Examples.{SameNames, self_support, against_itself, one_reads_other, told_paradox, p, q, a_or_b, a_unless_b, a_unless_a, a_if_a, b_if_a, name_a, name_b, birds, bird, flies, p_by_itself, p_by_default, p_or_q}
 use Rattle.mcs_base.specs.Minimal.{IsMinimal}
+use Rattle.mcs_laws.specs.Free.{IsUnbarred, IsFreeDiagnosis, IsFreeExplanation, IsFreeChoice, IsFreeQuestion, IsFreeRow}
 use Rattle.mcs_system.specs.Repairs.{all_marks, allowed_marks, IsDiagnosis, IsExplanation, IsChoice, choice_marks}
 use Rattle.mcs_base.specs.Listings.{IsListing}
 
@@ -134,9 +135,9 @@ abbrev pub ChoicesAskQuestions : Type 0
 ChoicesAskQuestions = (m : System) (order : List ℕ) (level σ x i : ℕ) → AllByRecursion (λ c. c < length m.contexts) order → IsChoice m σ x → size (choice_marks m σ x) ≤ level
     → IsQuestion m order level i (common x (rules_into m i))
 
--- rows that fit together, one of each context, are the parts of a choice
+-- rows that fit together, one of each context of a valid system, are the parts of a choice
 abbrev pub RowsMakeChoices : Type 0
-RowsMakeChoices = (m : System) (order : List ℕ) (level : ℕ) (rows : List (ℕ × ℕ)) → length rows ≡ length m.contexts
+RowsMakeChoices = (m : System) (order : List ℕ) (level : ℕ) (rows : List (ℕ × ℕ)) → IsValid m → length rows ≡ length m.contexts
     → ((i : ℕ) (p : ℕ × ℕ) → slice_get rows i ≡ Some p → IsRow m order level i p.0 p.1) → AgreeOnCommon m rows
     → (σ : ℕ) × (x : ℕ) × IsChoice m σ x × HasParts m σ x rows
 
@@ -153,6 +154,27 @@ MarksAreUnited = (m : System) (σ x k : ℕ) → IsValid m → Within x (all_rul
 -- and no mark is one at two contexts
 abbrev pub MarksAreApart : Type 0
 MarksAreApart = (m : System) (σ τ x y i j : ℕ) → Within x (rules_into m i) → Within y (rules_into m j) → ¬ (i ≡ j) → ¬ Meets (marks_at m i σ x) (marks_at m j τ y)
+
+-- ---- where no rule is barred
+-- in a system without kept and closed rules each mark of a rule is allowed
+abbrev pub AllMarksAreAllowed : Type 0
+AllMarksAreAllowed = (m : System) → IsUnbarred m → allowed_marks m ≡ all_marks m
+
+-- so its diagnoses, explanations, choices, questions and rows are those where each rule may be removed and forced
+abbrev pub FreeDiagnoses : Type 0
+FreeDiagnoses = (m : System) (pair : ℕ) → IsUnbarred m → IsDiagnosis m pair ↔ IsFreeDiagnosis m pair
+
+abbrev pub FreeExplanations : Type 0
+FreeExplanations = (m : System) (pair : ℕ) → IsUnbarred m → IsExplanation m pair ↔ IsFreeExplanation m pair
+
+abbrev pub FreeChoices : Type 0
+FreeChoices = (m : System) (σ x : ℕ) → IsUnbarred m → IsChoice m σ x ↔ IsFreeChoice m σ x
+
+abbrev pub FreeQuestions : Type 0
+FreeQuestions = (m : System) (order : List ℕ) (level i x : ℕ) → IsUnbarred m → IsQuestion m order level i x ↔ IsFreeQuestion m order level i x
+
+abbrev pub FreeRows : Type 0
+FreeRows = (m : System) (order : List ℕ) (level i state marks : ℕ) → IsUnbarred m → IsRow m order level i state marks ↔ IsFreeRow m order level i state marks
 
 -- ---- views
 -- what a context accepts with the heads of some rules, through its variables, is what its knowledge base accepts through their beliefs

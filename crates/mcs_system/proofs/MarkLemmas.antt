@@ -2,15 +2,15 @@
 use Rattle.std.proofs.Common.{◌≡◌, ℕ, ◌+◌, ◌*◌, ◌/◌, ◌%◌, ◌^◌, ◌<◌, Bool, true, false, ◌&&◌, cond, ltb, zero, suc, length, Some, refl, sym, ap, ◌∙◌, arith, slice_get, not, ◌⊎◌, inl, inr, true≢false}
 use Rattle.std.proofs.lemmas.Bool.{and_parts, and_from}
 use Rattle.std.proofs.lemmas.Bool.Decides.{nat_tests}
-use Rattle.mcs_sets.specs.Sets.{has, size, single, union, such_that, Within, Meets}
-use Rattle.mcs_sets.proofs.SetLemmas.{count_from, size-count, same_set, has-such_that, such_that-lt, such_that-none, Within-le, count_all}
+use Rattle.mcs_sets.specs.Sets.{has, size, single, union, minus, such_that, Within, Meets}
+use Rattle.mcs_sets.proofs.SetLemmas.{count_from, size-count, same_set, has-such_that, has-minus, such_that-lt, such_that-none, Within-le, count_all}
 use Rattle.mcs_base.specs.Pairs.{removed_of, forced_of}
 use Rattle.mcs_base.proofs.PairLemmas.{has-removed_of, has-forced_of}
 use Rattle.mcs_system.specs.Plain.{Bridge, System}
 use Rattle.mcs_system.specs.Systems.{all_rules, applicable, is_applicable}
-use Rattle.mcs_system.specs.Repairs.{all_marks, mark_of, marks_of, is_kept, is_closed, kept_rules, closed_rules, is_allowed, allowed_marks}
+use Rattle.mcs_system.specs.Repairs.{all_marks, mark_of, marks_of, is_kept, is_closed, kept_rules, closed_rules, is_allowed, allowed_marks, IsChange}
 pub use Rattle.mcs_base.proofs.Ranges.{by_parity}
-use Rattle.mcs_sets.proofs.Lattice.{such_that_next}
+use Rattle.mcs_sets.proofs.Lattice.{in_minus, such_that_next}
 
 pub has-all_rules : (m : System) (r : ℕ) → has (all_rules m) r ≡ ltb r (length m.bridges)
 has-all_rules m r = has-such_that _ _ r ∙ grind (arith, nat_tests)
@@ -128,9 +128,25 @@ forced_allowed m pair within meets =
     let e1 = has-forced_of pair r in let w = within (2 * r + 1) in let e2 = allowed-odd m r in let a = meets.in_first in let b = meets.in_second in
     true≢false (grind (arith, nat_tests))
 
-pub allowed_known : (m : System) → Within (allowed_marks m) (all_marks m)
+pub allowed_known : (m : System) (pair : ℕ) → Within pair (allowed_marks m) → Within pair (all_marks m)
 unfolding allowed_marks
-allowed_known m k is = let e1 = has-such_that (2 * length m.bridges) (is_allowed m) k in let e2 = has-all_marks m k in grind (arith, nat_tests)
+allowed_known m pair within k is = let allowed = within k is in let e1 = has-such_that (2 * length m.bridges) (is_allowed m) k in let e2 = has-all_marks m k in grind (arith, nat_tests)
+
+pub kept_known : (m : System) → Within (kept_rules m) (all_rules m)
+kept_known m r is = let e1 = has-kept_rules m r in let e2 = has-all_rules m r in grind (arith, nat_tests)
+
+-- without the rules of the first set, and with those of the second, each kept rule is there and no closed one is forced
+pub allowed_change : (m : System) (pair : ℕ) → Within pair (allowed_marks m) → IsChange m (minus (all_rules m) (removed_of pair)) (forced_of pair)
+allowed_change m pair within = record {
+  of_rules = λ r is. (in_minus (all_rules m) (removed_of pair) r is).0;
+  forced_of_rules = forced_known m pair (allowed_known m pair within);
+  kept = λ r is. (let free = removed_allowed m pair within in has-minus (all_rules m) (removed_of pair) r ∙ and_from _ _ (kept_known m r is) (absent free r is (has (removed_of pair) r) refl));
+  none_closed = forced_allowed m pair within;
+}
+  where
+    absent : ¬ Meets (removed_of pair) (kept_rules m) → (r : ℕ) → has (kept_rules m) r ≡ true → (v : Bool) → has (removed_of pair) r ≡ v → not v ≡ true
+    absent free r is true e = absurd (free (record { member = r; in_first = e; in_second = is }))
+    absent free r is false e = refl
 
 -- and the marks of sets of rules that no rule bars are allowed
 pub marks_allowed : (m : System) (a b : ℕ) → ¬ Meets a (kept_rules m) → ¬ Meets b (closed_rules m) → Within (marks_of m a b) (allowed_marks m)
