@@ -1,16 +1,15 @@
 -- In a system without kept and closed rules each mark of a rule is allowed, so each notion of repairs says what it says where no rule is barred.
-use Rattle.std.proofs.Common.{◌≡◌, ℕ, ◌+◌, ◌*◌, zero, suc, true, false, not, ◌&&◌, ltb, List, [], ◌∷◌, length, reverse, Some, slice_get, refl, sym, ap, ◌∙◌, inl, inr, ◌⊎◌, ◌↔◌, arith, true≢false}
+use Rattle.std.proofs.Common.{◌≡◌, ℕ, ◌+◌, ◌*◌, zero, suc, false, List, [], ◌∷◌, reverse, slice_get, refl, sym, ap, ◌∙◌, inl, inr, ◌⊎◌, arith, true≢false}
 use Rattle.std.proofs.lemmas.Bool.Decides.{nat_tests}
 use Rattle.std.specs.List.{AllByRecursion}
-use Rattle.mcs_sets.specs.Sets.{has, Within, Meets}
-use Rattle.mcs_sets.proofs.SetLemmas.{same_set, has-empty}
-use Rattle.mcs_sets.proofs.Lattice.{none_from_no_member}
+use Rattle.mcs_sets.specs.Sets.{has, Within}
+use Rattle.mcs_sets.proofs.SetLemmas.{same_set}
 use Rattle.mcs_system.specs.Plain.{Bridge, System}
-use Rattle.mcs_system.specs.Repairs.{all_marks, allowed_marks, kept_rules, closed_rules, is_kept, is_closed, IsDiagnosis, IsChange, IsExplanation, IsChoice}
+use Rattle.mcs_system.specs.Repairs.{all_marks, allowed_marks, kept_rules, closed_rules, is_kept, is_closed, IsChange}
 use Rattle.mcs_system.specs.Systems.{all_rules}
-use Rattle.mcs_system.specs.Imports.{before_in, IsQuestionAfter, IsPossibleFrom, IsQuestion}
+use Rattle.mcs_system.specs.Imports.{before_in, IsQuestionAfter, IsPossibleFrom}
 use Rattle.mcs_system.proofs.MarkLemmas.{has-all_rules, has-all_marks, has-kept_rules, has-closed_rules, allowed-even, allowed-odd, by_parity, marks_known, allowed_known}
-use Rattle.mcs_laws.specs.Free.{IsUnbarred, IsFreeDiagnosis, IsFreeExplanation, IsFreeChoice, IsFreeQuestionAfter, IsFreePossibleFrom, IsFreeQuestion, IsFreeRow}
+use Rattle.mcs_laws.specs.Free.{IsUnbarred, IsFreeQuestionAfter, IsFreePossibleFrom}
 use Rattle.mcs_laws.specs.Laws.{AllMarksAreAllowed, FreeDiagnoses, FreeExplanations, FreeChoices, FreeQuestions, FreeRows}
 
 -- ---- each mark is allowed

@@ -13,3 +13,4 @@ pub mod Views
 pub mod Worked
 pub mod Need
 pub mod Rows
+pub mod Barred

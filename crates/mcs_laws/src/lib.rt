@@ -1,7 +1,7 @@
 //! Laws over the definitions of multi-context systems. The functions do nothing: each contract is a law.
 #![tactic(auto)]
 
-ghost use Rattle.mcs_laws.specs.Laws.{StatesHaveOneListing, DiagnosesHaveOneListing, WithoutDiagnosesNothingExplains, ChangedStatesAreChoices, MinimalDiagnosesAreDifferences, ExplanationsMeetDiagnoses, MinimalExplanationsAreMinimalTransversals, EquilibriaAreByParts, ConsequenceIsDecided, SelfSupportHasTwo, AgainstItselfHasNone, NeedIsOfAllRules, RowsHaveFewMarks, RowsKeepToSupplies, ChoicesAreDiagnoses, ConsistentNeedsNothing, StatesHaveOneProjection, MinimalDiagnosesAreSmall, QuestionsGrow, RowsMakeChoices, ChoicesAskQuestions, ChoicesHaveRows, MarksAreUnited, MarksAreApart, AllMarksAreAllowed, FreeDiagnoses, FreeExplanations, FreeChoices, FreeQuestions, FreeRows, PartsAreViews, ViewListingsGivePartListings, NegationAllows, NegationUndoes, ProgramsDoNotSupportThemselves, HeadsAreFacts, DefaultsAreGrounded, DefaultsMayChoose, ToldFactsBlock, KindsAcceptTheirSort, DisjunctionChooses, BirdFlies, TablesDecide, ClassicalContextsAcceptWhatFollows, ClassicalStatesHaveAListing, ConsistencyIsListed};
+ghost use Rattle.mcs_laws.specs.Laws.{StatesHaveOneListing, DiagnosesHaveOneListing, WithoutDiagnosesNothingExplains, ChangedStatesAreChoices, MinimalDiagnosesAreDifferences, ExplanationsMeetDiagnoses, MinimalExplanationsAreMinimalTransversals, EquilibriaAreByParts, ConsequenceIsDecided, SelfSupportHasTwo, AgainstItselfHasNone, KeptIsForced, ClosedIsRemoved, BarredIsUnrepaired, KeptIsAsked, ClosedIsNotAsked, WeightsAreLimited, NeedIsOfAllRules, RowsHaveFewMarks, RowsKeepToSupplies, ChoicesAreDiagnoses, ConsistentNeedsNothing, StatesHaveOneProjection, MinimalDiagnosesAreSmall, QuestionsGrow, RowsMakeChoices, ChoicesAskQuestions, ChoicesHaveRows, MarksAreUnited, MarksAreApart, AllMarksAreAllowed, FreeDiagnoses, FreeExplanations, FreeChoices, FreeQuestions, FreeRows, PartsAreViews, ViewListingsGivePartListings, NegationAllows, NegationUndoes, ProgramsDoNotSupportThemselves, HeadsAreFacts, DefaultsAreGrounded, DefaultsMayChoose, ToldFactsBlock, KindsAcceptTheirSort, DisjunctionChooses, BirdFlies, TablesDecide, ClassicalContextsAcceptWhatFollows, ClassicalStatesHaveAListing, ConsistencyIsListed};
 
 /// Of a property of states, or of pairs, there is at most one listing.
 pub fn listings_are_unique()
@@ -48,6 +48,17 @@ pub fn listings_exist()
 pub fn tiny_systems()
     ensures two { SelfSupportHasTwo }
     ensures none { AgainstItselfHasNone }
+{}
+
+/// A rule that is kept is not removed and a rule that is closed is not forced, by diagnoses, by explanations and by what
+/// contexts are asked; a weight is from 1 to 1000000.
+pub fn worked_rules()
+    ensures kept { KeptIsForced }
+    ensures closed { ClosedIsRemoved }
+    ensures barred { BarredIsUnrepaired }
+    ensures asked { KeptIsAsked }
+    ensures not_asked { ClosedIsNotAsked }
+    ensures weights { WeightsAreLimited }
 {}
 
 /// What tiny systems need and have by levels: without equilibria the level of all rules counts, rows have no more
