@@ -300,6 +300,10 @@ module _ (n : ℕ) where
       (le-ltb 4096 (length (classical_formulas n)) (omega arith))
       (le-ltb 4096 (length (theory_items n)) (omega arith))))
 
+  light_rules : exceeds (generated_system n) limits.Weight ≡ false
+  unfolding exceeds
+  light_rules = any_none _ (generated_bridges n) (each_rule n (λ b. nat_lt 1000000 b.weight ≡ false) (λ i low high. refl) (λ i low high. refl))
+
   small_items : (c : Context) → IsAmong c (generated_contexts n) → has_large_item c.kb ≡ false
   small_items = each_context n (λ c. has_large_item c.kb ≡ false) (λ i less. each_kb n (λ kb. has_large_item kb ≡ false) i
       (any_none is_large_rule (program_rules n i) (each_program_rule n (λ r. is_large_rule r ≡ false) i refl refl (λ j low high. refl) refl refl))
@@ -314,7 +318,7 @@ module _ (n : ℕ) where
       rw (a, b) refl
 
   none_exceeded : first_exceeded (generated_system n) all_limits ≡ None
-  none_exceeded = rw (few_contexts, few_bridges, few_rules, few_variables, few_inputs, few_atoms, few_defaults, few_items, small_formulas) refl
+  none_exceeded = rw (few_contexts, few_bridges, few_rules, few_variables, few_inputs, few_atoms, few_defaults, few_items, light_rules, small_formulas) refl
 
 -- ---- none of the faults
 pub generated_valid : GeneratedSystemsAreValid

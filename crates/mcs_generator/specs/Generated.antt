@@ -2,7 +2,7 @@
 use Rattle.std.specs.Prelude.{ℕ, ◌+◌, ◌-◌, ◌/◌, ◌%◌, nat_eq, Bool, ◌&&◌, ◌||◌, cond, List, [], ◌∷◌, ◌++◌, map, codes}
 use Rattle.std.specs.Fmt.{decimal}
 use Rattle.std.specs.List.{range_with_len, flat_map}
-use Rattle.mcs_system.specs.Plain.{Name, Formula, Atom, Implies, Default, ProgramRule, Item, Fact, Rule, Kb, Classical, DefaultTheory, Program, Context, Read, Bridge, System}
+use Rattle.mcs_system.specs.Plain.{Name, Formula, Atom, Implies, Default, ProgramRule, Item, Fact, Rule, Kb, Classical, DefaultTheory, Program, Context, Read, Bridge, System, plain_rule}
 
 -- ---- what the number says: how many contexts there are, how long the chain in each is, and whether the system is inconsistent by design
 abbrev pub context_count : ℕ → ℕ
@@ -98,10 +98,10 @@ abbrev pub chain_end : ℕ → ℕ → Read
 chain_end n i = record { context = i - 1; belief = Atom (link_name (chain_length n)) }
 
 abbrev pub reached_rule : ℕ → ℕ → Bridge
-reached_rule n i = record { name = reached_name i; target = i; head = Atom (codes "x"); pos = chain_end n i ∷ []; neg = [] }
+reached_rule n i = plain_rule (reached_name i) i (Atom (codes "x")) (chain_end n i ∷ []) []
 
 abbrev pub missed_rule : ℕ → ℕ → Bridge
-missed_rule n i = record { name = missed_name i; target = i; head = Atom (codes "y"); pos = []; neg = chain_end n i ∷ [] }
+missed_rule n i = plain_rule (missed_name i) i (Atom (codes "y")) [] (chain_end n i ∷ [])
 
 abbrev pub rules_to : ℕ → ℕ → List Bridge
 rules_to n i = reached_rule n i ∷ missed_rule n i ∷ []

@@ -39,6 +39,9 @@ pub(crate) fn reached_rule(alloc: Global, number: u64, context: u32) -> Result<B
         head: atom(head),
         pos,
         neg: Vec::new(alloc),
+        keep: false,
+        closed: false,
+        weight: 1,
     })
 }
 
@@ -56,5 +59,8 @@ pub(crate) fn missed_rule(alloc: Global, number: u64, context: u32) -> Result<Br
         head: atom(head),
         pos: Vec::new(alloc),
         neg,
+        keep: false,
+        closed: false,
+        weight: 1,
     })
 }

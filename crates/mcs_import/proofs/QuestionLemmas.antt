@@ -1,12 +1,13 @@
 -- The questions to a context, by what its supplies and its guesses make of its inputs.
-use Rattle.std.proofs.Common.{◌≡◌, ℕ, ◌+◌, ◌<◌, ◌≤◌, Bool, true, false, not, ◌&&◌, ◌||◌, cond, eqb, ltb, List, [], ◌∷◌, ◌++◌, length, map, reverse, Some, slice_get, refl, sym, ap, ◌∙◌, subst, inl, inr, ◌⊎◌, ◌↔◌, arith, true≢false, bit_xor}
-use Rattle.std.proofs.lemmas.Bool.{and_parts, and_from, or_cases, or_left, or_right, false_from_ne_true, lt-ltb}
-use Rattle.std.proofs.lemmas.Option.{slice_get_within}
+use Rattle.std.proofs.Common.{◌≡◌, ℕ, ◌+◌, ◌*◌, ◌<◌, ◌≤◌, Bool, true, false, not, ◌&&◌, ◌||◌, cond, eqb, ltb, List, [], ◌∷◌, ◌++◌, length, map, reverse, Some, slice_get, refl, sym, ap, ◌∙◌, subst, inl, inr, ◌⊎◌, ◌↔◌, arith, true≢false, bit_xor}
+use Rattle.std.proofs.lemmas.Bool.{and_parts, and_from, or_cases, or_left, or_right, false_from_ne_true}
 use Rattle.std.proofs.lemmas.Bool.Decides.{nat_tests}
 use Rattle.std.proofs.Math.Bool.{and-false, and-true, or-false}
 use Rattle.mcs_sets.specs.Sets.{has, size, common, union, minus, members, Within}
 use Rattle.mcs_sets.proofs.SetLemmas.{same_set, sets, has-empty, has-union, has-common, has-minus, has-such_that, common_where_within}
-use Rattle.mcs_sets.proofs.Lattice.{union-minus_both, minus_within, in_minus, in_common, common-union, common-common, size-union_apart}
+use Rattle.mcs_sets.proofs.Lattice.{union-minus_both, minus_within, in_minus, in_common, common-union, common-common, common_within_right, size-union_apart}
+use Rattle.mcs_base.specs.Pairs.{removed_of, forced_of}
+use Rattle.mcs_base.proofs.PairLemmas.{has-removed_of, has-forced_of}
 use Rattle.mcs_base.specs.Listings.{IsAmong, AreApart, IsListing}
 use Rattle.mcs_base.proofs.ListingLemmas.{IsListing-same}
 use Rattle.mcs_system.specs.Plain.{Read, Bridge, System}
@@ -14,14 +15,18 @@ use Rattle.mcs_system.specs.Systems.{is_of_context, variables, variables_of, all
 use Rattle.mcs_system.specs.Rows.{inputs_of, is_read_into}
 use Rattle.mcs_system.specs.Imports.{imports, before_in, supplied, rules_into, marks_at, FollowsOrder, IsImportOrder, IsQuestionAfter, IsPossibleFrom, IsQuestion, IsPossible}
 use Rattle.mcs_system.specs.Levels.{IsQuestionAt, MaySupply}
-use Rattle.mcs_system.proofs.MarkLemmas.{size-marks_of, marks_known, has-all_rules}
+use Rattle.mcs_system.specs.Repairs.{marks_of, mark_of, allowed_marks}
+use Rattle.mcs_system.proofs.MarkLemmas.{size-marks_of, has-all_rules, has-marks_of, mark-even, mark-odd, by_parity}
 use Rattle.mcs_base.proofs.Among.{among_left, among_right, filter_among, among_filter, among_reverse, among_map, map_among, all_same}
 use Rattle.mcs_base.proofs.Lists.{reverse-append_middle}
 use Rattle.mcs_base.proofs.Distinct.{distinct_filter}
-use Rattle.mcs_system.proofs.ContextSets.{before_among, rule_there, variable_there, same_believed}
+use Rattle.mcs_base.proofs.Each.{all_from_among}
+use Rattle.std.specs.List.{AllByRecursion}
+use Rattle.mcs_system.proofs.ContextSets.{before_among, rule_there, rules_into_known, variable_there, same_believed}
 use Rattle.mcs_system.proofs.VariableLemmas.{has-applicable, has-inputs_of, has-variables_of}
 use Rattle.mcs_import.specs.Plans.{variables_of_all, guessed, AreSupplies}
-use Rattle.mcs_import.specs.States.{Joins, SomeJoins, SomeGrows, IsNear, IsAsked}
+use Rattle.mcs_import.specs.States.{Joins, SomeJoins, SomeGrows, IsAsked}
+use Rattle.mcs_import.specs.Near.{IsNear}
 use Rattle.mcs_import.proofs.OrderLemmas.{import_order_is_one}
 use Rattle.mcs_import.proofs.StateLemmas.{states_found}
 
@@ -77,25 +82,52 @@ possible_is m order ordered level i j τ among =
     let e : reverse (before_in order i) ≡ (reverse later ++ j ∷ []) ++ reverse (before_in order j) = ap (λ (xs : List ℕ). reverse xs) is ∙ reverse-append_middle (before_in order j) j later in
     subst (λ (cs : List ℕ). IsPossibleFrom m level cs j τ ↔ IsPossible m order level j τ) (sym e) (possible_at m level (reverse later) j (reverse (before_in order j)) τ (λ h. apart ((among_reverse j later).0 h)))
 
--- ---- the marks of a set of rules into i are as many as the rules in which it differs from those that apply
-pub size-marks_at : (m : System) (i σ x : ℕ) → Within x (rules_into m i) → size (marks_at m i σ x) ≡ size (bit_xor (common (applicable m σ) (rules_into m i)) x)
-size-marks_at m i σ x of_rules =
-    size-marks_of m (minus a x) (minus x a) left right
-    ∙ sym (size-union_apart (minus a x) (minus x a) (λ meets. grind (arith, has-minus a x meets.member, has-minus x a meets.member, meets.in_first, meets.in_second)))
-    ∙ ap (λ (s : ℕ). size s) (union-minus_both a x)
+-- ---- the marks of a set of rules into i, by what it lacks of those that apply and what it has beside them
+-- marks of sets of rules lie within marks where the sets lie within the sets of these
+marks_within : (m : System) (a b p : ℕ) → Within a (all_rules m) → Within b (all_rules m) → Within (marks_of m a b) p ↔ (Within a (removed_of p) × Within b (forced_of p))
+marks_within m a b p within_a within_b = (λ h. (λ r is. even h r is, λ r is. odd h r is), λ parts k is. back parts.0 parts.1 k is (by_parity k))
   where
-    a : ℕ
-    a = common (applicable m σ) (rules_into m i)
+    even : Within (marks_of m a b) p → (r : ℕ) → has a r ≡ true → has (removed_of p) r ≡ true
+    even h r is =
+        let known = sym (has-all_rules m r) ∙ within_a r is in
+        let low : ltb (2 * r) (2 * length m.bridges) ≡ true = grind (arith, nat_tests) in
+        has-removed_of p r ∙ h (2 * r) (has-marks_of m a b (2 * r) ∙ and_from (ltb (2 * r) (2 * length m.bridges)) (mark_of a b (2 * r)) low (mark-even a b r ∙ is))
 
-    -- what is of the rules into i is of the rules
-    known : (s : ℕ) → Within s (rules_into m i) → Within s (all_rules m)
-    known s within k e = let (b, is, target) = rule_there m i k (within k e) in has-all_rules m k ∙ lt-ltb k (length m.bridges) (slice_get_within m.bridges k b is)
+    odd : Within (marks_of m a b) p → (r : ℕ) → has b r ≡ true → has (forced_of p) r ≡ true
+    odd h r is =
+        let known = sym (has-all_rules m r) ∙ within_b r is in
+        let low : ltb (2 * r + 1) (2 * length m.bridges) ≡ true = grind (arith, nat_tests) in
+        has-forced_of p r ∙ h (2 * r + 1) (has-marks_of m a b (2 * r + 1) ∙ and_from (ltb (2 * r + 1) (2 * length m.bridges)) (mark_of a b (2 * r + 1)) low (mark-odd a b r ∙ is))
 
-    left : Within (minus (common (applicable m σ) (rules_into m i)) x) (all_rules m)
-    left = known _ (λ k e. (in_common (applicable m σ) (rules_into m i) k (minus_within _ x k e)).1)
+    told : (k : ℕ) → has (marks_of m a b) k ≡ true → mark_of a b k ≡ true
+    told k is = (and_parts (ltb k (2 * length m.bridges)) (mark_of a b k) (sym (has-marks_of m a b k) ∙ is)).1
 
-    right : Within (minus x (common (applicable m σ) (rules_into m i))) (all_rules m)
-    right = known _ (λ k e. of_rules k (minus_within x _ k e))
+    back : Within a (removed_of p) → Within b (forced_of p) → (k : ℕ) → has (marks_of m a b) k ≡ true → (r : ℕ) × ((k ≡ 2 * r) ⊎ (k ≡ 2 * r + 1)) → has p k ≡ true
+    back of_a of_b k is (r, inl e) = ap (λ (j : ℕ). has p j) e ∙ sym (has-removed_of p r) ∙ of_a r (sym (mark-even a b r) ∙ sym (ap (mark_of a b) e) ∙ told k is)
+    back of_a of_b k is (r, inr e) = ap (λ (j : ℕ). has p j) e ∙ sym (has-forced_of p r) ∙ of_b r (sym (mark-odd a b r) ∙ sym (ap (mark_of a b) e) ∙ told k is)
+
+abbrev pub applying : System → ℕ → ℕ → ℕ
+applying m i σ = common (applicable m σ) (rules_into m i)
+
+module _ (m : System) (i σ x : ℕ) (of_rules : Within x (rules_into m i)) where
+  removed_of_rules : Within (minus (applying m i σ) x) (all_rules m)
+  removed_of_rules k e = rules_into_known m i k (in_common (applicable m σ) (rules_into m i) k (minus_within (applying m i σ) x k e)).1
+
+  forced_of_rules : Within (minus x (applying m i σ)) (all_rules m)
+  forced_of_rules k e = rules_into_known m i k (of_rules k (minus_within x (applying m i σ) k e))
+
+  pub count-marks_at : size (marks_at m i σ x) ≡ size (minus (applying m i σ) x) + size (minus x (applying m i σ))
+  count-marks_at = size-marks_of m (minus (applying m i σ) x) (minus x (applying m i σ)) removed_of_rules forced_of_rules
+
+  pub size-marks_at : size (marks_at m i σ x) ≡ size (bit_xor (applying m i σ) x)
+  size-marks_at =
+      count-marks_at
+      ∙ sym (size-union_apart (minus (applying m i σ) x) (minus x (applying m i σ)) (λ meets. grind (arith, has-minus (applying m i σ) x meets.member, has-minus x (applying m i σ) meets.member, meets.in_first, meets.in_second)))
+      ∙ ap (λ (s : ℕ). size s) (union-minus_both (applying m i σ) x)
+
+  -- they are allowed where no rule is removed that may not be, and none forced that may not be
+  pub marks_at_within : (p : ℕ) → Within (marks_at m i σ x) p ↔ (Within (minus (applying m i σ) x) (removed_of p) × Within (minus x (applying m i σ)) (forced_of p))
+  marks_at_within p = marks_within m (minus (applying m i σ) x) (minus x (applying m i σ)) p removed_of_rules forced_of_rules
 
 -- a whole state that the supplies of i allow
 pub record IsAllowed (m : System) (order : List ℕ) (level i σ : ℕ) : Type 0 where
@@ -103,7 +135,7 @@ pub record IsAllowed (m : System) (order : List ℕ) (level i σ : ℕ) : Type 0
   pub supplies : (j : ℕ) → IsAmong j (supplied m order i) → IsPossible m order level j (common σ (variables_of m j))
 
 pub question_by_state : (m : System) (order : List ℕ) → IsImportOrder m order → (level i x : ℕ)
-    → IsQuestion m order level i x ↔ (Within x (rules_into m i) × ((σ : ℕ) × IsAllowed m order level i σ × (size (bit_xor (common (applicable m σ) (rules_into m i)) x) ≤ level)))
+    → IsQuestion m order level i x ↔ (Within x (rules_into m i) × ((σ : ℕ) × IsAllowed m order level i σ × Within (marks_at m i σ x) (allowed_marks m) × (size (marks_at m i σ x) ≤ level)))
 question_by_state m order ordered level i x = (
   λ h. (
     h.of_rules,
@@ -114,16 +146,17 @@ question_by_state m order ordered level i x = (
         supplies = λ j among. (let (before, imported) = filter_among (imports m i) j (before_in order i) among in
             (possible_is m order ordered level i j _ before).0 (h.supplies j ((among_reverse j (before_in order i)).1 before) imported));
       },
-      subst (λ n. n ≤ level) (size-marks_at m i h.state x h.of_rules) h.near,
+      h.allowed,
+      h.near,
     ),
   ),
-  λ (of_rules, (σ, allowed, near)). record {
+  λ (of_rules, (σ, possible, allowed, near)). record {
     of_rules = of_rules;
     state = σ;
-    of_variables = allowed.of_variables;
-    allowed = marks_known m _ _;
-    supplies = λ j among imported. (let before = (among_reverse j (before_in order i)).0 among in (possible_is m order ordered level i j _ before).1 (allowed.supplies j (among_filter (imports m i) j (before_in order i) before imported)));
-    near = subst (λ n. n ≤ level) (sym (size-marks_at m i σ x of_rules)) near;
+    of_variables = possible.of_variables;
+    supplies = λ j among imported. (let before = (among_reverse j (before_in order i)).0 among in (possible_is m order ordered level i j _ before).1 (possible.supplies j (among_filter (imports m i) j (before_in order i) before imported)));
+    allowed = allowed;
+    near = near;
   },
 )
 
@@ -148,6 +181,10 @@ same_applicable m i σ τ same = same_set _ _ (λ k. has-common (applicable m σ
     at : (k : ℕ) (v : Bool) → has (rules_into m i) k ≡ v → (has (applicable m σ) k && has (rules_into m i) k) ≡ (has (applicable m τ) k && has (rules_into m i) k)
     at k true e = let (b, is, target) = rule_there m i k e in rw (has-applicable m σ k b is, has-applicable m τ k b is, same_applies m i k σ τ b is target same) refl
     at k false e = rw (e, and-false (has (applicable m σ) k), and-false (has (applicable m τ) k)) refl
+
+-- so that the marks are the same
+pub same_marks : (m : System) (i σ τ x : ℕ) → common σ (inputs_of m i) ≡ common τ (inputs_of m i) → marks_at m i σ x ≡ marks_at m i τ x
+same_marks m i σ τ x same = ap (λ (a : ℕ). marks_of m (minus a x) (minus x a)) (same_applicable m i σ τ same)
 
 -- ---- the variables of contexts
 pub one_context : (m : System) (j k v : ℕ) → has (variables_of m j) v ≡ true → has (variables_of m k) v ≡ true → j ≡ k
@@ -294,60 +331,78 @@ module _ (m : System) (order : List ℕ) (ordered : IsImportOrder m order) (leve
   pub asked_is_question : (x : ℕ) → IsAsked m i xss G level x ↔ IsQuestion m order level i x
   asked_is_question x = (
     λ h. (question_by_state m order ordered level i x).1 (
-        let (σ, allowed, e) = state_for h.joined h.guess h.is_joined h.of_guesses in
-        let same : common (applicable m (union h.joined h.guess)) (rules_into m i) ≡ common (applicable m σ) (rules_into m i) = same_applicable m i (union h.joined h.guess) σ (ap (λ s. common s I) (sym e) ∙ common-common σ I) in
-        (h.of_rules, (σ, allowed, subst (λ (s : ℕ). size (bit_xor s x) ≤ level) same h.near))),
+        let (σ, possible, e) = state_for h.joined h.guess h.is_joined h.of_guesses in
+        let same : marks_at m i (union h.joined h.guess) x ≡ marks_at m i σ x = same_marks m i (union h.joined h.guess) σ x (ap (λ s. common s I) (sym e) ∙ common-common σ I) in
+        (h.of_rules, (σ, possible, subst (λ (s : ℕ). Within s (allowed_marks m)) same h.allowed, subst (λ (s : ℕ). size s ≤ level) same h.near))),
     λ q. from ((question_by_state m order ordered level i x).0 q),
   )
     where
-      from : Within x (rules_into m i) × ((σ : ℕ) × IsAllowed m order level i σ × (size (bit_xor (common (applicable m σ) (rules_into m i)) x) ≤ level)) → IsAsked m i xss G level x
-      from (of_rules, (σ, allowed, near)) =
-          let (p, g, joins, within, e) = parts_of σ allowed in
+      from : Within x (rules_into m i) × ((σ : ℕ) × IsAllowed m order level i σ × Within (marks_at m i σ x) (allowed_marks m) × (size (marks_at m i σ x) ≤ level)) → IsAsked m i xss G level x
+      from (of_rules, (σ, possible, allowed, near)) =
+          let (p, g, joins, within, e) = parts_of σ possible in
+          let same : marks_at m i σ x ≡ marks_at m i (union p g) x = same_marks m i σ (union p g) x (sym (common-common σ I) ∙ ap (λ s. common s I) e) in
           record {
             of_rules = of_rules;
             joined = p;
             is_joined = joins;
             guess = g;
             of_guesses = within;
-            near = subst (λ (s : ℕ). size (bit_xor s x) ≤ level) (same_applicable m i σ (union p g) (sym (common-common σ I) ∙ ap (λ s. common s I) e)) near;
+            allowed = subst (λ (s : ℕ). Within s (allowed_marks m)) same allowed;
+            near = subst (λ (s : ℕ). size s ≤ level) same near;
           }
 
 -- ---- what the code gathers
+pub applying_within : (m : System) (i : ℕ) (states sets : List ℕ) → ((a : ℕ) → IsAmong a sets ↔ IsAmong a (map (applying m i) states)) → AllByRecursion (λ s. Within s (rules_into m i)) sets
+applying_within m i states sets of_states = all_from_among (λ s. Within s (rules_into m i)) sets (λ s among.
+    let (ρ, state, e) = map_among (applying m i) s states ((of_states s).0 among) in
+    subst (λ (z : ℕ). Within z (rules_into m i)) (sym e) (common_within_right (applicable m ρ) (rules_into m i)))
+
 module _ (m : System) (i : ℕ) (xss : List (List ℕ)) (guesses level : ℕ) (joined states sets : List ℕ) (of_joins : (ρ : ℕ) → IsAmong ρ joined ↔ SomeJoins (inputs_of m i) xss (0 ∷ []) ρ)
-    (of_grows : (ρ : ℕ) → IsAmong ρ states ↔ SomeGrows (members guesses) joined ρ) (of_states : (a : ℕ) → IsAmong a sets ↔ IsAmong a (map (λ σ. common (applicable m σ) (rules_into m i)) states)) where
-  pub near_is_asked : (x : ℕ) → IsNear (rules_into m i) sets level x ↔ IsAsked m i xss guesses level x
+    (of_grows : (ρ : ℕ) → IsAmong ρ states ↔ SomeGrows (members guesses) joined ρ) (of_states : (a : ℕ) → IsAmong a sets ↔ IsAmong a (map (applying m i) states)) where
+  pub near_is_asked : (x : ℕ) → IsNear (rules_into m i) (removed_of (allowed_marks m)) (forced_of (allowed_marks m)) sets level x ↔ IsAsked m i xss guesses level x
   near_is_asked x = (
     λ h. (
-        let (ρ, state, e) = map_among (λ σ. common (applicable m σ) (rules_into m i)) h.set states ((of_states h.set).0 h.listed) in
+        let (ρ, state, e) = map_among (applying m i) h.set states ((of_states h.set).0 h.listed) in
         let (p, g, joins, within, e') = (states_found (inputs_of m i) xss guesses joined states of_joins of_grows ρ).0 state in
+        let same : h.set ≡ applying m i (union p g) = e ∙ ap (applying m i) e' in
         record {
           of_rules = h.of_rules;
           joined = p;
           is_joined = joins;
           guess = g;
           of_guesses = within;
-          near = subst (λ (s : ℕ). size (bit_xor s x) ≤ level) (e ∙ ap (λ ρ. common (applicable m ρ) (rules_into m i)) e') h.near;
+          allowed = (marks_at_within m i (union p g) x h.of_rules (allowed_marks m)).1 (
+            subst (λ (s : ℕ). Within (minus s x) (removed_of (allowed_marks m))) same h.removed,
+            subst (λ (s : ℕ). Within (minus x s) (forced_of (allowed_marks m))) same h.forced,
+          );
+          near = subst (λ (n : ℕ). n ≤ level) (sym (count-marks_at m i (union p g) x h.of_rules)) (subst (λ (s : ℕ). size (minus s x) + size (minus x s) ≤ level) same h.near);
         }),
     λ h. (
         let state : IsAmong (union h.joined h.guess) states = (states_found (inputs_of m i) xss guesses joined states of_joins of_grows (union h.joined h.guess)).1 (h.joined, h.guess, h.is_joined, h.of_guesses, refl) in
+        let (removed, forced) = (marks_at_within m i (union h.joined h.guess) x h.of_rules (allowed_marks m)).0 h.allowed in
         record {
           of_rules = h.of_rules;
-          set = common (applicable m (union h.joined h.guess)) (rules_into m i);
-          listed = (of_states _).1 (among_map (λ σ. common (applicable m σ) (rules_into m i)) (union h.joined h.guess) states state);
-          near = h.near;
+          set = applying m i (union h.joined h.guess);
+          listed = (of_states _).1 (among_map (applying m i) (union h.joined h.guess) states state);
+          removed = removed;
+          forced = forced;
+          near = subst (λ (n : ℕ). n ≤ level) (count-marks_at m i (union h.joined h.guess) x h.of_rules) h.near;
         }),
   )
 
-pub asked_listed : (m : System) (i : ℕ) (xss : List (List ℕ)) (mask guesses rules level : ℕ) → mask ≡ inputs_of m i → rules ≡ rules_into m i
-    → (joined states states' sets sets' near : List ℕ) → ((ρ : ℕ) → IsAmong ρ joined ↔ SomeJoins mask xss (0 ∷ []) ρ) → ((ρ : ℕ) → IsAmong ρ states ↔ SomeGrows (members guesses) joined ρ) → states' ≡ states
-    → ((a : ℕ) → IsAmong a sets ↔ IsAmong a (map (λ σ. common (applicable m σ) (rules_into m i)) states')) → sets' ≡ sets
-    → IsListing (IsNear rules sets' level) (λ a b. a < b) near → IsListing (IsAsked m i xss guesses level) (λ a b. a < b) near
-asked_listed m i xss mask guesses rules level mask_is rules_is joined states states' sets sets' near of_joins of_grows states_are of_states sets_are listing =
-    IsListing-same (λ (a b : ℕ). a < b) (IsNear (rules_into m i) sets level) (IsAsked m i xss guesses level) near
+-- what is near of what was gathered, by what the calls tell
+pub asked_listed : (m : System) (i : ℕ) (xss : List (List ℕ)) (mask guesses rules level removable forcible allowed : ℕ) → mask ≡ inputs_of m i → rules ≡ rules_into m i → removable ≡ removed_of allowed → forcible ≡ forced_of allowed → allowed ≡ allowed_marks m
+    → (joined states states' sets near : List ℕ) → ((ρ : ℕ) → IsAmong ρ joined ↔ SomeJoins mask xss (0 ∷ []) ρ) → ((ρ : ℕ) → IsAmong ρ states ↔ SomeGrows (members guesses) joined ρ) → states' ≡ states
+    → ((a : ℕ) → IsAmong a sets ↔ IsAmong a (map (applying m i) states'))
+    → IsListing (IsNear rules removable forcible sets level) (λ a b. a < b) near → IsListing (IsAsked m i xss guesses level) (λ a b. a < b) near
+asked_listed m i xss mask guesses rules level removable forcible allowed mask_is rules_is removable_is forcible_is allowed_is joined states states' sets near of_joins of_grows states_are of_states listing =
+    IsListing-same (λ (a b : ℕ). a < b) (IsNear (rules_into m i) (removed_of (allowed_marks m)) (forced_of (allowed_marks m)) sets level) (IsAsked m i xss guesses level) near
     (near_is_asked m i xss guesses level joined states sets
     (λ ρ. subst (λ (s : ℕ). IsAmong ρ joined ↔ SomeJoins s xss (0 ∷ []) ρ) mask_is (of_joins ρ)) of_grows
-    (λ a. subst (λ (xs : List ℕ). IsAmong a sets ↔ IsAmong a (map (λ σ. common (applicable m σ) (rules_into m i)) xs)) states_are (of_states a)))
-    (subst (λ (s : ℕ). IsListing (IsNear s sets level) (λ (a b : ℕ). a < b) near) rules_is (subst (λ (xs : List ℕ). IsListing (IsNear rules xs level) (λ (a b : ℕ). a < b) near) sets_are listing))
+    (λ a. subst (λ (xs : List ℕ). IsAmong a sets ↔ IsAmong a (map (applying m i) xs)) states_are (of_states a)))
+    (subst (λ (s : ℕ). IsListing (IsNear s (removed_of (allowed_marks m)) (forced_of (allowed_marks m)) sets level) (λ (a b : ℕ). a < b) near) rules_is
+    (subst (λ (s : ℕ). IsListing (IsNear rules s (forced_of (allowed_marks m)) sets level) (λ (a b : ℕ). a < b) near) (removable_is ∙ ap (λ (p : ℕ). removed_of p) allowed_is)
+    (subst (λ (s : ℕ). IsListing (IsNear rules removable s sets level) (λ (a b : ℕ). a < b) near) (forcible_is ∙ ap (λ (p : ℕ). forced_of p) allowed_is) listing)))
 
 pub questions_listed : (m : System) (order : List ℕ) → IsImportOrder m order → (level i : ℕ) (xss : List (List ℕ)) → AreSupplies m level (supplied m order i) xss → (n : System) → n ≡ m → (guesses : ℕ) → guesses ≡ guessed m order i
     → (near : List ℕ) → IsListing (IsAsked n i xss guesses level) (λ a b. a < b) near → IsListing (IsQuestionAt m level i) (λ a b. a < b) near

@@ -1,4 +1,5 @@
 pub mod Plans
 pub mod Reach
 pub mod States
+pub mod Near
 pub mod Laws

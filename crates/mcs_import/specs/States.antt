@@ -1,12 +1,11 @@
--- States that are put together of what others supply, and sets near others.
-use Rattle.std.specs.Prelude.{◌≡◌, ℕ, ◌≤◌, Bool, List, [], ◌∷◌, ◌⊎◌, bit_xor, nat_le}
-use Rattle.std.specs.List.{list_any}
+-- States that are put together of what others supply, and what is asked for them.
+use Rattle.std.specs.Prelude.{◌≡◌, ℕ, ◌≤◌, List, [], ◌∷◌, ◌⊎◌}
 use Rattle.mcs_sets.specs.Sets.{common, union, single, size, Within}
 use Rattle.mcs_base.specs.Listings.{IsAmong}
 use Rattle.mcs_system.specs.Plain.{System}
-use Rattle.mcs_system.specs.Imports.{rules_into}
+use Rattle.mcs_system.specs.Imports.{rules_into, marks_at}
+use Rattle.mcs_system.specs.Repairs.{allowed_marks}
 use Rattle.mcs_system.specs.Rows.{inputs_of}
-use Rattle.mcs_system.specs.Systems.{applicable}
 
 -- from a, with one of each list as far as it is within the mask, comes the state ρ
 abbrev pub Joins : ℕ → List (List ℕ) → ℕ → ℕ → Type 0
@@ -25,21 +24,12 @@ SomeJoins mask xss starts ρ = (a : ℕ) × IsAmong a starts × Joins mask xss a
 abbrev pub SomeGrows : List ℕ → List ℕ → ℕ → Type 0
 SomeGrows vs starts s = (a : ℕ) × IsAmong a starts × Grows vs a s
 
--- a set of the rules that differs in at most so many of them from one of the list
-pub record IsNear (rules : ℕ) (sets : List ℕ) (level x : ℕ) : Type 0 where
-  pub of_rules : Within x rules
-  pub set : ℕ
-  pub listed : IsAmong set sets
-  pub near : size (bit_xor set x) ≤ level
-
-abbrev pub is_near : List ℕ → ℕ → ℕ → Bool
-is_near sets level x = list_any (λ a. nat_le (size (bit_xor a x)) level) sets
-
--- x differs in at most `level` rules from those of i that apply in a state, which is joined of the lists and grown by some of the guesses
+-- x is a set of the rules into i that few changes, each of them allowed, make of those that apply in a state, which is joined of the lists and grown by some of the guesses
 pub record IsAsked (m : System) (i : ℕ) (xss : List (List ℕ)) (guesses level x : ℕ) : Type 0 where
   pub of_rules : Within x (rules_into m i)
   pub joined : ℕ
   pub is_joined : Joins (inputs_of m i) xss 0 joined
   pub guess : ℕ
   pub of_guesses : Within guess guesses
-  pub near : size (bit_xor (common (applicable m (union joined guess)) (rules_into m i)) x) ≤ level
+  pub allowed : Within (marks_at m i (union joined guess) x) (allowed_marks m)
+  pub near : size (marks_at m i (union joined guess) x) ≤ level

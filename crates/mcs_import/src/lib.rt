@@ -14,7 +14,6 @@ mod states;
 pub use laws::{
     import_order_exists, import_order_is_one, question_counts_are_one, questions_are_bounded,
 };
-pub use near::difference;
 pub use plan::Plan;
 pub use question::{asked, questions};
 pub use states::{guessed_states, supplied_states};

@@ -1,66 +1,116 @@
-//! Sets of rules that differ little from given ones.
+//! Sets of rules that come of given ones by a few changes that are allowed.
 
-ghost use Rattle.std.specs.Prelude.{◌≡◌, ◌<◌, ◌++◌, ◌↔◌, ℕ, map, bit_xor, IfOk};
-ghost use Rattle.mcs_sets.specs.Sets.{union, single, size, Within};
-ghost use Rattle.mcs_base.specs.Listings.{IsAmong, IsListing};
-ghost use Rattle.mcs_import.specs.States.{IsNear, is_near};
+ghost use Rattle.std.specs.Prelude.{◌≡◌, ◌<◌, ◌↔◌, ◌⊎◌, ℕ, IsTrue, IfOk};
+ghost use Rattle.std.specs.List.{AllByRecursion};
+ghost use Rattle.mcs_sets.specs.Sets.{union, minus, single, Within};
+ghost use Rattle.mcs_base.specs.Listings.{IsAmong, IsAscending, IsListing};
+ghost use Rattle.mcs_import.specs.Near.{IsMadeBy, IsNext, IsNear};
 
 use mcs_base::{Active, Memory, list_rule_sets};
 use std::alloc::Global;
 
-/// Adds to the sets each of them with the rule.
-fn add_with(sets: &mut Vec<Active>, rule: u32) -> Result<(), Memory>
-    requires { rule < 64 }
-    ensures { IfOk result (λ _. sets.new.items ≡ sets.old.items ++ map (λ s. union s (single rule)) sets.old.items) }
+/// Whether the set is among these, of which each is there once, the numbers that stand for them ascending.
+fn is_listed(sets: &[Active], set: Active) -> bool
+    requires { IsAscending (λ (a b : ℕ). a < b) sets.now }
+    ensures { IsTrue result ↔ IsAmong set sets.now }
 {
-    for index in 0..sets.len() {
-        sets.push(sets[index].with(rule))?;
+    sets.binary_search(&set).is_ok()
+}
+
+/// Adds the set, unless it is one of those that were reached.
+fn add_new(found: &mut Vec<Active>, set: Active, reached: &[Active]) -> Result<(), Memory>
+    requires { IsAscending (λ (a b : ℕ). a < b) reached.now }
+    ensures { IfOk result (λ _. (x : ℕ)
+        → IsAmong x found.new.items ↔ (IsAmong x found.old.items ⊎ ((x ≡ set) × (¬ IsAmong x reached.now)))) }
+{
+    if !is_listed(reached, set) {
+        found.push(set)?;
     }
     Ok(())
 }
 
-/// All sets of these rules.
-fn sets_of(alloc: Global, rules: Active) -> Result<Vec<Active>, Memory>
-    ensures { IfOk result (λ sets. (x : ℕ) → IsAmong x sets.items ↔ Within x rules) }
+/// Adds the set without each of the rules in turn, unless that was reached.
+fn add_without(
+    found: &mut Vec<Active>,
+    set: Active,
+    rules: Active,
+    reached: &[Active],
+) -> Result<(), Memory>
+    requires { IsAscending (λ (a b : ℕ). a < b) reached.now }
+    ensures { IfOk result (λ _. (x : ℕ) → IsAmong x found.new.items
+        ↔ (IsAmong x found.old.items ⊎ (IsMadeBy (λ r. minus set (single r)) rules x × (¬ IsAmong x reached.now)))) }
 {
-    let mut sets = vec![in alloc; Active::empty()]?;
     for rule in rules.members() {
-        add_with(&mut sets, rule)?;
+        add_new(found, set.without(rule), reached)?;
     }
-    Ok(sets)
+    Ok(())
 }
 
-/// In how many rules the two sets differ.
-pub fn difference(a: Active, b: Active) -> u32
-    ensures { result ≡ size (bit_xor a b) }
+/// Adds the set with each of the rules in turn, unless that was reached.
+fn add_with(
+    found: &mut Vec<Active>,
+    set: Active,
+    rules: Active,
+    reached: &[Active],
+) -> Result<(), Memory>
+    requires { IsAscending (λ (a b : ℕ). a < b) reached.now }
+    ensures { IfOk result (λ _. (x : ℕ) → IsAmong x found.new.items
+        ↔ (IsAmong x found.old.items ⊎ (IsMadeBy (λ r. union set (single r)) rules x × (¬ IsAmong x reached.now)))) }
 {
-    a.minus(b).union(b.minus(a)).count()
+    for rule in rules.members() {
+        add_new(found, set.with(rule), reached)?;
+    }
+    Ok(())
 }
 
-/// Whether the set differs in at most so many rules from one of the sets.
-fn is_near(set: Active, sets: &[Active], level: u32) -> bool
-    ensures { result ≡ is_near sets.now level set }
+/// The sets that come of one of the sets by one change, and that were not reached: each once.
+fn next_sets(
+    alloc: Global,
+    sets: &[Active],
+    removable: Active,
+    forcible: Active,
+    reached: &[Active],
+) -> Result<Vec<Active>, Memory>
+    requires { IsAscending (λ (a b : ℕ). a < b) reached.now }
+    ensures { IfOk result (λ next. (x : ℕ)
+        → IsAmong x next.items ↔ IsNext removable forcible sets.now reached.now x) }
 {
-    sets.iter().any(|other| difference(*other, set) <= level)
+    let mut next = Vec::new(alloc);
+    for set in sets {
+        add_without(&mut next, *set, set.common(removable), reached)?;
+        add_with(&mut next, *set, forcible.minus(*set), reached)?;
+    }
+    list_rule_sets(&mut next);
+    Ok(next)
 }
 
-/// The sets of the rules that differ in at most so many rules from one of the sets: each once, the numbers
-/// that stand for them ascending.
+/// The sets of the rules that come of one of the sets by at most so many changes, each of which removes one of
+/// the removable rules or forces one of the forcible ones: each set once, the numbers that stand for them
+/// ascending. Only what the last change reached is changed again.
 pub(crate) fn near_sets(
     alloc: Global,
     rules: Active,
-    sets: &[Active],
+    removable: Active,
+    forcible: Active,
+    sets: Vec<Active>,
     level: u32,
 ) -> Result<Vec<Active>, Memory>
-    ensures { IfOk result (λ near. IsListing (IsNear rules sets.now level) (λ a b. a < b) near.items) }
+    requires ascending { IsAscending (λ (a b : ℕ). a < b) sets.items }
+    requires of_rules { AllByRecursion (λ s. Within s rules) sets.items }
+    ensures { IfOk result (λ near.
+        IsListing (IsNear rules removable forcible sets.items level) (λ a b. a < b) near.items) }
 {
-    let all = sets_of(alloc, rules)?;
-    let mut near = Vec::new(alloc);
-    for set in &all {
-        if is_near(*set, sets, level) {
-            near.push(*set)?;
+    let forcible = forcible.common(rules);
+    let mut reached = Vec::new(alloc);
+    reached.extend_from_slice(&sets)?;
+    let mut front = sets;
+    for _ in 0..level {
+        front = next_sets(alloc, &front, removable, forcible, &reached)?;
+        if front.is_empty() {
+            return Ok(reached);
         }
+        reached.extend_from_slice(&front)?;
+        list_rule_sets(&mut reached);
     }
-    list_rule_sets(&mut near);
-    Ok(near)
+    Ok(reached)
 }

@@ -1,6 +1,6 @@
 //! What a context is asked.
 
-ghost use Rattle.std.specs.Prelude.{◌<◌, ◌↔◌, ℕ, List, map, length, IfOk};
+ghost use Rattle.std.specs.Prelude.{◌<◌, ℕ, List, map, length, IfOk};
 ghost use Rattle.mcs_sets.specs.Sets.{common};
 ghost use Rattle.mcs_base.specs.Listings.{IsAmong, IsListing};
 ghost use Rattle.mcs_system.specs.Imports.{IsImportOrder, supplied, rules_into};
@@ -12,11 +12,12 @@ ghost use Rattle.mcs_import.specs.States.{IsAsked};
 use crate::near::near_sets;
 use crate::plan::Plan;
 use crate::states::{guessed_states, supplied_states};
-use mcs_base::{Active, Memory, Vars, list_rule_sets};
+use mcs_base::{Active, Memory, Pair, Vars, list_rule_sets};
 use mcs_system::System;
 use std::alloc::Global;
 
-/// The sets of rules into context `i` of the system that apply in one of the states: each once.
+/// The sets of rules into context `i` of the system that apply in one of the states: each once, the numbers
+/// that stand for them ascending.
 fn applicable_sets(
     alloc: Global,
     system: &System,
@@ -24,8 +25,9 @@ fn applicable_sets(
     states: &[Vars],
 ) -> Result<Vec<Active>, Memory>
     requires { i < length system.now.contexts }
-    ensures { IfOk result (λ sets. (a : ℕ) → IsAmong a sets.items
-        ↔ IsAmong a (map (λ σ. common (applicable system.now σ) (rules_into system.now i)) states.now)) }
+    ensures { IfOk result (λ sets. IsListing
+        (λ a. IsAmong a (map (λ σ. common (applicable system.now σ) (rules_into system.now i)) states.now))
+        (λ a b. a < b) sets.items) }
 {
     let mut sets = Vec::new(alloc);
     for state in states {
@@ -35,9 +37,10 @@ fn applicable_sets(
     Ok(sets)
 }
 
-/// The sets of rules into context `i` of the system that differ in at most `level` rules from those that apply
-/// in some state, which has one state of each supply and some of the guesses at the inputs of `i`: each once,
-/// the numbers that stand for them ascending.
+/// The sets of rules into context `i` of the system that at most `level` changes make of those that apply in
+/// some state, which has one state of each supply and some of the guesses at the inputs of `i`: each once, the
+/// numbers that stand for them ascending. A change removes a rule that is not kept, or forces one that is not
+/// closed.
 pub fn asked(
     alloc: Global,
     system: &System,
@@ -53,11 +56,20 @@ pub fn asked(
     let joined = supplied_states(alloc, supplies, system.inputs_of(i))?;
     let states = guessed_states(joined, guesses)?;
     let sets = applicable_sets(alloc, system, i, &states)?;
-    near_sets(alloc, system.rules_of(i), &sets, level)
+    let allowed = Pair::new(system.allowed());
+    near_sets(
+        alloc,
+        system.rules_of(i),
+        allowed.removed(),
+        allowed.forced(),
+        sets,
+        level,
+    )
 }
 
-/// The questions of the level to context `i` of the plan's system: the sets of rules into it that differ in
-/// at most `level` rules from those that apply in some state. On each context that supplies `i` the state is
+/// The questions of the level to context `i` of the plan's system: the sets of rules into it that at most
+/// `level` changes make of those that apply in some state. A change removes a rule that is not kept, or forces
+/// one that is not closed. On each context that supplies `i` the state is
 /// one of its supplies; on all others, also on `i` itself, it is free. `supplies` are what the contexts of
 /// `plan.supplied(i)` may supply at this level, in this order, each list in the order of states. Each
 /// question is there once, and they ascend by the numbers that stand for them.

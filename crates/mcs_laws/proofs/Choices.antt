@@ -9,7 +9,7 @@ use Rattle.mcs_base.proofs.PairLemmas.{has-removed_of, has-forced_of, removed_of
 use Rattle.mcs_system.specs.Plain.{System}
 use Rattle.mcs_system.specs.Systems.{all_rules, applicable, acting_at, IsConsistent, IsProjectedEquilibrium}
 use Rattle.mcs_system.specs.Repairs.{allowed_marks, choice_marks, IsChoice, IsDiagnosis, IsExplanation}
-use Rattle.mcs_system.proofs.MarkLemmas.{has-marks_of, mark-even, mark-odd, by_parity, forced_known, removed-marks_of, forced-marks_of, applicable_within}
+use Rattle.mcs_system.proofs.MarkLemmas.{has-marks_of, mark-even, mark-odd, by_parity, forced_known, allowed_known, removed-marks_of, forced-marks_of, applicable_within}
 use Rattle.mcs_laws.proofs.Transversals.{meets_each}
 use Rattle.mcs_laws.proofs.Projections.{parts_of, from_parts}
 use Rattle.mcs_sets.proofs.Lattice.{minus-none, none_within, within_antisymmetric}
@@ -68,7 +68,7 @@ state_is_choice m pair σ allowed at = let h = parts_of m _ _ σ at in record { 
   where
     known : Within (acting_at m σ (minus (all_rules m) (removed_of pair)) (forced_of pair)) (all_rules m)
     known k is = let e1 = has-union (common (applicable m σ) (minus (all_rules m) (removed_of pair))) (forced_of pair) k in let e2 = has-common (applicable m σ) (minus (all_rules m) (removed_of pair)) k in
-        let w = applicable_within m σ k in let f = forced_known m pair allowed k in grind (arith, nat_tests)
+        let w = applicable_within m σ k in let f = forced_known m pair (allowed_known m pair allowed) k in grind (arith, nat_tests)
 
 pub minimal_from_choice : (m : System) (pair σ : ℕ) → IsMinimal (IsDiagnosis m) pair → IsProjectedEquilibrium m (minus (all_rules m) (removed_of pair)) (forced_of pair) σ
     → choice_marks m σ (acting_at m σ (minus (all_rules m) (removed_of pair)) (forced_of pair)) ≡ pair

@@ -7,18 +7,19 @@ use Rattle.mcs_sets.specs.Sets.{has, common, minus, such_that, Within}
 use Rattle.mcs_sets.proofs.SetLemmas.{same_set, has-such_that, has-common, has-union}
 use Rattle.mcs_system.specs.Plain.{Formula, Read, Bridge, System}
 use Rattle.mcs_system.specs.Logic.{Accepts, with_heads}
-use Rattle.mcs_system.specs.Systems.{variables, variables_of, all_variables, applicable, heads_into, believed_among, applies_among, IsAcceptedPart}
-use Rattle.mcs_system.specs.Repairs.{IsChoice, marks_of}
+use Rattle.mcs_system.specs.Systems.{variables, variables_of, all_variables, all_rules, applicable, heads_into, believed_among, applies_among, IsAcceptedPart}
+use Rattle.mcs_system.specs.Repairs.{allowed_marks, IsChoice, marks_of}
+use Rattle.mcs_system.specs.Faults.{IsValid}
 use Rattle.mcs_base.specs.Listings.{IsAmong}
 use Rattle.mcs_system.specs.Imports.{rules_into, marks_at}
 use Rattle.mcs_system.specs.Rows.{inputs_of, local_of, AgreeOnCommon, HasParts}
 use Rattle.mcs_laws.specs.Laws.{RowsMakeChoices}
-use Rattle.mcs_system.proofs.MarkLemmas.{has-all_rules, marks_known}
+use Rattle.mcs_system.proofs.MarkLemmas.{has-all_rules}
 use Rattle.mcs_base.proofs.Among.{any_get, get_any, among_left, among_right, all_same}
 use Rattle.std.proofs.lemmas.Option.{slice_get_within}
 use Rattle.mcs_base.proofs.Lists.{slice_get_below, choose_below}
 use Rattle.mcs_system.proofs.VariableLemmas.{has-applicable, has-inputs_of}
-use Rattle.mcs_laws.proofs.Questions.{heads-own}
+use Rattle.mcs_laws.proofs.Questions.{heads-own, marks_are_united}
 use Rattle.mcs_system.proofs.ContextSets.{same_believed, rule_there, rules_into_known}
 
 -- ---- whether a rule into i applies is seen on the local variables
@@ -55,6 +56,7 @@ record Shown (m : System) (i : ℕ) (p : ℕ × ℕ) (x : ℕ) : Type 0 where
   accepted : IsAcceptedPart m i x (common whole (variables_of m i))
   state_is : common whole (local_of m i) ≡ p.0
   marks_is : marks_at m i whole x ≡ p.1
+  allowed : Within p.1 (allowed_marks m)
 
 module _ (m : System) (rows : List (ℕ × ℕ)) (long : length rows ≡ length m.contexts) (fit : AgreeOnCommon m rows) (xs : List ℕ) (many : length xs ≡ length m.contexts)
     (shown : (i : ℕ) (p : ℕ × ℕ) (x : ℕ) → slice_get rows i ≡ Some p → slice_get xs i ≡ Some x → Shown m i p x) where
@@ -129,23 +131,6 @@ module _ (m : System) (rows : List (ℕ × ℕ)) (long : length rows ≡ length 
   own_variables : (i τ : ℕ) → common (common τ (local_of m i)) (variables_of m i) ≡ common τ (variables_of m i)
   own_variables i τ = same_set _ _ (λ v. let a = has-common (common τ (local_of m i)) (variables_of m i) v in let b = has-common τ (local_of m i) v in let c = has-common τ (variables_of m i) v in let d = has-union (variables_of m i) (inputs_of m i) v in grind (arith, nat_tests))
 
-  choice : IsChoice m σ x
-  choice = record {
-    of_rules = λ k inside. has-all_rules m k ∙ (and_parts (ltb k (length m.bridges)) (list_any (λ z. has z k) xs) (sym (has-such_that (length m.bridges) (λ w. list_any (λ z. has z w) xs) k) ∙ inside)).0;
-    of_variables = λ v inside. has-such_that (length (variables m)) (λ w. true) v ∙ (let known : ltb v (length (variables m)) ≡ true = (and_parts (ltb v (length (variables m))) (list_any (λ (r : ℕ × ℕ). has r.0 v) rows) (sym (has-such_that (length (variables m)) (λ w. list_any (λ (r : ℕ × ℕ). has r.0 w) rows) v) ∙ inside)).0 in rw known refl);
-    allowed = marks_known m _ _;
-    accepted = λ i less. accepts i (slice_get_below rows i (omega arith)) (slice_get_below xs i (omega arith));
-  }
-    where
-      accepts : (i : ℕ) → ((p : ℕ × ℕ) × (slice_get rows i ≡ Some p)) → ((y : ℕ) × (slice_get xs i ≡ Some y)) → IsAcceptedPart m i x (common σ (variables_of m i))
-      accepts i (p, is) (y, is') =
-          let here = shown i p y is is' in
-          let heads : heads_into m i y ≡ heads_into m i x = ap (heads_into m i) (sym (rules_glued i p y is is')) ∙ sym (heads-own m i x) in
-          let states : common here.whole (variables_of m i) ≡ common σ (variables_of m i) = sym (own_variables i here.whole) ∙ ap (λ s. common s (variables_of m i)) (here.state_is ∙ sym (state_glued i p y is is')) ∙ own_variables i σ in
-          let a : IsAcceptedPart m i y (common σ (variables_of m i)) = subst (IsAcceptedPart m i y) states here.accepted in
-          let (c, is_c, accepts) = a.accepted in
-          record { belief = a.belief; accepted = (c, is_c, subst (λ (hs : List Formula). Accepts (with_heads c.kb hs) a.belief) heads accepts); part = a.part }
-
   parts : HasParts m σ x rows
   parts i p is = part (slice_get_below xs i (let less = slice_get_within rows i p is in omega (arith, long, many)))
     where
@@ -157,17 +142,43 @@ module _ (m : System) (rows : List (ℕ × ℕ)) (long : length rows ≡ length 
           let alike = same_applicable m i σ here.whole (glued ∙ sym here.state_is) in
           (glued, ap (marks_at m i σ) rules ∙ ap (λ a. marks_of m (minus a y) (minus y a)) alike ∙ here.marks_is)
 
+  choice : IsValid m → IsChoice m σ x
+  choice valid = record {
+    of_rules = of_rules;
+    of_variables = λ v inside. has-such_that (length (variables m)) (λ w. true) v ∙ (let known : ltb v (length (variables m)) ≡ true = (and_parts (ltb v (length (variables m))) (list_any (λ (r : ℕ × ℕ). has r.0 v) rows) (sym (has-such_that (length (variables m)) (λ w. list_any (λ (r : ℕ × ℕ). has r.0 w) rows) v) ∙ inside)).0 in rw known refl);
+    allowed = λ k inside. allowed k ((marks_are_united m σ x k valid of_rules).0 inside);
+    accepted = λ i less. accepts i (slice_get_below rows i (omega arith)) (slice_get_below xs i (omega arith));
+  }
+    where
+      of_rules : Within x (all_rules m)
+      of_rules k inside = has-all_rules m k ∙ (and_parts (ltb k (length m.bridges)) (list_any (λ z. has z k) xs) (sym (has-such_that (length m.bridges) (λ w. list_any (λ z. has z w) xs) k) ∙ inside)).0
+
+      -- each mark is one of a row, which has allowed ones alone
+      allowed : (k : ℕ) → (i : ℕ) × (i < length m.contexts) × (has (marks_at m i σ (common x (rules_into m i))) k ≡ true) → has (allowed_marks m) k ≡ true
+      allowed k (i, less, inside) =
+          let (p, is) = slice_get_below rows i (omega (arith, long)) in let (y, is') = slice_get_below xs i (omega (arith, many)) in
+          (shown i p y is is').allowed k (ap (λ s. has s k) (sym (parts i p is).1) ∙ inside)
+
+      accepts : (i : ℕ) → ((p : ℕ × ℕ) × (slice_get rows i ≡ Some p)) → ((y : ℕ) × (slice_get xs i ≡ Some y)) → IsAcceptedPart m i x (common σ (variables_of m i))
+      accepts i (p, is) (y, is') =
+          let here = shown i p y is is' in
+          let heads : heads_into m i y ≡ heads_into m i x = ap (heads_into m i) (sym (rules_glued i p y is is')) ∙ sym (heads-own m i x) in
+          let states : common here.whole (variables_of m i) ≡ common σ (variables_of m i) = sym (own_variables i here.whole) ∙ ap (λ s. common s (variables_of m i)) (here.state_is ∙ sym (state_glued i p y is is')) ∙ own_variables i σ in
+          let a : IsAcceptedPart m i y (common σ (variables_of m i)) = subst (IsAcceptedPart m i y) states here.accepted in
+          let (c, is_c, accepts) = a.accepted in
+          record { belief = a.belief; accepted = (c, is_c, subst (λ (hs : List Formula). Accepts (with_heads c.kb hs) a.belief) heads accepts); part = a.part }
+
 pub rows_make_choices : RowsMakeChoices
-rows_make_choices m order level rows long each fit =
+rows_make_choices m order level rows valid long each fit =
     let (xs, many, shown) = choose_below Q (length m.contexts) pick in
-    (σ m rows long fit xs many (all xs shown), x m rows long fit xs many (all xs shown), choice m rows long fit xs many (all xs shown), parts m rows long fit xs many (all xs shown))
+    (σ m rows long fit xs many (all xs shown), x m rows long fit xs many (all xs shown), choice m rows long fit xs many (all xs shown) valid, parts m rows long fit xs many (all xs shown))
   where
     Q : ℕ → ℕ → Type 0
     Q i y = (p : ℕ × ℕ) → slice_get rows i ≡ Some p → Shown m i p y
 
     pick : (i : ℕ) → i < length m.contexts → (y : ℕ) × Q i y
     pick i less = let (p, is) = slice_get_below rows i (omega (arith, long)) in let row = each i p is in
-        (row.rules, λ q is'. let same : p ≡ q = cc in subst (λ (r : ℕ × ℕ). Shown m i r row.rules) same (record { whole = row.whole; of_variables = row.of_variables; of_rules = row.of_rules; accepted = row.accepted; state_is = row.state_is; marks_is = row.marks_is }))
+        (row.rules, λ q is'. let same : p ≡ q = cc in subst (λ (r : ℕ × ℕ). Shown m i r row.rules) same (record { whole = row.whole; of_variables = row.of_variables; of_rules = row.of_rules; accepted = row.accepted; state_is = row.state_is; marks_is = row.marks_is; allowed = row.allowed }))
 
     all : (xs : List ℕ) → ((i y : ℕ) → slice_get xs i ≡ Some y → Q i y) → (i : ℕ) (p : ℕ × ℕ) (y : ℕ) → slice_get rows i ≡ Some p → slice_get xs i ≡ Some y → Shown m i p y
     all xs shown i p y is is' = shown i y is' p is

@@ -5,6 +5,7 @@ pub mod Choices
 pub mod Tiny
 pub mod Questions
 pub mod Transversals
+pub mod Free
 pub mod Gluing
 pub mod Classical
 pub mod Existence
@@ -13,3 +14,4 @@ pub mod Worked
 pub mod Need
 pub mod Rows
 pub mod Supplies
+pub mod Barred

@@ -14,6 +14,7 @@ use Rattle.mcs_system.specs.Levels.{IsQuestionAt, AreQuestions}
 use Rattle.mcs_system.proofs.MarkLemmas.{marks_known}
 use Rattle.mcs_laws.specs.Laws.{NeedIsOfAllRules}
 use Rattle.mcs_laws.specs.Examples.{name_a, name_b, a_unless_a, paradox, told_paradox}
+use Rattle.mcs_laws.proofs.Free.{all_allowed}
 use Rattle.mcs_laws.proofs.Projections.{parts_of}
 use Rattle.mcs_laws.proofs.Tiny.{has-1}
 use Rattle.mcs_base.proofs.Deciding.{only_test}
@@ -93,7 +94,7 @@ asked level x within few = (
     state = 0;
     of_variables = none_within _;
     supplies = λ j nothing. absurd nothing;
-    allowed = marks_known told_paradox _ _;
+    allowed = rw (all_allowed told_paradox ((refl, refl), tt)) (marks_known told_paradox _ _);
     near = few;
   },
 )

@@ -2,11 +2,11 @@
 use Rattle.std.proofs.Common.{◌≡◌, ℕ, ◌≤◌, zero, suc, Bool, true, false, ◌&&◌, cond, [], ◌∷◌, refl, sym, ap, ◌∙◌, subst, inl, inr, arith, true≢false}
 use Rattle.std.proofs.lemmas.Bool.{and_from}
 use Rattle.mcs_sets.specs.Sets.{has, common, union, minus, single, such_that, size}
-use Rattle.mcs_sets.proofs.SetLemmas.{Within-le, has-common, has-empty}
+use Rattle.mcs_sets.proofs.SetLemmas.{Within-le, has-common}
 use Rattle.mcs_sets.proofs.Lattice.{none_within, size-single, in_common}
 use Rattle.mcs_base.specs.Listings.{IsAmong}
 use Rattle.mcs_system.specs.Plain.{Context, Read}
-use Rattle.mcs_system.specs.Logic.{BeliefSet, Theory, Atoms, Believes, Entails, Accepts, SameModels, with_heads}
+use Rattle.mcs_system.specs.Logic.{BeliefSet, Theory, Atoms, Believes, Accepts, SameModels, with_heads}
 use Rattle.mcs_system.specs.Systems.{variables, variables_of, IsVariable, heads_into, AcceptsWith, IsAcceptedPart, applicable}
 use Rattle.mcs_system.specs.Repairs.{marks_of}
 use Rattle.mcs_system.specs.Imports.{rules_into, marks_at}
@@ -15,8 +15,9 @@ use Rattle.mcs_system.specs.Levels.{IsLocalRow}
 use Rattle.mcs_system.proofs.MarkLemmas.{marks_known}
 use Rattle.mcs_laws.specs.Laws.{RowsHaveFewMarks, RowsKeepToSupplies}
 use Rattle.mcs_laws.specs.Examples.{p, p_of_0, empty_context, against_itself, one_reads_other}
+use Rattle.mcs_laws.proofs.Free.{all_allowed}
 use Rattle.mcs_laws.proofs.Need.{alone_first}
-use Rattle.mcs_laws.proofs.Tiny.{has-1, p_is_open, all_variables-against, variables_of-against, only_against, acts_and_may_not, rests_and_must_act}
+use Rattle.mcs_laws.proofs.Tiny.{has-1, p_is_open, all_variables-against, variables_of-against, rests, acts_and_may_not, rests_and_must_act}
 use Rattle.mcs_base.proofs.Ranges.{zero_or_one}
 
 -- ---- the rule against its own context
@@ -33,32 +34,22 @@ unfolding applicable rules_into variables marks_of such_that union single common
 one_forced = size-single 1
 
 no_row : (state marks : ℕ) → ¬ IsLocalRow against_itself 0 0 state marks
-no_row state marks (order, is, row) = by (zero_or_one row.whole (rw all_variables-against at (Within-le row.whole _ row.of_variables))) (zero_or_one row.rules (rw rules_into-against at (Within-le row.rules _ row.of_rules)))
+no_row state marks (order, is, row) = by (zero_or_one row.whole (rw (all_variables-against false false) at (Within-le row.whole _ row.of_variables))) (zero_or_one row.rules (rw rules_into-against at (Within-le row.rules _ row.of_rules)))
   where
     marked : (w x : ℕ) → row.whole ≡ w → row.rules ≡ x → size (marks_at against_itself 0 w x) ≤ 0
     marked w x e e' = rw (← e, ← e', row.marks_is) row.few
 
     part : (w x : ℕ) → row.whole ≡ w → row.rules ≡ x → IsAcceptedPart against_itself 0 x (common w 1)
-    part w x e e' = rw (← e, ← e', ← variables_of-against) row.accepted
+    part w x e e' = subst (λ (s : ℕ). IsAcceptedPart against_itself 0 x (common w s)) (variables_of-against false false) (rw (← e, ← e') row.accepted)
 
     by : IsAmong row.whole (1 ∷ 0 ∷ []) → IsAmong row.rules (1 ∷ 0 ∷ []) → ⊥
     by (inl w) (inr (inr none)) = absurd none
     by (inr (inr none)) x = absurd none
     by (inr (inl w)) (inr (inr none)) = absurd none
     by (inl w) (inl x) = let few = marked 1 1 w x in let some = one_forced in omega arith
-    by (inl w) (inr (inl x)) = rests_and_must_act (part 1 0 w x)
-    by (inr (inl w)) (inl x) = acts_and_may_not (part 0 1 w x)
+    by (inl w) (inr (inl x)) = rests_and_must_act false false (part 1 0 w x)
+    by (inr (inl w)) (inl x) = acts_and_may_not false false (part 0 1 w x)
     by (inr (inl w)) (inr (inl x)) = let few = marked 0 0 w x in let some = one_removed in omega arith
-
--- where the rule rests p is not believed
-rests : IsAcceptedPart against_itself 0 0 (common 0 1)
-rests = record { belief = Theory []; accepted = (empty_context, refl, λ a. rw (has-empty 0) refl); part = λ v. (to v, λ h. from v h.0 h.1 h.3) }
-  where
-    to : (v : ℕ) → has (common 0 1) v ≡ true → (r : Read) × IsVariable against_itself v r × (r.context ≡ 0) × Entails [] r.belief
-    to v member = absurd (true≢false (sym (in_common 0 1 v member).0 ∙ has-empty v))
-
-    from : (v : ℕ) → (r : Read) → IsVariable against_itself v r → Entails [] r.belief → has (common 0 1) v ≡ true
-    from v r is follows = absurd (p_is_open (subst (λ (q : Read). Entails [] q.belief) (only_against v r is).1 follows))
 
 one_row : IsLocalRow against_itself 1 0 0 1
 unfolding applicable rules_into variables variables_of inputs_of marks_of such_that union single common minus has
@@ -70,11 +61,11 @@ one_row = (
     of_variables = none_within _;
     rules = 0;
     of_rules = none_within _;
-    accepted = rests;
+    accepted = rests false false;
     supplies = λ j nothing. absurd nothing;
     state_is = refl;
     marks_is = refl;
-    allowed = marks_known against_itself 1 0;
+    allowed = rw (all_allowed against_itself ((refl, refl), tt)) (marks_known against_itself 1 0);
     few = let some = one_removed in omega arith;
   },
 )

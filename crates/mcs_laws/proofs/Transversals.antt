@@ -12,9 +12,9 @@ use Rattle.mcs_base.proofs.ListingLemmas.{all_among, all_from_among}
 use Rattle.mcs_base.proofs.PairLemmas.{has-removed_of, has-forced_of}
 use Rattle.mcs_system.specs.Plain.{System}
 use Rattle.mcs_system.specs.Systems.{all_rules, IsProjectedEquilibrium}
-use Rattle.mcs_system.specs.Repairs.{all_marks, marks_of, IsDiagnosis, IsExplanation}
-use Rattle.mcs_system.proofs.MarkLemmas.{has-marks_of, mark-even, mark-odd, by_parity, marks_small, marks_known, removed_known, forced_known, removed-marks_of, forced-marks_of}
-use Rattle.mcs_sets.proofs.Lattice.{none_within, within_antisymmetric}
+use Rattle.mcs_system.specs.Repairs.{all_marks, marks_of, kept_rules, IsDiagnosis, IsChange, IsExplanation}
+use Rattle.mcs_system.proofs.MarkLemmas.{has-marks_of, mark-even, mark-odd, by_parity, marks_small, removed_known, allowed_known, allowed_change, marks_allowed, removed-marks_of, forced-marks_of}
+use Rattle.mcs_sets.proofs.Lattice.{in_minus, none_within, within_antisymmetric}
 use Rattle.mcs_base.proofs.Ranges.{MeetsEach}
 
 pub minus-minus : (m : System) (a : ℕ) → Within a (all_rules m) → minus (all_rules m) (minus (all_rules m) a) ≡ a
@@ -32,9 +32,8 @@ pub meets_each : (m : System) (p d : ℕ) → IsExplanation m p → IsDiagnosis 
 meets_each m p d e i = elim (meets_or_not p d (2 * length m.bridges) (marks_small m p e.of_rules)) [
   | inl meets ↦ meets
   | inr none ↦ absurd (e.none (minus (all_rules m) (removed_of d)) (forced_of d)
+      (allowed_change m d i.allowed)
       (λ r is. kept none r is)
-      (within_minus m _)
-      (forced_known m d i.allowed)
       (λ both. apart none both)
       i.equilibrium i.balanced)
 ]
@@ -48,17 +47,20 @@ meets_each m p d e i = elim (meets_or_not p d (2 * length m.bridges) (marks_smal
 
 -- ---- and what meets each diagnosis is an explanation
 pub explains : (m : System) (p : ℕ) → Within p (all_marks m) → MeetsEach (IsDiagnosis m) p → IsExplanation m p
-explains m p of_rules meets = record { of_rules = of_rules; none = λ r1 r2 w1 w2 w3 apart σ at. hit r1 r2 w1 w2 w3 apart (meets (marks_of m (minus (all_rules m) r1) r2) (diagnosis r1 r2 w2 w3 σ at)) }
+explains m p of_rules meets = record { of_rules = of_rules; none = λ r1 r2 change w1 apart σ at. hit r1 r2 w1 apart (meets (marks_of m (minus (all_rules m) r1) r2) (diagnosis r1 r2 change σ at)) }
   where
-    diagnosis : (r1 r2 : ℕ) → Within r1 (all_rules m) → Within r2 (all_rules m) → (σ : ℕ) → IsProjectedEquilibrium m r1 r2 σ → IsDiagnosis m (marks_of m (minus (all_rules m) r1) r2)
-    diagnosis r1 r2 w2 w3 σ at = record {
-      allowed = marks_known m _ _;
+    unkept : (r1 : ℕ) → Within (kept_rules m) r1 → ¬ Meets (minus (all_rules m) r1) (kept_rules m)
+    unkept r1 kept meets = true≢false (sym (kept meets.member meets.in_second) ∙ (in_minus (all_rules m) r1 meets.member meets.in_first).1)
+
+    diagnosis : (r1 r2 : ℕ) → IsChange m r1 r2 → (σ : ℕ) → IsProjectedEquilibrium m r1 r2 σ → IsDiagnosis m (marks_of m (minus (all_rules m) r1) r2)
+    diagnosis r1 r2 change σ at = record {
+      allowed = marks_allowed m (minus (all_rules m) r1) r2 (unkept r1 change.kept) change.none_closed;
       equilibrium = σ;
-      balanced = rw (removed-marks_of m (minus (all_rules m) r1) r2 (within_minus m r1), forced-marks_of m (minus (all_rules m) r1) r2 w3, minus-minus m r1 w2) at;
+      balanced = rw (removed-marks_of m (minus (all_rules m) r1) r2 (within_minus m r1), forced-marks_of m (minus (all_rules m) r1) r2 change.forced_of_rules, minus-minus m r1 change.of_rules) at;
     }
 
-    hit : (r1 r2 : ℕ) → Within (removed_of p) r1 → Within r1 (all_rules m) → Within r2 (all_rules m) → ¬ Meets r2 (forced_of p) → Meets p (marks_of m (minus (all_rules m) r1) r2) → ⊥
-    hit r1 r2 w1 w2 w3 apart both = let (r, half) = by_parity both.member in elim half [
+    hit : (r1 r2 : ℕ) → Within (removed_of p) r1 → ¬ Meets r2 (forced_of p) → Meets p (marks_of m (minus (all_rules m) r1) r2) → ⊥
+    hit r1 r2 w1 apart both = let (r, half) = by_parity both.member in elim half [
       | inl e ↦ even r (ap (has p) (sym e) ∙ both.in_first) (ap (has (marks_of m (minus (all_rules m) r1) r2)) (sym e) ∙ both.in_second)
       | inr e ↦ odd r (ap (has p) (sym e) ∙ both.in_first) (ap (has (marks_of m (minus (all_rules m) r1) r2)) (sym e) ∙ both.in_second)
     ]
@@ -116,7 +118,7 @@ module _ (m : System) (ds : List ℕ) (listing : IsListing (IsMinimal (IsDiagnos
   -- the marks of rules in a transversal meet as much
   cut : (t : ℕ) → IsTransversalOf ds t → IsTransversalOf ds (common t (all_marks m))
   cut t all = listed (common t (all_marks m)) (λ d minimal. let both = each t all d minimal in
-      let known = minimal.one.allowed both.member both.in_second in
+      let known = allowed_known m d minimal.one.allowed both.member both.in_second in
       record { member = both.member; in_first = has-common t (all_marks m) both.member ∙ rw (both.in_first, known) refl; in_second = both.in_second })
 
   cut_within : (t : ℕ) → Within (common t (all_marks m)) t

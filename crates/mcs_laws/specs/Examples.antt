@@ -1,6 +1,6 @@
 -- Worked systems and contexts, small enough to be read at a glance.
-use Rattle.std.specs.Prelude.{IsTrue, ◌↔◌, List, [], ◌∷◌, codes}
-use Rattle.mcs_system.specs.Plain.{Name, Formula, Truth, Atom, Not, ProgramRule, Item, Fact, Rule, Classical, Program, Context, Read, System}
+use Rattle.std.specs.Prelude.{ℕ, Bool, true, false, IsTrue, ◌↔◌, List, [], ◌∷◌, codes}
+use Rattle.mcs_system.specs.Plain.{Name, Formula, Truth, Atom, Not, ProgramRule, Item, Fact, Rule, Classical, Program, Context, Read, System, plain_rule}
 use Rattle.mcs_system.specs.Logic.{is_in}
 
 -- the same names are in both lists
@@ -30,21 +30,45 @@ empty_context = record { name = name_a; kb = Classical [] }
 abbrev pub self_support : System
 self_support = record {
   contexts = empty_context ∷ [];
-  bridges = record { name = codes "r"; target = 0; head = p; pos = p_of_0 ∷ []; neg = [] } ∷ [];
+  bridges = plain_rule (codes "r") 0 p (p_of_0 ∷ []) [] ∷ [];
 }
 
--- (a: p) <- not (a: p).
-abbrev pub against_itself : System
-against_itself = record {
+-- (a: p) <- not (a: p)., which is kept, and closed, where the one and the other says so
+abbrev pub against_itself_where : Bool → Bool → System
+against_itself_where keep closed = record {
   contexts = empty_context ∷ [];
-  bridges = record { name = codes "r"; target = 0; head = p; pos = []; neg = p_of_0 ∷ [] } ∷ [];
+  bridges = record (plain_rule (codes "r") 0 p [] (p_of_0 ∷ [])) { keep = keep; closed = closed } ∷ [];
+}
+
+abbrev pub against_itself : System
+against_itself = against_itself_where false false
+
+-- (a: p)., which is kept
+abbrev pub kept_fact : System
+kept_fact = record {
+  contexts = empty_context ∷ [];
+  bridges = record (plain_rule (codes "r") 0 p [] []) { keep = true } ∷ [];
+}
+
+-- (a: p) <- (a: p), not (a: p)., which is closed
+abbrev pub closed_never : System
+closed_never = record {
+  contexts = empty_context ∷ [];
+  bridges = record (plain_rule (codes "r") 0 p (p_of_0 ∷ []) (p_of_0 ∷ [])) { closed = true } ∷ [];
+}
+
+-- (a: p)., of this weight
+abbrev pub fact_of_weight : ℕ → System
+fact_of_weight weight = record {
+  contexts = empty_context ∷ [];
+  bridges = record (plain_rule (codes "r") 0 p [] []) { weight = weight } ∷ [];
 }
 
 -- (b: p) <- (a: p).
 abbrev pub one_reads_other : System
 one_reads_other = record {
   contexts = empty_context ∷ record { name = name_b; kb = Classical [] } ∷ [];
-  bridges = record { name = codes "r"; target = 1; head = p; pos = p_of_0 ∷ []; neg = [] } ∷ [];
+  bridges = plain_rule (codes "r") 1 p (p_of_0 ∷ []) [] ∷ [];
 }
 
 -- p. in a, (b: p) <- (a: p).
@@ -84,7 +108,7 @@ paradox = record { name = name_a; kb = Program a_unless_a }
 abbrev pub told_paradox : System
 told_paradox = record {
   contexts = paradox ∷ [];
-  bridges = record { name = codes "r"; target = 0; head = Atom name_b; pos = []; neg = [] } ∷ [];
+  bridges = plain_rule (codes "r") 0 (Atom name_b) [] [] ∷ [];
 }
 
 -- ---- default theories

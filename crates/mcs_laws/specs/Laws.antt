@@ -1,5 +1,5 @@
 -- What the definitions have in common with the literature: each is the contract of a function of `laws`.
-use Rattle.std.specs.Prelude.{◌≡◌, ℕ, ◌+◌, ◌^◌, IsTrue, ◌++◌, ◌<◌, ◌≤◌, List, [], ◌∷◌, ◌↔◌, map, slice_get, Some, ◌⊎◌, length}
+use Rattle.std.specs.Prelude.{◌≡◌, ℕ, ◌+◌, ◌^◌, IsTrue, ◌++◌, ◌<◌, ◌≤◌, true, false, List, [], ◌∷◌, ◌↔◌, map, slice_get, Some, None, ◌⊎◌, length}
 use Rattle.mcs_sets.specs.Sets.{has, size, common, minus, Within, Meets}
 use Rattle.mcs_sets.specs.Orders.{StateBefore, PairBefore}
 use Rattle.std.specs.List.{AllByRecursion}
@@ -7,14 +7,16 @@ use Rattle.mcs_system.specs.Rows.{IsRow, AgreeOnCommon, HasParts, local_of}
 use Rattle.mcs_system.specs.Imports.{IsQuestion, rules_into, marks_at}
 use Rattle.mcs_system.specs.Levels.{IsQuestionAt, IsCount, IsNeed, IsLocalRow}
 use Rattle.mcs_system.specs.Views.{IsAcceptedView, beliefs_at, at_places}
-use Rattle.mcs_system.specs.Faults.{IsValid}
+use Rattle.mcs_system.specs.declared.limit.Limit.TheVariants.{Weight}
+use Rattle.mcs_system.specs.Faults.{fault, fault_of, IsValid}
 use Rattle.mcs_base.specs.Pairs.{removed_of, forced_of}
 use Rattle.mcs_base.specs.Transversals.{IsTransversalOf}
 use Rattle.mcs_system.specs.Plain.{Name, Formula, Atom, Not, ProgramRule, Item, Classical, DefaultTheory, Program, Context, System}
 use Rattle.mcs_system.specs.Logic.{is_in, atoms, all_atoms, true_names, holds, holds_all, Entails, BeliefSet, Theory, Atoms, Believes, Accepts, with_heads, IsAnswerSet, IsExtension, IsClassical}
 use Rattle.mcs_system.specs.Systems.{heads_into, Follows, IsConsistent, IsProjection, IsProjectedEquilibrium, IsAcceptedPart, acting_at, variables_of, all_variables, all_rules}
-use Rattle.mcs_laws.specs.Examples.{SameNames, self_support, against_itself, one_reads_other, one_reads_fact, told_paradox, p, q, a_or_b, a_unless_b, a_unless_a, a_if_a, b_if_a, name_a, name_b, birds, bird, flies, p_by_itself, p_by_default, p_or_q}
+use Rattle.mcs_laws.specs.Examples.{SameNames, self_support, against_itself, one_reads_other, one_reads_fact, told_paradox, p, q, a_or_b, a_unless_b, a_unless_a, a_if_a, b_if_a, name_a, name_b, birds, bird, flies, p_by_itself, p_by_default, p_or_q, against_itself_where, kept_fact, closed_never, fact_of_weight}
 use Rattle.mcs_base.specs.Minimal.{IsMinimal}
+use Rattle.mcs_laws.specs.Free.{IsUnbarred, IsFreeDiagnosis, IsFreeExplanation, IsFreeChoice, IsFreeQuestion, IsFreeRow}
 use Rattle.mcs_system.specs.Repairs.{all_marks, allowed_marks, IsDiagnosis, IsExplanation, IsChoice, choice_marks}
 use Rattle.mcs_base.specs.Listings.{IsListing}
 
@@ -79,6 +81,32 @@ SelfSupportHasTwo = IsListing (IsProjectedEquilibrium self_support (all_rules se
 abbrev pub AgainstItselfHasNone : Type 0
 AgainstItselfHasNone = (σ : ℕ) → ¬ IsProjectedEquilibrium against_itself (all_rules against_itself) 0 σ
 
+-- where the rule against its own context may not be removed, to force it is the one diagnosis: this pair has the mark 1 alone
+abbrev pub KeptIsForced : Type 0
+KeptIsForced = (pair : ℕ) → IsDiagnosis (against_itself_where true false) pair ↔ (pair ≡ 2)
+
+-- where it may not be forced, to remove it is the one diagnosis: this pair has the mark 0 alone
+abbrev pub ClosedIsRemoved : Type 0
+ClosedIsRemoved = (pair : ℕ) → IsDiagnosis (against_itself_where false true) pair ↔ (pair ≡ 1)
+
+-- where neither may be, nothing is a diagnosis, and the empty pair is an explanation
+abbrev pub BarredIsUnrepaired : Type 0
+BarredIsUnrepaired = ((pair : ℕ) → ¬ IsDiagnosis (against_itself_where true true) pair) × IsExplanation (against_itself_where true true) 0
+
+-- a kept rule that always applies is in each question to its context
+abbrev pub KeptIsAsked : Type 0
+KeptIsAsked = (level x : ℕ) → IsQuestionAt kept_fact level 0 x ↔ (x ≡ 1)
+
+-- a closed rule that never applies is in none
+abbrev pub ClosedIsNotAsked : Type 0
+ClosedIsNotAsked = (level x : ℕ) → IsQuestionAt closed_never level 0 x ↔ (x ≡ 0)
+
+-- a weight is from 1 to 1000000: less is a misfit, and more exceeds the limit
+abbrev pub WeightsAreLimited : Type 0
+WeightsAreLimited =
+    (fault_of (fact_of_weight 0) ≡ Some (fault 4 None)) × IsValid (fact_of_weight 1) × IsValid (fact_of_weight 1000000)
+    × (fault_of (fact_of_weight 1000001) ≡ Some (fault 5 (Some Weight)))
+
 -- what a program without answer sets needs, where a rule that always applies goes into it: it is asked with the rule and
 -- without it, for one mark is allowed, and without marks it would be asked with it alone
 abbrev pub NeedIsOfAllRules : Type 0
@@ -142,9 +170,9 @@ abbrev pub ChoicesAskQuestions : Type 0
 ChoicesAskQuestions = (m : System) (order : List ℕ) (level σ x i : ℕ) → AllByRecursion (λ c. c < length m.contexts) order → IsChoice m σ x → size (choice_marks m σ x) ≤ level
     → IsQuestion m order level i (common x (rules_into m i))
 
--- rows that fit together, one of each context, are the parts of a choice
+-- rows that fit together, one of each context of a valid system, are the parts of a choice
 abbrev pub RowsMakeChoices : Type 0
-RowsMakeChoices = (m : System) (order : List ℕ) (level : ℕ) (rows : List (ℕ × ℕ)) → length rows ≡ length m.contexts
+RowsMakeChoices = (m : System) (order : List ℕ) (level : ℕ) (rows : List (ℕ × ℕ)) → IsValid m → length rows ≡ length m.contexts
     → ((i : ℕ) (p : ℕ × ℕ) → slice_get rows i ≡ Some p → IsRow m order level i p.0 p.1) → AgreeOnCommon m rows
     → (σ : ℕ) × (x : ℕ) × IsChoice m σ x × HasParts m σ x rows
 
@@ -161,6 +189,27 @@ MarksAreUnited = (m : System) (σ x k : ℕ) → IsValid m → Within x (all_rul
 -- and no mark is one at two contexts
 abbrev pub MarksAreApart : Type 0
 MarksAreApart = (m : System) (σ τ x y i j : ℕ) → Within x (rules_into m i) → Within y (rules_into m j) → ¬ (i ≡ j) → ¬ Meets (marks_at m i σ x) (marks_at m j τ y)
+
+-- ---- where no rule is barred
+-- in a system without kept and closed rules each mark of a rule is allowed
+abbrev pub AllMarksAreAllowed : Type 0
+AllMarksAreAllowed = (m : System) → IsUnbarred m → allowed_marks m ≡ all_marks m
+
+-- so its diagnoses, explanations, choices, questions and rows are those where each rule may be removed and forced
+abbrev pub FreeDiagnoses : Type 0
+FreeDiagnoses = (m : System) (pair : ℕ) → IsUnbarred m → IsDiagnosis m pair ↔ IsFreeDiagnosis m pair
+
+abbrev pub FreeExplanations : Type 0
+FreeExplanations = (m : System) (pair : ℕ) → IsUnbarred m → IsExplanation m pair ↔ IsFreeExplanation m pair
+
+abbrev pub FreeChoices : Type 0
+FreeChoices = (m : System) (σ x : ℕ) → IsUnbarred m → IsChoice m σ x ↔ IsFreeChoice m σ x
+
+abbrev pub FreeQuestions : Type 0
+FreeQuestions = (m : System) (order : List ℕ) (level i x : ℕ) → IsUnbarred m → IsQuestion m order level i x ↔ IsFreeQuestion m order level i x
+
+abbrev pub FreeRows : Type 0
+FreeRows = (m : System) (order : List ℕ) (level i state marks : ℕ) → IsUnbarred m → IsRow m order level i state marks ↔ IsFreeRow m order level i state marks
 
 -- ---- views
 -- what a context accepts with the heads of some rules, through its variables, is what its knowledge base accepts through their beliefs

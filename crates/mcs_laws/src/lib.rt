@@ -1,7 +1,7 @@
 //! Laws over the definitions of multi-context systems. The functions do nothing: each contract is a law.
 #![tactic(auto)]
 
-ghost use Rattle.mcs_laws.specs.Laws.{StatesHaveOneListing, DiagnosesHaveOneListing, WithoutDiagnosesNothingExplains, ChangedStatesAreChoices, MinimalDiagnosesAreDifferences, ExplanationsMeetDiagnoses, MinimalExplanationsAreMinimalTransversals, EquilibriaAreByParts, ConsequenceIsDecided, SelfSupportHasTwo, AgainstItselfHasNone, NeedIsOfAllRules, RowsHaveFewMarks, RowsKeepToSupplies, QuestionsKeepToSupplies, QuestionsTakeSupplies, ChoicesAreDiagnoses, ConsistentNeedsNothing, StatesHaveOneProjection, MinimalDiagnosesAreSmall, QuestionsGrow, RowsMakeChoices, ChoicesAskQuestions, ChoicesHaveRows, MarksAreUnited, MarksAreApart, PartsAreViews, ViewListingsGivePartListings, NegationAllows, NegationUndoes, ProgramsDoNotSupportThemselves, HeadsAreFacts, ProgramsBelieveAtoms, DefaultsAreGrounded, DefaultsMayChoose, ToldFactsBlock, KindsAcceptTheirSort, DisjunctionChooses, BirdFlies, TablesDecide, ClassicalContextsAcceptWhatFollows, ClassicalStatesHaveAListing, ConsistencyIsListed};
+ghost use Rattle.mcs_laws.specs.Laws.{StatesHaveOneListing, DiagnosesHaveOneListing, WithoutDiagnosesNothingExplains, ChangedStatesAreChoices, MinimalDiagnosesAreDifferences, ExplanationsMeetDiagnoses, MinimalExplanationsAreMinimalTransversals, EquilibriaAreByParts, ConsequenceIsDecided, SelfSupportHasTwo, AgainstItselfHasNone, NeedIsOfAllRules, RowsHaveFewMarks, RowsKeepToSupplies, QuestionsKeepToSupplies, QuestionsTakeSupplies, ChoicesAreDiagnoses, ConsistentNeedsNothing, StatesHaveOneProjection, MinimalDiagnosesAreSmall, QuestionsGrow, RowsMakeChoices, ChoicesAskQuestions, ChoicesHaveRows, MarksAreUnited, MarksAreApart, PartsAreViews, ViewListingsGivePartListings, NegationAllows, NegationUndoes, ProgramsDoNotSupportThemselves, HeadsAreFacts, ProgramsBelieveAtoms, DefaultsAreGrounded, DefaultsMayChoose, ToldFactsBlock, KindsAcceptTheirSort, DisjunctionChooses, BirdFlies, TablesDecide, ClassicalContextsAcceptWhatFollows, ClassicalStatesHaveAListing, ConsistencyIsListed, KeptIsForced, ClosedIsRemoved, BarredIsUnrepaired, KeptIsAsked, ClosedIsNotAsked, WeightsAreLimited, AllMarksAreAllowed, FreeDiagnoses, FreeExplanations, FreeChoices, FreeQuestions, FreeRows};
 
 /// Of a property of states, or of pairs, there is at most one listing.
 pub fn listings_are_unique()
@@ -50,6 +50,17 @@ pub fn tiny_systems()
     ensures none { AgainstItselfHasNone }
 {}
 
+/// A rule that is kept is not removed and a rule that is closed is not forced, by diagnoses, by explanations and by what
+/// contexts are asked; a weight is from 1 to 1000000.
+pub fn worked_rules()
+    ensures kept { KeptIsForced }
+    ensures closed { ClosedIsRemoved }
+    ensures barred { BarredIsUnrepaired }
+    ensures asked { KeptIsAsked }
+    ensures not_asked { ClosedIsNotAsked }
+    ensures weights { WeightsAreLimited }
+{}
+
 /// What tiny systems need and have by levels: without equilibria the level of all rules counts, rows have no more
 /// marks than their level, rows and questions keep to what earlier contexts may supply, and questions take up what they
 /// do supply.
@@ -92,6 +103,17 @@ pub fn questions_by_level()
 pub fn marks_are_of_contexts()
     ensures united { MarksAreUnited }
     ensures apart { MarksAreApart }
+{}
+
+/// Where no rule is kept or closed, each mark of a rule is allowed, and each notion of repairs is what it is where
+/// each rule may be removed and each may be forced.
+pub fn unbarred_rules_are_free()
+    ensures marks { AllMarksAreAllowed }
+    ensures diagnoses { FreeDiagnoses }
+    ensures explanations { FreeExplanations }
+    ensures choices { FreeChoices }
+    ensures questions { FreeQuestions }
+    ensures rows { FreeRows }
 {}
 
 /// What a context accepts, through its variables, is what its knowledge base with the heads accepts through their

@@ -1,24 +1,22 @@
 -- The local rows of a context, by what the supplies and guesses make of its inputs and by what it accepts.
-use Rattle.std.proofs.Common.{◌≡◌, ℕ, ◌≤◌, List, bit_xor, refl, sym, ap, ◌∙◌, subst, ◌↔◌}
-use Rattle.mcs_sets.specs.Sets.{size, common, union, minus, Within}
+use Rattle.std.proofs.Common.{◌≡◌, ℕ, ◌≤◌, List, refl, sym, ap, ◌∙◌, subst, ◌↔◌}
+use Rattle.mcs_sets.specs.Sets.{size, common, union, Within}
 use Rattle.mcs_sets.proofs.Lattice.{common-common}
 use Rattle.mcs_base.specs.Listings.{IsAmong}
 use Rattle.mcs_base.proofs.Among.{filter_among, among_filter}
 use Rattle.mcs_system.specs.Plain.{System}
 use Rattle.mcs_system.specs.Systems.{variables_of, all_variables, IsAcceptedPart}
-use Rattle.mcs_system.specs.Repairs.{marks_of, all_marks}
+use Rattle.mcs_system.specs.Repairs.{allowed_marks}
 use Rattle.mcs_system.specs.Rows.{inputs_of, local_of, IsRow}
 use Rattle.mcs_system.specs.Imports.{imports, before_in, supplied, marks_at, IsImportOrder, IsQuestion, IsPossible}
-use Rattle.mcs_system.proofs.MarkLemmas.{marks_known}
 use Rattle.mcs_import.specs.Plans.{guessed, AreSupplies}
 use Rattle.mcs_import.specs.States.{Joins}
-use Rattle.mcs_import.proofs.QuestionLemmas.{size-marks_at, question_by_state, IsAllowed, same_applicable, one_context, accepted_within, context_known, state_for, parts_of}
-use Rattle.mcs_rows.specs.Making.{distance}
+use Rattle.mcs_import.proofs.QuestionLemmas.{question_by_state, IsAllowed, same_marks, one_context, accepted_within, context_known, state_for, parts_of}
 use Rattle.mcs_base.proofs.SetParts.{union_of_commons, commons_agree}
 use Rattle.mcs_rows.proofs.General.{not_before, replaced, replaced-own, replaced-elsewhere, replaced-inputs, replaced-known}
 
--- ---- a row, by what it is made of: a state at the inputs, a question that is near what applies in it, and a part
--- that is accepted with it and agrees with the state
+-- ---- a row, by what it is made of: a state at the inputs, a question that few changes, each of them allowed, make
+-- of what applies in it, and a part that is accepted with it and agrees with the state
 pub record IsMade (m : System) (order : List ℕ) (level i : ℕ) (xss : List (List ℕ)) (state marks : ℕ) : Type 0 where
   pub joined : ℕ
   pub is_joined : Joins (inputs_of m i) xss 0 joined
@@ -26,28 +24,22 @@ pub record IsMade (m : System) (order : List ℕ) (level i : ℕ) (xss : List (L
   pub of_guesses : Within guess (guessed m order i)
   pub question : ℕ
   pub asked : IsQuestion m order level i question
-  pub near : distance m i (union joined guess) question ≤ level
+  pub allowed : Within (marks_at m i (union joined guess) question) (allowed_marks m)
+  pub near : size (marks_at m i (union joined guess) question) ≤ level
   pub part : ℕ
   pub accepted : IsAcceptedPart m i question part
   pub agree : common part (inputs_of m i) ≡ common (union joined guess) (variables_of m i)
   pub state_is : common (union part (union joined guess)) (local_of m i) ≡ state
   pub marks_is : marks_at m i (union joined guess) question ≡ marks
 
--- the same rules apply, so that the marks are the same, and as many
-same_marks : (m : System) (i σ τ x : ℕ) → common σ (inputs_of m i) ≡ common τ (inputs_of m i) → marks_at m i σ x ≡ marks_at m i τ x
-same_marks m i σ τ x same = ap (λ a. marks_of m (minus a x) (minus x a)) (same_applicable m i σ τ same)
-
-same_distance : (m : System) (i σ τ x : ℕ) → common σ (inputs_of m i) ≡ common τ (inputs_of m i) → distance m i σ x ≡ distance m i τ x
-same_distance m i σ τ x same = ap (λ a. size (bit_xor a x)) (same_applicable m i σ τ same)
-
 module _ (m : System) (order : List ℕ) (ordered : IsImportOrder m order) (level i : ℕ) (xss : List (List ℕ)) (supplies : AreSupplies m level (supplied m order i) xss) (state marks : ℕ) where
   made_is_row : IsMade m order level i xss state marks → IsRow m order level i state marks
   made_is_row h =
-      let (σ, allowed, seen) = state_for m order ordered level i xss supplies h.joined h.guess h.is_joined h.of_guesses in
-      made h (accepted_within m i h.question h.part h.accepted) σ allowed seen
+      let (σ, possible, seen) = state_for m order ordered level i xss supplies h.joined h.guess h.is_joined h.of_guesses in
+      made h (accepted_within m i h.question h.part h.accepted) σ possible seen
     where
       made : (h : IsMade m order level i xss state marks) → Within h.part (variables_of m i) → (σ : ℕ) → IsAllowed m order level i σ → common σ (inputs_of m i) ≡ union h.joined h.guess → IsRow m order level i state marks
-      made h inside σ allowed seen =
+      made h inside σ possible seen =
           let s : ℕ = union h.joined h.guess in
           let w : ℕ = replaced (variables_of m i) σ h.part inside in
           let own : common w (variables_of m i) ≡ h.part = replaced-own (variables_of m i) σ h.part inside in
@@ -56,37 +48,39 @@ module _ (m : System) (order : List ℕ) (ordered : IsImportOrder m order) (leve
           let of_rules = ((question_by_state m order ordered level i h.question).0 h.asked).0 in
           record {
             whole = w;
-            of_variables = replaced-known (variables_of m i) σ h.part inside (all_variables m) allowed.of_variables (context_known m i);
+            of_variables = replaced-known (variables_of m i) σ h.part inside (all_variables m) possible.of_variables (context_known m i);
             rules = h.question;
             of_rules = of_rules;
             accepted = subst (IsAcceptedPart m i h.question) (sym own) h.accepted;
             supplies = λ j before imported. (
                 let other : ¬ (j ≡ i) = λ e. not_before order i (subst (λ (n : ℕ). IsAmong n (before_in order i)) e before) in
                 subst (IsPossible m order level j) (sym (replaced-elsewhere (variables_of m i) σ h.part inside (variables_of m j) (λ v e e'. other (one_context m j i v e e'))))
-                (allowed.supplies j (among_filter (imports m i) j (before_in order i) before imported)));
+                (possible.supplies j (among_filter (imports m i) j (before_in order i) before imported)));
             state_is = sym (union_of_commons (variables_of m i) (inputs_of m i) w h.part s own seen') ∙ h.state_is;
             marks_is = sym (same_marks m i s w h.question same) ∙ h.marks_is;
-            allowed = subst (λ (z : ℕ). Within z (all_marks m)) h.marks_is (marks_known m _ _);
-            few = subst (λ (n : ℕ). n ≤ level) (sym (size-marks_at m i s h.question of_rules) ∙ ap (λ (z : ℕ). size z) h.marks_is) h.near;
+            allowed = subst (λ (z : ℕ). Within z (allowed_marks m)) h.marks_is h.allowed;
+            few = subst (λ (z : ℕ). size z ≤ level) h.marks_is h.near;
           }
 
   row_is_made : IsRow m order level i state marks → IsMade m order level i xss state marks
   row_is_made r =
-      let allowed : IsAllowed m order level i r.whole = record {
+      let possible : IsAllowed m order level i r.whole = record {
         of_variables = r.of_variables;
         supplies = λ j among. let (before, imported) = filter_among (imports m i) j (before_in order i) among in r.supplies j before imported;
       } in
-      let (p, g, joins, within, seen) = parts_of m order ordered level i xss supplies r.whole allowed in
+      let (p, g, joins, within, seen) = parts_of m order ordered level i xss supplies r.whole possible in
       let same : common r.whole (inputs_of m i) ≡ common (union p g) (inputs_of m i) = sym (common-common r.whole (inputs_of m i)) ∙ ap (λ z. common z (inputs_of m i)) seen in
-      let near : distance m i r.whole r.rules ≤ level = subst (λ (n : ℕ). n ≤ level) (ap (λ (z : ℕ). size z) (sym r.marks_is) ∙ size-marks_at m i r.whole r.rules r.of_rules) r.few in
+      let allowed : Within (marks_at m i r.whole r.rules) (allowed_marks m) = subst (λ (z : ℕ). Within z (allowed_marks m)) (sym r.marks_is) r.allowed in
+      let near : size (marks_at m i r.whole r.rules) ≤ level = subst (λ (z : ℕ). size z ≤ level) (sym r.marks_is) r.few in
       record {
         joined = p;
         is_joined = joins;
         guess = g;
         of_guesses = within;
         question = r.rules;
-        asked = (question_by_state m order ordered level i r.rules).1 (r.of_rules, (r.whole, allowed, near));
-        near = subst (λ (n : ℕ). n ≤ level) (same_distance m i r.whole (union p g) r.rules same) near;
+        asked = (question_by_state m order ordered level i r.rules).1 (r.of_rules, (r.whole, possible, allowed, near));
+        allowed = subst (λ (z : ℕ). Within z (allowed_marks m)) (same_marks m i r.whole (union p g) r.rules same) allowed;
+        near = subst (λ (z : ℕ). size z ≤ level) (same_marks m i r.whole (union p g) r.rules same) near;
         part = common r.whole (variables_of m i);
         accepted = r.accepted;
         agree = commons_agree (variables_of m i) (inputs_of m i) r.whole (union p g) seen;

@@ -1,6 +1,7 @@
 -- The rows that the code makes are the local rows, and the parts that it gathers are what may be supplied.
-use Rattle.std.proofs.Common.{◌≡◌, ℕ, ◌<◌, ◌≤◌, Bool, true, false, cond, leb, List, [], ◌∷◌, map, filter, take, length, bit_xor, refl, sym, ap, ◌∙◌, subst, ◌↔◌, arith}
-use Rattle.std.proofs.lemmas.Bool.{leb-true, le-leb}
+use Rattle.std.proofs.Common.{◌≡◌, ℕ, ◌+◌, ◌<◌, ◌≤◌, Bool, true, false, cond, eqb, leb, List, [], ◌∷◌, map, filter, take, length, refl, sym, ap, ◌∙◌, subst, ◌↔◌, arith}
+use Rattle.std.proofs.lemmas.Bool.{leb-true, le-leb, and_parts, and_from, eq-eqb, eqb-true, false_from_ne_true}
+use Rattle.mcs_sets.proofs.SetLemmas.{within_where_common, common_where_within}
 use Rattle.std.proofs.lemmas.Bool.Decides.{nat_tests}
 use Rattle.std.proofs.lemmas.List.{take_all}
 use Rattle.std.specs.List.{AllByRecursion, flat_map}
@@ -13,7 +14,7 @@ use Rattle.mcs_base.proofs.Each.{all_among, all_from_among}
 use Rattle.mcs_base.proofs.ListingLemmas.{IsListing-same}
 use Rattle.mcs_system.specs.Plain.{System}
 use Rattle.mcs_system.specs.Systems.{variables_of, all_rules, applicable, IsAcceptedPart}
-use Rattle.mcs_system.specs.Repairs.{marks_of}
+use Rattle.mcs_system.specs.Repairs.{marks_of, allowed_marks}
 use Rattle.mcs_system.specs.Rows.{inputs_of, local_of, IsRow}
 use Rattle.mcs_system.specs.Imports.{supplied, rules_into, marks_at, IsImportOrder}
 use Rattle.mcs_system.specs.Levels.{IsQuestionAt, IsLocalRow, MaySupply}
@@ -24,23 +25,39 @@ use Rattle.mcs_table.specs.Tables.{TableData}
 use Rattle.mcs_import.specs.Plans.{guessed, AreSupplies}
 use Rattle.mcs_import.specs.States.{SomeJoins, SomeGrows}
 use Rattle.mcs_import.proofs.OrderLemmas.{import_order_is_one}
-use Rattle.mcs_import.proofs.QuestionLemmas.{question_in}
+use Rattle.mcs_import.proofs.QuestionLemmas.{question_in, applying, count-marks_at}
 use Rattle.mcs_import.proofs.StateLemmas.{states_found}
 use Rattle.mcs_rows.specs.Local.{Answered, AreAnswered, IsRowOf, IsLocalTable}
 use Rattle.mcs_rows.specs.Answers.{answered_of}
-use Rattle.mcs_rows.specs.Making.{agrees, row_with, distance, rows_with}
+use Rattle.mcs_rows.specs.Making.{agrees, row_with, is_in_reach, rows_with}
 use Rattle.mcs_rows.specs.declared.answer.Answer.{Answer}
 use Rattle.mcs_rows.proofs.LocalLemmas.{IsMade, rows_are_made}
 
--- ---- a question that is too far, or near
-pub distance_is : (m : System) (i state x applying count : ℕ) → applying ≡ common (applicable m state) (rules_into m i) → count ≡ size (bit_xor applying x) → count ≡ distance m i state x
-distance_is m i state x applying count applies many = many ∙ ap (λ s. size (bit_xor s x)) applies
+-- ---- a question that is in reach, or not
+pub in_reach : (m : System) (i level state x : ℕ) → (is_in_reach m i level state x ≡ true) ↔ ((size (marks_at m i state x) ≤ level) × Within (marks_at m i state x) (allowed_marks m))
+in_reach m i level state x = (
+  λ e. (
+      let (few, same) = and_parts (leb (size marks) level) (eqb (common marks (allowed_marks m)) marks) e in
+      (leb-true (size marks) level few, within_where_common marks (allowed_marks m) (eqb-true (common marks (allowed_marks m)) marks same))),
+  λ (few, within). and_from (leb (size marks) level) (eqb (common marks (allowed_marks m)) marks) (le-leb (size marks) level few) (eq-eqb (common marks (allowed_marks m)) marks (common_where_within marks (allowed_marks m) within)),
+)
+  where
+    marks : ℕ
+    marks = marks_at m i state x
 
-pub too_far : (m : System) (i level state : ℕ) (a : Answer) → level < distance m i state a.active → rows_with m i level state a ≡ []
-too_far m i level state a far = let e : leb (distance m i state a.active) level ≡ false = grind (arith, nat_tests) in rw e refl
+pub rows_in_reach : (m : System) (i level state : ℕ) (a : Answer) → size (marks_at m i state a.active) ≤ level → Within (marks_at m i state a.active) (allowed_marks m)
+    → rows_with m i level state a ≡ map (row_with m i state (marks_at m i state a.active)) (filter (agrees m i state) a.parts.items)
+rows_in_reach m i level state a few within = rw ((in_reach m i level state a.active).1 (few, within)) refl
 
-pub near_enough : (m : System) (i level state : ℕ) (a : Answer) → distance m i state a.active ≤ level → rows_with m i level state a ≡ map (row_with m i state (marks_at m i state a.active)) (filter (agrees m i state) a.parts.items)
-near_enough m i level state a near = rw (le-leb (distance m i state a.active) level near) refl
+pub too_many : (m : System) (i level state : ℕ) (a : Answer) → level < size (marks_at m i state a.active) → rows_with m i level state a ≡ []
+too_many m i level state a many = rw (false_from_ne_true (is_in_reach m i level state a.active) (λ e. (let (few, within) = (in_reach m i level state a.active).0 e in absurd (omega (arith, few, many))))) refl
+
+pub not_allowed : (m : System) (i level state : ℕ) (a : Answer) → ¬ Within (marks_at m i state a.active) (allowed_marks m) → rows_with m i level state a ≡ []
+not_allowed m i level state a never = rw (false_from_ne_true (is_in_reach m i level state a.active) (λ e. never ((in_reach m i level state a.active).0 e).1)) refl
+
+pub marks_counted : (m : System) (i state x applies removed forced : ℕ) → applies ≡ common (applicable m state) (rules_into m i) → Within x (rules_into m i) → removed ≡ minus applies x → forced ≡ minus x applies → size removed + size forced ≡ size (marks_at m i state x)
+marks_counted m i state x applies removed forced is of_rules removed_is forced_is =
+    ap (λ (s : ℕ). size s + size forced) (removed_is ∙ ap (λ s. minus s x) is) ∙ ap (λ (s : ℕ). size (minus (applying m i state) x) + size s) (forced_is ∙ ap (minus x) is) ∙ sym (count-marks_at m i state x of_rules)
 
 -- the marks of the rules that are removed and forced are those of the question
 pub marks_are_at : (m : System) (i state x applying removed forced marks : ℕ) → applying ≡ common (applicable m state) (rules_into m i) → Within x (rules_into m i) → removed ≡ minus applying x → forced ≡ minus x applying
@@ -95,27 +112,28 @@ module _ (m : System) (level i : ℕ) (answers : List Answer) (answered : AreAns
 
     -- what is among the rows of a state with an answer
     with_answer : (s : ℕ) (a : Answer) (r : Row) → IsAmong r (rows_with m i level s a)
-        → (distance m i s a.active ≤ level) × ((τ : ℕ) × IsAmong τ a.parts.items × (common τ (inputs_of m i) ≡ common s (variables_of m i)) × (r ≡ row_with m i s (marks_at m i s a.active) τ))
-    with_answer s a r = at (leb (distance m i s a.active) level) refl
+        → (size (marks_at m i s a.active) ≤ level) × Within (marks_at m i s a.active) (allowed_marks m) × ((τ : ℕ) × IsAmong τ a.parts.items × (common τ (inputs_of m i) ≡ common s (variables_of m i)) × (r ≡ row_with m i s (marks_at m i s a.active) τ))
+    with_answer s a r = at (is_in_reach m i level s a.active) refl
       where
-        at : (v : Bool) → leb (distance m i s a.active) level ≡ v → IsAmong r (cond v (map (row_with m i s (marks_at m i s a.active)) (filter (agrees m i s) a.parts.items)) [])
-            → (distance m i s a.active ≤ level) × ((τ : ℕ) × IsAmong τ a.parts.items × (common τ (inputs_of m i) ≡ common s (variables_of m i)) × (r ≡ row_with m i s (marks_at m i s a.active) τ))
+        at : (v : Bool) → is_in_reach m i level s a.active ≡ v → IsAmong r (cond v (map (row_with m i s (marks_at m i s a.active)) (filter (agrees m i s) a.parts.items)) [])
+            → (size (marks_at m i s a.active) ≤ level) × Within (marks_at m i s a.active) (allowed_marks m) × ((τ : ℕ) × IsAmong τ a.parts.items × (common τ (inputs_of m i) ≡ common s (variables_of m i)) × (r ≡ row_with m i s (marks_at m i s a.active) τ))
         at true near among =
             let (τ, there, e) = map_among (row_with m i s (marks_at m i s a.active)) r (filter (agrees m i s) a.parts.items) among in
             let (here, test) = filter_among (agrees m i s) τ a.parts.items there in
-            (leb-true (distance m i s a.active) level near, (τ, here, (let same : common τ (inputs_of m i) ≡ common s (variables_of m i) = grind (arith, nat_tests) in same), e))
+            let (few, within) = (in_reach m i level s a.active).0 near in
+            (few, within, (τ, here, (let same : common τ (inputs_of m i) ≡ common s (variables_of m i) = grind (arith, nat_tests) in same), e))
         at false far among = absurd among
 
-    answer_with : (s : ℕ) (a : Answer) (τ : ℕ) → distance m i s a.active ≤ level → IsAmong τ a.parts.items → common τ (inputs_of m i) ≡ common s (variables_of m i) → IsAmong (row_with m i s (marks_at m i s a.active) τ) (rows_with m i level s a)
-    answer_with s a τ near here same =
-        subst (IsAmong (row_with m i s (marks_at m i s a.active) τ)) (sym (near_enough m i level s a near))
+    answer_with : (s : ℕ) (a : Answer) (τ : ℕ) → size (marks_at m i s a.active) ≤ level → Within (marks_at m i s a.active) (allowed_marks m) → IsAmong τ a.parts.items → common τ (inputs_of m i) ≡ common s (variables_of m i) → IsAmong (row_with m i s (marks_at m i s a.active) τ) (rows_with m i level s a)
+    answer_with s a τ few within here same =
+        subst (IsAmong (row_with m i s (marks_at m i s a.active) τ)) (sym (rows_in_reach m i level s a few within))
         (among_map (row_with m i s (marks_at m i s a.active)) τ (filter (agrees m i s) a.parts.items) (among_filter (agrees m i s) τ a.parts.items here (grind (arith, nat_tests))))
 
     made_are_local : (r : Row) → IsAmong r made → IsRowOf m level i r
     made_are_local r among =
         let (s, state, there) = flat_map_among (λ s. flat_map (rows_with m i level s) answers) r states among in
         let (a, here, there') = flat_map_among (rows_with m i level s) r answers there in
-        let (near, (τ, part, same, e)) = with_answer s a r there' in
+        let (few, allowed, (τ, part, same, e)) = with_answer s a r there' in
         let (p, g, joins, within, is) = (states_found (inputs_of m i) xss (guessed m order i) joined states of_joins of_grows s).0 state in
         record {
           mask = ap (λ (q : Row). q.state.mask) e;
@@ -129,7 +147,8 @@ module _ (m : System) (level i : ℕ) (answers : List Answer) (answered : AreAns
               of_guesses = within;
               question = a.active;
               asked = (question_in m order ordered level i a.active).1 (asked_of a here);
-              near = subst (λ (z : ℕ). distance m i z a.active ≤ level) is near;
+              allowed = subst (λ (z : ℕ). Within (marks_at m i z a.active) (allowed_marks m)) is allowed;
+              near = subst (λ (z : ℕ). size (marks_at m i z a.active) ≤ level) is few;
               part = τ;
               accepted = ((parts_of_answer a here).exactly τ).0 part;
               agree = same ∙ ap (λ z. common z (variables_of m i)) is;
@@ -155,7 +174,7 @@ module _ (m : System) (level i : ℕ) (answers : List Answer) (answered : AreAns
             let is : row ≡ r = same_row row r (sym of_i.mask) h.state_is (ap (marks_at m i s) (sym e) ∙ h.marks_is) in
             subst (λ (q : Row). IsAmong q made) is
             (among_flat_map (λ s. flat_map (rows_with m i level s) answers) s row states state
-            (among_flat_map (rows_with m i level s) a row answers here (answer_with s a h.part (subst (λ (z : ℕ). distance m i s z ≤ level) e h.near) part h.agree)))
+            (among_flat_map (rows_with m i level s) a row answers here (answer_with s a h.part (subst (λ (z : ℕ). size (marks_at m i s z) ≤ level) e h.near) (subst (λ (z : ℕ). Within (marks_at m i s z) (allowed_marks m)) e h.allowed) part h.agree)))
 
     pub rows_are_local : (t : TableData) (rows : List Row) → rows ≡ made → t.scope ≡ local_of m i → IsListing (λ r. IsAmong r rows) RowBefore t.rows → IsLocalTable m level i t
     rows_are_local t rows is scope listing = record {
@@ -175,7 +194,7 @@ made_on m i level answers states scope rows is rows_are = all_from_among (λ (r 
     each r among =
         let (s, state, there) = flat_map_among (λ s. flat_map (rows_with m i level s) answers) r states among in
         let (a, here, there') = flat_map_among (rows_with m i level s) r answers there in
-        of_row s a r (leb (distance m i s a.active) level) there'
+        of_row s a r (is_in_reach m i level s a.active) there'
 
 -- the table that the code answers, by what its calls tell
 pub table_is_local : (m : System) (level i : ℕ) (answers : List Answer) → AreAnswered m level i (map answered_of answers) → (order : List ℕ) → IsImportOrder m order → (xss : List (List ℕ)) → AreSupplies m level (supplied m order i) xss

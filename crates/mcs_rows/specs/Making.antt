@@ -1,10 +1,11 @@
 -- Rows of a context, as they are made of a state at its inputs and of an answer.
-use Rattle.std.specs.Prelude.{ℕ, Bool, List, [], cond, map, filter, nat_eq, nat_le, bit_xor}
+use Rattle.std.specs.Prelude.{ℕ, Bool, ◌&&◌, List, [], cond, map, filter, nat_eq, nat_le}
 use Rattle.mcs_sets.specs.Sets.{common, union, size}
-use Rattle.mcs_system.specs.Imports.{rules_into, marks_at}
+use Rattle.mcs_system.specs.Imports.{marks_at}
 use Rattle.mcs_system.specs.Plain.{System}
+use Rattle.mcs_system.specs.Repairs.{allowed_marks}
 use Rattle.mcs_system.specs.Rows.{inputs_of, local_of}
-use Rattle.mcs_system.specs.Systems.{variables_of, applicable}
+use Rattle.mcs_system.specs.Systems.{variables_of}
 use Rattle.mcs_table.specs.declared.row.Row.{Row}
 use Rattle.mcs_rows.specs.declared.answer.Answer as code
 
@@ -16,10 +17,10 @@ agrees m i state part = nat_eq (common part (inputs_of m i)) (common state (vari
 abbrev pub row_with : System → ℕ → ℕ → ℕ → ℕ → Row
 row_with m i state marks part = record { state = record { mask = local_of m i; values = common (union part state) (local_of m i) }; marks = marks }
 
--- in how many of the rules into i the set x differs from those that apply in the state
-abbrev pub distance : System → ℕ → ℕ → ℕ → ℕ
-distance m i state x = size (bit_xor (common (applicable m state) (rules_into m i)) x)
+-- whether few changes, each of them allowed, make x of the rules into i that apply in the state
+abbrev pub is_in_reach : System → ℕ → ℕ → ℕ → ℕ → Bool
+is_in_reach m i level state x = nat_le (size (marks_at m i state x)) level && nat_eq (common (marks_at m i state x) (allowed_marks m)) (marks_at m i state x)
 
--- the rows of the state with an answer: none where the question is too far from what applies
+-- the rows of the state with an answer: none where what was asked is not in reach of what applies
 abbrev pub rows_with : System → ℕ → ℕ → ℕ → code.Answer → List Row
-rows_with m i level state a = cond (nat_le (distance m i state a.active) level) (map (row_with m i state (marks_at m i state a.active)) (filter (agrees m i state) a.parts.items)) []
+rows_with m i level state a = cond (is_in_reach m i level state a.active) (map (row_with m i state (marks_at m i state a.active)) (filter (agrees m i state) a.parts.items)) []

@@ -4,6 +4,7 @@ ghost use Rattle.std.specs.Prelude.{◌≡◌, ◌<◌, ◌++◌, ℕ, List, map
 ghost use Rattle.std.specs.List.{AllByRecursion, flat_map};
 ghost use Rattle.mcs_sets.specs.Sets.{common, Within};
 ghost use Rattle.mcs_system.specs.Imports.{IsImportOrder, supplied, rules_into};
+ghost use Rattle.mcs_system.specs.Repairs.{allowed_marks};
 ghost use Rattle.mcs_system.specs.Systems.{applicable};
 ghost use Rattle.mcs_import.specs.Plans.{AreSupplies};
 ghost use Rattle.mcs_rows.specs.Answers.{answered_of};
@@ -14,7 +15,7 @@ ghost use Rattle.mcs_rows.specs.declared.answer.Answer as declared;
 use crate::answer::Answer;
 use crate::marks::marks_of;
 use mcs_base::{Active, Marks, Memory, Partial, Vars};
-use mcs_import::{Plan, difference, guessed_states, supplied_states};
+use mcs_import::{Plan, guessed_states, supplied_states};
 use mcs_system::System;
 use mcs_table::{Row, Table};
 use std::alloc::Global;
@@ -54,8 +55,15 @@ fn add_parts(
     Ok(())
 }
 
-/// Adds the rows of context `i` of the state at its inputs with the answer, where what was asked differs in
-/// at most `level` rules from those that apply in the state.
+/// Which marks a row may have, and how many.
+#[derive(Drop)]
+struct Reach {
+    allowed: Marks,
+    level: u32,
+}
+
+/// Adds the rows of context `i` of the state at its inputs with the answer, where few changes, each of them
+/// allowed, make what was asked of the rules that apply in the state.
 fn add_answer(
     rows: &mut Vec<Row>,
     system: &System,
@@ -63,17 +71,23 @@ fn add_answer(
     state: Vars,
     applying: Active,
     answer: &Answer,
-    level: u32,
+    reach: &Reach,
 ) -> Result<(), Memory>
     requires in_range { i < length system.now.contexts }
     requires applying { applying ≡ common (applicable system.now state) (rules_into system.now i) }
     requires of_rules { Within answer.now.active (rules_into system.now i) }
-    ensures { IfOk result (λ _. rows.new.items ≡ rows.old.items ++ rows_with system.now i level state answer.now) }
+    requires allowed { reach.now.allowed ≡ allowed_marks system.now }
+    ensures { IfOk result (λ _. rows.new.items ≡ rows.old.items ++ rows_with system.now i reach.now.level state answer.now) }
 {
-    if difference(applying, answer.active) > level {
+    let removed = applying.minus(answer.active);
+    let forced = answer.active.minus(applying);
+    if removed.count() + forced.count() > reach.level {
         return Ok(());
     }
-    let marks = marks_of(applying.minus(answer.active), answer.active.minus(applying));
+    let marks = marks_of(removed, forced);
+    if !marks.within(reach.allowed) {
+        return Ok(());
+    }
     add_parts(rows, system, i, state, marks, &answer.parts)
 }
 
@@ -84,16 +98,17 @@ fn add_answers(
     i: u32,
     state: Vars,
     answers: &[Answer],
-    level: u32,
+    reach: &Reach,
 ) -> Result<(), Memory>
     requires in_range { i < length system.now.contexts }
     requires of_rules { AllByRecursion (λ (a : declared.Answer). Within a.active (rules_into system.now i)) answers.now }
+    requires allowed { reach.now.allowed ≡ allowed_marks system.now }
     ensures { IfOk result (λ _. rows.new.items
-        ≡ rows.old.items ++ flat_map (rows_with system.now i level state) answers.now) }
+        ≡ rows.old.items ++ flat_map (rows_with system.now i reach.now.level state) answers.now) }
 {
     let applying = system.applicable(i, state);
     for answer in answers {
-        add_answer(rows, system, i, state, applying, answer, level)?;
+        add_answer(rows, system, i, state, applying, answer, reach)?;
     }
     Ok(())
 }
@@ -112,15 +127,19 @@ fn rows_in(
     ensures { IfOk result (λ rows. rows.items
         ≡ flat_map (λ s. flat_map (rows_with system.now i level s) answers.now) states.now) }
 {
+    let reach = Reach {
+        allowed: system.allowed(),
+        level,
+    };
     let mut rows = Vec::new(alloc);
     for state in states {
-        add_answers(&mut rows, system, i, *state, answers, level)?;
+        add_answers(&mut rows, system, i, *state, answers, &reach)?;
     }
     Ok(rows)
 }
 
 /// The local rows of context `i` of the plan's system at the level, as a table on its local variables: what it
-/// accepts on these with the marks that this takes, at most `level` of them. `supplies` are what the contexts
+/// accepts on these with the marks that this takes, which are allowed and at most `level`. `supplies` are what the contexts
 /// of `plan.supplied(i)` may supply at this level, in this order, each list in the order of states; `answers`
 /// are those of `i` to all its questions of the level, ascending by the numbers that stand for them.
 pub fn local_rows(

@@ -3,6 +3,7 @@ use Rattle.std.proofs.Common.{◌≡◌, Bool, ◌&&◌, IsTrue, ◌↔◌, List
 use Rattle.std.proofs.lemmas.Bool.Decides.{Decides-and, Decides-eqb, Decides-like}
 use Rattle.std.proofs.lemmas.Slice.Eq.{bytes_eq-Decides, slice_eq-Decides}
 use Rattle.std.specs.Bool.{Decides}
+use Rattle.std.specs.Cmp.{booleans_Decides}
 use Rattle.std.specs.Cmp.Lexicographic.{pointwise}
 use Rattle.mcs_base.proofs.Ranges.{pointwise_images}
 use Rattle.mcs_system.specs.declared.formula.Formula as code
@@ -67,9 +68,25 @@ reads_tell q r = Decides-like _ (λ p. cc) (λ e. (ap (λ (x : Read). x.context)
 
 bridges_tell : (b d : code_bridge.Bridge) → Decides (bridge_eq.eq-value.it b d) (bridge_of b ≡ bridge_of d)
 bridges_tell b d = Decides-like _ (λ p. cc)
-    (λ e. (ap (λ (x : Bridge). x.name) e, (ap (λ (x : Bridge). x.target) e, (ap (λ (x : Bridge). x.head) e, (ap (λ (x : Bridge). x.pos) e, ap (λ (x : Bridge). x.neg) e)))))
+    (λ e. (
+      ap (λ (x : Bridge). x.name) e,
+      (
+        ap (λ (x : Bridge). x.target) e,
+        (
+          ap (λ (x : Bridge). x.head) e,
+          (
+            ap (λ (x : Bridge). x.pos) e,
+            (
+              ap (λ (x : Bridge). x.neg) e,
+              (ap (λ (x : Bridge). x.keep) e, (ap (λ (x : Bridge). x.closed) e, ap (λ (x : Bridge). x.weight) e)),
+            ),
+          ),
+        ),
+      ),
+    ))
     (Decides-and _ _ (bytes_eq-Decides b.name d.name) (Decides-and _ _ (Decides-eqb b.target d.target) (Decides-and _ _ (formulas_tell b.head d.head)
-    (Decides-and _ _ (pointwise_images _ read_of reads_tell b.pos.items d.pos.items) (pointwise_images _ read_of reads_tell b.neg.items d.neg.items)))))
+    (Decides-and _ _ (pointwise_images _ read_of reads_tell b.pos.items d.pos.items) (Decides-and _ _ (pointwise_images _ read_of reads_tell b.neg.items d.neg.items)
+    (Decides-and _ _ (booleans_Decides b.keep d.keep) (Decides-and _ _ (booleans_Decides b.closed d.closed) (Decides-eqb b.weight d.weight))))))))
 
 -- two systems are the same where the tests of their contexts and of their bridge rules say so
 pub systems_tell : (m n : System) (cs ds : List code_context.Context) (bs es : List code_bridge.Bridge) (contexts bridges answer : Bool) → system_of cs bs ≡ m → system_of ds es ≡ n

@@ -83,7 +83,7 @@ module _ (m : System) (valid : IsValid m) where
   none_large : (list_any (λ (c : Context). has_large_item c.kb) m.contexts ≡ false) × (list_any has_large_part m.bridges ≡ false)
   unfolding exceeds
   none_large =
-      let kept = limit_kept m valid FormulaSize (inr (inr (inr (inr (inr (inr (inr (inr (inl refl))))))))) in
+      let kept = limit_kept m valid FormulaSize (inr (inr (inr (inr (inr (inr (inr (inr (inr (inl refl)))))))))) in
       or_parts (list_any (λ (c : Context). has_large_item c.kb) m.contexts) (list_any has_large_part m.bridges) kept
 
   pub small_kb : (i : ℕ) (c : Context) → slice_get m.contexts i ≡ Some c → IsSmallKb c.kb

@@ -1,5 +1,5 @@
 -- What is known of a valid system: its numbers are in range, its names differ, and it keeps the limits.
-use Rattle.std.proofs.Common.{◌≡◌, ℕ, ◌<◌, ◌≤◌, zero, suc, true, false, not, ◌&&◌, nat_lt, nat_eq, List, [], ◌∷◌, map, length, count_by, Option, Some, None, slice_get, option_map, refl, sym, ap, ◌∙◌, inl, inr, arith, true≢false}
+use Rattle.std.proofs.Common.{◌≡◌, ℕ, ◌<◌, ◌≤◌, zero, suc, Bool, true, false, not, ◌||◌, ◌&&◌, nat_lt, nat_eq, List, [], ◌∷◌, map, length, count_by, Option, Some, None, slice_get, option_map, refl, sym, ap, ◌∙◌, inl, inr, arith, true≢false}
 use Rattle.std.proofs.lemmas.Bool.{or_parts, ltb-true, ltb-false, not-false}
 use Rattle.std.proofs.lemmas.Option.{slice_get-map}
 use Rattle.std.proofs.lemmas.Slice.Eq.{bytes_eq-Decides}
@@ -67,8 +67,11 @@ read_in_range m valid k j b r at at' = ltb-true r.context (length m.contexts) (n
     (bridge_parts (length m.contexts) b (none_get (points_outside (length m.contexts)) m.bridges k b (tests_pass m valid).known at)).1 at'))
 
 -- ---- what goes into a program or is read of one is an atom
+abbrev has_misfit_part : List Context → Bridge → Bool
+has_misfit_part cs b = is_program (slice_get cs b.target) && not (is_atom b.head) || list_any (λ (r : Read). is_program (slice_get cs r.context) && not (is_atom r.belief)) (reads_of b)
+
 misfit_parts : (cs : List Context) (b : Bridge) → has_misfit cs b ≡ false → ((is_program (slice_get cs b.target) && not (is_atom b.head)) ≡ false) × (list_any (λ (r : Read). is_program (slice_get cs r.context) && not (is_atom r.belief)) (reads_of b) ≡ false)
-misfit_parts cs b e = or_parts (is_program (slice_get cs b.target) && not (is_atom b.head)) (list_any (λ (r : Read). is_program (slice_get cs r.context) && not (is_atom r.belief)) (reads_of b)) e
+misfit_parts cs b e = or_parts (is_program (slice_get cs b.target) && not (is_atom b.head)) (list_any (λ (r : Read). is_program (slice_get cs r.context) && not (is_atom r.belief)) (reads_of b)) (or_parts (nat_eq b.weight 0) (has_misfit_part cs b) e).1
 
 rule_fits : (m : System) → IsValid m → (k : ℕ) (b : Bridge) → slice_get m.bridges k ≡ Some b → has_misfit m.contexts b ≡ false
 rule_fits m valid k b at = none_get (has_misfit m.contexts) m.bridges k b (or_parts (list_any (λ (c : Context). has_unjustified c.kb) m.contexts) (list_any (has_misfit m.contexts) m.bridges) (tests_pass m valid).fitting).1 at

@@ -7,7 +7,7 @@ use Rattle.mcs_system.specs.declared.fault.BuildFault.TheVariants.{Fault, Memory
 use Rattle.mcs_system.specs.declared.fault.Flaw.{Flaw}
 use Rattle.mcs_system.specs.declared.fault.Flaw.TheVariants.{UnknownContext, TwinNames, Misfits}
 use Rattle.mcs_system.specs.declared.limit.Limit.{Limit}
-use Rattle.mcs_system.specs.declared.limit.Limit.TheVariants.{Contexts, Bridges, RulesPerContext, DefaultsPerContext, ItemsPerContext, FormulaSize}
+use Rattle.mcs_system.specs.declared.limit.Limit.TheVariants.{Contexts, Bridges, RulesPerContext, DefaultsPerContext, ItemsPerContext, Weight, FormulaSize}
 use Rattle.mcs_system.specs.declared.knowledge.Context as code_context
 use Rattle.mcs_system.specs.declared.parts.Kept as code_kept
 use Rattle.mcs_system.specs.Plain.{System}
@@ -37,7 +37,7 @@ abbrev pub first_limits : List Limit
 first_limits = Contexts ∷ Bridges ∷ RulesPerContext ∷ []
 
 abbrev pub last_limits : List Limit
-last_limits = DefaultsPerContext ∷ ItemsPerContext ∷ FormulaSize ∷ []
+last_limits = DefaultsPerContext ∷ ItemsPerContext ∷ Weight ∷ FormulaSize ∷ []
 
 -- the system is valid, its names are names, and what is kept is of it
 pub record IsKept (contexts : List code_context.Context) (bridges : List code_bridge.Bridge) (kept : code_kept.Kept) : Type 0 where

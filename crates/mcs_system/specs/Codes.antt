@@ -1,6 +1,6 @@
 -- By what a proof tells plain data apart.
-use Rattle.std.specs.Prelude.{◌≡◌, ℕ, List, [], ◌∷◌, ◌++◌, length, refl}
-use Rattle.std.specs.Coded.{Coded, code_by, coded×, coded⊎, coded_ℕ, coded_list}
+use Rattle.std.specs.Prelude.{◌≡◌, ℕ, Bool, List, [], ◌∷◌, ◌++◌, length, refl}
+use Rattle.std.specs.Coded.{Coded, code_by, coded×, coded⊎, coded_ℕ, coded_bool, coded_list}
 use base.Stored.{coded_via}
 use Rattle.std.proofs.Common.{ap, sym, ◌∙◌, eqb, eq-eqb, arith, false, true≢false, ◌⊎◌, inl, inr}
 use Rattle.mcs_system.specs.Plain.{Name, Formula, Truth, Falsity, Atom, Not, And, Or, Implies, Iff, Default, ProgramRule, Item, Fact, Rule, Kb, Classical, DefaultTheory, Program, Context, Read, Bridge, System}
@@ -101,8 +101,19 @@ coded_kb = code_by (List Formula ⊎ (List Item ⊎ List ProgramRule)) (coded⊎
 abbrev pub coded_context : Coded Context
 coded_context = code_by (Name × Kb) (coded× coded_name coded_kb) (λ c. (c.name, c.kb)) (λ t. record { name = t.0; kb = t.1 }) (λ _. refl)
 
+abbrev pub BridgeParts : Type 0
+BridgeParts = (Name × (ℕ × (Formula × (List Read × List Read)))) × (Bool × (Bool × ℕ))
+
+abbrev pub bridge_parts : Bridge → BridgeParts
+bridge_parts b = ((b.name, (b.target, (b.head, (b.pos, b.neg)))), (b.keep, (b.closed, b.weight)))
+
+abbrev pub bridge_from : BridgeParts → Bridge
+bridge_from t = record { name = t.0.0; target = t.0.1.0; head = t.0.1.1.0; pos = t.0.1.1.1.0; neg = t.0.1.1.1.1; keep = t.1.0; closed = t.1.1.0; weight = t.1.1.1 }
+
 abbrev pub coded_bridge : Coded Bridge
-coded_bridge = code_by (Name × (ℕ × (Formula × (List Read × List Read)))) (coded× coded_name (coded× coded_ℕ (coded× coded_formula (coded× (coded_list coded_read) (coded_list coded_read))))) (λ b. (b.name, (b.target, (b.head, (b.pos, b.neg))))) (λ t. record { name = t.0; target = t.1.0; head = t.1.1.0; pos = t.1.1.1.0; neg = t.1.1.1.1 }) (λ _. refl)
+coded_bridge = code_by BridgeParts
+    (coded× (coded× coded_name (coded× coded_ℕ (coded× coded_formula (coded× (coded_list coded_read) (coded_list coded_read))))) (coded× coded_bool (coded× coded_bool coded_ℕ)))
+    bridge_parts bridge_from (λ _. refl)
 
 abbrev pub coded_system : Coded System
 coded_system = code_by (List Context × List Bridge) (coded× (coded_list coded_context) (coded_list coded_bridge)) (λ s. (s.contexts, s.bridges)) (λ t. record { contexts = t.0; bridges = t.1 }) (λ _. refl)

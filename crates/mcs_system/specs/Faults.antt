@@ -10,7 +10,7 @@ use Rattle.mcs_system.specs.Rows.{inputs_of}
 use Rattle.mcs_system.specs.Atoms.{atoms_of}
 use Rattle.mcs_system.specs.Limits.{most}
 use Rattle.mcs_system.specs.declared.limit.Limit.{Limit}
-use Rattle.mcs_system.specs.declared.limit.Limit.TheVariants.{Contexts, Bridges, RulesPerContext, Variables, InputsPerContext, AtomsPerContext, DefaultsPerContext, ItemsPerContext, FormulaSize, OpenParentheses, NameBytes}
+use Rattle.mcs_system.specs.declared.limit.Limit.TheVariants.{Contexts, Bridges, RulesPerContext, Variables, InputsPerContext, AtomsPerContext, DefaultsPerContext, ItemsPerContext, Weight, FormulaSize, OpenParentheses, NameBytes}
 
 -- the reads of a rule, the positive ones first
 abbrev pub reads_of : Bridge → List Read
@@ -31,7 +31,7 @@ has_twins (n ∷ ns) = is_in n ns || has_twins ns
 abbrev pub has_twin_names : System → Bool
 has_twin_names m = has_twins (map (λ (c : Context). c.name) m.contexts) || has_twins (map (λ (b : Bridge). b.name) m.bridges)
 
--- ---- the head into a program or a belief of a program is not an atom, or a default has no justification
+-- ---- the head into a program or a belief of a program is not an atom, a rule weighs nothing, or a default has no justification
 abbrev pub is_atom : Formula → Bool
 is_atom (Atom n) = true
 is_atom f = false
@@ -46,8 +46,9 @@ is_program (Some c) = at c.kb
 
 abbrev pub has_misfit : List Context → Bridge → Bool
 has_misfit cs b =
-    is_program (slice_get cs b.target) && not (is_atom b.head)
-    || list_any (λ (r : Read). is_program (slice_get cs r.context) && not (is_atom r.belief)) (reads_of b)
+    nat_eq b.weight 0
+    || (is_program (slice_get cs b.target) && not (is_atom b.head)
+    || list_any (λ (r : Read). is_program (slice_get cs r.context) && not (is_atom r.belief)) (reads_of b))
 
 abbrev pub is_unjustified : Item → Bool
 is_unjustified (Fact f) = false
@@ -109,6 +110,7 @@ exceeds m InputsPerContext = some_context m (λ i. nat_lt (most InputsPerContext
 exceeds m AtomsPerContext = some_context m (λ i. nat_lt (most AtomsPerContext) (length (atoms_of m i)))
 exceeds m DefaultsPerContext = list_any (λ (c : Context). nat_lt (most DefaultsPerContext) (default_count c.kb)) m.contexts
 exceeds m ItemsPerContext = list_any (λ (c : Context). nat_lt (most ItemsPerContext) (item_count c.kb)) m.contexts
+exceeds m Weight = list_any (λ (b : Bridge). nat_lt (most Weight) b.weight) m.bridges
 exceeds m FormulaSize = list_any (λ (c : Context). has_large_item c.kb) m.contexts || list_any has_large_part m.bridges
 exceeds m OpenParentheses = false
 exceeds m NameBytes = false
@@ -120,7 +122,7 @@ first_exceeded m (l ∷ ls) = cond (exceeds m l) (Some l) (first_exceeded m ls)
 
 -- the limits of parts are a matter of the text alone
 abbrev pub limits : List Limit
-limits = Contexts ∷ Bridges ∷ RulesPerContext ∷ Variables ∷ InputsPerContext ∷ AtomsPerContext ∷ DefaultsPerContext ∷ ItemsPerContext ∷ FormulaSize ∷ []
+limits = Contexts ∷ Bridges ∷ RulesPerContext ∷ Variables ∷ InputsPerContext ∷ AtomsPerContext ∷ DefaultsPerContext ∷ ItemsPerContext ∷ Weight ∷ FormulaSize ∷ []
 
 -- ---- the lowest number that holds, and for 5 the first limit
 pub record Fault : Type 0 where

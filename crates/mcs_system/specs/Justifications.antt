@@ -1,7 +1,7 @@
 -- Systems of whose defaults none has more justifications than a number.
-use Rattle.std.specs.Prelude.{ℕ, ◌≤◌, List, length}
+use Rattle.std.specs.Prelude.{ℕ, ◌≤◌, length}
 use Rattle.std.specs.List.{AllByRecursion}
-use Rattle.mcs_system.specs.Plain.{Default, Item, Fact, Rule, Kb, Classical, DefaultTheory, Program, Context, System}
+use Rattle.mcs_system.specs.Plain.{Item, Fact, Rule, Kb, Classical, DefaultTheory, Program, Context, System}
 
 abbrev pub IsJustifiedUpTo : ℕ → Item → Type 0
 IsJustifiedUpTo n (Fact f) = Unit {0}

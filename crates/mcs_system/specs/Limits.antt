@@ -3,7 +3,7 @@ use Rattle.std.specs.Prelude.{ℕ, ◌++◌, List, codes}
 use Rattle.std.specs.Fmt.{decimal}
 use Rattle.mcs_base.specs.Words.{most_name_bytes}
 use Rattle.mcs_system.specs.declared.limit.Limit.{Limit}
-use Rattle.mcs_system.specs.declared.limit.Limit.TheVariants.{Contexts, Bridges, RulesPerContext, Variables, InputsPerContext, AtomsPerContext, DefaultsPerContext, ItemsPerContext, FormulaSize, OpenParentheses, NameBytes}
+use Rattle.mcs_system.specs.declared.limit.Limit.TheVariants.{Contexts, Bridges, RulesPerContext, Variables, InputsPerContext, AtomsPerContext, DefaultsPerContext, ItemsPerContext, Weight, FormulaSize, OpenParentheses, NameBytes}
 
 -- the most
 abbrev pub most : Limit → ℕ
@@ -15,6 +15,7 @@ most InputsPerContext = 16
 most AtomsPerContext = 64
 most DefaultsPerContext = 10
 most ItemsPerContext = 4096
+most Weight = 1000000
 most FormulaSize = 512
 most OpenParentheses = 512
 most NameBytes = most_name_bytes
@@ -29,6 +30,7 @@ name_of_limit InputsPerContext = codes "inputs_per_context"
 name_of_limit AtomsPerContext = codes "atoms_per_context"
 name_of_limit DefaultsPerContext = codes "defaults_per_context"
 name_of_limit ItemsPerContext = codes "items_per_context"
+name_of_limit Weight = codes "weight"
 name_of_limit FormulaSize = codes "formula_size"
 name_of_limit OpenParentheses = codes "open_parentheses"
 name_of_limit NameBytes = codes "name_bytes"

@@ -54,7 +54,7 @@ abbrev pub context_of : code_context.Context → plain.Context
 context_of c = record { name = c.name; kb = kb_of c.kb }
 
 abbrev pub bridge_of : code_bridge.Bridge → plain.Bridge
-bridge_of b = record { name = b.name; target = b.target; head = formula_of b.head; pos = map read_of b.pos.items; neg = map read_of b.neg.items }
+bridge_of b = record { name = b.name; target = b.target; head = formula_of b.head; pos = map read_of b.pos.items; neg = map read_of b.neg.items; keep = b.keep; closed = b.closed; weight = b.weight }
 
 -- the system that these contexts and rules would make
 abbrev pub system_of : List code_context.Context → List code_bridge.Bridge → plain.System

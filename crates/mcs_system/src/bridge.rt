@@ -40,6 +40,8 @@ impl Copied for Read {
 }
 
 /// A bridge rule: the head goes into the target where each positive read is believed and no negative one.
+/// A rule that is `keep` may not be removed by a repair, and one that is `closed` may not be forced. The
+/// weight says what removing or forcing it costs.
 #[derive(PartialEq, Drop)]
 pub struct Bridge {
     pub name: Name,
@@ -47,6 +49,9 @@ pub struct Bridge {
     pub head: Formula,
     pub pos: Vec<Read>,
     pub neg: Vec<Read>,
+    pub keep: bool,
+    pub closed: bool,
+    pub weight: u32,
 }
 
 impl Bridge {
@@ -63,6 +68,9 @@ impl Bridge {
             head: self.head.copy(alloc)?,
             pos,
             neg,
+            keep: self.keep,
+            closed: self.closed,
+            weight: self.weight,
         })
     }
 }

@@ -8,8 +8,8 @@ ghost use Rattle.mcs_system.specs.Seen.{system_of};
 use crate::bridge::Bridge;
 use crate::fault::{BuildFault, Flaw};
 use crate::faults::{
-    has_crowded_context, has_large_formula, has_many_defaults, has_many_items, has_misfits,
-    has_twin_names, has_unknown_context,
+    has_crowded_context, has_heavy_rule, has_large_formula, has_many_defaults, has_many_items,
+    has_misfits, has_twin_names, has_unknown_context,
 };
 use crate::knowledge::Context;
 use crate::limit::Limit;
@@ -62,6 +62,8 @@ fn last_limit(contexts: &[Context], bridges: &[Bridge]) -> Option<Limit>
         Some(Limit::DefaultsPerContext)
     } else if has_many_items(contexts) {
         Some(Limit::ItemsPerContext)
+    } else if has_heavy_rule(bridges) {
+        Some(Limit::Weight)
     } else if has_large_formula(contexts, bridges) {
         Some(Limit::FormulaSize)
     } else {

@@ -8,8 +8,9 @@ use crate::limit::Limit;
 use std::alloc::{AllocError, AllocFailed};
 
 /// Why no system was built. The numbers are: 2, a context number is out of range; 3, two contexts or two
-/// bridge rules have one name; 4, the head into a program or a belief of a program is not an atom, or a
-/// default has no justification; 5, the limit is exceeded. `limit` is there exactly for number 5.
+/// bridge rules have one name; 4, the head into a program or a belief of a program is not an atom, a bridge
+/// rule has the weight 0, or a default has no justification; 5, the limit is exceeded. `limit` is there
+/// exactly for number 5.
 #[derive(Clone, Copy, Debug, PartialEq, Eq)]
 pub enum BuildFault {
     Fault { number: u8, limit: Option<Limit> },
@@ -23,7 +24,8 @@ pub(crate) enum Flaw {
     UnknownContext,
     /// Two contexts, or two bridge rules, have one name.
     TwinNames,
-    /// The head into a program or a belief of a program is not an atom, or a default has no justification.
+    /// The head into a program or a belief of a program is not an atom, a bridge rule has the weight 0, or a
+    /// default has no justification.
     Misfits,
 }
 

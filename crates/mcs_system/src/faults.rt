@@ -3,7 +3,8 @@
 ghost use Rattle.std.specs.Prelude.{◌≡◌, ◌&&◌, IfOk, List, not, nat_eq, nat_lt, count_by, map, min, slice_get};
 ghost use Rattle.std.specs.List.{list_any};
 ghost use Rattle.mcs_system.specs.declared.bridge.Bridge.{Bridge};
-ghost use Rattle.mcs_system.specs.declared.limit.Limit.TheVariants.{RulesPerContext, DefaultsPerContext, ItemsPerContext, FormulaSize};
+ghost use Rattle.mcs_system.specs.declared.knowledge.Context.{Context};
+ghost use Rattle.mcs_system.specs.declared.limit.Limit.TheVariants.{RulesPerContext, DefaultsPerContext, ItemsPerContext, Weight, FormulaSize};
 ghost use Rattle.mcs_system.specs.Faults.{default_count, exceeds, has_large_formula, has_large_item, has_large_part, has_misfit, has_misfits, has_twins, has_twin_names, has_unjustified, has_unknown_context, is_atom, is_large, is_large_rule, is_program, is_unjustified, points_outside};
 ghost use Rattle.mcs_system.specs.Plain.{Name};
 ghost use Rattle.mcs_system.specs.Seen.{bridge_of, context_of, formula_of, formula_size, item_of, kb_of, rule_of, system_of};
@@ -120,17 +121,18 @@ fn any_misfit(contexts: &[Context], reads: &[Read]) -> bool
         .any(|read| is_misfit(contexts, read.context, &read.belief))
 }
 
-/// Whether the rule puts into a program, or reads of one, what is no atom.
+/// Whether the rule weighs nothing, or puts into a program, or reads of one, what is no atom.
 #[tactic(auto, using(mcs_base::proofs::Ranges::any_of_both))]
 fn has_misfit(contexts: &[Context], bridge: &Bridge) -> bool
     ensures { result ≡ has_misfit (map context_of contexts.now) (bridge_of bridge.now) }
 {
-    is_misfit(contexts, bridge.target, &bridge.head)
+    bridge.weight == 0
+        || is_misfit(contexts, bridge.target, &bridge.head)
         || any_misfit(contexts, &bridge.pos)
         || any_misfit(contexts, &bridge.neg)
 }
 
-/// Whether some rule puts into a program, or reads of one, what is no atom.
+/// Whether some rule weighs nothing, or puts into a program, or reads of one, what is no atom.
 fn any_rule_misfit(contexts: &[Context], bridges: &[Bridge]) -> bool
     ensures { result ≡ list_any (λ b. has_misfit (map context_of contexts.now) (bridge_of b)) bridges.now }
 {
@@ -174,8 +176,8 @@ fn any_unjustified(contexts: &[Context]) -> bool
         .any(|context| has_unjustified_default(&context.kb))
 }
 
-/// Whether a default has no justification, or a rule puts into a program, or reads of one, what is no
-/// atom.
+/// Whether a default has no justification, or a rule weighs nothing, or puts into a program, or reads of
+/// one, what is no atom.
 #[tactic(auto, using(mcs_base::proofs::Ranges::any_of_map))]
 pub(crate) fn has_misfits(contexts: &[Context], bridges: &[Bridge]) -> bool
     ensures { result ≡ has_misfits (system_of contexts.now bridges.now) }
@@ -237,6 +239,15 @@ pub(crate) fn has_many_items(contexts: &[Context]) -> bool
         result ≡ exceeds (system_of contexts.now bridges) ItemsPerContext }
 {
     contexts.iter().any(|context| Limit::ItemsPerContext.is_exceeded_by(context.kb.item_count()))
+}
+
+/// Whether some rule weighs too much.
+#[tactic(auto, unfolding(crate::specs::Faults::exceeds))]
+pub(crate) fn has_heavy_rule(bridges: &[Bridge]) -> bool
+    ensures { (contexts : List Context) →
+        result ≡ exceeds (system_of contexts bridges.now) Weight }
+{
+    bridges.iter().any(|bridge| Limit::Weight.is_exceeded_by(bridge.weight as usize))
 }
 
 /// How many atoms, constants and connectives the formula has, or one more than the most where they are

@@ -22,6 +22,8 @@ pub enum Limit {
     DefaultsPerContext,
     /// Formulas, defaults and program rules of one context.
     ItemsPerContext,
+    /// The weight of one bridge rule.
+    Weight,
     /// Atoms, constants and connectives of one formula; names of one program rule.
     FormulaSize,
     /// Parentheses that are open at one time in one formula of a text.
@@ -40,6 +42,7 @@ impl Limit {
             Limit::InputsPerContext => 16,
             Limit::DefaultsPerContext => 10,
             Limit::ItemsPerContext => 4096,
+            Limit::Weight => 1_000_000,
             Limit::FormulaSize | Limit::OpenParentheses => 512,
             Limit::Contexts
             | Limit::Bridges
@@ -62,6 +65,7 @@ impl Limit {
             Limit::AtomsPerContext => b"atoms_per_context",
             Limit::DefaultsPerContext => b"defaults_per_context",
             Limit::ItemsPerContext => b"items_per_context",
+            Limit::Weight => b"weight",
             Limit::FormulaSize => b"formula_size",
             Limit::OpenParentheses => b"open_parentheses",
             Limit::NameBytes => b"name_bytes",

@@ -1,7 +1,7 @@
 //! Multi-context systems.
 
-ghost use Rattle.std.specs.Prelude.{◌≡◌, ◌↔◌, IsTrue, ◌<◌, ◌≤◌, length, map, Some, slice_get, IfOk, IfErr};
-ghost use Rattle.mcs_sets.specs.Sets.{common};
+ghost use Rattle.std.specs.Prelude.{◌≡◌, ◌↔◌, IsTrue, ◌<◌, ◌≤◌, cond, length, map, Some, slice_get, IfOk, IfErr};
+ghost use Rattle.mcs_sets.specs.Sets.{common, single, union};
 ghost use Rattle.mcs_system.specs.Atoms.{atoms_of};
 ghost use Rattle.mcs_system.specs.Built.{IsFaultOf};
 ghost use Rattle.mcs_system.specs.Faults.{IsValid};
@@ -9,6 +9,7 @@ ghost use Rattle.mcs_system.specs.Imports.{rules_into};
 ghost use Rattle.mcs_system.specs.Naming.{IsNamed};
 ghost use Rattle.mcs_system.specs.Parts.{context_part, context_part_of, rule_part, rule_part_of};
 ghost use Rattle.mcs_system.specs.Plain as plain;
+ghost use Rattle.mcs_system.specs.Repairs.{allowed_marks};
 ghost use Rattle.mcs_system.specs.Rows.{inputs_of};
 ghost use Rattle.mcs_system.specs.Seen.{context_of, bridge_of, read_of, system_of};
 ghost use Rattle.mcs_system.specs.Systems.{variables, variables_of, applicable, is_applicable};
@@ -19,9 +20,17 @@ use crate::fault::BuildFault;
 use crate::knowledge::Context;
 use crate::name::Name;
 use crate::parts::{ContextParts, Kept, RuleReads};
-use mcs_base::{Active, Vars};
+use mcs_base::{Active, Marks, Vars};
 use std::alloc::Global;
 use std::marker::Model;
+
+/// The marks and this one, unless it is barred.
+fn with_unless(marks: Marks, mark: u32, barred: bool) -> Marks
+    requires { mark < 128 }
+    ensures { result ≡ cond barred marks (union marks (single mark)) }
+{
+    if barred { marks } else { marks.with(mark) }
+}
 
 /// A multi-context system (Brewka & Eiter 2007): contexts and bridge rules, none of whose faults holds.
 #[derive(Drop)]
@@ -188,5 +197,19 @@ impl System {
             }
         }
         rules
+    }
+
+    /// The marks that a repair of the system may have: 2r for each rule r that is not `keep`, and 2r+1 for
+    /// each that is not `closed`.
+    pub fn allowed(&self) -> Marks
+        ensures { result ≡ allowed_marks self.now }
+    {
+        let mut marks = Marks::empty();
+        for (rule, bridge) in self.bridges().iter().enumerate() {
+            let removed = 2 * rule as u32;
+            marks = with_unless(marks, removed, bridge.keep);
+            marks = with_unless(marks, removed + 1, bridge.closed);
+        }
+        marks
     }
 }

@@ -1,6 +1,11 @@
-use Rattle.std.proofs.Common.{◌≡◌, ◌++◌, map, take}
-use Rattle.mcs_sets.specs.Sets.{union, single}
+use Rattle.std.proofs.Common.{◌↔◌, ℕ}
+use Rattle.mcs_sets.specs.Sets.{union, single, members}
+use Rattle.mcs_base.proofs.SetParts.{AreBelow}
+use Rattle.mcs_import.proofs.NearLemmas.{IsAdded}
 use Rattle.mcs_import.proofs.near.add_with.Given as goal
 
-abbrev pub invariant-loop-index : goal.invariant-loop-index
-invariant-loop-index l = l.sets.items ≡ l.fn.sets.items ++ map (λ s. union s (single l.rule)) (take l.index l.fn.sets.items)
+abbrev pub invariant-loop-rule : goal.invariant-loop-rule
+invariant-loop-rule l = record {
+  added : (x : ℕ) → IsAdded (λ r. union l.set (single r)) l.reached l.rule-iterator l.found.items x ↔ IsAdded (λ r. union l.set (single r)) l.reached (members l.fn.rules) l.fn.found.items x;
+  known : AreBelow 64 l.rule-iterator;
+}

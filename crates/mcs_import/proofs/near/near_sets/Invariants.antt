@@ -1,6 +1,7 @@
-use Rattle.std.proofs.Common.{◌≡◌, filter, take}
-use Rattle.mcs_import.specs.States.{is_near}
+use Rattle.mcs_sets.specs.Sets.{common}
+use Rattle.mcs_import.specs.Near.{IsNear, IsChanged}
+use Rattle.mcs_import.proofs.Walks.{IsReached}
 use Rattle.mcs_import.proofs.near.near_sets.Given as goal
 
-abbrev pub invariant-loop-set : goal.invariant-loop-set
-invariant-loop-set l = l.near.items ≡ filter (is_near l.sets l.level) (take l.set-index l.set-items)
+abbrev pub invariant-loop : goal.invariant-loop
+invariant-loop l = IsReached (IsNear l.fn.rules l.fn.removable l.fn.forcible l.fn.sets.items) (IsChanged l.fn.removable (common l.fn.forcible l.fn.rules)) l.counter l.reached.items l.front.items

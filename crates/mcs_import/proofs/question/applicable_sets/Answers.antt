@@ -1,9 +1,11 @@
-use Rattle.std.proofs.Common.{◌<◌, arith}
-use Rattle.mcs_sets.specs.Sets.{common}
-use Rattle.mcs_system.specs.Imports.{rules_into}
-use Rattle.mcs_system.specs.Systems.{applicable}
-use Rattle.mcs_base.proofs.Numbered.{listed_map}
+use Rattle.std.proofs.Common.{◌≡◌, ◌<◌, ◌∙◌, ℕ, map, ap, arith, subst}
+use Rattle.std.proofs.lemmas.List.{take_all}
+use Rattle.mcs_base.specs.Listings.{IsAmong, IsListing}
+use Rattle.mcs_import.proofs.QuestionLemmas.{applying}
 use Rattle.mcs_import.proofs.question.applicable_sets.Goals as goal
 
 pub returns : goal.returns
-returns c = listed_map (λ σ. common (applicable c.args.system.now σ) (rules_into c.args.system.now c.args.i)) c.args.states.now c.loop-state.sets.items c.list_rule_sets.new.sets.items c.loop-state.state-index (λ a b. a < b) c.loop-state.invariant (omega arith) c.list_rule_sets.ensures
+returns c =
+    let whole : c.loop-state.sets.items ≡ map (applying c.args.system.now c.args.i) c.args.states.now =
+    c.loop-state.invariant ∙ ap (map (applying c.args.system.now c.args.i)) (take_all c.loop-state.state-index c.args.states.now (omega arith)) in
+    subst (λ xs. IsListing (λ a. IsAmong a xs) (λ (a b : ℕ). a < b) c.list_rule_sets.new.sets.items) whole c.list_rule_sets.ensures
