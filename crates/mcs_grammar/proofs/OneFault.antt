@@ -1,7 +1,7 @@
 -- A text has one fault at most, and none where it spells a system.
 use Rattle.std.proofs.Common.{◌≡◌, ℕ, List, ◌∷◌, map, get_or, refl, sym, ap, ◌∙◌, subst, inl, inr, arith}
 use Rattle.std.proofs.lemmas.Bool.{cases_lt}
-use Rattle.mcs_system.specs.declared.limit.Limit.TheVariants.{Contexts, Bridges, RulesPerContext, Variables, InputsPerContext, AtomsPerContext, DefaultsPerContext, ItemsPerContext, FormulaSize, OpenParentheses, NameBytes}
+use Rattle.mcs_system.specs.declared.limit.Limit.TheVariants.{Contexts, Bridges, RulesPerContext, Variables, InputsPerContext, AtomsPerContext, DefaultsPerContext, ItemsPerContext, Weight, FormulaSize, OpenParentheses, NameBytes}
 use Rattle.mcs_tokens.specs.declared.scan.Span.{Span}
 use Rattle.mcs_tokens.proofs.Unique.{lists_are_unique}
 use Rattle.mcs_grammar.specs.Entries.{Token}
@@ -26,6 +26,7 @@ of-rank (Exceeds InputsPerContext) = refl
 of-rank (Exceeds AtomsPerContext) = refl
 of-rank (Exceeds DefaultsPerContext) = refl
 of-rank (Exceeds ItemsPerContext) = refl
+of-rank (Exceeds Weight) = refl
 of-rank (Exceeds FormulaSize) = refl
 of-rank (Exceeds OpenParentheses) = refl
 of-rank (Exceeds NameBytes) = refl

@@ -3,19 +3,19 @@ use Rattle.std.proofs.Common.{◌≡◌, ℕ, ◌+◌, ◌<◌, ◌≤◌, zero,
 use Rattle.std.specs.Prelude.{IsTrue}
 use Rattle.std.proofs.lemmas.Bool.{cases_lt}
 use Rattle.mcs_system.specs.declared.limit.Limit.{Limit}
-use Rattle.mcs_system.specs.declared.limit.Limit.TheVariants.{Contexts, Bridges, RulesPerContext, Variables, InputsPerContext, AtomsPerContext, DefaultsPerContext, ItemsPerContext, FormulaSize, OpenParentheses, NameBytes}
+use Rattle.mcs_system.specs.declared.limit.Limit.TheVariants.{Contexts, Bridges, RulesPerContext, Variables, InputsPerContext, AtomsPerContext, DefaultsPerContext, ItemsPerContext, Weight, FormulaSize, OpenParentheses, NameBytes}
 use Rattle.std.proofs.lemmas.Bool.Decides.{not_from_Decides}
 use Rattle.mcs_grammar.specs.Entries.{Use, Entry}
 use Rattle.mcs_grammar.specs.Faults.{Fault, NoGrammar, NoContext, Twin, NoAtom, Exceeds, row, rank, IsBeyond, Has}
 
 -- the lowest first
 abbrev pub in_order : List Limit
-in_order = Contexts ∷ Bridges ∷ RulesPerContext ∷ Variables ∷ InputsPerContext ∷ AtomsPerContext ∷ DefaultsPerContext ∷ ItemsPerContext ∷ FormulaSize ∷ OpenParentheses ∷ NameBytes ∷ []
+in_order = Contexts ∷ Bridges ∷ RulesPerContext ∷ Variables ∷ InputsPerContext ∷ AtomsPerContext ∷ DefaultsPerContext ∷ ItemsPerContext ∷ Weight ∷ FormulaSize ∷ OpenParentheses ∷ NameBytes ∷ []
 
 abbrev pub limit_at : ℕ → Limit
 limit_at k = get_or in_order k Contexts
 
-row-at : (k : ℕ) → k < 11 → row (limit_at k) ≡ k
+row-at : (k : ℕ) → k < 12 → row (limit_at k) ≡ k
 row-at zero less = refl
 row-at (suc zero) less = refl
 row-at (suc (suc zero)) less = refl
@@ -27,7 +27,8 @@ row-at (suc (suc (suc (suc (suc (suc (suc zero))))))) less = refl
 row-at (suc (suc (suc (suc (suc (suc (suc (suc zero)))))))) less = refl
 row-at (suc (suc (suc (suc (suc (suc (suc (suc (suc zero))))))))) less = refl
 row-at (suc (suc (suc (suc (suc (suc (suc (suc (suc (suc zero)))))))))) less = refl
-row-at (suc (suc (suc (suc (suc (suc (suc (suc (suc (suc (suc k))))))))))) less = absurd (omega arith)
+row-at (suc (suc (suc (suc (suc (suc (suc (suc (suc (suc (suc zero))))))))))) less = refl
+row-at (suc (suc (suc (suc (suc (suc (suc (suc (suc (suc (suc (suc k)))))))))))) less = absurd (omega arith)
 
 at-row : (l : Limit) → limit_at (row l) ≡ l
 at-row Contexts = refl
@@ -38,11 +39,12 @@ at-row InputsPerContext = refl
 at-row AtomsPerContext = refl
 at-row DefaultsPerContext = refl
 at-row ItemsPerContext = refl
+at-row Weight = refl
 at-row FormulaSize = refl
 at-row OpenParentheses = refl
 at-row NameBytes = refl
 
-row-below : (l : Limit) → row l < 11
+row-below : (l : Limit) → row l < 12
 row-below Contexts = omega arith
 row-below Bridges = omega arith
 row-below RulesPerContext = omega arith
@@ -51,6 +53,7 @@ row-below InputsPerContext = omega arith
 row-below AtomsPerContext = omega arith
 row-below DefaultsPerContext = omega arith
 row-below ItemsPerContext = omega arith
+row-below Weight = omega arith
 row-below FormulaSize = omega arith
 row-below OpenParentheses = omega arith
 row-below NameBytes = omega arith
@@ -78,14 +81,14 @@ module _ (before : List Use) (m : Entry) where
   from-atom no-context no-twin (Exceeds l) h = omega arith
 
   module _ (k : ℕ) (no-context : ¬ Has NoContext before m) (no-twin : ¬ Has Twin before m) (no-atom : ¬ Has NoAtom before m) (none : (l : Limit) → row l < k → ¬ IsBeyond l before m) where
-    pub from-limit : k < 11 → (f : Fault) → Has f before m → 5 + row (limit_at k) ≤ rank f
+    pub from-limit : k < 12 → (f : Fault) → Has f before m → 5 + row (limit_at k) ≤ rank f
     from-limit less NoGrammar h = absurd h
     from-limit less NoContext h = absurd (no-context h)
     from-limit less Twin h = absurd (no-twin h)
     from-limit less NoAtom h = absurd (no-atom h)
     from-limit less (Exceeds l) h = let e = row-at k less in elim (cases_lt (row l) k) [ inl lower ↦ absurd (none l lower h) | inr past ↦ omega arith ]
 
-    pub none-at-all : 11 ≤ k → (f : Fault) → ¬ Has f before m
+    pub none-at-all : 12 ≤ k → (f : Fault) → ¬ Has f before m
     none-at-all past NoGrammar h = h
     none-at-all past NoContext h = no-context h
     none-at-all past Twin h = no-twin h

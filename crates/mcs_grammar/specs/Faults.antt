@@ -6,7 +6,7 @@ use Rattle.mcs_system.specs.Plain.{Name, Formula}
 use Rattle.mcs_system.specs.Logic.{same_name}
 use Rattle.mcs_system.specs.Limits.{most}
 use Rattle.mcs_system.specs.declared.limit.Limit.{Limit}
-use Rattle.mcs_system.specs.declared.limit.Limit.TheVariants.{Contexts, Bridges, RulesPerContext, Variables, InputsPerContext, AtomsPerContext, DefaultsPerContext, ItemsPerContext, FormulaSize, OpenParentheses, NameBytes}
+use Rattle.mcs_system.specs.declared.limit.Limit.TheVariants.{Contexts, Bridges, RulesPerContext, Variables, InputsPerContext, AtomsPerContext, DefaultsPerContext, ItemsPerContext, Weight, FormulaSize, OpenParentheses, NameBytes}
 use Rattle.mcs_grammar.specs.Written.{IsNameWord, WrittenText, IsText}
 use Rattle.mcs_grammar.specs.Entries.{Token, Use, BeginsContext, BeginsBridge, NamesContext, NamesBridge, SaysProgram, BeginsItem, BeginsDefault, NamesTarget, NamesSource, BeginsBelief, EndsRead, AtomOf, IsNumber, OpensWithin, Entry, text_entries, tokens_of, uses_of}
 
@@ -93,9 +93,10 @@ row InputsPerContext = 4
 row AtomsPerContext = 5
 row DefaultsPerContext = 6
 row ItemsPerContext = 7
-row FormulaSize = 8
-row OpenParentheses = 9
-row NameBytes = 10
+row Weight = 8
+row FormulaSize = 9
+row OpenParentheses = 10
+row NameBytes = 11
 
 -- the lower one is told
 abbrev pub rank : Fault → ℕ
@@ -112,6 +113,8 @@ IsBeyond InputsPerContext before m = (t : Name) × ((r : NamedRead) × IsAmong (
 IsBeyond AtomsPerContext before m = (c : Name) × ((a : Name) × IsAmong (AtomOf c a) m.uses × IsOneMore (most AtomsPerContext) (WasAtom before c) a)
 IsBeyond DefaultsPerContext before m = (c : Name) × IsAmong (BeginsDefault c) m.uses × (count_by (begins_default_of c) before ≡ most DefaultsPerContext)
 IsBeyond ItemsPerContext before m = (c : Name) × IsAmong (BeginsItem c) m.uses × (count_by (begins_item_of c) before ≡ most ItemsPerContext)
+-- a text gives no rule a weight
+IsBeyond Weight before m = ⊥
 IsBeyond FormulaSize before m = IsAmong (IsNumber (most FormulaSize + 1)) m.uses
 IsBeyond OpenParentheses before m = IsAmong (OpensWithin (most OpenParentheses)) m.uses
 IsBeyond NameBytes before m = IsNameWord m.token × (most_name_bytes < length m.token)

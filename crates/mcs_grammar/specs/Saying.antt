@@ -54,6 +54,8 @@ pub record SaysBridge (contexts : List Name) (w : WrittenBridge) (b : plain.Brid
   pub head : SaysPlace contexts w.head (record { context = b.target; belief = b.head })
   pub pos : Each (SaysPlace contexts) (positive_places w.reads) b.pos
   pub neg : Each (SaysPlace contexts) (negative_places w.reads) b.neg
+  -- a text says nothing else of a rule
+  pub unmarked : b ≡ plain.plain_rule b.name b.target b.head b.pos b.neg
 
 abbrev pub names_of : List WrittenContext → List Name
 names_of cs = map (λ (c : WrittenContext). c.name) cs
