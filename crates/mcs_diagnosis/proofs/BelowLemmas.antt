@@ -13,7 +13,7 @@ use Rattle.mcs_base.proofs.ListingLemmas.{IsListing-nil, IsListing-same, IsListi
 use Rattle.mcs_system.specs.Plain.{System}
 use Rattle.mcs_system.specs.Repairs.{all_marks, IsDiagnosis}
 use Rattle.mcs_system.specs.Systems.{all_variables, all_rules, applicable, IsConsistent}
-use Rattle.mcs_system.proofs.MarkLemmas.{applicable_within, forced_known}
+use Rattle.mcs_system.proofs.MarkLemmas.{allowed_known, applicable_within, forced_known}
 use Rattle.mcs_laws.proofs.Choices.{consistent_minimal}
 use Rattle.mcs_laws.proofs.Counting.{minimal_is_small}
 use Rattle.mcs_laws.proofs.Projections.{parts_of}
@@ -68,7 +68,7 @@ all_below m ds level past below = all_where m ds level (λ p h. omega (arith, mi
 
 -- what is shown is of the system
 pub shown_within : (m : System) (d : code.Diagnosis) → IsDiagnosis m d.pair → IsShown m d → Within d.pair (all_marks m) × Within d.state (all_variables m) × Within d.active (all_rules m)
-shown_within m d is shown = (is.allowed, (parts_of m _ _ d.state shown.state.one).0, rw shown.active (union_within _ _ _ rules (forced_known m d.pair is.allowed)))
+shown_within m d is shown = (allowed_known m d.pair is.allowed, (parts_of m _ _ d.state shown.state.one).0, rw shown.active (union_within _ _ _ rules (forced_known m d.pair (allowed_known m d.pair is.allowed))))
   where
     rules : Within (minus (applicable m d.state) (removed_of d.pair)) (all_rules m)
     rules k in_both = applicable_within m d.state k (minus_within _ _ k in_both)

@@ -2,7 +2,7 @@
 
 use crate::evaluators::evaluator_of;
 use crate::numbered::are_numbered;
-use crate::systems::{CHOICE, FORBIDDEN, SELF_ATTACK, are_marks, system_of};
+use crate::systems::{CHOICE, FORBIDDEN, SELF_ATTACK, are_allowed, system_of};
 use mcs_base::{Marks, Memory, Pair};
 use mcs_equilibria::list_states;
 use mcs_ports::IdleGate;
@@ -43,7 +43,7 @@ fn has_states(
     marks: Marks,
     states: &[u64],
 ) -> Result<bool, Memory> {
-    if !are_marks(system, marks) {
+    if !are_allowed(system, marks) {
         return Ok(false);
     }
     let mut evaluator = evaluator_of(alloc, system, ENOUGH, &IdleGate)?;

@@ -3,7 +3,7 @@
 ghost use Rattle.std.specs.Prelude.{◌≡◌, ◌<◌, ◌≤◌, true, length};
 ghost use Rattle.mcs_sets.specs.Sets.{Within};
 ghost use Rattle.mcs_system.specs.Faults.{default_count};
-ghost use Rattle.mcs_system.specs.Repairs.{all_marks};
+ghost use Rattle.mcs_system.specs.Repairs.{allowed_marks};
 ghost use Rattle.mcs_system.specs.Seen.{kb_of};
 ghost use Rattle.mcs_asking.specs.Kinds.{IsOverKb};
 
@@ -30,23 +30,11 @@ pub(crate) fn system_of(alloc: Global, text: &str) -> Result<Arc<System>, Fail> 
     Ok(Arc::new(alloc, read_system(alloc, text.as_bytes())?)?)
 }
 
-/// The marks of the rules of the system.
-#[tactic(auto, using(mcs_system::proofs::SeenLemmas::loops), unfolding(mcs_system::specs::Repairs::all_marks))]
-fn marks_of(system: &System) -> Marks
-    ensures { result ≡ all_marks system.now }
+/// Whether a repair of the system may have these marks.
+pub(crate) fn are_allowed(system: &System, marks: Marks) -> bool
+    ensures { result ≡ true → Within marks (allowed_marks system.now) }
 {
-    let mut marks = Marks::empty();
-    for mark in 0..2 * system.bridges().len() as u32 {
-        marks = marks.with(mark);
-    }
-    marks
-}
-
-/// Whether the marks are of rules of the system.
-pub(crate) fn are_marks(system: &System, marks: Marks) -> bool
-    ensures { result ≡ true → Within marks (all_marks system.now) }
-{
-    marks.within(marks_of(system))
+    marks.within(system.allowed())
 }
 
 /// What the first context knows, and its atoms.

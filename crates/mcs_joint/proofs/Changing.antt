@@ -23,7 +23,7 @@ use Rattle.mcs_system.specs.Faults.{IsValid}
 use Rattle.mcs_system.specs.Logic.{Accepts, with_heads}
 use Rattle.mcs_system.specs.Systems.{all_rules, variables_of, applicable, heads_into, acting_at, IsAcceptedPart, IsProjectedEquilibrium}
 use Rattle.mcs_system.specs.Imports.{rules_into, marks_at}
-use Rattle.mcs_system.specs.Repairs.{all_marks, IsChoice, choice_marks}
+use Rattle.mcs_system.specs.Repairs.{allowed_marks, IsChoice, choice_marks}
 use Rattle.mcs_system.specs.Rows.{local_of}
 use Rattle.mcs_system.proofs.ContextSets.{rules_into_known}
 use Rattle.mcs_system.proofs.MarkLemmas.{removed-marks_of, forced-marks_of, applicable_within}
@@ -151,7 +151,7 @@ module _ (m : System) (pair : ℕ) where
           let same : p ≡ row_at m σ x i = same_row p (row_at m σ x i) own.0.mask (sym (parts i p is).0) (sym (parts i p is).1) in
           marks_tell i σ x (subst (HasMarksOf m i pair) same own.1) ∙ sym (acting_own i σ)
 
-    module _ (known : Within pair (all_marks m)) where
+    module _ (known : Within pair (allowed_marks m)) where
       -- a joint row is an equilibrium, and has the marks of the rules that act in it
       pub joint_state : (level : ℕ) (r : Row) → IsJointRow level us r → IsProjectedEquilibrium m (minus (all_rules m) (removed_of pair)) (forced_of pair) r.state.values × (r.marks ≡ choice_marks m r.state.values (acting r.state.values))
       joint_state level r j =

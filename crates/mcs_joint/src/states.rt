@@ -7,7 +7,7 @@ ghost use Rattle.mcs_sets.specs.Orders.{StateBefore};
 ghost use Rattle.mcs_base.specs.Listings.{IsAmong, IsListing};
 ghost use Rattle.mcs_base.specs.Pairs.{removed_of, forced_of};
 ghost use Rattle.mcs_system.specs.Faults.{IsValid};
-ghost use Rattle.mcs_system.specs.Repairs.{all_marks};
+ghost use Rattle.mcs_system.specs.Repairs.{allowed_marks};
 ghost use Rattle.mcs_system.specs.Systems.{all_rules, IsProjectedEquilibrium};
 ghost use Rattle.mcs_table.specs.declared.row.Row as declared;
 ghost use Rattle.mcs_table.specs.Joins.{IsJointRow};
@@ -27,14 +27,14 @@ use std::alloc::Global;
 /// The projected equilibria of the plan's system that the pair changes, in the order of states: the rules that
 /// it removes act only where it forces them, those that it forces act always. The tables are those of all
 /// contexts, in order, each with the local rows of its context at one level, which is no less than the number
-/// of the pair's marks. The pair is of rules of the system.
+/// of the pair's marks. Each mark of the pair is one that a repair of the system may have.
 pub fn states_in(
     alloc: Global,
     plan: &Plan,
     tables: &[Table],
     pair: Pair,
 ) -> Result<Vec<Vars>, Memory>
-    requires of_rules { Within pair (all_marks plan.now) }
+    requires allowed { Within pair (allowed_marks plan.now) }
     requires tables { (k : ℕ) × (size pair ≤ k) × AreLocalTables plan.now k tables.now }
     ensures { IfOk result (λ states. IsListing (IsProjectedEquilibrium plan.now (minus (all_rules plan.now) (removed_of pair)) (forced_of pair)) StateBefore states.items) }
 {

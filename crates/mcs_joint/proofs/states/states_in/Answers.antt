@@ -49,4 +49,4 @@ returns c =
     let reduced : IsReduced (size c.args.pair) own fewer = subst (λ n. IsReduced n own fewer) level c.in_ok-fewer.ensures in
     let joint : (r : Row) → IsAmong r rows ↔ IsJointRow (size c.args.pair) fewer r = λ r. subst (λ n. IsAmong r rows ↔ IsJointRow n fewer r) level (subst (λ ts. IsAmong r rows ↔ IsJointRow c.count-level.result ts r) c.deref.ensures.value (same r)) in
     let listed = subst (λ (ys : List ℕ). IsListing (λ σ. IsAmong σ ys) StateBefore c.list_states.new.states.items) values c.list_states.ensures in
-    states_listed m c.args.pair valid k c.args.tables.now own c.changed_tables.ensures.kept local changed c.requires.of_rules high fewer reduced rows joint c.list_states.new.states.items listed
+    states_listed m c.args.pair valid k c.args.tables.now own c.changed_tables.ensures.kept local changed c.requires.allowed high fewer reduced rows joint c.list_states.new.states.items listed

@@ -13,8 +13,8 @@ returns-in_err-print_opening-clause-stop g c =
     err_told (HasStopped c.args.task [] (g.E.Evaluator.stands c.args.evaluator.now) (g.E.Evaluator.stands c.args.evaluator.now) (g.K.Sink.device c.args.sink.now) (g.K.Sink.device c.print_opening.new.sink)) _ _ c.from_residual.ensures.1
     (opening_cut c.args.task c.args.system.now _ _ c.requires.same (g.K.Sink.device c.args.sink.now) (g.K.Sink.device c.print_opening.new.sink) _ c.in_err-print_opening.ensures)
 
-pub list_states-requires-clause-of_rules : goal.list_states-requires-clause-of_rules
-list_states-requires-clause-of_rules g c = none_is_within c.new.result _ (c.new.ensures ∙ c.empty.ensures)
+pub list_states-requires-clause-allowed : goal.list_states-requires-clause-allowed
+list_states-requires-clause-allowed g c = none_is_within c.new.result _ (c.new.ensures ∙ c.empty.ensures)
 
 pub returns-in_err-states-clause-stop : goal.returns-in_err-states-clause-stop
 returns-in_err-states-clause-stop g c =
