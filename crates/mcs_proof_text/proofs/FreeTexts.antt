@@ -1,5 +1,5 @@
 -- Texts that have no line feed: words, numbers, names, and sets of rules and of variables.
-use Rattle.std.proofs.Common.{◌≡◌, ℕ, ◌+◌, ◌/◌, ◌%◌, zero, suc, Bool, true, false, cond, not, ◌&&◌, nat_eq, ltb, List, [], ◌∷◌, ◌++◌, map, codes, slice_get, Option, Some, None, refl, sym, ap, ◌∙◌, arith, true≢false}
+use Rattle.std.proofs.Common.{◌≡◌, ℕ, ◌+◌, ◌/◌, ◌%◌, zero, suc, Bool, true, false, cond, not, nat_eq, ltb, List, [], ◌∷◌, ◌++◌, map, codes, slice_get, Option, Some, None, refl, sym, ap, ◌∙◌, arith, true≢false}
 use Rattle.std.proofs.lemmas.Bool.{and_parts}
 use Rattle.std.specs.Fmt.{digit_glyph, digits_onto, digits, decimal}
 use Rattle.std.specs.List.{AllByRecursion}
