@@ -14,6 +14,7 @@ use Rattle.mcs_system.specs.Imports.{imports, Reaches, directly, through, IsRead
 use Rattle.mcs_system.specs.Levels.{IsQuestionAt, IsCount}
 use Rattle.mcs_system.proofs.MarkLemmas.{marks_known}
 use Rattle.mcs_laws.specs.Laws.{QuestionsKeepToSupplies, QuestionsTakeSupplies}
+use Rattle.mcs_laws.proofs.Free.{all_allowed}
 use Rattle.mcs_laws.specs.Examples.{name_a, name_b, p, p_of_0, empty_context, one_reads_other, one_reads_fact}
 use Rattle.mcs_laws.proofs.Rows.{only_read, no_heads, supplies_no_p}
 use Rattle.mcs_laws.proofs.Tiny.{has-1, p_is_open, p_follows}
@@ -110,7 +111,7 @@ module _ (fs : List Formula) where
     state = 0;
     of_variables = none_within _;
     supplies = λ j nothing. absurd nothing;
-    allowed = marks_known (reading fs) _ _;
+    allowed = rw (all_allowed (reading fs) ((refl, refl), tt)) (marks_known (reading fs) _ _);
     near = let e = ap size marks-first ∙ size-none in omega arith;
   }
 
@@ -128,7 +129,7 @@ module _ (fs : List Formula) where
         | inl e ↦ subst (λ k. IsPossibleFrom (reading fs) 0 (0 ∷ []) k (common state (variables_of (reading fs) k))) (sym e) (inl (refl, (0, first_asked, supplied)))
         | inr nothing ↦ absurd nothing
       ];
-      allowed = marks_known (reading fs) _ _;
+      allowed = rw (all_allowed (reading fs) ((refl, refl), tt)) (marks_known (reading fs) _ _);
       near = let e = ap size unmarked ∙ size-none in omega arith;
     },
   )

@@ -75,7 +75,7 @@ one_reads_other = record {
 abbrev pub one_reads_fact : System
 one_reads_fact = record {
   contexts = record { name = name_a; kb = Classical (p ∷ []) } ∷ record { name = name_b; kb = Classical [] } ∷ [];
-  bridges = record { name = codes "r"; target = 1; head = p; pos = p_of_0 ∷ []; neg = [] } ∷ [];
+  bridges = plain_rule (codes "r") 1 p (p_of_0 ∷ []) [] ∷ [];
 }
 
 -- ---- programs
