@@ -1,5 +1,5 @@
 -- What a run promises is kept, however it ends.
-use Rattle.std.proofs.Common.{◌≡◌, ◌⊎◌, ℕ, ◌≤◌, List, [], Option, Some, None, IfSome, inl, inr, refl, sym, ◌∙◌, subst, arith}
+use Rattle.std.proofs.Common.{◌≡◌, ℕ, ◌≤◌, List, Option, Some, None, IfSome, inl, inr, refl, sym, subst, arith}
 use Rattle.mcs_ports.specs.Causes.{Rose}
 use Rattle.mcs_ports.specs.Pieces.{Device, noted}
 use Rattle.mcs_words.specs.Commands.{Word, Request, IsJobOf}
@@ -7,9 +7,8 @@ use Rattle.mcs_words.specs.declared.job.WordsFault.{WordsFault}
 use Rattle.mcs_words.specs.declared.job.WordsFault.TheVariants as words
 use Rattle.mcs_top.specs.Jobs.{File, files_in, told_all, OfJob}
 use Rattle.mcs_top.specs.Endings.{line_of, stop_for_words, IsTold, IsToldAs}
-use Rattle.mcs_top.specs.Promise.{IsRefusal, LacksBudget, LacksFile, CanBeDone, CanBeRejected, EndsSo, HasCause, LeavesText, IsUnlessMemory, Notes, KeepsPromise}
+use Rattle.mcs_top.specs.Promise.{CanBeDone, CanBeRejected, EndsSo, HasCause, LeavesText, IsUnlessMemory, KeepsPromise}
 use Rattle.mcs_top.specs.declared.ending.Outcome.TheVariants as outcomes
-use Rattle.mcs_top.specs.declared.ending.Refusal.{Refusal}
 use Rattle.mcs_top.specs.declared.ending.Stop.{Stop}
 use Rattle.mcs_top.specs.declared.ending.Stop.TheVariants as stops
 use Rattle.mcs_top.specs.declared.status.Status.{Status}

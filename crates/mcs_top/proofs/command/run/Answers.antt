@@ -1,4 +1,4 @@
-use Rattle.std.proofs.Common.{◌≡◌, ◌≤◌, ◌∙◌, ℕ, List, Option, Err, refl, sym, subst, arith}
+use Rattle.std.proofs.Common.{◌≤◌, ◌∙◌, ℕ, List, Option, sym, subst, arith}
 use Rattle.mcs_ports.specs.Causes.{Rose}
 use Rattle.mcs_words.specs.Reading.{texts_of, request_of}
 use Rattle.mcs_top.specs.Jobs.{files_in, told_all}

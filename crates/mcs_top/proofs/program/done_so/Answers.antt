@@ -1,4 +1,4 @@
-use Rattle.std.proofs.Common.{◌≡◌, arith}
+use Rattle.std.proofs.Common.{arith}
 use Rattle.mcs_top.specs.Programs.{words_given}
 use Rattle.mcs_top.proofs.PromiseLemmas.{memory_kept}
 use Rattle.mcs_top.proofs.program.done_so.Goals as goal
