@@ -1,6 +1,6 @@
 //! The clauses that say of a set of atoms that it has support from outside if one of them is true.
 
-ghost use Rattle.std.specs.Prelude.{◌≡◌, ◌≤◌, [], ◌∷◌, length, map, filter, IfOk};
+ghost use Rattle.std.specs.Prelude.{◌≡◌, ◌≤◌, [], ◌∷◌, length, map, filter, IfOk, OnErr};
 ghost use Rattle.mcs_system.specs.Plain as plain;
 ghost use Rattle.mcs_system.specs.Seen.{rule_of};
 ghost use Rattle.mcs_cnf.specs.ClauseLists.{with_formulas};
@@ -70,8 +70,8 @@ fn push_supports(
     any_of(alloc, cnf, any)
 }
 
-/// Adds the clauses that some rule supports the set of atoms from outside if one of them is true.
-pub fn push_support(
+/// Adds the clauses that some rule supports the set of atoms from outside if one of them is true, to an own list.
+fn push_one_support(
     alloc: Global,
     cnf: &mut Cnf,
     atoms: &[Name],
@@ -88,4 +88,25 @@ pub fn push_support(
     let y = push_supports(alloc, cnf, atoms, rules, set)?;
     let n = push_implies(alloc, cnf, x, y)?;
     push_unit(alloc, cnf, n)
+}
+
+/// Adds the clauses that some rule supports the set of atoms from outside if one of them is true. Where memory runs out,
+/// the list is as before.
+pub fn push_support(
+    alloc: Global,
+    cnf: &mut Cnf,
+    atoms: &[Name],
+    rules: &[ProgRule],
+    set: &[Name],
+) -> Result<(), Memory>
+    requires rules { AreOverRules atoms.now (map rule_of rules.now) }
+    requires over { AreNamesOf atoms.now set.now }
+    requires room { length atoms.now ≤ cnf.old.vars }
+    ensures grows { IfOk result (λ _. cnf.old.vars ≤ cnf.new.vars) }
+    ensures pushed { IfOk result (λ _. cnf.new ≡ with_formulas atoms.now cnf.old (support_formula (map rule_of rules.now) set.now ∷ [])) }
+    ensures err { OnErr result (cnf.new ≡ cnf.old) }
+{
+    let mut own = Cnf::new(alloc, cnf.vars());
+    push_one_support(alloc, &mut own, atoms, rules, set)?;
+    cnf.append(own)
 }

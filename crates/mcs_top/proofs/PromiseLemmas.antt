@@ -7,7 +7,7 @@ use Rattle.mcs_words.specs.declared.job.WordsFault.{WordsFault}
 use Rattle.mcs_words.specs.declared.job.WordsFault.TheVariants as words
 use Rattle.mcs_top.specs.Jobs.{File, files_in, told_all, OfJob}
 use Rattle.mcs_top.specs.Endings.{line_of, stop_for_words, IsTold, IsToldAs}
-use Rattle.mcs_top.specs.Promise.{CanBeDone, CanBeRejected, EndsSo, HasCause, LeavesText, IsUnlessMemory, KeepsPromise}
+use Rattle.mcs_top.specs.Promise.{CanBeDone, CanBeRejected, EndsSo, HasCause, LeavesText, IsUnlessMemory, CannotBeRead, HasFailed, KeepsPromise}
 use Rattle.mcs_top.specs.declared.ending.Outcome.TheVariants as outcomes
 use Rattle.mcs_top.specs.declared.ending.Stop.{Stop}
 use Rattle.mcs_top.specs.declared.ending.Stop.TheVariants as stops
@@ -21,6 +21,20 @@ pub told_since : (stop : Stop) (status : Status) (before mid now : Device) → m
 told_since stop status before mid now same (inl own) = inl (record { status_is = own.status_is; notes = subst (λ (n : Option (List ℕ)). now.notes ≡ noted n (line_of stop)) same own.notes })
 told_since stop status before mid now same (inr want) = inr (record { status_is = want.status_is; notes = subst (λ (n : Option (List ℕ)). now.notes ≡ noted n (line_of stops.Memory)) same want.notes })
 
+-- ---- the cause of a failed read, by both counts
+both_rose : (stop : Stop) (rose failed wrote : Type 0) (job : Request) (files : Option (List File)) → HasCause stop rose failed wrote job files → HasCause stop rose (rose × failed) wrote job files
+both_rose stops.Usage rose failed wrote job files h = h
+both_rose (stops.Refused why) rose failed wrote job files h = h
+both_rose (stops.Unfinished level budget) rose failed wrote job files h = h
+both_rose stops.ReadFault rose failed wrote job files h = (h.0, at files h.1)
+  where
+    at : (fs : Option (List File)) → IfSome fs (CannotBeRead failed job) → IfSome fs (CannotBeRead (rose × failed) job)
+    at None told = tt
+    at (Some gs) (inl lacks) = inl lacks
+    at (Some gs) (inr broke) = inr (h.0, broke)
+both_rose stops.WriteFault rose failed wrote job files h = h
+both_rose stops.Memory rose failed wrote job files h = h
+
 module _ (asked_words : List Word) (held : Option (Word → File)) (faults faults' failures failures' : ℕ) (device device' : Device) (later : faults ≤ faults') where
   abbrev Kept : Status → Type 0
   Kept status = KeepsPromise asked_words held faults faults' failures failures' device device' status
@@ -30,7 +44,7 @@ module _ (asked_words : List Word) (held : Option (Word → File)) (faults fault
   rose = Rose faults faults'
 
   abbrev failed : Type 0
-  failed = Rose failures failures'
+  failed = HasFailed faults faults' failures failures'
 
   abbrev wrote : Type 0
   wrote = Rose device.faults device'.faults
@@ -125,13 +139,13 @@ module _ (asked_words : List Word) (held : Option (Word → File)) (faults fault
       sink_later = omega (arith, still);
       unfailed = λ other. still;
       refused = λ is. absurd (cc);
-      refusal = if_this _ (endings.done_refuses statuses.Done job device.written device'.written files (Rose failures failures') ends);
+      refusal = if_this _ (endings.done_refuses statuses.Done job device.written device'.written files (HasFailed faults faults' failures failures') ends);
       unreadable = λ is. absurd (cc);
       missing = if_this _ (endings.done_misses statuses.Done job device.written device'.written files ends);
       beyond = λ is. absurd (cc);
-      spent = if_this _ (endings.done_spends statuses.Done job device.written device'.written files (Rose failures failures') (Rose device.faults device'.faults) ends);
+      spent = if_this _ (endings.done_spends statuses.Done job device.written device'.written files (HasFailed faults faults' failures failures') (Rose device.faults device'.faults) ends);
       not_valid = λ is. absurd (cc);
-      invalid = if_this _ (endings.done_rejects statuses.Done job device.written device'.written files (Rose failures failures') (Rose device.faults device'.faults) ends);
+      invalid = if_this _ (endings.done_rejects statuses.Done job device.written device'.written files (HasFailed faults faults' failures failures') (Rose device.faults device'.faults) ends);
       done = λ is. of_job _ (endings.done_writes statuses.Done job device.written device'.written files ends);
       complete = λ other other_asked. done_anyway other;
       unfinished = λ is. absurd (cc);
@@ -140,10 +154,10 @@ module _ (asked_words : List Word) (held : Option (Word → File)) (faults fault
       notes = same;
     }
       where
-        done_anyway : (other : Request) → IfSome (told_all held (files_in other)) (λ fs. CanBeDone other fs → ¬ Rose failures failures' → ¬ Rose device.faults device'.faults → IsUnlessMemory statuses.Done statuses.Done)
+        done_anyway : (other : Request) → IfSome (told_all held (files_in other)) (λ fs. CanBeDone other fs → ¬ HasFailed faults faults' failures failures' → ¬ Rose device.faults device'.faults → IsUnlessMemory statuses.Done statuses.Done)
         done_anyway other = always (told_all held (files_in other))
           where
-            always : (fs : Option (List File)) → IfSome fs (λ gs. CanBeDone other gs → ¬ Rose failures failures' → ¬ Rose device.faults device'.faults → IsUnlessMemory statuses.Done statuses.Done)
+            always : (fs : Option (List File)) → IfSome fs (λ gs. CanBeDone other gs → ¬ HasFailed faults faults' failures failures' → ¬ Rose device.faults device'.faults → IsUnlessMemory statuses.Done statuses.Done)
             always None = tt
             always (Some gs) = λ can calm quiet. inl refl
 
@@ -158,32 +172,32 @@ module _ (asked_words : List Word) (held : Option (Word → File)) (faults fault
       sink_later = omega (arith, still);
       unfailed = λ other. still;
       refused = λ is. absurd (cc);
-      refusal = if_this _ (endings.rejected_refuses statuses.NotValid job device.written device'.written files (Rose failures failures') ends);
+      refusal = if_this _ (endings.rejected_refuses statuses.NotValid job device.written device'.written files (HasFailed faults faults' failures failures') ends);
       unreadable = λ is. absurd (cc);
       missing = if_this _ (endings.rejected_misses statuses.NotValid job device.written device'.written files ends);
       beyond = λ is. absurd (cc);
-      spent = if_this _ (endings.rejected_spends statuses.NotValid job device.written device'.written files (Rose failures failures') (Rose device.faults device'.faults) ends);
+      spent = if_this _ (endings.rejected_spends statuses.NotValid job device.written device'.written files (HasFailed faults faults' failures failures') (Rose device.faults device'.faults) ends);
       not_valid = λ is. of_job _ (endings.rejected_writes statuses.NotValid job device.written device'.written files ends);
       invalid = λ other other_asked. rejected_anyway other;
       done = λ is. absurd (cc);
-      complete = if_this _ (endings.rejected_completes statuses.NotValid job device.written device'.written files (Rose failures failures') (Rose device.faults device'.faults) ends);
+      complete = if_this _ (endings.rejected_completes statuses.NotValid job device.written device'.written files (HasFailed faults faults' failures failures') (Rose device.faults device'.faults) ends);
       unfinished = λ is. absurd (cc);
       out_of_memory = λ is. absurd (cc);
       silent = λ is. elim is [ inl e ↦ absurd (cc) | inr more ↦ elim more [ inl e ↦ absurd (cc) | inr e ↦ absurd (cc) ] ];
       notes = same;
     }
       where
-        rejected_anyway : (other : Request) → IfSome (told_all held (files_in other)) (λ fs. CanBeRejected other fs → ¬ Rose failures failures' → ¬ Rose device.faults device'.faults → IsUnlessMemory statuses.NotValid statuses.NotValid)
+        rejected_anyway : (other : Request) → IfSome (told_all held (files_in other)) (λ fs. CanBeRejected other fs → ¬ HasFailed faults faults' failures failures' → ¬ Rose device.faults device'.faults → IsUnlessMemory statuses.NotValid statuses.NotValid)
         rejected_anyway other = always (told_all held (files_in other))
           where
-            always : (fs : Option (List File)) → IfSome fs (λ gs. CanBeRejected other gs → ¬ Rose failures failures' → ¬ Rose device.faults device'.faults → IsUnlessMemory statuses.NotValid statuses.NotValid)
+            always : (fs : Option (List File)) → IfSome fs (λ gs. CanBeRejected other gs → ¬ HasFailed faults faults' failures failures' → ¬ Rose device.faults device'.faults → IsUnlessMemory statuses.NotValid statuses.NotValid)
             always None = tt
             always (Some gs) = λ can calm quiet. inl refl
 
     -- it stopped
     pub stop_kept : (stop : Stop) (status : Status) → IsTold stop status device device' → HasCause stop (Rose faults faults') (Rose failures failures') (Rose device.faults device'.faults) job files
         → LeavesText stop job files device.written device'.written → device.faults ≤ device'.faults → (¬ (status ≡ statuses.WriteFault) → device'.faults ≡ device.faults) → Kept status
-    stop_kept stop status told cause leaves up unfailed = record {
+    stop_kept stop status told alone leaves up unfailed = let cause = both_rose stop rose (Rose failures failures') wrote job files alone in record {
       usage = λ is. absurd (endings.never_usage stop status device device' told rose failed wrote job files cause is);
       no_job = λ none. absurd (none job asked);
       read_fault = endings.read_rose stop status device device' told rose failed wrote job files cause;

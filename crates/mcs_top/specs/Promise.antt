@@ -284,6 +284,10 @@ abbrev pub IsUnlessMemory : Status → Status → Type 0
 IsUnlessMemory due status = (status ≡ due) ⊎ (status ≡ statuses.OutOfMemory)
 
 -- ---- what a run promises
+-- a call on a file that is there failed: both counts rose
+abbrev pub HasFailed : ℕ → ℕ → ℕ → ℕ → Type 0
+HasFailed faults faults' failures failures' = Rose faults faults' × Rose failures failures'
+
 -- The words after the program's name, what the shelf holds by name where it tells, its counts of faults and of failures before
 -- and after the run, the device before and after it, and the status that the run answers.
 pub record KeepsPromise (words : List Word) (held : Option (Word → File)) (faults faults' failures failures' : ℕ) (device device' : Device) (status : Status) : Type 0 where
@@ -299,21 +303,21 @@ pub record KeepsPromise (words : List Word) (held : Option (Word → File)) (fau
   pub unfailed : ¬ (status ≡ statuses.WriteFault) → device'.faults ≡ device.faults
   -- a job is refused exactly for what is wrong with its files, and that is noted
   pub refused : status ≡ statuses.Refused → OfJob words held (TellsRefusal device.notes device'.notes)
-  pub refusal : IfJob words held (λ job files. (why : Refusal) → IsRefusal why job files → ¬ Rose failures failures' → IsUnlessMemory statuses.Refused status)
+  pub refusal : IfJob words held (λ job files. (why : Refusal) → IsRefusal why job files → ¬ HasFailed faults faults' failures failures' → IsUnlessMemory statuses.Refused status)
   -- a file is not read exactly where it is not there, or a call on it failed
-  pub unreadable : status ≡ statuses.ReadFault → OfJob words held (CannotBeRead (Rose failures failures'))
+  pub unreadable : status ≡ statuses.ReadFault → OfJob words held (CannotBeRead (HasFailed faults faults' failures failures'))
   pub missing : IfJob words held (λ job files. LacksFile job files → IsUnlessMemory statuses.ReadFault status)
   -- a job stops exactly where a level that it takes has more questions than the budget; what is printed before the least one was
   -- written, and that level is noted
   pub beyond : status ≡ statuses.Unfinished → OfJob words held (StopsBeyond device.written device'.written device.notes device'.notes)
-  pub spent : IfJob words held (λ job files. LacksBudget job files → ¬ Rose failures failures' → ¬ Rose device.faults device'.faults → IsUnlessMemory statuses.Unfinished status)
+  pub spent : IfJob words held (λ job files. LacksBudget job files → ¬ HasFailed faults faults' failures failures' → ¬ Rose device.faults device'.faults → IsUnlessMemory statuses.Unfinished status)
   -- that a report is not valid comes where it is not, and which of the tests it fails, at which line, was written
   pub not_valid : status ≡ statuses.NotValid → OfJob words held (WritesRejection device.written device'.written)
-  pub invalid : IfJob words held (λ job files. CanBeRejected job files → ¬ Rose failures failures' → ¬ Rose device.faults device'.faults → IsUnlessMemory statuses.NotValid status)
+  pub invalid : IfJob words held (λ job files. CanBeRejected job files → ¬ HasFailed faults faults' failures failures' → ¬ Rose device.faults device'.faults → IsUnlessMemory statuses.NotValid status)
   -- that the job was done comes where its whole output was written
   pub done : status ≡ statuses.Done → OfJob words held (WritesOutput device.written device'.written)
   -- it does come where the budget suffices, unless memory ran out or a device failed
-  pub complete : IfJob words held (λ job files. CanBeDone job files → ¬ Rose failures failures' → ¬ Rose device.faults device'.faults → IsUnlessMemory statuses.Done status)
+  pub complete : IfJob words held (λ job files. CanBeDone job files → ¬ HasFailed faults faults' failures failures' → ¬ Rose device.faults device'.faults → IsUnlessMemory statuses.Done status)
   -- otherwise a front of a stage of the output was written, or nothing
   pub unfinished : status ≡ statuses.WriteFault → OfJob words held (WritesStage device.written device'.written)
   pub out_of_memory : status ≡ statuses.OutOfMemory → (device'.written ≡ device.written) ⊎ OfJob words held (WritesStage device.written device'.written)
