@@ -27,3 +27,5 @@ pub mod Sorted
 pub mod NumberCases
 pub mod Lasts
 pub mod SetParts
+pub mod Walks
+pub mod Searched

@@ -2,7 +2,6 @@ pub mod ReachLemmas
 pub mod OrderLemmas
 pub mod ShareLemmas
 pub mod StateLemmas
-pub mod Walks
 pub mod NearLemmas
 pub mod QuestionLemmas
 pub mod CountLemmas

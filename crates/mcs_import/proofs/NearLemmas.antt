@@ -1,58 +1,18 @@
 -- Which sets are near those of a list: few changes make them of these, one change after the other.
-use Rattle.std.proofs.Common.{◌≡◌, ℕ, ◌+◌, ◌<◌, ◌≤◌, suc, Bool, true, false, IsTrue, Result, Ok, Err, is_ok, eqb, List, [], ◌∷◌, ◌++◌, length, take, get_or, refl, sym, ap, ◌∙◌, subst, inl, inr, ◌⊎◌, ◌↔◌, arith, true≢false}
-use Rattle.std.proofs.lemmas.Bool.{and_from, cases_eq, cases_lt}
-use Rattle.std.proofs.lemmas.Bool.Decides.{nat_tests}
-use Rattle.std.proofs.lemmas.List.Sorted.{searched}
+use Rattle.std.proofs.Common.{◌≡◌, ℕ, ◌+◌, ◌<◌, ◌≤◌, suc, true, List, [], ◌∷◌, length, take, get_or, refl, sym, ap, ◌∙◌, subst, inl, inr, ◌⊎◌, ◌↔◌, arith, true≢false}
+use Rattle.std.proofs.lemmas.Bool.{and_from}
 use Rattle.std.specs.List.{AllByRecursion}
-use Rattle.std.specs.List.Sorted.{IsBinarySearchResult}
-use Rattle.std.specs.Ordering.{nat_cmp}
 use Rattle.mcs_sets.specs.Sets.{has, single, union, common, minus, members, size, Within}
-use Rattle.mcs_sets.proofs.SetLemmas.{same_set, has-empty, has-single, has-union, has-common, has-minus, least_below, below_power}
+use Rattle.mcs_sets.proofs.SetLemmas.{has-common, has-minus}
 use Rattle.mcs_sets.proofs.Lattice.{minus-minus, minus_itself, minus-union_back, in_common, in_minus, in_with, has-without_itself, within_antisymmetric, single_within, with_within, minus_within, no_member_of_none, none_from_size, size-none, size_within, size-without}
+use Rattle.mcs_sets.proofs.Changes.{within_where_none, some_member, size-with, with_without, swap-minus, fewer_left, fewer_missing, beside_more, not_same}
 use Rattle.mcs_base.specs.Listings.{IsAmong, IsAscending, IsListing}
-use Rattle.mcs_base.proofs.Among.{among_at, among_push, among_take_more, place_among}
+use Rattle.mcs_base.proofs.Among.{among_take_more}
 use Rattle.mcs_base.proofs.Each.{all_among}
-use Rattle.mcs_base.proofs.ListingLemmas.{members_listing, ascending_at}
+use Rattle.mcs_base.proofs.ListingLemmas.{members_listing}
 use Rattle.mcs_base.proofs.SetParts.{minus_less}
 use Rattle.mcs_import.specs.Near.{IsNear, IsMadeBy, IsChanged, IsNext}
-use Rattle.mcs_import.proofs.Walks.{AreLevels, IsReached, walk_begins}
-
--- ---- sets
-within_where_none : (a b : ℕ) → minus a b ≡ 0 → Within a b
-within_where_none a b none k is = let e = has-minus a b k in let e' = ap (λ (s : ℕ). has s k) none in let e'' = has-empty k in grind arith
-
-some_member : (s : ℕ) → (s ≡ 0) ⊎ ((k : ℕ) × (has s k ≡ true))
-some_member s = elim (least_below s s (below_power s)) [ inl none ↦ inl none | inr (k, less, is, before) ↦ inr (k, is) ]
-
-size-with : (s r : ℕ) → size (union s (single r)) ≤ size s + 1
-size-with s r =
-    let all : ℕ = union s (single r) in
-    let rest : size (minus all (single r)) ≤ size s = size_within (minus all (single r)) s (λ k is. let e = has-minus all (single r) k in let e' = has-union s (single r) k in grind arith) in
-    omega (arith, size-without all r ((in_with s r r).1 (inr refl)), rest)
-
-with_without : (s r : ℕ) → has s r ≡ false → minus (union s (single r)) (single r) ≡ s
-with_without s r out = same_set _ _ (λ k. elim (cases_eq k r) [
-  | inl same ↦ ap (λ (j : ℕ). has (minus (union s (single r)) (single r)) j) same ∙ has-without_itself (union s (single r)) r ∙ sym out ∙ ap (λ (j : ℕ). has s j) (sym same)
-  | inr differ ↦ let e : eqb k r ≡ false = grind (arith, nat_tests) in let e1 = has-minus (union s (single r)) (single r) k in let e2 = has-union s (single r) k in let e3 = has-single r k in grind arith
-])
-
-swap-minus : (a b c : ℕ) → minus (minus a b) c ≡ minus (minus a c) b
-swap-minus a b c = same_set _ _ (λ k. grind (arith, has-minus))
-
-fewer_left : (a b c : ℕ) → Within (minus (minus a c) b) (minus a b)
-fewer_left a b c k is = grind (arith, has-minus)
-
-fewer_missing : (a b c : ℕ) → Within (minus a (union b c)) (minus a b)
-fewer_missing a b c k is = grind (arith, has-minus, has-union)
-
--- what is beside b in a with one more
-beside_more : (a b r k : ℕ) → has (minus (union a (single r)) b) k ≡ true → (has (minus a b) k ≡ true) ⊎ (k ≡ r)
-beside_more a b r k is =
-    let (member, out) = in_minus (union a (single r)) b k is in
-    elim ((in_with a r k).0 member) [ inl old ↦ inl (has-minus a b k ∙ rw (old, out) refl) | inr same ↦ inr same ]
-
-not_same : (a k r : ℕ) → has a k ≡ true → has a r ≡ false → ¬ (k ≡ r)
-not_same a k r is out same = true≢false (sym is ∙ ap (λ (j : ℕ). has a j) same ∙ out)
+use Rattle.mcs_base.proofs.Walks.{AreLevels, IsReached, walk_begins}
 
 -- ---- one change nearer, or further
 module _ (rules removable forcible : ℕ) (sets : List ℕ) (inside : AllByRecursion (λ s. Within s rules) sets) where
@@ -204,38 +164,6 @@ module _ (rules removable forcible : ℕ) (sets : List ℕ) (inside : AllByRecur
   near_begins up reached front is is' = walk_begins Near Step reached front
       (subst (IsListing (Near 0) (λ (a b : ℕ). a < b)) (sym is) (record { exactly = λ x. (near_listed x, listed_near x); ascending = up }))
       (is' ∙ sym is)
-
--- ---- whether a set is listed
-rising : (xs : List ℕ) → IsAscending (λ (a b : ℕ). a < b) xs → (i j : ℕ) → i ≤ j → j < length xs → get_or xs i 0 ≤ get_or xs j 0
-rising xs up i j le below = elim (cases_lt i j) [
-  | inl less ↦ let e : get_or xs i 0 < get_or xs j 0 = ascending_at (λ (a b : ℕ). a < b) xs i j 0 less below up in omega arith
-  | inr past ↦ let same : i ≡ j = omega arith in omega (arith, ap (λ (k : ℕ). get_or xs k 0) same)
-]
-
-pub found_listed : (xs : List ℕ) (x : ℕ) → IsAscending (λ (a b : ℕ). a < b) xs → (r : Result ℕ ℕ) → IsBinarySearchResult (λ y. nat_cmp y x) xs r → (b : Bool) → b ≡ is_ok r → IsTrue b ↔ IsAmong x xs
-found_listed xs x up (Ok i) found b is =
-    let (within, here) = searched xs x (Ok i) found (rising xs up) in
-    (λ h. subst (λ (z : ℕ). IsAmong z xs) here (among_at xs i 0 within), λ h. is)
-found_listed xs x up (Err i) found b is = (λ h. absurd (true≢false (sym h ∙ is)), λ h. absurd (apart h))
-  where
-    apart : IsAmong x xs → ⊥
-    apart h =
-        let (within, before, after) = searched xs x (Err i) found (rising xs up) in
-        let (k, below, same) = place_among xs x h in
-        elim (cases_lt k i) [
-          | inl less ↦ let e = before k less in omega (arith, e, same 0)
-          | inr past ↦ let e = after k past below in omega (arith, e, same 0)
-        ]
-
-pub added_new : (found reached : List ℕ) (s : ℕ) (next : List ℕ) → next ≡ found ++ s ∷ [] → (b : Bool) → IsTrue b ↔ IsAmong s reached → b ≡ false → (x : ℕ) → IsAmong x next ↔ (IsAmong x found ⊎ ((x ≡ s) × (¬ IsAmong x reached)))
-added_new found reached s next is true listed fresh x = absurd (true≢false fresh)
-added_new found reached s next is false listed fresh x = (
-  λ h. elim ((among_push x found s).0 (subst (λ (ys : List ℕ). IsAmong x ys) is h)) [
-    | inl old ↦ inl old
-    | inr e ↦ inr (e, λ here. true≢false (sym (listed.1 (subst (λ (z : ℕ). IsAmong z reached) e here))))
-  ],
-  λ h. subst (λ (ys : List ℕ). IsAmong x ys) (sym is) ((among_push x found s).1 (elim h [ inl old ↦ inl old | inr (e, new) ↦ inr e ])),
-)
 
 -- ---- what a loop over rules adds
 abbrev pub IsAdded : (ℕ → ℕ) → List ℕ → List ℕ → List ℕ → ℕ → Type 0

@@ -1,5 +1,5 @@
 -- The questions to a context, by what its supplies and its guesses make of its inputs.
-use Rattle.std.proofs.Common.{◌≡◌, ℕ, ◌+◌, ◌*◌, ◌<◌, ◌≤◌, Bool, true, false, not, ◌&&◌, ◌||◌, cond, eqb, ltb, List, [], ◌∷◌, ◌++◌, length, map, reverse, Some, slice_get, refl, sym, ap, ◌∙◌, subst, inl, inr, ◌⊎◌, ◌↔◌, arith, true≢false, bit_xor}
+use Rattle.std.proofs.Common.{◌≡◌, ℕ, ◌+◌, ◌<◌, ◌≤◌, Bool, true, false, not, ◌&&◌, ◌||◌, cond, eqb, ltb, List, [], ◌∷◌, ◌++◌, length, map, reverse, Some, slice_get, refl, sym, ap, ◌∙◌, subst, inl, inr, ◌⊎◌, ◌↔◌, arith, true≢false, bit_xor}
 use Rattle.std.proofs.lemmas.Bool.{and_parts, and_from, or_cases, or_left, or_right, false_from_ne_true}
 use Rattle.std.proofs.lemmas.Bool.Decides.{nat_tests}
 use Rattle.std.proofs.Math.Bool.{and-false, and-true, or-false}
@@ -7,7 +7,6 @@ use Rattle.mcs_sets.specs.Sets.{has, size, common, union, minus, members, Within
 use Rattle.mcs_sets.proofs.SetLemmas.{same_set, sets, has-empty, has-union, has-common, has-minus, has-such_that, common_where_within}
 use Rattle.mcs_sets.proofs.Lattice.{union-minus_both, minus_within, in_minus, in_common, common-union, common-common, common_within_right, size-union_apart}
 use Rattle.mcs_base.specs.Pairs.{removed_of, forced_of}
-use Rattle.mcs_base.proofs.PairLemmas.{has-removed_of, has-forced_of}
 use Rattle.mcs_base.specs.Listings.{IsAmong, AreApart, IsListing}
 use Rattle.mcs_base.proofs.ListingLemmas.{IsListing-same}
 use Rattle.mcs_system.specs.Plain.{Read, Bridge, System}
@@ -15,8 +14,9 @@ use Rattle.mcs_system.specs.Systems.{is_of_context, variables, variables_of, all
 use Rattle.mcs_system.specs.Rows.{inputs_of, is_read_into}
 use Rattle.mcs_system.specs.Imports.{imports, before_in, supplied, rules_into, marks_at, FollowsOrder, IsImportOrder, IsQuestionAfter, IsPossibleFrom, IsQuestion, IsPossible}
 use Rattle.mcs_system.specs.Levels.{IsQuestionAt, MaySupply}
-use Rattle.mcs_system.specs.Repairs.{marks_of, mark_of, allowed_marks}
-use Rattle.mcs_system.proofs.MarkLemmas.{size-marks_of, has-all_rules, has-marks_of, mark-even, mark-odd, by_parity}
+use Rattle.mcs_system.specs.Repairs.{marks_of, allowed_marks}
+use Rattle.mcs_system.proofs.MarkParts.{marks_within}
+use Rattle.mcs_system.proofs.MarkLemmas.{size-marks_of}
 use Rattle.mcs_base.proofs.Among.{among_left, among_right, filter_among, among_filter, among_reverse, among_map, map_among, all_same}
 use Rattle.mcs_base.proofs.Lists.{reverse-append_middle}
 use Rattle.mcs_base.proofs.Distinct.{distinct_filter}
@@ -83,29 +83,6 @@ possible_is m order ordered level i j τ among =
     subst (λ (cs : List ℕ). IsPossibleFrom m level cs j τ ↔ IsPossible m order level j τ) (sym e) (possible_at m level (reverse later) j (reverse (before_in order j)) τ (λ h. apart ((among_reverse j later).0 h)))
 
 -- ---- the marks of a set of rules into i, by what it lacks of those that apply and what it has beside them
--- marks of sets of rules lie within marks where the sets lie within the sets of these
-marks_within : (m : System) (a b p : ℕ) → Within a (all_rules m) → Within b (all_rules m) → Within (marks_of m a b) p ↔ (Within a (removed_of p) × Within b (forced_of p))
-marks_within m a b p within_a within_b = (λ h. (λ r is. even h r is, λ r is. odd h r is), λ parts k is. back parts.0 parts.1 k is (by_parity k))
-  where
-    even : Within (marks_of m a b) p → (r : ℕ) → has a r ≡ true → has (removed_of p) r ≡ true
-    even h r is =
-        let known = sym (has-all_rules m r) ∙ within_a r is in
-        let low : ltb (2 * r) (2 * length m.bridges) ≡ true = grind (arith, nat_tests) in
-        has-removed_of p r ∙ h (2 * r) (has-marks_of m a b (2 * r) ∙ and_from (ltb (2 * r) (2 * length m.bridges)) (mark_of a b (2 * r)) low (mark-even a b r ∙ is))
-
-    odd : Within (marks_of m a b) p → (r : ℕ) → has b r ≡ true → has (forced_of p) r ≡ true
-    odd h r is =
-        let known = sym (has-all_rules m r) ∙ within_b r is in
-        let low : ltb (2 * r + 1) (2 * length m.bridges) ≡ true = grind (arith, nat_tests) in
-        has-forced_of p r ∙ h (2 * r + 1) (has-marks_of m a b (2 * r + 1) ∙ and_from (ltb (2 * r + 1) (2 * length m.bridges)) (mark_of a b (2 * r + 1)) low (mark-odd a b r ∙ is))
-
-    told : (k : ℕ) → has (marks_of m a b) k ≡ true → mark_of a b k ≡ true
-    told k is = (and_parts (ltb k (2 * length m.bridges)) (mark_of a b k) (sym (has-marks_of m a b k) ∙ is)).1
-
-    back : Within a (removed_of p) → Within b (forced_of p) → (k : ℕ) → has (marks_of m a b) k ≡ true → (r : ℕ) × ((k ≡ 2 * r) ⊎ (k ≡ 2 * r + 1)) → has p k ≡ true
-    back of_a of_b k is (r, inl e) = ap (λ (j : ℕ). has p j) e ∙ sym (has-removed_of p r) ∙ of_a r (sym (mark-even a b r) ∙ sym (ap (mark_of a b) e) ∙ told k is)
-    back of_a of_b k is (r, inr e) = ap (λ (j : ℕ). has p j) e ∙ sym (has-forced_of p r) ∙ of_b r (sym (mark-odd a b r) ∙ sym (ap (mark_of a b) e) ∙ told k is)
-
 abbrev pub applying : System → ℕ → ℕ → ℕ
 applying m i σ = common (applicable m σ) (rules_into m i)
 

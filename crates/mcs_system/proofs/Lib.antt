@@ -12,6 +12,7 @@ pub mod PartLemmas
 pub mod KeptLemmas
 pub mod BuildLemmas
 pub mod MarkLemmas
+pub mod MarkParts
 pub mod NameLemmas
 pub mod ContextSets
 pub mod Deciding

@@ -1,4 +1,4 @@
-use Rattle.mcs_import.proofs.NearLemmas.{added_new}
+use Rattle.mcs_base.proofs.Searched.{added_new}
 use Rattle.mcs_import.proofs.near.add_new.Goals as goal
 
 pub returns-in_ok-push : goal.returns-in_ok-push

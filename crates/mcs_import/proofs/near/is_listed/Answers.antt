@@ -1,4 +1,4 @@
-use Rattle.mcs_import.proofs.NearLemmas.{found_listed}
+use Rattle.mcs_base.proofs.Searched.{found_listed}
 use Rattle.mcs_import.proofs.near.is_listed.Goals as goal
 
 pub returns : goal.returns

@@ -4,7 +4,7 @@ use Rattle.mcs_sets.specs.Sets.{common}
 use Rattle.mcs_base.specs.Listings.{IsAmong, IsListing}
 use Rattle.mcs_import.specs.Near.{IsNear, IsChanged}
 use Rattle.mcs_import.proofs.NearLemmas.{near_begins, near_levels, next_same}
-use Rattle.mcs_import.proofs.Walks.{walk_goes_on, walk_ends}
+use Rattle.mcs_base.proofs.Walks.{walk_goes_on, walk_ends}
 use Rattle.mcs_import.proofs.near.near_sets.Goals as goal
 
 pub loop-init : goal.loop-init

@@ -1,6 +1,6 @@
 use Rattle.mcs_sets.specs.Sets.{common}
 use Rattle.mcs_import.specs.Near.{IsNear, IsChanged}
-use Rattle.mcs_import.proofs.Walks.{IsReached}
+use Rattle.mcs_base.proofs.Walks.{IsReached}
 use Rattle.mcs_import.proofs.near.near_sets.Given as goal
 
 abbrev pub invariant-loop : goal.invariant-loop
