@@ -78,7 +78,7 @@ impl Watch {
     }
 
     /// The lowest fault of the next token; where it has none, the token is kept. `read` is the read that ends
-    /// with the token, if one does and its name is not too long.
+    /// with the token, if one does and its name is not too long. Where memory runs out, the watch is of no more use.
     pub fn note(
         &mut self,
         alloc: Global,

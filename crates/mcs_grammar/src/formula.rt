@@ -334,7 +334,8 @@ impl FormulaReader {
         }
     }
 
-    /// The next token, if the formula goes on with it; and otherwise nothing changes.
+    /// The next token, if the formula goes on with it; and otherwise nothing changes. Where memory runs out, the reader is
+    /// of no more use.
     pub fn take(&mut self, alloc: Global, token: &[u8]) -> Result<Answer, Memory>
         ensures { (s : PartFormula) → IsReader self.old s → IfOk result (λ a. IsAnswer a self.old self.new s token.now) }
     {

@@ -99,15 +99,15 @@ module _ (m : System) (order : List ℕ) (is_order : IsImportOrder m order) (k :
         ap (λ (z : ℕ × ℕ). common z.0 (local_of m i')) (sym e) ∙ (ap (common p.state.values) (sym other.0.mask) ∙ (same ∙ (ap (common p'.state.values) one.0.mask ∙ ap (λ (z : ℕ × ℕ). common z.0 (local_of m i)) e')))
 
     -- they are what the contexts show of a choice
-    pub joint_parts : (σ : ℕ) × (x : ℕ) × IsChoice m σ x × AreParts m σ x j.parts
-    joint_parts =
+    pub joint_parts : IsValid m → (σ : ℕ) × (x : ℕ) × IsChoice m σ x × AreParts m σ x j.parts
+    joint_parts valid =
         let same = length_zip (λ (q : Row) (t : TableData). IsAmong q t.rows) j.parts tables j.of_tables in
-        let (σ, x, choice, parts) = rows_make_choices m order k (map state_and_marks j.parts) (length-map j.parts state_and_marks ∙ (same ∙ long)) each_row agree in
+        let (σ, x, choice, parts) = rows_make_choices m order k (map state_and_marks j.parts) valid (length-map j.parts state_and_marks ∙ (same ∙ long)) each_row agree in
         (σ, x, choice, λ i p is. parts i (state_and_marks p) (slice_get-map_some state_and_marks j.parts i p is))
 
     pub joint_choice : IsValid m → (σ : ℕ) × (x : ℕ) × IsChoice m σ x × AreParts m σ x j.parts × (r.marks ≡ choice_marks m σ x) × (r.state.values ≡ σ)
     joint_choice valid =
-        let (σ, x, choice, parts) = joint_parts in
+        let (σ, x, choice, parts) = joint_parts valid in
         let many = length_zip (λ (q : Row) (t : TableData). IsAmong q t.rows) j.parts tables j.of_tables ∙ long in (
           σ,
           x,

@@ -18,7 +18,8 @@ fn split_line(bytes: &[u8]) -> Option<(&[u8], &[u8])>
     Some((&bytes[..end], &bytes[end + 1..]))
 }
 
-/// The lines of a text, each ended by a line feed: one is the next to be taken, if there is one.
+/// The lines of a text, each ended by a line feed: one is the next to be taken, if there is one. A call that takes several
+/// and is refused, also for want of memory, may leave some of them taken.
 #[derive(Drop)]
 pub struct Lines<'b> {
     current: Option<&'b [u8]>,

@@ -125,7 +125,7 @@ impl Reader {
     }
 
     /// The next token and what it is there for; `None` where the text does not go on with it. A name that is too long is
-    /// told like any other, but the text cannot be read on after it.
+    /// told like any other, but the text cannot be read on after it. Where memory runs out, the reader is of no more use.
     pub fn take(&mut self, alloc: Global, token: &[u8]) -> Result<Option<Uses>, Memory>
         ensures { (s : PartText) → IsTextReader self.old s → IfOk result (λ uses. IsTaken uses self.new s token.now) }
     {
