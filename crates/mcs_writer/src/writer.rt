@@ -6,6 +6,7 @@ ghost use Rattle.mcs_system.specs.Faults.{reads_of};
 ghost use Rattle.mcs_system.specs.Plain as plain;
 ghost use Rattle.mcs_system.specs.Seen.{formula_of, item_of, rule_of, kb_of, context_of, read_of, bridge_of};
 ghost use Rattle.mcs_system.specs.Texts.{belief_text};
+ghost use Rattle.mcs_system.specs.Unmarked.{IsUnmarked};
 ghost use Rattle.mcs_writer.specs.Canonical.{formula_text, theory_item_text, listed, program_rule_text, kind_word, item_line, items_text, context_text, if_word, bridge_text, canonical_text};
 ghost use Rattle.mcs_grammar.specs.Texts.{Spells};
 
@@ -184,19 +185,20 @@ fn push_bridges(text: &mut Text, system: &System) -> Result<(), Memory>
     Ok(())
 }
 
-/// The canonical text of the system spells it.
+/// The canonical text of the system spells it, if its rules have no marks.
 fn canonical_text_spells(system: &System)
-    ensures { Spells (canonical_text system.now) system.now }
+    ensures { IsUnmarked system.now → Spells (canonical_text system.now) system.now }
 {
     let _contexts = system.contexts();
 }
 
-/// Appends the canonical text of a system. It spells the system, so that who reads it has the same again. Without
-/// the memory for all of it `out` stays as it was.
+/// Appends the canonical text of a system, which does not show the marks of its rules. Where these have none, it
+/// spells the system, so that who reads it has the same again. Without the memory for all of it `out` stays as it
+/// was.
 pub fn write_system(system: &System, out: &mut Text) -> Result<(), Memory>
     ensures text { OnOk result (out.new ≡ out.old ++ canonical_text system.now) }
     ensures unchanged { OnErr result (out.new ≡ out.old) }
-    ensures reads_back { Spells (canonical_text system.now) system.now }
+    ensures reads_back { IsUnmarked system.now → Spells (canonical_text system.now) system.now }
 {
     canonical_text_spells(system);
     let mut text = out.empty_like();
