@@ -18,3 +18,4 @@ pub mod Codes
 pub mod Gathered
 pub mod Parts
 pub mod Built
+pub mod Unmarked

@@ -183,7 +183,8 @@ fn push_bridges(text: &mut Text, system: &System) -> Result<(), Memory>
     Ok(())
 }
 
-/// Appends the canonical text of a system. Without the memory for all of it `out` stays as it was.
+/// Appends the canonical text of a system, which does not show the marks of its rules. Without the memory for all of
+/// it `out` stays as it was.
 pub fn push_system(out: &mut Text, system: &System) -> Result<(), Memory>
     ensures text { OnOk result (out.new ≡ out.old ++ canonical_text system.now) }
     ensures unchanged { OnErr result (out.new ≡ out.old) }
