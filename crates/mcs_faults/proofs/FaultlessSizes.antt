@@ -89,7 +89,7 @@ module _ (t : WrittenText) (m : plain.System) (says : SaysSystem t m) where
   small-formulas valid k here is h =
       let found = (numbers-there t 513).0 (among-here (text_uses t) (uses_of (take k (text_entries t))) here.uses (IsNumber 513) (uses-split (text_entries t) k here is) h) in
       let (n, size, most) = found.1 in
-      true≢false (sym (some-large n size most) ∙ limit_kept m valid FormulaSize (inr (inr (inr (inr (inr (inr (inr (inr (inl refl))))))))))
+      true≢false (sym (some-large n size most) ∙ limit_kept m valid FormulaSize (inr (inr (inr (inr (inr (inr (inr (inr (inr (inl refl)))))))))))
 
 pub few-parentheses : (t : WrittenText) → IsShallow t → (k : ℕ) (here : Entry) → slice_get (text_entries t) k ≡ Some here → ¬ IsBeyond OpenParentheses (uses_of (take k (text_entries t))) here
 few-parentheses t shallow k here is h =

@@ -3,7 +3,7 @@ use Rattle.std.proofs.Common.{◌≡◌, ℕ, take, Some, slice_get}
 use Rattle.mcs_system.specs.Plain as plain
 use Rattle.mcs_system.specs.Faults.{IsValid}
 use Rattle.mcs_system.specs.declared.limit.Limit.{Limit}
-use Rattle.mcs_system.specs.declared.limit.Limit.TheVariants.{Contexts, Bridges, RulesPerContext, Variables, InputsPerContext, AtomsPerContext, DefaultsPerContext, ItemsPerContext, FormulaSize, OpenParentheses, NameBytes}
+use Rattle.mcs_system.specs.declared.limit.Limit.TheVariants.{Contexts, Bridges, RulesPerContext, Variables, InputsPerContext, AtomsPerContext, DefaultsPerContext, ItemsPerContext, Weight, FormulaSize, OpenParentheses, NameBytes}
 use Rattle.mcs_grammar.specs.Written.{WrittenText, IsText}
 use Rattle.mcs_grammar.specs.Entries.{Entry, text_entries, uses_of}
 use Rattle.mcs_grammar.specs.Saying.{SaysSystem}
@@ -27,6 +27,7 @@ module _ (t : WrittenText) (m : plain.System) (grammar : IsText t) (says : SaysS
   within-limits k here is AtomsPerContext = few-atoms t m says valid k here is
   within-limits k here is DefaultsPerContext = few-defaults t m says valid k here is
   within-limits k here is ItemsPerContext = few-items t m says valid k here is grammar
+  within-limits k here is Weight = λ h. h
   within-limits k here is FormulaSize = small-formulas t m says valid k here is
   within-limits k here is OpenParentheses = few-parentheses t shallow k here is
   within-limits k here is NameBytes = short-names t short k here is

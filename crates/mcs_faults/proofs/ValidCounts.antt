@@ -10,7 +10,7 @@ use Rattle.mcs_base.proofs.Sums.{count_by-cons}
 use Rattle.mcs_base.proofs.Among.{any_none, range_among}
 use Rattle.mcs_system.specs.Plain.{Context, Bridge, System}
 use Rattle.mcs_system.specs.Logic.{same_name}
-use Rattle.mcs_system.specs.declared.limit.Limit.TheVariants.{Contexts, Bridges, RulesPerContext, DefaultsPerContext, ItemsPerContext}
+use Rattle.mcs_system.specs.declared.limit.Limit.TheVariants.{Contexts, Bridges, RulesPerContext, DefaultsPerContext, ItemsPerContext, Weight}
 use Rattle.mcs_system.specs.Faults.{default_count, item_count, some_context, exceeds}
 use Rattle.mcs_system.proofs.Sameness.{same_name-itself}
 use Rattle.mcs_system.proofs.NameLemmas.{position-there}
@@ -18,7 +18,7 @@ use Rattle.mcs_grammar.specs.Written.{WrittenKb, WrittenContext, WrittenBridge, 
 use Rattle.mcs_grammar.specs.Saying.{kb_in, SaysBridge, SaysSystem, Each, names_of}
 use Rattle.mcs_faults.proofs.UsesLemmas.{text_uses, goes_into, sum_of, context-count, bridge-count, target-count, default-count, item-count}
 use Rattle.mcs_faults.proofs.Within.{IsWithin}
-use Rattle.mcs_grammar.proofs.SaidSystem.{as-many-contexts, as-many-bridges, context-written, IsContextAt, context-below}
+use Rattle.mcs_grammar.proofs.SaidSystem.{as-many-contexts, as-many-bridges, context-written, bridge-written, IsContextAt, context-below}
 
 -- a test that fails at each context's number
 pub no-context : (m : System) (p : ℕ → Bool) → ((i : ℕ) → i < length m.contexts → p i ≡ false) → some_context m p ≡ false
@@ -94,3 +94,7 @@ module _ (t : WrittenText) (m : System) (says : SaysSystem t m) (within : IsWith
       let few = within.items x.name in
       let part = sum-has (λ kb. item_count (kb_in kb)) x t.contexts there in
       ap (λ (d : Context). nat_lt 4096 (item_count d.kb)) is ∙ le-ltb 4096 (item_count (kb_in x.kb)) (omega arith))
+
+  pub light-rules : exceeds m Weight ≡ false
+  unfolding exceeds
+  light-rules = any_none (λ (b : Bridge). nat_lt 1000000 b.weight) m.bridges (λ b here. let (w, there, s) = bridge-written t m says b here in ap (λ (c : Bridge). nat_lt 1000000 c.weight) s.unmarked)

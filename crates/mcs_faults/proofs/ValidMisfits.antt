@@ -1,6 +1,6 @@
 -- In the system that a text without faults says, what goes into a program or is read of one is an atom, and defaults are justified.
 use Rattle.std.proofs.Common.{◌≡◌, suc, length, arith, true, false, not, ◌&&◌, map, take, Some, refl, sym, ap, ◌∙◌, inr, subst, true≢false}
-use Rattle.std.specs.Prelude.{slice_get}
+use Rattle.std.specs.Prelude.{nat_eq, slice_get}
 use Rattle.std.specs.List.{list_any, flat_map}
 use Rattle.std.proofs.lemmas.Bool.{or_from, true_from_ne_false, ne_eqb}
 use Rattle.mcs_base.specs.Listings.{IsAmong}
@@ -61,11 +61,12 @@ module _ (t : WrittenText) (m : System) (grammar : IsText t) (says : SaysSystem 
   rule-fits b h =
       let (w, there, s) = bridge-written t m says b h in
       let parts : IsBridge w = all_among IsBridge t.bridges w grammar.1 there in
-      or_from (is_program (slice_get m.contexts b.target) && not (is_atom b.head)) (list_any (λ (r : Read). is_program (slice_get m.contexts r.context) && not (is_atom r.belief)) (reads_of b))
+      or_from (nat_eq b.weight 0) _ (ap (λ (c : Bridge). nat_eq c.weight 0) s.unmarked)
+      (or_from (is_program (slice_get m.contexts b.target) && not (is_atom b.head)) (list_any (λ (r : Read). is_program (slice_get m.contexts r.context) && not (is_atom r.belief)) (reads_of b))
       (fits w.head (record { context = b.target; belief = b.head }) (OfHead w there refl) parts.1 s.head)
       (any_none (λ (r : Read). is_program (slice_get m.contexts r.context) && not (is_atom r.belief)) (reads_of b) (λ r here.
       let (q, in_reads, place) = read-written (names_of t.contexts) w b r s here in
-      fits q.place r (OfRead w there q in_reads refl) (all_among (λ (y : WrittenRead). IsPlace y.place) w.reads q parts.2 in_reads) place))
+      fits q.place r (OfRead w there q in_reads refl) (all_among (λ (y : WrittenRead). IsPlace y.place) w.reads q parts.2 in_reads) place)))
 
   pub no-misfits : has_misfits m ≡ false
   no-misfits = or_from (list_any (λ (c : Context). has_unjustified c.kb) m.contexts) (list_any (has_misfit m.contexts) m.bridges)

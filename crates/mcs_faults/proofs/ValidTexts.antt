@@ -11,7 +11,7 @@ use Rattle.mcs_grammar.specs.Saying.{SaysSystem}
 use Rattle.mcs_faults.proofs.Within.{IsWithin, NoFaults}
 use Rattle.mcs_faults.proofs.ValidNames.{no-unknown, no-twins}
 use Rattle.mcs_faults.proofs.ValidMisfits.{no-misfits}
-use Rattle.mcs_faults.proofs.ValidCounts.{few-contexts, few-bridges, few-rules, few-defaults, few-items}
+use Rattle.mcs_faults.proofs.ValidCounts.{few-contexts, few-bridges, few-rules, few-defaults, few-items, light-rules}
 use Rattle.mcs_faults.proofs.ValidSizes.{no-large}
 use Rattle.mcs_faults.proofs.ValidReads.{few-variables, few-inputs}
 use Rattle.mcs_faults.proofs.ValidAtoms.{few-atoms}
@@ -48,7 +48,7 @@ valid-text t m grammar says within none =
                   few-defaults t m says within,
                   (
                     few-items t m says within grammar,
-                    (no-large t none m says, tt),
+                    (light-rules t m says within, (no-large t none m says, tt)),
                   ),
                 ),
               ),

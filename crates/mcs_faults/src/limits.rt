@@ -18,7 +18,7 @@ use mcs_reader::{NamedRead, Role, is_name_word};
 use mcs_system::{Limit, Name, same_formula};
 
 /// The limits, the lowest first.
-const LIMITS: [Limit; 11] = [
+const LIMITS: [Limit; 12] = [
     Limit::Contexts,
     Limit::Bridges,
     Limit::RulesPerContext,
@@ -27,6 +27,7 @@ const LIMITS: [Limit; 11] = [
     Limit::AtomsPerContext,
     Limit::DefaultsPerContext,
     Limit::ItemsPerContext,
+    Limit::Weight,
     Limit::FormulaSize,
     Limit::OpenParentheses,
     Limit::NameBytes,
@@ -93,6 +94,7 @@ impl Watch {
             Limit::AtomsPerContext => self.exceeds_atoms(said),
             Limit::DefaultsPerContext => self.exceeds_defaults(said),
             Limit::ItemsPerContext => self.exceeds_items(said),
+            Limit::Weight => false,
             Limit::FormulaSize => self.exceeds_size(said),
             Limit::OpenParentheses => self.exceeds_open(said),
             Limit::NameBytes => self.exceeds_bytes(said),

@@ -92,6 +92,9 @@ fn numbered_bridge(
             head,
             pos,
             neg,
+            keep: false,
+            closed: false,
+            weight: 1,
         }),
         Err(fault) => {
             drop((name, head, pos));

@@ -2,7 +2,7 @@
 use Rattle.std.proofs.Common.{◌≡◌, ℕ, List, [], ◌∷◌, refl, sym, ap, ◌∙◌, subst}
 use Rattle.std.proofs.lemmas.Option.{same_Some}
 use Rattle.mcs_system.specs.Plain as plain
-use Rattle.mcs_system.specs.Plain.{Name}
+use Rattle.mcs_system.specs.Plain.{Name, plain_rule}
 use Rattle.mcs_tokens.proofs.Unique.{lists_are_unique}
 use Rattle.mcs_grammar.specs.Written.{WrittenPlace, WrittenBridge, WrittenText}
 use Rattle.mcs_grammar.specs.Saying.{SaysPlace, Each, SaysBridge, SaysSystem, names_of}
@@ -24,9 +24,6 @@ each-unique says one (w ∷ ws) (x ∷ xs) (y ∷ ys) h k =
 abbrev read : ℕ → plain.Formula → plain.Read
 read context belief = record { context = context; belief = belief }
 
-abbrev bridge : Name → ℕ → plain.Formula → List plain.Read → List plain.Read → plain.Bridge
-bridge name target head pos neg = record { name = name; target = target; head = head; pos = pos; neg = neg }
-
 abbrev system : List plain.Context → List plain.Bridge → plain.System
 system contexts bridges = record { contexts = contexts; bridges = bridges }
 
@@ -43,8 +40,10 @@ bridge-unique names w b d h k =
     let head : b.head ≡ d.head = h.head.belief ∙ sym k.head.belief in
     let pos : b.pos ≡ d.pos = each-unique (SaysPlace names) (place-unique names) _ b.pos d.pos h.pos k.pos in
     let neg : b.neg ≡ d.neg = each-unique (SaysPlace names) (place-unique names) _ b.neg d.neg h.neg k.neg in
-    ap (λ (x : Name). bridge x b.target b.head b.pos b.neg) named ∙ ap (λ (x : ℕ). bridge d.name x b.head b.pos b.neg) target ∙ ap (λ (x : plain.Formula). bridge d.name d.target x b.pos b.neg) head
-    ∙ ap (λ (x : List plain.Read). bridge d.name d.target d.head x b.neg) pos ∙ ap (bridge d.name d.target d.head d.pos) neg
+    h.unmarked
+    ∙ (ap (λ (x : Name). plain_rule x b.target b.head b.pos b.neg) named ∙ ap (λ (x : ℕ). plain_rule d.name x b.head b.pos b.neg) target ∙ ap (λ (x : plain.Formula). plain_rule d.name d.target x b.pos b.neg) head
+    ∙ ap (λ (x : List plain.Read). plain_rule d.name d.target d.head x b.neg) pos ∙ ap (plain_rule d.name d.target d.head d.pos) neg)
+    ∙ sym k.unmarked
 
 pub system-unique : (t : WrittenText) (m n : plain.System) → SaysSystem t m → SaysSystem t n → m ≡ n
 system-unique t m n h k =

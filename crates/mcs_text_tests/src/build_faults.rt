@@ -81,6 +81,9 @@ fn denying(alloc: Global, other: &Bridge, formula: &Formula) -> Result<Bridge, M
         head,
         pos: Vec::new(alloc),
         neg: Vec::new(alloc),
+        keep: false,
+        closed: false,
+        weight: 1,
     })
 }
 

@@ -1,4 +1,4 @@
-use Rattle.std.proofs.Common.{List, map, sym, ap, subst, ◌∙◌}
+use Rattle.std.proofs.Common.{List, map, refl, sym, ap, subst, ◌∙◌}
 use Rattle.std.specs.List.{position}
 use Rattle.mcs_system.specs.Plain.{Name}
 use Rattle.mcs_system.specs.Logic.{same_name}
@@ -21,4 +21,5 @@ returns-in-Ok-numbered_reads c w is =
       head = record { number = ap (λ (n : Name). position (same_name n) names) (sym is.target) ∙ sym c.number_of.ensures ∙ c.in-Some.is; belief = is.head };
       pos = each-place names (positive_places w.reads) pos (subst (λ (rs : List NamedRead). Each (SaysRead names) rs pos) is.pos c.in-Ok.ensures);
       neg = each-place names (negative_places w.reads) neg (subst (λ (rs : List NamedRead). Each (SaysRead names) rs neg) is.neg c.in-Ok-numbered_reads.ensures);
+      unmarked = refl;
     }
