@@ -1,6 +1,7 @@
 //! Tests of what evaluates a system, over the libraries alone: solvers of contexts, the mesh that asks them, extensions
-//! and answer sets with what shows them, lines of certificates read and written, and generated systems. Levels of
-//! diagnoses, and the other lines of a report, are told by the listings of whole runs.
+//! and answer sets with what shows them, lines of certificates read and written, generated systems, and listings
+//! where rules are kept or closed. Levels of diagnoses, and the other lines of a report, are told by the listings of
+//! whole runs.
 #![tactic(auto)]
 
 #[cfg(test)]
@@ -15,6 +16,8 @@ mod generated;
 mod laws;
 #[cfg(test)]
 mod lines;
+#[cfg(test)]
+mod marked;
 #[cfg(test)]
 mod meshes;
 #[cfg(test)]

@@ -164,3 +164,61 @@ fn is_lowest_of_faulty_told(alloc: Global) -> Result<bool, TextFault> {
 fn tells_lowest_number(rt: HostRuntime) {
     assert!(rt; is_lowest_of_faulty_told(rt.alloc()) == Ok(true));
 }
+
+/// A context and a rule into it.
+const WEIGHED: &[u8] = b"context c classical {} bridge r: c:p.";
+
+/// Weights of a rule, and the fault of a system that has it.
+const WEIGHTS: [(u32, Option<BuildFault>); 4] = [
+    (
+        0,
+        Some(BuildFault::Fault {
+            number: 4,
+            limit: None,
+        }),
+    ),
+    (1, None),
+    (1_000_000, None),
+    (
+        1_000_001,
+        Some(BuildFault::Fault {
+            number: 5,
+            limit: Some(Limit::Weight),
+        }),
+    ),
+];
+
+/// The fault of the system of the contexts and a copy of the rule with another weight.
+fn weighed_fault(
+    alloc: Global,
+    contexts: &[Context],
+    rule: &Bridge,
+    weight: u32,
+) -> Result<Option<BuildFault>, Memory> {
+    let mut rule = rule.copy(alloc)?;
+    rule.weight = weight;
+    Ok(fault_of(alloc, &[contexts], &[&[rule]]))
+}
+
+/// Whether each weight of the first rule of the system has its fault.
+fn are_weights_judged(alloc: Global, system: &System) -> bool {
+    let Some(rule) = system.bridges().first() else {
+        return false;
+    };
+    for (weight, fault) in &WEIGHTS {
+        if weighed_fault(alloc, system.contexts(), rule, *weight) != Ok(*fault) {
+            return false;
+        }
+    }
+    true
+}
+
+fn are_weights_of_rules_judged(alloc: Global) -> Result<bool, TextFault> {
+    let system = read_system(alloc, WEIGHED)?;
+    Ok(are_weights_judged(alloc, &system))
+}
+
+#[test]
+fn keeps_limits_of_weights(rt: HostRuntime) {
+    assert!(rt; are_weights_of_rules_judged(rt.alloc()) == Ok(true));
+}

@@ -1,8 +1,9 @@
 //! What a system tells of its contexts and rules.
 
-use mcs_base::{Active, Vars};
+use crate::copies::{bridges_of, contexts_of};
+use mcs_base::{Active, Marks, Memory, Vars};
 use mcs_language::{TextFault, read_system};
-use mcs_system::{Formula, Name, Read, System};
+use mcs_system::{Bridge, Formula, Name, Read, System};
 use std::alloc::Global;
 
 /// A classical context, a default theory and a program, and rules by which they read each other.
@@ -121,4 +122,38 @@ fn is_three_read(alloc: Global) -> Result<bool, TextFault> {
 #[test]
 fn tells_of_contexts_and_rules(rt: HostRuntime) {
     assert!(rt; is_three_read(rt.alloc()) == Ok(true));
+}
+
+/// Copies of the rules of the system, of which the second is kept and the third is closed.
+fn marked_rules(alloc: Global, system: &System) -> Result<Vec<Bridge>, Memory> {
+    let mut rules = bridges_of(alloc, &[system.bridges()])?;
+    if let Some(rule) = rules.get_mut(1) {
+        rule.keep = true;
+    }
+    if let Some(rule) = rules.get_mut(2) {
+        rule.closed = true;
+    }
+    Ok(rules)
+}
+
+/// Whether repairs may change each rule of the system both ways, and with these copies each but as it is marked.
+fn are_repairs_told(alloc: Global, system: &System) -> Result<bool, Memory> {
+    let contexts = contexts_of(alloc, &[system.contexts()])?;
+    let rules = marked_rules(alloc, system)?;
+    let others = Marks::one(0).with(1).with(3).with(4).with(6).with(7);
+    let is_told = match System::build(alloc, contexts, rules) {
+        Ok(marked) => marked.allowed() == others,
+        Err(_) => false,
+    };
+    Ok(is_told && system.allowed() == others.with(2).with(5))
+}
+
+fn are_repairs_of_three_told(alloc: Global) -> Result<bool, TextFault> {
+    let system = read_system(alloc, THREE)?;
+    Ok(are_repairs_told(alloc, &system)?)
+}
+
+#[test]
+fn tells_what_repairs_may_change(rt: HostRuntime) {
+    assert!(rt; are_repairs_of_three_told(rt.alloc()) == Ok(true));
 }

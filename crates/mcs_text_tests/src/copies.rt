@@ -27,7 +27,7 @@ fn push_bridges(alloc: Global, bridges: &mut Vec<Bridge>, copied: &[Bridge]) -> 
 }
 
 /// Copies of all these contexts.
-fn contexts_of(alloc: Global, parts: &[&[Context]]) -> Result<Vec<Context>, Memory> {
+pub(crate) fn contexts_of(alloc: Global, parts: &[&[Context]]) -> Result<Vec<Context>, Memory> {
     let mut contexts = Vec::new(alloc);
     for part in parts {
         push_contexts(alloc, &mut contexts, part)?;
@@ -36,7 +36,7 @@ fn contexts_of(alloc: Global, parts: &[&[Context]]) -> Result<Vec<Context>, Memo
 }
 
 /// Copies of all these bridge rules.
-fn bridges_of(alloc: Global, parts: &[&[Bridge]]) -> Result<Vec<Bridge>, Memory> {
+pub(crate) fn bridges_of(alloc: Global, parts: &[&[Bridge]]) -> Result<Vec<Bridge>, Memory> {
     let mut bridges = Vec::new(alloc);
     for part in parts {
         push_bridges(alloc, &mut bridges, part)?;
