@@ -206,9 +206,6 @@ next_same removable f f' sets sets' reached reached' next e e' e'' told x =
     (subst (λ (ys : List ℕ). IsAmong x next ↔ IsNext removable f ys reached' x) e'
     (subst (λ (ys : List ℕ). IsAmong x next ↔ IsNext removable f sets ys x) e'' (told x)))
 
-pub next_none : (removable forcible : ℕ) (reached : List ℕ) (x : ℕ) → IsAmong x [] ↔ IsNext removable forcible [] reached x
-next_none removable forcible reached x = (λ none. absurd none, λ (s, none, step, new). none)
-
 pub next_step : (removable forcible : ℕ) (sets reached : List ℕ) (k s : ℕ) → k < length sets → s ≡ get_or sets k s → (next middle after : List ℕ) (gone come : ℕ) → gone ≡ common s removable → come ≡ minus forcible s
     → ((x : ℕ) → IsAmong x next ↔ IsNext removable forcible (take k sets) reached x)
     → ((x : ℕ) → IsAmong x middle ↔ (IsAmong x next ⊎ (IsMadeBy (λ r. minus s (single r)) gone x × (¬ IsAmong x reached))))

@@ -3,7 +3,7 @@ use Rattle.std.specs.Prelude.{◌≡◌, ℕ, ◌+◌, ◌≤◌, IsTrue, List, 
 use Rattle.mcs_sets.specs.Sets.{has, common, union, minus, single, size, Within}
 use Rattle.mcs_base.specs.Listings.{IsAmong}
 
--- a set of the rules that lacks removable rules alone of one of the list, and has forcible ones alone beside it, together at most so many
+-- x is a set of the rules: what it lacks of one of the list may all be removed, what it has beside that may all be forced, and both together are at most so many
 pub record IsNear (rules removable forcible : ℕ) (sets : List ℕ) (level x : ℕ) : Type 0 where
   pub of_rules : Within x rules
   pub set : ℕ
