@@ -17,7 +17,7 @@ use Rattle.mcs_system.specs.Plain.{System}
 use Rattle.mcs_system.specs.Levels.{IsNeed}
 use Rattle.mcs_system.specs.Repairs.{allowed_marks, IsDiagnosis, IsExplanation}
 use Rattle.mcs_system.specs.Systems.{all_rules, IsProjectedEquilibrium}
-use Rattle.mcs_system.proofs.MarkLemmas.{marks_small}
+use Rattle.mcs_system.proofs.MarkLemmas.{marks_small, allowed_known}
 use Rattle.mcs_laws.proofs.Choices.{consistent_minimal, consistent_unexplained}
 use Rattle.mcs_laws.proofs.Transversals.{minimal_explanations}
 use Rattle.mcs_import.proofs.CountLemmas.{need_is_one}
@@ -98,7 +98,7 @@ cases_diagnosis m pair = at (cases_within pair (allowed_marks m)) (cases_states 
     at (inr outside) states = inr (λ d. outside d.allowed)
 
 minimal_diagnoses_listed : (m : System) → (pairs : List ℕ) × IsListing (IsMinimal (IsDiagnosis m)) PairBefore pairs
-minimal_diagnoses_listed m = decided_listed (IsMinimal (IsDiagnosis m)) (2 * length m.bridges) (cases_minimal (IsDiagnosis m) (cases_diagnosis m)) (λ s minimal. marks_small m s minimal.one.allowed)
+minimal_diagnoses_listed m = decided_listed (IsMinimal (IsDiagnosis m)) (2 * length m.bridges) (cases_minimal (IsDiagnosis m) (cases_diagnosis m)) (λ s minimal. marks_small m s (allowed_known m s minimal.one.allowed))
 
 pub diagnoses_exist : (m : System) → (ds : List code.Diagnosis) × AreDiagnoses m ds
 diagnoses_exist m =
