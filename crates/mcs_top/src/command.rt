@@ -14,7 +14,8 @@ use std::alloc::Global;
 /// Does what the words ask for: `equilibria FILE` prints the projected equilibria of the system whose text
 /// FILE holds, each once, in the order of states; `solve FILE` its minimal diagnoses and its minimal explanations too,
 /// in the order of pairs, and with `--proof` the answers that these rest on, each with a certificate; `check FILE REPORT`
-/// whether what REPORT holds is such a listing with its proof. `words` are the words after the program's name.
+/// whether what REPORT holds is such a listing with its proof; `make NUMBER` reads no file, and prints how many members
+/// each list of the generated system of that number has. `words` are the words after the program's name.
 ///
 /// Answers the status; for each but `Done` and `NotValid` one line is noted. Nothing is written but what the job prints,
 /// or a front of it. What each status says is the record that is promised; where the words ask for no job that names a
