@@ -21,7 +21,7 @@ use Rattle.mcs_evidence.specs.Supports.{IsBased, support_formula}
 use Rattle.mcs_evidence.proofs.Models.{true_names-known, rules-hold, answer_set-holds, shows-below, own_state, smaller_places, sides-hold}
 use Rattle.mcs_evidence.proofs.Supports.{has_support, answer_set_supports, left_unsupported, supported_models}
 use Rattle.mcs_program.specs.declared.listing.Listing.{Listing}
-use Rattle.mcs_program.specs.Listings.{place_formula, first_formulas, left_formulas, left_of, models_left, IsListed, IsSupported, IsViewPlaced}
+use Rattle.mcs_program.specs.Listings.{place_formula, first_formulas, left_formulas, left_of, models_left, IsPartListing, IsSupported, IsViewPlaced}
 use Rattle.mcs_program.proofs.SearchLemmas.{sides_value, sides_more, others_more, other_view, meant_more, models_less, ascending_insert}
 use Rattle.mcs_program.proofs.PlaceLemmas.{place_at}
 
@@ -97,7 +97,7 @@ module _ (names : List Name) (rules : List ProgramRule) (beliefs : List Formula)
         ∙ ap (λ (xs : List ℕ). holds_all a (left_formulas names rules beliefs (old.supported.items ++ set ∷ []) xs)) e.views
         ∙ sides_more (first_formulas names rules) (place_formula names rules) a beliefs old.supported.items old.views.items set
 
-    pub set_listed : IsListed names rules beliefs old → IsListed names rules beliefs new
+    pub set_listed : IsPartListing names rules beliefs old → IsPartListing names rules beliefs new
     set_listed was = record {
       known = meant_more names (left_of names rules beliefs old) (left_of names rules beliefs new) (place_formula names rules set) old.known new.known e.known set_narrows was.known;
       ascending = subst (IsAscending StateBefore) (sym e.views) was.ascending;
@@ -122,7 +122,7 @@ module _ (names : List Name) (rules : List ProgramRule) (beliefs : List Formula)
     new_view : ¬ IsAmong e.view old.views.items
     new_view = other_view (true_names 0 names model) beliefs e.view old.views.items (left_parts (true_names 0 names model) names rules beliefs old.supported.items old.views.items is.formulas).1 own
 
-    pub view_listed : IsAnswerSet rules (true_names 0 names model) → IsListed names rules beliefs old → IsListed names rules beliefs new
+    pub view_listed : IsAnswerSet rules (true_names 0 names model) → IsPartListing names rules beliefs old → IsPartListing names rules beliefs new
     view_listed accepted was = record {
       known = meant_more names (left_of names rules beliefs old) (left_of names rules beliefs new) (other_formula beliefs e.view) old.known new.known e.adds view_narrows was.known;
       ascending = subst (IsAscending StateBefore) (sym e.placed) (ascending_insert old.views.items place e.view was.ascending new_view e.before e.after);
@@ -141,7 +141,7 @@ accepted_low rules beliefs x view = at view.belief_set view.accepted view.shown
     at (Theory e) none shows = absurd none
     at (Atoms a) is shows = shows-below a beliefs x shows
 
-pub all_listed : (names : List Name) (rules : List ProgramRule) (beliefs : List Formula) (s : Listing) → AreAtomsOf names beliefs → IsListed names rules beliefs s
+pub all_listed : (names : List Name) (rules : List ProgramRule) (beliefs : List Formula) (s : Listing) → AreAtomsOf names beliefs → IsPartListing names rules beliefs s
     → ((a : List Name) → ¬ (holds_all a (left_of names rules beliefs s) ≡ true)) → IsListing (IsAcceptedView (Program rules) beliefs) StateBefore s.views.items
 all_listed names rules beliefs s atoms listed none = record {
   exactly = λ x. (all_among (IsAcceptedView (Program rules) beliefs) s.views.items x listed.accepted, λ view. at x view.belief_set view.accepted view.shown);

@@ -30,7 +30,7 @@ abbrev pub left_of : List Name → List ProgramRule → List Formula → Listing
 left_of names rules beliefs s = left_formulas names rules beliefs s.supported.items s.views.items
 
 -- the clauses mean the formulas, and the views that were found are of answer sets
-pub record IsListed (names : List Name) (rules : List ProgramRule) (beliefs : List Formula) (s : Listing) : Type 0 where
+pub record IsPartListing (names : List Name) (rules : List ProgramRule) (beliefs : List Formula) (s : Listing) : Type 0 where
   pub known : AreMeantBy names (left_of names rules beliefs s) s.known
   pub ascending : IsAscending StateBefore s.views.items
   pub accepted : AllByRecursion (IsAcceptedView (Program rules) beliefs) s.views.items

@@ -10,7 +10,7 @@ ghost use Rattle.mcs_evidence.specs.Programs.{rule_formula, AreOverRules};
 ghost use Rattle.mcs_evidence.specs.Pushing.{AreNamesOf};
 ghost use Rattle.mcs_evidence.specs.Supports.{support_formula, IsBased};
 ghost use Rattle.mcs_program.specs.Clauses.{AddsFormula, AreMeantBy};
-ghost use Rattle.mcs_program.specs.Listings.{first_formulas, left_of, models_left, IsListed, IsUnfounded, IsSupported};
+ghost use Rattle.mcs_program.specs.Listings.{first_formulas, left_of, models_left, IsPartListing, IsUnfounded, IsSupported};
 ghost use Rattle.mcs_program.specs.Placing.{IsPlacing};
 
 use crate::answer::find_model;
@@ -107,7 +107,7 @@ impl Listing {
     fn new(alloc: Global, atoms: &[Name], rules: &[ProgRule]) -> Result<Listing, Memory>
         requires few { length atoms.now ≤ 64 }
         requires rules { AreOverRules atoms.now (map rule_of rules.now) }
-        ensures { IfOk result (λ s. (beliefs : List plain.Formula) → IsListed atoms.now (map rule_of rules.now) beliefs s) }
+        ensures { IfOk result (λ s. (beliefs : List plain.Formula) → IsPartListing atoms.now (map rule_of rules.now) beliefs s) }
     {
         let cnf = clauses_of_rules(alloc, atoms, rules)?;
         let mut known = ClauseBase::of(alloc, &cnf)?;
@@ -156,9 +156,9 @@ impl Listing {
         requires beliefs { AreNamesOf atoms.now (map (λ b. b.now) beliefs.now) }
         requires placed { IsPlacing atoms.now (map rule_of rules.now) (map (λ b. b.now) beliefs.now) placing.now }
         requires tight { IsTrue tight → (n : plain.Name) → IsTrue (is_in n atoms.now) → IsBased (map rule_of rules.now) n }
-        requires listed { IsListed atoms.now (map rule_of rules.now) (map plain.Atom (map (λ b. b.now) beliefs.now)) self.old }
+        requires listed { IsPartListing atoms.now (map rule_of rules.now) (map plain.Atom (map (λ b. b.now) beliefs.now)) self.old }
         requires model { IsModelAt atoms.now (left_of atoms.now (map rule_of rules.now) (map plain.Atom (map (λ b. b.now) beliefs.now)) self.old) model }
-        ensures listed { IfOk result (λ _. IsListed atoms.now (map rule_of rules.now) (map plain.Atom (map (λ b. b.now) beliefs.now)) self.new) }
+        ensures listed { IfOk result (λ _. IsPartListing atoms.now (map rule_of rules.now) (map plain.Atom (map (λ b. b.now) beliefs.now)) self.new) }
         ensures less { IfOk result (λ _. models_left atoms.now (left_of atoms.now (map rule_of rules.now) (map plain.Atom (map (λ b. b.now) beliefs.now)) self.new)
             < models_left atoms.now (left_of atoms.now (map rule_of rules.now) (map plain.Atom (map (λ b. b.now) beliefs.now)) self.old)) }
     {
@@ -196,8 +196,8 @@ impl Listing {
         requires beliefs { AreNamesOf atoms.now (map (λ b. b.now) beliefs.now) }
         requires placed { IsPlacing atoms.now (map rule_of rules.now) (map (λ b. b.now) beliefs.now) placing.now }
         requires tight { IsTrue tight → (n : plain.Name) → IsTrue (is_in n atoms.now) → IsBased (map rule_of rules.now) n }
-        requires listed { IsListed atoms.now (map rule_of rules.now) (map plain.Atom (map (λ b. b.now) beliefs.now)) self.old }
-        ensures listed { IfOk result (λ _. IsListed atoms.now (map rule_of rules.now) (map plain.Atom (map (λ b. b.now) beliefs.now)) self.new) }
+        requires listed { IsPartListing atoms.now (map rule_of rules.now) (map plain.Atom (map (λ b. b.now) beliefs.now)) self.old }
+        ensures listed { IfOk result (λ _. IsPartListing atoms.now (map rule_of rules.now) (map plain.Atom (map (λ b. b.now) beliefs.now)) self.new) }
         ensures goes { IfOk result (λ goes. IsTrue goes → models_left atoms.now (left_of atoms.now (map rule_of rules.now) (map plain.Atom (map (λ b. b.now) beliefs.now)) self.new)
             < models_left atoms.now (left_of atoms.now (map rule_of rules.now) (map plain.Atom (map (λ b. b.now) beliefs.now)) self.old)) }
         ensures ends { IfOk result (λ goes. goes ≡ false → (a : List plain.Name) → ¬ IsTrue (holds_all a (left_of atoms.now (map rule_of rules.now) (map plain.Atom (map (λ b. b.now) beliefs.now)) self.new))) }
@@ -226,7 +226,7 @@ fn go_on(
     requires rules { AreOverRules atoms.now (map rule_of rules.now) }
     requires beliefs { AreNamesOf atoms.now (map (λ b. b.now) beliefs.now) }
     requires placed { IsPlacing atoms.now (map rule_of rules.now) (map (λ b. b.now) beliefs.now) placing.now }
-    ensures listed { IfOk result (IsListed atoms.now (map rule_of rules.now) (map plain.Atom (map (λ b. b.now) beliefs.now))) }
+    ensures listed { IfOk result (IsPartListing atoms.now (map rule_of rules.now) (map plain.Atom (map (λ b. b.now) beliefs.now))) }
     ensures all { IfOk result (λ s. (a : List plain.Name) → ¬ IsTrue (holds_all a (left_of atoms.now (map rule_of rules.now) (map plain.Atom (map (λ b. b.now) beliefs.now)) s))) }
 {
     let tight = is_tight(placing, atoms.len());
@@ -255,7 +255,7 @@ pub(crate) fn list_all(
     requires different { has_twins atoms.now ≡ false }
     requires rules { AreOverRules atoms.now (map rule_of rules.now) }
     requires beliefs { AreNamesOf atoms.now (map (λ b. b.now) beliefs.now) }
-    ensures listed { IfOk result (IsListed atoms.now (map rule_of rules.now) (map plain.Atom (map (λ b. b.now) beliefs.now))) }
+    ensures listed { IfOk result (IsPartListing atoms.now (map rule_of rules.now) (map plain.Atom (map (λ b. b.now) beliefs.now))) }
     ensures all { IfOk result (λ s. (a : List plain.Name) → ¬ IsTrue (holds_all a (left_of atoms.now (map rule_of rules.now) (map plain.Atom (map (λ b. b.now) beliefs.now)) s))) }
 {
     let placing = Placing::of(alloc, atoms, rules, beliefs)?;
