@@ -78,16 +78,20 @@ module _ (names a : List Name) (rules : List code.ProgRule) (i : ℕ) (r : code.
       → with_formulas names c (map positive_formula (reduct a (map rule_of (drop (i + 1) rules)))) ≡ with_formulas names c (map positive_formula (reduct a (map rule_of (drop i rules))))
   reduct_skipped c some = ap (λ (rs : List ProgramRule). with_formulas names c (map positive_formula rs)) (sym (ap (reduct a) next ∙ reduct_left a (rule_of r) (rest (i + 1)) some))
 
+-- the rules from the place on are over the atoms
+abbrev pub AreLeftOver : List Name → List code.ProgRule → ℕ → Type 0
+AreLeftOver names rules i = AreOverRules names (map rule_of (drop i rules))
+
 -- the code's loop over the reduct
 pub record IsReducing (names a : List Name) (rules : List code.ProgRule) (first : ClauseList) (i : ℕ) (c : ClauseList) : Type 0 where
   pub grows : first.vars ≤ c.vars
-  pub over : AreOverRules names (map rule_of (drop i rules))
+  pub over : AreLeftOver names rules i
   pub pushed : with_formulas names c (map positive_formula (reduct a (map rule_of (drop i rules)))) ≡ with_formulas names first (map positive_formula (reduct a (map rule_of rules)))
 
 -- the code's loop over the broken rules
 pub record IsBreaking (names a : List Name) (rules : List code.ProgRule) (first : ClauseList) (given : Option ℕ) (i : ℕ) (c : ClauseList) (o : Option ℕ) : Type 0 where
   pub grows : first.vars ≤ c.vars
-  pub over : AreOverRules names (map rule_of (drop i rules))
+  pub over : AreLeftOver names rules i
   pub part : IsPart c o
   pub joined : (start : ClauseList) (fs : List Formula) → HasConjunction names fs start first given
       → IsJoining (λ gs p. HasConjunction names gs start c p)

@@ -8,6 +8,7 @@ use Rattle.mcs_base.proofs.Mapped.{map-drop_more}
 use Rattle.mcs_evidence.specs.Programs.{AreOverRules}
 use Rattle.mcs_evidence.specs.Pushing.{IsPart, HasDisjunction}
 use Rattle.mcs_evidence.specs.Supports.{may_support, outside_formula}
+use Rattle.mcs_evidence.proofs.ProgramClauses.{AreLeftOver}
 use Rattle.mcs_evidence.proofs.PushingLemmas.{IsJoining}
 
 -- of these rules, those that may support the set
@@ -17,7 +18,7 @@ outsides u rules = map (outside_formula u) (filter (may_support u) (map rule_of 
 -- the code's loop over the rules
 pub record IsSupporting (names u : List Name) (rules : List code.ProgRule) (first : ClauseList) (i : ℕ) (c : ClauseList) (o : Option ℕ) : Type 0 where
   pub grows : first.vars ≤ c.vars
-  pub over : AreOverRules names (map rule_of (drop i rules))
+  pub over : AreLeftOver names rules i
   pub part : IsPart c o
   pub joined : IsJoining (λ gs p. HasDisjunction names gs first c p) (outsides u rules) (outsides u (drop i rules)) o
 

@@ -37,9 +37,6 @@ module _ (rules removable forcible : ℕ) (sets : List ℕ) (inside : AllByRecur
       (within_where_none h.set x (none_from_size (minus h.set x) (omega (arith, h.near))))
       (within_where_none x h.set (none_from_size (minus x h.set) (omega (arith, h.near))))) h.listed
 
-  near_more : (n m x : ℕ) → n ≤ m → Near n x → Near m x
-  near_more n m x less h = record { of_rules = h.of_rules; set = h.set; listed = h.listed; removed = h.removed; forced = h.forced; near = omega (arith, less, h.near) }
-
   near_without : (n m y r : ℕ) → n < m → Near n y → has removable r ≡ true → Near m (minus y (single r))
   near_without n m y r less h may = record {
     of_rules = λ k is. h.of_rules k (minus_within y (single r) k is);
@@ -74,9 +71,9 @@ module _ (rules removable forcible : ℕ) (sets : List ℕ) (inside : AllByRecur
     );
   }
 
-  near_onward : (n m y x : ℕ) → n < m → Near n y → Step y x → Near m x
-  near_onward n m y x less h (inl (r, is, e)) = subst (λ (z : ℕ). Near m z) (sym e) (near_without n m y r less h (in_common y removable r is).1)
-  near_onward n m y x less h (inr (r, is, e)) =
+  near_step : (n m y x : ℕ) → Step y x → n < m → Near n y → Near m x
+  near_step n m y x (inl (r, is, e)) less h = subst (λ (z : ℕ). Near m z) (sym e) (near_without n m y r less h (in_common y removable r is).1)
+  near_step n m y x (inr (r, is, e)) less h =
       let (may, known) = in_common forcible rules r (in_minus (common forcible rules) y r is).0 in
       subst (λ (z : ℕ). Near m z) (sym e) (near_with n m y r less h may known)
 
@@ -141,24 +138,25 @@ module _ (rules removable forcible : ℕ) (sets : List ℕ) (inside : AllByRecur
         | inr same ↦ absurd (not_same h.set k r (in_minus h.set (minus x (single r)) k is').0 (in_minus x h.set r is).1 same)
       ]
 
-  near_back : (n x : ℕ) → Near (suc n) x → Near n x ⊎ ((y : ℕ) × Near n y × Step y x)
-  near_back n x h = elim (some_member (minus h.set x)) [
-    | inr (r, is) ↦ let (near, step) = put_back n x h r is in inr (union x (single r), near, step)
-    | inl none ↦ elim (some_member (minus x h.set)) [
-      | inr (r, is) ↦ let (near, step) = taken_out n x h r is in inr (minus x (single r), near, step)
-      | inl none' ↦ inl (record {
-        of_rules = h.of_rules;
-        set = h.set;
-        listed = h.listed;
-        removed = h.removed;
-        forced = h.forced;
-        near = omega (arith, ap (λ (s : ℕ). size s) none, ap (λ (s : ℕ). size s) none', size-none);
-      })
-    ]
-  ]
-
   pub near_levels : AreLevels Near Step
-  near_levels = record { more = near_more; onward = near_onward; back = near_back }
+  near_levels = record {
+    more = λ n m x less h. record { of_rules = h.of_rules; set = h.set; listed = h.listed; removed = h.removed; forced = h.forced; near = omega (arith, less, h.near) };
+    onward = λ n m y x less h step. near_step n m y x step less h;
+    back = λ n x h. elim (some_member (minus h.set x)) [
+      | inr (r, is) ↦ let (near, step) = put_back n x h r is in inr (union x (single r), near, step)
+      | inl none ↦ elim (some_member (minus x h.set)) [
+        | inr (r, is) ↦ let (near, step) = taken_out n x h r is in inr (minus x (single r), near, step)
+        | inl none' ↦ inl (record {
+          of_rules = h.of_rules;
+          set = h.set;
+          listed = h.listed;
+          removed = h.removed;
+          forced = h.forced;
+          near = omega (arith, ap (λ (s : ℕ). size s) none, ap (λ (s : ℕ). size s) none', size-none);
+        })
+      ]
+    ];
+  }
 
   pub near_begins : IsAscending (λ (a b : ℕ). a < b) sets → (reached front : List ℕ) → reached ≡ sets → front ≡ sets → IsReached Near Step 0 reached front
   near_begins up reached front is is' = walk_begins Near Step reached front

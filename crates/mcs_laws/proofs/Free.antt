@@ -51,12 +51,12 @@ module _ (m : System) (free : IsUnbarred m) where
 
   -- ---- questions
   free_question : (level : ℕ) (cs : List ℕ) (P Q : ℕ → ℕ → Type 0) (i x : ℕ) → ((j τ : ℕ) → P j τ → Q j τ) → IsQuestionAfter m level cs P i x → IsFreeQuestionAfter m level cs Q i x
-  free_question level cs P Q i x same h = record { of_rules = h.of_rules; state = h.state; of_variables = h.of_variables; supplies = λ j among imported. same j _ (h.supplies j among imported); near = h.near }
+  free_question level cs P Q i x same h = record { of_rules = h.of_rules; believed = h.state; of_variables = h.of_variables; supplies = λ j among imported. same j _ (h.supplies j among imported); near = h.near }
 
   question_free : (level : ℕ) (cs : List ℕ) (P Q : ℕ → ℕ → Type 0) (i x : ℕ) → ((j τ : ℕ) → P j τ → Q j τ) → IsFreeQuestionAfter m level cs P i x → IsQuestionAfter m level cs Q i x
   question_free level cs P Q i x same h = record {
     of_rules = h.of_rules;
-    state = h.state;
+    state = h.believed;
     of_variables = h.of_variables;
     supplies = λ j among imported. same j _ (h.supplies j among imported);
     allowed = allows _ (marks_known m _ _);
@@ -79,8 +79,8 @@ all_allowed m free = same_marks m free
 
 pub free_diagnoses : FreeDiagnoses
 free_diagnoses m pair free = (
-  λ d. record { of_rules = allowed_known m pair d.allowed; equilibrium = d.equilibrium; balanced = d.balanced },
-  λ d. record { allowed = allows m free pair d.of_rules; equilibrium = d.equilibrium; balanced = d.balanced },
+  λ d. (allowed_known m pair d.allowed, (d.equilibrium, d.balanced)),
+  λ d. (let (of_rules, (σ, balanced)) = d in record { allowed = allows m free pair of_rules; equilibrium = σ; balanced = balanced }),
 )
 
 pub free_explanations : FreeExplanations
@@ -91,8 +91,8 @@ free_explanations m pair free = (
 
 pub free_choices : FreeChoices
 free_choices m σ x free = (
-  λ c. record { of_rules = c.of_rules; of_variables = c.of_variables; accepted = c.accepted },
-  λ c. record { of_rules = c.of_rules; of_variables = c.of_variables; allowed = allows m free _ (marks_known m _ _); accepted = c.accepted },
+  λ c. (c.of_rules, (c.of_variables, c.accepted)),
+  λ c. (let (of_rules, (of_variables, accepted)) = c in record { of_rules = of_rules; of_variables = of_variables; allowed = allows m free _ (marks_known m _ _); accepted = accepted }),
 )
 
 pub free_questions : FreeQuestions
@@ -106,7 +106,7 @@ free_rows m order level i state marks free = (
   λ r. record {
     whole = r.whole;
     of_variables = r.of_variables;
-    rules = r.rules;
+    asked = r.rules;
     of_rules = r.of_rules;
     accepted = r.accepted;
     supplies = λ j among imported. (let (x, question, part) = r.supplies j among imported in (x, (free_questions m order level j x free).0 question, part));
@@ -117,7 +117,7 @@ free_rows m order level i state marks free = (
   λ r. record {
     whole = r.whole;
     of_variables = r.of_variables;
-    rules = r.rules;
+    rules = r.asked;
     of_rules = r.of_rules;
     accepted = r.accepted;
     supplies = λ j among imported. (let (x, question, part) = r.supplies j among imported in (x, (free_questions m order level j x free).1 question, part));

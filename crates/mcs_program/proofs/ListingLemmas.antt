@@ -21,13 +21,14 @@ use Rattle.mcs_evidence.specs.Supports.{IsBased, support_formula}
 use Rattle.mcs_evidence.proofs.Models.{true_names-known, rules-hold, answer_set-holds, shows-below, own_state, smaller_places, sides-hold}
 use Rattle.mcs_evidence.proofs.Supports.{has_support, answer_set_supports, left_unsupported, supported_models}
 use Rattle.mcs_program.specs.declared.listing.Listing.{Listing}
-use Rattle.mcs_program.specs.Listings.{place_formula, first_formulas, left_formulas, left_of, models_left, IsPartListing, IsSupported, IsViewPlaced}
+use Rattle.mcs_program.specs.Searches.{IsViewPlaced}
+use Rattle.mcs_program.specs.Listings.{place_formula, first_formulas, left_formulas, left_of, models_left, IsPartListing, IsSupported}
 use Rattle.mcs_program.proofs.SearchLemmas.{sides_value, sides_more, others_more, other_view, meant_more, models_less, ascending_insert}
 use Rattle.mcs_program.proofs.PlaceLemmas.{place_at}
 
 -- ---- what is smaller than a model leaves a set without support
 pub left_unfounded : (names : List Name) (rules : List ProgramRule) (model less : ℕ) → has_twins names ≡ false → IsModelAt names (smaller_formulas names rules model) less
-    → holds (true_names 0 names model) (place_formula names rules (minus model less)) ≡ false
+    → holds (true_names 0 names model) (place_formula rules names (minus model less)) ≡ false
 left_unfounded names rules model less single below =
     let (smaller, sat) = smaller_places names rules model less below.formulas in
     left_unsupported rules (true_names 0 names (minus model less)) (true_names 0 names model) (true_names 0 names less) smaller sat left apart
@@ -76,10 +77,10 @@ first_hold a names rules is =
     each (n ∷ ns) = and_from (holds a (support_formula rules (n ∷ []))) (holds_all a (map (λ n. support_formula rules (n ∷ [])) ns)) (answer_set_supports rules (n ∷ []) a is) (each ns)
 
 -- the parts of what a model of all that is left satisfies
-pub left_parts : (a names : List Name) (rules : List ProgramRule) (beliefs : List Formula) (sets views : List ℕ) → holds_all a (left_formulas names rules beliefs sets views) ≡ true
+pub left_parts : (a names : List Name) (rules : List ProgramRule) (beliefs : List Formula) (sets views : List ℕ) → holds_all a (left_formulas names rules sets beliefs views) ≡ true
     → (holds_all a (first_formulas names rules) ≡ true) × (holds_all a (map (other_formula beliefs) views) ≡ true)
 left_parts a names rules beliefs sets views h =
-    let (first, rest) = and_parts _ _ (sym (sides_value (first_formulas names rules) (place_formula names rules) a beliefs sets views) ∙ h) in
+    let (first, rest) = and_parts _ _ (sym (sides_value (first_formulas names rules) (place_formula rules names) a beliefs sets views) ∙ h) in
     (first, (and_parts _ _ rest).1)
 
 -- ---- from step to step
@@ -91,30 +92,30 @@ all_insert P (y ∷ xs) (suc k) x all one = (all.0, all_insert P xs k x all.1 on
 
 module _ (names : List Name) (rules : List ProgramRule) (beliefs : List Formula) (old new : Listing) where
   module _ (set : ℕ) (e : IsSupported names rules set old new) where
-    set_narrows : (a : List Name) → holds_all a (left_of names rules beliefs new) ≡ (holds_all a (left_of names rules beliefs old) && holds a (place_formula names rules set))
+    set_narrows : (a : List Name) → holds_all a (left_of names rules beliefs new) ≡ (holds_all a (left_of names rules beliefs old) && holds a (place_formula rules names set))
     set_narrows a =
-        ap (λ (xs : List ℕ). holds_all a (left_formulas names rules beliefs xs new.views.items)) e.supported
-        ∙ ap (λ (xs : List ℕ). holds_all a (left_formulas names rules beliefs (old.supported.items ++ set ∷ []) xs)) e.views
-        ∙ sides_more (first_formulas names rules) (place_formula names rules) a beliefs old.supported.items old.views.items set
+        ap (λ (xs : List ℕ). holds_all a (left_formulas names rules xs beliefs new.views.items)) e.supported
+        ∙ ap (λ (xs : List ℕ). holds_all a (left_formulas names rules (old.supported.items ++ set ∷ []) beliefs xs)) e.views
+        ∙ sides_more (first_formulas names rules) (place_formula rules names) a beliefs old.supported.items old.views.items set
 
     pub set_listed : IsPartListing names rules beliefs old → IsPartListing names rules beliefs new
     set_listed was = record {
-      known = meant_more names (left_of names rules beliefs old) (left_of names rules beliefs new) (place_formula names rules set) old.known new.known e.known set_narrows was.known;
+      known = meant_more names (left_of names rules beliefs old) (left_of names rules beliefs new) (place_formula rules names set) old.known new.known e.known set_narrows was.known;
       ascending = subst (IsAscending StateBefore) (sym e.views) was.ascending;
       accepted = subst (AllByRecursion (IsAcceptedView (Program rules) beliefs)) (sym e.views) was.accepted;
     }
 
-    pub set_less : (model : ℕ) → IsModelAt names (left_of names rules beliefs old) model → holds (true_names 0 names model) (place_formula names rules set) ≡ false
+    pub set_less : (model : ℕ) → IsModelAt names (left_of names rules beliefs old) model → holds (true_names 0 names model) (place_formula rules names set) ≡ false
         → models_left names (left_of names rules beliefs new) < models_left names (left_of names rules beliefs old)
-    set_less model is not_so = models_less names (left_of names rules beliefs old) (left_of names rules beliefs new) (place_formula names rules set) model set_narrows is not_so
+    set_less model is not_so = models_less names (left_of names rules beliefs old) (left_of names rules beliefs new) (place_formula rules names set) model set_narrows is not_so
 
   module _ (model place : ℕ) (e : IsViewPlaced names beliefs model place old.known old.views.items new.known new.views.items) (same : new.supported.items ≡ old.supported.items)
       (atoms : AreAtomsOf names beliefs) (is : IsModelAt names (left_of names rules beliefs old) model) where
     view_narrows : (a : List Name) → holds_all a (left_of names rules beliefs new) ≡ (holds_all a (left_of names rules beliefs old) && holds a (other_formula beliefs e.view))
     view_narrows a =
-        ap (λ (xs : List ℕ). holds_all a (left_formulas names rules beliefs xs new.views.items)) same
-        ∙ ap (λ (xs : List ℕ). holds_all a (left_formulas names rules beliefs old.supported.items xs)) e.placed
-        ∙ others_more (first_formulas names rules) (place_formula names rules) a beliefs old.supported.items old.views.items place e.view
+        ap (λ (xs : List ℕ). holds_all a (left_formulas names rules xs beliefs new.views.items)) same
+        ∙ ap (λ (xs : List ℕ). holds_all a (left_formulas names rules old.supported.items beliefs xs)) e.placed
+        ∙ others_more (first_formulas names rules) (place_formula rules names) a beliefs old.supported.items old.views.items place e.view
 
     own : holds (true_names 0 names model) (other_formula beliefs e.view) ≡ false
     own = own_state names (true_names 0 names model) beliefs e.view atoms e.shows
@@ -152,7 +153,7 @@ all_listed names rules beliefs s atoms listed none = record {
     at x (Theory e) none' shows = absurd none'
     at x (Atoms a) is shows = elim (cases_among x s.views.items) [
       | inl there ↦ there
-      | inr new ↦ absurd (none a (sides-hold (first_formulas names rules) (place_formula names rules) names beliefs s.supported.items s.views.items a x atoms shows (first_hold a names rules is)
+      | inr new ↦ absurd (none a (sides-hold (first_formulas names rules) (place_formula rules names) names beliefs s.supported.items s.views.items a x atoms shows (first_hold a names rules is)
           (λ set. answer_set_supports rules (true_names 0 names set) a is)
           (all_weaker (IsAcceptedView (Program rules) beliefs) (λ state. (j : ℕ) → has state j ≡ true → j < length beliefs) (accepted_low rules beliefs) s.views.items listed.accepted) new))
     ]

@@ -212,38 +212,38 @@ zip_insert R (x' ∷ xs) (y' ∷ ys) (suc k) x y all one = (all.0, zip_insert R 
 
 module _ (names : List Name) (rules : List ProgramRule) (beliefs : List Formula) (old new : Search) (model : ℕ) (minimal : List Inference) (listed : IsListed names beliefs model minimal old new) where
   view : ℕ
-  view = listed.placed.view
+  view = listed.placed.viewed.view
 
-  views_are : new.views.items ≡ insert old.views.items listed.place listed.placed.view
-  views_are = listed.views ∙ listed.placed.views
+  views_are : new.views.items ≡ insert old.views.items listed.place listed.placed.viewed.view
+  views_are = listed.views ∙ listed.placed.viewed.placed
 
-  listed_narrows : (a : List Name) → holds_all a (rest_formulas names rules beliefs new.smaller.items new.views.items) ≡ (holds_all a (rest_formulas names rules beliefs old.smaller.items old.views.items) && holds a (other_formula beliefs listed.placed.view))
+  listed_narrows : (a : List Name) → holds_all a (rest_formulas names rules beliefs new.smaller.items new.views.items) ≡ (holds_all a (rest_formulas names rules beliefs old.smaller.items old.views.items) && holds a (other_formula beliefs listed.placed.viewed.view))
   listed_narrows a =
       ap (λ xs. holds_all a (rest_formulas names rules beliefs xs new.views.items)) (listed.smaller ∙ listed.placed.smaller)
       ∙ ap (λ xs. holds_all a (rest_formulas names rules beliefs old.smaller.items xs)) views_are
-      ∙ views_more a names rules beliefs old.smaller.items old.views.items listed.place listed.placed.view
+      ∙ views_more a names rules beliefs old.smaller.items old.views.items listed.place listed.placed.viewed.view
 
   module _ (atoms : AreAtomsOf names beliefs) (is : IsModelAt names (rest_formulas names rules beliefs old.smaller.items old.views.items) model) where
-    own : holds (true_names 0 names model) (other_formula beliefs listed.placed.view) ≡ false
-    own = own_state names (true_names 0 names model) beliefs listed.placed.view atoms listed.placed.shows
+    own : holds (true_names 0 names model) (other_formula beliefs listed.placed.viewed.view) ≡ false
+    own = own_state names (true_names 0 names model) beliefs listed.placed.viewed.view atoms listed.placed.viewed.shows
 
     parts : (holds_all (true_names 0 names model) (map rule_formula rules) ≡ true) × (holds_all (true_names 0 names model) (map (beside_formula names rules) old.smaller.items) && holds_all (true_names 0 names model) (map (other_formula beliefs) old.views.items) ≡ true)
     parts = and_parts _ _ (sym (rest_value (true_names 0 names model) names rules beliefs old.smaller.items old.views.items) ∙ is.formulas)
 
-    new_view : ¬ IsAmong listed.placed.view old.views.items
-    new_view = other_view (true_names 0 names model) beliefs listed.placed.view old.views.items (and_parts _ _ parts.1).1 own
+    new_view : ¬ IsAmong listed.placed.viewed.view old.views.items
+    new_view = other_view (true_names 0 names model) beliefs listed.placed.viewed.view old.views.items (and_parts _ _ parts.1).1 own
 
     pub listed_less : sets_left names rules beliefs new < sets_left names rules beliefs old
-    listed_less = left_less names rules beliefs old new (other_formula beliefs listed.placed.view) model listed_narrows is own
+    listed_less = left_less names rules beliefs old new (other_formula beliefs listed.placed.viewed.view) model listed_narrows is own
 
     pub listed_search : IsAcceptedTrace (clause_list names (smaller_formulas names rules model)).clauses minimal → IsSearch names rules beliefs old → IsSearch names rules beliefs new
     listed_search refutes was = record {
-      known = known_more names rules beliefs old new (other_formula beliefs listed.placed.view) (λ fs m. subst (AreMeantBy names (fs ++ other_formula beliefs listed.placed.view ∷ [])) (sym listed.known) (listed.placed.known fs m)) listed_narrows was.known;
-      ascending = subst (IsAscending StateBefore) (sym views_are) (ascending_insert old.views.items listed.place listed.placed.view was.ascending new_view listed.placed.before listed.placed.after);
+      known = known_more names rules beliefs old new (other_formula beliefs listed.placed.viewed.view) (λ fs m. subst (AreMeantBy names (fs ++ other_formula beliefs listed.placed.viewed.view ∷ [])) (sym listed.known) (listed.placed.viewed.adds fs m)) listed_narrows was.known;
+      ascending = subst (IsAscending StateBefore) (sym views_are) (ascending_insert old.views.items listed.place listed.placed.viewed.view was.ascending new_view listed.placed.viewed.before listed.placed.viewed.after);
       models = subst (λ xs. AllZip (IsAcceptedModel names rules beliefs) xs (map model_shown_of new.models.items)) (sym views_are)
-          (subst (AllZip (IsAcceptedModel names rules beliefs) (insert old.views.items listed.place listed.placed.view)) (sym listed.models)
-          (zip_insert (IsAcceptedModel names rules beliefs) old.views.items (map model_shown_of old.models.items) listed.place listed.placed.view (record { model = model; minimal = minimal }) was.models
-          (record { shown = record { in_range = is.in_range; satisfies = parts.0; minimal = refutes }; shows = listed.placed.shows })));
+          (subst (AllZip (IsAcceptedModel names rules beliefs) (insert old.views.items listed.place listed.placed.viewed.view)) (sym listed.models)
+          (zip_insert (IsAcceptedModel names rules beliefs) old.views.items (map model_shown_of old.models.items) listed.place listed.placed.viewed.view (record { model = model; minimal = minimal }) was.models
+          (record { shown = record { in_range = is.in_range; satisfies = parts.0; minimal = refutes }; shows = listed.placed.viewed.shows })));
       in_range = subst (AllByRecursion (IsInRange names)) (sym (listed.smaller ∙ listed.placed.smaller)) was.in_range;
     }
 

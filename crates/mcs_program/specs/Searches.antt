@@ -6,6 +6,7 @@ use Rattle.mcs_base.specs.Listings.{IsAscending}
 use Rattle.mcs_system.specs.Plain.{Name, Formula, ProgramRule}
 use Rattle.mcs_system.specs.Logic.{holds_all, true_names, Atoms}
 use Rattle.mcs_system.specs.Views.{Shows}
+use Rattle.mcs_trace.specs.Clauses.{ClauseList}
 use Rattle.mcs_trace.specs.Traces.{Inference}
 use Rattle.mcs_cnf.specs.Entailments.{IsModelAt}
 use Rattle.mcs_evidence.specs.Programs.{model_shown_of, rest_formulas, beside_formula, other_formula, IsInRange, IsAcceptedModel}
@@ -35,15 +36,19 @@ pub record IsExcluded (names : List Name) (rules : List ProgramRule) (less : ℕ
   pub views : new.views.items ≡ old.views.items
   pub models : new.models.items ≡ old.models.items
 
--- the model's view stands at the place, behind those that come before it, and the others are to be other ones
-pub record IsPlaced (names : List Name) (beliefs : List Formula) (model place : ℕ) (old new : Search) : Type 0 where
+-- the model's view stands among the views, behind those that come before it, and the others are to be other ones
+pub record IsViewPlaced (names : List Name) (beliefs : List Formula) (model place : ℕ) (known : ClauseList) (views : List ℕ) (known' : ClauseList) (views' : List ℕ) : Type 0 where
   pub view : ℕ
   pub shows : Shows (Atoms (true_names 0 names model)) beliefs view
-  pub within : place ≤ length old.views.items
-  pub before : AllByRecursion (λ v. StateBefore v view) (take place old.views.items)
-  pub after : place < length old.views.items → ¬ StateBefore (get_or old.views.items place 0) view
-  pub known : AddsFormula names (other_formula beliefs view) old.known new.known
-  pub views : new.views.items ≡ insert old.views.items place view
+  pub within : place ≤ length views
+  pub before : AllByRecursion (λ v. StateBefore v view) (take place views)
+  pub after : place < length views → ¬ StateBefore (get_or views place 0) view
+  pub adds : AddsFormula names (other_formula beliefs view) known known'
+  pub placed : views' ≡ insert views place view
+
+-- and nothing else is changed
+pub record IsPlaced (names : List Name) (beliefs : List Formula) (model place : ℕ) (old new : Search) : Type 0 where
+  pub viewed : IsViewPlaced names beliefs model place old.known old.views.items new.known new.views.items
   pub smaller : new.smaller.items ≡ old.smaller.items
   pub models : new.models.items ≡ old.models.items
 

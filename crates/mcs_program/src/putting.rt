@@ -6,7 +6,7 @@ ghost use Rattle.mcs_sets.specs.Orders.{StateBefore};
 ghost use Rattle.mcs_base.specs.Listings.{IsAscending};
 ghost use Rattle.mcs_system.specs.Plain as plain;
 ghost use Rattle.mcs_evidence.specs.Pushing.{AreNamesOf};
-ghost use Rattle.mcs_program.specs.Listings.{IsViewPlaced};
+ghost use Rattle.mcs_program.specs.Searches.{IsViewPlaced};
 ghost use Rattle.mcs_program.specs.Placing.{IsPlaceOf};
 
 use crate::atom_clauses::push_other;

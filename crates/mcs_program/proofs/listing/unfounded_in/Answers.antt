@@ -22,7 +22,7 @@ returns-in-Model c =
     let rules = map rule_of c.args.rules.now in
     let fs = smaller_formulas names rules c.args.model in
     let below : IsModelAt names fs c.in-Model.less = subst (IsSatisfied names fs) c.in-Model.is (c.in_ok-less.ensures fs c.in_ok-smaller.ensures (smaller-over names rules c.args.model c.requires.rules)) in
-    ap (λ set. holds (true_names 0 names c.args.model) (place_formula names rules set)) c.minus.ensures ∙ left_unfounded names rules c.args.model c.in-Model.less c.requires.different below
+    ap (λ set. holds (true_names 0 names c.args.model) (place_formula rules names set)) c.minus.ensures ∙ left_unfounded names rules c.args.model c.in-Model.less c.requires.different below
 
 pub returns-in-Refuted : goal.returns-in-Refuted
 returns-in-Refuted c =

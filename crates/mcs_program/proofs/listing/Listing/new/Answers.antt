@@ -20,8 +20,8 @@ returns c = λ beliefs.
     let names = c.args.atoms.now in
     let rules = map rule_of c.args.rules.now in
     record {
-      known = meant_same names (first_formulas names rules) (left_formulas names rules beliefs c.new.result.items c.new-2.result.items) c.add_own.new.known
-          (λ a. sym (ap (λ (xs : List ℕ). holds_all a (left_formulas names rules beliefs xs c.new-2.result.items)) c.new.ensures.items ∙ ap (λ (xs : List ℕ). holds_all a (left_formulas names rules beliefs [] xs)) c.new-2.ensures.items
+      known = meant_same names (first_formulas names rules) (left_formulas names rules c.new.result.items beliefs c.new-2.result.items) c.add_own.new.known
+          (λ a. sym (ap (λ (xs : List ℕ). holds_all a (left_formulas names rules xs beliefs c.new-2.result.items)) c.new.ensures.items ∙ ap (λ (xs : List ℕ). holds_all a (left_formulas names rules [] beliefs xs)) c.new-2.ensures.items
           ∙ ap (holds_all a) (append-nil (first_formulas names rules)))) c.in_ok-add_own.ensures;
       ascending = subst (IsAscending StateBefore) (sym c.new-2.ensures.items) tt;
       accepted = subst (AllByRecursion (IsAcceptedView (Program rules) beliefs)) (sym c.new-2.ensures.items) tt;

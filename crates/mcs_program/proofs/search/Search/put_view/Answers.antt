@@ -4,13 +4,7 @@ use Rattle.mcs_program.proofs.search.Search.put_view.Goals as goal
 
 pub returns : goal.returns
 returns c = IfOk-weaker c.put_view.result _ _ (λ place e. record {
-  view = e.view;
-  shows = e.shows;
-  within = e.within;
-  before = e.before;
-  after = e.after;
-  known = e.adds;
-  views = e.placed;
+  viewed = e;
   smaller = refl;
   models = refl;
 }) c.put_view.ensures
