@@ -34,6 +34,10 @@ abbrev pub numbered_default : List Item → ℕ → Option Default
 numbered_default items zero = None
 numbered_default items (suc k) = slice_get (defaults_of items) k
 
+-- the default of this number is this one
+abbrev pub IsNumbered : List Item → ℕ → Default → Type 0
+IsNumbered items number default = numbered_default items number ≡ Some default
+
 abbrev pub numbered_formula : List Formula → ℕ → Option Formula
 numbered_formula fs zero = None
 numbered_formula fs (suc k) = slice_get fs k
@@ -109,15 +113,15 @@ negated_justs ds = flat_map (λ (d : Default). map Not d.justs) ds
 
 -- from the formulas it is shown that the default of this number is unsupported or blocked
 abbrev pub IsAbsent : List Name → List Item → List Formula → ℕ → Absence → Type 0
-IsAbsent names items fs number (Unsupported n e) = (n ≡ number) × ((d : Default) × (numbered_default items n ≡ Some d) × IsDenied names fs d.pre e)
+IsAbsent names items fs number (Unsupported n e) = (n ≡ number) × ((d : Default) × IsNumbered items n d × IsDenied names fs d.pre e)
 IsAbsent names items fs number (Blocked n j e) =
-    (n ≡ number) × ((d : Default) × (numbered_default items n ≡ Some d) × ((f : Formula) × (numbered_formula d.justs j ≡ Some f) × IsShown names fs (Not f) e))
+    (n ≡ number) × ((d : Default) × IsNumbered items n d × ((f : Formula) × (numbered_formula d.justs j ≡ Some f) × IsShown names fs (Not f) e))
 
 -- from the formulas, which grow by the consequents, it is shown that the prerequisites of the defaults of these numbers follow one after the other
 abbrev pub AreGrounded : List Name → List Item → List Formula → List ℕ → List Entailment → Type 0
 AreGrounded names items fs [] [] = Unit {0}
 AreGrounded names items fs (n ∷ ns) (e ∷ es) =
-    (d : Default) × (numbered_default items n ≡ Some d) × IsShown names fs d.pre e × AreGrounded names items (fs ++ d.conclusion ∷ []) ns es
+    (d : Default) × IsNumbered items n d × IsShown names fs d.pre e × AreGrounded names items (fs ++ d.conclusion ∷ []) ns es
 AreGrounded names items fs [] (e ∷ es) = ⊥
 AreGrounded names items fs (n ∷ ns) [] = ⊥
 
@@ -128,7 +132,7 @@ HasFailed names items set absence = (k : ℕ) × IsTrue (has set k) × IsAbsent 
 -- the default of this number is outside the set and applies
 pub record HasApplied (names : List Name) (items : List Item) (set number : ℕ) (pre : Entailment) (justs : List Entailment) : Type 0 where
   pub default : Default
-  pub is_it : numbered_default items number ≡ Some default
+  pub is_it : IsNumbered items number default
   pub outside : (k : ℕ) → number ≡ k + 1 → has set k ≡ false
   pub supported : IsShown names (generated items set) default.pre pre
   pub allowed : AreDenied names (generated items set) (negated_justs (default ∷ [])) justs

@@ -1,45 +1,55 @@
--- Levels above the most rules into one context: they have the same questions and rows.
-use Rattle.std.proofs.Common.{◌≡◌, ℕ, ◌+◌, ◌-◌, ◌<◌, ◌≤◌, bit_xor, Bool, true, false, not, cond, List, [], ◌∷◌, length, reverse, refl, sym, ◌∙◌, subst, inl, inr, ◌↔◌, arith}
+-- Levels above the most rules into one context that may be changed: they have the same questions and rows.
+use Rattle.std.proofs.Common.{◌≡◌, ℕ, ◌+◌, ◌-◌, ◌<◌, ◌≤◌, bit_xor, Bool, true, false, not, cond, ◌&&◌, ◌||◌, ap, List, [], ◌∷◌, length, reverse, refl, sym, ◌∙◌, subst, inl, inr, ◌↔◌, arith}
 use Rattle.std.proofs.lemmas.Bool.{cases_lt}
 use Rattle.std.proofs.lemmas.Bool.Decides.{nat_tests}
 use Rattle.std.proofs.lemmas.Option.{slice_get_within}
 use Rattle.std.specs.List.{AllByRecursion}
-use Rattle.mcs_sets.specs.Sets.{has, common, size, Within}
+use Rattle.mcs_sets.specs.Sets.{has, common, union, minus, size, Within}
 use Rattle.mcs_sets.specs.Orders.{StateBefore}
-use Rattle.mcs_sets.proofs.SetLemmas.{has-differ, has-common}
+use Rattle.mcs_sets.proofs.SetLemmas.{has-differ, has-common, has-union, has-minus}
 use Rattle.mcs_sets.proofs.Lattice.{size_within}
+use Rattle.mcs_base.specs.Pairs.{removed_of, forced_of}
 use Rattle.mcs_base.proofs.Among.{among_reverse}
 use Rattle.mcs_base.proofs.Each.{all_among, all_from_among}
 use Rattle.mcs_base.proofs.ListingLemmas.{IsListing-same}
 use Rattle.mcs_system.specs.Plain.{System}
 use Rattle.mcs_system.specs.Systems.{applicable}
+use Rattle.mcs_system.specs.Repairs.{allowed_marks}
 use Rattle.mcs_system.specs.Imports.{IsImportOrder, IsQuestionAfter, IsPossible, IsPossibleFrom, IsQuestion, before_in, marks_at, rules_into}
 use Rattle.mcs_system.specs.Levels.{IsQuestionAt, MaySupply}
 use Rattle.mcs_system.specs.Rows.{IsRow}
 use Rattle.mcs_import.proofs.OrderLemmas.{before_each, order_in_range}
-use Rattle.mcs_import.proofs.QuestionLemmas.{size-marks_at}
+use Rattle.mcs_import.proofs.QuestionLemmas.{applying, size-marks_at, marks_at_within}
 use Rattle.mcs_rows.specs.Local.{IsRowOf, AreLocalTables}
 use Rattle.mcs_states.specs.Oracles.{OracleState}
 use Rattle.mcs_table.specs.declared.row.Row.{Row}
 use Rattle.mcs_table.specs.RowOrder.{RowBefore}
 use Rattle.mcs_table.specs.Tables.{TableData}
-use Rattle.mcs_mesh.specs.Rounds.{HasFewRules, Knowledge, IsRoundDone}
+use Rattle.mcs_mesh.specs.Rounds.{changeable, HasFewRules, Knowledge, IsRoundDone}
 use Rattle.mcs_mesh.proofs.General.{question_after}
 
--- a set of rules into a context has no more marks than there are rules into it
-marks_small : (m : System) (i σ x : ℕ) → Within x (rules_into m i) → size (marks_at m i σ x) ≤ size (rules_into m i)
-marks_small m i σ x of_rules = subst (λ n. n ≤ size (rules_into m i)) (sym (size-marks_at m i σ x of_rules)) (size_within _ (rules_into m i) inside)
+-- a set of rules into a context with allowed marks has no more marks than there are rules into it that may be changed
+marks_small : (m : System) (i σ x : ℕ) → Within x (rules_into m i) → Within (marks_at m i σ x) (allowed_marks m) → size (marks_at m i σ x) ≤ size (common (rules_into m i) (changeable m))
+marks_small m i σ x of_rules allowed = subst (λ n. n ≤ size (common (rules_into m i) (changeable m))) (sym (size-marks_at m i σ x of_rules)) (size_within _ (common (rules_into m i) (changeable m)) inside)
   where
-    each : (a b r : Bool) → cond a (not b) b ≡ true → (a ≡ true → r ≡ true) → (b ≡ true → r ≡ true) → r ≡ true
-    each true b r e left right = left refl
-    each false true r e left right = right refl
-    each false false r e left right = absurd (cc)
+    parts : Within (minus (applying m i σ) x) (removed_of (allowed_marks m)) × Within (minus x (applying m i σ)) (forced_of (allowed_marks m))
+    parts = (marks_at_within m i σ x of_rules (allowed_marks m)).0 allowed
 
-    of_applying : (k : ℕ) → has (common (applicable m σ) (rules_into m i)) k ≡ true → has (rules_into m i) k ≡ true
+    each : (a b r p q : Bool) → cond a (not b) b ≡ true → (a ≡ true → r ≡ true) → (b ≡ true → r ≡ true) → (a && not b ≡ true → p ≡ true) → (b && not a ≡ true → q ≡ true) → r && (p || q) ≡ true
+    each true false r p q e left right removed forced = let is = left refl in let may = removed refl in grind (arith, nat_tests)
+    each true true r p q e left right removed forced = absurd (cc)
+    each false true r p q e left right removed forced = let is = right refl in let may = forced refl in grind (arith, nat_tests)
+    each false false r p q e left right removed forced = absurd (cc)
+
+    of_applying : (k : ℕ) → has (applying m i σ) k ≡ true → has (rules_into m i) k ≡ true
     of_applying k e = let h = has-common (applicable m σ) (rules_into m i) k in grind (arith, nat_tests)
 
-    inside : Within (bit_xor (common (applicable m σ) (rules_into m i)) x) (rules_into m i)
-    inside k is = each _ _ _ (sym (has-differ (common (applicable m σ) (rules_into m i)) x k) ∙ is) (of_applying k) (of_rules k)
+    inside : Within (bit_xor (applying m i σ) x) (common (rules_into m i) (changeable m))
+    inside k is = has-common (rules_into m i) (changeable m) k
+        ∙ ap (λ (b : Bool). has (rules_into m i) k && b) (has-union (removed_of (allowed_marks m)) (forced_of (allowed_marks m)) k)
+        ∙ each (has (applying m i σ) k) (has x k) (has (rules_into m i) k) (has (removed_of (allowed_marks m)) k) (has (forced_of (allowed_marks m)) k)
+          (sym (has-differ (applying m i σ) x k) ∙ is) (of_applying k) (of_rules k)
+          (λ e. parts.0 k (has-minus (applying m i σ) x k ∙ e)) (λ e. parts.1 k (has-minus x (applying m i σ) k ∙ e))
 
 module _ (m : System) (low high : ℕ) (few : HasFewRules m low) (less : low ≤ high) where
   -- ---- questions
@@ -50,7 +60,7 @@ module _ (m : System) (low high : ℕ) (few : HasFewRules m low) (less : low ≤
     of_variables = h.of_variables;
     supplies = λ j among imported. falls j _ (h.supplies j among imported);
     allowed = h.allowed;
-    near = omega (arith, marks_small m i h.state x h.of_rules, few i in_range);
+    near = omega (arith, marks_small m i h.state x h.of_rules h.allowed, few i in_range);
   }
 
   possible_falls : (earlier : List ℕ) → AllByRecursion (λ j. j < length m.contexts) earlier → (j τ : ℕ) → IsPossibleFrom m high earlier j τ → IsPossibleFrom m low earlier j τ
@@ -109,7 +119,7 @@ module _ (m : System) (low high : ℕ) (few : HasFewRules m low) (less : low ≤
     state_is = r.state_is;
     marks_is = r.marks_is;
     allowed = r.allowed;
-    few = subst (λ n. size n ≤ low) r.marks_is (omega (arith, marks_small m i r.whole r.rules r.of_rules, few i in_range));
+    few = subst (λ n. size n ≤ low) r.marks_is (omega (arith, marks_small m i r.whole r.rules r.of_rules (subst (λ n. Within n (allowed_marks m)) (sym r.marks_is) r.allowed), few i in_range));
   }
 
   same_rows : (i : ℕ) (r : Row) → i < length m.contexts → IsRowOf m low i r ↔ IsRowOf m high i r

@@ -2,11 +2,13 @@
 use Rattle.std.specs.Prelude.{◌≡◌, ℕ, ◌<◌, ◌≤◌, ◌⊎◌, List, [], ◌∷◌, map, length, Option, Some, None, slice_get, is_some}
 use Rattle.std.specs.List.{AllByRecursion, sum_by}
 use Rattle.mcs_sets.specs.Orders.{StateBefore}
-use Rattle.mcs_sets.specs.Sets.{size}
+use Rattle.mcs_sets.specs.Sets.{size, common, union}
 use Rattle.mcs_base.specs.Listings.{IsAmong, IsAscending, IsInventory, IsListing}
+use Rattle.mcs_base.specs.Pairs.{removed_of, forced_of}
 use Rattle.mcs_system.specs.Plain.{System}
 use Rattle.mcs_system.specs.Systems.{IsAcceptedPart}
 use Rattle.mcs_system.specs.Imports.{rules_into}
+use Rattle.mcs_system.specs.Repairs.{allowed_marks}
 use Rattle.mcs_system.specs.Levels.{IsQuestionAt, MaySupply, HasQuestions}
 use Rattle.mcs_rows.specs.Local.{Answered, AreAnswered, AreLocalTables}
 use Rattle.mcs_rows.specs.Answers.{answered_of}
@@ -112,9 +114,13 @@ HasAskingCause i o asked (Missing context x) = (context ≡ i) × IsAmong x aske
 HasAskingCause i o asked Memory = Unit {0}
 
 -- ---- levels that differ in nothing
--- no context has more than so many rules into it, so that the questions and rows of each higher level are the same
+-- the rules that a repair may remove or force
+abbrev pub changeable : System → ℕ
+changeable m = union (removed_of (allowed_marks m)) (forced_of (allowed_marks m))
+
+-- no context has more than so many of them into it, so that the questions and rows of each higher level are the same
 abbrev pub HasFewRules : System → ℕ → Type 0
-HasFewRules m level = (i : ℕ) → i < length m.contexts → size (rules_into m i) ≤ level
+HasFewRules m level = (i : ℕ) → i < length m.contexts → size (common (rules_into m i) (changeable m)) ≤ level
 
 -- ---- what a mesh keeps
 -- the evaluator's parts

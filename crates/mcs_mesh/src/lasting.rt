@@ -1,17 +1,27 @@
 //! Whether levels above one have the same questions and rows.
 
 ghost use Rattle.std.specs.Prelude.{◌≡◌, ◌<◌, ◌≤◌, ℕ, Some, IsTrue};
-ghost use Rattle.mcs_mesh.specs.Rounds.{HasFewRules};
+ghost use Rattle.mcs_mesh.specs.Rounds.{changeable, HasFewRules};
 
+use mcs_base::{Active, Pair};
 use mcs_system::System;
 
-/// Whether no context has more than so many rules into it: each higher level has then the same questions, and the
-/// contexts have the same rows.
+/// The rules that a repair may remove or force.
+fn changeable(system: &System) -> Active
+    ensures { result ≡ changeable system.now }
+{
+    let allowed = Pair::new(system.allowed());
+    allowed.removed().union(allowed.forced())
+}
+
+/// Whether no context has more than so many rules into it that a repair may change: each higher level has then the
+/// same questions, and the contexts have the same rows.
 pub(crate) fn has_few_rules(system: &System, level: u32) -> bool
     ensures { IsTrue result → HasFewRules system.now level }
 {
+    let changeable = changeable(system);
     for context in 0..system.contexts().len() as u32 {
-        if system.rules_of(context).count() > level {
+        if system.rules_of(context).common(changeable).count() > level {
             return false;
         }
     }
@@ -29,14 +39,17 @@ pub(crate) fn is_all_done(system: &System, done: Option<u32>) -> bool
 }
 
 /// Up to which level repairs are looked for where this one is asked for: where each level above it has the same
-/// rows, up to twice as far, so that few levels need a final step of their own.
+/// rows, up to twice as far, so that few levels need a final step of their own, and where no repair has more marks, as far
+/// as there are levels.
 pub(crate) fn level_ahead(system: &System, level: u32) -> u32
     ensures no_less { level ≤ result }
     ensures above { level < result → HasFewRules system.now level }
 {
-    if has_few_rules(system, level) {
-        level.saturating_mul(2)
-    } else {
-        level
+    if !has_few_rules(system, level) {
+        return level;
     }
+    if changeable(system).count() <= level {
+        return u32::MAX;
+    }
+    level.saturating_mul(2)
 }

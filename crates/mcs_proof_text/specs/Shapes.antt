@@ -11,7 +11,7 @@ use Rattle.mcs_system.specs.Systems.{variables_of}
 use Rattle.mcs_trace.specs.Traces.{Inference}
 use Rattle.mcs_spelling.specs.Parts.{IsStep}
 use Rattle.mcs_cnf.specs.Entailments.{Entailment, Yes, No}
-use Rattle.mcs_evidence.specs.Defaults.{Absence, Unsupported, Blocked, HasOneForEach, Verdict, Fails, Applied, Ungrounded, Extension, defaults_of, numbered_default, defaults_in, negated_justs, all_defaults}
+use Rattle.mcs_evidence.specs.Defaults.{Absence, Unsupported, Blocked, HasOneForEach, Verdict, Fails, Applied, Ungrounded, Extension, defaults_of, IsNumbered, defaults_in, negated_justs, all_defaults}
 use Rattle.mcs_evidence.specs.Programs.{ModelShown, ProgramShown, IsInRange}
 use Rattle.mcs_asking.specs.Certificates.{Certificate, OfFormulas, OfDefaults, OfProgram}
 use Rattle.mcs_proof_text.specs.Answers.{Answer}
@@ -46,7 +46,7 @@ IsDefaultNumber items n = (0 < n) × (n ≤ length (defaults_of items))
 
 -- a default, and a justification of it; certificates have 32 bits for its number
 abbrev pub IsJustNumber : List Item → ℕ → ℕ → Type 0
-IsJustNumber items n j = (d : Default) × (numbered_default items n ≡ Some d) × (0 < j) × (j ≤ length d.justs) × (j < 2 ^ 32)
+IsJustNumber items n j = (d : Default) × IsNumbered items n d × (0 < j) × (j ≤ length d.justs) × (j < 2 ^ 32)
 
 -- a default is said to be unsupported, with what does not follow, or blocked, with what follows
 abbrev pub IsAbsence : List Name → List Item → Absence → Type 0
@@ -68,7 +68,7 @@ just_count items set = length (negated_justs (defaults_in items set))
 
 pub record IsAppliedShape (names : List Name) (items : List Item) (number : ℕ) (pre : Entailment) (justs : List Entailment) : Type 0 where
   pub default : Default
-  pub is_it : numbered_default items number ≡ Some default
+  pub is_it : IsNumbered items number default
   pub supported : IsYes pre
   pub allowed : AreMany (IsNo names) (length default.justs) justs
 

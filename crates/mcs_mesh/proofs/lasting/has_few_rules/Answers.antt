@@ -1,15 +1,21 @@
 use Rattle.std.proofs.Common.{◌≡◌, ◌≤◌, ◌∙◌, ap, sym, subst, length, arith}
 use Rattle.std.proofs.lemmas.List.{length-map}
 use borrow.Author.Count.{below_more}
-use Rattle.mcs_sets.specs.Sets.{size}
+use Rattle.mcs_sets.specs.Sets.{size, common}
 use Rattle.mcs_system.specs.Imports.{rules_into}
 use Rattle.mcs_system.specs.Seen.{context_of}
+use Rattle.mcs_mesh.specs.Rounds.{changeable}
 use Rattle.mcs_mesh.proofs.lasting.has_few_rules.Goals as goal
 
 pub loop-context-preserved : goal.loop-context-preserved
 loop-context-preserved c =
-    let few : size (rules_into c.args.system.now c.loop-context.context) ≤ c.args.level = subst (λ n. size n ≤ c.args.level) c.rules_of.ensures (subst (λ n. n ≤ c.args.level) c.count.ensures.number c.if-count-level.false) in
-    below_more (λ i. size (rules_into c.args.system.now i) ≤ c.args.level) c.loop-context.context c.loop-context.invariant few
+    let m = c.args.system.now in
+    let few : size (common (rules_into m c.loop-context.context) (changeable m)) ≤ c.args.level =
+        subst (λ n. size (common n (changeable m)) ≤ c.args.level) c.rules_of.ensures
+        (subst (λ n. size (common c.rules_of.result n) ≤ c.args.level) c.changeable-changeable.ensures
+        (subst (λ n. size n ≤ c.args.level) c.common.ensures
+        (subst (λ n. n ≤ c.args.level) c.count.ensures.number c.if-count-level.false))) in
+    below_more (λ i. size (common (rules_into m i) (changeable m)) ≤ c.args.level) c.loop-context.context c.loop-context.invariant few
 
 pub returns : goal.returns
 returns c = λ _ i less.
