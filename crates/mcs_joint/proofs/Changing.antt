@@ -1,21 +1,17 @@
 -- The rows of all contexts whose marks are those that a pair makes of their states: they fit together in the equilibria of the changed system.
-use Rattle.std.proofs.Common.{◌≡◌, ◌<◌, ◌≤◌, ℕ, Bool, true, false, not, ◌&&◌, ◌||◌, ◌+◌, ◌*◌, List, [], ◌∷◌, ◌++◌, length, map, None, Some, slice_get, get_or, refl, sym, ap, ◌∙◌, subst, inl, inr, ◌↔◌, arith}
-use Rattle.std.proofs.lemmas.Option.{slice_get-get_or, slice_get_within, slice_get_past}
+use Rattle.std.proofs.Common.{◌≡◌, ◌<◌, ◌≤◌, ℕ, Bool, true, false, List, length, map, Some, slice_get, refl, sym, ap, ◌∙◌, subst, ◌↔◌, arith}
+use Rattle.std.proofs.lemmas.Option.{slice_get_within}
 use Rattle.std.specs.List.{AllByRecursion}
 use Rattle.mcs_sets.specs.Sets.{has, common, union, minus, size, Within}
 use Rattle.mcs_sets.specs.Orders.{StateBefore}
-use Rattle.std.proofs.lemmas.Bool.Decides.{nat_tests}
-use Rattle.mcs_sets.proofs.SetLemmas.{same_set, sets, has-minus, has-union, has-common}
-use Rattle.mcs_base.proofs.PairLemmas.{has-removed_of, has-forced_of}
-use Rattle.mcs_base.proofs.Ranges.{by_parity}
+use Rattle.mcs_sets.proofs.SetLemmas.{same_set, sets}
 use Rattle.mcs_sets.proofs.Lattice.{within_antisymmetric, size_within}
 use Rattle.mcs_base.specs.Listings.{IsAmong, IsListing}
 use Rattle.mcs_base.specs.Pairs.{removed_of, forced_of}
 use Rattle.mcs_base.proofs.Among.{map_among, among_map, get_among}
 use Rattle.mcs_base.proofs.Each.{all_from_among}
 use Rattle.mcs_base.proofs.ListingLemmas.{IsListing-same}
-use Rattle.std.proofs.lemmas.List.{length-append}
-use Rattle.mcs_base.proofs.Lists.{slice_get_below, slice_get_push_at, length_zip}
+use Rattle.mcs_base.proofs.Lists.{slice_get_below, length_zip}
 use Rattle.mcs_base.proofs.SetParts.{same_from_minus}
 use Rattle.mcs_base.proofs.Zipped.{zip_get}
 use Rattle.mcs_system.specs.Plain.{Formula, System}
@@ -39,7 +35,7 @@ use Rattle.mcs_table.specs.Joins.{IsJointRow}
 use Rattle.mcs_rows.specs.Local.{IsRowOf, AreLocalTables}
 use Rattle.mcs_joint.specs.Apart.{EachApart}
 use Rattle.mcs_joint.specs.Reduced.{IsReduced}
-use Rattle.mcs_joint.specs.Changed.{AreEachChanged, applicable_into, acting_into, HasMarksOf, IsChangedTable, AreChangedTables}
+use Rattle.mcs_joint.specs.Changed.{applicable_into, acting_into, HasMarksOf, AreChangedTables}
 use Rattle.mcs_joint.proofs.Joint.{row_at, AreParts, joint_choice, choice_joint}
 use Rattle.mcs_joint.proofs.Repairing.{row_there}
 use Rattle.mcs_joint.proofs.Repaired.{own_apart}
@@ -50,27 +46,6 @@ marks_same : (m : System) → IsValid m → (σ x y : ℕ) → Within x (all_rul
 marks_same m valid σ x y in_x in_y same = within_antisymmetric _ _
     (λ k h. let (i, less, there) = (marks_are_united m σ x k valid in_x).0 h in (marks_are_united m σ y k valid in_y).1 (i, less, ap (λ z. has (marks_at m i σ z) k) (sym (same i less)) ∙ there))
     (λ k h. let (i, less, there) = (marks_are_united m σ y k valid in_y).0 h in (marks_are_united m σ x k valid in_x).1 (i, less, ap (λ z. has (marks_at m i σ z) k) (same i less) ∙ there))
-
--- a row that has the marks of a pair has no others
-pub marks_inside : (m : System) (i pair : ℕ) (r : Row) → HasMarksOf m i pair r → Within r.marks pair
-marks_inside m i pair r h k is = let (n, half) = by_parity k in elim half [ inl e ↦ ap (has pair) e ∙ even n (ap (has r.marks) (sym e) ∙ is) | inr e ↦ ap (has pair) e ∙ odd n (ap (has r.marks) (sym e) ∙ is) ]
-  where
-    a : ℕ
-    a = applicable_into m i r.state.values
-
-    x : ℕ
-    x = acting_into m i pair r.state.values
-
-    in_x : (n : ℕ) → has x n ≡ ((has a n && not (has (removed_of pair) n)) || (has (forced_of pair) n && has (rules_into m i) n))
-    in_x n = rw (has-union, has-minus, has-common (forced_of pair) (rules_into m i) n) refl
-
-    even : (n : ℕ) → has r.marks (2 * n) ≡ true → has pair (2 * n) ≡ true
-    even n e = let e1 = has-removed_of r.marks n in let e2 : has (removed_of r.marks) n ≡ has (minus a x) n = ap (λ s. has s n) h.removed in let e3 = has-minus a x n in let e4 = in_x n in
-        let e5 = has-removed_of pair n in grind (arith, nat_tests)
-
-    odd : (n : ℕ) → has r.marks (2 * n + 1) ≡ true → has pair (2 * n + 1) ≡ true
-    odd n e = let e1 = has-forced_of r.marks n in let e2 : has (forced_of r.marks) n ≡ has (minus x a) n = ap (λ s. has s n) h.forced in let e3 = has-minus x a n in let e4 = in_x n in
-        let e5 = has-forced_of pair n in grind (arith, nat_tests)
 
 module _ (m : System) (pair : ℕ) where
   abbrev acting : ℕ → ℕ
@@ -186,26 +161,3 @@ module _ (m : System) (pair : ℕ) where
               λ among. let (r, there, e) = map_among values σ rows among in subst (IsProjectedEquilibrium m (minus (all_rules m) (removed_of pair)) (forced_of pair)) (sym e) (joint_state (size pair) r ((reduced.joint r).1 ((joint r).0 there))).0,
               λ at. let (r, j, e) = state_joint high σ at in subst (λ τ. IsAmong τ (map values rows)) e (among_map values r rows ((joint r).1 ((reduced.joint r).0 j))),
             )) listed
-
--- ---- table after table
--- those of the first contexts
-pub record AreSomeChanged (m : System) (pair : ℕ) (ts us : List TableData) (k : ℕ) : Type 0 where
-  pub many : length us ≡ k
-  pub changed : AreEachChanged m pair ts us
-
-pub changed_begin : (m : System) (pair : ℕ) (ts us : List TableData) → us ≡ [] → AreSomeChanged m pair ts us 0
-changed_begin m pair ts us e = record { many = ap length e; changed = λ i t u is is'. let none : slice_get [] i ≡ Some u = subst (λ xs. slice_get xs i ≡ Some u) e is' in absurd (let both : None ≡ Some u = sym (slice_get_past [] i (omega arith)) ∙ none in cc) }
-
-pub changed_more : (m : System) (pair : ℕ) (ts us : List TableData) (k : ℕ) (t u : TableData) → k < length ts → t ≡ get_or ts k t → IsChangedTable m k pair t u → AreSomeChanged m pair ts us k → AreSomeChanged m pair ts (us ++ u ∷ []) (k + 1)
-changed_more m pair ts us k t u less here is so_far = record {
-  many = length-append us (u ∷ []) ∙ ap (λ n. n + 1) so_far.many;
-  changed = λ i t' u' at at'. elim (slice_get_push_at us u i u' at') [
-    | inl old ↦ so_far.changed i t' u' at old
-    | inr (last, same) ↦
-        let place : i ≡ k = last ∙ so_far.many in
-        let there : slice_get ts k ≡ Some t = slice_get-get_or ts k t less ∙ ap (λ w. Some w) (sym here) in
-        let at_k : slice_get ts k ≡ Some t' = subst (λ j. slice_get ts j ≡ Some t') place at in
-        let one : t ≡ t' = cc in
-        subst (λ j. IsChangedTable m j pair t' u') (sym place) (subst (λ (w : TableData). IsChangedTable m k pair w u') one (subst (λ (w : TableData). IsChangedTable m k pair t w) (sym same) is))
-  ];
-}

@@ -18,9 +18,10 @@ use Rattle.mcs_base.proofs.ListingLemmas.{same_listing}
 use Rattle.mcs_base.proofs.Zipped.{zip_weaker}
 use Rattle.mcs_table.specs.declared.row.Row.{Row}
 use Rattle.mcs_table.specs.RowOrder.{RowBefore}
-use Rattle.mcs_table.specs.Tables.{TableData, IsTable, IsUnion, IsMinimalRow, IsJoin, AreApart, unit_row, unit_table, united_row}
+use Rattle.mcs_table.specs.Tables.{TableData, IsTable, IsUnion, IsMinimalRow, IsMinimalOf, IsJoin, AreApart, unit_row, unit_table, united_row}
 use Rattle.mcs_table.specs.Joins.{union_of, united_rows, FitTogether}
 use Rattle.mcs_table.specs.Elimination.{AreJointMarks}
+use Rattle.mcs_table.proofs.CoverLemmas.{listing_covers}
 use Rattle.mcs_table.proofs.ExistLemmas.{join_exists}
 use Rattle.mcs_table.proofs.JointLemmas.{join_presents, is_unit, unit_presents, unit-united}
 use Rattle.mcs_table.proofs.OrderLemmas.{RowBefore-asymmetric}
@@ -85,8 +86,22 @@ minimal_below level t u j p among few =
 abbrev IsWithin : Row → Row → Type 0
 IsWithin q p = (q.state ≡ p.state) × Within q.marks p.marks
 
+-- u has some of the rows of t, and for each of these with few marks one of its state with marks within its marks
+pub record IsThinned (level : ℕ) (t u : TableData) : Type 0 where
+  pub among : (p : Row) → IsAmong p u.rows → IsAmong p t.rows
+  pub below : (p : Row) → IsAmong p t.rows → size p.marks ≤ level → (q : Row) × IsAmong q u.rows × IsWithin q p
+
+join_thins : (level : ℕ) (t u : TableData) → IsMinimalTable level t u → IsThinned level t u
+join_thins level t u j = record { among = minimal_among level t u j; below = minimal_below level t u j }
+
+pub minimal_thins : (level : ℕ) (t u : TableData) → IsMinimalOf t u → IsThinned level t u
+minimal_thins level t u h = let c = listing_covers t.rows u.rows h.rows in record {
+  among = c.from;
+  below = λ p among few. let (q, there, state, within) = c.below p among in (q, there, (state, within));
+}
+
 -- parts of the one list of tables, and within them parts of the other
-parts_below : (level : ℕ) (ts us : List TableData) → AllZip (IsMinimalTable level) ts us → (ps : List Row) → AllZip (λ (p : Row) (t : TableData). IsAmong p t.rows) ps ts → AllByRecursion (λ (p : Row). size p.marks ≤ level) ps
+parts_below : (level : ℕ) (ts us : List TableData) → AllZip (IsThinned level) ts us → (ps : List Row) → AllZip (λ (p : Row) (t : TableData). IsAmong p t.rows) ps ts → AllByRecursion (λ (p : Row). size p.marks ≤ level) ps
     → (qs : List Row) × AllZip (λ (q : Row) (u : TableData). IsAmong q u.rows) qs us × (AllZip IsWithin qs ps × AllZip (λ p q. IsWithin q p) ps qs)
 parts_below level [] [] all [] zip few = ([], tt, (tt, tt))
 parts_below level [] [] all (p ∷ ps) zip few = absurd zip
@@ -94,16 +109,16 @@ parts_below level [] (u ∷ us) all ps zip few = absurd all
 parts_below level (t ∷ ts) [] all ps zip few = absurd all
 parts_below level (t ∷ ts) (u ∷ us) all [] zip few = absurd zip
 parts_below level (t ∷ ts) (u ∷ us) all (p ∷ ps) zip few =
-    let (q, there, within) = minimal_below level t u all.0 p zip.0 few.0 in
+    let (q, there, within) = all.0.below p zip.0 few.0 in
     let (qs, zips, both) = parts_below level ts us all.1 ps zip.1 few.1 in
     (q ∷ qs, (there, zips), ((within, both.0), (within, both.1)))
 
-parts_among : (level : ℕ) (ts us : List TableData) → AllZip (IsMinimalTable level) ts us → (ps : List Row) → AllZip (λ (p : Row) (u : TableData). IsAmong p u.rows) ps us → AllZip (λ (p : Row) (t : TableData). IsAmong p t.rows) ps ts
+parts_among : (level : ℕ) (ts us : List TableData) → AllZip (IsThinned level) ts us → (ps : List Row) → AllZip (λ (p : Row) (u : TableData). IsAmong p u.rows) ps us → AllZip (λ (p : Row) (t : TableData). IsAmong p t.rows) ps ts
 parts_among level [] [] all ps zip = zip
 parts_among level [] (u ∷ us) all ps zip = absurd all
 parts_among level (t ∷ ts) [] all ps zip = absurd all
 parts_among level (t ∷ ts) (u ∷ us) all [] zip = absurd zip
-parts_among level (t ∷ ts) (u ∷ us) all (p ∷ ps) zip = (minimal_among level t u all.0 p zip.0, parts_among level ts us all.1 ps zip.1)
+parts_among level (t ∷ ts) (u ∷ us) all (p ∷ ps) zip = (all.0.among p zip.0, parts_among level ts us all.1 ps zip.1)
 
 -- rows of the same states fit together where the others do, and have no more marks together
 within_fit : (qs ps : List Row) → AllZip IsWithin qs ps → FitTogether ps → FitTogether qs
@@ -118,8 +133,8 @@ within_marks qs ps zip k h =
     let (p, in_p, same) = zip_among IsWithin qs ps zip q in_q in
     some_in (λ (r : Row). r.marks) ps k p in_p (same.1 k there)
 
-pub minimal_tables_cover : (level : ℕ) (ts us : List TableData) → AllZip (IsMinimalTable level) ts us → MarksCover level ts us
-minimal_tables_cover level ts us all = record {
+pub thinned_cover : (level : ℕ) (ts us : List TableData) → AllZip (IsThinned level) ts us → MarksCover level ts us
+thinned_cover level ts us all = record {
   from = λ s (r, j, e). (r, record { parts = j.parts; of_tables = parts_among level ts us all j.parts j.of_tables; fit = j.fit; is = j.is; few = j.few }, e);
   below = λ s (r, j, e).
       let marks : r.marks ≡ union_of (λ (w : Row). w.marks) j.parts = ap (λ (w : Row). w.marks) j.is in
@@ -133,6 +148,12 @@ minimal_tables_cover level ts us all = record {
         λ k h. subst (λ n. has n k ≡ true) (sym e) (within k h),
       );
 }
+
+pub minimal_tables_cover : (level : ℕ) (ts us : List TableData) → AllZip (IsMinimalTable level) ts us → MarksCover level ts us
+minimal_tables_cover level ts us all = thinned_cover level ts us (zip_weaker (IsMinimalTable level) (IsThinned level) (λ t u j. join_thins level t u j) ts us all)
+
+pub minimal_ones_cover : (level : ℕ) (ts us : List TableData) → AllZip IsMinimalOf ts us → MarksCover level ts us
+minimal_ones_cover level ts us all = thinned_cover level ts us (zip_weaker IsMinimalOf (IsThinned level) (λ t u h. minimal_thins level t u h) ts us all)
 
 -- ---- no mark in common
 module _ (xs : List TableData) (a b : ℕ) (less_a : a < length xs) (less_b : b < length xs) where
@@ -194,6 +215,9 @@ apart_fewer ts us zip apart = record { at = fewer }
 
 pub apart_minimal : (level : ℕ) (ts us : List TableData) → AllZip (IsMinimalTable level) ts us → EachApart ts → EachApart us
 apart_minimal level ts us all = apart_fewer ts us (zip_weaker (IsMinimalTable level) (λ (t u : TableData). (p : Row) → IsAmong p u.rows → IsAmong p t.rows) (λ t u j. minimal_among level t u j) ts us all)
+
+pub apart_ones : (ts us : List TableData) → AllZip IsMinimalOf ts us → EachApart ts → EachApart us
+apart_ones ts us all = apart_fewer ts us (zip_weaker IsMinimalOf (λ (t u : TableData). (p : Row) → IsAmong p u.rows → IsAmong p t.rows) (λ t u h. (minimal_thins 0 t u h).among) ts us all)
 
 pub minimal_are_tables : (level : ℕ) (ts us : List TableData) → AllZip (IsMinimalTable level) ts us → AllByRecursion IsTable ts → AllByRecursion IsTable us
 minimal_are_tables level [] [] all is = tt

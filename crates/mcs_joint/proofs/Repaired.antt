@@ -17,9 +17,10 @@ use Rattle.mcs_table.specs.declared.row.Row.{Row}
 use Rattle.mcs_table.specs.Tables.{TableData, IsTable, unit_table}
 use Rattle.mcs_table.specs.Elimination.{EliminatesTo, AreJointMarks}
 use Rattle.mcs_table.proofs.EliminationLemmas.{elimination_gives_marks}
-use Rattle.mcs_rows.specs.Local.{IsRowOf, AreLocalTables}
+use Rattle.mcs_rows.specs.Local.{IsRowOf, AreLocalTables, AreMinimalTables}
+use Rattle.mcs_rows.proofs.LocalLemmas.{local_are_tables}
 use Rattle.mcs_joint.specs.Apart.{EachApart}
-use Rattle.mcs_joint.proofs.Covering.{IsMinimalTable, MarksCover, cover_minimal, covers-trans, minimal_tables_cover, minimal_are_tables}
+use Rattle.mcs_joint.proofs.Covering.{IsMinimalTable, MarksCover, apart_ones, cover_minimal, covers-trans, minimal_ones_cover, minimal_tables_cover, minimal_are_tables}
 use Rattle.mcs_joint.specs.Reduced.{IsReduced}
 use Rattle.mcs_joint.proofs.Repairing.{minimal_marks}
 use Rattle.mcs_joint.proofs.Reducing.{reduced_covers}
@@ -37,25 +38,28 @@ own_apart m k tables own = record {
       rows_apart m k i j x y (own i _ x (slice_get-get_or tables i unit_table less_i) in_x) (own j _ y (slice_get-get_or tables j unit_table less_j) in_y) differ;
 }
 
-pub local_apart : (m : System) (k : ℕ) (tables : List TableData) → AreLocalTables m k tables → EachApart tables
+local_apart : (m : System) (k : ℕ) (tables : List TableData) → AreLocalTables m k tables → EachApart tables
 local_apart m k tables local = own_apart m k tables (λ i t p is among. ((local.local i t is).rows.exactly p).0 among)
+
+pub minimal_apart : (m : System) (k : ℕ) (tables : List TableData) → AreMinimalTables m k tables → EachApart tables
+minimal_apart m k tables given = apart_ones given.all tables given.minimal (local_apart m k given.all given.local)
 
 -- no minimal diagnosis has more marks than there are rules
 few_are_few : (m : System) (level most : ℕ) → most ≡ min level (length m.bridges) → (p : ℕ) → (IsMinimal (IsDiagnosis m) p × (size p ≤ most)) ↔ (IsMinimal (IsDiagnosis m) p × (size p ≤ level))
 few_are_few m level most e p = (λ h. (h.0, let few = h.1 in omega arith), λ h. (h.0, let few = h.1 in let small = minimal_is_small m p h.0 in omega arith))
 
 module _ (m : System) (valid : IsValid m) (k level most : ℕ) (is_most : most ≡ min level (length m.bridges)) (high : level ≤ k) (tables few ordered : List TableData)
-    (all : AllByRecursion IsTable tables) (local : AreLocalTables m k tables) (minimal : AllZip (IsMinimalTable most) tables few) (reduced : IsReduced most few ordered) where
+    (are : AllByRecursion IsTable tables) (given : AreMinimalTables m k tables) (minimal : AllZip (IsMinimalTable most) tables few) (reduced : IsReduced most few ordered) where
   ordered_tables : AllByRecursion IsTable ordered
-  ordered_tables = reduced.tables (minimal_are_tables most tables few minimal all)
+  ordered_tables = reduced.tables (minimal_are_tables most tables few minimal are)
 
-  covers : MarksCover most tables ordered
-  covers = covers-trans most tables few ordered (minimal_tables_cover most tables few minimal) (reduced_covers most few ordered reduced)
+  covers : MarksCover most given.all ordered
+  covers = covers-trans most given.all tables ordered (minimal_ones_cover most given.all tables given.minimal) (covers-trans most tables few ordered (minimal_tables_cover most tables few minimal) (reduced_covers most few ordered reduced))
 
   same : (p : ℕ) → IsMinimal (AreJointMarks most ordered) p ↔ (IsMinimal (IsDiagnosis m) p × (size p ≤ level))
   same p =
-      let one = cover_minimal most tables ordered covers p in
-      let other = minimal_marks m valid k tables all local most (omega arith) p in
+      let one = cover_minimal most given.all ordered covers p in
+      let other = minimal_marks m valid k given.all (local_are_tables m valid k given.all given.local) given.local most (omega arith) p in
       let last = few_are_few m level most is_most p in
       (λ h. last.0 (other.0 (one.0 h)), λ h. one.1 (other.1 (last.1 h)))
 

@@ -10,7 +10,7 @@ ghost use Rattle.mcs_system.specs.Repairs.{IsDiagnosis};
 ghost use Rattle.mcs_table.specs.declared.row.Row as declared;
 ghost use Rattle.mcs_table.specs.Elimination.{still_kept, EliminatesTo};
 ghost use Rattle.mcs_table.specs.Tables.{TableData, IsTable, AreApart, IsJoin, IsForgetting, unit_table};
-ghost use Rattle.mcs_rows.specs.Local.{AreLocalTables};
+ghost use Rattle.mcs_rows.specs.Local.{AreMinimalTables};
 ghost use Rattle.mcs_joint.specs.Apart.{EachApart};
 
 use crate::order::scopes;
@@ -21,15 +21,15 @@ use mcs_table::{Row, Table, forget, join};
 use std::alloc::Global;
 
 /// The minimal diagnoses of the plan's system that have at most so many marks, in the order of pairs. The
-/// tables are those of all contexts, in order, each with the local rows of its context at one level, which
-/// is this one or a higher one.
+/// tables are those of all contexts, in order, each with the minimal ones of the local rows of its context at
+/// one level, which is this one or a higher one.
 pub fn repairs_in(
     alloc: Global,
     plan: &Plan,
     tables: &[Table],
     level: u32,
 ) -> Result<Vec<Marks>, Memory>
-    requires { (k : ℕ) × (level ≤ k) × AreLocalTables plan.now k tables.now }
+    requires { (k : ℕ) × (level ≤ k) × AreMinimalTables plan.now k tables.now }
     ensures { IfOk result (λ pairs. IsListing (λ p. IsMinimal (IsDiagnosis plan.now) p × (size p ≤ level)) PairBefore pairs.items) }
 {
     let most = level.min(plan.system().bridges().len() as u32);

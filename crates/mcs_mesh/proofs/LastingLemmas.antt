@@ -20,7 +20,7 @@ use Rattle.mcs_system.specs.Levels.{IsQuestionAt, MaySupply}
 use Rattle.mcs_system.specs.Rows.{IsRow}
 use Rattle.mcs_import.proofs.OrderLemmas.{before_each, order_in_range}
 use Rattle.mcs_import.proofs.QuestionLemmas.{applying, size-marks_at, marks_at_within}
-use Rattle.mcs_rows.specs.Local.{IsRowOf, AreLocalTables}
+use Rattle.mcs_rows.specs.Local.{IsRowOf, AreLocalTables, AreMinimalTables}
 use Rattle.mcs_states.specs.Oracles.{OracleState}
 use Rattle.mcs_table.specs.declared.row.Row.{Row}
 use Rattle.mcs_table.specs.RowOrder.{RowBefore}
@@ -128,7 +128,7 @@ module _ (m : System) (low high : ℕ) (few : HasFewRules m low) (less : low ≤
     λ h. record { mask = h.mask; local = (h.local.0, h.local.1, row_lower h.local.0 i r.state.values r.marks h.local.1 in_range h.local.2) },
   )
 
-  pub same_tables : (tables : List TableData) → AreLocalTables m low tables → AreLocalTables m high tables
+  same_tables : (tables : List TableData) → AreLocalTables m low tables → AreLocalTables m high tables
   same_tables tables local = record {
     one_each = local.one_each;
     local = λ i t is. let one = local.local i t is in let within = slice_get_within tables i t is in record {
@@ -150,8 +150,12 @@ module _ (m : System) (low high : ℕ) (few : HasFewRules m low) (less : low ≤
   }
 
 -- the tables are those of a level that is as high as one up to which the rows stay the same
-pub tables_ahead : (m : System) (level ahead k : ℕ) (tables : List TableData) → level ≤ ahead → (level < ahead → HasFewRules m level) → level ≤ k → AreLocalTables m k tables → (j : ℕ) × (ahead ≤ j) × AreLocalTables m j tables
-tables_ahead m level ahead k tables no_less above high local = elim (cases_lt k ahead) [
-  | inl less ↦ (ahead, omega arith, same_tables m k ahead (λ i in_range. let h = above (omega (arith, less, high)) i in_range in omega (arith, h, high)) (omega (arith, less)) tables local)
-  | inr reached ↦ (k, reached, local)
+pub tables_ahead : (m : System) (level ahead k : ℕ) (tables : List TableData) → level ≤ ahead → (level < ahead → HasFewRules m level) → level ≤ k → AreMinimalTables m k tables → (j : ℕ) × (ahead ≤ j) × AreMinimalTables m j tables
+tables_ahead m level ahead k tables no_less above high given = elim (cases_lt k ahead) [
+  | inl less ↦ (ahead, omega arith, record {
+    all = given.all;
+    local = same_tables m k ahead (λ i in_range. let h = above (omega (arith, less, high)) i in_range in omega (arith, h, high)) (omega (arith, less)) given.all given.local;
+    minimal = given.minimal;
+  })
+  | inr reached ↦ (k, reached, given)
 ]

@@ -9,16 +9,15 @@ use Rattle.mcs_base.proofs.Each.{all_get}
 use Rattle.mcs_system.specs.Plain.{System}
 use Rattle.mcs_system.specs.Levels.{IsQuestionAt, HasQuestions, IsCount}
 use Rattle.mcs_import.proofs.CountLemmas.{counts_agree, questions_grow}
-use Rattle.mcs_rows.specs.Local.{Answered, AreLocalTables}
-use Rattle.mcs_table.specs.Tables.{TableData}
+use Rattle.mcs_rows.specs.Local.{Answered}
 use Rattle.mcs_states.specs.Oracles.{OracleState, IsLacking, with_journal}
 use Rattle.mcs_states.specs.Evaluators.{EvaluatorState, HasDone, HasHalted, HasHaltCause, IsSettled, IsUnanswered, unasked, raised, asked_of}
 use Rattle.mcs_states.specs.declared.halt.Halt.{Halt}
 use Rattle.mcs_states.specs.declared.halt.Halt.TheVariants.{Spent, Missing, Memory}
-use Rattle.mcs_mesh.specs.Rounds.{Knowledge, AreFresh, HasAsked, HasAnswers, HasRoundCause, IsBegun, HasFewRules, IsKnown, IsMesh, IsReady, IsRoundDone, answer_count, questions_in, state_of}
+use Rattle.mcs_mesh.specs.Rounds.{Knowledge, AreFresh, AreKnown, HasAsked, HasAnswers, HasRoundCause, IsBegun, HasFewRules, IsKnown, IsMesh, IsReady, IsRoundDone, answer_count, questions_in, state_of}
 use Rattle.mcs_mesh.proofs.General.{question_higher}
 use Rattle.mcs_mesh.proofs.RoundLemmas.{same_sums}
-use Rattle.mcs_mesh.proofs.LastingLemmas.{same_round, same_tables}
+use Rattle.mcs_mesh.proofs.LastingLemmas.{same_round}
 use Rattle.mcs_base.proofs.Booleans.{none_from_not_some}
 use Rattle.std.proofs.lemmas.Option.{slice_get_within}
 use Rattle.mcs_base.proofs.Sorted.{inventory_fits}
@@ -26,8 +25,8 @@ use Rattle.mcs_states.proofs.Causes.{same_oracle}
 
 -- ---- what a round leaves
 module _ (m : System) (level : ℕ) (os : List OracleState) (ks : List Knowledge) (r : IsRoundDone m level os ks) where
-  known_at : (i : ℕ) (o : OracleState) → slice_get os i ≡ Some o → (k : Knowledge) × (slice_get ks i ≡ Some k) × HasAsked m i o k.answers × IsKnown m level i k
-  known_at i o at =
+  context_at : (i : ℕ) (o : OracleState) → slice_get os i ≡ Some o → (k : Knowledge) × (slice_get ks i ≡ Some k) × HasAsked m i o k.answers × IsKnown m level i k
+  context_at i o at =
       let less : i < length ks = let b = slice_get_within os i o at in let e = r.oracles_each in let e' = r.known_each in omega (arith, b, e, e') in
       let (k, at') = slice_get_below ks i less in (k, at', r.asked i o k at at', r.all i k at')
 
@@ -47,8 +46,8 @@ module _ (m : System) (level : ℕ) (os : List OracleState) (ks : List Knowledge
     going = refl;
     no_halt = refl;
     one_each = r.oracles_each;
-    own = λ i o at. let (k, at', has, one) = known_at i o at in (has.system, has.context);
-    asked = λ i o at. let (k, at', has, one) = known_at i o at in record {
+    own = λ i o at. let (k, at', has, one) = context_at i o at in (has.system, has.context);
+    asked = λ i o at. let (k, at', has, one) = context_at i o at in record {
       exactly = λ x. (
         λ h. (one.answered.questions.exactly x).0 ((has.journal.exactly x).0 h),
         λ q. (has.journal.exactly x).1 ((one.answered.questions.exactly x).1 q),
@@ -78,7 +77,7 @@ module _ (m : System) (level : ℕ) (os : List OracleState) (ks : List Knowledge
     none_unanswered : (i x : ℕ) → ¬ IsUnanswered (state_of m budget reached halt first) lower i x
     none_unanswered i x u =
         let (o, at, holds) = same_oracle first os (sym same) i u.oracle u.is_its in
-        let (k, at', has, one) = known_at i o at in
+        let (k, at', has, one) = context_at i o at in
         has.held x ((one.answered.questions.exactly x).1 (question_higher m lower level i x less u.question)) (subst (λ (h : Option (List ℕ)). IsLacking h x) holds u.lacks)
 
     pub has_done : Some level ≡ raised reached lower → HasDone (state_of m budget reached halt first) (state_of m budget (Some level) None os) lower
@@ -104,9 +103,9 @@ none_answered : (ks : List Knowledge) → AllByRecursion (λ (k : Knowledge). k.
 none_answered [] all = refl
 none_answered (k ∷ ks) all = let e = ap length all.0 in let rest = none_answered ks all.1 in omega (arith, e, rest, sum_by-cons (λ (z : Knowledge). length z.answers) k ks)
 
-pub fresh : (m : System) (budget : ℕ) (os : List OracleState) (ks : List Knowledge) (tables : List TableData) → length os ≡ length m.contexts → length ks ≡ length m.contexts → AreFresh m os → AllByRecursion (λ (k : Knowledge). k.answers ≡ []) ks
-    → IsMesh (state_of m budget None None os) ks tables 0
-fresh m budget os ks tables each each' own none = record { one_each = each; ready = λ _. ((λ level. begun level), refl, none_answered ks none) }
+pub fresh : (m : System) (budget : ℕ) (os : List OracleState) (ks : List Knowledge) → length os ≡ length m.contexts → length ks ≡ length m.contexts → AreFresh m os → AllByRecursion (λ (k : Knowledge). k.answers ≡ []) ks
+    → IsMesh (state_of m budget None None os) ks 0
+fresh m budget os ks each each' own none = record { one_each = each; ready = λ _. ((λ level. begun level), refl, none_answered ks none) }
   where
     begun : (level : ℕ) → IsBegun m level os ks
     begun level = record {
@@ -126,52 +125,54 @@ raised_to None level low = refl
 raised_to (Some d) level low = let l = low d refl in let e : level ≡ max d level = omega (arith, l) in ap (λ n. Some n) e
 
 -- ---- a mesh, seen as `now`
-module _ (m : System) (budget : ℕ) (reached : Option ℕ) (halt : Option Halt) (os : List OracleState) (ks : List Knowledge) (tables : List TableData) (asked : ℕ)
-    (l : IsMesh (state_of m budget reached halt os) ks tables asked) (now : EvaluatorState) (view : state_of m budget reached halt os ≡ now) where
+module _ (m : System) (budget : ℕ) (reached : Option ℕ) (halt : Option Halt) (os : List OracleState) (ks : List Knowledge) (asked : ℕ)
+    (l : IsMesh (state_of m budget reached halt os) ks asked) (now : EvaluatorState) (view : state_of m budget reached halt os ≡ now) where
   no_halt : now.halted ≡ false → halt ≡ None
   no_halt going = none_from_not_some halt (ap (λ e. e.halted) view ∙ going)
 
-  ready_at : (d : ℕ) → halt ≡ None → reached ≡ Some d → IsRoundDone m d os ks × (asked ≡ answer_count ks) × (asked ≤ budget) × AreLocalTables m d tables
-  ready_at d none is = subst (λ r. IsReady (state_of m budget reached halt os) r ks tables asked) is (l.ready none)
+  ready_at : (d : ℕ) → halt ≡ None → reached ≡ Some d → IsRoundDone m d os ks × (asked ≡ answer_count ks) × (asked ≤ budget)
+  ready_at d none is = subst (λ r. IsReady (state_of m budget reached halt os) r ks asked) is (l.ready none)
 
   pub begun_at : (level : ℕ) → now.halted ≡ false → ((d : ℕ) → reached ≡ Some d → d ≤ level) → IsBegun m level os ks
   begun_at level going low = from reached refl (l.ready (no_halt going))
     where
-      from : (r : Option ℕ) → reached ≡ r → IsReady (state_of m budget reached halt os) r ks tables asked → IsBegun m level os ks
+      from : (r : Option ℕ) → reached ≡ r → IsReady (state_of m budget reached halt os) r ks asked → IsBegun m level os ks
       from None is h = h.0 level
       from (Some d) is h = begun_higher m d os ks h.0 level (low d is)
 
   pub again_done : (d level : ℕ) → now.halted ≡ false → reached ≡ Some d → level ≤ d → HasDone now (state_of m budget reached halt os) level
   again_done d level going is less =
-      let none = no_halt going in let (r, count, within, local) = ready_at d none is in
+      let none = no_halt going in let (r, count, within) = ready_at d none is in
       let few : answer_count ks ≤ budget = omega (arith, count, within) in
       let top : Some d ≡ raised (Some d) level = let e : d ≡ max d level = omega (arith, less) in ap (λ n. Some n) e in
       subst (λ x. HasDone x (state_of m budget reached halt os) level) view
       (rw (is, none) (has_done m d os ks r budget few (Some d) None os refl level less top))
 
   -- a level of which nothing is new is done with the one before
-  pub lasting_round : (d level : ℕ) → now.halted ≡ false → reached ≡ Some d → HasFewRules m d → d ≤ level → IsRoundDone m level os ks × (asked ≡ answer_count ks) × (asked ≤ budget) × AreLocalTables m level tables
+  pub lasting_round : (d level : ℕ) → now.halted ≡ false → reached ≡ Some d → HasFewRules m d → d ≤ level → IsRoundDone m level os ks × (asked ≡ answer_count ks) × (asked ≤ budget)
   lasting_round d level going is lasting less =
-      let (r, count, within, local) = ready_at d (no_halt going) is in
-      (same_round m d level lasting less os ks r, count, within, same_tables m d level lasting less tables local)
+      let (r, count, within) = ready_at d (no_halt going) is in
+      (same_round m d level lasting less os ks r, count, within)
 
-  pub tables_at : (before : EvaluatorState) (level : ℕ) → HasDone before now level → (k : ℕ) × (level ≤ k) × AreLocalTables m k tables
-  tables_at before level h =
+  -- what is known at the level done
+  pub known_at : (before : EvaluatorState) (level : ℕ) → HasDone before now level → (k : ℕ) × (reached ≡ Some k) × (level ≤ k) × (length ks ≡ length m.contexts) × AreKnown m k ks
+  known_at before level h =
       let (k, is, less) = raised_reaches before.done level in
-      let (r, count, within, local) = ready_at k (ap (λ e. e.halt) view ∙ h.settled.no_halt) (ap (λ e. e.done) view ∙ h.level_done ∙ is) in
-      (k, less, local)
+      let done = ap (λ e. e.done) view ∙ h.level_done ∙ is in
+      let (r, count, within) = ready_at k (ap (λ e. e.halt) view ∙ h.settled.no_halt) done in
+      (k, done, less, r.known_each, r.all)
 
   pub asked_is : now.halted ≡ false → asked ≡ asked_of now
   asked_is going = from reached (l.ready (no_halt going)) ∙ ap asked_of view
     where
-      from : (r : Option ℕ) → IsReady (state_of m budget reached halt os) r ks tables asked → asked ≡ sum_by (λ (o : OracleState). length o.journal) os
+      from : (r : Option ℕ) → IsReady (state_of m budget reached halt os) r ks asked → asked ≡ sum_by (λ (o : OracleState). length o.journal) os
       from None h = let begun = begun_counted m 0 os ks (h.0 0) in omega (arith, begun, h.1, h.2)
       from (Some d) h = let begun = begun_counted m d os ks (begun_higher m d os ks h.0 d (omega arith)) in omega (arith, begun, h.1)
 
   -- a round was done
   module _ (level : ℕ) (going : now.halted ≡ false) (low : (d : ℕ) → reached ≡ Some d → d ≤ level) (after : List OracleState) (ks' : List Knowledge) (r : IsRoundDone m level after ks') (few : answer_count ks' ≤ budget) where
-    pub round_kept : (tables' : List TableData) (n : ℕ) → n ≡ answer_count ks' → AreLocalTables m level tables' → IsMesh (state_of m budget (Some level) halt after) ks' tables' n
-    round_kept tables' n count local = record { one_each = r.oracles_each; ready = λ _. (r, count, omega (arith, count, few), local) }
+    pub round_kept : (n : ℕ) → n ≡ answer_count ks' → IsMesh (state_of m budget (Some level) halt after) ks' n
+    round_kept n count = record { one_each = r.oracles_each; ready = λ _. (r, count, omega (arith, count, few)) }
 
     pub round_done_now : unasked after ≡ unasked os → HasDone now (state_of m budget (Some level) halt after) level
     round_done_now same = subst (λ x. HasDone x (state_of m budget (Some level) halt after) level) view
@@ -179,18 +180,18 @@ module _ (m : System) (budget : ℕ) (reached : Option ℕ) (halt : Option Halt)
 
   -- its level has no questions and rows that the one before has not
   module _ (level : ℕ) (going : now.halted ≡ false) (low : (d : ℕ) → reached ≡ Some d → d ≤ level) (m' : System) (same_m : m' ≡ m) (last : (d : ℕ) × (reached ≡ Some d) × HasFewRules m' d) where
-    lasting_now : IsRoundDone m level os ks × (asked ≡ answer_count ks) × (asked ≤ budget) × AreLocalTables m level tables
+    lasting_now : IsRoundDone m level os ks × (asked ≡ answer_count ks) × (asked ≤ budget)
     lasting_now = let (d, is, few) = last in lasting_round d level going is (subst (λ z. HasFewRules z d) same_m few) (low d is)
 
-    pub lasting_kept : IsMesh (state_of m budget (Some level) halt os) ks tables asked
+    pub lasting_kept : IsMesh (state_of m budget (Some level) halt os) ks asked
     lasting_kept = record { one_each = l.one_each; ready = λ _. lasting_now }
 
     pub lasting_done : HasDone now (state_of m budget (Some level) halt os) level
-    lasting_done = let (r, count, within, local) = lasting_now in round_done_now level going low os ks r (omega (arith, count, within)) refl
+    lasting_done = let (r, count, within) = lasting_now in round_done_now level going low os ks r (omega (arith, count, within)) refl
 
   -- it stopped
-  pub stop_kept : (reached' : Option ℕ) (h : Halt) (after : List OracleState) (ks' : List Knowledge) (tables' : List TableData) (n : ℕ) → unasked after ≡ unasked os → IsMesh (state_of m budget reached' (Some h) after) ks' tables' n
-  stop_kept reached' h after ks' tables' n same = record {
+  pub stop_kept : (reached' : Option ℕ) (h : Halt) (after : List OracleState) (ks' : List Knowledge) (n : ℕ) → unasked after ≡ unasked os → IsMesh (state_of m budget reached' (Some h) after) ks' n
+  stop_kept reached' h after ks' n same = record {
     one_each = sym (length-map after (with_journal [])) ∙ ap length same ∙ length-map os (with_journal []) ∙ l.one_each;
     ready = λ none. absurd (cc);
   }

@@ -10,7 +10,7 @@ use Rattle.mcs_system.specs.Systems.{IsAcceptedPart}
 use Rattle.mcs_system.specs.Imports.{rules_into}
 use Rattle.mcs_system.specs.Repairs.{allowed_marks}
 use Rattle.mcs_system.specs.Levels.{IsQuestionAt, MaySupply, HasQuestions}
-use Rattle.mcs_rows.specs.Local.{Answered, AreAnswered, AreLocalTables}
+use Rattle.mcs_rows.specs.Local.{Answered, AreAnswered}
 use Rattle.mcs_rows.specs.Answers.{answered_of}
 use Rattle.mcs_states.specs.Oracles.{OracleState, Lacks, after_asking}
 use Rattle.mcs_states.specs.Evaluators.{HasOracles, EvaluatorState}
@@ -18,7 +18,6 @@ use Rattle.mcs_states.specs.declared.halt.Halt.{Halt}
 use Rattle.mcs_states.specs.declared.halt.Halt.TheVariants.{Spent, Missing, Memory}
 use Rattle.mcs_states.specs.declared.stop.OracleStop.{OracleStop}
 use Rattle.mcs_states.specs.declared.stop.OracleStop.TheVariants as stops
-use Rattle.mcs_table.specs.Tables.{TableData}
 use Rattle.mcs_mesh.specs.declared.known.Known as code
 
 -- what is known of a context: its answers, and what it may supply
@@ -127,16 +126,15 @@ HasFewRules m level = (i : ℕ) → i < length m.contexts → size (common (rule
 abbrev pub state_of : System → ℕ → Option ℕ → Option Halt → List OracleState → EvaluatorState
 state_of m budget done halt oracles = record { system = m; budget = budget; done = done; halt = halt; halted = is_some halt; oracles = oracles }
 
--- before the first round nothing was asked; after one its questions were, and the tables have the local rows
-abbrev pub IsReady : EvaluatorState → Option ℕ → List Knowledge → List TableData → ℕ → Type 0
-IsReady e None known tables asked = ((level : ℕ) → IsBegun e.system level e.oracles known) × (asked ≡ 0) × (answer_count known ≡ 0)
-IsReady e (Some level) known tables asked =
-    IsRoundDone e.system level e.oracles known × (asked ≡ answer_count known) × (asked ≤ e.budget) × AreLocalTables e.system level tables
+-- before the first round nothing was asked; after one its questions were
+abbrev pub IsReady : EvaluatorState → Option ℕ → List Knowledge → ℕ → Type 0
+IsReady e None known asked = ((level : ℕ) → IsBegun e.system level e.oracles known) × (asked ≡ 0) × (answer_count known ≡ 0)
+IsReady e (Some level) known asked = IsRoundDone e.system level e.oracles known × (asked ≡ answer_count known) × (asked ≤ e.budget)
 
 -- nothing is kept once it halted, but that there is an oracle for each context
-pub record IsMesh (e : EvaluatorState) (known : List Knowledge) (tables : List TableData) (asked : ℕ) : Type 0 where
+pub record IsMesh (e : EvaluatorState) (known : List Knowledge) (asked : ℕ) : Type 0 where
   pub one_each : HasOracles e
-  pub ready : e.halt ≡ None → IsReady e e.done known tables asked
+  pub ready : e.halt ≡ None → IsReady e e.done known asked
 
 -- the halt for an oracle that stopped
 abbrev pub halt_from_stop : ℕ → OracleStop → Halt

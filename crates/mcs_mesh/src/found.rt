@@ -1,18 +1,19 @@
 //! The minimal diagnoses that were found.
 
-ghost use Rattle.std.specs.Prelude.{◌≡◌, ◌≤◌, ℕ, true, false, Some, IfOk, OnOk};
+ghost use Rattle.std.specs.Prelude.{◌≡◌, ◌≤◌, ℕ, true, false, Some, IfOk, OnOk, map, length};
 ghost use Rattle.mcs_base.specs.Listings.{IsAmong, IsAscending, IsListing};
 ghost use Rattle.mcs_sets.specs.Orders.{PairBefore};
 ghost use Rattle.mcs_sets.specs.Sets.{size};
-ghost use Rattle.mcs_rows.specs.Local.{AreLocalTables};
 ghost use Rattle.mcs_states.specs.Evaluators.{AreRepairs};
 ghost use Rattle.mcs_mesh.specs.Found.{AreFound};
+ghost use Rattle.mcs_mesh.specs.Rounds.{knowledge_of, AreKnown};
 
+use crate::known::Known;
 use crate::lasting::level_ahead;
+use crate::tables::minimal_tables;
 use mcs_base::{Marks, Memory};
 use mcs_import::Plan;
 use mcs_joint::repairs_in;
-use mcs_table::Table;
 use std::alloc::Global;
 
 /// The minimal diagnoses with at most so many marks, in the order of pairs; none where no level is told.
@@ -35,21 +36,24 @@ pub(crate) fn is_reached(done: Option<u32>, level: u32) -> bool
 
 impl Found {
     /// The minimal diagnoses with at most so many marks, in the order of pairs: those that were found before, where
-    /// these are all. The tables are those of all contexts at the level, or at a higher one.
+    /// these are all. All questions of the level `done`, which is no less, were asked.
     pub(crate) fn repairs(
         &mut self,
         alloc: Global,
         plan: &Plan,
-        tables: &[Table],
+        known: &[Known],
+        done: u32,
         level: u32,
     ) -> Result<Vec<Marks>, Memory>
         requires before { AreFound plan.now self.old.level self.old.pairs.items }
-        requires tables { (k : ℕ) × (level ≤ k) × AreLocalTables plan.now k tables.now }
+        requires one_each { length known.now ≡ length plan.now.contexts }
+        requires known { AreKnown plan.now done (map knowledge_of known.now) }
+        requires within { level ≤ done }
         ensures listing { IfOk result (λ pairs. AreRepairs plan.now level pairs.items) }
         ensures kept { AreFound plan.now self.new.level self.new.pairs.items }
     {
         if !is_reached(self.level, level) {
-            self.find(alloc, plan, tables, level)?;
+            self.find(alloc, plan, known, done, level)?;
         }
         let few = few_of(alloc, &self.pairs, level)?;
         Ok(few)
@@ -60,16 +64,20 @@ impl Found {
         &mut self,
         alloc: Global,
         plan: &Plan,
-        tables: &[Table],
+        known: &[Known],
+        done: u32,
         level: u32,
     ) -> Result<(), Memory>
         requires before { AreFound plan.now self.old.level self.old.pairs.items }
-        requires tables { (k : ℕ) × (level ≤ k) × AreLocalTables plan.now k tables.now }
+        requires one_each { length known.now ≡ length plan.now.contexts }
+        requires known { AreKnown plan.now done (map knowledge_of known.now) }
+        requires within { level ≤ done }
         ensures found { OnOk result ((d : ℕ) × (self.new.level ≡ Some d) × (level ≤ d)) }
         ensures kept { AreFound plan.now self.new.level self.new.pairs.items }
     {
         let ahead = level_ahead(plan.system(), level);
-        let pairs = repairs_in(alloc, plan, tables, ahead)?;
+        let tables = minimal_tables(alloc, plan, done, known)?;
+        let pairs = repairs_in(alloc, plan, &tables, ahead)?;
         self.pairs = pairs;
         self.level = Some(ahead);
         Ok(())

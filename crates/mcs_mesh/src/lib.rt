@@ -7,5 +7,6 @@ mod known;
 mod lasting;
 mod mesh;
 mod rounds;
+mod tables;
 
 pub use mesh::Mesh;

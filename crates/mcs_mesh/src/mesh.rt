@@ -1,34 +1,34 @@
 //! The evaluator on one thread.
 
-ghost use Rattle.std.specs.Prelude.{◌≡◌, false, Some, None, IfOk, IfErr, OnOk, map, length};
-ghost use Rattle.mcs_states.specs.Evaluators.{KeepsRest, HasDone, HasHalted};
+ghost use Rattle.std.specs.Prelude.{◌≡◌, ◌≤◌, ℕ, false, Some, None, IfOk, IfErr, OnOk, map, length};
+ghost use Rattle.mcs_sets.specs.Sets.{size, Within};
+ghost use Rattle.mcs_system.specs.Repairs.{allowed_marks};
+ghost use Rattle.mcs_states.specs.Evaluators.{AreStates, KeepsRest, HasDone, HasHalted};
 ghost use Rattle.mcs_states.specs.declared.halt.Halt.TheVariants as halts;
 ghost use Rattle.std.specs.Arc.{arc_value};
-ghost use Rattle.mcs_mesh.specs.Rounds.{state_of, AreFresh};
+ghost use Rattle.mcs_mesh.specs.Rounds.{state_of, knowledge_of, AreFresh, AreKnown};
 
 use crate::found::{Found, is_reached};
 use crate::known::Known;
 use crate::lasting::is_all_done;
-use crate::rounds::{Round, round_of};
+use crate::rounds::ask_round;
+use crate::tables::changed_tables;
 use mcs_base::{Marks, Memory, Pair, Vars};
 use mcs_import::Plan;
 use mcs_joint::states_in;
 use mcs_ports::Gate;
 use mcs_states::{Evaluator, Halt, Oracle};
-use mcs_table::Table;
 use std::alloc::Global;
 use std::marker::Model;
-use std::mem;
 use std::sync::Arc;
 
 /// Evaluates a system on one thread: it asks each context, through its oracle and in import order, its questions of a
-/// level, makes the local rows of each, and joins these in one final step. It waits for nobody.
+/// level, and for what is asked of it makes rows of each and joins these in one final step. It waits for nobody.
 #[derive(Drop)]
 pub struct Mesh<'a, O: Oracle, G: Gate> {
     plan: Arc<Plan>,
     oracles: Vec<O>,
     known: Vec<Known>,
-    tables: Vec<Table>,
     budget: u64,
     gate: &'a G,
     done: Option<u32>,
@@ -52,7 +52,7 @@ impl<'a, O: Oracle, G: Gate> Model for Mesh<'a, O, G> {
 
     ghost view = { λ l. state_of (arc_value l.plan) l.budget l.done l.halt (map O.stands l.oracles.items) };
 
-    ghost invariant = { λ l. IsMesh (state_of (arc_value l.plan) l.budget l.done l.halt (map O.stands l.oracles.items)) (map knowledge_of l.known.items) l.tables.items l.asked × AreFound (arc_value l.plan) l.found.level l.found.pairs.items };
+    ghost invariant = { λ l. IsMesh (state_of (arc_value l.plan) l.budget l.done l.halt (map O.stands l.oracles.items)) (map knowledge_of l.known.items) l.asked × AreFound (arc_value l.plan) l.found.level l.found.pairs.items };
 }
 
 impl<'a, O: Oracle, G: Gate> Mesh<'a, O, G> {
@@ -80,7 +80,6 @@ impl<'a, O: Oracle, G: Gate> Mesh<'a, O, G> {
             plan,
             oracles,
             known,
-            tables: Vec::new(alloc),
             budget,
             gate,
             done: None,
@@ -108,7 +107,7 @@ impl<'a, O: Oracle, G: Gate> Mesh<'a, O, G> {
             self.done = Some(level);
             return Ok(());
         }
-        let round = round_of(
+        let round = ask_round(
             alloc,
             &self.plan,
             level,
@@ -118,8 +117,7 @@ impl<'a, O: Oracle, G: Gate> Mesh<'a, O, G> {
             self.gate,
         );
         match round {
-            Ok(Round { asked, tables }) => {
-                drop(mem::replace(&mut self.tables, tables));
+            Ok(asked) => {
                 self.asked = asked;
                 self.done = Some(level);
                 Ok(())
@@ -142,7 +140,8 @@ impl<'a, O: Oracle, G: Gate> Evaluator for Mesh<'a, O, G> {
 
     fn repairs(&mut self, alloc: Global, level: u32) -> Result<Vec<Marks>, Halt> {
         self.reach(alloc, level)?;
-        match self.found.repairs(alloc, &self.plan, &self.tables, level) {
+        let done = self.done.unwrap_or(level);
+        match self.found.repairs(alloc, &self.plan, &self.known, done, level) {
             Ok(pairs) => Ok(pairs),
             Err(Memory) => Err(Halt::Memory.kept_in(&mut self.halt)),
         }
@@ -150,7 +149,7 @@ impl<'a, O: Oracle, G: Gate> Evaluator for Mesh<'a, O, G> {
 
     fn states(&mut self, alloc: Global, pair: Pair) -> Result<Vec<Vars>, Halt> {
         self.reach(alloc, pair.marks().count())?;
-        match states_in(alloc, &self.plan, &self.tables, pair) {
+        match changed_states(alloc, &self.plan, &self.known, pair) {
             Ok(states) => Ok(states),
             Err(Memory) => Err(Halt::Memory.kept_in(&mut self.halt)),
         }
@@ -163,4 +162,22 @@ impl<'a, O: Oracle, G: Gate> Evaluator for Mesh<'a, O, G> {
     fn halted(&self) -> bool {
         self.halt.is_some()
     }
+}
+
+/// The equilibria of the plan's system that the pair changes, once all questions of a level were asked that is no less
+/// than the number of the pair's marks.
+fn changed_states(
+    alloc: Global,
+    plan: &Plan,
+    known: &[Known],
+    pair: Pair,
+) -> Result<Vec<Vars>, Memory>
+    requires one_each { length known.now ≡ length plan.now.contexts }
+    requires known { (k : ℕ) × (size pair ≤ k) × AreKnown plan.now k (map knowledge_of known.now) }
+    requires allowed { Within pair (allowed_marks plan.now) }
+    ensures { IfOk result (λ states. AreStates plan.now pair states.items) }
+{
+    let own = changed_tables(alloc, plan, known, pair)?;
+    let states = states_in(alloc, plan, own, pair)?;
+    Ok(states)
 }

@@ -5,54 +5,21 @@ ghost use Rattle.mcs_base.specs.Listings.{IsListing};
 ghost use Rattle.mcs_system.specs.Imports.{IsImportOrder, supplied};
 ghost use Rattle.mcs_system.specs.Levels.{IsQuestionAt};
 ghost use Rattle.mcs_import.specs.Plans.{AreSupplies};
-ghost use Rattle.mcs_rows.specs.Local.{AreLocalTables};
 ghost use Rattle.mcs_states.specs.Evaluators.{unasked};
-ghost use Rattle.mcs_mesh.specs.Rounds.{IsBegun, IsRoundDone, HasRoundCause, answer_count, knowledge_of, supplies_at, AreKnown};
+ghost use Rattle.mcs_mesh.specs.Rounds.{IsBegun, IsRoundDone, HasRoundCause, answer_count, knowledge_of, supplies_at};
 
 use crate::asking::ask_context;
 use crate::known::Known;
 use mcs_base::{Active, Memory, Vars};
 use mcs_import::{Plan, questions};
 use mcs_ports::Gate;
-use mcs_rows::local_rows;
 use mcs_states::{Halt, Oracle};
-use mcs_table::Table;
 use std::alloc::Global;
 
-/// What a round came to: how many questions the level has, and the local rows of each context.
-#[derive(Drop)]
-pub(crate) struct Round {
-    pub asked: u64,
-    pub tables: Vec<Table>,
-}
-
-/// Does the round of a level: asks each context what it was not asked before, and makes its local rows.
-pub(crate) fn round_of<O: Oracle, G: Gate>(
-    alloc: Global,
-    plan: &Plan,
-    level: u32,
-    budget: u64,
-    oracles: &mut [O],
-    known: &mut [Known],
-    gate: &G,
-) -> Result<Round, Halt>
-    requires { IsBegun plan.now level (map O.stands oracles.old) (map knowledge_of known.old) }
-    ensures count { IfOk result (λ round. round.asked ≡ answer_count (map knowledge_of known.new)) }
-    ensures done { OnOk result (IsRoundDone plan.now level (map O.stands oracles.new) (map knowledge_of known.new)) }
-    ensures within { OnOk result (answer_count (map knowledge_of known.new) ≤ budget) }
-    ensures tables { IfOk result (λ round. AreLocalTables plan.now level round.tables.items) }
-    ensures cause { IfErr result (HasRoundCause plan.now level budget (map O.stands oracles.old)) }
-    ensures rest { unasked (map O.stands oracles.new) ≡ unasked (map O.stands oracles.old) }
-    ensures one_each { length known.new ≡ length known.old }
-{
-    let asked = ask_round(alloc, plan, level, budget, oracles, known, gate)?;
-    let tables = tables_of(alloc, plan, level, known)?;
-    Ok(Round { asked, tables })
-}
-
-/// Asks each context, in import order, those of its questions of the level that were not asked before. The number of
-/// all questions is compared with the budget before the questions of each context are asked.
-fn ask_round<O: Oracle, G: Gate>(
+/// Does the round of a level: asks each context, in import order, those of its questions of the level that were not asked
+/// before. The number of all questions, which it tells, is compared with the budget before the questions of each context
+/// are asked.
+pub(crate) fn ask_round<O: Oracle, G: Gate>(
     alloc: Global,
     plan: &Plan,
     level: u32,
@@ -109,7 +76,7 @@ fn counted(drawn: u64, more: u64) -> Result<u64, Memory>
 }
 
 /// What the contexts that supply context `i` may supply, in the import order.
-fn supplies_for(
+pub(crate) fn supplies_for(
     alloc: Global,
     plan: &Plan,
     i: u32,
@@ -134,19 +101,4 @@ fn copied(alloc: Global, states: &[Vars]) -> Result<Vec<Vars>, Memory>
     let mut copy = Vec::new(alloc);
     copy.extend_from_slice(states)?;
     Ok(copy)
-}
-
-/// The local rows of each context, once all questions of the level were asked.
-fn tables_of(alloc: Global, plan: &Plan, level: u32, known: &[Known]) -> Result<Vec<Table>, Memory>
-    requires one_each { length known.now ≡ length plan.now.contexts }
-    requires known { AreKnown plan.now level (map knowledge_of known.now) }
-    ensures { IfOk result (λ tables. AreLocalTables plan.now level tables.items) }
-{
-    let mut tables = Vec::new(alloc);
-    for i in 0..plan.system().contexts().len() as u32 {
-        let told = supplies_for(alloc, plan, i, known)?;
-        let answers = &known[i as usize].answers;
-        tables.push(local_rows(alloc, plan, i, &told, answers, level)?)?;
-    }
-    Ok(tables)
 }

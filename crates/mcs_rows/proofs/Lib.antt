@@ -2,3 +2,5 @@ pub mod General
 pub mod LocalLemmas
 pub mod MarkLemmas
 pub mod MakingLemmas
+pub mod FindingLemmas
+pub mod ChangedLemmas

@@ -1,11 +1,18 @@
 -- The local rows of a context, by what the supplies and guesses make of its inputs and by what it accepts.
-use Rattle.std.proofs.Common.{◌≡◌, ℕ, ◌≤◌, List, refl, sym, ap, ◌∙◌, subst, ◌↔◌}
-use Rattle.mcs_sets.specs.Sets.{size, common, union, Within}
-use Rattle.mcs_sets.proofs.Lattice.{common-common}
+use Rattle.std.proofs.Common.{◌≡◌, ℕ, ◌<◌, ◌≤◌, ◌^◌, true, length, arith, List, refl, sym, ap, ◌∙◌, subst, ◌↔◌}
+use Rattle.std.proofs.Math.Pow.{pow_mono}
+use Rattle.std.specs.List.{AllByRecursion}
+use Rattle.mcs_sets.specs.Sets.{has, size, common, union, Within}
+use Rattle.mcs_sets.proofs.Lattice.{common-common, common_within_right}
+use Rattle.mcs_sets.proofs.SetLemmas.{such_that-lt, union-lt}
 use Rattle.mcs_base.specs.Listings.{IsAmong}
-use Rattle.mcs_base.proofs.Among.{filter_among, among_filter}
+use Rattle.mcs_base.proofs.Among.{filter_among, among_filter, get_among}
+use Rattle.mcs_base.proofs.Each.{all_from_among}
 use Rattle.mcs_system.specs.Plain.{System}
-use Rattle.mcs_system.specs.Systems.{variables_of, all_variables, IsAcceptedPart}
+use Rattle.mcs_system.specs.Faults.{IsValid}
+use Rattle.mcs_system.proofs.ContextSets.{variables_of-lt}
+use Rattle.mcs_system.proofs.ValidLemmas.{few_variables}
+use Rattle.mcs_system.specs.Systems.{variables, variables_of, all_variables, IsAcceptedPart}
 use Rattle.mcs_system.specs.Repairs.{allowed_marks}
 use Rattle.mcs_system.specs.Rows.{inputs_of, local_of, IsRow}
 use Rattle.mcs_system.specs.Imports.{imports, before_in, supplied, marks_at, IsImportOrder, IsQuestion, IsPossible}
@@ -13,6 +20,9 @@ use Rattle.mcs_import.specs.Plans.{guessed, AreSupplies}
 use Rattle.mcs_import.specs.States.{Joins}
 use Rattle.mcs_import.proofs.QuestionLemmas.{question_by_state, IsAllowed, same_marks, one_context, accepted_within, context_known, state_for, parts_of}
 use Rattle.mcs_base.proofs.SetParts.{union_of_commons, commons_agree}
+use Rattle.mcs_table.specs.declared.row.Row.{Row}
+use Rattle.mcs_table.specs.Tables.{TableData, IsTable, IsRowOn}
+use Rattle.mcs_rows.specs.Local.{IsLocalTable, AreLocalTables}
 use Rattle.mcs_rows.proofs.General.{not_before, replaced, replaced-own, replaced-elsewhere, replaced-inputs, replaced-known}
 
 -- ---- a row, by what it is made of: a state at the inputs, a question that few changes, each of them allowed, make
@@ -90,3 +100,30 @@ module _ (m : System) (order : List ℕ) (ordered : IsImportOrder m order) (leve
 
   pub rows_are_made : IsMade m order level i xss state marks ↔ IsRow m order level i state marks
   rows_are_made = (made_is_row, row_is_made)
+
+-- ---- tables of local rows are tables
+local_small : (m : System) → IsValid m → (i : ℕ) → local_of m i < 2 ^ 64
+unfolding inputs_of
+local_small m valid i =
+    let most = pow_mono {i = length (variables m)} {j = 64} (few_variables m valid) in
+    let own = variables_of-lt m i in
+    let read : inputs_of m i < 2 ^ length (variables m) = such_that-lt (length (variables m)) _ in
+    let both = union-lt (length (variables m)) (variables_of m i) (inputs_of m i) own read in
+    omega arith
+
+pub local_is_table : (m : System) → IsValid m → (level i : ℕ) (t : TableData) → IsLocalTable m level i t → IsTable t
+local_is_table m valid level i t local = record {
+  on_scope = all_from_among (IsRowOn t.scope) t.rows (λ r among.
+      let of_i = (local.rows.exactly r).0 among in
+      let (order, ordered, row) = of_i.local in record {
+        mask = of_i.mask ∙ sym local.scope;
+        partial = record {
+          of_mask = λ v h. subst (λ (s : ℕ). has s v ≡ true) (sym of_i.mask) (common_within_right row.whole (local_of m i) v (subst (λ (s : ℕ). has s v ≡ true) (sym row.state_is) h));
+          small = subst (λ (s : ℕ). s < 2 ^ 64) (sym of_i.mask) (local_small m valid i);
+        };
+      });
+  ascending = local.rows.ascending;
+}
+
+pub local_are_tables : (m : System) → IsValid m → (level : ℕ) (tables : List TableData) → AreLocalTables m level tables → AllByRecursion IsTable tables
+local_are_tables m valid level tables local = all_from_among IsTable tables (λ t among. let (i, is) = get_among t tables among in local_is_table m valid level i t (local.local i t is))

@@ -1,17 +1,21 @@
 -- The rows that the code makes are the local rows, and the parts that it gathers are what may be supplied.
-use Rattle.std.proofs.Common.{◌≡◌, ℕ, ◌+◌, ◌<◌, ◌≤◌, Bool, true, false, cond, eqb, leb, List, [], ◌∷◌, map, filter, take, length, refl, sym, ap, ◌∙◌, subst, ◌↔◌, arith}
+use Rattle.std.proofs.Common.{◌≡◌, ℕ, ◌+◌, ◌*◌, ◌/◌, ◌%◌, ◌<◌, ◌≤◌, Bool, true, false, ◌&&◌, cond, eqb, leb, ltb, true≢false, List, [], ◌∷◌, map, filter, ◌++◌, take, length, get_or, refl, sym, ap, ◌∙◌, subst, ◌↔◌, arith}
 use Rattle.std.proofs.lemmas.Bool.{leb-true, le-leb, and_parts, and_from, eq-eqb, eqb-true, false_from_ne_true}
-use Rattle.mcs_sets.proofs.SetLemmas.{within_where_common, common_where_within}
+use Rattle.std.proofs.lemmas.Simd.{map-map}
+use Rattle.std.proofs.Math.Bool.{and-false}
+use Rattle.mcs_sets.proofs.SetLemmas.{within_where_common, common_where_within, same_set, has-minus, has-empty}
 use Rattle.std.proofs.lemmas.Bool.Decides.{nat_tests}
-use Rattle.std.proofs.lemmas.List.{take_all}
+use Rattle.std.proofs.lemmas.Grind.{flat_map-append}
+use Rattle.std.proofs.lemmas.List.{take_all, append-nil}
 use Rattle.std.specs.List.{AllByRecursion, flat_map}
 use Rattle.mcs_sets.specs.Sets.{has, size, common, union, minus, members, Within}
 use Rattle.mcs_sets.specs.Orders.{StateBefore}
-use Rattle.mcs_sets.proofs.Lattice.{minus_within, common_within_right}
-use Rattle.mcs_base.specs.Listings.{IsAmong, IsListing}
+use Rattle.mcs_sets.proofs.Lattice.{minus_within, common_within_right, size_within, size-none}
+use Rattle.mcs_base.specs.Listings.{IsAmong, IsAscending, IsListing}
 use Rattle.mcs_base.proofs.Among.{among_map, map_among, among_filter, filter_among, among_flat_map, flat_map_among}
 use Rattle.mcs_base.proofs.Each.{all_among, all_from_among}
 use Rattle.mcs_base.proofs.ListingLemmas.{IsListing-same}
+use Rattle.mcs_base.proofs.Written.{take_read}
 use Rattle.mcs_system.specs.Plain.{System}
 use Rattle.mcs_system.specs.Systems.{variables_of, all_rules, applicable, IsAcceptedPart}
 use Rattle.mcs_system.specs.Repairs.{marks_of, allowed_marks}
@@ -19,19 +23,25 @@ use Rattle.mcs_system.specs.Rows.{inputs_of, local_of, IsRow}
 use Rattle.mcs_system.specs.Imports.{supplied, rules_into, marks_at, IsImportOrder}
 use Rattle.mcs_system.specs.Levels.{IsQuestionAt, IsLocalRow, MaySupply}
 use Rattle.mcs_system.proofs.ContextSets.{rules_into_known}
+use Rattle.mcs_system.proofs.MarkLemmas.{has-marks_of}
 use Rattle.mcs_table.specs.declared.row.Row.{Row}
 use Rattle.mcs_table.specs.RowOrder.{RowBefore, same_row}
-use Rattle.mcs_table.specs.Tables.{TableData}
+use Rattle.mcs_table.specs.Tables.{TableData, Covers, IsTable, IsMinimalRow}
+use Rattle.mcs_table.proofs.CoverLemmas.{covers_append, covers_same}
+use Rattle.mcs_table.proofs.ExistLemmas.{listed_in_order}
 use Rattle.mcs_import.specs.Plans.{guessed, AreSupplies}
 use Rattle.mcs_import.specs.States.{SomeJoins, SomeGrows}
 use Rattle.mcs_import.proofs.OrderLemmas.{import_order_is_one}
 use Rattle.mcs_import.proofs.QuestionLemmas.{question_in, applying, count-marks_at}
 use Rattle.mcs_import.proofs.StateLemmas.{states_found}
-use Rattle.mcs_rows.specs.Local.{Answered, AreAnswered, IsRowOf, IsLocalTable}
+use Rattle.mcs_rows.specs.Local.{Answered, AreAnswered, IsRowOf, IsLocalTable, IsMinimalTable}
+use Rattle.mcs_rows.specs.Changed.{HasMarksOf, IsChangedAt}
+use Rattle.mcs_rows.specs.Finding.{AreInOrder}
 use Rattle.mcs_rows.specs.Answers.{answered_of}
-use Rattle.mcs_rows.specs.Making.{agrees, row_with, is_in_reach, rows_with}
+use Rattle.mcs_rows.specs.Making.{agrees, row_with, is_in_reach, rows_with, rows_of, IsSettled, IsChangedRow}
 use Rattle.mcs_rows.specs.declared.answer.Answer.{Answer}
 use Rattle.mcs_rows.proofs.LocalLemmas.{IsMade, rows_are_made}
+use Rattle.mcs_rows.proofs.ChangedLemmas.{marks_inside, marks_tell, seen_inputs}
 
 -- ---- a question that is in reach, or not
 pub in_reach : (m : System) (i level state x : ℕ) → (is_in_reach m i level state x ≡ true) ↔ ((size (marks_at m i state x) ≤ level) × Within (marks_at m i state x) (allowed_marks m))
@@ -67,6 +77,27 @@ marks_are_at m i state x applying removed forced marks applies of_rules is is' t
     (λ k e. rules_into_known m i k (common_within_right (applicable m state) (rules_into m i) k (subst (λ (s : ℕ). has s k ≡ true) applies (minus_within applying x k (subst (λ (s : ℕ). has s k ≡ true) is e)))))
     (λ k e. rules_into_known m i k (of_rules k (minus_within x applying k (subst (λ (s : ℕ). has s k ≡ true) is' e))))
     ∙ ap (λ s. marks_of m s forced) is ∙ ap (marks_of m (minus applying x)) is' ∙ ap (λ s. marks_of m (minus s x) (minus x s)) applies
+
+-- ---- the rows of a state
+module _ (m : System) (level i : ℕ) where
+  -- what is among the rows of a state with an answer
+  pub with_answer : (s : ℕ) (a : Answer) (r : Row) → IsAmong r (rows_with m i level s a)
+      → (size (marks_at m i s a.active) ≤ level) × Within (marks_at m i s a.active) (allowed_marks m) × ((τ : ℕ) × IsAmong τ a.parts.items × (common τ (inputs_of m i) ≡ common s (variables_of m i)) × (r ≡ row_with m i s (marks_at m i s a.active) τ))
+  with_answer s a r = at (is_in_reach m i level s a.active) refl
+    where
+      at : (v : Bool) → is_in_reach m i level s a.active ≡ v → IsAmong r (cond v (map (row_with m i s (marks_at m i s a.active)) (filter (agrees m i s) a.parts.items)) [])
+          → (size (marks_at m i s a.active) ≤ level) × Within (marks_at m i s a.active) (allowed_marks m) × ((τ : ℕ) × IsAmong τ a.parts.items × (common τ (inputs_of m i) ≡ common s (variables_of m i)) × (r ≡ row_with m i s (marks_at m i s a.active) τ))
+      at true near among =
+          let (τ, there, e) = map_among (row_with m i s (marks_at m i s a.active)) r (filter (agrees m i s) a.parts.items) among in
+          let (here, test) = filter_among (agrees m i s) τ a.parts.items there in
+          let (few, within) = (in_reach m i level s a.active).0 near in
+          (few, within, (τ, here, (let same : common τ (inputs_of m i) ≡ common s (variables_of m i) = grind (arith, nat_tests) in same), e))
+      at false far among = absurd among
+
+  pub answer_with : (s : ℕ) (a : Answer) (τ : ℕ) → size (marks_at m i s a.active) ≤ level → Within (marks_at m i s a.active) (allowed_marks m) → IsAmong τ a.parts.items → common τ (inputs_of m i) ≡ common s (variables_of m i) → IsAmong (row_with m i s (marks_at m i s a.active) τ) (rows_with m i level s a)
+  answer_with s a τ few within here same =
+      subst (IsAmong (row_with m i s (marks_at m i s a.active) τ)) (sym (rows_in_reach m i level s a few within))
+      (among_map (row_with m i s (marks_at m i s a.active)) τ (filter (agrees m i s) a.parts.items) (among_filter (agrees m i s) τ a.parts.items here (grind (arith, nat_tests))))
 
 -- ---- the answers
 module _ (m : System) (level i : ℕ) (answers : List Answer) (answered : AreAnswered m level i (map answered_of answers)) where
@@ -110,30 +141,11 @@ module _ (m : System) (level i : ℕ) (answers : List Answer) (answered : AreAns
     abbrev made : List Row
     made = flat_map (λ s. flat_map (rows_with m i level s) answers) states
 
-    -- what is among the rows of a state with an answer
-    with_answer : (s : ℕ) (a : Answer) (r : Row) → IsAmong r (rows_with m i level s a)
-        → (size (marks_at m i s a.active) ≤ level) × Within (marks_at m i s a.active) (allowed_marks m) × ((τ : ℕ) × IsAmong τ a.parts.items × (common τ (inputs_of m i) ≡ common s (variables_of m i)) × (r ≡ row_with m i s (marks_at m i s a.active) τ))
-    with_answer s a r = at (is_in_reach m i level s a.active) refl
-      where
-        at : (v : Bool) → is_in_reach m i level s a.active ≡ v → IsAmong r (cond v (map (row_with m i s (marks_at m i s a.active)) (filter (agrees m i s) a.parts.items)) [])
-            → (size (marks_at m i s a.active) ≤ level) × Within (marks_at m i s a.active) (allowed_marks m) × ((τ : ℕ) × IsAmong τ a.parts.items × (common τ (inputs_of m i) ≡ common s (variables_of m i)) × (r ≡ row_with m i s (marks_at m i s a.active) τ))
-        at true near among =
-            let (τ, there, e) = map_among (row_with m i s (marks_at m i s a.active)) r (filter (agrees m i s) a.parts.items) among in
-            let (here, test) = filter_among (agrees m i s) τ a.parts.items there in
-            let (few, within) = (in_reach m i level s a.active).0 near in
-            (few, within, (τ, here, (let same : common τ (inputs_of m i) ≡ common s (variables_of m i) = grind (arith, nat_tests) in same), e))
-        at false far among = absurd among
-
-    answer_with : (s : ℕ) (a : Answer) (τ : ℕ) → size (marks_at m i s a.active) ≤ level → Within (marks_at m i s a.active) (allowed_marks m) → IsAmong τ a.parts.items → common τ (inputs_of m i) ≡ common s (variables_of m i) → IsAmong (row_with m i s (marks_at m i s a.active) τ) (rows_with m i level s a)
-    answer_with s a τ few within here same =
-        subst (IsAmong (row_with m i s (marks_at m i s a.active) τ)) (sym (rows_in_reach m i level s a few within))
-        (among_map (row_with m i s (marks_at m i s a.active)) τ (filter (agrees m i s) a.parts.items) (among_filter (agrees m i s) τ a.parts.items here (grind (arith, nat_tests))))
-
     made_are_local : (r : Row) → IsAmong r made → IsRowOf m level i r
     made_are_local r among =
         let (s, state, there) = flat_map_among (λ s. flat_map (rows_with m i level s) answers) r states among in
         let (a, here, there') = flat_map_among (rows_with m i level s) r answers there in
-        let (few, allowed, (τ, part, same, e)) = with_answer s a r there' in
+        let (few, allowed, (τ, part, same, e)) = with_answer m level i s a r there' in
         let (p, g, joins, within, is) = (states_found (inputs_of m i) xss (guessed m order i) joined states of_joins of_grows s).0 state in
         record {
           mask = ap (λ (q : Row). q.state.mask) e;
@@ -174,36 +186,148 @@ module _ (m : System) (level i : ℕ) (answers : List Answer) (answered : AreAns
             let is : row ≡ r = same_row row r (sym of_i.mask) h.state_is (ap (marks_at m i s) (sym e) ∙ h.marks_is) in
             subst (λ (q : Row). IsAmong q made) is
             (among_flat_map (λ s. flat_map (rows_with m i level s) answers) s row states state
-            (among_flat_map (rows_with m i level s) a row answers here (answer_with s a h.part (subst (λ (z : ℕ). size (marks_at m i s z) ≤ level) e h.near) (subst (λ (z : ℕ). Within (marks_at m i s z) (allowed_marks m)) e h.allowed) part h.agree)))
+            (among_flat_map (rows_with m i level s) a row answers here (answer_with m level i s a h.part (subst (λ (z : ℕ). size (marks_at m i s z) ≤ level) e h.near) (subst (λ (z : ℕ). Within (marks_at m i s z) (allowed_marks m)) e h.allowed) part h.agree)))
 
-    pub rows_are_local : (t : TableData) (rows : List Row) → rows ≡ made → t.scope ≡ local_of m i → IsListing (λ r. IsAmong r rows) RowBefore t.rows → IsLocalTable m level i t
-    rows_are_local t rows is scope listing = record {
-      scope = scope;
-      rows = IsListing-same RowBefore (λ r. IsAmong r rows) (IsRowOf m level i) t.rows (λ r. (λ h. made_are_local r (subst (IsAmong r) is h), λ h. subst (IsAmong r) (sym is) (local_are_made r h))) listing;
-    }
+    -- there is a table of them
+    local_table : (t : TableData) × IsLocalTable m level i t
+    local_table = let (ys, l) = listed_in_order (local_of m i) (IsRowOf m level i) (λ r h. h.mask) (made, λ r. (made_are_local r, local_are_made r)) in
+        (record { scope = local_of m i; rows = ys }, record { scope = refl; rows = l })
 
--- each row that is made is on the local variables
-pub made_on : (m : System) (i level : ℕ) (answers : List Answer) (states : List ℕ) (scope : ℕ) (rows : List Row) → scope ≡ local_of m i → rows ≡ flat_map (λ s. flat_map (rows_with m i level s) answers) states → AllByRecursion (λ (r : Row). r.state.mask ≡ scope) rows
-made_on m i level answers states scope rows is rows_are = all_from_among (λ (r : Row). r.state.mask ≡ scope) rows (λ r among. each r (subst (IsAmong r) rows_are among) ∙ sym is)
+    -- where some of them cover all, their minimal ones are those of all
+    pub made_minimal : (u : TableData) (rows : List Row) → Covers (λ r. IsAmong r rows) (λ r. IsAmong r made) → u.scope ≡ local_of m i → IsListing (IsMinimalRow (λ r. IsAmong r rows)) RowBefore u.rows → IsMinimalTable m level i u
+    made_minimal u rows covers scope listing =
+        let (t, local) = local_table in
+        let all : Covers (λ r. IsAmong r rows) (λ r. IsAmong r t.rows) = record {
+          from = λ r h. (local.rows.exactly r).1 (made_are_local r (covers.from r h));
+          below = λ r h. covers.below r (local_are_made r ((local.rows.exactly r).0 h));
+        } in record {
+          all = t;
+          local = local;
+          minimal = record { scope = scope ∙ sym local.scope; rows = IsListing-same RowBefore (IsMinimalRow (λ r. IsAmong r rows)) (IsMinimalRow (λ r. IsAmong r t.rows)) u.rows (covers_same (λ r. IsAmong r rows) (λ r. IsAmong r t.rows) all) listing };
+        }
+
+    -- those of the answers to what a pair makes of the rules that apply are those with its marks
+    module _ (pair : ℕ) (known : Within pair (allowed_marks m)) (few : size pair ≤ level) where
+      changed_of : (r : Row) → ((s : ℕ) × IsAmong s states × IsChangedRow m i pair answers s r) ↔ (IsAmong r made × HasMarksOf m i pair r)
+      changed_of r = (to, from)
+        where
+          to : (s : ℕ) × IsAmong s states × IsChangedRow m i pair answers s r → IsAmong r made × HasMarksOf m i pair r
+          to (s, state, c) =
+              let a : Answer = c.answer in
+              let (order', ordered', question) = asked_of a c.among in
+              let (τ, there, e) = map_among (row_with m i s (marks_at m i s a.active)) r (filter (agrees m i s) a.parts.items) c.row in
+              let (part, test) = filter_among (agrees m i s) τ a.parts.items there in
+              let same : common τ (inputs_of m i) ≡ common s (variables_of m i) = grind (arith, nat_tests) in
+              let marks : r.marks ≡ marks_at m i s a.active = ap (λ (q : Row). q.marks) e in
+              let has = (marks_tell m i pair s a.active question.of_rules r (ap (λ (q : Row). common q.state.values (inputs_of m i)) e ∙ seen_inputs m i s τ same) marks).1 c.active in
+              let inside : Within (marks_at m i s a.active) pair = subst (λ (z : ℕ). Within z pair) marks (marks_inside m i pair r has) in
+              let less = size_within (marks_at m i s a.active) pair inside in (
+                subst (λ (q : Row). IsAmong q made) (sym e) (among_flat_map (λ s. flat_map (rows_with m i level s) answers) s _ states state (among_flat_map (rows_with m i level s) a _ answers c.among (answer_with m level i s a τ (omega arith) (λ k h. known k (inside k h)) part same))),
+                has,
+              )
+
+          from : IsAmong r made × HasMarksOf m i pair r → (s : ℕ) × IsAmong s states × IsChangedRow m i pair answers s r
+          from (among, has) =
+              let (s, state, there) = flat_map_among (λ s. flat_map (rows_with m i level s) answers) r states among in
+              let (a, here, there') = flat_map_among (rows_with m i level s) r answers there in
+              let (near, allowed, (τ, part, same, e)) = with_answer m level i s a r there' in
+              let (order', ordered', question) = asked_of a here in
+              let marks : r.marks ≡ marks_at m i s a.active = ap (λ (q : Row). q.marks) e in
+              let acting = (marks_tell m i pair s a.active question.of_rules r (ap (λ (q : Row). common q.state.values (inputs_of m i)) e ∙ seen_inputs m i s τ same) marks).0 has in (
+                s,
+                state,
+                record {
+                  answer = a;
+                  among = here;
+                  active = acting;
+                  row = subst (λ (q : Row). IsAmong q (map (row_with m i s (marks_at m i s a.active)) (filter (agrees m i s) a.parts.items))) (sym e) (among_map (row_with m i s (marks_at m i s a.active)) τ (filter (agrees m i s) a.parts.items) (among_filter (agrees m i s) τ a.parts.items part (grind (arith, nat_tests))));
+                },
+              )
+
+      pub made_changed : (u : TableData) (rows : List Row) → ((r : Row) → IsAmong r rows ↔ ((s : ℕ) × IsAmong s states × IsChangedRow m i pair answers s r)) → IsTable u → IsListing (λ r. IsAmong r rows) RowBefore u.rows → IsChangedAt m level i pair u
+      made_changed u rows are table listing =
+          let (t, local) = local_table in record {
+            all = t;
+            local = local;
+            changed = record {
+              table = table;
+              rows = IsListing-same RowBefore (λ r. IsAmong r rows) (λ r. IsAmong r t.rows × HasMarksOf m i pair r) u.rows (λ r. (
+                λ h. let (among, has) = (changed_of r).0 ((are r).0 h) in ((local.rows.exactly r).1 (made_are_local r among), has),
+                λ h. (are r).1 ((changed_of r).1 (local_are_made r ((local.rows.exactly r).0 h.0), h.1)),
+              )) listing;
+            };
+          }
+
+-- ---- rows of a state that cover all of its rows
+-- the rows that apply are told by no marks
+pub no_marks : (m : System) (i s : ℕ) → marks_at m i s (common (applicable m s) (rules_into m i)) ≡ 0
+no_marks m i s = ap (λ z. marks_of m z z) (same_set (minus a a) 0 (λ k. let e = has-minus a a k in let e' = has-empty k in grind (arith, nat_tests))) ∙ same_set (marks_of m 0 0) 0 (λ k. has-marks_of m 0 0 k ∙ at k (eqb (k % 2) 0) (ltb k (2 * length m.bridges)) ∙ sym (has-empty k))
   where
-    of_row : (s : ℕ) (a : Answer) (r : Row) (v : Bool) → IsAmong r (cond v (map (row_with m i s (marks_at m i s a.active)) (filter (agrees m i s) a.parts.items)) []) → r.state.mask ≡ local_of m i
-    of_row s a r true among = let (τ, there, e) = map_among (row_with m i s (marks_at m i s a.active)) r (filter (agrees m i s) a.parts.items) among in ap (λ (q : Row). q.state.mask) e
-    of_row s a r false among = absurd among
+    a : ℕ
+    a = common (applicable m s) (rules_into m i)
 
-    each : (r : Row) → IsAmong r (flat_map (λ s. flat_map (rows_with m i level s) answers) states) → r.state.mask ≡ local_of m i
-    each r among =
-        let (s, state, there) = flat_map_among (λ s. flat_map (rows_with m i level s) answers) r states among in
-        let (a, here, there') = flat_map_among (rows_with m i level s) r answers there in
-        of_row s a r (is_in_reach m i level s a.active) there'
+    at : (k : ℕ) (v u : Bool) → (u && cond v (has 0 (k / 2)) (has 0 (k / 2))) ≡ false
+    at k true u = rw (has-empty (k / 2)) (and-false u)
+    at k false u = rw (has-empty (k / 2)) (and-false u)
 
--- the table that the code answers, by what its calls tell
-pub table_is_local : (m : System) (level i : ℕ) (answers : List Answer) → AreAnswered m level i (map answered_of answers) → (order : List ℕ) → IsImportOrder m order → (xss : List (List ℕ)) → AreSupplies m level (supplied m order i) xss
-    → (n : System) → n ≡ m → (inputs guesses : ℕ) → inputs ≡ inputs_of n i → guesses ≡ guessed m order i → (joined states states' : List ℕ) → ((ρ : ℕ) → IsAmong ρ joined ↔ SomeJoins inputs xss (0 ∷ []) ρ) → ((ρ : ℕ) → IsAmong ρ states ↔ SomeGrows (members guesses) joined ρ) → states' ≡ states
-    → (t : TableData) (rows : List Row) → rows ≡ flat_map (λ s. flat_map (rows_with n i level s) answers) states' → t.scope ≡ local_of n i → IsListing (λ r. IsAmong r rows) RowBefore t.rows → IsLocalTable m level i t
-table_is_local m level i answers answered order ordered xss supplies n same inputs guesses inputs_are guesses_are joined states states' of_joins of_grows states_are t rows rows_are scope listing =
-    rows_are_local m level i answers answered order ordered xss supplies joined states
-    (λ ρ. subst (λ (s : ℕ). IsAmong ρ joined ↔ SomeJoins s xss (0 ∷ []) ρ) (inputs_are ∙ ap (λ p. inputs_of p i) same) (of_joins ρ))
-    (λ ρ. subst (λ (g : ℕ). IsAmong ρ states ↔ SomeGrows (members g) joined ρ) guesses_are (of_grows ρ))
-    t rows
-    (rows_are ∙ ap (flat_map (λ s. flat_map (rows_with n i level s) answers)) states_are ∙ ap (λ p. flat_map (λ s. flat_map (rows_with p i level s) answers) states) same)
-    (scope ∙ ap (λ p. local_of p i) same) listing
+pub settled_covers : (m : System) (i level s : ℕ) (answers : List Answer) (a : Answer) → IsSettled m i s answers a → (rows : List Row) → rows ≡ map (row_with m i s 0) (filter (agrees m i s) a.parts.items) → Covers (λ r. IsAmong r rows) (λ r. IsAmong r (rows_of m i level answers s))
+settled_covers m i level s answers a settled rows is = subst (λ (z : List Row). Covers (λ r. IsAmong r z) (λ r. IsAmong r (rows_of m i level answers s))) (sym is) (record {
+  from = λ r h.
+      let (τ, there, e) = map_among (row_with m i s 0) r (filter (agrees m i s) a.parts.items) h in
+      let (part, test) = filter_among (agrees m i s) τ a.parts.items there in
+      let same : common τ (inputs_of m i) ≡ common s (variables_of m i) = grind (arith, nat_tests) in
+      let row = answer_with m level i s a τ (subst (λ (z : ℕ). size z ≤ level) (sym none) (omega (arith, size-none))) (λ k h'. absurd (true≢false (sym (ap (λ (z : ℕ). has z k) (sym none) ∙ h') ∙ has-empty k))) part same in
+      among_flat_map (rows_with m i level s) a r answers settled.among (subst (λ (q : Row). IsAmong q (rows_with m i level s a)) (ap (λ (z : ℕ). row_with m i s z τ) none ∙ sym e) row);
+  below = λ r h.
+      let (b, here, there) = flat_map_among (rows_with m i level s) r answers h in
+      let (few, allowed, (τ, part, same, e)) = with_answer m level i s b r there in
+      let agree : agrees m i s τ ≡ true = grind (arith, nat_tests) in (
+        row_with m i s 0 τ,
+        among_map (row_with m i s 0) τ (filter (agrees m i s) a.parts.items) (among_filter (agrees m i s) τ a.parts.items (settled.all b τ here part agree) agree),
+        ap (λ (q : Row). q.state) (sym e),
+        λ k h'. absurd (true≢false (sym h' ∙ has-empty k)),
+      );
+})
+  where
+    none : marks_at m i s a.active ≡ 0
+    none = ap (marks_at m i s) settled.active ∙ no_marks m i s
+
+-- ---- each row is on the local variables
+state_on : (m : System) (i level s : ℕ) (answers : List Answer) (r : Row) → IsAmong r (rows_of m i level answers s) → r.state.mask ≡ local_of m i
+state_on m i level s answers r among =
+    let (a, here, there) = flat_map_among (rows_with m i level s) r answers among in
+    let (few, allowed, (τ, part, same, e)) = with_answer m level i s a r there in
+    ap (λ (q : Row). q.state.mask) e
+
+pub rows_on : (m : System) (i level s : ℕ) (answers : List Answer) (scope : ℕ) (rows : List Row) → scope ≡ local_of m i → rows ≡ rows_of m i level answers s → AllByRecursion (λ (r : Row). r.state.mask ≡ scope) rows
+rows_on m i level s answers scope rows is rows_are = all_from_among (λ (r : Row). r.state.mask ≡ scope) rows (λ r among. state_on m i level s answers r (subst (IsAmong r) rows_are among) ∙ sym is)
+
+pub covering_on : (m : System) (i level : ℕ) (answers : List Answer) (states : List ℕ) (scope : ℕ) (rows : List Row) → scope ≡ local_of m i → Covers (λ r. IsAmong r rows) (λ r. IsAmong r (flat_map (rows_of m i level answers) states)) → AllByRecursion (λ (r : Row). r.state.mask ≡ scope) rows
+covering_on m i level answers states scope rows is covers = all_from_among (λ (r : Row). r.state.mask ≡ scope) rows (λ r among.
+    let (s, state, there) = flat_map_among (rows_of m i level answers) r states (covers.from r among) in
+    state_on m i level s answers r there ∙ sym is)
+
+pub changed_on : (m : System) (i pair : ℕ) (answers : List Answer) (states : List ℕ) (scope : ℕ) (rows : List Row) → scope ≡ local_of m i → ((r : Row) → IsAmong r rows ↔ ((s : ℕ) × IsAmong s states × IsChangedRow m i pair answers s r)) → AllByRecursion (λ (r : Row). r.state.mask ≡ scope) rows
+changed_on m i pair answers states scope rows is are = all_from_among (λ (r : Row). r.state.mask ≡ scope) rows (λ r among.
+    let (s, state, c) = (are r).0 among in
+    let (τ, there, e) = map_among (row_with m i s (marks_at m i s c.answer.active)) r (filter (agrees m i s) c.answer.parts.items) c.row in
+    ap (λ (q : Row). q.state.mask) e ∙ sym is)
+
+-- ---- the questions that were asked ascend
+pub answered_in_order : (m : System) (level i : ℕ) (answers : List Answer) → AreAnswered m level i (map answered_of answers) → AreInOrder answers
+answered_in_order m level i answers answered = subst (IsAscending (λ (a b : ℕ). a < b)) (map-map (λ (b : Answered). b.question) answered_of answers) answered.questions.ascending
+
+-- what any of them may have
+pub parts_possible : (m : System) (level i : ℕ) (answers : List Answer) (possible : List ℕ) → AreAnswered m level i (map answered_of answers) → IsListing (MaySupply m level i) StateBefore possible → (a : Answer) (τ : ℕ) → IsAmong a answers → IsAmong τ a.parts.items → IsAmong τ possible
+parts_possible m level i answers possible answered listing a τ here part =
+    let (order, ordered, question) = asked_of m level i answers answered a here in
+    (listing.exactly τ).1 (order, ordered, (a.active, question, ((parts_of_answer m level i answers answered a here).exactly τ).0 part))
+
+-- ---- state after state
+pub covers_more : (m : System) (i level : ℕ) (answers : List Answer) (states : List ℕ) (k s : ℕ) → k < length states → s ≡ get_or states k s → (old some new : List Row) → Covers (λ r. IsAmong r old) (λ r. IsAmong r (flat_map (rows_of m i level answers) (take k states))) → Covers (λ r. IsAmong r some) (λ r. IsAmong r (rows_of m i level answers s)) → new ≡ old ++ some
+    → Covers (λ r. IsAmong r new) (λ r. IsAmong r (flat_map (rows_of m i level answers) (take (k + 1) states)))
+covers_more m i level answers states k s less here old some new so_far step is =
+    let F = rows_of m i level answers in
+    let whole : flat_map F (take (k + 1) states) ≡ flat_map F (take k states) ++ F s = ap (flat_map F) (take_read states k s less here) ∙ (flat_map-append F (take k states) (s ∷ []) ∙ ap (λ (rows : List Row). flat_map F (take k states) ++ rows) (append-nil (F s))) in
+    subst (λ (rows : List Row). Covers (λ r. IsAmong r rows) (λ r. IsAmong r (flat_map F (take (k + 1) states)))) (sym is)
+    (subst (λ (rows : List Row). Covers (λ r. IsAmong r (old ++ some)) (λ r. IsAmong r rows)) (sym whole) (covers_append old (flat_map F (take k states)) some (F s) so_far step))

@@ -1,3 +1,5 @@
 pub mod Local
 pub mod Answers
 pub mod Making
+pub mod Changed
+pub mod Finding

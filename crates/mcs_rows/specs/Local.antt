@@ -1,6 +1,6 @@
 -- What a context's answers come to: what it may supply, and its local rows.
 use Rattle.std.specs.Prelude.{◌≡◌, ℕ, ◌<◌, List, map, length, Some, slice_get}
-use Rattle.std.specs.List.{AllByRecursion}
+use Rattle.std.specs.List.{AllByRecursion, AllZip}
 use Rattle.mcs_sets.specs.Orders.{StateBefore}
 use Rattle.mcs_base.specs.Listings.{IsListing}
 use Rattle.mcs_system.specs.Plain.{System}
@@ -8,7 +8,7 @@ use Rattle.mcs_system.specs.Systems.{IsAcceptedPart}
 use Rattle.mcs_system.specs.Rows.{local_of}
 use Rattle.mcs_system.specs.Levels.{IsQuestionAt, IsLocalRow}
 use Rattle.mcs_table.specs.RowOrder.{RowBefore}
-use Rattle.mcs_table.specs.Tables.{TableData}
+use Rattle.mcs_table.specs.Tables.{TableData, IsMinimalOf}
 use Rattle.mcs_table.specs.declared.row.Row.{Row}
 
 -- what was asked, and the parts that were accepted with it
@@ -35,3 +35,15 @@ pub record IsLocalTable (m : System) (level i : ℕ) (t : TableData) : Type 0 wh
 pub record AreLocalTables (m : System) (level : ℕ) (tables : List TableData) : Type 0 where
   pub one_each : length tables ≡ length m.contexts
   pub local : (i : ℕ) (t : TableData) → slice_get tables i ≡ Some t → IsLocalTable m level i t
+
+-- u has, for each state, the minimal ones of the local rows of context i at the level
+pub record IsMinimalTable (m : System) (level i : ℕ) (u : TableData) : Type 0 where
+  pub all : TableData
+  pub local : IsLocalTable m level i all
+  pub minimal : IsMinimalOf all u
+
+-- so it is of each context, in order
+pub record AreMinimalTables (m : System) (level : ℕ) (tables : List TableData) : Type 0 where
+  pub all : List TableData
+  pub local : AreLocalTables m level all
+  pub minimal : AllZip IsMinimalOf all tables

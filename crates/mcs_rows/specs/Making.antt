@@ -1,12 +1,15 @@
 -- Rows of a context, as they are made of a state at its inputs and of an answer.
-use Rattle.std.specs.Prelude.{ℕ, Bool, ◌&&◌, List, [], cond, map, filter, nat_eq, nat_le}
+use Rattle.std.specs.Prelude.{◌≡◌, ℕ, Bool, true, ◌&&◌, List, [], cond, map, filter, nat_eq, nat_le}
+use Rattle.std.specs.List.{flat_map}
 use Rattle.mcs_sets.specs.Sets.{common, union, size}
-use Rattle.mcs_system.specs.Imports.{marks_at}
+use Rattle.mcs_base.specs.Listings.{IsAmong}
+use Rattle.mcs_system.specs.Imports.{marks_at, rules_into}
 use Rattle.mcs_system.specs.Plain.{System}
 use Rattle.mcs_system.specs.Repairs.{allowed_marks}
 use Rattle.mcs_system.specs.Rows.{inputs_of, local_of}
-use Rattle.mcs_system.specs.Systems.{variables_of}
+use Rattle.mcs_system.specs.Systems.{variables_of, applicable}
 use Rattle.mcs_table.specs.declared.row.Row.{Row}
+use Rattle.mcs_rows.specs.Changed.{acting_into}
 use Rattle.mcs_rows.specs.declared.answer.Answer as code
 
 -- whether the part and the state say the same of the inputs of i that are its own variables
@@ -24,3 +27,20 @@ is_in_reach m i level state x = nat_le (size (marks_at m i state x)) level && na
 -- the rows of the state with an answer: none where what was asked is not in reach of what applies
 abbrev pub rows_with : System → ℕ → ℕ → ℕ → code.Answer → List Row
 rows_with m i level state a = cond (is_in_reach m i level state a.active) (map (row_with m i state (marks_at m i state a.active)) (filter (agrees m i state) a.parts.items)) []
+
+-- the rows of the state with all of the answers
+abbrev pub rows_of : System → ℕ → ℕ → List code.Answer → ℕ → List Row
+rows_of m i level answers state = flat_map (rows_with m i level state) answers
+
+-- a is the answer to the rules that apply in the state, and has each part of the others that agrees with it: so no change is of use there
+pub record IsSettled (m : System) (i state : ℕ) (answers : List code.Answer) (a : code.Answer) : Type 0 where
+  pub among : IsAmong a answers
+  pub active : a.active ≡ common (applicable m state) (rules_into m i)
+  pub all : (b : code.Answer) (τ : ℕ) → IsAmong b answers → IsAmong τ b.parts.items → agrees m i state τ ≡ true → IsAmong τ a.parts.items
+
+-- a row of the state with the answer to the rules that the pair makes of those that apply
+pub record IsChangedRow (m : System) (i pair : ℕ) (answers : List code.Answer) (state : ℕ) (r : Row) : Type 0 where
+  pub answer : code.Answer
+  pub among : IsAmong answer answers
+  pub active : answer.active ≡ acting_into m i pair state
+  pub row : IsAmong r (map (row_with m i state (marks_at m i state answer.active)) (filter (agrees m i state) answer.parts.items))

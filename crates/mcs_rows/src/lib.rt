@@ -1,11 +1,16 @@
-//! What a context's answers come to: what it may supply, and its local rows.
+//! What a context's answers come to: what it may supply, its minimal local rows, and those that a pair makes.
 #![tactic(auto)]
 
 mod answer;
+mod changed;
+mod finding;
 mod local;
 mod marks;
+mod minimal;
+mod states;
 mod supply;
 
 pub use answer::Answer;
-pub use local::local_rows;
+pub use changed::changed_rows;
+pub use minimal::minimal_rows;
 pub use supply::supplies;

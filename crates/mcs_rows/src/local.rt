@@ -1,24 +1,19 @@
-//! The local rows of a context.
+//! Rows of one state at the inputs of a context.
 
-ghost use Rattle.std.specs.Prelude.{◌≡◌, ◌<◌, ◌++◌, ℕ, List, map, filter, length, IfOk};
+ghost use Rattle.std.specs.Prelude.{◌≡◌, ◌<◌, ◌++◌, map, filter, length, IfOk};
 ghost use Rattle.std.specs.List.{AllByRecursion, flat_map};
 ghost use Rattle.mcs_sets.specs.Sets.{common, Within};
-ghost use Rattle.mcs_system.specs.Imports.{IsImportOrder, supplied, rules_into};
+ghost use Rattle.mcs_system.specs.Imports.{rules_into};
 ghost use Rattle.mcs_system.specs.Repairs.{allowed_marks};
 ghost use Rattle.mcs_system.specs.Systems.{applicable};
-ghost use Rattle.mcs_import.specs.Plans.{AreSupplies};
-ghost use Rattle.mcs_rows.specs.Answers.{answered_of};
-ghost use Rattle.mcs_rows.specs.Local.{AreAnswered, IsLocalTable};
 ghost use Rattle.mcs_rows.specs.Making.{agrees, row_with, rows_with};
 ghost use Rattle.mcs_rows.specs.declared.answer.Answer as declared;
 
 use crate::answer::Answer;
 use crate::marks::marks_of;
 use mcs_base::{Active, Marks, Memory, Partial, Vars};
-use mcs_import::{Plan, guessed_states, supplied_states};
 use mcs_system::System;
-use mcs_table::{Row, Table};
-use std::alloc::Global;
+use mcs_table::Row;
 
 /// The row with these marks that says of the local variables which of them are true.
 fn row(local: Vars, values: Vars, marks: Marks) -> Row
@@ -31,7 +26,7 @@ fn row(local: Vars, values: Vars, marks: Marks) -> Row
 }
 
 /// Adds the rows of context `i` of the state at its inputs with each of the parts that agrees with it.
-fn add_parts(
+pub(crate) fn add_parts(
     rows: &mut Vec<Row>,
     system: &System,
     i: u32,
@@ -57,9 +52,9 @@ fn add_parts(
 
 /// Which marks a row may have, and how many.
 #[derive(Drop)]
-struct Reach {
-    allowed: Marks,
-    level: u32,
+pub(crate) struct Reach {
+    pub allowed: Marks,
+    pub level: u32,
 }
 
 /// Adds the rows of context `i` of the state at its inputs with the answer, where few changes, each of them
@@ -92,7 +87,7 @@ fn add_answer(
 }
 
 /// Adds the rows of context `i` of the state at its inputs with each of the answers.
-fn add_answers(
+pub(crate) fn add_answers(
     rows: &mut Vec<Row>,
     system: &System,
     i: u32,
@@ -111,55 +106,4 @@ fn add_answers(
         add_answer(rows, system, i, state, applying, answer, reach)?;
     }
     Ok(())
-}
-
-/// The rows of context `i` of each of the states at its inputs with each of the answers.
-fn rows_in(
-    alloc: Global,
-    system: &System,
-    i: u32,
-    states: &[Vars],
-    answers: &[Answer],
-    level: u32,
-) -> Result<Vec<Row>, Memory>
-    requires in_range { i < length system.now.contexts }
-    requires of_rules { AllByRecursion (λ (a : declared.Answer). Within a.active (rules_into system.now i)) answers.now }
-    ensures { IfOk result (λ rows. rows.items
-        ≡ flat_map (λ s. flat_map (rows_with system.now i level s) answers.now) states.now) }
-{
-    let reach = Reach {
-        allowed: system.allowed(),
-        level,
-    };
-    let mut rows = Vec::new(alloc);
-    for state in states {
-        add_answers(&mut rows, system, i, *state, answers, &reach)?;
-    }
-    Ok(rows)
-}
-
-/// The local rows of context `i` of the plan's system at the level, as a table on its local variables: what it
-/// accepts on these with the marks that this takes, which are allowed and at most `level`. `supplies` are what the contexts
-/// of `plan.supplied(i)` may supply at this level, in this order, each list in the order of states; `answers`
-/// are those of `i` to all its questions of the level, ascending by the numbers that stand for them.
-pub fn local_rows(
-    alloc: Global,
-    plan: &Plan,
-    i: u32,
-    supplies: &[Vec<Vars>],
-    answers: &[Answer],
-    level: u32,
-) -> Result<Table, Memory>
-    requires in_range { i < length plan.now.contexts }
-    requires supplied { (order : List ℕ) → IsImportOrder plan.now order
-        → AreSupplies plan.now level (supplied plan.now order i) (map (λ supply. supply.items) supplies.now) }
-    requires answered { AreAnswered plan.now level i (map answered_of answers.now) }
-    ensures { IfOk result (IsLocalTable plan.now level i) }
-{
-    let system = plan.system();
-    let inputs = system.inputs_of(i);
-    let joined = supplied_states(alloc, supplies, inputs)?;
-    let states = guessed_states(joined, plan.guessed(i))?;
-    let rows = rows_in(alloc, system, i, &states, answers, level)?;
-    Ok(Table::new(system.vars_of(i).union(inputs), rows))
 }

@@ -9,13 +9,13 @@ use Rattle.mcs_base.proofs.Numbered.{common_assoc}
 use Rattle.mcs_base.proofs.PartialLemmas.{fits_kept, fits_whole}
 use Rattle.mcs_table.specs.declared.row.Row.{Row}
 use Rattle.mcs_table.specs.RowOrder.{RowBefore, same_row}
-use Rattle.mcs_table.specs.Tables.{TableData, IsTable, IsRestriction, IsMinimalRow, IsForgetting, united_row, restricted_row}
+use Rattle.mcs_table.specs.Tables.{Covers, TableData, IsTable, IsRestriction, IsMinimalRow, IsForgetting, united_row, restricted_row}
 use Rattle.mcs_table.specs.Joins.{ForgettingCommutes, ForgettingIsOne, ForgettingTwiceIsOnce}
 use Rattle.mcs_table.specs.Elimination.{IsRestrictionOf}
 use Rattle.mcs_table.proofs.OrderLemmas.{RowBefore-asymmetric}
 use Rattle.mcs_table.proofs.JoinLemmas.{row_of, minimal_as}
 use Rattle.mcs_table.proofs.ForgetLemmas.{restrictions}
-use Rattle.mcs_table.proofs.CoverLemmas.{Covers, Covers-trans, covers_same, minimal_covers}
+use Rattle.mcs_table.proofs.CoverLemmas.{Covers-trans, covers_same, minimal_covers}
 use Rattle.mcs_table.proofs.JointLemmas.{IsUnionOf, Presents, join_presents, covers_listing, covers_alike, presents_alike}
 use Rattle.mcs_table.proofs.OrderFreeLemmas.{table_is}
 

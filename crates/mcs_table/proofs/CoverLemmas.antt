@@ -4,18 +4,14 @@ use Rattle.std.proofs.lemmas.Bool.{cases_lt, cases_eq}
 use Rattle.mcs_sets.specs.Sets.{has, union, size, Within}
 use Rattle.mcs_sets.proofs.SetLemmas.{Within-le}
 use Rattle.mcs_sets.proofs.Lattice.{within_antisymmetric, cases_within}
-use Rattle.mcs_base.specs.Listings.{IsAmong}
+use Rattle.mcs_base.specs.Listings.{IsAmong, IsListing}
 use Rattle.mcs_base.specs.Partials.{Fits}
 use Rattle.mcs_base.proofs.Among.{among_append}
 use Rattle.mcs_base.proofs.PartialLemmas.{cases_state, cases_fit}
 use Rattle.mcs_table.specs.declared.row.Row.{Row}
-use Rattle.mcs_table.specs.Tables.{IsUnion, IsMinimalRow, united_row}
+use Rattle.mcs_table.specs.RowOrder.{RowBefore}
+use Rattle.mcs_table.specs.Tables.{Covers, IsUnion, IsMinimalRow, united_row}
 use Rattle.mcs_table.proofs.MinimalLemmas.{row_is}
-
--- Q has some of the rows of P, and one of the same state within each
-pub record Covers (Q P : Row → Type 0) : Type 0 where
-  pub from : (r : Row) → Q r → P r
-  pub below : (r : Row) → P r → (m : Row) × Q m × (m.state ≡ r.state) × Within m.marks r.marks
 
 pub Covers-trans : (Q P O : Row → Type 0) → Covers Q P → Covers P O → Covers Q O
 Covers-trans Q P O c d = record {
@@ -39,6 +35,16 @@ covers_same Q P c r = (
       let same : n ≡ r = row_is n r state (m.least n (c.from n q) state within) in
       record { one = subst Q same q; least = λ s q'. m.least s (c.from s q') },
 )
+
+-- what covers the first parts of lists, and the last ones, covers the lists
+pub covers_append : (xs ys zs ws : List Row) → Covers (λ r. IsAmong r xs) (λ r. IsAmong r ys) → Covers (λ r. IsAmong r zs) (λ r. IsAmong r ws) → Covers (λ r. IsAmong r (xs ++ zs)) (λ r. IsAmong r (ys ++ ws))
+covers_append xs ys zs ws c d = record {
+  from = λ r h. (among_append r ys ws).1 (elim ((among_append r xs zs).0 h) [ inl one ↦ inl (c.from r one) | inr other ↦ inr (d.from r other) ]);
+  below = λ r h. elim ((among_append r ys ws).0 h) [
+    | inl one ↦ let (m, q, state, within) = c.below r one in (m, (among_append m xs zs).1 (inl q), state, within)
+    | inr other ↦ let (m, q, state, within) = d.below r other in (m, (among_append m xs zs).1 (inr q), state, within)
+  ];
+}
 
 -- ---- each of finitely many rows has a minimal one within it
 -- y is strictly within x
@@ -148,3 +154,10 @@ unions_listed (x ∷ xs) ys level = let (vs, is) = unions_with x ys level in let
     ]),
   ),
 )
+
+-- the listing of the minimal ones of some rows covers them
+pub listing_covers : (xs ys : List Row) → IsListing (IsMinimalRow (λ r. IsAmong r xs)) RowBefore ys → Covers (λ r. IsAmong r ys) (λ r. IsAmong r xs)
+listing_covers xs ys l = let c = minimal_covers (λ r. IsAmong r xs) (xs, λ r. (λ h. h, λ h. h)) in record {
+  from = λ r h. c.from r ((l.exactly r).0 h);
+  below = λ r h. let (m, q, state, within) = c.below r h in (m, (l.exactly m).1 q, state, within);
+}

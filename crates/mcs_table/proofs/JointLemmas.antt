@@ -10,10 +10,10 @@ use Rattle.mcs_base.proofs.PartialLemmas.{united-partial}
 use Rattle.mcs_base.proofs.ListingLemmas.{IsListing-same}
 use Rattle.mcs_table.specs.declared.row.Row.{Row}
 use Rattle.mcs_table.specs.RowOrder.{RowBefore, same_row}
-use Rattle.mcs_table.specs.Tables.{TableData, IsTable, AreApart, IsUnion, IsMinimalRow, IsJoin, unit_row, unit_table, united_row}
+use Rattle.mcs_table.specs.Tables.{Covers, TableData, IsTable, AreApart, IsUnion, IsMinimalRow, IsJoin, unit_row, unit_table, united_row}
 use Rattle.mcs_table.specs.Joins.{JoinsFrom, union_of, united_rows, FitTogether, IsJointRow, JoinsStayApart, JoinsAreMinimalUnions}
 use Rattle.mcs_table.proofs.JoinLemmas.{row_of, minimal_as}
-use Rattle.mcs_table.proofs.CoverLemmas.{Covers, Covers-trans, covers_same, minimal_covers, unions_listed}
+use Rattle.mcs_table.proofs.CoverLemmas.{Covers-trans, covers_same, minimal_covers, unions_listed}
 
 -- ---- unions of rows
 pub united-assoc : (x y z : Row) → united_row (united_row x y) z ≡ united_row x (united_row y z)

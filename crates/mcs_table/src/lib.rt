@@ -19,6 +19,7 @@ pub use laws::{
     elimination_gives_minimal_rows, forgetting_commutes, forgetting_is_a_restriction,
     joins_are_minimal_unions,
 };
+pub use minimal::minimal_table;
 pub use row::Row;
 pub use semi_joining::semi_join;
 pub use table::Table;

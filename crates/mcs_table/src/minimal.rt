@@ -13,7 +13,7 @@ use mcs_base::Vars;
 
 /// The table of the minimal ones among these rows, each of which is on the variables of the scope. It takes
 /// no memory.
-pub(crate) fn minimal_table(scope: Vars, rows: Vec<Row>) -> Table
+pub fn minimal_table(scope: Vars, rows: Vec<Row>) -> Table
     requires { AllByRecursion (λ (r : declared.Row). r.state.mask ≡ scope) rows.items }
     ensures scope { result.scope ≡ scope }
     ensures rows { IsListing (IsMinimalRow (λ r. IsAmong r rows.items)) RowBefore result.rows }

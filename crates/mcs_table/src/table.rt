@@ -72,7 +72,7 @@ impl Table {
     }
 
     /// The rows of a table that is not needed any more.
-    pub(crate) fn into_rows(self) -> Vec<Row>
+    pub fn into_rows(self) -> Vec<Row>
         ensures value { result.items ≡ self.rows }
         ensures kept { IsTable self }
     {
