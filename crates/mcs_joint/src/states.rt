@@ -55,7 +55,7 @@ fn values_of(alloc: Global, rows: &[Row]) -> Result<Vec<Vars>, Memory>
 }
 
 /// Of each of the tables the rows whose marks are those that the pair makes of their state.
-fn changed_tables(
+pub(crate) fn changed_tables(
     alloc: Global,
     system: &System,
     tables: &[Table],
@@ -115,7 +115,7 @@ fn has_marks_of(system: &System, context: u32, row: &Row, pair: Pair) -> bool
 
 /// The states of the unions of one row of each of the tables that fit all together, one for each union. The last
 /// table gives states alone, since there are most rows then.
-fn united_states(alloc: Global, tables: &[Table], level: u32) -> Result<Vec<Vars>, Memory>
+pub(crate) fn united_states(alloc: Global, tables: &[Table], level: u32) -> Result<Vec<Vars>, Memory>
     requires tables { AllByRecursion IsTable tables.now }
     requires apart { EachApart tables.now }
     ensures { IfOk result (λ states. (all : List declared.Row) × ((r : declared.Row) → IsAmong r all ↔ IsJointRow level tables.now r)

@@ -12,7 +12,7 @@ use crate::lasting::is_all_done;
 use crate::rounds::{Round, round_of};
 use mcs_base::{Marks, Memory, Pair, Vars};
 use mcs_import::Plan;
-use mcs_joint::states_in;
+use mcs_joint::{first_state_in, states_in};
 use mcs_ports::Gate;
 use mcs_states::{Evaluator, Halt, Oracle};
 use mcs_table::Table;
@@ -152,6 +152,14 @@ impl<'a, O: Oracle, G: Gate> Evaluator for Mesh<'a, O, G> {
         self.reach(alloc, pair.marks().count())?;
         match states_in(alloc, &self.plan, &self.tables, pair) {
             Ok(states) => Ok(states),
+            Err(Memory) => Err(Halt::Memory.kept_in(&mut self.halt)),
+        }
+    }
+
+    fn first_state(&mut self, alloc: Global, pair: Pair) -> Result<Option<Vars>, Halt> {
+        self.reach(alloc, pair.marks().count())?;
+        match first_state_in(alloc, &self.plan, &self.tables, pair) {
+            Ok(first) => Ok(first),
             Err(Memory) => Err(Halt::Memory.kept_in(&mut self.halt)),
         }
     }

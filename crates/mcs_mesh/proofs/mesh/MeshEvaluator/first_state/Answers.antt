@@ -1,0 +1,1 @@
+use Rattle.mcs_mesh.proofs.mesh.MeshEvaluator.first_state.Goals as goal
