@@ -1,12 +1,14 @@
 //! The first equilibrium of a system that a pair changes, of the tables of all contexts, without a list of all.
 
-ghost use Rattle.std.specs.Prelude.{◌≡◌, ◌≤◌, ◌<◌, ◌↔◌, ℕ, length, IfOk, IsTrue, OnOk, MatchOption, Ok};
+ghost use Rattle.std.specs.Prelude.{◌≡◌, ◌≤◌, ◌<◌, ◌↔◌, ℕ, List, map, IfOk, IfSome, IsTrue};
 ghost use Rattle.std.specs.List.{AllByRecursion, AllZip};
 ghost use Rattle.mcs_sets.specs.Sets.{minus, single, size, Within};
 ghost use Rattle.mcs_base.specs.Listings.{IsAmong};
 ghost use Rattle.mcs_base.specs.Pairs.{removed_of, forced_of};
 ghost use Rattle.mcs_system.specs.Repairs.{allowed_marks};
 ghost use Rattle.mcs_system.specs.Systems.{all_rules, IsProjectedEquilibrium};
+ghost use Rattle.mcs_table.specs.declared.row.Row as declared;
+ghost use Rattle.mcs_table.specs.Joins.{IsJointRow};
 ghost use Rattle.mcs_table.specs.Tables.{IsTable};
 ghost use Rattle.mcs_rows.specs.Local.{AreLocalTables};
 ghost use Rattle.mcs_joint.specs.Apart.{EachApart};
@@ -15,13 +17,13 @@ ghost use Rattle.mcs_joint.specs.First.{TellsFirst, IsJointState, HaveJointRow, 
 use crate::order::scopes;
 use crate::reduce::reduced;
 use crate::repairs::eliminate;
-use crate::states::{changed_tables, united_states};
+use crate::states::{changed_tables, values_of};
 use mcs_base::{Memory, Pair, Partial, Vars, state_before};
 use mcs_import::Plan;
-use mcs_table::{Table, matching};
+use mcs_table::{Table, matching, unions};
 use std::alloc::Global;
 
-/// So many unions of rows are made at most to take the least of them.
+/// So many unions of rows with those of a table are made at most to take the least of them.
 const MOST_UNIONS: usize = 4096;
 
 /// The first of the projected equilibria of the plan's system that the pair changes; `None` exactly where there is
@@ -50,21 +52,33 @@ fn first_joint(alloc: Global, tables: Vec<Table>, level: u32) -> Result<Option<V
     ensures { IfOk result (TellsFirst (IsJointState level tables.items)) }
 {
     let fewer = reduced(alloc, tables, level)?;
-    if have_few_unions(&fewer) {
-        let states = united_states(alloc, &fewer, level)?;
+    if let Some(states) = few_states(alloc, &fewer, level)? {
         return Ok(least_of(&states));
     }
     let first = settled_state(alloc, fewer, level)?;
     Ok(first)
 }
 
-/// Whether there are few ways to take one row of each table that is not empty.
-fn have_few_unions(tables: &[Table]) -> bool {
-    let mut unions: usize = 1;
+/// The states of the unions of one row of each of the tables that fit all together, one for each union, in no order;
+/// `None` where more unions than `MOST_UNIONS` may come about with some table.
+fn few_states(alloc: Global, tables: &[Table], level: u32) -> Result<Option<Vec<Vars>>, Memory>
+    requires tables { AllByRecursion IsTable tables.now }
+    requires apart { EachApart tables.now }
+    ensures { IfOk result (λ found. IfSome found (λ states. (all : List declared.Row) × ((r : declared.Row) → IsAmong r all ↔ IsJointRow level tables.now r)
+        × (states.items ≡ map (λ (r : declared.Row). r.state.values) all))) }
+{
+    let unit = Table::unit(alloc)?;
+    let mut all = Vec::from_slice(alloc, unit.rows())?;
+    let mut seen = Vars::empty();
     for table in tables {
-        unions = unions.saturating_mul(table.rows().len().max(1));
+        if all.len().saturating_mul(table.rows().len()) > MOST_UNIONS {
+            return Ok(None);
+        }
+        all = unions(alloc, &all, seen, table, level)?;
+        seen = seen.union(table.scope());
     }
-    unions <= MOST_UNIONS
+    let states = values_of(alloc, &all)?;
+    Ok(Some(states))
 }
 
 /// The least of the states; `None` exactly where there is none.

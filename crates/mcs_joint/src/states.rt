@@ -47,7 +47,7 @@ pub fn states_in(
 }
 
 /// The values of each row.
-fn values_of(alloc: Global, rows: &[Row]) -> Result<Vec<Vars>, Memory>
+pub(crate) fn values_of(alloc: Global, rows: &[Row]) -> Result<Vec<Vars>, Memory>
     ensures { IfOk result (λ all. all.items ≡ map (λ (r : declared.Row). r.state.values) rows.now) }
 {
     let all = rows.iter().map(|row| row.state.values()).collect(alloc)?;
@@ -115,7 +115,7 @@ fn has_marks_of(system: &System, context: u32, row: &Row, pair: Pair) -> bool
 
 /// The states of the unions of one row of each of the tables that fit all together, one for each union. The last
 /// table gives states alone, since there are most rows then.
-pub(crate) fn united_states(alloc: Global, tables: &[Table], level: u32) -> Result<Vec<Vars>, Memory>
+fn united_states(alloc: Global, tables: &[Table], level: u32) -> Result<Vec<Vars>, Memory>
     requires tables { AllByRecursion IsTable tables.now }
     requires apart { EachApart tables.now }
     ensures { IfOk result (λ states. (all : List declared.Row) × ((r : declared.Row) → IsAmong r all ↔ IsJointRow level tables.now r)

@@ -4,3 +4,4 @@ pub mod RoundLemmas
 pub mod MeshLemmas
 pub mod LastingLemmas
 pub mod FoundLemmas
+pub mod FirstLemmas
