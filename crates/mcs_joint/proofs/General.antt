@@ -1,10 +1,9 @@
 -- Lists that go together place by place.
-use Rattle.std.proofs.Common.{◌≡◌, ℕ, zero, suc, List, [], ◌∷◌, length, Some, slice_get, get_or, take, drop, ◌++◌, ◌<◌, ◌≤◌, ◌+◌, refl, sym, ap, ◌∙◌, subst, arith}
-use Rattle.std.proofs.lemmas.List.{append-nil, drop_more, drop_all, take_more, take_all}
+use Rattle.std.proofs.Common.{◌≡◌, ℕ, List, ◌∷◌, length, get_or, drop, ◌<◌, ◌≤◌, ◌+◌, sym, ap, ◌∙◌}
+use Rattle.std.proofs.lemmas.List.{drop_more, drop_all}
 use Rattle.mcs_sets.specs.Sets.{union}
 use Rattle.mcs_sets.proofs.Lattice.{union_assoc, union-none}
 use Rattle.mcs_table.specs.Joins.{union_of}
-use Rattle.std.specs.List.{AllZip}
 
 -- ---- what is in some of the sets that f gives, gathered one after the other
 module _ {A : Type 0} (f : A → ℕ) (xs : List A) (i : ℕ) (all : ℕ) where

@@ -1,10 +1,9 @@
 -- Tables with the rows that give one variable a value: which joint rows they have.
-use Rattle.std.proofs.Common.{◌≡◌, ◌<◌, ◌≤◌, ℕ, zero, suc, Bool, true, false, cond, true≢false, List, [], ◌∷◌, length, get_or, refl, sym, ap, ◌∙◌, subst, inl, inr, ◌↔◌, arith, IsTrue}
+use Rattle.std.proofs.Common.{◌≡◌, ◌<◌, ℕ, zero, suc, Bool, true, false, cond, true≢false, List, [], ◌∷◌, length, get_or, refl, sym, ap, ◌∙◌, subst, inl, inr, ◌↔◌, arith}
 use Rattle.std.proofs.lemmas.Bool.{false_from_ne_true}
-use Rattle.std.proofs.lemmas.Bool.Decides.{nat_tests}
 use Rattle.std.specs.List.{AllByRecursion, AllZip}
 use Rattle.mcs_sets.specs.Sets.{has, single, minus, size}
-use Rattle.mcs_sets.proofs.SetLemmas.{has-empty, members_below, sets}
+use Rattle.mcs_sets.proofs.SetLemmas.{has-empty, members_below}
 use Rattle.mcs_sets.proofs.Lattice.{has-single_itself, in_minus, nothing_missing, only_member, size-less}
 use Rattle.mcs_sets.proofs.Changes.{some_member}
 use Rattle.mcs_base.specs.Listings.{IsAmong}
@@ -16,7 +15,7 @@ use Rattle.mcs_base.proofs.ListingLemmas.{none_listed}
 use Rattle.mcs_base.proofs.Zipped.{zip_weaker}
 use Rattle.mcs_table.specs.declared.row.Row.{Row}
 use Rattle.mcs_table.specs.Tables.{TableData, IsTable, IsMinimalRow, unit_row, unit_table}
-use Rattle.mcs_table.specs.Joins.{union_of, united_rows, FitTogether, IsJointRow}
+use Rattle.mcs_table.specs.Joins.{union_of, IsJointRow}
 use Rattle.mcs_table.specs.Elimination.{EliminatesTo, IsRestrictionOf}
 use Rattle.mcs_table.proofs.EliminationLemmas.{elimination_is_minimal}
 use Rattle.mcs_table.proofs.JoinLemmas.{row_of}

@@ -1,5 +1,5 @@
 -- The first state of joint rows, by settling one variable after the other.
-use Rattle.std.proofs.Common.{◌≡◌, ◌<◌, ◌≤◌, ◌+◌, ℕ, Bool, true, false, true≢false, List, length, take, get_or, refl, sym, ap, ◌∙◌, subst, inl, inr, ◌⊎◌, ◌↔◌, arith, eqb, map, Option, None, Some}
+use Rattle.std.proofs.Common.{◌≡◌, ◌<◌, ◌+◌, ℕ, Bool, true, false, true≢false, List, length, take, get_or, refl, sym, ◌∙◌, subst, inl, inr, ◌⊎◌, ◌↔◌, arith, map, Option, None, Some}
 use Rattle.std.proofs.lemmas.Bool.{false_from_ne_true, cases_lt, cases_eq}
 use Rattle.std.proofs.lemmas.Bool.Decides.{nat_tests}
 use Rattle.std.specs.List.{AllByRecursion}

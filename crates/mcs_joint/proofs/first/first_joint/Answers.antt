@@ -1,11 +1,9 @@
-use Rattle.std.proofs.Common.{◌≡◌, ◌↔◌, List, map, sym, subst}
-use Rattle.std.specs.List.{AllByRecursion}
+use Rattle.std.proofs.Common.{◌↔◌, List, subst}
 use Rattle.mcs_base.specs.Listings.{IsAmong}
 use Rattle.mcs_table.specs.declared.row.Row.{Row}
 use Rattle.mcs_table.specs.Joins.{IsJointRow}
-use Rattle.mcs_table.specs.Tables.{TableData, IsTable}
-use Rattle.mcs_joint.specs.Apart.{EachApart}
-use Rattle.mcs_joint.specs.First.{IsJointState, TellsFirst}
+use Rattle.mcs_table.specs.Tables.{TableData}
+use Rattle.mcs_joint.specs.First.{IsJointState}
 use Rattle.mcs_joint.proofs.Settling.{first_same, states_reduced, states_united}
 use Rattle.mcs_joint.proofs.first.first_joint.Goals as goal
 

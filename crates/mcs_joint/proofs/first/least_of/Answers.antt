@@ -1,4 +1,4 @@
-use Rattle.std.proofs.Common.{◌≡◌, ◌+◌, ℕ, sym, subst, take, true≢false, ◌∙◌}
+use Rattle.std.proofs.Common.{◌+◌, ℕ, sym, subst, take, true≢false, ◌∙◌}
 use Rattle.std.proofs.lemmas.List.{take_all}
 use Rattle.mcs_base.specs.Listings.{IsAmong}
 use Rattle.mcs_base.proofs.Among.{among_at, among_get}

@@ -1,4 +1,4 @@
-use Rattle.std.proofs.Common.{◌≡◌, ◌∙◌, List, Bool, true, false, true≢false, ap, sym, subst}
+use Rattle.std.proofs.Common.{◌∙◌, List, true, false, true≢false, ap, sym, subst}
 use Rattle.std.specs.List.{AllByRecursion, AllZip}
 use Rattle.mcs_sets.specs.Sets.{has}
 use Rattle.mcs_table.specs.Joins.{union_of}

@@ -1,5 +1,4 @@
-use Rattle.std.proofs.Common.{◌≡◌, ◌+◌, List, ℕ, Bool, sym, subst, arith}
-use Rattle.mcs_table.specs.Tables.{TableData}
+use Rattle.std.proofs.Common.{◌≡◌, ℕ, Bool, subst, arith}
 use Rattle.mcs_joint.specs.First.{HaveJointRow, IsSettled}
 use Rattle.mcs_joint.proofs.Settling.{AreSettled, settled_begin, settled_false, settled_true, settled_end}
 use Rattle.mcs_joint.proofs.first.settled_state.Goals.{then-holds, else-holds}
