@@ -11,7 +11,7 @@ use Rattle.mcs_base.proofs.Sorted.{of_size, IsListing-of_size}
 use Rattle.mcs_system.specs.Plain.{System}
 use Rattle.mcs_system.specs.Repairs.{IsDiagnosis}
 use Rattle.mcs_states.specs.Evaluators.{AreRepairs, IsStateOf}
-use Rattle.mcs_equilibria.specs.First.{IsFirstState}
+use Rattle.mcs_states.specs.First.{IsFirstState}
 use Rattle.mcs_diagnosis.specs.declared.diagnosis.Diagnosis as code
 use Rattle.mcs_diagnosis.specs.Diagnoses.{AreFound, IsShown, pairs_of, active_in}
 

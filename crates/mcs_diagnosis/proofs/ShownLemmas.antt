@@ -14,7 +14,7 @@ use Rattle.mcs_base.proofs.ListingLemmas.{same_listing, IsListing-same, IsListin
 use Rattle.mcs_system.specs.Plain.{System}
 use Rattle.mcs_system.specs.Repairs.{IsDiagnosis}
 use Rattle.mcs_states.specs.Evaluators.{IsStateOf, AreStates}
-use Rattle.mcs_equilibria.specs.First.{IsFirstState}
+use Rattle.mcs_states.specs.First.{IsFirstState}
 use Rattle.mcs_diagnosis.specs.declared.diagnosis.Diagnosis as code
 use Rattle.mcs_diagnosis.specs.Diagnoses.{AreFoundBelow, AreDiagnoses, IsShown, pairs_of, active_in}
 use Rattle.mcs_diagnosis.proofs.BelowLemmas.{IsBelow}

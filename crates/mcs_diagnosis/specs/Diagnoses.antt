@@ -9,7 +9,7 @@ use Rattle.mcs_base.specs.Pairs.{removed_of, forced_of}
 use Rattle.mcs_system.specs.Plain.{System}
 use Rattle.mcs_system.specs.Repairs.{IsDiagnosis}
 use Rattle.mcs_system.specs.Systems.{applicable}
-use Rattle.mcs_equilibria.specs.First.{IsFirstState}
+use Rattle.mcs_states.specs.First.{IsFirstState}
 use Rattle.mcs_diagnosis.specs.declared.diagnosis.Diagnosis as code
 
 -- a minimal diagnosis of so many marks

@@ -12,7 +12,7 @@ use Rattle.mcs_laws.specs.Examples.{self_support}
 use Rattle.mcs_laws.proofs.Tiny.{self_support_has_two}
 use Rattle.mcs_states.specs.Evaluators.{AreStates}
 use Rattle.mcs_equilibria.specs.First.{SelfSupportComesFirst}
-use Rattle.mcs_equilibria.proofs.FirstLemmas.{first_there}
+use Rattle.mcs_states.proofs.FirstLemmas.{first_there}
 
 -- the empty pair changes nothing
 unchanged : (m : System) (xs : List ℕ) → IsListing (IsProjectedEquilibrium m (all_rules m) 0) StateBefore xs → AreStates m 0 xs

@@ -1,10 +1,10 @@
-//! Evaluations on one thread: equilibria of changed systems.
+//! Evaluations on one thread: equilibria of changed systems, and the first of them.
 
 use crate::evaluators::evaluator_of;
 use crate::numbered::are_numbered;
 use crate::systems::{CHOICE, FORBIDDEN, SELF_ATTACK, are_allowed, system_of};
 use mcs_base::{Marks, Memory, Pair};
-use mcs_equilibria::list_states;
+use mcs_equilibria::{least_state, list_states};
 use mcs_ports::IdleGate;
 use mcs_system::System;
 use std::alloc::Global;
@@ -23,6 +23,28 @@ const CHANGES: &[(&str, &[u32], &[u64])] = &[
     (SELF_ATTACK, &[1], &[1]),
     (CHOICE, &[], &[1, 2]),
     (CHOICE, &[0], &[2]),
+];
+
+/// What one context is told is forbidden. Thirteen others choose whether to hold what they tell themselves; the sixth may
+/// only where the fifth does not.
+const FREE: &str = "context fact program { a. } context bad program { :- told. } context k0 program { y :- x. }
+context k1 program { y :- x. } context k2 program { y :- x. } context k3 program { y :- x. }
+context k4 program { y :- x. } context k5 program { y :- x. } context k6 program { y :- x. }
+context k7 program { y :- x. } context k8 program { y :- x. } context k9 program { y :- x. }
+context k10 program { y :- x. } context k11 program { y :- x. } context k12 program { y :- x. }
+bridge tell: bad:told if fact:a, not fact:b. bridge r0: k0:x if k0:y. bridge r1: k1:x if k1:y. bridge r2: k2:x if k2:y.
+bridge r3: k3:x if k3:y. bridge r4: k4:x if k4:y. bridge r5: k5:x if k5:y, not k4:y. bridge r6: k6:x if k6:y.
+bridge r7: k7:x if k7:y. bridge r8: k8:x if k8:y. bridge r9: k9:x if k9:y. bridge r10: k10:x if k10:y.
+bridge r11: k11:x if k11:y. bridge r12: k12:x if k12:y.";
+
+/// Texts of systems, the marks of a pair, and the number of the first state that the system has where the pair changes it.
+const FIRST_STATES: &[(&str, &[u32], Option<u64>)] = &[
+    (FORBIDDEN, &[], None),
+    (FORBIDDEN, &[0, 2], Some(1)),
+    (CHOICE, &[], Some(1)),
+    (CHOICE, &[0], Some(2)),
+    (FREE, &[], None),
+    (FREE, &[0], Some(32637)),
 ];
 
 /// The set of these marks.
@@ -60,6 +82,36 @@ fn changed_systems_have_states(rt: HostRuntime) -> Result<(), Fail> {
     for (text, marks, states) in CHANGES {
         let system = system_of(rt.alloc(), text)?;
         let is_right = has_states(rt.alloc(), &system, marks_of(marks), states);
+        drop(system);
+        assert!(rt; is_right == Ok(true));
+    }
+    Ok(())
+}
+
+/// Whether this is the first state that the system has where a pair of these marks changes it.
+fn has_first_state(
+    alloc: Global,
+    system: &Arc<System>,
+    marks: Marks,
+    state: Option<u64>,
+) -> Result<bool, Memory> {
+    if !are_allowed(system, marks) {
+        return Ok(false);
+    }
+    let mut evaluator = evaluator_of(alloc, system, ENOUGH, &IdleGate)?;
+    let is_right = match least_state(alloc, &mut evaluator, Pair::new(marks)) {
+        Ok(found) => found.map(|first| first.number()) == state,
+        Err(_) => false,
+    };
+    drop(evaluator);
+    Ok(is_right)
+}
+
+#[test]
+fn changed_systems_have_first_states(rt: HostRuntime) -> Result<(), Fail> {
+    for (text, marks, state) in FIRST_STATES {
+        let system = system_of(rt.alloc(), text)?;
+        let is_right = has_first_state(rt.alloc(), &system, marks_of(marks), *state);
         drop(system);
         assert!(rt; is_right == Ok(true));
     }

@@ -7,3 +7,5 @@ pub mod Repaired
 pub mod Changing
 pub mod Uniting
 pub mod Reducing
+pub mod Narrowing
+pub mod Settling

@@ -1,11 +1,13 @@
 //! What the tables of all contexts say together: the minimal diagnoses with few marks, and the equilibria of a
-//! system that a pair changes.
+//! system that a pair changes, all of them or the first.
 #![tactic(auto)]
 
+mod first;
 mod order;
 mod reduce;
 mod repairs;
 mod states;
 
+pub use first::first_state_in;
 pub use repairs::repairs_in;
 pub use states::states_in;

@@ -66,7 +66,7 @@ fn minimal_tables(alloc: Global, tables: &[Table], level: u32) -> Result<Vec<Tab
 
 /// What is left of the tables where they are joined one after the other, and what no later table has is
 /// forgotten after each join.
-fn eliminate(alloc: Global, tables: &[Table], level: u32) -> Result<Table, Memory>
+pub(crate) fn eliminate(alloc: Global, tables: &[Table], level: u32) -> Result<Table, Memory>
     requires { EachApart tables.now }
     ensures { IfOk result (EliminatesTo level 0 tables.now) }
 {

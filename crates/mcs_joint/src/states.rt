@@ -44,7 +44,7 @@ pub fn states_in(
 }
 
 /// The values of each row.
-fn values_of(alloc: Global, rows: &[Row]) -> Result<Vec<Vars>, Memory>
+pub(crate) fn values_of(alloc: Global, rows: &[Row]) -> Result<Vec<Vars>, Memory>
     ensures { IfOk result (λ all. all.items ≡ map (λ (r : declared.Row). r.state.values) rows.now) }
 {
     let all = rows.iter().map(|row| row.state.values()).collect(alloc)?;

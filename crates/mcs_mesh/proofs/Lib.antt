@@ -5,3 +5,4 @@ pub mod MeshLemmas
 pub mod LastingLemmas
 pub mod FoundLemmas
 pub mod TableLemmas
+pub mod FirstLemmas

@@ -3,9 +3,10 @@
 ghost use Rattle.std.specs.Prelude.{◌≡◌, ◌≤◌, ℕ, false, Some, None, IfOk, IfErr, OnOk, map, length};
 ghost use Rattle.mcs_sets.specs.Sets.{size, Within};
 ghost use Rattle.mcs_system.specs.Repairs.{allowed_marks};
-ghost use Rattle.mcs_states.specs.Evaluators.{AreStates, KeepsRest, HasDone, HasHalted};
+ghost use Rattle.mcs_states.specs.Evaluators.{IsStateOf, AreStates, KeepsRest, HasDone, HasHalted};
 ghost use Rattle.mcs_states.specs.declared.halt.Halt.TheVariants as halts;
 ghost use Rattle.std.specs.Arc.{arc_value};
+ghost use Rattle.mcs_joint.specs.First.{TellsFirst};
 ghost use Rattle.mcs_mesh.specs.Rounds.{state_of, knowledge_of, AreFresh, AreKnown};
 
 use crate::found::{Found, is_reached};
@@ -15,7 +16,7 @@ use crate::rounds::ask_round;
 use crate::tables::changed_tables;
 use mcs_base::{Marks, Memory, Pair, Vars};
 use mcs_import::Plan;
-use mcs_joint::states_in;
+use mcs_joint::{first_state_in, states_in};
 use mcs_ports::Gate;
 use mcs_states::{Evaluator, Halt, Oracle};
 use std::alloc::Global;
@@ -155,6 +156,14 @@ impl<'a, O: Oracle, G: Gate> Evaluator for Mesh<'a, O, G> {
         }
     }
 
+    fn first_state(&mut self, alloc: Global, pair: Pair) -> Result<Option<Vars>, Halt> {
+        self.reach(alloc, pair.marks().count())?;
+        match changed_first(alloc, &self.plan, &self.known, pair) {
+            Ok(first) => Ok(first),
+            Err(Memory) => Err(Halt::Memory.kept_in(&mut self.halt)),
+        }
+    }
+
     fn asked(&self) -> u64 {
         self.asked
     }
@@ -180,4 +189,21 @@ fn changed_states(
     let own = changed_tables(alloc, plan, known, pair)?;
     let states = states_in(alloc, plan, own, pair)?;
     Ok(states)
+}
+
+/// The first of these equilibria; `None` exactly where there is none.
+fn changed_first(
+    alloc: Global,
+    plan: &Plan,
+    known: &[Known],
+    pair: Pair,
+) -> Result<Option<Vars>, Memory>
+    requires one_each { length known.now ≡ length plan.now.contexts }
+    requires known { (k : ℕ) × (size pair ≤ k) × AreKnown plan.now k (map knowledge_of known.now) }
+    requires allowed { Within pair (allowed_marks plan.now) }
+    ensures { IfOk result (TellsFirst (IsStateOf plan.now pair)) }
+{
+    let own = changed_tables(alloc, plan, known, pair)?;
+    let first = first_state_in(alloc, plan, own, pair)?;
+    Ok(first)
 }

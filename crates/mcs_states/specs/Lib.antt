@@ -1,3 +1,4 @@
 pub mod Oracles
 pub mod Evaluators
 pub mod Codes
+pub mod First

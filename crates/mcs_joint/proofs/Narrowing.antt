@@ -1,0 +1,201 @@
+-- Tables with the rows that give one variable a value: which joint rows they have.
+use Rattle.std.proofs.Common.{◌≡◌, ◌<◌, ℕ, zero, suc, Bool, true, false, cond, true≢false, List, [], ◌∷◌, length, get_or, refl, sym, ap, ◌∙◌, subst, inl, inr, ◌↔◌, arith}
+use Rattle.std.proofs.lemmas.Bool.{false_from_ne_true}
+use Rattle.std.specs.List.{AllByRecursion, AllZip}
+use Rattle.mcs_sets.specs.Sets.{has, single, minus, size}
+use Rattle.mcs_sets.proofs.SetLemmas.{has-empty, members_below}
+use Rattle.mcs_sets.proofs.Lattice.{has-single_itself, in_minus, nothing_missing, only_member, size-less}
+use Rattle.mcs_sets.proofs.Changes.{some_member}
+use Rattle.mcs_base.specs.Listings.{IsAmong}
+use Rattle.mcs_base.specs.Partials.{PartialState, Fits}
+use Rattle.mcs_base.proofs.Among.{among_at, place_among, zip_among}
+use Rattle.mcs_base.proofs.Each.{all_among, all_from_among}
+use Rattle.mcs_base.proofs.Lists.{length_zip, zip_get_or}
+use Rattle.mcs_base.proofs.ListingLemmas.{none_listed}
+use Rattle.mcs_base.proofs.Zipped.{zip_weaker}
+use Rattle.mcs_table.specs.declared.row.Row.{Row}
+use Rattle.mcs_table.specs.Tables.{TableData, IsTable, IsMinimalRow, unit_row, unit_table}
+use Rattle.mcs_table.specs.Joins.{union_of, IsJointRow}
+use Rattle.mcs_table.specs.Elimination.{EliminatesTo, IsRestrictionOf}
+use Rattle.mcs_table.proofs.EliminationLemmas.{elimination_is_minimal}
+use Rattle.mcs_table.proofs.JoinLemmas.{row_of}
+use Rattle.mcs_table.proofs.OrderFreeLemmas.{in_some, some_in}
+use Rattle.mcs_joint.specs.Apart.{EachApart}
+use Rattle.mcs_joint.specs.First.{HaveJointRow, valued, IsNarrowed, IsSettled}
+use Rattle.mcs_joint.proofs.Covering.{apart_fewer}
+
+-- ---- whether there is a joint row
+-- where no row is minimal, there is none
+no_minimal : (P : Row → Type 0) → ((x : Row) → ¬ IsMinimalRow P x) → (n : ℕ) (x : Row) → size x.marks < n → ¬ P x
+no_minimal P none zero x few p = omega arith
+no_minimal P none (suc n) x few p = none x (record {
+  one = p;
+  least = λ y q state within. elim (some_member (minus x.marks y.marks)) [
+    | inl nothing ↦ nothing_missing y.marks x.marks within nothing
+    | inr (k, missing) ↦
+        let (in_x, not_in_y) = in_minus x.marks y.marks k missing in
+        let less = size-less x.marks y.marks k within in_x not_in_y in
+        absurd (no_minimal P none n y (omega arith) q)
+  ];
+})
+
+-- something is left of an elimination exactly where there is a joint row
+module _ (level : ℕ) (ts : List TableData) (t : TableData) (are : AllByRecursion IsTable ts) (left : EliminatesTo level 0 ts t) where
+  pub none_left : length t.rows ≡ 0 → ¬ HaveJointRow level ts
+  none_left none (r, joint) =
+      let P = IsRestrictionOf (IsJointRow level ts) 0 in
+      no_minimal P (none_listed (IsMinimalRow P) _ t.rows none (elimination_is_minimal level 0 ts t are left).rows) (suc (size r.marks)) _ (omega arith) (record { row = r; holds = joint; is = refl })
+
+  pub some_left : 0 < length t.rows → HaveJointRow level ts
+  some_left some =
+      let least = (((elimination_is_minimal level 0 ts t are left).rows.exactly _).0 (among_at t.rows 0 unit_row some)).one in
+      (least.row, least.holds)
+
+-- ---- what a joint row says
+abbrev IsPartOf : Row → TableData → Type 0
+IsPartOf p t = IsAmong p t.rows
+
+module _ (level : ℕ) (ts : List TableData) (are : AllByRecursion IsTable ts) (r : Row) (joint : IsJointRow level ts r) where
+  -- what is true in a part is of its variables
+  part_true : (p : Row) → IsAmong p joint.parts → (v : ℕ) → has p.state.values v ≡ true → (t : TableData) × IsAmong t ts × ((has t.scope v ≡ true) × (v < 64))
+  part_true p among v is =
+      let (t, there, of) = zip_among IsPartOf joint.parts ts joint.of_tables p among in
+      let on = row_of t (all_among IsTable ts t are there) p of in
+      let inside = on.partial.of_mask v is in
+      (t, there, (subst (λ (m : ℕ). has m v ≡ true) on.mask inside, members_below p.state.mask 64 v on.partial.small inside))
+
+  values_are : r.state.values ≡ union_of (λ (p : Row). p.state.values) joint.parts
+  values_are = ap (λ (w : Row). w.state.values) joint.is
+
+  mask_is : r.state.mask ≡ union_of (λ (p : Row). p.state.mask) joint.parts
+  mask_is = ap (λ (w : Row). w.state.mask) joint.is
+
+  true_part : (v : ℕ) → has r.state.values v ≡ true → (p : Row) × IsAmong p joint.parts × (has p.state.values v ≡ true)
+  true_part v is = in_some (λ (p : Row). p.state.values) joint.parts v (subst (λ (s : ℕ). has s v ≡ true) values_are is)
+
+  -- it holds variables of the tables alone
+  pub joint_below : (v : ℕ) → has r.state.values v ≡ true → v < 64
+  joint_below v is = let (p, among, here) = true_part v is in (part_true p among v here).2.1
+
+  pub joint_absent : (v : ℕ) → has (union_of (λ (t : TableData). t.scope) ts) v ≡ false → has r.state.values v ≡ false
+  joint_absent v absent = false_from_ne_true _ (λ is.
+      let (p, among, here) = true_part v is in
+      let (t, there, both) = part_true p among v here in
+      true≢false (sym (some_in (λ (w : TableData). w.scope) ts v t there both.0) ∙ absent))
+
+  -- a part gives a variable the value that the joint row gives it
+  pub part_same : (p : Row) → IsAmong p joint.parts → (v : ℕ) → has p.state.mask v ≡ true → has p.state.values v ≡ has r.state.values v
+  part_same p among v in_mask = at (has p.state.values v) refl (has r.state.values v) refl
+    where
+      at : (a : Bool) → has p.state.values v ≡ a → (b : Bool) → has r.state.values v ≡ b → has p.state.values v ≡ has r.state.values v
+      at true e true e' = e ∙ sym e'
+      at false e false e' = e ∙ sym e'
+      at true e false e' = absurd (true≢false (sym (some_in (λ (q : Row). q.state.values) joint.parts v p among e) ∙ (ap (λ (s : ℕ). has s v) (sym values_are) ∙ e')))
+      at false e true e' =
+          let (q, in_q, here) = true_part v e' in
+          let (t, there, of) = zip_among IsPartOf joint.parts ts joint.of_tables q in_q in
+          let on = row_of t (all_among IsTable ts t are there) q of in
+          absurd (true≢false (sym here ∙ (sym (joint.fit p q among in_q v in_mask (on.partial.of_mask v here)) ∙ e)))
+
+-- ---- the rows that give one variable a value
+narrowed_among : (s : PartialState) (t u : TableData) → IsNarrowed s t u → (p : Row) → IsAmong p u.rows → IsAmong p t.rows
+narrowed_among s t u n p among = ((n.rows.exactly p).0 among).0
+
+module _ (s : PartialState) where
+  parts_from : (ts us : List TableData) → AllZip (IsNarrowed s) ts us → (ps : List Row) → AllZip IsPartOf ps us → AllZip IsPartOf ps ts × AllByRecursion (λ (p : Row). Fits p.state s) ps
+  parts_from [] [] all [] zip = (tt, tt)
+  parts_from [] [] all (p ∷ ps) zip = absurd zip
+  parts_from [] (u ∷ us) all ps zip = absurd all
+  parts_from (t ∷ ts) [] all ps zip = absurd all
+  parts_from (t ∷ ts) (u ∷ us) all [] zip = absurd zip
+  parts_from (t ∷ ts) (u ∷ us) all (p ∷ ps) zip =
+      let here = (all.0.rows.exactly p).0 zip.0 in
+      let rest = parts_from ts us all.1 ps zip.1 in
+      ((here.0, rest.0), (here.1, rest.1))
+
+  parts_to : (ts us : List TableData) → AllZip (IsNarrowed s) ts us → (ps : List Row) → AllZip IsPartOf ps ts → AllByRecursion (λ (p : Row). Fits p.state s) ps → AllZip IsPartOf ps us
+  parts_to [] [] all [] zip fit = tt
+  parts_to [] [] all (p ∷ ps) zip fit = absurd zip
+  parts_to [] (u ∷ us) all ps zip fit = absurd all
+  parts_to (t ∷ ts) [] all ps zip fit = absurd all
+  parts_to (t ∷ ts) (u ∷ us) all [] zip fit = absurd zip
+  parts_to (t ∷ ts) (u ∷ us) all (p ∷ ps) zip fit = ((all.0.rows.exactly p).1 (zip.0, fit.0), parts_to ts us all.1 ps zip.1 fit.1)
+
+  pub narrowed_tables : (ts us : List TableData) → AllZip (IsNarrowed s) ts us → AllByRecursion IsTable us
+  narrowed_tables [] [] all = tt
+  narrowed_tables [] (u ∷ us) all = absurd all
+  narrowed_tables (t ∷ ts) [] all = absurd all
+  narrowed_tables (t ∷ ts) (u ∷ us) all = (all.0.table, narrowed_tables ts us all.1)
+
+  pub narrowed_apart : (ts us : List TableData) → AllZip (IsNarrowed s) ts us → EachApart ts → EachApart us
+  narrowed_apart ts us all = apart_fewer ts us (zip_weaker (IsNarrowed s) (λ (t u : TableData). (p : Row) → IsAmong p u.rows → IsAmong p t.rows) (narrowed_among s) ts us all)
+
+-- what has a value in the state that gives one variable a value
+valued_at : (v : ℕ) (b : Bool) → has (cond b (single v) 0) v ≡ b
+valued_at v true = has-single_itself v
+valued_at v false = has-empty v
+
+module _ (level : ℕ) (ts us : List TableData) (are : AllByRecursion IsTable ts) (v : ℕ) (in_scope : has (union_of (λ (t : TableData). t.scope) ts) v ≡ true) (b : Bool) (all : AllZip (IsNarrowed (valued v b)) ts us) where
+  -- some part of a joint row speaks of the variable
+  speaks : (r : Row) (joint : IsJointRow level ts r) → (p : Row) × IsAmong p joint.parts × (has p.state.mask v ≡ true)
+  speaks r joint =
+      let (t, there, is) = in_some (λ (w : TableData). w.scope) ts v in_scope in
+      let (k, less, at) = place_among ts t there in
+      let long = length_zip IsPartOf joint.parts ts joint.of_tables in
+      let p = get_or joint.parts k unit_row in
+      let of : IsAmong p t.rows = subst (IsPartOf p) (at unit_table) (zip_get_or IsPartOf joint.parts ts k unit_row unit_table joint.of_tables (omega arith)) in
+      (p, among_at joint.parts k unit_row (omega arith), ap (λ (m : ℕ). has m v) (row_of t (all_among IsTable ts t are there) p of).mask ∙ is)
+
+  from_narrowed : (r : Row) → IsJointRow level us r → IsJointRow level ts r × (has r.state.values v ≡ b)
+  from_narrowed r joint =
+      let (of, fit) = parts_from (valued v b) ts us all joint.parts joint.of_tables in
+      let before : IsJointRow level ts r = record { parts = joint.parts; of_tables = of; fit = joint.fit; is = joint.is; few = joint.few } in
+      let (p, among, is) = speaks r before in
+      (before, sym (part_same level ts are r before p among v is) ∙ (all_among (λ (q : Row). Fits q.state (valued v b)) joint.parts p fit among v is (has-single_itself v) ∙ valued_at v b))
+
+  to_narrowed : (r : Row) → IsJointRow level ts r → has r.state.values v ≡ b → IsJointRow level us r
+  to_narrowed r joint is = record {
+    parts = joint.parts;
+    of_tables = parts_to (valued v b) ts us all joint.parts joint.of_tables (all_from_among (λ (p : Row). Fits p.state (valued v b)) joint.parts (λ p among. fits p among));
+    fit = joint.fit;
+    is = joint.is;
+    few = joint.few;
+  }
+    where
+      fits : (p : Row) → IsAmong p joint.parts → Fits p.state (valued v b)
+      fits p among w in_mask in_single =
+          let same : w ≡ v = only_member (single v) v refl w in_single in
+          part_same level ts are r joint p among w in_mask ∙ (ap (has r.state.values) same ∙ (is ∙ (sym (valued_at v b) ∙ ap (has (cond b (single v) 0)) (sym same))))
+
+  pub narrowed_joint : (r : Row) → IsJointRow level us r ↔ (IsJointRow level ts r × (has r.state.values v ≡ b))
+  narrowed_joint r = (from_narrowed r, λ h. to_narrowed r h.0 h.1)
+
+-- ---- what settling a variable leaves
+module _ (level v : ℕ) (ts : List TableData) (are : AllByRecursion IsTable ts) (apart : EachApart ts) where
+  pub absent_settled : has (union_of (λ (t : TableData). t.scope) ts) v ≡ false → IsSettled level v false ts ts
+  absent_settled absent = record {
+    tables = are;
+    apart = apart;
+    joint = λ r. (λ joint. (joint, joint_absent level ts are r joint v absent), λ h. h.0);
+    some = λ no. absurd (true≢false (sym no));
+    all = λ _ r joint. joint_absent level ts are r joint v absent;
+  }
+
+  module _ (in_scope : has (union_of (λ (t : TableData). t.scope) ts) v ≡ true) (holding : List TableData) (all : AllZip (IsNarrowed (valued v true)) ts holding) where
+    pub true_settled : HaveJointRow level holding → IsSettled level v true ts holding
+    true_settled some = record {
+      tables = narrowed_tables (valued v true) ts holding all;
+      apart = narrowed_apart (valued v true) ts holding all apart;
+      joint = narrowed_joint level ts holding are v in_scope true all;
+      some = λ _. some;
+      all = λ no. absurd (true≢false no);
+    }
+
+    pub false_settled : ¬ HaveJointRow level holding → (lacking : List TableData) → AllZip (IsNarrowed (valued v false)) ts lacking → IsSettled level v false ts lacking
+    false_settled none lacking all' = record {
+      tables = narrowed_tables (valued v false) ts lacking all';
+      apart = narrowed_apart (valued v false) ts lacking all' apart;
+      joint = narrowed_joint level ts lacking are v in_scope false all';
+      some = λ no. absurd (true≢false (sym no));
+      all = λ _ r joint. false_from_ne_true _ (λ is. none (r, (narrowed_joint level ts holding are v in_scope true all r).1 (joint, is)));
+    }
