@@ -20,7 +20,6 @@ use Rattle.mcs_import.specs.Plans.{guessed, AreSupplies}
 use Rattle.mcs_import.specs.States.{Joins}
 use Rattle.mcs_import.proofs.QuestionLemmas.{question_by_state, IsAllowed, same_marks, one_context, accepted_within, context_known, state_for, parts_of}
 use Rattle.mcs_base.proofs.SetParts.{union_of_commons, commons_agree}
-use Rattle.mcs_table.specs.declared.row.Row.{Row}
 use Rattle.mcs_table.specs.Tables.{TableData, IsTable, IsRowOn}
 use Rattle.mcs_rows.specs.Local.{IsLocalTable, AreLocalTables}
 use Rattle.mcs_rows.proofs.General.{not_before, replaced, replaced-own, replaced-elsewhere, replaced-inputs, replaced-known}
