@@ -92,23 +92,59 @@ const PROGRAMS: &[(&str, &[u64], usize)] = &[
     ("context c program { :- a. }", &[0], 1),
     ("context c program { a :- not a. }", &[], 0),
     ("context c program { a :- not b. b :- not a. }", &[1, 2], 2),
-    ("context c program { a :- not b. b :- not c. c :- not d. }", &[5], 1),
+    (
+        "context c program { a :- not b. b :- not c. c :- not d. }",
+        &[5],
+        1,
+    ),
     ("context c program { a. b :- a, not c. c :- b. }", &[], 0),
     ("context c program { a :- a. b :- not a. }", &[2], 1),
     ("context c program { a :- b. b :- a. }", &[0], 1),
     ("context c program { a :- a, not b. b :- not a. }", &[2], 1),
-    ("context c program { a :- b. b :- a. a :- not c. c :- not a. }", &[3, 4], 2),
-    ("context c program { a :- b, not c. b :- a. c :- not b. b :- not c. }", &[3, 4], 2),
+    (
+        "context c program { a :- b. b :- a. a :- not c. c :- not a. }",
+        &[3, 4],
+        2,
+    ),
+    (
+        "context c program { a :- b, not c. b :- a. c :- not b. b :- not c. }",
+        &[3, 4],
+        2,
+    ),
     ("context c program { a | b. :- a. }", &[2], 1),
     ("context c program { a | b. b | c. }", &[5, 2], 2),
     ("context c program { a | b. b | c. :- b. }", &[5], 1),
-    ("context c program { a | b. c :- a. c :- b. :- not c. }", &[5, 6], 2),
-    ("context c program { a | b. c | d. :- a, c. :- b, d. }", &[9, 6], 2),
-    ("context c program { a | b :- c. c :- not d. d :- not c. }", &[5, 6, 8], 3),
+    (
+        "context c program { a | b. c :- a. c :- b. :- not c. }",
+        &[5, 6],
+        2,
+    ),
+    (
+        "context c program { a | b. c | d. :- a, c. :- b, d. }",
+        &[9, 6],
+        2,
+    ),
+    (
+        "context c program { a | b :- c. c :- not d. d :- not c. }",
+        &[5, 6, 8],
+        3,
+    ),
     ("context c program { a | b. a :- b. b :- a. }", &[3], 1),
-    ("context c program { a | b | c. a :- b. b :- c. c :- a. }", &[7], 1),
-    ("context c program { a :- b, c. b :- a. c :- a. b | c. }", &[2, 4], 2),
-    ("context c program { a | b. a :- c. c :- a. :- not c. }", &[5], 1),
+    (
+        "context c program { a | b | c. a :- b. b :- c. c :- a. }",
+        &[7],
+        1,
+    ),
+    (
+        "context c program { a :- b, c. b :- a. c :- a. b | c. }",
+        &[2, 4],
+        2,
+    ),
+    (
+        "context c program { a | b. a :- c. c :- a. :- not c. }",
+        &[5],
+        1,
+    ),
 ];
 
 #[test]
