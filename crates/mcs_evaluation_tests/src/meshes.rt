@@ -27,7 +27,8 @@ const CHANGES: &[(&str, &[u32], &[u64])] = &[
 
 /// What one context is told is forbidden. Thirteen others choose whether to hold what they tell themselves; the sixth may
 /// only where the fifth does not.
-const FREE: &str = "context fact program { a. } context bad program { :- told. } context k0 program { y :- x. }
+const FREE: &str =
+    "context fact program { a. } context bad program { :- told. } context k0 program { y :- x. }
 context k1 program { y :- x. } context k2 program { y :- x. } context k3 program { y :- x. }
 context k4 program { y :- x. } context k5 program { y :- x. } context k6 program { y :- x. }
 context k7 program { y :- x. } context k8 program { y :- x. } context k9 program { y :- x. }

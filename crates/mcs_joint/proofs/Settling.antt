@@ -16,7 +16,7 @@ use Rattle.mcs_table.specs.Joins.{IsJointRow}
 use Rattle.mcs_joint.specs.Apart.{EachApart}
 use Rattle.mcs_joint.specs.First.{IsFirst, TellsFirst, IsJointState, HaveJointRow, IsSettled}
 use Rattle.mcs_joint.specs.Reduced.{IsReduced}
-use Rattle.mcs_joint.proofs.Narrowing.{joint_below}
+use Rattle.mcs_table.proofs.PartLemmas.{joint_below}
 
 -- a state has the variables below a bound that the set has
 abbrev pub AgreesBelow : ℕ → ℕ → ℕ → Type 0

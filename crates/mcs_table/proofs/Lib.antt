@@ -13,3 +13,4 @@ pub mod ExistLemmas
 pub mod ApartLemmas
 pub mod EliminationLemmas
 pub mod SemiLemmas
+pub mod PartLemmas

@@ -1,6 +1,6 @@
 use Rattle.std.proofs.Common.{◌≡◌, ◌∙◌, ap, sym, length, arith, true, false, refl, Bool, not, eqb}
 use Rattle.std.proofs.lemmas.Bool.Decides.{nat_tests}
-use Rattle.mcs_joint.proofs.Narrowing.{none_left, some_left}
+use Rattle.mcs_table.proofs.PartLemmas.{none_left, some_left}
 use Rattle.mcs_joint.proofs.first.have_joint_row.Goals as goal
 
 pub returns : goal.returns
