@@ -1,12 +1,11 @@
 -- Lists of tables whose joint rows have the same minimal marks.
-use Rattle.std.proofs.Common.{◌≡◌, ◌<◌, ◌≤◌, ℕ, eqb, cond, Bool, true, false, true≢false, List, [], ◌∷◌, length, get_or, refl, sym, ap, ◌∙◌, subst, inl, inr, ◌↔◌, arith, IsTrue}
+use Rattle.std.proofs.Common.{◌≡◌, ◌<◌, ◌≤◌, ℕ, eqb, cond, Bool, true, false, List, [], ◌∷◌, length, get_or, refl, sym, ap, ◌∙◌, subst, ◌↔◌, arith}
 use Rattle.std.proofs.lemmas.Bool.Decides.{nat_tests}
 use Rattle.std.proofs.lemmas.List.Edits.{Swapped, swapped_from_swap, length-swap}
 use Rattle.std.proofs.lemmas.List.Sorted.{IsPermutation-keeps}
 use Rattle.std.specs.List.{AllByRecursion, AllZip, swap}
 use Rattle.std.specs.List.Sorted.{IsPermutation}
 use Rattle.mcs_sets.specs.Sets.{has, size, Within}
-use Rattle.mcs_sets.proofs.SetLemmas.{has-empty}
 use Rattle.mcs_sets.proofs.Lattice.{within_antisymmetric, size_within}
 use Rattle.mcs_base.specs.Listings.{IsAmong}
 use Rattle.mcs_base.specs.Minimal.{IsMinimal}
@@ -14,20 +13,15 @@ use Rattle.mcs_base.specs.Partials.{PartialState, Fits}
 use Rattle.mcs_base.proofs.Among.{zip_among}
 use Rattle.mcs_base.proofs.Each.{all_from_among}
 use Rattle.mcs_base.proofs.Lists.{length_zip, zip_get_or}
-use Rattle.mcs_base.proofs.ListingLemmas.{same_listing}
 use Rattle.mcs_base.proofs.Zipped.{zip_weaker}
 use Rattle.mcs_table.specs.declared.row.Row.{Row}
-use Rattle.mcs_table.specs.RowOrder.{RowBefore}
-use Rattle.mcs_table.specs.Tables.{TableData, IsTable, IsUnion, IsMinimalRow, IsMinimalOf, IsJoin, AreApart, unit_row, unit_table, united_row}
+use Rattle.mcs_table.specs.Tables.{TableData, IsTable, IsMinimalOf, AreApart, unit_table}
 use Rattle.mcs_table.specs.Joins.{union_of, united_rows, FitTogether}
 use Rattle.mcs_table.specs.Elimination.{AreJointMarks}
 use Rattle.mcs_table.proofs.CoverLemmas.{listing_covers}
-use Rattle.mcs_table.proofs.ExistLemmas.{join_exists}
-use Rattle.mcs_table.proofs.JointLemmas.{join_presents, is_unit, unit_presents, unit-united}
-use Rattle.mcs_table.proofs.OrderLemmas.{RowBefore-asymmetric}
-use Rattle.mcs_table.proofs.OrderFreeLemmas.{in_some, some_in, table_is}
-use Rattle.mcs_table.proofs.TableLemmas.{unit-kept}
+use Rattle.mcs_table.proofs.OrderFreeLemmas.{in_some, some_in}
 use Rattle.mcs_joint.specs.Apart.{EachApart}
+use Rattle.mcs_joint.specs.Reduced.{HasFewMarks}
 
 -- ---- the same minimal marks
 -- the joint rows of the second list are marks of the first, and each of the first has one of the second within it
@@ -56,33 +50,7 @@ covers-trans level ts us vs c d = record {
   below = λ s h. let (t, marks, within) = c.below s h in let (u, marks', within') = d.below t marks in (u, marks', λ k i. within k (within' k i));
 }
 
--- ---- the minimal rows with few marks
--- the second table is what the first says, joined with the table of no variables
-abbrev pub IsMinimalTable : ℕ → TableData → TableData → Type 0
-IsMinimalTable level t u = IsJoin unit_table t level u
-
-pub minimal_among : (level : ℕ) (t u : TableData) → IsMinimalTable level t u → (p : Row) → IsAmong p u.rows → IsAmong p t.rows
-minimal_among level t u j p among =
-    let h = ((j.rows.exactly p).0 among).one in
-    let first : h.first ≡ unit_row = elim h.in_first [ inl e ↦ e | inr none ↦ absurd none ] in
-    let same : p ≡ h.second = h.is ∙ (ap (λ (w : Row). united_row w h.second) first ∙ unit-united h.second) in
-    subst (λ (w : Row). IsAmong w t.rows) (sym same) h.in_second
-
-pub join_is_table : (a b t : TableData) (level : ℕ) → IsTable a → IsTable b → IsJoin a b level t → IsTable t
-join_is_table a b t level is_a is_b j =
-    let (u, is_u, k) = join_exists a b level is_a is_b in
-    subst IsTable (table_is u t (k.scope ∙ sym j.scope) (same_listing RowBefore RowBefore-asymmetric (IsMinimalRow (IsUnion a.rows b.rows level)) u.rows t.rows k.rows j.rows)) is_u
-
--- a row with few marks has a minimal one of its state
-minimal_below : (level : ℕ) (t u : TableData) → IsMinimalTable level t u → (p : Row) → IsAmong p t.rows → size p.marks ≤ level → (q : Row) × IsAmong q u.rows × ((q.state ≡ p.state) × Within q.marks p.marks)
-minimal_below level t u j p among few =
-    let presents = join_presents is_unit unit_table t u level unit_presents.covers j in
-    let (q, there, state, within) = presents.covers.below p (record { first = unit_row; second = p; holds = refl; in_second = among; fit = λ v none is. absurd (nothing v none); is = sym (unit-united p); few = few }) in
-    (q, there, (state, within))
-  where
-    nothing : (v : ℕ) → IsTrue (has 0 v) → ⊥
-    nothing v h = true≢false (sym h ∙ has-empty v)
-
+-- ---- the minimal rows, and those with few marks
 abbrev IsWithin : Row → Row → Type 0
 IsWithin q p = (q.state ≡ p.state) × Within q.marks p.marks
 
@@ -91,8 +59,11 @@ pub record IsThinned (level : ℕ) (t u : TableData) : Type 0 where
   pub among : (p : Row) → IsAmong p u.rows → IsAmong p t.rows
   pub below : (p : Row) → IsAmong p t.rows → size p.marks ≤ level → (q : Row) × IsAmong q u.rows × IsWithin q p
 
-join_thins : (level : ℕ) (t u : TableData) → IsMinimalTable level t u → IsThinned level t u
-join_thins level t u j = record { among = minimal_among level t u j; below = minimal_below level t u j }
+few_thins : (level : ℕ) (t u : TableData) → HasFewMarks level t u → IsThinned level t u
+few_thins level t u h = record {
+  among = λ p among. ((h.rows.exactly p).0 among).0;
+  below = λ p among few. (p, (h.rows.exactly p).1 (among, few), (refl, λ k i. i));
+}
 
 pub minimal_thins : (level : ℕ) (t u : TableData) → IsMinimalOf t u → IsThinned level t u
 minimal_thins level t u h = let c = listing_covers t.rows u.rows h.rows in record {
@@ -149,8 +120,8 @@ thinned_cover level ts us all = record {
       );
 }
 
-pub minimal_tables_cover : (level : ℕ) (ts us : List TableData) → AllZip (IsMinimalTable level) ts us → MarksCover level ts us
-minimal_tables_cover level ts us all = thinned_cover level ts us (zip_weaker (IsMinimalTable level) (IsThinned level) (λ t u j. join_thins level t u j) ts us all)
+pub few_cover : (level : ℕ) (ts us : List TableData) → AllZip (HasFewMarks level) ts us → MarksCover level ts us
+few_cover level ts us all = thinned_cover level ts us (zip_weaker (HasFewMarks level) (IsThinned level) (λ t u h. few_thins level t u h) ts us all)
 
 pub minimal_ones_cover : (level : ℕ) (ts us : List TableData) → AllZip IsMinimalOf ts us → MarksCover level ts us
 minimal_ones_cover level ts us all = thinned_cover level ts us (zip_weaker IsMinimalOf (IsThinned level) (λ t u h. minimal_thins level t u h) ts us all)
@@ -213,14 +184,14 @@ apart_fewer ts us zip apart = record { at = fewer }
         let at_j = zip_get_or (λ (t u : TableData). (p : Row) → IsAmong p u.rows → IsAmong p t.rows) ts us j unit_table unit_table zip (omega arith) in
         apart.at i j (omega arith) (omega arith) differ x y (at_i x in_x) (at_j y in_y)
 
-pub apart_minimal : (level : ℕ) (ts us : List TableData) → AllZip (IsMinimalTable level) ts us → EachApart ts → EachApart us
-apart_minimal level ts us all = apart_fewer ts us (zip_weaker (IsMinimalTable level) (λ (t u : TableData). (p : Row) → IsAmong p u.rows → IsAmong p t.rows) (λ t u j. minimal_among level t u j) ts us all)
+pub apart_few : (level : ℕ) (ts us : List TableData) → AllZip (HasFewMarks level) ts us → EachApart ts → EachApart us
+apart_few level ts us all = apart_fewer ts us (zip_weaker (HasFewMarks level) (λ (t u : TableData). (p : Row) → IsAmong p u.rows → IsAmong p t.rows) (λ t u h. (few_thins level t u h).among) ts us all)
 
 pub apart_ones : (ts us : List TableData) → AllZip IsMinimalOf ts us → EachApart ts → EachApart us
 apart_ones ts us all = apart_fewer ts us (zip_weaker IsMinimalOf (λ (t u : TableData). (p : Row) → IsAmong p u.rows → IsAmong p t.rows) (λ t u h. (minimal_thins 0 t u h).among) ts us all)
 
-pub minimal_are_tables : (level : ℕ) (ts us : List TableData) → AllZip (IsMinimalTable level) ts us → AllByRecursion IsTable ts → AllByRecursion IsTable us
-minimal_are_tables level [] [] all is = tt
-minimal_are_tables level [] (u ∷ us) all is = absurd all
-minimal_are_tables level (t ∷ ts) [] all is = absurd all
-minimal_are_tables level (t ∷ ts) (u ∷ us) all is = (join_is_table unit_table t u level unit-kept is.0 all.0, minimal_are_tables level ts us all.1 is.1)
+pub few_are_tables : (level : ℕ) (ts us : List TableData) → AllZip (HasFewMarks level) ts us → AllByRecursion IsTable us
+few_are_tables level [] [] all = tt
+few_are_tables level [] (u ∷ us) all = absurd all
+few_are_tables level (t ∷ ts) [] all = absurd all
+few_are_tables level (t ∷ ts) (u ∷ us) all = (all.0.table, few_are_tables level ts us all.1)

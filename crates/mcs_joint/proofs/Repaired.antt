@@ -20,8 +20,8 @@ use Rattle.mcs_table.proofs.EliminationLemmas.{elimination_gives_marks}
 use Rattle.mcs_rows.specs.Local.{IsRowOf, AreLocalTables, AreMinimalTables}
 use Rattle.mcs_rows.proofs.LocalLemmas.{local_are_tables}
 use Rattle.mcs_joint.specs.Apart.{EachApart}
-use Rattle.mcs_joint.proofs.Covering.{IsMinimalTable, MarksCover, apart_ones, cover_minimal, covers-trans, minimal_ones_cover, minimal_tables_cover, minimal_are_tables}
-use Rattle.mcs_joint.specs.Reduced.{IsReduced}
+use Rattle.mcs_joint.proofs.Covering.{MarksCover, apart_ones, cover_minimal, covers-trans, few_cover, few_are_tables, minimal_ones_cover}
+use Rattle.mcs_joint.specs.Reduced.{HasFewMarks, IsReduced}
 use Rattle.mcs_joint.proofs.Repairing.{minimal_marks}
 use Rattle.mcs_joint.proofs.Reducing.{reduced_covers}
 
@@ -49,12 +49,12 @@ few_are_few : (m : System) (level most : ℕ) → most ≡ min level (length m.b
 few_are_few m level most e p = (λ h. (h.0, let few = h.1 in omega arith), λ h. (h.0, let few = h.1 in let small = minimal_is_small m p h.0 in omega arith))
 
 module _ (m : System) (valid : IsValid m) (k level most : ℕ) (is_most : most ≡ min level (length m.bridges)) (high : level ≤ k) (tables few ordered : List TableData)
-    (are : AllByRecursion IsTable tables) (given : AreMinimalTables m k tables) (minimal : AllZip (IsMinimalTable most) tables few) (reduced : IsReduced most few ordered) where
+    (given : AreMinimalTables m k tables) (are_few : AllZip (HasFewMarks most) tables few) (reduced : IsReduced most few ordered) where
   ordered_tables : AllByRecursion IsTable ordered
-  ordered_tables = reduced.tables (minimal_are_tables most tables few minimal are)
+  ordered_tables = reduced.tables (few_are_tables most tables few are_few)
 
   covers : MarksCover most given.all ordered
-  covers = covers-trans most given.all tables ordered (minimal_ones_cover most given.all tables given.minimal) (covers-trans most tables few ordered (minimal_tables_cover most tables few minimal) (reduced_covers most few ordered reduced))
+  covers = covers-trans most given.all tables ordered (minimal_ones_cover most given.all tables given.minimal) (covers-trans most tables few ordered (few_cover most tables few are_few) (reduced_covers most few ordered reduced))
 
   same : (p : ℕ) → IsMinimal (AreJointMarks most ordered) p ↔ (IsMinimal (IsDiagnosis m) p × (size p ≤ level))
   same p =

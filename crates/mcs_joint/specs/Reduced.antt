@@ -1,7 +1,10 @@
 -- Tables without rows that make no difference.
-use Rattle.std.specs.Prelude.{◌≡◌, ℕ, ◌↔◌, List, length}
+use Rattle.std.specs.Prelude.{◌≡◌, ◌≤◌, ℕ, ◌↔◌, List, length}
 use Rattle.std.specs.List.{AllByRecursion}
+use Rattle.mcs_sets.specs.Sets.{size}
+use Rattle.mcs_base.specs.Listings.{IsAmong, IsListing}
 use Rattle.mcs_table.specs.declared.row.Row.{Row}
+use Rattle.mcs_table.specs.RowOrder.{RowBefore}
 use Rattle.mcs_table.specs.Tables.{TableData, IsTable}
 use Rattle.mcs_table.specs.Joins.{IsJointRow}
 use Rattle.mcs_joint.specs.Apart.{EachApart}
@@ -12,3 +15,8 @@ pub record IsReduced (level : ℕ) (all fewer : List TableData) : Type 0 where
   pub tables : AllByRecursion IsTable all → AllByRecursion IsTable fewer
   pub apart : EachApart fewer
   pub joint : (r : Row) → IsJointRow level all r ↔ IsJointRow level fewer r
+
+-- u has exactly the rows of t with at most so many marks
+pub record HasFewMarks (level : ℕ) (t u : TableData) : Type 0 where
+  pub table : IsTable u
+  pub rows : IsListing (λ r. IsAmong r t.rows × (size r.marks ≤ level)) RowBefore u.rows

@@ -1,7 +1,7 @@
 //! The minimal diagnoses with few marks, of the tables of all contexts.
 
 ghost use Rattle.std.specs.Prelude.{◌≡◌, ◌≤◌, ℕ, map, IfOk};
-ghost use Rattle.std.specs.List.{AllByRecursion, AllZip};
+ghost use Rattle.std.specs.List.{AllZip};
 ghost use Rattle.mcs_sets.specs.Sets.{size};
 ghost use Rattle.mcs_sets.specs.Orders.{PairBefore};
 ghost use Rattle.mcs_base.specs.Listings.{IsListing};
@@ -9,9 +9,10 @@ ghost use Rattle.mcs_base.specs.Minimal.{IsMinimal};
 ghost use Rattle.mcs_system.specs.Repairs.{IsDiagnosis};
 ghost use Rattle.mcs_table.specs.declared.row.Row as declared;
 ghost use Rattle.mcs_table.specs.Elimination.{still_kept, EliminatesTo};
-ghost use Rattle.mcs_table.specs.Tables.{TableData, IsTable, AreApart, IsJoin, IsForgetting, unit_table};
+ghost use Rattle.mcs_table.specs.Tables.{TableData, AreApart, IsJoin, IsForgetting};
 ghost use Rattle.mcs_rows.specs.Local.{AreMinimalTables};
 ghost use Rattle.mcs_joint.specs.Apart.{EachApart};
+ghost use Rattle.mcs_joint.specs.Reduced.{HasFewMarks};
 
 use crate::order::scopes;
 use crate::reduce::reduced;
@@ -33,7 +34,7 @@ pub fn repairs_in(
     ensures { IfOk result (λ pairs. IsListing (λ p. IsMinimal (IsDiagnosis plan.now) p × (size p ≤ level)) PairBefore pairs.items) }
 {
     let most = level.min(plan.system().bridges().len() as u32);
-    let few = minimal_tables(alloc, tables, most)?;
+    let few = few_tables(alloc, tables, most)?;
     let fewer = reduced(alloc, few, most)?;
     let left = eliminate(alloc, &fewer, most)?;
     let pairs = marks_of(alloc, left.rows())?;
@@ -48,20 +49,29 @@ fn marks_of(alloc: Global, rows: &[Row]) -> Result<Vec<Marks>, Memory>
     Ok(all)
 }
 
-/// Of each table the rows with at most so many marks, without those that hold the marks of another one of
-/// their state.
-fn minimal_tables(alloc: Global, tables: &[Table], level: u32) -> Result<Vec<Table>, Memory>
-    ensures kept { IfOk result (λ _. AllByRecursion IsTable tables.now) }
-    ensures minimal { IfOk result (λ few. AllZip (λ (t u : TableData). IsJoin unit_table t level u) tables.now few.items) }
+/// Of each table the rows with at most so many marks.
+fn few_tables(alloc: Global, tables: &[Table], level: u32) -> Result<Vec<Table>, Memory>
+    ensures { IfOk result (λ few. AllZip (HasFewMarks level) tables.now few.items) }
 {
-    let unit = Table::unit(alloc)?;
     let mut found = Vec::new(alloc);
     for table in tables {
-        let few = join(alloc, &unit, table, level)?;
+        let few = few_rows(alloc, table, level)?;
         found.push(few)?;
     }
-    let _all = scopes(tables);
     Ok(found)
+}
+
+/// The rows of the table with at most so many marks.
+fn few_rows(alloc: Global, table: &Table, level: u32) -> Result<Table, Memory>
+    ensures { IfOk result (HasFewMarks level table.now) }
+{
+    let mut rows = Vec::new(alloc);
+    for row in table.rows() {
+        if row.marks.count() <= level {
+            rows.push(*row)?;
+        }
+    }
+    Ok(Table::in_order(table.scope(), rows))
 }
 
 /// What is left of the tables where they are joined one after the other, and what no later table has is
