@@ -142,7 +142,10 @@ impl<'a, O: Oracle, G: Gate> Evaluator for Mesh<'a, O, G> {
     fn repairs(&mut self, alloc: Global, level: u32) -> Result<Vec<Marks>, Halt> {
         self.reach(alloc, level)?;
         let done = self.done.unwrap_or(level);
-        match self.found.repairs(alloc, &self.plan, &self.known, done, level) {
+        match self
+            .found
+            .repairs(alloc, &self.plan, &self.known, done, level)
+        {
             Ok(pairs) => Ok(pairs),
             Err(Memory) => Err(Halt::Memory.kept_in(&mut self.halt)),
         }
