@@ -4,7 +4,7 @@ use Rattle.std.proofs.lemmas.Bool.{cases_lt}
 use Rattle.std.proofs.lemmas.Bool.Decides.{nat_tests}
 use Rattle.std.proofs.lemmas.Option.{slice_get_within}
 use Rattle.std.specs.List.{AllByRecursion}
-use Rattle.mcs_sets.specs.Sets.{has, common, union, minus, size, Within}
+use Rattle.mcs_sets.specs.Sets.{has, common, minus, size, Within}
 use Rattle.mcs_sets.specs.Orders.{StateBefore}
 use Rattle.mcs_sets.proofs.SetLemmas.{has-differ, has-common, has-union, has-minus}
 use Rattle.mcs_sets.proofs.Lattice.{size_within}
