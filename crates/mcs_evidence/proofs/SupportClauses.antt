@@ -5,7 +5,6 @@ use Rattle.mcs_system.specs.Seen.{rule_of}
 use Rattle.mcs_system.specs.declared.knowledge.ProgRule as code
 use Rattle.mcs_trace.specs.Clauses.{ClauseList}
 use Rattle.mcs_base.proofs.Mapped.{map-drop_more}
-use Rattle.mcs_evidence.specs.Programs.{AreOverRules}
 use Rattle.mcs_evidence.specs.Pushing.{IsPart, HasDisjunction}
 use Rattle.mcs_evidence.specs.Supports.{may_support, outside_formula}
 use Rattle.mcs_evidence.proofs.ProgramClauses.{AreLeftOver}

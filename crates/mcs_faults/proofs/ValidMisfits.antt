@@ -8,7 +8,7 @@ use Rattle.mcs_base.specs.Words.{is_word, is_reserved}
 use Rattle.mcs_base.proofs.Among.{map_among, any_none}
 use Rattle.mcs_base.proofs.Booleans.{not_refuted}
 use Rattle.mcs_base.proofs.Each.{all_among}
-use Rattle.mcs_system.specs.Plain.{Name, Formula, Context, Read, Bridge, System}
+use Rattle.mcs_system.specs.Plain.{Name, Context, Read, Bridge, System}
 use Rattle.mcs_system.specs.Plain as plain
 use Rattle.mcs_system.specs.Faults.{reads_of, is_atom, is_program, is_unjustified, has_unjustified, has_misfit, has_misfits}
 use Rattle.mcs_grammar.specs.Written.{WrittenItem, Fact, Rule, WrittenKb, Classical, DefaultTheory, Program, WrittenContext, WrittenPlace, IsPlace, WrittenRead, IsBridge, WrittenText, IsText}

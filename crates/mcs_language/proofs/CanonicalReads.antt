@@ -6,7 +6,7 @@ use Rattle.mcs_base.specs.Words.{most_name_bytes}
 use Rattle.mcs_system.specs.declared.limit.Limit.TheVariants.{FormulaSize}
 use Rattle.mcs_base.proofs.Among.{map_among, among_either, flat_map_among}
 use Rattle.mcs_system.specs.Faults.{IsValid}
-use Rattle.mcs_system.specs.Plain.{Name, Formula, Truth, Falsity, Atom, Not, And, Or, Implies, Iff, Default, Item, Kb, Context, Read, Bridge, System}
+use Rattle.mcs_system.specs.Plain.{Formula, Truth, Falsity, Atom, Not, And, Or, Implies, Iff, Default, Item, Kb, Read, System}
 use Rattle.mcs_system.specs.Plain as plain
 use Rattle.mcs_system.proofs.ValidLemmas.{limit_kept}
 use Rattle.mcs_writer.specs.Canonical.{canonical_text}

@@ -1,5 +1,5 @@
 -- What holds the rows of tiny systems back: the marks, and what earlier contexts supply.
-use Rattle.std.proofs.Common.{◌≡◌, ℕ, ◌≤◌, zero, suc, Bool, true, false, ◌&&◌, cond, [], ◌∷◌, refl, sym, ap, ◌∙◌, subst, inl, inr, arith, true≢false}
+use Rattle.std.proofs.Common.{◌≡◌, ℕ, ◌≤◌, zero, suc, Bool, true, false, ◌&&◌, cond, [], ◌∷◌, refl, ap, ◌∙◌, subst, inl, inr, arith}
 use Rattle.std.proofs.lemmas.Bool.{and_from}
 use Rattle.mcs_sets.specs.Sets.{has, common, union, minus, single, such_that, size}
 use Rattle.mcs_sets.proofs.SetLemmas.{Within-le, has-common}

@@ -4,7 +4,7 @@ use Rattle.std.proofs.lemmas.Bool.{cases_lt}
 use Rattle.std.proofs.lemmas.Bool.Decides.{nat_tests}
 use Rattle.std.proofs.lemmas.Option.{slice_get_within}
 use Rattle.std.specs.List.{AllByRecursion}
-use Rattle.mcs_sets.specs.Sets.{has, common, union, minus, size, Within}
+use Rattle.mcs_sets.specs.Sets.{has, common, minus, size, Within}
 use Rattle.mcs_sets.specs.Orders.{StateBefore}
 use Rattle.mcs_sets.proofs.SetLemmas.{has-differ, has-common, has-union, has-minus}
 use Rattle.mcs_sets.proofs.Lattice.{size_within}
@@ -48,8 +48,8 @@ marks_small m i σ x of_rules allowed = subst (λ n. n ≤ size (common (rules_i
     inside k is = has-common (rules_into m i) (changeable m) k
         ∙ ap (λ (b : Bool). has (rules_into m i) k && b) (has-union (removed_of (allowed_marks m)) (forced_of (allowed_marks m)) k)
         ∙ each (has (applying m i σ) k) (has x k) (has (rules_into m i) k) (has (removed_of (allowed_marks m)) k) (has (forced_of (allowed_marks m)) k)
-          (sym (has-differ (applying m i σ) x k) ∙ is) (of_applying k) (of_rules k)
-          (λ e. parts.0 k (has-minus (applying m i σ) x k ∙ e)) (λ e. parts.1 k (has-minus x (applying m i σ) k ∙ e))
+        (sym (has-differ (applying m i σ) x k) ∙ is) (of_applying k) (of_rules k)
+        (λ e. parts.0 k (has-minus (applying m i σ) x k ∙ e)) (λ e. parts.1 k (has-minus x (applying m i σ) k ∙ e))
 
 module _ (m : System) (low high : ℕ) (few : HasFewRules m low) (less : low ≤ high) where
   -- ---- questions

@@ -1,6 +1,6 @@
 //! The search for answer sets that are listed and not shown. Sets of atoms without support from outside lead it on.
 
-ghost use Rattle.std.specs.Prelude.{◌≡◌, ◌<◌, ◌≤◌, ◌++◌, ℕ, List, [], ◌∷◌, true, false, length, map, IfOk, IsTrue};
+ghost use Rattle.std.specs.Prelude.{◌≡◌, ◌<◌, ◌≤◌, List, [], ◌∷◌, true, false, length, map, IfOk, IsTrue};
 ghost use Rattle.mcs_system.specs.Faults.{has_twins};
 ghost use Rattle.mcs_system.specs.Logic.{is_in, holds, holds_all, true_names};
 ghost use Rattle.mcs_system.specs.Plain as plain;

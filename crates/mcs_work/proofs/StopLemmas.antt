@@ -1,6 +1,5 @@
 -- A stop of a later part of the work is one of the whole.
-use Rattle.std.proofs.Common.{◌≡◌, ℕ, ◌≤◌, List, [], ◌++◌, Option, Some, Result, Ok, Err, IfErr, OnOk, refl, sym, ap, ◌∙◌, subst, append_assoc, inl, arith}
-use Rattle.std.specs.Result.{IsErrAnd}
+use Rattle.std.proofs.Common.{◌≡◌, ℕ, List, [], ◌++◌, Option, Some, Result, Ok, Err, IfErr, OnOk, refl, sym, ap, ◌∙◌, subst, append_assoc, inl, arith}
 use Rattle.std.proofs.lemmas.List.{append-nil}
 use Rattle.mcs_ports.specs.Pieces.{Device, appended}
 use Rattle.mcs_text.specs.Writes.{Writes}

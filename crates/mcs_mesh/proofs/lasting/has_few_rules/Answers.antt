@@ -11,10 +11,10 @@ pub loop-context-preserved : goal.loop-context-preserved
 loop-context-preserved c =
     let m = c.args.system.now in
     let few : size (common (rules_into m c.loop-context.context) (changeable m)) ≤ c.args.level =
-        subst (λ n. size (common n (changeable m)) ≤ c.args.level) c.rules_of.ensures
-        (subst (λ n. size (common c.rules_of.result n) ≤ c.args.level) c.changeable-changeable.ensures
-        (subst (λ n. size n ≤ c.args.level) c.common.ensures
-        (subst (λ n. n ≤ c.args.level) c.count.ensures.number c.if-count-level.false))) in
+    subst (λ n. size (common n (changeable m)) ≤ c.args.level) c.rules_of.ensures
+    (subst (λ n. size (common c.rules_of.result n) ≤ c.args.level) c.changeable-changeable.ensures
+    (subst (λ n. size n ≤ c.args.level) c.common.ensures
+    (subst (λ n. n ≤ c.args.level) c.count.ensures.number c.if-count-level.false))) in
     below_more (λ i. size (common (rules_into m i) (changeable m)) ≤ c.args.level) c.loop-context.context c.loop-context.invariant few
 
 pub returns : goal.returns

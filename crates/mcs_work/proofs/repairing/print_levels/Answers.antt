@@ -1,4 +1,4 @@
-use Rattle.std.proofs.Common.{[], ◌∙◌, sym, subst, arith}
+use Rattle.std.proofs.Common.{[], ◌∙◌, sym, subst}
 use Rattle.mcs_states.proofs.Causes.{rest_kept}
 use Rattle.mcs_work.specs.Work.{HasStopped}
 use Rattle.mcs_work.specs.Extents.{task_of, front_part, diagnoses_part}
