@@ -24,7 +24,7 @@ class Families(Ground):
         self.assertNotEqual(self.ran("bench/families", "ring", "9")[1], self.ran("bench/families", "ring", "9", "2")[1])
 
     def test_words(self):
-        for words in (["rings", "3"], ["ring"], ["ring", "x"], ["ring", "1"], ["ring", "64"]):
+        for words in (["wheels", "3"], ["ring"], ["ring", "x"], ["ring", "1"], ["ring", "64"]):
             status, text, noted = self.ran("bench/families", *words)
             self.assertEqual((status, text), (2, ""), words)
             self.assertOneLine(noted)

@@ -1,4 +1,4 @@
-//! The one call that the program makes.
+//! What the words ask for, from the words to the status.
 
 ghost use Rattle.std.specs.Prelude.{◌≡◌};
 ghost use Rattle.mcs_words.specs.Reading.{texts_of};
