@@ -1,14 +1,15 @@
 -- Berge's rule: the minimal transversals of one edge more come of those of the edges before.
-use Rattle.std.proofs.Common.{◌≡◌, ℕ, ◌+◌, ◌<◌, ◌≤◌, suc, List, [], ◌∷◌, ◌++◌, ◌⊎◌, ◌↔◌, inl, inr, length, get_or, drop, refl, sym, ap, ◌∙◌, subst, true≢false, arith}
+use Rattle.std.proofs.Common.{◌≡◌, ℕ, ◌+◌, ◌<◌, ◌≤◌, suc, true, List, [], ◌∷◌, ◌++◌, ◌⊎◌, ◌↔◌, inl, inr, length, get_or, drop, refl, sym, ap, ◌∙◌, subst, true≢false, arith}
 use Rattle.std.proofs.lemmas.List.{drop_more, drop_all}
-use Rattle.mcs_sets.specs.Sets.{single, union, members, Within, Meets}
+use Rattle.std.specs.List.{AllByRecursion}
+use Rattle.mcs_sets.specs.Sets.{has, single, union, members, Within, Meets}
 use Rattle.mcs_sets.proofs.SetLemmas.{below_power, meets_or_not}
-use Rattle.mcs_sets.proofs.Lattice.{has-single_itself, within_union_left, within_union_right, with_within, meets_within, within_antisymmetric, none_within}
+use Rattle.mcs_sets.proofs.Lattice.{has-single_itself, in_with, within_union_left, within_union_right, with_within, meets_within, within_antisymmetric, none_within}
 use Rattle.mcs_base.specs.Listings.{IsAmong}
 use Rattle.mcs_base.specs.Minimal.{IsMinimal}
 use Rattle.mcs_base.proofs.ListingLemmas.{members_listing}
 use Rattle.mcs_base.specs.Transversals.{IsTransversalOf}
-use Rattle.mcs_base.proofs.Each.{all_weaker, all_left, all_right, all_push}
+use Rattle.mcs_base.proofs.Each.{all_among, all_from_among, all_weaker, all_left, all_right, all_push}
 use Rattle.mcs_base.proofs.Among.{among_push}
 use Rattle.mcs_transversal.specs.Transversals.{IsCritical, IsGrown, ComesOf, ComesOfOne}
 use Rattle.mcs_transversal.proofs.CriticalLemmas.{minimal_from_critical, critical_from_minimal, minimal_within}
@@ -53,6 +54,59 @@ module _ (edges : List ℕ) (e : ℕ) where
     λ among. let one = (comes x).0 among in minimal_from_source x one.source ((before one.source).0 one.among) one.comes,
     λ minimal. let (t, least, from) = comes_of_minimal x minimal in (comes x).1 (record { source = t; among = (before t).1 least; comes = from }),
   )
+
+-- ---- what grows, told by the minimal transversals of the edges before
+-- none of the sets that meet e lies within the grown one
+abbrev pub NoneWithin : ℕ → ℕ → List ℕ → Type 0
+NoneWithin e grown ts = AllByRecursion (λ s. Meets s e → ¬ Within s grown) ts
+
+module _ (edges : List ℕ) (e t m : ℕ) (ts : List ℕ) (before : (x : ℕ) → IsAmong x ts ↔ IsMinimal (IsTransversalOf edges) x) (here : IsAmong t ts) (apart : ¬ Meets t e) (in_edge : has e m ≡ true) where
+  own : IsMinimal (IsTransversalOf edges) t
+  own = (before t).0 here
+
+  abbrev grown : ℕ
+  grown = union t (single m)
+
+  met : IsTransversalOf (edges ++ e ∷ []) (union t (single m))
+  met = all_push (Meets grown) edges e (all_weaker (Meets t) (Meets grown) (λ f. meets_within t grown f (within_union_left t (single m))) edges own.one)
+      (record { member = m; in_first = within_union_right t (single m) m (has-single_itself m); in_second = in_edge })
+
+  pub critical_from_none : NoneWithin e (union t (single m)) ts → IsCritical (edges ++ e ∷ []) (union t (single m))
+  critical_from_none none = critical_from_minimal (edges ++ e ∷ []) grown (record { one = met; least = λ s other within. within_antisymmetric s grown within (covers s other within) })
+    where
+      -- a mark that the set has in common with the edge is the new one
+      new : (s : ℕ) → Within s grown → Meets s e → has s m ≡ true
+      new s within meets = elim ((in_with t m meets.member).0 (within meets.member meets.in_first)) [
+        | inl old ↦ absurd (apart (record { member = meets.member; in_first = old; in_second = meets.in_second }))
+        | inr same ↦ ap (has s) (sym same) ∙ meets.in_first
+      ]
+
+      -- a minimal one within a smaller transversal is t
+      same_as : (r : ℕ) → IsMinimal (IsTransversalOf edges) r → Within r grown → r ≡ t
+      same_as r minimal within = elim (meets_or_not r e r (below_power r)) [
+        | inl meets ↦ absurd (all_among (λ s. Meets s e → ¬ Within s grown) ts r none ((before r).1 minimal) meets within)
+        | inr free ↦ own.least r minimal.one (λ k in_r. elim ((in_with t m k).0 (within k in_r)) [
+          | inl old ↦ old
+          | inr last ↦ absurd (true≢false (sym in_edge ∙ ap (has e) (sym last) ∙ free k in_r))
+        ])
+      ]
+
+      covers : (s : ℕ) → IsTransversalOf (edges ++ e ∷ []) s → Within s grown → Within grown s
+      covers s other within k in_grown =
+          let (r, minimal, inside) = minimal_within (suc s) edges s (omega arith) (all_left (Meets s) edges (e ∷ []) other) in
+          let same : r ≡ t = same_as r minimal (λ j in_r. within j (inside j in_r)) in
+          elim ((in_with t m k).0 in_grown) [
+            | inl old ↦ inside k (ap (λ x. has x k) same ∙ old)
+            | inr last ↦ ap (has s) last ∙ new s within (all_right (Meets s) edges (e ∷ []) other).0
+          ]
+
+  pub none_from_critical : IsCritical (edges ++ e ∷ []) (union t (single m)) → NoneWithin e (union t (single m)) ts
+  none_from_critical critical = all_from_among (λ s. Meets s e → ¬ Within s grown) ts (λ s among meets within.
+      let minimal = minimal_from_critical (edges ++ e ∷ []) grown met critical in
+      let other = (before s).0 among in
+      let same : s ≡ grown = minimal.least s (all_push (Meets s) edges e other.one meets) within in
+      let as_t : t ≡ s = other.least t own.one (λ k in_t. ap (λ x. has x k) same ∙ within_union_left t (single m) k in_t) in
+      apart (record { member = m; in_first = ap (λ x. has x m) (as_t ∙ same) ∙ within_union_right t (single m) m (has-single_itself m); in_second = in_edge }))
 
 pub none_before : (x : ℕ) → IsAmong x (0 ∷ []) ↔ IsMinimal (IsTransversalOf []) x
 none_before x = (

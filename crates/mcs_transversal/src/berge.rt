@@ -1,6 +1,8 @@
 //! Minimal transversals, edge after edge.
 
-ghost use Rattle.std.specs.Prelude.{◌⊎◌, ◌↔◌, ℕ, OnOk, IfOk};
+ghost use Rattle.std.specs.Prelude.{◌≡◌, ◌++◌, [], ◌∷◌, ◌⊎◌, ◌↔◌, ℕ, List, IsTrue, OnOk, IfOk};
+ghost use Rattle.std.specs.List.{AllByRecursion};
+ghost use Rattle.mcs_sets.specs.Sets.{Meets, Within};
 ghost use Rattle.mcs_sets.specs.Orders.{PairBefore};
 ghost use Rattle.mcs_base.specs.Listings.{IsAmong, IsListing};
 ghost use Rattle.mcs_base.specs.Minimal.{IsMinimal};
@@ -12,17 +14,26 @@ use mcs_base::{Marks, Memory, list_pairs};
 use std::alloc::Global;
 use std::mem;
 
-/// Puts in what comes of one minimal transversal of the edges before: where it meets the edge, the last of
-/// the edges, it stays, and else it grows by each mark of the edge, as long as each of its marks is still
-/// needed.
-fn extend(t: Marks, edge: Marks, edges: &[Marks], out: &mut Vec<Marks>) -> Result<(), Memory>
+/// Whether none of the sets that meet the edge lies within the grown one.
+fn has_none_within(ts: &[Marks], edge: Marks, grown: Marks) -> bool
+    ensures { IsTrue result ↔ AllByRecursion (λ s. Meets s edge → ¬ Within s grown) ts.now }
+{
+    for s in ts {
+        if s.meets(edge) && s.within(grown) {
+            return false;
+        }
+    }
+    true
+}
+
+/// Puts in what comes of one minimal transversal of the edges before that does not meet the edge, the last of the edges:
+/// it grows by each mark of the edge, as long as each of its marks is still needed. What is needed is found among the
+/// edges.
+fn grow_by_edges(t: Marks, edge: Marks, edges: &[Marks], out: &mut Vec<Marks>) -> Result<(), Memory>
+    requires { ¬ Meets t edge }
     ensures { OnOk result
         ((x : ℕ) → IsAmong x out.new.items ↔ (IsAmong x out.old.items ⊎ ComesOf edges.now edge x t)) }
 {
-    if t.meets(edge) {
-        out.push(t)?;
-        return Ok(());
-    }
     let barred = barred(edges, t, edge);
     for mark in edge.members() {
         if stays_critical(edges, t, mark, barred) {
@@ -32,6 +43,49 @@ fn extend(t: Marks, edge: Marks, edges: &[Marks], out: &mut Vec<Marks>) -> Resul
     Ok(())
 }
 
+/// The same, where what is needed is found among all minimal transversals of the edges before: one that meets the edge
+/// and lies within the grown set makes it needless.
+fn grow_by_sets(t: Marks, edge: Marks, ts: &[Marks], out: &mut Vec<Marks>) -> Result<(), Memory>
+    requires apart { ¬ Meets t edge }
+    requires among { IsAmong t ts.now }
+    ensures { OnOk result
+        ((before : List ℕ) → ((x : ℕ) → IsAmong x ts.now ↔ IsMinimal (IsTransversalOf before) x)
+        → (x : ℕ) → IsAmong x out.new.items ↔ (IsAmong x out.old.items ⊎ ComesOf (before ++ edge ∷ []) edge x t)) }
+{
+    for mark in edge.members() {
+        let grown = t.with(mark);
+        if has_none_within(ts, edge, grown) {
+            out.push(grown)?;
+        }
+    }
+    Ok(())
+}
+
+/// Puts in what comes of one of the minimal transversals of the edges before: where it meets the edge, the last of the
+/// edges, it stays, and else it grows. Of the edges and the transversals the shorter list tells how.
+fn extend(
+    t: Marks,
+    edge: Marks,
+    edges: &[Marks],
+    ts: &[Marks],
+    out: &mut Vec<Marks>,
+) -> Result<(), Memory>
+    requires before { (before : List ℕ) × (edges.now ≡ before ++ edge ∷ []) × ((x : ℕ) → IsAmong x ts.now ↔ IsMinimal (IsTransversalOf before) x) }
+    requires among { IsAmong t ts.now }
+    ensures { OnOk result
+        ((x : ℕ) → IsAmong x out.new.items ↔ (IsAmong x out.old.items ⊎ ComesOf edges.now edge x t)) }
+{
+    if t.meets(edge) {
+        out.push(t)?;
+        return Ok(());
+    }
+    if ts.len() < edges.len() {
+        grow_by_sets(t, edge, ts, out)?;
+        return Ok(());
+    }
+    grow_by_edges(t, edge, edges, out)
+}
+
 /// Puts in what comes of all of them. What was in `out` is lost.
 fn extend_each(
     ts: &[Marks],
@@ -39,11 +93,12 @@ fn extend_each(
     edges: &[Marks],
     out: &mut Vec<Marks>,
 ) -> Result<(), Memory>
+    requires { (before : List ℕ) × (edges.now ≡ before ++ edge ∷ []) × ((x : ℕ) → IsAmong x ts.now ↔ IsMinimal (IsTransversalOf before) x) }
     ensures { OnOk result ((x : ℕ) → IsAmong x out.new.items ↔ ComesOfOne edges.now edge ts.now x) }
 {
     out.clear();
     for t in ts {
-        extend(*t, edge, edges, out)?;
+        extend(*t, edge, edges, ts, out)?;
     }
     Ok(())
 }

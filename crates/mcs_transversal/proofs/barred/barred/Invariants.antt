@@ -1,4 +1,4 @@
-use Rattle.std.proofs.Common.{◌≡◌, ℕ, ◌<◌, false, IsTrue}
+use Rattle.std.proofs.Common.{◌≡◌, ℕ, false, IsTrue}
 use Rattle.std.specs.List.{AllByRecursion}
 use Rattle.mcs_sets.specs.Sets.{has, single, union}
 use Rattle.mcs_transversal.specs.Transversals.{IsCritical}

@@ -1,45 +1,15 @@
-use Rattle.std.proofs.Common.{◌≡◌, ◌∙◌, ◌<◌, ℕ, List, sym, subst, true≢false}
-use Rattle.std.proofs.lemmas.List.Elements.{recursion_from_All}
-use Rattle.std.specs.List.{AllByRecursion}
-use Rattle.mcs_sets.specs.Sets.{members, union, single, Meets}
-use Rattle.mcs_transversal.specs.Transversals.{IsCritical}
-use Rattle.mcs_transversal.proofs.BergeLemmas.{comes-kept, grows-more, grows-skip, grows-end, grows-all}
+use Rattle.std.proofs.Common.{◌∙◌, sym, true≢false}
+use Rattle.mcs_transversal.proofs.BergeLemmas.{comes-kept}
 use Rattle.mcs_transversal.proofs.berge.extend.Goals as goal
 
 pub returns-then-meets : goal.returns-then-meets
 returns-then-meets c x = rw c.in_ok-push.ensures.items (comes-kept _ _ _ _ (c.meets.ensures.0 c.if-meets.true) x)
 
-pub loop-mark-init : goal.loop-mark-init
-loop-mark-init c =
-    let all : c.into_iter-mark-iterator.result ≡ members c.args.edge = c.into_iter-mark-iterator.ensures.into_iter_gives ∙ c.members-mark-items.ensures.list in record {
-      below = rw c.into_iter-mark-iterator.ensures.into_iter_gives (recursion_from_All _ _ c.members-mark-items.ensures.below);
-      put = λ x. rw all (λ h. h, λ h. h);
-    }
+pub grow_by_sets-requires-clause-apart : goal.grow_by_sets-requires-clause-apart
+grow_by_sets-requires-clause-apart c meets = true≢false (sym (c.meets.ensures.1 meets) ∙ c.if-meets.false)
 
-pub loop-mark-preserved-in-Continue-branch-2 : goal.loop-mark-preserved-in-Continue-branch-2
-loop-mark-preserved-in-Continue-branch-2 c =
-    let out : List ℕ = c.loop-mark.out.items in
-    let is : IsCritical c.args.edges.now (union c.args.t (single c.in-Some.mark)) = c.stays_critical.ensures.0 c.if-stays_critical.true in
-    let steps = c.in-Some.ensures.steps in record {
-      below = (subst (AllByRecursion (λ k. k < 128)) steps c.loop-mark.invariant.below).1;
-      put = λ x. let before = rw steps at (c.loop-mark.invariant.put x) in let more = grows-more c.args.edges.now out c.args.t c.in-Some.mark c.next.new.self is x in
-          rw (c.in_ok-push-2.ensures.items, c.with.ensures) (λ h. more.0 (before.0 h), λ h. before.1 (more.1 h));
-    }
+pub returns-then-ts-edges : goal.returns-then-ts-edges
+returns-then-ts-edges c = let (before, is, all) = c.requires.before in rw is (c.in_ok-grow_by_sets.ensures before all)
 
-pub loop-mark-preserved : goal.loop-mark-preserved
-loop-mark-preserved c =
-    let out : List ℕ = c.loop-mark.out.items in
-    let not : ¬ IsCritical c.args.edges.now (union c.args.t (single c.in-Some.mark)) = λ is. true≢false (sym (c.stays_critical.ensures.1 is) ∙ c.if-stays_critical.false) in
-    let steps = c.in-Some.ensures.steps in record {
-      below = (subst (AllByRecursion (λ k. k < 128)) steps c.loop-mark.invariant.below).1;
-      put = λ x. let before = rw steps at (c.loop-mark.invariant.put x) in let skip = grows-skip c.args.edges.now out c.args.t c.in-Some.mark c.next.new.self not x in
-          (λ h. skip.0 (before.0 h), λ h. before.1 (skip.1 h));
-    }
-
-pub returns : goal.returns
-returns c x =
-    let none : ¬ Meets c.args.t c.args.edge = λ meets. true≢false (sym (c.meets.ensures.1 meets) ∙ c.if-meets.false) in
-    let before = rw c.in-None.ensures.steps.0 at (c.loop-mark.invariant.put x) in
-    let end = grows-end c.args.edges.now c.loop-mark.out.items c.args.t x in
-    let all = grows-all c.args.edges.now c.args.out.now.items c.args.edge c.args.t none x in
-    (λ a. all.0 (before.1 (end.1 a)), λ h. end.0 (before.0 (all.1 h)))
+pub grow_by_edges-requires : goal.grow_by_edges-requires
+grow_by_edges-requires c meets = true≢false (sym (c.meets.ensures.1 meets) ∙ c.if-meets.false)

@@ -1,5 +1,11 @@
+use Rattle.std.proofs.Common.{sym, subst}
+use Rattle.mcs_base.specs.Listings.{IsAmong}
+use Rattle.mcs_base.proofs.Among.{among_at}
 use Rattle.mcs_transversal.proofs.BergeLemmas.{comes-more, comes-end}
 use Rattle.mcs_transversal.proofs.berge.extend_each.Goals as goal
+
+pub extend-requires-clause-among : goal.extend-requires-clause-among
+extend-requires-clause-among c = subst (λ x. IsAmong x c.args.ts.now) (sym c.t-item.is) (among_at c.args.ts.now c.loop-t.t-index c.t-item.result c.loop-t-test.true)
 
 pub loop-t-preserved : goal.loop-t-preserved
 loop-t-preserved c x =

@@ -6,6 +6,15 @@ use Rattle.mcs_transversal.proofs.berge.minimal_transversals.Goals as goal
 pub loop-index-init : goal.loop-index-init
 loop-index-init c = rw (c.in_ok-push.ensures.items, c.new-current.ensures.items, c.empty.ensures) none_before
 
+pub extend_each-requires : goal.extend_each-requires
+extend_each-requires c =
+    let edges : List ℕ = c.args.edges.now in
+    let e : ℕ = c.index-edges-index.result in (
+      take c.loop-index.index edges,
+      take_more edges c.loop-index.index e c.loop-index-test.true ∙ ap (λ (x : ℕ). take c.loop-index.index edges ++ x ∷ []) (sym c.index-edges-index.is),
+      rw c.deref.ensures.value c.loop-index.invariant,
+    )
+
 pub loop-index-preserved : goal.loop-index-preserved
 loop-index-preserved c =
     let edges : List ℕ = c.args.edges.now in

@@ -1,9 +1,8 @@
-use Rattle.std.proofs.Common.{ℕ, ◌<◌, ◌⊎◌, ◌↔◌}
-use Rattle.std.specs.List.{AllByRecursion}
+use Rattle.std.proofs.Common.{ℕ, ◌⊎◌, ◌↔◌}
 use Rattle.mcs_sets.specs.Sets.{members}
 use Rattle.mcs_base.specs.Listings.{IsAmong}
 use Rattle.mcs_transversal.proofs.BergeLemmas.{GrowsBy}
-use Rattle.mcs_transversal.proofs.berge.extend.Given as goal
+use Rattle.mcs_transversal.proofs.berge.grow_by_edges.Given as goal
 use Rattle.mcs_base.proofs.SetParts.{AreBelow}
 
 abbrev pub invariant-loop-mark : goal.invariant-loop-mark
