@@ -187,3 +187,37 @@ fn forgetting_keeps_minimal_rows(rt: HostRuntime) {
     let wanted: Listed = (0b1, &[(1, 0b1), (1, 0b100), (0, 0)]);
     assert!(rt; leaves(rt.alloc(), of, wanted) == Ok(true));
 }
+
+#[test]
+fn only_fewer_marks_cover(rt: HostRuntime) {
+    let of: Listed = (
+        0b11,
+        &[
+            (0b10, 0b0011),
+            (0b10, 0b0101),
+            (0b10, 0b0110),
+            (0b10, 0b1000),
+            (0b10, 0b1001),
+            (0b10, 0b0111),
+            (0b10, 0b1110_0000),
+            (0b01, 0b0010),
+            (0b01, 0b0110),
+            (0b01, 0b1001),
+            (0b01, 0b0101),
+        ],
+    );
+    let wanted: Listed = (
+        0b11,
+        &[
+            (0b10, 0b1000),
+            (0b10, 0b0011),
+            (0b10, 0b0101),
+            (0b10, 0b0110),
+            (0b10, 0b1110_0000),
+            (0b01, 0b0010),
+            (0b01, 0b0101),
+            (0b01, 0b1001),
+        ],
+    );
+    assert!(rt; leaves(rt.alloc(), of, wanted) == Ok(true));
+}

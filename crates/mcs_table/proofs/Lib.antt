@@ -2,6 +2,7 @@ pub mod OrderLemmas
 pub mod TableLemmas
 pub mod MarkLemmas
 pub mod MinimalLemmas
+pub mod FewerLemmas
 pub mod PartnerLemmas
 pub mod JoinLemmas
 pub mod ForgetLemmas

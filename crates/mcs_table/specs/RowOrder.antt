@@ -7,6 +7,7 @@ use Rattle.std.specs.declared.cmp.Ordering.{Ordering}
 use Rattle.std.specs.declared.cmp.Ordering.TheVariants.{Less, Equal, Greater}
 use Rattle.std.specs.Ordering.{ordering_then, eq_by_cmp, as_partial_cmp}
 use Rattle.std.specs.Cmp.{IsTotalOrder, IsPartialOrder, Equal-is, tied_itself, both_ways, po}
+use Rattle.mcs_sets.specs.Sets.{size}
 use Rattle.mcs_sets.specs.Orders.{StateBefore, PairBefore}
 use Rattle.mcs_base.specs.StateOrder.{state_cmp, state_cmp_total, less_is, equal_is, cmp-same}
 use Rattle.mcs_base.specs.PairOrder.{pair_cmp, pair_cmp_total, pair_less_is, pair_equal_is}
@@ -15,6 +16,10 @@ use Rattle.mcs_table.specs.declared.row.Row.{Row}
 -- in the order of states; rows of one state in the order of pairs
 abbrev pub RowBefore : Row → Row → Type 0
 RowBefore a b = StateBefore a.state.values b.state.values ⊎ ((a.state.values ≡ b.state.values) × PairBefore a.marks b.marks)
+
+-- the state, and how many marks
+abbrev pub state_and_count : Row → ℕ × ℕ
+state_and_count r = (r.state.values, size r.marks)
 
 -- the lesser state; of the same state the lesser marks; and then the lesser mask
 unfoldable pub row_cmp : Row → Row → Ordering

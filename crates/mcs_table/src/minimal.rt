@@ -1,9 +1,9 @@
 //! The minimal rows: of those of one state, the ones with no other's marks within theirs.
 
-ghost use Rattle.std.specs.Prelude.{◌≡◌, ◌↔◌, IsTrue};
+ghost use Rattle.std.specs.Prelude.{◌≡◌, ◌≤◌, ◌↔◌, IsTrue, length, drop};
 ghost use Rattle.std.specs.List.{AllByRecursion};
 ghost use Rattle.mcs_base.specs.Listings.{IsAmong, IsAscending, IsListing};
-ghost use Rattle.mcs_table.specs.RowOrder.{RowBefore};
+ghost use Rattle.mcs_table.specs.RowOrder.{RowBefore, state_and_count};
 ghost use Rattle.mcs_table.specs.Tables.{IsCovered, IsMinimalRow};
 ghost use Rattle.mcs_table.specs.declared.row.Row as declared;
 
@@ -32,14 +32,14 @@ pub fn minimal_table(scope: Vars, rows: Vec<Row>) -> Table
 }
 
 /// Whether one of the kept rows has the state of the row, which comes after them, and marks within its
-/// marks. Those of the same state are the last ones.
+/// marks. Those of the same state with fewer marks are the last ones before those with as many.
 fn is_covered(kept: &[Row], row: &Row) -> bool
     requires scope { AllByRecursion (λ (r : declared.Row). r.state.mask ≡ row.now.state.mask) kept.now }
     requires ascending { IsAscending RowBefore kept.now }
     requires after { AllByRecursion (λ (r : declared.Row). RowBefore r row.now) kept.now }
     ensures { IsTrue result ↔ IsCovered kept.now row.now }
 {
-    for i in (0..kept.len()).rev() {
+    for i in (0..end_of_fewer(kept, row)).rev() {
         let other = &kept[i];
         if other.state != row.state {
             return false;
@@ -49,4 +49,23 @@ fn is_covered(kept: &[Row], row: &Row) -> bool
         }
     }
     false
+}
+
+/// How many of the kept rows come before each one that has the state of the row, which comes after them, and as
+/// many marks. None of the others has marks within its marks and its state.
+fn end_of_fewer(kept: &[Row], row: &Row) -> usize
+    requires ascending { IsAscending RowBefore kept.now }
+    requires after { AllByRecursion (λ (r : declared.Row). RowBefore r row.now) kept.now }
+    ensures bound { result ≤ length kept.now }
+    ensures rest { ¬ IsCovered (drop result kept.now) row.now }
+{
+    let own = state_and_count(row);
+    kept.partition_point(|other| state_and_count(other) < own)
+}
+
+/// The state of the row, and how many marks it has.
+fn state_and_count(row: &Row) -> (Vars, u32)
+    ensures { result ≡ state_and_count row.now }
+{
+    (row.state.values(), row.marks.count())
 }
