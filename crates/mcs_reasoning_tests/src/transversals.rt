@@ -67,3 +67,22 @@ fn no_edges_and_an_empty_edge(rt: HostRuntime) {
     assert!(rt; told == [Ok(true); 3]);
     assert!(rt; is_critical(&[], pair, 0, None) && is_critical(&[pair], pair, 0, None));
 }
+
+/// The minimal transversals of pairs are the choices of one mark of each, which are more than the pairs; those of the
+/// choices are the pairs, which are fewer.
+#[test]
+fn pairs_and_the_choices_of_one_of_each(rt: HostRuntime) {
+    let pairs = [set_of(&[0, 1]), set_of(&[2, 3]), set_of(&[4, 5])];
+    let choices = [
+        set_of(&[0, 2, 4]),
+        set_of(&[0, 2, 5]),
+        set_of(&[0, 3, 4]),
+        set_of(&[0, 3, 5]),
+        set_of(&[1, 2, 4]),
+        set_of(&[1, 2, 5]),
+        set_of(&[1, 3, 4]),
+        set_of(&[1, 3, 5]),
+    ];
+    assert!(rt; are_minimal(rt.alloc(), &pairs, &choices) == Ok(true));
+    assert!(rt; are_minimal(rt.alloc(), &choices, &pairs) == Ok(true));
+}
