@@ -39,7 +39,7 @@ fn is_covered(kept: &[Row], row: &Row) -> bool
     requires after { AllByRecursion (λ (r : declared.Row). RowBefore r row.now) kept.now }
     ensures { IsTrue result ↔ IsCovered kept.now row.now }
 {
-    for i in (0..end_of_fewer(kept, row)).rev() {
+    for i in (0..end_to_look_at(kept, row)).rev() {
         let other = &kept[i];
         if other.state != row.state {
             return false;
@@ -49,6 +49,24 @@ fn is_covered(kept: &[Row], row: &Row) -> bool
         }
     }
     false
+}
+
+/// So many rows of one state are gone through sooner than searched.
+const FEW_ROWS: usize = 32;
+
+/// How many of the kept rows are to be looked at for one that has the state of the row, which comes after them, and
+/// marks within its marks: none of the others has both. Where there are many rows of the state, those with as many marks
+/// as the row are left out.
+fn end_to_look_at(kept: &[Row], row: &Row) -> usize
+    requires ascending { IsAscending RowBefore kept.now }
+    requires after { AllByRecursion (λ (r : declared.Row). RowBefore r row.now) kept.now }
+    ensures bound { result ≤ length kept.now }
+    ensures rest { ¬ IsCovered (drop result kept.now) row.now }
+{
+    match kept.len().checked_sub(FEW_ROWS) {
+        Some(place) if kept[place].state == row.state => end_of_fewer(kept, row),
+        _ => kept.len(),
+    }
 }
 
 /// How many of the kept rows come before each one that has the state of the row, which comes after them, and as
