@@ -218,6 +218,37 @@ def read(data):
         raise Fault(5, reader.next.offset, "a formula lies deeper here than is read") from None
 
 
+def variables_of(system):
+    """The beliefs that rules read, each as a read, in the order of the variables."""
+    found = {context.name: {} for context in system.contexts}
+    for bridge in system.bridges:
+        for read in bridge.reads + bridge.denied:
+            found[read.context].setdefault(read)
+    return [read for reads in found.values() for read in reads]
+
+
+def atoms_in(formula):
+    """The names in a formula, from the left."""
+    if formula[0] == "atom":
+        return [formula[1]]
+    return [name for part in formula[1:] for name in atoms_in(part)]
+
+
+def atoms_of(system, context):
+    """The atoms of a context in the order of their numbers: those of its items, of heads into it, of beliefs read of it."""
+    names = []
+    for item in context.items:
+        if isinstance(item, Rule):
+            names += item.heads + item.reads + item.denied
+        elif isinstance(item, Default):
+            names += [name for formula in (item.before, *item.unless_denied, item.then) for name in atoms_in(formula)]
+        else:
+            names += atoms_in(item)
+    formulas = [bridge.head for bridge in system.bridges if bridge.context == context.name]
+    formulas += [read.belief for read in variables_of(system) if read.context == context.name]
+    return list(dict.fromkeys(names + [name for formula in formulas for name in atoms_in(formula)]))
+
+
 def belief(formula):
     """A formula as a listing prints it in a place: what has two parts in parentheses."""
     if formula[0] in ("true", "false"):

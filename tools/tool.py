@@ -1,7 +1,9 @@
 """How the tools of this folder read files, refuse what they can't take, and end."""
+import contextlib
 import os
 import sys
 
+import report_text
 import system_text
 
 
@@ -18,9 +20,22 @@ def name():
     return os.path.basename(sys.argv[0])
 
 
+def plain(words, least, most, usage):
+    """The words, so many of them, none of which is an option."""
+    if words[:1] == ["--"]:
+        words = words[1:]
+    elif any(word.startswith("-") and word != "-" for word in words):
+        raise Refused(usage)
+    if not least <= len(words) <= most:
+        raise Refused(usage)
+    return words
+
+
 def bytes_of(path):
-    """The bytes of a file."""
+    """The bytes of a file; those of the standard input for `-`."""
     try:
+        if path == "-":
+            return sys.stdin.buffer.read() if sys.stdin else b""
         with open(path, "rb") as file:
             return file.read()
     except OSError as error:
@@ -35,6 +50,16 @@ def system_of(path):
     except system_text.Fault as fault:
         line, column = system_text.line_and_column(data, fault.offset)
         raise Refused(f"{path}:{line}:{column}: {fault.sentence}") from None
+
+
+@contextlib.contextmanager
+def refusing(path):
+    """Refuses what is no listing, or not one of this text, by the file in which it stands."""
+    try:
+        yield
+    except report_text.Fault as fault:
+        shown = "standard input" if path == "-" else path
+        raise Refused(f"{shown}:{fault.line}:1: {fault.sentence}", 1) from None
 
 
 def run(told, work):
