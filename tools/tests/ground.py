@@ -1,5 +1,6 @@
 """What the tests of the tools share."""
 import os
+import shutil
 import stat
 import subprocess
 import tempfile
@@ -8,11 +9,33 @@ import unittest
 HERE = os.path.dirname(os.path.realpath(__file__))
 TOP = os.path.dirname(os.path.dirname(HERE))
 EXAMPLES = os.path.join(TOP, "examples")
-PROGRAM = os.path.join(TOP, "crates", "mcs", "out", "mcs")
+OUT = os.path.join(TOP, "crates", "mcs", "out")
 
 
 def example(*names):
     return os.path.join(EXAMPLES, *names)
+
+
+def built():
+    """The program that `./build` left, where it is of the sources as they stand, else the one that `.ci/run` left."""
+    proved, other = os.path.join(OUT, "mcs-proved"), os.path.join(OUT, "mcs")
+    sources = subprocess.run([os.path.join(TOP, ".ci", "sources")], capture_output=True).stdout
+    try:
+        with open(proved + ".sources", "rb") as file:
+            if os.access(proved, os.X_OK) and sources and file.read() == sources:
+                return proved
+    except OSError:
+        pass
+    return other if os.access(other, os.X_OK) else None
+
+
+PROGRAM = os.path.abspath(os.environ["MCS"]) if os.environ.get("MCS") else built()
+needs_program = unittest.skipUnless(PROGRAM, "it looks for the program crates/mcs/out/mcs-proved that ./build leaves, "
+                                             "or crates/mcs/out/mcs that .ci/run leaves")
+
+
+def needs(name):
+    return unittest.skipUnless(shutil.which(name), f"it looks for the program {name}")
 
 
 class Ground(unittest.TestCase):

@@ -4,9 +4,8 @@ import os
 import re
 import shutil
 import sys
-import unittest
 
-from ground import EXAMPLES, TOP, Ground
+from ground import EXAMPLES, TOP, Ground, needs
 
 sys.path.insert(0, os.path.join(TOP, "bench", "clingo"))
 
@@ -53,7 +52,7 @@ printf '%s\\n' 'mcs 1: 1 contexts, 1 rules, 1 variables' 'equilibrium 1: {c:a} a
             self.assertEqual((status, noted), (0, ""))
 
 
-@unittest.skipUnless(shutil.which("clingo"), "clingo is not installed")
+@needs("clingo")
 class Clingo(Ground):
     def test_the_examples_have_the_same_lists(self):
         import questions

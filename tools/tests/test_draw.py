@@ -2,11 +2,9 @@
 import glob
 import os
 import re
-import shutil
 import subprocess
-import unittest
 
-from ground import EXAMPLES, Ground, example
+from ground import EXAMPLES, Ground, example, needs
 
 RED, BLUE, ORANGE, PURPLE, CRIMSON = "#c81e1e", "#1f5fd0", "#c76a00", "#8a2be2", "#a8326e"
 
@@ -131,7 +129,7 @@ class Draw(Ground):
             self.assertEqual(status, 2)
             self.assertIn(f".mcs:{place}", noted)
 
-    @unittest.skipUnless(shutil.which("dot"), "graphviz is not installed")
+    @needs("dot")
     def test_graphviz_takes_each_graph(self):
         for path in glob.glob(os.path.join(EXAMPLES, "*.mcs")):
             graph = self.drawn(path, path.replace(".mcs", ".solve"))

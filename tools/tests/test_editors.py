@@ -1,11 +1,9 @@
 """editors/: what Vim makes of a text, and what bash completes."""
 import os
 import re
-import shutil
 import subprocess
-import unittest
 
-from ground import PROGRAM, TOP, Ground
+from ground import PROGRAM, TOP, Ground, needs, needs_program
 
 TEXT = """\
 # A comment. TODO
@@ -45,7 +43,7 @@ qall!
 PATH = "set runtimepath+=" + os.path.join(TOP, "editors", "vim").replace(" ", r"\ ")
 
 
-@unittest.skipUnless(shutil.which("vim"), "vim is not installed")
+@needs("vim")
 class Vim(Ground):
     def asked(self, text, script, lines, **variables):
         """What a script of Vim tells, with a `.vimrc` of these lines."""
@@ -84,7 +82,7 @@ qall!
             self.assertEqual(told[:3], wanted[:3], lines)
 
 
-@unittest.skipUnless(shutil.which("bash"), "bash is not installed")
+@needs("bash")
 class Completion(Ground):
     def offered(self, *words, built=False):
         """What bash offers for the last word, with all that is not built yet left out unless it is asked for."""
@@ -123,7 +121,7 @@ class Completion(Ground):
         for word in absent[1].split() if absent else []:
             self.assertNotIn(word, words)
 
-    @unittest.skipUnless(os.access(PROGRAM, os.X_OK), "the program is not built")
+    @needs_program
     def test_what_is_built_is_offered_and_has_its_page(self):
         with open(os.path.join(TOP, "editors", "bash", "mcs")) as file:
             absent = re.search('^_mcs_not_built="(.*)"$', file.read(), re.MULTILINE)

@@ -1,17 +1,15 @@
 """docs/mcs.1: it is laid out without a warning, and has the words and statuses that the program has."""
 import os
 import re
-import shutil
 import subprocess
-import unittest
 
-from ground import TOP, Ground
+from ground import TOP, Ground, needs
 
 PAGE = os.path.join(TOP, "docs", "mcs.1")
 
 
 class Manual(Ground):
-    @unittest.skipUnless(shutil.which("groff"), "groff is not installed")
+    @needs("groff")
     def test_it_is_laid_out_without_a_warning(self):
         run = subprocess.run(["groff", "-man", "-t", "-ww", "-Tutf8", PAGE], capture_output=True)
         self.assertEqual((run.returncode, run.stderr), (0, b""))

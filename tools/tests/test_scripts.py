@@ -1,12 +1,11 @@
 """The launcher `mcs`, `build` and the gate: what they start, from any folder, and what they say where they can't."""
 import os
 import shutil
-import unittest
 
-from ground import TOP, Ground
+from ground import TOP, Ground, needs
 
 
-@unittest.skipUnless(shutil.which("bash"), "bash is not installed")
+@needs("bash")
 class Scripts(Ground):
     def setUp(self):
         super().setUp()

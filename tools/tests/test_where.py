@@ -2,9 +2,8 @@
 import glob
 import os
 import re
-import unittest
 
-from ground import PROGRAM, TOP, Ground, example
+from ground import PROGRAM, TOP, Ground, example, needs_program
 
 
 class Where(Ground):
@@ -82,7 +81,7 @@ class Where(Ground):
         self.assertEqual((status, told), (127, ""))
         self.assertOneLine(noted)
 
-    @unittest.skipUnless(os.access(PROGRAM, os.X_OK), "the program is not built")
+    @needs_program
     def test_with_the_program(self):
         for path in glob.glob(example("refused", "*.mcs")):
             with open(path, "rb") as file:
