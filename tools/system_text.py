@@ -97,6 +97,8 @@ class Reader:
         sentence = f"{shown(self.next)} can't stand here: {wanted} is wanted"
         if self.next.kind == "word" and self.next.text in UNUSED:
             sentence = f"`{self.next.text}` is reserved: {wanted} is wanted"
+        elif self.next.kind == "stray" and self.next.text == "%":
+            sentence += "; a comment begins with `#`"
         self.fault(1, sentence)
 
     def sign(self, text, wanted=None):
@@ -114,6 +116,8 @@ class Reader:
             contexts.append(self.context())
         while self.takes("bridge"):
             bridges.append(self.bridge())
+        if self.sees("context"):
+            self.fault(1, "`context` can't stand here: contexts come before the bridge rules")
         if self.next.kind != "end":
             self.out_of_place("`bridge`" if bridges else "`context` or `bridge`")
         return System(contexts, bridges)
@@ -128,8 +132,11 @@ class Reader:
         self.sign("{")
         items = []
         while not self.takes("}"):
-            items.append(self.rule() if kind == "program" else self.item(kind))
-            self.sign(".", "`.` or a sign that goes on" if kind != "program" else None)
+            if kind == "program":
+                items.append(self.rule())
+            else:
+                items.append(self.item(kind))
+                self.sign(".", "`.` or a sign that goes on")
         return Context(name, kind, items)
 
     def item(self, kind):
@@ -143,16 +150,27 @@ class Reader:
         return Default(first, unless_denied, self.formula())
 
     def rule(self):
+        """A rule with its period."""
         heads, reads, denied = [], [], []
         if not self.sees(":-"):
             heads.append(self.name("a rule or `}`"))
             while self.takes("|"):
                 heads.append(self.name())
-        if self.takes(":-") and not self.sees("."):
+        if self.takes(":-"):
+            if self.takes("."):
+                return Rule(heads, reads, denied)
+            wanted = "a name, `not` or `.`"
             while True:
-                (denied if self.takes("not") else reads).append(self.name())
+                if self.takes("not"):
+                    denied.append(self.name())
+                else:
+                    reads.append(self.name(wanted))
                 if not self.takes(","):
                     break
+                wanted = "a name or `not`"
+            self.sign(".", "`,` or `.`")
+        else:
+            self.sign(".", "`|`, `:-` or `.`")
         return Rule(heads, reads, denied)
 
     def bridge(self):
@@ -175,7 +193,10 @@ class Reader:
         at = self.next
         context = self.name("the name of a context")
         if context not in self.kinds:
-            raise Fault(2, at.offset, "no context has this name")
+            later = zip(self.tokens[self.at:], self.tokens[self.at + 1:])
+            comes = any(one.text == "context" and other.text == context for one, other in later)
+            raise Fault(2, at.offset, "the context of this name comes too late: contexts come before the bridge rules"
+                        if comes else "no context has this name")
         self.sign(":")
         if self.kinds[context] == "program" and (self.next.text in ("true", "false") or self.sees("~", "(")):
             self.fault(4, "a program has names for beliefs, and no formulas")

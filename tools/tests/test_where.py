@@ -2,6 +2,7 @@
 import glob
 import os
 import re
+import subprocess
 
 from ground import PROGRAM, TOP, Ground, example, needs_program
 
@@ -56,6 +57,39 @@ class Where(Ground):
         self.assertEqual(self.told(b"\xef\xbb\xbfcontext c", "mcs: refused: F1 at 0")[0],
                          "1:1: F1: the byte 239, with which no token begins, can't stand here: "
                          "`context` or `bridge` is wanted")
+
+    def test_what_may_stand_there_is_told_whole(self):
+        for text, word, sentence in [
+            ("context c program { ill(x). }", "(", "`(` can't stand here: `|`, `:-` or `.` is wanted"),
+            ("context c program { a; b. }", ";", "`;`, with which no token begins, can't stand here: `|`, `:-` or `.` is wanted"),
+            ("context c program { a :- b | c. }", "|", "`|` can't stand here: `,` or `.` is wanted"),
+            ("context c program { a :- ~b. }", "~", "`~` can't stand here: a name, `not` or `.` is wanted"),
+            ("context c program { a :- b, ~c. }", "~", "`~` can't stand here: a name or `not` is wanted"),
+            ("context c program { a :- not ~c. }", "~", "`~` can't stand here: a name is wanted"),
+            ("% a rule", "%", "`%`, with which no token begins, can't stand here: `context` or `bridge` is wanted; "
+                              "a comment begins with `#`"),
+            ("bridge r: d:p. context c classical {}", "context", "`context` can't stand here: contexts come before the bridge rules"),
+        ]:
+            text = "context d classical {}\n" + text
+            place, _, _ = self.told(text, f"mcs: refused: F1 at {23 + text[23:].index(word)}")
+            self.assertEqual(place.split(": ", 1)[1], "F1: " + sentence)
+        text = "bridge r: c:p.\ncontext c classical {}\n"
+        self.assertEqual(self.told(text, "mcs: refused: F2 at 10")[0],
+                         "1:11: F2: the context of this name comes too late: contexts come before the bridge rules")
+
+    def test_the_standard_input_is_read_as_any_file(self):
+        program = self.script("mcs", """#!/bin/sh
+if grep -q 'd:' "$3"; then echo 'mcs: refused: F2 at 33' >&2; exit 3; fi
+""")
+        text = self.file("a text.mcs", "context c classical {}\nbridge r: d:p.\n")
+        with open(text, "rb") as file:
+            whole = file.read()
+        told = b"/dev/stdin:2:11: F2: no context has this name\nbridge r: d:p.\n          ^\n"
+        with open(text, "rb") as file:
+            for given in (dict(stdin=file), dict(input=whole)):
+                run = subprocess.run([os.path.join(TOP, "tools", "where"), "/dev/stdin"], capture_output=True,
+                                     env={**os.environ, "MCS": program}, **given)
+                self.assertEqual((run.returncode, run.stdout, run.stderr), (3, told, b""))
 
     def test_each_limit_of_the_language_has_a_sentence(self):
         with open(os.path.join(TOP, "docs", "LANGUAGE.md")) as file:
