@@ -77,7 +77,8 @@ echo "$$"
         self.proved()
         self.file("a text.mcs", "")
         os.mkdir(os.path.join(self.room, "folder"))
-        told = f"mcs: the jobs and options are told by: man -l {self.top}/docs/mcs.1"
+        page = (self.top + "/docs/mcs.1").replace(" ", "\\ ")
+        told = f"mcs: the jobs and options are told by: man -l {page}"
         for words, status, line in [
             ([], 2, told), (["--help"], 2, told), (["solved", "a text.mcs"], 2, told), (["solve"], 2, told),
             (["--budget=0", "solve", "a text.mcs"], 2, told), (["solve", "a text.mcs", "more"], 2, told),

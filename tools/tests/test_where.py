@@ -90,6 +90,10 @@ if grep -q 'd:' "$3"; then echo 'mcs: refused: F2 at 33' >&2; exit 3; fi
                 run = subprocess.run([os.path.join(TOP, "tools", "where"), "/dev/stdin"], capture_output=True,
                                      env={**os.environ, "MCS": program}, **given)
                 self.assertEqual((run.returncode, run.stdout, run.stderr), (3, told, b""))
+        program = self.script("mcs", "#!/bin/sh\n[ -e \"$3\" ] || { echo 'mcs: read fault' >&2; exit 5; }\n")
+        run = subprocess.run(["sh", "-c", 'exec "$0" /dev/stdin <&-', os.path.join(TOP, "tools", "where")],
+                             capture_output=True, env={**os.environ, "MCS": program})
+        self.assertEqual((run.returncode, run.stdout, run.stderr), (5, b"", b"mcs: read fault\n"))
 
     def test_each_limit_of_the_language_has_a_sentence(self):
         with open(os.path.join(TOP, "docs", "LANGUAGE.md")) as file:
