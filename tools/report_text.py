@@ -241,7 +241,8 @@ class Reader:
             if [each for each in state if state[each] and each != name]:
                 self.fault(f"this state is not of `{name}` alone", 1)
             found["states"].append(state[name])
-        found.update({"classical": self.classical, "default": self.default, "program": self.program}[context.kind](context, found))
+        certificate = {"classical": self.classical, "default": self.default, "program": self.program}[context.kind]
+        found.update(certificate(context, found))
         self.line("done")
         return found
 
