@@ -18,6 +18,8 @@ beside: low
 top: sums, low
 mcs: top low # the program
 """
+# What stands in the folder of each crate.
+PARTS = ("src/lib.rt", "src/out/more.rt", "specs/Lib.antt", "proofs/f/Answers.antt", "must-fail/wrong.edit", "out/old")
 # What `rt ci` says where all is proved, but for the first crate, which was proved before.
 SAYS = """
 echo 'rt: low is kept: an earlier run on this machine proved the same files over the same libraries'
@@ -41,20 +43,18 @@ class Build(Ground):
     def setUp(self):
         super().setUp()
         self.top = os.path.join(self.room, "a checkout")
-        for path, content in [("crates.txt", CRATES), ("HANDLES", "Handles allowed: none.\n"),
-                              *[(f"crates/{name}/{part}", "\n" * 100) for name in ("low", "sums", "tests", "beside", "top")
-                                for part in ("src/lib.rt", "src/out/more.rt", "specs/Lib.antt", "proofs/f/Answers.antt",
-                                             "must-fail/wrong.edit", "out/rlib/old")],
-                              ("crates/mcs/src/main.rt", "\n" * 300), ("crates/mcs/args", "--help\n")]:
-            path = os.path.join(self.top, path)
-            os.makedirs(os.path.dirname(path), exist_ok=True)
-            self.file(path, content)
-        for name in ("mcs", "build"):
-            shutil.copy(os.path.join(TOP, name), self.top)
-        os.makedirs(os.path.join(self.top, ".ci"))
-        shutil.copy(os.path.join(TOP, ".ci", "sources"), os.path.join(self.top, ".ci"))
-        os.makedirs(os.path.join(self.room, "bin"))
-        os.makedirs(os.path.join(self.room, "temporary files"))
+        files = {"crates.txt": CRATES, "HANDLES": "Handles allowed: none.\n", "crates/mcs/src/main.rt": "\n" * 300,
+                 "crates/mcs/args": "--help\n"}
+        for name in ("low", "sums", "tests", "beside", "top"):
+            files.update({f"crates/{name}/{part}": "\n" * 100 for part in PARTS})
+        for path, content in files.items():
+            os.makedirs(os.path.dirname(self.inside(path)), exist_ok=True)
+            self.file(self.inside(path), content)
+        for name in ("mcs", "build", os.path.join(".ci", "sources")):
+            os.makedirs(os.path.dirname(self.inside(name)), exist_ok=True)
+            shutil.copy(os.path.join(TOP, name), self.inside(name))
+        for name in ("bin", "temporary files"):
+            os.mkdir(os.path.join(self.room, name))
 
     def inside(self, *names):
         return os.path.join(self.top, *names)
@@ -85,7 +85,7 @@ class Build(Ground):
         with open(os.path.join(self.room, "files")) as file:
             files = file.read().split("\n")
         for path in ("./.git", "./HANDLES", "./crates/mcs/args", "./crates/mcs/src/main.rt", "./crates/low/src/lib.rt",
-                     "./crates/low/src/out/more.rt", "./crates/top/specs/Lib.antt", "./crates/sums/proofs/f/Answers.antt"):
+                     "./crates/low/src/out/more.rt", "./crates/top/specs/Lib.antt", "./crates/sums/proofs/f"):
             self.assertIn(path, files)
         for path in ("./crates/tests", "./crates/beside", "./crates/low/out", "./crates/low/must-fail"):
             self.assertNotIn(path, files)
@@ -115,9 +115,12 @@ class Build(Ground):
         self.assertIn("not the proved program", noted)
 
     def test_what_is_not_proved_is_shown_and_nothing_is_built(self):
-        status, told, noted = self.built(
-            "printf '== low\\nfn low::f: proved\\nsrc/lib.rt:3:1: error: no\\nfn low::g: not proved\\nrt: low NOT PROVED\\n'\n"
-            "echo 'rt: sums NOT PROVED: its library low failed'\necho 'rt: FAILED: low sums'\necho '0 passed, 2 failed'\nexit 1")
+        status, told, noted = self.built("""
+printf '== low\\nfn low::f: proved\\nsrc/lib.rt:3:1: error: no\\nfn low::g: not proved\\nrt: low NOT PROVED\\n'
+echo 'rt: sums NOT PROVED: its library low failed'
+echo 'rt: FAILED: low sums'
+echo '0 passed, 2 failed'
+exit 1""")
         self.assertEqual((status, told), (1, ""))
         self.assertEqual(noted.splitlines()[1:], [
             "src/lib.rt:3:1: error: no", "fn low::g: not proved",
@@ -126,6 +129,15 @@ class Build(Ground):
             "rt: FAILED: low sums", "0 passed, 2 failed", "build: nothing is built"])
         self.assertFalse(os.path.exists(self.inside("out")))
         self.assertNothingIsLeft()
+
+    def test_tests_that_are_not_proved_are_shown(self):
+        status, _, noted = self.built("""
+printf '== low: its tests\\nfn low::t: not proved\\nrt: low: its tests are NOT PROVED\\n'
+printf '== low\\nfn low::f: proved\\nrt: low proved\\n'
+exit 1""")
+        self.assertEqual(status, 1)
+        self.assertEqual(noted.splitlines()[2:],
+                         ["fn low::t: not proved", "rt: low: its tests are NOT PROVED", "build: nothing is built"])
 
     def test_a_program_that_was_built_before_stays_where_nothing_is_built(self):
         self.assertEqual(self.built(SAYS + MAKES)[0], 0)
