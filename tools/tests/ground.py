@@ -9,7 +9,6 @@ import unittest
 HERE = os.path.dirname(os.path.realpath(__file__))
 TOP = os.path.dirname(os.path.dirname(HERE))
 EXAMPLES = os.path.join(TOP, "examples")
-OUT = os.path.join(TOP, "crates", "mcs", "out")
 
 
 def example(*names):
@@ -18,7 +17,7 @@ def example(*names):
 
 def built():
     """The program that `./build` left, where it is of the sources as they stand, else the one that `.ci/run` left."""
-    proved, other = os.path.join(OUT, "mcs-proved"), os.path.join(OUT, "mcs")
+    proved, other = os.path.join(TOP, "out", "mcs"), os.path.join(TOP, "crates", "mcs", "out", "mcs")
     sources = subprocess.run([os.path.join(TOP, ".ci", "sources")], capture_output=True).stdout
     try:
         with open(proved + ".sources", "rb") as file:
@@ -30,8 +29,8 @@ def built():
 
 
 PROGRAM = os.path.abspath(os.environ["MCS"]) if os.environ.get("MCS") else built()
-needs_program = unittest.skipUnless(PROGRAM, "it looks for the program crates/mcs/out/mcs-proved that ./build leaves, "
-                                             "or crates/mcs/out/mcs that .ci/run leaves")
+needs_program = unittest.skipUnless(PROGRAM, "it looks for the program out/mcs that ./build leaves, or "
+                                             "crates/mcs/out/mcs that .ci/run leaves")
 
 
 def needs(name):

@@ -2,6 +2,7 @@
 import os
 import shutil
 import subprocess
+import sys
 
 from ground import TOP, Ground, needs
 
@@ -23,6 +24,8 @@ class Scripts(Ground):
         for tool in ("bash", "sh", "env", "dirname", "readlink", "realpath", "grep", "cat"):
             if shutil.which(tool) and not os.path.exists(os.path.join(tools, tool)):
                 os.symlink(shutil.which(tool), os.path.join(tools, tool))
+        if not os.path.exists(os.path.join(tools, "python3")):
+            os.symlink(os.path.realpath(sys.executable), os.path.join(tools, "python3"))
         if kit is not None:
             self.script(os.path.join("bin", "rt"), "#!/bin/sh\n" + kit)
         return self.ran(os.path.join(self.top, name), *words, PATH=tools)
