@@ -57,7 +57,7 @@ class Recheck(Ground):
         status, told, noted = self.ran("tools/compare-recheck", "--count", "60", "--program", PROGRAM,
                                        example("birds.mcs"), example("therapy.mcs"))
         self.assertEqual((status, noted), (0, ""), told)
-        self.assertRegex(told, r"\Arecheck: 2 reports and 60 changed ones, 0 differences, 0 texts left out\n\Z")
+        self.assertRegex(told, r"\Arecheck: 2 reports and 60 changed ones, 0 differences, 0 texts left out\n")
 
 
 if __name__ == "__main__":
