@@ -1,11 +1,12 @@
 //! Evaluations on one thread: equilibria of changed systems, and the first of them.
 
-use crate::evaluators::evaluator_of;
+use crate::evaluators::{Solving, evaluator_of};
 use crate::numbered::are_numbered;
 use crate::systems::{CHOICE, FORBIDDEN, SELF_ATTACK, are_allowed, system_of};
 use mcs_base::{Marks, Memory, Pair};
 use mcs_equilibria::{least_state, list_states};
 use mcs_ports::IdleGate;
+use mcs_states::Evaluator;
 use mcs_system::System;
 use std::alloc::Global;
 use std::sync::Arc;
@@ -47,6 +48,20 @@ const FIRST_STATES: &[(&str, &[u32], Option<u64>)] = &[
     (FREE, &[], None),
     (FREE, &[0], Some(32637)),
 ];
+
+/// The last context is told three things that it forbids together: by three contexts, which are told of them by one
+/// rule, by two and by three.
+const TOGETHER: &str = "context fact program { a. } context one program {} context two program {}
+context three program {} context bad program { :- p, q, s. }
+bridge r1: one:p if fact:a. bridge r2: two:q if fact:a. bridge r3: two:q if fact:a.
+bridge r4: three:s if fact:a. bridge r5: three:s if fact:a. bridge r6: three:s if fact:a.
+bridge t1: bad:p if one:p. bridge t2: bad:q if two:q. bridge t3: bad:s if three:s.";
+
+/// The marks of the minimal diagnoses of that system, in order.
+const DIAGNOSES: &[&[u32]] = &[&[0], &[12], &[14], &[16], &[2, 4], &[6, 8, 10]];
+
+/// Levels, and how many of the diagnoses have no more marks.
+const LEVELS: &[(u32, usize)] = &[(0, 0), (1, 4), (2, 5), (3, 6)];
 
 /// The set of these marks.
 fn marks_of(members: &[u32]) -> Marks {
@@ -116,5 +131,54 @@ fn changed_systems_have_first_states(rt: HostRuntime) -> Result<(), Fail> {
         drop(system);
         assert!(rt; is_right == Ok(true));
     }
+    Ok(())
+}
+
+/// Whether these are the first so many of the minimal diagnoses.
+fn are_first(pairs: &[Marks], count: usize) -> bool {
+    if pairs.len() != count {
+        return false;
+    }
+    for (pair, marks) in pairs.iter().zip(DIAGNOSES) {
+        if *pair != marks_of(marks) {
+            return false;
+        }
+    }
+    true
+}
+
+/// Whether the evaluator tells the first so many of the minimal diagnoses at this level.
+fn tells_first(alloc: Global, evaluator: &mut Solving<'_>, level: u32, count: usize) -> bool {
+    if evaluator.halted() {
+        return false;
+    }
+    match evaluator.repairs(alloc, level) {
+        Ok(pairs) => are_first(&pairs, count),
+        Err(_) => false,
+    }
+}
+
+#[test]
+fn diagnoses_come_level_after_level(rt: HostRuntime) -> Result<(), Fail> {
+    let system = system_of(rt.alloc(), TOGETHER)?;
+    let mut evaluator = evaluator_of(rt.alloc(), &system, ENOUGH, &IdleGate)?;
+    let mut are_right = true;
+    for (level, count) in LEVELS {
+        are_right &= tells_first(rt.alloc(), &mut evaluator, *level, *count);
+    }
+    drop(evaluator);
+    drop(system);
+    assert!(rt; are_right);
+    Ok(())
+}
+
+#[test]
+fn diagnoses_come_at_once(rt: HostRuntime) -> Result<(), Fail> {
+    let system = system_of(rt.alloc(), TOGETHER)?;
+    let mut evaluator = evaluator_of(rt.alloc(), &system, ENOUGH, &IdleGate)?;
+    let are_right = tells_first(rt.alloc(), &mut evaluator, 3, DIAGNOSES.len());
+    drop(evaluator);
+    drop(system);
+    assert!(rt; are_right);
     Ok(())
 }

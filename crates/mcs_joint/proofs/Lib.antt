@@ -9,3 +9,5 @@ pub mod Uniting
 pub mod Reducing
 pub mod Narrowing
 pub mod Settling
+pub mod WithoutLemmas
+pub mod Keeping

@@ -2,3 +2,4 @@ pub mod Apart
 pub mod Changed
 pub mod Reduced
 pub mod First
+pub mod Without

@@ -141,7 +141,7 @@ fn have_joint_row(alloc: Global, tables: &[Table], level: u32) -> Result<bool, M
     requires apart { EachApart tables.now }
     ensures { IfOk result (λ some. IsTrue some ↔ HaveJointRow level tables.now) }
 {
-    let left = eliminate(alloc, tables, level)?;
+    let left = eliminate(alloc, tables, level, &[])?;
     Ok(!left.rows().is_empty())
 }
 

@@ -1,43 +1,54 @@
 //! The minimal diagnoses with few marks, of the tables of all contexts.
 
-ghost use Rattle.std.specs.Prelude.{◌≡◌, ◌≤◌, ℕ, map, IfOk};
-ghost use Rattle.std.specs.List.{AllZip};
+ghost use Rattle.std.specs.Prelude.{◌≡◌, ◌≤◌, ◌↔◌, ℕ, map, IfOk, IsTrue};
+ghost use Rattle.std.specs.List.{AllByRecursion, AllZip};
 ghost use Rattle.mcs_sets.specs.Sets.{size};
 ghost use Rattle.mcs_sets.specs.Orders.{PairBefore};
+ghost use Rattle.mcs_base.specs.Antichains.{HasOneWithin};
 ghost use Rattle.mcs_base.specs.Listings.{IsListing};
 ghost use Rattle.mcs_base.specs.Minimal.{IsMinimal};
 ghost use Rattle.mcs_system.specs.Repairs.{IsDiagnosis};
 ghost use Rattle.mcs_table.specs.declared.row.Row as declared;
 ghost use Rattle.mcs_table.specs.Elimination.{still_kept, EliminatesTo};
-ghost use Rattle.mcs_table.specs.Tables.{TableData, AreApart, IsJoin, IsForgetting};
+ghost use Rattle.mcs_table.specs.Tables.{TableData, IsTable, AreApart, IsJoin, IsForgetting};
 ghost use Rattle.mcs_rows.specs.Local.{AreMinimalTables};
 ghost use Rattle.mcs_joint.specs.Apart.{EachApart};
 ghost use Rattle.mcs_joint.specs.Reduced.{HasFewMarks};
+ghost use Rattle.mcs_joint.specs.Without.{IsWithout};
 
 use crate::order::scopes;
 use crate::reduce::reduced;
-use mcs_base::{Marks, Memory};
+use mcs_base::{Marks, Memory, list_pairs};
 use mcs_import::Plan;
 use mcs_table::{Row, Table, forget, join};
 use std::alloc::Global;
 
+/// So many of the minimal diagnoses that are known are looked for at most in the marks of each row.
+const MOST_LOOKED_FOR: usize = 128;
+
 /// The minimal diagnoses of the plan's system that have at most so many marks, in the order of pairs. The
 /// tables are those of all contexts, in order, each with the minimal ones of the local rows of its context at
-/// one level, which is this one or a higher one.
+/// one level, which is this one or a higher one. Some of the diagnoses may be known already, in any order: rows
+/// whose marks hold one of them lead to no other one, and are left out as soon as they come about.
 pub fn repairs_in(
     alloc: Global,
     plan: &Plan,
     tables: &[Table],
     level: u32,
+    known: &[Marks],
 ) -> Result<Vec<Marks>, Memory>
-    requires { (k : ℕ) × (level ≤ k) × AreMinimalTables plan.now k tables.now }
+    requires tables { (k : ℕ) × (level ≤ k) × AreMinimalTables plan.now k tables.now }
+    requires known { AllByRecursion (λ p. IsMinimal (IsDiagnosis plan.now) p × (size p ≤ level)) known.now }
     ensures { IfOk result (λ pairs. IsListing (λ p. IsMinimal (IsDiagnosis plan.now) p × (size p ≤ level)) PairBefore pairs.items) }
 {
     let most = level.min(plan.system().bridges().len() as u32);
     let few = few_tables(alloc, tables, most)?;
     let fewer = reduced(alloc, few, most)?;
-    let left = eliminate(alloc, &fewer, most)?;
-    let pairs = marks_of(alloc, left.rows())?;
+    let looked_for = &known[..known.len().min(MOST_LOOKED_FOR)];
+    let left = eliminate(alloc, &fewer, most, looked_for)?;
+    let mut pairs = marks_of(alloc, left.rows())?;
+    pairs.extend_from_slice(looked_for)?;
+    list_pairs(&mut pairs);
     Ok(pairs)
 }
 
@@ -75,30 +86,65 @@ fn few_rows(alloc: Global, table: &Table, level: u32) -> Result<Table, Memory>
 }
 
 /// What is left of the tables where they are joined one after the other, and what no later table has is
-/// forgotten after each join.
-pub(crate) fn eliminate(alloc: Global, tables: &[Table], level: u32) -> Result<Table, Memory>
-    requires { EachApart tables.now }
-    ensures { IfOk result (EliminatesTo level 0 tables.now) }
+/// forgotten after each join, without the rows whose marks hold one of some sets. Those are left out after each
+/// join, since no row without one comes of them.
+pub(crate) fn eliminate(
+    alloc: Global,
+    tables: &[Table],
+    level: u32,
+    sets: &[Marks],
+) -> Result<Table, Memory>
+    requires tables { AllByRecursion IsTable tables.now }
+    requires apart { EachApart tables.now }
+    ensures { IfOk result (λ t. (whole : TableData) × EliminatesTo level 0 tables.now whole
+        × IsWithout sets.now whole t) }
 {
-    let mut left = Table::unit(alloc)?;
+    let unit = Table::unit(alloc)?;
+    let mut left = without(unit, sets);
     for k in 0..tables.len() {
-        left = eliminate_next(alloc, &left, &tables[k], &tables[k + 1..], level)?;
+        left = eliminate_next(alloc, &left, &tables[k], &tables[k + 1..], level, sets)?;
     }
     Ok(left)
 }
 
-/// Joins what is left of earlier tables with the next one, and forgets what no later one has.
+/// Joins what is left of earlier tables with the next one, leaves out the rows whose marks hold one of the sets, and
+/// forgets what no later table has.
 fn eliminate_next(
     alloc: Global,
     left: &Table,
     next: &Table,
     later: &[Table],
     level: u32,
+    sets: &[Marks],
 ) -> Result<Table, Memory>
     requires { AreApart left.now.rows next.now.rows }
-    ensures { IfOk result (λ t. (joined : TableData) × IsJoin left.now next.now level joined × IsForgetting joined (still_kept 0 later.now) t) }
+    ensures { IfOk result (λ t. (joined : TableData) × (fewer : TableData) × IsJoin left.now next.now level joined
+        × IsWithout sets.now joined fewer × IsForgetting fewer (still_kept 0 later.now) t) }
 {
     let joined = join(alloc, left, next, level)?;
-    let rest = forget(alloc, &joined, scopes(later))?;
+    let fewer = without(joined, sets);
+    let rest = forget(alloc, &fewer, scopes(later))?;
     Ok(rest)
+}
+
+/// The rows of the table whose marks hold none of the sets. It takes no memory.
+fn without(table: Table, sets: &[Marks]) -> Table
+    ensures { IsWithout sets.now table result }
+{
+    let scope = table.scope();
+    let mut rows = table.into_rows();
+    rows.retain(|row| !holds_one(row, sets));
+    Table::in_order(scope, rows)
+}
+
+/// Whether the marks of the row hold one of the sets.
+fn holds_one(row: &Row, sets: &[Marks]) -> bool
+    ensures { IsTrue result ↔ HasOneWithin sets.now row.now.marks }
+{
+    for set in sets {
+        if set.within(row.marks) {
+            return true;
+        }
+    }
+    false
 }

@@ -59,7 +59,8 @@ impl Found {
         Ok(few)
     }
 
-    /// Finds the minimal diagnoses with at most so many marks, or more of them at once.
+    /// Finds the minimal diagnoses with at most so many marks, or more of them at once. Those that were found
+    /// before have no more, and are not found anew.
     fn find(
         &mut self,
         alloc: Global,
@@ -72,12 +73,13 @@ impl Found {
         requires one_each { length known.now ≡ length plan.now.contexts }
         requires known { AreKnown plan.now done (map knowledge_of known.now) }
         requires within { level ≤ done }
+        requires lower { (d : ℕ) → self.old.level ≡ Some d → d ≤ level }
         ensures found { OnOk result ((d : ℕ) × (self.new.level ≡ Some d) × (level ≤ d)) }
         ensures kept { AreFound plan.now self.new.level self.new.pairs.items }
     {
         let ahead = level_ahead(plan.system(), level);
         let tables = minimal_tables(alloc, plan, done, known)?;
-        let pairs = repairs_in(alloc, plan, &tables, ahead)?;
+        let pairs = repairs_in(alloc, plan, &tables, ahead, &self.pairs)?;
         self.pairs = pairs;
         self.level = Some(ahead);
         Ok(())

@@ -4,4 +4,10 @@ use Rattle.mcs_table.specs.Tables.{IsForgetting}
 use Rattle.mcs_joint.proofs.repairs.eliminate_next.Goals as goal
 
 pub returns : goal.returns
-returns c = (c.in_ok-joined.joined, c.in_ok-joined.ensures, subst (λ n. IsForgetting c.in_ok-joined.joined n c.in_ok-rest.rest) (c.scopes.ensures.value ∙ sym (none-union _)) c.in_ok-rest.ensures)
+returns c = (
+  c.in_ok-joined.joined,
+  c.without-fewer.result,
+  c.in_ok-joined.ensures,
+  c.without-fewer.ensures,
+  subst (λ n. IsForgetting c.without-fewer.result n c.in_ok-rest.rest) (c.scopes.ensures.value ∙ sym (none-union _)) c.in_ok-rest.ensures,
+)

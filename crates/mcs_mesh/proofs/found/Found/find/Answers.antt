@@ -3,11 +3,15 @@ use Rattle.mcs_system.specs.Plain.{System}
 use Rattle.mcs_table.specs.Tables.{TableData}
 use Rattle.mcs_rows.specs.Local.{AreMinimalTables}
 use Rattle.mcs_mesh.specs.Rounds.{HasFewRules}
+use Rattle.mcs_mesh.proofs.FoundLemmas.{found_known}
 use Rattle.mcs_mesh.proofs.LastingLemmas.{tables_ahead}
 use Rattle.mcs_mesh.proofs.found.Found.find.Goals as goal
 
-pub repairs_in-requires : goal.repairs_in-requires
-repairs_in-requires c =
+pub repairs_in-requires-clause-tables : goal.repairs_in-requires-clause-tables
+repairs_in-requires-clause-tables c =
     let given = subst (λ (ts : List TableData). AreMinimalTables c.args.plan.now c.args.done ts) (sym c.deref.ensures.value) c.in_ok-tables.ensures in
     let above = subst (λ (m : System). c.args.level < c.level_ahead-ahead.result → HasFewRules m c.args.level) c.system.ensures c.level_ahead-ahead.ensures.above in
     tables_ahead c.args.plan.now c.args.level c.level_ahead-ahead.result c.args.done c.deref.result.now c.level_ahead-ahead.ensures.no_less above c.requires.within given
+
+pub repairs_in-requires-clause-known : goal.repairs_in-requires-clause-known
+repairs_in-requires-clause-known c = rw c.deref-2.ensures.value (found_known c.args.plan.now c.args.level c.level_ahead-ahead.result c.args.self.now.level c.args.self.now.pairs.items c.requires.before c.requires.lower c.level_ahead-ahead.ensures.no_less)
