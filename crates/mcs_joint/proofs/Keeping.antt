@@ -1,5 +1,5 @@
 -- Leaving out the rows whose marks hold one of some sets: of a table, of an elimination, and where the minimal diagnoses are looked for.
-use Rattle.std.proofs.Common.{◌≡◌, ◌<◌, ◌≤◌, ◌+◌, ℕ, Bool, true, false, not, IsTrue, List, [], ◌∷◌, ◌++◌, length, map, get_or, drop, filter, refl, sym, ap, ◌∙◌, subst, inl, inr, ◌⊎◌, ◌↔◌, true≢false, arith}
+use Rattle.std.proofs.Common.{◌≡◌, ◌<◌, ◌≤◌, ◌+◌, ℕ, Bool, true, false, not, IsTrue, List, [], ◌∷◌, ◌++◌, length, map, get_or, drop, filter, refl, sym, subst, inl, inr, ◌⊎◌, ◌↔◌, true≢false}
 use Rattle.std.specs.List.{AllByRecursion}
 use Rattle.mcs_sets.specs.Sets.{size, Within}
 use Rattle.mcs_sets.specs.Orders.{PairBefore}

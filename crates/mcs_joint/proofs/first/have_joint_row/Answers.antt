@@ -1,6 +1,5 @@
-use Rattle.std.proofs.Common.{◌≡◌, ◌∙◌, ap, sym, subst, length, arith, true, false, refl, Bool, not, eqb, ℕ, List, []}
+use Rattle.std.proofs.Common.{◌≡◌, ◌∙◌, ap, sym, length, arith, true, false, refl, Bool, not, eqb}
 use Rattle.std.proofs.lemmas.Bool.Decides.{nat_tests}
-use Rattle.mcs_table.specs.Tables.{TableData}
 use Rattle.mcs_table.specs.Elimination.{EliminatesTo}
 use Rattle.mcs_table.proofs.PartLemmas.{none_left, some_left}
 use Rattle.mcs_joint.proofs.Keeping.{left_whole}

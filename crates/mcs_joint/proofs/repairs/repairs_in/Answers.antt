@@ -2,8 +2,6 @@ use Rattle.std.proofs.Common.{◌≡◌, ◌≤◌, ◌∙◌, ◌++◌, ap, sym
 use Rattle.std.proofs.lemmas.List.{length-map}
 use Rattle.std.specs.List.{AllByRecursion}
 use Rattle.mcs_sets.specs.Sets.{size}
-use Rattle.mcs_sets.specs.Orders.{PairBefore}
-use Rattle.mcs_base.specs.Listings.{IsAmong, IsListing}
 use Rattle.mcs_base.specs.Minimal.{IsMinimal}
 use Rattle.mcs_base.proofs.Each.{all_take}
 use Rattle.mcs_system.specs.Faults.{IsValid}
@@ -11,10 +9,9 @@ use Rattle.mcs_system.specs.Plain.{System}
 use Rattle.mcs_system.specs.Repairs.{IsDiagnosis}
 use Rattle.mcs_system.specs.Seen.{bridge_of}
 use Rattle.mcs_table.specs.declared.row.Row.{Row}
-use Rattle.mcs_table.specs.Tables.{TableData, IsTable}
+use Rattle.mcs_table.specs.Tables.{IsTable}
 use Rattle.mcs_table.specs.Elimination.{EliminatesTo}
 use Rattle.mcs_joint.specs.Apart.{EachApart}
-use Rattle.mcs_joint.specs.Without.{IsWithout}
 use Rattle.mcs_joint.proofs.Covering.{apart_few, few_are_tables}
 use Rattle.mcs_joint.proofs.Keeping.{known_listed}
 use Rattle.mcs_joint.proofs.Repaired.{minimal_apart, repairs_listed}

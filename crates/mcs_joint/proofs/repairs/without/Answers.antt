@@ -1,6 +1,5 @@
-use Rattle.std.proofs.Common.{◌≡◌, ◌∙◌, ap, filter, List, rules}
+use Rattle.std.proofs.Common.{◌≡◌, filter, rules}
 use Rattle.std.proofs.lemmas.Fn.{filter_same}
-use Rattle.mcs_table.specs.declared.row.Row.{Row}
 use Rattle.mcs_joint.proofs.Keeping.{holds_none, answers_none, filtered_without, filtered_table}
 use Rattle.mcs_joint.proofs.repairs.without.Goals as goal
 
