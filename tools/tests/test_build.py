@@ -153,9 +153,17 @@ exit 1""")
 
     def test_a_run_that_is_stopped_ends_the_kit_and_can_be_started_again(self):
         proves = 'echo $$ > "$room/process"\n' + "echo 'rt: low is kept: before'\nexec sleep 60"
-        for number in (signal.SIGINT, signal.SIGTERM, signal.SIGHUP):
+        stops = (signal.SIGINT, signal.SIGTERM, signal.SIGHUP)
+
+        def hear():
+            """Lets the run be stopped, also where what runs these tests may not be."""
+            for stop in stops:
+                signal.signal(stop, signal.SIG_DFL)
+
+        for number in stops:
             run = subprocess.Popen([self.inside("build")], env={**os.environ, **self.around(proves)}, text=True,
-                                   stdin=subprocess.DEVNULL, stdout=subprocess.DEVNULL, stderr=subprocess.PIPE)
+                                   stdin=subprocess.DEVNULL, stdout=subprocess.DEVNULL, stderr=subprocess.PIPE,
+                                   preexec_fn=hear)
             self.addCleanup(run.kill)
             lines = [run.stderr.readline(), run.stderr.readline()]
             run.send_signal(number)
