@@ -73,6 +73,35 @@ fn are_shown(
     Ok(count == models && are_numbered(&found, views) && are_numbered(&listed, views))
 }
 
+/// Whether the answer sets of the rules, seen through the first two atoms alone, are listed as the views of these numbers.
+fn are_listed(
+    alloc: Global,
+    rules: &[ProgRule],
+    atoms: &[Name],
+    views: &[u64],
+) -> Result<bool, Memory>
+    requires over { AreOverRules atoms.now (map rule_of rules.now) }
+    requires few { length atoms.now ≤ 64 }
+{
+    if !are_different(atoms) || atoms.len() < 2 {
+        return Ok(false);
+    }
+    let listed = list_answer_sets(alloc, rules, &[], &[&atoms[0], &atoms[1]], atoms)?;
+    Ok(are_numbered(&listed, views))
+}
+
+/// Whether the program of the only context has these views of its first two atoms.
+fn has_views_of_two(alloc: Global, system: &System, views: &[u64]) -> Result<bool, Memory> {
+    if system.contexts().is_empty() {
+        return Ok(false);
+    }
+    let (knowledge, atoms) = first_knowledge(system);
+    let Some(rules) = program_in(knowledge, atoms) else {
+        return Ok(false);
+    };
+    are_listed(alloc, rules, atoms, views)
+}
+
 /// Whether the program of the only context has these answer sets, by so many models.
 fn has_views(alloc: Global, system: &System, views: &[u64], models: usize) -> Result<bool, Memory> {
     if system.contexts().is_empty() {
@@ -152,6 +181,34 @@ fn answer_sets_are_shown(rt: HostRuntime) -> Result<(), Fail> {
     for (text, views, models) in PROGRAMS {
         let system = system_of(rt.alloc(), text)?;
         let is_right = has_views(rt.alloc(), &system, views, *models);
+        drop(system);
+        assert!(rt; is_right == Ok(true));
+    }
+    Ok(())
+}
+
+/// Programs without loops, and the numbers of the views of their answer sets through `a` and `b` alone.
+const PROGRAMS_SEEN_THROUGH_TWO: &[(&str, &[u64])] = &[
+    (
+        "context c program { :- a, b, not c. c :- a, b. a :- not d. d :- not a. b :- not e. e :- not b. }",
+        &[3, 1, 2, 0],
+    ),
+    (
+        "context c program { :- a, b. a :- not d. d :- not a. b :- not e. e :- not b. }",
+        &[1, 2, 0],
+    ),
+    (
+        "context c program { a | b. c :- not d. d :- not c. }",
+        &[1, 2],
+    ),
+    ("context c program { :- a, b. c :- not c. }", &[]),
+];
+
+#[test]
+fn answer_sets_are_seen_through_two_atoms(rt: HostRuntime) -> Result<(), Fail> {
+    for (text, views) in PROGRAMS_SEEN_THROUGH_TWO {
+        let system = system_of(rt.alloc(), text)?;
+        let is_right = has_views_of_two(rt.alloc(), &system, views);
         drop(system);
         assert!(rt; is_right == Ok(true));
     }

@@ -3,7 +3,7 @@ use Rattle.std.proofs.Common.{◌≡◌, ℕ, ◌+◌, ◌-◌, ◌^◌, ◌<◌
 use Rattle.std.proofs.lemmas.Bool.{and_parts, and_from}
 use Rattle.std.proofs.lemmas.Bool.Decides.{nat_tests}
 use Rattle.std.proofs.lemmas.List.Folds.{list_all-append, list_any-append}
-use Rattle.std.proofs.Math.Bool.{and-true}
+use Rattle.std.proofs.Math.Bool.{and-true, or-false}
 use Rattle.std.specs.Int.RustNames.{unsigned_abs}
 use Rattle.std.specs.List.{AllByRecursion, list_any}
 use Rattle.mcs_sets.specs.Sets.{has}
@@ -12,7 +12,7 @@ use Rattle.mcs_base.proofs.Each.{all_append, all_weaker}
 use Rattle.mcs_system.specs.Plain.{Name, Formula, Atom, Not, ProgramRule}
 use Rattle.mcs_system.specs.Logic.{is_in, holds, holds_all}
 use Rattle.mcs_trace.specs.Clauses.{ClauseList, IsLiteral, IsWithin, IsClauseList, literal_holds, clause_holds, all_hold}
-use Rattle.mcs_cnf.specs.ClauseLists.{atom_number, clause_of, with_clause, with_formulas, list_clauses, IsThere, IsOver}
+use Rattle.mcs_cnf.specs.ClauseLists.{atom_number, with_literal, clause_of, with_clause, with_formulas, list_clauses, IsThere, IsOver}
 use Rattle.mcs_cnf.specs.Meaning.{Extends}
 use Rattle.mcs_cnf.proofs.ListLemmas.{all_take_grow}
 use Rattle.mcs_cnf.proofs.MeaningLemmas.{all_hold-parts, all_hold-both, list_says, extended}
@@ -23,6 +23,7 @@ use Rattle.mcs_evidence.specs.Programs.{literals_from, rule_formula, other_formu
 use Rattle.mcs_evidence.specs.Pushing.{AreNamesOf}
 use Rattle.mcs_evidence.proofs.Models.{all_in, any_in, conjunction-holds, rule_formula-holds}
 use Rattle.mcs_program.specs.Clauses.{literal_of, literals_of, rule_literals, other_literals, AreMeantBy, AddsFormula}
+use Rattle.mcs_program.specs.Splitting.{value_formula}
 
 -- ---- literals
 literal_there : (c : ClauseList) (sign : Bool) (n : ℕ) → 0 < n → n ≤ c.vars → IsThere c (literal_of sign n)
@@ -35,7 +36,7 @@ literal_fits true n some few = (some, few)
 literal_fits false zero some few = absurd (omega arith)
 literal_fits false (suc n) some few = (omega arith, omega arith)
 
-atom_there : (names : List Name) (c : ClauseList) (sign : Bool) (n : Name) → length names ≤ c.vars → is_in n names ≡ true → IsThere c (literal_of sign (atom_number names n))
+pub atom_there : (names : List Name) (c : ClauseList) (sign : Bool) (n : Name) → length names ≤ c.vars → is_in n names ≡ true → IsThere c (literal_of sign (atom_number names n))
 atom_there names c sign n room known = literal_there c sign (atom_number names n) (atom_positive names n) (omega (arith, atom_within names n known))
 
 pub literals_there : (names : List Name) (c : ClauseList) (sign : Bool) (ns : List Name) → length names ≤ c.vars → AreNamesOf names ns → AllByRecursion (IsThere c) (literals_of names sign ns)
@@ -86,6 +87,10 @@ module _ (v : ℕ → Bool) (names a : List Name) (extends : Extends names a v) 
       turn true false z = refl
       turn false y z = refl
 
+  pub value_says : (value : Bool) (n : Name) → is_in n names ≡ true → clause_holds v (literal_of value (atom_number names n) ∷ []) ≡ holds a (value_formula (Atom n) value)
+  value_says true n known = or-false (literal_holds v (literal_of true (atom_number names n))) ∙ true_literal n known
+  value_says false n known = or-false (literal_holds v (literal_of false (atom_number names n))) ∙ false_literal n known
+
   others_say : (k : ℕ) (ns : List Name) (state : ℕ) → AreNamesOf names ns → list_any (literal_holds v) (other_literals names k ns state) ≡ not (holds_all a (literals_from k (map Atom ns) state))
   others_say k [] state all = refl
   others_say k (n ∷ ns) state all =
@@ -130,6 +135,17 @@ adds_clause names f ls old new is says fs m = subst (AreMeantBy names (fs ++ f �
       let (h1, h2) = all_hold-parts v old.clauses (clause_of ls ∷ []) h in
       last_too a fs f ∙ and_from (holds_all a fs) (holds a f) (m.satisfied a v e h1) (sym (says a v e) ∙ sym (clause_of-holds v ls) ∙ sym (and-true (clause_holds v (clause_of ls))) ∙ h2);
 })
+
+one_literal : (l : ℤ) → l ∷ [] ≡ clause_of (l ∷ [])
+unfolding clause_of with_literal
+one_literal l = refl
+
+-- the clause of one literal adds what it says
+pub adds_value : (names : List Name) (n : Name) (value : Bool) (old new : ClauseList) → is_in n names ≡ true → new ≡ record old { clauses = old.clauses ++ (literal_of value (atom_number names n) ∷ []) ∷ [] }
+    → AddsFormula names (value_formula (Atom n) value) old new
+adds_value names n value old new known is = adds_clause names (value_formula (Atom n) value) (literal_of value (atom_number names n) ∷ []) old new
+    (is ∙ ap (λ (c : List ℤ). (let f : ClauseList = record { vars = old.vars; clauses = old.clauses ++ c ∷ [] } in f)) (one_literal (literal_of value (atom_number names n))))
+    (λ a v extends. value_says v names a extends value n known)
 
 -- assignments that are the same for the variables of clauses
 literal_same : (v w : ℕ → Bool) (n : ℕ) → ((k : ℕ) → k ≤ n → v k ≡ w k) → (l : ℤ) → unsigned_abs l ≤ n → literal_holds v l ≡ literal_holds w l

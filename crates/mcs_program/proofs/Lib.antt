@@ -6,3 +6,4 @@ pub mod PlaceLemmas
 pub mod ViewLemmas
 pub mod ListingLemmas
 pub mod TightLemmas
+pub mod SplitLemmas

@@ -67,7 +67,7 @@ first_parts a names rules h =
     let (rules_hold, own) = and_parts (holds_all a (map rule_formula rules)) (holds_all a (map (λ n. support_formula rules (n ∷ [])) names)) (sym (list_all-append (holds a) (map rule_formula rules) (map (λ n. support_formula rules (n ∷ [])) names)) ∙ h) in
     (rules_hold, own_hold a rules names own)
 
-first_hold : (a names : List Name) (rules : List ProgramRule) → IsAnswerSet rules a → holds_all a (first_formulas names rules) ≡ true
+pub first_hold : (a names : List Name) (rules : List ProgramRule) → IsAnswerSet rules a → holds_all a (first_formulas names rules) ≡ true
 first_hold a names rules is =
     list_all-append (holds a) (map rule_formula rules) (map (λ n. support_formula rules (n ∷ [])) names)
     ∙ and_from (holds_all a (map rule_formula rules)) (holds_all a (map (λ n. support_formula rules (n ∷ [])) names)) (answer_set-holds rules a is) (each names)

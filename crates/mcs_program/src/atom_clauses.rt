@@ -1,11 +1,14 @@
 //! Clauses over the variables of atoms alone: those of rules, and one that a view is another one.
 
-ghost use Rattle.std.specs.Prelude.{◌≡◌, ◌<◌, ◌≤◌, ◌^◌, ◌++◌, length, map, IfOk};
+ghost use Rattle.std.specs.Prelude.{◌≡◌, ◌<◌, ◌≤◌, ◌^◌, [], ◌∷◌, ◌++◌, length, map, IfOk, OnOk, IsTrue};
 ghost use Rattle.mcs_system.specs.Plain as plain;
 ghost use Rattle.mcs_system.specs.Seen.{rule_of};
 ghost use Rattle.mcs_evidence.specs.Programs.{rule_formula, other_formula, AreOverRules, IsOverRule};
 ghost use Rattle.mcs_evidence.specs.Pushing.{AreNamesOf};
+ghost use Rattle.mcs_cnf.specs.ClauseLists.{atom_number};
+ghost use Rattle.mcs_system.specs.Logic.{is_in};
 ghost use Rattle.mcs_program.specs.Clauses.{literal_of, literals_of, rule_literals, other_literals, AddsFormula, AreMeantBy};
+ghost use Rattle.mcs_program.specs.Splitting.{value_formula};
 
 use mcs_base::{Memory, Vars};
 use mcs_cnf::{atom_number, push_clause};
@@ -131,4 +134,20 @@ pub(crate) fn push_other(
     let mut more = Cnf::new(alloc, known.vars());
     push_clause(alloc, &mut more, &literals)?;
     add_to(known, more)
+}
+
+/// Adds the clause that the belief is true, or that it is false.
+pub(crate) fn push_value(
+    known: &mut ClauseBase,
+    atoms: &[Name],
+    belief: &Name,
+    value: bool,
+) -> Result<(), Memory>
+    requires few { length atoms.now ≤ 64 }
+    requires over { IsTrue (is_in belief.now atoms.now) }
+    requires room { length atoms.now ≤ known.old.vars }
+    ensures clause { OnOk result (known.new ≡ record known.old { clauses = known.old.clauses ++ (literal_of value (atom_number atoms.now belief.now) ∷ []) ∷ [] }) }
+    ensures adds { OnOk result (AddsFormula atoms.now (value_formula (plain.Atom belief.now) value) known.old known.new) }
+{
+    known.add(&[literal(value, atom_number(atoms, belief))])
 }

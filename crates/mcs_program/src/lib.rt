@@ -9,6 +9,7 @@ mod placing;
 mod putting;
 mod search;
 mod small;
+mod splitting;
 mod tight;
 mod view;
 

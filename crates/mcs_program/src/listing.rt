@@ -1,22 +1,28 @@
-//! The search for answer sets that are listed and not shown. Sets of atoms without support from outside lead it on.
+//! The search for answer sets that are listed and not shown. Sets of atoms without support from outside lead it on; where
+//! a model cannot have one, it splits on one belief after the other.
 
 ghost use Rattle.std.specs.Prelude.{◌≡◌, ◌<◌, ◌≤◌, List, [], ◌∷◌, true, false, length, map, IfOk, IsTrue};
+ghost use Rattle.std.specs.List.{AllZip};
+ghost use Rattle.mcs_sets.specs.Orders.{StateBefore};
+ghost use Rattle.mcs_base.specs.Listings.{IsListing};
 ghost use Rattle.mcs_system.specs.Faults.{has_twins};
-ghost use Rattle.mcs_system.specs.Logic.{is_in, holds, holds_all, true_names};
+ghost use Rattle.mcs_system.specs.Logic.{is_in, holds_all};
 ghost use Rattle.mcs_system.specs.Plain as plain;
 ghost use Rattle.mcs_system.specs.Seen.{rule_of};
+ghost use Rattle.mcs_system.specs.Views.{IsAcceptedView};
 ghost use Rattle.mcs_cnf.specs.Entailments.{IsModelAt};
 ghost use Rattle.mcs_evidence.specs.Programs.{rule_formula, AreOverRules};
 ghost use Rattle.mcs_evidence.specs.Pushing.{AreNamesOf};
 ghost use Rattle.mcs_evidence.specs.Supports.{support_formula, IsBased};
 ghost use Rattle.mcs_program.specs.Clauses.{AddsFormula, AreMeantBy};
 ghost use Rattle.mcs_program.specs.Listings.{first_formulas, left_of, models_left, IsPartListing, IsUnfounded, IsSupported};
-ghost use Rattle.mcs_program.specs.Placing.{IsPlacing};
+ghost use Rattle.mcs_program.specs.Placing.{IsPlaceOf, IsPlacing};
 
 use crate::answer::find_model;
 use crate::atom_clauses::{add_to, clauses_of_rules};
 use crate::placing::Placing;
 use crate::putting::put_view;
+use crate::splitting::list_views;
 use crate::tight::is_tight;
 use mcs_base::{Memory, Vars};
 use mcs_classical::{Satisfied, satisfy_from};
@@ -73,32 +79,44 @@ fn add_own(
 }
 
 /// A set of places that has no support from outside in the model, which makes an atom of it true; `None` where there is
-/// none, so that the model is an answer set. Where no positive body leads on without end, none is searched for, since each
-/// atom has support of its own.
+/// none, so that the model is an answer set.
 fn unfounded_in(
     alloc: Global,
     atoms: &[Name],
     rules: &[ProgRule],
-    tight: bool,
     model: Vars,
 ) -> Result<Option<Vars>, Memory>
     requires few { length atoms.now ≤ 64 }
     requires different { has_twins atoms.now ≡ false }
     requires rules { AreOverRules atoms.now (map rule_of rules.now) }
-    requires tight { IsTrue tight → (n : plain.Name) → IsTrue (is_in n atoms.now) → IsBased (map rule_of rules.now) n }
     requires model { IsModelAt atoms.now (map rule_formula (map rule_of rules.now)) model }
-    requires own { (n : plain.Name) → IsTrue (is_in n (true_names 0 atoms.now model)) → IsTrue (holds (true_names 0 atoms.now model) (support_formula (map rule_of rules.now) (n ∷ []))) }
     ensures { IfOk result (IsUnfounded atoms.now (map rule_of rules.now) model) }
 {
-    if tight {
-        return Ok(None);
-    }
     let smaller = smaller_clauses(alloc, atoms, rules, model)?;
     let found = satisfy_from(alloc, &smaller, atoms);
     drop(smaller);
     match found? {
         Satisfied::Model(less) => Ok(Some(model.minus(less))),
         Satisfied::Refuted(_minimal) => Ok(None),
+    }
+}
+
+/// The clauses of what is known at first: the rules, and that each atom has support of its own.
+fn first_clauses(alloc: Global, atoms: &[Name], rules: &[ProgRule]) -> Result<ClauseBase, Memory>
+    requires few { length atoms.now ≤ 64 }
+    requires rules { AreOverRules atoms.now (map rule_of rules.now) }
+    ensures { IfOk result (AreMeantBy atoms.now (first_formulas atoms.now (map rule_of rules.now))) }
+{
+    let cnf = clauses_of_rules(alloc, atoms, rules)?;
+    let known = ClauseBase::of(alloc, &cnf);
+    drop(cnf);
+    let mut known = known?;
+    match add_own(alloc, &mut known, atoms, rules) {
+        Ok(()) => Ok(known),
+        Err(want) => {
+            drop(known);
+            Err(want)
+        }
     }
 }
 
@@ -109,9 +127,7 @@ impl Listing {
         requires rules { AreOverRules atoms.now (map rule_of rules.now) }
         ensures { IfOk result (λ s. (beliefs : List plain.Formula) → IsPartListing atoms.now (map rule_of rules.now) beliefs s) }
     {
-        let cnf = clauses_of_rules(alloc, atoms, rules)?;
-        let mut known = ClauseBase::of(alloc, &cnf)?;
-        add_own(alloc, &mut known, atoms, rules)?;
+        let known = first_clauses(alloc, atoms, rules)?;
         Ok(Listing {
             known,
             supported: Vec::new(alloc),
@@ -146,7 +162,6 @@ impl Listing {
         rules: &[ProgRule],
         beliefs: &[&Name],
         placing: &Placing,
-        tight: bool,
         model: Vars,
     ) -> Result<(), Memory>
         requires few { length atoms.now ≤ 64 }
@@ -155,14 +170,13 @@ impl Listing {
         requires rules { AreOverRules atoms.now (map rule_of rules.now) }
         requires beliefs { AreNamesOf atoms.now (map (λ b. b.now) beliefs.now) }
         requires placed { IsPlacing atoms.now (map rule_of rules.now) (map (λ b. b.now) beliefs.now) placing.now }
-        requires tight { IsTrue tight → (n : plain.Name) → IsTrue (is_in n atoms.now) → IsBased (map rule_of rules.now) n }
         requires listed { IsPartListing atoms.now (map rule_of rules.now) (map plain.Atom (map (λ b. b.now) beliefs.now)) self.old }
         requires model { IsModelAt atoms.now (left_of atoms.now (map rule_of rules.now) (map plain.Atom (map (λ b. b.now) beliefs.now)) self.old) model }
         ensures listed { IfOk result (λ _. IsPartListing atoms.now (map rule_of rules.now) (map plain.Atom (map (λ b. b.now) beliefs.now)) self.new) }
         ensures less { IfOk result (λ _. models_left atoms.now (left_of atoms.now (map rule_of rules.now) (map plain.Atom (map (λ b. b.now) beliefs.now)) self.new)
             < models_left atoms.now (left_of atoms.now (map rule_of rules.now) (map plain.Atom (map (λ b. b.now) beliefs.now)) self.old)) }
     {
-        match unfounded_in(alloc, atoms, rules, tight, model)? {
+        match unfounded_in(alloc, atoms, rules, model)? {
             Some(set) => self.support(alloc, atoms, rules, set),
             None => {
                 put_view(
@@ -187,7 +201,6 @@ impl Listing {
         rules: &[ProgRule],
         beliefs: &[&Name],
         placing: &Placing,
-        tight: bool,
     ) -> Result<bool, Memory>
         requires few { length atoms.now ≤ 64 }
         requires few_beliefs { length beliefs.now ≤ 64 }
@@ -195,7 +208,6 @@ impl Listing {
         requires rules { AreOverRules atoms.now (map rule_of rules.now) }
         requires beliefs { AreNamesOf atoms.now (map (λ b. b.now) beliefs.now) }
         requires placed { IsPlacing atoms.now (map rule_of rules.now) (map (λ b. b.now) beliefs.now) placing.now }
-        requires tight { IsTrue tight → (n : plain.Name) → IsTrue (is_in n atoms.now) → IsBased (map rule_of rules.now) n }
         requires listed { IsPartListing atoms.now (map rule_of rules.now) (map plain.Atom (map (λ b. b.now) beliefs.now)) self.old }
         ensures listed { IfOk result (λ _. IsPartListing atoms.now (map rule_of rules.now) (map plain.Atom (map (λ b. b.now) beliefs.now)) self.new) }
         ensures goes { IfOk result (λ goes. IsTrue goes → models_left atoms.now (left_of atoms.now (map rule_of rules.now) (map plain.Atom (map (λ b. b.now) beliefs.now)) self.new)
@@ -204,7 +216,7 @@ impl Listing {
     {
         match find_model(&mut self.known, atoms)? {
             Some(model) => {
-                self.take_up(alloc, atoms, rules, beliefs, placing, tight, model)?;
+                self.take_up(alloc, atoms, rules, beliefs, placing, model)?;
                 Ok(true)
             }
             None => Ok(false),
@@ -229,10 +241,9 @@ fn go_on(
     ensures listed { IfOk result (IsPartListing atoms.now (map rule_of rules.now) (map plain.Atom (map (λ b. b.now) beliefs.now))) }
     ensures all { IfOk result (λ s. (a : List plain.Name) → ¬ IsTrue (holds_all a (left_of atoms.now (map rule_of rules.now) (map plain.Atom (map (λ b. b.now) beliefs.now)) s))) }
 {
-    let tight = is_tight(placing, atoms.len());
     let mut listing = Listing::new(alloc, atoms, rules)?;
     loop {
-        match listing.step(alloc, atoms, rules, beliefs, placing, tight) {
+        match listing.step(alloc, atoms, rules, beliefs, placing) {
             Ok(true) => {}
             Ok(false) => return Ok(listing),
             Err(want) => {
@@ -243,23 +254,75 @@ fn go_on(
     }
 }
 
+/// Lists the views of all answer sets, model by model.
+fn list_by_models(
+    alloc: Global,
+    atoms: &[Name],
+    rules: &[ProgRule],
+    beliefs: &[&Name],
+    placing: &Placing,
+) -> Result<Vec<Vars>, Memory>
+    requires few { length atoms.now ≤ 64 }
+    requires few_beliefs { length beliefs.now ≤ 64 }
+    requires different { has_twins atoms.now ≡ false }
+    requires rules { AreOverRules atoms.now (map rule_of rules.now) }
+    requires beliefs { AreNamesOf atoms.now (map (λ b. b.now) beliefs.now) }
+    requires placed { IsPlacing atoms.now (map rule_of rules.now) (map (λ b. b.now) beliefs.now) placing.now }
+    ensures { IfOk result (λ views. IsListing (IsAcceptedView (plain.Program (map rule_of rules.now)) (map plain.Atom (map (λ b. b.now) beliefs.now))) StateBefore views.items) }
+{
+    let Listing {
+        known,
+        supported,
+        views,
+    } = go_on(alloc, atoms, rules, beliefs, placing)?;
+    drop((known, supported));
+    Ok(views)
+}
+
+/// Lists the views of all answer sets, belief by belief, where no positive body leads on without end: each model of the
+/// rules and of the support of each atom is an answer set then.
+fn list_by_beliefs(
+    alloc: Global,
+    atoms: &[Name],
+    rules: &[ProgRule],
+    beliefs: &[&Name],
+    places: &[u32],
+) -> Result<Vec<Vars>, Memory>
+    requires few { length atoms.now ≤ 64 }
+    requires few_beliefs { length beliefs.now ≤ 64 }
+    requires different { has_twins atoms.now ≡ false }
+    requires rules { AreOverRules atoms.now (map rule_of rules.now) }
+    requires beliefs { AreNamesOf atoms.now (map (λ b. b.now) beliefs.now) }
+    requires placed { AllZip (IsPlaceOf atoms.now) (map (λ b. b.now) beliefs.now) places.now }
+    requires tight { (n : plain.Name) → IsTrue (is_in n atoms.now) → IsBased (map rule_of rules.now) n }
+    ensures { IfOk result (λ views. IsListing (IsAcceptedView (plain.Program (map rule_of rules.now)) (map plain.Atom (map (λ b. b.now) beliefs.now))) StateBefore views.items) }
+{
+    let mut known = first_clauses(alloc, atoms, rules)?;
+    let views = list_views(alloc, &mut known, atoms, beliefs, places);
+    drop(known);
+    views
+}
+
 /// Lists the views of all answer sets.
 pub(crate) fn list_all(
     alloc: Global,
     atoms: &[Name],
     rules: &[ProgRule],
     beliefs: &[&Name],
-) -> Result<Listing, Memory>
+) -> Result<Vec<Vars>, Memory>
     requires few { length atoms.now ≤ 64 }
     requires few_beliefs { length beliefs.now ≤ 64 }
     requires different { has_twins atoms.now ≡ false }
     requires rules { AreOverRules atoms.now (map rule_of rules.now) }
     requires beliefs { AreNamesOf atoms.now (map (λ b. b.now) beliefs.now) }
-    ensures listed { IfOk result (IsPartListing atoms.now (map rule_of rules.now) (map plain.Atom (map (λ b. b.now) beliefs.now))) }
-    ensures all { IfOk result (λ s. (a : List plain.Name) → ¬ IsTrue (holds_all a (left_of atoms.now (map rule_of rules.now) (map plain.Atom (map (λ b. b.now) beliefs.now)) s))) }
+    ensures { IfOk result (λ views. IsListing (IsAcceptedView (plain.Program (map rule_of rules.now)) (map plain.Atom (map (λ b. b.now) beliefs.now))) StateBefore views.items) }
 {
     let placing = Placing::of(alloc, atoms, rules, beliefs)?;
-    let listing = go_on(alloc, atoms, rules, beliefs, &placing);
+    let views = if is_tight(&placing, atoms.len()) {
+        list_by_beliefs(alloc, atoms, rules, beliefs, &placing.beliefs)
+    } else {
+        list_by_models(alloc, atoms, rules, beliefs, &placing)
+    };
     drop(placing);
-    listing
+    views
 }

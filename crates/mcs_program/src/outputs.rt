@@ -15,7 +15,7 @@ ghost use Rattle.mcs_evidence.specs.Programs.{program_shown_of, rest_formulas, A
 ghost use Rattle.mcs_evidence.specs.Pushing.{AreNamesOf};
 ghost use Rattle.mcs_program.specs.Searches.{IsSearch, IsExhausted};
 
-use crate::listing::{Listing, list_all};
+use crate::listing::list_all;
 use crate::search::{Search, find_all};
 use mcs_base::{Memory, Vars};
 use mcs_classical::{Satisfied, satisfy_from};
@@ -147,29 +147,6 @@ fn found_and_shown(
     certified(alloc, atoms, rules, beliefs, search)
 }
 
-/// The views of the answer sets of the rules.
-fn found(
-    alloc: Global,
-    atoms: &[Name],
-    rules: &[ProgRule],
-    beliefs: &[&Name],
-) -> Result<Vec<Vars>, Memory>
-    requires few { length atoms.now ≤ 64 }
-    requires few_beliefs { length beliefs.now ≤ 64 }
-    requires different { has_twins atoms.now ≡ false }
-    requires rules { AreOverRules atoms.now (map rule_of rules.now) }
-    requires beliefs { AreNamesOf atoms.now (map (λ b. b.now) beliefs.now) }
-    ensures { IfOk result (λ r. IsListing (IsAcceptedView (Program (map rule_of rules.now)) (map Atom (map (λ b. b.now) beliefs.now))) StateBefore r.items) }
-{
-    let Listing {
-        known,
-        supported,
-        views,
-    } = list_all(alloc, atoms, rules, beliefs)?;
-    drop((known, supported));
-    Ok(views)
-}
-
 /// The views that a program with further facts accepts of the beliefs, one for each way in which its answer sets have
 /// them, in the order of states: the numbers, from 0, of those that an answer set has (Gelfond and Lifschitz 1991). With
 /// them what shows that they are all. The atoms of all are among these, at most 64, and there are at most 64 beliefs.
@@ -237,7 +214,7 @@ pub fn list_answer_sets(
         (map Atom (map (λ b. b.now) beliefs.now))) StateBefore r.items) }
 {
     let all = with_facts(alloc, rules, added)?;
-    let result = found(alloc, atoms, &all, beliefs);
+    let result = list_all(alloc, atoms, &all, beliefs);
     drop(all);
     result
 }

@@ -7,14 +7,11 @@ use Rattle.mcs_classical.specs.Models.{IsSatisfied}
 use Rattle.mcs_evidence.specs.Programs.{smaller_formulas}
 use Rattle.mcs_evidence.proofs.Models.{smaller-over, answer_set_from_model}
 use Rattle.mcs_program.specs.Listings.{place_formula}
-use Rattle.mcs_program.proofs.ListingLemmas.{left_unfounded, tight_answer_set}
+use Rattle.mcs_program.proofs.ListingLemmas.{left_unfounded}
 use Rattle.mcs_program.proofs.listing.unfounded_in.Goals as goal
 
 pub satisfy_from-found-requires-clause-room : goal.satisfy_from-found-requires-clause-room
 satisfy_from-found-requires-clause-room c = room_known c.args.atoms.now c.in_ok-smaller.smaller (smaller_formulas c.args.atoms.now (map rule_of c.args.rules.now) c.args.model) c.in_ok-smaller.ensures
-
-pub returns-then-tight : goal.returns-then-tight
-returns-then-tight c = tight_answer_set c.args.atoms.now (map rule_of c.args.rules.now) c.args.model (c.requires.tight c.if-tight.true) c.requires.model.formulas c.requires.own
 
 pub returns-in-Model : goal.returns-in-Model
 returns-in-Model c =

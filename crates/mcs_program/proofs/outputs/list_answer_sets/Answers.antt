@@ -9,14 +9,14 @@ use Rattle.mcs_evidence.specs.Programs.{AreOverRules}
 use Rattle.mcs_program.proofs.OutputLemmas.{with_facts_over}
 use Rattle.mcs_program.proofs.outputs.list_answer_sets.Goals as goal
 
-pub found-result-requires-clause-rules : goal.found-result-requires-clause-rules
-found-result-requires-clause-rules c =
+pub list_all-result-requires-clause-rules : goal.list_all-result-requires-clause-rules
+list_all-result-requires-clause-rules c =
     subst (AreOverRules c.args.atoms.now) (sym (ap (map rule_of) c.deref.ensures.value ∙ c.in_ok-all.ensures))
     (with_facts_over c.args.atoms.now (map (λ b. b.now) c.args.added.now) (map rule_of c.args.rules.now) c.requires.rules c.requires.added)
 
 pub returns : goal.returns
 returns c = record {
-  exact = IfOk-weaker c.found-result.result _ _ (λ r listing. subst (λ (rules : List ProgramRule). IsListing (IsAcceptedView (Program rules) (map Atom (map (λ b. b.now) c.args.beliefs.now))) StateBefore r.items)
+  exact = IfOk-weaker c.list_all-result.result _ _ (λ r listing. subst (λ (rules : List ProgramRule). IsListing (IsAcceptedView (Program rules) (map Atom (map (λ b. b.now) c.args.beliefs.now))) StateBefore r.items)
       (ap (map rule_of) c.deref.ensures.value ∙ c.in_ok-all.ensures) listing)
-      c.found-result.ensures;
+      c.list_all-result.ensures;
 }

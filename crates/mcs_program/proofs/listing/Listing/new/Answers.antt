@@ -6,23 +6,18 @@ use Rattle.mcs_system.specs.Plain.{Program}
 use Rattle.mcs_system.specs.Seen.{rule_of}
 use Rattle.mcs_system.specs.Logic.{holds_all}
 use Rattle.mcs_system.specs.Views.{IsAcceptedView}
-use Rattle.mcs_evidence.specs.Programs.{rule_formula}
-use Rattle.mcs_program.specs.Clauses.{AreMeantBy}
 use Rattle.mcs_program.specs.Listings.{first_formulas, left_formulas}
 use Rattle.mcs_program.proofs.ClauseLemmas.{meant_same}
 use Rattle.mcs_program.proofs.listing.Listing.new.Goals as goal
-
-pub add_own-requires-clause-known : goal.add_own-requires-clause-known
-add_own-requires-clause-known c = subst (AreMeantBy c.args.atoms.now (map rule_formula (map rule_of c.args.rules.now))) (sym c.in_ok-known.ensures) c.in_ok-cnf.ensures
 
 pub returns : goal.returns
 returns c = λ beliefs.
     let names = c.args.atoms.now in
     let rules = map rule_of c.args.rules.now in
     record {
-      known = meant_same names (first_formulas names rules) (left_formulas names rules c.new.result.items beliefs c.new-2.result.items) c.add_own.new.known
+      known = meant_same names (first_formulas names rules) (left_formulas names rules c.new.result.items beliefs c.new-2.result.items) c.in_ok-known.known
           (λ a. sym (ap (λ (xs : List ℕ). holds_all a (left_formulas names rules xs beliefs c.new-2.result.items)) c.new.ensures.items ∙ ap (λ (xs : List ℕ). holds_all a (left_formulas names rules [] beliefs xs)) c.new-2.ensures.items
-          ∙ ap (holds_all a) (append-nil (first_formulas names rules)))) c.in_ok-add_own.ensures;
+          ∙ ap (holds_all a) (append-nil (first_formulas names rules)))) c.in_ok-known.ensures;
       ascending = subst (IsAscending StateBefore) (sym c.new-2.ensures.items) tt;
       accepted = subst (AllByRecursion (IsAcceptedView (Program rules) beliefs)) (sym c.new-2.ensures.items) tt;
     }

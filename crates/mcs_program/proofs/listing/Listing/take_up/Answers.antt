@@ -3,7 +3,6 @@ use Rattle.std.proofs.lemmas.Result.{IfOk-weaker}
 use Rattle.mcs_system.specs.Plain.{Atom}
 use Rattle.mcs_system.specs.Seen.{rule_of}
 use Rattle.mcs_system.specs.Logic.{true_names}
-use Rattle.mcs_evidence.proofs.Models.{true_names-known}
 use Rattle.mcs_program.specs.declared.listing.Listing.{Listing}
 use Rattle.mcs_program.specs.Listings.{IsUnfounded}
 use Rattle.mcs_program.proofs.SearchLemmas.{atoms_of_names}
@@ -19,13 +18,6 @@ unfounded_in-requires-clause-model c =
       in_range = c.requires.model.in_range;
       formulas = (first_parts a names rules (left_parts a names rules (map Atom (map (λ b. b.now) c.args.beliefs.now)) c.args.self.now.supported.items c.args.self.now.views.items c.requires.model.formulas).0).0;
     }
-
-pub unfounded_in-requires-clause-own : goal.unfounded_in-requires-clause-own
-unfounded_in-requires-clause-own c = λ n here.
-    let names = c.args.atoms.now in
-    let rules = map rule_of c.args.rules.now in
-    let a = true_names 0 names c.args.model in
-    (first_parts a names rules (left_parts a names rules (map Atom (map (λ b. b.now) c.args.beliefs.now)) c.args.self.now.supported.items c.args.self.now.views.items c.requires.model.formulas).0).1 n (true_names-known n 0 names c.args.model here)
 
 pub support-requires-clause-room : goal.support-requires-clause-room
 support-requires-clause-room c = c.requires.listed.known.room

@@ -3,7 +3,7 @@ use Rattle.mcs_system.specs.Plain.{Atom}
 use Rattle.mcs_system.specs.Seen.{rule_of}
 use Rattle.mcs_program.proofs.SearchLemmas.{atoms_of_names}
 use Rattle.mcs_program.proofs.ListingLemmas.{all_listed}
-use Rattle.mcs_program.proofs.outputs.found.Goals as goal
+use Rattle.mcs_program.proofs.listing.list_by_models.Goals as goal
 
 pub returns : goal.returns
 returns c =

@@ -1,0 +1,8 @@
+use Rattle.std.proofs.Common.{map, subst, sym}
+use Rattle.mcs_system.specs.Seen.{rule_of}
+use Rattle.mcs_evidence.specs.Programs.{rule_formula}
+use Rattle.mcs_program.specs.Clauses.{AreMeantBy}
+use Rattle.mcs_program.proofs.listing.first_clauses.Goals as goal
+
+pub add_own-requires-clause-known : goal.add_own-requires-clause-known
+add_own-requires-clause-known c = subst (AreMeantBy c.args.atoms.now (map rule_formula (map rule_of c.args.rules.now))) (sym c.in_ok-known.ensures) c.in_ok-cnf.ensures
