@@ -20,9 +20,9 @@ use Rattle.mcs_table.proofs.TableLemmas.{unit-kept}
 use Rattle.mcs_table.proofs.ExistLemmas.{join_exists}
 use Rattle.mcs_table.proofs.EliminationLemmas.{forgetting_exists, elimination_is_minimal}
 use Rattle.mcs_joint.specs.Apart.{EachApart}
-use Rattle.mcs_joint.specs.Without.{IsWithout}
+use Rattle.mcs_table.specs.Without.{IsWithout}
 use Rattle.mcs_joint.proofs.Eliminating.{IsLeft, left_begin, next_apart, left_more, left_end}
-use Rattle.mcs_joint.proofs.WithoutLemmas.{join_without, forget_without, without_none}
+use Rattle.mcs_table.proofs.WithoutLemmas.{join_without, forget_without, without_none}
 
 -- ---- the test of a row
 -- whether one of the sets lies within the marks can be told
@@ -117,16 +117,17 @@ abbrev marks : Row → ℕ
 marks r = r.marks
 
 pub known_listed : (P : ℕ → Type 0) (level : ℕ) (sets : List ℕ) (whole t : TableData) (pairs : List ℕ) → AllByRecursion (λ p. IsMinimal P p × (size p ≤ level)) sets → IsWithout sets whole t
-    → IsListing (λ p. IsMinimal P p × (size p ≤ level)) PairBefore (map (λ (r : Row). r.marks) whole.rows)
+    → ((p : ℕ) → ¬ HasOneWithin sets p → IsAmong p (map (λ (r : Row). r.marks) whole.rows) ↔ (IsMinimal P p × (size p ≤ level)))
     → IsListing (λ p. IsAmong p (map (λ (r : Row). r.marks) t.rows ++ sets)) PairBefore pairs
     → IsListing (λ p. IsMinimal P p × (size p ≤ level)) PairBefore pairs
-known_listed P level sets whole t pairs known without all listed =
+known_listed P level sets whole t pairs known without told listed =
     IsListing-same PairBefore (λ p. IsAmong p (map marks t.rows ++ sets)) (λ p. IsMinimal P p × (size p ≤ level)) pairs (λ p. (there p, found p)) listed
   where
     there : (p : ℕ) → IsAmong p (map marks t.rows ++ sets) → IsMinimal P p × (size p ≤ level)
     there p h = elim ((among_append p (map marks t.rows) sets).0 h) [
       | inl left ↦ let (r, among, e) = map_among marks p t.rows left in
-          (all.exactly p).0 (subst (λ (q : ℕ). IsAmong q (map marks whole.rows)) (sym e) (among_map marks r whole.rows ((without.rows.exactly r).0 among).0))
+          let (here, none) = (without.rows.exactly r).0 among in
+          (told p (subst (λ (q : ℕ). ¬ HasOneWithin sets q) (sym e) none)).0 (subst (λ (q : ℕ). IsAmong q (map marks whole.rows)) (sym e) (among_map marks r whole.rows here))
       | inr among ↦ all_among (λ q. IsMinimal P q × (size q ≤ level)) sets p known among
     ]
 
@@ -137,7 +138,7 @@ known_listed P level sets whole t pairs known without all listed =
           let same : held.inner ≡ p = h.0.least held.inner one.one held.within in
           (among_append p (map marks t.rows) sets).1 (inr (subst (λ (q : ℕ). IsAmong q sets) same held.among))
       | inr none ↦
-          let (r, among, e) = map_among marks p whole.rows ((all.exactly p).1 h) in
+          let (r, among, e) = map_among marks p whole.rows ((told p none).1 h) in
           let left : IsAmong r t.rows = (without.rows.exactly r).1 (among, λ held. none (subst (HasOneWithin sets) (sym e) held)) in
           (among_append p (map marks t.rows) sets).1 (inl (subst (λ (q : ℕ). IsAmong q (map marks t.rows)) (sym e) (among_map marks r t.rows left)))
     ]

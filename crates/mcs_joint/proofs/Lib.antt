@@ -3,11 +3,11 @@ pub mod Joint
 pub mod Repairing
 pub mod Covering
 pub mod Eliminating
+pub mod Leaving
 pub mod Repaired
 pub mod Changing
 pub mod Uniting
 pub mod Reducing
 pub mod Narrowing
 pub mod Settling
-pub mod WithoutLemmas
 pub mod Keeping

@@ -3,10 +3,9 @@ use Rattle.std.proofs.Common.{◌≡◌, ◌≤◌, ℕ, List, length, map, min,
 use Rattle.std.proofs.lemmas.Option.{slice_get-get_or}
 use Rattle.std.specs.List.{AllByRecursion, AllZip}
 use Rattle.mcs_sets.specs.Sets.{size, Meets}
-use Rattle.mcs_sets.specs.Orders.{PairBefore}
-use Rattle.mcs_base.specs.Listings.{IsAmong, IsListing}
+use Rattle.mcs_base.specs.Antichains.{HasOneWithin}
+use Rattle.mcs_base.specs.Listings.{IsAmong}
 use Rattle.mcs_base.specs.Minimal.{IsMinimal}
-use Rattle.mcs_base.proofs.ListingLemmas.{IsListing-same}
 use Rattle.mcs_system.specs.Plain.{System}
 use Rattle.mcs_system.specs.Faults.{IsValid}
 use Rattle.mcs_system.specs.Imports.{marks_at}
@@ -22,6 +21,7 @@ use Rattle.mcs_rows.proofs.LocalLemmas.{local_are_tables}
 use Rattle.mcs_joint.specs.Apart.{EachApart}
 use Rattle.mcs_joint.proofs.Covering.{MarksCover, apart_ones, cover_minimal, covers-trans, few_cover, few_are_tables, minimal_ones_cover}
 use Rattle.mcs_joint.specs.Reduced.{HasFewMarks, IsReduced}
+use Rattle.mcs_joint.proofs.Leaving.{apart_left, minimal_left}
 use Rattle.mcs_joint.proofs.Repairing.{minimal_marks}
 use Rattle.mcs_joint.proofs.Reducing.{reduced_covers}
 
@@ -41,27 +41,32 @@ own_apart m k tables own = record {
 local_apart : (m : System) (k : ℕ) (tables : List TableData) → AreLocalTables m k tables → EachApart tables
 local_apart m k tables local = own_apart m k tables (λ i t p is among. ((local.local i t is).rows.exactly p).0 among)
 
-pub minimal_apart : (m : System) (k : ℕ) (tables : List TableData) → AreMinimalTables m k tables → EachApart tables
-minimal_apart m k tables given = apart_ones given.all tables given.minimal (local_apart m k given.all given.local)
+pub minimal_apart : (m : System) (k : ℕ) (sets : List ℕ) (tables : List TableData) → AreMinimalTables m k sets tables → EachApart tables
+minimal_apart m k sets tables given = apart_ones given.left tables given.minimal (apart_left sets given.all given.left given.without (local_apart m k given.all given.local))
 
 -- no minimal diagnosis has more marks than there are rules
 few_are_few : (m : System) (level most : ℕ) → most ≡ min level (length m.bridges) → (p : ℕ) → (IsMinimal (IsDiagnosis m) p × (size p ≤ most)) ↔ (IsMinimal (IsDiagnosis m) p × (size p ≤ level))
 few_are_few m level most e p = (λ h. (h.0, let few = h.1 in omega arith), λ h. (h.0, let few = h.1 in let small = minimal_is_small m p h.0 in omega arith))
 
-module _ (m : System) (valid : IsValid m) (k level most : ℕ) (is_most : most ≡ min level (length m.bridges)) (high : level ≤ k) (tables few ordered : List TableData)
-    (given : AreMinimalTables m k tables) (are_few : AllZip (HasFewMarks most) tables few) (reduced : IsReduced most few ordered) where
+module _ (m : System) (valid : IsValid m) (k level most : ℕ) (is_most : most ≡ min level (length m.bridges)) (high : level ≤ k) (sets : List ℕ) (tables few ordered : List TableData)
+    (given : AreMinimalTables m k sets tables) (are_few : AllZip (HasFewMarks most) tables few) (reduced : IsReduced most few ordered) where
   ordered_tables : AllByRecursion IsTable ordered
   ordered_tables = reduced.tables (few_are_tables most tables few are_few)
 
-  covers : MarksCover most given.all ordered
-  covers = covers-trans most given.all tables ordered (minimal_ones_cover most given.all tables given.minimal) (covers-trans most tables few ordered (few_cover most tables few are_few) (reduced_covers most few ordered reduced))
+  covers : MarksCover most given.left ordered
+  covers = covers-trans most given.left tables ordered (minimal_ones_cover most given.left tables given.minimal) (covers-trans most tables few ordered (few_cover most tables few are_few) (reduced_covers most few ordered reduced))
 
-  same : (p : ℕ) → IsMinimal (AreJointMarks most ordered) p ↔ (IsMinimal (IsDiagnosis m) p × (size p ≤ level))
-  same p =
-      let one = cover_minimal most given.all ordered covers p in
+  same : (p : ℕ) → ¬ HasOneWithin sets p → IsMinimal (AreJointMarks most ordered) p ↔ (IsMinimal (IsDiagnosis m) p × (size p ≤ level))
+  same p none =
+      let one = cover_minimal most given.left ordered covers p in
+      let whole = minimal_left sets most given.all given.left given.without p none in
       let other = minimal_marks m valid k given.all (local_are_tables m valid k given.all given.local) given.local most (omega arith) p in
       let last = few_are_few m level most is_most p in
-      (λ h. last.0 (other.0 (one.0 h)), λ h. one.1 (other.1 (last.1 h)))
+      (λ h. last.0 (other.0 (whole.0 (one.0 h))), λ h. one.1 (whole.1 (other.1 (last.1 h))))
 
-  pub repairs_listed : (t : TableData) → EliminatesTo most 0 ordered t → IsListing (λ p. IsMinimal (IsDiagnosis m) p × (size p ≤ level)) PairBefore (map (λ (r : Row). r.marks) t.rows)
-  repairs_listed t eliminates = IsListing-same PairBefore (IsMinimal (AreJointMarks most ordered)) (λ p. IsMinimal (IsDiagnosis m) p × (size p ≤ level)) (map (λ (r : Row). r.marks) t.rows) same (elimination_gives_marks most ordered t ordered_tables eliminates)
+  -- of the marks that hold none of the known sets, those of what is left are the minimal diagnoses
+  pub repairs_told : (t : TableData) → EliminatesTo most 0 ordered t → (p : ℕ) → ¬ HasOneWithin sets p → IsAmong p (map (λ (r : Row). r.marks) t.rows) ↔ (IsMinimal (IsDiagnosis m) p × (size p ≤ level))
+  repairs_told t eliminates p none =
+      let listed = (elimination_gives_marks most ordered t ordered_tables eliminates).exactly p in
+      let told = same p none in
+      (λ h. told.0 (listed.0 h), λ h. listed.1 (told.1 h))

@@ -2,4 +2,3 @@ pub mod Apart
 pub mod Changed
 pub mod Reduced
 pub mod First
-pub mod Without

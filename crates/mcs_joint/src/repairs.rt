@@ -1,10 +1,9 @@
 //! The minimal diagnoses with few marks, of the tables of all contexts.
 
-ghost use Rattle.std.specs.Prelude.{◌≡◌, ◌≤◌, ◌↔◌, ℕ, map, IfOk, IsTrue};
+ghost use Rattle.std.specs.Prelude.{◌≡◌, ◌≤◌, ℕ, map, IfOk};
 ghost use Rattle.std.specs.List.{AllByRecursion, AllZip};
 ghost use Rattle.mcs_sets.specs.Sets.{size};
 ghost use Rattle.mcs_sets.specs.Orders.{PairBefore};
-ghost use Rattle.mcs_base.specs.Antichains.{HasOneWithin};
 ghost use Rattle.mcs_base.specs.Listings.{IsListing};
 ghost use Rattle.mcs_base.specs.Minimal.{IsMinimal};
 ghost use Rattle.mcs_system.specs.Repairs.{IsDiagnosis};
@@ -14,22 +13,19 @@ ghost use Rattle.mcs_table.specs.Tables.{TableData, IsTable, AreApart, IsJoin, I
 ghost use Rattle.mcs_rows.specs.Local.{AreMinimalTables};
 ghost use Rattle.mcs_joint.specs.Apart.{EachApart};
 ghost use Rattle.mcs_joint.specs.Reduced.{HasFewMarks};
-ghost use Rattle.mcs_joint.specs.Without.{IsWithout};
+ghost use Rattle.mcs_table.specs.Without.{IsWithout};
 
 use crate::order::scopes;
 use crate::reduce::reduced;
 use mcs_base::{Marks, Memory, list_pairs};
 use mcs_import::Plan;
-use mcs_table::{Row, Table, forget, join};
+use mcs_table::{Row, Table, forget, holds_one, join};
 use std::alloc::Global;
 
-/// So many of the minimal diagnoses that are known are looked for at most in the marks of each row.
-const MOST_LOOKED_FOR: usize = 128;
-
-/// The minimal diagnoses of the plan's system that have at most so many marks, in the order of pairs. The
-/// tables are those of all contexts, in order, each with the minimal ones of the local rows of its context at
-/// one level, which is this one or a higher one. Some of the diagnoses may be known already, in any order: rows
-/// whose marks hold one of them lead to no other one, and are left out as soon as they come about.
+/// The minimal diagnoses of the plan's system that have at most so many marks, in the order of pairs. Some of them
+/// may be known already, in any order: rows whose marks hold one of them lead to no other one, and are left out as soon
+/// as they come about. The tables are those of all contexts, in order, each with the minimal ones of those local rows of
+/// its context at one level, which is this one or a higher one, that hold none of the known diagnoses.
 pub fn repairs_in(
     alloc: Global,
     plan: &Plan,
@@ -37,17 +33,16 @@ pub fn repairs_in(
     level: u32,
     known: &[Marks],
 ) -> Result<Vec<Marks>, Memory>
-    requires tables { (k : ℕ) × (level ≤ k) × AreMinimalTables plan.now k tables.now }
+    requires tables { (k : ℕ) × (level ≤ k) × AreMinimalTables plan.now k known.now tables.now }
     requires known { AllByRecursion (λ p. IsMinimal (IsDiagnosis plan.now) p × (size p ≤ level)) known.now }
     ensures { IfOk result (λ pairs. IsListing (λ p. IsMinimal (IsDiagnosis plan.now) p × (size p ≤ level)) PairBefore pairs.items) }
 {
     let most = level.min(plan.system().bridges().len() as u32);
     let few = few_tables(alloc, tables, most)?;
     let fewer = reduced(alloc, few, most)?;
-    let looked_for = &known[..known.len().min(MOST_LOOKED_FOR)];
-    let left = eliminate(alloc, &fewer, most, looked_for)?;
+    let left = eliminate(alloc, &fewer, most, known)?;
     let mut pairs = marks_of(alloc, left.rows())?;
-    pairs.extend_from_slice(looked_for)?;
+    pairs.extend_from_slice(known)?;
     list_pairs(&mut pairs);
     Ok(pairs)
 }
@@ -133,18 +128,6 @@ fn without(table: Table, sets: &[Marks]) -> Table
 {
     let scope = table.scope();
     let mut rows = table.into_rows();
-    rows.retain(|row| !holds_one(row, sets));
+    rows.retain(|row| !holds_one(row.marks, sets));
     Table::in_order(scope, rows)
-}
-
-/// Whether the marks of the row hold one of the sets.
-fn holds_one(row: &Row, sets: &[Marks]) -> bool
-    ensures { IsTrue result ↔ HasOneWithin sets.now row.now.marks }
-{
-    for set in sets {
-        if set.within(row.marks) {
-            return true;
-        }
-    }
-    false
 }

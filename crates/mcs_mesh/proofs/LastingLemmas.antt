@@ -150,14 +150,16 @@ module _ (m : System) (low high : ℕ) (few : HasFewRules m low) (less : low ≤
   }
 
 -- the tables are those of a level that is as high as one up to which the rows stay the same
-pub tables_ahead : (m : System) (level ahead k : ℕ) (tables : List TableData) → level ≤ ahead → (level < ahead → HasFewRules m level) → level ≤ k → AreMinimalTables m k tables → (j : ℕ) × (ahead ≤ j) × AreMinimalTables m j tables
-tables_ahead m level ahead k tables no_less above high given = elim (cases_lt k ahead) [
+pub tables_ahead : (m : System) (level ahead k : ℕ) (known : List ℕ) (tables : List TableData) → level ≤ ahead → (level < ahead → HasFewRules m level) → level ≤ k → AreMinimalTables m k known tables → (j : ℕ) × (ahead ≤ j) × AreMinimalTables m j known tables
+tables_ahead m level ahead k known tables no_less above high given = elim (cases_lt k ahead) [
   | inl less ↦ (
     ahead,
     omega arith,
     record {
       all = given.all;
       local = same_tables m k ahead (λ i in_range. let h = above (omega (arith, less, high)) i in_range in omega (arith, h, high)) (omega (arith, less)) given.all given.local;
+      left = given.left;
+      without = given.without;
       minimal = given.minimal;
     },
   )

@@ -6,34 +6,39 @@ use Rattle.std.specs.List.{AllZip}
 use Rattle.mcs_base.proofs.Lists.{slice_get_push_at, zip_push}
 use Rattle.mcs_system.specs.Plain.{System}
 use Rattle.mcs_table.specs.Tables.{TableData, IsMinimalOf}
+use Rattle.mcs_table.specs.Without.{IsWithout}
 use Rattle.mcs_rows.specs.Local.{IsLocalTable, IsMinimalTable, AreMinimalTables}
 use Rattle.mcs_rows.specs.Changed.{AreEachChanged, AreChangedAt, IsChangedAt, IsChangedTable}
 use Rattle.mcs_mesh.proofs.RoundLemmas.{table_more}
 
 -- ---- minimal rows
 -- those of the first k contexts
-pub record AreSomeMinimal (m : System) (level k : ℕ) (us : List TableData) : Type 0 where
+pub record AreSomeMinimal (m : System) (level k : ℕ) (known : List ℕ) (us : List TableData) : Type 0 where
   pub all : List TableData
   pub long : length all ≡ k
   pub local : (c : ℕ) (t : TableData) → slice_get all c ≡ Some t → IsLocalTable m level c t
-  pub minimal : AllZip IsMinimalOf all us
+  pub left : List TableData
+  pub without : AllZip (IsWithout known) all left
+  pub minimal : AllZip IsMinimalOf left us
 
 none_at : {P : Type 0} (c : ℕ) (t : TableData) → slice_get [] c ≡ Some t → P
 none_at c t is = absurd (let less = slice_get_within [] c t is in omega arith)
 
-pub minimal_begin : (m : System) (level : ℕ) → AreSomeMinimal m level 0 []
-minimal_begin m level = record { all = []; long = refl; local = λ c t is. none_at c t is; minimal = tt }
+pub minimal_begin : (m : System) (level : ℕ) (known : List ℕ) → AreSomeMinimal m level 0 known []
+minimal_begin m level known = record { all = []; long = refl; local = λ c t is. none_at c t is; left = []; without = tt; minimal = tt }
 
-pub minimal_more : (m : System) (level k : ℕ) (us now : List TableData) (u : TableData) → AreSomeMinimal m level k us → IsMinimalTable m level k u → now ≡ us ++ u ∷ [] → AreSomeMinimal m level (k + 1) now
-minimal_more m level k us now u so_far here is = record {
+pub minimal_more : (m : System) (level k : ℕ) (known : List ℕ) (us now : List TableData) (u : TableData) → AreSomeMinimal m level k known us → IsMinimalTable m level k known u → now ≡ us ++ u ∷ [] → AreSomeMinimal m level (k + 1) known now
+minimal_more m level k known us now u so_far here is = record {
   all = so_far.all ++ here.all ∷ [];
   long = length-append so_far.all (here.all ∷ []) ∙ ap (λ n. n + 1) so_far.long;
   local = table_more m level k so_far.all (so_far.all ++ here.all ∷ []) here.all so_far.local so_far.long here.local refl;
-  minimal = subst (AllZip IsMinimalOf (so_far.all ++ here.all ∷ [])) (sym is) (zip_push IsMinimalOf so_far.all us here.all u so_far.minimal here.minimal);
+  left = so_far.left ++ here.left ∷ [];
+  without = zip_push (IsWithout known) so_far.all so_far.left here.all here.left so_far.without here.without;
+  minimal = subst (AllZip IsMinimalOf (so_far.left ++ here.left ∷ [])) (sym is) (zip_push IsMinimalOf so_far.left us here.left u so_far.minimal here.minimal);
 }
 
-pub minimal_end : (m : System) (level k : ℕ) (us : List TableData) → k ≡ length m.contexts → AreSomeMinimal m level k us → AreMinimalTables m level us
-minimal_end m level k us is so_far = record { all = so_far.all; local = record { one_each = so_far.long ∙ is; local = so_far.local }; minimal = so_far.minimal }
+pub minimal_end : (m : System) (level k : ℕ) (known : List ℕ) (us : List TableData) → k ≡ length m.contexts → AreSomeMinimal m level k known us → AreMinimalTables m level known us
+minimal_end m level k known us is so_far = record { all = so_far.all; local = record { one_each = so_far.long ∙ is; local = so_far.local }; left = so_far.left; without = so_far.without; minimal = so_far.minimal }
 
 -- ---- rows with the marks of a pair
 pub record AreSomeChanged (m : System) (level pair k : ℕ) (us : List TableData) : Type 0 where

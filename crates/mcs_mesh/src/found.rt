@@ -16,6 +16,9 @@ use mcs_import::Plan;
 use mcs_joint::repairs_in;
 use std::alloc::Global;
 
+/// So many of the minimal diagnoses that are known are looked for at most in the marks of each row.
+const MOST_LOOKED_FOR: usize = 128;
+
 /// The minimal diagnoses with at most so many marks, in the order of pairs; none where no level is told.
 #[derive(Drop)]
 pub(crate) struct Found {
@@ -78,8 +81,9 @@ impl Found {
         ensures kept { AreFound plan.now self.new.level self.new.pairs.items }
     {
         let ahead = level_ahead(plan.system(), level);
-        let tables = minimal_tables(alloc, plan, done, known)?;
-        let pairs = repairs_in(alloc, plan, &tables, ahead, &self.pairs)?;
+        let looked_for = &self.pairs[..self.pairs.len().min(MOST_LOOKED_FOR)];
+        let tables = minimal_tables(alloc, plan, done, known, looked_for)?;
+        let pairs = repairs_in(alloc, plan, &tables, ahead, looked_for)?;
         self.pairs = pairs;
         self.level = Some(ahead);
         Ok(())

@@ -9,28 +9,30 @@ ghost use Rattle.mcs_mesh.specs.Rounds.{knowledge_of, AreKnown};
 
 use crate::known::Known;
 use crate::rounds::supplies_for;
-use mcs_base::{Memory, Pair};
+use mcs_base::{Marks, Memory, Pair};
 use mcs_import::Plan;
 use mcs_rows::{changed_rows, minimal_rows};
 use mcs_table::Table;
 use std::alloc::Global;
 
-/// The minimal local rows of each context, once all questions of the level were asked.
+/// The minimal ones of those local rows of each context whose marks hold none of the pairs, once all questions of the
+/// level were asked.
 pub(crate) fn minimal_tables(
     alloc: Global,
     plan: &Plan,
     level: u32,
     known: &[Known],
+    pairs: &[Marks],
 ) -> Result<Vec<Table>, Memory>
     requires one_each { length known.now ≡ length plan.now.contexts }
     requires known { AreKnown plan.now level (map knowledge_of known.now) }
-    ensures { IfOk result (λ tables. AreMinimalTables plan.now level tables.items) }
+    ensures { IfOk result (λ tables. AreMinimalTables plan.now level pairs.now tables.items) }
 {
     let mut tables = Vec::new(alloc);
     for i in 0..plan.system().contexts().len() as u32 {
         let told = supplies_for(alloc, plan, i, known)?;
         let answers = &known[i as usize].answers;
-        tables.push(minimal_rows(alloc, plan, i, &told, answers, level)?)?;
+        tables.push(minimal_rows(alloc, plan, i, &told, answers, level, pairs)?)?;
     }
     Ok(tables)
 }

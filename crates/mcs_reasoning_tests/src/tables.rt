@@ -3,7 +3,7 @@
 ghost use Rattle.std.specs.Prelude.{◌≡◌};
 
 use mcs_base::{Marks, Memory, Partial, Vars};
-use mcs_table::{Row, Table, are_apart, forget, join, matching, union_states};
+use mcs_table::{Row, Table, are_apart, forget, holds_one, join, matching, union_states};
 use std::alloc::Global;
 
 /// A row. The bits of the numbers are the variables that are true, and the marks.
@@ -186,6 +186,14 @@ fn forgetting_keeps_minimal_rows(rt: HostRuntime) {
     let of: Listed = (0b11, &[(0b01, 0b1), (0b11, 0b11), (0b11, 0b100), (0b10, 0)]);
     let wanted: Listed = (0b1, &[(1, 0b1), (1, 0b100), (0, 0)]);
     assert!(rt; leaves(rt.alloc(), of, wanted) == Ok(true));
+}
+
+#[test]
+fn marks_hold_the_sets_within_them(rt: HostRuntime) {
+    let sets = [Marks::one(1).with(2), Marks::one(3)];
+    let held = holds_one(sets[0].with(0), &sets) && holds_one(sets[1], &sets);
+    let others = holds_one(Marks::one(0).with(1), &sets) || holds_one(Marks::empty(), &sets);
+    assert!(rt; held && !others && !holds_one(sets[1], &[]));
 }
 
 #[test]

@@ -4,3 +4,4 @@ pub mod MarkLemmas
 pub mod MakingLemmas
 pub mod FindingLemmas
 pub mod ChangedLemmas
+pub mod KnownLemmas

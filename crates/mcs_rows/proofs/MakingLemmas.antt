@@ -1,5 +1,5 @@
 -- The rows that the code makes are the local rows, and the parts that it gathers are what may be supplied.
-use Rattle.std.proofs.Common.{◌≡◌, ℕ, ◌+◌, ◌*◌, ◌/◌, ◌%◌, ◌<◌, ◌≤◌, Bool, true, false, ◌&&◌, cond, eqb, leb, ltb, true≢false, List, [], ◌∷◌, map, filter, ◌++◌, take, length, get_or, refl, sym, ap, ◌∙◌, subst, ◌↔◌, arith}
+use Rattle.std.proofs.Common.{◌≡◌, ℕ, ◌+◌, ◌*◌, ◌/◌, ◌%◌, ◌<◌, ◌≤◌, Bool, true, false, not, ◌&&◌, cond, eqb, leb, ltb, true≢false, List, [], ◌∷◌, map, filter, ◌++◌, take, length, get_or, refl, sym, ap, ◌∙◌, subst, ◌↔◌, arith}
 use Rattle.std.proofs.lemmas.Bool.{leb-true, le-leb, and_parts, and_from, eq-eqb, eqb-true, false_from_ne_true}
 use Rattle.std.proofs.lemmas.Simd.{map-map}
 use Rattle.std.proofs.Math.Bool.{and-false}
@@ -11,8 +11,10 @@ use Rattle.std.specs.List.{AllByRecursion, flat_map}
 use Rattle.mcs_sets.specs.Sets.{has, size, common, union, minus, members, Within}
 use Rattle.mcs_sets.specs.Orders.{StateBefore}
 use Rattle.mcs_sets.proofs.Lattice.{minus_within, common_within_right, size_within, size-none}
+use Rattle.mcs_base.specs.Antichains.{HasOneWithin, lies_within}
 use Rattle.mcs_base.specs.Listings.{IsAmong, IsAscending, IsListing}
-use Rattle.mcs_base.proofs.Among.{among_map, map_among, among_filter, filter_among, among_flat_map, flat_map_among}
+use Rattle.mcs_base.proofs.AntichainLemmas.{lies_within-is, one_within-none}
+use Rattle.mcs_base.proofs.Among.{any_get, among_any, among_get, among_map, map_among, among_filter, filter_among, among_flat_map, flat_map_among}
 use Rattle.mcs_base.proofs.Each.{all_among, all_from_among}
 use Rattle.mcs_base.proofs.ListingLemmas.{IsListing-same}
 use Rattle.mcs_base.proofs.Written.{take_read}
@@ -38,32 +40,52 @@ use Rattle.mcs_rows.specs.Local.{Answered, AreAnswered, IsRowOf, IsLocalTable, I
 use Rattle.mcs_rows.specs.Changed.{HasMarksOf, IsChangedAt}
 use Rattle.mcs_rows.specs.Finding.{AreInOrder}
 use Rattle.mcs_rows.specs.Answers.{answered_of}
-use Rattle.mcs_rows.specs.Making.{agrees, row_with, is_in_reach, rows_with, rows_of, IsSettled, IsChangedRow}
+use Rattle.mcs_rows.specs.Making.{agrees, holds_some, row_with, is_in_reach, rows_with, rows_of, IsSettled, IsChangedRow}
 use Rattle.mcs_rows.specs.declared.answer.Answer.{Answer}
 use Rattle.mcs_rows.proofs.LocalLemmas.{IsMade, rows_are_made}
 use Rattle.mcs_rows.proofs.ChangedLemmas.{marks_inside, marks_tell, seen_inputs}
 
 -- ---- a question that is in reach, or not
-pub in_reach : (m : System) (i level state x : ℕ) → (is_in_reach m i level state x ≡ true) ↔ ((size (marks_at m i state x) ≤ level) × Within (marks_at m i state x) (allowed_marks m))
-in_reach m i level state x = (
+pub some_held : (sets : List ℕ) (marks : ℕ) → (holds_some sets marks ≡ true) ↔ HasOneWithin sets marks
+some_held sets marks = (
+  λ e. let (k, s, at, within) = any_get (λ s. lies_within s marks) sets e in record { inner = s; among = among_get s sets k at; within = (lies_within-is s marks).0 within },
+  λ h. among_any (λ s. lies_within s marks) sets h.inner h.among ((lies_within-is h.inner marks).1 h.within),
+)
+
+none_held : (sets : List ℕ) (marks : ℕ) → (not (holds_some sets marks) ≡ true) ↔ (¬ HasOneWithin sets marks)
+none_held sets marks = at (holds_some sets marks) (some_held sets marks)
+  where
+    at : (v : Bool) → (v ≡ true) ↔ HasOneWithin sets marks → (not v ≡ true) ↔ (¬ HasOneWithin sets marks)
+    at true tells = (λ h. absurd (true≢false (sym h)), λ none. absurd (none (tells.0 refl)))
+    at false tells = (λ h held. true≢false (sym (tells.1 held)), λ none. refl)
+
+pub in_reach : (m : System) (i level : ℕ) (sets : List ℕ) (state x : ℕ)
+    → (is_in_reach m i level sets state x ≡ true) ↔ ((size (marks_at m i state x) ≤ level) × Within (marks_at m i state x) (allowed_marks m) × (¬ HasOneWithin sets (marks_at m i state x)))
+in_reach m i level sets state x = (
   λ e. (
-      let (few, same) = and_parts (leb (size marks) level) (eqb (common marks (allowed_marks m)) marks) e in
-      (leb-true (size marks) level few, within_where_common marks (allowed_marks m) (eqb-true (common marks (allowed_marks m)) marks same))),
-  λ (few, within). and_from (leb (size marks) level) (eqb (common marks (allowed_marks m)) marks) (le-leb (size marks) level few) (eq-eqb (common marks (allowed_marks m)) marks (common_where_within marks (allowed_marks m) within)),
+      let (near, none) = and_parts (leb (size marks) level && eqb (common marks (allowed_marks m)) marks) (not (holds_some sets marks)) e in
+      let (few, same) = and_parts (leb (size marks) level) (eqb (common marks (allowed_marks m)) marks) near in
+      (leb-true (size marks) level few, within_where_common marks (allowed_marks m) (eqb-true (common marks (allowed_marks m)) marks same), (none_held sets marks).0 none)),
+  λ (few, within, none). and_from (leb (size marks) level && eqb (common marks (allowed_marks m)) marks) (not (holds_some sets marks))
+      (and_from (leb (size marks) level) (eqb (common marks (allowed_marks m)) marks) (le-leb (size marks) level few) (eq-eqb (common marks (allowed_marks m)) marks (common_where_within marks (allowed_marks m) within)))
+      ((none_held sets marks).1 none),
 )
   where
     marks : ℕ
     marks = marks_at m i state x
 
-pub rows_in_reach : (m : System) (i level state : ℕ) (a : Answer) → size (marks_at m i state a.active) ≤ level → Within (marks_at m i state a.active) (allowed_marks m)
-    → rows_with m i level state a ≡ map (row_with m i state (marks_at m i state a.active)) (filter (agrees m i state) a.parts.items)
-rows_in_reach m i level state a few within = rw ((in_reach m i level state a.active).1 (few, within)) refl
+pub rows_in_reach : (m : System) (i level : ℕ) (sets : List ℕ) (state : ℕ) (a : Answer) → size (marks_at m i state a.active) ≤ level → Within (marks_at m i state a.active) (allowed_marks m) → ¬ HasOneWithin sets (marks_at m i state a.active)
+    → rows_with m i level sets state a ≡ map (row_with m i state (marks_at m i state a.active)) (filter (agrees m i state) a.parts.items)
+rows_in_reach m i level sets state a few within none = rw ((in_reach m i level sets state a.active).1 (few, within, none)) refl
 
-pub too_many : (m : System) (i level state : ℕ) (a : Answer) → level < size (marks_at m i state a.active) → rows_with m i level state a ≡ []
-too_many m i level state a many = rw (false_from_ne_true (is_in_reach m i level state a.active) (λ e. (let (few, within) = (in_reach m i level state a.active).0 e in absurd (omega (arith, few, many))))) refl
+pub too_many : (m : System) (i level : ℕ) (sets : List ℕ) (state : ℕ) (a : Answer) → level < size (marks_at m i state a.active) → rows_with m i level sets state a ≡ []
+too_many m i level sets state a many = rw (false_from_ne_true (is_in_reach m i level sets state a.active) (λ e. (let (few, within, none) = (in_reach m i level sets state a.active).0 e in absurd (omega (arith, few, many))))) refl
 
-pub not_allowed : (m : System) (i level state : ℕ) (a : Answer) → ¬ Within (marks_at m i state a.active) (allowed_marks m) → rows_with m i level state a ≡ []
-not_allowed m i level state a never = rw (false_from_ne_true (is_in_reach m i level state a.active) (λ e. never ((in_reach m i level state a.active).0 e).1)) refl
+pub not_allowed : (m : System) (i level : ℕ) (sets : List ℕ) (state : ℕ) (a : Answer) → ¬ Within (marks_at m i state a.active) (allowed_marks m) → rows_with m i level sets state a ≡ []
+not_allowed m i level sets state a never = rw (false_from_ne_true (is_in_reach m i level sets state a.active) (λ e. (let (few, within, none) = (in_reach m i level sets state a.active).0 e in never within))) refl
+
+pub one_known : (m : System) (i level : ℕ) (sets : List ℕ) (state : ℕ) (a : Answer) → HasOneWithin sets (marks_at m i state a.active) → rows_with m i level sets state a ≡ []
+one_known m i level sets state a held = rw (false_from_ne_true (is_in_reach m i level sets state a.active) (λ e. (let (few, within, none) = (in_reach m i level sets state a.active).0 e in none held))) refl
 
 pub marks_counted : (m : System) (i state x applies removed forced : ℕ) → applies ≡ common (applicable m state) (rules_into m i) → Within x (rules_into m i) → removed ≡ minus applies x → forced ≡ minus x applies → size removed + size forced ≡ size (marks_at m i state x)
 marks_counted m i state x applies removed forced is of_rules removed_is forced_is =
@@ -79,24 +101,24 @@ marks_are_at m i state x applying removed forced marks applies of_rules is is' t
     ∙ ap (λ s. marks_of m s forced) is ∙ ap (marks_of m (minus applying x)) is' ∙ ap (λ s. marks_of m (minus s x) (minus x s)) applies
 
 -- ---- the rows of a state
-module _ (m : System) (level i : ℕ) where
+module _ (m : System) (level i : ℕ) (sets : List ℕ) where
   -- what is among the rows of a state with an answer
-  pub with_answer : (s : ℕ) (a : Answer) (r : Row) → IsAmong r (rows_with m i level s a)
-      → (size (marks_at m i s a.active) ≤ level) × Within (marks_at m i s a.active) (allowed_marks m) × ((τ : ℕ) × IsAmong τ a.parts.items × (common τ (inputs_of m i) ≡ common s (variables_of m i)) × (r ≡ row_with m i s (marks_at m i s a.active) τ))
-  with_answer s a r = at (is_in_reach m i level s a.active) refl
+  pub with_answer : (s : ℕ) (a : Answer) (r : Row) → IsAmong r (rows_with m i level sets s a)
+      → (size (marks_at m i s a.active) ≤ level) × Within (marks_at m i s a.active) (allowed_marks m) × (¬ HasOneWithin sets (marks_at m i s a.active)) × ((τ : ℕ) × IsAmong τ a.parts.items × (common τ (inputs_of m i) ≡ common s (variables_of m i)) × (r ≡ row_with m i s (marks_at m i s a.active) τ))
+  with_answer s a r = at (is_in_reach m i level sets s a.active) refl
     where
-      at : (v : Bool) → is_in_reach m i level s a.active ≡ v → IsAmong r (cond v (map (row_with m i s (marks_at m i s a.active)) (filter (agrees m i s) a.parts.items)) [])
-          → (size (marks_at m i s a.active) ≤ level) × Within (marks_at m i s a.active) (allowed_marks m) × ((τ : ℕ) × IsAmong τ a.parts.items × (common τ (inputs_of m i) ≡ common s (variables_of m i)) × (r ≡ row_with m i s (marks_at m i s a.active) τ))
+      at : (v : Bool) → is_in_reach m i level sets s a.active ≡ v → IsAmong r (cond v (map (row_with m i s (marks_at m i s a.active)) (filter (agrees m i s) a.parts.items)) [])
+          → (size (marks_at m i s a.active) ≤ level) × Within (marks_at m i s a.active) (allowed_marks m) × (¬ HasOneWithin sets (marks_at m i s a.active)) × ((τ : ℕ) × IsAmong τ a.parts.items × (common τ (inputs_of m i) ≡ common s (variables_of m i)) × (r ≡ row_with m i s (marks_at m i s a.active) τ))
       at true near among =
           let (τ, there, e) = map_among (row_with m i s (marks_at m i s a.active)) r (filter (agrees m i s) a.parts.items) among in
           let (here, test) = filter_among (agrees m i s) τ a.parts.items there in
-          let (few, within) = (in_reach m i level s a.active).0 near in
-          (few, within, (τ, here, (let same : common τ (inputs_of m i) ≡ common s (variables_of m i) = grind (arith, nat_tests) in same), e))
+          let (few, within, none) = (in_reach m i level sets s a.active).0 near in
+          (few, within, none, (τ, here, (let same : common τ (inputs_of m i) ≡ common s (variables_of m i) = grind (arith, nat_tests) in same), e))
       at false far among = absurd among
 
-  pub answer_with : (s : ℕ) (a : Answer) (τ : ℕ) → size (marks_at m i s a.active) ≤ level → Within (marks_at m i s a.active) (allowed_marks m) → IsAmong τ a.parts.items → common τ (inputs_of m i) ≡ common s (variables_of m i) → IsAmong (row_with m i s (marks_at m i s a.active) τ) (rows_with m i level s a)
-  answer_with s a τ few within here same =
-      subst (IsAmong (row_with m i s (marks_at m i s a.active) τ)) (sym (rows_in_reach m i level s a few within))
+  pub answer_with : (s : ℕ) (a : Answer) (τ : ℕ) → size (marks_at m i s a.active) ≤ level → Within (marks_at m i s a.active) (allowed_marks m) → ¬ HasOneWithin sets (marks_at m i s a.active) → IsAmong τ a.parts.items → common τ (inputs_of m i) ≡ common s (variables_of m i) → IsAmong (row_with m i s (marks_at m i s a.active) τ) (rows_with m i level sets s a)
+  answer_with s a τ few within none here same =
+      subst (IsAmong (row_with m i s (marks_at m i s a.active) τ)) (sym (rows_in_reach m i level sets s a few within none))
       (among_map (row_with m i s (marks_at m i s a.active)) τ (filter (agrees m i s) a.parts.items) (among_filter (agrees m i s) τ a.parts.items here (grind (arith, nat_tests))))
 
 -- ---- the answers
@@ -138,80 +160,91 @@ module _ (m : System) (level i : ℕ) (answers : List Answer) (answered : AreAns
   -- ---- the rows
   module _ (order : List ℕ) (ordered : IsImportOrder m order) (xss : List (List ℕ)) (supplies : AreSupplies m level (supplied m order i) xss) (joined states : List ℕ)
       (of_joins : (ρ : ℕ) → IsAmong ρ joined ↔ SomeJoins (inputs_of m i) xss (0 ∷ []) ρ) (of_grows : (ρ : ℕ) → IsAmong ρ states ↔ SomeGrows (members (guessed m order i)) joined ρ) where
-    abbrev made : List Row
-    made = flat_map (λ s. flat_map (rows_with m i level s) answers) states
+    module _ (sets : List ℕ) where
+      abbrev made : List Row
+      made = flat_map (λ s. flat_map (rows_with m i level sets s) answers) states
 
-    made_are_local : (r : Row) → IsAmong r made → IsRowOf m level i r
-    made_are_local r among =
-        let (s, state, there) = flat_map_among (λ s. flat_map (rows_with m i level s) answers) r states among in
-        let (a, here, there') = flat_map_among (rows_with m i level s) r answers there in
-        let (few, allowed, (τ, part, same, e)) = with_answer m level i s a r there' in
-        let (p, g, joins, within, is) = (states_found (inputs_of m i) xss (guessed m order i) joined states of_joins of_grows s).0 state in
-        record {
-          mask = ap (λ (q : Row). q.state.mask) e;
-          local = (
-            order,
-            ordered,
-            (rows_are_made m order ordered level i xss supplies r.state.values r.marks).0 (record {
-              joined = p;
-              is_joined = joins;
-              guess = g;
-              of_guesses = within;
-              question = a.active;
-              asked = (question_in m order ordered level i a.active).1 (asked_of a here);
-              allowed = subst (λ (z : ℕ). Within (marks_at m i z a.active) (allowed_marks m)) is allowed;
-              near = subst (λ (z : ℕ). size (marks_at m i z a.active) ≤ level) is few;
-              part = τ;
-              accepted = ((parts_of_answer a here).exactly τ).0 part;
-              agree = same ∙ ap (λ z. common z (variables_of m i)) is;
-              state_is = ap (λ z. common (union τ z) (local_of m i)) (sym is) ∙ ap (λ (q : Row). q.state.values) (sym e);
-              marks_is = ap (λ z. marks_at m i z a.active) (sym is) ∙ ap (λ (q : Row). q.marks) (sym e);
-            }),
-          );
-        }
+      made_are_local : (r : Row) → IsAmong r made → IsRowOf m level i r × (¬ HasOneWithin sets r.marks)
+      made_are_local r among =
+          let (s, state, there) = flat_map_among (λ s. flat_map (rows_with m i level sets s) answers) r states among in
+          let (a, here, there') = flat_map_among (rows_with m i level sets s) r answers there in
+          let (few, allowed, none, (τ, part, same, e)) = with_answer m level i sets s a r there' in
+          let (p, g, joins, within, is) = (states_found (inputs_of m i) xss (guessed m order i) joined states of_joins of_grows s).0 state in (
+            record {
+              mask = ap (λ (q : Row). q.state.mask) e;
+              local = (
+                order,
+                ordered,
+                (rows_are_made m order ordered level i xss supplies r.state.values r.marks).0 (record {
+                  joined = p;
+                  is_joined = joins;
+                  guess = g;
+                  of_guesses = within;
+                  question = a.active;
+                  asked = (question_in m order ordered level i a.active).1 (asked_of a here);
+                  allowed = subst (λ (z : ℕ). Within (marks_at m i z a.active) (allowed_marks m)) is allowed;
+                  near = subst (λ (z : ℕ). size (marks_at m i z a.active) ≤ level) is few;
+                  part = τ;
+                  accepted = ((parts_of_answer a here).exactly τ).0 part;
+                  agree = same ∙ ap (λ z. common z (variables_of m i)) is;
+                  state_is = ap (λ z. common (union τ z) (local_of m i)) (sym is) ∙ ap (λ (q : Row). q.state.values) (sym e);
+                  marks_is = ap (λ z. marks_at m i z a.active) (sym is) ∙ ap (λ (q : Row). q.marks) (sym e);
+                }),
+              );
+            },
+            subst (λ (z : ℕ). ¬ HasOneWithin sets z) (sym (ap (λ (q : Row). q.marks) e)) none,
+          )
 
-    local_are_made : (r : Row) → IsRowOf m level i r → IsAmong r made
-    local_are_made r of_i = from ((rows_are_made m order ordered level i xss supplies r.state.values r.marks).1 (in_order of_i.local))
-      where
-        in_order : IsLocalRow m level i r.state.values r.marks → IsRow m order level i r.state.values r.marks
-        in_order (other, ordered', row) = subst (λ (o : List ℕ). IsRow m o level i r.state.values r.marks) (import_order_is_one m other order ordered' ordered) row
+      local_are_made : (r : Row) → IsRowOf m level i r → ¬ HasOneWithin sets r.marks → IsAmong r made
+      local_are_made r of_i none = from ((rows_are_made m order ordered level i xss supplies r.state.values r.marks).1 (in_order of_i.local))
+        where
+          in_order : IsLocalRow m level i r.state.values r.marks → IsRow m order level i r.state.values r.marks
+          in_order (other, ordered', row) = subst (λ (o : List ℕ). IsRow m o level i r.state.values r.marks) (import_order_is_one m other order ordered' ordered) row
 
-        from : IsMade m order level i xss r.state.values r.marks → IsAmong r made
-        from h =
-            let s : ℕ = union h.joined h.guess in
-            let state : IsAmong s states = (states_found (inputs_of m i) xss (guessed m order i) joined states of_joins of_grows s).1 (h.joined, h.guess, h.is_joined, h.of_guesses, refl) in
-            let (a, here, e) = answer_to h.question ((question_in m order ordered level i h.question).0 h.asked) in
-            let part : IsAmong h.part a.parts.items = ((parts_of_answer a here).exactly h.part).1 (subst (λ (z : ℕ). IsAcceptedPart m i z h.part) e h.accepted) in
-            let row : Row = row_with m i s (marks_at m i s a.active) h.part in
-            let is : row ≡ r = same_row row r (sym of_i.mask) h.state_is (ap (marks_at m i s) (sym e) ∙ h.marks_is) in
-            subst (λ (q : Row). IsAmong q made) is
-            (among_flat_map (λ s. flat_map (rows_with m i level s) answers) s row states state
-            (among_flat_map (rows_with m i level s) a row answers here (answer_with m level i s a h.part (subst (λ (z : ℕ). size (marks_at m i s z) ≤ level) e h.near) (subst (λ (z : ℕ). Within (marks_at m i s z) (allowed_marks m)) e h.allowed) part h.agree)))
+          from : IsMade m order level i xss r.state.values r.marks → IsAmong r made
+          from h =
+              let s : ℕ = union h.joined h.guess in
+              let state : IsAmong s states = (states_found (inputs_of m i) xss (guessed m order i) joined states of_joins of_grows s).1 (h.joined, h.guess, h.is_joined, h.of_guesses, refl) in
+              let (a, here, e) = answer_to h.question ((question_in m order ordered level i h.question).0 h.asked) in
+              let part : IsAmong h.part a.parts.items = ((parts_of_answer a here).exactly h.part).1 (subst (λ (z : ℕ). IsAcceptedPart m i z h.part) e h.accepted) in
+              let row : Row = row_with m i s (marks_at m i s a.active) h.part in
+              let is : row ≡ r = same_row row r (sym of_i.mask) h.state_is (ap (marks_at m i s) (sym e) ∙ h.marks_is) in
+              subst (λ (q : Row). IsAmong q made) is
+              (among_flat_map (λ s. flat_map (rows_with m i level sets s) answers) s row states state
+              (among_flat_map (rows_with m i level sets s) a row answers here (answer_with m level i sets s a h.part (subst (λ (z : ℕ). size (marks_at m i s z) ≤ level) e h.near) (subst (λ (z : ℕ). Within (marks_at m i s z) (allowed_marks m)) e h.allowed) (subst (λ (z : ℕ). ¬ HasOneWithin sets z) (sym h.marks_is ∙ ap (marks_at m i s) e) none) part h.agree)))
 
-    -- there is a table of them
+    -- there is a table of all of them
     local_table : (t : TableData) × IsLocalTable m level i t
-    local_table = let (ys, l) = listed_in_order (local_of m i) (IsRowOf m level i) (λ r h. h.mask) (made, λ r. (made_are_local r, local_are_made r)) in
+    local_table = let (ys, l) = listed_in_order (local_of m i) (IsRowOf m level i) (λ r h. h.mask) (made [], λ r. (λ h. (made_are_local [] r h).0, λ h. local_are_made [] r h (one_within-none r.marks))) in
         (record { scope = local_of m i; rows = ys }, record { scope = refl; rows = l })
 
-    -- where some of them cover all, their minimal ones are those of all
-    pub made_minimal : (u : TableData) (rows : List Row) → Covers (λ r. IsAmong r rows) (λ r. IsAmong r made) → u.scope ≡ local_of m i → IsListing (IsMinimalRow (λ r. IsAmong r rows)) RowBefore u.rows → IsMinimalTable m level i u
-    made_minimal u rows covers scope listing =
+    -- where some of those that hold none of the known sets cover all of these, their minimal ones are those of all of these
+    pub made_minimal : (known : List ℕ) (u : TableData) (rows : List Row) → Covers (λ r. IsAmong r rows) (λ r. IsAmong r (made known)) → u.scope ≡ local_of m i → IsListing (IsMinimalRow (λ r. IsAmong r rows)) RowBefore u.rows → IsMinimalTable m level i known u
+    made_minimal known u rows covers scope listing =
         let (t, local) = local_table in
-        let all : Covers (λ r. IsAmong r rows) (λ r. IsAmong r t.rows) = record {
-          from = λ r h. (local.rows.exactly r).1 (made_are_local r (covers.from r h));
-          below = λ r h. covers.below r (local_are_made r ((local.rows.exactly r).0 h));
+        let (ys, l) = listed_in_order (local_of m i) (λ r. IsRowOf m level i r × (¬ HasOneWithin known r.marks)) (λ r h. h.0.mask) (made known, λ r. (made_are_local known r, λ h. local_are_made known r h.0 h.1)) in
+        let left : TableData = record { scope = local_of m i; rows = ys } in
+        let all : Covers (λ r. IsAmong r rows) (λ r. IsAmong r ys) = record {
+          from = λ r h. (l.exactly r).1 (made_are_local known r (covers.from r h));
+          below = λ r h. let (one, none) = (l.exactly r).0 h in covers.below r (local_are_made known r one none);
         } in record {
           all = t;
           local = local;
-          minimal = record { scope = scope ∙ sym local.scope; rows = IsListing-same RowBefore (IsMinimalRow (λ r. IsAmong r rows)) (IsMinimalRow (λ r. IsAmong r t.rows)) u.rows (covers_same (λ r. IsAmong r rows) (λ r. IsAmong r t.rows) all) listing };
+          left = left;
+          without = record {
+            scope = sym local.scope;
+            rows = IsListing-same RowBefore (λ r. IsRowOf m level i r × (¬ HasOneWithin known r.marks)) (λ r. IsAmong r t.rows × (¬ HasOneWithin known r.marks)) ys
+                (λ r. (λ h. ((local.rows.exactly r).1 h.0, h.1), λ h. ((local.rows.exactly r).0 h.0, h.1))) l;
+          };
+          minimal = record { scope = scope; rows = IsListing-same RowBefore (IsMinimalRow (λ r. IsAmong r rows)) (IsMinimalRow (λ r. IsAmong r ys)) u.rows (covers_same (λ r. IsAmong r rows) (λ r. IsAmong r ys) all) listing };
         }
 
     -- those of the answers to what a pair makes of the rules that apply are those with its marks
     module _ (pair : ℕ) (known : Within pair (allowed_marks m)) (few : size pair ≤ level) where
-      changed_of : (r : Row) → ((s : ℕ) × IsAmong s states × IsChangedRow m i pair answers s r) ↔ (IsAmong r made × HasMarksOf m i pair r)
+      changed_of : (r : Row) → ((s : ℕ) × IsAmong s states × IsChangedRow m i pair answers s r) ↔ (IsAmong r (made []) × HasMarksOf m i pair r)
       changed_of r = (to, from)
         where
-          to : (s : ℕ) × IsAmong s states × IsChangedRow m i pair answers s r → IsAmong r made × HasMarksOf m i pair r
+          to : (s : ℕ) × IsAmong s states × IsChangedRow m i pair answers s r → IsAmong r (made []) × HasMarksOf m i pair r
           to (s, state, c) =
               let a : Answer = c.answer in
               let (order', ordered', question) = asked_of a c.among in
@@ -222,15 +255,15 @@ module _ (m : System) (level i : ℕ) (answers : List Answer) (answered : AreAns
               let has = (marks_tell m i pair s a.active question.of_rules r (ap (λ (q : Row). common q.state.values (inputs_of m i)) e ∙ seen_inputs m i s τ same) marks).1 c.active in
               let inside : Within (marks_at m i s a.active) pair = subst (λ (z : ℕ). Within z pair) marks (marks_inside m i pair r has) in
               let less = size_within (marks_at m i s a.active) pair inside in (
-                subst (λ (q : Row). IsAmong q made) (sym e) (among_flat_map (λ s. flat_map (rows_with m i level s) answers) s _ states state (among_flat_map (rows_with m i level s) a _ answers c.among (answer_with m level i s a τ (omega arith) (λ k h. known k (inside k h)) part same))),
+                subst (λ (q : Row). IsAmong q (made [])) (sym e) (among_flat_map (λ s. flat_map (rows_with m i level [] s) answers) s _ states state (among_flat_map (rows_with m i level [] s) a _ answers c.among (answer_with m level i [] s a τ (omega arith) (λ k h. known k (inside k h)) (one_within-none (marks_at m i s a.active)) part same))),
                 has,
               )
 
-          from : IsAmong r made × HasMarksOf m i pair r → (s : ℕ) × IsAmong s states × IsChangedRow m i pair answers s r
+          from : IsAmong r (made []) × HasMarksOf m i pair r → (s : ℕ) × IsAmong s states × IsChangedRow m i pair answers s r
           from (among, has) =
-              let (s, state, there) = flat_map_among (λ s. flat_map (rows_with m i level s) answers) r states among in
-              let (a, here, there') = flat_map_among (rows_with m i level s) r answers there in
-              let (near, allowed, (τ, part, same, e)) = with_answer m level i s a r there' in
+              let (s, state, there) = flat_map_among (λ s. flat_map (rows_with m i level [] s) answers) r states among in
+              let (a, here, there') = flat_map_among (rows_with m i level [] s) r answers there in
+              let (near, allowed, none, (τ, part, same, e)) = with_answer m level i [] s a r there' in
               let (order', ordered', question) = asked_of a here in
               let marks : r.marks ≡ marks_at m i s a.active = ap (λ (q : Row). q.marks) e in
               let acting = (marks_tell m i pair s a.active question.of_rules r (ap (λ (q : Row). common q.state.values (inputs_of m i)) e ∙ seen_inputs m i s τ same) marks).0 has in (
@@ -252,8 +285,8 @@ module _ (m : System) (level i : ℕ) (answers : List Answer) (answered : AreAns
             changed = record {
               table = table;
               rows = IsListing-same RowBefore (λ r. IsAmong r rows) (λ r. IsAmong r t.rows × HasMarksOf m i pair r) u.rows (λ r. (
-                λ h. let (among, has) = (changed_of r).0 ((are r).0 h) in ((local.rows.exactly r).1 (made_are_local r among), has),
-                λ h. (are r).1 ((changed_of r).1 (local_are_made r ((local.rows.exactly r).0 h.0), h.1)),
+                λ h. let (among, has) = (changed_of r).0 ((are r).0 h) in ((local.rows.exactly r).1 (made_are_local [] r among).0, has),
+                λ h. (are r).1 ((changed_of r).1 (local_are_made [] r ((local.rows.exactly r).0 h.0) (one_within-none r.marks), h.1)),
               )) listing;
             };
           }
@@ -270,17 +303,17 @@ no_marks m i s = ap (λ z. marks_of m z z) (same_set (minus a a) 0 (λ k. let e 
     at k true u = rw (has-empty (k / 2)) (and-false u)
     at k false u = rw (has-empty (k / 2)) (and-false u)
 
-pub settled_covers : (m : System) (i level s : ℕ) (answers : List Answer) (a : Answer) → IsSettled m i s answers a → (rows : List Row) → rows ≡ map (row_with m i s 0) (filter (agrees m i s) a.parts.items) → Covers (λ r. IsAmong r rows) (λ r. IsAmong r (rows_of m i level answers s))
-settled_covers m i level s answers a settled rows is = subst (λ (z : List Row). Covers (λ r. IsAmong r z) (λ r. IsAmong r (rows_of m i level answers s))) (sym is) (record {
+pub settled_covers : (m : System) (i level : ℕ) (known : List ℕ) (s : ℕ) → ¬ HasOneWithin known 0 → (answers : List Answer) (a : Answer) → IsSettled m i s answers a → (rows : List Row) → rows ≡ map (row_with m i s 0) (filter (agrees m i s) a.parts.items) → Covers (λ r. IsAmong r rows) (λ r. IsAmong r (rows_of m i level known answers s))
+settled_covers m i level known s unknown answers a settled rows is = subst (λ (z : List Row). Covers (λ r. IsAmong r z) (λ r. IsAmong r (rows_of m i level known answers s))) (sym is) (record {
   from = λ r h.
       let (τ, there, e) = map_among (row_with m i s 0) r (filter (agrees m i s) a.parts.items) h in
       let (part, test) = filter_among (agrees m i s) τ a.parts.items there in
       let same : common τ (inputs_of m i) ≡ common s (variables_of m i) = grind (arith, nat_tests) in
-      let row = answer_with m level i s a τ (subst (λ (z : ℕ). size z ≤ level) (sym none) (omega (arith, size-none))) (λ k h'. absurd (true≢false (sym (ap (λ (z : ℕ). has z k) (sym none) ∙ h') ∙ has-empty k))) part same in
-      among_flat_map (rows_with m i level s) a r answers settled.among (subst (λ (q : Row). IsAmong q (rows_with m i level s a)) (ap (λ (z : ℕ). row_with m i s z τ) none ∙ sym e) row);
+      let row = answer_with m level i known s a τ (subst (λ (z : ℕ). size z ≤ level) (sym none) (omega (arith, size-none))) (λ k h'. absurd (true≢false (sym (ap (λ (z : ℕ). has z k) (sym none) ∙ h') ∙ has-empty k))) (subst (λ (z : ℕ). ¬ HasOneWithin known z) (sym none) unknown) part same in
+      among_flat_map (rows_with m i level known s) a r answers settled.among (subst (λ (q : Row). IsAmong q (rows_with m i level known s a)) (ap (λ (z : ℕ). row_with m i s z τ) none ∙ sym e) row);
   below = λ r h.
-      let (b, here, there) = flat_map_among (rows_with m i level s) r answers h in
-      let (few, allowed, (τ, part, same, e)) = with_answer m level i s b r there in
+      let (b, here, there) = flat_map_among (rows_with m i level known s) r answers h in
+      let (few, allowed, new, (τ, part, same, e)) = with_answer m level i known s b r there in
       let agree : agrees m i s τ ≡ true = grind (arith, nat_tests) in (
         row_with m i s 0 τ,
         among_map (row_with m i s 0) τ (filter (agrees m i s) a.parts.items) (among_filter (agrees m i s) τ a.parts.items (settled.all b τ here part agree) agree),
@@ -292,20 +325,30 @@ settled_covers m i level s answers a settled rows is = subst (λ (z : List Row).
     none : marks_at m i s a.active ≡ 0
     none = ap (marks_at m i s) settled.active ∙ no_marks m i s
 
+-- where no marks at all hold a known set, each row does
+pub none_covers : (m : System) (i level : ℕ) (known : List ℕ) (s : ℕ) (answers : List Answer) → HasOneWithin known 0 → (rows : List Row) → rows ≡ [] → Covers (λ r. IsAmong r rows) (λ r. IsAmong r (rows_of m i level known answers s))
+none_covers m i level known s answers held rows is = subst (λ (z : List Row). Covers (λ r. IsAmong r z) (λ r. IsAmong r (rows_of m i level known answers s))) (sym is) (record {
+  from = λ r h. absurd h;
+  below = λ r h.
+      let (b, here, there) = flat_map_among (rows_with m i level known s) r answers h in
+      let (few, allowed, none, one) = with_answer m level i known s b r there in
+      absurd (none (record { inner = held.inner; among = held.among; within = λ k h'. absurd (true≢false (sym (held.within k h') ∙ has-empty k)) }));
+})
+
 -- ---- each row is on the local variables
-state_on : (m : System) (i level s : ℕ) (answers : List Answer) (r : Row) → IsAmong r (rows_of m i level answers s) → r.state.mask ≡ local_of m i
-state_on m i level s answers r among =
-    let (a, here, there) = flat_map_among (rows_with m i level s) r answers among in
-    let (few, allowed, (τ, part, same, e)) = with_answer m level i s a r there in
+state_on : (m : System) (i level : ℕ) (known : List ℕ) (s : ℕ) (answers : List Answer) (r : Row) → IsAmong r (rows_of m i level known answers s) → r.state.mask ≡ local_of m i
+state_on m i level known s answers r among =
+    let (a, here, there) = flat_map_among (rows_with m i level known s) r answers among in
+    let (few, allowed, none, (τ, part, same, e)) = with_answer m level i known s a r there in
     ap (λ (q : Row). q.state.mask) e
 
-pub rows_on : (m : System) (i level s : ℕ) (answers : List Answer) (scope : ℕ) (rows : List Row) → scope ≡ local_of m i → rows ≡ rows_of m i level answers s → AllByRecursion (λ (r : Row). r.state.mask ≡ scope) rows
-rows_on m i level s answers scope rows is rows_are = all_from_among (λ (r : Row). r.state.mask ≡ scope) rows (λ r among. state_on m i level s answers r (subst (IsAmong r) rows_are among) ∙ sym is)
+pub rows_on : (m : System) (i level : ℕ) (known : List ℕ) (s : ℕ) (answers : List Answer) (scope : ℕ) (rows : List Row) → scope ≡ local_of m i → rows ≡ rows_of m i level known answers s → AllByRecursion (λ (r : Row). r.state.mask ≡ scope) rows
+rows_on m i level known s answers scope rows is rows_are = all_from_among (λ (r : Row). r.state.mask ≡ scope) rows (λ r among. state_on m i level known s answers r (subst (IsAmong r) rows_are among) ∙ sym is)
 
-pub covering_on : (m : System) (i level : ℕ) (answers : List Answer) (states : List ℕ) (scope : ℕ) (rows : List Row) → scope ≡ local_of m i → Covers (λ r. IsAmong r rows) (λ r. IsAmong r (flat_map (rows_of m i level answers) states)) → AllByRecursion (λ (r : Row). r.state.mask ≡ scope) rows
-covering_on m i level answers states scope rows is covers = all_from_among (λ (r : Row). r.state.mask ≡ scope) rows (λ r among.
-    let (s, state, there) = flat_map_among (rows_of m i level answers) r states (covers.from r among) in
-    state_on m i level s answers r there ∙ sym is)
+pub covering_on : (m : System) (i level : ℕ) (known : List ℕ) (answers : List Answer) (states : List ℕ) (scope : ℕ) (rows : List Row) → scope ≡ local_of m i → Covers (λ r. IsAmong r rows) (λ r. IsAmong r (flat_map (rows_of m i level known answers) states)) → AllByRecursion (λ (r : Row). r.state.mask ≡ scope) rows
+covering_on m i level known answers states scope rows is covers = all_from_among (λ (r : Row). r.state.mask ≡ scope) rows (λ r among.
+    let (s, state, there) = flat_map_among (rows_of m i level known answers) r states (covers.from r among) in
+    state_on m i level known s answers r there ∙ sym is)
 
 pub changed_on : (m : System) (i pair : ℕ) (answers : List Answer) (states : List ℕ) (scope : ℕ) (rows : List Row) → scope ≡ local_of m i → ((r : Row) → IsAmong r rows ↔ ((s : ℕ) × IsAmong s states × IsChangedRow m i pair answers s r)) → AllByRecursion (λ (r : Row). r.state.mask ≡ scope) rows
 changed_on m i pair answers states scope rows is are = all_from_among (λ (r : Row). r.state.mask ≡ scope) rows (λ r among.
@@ -324,10 +367,10 @@ parts_possible m level i answers possible answered listing a τ here part =
     (listing.exactly τ).1 (order, ordered, (a.active, question, ((parts_of_answer m level i answers answered a here).exactly τ).0 part))
 
 -- ---- state after state
-pub covers_more : (m : System) (i level : ℕ) (answers : List Answer) (states : List ℕ) (k s : ℕ) → k < length states → s ≡ get_or states k s → (old some new : List Row) → Covers (λ r. IsAmong r old) (λ r. IsAmong r (flat_map (rows_of m i level answers) (take k states))) → Covers (λ r. IsAmong r some) (λ r. IsAmong r (rows_of m i level answers s)) → new ≡ old ++ some
-    → Covers (λ r. IsAmong r new) (λ r. IsAmong r (flat_map (rows_of m i level answers) (take (k + 1) states)))
-covers_more m i level answers states k s less here old some new so_far step is =
-    let F = rows_of m i level answers in
+pub covers_more : (m : System) (i level : ℕ) (known : List ℕ) (answers : List Answer) (states : List ℕ) (k s : ℕ) → k < length states → s ≡ get_or states k s → (old some new : List Row) → Covers (λ r. IsAmong r old) (λ r. IsAmong r (flat_map (rows_of m i level known answers) (take k states))) → Covers (λ r. IsAmong r some) (λ r. IsAmong r (rows_of m i level known answers s)) → new ≡ old ++ some
+    → Covers (λ r. IsAmong r new) (λ r. IsAmong r (flat_map (rows_of m i level known answers) (take (k + 1) states)))
+covers_more m i level known answers states k s less here old some new so_far step is =
+    let F = rows_of m i level known answers in
     let whole : flat_map F (take (k + 1) states) ≡ flat_map F (take k states) ++ F s = ap (flat_map F) (take_read states k s less here) ∙ (flat_map-append F (take k states) (s ∷ []) ∙ ap (λ (rows : List Row). flat_map F (take k states) ++ rows) (append-nil (F s))) in
     subst (λ (rows : List Row). Covers (λ r. IsAmong r rows) (λ r. IsAmong r (flat_map F (take (k + 1) states)))) (sym is)
     (subst (λ (rows : List Row). Covers (λ r. IsAmong r (old ++ some)) (λ r. IsAmong r rows)) (sym whole) (covers_append old (flat_map F (take k states)) some (F s) so_far step))

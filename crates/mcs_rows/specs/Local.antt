@@ -9,6 +9,7 @@ use Rattle.mcs_system.specs.Rows.{local_of}
 use Rattle.mcs_system.specs.Levels.{IsQuestionAt, IsLocalRow}
 use Rattle.mcs_table.specs.RowOrder.{RowBefore}
 use Rattle.mcs_table.specs.Tables.{TableData, IsMinimalOf}
+use Rattle.mcs_table.specs.Without.{IsWithout}
 use Rattle.mcs_table.specs.declared.row.Row.{Row}
 
 -- what was asked, and the parts that were accepted with it
@@ -36,14 +37,18 @@ pub record AreLocalTables (m : System) (level : ℕ) (tables : List TableData) :
   pub one_each : length tables ≡ length m.contexts
   pub local : (i : ℕ) (t : TableData) → slice_get tables i ≡ Some t → IsLocalTable m level i t
 
--- u has, for each state, the minimal ones of the local rows of context i at the level
-pub record IsMinimalTable (m : System) (level i : ℕ) (u : TableData) : Type 0 where
+-- u has, for each state, the minimal ones of those local rows of context i at the level within whose marks none of the known sets lies
+pub record IsMinimalTable (m : System) (level i : ℕ) (known : List ℕ) (u : TableData) : Type 0 where
   pub all : TableData
   pub local : IsLocalTable m level i all
-  pub minimal : IsMinimalOf all u
+  pub left : TableData
+  pub without : IsWithout known all left
+  pub minimal : IsMinimalOf left u
 
 -- so it is of each context, in order
-pub record AreMinimalTables (m : System) (level : ℕ) (tables : List TableData) : Type 0 where
+pub record AreMinimalTables (m : System) (level : ℕ) (known : List ℕ) (tables : List TableData) : Type 0 where
   pub all : List TableData
   pub local : AreLocalTables m level all
-  pub minimal : AllZip IsMinimalOf all tables
+  pub left : List TableData
+  pub without : AllZip (IsWithout known) all left
+  pub minimal : AllZip IsMinimalOf left tables

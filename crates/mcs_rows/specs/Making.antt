@@ -1,7 +1,8 @@
 -- Rows of a context, as they are made of a state at its inputs and of an answer.
-use Rattle.std.specs.Prelude.{◌≡◌, ℕ, Bool, true, ◌&&◌, List, [], cond, map, filter, nat_eq, nat_le}
-use Rattle.std.specs.List.{flat_map}
+use Rattle.std.specs.Prelude.{◌≡◌, ℕ, Bool, true, ◌&&◌, not, List, [], cond, map, filter, nat_eq, nat_le}
+use Rattle.std.specs.List.{flat_map, list_any}
 use Rattle.mcs_sets.specs.Sets.{common, union, size}
+use Rattle.mcs_base.specs.Antichains.{lies_within}
 use Rattle.mcs_base.specs.Listings.{IsAmong}
 use Rattle.mcs_system.specs.Imports.{marks_at, rules_into}
 use Rattle.mcs_system.specs.Plain.{System}
@@ -20,17 +21,21 @@ agrees m i state part = nat_eq (common part (inputs_of m i)) (common state (vari
 abbrev pub row_with : System → ℕ → ℕ → ℕ → ℕ → Row
 row_with m i state marks part = record { state = record { mask = local_of m i; values = common (union part state) (local_of m i) }; marks = marks }
 
--- whether few changes, each of them allowed, make x of the rules into i that apply in the state
-abbrev pub is_in_reach : System → ℕ → ℕ → ℕ → ℕ → Bool
-is_in_reach m i level state x = nat_le (size (marks_at m i state x)) level && nat_eq (common (marks_at m i state x) (allowed_marks m)) (marks_at m i state x)
+-- whether one of the sets lies within the marks
+abbrev pub holds_some : List ℕ → ℕ → Bool
+holds_some sets marks = list_any (λ s. lies_within s marks) sets
+
+-- whether few changes, each of them allowed, make x of the rules into i that apply in the state, and hold none of the known sets
+abbrev pub is_in_reach : System → ℕ → ℕ → List ℕ → ℕ → ℕ → Bool
+is_in_reach m i level known state x = (nat_le (size (marks_at m i state x)) level && nat_eq (common (marks_at m i state x) (allowed_marks m)) (marks_at m i state x)) && not (holds_some known (marks_at m i state x))
 
 -- the rows of the state with an answer: none where what was asked is not in reach of what applies
-abbrev pub rows_with : System → ℕ → ℕ → ℕ → code.Answer → List Row
-rows_with m i level state a = cond (is_in_reach m i level state a.active) (map (row_with m i state (marks_at m i state a.active)) (filter (agrees m i state) a.parts.items)) []
+abbrev pub rows_with : System → ℕ → ℕ → List ℕ → ℕ → code.Answer → List Row
+rows_with m i level known state a = cond (is_in_reach m i level known state a.active) (map (row_with m i state (marks_at m i state a.active)) (filter (agrees m i state) a.parts.items)) []
 
 -- the rows of the state with all of the answers
-abbrev pub rows_of : System → ℕ → ℕ → List code.Answer → ℕ → List Row
-rows_of m i level answers state = flat_map (rows_with m i level state) answers
+abbrev pub rows_of : System → ℕ → ℕ → List ℕ → List code.Answer → ℕ → List Row
+rows_of m i level known answers state = flat_map (rows_with m i level known state) answers
 
 -- a is the answer to the rules that apply in the state, and has each part of the others that agrees with it: so no change is of use there
 pub record IsSettled (m : System) (i state : ℕ) (answers : List code.Answer) (a : code.Answer) : Type 0 where

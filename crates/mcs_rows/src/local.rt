@@ -1,8 +1,9 @@
 //! Rows of one state at the inputs of a context.
 
-ghost use Rattle.std.specs.Prelude.{◌≡◌, ◌<◌, ◌++◌, map, filter, length, IfOk};
+ghost use Rattle.std.specs.Prelude.{◌≡◌, ◌<◌, ◌↔◌, ◌++◌, ℕ, map, filter, length, IfOk, IsTrue};
 ghost use Rattle.std.specs.List.{AllByRecursion, flat_map};
-ghost use Rattle.mcs_sets.specs.Sets.{common, Within};
+ghost use Rattle.mcs_base.specs.Antichains.{HasOneWithin};
+ghost use Rattle.mcs_sets.specs.Sets.{common, Meets, Within};
 ghost use Rattle.mcs_system.specs.Imports.{rules_into};
 ghost use Rattle.mcs_system.specs.Repairs.{allowed_marks};
 ghost use Rattle.mcs_system.specs.Systems.{applicable};
@@ -13,7 +14,7 @@ use crate::answer::Answer;
 use crate::marks::marks_of;
 use mcs_base::{Active, Marks, Memory, Partial, Vars};
 use mcs_system::System;
-use mcs_table::Row;
+use mcs_table::{Row, holds_one};
 
 /// The row with these marks that says of the local variables which of them are true.
 fn row(local: Vars, values: Vars, marks: Marks) -> Row
@@ -50,15 +51,39 @@ pub(crate) fn add_parts(
     Ok(())
 }
 
-/// Which marks a row may have, and how many.
+/// Which marks a row may have, and how many, and the sets of marks of which it is to hold none.
 #[derive(Drop)]
-pub(crate) struct Reach {
+pub(crate) struct Reach<'a> {
     pub allowed: Marks,
     pub level: u32,
+    pub known: &'a [Marks],
+    // Marks that are such a set each by itself.
+    pub alone: Marks,
+}
+
+/// The marks that are one of the sets each by itself.
+pub(crate) fn alone_in(sets: &[Marks]) -> Marks
+    ensures { (s : ℕ) → Meets s result → HasOneWithin sets.now s }
+{
+    let mut alone = Marks::empty();
+    for set in sets {
+        if set.count() == 1 {
+            alone = alone.union(*set);
+        }
+    }
+    alone
+}
+
+/// Whether the marks hold one of the known sets.
+pub(crate) fn hold_known(marks: Marks, reach: &Reach) -> bool
+    requires alone { (s : ℕ) → Meets s reach.now.alone → HasOneWithin reach.now.known.now s }
+    ensures { IsTrue result ↔ HasOneWithin reach.now.known.now marks }
+{
+    marks.meets(reach.alone) || holds_one(marks, reach.known)
 }
 
 /// Adds the rows of context `i` of the state at its inputs with the answer, where few changes, each of them
-/// allowed, make what was asked of the rules that apply in the state.
+/// allowed, make what was asked of the rules that apply in the state, and hold no known set.
 fn add_answer(
     rows: &mut Vec<Row>,
     system: &System,
@@ -72,7 +97,8 @@ fn add_answer(
     requires applying { applying ≡ common (applicable system.now state) (rules_into system.now i) }
     requires of_rules { Within answer.now.active (rules_into system.now i) }
     requires allowed { reach.now.allowed ≡ allowed_marks system.now }
-    ensures { IfOk result (λ _. rows.new.items ≡ rows.old.items ++ rows_with system.now i reach.now.level state answer.now) }
+    requires alone { (s : ℕ) → Meets s reach.now.alone → HasOneWithin reach.now.known.now s }
+    ensures { IfOk result (λ _. rows.new.items ≡ rows.old.items ++ rows_with system.now i reach.now.level reach.now.known.now state answer.now) }
 {
     let removed = applying.minus(answer.active);
     let forced = answer.active.minus(applying);
@@ -83,10 +109,14 @@ fn add_answer(
     if !marks.within(reach.allowed) {
         return Ok(());
     }
+    if hold_known(marks, reach) {
+        return Ok(());
+    }
     add_parts(rows, system, i, state, marks, &answer.parts)
 }
 
-/// Adds the rows of context `i` of the state at its inputs with each of the answers.
+/// Adds the rows of context `i` of the state at its inputs with each of the answers, without those that hold a known
+/// set.
 pub(crate) fn add_answers(
     rows: &mut Vec<Row>,
     system: &System,
@@ -98,8 +128,9 @@ pub(crate) fn add_answers(
     requires in_range { i < length system.now.contexts }
     requires of_rules { AllByRecursion (λ (a : declared.Answer). Within a.active (rules_into system.now i)) answers.now }
     requires allowed { reach.now.allowed ≡ allowed_marks system.now }
+    requires alone { (s : ℕ) → Meets s reach.now.alone → HasOneWithin reach.now.known.now s }
     ensures { IfOk result (λ _. rows.new.items
-        ≡ rows.old.items ++ flat_map (rows_with system.now i reach.now.level state) answers.now) }
+        ≡ rows.old.items ++ flat_map (rows_with system.now i reach.now.level reach.now.known.now state) answers.now) }
 {
     let applying = system.applicable(i, state);
     for answer in answers {

@@ -3,7 +3,8 @@
 ghost use Rattle.std.specs.Prelude.{◌≡◌, ◌<◌, ℕ, List, map, filter, length, true, IfOk, IfSome, IsTrue};
 ghost use Rattle.std.specs.List.{AllByRecursion, flat_map};
 ghost use Rattle.mcs_base.specs.Listings.{IsAmong};
-ghost use Rattle.mcs_sets.specs.Sets.{Within};
+ghost use Rattle.mcs_base.specs.Antichains.{HasOneWithin};
+ghost use Rattle.mcs_sets.specs.Sets.{Meets, Within};
 ghost use Rattle.mcs_system.specs.Imports.{IsImportOrder, supplied, rules_into};
 ghost use Rattle.mcs_system.specs.Repairs.{allowed_marks};
 ghost use Rattle.mcs_import.specs.Plans.{AreSupplies};
@@ -16,7 +17,7 @@ ghost use Rattle.mcs_rows.specs.declared.answer.Answer as declared;
 
 use crate::answer::Answer;
 use crate::finding::answer_to;
-use crate::local::{Reach, add_answers, add_parts};
+use crate::local::{Reach, add_answers, add_parts, alone_in, hold_known};
 use crate::states::input_states;
 use crate::supply;
 use mcs_base::{Marks, Memory, Vars};
@@ -85,7 +86,8 @@ fn unmarked_rows(
     Ok(all)
 }
 
-/// The minimal ones of the rows of context `i` of the state at its inputs with the answers.
+/// The minimal ones of the rows of context `i` of the state at its inputs with the answers, without those that hold a
+/// known set.
 fn marked_rows(
     alloc: Global,
     system: &System,
@@ -97,7 +99,8 @@ fn marked_rows(
     requires in_range { i < length system.now.contexts }
     requires of_rules { AllByRecursion (λ (a : declared.Answer). Within a.active (rules_into system.now i)) answers.now }
     requires allowed { reach.now.allowed ≡ allowed_marks system.now }
-    ensures { IfOk result (λ t. Covers (λ r. IsAmong r t.rows) (λ r. IsAmong r (rows_of system.now i reach.now.level answers.now state))) }
+    requires alone { (s : ℕ) → Meets s reach.now.alone → HasOneWithin reach.now.known.now s }
+    ensures { IfOk result (λ t. Covers (λ r. IsAmong r t.rows) (λ r. IsAmong r (rows_of system.now i reach.now.level reach.now.known.now answers.now state))) }
 {
     let mut all = Vec::new(alloc);
     add_answers(&mut all, system, i, state, answers, reach)?;
@@ -105,7 +108,7 @@ fn marked_rows(
 }
 
 /// Rows of context `i` of the state at its inputs with the answers: for each row of the state and one of the answers
-/// one with marks within its marks.
+/// one with marks within its marks, without those that hold a known set.
 fn rows_at(
     alloc: Global,
     system: &System,
@@ -120,8 +123,12 @@ fn rows_at(
     requires of_rules { AllByRecursion (λ (a : declared.Answer). Within a.active (rules_into system.now i)) answers.now }
     requires possible { (a : declared.Answer) (τ : ℕ) → IsAmong a answers.now → IsAmong τ a.parts.items → IsAmong τ possible.now }
     requires allowed { reach.now.allowed ≡ allowed_marks system.now }
-    ensures { IfOk result (λ all. Covers (λ r. IsAmong r all.items) (λ r. IsAmong r (rows_of system.now i reach.now.level answers.now state))) }
+    requires alone { (s : ℕ) → Meets s reach.now.alone → HasOneWithin reach.now.known.now s }
+    ensures { IfOk result (λ all. Covers (λ r. IsAmong r all.items) (λ r. IsAmong r (rows_of system.now i reach.now.level reach.now.known.now answers.now state))) }
 {
+    if hold_known(Marks::empty(), reach) {
+        return Ok(Vec::new(alloc));
+    }
     if let Some(answer) = settled_by(system, i, state, answers, possible) {
         return unmarked_rows(alloc, system, i, state, &answer.parts);
     }
@@ -138,16 +145,19 @@ fn rows_in(
     answers: &[Answer],
     possible: &[Vars],
     level: u32,
+    known: &[Marks],
 ) -> Result<Vec<Row>, Memory>
     requires in_range { i < length system.now.contexts }
     requires in_order { AreInOrder answers.now }
     requires of_rules { AllByRecursion (λ (a : declared.Answer). Within a.active (rules_into system.now i)) answers.now }
     requires possible { (a : declared.Answer) (τ : ℕ) → IsAmong a answers.now → IsAmong τ a.parts.items → IsAmong τ possible.now }
-    ensures { IfOk result (λ all. Covers (λ r. IsAmong r all.items) (λ r. IsAmong r (flat_map (rows_of system.now i level answers.now) states.now))) }
+    ensures { IfOk result (λ all. Covers (λ r. IsAmong r all.items) (λ r. IsAmong r (flat_map (rows_of system.now i level known.now answers.now) states.now))) }
 {
     let reach = Reach {
         allowed: system.allowed(),
         level,
+        known,
+        alone: alone_in(known),
     };
     let mut all = Vec::new(alloc);
     for state in states {
@@ -159,8 +169,9 @@ fn rows_in(
 
 /// The minimal ones of the local rows of context `i` of the plan's system at the level, as a table on its local
 /// variables: for each state what it accepts on these with marks that this takes, which are allowed and at most
-/// `level`, without the rows that hold the marks of another one of their state. The other rows are not made, as far as
-/// a state at the inputs needs no change, and no more than those of one such state are held at once. `supplies` are what
+/// `level`, without the rows whose marks hold one of the known sets, and without those that hold the marks of another
+/// one of their state. Rows that hold a known set are not made, nor are the others, as far as a state at the inputs needs
+/// no change; no more than those of one such state are held at once. `supplies` are what
 /// the contexts of `plan.supplied(i)` may supply at this level, in this order, each list in the order of states;
 /// `answers` are those of `i` to all its questions of the level, ascending by the numbers that stand for them.
 pub fn minimal_rows(
@@ -170,16 +181,17 @@ pub fn minimal_rows(
     supplies: &[Vec<Vars>],
     answers: &[Answer],
     level: u32,
+    known: &[Marks],
 ) -> Result<Table, Memory>
     requires in_range { i < length plan.now.contexts }
     requires supplied { (order : List ℕ) → IsImportOrder plan.now order
         → AreSupplies plan.now level (supplied plan.now order i) (map (λ supply. supply.items) supplies.now) }
     requires answered { AreAnswered plan.now level i (map answered_of answers.now) }
-    ensures { IfOk result (IsMinimalTable plan.now level i) }
+    ensures { IfOk result (IsMinimalTable plan.now level i known.now) }
 {
     let system = plan.system();
     let states = input_states(alloc, plan, i, supplies)?;
     let possible = supply::supplies(alloc, answers)?;
-    let all = rows_in(alloc, system, i, &states, answers, &possible, level)?;
+    let all = rows_in(alloc, system, i, &states, answers, &possible, level, known)?;
     Ok(minimal_table(system.vars_of(i).union(system.inputs_of(i)), all))
 }

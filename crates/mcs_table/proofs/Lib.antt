@@ -15,3 +15,4 @@ pub mod ApartLemmas
 pub mod EliminationLemmas
 pub mod SemiLemmas
 pub mod PartLemmas
+pub mod WithoutLemmas

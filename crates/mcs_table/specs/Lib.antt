@@ -3,3 +3,4 @@ pub mod Tables
 pub mod Partners
 pub mod Joins
 pub mod Elimination
+pub mod Without

@@ -5,6 +5,7 @@
 mod fitting;
 mod forgetting;
 mod joining;
+mod known;
 mod laws;
 mod minimal;
 mod partners;
@@ -15,6 +16,7 @@ mod table;
 pub use fitting::matching;
 pub use forgetting::forget;
 pub use joining::{are_apart, join, union_states, unions};
+pub use known::holds_one;
 pub use laws::{
     elimination_gives_minimal_rows, forgetting_commutes, forgetting_is_a_restriction,
     joins_are_minimal_unions,

@@ -4,7 +4,7 @@ use Rattle.mcs_base.specs.Listings.{IsAmong}
 use Rattle.mcs_base.proofs.Among.{among_at}
 use Rattle.mcs_base.proofs.Each.{all_among}
 use Rattle.mcs_table.specs.Tables.{TableData, IsTable}
-use Rattle.mcs_joint.specs.Without.{IsWithout}
+use Rattle.mcs_table.specs.Without.{IsWithout}
 use Rattle.mcs_joint.proofs.Keeping.{without_begin, without_apart, without_more, without_end}
 use Rattle.mcs_joint.proofs.repairs.eliminate.Goals as goal
 

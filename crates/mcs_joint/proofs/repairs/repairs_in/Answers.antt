@@ -1,9 +1,6 @@
-use Rattle.std.proofs.Common.{◌≡◌, ◌≤◌, ◌∙◌, ◌++◌, ap, sym, subst, length, min, map, take, ℕ, List}
+use Rattle.std.proofs.Common.{◌≡◌, ◌∙◌, ◌++◌, ap, sym, subst, length, min, map, ℕ, List}
 use Rattle.std.proofs.lemmas.List.{length-map}
 use Rattle.std.specs.List.{AllByRecursion}
-use Rattle.mcs_sets.specs.Sets.{size}
-use Rattle.mcs_base.specs.Minimal.{IsMinimal}
-use Rattle.mcs_base.proofs.Each.{all_take}
 use Rattle.mcs_system.specs.Faults.{IsValid}
 use Rattle.mcs_system.specs.Plain.{System}
 use Rattle.mcs_system.specs.Repairs.{IsDiagnosis}
@@ -14,11 +11,11 @@ use Rattle.mcs_table.specs.Elimination.{EliminatesTo}
 use Rattle.mcs_joint.specs.Apart.{EachApart}
 use Rattle.mcs_joint.proofs.Covering.{apart_few, few_are_tables}
 use Rattle.mcs_joint.proofs.Keeping.{known_listed}
-use Rattle.mcs_joint.proofs.Repaired.{minimal_apart, repairs_listed}
+use Rattle.mcs_joint.proofs.Repaired.{minimal_apart, repairs_told}
 use Rattle.mcs_joint.proofs.repairs.repairs_in.Goals as goal
 
 pub reduced-requires : goal.reduced-requires
-reduced-requires c = let (k, high, given) = c.requires.tables in apart_few c.min-most.result c.args.tables.now c.in_ok-few.few.items c.in_ok-few.ensures (minimal_apart c.args.plan.now k c.args.tables.now given)
+reduced-requires c = let (k, high, given) = c.requires.tables in apart_few c.min-most.result c.args.tables.now c.in_ok-few.few.items c.in_ok-few.ensures (minimal_apart c.args.plan.now k c.args.known.now c.args.tables.now given)
 
 pub eliminate-requires-clause-tables : goal.eliminate-requires-clause-tables
 eliminate-requires-clause-tables c = subst (AllByRecursion IsTable) (sym c.deref.ensures.value) (c.in_ok-fewer.ensures.tables (few_are_tables c.min-most.result c.args.tables.now c.in_ok-few.few.items c.in_ok-few.ensures))
@@ -30,14 +27,12 @@ pub returns : goal.returns
 returns c =
     let m = c.args.plan.now in
     let level = c.args.level in
-    let P = λ (p : ℕ). IsMinimal (IsDiagnosis m) p × (size p ≤ level) in
+    let sets = c.args.known.now in
     let (k, high, given) = c.requires.tables in
     let valid : IsValid m = subst IsValid c.system.ensures c.bridges.ensures.valid in
     let most : c.min-most.result ≡ min level (length m.bridges) = c.min-most.ensures ∙ ap (min level) (sym (length-map c.bridges.result.now bridge_of) ∙ ap length (c.bridges.ensures.value ∙ ap (λ (s : System). s.bridges) c.system.ensures)) in
     let (whole, eliminates, less) = c.in_ok-left.ensures in
     let whole_left = subst (λ ts. EliminatesTo c.min-most.result 0 ts whole) c.deref.ensures.value eliminates in
-    let all = repairs_listed m valid k level c.min-most.result most high c.args.tables.now c.in_ok-few.few.items c.in_ok-fewer.fewer.items given c.in_ok-few.ensures c.in_ok-fewer.ensures whole whole_left in
-    let sets = take c.min.result c.args.known.now in
-    let known : AllByRecursion P sets = all_take P c.min.result c.args.known.now c.requires.known in
+    let told = repairs_told m valid k level c.min-most.result most high sets c.args.tables.now c.in_ok-few.few.items c.in_ok-fewer.fewer.items given c.in_ok-few.ensures c.in_ok-fewer.ensures whole whole_left in
     let items : c.extend_from_slice.new.self.items ≡ map (λ (r : Row). r.marks) c.in_ok-left.left.rows ++ sets = c.in_ok-extend_from_slice.ensures.items ∙ ap (λ (xs : List ℕ). xs ++ sets) (c.in_ok-pairs.ensures ∙ ap (map (λ (r : Row). r.marks)) c.rows.ensures.value) in
-    known_listed (IsDiagnosis m) level sets whole c.in_ok-left.left c.list_pairs.new.pairs.items known less all (rw items at c.list_pairs.ensures)
+    known_listed (IsDiagnosis m) level sets whole c.in_ok-left.left c.list_pairs.new.pairs.items c.requires.known less told (rw items at c.list_pairs.ensures)

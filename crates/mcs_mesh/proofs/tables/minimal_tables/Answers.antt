@@ -22,4 +22,4 @@ minimal_rows-requires-clause-answered c =
     (c.requires.known c.loop-i.i _ (slice_get-map_at knowledge_of c.args.known.now c.loop-i.i c.index-known-i.result less)).answered
 
 pub loop-i-preserved : goal.loop-i-preserved
-loop-i-preserved c = minimal_more c.args.plan.now c.args.level c.loop-i.i c.loop-i.tables.items c.push.new.self.items c.in_ok-minimal_rows.field-0 c.loop-i.invariant c.in_ok-minimal_rows.ensures c.in_ok-push.ensures.items
+loop-i-preserved c = minimal_more c.args.plan.now c.args.level c.loop-i.i c.args.pairs.now c.loop-i.tables.items c.push.new.self.items c.in_ok-minimal_rows.field-0 c.loop-i.invariant c.in_ok-minimal_rows.ensures c.in_ok-push.ensures.items

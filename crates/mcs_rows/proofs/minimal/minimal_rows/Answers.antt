@@ -25,7 +25,7 @@ rows_in-requires-clause-possible c a τ here part =
 
 pub minimal_table-requires : goal.minimal_table-requires
 minimal_table-requires c =
-    covering_on c.system-system.result.now c.args.i c.args.level c.args.answers.now c.deref.result.now c.union.result c.in_ok-all.all.items
+    covering_on c.system-system.result.now c.args.i c.args.level c.args.known.now c.args.answers.now c.deref.result.now c.union.result c.in_ok-all.all.items
     (c.union.ensures ∙ ap (λ v. union v c.inputs_of.result) c.vars_of.ensures ∙ ap (union (variables_of c.system-system.result.now c.args.i)) c.inputs_of.ensures) c.in_ok-all.ensures
 
 pub returns : goal.returns
@@ -33,11 +33,11 @@ returns c =
     let (order, ordered) = import_order_exists c.args.plan.now in
     let (joined, of_joins, of_grows) = c.in_ok-states.ensures order ordered in
     let states = c.in_ok-states.states.items in
-    let of_system : Covers (λ r. IsAmong r c.in_ok-all.all.items) (λ r. IsAmong r (flat_map (rows_of c.args.plan.now c.args.i c.args.level c.args.answers.now) c.deref.result.now)) =
-    subst (λ (m : System). Covers (λ r. IsAmong r c.in_ok-all.all.items) (λ r. IsAmong r (flat_map (rows_of m c.args.i c.args.level c.args.answers.now) c.deref.result.now))) c.system-system.ensures c.in_ok-all.ensures in
-    let covers : Covers (λ r. IsAmong r c.in_ok-all.all.items) (λ r. IsAmong r (flat_map (rows_of c.args.plan.now c.args.i c.args.level c.args.answers.now) states)) =
-    subst (λ (xs : List ℕ). Covers (λ r. IsAmong r c.in_ok-all.all.items) (λ r. IsAmong r (flat_map (rows_of c.args.plan.now c.args.i c.args.level c.args.answers.now) xs))) c.deref.ensures.value of_system in
+    let of_system : Covers (λ r. IsAmong r c.in_ok-all.all.items) (λ r. IsAmong r (flat_map (rows_of c.args.plan.now c.args.i c.args.level c.args.known.now c.args.answers.now) c.deref.result.now)) =
+    subst (λ (m : System). Covers (λ r. IsAmong r c.in_ok-all.all.items) (λ r. IsAmong r (flat_map (rows_of m c.args.i c.args.level c.args.known.now c.args.answers.now) c.deref.result.now))) c.system-system.ensures c.in_ok-all.ensures in
+    let covers : Covers (λ r. IsAmong r c.in_ok-all.all.items) (λ r. IsAmong r (flat_map (rows_of c.args.plan.now c.args.i c.args.level c.args.known.now c.args.answers.now) states)) =
+    subst (λ (xs : List ℕ). Covers (λ r. IsAmong r c.in_ok-all.all.items) (λ r. IsAmong r (flat_map (rows_of c.args.plan.now c.args.i c.args.level c.args.known.now c.args.answers.now) xs))) c.deref.ensures.value of_system in
     made_minimal c.args.plan.now c.args.level c.args.i c.args.answers.now c.requires.answered order ordered (lists c.args.supplies.now) (c.requires.supplied order ordered) joined states of_joins of_grows
-    c.minimal_table.result c.in_ok-all.all.items covers
+    c.args.known.now c.minimal_table.result c.in_ok-all.all.items covers
     (c.minimal_table.ensures.scope ∙ c.union.ensures ∙ ap (λ v. union v c.inputs_of.result) c.vars_of.ensures ∙ ap (union (variables_of c.system-system.result.now c.args.i)) c.inputs_of.ensures ∙ ap (λ (m : System). union (variables_of m c.args.i) (inputs_of m c.args.i)) c.system-system.ensures)
     c.minimal_table.ensures.rows

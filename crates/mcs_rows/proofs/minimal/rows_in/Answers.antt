@@ -10,9 +10,9 @@ use Rattle.mcs_rows.proofs.minimal.rows_in.Goals as goal
 
 pub loop-state-preserved : goal.loop-state-preserved
 loop-state-preserved c =
-    covers_more c.args.system.now c.args.i c.args.level c.args.answers.now c.args.states.now c.loop-state.state-index c.state-item.result c.loop-state-test.true c.state-item.is c.loop-state.all.items c.in_ok-some.some.items _ c.loop-state.invariant c.in_ok-some.ensures
+    covers_more c.args.system.now c.args.i c.args.level c.args.known.now c.args.answers.now c.args.states.now c.loop-state.state-index c.state-item.result c.loop-state-test.true c.state-item.is c.loop-state.all.items c.in_ok-some.some.items _ c.loop-state.invariant c.in_ok-some.ensures
     (c.in_ok-extend_from_slice.ensures.items ∙ ap (λ (rows : List Row). c.loop-state.all.items ++ rows) c.deref.ensures.value)
 
 pub returns : goal.returns
 returns c =
-    subst (λ (states : List ℕ). Covers (λ r. IsAmong r c.loop-state.all.items) (λ r. IsAmong r (flat_map (rows_of c.args.system.now c.args.i c.args.level c.args.answers.now) states))) (take_all c.loop-state.state-index c.args.states.now c.loop-state-test.false) c.loop-state.invariant
+    subst (λ (states : List ℕ). Covers (λ r. IsAmong r c.loop-state.all.items) (λ r. IsAmong r (flat_map (rows_of c.args.system.now c.args.i c.args.level c.args.known.now c.args.answers.now) states))) (take_all c.loop-state.state-index c.args.states.now c.loop-state-test.false) c.loop-state.invariant

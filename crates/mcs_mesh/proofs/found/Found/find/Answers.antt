@@ -1,5 +1,10 @@
-use Rattle.std.proofs.Common.{◌<◌, subst, sym, List}
+use Rattle.std.proofs.Common.{◌<◌, ◌≤◌, take, subst, sym, List, ℕ}
+use Rattle.std.specs.List.{AllByRecursion}
+use Rattle.mcs_sets.specs.Sets.{size}
+use Rattle.mcs_base.specs.Minimal.{IsMinimal}
+use Rattle.mcs_base.proofs.Each.{all_take}
 use Rattle.mcs_system.specs.Plain.{System}
+use Rattle.mcs_system.specs.Repairs.{IsDiagnosis}
 use Rattle.mcs_table.specs.Tables.{TableData}
 use Rattle.mcs_rows.specs.Local.{AreMinimalTables}
 use Rattle.mcs_mesh.specs.Rounds.{HasFewRules}
@@ -9,9 +14,13 @@ use Rattle.mcs_mesh.proofs.found.Found.find.Goals as goal
 
 pub repairs_in-requires-clause-tables : goal.repairs_in-requires-clause-tables
 repairs_in-requires-clause-tables c =
-    let given = subst (λ (ts : List TableData). AreMinimalTables c.args.plan.now c.args.done ts) (sym c.deref.ensures.value) c.in_ok-tables.ensures in
+    let known = take c.min.result c.deref.result.now in
+    let given = subst (λ (ts : List TableData). AreMinimalTables c.args.plan.now c.args.done known ts) (sym c.deref-2.ensures.value) c.in_ok-tables.ensures in
     let above = subst (λ (m : System). c.args.level < c.level_ahead-ahead.result → HasFewRules m c.args.level) c.system.ensures c.level_ahead-ahead.ensures.above in
-    tables_ahead c.args.plan.now c.args.level c.level_ahead-ahead.result c.args.done c.deref.result.now c.level_ahead-ahead.ensures.no_less above c.requires.within given
+    tables_ahead c.args.plan.now c.args.level c.level_ahead-ahead.result c.args.done known c.deref-2.result.now c.level_ahead-ahead.ensures.no_less above c.requires.within given
 
 pub repairs_in-requires-clause-known : goal.repairs_in-requires-clause-known
-repairs_in-requires-clause-known c = rw c.deref-2.ensures.value (found_known c.args.plan.now c.args.level c.level_ahead-ahead.result c.args.self.now.level c.args.self.now.pairs.items c.requires.before c.requires.lower c.level_ahead-ahead.ensures.no_less)
+repairs_in-requires-clause-known c =
+    let P = λ (p : ℕ). IsMinimal (IsDiagnosis c.args.plan.now) p × (size p ≤ c.level_ahead-ahead.result) in
+    let all : AllByRecursion P c.args.self.now.pairs.items = found_known c.args.plan.now c.args.level c.level_ahead-ahead.result c.args.self.now.level c.args.self.now.pairs.items c.requires.before c.requires.lower c.level_ahead-ahead.ensures.no_less in
+    all_take P c.min.result c.deref.result.now (subst (λ (xs : List ℕ). AllByRecursion P xs) (sym c.deref.ensures.value) all)

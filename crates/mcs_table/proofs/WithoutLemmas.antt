@@ -9,7 +9,7 @@ use Rattle.mcs_base.proofs.ListingLemmas.{same_listing, IsListing-same}
 use Rattle.mcs_table.specs.declared.row.Row.{Row}
 use Rattle.mcs_table.specs.RowOrder.{RowBefore}
 use Rattle.mcs_table.specs.Tables.{TableData, IsUnion, IsRestriction, IsMinimalRow, IsJoin, IsForgetting}
-use Rattle.mcs_joint.specs.Without.{IsWithout}
+use Rattle.mcs_table.specs.Without.{IsWithout}
 use Rattle.mcs_table.proofs.OrderLemmas.{RowBefore-asymmetric}
 use Rattle.mcs_table.proofs.JoinLemmas.{minimal_as, union_more}
 use Rattle.mcs_table.proofs.OrderFreeLemmas.{table_is}
