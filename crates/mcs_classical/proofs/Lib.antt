@@ -1,3 +1,6 @@
+pub mod AddingLemmas
+pub mod AssumptionLemmas
+pub mod ConsequenceLemmas
 pub mod RefutingLemmas
 pub mod ModelLemmas
 pub mod OutputLemmas

@@ -1,1 +1,3 @@
+pub mod Assumptions
+pub mod Consequences
 pub mod Models

@@ -1,10 +1,10 @@
 -- Models that are found: places of atoms that are true where formulas hold.
-use Rattle.std.specs.Prelude.{IsTrue, List}
+use Rattle.std.specs.Prelude.{ℕ, IsTrue, List, Option, Some, None}
 use Rattle.mcs_system.specs.Plain.{Name, Formula}
-use Rattle.mcs_system.specs.Logic.{holds_all}
+use Rattle.mcs_system.specs.Logic.{holds_all, Entails}
 use Rattle.mcs_trace.specs.Traces.{IsAcceptedTrace, inferences_of}
 use Rattle.mcs_cnf.specs.ClauseLists.{clause_list}
-use Rattle.mcs_cnf.specs.Entailments.{IsModelAt}
+use Rattle.mcs_cnf.specs.Entailments.{IsModelAt, IsRefuted}
 use Rattle.mcs_classical.specs.declared.satisfying.Satisfied.{Satisfied}
 use Rattle.mcs_classical.specs.declared.satisfying.Satisfied.TheVariants.{Model, Refuted}
 
@@ -12,3 +12,8 @@ use Rattle.mcs_classical.specs.declared.satisfying.Satisfied.TheVariants.{Model,
 abbrev pub IsSatisfied : List Name → List Formula → Satisfied → Type 0
 IsSatisfied names fs (Model places) = IsModelAt names fs places
 IsSatisfied names fs (Refuted trace) = IsAcceptedTrace (clause_list names fs).clauses (inferences_of trace) × ((a : List Name) → ¬ IsTrue (holds_all a fs))
+
+-- the places of the atoms that are true where the formulas hold and the goal does not; none where the goal follows
+abbrev pub IsCounterexample : List Name → List Formula → Formula → Option ℕ → Type 0
+IsCounterexample names fs g None = Entails fs g
+IsCounterexample names fs g (Some places) = IsRefuted names fs g places

@@ -7,6 +7,7 @@ ghost use Rattle.mcs_system.specs.Plain as plain;
 ghost use Rattle.mcs_system.specs.Seen.{formula_of};
 ghost use Rattle.mcs_cnf.specs.ClauseLists.{clause_list, with_formulas, IsOver, AreOver};
 ghost use Rattle.mcs_cnf.specs.Entailments.{entailment_of, says_yes, IsModelAt, IsAcceptedEntailment};
+ghost use Rattle.mcs_classical.specs.Models.{IsCounterexample};
 
 use crate::refuting::true_places;
 use mcs_base::{Memory, Vars};
@@ -68,7 +69,35 @@ pub fn entails_in(
     }
 }
 
-/// The same of a list of clauses, which is made ready for this goal alone and stays as it is.
+/// The same without a trace: the places of the atoms that are true where the formulas hold and the goal does not, or
+/// `None` exactly where the goal follows.
+pub fn counterexample_in(
+    alloc: Global,
+    known: &mut ClauseBase,
+    goal: &Formula,
+    atoms: &[Name],
+) -> Result<Option<Vars>, Memory>
+    requires few { length atoms.now ≤ 64 }
+    requires different { has_twins atoms.now ≡ false }
+    requires goal { IsOver atoms.now (formula_of goal.now) }
+    requires room { length atoms.now ≤ known.old.vars }
+    ensures kept { known.new ≡ known.old }
+    ensures exact { IfOk result
+        (λ found. (fs : List plain.Formula) → known.old ≡ clause_list atoms.now fs → AreOver atoms.now fs
+        → IsCounterexample atoms.now fs (formula_of goal.now) found) }
+{
+    let vars = known.vars();
+    let count = known.count();
+    push_goal(alloc, known, goal, atoms)?;
+    let found = known.satisfy();
+    known.cut(vars, count);
+    match found? {
+        Some(values) => Ok(Some(true_places(&values, atoms.len()))),
+        None => Ok(None),
+    }
+}
+
+/// The same as `entails_in` of a list of clauses, which is made ready for this goal alone and stays as it is.
 pub fn entails_from(
     alloc: Global,
     known: &mut Cnf,

@@ -1,12 +1,20 @@
 //! Whether formulas follow from others, in classical propositional logic, and what shows it.
 #![tactic(auto)]
 
+mod adding;
+mod among;
+mod assumptions;
 mod beliefs;
+mod bounds;
 mod consequence;
+mod consequences;
 mod refuting;
 mod satisfying;
 
+pub use adding::add_formulas;
+pub use assumptions::{Assumption, assumed, holding};
 pub use beliefs::{outputs, outputs_from, outputs_in};
-pub use consequence::{entails, entails_beside, entails_from, entails_in};
+pub use consequence::{counterexample_in, entails, entails_beside, entails_from, entails_in};
+pub use consequences::Consequences;
 pub use refuting::true_places;
 pub use satisfying::{Satisfied, satisfy, satisfy_from};

@@ -1,5 +1,7 @@
 //! What one context accepts, and its oracle.
 
+ghost use Rattle.std.specs.Prelude.{◌≡◌};
+
 use crate::numbered::are_numbered;
 use crate::systems::{SELF_ATTACK, system_of};
 use mcs_base::{Active, Memory};
@@ -141,5 +143,80 @@ fn an_oracle_keeps_certificates_where_it_is_told_to(rt: HostRuntime) -> Result<(
         drop(system);
         assert!(rt; shown == Ok([Some(true), None, None]));
     }
+    Ok(())
+}
+
+/// Formulas from which something follows by themselves, with one head, with two together, and with a head that
+/// contradicts them.
+const FOLLOWED: &str = "context c1 classical { p -> q. r & s -> t. u. } context c2 classical {}
+bridge r1: c1:p if not c2:x. bridge r2: c1:r if not c2:x. bridge r3: c1:s if not c2:x. bridge r4: c1:~u if not c2:x.
+bridge r5: c2:y if c1:q, c1:t, c1:u.";
+
+/// Questions to the oracle of the first context, in turn: the numbers of a set of rules, and of the one part that the
+/// context accepts. They ascend; then come some that were asked before, one above all, and others that stand below it.
+const IN_TURN: &[(u64, u64)] = &[
+    (0, 4),
+    (1, 5),
+    (3, 5),
+    (7, 7),
+    (3, 5),
+    (8, 7),
+    (15, 7),
+    (14, 7),
+    (6, 6),
+    (4, 4),
+    (2, 4),
+    (0, 4),
+];
+
+/// Whether this is the one answer of the oracle, which is of the first context of the system.
+fn is_only_answer(
+    alloc: Global,
+    system: &System,
+    solver: &mut LocalSolver,
+    rules: u64,
+    part: u64,
+) -> bool
+    requires system { solver.old.system ≡ system.now }
+    requires context { solver.old.context ≡ 0 }
+    ensures system { solver.new.system ≡ system.now }
+    ensures context { solver.new.context ≡ 0 }
+{
+    let rules = Active::numbered(rules);
+    if system.contexts().is_empty() || !rules.within(system.rules_of(0)) {
+        return false;
+    }
+    match solver.ask(alloc, rules) {
+        Ok(found) => are_numbered(&found, &[part]),
+        Err(_) => false,
+    }
+}
+
+/// Whether the oracle of the first context gives these answers in turn.
+fn are_in_turn(
+    alloc: Global,
+    system: &Arc<System>,
+    keep: bool,
+    questions: &[(u64, u64)],
+) -> Result<bool, Memory> {
+    if system.contexts().is_empty() {
+        return Ok(false);
+    }
+    let mut solver = LocalSolver::new(alloc, system.clone()?, 0, keep);
+    let mut are_right = true;
+    for (rules, part) in questions {
+        are_right = is_only_answer(alloc, system, &mut solver, *rules, *part) && are_right;
+    }
+    drop(solver);
+    Ok(are_right)
+}
+
+#[test]
+fn a_classical_context_is_told_by_what_was_found(rt: HostRuntime) -> Result<(), Fail> {
+    let system = system_of(rt.alloc(), FOLLOWED)?;
+    let found = are_in_turn(rt.alloc(), &system, false, IN_TURN);
+    let shown = are_in_turn(rt.alloc(), &system, true, IN_TURN);
+    drop(system);
+    assert!(rt; found == Ok(true) && shown == Ok(true));
     Ok(())
 }

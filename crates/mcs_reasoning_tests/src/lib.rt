@@ -7,6 +7,8 @@ mod bases;
 #[cfg(test)]
 mod clauses;
 #[cfg(test)]
+mod consequences;
+#[cfg(test)]
 mod contexts;
 #[cfg(test)]
 mod entailments;

@@ -1,3 +1,4 @@
 pub mod SystemSolvers
+pub mod KindLemmas
 pub mod ViewLemmas
 pub mod KeepingLemmas

@@ -1,18 +1,15 @@
 -- Clauses and names of formulas that are lent, and clauses that are taken off again.
-use Rattle.std.proofs.Common.{◌≡◌, ℕ, ◌+◌, ◌<◌, map, length, get_or, take, List, [], ◌∷◌, ◌++◌, Some, slice_get, IsTrue, sym, ap, ◌∙◌, subst}
-use Rattle.std.specs.Prelude.{Option}
+use Rattle.std.proofs.Common.{◌≡◌, ℕ, ◌+◌, ◌<◌, map, length, get_or, take, List, [], ◌∷◌, ◌++◌, Some, IsTrue, sym, ap, ◌∙◌, subst}
 use Rattle.std.proofs.lemmas.List.{map_more}
 use Rattle.std.specs.List.{AllByRecursion}
 use Rattle.mcs_base.proofs.Each.{all_get, all_append}
 use Rattle.mcs_base.proofs.Lists.{slice_get-map_at}
-use Rattle.mcs_system.specs.Plain.{Name, Formula, Atom, Context, System}
-use Rattle.mcs_system.specs.Atoms.{atoms_of}
+use Rattle.mcs_system.specs.Plain.{Name, Formula, Atom}
 use Rattle.mcs_system.specs.Logic.{is_in}
 use Rattle.mcs_trace.specs.Clauses.{ClauseList}
 use Rattle.mcs_cnf.specs.ClauseLists.{clause_list, with_formulas, IsOver, AreOver}
 use Rattle.mcs_cnf.proofs.ListLemmas.{with_append}
 use Rattle.mcs_cnf.proofs.GrowingLemmas.{none-with, grown_clauses}
-use Rattle.mcs_solver.specs.Kinds.{IsMadeOf, IsMadeOfContext}
 
 -- ---- formulas one by one
 module _ {A : Type 0} (seen : A → Formula) where
@@ -34,10 +31,6 @@ told_clauses names known new fs heads is told = grown_clauses names known new (h
 
 pub told_over : (names : List Name) (fs heads : List Formula) → AreOver names fs → AreOver names heads → AreOver names (fs ++ heads)
 told_over names fs heads over over' = all_append (IsOver names) fs heads over over'
-
--- ---- clauses that are kept of a context
-pub made_there : (m : System) (i : ℕ) (d : Context) (known : Option ClauseList) → slice_get m.contexts i ≡ Some d → IsMadeOf (atoms_of m i) d.kb known → IsMadeOfContext m i known
-made_there m i d known is made c is' = let same : d ≡ c = (let e : Some d ≡ Some c = sym is ∙ is' in cc) in subst (λ (x : Context). IsMadeOf (atoms_of m i) x.kb known) same made
 
 -- ---- atoms by their names
 pub names_over : (names ns : List Name) (fs : List Formula) → map Atom ns ≡ fs → AreOver names fs → AllByRecursion (λ n. IsTrue (is_in n names)) ns

@@ -1,14 +1,21 @@
 -- What is kept of a knowledge base.
-use Rattle.std.specs.Prelude.{◌≡◌, ℕ, List, [], ◌∷◌, ◌++◌, Option, IfSome, Some, slice_get}
+use Rattle.std.specs.Prelude.{◌≡◌, ℕ, List, [], ◌∷◌, ◌++◌, Option, Some, None, slice_get}
 use Rattle.mcs_system.specs.Plain.{Name, Formula, Kb, Classical, DefaultTheory, Program, Context, System}
 use Rattle.mcs_system.specs.Atoms.{atoms_of}
-use Rattle.mcs_system.specs.Views.{IsAcceptedView}
+use Rattle.mcs_system.specs.Systems.{variables_of, heads_into}
+use Rattle.mcs_system.specs.Views.{IsAcceptedView, beliefs_at}
 use Rattle.mcs_sets.specs.Orders.{StateBefore}
 use Rattle.mcs_base.specs.Listings.{IsListing}
 use Rattle.mcs_trace.specs.Clauses.{ClauseList}
 use Rattle.mcs_cnf.specs.Classical.{IsAcceptedClassical}
 use Rattle.mcs_cnf.specs.ClauseLists.{AreOver, clause_list}
 use Rattle.mcs_cnf.specs.Entailments.{Entailment}
+use Rattle.mcs_classical.specs.Assumptions.{assumed}
+use Rattle.mcs_classical.specs.Consequences.{AreConsequences}
+use Rattle.mcs_classical.specs.declared.assumptions.Assumption as declared
+use Rattle.mcs_classical.specs.declared.consequences.Consequences as consequences
+use Rattle.mcs_solver.specs.declared.known.Known as known
+use Rattle.mcs_solver.specs.declared.known.Known.TheVariants as variants
 
 -- ---- clauses that are kept
 -- if the clauses are those of formulas over the names, these accept this view alone with the heads
@@ -21,12 +28,23 @@ abbrev pub IsShownView : List Name → ClauseList → List Formula → List Form
 IsShownView names known heads beliefs view es = (fs : List Formula) → known ≡ clause_list names fs → AreOver names fs
     → IsAcceptedClassical names (fs ++ heads) beliefs (view ∷ []) es
 
--- what is kept of a classical knowledge base, if anything, are the clauses of its formulas
-abbrev pub IsMadeOf : List Name → Kb → Option ClauseList → Type 0
-IsMadeOf names (Classical formulas) known = IfSome known (λ c. c ≡ clause_list names formulas)
-IsMadeOf names (DefaultTheory items) known = Unit {0}
-IsMadeOf names (Program rules) known = Unit {0}
+-- ---- what was found to follow
+-- it is right of the formulas and the beliefs with any assumptions that are the heads of each set of rules
+abbrev pub AreFound : List Formula → (ℕ → List Formula) → List Formula → consequences.Consequences → Type 0
+AreFound formulas heads beliefs found = (assumptions : List declared.Assumption)
+    → ((rules : ℕ) → assumed rules assumptions ≡ heads rules) → AreConsequences formulas assumptions beliefs found
+
+-- the clauses are those of the formulas, and what was found is right of these
+abbrev pub IsMadeOfFormulas : List Name → List Formula → (ℕ → List Formula) → List Formula → ClauseList → consequences.Consequences → Type 0
+IsMadeOfFormulas names formulas heads beliefs clauses found = (clauses ≡ clause_list names formulas) × AreFound formulas heads beliefs found
+
+-- ---- what is kept, if anything, of a knowledge base that is told heads by sets of rules, and asked for beliefs
+abbrev pub IsMadeOf : List Name → Kb → (ℕ → List Formula) → List Formula → Option known.Known → Type 0
+IsMadeOf names (Classical formulas) heads beliefs None = Unit {0}
+IsMadeOf names (Classical formulas) heads beliefs (Some (variants.Classical clauses found)) = IsMadeOfFormulas names formulas heads beliefs clauses found
+IsMadeOf names (DefaultTheory items) heads beliefs known = Unit {0}
+IsMadeOf names (Program rules) heads beliefs known = Unit {0}
 
 -- the same of a context of a system
-abbrev pub IsMadeOfContext : System → ℕ → Option ClauseList → Type 0
-IsMadeOfContext m i known = (c : Context) → slice_get m.contexts i ≡ Some c → IsMadeOf (atoms_of m i) c.kb known
+abbrev pub IsMadeOfContext : System → ℕ → Option known.Known → Type 0
+IsMadeOfContext m i known = (c : Context) → slice_get m.contexts i ≡ Some c → IsMadeOf (atoms_of m i) c.kb (heads_into m i) (beliefs_at m (variables_of m i)) known

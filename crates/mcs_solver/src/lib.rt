@@ -1,7 +1,9 @@
 //! What one context of a system accepts, found by the logic of its kind.
 #![tactic(auto)]
 
+mod assuming;
 mod keeping;
+mod known;
 mod parts;
 mod solver;
 mod views;

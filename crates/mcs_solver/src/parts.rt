@@ -8,10 +8,11 @@ ghost use Rattle.mcs_asking.specs.Certificates.{IsAccepted};
 ghost use Rattle.mcs_solver.specs.Kinds.{IsMadeOfContext};
 ghost use Rattle.mcs_solver.specs.Certified.{IsCertified};
 
+use crate::assuming::assumptions_into;
+use crate::known::Known;
 use crate::views::accepted_views;
-use mcs_asking::{AnswerCert, beliefs_of, heads_into, parts_at};
+use mcs_asking::{AnswerCert, beliefs_of, parts_at};
 use mcs_base::{Active, Memory, Vars};
-use mcs_sat::ClauseBase;
 use mcs_system::System;
 use std::alloc::Global;
 
@@ -32,12 +33,12 @@ pub fn accepted_parts(
     Ok(parts)
 }
 
-/// The same, with a certificate where one is wanted, and where the clauses of a classical context's formulas are kept for
-/// the next question.
+/// The same, with a certificate where one is wanted, and where what serves for the next question is kept: of a classical
+/// context the clauses of its formulas, and what was found to follow.
 pub(crate) fn parts_with(
     alloc: Global,
     certify: bool,
-    known: &mut Option<ClauseBase>,
+    known: &mut Option<Known>,
     system: &System,
     context: u32,
     rules: Active,
@@ -48,7 +49,7 @@ pub(crate) fn parts_with(
     ensures exact { IfOk result (λ r. IsListing (IsAcceptedPart system.now context rules) StateBefore r.0.items) }
     ensures certified { IfOk result (λ r. IsCertified certify (IsAccepted system.now context rules r.0.items) r.1) }
 {
-    let heads = heads_into(alloc, system, context, rules)?;
+    let assumptions = assumptions_into(alloc, system, context)?;
     let beliefs = beliefs_of(alloc, system, context)?;
     let knows = &system.contexts()[context as usize].kb;
     let (views, cert) = accepted_views(
@@ -56,7 +57,8 @@ pub(crate) fn parts_with(
         certify,
         known,
         knows,
-        &heads,
+        &assumptions,
+        rules,
         &beliefs,
         system.atoms_of(context),
     )?;

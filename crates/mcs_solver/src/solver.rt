@@ -9,10 +9,10 @@ ghost use Rattle.mcs_asking.specs.Certificates.{plain_of, IsAccepted};
 ghost use Rattle.mcs_solver.specs.Solvers.{solver_with};
 
 use crate::keeping::{Kept, keep_answer};
+use crate::known::Known;
 use crate::parts::parts_with;
 use mcs_asking::AnswerCert;
 use mcs_base::{Active, Vars};
-use mcs_sat::ClauseBase;
 use mcs_states::{Oracle, OracleStop};
 use mcs_system::System;
 use std::alloc::Global;
@@ -22,12 +22,12 @@ use std::sync::Arc;
 
 /// Answers what one context of a system accepts, by the logic of the context's kind. It never misses. It keeps the
 /// journal of the questions asked; once it was asked, the clauses of a classical context's formulas; and, if it is made
-/// so, each answer with a certificate.
+/// so, each answer with a certificate, else what it found to follow.
 #[derive(Drop)]
 pub struct LocalSolver {
     system: Arc<System>,
     context: u32,
-    known: Option<ClauseBase>,
+    known: Option<Known>,
     journal: Vec<Active>,
     keep: bool,
     kept: BTreeMap<Active, Kept>,

@@ -1,71 +1,37 @@
 //! What a knowledge base accepts with heads, seen through beliefs: by the logic of its kind.
 
-ghost use Rattle.std.specs.Prelude.{◌≡◌, ◌≤◌, false, None, length, map, IfOk, IfSome, OnOk, OnErr, IsTrue};
+ghost use Rattle.std.specs.Prelude.{◌≡◌, ◌≤◌, ◌<◌, ℕ, List, [], ◌∷◌, ◌++◌, false, None, length, map, IfOk, OnOk, IsTrue};
 ghost use Rattle.std.specs.List.{AllByRecursion};
 ghost use Rattle.mcs_sets.specs.Orders.{StateBefore};
 ghost use Rattle.mcs_base.specs.Listings.{IsListing};
 ghost use Rattle.mcs_system.specs.Faults.{has_twins, is_atom, default_count};
 ghost use Rattle.mcs_system.specs.Logic.{with_heads};
 ghost use Rattle.mcs_system.specs.Plain.{Classical, DefaultTheory, Program};
+ghost use Rattle.mcs_system.specs.Plain as plain;
 ghost use Rattle.mcs_system.specs.Seen.{formula_of, item_of, rule_of, kb_of};
 ghost use Rattle.mcs_system.specs.Views.{IsAcceptedView};
 ghost use Rattle.mcs_cnf.specs.Classical.{certificate_of};
 ghost use Rattle.mcs_cnf.specs.ClauseLists.{AreOver, clause_list, with_formulas};
-ghost use Rattle.mcs_cnf.specs.Growing.{IsGrown};
+ghost use Rattle.mcs_classical.specs.Assumptions.{assumed};
+ghost use Rattle.mcs_classical.specs.Consequences.{AreConsequences};
+ghost use Rattle.mcs_classical.specs.declared.assumptions.Assumption as declared;
 ghost use Rattle.mcs_evidence.specs.Defaults.{AreOverItems, defaults_of};
 ghost use Rattle.mcs_evidence.specs.Programs.{AreOverRules};
 ghost use Rattle.mcs_asking.specs.Certificates.{IsAcceptedFor};
 ghost use Rattle.mcs_asking.specs.Kinds.{IsOverKb, AreOfKind};
-ghost use Rattle.mcs_solver.specs.Kinds.{IsOnlyView, IsShownView, IsMadeOf};
+ghost use Rattle.mcs_solver.specs.Kinds.{IsOnlyView, IsShownView, IsMadeOf, IsMadeOfFormulas};
 ghost use Rattle.mcs_solver.specs.Certified.{IsCertified};
 
+use crate::known::Known;
 use mcs_asking::AnswerCert;
-use mcs_base::{Memory, Vars};
-use mcs_classical::outputs_in;
-use mcs_cnf::push_formula;
+use mcs_base::{Active, Memory, Vars};
+use mcs_classical::{Assumption, Consequences, add_formulas, assumed, outputs_in};
 use mcs_default::{extensions_from, list_extensions};
 use mcs_program::{answer_sets_from, list_answer_sets};
 use mcs_sat::ClauseBase;
 use mcs_system::{Formula, Kb, Name, ProgRule, TheoryItem, names_of};
-use mcs_trace::{ClassicalCert, Cnf};
+use mcs_trace::ClassicalCert;
 use std::alloc::Global;
-
-/// Adds the clauses of the formulas; where memory runs out, those of the first ones alone.
-fn push_formulas(
-    alloc: Global,
-    known: &mut Cnf,
-    formulas: &[&Formula],
-    atoms: &[Name],
-) -> Result<(), Memory>
-    requires over { AreOver atoms.now (map (λ f. formula_of f.now) formulas.now) }
-    requires room { length atoms.now ≤ known.old.vars }
-    ensures ok { OnOk result (known.new ≡ with_formulas atoms.now known.old (map (λ f. formula_of f.now) formulas.now)) }
-    ensures more { IsGrown atoms.now known.old known.new }
-{
-    for formula in formulas {
-        push_formula(alloc, known, atoms, formula)?;
-    }
-    Ok(())
-}
-
-/// Adds the clauses of the heads. Where memory runs out, what is known is as before.
-fn push_heads(
-    alloc: Global,
-    known: &mut ClauseBase,
-    heads: &[&Formula],
-    atoms: &[Name],
-) -> Result<(), Memory>
-    requires heads { AreOver atoms.now (map (λ f. formula_of f.now) heads.now) }
-    requires room { length atoms.now ≤ known.old.vars }
-    ensures ok { OnOk result (known.new ≡ with_formulas atoms.now known.old (map (λ f. formula_of f.now) heads.now)) }
-    ensures err { OnErr result (known.new ≡ known.old) }
-{
-    let mut more = Cnf::new(alloc, known.vars());
-    push_formulas(alloc, &mut more, heads, atoms)?;
-    let added = known.append(&more);
-    drop(more);
-    added
-}
 
 /// The one view that a classical context accepts with the heads, where the clauses of its formulas are known: of the
 /// beliefs that follow; and what shows it. The clauses of the heads are added for the search and taken off again, so that
@@ -91,7 +57,7 @@ fn view_with(
 {
     let vars = known.vars();
     let count = known.count();
-    push_heads(alloc, known, heads, atoms)?;
+    add_formulas(alloc, known, heads, atoms)?;
     let shown = outputs_in(alloc, known, beliefs, atoms);
     known.cut(vars, count);
     shown
@@ -110,7 +76,7 @@ fn keep_formulas(
     ensures { OnOk result (known.new ≡ with_formulas atoms.now known.old (map formula_of formulas.now)) }
 {
     for formula in formulas {
-        push_heads(alloc, known, &[formula], atoms)?;
+        add_formulas(alloc, known, &[formula], atoms)?;
     }
     known.settle()
 }
@@ -130,32 +96,88 @@ fn made_clauses(alloc: Global, formulas: &[Formula], atoms: &[Name]) -> Result<C
     }
 }
 
-/// The clauses of the formulas, taken from where they are kept, or made.
-fn kept_clauses(
+/// The clauses of the formulas and what was found to follow from these, taken from where they are kept, or made; then it is
+/// found that those beliefs follow which stand among the formulas.
+fn kept_formulas(
     alloc: Global,
-    known: &mut Option<ClauseBase>,
+    known: &mut Option<Known>,
     formulas: &[Formula],
+    beliefs: &[&Formula],
     atoms: &[Name],
-) -> Result<ClauseBase, Memory>
+) -> Result<(ClauseBase, Consequences), Memory>
     requires over { AreOver atoms.now (map formula_of formulas.now) }
-    requires made { IfSome known.old (λ c. c ≡ clause_list atoms.now (map formula_of formulas.now)) }
-    ensures ok { IfOk result (λ c. c ≡ clause_list atoms.now (map formula_of formulas.now)) }
+    requires few_beliefs { length beliefs.now ≤ 64 }
+    ensures made { IfOk result (λ r. (heads : ℕ → List plain.Formula)
+        → IsMadeOf atoms.now (Classical (map formula_of formulas.now)) heads (map (λ f. formula_of f.now) beliefs.now) known.old
+        → IsMadeOfFormulas atoms.now (map formula_of formulas.now) heads (map (λ f. formula_of f.now) beliefs.now) r.0 r.1) }
     ensures none { known.new ≡ None }
 {
     match known.take() {
-        Some(kept) => Ok(kept),
-        None => made_clauses(alloc, formulas, atoms),
+        Some(Known::Classical { clauses, found }) => Ok((clauses, found)),
+        None => {
+            let found = Consequences::of(alloc, formulas, beliefs)?;
+            match made_clauses(alloc, formulas, atoms) {
+                Ok(clauses) => Ok((clauses, found)),
+                Err(error) => {
+                    drop(found);
+                    Err(error)
+                }
+            }
+        }
     }
 }
 
-/// What a classical context accepts, with a certificate where one is wanted. The clauses of its formulas are kept once
-/// they are made.
+/// The one view that a classical context accepts with the heads of the rules, where the clauses of its formulas are known,
+/// with a certificate where one is wanted. Where none is, it is told by what was found before, as far as that goes, and
+/// what is found is kept.
+fn followed_view(
+    alloc: Global,
+    certify: bool,
+    clauses: &mut ClauseBase,
+    found: &mut Consequences,
+    assumptions: &[Assumption<'_>],
+    rules: Active,
+    beliefs: &[&Formula],
+    atoms: &[Name],
+) -> Result<(Vars, Option<AnswerCert>), Memory>
+    requires few { length atoms.now ≤ 64 }
+    requires few_beliefs { length beliefs.now ≤ 64 }
+    requires different { has_twins atoms.now ≡ false }
+    requires numbers { AllByRecursion (λ (a : declared.Assumption). a.number < 64) assumptions.now }
+    requires assumptions { AreOver atoms.now (map (λ (a : declared.Assumption). formula_of a.formula.now) assumptions.now) }
+    requires beliefs { AreOver atoms.now (map (λ f. formula_of f.now) beliefs.now) }
+    requires room { length atoms.now ≤ clauses.old.vars }
+    ensures kept { clauses.new ≡ clauses.old }
+    ensures right { (fs : List plain.Formula) → clauses.old ≡ clause_list atoms.now fs → AreOver atoms.now fs
+        → AreConsequences fs assumptions.now (map (λ f. formula_of f.now) beliefs.now) found.old
+        → AreConsequences fs assumptions.now (map (λ f. formula_of f.now) beliefs.now) found.new }
+    ensures exact { IfOk result (λ r. (fs : List plain.Formula) → clauses.old ≡ clause_list atoms.now fs → AreOver atoms.now fs
+        → AreConsequences fs assumptions.now (map (λ f. formula_of f.now) beliefs.now) found.old
+        → IsListing (IsAcceptedView (Classical (fs ++ assumed rules assumptions.now)) (map (λ f. formula_of f.now) beliefs.now)) StateBefore (r.0 ∷ [])) }
+    ensures certified { IfOk result (λ r. (fs : List plain.Formula) → clauses.old ≡ clause_list atoms.now fs → AreOver atoms.now fs
+        → IsCertified certify
+        (IsAcceptedFor atoms.now (Classical (fs ++ assumed rules assumptions.now)) (map (λ f. formula_of f.now) beliefs.now) (r.0 ∷ []))
+        r.1) }
+{
+    if certify {
+        let heads = assumed(alloc, assumptions, rules)?;
+        let (view, cert) = view_with(alloc, clauses, &heads, beliefs, atoms)?;
+        Ok((view, Some(AnswerCert::Classical(cert))))
+    } else {
+        let view = found.following(alloc, clauses, assumptions, rules, beliefs, atoms)?;
+        Ok((view, None))
+    }
+}
+
+/// What a classical context accepts with the heads of the rules, with a certificate where one is wanted. The clauses of
+/// its formulas are kept once they are made, and what was found to follow beside them.
 fn classical_views(
     alloc: Global,
     certify: bool,
-    known: &mut Option<ClauseBase>,
+    known: &mut Option<Known>,
     formulas: &[Formula],
-    heads: &[&Formula],
+    assumptions: &[Assumption<'_>],
+    rules: Active,
     beliefs: &[&Formula],
     atoms: &[Name],
 ) -> Result<(Vec<Vars>, Option<AnswerCert>), Memory>
@@ -163,28 +185,38 @@ fn classical_views(
     requires few_beliefs { length beliefs.now ≤ 64 }
     requires different { has_twins atoms.now ≡ false }
     requires formulas { AreOver atoms.now (map formula_of formulas.now) }
-    requires heads { AreOver atoms.now (map (λ f. formula_of f.now) heads.now) }
+    requires numbers { AllByRecursion (λ (a : declared.Assumption). a.number < 64) assumptions.now }
+    requires assumptions { AreOver atoms.now (map (λ (a : declared.Assumption). formula_of a.formula.now) assumptions.now) }
     requires beliefs { AreOver atoms.now (map (λ f. formula_of f.now) beliefs.now) }
-    requires made { IfSome known.old (λ c. c ≡ clause_list atoms.now (map formula_of formulas.now)) }
-    ensures made { IfSome known.new (λ c. c ≡ clause_list atoms.now (map formula_of formulas.now)) }
+    requires made { IsMadeOf atoms.now (Classical (map formula_of formulas.now)) (λ set. assumed set assumptions.now) (map (λ f. formula_of f.now) beliefs.now) known.old }
+    ensures made { IsMadeOf atoms.now (Classical (map formula_of formulas.now)) (λ set. assumed set assumptions.now) (map (λ f. formula_of f.now) beliefs.now) known.new }
     ensures exact { IfOk result (λ r. IsListing
-        (IsAcceptedView (with_heads (Classical (map formula_of formulas.now)) (map (λ f. formula_of f.now) heads.now)) (map (λ f. formula_of f.now) beliefs.now))
+        (IsAcceptedView (with_heads (Classical (map formula_of formulas.now)) (assumed rules assumptions.now)) (map (λ f. formula_of f.now) beliefs.now))
         StateBefore r.0.items) }
     ensures certified { IfOk result (λ r. IsCertified certify
-        (IsAcceptedFor atoms.now (with_heads (Classical (map formula_of formulas.now)) (map (λ f. formula_of f.now) heads.now)) (map (λ f. formula_of f.now) beliefs.now) r.0.items)
+        (IsAcceptedFor atoms.now (with_heads (Classical (map formula_of formulas.now)) (assumed rules assumptions.now)) (map (λ f. formula_of f.now) beliefs.now) r.0.items)
         r.1) }
 {
-    let mut own = kept_clauses(alloc, known, formulas, atoms)?;
-    let shown = view_with(alloc, &mut own, heads, beliefs, atoms);
-    *known = Some(own);
+    let (mut clauses, mut found) = kept_formulas(alloc, known, formulas, beliefs, atoms)?;
+    let shown = followed_view(
+        alloc,
+        certify,
+        &mut clauses,
+        &mut found,
+        assumptions,
+        rules,
+        beliefs,
+        atoms,
+    );
+    *known = Some(Known::Classical { clauses, found });
     let (view, cert) = shown?;
     let mut views = Vec::new(alloc);
-    views.push(view)?;
-    if certify {
-        Ok((views, Some(AnswerCert::Classical(cert))))
-    } else {
-        drop(cert);
-        Ok((views, None))
+    match views.push(view) {
+        Ok(()) => Ok((views, cert)),
+        Err(refused) => {
+            drop(cert);
+            Err(Memory::from(refused))
+        }
     }
 }
 
@@ -256,14 +288,16 @@ fn program_views(
     }
 }
 
-/// What the knowledge base accepts with the heads, seen through the beliefs: each view once, in the order of states; with
-/// a certificate where one is wanted. The clauses of a classical knowledge base are kept once they are made.
+/// What the knowledge base accepts with the heads of the rules, seen through the beliefs: each view once, in the order of
+/// states; with a certificate where one is wanted. Of a classical knowledge base the clauses are kept once they are made,
+/// and what was found to follow.
 pub(crate) fn accepted_views(
     alloc: Global,
     certify: bool,
-    known: &mut Option<ClauseBase>,
+    known: &mut Option<Known>,
     kb: &Kb,
-    heads: &[&Formula],
+    assumptions: &[Assumption<'_>],
+    rules: Active,
     beliefs: &[&Formula],
     atoms: &[Name],
 ) -> Result<(Vec<Vars>, Option<AnswerCert>), Memory>
@@ -272,24 +306,38 @@ pub(crate) fn accepted_views(
     requires few_defaults { default_count (kb_of kb.now) ≤ 10 }
     requires different { has_twins atoms.now ≡ false }
     requires kb { IsOverKb atoms.now (kb_of kb.now) }
-    requires heads { AreOver atoms.now (map (λ f. formula_of f.now) heads.now) }
+    requires numbers { AllByRecursion (λ (a : declared.Assumption). a.number < 64) assumptions.now }
+    requires assumptions { AreOver atoms.now (map (λ (a : declared.Assumption). formula_of a.formula.now) assumptions.now) }
     requires beliefs { AreOver atoms.now (map (λ f. formula_of f.now) beliefs.now) }
-    requires fitting_heads { AreOfKind (kb_of kb.now) (map (λ f. formula_of f.now) heads.now) }
+    requires fitting_heads { AreOfKind (kb_of kb.now) (assumed rules assumptions.now) }
     requires fitting_beliefs { AreOfKind (kb_of kb.now) (map (λ f. formula_of f.now) beliefs.now) }
-    requires made { IsMadeOf atoms.now (kb_of kb.now) known.old }
-    ensures made { IsMadeOf atoms.now (kb_of kb.now) known.new }
+    requires made { IsMadeOf atoms.now (kb_of kb.now) (λ set. assumed set assumptions.now) (map (λ f. formula_of f.now) beliefs.now) known.old }
+    ensures made { IsMadeOf atoms.now (kb_of kb.now) (λ set. assumed set assumptions.now) (map (λ f. formula_of f.now) beliefs.now) known.new }
     ensures exact { IfOk result (λ r. IsListing
-        (IsAcceptedView (with_heads (kb_of kb.now) (map (λ f. formula_of f.now) heads.now)) (map (λ f. formula_of f.now) beliefs.now))
+        (IsAcceptedView (with_heads (kb_of kb.now) (assumed rules assumptions.now)) (map (λ f. formula_of f.now) beliefs.now))
         StateBefore r.0.items) }
     ensures certified { IfOk result (λ r. IsCertified certify
-        (IsAcceptedFor atoms.now (with_heads (kb_of kb.now) (map (λ f. formula_of f.now) heads.now)) (map (λ f. formula_of f.now) beliefs.now) r.0.items)
+        (IsAcceptedFor atoms.now (with_heads (kb_of kb.now) (assumed rules assumptions.now)) (map (λ f. formula_of f.now) beliefs.now) r.0.items)
         r.1) }
 {
     match kb {
-        Kb::Classical(formulas) => {
-            classical_views(alloc, certify, known, formulas, heads, beliefs, atoms)
+        Kb::Classical(formulas) => classical_views(
+            alloc,
+            certify,
+            known,
+            formulas,
+            assumptions,
+            rules,
+            beliefs,
+            atoms,
+        ),
+        Kb::DefaultTheory(items) => {
+            let heads = assumed(alloc, assumptions, rules)?;
+            theory_views(alloc, certify, items, &heads, beliefs, atoms)
         }
-        Kb::DefaultTheory(items) => theory_views(alloc, certify, items, heads, beliefs, atoms),
-        Kb::Program(rules) => program_views(alloc, certify, rules, heads, beliefs, atoms),
+        Kb::Program(clauses) => {
+            let heads = assumed(alloc, assumptions, rules)?;
+            program_views(alloc, certify, clauses, &heads, beliefs, atoms)
+        }
     }
 }

@@ -1,7 +1,51 @@
-use Rattle.std.proofs.Common.{map}
+use Rattle.std.proofs.Common.{◌∙◌, ◌++◌, ℕ, List, [], ◌∷◌, refl, map, sym, ap, subst}
+use Rattle.mcs_sets.specs.Orders.{StateBefore}
+use Rattle.mcs_base.specs.Listings.{IsListing}
+use Rattle.mcs_system.specs.Plain.{Classical}
 use Rattle.mcs_system.specs.Seen.{formula_of}
+use Rattle.mcs_system.specs.Views.{IsAcceptedView}
 use Rattle.mcs_cnf.proofs.GrowingLemmas.{room_known}
+use Rattle.mcs_classical.specs.Assumptions.{assumed}
+use Rattle.mcs_asking.specs.Certificates.{IsAcceptedFor}
+use Rattle.mcs_solver.specs.Certified.{IsCertified}
+use Rattle.mcs_solver.proofs.KindLemmas.{still_made}
 use Rattle.mcs_solver.proofs.views.classical_views.Goals as goal
 
-pub view_with-shown-requires-clause-room : goal.view_with-shown-requires-clause-room
-view_with-shown-requires-clause-room c = room_known c.args.atoms.now c.in_ok-own.own (map formula_of c.args.formulas.now) c.in_ok-own.ensures.ok
+pub followed_view-shown-requires-clause-room : goal.followed_view-shown-requires-clause-room
+followed_view-shown-requires-clause-room c =
+    let made = c.in_ok-clauses.ensures.made (λ rules. assumed rules c.args.assumptions.now) c.requires.made in
+    room_known c.args.atoms.now c.in_ok-clauses.clauses (map formula_of c.args.formulas.now) made.0
+
+pub returns-in_err-view-clause-made : goal.returns-in_err-view-clause-made
+returns-in_err-view-clause-made c =
+    let made = c.in_ok-clauses.ensures.made (λ rules. assumed rules c.args.assumptions.now) c.requires.made in
+    still_made c.args.atoms.now (map formula_of c.args.formulas.now) (map (λ f. formula_of f.now) c.args.beliefs.now) c.args.assumptions.now _ c.in_ok-clauses.clauses _ c.in_ok-clauses.found c.followed_view-shown.ensures.kept
+    (λ is. c.followed_view-shown.ensures.right (map formula_of c.args.formulas.now) is c.requires.formulas) made
+
+pub returns-in-Ok-clause-made : goal.returns-in-Ok-clause-made
+returns-in-Ok-clause-made c =
+    let made = c.in_ok-clauses.ensures.made (λ rules. assumed rules c.args.assumptions.now) c.requires.made in
+    still_made c.args.atoms.now (map formula_of c.args.formulas.now) (map (λ f. formula_of f.now) c.args.beliefs.now) c.args.assumptions.now _ c.in_ok-clauses.clauses _ c.in_ok-clauses.found c.followed_view-shown.ensures.kept
+    (λ is. c.followed_view-shown.ensures.right (map formula_of c.args.formulas.now) is c.requires.formulas) made
+
+pub returns-in-Err-clause-made : goal.returns-in-Err-clause-made
+returns-in-Err-clause-made c =
+    let made = c.in_ok-clauses.ensures.made (λ rules. assumed rules c.args.assumptions.now) c.requires.made in
+    still_made c.args.atoms.now (map formula_of c.args.formulas.now) (map (λ f. formula_of f.now) c.args.beliefs.now) c.args.assumptions.now _ c.in_ok-clauses.clauses _ c.in_ok-clauses.found c.followed_view-shown.ensures.kept
+    (λ is. c.followed_view-shown.ensures.right (map formula_of c.args.formulas.now) is c.requires.formulas) made
+
+pub returns-in-Ok-clause-exact : goal.returns-in-Ok-clause-exact
+returns-in-Ok-clause-exact c =
+    let fs = map formula_of c.args.formulas.now in
+    let made = c.in_ok-clauses.ensures.made (λ rules. assumed rules c.args.assumptions.now) c.requires.made in
+    let pushed = c.in-Ok.ensures.items ∙ ap (λ (xs : List ℕ). xs ++ c.in_ok-view.view ∷ []) c.new-views.ensures.items in
+    subst (λ (xs : List ℕ). IsListing (IsAcceptedView (Classical (fs ++ assumed c.args.rules c.args.assumptions.now)) (map (λ f. formula_of f.now) c.args.beliefs.now)) StateBefore xs) (sym pushed)
+    (c.in_ok-view.ensures.exact fs made.0 c.requires.formulas (made.1 c.args.assumptions.now (λ rules. refl)))
+
+pub returns-in-Ok-clause-certified : goal.returns-in-Ok-clause-certified
+returns-in-Ok-clause-certified c =
+    let fs = map formula_of c.args.formulas.now in
+    let made = c.in_ok-clauses.ensures.made (λ rules. assumed rules c.args.assumptions.now) c.requires.made in
+    let pushed = c.in-Ok.ensures.items ∙ ap (λ (xs : List ℕ). xs ++ c.in_ok-view.view ∷ []) c.new-views.ensures.items in
+    subst (λ (xs : List ℕ). IsCertified c.args.certify (IsAcceptedFor c.args.atoms.now (Classical (fs ++ assumed c.args.rules c.args.assumptions.now)) (map (λ f. formula_of f.now) c.args.beliefs.now) xs) c.in_ok-view.cert) (sym pushed)
+    (c.in_ok-view.ensures.certified fs made.0 c.requires.formulas)

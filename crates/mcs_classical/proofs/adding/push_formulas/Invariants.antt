@@ -1,7 +1,7 @@
 use Rattle.std.proofs.Common.{◌≡◌, ◌≤◌, length, map, take}
 use Rattle.mcs_system.specs.Seen.{formula_of}
 use Rattle.mcs_cnf.specs.ClauseLists.{with_formulas}
-use Rattle.mcs_solver.proofs.views.push_formulas.Given as goal
+use Rattle.mcs_classical.proofs.adding.push_formulas.Given as goal
 
 -- the clauses of the formulas so far were added
 abbrev pub invariant-loop-formula : goal.invariant-loop-formula

@@ -4,12 +4,12 @@ use Rattle.mcs_trace.specs.Clauses.{ClauseList}
 use Rattle.mcs_cnf.specs.ClauseLists.{with_formulas}
 use Rattle.mcs_classical.proofs.RefutingLemmas.{none_apart}
 use Rattle.mcs_cnf.proofs.GrowingLemmas.{grown_fewer}
-use Rattle.mcs_solver.proofs.views.push_heads.Goals as goal
+use Rattle.mcs_classical.proofs.adding.add_formulas.Goals as goal
 
 pub append-added-requires : goal.append-added-requires
 append-added-requires c =
     let known : ClauseList = c.args.known.now in
     let empty : ClauseList = record { vars = known.vars; clauses = [] } in
-    let fs = map (λ f. formula_of f.now) c.args.heads.now in
+    let fs = map (λ f. formula_of f.now) c.args.formulas.now in
     let made : c.push_formulas.new.known ≡ with_formulas c.args.atoms.now empty fs = c.in_ok-push_formulas.ensures.ok ∙ ap (λ (g : ClauseList). with_formulas c.args.atoms.now g fs) (none_apart known c.new-more.result c.vars.result c.vars.ensures.value c.new-more.ensures) in
     grown_fewer c.args.atoms.now empty c.push_formulas.new.known (fs, made)

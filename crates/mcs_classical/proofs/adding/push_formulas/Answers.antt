@@ -1,7 +1,7 @@
 use Rattle.mcs_system.specs.Seen.{formula_of}
 use Rattle.mcs_cnf.proofs.ListLemmas.{room_kept}
-use Rattle.mcs_solver.proofs.ViewLemmas.{over_at, pushed_none, pushed_more}
-use Rattle.mcs_solver.proofs.views.push_formulas.Goals as goal
+use Rattle.mcs_classical.proofs.AddingLemmas.{over_at, pushed_none, pushed_more}
+use Rattle.mcs_classical.proofs.adding.push_formulas.Goals as goal
 
 pub loop-formula-init : goal.loop-formula-init
 loop-formula-init c = record { so_far = pushed_none c.args.atoms.now _; room = c.requires.room }

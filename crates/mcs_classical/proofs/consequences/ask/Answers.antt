@@ -1,0 +1,48 @@
+use Rattle.std.proofs.Common.{◌≡◌, ◌∙◌, ℕ, List, length, map, sym, ap, subst, Bor}
+use Rattle.std.proofs.lemmas.List.{length-map}
+use Rattle.std.specs.List.{AllByRecursion}
+use Rattle.mcs_base.proofs.Each.{all_push}
+use Rattle.mcs_base.proofs.Mapped.{slice_get-map_read}
+use Rattle.mcs_sets.specs.Sets.{such_that}
+use Rattle.mcs_system.specs.Plain.{Name}
+use Rattle.mcs_system.specs.Logic.{true_names}
+use Rattle.mcs_system.specs.declared.formula.Formula as code
+use Rattle.mcs_system.specs.Seen.{formula_of}
+use Rattle.mcs_cnf.specs.Entailments.{IsRefuted}
+use Rattle.mcs_classical.specs.Consequences.{holds_goal, with_assumed, IsUpper}
+use Rattle.mcs_classical.specs.Models.{IsCounterexample}
+use Rattle.mcs_classical.specs.declared.bounds.Upper.{Upper}
+use Rattle.mcs_classical.proofs.AddingLemmas.{over_at}
+use Rattle.mcs_classical.proofs.ConsequenceLemmas.{model_answer, model_upper}
+use Rattle.mcs_classical.proofs.consequences.ask.Goals as goal
+
+-- as many goals as are lent
+counted : (names : List Name) (goals : List (Bor code.Formula)) (values places : ℕ) → places ≡ such_that (length goals) (holds_goal (true_names 0 names values) (map (λ g. formula_of g.now) goals))
+    → places ≡ such_that (length (map (λ g. formula_of g.now) goals)) (holds_goal (true_names 0 names values) (map (λ g. formula_of g.now) goals))
+counted names goals values places is = is ∙ ap (λ (n : ℕ). such_that n (holds_goal (true_names 0 names values) (map (λ g. formula_of g.now) goals))) (sym (length-map goals (λ (g : Bor code.Formula). formula_of g.now)))
+
+pub counterexample_in-requires-clause-goal : goal.counterexample_in-requires-clause-goal
+counterexample_in-requires-clause-goal c = over_at (λ g. formula_of g.now) c.args.atoms.now c.args.goals.now c.args.place c.index-goals-place.result c.requires.place c.index-goals-place.is c.requires.goals
+
+pub returns-in-None-clause-answer : goal.returns-in-None-clause-answer
+returns-in-None-clause-answer c fs is over =
+    let at = slice_get-map_read (λ g. formula_of g.now) c.args.goals.now c.args.place c.index-goals-place.result c.requires.place c.index-goals-place.is in
+    let g = formula_of c.index-goals-place.result.now in
+    (g, at, subst (IsCounterexample c.args.atoms.now fs g) c.in-None.is (c.in_ok-counterexample_in.ensures.exact fs is over))
+
+pub returns-in_ok-push-in-Some-clause-answer : goal.returns-in_ok-push-in-Some-clause-answer
+returns-in_ok-push-in-Some-clause-answer c fs is over =
+    let at = slice_get-map_read (λ g. formula_of g.now) c.args.goals.now c.args.place c.index-goals-place.result c.requires.place c.index-goals-place.is in
+    let g = formula_of c.index-goals-place.result.now in
+    let refuted : IsRefuted c.args.atoms.now fs g c.in-Some.values = subst (IsCounterexample c.args.atoms.now fs g) c.in-Some.is (c.in_ok-counterexample_in.ensures.exact fs is over) in
+    model_answer c.args.atoms.now fs (map (λ x. formula_of x.now) c.args.goals.now) c.args.place c.in-Some.values c.goals_holding-possible.result g at refuted (counted c.args.atoms.now c.args.goals.now c.in-Some.values c.goals_holding-possible.result c.goals_holding-possible.ensures)
+
+pub returns-in_ok-push-in-Some-clause-right : goal.returns-in_ok-push-in-Some-clause-right
+returns-in_ok-push-in-Some-clause-right c fs set is over all =
+    let xs = c.args.assumptions.now in
+    let gs = map (λ x. formula_of x.now) c.args.goals.now in
+    let g = formula_of c.index-goals-place.result.now in
+    let u : Upper = record { assumed = c.holding-assumed.result; possible = c.goals_holding-possible.result } in
+    let refuted : IsRefuted c.args.atoms.now (with_assumed fs xs set) g c.in-Some.values = subst (IsCounterexample c.args.atoms.now (with_assumed fs xs set) g) c.in-Some.is (c.in_ok-counterexample_in.ensures.exact (with_assumed fs xs set) is over) in
+    subst (λ (us : List Upper). AllByRecursion (IsUpper fs xs gs) us) (sym c.in_ok-push-in-Some.ensures.items)
+    (all_push (IsUpper fs xs gs) c.args.upper.now.items u all (model_upper c.args.atoms.now fs xs gs set c.in-Some.values g u refuted c.holding-assumed.ensures.each (counted c.args.atoms.now c.args.goals.now c.in-Some.values c.goals_holding-possible.result c.goals_holding-possible.ensures)))

@@ -1,0 +1,58 @@
+//! Formulas that are assumed beside others, each by its number.
+
+ghost use Rattle.std.specs.Prelude.{◌≡◌, ◌≤◌, ◌<◌, length, map, IfOk, IsTrue};
+ghost use Rattle.std.specs.List.{AllByRecursion};
+ghost use Rattle.mcs_sets.specs.Sets.{has};
+ghost use Rattle.mcs_system.specs.Seen.{formula_of};
+ghost use Rattle.mcs_classical.specs.Assumptions.{assumed, DoHold, HoldsAt};
+ghost use Rattle.mcs_classical.specs.declared.assumptions.Assumption as declared;
+
+use mcs_base::{Active, Memory, Vars};
+use mcs_system::{Formula, Name, holds_at};
+use std::alloc::Global;
+
+/// A formula that may be assumed, with a number.
+#[derive(Clone, Copy)]
+pub struct Assumption<'a> {
+    pub number: u32,
+    pub formula: &'a Formula,
+}
+
+/// The formulas of those assumptions whose numbers are in the set, in the order of the assumptions.
+pub fn assumed<'a>(
+    alloc: Global,
+    assumptions: &[Assumption<'a>],
+    set: Active,
+) -> Result<Vec<&'a Formula>, Memory>
+    requires { AllByRecursion (λ (a : declared.Assumption). a.number < 64) assumptions.now }
+    ensures { IfOk result (λ formulas. map (λ f. formula_of f.now) formulas.items ≡ assumed set assumptions.now) }
+{
+    let mut formulas = Vec::new(alloc);
+    for assumption in assumptions {
+        if set.has(assumption.number) {
+            formulas.push(assumption.formula)?;
+        }
+    }
+    Ok(formulas)
+}
+
+/// The numbers of the assumptions that hold, all of one number together, where exactly those of the atoms are true whose
+/// places are in the set of values. With assumptions of these numbers, and formulas that hold there, nothing follows that
+/// does not hold there.
+pub fn holding(assumptions: &[Assumption<'_>], atoms: &[Name], values: Vars) -> Active
+    requires few { length atoms.now ≤ 64 }
+    requires numbers { AllByRecursion (λ (a : declared.Assumption). a.number < 64) assumptions.now }
+    ensures each { AllByRecursion (λ (a : declared.Assumption). IsTrue (has result a.number) → HoldsAt atoms.now values a) assumptions.now }
+    ensures all { AllByRecursion (λ (a : declared.Assumption). DoHold atoms.now values a.number assumptions.now → IsTrue (has result a.number)) assumptions.now }
+{
+    let mut held = Active::empty();
+    let mut failed = Active::empty();
+    for assumption in assumptions {
+        if holds_at(atoms, values, assumption.formula) {
+            held = held.with(assumption.number);
+        } else {
+            failed = failed.with(assumption.number);
+        }
+    }
+    held.minus(failed)
+}

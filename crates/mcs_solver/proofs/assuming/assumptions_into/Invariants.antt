@@ -1,0 +1,14 @@
+use Rattle.std.proofs.Common.{◌≡◌, ◌<◌, ◌++◌, ℕ, map, drop}
+use Rattle.std.specs.List.{AllByRecursion}
+use Rattle.mcs_system.specs.Seen.{bridge_of}
+use Rattle.mcs_system.specs.Systems.{heads_from, heads_into}
+use Rattle.mcs_classical.specs.Assumptions.{assumed}
+use Rattle.mcs_classical.specs.declared.assumptions.Assumption as declared
+use Rattle.mcs_solver.proofs.assuming.assumptions_into.Given as goal
+
+-- with those of the rules that are still to come the heads are all
+abbrev pub invariant-loop-number : goal.invariant-loop-number
+invariant-loop-number l = record {
+  all : (rules : ℕ) → assumed rules l.assumptions.items ++ heads_from l.number (map bridge_of (drop l.number l.rule-items)) l.context rules ≡ heads_into l.system l.context rules;
+  numbers : AllByRecursion (λ (a : declared.Assumption). a.number < 64) l.assumptions.items;
+}
