@@ -1,32 +1,28 @@
 -- What is found by an answer, and that nothing else changes by it.
-use Rattle.std.proofs.Common.{◌≡◌, ℕ, ◌≤◌, Bool, true, not, ◌&&◌, ltb, List, [], ◌∷◌, ◌++◌, length, arith, sym, ap, ◌∙◌, subst, ◌↔◌, Some, slice_get, IsTrue, true≢false}
+use Rattle.std.proofs.Common.{◌≡◌, ℕ, ◌≤◌, Bool, true, false, not, ◌&&◌, ltb, List, [], ◌∷◌, ◌++◌, length, arith, sym, ap, ◌∙◌, subst, Some, None, slice_get, IsTrue, true≢false}
 use Rattle.std.proofs.lemmas.Bool.Decides.{nat_tests}
 use Rattle.std.proofs.lemmas.Option.{slice_get_within}
 use Rattle.std.specs.List.{AllByRecursion}
 use Rattle.mcs_sets.specs.Sets.{has, single, such_that}
 use Rattle.mcs_sets.proofs.SetLemmas.{has-such_that}
 use Rattle.mcs_sets.proofs.Lattice.{no_member_of_none, only_member}
-use Rattle.mcs_base.proofs.Each.{all_append, all_left, all_push, all_weaker}
+use Rattle.mcs_base.proofs.Each.{all_left, all_push, all_weaker}
 use Rattle.mcs_system.specs.Plain.{Name, Formula, Not, Default, Item}
 use Rattle.mcs_system.specs.Logic.{holds, holds_all, true_names, Entails}
 use Rattle.mcs_trace.specs.Clauses.{ClauseList}
-use Rattle.mcs_trace.specs.declared.certificate.Entail as code
-use Rattle.mcs_cnf.specs.ClauseLists.{IsOver}
-use Rattle.mcs_cnf.specs.Entailments.{entailment_of, says_yes, IsAcceptedEntailment, IsRefuted}
-use Rattle.mcs_cnf.proofs.EntailmentLemmas.{sound}
+use Rattle.mcs_cnf.specs.Entailments.{IsRefuted}
+use Rattle.mcs_classical.specs.Models.{IsCounterexample}
 use Rattle.mcs_evidence.specs.Defaults.{facts_of, defaults_of, generated}
 use Rattle.mcs_system.proofs.Consequence.{each_holds}
 use Rattle.mcs_evidence.proofs.DefaultLemmas.{generated_each}
 use Rattle.mcs_default.specs.Theories.{AreClausesOf, AreParts, consequents}
-use Rattle.mcs_evidence.specs.Theories.{AreOverDefaults}
-use Rattle.mcs_default.specs.Assignments.{holds_part, holds_part_of, holds_part_at}
-use Rattle.mcs_default.specs.Searches.{IsSupportedAt, IsBlockedAt, IsConflict, IsLower, IsUpper, IsReady}
+use Rattle.mcs_default.specs.Assignments.{holds_part, holds_part_of, holds_part_at, with_part}
+use Rattle.mcs_default.specs.Searches.{IsSupportedAt, IsUnsupportedAt, IsAllowedAt, IsBlockedAt, IsConflict, IsLower, IsUpper, IsReady}
 use Rattle.mcs_default.specs.declared.models.Part as part
 use Rattle.mcs_default.specs.declared.models.Part.TheVariants as parts
 use Rattle.mcs_default.specs.declared.findings.Lower as lower
 use Rattle.mcs_default.specs.declared.findings.Upper as upper
 use Rattle.mcs_default.specs.declared.findings.Findings as findings
-use Rattle.mcs_evidence.proofs.TheoryLemmas.{consequents_over}
 
 -- ---- what an assignment shows
 module _ (a : List Name) (ds : List Default) where
@@ -36,39 +32,54 @@ module _ (a : List Name) (ds : List Default) where
       let below : ltb k (length ds) ≡ true = grind (arith, nat_tests) in
       ap (λ (t : ℕ). has t k) is ∙ has-such_that (length ds) (holds_part_at a p ds) k ∙ ap (λ (c : Bool). c && holds_part_at a p ds k) below ∙ ap (holds_part_of a p) at
 
-module _ (a : List Name) (items : List Item) (x : upper.Upper) (facts : IsTrue (holds_all a (facts_of items)))
-    (set : x.set ≡ such_that (length (defaults_of items)) (holds_part_at a parts.Consequent (defaults_of items)))
-    (supported : x.supported ≡ such_that (length (defaults_of items)) (holds_part_at a parts.Prerequisite (defaults_of items)))
-    (allowed : x.allowed ≡ such_that (length (defaults_of items)) (holds_part_at a parts.Justifications (defaults_of items))) where
-  all_hold : IsTrue (holds_all a (generated items x.set))
-  all_hold = (each_holds a (generated items x.set)).0 (generated_each items x.set (λ p. IsTrue (holds a p)) ((each_holds a (facts_of items)).1 facts)
-      (λ k d at member. sym (part_is a (defaults_of items) parts.Consequent x.set k d set at) ∙ member))
+module _ (names : List Name) (items : List Item) (x : upper.Upper) (shown : IsUpper names items x) where
+  all_hold : IsTrue (holds_all (true_names 0 names x.values) (generated items x.set))
+  all_hold = let a : List Name = true_names 0 names x.values in
+      (each_holds a (generated items x.set)).0 (generated_each items x.set (λ p. IsTrue (holds a p)) ((each_holds a (facts_of items)).1 shown.model)
+      (λ k d at member. sym (part_is a (defaults_of items) parts.Consequent x.set k d shown.set at) ∙ member))
 
-  shown_upper : IsUpper items x
-  shown_upper = record {
-    consistent = λ all. true≢false (sym (all a all_hold));
-    unsupported = λ k out d at follows. true≢false (sym (follows a all_hold) ∙ sym (part_is a (defaults_of items) parts.Prerequisite x.supported k d supported at) ∙ out);
-    allowed = λ k member d at. all_weaker (λ j. IsTrue (holds a j)) (λ j. ¬ Entails (generated items x.set) (Not j)) (λ j h follows. true≢false (sym (follows a all_hold) ∙ ap not h)) d.justs
-        ((each_holds a d.justs).1 (sym (part_is a (defaults_of items) parts.Justifications x.allowed k d allowed at) ∙ member));
-  }
+  pub nothing_contradicts : ¬ IsConflict items x.set
+  nothing_contradicts all = true≢false (sym (all (true_names 0 names x.values) all_hold))
+
+  pub others_unsupported : (k : ℕ) → has x.supported k ≡ false → IsUnsupportedAt items x.set k
+  others_unsupported k out d at follows =
+      let a : List Name = true_names 0 names x.values in
+      true≢false (sym (follows a all_hold) ∙ sym (part_is a (defaults_of items) parts.Prerequisite x.supported k d shown.supported at) ∙ out)
+
+  pub these_allowed : (k : ℕ) → has x.allowed k ≡ true → IsAllowedAt items x.set k
+  these_allowed k member d at =
+      let a : List Name = true_names 0 names x.values in
+      all_weaker (λ j. IsTrue (holds a j)) (λ j. ¬ Entails (generated items x.set) (Not j)) (λ j h follows. true≢false (sym (follows a all_hold) ∙ ap not h)) d.justs
+      ((each_holds a d.justs).1 (sym (part_is a (defaults_of items) parts.Justifications x.allowed k d shown.allowed at) ∙ member))
 
 -- what the assignment shows by which a goal is refuted
 pub refuted_upper : (names : List Name) (items : List Item) (ds : List Default) (n set places : ℕ) (g : Formula) (x : upper.Upper) → ds ≡ defaults_of items → n ≡ length ds → IsRefuted names (facts_of items ++ consequents ds set) g places
-    → x.set ≡ such_that n (holds_part_at (true_names 0 names places) parts.Consequent ds) → x.supported ≡ such_that n (holds_part_at (true_names 0 names places) parts.Prerequisite ds)
-    → x.allowed ≡ such_that n (holds_part_at (true_names 0 names places) parts.Justifications ds) → IsUpper items x
-refuted_upper names items ds n set places g x same size refuted is_set is_supported is_allowed =
+    → x.values ≡ places → x.set ≡ such_that n (holds_part_at (true_names 0 names places) parts.Consequent ds) → x.supported ≡ such_that n (holds_part_at (true_names 0 names places) parts.Prerequisite ds)
+    → x.allowed ≡ such_that n (holds_part_at (true_names 0 names places) parts.Justifications ds) → IsUpper names items x
+refuted_upper names items ds n set places g x same size refuted is_values is_set is_supported is_allowed =
     let a : List Name = true_names 0 names places in
     let facts : IsTrue (holds_all a (facts_of items)) = (each_holds a (facts_of items)).0 (all_left (λ p. IsTrue (holds a p)) (facts_of items) (consequents ds set) ((each_holds a (facts_of items ++ consequents ds set)).1 refuted.model.formulas)) in
-    shown_upper a items x facts (is_set ∙ moved parts.Consequent) (is_supported ∙ moved parts.Prerequisite) (is_allowed ∙ moved parts.Justifications)
+    record {
+      model = subst (λ (v : ℕ). IsTrue (holds_all (true_names 0 names v) (facts_of items))) (sym is_values) facts;
+      set = is_set ∙ moved parts.Consequent;
+      supported = is_supported ∙ moved parts.Prerequisite;
+      allowed = is_allowed ∙ moved parts.Justifications;
+    }
   where
-    moved : (p : part.Part) → such_that n (holds_part_at (true_names 0 names places) p ds) ≡ such_that (length (defaults_of items)) (holds_part_at (true_names 0 names places) p (defaults_of items))
-    moved p = ap (λ (m : ℕ). such_that m (holds_part_at (true_names 0 names places) p ds)) size ∙ ap (λ (xs : List Default). such_that (length xs) (holds_part_at (true_names 0 names places) p xs)) same
+    moved : (p : part.Part) → such_that n (holds_part_at (true_names 0 names places) p ds) ≡ with_part (true_names 0 names x.values) p (defaults_of items)
+    moved p = ap (λ (m : ℕ). such_that m (holds_part_at (true_names 0 names places) p ds)) size ∙ ap (λ (xs : List Default). with_part (true_names 0 names places) p xs) same
+        ∙ ap (λ (v : ℕ). with_part (true_names 0 names v) p (defaults_of items)) (sym is_values)
 
--- ---- what an entailment says
-pub says_exactly : (names : List Name) (items : List Item) (ds : List Default) (known : ClauseList) (set : ℕ) (g : Formula) (e : code.Entail) → AreOverDefaults names ds → IsOver names g → AreParts names items ds known
-    → ((fs : List Formula) → AreClausesOf names fs known → IsAcceptedEntailment names (fs ++ consequents ds set) g (entailment_of e)) → IsTrue (says_yes (entailment_of e)) ↔ Entails (generated items set) g
-says_exactly names items ds known set g e over over' parts told = subst (λ (xs : List Default). IsTrue (says_yes (entailment_of e)) ↔ Entails (facts_of items ++ consequents xs set) g) parts.0
-    (sound (facts_of items ++ consequents ds set) g names (entailment_of e) (all_append (IsOver names) (facts_of items) (consequents ds set) parts.1.1 (consequents_over names 0 ds set over)) over' (told (facts_of items) parts.1))
+-- ---- what an answer says
+pub none_follows : (names : List Name) (items : List Item) (ds : List Default) (known : ClauseList) (set : ℕ) (g : Formula) → AreParts names items ds known
+    → ((fs : List Formula) → AreClausesOf names fs known → IsCounterexample names (fs ++ consequents ds set) g None) → Entails (generated items set) g
+none_follows names items ds known set g parts told = subst (λ (xs : List Default). Entails (facts_of items ++ consequents xs set) g) parts.0 (told (facts_of items) parts.1)
+
+pub some_denies : (names : List Name) (items : List Item) (ds : List Default) (known : ClauseList) (set places : ℕ) (g : Formula) → AreParts names items ds known
+    → ((fs : List Formula) → AreClausesOf names fs known → IsCounterexample names (fs ++ consequents ds set) g (Some places)) → ¬ Entails (generated items set) g
+some_denies names items ds known set places g parts told =
+    subst (λ (xs : List Default). ¬ Entails (facts_of items ++ consequents xs set) g) parts.0
+    (λ follows. (let refuted = told (facts_of items) parts.1 in true≢false (sym (follows (true_names 0 names places) refuted.model.formulas) ∙ refuted.goal)))
 
 -- ---- what was found before stays right
 module _ (names : List Name) (ds : List Default) (f f' : findings.Findings) (ready : IsReady names ds f) (kept : f'.facts ≡ f.facts) where
@@ -84,16 +95,16 @@ module _ (names : List Name) (ds : List Default) (f f' : findings.Findings) (rea
     different = ready.different;
     over = ready.over;
     room = room_after;
-    right = λ items parts. (let right = ready.right items (parts_before items parts) in (subst (AllByRecursion (IsLower items)) (sym lows) right.0, subst (AllByRecursion (IsUpper items)) (sym ups) right.1, subst (AllByRecursion (IsConflict items)) (sym conflicts) right.2));
+    right = λ items parts. (let right = ready.right items (parts_before items parts) in (subst (AllByRecursion (IsLower items)) (sym lows) right.0, subst (AllByRecursion (IsUpper names items)) (sym ups) right.1, subst (AllByRecursion (IsConflict items)) (sym conflicts) right.2));
   }
 
-  pub ready_upper : (x : upper.Upper) → f'.conflicts.items ≡ f.conflicts.items → f'.lower.items ≡ f.lower.items → f'.upper.items ≡ f.upper.items ++ x ∷ [] → ((items : List Item) → AreParts names items ds f.facts → IsUpper items x) → IsReady names ds f'
+  pub ready_upper : (x : upper.Upper) → f'.conflicts.items ≡ f.conflicts.items → f'.lower.items ≡ f.lower.items → f'.upper.items ≡ f.upper.items ++ x ∷ [] → ((items : List Item) → AreParts names items ds f.facts → IsUpper names items x) → IsReady names ds f'
   ready_upper x conflicts lows pushed is = record {
     few = ready.few;
     different = ready.different;
     over = ready.over;
     room = room_after;
-    right = λ items parts. (let right = ready.right items (parts_before items parts) in (subst (AllByRecursion (IsLower items)) (sym lows) right.0, subst (AllByRecursion (IsUpper items)) (sym pushed) (all_push (IsUpper items) f.upper.items x right.1 (is items (parts_before items parts))), subst (AllByRecursion (IsConflict items)) (sym conflicts) right.2));
+    right = λ items parts. (let right = ready.right items (parts_before items parts) in (subst (AllByRecursion (IsLower items)) (sym lows) right.0, subst (AllByRecursion (IsUpper names items)) (sym pushed) (all_push (IsUpper names items) f.upper.items x right.1 (is items (parts_before items parts))), subst (AllByRecursion (IsConflict items)) (sym conflicts) right.2));
   }
 
   pub ready_lower : (x : lower.Lower) → f'.conflicts.items ≡ f.conflicts.items → f'.upper.items ≡ f.upper.items → f'.lower.items ≡ f.lower.items ++ x ∷ [] → ((items : List Item) → AreParts names items ds f.facts → IsLower items x) → IsReady names ds f'
@@ -102,7 +113,7 @@ module _ (names : List Name) (ds : List Default) (f f' : findings.Findings) (rea
     different = ready.different;
     over = ready.over;
     room = room_after;
-    right = λ items parts. (let right = ready.right items (parts_before items parts) in (subst (AllByRecursion (IsLower items)) (sym pushed) (all_push (IsLower items) f.lower.items x right.0 (is items (parts_before items parts))), subst (AllByRecursion (IsUpper items)) (sym ups) right.1, subst (AllByRecursion (IsConflict items)) (sym conflicts) right.2));
+    right = λ items parts. (let right = ready.right items (parts_before items parts) in (subst (AllByRecursion (IsLower items)) (sym pushed) (all_push (IsLower items) f.lower.items x right.0 (is items (parts_before items parts))), subst (AllByRecursion (IsUpper names items)) (sym ups) right.1, subst (AllByRecursion (IsConflict items)) (sym conflicts) right.2));
   }
 
   pub ready_conflict : (set : ℕ) → f'.lower.items ≡ f.lower.items → f'.upper.items ≡ f.upper.items → f'.conflicts.items ≡ f.conflicts.items ++ set ∷ [] → ((items : List Item) → AreParts names items ds f.facts → IsConflict items set) → IsReady names ds f'
@@ -111,7 +122,7 @@ module _ (names : List Name) (ds : List Default) (f f' : findings.Findings) (rea
     different = ready.different;
     over = ready.over;
     room = room_after;
-    right = λ items parts. (let right = ready.right items (parts_before items parts) in (subst (AllByRecursion (IsLower items)) (sym lows) right.0, subst (AllByRecursion (IsUpper items)) (sym ups) right.1, subst (AllByRecursion (IsConflict items)) (sym pushed) (all_push (IsConflict items) f.conflicts.items set right.2 (is items (parts_before items parts)))));
+    right = λ items parts. (let right = ready.right items (parts_before items parts) in (subst (AllByRecursion (IsLower items)) (sym lows) right.0, subst (AllByRecursion (IsUpper names items)) (sym ups) right.1, subst (AllByRecursion (IsConflict items)) (sym pushed) (all_push (IsConflict items) f.conflicts.items set right.2 (is items (parts_before items parts)))));
   }
 
 -- ---- one default that is supported, or blocked

@@ -5,3 +5,4 @@ pub mod OrderLemmas
 pub mod JudgeLemmas
 pub mod FindingLemmas
 pub mod SearchLemmas
+pub mod KeptLemmas

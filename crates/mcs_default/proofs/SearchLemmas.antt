@@ -1,20 +1,20 @@
 -- What follows from the consequents of a set follows from those of a larger one, and what a search takes from that.
-use Rattle.std.proofs.Common.{◌≡◌, ℕ, ◌+◌, ◌<◌, ◌≤◌, ◌^◌, Bool, true, false, not, List, [], ◌∷◌, ◌++◌, map, length, get_or, arith, refl, sym, ap, ◌∙◌, subst, ◌⊎◌, ◌↔◌, inl, inr, Some, slice_get, IsTrue, true≢false}
-use Rattle.std.proofs.lemmas.List.{length-map}
+use Rattle.std.proofs.Common.{◌≡◌, ℕ, ◌+◌, ◌<◌, ◌≤◌, ◌^◌, Bool, true, false, not, List, [], ◌∷◌, ◌++◌, map, length, get_or, take, arith, refl, sym, ap, ◌∙◌, subst, ◌⊎◌, ◌↔◌, inl, inr, Some, None, slice_get, IsTrue, true≢false}
+use Rattle.std.proofs.lemmas.List.{length-map, length-take-le, map_more}
 use Rattle.std.proofs.lemmas.Bool.{cases_eq}
 use Rattle.std.proofs.lemmas.Option.{slice_get_read, slice_get_within}
 use Rattle.std.specs.List.{AllByRecursion}
 use Rattle.mcs_sets.specs.Sets.{has, single, union, minus, size, Within}
 use Rattle.mcs_sets.specs.Orders.{StateBefore}
-use Rattle.mcs_sets.proofs.SetLemmas.{has-minus, such_that-lt, Within-le}
+use Rattle.mcs_sets.proofs.SetLemmas.{has-empty, has-minus, such_that-lt, Within-le}
 use Rattle.mcs_sets.proofs.Lattice.{in_minus, in_with, has-without_itself, minus_within, within_union_left, with_within, within_antisymmetric, size-less, none_within, outside_larger, within_without}
 use Rattle.mcs_base.specs.Listings.{IsAmong, IsListing}
 use Rattle.mcs_base.proofs.Among.{among_push}
 use Rattle.mcs_base.proofs.Each.{all_get, all_weaker}
 use Rattle.mcs_base.proofs.ListingLemmas.{IsListing-same}
-use Rattle.mcs_base.proofs.Lists.{slice_get_below, slice_get-map_at}
-use Rattle.mcs_system.specs.Plain.{Formula, Falsity, Not, Default, Item, DefaultTheory}
-use Rattle.mcs_system.specs.Logic.{Theory, Entails}
+use Rattle.mcs_base.proofs.Lists.{slice_get_below, slice_get-map_at, slice_get_kept, slice_get_seam, slice_get_push_at}
+use Rattle.mcs_system.specs.Plain.{Name, Formula, Falsity, Not, Default, Item, DefaultTheory}
+use Rattle.mcs_system.specs.Logic.{BeliefSet, Believes, Theory, Entails}
 use Rattle.mcs_system.specs.Views.{Shows, IsAcceptedView}
 use Rattle.mcs_evidence.specs.Defaults.{defaults_of, generated}
 use Rattle.mcs_system.proofs.Consequence.{one_set, follows_through}
@@ -26,6 +26,7 @@ use Rattle.mcs_default.specs.Searches.{IsAllowedBy, IsSupportedAt, IsUnsupported
 use Rattle.mcs_default.specs.declared.findings.Lower as lower
 use Rattle.mcs_default.specs.declared.findings.Upper as upper
 use Rattle.mcs_default.proofs.JudgeLemmas.{numbered_within}
+use Rattle.mcs_default.proofs.FindingLemmas.{nothing_contradicts, others_unsupported, these_allowed}
 
 -- ---- more and less
 module _ (items : List Item) (a b : ℕ) (within : Within a b) where
@@ -46,17 +47,17 @@ module _ (items : List Item) where
   pub lower_blocks : (xs : List lower.Lower) (i : ℕ) (x : lower.Lower) (set k : ℕ) → i < length xs → x ≡ get_or xs i x → has x.blocked k ≡ true → Within x.set set → AllByRecursion (IsLower items) xs → IsBlockedAt items set k
   lower_blocks xs i x set k less is member within all d at allowed = (all_get (IsLower items) xs i x all (slice_get_read xs (length xs) i x refl less is)).blocked k member d at (allowed_less items x.set set within d allowed)
 
-  pub upper_denies : (xs : List upper.Upper) (i : ℕ) (x : upper.Upper) (set k : ℕ) → i < length xs → x ≡ get_or xs i x → has x.supported k ≡ false → Within set x.set → AllByRecursion (IsUpper items) xs → IsUnsupportedAt items set k
-  upper_denies xs i x set k less is out within all d at follows = (all_get (IsUpper items) xs i x all (slice_get_read xs (length xs) i x refl less is)).unsupported k out d at (follows_more items set x.set within d.pre follows)
+  pub upper_denies : (names : List Name) (xs : List upper.Upper) (i : ℕ) (x : upper.Upper) (set k : ℕ) → i < length xs → x ≡ get_or xs i x → has x.supported k ≡ false → Within set x.set → AllByRecursion (IsUpper names items) xs → IsUnsupportedAt items set k
+  upper_denies names xs i x set k less is out within all d at follows = others_unsupported names items x (all_get (IsUpper names items) xs i x all (slice_get_read xs (length xs) i x refl less is)) k out d at (follows_more items set x.set within d.pre follows)
 
-  pub upper_allows : (xs : List upper.Upper) (i : ℕ) (x : upper.Upper) (set k : ℕ) → i < length xs → x ≡ get_or xs i x → has x.allowed k ≡ true → Within set x.set → AllByRecursion (IsUpper items) xs → IsAllowedAt items set k
-  upper_allows xs i x set k less is member within all d at = allowed_less items set x.set within d ((all_get (IsUpper items) xs i x all (slice_get_read xs (length xs) i x refl less is)).allowed k member d at)
+  pub upper_allows : (names : List Name) (xs : List upper.Upper) (i : ℕ) (x : upper.Upper) (set k : ℕ) → i < length xs → x ≡ get_or xs i x → has x.allowed k ≡ true → Within set x.set → AllByRecursion (IsUpper names items) xs → IsAllowedAt items set k
+  upper_allows names xs i x set k less is member within all d at = allowed_less items set x.set within d (these_allowed names items x (all_get (IsUpper names items) xs i x all (slice_get_read xs (length xs) i x refl less is)) k member d at)
 
   pub conflict_within : (xs : List ℕ) (i x set : ℕ) → i < length xs → x ≡ get_or xs i x → Within x set → AllByRecursion (IsConflict items) xs → IsConflict items set
   conflict_within xs i x set less is within all = follows_more items x set within Falsity (all_get (IsConflict items) xs i x all (slice_get_read xs (length xs) i x refl less is))
 
-  pub upper_consistent : (xs : List upper.Upper) (i : ℕ) (x : upper.Upper) (set : ℕ) → i < length xs → x ≡ get_or xs i x → Within set x.set → AllByRecursion (IsUpper items) xs → ¬ IsConflict items set
-  upper_consistent xs i x set less is within all conflict = (all_get (IsUpper items) xs i x all (slice_get_read xs (length xs) i x refl less is)).consistent (follows_more items set x.set within Falsity conflict)
+  pub upper_consistent : (names : List Name) (xs : List upper.Upper) (i : ℕ) (x : upper.Upper) (set : ℕ) → i < length xs → x ≡ get_or xs i x → Within set x.set → AllByRecursion (IsUpper names items) xs → ¬ IsConflict items set
+  upper_consistent names xs i x set less is within all conflict = nothing_contradicts names items x (all_get (IsUpper names items) xs i x all (slice_get_read xs (length xs) i x refl less is)) (follows_more items set x.set within Falsity conflict)
 
   -- where everything follows, a default is allowed if it has no justification
   pub allowed_by_none : (set : ℕ) (js : List Formula) (b : Bool) → IsConflict items set → IsTrue b ↔ (js ≡ []) → IsTrue b ↔ AllByRecursion (λ j. ¬ Entails (generated items set) (Not j)) js
@@ -234,3 +235,43 @@ module _ (set part k : ℕ) (left : has (minus set part) k ≡ true) where
 -- the only set below a leaf is its own
 pub only_itself : (items : List Item) (set other : ℕ) → IsBelow set set other → Generates items other → Generates items set
 only_itself items set other below generates = subst (Generates items) (within_antisymmetric other set below.1 below.0) generates
+
+-- ---- beliefs, one after the other
+pub shows_none : (b : BeliefSet) → Shows b [] 0
+shows_none b k = (λ h. absurd (true≢false (sym h ∙ has-empty k)), λ h. absurd (let impossible : None ≡ Some h.0 = h.1 in cc))
+
+module _ (b : BeliefSet) (ps : List Formula) (p : Formula) (view : ℕ) (shown : Shows b ps view) where
+  pub shows_more : Believes b p → Shows b (ps ++ p ∷ []) (union view (single (length ps)))
+  shows_more believed k = (
+    λ member. elim ((in_with view (length ps) k).0 member) [
+      | inl old ↦ (let h = (shown k).0 old in (h.0, slice_get_kept ps (p ∷ []) k h.0 h.1, h.2))
+      | inr same ↦ (p, slice_get_seam ps p [] k same, believed)
+    ],
+    λ h. (in_with view (length ps) k).1 (elim (slice_get_push_at ps p k h.0 h.1) as (λ _. (has view k ≡ true) ⊎ (k ≡ length ps)) [
+      | inl old ↦ inl ((shown k).1 (h.0, old, h.2))
+      | inr same ↦ inr same.0
+    ]),
+  )
+
+  pub shows_same : ¬ Believes b p → Shows b (ps ++ p ∷ []) view
+  shows_same never k = (
+    λ member. (let h = (shown k).0 member in (h.0, slice_get_kept ps (p ∷ []) k h.0 h.1, h.2)),
+    λ h. elim (slice_get_push_at ps p k h.0 h.1) as (λ _. has view k ≡ true) [
+      | inl old ↦ (shown k).1 (h.0, old, h.2)
+      | inr same ↦ absurd (never (subst (Believes b) same.1 h.2))
+    ],
+  )
+
+module _ {A : Type 0} (seen : A → Formula) (b : BeliefSet) (xs : List A) (i view : ℕ) (x : A) (less : i < length xs) (is : x ≡ get_or xs i x) (shown : Shows b (map seen (take i xs)) view) where
+  next_seen : map seen (take (i + 1) xs) ≡ map seen (take i xs) ++ seen x ∷ []
+  next_seen = map_more seen xs i x less ∙ ap (λ (y : A). map seen (take i xs) ++ seen y ∷ []) (sym is)
+
+  seen_before : length (map seen (take i xs)) ≡ i
+  seen_before = omega (arith, length-map (take i xs) seen, length-take-le i xs (omega arith))
+
+  pub seen_more : Believes b (seen x) → Shows b (map seen (take (i + 1) xs)) (union view (single i))
+  seen_more believed = subst (λ (ps : List Formula). Shows b ps (union view (single i))) (sym next_seen)
+      (subst (λ (n : ℕ). Shows b (map seen (take i xs) ++ seen x ∷ []) (union view (single n))) seen_before (shows_more b (map seen (take i xs)) (seen x) view shown believed))
+
+  pub seen_same : ¬ Believes b (seen x) → Shows b (map seen (take (i + 1) xs)) view
+  seen_same never = subst (λ (ps : List Formula). Shows b ps view) (sym next_seen) (shows_same b (map seen (take i xs)) (seen x) view shown never)

@@ -1,5 +1,6 @@
 -- Which parts of defaults hold under an assignment.
-use Rattle.std.specs.Prelude.{ℕ, Bool, false, List, Option, Some, None, slice_get}
+use Rattle.std.specs.Prelude.{ℕ, Bool, false, List, length, Option, Some, None, slice_get}
+use Rattle.mcs_sets.specs.Sets.{such_that}
 use Rattle.mcs_system.specs.Plain.{Name, Default}
 use Rattle.mcs_system.specs.Logic.{holds, holds_all}
 use Rattle.mcs_default.specs.declared.models.Part as part
@@ -17,3 +18,7 @@ holds_part_of a p (Some d) = holds_part a p d
 -- the part of the default at this place holds
 abbrev pub holds_part_at : List Name → part.Part → List Default → ℕ → Bool
 holds_part_at a p ds k = holds_part_of a p (slice_get ds k)
+
+-- the places of the defaults of which the part holds
+abbrev pub with_part : List Name → part.Part → List Default → ℕ
+with_part a p ds = such_that (length ds) (holds_part_at a p ds)

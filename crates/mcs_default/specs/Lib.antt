@@ -2,3 +2,4 @@ pub mod Theories
 pub mod Told
 pub mod Searches
 pub mod Assignments
+pub mod Keeping

@@ -1,13 +1,15 @@
 -- What is known of a default theory while its extensions are searched, and what a search answers.
-use Rattle.std.specs.Prelude.{◌≡◌, ℕ, ◌≤◌, true, false, List, length, Option, Some, None}
+use Rattle.std.specs.Prelude.{◌≡◌, ℕ, ◌≤◌, true, false, IsTrue, List, length, Option, Some, None}
 use Rattle.std.specs.List.{AllByRecursion}
 use Rattle.mcs_sets.specs.Sets.{has, Within}
 use Rattle.mcs_system.specs.Faults.{has_twins}
 use Rattle.mcs_system.specs.Plain.{Name, Formula, Falsity, Not, Default, Item}
-use Rattle.mcs_system.specs.Logic.{Theory, Entails}
+use Rattle.mcs_system.specs.Logic.{Theory, Entails, holds_all, true_names}
 use Rattle.mcs_system.specs.Views.{Shows}
-use Rattle.mcs_evidence.specs.Defaults.{generated}
+use Rattle.mcs_evidence.specs.Defaults.{facts_of, defaults_of, generated}
 use Rattle.mcs_default.specs.Theories.{AreParts}
+use Rattle.mcs_default.specs.Assignments.{with_part}
+use Rattle.mcs_default.specs.declared.models.Part.TheVariants as parts
 use Rattle.mcs_evidence.specs.Theories.{AreOverDefaults, IsDefaultAt, NoneSupported, Generates}
 use Rattle.mcs_default.specs.declared.findings.Lower as lower
 use Rattle.mcs_default.specs.declared.findings.Upper as upper
@@ -41,14 +43,15 @@ pub record IsLower (items : List Item) (e : lower.Lower) : Type 0 where
   pub supported : (k : ℕ) → has e.supported k ≡ true → IsSupportedAt items e.set k
   pub blocked : (k : ℕ) → has e.blocked k ≡ true → IsBlockedAt items e.set k
 
--- by the set not everything follows, no others are supported, and these are allowed
-pub record IsUpper (items : List Item) (e : upper.Upper) : Type 0 where
-  pub consistent : ¬ IsConflict items e.set
-  pub unsupported : (k : ℕ) → has e.supported k ≡ false → IsUnsupportedAt items e.set k
-  pub allowed : (k : ℕ) → has e.allowed k ≡ true → IsAllowedAt items e.set k
+-- the facts hold under the assignment, and so do the consequents of exactly the defaults of the set, the prerequisites of exactly these, and of exactly those all justifications
+pub record IsUpper (names : List Name) (items : List Item) (e : upper.Upper) : Type 0 where
+  pub model : IsTrue (holds_all (true_names 0 names e.values) (facts_of items))
+  pub set : e.set ≡ with_part (true_names 0 names e.values) parts.Consequent (defaults_of items)
+  pub supported : e.supported ≡ with_part (true_names 0 names e.values) parts.Prerequisite (defaults_of items)
+  pub allowed : e.allowed ≡ with_part (true_names 0 names e.values) parts.Justifications (defaults_of items)
 
-abbrev pub IsRight : List Item → findings.Findings → Type 0
-IsRight items f = AllByRecursion (IsLower items) f.lower.items × AllByRecursion (IsUpper items) f.upper.items × AllByRecursion (IsConflict items) f.conflicts.items
+abbrev pub IsRight : List Name → List Item → findings.Findings → Type 0
+IsRight names items f = AllByRecursion (IsLower items) f.lower.items × AllByRecursion (IsUpper names items) f.upper.items × AllByRecursion (IsConflict items) f.conflicts.items
 
 -- the defaults can be asked about by what was found
 pub record IsReady (names : List Name) (ds : List Default) (f : findings.Findings) : Type 0 where
@@ -56,7 +59,7 @@ pub record IsReady (names : List Name) (ds : List Default) (f : findings.Finding
   pub different : has_twins names ≡ false
   pub over : AreOverDefaults names ds
   pub room : length names ≤ f.facts.vars
-  pub right : (items : List Item) → AreParts names items ds f.facts → IsRight items f
+  pub right : (items : List Item) → AreParts names items ds f.facts → IsRight names items f
 
 -- ---- the nodes of a search
 -- the set has all that is taken, and nothing that is not in all

@@ -1,12 +1,13 @@
 //! What was found out of sets of defaults, which tells of larger sets or of smaller ones too.
 
-ghost use Rattle.std.specs.Prelude.{◌<◌, List, IsTrue};
+ghost use Rattle.std.specs.Prelude.{◌≡◌, ◌<◌, [], List, IsTrue};
 ghost use Rattle.std.specs.List.{AllByRecursion};
 ghost use Rattle.mcs_system.specs.Plain as plain;
 ghost use Rattle.mcs_default.specs.Searches.{IsLower, IsUpper, IsSupportedAt, IsUnsupportedAt, IsAllowedAt, IsBlockedAt, IsConflict};
 
 use mcs_base::Vars;
-use mcs_trace::Cnf;
+use mcs_sat::ClauseBase;
+use std::alloc::Global;
 
 /// What the consequents of a set of defaults are enough for, and so those of each larger set.
 #[derive(Clone, Copy)]
@@ -19,10 +20,12 @@ pub(crate) struct Lower {
     pub(crate) blocked: Vars,
 }
 
-/// What the consequents of a set of defaults are not enough for, nor those of any smaller set.
+/// What the consequents of a set of defaults are not enough for, nor those of any smaller set: an assignment shows it.
 #[derive(Clone, Copy)]
 pub(crate) struct Upper {
-    /// The set.
+    /// The places of the atoms that are true under the assignment. The facts hold under it.
+    pub(crate) values: Vars,
+    /// The set: the defaults whose consequents hold.
     pub(crate) set: Vars,
     /// The prerequisites of no other defaults follow.
     pub(crate) supported: Vars,
@@ -33,11 +36,28 @@ pub(crate) struct Upper {
 /// The clauses of the facts of a theory, and what was found of sets of its defaults.
 #[derive(Drop)]
 pub(crate) struct Findings {
-    pub(crate) facts: Cnf,
+    pub(crate) facts: ClauseBase,
     pub(crate) lower: Vec<Lower>,
     pub(crate) upper: Vec<Upper>,
     /// Sets with whose consequents the facts contradict each other.
     pub(crate) conflicts: Vec<Vars>,
+}
+
+impl Findings {
+    /// Nothing is found yet.
+    pub(crate) fn new(alloc: Global, facts: ClauseBase) -> Findings
+        ensures facts { result.facts ≡ facts }
+        ensures lower { result.lower.items ≡ [] }
+        ensures upper { result.upper.items ≡ [] }
+        ensures conflicts { result.conflicts.items ≡ [] }
+    {
+        Findings {
+            facts,
+            lower: Vec::new(alloc),
+            upper: Vec::new(alloc),
+            conflicts: Vec::new(alloc),
+        }
+    }
 }
 
 /// Whether it was found that the default at the index is supported by the set.
@@ -69,7 +89,7 @@ pub(crate) fn is_blocked(lower: &[Lower], set: Vars, index: u32) -> bool
 /// Whether it was found that the default at the index is not supported by the set.
 pub(crate) fn is_unsupported(upper: &[Upper], set: Vars, index: u32) -> bool
     requires { index < 64 }
-    ensures { (items : List plain.Item) → AllByRecursion (IsUpper items) upper.now → IsTrue result → IsUnsupportedAt items set index }
+    ensures { (names : List plain.Name) (items : List plain.Item) → AllByRecursion (IsUpper names items) upper.now → IsTrue result → IsUnsupportedAt items set index }
 {
     for found in upper {
         if !found.supported.has(index) && set.within(found.set) {
@@ -82,7 +102,7 @@ pub(crate) fn is_unsupported(upper: &[Upper], set: Vars, index: u32) -> bool
 /// Whether it was found that the default at the index is not blocked by the set.
 pub(crate) fn is_allowed(upper: &[Upper], set: Vars, index: u32) -> bool
     requires { index < 64 }
-    ensures { (items : List plain.Item) → AllByRecursion (IsUpper items) upper.now → IsTrue result → IsAllowedAt items set index }
+    ensures { (names : List plain.Name) (items : List plain.Item) → AllByRecursion (IsUpper names items) upper.now → IsTrue result → IsAllowedAt items set index }
 {
     for found in upper {
         if found.allowed.has(index) && set.within(found.set) {
@@ -106,7 +126,7 @@ pub(crate) fn has_conflict(conflicts: &[Vars], set: Vars) -> bool
 
 /// Whether it was found that they do not.
 pub(crate) fn is_consistent(upper: &[Upper], set: Vars) -> bool
-    ensures { (items : List plain.Item) → AllByRecursion (IsUpper items) upper.now → IsTrue result → ¬ IsConflict items set }
+    ensures { (names : List plain.Name) (items : List plain.Item) → AllByRecursion (IsUpper names items) upper.now → IsTrue result → ¬ IsConflict items set }
 {
     for found in upper {
         if set.within(found.set) {

@@ -2,9 +2,11 @@
 #![tactic(auto)]
 
 mod asking;
+mod base;
 mod findings;
 mod grounding;
 mod inside;
+mod kept;
 mod listing;
 mod models;
 mod nodes;
@@ -14,4 +16,5 @@ mod search;
 mod theory;
 mod verdict;
 
+pub use base::TheoryBase;
 pub use listing::{extensions, extensions_from, list_extensions};

@@ -9,14 +9,15 @@ ghost use Rattle.mcs_system.specs.Plain.{DefaultTheory, Fact};
 ghost use Rattle.mcs_system.specs.Plain as plain;
 ghost use Rattle.mcs_system.specs.Seen.{default_of, formula_of, item_of};
 ghost use Rattle.mcs_system.specs.Views.{IsAcceptedView};
-ghost use Rattle.mcs_cnf.specs.ClauseLists.{AreOver};
-ghost use Rattle.mcs_evidence.specs.Defaults.{AreOverItems, IsAcceptedDefault, defaults_of, verdicts_of};
+ghost use Rattle.mcs_cnf.specs.ClauseLists.{AreOver, clause_list};
+ghost use Rattle.mcs_evidence.specs.Defaults.{AreOverItems, IsAcceptedDefault, facts_of, defaults_of, verdicts_of};
+ghost use Rattle.mcs_default.specs.Searches.{IsReady, IsRight};
 ghost use Rattle.mcs_default.specs.Theories.{AreParts, with_view};
 ghost use Rattle.mcs_evidence.specs.Theories.{AreOverDefaults};
 
 use crate::findings::Findings;
 use crate::search::add_views;
-use crate::theory::facts;
+use crate::theory::{append_formulas, facts, facts_base};
 use crate::verdict::judge;
 use mcs_base::{Memory, Vars, list_states};
 use mcs_evidence::defaults_of;
@@ -72,35 +73,28 @@ fn judge_all(
     Ok((views, DefaultCert { sets }))
 }
 
-/// The views of the extensions alone, by a search. The clauses of the facts are given.
+/// The views of the extensions alone, by a search, beside what was found before.
 fn list_all(
     alloc: Global,
-    facts: Cnf,
+    findings: &mut Findings,
     defaults: &[&Default],
     beliefs: &[&Formula],
     atoms: &[Name],
 ) -> Result<Vec<Vars>, Memory>
-    requires few { length atoms.now ≤ 64 }
     requires few_beliefs { length beliefs.now ≤ 64 }
     requires few_defaults { length defaults.now ≤ 10 }
-    requires different { has_twins atoms.now ≡ false }
-    requires over { AreOverDefaults atoms.now (map (λ d. default_of d.now) defaults.now) }
+    requires ready { IsReady atoms.now (map (λ d. default_of d.now) defaults.now) findings.old }
     requires beliefs { AreOver atoms.now (map (λ b. formula_of b.now) beliefs.now) }
-    requires room { length atoms.now ≤ facts.vars }
-    ensures exact { IfOk result (λ views. (items : List plain.Item) → AreParts atoms.now items (map (λ d. default_of d.now) defaults.now) facts
+    ensures kept { findings.new.facts ≡ findings.old.facts }
+    ensures ready { OnOk result (IsReady atoms.now (map (λ d. default_of d.now) defaults.now) findings.new) }
+    ensures exact { IfOk result (λ views. (items : List plain.Item) → AreParts atoms.now items (map (λ d. default_of d.now) defaults.now) findings.old.facts
         → IsListing (IsAcceptedView (DefaultTheory items) (map (λ b. formula_of b.now) beliefs.now)) StateBefore views.items) }
 {
-    let mut findings = Findings {
-        facts,
-        lower: Vec::new(alloc),
-        upper: Vec::new(alloc),
-        conflicts: Vec::new(alloc),
-    };
     let all = Vars::numbered(set_count(defaults.len()) - 1);
     let mut views = Vec::new(alloc);
     add_views(
         alloc,
-        &mut findings,
+        findings,
         defaults,
         beliefs,
         atoms,
@@ -161,6 +155,38 @@ pub fn extensions_from(
     judge_all(alloc, &mut known, &defaults, beliefs, atoms)
 }
 
+/// The views of the extensions of the theory with the added facts, by a search, beside what was found before. The clauses
+/// of the facts of the items are given.
+pub(crate) fn list_with(
+    alloc: Global,
+    findings: &mut Findings,
+    items: &[TheoryItem],
+    added: &[&Formula],
+    beliefs: &[&Formula],
+    atoms: &[Name],
+) -> Result<Vec<Vars>, Memory>
+    requires few { length atoms.now ≤ 64 }
+    requires few_beliefs { length beliefs.now ≤ 64 }
+    requires few_defaults { length (defaults_of (map item_of items.now)) ≤ 10 }
+    requires different { has_twins atoms.now ≡ false }
+    requires items { AreOverItems atoms.now (map item_of items.now) }
+    requires added { AreOver atoms.now (map (λ f. formula_of f.now) added.now) }
+    requires beliefs { AreOver atoms.now (map (λ b. formula_of b.now) beliefs.now) }
+    requires facts { findings.old.facts ≡ clause_list atoms.now (facts_of (map item_of items.now)) }
+    requires right { IsRight atoms.now (map item_of items.now ++ map Fact (map (λ f. formula_of f.now) added.now)) findings.old }
+    ensures kept { findings.new.facts ≡ findings.old.facts }
+    ensures right { OnOk result (IsRight atoms.now (map item_of items.now ++ map Fact (map (λ f. formula_of f.now) added.now)) findings.new) }
+    ensures exact { IfOk result (λ views. IsListing (IsAcceptedView (with_heads (DefaultTheory (map item_of items.now)) (map (λ f. formula_of f.now) added.now)) (map (λ b. formula_of b.now) beliefs.now)) StateBefore views.items) }
+{
+    let defaults = defaults_of(alloc, items)?;
+    let vars = findings.facts.vars();
+    let count = findings.facts.count();
+    append_formulas(alloc, &mut findings.facts, added, atoms)?;
+    let views = list_all(alloc, findings, &defaults, beliefs, atoms);
+    findings.facts.cut(vars, count);
+    views
+}
+
 /// The views of the extensions, as `extensions_from` lists them, without what shows it: of the verdicts none is kept.
 pub fn list_extensions(
     alloc: Global,
@@ -178,7 +204,8 @@ pub fn list_extensions(
     requires beliefs { AreOver atoms.now (map (λ b. formula_of b.now) beliefs.now) }
     ensures exact { IfOk result (λ r. IsListing (IsAcceptedView (with_heads (DefaultTheory (map item_of items.now)) (map (λ f. formula_of f.now) added.now)) (map (λ b. formula_of b.now) beliefs.now)) StateBefore r.items) }
 {
-    let defaults = defaults_of(alloc, items)?;
-    let known = facts(alloc, items, added, atoms)?;
-    list_all(alloc, known, &defaults, beliefs, atoms)
+    let mut findings = Findings::new(alloc, facts_base(alloc, items, atoms)?);
+    let views = list_with(alloc, &mut findings, items, added, beliefs, atoms);
+    drop(findings);
+    views
 }

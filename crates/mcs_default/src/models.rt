@@ -50,11 +50,13 @@ fn holding(defaults: &[&Default], part: Part, atoms: &[Name], values: Vars) -> V
 pub(crate) fn upper_at(defaults: &[&Default], atoms: &[Name], values: Vars) -> Upper
     requires few { length atoms.now ≤ 64 }
     requires few_defaults { length defaults.now ≤ 10 }
+    ensures values { result.values ≡ values }
     ensures set { result.set ≡ such_that (length defaults.now) (holds_part_at (true_names 0 atoms.now values) parts.Consequent (map (λ d. default_of d.now) defaults.now)) }
     ensures supported { result.supported ≡ such_that (length defaults.now) (holds_part_at (true_names 0 atoms.now values) parts.Prerequisite (map (λ d. default_of d.now) defaults.now)) }
     ensures allowed { result.allowed ≡ such_that (length defaults.now) (holds_part_at (true_names 0 atoms.now values) parts.Justifications (map (λ d. default_of d.now) defaults.now)) }
 {
     Upper {
+        values,
         set: holding(defaults, Part::Consequent, atoms, values),
         supported: holding(defaults, Part::Prerequisite, atoms, values),
         allowed: holding(defaults, Part::Justifications, atoms, values),

@@ -29,7 +29,7 @@ fn applies(
     requires few_defaults { length defaults.now ≤ 10 }
     requires ready { IsReady atoms.now (map (λ d. default_of d.now) defaults.now) findings.old }
     requires index { index < length defaults.now }
-    ensures kept { OnOk result (findings.new.facts ≡ findings.old.facts) }
+    ensures kept { findings.new.facts ≡ findings.old.facts }
     ensures ready { OnOk result (IsReady atoms.now (map (λ d. default_of d.now) defaults.now) findings.new) }
     ensures exact { IfOk result (λ b. (items : List plain.Item) → AreParts atoms.now items (map (λ d. default_of d.now) defaults.now) findings.old.facts
         → (d : plain.Default) → IsDefaultAt items index d → IsTrue b ↔ (Entails (generated items supporting) d.pre × IsAllowedBy (generated items allowing) d)) }
@@ -56,7 +56,7 @@ fn is_open(
     requires ready { IsReady atoms.now (map (λ d. default_of d.now) defaults.now) findings.old }
     requires index { index < length defaults.now }
     requires within { Within taken all }
-    ensures kept { OnOk result (findings.new.facts ≡ findings.old.facts) }
+    ensures kept { findings.new.facts ≡ findings.old.facts }
     ensures ready { OnOk result (IsReady atoms.now (map (λ d. default_of d.now) defaults.now) findings.new) }
     ensures exact { IfOk result (λ b. (items : List plain.Item) → AreParts atoms.now items (map (λ d. default_of d.now) defaults.now) findings.old.facts
         → IsTrue b ↔ IsOpenAt items taken all index) }
@@ -82,7 +82,7 @@ pub(crate) fn are_open(
     requires few_defaults { length defaults.now ≤ 10 }
     requires ready { IsReady atoms.now (map (λ d. default_of d.now) defaults.now) findings.old }
     requires within { Within taken all }
-    ensures kept { OnOk result (findings.new.facts ≡ findings.old.facts) }
+    ensures kept { findings.new.facts ≡ findings.old.facts }
     ensures ready { OnOk result (IsReady atoms.now (map (λ d. default_of d.now) defaults.now) findings.new) }
     ensures exact { IfOk result (λ b. (items : List plain.Item) → AreParts atoms.now items (map (λ d. default_of d.now) defaults.now) findings.old.facts
         → IsTrue b ↔ ((k : ℕ) → k < length defaults.now → IsOpenAt items taken all k)) }
@@ -106,7 +106,7 @@ fn next_supported(
 ) -> Result<Option<u32>, Memory>
     requires few_defaults { length defaults.now ≤ 10 }
     requires ready { IsReady atoms.now (map (λ d. default_of d.now) defaults.now) findings.old }
-    ensures kept { OnOk result (findings.new.facts ≡ findings.old.facts) }
+    ensures kept { findings.new.facts ≡ findings.old.facts }
     ensures ready { OnOk result (IsReady atoms.now (map (λ d. default_of d.now) defaults.now) findings.new) }
     ensures left { IfOk result (λ next. IfSome next (λ k. (k < length defaults.now) × IsTrue (has left k))) }
     ensures exact { IfOk result (λ next. (items : List plain.Item) → AreParts atoms.now items (map (λ d. default_of d.now) defaults.now) findings.old.facts
@@ -132,7 +132,7 @@ pub(crate) fn is_grounded(
 ) -> Result<bool, Memory>
     requires few_defaults { length defaults.now ≤ 10 }
     requires ready { IsReady atoms.now (map (λ d. default_of d.now) defaults.now) findings.old }
-    ensures kept { OnOk result (findings.new.facts ≡ findings.old.facts) }
+    ensures kept { findings.new.facts ≡ findings.old.facts }
     ensures ready { OnOk result (IsReady atoms.now (map (λ d. default_of d.now) defaults.now) findings.new) }
     ensures exact { IfOk result (λ b. (items : List plain.Item) → AreParts atoms.now items (map (λ d. default_of d.now) defaults.now) findings.old.facts
         → IsTrue b ↔ IsGroundedSet items set) }

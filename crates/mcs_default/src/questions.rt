@@ -7,7 +7,7 @@ ghost use Rattle.mcs_system.specs.Logic.{Entails};
 ghost use Rattle.mcs_system.specs.Plain as plain;
 ghost use Rattle.mcs_system.specs.Seen.{default_of, formula_of};
 ghost use Rattle.mcs_cnf.specs.ClauseLists.{IsOver, AreOver};
-ghost use Rattle.mcs_cnf.specs.Entailments.{entailment_of, IsAcceptedEntailment};
+ghost use Rattle.mcs_classical.specs.Models.{IsCounterexample};
 ghost use Rattle.mcs_evidence.specs.Defaults.{generated};
 ghost use Rattle.mcs_default.specs.Theories.{AreClausesOf, AreParts, consequents};
 ghost use Rattle.mcs_evidence.specs.Theories.{AreOverDefaults, IsDefaultAt};
@@ -18,43 +18,44 @@ use crate::findings::{
     is_unsupported,
 };
 use crate::models::upper_at;
-use crate::theory::push_consequents;
+use crate::theory::append_consequents;
 use mcs_base::{Memory, Vars};
-use mcs_classical::entails_from;
+use mcs_classical::counterexample_in;
+use mcs_sat::ClauseBase;
 use mcs_system::{Default, Formula, Name};
-use mcs_trace::{Cnf, Entail};
 use std::alloc::Global;
 
-/// Whether the goal follows from the facts, whose clauses are `known`, and the consequents of the set.
-fn entailment(
+/// The places of the atoms that are true where the facts, whose clauses are `known`, and the consequents of the set hold,
+/// and the goal does not; `None` exactly where it follows.
+fn counterexample(
     alloc: Global,
-    known: &mut Cnf,
+    known: &mut ClauseBase,
     defaults: &[&Default],
     atoms: &[Name],
     set: Vars,
     goal: &Formula,
-) -> Result<Entail, Memory>
+) -> Result<Option<Vars>, Memory>
     requires few { length atoms.now ≤ 64 }
     requires few_defaults { length defaults.now ≤ 10 }
     requires different { has_twins atoms.now ≡ false }
     requires over { AreOverDefaults atoms.now (map (λ d. default_of d.now) defaults.now) }
     requires goal { IsOver atoms.now (formula_of goal.now) }
     requires room { length atoms.now ≤ known.old.vars }
-    ensures kept { OnOk result (known.new ≡ known.old) }
-    ensures told { IfOk result (λ e. (fs : List plain.Formula) → AreClausesOf atoms.now fs known.old
-        → IsAcceptedEntailment atoms.now (fs ++ consequents (map (λ d. default_of d.now) defaults.now) set) (formula_of goal.now) (entailment_of e)) }
+    ensures kept { known.new ≡ known.old }
+    ensures exact { IfOk result (λ found. (fs : List plain.Formula) → AreClausesOf atoms.now fs known.old
+        → IsCounterexample atoms.now (fs ++ consequents (map (λ d. default_of d.now) defaults.now) set) (formula_of goal.now) found) }
 {
     let vars = known.vars();
-    let count = known.clauses().len();
-    push_consequents(alloc, known, defaults, set, atoms)?;
-    let entail = entails_from(alloc, known, goal, atoms)?;
+    let count = known.count();
+    append_consequents(alloc, known, defaults, set, atoms)?;
+    let found = counterexample_in(alloc, known, goal, atoms);
     known.cut(vars, count);
-    Ok(entail)
+    found
 }
 
 /// Whether the goal follows from the facts and the consequents of the set. Where it does not, an assignment shows that:
 /// what else this shows is kept.
-fn follows(
+pub(crate) fn follows(
     alloc: Global,
     findings: &mut Findings,
     defaults: &[&Default],
@@ -65,19 +66,15 @@ fn follows(
     requires few_defaults { length defaults.now ≤ 10 }
     requires ready { IsReady atoms.now (map (λ d. default_of d.now) defaults.now) findings.old }
     requires goal { IsOver atoms.now (formula_of goal.now) }
-    ensures kept { OnOk result (findings.new.facts ≡ findings.old.facts) }
+    ensures kept { findings.new.facts ≡ findings.old.facts }
     ensures ready { OnOk result (IsReady atoms.now (map (λ d. default_of d.now) defaults.now) findings.new) }
     ensures exact { IfOk result (λ b. (items : List plain.Item) → AreParts atoms.now items (map (λ d. default_of d.now) defaults.now) findings.old.facts
         → IsTrue b ↔ Entails (generated items set) (formula_of goal.now)) }
 {
-    match entailment(alloc, &mut findings.facts, defaults, atoms, set, goal)? {
-        Entail::Yes(trace) => {
-            drop(trace);
-            Ok(true)
-        }
-        Entail::No(values) => {
-            let upper = upper_at(defaults, atoms, Vars::numbered(values));
-            findings.upper.push(upper)?;
+    match counterexample(alloc, &mut findings.facts, defaults, atoms, set, goal)? {
+        None => Ok(true),
+        Some(values) => {
+            findings.upper.push(upper_at(defaults, atoms, values))?;
             Ok(false)
         }
     }
@@ -95,7 +92,7 @@ fn refutes(
     requires few_defaults { length defaults.now ≤ 10 }
     requires ready { IsReady atoms.now (map (λ d. default_of d.now) defaults.now) findings.old }
     requires over { IsOver atoms.now (formula_of formula.now) }
-    ensures kept { OnOk result (findings.new.facts ≡ findings.old.facts) }
+    ensures kept { findings.new.facts ≡ findings.old.facts }
     ensures ready { OnOk result (IsReady atoms.now (map (λ d. default_of d.now) defaults.now) findings.new) }
     ensures exact { IfOk result (λ b. (items : List plain.Item) → AreParts atoms.now items (map (λ d. default_of d.now) defaults.now) findings.old.facts
         → IsTrue b ↔ Entails (generated items set) (plain.Not (formula_of formula.now))) }
@@ -118,7 +115,7 @@ fn allows_all(
     requires few_defaults { length defaults.now ≤ 10 }
     requires ready { IsReady atoms.now (map (λ d. default_of d.now) defaults.now) findings.old }
     requires over { AreOver atoms.now (map formula_of justs.now) }
-    ensures kept { OnOk result (findings.new.facts ≡ findings.old.facts) }
+    ensures kept { findings.new.facts ≡ findings.old.facts }
     ensures ready { OnOk result (IsReady atoms.now (map (λ d. default_of d.now) defaults.now) findings.new) }
     ensures exact { IfOk result (λ b. (items : List plain.Item) → AreParts atoms.now items (map (λ d. default_of d.now) defaults.now) findings.old.facts
         → IsTrue b ↔ AllByRecursion (λ j. ¬ Entails (generated items set) (plain.Not j)) (map formula_of justs.now)) }
@@ -143,7 +140,7 @@ pub(crate) fn supports(
     requires few_defaults { length defaults.now ≤ 10 }
     requires ready { IsReady atoms.now (map (λ d. default_of d.now) defaults.now) findings.old }
     requires index { index < length defaults.now }
-    ensures kept { OnOk result (findings.new.facts ≡ findings.old.facts) }
+    ensures kept { findings.new.facts ≡ findings.old.facts }
     ensures ready { OnOk result (IsReady atoms.now (map (λ d. default_of d.now) defaults.now) findings.new) }
     ensures exact { IfOk result (λ b. (items : List plain.Item) → AreParts atoms.now items (map (λ d. default_of d.now) defaults.now) findings.old.facts
         → (d : plain.Default) → IsDefaultAt items index d → IsTrue b ↔ Entails (generated items set) d.pre) }
@@ -182,7 +179,7 @@ fn entails_all(
 ) -> Result<bool, Memory>
     requires few_defaults { length defaults.now ≤ 10 }
     requires ready { IsReady atoms.now (map (λ d. default_of d.now) defaults.now) findings.old }
-    ensures kept { OnOk result (findings.new.facts ≡ findings.old.facts) }
+    ensures kept { findings.new.facts ≡ findings.old.facts }
     ensures ready { OnOk result (IsReady atoms.now (map (λ d. default_of d.now) defaults.now) findings.new) }
     ensures exact { IfOk result (λ b. (items : List plain.Item) → AreParts atoms.now items (map (λ d. default_of d.now) defaults.now) findings.old.facts
         → IsTrue b ↔ IsConflict items set) }
@@ -207,7 +204,7 @@ fn without_needless(
     requires index { index < length defaults.now }
     requires conflict { (items : List plain.Item) → AreParts atoms.now items (map (λ d. default_of d.now) defaults.now) findings.old.facts
         → IsConflict items set }
-    ensures kept { OnOk result (findings.new.facts ≡ findings.old.facts) }
+    ensures kept { findings.new.facts ≡ findings.old.facts }
     ensures ready { OnOk result (IsReady atoms.now (map (λ d. default_of d.now) defaults.now) findings.new) }
     ensures conflict { IfOk result (λ least. (items : List plain.Item) → AreParts atoms.now items (map (λ d. default_of d.now) defaults.now) findings.old.facts
         → IsConflict items least) }
@@ -234,7 +231,7 @@ fn least_conflict(
     requires ready { IsReady atoms.now (map (λ d. default_of d.now) defaults.now) findings.old }
     requires conflict { (items : List plain.Item) → AreParts atoms.now items (map (λ d. default_of d.now) defaults.now) findings.old.facts
         → IsConflict items set }
-    ensures kept { OnOk result (findings.new.facts ≡ findings.old.facts) }
+    ensures kept { findings.new.facts ≡ findings.old.facts }
     ensures ready { OnOk result (IsReady atoms.now (map (λ d. default_of d.now) defaults.now) findings.new) }
     ensures conflict { IfOk result (λ least. (items : List plain.Item) → AreParts atoms.now items (map (λ d. default_of d.now) defaults.now) findings.old.facts
         → IsConflict items least) }
@@ -256,7 +253,7 @@ fn contradicts(
 ) -> Result<bool, Memory>
     requires few_defaults { length defaults.now ≤ 10 }
     requires ready { IsReady atoms.now (map (λ d. default_of d.now) defaults.now) findings.old }
-    ensures kept { OnOk result (findings.new.facts ≡ findings.old.facts) }
+    ensures kept { findings.new.facts ≡ findings.old.facts }
     ensures ready { OnOk result (IsReady atoms.now (map (λ d. default_of d.now) defaults.now) findings.new) }
     ensures exact { IfOk result (λ b. (items : List plain.Item) → AreParts atoms.now items (map (λ d. default_of d.now) defaults.now) findings.old.facts
         → IsTrue b ↔ IsConflict items set) }
@@ -287,7 +284,7 @@ fn allows_by_asking(
     requires few_defaults { length defaults.now ≤ 10 }
     requires ready { IsReady atoms.now (map (λ d. default_of d.now) defaults.now) findings.old }
     requires index { index < length defaults.now }
-    ensures kept { OnOk result (findings.new.facts ≡ findings.old.facts) }
+    ensures kept { findings.new.facts ≡ findings.old.facts }
     ensures ready { OnOk result (IsReady atoms.now (map (λ d. default_of d.now) defaults.now) findings.new) }
     ensures exact { IfOk result (λ b. (items : List plain.Item) → AreParts atoms.now items (map (λ d. default_of d.now) defaults.now) findings.old.facts
         → (d : plain.Default) → IsDefaultAt items index d → IsTrue b ↔ IsAllowedBy (generated items set) d) }
@@ -329,7 +326,7 @@ pub(crate) fn allows(
     requires few_defaults { length defaults.now ≤ 10 }
     requires ready { IsReady atoms.now (map (λ d. default_of d.now) defaults.now) findings.old }
     requires index { index < length defaults.now }
-    ensures kept { OnOk result (findings.new.facts ≡ findings.old.facts) }
+    ensures kept { findings.new.facts ≡ findings.old.facts }
     ensures ready { OnOk result (IsReady atoms.now (map (λ d. default_of d.now) defaults.now) findings.new) }
     ensures exact { IfOk result (λ b. (items : List plain.Item) → AreParts atoms.now items (map (λ d. default_of d.now) defaults.now) findings.old.facts
         → (d : plain.Default) → IsDefaultAt items index d → IsTrue b ↔ IsAllowedBy (generated items set) d) }

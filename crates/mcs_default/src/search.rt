@@ -1,53 +1,49 @@
 //! The search for the extensions of a default theory, default by default.
 
-ghost use Rattle.std.specs.Prelude.{◌≡◌, ◌≤◌, ◌<◌, ◌++◌, ◌↔◌, ◌⊎◌, ℕ, List, false, length, map, IfOk, OnOk};
+ghost use Rattle.std.specs.Prelude.{◌≡◌, ◌≤◌, ◌<◌, ◌↔◌, ◌⊎◌, ℕ, List, length, map, IfOk, OnOk};
 ghost use Rattle.mcs_sets.specs.Sets.{Within};
 ghost use Rattle.mcs_base.specs.Listings.{IsAmong};
-ghost use Rattle.mcs_system.specs.Faults.{has_twins};
 ghost use Rattle.mcs_system.specs.Logic.{Theory};
 ghost use Rattle.mcs_system.specs.Plain as plain;
 ghost use Rattle.mcs_system.specs.Seen.{default_of, formula_of};
 ghost use Rattle.mcs_system.specs.Views.{Shows};
 ghost use Rattle.mcs_cnf.specs.ClauseLists.{AreOver};
-ghost use Rattle.mcs_default.specs.Theories.{AreClausesOf, AreParts, consequents};
+ghost use Rattle.mcs_evidence.specs.Defaults.{generated};
+ghost use Rattle.mcs_default.specs.Theories.{AreParts};
 ghost use Rattle.mcs_evidence.specs.Theories.{AreOverDefaults, all_of};
 ghost use Rattle.mcs_default.specs.Searches.{IsReady, IsOpenAt, IsViewBelow};
 
 use crate::findings::Findings;
 use crate::nodes::{are_open, is_grounded};
-use crate::theory::push_consequents;
+use crate::questions::follows;
 use mcs_base::{Memory, Vars};
-use mcs_classical::outputs_from;
 use mcs_system::{Default, Formula, Name};
-use mcs_trace::Cnf;
 use std::alloc::Global;
 
-/// The beliefs that follow from the facts, whose clauses are `known`, and the consequents of the set.
+/// The beliefs that follow from the facts and the consequents of the set.
 fn view_of(
     alloc: Global,
-    known: &mut Cnf,
+    findings: &mut Findings,
     defaults: &[&Default],
     beliefs: &[&Formula],
     atoms: &[Name],
     set: Vars,
 ) -> Result<Vars, Memory>
-    requires few { length atoms.now ≤ 64 }
     requires few_beliefs { length beliefs.now ≤ 64 }
     requires few_defaults { length defaults.now ≤ 10 }
-    requires different { has_twins atoms.now ≡ false }
-    requires over { AreOverDefaults atoms.now (map (λ d. default_of d.now) defaults.now) }
+    requires ready { IsReady atoms.now (map (λ d. default_of d.now) defaults.now) findings.old }
     requires beliefs { AreOver atoms.now (map (λ b. formula_of b.now) beliefs.now) }
-    requires room { length atoms.now ≤ known.old.vars }
-    ensures kept { OnOk result (known.new ≡ known.old) }
-    ensures shown { IfOk result (λ view. (fs : List plain.Formula) → AreClausesOf atoms.now fs known.old
-        → Shows (Theory (fs ++ consequents (map (λ d. default_of d.now) defaults.now) set)) (map (λ b. formula_of b.now) beliefs.now) view) }
+    ensures kept { findings.new.facts ≡ findings.old.facts }
+    ensures ready { OnOk result (IsReady atoms.now (map (λ d. default_of d.now) defaults.now) findings.new) }
+    ensures shown { IfOk result (λ view. (items : List plain.Item) → AreParts atoms.now items (map (λ d. default_of d.now) defaults.now) findings.old.facts
+        → Shows (Theory (generated items set)) (map (λ b. formula_of b.now) beliefs.now) view) }
 {
-    let vars = known.vars();
-    let count = known.clauses().len();
-    push_consequents(alloc, known, defaults, set, atoms)?;
-    let (view, shown) = outputs_from(alloc, known, beliefs, atoms)?;
-    drop(shown);
-    known.cut(vars, count);
+    let mut view = Vars::empty();
+    for (index, belief) in beliefs.iter().enumerate() {
+        if follows(alloc, findings, defaults, atoms, set, belief)? {
+            view = view.with(index as u32);
+        }
+    }
     Ok(view)
 }
 
@@ -66,14 +62,14 @@ fn add_view(
     requires few_defaults { length defaults.now ≤ 10 }
     requires ready { IsReady atoms.now (map (λ d. default_of d.now) defaults.now) findings.old }
     requires beliefs { AreOver atoms.now (map (λ b. formula_of b.now) beliefs.now) }
-    ensures kept { OnOk result (findings.new.facts ≡ findings.old.facts) }
+    ensures kept { findings.new.facts ≡ findings.old.facts }
     ensures ready { OnOk result (IsReady atoms.now (map (λ d. default_of d.now) defaults.now) findings.new) }
     ensures listed { OnOk result ((items : List plain.Item) → AreParts atoms.now items (map (λ d. default_of d.now) defaults.now) findings.old.facts
         → Within set (all_of (map (λ d. default_of d.now) defaults.now)) → ((k : ℕ) → k < length defaults.now → IsOpenAt items set set k)
         → (places : ℕ) → IsAmong places views.new.items ↔ (IsAmong places views.old.items ⊎ IsViewBelow items (map (λ b. formula_of b.now) beliefs.now) set set places)) }
 {
     if is_grounded(alloc, findings, defaults, atoms, set)? {
-        views.push(view_of(alloc, &mut findings.facts, defaults, beliefs, atoms, set)?)?;
+        views.push(view_of(alloc, findings, defaults, beliefs, atoms, set)?)?;
     }
     Ok(())
 }
@@ -97,7 +93,7 @@ pub(crate) fn add_views(
     requires beliefs { AreOver atoms.now (map (λ b. formula_of b.now) beliefs.now) }
     requires within { Within taken all }
     requires all { Within all (all_of (map (λ d. default_of d.now) defaults.now)) }
-    ensures kept { OnOk result (findings.new.facts ≡ findings.old.facts) }
+    ensures kept { findings.new.facts ≡ findings.old.facts }
     ensures ready { OnOk result (IsReady atoms.now (map (λ d. default_of d.now) defaults.now) findings.new) }
     ensures listed { OnOk result ((items : List plain.Item) → AreParts atoms.now items (map (λ d. default_of d.now) defaults.now) findings.old.facts
         → (places : ℕ) → IsAmong places views.new.items ↔ (IsAmong places views.old.items ⊎ IsViewBelow items (map (λ b. formula_of b.now) beliefs.now) taken all places)) }

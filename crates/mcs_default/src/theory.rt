@@ -1,6 +1,6 @@
 //! The facts of a theory, and the conclusions of its defaults.
 
-ghost use Rattle.std.specs.Prelude.{◌≡◌, ◌≤◌, ◌++◌, length, map, IfOk, OnOk};
+ghost use Rattle.std.specs.Prelude.{◌≡◌, ◌≤◌, ◌++◌, length, map, IfOk, OnOk, OnErr};
 ghost use Rattle.mcs_system.specs.Seen.{formula_of, default_of, item_of};
 ghost use Rattle.mcs_cnf.specs.ClauseLists.{with_formulas, clause_list, AreOver};
 ghost use Rattle.mcs_evidence.specs.Defaults.{AreOverItems, facts_of};
@@ -9,6 +9,7 @@ ghost use Rattle.mcs_evidence.specs.Theories.{AreOverDefaults};
 
 use mcs_base::{Memory, Vars};
 use mcs_cnf::{push_all, push_formula};
+use mcs_sat::ClauseBase;
 use mcs_system::{Default, Formula, Name, TheoryItem};
 use mcs_trace::Cnf;
 use std::alloc::Global;
@@ -70,4 +71,68 @@ pub(crate) fn push_consequents(
         }
     }
     Ok(())
+}
+
+/// The same where the clauses are ready for searches. Where memory runs out, they are as before.
+pub(crate) fn append_consequents(
+    alloc: Global,
+    known: &mut ClauseBase,
+    defaults: &[&Default],
+    set: Vars,
+    atoms: &[Name],
+) -> Result<(), Memory>
+    requires few { length defaults.now ≤ 10 }
+    requires over { AreOverDefaults atoms.now (map (λ d. default_of d.now) defaults.now) }
+    requires room { length atoms.now ≤ known.old.vars }
+    ensures ok { OnOk result (known.new ≡ with_formulas atoms.now known.old (consequents (map (λ d. default_of d.now) defaults.now) set)) }
+    ensures err { OnErr result (known.new ≡ known.old) }
+{
+    let mut more = Cnf::new(alloc, known.vars());
+    push_consequents(alloc, &mut more, defaults, set, atoms)?;
+    let added = known.append(&more);
+    drop(more);
+    added
+}
+
+/// Adds the clauses of the formulas to clauses that are ready for searches. Where memory runs out, these are as before.
+pub(crate) fn append_formulas(
+    alloc: Global,
+    known: &mut ClauseBase,
+    formulas: &[&Formula],
+    atoms: &[Name],
+) -> Result<(), Memory>
+    requires over { AreOver atoms.now (map (λ f. formula_of f.now) formulas.now) }
+    requires room { length atoms.now ≤ known.old.vars }
+    ensures ok { OnOk result (known.new ≡ with_formulas atoms.now known.old (map (λ f. formula_of f.now) formulas.now)) }
+    ensures err { OnErr result (known.new ≡ known.old) }
+{
+    let mut more = Cnf::new(alloc, known.vars());
+    push_all(alloc, &mut more, formulas, atoms)?;
+    let added = known.append(&more);
+    drop(more);
+    added
+}
+
+/// The clauses of the facts among the items, ready for many searches.
+pub(crate) fn facts_base(
+    alloc: Global,
+    items: &[TheoryItem],
+    atoms: &[Name],
+) -> Result<ClauseBase, Memory>
+    requires few { length atoms.now ≤ 64 }
+    requires items { AreOverItems atoms.now (map item_of items.now) }
+    ensures { IfOk result (λ known. known ≡ clause_list atoms.now (facts_of (map item_of items.now))) }
+{
+    let mut cnf = Cnf::new(alloc, atoms.len() as u64);
+    push_facts(alloc, &mut cnf, items, atoms)?;
+    let made = ClauseBase::of(alloc, &cnf);
+    drop(cnf);
+    let mut known = made?;
+    match known.settle() {
+        Ok(()) => Ok(known),
+        Err(error) => {
+            drop(known);
+            Err(error)
+        }
+    }
 }

@@ -40,3 +40,5 @@ mod tables;
 mod theories;
 #[cfg(test)]
 mod traces;
+#[cfg(test)]
+mod turns;

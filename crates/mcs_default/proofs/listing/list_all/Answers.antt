@@ -25,15 +25,12 @@ add_views-requires-clause-all c =
     let all = all_sets ds c.set_count.result c.numbered-all.result (c.set_count.ensures ∙ few) c.numbered-all.ensures in
     subst (λ (s : ℕ). Within c.numbered-all.result s) all (λ k member. member)
 
-pub returns : goal.returns
-returns c =
+pub returns-clause-exact : goal.returns-clause-exact
+returns-clause-exact c items parts =
     let ds : List Default = map (λ d. default_of d.now) c.args.defaults.now in
     let beliefs : List Formula = map (λ b. formula_of b.now) c.args.beliefs.now in
     let few : 2 ^ length c.args.defaults.now ≡ 2 ^ length ds = ap (λ (n : ℕ). 2 ^ n) (sym (length-map c.args.defaults.now (λ d. default_of d.now))) in
     let all = all_sets ds c.set_count.result c.numbered-all.result (c.set_count.ensures ∙ few) c.numbered-all.ensures in
-    record {
-      exact = λ items parts.
-          (let added = subst (λ (s : ℕ). AreAdded items beliefs s c.numbered-all.result c.new-views.result.items c.add_views.new.views.items) c.empty.ensures (c.in_ok-add_views.ensures.listed items parts) in
-          let from_none = subst (λ (xs : List ℕ). AreAdded items beliefs 0 c.numbered-all.result xs c.add_views.new.views.items) c.new-views.ensures.items added in
-          all_added items beliefs ds c.add_views.new.views.items c.list_states.new.states.items parts.0 (subst (λ (s : ℕ). AreAdded items beliefs 0 s [] c.add_views.new.views.items) all from_none) c.list_states.ensures);
-    }
+    let added = subst (λ (s : ℕ). AreAdded items beliefs s c.numbered-all.result c.new-views.result.items c.add_views.new.views.items) c.empty.ensures (c.in_ok-add_views.ensures.listed items parts) in
+    let from_none = subst (λ (xs : List ℕ). AreAdded items beliefs 0 c.numbered-all.result xs c.add_views.new.views.items) c.new-views.ensures.items added in
+    all_added items beliefs ds c.add_views.new.views.items c.list_states.new.states.items parts.0 (subst (λ (s : ℕ). AreAdded items beliefs 0 s [] c.add_views.new.views.items) all from_none) c.list_states.ensures

@@ -1,6 +1,7 @@
 use Rattle.std.proofs.Common.{◌∙◌, map, sym, subst, ap, IsTrue, ◌↔◌, List, length, slice_index_or}
 use Rattle.std.proofs.lemmas.Result.{IfOk-weaker}
 use Rattle.std.specs.Bool.{◌==◌}
+use Rattle.mcs_base.proofs.Booleans.{true_tells}
 use Rattle.mcs_base.proofs.Mapped.{no_images}
 use Rattle.mcs_system.specs.declared.formula.Formula as code
 use Rattle.mcs_system.specs.Seen.{default_of, formula_of}
@@ -18,3 +19,7 @@ returns-then-branch-clause-exact c items parts d at =
 
 pub returns-clause-exact : goal.returns-clause-exact
 returns-clause-exact c = IfOk-weaker c.allows_by_asking.result _ _ (λ b h items parts. h items (subst (AreParts c.args.atoms.now items (map (λ d. default_of d.now) c.args.defaults.now)) (sym c.in_ok-contradicts.ensures.kept) parts)) c.allows_by_asking.ensures.exact
+
+pub returns-then-is_allowed-clause-exact : goal.returns-then-is_allowed-clause-exact
+returns-then-is_allowed-clause-exact c items parts d at =
+    true_tells (c.is_allowed.ensures c.args.atoms.now items (rw c.deref.ensures.value ((c.requires.ready.right items parts).1)) c.if-is_allowed.true d at)

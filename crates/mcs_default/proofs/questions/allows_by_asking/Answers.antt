@@ -1,5 +1,6 @@
 use Rattle.std.proofs.Common.{◌≡◌, List, map, refl, subst, IsTrue, ◌↔◌, Bool}
 use Rattle.std.specs.List.{AllByRecursion}
+use Rattle.mcs_base.proofs.Booleans.{true_tells}
 use Rattle.mcs_base.proofs.Mapped.{image_each_at}
 use Rattle.mcs_system.specs.Plain.{Formula, Not}
 use Rattle.mcs_system.specs.declared.formula.Formula as code
@@ -39,3 +40,7 @@ pub returns-else-not-is_allowed-clause-exact : goal.returns-else-not-is_allowed-
 returns-else-not-is_allowed-clause-exact c items parts d at =
     default_there (λ x. default_of x.now) c.args.defaults.now items c.args.index c.index-defaults-index.result c.requires.index parts.0 d at (λ d. IsTrue c.in_ok-is_allowed.is_allowed ↔ IsAllowedBy (generated items c.args.set) d)
     (asked (generated items c.args.set) _ _ c.in_ok-is_allowed.is_allowed c.deref-3.ensures.value (c.in_ok-is_allowed.ensures.exact items parts))
+
+pub returns-then-is_allowed-clause-exact : goal.returns-then-is_allowed-clause-exact
+returns-then-is_allowed-clause-exact c items parts d at =
+    true_tells (c.is_allowed.ensures c.args.atoms.now items (rw c.deref.ensures.value ((c.requires.ready.right items parts).1)) c.if-is_allowed.true d at)

@@ -9,7 +9,7 @@ pub returns-then-has_conflict-clause-exact : goal.returns-then-has_conflict-clau
 returns-then-has_conflict-clause-exact c items parts = true_tells (c.has_conflict.ensures items (rw c.deref.ensures.value ((c.requires.ready.right items parts).2)) c.if-has_conflict.true)
 
 pub returns-then-is_consistent-clause-exact : goal.returns-then-is_consistent-clause-exact
-returns-then-is_consistent-clause-exact c items parts = false_tells (c.is_consistent.ensures items (rw c.deref-2.ensures.value ((c.requires.ready.right items parts).1)) c.if-is_consistent.true)
+returns-then-is_consistent-clause-exact c items parts = false_tells (c.is_consistent.ensures c.args.atoms.now items (rw c.deref-2.ensures.value ((c.requires.ready.right items parts).1)) c.if-is_consistent.true)
 
 pub least_conflict-requires-clause-conflict : goal.least_conflict-requires-clause-conflict
 least_conflict-requires-clause-conflict c items parts =

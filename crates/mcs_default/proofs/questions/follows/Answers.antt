@@ -1,44 +1,43 @@
+use Rattle.std.proofs.Common.{ℕ, Some, Option, List, ◌++◌, length, map, refl, sym, subst}
 use Rattle.std.proofs.lemmas.List.{length-map}
-use Rattle.mcs_sets.specs.Sets.{such_that}
-use Rattle.std.proofs.Common.{◌≡◌, ℕ, ap, List, ◌++◌, length, map, refl, sym, subst, ◌∙◌, ◌↔◌, IsTrue}
-use Rattle.mcs_system.specs.Plain.{Default}
-use Rattle.mcs_system.specs.Logic.{Entails}
+use Rattle.mcs_base.proofs.Booleans.{true_tells, false_tells}
+use Rattle.mcs_system.specs.Plain.{Formula}
 use Rattle.mcs_system.specs.Seen.{default_of, formula_of}
-use Rattle.mcs_trace.specs.declared.certificate.Entail.{Entail}
-use Rattle.mcs_cnf.specs.Entailments.{entailment_of, says_yes, IsAcceptedEntailment}
-use Rattle.mcs_evidence.specs.Defaults.{facts_of, generated}
-use Rattle.mcs_default.specs.Theories.{consequents}
-use Rattle.mcs_default.proofs.FindingLemmas.{says_exactly, ready_same, ready_upper, refuted_upper}
-use Rattle.mcs_default.specs.Assignments.{holds_part_at}
-use Rattle.mcs_default.specs.declared.models.Part as part
-use Rattle.mcs_default.specs.declared.models.Part.TheVariants as parts
-use Rattle.mcs_system.specs.Logic.{true_names}
-use Rattle.mcs_system.specs.Plain.{Name}
+use Rattle.mcs_classical.specs.Models.{IsCounterexample}
+use Rattle.mcs_evidence.specs.Defaults.{facts_of}
+use Rattle.mcs_default.specs.Theories.{AreClausesOf, consequents}
+use Rattle.mcs_default.proofs.FindingLemmas.{none_follows, some_denies, ready_same, ready_upper, refuted_upper}
 use Rattle.mcs_default.proofs.questions.follows.Goals as goal
 
-moved : (names : List Name) (ds : List Default) (n s v : ℕ) (p : part.Part) → s ≡ v → such_that n (holds_part_at (true_names 0 names s) p ds) ≡ such_that n (holds_part_at (true_names 0 names v) p ds)
-moved names ds n s v p is = ap (λ (t : ℕ). such_that n (holds_part_at (true_names 0 names t) p ds)) is
+pub returns-in-None-clause-ready : goal.returns-in-None-clause-ready
+returns-in-None-clause-ready c = ready_same c.args.atoms.now (map (λ d. default_of d.now) c.args.defaults.now) c.args.findings.now
+    (record { facts = c.counterexample.new.known; lower = c.args.findings.now.lower; upper = c.args.findings.now.upper; conflicts = c.args.findings.now.conflicts }) c.requires.ready c.in_ok-counterexample.ensures.kept refl refl refl
 
-pub returns-in-Yes-clause-ready : goal.returns-in-Yes-clause-ready
-returns-in-Yes-clause-ready c = ready_same c.args.atoms.now (map (λ d. default_of d.now) c.args.defaults.now) c.args.findings.now (record { facts = c.entailment.new.known; lower = c.args.findings.now.lower; upper = c.args.findings.now.upper; conflicts = c.args.findings.now.conflicts }) c.requires.ready c.in_ok-trace.ensures.kept refl refl refl
-
-pub returns-in-Yes-clause-exact : goal.returns-in-Yes-clause-exact
-returns-in-Yes-clause-exact c items parts =
-    subst (λ (e : Entail). IsTrue (says_yes (entailment_of e)) ↔ Entails (generated items c.args.set) (formula_of c.args.goal.now)) c.in-Yes.is
-    (says_exactly c.args.atoms.now items (map (λ d. default_of d.now) c.args.defaults.now) c.args.findings.now.facts c.args.set (formula_of c.args.goal.now) c.in_ok-trace.field-0 c.requires.ready.over c.requires.goal parts c.in_ok-trace.ensures.told)
-
-pub returns-in_ok-push-in-No-clause-ready : goal.returns-in_ok-push-in-No-clause-ready
-returns-in_ok-push-in-No-clause-ready c =
+pub returns-in-None-clause-exact : goal.returns-in-None-clause-exact
+returns-in-None-clause-exact c items parts =
     let names = c.args.atoms.now in
     let ds = map (λ d. default_of d.now) c.args.defaults.now in
-    ready_upper names ds c.args.findings.now (record { facts = c.entailment.new.known; lower = c.args.findings.now.lower; upper = c.push.new.self; conflicts = c.args.findings.now.conflicts }) c.requires.ready c.in_ok-trace.ensures.kept c.upper_at-upper.result refl refl c.in_ok-push-in-No.ensures.items (λ items is_of.
-    (refuted_upper names items ds (length c.args.defaults.now) c.args.set c.in-No.values (formula_of c.args.goal.now) c.upper_at-upper.result is_of.0 (sym (length-map c.args.defaults.now (λ d. default_of d.now)))
-    (subst (λ (e : Entail). IsAcceptedEntailment names (facts_of items ++ consequents ds c.args.set) (formula_of c.args.goal.now) (entailment_of e)) c.in-No.is (c.in_ok-trace.ensures.told (facts_of items) is_of.1))
-    (c.upper_at-upper.ensures.set ∙ moved names ds (length c.args.defaults.now) c.numbered.result c.in-No.values parts.Consequent c.numbered.ensures)
-    (c.upper_at-upper.ensures.supported ∙ moved names ds (length c.args.defaults.now) c.numbered.result c.in-No.values parts.Prerequisite c.numbered.ensures)
-    (c.upper_at-upper.ensures.allowed ∙ moved names ds (length c.args.defaults.now) c.numbered.result c.in-No.values parts.Justifications c.numbered.ensures)))
+    let g : Formula = formula_of c.args.goal.now in
+    true_tells (none_follows names items ds c.args.findings.now.facts c.args.set g parts
+    (subst (λ (o : Option ℕ). (fs : List Formula) → AreClausesOf names fs c.args.findings.now.facts → IsCounterexample names (fs ++ consequents ds c.args.set) g o) c.in-None.is c.in_ok-counterexample.ensures.exact))
 
-pub returns-in_ok-push-in-No-clause-exact : goal.returns-in_ok-push-in-No-clause-exact
-returns-in_ok-push-in-No-clause-exact c items parts =
-    subst (λ (e : Entail). IsTrue (says_yes (entailment_of e)) ↔ Entails (generated items c.args.set) (formula_of c.args.goal.now)) c.in-No.is
-    (says_exactly c.args.atoms.now items (map (λ d. default_of d.now) c.args.defaults.now) c.args.findings.now.facts c.args.set (formula_of c.args.goal.now) c.in_ok-trace.field-0 c.requires.ready.over c.requires.goal parts c.in_ok-trace.ensures.told)
+pub returns-in_ok-push-in-Some-clause-ready : goal.returns-in_ok-push-in-Some-clause-ready
+returns-in_ok-push-in-Some-clause-ready c =
+    let names = c.args.atoms.now in
+    let ds = map (λ d. default_of d.now) c.args.defaults.now in
+    let n = length c.args.defaults.now in
+    let g : Formula = formula_of c.args.goal.now in
+    let x = c.upper_at.result in
+    let told : (fs : List Formula) → AreClausesOf names fs c.args.findings.now.facts → IsCounterexample names (fs ++ consequents ds c.args.set) g (Some c.in-Some.values) =
+    subst (λ (o : Option ℕ). (fs : List Formula) → AreClausesOf names fs c.args.findings.now.facts → IsCounterexample names (fs ++ consequents ds c.args.set) g o) c.in-Some.is c.in_ok-counterexample.ensures.exact in
+    ready_upper names ds c.args.findings.now (record { facts = c.counterexample.new.known; lower = c.args.findings.now.lower; upper = c.push.new.self; conflicts = c.args.findings.now.conflicts }) c.requires.ready c.in_ok-counterexample.ensures.kept x refl refl c.in_ok-push-in-Some.ensures.items (λ items is_of.
+    (refuted_upper names items ds n c.args.set c.in-Some.values g x is_of.0 (sym (length-map c.args.defaults.now (λ d. default_of d.now))) (told (facts_of items) is_of.1)
+    c.upper_at.ensures.values c.upper_at.ensures.set c.upper_at.ensures.supported c.upper_at.ensures.allowed))
+
+pub returns-in_ok-push-in-Some-clause-exact : goal.returns-in_ok-push-in-Some-clause-exact
+returns-in_ok-push-in-Some-clause-exact c items parts =
+    let names = c.args.atoms.now in
+    let ds = map (λ d. default_of d.now) c.args.defaults.now in
+    let g : Formula = formula_of c.args.goal.now in
+    false_tells (some_denies names items ds c.args.findings.now.facts c.args.set c.in-Some.values g parts
+    (subst (λ (o : Option ℕ). (fs : List Formula) → AreClausesOf names fs c.args.findings.now.facts → IsCounterexample names (fs ++ consequents ds c.args.set) g o) c.in-Some.is c.in_ok-counterexample.ensures.exact))

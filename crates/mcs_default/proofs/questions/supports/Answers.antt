@@ -1,4 +1,5 @@
 use Rattle.std.proofs.Common.{map, refl, subst}
+use Rattle.mcs_base.proofs.Booleans.{false_tells}
 use Rattle.mcs_base.proofs.Mapped.{image_each_at}
 use Rattle.mcs_system.specs.Logic.{Entails}
 use Rattle.mcs_system.specs.Seen.{default_of}
@@ -20,3 +21,7 @@ returns-in_ok-push-clause-ready c =
     (lower_supported items (record { set = c.args.set; supported = c.one.result; blocked = c.empty.result }) c.args.set c.args.index refl c.one.ensures c.empty.ensures (λ d at.
     (default_there (λ x. default_of x.now) c.args.defaults.now items c.args.index c.index-defaults-index.result c.requires.index parts.0 d at (λ d. Entails (generated items c.args.set) d.pre)
     ((c.in_ok-is_supported.ensures.exact items (subst (AreParts c.args.atoms.now items ds) c.in_ok-is_supported.ensures.kept parts)).0 c.if-is_supported-2.true)))))
+
+pub returns-then-is_unsupported-clause-exact : goal.returns-then-is_unsupported-clause-exact
+returns-then-is_unsupported-clause-exact c items parts d at =
+    false_tells (c.is_unsupported.ensures c.args.atoms.now items (rw c.deref-2.ensures.value ((c.requires.ready.right items parts).1)) c.if-is_unsupported.true d at)

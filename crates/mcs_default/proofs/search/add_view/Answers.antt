@@ -1,20 +1,13 @@
-use Rattle.std.proofs.Common.{◌≡◌, ◌∙◌, ◌<◌, ◌^◌, ◌++◌, List, length, map, sym, ap, subst, arith, refl}
+use Rattle.std.proofs.Common.{◌≡◌, ◌∙◌, ◌<◌, ◌^◌, List, length, map, sym, ap, subst, arith}
 use Rattle.std.proofs.lemmas.List.{length-map}
 use Rattle.mcs_sets.proofs.Lattice.{below_from_within}
 use Rattle.mcs_system.specs.Plain.{Formula, Default}
-use Rattle.mcs_system.specs.Logic.{Theory}
 use Rattle.mcs_system.specs.Seen.{default_of, formula_of}
-use Rattle.mcs_system.specs.Views.{Shows}
-use Rattle.mcs_evidence.specs.Defaults.{facts_of, defaults_of}
-use Rattle.mcs_default.specs.Theories.{AreParts, consequents}
-use Rattle.mcs_default.proofs.FindingLemmas.{ready_same}
+use Rattle.mcs_evidence.specs.Defaults.{defaults_of}
+use Rattle.mcs_default.specs.Theories.{AreParts}
 use Rattle.mcs_default.proofs.SearchLemmas.{leaf_generates, none_added, one_added, only_itself}
 use Rattle.std.proofs.lemmas.Bool.{iff_false}
 use Rattle.mcs_default.proofs.search.add_view.Goals as goal
-
-pub returns-in_ok-push-clause-ready : goal.returns-in_ok-push-clause-ready
-returns-in_ok-push-clause-ready c = ready_same c.args.atoms.now (map (λ d. default_of d.now) c.args.defaults.now) c.is_grounded.new.findings
-    (record { facts = c.view_of.new.known; lower = c.is_grounded.new.findings.lower; upper = c.is_grounded.new.findings.upper; conflicts = c.is_grounded.new.findings.conflicts }) c.in_ok-is_grounded.ensures.ready c.in_ok-view_of.ensures.kept refl refl refl
 
 pub returns-in_ok-push-clause-listed : goal.returns-in_ok-push-clause-listed
 returns-in_ok-push-clause-listed c items parts within stays =
@@ -25,7 +18,7 @@ returns-in_ok-push-clause-listed c items parts within stays =
     let small : set < 2 ^ length (defaults_of items) = subst (λ (xs : List Default). set < 2 ^ length xs) parts.0 (below_from_within set (length ds) within) in
     let few : length (defaults_of items) ≡ length c.args.defaults.now = sym (ap length parts.0) ∙ length-map c.args.defaults.now (λ d. default_of d.now) in
     let generates = leaf_generates items set small (λ k less. stays k (omega arith)) ((c.in_ok-is_grounded.ensures.exact items parts).0 c.if-branch.true) in
-    let shown = subst (λ (xs : List Default). Shows (Theory (facts_of items ++ consequents xs set)) beliefs c.in_ok-view_of.field-0) parts.0 (c.in_ok-view_of.ensures.shown (facts_of items) now.1) in
+    let shown = c.in_ok-view_of.ensures.shown items now in
     one_added items beliefs set c.in_ok-view_of.field-0 c.args.views.now.items c.push.new.self.items generates shown c.in_ok-push.ensures.items
 
 pub returns-else-branch-clause-listed : goal.returns-else-branch-clause-listed

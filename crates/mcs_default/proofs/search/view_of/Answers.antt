@@ -1,31 +1,59 @@
-use Rattle.std.proofs.Common.{◌≡◌, ◌++◌, ◌∷◌, [], map, subst}
+use Rattle.std.proofs.Common.{◌∙◌, ◌+◌, [], List, map, take, refl, sym, subst}
+use Rattle.std.proofs.lemmas.List.{take_all}
+use Rattle.std.proofs.lemmas.Bool.{iff_false}
+use Rattle.std.specs.Borrow.{Bor}
+use Rattle.mcs_system.specs.declared.formula.Formula as code
+use Rattle.mcs_base.proofs.Mapped.{image_each_read}
 use Rattle.mcs_system.specs.Logic.{Theory}
-use Rattle.mcs_system.specs.Seen.{default_of, formula_of}
 use Rattle.mcs_system.specs.Views.{Shows}
-use Rattle.mcs_cnf.specs.Classical.{certificate_of}
-use Rattle.mcs_cnf.proofs.EntailmentLemmas.{shown_follow}
-use Rattle.mcs_default.specs.Theories.{consequents}
-use Rattle.mcs_default.proofs.General.{generated_clauses}
-use Rattle.mcs_cnf.proofs.GrowingLemmas.{grown_room, cut_fewer, cut_within}
+use Rattle.mcs_system.specs.Seen.{default_of, formula_of}
+use Rattle.mcs_cnf.specs.ClauseLists.{IsOver}
+use Rattle.mcs_evidence.specs.Defaults.{generated}
+use Rattle.mcs_default.specs.Theories.{AreParts}
+use Rattle.mcs_default.proofs.SearchLemmas.{shows_none, seen_more, seen_same}
+use Rattle.mcs_default.proofs.search.view_of.Goals.{then-branch, else-branch}
 use Rattle.mcs_default.proofs.search.view_of.Goals as goal
 
-pub outputs_from-requires-clause-room : goal.outputs_from-requires-clause-room
-outputs_from-requires-clause-room c = grown_room c.args.atoms.now c.args.known.now c.push_consequents.new.known ((consequents (map (λ d. default_of d.now) c.args.defaults.now) c.args.set), c.in_ok-push_consequents.ensures) c.requires.room
+pub follows-requires-clause-goal : goal.follows-requires-clause-goal
+follows-requires-clause-goal c = image_each_read (IsOver c.args.atoms.now) (λ b. formula_of b.now) c.args.beliefs.now c.loop-index.index c.index-beliefs-index.result c.loop-index-test.true c.index-beliefs-index.is c.requires.beliefs
 
-pub cut-requires-clause-fewer : goal.cut-requires-clause-fewer
-cut-requires-clause-fewer c =
-    cut_fewer c.args.atoms.now c.args.known.now c.push_consequents.new.known ((consequents (map (λ d. default_of d.now) c.args.defaults.now) c.args.set), c.in_ok-push_consequents.ensures) c.outputs_from.new.known c.vars-vars.result c.vars-vars.ensures.value c.in_ok-view.ensures.kept
+pub loop-index-init : goal.loop-index-init
+loop-index-init c = record {
+  kept = refl;
+  ready = c.requires.ready;
+  shown = λ items parts. subst (Shows (Theory (generated items c.args.set)) []) (sym c.empty-view.ensures) (shows_none (Theory (generated items c.args.set)));
+}
 
-pub cut-requires-clause-within : goal.cut-requires-clause-within
-cut-requires-clause-within c =
-    cut_within c.args.atoms.now c.args.known.now c.push_consequents.new.known ((consequents (map (λ d. default_of d.now) c.args.defaults.now) c.args.set), c.in_ok-push_consequents.ensures) c.outputs_from.new.known c.vars-vars.result c.clauses-count.result.now c.vars-vars.ensures.value c.clauses-count.ensures.value c.vars-vars.ensures.kept c.in_ok-view.ensures.kept
+pub loop-index-preserved : goal.loop-index-preserved
+loop-index-preserved c =
+    let names = c.args.atoms.now in
+    let ds = map (λ d. default_of d.now) c.args.defaults.now in
+    let xs = c.args.beliefs.now in
+    let i = c.loop-index.index in
+    let f = c.index-beliefs-index.result in
+    let before = c.loop-index.invariant in
+    elim c.if-branch.branch [
+      | then-branch w ↦
+          rw w.view-is (record {
+            kept = c.in_ok-follows.ensures.kept ∙ before.kept;
+            ready = c.in_ok-follows.ensures.ready;
+            shown = λ items parts.
+                (let now = subst (AreParts names items ds) (sym before.kept) parts in
+                subst (Shows (Theory (generated items c.args.set)) (map (λ b. formula_of b.now) (take (i + 1) xs))) (sym w.with-view.ensures)
+                (seen_more (λ b. formula_of b.now) (Theory (generated items c.args.set)) xs i c.loop-index.view f c.loop-index-test.true c.index-beliefs-index.is (before.shown items parts)
+                ((c.in_ok-follows.ensures.exact items now).0 w.if-branch.true)));
+          })
+      | else-branch w ↦
+          rw w.view-is (record {
+            kept = c.in_ok-follows.ensures.kept ∙ before.kept;
+            ready = c.in_ok-follows.ensures.ready;
+            shown = λ items parts.
+                (let now = subst (AreParts names items ds) (sym before.kept) parts in
+                seen_same (λ b. formula_of b.now) (Theory (generated items c.args.set)) xs i c.loop-index.view f c.loop-index-test.true c.index-beliefs-index.is (before.shown items parts)
+                (iff_false (c.in_ok-follows.ensures.exact items now) w.if-branch.false));
+          })
+    ]
 
 pub returns-clause-shown : goal.returns-clause-shown
-returns-clause-shown c fs is =
-    let ds = map (λ d. default_of d.now) c.args.defaults.now in
-    let beliefs = map (λ b. formula_of b.now) c.args.beliefs.now in
-    let made = fs ++ consequents ds c.args.set in
-    let clauses = generated_clauses c.args.atoms.now fs ds c.args.set c.args.known.now c.push_consequents.new.known c.requires.over c.in_ok-push_consequents.ensures is in
-    let accepted = c.in_ok-view.ensures.accepted made clauses.0 clauses.1 in
-    let same : accepted.view ≡ c.in_ok-view.view = (let only : c.in_ok-view.view ∷ [] ≡ accepted.view ∷ [] = accepted.only in cc) in
-    subst (Shows (Theory made) beliefs) same (shown_follow c.args.atoms.now made beliefs accepted.view (certificate_of c.in_ok-view.shown) clauses.1 c.requires.beliefs accepted.shown)
+returns-clause-shown c items parts =
+    subst (λ (bs : List (Bor code.Formula)). Shows (Theory (generated items c.args.set)) (map (λ b. formula_of b.now) bs) c.loop-index.view) (take_all c.loop-index.index c.args.beliefs.now c.loop-index-test.false) (c.loop-index.invariant.shown items parts)

@@ -1,0 +1,9 @@
+use Rattle.std.proofs.Common.{ℕ, List}
+use Rattle.std.specs.List.{AllByRecursion}
+use Rattle.mcs_system.specs.Plain.{Item}
+use Rattle.mcs_default.specs.Searches.{IsUpper}
+use Rattle.mcs_default.specs.Keeping.{items_with, IsKeptUpper}
+use Rattle.mcs_default.proofs.kept.keep_upper.Given as goal
+
+abbrev pub invariant-loop-index : goal.invariant-loop-index
+invariant-loop-index l = (items : List Item) (set : ℕ) → AllByRecursion (IsUpper l.atoms (items_with items l.assumptions set)) l.upper → AllByRecursion (IsKeptUpper l.atoms items l.assumptions) l.fn.kept.items → AllByRecursion (IsKeptUpper l.atoms items l.assumptions) l.kept.items

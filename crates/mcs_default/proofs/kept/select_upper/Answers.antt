@@ -1,0 +1,22 @@
+use Rattle.std.proofs.Common.{length, refl, sym, subst}
+use Rattle.std.proofs.lemmas.Option.{slice_get_read}
+use Rattle.std.specs.List.{AllByRecursion}
+use Rattle.mcs_base.proofs.Each.{all_get, all_push}
+use Rattle.mcs_default.specs.Searches.{IsUpper}
+use Rattle.mcs_default.specs.Keeping.{items_with, IsKeptUpper}
+use Rattle.mcs_default.proofs.KeptLemmas.{upper_smaller}
+use Rattle.mcs_default.proofs.kept.select_upper.Goals.{then-within+in_ok-push, else-within}
+use Rattle.mcs_default.proofs.kept.select_upper.Goals as goal
+
+pub loop-found-preserved : goal.loop-found-preserved
+loop-found-preserved c names items given all =
+    let kept = c.args.kept.now in
+    let x = c.found-item.result in
+    let before = c.loop-found.invariant names items given all in
+    elim c.if-within.branch [
+      | then-within+in_ok-push w ↦
+          let held = all_get (IsKeptUpper names items given) kept c.loop-found.found-index x all (slice_get_read kept (length kept) c.loop-found.found-index x refl c.loop-found-test.true c.found-item.is) in
+          rw w.upper-is (subst (AllByRecursion (IsUpper names (items_with items given c.args.assumed))) (sym w.in_ok-push.ensures.items)
+          (all_push (IsUpper names (items_with items given c.args.assumed)) c.loop-found.upper.items x.upper before (upper_smaller items given c.args.assumed x.assumed (c.within.ensures.0 w.if-within.true) names x.upper held)))
+      | else-within w ↦ rw w.upper-is before
+    ]

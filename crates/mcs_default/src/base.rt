@@ -1,0 +1,145 @@
+//! A default theory that is asked with many sets of assumptions.
+
+ghost use Rattle.std.specs.Prelude.{◌≡◌, ◌≤◌, ◌<◌, List, false, length, map, IfOk, OnOk};
+ghost use Rattle.std.specs.List.{AllByRecursion};
+ghost use Rattle.mcs_sets.specs.Orders.{StateBefore};
+ghost use Rattle.mcs_base.specs.Listings.{IsListing};
+ghost use Rattle.mcs_system.specs.Faults.{has_twins};
+ghost use Rattle.mcs_system.specs.Logic.{with_heads};
+ghost use Rattle.mcs_system.specs.Plain.{DefaultTheory};
+ghost use Rattle.mcs_system.specs.Plain as plain;
+ghost use Rattle.mcs_system.specs.Seen.{formula_of, item_of};
+ghost use Rattle.mcs_system.specs.Views.{IsAcceptedView};
+ghost use Rattle.mcs_cnf.specs.ClauseLists.{AreOver, IsOver};
+ghost use Rattle.mcs_classical.specs.Assumptions.{assumed};
+ghost use Rattle.mcs_classical.specs.declared.assumptions.Assumption as declared;
+ghost use Rattle.mcs_evidence.specs.Defaults.{AreOverItems, defaults_of};
+ghost use Rattle.mcs_default.specs.Searches.{IsRight};
+ghost use Rattle.mcs_default.specs.Keeping.{items_with, IsTheoryBase};
+
+use crate::findings::Findings;
+use crate::kept::{
+    KeptConflict, KeptLower, KeptUpper, keep_conflicts, keep_lower, keep_upper, select_conflicts,
+    select_lower, select_upper,
+};
+use crate::listing::list_with;
+use crate::theory::facts_base;
+use mcs_base::{Active, Memory, Vars};
+use mcs_classical::{Assumption, assumed};
+use mcs_system::{Formula, Name, TheoryItem};
+use std::alloc::Global;
+
+/// A default theory that is asked for its extensions with one set of assumptions after the other: the clauses of its
+/// facts, ready for searches, and what was found with these sets.
+#[derive(Drop)]
+pub struct TheoryBase {
+    findings: Findings,
+    lower: Vec<KeptLower>,
+    upper: Vec<KeptUpper>,
+    conflicts: Vec<KeptConflict>,
+}
+
+/// How much is selected of what is kept.
+#[derive(Clone, Copy)]
+struct Selected {
+    lower: usize,
+    upper: usize,
+    conflicts: usize,
+}
+
+impl TheoryBase {
+    /// The theory of these items, with which nothing was found yet. All atoms are among these, at most 64.
+    pub fn new(alloc: Global, items: &[TheoryItem], atoms: &[Name]) -> Result<TheoryBase, Memory>
+        requires few { length atoms.now ≤ 64 }
+        requires items { AreOverItems atoms.now (map item_of items.now) }
+        ensures { IfOk result (λ base. (given : List declared.Assumption) → IsTheoryBase atoms.now (map item_of items.now) given base) }
+    {
+        let facts = facts_base(alloc, items, atoms)?;
+        Ok(TheoryBase {
+            findings: Findings::new(alloc, facts),
+            lower: Vec::new(alloc),
+            upper: Vec::new(alloc),
+            conflicts: Vec::new(alloc),
+        })
+    }
+
+    /// Takes what tells of this set of assumptions.
+    fn select(&mut self, set: Active) -> Result<Selected, Memory>
+        ensures facts { self.new.findings.facts ≡ self.old.findings.facts }
+        ensures lower { self.new.lower ≡ self.old.lower }
+        ensures upper { self.new.upper ≡ self.old.upper }
+        ensures conflicts { self.new.conflicts ≡ self.old.conflicts }
+        ensures right { OnOk result ((names : List plain.Name) (items : List plain.Item) (given : List declared.Assumption) → IsTheoryBase names items given self.old
+            → IsRight names (items_with items given set) self.new.findings) }
+    {
+        select_lower(&self.lower, set, &mut self.findings.lower)?;
+        select_upper(&self.upper, set, &mut self.findings.upper)?;
+        select_conflicts(&self.conflicts, set, &mut self.findings.conflicts)?;
+        Ok(Selected {
+            lower: self.findings.lower.len(),
+            upper: self.findings.upper.len(),
+            conflicts: self.findings.conflicts.len(),
+        })
+    }
+
+    /// Keeps what was found with this set of assumptions, beside what was selected; where memory runs out, a part of it.
+    fn keep(
+        &mut self,
+        selected: Selected,
+        assumptions: &[Assumption<'_>],
+        set: Active,
+        atoms: &[Name],
+    ) -> Result<(), Memory>
+        requires few { length atoms.now ≤ 64 }
+        requires numbers { AllByRecursion (λ (a : declared.Assumption). a.number < 64) assumptions.now }
+        ensures { (items : List plain.Item) → IsTheoryBase atoms.now items assumptions.now self.old → IsRight atoms.now (items_with items assumptions.now set) self.old.findings
+            → IsTheoryBase atoms.now items assumptions.now self.new }
+    {
+        keep_lower(&self.findings.lower, selected.lower, set, &mut self.lower)?;
+        keep_upper(
+            &self.findings.upper,
+            selected.upper,
+            assumptions,
+            atoms,
+            &mut self.upper,
+        )?;
+        keep_conflicts(
+            &self.findings.conflicts,
+            selected.conflicts,
+            set,
+            &mut self.conflicts,
+        )
+    }
+
+    /// The views of the extensions of the theory with those of the assumptions as facts whose numbers, all below 64, are
+    /// in the set: of each the numbers, from 0, of the beliefs that it has, each view once, in the order of states. All
+    /// atoms are among these, at most 64; there are at most 64 beliefs and 10 defaults. What is found serves for the sets
+    /// that come later; where memory runs out, what is kept stays right.
+    pub fn list_extensions(
+        &mut self,
+        alloc: Global,
+        items: &[TheoryItem],
+        assumptions: &[Assumption<'_>],
+        set: Active,
+        beliefs: &[&Formula],
+        atoms: &[Name],
+    ) -> Result<Vec<Vars>, Memory>
+        requires few { length atoms.now ≤ 64 }
+        requires few_beliefs { length beliefs.now ≤ 64 }
+        requires few_defaults { length (defaults_of (map item_of items.now)) ≤ 10 }
+        requires different { has_twins atoms.now ≡ false }
+        requires items { AreOverItems atoms.now (map item_of items.now) }
+        requires numbers { AllByRecursion (λ (a : declared.Assumption). a.number < 64) assumptions.now }
+        requires assumptions { AllByRecursion (λ (a : declared.Assumption). IsOver atoms.now (formula_of a.formula.now)) assumptions.now }
+        requires beliefs { AreOver atoms.now (map (λ b. formula_of b.now) beliefs.now) }
+        requires base { IsTheoryBase atoms.now (map item_of items.now) assumptions.now self.old }
+        ensures base { IsTheoryBase atoms.now (map item_of items.now) assumptions.now self.new }
+        ensures exact { IfOk result (λ views. IsListing (IsAcceptedView (with_heads (DefaultTheory (map item_of items.now)) (assumed set assumptions.now)) (map (λ b. formula_of b.now) beliefs.now)) StateBefore views.items) }
+    {
+        let heads = assumed(alloc, assumptions, set)?;
+        let selected = self.select(set)?;
+        let views = list_with(alloc, &mut self.findings, items, &heads, beliefs, atoms)?;
+        self.keep(selected, assumptions, set, atoms)?;
+        Ok(views)
+    }
+}
