@@ -6,7 +6,7 @@ use Rattle.std.specs.List.{AllByRecursion}
 use Rattle.mcs_sets.specs.Sets.{has, such_that}
 use Rattle.mcs_sets.proofs.SetLemmas.{has-such_that}
 use Rattle.mcs_base.proofs.Each.{all_weaker}
-use Rattle.mcs_system.specs.Plain.{Name, Formula, Kb, Classical, DefaultTheory, Program, Bridge, Context, System}
+use Rattle.mcs_system.specs.Plain.{Name, Formula, Item, Fact, Kb, Classical, DefaultTheory, Program, Bridge, Context, System}
 use Rattle.mcs_system.specs.Atoms.{atoms_of}
 use Rattle.mcs_system.specs.Seen.{formula_of}
 use Rattle.mcs_system.specs.Systems.{variables_of, heads_from, heads_into}
@@ -19,7 +19,13 @@ use Rattle.mcs_classical.specs.declared.assumptions.Assumption.{Assumption}
 use Rattle.mcs_classical.specs.declared.bounds.Lower.{Lower}
 use Rattle.mcs_classical.specs.declared.bounds.Upper.{Upper}
 use Rattle.mcs_classical.specs.declared.consequences.Consequences.{Consequences}
-use Rattle.mcs_solver.specs.Kinds.{AreFound, IsMadeOfFormulas, IsMadeOf, IsMadeOfContext}
+use Rattle.mcs_default.specs.Searches.{IsLower as IsLowerOfItems, IsUpper as IsUpperOfItems, IsConflict}
+use Rattle.mcs_default.specs.Keeping.{IsKeptLower, IsKeptUpper, IsKeptConflict, IsTheoryBase}
+use Rattle.mcs_default.specs.declared.kept.KeptLower.{KeptLower}
+use Rattle.mcs_default.specs.declared.kept.KeptUpper.{KeptUpper}
+use Rattle.mcs_default.specs.declared.kept.KeptConflict.{KeptConflict}
+use Rattle.mcs_default.specs.declared.base.TheoryBase.{TheoryBase}
+use Rattle.mcs_solver.specs.Kinds.{AreFound, IsMadeOfFormulas, IsMadeOfItems, IsMadeOf, IsMadeOfContext}
 use Rattle.mcs_solver.specs.declared.known.Known.{Known}
 use Rattle.mcs_solver.specs.declared.known.Known.TheVariants as variants
 
@@ -84,12 +90,28 @@ pub still_made : (names : List Name) (fs goals : List Formula) (xs : List Assump
     → (clauses ≡ clause_list names fs → AreConsequences fs xs goals found → AreConsequences fs xs goals found') → IsMadeOfFormulas names fs (λ set. assumed set xs) goals clauses found → IsMadeOfFormulas names fs (λ set. assumed set xs) goals clauses' found'
 still_made names fs goals xs clauses' clauses found' found kept right made = (kept ∙ made.0, found_of fs goals xs found' (right made.0 (made.1 xs (λ set. refl))))
 
+-- ---- what was found of a default theory
+same_base : (names : List Name) (items : List Item) (xs ys : List Assumption) (base : TheoryBase) → ((set : ℕ) → assumed set ys ≡ assumed set xs) → IsTheoryBase names items xs base → IsTheoryBase names items ys base
+same_base names items xs ys base same is = record {
+  facts = is.facts;
+  lower = all_weaker (IsKeptLower items xs) (IsKeptLower items ys) (λ (k : KeptLower) h. subst (λ (hs : List Formula). IsLowerOfItems (items ++ map Fact hs) k.lower) (sym (same k.assumed)) h) base.lower.items is.lower;
+  upper = all_weaker (IsKeptUpper names items xs) (IsKeptUpper names items ys) (λ (k : KeptUpper) h. subst (λ (hs : List Formula). IsUpperOfItems names (items ++ map Fact hs) k.upper) (sym (same k.assumed)) h) base.upper.items is.upper;
+  conflicts = all_weaker (IsKeptConflict items xs) (IsKeptConflict items ys) (λ (k : KeptConflict) h. subst (λ (hs : List Formula). IsConflict (items ++ map Fact hs) k.set) (sym (same k.assumed)) h) base.conflicts.items is.conflicts;
+}
+
+-- what was found with these assumptions was found with all that have the same heads
+pub base_of : (names : List Name) (items : List Item) (xs : List Assumption) (base : TheoryBase) → IsTheoryBase names items xs base → IsMadeOfItems names items (λ set. assumed set xs) base
+base_of names items xs base is ys same = same_base names items xs ys base same is
+
 -- ---- what is kept
 module _ (names : List Name) (heads heads' : ℕ → List Formula) (beliefs : List Formula) (same : (set : ℕ) → heads set ≡ heads' set) where
   pub made_for : (kb : Kb) (known : Option Known) → IsMadeOf names kb heads beliefs known → IsMadeOf names kb heads' beliefs known
   made_for (Classical fs) None made = made
   made_for (Classical fs) (Some (variants.Classical clauses found)) made = (made.0, λ xs is. made.1 xs (λ set. is set ∙ sym (same set)))
-  made_for (DefaultTheory items) known made = tt
+  made_for (Classical fs) (Some (variants.Theory base)) made = tt
+  made_for (DefaultTheory items) None made = tt
+  made_for (DefaultTheory items) (Some (variants.Classical clauses found)) made = tt
+  made_for (DefaultTheory items) (Some (variants.Theory base)) made = λ xs is. made xs (λ set. is set ∙ sym (same set))
   made_for (Program rules) known made = tt
 
 pub made_there : (m : System) (i : ℕ) (d : Context) (known : Option Known) → slice_get m.contexts i ≡ Some d → IsMadeOf (atoms_of m i) d.kb (heads_into m i) (beliefs_at m (variables_of m i)) known → IsMadeOfContext m i known

@@ -1,6 +1,6 @@
 -- What is kept of a knowledge base.
 use Rattle.std.specs.Prelude.{◌≡◌, ℕ, List, [], ◌∷◌, ◌++◌, Option, Some, None, slice_get}
-use Rattle.mcs_system.specs.Plain.{Name, Formula, Kb, Classical, DefaultTheory, Program, Context, System}
+use Rattle.mcs_system.specs.Plain.{Name, Formula, Item, Kb, Classical, DefaultTheory, Program, Context, System}
 use Rattle.mcs_system.specs.Atoms.{atoms_of}
 use Rattle.mcs_system.specs.Systems.{variables_of, heads_into}
 use Rattle.mcs_system.specs.Views.{IsAcceptedView, beliefs_at}
@@ -14,6 +14,8 @@ use Rattle.mcs_classical.specs.Assumptions.{assumed}
 use Rattle.mcs_classical.specs.Consequences.{AreConsequences}
 use Rattle.mcs_classical.specs.declared.assumptions.Assumption as declared
 use Rattle.mcs_classical.specs.declared.consequences.Consequences as consequences
+use Rattle.mcs_default.specs.Keeping.{IsTheoryBase}
+use Rattle.mcs_default.specs.declared.base.TheoryBase as base
 use Rattle.mcs_solver.specs.declared.known.Known as known
 use Rattle.mcs_solver.specs.declared.known.Known.TheVariants as variants
 
@@ -38,11 +40,20 @@ AreFound formulas heads beliefs found = (assumptions : List declared.Assumption)
 abbrev pub IsMadeOfFormulas : List Name → List Formula → (ℕ → List Formula) → List Formula → ClauseList → consequences.Consequences → Type 0
 IsMadeOfFormulas names formulas heads beliefs clauses found = (clauses ≡ clause_list names formulas) × AreFound formulas heads beliefs found
 
+-- ---- what was found of a default theory
+-- it was found of these items with any assumptions that are the heads of each set of rules
+abbrev pub IsMadeOfItems : List Name → List Item → (ℕ → List Formula) → base.TheoryBase → Type 0
+IsMadeOfItems names items heads base = (assumptions : List declared.Assumption)
+    → ((rules : ℕ) → assumed rules assumptions ≡ heads rules) → IsTheoryBase names items assumptions base
+
 -- ---- what is kept, if anything, of a knowledge base that is told heads by sets of rules, and asked for beliefs
 abbrev pub IsMadeOf : List Name → Kb → (ℕ → List Formula) → List Formula → Option known.Known → Type 0
 IsMadeOf names (Classical formulas) heads beliefs None = Unit {0}
 IsMadeOf names (Classical formulas) heads beliefs (Some (variants.Classical clauses found)) = IsMadeOfFormulas names formulas heads beliefs clauses found
-IsMadeOf names (DefaultTheory items) heads beliefs known = Unit {0}
+IsMadeOf names (Classical formulas) heads beliefs (Some (variants.Theory base)) = Unit {0}
+IsMadeOf names (DefaultTheory items) heads beliefs None = Unit {0}
+IsMadeOf names (DefaultTheory items) heads beliefs (Some (variants.Classical clauses found)) = Unit {0}
+IsMadeOf names (DefaultTheory items) heads beliefs (Some (variants.Theory base)) = IsMadeOfItems names items heads base
 IsMadeOf names (Program rules) heads beliefs known = Unit {0}
 
 -- the same of a context of a system

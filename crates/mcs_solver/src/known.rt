@@ -1,6 +1,7 @@
 //! What is kept of a context between questions.
 
 use mcs_classical::Consequences;
+use mcs_default::TheoryBase;
 use mcs_sat::ClauseBase;
 
 /// What is kept of a context, by the kind of its knowledge base.
@@ -11,4 +12,6 @@ pub(crate) enum Known {
         clauses: ClauseBase,
         found: Consequences,
     },
+    /// A default theory: the clauses of its facts, and what was found of it with heads.
+    Theory(TheoryBase),
 }

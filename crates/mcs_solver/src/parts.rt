@@ -34,7 +34,8 @@ pub fn accepted_parts(
 }
 
 /// The same, with a certificate where one is wanted, and where what serves for the next question is kept: of a classical
-/// context the clauses of its formulas, and what was found to follow.
+/// context the clauses of its formulas, and what was found to follow; of a default theory, where no certificate is wanted,
+/// the clauses of its facts, and what was found of it.
 pub(crate) fn parts_with(
     alloc: Global,
     certify: bool,

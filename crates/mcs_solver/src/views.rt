@@ -19,14 +19,14 @@ ghost use Rattle.mcs_evidence.specs.Defaults.{AreOverItems, defaults_of};
 ghost use Rattle.mcs_evidence.specs.Programs.{AreOverRules};
 ghost use Rattle.mcs_asking.specs.Certificates.{IsAcceptedFor};
 ghost use Rattle.mcs_asking.specs.Kinds.{IsOverKb, AreOfKind};
-ghost use Rattle.mcs_solver.specs.Kinds.{IsOnlyView, IsShownView, IsMadeOf, IsMadeOfFormulas};
+ghost use Rattle.mcs_solver.specs.Kinds.{IsOnlyView, IsShownView, IsMadeOf, IsMadeOfFormulas, IsMadeOfItems};
 ghost use Rattle.mcs_solver.specs.Certified.{IsCertified};
 
 use crate::known::Known;
 use mcs_asking::AnswerCert;
 use mcs_base::{Active, Memory, Vars};
 use mcs_classical::{Assumption, Consequences, add_formulas, assumed, outputs_in};
-use mcs_default::{extensions_from, list_extensions};
+use mcs_default::{TheoryBase, extensions_from};
 use mcs_program::{answer_sets_from, list_answer_sets};
 use mcs_sat::ClauseBase;
 use mcs_system::{Formula, Kb, Name, ProgRule, TheoryItem, names_of};
@@ -114,7 +114,8 @@ fn kept_formulas(
 {
     match known.take() {
         Some(Known::Classical { clauses, found }) => Ok((clauses, found)),
-        None => {
+        other => {
+            drop(other);
             let found = Consequences::of(alloc, formulas, beliefs)?;
             match made_clauses(alloc, formulas, atoms) {
                 Ok(clauses) => Ok((clauses, found)),
@@ -220,12 +221,38 @@ fn classical_views(
     }
 }
 
-/// What a default theory accepts with the heads, with a certificate where one is wanted.
+/// The default theory of the items, with what was found of it, taken from where it is kept, or made.
+fn kept_theory(
+    alloc: Global,
+    known: &mut Option<Known>,
+    items: &[TheoryItem],
+    atoms: &[Name],
+) -> Result<TheoryBase, Memory>
+    requires few { length atoms.now ≤ 64 }
+    requires items { AreOverItems atoms.now (map item_of items.now) }
+    ensures made { IfOk result (λ base. (heads : ℕ → List plain.Formula) (beliefs : List plain.Formula)
+        → IsMadeOf atoms.now (DefaultTheory (map item_of items.now)) heads beliefs known.old
+        → IsMadeOfItems atoms.now (map item_of items.now) heads base) }
+    ensures none { known.new ≡ None }
+{
+    match known.take() {
+        Some(Known::Theory(base)) => Ok(base),
+        other => {
+            drop(other);
+            TheoryBase::new(alloc, items, atoms)
+        }
+    }
+}
+
+/// What a default theory accepts with the heads of the rules, with a certificate where one is wanted. Where none is, what
+/// was found of it before tells as far as it goes, and what is found is kept.
 fn theory_views(
     alloc: Global,
     certify: bool,
+    known: &mut Option<Known>,
     items: &[TheoryItem],
-    heads: &[&Formula],
+    assumptions: &[Assumption<'_>],
+    rules: Active,
     beliefs: &[&Formula],
     atoms: &[Name],
 ) -> Result<(Vec<Vars>, Option<AnswerCert>), Memory>
@@ -234,21 +261,27 @@ fn theory_views(
     requires few_defaults { length (defaults_of (map item_of items.now)) ≤ 10 }
     requires different { has_twins atoms.now ≡ false }
     requires items { AreOverItems atoms.now (map item_of items.now) }
-    requires heads { AreOver atoms.now (map (λ f. formula_of f.now) heads.now) }
+    requires numbers { AllByRecursion (λ (a : declared.Assumption). a.number < 64) assumptions.now }
+    requires assumptions { AreOver atoms.now (map (λ (a : declared.Assumption). formula_of a.formula.now) assumptions.now) }
     requires beliefs { AreOver atoms.now (map (λ f. formula_of f.now) beliefs.now) }
+    requires made { IsMadeOf atoms.now (DefaultTheory (map item_of items.now)) (λ set. assumed set assumptions.now) (map (λ f. formula_of f.now) beliefs.now) known.old }
+    ensures made { IsMadeOf atoms.now (DefaultTheory (map item_of items.now)) (λ set. assumed set assumptions.now) (map (λ f. formula_of f.now) beliefs.now) known.new }
     ensures exact { IfOk result (λ r. IsListing
-        (IsAcceptedView (with_heads (DefaultTheory (map item_of items.now)) (map (λ f. formula_of f.now) heads.now)) (map (λ f. formula_of f.now) beliefs.now))
+        (IsAcceptedView (with_heads (DefaultTheory (map item_of items.now)) (assumed rules assumptions.now)) (map (λ f. formula_of f.now) beliefs.now))
         StateBefore r.0.items) }
     ensures certified { IfOk result (λ r. IsCertified certify
-        (IsAcceptedFor atoms.now (with_heads (DefaultTheory (map item_of items.now)) (map (λ f. formula_of f.now) heads.now)) (map (λ f. formula_of f.now) beliefs.now) r.0.items)
+        (IsAcceptedFor atoms.now (with_heads (DefaultTheory (map item_of items.now)) (assumed rules assumptions.now)) (map (λ f. formula_of f.now) beliefs.now) r.0.items)
         r.1) }
 {
     if certify {
-        let (views, cert) = extensions_from(alloc, items, heads, beliefs, atoms)?;
+        let heads = assumed(alloc, assumptions, rules)?;
+        let (views, cert) = extensions_from(alloc, items, &heads, beliefs, atoms)?;
         Ok((views, Some(AnswerCert::Default(cert))))
     } else {
-        let views = list_extensions(alloc, items, heads, beliefs, atoms)?;
-        Ok((views, None))
+        let mut base = kept_theory(alloc, known, items, atoms)?;
+        let listed = base.list_extensions(alloc, items, assumptions, rules, beliefs, atoms);
+        *known = Some(Known::Theory(base));
+        Ok((listed?, None))
     }
 }
 
@@ -290,7 +323,8 @@ fn program_views(
 
 /// What the knowledge base accepts with the heads of the rules, seen through the beliefs: each view once, in the order of
 /// states; with a certificate where one is wanted. Of a classical knowledge base the clauses are kept once they are made,
-/// and what was found to follow.
+/// and what was found to follow; of a default theory, where no certificate is wanted, the clauses of its facts and what
+/// was found of it.
 pub(crate) fn accepted_views(
     alloc: Global,
     certify: bool,
@@ -331,10 +365,16 @@ pub(crate) fn accepted_views(
             beliefs,
             atoms,
         ),
-        Kb::DefaultTheory(items) => {
-            let heads = assumed(alloc, assumptions, rules)?;
-            theory_views(alloc, certify, items, &heads, beliefs, atoms)
-        }
+        Kb::DefaultTheory(items) => theory_views(
+            alloc,
+            certify,
+            known,
+            items,
+            assumptions,
+            rules,
+            beliefs,
+            atoms,
+        ),
         Kb::Program(clauses) => {
             let heads = assumed(alloc, assumptions, rules)?;
             program_views(alloc, certify, clauses, &heads, beliefs, atoms)

@@ -20,10 +20,9 @@ theory_views-requires-clause-few_defaults c =
     let few = subst (λ (k : code.Kb). default_count (kb_of k) ≤ 10) c.in-DefaultTheory.is c.requires.few_defaults in
     rw c.deref-in-DefaultTheory.ensures.value (omega (arith, few, defaults_counted (map item_of c.in-DefaultTheory.items.items)))
 
-pub theory_views-requires-clause-heads : goal.theory_views-requires-clause-heads
-theory_views-requires-clause-heads c =
-    let told : map (λ f. formula_of f.now) c.deref-in-DefaultTheory-2.result.now ≡ assumed c.args.rules c.args.assumptions.now = ap (map (λ f. formula_of f.now)) c.deref-in-DefaultTheory-2.ensures.value ∙ c.in_ok-heads-in-DefaultTheory.ensures in
-    rw told (assumed_over c.args.atoms.now c.args.rules c.args.assumptions.now c.requires.assumptions)
+pub theory_views-requires-clause-made : goal.theory_views-requires-clause-made
+theory_views-requires-clause-made c =
+    rw c.deref-in-DefaultTheory.ensures.value (subst (λ (k : code.Kb). IsMadeOf c.args.atoms.now (kb_of k) (λ set. assumed set c.args.assumptions.now) (map (λ f. formula_of f.now) c.args.beliefs.now) c.args.known.now) c.in-DefaultTheory.is c.requires.made)
 
 pub program_views-requires-clause-heads : goal.program_views-requires-clause-heads
 program_views-requires-clause-heads c =
@@ -44,3 +43,8 @@ pub returns-in-Classical-clause-made : goal.returns-in-Classical-clause-made
 returns-in-Classical-clause-made c =
     subst (λ (k : code.Kb). IsMadeOf c.args.atoms.now (kb_of k) (λ set. assumed set c.args.assumptions.now) (map (λ f. formula_of f.now) c.args.beliefs.now) c.classical_views.new.known) (sym c.in-Classical.is)
     (rw c.deref.ensures.value at c.classical_views.ensures.made)
+
+pub returns-in-DefaultTheory-clause-made : goal.returns-in-DefaultTheory-clause-made
+returns-in-DefaultTheory-clause-made c =
+    subst (λ (k : code.Kb). IsMadeOf c.args.atoms.now (kb_of k) (λ set. assumed set c.args.assumptions.now) (map (λ f. formula_of f.now) c.args.beliefs.now) c.theory_views.new.known) (sym c.in-DefaultTheory.is)
+    (rw c.deref-in-DefaultTheory.ensures.value at c.theory_views.ensures.made)
