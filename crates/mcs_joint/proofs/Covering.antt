@@ -2,7 +2,7 @@
 use Rattle.std.proofs.Common.{◌≡◌, ◌<◌, ◌≤◌, ℕ, eqb, cond, Bool, true, false, List, [], ◌∷◌, length, get_or, refl, sym, ap, ◌∙◌, subst, ◌↔◌, arith}
 use Rattle.std.proofs.lemmas.Bool.Decides.{nat_tests}
 use Rattle.std.proofs.lemmas.List.Edits.{Swapped, swapped_from_swap, length-swap}
-use Rattle.std.proofs.lemmas.List.Sorted.{IsPermutation-keeps}
+use Rattle.std.proofs.lemmas.List.Sorted.{IsPermutation-keeps, IsPermutation-sym}
 use Rattle.std.specs.List.{AllByRecursion, AllZip, swap}
 use Rattle.std.specs.List.Sorted.{IsPermutation}
 use Rattle.mcs_sets.specs.Sets.{has, size, Within}
@@ -15,11 +15,12 @@ use Rattle.mcs_base.proofs.Each.{all_from_among}
 use Rattle.mcs_base.proofs.Lists.{length_zip, zip_get_or}
 use Rattle.mcs_base.proofs.Zipped.{zip_weaker}
 use Rattle.mcs_table.specs.declared.row.Row.{Row}
-use Rattle.mcs_table.specs.Tables.{TableData, IsTable, IsMinimalOf, AreApart, unit_table}
+use Rattle.mcs_table.specs.Tables.{TableData, IsTable, AreApart, unit_table}
 use Rattle.mcs_table.specs.Joins.{union_of, united_rows, FitTogether}
 use Rattle.mcs_table.specs.Elimination.{AreJointMarks}
-use Rattle.mcs_table.proofs.CoverLemmas.{listing_covers}
-use Rattle.mcs_table.proofs.OrderFreeLemmas.{in_some, some_in}
+use Rattle.mcs_table.specs.Fitting.{AreFittingAfter}
+use Rattle.mcs_table.proofs.FittingParts.{IsWithin, fitting_below, fitting_parts, fitting_rows}
+use Rattle.mcs_table.proofs.OrderFreeLemmas.{in_some, joint_moved, some_in}
 use Rattle.mcs_joint.specs.Apart.{EachApart}
 use Rattle.mcs_joint.specs.Reduced.{HasFewMarks}
 
@@ -50,10 +51,7 @@ covers-trans level ts us vs c d = record {
   below = λ s h. let (t, marks, within) = c.below s h in let (u, marks', within') = d.below t marks in (u, marks', λ k i. within k (within' k i));
 }
 
--- ---- the minimal rows, and those with few marks
-abbrev IsWithin : Row → Row → Type 0
-IsWithin q p = (q.state ≡ p.state) × Within q.marks p.marks
-
+-- ---- the rows with few marks
 -- u has some of the rows of t, and for each of these with few marks one of its state with marks within its marks
 pub record IsThinned (level : ℕ) (t u : TableData) : Type 0 where
   pub among : (p : Row) → IsAmong p u.rows → IsAmong p t.rows
@@ -65,16 +63,10 @@ few_thins level t u h = record {
   below = λ p among few. (p, (h.rows.exactly p).1 (among, few), (refl, λ k i. i));
 }
 
-pub minimal_thins : (level : ℕ) (t u : TableData) → IsMinimalOf t u → IsThinned level t u
-minimal_thins level t u h = let c = listing_covers t.rows u.rows h.rows in record {
-  among = c.from;
-  below = λ p among few. let (q, there, state, within) = c.below p among in (q, there, (state, within));
-}
-
 -- parts of the one list of tables, and within them parts of the other
 parts_below : (level : ℕ) (ts us : List TableData) → AllZip (IsThinned level) ts us → (ps : List Row) → AllZip (λ (p : Row) (t : TableData). IsAmong p t.rows) ps ts → AllByRecursion (λ (p : Row). size p.marks ≤ level) ps
-    → (qs : List Row) × AllZip (λ (q : Row) (u : TableData). IsAmong q u.rows) qs us × (AllZip IsWithin qs ps × AllZip (λ p q. IsWithin q p) ps qs)
-parts_below level [] [] all [] zip few = ([], tt, (tt, tt))
+    → (qs : List Row) × AllZip (λ (q : Row) (u : TableData). IsAmong q u.rows) qs us × AllZip IsWithin qs ps
+parts_below level [] [] all [] zip few = ([], tt, tt)
 parts_below level [] [] all (p ∷ ps) zip few = absurd zip
 parts_below level [] (u ∷ us) all ps zip few = absurd all
 parts_below level (t ∷ ts) [] all ps zip few = absurd all
@@ -82,7 +74,7 @@ parts_below level (t ∷ ts) (u ∷ us) all [] zip few = absurd zip
 parts_below level (t ∷ ts) (u ∷ us) all (p ∷ ps) zip few =
     let (q, there, within) = all.0.below p zip.0 few.0 in
     let (qs, zips, both) = parts_below level ts us all.1 ps zip.1 few.1 in
-    (q ∷ qs, (there, zips), ((within, both.0), (within, both.1)))
+    (q ∷ qs, (there, zips), (within, both))
 
 parts_among : (level : ℕ) (ts us : List TableData) → AllZip (IsThinned level) ts us → (ps : List Row) → AllZip (λ (p : Row) (u : TableData). IsAmong p u.rows) ps us → AllZip (λ (p : Row) (t : TableData). IsAmong p t.rows) ps ts
 parts_among level [] [] all ps zip = zip
@@ -104,6 +96,18 @@ within_marks qs ps zip k h =
     let (p, in_p, same) = zip_among IsWithin qs ps zip q in_q in
     some_in (λ (r : Row). r.marks) ps k p in_p (same.1 k there)
 
+-- so they are joint rows with no more marks
+smaller : (level : ℕ) (us : List TableData) (s : ℕ) (r : Row) (ps qs : List Row) → s ≡ r.marks → FitTogether ps → r ≡ united_rows ps → size r.marks ≤ level → AllZip (λ (q : Row) (u : TableData). IsAmong q u.rows) qs us → AllZip IsWithin qs ps
+    → (t : ℕ) × AreJointMarks level us t × Within t s
+smaller level us s r ps qs e fit is few zips both =
+    let marks : r.marks ≡ union_of (λ (w : Row). w.marks) ps = ap (λ (w : Row). w.marks) is in
+    let within : Within (union_of (λ (w : Row). w.marks) qs) r.marks = λ k h. subst (λ n. has n k ≡ true) (sym marks) (within_marks qs ps both k h) in
+    let le = size_within _ r.marks within in (
+      union_of (λ (w : Row). w.marks) qs,
+      (united_rows qs, record { parts = qs; of_tables = zips; fit = within_fit qs ps both fit; is = refl; few = omega (arith, le, few) }, refl),
+      λ k h. subst (λ n. has n k ≡ true) (sym e) (within k h),
+    )
+
 pub thinned_cover : (level : ℕ) (ts us : List TableData) → AllZip (IsThinned level) ts us → MarksCover level ts us
 thinned_cover level ts us all = record {
   from = λ s (r, j, e). (r, record { parts = j.parts; of_tables = parts_among level ts us all j.parts j.of_tables; fit = j.fit; is = j.is; few = j.few }, e);
@@ -112,19 +116,26 @@ thinned_cover level ts us all = record {
       let few : AllByRecursion (λ (p : Row). size p.marks ≤ level) j.parts = all_from_among (λ (p : Row). size p.marks ≤ level) j.parts (λ p among.
       let le = size_within p.marks r.marks (λ k h. subst (λ n. has n k ≡ true) (sym marks) (some_in (λ (w : Row). w.marks) j.parts k p among h)) in let few' = j.few in omega arith) in
       let (qs, zips, both) = parts_below level ts us all j.parts j.of_tables few in
-      let within : Within (union_of (λ (w : Row). w.marks) qs) r.marks = λ k h. subst (λ n. has n k ≡ true) (sym marks) (within_marks qs j.parts both.0 k h) in
-      let le = size_within _ r.marks within in let few' = j.few in (
-        union_of (λ (w : Row). w.marks) qs,
-        (united_rows qs, record { parts = qs; of_tables = zips; fit = within_fit qs j.parts both.0 j.fit; is = refl; few = omega arith }, refl),
-        λ k h. subst (λ n. has n k ≡ true) (sym e) (within k h),
-      );
+      smaller level us s r j.parts qs e j.fit j.is j.few zips both;
 }
 
 pub few_cover : (level : ℕ) (ts us : List TableData) → AllZip (HasFewMarks level) ts us → MarksCover level ts us
 few_cover level ts us all = thinned_cover level ts us (zip_weaker (HasFewMarks level) (IsThinned level) (λ t u h. few_thins level t u h) ts us all)
 
-pub minimal_ones_cover : (level : ℕ) (ts us : List TableData) → AllZip IsMinimalOf ts us → MarksCover level ts us
-minimal_ones_cover level ts us all = thinned_cover level ts us (zip_weaker IsMinimalOf (IsThinned level) (λ t u h. minimal_thins level t u h) ts us all)
+-- ---- another order, and rows that fit those of the tables before
+pub moved_cover : (level : ℕ) (ts us : List TableData) → IsPermutation ts us → MarksCover level ts us
+moved_cover level ts us moved = record {
+  from = λ s (r, j, e). (r, joint_moved level r us ts (IsPermutation-sym ts us moved) j, e);
+  below = λ s (r, j, e). (s, (r, joint_moved level r ts us moved j, e), λ k i. i);
+}
+
+pub fitting_cover : (level : ℕ) (ts us : List TableData) → AreFittingAfter [] ts us → MarksCover level ts us
+fitting_cover level ts us made = record {
+  from = λ s (r, j, e). (r, record { parts = j.parts; of_tables = fitting_parts [] ts us made j.parts j.of_tables; fit = j.fit; is = j.is; few = j.few }, e);
+  below = λ s (r, j, e).
+      let (qs, zips, within) = fitting_below j.parts j.fit [] ts us made tt j.parts (λ p among. among) j.of_tables in
+      smaller level us s r j.parts qs e j.fit j.is j.few zips within;
+}
 
 -- ---- no mark in common
 module _ (xs : List TableData) (a b : ℕ) (less_a : a < length xs) (less_b : b < length xs) where
@@ -187,8 +198,8 @@ apart_fewer ts us zip apart = record { at = fewer }
 pub apart_few : (level : ℕ) (ts us : List TableData) → AllZip (HasFewMarks level) ts us → EachApart ts → EachApart us
 apart_few level ts us all = apart_fewer ts us (zip_weaker (HasFewMarks level) (λ (t u : TableData). (p : Row) → IsAmong p u.rows → IsAmong p t.rows) (λ t u h. (few_thins level t u h).among) ts us all)
 
-pub apart_ones : (ts us : List TableData) → AllZip IsMinimalOf ts us → EachApart ts → EachApart us
-apart_ones ts us all = apart_fewer ts us (zip_weaker IsMinimalOf (λ (t u : TableData). (p : Row) → IsAmong p u.rows → IsAmong p t.rows) (λ t u h. (minimal_thins 0 t u h).among) ts us all)
+pub apart_fitting : (ts us : List TableData) → AreFittingAfter [] ts us → EachApart ts → EachApart us
+apart_fitting ts us made = apart_fewer ts us (fitting_rows [] ts us made)
 
 pub few_are_tables : (level : ℕ) (ts us : List TableData) → AllZip (HasFewMarks level) ts us → AllByRecursion IsTable us
 few_are_tables level [] [] all = tt

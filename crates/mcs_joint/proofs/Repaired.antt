@@ -1,4 +1,4 @@
--- What is left of the tables of all contexts, with the minimal rows of each, in some order.
+-- What is left of the tables of all contexts, made one after the other, each with rows that fit those before.
 use Rattle.std.proofs.Common.{◌≡◌, ◌≤◌, ℕ, List, length, map, min, Some, slice_get, subst, ◌↔◌, arith}
 use Rattle.std.proofs.lemmas.Option.{slice_get-get_or}
 use Rattle.std.specs.List.{AllByRecursion, AllZip}
@@ -16,10 +16,10 @@ use Rattle.mcs_table.specs.declared.row.Row.{Row}
 use Rattle.mcs_table.specs.Tables.{TableData, IsTable, unit_table}
 use Rattle.mcs_table.specs.Elimination.{EliminatesTo, AreJointMarks}
 use Rattle.mcs_table.proofs.EliminationLemmas.{elimination_gives_marks}
-use Rattle.mcs_rows.specs.Local.{IsRowOf, AreLocalTables, AreMinimalTables}
+use Rattle.mcs_rows.specs.Local.{IsRowOf, AreLocalTables, AreFittingTables}
 use Rattle.mcs_rows.proofs.LocalLemmas.{local_are_tables}
 use Rattle.mcs_joint.specs.Apart.{EachApart}
-use Rattle.mcs_joint.proofs.Covering.{MarksCover, apart_ones, cover_minimal, covers-trans, few_cover, few_are_tables, minimal_ones_cover}
+use Rattle.mcs_joint.proofs.Covering.{MarksCover, apart_fitting, apart_moved, cover_minimal, covers-trans, few_cover, few_are_tables, fitting_cover, moved_cover}
 use Rattle.mcs_joint.specs.Reduced.{HasFewMarks, IsReduced}
 use Rattle.mcs_joint.proofs.Leaving.{apart_left, minimal_left}
 use Rattle.mcs_joint.proofs.Repairing.{minimal_marks}
@@ -41,20 +41,21 @@ own_apart m k tables own = record {
 local_apart : (m : System) (k : ℕ) (tables : List TableData) → AreLocalTables m k tables → EachApart tables
 local_apart m k tables local = own_apart m k tables (λ i t p is among. ((local.local i t is).rows.exactly p).0 among)
 
-pub minimal_apart : (m : System) (k : ℕ) (sets : List ℕ) (tables : List TableData) → AreMinimalTables m k sets tables → EachApart tables
-minimal_apart m k sets tables given = apart_ones given.left tables given.minimal (apart_left sets given.all given.left given.without (local_apart m k given.all given.local))
+pub fitting_apart : (m : System) (k : ℕ) (sets : List ℕ) (tables : List TableData) → AreFittingTables m k sets tables → EachApart tables
+fitting_apart m k sets tables given = apart_fitting given.ordered tables given.fitting (apart_moved given.left given.ordered given.moved (apart_left sets given.all given.left given.without (local_apart m k given.all given.local)))
 
 -- no minimal diagnosis has more marks than there are rules
 few_are_few : (m : System) (level most : ℕ) → most ≡ min level (length m.bridges) → (p : ℕ) → (IsMinimal (IsDiagnosis m) p × (size p ≤ most)) ↔ (IsMinimal (IsDiagnosis m) p × (size p ≤ level))
 few_are_few m level most e p = (λ h. (h.0, let few = h.1 in omega arith), λ h. (h.0, let few = h.1 in let small = minimal_is_small m p h.0 in omega arith))
 
 module _ (m : System) (valid : IsValid m) (k level most : ℕ) (is_most : most ≡ min level (length m.bridges)) (high : level ≤ k) (sets : List ℕ) (tables few ordered : List TableData)
-    (given : AreMinimalTables m k sets tables) (are_few : AllZip (HasFewMarks most) tables few) (reduced : IsReduced most few ordered) where
+    (given : AreFittingTables m k sets tables) (are_few : AllZip (HasFewMarks most) tables few) (reduced : IsReduced most few ordered) where
   ordered_tables : AllByRecursion IsTable ordered
   ordered_tables = reduced.tables (few_are_tables most tables few are_few)
 
   covers : MarksCover most given.left ordered
-  covers = covers-trans most given.left tables ordered (minimal_ones_cover most given.left tables given.minimal) (covers-trans most tables few ordered (few_cover most tables few are_few) (reduced_covers most few ordered reduced))
+  covers = covers-trans most given.left given.ordered ordered (moved_cover most given.left given.ordered given.moved)
+      (covers-trans most given.ordered tables ordered (fitting_cover most given.ordered tables given.fitting) (covers-trans most tables few ordered (few_cover most tables few are_few) (reduced_covers most few ordered reduced)))
 
   same : (p : ℕ) → ¬ HasOneWithin sets p → IsMinimal (AreJointMarks most ordered) p ↔ (IsMinimal (IsDiagnosis m) p × (size p ≤ level))
   same p none =

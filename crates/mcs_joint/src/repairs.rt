@@ -10,7 +10,7 @@ ghost use Rattle.mcs_system.specs.Repairs.{IsDiagnosis};
 ghost use Rattle.mcs_table.specs.declared.row.Row as declared;
 ghost use Rattle.mcs_table.specs.Elimination.{still_kept, EliminatesTo};
 ghost use Rattle.mcs_table.specs.Tables.{TableData, IsTable, AreApart, IsJoin, IsForgetting};
-ghost use Rattle.mcs_rows.specs.Local.{AreMinimalTables};
+ghost use Rattle.mcs_rows.specs.Local.{AreFittingTables};
 ghost use Rattle.mcs_joint.specs.Apart.{EachApart};
 ghost use Rattle.mcs_joint.specs.Reduced.{HasFewMarks};
 ghost use Rattle.mcs_table.specs.Without.{IsWithout};
@@ -24,8 +24,9 @@ use std::alloc::Global;
 
 /// The minimal diagnoses of the plan's system that have at most so many marks, in the order of pairs. Some of them
 /// may be known already, in any order: rows whose marks hold one of them lead to no other one, and are left out as soon
-/// as they come about. The tables are those of all contexts, in order, each with the minimal ones of those local rows of
-/// its context at one level, which is this one or a higher one, that hold none of the known diagnoses.
+/// as they come about. The tables are those of all contexts, in some order, each with the minimal ones of those local rows
+/// of its context at one level, which is this one or a higher one, that hold none of the known diagnoses; rows that fit no
+/// row of some table before it may be left out.
 pub fn repairs_in(
     alloc: Global,
     plan: &Plan,
@@ -33,7 +34,7 @@ pub fn repairs_in(
     level: u32,
     known: &[Marks],
 ) -> Result<Vec<Marks>, Memory>
-    requires tables { (k : ℕ) × (level ≤ k) × AreMinimalTables plan.now k known.now tables.now }
+    requires tables { (k : ℕ) × (level ≤ k) × AreFittingTables plan.now k known.now tables.now }
     requires known { AllByRecursion (λ p. IsMinimal (IsDiagnosis plan.now) p × (size p ≤ level)) known.now }
     ensures { IfOk result (λ pairs. IsListing (λ p. IsMinimal (IsDiagnosis plan.now) p × (size p ≤ level)) PairBefore pairs.items) }
 {

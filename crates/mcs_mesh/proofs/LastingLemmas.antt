@@ -20,7 +20,7 @@ use Rattle.mcs_system.specs.Levels.{IsQuestionAt, MaySupply}
 use Rattle.mcs_system.specs.Rows.{IsRow}
 use Rattle.mcs_import.proofs.OrderLemmas.{before_each, order_in_range}
 use Rattle.mcs_import.proofs.QuestionLemmas.{applying, size-marks_at, marks_at_within}
-use Rattle.mcs_rows.specs.Local.{IsRowOf, AreLocalTables, AreMinimalTables}
+use Rattle.mcs_rows.specs.Local.{IsRowOf, AreLocalTables, AreFittingTables}
 use Rattle.mcs_states.specs.Oracles.{OracleState}
 use Rattle.mcs_table.specs.declared.row.Row.{Row}
 use Rattle.mcs_table.specs.RowOrder.{RowBefore}
@@ -150,7 +150,7 @@ module _ (m : System) (low high : ℕ) (few : HasFewRules m low) (less : low ≤
   }
 
 -- the tables are those of a level that is as high as one up to which the rows stay the same
-pub tables_ahead : (m : System) (level ahead k : ℕ) (known : List ℕ) (tables : List TableData) → level ≤ ahead → (level < ahead → HasFewRules m level) → level ≤ k → AreMinimalTables m k known tables → (j : ℕ) × (ahead ≤ j) × AreMinimalTables m j known tables
+pub tables_ahead : (m : System) (level ahead k : ℕ) (known : List ℕ) (tables : List TableData) → level ≤ ahead → (level < ahead → HasFewRules m level) → level ≤ k → AreFittingTables m k known tables → (j : ℕ) × (ahead ≤ j) × AreFittingTables m j known tables
 tables_ahead m level ahead k known tables no_less above high given = elim (cases_lt k ahead) [
   | inl less ↦ (
     ahead,
@@ -160,7 +160,9 @@ tables_ahead m level ahead k known tables no_less above high given = elim (cases
       local = same_tables m k ahead (λ i in_range. let h = above (omega (arith, less, high)) i in_range in omega (arith, h, high)) (omega (arith, less)) given.all given.local;
       left = given.left;
       without = given.without;
-      minimal = given.minimal;
+      ordered = given.ordered;
+      moved = given.moved;
+      fitting = given.fitting;
     },
   )
   | inr reached ↦ (k, reached, given)

@@ -1,10 +1,12 @@
 //! The tables of all contexts, as the final steps take them.
 
-ghost use Rattle.std.specs.Prelude.{◌≡◌, ◌≤◌, ℕ, IfOk, map, length};
+ghost use Rattle.std.specs.Prelude.{◌≡◌, ◌<◌, ◌≤◌, ℕ, IfOk, map, length};
+ghost use Rattle.std.specs.List.{range_with_len};
+ghost use Rattle.std.specs.List.Sorted.{IsPermutation};
 ghost use Rattle.mcs_sets.specs.Sets.{size, Within};
 ghost use Rattle.mcs_system.specs.Repairs.{allowed_marks};
 ghost use Rattle.mcs_rows.specs.Changed.{AreChangedAt};
-ghost use Rattle.mcs_rows.specs.Local.{AreMinimalTables};
+ghost use Rattle.mcs_rows.specs.Local.{AreFittingTables};
 ghost use Rattle.mcs_mesh.specs.Rounds.{knowledge_of, AreKnown};
 
 use crate::known::Known;
@@ -15,8 +17,52 @@ use mcs_rows::{changed_rows, minimal_rows};
 use mcs_table::Table;
 use std::alloc::Global;
 
-/// The minimal ones of those local rows of each context whose marks hold none of the pairs, once all questions of the
-/// level were asked.
+/// How many rows the table of context `i` may come to, as far as the number of its answers and of its inputs tells.
+fn most_rows(plan: &Plan, i: u32, known: &[Known]) -> u64
+    requires in_range { i < length plan.now.contexts }
+    requires one_each { length known.now ≡ length plan.now.contexts }
+{
+    let inputs = plan.system().inputs_of(i).count().min(63);
+    (known[i as usize].answers.len() as u64).saturating_mul(1 << inputs)
+}
+
+/// How many rows the table of each context may come to.
+fn sizes(alloc: Global, plan: &Plan, known: &[Known]) -> Result<Vec<u64>, Memory>
+    requires { length known.now ≡ length plan.now.contexts }
+{
+    let mut sizes = Vec::new(alloc);
+    for i in 0..plan.system().contexts().len() as u32 {
+        sizes.push(most_rows(plan, i, known))?;
+    }
+    Ok(sizes)
+}
+
+/// All contexts, by their numbers.
+fn all_contexts(alloc: Global, plan: &Plan) -> Result<Vec<u32>, Memory>
+    ensures { IfOk result (λ all. all.items ≡ range_with_len 0 (length plan.now.contexts)) }
+{
+    let count = plan.system().contexts().len() as u32;
+    let all = (0..count).collect(alloc)?;
+    Ok(all)
+}
+
+/// All contexts, in the order in which their tables are made: first those of few rows, since a later table needs no row
+/// that fits none of an earlier one; of two that may come to as many, the one that is first in the import order.
+fn order_of_making(alloc: Global, plan: &Plan, known: &[Known]) -> Result<Vec<u32>, Memory>
+    requires { length known.now ≡ length plan.now.contexts }
+    ensures { IfOk result (λ order. IsPermutation (range_with_len 0 (length plan.now.contexts)) order.items) }
+{
+    let sizes = sizes(alloc, plan, known)?;
+    let mut order = all_contexts(alloc, plan)?;
+    order.sort_unstable_by_key(|i| {
+        let place = plan.order().iter().position(|j| j == i);
+        (sizes.get(*i as usize).copied(), place)
+    });
+    Ok(order)
+}
+
+/// The minimal ones of those local rows of each context whose marks hold none of the pairs, in some order, once all
+/// questions of the level were asked; of each table at least the rows that fit a row of each table before it.
 pub(crate) fn minimal_tables(
     alloc: Global,
     plan: &Plan,
@@ -26,13 +72,15 @@ pub(crate) fn minimal_tables(
 ) -> Result<Vec<Table>, Memory>
     requires one_each { length known.now ≡ length plan.now.contexts }
     requires known { AreKnown plan.now level (map knowledge_of known.now) }
-    ensures { IfOk result (λ tables. AreMinimalTables plan.now level pairs.now tables.items) }
+    ensures { IfOk result (λ tables. AreFittingTables plan.now level pairs.now tables.items) }
 {
+    let order = order_of_making(alloc, plan, known)?;
     let mut tables = Vec::new(alloc);
-    for i in 0..plan.system().contexts().len() as u32 {
-        let told = supplies_for(alloc, plan, i, known)?;
-        let answers = &known[i as usize].answers;
-        tables.push(minimal_rows(alloc, plan, i, &told, answers, level, pairs)?)?;
+    for i in &order {
+        let told = supplies_for(alloc, plan, *i, known)?;
+        let answers = &known[*i as usize].answers;
+        let table = minimal_rows(alloc, plan, *i, &told, answers, level, pairs, &tables)?;
+        tables.push(table)?;
     }
     Ok(tables)
 }

@@ -5,3 +5,4 @@ pub mod MakingLemmas
 pub mod FindingLemmas
 pub mod ChangedLemmas
 pub mod KnownLemmas
+pub mod FittingLemmas

@@ -3,11 +3,11 @@ use Rattle.std.proofs.Common.{◌≡◌, ℕ, ◌+◌, ◌*◌, ◌/◌, ◌%◌
 use Rattle.std.proofs.lemmas.Bool.{leb-true, le-leb, and_parts, and_from, eq-eqb, eqb-true, false_from_ne_true}
 use Rattle.std.proofs.lemmas.Simd.{map-map}
 use Rattle.std.proofs.Math.Bool.{and-false}
-use Rattle.mcs_sets.proofs.SetLemmas.{within_where_common, common_where_within, same_set, has-minus, has-empty}
+use Rattle.mcs_sets.proofs.SetLemmas.{within_where_common, common_where_within, same_set, has-minus, has-empty, has-common, has-union}
 use Rattle.std.proofs.lemmas.Bool.Decides.{nat_tests}
 use Rattle.std.proofs.lemmas.Grind.{flat_map-append}
 use Rattle.std.proofs.lemmas.List.{take_all, append-nil}
-use Rattle.std.specs.List.{AllByRecursion, flat_map}
+use Rattle.std.specs.List.{AllByRecursion, AllZip, flat_map}
 use Rattle.mcs_sets.specs.Sets.{has, size, common, union, minus, members, Within}
 use Rattle.mcs_sets.specs.Orders.{StateBefore}
 use Rattle.mcs_sets.proofs.Lattice.{minus_within, common_within_right, size_within, size-none}
@@ -29,14 +29,18 @@ use Rattle.mcs_system.proofs.MarkLemmas.{has-marks_of}
 use Rattle.mcs_table.specs.declared.row.Row.{Row}
 use Rattle.mcs_table.specs.RowOrder.{RowBefore, same_row}
 use Rattle.mcs_table.specs.Tables.{TableData, Covers, IsTable, IsMinimalRow}
-use Rattle.mcs_table.proofs.CoverLemmas.{covers_append, covers_same}
+use Rattle.mcs_table.proofs.CoverLemmas.{covers_append, listing_covers}
+use Rattle.mcs_table.proofs.FittingLemmas.{fits_each_on}
+use Rattle.mcs_table.specs.Fitting.{AreFittingStates, FitsEach}
+use Rattle.mcs_rows.specs.Fitting.{HasFittingParts}
+use Rattle.mcs_rows.proofs.FittingLemmas.{answer_before, answer_after}
 use Rattle.mcs_table.proofs.ExistLemmas.{listed_in_order}
 use Rattle.mcs_import.specs.Plans.{guessed, AreSupplies}
 use Rattle.mcs_import.specs.States.{SomeJoins, SomeGrows}
 use Rattle.mcs_import.proofs.OrderLemmas.{import_order_is_one}
 use Rattle.mcs_import.proofs.QuestionLemmas.{question_in, applying, count-marks_at}
 use Rattle.mcs_import.proofs.StateLemmas.{states_found}
-use Rattle.mcs_rows.specs.Local.{Answered, AreAnswered, IsRowOf, IsLocalTable, IsMinimalTable}
+use Rattle.mcs_rows.specs.Local.{Answered, AreAnswered, IsRowOf, IsLocalTable, IsFittingTable}
 use Rattle.mcs_rows.specs.Changed.{HasMarksOf, IsChangedAt}
 use Rattle.mcs_rows.specs.Finding.{AreInOrder}
 use Rattle.mcs_rows.specs.Answers.{answered_of}
@@ -121,7 +125,24 @@ module _ (m : System) (level i : ℕ) (sets : List ℕ) where
       subst (IsAmong (row_with m i s (marks_at m i s a.active) τ)) (sym (rows_in_reach m i level sets s a few within none))
       (among_map (row_with m i s (marks_at m i s a.active)) τ (filter (agrees m i s) a.parts.items) (among_filter (agrees m i s) τ a.parts.items here (grind (arith, nat_tests))))
 
+-- ---- what a row says of the inputs is what the state says, and of the own variables what the part says
+own_inputs : (m : System) (i s τ : ℕ) → common τ (inputs_of m i) ≡ common s (variables_of m i) → (k : ℕ) → has (inputs_of m i) k ≡ true → (has (local_of m i) k ≡ true) × (has (common (union τ s) (local_of m i)) k ≡ has s k)
+own_inputs m i s τ same k in_inputs =
+    let e = ap (λ (z : ℕ). has z k) same in
+    (grind (arith, has-common, has-union), grind (arith, has-common, has-union))
+
+own_variables : (m : System) (i s τ : ℕ) → common τ (inputs_of m i) ≡ common s (variables_of m i) → (k : ℕ) → has (variables_of m i) k ≡ true → (has (local_of m i) k ≡ true) × (has (common (union τ s) (local_of m i)) k ≡ has τ k)
+own_variables m i s τ same k in_variables =
+    let e = ap (λ (z : ℕ). has z k) same in
+    (grind (arith, has-common, has-union), grind (arith, has-common, has-union))
+
 -- ---- the answers
+-- the parts of all of them, listed
+pub parts_listed : (answers : List Answer) (states next : List ℕ) (n : ℕ) → states ≡ flat_map (λ (a : Answer). a.parts.items) (take n answers) → length answers ≤ n → IsListing (λ s. IsAmong s states) StateBefore next → IsListing (λ τ. IsAmong τ (flat_map (λ (a : Answer). a.parts.items) answers)) StateBefore next
+parts_listed answers states next n is past listing =
+    let whole : states ≡ flat_map (λ (a : Answer). a.parts.items) answers = is ∙ ap (flat_map (λ (a : Answer). a.parts.items)) (take_all n answers past) in
+    subst (λ (xs : List ℕ). IsListing (λ τ. IsAmong τ xs) StateBefore next) whole listing
+
 module _ (m : System) (level i : ℕ) (answers : List Answer) (answered : AreAnswered m level i (map answered_of answers)) where
   pub asked_of : (a : Answer) → IsAmong a answers → IsQuestionAt m level i a.active
   asked_of a here = (answered.questions.exactly a.active).0 (among_map (λ (b : Answered). b.question) (answered_of a) (map answered_of answers) (among_map answered_of a answers here))
@@ -218,26 +239,60 @@ module _ (m : System) (level i : ℕ) (answers : List Answer) (answered : AreAns
     local_table = let (ys, l) = listed_in_order (local_of m i) (IsRowOf m level i) (λ r h. h.mask) (made [], λ r. (λ h. (made_are_local [] r h).0, λ h. local_are_made [] r h (one_within-none r.marks))) in
         (record { scope = local_of m i; rows = ys }, record { scope = refl; rows = l })
 
-    -- where some of those that hold none of the known sets cover all of these, their minimal ones are those of all of these
-    pub made_minimal : (known : List ℕ) (u : TableData) (rows : List Row) → Covers (λ r. IsAmong r rows) (λ r. IsAmong r (made known)) → u.scope ≡ local_of m i → IsListing (IsMinimalRow (λ r. IsAmong r rows)) RowBefore u.rows → IsMinimalTable m level i known u
-    made_minimal known u rows covers scope listing =
-        let (t, local) = local_table in
-        let (ys, l) = listed_in_order (local_of m i) (λ r. IsRowOf m level i r × (¬ HasOneWithin known r.marks)) (λ r h. h.0.mask) (made known, λ r. (made_are_local known r, λ h. local_are_made known r h.0 h.1)) in
-        let left : TableData = record { scope = local_of m i; rows = ys } in
-        let all : Covers (λ r. IsAmong r rows) (λ r. IsAmong r ys) = record {
-          from = λ r h. (l.exactly r).1 (made_are_local known r (covers.from r h));
-          below = λ r h. let (one, none) = (l.exactly r).0 h in covers.below r (local_are_made known r one none);
-        } in record {
-          all = t;
-          local = local;
-          left = left;
-          without = record {
-            scope = sym local.scope;
-            rows = IsListing-same RowBefore (λ r. IsRowOf m level i r × (¬ HasOneWithin known r.marks)) (λ r. IsAmong r t.rows × (¬ HasOneWithin known r.marks)) ys
-                (λ r. (λ h. ((local.rows.exactly r).1 h.0, h.1), λ h. ((local.rows.exactly r).0 h.0, h.1))) l;
-          };
-          minimal = record { scope = scope; rows = IsListing-same RowBefore (IsMinimalRow (λ r. IsAmong r rows)) (IsMinimalRow (λ r. IsAmong r ys)) u.rows (covers_same (λ r. IsAmong r rows) (λ r. IsAmong r ys) all) listing };
-        }
+    -- where some of those that hold none of the known sets cover, of these, the ones that fit rows of the others, so do their minimal ones
+    module _ (known : List ℕ) (others : List TableData) (fewer : List ℕ) (fit : AreFittingStates (inputs_of m i) others states fewer) (some : List Answer) (fits : AllZip (HasFittingParts (variables_of m i) others) answers some) where
+      abbrev left_made : List Row
+      left_made = flat_map (rows_of m i level known some) fewer
+
+      some_made : (r : Row) → IsAmong r left_made → IsAmong r (made known)
+      some_made r among =
+          let (s, state, there) = flat_map_among (rows_of m i level known some) r fewer among in
+          let (b, here, there') = flat_map_among (rows_with m i level known s) r some there in
+          let (a, before, h) = answer_before (variables_of m i) others answers some fits b here in
+          let (few, allowed, none, (τ, part, same, e)) = with_answer m level i known s b r there' in
+          let row = answer_with m level i known s a τ (subst (λ (x : ℕ). size (marks_at m i s x) ≤ level) h.active few) (subst (λ (x : ℕ). Within (marks_at m i s x) (allowed_marks m)) h.active allowed) (subst (λ (x : ℕ). ¬ HasOneWithin known (marks_at m i s x)) h.active none) (h.parts.from τ part) same in
+          let is : row_with m i s (marks_at m i s a.active) τ ≡ r = ap (λ (x : ℕ). row_with m i s (marks_at m i s x) τ) (sym h.active) ∙ sym e in
+          among_flat_map (λ s'. flat_map (rows_with m i level known s') answers) s r states (fit.from s state) (among_flat_map (rows_with m i level known s) a r answers before (subst (λ (q : Row). IsAmong q (rows_with m i level known s a)) is row))
+
+      fitting_made : (r : Row) → IsAmong r (made known) → FitsEach r.state others → IsAmong r left_made
+      fitting_made r among each =
+          let (s, state, there) = flat_map_among (λ s'. flat_map (rows_with m i level known s') answers) r states among in
+          let (a, here, there') = flat_map_among (rows_with m i level known s) r answers there in
+          let (few, allowed, none, (τ, part, same, e)) = with_answer m level i known s a r there' in
+          let (b, after, h) = answer_after (variables_of m i) others answers some fits a here in
+          let whole : FitsEach (row_with m i s (marks_at m i s a.active) τ).state others = subst (λ (q : Row). FitsEach q.state others) e each in
+          let kept = fit.fitting s state (fits_each_on (row_with m i s (marks_at m i s a.active) τ) (inputs_of m i) s (λ k h'. own_inputs m i s τ same k h') others whole) in
+          let kept' = h.parts.fitting τ part (fits_each_on (row_with m i s (marks_at m i s a.active) τ) (variables_of m i) τ (λ k h'. own_variables m i s τ same k h') others whole) in
+          let row = answer_with m level i known s b τ (subst (λ (x : ℕ). size (marks_at m i s x) ≤ level) (sym h.active) few) (subst (λ (x : ℕ). Within (marks_at m i s x) (allowed_marks m)) (sym h.active) allowed) (subst (λ (x : ℕ). ¬ HasOneWithin known (marks_at m i s x)) (sym h.active) none) kept' same in
+          let is : row_with m i s (marks_at m i s b.active) τ ≡ r = ap (λ (x : ℕ). row_with m i s (marks_at m i s x) τ) h.active ∙ sym e in
+          among_flat_map (rows_of m i level known some) s r fewer kept (among_flat_map (rows_with m i level known s) b r some after (subst (λ (q : Row). IsAmong q (rows_with m i level known s b)) is row))
+
+      pub made_fitting : (u : TableData) (rows : List Row) → Covers (λ r. IsAmong r rows) (λ r. IsAmong r left_made) → u.scope ≡ local_of m i → IsTable u → IsListing (IsMinimalRow (λ r. IsAmong r rows)) RowBefore u.rows → IsFittingTable m level i known others u
+      made_fitting u rows covers scope is_table listing =
+          let (t, local) = local_table in
+          let (ys, l) = listed_in_order (local_of m i) (λ r. IsRowOf m level i r × (¬ HasOneWithin known r.marks)) (λ r h. h.0.mask) (made known, λ r. (made_are_local known r, λ h. local_are_made known r h.0 h.1)) in
+          let left : TableData = record { scope = local_of m i; rows = ys } in
+          let minimal = listing_covers rows u.rows listing in record {
+            all = t;
+            local = local;
+            left = left;
+            without = record {
+              scope = sym local.scope;
+              rows = IsListing-same RowBefore (λ r. IsRowOf m level i r × (¬ HasOneWithin known r.marks)) (λ r. IsAmong r t.rows × (¬ HasOneWithin known r.marks)) ys
+                  (λ r. (λ h. ((local.rows.exactly r).1 h.0, h.1), λ h. ((local.rows.exactly r).0 h.0, h.1))) l;
+            };
+            fitting = record {
+              scope = scope;
+              table = is_table;
+              from = λ r h. (l.exactly r).1 (made_are_local known r (some_made r (covers.from r (minimal.from r h))));
+              below = λ r h each.
+                  let (one, none) = (l.exactly r).0 h in
+                  let (p, among, state, within) = covers.below r (fitting_made r (local_are_made known r one none) each) in
+                  let (q, among', state', within') = minimal.below p among in
+                  record { by = q; among = among'; state = state' ∙ state; within = λ k e. within k (within' k e) };
+              least = λ r s h h' state within. ((listing.exactly r).0 h).least s ((listing.exactly s).0 h').one state within;
+            };
+          }
 
     -- those of the answers to what a pair makes of the rules that apply are those with its marks
     module _ (pair : ℕ) (known : Within pair (allowed_marks m)) (few : size pair ≤ level) where

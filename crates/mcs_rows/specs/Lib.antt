@@ -3,3 +3,4 @@ pub mod Answers
 pub mod Making
 pub mod Changed
 pub mod Finding
+pub mod Fitting

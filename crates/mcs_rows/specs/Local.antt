@@ -1,6 +1,7 @@
 -- What a context's answers come to: what it may supply, and its local rows.
-use Rattle.std.specs.Prelude.{◌≡◌, ℕ, ◌<◌, List, map, length, Some, slice_get}
+use Rattle.std.specs.Prelude.{◌≡◌, ℕ, ◌<◌, List, [], map, length, Some, slice_get}
 use Rattle.std.specs.List.{AllByRecursion, AllZip}
+use Rattle.std.specs.List.Sorted.{IsPermutation}
 use Rattle.mcs_sets.specs.Orders.{StateBefore}
 use Rattle.mcs_base.specs.Listings.{IsListing}
 use Rattle.mcs_system.specs.Plain.{System}
@@ -8,7 +9,8 @@ use Rattle.mcs_system.specs.Systems.{IsAcceptedPart}
 use Rattle.mcs_system.specs.Rows.{local_of}
 use Rattle.mcs_system.specs.Levels.{IsQuestionAt, IsLocalRow}
 use Rattle.mcs_table.specs.RowOrder.{RowBefore}
-use Rattle.mcs_table.specs.Tables.{TableData, IsMinimalOf}
+use Rattle.mcs_table.specs.Fitting.{IsFitting, AreFittingAfter}
+use Rattle.mcs_table.specs.Tables.{TableData}
 use Rattle.mcs_table.specs.Without.{IsWithout}
 use Rattle.mcs_table.specs.declared.row.Row.{Row}
 
@@ -37,18 +39,20 @@ pub record AreLocalTables (m : System) (level : ℕ) (tables : List TableData) :
   pub one_each : length tables ≡ length m.contexts
   pub local : (i : ℕ) (t : TableData) → slice_get tables i ≡ Some t → IsLocalTable m level i t
 
--- u has, for each state, the minimal ones of those local rows of context i at the level within whose marks none of the known sets lies
-pub record IsMinimalTable (m : System) (level i : ℕ) (known : List ℕ) (u : TableData) : Type 0 where
+-- of those local rows of context i at the level within whose marks none of the known sets lies, the table has minimal ones, and those of each state that fits a row of each of the others
+pub record IsFittingTable (m : System) (level i : ℕ) (known : List ℕ) (others : List TableData) (u : TableData) : Type 0 where
   pub all : TableData
   pub local : IsLocalTable m level i all
   pub left : TableData
   pub without : IsWithout known all left
-  pub minimal : IsMinimalOf left u
+  pub fitting : IsFitting others left u
 
--- so it is of each context, in order
-pub record AreMinimalTables (m : System) (level : ℕ) (known : List ℕ) (tables : List TableData) : Type 0 where
+-- so it is of each context, in some order, with respect to the tables before it
+pub record AreFittingTables (m : System) (level : ℕ) (known : List ℕ) (tables : List TableData) : Type 0 where
   pub all : List TableData
   pub local : AreLocalTables m level all
   pub left : List TableData
   pub without : AllZip (IsWithout known) all left
-  pub minimal : AllZip IsMinimalOf left tables
+  pub ordered : List TableData
+  pub moved : IsPermutation left ordered
+  pub fitting : AreFittingAfter [] ordered tables

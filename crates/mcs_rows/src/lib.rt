@@ -4,6 +4,7 @@
 mod answer;
 mod changed;
 mod finding;
+mod fitting;
 mod local;
 mod marks;
 mod minimal;

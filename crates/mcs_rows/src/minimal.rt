@@ -11,12 +11,13 @@ ghost use Rattle.mcs_import.specs.Plans.{AreSupplies};
 ghost use Rattle.mcs_table.specs.Tables.{Covers};
 ghost use Rattle.mcs_rows.specs.Answers.{answered_of};
 ghost use Rattle.mcs_rows.specs.Finding.{AreInOrder};
-ghost use Rattle.mcs_rows.specs.Local.{AreAnswered, IsMinimalTable};
+ghost use Rattle.mcs_rows.specs.Local.{AreAnswered, IsFittingTable};
 ghost use Rattle.mcs_rows.specs.Making.{agrees, row_with, rows_of, IsSettled};
 ghost use Rattle.mcs_rows.specs.declared.answer.Answer as declared;
 
 use crate::answer::Answer;
 use crate::finding::answer_to;
+use crate::fitting::{fitting_answers, fitting_states};
 use crate::local::{Reach, add_answers, add_parts, alone_in, hold_known};
 use crate::states::input_states;
 use crate::supply;
@@ -167,13 +168,13 @@ fn rows_in(
     Ok(all)
 }
 
-/// The minimal ones of the local rows of context `i` of the plan's system at the level, as a table on its local
-/// variables: for each state what it accepts on these with marks that this takes, which are allowed and at most
-/// `level`, without the rows whose marks hold one of the known sets, and without those that hold the marks of another
-/// one of their state. Rows that hold a known set are not made, nor are the others, as far as a state at the inputs needs
-/// no change; no more than those of one such state are held at once. `supplies` are what
-/// the contexts of `plan.supplied(i)` may supply at this level, in this order, each list in the order of states;
-/// `answers` are those of `i` to all its questions of the level, ascending by the numbers that stand for them.
+/// Of the minimal local rows of context `i` of the plan's system at the level, as a table on its local variables, those
+/// that fit a row of each of the other tables, and maybe more of them: for each state what it accepts on these with marks
+/// that this takes, which are allowed and at most `level`, without the rows whose marks hold one of the known sets, and
+/// without those that hold the marks of another one of their state. Rows that hold a known set are not made, nor are the
+/// others, as far as a state at the inputs needs no change; no more than those of one such state are held at once.
+/// `supplies` are what the contexts of `plan.supplied(i)` may supply at this level, in this order, each list in the order
+/// of states; `answers` are those of `i` to all its questions of the level, ascending by the numbers that stand for them.
 pub fn minimal_rows(
     alloc: Global,
     plan: &Plan,
@@ -182,16 +183,19 @@ pub fn minimal_rows(
     answers: &[Answer],
     level: u32,
     known: &[Marks],
+    others: &[Table],
 ) -> Result<Table, Memory>
     requires in_range { i < length plan.now.contexts }
     requires supplied { (order : List ℕ) → IsImportOrder plan.now order
         → AreSupplies plan.now level (supplied plan.now order i) (map (λ supply. supply.items) supplies.now) }
     requires answered { AreAnswered plan.now level i (map answered_of answers.now) }
-    ensures { IfOk result (IsMinimalTable plan.now level i known.now) }
+    ensures { IfOk result (IsFittingTable plan.now level i known.now others.now) }
 {
     let system = plan.system();
     let states = input_states(alloc, plan, i, supplies)?;
-    let possible = supply::supplies(alloc, answers)?;
-    let all = rows_in(alloc, system, i, &states, answers, &possible, level, known)?;
+    let states = fitting_states(alloc, states, system.inputs_of(i), others)?;
+    let fitting = fitting_answers(alloc, answers, system.vars_of(i), others)?;
+    let possible = supply::supplies(alloc, &fitting)?;
+    let all = rows_in(alloc, system, i, &states, &fitting, &possible, level, known)?;
     Ok(minimal_table(system.vars_of(i).union(system.inputs_of(i)), all))
 }

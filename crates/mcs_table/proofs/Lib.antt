@@ -16,3 +16,6 @@ pub mod EliminationLemmas
 pub mod SemiLemmas
 pub mod PartLemmas
 pub mod WithoutLemmas
+pub mod SaidLemmas
+pub mod FittingParts
+pub mod FittingLemmas

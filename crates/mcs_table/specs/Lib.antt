@@ -4,3 +4,4 @@ pub mod Partners
 pub mod Joins
 pub mod Elimination
 pub mod Without
+pub mod Fitting

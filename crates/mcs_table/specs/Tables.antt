@@ -95,8 +95,3 @@ pub record IsSemiJoin (a b : TableData) (level : ℕ) (t : TableData) : Type 0 w
 pub record Covers (Q P : Row → Type 0) : Type 0 where
   pub from : (r : Row) → Q r → P r
   pub below : (r : Row) → P r → (m : Row) × Q m × (m.state ≡ r.state) × Within m.marks r.marks
-
--- u has, for each state, exactly the minimal ones of t's rows
-pub record IsMinimalOf (t u : TableData) : Type 0 where
-  pub scope : u.scope ≡ t.scope
-  pub rows : IsListing (IsMinimalRow (λ r. IsAmong r t.rows)) RowBefore u.rows

@@ -13,7 +13,7 @@ mod row;
 mod semi_joining;
 mod table;
 
-pub use fitting::matching;
+pub use fitting::{matching, said_of, said_states};
 pub use forgetting::forget;
 pub use joining::{are_apart, join, union_states, unions};
 pub use known::holds_one;

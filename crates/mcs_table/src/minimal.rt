@@ -4,7 +4,7 @@ ghost use Rattle.std.specs.Prelude.{◌≡◌, ◌≤◌, ◌↔◌, IsTrue, len
 ghost use Rattle.std.specs.List.{AllByRecursion};
 ghost use Rattle.mcs_base.specs.Listings.{IsAmong, IsAscending, IsListing};
 ghost use Rattle.mcs_table.specs.RowOrder.{RowBefore, state_and_count};
-ghost use Rattle.mcs_table.specs.Tables.{IsCovered, IsMinimalRow};
+ghost use Rattle.mcs_table.specs.Tables.{IsCovered, IsMinimalRow, IsTable};
 ghost use Rattle.mcs_table.specs.declared.row.Row as declared;
 
 use crate::row::Row;
@@ -17,6 +17,7 @@ pub fn minimal_table(scope: Vars, rows: Vec<Row>) -> Table
     requires { AllByRecursion (λ (r : declared.Row). r.state.mask ≡ scope) rows.items }
     ensures scope { result.scope ≡ scope }
     ensures rows { IsListing (IsMinimalRow (λ r. IsAmong r rows.items)) RowBefore result.rows }
+    ensures kept { IsTable result }
 {
     let mut rows = Table::new(scope, rows).into_rows();
     let mut kept = 0;

@@ -11,11 +11,11 @@ use Rattle.mcs_table.specs.Elimination.{EliminatesTo}
 use Rattle.mcs_joint.specs.Apart.{EachApart}
 use Rattle.mcs_joint.proofs.Covering.{apart_few, few_are_tables}
 use Rattle.mcs_joint.proofs.Keeping.{known_listed}
-use Rattle.mcs_joint.proofs.Repaired.{minimal_apart, repairs_told}
+use Rattle.mcs_joint.proofs.Repaired.{fitting_apart, repairs_told}
 use Rattle.mcs_joint.proofs.repairs.repairs_in.Goals as goal
 
 pub reduced-requires : goal.reduced-requires
-reduced-requires c = let (k, high, given) = c.requires.tables in apart_few c.min-most.result c.args.tables.now c.in_ok-few.few.items c.in_ok-few.ensures (minimal_apart c.args.plan.now k c.args.known.now c.args.tables.now given)
+reduced-requires c = let (k, high, given) = c.requires.tables in apart_few c.min-most.result c.args.tables.now c.in_ok-few.few.items c.in_ok-few.ensures (fitting_apart c.args.plan.now k c.args.known.now c.args.tables.now given)
 
 pub eliminate-requires-clause-tables : goal.eliminate-requires-clause-tables
 eliminate-requires-clause-tables c = subst (AllByRecursion IsTable) (sym c.deref.ensures.value) (c.in_ok-fewer.ensures.tables (few_are_tables c.min-most.result c.args.tables.now c.in_ok-few.few.items c.in_ok-few.ensures))

@@ -12,4 +12,4 @@ returns-clause-known g c level listed =
       questions = subst (λ (xs : List ℕ). IsListing (IsQuestionAt m level c.args.i) (λ a b. a < b) xs) (sym c.in_ok-ask_new.ensures.questions) listed;
       parts = c.in_ok-ask_new.ensures.right;
     } in
-    record { answered = answered; supplies = c.in_ok-known.ensures m level c.args.i (subst (λ xs. AreAnswered m level c.args.i (map answered_of xs)) (sym c.deref.ensures.value) answered) }
+    record { answered = answered; supplies = c.in_ok-known.ensures.supplied m level c.args.i (subst (λ xs. AreAnswered m level c.args.i (map answered_of xs)) (sym c.deref.ensures.value) answered) }

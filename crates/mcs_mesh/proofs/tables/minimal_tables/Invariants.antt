@@ -1,5 +1,6 @@
-use Rattle.mcs_mesh.proofs.TableLemmas.{AreSomeMinimal}
+use Rattle.std.proofs.Common.{take}
+use Rattle.mcs_mesh.proofs.TableLemmas.{AreSomeFitting}
 use Rattle.mcs_mesh.proofs.tables.minimal_tables.Given as goal
 
 abbrev pub invariant-loop-i : goal.invariant-loop-i
-invariant-loop-i l = AreSomeMinimal l.plan l.level l.i l.pairs l.tables.items
+invariant-loop-i l = AreSomeFitting l.plan l.level l.pairs (take l.i-index l.i-items) l.tables.items

@@ -1,43 +1,64 @@
-use Rattle.std.proofs.Common.{ℕ, List, ◌∙◌, ap, sym, subst}
-use Rattle.std.specs.List.{flat_map}
-use Rattle.mcs_base.specs.Listings.{IsAmong}
-use Rattle.mcs_sets.specs.Sets.{union}
+use Rattle.std.proofs.Common.{◌<◌, ℕ, List, ◌∙◌, ap, sym, subst}
+use Rattle.std.specs.List.{AllByRecursion, AllZip, flat_map}
+use Rattle.mcs_base.specs.Listings.{IsAmong, IsAscending}
+use Rattle.mcs_base.proofs.Among.{among_flat_map}
+use Rattle.mcs_sets.specs.Sets.{union, Within}
+use Rattle.mcs_system.specs.Imports.{rules_into}
 use Rattle.mcs_system.specs.Plain.{System}
 use Rattle.mcs_system.specs.Rows.{inputs_of}
 use Rattle.mcs_system.specs.Systems.{variables_of}
 use Rattle.mcs_import.proofs.OrderLemmas.{import_order_exists}
 use Rattle.mcs_import.proofs.StateLemmas.{lists}
+use Rattle.mcs_table.specs.Fitting.{AreFittingStates}
 use Rattle.mcs_table.specs.Tables.{Covers}
+use Rattle.mcs_rows.specs.Finding.{asked_in}
+use Rattle.mcs_rows.specs.Fitting.{HasFittingParts}
 use Rattle.mcs_rows.specs.Making.{rows_of}
-use Rattle.mcs_rows.proofs.MakingLemmas.{questions_of_rules, answered_in_order, parts_possible, covering_on, made_minimal}
+use Rattle.mcs_rows.specs.declared.answer.Answer.{Answer}
+use Rattle.mcs_rows.proofs.FittingLemmas.{asked_same, rules_same}
+use Rattle.mcs_rows.proofs.MakingLemmas.{questions_of_rules, answered_in_order, covering_on, made_fitting}
 use Rattle.mcs_rows.proofs.minimal.minimal_rows.Goals as goal
 
 pub rows_in-requires-clause-in_order : goal.rows_in-requires-clause-in_order
-rows_in-requires-clause-in_order c = answered_in_order c.args.plan.now c.args.level c.args.i c.args.answers.now c.requires.answered
+rows_in-requires-clause-in_order c = subst (IsAscending (λ (a b : ℕ). a < b))
+    (sym (ap asked_in c.deref-3.ensures.value ∙ asked_same c.vars_of.result c.args.others.now c.args.answers.now c.in_ok-fitting.fitting.items c.in_ok-fitting.ensures))
+    (answered_in_order c.args.plan.now c.args.level c.args.i c.args.answers.now c.requires.answered)
 
 pub rows_in-requires-clause-of_rules : goal.rows_in-requires-clause-of_rules
-rows_in-requires-clause-of_rules c = rw c.system-system.ensures (questions_of_rules c.args.plan.now c.args.level c.args.i c.args.answers.now c.requires.answered)
+rows_in-requires-clause-of_rules c =
+    let fitting : AllByRecursion (λ (a : Answer). Within a.active (rules_into c.args.plan.now c.args.i)) c.in_ok-fitting.fitting.items =
+    rules_same c.vars_of.result c.args.others.now c.args.answers.now c.in_ok-fitting.fitting.items (λ (x : ℕ). Within x (rules_into c.args.plan.now c.args.i)) c.in_ok-fitting.ensures
+    (questions_of_rules c.args.plan.now c.args.level c.args.i c.args.answers.now c.requires.answered) in
+    rw (c.system-system.ensures, c.deref-3.ensures.value) fitting
 
 pub rows_in-requires-clause-possible : goal.rows_in-requires-clause-possible
 rows_in-requires-clause-possible c a τ here part =
-    subst (λ (xs : List ℕ). IsAmong τ xs) (sym c.deref-2.ensures.value)
-    (parts_possible c.args.plan.now c.args.level c.args.i c.args.answers.now c.in_ok-possible.possible.items c.requires.answered (c.in_ok-possible.ensures c.args.plan.now c.args.level c.args.i c.requires.answered) a τ here part)
+    let among : IsAmong a c.deref.result.now = subst (λ (xs : List Answer). IsAmong a xs) (c.deref-3.ensures.value ∙ sym c.deref.ensures.value) here in
+    subst (λ (xs : List ℕ). IsAmong τ xs) (sym c.deref-4.ensures.value)
+    ((c.in_ok-possible.ensures.parts.exactly τ).1 (among_flat_map (λ (b : Answer). b.parts.items) a τ c.deref.result.now among part))
 
 pub minimal_table-requires : goal.minimal_table-requires
 minimal_table-requires c =
-    covering_on c.system-system.result.now c.args.i c.args.level c.args.known.now c.args.answers.now c.deref.result.now c.union.result c.in_ok-all.all.items
-    (c.union.ensures ∙ ap (λ v. union v c.inputs_of.result) c.vars_of.ensures ∙ ap (union (variables_of c.system-system.result.now c.args.i)) c.inputs_of.ensures) c.in_ok-all.ensures
+    covering_on c.system-system.result.now c.args.i c.args.level c.args.known.now c.deref-3.result.now c.deref-2.result.now c.union.result c.in_ok-all.all.items
+    (c.union.ensures ∙ ap (λ v. union v c.inputs_of-2.result) c.vars_of-2.ensures ∙ ap (union (variables_of c.system-system.result.now c.args.i)) c.inputs_of-2.ensures) c.in_ok-all.ensures
 
 pub returns : goal.returns
 returns c =
-    let (order, ordered) = import_order_exists c.args.plan.now in
+    let m = c.args.plan.now in
+    let i = c.args.i in
+    let (order, ordered) = import_order_exists m in
     let (joined, of_joins, of_grows) = c.in_ok-states.ensures order ordered in
     let states = c.in_ok-states.states.items in
-    let of_system : Covers (λ r. IsAmong r c.in_ok-all.all.items) (λ r. IsAmong r (flat_map (rows_of c.args.plan.now c.args.i c.args.level c.args.known.now c.args.answers.now) c.deref.result.now)) =
-    subst (λ (m : System). Covers (λ r. IsAmong r c.in_ok-all.all.items) (λ r. IsAmong r (flat_map (rows_of m c.args.i c.args.level c.args.known.now c.args.answers.now) c.deref.result.now))) c.system-system.ensures c.in_ok-all.ensures in
-    let covers : Covers (λ r. IsAmong r c.in_ok-all.all.items) (λ r. IsAmong r (flat_map (rows_of c.args.plan.now c.args.i c.args.level c.args.known.now c.args.answers.now) states)) =
-    subst (λ (xs : List ℕ). Covers (λ r. IsAmong r c.in_ok-all.all.items) (λ r. IsAmong r (flat_map (rows_of c.args.plan.now c.args.i c.args.level c.args.known.now c.args.answers.now) xs))) c.deref.ensures.value of_system in
-    made_minimal c.args.plan.now c.args.level c.args.i c.args.answers.now c.requires.answered order ordered (lists c.args.supplies.now) (c.requires.supplied order ordered) joined states of_joins of_grows
-    c.args.known.now c.minimal_table.result c.in_ok-all.all.items covers
-    (c.minimal_table.ensures.scope ∙ c.union.ensures ∙ ap (λ v. union v c.inputs_of.result) c.vars_of.ensures ∙ ap (union (variables_of c.system-system.result.now c.args.i)) c.inputs_of.ensures ∙ ap (λ (m : System). union (variables_of m c.args.i) (inputs_of m c.args.i)) c.system-system.ensures)
-    c.minimal_table.ensures.rows
+    let fewer = c.in_ok-states-2.states.items in
+    let some = c.in_ok-fitting.fitting.items in
+    let fit : AreFittingStates (inputs_of m i) c.args.others.now states fewer = subst (λ (z : ℕ). AreFittingStates z c.args.others.now states fewer) (c.inputs_of.ensures ∙ ap (λ (s : System). inputs_of s i) c.system-system.ensures) c.in_ok-states-2.ensures in
+    let fits : AllZip (HasFittingParts (variables_of m i) c.args.others.now) c.args.answers.now some = subst (λ (z : ℕ). AllZip (HasFittingParts z c.args.others.now) c.args.answers.now some) (c.vars_of.ensures ∙ ap (λ (s : System). variables_of s i) c.system-system.ensures) c.in_ok-fitting.ensures in
+    let of_system : Covers (λ r. IsAmong r c.in_ok-all.all.items) (λ r. IsAmong r (flat_map (rows_of m i c.args.level c.args.known.now c.deref-3.result.now) c.deref-2.result.now)) =
+    subst (λ (s : System). Covers (λ r. IsAmong r c.in_ok-all.all.items) (λ r. IsAmong r (flat_map (rows_of s i c.args.level c.args.known.now c.deref-3.result.now) c.deref-2.result.now))) c.system-system.ensures c.in_ok-all.ensures in
+    let of_answers = subst (λ (xs : List Answer). Covers (λ r. IsAmong r c.in_ok-all.all.items) (λ r. IsAmong r (flat_map (rows_of m i c.args.level c.args.known.now xs) c.deref-2.result.now))) c.deref-3.ensures.value of_system in
+    let covers : Covers (λ r. IsAmong r c.in_ok-all.all.items) (λ r. IsAmong r (flat_map (rows_of m i c.args.level c.args.known.now some) fewer)) =
+    subst (λ (xs : List ℕ). Covers (λ r. IsAmong r c.in_ok-all.all.items) (λ r. IsAmong r (flat_map (rows_of m i c.args.level c.args.known.now some) xs))) c.deref-2.ensures.value of_answers in
+    made_fitting m c.args.level i c.args.answers.now c.requires.answered order ordered (lists c.args.supplies.now) (c.requires.supplied order ordered) joined states of_joins of_grows
+    c.args.known.now c.args.others.now fewer fit some fits c.minimal_table.result c.in_ok-all.all.items covers
+    (c.minimal_table.ensures.scope ∙ c.union.ensures ∙ ap (λ v. union v c.inputs_of-2.result) c.vars_of-2.ensures ∙ ap (union (variables_of c.system-system.result.now i)) c.inputs_of-2.ensures ∙ ap (λ (s : System). union (variables_of s i) (inputs_of s i)) c.system-system.ensures)
+    c.minimal_table.ensures.kept c.minimal_table.ensures.rows

@@ -6,7 +6,7 @@ use Rattle.mcs_base.proofs.Each.{all_take}
 use Rattle.mcs_system.specs.Plain.{System}
 use Rattle.mcs_system.specs.Repairs.{IsDiagnosis}
 use Rattle.mcs_table.specs.Tables.{TableData}
-use Rattle.mcs_rows.specs.Local.{AreMinimalTables}
+use Rattle.mcs_rows.specs.Local.{AreFittingTables}
 use Rattle.mcs_mesh.specs.Rounds.{HasFewRules}
 use Rattle.mcs_mesh.proofs.FoundLemmas.{found_known}
 use Rattle.mcs_mesh.proofs.LastingLemmas.{tables_ahead}
@@ -15,7 +15,7 @@ use Rattle.mcs_mesh.proofs.found.Found.find.Goals as goal
 pub repairs_in-requires-clause-tables : goal.repairs_in-requires-clause-tables
 repairs_in-requires-clause-tables c =
     let known = take c.min.result c.deref.result.now in
-    let given = subst (λ (ts : List TableData). AreMinimalTables c.args.plan.now c.args.done known ts) (sym c.deref-2.ensures.value) c.in_ok-tables.ensures in
+    let given = subst (λ (ts : List TableData). AreFittingTables c.args.plan.now c.args.done known ts) (sym c.deref-2.ensures.value) c.in_ok-tables.ensures in
     let above = subst (λ (m : System). c.args.level < c.level_ahead-ahead.result → HasFewRules m c.args.level) c.system.ensures c.level_ahead-ahead.ensures.above in
     tables_ahead c.args.plan.now c.args.level c.level_ahead-ahead.result c.args.done known c.deref-2.result.now c.level_ahead-ahead.ensures.no_less above c.requires.within given
 

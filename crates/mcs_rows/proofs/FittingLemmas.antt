@@ -1,0 +1,82 @@
+-- Answers and rows where states that fit no row of some tables go.
+use Rattle.std.proofs.Common.{◌≡◌, ◌∙◌, ◌+◌, ◌<◌, ℕ, List, [], ◌∷◌, ◌++◌, length, get_or, take, refl, sym, ap, subst, inl, inr, ◌↔◌}
+use Rattle.std.specs.List.{AllByRecursion, AllZip}
+use Rattle.mcs_sets.specs.Orders.{StateBefore}
+use Rattle.mcs_sets.specs.Sets.{common}
+use Rattle.mcs_base.specs.Listings.{IsAmong, IsListing}
+use Rattle.mcs_base.proofs.Each.{all_among, all_from_among}
+use Rattle.mcs_base.proofs.Lists.{zip_push}
+use Rattle.mcs_base.proofs.Written.{take_read}
+use Rattle.mcs_table.specs.Fitting.{SomeSays, AreFittingStates}
+use Rattle.mcs_table.specs.Tables.{TableData, IsTable}
+use Rattle.mcs_table.proofs.FittingLemmas.{fitting_same, fitting_more, said_step}
+use Rattle.mcs_rows.specs.Finding.{asked_in}
+use Rattle.mcs_rows.specs.Fitting.{HasSameParts, HasSaidParts, HasFittingParts}
+use Rattle.mcs_rows.specs.declared.answer.Answer.{Answer}
+
+-- ---- answers with some of their parts
+pub copies_fit : (set : ℕ) (answers all : List Answer) → AllZip HasSameParts answers all → AllZip (HasFittingParts set []) answers all
+copies_fit set [] [] zip = tt
+copies_fit set [] (b ∷ bs) zip = absurd zip
+copies_fit set (a ∷ later) [] zip = absurd zip
+copies_fit set (a ∷ later) (b ∷ bs) zip = (record { active = zip.0.active; parts = subst (λ (xs : List ℕ). AreFittingStates set [] a.parts.items xs) (sym zip.0.parts) (fitting_same set [] a.parts.items) }, copies_fit set later bs zip.1)
+
+module _ (set : ℕ) (tables : List TableData) (k : ℕ) (t : TableData) (less : k < length tables) (here : t ≡ get_or tables k t) where
+  -- a table that tells nothing
+  pub parts_same : (answers kept : List Answer) → AllZip (HasFittingParts set (take k tables)) answers kept → AllZip (HasFittingParts set (take (k + 1) tables)) answers kept
+  parts_same [] [] zip = tt
+  parts_same [] (b ∷ bs) zip = absurd zip
+  parts_same (a ∷ later) [] zip = absurd zip
+  parts_same (a ∷ later) (b ∷ bs) zip = (record { active = zip.0.active; parts = fitting_more set tables k t less here a.parts.items b.parts.items b.parts.items zip.0.parts (fitting_same set (t ∷ []) b.parts.items) }, parts_same later bs zip.1)
+
+  -- one that tells which
+  module _ (is : IsTable t) (said : List ℕ) (listing : IsListing (SomeSays t.rows set) StateBefore said) where
+    pub parts_more : (answers kept next : List Answer) → AllZip (HasFittingParts set (take k tables)) answers kept → AllZip (HasSaidParts said (common set t.scope)) kept next → AllZip (HasFittingParts set (take (k + 1) tables)) answers next
+    parts_more [] [] [] zip zip' = tt
+    parts_more [] [] (c ∷ cs) zip zip' = absurd zip'
+    parts_more [] (b ∷ bs) cs zip zip' = absurd zip
+    parts_more (a ∷ later) [] cs zip zip' = absurd zip
+    parts_more (a ∷ later) (b ∷ bs) [] zip zip' = absurd zip'
+    parts_more (a ∷ later) (b ∷ bs) (c ∷ cs) zip zip' = (
+      record {
+        active = zip'.0.active ∙ zip.0.active;
+        parts = fitting_more set tables k t less here a.parts.items b.parts.items c.parts.items zip.0.parts (said_step t is set said b.parts.items c.parts.items listing zip'.0.parts);
+      },
+      parts_more later bs cs zip.1 zip'.1,
+    )
+
+-- ---- what is asked is the same
+pub asked_same : (set : ℕ) (tables : List TableData) (answers kept : List Answer) → AllZip (HasFittingParts set tables) answers kept → asked_in kept ≡ asked_in answers
+asked_same set tables [] [] zip = refl
+asked_same set tables [] (b ∷ bs) zip = absurd zip
+asked_same set tables (a ∷ later) [] zip = absurd zip
+asked_same set tables (a ∷ later) (b ∷ bs) zip = ap (λ (x : ℕ). x ∷ asked_in bs) zip.0.active ∙ ap (λ (xs : List ℕ). a.active ∷ xs) (asked_same set tables later bs zip.1)
+
+-- each answer that is left comes of one, and each one has one that is left
+pub answer_before : (set : ℕ) (tables : List TableData) (answers kept : List Answer) → AllZip (HasFittingParts set tables) answers kept → (b : Answer) → IsAmong b kept → (a : Answer) × IsAmong a answers × HasFittingParts set tables a b
+answer_before set tables [] [] zip b among = absurd among
+answer_before set tables [] (c ∷ cs) zip b among = absurd zip
+answer_before set tables (a ∷ later) [] zip b among = absurd zip
+answer_before set tables (a ∷ later) (c ∷ cs) zip b (inl e) = (a, inl refl, subst (λ (d : Answer). HasFittingParts set tables a d) (sym e) zip.0)
+answer_before set tables (a ∷ later) (c ∷ cs) zip b (inr among) = let (a', there, h) = answer_before set tables later cs zip.1 b among in (a', inr there, h)
+
+pub answer_after : (set : ℕ) (tables : List TableData) (answers kept : List Answer) → AllZip (HasFittingParts set tables) answers kept → (a : Answer) → IsAmong a answers → (b : Answer) × IsAmong b kept × HasFittingParts set tables a b
+answer_after set tables [] [] zip a among = absurd among
+answer_after set tables [] (c ∷ cs) zip a among = absurd among
+answer_after set tables (d ∷ later) [] zip a among = absurd zip
+answer_after set tables (d ∷ later) (c ∷ cs) zip a (inl e) = (c, inl refl, subst (λ (d' : Answer). HasFittingParts set tables d' c) (sym e) zip.0)
+answer_after set tables (d ∷ later) (c ∷ cs) zip a (inr among) = let (b, there, h) = answer_after set tables later cs zip.1 a among in (b, inr there, h)
+
+-- ---- one answer after the other
+pub zip_more : {A B : Type 0} (R : A → B → Type 0) (xs : List A) (k : ℕ) (x : A) → k < length xs → x ≡ get_or xs k x → (ys now : List B) (y : B) → AllZip R (take k xs) ys → R x y → now ≡ ys ++ y ∷ [] → AllZip R (take (k + 1) xs) now
+zip_more R xs k x less here ys now y so_far one is = subst (λ zs. AllZip R zs now) (sym (take_read xs k x less here)) (subst (AllZip R (take k xs ++ x ∷ [])) (sym is) (zip_push R (take k xs) ys x y so_far one))
+
+pub said_as : (old lent said told : List ℕ) (set on : ℕ) (new : List ℕ) → lent ≡ old → told ≡ said → on ≡ set → ((s : ℕ) → IsAmong s new ↔ (IsAmong s lent × IsAmong (common s on) told)) → (s : ℕ) → IsAmong s new ↔ (IsAmong s old × IsAmong (common s set) said)
+said_as old lent said told set on new e e' e'' kept =
+    subst (λ (xs : List ℕ). (s : ℕ) → IsAmong s new ↔ (IsAmong s xs × IsAmong (common s set) said)) e
+    (subst (λ (ys : List ℕ). (s : ℕ) → IsAmong s new ↔ (IsAmong s lent × IsAmong (common s set) ys)) e' (subst (λ (z : ℕ). (s : ℕ) → IsAmong s new ↔ (IsAmong s lent × IsAmong (common s z) told)) e'' kept))
+
+pub rules_same : (set : ℕ) (tables : List TableData) (answers kept : List Answer) (P : ℕ → Type 0) → AllZip (HasFittingParts set tables) answers kept → AllByRecursion (λ (a : Answer). P a.active) answers → AllByRecursion (λ (a : Answer). P a.active) kept
+rules_same set tables answers kept P zip all = all_from_among (λ (a : Answer). P a.active) kept (λ b among.
+    let (a, before, h) = answer_before set tables answers kept zip b among in
+    subst P (sym h.active) (all_among (λ (d : Answer). P d.active) answers a all before))
