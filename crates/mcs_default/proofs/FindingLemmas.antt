@@ -38,6 +38,9 @@ module _ (names : List Name) (items : List Item) (x : upper.Upper) (shown : IsUp
       (each_holds a (generated items x.set)).0 (generated_each items x.set (λ p. IsTrue (holds a p)) ((each_holds a (facts_of items)).1 shown.model)
       (λ k d at member. sym (part_is a (defaults_of items) parts.Consequent x.set k d shown.set at) ∙ member))
 
+  pub denied : (g : Formula) → holds (true_names 0 names x.values) g ≡ false → ¬ Entails (generated items x.set) g
+  denied g out follows = true≢false (sym (follows (true_names 0 names x.values) all_hold) ∙ out)
+
   pub nothing_contradicts : ¬ IsConflict items x.set
   nothing_contradicts all = true≢false (sym (all (true_names 0 names x.values) all_hold))
 

@@ -14,7 +14,7 @@ use Rattle.mcs_base.proofs.Each.{all_get, all_weaker}
 use Rattle.mcs_base.proofs.ListingLemmas.{IsListing-same}
 use Rattle.mcs_base.proofs.Lists.{slice_get_below, slice_get-map_at, slice_get_kept, slice_get_seam, slice_get_push_at}
 use Rattle.mcs_system.specs.Plain.{Name, Formula, Falsity, Not, Default, Item, DefaultTheory}
-use Rattle.mcs_system.specs.Logic.{BeliefSet, Believes, Theory, Entails}
+use Rattle.mcs_system.specs.Logic.{BeliefSet, Believes, Theory, Entails, holds, true_names}
 use Rattle.mcs_system.specs.Views.{Shows, IsAcceptedView}
 use Rattle.mcs_evidence.specs.Defaults.{defaults_of, generated}
 use Rattle.mcs_system.proofs.Consequence.{one_set, follows_through}
@@ -26,7 +26,7 @@ use Rattle.mcs_default.specs.Searches.{IsAllowedBy, IsSupportedAt, IsUnsupported
 use Rattle.mcs_default.specs.declared.findings.Lower as lower
 use Rattle.mcs_default.specs.declared.findings.Upper as upper
 use Rattle.mcs_default.proofs.JudgeLemmas.{numbered_within}
-use Rattle.mcs_default.proofs.FindingLemmas.{nothing_contradicts, others_unsupported, these_allowed}
+use Rattle.mcs_default.proofs.FindingLemmas.{nothing_contradicts, denied, others_unsupported, these_allowed}
 
 -- ---- more and less
 module _ (items : List Item) (a b : ℕ) (within : Within a b) where
@@ -49,6 +49,9 @@ module _ (items : List Item) where
 
   pub upper_denies : (names : List Name) (xs : List upper.Upper) (i : ℕ) (x : upper.Upper) (set k : ℕ) → i < length xs → x ≡ get_or xs i x → has x.supported k ≡ false → Within set x.set → AllByRecursion (IsUpper names items) xs → IsUnsupportedAt items set k
   upper_denies names xs i x set k less is out within all d at follows = others_unsupported names items x (all_get (IsUpper names items) xs i x all (slice_get_read xs (length xs) i x refl less is)) k out d at (follows_more items set x.set within d.pre follows)
+
+  pub upper_refutes : (names : List Name) (xs : List upper.Upper) (i : ℕ) (x : upper.Upper) (set : ℕ) (g : Formula) → i < length xs → x ≡ get_or xs i x → holds (true_names 0 names x.values) g ≡ false → Within set x.set → AllByRecursion (IsUpper names items) xs → ¬ Entails (generated items set) g
+  upper_refutes names xs i x set g less is out within all follows = denied names items x (all_get (IsUpper names items) xs i x all (slice_get_read xs (length xs) i x refl less is)) g out (follows_more items set x.set within g follows)
 
   pub upper_allows : (names : List Name) (xs : List upper.Upper) (i : ℕ) (x : upper.Upper) (set k : ℕ) → i < length xs → x ≡ get_or xs i x → has x.allowed k ≡ true → Within set x.set → AllByRecursion (IsUpper names items) xs → IsAllowedAt items set k
   upper_allows names xs i x set k less is member within all d at = allowed_less items set x.set within d (these_allowed names items x (all_get (IsUpper names items) xs i x all (slice_get_read xs (length xs) i x refl less is)) k member d at)

@@ -1,12 +1,16 @@
 //! What was found out of sets of defaults, which tells of larger sets or of smaller ones too.
 
-ghost use Rattle.std.specs.Prelude.{◌≡◌, ◌<◌, [], List, IsTrue};
+ghost use Rattle.std.specs.Prelude.{◌≡◌, ◌<◌, ◌≤◌, [], List, length, IsTrue};
 ghost use Rattle.std.specs.List.{AllByRecursion};
+ghost use Rattle.mcs_system.specs.Logic.{Entails};
 ghost use Rattle.mcs_system.specs.Plain as plain;
+ghost use Rattle.mcs_system.specs.Seen.{formula_of};
+ghost use Rattle.mcs_evidence.specs.Defaults.{generated};
 ghost use Rattle.mcs_default.specs.Searches.{IsLower, IsUpper, IsSupportedAt, IsUnsupportedAt, IsAllowedAt, IsBlockedAt, IsConflict};
 
 use mcs_base::Vars;
 use mcs_sat::ClauseBase;
+use mcs_system::{Formula, Name, holds_at};
 use std::alloc::Global;
 
 /// What the consequents of a set of defaults are enough for, and so those of each larger set.
@@ -130,6 +134,20 @@ pub(crate) fn is_consistent(upper: &[Upper], set: Vars) -> bool
 {
     for found in upper {
         if set.within(found.set) {
+            return true;
+        }
+    }
+    false
+}
+
+/// Whether it was found that the formula does not follow from the facts and the consequents of the set: an assignment under
+/// which all of these hold denies it.
+pub(crate) fn is_denied(upper: &[Upper], atoms: &[Name], set: Vars, formula: &Formula) -> bool
+    requires { length atoms.now ≤ 64 }
+    ensures { (items : List plain.Item) → AllByRecursion (IsUpper atoms.now items) upper.now → IsTrue result → ¬ Entails (generated items set) (formula_of formula.now) }
+{
+    for found in upper {
+        if set.within(found.set) && !holds_at(atoms, found.values, formula) {
             return true;
         }
     }

@@ -8,13 +8,13 @@ ghost use Rattle.mcs_system.specs.Plain as plain;
 ghost use Rattle.mcs_system.specs.Seen.{default_of, formula_of};
 ghost use Rattle.mcs_cnf.specs.ClauseLists.{IsOver, AreOver};
 ghost use Rattle.mcs_classical.specs.Models.{IsCounterexample};
-ghost use Rattle.mcs_evidence.specs.Defaults.{generated};
+ghost use Rattle.mcs_evidence.specs.Defaults.{defaults_of, generated};
 ghost use Rattle.mcs_default.specs.Theories.{AreClausesOf, AreParts, consequents};
 ghost use Rattle.mcs_evidence.specs.Theories.{AreOverDefaults, IsDefaultAt};
 ghost use Rattle.mcs_default.specs.Searches.{IsReady, IsAllowedBy, IsConflict};
 
 use crate::findings::{
-    Findings, Lower, has_conflict, is_allowed, is_blocked, is_consistent, is_supported,
+    Findings, Lower, has_conflict, is_allowed, is_blocked, is_consistent, is_denied, is_supported,
     is_unsupported,
 };
 use crate::models::upper_at;
@@ -22,7 +22,7 @@ use crate::theory::append_consequents;
 use mcs_base::{Memory, Vars};
 use mcs_classical::counterexample_in;
 use mcs_sat::ClauseBase;
-use mcs_system::{Default, Formula, Name};
+use mcs_system::{Default, Formula, Name, same_formula};
 use std::alloc::Global;
 
 /// The places of the atoms that are true where the facts, whose clauses are `known`, and the consequents of the set hold,
@@ -78,6 +78,46 @@ pub(crate) fn follows(
             Ok(false)
         }
     }
+}
+
+/// Whether the formula is the consequent of a default of the set, word for word.
+fn is_consequent(defaults: &[&Default], set: Vars, formula: &Formula) -> bool
+    requires few_defaults { length defaults.now ≤ 10 }
+    ensures { (items : List plain.Item) → map (λ d. default_of d.now) defaults.now ≡ defaults_of items → IsTrue result → Entails (generated items set) (formula_of formula.now) }
+{
+    for (index, default) in defaults.iter().enumerate() {
+        if set.has(index as u32) && same_formula(&default.conclusion, formula) {
+            return true;
+        }
+    }
+    false
+}
+
+/// Whether the belief follows from the facts and the consequents of the set. It is asked only where neither the set has it
+/// as a consequent nor what was found denies it.
+pub(crate) fn is_believed(
+    alloc: Global,
+    findings: &mut Findings,
+    defaults: &[&Default],
+    atoms: &[Name],
+    set: Vars,
+    belief: &Formula,
+) -> Result<bool, Memory>
+    requires few_defaults { length defaults.now ≤ 10 }
+    requires ready { IsReady atoms.now (map (λ d. default_of d.now) defaults.now) findings.old }
+    requires belief { IsOver atoms.now (formula_of belief.now) }
+    ensures kept { findings.new.facts ≡ findings.old.facts }
+    ensures ready { OnOk result (IsReady atoms.now (map (λ d. default_of d.now) defaults.now) findings.new) }
+    ensures exact { IfOk result (λ b. (items : List plain.Item) → AreParts atoms.now items (map (λ d. default_of d.now) defaults.now) findings.old.facts
+        → IsTrue b ↔ Entails (generated items set) (formula_of belief.now)) }
+{
+    if is_consequent(defaults, set, belief) {
+        return Ok(true);
+    }
+    if is_denied(&findings.upper, atoms, set, belief) {
+        return Ok(false);
+    }
+    follows(alloc, findings, defaults, atoms, set, belief)
 }
 
 /// Whether the negation of the formula follows.

@@ -15,7 +15,7 @@ ghost use Rattle.mcs_default.specs.Searches.{IsReady, IsOpenAt, IsViewBelow};
 
 use crate::findings::Findings;
 use crate::nodes::{are_open, is_grounded};
-use crate::questions::follows;
+use crate::questions::is_believed;
 use mcs_base::{Memory, Vars};
 use mcs_system::{Default, Formula, Name};
 use std::alloc::Global;
@@ -40,7 +40,7 @@ fn view_of(
 {
     let mut view = Vars::empty();
     for (index, belief) in beliefs.iter().enumerate() {
-        if follows(alloc, findings, defaults, atoms, set, belief)? {
+        if is_believed(alloc, findings, defaults, atoms, set, belief)? {
             view = view.with(index as u32);
         }
     }

@@ -14,8 +14,8 @@ use Rattle.mcs_default.proofs.SearchLemmas.{shows_none, seen_more, seen_same}
 use Rattle.mcs_default.proofs.search.view_of.Goals.{then-branch, else-branch}
 use Rattle.mcs_default.proofs.search.view_of.Goals as goal
 
-pub follows-requires-clause-goal : goal.follows-requires-clause-goal
-follows-requires-clause-goal c = image_each_read (IsOver c.args.atoms.now) (λ b. formula_of b.now) c.args.beliefs.now c.loop-index.index c.index-beliefs-index.result c.loop-index-test.true c.index-beliefs-index.is c.requires.beliefs
+pub is_believed-requires-clause-belief : goal.is_believed-requires-clause-belief
+is_believed-requires-clause-belief c = image_each_read (IsOver c.args.atoms.now) (λ b. formula_of b.now) c.args.beliefs.now c.loop-index.index c.index-beliefs-index.result c.loop-index-test.true c.index-beliefs-index.is c.requires.beliefs
 
 pub loop-index-init : goal.loop-index-init
 loop-index-init c = record {
@@ -35,22 +35,22 @@ loop-index-preserved c =
     elim c.if-branch.branch [
       | then-branch w ↦
           rw w.view-is (record {
-            kept = c.in_ok-follows.ensures.kept ∙ before.kept;
-            ready = c.in_ok-follows.ensures.ready;
+            kept = c.in_ok-is_believed.ensures.kept ∙ before.kept;
+            ready = c.in_ok-is_believed.ensures.ready;
             shown = λ items parts.
                 (let now = subst (AreParts names items ds) (sym before.kept) parts in
                 subst (Shows (Theory (generated items c.args.set)) (map (λ b. formula_of b.now) (take (i + 1) xs))) (sym w.with-view.ensures)
                 (seen_more (λ b. formula_of b.now) (Theory (generated items c.args.set)) xs i c.loop-index.view f c.loop-index-test.true c.index-beliefs-index.is (before.shown items parts)
-                ((c.in_ok-follows.ensures.exact items now).0 w.if-branch.true)));
+                ((c.in_ok-is_believed.ensures.exact items now).0 w.if-branch.true)));
           })
       | else-branch w ↦
           rw w.view-is (record {
-            kept = c.in_ok-follows.ensures.kept ∙ before.kept;
-            ready = c.in_ok-follows.ensures.ready;
+            kept = c.in_ok-is_believed.ensures.kept ∙ before.kept;
+            ready = c.in_ok-is_believed.ensures.ready;
             shown = λ items parts.
                 (let now = subst (AreParts names items ds) (sym before.kept) parts in
                 seen_same (λ b. formula_of b.now) (Theory (generated items c.args.set)) xs i c.loop-index.view f c.loop-index-test.true c.index-beliefs-index.is (before.shown items parts)
-                (iff_false (c.in_ok-follows.ensures.exact items now) w.if-branch.false));
+                (iff_false (c.in_ok-is_believed.ensures.exact items now) w.if-branch.false));
           })
     ]
 
