@@ -3,7 +3,9 @@
 ghost use Rattle.std.specs.Prelude.{◌≡◌};
 
 use mcs_base::{Marks, Memory, Partial, Vars};
-use mcs_table::{Row, Table, are_apart, forget, holds_one, join, matching, union_states};
+use mcs_table::{
+    Row, Table, are_apart, forget, holds_one, join, matching, said_of, said_states, union_states,
+};
 use std::alloc::Global;
 
 /// A row. The bits of the numbers are the variables that are true, and the marks.
@@ -186,6 +188,25 @@ fn forgetting_keeps_minimal_rows(rt: HostRuntime) {
     let of: Listed = (0b11, &[(0b01, 0b1), (0b11, 0b11), (0b11, 0b100), (0b10, 0)]);
     let wanted: Listed = (0b1, &[(1, 0b1), (1, 0b100), (0, 0)]);
     assert!(rt; leaves(rt.alloc(), of, wanted) == Ok(true));
+}
+
+/// Whether, of some states, those are kept that agree with a row, on two variables of which the rows have one.
+fn are_kept(alloc: Global) -> Result<bool, Memory> {
+    let rows = table(alloc, (0b011, &[(0b01, 0), (0b11, 0b1), (0b11, 0b10)]))?;
+    let set = Vars::numbered(0b110);
+    let said = said_of(alloc, &rows, set)?;
+    let states = [
+        Vars::numbered(0b001),
+        Vars::numbered(0b010),
+        Vars::numbered(0b100),
+    ];
+    let kept = said_states(alloc, &states, &said, set)?;
+    Ok(said.len() == 2 && are_states(&kept, &[0b001, 0b010]))
+}
+
+#[test]
+fn states_are_kept_that_a_row_agrees_with(rt: HostRuntime) {
+    assert!(rt; are_kept(rt.alloc()) == Ok(true));
 }
 
 #[test]

@@ -1,0 +1,1 @@
+use Rattle.mcs_evaluation_tests.proofs.solvers.are_in_turn.Goals as goal
