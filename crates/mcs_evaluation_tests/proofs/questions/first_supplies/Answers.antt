@@ -18,5 +18,5 @@ returns c =
       questions = subst (λ (xs : List ℕ). IsListing (IsQuestionAt m c.args.level 0) (λ a b. a < b) xs) one c.in_ok-asked.ensures;
       parts = (subst (λ (s : System). IsListing (IsAcceptedPart s 0 c.in-Some.active) StateBefore c.in_ok-parts.parts.items) c.system.ensures c.in_ok-parts.ensures, tt);
     } in
-    c.in_ok-supplies.ensures m c.args.level 0 (subst (λ (xs : List code.Answer). AreAnswered m c.args.level 0 (map answered_of xs))
+    c.in_ok-supplies.ensures.supplied m c.args.level 0 (subst (λ (xs : List code.Answer). AreAnswered m c.args.level 0 (map answered_of xs))
     (sym (c.deref-2.ensures.value ∙ (c.in_ok-push.ensures.items ∙ ap (λ (xs : List code.Answer). xs ++ answer ∷ []) c.new-answers.ensures.items))) answered)
