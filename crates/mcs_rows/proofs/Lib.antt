@@ -6,3 +6,4 @@ pub mod FindingLemmas
 pub mod ChangedLemmas
 pub mod KnownLemmas
 pub mod FittingLemmas
+pub mod ReachLemmas

@@ -95,13 +95,19 @@ pub marks_counted : (m : System) (i state x applies removed forced : ℕ) → ap
 marks_counted m i state x applies removed forced is of_rules removed_is forced_is =
     ap (λ (s : ℕ). size s + size forced) (removed_is ∙ ap (λ s. minus s x) is) ∙ ap (λ (s : ℕ). size (minus (applying m i state) x) + size s) (forced_is ∙ ap (minus x) is) ∙ sym (count-marks_at m i state x of_rules)
 
+-- the rules that are removed and forced are rules of the system
+module _ (m : System) (i state x applying changed : ℕ) (applies : applying ≡ common (applicable m state) (rules_into m i)) (of_rules : Within x (rules_into m i)) where
+  pub removed_known : changed ≡ minus applying x → Within changed (all_rules m)
+  removed_known is k e = rules_into_known m i k (common_within_right (applicable m state) (rules_into m i) k (subst (λ (s : ℕ). has s k ≡ true) applies (minus_within applying x k (subst (λ (s : ℕ). has s k ≡ true) is e))))
+
+  pub forced_known : changed ≡ minus x applying → Within changed (all_rules m)
+  forced_known is k e = rules_into_known m i k (of_rules k (minus_within x applying k (subst (λ (s : ℕ). has s k ≡ true) is e)))
+
 -- the marks of the rules that are removed and forced are those of the question
 pub marks_are_at : (m : System) (i state x applying removed forced marks : ℕ) → applying ≡ common (applicable m state) (rules_into m i) → Within x (rules_into m i) → removed ≡ minus applying x → forced ≡ minus x applying
     → (Within removed (all_rules m) → Within forced (all_rules m) → marks ≡ marks_of m removed forced) → marks ≡ marks_at m i state x
 marks_are_at m i state x applying removed forced marks applies of_rules is is' told =
-    told
-    (λ k e. rules_into_known m i k (common_within_right (applicable m state) (rules_into m i) k (subst (λ (s : ℕ). has s k ≡ true) applies (minus_within applying x k (subst (λ (s : ℕ). has s k ≡ true) is e)))))
-    (λ k e. rules_into_known m i k (of_rules k (minus_within x applying k (subst (λ (s : ℕ). has s k ≡ true) is' e))))
+    told (removed_known m i state x applying removed applies of_rules is) (forced_known m i state x applying forced applies of_rules is')
     ∙ ap (λ s. marks_of m s forced) is ∙ ap (marks_of m (minus applying x)) is' ∙ ap (λ s. marks_of m (minus s x) (minus x s)) applies
 
 -- ---- the rows of a state

@@ -4,3 +4,4 @@ pub mod Making
 pub mod Changed
 pub mod Finding
 pub mod Fitting
+pub mod Reach

@@ -5,14 +5,15 @@ ghost use Rattle.std.specs.List.{AllByRecursion, flat_map};
 ghost use Rattle.mcs_base.specs.Antichains.{HasOneWithin};
 ghost use Rattle.mcs_sets.specs.Sets.{common, Meets, Within};
 ghost use Rattle.mcs_system.specs.Imports.{rules_into};
-ghost use Rattle.mcs_system.specs.Repairs.{allowed_marks};
+ghost use Rattle.mcs_system.specs.Plain.{System};
 ghost use Rattle.mcs_system.specs.Systems.{applicable};
 ghost use Rattle.mcs_rows.specs.Making.{agrees, row_with, rows_with};
+ghost use Rattle.mcs_rows.specs.Reach.{IsReach, IsOut, HasMarksFor};
 ghost use Rattle.mcs_rows.specs.declared.answer.Answer as declared;
 
 use crate::answer::Answer;
 use crate::marks::marks_of;
-use mcs_base::{Active, Marks, Memory, Partial, Vars};
+use mcs_base::{Active, Marks, Memory, Pair, Partial, Vars};
 use mcs_system::System;
 use mcs_table::{Row, holds_one};
 
@@ -59,6 +60,9 @@ pub(crate) struct Reach<'a> {
     pub known: &'a [Marks],
     // Marks that are such a set each by itself.
     pub alone: Marks,
+    // Rules that no such row removes, and rules that none forces: the mark is not allowed, or is such a set by itself.
+    pub never_removed: Active,
+    pub never_forced: Active,
 }
 
 /// The marks that are one of the sets each by itself.
@@ -72,6 +76,33 @@ pub(crate) fn alone_in(sets: &[Marks]) -> Marks
         }
     }
     alone
+}
+
+/// The rows with at most so many marks, each of them allowed, that hold none of the known sets.
+pub(crate) fn reach_of<'a>(system: &System, level: u32, known: &'a [Marks]) -> Reach<'a>
+    ensures level { result.level ≡ level }
+    ensures known { result.known.now ≡ known.now }
+    ensures reach { IsReach system.now result }
+{
+    let allowed = system.allowed();
+    let alone = alone_in(known);
+    let may = Pair::new(allowed.minus(alone));
+    let every = Active::numbered(u64::MAX);
+    Reach {
+        allowed,
+        level,
+        known,
+        alone,
+        never_removed: every.minus(may.removed()),
+        never_forced: every.minus(may.forced()),
+    }
+}
+
+/// Whether it is seen without its marks that no such row removes and forces just these rules.
+fn is_out(removed: Active, forced: Active, reach: &Reach) -> bool
+    ensures { (m : System) (s : ℕ) → IsReach m reach.now → IsTrue result → HasMarksFor removed forced s → IsOut reach.now s }
+{
+    removed.meets(reach.never_removed) || forced.meets(reach.never_forced)
 }
 
 /// Whether the marks hold one of the known sets.
@@ -96,13 +127,15 @@ fn add_answer(
     requires in_range { i < length system.now.contexts }
     requires applying { applying ≡ common (applicable system.now state) (rules_into system.now i) }
     requires of_rules { Within answer.now.active (rules_into system.now i) }
-    requires allowed { reach.now.allowed ≡ allowed_marks system.now }
-    requires alone { (s : ℕ) → Meets s reach.now.alone → HasOneWithin reach.now.known.now s }
+    requires reach { IsReach system.now reach.now }
     ensures { IfOk result (λ _. rows.new.items ≡ rows.old.items ++ rows_with system.now i reach.now.level reach.now.known.now state answer.now) }
 {
     let removed = applying.minus(answer.active);
     let forced = answer.active.minus(applying);
     if removed.count() + forced.count() > reach.level {
+        return Ok(());
+    }
+    if is_out(removed, forced, reach) {
         return Ok(());
     }
     let marks = marks_of(removed, forced);
@@ -127,8 +160,7 @@ pub(crate) fn add_answers(
 ) -> Result<(), Memory>
     requires in_range { i < length system.now.contexts }
     requires of_rules { AllByRecursion (λ (a : declared.Answer). Within a.active (rules_into system.now i)) answers.now }
-    requires allowed { reach.now.allowed ≡ allowed_marks system.now }
-    requires alone { (s : ℕ) → Meets s reach.now.alone → HasOneWithin reach.now.known.now s }
+    requires reach { IsReach system.now reach.now }
     ensures { IfOk result (λ _. rows.new.items
         ≡ rows.old.items ++ flat_map (rows_with system.now i reach.now.level reach.now.known.now state) answers.now) }
 {

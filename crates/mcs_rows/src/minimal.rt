@@ -3,22 +3,21 @@
 ghost use Rattle.std.specs.Prelude.{◌≡◌, ◌<◌, ℕ, List, map, filter, length, true, IfOk, IfSome, IsTrue};
 ghost use Rattle.std.specs.List.{AllByRecursion, flat_map};
 ghost use Rattle.mcs_base.specs.Listings.{IsAmong};
-ghost use Rattle.mcs_base.specs.Antichains.{HasOneWithin};
-ghost use Rattle.mcs_sets.specs.Sets.{Meets, Within};
+ghost use Rattle.mcs_sets.specs.Sets.{Within};
 ghost use Rattle.mcs_system.specs.Imports.{IsImportOrder, supplied, rules_into};
-ghost use Rattle.mcs_system.specs.Repairs.{allowed_marks};
 ghost use Rattle.mcs_import.specs.Plans.{AreSupplies};
 ghost use Rattle.mcs_table.specs.Tables.{Covers};
 ghost use Rattle.mcs_rows.specs.Answers.{answered_of};
 ghost use Rattle.mcs_rows.specs.Finding.{AreInOrder};
 ghost use Rattle.mcs_rows.specs.Local.{AreAnswered, IsFittingTable};
 ghost use Rattle.mcs_rows.specs.Making.{agrees, row_with, rows_of, IsSettled};
+ghost use Rattle.mcs_rows.specs.Reach.{IsReach};
 ghost use Rattle.mcs_rows.specs.declared.answer.Answer as declared;
 
 use crate::answer::Answer;
 use crate::finding::answer_to;
 use crate::fitting::{fitting_answers, fitting_states};
-use crate::local::{Reach, add_answers, add_parts, alone_in, hold_known};
+use crate::local::{Reach, add_answers, add_parts, hold_known, reach_of};
 use crate::states::input_states;
 use crate::supply;
 use mcs_base::{Marks, Memory, Vars};
@@ -99,8 +98,7 @@ fn marked_rows(
 ) -> Result<Table, Memory>
     requires in_range { i < length system.now.contexts }
     requires of_rules { AllByRecursion (λ (a : declared.Answer). Within a.active (rules_into system.now i)) answers.now }
-    requires allowed { reach.now.allowed ≡ allowed_marks system.now }
-    requires alone { (s : ℕ) → Meets s reach.now.alone → HasOneWithin reach.now.known.now s }
+    requires reach { IsReach system.now reach.now }
     ensures { IfOk result (λ t. Covers (λ r. IsAmong r t.rows) (λ r. IsAmong r (rows_of system.now i reach.now.level reach.now.known.now answers.now state))) }
 {
     let mut all = Vec::new(alloc);
@@ -123,8 +121,7 @@ fn rows_at(
     requires in_order { AreInOrder answers.now }
     requires of_rules { AllByRecursion (λ (a : declared.Answer). Within a.active (rules_into system.now i)) answers.now }
     requires possible { (a : declared.Answer) (τ : ℕ) → IsAmong a answers.now → IsAmong τ a.parts.items → IsAmong τ possible.now }
-    requires allowed { reach.now.allowed ≡ allowed_marks system.now }
-    requires alone { (s : ℕ) → Meets s reach.now.alone → HasOneWithin reach.now.known.now s }
+    requires reach { IsReach system.now reach.now }
     ensures { IfOk result (λ all. Covers (λ r. IsAmong r all.items) (λ r. IsAmong r (rows_of system.now i reach.now.level reach.now.known.now answers.now state))) }
 {
     if hold_known(Marks::empty(), reach) {
@@ -154,12 +151,7 @@ fn rows_in(
     requires possible { (a : declared.Answer) (τ : ℕ) → IsAmong a answers.now → IsAmong τ a.parts.items → IsAmong τ possible.now }
     ensures { IfOk result (λ all. Covers (λ r. IsAmong r all.items) (λ r. IsAmong r (flat_map (rows_of system.now i level known.now answers.now) states.now))) }
 {
-    let reach = Reach {
-        allowed: system.allowed(),
-        level,
-        known,
-        alone: alone_in(known),
-    };
+    let reach = reach_of(system, level, known);
     let mut all = Vec::new(alloc);
     for state in states {
         let some = rows_at(alloc, system, i, *state, answers, possible, &reach)?;

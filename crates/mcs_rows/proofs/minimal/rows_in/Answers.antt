@@ -10,7 +10,9 @@ use Rattle.mcs_rows.proofs.minimal.rows_in.Goals as goal
 
 pub loop-state-preserved : goal.loop-state-preserved
 loop-state-preserved c =
-    covers_more c.args.system.now c.args.i c.args.level c.args.known.now c.args.answers.now c.args.states.now c.loop-state.state-index c.state-item.result c.loop-state-test.true c.state-item.is c.loop-state.all.items c.in_ok-some.some.items _ c.loop-state.invariant c.in_ok-some.ensures
+    covers_more c.args.system.now c.args.i c.args.level c.args.known.now c.args.answers.now c.args.states.now c.loop-state.state-index c.state-item.result c.loop-state-test.true c.state-item.is c.loop-state.all.items c.in_ok-some.some.items _ c.loop-state.invariant
+    (subst (λ (k : List ℕ). Covers (λ r. IsAmong r c.in_ok-some.some.items) (λ r. IsAmong r (rows_of c.args.system.now c.args.i c.args.level k c.args.answers.now c.state-item.result))) c.reach_of-reach.ensures.known
+    (subst (λ (l : ℕ). Covers (λ r. IsAmong r c.in_ok-some.some.items) (λ r. IsAmong r (rows_of c.args.system.now c.args.i l c.reach_of-reach.result.known.now c.args.answers.now c.state-item.result))) c.reach_of-reach.ensures.level c.in_ok-some.ensures))
     (c.in_ok-extend_from_slice.ensures.items ∙ ap (λ (rows : List Row). c.loop-state.all.items ++ rows) c.deref.ensures.value)
 
 pub returns : goal.returns

@@ -1,0 +1,1 @@
+use Rattle.mcs_rows.proofs.local.is_out.Goals as goal
