@@ -7,3 +7,4 @@ pub mod ChangedLemmas
 pub mod KnownLemmas
 pub mod FittingLemmas
 pub mod ReachLemmas
+pub mod NearLemmas

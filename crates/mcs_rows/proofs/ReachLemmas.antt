@@ -1,14 +1,13 @@
 -- Rows that are seen not to be made without their marks.
-use Rattle.std.proofs.Common.{◌≡◌, ◌∙◌, ◌*◌, ◌+◌, ◌/◌, ◌%◌, ◌<◌, ℕ, Bool, true, false, not, ◌&&◌, cond, eqb, ltb, IsTrue, length, refl, sym, ap, subst, inl, inr, ◌⊎◌, arith, true≢false}
+use Rattle.std.proofs.Common.{◌≡◌, ◌∙◌, ◌*◌, ◌+◌, ◌/◌, ◌%◌, ℕ, Bool, true, false, not, ◌&&◌, cond, eqb, ltb, length, refl, sym, ap, inl, inr, ◌⊎◌, arith, true≢false}
 use Rattle.std.proofs.lemmas.Bool.Decides.{nat_tests}
 use Rattle.mcs_sets.specs.Sets.{has, minus, Meets, Within}
 use Rattle.mcs_sets.proofs.SetLemmas.{has-minus}
-use Rattle.mcs_base.specs.Antichains.{HasOneWithin}
 use Rattle.mcs_base.specs.Pairs.{removed_of, forced_of}
 use Rattle.mcs_base.proofs.PairLemmas.{has-removed_of, has-forced_of}
 use Rattle.mcs_system.specs.Plain.{System}
 use Rattle.mcs_system.specs.Systems.{all_rules}
-use Rattle.mcs_system.specs.Repairs.{mark_of, marks_of}
+use Rattle.mcs_system.specs.Repairs.{marks_of}
 use Rattle.mcs_system.proofs.MarkLemmas.{has-all_rules, has-marks_of}
 use Rattle.mcs_rows.specs.Reach.{HasMarksFor}
 

@@ -3,7 +3,8 @@ use Rattle.std.specs.Prelude.{◌≡◌, ◌*◌, ◌+◌, ℕ, true, ◌⊎◌}
 use Rattle.mcs_sets.specs.Sets.{has, Meets, Within}
 use Rattle.mcs_base.specs.Antichains.{HasOneWithin}
 use Rattle.mcs_system.specs.Plain.{System}
-use Rattle.mcs_system.specs.Repairs.{allowed_marks}
+use Rattle.mcs_system.specs.Imports.{rules_into}
+use Rattle.mcs_system.specs.Repairs.{allowed_marks, marks_of}
 use Rattle.mcs_rows.specs.declared.local.Reach as reach
 
 -- a row with these marks is not to be made: one of them is not allowed, or they hold a known set
@@ -21,3 +22,7 @@ pub record IsReach (m : System) (r : reach.Reach) : Type 0 where
   pub alone : (s : ℕ) → Meets s r.alone → HasOneWithin r.known.now s
   pub removed : (s k : ℕ) → has r.never_removed k ≡ true → has s (2 * k) ≡ true → IsOut r s
   pub forced : (s k : ℕ) → has r.never_forced k ≡ true → has s (2 * k + 1) ≡ true → IsOut r s
+
+-- the marks of all rules into a context
+abbrev pub own_marks : System → ℕ → ℕ
+own_marks m i = marks_of m (rules_into m i) (rules_into m i)

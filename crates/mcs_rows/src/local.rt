@@ -8,7 +8,7 @@ ghost use Rattle.mcs_system.specs.Imports.{rules_into};
 ghost use Rattle.mcs_system.specs.Plain.{System};
 ghost use Rattle.mcs_system.specs.Systems.{applicable};
 ghost use Rattle.mcs_rows.specs.Making.{agrees, row_with, rows_with};
-ghost use Rattle.mcs_rows.specs.Reach.{IsReach, IsOut, HasMarksFor};
+ghost use Rattle.mcs_rows.specs.Reach.{IsReach, IsOut, HasMarksFor, own_marks};
 ghost use Rattle.mcs_rows.specs.declared.answer.Answer as declared;
 
 use crate::answer::Answer;
@@ -16,6 +16,7 @@ use crate::marks::marks_of;
 use mcs_base::{Active, Marks, Memory, Pair, Partial, Vars};
 use mcs_system::System;
 use mcs_table::{Row, holds_one};
+use std::alloc::Global;
 
 /// The row with these marks that says of the local variables which of them are true.
 fn row(local: Vars, values: Vars, marks: Marks) -> Row
@@ -76,6 +77,27 @@ pub(crate) fn alone_in(sets: &[Marks]) -> Marks
         }
     }
     alone
+}
+
+/// Those of the sets that a row of context `i` may hold: all of their marks are of rules into the context.
+pub(crate) fn known_of(
+    alloc: Global,
+    system: &System,
+    i: u32,
+    known: &[Marks],
+) -> Result<Vec<Marks>, Memory>
+    requires { i < length system.now.contexts }
+    ensures { IfOk result (λ near. (s : ℕ) → Within s (own_marks system.now i) → HasOneWithin near.items s ↔ HasOneWithin known.now s) }
+{
+    let rules = system.rules_of(i);
+    let own = marks_of(rules, rules);
+    let mut near = Vec::new(alloc);
+    for set in known {
+        if set.within(own) {
+            near.push(*set)?;
+        }
+    }
+    Ok(near)
 }
 
 /// The rows with at most so many marks, each of them allowed, that hold none of the known sets.

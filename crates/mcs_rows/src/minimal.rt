@@ -17,7 +17,7 @@ ghost use Rattle.mcs_rows.specs.declared.answer.Answer as declared;
 use crate::answer::Answer;
 use crate::finding::answer_to;
 use crate::fitting::{fitting_answers, fitting_states};
-use crate::local::{Reach, add_answers, add_parts, hold_known, reach_of};
+use crate::local::{Reach, add_answers, add_parts, hold_known, known_of, reach_of};
 use crate::states::input_states;
 use crate::supply;
 use mcs_base::{Marks, Memory, Vars};
@@ -188,6 +188,7 @@ pub fn minimal_rows(
     let states = fitting_states(alloc, states, system.inputs_of(i), others)?;
     let fitting = fitting_answers(alloc, answers, system.vars_of(i), others)?;
     let possible = supply::supplies(alloc, &fitting)?;
-    let all = rows_in(alloc, system, i, &states, &fitting, &possible, level, known)?;
+    let near = known_of(alloc, system, i, known)?;
+    let all = rows_in(alloc, system, i, &states, &fitting, &possible, level, &near)?;
     Ok(minimal_table(system.vars_of(i).union(system.inputs_of(i)), all))
 }

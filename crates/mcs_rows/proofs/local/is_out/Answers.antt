@@ -1,1 +1,0 @@
-use Rattle.mcs_rows.proofs.local.is_out.Goals as goal

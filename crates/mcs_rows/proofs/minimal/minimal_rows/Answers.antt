@@ -17,6 +17,9 @@ use Rattle.mcs_rows.specs.Making.{rows_of}
 use Rattle.mcs_rows.specs.declared.answer.Answer.{Answer}
 use Rattle.mcs_rows.proofs.FittingLemmas.{asked_same, rules_same}
 use Rattle.mcs_rows.proofs.MakingLemmas.{questions_of_rules, answered_in_order, covering_on, made_fitting}
+use Rattle.mcs_table.specs.declared.row.Row.{Row}
+use Rattle.mcs_rows.specs.Reach.{own_marks}
+use Rattle.mcs_rows.proofs.NearLemmas.{AreNear, all_same}
 use Rattle.mcs_rows.proofs.minimal.minimal_rows.Goals as goal
 
 pub rows_in-requires-clause-in_order : goal.rows_in-requires-clause-in_order
@@ -39,7 +42,7 @@ rows_in-requires-clause-possible c a τ here part =
 
 pub minimal_table-requires : goal.minimal_table-requires
 minimal_table-requires c =
-    covering_on c.system-system.result.now c.args.i c.args.level c.args.known.now c.deref-3.result.now c.deref-2.result.now c.union.result c.in_ok-all.all.items
+    covering_on c.system-system.result.now c.args.i c.args.level c.deref-5.result.now c.deref-3.result.now c.deref-2.result.now c.union.result c.in_ok-all.all.items
     (c.union.ensures ∙ ap (λ v. union v c.inputs_of-2.result) c.vars_of-2.ensures ∙ ap (union (variables_of c.system-system.result.now c.args.i)) c.inputs_of-2.ensures) c.in_ok-all.ensures
 
 pub returns : goal.returns
@@ -53,11 +56,17 @@ returns c =
     let some = c.in_ok-fitting.fitting.items in
     let fit : AreFittingStates (inputs_of m i) c.args.others.now states fewer = subst (λ (z : ℕ). AreFittingStates z c.args.others.now states fewer) (c.inputs_of.ensures ∙ ap (λ (s : System). inputs_of s i) c.system-system.ensures) c.in_ok-states-2.ensures in
     let fits : AllZip (HasFittingParts (variables_of m i) c.args.others.now) c.args.answers.now some = subst (λ (z : ℕ). AllZip (HasFittingParts z c.args.others.now) c.args.answers.now some) (c.vars_of.ensures ∙ ap (λ (s : System). variables_of s i) c.system-system.ensures) c.in_ok-fitting.ensures in
-    let of_system : Covers (λ r. IsAmong r c.in_ok-all.all.items) (λ r. IsAmong r (flat_map (rows_of m i c.args.level c.args.known.now c.deref-3.result.now) c.deref-2.result.now)) =
-    subst (λ (s : System). Covers (λ r. IsAmong r c.in_ok-all.all.items) (λ r. IsAmong r (flat_map (rows_of s i c.args.level c.args.known.now c.deref-3.result.now) c.deref-2.result.now))) c.system-system.ensures c.in_ok-all.ensures in
-    let of_answers = subst (λ (xs : List Answer). Covers (λ r. IsAmong r c.in_ok-all.all.items) (λ r. IsAmong r (flat_map (rows_of m i c.args.level c.args.known.now xs) c.deref-2.result.now))) c.deref-3.ensures.value of_system in
+    let of_system : Covers (λ r. IsAmong r c.in_ok-all.all.items) (λ r. IsAmong r (flat_map (rows_of m i c.args.level c.deref-5.result.now c.deref-3.result.now) c.deref-2.result.now)) =
+    subst (λ (s : System). Covers (λ r. IsAmong r c.in_ok-all.all.items) (λ r. IsAmong r (flat_map (rows_of s i c.args.level c.deref-5.result.now c.deref-3.result.now) c.deref-2.result.now))) c.system-system.ensures c.in_ok-all.ensures in
+    let of_answers = subst (λ (xs : List Answer). Covers (λ r. IsAmong r c.in_ok-all.all.items) (λ r. IsAmong r (flat_map (rows_of m i c.args.level c.deref-5.result.now xs) c.deref-2.result.now))) c.deref-3.ensures.value of_system in
+    let near = c.in_ok-near.near.items in
+    let of_near = subst (λ (ks : List ℕ). Covers (λ r. IsAmong r c.in_ok-all.all.items) (λ r. IsAmong r (flat_map (rows_of m i c.args.level ks some) c.deref-2.result.now))) c.deref-5.ensures.value of_answers in
+    let of_states = subst (λ (xs : List ℕ). Covers (λ r. IsAmong r c.in_ok-all.all.items) (λ r. IsAmong r (flat_map (rows_of m i c.args.level near some) xs))) c.deref-2.ensures.value of_near in
+    let are : AreNear (own_marks m i) c.args.known.now near = subst (λ (s : System). AreNear (own_marks s i) c.args.known.now near) c.system-system.ensures c.in_ok-near.ensures in
+    let of_rules : AllByRecursion (λ (a : Answer). Within a.active (rules_into m i)) some =
+    rules_same c.vars_of.result c.args.others.now c.args.answers.now some (λ (x : ℕ). Within x (rules_into m i)) c.in_ok-fitting.ensures (questions_of_rules m c.args.level i c.args.answers.now c.requires.answered) in
     let covers : Covers (λ r. IsAmong r c.in_ok-all.all.items) (λ r. IsAmong r (flat_map (rows_of m i c.args.level c.args.known.now some) fewer)) =
-    subst (λ (xs : List ℕ). Covers (λ r. IsAmong r c.in_ok-all.all.items) (λ r. IsAmong r (flat_map (rows_of m i c.args.level c.args.known.now some) xs))) c.deref-2.ensures.value of_answers in
+    subst (λ (rows : List Row). Covers (λ r. IsAmong r c.in_ok-all.all.items) (λ r. IsAmong r rows)) (all_same m i c.args.level c.args.known.now near are some of_rules fewer) of_states in
     made_fitting m c.args.level i c.args.answers.now c.requires.answered order ordered (lists c.args.supplies.now) (c.requires.supplied order ordered) joined states of_joins of_grows
     c.args.known.now c.args.others.now fewer fit some fits c.minimal_table.result c.in_ok-all.all.items covers
     (c.minimal_table.ensures.scope ∙ c.union.ensures ∙ ap (λ v. union v c.inputs_of-2.result) c.vars_of-2.ensures ∙ ap (union (variables_of c.system-system.result.now i)) c.inputs_of-2.ensures ∙ ap (λ (s : System). union (variables_of s i) (inputs_of s i)) c.system-system.ensures)
