@@ -1,4 +1,4 @@
-//! The atoms of a context: in its items, in the heads of the rules into it, in its variables.
+//! The atoms of a context: those of its items, of the heads of the rules into it, and of its variables.
 
 ghost use Rattle.std.specs.Prelude.{◌≡◌, ◌<◌, ◌≤◌, List, map, length, IfOk, IfErr, [], ◌∷◌};
 ghost use Rattle.std.specs.List.{flat_map};
@@ -18,11 +18,11 @@ use crate::limit::Limit;
 use crate::name::Name;
 use std::alloc::Global;
 
-/// What has atoms.
+/// A part of a system in which atoms occur.
 trait HasAtoms {
     ghost atoms: { Self → List Name };
 
-    /// Adds the atoms that are not found already.
+    /// Adds the atoms that are not in `found` yet. Refuses if there are more than the limit.
     fn add_atoms(&self, alloc: Global, found: &mut Vec<Name>) -> Result<(), BuildFault>
         ensures { GathersNames found.old.items found.new.items (atoms self.now) result };
 }
@@ -41,7 +41,7 @@ fn add_each<T: HasAtoms>(
     Ok(())
 }
 
-/// Whether the name is one of those that were found.
+/// Whether the name is among those found.
 fn is_found(found: &[Name], name: &Name) -> bool
     ensures { result ≡ is_in name.now found.now }
 {
@@ -149,7 +149,7 @@ fn add_heads(
     Ok(())
 }
 
-/// Adds the atoms of the belief, if it is of the context.
+/// Adds the atoms of the belief, if it belongs to the context.
 fn add_belief(
     alloc: Global,
     read: &Read,
@@ -165,7 +165,7 @@ fn add_belief(
     }
 }
 
-/// Adds the atoms of the beliefs of the context.
+/// Adds the atoms of the beliefs that belong to the context.
 fn add_beliefs(
     alloc: Global,
     reads: &[Read],
@@ -181,8 +181,8 @@ fn add_beliefs(
     Ok(())
 }
 
-/// The atoms of a context, by first occurrence: in its items, in the heads of the rules into it, in its
-/// variables. `known` are the variables of the system. Refused where there are more than the limit.
+/// The atoms of a context, by first occurrence: in its items, in the heads of the rules into it, in its variables.
+/// `known` are the variables of the system. Refuses if there are more atoms than the limit.
 pub(crate) fn atoms_of(
     alloc: Global,
     contexts: &[Context],

@@ -1,4 +1,4 @@
-//! Bridge rules, by which contexts read each other.
+//! Bridge rules, by which the beliefs of contexts depend on each other.
 
 ghost use Rattle.std.specs.Prelude.{◌≡◌, IfOk};
 ghost use Rattle.mcs_system.specs.Plain as plain;
@@ -39,9 +39,9 @@ impl Copied for Read {
     }
 }
 
-/// A bridge rule: the head goes into the target where each positive read is believed and no negative one.
-/// A rule that is `keep` may not be removed by a repair, and one that is `closed` may not be forced. The
-/// weight says what removing or forcing it costs.
+/// A bridge rule: it adds its head to the target if each positive read is believed and no negative one is. A repair may
+/// not remove a rule that is `keep`, and may not force one that is `closed`. The weight is the cost of removing or
+/// forcing the rule; it does not affect repairs yet.
 #[derive(PartialEq, Drop)]
 pub struct Bridge {
     pub name: Name,

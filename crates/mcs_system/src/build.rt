@@ -1,4 +1,4 @@
-//! What a system keeps of its contexts and bridge rules, or their faults in the order in which they are told.
+//! What a system keeps of its contexts and bridge rules, or the first of their faults in the order of their numbers.
 
 ghost use Rattle.std.specs.Prelude.{◌≡◌, IfOk, IfErr};
 ghost use Rattle.mcs_system.specs.Built.{first_flaw, first_limits, last_limits, IsFaultOf, IsKept};
@@ -19,7 +19,7 @@ use crate::variables::variables_of;
 use mcs_base::Memory;
 use std::alloc::Global;
 
-/// The first flaw that holds.
+/// The first flaw that the contexts and rules have, if any.
 fn first_flaw(
     alloc: Global,
     contexts: &[Context],
@@ -38,7 +38,7 @@ fn first_flaw(
     })
 }
 
-/// The first limit that is exceeded, of those before the limit of variables.
+/// The first limit that is exceeded, among those that come before the limit of variables.
 #[tactic(auto, unfolding(crate::specs::Faults::exceeds))]
 fn first_limit(contexts: &[Context], bridges: &[Bridge]) -> Option<Limit>
     ensures { result ≡ first_exceeded (system_of contexts.now bridges.now) first_limits }
@@ -54,7 +54,7 @@ fn first_limit(contexts: &[Context], bridges: &[Bridge]) -> Option<Limit>
     }
 }
 
-/// The first limit that is exceeded, of those after the limit of atoms.
+/// The first limit that is exceeded, among those that come after the limit of atoms.
 fn last_limit(contexts: &[Context], bridges: &[Bridge]) -> Option<Limit>
     ensures { result ≡ first_exceeded (system_of contexts.now bridges.now) last_limits }
 {

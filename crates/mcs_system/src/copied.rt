@@ -5,7 +5,7 @@ ghost use Rattle.std.specs.Prelude.{◌≡◌, IfOk, map};
 use mcs_base::Memory;
 use std::alloc::Global;
 
-/// What can be copied, if there is memory.
+/// A value of which a copy can be made. This fails if there is no memory.
 pub(crate) trait Copied: Drop {
     ghost Seen: { Type 0 };
 
@@ -16,7 +16,7 @@ pub(crate) trait Copied: Drop {
         ensures { IfOk result (λ c. Self.seen c ≡ Self.seen self.now) };
 }
 
-/// Equal items, in the same order.
+/// Copies of the items, in the same order.
 pub(crate) fn copy_each<T: Copied>(alloc: Global, items: &[T]) -> Result<Vec<T>, Memory>
     ensures { IfOk result (λ copies. map T.seen copies.items ≡ map T.seen items.now) }
 {

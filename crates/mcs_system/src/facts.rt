@@ -1,4 +1,4 @@
-//! Rules with facts added.
+//! Programs with facts added.
 
 ghost use Rattle.std.specs.Prelude.{◌≡◌, ◌++◌, [], ◌∷◌, map, IfOk};
 ghost use Rattle.std.specs.List.{filter_map};
@@ -12,7 +12,7 @@ use crate::name::Name;
 use mcs_base::Memory;
 use std::alloc::Global;
 
-/// The rule whose one head is the atom, with an empty body.
+/// The fact of an atom: a rule with this one head atom and an empty body.
 fn fact(alloc: Global, atom: &Name) -> Result<ProgRule, Memory>
     ensures { IfOk result (λ r. rule_of r ≡ record { head = atom.now ∷ []; pos = []; neg = [] }) }
 {
@@ -25,7 +25,7 @@ fn fact(alloc: Global, atom: &Name) -> Result<ProgRule, Memory>
     })
 }
 
-/// Equal rules, in the same order.
+/// Copies of the rules, in the same order.
 fn copies(alloc: Global, rules: &[ProgRule]) -> Result<Vec<ProgRule>, Memory>
     ensures { IfOk result (λ all. map rule_of all.items ≡ map rule_of rules.now) }
 {
@@ -36,7 +36,7 @@ fn copies(alloc: Global, rules: &[ProgRule]) -> Result<Vec<ProgRule>, Memory>
     Ok(all)
 }
 
-/// The rules, and after them each of the names as a fact.
+/// The rules, followed by each of the names as a fact.
 pub fn with_facts(
     alloc: Global,
     rules: &[ProgRule],
@@ -51,7 +51,7 @@ pub fn with_facts(
     Ok(all)
 }
 
-/// The rules, and after them each of the heads that is an atom as a fact.
+/// The rules, followed by a fact for each head that is an atom.
 pub fn with_heads(
     alloc: Global,
     rules: &[ProgRule],

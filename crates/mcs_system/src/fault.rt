@@ -7,30 +7,34 @@ ghost use Rattle.mcs_system.specs.declared.fault.BuildFault.TheVariants.{Fault, 
 use crate::limit::Limit;
 use std::alloc::{AllocError, AllocFailed};
 
-/// Why no system was built. The numbers are: 2, a context number is out of range; 3, two contexts or two
-/// bridge rules have one name; 4, the head into a program or a belief of a program is not an atom, a bridge
-/// rule has the weight 0, or a default has no justification; 5, the limit is exceeded. `limit` is there
-/// exactly for number 5.
+/// Why no system was built: memory ran out, or the lists have the fault of this number. `limit` is given exactly for
+/// number 5.
+///
+/// - 2: a context number is out of range.
+/// - 3: two contexts, or two bridge rules, have the same name.
+/// - 4: the head of a rule into a program or a belief of a program is not an atom, a bridge rule has the weight 0, or a
+///   default has no justification.
+/// - 5: a limit is exceeded.
 #[derive(Clone, Copy, Debug, PartialEq, Eq)]
 pub enum BuildFault {
     Fault { number: u8, limit: Option<Limit> },
     Memory,
 }
 
-/// Why contexts and bridge rules make no system, where no limit is exceeded.
+/// Why contexts and bridge rules make no system, apart from limits.
 #[derive(Clone, Copy, Debug, PartialEq, Eq)]
 pub(crate) enum Flaw {
     /// A context number is out of range.
     UnknownContext,
-    /// Two contexts, or two bridge rules, have one name.
+    /// Two contexts, or two bridge rules, have the same name.
     TwinNames,
-    /// The head into a program or a belief of a program is not an atom, a bridge rule has the weight 0, or a
+    /// The head of a rule into a program or a belief of a program is not an atom, a bridge rule has the weight 0, or a
     /// default has no justification.
     Misfits,
 }
 
 impl BuildFault {
-    /// The fault that the flaw is there.
+    /// The fault with the number of the flaw.
     pub(crate) fn flawed(flaw: Flaw) -> BuildFault
         ensures { result ≡ Fault (number_of flaw) None }
     {
@@ -45,7 +49,7 @@ impl BuildFault {
         }
     }
 
-    /// The fault that the limit is exceeded.
+    /// The fault that a limit is exceeded.
     pub(crate) fn exceeded(limit: Limit) -> BuildFault
         ensures { result ≡ Fault 5 (Some limit) }
     {

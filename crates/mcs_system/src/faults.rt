@@ -1,4 +1,4 @@
-//! The tests by which lists of contexts and bridge rules make a system or not.
+//! The tests that decide whether lists of contexts and bridge rules make a system.
 
 ghost use Rattle.std.specs.Prelude.{◌≡◌, ◌&&◌, IfOk, List, not, nat_eq, nat_lt, count_by, map, min, slice_get};
 ghost use Rattle.std.specs.List.{list_any};
@@ -17,14 +17,14 @@ use mcs_base::Memory;
 use std::alloc::Global;
 use std::collections::BTreeSet;
 
-/// Whether some read is of no context, where there are so many.
+/// Whether some read is of a context whose number is not below `count`.
 fn any_outside(count: usize, reads: &[Read]) -> bool
     ensures { result ≡ list_any (λ r. not (nat_lt r.context count)) reads.now }
 {
     reads.iter().any(|read| read.context as usize >= count)
 }
 
-/// Whether the rule has a target or a read that is no context, where there are so many.
+/// Whether the target of the rule, or a context that it reads, has a number that is not below `count`.
 #[tactic(auto, using(mcs_base::proofs::Ranges::any_of_both))]
 fn points_outside(count: usize, bridge: &Bridge) -> bool
     ensures { result ≡ points_outside count (bridge_of bridge.now) }
@@ -34,7 +34,7 @@ fn points_outside(count: usize, bridge: &Bridge) -> bool
         || any_outside(count, &bridge.neg)
 }
 
-/// Whether some rule has a target or a read that is no context.
+/// Whether the target of some rule, or a context that it reads, is none of the contexts.
 pub(crate) fn has_unknown_context(contexts: &[Context], bridges: &[Bridge]) -> bool
     ensures { result ≡ has_unknown_context (system_of contexts.now bridges.now) }
 {
@@ -43,7 +43,7 @@ pub(crate) fn has_unknown_context(contexts: &[Context], bridges: &[Bridge]) -> b
         .any(|bridge| points_outside(contexts.len(), bridge))
 }
 
-/// What has a name.
+/// A part of a system that has a name.
 trait HasName {
     ghost named: { Self → Name };
 
@@ -68,7 +68,7 @@ impl HasName for Bridge {
     }
 }
 
-/// Whether two of the items have one name.
+/// Whether two of the items have the same name.
 fn has_twins<T: HasName>(alloc: Global, items: &[T]) -> Result<bool, Memory>
     ensures { IfOk result (λ b. b ≡ has_twins (map T.named items.now)) }
 {
@@ -81,7 +81,7 @@ fn has_twins<T: HasName>(alloc: Global, items: &[T]) -> Result<bool, Memory>
     Ok(false)
 }
 
-/// Whether two contexts, or two bridge rules, have one name.
+/// Whether two contexts, or two bridge rules, have the same name.
 pub(crate) fn has_twin_names(
     alloc: Global,
     contexts: &[Context],
@@ -99,7 +99,7 @@ fn is_atom(formula: &Formula) -> bool
     matches!(formula, Formula::Atom(_))
 }
 
-/// Whether the formula is no atom and goes into, or is read of, a program.
+/// Whether context `number` is a program and the formula is not an atom.
 fn is_misfit(contexts: &[Context], number: u32, formula: &Formula) -> bool
     ensures { result ≡ (is_program (slice_get (map context_of contexts.now) number)
         && not (is_atom (formula_of formula.now))) }
@@ -110,7 +110,7 @@ fn is_misfit(contexts: &[Context], number: u32, formula: &Formula) -> bool
     }
 }
 
-/// Whether some read is of a program and reads no atom.
+/// Whether some read is of a program and its belief is not an atom.
 fn any_misfit(contexts: &[Context], reads: &[Read]) -> bool
     ensures { result ≡ list_any
         (λ r. is_program (slice_get (map context_of contexts.now) r.context) && not (is_atom (formula_of r.belief)))
@@ -121,7 +121,7 @@ fn any_misfit(contexts: &[Context], reads: &[Read]) -> bool
         .any(|read| is_misfit(contexts, read.context, &read.belief))
 }
 
-/// Whether the rule weighs nothing, or puts into a program, or reads of one, what is no atom.
+/// Whether the rule has the weight 0, or has a head into a program or a read of a program that is not an atom.
 #[tactic(auto, using(mcs_base::proofs::Ranges::any_of_both))]
 fn has_misfit(contexts: &[Context], bridge: &Bridge) -> bool
     ensures { result ≡ has_misfit (map context_of contexts.now) (bridge_of bridge.now) }
@@ -132,7 +132,7 @@ fn has_misfit(contexts: &[Context], bridge: &Bridge) -> bool
         || any_misfit(contexts, &bridge.neg)
 }
 
-/// Whether some rule weighs nothing, or puts into a program, or reads of one, what is no atom.
+/// Whether some rule has the weight 0, or has a head into a program or a read of a program that is not an atom.
 fn any_rule_misfit(contexts: &[Context], bridges: &[Bridge]) -> bool
     ensures { result ≡ list_any (λ b. has_misfit (map context_of contexts.now) (bridge_of b)) bridges.now }
 {
@@ -176,8 +176,8 @@ fn any_unjustified(contexts: &[Context]) -> bool
         .any(|context| has_unjustified_default(&context.kb))
 }
 
-/// Whether a default has no justification, or a rule weighs nothing, or puts into a program, or reads of
-/// one, what is no atom.
+/// Whether some default has no justification, or some rule has the weight 0, or has a head into a program or a read of
+/// a program that is not an atom.
 #[tactic(auto, using(mcs_base::proofs::Ranges::any_of_map))]
 pub(crate) fn has_misfits(contexts: &[Context], bridges: &[Bridge]) -> bool
     ensures { result ≡ has_misfits (system_of contexts.now bridges.now) }
@@ -195,7 +195,7 @@ fn rules_into(bridges: &[Bridge], context: usize) -> usize
         .count()
 }
 
-/// Whether too many rules go into one context.
+/// Whether more rules go into one context than the limit.
 #[tactic(auto, unfolding(crate::specs::Faults::exceeds))]
 pub(crate) fn has_crowded_context(contexts: &[Context], bridges: &[Bridge]) -> bool
     ensures { result ≡ exceeds (system_of contexts.now bridges.now) RulesPerContext }
@@ -221,7 +221,7 @@ fn default_count(kb: &Kb) -> usize
     count
 }
 
-/// Whether some context has too many defaults.
+/// Whether some context has more defaults than the limit.
 #[tactic(auto, unfolding(crate::specs::Faults::exceeds))]
 pub(crate) fn has_many_defaults(contexts: &[Context]) -> bool
     ensures { (bridges : List Bridge) →
@@ -232,7 +232,7 @@ pub(crate) fn has_many_defaults(contexts: &[Context]) -> bool
     )))
 }
 
-/// Whether some context has too many formulas, items or rules.
+/// Whether some context has more formulas, items or rules than the limit.
 #[tactic(auto, unfolding(crate::specs::Faults::exceeds))]
 pub(crate) fn has_many_items(contexts: &[Context]) -> bool
     ensures { (bridges : List Bridge) →
@@ -241,7 +241,7 @@ pub(crate) fn has_many_items(contexts: &[Context]) -> bool
     contexts.iter().any(|context| Limit::ItemsPerContext.is_exceeded_by(context.kb.item_count()))
 }
 
-/// Whether some rule weighs too much.
+/// Whether the weight of some rule is over the limit.
 #[tactic(auto, unfolding(crate::specs::Faults::exceeds))]
 pub(crate) fn has_heavy_rule(bridges: &[Bridge]) -> bool
     ensures { (contexts : List Context) →
@@ -250,8 +250,7 @@ pub(crate) fn has_heavy_rule(bridges: &[Bridge]) -> bool
     bridges.iter().any(|bridge| Limit::Weight.is_exceeded_by(bridge.weight as usize))
 }
 
-/// How many atoms, constants and connectives the formula has, or one more than the most where they are
-/// too many.
+/// How many atoms, constants and connectives the formula has; if there are more than the limit, the limit and one.
 fn capped_size(formula: &Formula) -> usize
     ensures { result ≡ min (formula_size (formula_of formula.now)) 513 }
 {
@@ -266,21 +265,21 @@ fn capped_size(formula: &Formula) -> usize
     size.min(Limit::FormulaSize.most() + 1)
 }
 
-/// Whether the formula is too large.
+/// Whether the formula is larger than the limit.
 fn is_large(formula: &Formula) -> bool
     ensures { result ≡ is_large (formula_of formula.now) }
 {
     Limit::FormulaSize.is_exceeded_by(capped_size(formula))
 }
 
-/// Whether some formula is too large.
+/// Whether some formula is larger than the limit.
 fn any_large(formulas: &[Formula]) -> bool
     ensures { result ≡ list_any (λ f. is_large (formula_of f)) formulas.now }
 {
     formulas.iter().any(is_large)
 }
 
-/// Whether the item has a formula that is too large.
+/// Whether the item has a formula larger than the limit.
 #[tactic(auto, using(mcs_base::proofs::Ranges::any_of_map))]
 fn is_large_item(item: &TheoryItem) -> bool
     ensures { result ≡ has_large_formula (item_of item.now) }
@@ -293,14 +292,14 @@ fn is_large_item(item: &TheoryItem) -> bool
     }
 }
 
-/// Whether some item has a formula that is too large.
+/// Whether some item has a formula larger than the limit.
 fn any_large_item(items: &[TheoryItem]) -> bool
     ensures { result ≡ list_any (λ i. has_large_formula (item_of i)) items.now }
 {
     items.iter().any(is_large_item)
 }
 
-/// Whether the rule has too many names.
+/// Whether the program rule has more names than the limit.
 fn is_large_rule(rule: &ProgRule) -> bool
     ensures { result ≡ is_large_rule (rule_of rule.now) }
 {
@@ -309,14 +308,14 @@ fn is_large_rule(rule: &ProgRule) -> bool
         > most
 }
 
-/// Whether some rule has too many names.
+/// Whether some program rule has more names than the limit.
 fn any_large_rule(rules: &[ProgRule]) -> bool
     ensures { result ≡ list_any (λ r. is_large_rule (rule_of r)) rules.now }
 {
     rules.iter().any(is_large_rule)
 }
 
-/// Whether the knowledge base has a formula or a rule that is too large.
+/// Whether the knowledge base has a formula or a rule larger than the limit.
 #[tactic(auto, using(mcs_base::proofs::Ranges::any_of_map))]
 fn has_large_item(kb: &Kb) -> bool
     ensures { result ≡ has_large_item (kb_of kb.now) }
@@ -328,21 +327,21 @@ fn has_large_item(kb: &Kb) -> bool
     }
 }
 
-/// Whether some context has a formula or a rule that is too large.
+/// Whether some context has a formula or a rule larger than the limit.
 fn any_large_kb(contexts: &[Context]) -> bool
     ensures { result ≡ list_any (λ c. has_large_item (kb_of c.kb)) contexts.now }
 {
     contexts.iter().any(|context| has_large_item(&context.kb))
 }
 
-/// Whether some read is of a belief that is too large.
+/// Whether some read has a belief larger than the limit.
 fn any_large_read(reads: &[Read]) -> bool
     ensures { result ≡ list_any (λ r. is_large (formula_of r.belief)) reads.now }
 {
     reads.iter().any(|read| is_large(&read.belief))
 }
 
-/// Whether the rule has a head or reads a belief that is too large.
+/// Whether the head of the rule, or a belief that it reads, is larger than the limit.
 #[tactic(auto, using(mcs_base::proofs::Ranges::any_of_both))]
 fn has_large_part(bridge: &Bridge) -> bool
     ensures { result ≡ has_large_part (bridge_of bridge.now) }
@@ -350,14 +349,14 @@ fn has_large_part(bridge: &Bridge) -> bool
     is_large(&bridge.head) || any_large_read(&bridge.pos) || any_large_read(&bridge.neg)
 }
 
-/// Whether some rule has a head or reads a belief that is too large.
+/// Whether the head of some rule, or a belief that it reads, is larger than the limit.
 fn any_large_bridge(bridges: &[Bridge]) -> bool
     ensures { result ≡ list_any (λ b. has_large_part (bridge_of b)) bridges.now }
 {
     bridges.iter().any(has_large_part)
 }
 
-/// Whether some formula, or some rule of a program, is too large.
+/// Whether some formula, or some rule of a program, is larger than the limit.
 #[tactic(auto, using(mcs_base::proofs::Ranges::any_of_map), unfolding(crate::specs::Faults::exceeds))]
 pub(crate) fn has_large_formula(contexts: &[Context], bridges: &[Bridge]) -> bool
     ensures { result ≡ exceeds (system_of contexts.now bridges.now) FormulaSize }

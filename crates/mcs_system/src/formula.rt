@@ -14,7 +14,7 @@ use crate::same::same_formula;
 use mcs_base::Memory;
 use std::alloc::Global;
 
-/// A formula over atoms, each a name.
+/// A propositional formula. Its atoms are names.
 #[derive(Drop)]
 pub enum Formula {
     True,

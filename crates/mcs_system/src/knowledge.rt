@@ -1,4 +1,4 @@
-//! What a context knows: formulas, a default theory or a program.
+//! Knowledge bases: formulas, default theories and programs.
 
 ghost use Rattle.std.specs.Prelude.{◌≡◌, IfOk};
 ghost use Rattle.mcs_system.specs.Faults.{item_count};
@@ -11,7 +11,8 @@ use crate::name::Name;
 use mcs_base::Memory;
 use std::alloc::Global;
 
-/// A default: where the prerequisite follows and no justification is refuted, the conclusion follows.
+/// A default (Reiter 1980): if the prerequisite is believed and the negation of no justification is, the consequent is
+/// believed.
 #[derive(PartialEq, Drop)]
 pub struct Default {
     pub pre: Formula,
@@ -40,7 +41,8 @@ impl Default {
     }
 }
 
-/// A rule of a program: one of the head atoms holds where each positive atom does and no negative one.
+/// A rule of a disjunctive program: if all positive body atoms hold and no negative one does, one of the head atoms
+/// holds.
 #[derive(PartialEq, Drop)]
 pub struct ProgRule {
     pub head: Vec<Name>,
@@ -100,7 +102,7 @@ impl Copied for TheoryItem {
     }
 }
 
-/// A knowledge base, by its logic.
+/// A knowledge base of one of the three logics.
 #[derive(PartialEq, Drop)]
 pub enum Kb {
     Classical(Vec<Formula>),
@@ -120,7 +122,7 @@ impl Kb {
         })
     }
 
-    /// How many formulas, items or rules it has.
+    /// How many formulas, items or rules the knowledge base has.
     pub fn item_count(&self) -> usize
         ensures { result ≡ item_count (kb_of self.now) }
     {
@@ -132,7 +134,7 @@ impl Kb {
     }
 }
 
-/// A context: a name and what it knows.
+/// A context: a name and a knowledge base.
 #[derive(PartialEq, Drop)]
 pub struct Context {
     pub name: Name,

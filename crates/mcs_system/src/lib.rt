@@ -1,4 +1,4 @@
-//! Multi-context systems: their data, and what it means.
+//! Multi-context systems as data, with the definitions of their semantics.
 #![tactic(auto)]
 
 mod atomic;

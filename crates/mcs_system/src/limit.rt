@@ -3,7 +3,7 @@
 ghost use Rattle.std.specs.Prelude.{◌≡◌, nat_lt};
 ghost use Rattle.mcs_system.specs.Limits.{most, name_of_limit};
 
-/// A limit of a system.
+/// A limit of a system or of a text.
 #[derive(Clone, Copy, Debug, PartialEq, Eq)]
 pub enum Limit {
     /// Contexts.
@@ -16,7 +16,7 @@ pub enum Limit {
     Variables,
     /// Variables that bridge rules into one context read.
     InputsPerContext,
-    /// Atoms of one context: in its items, in heads into it, in beliefs read of it.
+    /// Atoms of one context: in its items, in heads of rules into it, in beliefs read from it.
     AtomsPerContext,
     /// Defaults of one context.
     DefaultsPerContext,
@@ -33,7 +33,7 @@ pub enum Limit {
 }
 
 impl Limit {
-    /// The most that there may be.
+    /// The greatest number that is allowed.
     pub fn most(self) -> usize
         ensures { result ≡ most self }
     {
@@ -52,7 +52,7 @@ impl Limit {
         }
     }
 
-    /// What the limit is called where a text is refused for it.
+    /// The name of the limit, as it is printed if a text is refused for it.
     pub fn name(self) -> &'static [u8]
         ensures { result.now ≡ name_of_limit self }
     {
@@ -72,7 +72,7 @@ impl Limit {
         }
     }
 
-    /// Whether so many are more than the limit.
+    /// Whether `count` is more than the limit.
     pub fn is_exceeded_by(self, count: usize) -> bool
         ensures { result ≡ nat_lt (most self) count }
     {

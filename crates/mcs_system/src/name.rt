@@ -11,7 +11,7 @@ use mcs_base::{Memory, is_name};
 use std::alloc::Global;
 use std::marker::Model;
 
-/// A name: a letter or `_`, then letters, digits and `_`, at most 64 bytes, and no reserved word.
+/// A name: a letter or `_`, then letters, digits and `_`. It has at most 64 bytes and is no reserved word.
 #[derive(Drop)]
 pub struct Name {
     bytes: Vec<u8>,
@@ -39,7 +39,7 @@ impl PartialEq for Name {
 }
 
 impl Name {
-    /// The name that these bytes spell; `None` exactly where they spell none.
+    /// The name with these bytes, or `None` if they are no name.
     pub fn read(alloc: Global, bytes: &[u8]) -> Result<Option<Name>, Memory>
         ensures some { IfOk result (λ o. IfSome o (λ n. n ≡ bytes.now)) }
         ensures test { IfOk result (λ o. is_some o ≡ is_name bytes.now) }

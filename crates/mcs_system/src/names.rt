@@ -1,5 +1,5 @@
-//! Each name of contexts and of bridge rules is one: a name says so where its bytes are asked for. The functions do
-//! nothing but ask, so that what they ensure is known of the whole.
+//! Each name in a system satisfies the definition of a name. `Name::bytes` ensures this for one name; the functions
+//! here call it for all names of a value, so that their contracts say it of the whole value. They compute nothing.
 
 ghost use Rattle.std.specs.Prelude.{map};
 ghost use Rattle.std.specs.List.{AllByRecursion};
@@ -11,14 +11,14 @@ use crate::formula::Formula;
 use crate::knowledge::{Context, Default, Kb, ProgRule, TheoryItem};
 use crate::name::Name;
 
-/// The name is one.
+/// This name is one.
 fn name_is_name(name: &Name)
     ensures { IsName name.now }
 {
     let _bytes = name.bytes();
 }
 
-/// Each of the names is one.
+/// These names are.
 fn names_are_names(names: &[Name])
     ensures { AreNames names.now }
 {
@@ -27,7 +27,7 @@ fn names_are_names(names: &[Name])
     }
 }
 
-/// The atoms of a formula.
+/// The atoms of this formula are names.
 fn formula_is_named(f: &Formula)
     ensures { IsNamedFormula (formula_of f.now) }
 {
@@ -42,7 +42,7 @@ fn formula_is_named(f: &Formula)
     }
 }
 
-/// The atoms of formulas.
+/// The atoms of these formulas are names.
 fn formulas_are_named(formulas: &[Formula])
     ensures { AllByRecursion IsNamedFormula (map formula_of formulas.now) }
 {
@@ -51,7 +51,7 @@ fn formulas_are_named(formulas: &[Formula])
     }
 }
 
-/// The atoms of a default.
+/// The atoms of this default are names.
 fn default_is_named(default: &Default)
     ensures { IsNamedDefault (default_of default.now) }
 {
@@ -60,7 +60,7 @@ fn default_is_named(default: &Default)
     formula_is_named(&default.conclusion);
 }
 
-/// The atoms of an item of a default theory.
+/// The atoms of this item of a default theory are names.
 fn item_is_named(item: &TheoryItem)
     ensures { IsNamedItem (item_of item.now) }
 {
@@ -70,7 +70,7 @@ fn item_is_named(item: &TheoryItem)
     }
 }
 
-/// The atoms of items of a default theory.
+/// The atoms of these items of a default theory are names.
 fn items_are_named(items: &[TheoryItem])
     ensures { AllByRecursion IsNamedItem (map item_of items.now) }
 {
@@ -79,7 +79,7 @@ fn items_are_named(items: &[TheoryItem])
     }
 }
 
-/// The atoms of a rule of a program.
+/// The atoms of this rule of a program are names.
 fn rule_is_named(rule: &ProgRule)
     ensures { IsNamedRule (rule_of rule.now) }
 {
@@ -88,7 +88,7 @@ fn rule_is_named(rule: &ProgRule)
     names_are_names(&rule.neg);
 }
 
-/// The atoms of rules of a program.
+/// The atoms of these rules of a program are names.
 fn rules_are_named(rules: &[ProgRule])
     ensures { AllByRecursion IsNamedRule (map rule_of rules.now) }
 {
@@ -97,7 +97,7 @@ fn rules_are_named(rules: &[ProgRule])
     }
 }
 
-/// The name and the atoms of a context.
+/// The name of this context is one, and its atoms are.
 fn context_is_named(context: &Context)
     ensures { IsNamedContext (context_of context.now) }
 {
@@ -109,7 +109,7 @@ fn context_is_named(context: &Context)
     }
 }
 
-/// The atoms of beliefs that are read.
+/// The atoms of these beliefs are names.
 fn reads_are_named(reads: &[Read])
     ensures { AreNamedReads (map read_of reads.now) }
 {
@@ -118,7 +118,7 @@ fn reads_are_named(reads: &[Read])
     }
 }
 
-/// The name and the atoms of a bridge rule.
+/// The name of this bridge rule is one, and its atoms are.
 fn bridge_is_named(bridge: &Bridge)
     ensures { IsNamedBridge (bridge_of bridge.now) }
 {
@@ -128,7 +128,7 @@ fn bridge_is_named(bridge: &Bridge)
     reads_are_named(&bridge.neg);
 }
 
-/// The names and the atoms of contexts.
+/// The names of these contexts are names, and their atoms are.
 fn contexts_are_named(contexts: &[Context])
     ensures { AllByRecursion IsNamedContext (map context_of contexts.now) }
 {
@@ -137,7 +137,7 @@ fn contexts_are_named(contexts: &[Context])
     }
 }
 
-/// The names and the atoms of bridge rules.
+/// The names of these bridge rules are names, and their atoms are.
 fn bridges_are_named(bridges: &[Bridge])
     ensures { AllByRecursion IsNamedBridge (map bridge_of bridges.now) }
 {
@@ -146,7 +146,7 @@ fn bridges_are_named(bridges: &[Bridge])
     }
 }
 
-/// The names and the atoms of contexts and bridge rules.
+/// The names of these contexts and bridge rules are names, and their atoms are.
 pub(crate) fn are_named(contexts: &[Context], bridges: &[Bridge])
     ensures { IsNamed (system_of contexts.now bridges.now) }
 {

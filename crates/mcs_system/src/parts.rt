@@ -1,4 +1,4 @@
-//! What a system keeps of its contexts and rules, so that no later call reads formulas again.
+//! What a system keeps of its contexts and rules, so that later calls need not compare formulas again.
 
 ghost use Rattle.std.specs.Prelude.{◌≡◌, ◌≤◌, ◌<◌, List, map, length, true, false, IfOk, IfErr};
 ghost use Rattle.std.specs.List.{range_with_len};
@@ -39,8 +39,7 @@ pub(crate) struct RuleReads {
     pub negative: Vars,
 }
 
-/// What a system keeps beside its contexts and rules: its variables, and the parts of each context and of
-/// each rule.
+/// What a system keeps beside its contexts and rules: its variables, and the parts of each context and of each rule.
 #[derive(Drop)]
 pub(crate) struct Kept {
     pub variables: Vec<Read>,
@@ -63,7 +62,7 @@ fn variables_read(known: &[Read], reads: &[Read]) -> Vars
     set
 }
 
-/// Those of the variables that are of the context.
+/// Those of the variables that belong to the context.
 #[tactic(auto, using(crate::proofs::SeenLemmas::loops), unfolding(crate::specs::Parts::variables_among))]
 fn variables_among(known: &[Read], context: u32) -> Vars
     requires { length known.now ≤ 64 }
@@ -93,7 +92,7 @@ fn rules_into(bridges: &[Bridge], context: u32) -> Active
     set
 }
 
-/// Those of the variables that the rule reads, if it goes into the context.
+/// Those of the variables that the rule reads, if it goes into the context; otherwise none.
 fn read_into(known: &[Read], bridge: &Bridge, context: u32) -> Vars
     requires { length known.now ≤ 64 }
     ensures { result ≡ read_into (map read_of known.now) context (bridge_of bridge.now) }
@@ -138,7 +137,7 @@ pub(crate) fn rule_reads(
     Ok(reads)
 }
 
-/// Whether rules into one context read too many variables. `known` are the variables of the system.
+/// Whether the rules into one context read more variables than the limit. `known` are the variables of the system.
 pub(crate) fn has_many_inputs(contexts: &[Context], bridges: &[Bridge], known: &[Read]) -> bool
     requires few_contexts { length contexts.now ≤ 64 }
     requires few { length known.now ≤ 64 }
@@ -155,8 +154,8 @@ pub(crate) fn has_many_inputs(contexts: &[Context], bridges: &[Bridge], known: &
     false
 }
 
-/// What is kept of one context. `known` are the variables of the system. Refused where the context has more
-/// atoms than the limit.
+/// What is kept of one context. `known` are the variables of the system. Refuses if the context has more atoms than the
+/// limit.
 fn parts_of_context(
     alloc: Global,
     contexts: &[Context],
@@ -183,8 +182,8 @@ fn parts_of_context(
     })
 }
 
-/// What is kept of the contexts. `known` are the variables of the system. Refused where a context has more
-/// atoms than the limit.
+/// What is kept of the contexts. `known` are the variables of the system. Refuses if a context has more atoms than the
+/// limit.
 pub(crate) fn parts_of_contexts(
     alloc: Global,
     contexts: &[Context],

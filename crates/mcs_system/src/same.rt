@@ -1,4 +1,4 @@
-//! Whether formulas and reads are the same.
+//! Whether formulas, or reads, are the same.
 
 ghost use Rattle.std.specs.Prelude.{◌≡◌};
 ghost use Rattle.mcs_system.specs.Seen.{formula_of, read_of};
@@ -24,7 +24,7 @@ pub fn same_formula(f: &Formula, g: &Formula) -> bool
     }
 }
 
-/// Whether both read the same belief of the same context.
+/// Whether both reads are of the same belief of the same context.
 pub fn same_read(q: &Read, r: &Read) -> bool
     ensures { result ≡ same_read (read_of q.now) (read_of r.now) }
 {

@@ -24,7 +24,7 @@ use mcs_base::{Active, Marks, Vars};
 use std::alloc::Global;
 use std::marker::Model;
 
-/// The marks and this one, unless it is barred.
+/// The marks with this one added, unless it is barred.
 fn with_unless(marks: Marks, mark: u32, barred: bool) -> Marks
     requires { mark < 128 }
     ensures { result ≡ cond barred marks (union marks (single mark)) }
@@ -32,7 +32,7 @@ fn with_unless(marks: Marks, mark: u32, barred: bool) -> Marks
     if barred { marks } else { marks.with(mark) }
 }
 
-/// A multi-context system (Brewka & Eiter 2007): contexts and bridge rules, none of whose faults holds.
+/// A multi-context system (Brewka & Eiter 2007): contexts and bridge rules that have none of the faults.
 #[derive(Drop)]
 pub struct System {
     contexts: Vec<Context>,
@@ -56,8 +56,8 @@ impl Model for System {
 }
 
 impl System {
-    /// The system of these contexts and bridge rules, or the first of their faults: the lowest number that
-    /// holds, and for number 5 the first limit in the order of `Limit`.
+    /// The system of these contexts and bridge rules, or the first of their faults. This is the fault with the lowest
+    /// number; among exceeded limits it is the first in the order of `Limit`.
     pub fn build(
         alloc: Global,
         contexts: Vec<Context>,
@@ -101,7 +101,7 @@ impl System {
         &self.bridges
     }
 
-    /// The variables: what bridge rules read, by context, and within a context by first occurrence.
+    /// The variables: the beliefs that bridge rules read, by context, and within a context by first occurrence.
     pub fn variables(&self) -> &[Read]
         ensures value { map read_of result.now ≡ variables self.now }
         ensures few { length result.now ≤ 64 }
@@ -199,8 +199,8 @@ impl System {
         rules
     }
 
-    /// The marks that a repair of the system may have: 2r for each rule r that is not `keep`, and 2r+1 for
-    /// each that is not `closed`.
+    /// The marks that a repair of the system may have: 2r (removal) for each rule r that is not `keep`, and 2r+1
+    /// (forcing) for each that is not `closed`.
     pub fn allowed(&self) -> Marks
         ensures { result ≡ allowed_marks self.now }
     {

@@ -1,4 +1,4 @@
-//! What a formula says under an assignment of its atoms.
+//! The truth of formulas under an assignment to their atoms.
 
 ghost use Rattle.std.specs.Prelude.{◌≡◌, ◌≤◌, length, map};
 ghost use Rattle.mcs_system.specs.Logic.{holds, holds_all, true_names};
@@ -9,7 +9,7 @@ use crate::formula::Formula;
 use crate::name::Name;
 use mcs_base::Vars;
 
-/// Whether the name is one of those at a place that is in the set.
+/// Whether the name is at a place, among `atoms`, that is in `values`.
 fn is_true_at(atoms: &[Name], values: Vars, name: &Name) -> bool
     requires { length atoms.now ≤ 64 }
     ensures { result ≡ is_in name.now (true_names 0 atoms.now values) }
@@ -22,7 +22,7 @@ fn is_true_at(atoms: &[Name], values: Vars, name: &Name) -> bool
     false
 }
 
-/// Whether the formula holds where exactly those of the atoms are true whose places are in the set.
+/// Whether the formula holds under the assignment in which an atom is true exactly if its place is in `values`.
 pub fn holds_at(atoms: &[Name], values: Vars, f: &Formula) -> bool
     requires { length atoms.now ≤ 64 }
     ensures { result ≡ holds (true_names 0 atoms.now values) (formula_of f.now) }
@@ -39,7 +39,7 @@ pub fn holds_at(atoms: &[Name], values: Vars, f: &Formula) -> bool
     }
 }
 
-/// Whether all the formulas hold there.
+/// Whether all the formulas hold under the assignment in which an atom is true exactly if its place is in `values`.
 pub fn all_hold_at(atoms: &[Name], values: Vars, formulas: &[Formula]) -> bool
     requires { length atoms.now ≤ 64 }
     ensures { result ≡ holds_all (true_names 0 atoms.now values) (map formula_of formulas.now) }

@@ -1,4 +1,4 @@
-//! The variables of a system: what its bridge rules read, each once.
+//! The variables of a system: the beliefs that its bridge rules read, each once.
 
 ghost use Rattle.std.specs.Prelude.{◌≡◌, ◌<◌, ◌≤◌, map, length, IfOk, IfErr, [], ◌∷◌};
 ghost use Rattle.std.specs.List.{list_any};
@@ -21,7 +21,7 @@ pub(crate) fn is_among(others: &[Read], read: &Read) -> bool
     others.iter().any(|other| same_read(read, other))
 }
 
-/// Adds the read, if it is of the context and not found already.
+/// Adds the read, if it is of the context and not among those found.
 fn add_read(
     alloc: Global,
     read: &Read,
@@ -57,7 +57,7 @@ fn add_reads(
     Ok(())
 }
 
-/// The variables of one context, by first occurrence. Refused where there are more than the limit.
+/// The variables of one context, by first occurrence. Refuses if there are more than the limit.
 fn variables_of_context(
     alloc: Global,
     bridges: &[Bridge],
@@ -76,8 +76,8 @@ fn variables_of_context(
     Ok(found)
 }
 
-/// The variables of the system of these contexts and rules, by context and within a context by first
-/// occurrence. Refused where there are more than the limit.
+/// The variables of the system of these contexts and rules, by context and within a context by first occurrence.
+/// Refuses if there are more than the limit.
 pub(crate) fn variables_of(
     alloc: Global,
     contexts: &[Context],
