@@ -1,4 +1,4 @@
-//! The check of a report: from the two files to the line that tells what was found.
+//! The check of a report: from the two files to the line with the finding.
 
 ghost use Rattle.std.specs.Prelude.{◌≡◌, ◌≤◌, [], ◌∷◌, IfSome, IfOk, IfErr, IsErrOf};
 ghost use Rattle.mcs_ports.specs.Causes.{Rose};
@@ -17,7 +17,8 @@ use mcs_ports::{Shelf, Sink};
 use mcs_text::{Unwritten, write_line};
 use std::alloc::Global;
 
-/// Tells of the report that the one file holds whether it is valid, for the system whose text the other one holds.
+/// Checks the report in the file `report` against the system whose text is in the file `file`, and prints whether it is
+/// valid.
 pub(crate) fn check<H: Shelf, K: Sink>(
     alloc: Global,
     file: &str,
@@ -47,7 +48,7 @@ pub(crate) fn check<H: Shelf, K: Sink>(
     Ok(outcome_of(finding))
 }
 
-/// Prints the line that tells what was found.
+/// Prints the line of the finding.
 fn print_finding<K: Sink>(alloc: Global, finding: Finding, sink: &mut K) -> Result<(), Unwritten>
     ensures { Writes (finding_line finding) (K.device sink.old) (K.device sink.new) result }
 {
@@ -56,7 +57,7 @@ fn print_finding<K: Sink>(alloc: Global, finding: Finding, sink: &mut K) -> Resu
     write_line(&line, sink)
 }
 
-/// How the check of a report ends that finds this.
+/// The outcome of a job with this finding.
 fn outcome_of(finding: Finding) -> Outcome
     ensures { result ≡ outcome_of finding }
 {

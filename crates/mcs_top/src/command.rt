@@ -1,4 +1,4 @@
-//! What the words ask for, from the words to the status.
+//! The whole run: from the words of the command line to the status.
 
 ghost use Rattle.std.specs.Prelude.{◌≡◌};
 ghost use Rattle.mcs_words.specs.Reading.{texts_of};
@@ -11,15 +11,18 @@ use mcs_ports::{Gate, Shelf, Sink};
 use mcs_words::read_words;
 use std::alloc::Global;
 
-/// Does what the words ask for: `equilibria FILE` prints the projected equilibria of the system whose text
-/// FILE holds, each once, in the order of states; `solve FILE` its minimal diagnoses and its minimal explanations too,
-/// in the order of pairs, and with `--proof` the answers that these rest on, each with a certificate; `check FILE REPORT`
-/// whether what REPORT holds is such a listing with its proof; `make NUMBER` reads no file, and prints how many members
-/// each list of the generated system of that number has. `words` are the words after the program's name.
+/// Does the job that the words ask for. `words` are the words after the program's name.
 ///
-/// Answers the status; for each but `Done` and `NotValid` one line is noted. Nothing is written but what the job prints,
-/// or a front of it. What each status says is the record that is promised; where the words ask for no job that names a
-/// file, no call is made on the shelf.
+/// - `equilibria FILE` prints the projected equilibria of the system whose text is in FILE, each once, in the order of
+///   states.
+/// - `solve FILE` prints its minimal diagnoses and its minimal explanations too, in the order of pairs. With `--proof`
+///   it also prints the answers on which these depend, each with a certificate.
+/// - `check FILE REPORT` prints whether REPORT has such a listing with its proof.
+/// - `make NUMBER` reads no file. It prints how many members each list of the generated system of that number has.
+///
+/// Returns the status. For each status but `Done` and `NotValid` one line is noted. Nothing is written but the output
+/// of the job, or a prefix of it. What each status implies is stated by the record `KeepsPromise`. If the words ask for
+/// no job that names a file, the shelf is not called.
 pub fn run<H: Shelf, K: Sink, G: Gate>(
     alloc: Global,
     words: &[String],

@@ -1,4 +1,4 @@
-//! Why a run stops before its end, and the line that it notes then.
+//! Why a run stops before its end, and the line that is noted for it.
 
 ghost use Rattle.std.specs.Prelude.{◌≡◌, ◌++◌, OnOk};
 ghost use Rattle.mcs_top.specs.Endings.{line_of, refusal_line, unfinished_line, fault_line, told_limit, status_of, stop_for_words, stop_for_text, stop_for_line, stop_for_work, IsTold, IsToldAs};
@@ -19,7 +19,7 @@ use std::alloc::{AllocError, Global};
 pub(crate) enum Refusal {
     /// The file is longer than a system text may be.
     TooLong,
-    /// The file of the report is longer than one may be.
+    /// The report is longer than one may be.
     ReportTooLong,
     /// The text has a fault: its number, the offset of its token, and for number 5 the limit.
     Text {
@@ -32,9 +32,9 @@ pub(crate) enum Refusal {
 /// How a job ended that was not stopped.
 #[derive(Clone, Copy, Debug, PartialEq, Eq)]
 pub(crate) enum Outcome {
-    /// It was done.
+    /// The job was done.
     Done,
-    /// It was to check a report, which is not valid.
+    /// The job was `check`, and the report is not valid.
     NotValid,
 }
 
@@ -107,7 +107,8 @@ impl From<Unwritten> for Stop {
     }
 }
 
-/// Why a run stops whose work stopped so, within this budget. No oracle of a run can miss.
+/// Why the run stops, if its work stops for this reason. `budget` is that of the run. No oracle of a run can miss an
+/// answer.
 pub(crate) fn stop_for_work(stop: WorkStop, budget: u64) -> Stop
     ensures { result ≡ stop_for_work budget stop }
 {
@@ -119,7 +120,7 @@ pub(crate) fn stop_for_work(stop: WorkStop, budget: u64) -> Stop
 }
 
 impl Stop {
-    /// The status of a run that stops so.
+    /// The status of a run that stops for this reason.
     fn status(self) -> Status
         ensures { result ≡ status_of self }
     {
@@ -150,10 +151,10 @@ impl Stop {
     }
 }
 
-/// The line that is noted where a write failed.
+/// The line that is noted if a write failed.
 const WRITE_FAULT: &[u8] = b"mcs: write fault\n";
 
-/// The line that is noted where memory ran out.
+/// The line that is noted if memory ran out.
 const OUT_OF_MEMORY: &[u8] = b"mcs: out of memory\n";
 
 /// Appends the line of a refusal.
@@ -171,7 +172,7 @@ fn push_refusal(line: &mut Text, why: Refusal) -> Result<(), Memory>
     }
 }
 
-/// Appends the line of a run that stops at this level, since the budget is too small.
+/// Appends the line of a run that stops at this level because the budget is too small.
 #[tactic(auto, unfolding(crate::specs::Endings::unfinished_line))]
 fn push_unfinished(line: &mut Text, level: u32, budget: u64) -> Result<(), Memory>
     ensures { OnOk result (line.new ≡ line.old ++ unfinished_line level budget) }
@@ -201,7 +202,7 @@ fn push_fault(
     line.push(b"\n")
 }
 
-/// Appends the limit, where there is one.
+/// Appends the limit, if there is one.
 fn push_limit(line: &mut Text, limit: Option<Limit>) -> Result<(), Memory>
     ensures { OnOk result (line.new ≡ line.old ++ told_limit limit) }
 {
@@ -214,8 +215,8 @@ fn push_limit(line: &mut Text, limit: Option<Limit>) -> Result<(), Memory>
     line.push_number(limit.most() as u64)
 }
 
-/// Notes why a run stops, and answers its status. Where there is no memory for the line, that is told instead; the line of
-/// a write fault needs none.
+/// Notes the line of the stop, and returns its status. If there is no memory for the line, the want of memory is noted
+/// and returned instead. The line of a write fault needs no memory.
 pub(crate) fn tell<K: Sink>(alloc: Global, sink: &mut K, stop: Stop) -> Status
     ensures told { IsTold stop result (K.device sink.old) (K.device sink.new) }
     ensures fault { stop ≡ stops.WriteFault → result ≡ Status.WriteFault }
@@ -234,7 +235,7 @@ pub(crate) fn tell<K: Sink>(alloc: Global, sink: &mut K, stop: Stop) -> Status
     stop.status()
 }
 
-/// Notes that memory ran out, and answers that status.
+/// Notes that memory ran out, and returns the status for this.
 pub(crate) fn note_want_of_memory<K: Sink>(sink: &mut K) -> Status
     ensures told { IsToldAs stops.Memory result (K.device sink.old) (K.device sink.new) }
     ensures written { (K.device sink.new).written ≡ (K.device sink.old).written }

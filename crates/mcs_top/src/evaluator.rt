@@ -1,4 +1,4 @@
-//! The evaluator of a run: each context is asked by a solver of its own, and a mesh joins what they answer.
+//! The evaluator of a run: a solver for each context, and a mesh that joins their answers.
 
 ghost use Rattle.std.specs.Prelude.{◌≡◌, cond, [], ◌∷◌, map, length, IfOk};
 ghost use Rattle.std.specs.Arc.{arc_value};
@@ -15,7 +15,7 @@ use mcs_system::System;
 use std::alloc::Global;
 use std::sync::Arc;
 
-/// An evaluator of the system, with a solver for each context. These keep certificates or not.
+/// An evaluator of the system, with a solver for each context. The solvers keep certificates if `keep` holds.
 pub(crate) fn mesh_of<'g, G: Gate>(
     alloc: Global,
     system: &Arc<System>,
@@ -31,7 +31,7 @@ pub(crate) fn mesh_of<'g, G: Gate>(
     Mesh::new(alloc, plan, solvers, budget, gate)
 }
 
-/// A solver for each context of the system, in order.
+/// A solver for each context of the system, in their order. The solvers keep certificates if `keep` holds.
 fn solvers_of(alloc: Global, system: &Arc<System>, keep: bool) -> Result<Vec<LocalSolver>, Memory>
     ensures { IfOk result (λ solvers.
         solvers.items ≡ map (λ i. solver_with keep (arc_value system.now) i []) (range_with_len 0 (length (arc_value system.now).contexts))) }
@@ -43,7 +43,7 @@ fn solvers_of(alloc: Global, system: &Arc<System>, keep: bool) -> Result<Vec<Loc
     Ok(solvers)
 }
 
-/// The system, to be shared by what asks its contexts.
+/// The system, shared: its solvers and its evaluator refer to it.
 pub(crate) fn shared(alloc: Global, system: System) -> Result<Arc<System>, Memory>
     ensures { IfOk result (λ shared. arc_value shared ≡ system) }
 {

@@ -1,4 +1,4 @@
-//! The jobs: from the files that one names to what it prints.
+//! The jobs: from the files that a job names to its output.
 
 ghost use Rattle.std.specs.Prelude.{◌≡◌, ◌≤◌, [], IfSome, IfOk, IfErr, IsErrOf};
 ghost use Rattle.mcs_ports.specs.Causes.{Rose};
@@ -15,7 +15,7 @@ use mcs_words::Job;
 use mcs_work::Task;
 use std::alloc::Global;
 
-/// Does the job. One that names no file leaves the shelf as it is.
+/// Does the job. If it names no file, the shelf stays as it is.
 pub(crate) fn do_job<H: Shelf, K: Sink, G: Gate>(
     alloc: Global,
     job: &Job,
@@ -59,7 +59,7 @@ pub(crate) fn do_job<H: Shelf, K: Sink, G: Gate>(
     }
 }
 
-/// How a job ended that was done unless it stopped.
+/// How a job ended that can only be done or stop.
 fn done(worked: Result<(), Stop>) -> Result<Outcome, Stop>
     ensures { result ≡ as_done worked }
 {

@@ -1,4 +1,4 @@
-//! The listing of a system: of a file, or one that is generated.
+//! The listing of a system, read from a file or generated.
 
 ghost use Rattle.std.specs.Prelude.{◌≡◌, ◌≤◌, [], ◌∷◌, IfSome, OnOk, IfErr, IsErrOf};
 ghost use Rattle.mcs_ports.specs.Causes.{Rose};
@@ -17,7 +17,7 @@ use mcs_system::System;
 use mcs_work::{Task, work};
 use std::alloc::Global;
 
-/// Does the task for the system whose text the file holds, within a budget of questions.
+/// Does the task for the system whose text is in the file, within a budget of questions.
 pub(crate) fn evaluate<H: Shelf, K: Sink, G: Gate>(
     alloc: Global,
     task: Task,
@@ -45,8 +45,8 @@ pub(crate) fn evaluate<H: Shelf, K: Sink, G: Gate>(
     list_system(alloc, task, system, budget, sink, gate)
 }
 
-/// Does the task for the system that is generated for the number, within a budget of questions: the line of the number
-/// comes first.
+/// Prints the line of the number, and does the task `Make` for the system generated for it, within a budget of
+/// questions.
 pub(crate) fn generated<K: Sink, G: Gate>(
     alloc: Global,
     number: u64,

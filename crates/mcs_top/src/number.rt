@@ -24,7 +24,7 @@ pub(crate) fn print_number<K: Sink>(
     write_line(&line, sink)
 }
 
-/// Appends that line.
+/// Appends the line with the number and these counts.
 #[tactic(auto, unfolding(crate::specs::Promise::number_line))]
 fn push_number_line(line: &mut Text, number: u64, system: &System) -> Result<(), Memory>
     ensures { OnOk result (line.new ≡ line.old ++ number_line number system.now) }

@@ -1,4 +1,4 @@
-//! The whole program, but for its devices.
+//! The whole program, except for its devices.
 
 ghost use Rattle.std.specs.Prelude.{◌≡◌, drop, IfOk};
 ghost use Rattle.mcs_top.specs.Endings.{number_of};
@@ -12,9 +12,9 @@ use mcs_ports::{Gate, Shelf, Sink};
 use std::alloc::{AllocError, Global};
 use std::{env, io};
 
-/// Runs the program on the words that the system gives, of which the first is its name: does what the others ask for, as
-/// `run`, and answers the number of the status, with which the program ends. Words that the system fails to give are no
-/// words, which ask for no job.
+/// Runs the program. `words` are the words that the operating system gives; the first, the program's name, is dropped,
+/// and the others are passed to `run`. Returns the number of the status, with which the program ends. If the operating
+/// system fails to give the words, there are none, and so they ask for no job.
 pub fn run_program<H: Shelf, K: Sink, G: Gate>(
     alloc: Global,
     words: io::Result<env::Args>,
@@ -30,7 +30,7 @@ pub fn run_program<H: Shelf, K: Sink, G: Gate>(
     done_so(alloc, words, shelf, sink, gate).number()
 }
 
-/// Does what the words ask for that the system gives; the status.
+/// Does the job that the given words ask for, and returns the status.
 fn done_so<H: Shelf, K: Sink, G: Gate>(
     alloc: Global,
     words: io::Result<env::Args>,
@@ -48,7 +48,7 @@ fn done_so<H: Shelf, K: Sink, G: Gate>(
     }
 }
 
-/// The words that the system gives, its name among them; none where it fails to.
+/// The given words, the program's name among them; none if the operating system fails to give them.
 fn kept_words(alloc: Global, words: io::Result<env::Args>) -> Result<Vec<String>, AllocError>
     ensures { IfOk result (λ kept. kept.items ≡ all_given words) }
 {

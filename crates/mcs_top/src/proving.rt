@@ -18,8 +18,8 @@ use mcs_system::System;
 use mcs_work::{Task, work};
 use std::alloc::Global;
 
-/// Lists the equilibria, minimal diagnoses and minimal explanations of the system whose text the file holds, within a budget
-/// of questions, and then the answers that these rest on, each with a certificate.
+/// Prints the equilibria, minimal diagnoses and minimal explanations of the system whose text is in the file, within a
+/// budget of questions. The answers on which these depend follow, each with a certificate.
 pub(crate) fn prove<H: Shelf, K: Sink, G: Gate>(
     alloc: Global,
     file: &str,
@@ -43,12 +43,12 @@ pub(crate) fn prove<H: Shelf, K: Sink, G: Gate>(
         (K.device sink.old).written (K.device sink.new).written) }
 {
     let system = system_in(alloc, file, shelf)?;
-    // That what is written is a valid report follows from what the contexts of a system tell of it.
+    // What the contracts of the contexts ensure of the system implies that the output is a valid report.
     let _ = system.contexts();
     prove_system(alloc, system, budget, sink, gate)
 }
 
-/// Lists them of the system, and then the answers.
+/// Prints the same for the system.
 fn prove_system<K: Sink, G: Gate>(
     alloc: Global,
     system: System,

@@ -1,4 +1,4 @@
-//! The files of a job: the system whose text one holds, and the bytes of a report.
+//! The files of a job: the system in a text, and the bytes of a report.
 
 ghost use Rattle.std.specs.Prelude.{◌≡◌, ◌≤◌, [], ◌∷◌, length, IfSome, IfOk, IfErr};
 ghost use Rattle.mcs_ports.specs.Causes.{Rose};
@@ -12,13 +12,13 @@ use mcs_ports::{ReadAnswer, Shelf, read_whole};
 use mcs_system::System;
 use std::alloc::Global;
 
-/// The most bytes of a system text.
+/// The greatest length of a system text, in bytes.
 const MOST_TEXT_BYTES: usize = 1_048_576;
 
-/// The most bytes of a report.
+/// The greatest length of a report, in bytes.
 const MOST_REPORT_BYTES: usize = 268_435_456;
 
-/// The system whose text the file holds.
+/// The system whose text is in the file.
 pub(crate) fn system_in<H: Shelf>(alloc: Global, file: &str, shelf: &mut H) -> Result<System, Stop>
     ensures later { H.faults shelf.old ≤ H.faults shelf.new }
     ensures failures_later { H.failures shelf.old ≤ H.failures shelf.new }
@@ -37,7 +37,7 @@ pub(crate) fn system_in<H: Shelf>(alloc: Global, file: &str, shelf: &mut H) -> R
     system_of(alloc, &bytes)
 }
 
-/// The system whose text the bytes are, or why they are none.
+/// The system whose text these bytes are, or why they are none.
 fn system_of(alloc: Global, bytes: &[u8]) -> Result<System, Stop>
     requires { length bytes.now ≤ most_text_bytes }
     ensures system { IfOk result (λ system. IsTextOf system bytes.now) }
@@ -46,7 +46,7 @@ fn system_of(alloc: Global, bytes: &[u8]) -> Result<System, Stop>
     Ok(read_system(alloc, bytes)?)
 }
 
-/// The bytes of the report that the file holds.
+/// The bytes of the report in the file.
 pub(crate) fn report_in<H: Shelf>(alloc: Global, file: &str, shelf: &mut H) -> Result<Vec<u8>, Stop>
     ensures later { H.faults shelf.old ≤ H.faults shelf.new }
     ensures few { IfOk result (λ bytes. length bytes.items ≤ most_report_bytes) }

@@ -10,23 +10,31 @@ pub enum Status {
     Done,
     /// The report that was checked is not valid.
     NotValid,
-    /// The words are no job.
+    /// The words ask for no job.
     Usage,
-    /// The file is too long, or its text is no system.
+    /// A file is too long, or the text is not the text of a system.
     Refused,
     /// The system has more questions than the budget.
     Unfinished,
-    /// The file could not be read.
+    /// A file could not be read.
     ReadFault,
-    /// The listing could not be written.
+    /// The output could not be written.
     WriteFault,
     /// Memory ran out.
     OutOfMemory,
 }
 
 impl Status {
-    /// The number that the program ends with: 0 where the job was done, 1 for a report that is not valid, 2 for words that are no job, 3 for a file
-    /// that is refused, 4 where the budget was too small, 5 and 6 for a fault of reading and of writing, 7 where memory ran out.
+    /// The number with which the program ends:
+    ///
+    /// - 0: the job was done;
+    /// - 1: the report is not valid;
+    /// - 2: the words ask for no job;
+    /// - 3: a file is refused;
+    /// - 4: the budget was too small;
+    /// - 5: a read failed;
+    /// - 6: a write failed;
+    /// - 7: memory ran out.
     pub fn number(self) -> u8
         ensures { result ≡ number_of self }
     {
