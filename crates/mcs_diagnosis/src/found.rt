@@ -13,7 +13,7 @@ use mcs_states::{Evaluator, Halt};
 use mcs_system::System;
 use std::alloc::Global;
 
-// The rules that apply in the state, without the removed and with the forced.
+// The rules that are active in the state: those that apply, without the removed and with the forced ones.
 fn active(system: &System, pair: Pair, state: Vars) -> Active
     ensures { result ≡ active_in system.now pair state }
 {
@@ -23,7 +23,7 @@ fn active(system: &System, pair: Pair, state: Vars) -> Active
         .union(pair.forced())
 }
 
-// The diagnosis as it is shown, by a call of the level of its marks.
+// The diagnosis with its first state and its active rules, found by a call of the level of its marks.
 fn show<E: Evaluator>(
     alloc: Global,
     evaluator: &mut E,
@@ -47,7 +47,8 @@ fn show<E: Evaluator>(
     })
 }
 
-/// The minimal diagnoses of so many marks, in the order of pairs, as they are shown.
+/// The minimal diagnoses with exactly `level` marks, in the order of pairs, each with its first state and its active
+/// rules.
 pub fn diagnoses_of<E: Evaluator>(
     alloc: Global,
     evaluator: &mut E,

@@ -14,13 +14,13 @@ use std::alloc::Global;
 use std::marker::Model;
 use std::sync::Arc;
 
-/// The minimal diagnoses of a system, by the number of their marks. It is seen as the evaluator, and the
-/// number of the next level.
+/// The minimal diagnoses of a system, by the number of their marks. The model is the evaluator and the number of the
+/// next level.
 pub struct Levels<E: Evaluator> {
     evaluator: E,
     system: Arc<System>,
     level: u32,
-    // Whether the system is consistent, once level 0 was taken.
+    // Whether the system is consistent; this is known after level 0.
     consistent: bool,
 }
 
@@ -36,7 +36,7 @@ impl<E: Evaluator> Model for Levels<E> {
 }
 
 impl<E: Evaluator> Levels<E> {
-    /// The levels of the system, from level 0 on, by an evaluator of this system.
+    /// The levels of the system, from level 0 on, found by an evaluator of this system.
     pub fn new(evaluator: E, system: Arc<System>) -> Levels<E>
         requires same { (E.stands evaluator).system ≡ arc_value system }
         requires going { (E.stands evaluator).halted ≡ false }
@@ -58,9 +58,10 @@ impl<E: Evaluator> Levels<E> {
         self.level > 0 && self.consistent || self.level as usize > self.system.bridges().len()
     }
 
-    /// The minimal diagnoses of the next level, in the order of pairs. `Over` comes exactly after level 0 of a
-    /// consistent system, or after the level of as many marks as there are rules, and asks nothing. `Spent`
-    /// and `Missing` come for the causes of a call of this level; they are then the evaluator's own halt.
+    /// The minimal diagnoses of the next level, in the order of pairs. `Over` is returned exactly after level 0 of a
+    /// consistent system, or after the level with as many marks as there are rules; no question is asked then. `Spent`
+    /// and `Missing` are returned for the causes that a call of this level has; the evaluator has then halted with
+    /// them.
     pub fn next(&mut self, alloc: Global) -> Result<Level, Halt>
         requires { (E.stands self.old.evaluator).halted ≡ false }
         ensures level { IfOk result (IsLevel (E.stands self.old.evaluator).system self.old.level) }
@@ -87,7 +88,7 @@ impl<E: Evaluator> Levels<E> {
         &self.evaluator
     }
 
-    /// The evaluator, back.
+    /// The evaluator, handed back.
     pub fn into_evaluator(self) -> E
         ensures { result ≡ self.evaluator }
     {

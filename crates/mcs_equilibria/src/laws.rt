@@ -1,8 +1,8 @@
-//! Laws over the definitions. The functions do nothing: each contract is a law.
+//! Laws over the definitions. The functions compute nothing: each contract is a law.
 
 ghost use Rattle.mcs_equilibria.specs.First.{SelfSupportComesFirst};
 
-/// A system that supports itself has two states, and the one that holds its variable is the first.
+/// A system with a rule that supports itself has two states, and the one that contains its variable is the first.
 pub fn self_support_comes_first()
     ensures { SelfSupportComesFirst }
 {}

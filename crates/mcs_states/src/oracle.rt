@@ -1,4 +1,4 @@
-//! What answers the questions of one context.
+//! Oracles: the trait of what answers questions to one context.
 
 ghost use Rattle.std.specs.Prelude.{◌≡◌, IfOk, IfErr, OnOk, OnErr};
 ghost use Rattle.mcs_sets.specs.Sets.{Within};
@@ -9,17 +9,17 @@ use crate::stop::OracleStop;
 use mcs_base::{Active, Vars};
 use std::alloc::Global;
 
-/// Answers which projected belief sets one context of a system accepts with the heads of a set of the rules
-/// into it. It keeps a journal of the questions asked, and nothing else of it ever changes.
+/// Answers which projected belief sets a context of a system accepts with the heads of some of the rules into it. An
+/// oracle keeps a journal of the questions asked; nothing else of it changes.
 pub trait Oracle: Drop {
-    /// Its system and context, its journal, the sets for which it holds an answer where it can miss, and
-    /// its origin.
+    /// The system and the context, the journal, the sets of rules for which there is an answer if the oracle can miss
+    /// one, and the origin.
     ghost stands: { Self → OracleState };
 
-    /// The projected belief sets that the context accepts with the heads of these rules, which are rules
-    /// into it: each once, in the order of states. After a stop the journal is as before. `Missing`, with
-    /// this very set, comes exactly where the oracle can miss and holds no answer for it, unless want of
-    /// memory comes in its place.
+    /// The projected belief sets that the context accepts with the heads of the rules in `active`: each once, in the
+    /// order of states. These have to be rules into the context. After a stop the journal is as before. `Missing`, with
+    /// this very set, is returned exactly if the oracle can miss answers and has none for it, unless `Memory` is
+    /// returned in its place.
     fn ask(&mut self, alloc: Global, active: Active) -> Result<Vec<Vars>, OracleStop>
         requires { Within active (rules_into (stands self.old).system (stands self.old).context) }
         ensures answer { IfOk result (λ states. AreAnswers (stands self.old) active states.items) }

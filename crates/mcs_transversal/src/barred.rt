@@ -1,4 +1,4 @@
-//! Marks with which a set has no longer a critical edge for each of its marks.
+//! Marks that can't be added to a set of which each mark has to keep a critical edge.
 
 ghost use Rattle.std.specs.Prelude.{◌<◌, ◌↔◌, IsTrue};
 ghost use Rattle.mcs_sets.specs.Sets.{has, single, union};
@@ -7,7 +7,8 @@ ghost use Rattle.mcs_transversal.specs.Transversals.{IsCritical, AreCommonParts,
 use crate::critical_edges::{is_critical, only_common};
 use mcs_base::Marks;
 
-/// For each mark what the edges that meet the set in this mark alone have in common, as far as `most` has it.
+/// For each mark a set of marks that are in all edges that meet `t` in this mark alone: the intersection of these edges
+/// and `most`.
 fn common_parts(edges: &[Marks], t: Marks, most: Marks) -> [Marks; 128]
     ensures { AreCommonParts edges.now t result }
 {
@@ -21,9 +22,9 @@ fn common_parts(edges: &[Marks], t: Marks, most: Marks) -> [Marks; 128]
     parts
 }
 
-/// The marks of the edge that are in all edges that are critical for some mark of the set: with one of them
-/// this mark would have none. They are found on one way along the edges. The clause says that each of them is
-/// barred, not that they are all that are: a mark that is left out costs a test of its own, and no answer.
+/// The marks of `edge` that are in all critical edges of some mark of `t`. If one of them is added to `t`, that mark
+/// has no critical edge left. They are found in one pass over the edges. The contract says that each of them is barred,
+/// not that they are all that are: a mark that is left out costs a further test, and changes no result.
 pub(crate) fn barred(edges: &[Marks], t: Marks, edge: Marks) -> Marks
     ensures { AreBarred edges.now t result }
 {
@@ -35,7 +36,8 @@ pub(crate) fn barred(edges: &[Marks], t: Marks, edge: Marks) -> Marks
     all.minus(t)
 }
 
-/// Whether each mark of the set with this one has a critical edge, where these are known to be barred.
+/// Whether each mark of `t` with `mark` added has a critical edge. The marks in `barred` are known to be those with
+/// which some mark has none.
 pub(crate) fn stays_critical(edges: &[Marks], t: Marks, mark: u32, barred: Marks) -> bool
     requires low { mark < 128 }
     requires barred { AreBarred edges.now t barred }

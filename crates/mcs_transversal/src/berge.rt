@@ -1,4 +1,4 @@
-//! Minimal transversals, edge after edge.
+//! Minimal transversals, computed edge by edge.
 
 ghost use Rattle.std.specs.Prelude.{◌≡◌, ◌++◌, [], ◌∷◌, ◌⊎◌, ◌↔◌, ℕ, List, IsTrue, OnOk, IfOk};
 ghost use Rattle.std.specs.List.{AllByRecursion};
@@ -14,7 +14,7 @@ use mcs_base::{Marks, Memory, list_pairs};
 use std::alloc::Global;
 use std::mem;
 
-/// Whether none of the sets that meet the edge lies within the grown one.
+/// Whether no set of `ts` that meets the edge lies within `grown`.
 fn has_none_within(ts: &[Marks], edge: Marks, grown: Marks) -> bool
     ensures { IsTrue result ↔ AllByRecursion (λ s. Meets s edge → ¬ Within s grown) ts.now }
 {
@@ -26,9 +26,9 @@ fn has_none_within(ts: &[Marks], edge: Marks, grown: Marks) -> bool
     true
 }
 
-/// Puts in what comes of one minimal transversal of the edges before that does not meet the edge, the last of the edges:
-/// it grows by each mark of the edge, as long as each of its marks is still needed. What is needed is found among the
-/// edges.
+/// Extends `t`, a minimal transversal of the edges before the last one, `edge`, which it does not meet. Appends to
+/// `out` the set with each mark of `edge` added, if each mark of that set still has a critical edge. This is tested on
+/// the edges.
 fn grow_by_edges(t: Marks, edge: Marks, edges: &[Marks], out: &mut Vec<Marks>) -> Result<(), Memory>
     requires { ¬ Meets t edge }
     ensures { OnOk result
@@ -43,8 +43,8 @@ fn grow_by_edges(t: Marks, edge: Marks, edges: &[Marks], out: &mut Vec<Marks>) -
     Ok(())
 }
 
-/// The same, where what is needed is found among all minimal transversals of the edges before: one that meets the edge
-/// and lies within the grown set makes it needless.
+/// The same, tested on `ts`, all minimal transversals of the edges before `edge`. A set with a mark added is left out
+/// if one of them meets `edge` and lies within it.
 fn grow_by_sets(t: Marks, edge: Marks, ts: &[Marks], out: &mut Vec<Marks>) -> Result<(), Memory>
     requires apart { ¬ Meets t edge }
     requires among { IsAmong t ts.now }
@@ -61,8 +61,9 @@ fn grow_by_sets(t: Marks, edge: Marks, ts: &[Marks], out: &mut Vec<Marks>) -> Re
     Ok(())
 }
 
-/// Puts in what comes of one of the minimal transversals of the edges before: where it meets the edge, the last of the
-/// edges, it stays, and else it grows. Of the edges and the transversals the shorter list tells how.
+/// Appends to `out` what one of the minimal transversals of the edges before the last one, `edge`, yields: itself, if
+/// it meets `edge`, and otherwise its extensions. These are tested on the edges or on the transversals, whichever list
+/// is shorter.
 fn extend(
     t: Marks,
     edge: Marks,
@@ -86,7 +87,7 @@ fn extend(
     grow_by_edges(t, edge, edges, out)
 }
 
-/// Puts in what comes of all of them. What was in `out` is lost.
+/// Replaces `out` by what all of the transversals yield.
 fn extend_each(
     ts: &[Marks],
     edge: Marks,
@@ -103,8 +104,8 @@ fn extend_each(
     Ok(())
 }
 
-/// The minimal sets that meet every edge (Berge 1989), each once, in the order of pairs. For no edges it is
-/// the empty set alone; where an edge is empty there is none.
+/// The minimal sets that meet every edge (Berge 1989), each once, in the order of pairs. For no edges this is the empty
+/// set alone. If an edge is empty, there is none.
 pub fn minimal_transversals(alloc: Global, edges: &[Marks]) -> Result<Vec<Marks>, Memory>
     ensures { IfOk result (λ ts. IsListing (IsMinimal (IsTransversalOf edges.now)) PairBefore ts.items) }
 {

@@ -1,4 +1,4 @@
-//! The edges that meet a set in one mark alone.
+//! Critical edges of a set: edges that it meets in one mark alone.
 
 ghost use Rattle.std.specs.Prelude.{◌<◌, ◌⊎◌, ◌↔◌, ℕ, IsTrue, MatchOption, IfSome, length, slice_index_or};
 ghost use Rattle.mcs_sets.specs.Sets.{has};
@@ -7,7 +7,7 @@ ghost use Rattle.mcs_transversal.specs.Transversals.{IsCritical, IsFirstCritical
 
 use mcs_base::Marks;
 
-/// The one mark that is in both sets; `None` exactly where there is none, or more than one.
+/// The one mark that is in both sets, or `None` exactly if there is none or more than one.
 pub(crate) fn only_common(a: Marks, b: Marks) -> Option<u32>
     ensures value { MatchOption result ((k : ℕ) → ¬ MeetAloneAt a b k) (λ k. MeetAloneAt a b k) }
     ensures below { IfSome result (λ k. k < 128) }
@@ -33,8 +33,8 @@ fn meet_alone_at(edge: Marks, t: Marks, mark: u32) -> bool
     }
 }
 
-/// The index of the first edge that meets the set in this mark alone; `None` exactly where there is none.
-/// It takes no memory.
+/// The index of the first edge that meets the set in this mark alone, or `None` exactly if there is none. No memory is
+/// needed.
 pub fn critical(edges: &[Marks], t: Marks, mark: u32) -> Option<usize>
     ensures { MatchOption result
         ((j : ℕ) → j < length edges.now → ¬ MeetAloneAt (slice_index_or edges.now j 0) t mark)
@@ -48,7 +48,7 @@ pub fn critical(edges: &[Marks], t: Marks, mark: u32) -> Option<usize>
     None
 }
 
-/// The one mark in which the edge meets the set, if it is one of those that are left.
+/// The one mark in which the edge meets the set, if it is one and is in `left`.
 fn new_mark(edge: Marks, t: Marks, left: Marks) -> Option<u32>
     ensures value { MatchOption result
         ((k : ℕ) → IsTrue (has left k) → ¬ MeetAloneAt edge t k)
@@ -61,8 +61,8 @@ fn new_mark(edge: Marks, t: Marks, left: Marks) -> Option<u32>
     if left.has(mark) { Some(mark) } else { None }
 }
 
-/// For each mark the index of the first edge that meets the set in this mark alone; `None` exactly where there is
-/// none. It takes no memory, and goes once along the edges, no further than to the last of these.
+/// For each mark the index of the first edge that meets the set in this mark alone, or `None` exactly if there is none.
+/// No memory is needed. There is one pass over the edges, which ends at the last of these edges.
 pub fn first_critical_edges(edges: &[Marks], t: Marks) -> [Option<usize>; 128]
     ensures { AreFirstCritical edges.now t result }
 {
@@ -80,7 +80,7 @@ pub fn first_critical_edges(edges: &[Marks], t: Marks) -> [Option<usize>; 128]
     firsts
 }
 
-/// The marks, and the one in which the edge meets the set, if it is one alone.
+/// The marks, with the one in which the edge meets the set added, if it is one alone.
 fn with_critical(marks: Marks, edge: Marks, t: Marks) -> Marks
     ensures { (k : ℕ) → IsTrue (has result k) ↔ (IsTrue (has marks k) ⊎ MeetAloneAt edge t k) }
 {

@@ -1,4 +1,4 @@
-//! Minimal transversals of a hypergraph: the minimal sets of marks that meet each of its edges.
+//! Minimal transversals (hitting sets) of a hypergraph: the minimal sets of marks that meet each edge.
 #![tactic(auto)]
 
 mod barred;

@@ -15,7 +15,7 @@ pub(crate) enum Extent {
 }
 
 impl Extent {
-    /// The task that prints so much.
+    /// The task that prints this much.
     pub(crate) fn task(self) -> Task
         ensures { result ≡ task_of self }
     {

@@ -1,4 +1,4 @@
-//! The work on a system: from an evaluator of it to the lines of its listing.
+//! The tasks for a system: from an evaluator to the printed lines of the listing.
 #![tactic(auto)]
 
 mod extent;

@@ -1,4 +1,4 @@
-//! The parts of a listing, printed line by line: each line is written as one piece.
+//! The parts of a listing. Each line is written in one piece.
 
 ghost use Rattle.std.specs.Prelude.{◌+◌, ◌<◌, ◌^◌, length};
 ghost use Rattle.std.specs.List.{AllByRecursion};
@@ -25,7 +25,7 @@ use mcs_system::System;
 use mcs_text::{Unwritten, write_line};
 use std::alloc::Global;
 
-/// Prints what comes before the first question: the heading, and where only counts are printed nothing.
+/// Prints what comes before the first question: the heading, or nothing if only counts are printed.
 pub(crate) fn print_opening<K: Sink>(
     alloc: Global,
     task: Task,
@@ -49,8 +49,8 @@ fn print_heading<K: Sink>(alloc: Global, system: &System, sink: &mut K) -> Resul
     write_line(&line, sink)
 }
 
-/// Prints what comes after the heading: a line for each state, the verdict, how many there are, and how many questions
-/// that needed.
+/// Prints what comes after the heading: a line for each state, the verdict, and the end line with the number of states
+/// and of questions.
 pub(crate) fn print_listing<K: Sink>(
     alloc: Global,
     system: &System,
@@ -66,7 +66,7 @@ pub(crate) fn print_listing<K: Sink>(
     print_short_end(alloc, states.len() as u64, need, sink)
 }
 
-/// Prints what is printed of the states: a line for each, and the verdict; or nothing.
+/// Prints the part of the states, as `extent` has it: a line for each and the verdict, or nothing.
 pub(crate) fn print_states_part<K: Sink>(
     alloc: Global,
     extent: Extent,
@@ -113,7 +113,7 @@ fn print_states<K: Sink>(
     Ok(())
 }
 
-/// Prints the line of the equilibrium of this number.
+/// Prints the line of the equilibrium with this number.
 fn print_state<K: Sink>(
     alloc: Global,
     system: &System,
@@ -129,7 +129,7 @@ fn print_state<K: Sink>(
     write_line(&line, sink)
 }
 
-/// Prints whether there is an equilibrium.
+/// Prints the line that says whether there is an equilibrium.
 fn print_verdict<K: Sink>(alloc: Global, consistent: bool, sink: &mut K) -> Result<(), Unwritten>
     ensures { Writes (verdict_line consistent) (K.device sink.old) (K.device sink.new) result }
 {
@@ -138,7 +138,7 @@ fn print_verdict<K: Sink>(alloc: Global, consistent: bool, sink: &mut K) -> Resu
     write_line(&line, sink)
 }
 
-/// Prints how many equilibria there are, and how many questions they needed.
+/// Prints the end line of `equilibria`: how many equilibria there are, and how many questions were asked.
 fn print_short_end<K: Sink>(
     alloc: Global,
     equilibria: u64,
@@ -152,7 +152,7 @@ fn print_short_end<K: Sink>(
     write_line(&line, sink)
 }
 
-/// Prints what is printed of the diagnoses: a line for each, numbered from this number on; or nothing.
+/// Prints the part of some diagnoses, as `extent` has it: a line for each, numbered from `first` on, or nothing.
 pub(crate) fn print_diagnoses_part<K: Sink>(
     alloc: Global,
     extent: Extent,
@@ -171,7 +171,7 @@ pub(crate) fn print_diagnoses_part<K: Sink>(
     }
 }
 
-/// Prints a line for each diagnosis, numbered from this number on.
+/// Prints a line for each diagnosis, numbered from `first` on.
 fn print_diagnoses<K: Sink>(
     alloc: Global,
     system: &System,
@@ -189,7 +189,7 @@ fn print_diagnoses<K: Sink>(
     Ok(())
 }
 
-/// Prints the line of the diagnosis of this number.
+/// Prints the line of the diagnosis with this number.
 fn print_diagnosis<K: Sink>(
     alloc: Global,
     system: &System,
@@ -205,8 +205,8 @@ fn print_diagnosis<K: Sink>(
     write_line(&line, sink)
 }
 
-/// Prints what comes after the diagnoses, of which these are the pairs: a line for each explanation, or the verdict, and
-/// the end line.
+/// Prints what comes after the diagnoses: a line for each explanation, or the verdict, and then the end line. `pairs`
+/// are the pairs of the diagnoses.
 pub(crate) fn print_rest<K: Sink>(
     alloc: Global,
     extent: Extent,
@@ -225,7 +225,7 @@ pub(crate) fn print_rest<K: Sink>(
     print_end(alloc, equilibria, diagnoses, causes, need, sink)
 }
 
-/// Prints what is printed of the explanations: a line for each; or in their place the verdict.
+/// Prints the part of the explanations: a line for each, or, for `Counts`, the verdict in their place.
 fn print_explanations_part<K: Sink>(
     alloc: Global,
     extent: Extent,
@@ -244,7 +244,8 @@ fn print_explanations_part<K: Sink>(
     }
 }
 
-/// Prints how many equilibria, diagnoses and explanations there are, and how many questions they needed.
+/// Prints the end line of `solve`: how many equilibria, diagnoses and explanations there are, and how many questions
+/// were asked.
 fn print_end<K: Sink>(
     alloc: Global,
     equilibria: u64,
@@ -277,7 +278,7 @@ fn print_explanations<K: Sink>(
     Ok(())
 }
 
-/// Prints the line of the explanation of this number.
+/// Prints the line of the explanation with this number.
 fn print_explanation<K: Sink>(
     alloc: Global,
     system: &System,

@@ -1,4 +1,4 @@
-//! The diagnoses and the explanations of a system, found level by level and printed.
+//! The diagnoses and explanations of a system: found level by level, and printed.
 
 ghost use Rattle.std.specs.Prelude.{◌≡◌, ℕ, ◌≤◌, List, [], false, None, length, IfOk, IfErr, OnOk};
 ghost use Rattle.std.specs.Arc.{arc_value};
@@ -28,7 +28,7 @@ use mcs_transversal::minimal_transversals;
 use std::alloc::Global;
 use std::sync::Arc;
 
-/// Prints the whole listing of the system, or the counts of it.
+/// Prints the whole listing of the system, or its counts, as `extent` has it.
 pub(crate) fn solve<E: Evaluator, K: Sink>(
     alloc: Global,
     extent: Extent,
@@ -48,7 +48,7 @@ pub(crate) fn solve<E: Evaluator, K: Sink>(
     }
 }
 
-/// Finds the equilibria, and prints what is printed up to the verdict; how many equilibria there are.
+/// Finds the equilibria, and prints the part up to the verdict. Returns how many equilibria there are.
 fn print_equilibria<E: Evaluator, K: Sink>(
     alloc: Global,
     extent: Extent,
@@ -73,7 +73,7 @@ fn print_equilibria<E: Evaluator, K: Sink>(
     Ok(states.len() as u64)
 }
 
-/// Prints what comes after the verdict, where there are so many equilibria.
+/// Prints what comes after the verdict. `states` is the number of equilibria.
 fn repair<E: Evaluator, K: Sink>(
     alloc: Global,
     extent: Extent,
@@ -96,7 +96,7 @@ fn repair<E: Evaluator, K: Sink>(
     (result, levels.into_evaluator())
 }
 
-/// Finds the diagnoses of all levels and the explanations, and prints what is printed of them, and the end line.
+/// Finds the diagnoses of all levels and the explanations, and prints their parts and the end line.
 fn print_repairs<E: Evaluator, K: Sink>(
     alloc: Global,
     extent: Extent,
@@ -127,7 +127,7 @@ fn print_repairs<E: Evaluator, K: Sink>(
     Ok(())
 }
 
-/// Finds the diagnoses of all levels, and prints them where they are printed; these.
+/// Finds the diagnoses of all levels, prints their parts, and returns them.
 fn print_levels<E: Evaluator, K: Sink>(
     alloc: Global,
     extent: Extent,
@@ -155,7 +155,8 @@ fn print_levels<E: Evaluator, K: Sink>(
     }
 }
 
-/// Finds the diagnoses of the next level, prints them where they are printed, after these, and adds them; whether there is such a level.
+/// Finds the diagnoses of the next level, prints their part, and appends them to `found`, which has those of the
+/// earlier levels. Returns whether there is such a level.
 fn print_level<E: Evaluator, K: Sink>(
     alloc: Global,
     extent: Extent,
@@ -185,7 +186,7 @@ fn print_level<E: Evaluator, K: Sink>(
     }
 }
 
-/// The pairs of the diagnoses, and the minimal sets of marks that meet each of them.
+/// The pairs of the diagnoses, and the minimal sets of marks that meet each of these pairs.
 fn explain(alloc: Global, found: &[Diagnosis]) -> Result<(Vec<Marks>, Vec<Marks>), Memory>
     ensures pairs { IfOk result (λ r. r.0.items ≡ pairs_of found.now) }
     ensures listed { IfOk result (λ r. IsListing (IsMinimal (IsTransversalOf (pairs_of found.now))) PairBefore r.1.items) }

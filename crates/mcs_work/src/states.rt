@@ -17,8 +17,8 @@ use mcs_states::Evaluator;
 use mcs_system::System;
 use std::alloc::Global;
 
-/// Prints what comes before the first question, and then finds the projected equilibria of the system, in the order of states. The evaluator is
-/// one of this system that did no level yet.
+/// Prints what comes before the first question, and then finds the projected equilibria of the system, in the order of
+/// states. The evaluator has to be one of this system that has done no level yet.
 pub(crate) fn find_states<E: Evaluator, K: Sink>(
     alloc: Global,
     evaluator: &mut E,
@@ -43,7 +43,7 @@ pub(crate) fn find_states<E: Evaluator, K: Sink>(
     Ok(states)
 }
 
-/// Prints the projected equilibria of the system, with the number of the questions that they needed.
+/// Prints the listing of the projected equilibria of the system, with the number of questions asked.
 pub(crate) fn list_equilibria<E: Evaluator, K: Sink>(
     alloc: Global,
     evaluator: &mut E,

@@ -1,4 +1,4 @@
-//! What is listed of a system, and why that stops before its end.
+//! What is listed of a system, and why the work stops before its end.
 
 ghost use Rattle.std.specs.Prelude.{◌≡◌};
 ghost use Rattle.mcs_work.specs.Tasks.{stop_for_halt, stop_for_line};
@@ -20,14 +20,14 @@ pub enum Task {
     Make,
 }
 
-/// Why the work on a system stopped before its end.
+/// Why the work on a system stops before its end.
 #[derive(Clone, Copy, Debug, PartialEq, Eq)]
 pub enum WorkStop {
     /// A write failed.
     Write,
     /// The system has more questions of the level than the budget.
     Spent { level: u32 },
-    /// The oracle of the context holds no answer for this set of rules.
+    /// The oracle of the context has no answer for this set of rules.
     Missing { context: u32, active: Active },
     /// Memory ran out.
     Memory,

@@ -14,18 +14,20 @@ use mcs_system::System;
 use std::alloc::Global;
 use std::sync::Arc;
 
-/// Does the task: prints what it lists of the system, each line as one piece, as soon as it is known. The heading comes
-/// before the first question; for `Solve` the equilibria and the verdict come before diagnoses are looked for, and the
-/// diagnoses of a level before the next level. For `Make` nothing is printed before all is known, and then the verdict and
-/// the end line alone. The evaluator is one of this system that did no level yet; it is
-/// handed back, and what it did is seen in it: after the whole text its greatest level done is the last one of the
-/// task, that is 0 for equilibria and for a consistent system, and else the number of its rules; its journals hold
-/// exactly the questions of that level.
+/// Does the task: prints its listing of the system, each line in one piece, as soon as it is known. The heading comes
+/// before the first question. For `Solve` the equilibria and the verdict come before diagnoses are searched for, and
+/// the diagnoses of a level before the next level is asked. For `Make` nothing is printed before all is known, and then
+/// the verdict and the end line alone.
 ///
-/// `Write` comes only where the sink's count of faults rose; unless it comes, that count is as before. `Spent` comes with the least level of the task that has
-/// more questions than the budget, and what is printed before this level was written; `Missing` with a question of a
-/// level of the task for which an oracle holds no answer. Where neither has a cause, neither comes, and where one has,
-/// the work is not done. After each stop a front of the text was written.
+/// The evaluator has to be one of this system that has done no level yet. It is handed back, and shows what was done.
+/// If the whole text was written, its greatest level done is the last one of the task. This is 0 for equilibria and for
+/// a consistent system, and otherwise the number of rules. Its journals then have exactly the questions of that level.
+///
+/// `Write` is returned only if the sink's count of faults rose; unless it is returned, that count is as before. `Spent`
+/// is returned with the least level of the task that has more questions than the budget; what is printed before this
+/// level was then written. `Missing` is returned with a question, of a level of the task, for which an oracle has no
+/// answer. Neither is returned without its cause; if one has its cause, the work is not done. After each stop a prefix
+/// of the text was written.
 pub fn work<E: Evaluator, K: Sink>(
     alloc: Global,
     evaluator: E,
