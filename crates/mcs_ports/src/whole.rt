@@ -1,4 +1,4 @@
-//! Whole reads and whole writes over the devices.
+//! Reading a file whole, and writing a piece whole.
 
 ghost use Rattle.std.specs.Prelude.{◌≡◌, ◌⊎◌, ℕ, ◌<◌, ◌≤◌, ◌+◌, [], List, Some, length, take, drop, is_some, IsNone, IsSome, IfSome, IfOk, OnOk, OnErr, IsErrOf};
 ghost use Rattle.mcs_ports.specs.Causes.{Rose, HasCause};
@@ -10,10 +10,10 @@ use std::alloc::{AllocError, Global};
 use std::error::Error;
 use std::fmt;
 
-/// Why a file could not be read whole.
+/// Why a file was not read whole.
 #[derive(Clone, Copy, Debug, PartialEq, Eq)]
 pub enum ReadAnswer {
-    /// The shelf failed; a file that is not there is such a failure.
+    /// The shelf failed. This includes a file that does not exist.
     Fault,
     /// The file is longer than the limit.
     TooLong,
@@ -41,15 +41,15 @@ impl From<AllocError> for ReadAnswer {
     }
 }
 
-// The most bytes that one read asks for.
+// The greatest number of bytes that one read asks for.
 const PIECE: usize = 4096;
 
-/// Reads the file of this name whole, if it has at most `limit` bytes, which may be any number.
+/// Reads the file with this name whole, if it has at most `limit` bytes. The limit may be any number.
 ///
-/// `Fault` comes only where the shelf's count of faults rose, as it does where the file is not there; of a file
-/// that is there, only where its count of failures rose too.
-/// `TooLong` comes exactly where the file has more than `limit` bytes; one more than those is read.
-/// `Memory` comes where memory ran out. Whatever the answer, no more than `limit + 1` bytes are taken.
+/// `Fault` is returned only if the shelf's count of faults rose, as it does if the file does not exist. For a file that
+/// exists its count of failures rose too. `TooLong` is returned exactly if the file has more than `limit` bytes; one
+/// byte more than the limit is then read. `Memory` is returned if memory ran out. In each case at most `limit + 1`
+/// bytes are read.
 pub fn read_whole<H: Shelf>(
     alloc: Global,
     shelf: &mut H,
@@ -63,7 +63,7 @@ pub fn read_whole<H: Shelf>(
     ensures same_held { H.held shelf.new ≡ H.held shelf.old }
     ensures tells { is_some (H.left shelf.new) ≡ is_some (H.left shelf.old) }
 
-    // Where the shelf tells what it holds, the answer is the file's, and says when it is refused.
+    // If the shelf reports what it holds, the result is that of the file, and there is a cause if it is refused.
     ensures whole { IfOk result (λ bytes. IfSome (H.held shelf.old)
         (λ files. files name.now ≡ Some bytes.items)) }
     ensures too_long { IsErrOf result ReadAnswer.TooLong → IfSome (H.held shelf.old)
@@ -88,7 +88,7 @@ pub fn read_whole<H: Shelf>(
     read_rest(alloc, shelf, limit)
 }
 
-// Reads what is left of the open file, if that is at most `limit` bytes.
+// Reads what is left of the open file, if this is at most `limit` bytes.
 fn read_rest<H: Shelf>(alloc: Global, shelf: &mut H, limit: usize) -> Result<Vec<u8>, ReadAnswer>
     ensures later { H.faults shelf.old ≤ H.faults shelf.new }
     ensures failures_later { H.failures shelf.old ≤ H.failures shelf.new }
@@ -119,10 +119,10 @@ fn read_rest<H: Shelf>(alloc: Global, shelf: &mut H, limit: usize) -> Result<Vec
     }
 }
 
-/// Writes the piece whole. It takes no memory.
+/// Writes the piece whole. No memory is needed.
 ///
-/// `Failed` comes only where the sink's count of faults rose; then a front of the piece was written. Where it is written
-/// whole, no write failed: the count is as before.
+/// `Failed` is returned only if the sink's count of faults rose; then a prefix of the piece was written. If the piece
+/// was written whole, no write failed, and the count is as before.
 pub fn write_whole<K: Sink>(sink: &mut K, bytes: &[u8]) -> Result<(), Failed>
     ensures cause { HasCause (K.device sink.old).faults (K.device sink.new).faults result }
     ensures quiet { OnOk result ((K.device sink.new).faults ≡ (K.device sink.old).faults) }

@@ -1,4 +1,4 @@
-//! The job that what is given asks for.
+//! The job that the words ask for, once they are sorted.
 
 ghost use Rattle.std.specs.Prelude.{◌≡◌, ◌∷◌, [], ◌≤◌, ℕ, MatchOption, MatchResult, IfSome, string_bytes};
 ghost use Rattle.std.specs.Bool.{MatchBool};
@@ -14,10 +14,11 @@ use crate::task::{Task, task_of};
 use mcs_base::number;
 use std::alloc::Global;
 
-/// The greatest number that a generated system has.
+/// The greatest number of a generated system.
 const MOST_MADE: u64 = 4_294_967_295;
 
-/// The job that these ask for.
+/// The job that the given words and values ask for. `Usage` is returned exactly if they ask for none, unless `Memory` is
+/// returned in its place.
 pub(crate) fn job(alloc: Global, given: &Given) -> Result<Job, WordsFault>
     ensures { MatchResult result
         (λ job. AsksFor (command_of given.now) (request_of job))
@@ -62,7 +63,7 @@ pub(crate) fn job(alloc: Global, given: &Given) -> Result<Job, WordsFault>
     }
 }
 
-/// The budget and the number of workers.
+/// The budget and the number of workers, if both are in their range.
 fn numbers(given: &Given) -> Option<(u64, u32)>
     ensures { MatchOption result
         ((budget workers : ℕ) → IsChosen Budget (listed given.now.budget) budget → ¬ IsChosen Workers (listed given.now.workers) workers)
@@ -73,7 +74,8 @@ fn numbers(given: &Given) -> Option<(u64, u32)>
     Some((budget, workers as u32))
 }
 
-/// The number of an option with this value, or its default.
+/// The number that this value of the option denotes, or the default if there is no value; `None` if it is not in the
+/// range.
 fn chosen(setting: Setting, value: Option<&str>) -> Option<u64>
     ensures number { MatchOption result
         ((n : ℕ) → ¬ IsChosen setting (listed value.entry) n) (λ n. IsChosen setting (listed value.entry) n) }
@@ -85,7 +87,7 @@ fn chosen(setting: Setting, value: Option<&str>) -> Option<u64>
     }
 }
 
-/// The file, where no report stands after it.
+/// The file, if no report follows it.
 fn one_file(alloc: Global, given: &Given) -> Result<String, WordsFault>
     ensures { MatchResult result
         (λ file. (targets_of given.now ≡ string_bytes file ∷ []) × IsFile (string_bytes file))
@@ -97,7 +99,7 @@ fn one_file(alloc: Global, given: &Given) -> Result<String, WordsFault>
     }
 }
 
-/// The file and the report.
+/// The file and the report, if both can name a file.
 fn two_files(alloc: Global, given: &Given) -> Result<(String, String), WordsFault>
     ensures { MatchResult result
         (λ p. (targets_of given.now ≡ string_bytes p.0 ∷ string_bytes p.1 ∷ []) × IsFile (string_bytes p.0) × IsFile (string_bytes p.1))
@@ -111,7 +113,7 @@ fn two_files(alloc: Global, given: &Given) -> Result<(String, String), WordsFaul
     Ok((file, report))
 }
 
-/// The number, where no report stands after it.
+/// The number, if no report follows it.
 fn one_number(given: &Given) -> Result<u64, WordsFault>
     ensures { MatchResult result
         (λ n. (targets_of given.now ≡ given.now.file.now ∷ []) × IsNumber 0 most_made given.now.file.now n)
@@ -123,7 +125,7 @@ fn one_number(given: &Given) -> Result<u64, WordsFault>
     number(given.file.as_bytes(), 0, MOST_MADE).ok_or(WordsFault::Usage)
 }
 
-/// The word, as the name of a file.
+/// The word as the name of a file.
 fn file_named(alloc: Global, word: &str) -> Result<String, WordsFault>
     ensures { MatchResult result
         (λ file. (string_bytes file ≡ word.now) × IsFile word.now)

@@ -1,4 +1,4 @@
-//! What the words give, before it is known whether that is a job.
+//! The words as clap sorts them, before it is decided whether they ask for a job.
 
 ghost use Rattle.std.specs.Prelude.{◌≡◌, Some, MatchResult};
 ghost use Rattle.clap.specs.Words.{kind_of};
@@ -11,7 +11,7 @@ use clap::Error;
 use clap::error::ErrorKind;
 use std::alloc::Global;
 
-/// The plain words, the values of the options, and whether the flag stands.
+/// The plain words, the values of the options, and whether the flag is given.
 #[derive(Clone, Copy)]
 pub(crate) struct Given<'a> {
     pub(crate) job: &'a str,
@@ -22,7 +22,7 @@ pub(crate) struct Given<'a> {
     pub(crate) proof: bool,
 }
 
-/// What clap reads from words that it takes, so only memory can be wanting.
+/// What clap reads from the words. These have to be words that it accepts, so the only fault is want of memory.
 pub(crate) fn given_by<'a>(alloc: Global, words: &'a [String]) -> Result<Given<'a>, WordsFault>
     requires { IsWholeReading (texts_of words.now) }
     ensures { MatchResult result (λ g. read (texts_of words.entry.now) Place.Open ≡ Some (command_of g)) (λ fault. fault ≡ WordsFault.Memory) }
@@ -47,7 +47,7 @@ pub(crate) fn given_by<'a>(alloc: Global, words: &'a [String]) -> Result<Given<'
     })
 }
 
-/// What an error of clap comes to.
+/// The fault for an error of clap.
 fn fault_of(error: &Error) -> WordsFault
     ensures { kind_of error.now ≡ ErrorKind.OutOfMemory → result ≡ WordsFault.Memory }
 {

@@ -1,34 +1,34 @@
-//! The jobs, and why words are none.
+//! The jobs, and why words ask for none.
 
 ghost use Rattle.std.specs.Prelude.{◌≡◌};
 ghost use Rattle.mcs_words.specs.declared.job.WordsFault.TheVariants.{Memory};
 
 use std::alloc::AllocError;
 
-/// What the program is asked to do. The names of files are not empty and not `-`. A budget, of questions that the run
-/// may ask, is 1 to 4,294,967,295; a number of workers, of threads, is 1 to 64.
+/// A job of the program. Names of files are not empty and not `-`. A budget (the greatest number of questions of the
+/// run) is 1 to 4,294,967,295. A number of workers (threads) is 1 to 64.
 #[derive(Debug, Drop, PartialEq, Eq)]
 pub enum Job {
-    /// To list the equilibria of the system that the file has.
+    /// To list the equilibria of the system in the file.
     Equilibria {
         file: String,
         budget: u64,
         workers: u32,
     },
-    /// To list the equilibria, the minimal diagnoses and the minimal explanations of the system that the file
-    /// has, and to add their proof or not.
+    /// To list the equilibria, minimal diagnoses and minimal explanations of the system in the file, with or without a
+    /// proof.
     Solve {
         file: String,
         budget: u64,
         workers: u32,
         proof: bool,
     },
-    /// To judge the report, which is a file too, on the system that the file has.
+    /// To check the report, which is a file too, against the system in the file.
     Check {
         file: String,
         report: String,
     },
-    /// To solve the system that is generated for the number, which is at most 4,294,967,295.
+    /// To solve the system generated for the number, which is at most 4,294,967,295.
     Make {
         number: u64,
         budget: u64,
@@ -36,10 +36,10 @@ pub enum Job {
     },
 }
 
-/// Why words give no job.
+/// Why words ask for no job.
 #[derive(Clone, Copy, Debug, PartialEq, Eq)]
 pub enum WordsFault {
-    /// They ask for none.
+    /// The words ask for no job.
     Usage,
     /// Memory ran out.
     Memory,

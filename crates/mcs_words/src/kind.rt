@@ -1,4 +1,4 @@
-//! What a word before the first `--` is.
+//! The kinds of words before the first `--`.
 
 ghost use Rattle.std.specs.Prelude.{◌≡◌, is_some};
 ghost use Rattle.mcs_words.specs.Commands.{begins_with_dash};
@@ -6,7 +6,7 @@ ghost use Rattle.mcs_words.specs.Reading.{after, kind, IsKindSeen};
 
 use crate::setting::Setting;
 
-/// What a word is that stands before the first `--` and is no option's value.
+/// The kind of a word that is before the first `--` and is no option's value.
 #[derive(Clone, Copy)]
 pub(crate) enum Kind {
     /// `--`: each word after it is plain.
@@ -33,14 +33,14 @@ pub(crate) fn begins_with_dash(word: &str) -> bool
     }
 }
 
-/// Whether the word begins with the front.
+/// Whether the word begins with `front`.
 fn has_front(word: &str, front: &str) -> bool
     ensures { result ≡ is_some (after front.now word.now) }
 {
     word.as_bytes().starts_with(front.as_bytes())
 }
 
-/// What the word is.
+/// The kind of the word.
 #[tactic(auto, unfolding(crate::specs::Reading::kind))]
 pub(crate) fn kind_of(word: &str) -> Kind
     ensures { IsKindSeen result (kind word.now) }

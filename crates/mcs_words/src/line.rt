@@ -1,4 +1,4 @@
-//! The command line, as clap is told of it.
+//! The command line, as it is described to clap.
 
 ghost use Rattle.std.specs.Prelude.{◌≡◌, IfOk};
 ghost use Rattle.clap.specs.Words.{app_of};
@@ -7,7 +7,7 @@ ghost use Rattle.mcs_words.specs.Line.{line, plain_line, bare_line};
 use clap::{Arg, ArgAction, Command};
 use std::alloc::{AllocError, Global};
 
-/// The command with no arguments yet.
+/// The command without arguments.
 fn bare_line<'a>(alloc: Global) -> Command<'a>
     ensures { app_of result ≡ bare_line }
 {
@@ -16,7 +16,7 @@ fn bare_line<'a>(alloc: Global) -> Command<'a>
         .disable_help_flag(true)
 }
 
-/// The command with a job, a file and a report, which may be left out.
+/// The command with a job, a file and a report; each may be left out.
 fn plain_line<'a>(alloc: Global) -> Result<Command<'a>, AllocError>
     ensures { IfOk result (λ c. app_of c ≡ plain_line) }
 {
@@ -26,7 +26,7 @@ fn plain_line<'a>(alloc: Global) -> Result<Command<'a>, AllocError>
         .arg(Arg::new(alloc, "report"))
 }
 
-/// The command with the options `--budget` and `--workers` too, which take one text each, and the flag `--proof`.
+/// The command with the options `--budget` and `--workers` too, each with a text as its value, and the flag `--proof`.
 pub(crate) fn line<'a>(alloc: Global) -> Result<Command<'a>, AllocError>
     ensures { IfOk result (λ c. app_of c ≡ line) }
 {

@@ -12,26 +12,29 @@ use crate::setting::Setting;
 use crate::tally::Tally;
 use std::alloc::Global;
 
-/// Where a word stands.
+/// The position of a word among the others.
 #[derive(Clone, Copy)]
 pub(crate) enum Place {
     /// Before the first `--`.
     Open,
-    /// After the name of an option, whose value it is.
+    /// After the name of an option; the word is its value.
     Value(Setting),
     /// After the first `--`.
     Closed,
 }
 
-/// The job that the words ask for: `equilibria FILE`, `solve FILE`, `check FILE REPORT` or `make NUMBER`, with the
-/// options `--budget N` and `--workers N` and the flag `--proof` anywhere before `--`, each once at most; an option
-/// also as `--budget=N`. FILE and REPORT are not empty and not `-`. NUMBER and N are one or more digits: 0 to
-/// 4,294,967,295 for NUMBER, 1 to 4,294,967,295 for the budget, by default 100,000, and 1 to 64 for the workers, by
-/// default 1. After `--` every word is plain. The words are those after the program's name.
+/// The job that the words ask for. `words` are those after the program's name.
 ///
-/// Options and flag may stand for each job: for `check` they change nothing, and the flag changes `solve` alone.
+/// - The job is `equilibria FILE`, `solve FILE`, `check FILE REPORT` or `make NUMBER`.
+/// - The options `--budget N` and `--workers N` and the flag `--proof` may be anywhere before `--`, each at most once.
+///   An option may also be written `--budget=N`. After `--` every word is plain.
+/// - FILE and REPORT are not empty and not `-`.
+/// - NUMBER and N are one or more digits. NUMBER is 0 to 4,294,967,295. The budget is 1 to 4,294,967,295, by default
+///   100,000. The workers are 1 to 64, by default 1.
 ///
-/// `Usage` comes exactly where the words ask for no job.
+/// The options and the flag are allowed for each job. For `check` they change nothing; the flag changes `solve` alone.
+///
+/// `Usage` is returned exactly if the words ask for no job, unless `Memory` is returned in its place.
 pub fn read_words(alloc: Global, words: &[String]) -> Result<Job, WordsFault>
     ensures { MatchResult result
         (λ job. IsJobOf (texts_of words.now) (request_of job))
@@ -51,7 +54,7 @@ pub fn read_words(alloc: Global, words: &[String]) -> Result<Job, WordsFault>
     }
 }
 
-/// How many words of each sort there are. `None` exactly where one of them is at fault.
+/// How many words of each kind there are, or `None` exactly if one of them is wrong.
 fn tally(words: &[String]) -> Option<Tally>
     ensures { result ≡ option_map tally_of (read (texts_of words.now) Place.Open) }
 {
@@ -72,7 +75,7 @@ fn tally(words: &[String]) -> Option<Tally>
     }
 }
 
-/// One more word.
+/// Counts the next word, and returns the position of the one after it.
 fn take(tally: Tally, place: Place, word: &str) -> Option<(Tally, Place)>
     requires { total_of tally < 2 ^ 63 }
     ensures read { (rest : Place → Option Command) → MatchOption result (step place word.now rest ≡ None)
@@ -91,7 +94,7 @@ fn take(tally: Tally, place: Place, word: &str) -> Option<(Tally, Place)>
     }
 }
 
-/// One more word before the first `--`, which is no option's value.
+/// Counts the next word, which is before the first `--` and no option's value.
 fn take_open(tally: Tally, word: &str) -> Option<(Tally, Place)>
     requires { total_of tally < 2 ^ 63 }
     ensures read { (rest : Place → Option Command) → MatchOption result (open_step (kind word.now) word.now rest ≡ None)

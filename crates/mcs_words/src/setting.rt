@@ -6,21 +6,21 @@ ghost use Rattle.mcs_words.specs.Commands.{least_of, most_of, default_of};
 /// An option that takes a number.
 #[derive(Clone, Copy, Debug, PartialEq, Eq)]
 pub enum Setting {
-    /// `--budget`: how many questions a run may ask.
+    /// `--budget`: the greatest number of questions of a run.
     Budget,
-    /// `--workers`: how many threads work.
+    /// `--workers`: the number of threads.
     Workers,
 }
 
 impl Setting {
-    /// The least number that the option may have.
+    /// The least value of the option.
     pub(crate) fn least(self) -> u64
         ensures { result ≡ least_of self }
     {
         1
     }
 
-    /// The greatest number that the option may have.
+    /// The greatest value of the option.
     pub(crate) fn most(self) -> u64
         ensures { result ≡ most_of self }
     {
@@ -30,7 +30,7 @@ impl Setting {
         }
     }
 
-    /// The number of an option that is not there.
+    /// The value of the option if it is not given.
     pub(crate) fn default(self) -> u64
         ensures { result ≡ default_of self }
     {

@@ -1,11 +1,11 @@
-//! How many words of each sort there are.
+//! How many words of each kind there are.
 
 ghost use Rattle.std.specs.Prelude.{◌≡◌, ◌<◌, ◌^◌, ◌↔◌, IsTrue};
 ghost use Rattle.mcs_words.specs.Reading.{total_of, no_tally, more_plain, more_values, more_proofs, IsWholeTally};
 
 use crate::setting::Setting;
 
-/// How many plain words there are, how many values of each option, and how often the flag stands.
+/// How many plain words there are, how many values of each option, and how often the flag is given.
 #[derive(Clone, Copy)]
 pub(crate) struct Tally {
     plain: usize,
@@ -26,7 +26,7 @@ impl Tally {
         }
     }
 
-    /// One plain word more.
+    /// The counts with one more plain word.
     pub(crate) fn with_plain(self) -> Tally
         requires { total_of self < 2 ^ 63 }
         ensures { result ≡ more_plain self }
@@ -37,7 +37,7 @@ impl Tally {
         }
     }
 
-    /// One value more of the option.
+    /// The counts with one more value of the option.
     pub(crate) fn with_value(self, setting: Setting) -> Tally
         requires { total_of self < 2 ^ 63 }
         ensures { result ≡ more_values setting self }
@@ -54,7 +54,7 @@ impl Tally {
         }
     }
 
-    /// The flag once more.
+    /// The counts with one more flag.
     pub(crate) fn with_proof(self) -> Tally
         requires { total_of self < 2 ^ 63 }
         ensures { result ≡ more_proofs self }
@@ -65,7 +65,7 @@ impl Tally {
         }
     }
 
-    /// Whether there are a job, a file and no report or one, and each option and the flag once at most.
+    /// Whether there are a job, a file and at most one report, and each option and the flag at most once.
     pub(crate) fn is_whole(self) -> bool
         ensures { IsTrue result ↔ IsWholeTally self }
     {

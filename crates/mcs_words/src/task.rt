@@ -3,7 +3,7 @@
 ghost use Rattle.std.specs.Prelude.{◌≡◌, MatchOption};
 ghost use Rattle.mcs_words.specs.Reading.{task_name};
 
-/// What the first plain word asks for.
+/// The job that the first plain word names.
 #[derive(Clone, Copy)]
 pub(crate) enum Task {
     /// `equilibria`.
