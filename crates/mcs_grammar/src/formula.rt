@@ -1,4 +1,4 @@
-//! Formulas token by token.
+//! An operator-precedence parser of formulas, token by token.
 
 ghost use Rattle.std.specs.Prelude.{◌≡◌, min, IfOk, IsTrue, Option, List, is_some};
 ghost use Rattle.mcs_base.specs.Words.{is_name};
@@ -17,8 +17,8 @@ use mcs_system::{Formula, Name};
 use mcs_tokens::{Keyword, Sign, TokenKind, kind_of};
 use std::alloc::Global;
 
-/// The level of a conjunction, of a disjunction, of an implication and of an equivalence. A sign takes what stands before it
-/// up to a level.
+/// The levels of precedence of conjunction, disjunction, implication and equivalence, the tightest first. A connective
+/// takes as its left operand what precedes it, up to a level.
 const CONJUNCTION: u8 = 1;
 
 const DISJUNCTION: u8 = 2;
@@ -27,7 +27,8 @@ const IMPLICATION: u8 = 3;
 
 const EQUIVALENCE: u8 = 4;
 
-/// What waits for an operand that is still to come: a sign, with what stands before it, or an opened parenthesis.
+/// An entry of the parser's stack, which waits for an operand: `~`, an opened parenthesis, or a connective with its
+/// left operand.
 #[derive(Drop)]
 pub enum Pending {
     Tilde,
@@ -38,31 +39,32 @@ pub enum Pending {
     Iff(Formula),
 }
 
-/// What the reader of a formula says to a token.
+/// What the parser does with a token.
 #[derive(Clone, Copy, Debug, PartialEq, Eq)]
 pub enum Answer {
-    /// The token is the formula's next one.
+    /// The token continues the formula.
     Taken,
-    /// The formula does not go on with the token.
+    /// The formula can't continue with the token.
     Refused,
     /// The token would be an atom, but it is longer than a name may be.
     TooLong,
 }
 
-/// A formula of which some tokens were read.
+/// A parser of a formula, after some of its tokens.
 #[derive(Drop)]
 pub struct FormulaReader {
-    /// What waits, the last one last.
+    /// The stack; the last entry is on its top.
     pub pending: Vec<Pending>,
     pub operand: Option<Formula>,
-    /// How many of the tokens are no parentheses; the highest number also where there are more.
+    /// How many of the tokens are not parentheses, up to the greatest number.
     pub counted: usize,
     /// How many parentheses are open.
     pub opened: usize,
 }
 
 impl Pending {
-    /// The level of what it makes: 0 for a denial, then conjunction to equivalence; a parenthesis is above all.
+    /// The level of the formula that the entry forms: 0 for a negation, then conjunction to equivalence. A parenthesis
+    /// has the highest level.
     fn level(&self) -> u8
         ensures { result ≡ waiting_level (waiting_of self.now) }
     {
@@ -76,7 +78,7 @@ impl Pending {
         }
     }
 
-    /// The operand joined with what waited for it.
+    /// The formula that the entry forms with its operand.
     fn join(self, alloc: Global, operand: Formula) -> Result<Formula, Memory>
         ensures { IfOk result (λ f. formula_of f ≡ made (waiting_of self) (formula_of operand)) }
     {
@@ -116,7 +118,8 @@ fn boxed(
     Ok((left, right))
 }
 
-/// A primary, and what it completes of what waits: denials, and a conjunction.
+/// Gives a primary as the operand to the entries on the top of the stack: negations, and then a conjunction if one is
+/// next. Returns the formula that is formed.
 fn settle(alloc: Global, pending: &mut Vec<Pending>, primary: Formula) -> Result<Formula, Memory>
     ensures { (ps : List written.Pending) (w : Written) → AreStacked pending.old.items ps → formula_of primary ≡ formula_in w → IfOk result (λ f. AreImages pending.new.items (Some f) (settle ps w)) }
 {
@@ -135,7 +138,8 @@ fn settle(alloc: Global, pending: &mut Vec<Pending>, primary: Formula) -> Result
     Ok(operand)
 }
 
-/// What waits at levels up to `most`, up to a parenthesis, gets its operand.
+/// Gives the operand to the entries on the top of the stack whose level is at most `most`, up to a parenthesis. Returns
+/// the formula that is formed.
 fn reduce(
     alloc: Global,
     pending: &mut Vec<Pending>,
@@ -156,7 +160,7 @@ fn reduce(
 }
 
 impl FormulaReader {
-    /// Nothing was read yet.
+    /// The parser before the first token.
     pub fn new(alloc: Global) -> FormulaReader
         ensures { IsReader result no_formula }
     {
@@ -168,7 +172,7 @@ impl FormulaReader {
         }
     }
 
-    /// How many tokens were read that are no parentheses; the highest number also where there are more.
+    /// How many tokens were read that are not parentheses, up to the greatest number.
     pub fn counted(&self) -> usize
         ensures { (s : PartFormula) → IsReader self.now s → result ≡ min (size_so_far s) most_counted }
     {
@@ -182,14 +186,14 @@ impl FormulaReader {
         self.opened
     }
 
-    /// Whether a whole primary was read, and nothing else.
+    /// Whether what was read is exactly one primary.
     pub fn is_primary(&self) -> bool
         ensures { (s : PartFormula) → IsReader self.now s → result ≡ is_some (finished_primary s) }
     {
         self.pending.is_empty() && self.operand.is_some()
     }
 
-    /// One thing more waits for an operand.
+    /// Pushes an entry on the stack.
     fn wait(&mut self, waiting: Pending) -> Result<Answer, Memory>
         ensures answer { IfOk result (λ a. a ≡ Answer.Taken) }
         ensures waits { IfOk result (λ _. IsWaitingMore self.old self.new waiting) }
@@ -199,7 +203,7 @@ impl FormulaReader {
         Ok(Answer::Taken)
     }
 
-    /// One more parenthesis is open.
+    /// Opens a parenthesis.
     fn open(&mut self) -> Result<Answer, Memory>
         ensures answer { IfOk result (λ a. a ≡ Answer.Taken) }
         ensures waits { (s : PartFormula) → IsReader self.old s → self.old.operand ≡ None → IfOk result (λ _. IsReader self.new (waits s.pending Parenthesis)) }
@@ -209,7 +213,7 @@ impl FormulaReader {
         Ok(Answer::Taken)
     }
 
-    /// A primary, which completes what waits for it.
+    /// Takes a primary as the operand of the entries that it completes.
     fn hold(&mut self, alloc: Global, primary: Formula) -> Result<Answer, Memory>
         ensures answer { IfOk result (λ a. a ≡ Answer.Taken) }
         ensures images { (ps : List written.Pending) (w : Written) → AreStacked self.old.pending.items ps → formula_of primary ≡ formula_in w → IfOk result (λ _. AreImages self.new.pending.items self.new.operand (settle ps w)) }
@@ -219,7 +223,7 @@ impl FormulaReader {
         Ok(Answer::Taken)
     }
 
-    /// A primary of one token.
+    /// Takes a primary of one token.
     fn take_primary(&mut self, alloc: Global, primary: Formula) -> Result<Answer, Memory>
         ensures answer { IfOk result (λ a. a ≡ Answer.Taken) }
         ensures reader { (s : PartFormula) (w : Written) → IsReader self.old s → self.old.operand ≡ None → formula_of primary ≡ formula_in w → size_of w ≡ 1 → IfOk result (λ _. IsReader self.new (settle s.pending w)) }
@@ -228,7 +232,7 @@ impl FormulaReader {
         self.hold(alloc, primary)
     }
 
-    /// A sign where an operand has to come.
+    /// Takes a sign where an operand is expected.
     fn take_opening(&mut self, sign: Sign) -> Result<Answer, Memory>
         requires { self.old.operand ≡ None }
         ensures { (s : PartFormula) → IsReader self.old s → IfOk result (λ a. IsAnswer a self.old self.new s (sign_bytes sign)) }
@@ -240,7 +244,7 @@ impl FormulaReader {
         }
     }
 
-    /// A reserved word where an operand has to come.
+    /// Takes a reserved word where an operand is expected.
     fn take_truth(&mut self, alloc: Global, keyword: Keyword) -> Result<Answer, Memory>
         requires { self.old.operand ≡ None }
         ensures { (s : PartFormula) → IsReader self.old s → IfOk result (λ a. IsAnswer a self.old self.new s (keyword_bytes keyword)) }
@@ -252,7 +256,7 @@ impl FormulaReader {
         }
     }
 
-    /// An atom where an operand has to come.
+    /// Takes an atom where an operand is expected.
     fn take_name(&mut self, alloc: Global, token: &[u8]) -> Result<Answer, Memory>
         requires none { self.old.operand ≡ None }
         requires name { IsTrue (is_name token.now) }
@@ -264,7 +268,7 @@ impl FormulaReader {
         }
     }
 
-    /// A token where an operand has to come.
+    /// Takes a token where an operand is expected.
     fn take_operand(
         &mut self,
         alloc: Global,
@@ -284,7 +288,7 @@ impl FormulaReader {
         }
     }
 
-    /// The operand is held as before.
+    /// Refuses a token; the operand is kept.
     fn refuse(&mut self, operand: Formula) -> Answer
         ensures answer { result ≡ Answer.Refused }
         ensures same { self.new ≡ record self.old { operand = Some operand } }
@@ -293,7 +297,7 @@ impl FormulaReader {
         Answer::Refused
     }
 
-    /// The last parenthesis closes, if one is open.
+    /// Closes the innermost parenthesis, if one is open.
     fn close(&mut self, alloc: Global, operand: Formula) -> Result<Answer, Memory>
         requires { self.old.operand ≡ None }
         ensures { (s : PartFormula) → IsReader (record self.old { operand = Some operand }) s → IfOk result (λ a. IsAnswer a (record self.old { operand = Some operand }) self.new s (sign_bytes Sign.CloseParenthesis)) }
@@ -307,7 +311,7 @@ impl FormulaReader {
         self.hold(alloc, inner)
     }
 
-    /// A sign after an operand.
+    /// Takes a sign after an operand.
     fn take_sign(&mut self, alloc: Global, sign: Sign, operand: Formula) -> Result<Answer, Memory>
         requires { self.old.operand ≡ None }
         ensures { (s : PartFormula) → IsReader (record self.old { operand = Some operand }) s → IfOk result (λ a. IsAnswer a (record self.old { operand = Some operand }) self.new s (sign_bytes sign)) }
@@ -334,8 +338,8 @@ impl FormulaReader {
         }
     }
 
-    /// The next token, if the formula goes on with it; and otherwise nothing changes. Where memory runs out, the reader is
-    /// of no more use.
+    /// Takes the next token, if the formula can continue with it; otherwise nothing changes. If memory runs out, the
+    /// parser can't be used any more.
     pub fn take(&mut self, alloc: Global, token: &[u8]) -> Result<Answer, Memory>
         ensures { (s : PartFormula) → IsReader self.old s → IfOk result (λ a. IsAnswer a self.old self.new s token.now) }
     {
@@ -349,7 +353,7 @@ impl FormulaReader {
         }
     }
 
-    /// The formula, if its last token was read.
+    /// The formula, if what was read is a whole one.
     pub fn finish(self, alloc: Global) -> Result<Option<Formula>, Memory>
         ensures { (s : PartFormula) → IsReader self s → IfOk result (λ o. IsImage o (finished s)) }
     {

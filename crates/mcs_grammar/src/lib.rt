@@ -1,4 +1,5 @@
-//! The grammar of system texts: what is written, what that says, which faults it has; and formulas, read token by token.
+//! The grammar of system texts: the tokens of a text, the system that it denotes, and its faults; and a parser of
+//! formulas, token by token.
 #![tactic(auto)]
 
 mod formula;

@@ -21,7 +21,7 @@ use mcs_system::{Formula, Name};
 use mcs_tokens::{Keyword, Sign};
 use std::alloc::Global;
 
-/// Where the name of a rule has to come.
+/// The step of a token where the name of a bridge rule is expected.
 pub(crate) fn bridge_name(alloc: Global, token: &[u8]) -> Result<Step, Memory>
     ensures { (s : PartText) → IfOk result (λ step. IsStep step no_subject s token.now (written.step_at s token.now BridgeName)) }
 {
@@ -35,7 +35,7 @@ pub(crate) fn bridge_name(alloc: Global, token: &[u8]) -> Result<Step, Memory>
     })
 }
 
-/// After the name.
+/// The step of a token after the name of the rule.
 pub(crate) fn bridge_colon(name: Name, token: &[u8]) -> Step
     ensures { (s : PartText) → IsStep result no_subject s token.now (written.step_at s token.now (BridgeColon name)) }
 {
@@ -45,7 +45,7 @@ pub(crate) fn bridge_colon(name: Name, token: &[u8]) -> Step
     Step::Refused
 }
 
-/// Where the name of the head's context has to come.
+/// The step of a token where the name of the head's context is expected.
 pub(crate) fn head_context(alloc: Global, name: Name, token: &[u8]) -> Result<Step, Memory>
     ensures { (s : PartText) → IfOk result (λ step. IsStep step no_subject s token.now (written.step_at s token.now (HeadContext name))) }
 {
@@ -59,7 +59,7 @@ pub(crate) fn head_context(alloc: Global, name: Name, token: &[u8]) -> Result<St
     })
 }
 
-/// After the name of the head's context.
+/// The step of a token after the name of the head's context.
 pub(crate) fn head_colon(alloc: Global, name: Name, context: Name, token: &[u8]) -> Step
     ensures { (s : PartText) → IsStep result no_subject s token.now (written.step_at s token.now (HeadColon name context)) }
 {
@@ -77,7 +77,7 @@ pub(crate) fn head_colon(alloc: Global, name: Name, context: Name, token: &[u8])
     Step::Refused
 }
 
-/// After the head.
+/// The step of a token after the head.
 pub(crate) fn after_head(bridge: NamedBridge, token: &[u8]) -> Step
     ensures { (s : PartText) (w : WrittenBridge) → IsBridge bridge w → IsStep result no_subject s token.now (written.after_head s w token.now) }
 {
@@ -90,7 +90,7 @@ pub(crate) fn after_head(bridge: NamedBridge, token: &[u8]) -> Step
     Step::Refused
 }
 
-/// Where the name of the context has to come that is read, after `not` or without it.
+/// The step of a token where the name of the context of a read is expected, with or without `not` before it.
 pub(crate) fn read_context(
     alloc: Global,
     bridge: NamedBridge,
@@ -126,7 +126,7 @@ pub(crate) fn read_context(
     }
 }
 
-/// Where a read has to come.
+/// The step of a token where a read is expected.
 pub(crate) fn next_read(alloc: Global, bridge: NamedBridge, token: &[u8]) -> Result<Step, Memory>
     ensures { (s : PartText) (w : WrittenBridge) → IsBridge bridge w → IfOk result (λ step. IsStep step no_subject s token.now (written.next_read s w token.now)) }
 {
@@ -136,7 +136,7 @@ pub(crate) fn next_read(alloc: Global, bridge: NamedBridge, token: &[u8]) -> Res
     read_context(alloc, bridge, false, token)
 }
 
-/// After the name of the context that is read.
+/// The step of a token after the name of the context of a read.
 pub(crate) fn read_colon(
     alloc: Global,
     bridge: NamedBridge,
@@ -161,7 +161,7 @@ pub(crate) fn read_colon(
     Step::Refused
 }
 
-/// After a read.
+/// The step of a token after a read.
 pub(crate) fn after_read(
     bridge: NamedBridge,
     denied: bool,
@@ -181,7 +181,7 @@ pub(crate) fn after_read(
     Ok(Step::Refused)
 }
 
-/// What the token is there for within the belief, if the belief goes on with it.
+/// The uses of the token within the belief, if the belief can continue with it.
 fn belief_uses(belief: &FormulaReader, token: &[u8]) -> Uses
     ensures role { (c : plain.Name) (s : PartFormula) (r : Entry × PartFormula) → IsReader belief.now s → formula_step c s token.now ≡ Some r → map capped (r.0).uses ≡ role_uses (about_context c) token.now result.role }
     ensures first { (c : plain.Name) (s : PartFormula) → IsReader belief.now s → first_of_belief c s ≡ when result.begins_belief (BeginsBelief c) }
@@ -195,7 +195,7 @@ fn belief_uses(belief: &FormulaReader, token: &[u8]) -> Uses
     }
 }
 
-/// Within a head.
+/// The step of a token within a head.
 pub(crate) fn in_head(
     alloc: Global,
     name: Name,
@@ -223,7 +223,7 @@ pub(crate) fn in_head(
     }
 }
 
-/// The head with one token more: it ends with the primary.
+/// The step of a token that continues a head. The head ends once a whole primary was read.
 fn head_goes_on(
     alloc: Global,
     name: Name,
@@ -257,7 +257,7 @@ fn head_goes_on(
     Ok(Step::Moves { place, uses })
 }
 
-/// Whether nothing waits any more after one primary more, which completes denials and the conjunction before them.
+/// Whether the stack is empty after one more primary, which completes negations and a conjunction before them.
 fn waits_for_one(belief: &FormulaReader) -> bool
     ensures { (s : PartFormula) (w : Written) → IsReader belief.now s → result ≡ is_some (finished_primary (settle s.pending w)) }
 {
@@ -275,7 +275,7 @@ fn waits_for_one(belief: &FormulaReader) -> bool
     true
 }
 
-/// The rule with one read more.
+/// The rule with one more read.
 fn with_read(bridge: NamedBridge, denied: bool, read: NamedRead) -> Result<NamedBridge, Memory>
     ensures { (w : WrittenBridge) (v : Written) → IsBridge bridge w → formula_of read.belief ≡ formula_in v → IfOk result (λ more. IsBridge more (with_read w (part_read denied read.context) v)) }
 {
@@ -300,7 +300,7 @@ fn with_read(bridge: NamedBridge, denied: bool, read: NamedRead) -> Result<Named
     })
 }
 
-/// Within a belief that is read.
+/// The step of a token within a belief that is read.
 pub(crate) fn in_read(
     alloc: Global,
     bridge: NamedBridge,
@@ -333,7 +333,7 @@ pub(crate) fn in_read(
     }
 }
 
-/// The read with one token more: it ends with the primary.
+/// The step of a token that continues a read. The read ends once a whole primary was read.
 fn read_goes_on(
     alloc: Global,
     bridge: NamedBridge,

@@ -14,7 +14,7 @@ use mcs_system::{Context, Kb, Name};
 use mcs_tokens::{Keyword, Sign};
 use std::alloc::Global;
 
-/// Between contexts and rules; after a rule there is no context any more.
+/// The step of a token between contexts and rules. After a bridge rule no further context may come.
 pub(crate) fn between(no_bridges: bool, token: &[u8]) -> Step
     ensures { (s : PartText) → no_bridges ≡ nat_eq (length s.bridges) 0 → IsStep result no_subject s token.now (written.between s token.now) }
 {
@@ -27,7 +27,7 @@ pub(crate) fn between(no_bridges: bool, token: &[u8]) -> Step
     Step::Refused
 }
 
-/// Where the name of a context has to come.
+/// The step of a token where the name of a context is expected.
 pub(crate) fn context_name(alloc: Global, token: &[u8]) -> Result<Step, Memory>
     ensures { (s : PartText) → IfOk result (λ step. IsStep step no_subject s token.now (written.step_at s token.now ContextName)) }
 {
@@ -41,7 +41,7 @@ pub(crate) fn context_name(alloc: Global, token: &[u8]) -> Result<Step, Memory>
     })
 }
 
-/// An empty context.
+/// The step with which an empty context begins.
 fn opened(name: Name, kb: Kb, role: Role) -> Step
     ensures { result ≡ Step.Moves (Place.OpenBrace (record { name = name; kb = kb })) (only role) }
 {
@@ -53,7 +53,7 @@ fn opened(name: Name, kb: Kb, role: Role) -> Step
     )
 }
 
-/// Where the word of the kind has to come.
+/// The step of a token where the kind of the context is expected.
 pub(crate) fn kind_word(alloc: Global, name: Name, token: &[u8]) -> Step
     ensures { (s : PartText) → IsStep result (of_context name) s token.now (written.step_at s token.now (KindWord name)) }
 {
@@ -69,7 +69,7 @@ pub(crate) fn kind_word(alloc: Global, name: Name, token: &[u8]) -> Step
     Step::Refused
 }
 
-/// Where the brace has to come.
+/// The step of a token where the opening brace is expected.
 pub(crate) fn open_brace(context: Context, token: &[u8]) -> Step
     ensures { (s : PartText) (w : WrittenContext) → context_of context ≡ context_in w → IsStep result (of_context w.name) s token.now (written.step_at s token.now (OpenBrace w)) }
 {

@@ -21,7 +21,7 @@ use mcs_system::{Context, Default, Formula, Kb, TheoryItem};
 use mcs_tokens::Sign;
 use std::alloc::Global;
 
-/// What the token is there for within the formula, if the formula goes on with it.
+/// The role of the token within the formula, if the formula can continue with it.
 pub(crate) fn formula_role(formula: &FormulaReader, token: &[u8]) -> Role
     ensures { (c : Name) (s : PartFormula) (r : Entry × PartFormula) → IsReader formula.now s → formula_step c s token.now ≡ Some r → map capped (r.0).uses ≡ role_uses (about_context c) token.now result }
 {
@@ -60,7 +60,7 @@ fn is_program(context: &Context) -> bool
     }
 }
 
-/// The context with one formula more, or one fact.
+/// The context with one more formula or fact.
 fn with_fact(context: Context, fact: Formula) -> Result<Context, Memory>
     ensures { (w : WrittenContext) (v : Written) → context_of context ≡ context_in w → formula_of fact ≡ formula_in v → IfOk result (λ c. context_of c ≡ context_in (add_fact w v)) }
 {
@@ -82,7 +82,7 @@ fn with_fact(context: Context, fact: Formula) -> Result<Context, Memory>
     Ok(Context { name, kb })
 }
 
-/// The context with one default more.
+/// The context with one more default.
 fn with_default(context: Context, default: Default) -> Result<Context, Memory>
     ensures { (w : WrittenContext) (d : WrittenDefault) → context_of context ≡ context_in w → default_of default ≡ default_in d → IfOk result (λ c. context_of c ≡ context_in (add_default w d)) }
 {
@@ -100,7 +100,7 @@ fn with_default(context: Context, default: Default) -> Result<Context, Memory>
     Ok(Context { name, kb })
 }
 
-/// One justification more.
+/// The default with one more justification.
 fn with_just(default: PartDefault, just: Formula) -> Result<PartDefault, Memory>
     ensures { (d : written.PartDefault) (v : Written) → IsDefault default d → formula_of just ≡ formula_in v → IfOk result (λ more. IsDefault more (one_more_just d v)) }
 {
@@ -121,7 +121,7 @@ fn concluded(default: PartDefault, conclusion: Formula) -> Default
     }
 }
 
-/// After a whole fact or prerequisite.
+/// The step of a token after a whole fact or prerequisite.
 fn fact_ends(alloc: Global, context: Context, whole: Formula, token: &[u8]) -> Result<Step, Memory>
     ensures { (s : PartText) (w : WrittenContext) (v : Written) → context_of context ≡ context_in w → formula_of whole ≡ formula_in v → IfOk result (λ step. IsStep step (of_context w.name) s token.now (written.fact_ends s w token.now v)) }
 {
@@ -146,7 +146,7 @@ fn fact_ends(alloc: Global, context: Context, whole: Formula, token: &[u8]) -> R
     Ok(Step::Refused)
 }
 
-/// Within a fact or a prerequisite.
+/// The step of a token within a fact or a prerequisite.
 pub(crate) fn in_fact(
     alloc: Global,
     context: Context,
@@ -182,7 +182,7 @@ pub(crate) fn in_fact(
     }
 }
 
-/// After a whole justification.
+/// The step of a token after a whole justification.
 fn just_ends(
     alloc: Global,
     context: Context,
@@ -217,7 +217,7 @@ fn just_ends(
     Ok(Step::Refused)
 }
 
-/// Within a justification.
+/// The step of a token within a justification.
 pub(crate) fn in_just(
     alloc: Global,
     context: Context,
@@ -262,7 +262,7 @@ pub(crate) fn in_just(
     }
 }
 
-/// After a whole consequent.
+/// The step of a token after a whole consequent.
 fn conclusion_ends(
     context: Context,
     default: PartDefault,
@@ -280,7 +280,7 @@ fn conclusion_ends(
     Ok(Step::Refused)
 }
 
-/// Within a consequent.
+/// The step of a token within a consequent.
 pub(crate) fn in_conclusion(
     alloc: Global,
     context: Context,
@@ -325,7 +325,7 @@ pub(crate) fn in_conclusion(
     }
 }
 
-/// The first token of a formula of an item.
+/// The step of the first token of a formula of an item.
 fn first_of_formula(alloc: Global, context: Context, token: &[u8]) -> Result<Step, Memory>
     ensures { (s : PartText) (w : WrittenContext) → context_of context ≡ context_in w → IfOk result (λ step. IsStep step (of_context w.name) s token.now (written.first_of_formula s w token.now)) }
 {
@@ -350,7 +350,7 @@ fn first_of_formula(alloc: Global, context: Context, token: &[u8]) -> Result<Ste
     }
 }
 
-/// Where an item has to come, or the brace that ends the context.
+/// The step of a token where an item is expected, or the brace that ends the context.
 pub(crate) fn next_item(alloc: Global, context: Context, token: &[u8]) -> Result<Step, Memory>
     ensures { (s : PartText) (w : WrittenContext) → context_of context ≡ context_in w → IfOk result (λ step. IsStep step (of_context w.name) s token.now (written.next_item s w token.now)) }
 {

@@ -1,4 +1,4 @@
-//! Where a text stands after some of its tokens.
+//! The states of the parser, and what it reports of a token.
 
 ghost use Rattle.std.specs.Prelude.{◌≡◌, ◌+◌, min, IfOk};
 ghost use Rattle.std.specs.Str.{bytes_eq};
@@ -13,24 +13,24 @@ use mcs_system::{Context, Formula, Name, ProgRule};
 use mcs_tokens::{Keyword, Sign};
 use std::alloc::Global;
 
-/// Numbers of tokens are told up to here: one more than the first that is too high.
+/// Tokens are numbered up to this number; the first number that exceeds the limit is one less.
 const MOST_NUMBER: usize = 514;
 
-/// A default of which the prerequisite and some justifications are whole.
+/// A default whose prerequisite, and some of whose justifications, were read whole.
 #[derive(Drop)]
 pub struct PartDefault {
     pub pre: Formula,
     pub justs: Vec<Formula>,
 }
 
-/// A belief of the context of this name.
+/// A belief of a context that is given by its name.
 #[derive(Drop)]
 pub struct NamedRead {
     pub context: Name,
     pub belief: Formula,
 }
 
-/// A bridge rule that knows its contexts by their names.
+/// A bridge rule whose contexts are given by their names.
 #[derive(Drop)]
 pub struct NamedBridge {
     pub name: Name,
@@ -40,101 +40,119 @@ pub struct NamedBridge {
     pub neg: Vec<NamedRead>,
 }
 
-/// What was read last, and what has to come next.
+/// A state of the parser: what was read last, and what is expected next.
 #[derive(Drop)]
 pub enum Place {
-    /// A context, a rule, or the end.
+    /// A context, a bridge rule, or the end of the text is expected.
     Between,
-    /// Of a context: its name, its kind, the brace.
+    /// The name of a context is expected.
     ContextName,
+    /// The kind of the context is expected.
     KindWord {
         name: Name,
     },
+    /// The opening brace of the context is expected.
     OpenBrace {
         context: Context,
     },
-    /// An item, or the brace that ends the context.
+    /// An item is expected, or the brace that ends the context.
     NextItem {
         context: Context,
     },
-    /// Within a formula: a fact or a prerequisite, a justification, the consequent.
+    /// Within a fact or the prerequisite of a default.
     InFact {
         context: Context,
         formula: FormulaReader,
     },
+    /// Within a justification.
     InJust {
         context: Context,
         default: PartDefault,
         formula: FormulaReader,
     },
+    /// Within a consequent.
     InConclusion {
         context: Context,
         default: PartDefault,
         formula: FormulaReader,
     },
-    /// Of a program rule: after a name of its head, after `|`, after `:-`, after `,`, after `not`, after a literal.
+    /// In a program rule, after a name of its head.
     AfterHeadName {
         context: Context,
         head: Vec<Name>,
     },
+    /// In a program rule, after `|`: a name of the head is expected.
     NextHeadName {
         context: Context,
         head: Vec<Name>,
     },
+    /// In a program rule, after `:-`.
     AfterSign {
         context: Context,
         rule: ProgRule,
     },
+    /// In a program rule, after `,`: a literal is expected.
     NextLiteral {
         context: Context,
         rule: ProgRule,
     },
+    /// In a program rule, after `not`: an atom is expected.
     AfterNot {
         context: Context,
         rule: ProgRule,
     },
+    /// In a program rule, after a literal.
     AfterLiteral {
         context: Context,
         rule: ProgRule,
     },
-    /// Of a bridge rule: its name, the colon, the context's name, the colon, the head, what comes after it.
+    /// The name of a bridge rule is expected.
     BridgeName,
+    /// The colon after the name of the rule is expected.
     BridgeColon {
         name: Name,
     },
+    /// The name of the head's context is expected.
     HeadContext {
         name: Name,
     },
+    /// The colon after the name of the head's context is expected.
     HeadColon {
         name: Name,
         context: Name,
     },
+    /// Within the head.
     InHead {
         name: Name,
         context: Name,
         belief: FormulaReader,
     },
+    /// After the head.
     AfterHead {
         bridge: NamedBridge,
     },
-    /// Of a read: `not` or the context's name, the context's name, the colon, the belief, what comes after it: with that the read joins the rule.
+    /// A read is expected: `not`, or the name of a context.
     NextRead {
         bridge: NamedBridge,
     },
+    /// After `not`: the name of the context of the read is expected.
     ReadContext {
         bridge: NamedBridge,
     },
+    /// The colon after the name of the context of a read is expected.
     ReadColon {
         bridge: NamedBridge,
         denied: bool,
         context: Name,
     },
+    /// Within the belief of a read.
     InRead {
         bridge: NamedBridge,
         denied: bool,
         context: Name,
         belief: FormulaReader,
     },
+    /// After a read. With the next token it becomes a part of the rule.
     AfterRead {
         bridge: NamedBridge,
         denied: bool,
@@ -142,65 +160,72 @@ pub enum Place {
     },
 }
 
-/// What a token itself is there for.
+/// The role of a token by itself.
 #[derive(Clone, Copy)]
 pub enum Role {
-    /// A sign, or a word that only holds others apart.
+    /// A sign, or a word that only separates others.
     Nothing,
+    /// The word `context`.
     BeginsContext,
+    /// The word `bridge`.
     BeginsBridge,
-    /// It is the name of the context, or of the rule.
+    /// The name of a context, where it is introduced.
     NamesContext,
+    /// The name of a bridge rule, where it is introduced.
     NamesBridge,
+    /// The word `program`.
     SaysProgram,
+    /// The colon after a prerequisite, which makes the item a default.
     BeginsDefault,
-    /// It is the name of the context of a head, or of a read.
+    /// The name of the context of a head.
     NamesTarget,
+    /// The name of the context of a read.
     NamesSource,
-    /// It is an atom, and what number it has in its formula or its rule.
+    /// An atom, with its number in its formula or program rule.
     Atom { number: usize },
-    /// What number it has in its formula.
+    /// A token with its number in its formula.
     Counted { number: usize },
-    /// A parenthesis that is opened within so many others.
+    /// An opening parenthesis, with the number of those that are open before it.
     Opens { within: usize },
 }
 
-/// What one token is there for.
+/// The uses of one token.
 #[derive(Clone, Copy)]
 pub struct Uses {
     pub role: Role,
-    /// It is the first token of an item, or of a belief.
+    /// Whether it is the first token of an item.
     pub begins_item: bool,
+    /// Whether it is the first token of a belief or a head.
     pub begins_belief: bool,
-    /// It is the last token of a read.
+    /// Whether it is the last token of a read.
     pub ends_read: bool,
 }
 
-/// A token where a name has to come.
+/// What a token is where a name is expected.
 #[derive(Drop)]
 pub(crate) enum Word {
     Name(Name),
-    /// It would be a name, but it is longer than a name may be.
+    /// The token would be a name, but it is longer than a name may be.
     Long,
     Other,
 }
 
-/// What a token does.
+/// What the parser does with a token.
 #[derive(Drop)]
 pub(crate) enum Step {
-    /// It may not stand there.
+    /// The token can't come here.
     Refused,
-    /// The text goes on from the place.
+    /// The parser moves to the state.
     Moves { place: Place, uses: Uses },
-    /// It ends the context, or the rule.
+    /// The token ends the context.
     EndsContext { context: Context },
     EndsBridge { bridge: NamedBridge },
-    /// It would be a name, but it is longer than a name may be.
+    /// The token would be a name, but it is longer than a name may be.
     LongName { uses: Uses },
 }
 
 impl Uses {
-    /// Of a token that is there for this alone.
+    /// The uses of a token that has this role alone.
     pub(crate) fn only(role: Role) -> Uses
         ensures { result ≡ only role }
     {
@@ -212,7 +237,7 @@ impl Uses {
         }
     }
 
-    /// Of the first token of an item.
+    /// The uses of the first token of an item.
     pub(crate) fn first(role: Role) -> Uses
         ensures { result ≡ first role }
     {
@@ -226,7 +251,7 @@ impl Uses {
 }
 
 impl Step {
-    /// The same, and the token is the first of an item.
+    /// The parser moves to the state; the token has this role and is the first of an item.
     pub(crate) fn begins(place: Place, role: Role) -> Step
         ensures { result ≡ Step.Moves place (first role) }
     {
@@ -236,7 +261,7 @@ impl Step {
         }
     }
 
-    /// The text goes on from the place, and the token is there for this alone.
+    /// The parser moves to the state; the token has this role alone.
     pub(crate) fn goes(place: Place, role: Role) -> Step
         ensures { result ≡ Step.Moves place (only role) }
     {
@@ -247,7 +272,7 @@ impl Step {
     }
 }
 
-/// The number of the token that comes after so many.
+/// The number of the token after `before` others.
 pub(crate) fn number_after(before: usize) -> usize
     ensures { result ≡ min (before + 1) most_number }
 {
@@ -257,7 +282,7 @@ pub(crate) fn number_after(before: usize) -> usize
     before + 1
 }
 
-/// Whether the token is a word that is not reserved, however long it is.
+/// Whether the token is a word that is not reserved, of any length.
 pub fn is_name_word(token: &[u8]) -> bool
     ensures { result ≡ is_name_word token.now }
 {

@@ -1,4 +1,4 @@
-//! The reader of a text: its contexts and rules, token by token.
+//! The parser of a text: its contexts and bridge rules, token by token.
 
 ghost use Rattle.std.specs.Prelude.{◌≡◌, nat_eq, length, IfOk, MatchOption, Some, None};
 ghost use Rattle.mcs_reader.specs.TextSteps as written;
@@ -21,23 +21,23 @@ use mcs_system::Context;
 use std::alloc::Global;
 use std::mem;
 
-/// A text of which some tokens were read.
+/// A parser of a text, after some of its tokens.
 #[derive(Drop)]
 pub struct Reader {
-    /// The contexts and the rules that are whole.
+    /// The contexts and the bridge rules that were read whole.
     pub contexts: Vec<Context>,
     pub bridges: Vec<NamedBridge>,
     pub place: Place,
 }
 
-/// The contexts and the rules of a whole text.
+/// The contexts and the bridge rules of a whole text.
 #[derive(Drop)]
 pub struct Parts {
     pub contexts: Vec<Context>,
     pub bridges: Vec<NamedBridge>,
 }
 
-/// What the token does at the place.
+/// The step of the token in the state.
 fn step_at(alloc: Global, place: Place, no_bridges: bool, token: &[u8]) -> Result<Step, Memory>
     ensures { (s : PartText) (q : written.Place) → no_bridges ≡ nat_eq (length s.bridges) 0 → IsAt place q → IfOk result (λ step. IsStep step (subject_at q) s token.now (written.step_at s token.now q)) }
 {
@@ -96,7 +96,7 @@ fn step_at(alloc: Global, place: Place, no_bridges: bool, token: &[u8]) -> Resul
 }
 
 impl Reader {
-    /// Nothing was read yet.
+    /// The parser before the first token.
     pub fn new(alloc: Global) -> Reader
         ensures { IsTextReader result nothing_written }
     {
@@ -107,14 +107,14 @@ impl Reader {
         }
     }
 
-    /// The text goes on from the place.
+    /// Moves the parser to the state.
     fn go_on(&mut self, place: Place)
         ensures { self.new ≡ record self.old { place = place } }
     {
         drop(mem::replace(&mut self.place, place));
     }
 
-    /// The read that was read last, where a rule may go on with one more.
+    /// The last read of the rule, if the last token ended it.
     pub fn last_read(&self) -> Option<&NamedRead>
         ensures { MatchOption result (last_read self.now.place ≡ None) (λ r. last_read self.now.place ≡ Some r.now) }
     {
@@ -124,8 +124,9 @@ impl Reader {
         }
     }
 
-    /// The next token and what it is there for; `None` where the text does not go on with it. A name that is too long is
-    /// told like any other, but the text cannot be read on after it. Where memory runs out, the reader is of no more use.
+    /// Takes the next token, and returns its uses, or `None` if the text can't continue with it. The uses of a name
+    /// that is too long are returned too, but the text can't be read on after it. If memory runs out, the parser can't
+    /// be used any more.
     pub fn take(&mut self, alloc: Global, token: &[u8]) -> Result<Option<Uses>, Memory>
         ensures { (s : PartText) → IsTextReader self.old s → IfOk result (λ uses. IsTaken uses self.new s token.now) }
     {
@@ -149,7 +150,7 @@ impl Reader {
         }
     }
 
-    /// The contexts and the rules, where the text may end.
+    /// The contexts and the bridge rules, if the text may end here.
     pub fn finish(self) -> Option<Parts>
         ensures { (s : PartText) → IsTextReader self s → AreParts result (finished_text s) }
     {

@@ -15,7 +15,7 @@ use mcs_system::{Context, Kb, Name, ProgRule};
 use mcs_tokens::{Keyword, Sign};
 use std::alloc::Global;
 
-/// The context with one rule more.
+/// The context with one more rule.
 fn with_rule(context: Context, rule: ProgRule) -> Result<Context, Memory>
     ensures { (w : WrittenContext) (r : WrittenRule) → context_of context ≡ context_in w → rule_of rule ≡ rule_in r → IfOk result (λ c. context_of c ≡ context_in (add_rule w r)) }
 {
@@ -30,7 +30,7 @@ fn with_rule(context: Context, rule: ProgRule) -> Result<Context, Memory>
     Ok(Context { name, kb })
 }
 
-/// A rule of which only the head was read.
+/// The rule of which only the head was read.
 fn headed(alloc: Global, head: Vec<Name>) -> ProgRule
     ensures head { result.head.items ≡ head.items }
     ensures rule { (sign : Bool) → rule_of result ≡ rule_in (whole_rule head.items sign []) }
@@ -42,7 +42,7 @@ fn headed(alloc: Global, head: Vec<Name>) -> ProgRule
     }
 }
 
-/// A rule of which nothing was read.
+/// The rule of which nothing was read.
 fn headless(alloc: Global) -> ProgRule
     ensures head { result.head.items ≡ [] }
     ensures rule { rule_of result ≡ rule_in (whole_rule [] true []) }
@@ -58,7 +58,7 @@ fn next_number(rule: &ProgRule) -> usize
     number_after(names.saturating_add(rule.neg.len()))
 }
 
-/// The first token of a rule.
+/// The step of the first token of a rule.
 pub(crate) fn first_of_rule(alloc: Global, context: Context, token: &[u8]) -> Result<Step, Memory>
     ensures { (s : PartText) (w : WrittenContext) → context_of context ≡ context_in w → IfOk result (λ step. IsStep step (of_context w.name) s token.now (written.first_of_rule s w token.now)) }
 {
@@ -89,7 +89,7 @@ pub(crate) fn first_of_rule(alloc: Global, context: Context, token: &[u8]) -> Re
     }
 }
 
-/// After a name of the head.
+/// The step of a token after a name of the head.
 pub(crate) fn after_head_name(
     alloc: Global,
     context: Context,
@@ -117,7 +117,7 @@ pub(crate) fn after_head_name(
     Ok(Step::Refused)
 }
 
-/// After `|`.
+/// The step of a token after `|`.
 pub(crate) fn next_head_name(
     alloc: Global,
     context: Context,
@@ -151,7 +151,7 @@ pub(crate) fn next_head_name(
     }
 }
 
-/// The rule with one literal more.
+/// The rule with one more literal.
 fn with_literal(rule: ProgRule, denied: bool, atom: Name) -> Result<ProgRule, Memory>
     ensures head { IfOk result (λ more. more.head.items ≡ rule.head.items) }
     ensures rule { (head : List plain.Name) (body : List WrittenLiteral) → rule_of rule ≡ rule_in (whole_rule head true body)
@@ -170,7 +170,7 @@ fn with_literal(rule: ProgRule, denied: bool, atom: Name) -> Result<ProgRule, Me
     Ok(ProgRule { head, pos, neg })
 }
 
-/// Where the atom of a literal has to come, after `not` or without it.
+/// The step of a token where the atom of a literal is expected, with or without `not` before it.
 pub(crate) fn one_literal(
     alloc: Global,
     context: Context,
@@ -206,7 +206,7 @@ pub(crate) fn one_literal(
     }
 }
 
-/// Where a literal has to come.
+/// The step of a token where a literal is expected.
 pub(crate) fn next_literal(
     alloc: Global,
     context: Context,
@@ -222,7 +222,7 @@ pub(crate) fn next_literal(
     one_literal(alloc, context, rule, false, token)
 }
 
-/// After `:-`.
+/// The step of a token after `:-`.
 pub(crate) fn after_sign(
     alloc: Global,
     context: Context,
@@ -239,7 +239,7 @@ pub(crate) fn after_sign(
     next_literal(alloc, context, rule, token)
 }
 
-/// After a literal.
+/// The step of a token after a literal.
 pub(crate) fn after_literal(context: Context, rule: ProgRule, token: &[u8]) -> Result<Step, Memory>
     ensures { (s : PartText) (w : WrittenContext) (body : List WrittenLiteral) → context_of context ≡ context_in w → rule_of rule ≡ rule_in (whole_rule rule.head.items true body)
         → IfOk result (λ step. IsStep step (of_context w.name) s token.now (written.after_literal s w rule.head.items body token.now)) }

@@ -17,8 +17,8 @@ use std::alloc::Global;
 /// The greatest number of a generated system.
 const MOST_MADE: u64 = 4_294_967_295;
 
-/// The job that the given words and values ask for. `Usage` is returned exactly if they ask for none, unless `Memory` is
-/// returned in its place.
+/// The job that the given words and values ask for. `Usage` is returned exactly if they ask for none, unless `Memory`
+/// is returned in its place.
 pub(crate) fn job(alloc: Global, given: &Given) -> Result<Job, WordsFault>
     ensures { MatchResult result
         (λ job. AsksFor (command_of given.now) (request_of job))
