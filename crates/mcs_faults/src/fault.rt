@@ -1,4 +1,4 @@
-//! Why a text spells no system.
+//! The faults of a text, by which it is not the text of a system.
 
 ghost use Rattle.std.specs.Prelude.{◌≡◌};
 ghost use Rattle.mcs_grammar.specs.Faults.{limit_of, number_of};
@@ -7,10 +7,13 @@ ghost use Rattle.mcs_faults.specs.declared.fault.TextFault.TheVariants as texts;
 
 use mcs_system::Limit;
 
-/// The first fault of a text, and the offset of the token at which it stands. The numbers are: 1, the tokens
-/// up to this one begin no text; 2, no context has the name; 3, an earlier context, or an earlier rule, has
-/// the name; 4, a head into a program, or a belief of one, is not an atom; 5, the limit is exceeded. `limit`
-/// is there exactly for number 5.
+/// The first fault of a text, and the offset of its token. `limit` is given exactly for number 5. The numbers are:
+///
+/// - 1: the tokens up to and including this one begin no text;
+/// - 2: no context has this name;
+/// - 3: an earlier context, or an earlier rule, has this name;
+/// - 4: a head into a program, or a belief of a program, is not an atom;
+/// - 5: a limit is exceeded.
 #[derive(Clone, Copy, Debug, PartialEq, Eq)]
 pub enum TextFault {
     Fault {
@@ -21,18 +24,18 @@ pub enum TextFault {
     Memory,
 }
 
-/// What is wrong with one token.
+/// The fault of one token.
 #[derive(Clone, Copy, Debug, PartialEq, Eq)]
 pub enum Fault {
-    /// The tokens up to this one begin no text.
+    /// The tokens up to and including this one begin no text.
     NoGrammar,
-    /// No context has the name.
+    /// No context has this name.
     NoContext,
-    /// An earlier context, or an earlier rule, has the name.
+    /// An earlier context, or an earlier rule, has this name.
     Twin,
-    /// A head into a program, or a belief of one, is not an atom.
+    /// A head into a program, or a belief of a program, is not an atom.
     NoAtom,
-    /// One above the limit.
+    /// The limit is exceeded at this token.
     Exceeds(Limit),
 }
 

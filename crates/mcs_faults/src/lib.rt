@@ -1,4 +1,4 @@
-//! The faults of texts: which fault the next token has, by what was seen so far.
+//! The faults of texts: which fault the next token has, after those before it.
 #![tactic(auto)]
 
 mod fault;

@@ -1,4 +1,4 @@
-//! Which faults the next token of a text has.
+//! The faults of the next token of a text.
 
 ghost use Rattle.std.specs.Prelude.{◌≡◌, ◌<◌, ◌↔◌, List, Some, None, IsTrue, length, map};
 ghost use Rattle.std.specs.Option.{option_copied};
@@ -17,7 +17,7 @@ use mcs_base::Vars;
 use mcs_reader::{NamedRead, Role, is_name_word};
 use mcs_system::{Limit, Name, same_formula};
 
-/// The limits, the lowest first.
+/// The limits, in the order in which they are tested.
 const LIMITS: [Limit; 12] = [
     Limit::Contexts,
     Limit::Bridges,
@@ -33,7 +33,7 @@ const LIMITS: [Limit; 12] = [
     Limit::NameBytes,
 ];
 
-/// Whether the name is one of these.
+/// Whether the name is among these.
 pub(crate) fn is_one_of(names: &[Name], name: &[u8]) -> bool
     ensures { IsTrue result ↔ IsAmong name.now names.now }
 {
@@ -45,14 +45,14 @@ pub(crate) fn is_one_of(names: &[Name], name: &[u8]) -> bool
     false
 }
 
-/// Whether both read the same belief of the same context.
+/// Whether both reads are of the same belief of the same context.
 fn same_read(read: &NamedRead, other: &NamedRead) -> bool
     ensures { IsTrue result ↔ (read_of read.now ≡ read_of other.now) }
 {
     read.context.is(&other.context) && same_formula(&read.belief, &other.belief)
 }
 
-/// Whether the number, however high, is in the set.
+/// Whether the number is in the set; it may be of any size.
 pub(crate) fn is_input(inputs: Vars, number: usize) -> bool
     ensures { IsTrue result ↔ ((number < 64) × IsTrue (has inputs number)) }
 {
@@ -60,7 +60,7 @@ pub(crate) fn is_input(inputs: Vars, number: usize) -> bool
 }
 
 impl Watch {
-    /// The lowest fault of the token.
+    /// The lowest fault of the token, if it has one.
     pub(crate) fn fault_of(&self, said: &Said) -> Option<Fault>
         ensures { (before : List Use) (m : Entry) (a : About) → IsAsked self.now before m a said.now → IsTold result before m }
     {
@@ -101,7 +101,7 @@ impl Watch {
         }
     }
 
-    /// Whether the token is to name a context, and names none.
+    /// Whether the token has to name a context, and no context has this name.
     fn names_no_context(&self, said: &Said) -> bool
         ensures { Tells result (Has faults.NoContext) self.now said.now }
     {
@@ -111,7 +111,7 @@ impl Watch {
         }
     }
 
-    /// Whether the token names a context, or a rule, and an earlier one has the name.
+    /// Whether the token introduces a context or a rule, and an earlier one has this name.
     fn names_a_twin(&self, said: &Said) -> bool
         ensures { Tells result (Has faults.Twin) self.now said.now }
     {
@@ -122,7 +122,7 @@ impl Watch {
         }
     }
 
-    /// Whether the token begins a head into a program, or a belief of one, and is no atom.
+    /// Whether the token begins a head into a program, or a belief of a program, and is not an atom.
     fn begins_no_atom(&self, said: &Said) -> bool
         ensures { Tells result (Has faults.NoAtom) self.now said.now }
     {
@@ -132,8 +132,8 @@ impl Watch {
         said.uses.begins_belief && self.is_program(said.subject.context)
     }
 
-    /// The number of the read among the variables; where it is none, how many there are. A read that cannot be
-    /// held is none.
+    /// The index of the read among the variables, or the number of variables if it is none of them. For `None`, which
+    /// is a read with a name that is too long, it is the number of variables too.
     pub(crate) fn variable_number(&self, read: Option<&NamedRead>) -> usize
         ensures some { (r : code_read.NamedRead) → option_copied read.entry ≡ Some r → IsNumberOf (map read_of self.now.variables.items) (read_of r) result }
         ensures none { option_copied read.entry ≡ None → result ≡ length self.now.variables.items }
@@ -149,7 +149,7 @@ impl Watch {
         self.variables.len()
     }
 
-    /// Whether the token begins one context too many.
+    /// Whether the token begins a context, and there are as many as the limit.
     fn exceeds_contexts(&self, said: &Said) -> bool
         ensures { Tells result (IsBeyond Limit.Contexts) self.now said.now }
     {
@@ -159,7 +159,7 @@ impl Watch {
         }
     }
 
-    /// Whether the token begins one rule too many.
+    /// Whether the token begins a bridge rule, and there are as many as the limit.
     fn exceeds_bridges(&self, said: &Said) -> bool
         ensures { Tells result (IsBeyond Limit.Bridges) self.now said.now }
     {
@@ -169,7 +169,7 @@ impl Watch {
         }
     }
 
-    /// Whether the token names the target of one rule too many.
+    /// Whether the token names the target of a rule, and there are as many rules into it as the limit.
     fn exceeds_rules(&self, said: &Said) -> bool
         ensures { Tells result (IsBeyond Limit.RulesPerContext) self.now said.now }
     {
@@ -180,7 +180,7 @@ impl Watch {
         }
     }
 
-    /// Whether the token ends the read of one variable too many.
+    /// Whether the token ends a read of a further variable, and there are as many as the limit.
     fn exceeds_variables(&self, said: &Said) -> bool
         ensures { Tells result (IsBeyond Limit.Variables) self.now said.now }
     {
@@ -190,7 +190,7 @@ impl Watch {
         said.uses.ends_read && self.variable_number(said.read) == self.variables.len()
     }
 
-    /// Whether the token ends the read of one input of the target too many.
+    /// Whether the token ends a read of a further input of the target, and there are as many as the limit.
     fn exceeds_inputs(&self, said: &Said) -> bool
         ensures { Tells result (IsBeyond Limit.InputsPerContext) self.now said.now }
     {
@@ -203,7 +203,7 @@ impl Watch {
         said.uses.ends_read && !is_input(target.inputs, self.variable_number(said.read))
     }
 
-    /// Whether the token is one atom of the context too many.
+    /// Whether the token is a further atom of the context, and there are as many as the limit.
     fn exceeds_atoms(&self, said: &Said) -> bool
         ensures { Tells result (IsBeyond Limit.AtomsPerContext) self.now said.now }
     {
@@ -219,7 +219,7 @@ impl Watch {
         }
     }
 
-    /// Whether the token begins one default of the context too many.
+    /// Whether the token begins a default of the context, and there are as many as the limit.
     fn exceeds_defaults(&self, said: &Said) -> bool
         ensures { Tells result (IsBeyond Limit.DefaultsPerContext) self.now said.now }
     {
@@ -230,7 +230,7 @@ impl Watch {
         }
     }
 
-    /// Whether the token begins one item of the context too many.
+    /// Whether the token begins an item of the context, and there are as many as the limit.
     fn exceeds_items(&self, said: &Said) -> bool
         ensures { Tells result (IsBeyond Limit.ItemsPerContext) self.now said.now }
     {
@@ -238,7 +238,7 @@ impl Watch {
             && self.items_of(said.subject.context) == Limit::ItemsPerContext.most()
     }
 
-    /// Whether the token is one too many of a formula, or one name too many of a program rule.
+    /// Whether the token is the first of a formula, or the first name of a program rule, that exceeds the limit.
     fn exceeds_size(&self, said: &Said) -> bool
         ensures { Tells result (IsBeyond Limit.FormulaSize) self.now said.now }
     {
@@ -249,7 +249,7 @@ impl Watch {
         }
     }
 
-    /// Whether the token opens one parenthesis too many.
+    /// Whether the token opens a parenthesis, and as many are open as the limit.
     fn exceeds_open(&self, said: &Said) -> bool
         ensures { Tells result (IsBeyond Limit.OpenParentheses) self.now said.now }
     {
@@ -259,7 +259,7 @@ impl Watch {
         }
     }
 
-    /// Whether the token is a name that is too long.
+    /// Whether the token is a name that is longer than the limit.
     fn exceeds_bytes(&self, said: &Said) -> bool
         ensures { Tells result (IsBeyond Limit.NameBytes) self.now said.now }
     {

@@ -1,4 +1,4 @@
-//! What the watch keeps of a token that has no fault.
+//! Entries into the symbol table, for tokens without a fault.
 
 ghost use Rattle.std.specs.Prelude.{◌≡◌, ◌<◌, ◌++◌, List, [], ◌∷◌, IfOk, IsTrue, map};
 ghost use Rattle.mcs_base.specs.Words.{is_name};
@@ -18,7 +18,7 @@ use mcs_reader::{NamedRead, Role};
 use mcs_system::Name;
 use std::alloc::Global;
 
-/// An equal read.
+/// A copy of the read.
 fn copy_read(alloc: Global, read: &NamedRead) -> Result<NamedRead, Memory>
     ensures { IfOk result (λ r. read_of r ≡ read_of read.now) }
 {
@@ -28,7 +28,7 @@ fn copy_read(alloc: Global, read: &NamedRead) -> Result<NamedRead, Memory>
     })
 }
 
-/// The set with this number too.
+/// The set with the number added, if it is below 64.
 fn with_input(inputs: Vars, number: usize) -> Vars
     ensures { number < 64 → result ≡ union inputs (single number) }
 {
@@ -38,7 +38,7 @@ fn with_input(inputs: Vars, number: usize) -> Vars
     inputs
 }
 
-/// A context of which nothing but the name was seen.
+/// The entry of a context of which only the name was read.
 fn fresh(alloc: Global, name: Name) -> ContextSeen
     ensures { IsFresh result name }
 {
@@ -54,7 +54,7 @@ fn fresh(alloc: Global, name: Name) -> ContextSeen
 }
 
 impl Watch {
-    /// The token was seen, and has no fault.
+    /// Records a token that has no fault.
     pub(crate) fn record(&mut self, alloc: Global, said: &Said) -> Result<(), Memory>
         ensures { (before : List Use) (m : Entry) (a : About) → IsAsked self.old before m a said.now → ((f : faults.Fault) → ¬ Has f before m) → IfOk result (λ _. IsWatch self.new (before ++ m.uses)) }
     {
@@ -63,7 +63,7 @@ impl Watch {
         self.record_role(alloc, said)
     }
 
-    /// What the token is there for as the end of a read.
+    /// Records the token as the end of a read, if it is one.
     fn record_end(&mut self, alloc: Global, said: &Said) -> Result<(), Memory>
         ensures { (before : List Use) (m : Entry) (a : About) → IsAsked self.old before m a said.now → ((f : faults.Fault) → ¬ Has f before m) → IfOk result (λ _. IsWatch self.new (before ++ when said.now.uses.ends_read (entries.EndsRead a.subject.target a.subject.context a.belief))) }
     {
@@ -76,7 +76,7 @@ impl Watch {
         }
     }
 
-    /// What the token is there for as the first of an item.
+    /// Records the token as the beginning of an item, if it is one.
     fn record_begin(&mut self, said: &Said)
         ensures { (before : List Use) (n : Name) → IsWatch self.old before → IsNumberOf (names_seen self.old) n said.now.subject.context → AreFree before (when said.now.uses.begins_item (entries.BeginsItem n)) → IsWatch self.new (before ++ when said.now.uses.begins_item (entries.BeginsItem n)) }
     {
@@ -85,7 +85,7 @@ impl Watch {
         }
     }
 
-    /// What the token itself is there for.
+    /// Records the role of the token.
     fn record_role(&mut self, alloc: Global, said: &Said) -> Result<(), Memory>
         ensures { (before : List Use) (a : About) → IsWatch self.old before → IsNumberOf (names_seen self.old) a.subject.context said.now.subject.context → (IsNaming said.now.uses.role → IsTrue (is_name said.now.token.now)) → AreFree before (role_uses a said.now.token.now said.now.uses.role) → IfOk result (λ _. IsWatch self.new (before ++ role_uses a said.now.token.now said.now.uses.role)) }
     {
@@ -103,7 +103,7 @@ impl Watch {
         Ok(())
     }
 
-    /// A context of this name.
+    /// Records a context with this name.
     fn name_context(&mut self, alloc: Global, token: &[u8]) -> Result<(), Memory>
         ensures { (before : List Use) → IsWatch self.old before → IsTrue (is_name token.now) → IsAllowed before (entries.NamesContext token.now) → IfOk result (λ _. IsWatch self.new (before ++ entries.NamesContext token.now ∷ [])) }
     {
@@ -113,7 +113,7 @@ impl Watch {
         Ok(())
     }
 
-    /// A rule of this name.
+    /// Records a bridge rule with this name.
     fn name_bridge(&mut self, alloc: Global, token: &[u8]) -> Result<(), Memory>
         ensures { (before : List Use) → IsWatch self.old before → IsTrue (is_name token.now) → IsAllowed before (entries.NamesBridge token.now) → IfOk result (λ _. IsWatch self.new (before ++ entries.NamesBridge token.now ∷ [])) }
     {
@@ -123,7 +123,7 @@ impl Watch {
         Ok(())
     }
 
-    /// The context of this number is a program.
+    /// Records that the context with this number is a program.
     fn say_program(&mut self, number: usize)
         ensures { (before : List Use) (n : Name) → IsWatch self.old before → IsNumberOf (names_seen self.old) n number → IsSpokenOf before (entries.SaysProgram n) → IsWatch self.new (before ++ entries.SaysProgram n ∷ []) }
     {
@@ -132,7 +132,7 @@ impl Watch {
         }
     }
 
-    /// The context of this number has one item more.
+    /// Records one more item of the context with this number.
     fn count_item(&mut self, number: usize)
         ensures { (before : List Use) (n : Name) → IsWatch self.old before → IsNumberOf (names_seen self.old) n number → IsSpokenOf before (entries.BeginsItem n) → IsAllowed before (entries.BeginsItem n) → IsWatch self.new (before ++ entries.BeginsItem n ∷ []) }
     {
@@ -141,7 +141,7 @@ impl Watch {
         }
     }
 
-    /// The context of this number has one default more.
+    /// Records one more default of the context with this number.
     fn count_default(&mut self, number: usize)
         ensures { (before : List Use) (n : Name) → IsWatch self.old before → IsNumberOf (names_seen self.old) n number → IsSpokenOf before (entries.BeginsDefault n) → IsAllowed before (entries.BeginsDefault n) → IsWatch self.new (before ++ entries.BeginsDefault n ∷ []) }
     {
@@ -150,7 +150,7 @@ impl Watch {
         }
     }
 
-    /// There is one rule more into the context of this number.
+    /// Records one more rule into the context with this number.
     fn count_rule(&mut self, number: usize)
         ensures { (before : List Use) (n : Name) → IsWatch self.old before → IsNumberOf (names_seen self.old) n number → IsAllowed before (entries.NamesTarget n) → IsWatch self.new (before ++ entries.NamesTarget n ∷ []) }
     {
@@ -159,7 +159,7 @@ impl Watch {
         }
     }
 
-    /// An atom of the context of this number.
+    /// Records an atom of the context with this number, unless it is known.
     fn add_atom(&mut self, alloc: Global, number: usize, token: &[u8]) -> Result<(), Memory>
         ensures { (before : List Use) (n : Name) → IsWatch self.old before → IsNumberOf (names_seen self.old) n number → IsTrue (is_name token.now) → IsSpokenOf before (entries.AtomOf n token.now) → IsAllowed before (entries.AtomOf n token.now) → IfOk result (λ _. IsWatch self.new (before ++ entries.AtomOf n token.now ∷ [])) }
     {
@@ -175,7 +175,7 @@ impl Watch {
         Ok(())
     }
 
-    /// The end of a read of a rule into the context of this number.
+    /// Records the end of a read, of a rule into the context with number `target`.
     fn record_read(&mut self, alloc: Global, target: usize, read: &NamedRead) -> Result<(), Memory>
         ensures { (before : List Use) (t : Name) → IsWatch self.old before → IsNumberOf (names_seen self.old) t target → let r = read_of read.now in IsSpokenOf before (entries.EndsRead t r.context r.belief) → IsAllowed before (entries.EndsRead t r.context r.belief) → IfOk result (λ _. IsWatch self.new (before ++ entries.EndsRead t r.context r.belief ∷ [])) }
     {
@@ -186,7 +186,7 @@ impl Watch {
         Ok(())
     }
 
-    /// The number of the read among the variables, to which it is added if it is none of them yet.
+    /// The index of the read among the variables. It is added to them if it is not among them.
     fn hold(&mut self, alloc: Global, read: &NamedRead) -> Result<usize, Memory>
         ensures held { IfOk result (λ number. IsHeld (map read_of self.old.variables.items) (map read_of self.new.variables.items) (read_of read.now) number) }
         ensures rest { self.new ≡ record self.old { variables = self.new.variables } }

@@ -1,4 +1,4 @@
-//! What was seen of a text, as far as the faults of its next token depend on it.
+//! The symbol table: what is known of the tokens so far, as far as the faults of the next token depend on it.
 
 ghost use Rattle.std.specs.Prelude.{◌≡◌, ◌↔◌, List, [], count_by, IfOk, IsTrue};
 ghost use Rattle.std.specs.List.{AllByRecursion};
@@ -17,54 +17,56 @@ use mcs_reader::{NamedRead, Place, Uses};
 use mcs_system::Name;
 use std::alloc::Global;
 
-/// What was seen of one context.
+/// What is known of one context.
 #[derive(Drop)]
 pub(crate) struct ContextSeen {
     pub(crate) name: Name,
     pub(crate) is_program: bool,
-    /// How many rules there are into it, and of its items how many and how many defaults.
+    /// How many rules go into it; how many items it has; how many of these are defaults.
     pub(crate) rules: usize,
     pub(crate) items: usize,
     pub(crate) defaults: usize,
     /// Its atoms, each once.
     pub(crate) atoms: Vec<Name>,
-    /// The numbers of the variables that rules into it read.
+    /// The indices of the variables that rules into it read.
     pub(crate) inputs: Vars,
 }
 
-/// What was seen of a text.
+/// The symbol table of a text, after some of its tokens.
 #[derive(Drop)]
 pub struct Watch {
-    /// The contexts that were named, in their order.
+    /// The contexts, in their order.
     pub(crate) contexts: Vec<ContextSeen>,
     /// The names of the bridge rules, in their order.
     pub(crate) bridges: Vec<Name>,
-    /// What was read, each once.
+    /// The variables: the beliefs that were read, each once.
     pub(crate) variables: Vec<NamedRead>,
-    /// How many contexts, and how many bridge rules, were begun.
+    /// How many contexts were begun. The last one may have no name yet.
     pub(crate) contexts_begun: usize,
+    /// How many bridge rules were begun. The last one may have no name yet.
     pub(crate) bridges_begun: usize,
 }
 
-/// The contexts that a token is said of, by their numbers; a number that no context has stands for none.
+/// The contexts a token speaks about: the one it is in, or whose belief it is a part of, and, within a read, the target
+/// of its rule. A number past the last context means none.
 #[derive(Clone, Copy)]
 pub struct Subject {
     pub(crate) context: usize,
     pub(crate) target: usize,
 }
 
-/// A token: the contexts that it is said of, what it is there for, its bytes, and the read that ends with it.
+/// A token: the contexts it speaks about, its uses, its bytes, and the read that ends with it.
 #[derive(Clone, Copy)]
 pub(crate) struct Said<'a> {
     pub(crate) subject: Subject,
     pub(crate) uses: Uses,
     pub(crate) token: &'a [u8],
-    /// There is none where the read would have a name that is too long.
+    /// `None` if no read ends with the token, or if the read would have a name that is too long.
     pub(crate) read: Option<&'a NamedRead>,
 }
 
 impl Watch {
-    /// Nothing was seen yet.
+    /// The table before the first token.
     pub fn new(alloc: Global) -> Watch
         ensures { IsWatch result [] }
     {
@@ -77,8 +79,8 @@ impl Watch {
         }
     }
 
-    /// The lowest fault of the next token; where it has none, the token is kept. `read` is the read that ends
-    /// with the token, if one does and its name is not too long. Where memory runs out, the watch is of no more use.
+    /// The lowest fault of the next token. If it has none, the token is recorded. `read` is the read that ends with the
+    /// token, if one does and its name is not too long. If memory runs out, the table can't be used any more.
     pub fn note(
         &mut self,
         alloc: Global,
@@ -102,7 +104,7 @@ impl Watch {
         Ok(None)
     }
 
-    /// The number of the context of this name; where it is none, how many contexts were named.
+    /// The number of the context with this name, or the number of contexts so far if there is none.
     pub(crate) fn number_of(&self, name: &[u8]) -> usize
         ensures { IsNumberOf (names_seen self.now) name.now result }
     {
@@ -114,14 +116,14 @@ impl Watch {
         self.contexts.len()
     }
 
-    /// Whether a context has the name.
+    /// Whether a context has this name.
     pub(crate) fn is_context(&self, name: &[u8]) -> bool
         ensures { IsTrue result ↔ IsAmong name.now (names_seen self.now) }
     {
         self.number_of(name) < self.contexts.len()
     }
 
-    /// Whether the context of this number is a program.
+    /// Whether the context with this number is a program.
     pub(crate) fn is_program(&self, number: usize) -> bool
         ensures { (before : List Use) (n : Name) → IsWatch self.now before → IsNumberOf (names_seen self.now) n number → IsTrue result ↔ IsAmong (SaysProgram n) before }
     {
@@ -131,7 +133,7 @@ impl Watch {
         }
     }
 
-    /// How many rules there are into the context of this number.
+    /// How many rules go into the context with this number.
     pub(crate) fn rules_into(&self, number: usize) -> usize
         ensures { (before : List Use) (n : Name) → IsWatch self.now before → IsNumberOf (names_seen self.now) n number → result ≡ count_by (names_target n) before }
     {
@@ -141,7 +143,7 @@ impl Watch {
         }
     }
 
-    /// How many defaults the context of this number has.
+    /// How many defaults the context with this number has.
     pub(crate) fn defaults_of(&self, number: usize) -> usize
         ensures { (before : List Use) (n : Name) → IsWatch self.now before → IsNumberOf (names_seen self.now) n number → result ≡ count_by (begins_default_of n) before }
     {
@@ -151,7 +153,7 @@ impl Watch {
         }
     }
 
-    /// How many items the context of this number has.
+    /// How many items the context with this number has.
     pub(crate) fn items_of(&self, number: usize) -> usize
         ensures { (before : List Use) (n : Name) → IsWatch self.now before → IsNumberOf (names_seen self.now) n number → result ≡ count_by (begins_item_of n) before }
     {
@@ -161,7 +163,7 @@ impl Watch {
         }
     }
 
-    /// The contexts that the next token is said of.
+    /// The contexts that the next token speaks about.
     pub fn subject(&self, place: &Place) -> Subject
         ensures { (q : written.Place) → IsAt place.now q → IsSubject self.now (subject_at q) result }
     {
@@ -172,7 +174,7 @@ impl Watch {
     }
 }
 
-/// The name of the context that the next token is a part of, or is said of; empty where it is none.
+/// The name of the context that the next token is in or speaks about; empty if there is none.
 fn context_at(place: &Place) -> &[u8]
     ensures { (q : written.Place) → IsAt place.now q → result.now ≡ (subject_at q).context }
 {
@@ -205,7 +207,7 @@ fn context_at(place: &Place) -> &[u8]
     }
 }
 
-/// The name of the context into which a read that goes on is; empty where there is none.
+/// The name of the target of the rule in whose read the next token is; empty if there is none.
 fn target_at(place: &Place) -> &[u8]
     ensures { (q : written.Place) → IsAt place.now q → result.now ≡ (subject_at q).target }
 {
