@@ -1,13 +1,13 @@
-//! Laws over the definitions of texts. The functions do nothing: each contract is a law.
+//! Laws over the definitions of texts. The functions compute nothing: each contract is a law.
 
 ghost use Rattle.mcs_grammar.specs.Texts.{SpelledDefaultsAreShort, SpelledTextsHaveNoFault, TextsAreUnambiguous, TextsHaveOneFault};
 
-/// A text spells one system at most.
+/// A text spells at most one system.
 pub fn texts_are_unambiguous()
     ensures { TextsAreUnambiguous }
 {}
 
-/// A text has one fault at most.
+/// A text has at most one fault.
 pub fn texts_have_one_fault()
     ensures { TextsHaveOneFault }
 {}

@@ -1,4 +1,4 @@
-//! The language of system texts: reading them, and writing them in one way.
+//! The language of system texts: how they are read, and the canonical text of a system.
 #![tactic(auto)]
 
 mod laws;

@@ -1,4 +1,4 @@
-//! Bridge rules by the numbers of their contexts.
+//! Bridge rules whose contexts are given by their numbers, made from rules whose contexts are given by their names.
 
 ghost use Rattle.std.specs.Prelude.{◌≡◌, ◌≤◌, length, map, IfOk, List};
 ghost use Rattle.std.specs.List.{position};
@@ -16,7 +16,7 @@ use mcs_reader::{NamedBridge, NamedRead};
 use mcs_system::{Bridge, Context, Name, Read};
 use std::alloc::Global;
 
-/// The number of the context of this name: its place among the contexts.
+/// The number of the context with this name, that is, its index among the contexts.
 fn number_of(contexts: &[Context], name: &Name) -> Option<u32>
     requires few { length contexts.now ≤ 64 }
     ensures { result ≡ position (same_name name.now) (context_names contexts.now) }
@@ -25,7 +25,7 @@ fn number_of(contexts: &[Context], name: &Name) -> Option<u32>
     Some(place as u32)
 }
 
-/// The read by the number of its context.
+/// The read, with the number of its context.
 fn numbered_read(contexts: &[Context], read: NamedRead) -> Read
     requires few { length contexts.now ≤ 64 }
     requires known { IsAmong read.context (context_names contexts.now) }
@@ -41,7 +41,7 @@ fn numbered_read(contexts: &[Context], read: NamedRead) -> Read
     }
 }
 
-/// The reads by the numbers of their contexts.
+/// The reads, with the numbers of their contexts.
 fn numbered_reads(
     alloc: Global,
     contexts: &[Context],
@@ -58,7 +58,7 @@ fn numbered_reads(
     Ok(numbered)
 }
 
-/// The bridge rule by the numbers of its contexts.
+/// The bridge rule, with the numbers of its contexts.
 fn numbered_bridge(
     alloc: Global,
     contexts: &[Context],
@@ -103,7 +103,7 @@ fn numbered_bridge(
     }
 }
 
-/// The bridge rules by the numbers of their contexts, which are all there.
+/// The bridge rules, with the numbers of their contexts. These all exist.
 pub(crate) fn numbered(
     alloc: Global,
     contexts: &[Context],

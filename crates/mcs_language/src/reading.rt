@@ -1,4 +1,4 @@
-//! From the bytes of a text to its system.
+//! Reading: from the bytes of a text to its system.
 
 ghost use Rattle.std.specs.Prelude.{◌≡◌, ℕ, List, Some, length, slice_get, All, IfOk, IfErr};
 ghost use Rattle.mcs_system.specs.Faults.{IsValid};
@@ -17,7 +17,7 @@ use mcs_system::{Bridge, BuildFault, Context, System};
 use mcs_tokens::{Span, token_list};
 use std::alloc::Global;
 
-/// A text that is being read.
+/// The state of reading a text: the parser and the symbol table.
 #[derive(Drop)]
 pub(crate) struct Reading {
     pub(crate) reader: Reader,
@@ -25,7 +25,7 @@ pub(crate) struct Reading {
 }
 
 impl Reading {
-    /// Nothing was read yet.
+    /// The state before the first token.
     fn new(alloc: Global) -> Reading
         ensures { (ts : List Token) → IsUpTo result ts 0 }
     {
@@ -35,7 +35,7 @@ impl Reading {
         }
     }
 
-    /// The next token, and the fault that it has.
+    /// Takes the next token, and returns its fault, if it has one.
     fn take(&mut self, alloc: Global, token: &[u8]) -> Result<Option<Fault>, Memory>
         ensures { (ts : List Token) (k : ℕ) → IsUpTo self.old ts k → slice_get ts k ≡ Some token.now → IfOk result (λ f. IsNextRead f self.new ts k) }
     {
@@ -47,7 +47,7 @@ impl Reading {
             .note(alloc, subject, uses, token, self.reader.last_read())
     }
 
-    /// All tokens of the text, or the first fault at one of them.
+    /// Takes all tokens of the text, up to the first one that has a fault.
     fn read(&mut self, alloc: Global, bytes: &[u8], spans: &[Span]) -> Result<(), TextFault>
         requires inside { All (IsSpanOf bytes.now) spans.now }
         requires begun { IsUpTo self.now (token_texts bytes.now spans.now) 0 }
@@ -62,7 +62,7 @@ impl Reading {
         Ok(())
     }
 
-    /// The system of the text, of which all tokens were read; or the fault that something has to come.
+    /// The system of the text, whose tokens were all taken, or the fault that the text may not end here.
     fn system(self, alloc: Global, bytes: &[u8]) -> Result<System, TextFault>
         requires { IsReadOf bytes.now self }
         ensures system { IfOk result (Spells bytes.now) }
@@ -90,9 +90,10 @@ fn built(alloc: Global, contexts: Vec<Context>, bridges: Vec<Bridge>) -> Result<
     }
 }
 
-/// The system that the text spells, or the first fault of the text: the first token at which a fault holds
-/// decides, and at one token the lowest number, for number 5 the first limit in the order of `Limit`. A text
-/// spells one system at most. The text's length is the offset of its end.
+/// The system that the text spells, or the first fault of the text. This is the fault of the first token that has one.
+/// If this token has several, it is the one with the lowest number; for number 5 it is the first limit in the order of
+/// `Limit`. The end of the text counts as a token, with the length of the text as its offset. A text spells at most one
+/// system.
 pub fn read_system(alloc: Global, bytes: &[u8]) -> Result<System, TextFault>
     ensures system { IfOk result (Spells bytes.now) }
     ensures fault { IfErr result (IsToldOf bytes.now) }

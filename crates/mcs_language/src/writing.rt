@@ -1,4 +1,4 @@
-//! From a system to its canonical text, which reads back.
+//! Writing: from a system to its canonical text.
 
 ghost use Rattle.std.specs.Prelude.{◌≡◌, ◌++◌, OnOk, OnErr};
 ghost use Rattle.mcs_system.specs.Unmarked.{IsUnmarked};
@@ -9,16 +9,15 @@ use mcs_base::{Memory, Text};
 use mcs_system::System;
 use mcs_writer::push_system;
 
-/// The canonical text of the system spells it, if its rules have no marks.
+/// The canonical text of the system spells the system, if none of its rules has marks.
 fn canonical_text_spells(system: &System)
     ensures { IsUnmarked system.now → Spells (canonical_text system.now) system.now }
 {
     let _contexts = system.contexts();
 }
 
-/// Appends the canonical text of a system, which does not show the marks of its rules. Where these have none, it
-/// spells the system, so that who reads it has the same again. Without the memory for all of it `out` stays as it
-/// was.
+/// Appends the canonical text of a system. It does not show the marks of the rules. If they have none, it spells the
+/// system, so that reading it yields the same system. If there is no memory for all of it, `out` stays as it was.
 pub fn write_system(system: &System, out: &mut Text) -> Result<(), Memory>
     ensures text { OnOk result (out.new ≡ out.old ++ canonical_text system.now) }
     ensures unchanged { OnErr result (out.new ≡ out.old) }

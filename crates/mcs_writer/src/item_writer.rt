@@ -1,4 +1,4 @@
-//! The texts of formulas, defaults and program rules.
+//! The canonical texts of formulas, defaults and program rules.
 
 ghost use Rattle.std.specs.Prelude.{◌≡◌, ◌++◌, true, not, nat_eq, length, map, codes, OnOk};
 ghost use Rattle.mcs_system.specs.Seen.{formula_of, default_of, item_of, rule_of};
@@ -10,7 +10,7 @@ use mcs_base::{Memory, Text};
 use mcs_system::{Default, Formula, Name, ProgRule, TheoryItem};
 use mcs_text::push_separator;
 
-/// The sign of a formula of two parts, between spaces; empty for another.
+/// The binary connective of a formula with a space on each side; empty for any other formula.
 fn sign(f: &Formula) -> &'static [u8]
     ensures { result.now ≡ sign_of (formula_of f.now) }
 {
@@ -23,7 +23,7 @@ fn sign(f: &Formula) -> &'static [u8]
     }
 }
 
-/// Appends a formula as a belief is printed: what has two parts stands in parentheses.
+/// Appends a formula as a primary, as beliefs are printed: in parentheses if its connective is binary.
 pub(crate) fn push_primary(text: &mut Text, f: &Formula) -> Result<(), Memory>
     ensures { OnOk result (text.new ≡ text.old ++ primary (formula_of f.now)) }
 {
@@ -45,7 +45,7 @@ pub(crate) fn push_primary(text: &mut Text, f: &Formula) -> Result<(), Memory>
     }
 }
 
-/// Appends a formula that stands alone: there are no parentheses around its two parts.
+/// Appends a formula without parentheses around the whole.
 pub(crate) fn push_formula(text: &mut Text, f: &Formula) -> Result<(), Memory>
     ensures { OnOk result (text.new ≡ text.old ++ formula_text (formula_of f.now)) }
 {
@@ -72,7 +72,7 @@ fn push_justifications(text: &mut Text, justs: &[Formula]) -> Result<(), Memory>
     Ok(())
 }
 
-/// Appends a default: its prerequisite, its justifications and its conclusion.
+/// Appends a default: its prerequisite, its justifications and its consequent.
 fn push_default(text: &mut Text, default: &Default) -> Result<(), Memory>
     ensures { OnOk result (text.new ≡ text.old ++ default_text (default_of default.now)) }
 {
@@ -93,7 +93,7 @@ pub(crate) fn push_theory_item(text: &mut Text, item: &TheoryItem) -> Result<(),
     }
 }
 
-/// Appends the names of a head, with bars between them.
+/// Appends the names of a head, separated by bars.
 fn push_head(text: &mut Text, head: &[Name]) -> Result<(), Memory>
     ensures { OnOk result (text.new ≡ text.old ++ listed (codes " | ") true head.now) }
 {
@@ -106,8 +106,8 @@ fn push_head(text: &mut Text, head: &[Name]) -> Result<(), Memory>
     Ok(())
 }
 
-/// Appends the literals of these atoms, the word before each of them. They are the first of a body, or go on
-/// after others.
+/// Appends a literal for each of these atoms, with the word before it. `is_first` says whether they are the first of
+/// the body or follow others.
 fn push_literals(text: &mut Text, is_first: bool, word: &[u8], atoms: &[Name]) -> Result<(), Memory>
     ensures { OnOk result (text.new ≡ text.old ++ listed (codes ", ") is_first (map (λ a. word.now ++ a) atoms.now)) }
 {
@@ -128,7 +128,7 @@ fn has_body(rule: &ProgRule) -> bool
     !rule.pos.is_empty() || !rule.neg.is_empty()
 }
 
-/// The sign of a rule with the spaces around it; empty where there is a head and no body.
+/// The sign `:-` of a rule with its spaces; empty if the rule has a head and no body.
 fn rule_sign(rule: &ProgRule) -> &'static [u8]
     ensures { result.now ≡ rule_sign rule.now.head.items (rule.now.pos.items ++ rule.now.neg.items) }
 {
@@ -140,7 +140,7 @@ fn rule_sign(rule: &ProgRule) -> &'static [u8]
     }
 }
 
-/// Appends a rule of a program: its head and its body, the positive literals first.
+/// Appends a rule of a program: its head, then its body with the positive literals first.
 pub(crate) fn push_program_rule(text: &mut Text, rule: &ProgRule) -> Result<(), Memory>
     ensures { OnOk result (text.new ≡ text.old ++ program_rule_text (rule_of rule.now)) }
 {

@@ -1,4 +1,4 @@
-//! The canonical text of a system, and of the parts that reports name.
+//! The canonical text of a system, and of the parts of it that reports name.
 #![tactic(auto)]
 
 mod item_writer;

@@ -13,7 +13,7 @@ use mcs_base::{Memory, Text};
 use mcs_system::{Bridge, Context, Formula, Kb, ProgRule, Read, System, TheoryItem};
 use mcs_text::push_separator;
 
-/// The word that says of what kind a knowledge base is.
+/// The word for the kind of the knowledge base.
 fn kind_word(kb: &Kb) -> &'static [u8]
     ensures { result.now ≡ kind_word (kb_of kb.now) }
 {
@@ -24,7 +24,7 @@ fn kind_word(kb: &Kb) -> &'static [u8]
     }
 }
 
-/// Appends formulas, a line for each.
+/// Appends formulas, one line for each.
 fn push_formulas(text: &mut Text, formulas: &[Formula]) -> Result<(), Memory>
     ensures { OnOk result (text.new ≡ text.old ++ flat_map item_line (map formula_text (map formula_of formulas.now))) }
 {
@@ -36,7 +36,7 @@ fn push_formulas(text: &mut Text, formulas: &[Formula]) -> Result<(), Memory>
     Ok(())
 }
 
-/// Appends items of a default theory, a line for each.
+/// Appends items of a default theory, one line for each.
 fn push_theory(text: &mut Text, items: &[TheoryItem]) -> Result<(), Memory>
     ensures { OnOk result (text.new ≡ text.old ++ flat_map item_line (map theory_item_text (map item_of items.now))) }
 {
@@ -48,7 +48,7 @@ fn push_theory(text: &mut Text, items: &[TheoryItem]) -> Result<(), Memory>
     Ok(())
 }
 
-/// Appends rules of a program, a line for each.
+/// Appends rules of a program, one line for each.
 fn push_program(text: &mut Text, rules: &[ProgRule]) -> Result<(), Memory>
     ensures { OnOk result (text.new ≡ text.old ++ flat_map item_line (map program_rule_text (map rule_of rules.now))) }
 {
@@ -60,7 +60,7 @@ fn push_program(text: &mut Text, rules: &[ProgRule]) -> Result<(), Memory>
     Ok(())
 }
 
-/// Appends what a context knows, a line for each item.
+/// Appends a knowledge base, one line for each item.
 fn push_items(text: &mut Text, kb: &Kb) -> Result<(), Memory>
     ensures { OnOk result (text.new ≡ text.old ++ items_text (kb_of kb.now)) }
 {
@@ -84,7 +84,7 @@ fn push_context(text: &mut Text, context: &Context) -> Result<(), Memory>
     text.push(b"}\n")
 }
 
-/// Appends a belief of the context of this number: the context's name, a colon, the belief.
+/// Appends a belief of the context with this number: the context's name, a colon, the belief.
 fn push_belief(
     text: &mut Text,
     system: &System,
@@ -99,7 +99,7 @@ fn push_belief(
     push_primary(text, belief)
 }
 
-/// Appends a belief that a bridge rule reads: the context's name, a colon, the belief. The context is one of the
+/// Appends a belief that a bridge rule reads: the context's name, a colon, the belief. The context has to be one of the
 /// system's. Without memory the text stays as it was.
 pub fn push_read(text: &mut Text, system: &System, read: &Read) -> Result<(), Memory>
     requires { read.now.context < length system.now.contexts }
@@ -111,8 +111,8 @@ pub fn push_read(text: &mut Text, system: &System, read: &Read) -> Result<(), Me
     text.push(own.bytes())
 }
 
-/// Appends what a bridge rule reads, the word before each. They are the first reads of the rule, or go on
-/// after others.
+/// Appends the reads of a bridge rule, with the word before each. `is_first` says whether they are the first of the
+/// rule or follow others.
 fn push_reads(
     text: &mut Text,
     system: &System,
@@ -133,21 +133,21 @@ fn push_reads(
     Ok(())
 }
 
-/// Whether the rule reads anything.
+/// Whether the rule has any reads.
 fn has_reads(bridge: &Bridge) -> bool
     ensures { result ≡ not (nat_eq (length (reads_of (bridge_of bridge.now))) 0) }
 {
     !bridge.pos.is_empty() || !bridge.neg.is_empty()
 }
 
-/// The word before what a rule reads, between spaces; empty where it reads nothing.
+/// The word `if` with a space on each side; empty if the rule has no reads.
 fn if_word(bridge: &Bridge) -> &'static [u8]
     ensures { result.now ≡ if_word (reads_of (bridge_of bridge.now)) }
 {
     if has_reads(bridge) { b" if " } else { b"" }
 }
 
-/// Appends a bridge rule: its head, and what it reads, the positive reads first.
+/// Appends a bridge rule: its head, then its reads with the positive ones first.
 fn push_bridge(text: &mut Text, system: &System, bridge: &Bridge) -> Result<(), Memory>
     requires target { bridge.now.target < length system.now.contexts }
     requires reads { AllByRecursion (λ (r : plain.Read). r.context < length system.now.contexts) (reads_of (bridge_of bridge.now)) }
@@ -183,8 +183,8 @@ fn push_bridges(text: &mut Text, system: &System) -> Result<(), Memory>
     Ok(())
 }
 
-/// Appends the canonical text of a system, which does not show the marks of its rules. Without the memory for all of
-/// it `out` stays as it was.
+/// Appends the canonical text of a system. It does not show the marks of the rules. If there is no memory for all of
+/// it, `out` stays as it was.
 pub fn push_system(out: &mut Text, system: &System) -> Result<(), Memory>
     ensures text { OnOk result (out.new ≡ out.old ++ canonical_text system.now) }
     ensures unchanged { OnErr result (out.new ≡ out.old) }
