@@ -25,7 +25,7 @@ fn push_context(text: &mut Text, system: &System, context: u32) -> Result<(), Me
     text.push(system.contexts()[context as usize].name.bytes())
 }
 
-/// Appends the line that names the question.
+/// Appends the line of the question.
 #[tactic(auto, unfolding(crate::specs::Lines::question_text))]
 fn push_question(
     text: &mut Text,
@@ -44,7 +44,7 @@ fn push_question(
     text.push(b"\n")
 }
 
-/// Appends the line of a state that is put out.
+/// Appends the line of a state that is output.
 #[tactic(auto, unfolding(crate::specs::Lines::output_text))]
 fn push_output(text: &mut Text, system: &System, state: Vars) -> Result<(), Memory>
     requires { Within state (all_variables system.now) }
@@ -55,7 +55,7 @@ fn push_output(text: &mut Text, system: &System, state: Vars) -> Result<(), Memo
     text.push(b"\n")
 }
 
-/// Appends the lines of the states that are put out.
+/// Appends the lines of the states that are output.
 fn push_outputs(text: &mut Text, system: &System, outputs: &[Vars]) -> Result<(), Memory>
     requires { AllByRecursion (λ σ. Within σ (all_variables system.now)) outputs.now }
     ensures { OnOk result (text.new ≡ text.old ++ text_of_lines (map (output_text system.now) outputs.now)) }
@@ -77,7 +77,7 @@ fn push_certificate(text: &mut Text, names: &[Name], cert: &AnswerCert) -> Resul
     }
 }
 
-/// Appends the lines of an answer to an own text.
+/// Appends the lines of an answer to a text of its own.
 fn push_answer(
     text: &mut Text,
     system: &System,
@@ -98,9 +98,9 @@ fn push_answer(
     text.push(b"done\n")
 }
 
-/// Appends the lines of an answer: the question, which is a context of the system and rules of it, the states that
-/// are put out, which are sets of its variables, the certificate by its kind, and the line `done`. Without memory
-/// the text stays as it was.
+/// Appends the lines of an answer: the question, the states that are output, the certificate by its kind, and the line
+/// `done`. The question has to be a context of the system and a set of its rules, and each state a set of its
+/// variables. Without memory the text stays as it was.
 pub fn answer_lines(
     system: &System,
     context: u32,

@@ -13,7 +13,7 @@ use mcs_spelling::{push_defaults, push_order};
 use mcs_system::Name;
 use mcs_trace::{Entail, Outside, SetCert};
 
-/// Appends the line that names an unsupported default.
+/// Appends the line of an unsupported default.
 #[tactic(auto, unfolding(crate::specs::Lines::line_text))]
 fn push_unsupported(text: &mut Text, names: &[Name], number: u32) -> Result<(), Memory>
     ensures { OnOk result (text.new ≡ text.old ++ line_with_feed names.now (UnsupportedLine number)) }
@@ -23,7 +23,7 @@ fn push_unsupported(text: &mut Text, names: &[Name], number: u32) -> Result<(), 
     text.push(b"\n")
 }
 
-/// Appends the line that names a blocked default and its justification.
+/// Appends the line of a blocked default, with its justification.
 #[tactic(auto, unfolding(crate::specs::Lines::line_text))]
 fn push_blocked(text: &mut Text, names: &[Name], number: u32, just: u32) -> Result<(), Memory>
     ensures { OnOk result (text.new ≡ text.old ++ line_with_feed names.now (BlockedLine number just)) }
@@ -35,7 +35,7 @@ fn push_blocked(text: &mut Text, names: &[Name], number: u32, just: u32) -> Resu
     text.push(b"\n")
 }
 
-/// Appends the line that names a default that applies.
+/// Appends the line of a default that applies.
 #[tactic(auto, unfolding(crate::specs::Lines::line_text))]
 fn push_applied(text: &mut Text, names: &[Name], number: u32) -> Result<(), Memory>
     ensures { OnOk result (text.new ≡ text.old ++ line_with_feed names.now (AppliedLine number)) }
@@ -45,7 +45,7 @@ fn push_applied(text: &mut Text, names: &[Name], number: u32) -> Result<(), Memo
     text.push(b"\n")
 }
 
-/// Appends the line that names a part of a set of defaults.
+/// Appends the line of a subset that supports no other default of the set.
 #[tactic(auto, unfolding(crate::specs::Lines::line_text))]
 fn push_ungrounded(text: &mut Text, names: &[Name], closed: u32) -> Result<(), Memory>
     ensures { OnOk result (text.new ≡ text.old ++ line_with_feed names.now (UngroundedLine closed)) }
@@ -55,7 +55,7 @@ fn push_ungrounded(text: &mut Text, names: &[Name], closed: u32) -> Result<(), M
     text.push(b"\n")
 }
 
-/// Appends the line that names an order of defaults.
+/// Appends the line of an extension, with its defaults in an order.
 #[tactic(auto, unfolding(crate::specs::Lines::line_text))]
 fn push_extension(text: &mut Text, names: &[Name], order: &[u32]) -> Result<(), Memory>
     ensures { OnOk result (text.new ≡ text.old ++ line_with_feed names.now (ExtensionLine order.now)) }
@@ -65,7 +65,7 @@ fn push_extension(text: &mut Text, names: &[Name], order: &[u32]) -> Result<(), 
     text.push(b"\n")
 }
 
-/// Appends the line that names a set of defaults.
+/// Appends the line of a set of defaults.
 #[tactic(auto, unfolding(crate::specs::Lines::line_text))]
 fn push_set_line(text: &mut Text, names: &[Name], set: u64) -> Result<(), Memory>
     ensures { OnOk result (text.new ≡ text.old ++ line_with_feed names.now (SetLine set)) }
@@ -75,7 +75,7 @@ fn push_set_line(text: &mut Text, names: &[Name], set: u64) -> Result<(), Memory
     text.push(b"\n")
 }
 
-/// Appends the lines that show that a default is not among those that generate.
+/// Appends the lines that show that a default outside the set does not apply.
 fn push_absence(text: &mut Text, names: &[Name], outside: &Outside) -> Result<(), Memory>
     ensures { OnOk result (text.new ≡ text.old ++ written names.now (absence_lines (absence_of outside.now))) }
 {
@@ -91,7 +91,7 @@ fn push_absence(text: &mut Text, names: &[Name], outside: &Outside) -> Result<()
     }
 }
 
-/// Appends the lines of several of these.
+/// Appends the lines for several defaults outside the set.
 fn push_absences(text: &mut Text, names: &[Name], outside: &[Outside]) -> Result<(), Memory>
     ensures { OnOk result (text.new ≡ text.old ++ written names.now (flat_map absence_lines (map absence_of outside.now))) }
 {
@@ -101,7 +101,7 @@ fn push_absences(text: &mut Text, names: &[Name], outside: &[Outside]) -> Result
     Ok(())
 }
 
-/// Appends the lines of a default that applies and is outside the set.
+/// Appends the lines of a default that is outside the set and applies.
 fn push_applying(
     text: &mut Text,
     names: &[Name],
@@ -116,7 +116,7 @@ fn push_applying(
     push_entailments(text, names, justs)
 }
 
-/// Appends the lines of a verdict on a set of defaults.
+/// Appends the lines of the verdict on a set of defaults.
 fn push_verdict(text: &mut Text, names: &[Name], verdict: &SetCert) -> Result<(), Memory>
     ensures { OnOk result (text.new ≡ text.old ++ written names.now (verdict_lines (verdict_of verdict.now))) }
 {
@@ -143,7 +143,7 @@ fn push_verdict(text: &mut Text, names: &[Name], verdict: &SetCert) -> Result<()
     }
 }
 
-/// Appends the lines of the verdicts on all sets of defaults, each after the line that names its set, to an own text.
+/// Appends the lines of the verdicts on all sets of defaults to a text of its own, each after the line of its set.
 pub(crate) fn push_verdicts(
     text: &mut Text,
     names: &[Name],

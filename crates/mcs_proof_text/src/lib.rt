@@ -1,4 +1,4 @@
-//! The proof part of a report: answers with their certificates, written line by line.
+//! The proof part of a report: answers with their certificates, line by line.
 #![tactic(auto)]
 
 mod answer;

@@ -22,7 +22,7 @@ fn push_model_line(text: &mut Text, names: &[Name], atoms: u64) -> Result<(), Me
     text.push(b"\n")
 }
 
-/// Appends the line of a set of atoms that is less than a model.
+/// Appends the line of a smaller set, by which a model is no answer set.
 #[tactic(auto, unfolding(crate::specs::Lines::line_text))]
 fn push_smaller_line(text: &mut Text, names: &[Name], atoms: u64) -> Result<(), Memory>
     ensures { OnOk result (text.new ≡ text.old ++ line_with_feed names.now (SmallerLine atoms)) }
@@ -32,7 +32,7 @@ fn push_smaller_line(text: &mut Text, names: &[Name], atoms: u64) -> Result<(), 
     text.push(b"\n")
 }
 
-/// Appends the line before the last trace.
+/// Appends the line `none`, which precedes the last trace.
 #[tactic(auto, unfolding(crate::specs::Lines::line_text))]
 fn push_none(text: &mut Text, names: &[Name]) -> Result<(), Memory>
     ensures { OnOk result (text.new ≡ text.old ++ line_with_feed names.now NoneLine) }
@@ -40,7 +40,7 @@ fn push_none(text: &mut Text, names: &[Name]) -> Result<(), Memory>
     text.push(b"none\n")
 }
 
-/// Appends the lines of models with their traces.
+/// Appends the lines of models, each with its trace.
 fn push_models(text: &mut Text, names: &[Name], models: &[AnswerSetCert]) -> Result<(), Memory>
     ensures { OnOk result (text.new ≡ text.old ++ written names.now (flat_map model_lines (map model_shown_of models.now))) }
 {
@@ -51,7 +51,7 @@ fn push_models(text: &mut Text, names: &[Name], models: &[AnswerSetCert]) -> Res
     Ok(())
 }
 
-/// Appends a line for each of the sets.
+/// Appends a line for each of the smaller sets.
 fn push_smaller(text: &mut Text, names: &[Name], smaller: &[u64]) -> Result<(), Memory>
     ensures { OnOk result (text.new ≡ text.old ++ written names.now (map SmallerLine smaller.now)) }
 {
@@ -61,7 +61,7 @@ fn push_smaller(text: &mut Text, names: &[Name], smaller: &[u64]) -> Result<(), 
     Ok(())
 }
 
-/// Appends the lines of a certificate of a program to an own text.
+/// Appends the lines of a certificate of a program to a text of its own.
 pub(crate) fn push_program(
     text: &mut Text,
     names: &[Name],

@@ -11,7 +11,7 @@ use mcs_spelling::{push_atoms, push_step};
 use mcs_system::Name;
 use mcs_trace::{Entail, Step, Trace};
 
-/// Appends the line of a step.
+/// Appends the line of a resolution step.
 #[tactic(auto, unfolding(crate::specs::Lines::line_text))]
 fn push_step_line(text: &mut Text, names: &[Name], step: &Step) -> Result<(), Memory>
     ensures { OnOk result (text.new ≡ text.old ++ line_with_feed names.now (StepLine (inference_of step.now))) }
@@ -20,7 +20,7 @@ fn push_step_line(text: &mut Text, names: &[Name], step: &Step) -> Result<(), Me
     text.push(b"\n")
 }
 
-/// Appends the lines of a trace to an own text.
+/// Appends the lines of a trace to a text of its own.
 pub(crate) fn push_trace(text: &mut Text, names: &[Name], trace: &Trace) -> Result<(), Memory>
     ensures { OnOk result (text.new ≡ text.old ++ written names.now (trace_lines (inferences_of trace.now))) }
 {
@@ -30,7 +30,7 @@ pub(crate) fn push_trace(text: &mut Text, names: &[Name], trace: &Trace) -> Resu
     Ok(())
 }
 
-/// Appends the line of a set of atoms that makes a formula false.
+/// Appends the line of an assignment that makes a formula false, given by its true atoms.
 #[tactic(auto, unfolding(crate::specs::Lines::line_text))]
 fn push_no(text: &mut Text, names: &[Name], atoms: u64) -> Result<(), Memory>
     ensures { OnOk result (text.new ≡ text.old ++ line_with_feed names.now (NoLine atoms)) }
@@ -40,7 +40,7 @@ fn push_no(text: &mut Text, names: &[Name], atoms: u64) -> Result<(), Memory>
     text.push(b"\n")
 }
 
-/// Appends the line before a trace.
+/// Appends the line `yes`, which precedes a trace.
 #[tactic(auto, unfolding(crate::specs::Lines::line_text))]
 fn push_yes(text: &mut Text, names: &[Name]) -> Result<(), Memory>
     ensures { OnOk result (text.new ≡ text.old ++ line_with_feed names.now YesLine) }
@@ -48,7 +48,7 @@ fn push_yes(text: &mut Text, names: &[Name]) -> Result<(), Memory>
     text.push(b"yes\n")
 }
 
-/// Appends the lines of an entailment to an own text.
+/// Appends the lines of an entailment to a text of its own.
 pub(crate) fn push_entailment(
     text: &mut Text,
     names: &[Name],
@@ -65,7 +65,7 @@ pub(crate) fn push_entailment(
     }
 }
 
-/// Appends the lines of entailments, one after the other, to an own text.
+/// Appends the lines of entailments, one after the other, to a text of its own.
 pub(crate) fn push_entailments(
     text: &mut Text,
     names: &[Name],

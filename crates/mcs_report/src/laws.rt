@@ -1,10 +1,10 @@
-//! Laws of the listings. The functions do nothing: each contract is a law.
+//! Laws of the listings. The functions compute nothing: each contract is a law.
 
 ghost use Rattle.mcs_report.specs.Listing.{EquilibriaTextsAreOne, StagesAreFronts, EquilibriaTextsExist};
 ghost use Rattle.mcs_report.specs.Repairs.{ReasonsAreNumbered};
 ghost use Rattle.mcs_report.specs.Solutions.{WholeListingsAreOne, ListingStagesAreFronts, WholeListingsExist, SummariesAreOne, SummaryStagesAreFronts, SummariesExist, SummariesEndAsListings, ExplanationsHaveReasons, ConsistentListingsExplainNothing, ListingsWithoutDiagnoses};
 
-/// A system has at most one listing of its equilibria, and each stage of it is a front.
+/// A system has at most one listing of its equilibria, and each stage of it is a prefix of it.
 pub fn equilibria_texts_are_unambiguous()
     ensures one { EquilibriaTextsAreOne }
     ensures stages { StagesAreFronts }
@@ -16,7 +16,7 @@ pub fn equilibria_texts_exist()
 {}
 
 /// A system has at most one whole listing, of its equilibria, its minimal diagnoses and its minimal explanations, and
-/// each stage of it is a front.
+/// each stage of it is a prefix of it.
 pub fn whole_listings_are_unambiguous()
     ensures one { WholeListingsAreOne }
     ensures stages { ListingStagesAreFronts }
@@ -27,7 +27,8 @@ pub fn whole_listings_exist()
     ensures { WholeListingsExist }
 {}
 
-/// A system has exactly one summary of its whole listing, the verdict and the end line, and each stage of it is a front.
+/// A system has exactly one summary of its whole listing (the verdict and the end line), and each stage of it is a
+/// prefix of it.
 pub fn summaries_are_one()
     ensures one { SummariesAreOne }
     ensures stages { SummaryStagesAreFronts }
@@ -39,15 +40,15 @@ pub fn summaries_end_as_listings()
     ensures { SummariesEndAsListings }
 {}
 
-/// What stands by a mark of an explanation is the number, from 1, of the first diagnosis that the explanation meets in
-/// this mark alone; and each mark has one.
+/// The number at a mark of an explanation is that of the first diagnosis, counted from 1, that the explanation meets in
+/// this mark alone. Each mark has one.
 pub fn reasons_are_diagnoses()
     ensures number { ReasonsAreNumbered }
     ensures each { ExplanationsHaveReasons }
 {}
 
-/// The whole listing of a consistent system has the empty pair as its one diagnosis, and no explanation; where it has
-/// no diagnosis, the empty pair is its one explanation.
+/// The whole listing of a consistent system has the empty pair as its only diagnosis, and no explanation. If a system
+/// has no diagnosis, the empty pair is its only explanation.
 pub fn whole_listings_at_the_extremes()
     ensures consistent { ConsistentListingsExplainNothing }
     ensures without_diagnoses { ListingsWithoutDiagnoses }

@@ -1,4 +1,4 @@
-//! What a run prints of a system, its equilibria, its diagnoses and its explanations, line by line.
+//! The lines that a run prints of a system, its equilibria, its diagnoses and its explanations.
 #![tactic(auto)]
 
 mod laws;

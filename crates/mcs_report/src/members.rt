@@ -1,4 +1,4 @@
-//! Sets of variables and of bridge rules, as they are printed.
+//! Sets of variables and sets of bridge rules, as they are printed.
 
 ghost use Rattle.std.specs.Prelude.{◌≡◌, ◌<◌, ◌++◌, length, map, OnOk, OnErr};
 ghost use Rattle.mcs_sets.specs.Sets.{members};
@@ -13,7 +13,7 @@ use mcs_system::System;
 use mcs_text::push_separator;
 use mcs_writer::push_read;
 
-/// What the numbers of a set stand for.
+/// What the numbers in a set denote.
 #[derive(Clone, Copy, Debug, PartialEq, Eq)]
 pub enum Member {
     /// Variables of the system, printed as `CONTEXT:BELIEF`.
@@ -22,7 +22,7 @@ pub enum Member {
     Rule,
 }
 
-/// Appends the variable of this number.
+/// Appends the variable with this number.
 #[tactic(auto, using(mcs_system::proofs::SeenLemmas::loops))]
 fn push_variable(text: &mut Text, system: &System, v: u32) -> Result<(), Memory>
     requires { v < length (variables system.now) }
@@ -31,7 +31,7 @@ fn push_variable(text: &mut Text, system: &System, v: u32) -> Result<(), Memory>
     push_read(text, system, &system.variables()[v as usize])
 }
 
-/// Appends the name of the rule of this number.
+/// Appends the name of the rule with this number.
 #[tactic(auto, using(mcs_system::proofs::SeenLemmas::loops))]
 fn push_rule(text: &mut Text, system: &System, r: u32) -> Result<(), Memory>
     requires { r < length system.now.bridges }
@@ -51,7 +51,7 @@ fn push_member(text: &mut Text, system: &System, kind: Member, number: u32) -> R
     }
 }
 
-/// Appends the members of a set between braces to an own text.
+/// Appends the members of a set in braces to a text of its own.
 fn push_braced(text: &mut Text, system: &System, kind: Member, set: Members) -> Result<(), Memory>
     requires { AllByRecursion (λ k. k < member_count kind system.now) set }
     ensures { OnOk result (text.new ≡ text.old ++ braced (map (member_text kind system.now) set)) }
@@ -66,7 +66,7 @@ fn push_braced(text: &mut Text, system: &System, kind: Member, set: Members) -> 
     text.push(b"}")
 }
 
-/// Appends the members of a set between braces, ascending, with a comma and a space between them. The members are
+/// Appends the members of a set in braces, in ascending order, separated by a comma and a space. The members have to be
 /// numbers of variables, or of rules, of the system. Without memory the text stays as it was.
 pub fn push_set(text: &mut Text, system: &System, kind: Member, set: Members) -> Result<(), Memory>
     requires { AllByRecursion (λ k. k < member_count kind system.now) set }

@@ -1,5 +1,5 @@
-//! The lines of a report of diagnoses and explanations. Each call appends one line with its line feed; without memory
-//! the text stays as it was.
+//! The lines of diagnoses and explanations. Each call appends one line with its line feed. Without memory the text
+//! stays as it was.
 
 ghost use Rattle.std.specs.Prelude.{◌≡◌, ◌<◌, ◌*◌, ◌++◌, map, length, codes, OnOk, OnErr, decimal};
 ghost use Rattle.std.specs.List.{AllByRecursion};
@@ -17,7 +17,7 @@ use mcs_system::System;
 use mcs_text::push_separator;
 use mcs_transversal::first_critical_edges;
 
-/// Appends the mark of this number: `-NAME` where the rule of that name is removed, `+NAME` where it is forced.
+/// Appends the mark with this number: `-NAME` if the rule with this name is removed, `+NAME` if it is forced.
 #[tactic(auto, using(mcs_system::proofs::SeenLemmas::loops))]
 fn push_mark(text: &mut Text, system: &System, mark: u32) -> Result<(), Memory>
     requires { mark < 2 * length system.now.bridges }
@@ -27,7 +27,7 @@ fn push_mark(text: &mut Text, system: &System, mark: u32) -> Result<(), Memory>
     text.push(system.bridges()[(mark / 2) as usize].name.bytes())
 }
 
-/// Appends marks between braces to an own text.
+/// Appends marks in braces to a text of its own.
 fn push_marks(text: &mut Text, system: &System, marks: Members) -> Result<(), Memory>
     requires { AllByRecursion (λ k. k < 2 * length system.now.bridges) marks }
     ensures { OnOk result (text.new ≡ text.old ++ braced (map (mark_text system.now) marks)) }
@@ -42,7 +42,7 @@ fn push_marks(text: &mut Text, system: &System, marks: Members) -> Result<(), Me
     text.push(b"}")
 }
 
-/// Appends a mark, and the number of an edge.
+/// Appends a mark with the number of an edge.
 fn push_reason(text: &mut Text, system: &System, mark: u32, number: u64) -> Result<(), Memory>
     requires { mark < 2 * length system.now.bridges }
     ensures { OnOk result (text.new ≡ text.old ++ (mark_text system.now mark ++ (codes " by " ++ decimal number))) }
@@ -52,8 +52,8 @@ fn push_reason(text: &mut Text, system: &System, mark: u32, number: u64) -> Resu
     text.push_number(number)
 }
 
-/// Appends the marks of an explanation between braces to an own text, each with the number, from 1, of the first edge
-/// that the set meets in it alone.
+/// Appends the marks of an explanation in braces to a text of its own. Each has the number of the first edge, counted
+/// from 1, that the set meets in it alone.
 fn push_reasons(text: &mut Text, system: &System, edges: &[Marks], t: Marks) -> Result<(), Memory>
     requires of_rules { Within t (all_marks system.now) }
     requires critical { IsCritical edges.now t }
@@ -71,8 +71,8 @@ fn push_reasons(text: &mut Text, system: &System, edges: &[Marks], t: Marks) -> 
     text.push(b"}")
 }
 
-/// Appends the line of the diagnosis of this number: its marks, the first state of the changed system, and the
-/// rules that are active in it. All of them are of the system.
+/// Appends the line of the diagnosis with this number: its marks, the first state of the changed system, and the rules
+/// that are active in it. All of these have to be of the system.
 #[tactic(auto, unfolding(crate::specs::Repairs::diagnosis_line))]
 pub fn diagnosis_line(
     system: &System,
@@ -104,9 +104,9 @@ pub fn diagnosis_line(
     out.push(line.bytes())
 }
 
-/// Appends the line of the explanation of this number: its marks, each with the number, from 1, of the first
-/// diagnosis of the listing that the explanation meets in this mark alone. There is one for each mark:
-/// `first_critical_edges` finds it. The marks are of rules of the system.
+/// Appends the line of the explanation with this number: its marks, each with the number of the first diagnosis of the
+/// listing, counted from 1, that the explanation meets in this mark alone. Such a diagnosis has to exist for each mark;
+/// `first_critical_edges` finds it. The marks have to be of rules of the system.
 #[tactic(auto, unfolding(crate::specs::Repairs::explanation_line))]
 pub fn explanation_line(
     system: &System,
@@ -129,7 +129,7 @@ pub fn explanation_line(
     out.push(line.bytes())
 }
 
-/// Appends a number, and what stands after it.
+/// Appends a number, and then `after`.
 fn push_count(text: &mut Text, number: u64, after: &[u8]) -> Result<(), Memory>
     ensures { OnOk result (text.new ≡ text.old ++ (decimal number ++ after.now)) }
 {
@@ -137,8 +137,8 @@ fn push_count(text: &mut Text, number: u64, after: &[u8]) -> Result<(), Memory>
     text.push(after)
 }
 
-/// Appends the last line of a report: how many equilibria, minimal diagnoses and minimal explanations there are, and
-/// the least number of questions with which they are found.
+/// Appends the end line of a whole listing: how many equilibria, minimal diagnoses and minimal explanations there are,
+/// and the least number of questions with which they are found.
 #[tactic(auto, unfolding(crate::specs::Repairs::end_line))]
 pub fn end_line(
     equilibria: u64,
