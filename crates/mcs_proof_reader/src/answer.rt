@@ -1,4 +1,4 @@
-//! The answers of a report, read one by one.
+//! The answers of a report, read one at a time.
 
 ghost use Rattle.std.specs.Prelude.{◌≡◌, ◌≤◌, ◌<◌, ◌+◌, ◌∷◌, [], map, length, IfOk, Some};
 ghost use Rattle.mcs_system.specs.Faults.{default_count};
@@ -21,8 +21,8 @@ use mcs_system::{Kb, System, TheoryItem};
 use mcs_trace::{ClassicalCert, DefaultCert, Entail};
 use std::alloc::Global;
 
-/// An answer of a report: the number of its first line, counted from 1, the question, the states that are put out,
-/// and what is to show that these are all.
+/// An answer of a report: the number of its first line (counted from 1), the question, the states that are output, and
+/// the certificate.
 #[derive(Drop)]
 pub struct ReportAnswer {
     pub line: u64,
@@ -32,14 +32,14 @@ pub struct ReportAnswer {
     pub cert: AnswerCert,
 }
 
-/// What is put out, and why.
+/// The states that are output, and the certificate.
 #[derive(Drop)]
 struct Shown {
     outputs: Vec<Vars>,
     cert: AnswerCert,
 }
 
-/// One state, and what shows it.
+/// One state with the certificate of a classical context.
 fn one_output(alloc: Global, state: Vars, entails: Vec<Entail>) -> Result<Shown, Memory>
     ensures { IfOk result (λ s. shown_of_code s ≡ (state ∷ [], OfFormulas (map entailment_of entails.items))) }
 {
@@ -56,7 +56,7 @@ fn one_output(alloc: Global, state: Vars, entails: Vec<Entail>) -> Result<Shown,
     }
 }
 
-/// Takes what a context of formulas puts out.
+/// Takes the state and the certificate of a classical context.
 #[tactic(auto, unfolding(crate::specs::Answers::classical_at))]
 fn take_classical(
     alloc: Global,
@@ -79,7 +79,7 @@ fn take_classical(
     Ok(one_output(alloc, state, entails)?)
 }
 
-/// Takes what a default theory puts out.
+/// Takes the states and the certificate of a default theory.
 #[tactic(auto, unfolding(crate::specs::Answers::default_at))]
 fn take_default(
     alloc: Global,
@@ -113,7 +113,7 @@ fn take_default(
     }
 }
 
-/// Takes what a program puts out.
+/// Takes the states and the certificate of a program.
 #[tactic(auto, unfolding(crate::specs::Answers::models_at))]
 fn take_models(
     alloc: Global,
@@ -138,7 +138,7 @@ fn take_models(
     }
 }
 
-/// Takes what the context puts out, by its kind.
+/// Takes the states and the certificate of the context, by its kind.
 fn take_shown(
     alloc: Global,
     system: &System,
@@ -159,8 +159,8 @@ fn take_shown(
     }
 }
 
-/// Takes an answer to a question that comes after the last one, by context, and then by rule set. The texts are those of
-/// the system.
+/// Takes an answer, whose question has to come after the last one, by context and then by rule set. The texts are those
+/// of the system.
 #[tactic(auto, unfolding(crate::specs::Answers::answer_at))]
 pub fn take_answer(
     alloc: Global,

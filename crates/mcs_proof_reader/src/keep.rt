@@ -1,4 +1,4 @@
-//! What is kept of the answers of a report.
+//! What a caller keeps of the answers of a report.
 
 ghost use Rattle.std.specs.Prelude.{ℕ, IfOk};
 ghost use Rattle.mcs_system.specs.Plain as plain;
@@ -11,15 +11,16 @@ use mcs_base::Memory;
 use mcs_system::System;
 use std::alloc::Global;
 
-/// What is kept of the answers of a report. Each answer is handed over as soon as it was read, before the next one is.
+/// Decides what is kept of the answers of a report. Each answer is passed as soon as it was read, before the next one
+/// is read.
 pub trait Keep {
     /// What is kept of an answer.
     type Kept: Drop;
 
-    /// What holds of an answer, the number of its first line, counted from 1, and what is kept of it.
+    /// What holds of an answer, the number of its first line (counted from 1), and what is kept of it.
     ghost Keeps: { plain.System → Answer → ℕ → Self.Kept → Type 0 };
 
-    /// What is kept of this answer to a question on the system.
+    /// What is kept of this answer to a question to the system.
     fn keep(
         &self,
         alloc: Global,
@@ -30,7 +31,7 @@ pub trait Keep {
         ensures { IfOk result (λ kept. Keeps system.now (answer_of answer) answer.line kept) };
 }
 
-/// Keeps each answer as it is.
+/// Keeps each answer unchanged.
 pub(crate) struct Whole;
 
 impl Keep for Whole {

@@ -1,4 +1,4 @@
-//! Reports, read: the listing, then answers with their certificates.
+//! A reader of reports: the listing, then answers with their certificates.
 #![tactic(auto)]
 
 mod answer;

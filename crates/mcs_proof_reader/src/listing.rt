@@ -16,14 +16,14 @@ fn ends_listing(line: &[u8]) -> bool
     strip(line, b"end: ").is_some()
 }
 
-/// The bytes of the line.
+/// A copy of the line.
 fn copy_of(alloc: Global, line: &[u8]) -> Result<Vec<u8>, Memory>
     ensures { IfOk result (λ v. v.items ≡ line.now) }
 {
     Ok(line.to_vec(alloc)?)
 }
 
-/// Takes the lines of the listing, up to the one that begins with `end: `.
+/// Takes the lines of the listing, up to and including the first one that begins with `end: `.
 #[tactic(auto, unfolding(crate::specs::Listings::listing_at))]
 pub(crate) fn take_listing(
     alloc: Global,

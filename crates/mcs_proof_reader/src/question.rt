@@ -20,7 +20,7 @@ fn as_rules(numbers: Vars) -> Active
     Active::numbered(numbers.number())
 }
 
-/// The number of the context that has the name.
+/// The number of the context with this name.
 fn context_of(system: &System, name: &[u8]) -> Option<u32>
     ensures value { result ≡ context_from name.now 0 system.now.contexts }
     ensures there { IfSome result (λ i. i < length system.now.contexts) }
@@ -33,7 +33,7 @@ fn context_of(system: &System, name: &[u8]) -> Option<u32>
     None
 }
 
-/// The question of the context with the rules that the text names, where these are rules into it.
+/// The question to the context with the rules that the text names, if these are rules into it.
 fn question_in(system: &System, texts: &Texts, context: u32, text: &[u8]) -> Option<(u32, Active)>
     requires texts { AreTexts system.now texts.now }
     requires context { context < length system.now.contexts }
@@ -48,7 +48,7 @@ fn question_in(system: &System, texts: &Texts, context: u32, text: &[u8]) -> Opt
     }
 }
 
-/// The question that the line names: a context, and rules into it.
+/// The question that the line names: a context and rules into it.
 #[tactic(auto, unfolding(crate::specs::Questions::question_of))]
 fn read_question(system: &System, texts: &Texts, line: &[u8]) -> Option<(u32, Active)>
     requires { AreTexts system.now texts.now }
@@ -61,7 +61,7 @@ fn read_question(system: &System, texts: &Texts, line: &[u8]) -> Option<(u32, Ac
     question_in(system, texts, context, &rest[space + 1..])
 }
 
-/// Whether the question comes after the last one, by context, and then by rule set.
+/// Whether the question comes after the last one, by context and then by rule set.
 fn comes_after(last: Option<(u32, Active)>, question: (u32, Active)) -> bool
     ensures { result ≡ comes_after last question }
 {
@@ -72,7 +72,7 @@ fn comes_after(last: Option<(u32, Active)>, question: (u32, Active)) -> bool
     }
 }
 
-/// The question in the line that is next, if it comes after the last one.
+/// The question in the next line, if it comes after the last one.
 #[tactic(auto, unfolding(crate::specs::Questions::next_question))]
 pub(crate) fn next_question(
     system: &System,
@@ -102,7 +102,7 @@ fn follows(last: Option<Vars>, state: Vars) -> bool
     }
 }
 
-/// The state in the line that is next, if it comes after the last one.
+/// The state in the next line, if it comes after the last one.
 #[tactic(auto, unfolding(crate::specs::Questions::state_of))]
 pub(crate) fn next_state(
     system: &System,
@@ -126,7 +126,7 @@ pub(crate) fn next_state(
     }
 }
 
-/// Takes the states that are next, as many as there are in order.
+/// Takes states from the next lines, as long as they are in order.
 #[tactic(auto, unfolding(crate::specs::Questions::states_at))]
 pub(crate) fn take_states(
     alloc: Global,

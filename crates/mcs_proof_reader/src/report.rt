@@ -1,4 +1,4 @@
-//! A report, read whole.
+//! A whole report.
 
 ghost use Rattle.std.specs.Prelude.{◌≤◌, ℕ, None, length, map, MatchResult};
 ghost use Rattle.mcs_proof_lines.specs.Walks.{Tells, Passes};
@@ -15,7 +15,7 @@ use mcs_proof_lines::{Lines, ReportFault, expect, is_next, out_of_place};
 use mcs_system::System;
 use std::alloc::Global;
 
-/// A report: the lines of the listing, the answers, and the number of the line `end of proof`, counted from 1.
+/// A report: the lines of the listing, the answers, and the number of the line `end of proof` (counted from 1).
 #[derive(Drop)]
 pub struct Report {
     pub listing: Vec<Vec<u8>>,
@@ -23,8 +23,8 @@ pub struct Report {
     pub last_line: u64,
 }
 
-/// Of a report: the lines of the listing, what was kept of each answer, in their order, and the number of the line
-/// `end of proof`, counted from 1.
+/// What is kept of a report: the lines of the listing, what was kept of each answer, in their order, and the number of
+/// the line `end of proof` (counted from 1).
 #[derive(Drop)]
 pub struct KeptReport<T> {
     pub listing: Vec<Vec<u8>>,
@@ -32,7 +32,7 @@ pub struct KeptReport<T> {
     pub last_line: u64,
 }
 
-/// Takes the answers that are next, up to the line that ends them. Of each is kept what `keep` keeps.
+/// Takes the next answers, up to the line that ends them, and keeps of each what `keep` returns.
 fn keep_answers<K: Keep>(
     alloc: Global,
     system: &System,
@@ -59,9 +59,9 @@ fn keep_answers<K: Keep>(
     Ok(kept)
 }
 
-/// What is kept of the report on the system that the bytes spell, as `read_report` reads it. Each answer is handed to
-/// `keep` as soon as it was read, and dropped but for what is kept of it before the next one is read. `Grammar` comes as
-/// there, also where an answer before that line was handed over.
+/// What is kept of the report on the system that the bytes spell, by the grammar of `read_report`. Each answer is
+/// passed to `keep` as soon as it was read. Before the next one is read, all but what `keep` returns is dropped.
+/// `Grammar` is returned in the same cases as by `read_report`, even if answers before that line were passed to `keep`.
 pub fn read_kept<K: Keep>(
     alloc: Global,
     system: &System,
@@ -91,10 +91,16 @@ pub fn read_kept<K: Keep>(
     }
 }
 
-/// The report on the system that the bytes spell: a listing, of which the last line alone begins with `end: `, the line
-/// `proof`, answers to different questions in their order, by context and then by rule set, each with a certificate, and
-/// the line `end of proof`. `Grammar` comes exactly where they spell none, with the number of the first line that is out
-/// of place, counted from 1: the lines before it begin a report, and with it they do not, or there is none that ends.
+/// The report on the system that the bytes spell. It is
+///
+/// - a listing, of which only the last line begins with `end: `,
+/// - the line `proof`,
+/// - answers to different questions, ordered by context and then by rule set, each with a certificate,
+/// - the line `end of proof`.
+///
+/// `Grammar` is returned exactly if they spell no report, with the number of the first line that is out of place,
+/// counted from 1. The lines before it begin a report, and the lines up to and including it do not, or there is no such
+/// line.
 pub fn read_report(alloc: Global, system: &System, bytes: &[u8]) -> Result<Report, ReportFault>
     ensures { IsReportRead system.now bytes.now result }
 {
@@ -108,7 +114,7 @@ pub fn read_report(alloc: Global, system: &System, bytes: &[u8]) -> Result<Repor
     }
 }
 
-/// Takes the line `end of proof`, which is the last.
+/// Takes the line `end of proof`, which has to be the last one.
 fn end_of(lines: &mut Lines<'_>) -> Result<(), ReportFault>
     ensures { Passes result lines.new (end_at lines.old) }
 {

@@ -1,4 +1,4 @@
-//! The texts that the lines of a report may hold.
+//! The texts that lines of a report may contain.
 
 ghost use Rattle.std.specs.Prelude.{◌≡◌, map, length, IfOk};
 ghost use Rattle.mcs_system.specs.Seen.{bridge_of, item_of, read_of};
@@ -12,8 +12,8 @@ use mcs_system::{Bridge, Name, Read, System, TheoryItem};
 use mcs_writer::push_read;
 use std::alloc::Global;
 
-/// The texts that the lines of a report on a system may hold: those of its variables, the names of its rules, and
-/// the numbers of defaults.
+/// The texts that lines of a report on a system may contain: its variables, the names of its rules, and the numbers of
+/// defaults.
 #[derive(Drop)]
 pub struct Texts {
     pub(crate) variables: Vec<Text>,
@@ -21,7 +21,7 @@ pub struct Texts {
     pub(crate) numbers: Vec<Text>,
 }
 
-/// The printed form of each variable.
+/// The variables, as they are printed.
 fn variable_texts(alloc: Global, system: &System, reads: &[Read]) -> Result<Vec<Text>, Memory>
     requires { map read_of reads.now ≡ variables system.now }
     ensures { IfOk result (λ texts. texts.items ≡ variable_texts system.now) }
@@ -89,7 +89,7 @@ pub(crate) fn just_counts(alloc: Global, items: &[TheoryItem]) -> Result<Vec<usi
 }
 
 impl Texts {
-    /// Those of the system.
+    /// The texts for this system.
     pub fn of(alloc: Global, system: &System) -> Result<Texts, Memory>
         ensures { IfOk result (AreTexts system.now) }
     {

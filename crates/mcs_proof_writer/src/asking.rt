@@ -1,4 +1,4 @@
-//! The questions that solvers were asked, in the order of contexts and of sets of rules.
+//! The questions that the solvers were asked, by context and then by rule set.
 
 ghost use Rattle.std.specs.Prelude.{◌≡◌, ◌<◌, ◌++◌, map, length, IfOk, OnOk};
 ghost use Rattle.mcs_base.specs.Listings.{IsAmong, IsListing};
@@ -9,14 +9,14 @@ use mcs_solver::LocalSolver;
 use mcs_system::System;
 use std::alloc::Global;
 
-/// A set of rules into a context, which the context was asked with.
+/// A question: a context and a set of rules into it.
 #[derive(Clone, Copy)]
 pub(crate) struct Question {
     pub(crate) context: u32,
     pub(crate) active: Active,
 }
 
-/// The sets of rules for which the solver was asked, ascending.
+/// The sets of rules with which the solver was asked, ascending.
 fn asked(alloc: Global, solver: &LocalSolver) -> Result<Vec<Active>, Memory>
     ensures { IfOk result (λ sets. IsListing (λ x. IsAmong x solver.now.journal) (λ a b. a < b) sets.items) }
 {
@@ -25,7 +25,7 @@ fn asked(alloc: Global, solver: &LocalSolver) -> Result<Vec<Active>, Memory>
     Ok(sets)
 }
 
-/// Adds the questions with these sets to the context.
+/// Appends the questions to the context with these sets.
 fn push_questions(
     questions: &mut Vec<Question>,
     context: u32,
@@ -42,7 +42,7 @@ fn push_questions(
     Ok(())
 }
 
-/// Adds the questions that the solver of the context was asked, ascending.
+/// Appends the questions that the solver of the context was asked, ascending.
 fn push_asked(
     alloc: Global,
     questions: &mut Vec<Question>,
@@ -55,7 +55,7 @@ fn push_asked(
     push_questions(questions, context, &sets)
 }
 
-/// All questions that the solvers, one for each context of the system, were asked.
+/// All questions that the solvers were asked. There is one solver for each context of the system.
 pub(crate) fn all_questions(
     alloc: Global,
     system: &System,

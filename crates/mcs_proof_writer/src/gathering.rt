@@ -1,4 +1,4 @@
-//! The answers that solvers keep.
+//! The answers that the solvers keep.
 
 ghost use Rattle.std.specs.List.{AllByRecursion, AllZip};
 ghost use Rattle.std.specs.Prelude.{IfOk};
@@ -10,7 +10,7 @@ use mcs_base::{Memory, Vars};
 use mcs_solver::LocalSolver;
 use std::alloc::Global;
 
-/// An answer that a solver keeps, and the certificate that shows it.
+/// An answer that a solver keeps, with its certificate.
 #[derive(Clone, Copy)]
 pub(crate) struct Shown<'s> {
     pub(crate) question: &'s Question,
@@ -18,7 +18,7 @@ pub(crate) struct Shown<'s> {
     pub(crate) cert: &'s AnswerCert,
 }
 
-/// What the solver keeps for the question.
+/// The answer that the solver keeps for the question.
 fn kept_for<'s>(solver: &'s LocalSolver, question: &'s Question) -> Shown<'s>
     requires { IsKeptIn solver.now question.now }
     ensures { IsAnswerIn solver.now.system question.now (answer_of result) }
@@ -33,7 +33,7 @@ fn kept_for<'s>(solver: &'s LocalSolver, question: &'s Question) -> Shown<'s>
     }
 }
 
-/// What the solvers keep for the questions, in their order.
+/// The answers that the solvers keep for the questions, in their order.
 pub(crate) fn gathered<'s>(
     alloc: Global,
     solvers: &'s [LocalSolver],

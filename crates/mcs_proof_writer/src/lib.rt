@@ -1,4 +1,4 @@
-//! The proof part of a report, written: the answers that solvers keep, with what shows them.
+//! Writes the proof part of a report: the answers that the solvers keep, with their certificates.
 #![tactic(auto)]
 
 mod asking;

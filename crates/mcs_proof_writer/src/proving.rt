@@ -1,4 +1,4 @@
-//! The answers of the solvers of all contexts, written.
+//! Writes the answers of the solvers of all contexts.
 
 ghost use Rattle.std.specs.Prelude.{ℕ};
 ghost use Rattle.mcs_proof_writer.specs.Proving.{AreAsked, Proves};
@@ -12,8 +12,8 @@ use mcs_system::System;
 use mcs_text::Unwritten;
 use std::alloc::Global;
 
-/// Writes the proof part of a report: for each context, in order, and each set of rules for which its solver was asked,
-/// ascending, the lines of the answer. All answers are gathered before the first line is written.
+/// Writes the proof part of a report: for each context, in order, and each set of rules with which its solver was
+/// asked, ascending, the lines of the answer. All answers are gathered before the first line is written.
 pub fn write_proof<K: Sink>(
     alloc: Global,
     system: &System,

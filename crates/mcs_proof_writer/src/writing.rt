@@ -1,4 +1,4 @@
-//! Proofs, written line by line.
+//! Writes the proof part line by line.
 
 ghost use Rattle.std.specs.List.{AllByRecursion, flat_map};
 ghost use Rattle.mcs_text.specs.Writes.{Writes};
@@ -26,7 +26,7 @@ fn write_piece<K: Sink>(bytes: &[u8], sink: &mut K) -> Result<(), Unwritten>
     }
 }
 
-/// Writes the lines, each as a piece of its own, and then what stands after the last one.
+/// Writes the lines, each in one piece, and then what follows the last line feed.
 fn write_lines<K: Sink>(lines: &[u8], sink: &mut K) -> Result<(), Unwritten>
     ensures { Writes lines.now (K.device sink.old) (K.device sink.new) result }
 {
@@ -77,7 +77,7 @@ fn write_answers<K: Sink>(
     Ok(())
 }
 
-/// Writes the lines of the answers, after and before those that mark them off.
+/// Writes the lines of the answers, between the lines that begin and end the proof part.
 pub(crate) fn write_marked<K: Sink>(
     alloc: Global,
     system: &System,
