@@ -1,4 +1,4 @@
-//! The oracle of one context whose answers are there from the first.
+//! The oracle of one context whose answers are given beforehand.
 
 ghost use Rattle.std.specs.Prelude.{◌≡◌, ◌<◌, ◌≤◌, [], length, IfErr, IfOk, MatchOption, OnOk};
 ghost use Rattle.std.specs.Arc.{arc_value};
@@ -13,7 +13,7 @@ use std::alloc::Global;
 use std::marker::Model;
 use std::sync::Arc;
 
-/// Answers what one context of a system accepts, from a list of answers, as accepted certificates show them. It misses the
+/// Answers what one context of a system accepts, from a list of answers with accepted certificates. It misses the
 /// questions that are not in the list. It runs no solver.
 #[derive(Drop)]
 pub struct CertifiedOracle {
@@ -39,7 +39,7 @@ impl Model for CertifiedOracle {
     ghost invariant = { λ s. (s.context < length (arc_value s.system).contexts) × AreRight (arc_value s.system) s.context s.answers.items × AreInOrder s.answers.items };
 }
 
-/// How many of the answers are for a set before this one.
+/// How many of the answers are for a set that comes before this one.
 fn place_of(answers: &[(Active, Vec<Vars>)], active: Active) -> usize
     requires { AreInOrder answers.now }
     ensures bound { result ≤ length answers.now }
@@ -64,7 +64,7 @@ fn answer_for(answers: &[(Active, Vec<Vars>)], active: Active) -> Option<&[Vars]
     Some(answer.1.as_slice())
 }
 
-/// The answer for this set; or that it is missing, where there is none.
+/// The answer for this set, or `Missing` if there is none.
 fn held_answer(answers: &[(Active, Vec<Vars>)], active: Active) -> Result<&[Vars], OracleStop>
     requires { AreInOrder answers.now }
     ensures answer { IfOk result (λ states. HasAnswer answers.now active states.now) }
@@ -78,9 +78,9 @@ fn held_answer(answers: &[(Active, Vec<Vars>)], active: Active) -> Result<&[Vars
 }
 
 impl CertifiedOracle {
-    /// The oracle of this context of the system, which is one of its contexts, with these answers: each what the context
-    /// accepts with the heads of a set of rules, as `accepts` tells of its certificate, the sets strictly ascending. It was
-    /// asked nothing.
+    /// The oracle of this context with these answers. The context has to be one of the system's. Each answer has to be
+    /// what the context accepts with the heads of a set of rules, as an accepted certificate shows it, and the sets
+    /// have to be strictly ascending. No question was asked yet.
     pub fn new(
         alloc: Global,
         system: Arc<System>,
@@ -100,7 +100,7 @@ impl CertifiedOracle {
         }
     }
 
-    /// The sets of rules for which it gave an answer, in their order.
+    /// The sets of rules for which it has answered, in the order of the questions.
     pub fn journal(&self) -> &[Active]
         ensures { result.now ≡ self.now.journal }
     {

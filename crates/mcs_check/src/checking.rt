@@ -22,18 +22,19 @@ use mcs_system::System;
 use std::alloc::Global;
 use std::sync::Arc;
 
-/// What is found of the bytes as a report on the system: that it is valid, or the first of four tests that it fails, with
-/// the number of the line that shows so. No search is made. Want of memory may come in place of an answer.
+/// Checks the bytes as a report on the system: it is valid, or fails the first of four tests, with the number of the
+/// line that shows it. No search is done. `Memory` may be returned in place of a finding.
 pub fn check_report(alloc: Global, system: Arc<System>, bytes: &[u8]) -> Result<Finding, Memory>
     ensures found { IfOk result (IsFinding (arc_value system) bytes.now) }
     ensures only { IfOk result (RulesOut (arc_value system) bytes.now) }
 {
-    // That a text spells one report at most follows from what the contexts of a system tell of it.
+    // What the contracts of the contexts ensure of the system implies that a text spells at most one report.
     let _ = system.contexts();
     found_in(alloc, system, bytes)
 }
 
-/// What is found of the bytes. Each answer is judged as soon as it was read, so that one certificate at most is held.
+/// The finding on the bytes. Each answer is judged as soon as it was read, so that at most one certificate is held at a
+/// time.
 fn found_in(alloc: Global, system: Arc<System>, bytes: &[u8]) -> Result<Finding, Memory>
     ensures { IfOk result (IsFinding (arc_value system) bytes.now) }
 {
@@ -47,7 +48,7 @@ fn found_in(alloc: Global, system: Arc<System>, bytes: &[u8]) -> Result<Finding,
     }
 }
 
-/// What is found of a report that was read, with its answers judged.
+/// The finding on a report that was read and whose answers were judged.
 fn finding_of(
     alloc: Global,
     system: Arc<System>,
@@ -72,7 +73,7 @@ fn finding_of(
     Ok(compared(&report.listing, listed.bytes()))
 }
 
-/// What is found of a report with this listing with which nothing else is wrong, by the listing that is due.
+/// The finding on a report with this listing that passes the other tests. `due` is the listing of the system.
 fn compared(listing: &[Vec<u8>], due: &[u8]) -> Finding
     ensures { (m : plain.System) (bytes : List ℕ) (as' : List Answer) → SpellsReport m bytes (map (λ l. l.items) listing.now) as' → AreEnough m as'
         → IsWholeListing m due.now → IsFinding m bytes result }

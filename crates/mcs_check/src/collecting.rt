@@ -1,4 +1,4 @@
-//! A sink that keeps the bytes it is given.
+//! A sink that keeps the bytes that are written to it.
 
 ghost use Rattle.std.specs.Prelude.{◌≡◌, [], Some, None};
 
@@ -7,8 +7,8 @@ use mcs_ports::{Failed, Sink};
 use std::alloc::Global;
 use std::marker::Model;
 
-/// Takes each piece whole, and keeps no notes. A write fails only where there is no memory for its piece, which counts
-/// as a fault.
+/// Takes each piece whole, and keeps no notes. A write fails only if there is no memory for its piece; this counts as a
+/// fault.
 #[derive(Drop)]
 pub(crate) struct Collecting {
     text: Text,
@@ -24,7 +24,7 @@ impl Model for Collecting {
 }
 
 impl Collecting {
-    /// A sink that was given nothing.
+    /// A sink to which nothing was written.
     pub(crate) fn new(alloc: Global) -> Collecting
         ensures { result ≡ record { text = []; faults = 0 } }
     {
@@ -34,7 +34,7 @@ impl Collecting {
         }
     }
 
-    /// The bytes that it was given.
+    /// The bytes that were written to it.
     pub(crate) fn bytes(&self) -> &[u8]
         ensures { result.now ≡ self.now.text }
     {

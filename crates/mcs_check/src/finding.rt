@@ -1,4 +1,4 @@
-//! What the check of a report finds.
+//! The finding of the check of a report.
 
 ghost use Rattle.std.specs.Prelude.{◌≡◌, ◌++◌, OnOk, OnErr};
 ghost use Rattle.mcs_check.specs.Findings.{finding_line, reason_word};
@@ -12,14 +12,14 @@ pub enum Reason {
     Grammar,
     /// The certificate of an answer is not accepted.
     Certificate,
-    /// A question that the listing rests on has no answer.
+    /// A question on which the listing depends has no answer.
     Missing,
-    /// A line of the listing is not that of the system's listing.
+    /// A line of the listing differs from the listing of the system.
     Listing,
 }
 
 impl Reason {
-    /// The word that tells it.
+    /// The word that is printed for the reason.
     fn word(self) -> &'static [u8]
         ensures { result.now ≡ reason_word self }
     {
@@ -32,16 +32,16 @@ impl Reason {
     }
 }
 
-/// What is found of a report.
+/// The finding of the check of a report.
 #[derive(Clone, Copy, Debug, PartialEq, Eq)]
 pub enum Finding {
-    /// It is valid.
+    /// The report is valid.
     Valid,
-    /// It fails a test; the number of the line that shows so, counted from 1.
+    /// The report fails a test. The line, counted from 1, is the one that shows it.
     Fails { line: u64, reason: Reason },
 }
 
-/// Appends the line that tells what was found, with its line feed; without memory the text stays as it was.
+/// Appends the line of the finding, with its line feed. Without memory the text stays as it was.
 #[tactic(auto, unfolding(crate::specs::Findings::finding_line))]
 pub fn finding_line(finding: Finding, out: &mut Text) -> Result<(), Memory>
     ensures ok { OnOk result (out.new ≡ out.old ++ finding_line finding) }

@@ -1,4 +1,4 @@
-//! The answers of a report, judged as they are read.
+//! The answers of a report, judged as soon as they are read.
 
 ghost use Rattle.std.specs.Prelude.{◌↔◌, IsTrue, IfOk, MatchOption};
 ghost use Rattle.std.specs.List.{AllByRecursion};
@@ -13,8 +13,8 @@ use mcs_proof_reader::{Keep, ReportAnswer};
 use mcs_system::System;
 use std::alloc::Global;
 
-/// An answer of a report, without its certificate: the number of its first line, counted from 1, the question, the states
-/// that are put out, and whether the certificate was accepted.
+/// An answer of a report, without its certificate: the number of its first line (counted from 1), the question, the
+/// states that are output, and whether the certificate was accepted.
 #[derive(Drop)]
 pub(crate) struct Judged {
     pub line: u64,
@@ -39,7 +39,7 @@ fn is_right(alloc: Global, system: &System, answer: &ReportAnswer) -> Result<boo
     )
 }
 
-/// Judges each answer, and lets its certificate go.
+/// Judges each answer, and drops its certificate.
 pub(crate) struct Judge;
 
 impl Keep for Judge {
@@ -75,7 +75,7 @@ impl Keep for Judge {
     }
 }
 
-/// The number of the line at which the first answer that is not right begins, if there is one.
+/// The number of the first line of the first answer that is not right, if there is one.
 pub(crate) fn first_wrong(answers: &[Judged]) -> Option<u64>
     ensures { MatchOption result
         (AllByRecursion (λ a. IsTrue a.is_right) answers.now)

@@ -1,5 +1,5 @@
-//! Whether a report on a system is right, told without any search: its certificates are tested step by step, and from its
-//! answers alone the listing is worked out anew.
+//! The check of a report on a system, without any search: its certificates are checked step by step, and its listing is
+//! compared with the one that follows from its answers alone.
 #![tactic(auto)]
 
 mod certified;

@@ -1,4 +1,4 @@
-//! Oracles that hold the answers of a report.
+//! Oracles that answer with the answers of a report.
 
 ghost use Rattle.std.specs.Prelude.{◌≡◌, ◌<◌, ℕ, List, [], length, IfOk, OnOk};
 ghost use Rattle.std.specs.Arc.{arc_value};
@@ -15,7 +15,7 @@ use mcs_system::System;
 use std::alloc::Global;
 use std::sync::Arc;
 
-/// So many lists without answers.
+/// As many lists as there are contexts, each without answers.
 fn no_answers(alloc: Global, contexts: usize) -> Result<Vec<Vec<(Active, Vec<Vars>)>>, Memory>
     ensures many { IfOk result (λ lists. length lists.items ≡ contexts) }
     ensures empty { IfOk result (λ lists. AllByRecursion (λ own. own.items ≡ []) lists.items) }
@@ -27,7 +27,7 @@ fn no_answers(alloc: Global, contexts: usize) -> Result<Vec<Vec<(Active, Vec<Var
     Ok(lists)
 }
 
-/// Puts the answer at the end of the list of its context.
+/// Appends the answer to the list of its context.
 fn put(lists: &mut Vec<Vec<(Active, Vec<Vars>)>>, answer: Judged) -> Result<(), Memory>
     requires { answer.context < length lists.old.items }
     ensures { OnOk result (HoldOneMore answer lists.old.items lists.new.items) }
@@ -36,8 +36,8 @@ fn put(lists: &mut Vec<Vec<(Active, Vec<Vars>)>>, answer: Judged) -> Result<(), 
     Ok(())
 }
 
-/// For each context, in order, the answers to its questions, in their order: for each rule set the states that are put
-/// out. Each is to a question of one of so many contexts.
+/// For each context, in order, the answers to its questions, in their order: for each rule set the states that are
+/// output. The context of each answer has to be below `contexts`.
 fn by_context(
     alloc: Global,
     contexts: usize,
@@ -53,8 +53,8 @@ fn by_context(
     Ok(lists)
 }
 
-/// An oracle for each context of the system, in order, that holds the answers to its questions. None was asked. The
-/// answers are right, and ascend by context and then by rule set.
+/// An oracle for each context of the system, in order, with the answers to its questions. No question was asked yet.
+/// The answers have to be right, and ordered by context and then by rule set.
 pub(crate) fn oracles_of(
     alloc: Global,
     system: &Arc<System>,

@@ -1,4 +1,4 @@
-//! The listing of a system, worked out from answers alone.
+//! The listing of a system, computed from answers alone.
 
 ghost use Rattle.std.specs.Prelude.{◌≡◌, length, IfOk, OnOk, OnErr, MatchOption};
 ghost use Rattle.std.specs.Arc.{arc_value};
@@ -18,10 +18,11 @@ use mcs_work::{Task, WorkStop, work};
 use std::alloc::Global;
 use std::sync::Arc;
 
-/// The most questions of a level that may be asked: more than there are rule sets into the contexts of any system.
+/// The greatest number of questions of a level that may be asked. There are fewer rule sets into the contexts of any
+/// system.
 const MOST_QUESTIONS: u64 = 4_294_967_295;
 
-/// Nothing, where an answer was missing; else memory ran out. The questions are never too many.
+/// `Ok` if an answer was missing; otherwise memory ran out. There are never too many questions.
 fn missing(stop: WorkStop) -> Result<(), Memory>
     requires { ¬ IsSpentStop stop }
     ensures missing { OnOk result (IsMissingStop stop) }
@@ -35,8 +36,8 @@ fn missing(stop: WorkStop) -> Result<(), Memory>
     }
 }
 
-/// The whole listing of the system, as the oracles of its contexts tell it; none where one of them lacks an answer that
-/// is needed.
+/// The whole listing of the system by the oracles of its contexts, or `None` if one of them lacks an answer that is
+/// needed.
 pub(crate) fn listing_by(
     alloc: Global,
     system: Arc<System>,
