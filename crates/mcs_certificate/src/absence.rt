@@ -1,4 +1,4 @@
-//! Whether defaults are shown to be unsupported or blocked.
+//! Checks that defaults are unsupported or blocked.
 
 ghost use Rattle.std.specs.Prelude.{◌≡◌, ◌≤◌, ◌<◌, ◌↔◌, List, length, map, IsTrue, IfOk, MatchOption, None, Some};
 ghost use Rattle.std.specs.List.{AllByRecursion};
@@ -19,7 +19,7 @@ use mcs_system::{Default, Formula, Name};
 use mcs_trace::{Cnf, Entail, Outside};
 use std::alloc::Global;
 
-/// The formula of the number, counted from 1.
+/// The formula with this number, counted from 1.
 fn numbered_formula(formulas: &[Formula], number: u32) -> Option<&Formula>
     ensures { MatchOption result (numbered (map formula_of formulas.now) number ≡ None)
         (λ f. numbered (map formula_of formulas.now) number ≡ Some (formula_of f.now)) }
@@ -30,7 +30,7 @@ fn numbered_formula(formulas: &[Formula], number: u32) -> Option<&Formula>
     Some(&formulas[(number - 1) as usize])
 }
 
-/// Whether it is shown that the negation of the formula follows from those whose clauses are `known`.
+/// Whether it is shown that the negation of the formula follows from the formulas whose clauses are `known`.
 fn shows_negation(
     alloc: Global,
     known: &mut Cnf,
@@ -50,7 +50,7 @@ fn shows_negation(
     shown
 }
 
-/// Whether it is shown that the negation of the justification of this number follows.
+/// Whether it is shown that the negation of the justification with this number follows.
 fn is_blocked(
     alloc: Global,
     known: &mut Cnf,
@@ -71,7 +71,7 @@ fn is_blocked(
     shows_negation(alloc, known, formula, atoms, entail)
 }
 
-/// Whether it is shown that the default of this number is unsupported or blocked.
+/// Whether it is shown that the default with this number is unsupported or blocked.
 pub(crate) fn is_absent(
     alloc: Global,
     known: &mut Cnf,
@@ -107,7 +107,7 @@ pub(crate) fn is_absent(
     }
 }
 
-/// The places of the defaults outside the set, ascending.
+/// The indices of the defaults outside the set, ascending.
 fn places_outside(alloc: Global, defaults: &[&Default], set: Vars) -> Result<Vec<u32>, Memory>
     requires few { length defaults.now ≤ 64 }
     ensures places { IfOk result (λ places. places.items ≡ members (minus (all_of (map (λ d. default_of d.now) defaults.now)) set)) }
@@ -122,7 +122,7 @@ fn places_outside(alloc: Global, defaults: &[&Default], set: Vars) -> Result<Vec
     Ok(places)
 }
 
-/// Whether it is shown of each of the defaults at these places, in order, that it is unsupported or blocked.
+/// Whether it is shown, for each of the defaults at these places in order, that it is unsupported or blocked.
 fn are_absent_at(
     alloc: Global,
     known: &mut Cnf,
@@ -161,7 +161,7 @@ fn are_absent_at(
     Ok(true)
 }
 
-/// Whether it is shown of each default outside the set, ascending, that it is unsupported or blocked.
+/// Whether it is shown, for each default outside the set in ascending order, that it is unsupported or blocked.
 pub(crate) fn are_absent(
     alloc: Global,
     known: &mut Cnf,

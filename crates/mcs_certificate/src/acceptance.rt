@@ -1,4 +1,4 @@
-//! Whether a certificate is accepted of a context.
+//! Whether a certificate of a context is accepted.
 
 ghost use Rattle.std.specs.Prelude.{ℕ, ◌<◌, ◌≤◌, ◌↔◌, List, length, map, IsTrue, IfOk, MatchOption};
 ghost use Rattle.mcs_sets.specs.Orders.{StateBefore};
@@ -21,8 +21,8 @@ use mcs_base::{Active, Memory, Vars};
 use mcs_system::{Formula, Kb, Name, System};
 use std::alloc::Global;
 
-/// The views that the certificate shows of the knowledge base with the heads, if it is accepted. A certificate of another
-/// kind is not.
+/// The views that the certificate shows for the knowledge base with the heads, if it is accepted. A certificate of
+/// another kind than the knowledge base is not.
 fn shown_views(
     alloc: Global,
     kb: &Kb,
@@ -63,13 +63,15 @@ fn shown_views(
     }
 }
 
-/// Whether the certificate is accepted as showing that the context of the system, which is one of its contexts, accepts
-/// exactly these outputs with the heads of the rules, which are rules into it: sets of variables of the context, strictly
-/// ascending in the order of states. No search is made: traces are checked, and formulas and rules are evaluated. A
-/// certificate of another kind than the context's, or of the wrong shape, is just not accepted.
+/// Whether the certificate is accepted as showing that the context accepts exactly these outputs with the heads of the
+/// rules. The context has to be one of the system's, and the rules have to go into it. The outputs are sets of
+/// variables of the context, strictly ascending in the order of states.
 ///
-/// Where the answer is true, the outputs are what the context accepts (`accepted_answers_are_right`). Want of memory may
-/// come in place of an answer.
+/// No search is done: traces are checked, and formulas and rules are evaluated. A certificate of another kind than the
+/// context's, or of the wrong shape, is not accepted.
+///
+/// If the result is true, the outputs are what the context accepts (`accepted_answers_are_right`). `Memory` may be
+/// returned in place of a result.
 pub fn accepts(
     alloc: Global,
     system: &System,

@@ -12,7 +12,7 @@ use mcs_system::{Formula, Name};
 use mcs_trace::ClassicalCert;
 use std::alloc::Global;
 
-/// The one view, alone.
+/// The list of this one view.
 fn only(alloc: Global, view: Vars) -> Result<Vec<Vars>, Memory>
     ensures { IfOk result (λ views. views.items ≡ view ∷ []) }
 {
@@ -21,7 +21,7 @@ fn only(alloc: Global, view: Vars) -> Result<Vec<Vars>, Memory>
     Ok(views)
 }
 
-/// The one view that the certificate shows of the formulas with the heads, if it is accepted.
+/// The one view that the certificate shows for the formulas with the heads, if it is accepted.
 pub(crate) fn classical_views(
     alloc: Global,
     formulas: &[Formula],

@@ -17,7 +17,7 @@ use mcs_system::{Default, Formula, Name, TheoryItem};
 use mcs_trace::{Cnf, DefaultCert, SetCert};
 use std::alloc::Global;
 
-/// How many sets there are of so many defaults.
+/// The number of sets of this many defaults.
 fn set_count(defaults: usize) -> usize
     requires { defaults ≤ 10 }
     ensures { result ≡ 2 ^ defaults }
@@ -25,7 +25,8 @@ fn set_count(defaults: usize) -> usize
     1 << defaults
 }
 
-/// The views that verdicts on all sets of the defaults show, if each is accepted. The clauses of the facts are `known`.
+/// The views that the verdicts on all sets of the defaults show, if each verdict is accepted. `known` has the clauses
+/// of the facts.
 fn judge_all(
     alloc: Global,
     known: &mut Cnf,
@@ -64,7 +65,7 @@ fn judge_all(
     Ok(Some(views))
 }
 
-/// The views that the certificate shows of the theory with the heads as facts, if it is accepted.
+/// The views that the certificate shows for the theory with the heads as facts, if it is accepted.
 pub(crate) fn default_views(
     alloc: Global,
     items: &[TheoryItem],

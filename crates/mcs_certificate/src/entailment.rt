@@ -1,5 +1,5 @@
-//! Whether it is shown that formulas follow from others, or that they do not: by a trace, which is checked, or by an
-//! assignment, under which the formulas are evaluated.
+//! Checks that formulas follow from others, or that they do not: a trace is checked, and under an assignment the
+//! formulas are evaluated.
 
 ghost use Rattle.std.specs.Prelude.{◌≡◌, ℕ, ◌≤◌, ◌↔◌, List, length, map, IsTrue, IfOk, IfSome, MatchOption};
 ghost use Rattle.mcs_sets.specs.Sets.{has};
@@ -27,8 +27,8 @@ pub(crate) fn is_in_range(atoms: &[Name], places: u64) -> bool
     atoms.len() >= 64 || places < 1 << atoms.len()
 }
 
-/// Whether the trace refutes the formulas whose clauses are `known` with the negated goal. The goal's clauses are added
-/// for the test and taken off again.
+/// Whether the trace refutes the formulas whose clauses are `known`, together with the negated goal. The clauses of the
+/// goal are added for the test and removed again.
 fn is_refuted_by(
     alloc: Global,
     known: &mut Cnf,
@@ -50,7 +50,7 @@ fn is_refuted_by(
     right
 }
 
-/// Whether the formulas hold where exactly the atoms at these places are true.
+/// Whether the formulas hold if exactly the atoms at these places are true.
 fn hold_at(atoms: &[Name], values: Vars, formulas: &[&Formula]) -> bool
     requires few { length atoms.now ≤ 64 }
     ensures { result ≡ holds_all (true_names 0 atoms.now values) (map (λ f. formula_of f.now) formulas.now) }
@@ -58,8 +58,8 @@ fn hold_at(atoms: &[Name], values: Vars, formulas: &[&Formula]) -> bool
     formulas.iter().all(|f| holds_at(atoms, values, f))
 }
 
-/// Whether the places are those of atoms, and the formulas hold where exactly these are true. `model`, if it is given, was
-/// found to be such before.
+/// Whether the places are those of atoms, and the formulas hold if exactly these are true. `model` may be such a set
+/// that was found before.
 fn is_model_at(atoms: &[Name], premises: &[&Formula], places: u64, model: &Option<Vars>) -> bool
     requires few { length atoms.now ≤ 64 }
     requires known { IfSome model.now (IsModelAt atoms.now (map (λ f. formula_of f.now) premises.now)) }
@@ -75,7 +75,7 @@ fn is_model_at(atoms: &[Name], premises: &[&Formula], places: u64, model: &Optio
     hold_at(atoms, values, premises)
 }
 
-/// Whether the formulas hold and the goal does not where exactly the atoms at these places are true.
+/// Whether the formulas hold and the goal does not, if exactly the atoms at these places are true.
 fn is_refuted_at(
     atoms: &[Name],
     premises: &[&Formula],
@@ -113,7 +113,7 @@ pub(crate) fn shows(
     }
 }
 
-/// Whether it is shown that the goal does not follow from the formulas, of which a model may be known.
+/// Whether it is shown that the goal does not follow from the formulas. `model` may be a known model of these.
 pub(crate) fn denies(
     atoms: &[Name],
     premises: &[&Formula],
@@ -131,7 +131,7 @@ pub(crate) fn denies(
     }
 }
 
-/// Whether it is shown of each of the goals, in order, that it does not follow.
+/// Whether it is shown, for each of the goals in order, that it does not follow.
 pub(crate) fn deny(
     atoms: &[Name],
     premises: &[&Formula],
@@ -155,8 +155,8 @@ pub(crate) fn deny(
     true
 }
 
-/// Whether what is told of the goal, that it follows from the formulas or that it does not, is shown. A model of the
-/// formulas may be known.
+/// Whether the claim about the goal is shown, be it that it follows from the formulas or that it does not. `model` may
+/// be a known model of the formulas.
 fn tells(
     alloc: Global,
     known: &mut Cnf,
@@ -180,7 +180,7 @@ fn tells(
     }
 }
 
-/// Whether what is told of each of the goals, in order, is shown.
+/// Whether the claim about each of the goals, in order, is shown.
 fn tell(
     alloc: Global,
     known: &mut Cnf,
@@ -211,7 +211,7 @@ fn tell(
     Ok(true)
 }
 
-/// Whether the entailment says `yes`.
+/// Whether the entailment is a `yes`.
 fn says_yes(entail: &Entail) -> bool
     ensures { result ≡ says_yes (entailment_of entail.now) }
 {
@@ -221,7 +221,7 @@ fn says_yes(entail: &Entail) -> bool
     }
 }
 
-/// The places of the entailments that say `yes`.
+/// The places of the entailments that are a `yes`.
 fn places_with_yes(entails: &[Entail]) -> Vars
     requires few { length entails.now ≤ 64 }
     ensures { (b : ℕ) → IsTrue (has result b) ↔ HasYes (map entailment_of entails.now) b }
@@ -235,7 +235,7 @@ fn places_with_yes(entails: &[Entail]) -> Vars
     places
 }
 
-/// The places of those of the beliefs that follow from the formulas, if what is told of each belief is shown.
+/// The places of the beliefs that follow from the formulas, if the claim about each belief is shown.
 pub(crate) fn shown_places(
     alloc: Global,
     known: &mut Cnf,

@@ -1,4 +1,4 @@
-//! Whether a certificate shows what a context accepts, tested by no search.
+//! The checker of certificates: whether a certificate shows what a context accepts, decided without a search.
 #![tactic(auto)]
 
 mod absence;

@@ -23,7 +23,7 @@ pub(crate) fn is_member(set: Vars, number: u32) -> bool
     ensures exact { IsTrue result ↔ IsNumberIn set number }
     ensures low { IsTrue result → number ≤ 64 }
 {
-    // That the members are below 64 is told by their number.
+    // The contract of `count` ensures that the members are below 64.
     let _ = set.count();
     if number == 0 {
         return false;
@@ -34,7 +34,7 @@ pub(crate) fn is_member(set: Vars, number: u32) -> bool
     set.has(number - 1)
 }
 
-/// Whether these are the numbers of the members, each once.
+/// Whether these are the numbers of the members, each once, in any order.
 pub(crate) fn are_numbers(set: Vars, numbers: &[u32]) -> bool
     ensures { IsTrue result ↔ AreNumbersOf set numbers.now }
 {
@@ -48,7 +48,7 @@ pub(crate) fn are_numbers(set: Vars, numbers: &[u32]) -> bool
     left == Vars::empty()
 }
 
-/// The default of the number, counted from 1.
+/// The default with this number, counted from 1.
 pub(crate) fn numbered_default<'f>(defaults: &[&'f Default], number: u32) -> Option<&'f Default>
     ensures { MatchOption result (numbered (map (λ d. default_of d.now) defaults.now) number ≡ None)
         (λ d. numbered (map (λ d. default_of d.now) defaults.now) number ≡ Some (default_of d.now)) }
@@ -59,8 +59,8 @@ pub(crate) fn numbered_default<'f>(defaults: &[&'f Default], number: u32) -> Opt
     Some(defaults[(number - 1) as usize])
 }
 
-/// Whether it is shown that the prerequisites of the defaults of these numbers follow one after the other, each by the
-/// consequents of those before it. The clauses of the consequents are added.
+/// Whether it is shown that the prerequisites of the defaults with these numbers follow one after the other, each by
+/// means of the consequents before it. The clauses of the consequents are added to `known`.
 fn derives(
     alloc: Global,
     known: &mut Cnf,
@@ -93,7 +93,7 @@ fn derives(
     Ok(true)
 }
 
-/// The same, where the clauses that are added are taken off again.
+/// The same, but the clauses that are added are removed again.
 pub(crate) fn are_grounded(
     alloc: Global,
     known: &mut Cnf,

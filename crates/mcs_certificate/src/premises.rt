@@ -1,4 +1,4 @@
-//! The formulas that a context is asked with, and their clauses.
+//! The formulas with which a context is asked, and their clauses.
 
 ghost use Rattle.std.specs.Prelude.{◌≡◌, ◌≤◌, ◌++◌, length, map, IfOk};
 ghost use Rattle.mcs_system.specs.Seen.{formula_of};
@@ -25,7 +25,7 @@ pub(crate) fn clauses_of(
     Ok(known)
 }
 
-/// The formulas of a classical knowledge base, and after them those that are added.
+/// The formulas of a classical knowledge base, followed by those that are added.
 pub(crate) fn formulas_with<'f>(
     alloc: Global,
     formulas: &'f [Formula],
@@ -38,7 +38,7 @@ pub(crate) fn formulas_with<'f>(
     Ok(all)
 }
 
-/// The formulas, each lent.
+/// References to the formulas.
 pub(crate) fn lend(alloc: Global, formulas: &[Formula]) -> Result<Vec<&Formula>, Memory>
     ensures { IfOk result (λ all. map (λ f. formula_of f.now) all.items ≡ map formula_of formulas.now) }
 {
@@ -49,7 +49,7 @@ pub(crate) fn lend(alloc: Global, formulas: &[Formula]) -> Result<Vec<&Formula>,
     Ok(all)
 }
 
-/// The formulas, and after them those that are added.
+/// The formulas, followed by those that are added.
 pub(crate) fn extended<'f>(
     alloc: Global,
     formulas: &[&'f Formula],

@@ -35,7 +35,7 @@ fn is_true_at(atoms: &[Name], places: Vars, name: &Name) -> bool
     false
 }
 
-/// Whether each of the names is true there.
+/// Whether each of the names is that of an atom at one of the places.
 fn all_true(atoms: &[Name], places: Vars, names: &[Name]) -> bool
     requires few { length atoms.now ≤ 64 }
     ensures { result ≡ list_all (λ n. is_in n (true_names 0 atoms.now places)) names.now }
@@ -43,7 +43,7 @@ fn all_true(atoms: &[Name], places: Vars, names: &[Name]) -> bool
     names.iter().all(|name| is_true_at(atoms, places, name))
 }
 
-/// Whether one of the names is true there.
+/// Whether one of the names is that of an atom at one of the places.
 fn some_true(atoms: &[Name], places: Vars, names: &[Name]) -> bool
     requires few { length atoms.now ≤ 64 }
     ensures { result ≡ list_any (λ n. is_in n (true_names 0 atoms.now places)) names.now }
@@ -51,7 +51,7 @@ fn some_true(atoms: &[Name], places: Vars, names: &[Name]) -> bool
     names.iter().any(|name| is_true_at(atoms, places, name))
 }
 
-/// Whether the rule holds where exactly the atoms at these places are true.
+/// Whether the rule holds if exactly the atoms at these places are true.
 fn rule_holds(atoms: &[Name], places: Vars, rule: &ProgRule) -> bool
     requires few { length atoms.now ≤ 64 }
     ensures { result ≡ holds (true_names 0 atoms.now places) (rule_formula (rule_of rule.now)) }
@@ -65,7 +65,7 @@ fn rule_holds(atoms: &[Name], places: Vars, rule: &ProgRule) -> bool
     some_true(atoms, places, &rule.head)
 }
 
-/// Whether each of the rules does.
+/// Whether each of the rules holds if exactly the atoms at these places are true.
 fn rules_hold(atoms: &[Name], places: Vars, rules: &[ProgRule]) -> bool
     requires few { length atoms.now ≤ 64 }
     ensures { result ≡ holds_all (true_names 0 atoms.now places) (map rule_formula (map rule_of rules.now)) }
@@ -73,7 +73,7 @@ fn rules_hold(atoms: &[Name], places: Vars, rules: &[ProgRule]) -> bool
     rules.iter().all(|rule| rule_holds(atoms, places, rule))
 }
 
-/// The numbers of the beliefs that are true where exactly the atoms at these places are.
+/// The indices of the beliefs that are true if exactly the atoms at these places are.
 fn view_of(atoms: &[Name], places: Vars, beliefs: &[&Name]) -> Vars
     requires few { length atoms.now ≤ 64 }
     requires few_beliefs { length beliefs.now ≤ 64 }
@@ -149,7 +149,7 @@ fn are_ascending(states: &[Vars]) -> bool
     true
 }
 
-/// The sets of these numbers, if each is one of places of atoms.
+/// The sets with these numbers, if each is a set of places of atoms.
 fn sets_of(alloc: Global, atoms: &[Name], numbers: &[u64]) -> Result<Option<Vec<Vars>>, Memory>
     ensures { IfOk result (λ sets. MatchOption sets
         (¬ AllByRecursion (IsInRange atoms.now) numbers.now)
@@ -165,7 +165,7 @@ fn sets_of(alloc: Global, atoms: &[Name], numbers: &[u64]) -> Result<Option<Vec<
     Ok(Some(sets))
 }
 
-/// Whether the trace refutes that a model has none of the smaller sets below it and a view that is none of these.
+/// Whether the trace shows that no model is left: each has one of these views, or one of the smaller sets undoes it.
 fn is_rest_refuted(
     alloc: Global,
     atoms: &[Name],
@@ -186,7 +186,7 @@ fn is_rest_refuted(
     check(alloc, &rest, trace)
 }
 
-/// The views that the certificate shows of the rules, if it is accepted.
+/// The views that the certificate shows for the rules, if it is accepted.
 fn views_of_rules(
     alloc: Global,
     atoms: &[Name],
@@ -220,8 +220,8 @@ fn views_of_rules(
     Ok(Some(views))
 }
 
-/// The views that the certificate shows of the program with the heads, which are atoms, as the beliefs are, if it is
-/// accepted.
+/// The views that the certificate shows for the program with the heads, if it is accepted. The beliefs have to be
+/// atoms. A head that is not an atom adds no fact.
 pub(crate) fn program_views(
     alloc: Global,
     rules: &[ProgRule],

@@ -1,4 +1,4 @@
-//! The facts of a theory, and the defaults of a set.
+//! The facts of a theory, and the defaults in a set.
 
 ghost use Rattle.std.specs.Prelude.{◌≡◌, ◌≤◌, ◌++◌, length, map, IfOk};
 ghost use Rattle.mcs_system.specs.Plain.{Not};
@@ -23,7 +23,7 @@ fn facts_of(alloc: Global, items: &[TheoryItem]) -> Result<Vec<&Formula>, Memory
     Ok(facts)
 }
 
-/// The facts of the items, and after them those that are added.
+/// The facts of the items, followed by those that are added.
 pub(crate) fn facts_with<'f>(
     alloc: Global,
     items: &'f [TheoryItem],
@@ -90,7 +90,7 @@ pub(crate) fn negated(alloc: Global, formula: &Formula) -> Result<Formula, Memor
     Ok(Formula::Not(Box::new(alloc, copy)?))
 }
 
-/// Adds the negations of the formulas.
+/// Appends the negations of the formulas.
 fn push_negations(
     alloc: Global,
     negations: &mut Vec<Formula>,

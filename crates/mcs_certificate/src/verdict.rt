@@ -1,4 +1,4 @@
-//! Verdicts on the sets of the defaults of a theory.
+//! Checks of the verdicts on the sets of the defaults of a theory.
 
 ghost use Rattle.std.specs.Prelude.{◌≡◌, ℕ, ◌≤◌, ◌↔◌, List, length, map, IsTrue, IfOk, OnOk, MatchOption};
 ghost use Rattle.mcs_system.specs.Plain as plain;
@@ -20,18 +20,18 @@ use mcs_system::{Default, Formula, Name};
 use mcs_trace::{Cnf, Entail, Outside, SetCert};
 use std::alloc::Global;
 
-/// What a verdict on a set of defaults comes to.
+/// The result of checking a verdict on a set of defaults.
 #[derive(Clone, Copy)]
 pub(crate) enum Judged {
-    /// It is not accepted.
+    /// The verdict is not accepted.
     Refused,
-    /// It is accepted, and the set generates no extension.
+    /// The verdict is accepted, and the set generates no extension.
     Passed,
-    /// It is accepted, and the set generates an extension with this view.
+    /// The verdict is accepted, and the set generates an extension with this view.
     Shows(Vars),
 }
 
-/// Whether the verdict is accepted that the set generates no extension.
+/// The result for a verdict that the set generates no extension.
 fn judged_by(accepted: bool) -> Judged
     ensures { result ≡ judged_by accepted }
 {
@@ -42,7 +42,8 @@ fn judged_by(accepted: bool) -> Judged
     }
 }
 
-/// What a verdict comes to that the set generates an extension, with the view that is shown of it.
+/// The result for a verdict that the set generates an extension. The view is the one that is shown; if there is none,
+/// the verdict is not accepted.
 fn judged_as(view: Option<Vars>) -> Judged
     ensures { result ≡ judged_as view }
 {
@@ -52,7 +53,7 @@ fn judged_as(view: Option<Vars>) -> Judged
     }
 }
 
-/// Whether it is shown of each of the goals, in order, that it does not follow.
+/// Whether it is shown, for each of the goals in order, that it does not follow.
 fn deny_each(
     alloc: Global,
     premises: &[&Formula],
@@ -68,7 +69,7 @@ fn deny_each(
     Ok(deny(atoms, premises, &lent, entails))
 }
 
-/// Whether it is shown of each negated justification of the defaults, in order, that it does not follow.
+/// Whether it is shown, for each negated justification of the defaults in order, that it does not follow.
 fn allow(
     alloc: Global,
     premises: &[&Formula],
@@ -86,7 +87,7 @@ fn allow(
     denied
 }
 
-/// The number of the default that is absent.
+/// The number of the default that does not apply.
 fn number_of(absence: &Outside) -> u32
     ensures { result ≡ number_in (absence_of absence.now) }
 {
@@ -96,7 +97,7 @@ fn number_of(absence: &Outside) -> u32
     }
 }
 
-/// Whether it is shown of a default of the set that it does not apply.
+/// Whether it is shown that a default of the set does not apply.
 fn has_failed(
     alloc: Global,
     known: &mut Cnf,
@@ -120,7 +121,7 @@ fn has_failed(
     is_absent(alloc, known, premises, defaults, atoms, number, absence)
 }
 
-/// Whether it is shown that the default of this number is outside the set and applies.
+/// Whether it is shown that the default with this number is outside the set and applies.
 fn has_applied(
     alloc: Global,
     known: &mut Cnf,
@@ -153,7 +154,7 @@ fn has_applied(
     allow(alloc, premises, &[default], atoms, justs)
 }
 
-/// Whether it is shown that by the defaults of a part of the set, which is not all of it, none of the others is supported.
+/// Whether it is shown that the defaults of a proper subset of the set support none of the others of the set.
 fn is_ungrounded(
     alloc: Global,
     facts: &[&Formula],
@@ -183,7 +184,8 @@ fn is_ungrounded(
     Ok(deny(atoms, &premises, &goals, pres))
 }
 
-/// The view of the extension that the set generates, if what is shown of it beside the order of its defaults is accepted.
+/// The view of the extension that the set generates, if all that is shown of it is accepted, apart from the order of
+/// its defaults.
 fn complete_view(
     alloc: Global,
     known: &mut Cnf,
@@ -221,7 +223,7 @@ fn complete_view(
     shown_places(alloc, known, premises, beliefs, atoms, outputs)
 }
 
-/// The verdict on a set of defaults by the formulas that it generates, whose clauses are `known`.
+/// Checks a verdict on a set of defaults, given the formulas that the set generates. `known` has the clauses of these.
 fn judge_from(
     alloc: Global,
     known: &mut Cnf,
@@ -273,7 +275,7 @@ fn judge_from(
     }
 }
 
-/// The same, where the clauses of the facts are `known`, and those of the consequents are added for the test and taken off
+/// The same, but `known` has the clauses of the facts. Those of the consequents are added for the test and removed
 /// again.
 fn judge_generated(
     alloc: Global,
@@ -309,8 +311,9 @@ fn judge_generated(
     Ok(judged)
 }
 
-/// Whether the order in which the defaults of the set apply is accepted, where the verdict tells one; a verdict that they
-/// are not grounded is none that this serves for.
+/// For a verdict that the set generates an extension: whether the order in which its defaults apply is accepted.
+/// Verdicts that a default fails or applies have no order and pass. A verdict that the set is ungrounded does not pass;
+/// it is checked in another way.
 fn is_ready(
     alloc: Global,
     known: &mut Cnf,
@@ -348,7 +351,7 @@ fn is_ready(
     }
 }
 
-/// What the verdict on the set comes to. The clauses of the facts are `known`.
+/// Checks the verdict on the set. `known` has the clauses of the facts.
 pub(crate) fn judge(
     alloc: Global,
     known: &mut Cnf,
