@@ -1,4 +1,4 @@
-//! What is accepted as showing what a default theory or a program accepts.
+//! When certificates of default theories and of programs are accepted, and the clauses of the formulas of a program.
 #![tactic(auto)]
 
 mod laws;

@@ -1,4 +1,4 @@
-//! Names at places, and names among others.
+//! Names at places of a list, and names in other lists.
 
 ghost use Rattle.std.specs.Prelude.{◌≡◌, ◌≤◌, not, length, filter, IfOk};
 ghost use Rattle.std.specs.List.{list_any, list_all};
@@ -31,7 +31,7 @@ pub(crate) fn all_among(names: &[Name], those: &[Name]) -> bool
     names.iter().all(|name| is_among(name, those))
 }
 
-/// Whether the positive body of the rule lies within the names, and no head atom does.
+/// Whether the names contain the positive body of the rule and none of its head atoms.
 pub(crate) fn is_broken(names: &[Name], rule: &ProgRule) -> bool
     ensures { result ≡ is_broken_by names.now (rule_of rule.now) }
 {
@@ -52,7 +52,7 @@ pub fn names_at(alloc: Global, atoms: &[Name], places: Vars) -> Result<Vec<Name>
     Ok(names)
 }
 
-/// The other atoms, in order.
+/// The atoms that are not at the places, in order.
 pub(crate) fn names_beside(alloc: Global, atoms: &[Name], places: Vars) -> Result<Vec<Name>, Memory>
     requires few { length atoms.now ≤ 64 }
     ensures { IfOk result (λ names. names.items ≡ false_names 0 atoms.now places) }
@@ -66,7 +66,7 @@ pub(crate) fn names_beside(alloc: Global, atoms: &[Name], places: Vars) -> Resul
     Ok(names)
 }
 
-/// Those of the names that are none of the others, in order.
+/// Those of the names that are not among the others, in order.
 pub(crate) fn names_apart(
     alloc: Global,
     names: &[Name],

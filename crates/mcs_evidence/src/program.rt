@@ -1,4 +1,5 @@
-//! The clauses that belong to a program: of what is smaller than a model, of what is beside it, and of other states.
+//! The clauses of formulas of a program: that a smaller set satisfies the reduct by a model, that a set does not undo a
+//! model, and that the state is another one.
 
 ghost use Rattle.std.specs.Prelude.{◌≡◌, ◌≤◌, ◌++◌, List, [], ◌∷◌, None, Some, cond, length, map, filter, IfOk, OnErr};
 ghost use Rattle.mcs_system.specs.Logic.{reduct};
@@ -40,7 +41,7 @@ fn push_reduct(
     Ok(())
 }
 
-/// Adds the clauses that say of each of the names that it is false.
+/// Adds the clauses that each of the names is false.
 fn push_negations(
     alloc: Global,
     cnf: &mut Cnf,
@@ -59,7 +60,7 @@ fn push_negations(
     Ok(())
 }
 
-/// Adds the clauses of the negation of a whole conjunction, of which `all` is the number if it has parts.
+/// Adds the clauses that a whole conjunction is false. `all` is its number, if it has parts.
 fn push_not_all(alloc: Global, cnf: &mut Cnf, all: Option<u64>) -> Result<(), Memory>
     requires part { IsPart cnf.old all }
     ensures grows { IfOk result (λ _. cnf.old.vars ≤ cnf.new.vars) }
@@ -71,7 +72,8 @@ fn push_not_all(alloc: Global, cnf: &mut Cnf, all: Option<u64>) -> Result<(), Me
     push_unit(alloc, cnf, n)
 }
 
-/// The clauses that are satisfied by what is smaller than the model and satisfies the reduct by it.
+/// The clauses that a proper subset of the model satisfies the reduct by it. They are unsatisfiable exactly if no such
+/// subset exists.
 pub fn smaller_clauses(
     alloc: Global,
     atoms: &[Name],
@@ -92,7 +94,8 @@ pub fn smaller_clauses(
     Ok(cnf)
 }
 
-/// Adds to a conjunction, of each rule that the names break, that one of its negative atoms is true.
+/// Adds to a conjunction, for each rule that the names break, the disjunction of its negative body atoms. Returns the
+/// number of the conjunction, if it has parts.
 fn join_broken(
     alloc: Global,
     cnf: &mut Cnf,
@@ -119,8 +122,8 @@ fn join_broken(
     Ok(all)
 }
 
-/// Adds the clauses that are false where the atoms at these places are less than a model and satisfy the reduct by it,
-/// to an own list.
+/// Appends to a list of its own the clauses of the formula that is false if the atoms at these places are a proper
+/// subset of a model and satisfy the reduct by it.
 fn push_one_beside(
     alloc: Global,
     cnf: &mut Cnf,
@@ -143,8 +146,8 @@ fn push_one_beside(
     push_not_all(alloc, cnf, all)
 }
 
-/// Adds the clauses that are false where the atoms at these places are less than a model and satisfy the reduct by it.
-/// Where memory runs out, the list is as before.
+/// Adds the clauses of the formula that is false if the atoms at these places are a proper subset of a model and
+/// satisfy the reduct by it. If memory runs out, the list is as before.
 pub fn push_beside(
     alloc: Global,
     cnf: &mut Cnf,
@@ -164,7 +167,7 @@ pub fn push_beside(
     cnf.append(own)
 }
 
-/// Adds the belief to a conjunction, or its negation.
+/// Adds an occurrence of the belief if `holds`, and otherwise of its negation. Returns its number.
 fn push_literal(
     alloc: Global,
     cnf: &mut Cnf,
@@ -186,7 +189,7 @@ fn push_literal(
     }
 }
 
-/// Adds the clauses that are false where exactly the beliefs at these places are true.
+/// Adds the clauses of the formula that is false if exactly the beliefs at these places are true.
 pub(crate) fn push_other(
     alloc: Global,
     cnf: &mut Cnf,
@@ -210,7 +213,7 @@ pub(crate) fn push_other(
     push_not_all(alloc, cnf, all)
 }
 
-/// Adds the clauses of what is beside models, in the order of the smaller sets.
+/// For each of the smaller sets, in their order, adds the clauses that it does not undo the model.
 fn push_besides(
     alloc: Global,
     cnf: &mut Cnf,
@@ -230,7 +233,7 @@ fn push_besides(
     Ok(())
 }
 
-/// Adds the clauses that the state is another one than each of these.
+/// Adds the clauses that the state is none of these.
 fn push_others(
     alloc: Global,
     cnf: &mut Cnf,
@@ -251,7 +254,7 @@ fn push_others(
     Ok(())
 }
 
-/// The clauses that are satisfied by a model that has none of the smaller sets below it and a state of its own.
+/// The clauses of a model that none of the smaller sets undoes and whose state is none of these.
 pub fn rest_clauses(
     alloc: Global,
     atoms: &[Name],

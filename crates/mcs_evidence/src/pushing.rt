@@ -1,5 +1,5 @@
-//! The clauses of conjunctions and disjunctions of names, which are added name by name, and of the rules of programs. No
-//! formula is made.
+//! The clauses of conjunctions and disjunctions that are built name by name, and of the rules of programs. The formulas
+//! are not built.
 
 ghost use Rattle.std.specs.Prelude.{◌≡◌, ◌≤◌, ◌++◌, List, [], ◌∷◌, None, Some, length, map, IfOk, IsTrue};
 ghost use Rattle.mcs_system.specs.Logic.{is_in};
@@ -18,8 +18,8 @@ use mcs_system::{Name, ProgRule};
 use mcs_trace::Cnf;
 use std::alloc::Global;
 
-/// Adds an occurrence of what `all` is the number of and of `x`, whose number it gives; it is `x` itself where there was
-/// nothing before.
+/// Adds the conjunction of the one with number `all`, if there is one, and of `x`. Returns its number, which is `x` if
+/// there was none.
 pub(crate) fn join(alloc: Global, cnf: &mut Cnf, all: Option<u64>, x: u64) -> Result<u64, Memory>
     requires part { IsPart cnf.old all }
     requires next { IsVariable cnf.old x }
@@ -52,7 +52,7 @@ pub(crate) fn join_either(
     }
 }
 
-/// The number of an atom that is one of the names.
+/// The number of an atom. It has to be one of the names.
 #[tactic(auto, using(mcs_cnf::proofs::NumberLemmas::atom_positive, mcs_cnf::proofs::NumberLemmas::atom_within))]
 pub(crate) fn atom_of(cnf: &Cnf, atoms: &[Name], name: &Name) -> u64
     requires over { IsTrue (is_in name.now atoms.now) }
@@ -63,7 +63,7 @@ pub(crate) fn atom_of(cnf: &Cnf, atoms: &[Name], name: &Name) -> u64
     atom_number(atoms, name)
 }
 
-/// Adds an occurrence of the negation of an atom that is one of the names; its number.
+/// Adds an occurrence of the negation of an atom, and returns its number. The atom has to be one of the names.
 pub(crate) fn push_negated(
     alloc: Global,
     cnf: &mut Cnf,
@@ -81,7 +81,7 @@ pub(crate) fn push_negated(
     push_not(alloc, cnf, x)
 }
 
-/// Adds the names, as atoms, to a conjunction, of which `all` is the number if it has parts; its number from then on.
+/// Adds the names, as atoms, to a conjunction. `all` is its number, if it has parts. Returns its new number.
 pub(crate) fn join_atoms(
     alloc: Global,
     cnf: &mut Cnf,
@@ -129,7 +129,7 @@ pub(crate) fn join_negated(
     Ok(all)
 }
 
-/// The number of a whole conjunction, which is true where it has no parts.
+/// The number of a whole conjunction; one without parts is true.
 pub(crate) fn all_of(alloc: Global, cnf: &mut Cnf, all: Option<u64>) -> Result<u64, Memory>
     requires part { IsPart cnf.old all }
     ensures number { IfOk result (IsVariable cnf.new) }
@@ -143,7 +143,7 @@ pub(crate) fn all_of(alloc: Global, cnf: &mut Cnf, all: Option<u64>) -> Result<u
     }
 }
 
-/// The number of a whole disjunction, which is false where it has no parts.
+/// The number of a whole disjunction; one without parts is false.
 pub(crate) fn any_of(alloc: Global, cnf: &mut Cnf, any: Option<u64>) -> Result<u64, Memory>
     requires part { IsPart cnf.old any }
     ensures number { IfOk result (IsVariable cnf.new) }
@@ -157,7 +157,7 @@ pub(crate) fn any_of(alloc: Global, cnf: &mut Cnf, any: Option<u64>) -> Result<u
     }
 }
 
-/// Adds the disjunction of the names; its number.
+/// Adds the disjunction of the names, and returns its number.
 pub(crate) fn push_either(
     alloc: Global,
     cnf: &mut Cnf,
@@ -179,7 +179,7 @@ pub(crate) fn push_either(
     any_of(alloc, cnf, any)
 }
 
-/// Adds the clauses of the rule of these parts.
+/// Adds the clauses of the rule with this head and body.
 pub(crate) fn push_rule(
     alloc: Global,
     cnf: &mut Cnf,

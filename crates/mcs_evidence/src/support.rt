@@ -1,4 +1,4 @@
-//! The clauses that say of a set of atoms that it has support from outside if one of them is true.
+//! The clauses of loop formulas: if one of a set of atoms is true, the set has external support.
 
 ghost use Rattle.std.specs.Prelude.{◌≡◌, ◌≤◌, [], ◌∷◌, length, map, filter, IfOk, OnErr};
 ghost use Rattle.mcs_system.specs.Plain as plain;
@@ -16,14 +16,14 @@ use mcs_system::{Name, ProgRule};
 use mcs_trace::Cnf;
 use std::alloc::Global;
 
-/// Whether a head atom of the rule is in the set, and no positive body atom.
+/// Whether a head atom of the rule is in the set, and no positive body atom is.
 fn may_support(set: &[Name], rule: &ProgRule) -> bool
     ensures { result ≡ may_support set.now (rule_of rule.now) }
 {
     some_among(&rule.head, set) && !some_among(&rule.pos, set)
 }
 
-/// Adds that the body of the rule holds and no head atom beside those in the set; its number.
+/// Adds the formula that the body of the rule holds and no head atom outside the set is true. Returns its number.
 fn push_outside(
     alloc: Global,
     cnf: &mut Cnf,
@@ -44,7 +44,7 @@ fn push_outside(
     all_of(alloc, cnf, all)
 }
 
-/// Adds that one of the rules supports the set from outside; its number.
+/// Adds the formula that one of the rules gives the set external support. Returns its number.
 fn push_supports(
     alloc: Global,
     cnf: &mut Cnf,
@@ -70,7 +70,8 @@ fn push_supports(
     any_of(alloc, cnf, any)
 }
 
-/// Adds the clauses that some rule supports the set of atoms from outside if one of them is true, to an own list.
+/// Appends to a list of its own the clauses of the loop formula of the set: if one of its atoms is true, some rule
+/// gives it external support.
 fn push_one_support(
     alloc: Global,
     cnf: &mut Cnf,
@@ -90,8 +91,8 @@ fn push_one_support(
     push_unit(alloc, cnf, n)
 }
 
-/// Adds the clauses that some rule supports the set of atoms from outside if one of them is true. Where memory runs out,
-/// the list is as before.
+/// Adds the clauses of the loop formula of the set: if one of its atoms is true, some rule gives it external support.
+/// If memory runs out, the list is as before.
 pub fn push_support(
     alloc: Global,
     cnf: &mut Cnf,
