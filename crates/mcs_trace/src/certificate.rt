@@ -1,51 +1,52 @@
-//! What a reasoner shows for its answers.
+//! Certificates as data. What is said of them here is what they claim; a checker has to test it.
 
 use crate::trace::Trace;
 
-/// Whether formulas entail another one, and why: a trace that refutes them with its negation, or the set of
-/// the atoms that are true where they hold and it does not. Bit i stands for atom i+1.
+/// Whether a formula follows from others, and what shows it. `Yes` has a trace that refutes these with its negation.
+/// `No` has an assignment under which these hold and it does not, as the set of the true atoms. In the set, bit i is
+/// atom i+1.
 #[derive(Drop)]
 pub enum Entail {
     Yes(Trace),
     No(u64),
 }
 
-/// For each belief of a classical context whether it follows, and why.
+/// For each belief of a classical context whether it follows, and what shows it.
 #[derive(Drop)]
 pub struct ClassicalCert {
     pub entails: Vec<Entail>,
 }
 
-/// Why a default of a theory is not one of those that generate a set of beliefs. Defaults and justifications are
+/// Why a default does not apply to the beliefs that a set of defaults generates. Defaults and justifications are
 /// numbered from 1.
 #[derive(Drop)]
 pub enum Outside {
-    /// The default's prerequisite does not follow.
+    /// The prerequisite of the default does not follow.
     Unsupported(u32, Entail),
     /// The negation of a justification of the default follows.
     Blocked(u32, u32, Entail),
 }
 
-/// What shows of a set of defaults that it generates an extension of the theory, or that it does not.
+/// A verdict on a set of defaults: why it generates an extension of the theory, or why it does not.
 #[derive(Drop)]
 pub enum SetCert {
     /// A default of the set does not apply.
     Fails(Outside),
-    /// The default of this number applies and is not in the set: its prerequisite follows, and no negation of a
+    /// The default with this number is not in the set and applies: its prerequisite follows, and the negation of no
     /// justification does.
     Applied {
         number: u32,
         pre: Entail,
         justs: Vec<Entail>,
     },
-    /// With the defaults of this part of the set, of which bit i stands for default i+1, the prerequisites of the
-    /// others do not follow.
+    /// With the defaults of a proper subset, `closed`, the prerequisites of the others of the set do not follow. In
+    /// `closed`, bit i is default i+1.
     Ungrounded {
         closed: u32,
         pres: Vec<Entail>,
     },
-    /// The set generates an extension: in this order each prerequisite follows by the defaults before it, no negation
-    /// of a justification follows, each default outside does not apply, and of each belief it is shown whether it
+    /// The set generates an extension. In this order each prerequisite follows by means of the defaults before it. The
+    /// negation of no justification follows. No default outside the set applies. For each belief it is shown whether it
     /// follows.
     Extension {
         order: Vec<u32>,
@@ -56,24 +57,23 @@ pub enum SetCert {
     },
 }
 
-/// For each set of the defaults of a theory, ascending by its number, in which bit i stands for default i+1, what
-/// shows that it generates an extension or not.
+/// For each set of the defaults of a theory a verdict, ascending by the number of the set. In this number, bit i is
+/// default i+1.
 #[derive(Drop)]
 pub struct DefaultCert {
     pub sets: Vec<SetCert>,
 }
 
-/// A model of a program, in which bit i stands for atom i+1, and a trace that refutes that a smaller set of atoms
-/// satisfies its reduct.
+/// A model of a program, and a trace that no proper subset of it satisfies its reduct. In the model, bit i is atom i+1.
 #[derive(Drop)]
 pub struct AnswerSetCert {
     pub model: u64,
     pub minimal: Trace,
 }
 
-/// The answer sets that show the states of a program, one for each; sets of atoms that are less than other models of the
-/// program and satisfy their reducts; and a trace that refutes that there is a model with none of these below it
-/// and with a state of its own.
+/// One answer set for each state of a program that is output; smaller sets, each of which satisfies the reduct by some
+/// other model and is a proper subset of it; and a trace. The trace shows that every other model either has one of
+/// these states, or is undone by one of the smaller sets.
 #[derive(Drop)]
 pub struct ProgramCert {
     pub models: Vec<AnswerSetCert>,

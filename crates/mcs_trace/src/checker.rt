@@ -13,8 +13,8 @@ use mcs_base::Memory;
 use std::alloc::Global;
 use std::mem;
 
-/// The clause of the number, counted from 1: those of the list come first, then those of the steps. `None`
-/// where there are not so many.
+/// The clause with this number, counted from 1, or `None` if there are not so many. The clauses of the list come first,
+/// then those of the steps.
 pub fn numbered<'a>(clauses: &'a [Clause], steps: &'a [Step], number: u64) -> Option<&'a Clause>
     ensures { option_copied result ≡ numbered (clauses.now ++ clauses_of steps.now) number }
 {
@@ -32,8 +32,8 @@ pub fn numbered<'a>(clauses: &'a [Clause], steps: &'a [Step], number: u64) -> Op
     None
 }
 
-/// Whether the clause in `current`, resolved with those of the numbers in turn, gives the last one. What was
-/// in the buffers is lost.
+/// Whether the clause in `current`, resolved in turn with the clauses with these numbers, yields `last`. The buffers
+/// are overwritten.
 fn resolves_to(
     clauses: &[Clause],
     steps: &[Step],
@@ -58,7 +58,7 @@ fn resolves_to(
     Ok(current.as_slice() == last)
 }
 
-/// Whether the step's clause is the resolvent of its chain. What was in the buffers is lost.
+/// Whether the clause of the step is the resolvent of its chain. The buffers are overwritten.
 fn is_right(
     clauses: &[Clause],
     steps: &[Step],
@@ -87,7 +87,7 @@ fn is_right(
     )
 }
 
-/// Whether each step's clause is the resolvent of its chain.
+/// Whether the clause of each step is the resolvent of its chain.
 fn are_right(alloc: Global, clauses: &[Clause], steps: &[Step]) -> Result<bool, Memory>
     ensures { IfOk result (λ yes. IsTrue yes ↔ AreRightSteps clauses.now (map inference_of steps.now)) }
 {
@@ -101,7 +101,7 @@ fn are_right(alloc: Global, clauses: &[Clause], steps: &[Step]) -> Result<bool, 
     Ok(true)
 }
 
-/// Whether there is a last step, and its clause is empty.
+/// Whether there is a last step and its clause is empty.
 fn ends_empty(steps: &[Step]) -> bool
     ensures { IsTrue result ↔ EndsEmpty (map inference_of steps.now) }
 {
@@ -111,8 +111,8 @@ fn ends_empty(steps: &[Step]) -> bool
     }
 }
 
-/// Whether each step's clause is the resolvent of its chain, and the last step's clause is empty. The work
-/// and the memory are linear in the sizes of the clauses that the chains name.
+/// Whether the clause of each step is the resolvent of its chain, and that of the last step is empty. Time and memory
+/// are linear in the sizes of the clauses that the chains name.
 pub fn check(alloc: Global, cnf: &Cnf, trace: &Trace) -> Result<bool, Memory>
     ensures accepted { IfOk result (λ yes. IsTrue yes ↔ IsAcceptedTrace cnf.now.clauses (inferences_of trace.now)) }
     ensures refutes { IfOk result (λ yes. IsTrue yes → IsUnsatisfiable cnf.now.clauses) }

@@ -1,4 +1,4 @@
-//! Clauses: sets of literals, in order.
+//! Clauses: ordered sets of literals.
 
 ghost use Rattle.std.specs.Prelude.{◌≡◌, ◌⊎◌, ◌↔◌, ◌<◌, ◌≤◌, ℕ, pos, IsTrue, MatchOption, OnOk, OnErr, [], length, slice_index_or};
 ghost use Rattle.mcs_base.specs.Listings.{IsAmong, IsListing};
@@ -9,8 +9,8 @@ use mcs_base::Memory;
 use std::alloc::Global;
 use std::marker::Model;
 
-/// A set of literals. The literal n says that variable n is true, and -n that it is false; its size is from
-/// 1 to 2^63-1. They ascend by size, of the same size the positive first, and each is there once.
+/// A set of literals. The literal n says that variable n is true, and -n that it is false; n is from 1 to 2^63-1. The
+/// literals are ordered by variable, with the positive literal of a variable first. Each occurs once.
 #[derive(Drop)]
 pub struct Clause {
     lits: Vec<i64>,
@@ -41,7 +41,7 @@ fn is_clause(lits: &[i64]) -> bool
     true
 }
 
-/// How many literals of the clause are before the literal.
+/// How many literals of the clause come before the literal.
 fn place_in(lits: &[i64], literal: i64) -> usize
     requires clause { IsClause lits.now }
     requires literal { IsLiteral literal }
@@ -57,8 +57,7 @@ fn place_in(lits: &[i64], literal: i64) -> usize
 }
 
 impl Clause {
-    /// The clause of these literals; `None` exactly where they are not in order, or one of them is no
-    /// literal.
+    /// The clause of these literals, or `None` exactly if they are not in strict order or one of them is not a literal.
     pub fn new(lits: Vec<i64>) -> Option<Clause>
         ensures { MatchOption result (¬ IsClause lits.items) (λ c. (c ≡ lits.items) × IsClause c) }
     {
@@ -69,7 +68,7 @@ impl Clause {
         }
     }
 
-    /// The clause without literals, which nothing satisfies.
+    /// The empty clause, which no assignment satisfies.
     pub fn empty(alloc: Global) -> Clause
         ensures { result ≡ [] }
     {
@@ -78,8 +77,7 @@ impl Clause {
         }
     }
 
-    /// Adds the literal, in time linear in those that are there. Where memory runs out, the clause is as
-    /// before.
+    /// Adds the literal, in time linear in the number of literals. If memory runs out, the clause is as before.
     pub fn insert(&mut self, literal: i64) -> Result<(), Memory>
         requires { IsLiteral literal }
         ensures ok { OnOk result (IsListing (λ l. (l ≡ literal) ⊎ IsAmong l self.old) LiteralBefore self.new) }

@@ -1,4 +1,4 @@
-//! Lists of clauses.
+//! Lists of clauses, in conjunctive normal form.
 
 ghost use Rattle.std.specs.Prelude.{◌≡◌, ◌+◌, ◌<◌, ◌≤◌, ◌^◌, ◌++◌, [], ◌∷◌, ◌↔◌, IsTrue, take};
 ghost use Rattle.std.specs.List.{AllByRecursion};
@@ -10,7 +10,7 @@ use mcs_base::Memory;
 use std::alloc::Global;
 use std::marker::Model;
 
-/// Clauses over the variables 1 to `vars`, numbered from 1 in their order.
+/// A list of clauses over the variables 1 to `vars`. The clauses are numbered from 1 in their order.
 #[derive(Drop)]
 pub struct Cnf {
     vars: u64,
@@ -28,7 +28,7 @@ impl Model for Cnf {
 }
 
 impl Cnf {
-    /// No clauses, over the variables 1 to `vars`.
+    /// The list without clauses, over the variables 1 to `vars`.
     pub fn new(alloc: Global, vars: u64) -> Cnf
         requires { vars < 2 ^ 63 }
         ensures { result ≡ record { vars = vars; clauses = [] } }
@@ -39,7 +39,7 @@ impl Cnf {
         }
     }
 
-    /// How many variables there are.
+    /// The number of variables.
     pub fn vars(&self) -> u64
         ensures value { result ≡ self.now.vars }
         ensures kept { IsClauseList self.now }
@@ -55,7 +55,7 @@ impl Cnf {
         &self.clauses
     }
 
-    /// Whether each literal's variable is one of those of the list, as `push` requires.
+    /// Whether the variable of each literal is one of the list's, as `push` requires.
     pub fn can_push(&self, clause: &Clause) -> bool
         ensures { IsTrue result ↔ IsWithin self.now.vars clause.now }
     {
@@ -65,20 +65,20 @@ impl Cnf {
             .all(|literal| literal.unsigned_abs() <= self.vars)
     }
 
-    /// Adds a clause at the end. Where memory runs out, the list is as before.
+    /// Appends a clause. If memory runs out, the list is as before.
     pub fn push(&mut self, clause: Clause) -> Result<(), Memory>
         requires { IsWithin self.old.vars clause }
         ensures ok { OnOk result (self.new ≡ record self.old { clauses = self.old.clauses ++ clause ∷ [] }) }
         ensures err { OnErr result (self.new ≡ self.old) }
     {
-        // That it is a clause, which the list keeps, is told by its literals.
+        // The contract of `literals` ensures that it is a clause, as the invariant of the list requires.
         let _ = clause.literals();
         self.clauses.push(clause)?;
         Ok(())
     }
 
-    /// Adds the clauses of another list, over the same variables and perhaps more. Where memory runs out, the list
-    /// is as before.
+    /// Appends the clauses of another list, which has the same variables or more. If memory runs out, the list is as
+    /// before.
     pub fn append(&mut self, mut other: Cnf) -> Result<(), Memory>
         requires { self.old.vars ≤ other.vars }
         ensures ok { OnOk result (self.new ≡ record { vars = other.vars; clauses = self.old.clauses ++ other.clauses }) }
@@ -89,7 +89,7 @@ impl Cnf {
         Ok(())
     }
 
-    /// Adds a variable, which no clause has yet; its number is the next one.
+    /// Adds a variable, which occurs in no clause yet. Returns its number, which is the next one.
     pub fn add_variable(&mut self) -> u64
         requires { self.old.vars + 1 < 2 ^ 63 }
         ensures number { result ≡ self.old.vars + 1 }
@@ -99,8 +99,8 @@ impl Cnf {
         self.vars
     }
 
-    /// Leaves the first `count` clauses, over the variables 1 to `vars`, which have to be those of the clauses
-    /// that are left.
+    /// Keeps the first `count` clauses, over the variables 1 to `vars`. The variables of these clauses have to be among
+    /// them.
     pub fn cut(&mut self, vars: u64, count: usize)
         requires fewer { vars ≤ self.old.vars }
         requires within { AllByRecursion (IsWithin vars) (take count self.old.clauses) }

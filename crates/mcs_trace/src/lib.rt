@@ -1,5 +1,5 @@
-//! Clauses of propositional logic, and traces of resolution steps, by which an empty clause shows that no
-//! assignment satisfies the clauses that it is resolved from.
+//! Propositional clauses, and traces of resolution steps. A trace that derives the empty clause shows that no
+//! assignment satisfies the clauses from which it is derived.
 #![tactic(auto)]
 
 mod certificate;

@@ -12,7 +12,7 @@ pub fn place(literal: i64) -> u64
     literal.unsigned_abs() * 2 + u64::from(literal < 0)
 }
 
-/// Whether the number is a literal: it has a size from 1 to 2^63-1.
+/// Whether the number is a literal: its absolute value is from 1 to 2^63-1.
 pub fn is_literal(number: i64) -> bool
     ensures { IsTrue result ↔ IsLiteral number }
 {

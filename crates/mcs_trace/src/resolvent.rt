@@ -9,7 +9,7 @@ ghost use Rattle.mcs_trace.specs.Resolution.{IsOnlyClash, IsLeft, IsResolvent};
 use crate::literal::{is_at, place};
 use mcs_base::Memory;
 
-/// The first index from `start` on at which a literal has at least the size.
+/// The first index from `start` on at which the literal has at least this absolute value.
 fn skip_smaller(lits: &[i64], start: usize, size: u64) -> usize
     requires { start ≤ length lits.now }
     ensures bound { result ≤ length lits.now }
@@ -23,7 +23,7 @@ fn skip_smaller(lits: &[i64], start: usize, size: u64) -> usize
     index
 }
 
-/// Whether the literal is in the rest of the clause, none of whose literals is smaller.
+/// Whether the literal is in the clause from `start` on, where no literal has a smaller absolute value.
 fn is_next(lits: &[i64], start: usize, literal: i64) -> bool
     requires clause { IsClause lits.now }
     requires start { start ≤ length lits.now }
@@ -33,8 +33,7 @@ fn is_next(lits: &[i64], start: usize, literal: i64) -> bool
     is_at(lits, start, literal) || is_at(lits, start + 1, literal)
 }
 
-/// The one literal of the first clause whose negation is in the second; `None` where there is none, or more
-/// than one.
+/// The one literal of the first clause whose negation is in the second, or `None` if there is none or more than one.
 fn only_clash(first: &[i64], second: &[i64]) -> Option<i64>
     requires first { IsClause first.now }
     requires second { IsClause second.now }
@@ -54,8 +53,8 @@ fn only_clash(first: &[i64], second: &[i64]) -> Option<i64>
     found
 }
 
-/// Whether the first clause has a literal at `i` that is before the one of the second at `j`, if that has
-/// one.
+/// Whether the next literal is that of the first clause, at `i`: it comes before the one of the second clause at `j`,
+/// or the second clause has none left.
 fn comes_first(first: &[i64], i: usize, second: &[i64], j: usize) -> bool
     requires first { IsClause first.now }
     requires second { IsClause second.now }
@@ -66,7 +65,7 @@ fn comes_first(first: &[i64], i: usize, second: &[i64], j: usize) -> bool
     i < first.len() && (j >= second.len() || place(first[i]) < place(second[j]))
 }
 
-/// Appends the first clause without the literal, joined with the second without its negation.
+/// Appends the union of the first clause without the literal and of the second clause without its negation.
 fn join(first: &[i64], second: &[i64], literal: i64, out: &mut Vec<i64>) -> Result<(), Memory>
     requires first { IsClause first.now }
     requires second { IsClause second.now }
@@ -97,7 +96,7 @@ fn join(first: &[i64], second: &[i64], literal: i64, out: &mut Vec<i64>) -> Resu
     Ok(())
 }
 
-/// Writes the resolvent of the two clauses, and says whether there is one. What was in `out` is lost.
+/// Replaces `out` by the resolvent of the two clauses, and returns whether there is one.
 pub fn resolve(first: &[i64], second: &[i64], out: &mut Vec<i64>) -> Result<bool, Memory>
     requires first { IsClause first.now }
     requires second { IsClause second.now }
