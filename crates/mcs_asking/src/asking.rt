@@ -1,4 +1,4 @@
-//! What a context is asked with: the heads of rules into it, and the beliefs of its variables.
+//! What a context is asked with: the heads of rules into it, and the beliefs that are its variables.
 
 ghost use Rattle.std.specs.Prelude.{◌≡◌, ◌<◌, length, map, IfOk};
 ghost use Rattle.mcs_system.specs.Seen.{formula_of};
@@ -40,7 +40,7 @@ pub fn beliefs_of(alloc: Global, system: &System, context: u32) -> Result<Vec<&F
     Ok(beliefs)
 }
 
-/// The members of the set that stand at these places, counted from 0.
+/// The members of the set whose places among its members, counted from 0, are these.
 fn at_places(set: Vars, places: Vars) -> Vars
     ensures { result ≡ at_places set places }
 {
@@ -53,7 +53,7 @@ fn at_places(set: Vars, places: Vars) -> Vars
     chosen
 }
 
-/// The members of the set that stand at the places of each view, in the same order.
+/// For each view the members of the set at its places, in the same order.
 pub fn parts_at(alloc: Global, set: Vars, views: &[Vars]) -> Result<Vec<Vars>, Memory>
     ensures { IfOk result (λ parts. parts.items ≡ map (at_places set) views.now) }
 {

@@ -1,14 +1,14 @@
-//! What shows an answer of a context.
+//! Certificates of the answers of a context.
 
 use mcs_trace::{ClassicalCert, DefaultCert, ProgramCert};
 
-/// What shows which views a context accepts, by the kind of the context.
+/// A certificate of the views that a context accepts, by the kind of the context.
 #[derive(Drop)]
 pub enum AnswerCert {
-    /// Of each belief, whether it follows.
+    /// For each belief, that it follows or that it does not.
     Classical(ClassicalCert),
-    /// Of each set of defaults, whether it generates an extension.
+    /// For each set of defaults, that it generates an extension or that it does not.
     Default(DefaultCert),
-    /// A model for each view, and that there is nothing else.
+    /// A model for each view, and a trace that there is no other view.
     Program(ProgramCert),
 }

@@ -1,4 +1,4 @@
-//! Laws over the definitions. The functions do nothing: each contract is a law.
+//! Laws over the definitions. The functions compute nothing: each contract is a law.
 
 ghost use Rattle.mcs_asking.specs.Laws.{AcceptedAnswersAreRight};
 
