@@ -12,7 +12,7 @@ use mcs_system::{Formula, Name};
 use mcs_trace::Cnf;
 use std::alloc::Global;
 
-/// The atom's place among the atoms, from 1.
+/// The place of the atom among the atoms, counted from 1.
 pub fn atom_number(atoms: &[Name], name: &Name) -> u64
     ensures { result ≡ atom_number atoms.now name.now }
 {
@@ -24,7 +24,7 @@ pub fn atom_number(atoms: &[Name], name: &Name) -> u64
     atoms.len() as u64 + 1
 }
 
-/// Adds the clauses of the occurrences in the formula; its own number.
+/// Adds the clauses of the occurrences in the formula, and returns the number of the whole.
 #[tactic(auto, using(crate::proofs::NumberLemmas::numbers_fit))]
 fn push_occurrences(
     alloc: Global,
@@ -58,9 +58,8 @@ fn push_occurrences(
     }
 }
 
-/// Adds the clauses of one more formula, over the same atoms: those of its occurrences, whose numbers go on
-/// after the variables that are there, and the one that says that it is true. Where memory runs out, the list is as
-/// before.
+/// Adds the clauses of one more formula over the same atoms: those of its occurrences, which take the next numbers
+/// after the variables of the list, and the clause that it is true. If memory runs out, the list is as before.
 #[tactic(auto, using(crate::proofs::NumberLemmas::numbers_fit))]
 pub fn push_formula(
     alloc: Global,
@@ -79,7 +78,7 @@ pub fn push_formula(
     cnf.append(own)
 }
 
-/// Adds the clauses of the negation of a formula over the same atoms, as `push_formula` does those of a formula.
+/// Adds the clauses of the negation of a formula over the same atoms, as `push_formula` adds those of a formula.
 #[tactic(auto, using(crate::proofs::NumberLemmas::numbers_fit))]
 pub fn push_negation(
     alloc: Global,
@@ -100,7 +99,7 @@ pub fn push_negation(
     cnf.append(own)
 }
 
-/// Adds the clauses of the formulas, one after the other. Where memory runs out, the list is as before.
+/// Adds the clauses of the formulas, one after the other. If memory runs out, the list is as before.
 pub fn push_all(
     alloc: Global,
     known: &mut Cnf,
@@ -119,9 +118,9 @@ pub fn push_all(
     known.append(own)
 }
 
-/// The clauses of formulas whose atoms are among `atoms`. Atom i has the variable i, from 1; each occurrence of
-/// a subformula that is no atom has a variable of its own, from the next number on (Tseitin 1968). The work is
-/// linear in the sizes of the formulas, times the number of atoms.
+/// The clauses of formulas whose atoms are among `atoms` (Tseitin 1968). Atom i is variable i, from 1. Each occurrence
+/// of a subformula that is not an atom has a variable of its own, which takes the next number. The work is linear in
+/// the sizes of the formulas, times the number of atoms.
 pub fn clauses(alloc: Global, formulas: &[Formula], atoms: &[Name]) -> Result<Cnf, Memory>
     requires { AreOver atoms.now (map formula_of formulas.now) }
     ensures { IfOk result (λ f. f ≡ clause_list atoms.now (map formula_of formulas.now)) }

@@ -1,41 +1,41 @@
-//! Laws over the definitions. The functions do nothing: each contract is a law.
+//! Laws over the definitions. The functions compute nothing: each contract is a law.
 
 ghost use Rattle.mcs_cnf.specs.Laws.{ClausesAreSets, ClausesMeanTheFormulas, EntailmentIsRefutation, EntailmentsAreSound, ShownBeliefsFollow, ClassicalCertificatesAreSound, FormulasAreOverTheirAtoms, ContextsAreOverTheirAtoms};
 
-/// A clause has its literals in order, each once.
+/// The literals of a clause are in order, each once.
 pub fn clauses_are_sets()
     ensures { ClausesAreSets }
 {}
 
-/// An assignment of the atoms satisfies formulas exactly where it extends to one that satisfies their clauses,
-/// and then to only one (Tseitin 1968).
+/// An assignment of the atoms satisfies formulas exactly if it extends to one that satisfies their clauses. There is at
+/// most one such extension (Tseitin 1968).
 pub fn clauses_mean_the_formulas()
     ensures { ClausesMeanTheFormulas }
 {}
 
-/// A formula follows exactly where nothing satisfies the clauses of the formulas with its negation.
+/// A formula follows exactly if no assignment satisfies the clauses of the formulas with its negation.
 pub fn entailment_is_refutation()
     ensures { EntailmentIsRefutation }
 {}
 
-/// An accepted entailment says `yes` exactly where the formula follows.
+/// An accepted entailment is a `yes` exactly if the formula follows.
 pub fn entailments_are_sound()
     ensures { EntailmentsAreSound }
 {}
 
-/// The beliefs that are shown to follow do, and no others. An accepted certificate of a classical context shows the
-/// listing of its accepted views, which is one.
+/// The beliefs that are shown to follow do so, and no others do. An accepted certificate of a classical context shows
+/// the listing of its accepted views, which has exactly one view.
 pub fn classical_certificates_are_sound()
     ensures shown { ShownBeliefsFollow }
     ensures listed { ClassicalCertificatesAreSound }
 {}
 
-/// A formula is over names exactly where each of its atoms is one of them.
+/// A formula is over names exactly if each of its atoms is one of them.
 pub fn formulas_are_over_their_atoms()
     ensures { FormulasAreOverTheirAtoms }
 {}
 
-/// The atoms of a context serve: no two have one name, and the formulas of the context are over them.
+/// No two atoms of a context have the same name, and the formulas of the context are over its atoms.
 pub fn contexts_are_over_their_atoms()
     ensures { ContextsAreOverTheirAtoms }
 {}

@@ -1,4 +1,4 @@
-//! The clauses of formulas, and what is accepted as showing that a formula follows from others.
+//! The clauses of formulas, and when evidence is accepted that a formula follows from others or does not.
 #![tactic(auto)]
 
 mod formulas;

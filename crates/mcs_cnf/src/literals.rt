@@ -1,4 +1,4 @@
-//! Literals of a variable, and clauses from literals in any order.
+//! The literals of a variable, and clauses of literals in any order.
 
 ghost use Rattle.std.specs.Prelude.{◌≡◌, ◌+◌, ◌<◌, ◌^◌, ◌≤◌, [], ◌∷◌, ◌++◌, map, pos, IfOk, OnOk, OnErr};
 ghost use Rattle.std.specs.List.{AllByRecursion};
@@ -25,7 +25,7 @@ pub(crate) fn no(variable: u64) -> i64
     -(variable as i64)
 }
 
-/// The clause of these literals, which may stand in any order.
+/// The clause of these literals, which may be in any order.
 fn clause_of(alloc: Global, lits: &[i64]) -> Result<Clause, Memory>
     requires { AllByRecursion IsLiteral lits.now }
     ensures { IfOk result (λ c. c ≡ clause_of lits.now) }
@@ -37,31 +37,31 @@ fn clause_of(alloc: Global, lits: &[i64]) -> Result<Clause, Memory>
     Ok(clause)
 }
 
-/// Adds the clause of these literals, which may stand in any order. Where memory runs out, the list is as before.
+/// Adds the clause of these literals, which may be in any order. If memory runs out, the list is as before.
 pub fn push_clause(alloc: Global, cnf: &mut Cnf, lits: &[i64]) -> Result<(), Memory>
     requires { AllByRecursion (IsThere cnf.old) lits.now }
     ensures ok { IfOk result (λ _. cnf.new ≡ with_clause cnf.old lits.now) }
     ensures err { OnErr result (cnf.new ≡ cnf.old) }
 {
-    // That there are fewer than 2^63 variables, which the list keeps, is told by their number.
+    // The contract of `vars` ensures that there are fewer than 2^63 variables.
     let _ = cnf.vars();
     let clause = clause_of(alloc, lits)?;
     cnf.push(clause)
 }
 
-/// Adds the clause that says that the variable is true. Where memory runs out, the list is as before.
+/// Adds the clause that the variable is true. If memory runs out, the list is as before.
 pub fn push_unit(alloc: Global, cnf: &mut Cnf, variable: u64) -> Result<(), Memory>
     requires { (0 < variable) × (variable ≤ cnf.old.vars) }
     ensures ok { IfOk result (λ _. cnf.new ≡ with_clause cnf.old (pos variable ∷ [])) }
     ensures err { OnErr result (cnf.new ≡ cnf.old) }
 {
-    // That the number fits, since the list has fewer than 2^63 variables.
+    // The number fits, since the contract of `vars` ensures that there are fewer than 2^63 variables.
     let _ = cnf.vars();
     push_clause(alloc, cnf, &[yes(variable)])
 }
 
-/// Adds the next variable, and clauses of it and of those before it, each of literals in any order. Where memory runs
-/// out, the list is as before.
+/// Adds the next variable, and clauses over it and those before it. The literals of each may be in any order. If memory
+/// runs out, the list is as before.
 pub(crate) fn push_variable(alloc: Global, cnf: &mut Cnf, rows: &[&[i64]]) -> Result<(), Memory>
     requires room { cnf.old.vars + 1 < 2 ^ 63 }
     requires rows { AllByRecursion (λ r. AllByRecursion (IsThere (record cnf.old { vars = cnf.old.vars + 1 })) r.now) rows.now }

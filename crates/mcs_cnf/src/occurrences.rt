@@ -1,4 +1,4 @@
-//! The clauses of one occurrence of a subformula.
+//! Occurrences of subformulas: the variable of each, and the clauses that define it.
 
 ghost use Rattle.std.specs.Prelude.{◌≡◌, ◌+◌, ◌<◌, ◌≤◌, ◌^◌, IfOk, OnErr};
 ghost use Rattle.mcs_system.specs.Seen.{formula_of};
@@ -10,10 +10,11 @@ use mcs_system::Formula;
 use mcs_trace::Cnf;
 use std::alloc::Global;
 
-/// The most variables that clauses can have.
+/// The greatest number of variables of a list.
 const MOST_VARIABLES: u64 = 0x7fff_ffff_ffff_ffff;
 
-/// The next number. Where all are taken the answer is want of memory, since no memory holds their clauses.
+/// The next number of a variable. If all are taken, this is reported as want of memory: no memory can hold so many
+/// clauses.
 fn next_number(cnf: &Cnf) -> Result<u64, Memory>
     ensures number { IfOk result (λ n. n ≡ cnf.now.vars + 1) }
     ensures fits { IfOk result (λ n. n < 2 ^ 63) }
@@ -24,7 +25,7 @@ fn next_number(cnf: &Cnf) -> Result<u64, Memory>
     Ok(cnf.vars() + 1)
 }
 
-/// Adds an occurrence of what is always true; its number. Where memory runs out, the list is as before.
+/// Adds an occurrence of the constant true, and returns its number. If memory runs out, the list is as before.
 pub fn push_truth(alloc: Global, cnf: &mut Cnf) -> Result<u64, Memory>
     ensures ok { IfOk result (IsAdded truth_clauses cnf.old cnf.new) }
     ensures err { OnErr result (cnf.new ≡ cnf.old) }
@@ -34,7 +35,7 @@ pub fn push_truth(alloc: Global, cnf: &mut Cnf) -> Result<u64, Memory>
     Ok(n)
 }
 
-/// Adds an occurrence of what is always false; its number. Where memory runs out, the list is as before.
+/// Adds an occurrence of the constant false, and returns its number. If memory runs out, the list is as before.
 pub fn push_falsity(alloc: Global, cnf: &mut Cnf) -> Result<u64, Memory>
     ensures ok { IfOk result (IsAdded falsity_clauses cnf.old cnf.new) }
     ensures err { OnErr result (cnf.new ≡ cnf.old) }
@@ -44,7 +45,7 @@ pub fn push_falsity(alloc: Global, cnf: &mut Cnf) -> Result<u64, Memory>
     Ok(n)
 }
 
-/// Adds an occurrence of the negation of `x`; its number. Where memory runs out, the list is as before.
+/// Adds an occurrence of the negation of `x`, and returns its number. If memory runs out, the list is as before.
 pub fn push_not(alloc: Global, cnf: &mut Cnf, x: u64) -> Result<u64, Memory>
     requires part { (0 < x) × (x ≤ cnf.old.vars) }
     ensures ok { IfOk result (IsAdded (λ n. not_clauses n x) cnf.old cnf.new) }
@@ -55,7 +56,7 @@ pub fn push_not(alloc: Global, cnf: &mut Cnf, x: u64) -> Result<u64, Memory>
     Ok(n)
 }
 
-/// Adds an occurrence of `x` and `y`; its number. Where memory runs out, the list is as before.
+/// Adds an occurrence of `x` and `y`, and returns its number. If memory runs out, the list is as before.
 pub fn push_and(alloc: Global, cnf: &mut Cnf, x: u64, y: u64) -> Result<u64, Memory>
     requires left { (0 < x) × (x ≤ cnf.old.vars) }
     requires right { (0 < y) × (y ≤ cnf.old.vars) }
@@ -71,7 +72,7 @@ pub fn push_and(alloc: Global, cnf: &mut Cnf, x: u64, y: u64) -> Result<u64, Mem
     Ok(n)
 }
 
-/// Adds an occurrence of `x` or `y`; its number. Where memory runs out, the list is as before.
+/// Adds an occurrence of `x` or `y`, and returns its number. If memory runs out, the list is as before.
 pub fn push_or(alloc: Global, cnf: &mut Cnf, x: u64, y: u64) -> Result<u64, Memory>
     requires left { (0 < x) × (x ≤ cnf.old.vars) }
     requires right { (0 < y) × (y ≤ cnf.old.vars) }
@@ -87,7 +88,7 @@ pub fn push_or(alloc: Global, cnf: &mut Cnf, x: u64, y: u64) -> Result<u64, Memo
     Ok(n)
 }
 
-/// Adds an occurrence of `x` implies `y`; its number. Where memory runs out, the list is as before.
+/// Adds an occurrence of `x` implies `y`, and returns its number. If memory runs out, the list is as before.
 pub fn push_implies(alloc: Global, cnf: &mut Cnf, x: u64, y: u64) -> Result<u64, Memory>
     requires left { (0 < x) × (x ≤ cnf.old.vars) }
     requires right { (0 < y) × (y ≤ cnf.old.vars) }
@@ -103,7 +104,7 @@ pub fn push_implies(alloc: Global, cnf: &mut Cnf, x: u64, y: u64) -> Result<u64,
     Ok(n)
 }
 
-/// Adds an occurrence of `x` if and only if `y`; its number.
+/// Adds an occurrence of `x` if and only if `y`, and returns its number.
 fn push_iff(alloc: Global, cnf: &mut Cnf, x: u64, y: u64) -> Result<u64, Memory>
     requires left { (0 < x) × (x ≤ cnf.old.vars) }
     requires right { (0 < y) × (y ≤ cnf.old.vars) }
@@ -124,7 +125,7 @@ fn push_iff(alloc: Global, cnf: &mut Cnf, x: u64, y: u64) -> Result<u64, Memory>
     Ok(n)
 }
 
-/// Adds an occurrence of the formula, whose two parts have the numbers `x` and `y`; its number.
+/// Adds an occurrence of the formula, whose two operands have the numbers `x` and `y`, and returns its number.
 pub(crate) fn push_sign(
     alloc: Global,
     cnf: &mut Cnf,

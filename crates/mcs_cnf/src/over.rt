@@ -1,4 +1,4 @@
-//! Whether formulas are over atoms, as the calls that make clauses require.
+//! Whether formulas are over atoms, as the calls that make clauses of them require.
 
 ghost use Rattle.std.specs.Prelude.{◌≡◌, ◌↔◌, false, map, IsTrue};
 ghost use Rattle.mcs_system.specs.Faults.{has_twins};
@@ -41,7 +41,7 @@ pub fn are_over(atoms: &[Name], formulas: &[Formula]) -> bool
     true
 }
 
-/// Whether no two of the atoms have one name. Quadratic in their number.
+/// Whether no two of the atoms have the same name. The time is quadratic in their number.
 pub fn are_different(atoms: &[Name]) -> bool
     ensures { IsTrue result ↔ (has_twins atoms.now ≡ false) }
 {
