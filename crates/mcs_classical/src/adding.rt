@@ -1,4 +1,4 @@
-//! Clauses of formulas that are added to those that are known.
+//! Adding the clauses of formulas to known ones.
 
 ghost use Rattle.std.specs.Prelude.{◌≡◌, ◌<◌, ◌≤◌, length, map, OnOk, OnErr};
 ghost use Rattle.std.specs.List.{AllByRecursion};
@@ -16,7 +16,7 @@ use mcs_system::{Formula, Name};
 use mcs_trace::Cnf;
 use std::alloc::Global;
 
-/// Adds the clauses of the formulas; where memory runs out, those of the first ones alone.
+/// Adds the clauses of the formulas. If memory runs out, only those of the first ones are added.
 fn push_formulas(
     alloc: Global,
     known: &mut Cnf,
@@ -34,7 +34,7 @@ fn push_formulas(
     Ok(())
 }
 
-/// Adds the clauses of the formulas. Where memory runs out, what is known is as before.
+/// Adds the clauses of the formulas. If memory runs out, `known` is as before.
 pub fn add_formulas(
     alloc: Global,
     known: &mut ClauseBase,
@@ -53,7 +53,7 @@ pub fn add_formulas(
     added
 }
 
-/// Adds the clauses of the assumptions of the set. Where memory runs out, what is known is as before.
+/// Adds the clauses of the assumptions in the set. If memory runs out, `known` is as before.
 pub(crate) fn add_assumed(
     alloc: Global,
     known: &mut ClauseBase,

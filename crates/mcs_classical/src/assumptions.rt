@@ -1,4 +1,4 @@
-//! Formulas that are assumed beside others, each by its number.
+//! Formulas that are assumed beside others, each given by a number.
 
 ghost use Rattle.std.specs.Prelude.{◌≡◌, ◌≤◌, ◌<◌, length, map, IfOk, IsTrue};
 ghost use Rattle.std.specs.List.{AllByRecursion};
@@ -11,14 +11,14 @@ use mcs_base::{Active, Memory, Vars};
 use mcs_system::{Formula, Name, holds_at};
 use std::alloc::Global;
 
-/// A formula that may be assumed, with a number.
+/// A formula that may be assumed, with its number. Several may have one number.
 #[derive(Clone, Copy)]
 pub struct Assumption<'a> {
     pub number: u32,
     pub formula: &'a Formula,
 }
 
-/// The formulas of those assumptions whose numbers are in the set, in the order of the assumptions.
+/// The formulas of the assumptions whose numbers are in the set, in the order of the assumptions.
 pub fn assumed<'a>(
     alloc: Global,
     assumptions: &[Assumption<'a>],
@@ -36,9 +36,8 @@ pub fn assumed<'a>(
     Ok(formulas)
 }
 
-/// The numbers of the assumptions that hold, all of one number together, where exactly those of the atoms are true whose
-/// places are in the set of values. With assumptions of these numbers, and formulas that hold there, nothing follows that
-/// does not hold there.
+/// The numbers of which all assumptions hold if exactly the atoms at the places in `values` are true. From these
+/// assumptions, and formulas that hold under this assignment, nothing follows that does not hold under it.
 pub fn holding(assumptions: &[Assumption<'_>], atoms: &[Name], values: Vars) -> Active
     requires few { length atoms.now ≤ 64 }
     requires numbers { AllByRecursion (λ (a : declared.Assumption). a.number < 64) assumptions.now }

@@ -21,7 +21,7 @@ use mcs_system::{Formula, Name};
 use mcs_trace::{ClassicalCert, Cnf, Entail};
 use std::alloc::Global;
 
-/// The state, with the number if the entailment says `yes`.
+/// The state, with the number added if the entailment is a `yes`.
 fn with_yes(state: Vars, number: u32, entail: &Entail) -> Vars
     requires { number < 64 }
     ensures { result ≡ cond (says_yes (entailment_of entail.now)) (union state (single number)) state }
@@ -32,9 +32,9 @@ fn with_yes(state: Vars, number: u32, entail: &Entail) -> Vars
     }
 }
 
-/// The one view that a classical context accepts of the beliefs: the numbers of those that follow from the formulas,
-/// counted from 0; and what shows of each that it follows or not. All atoms are among these, at most 64, and there are
-/// at most 64 beliefs. The clauses of the formulas are made once.
+/// The one view of the beliefs that a classical context accepts: the numbers, from 0, of those that follow from the
+/// formulas; and a certificate, for each, that it follows or does not. All atoms have to be among `atoms`, of which
+/// there are at most 64, and there may be at most 64 beliefs. The clauses of the formulas are made once.
 pub fn outputs(
     alloc: Global,
     kb: &[Formula],
@@ -57,10 +57,10 @@ pub fn outputs(
     outputs_from(alloc, &mut known, &lent, atoms)
 }
 
-/// The same of formulas whose clauses are `known`, and of beliefs that are lent one by one. The clauses of each belief are
-/// added for the search and taken off again, so that `known` is as before and serves for the next question, with what was
-/// learnt from it, also where memory runs out. The assignment under which a belief does not follow is tried on the next
-/// ones before any search.
+/// The same for formulas whose clauses are `known`, and for references to beliefs. The clauses of each belief are added
+/// for the search and removed again. So `known` is as before, also if memory runs out, and can be used for the next
+/// question, with what was learnt. The assignment under which a belief does not follow is tried on the next ones before
+/// any search.
 pub fn outputs_in(
     alloc: Global,
     known: &mut ClauseBase,
@@ -90,7 +90,7 @@ pub fn outputs_in(
     Ok((state, ClassicalCert { entails }))
 }
 
-/// The same of a list of clauses, which is made ready once for all beliefs and stays as it is.
+/// The same for a list of clauses, which is preprocessed once for all beliefs, and is left unchanged.
 pub fn outputs_from(
     alloc: Global,
     known: &mut Cnf,

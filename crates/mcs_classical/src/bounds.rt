@@ -1,4 +1,4 @@
-//! What was found to follow with sets of assumptions, which tells of larger sets or of smaller ones too.
+//! What was found to follow with sets of assumptions: bounds that hold for larger or smaller sets too.
 
 ghost use Rattle.std.specs.Prelude.{List};
 ghost use Rattle.std.specs.List.{AllByRecursion};
@@ -8,21 +8,21 @@ ghost use Rattle.mcs_classical.specs.declared.assumptions.Assumption as declared
 
 use mcs_base::{Active, Vars};
 
-/// Goals that follow from formulas with assumptions, and so with more of these.
+/// A lower bound: goals that follow from the formulas with some assumptions, and so with more.
 #[derive(Clone, Copy)]
 pub(crate) struct Lower {
     pub(crate) assumed: Active,
     pub(crate) entailed: Vars,
 }
 
-/// Goals of which no others follow from formulas with assumptions, nor with fewer of these.
+/// An upper bound: goals besides which none follows from the formulas with some assumptions, and so with fewer.
 #[derive(Clone, Copy)]
 pub(crate) struct Upper {
     pub(crate) assumed: Active,
     pub(crate) possible: Vars,
 }
 
-/// The goals that were found to follow with the assumptions of the set.
+/// The goals that, by what was found, follow with the assumptions in the set.
 pub(crate) fn entailed_with(lower: &[Lower], set: Active) -> Vars
     ensures { (fs : List plain.Formula) (assumptions : List declared.Assumption) (goals : List plain.Formula)
         → AllByRecursion (IsLower fs assumptions goals) lower.now → DoFollow (with_assumed fs assumptions set) goals result }
@@ -36,7 +36,7 @@ pub(crate) fn entailed_with(lower: &[Lower], set: Active) -> Vars
     entailed
 }
 
-/// Those of the goals of which it was not found that they do not follow with the assumptions of the set.
+/// Those of the goals that, by what was found, may follow with the assumptions in the set.
 pub(crate) fn possible_with(upper: &[Upper], set: Active, goals: Vars) -> Vars
     ensures { (fs : List plain.Formula) (assumptions : List declared.Assumption) (all : List plain.Formula)
         → NoOthersFollow (with_assumed fs assumptions set) all goals → AllByRecursion (IsUpper fs assumptions all) upper.now

@@ -1,4 +1,4 @@
-//! Whether a formula follows.
+//! Whether one formula follows.
 
 ghost use Rattle.std.specs.Prelude.{◌≡◌, ◌≤◌, ◌↔◌, ◌∷◌, [], List, Some, false, length, map, IsTrue, IfOk, IfSome, OnOk, OnErr};
 ghost use Rattle.mcs_system.specs.Faults.{has_twins};
@@ -17,7 +17,7 @@ use mcs_system::{Formula, Name, holds_at};
 use mcs_trace::{Cnf, Entail};
 use std::alloc::Global;
 
-/// Adds the clauses of the negated goal. Where memory runs out, what is known is as before.
+/// Adds the clauses of the negated goal. If memory runs out, `known` is as before.
 fn push_goal(
     alloc: Global,
     known: &mut ClauseBase,
@@ -36,10 +36,10 @@ fn push_goal(
     added
 }
 
-/// Whether the goal follows from formulas whose clauses are `known`, with what shows it: a trace that refutes
-/// the formulas with the negated goal, or the places of the atoms that are true where the formulas hold and the
-/// goal does not. The goal's clauses are added for the search and taken off again, so that `known` is as before
-/// and serves for the next goal, with what was learnt from it, also where memory runs out.
+/// Whether the goal follows from the formulas whose clauses are `known`, with what shows it: a trace that refutes the
+/// formulas with the negated goal, or the places of the atoms that are true under an assignment under which the
+/// formulas hold and the goal does not. The clauses of the goal are added for the search and removed again. So `known`
+/// is as before, also if memory runs out, and can be used for the next goal, with what was learnt.
 pub fn entails_in(
     alloc: Global,
     known: &mut ClauseBase,
@@ -69,8 +69,8 @@ pub fn entails_in(
     }
 }
 
-/// The same without a trace: the places of the atoms that are true where the formulas hold and the goal does not, or
-/// `None` exactly where the goal follows.
+/// The same without a trace: the places of the atoms that are true under an assignment under which the formulas hold
+/// and the goal does not, or `None` exactly if the goal follows.
 pub fn counterexample_in(
     alloc: Global,
     known: &mut ClauseBase,
@@ -97,7 +97,7 @@ pub fn counterexample_in(
     }
 }
 
-/// The same as `entails_in` of a list of clauses, which is made ready for this goal alone and stays as it is.
+/// The same as `entails_in` for a list of clauses, which is preprocessed for this goal alone, and is left unchanged.
 pub fn entails_from(
     alloc: Global,
     known: &mut Cnf,
@@ -122,8 +122,8 @@ pub fn entails_from(
     entail
 }
 
-/// Whether the goal follows from the formulas, whose atoms and the goal's are among these, at most 64; with
-/// what shows it. `Yes` comes exactly where it follows.
+/// Whether the goal follows from the formulas, with what shows it. All atoms have to be among `atoms`, of which there
+/// are at most 64. `Yes` is returned exactly if the goal follows.
 pub fn entails(
     alloc: Global,
     kb: &[Formula],
@@ -143,7 +143,7 @@ pub fn entails(
     entails_from(alloc, &mut known, goal, atoms)
 }
 
-/// The model, where the goal is false there.
+/// The model, if the goal is false in it.
 fn refuting(model: &Option<Vars>, goal: &Formula, atoms: &[Name]) -> Option<Vars>
     requires { length atoms.now ≤ 64 }
     ensures { IfSome result
@@ -161,8 +161,8 @@ fn refuting(model: &Option<Vars>, goal: &Formula, atoms: &[Name]) -> Option<Vars
     }
 }
 
-/// The same as `entails_in` answers, where a model of the formulas may be known from an earlier goal: the places of the
-/// atoms that are true under an assignment that satisfies them. It is tried on the goal before any search.
+/// The same as `entails_in`, with a model of the formulas that may be known from an earlier goal. It is given as the
+/// places of the atoms that are true in it, and is tried on the goal before any search.
 pub fn entails_beside(
     alloc: Global,
     known: &mut ClauseBase,

@@ -23,15 +23,15 @@ use mcs_sat::ClauseBase;
 use mcs_system::{Formula, Name, holds_at};
 use std::alloc::Global;
 
-/// What is known of goals: which ones follow, and of which ones it is not known.
+/// What is known of the goals: which of them follow, and of which this is open.
 #[derive(Clone, Copy)]
 struct Told {
     entailed: Vars,
     left: Vars,
 }
 
-/// What was found to follow from formulas with sets of assumptions, of a list of goals. It is right of the formulas,
-/// assumptions and goals with which it was asked.
+/// What was found to follow from formulas with sets of assumptions, among a list of goals. It is right for the
+/// formulas, assumptions and goals with which the calls were made.
 #[derive(Drop)]
 pub struct Consequences {
     lower: Vec<Lower>,
@@ -50,7 +50,7 @@ fn numbers_of(assumptions: &[Assumption<'_>]) -> Active
     numbers
 }
 
-/// The places of a list of so many goals.
+/// The places of a list of this many goals.
 #[tactic(auto, using(mcs_system::proofs::SeenLemmas::loops))]
 fn places_of(count: usize) -> Vars
     requires { count ≤ 64 }
@@ -63,7 +63,7 @@ fn places_of(count: usize) -> Vars
     places
 }
 
-/// The places of the goals that hold, where exactly those of the atoms are true whose places are in the set of values.
+/// The places of the goals that hold if exactly the atoms at the places in `values` are true.
 fn goals_holding(goals: &[&Formula], atoms: &[Name], values: Vars) -> Vars
     requires few { length atoms.now ≤ 64 }
     requires few_goals { length goals.now ≤ 64 }
@@ -78,8 +78,9 @@ fn goals_holding(goals: &[&Formula], atoms: &[Name], values: Vars) -> Vars
     places
 }
 
-/// Asks whether the goal at the place follows from the formulas whose clauses are `known`: `None` where it does, else the
-/// places of the only goals that may follow, of which it is none. What shows that is kept.
+/// Searches whether the goal at the place follows from the formulas whose clauses are `known`. `None` is returned if it
+/// does, and otherwise the places of the goals that hold in the model that was found: no others can follow, and this
+/// goal is none of them. The model is kept as an upper bound.
 fn ask(
     alloc: Global,
     known: &mut ClauseBase,
@@ -114,7 +115,7 @@ fn ask(
     }
 }
 
-/// What is known with the answer about the goal at the place.
+/// What is known of the goals, once the answer about the goal at the place is known too.
 fn with_answer(told: Told, place: u32, answer: Option<Vars>) -> Told
     requires { place < 64 }
     ensures { (fs : List plain.Formula) (goals : List plain.Formula) → IsAnswer fs goals place answer → IsTold fs goals place told
@@ -132,8 +133,8 @@ fn with_answer(told: Told, place: u32, answer: Option<Vars>) -> Told
     }
 }
 
-/// The goals that follow from the formulas whose clauses are `known`: those that are told, and those of which it is found
-/// by search. Each model that is found is kept, and speaks for the goals to come.
+/// The goals that follow from the formulas whose clauses are `known`: those already known to follow, and those found to
+/// follow by searches. Each model that is found is kept, and decides later goals that are false in it.
 fn ask_left(
     alloc: Global,
     known: &mut ClauseBase,
@@ -167,7 +168,7 @@ fn ask_left(
 }
 
 impl Consequences {
-    /// Nothing found, which is right of all formulas, assumptions and goals.
+    /// Nothing found yet. This is right for all formulas, assumptions and goals.
     pub fn new(alloc: Global) -> Consequences
         ensures { (fs : List plain.Formula) (assumptions : List declared.Assumption) (goals : List plain.Formula) → AreConsequences fs assumptions goals result }
     {
@@ -177,8 +178,8 @@ impl Consequences {
         }
     }
 
-    /// What is found without a search: that those of the goals follow which stand among the formulas word for word. It is
-    /// right of these formulas and goals, and of all assumptions.
+    /// What is found without a search: the goals that are literally among the formulas follow. This is right for these
+    /// formulas and goals, and for all assumptions.
     pub fn of(
         alloc: Global,
         formulas: &[Formula],
@@ -197,7 +198,7 @@ impl Consequences {
         Ok(found)
     }
 
-    /// What is known of so many goals with the assumptions of the set.
+    /// What is known of the first `count` goals with the assumptions in the set.
     fn told(&self, set: Active, count: usize) -> Told
         requires { count ≤ 64 }
         ensures { (fs : List plain.Formula) (assumptions : List declared.Assumption) (goals : List plain.Formula) → length goals ≡ count
@@ -211,10 +212,10 @@ impl Consequences {
         }
     }
 
-    /// The places, from 0, of the goals that follow from the formulas, whose clauses are `known`, with the assumptions of
-    /// the set. It looks first at what was found for other sets, and keeps what it finds. The clauses of the assumptions
-    /// are added for a search and taken off again, so that `known` is as before. Where memory runs out, what is kept is
-    /// still right.
+    /// The places, from 0, of the goals that follow from the formulas, whose clauses are `known`, with the assumptions
+    /// in the set. What was found for other sets is used first, and what is found is kept. The clauses of the
+    /// assumptions are added for a search and removed again, so that `known` is as before. If memory runs out, what is
+    /// kept is still right.
     pub fn following(
         &mut self,
         alloc: Global,

@@ -1,4 +1,4 @@
-//! Whether formulas follow from others, in classical propositional logic, and what shows it.
+//! Whether formulas follow from others in classical propositional logic, and what shows it.
 #![tactic(auto)]
 
 mod adding;

@@ -1,4 +1,4 @@
-//! The atoms that are true under an assignment of variables.
+//! The atoms that are true under an assignment of the variables.
 
 ghost use Rattle.std.specs.Prelude.{◌≡◌, ◌≤◌, length, get_or, false};
 ghost use Rattle.mcs_sets.specs.Sets.{such_that};

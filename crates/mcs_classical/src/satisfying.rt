@@ -1,4 +1,4 @@
-//! Whether formulas hold together.
+//! Whether formulas are satisfiable.
 
 ghost use Rattle.std.specs.Prelude.{◌≡◌, ◌≤◌, List, false, length, map, IfOk};
 ghost use Rattle.mcs_system.specs.Faults.{has_twins};
@@ -15,16 +15,16 @@ use mcs_system::{Formula, Name};
 use mcs_trace::{Cnf, Trace};
 use std::alloc::Global;
 
-/// The places of the atoms that are true under an assignment that satisfies all formulas, or an accepted trace, so that
-/// there is none.
+/// The places of the atoms that are true under an assignment that satisfies all formulas, or an accepted trace that
+/// there is no such assignment.
 #[derive(Drop)]
 pub enum Satisfied {
     Model(Vars),
     Refuted(Trace),
 }
 
-/// An assignment that satisfies the formulas, whose atoms are among these, at most 64; or what shows that there is
-/// none.
+/// An assignment that satisfies the formulas, or a trace that there is none. All atoms have to be among `atoms`, of
+/// which there are at most 64.
 pub fn satisfy(alloc: Global, formulas: &[Formula], atoms: &[Name]) -> Result<Satisfied, Memory>
     requires few { length atoms.now ≤ 64 }
     requires different { has_twins atoms.now ≡ false }
@@ -37,7 +37,7 @@ pub fn satisfy(alloc: Global, formulas: &[Formula], atoms: &[Name]) -> Result<Sa
     satisfied
 }
 
-/// The same of formulas whose clauses these are.
+/// The same for formulas with these clauses.
 pub fn satisfy_from(alloc: Global, cnf: &Cnf, atoms: &[Name]) -> Result<Satisfied, Memory>
     requires few { length atoms.now ≤ 64 }
     requires different { has_twins atoms.now ≡ false }
