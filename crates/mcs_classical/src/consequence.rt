@@ -36,10 +36,10 @@ fn push_goal(
     added
 }
 
-/// Whether the goal follows from the formulas whose clauses are `known`, with what shows it: a trace that refutes the
-/// formulas with the negated goal, or the places of the atoms that are true under an assignment under which the
-/// formulas hold and the goal does not. The clauses of the goal are added for the search and removed again. So `known`
-/// is as before, also if memory runs out, and can be used for the next goal, with what was learnt.
+/// Whether the goal follows from the formulas whose clauses are `known`, with what shows it. This is a trace that
+/// refutes the formulas with the negated goal, or the places of the atoms that are true under an assignment under which
+/// the formulas hold and the goal does not. The clauses of the goal are added for the search and removed again. So
+/// `known` is as before, also if memory runs out, and can be used for the next goal, with what was learnt.
 pub fn entails_in(
     alloc: Global,
     known: &mut ClauseBase,

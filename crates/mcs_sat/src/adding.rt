@@ -1,4 +1,4 @@
-//! Clauses that are given, where nothing is decided: they are added, and taken off again.
+//! Adding and removing given clauses at level 0, where nothing is decided.
 
 ghost use Rattle.std.specs.Prelude.{◌≡◌, ◌+◌, ◌<◌, ◌≤◌, ◌^◌, ◌++◌, ◌∷◌, [], ◌⊎◌, neg_ℤ, length, take, IsTrue, MatchOption, OnOk, OnErr, IfSome, Some};
 ghost use Rattle.mcs_trace.specs.Clauses.{IsClause, IsLiteral};
@@ -15,14 +15,15 @@ use crate::trail::Trail;
 use crate::watches::Pair;
 use mcs_base::Memory;
 
-/// What a clause that is added watches, and for how many literals the clauses are visited still.
+/// The pair of literals that an added clause watches, and for how many literals of the trail the clauses are still
+/// visited.
 #[derive(Clone, Copy)]
 pub(crate) struct Beginning {
     pub pair: Option<Pair>,
     pub visited: usize,
 }
 
-/// Two literals of the clause that are not false.
+/// Two literals of the clause that are not false, if it has two.
 fn open_pair(trail: &Trail, literals: &[i64]) -> Option<Pair>
     requires placed { ArePlaced trail.now.entries.items trail.now.positions.items }
     requires clause { IsClause literals.now }
@@ -34,7 +35,7 @@ fn open_pair(trail: &Trail, literals: &[i64]) -> Option<Pair>
     Some(Pair { first, second })
 }
 
-/// The first two literals, where there are two.
+/// The first two literals, if there are two.
 fn first_pair(literals: &[i64]) -> Option<Pair>
     requires { IsClause literals.now }
     ensures { MatchOption result (¬ IsLong literals.now) (ArePair literals.now) }
@@ -48,7 +49,7 @@ fn first_pair(literals: &[i64]) -> Option<Pair>
     }
 }
 
-/// Where the literal became false, if that was before the place; otherwise the place.
+/// The place at which the literal became false, if it comes before `place`; otherwise `place`.
 fn false_before(trail: &Trail, literal: i64, place: usize) -> usize
     requires placed { ArePlaced trail.now.entries.items trail.now.positions.items }
     ensures low { result ≤ place }
@@ -64,7 +65,7 @@ fn false_before(trail: &Trail, literal: i64, place: usize) -> usize
     }
 }
 
-/// For how many literals the clauses are visited still, of those for which they were, where a clause watches the pair.
+/// For how many of the first `visited` literals the clauses are still visited, if a further clause watches the pair.
 fn fresh_below(trail: &Trail, pair: Pair, visited: usize) -> usize
     requires placed { ArePlaced trail.now.entries.items trail.now.positions.items }
     requires literals { IsLiteral pair.first × IsLiteral pair.second }
@@ -75,8 +76,8 @@ fn fresh_below(trail: &Trail, pair: Pair, visited: usize) -> usize
     false_before(trail, pair.second, first)
 }
 
-/// The beginning of a clause: it watches two literals that are not false, where it has them, and then what was visited
-/// stays so; otherwise what was visited before one that it watches became false.
+/// How an added clause begins. If it has two literals that are not false, it watches these, and what was visited stays
+/// visited. Otherwise only what comes before the first false literal that it watches stays visited.
 fn beginning_of(trail: &Trail, visited: usize, literals: &[i64]) -> Beginning
     requires placed { ArePlaced trail.now.entries.items trail.now.positions.items }
     requires clause { IsClause literals.now }
@@ -104,7 +105,7 @@ fn beginning_of(trail: &Trail, visited: usize, literals: &[i64]) -> Beginning
     }
 }
 
-/// Adds a clause with its chain, which watches nothing yet.
+/// Adds a clause with its chain. It watches nothing yet.
 pub(crate) fn push_unwatched(
     state: &mut State,
     literals: &[i64],
@@ -132,7 +133,7 @@ pub(crate) fn push_unwatched(
     Ok(())
 }
 
-/// Adds a clause that is given, where there is no level above 0. It watches nothing yet.
+/// Adds a given clause at level 0. It watches nothing yet.
 pub(crate) fn add(state: &mut State, literals: &[i64]) -> Result<(), Memory>
     requires state { IsState state.old }
     requires clause { IsClause literals.now }
@@ -149,7 +150,7 @@ pub(crate) fn add(state: &mut State, literals: &[i64]) -> Result<(), Memory>
     push_unwatched(state, literals, &[])
 }
 
-/// Lets the next clause watch two of its literals, where it has two.
+/// Makes the next clause watch two of its literals, if it has two.
 pub(crate) fn attach_next(state: &mut State) -> Result<(), Memory>
     requires state { IsState state.old }
     requires base { state.old.levels.items ≡ [] }
@@ -169,7 +170,7 @@ pub(crate) fn attach_next(state: &mut State) -> Result<(), Memory>
     Ok(())
 }
 
-/// Lets each clause that watches nothing yet watch two of its literals, where there is no level above 0.
+/// Makes each clause that watches nothing yet watch two of its literals, at level 0.
 pub(crate) fn attach(state: &mut State) -> Result<(), Memory>
     requires state { IsState state.old }
     requires base { state.old.levels.items ≡ [] }
@@ -185,8 +186,9 @@ pub(crate) fn attach(state: &mut State) -> Result<(), Memory>
     Ok(())
 }
 
-/// Makes true what a clause that watches nothing yet has as its last literal that is not false, from the last one back to
-/// the first one: of the clauses of a formula those of the whole come last. The index of one that is false.
+/// Visits the clauses that watch nothing yet, from the last one back, and makes the last literal of each true if all
+/// others are false. The clauses of a whole formula come after those of its parts. Returns the index of a clause that
+/// is false, if one is found.
 fn sweep(state: &mut State) -> Result<Option<usize>, Memory>
     requires state { IsState state.old }
     requires base { state.old.levels.items ≡ [] }
@@ -204,7 +206,7 @@ fn sweep(state: &mut State) -> Result<Option<usize>, Memory>
     Ok(None)
 }
 
-/// Whether the clause has two literals or more, and one of them is true.
+/// Whether the clause has at least two literals, and one of them is true.
 fn is_spared(trail: &Trail, literals: &[i64]) -> bool
     requires placed { ArePlaced trail.now.entries.items trail.now.positions.items }
     requires clause { IsClause literals.now }
@@ -222,7 +224,7 @@ fn is_spared(trail: &Trail, literals: &[i64]) -> bool
     false
 }
 
-/// As `attach_next`, but a clause of which a literal is true watches nothing.
+/// The same as `attach_next`, but a clause with a true literal watches nothing.
 fn attach_open(state: &mut State) -> Result<(), Memory>
     requires state { IsState state.old }
     requires base { state.old.levels.items ≡ [] }
@@ -245,8 +247,8 @@ fn attach_open(state: &mut State) -> Result<(), Memory>
     Ok(())
 }
 
-/// Settles the clauses that watch nothing yet, where there is no level above 0, and lets those watch two of their
-/// literals that are not satisfied by it.
+/// Makes true, at level 0, what `sweep` finds in the clauses that watch nothing yet. Then makes those that are not
+/// satisfied watch two of their literals.
 pub(crate) fn settle_all(state: &mut State) -> Result<(), Memory>
     requires state { IsState state.old }
     requires base { state.old.levels.items ≡ [] }
@@ -263,7 +265,7 @@ pub(crate) fn settle_all(state: &mut State) -> Result<(), Memory>
     Ok(())
 }
 
-/// Keeps what is visited now, where there is no level above 0, for when clauses that come later are taken off.
+/// Keeps how much is visited now, at level 0. It is used when later clauses are removed.
 pub(crate) fn keep(state: &mut State)
     requires state { IsState state.old }
     requires base { state.old.levels.items ≡ [] }
@@ -281,8 +283,8 @@ pub(crate) fn keep(state: &mut State)
     };
 }
 
-/// How many literals there are, at most so many, before the first one that makes false what a clause from the index on
-/// watches.
+/// How many of the first `most` literals come before the first one that makes a literal false which a clause from the
+/// index `from` on watches.
 fn unwatched(trail: &Trail, pairs: &Pairs, from: usize, most: usize) -> usize
     requires placed { ArePlaced trail.now.entries.items trail.now.positions.items }
     ensures low { result ≤ most }
@@ -297,7 +299,7 @@ fn unwatched(trail: &Trail, pairs: &Pairs, from: usize, most: usize) -> usize
     place
 }
 
-/// For how many literals the clauses are visited still, of those for which they were kept.
+/// For how many literals the clauses are still visited, of those that were kept as visited.
 fn still_visited(trail: &Trail, pairs: &Pairs, kept: Kept) -> usize
     requires placed { ArePlaced trail.now.entries.items trail.now.positions.items }
     ensures low { result ≤ kept.visited }
@@ -309,7 +311,8 @@ fn still_visited(trail: &Trail, pairs: &Pairs, kept: Kept) -> usize
     unwatched(trail, pairs, kept.count, kept.visited)
 }
 
-/// Leaves the first literals; for how many the clauses are visited still, of those for which they were.
+/// Keeps the first `stays` literals of the trail, and releases the variables of the others. Returns for how many
+/// literals the clauses are still visited.
 fn leave(trail: &mut Trail, order: &mut Order, stays: usize, visited: usize) -> usize
     requires { stays ≤ length trail.old.entries.items }
     ensures entries { trail.new.entries.items ≡ take stays trail.old.entries.items }
@@ -325,8 +328,8 @@ fn leave(trail: &mut Trail, order: &mut Order, stays: usize, visited: usize) -> 
     }
 }
 
-/// Leaves the first `count` clauses, where there is no level above 0, and takes back the literals from the first one on
-/// that a clause made true which goes; their variables go back to the order.
+/// Keeps the first `count` clauses, at level 0. Takes back the literals from the first one on whose reason is removed,
+/// and releases their variables.
 pub(crate) fn cut(state: &mut State, order: &mut Order, count: usize)
     requires state { IsState state.old }
     requires base { state.old.levels.items ≡ [] }
@@ -352,7 +355,7 @@ pub(crate) fn cut(state: &mut State, order: &mut Order, count: usize)
     state.visited = visited.max(still_visited(&state.trail, &state.watches.pairs, state.kept));
 }
 
-/// Adds a variable, which no clause has yet. Where memory runs out, there is none more.
+/// Adds a variable, which occurs in no clause yet. If memory runs out, none is added.
 pub(crate) fn widen(state: &mut State) -> Result<(), Memory>
     requires state { IsState state.old }
     requires fits { length state.old.trail.positions.items < 2 ^ 63 }

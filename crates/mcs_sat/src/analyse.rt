@@ -1,4 +1,4 @@
-//! What is learnt of a clause that is false.
+//! Conflict analysis: what is learnt from a clause that is false.
 
 ghost use Rattle.std.specs.Prelude.{◌≡◌, [], ◌∷◌, ◌+◌, ◌≤◌, ◌⊎◌, ℤ, List, length, slice_get, Some, IfOk, OnOk};
 ghost use Rattle.mcs_sat.specs.Trails.{IsFalseAt, IsTrail};
@@ -12,8 +12,8 @@ use mcs_base::{Memory, Rows};
 use mcs_trace::Step;
 use std::alloc::Global;
 
-/// Resolves the clause of the marks, which is false, with the reason of the latest of its literals, and writes the
-/// numbers of the reasons into the chain, until one literal alone became false from the place `start` on.
+/// Resolves the marked clause, which is false, with the reason of the latest of its literals, and so on, until exactly
+/// one of its literals became false at the place `start` or later. Appends the numbers of the reasons to the chain.
 fn resolve_back(
     clauses: &Rows<i64>,
     trail: &Trail,
@@ -43,8 +43,8 @@ fn resolve_back(
     Ok(())
 }
 
-/// The step that the clause of the index, which is false, gives by the reasons of its literals: one literal alone of
-/// its clause became false from the place on; where there is no such place, its clause is empty.
+/// The step that follows from a false clause and the reasons of its literals. Exactly one literal of the learnt clause
+/// became false at the place `start` or later. If the trail ends before `start`, the learnt clause is empty.
 pub(crate) fn analyse(
     alloc: Global,
     clauses: &Rows<i64>,

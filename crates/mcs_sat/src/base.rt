@@ -1,4 +1,4 @@
-//! A list of clauses that is made ready for many searches.
+//! A list of clauses that many searches use.
 
 ghost use Rattle.std.specs.Prelude.{◌≡◌, [], ◌∷◌, ◌++◌, ◌+◌, ◌<◌, ◌≤◌, ◌^◌, length, take, IfOk, OnOk, OnErr};
 ghost use Rattle.std.specs.List.{AllByRecursion};
@@ -20,9 +20,9 @@ use mcs_trace::{Clause, Cnf};
 use std::alloc::Global;
 use std::marker::Model;
 
-/// Clauses over the variables 1 to `vars`, numbered from 1 in their order, ready for many searches, between which
-/// clauses are added or taken off. From one search to the next it keeps what was learnt from clauses that stay, the
-/// literals that are true before any decision, and the order of the variables with their last values.
+/// A list of clauses over the variables 1 to `vars`, numbered from 1 in their order, for many searches. Between two
+/// searches clauses may be added and removed. From one search to the next it keeps what was learnt from clauses that
+/// stay, the literals that are true at level 0, and the order of the variables with their last values.
 #[derive(Drop)]
 pub struct ClauseBase {
     state: State,
@@ -41,7 +41,7 @@ impl Model for ClauseBase {
     ghost invariant = { λ b. IsBase b.state b.vars };
 }
 
-/// Leaves the first `count` of the clauses that were given, with what was learnt before the first one that goes.
+/// Keeps the first `count` of the given clauses, and what was learnt before the first one that is removed.
 fn leave_first(state: &mut State, order: &mut Order, count: usize)
     requires state { IsState state.old }
     requires base { state.old.levels.items ≡ [] }
@@ -56,7 +56,7 @@ fn leave_first(state: &mut State, order: &mut Order, count: usize)
     }
 }
 
-/// Makes room for the variable, where there is none yet.
+/// Adds the variable, if it does not exist yet.
 fn make_room(state: &mut State, variable: usize) -> Result<(), Memory>
     requires state { IsState state.old }
     requires next { variable ≤ length state.old.trail.positions.items }
@@ -74,7 +74,8 @@ fn make_room(state: &mut State, variable: usize) -> Result<(), Memory>
     Ok(())
 }
 
-/// Learns clauses over parts of formulas from the clauses from the index on, and what a search learns of these alone.
+/// Preprocesses the clauses from the index `from` on: learns clauses over the parts of their formulas, and what a
+/// bounded search learns from these alone.
 fn learn_beforehand(state: &mut State, order: &mut Order, from: usize) -> Result<(), Memory>
     requires state { IsState state.old }
     requires base { state.old.levels.items ≡ [] }
@@ -92,7 +93,7 @@ fn learn_beforehand(state: &mut State, order: &mut Order, from: usize) -> Result
 }
 
 impl ClauseBase {
-    /// No clauses, over the variables 1 to `vars`.
+    /// The list without clauses, over the variables 1 to `vars`.
     pub fn new(alloc: Global, vars: u64) -> Result<ClauseBase, Memory>
         requires { vars < 2 ^ 63 }
         ensures { IfOk result (λ b. b ≡ record { vars = vars; clauses = [] }) }
@@ -119,7 +120,7 @@ impl ClauseBase {
         }
     }
 
-    /// How many variables there are.
+    /// The number of variables.
     pub fn vars(&self) -> u64
         ensures value { result ≡ self.now.vars }
         ensures kept { IsClauseList self.now }
@@ -127,15 +128,15 @@ impl ClauseBase {
         self.vars
     }
 
-    /// How many clauses there are.
+    /// The number of clauses.
     pub fn count(&self) -> usize
         ensures { result ≡ length self.now.clauses }
     {
         self.state.chains.given()
     }
 
-    /// Adds a variable, which no clause has yet; its number is the next one. Where memory runs out, there are as many as
-    /// before.
+    /// Adds a variable, which occurs in no clause yet. Returns its number, which is the next one. If memory runs out,
+    /// none is added.
     pub fn add_variable(&mut self) -> Result<u64, Memory>
         requires { self.old.vars + 1 < 2 ^ 63 }
         ensures number { IfOk result (λ number. number ≡ self.old.vars + 1) }
@@ -147,7 +148,7 @@ impl ClauseBase {
         Ok(self.vars)
     }
 
-    /// Adds a clause at the end, whose variables are those of the list. Where memory runs out, the list is as before.
+    /// Appends a clause. Its variables have to be those of the list. If memory runs out, the list is as before.
     pub fn add(&mut self, literals: &[i64]) -> Result<(), Memory>
         requires clause { IsClause literals.now }
         requires within { IsWithin self.old.vars literals.now }
@@ -158,7 +159,7 @@ impl ClauseBase {
         Ok(())
     }
 
-    /// Adds variables up to the number.
+    /// Adds variables up to the number `vars`.
     fn widen_to(&mut self, vars: u64) -> Result<(), Memory>
         requires more { self.old.vars ≤ vars }
         requires fits { vars < 2 ^ 63 }
@@ -172,7 +173,7 @@ impl ClauseBase {
         Ok(())
     }
 
-    /// Adds the clauses; where memory runs out, the first ones of these alone.
+    /// Appends the clauses. If memory runs out, only the first ones are added.
     fn add_all(&mut self, clauses: &[Clause]) -> Result<(), Memory>
         requires { AllByRecursion (λ c. IsClause c × IsWithin self.old.vars c) clauses.now }
         ensures vars { self.new.vars ≡ self.old.vars }
@@ -185,7 +186,7 @@ impl ClauseBase {
         Ok(())
     }
 
-    /// Adds the clauses of a list over the same variables and perhaps more. Where memory runs out, nothing is added.
+    /// Appends the clauses of a list, which has the same variables or more. If memory runs out, nothing is added.
     pub fn append(&mut self, cnf: &Cnf) -> Result<(), Memory>
         requires { self.old.vars ≤ cnf.now.vars }
         ensures ok { OnOk result (self.new ≡ record { vars = cnf.now.vars; clauses = self.old.clauses ++ cnf.now.clauses }) }
@@ -200,7 +201,7 @@ impl ClauseBase {
         done
     }
 
-    /// As `append`; where memory runs out, a part of it is added.
+    /// The same as `append`, but if memory runs out, a part of it is added.
     fn append_part(&mut self, cnf: &Cnf) -> Result<(), Memory>
         requires { self.old.vars ≤ cnf.now.vars }
         ensures vars { self.old.vars ≤ self.new.vars }
@@ -211,8 +212,8 @@ impl ClauseBase {
         self.add_all(cnf.clauses())
     }
 
-    /// Leaves the first `count` clauses, over the variables 1 to `vars`, which have to be those of the clauses that are
-    /// left. What was learnt before the first clause that goes stays.
+    /// Keeps the first `count` clauses, over the variables 1 to `vars`. The variables of these clauses have to be among
+    /// them. What was learnt before the first removed clause stays.
     pub fn cut(&mut self, vars: u64, count: usize)
         requires fewer { vars ≤ self.old.vars }
         requires within { AllByRecursion (IsWithin vars) (take count self.old.clauses) }
@@ -222,9 +223,9 @@ impl ClauseBase {
         self.vars = vars;
     }
 
-    /// Makes true what follows from the clauses without any decision, which the searches to come then begin with, also
-    /// where clauses that are added later are cut, and learns of the clauses what a bounded search finds. It is worth
-    /// its time where many questions follow. The list stays as it is.
+    /// Preprocesses the list: makes true what follows by unit propagation at level 0, and learns what a bounded search
+    /// finds. Later searches begin with this, also if clauses that are added afterwards are removed again. It is worth
+    /// its time if many questions follow. The list itself is unchanged.
     pub fn settle(&mut self) -> Result<(), Memory>
         ensures { self.new ≡ self.old }
     {
@@ -236,8 +237,8 @@ impl ClauseBase {
         Ok(())
     }
 
-    /// An assignment that satisfies the clauses, with a value for each variable; or, exactly where there is none, a trace
-    /// that is accepted, in which each step but the last is named by a later one. The list stays as it is.
+    /// An assignment that satisfies the clauses, with a value for each variable; or, exactly if there is none, an
+    /// accepted trace. In the trace each step but the last is used by a later one. The list is unchanged.
     pub fn solve(&mut self) -> Result<Outcome, Memory>
         ensures same { self.new ≡ self.old }
         ensures answer { IfOk result (IsAnswer self.old) }
@@ -249,7 +250,7 @@ impl ClauseBase {
         outcome
     }
 
-    /// The same without a trace: an assignment that satisfies the clauses, or `None` exactly where there is none.
+    /// The same without a trace: an assignment that satisfies the clauses, or `None` exactly if there is none.
     pub fn satisfy(&mut self) -> Result<Option<Vec<bool>>, Memory>
         ensures same { self.new ≡ self.old }
         ensures exact { IfOk result (IsSettled self.old) }
@@ -260,10 +261,9 @@ impl ClauseBase {
     }
 }
 
-/// An assignment that satisfies the clauses, with a value for each variable; or, exactly where there is
-/// none, a trace that is accepted. The search makes literals true, learns from each clause that becomes
-/// false, and jumps back (Marques-Silva and Sakallah 1996); it decides first on variables that took part in
-/// recent conflicts (Moskewicz, Madigan, Zhao, Zhang and Malik 2001).
+/// An assignment that satisfies the clauses, with a value for each variable; or, exactly if there is none, an accepted
+/// trace. The search decides and propagates, learns from each conflict, and jumps back (Marques-Silva & Sakallah 1996).
+/// It decides first on variables of recent conflicts (Moskewicz, Madigan, Zhao, Zhang & Malik 2001).
 pub fn solve(alloc: Global, cnf: &Cnf) -> Result<Outcome, Memory>
     ensures answer { IfOk result (IsAnswer cnf.now) }
     ensures exact { IfOk result (IsExact cnf.now) }

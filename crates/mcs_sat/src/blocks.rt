@@ -1,4 +1,4 @@
-//! Values by their indices, which take memory only where there are some.
+//! Sparse arrays: values by indices, in blocks that are allocated only if needed.
 
 ghost use Rattle.std.specs.Prelude.{◌≡◌, ℕ, ◌<◌, length, OnOk};
 ghost use Rattle.mcs_sat.specs.Lists.{row_at};
@@ -7,17 +7,16 @@ use crate::order::fill;
 use mcs_base::Memory;
 use std::alloc::Global;
 
-/// How many neighbours stand in a block at most.
+/// The greatest number of values in a block.
 pub(crate) const BLOCK: usize = 512;
 
-/// Values by their indices. They stand in blocks of neighbouring indices; a block in which there is no value takes no
-/// memory.
+/// Values by indices. They are in blocks of neighbouring indices. A block without a value takes no memory.
 #[derive(Drop)]
 pub(crate) struct Blocks<T: Copy> {
     pub blocks: Vec<Vec<T>>,
 }
 
-/// Adds empty rows up to the number.
+/// Appends empty rows, until there is one with this number.
 pub(crate) fn make_rows<T: Drop>(rows: &mut Vec<Vec<T>>, number: usize) -> Result<(), Memory>
     ensures within { OnOk result (number < length rows.new.items) }
     ensures same { (p : ℕ) → row_at rows.new.items p ≡ row_at rows.old.items p }
@@ -37,12 +36,12 @@ impl<T: Copy> Blocks<T> {
         }
     }
 
-    /// The value at the index, where there is one.
+    /// The value at the index, if there is one.
     pub fn get(&self, index: usize) -> Option<T> {
         self.blocks.get(index / BLOCK)?.get(index % BLOCK).copied()
     }
 
-    /// Puts the value to the index, where there is one already; whether there is.
+    /// Replaces the value at the index, if there is one. Returns whether there is.
     pub fn replace(&mut self, index: usize, value: T) -> bool {
         if let Some(block) = self.blocks.get_mut(index / BLOCK)
             && let Some(here) = block.get_mut(index % BLOCK)
@@ -53,7 +52,7 @@ impl<T: Copy> Blocks<T> {
         false
     }
 
-    /// Puts the value to the index. Where its block ends before it, the filler stands up to it.
+    /// Sets the value at the index. If the block ends before it, it is filled up to there with `filler`.
     pub fn set(&mut self, index: usize, value: T, filler: T) -> Result<(), Memory> {
         if self.replace(index, value) {
             return Ok(());

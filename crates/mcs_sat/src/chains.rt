@@ -1,4 +1,4 @@
-//! The chains of the clauses of a store.
+//! The chains of the clauses of a solver.
 
 ghost use Rattle.std.specs.Prelude.{◌≡◌, List, [], ◌∷◌, ◌++◌, ◌+◌, ◌<◌, take, length, slice_get, Some, OnOk, OnErr};
 ghost use Rattle.mcs_sat.specs.Chains.{AreSpaced, IsCut};
@@ -8,8 +8,8 @@ use mcs_base::{Memory, Rows};
 use std::alloc::Global;
 use std::marker::Model;
 
-/// For each clause of a store its chain, which is empty where the clause was given. Only those of the clauses that were
-/// learnt are kept, each with the index of its clause. It is seen as the list of all chains.
+/// For each clause its chain, which is empty if the clause was given. Only the chains of learnt clauses are stored,
+/// each with the index of its clause. The model is the list of all chains.
 #[derive(Drop)]
 pub(crate) struct Chains {
     count: usize,
@@ -28,7 +28,7 @@ impl Model for Chains {
     ghost invariant = { λ c. (c.count < 2 ^ 64) × AreLearnt 0 c.count c.learnt.items c.rows };
 }
 
-/// How many of the indices, which ascend, come before the one.
+/// How many of the indices, which ascend, come before `index`.
 fn before(indices: &[usize], index: usize) -> usize
     requires { AreSpaced indices.now }
     ensures { IsCut indices.now result index }
@@ -39,7 +39,8 @@ fn before(indices: &[usize], index: usize) -> usize
     }
 }
 
-/// How many of the learnt clauses, whose indices ascend, come before the clause that was given after so many others.
+/// How many of the learnt clauses, whose indices ascend, come before the given clause that follows `number` other given
+/// ones.
 fn before_given(learnt: &[usize], number: usize) -> usize
     requires { AreSpaced learnt.now }
     ensures { IsCut learnt.now result (number + result) }
@@ -58,7 +59,7 @@ fn before_given(learnt: &[usize], number: usize) -> usize
 }
 
 impl Chains {
-    /// No chains. It takes no memory.
+    /// No chains. No memory is needed.
     pub fn new(alloc: Global) -> Chains
         ensures { result ≡ [] }
     {
@@ -76,14 +77,14 @@ impl Chains {
         self.count
     }
 
-    /// How many of the clauses were given.
+    /// The number of given clauses.
     pub fn given(&self) -> usize
         ensures { result ≡ given_count self.now }
     {
         self.count - self.learnt.len()
     }
 
-    /// Adds a chain at the end; an empty one takes no memory. Where memory runs out, the chains are as before.
+    /// Appends a chain. An empty one takes no memory. If memory runs out, the chains are as before.
     pub fn push(&mut self, chain: &[u64]) -> Result<(), Memory>
         ensures ok { OnOk result (self.new ≡ self.old ++ chain.now ∷ []) }
         ensures err { OnErr result (self.new ≡ self.old) }
@@ -119,13 +120,13 @@ impl Chains {
         }
     }
 
-    /// Where the last ones of the learnt clauses begin, so many at most.
+    /// The index of the first of the last `most` learnt clauses.
     pub fn last_from(&self, most: usize) -> usize {
         let before = self.learnt.len().saturating_sub(most);
         self.learnt.get(before).copied().unwrap_or(self.count)
     }
 
-    /// Where the clause stands that was given after so many others.
+    /// The index of the given clause that follows `number` other given ones.
     pub fn place_of(&self, number: usize) -> usize
         requires { number < given_count self.now }
         ensures within { result < length self.now }
@@ -134,7 +135,7 @@ impl Chains {
         number + before_given(&self.learnt, number)
     }
 
-    /// Leaves the first `count` chains, where there are more. It takes no memory.
+    /// Keeps the first `count` chains, if there are more. No memory is needed.
     pub fn truncate(&mut self, count: usize)
         ensures { self.new ≡ take count self.old }
     {

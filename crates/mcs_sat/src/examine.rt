@@ -1,12 +1,12 @@
-//! What the true literals make of a clause.
+//! The state of a clause under the literals that are true.
 
 ghost use Rattle.mcs_trace.specs.Clauses.{IsClause};
 ghost use Rattle.mcs_sat.specs.Trails.{ArePlaced, AreCovered, IsFinding};
 
 use crate::trail::Trail;
 
-/// What is known of a clause: a literal of it is true or two are free; all but this one are false, and it is
-/// free; all are false.
+/// The state of a clause. `Open`: a literal of it is true, or at least two have no value. `Forced`: this literal has no
+/// value, and all others are false. `Conflict`: all literals are false.
 #[derive(Drop)]
 pub(crate) enum Finding {
     Open,

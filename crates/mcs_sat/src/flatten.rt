@@ -1,4 +1,4 @@
-//! Clauses over the parts of a formula, in place of those over its whole.
+//! Clauses over the parts of a formula, learnt in place of those over the whole.
 
 ghost use Rattle.std.specs.Prelude.{◌≡◌, [], ◌<◌, length, IsTrue, IfOk, OnOk};
 ghost use Rattle.std.specs.List.{AllByRecursion};
@@ -18,16 +18,16 @@ use mcs_trace::resolve;
 use std::alloc::Global;
 use std::mem;
 
-/// Of how many literals a clause is that is learnt, at least.
+/// The least number of literals of a clause that is learnt here.
 const LEAST_LITERALS: usize = 3;
 
-/// Of how many literals a clause is that is resolved further or learnt, at most.
+/// The greatest number of literals of a clause that is resolved further or learnt here.
 const MOST_LITERALS: usize = 6;
 
-/// With how many clauses one is resolved, at most.
+/// The greatest number of clauses with which one clause is resolved.
 const MOST_STEPS: usize = 64;
 
-/// The clauses that have a literal as their last one: none, the one of the index, or several.
+/// The clauses whose last literal is a given one: none, the one with this index, or several.
 #[derive(Clone, Copy)]
 enum Definition {
     None,
@@ -35,28 +35,28 @@ enum Definition {
     Several,
 }
 
-/// For each variable what defines it where it is true, and where it is false.
+/// For each variable the clauses that define it, by whether its literal in them is positive or negative.
 #[derive(Drop)]
 struct Definitions {
     if_true: Vec<Definition>,
     if_false: Vec<Definition>,
 }
 
-/// A clause, and the numbers of those that it is resolved from.
+/// A clause, and the numbers of the clauses from which it was resolved.
 #[derive(Drop)]
 pub(crate) struct Flat {
     pub literals: Vec<i64>,
     pub chain: Vec<u64>,
 }
 
-/// The variables that were resolved away where clauses were learnt, and the clauses that these were resolved from.
+/// The variables that were resolved away in learnt clauses, and the clauses from which these were resolved.
 #[derive(Drop)]
 struct Resolved {
     variables: Vec<bool>,
     clauses: Vec<bool>,
 }
 
-/// Notes that the clause of the index is one more that defines the variable.
+/// Records the clause with this index as one more that defines the variable.
 fn note(side: &mut Vec<Definition>, variable: usize, index: usize) -> Result<(), Memory> {
     fill(side, variable, Definition::None)?;
     if let Some(here) = side.get_mut(variable) {
@@ -69,7 +69,7 @@ fn note(side: &mut Vec<Definition>, variable: usize, index: usize) -> Result<(),
 }
 
 impl Definitions {
-    /// Notes that the clause of the index has the literal as its last one.
+    /// Records that the clause with this index has the literal as its last one.
     fn add(&mut self, literal: i64, index: usize) -> Result<(), Memory> {
         let variable = literal.unsigned_abs() as usize;
         if literal < 0 {
@@ -79,7 +79,7 @@ impl Definitions {
         }
     }
 
-    /// The index of the one clause whose last literal is the negation of the literal.
+    /// The index of the clause whose last literal is the negation of this one, if it is the only one.
     fn of(&self, literal: i64) -> Option<usize> {
         let side = if literal > 0 {
             &self.if_true
@@ -108,7 +108,8 @@ pub(crate) fn is_marked(marks: &[bool], number: usize) -> bool {
 }
 
 impl Resolved {
-    /// Notes that the clause of the index was resolved with others by its last literal, if this one has no value.
+    /// Records that the clause with this index was resolved with others on its last literal. The variable of this
+    /// literal was resolved away, if it has no value.
     fn note_definition(
         &mut self,
         clauses: &Rows<i64>,
@@ -125,7 +126,7 @@ impl Resolved {
         mark(&mut self.clauses, index)
     }
 
-    /// Notes that a clause was learnt from those of the numbers.
+    /// Records that a clause was learnt from those with these numbers.
     fn note(&mut self, clauses: &Rows<i64>, trail: &Trail, chain: &[u64]) -> Result<(), Memory> {
         let Some((first, others)) = chain.split_first() else {
             return Ok(());
@@ -140,8 +141,8 @@ impl Resolved {
         Ok(())
     }
 
-    /// Lets go of the variables of the clause of the index, if it was not resolved, and is no definition of a variable
-    /// that was resolved away.
+    /// If the clause with this index was not resolved, and does not define a variable that was resolved away, its
+    /// variables do not count as resolved away.
     fn spare(&mut self, clauses: &Rows<i64>, index: usize)
         requires { index < length clauses.now }
     {
@@ -161,8 +162,8 @@ impl Resolved {
         }
     }
 
-    /// The variables that were resolved away in all clauses from the index on that have them, but in their definitions.
-    /// The clauses of a whole come after those of its parts.
+    /// The variables that were resolved away from all clauses, from the index `from` on, in which they occur, except
+    /// their definitions. The clauses of a whole formula come after those of its parts.
     fn variables_of(mut self, clauses: &Rows<i64>, pairs: &Pairs, from: usize) -> Vec<bool>
         requires { length pairs.now ≡ length clauses.now }
     {
@@ -179,7 +180,7 @@ impl Resolved {
     }
 }
 
-/// What defines the variables in the clauses from the index on that watch something.
+/// The definitions of the variables in the clauses from the index `from` on that watch something.
 fn definitions_of(
     alloc: Global,
     clauses: &Rows<i64>,
@@ -213,7 +214,7 @@ fn has_value(trail: &Trail, literal: i64) -> bool {
     }
 }
 
-/// The index of the clause that made the negation of the literal true.
+/// The index of the clause that is the reason for the negation of the literal, if this is true for a reason.
 fn refuted_by(trail: &Trail, literal: i64) -> Option<usize> {
     let position = trail.positions.get(literal.unsigned_abs() as usize)?;
     let entry = trail.entries.get(*position)?;
@@ -224,8 +225,8 @@ fn refuted_by(trail: &Trail, literal: i64) -> Option<usize> {
     }
 }
 
-/// The index of the clause that the clause is resolved with next: the one that made a literal of it false, or that
-/// defines one.
+/// The index of the clause with which this one is resolved next: the reason for one of its literals being false, or the
+/// definition of one.
 fn next_clause(trail: &Trail, definitions: &Definitions, literals: &[i64]) -> Option<usize> {
     for literal in literals {
         let found = refuted_by(trail, *literal).or(definitions.of(*literal));
@@ -236,7 +237,7 @@ fn next_clause(trail: &Trail, definitions: &Definitions, literals: &[i64]) -> Op
     None
 }
 
-/// Resolves the clause with the next one; whether there is one.
+/// Resolves the clause with the next one. Returns whether there is one.
 fn resolve_next(
     clauses: &Rows<i64>,
     trail: &Trail,
@@ -262,8 +263,8 @@ fn resolve_next(
     Ok(true)
 }
 
-/// What the clause of the index is resolved to, with the clauses that made its literals false, and those that define
-/// what is left.
+/// The clause that results from resolving the clause with this index with the reasons for its false literals, and with
+/// the definitions of the literals that are left.
 fn flat_of(
     alloc: Global,
     clauses: &Rows<i64>,
@@ -291,7 +292,7 @@ fn flat_of(
     Ok(flat)
 }
 
-/// Whether the variables of the clause have a place on the trail.
+/// Whether the variables of the clause have an entry for their place on the trail.
 fn are_covered(trail: &Trail, literals: &[i64]) -> bool
     requires { IsClause literals.now }
     ensures { IsTrue result → AreCovered trail.now.positions.items literals.now }
@@ -299,8 +300,8 @@ fn are_covered(trail: &Trail, literals: &[i64]) -> bool
     literals.iter().all(|literal| (literal.unsigned_abs() as usize) < trail.positions.len())
 }
 
-/// Learns the clause, where nothing is decided, if it is neither short, so that unit clauses lead through the wholes, nor
-/// long; whether it is learnt.
+/// Learns the clause, at level 0, if it is neither short nor long. Short ones are not learnt, so that unit propagation
+/// goes through the whole formulas. Returns whether it is learnt.
 fn learn_flat(state: &mut State, flat: &Flat) -> Result<bool, Memory>
     requires state { IsState state.old }
     requires base { state.old.levels.items ≡ [] }
@@ -322,7 +323,7 @@ fn learn_flat(state: &mut State, flat: &Flat) -> Result<bool, Memory>
     Ok(true)
 }
 
-/// Whether the clause of the index watches something, and a literal of it is false.
+/// Whether the clause with this index watches something, and one of its literals is false.
 fn is_shorter(state: &State, index: usize) -> bool
     requires within { index < length state.now.clauses }
     requires paired { index < length state.now.watches.pairs }
@@ -335,7 +336,7 @@ fn is_shorter(state: &State, index: usize) -> bool
             .any(|literal| refuted_by(&state.trail, *literal).is_some())
 }
 
-/// Learns what the clause of the index is resolved to, where a literal of it is false.
+/// Learns what the clause with this index is resolved to, if one of its literals is false.
 fn flatten(
     state: &mut State,
     definitions: &Definitions,
@@ -364,10 +365,11 @@ fn flatten(
     noted
 }
 
-/// Learns clauses over the parts of the formulas whose clauses stand from the index on: each clause of these of which a
-/// literal is false is resolved with those that made its literals false, and then with those that define what is left,
-/// one after the other, by their last literals. So what a formula says of its parts is found without the variables that
-/// stand for its parts. Marked are the variables that are not needed any more to find it, none where nothing is learnt.
+/// Learns clauses over the parts of the formulas whose clauses are those from the index `from` on. Each such clause
+/// with a false literal is resolved with the reasons for its false literals, and then with the definitions of those
+/// that are left, one after the other, on their last literals. So what a formula says of its parts is found without the
+/// Tseitin variables of its parts. Returns marks for the variables that are then no longer needed to find it; there are
+/// none if nothing is learnt.
 pub(crate) fn flatten_from(state: &mut State, from: usize) -> Result<Vec<bool>, Memory>
     requires state { IsState state.old }
     requires base { state.old.levels.items ≡ [] }

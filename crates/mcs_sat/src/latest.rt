@@ -7,14 +7,14 @@ ghost use Rattle.mcs_sat.specs.Learning.{IsJoined, IsLatest};
 
 use crate::trail::Trail;
 
-/// The place that made the last of some literals false, and how many places it took for the others.
+/// The place at which the last of some literals became false, and how many places were enough for the others.
 #[derive(Clone, Copy)]
 pub(crate) struct Latest {
     pub place: usize,
     pub others: usize,
 }
 
-/// The latest of the places so far and one more.
+/// The latest of the places so far and of one more.
 fn joined(found: Option<Latest>, place: usize) -> Latest
     requires { IfSome found (λ l. l.place + 1 < 2 ^ 64) }
     ensures { MatchOption found (result ≡ record { place = place; others = 0 }) (λ l. IsJoined l place result) }
@@ -39,7 +39,8 @@ fn joined(found: Option<Latest>, place: usize) -> Latest
     }
 }
 
-/// The latest of the places that made the literals false, which all are; `None` exactly where there are none.
+/// The latest of the places at which the literals became false, or `None` exactly if there are no literals. All of them
+/// have to be false.
 pub(crate) fn latest_of(trail: &Trail, literals: &[i64]) -> Option<Latest>
     requires placed { ArePlaced trail.now.entries.items trail.now.positions.items }
     requires clause { IsClause literals.now }

@@ -1,4 +1,4 @@
-//! Searches for an assignment that satisfies clauses; where there is none, a trace shows so.
+//! A SAT solver: searches for an assignment that satisfies clauses; if there is none, a trace shows it.
 #![tactic(auto)]
 
 mod adding;

@@ -1,4 +1,4 @@
-//! Lists of indices by places, which take memory only where there are some.
+//! Lists of indices, one for each literal, allocated only if needed.
 
 ghost use Rattle.std.specs.Prelude.{◌≡◌, ◌≢◌, ℕ, ◌<◌, ◌++◌, ◌∷◌, [], length, swap_remove, slice_get, Some, OnOk, OnErr};
 ghost use Rattle.mcs_sat.specs.Lists.{list_at, row_at};
@@ -7,15 +7,14 @@ use crate::blocks::{BLOCK, make_rows};
 use mcs_base::Memory;
 use std::alloc::Global;
 
-/// For each place of a literal a list of indices. Lists stand in blocks of neighbouring places, each of which reaches as
-/// far as the last place that an index was put to; a block in which there was no index takes no memory.
+/// For each place of a literal a list of indices. The lists are in blocks of neighbouring places. A block reaches as
+/// far as the last place to whose list an index was added; a block without an index takes no memory.
 #[derive(Drop)]
 pub(crate) struct Lists {
     blocks: Vec<Vec<Vec<usize>>>,
 }
 
-/// Adds the index at the end. The first time room is made for two: most literals of a formula's parts are watched by
-/// two clauses.
+/// Appends the index. The first allocation has room for two: two clauses watch most literals of the parts of a formula.
 fn add_index(indices: &mut Vec<usize>, index: usize) -> Result<(), Memory>
     ensures ok { OnOk result (indices.new.items ≡ indices.old.items ++ index ∷ []) }
     ensures err { OnErr result (indices.new.items ≡ indices.old.items) }
@@ -27,7 +26,7 @@ fn add_index(indices: &mut Vec<usize>, index: usize) -> Result<(), Memory>
     Ok(())
 }
 
-/// Adds the index at the end of one list of the block.
+/// Appends the index to one list of the block.
 fn add_to(block: &mut Vec<Vec<usize>>, at: usize, index: usize) -> Result<(), Memory>
     ensures ok { OnOk result (row_at block.new.items at ≡ row_at block.old.items at ++ index ∷ []) }
     ensures others { (p : ℕ) → p ≢ at → row_at block.new.items p ≡ row_at block.old.items p }
@@ -60,7 +59,7 @@ impl Lists {
         }
     }
 
-    /// Adds the index at the end of the list at the place.
+    /// Appends the index to the list at the place.
     pub fn push(&mut self, place: usize, index: usize) -> Result<(), Memory>
         ensures ok { OnOk result (list_at self.new place ≡ list_at self.old place ++ index ∷ []) }
         ensures others { (p : ℕ) → p ≢ place → list_at self.new p ≡ list_at self.old p }
@@ -71,7 +70,7 @@ impl Lists {
         add_to(&mut self.blocks[number], place % BLOCK, index)
     }
 
-    /// Takes what stands there out of the list at the place; the last one takes its place.
+    /// Removes an item of the list at the place and returns it. The last item takes its position.
     pub fn swap_remove(&mut self, place: usize, at: usize) -> usize
         requires { at < length (list_at self.old place) }
         ensures value { slice_get (list_at self.old place) at ≡ Some result }
@@ -81,7 +80,7 @@ impl Lists {
         self.blocks[place / BLOCK][place % BLOCK].swap_remove(at)
     }
 
-    /// Leaves no index.
+    /// Makes all lists empty.
     pub fn clear(&mut self)
         ensures { (p : ℕ) → list_at self.new p ≡ [] }
     {

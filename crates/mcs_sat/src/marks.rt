@@ -1,4 +1,4 @@
-//! A clause that is false, as marks at the places that made its literals so.
+//! A false clause, as marks at the places of the trail at which its literals became false.
 
 ghost use Rattle.std.specs.Prelude.{◌≡◌, ◌≢◌, ◌≤◌, ◌<◌, ◌⊎◌, ◌↔◌, ℕ, length, unsigned_abs, IfOk, OnOk};
 ghost use Rattle.std.specs.Bool.{MatchBool};
@@ -13,7 +13,7 @@ use mcs_base::{Memory, Rows};
 use mcs_trace::Clause;
 use std::alloc::Global;
 
-/// Marks the place where the literal's variable stands, if it stands somewhere.
+/// Marks the place of the literal's variable on the trail, if it has one.
 fn mark_one(trail: &Trail, literal: i64, marks: &mut Vec<bool>)
     requires placed { ArePlaced trail.now.entries.items trail.now.positions.items }
     requires within { unsigned_abs literal < length trail.now.positions.items }
@@ -28,7 +28,7 @@ fn mark_one(trail: &Trail, literal: i64, marks: &mut Vec<bool>)
     marks[place] = true;
 }
 
-/// Marks the places where the variables of the clause stand.
+/// Marks the places of the variables of the clause.
 pub(crate) fn mark_all(trail: &Trail, literals: &[i64], marks: &mut Vec<bool>)
     requires placed { ArePlaced trail.now.entries.items trail.now.positions.items }
     requires clause { IsClause literals.now }
@@ -43,7 +43,7 @@ pub(crate) fn mark_all(trail: &Trail, literals: &[i64], marks: &mut Vec<bool>)
     }
 }
 
-/// Whether the variables of the clause stand at marked places.
+/// Whether the places of the variables of the clause are marked.
 pub(crate) fn are_marked(trail: &Trail, literals: &[i64], marks: &[bool]) -> bool
     requires placed { ArePlaced trail.now.entries.items trail.now.positions.items }
     requires clause { IsClause literals.now }
@@ -61,7 +61,7 @@ pub(crate) fn are_marked(trail: &Trail, literals: &[i64], marks: &[bool]) -> boo
     true
 }
 
-/// Whether a place from the one up to below the other is marked.
+/// Whether a place from `from` up to, but not including, `to` is marked.
 pub(crate) fn is_any_marked(marks: &[bool], from: usize, to: usize) -> bool
     requires { to ≤ length marks.now }
     ensures { MatchBool result (IsMarkedWithin marks.now from to) (AreFree marks.now from to) }
@@ -76,7 +76,8 @@ pub(crate) fn is_any_marked(marks: &[bool], from: usize, to: usize) -> bool
     false
 }
 
-/// Resolves the clause of the marks with the reason of the literal at the place, whose number goes into the chain.
+/// Resolves the marked clause with the reason of the literal at the place, and appends the number of the reason to the
+/// chain.
 pub(crate) fn resolve_at(
     clauses: &Rows<i64>,
     trail: &Trail,
@@ -100,7 +101,7 @@ pub(crate) fn resolve_at(
     Ok(())
 }
 
-/// The clause of the marks.
+/// The marked clause.
 pub(crate) fn clause_of(alloc: Global, trail: &Trail, marks: &[bool]) -> Result<Clause, Memory>
     requires placed { ArePlaced trail.now.entries.items trail.now.positions.items }
     requires sized { length marks.now ≡ length trail.now.entries.items }

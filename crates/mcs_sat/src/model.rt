@@ -8,7 +8,7 @@ use crate::trail::Trail;
 use mcs_base::Memory;
 use std::alloc::Global;
 
-/// The values of the variables 1 to `vars`; one that is free is false.
+/// The values of the variables 1 to `vars`. A variable without a value is false.
 pub(crate) fn model_of(alloc: Global, trail: &Trail, vars: u64) -> Result<Vec<bool>, Memory>
     requires placed { ArePlaced trail.now.entries.items trail.now.positions.items }
     requires room { vars < length trail.now.positions.items }

@@ -1,4 +1,4 @@
-//! Which variable is decided next, and with which value.
+//! The order of decisions: which variable is decided next, and with which value.
 
 ghost use Rattle.std.specs.Prelude.{◌≡◌, ◌<◌, length, unsigned_abs, IfSome};
 ghost use Rattle.mcs_trace.specs.Clauses.{IsLiteral};
@@ -9,22 +9,22 @@ use crate::trail::{Entry, Trail};
 use mcs_base::Memory;
 use std::alloc::Global;
 
-/// Where a conflict adds so much activity, all activities are made smaller.
+/// If a conflict adds this much activity, all activities are reduced.
 const MOST_GAIN: u64 = 1 << 60;
 
-/// After how many conflicts the search begins anew for the first time.
+/// The number of conflicts before the first restart.
 const FIRST_LIMIT: u64 = 100;
 
-/// After how many conflicts what was learnt long ago is in the way of a search.
+/// The number of conflicts from which on a search is hard: what it learnt long ago is then set aside for a while.
 const MANY_CONFLICTS: u64 = 2000;
 
-/// For how many turns a search goes on without that the first time.
+/// The number of turns of the first search without what was learnt long ago.
 const FIRST_TURNS: usize = 5_000;
 
-/// How much smaller they are made, in bits.
+/// By how many bits activities are reduced.
 const SHRINK: u32 = 40;
 
-/// Puts the value at the end until there is one at the index.
+/// Appends the value until the index exists.
 pub(crate) fn fill<T: Copy>(values: &mut Vec<T>, index: usize, value: T) -> Result<(), Memory> {
     while values.len() <= index {
         if values.push(value).is_err() {
@@ -34,14 +34,14 @@ pub(crate) fn fill<T: Copy>(values: &mut Vec<T>, index: usize, value: T) -> Resu
     Ok(())
 }
 
-/// Makes the activities smaller.
+/// Reduces the activities.
 fn shrink_all(activities: &mut [u64]) {
     for activity in activities {
         *activity >>= SHRINK;
     }
 }
 
-/// The variable, or its negation where the value is false, if it is one of the trail's variables and free there.
+/// The variable, negated if `value` is false, if it is a variable of the trail and has no value there.
 fn free_literal(trail: &Trail, variable: usize, value: bool) -> Option<i64>
     requires placed { ArePlaced trail.now.entries.items trail.now.positions.items }
     ensures { IfSome result (λ l. IsLiteral l × (unsigned_abs l < length trail.now.positions.items) × StandsNowhere trail.now.entries.items (unsigned_abs l)) }
@@ -56,12 +56,12 @@ fn free_literal(trail: &Trail, variable: usize, value: bool) -> Option<i64>
     Some(if value { literal } else { -literal })
 }
 
-/// The variables, those that took part in recent conflicts first: a heap of variables, for each variable its place
-/// there, where it is there, its activity and its last value, where it has had one; and how much activity a conflict
-/// adds. The variables from `seen` on were not looked at yet. That a variable is missing in the heap, or stands there
-/// though it has a value, makes no answer wrong; those past four bytes are missing. The conflicts since the search began
-/// anew are counted, up to the limit where it does so again, and those of the whole search, with the rounds in which it
-/// left clauses aside.
+/// The variables, those of recent conflicts first. It has a heap of variables; for each variable its place in the heap,
+/// if it is there, its activity, and its last value, if it had one; and how much activity a conflict adds. The
+/// variables from `seen` on were not looked at yet. A variable may be missing from the heap, or be in it though it has
+/// a value: this makes no answer wrong. Variables whose numbers take more than four bytes are missing. The conflicts
+/// since the last restart are counted, up to the limit of the next one. Those of the whole search are counted too, with
+/// the rounds in which clauses were set aside.
 #[derive(Drop)]
 pub(crate) struct Order {
     heap: Vec<u32>,
@@ -93,12 +93,12 @@ impl Order {
         }
     }
 
-    /// The place of the variable in the heap, where it is there.
+    /// The place of the variable in the heap, if it is there.
     fn place_of(&self, variable: usize) -> Option<u32> {
         self.places.get(variable)?
     }
 
-    /// The activity of the variable at the place of the heap.
+    /// The activity of the variable at this place of the heap.
     fn activity_at(&self, place: usize) -> u64 {
         match self.heap.get(place) {
             Some(variable) => self.activities.get(*variable as usize).unwrap_or(0),
@@ -106,7 +106,7 @@ impl Order {
         }
     }
 
-    /// Puts the variable to the place of the heap.
+    /// Puts the variable at this place of the heap.
     fn put(&mut self, place: usize, variable: u32)
         ensures { length self.new.heap.items ≡ length self.old.heap.items }
     {
@@ -117,7 +117,7 @@ impl Order {
             .replace(variable as usize, u32::try_from(place).ok());
     }
 
-    /// Exchanges what stands at the two places of the heap.
+    /// Exchanges the variables at the two places of the heap.
     fn exchange(&mut self, first: usize, second: usize)
         ensures { length self.new.heap.items ≡ length self.old.heap.items }
     {
@@ -129,7 +129,7 @@ impl Order {
         }
     }
 
-    /// Moves the variable at the place of the heap up to where it belongs.
+    /// Moves the variable at this place up in the heap, as far as its activity takes it.
     fn rise(&mut self, place: usize) {
         let mut at = place;
         while at > 0 {
@@ -142,7 +142,7 @@ impl Order {
         }
     }
 
-    /// Moves the variable at the place of the heap down to where it belongs.
+    /// Moves the variable at this place down in the heap, as far as its activity takes it.
     fn sink(&mut self, place: usize)
         ensures { length self.new.heap.items ≡ length self.old.heap.items }
     {
@@ -163,7 +163,7 @@ impl Order {
         }
     }
 
-    /// Takes the first variable of the heap, with its last value.
+    /// Removes the first variable of the heap, and returns it with its last value.
     fn pop(&mut self) -> Option<(u32, bool)>
         ensures { IfSome result (λ _. length self.new.heap.items < length self.old.heap.items) }
     {
@@ -178,8 +178,8 @@ impl Order {
         Some((first, value))
     }
 
-    /// The literal to decide next: the first variable of the heap that is free under the trail, with its last value.
-    /// It and those before it are taken out of the heap. `None` where no variable of the heap is free.
+    /// The literal to decide next: the first variable of the heap that has no value on the trail, with its last value.
+    /// It and the variables before it are removed from the heap. `None` if no variable of the heap is without a value.
     pub fn next(&mut self, trail: &Trail) -> Option<i64>
         requires placed { ArePlaced trail.now.entries.items trail.now.positions.items }
         ensures { IfSome result (λ l. IsLiteral l × (unsigned_abs l < length trail.now.positions.items) × StandsNowhere trail.now.entries.items (unsigned_abs l)) }
@@ -193,7 +193,7 @@ impl Order {
         None
     }
 
-    /// Puts the variable into the heap again, where it is not there.
+    /// Puts the variable into the heap, if it is not there.
     fn insert(&mut self, variable: usize) -> Result<(), Memory> {
         let place = self.heap.len();
         if let Ok(name) = u32::try_from(variable)
@@ -207,7 +207,8 @@ impl Order {
         Ok(())
     }
 
-    /// Takes the variables of the entries back, and keeps their values. Where memory runs out they are left out.
+    /// Puts the variables of the entries back into the heap, and keeps their values. If memory runs out, they are left
+    /// out.
     pub fn release(&mut self, entries: &[Entry]) {
         for entry in entries {
             let variable = entry.literal.unsigned_abs() as usize;
@@ -216,8 +217,8 @@ impl Order {
         }
     }
 
-    /// Begins another search, where nothing is decided: how often it began anew is forgotten; and of the variables that
-    /// were not looked at yet those without a value are put into the heap. Where memory runs out they are left out.
+    /// Begins another search, at level 0. The counts for restarts are reset. The variables that were not looked at yet
+    /// are put into the heap, if they have no value. If memory runs out, they are left out.
     pub fn begin(&mut self, trail: &Trail)
         requires placed { ArePlaced trail.now.entries.items trail.now.positions.items }
     {
@@ -231,7 +232,7 @@ impl Order {
         self.seen = self.seen.max(trail.positions.len());
     }
 
-    /// Makes all activities smaller.
+    /// Reduces all activities.
     fn shrink(&mut self) {
         for block in &mut self.activities.blocks {
             shrink_all(block);
@@ -239,7 +240,7 @@ impl Order {
         self.gain = (self.gain >> SHRINK) + 1;
     }
 
-    /// Adds to the activity of the variables of the literals.
+    /// Raises the activity of the variables of the literals.
     pub fn raise(&mut self, literals: &[i64]) {
         for literal in literals {
             let variable = literal.unsigned_abs() as usize;
@@ -253,7 +254,7 @@ impl Order {
         }
     }
 
-    /// Lets what a conflict adds grow, so that older ones count for less.
+    /// Counts a conflict, and raises what a conflict adds, so that earlier ones count for less.
     pub fn decay(&mut self) {
         self.conflicts = self.conflicts.saturating_add(1);
         self.total = self.total.saturating_add(1);
@@ -263,30 +264,30 @@ impl Order {
         }
     }
 
-    /// Begins to count the conflicts of a search.
+    /// Resets the count of the conflicts of a search.
     pub fn count_anew(&mut self) {
         self.total = 0;
         self.rounds = 0;
     }
 
-    /// Whether a search met so many conflicts that what it learnt long ago is in its way.
+    /// Whether a search met so many conflicts that what it learnt long ago is to be set aside.
     pub fn is_hard(&self) -> bool {
         self.total >= MANY_CONFLICTS
     }
 
-    /// For how many turns a search goes on without what it learnt long ago; each time for more.
+    /// The number of turns of the next search without what was learnt long ago. It grows each time.
     pub fn next_turns(&mut self) -> usize {
         self.rounds = self.rounds.saturating_add(1);
         FIRST_TURNS.saturating_add(self.rounds.saturating_mul(FIRST_TURNS / 4))
     }
 
-    /// Lets the search begin anew at once.
+    /// Makes a restart due at once.
     pub fn hurry(&mut self) {
         self.conflicts = self.limit;
     }
 
-    /// Whether there were so many conflicts since the search began anew that it should do so again; then it may go
-    /// on for longer.
+    /// Whether a restart is due, by the number of conflicts since the last one. If it is, the next one takes more
+    /// conflicts.
     pub fn is_due(&mut self) -> bool {
         let due = self.conflicts >= self.limit;
         if due {

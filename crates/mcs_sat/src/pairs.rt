@@ -1,4 +1,4 @@
-//! The pairs of literals that clauses watch, by the indices of the clauses.
+//! The watched literals of each clause, by the index of the clause.
 
 ghost use Rattle.std.specs.Prelude.{◌≡◌, ◌≢◌, ◌+◌, ◌<◌, ◌^◌, ◌++◌, ◌∷◌, [], length, set, take, slice_get, Some, OnOk, OnErr};
 ghost use Rattle.mcs_sat.specs.Pairs.{no_pair};
@@ -8,8 +8,8 @@ use mcs_base::Memory;
 use std::alloc::Global;
 use std::marker::Model;
 
-/// A pair for each clause; for one that watches nothing a pair of no literals, which takes no memory before the first
-/// clause that watches something.
+/// For each clause the pair of literals that it watches. A clause that watches nothing has a pair of no literals; it
+/// takes no memory before the first clause that watches something.
 #[derive(Drop)]
 pub(crate) struct Pairs {
     none: usize,
@@ -39,7 +39,7 @@ impl Pairs {
         }
     }
 
-    /// How many there are.
+    /// The number of pairs.
     pub fn len(&self) -> usize
         ensures { result ≡ length self.now }
     {
@@ -58,7 +58,7 @@ impl Pairs {
         }
     }
 
-    /// Puts the pair to the index, where a pair of literals stands.
+    /// Replaces the pair at the index, which must not be a pair of no literals.
     pub fn set(&mut self, index: usize, pair: Pair)
         requires within { index < length self.old }
         requires some { slice_get self.old index ≢ Some no_pair }
@@ -68,7 +68,7 @@ impl Pairs {
         self.rest[at] = pair;
     }
 
-    /// Adds a pair at the end.
+    /// Appends a pair.
     pub fn push(&mut self, pair: Pair) -> Result<(), Memory>
         requires { length self.old + 1 < 2 ^ 64 }
         ensures ok { OnOk result (self.new ≡ self.old ++ pair ∷ []) }
@@ -78,7 +78,7 @@ impl Pairs {
         Ok(())
     }
 
-    /// Adds a pair of no literals at the end.
+    /// Appends a pair of no literals.
     pub fn push_none(&mut self) -> Result<(), Memory>
         requires { length self.old + 1 < 2 ^ 64 }
         ensures ok { OnOk result (self.new ≡ self.old ++ no_pair ∷ []) }
@@ -91,7 +91,7 @@ impl Pairs {
         self.push(NO_PAIR)
     }
 
-    /// Leaves the first `count`.
+    /// Keeps the first `count` pairs.
     pub fn truncate(&mut self, count: usize)
         ensures { self.new ≡ take count self.old }
     {

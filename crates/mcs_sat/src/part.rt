@@ -1,4 +1,4 @@
-//! A search over some of the clauses, whose learnt clauses are taken over.
+//! A search over some of the clauses. What it learns is learnt by the whole.
 
 ghost use Rattle.std.specs.Prelude.{◌≡◌, [], ◌+◌, ◌<◌, length, IfOk, OnOk};
 ghost use Rattle.mcs_sat.specs.Parts.{IsGathered, IsPart};
@@ -16,23 +16,23 @@ use crate::trace::renumbered;
 use mcs_base::Memory;
 use std::alloc::Global;
 
-/// How many turns a search takes at most before any question.
+/// The greatest number of turns of the search before any question.
 const MOST_TURNS: usize = 1 << 16;
 
-/// Of how many literals a learnt clause is at most that is never left aside.
+/// The greatest number of literals of a learnt clause that is never set aside.
 const FEW_LITERALS: usize = 6;
 
-/// How many of the clauses that were learnt last are searched with those that were given.
+/// How many of the last learnt clauses are searched together with the given ones.
 const MOST_RECENT: usize = 1000;
 
-/// Clauses of a state, over its variables, and the number that each has there.
+/// Some clauses of a state, over its variables, and the number that each has in the state.
 #[derive(Drop)]
 pub(crate) struct Part {
     pub state: State,
     pub numbers: Vec<u64>,
 }
 
-/// Takes in the clause of the index.
+/// Adds the clause with this index to the part.
 fn take_in(part: &mut Part, whole: &State, index: usize) -> Result<(), Memory>
     requires whole { IsState whole.now }
     requires gathered { IsGathered whole.now part.old.state part.old.numbers.items }
@@ -45,7 +45,7 @@ fn take_in(part: &mut Part, whole: &State, index: usize) -> Result<(), Memory>
     Ok(())
 }
 
-/// Takes in the clauses that made literals true.
+/// Adds to the part the reasons of the literals on the trail.
 fn take_reasons(part: &mut Part, whole: &State) -> Result<(), Memory>
     requires whole { IsState whole.now }
     requires gathered { IsGathered whole.now part.old.state part.old.numbers.items }
@@ -61,8 +61,8 @@ fn take_reasons(part: &mut Part, whole: &State) -> Result<(), Memory>
     Ok(())
 }
 
-/// Whether the clause of the index watches something, none of its variables is one of those that are left out, and it
-/// was given, has few literals, or is one of the recent ones, where such are marked.
+/// Whether the clause with this index is taken into the part. It has to watch something and to have no variable that is
+/// left out. If recent clauses are marked, it also has to be given, short, or one of these.
 fn is_taken(whole: &State, left_out: &[bool], recent: &[bool], index: usize) -> bool
     requires within { index < length whole.now.clauses }
     requires paired { index < length whole.now.watches.pairs }
@@ -79,7 +79,7 @@ fn is_taken(whole: &State, left_out: &[bool], recent: &[bool], index: usize) -> 
     !literals.iter().any(|literal| is_marked(left_out, literal.unsigned_abs() as usize))
 }
 
-/// Takes in the clauses that are to be taken, as `is_taken` says.
+/// Adds to the part the clauses for which `is_taken` holds.
 fn take_some(
     part: &mut Part,
     whole: &State,
@@ -98,7 +98,7 @@ fn take_some(
     Ok(())
 }
 
-/// The clauses that made literals true, and those that are neither left out nor learnt long ago.
+/// The part with the reasons of the literals on the trail and the clauses for which `is_taken` holds.
 fn part_of(alloc: Global, whole: &State, left_out: &[bool], recent: &[bool]) -> Result<Part, Memory>
     requires whole { IsState whole.now }
     ensures { IfOk result (λ p. IsGathered whole.now p.state p.numbers.items) }
@@ -113,7 +113,7 @@ fn part_of(alloc: Global, whole: &State, left_out: &[bool], recent: &[bool]) -> 
     Ok(part)
 }
 
-/// Takes turns, at most so many, from where nothing is decided; whether the search has ended then.
+/// Takes at most `turns` turns, from level 0. Returns whether the search has then ended.
 fn explore(
     alloc: Global,
     state: &mut State,
@@ -140,7 +140,7 @@ fn explore(
     Ok(false)
 }
 
-/// Learns the clause of the part that comes next, by the numbers of those that it is resolved from.
+/// Learns the next clause of the part, by the numbers of the clauses from which it is resolved.
 fn adopt_next(
     alloc: Global,
     state: &mut State,
@@ -186,9 +186,9 @@ fn adopt(
     Ok(())
 }
 
-/// Searches some of the clauses for so many turns, where nothing is decided, and learns what is learnt of them; whether
-/// that search has ended. Clauses with a variable that is left out are not among them, nor are learnt ones that are not
-/// recent, where such are marked.
+/// Searches some of the clauses for at most `turns` turns, at level 0, and learns what this search learns. Returns
+/// whether it has ended. Clauses with a variable that is left out are not among them. If recent clauses are marked,
+/// long learnt clauses that are not marked are not either.
 fn search_part(
     state: &mut State,
     order: &mut Order,
@@ -214,8 +214,8 @@ fn search_part(
     }
 }
 
-/// Searches the clauses that have no variable that is left out, where there is such a variable, before any question, and
-/// learns what is learnt of them.
+/// If variables are left out, searches the clauses that have none of these, before any question, and learns what this
+/// search learns.
 pub(crate) fn search_left(
     state: &mut State,
     order: &mut Order,
@@ -232,7 +232,7 @@ pub(crate) fn search_left(
     Ok(())
 }
 
-/// Marks the last ones of the clauses that were learnt, so many at most, and those that they were resolved from.
+/// Marks the last learnt clauses, at most `most`, and those from which they were resolved.
 fn recent_of(alloc: Global, state: &State, most: usize) -> Result<Vec<bool>, Memory> {
     let mut marks = Vec::new(alloc);
     for index in state.chains.last_from(most)..state.chains.len() {
@@ -244,8 +244,8 @@ fn recent_of(alloc: Global, state: &State, most: usize) -> Result<Vec<bool>, Mem
     Ok(marks)
 }
 
-/// Searches the clauses that were given, with those that were learnt of late, for some turns, where nothing is decided,
-/// and learns what is learnt of them; whether that search has ended.
+/// Searches the given clauses with the recently learnt ones for some turns, at level 0, and learns what this search
+/// learns. Returns whether it has ended.
 pub(crate) fn search_recent(state: &mut State, order: &mut Order) -> Result<bool, Memory>
     requires state { IsState state.old }
     requires base { state.old.levels.items ≡ [] }

@@ -1,4 +1,4 @@
-//! What the true literals make true.
+//! Unit propagation with two watched literals.
 
 ghost use Rattle.std.specs.Prelude.{◌≡◌, ◌≢◌, ℕ, ℤ, ◌≤◌, ◌⊎◌, List, neg_ℤ, length, slice_get, MatchOption, IfOk};
 ghost use Rattle.std.specs.Bool.{MatchBool};
@@ -15,8 +15,8 @@ use crate::watches::{Pair, Watches};
 use mcs_base::{Memory, Rows};
 use mcs_trace::place;
 
-/// What became of a clause that was visited since a literal of it became false: a literal of it is true; it does
-/// not watch the literal any more; all its literals are false.
+/// The result of visiting a clause after one of its literals became false. `Satisfied`: a literal of it is true.
+/// `Gone`: it does not watch the literal any more. `Conflict`: all its literals are false.
 #[derive(Drop)]
 pub(crate) enum Seen {
     Satisfied,
@@ -24,7 +24,7 @@ pub(crate) enum Seen {
     Conflict,
 }
 
-/// A literal of the clause, other than the one, that is not false.
+/// A literal of the clause, other than `other`, that is not false.
 pub(crate) fn open_literal(trail: &Trail, literals: &[i64], other: i64) -> Option<i64>
     requires placed { ArePlaced trail.now.entries.items trail.now.positions.items }
     requires clause { IsClause literals.now }
@@ -41,7 +41,7 @@ pub(crate) fn open_literal(trail: &Trail, literals: &[i64], other: i64) -> Optio
     None
 }
 
-/// Visits the clause of the index, which stands in the list of the literal; this one is false.
+/// Visits the clause with this index, which is in the list of the literal. The literal is false.
 fn visit(
     clauses: &Rows<i64>,
     watches: &mut Watches,
@@ -92,7 +92,8 @@ fn visit(
     Ok(Seen::Satisfied)
 }
 
-/// Visits the clauses that watch the literal, which is false; the index of one that is false.
+/// Visits the clauses that watch the literal, which is false. Returns the index of a clause that is false, if one is
+/// found.
 fn visit_list(
     clauses: &Rows<i64>,
     watches: &mut Watches,
@@ -133,8 +134,8 @@ fn visit_list(
     Ok(None)
 }
 
-/// Visits the clauses that watch what became false from the place on, and goes on with what becomes so; the
-/// index of one that is false.
+/// Visits the clauses that watch the literals that became false from the place `from` on, and those that then become
+/// false. Returns the index of a clause that is false, if one is found.
 pub(crate) fn visit_from(
     clauses: &Rows<i64>,
     watches: &mut Watches,
@@ -174,7 +175,7 @@ pub(crate) fn visit_from(
     Ok(None)
 }
 
-/// Makes the last literal of the clause of the index true where the others are false; whether all are false.
+/// If all literals but one of the clause with this index are false, makes that one true. Returns whether all are false.
 pub(crate) fn settle(
     clauses: &Rows<i64>,
     trail: &mut Trail,
@@ -202,7 +203,8 @@ pub(crate) fn settle(
     }
 }
 
-/// Settles the clauses of the indices from the one on; the index of one that is false.
+/// Propagates through the clauses with the indices from `from` on. Returns the index of a clause that is false, if one
+/// is found.
 pub(crate) fn settle_from(
     clauses: &Rows<i64>,
     indices: &[usize],

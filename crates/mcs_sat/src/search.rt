@@ -1,4 +1,4 @@
-//! The search.
+//! The search: decisions, conflicts and restarts.
 
 ghost use Rattle.std.specs.Prelude.{◌≡◌, [], IfOk, OnOk};
 ghost use Rattle.std.specs.List.{AllByRecursion};
@@ -18,11 +18,11 @@ use crate::state::{State, back, decide, learn, turn_of};
 use mcs_base::Memory;
 use std::alloc::Global;
 
-/// How often a search begins anew at most.
+/// The greatest number of restarts of a search.
 const MOST_BEGINNINGS: u64 = 1 << 40;
 
-/// What a turn came to: the search goes on, from a clause that is false or from none; all clauses are satisfied; the
-/// clause of the index is false though nothing was decided.
+/// The result of a turn. `Goes`: the search goes on, from a clause that is false or from none. `Satisfied`: all clauses
+/// are satisfied. `Refuted`: the clause with this index is false at level 0.
 #[derive(Drop)]
 pub(crate) enum Turn {
     Goes(Option<usize>),
@@ -30,7 +30,7 @@ pub(crate) enum Turn {
     Refuted(usize),
 }
 
-/// Makes a free literal true, and what follows; where there is none, all clauses are satisfied.
+/// Decides a literal without a value and propagates. If there is no such literal, all clauses are satisfied.
 fn choose(state: &mut State, order: &mut Order) -> Result<Turn, Memory>
     requires search { IsSearch state.old }
     requires open { AllByRecursion (IsOpen state.old.trail.entries.items) state.old.clauses }
@@ -49,7 +49,7 @@ fn choose(state: &mut State, order: &mut Order) -> Result<Turn, Memory>
     Ok(Turn::Goes(run(state)?))
 }
 
-/// Raises the variables of the clauses of the numbers.
+/// Raises the activity of the variables of the clauses with these numbers.
 fn raise(state: &State, order: &mut Order, numbers: &[u64]) {
     for number in numbers {
         if *number > 0 && ((*number - 1) as usize) < state.clauses.len() {
@@ -59,7 +59,7 @@ fn raise(state: &State, order: &mut Order, numbers: &[u64]) {
     order.decay();
 }
 
-/// Gives the variables back to the order that have no value any more once the clause is learnt.
+/// Puts back into the order the variables that lose their value when the clause is learnt.
 fn release(state: &State, order: &mut Order, literals: &[i64])
     requires state { IsState state.now }
     requires clause { IsClause literals.now }
@@ -76,7 +76,7 @@ fn release(state: &State, order: &mut Order, literals: &[i64])
     }
 }
 
-/// Learns from the clause of the index, which is false, goes back, and makes true what follows.
+/// Learns from the clause with this index, which is false, jumps back, and propagates.
 fn turn_back(
     alloc: Global,
     state: &mut State,
@@ -104,7 +104,7 @@ fn turn_back(
     Ok(Turn::Goes(run(state)?))
 }
 
-/// Gives the variables back to the order that have their values from levels above 0.
+/// Puts back into the order the variables that have their values from levels above 0.
 pub(crate) fn release_decided(state: &State, order: &mut Order) {
     if let Some(reach) = state.levels.first()
         && let Some(entries) = state.trail.entries.get(reach.entries..)
@@ -113,7 +113,7 @@ pub(crate) fn release_decided(state: &State, order: &mut Order) {
     }
 }
 
-/// Takes back all that was decided, and makes true what follows without it.
+/// Restarts: takes back all decisions, and propagates.
 pub(crate) fn begin_anew(state: &mut State, order: &mut Order) -> Result<Option<usize>, Memory>
     requires { IsSearch state.old }
     ensures later { IsLater state.old state.new }
@@ -126,8 +126,8 @@ pub(crate) fn begin_anew(state: &mut State, order: &mut Order) -> Result<Option<
     Ok(found)
 }
 
-/// Begins anew as `begin_anew` does. Where many conflicts were met, the clauses that were learnt long ago are left
-/// aside before, for a search of its own, and what this learns is learnt.
+/// Restarts as `begin_anew` does. If the search is hard, what was learnt long ago is set aside first for a search of
+/// its own, and what this one learns is learnt.
 fn renew(state: &mut State, order: &mut Order) -> Result<Option<usize>, Memory>
     requires { IsSearch state.old }
     ensures later { IsLater state.old state.new }
@@ -149,7 +149,7 @@ fn renew(state: &mut State, order: &mut Order) -> Result<Option<usize>, Memory>
     Ok(found)
 }
 
-/// Turns back from a clause that is false, or chooses.
+/// Takes a turn: learns from the clause that is false and jumps back, or decides if none is.
 pub(crate) fn take_turn(
     alloc: Global,
     state: &mut State,
@@ -168,8 +168,8 @@ pub(crate) fn take_turn(
     }
 }
 
-/// Takes turns until all clauses are satisfied, or one is false though nothing was decided; the index of this one.
-/// What was known before is known still: clauses are learnt, and none is given.
+/// Takes turns until all clauses are satisfied or one is false at level 0. Returns the index of the latter. What was
+/// known before stays known: clauses are learnt, and none is added as given.
 pub(crate) fn search(
     alloc: Global,
     state: &mut State,

@@ -1,4 +1,4 @@
-//! How a clause that is learnt gets shorter.
+//! Minimization of learnt clauses.
 
 ghost use Rattle.std.specs.Prelude.{◌≡◌, ◌≢◌, ◌+◌, ◌<◌, ◌≤◌, length, IsTrue, OnOk};
 ghost use Rattle.mcs_sat.specs.Trails.{IsTrail, reason_at};
@@ -9,12 +9,12 @@ use crate::marks::{are_marked, resolve_at};
 use crate::trail::Trail;
 use mcs_base::{Memory, Rows};
 
-/// Up to how many clauses literals of level 0 are resolved with theirs, whatever comes of it.
+/// As long as the chain has fewer clauses, false literals of level 0 are resolved away, whatever the result.
 const MANY: usize = 256;
 
-/// Whether the literal at the place is resolved with its reason: where it is marked and has one, whose literals are
-/// all marked; or where it is of level 0, and the chain, of `count` clauses, is not long. Where there is no place
-/// `start`, each is.
+/// Whether the literal at the place is resolved with its reason. It has to be marked and to have a reason. Besides, all
+/// literals of the reason have to be marked, or it has to be of level 0 while the chain, of `count` clauses, is not
+/// long. If the trail ends before `start`, each marked literal with a reason is.
 fn is_dropped(
     clauses: &Rows<i64>,
     trail: &Trail,
@@ -43,9 +43,9 @@ fn is_dropped(
     are_marked(trail, clauses.row(cause as usize - 1), marks)
 }
 
-/// Drops literals of the clause of the marks that became false before the place `start` by clauses whose other
-/// literals it has too (Sorensson and Biere 2009), and some that were false before any decision, and writes the numbers
-/// of their reasons into the chain. Where there is no such place, every literal is dropped.
+/// Drops literals of the marked clause that became false before the place `start`: those whose reason has only other
+/// literals that the clause has too (Sörensson & Biere 2009), and some of level 0. Appends the numbers of the reasons
+/// to the chain. If the trail ends before `start`, every literal is dropped.
 pub(crate) fn shorten(
     clauses: &Rows<i64>,
     trail: &Trail,

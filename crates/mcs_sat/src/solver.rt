@@ -1,4 +1,4 @@
-//! A clause solver in parts.
+//! A SAT solver whose steps are separate calls.
 
 ghost use Rattle.std.specs.Prelude.{◌≡◌, [], ◌∷◌, ◌++◌, ◌<◌, ◌≤◌, ◌+◌, List, ℕ, ℤ, drop, slice_get, neg_ℤ, length, unsigned_abs, IsTrue, ◌↔◌, Some, IfOk, IfSome, OnOk, OnErr, MatchOption};
 ghost use Rattle.std.specs.Bool.{MatchBool};
@@ -20,10 +20,10 @@ use mcs_trace::{Clause, Cnf, Step};
 use std::alloc::Global;
 use std::marker::Model;
 
-/// A clause solver: its clauses, each with its number, and the literals that are made true, level by level. Level
-/// 0 has those made true before any decision; each other level begins with a decision. In each level they stand in
-/// the order in which they were made true. No variable occurs in two of them, and each of them, but the decided one
-/// that begins a level, stands in a clause whose other literals were false before it.
+/// A SAT solver: its clauses, each with its number, and the literals that are true, level by level. Level 0 has those
+/// that are true before any decision; each other level begins with a decision. The literals of a level are in the order
+/// in which they became true. No variable occurs in two of them. Each literal that is not a decision is in a clause
+/// whose other literals were false before it.
 #[derive(Drop)]
 pub struct Solver {
     state: State,
@@ -40,7 +40,7 @@ impl Model for Solver {
     ghost invariant = { λ s. IsState s.state × IsFull s.state };
 }
 
-/// Adds the clauses of the list, where there is no level above 0.
+/// Adds the clauses of the list, at level 0.
 fn add_all(state: &mut State, clauses: &[Clause]) -> Result<(), Memory>
     requires state { IsState state.old }
     requires clauses { (i : ℕ) (c : List ℤ) → slice_get clauses.now i ≡ Some c → IsClause c × AreCovered state.old.trail.positions.items c }
@@ -58,7 +58,7 @@ fn add_all(state: &mut State, clauses: &[Clause]) -> Result<(), Memory>
     Ok(())
 }
 
-/// Adds the clauses of the list, where there is no level above 0, and lets each watch two of its literals.
+/// Adds the clauses of the list, at level 0, and makes each watch two of its literals.
 fn add_watched(state: &mut State, clauses: &[Clause]) -> Result<(), Memory>
     requires state { IsState state.old }
     requires clauses { (i : ℕ) (c : List ℤ) → slice_get clauses.now i ≡ Some c → IsClause c × AreCovered state.old.trail.positions.items c }
@@ -76,7 +76,7 @@ fn add_watched(state: &mut State, clauses: &[Clause]) -> Result<(), Memory>
     Ok(())
 }
 
-/// The state of a solver of the clauses of the list, in which nothing is true yet.
+/// The state of a solver with the clauses of the list, in which no literal is true yet.
 pub(crate) fn state_of(alloc: Global, cnf: &Cnf) -> Result<State, Memory>
     ensures kept { IfOk result IsState }
     ensures sized { IfOk result (λ s. length s.trail.positions.items ≡ cnf.now.vars + 1) }
@@ -96,8 +96,8 @@ pub(crate) fn state_of(alloc: Global, cnf: &Cnf) -> Result<State, Memory>
     }
 }
 
-/// Settles the short clauses and visits what became false, as far as that leads; the index of a clause that is
-/// false.
+/// Propagates: through the short clauses, and through those that watch a literal that became false, until nothing
+/// changes. Returns the index of a clause that is false, if one is found.
 pub(crate) fn run(state: &mut State) -> Result<Option<usize>, Memory>
     requires state { IsState state.old }
     requires full { IsFull state.old }
@@ -135,7 +135,7 @@ pub(crate) fn run(state: &mut State) -> Result<Option<usize>, Memory>
     Ok(found)
 }
 
-/// As `run`, but where memory runs out all is as before.
+/// The same as `run`, but if memory runs out, everything is as before.
 fn run_or_restore(state: &mut State) -> Result<Option<usize>, Memory>
     requires state { IsState state.old }
     requires full { IsFull state.old }
@@ -164,7 +164,7 @@ fn run_or_restore(state: &mut State) -> Result<Option<usize>, Memory>
 }
 
 impl Solver {
-    /// A solver of the clauses of the list, with their numbers, in which nothing is true yet.
+    /// A solver with the clauses of the list, with their numbers, in which no literal is true yet.
     pub fn new(alloc: Global, cnf: &Cnf) -> Result<Solver, Memory>
         ensures { IfOk result (λ s. s ≡ record { vars = cnf.now.vars; clauses = cnf.now.clauses; levels = [] ∷ [] }) }
     {
@@ -173,7 +173,7 @@ impl Solver {
         })
     }
 
-    /// The value of the literal, whose variable is one of those of the clauses; `None` where it has none.
+    /// The value of the literal, or `None` if it has none. The variable has to be one of the clauses'.
     pub fn value(&self, literal: i64) -> Option<bool>
         requires literal { IsLiteral literal }
         requires within { unsigned_abs literal ≤ self.now.vars }
@@ -185,8 +185,8 @@ impl Solver {
         self.state.trail.value(literal)
     }
 
-    /// Opens a level and makes the literal true, whose variable is one of those of the clauses and has no value.
-    /// Where memory runs out, all is as before.
+    /// Decides the literal: opens a level and makes it true. Its variable has to be one of the clauses' and must have
+    /// no value. If memory runs out, everything is as before.
     pub fn decide(&mut self, literal: i64) -> Result<(), Memory>
         requires literal { IsLiteral literal }
         requires within { unsigned_abs literal ≤ self.old.vars }
@@ -197,10 +197,10 @@ impl Solver {
         decide(&mut self.state, literal)
     }
 
-    /// Makes true what unit clauses lead to, at the end of the last level. The number of a clause that is false,
-    /// exactly where they lead to one; without one each clause then has a true literal, or at least two without
-    /// value. Where memory runs out, all is as before. The two watched literals of each clause are those of
-    /// Moskewicz, Madigan, Zhao, Zhang and Malik (2001).
+    /// Makes true, at the end of the last level, what follows by unit propagation. Returns the number of a clause that
+    /// is false, exactly if unit propagation leads to one. If there is none, each clause then has a true literal, or at
+    /// least two without a value. If memory runs out, everything is as before. The two watched literals are those of
+    /// Moskewicz, Madigan, Zhao, Zhang & Malik (2001).
     pub fn propagate(&mut self) -> Result<Option<u64>, Memory>
         ensures vars { self.new.vars ≡ self.old.vars }
         ensures clauses { self.new.clauses ≡ self.old.clauses }
@@ -221,12 +221,15 @@ impl Solver {
         }
     }
 
-    /// A step from the clause of the number and the reasons of its literals, in the order in which it is resolved
-    /// with them (Marques-Silva and Sakallah 1996): it is right, its clause is false, and exactly one literal of it
-    /// has its value from the last level. Its chain begins with the number, and each other one is that of a clause
-    /// with a literal made true, whose other literals were false before it. The clause of the number is false, there
-    /// is a level above 0, and under the literals of the levels before the last each clause has a true literal, or
-    /// at least two without value. The clauses and the literals made true stay as they are.
+    /// The step that is learnt from the false clause with the number `conflict` (Marques-Silva & Sakallah 1996).
+    ///
+    /// The step is right, its clause is false, and exactly one literal of it has its value from the last level. Its
+    /// chain begins with `conflict`. The other numbers are those of the reasons, in the order in which they are
+    /// resolved: clauses with a true literal whose other literals were false before it.
+    ///
+    /// The clause has to be false, and there has to be a level above 0. Under the literals of the levels before the
+    /// last, each clause has to have a true literal, or at least two without a value. The clauses and the true literals
+    /// are unchanged.
     pub fn analyse(&mut self, conflict: u64) -> Result<Step, Memory>
         requires conflict { IsFalseNumber self.old conflict }
         requires level { 1 < length self.old.levels }
@@ -249,11 +252,12 @@ impl Solver {
         )
     }
 
-    /// Adds the step's clause under the next number, which is the answer, and takes back every level above the
-    /// greatest one of its literals but the one of the last level; where there are no others, every level above 0.
-    /// Then exactly one literal of the clause has no value, and the others are false. The step is right, its clause is
-    /// false, and exactly one literal of it has its value from the last level, which is not level 0. Where memory runs
-    /// out, all is as before.
+    /// Adds the clause of the step, and returns its number, which is the next one. Jumps back to the greatest level of
+    /// its literals other than the one of the last level; if there are no others, to level 0. Then exactly one literal
+    /// of the clause has no value, and the others are false.
+    ///
+    /// The step has to be right and its clause false, and exactly one literal of it has to have its value from the last
+    /// level. This must not be level 0. If memory runs out, everything is as before.
     pub fn learn(&mut self, step: &Step) -> Result<u64, Memory>
         requires step { IsAsserting self.old step.now }
         requires level { 1 < length self.old.levels }

@@ -1,4 +1,4 @@
-//! What a search comes to, and the way back from it.
+//! The result of a search, and the way back to level 0.
 
 ghost use Rattle.std.specs.Prelude.{◌≡◌, [], ◌<◌, length, IfOk};
 ghost use Rattle.std.specs.List.{AllByRecursion};
@@ -15,7 +15,7 @@ use crate::state::{State, back};
 use crate::trace::trace_of;
 use mcs_base::Memory;
 
-/// What a search comes to: an assignment, or a trace.
+/// Searches, and returns the result: an assignment, or a trace.
 pub(crate) fn outcome_of(
     state: &mut State,
     order: &mut Order,
@@ -38,7 +38,7 @@ pub(crate) fn outcome_of(
     }
 }
 
-/// What a search comes to where no trace is wanted: an assignment, or none.
+/// Searches, and returns the result without a trace: an assignment, or `None`.
 pub(crate) fn assignment_of(
     state: &mut State,
     order: &mut Order,
@@ -58,7 +58,7 @@ pub(crate) fn assignment_of(
     }
 }
 
-/// Takes back all that was decided, and gives its variables back to the order.
+/// Takes back all decisions, and puts their variables back into the order.
 pub(crate) fn go_back(state: &mut State, order: &mut Order)
     requires { IsState state.old }
     ensures later { IsLater state.old state.new }

@@ -1,4 +1,4 @@
-//! What a solver keeps.
+//! The state of a solver.
 
 ghost use Rattle.std.specs.Prelude.{◌≡◌, ◌+◌, ◌<◌, ◌≤◌, ◌^◌, ◌++◌, ◌∷◌, [], length, unsigned_abs, Some, IfOk, OnOk, OnErr, IfSome};
 ghost use Rattle.mcs_trace.specs.Clauses.{IsClause, IsLiteral};
@@ -15,8 +15,8 @@ use crate::watches::{Pair, Watches};
 use mcs_base::{Memory, Rows};
 use std::alloc::Global;
 
-/// How far a solver had come when a level began: how many literals were true, for how many of them the clauses
-/// that watch their negation were visited, and how many short clauses were settled.
+/// How far propagation had come when a level began: how many literals were true, for how many of them the clauses that
+/// watch their negation were visited, and how many short clauses were settled.
 #[derive(Clone, Copy)]
 pub(crate) struct Reach {
     pub entries: usize,
@@ -24,7 +24,7 @@ pub(crate) struct Reach {
     pub settled: usize,
 }
 
-/// What was visited when clauses were settled where nothing was decided: how many clauses there were, how many literals
+/// How far propagation had come, at level 0, when clauses were settled: how many clauses there were, how many literals
 /// were true, and for how many of these the clauses that watch their negation were visited.
 #[derive(Clone, Copy)]
 pub(crate) struct Kept {
@@ -33,16 +33,16 @@ pub(crate) struct Kept {
     pub visited: usize,
 }
 
-/// Nothing is kept.
+/// The value if nothing is kept.
 pub(crate) const NOTHING: Kept = Kept {
     count: 0,
     entries: 0,
     visited: 0,
 };
 
-/// Clauses, with the chains of those that were learnt; the literals that are true; what the clauses watch; how far
-/// it had come where each level above 0 began; for how many true literals the clauses were visited, and how many
-/// short ones were settled; and what is kept of the visits for when clauses are taken off.
+/// The state of a solver. It has the clauses, with the chains of those that were learnt; the trail of true literals;
+/// the watched literals; and the reach of each level above 0. It also has for how many true literals the clauses were
+/// visited, how many short clauses were settled, and what is kept of this for when clauses are removed.
 #[derive(Drop)]
 pub(crate) struct State {
     pub clauses: Rows<i64>,
@@ -56,7 +56,7 @@ pub(crate) struct State {
 }
 
 impl State {
-    /// No clauses, over the variables 1 to `vars`.
+    /// The state without clauses, over the variables 1 to `vars`.
     pub fn new(alloc: Global, vars: u64) -> Result<State, Memory>
         requires { vars < 2 ^ 63 }
         ensures kept { IfOk result IsState }
@@ -80,7 +80,8 @@ impl State {
     }
 }
 
-/// Adds the next clause, with its chain, which watches the pair; without one it has fewer than two literals.
+/// Appends a clause with its chain. It watches the pair; without a pair it has to be a clause of fewer than two
+/// literals.
 pub(crate) fn push_clause(
     clauses: &mut Rows<i64>,
     chains: &mut Chains,
@@ -116,7 +117,7 @@ pub(crate) fn push_clause(
     Ok(())
 }
 
-/// Opens a level and makes the literal true, which has no value.
+/// Decides the literal: opens a level and makes it true. It must have no value.
 pub(crate) fn decide(state: &mut State, literal: i64) -> Result<(), Memory>
     requires state { IsState state.old }
     requires literal { IsLiteral literal }
@@ -141,7 +142,7 @@ pub(crate) fn decide(state: &mut State, literal: i64) -> Result<(), Memory>
     Ok(())
 }
 
-/// Takes back the levels above the one.
+/// Takes back the levels above `level`.
 pub(crate) fn back(state: &mut State, level: usize)
     requires { IsState state.old }
     ensures kept { IsState state.new }
@@ -159,8 +160,8 @@ pub(crate) fn back(state: &mut State, level: usize)
     }
 }
 
-/// Where a clause leads back whose literals are false: the level of the latest of the others than its last literal,
-/// with the place of this one; and what the clause watches then.
+/// Where a learnt clause leads back: the greatest level of its literals other than the last one that became false, the
+/// place of the latest of these others, and what the clause watches then.
 #[derive(Clone, Copy)]
 pub(crate) struct Turn {
     pub level: usize,
@@ -168,7 +169,7 @@ pub(crate) struct Turn {
     pub pair: Option<Pair>,
 }
 
-/// The turn for the latest of the literals of a clause; without others it leads back to level 0.
+/// Where a learnt clause leads back, given the latest of its literals. Without others it leads back to level 0.
 pub(crate) fn turn_of(trail: &Trail, latest: Latest) -> Turn
     requires placed { ArePlaced trail.now.entries.items trail.now.positions.items }
     requires latest { (latest.place < length trail.now.entries.items) × (latest.others ≤ latest.place) }
@@ -192,8 +193,8 @@ pub(crate) fn turn_of(trail: &Trail, latest: Latest) -> Turn
     }
 }
 
-/// Learns the clause, which is false, with its chain: goes back to the level of the latest of its literals but the
-/// one that is of the last level.
+/// Learns the clause, which is false, with its chain, and goes back to the greatest level of its literals other than
+/// the one of the last level.
 pub(crate) fn learn(state: &mut State, literals: &[i64], chain: &[u64]) -> Result<(), Memory>
     requires state { IsState state.old }
     requires clause { IsClause literals.now }

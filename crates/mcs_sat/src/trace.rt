@@ -1,4 +1,4 @@
-//! The trace that a store of clauses gives, where one is false though nothing was decided.
+//! The trace of a solver, once a clause is false at level 0.
 
 ghost use Rattle.std.specs.Prelude.{◌≡◌, ℕ, [], ◌+◌, ◌<◌, ◌≤◌, ◌^◌, ◌⊎◌, false, IsTrue, IfOk, Some, get_or, length, map};
 ghost use Rattle.std.specs.List.{AllByRecursion};
@@ -17,7 +17,7 @@ use mcs_base::{Memory, Rows};
 use mcs_trace::{Clause, Step, Trace};
 use std::alloc::Global;
 
-/// Marks the clauses of the numbers.
+/// Marks the clauses with these numbers.
 fn mark(needed: &mut Vec<bool>, numbers: &[u64])
     requires { NameBelow (length needed.old.items) numbers.now }
     ensures sized { length needed.new.items ≡ length needed.old.items }
@@ -31,7 +31,7 @@ fn mark(needed: &mut Vec<bool>, numbers: &[u64])
     }
 }
 
-/// Which clauses the last chain names, or the chain of one that is needed.
+/// Which clauses are named by the last chain, or by the chain of one that is needed itself.
 fn needed_for(alloc: Global, chains: &Chains, last: &[u64]) -> Result<Vec<bool>, Memory>
     requires chains { NamesAt chains.now }
     requires last { NameBelow (length chains.now) last.now }
@@ -51,7 +51,7 @@ fn needed_for(alloc: Global, chains: &Chains, last: &[u64]) -> Result<Vec<bool>,
     Ok(needed)
 }
 
-/// The chain with the numbers that its clauses have in a trace.
+/// The chain, with the numbers that its clauses have in the trace.
 pub(crate) fn renumbered(alloc: Global, numbers: &[u64], chain: &[u64]) -> Result<Vec<u64>, Memory>
     requires { NameBelow (length numbers.now) chain.now }
     ensures { IfOk result (λ r. r.items ≡ map (number_now numbers.now) chain.now) }
@@ -63,7 +63,7 @@ pub(crate) fn renumbered(alloc: Global, numbers: &[u64], chain: &[u64]) -> Resul
     Ok(renumbered)
 }
 
-/// A step of its own of the clause and the chain, which is renumbered.
+/// A step of the clause and of the chain with new numbers, as copies.
 fn step_of(alloc: Global, numbers: &[u64], literals: &[i64], chain: &[u64]) -> Result<Step, Memory>
     requires clause { IsClause literals.now }
     requires chain { NameBelow (length numbers.now) chain.now }
@@ -81,8 +81,8 @@ fn step_of(alloc: Global, numbers: &[u64], literals: &[i64], chain: &[u64]) -> R
     }
 }
 
-/// What a trace has so far of the clauses of a store: its steps, how many clauses that were given there were, and the
-/// number of each clause in the trace, 0 for one that is left out.
+/// What a trace has so far: its steps, the number of given clauses so far, and for each clause its number in the trace,
+/// 0 if it is left out.
 #[derive(Drop)]
 pub(crate) struct Numbering {
     pub steps: Vec<Step>,
@@ -91,8 +91,8 @@ pub(crate) struct Numbering {
 }
 
 impl Numbering {
-    /// Takes the next clause of the store: one that was given, with no chain, one that is a step, or one that is left
-    /// out. There are `count` that are given in all.
+    /// Takes the next clause: a given one, which has no chain, one that becomes a step, or one that is left out. In
+    /// all, `count` clauses are given.
     fn take(
         &mut self,
         alloc: Global,
@@ -123,7 +123,7 @@ impl Numbering {
     }
 }
 
-/// What a trace has of all clauses of a store, of which `count` were given.
+/// What a trace has of all clauses, of which `count` are given.
 fn numbering_of(
     alloc: Global,
     clauses: &Rows<i64>,
@@ -159,7 +159,7 @@ fn numbering_of(
     Ok(numbering)
 }
 
-/// The trace that ends with the step, whose clause is empty, and has no step that it does not need.
+/// The trace that ends with the step, whose clause is empty. It has no step that is not needed.
 fn trace_to(
     alloc: Global,
     clauses: &Rows<i64>,
@@ -192,8 +192,8 @@ fn trace_to(
     }
 }
 
-/// The trace that the clause of the index gives, which is false though nothing was decided. There are `count` clauses
-/// that were given, and it is numbered after these.
+/// The trace that follows from the clause with this index, which is false at level 0. Of all clauses `count` are given,
+/// and the steps are numbered after these.
 pub(crate) fn trace_of(
     alloc: Global,
     state: &State,

@@ -1,4 +1,4 @@
-//! The literals that are made true, in their order.
+//! The trail: the literals that are true, in their order.
 
 ghost use Rattle.std.specs.Prelude.{◌≡◌, ℕ, ◌++◌, ◌∷◌, [], ◌<◌, ◌≤◌, ◌+◌, ◌^◌, length, unsigned_abs, neg_ℤ, take, ◌↔◌, IsTrue, MatchOption, IfOk, OnOk, OnErr};
 ghost use Rattle.std.specs.Bool.{MatchBool};
@@ -8,8 +8,8 @@ ghost use Rattle.mcs_sat.specs.Trails.{ArePlaced, AreAssigned, StandsAt, StandsN
 use mcs_base::Memory;
 use std::alloc::Global;
 
-/// A literal that is true, and why: 0 for a decision, else the number of a clause whose other literals were
-/// false before it; and its level, the number of decisions up to it.
+/// A literal that is true; its reason, which is 0 for a decision, and otherwise the number of a clause whose other
+/// literals were false before it; and its level, the number of decisions up to it.
 #[derive(Clone, Copy)]
 pub(crate) struct Entry {
     pub literal: i64,
@@ -17,7 +17,7 @@ pub(crate) struct Entry {
     pub level: usize,
 }
 
-/// The literals that are true, and for each variable where it was put last.
+/// The literals that are true, and for each variable the place at which it was last put.
 #[derive(Drop)]
 pub(crate) struct Trail {
     pub entries: Vec<Entry>,
@@ -25,7 +25,7 @@ pub(crate) struct Trail {
 }
 
 impl Trail {
-    /// No literals, with a place for each of the variables 1 to `vars`.
+    /// The trail without literals, for the variables 1 to `vars`.
     pub fn new(alloc: Global, vars: u64) -> Result<Trail, Memory>
         requires { vars < 2 ^ 63 }
         ensures entries { IfOk result (λ t. t.entries.items ≡ []) }
@@ -37,7 +37,7 @@ impl Trail {
         })
     }
 
-    /// Where the literal's variable stands.
+    /// The place of the literal's variable, if it has a value.
     pub fn position(&self, literal: i64) -> Option<usize>
         requires placed { ArePlaced self.now.entries.items self.now.positions.items }
         requires within { unsigned_abs literal < length self.now.positions.items }
@@ -56,7 +56,7 @@ impl Trail {
         }
     }
 
-    /// The value of the literal.
+    /// The value of the literal, if it has one.
     pub fn value(&self, literal: i64) -> Option<bool>
         requires placed { ArePlaced self.now.entries.items self.now.positions.items }
         requires literal { IsLiteral literal }
@@ -98,7 +98,7 @@ impl Trail {
         -self.entries[place].literal
     }
 
-    /// Makes the literal true, whose variable is free.
+    /// Makes the literal true. Its variable must have no value.
     pub fn push(&mut self, literal: i64, reason: u64, level: usize) -> Result<(), Memory>
         requires placed { ArePlaced self.old.entries.items self.old.positions.items }
         requires literal { IsLiteral literal }
@@ -128,7 +128,7 @@ impl Trail {
         self.entries.truncate(place);
     }
 
-    /// Adds a place for one more variable.
+    /// Adds an entry for one more variable.
     pub fn widen(&mut self) -> Result<(), Memory>
         ensures ok { OnOk result (self.new.positions.items ≡ self.old.positions.items ++ 0 ∷ []) }
         ensures err { OnErr result (self.new.positions.items ≡ self.old.positions.items) }
@@ -138,7 +138,7 @@ impl Trail {
         Ok(())
     }
 
-    /// How many literals stand before the first one whose reason has a number above the one.
+    /// How many literals come before the first one whose reason has a number above `number`.
     pub fn explained_within(&self, number: usize) -> usize
         ensures bound { result ≤ length self.now.entries.items }
         ensures reasons { (i : ℕ) → i < result → reason_at self.now.entries.items i ≤ number }
@@ -152,7 +152,7 @@ impl Trail {
         self.entries.len()
     }
 
-    /// The first variable from the number on that is free.
+    /// The first variable from this number on that has no value.
     pub fn first_free(&self, from: usize) -> Option<i64>
         requires placed { ArePlaced self.now.entries.items self.now.positions.items }
         requires vars { length self.now.positions.items ≤ 2 ^ 63 }

@@ -1,4 +1,4 @@
-//! Which clauses watch a literal.
+//! The watched literals: which clauses watch a literal.
 
 ghost use Rattle.std.specs.Prelude.{◌≡◌, ◌≢◌, ℕ, ℤ, ◌+◌, ◌<◌, ◌^◌, [], length, take, MatchOption, OnOk, OnErr, IfSome, filter, ltb};
 ghost use Rattle.mcs_trace.specs.Clauses.{IsLiteral, place};
@@ -11,21 +11,21 @@ use mcs_base::Memory;
 use mcs_trace::place;
 use std::alloc::Global;
 
-/// The two literals of a clause that it watches.
+/// The two literals that a clause watches.
 #[derive(Clone, Copy)]
 pub(crate) struct Pair {
     pub first: i64,
     pub second: i64,
 }
 
-/// What stands for the pair of a clause of fewer than two literals.
+/// The pair of a clause that watches nothing.
 pub(crate) const NO_PAIR: Pair = Pair {
     first: 0,
     second: 0,
 };
 
 impl Pair {
-    /// The one of the two that the literal is not; `None` where it is neither.
+    /// The one of the two literals that `literal` is not, or `None` if it is neither.
     pub fn other(self, literal: i64) -> Option<i64>
         ensures { MatchOption result (¬ IsOf literal self) (IsPairOf self literal) }
     {
@@ -39,8 +39,8 @@ impl Pair {
     }
 }
 
-/// For each of the first clauses the two literals that it watches, by its index; for each literal the indices of clauses,
-/// among them those that watch it, by its place; and the indices of clauses, among them those of fewer than two
+/// For each of the first clauses, by its index, the two literals that it watches. For each literal, by its place, the
+/// indices of clauses, among them those that watch it. Also the indices of clauses, among them those of fewer than two
 /// literals.
 #[derive(Drop)]
 pub(crate) struct Watches {
@@ -63,7 +63,7 @@ impl Watches {
         }
     }
 
-    /// Puts the index into the list of the literal.
+    /// Adds the index to the list of the literal.
     pub fn list(&mut self, literal: i64, index: usize) -> Result<(), Memory>
         requires literal { IsLiteral literal }
         ensures listed { OnOk result (IsListed self.new.lists literal index) }
@@ -75,8 +75,8 @@ impl Watches {
         self.lists.push(place(literal) as usize, index)
     }
 
-    /// Adds the next clause, which watches the pair; without one it has fewer than two literals. Where memory runs
-    /// out, no clause is added.
+    /// Adds the next clause, which watches the pair; without a pair it has fewer than two literals. If memory runs out,
+    /// no clause is added.
     pub fn push(&mut self, pair: Option<Pair>) -> Result<(), Memory>
         requires literals { IfSome pair (λ p. IsLiteral p.first × IsLiteral p.second) }
         requires fits { length self.old.pairs + 1 < 2 ^ 64 }
@@ -103,8 +103,8 @@ impl Watches {
         Ok(())
     }
 
-    /// Leaves the first `count` clauses, with the short ones among them. What stands in the lists of others is passed
-    /// over.
+    /// Keeps the first `count` clauses, and the short ones among them. Indices of other clauses in the lists are
+    /// skipped.
     pub fn cut(&mut self, count: usize)
         ensures pairs { self.new.pairs ≡ take count self.old.pairs }
         ensures short { self.new.short.items ≡ filter (λ i. ltb i count) self.old.short.items }
@@ -114,7 +114,7 @@ impl Watches {
         self.short.retain(|index| *index < count);
     }
 
-    /// Leaves no clause.
+    /// Removes all clauses.
     pub fn clear(&mut self)
         ensures pairs { self.new.pairs ≡ [] }
         ensures short { self.new.short.items ≡ [] }
