@@ -1,4 +1,4 @@
-//! Models that are found by clauses.
+//! Models of clauses.
 
 ghost use Rattle.std.specs.Prelude.{◌≡◌, ◌≤◌, List, false, length, IfOk};
 ghost use Rattle.mcs_system.specs.Faults.{has_twins};
@@ -11,8 +11,8 @@ use mcs_classical::true_places;
 use mcs_sat::ClauseBase;
 use mcs_system::Name;
 
-/// The places of the atoms that are true under an assignment that satisfies all clauses; `None` where there is none.
-/// What is known stays as it is.
+/// The places of the atoms that are true under an assignment that satisfies all clauses, or `None` if there is none.
+/// `known` is unchanged.
 pub(crate) fn find_model(known: &mut ClauseBase, atoms: &[Name]) -> Result<Option<Vars>, Memory>
     requires few { length atoms.now ≤ 64 }
     requires different { has_twins atoms.now ≡ false }

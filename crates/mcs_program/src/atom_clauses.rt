@@ -1,4 +1,4 @@
-//! Clauses over the variables of atoms alone: those of rules, and one that a view is another one.
+//! Clauses over the variables of atoms alone: those of rules, and those that a view is another one.
 
 ghost use Rattle.std.specs.Prelude.{◌≡◌, ◌<◌, ◌≤◌, ◌^◌, [], ◌∷◌, ◌++◌, length, map, IfOk, OnOk, IsTrue};
 ghost use Rattle.mcs_system.specs.Plain as plain;
@@ -17,7 +17,7 @@ use mcs_system::{Name, ProgRule};
 use mcs_trace::Cnf;
 use std::alloc::Global;
 
-/// The literal that says that the variable is true, or that it is false.
+/// The literal that the variable is true, or, if `sign` is false, that it is false.
 fn literal(sign: bool, variable: u64) -> i64
     requires { variable < 2 ^ 63 }
     ensures { result ≡ literal_of sign variable }
@@ -29,7 +29,7 @@ fn literal(sign: bool, variable: u64) -> i64
     }
 }
 
-/// Adds the literals that say of each of the names that it is true, or that it is false.
+/// Appends for each of the names the literal that it is true, or, if `sign` is false, that it is false.
 fn add_literals(
     literals: &mut Vec<i64>,
     atoms: &[Name],
@@ -46,7 +46,7 @@ fn add_literals(
     Ok(())
 }
 
-/// The literals of the rule: a positive atom is false, or a negative one or one of the head is true.
+/// The literals of the rule as a clause: a positive body atom is false, or a negative one or a head atom is true.
 fn rule_literals(alloc: Global, atoms: &[Name], rule: &ProgRule) -> Result<Vec<i64>, Memory>
     requires few { length atoms.now ≤ 64 }
     requires over { IsOverRule atoms.now (rule_of rule.now) }
@@ -87,7 +87,7 @@ pub(crate) fn clauses_of_rules(
     Ok(cnf)
 }
 
-/// The literals of which one is true where the view of the beliefs is another one.
+/// The literals of the clause that the view of the beliefs is another one.
 fn other_literals(
     alloc: Global,
     atoms: &[Name],
@@ -106,7 +106,7 @@ fn other_literals(
     Ok(literals)
 }
 
-/// Adds the clauses of the list, which may be over more variables, and drops it.
+/// Adds the clauses of the list, which may be over more variables. The list is dropped.
 pub(crate) fn add_to(known: &mut ClauseBase, more: Cnf) -> Result<(), Memory>
     requires { known.old.vars ≤ more.vars }
     ensures { IfOk result (λ _. known.new ≡ record { vars = more.vars; clauses = known.old.clauses ++ more.clauses }) }
@@ -136,7 +136,7 @@ pub(crate) fn push_other(
     add_to(known, more)
 }
 
-/// Adds the clause that the belief is true, or that it is false.
+/// Adds the clause that the belief has this value.
 pub(crate) fn push_value(
     known: &mut ClauseBase,
     atoms: &[Name],

@@ -1,4 +1,4 @@
-//! The answer sets of disjunctive programs, and what shows that they are all.
+//! The answer sets of disjunctive programs, and certificates that they are all.
 #![tactic(auto)]
 
 mod answer;

@@ -1,5 +1,5 @@
-//! The search for answer sets that are listed and not shown. Sets of atoms without support from outside lead it on; where
-//! a model cannot have one, it splits on one belief after the other.
+//! The search for answer sets without a certificate. It is guided by sets of atoms without external support. For tight
+//! programs it splits on one belief after the other.
 
 ghost use Rattle.std.specs.Prelude.{◌≡◌, ◌<◌, ◌≤◌, List, [], ◌∷◌, true, false, length, map, IfOk, IsTrue};
 ghost use Rattle.std.specs.List.{AllZip};
@@ -33,9 +33,9 @@ use mcs_trace::Cnf;
 use std::alloc::Global;
 use std::slice;
 
-/// The clauses of what is known of the answer sets that are not listed yet; the sets of places of which it is known that
-/// they have support from outside if one of their atoms is true, beside those of one atom; and the views of those that were found, in the order of
-/// states.
+/// The state of the search. It has the clauses of what is known of the answer sets that are not listed yet. It has the
+/// sets of places whose loop formulas are known, besides those of one atom. It has the views of the answer sets found,
+/// in the order of states.
 #[derive(Drop)]
 pub struct Listing {
     pub known: ClauseBase,
@@ -43,7 +43,7 @@ pub struct Listing {
     pub views: Vec<Vars>,
 }
 
-/// Adds that the set of atoms has support from outside if one of them is true.
+/// Adds the loop formula of the set of atoms: if one of them is true, the set has external support.
 fn add_support(
     alloc: Global,
     known: &mut ClauseBase,
@@ -61,7 +61,7 @@ fn add_support(
     add_to(known, more)
 }
 
-/// Adds that each atom has support of its own.
+/// Adds that each true atom has support of its own.
 fn add_own(
     alloc: Global,
     known: &mut ClauseBase,
@@ -78,7 +78,7 @@ fn add_own(
     Ok(())
 }
 
-/// A set of places that has no support from outside in the model, which makes an atom of it true; `None` where there is
+/// A set of places without external support in the model, of which an atom is true in the model; or `None` if there is
 /// none, so that the model is an answer set.
 fn unfounded_in(
     alloc: Global,
@@ -101,7 +101,7 @@ fn unfounded_in(
     }
 }
 
-/// The clauses of what is known at first: the rules, and that each atom has support of its own.
+/// The clauses that are known at first: the rules, and that each true atom has support of its own.
 fn first_clauses(alloc: Global, atoms: &[Name], rules: &[ProgRule]) -> Result<ClauseBase, Memory>
     requires few { length atoms.now ≤ 64 }
     requires rules { AreOverRules atoms.now (map rule_of rules.now) }
@@ -121,7 +121,7 @@ fn first_clauses(alloc: Global, atoms: &[Name], rules: &[ProgRule]) -> Result<Cl
 }
 
 impl Listing {
-    /// What is known at first: the rules, and that each atom has support of its own.
+    /// The state at first: the rules are known, and that each true atom has support of its own.
     fn new(alloc: Global, atoms: &[Name], rules: &[ProgRule]) -> Result<Listing, Memory>
         requires few { length atoms.now ≤ 64 }
         requires rules { AreOverRules atoms.now (map rule_of rules.now) }
@@ -135,7 +135,7 @@ impl Listing {
         })
     }
 
-    /// Adds that the set of the atoms at these places has support from outside if one of them is true.
+    /// Adds the loop formula of the set of the atoms at these places.
     fn support(
         &mut self,
         alloc: Global,
@@ -154,7 +154,8 @@ impl Listing {
         Ok(())
     }
 
-    /// Takes up a model of what is known: it is an answer set, or a set without support leads on.
+    /// Takes a model of what is known. If it is an answer set, its view is listed; otherwise the loop formula of a set
+    /// without external support becomes known.
     fn take_up(
         &mut self,
         alloc: Global,
@@ -193,7 +194,7 @@ impl Listing {
         }
     }
 
-    /// Looks for one more model of what is known, and takes it up; whether there was one.
+    /// Searches for one more model of what is known, and takes it. Returns whether there was one.
     fn step(
         &mut self,
         alloc: Global,
@@ -279,8 +280,8 @@ fn list_by_models(
     Ok(views)
 }
 
-/// Lists the views of all answer sets, belief by belief, where no positive body leads on without end: each model of the
-/// rules and of the support of each atom is an answer set then.
+/// Lists the views of all answer sets of a tight program, belief by belief: each model of the rules in which each true
+/// atom has support of its own is an answer set (Fages 1994).
 fn list_by_beliefs(
     alloc: Global,
     atoms: &[Name],

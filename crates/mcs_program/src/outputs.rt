@@ -1,4 +1,4 @@
-//! The answer sets of programs as their views.
+//! The answer sets of a program, as views of beliefs.
 
 ghost use Rattle.std.specs.Prelude.{◌≡◌, ◌≤◌, ◌++◌, List, false, length, map, IfOk, IsTrue};
 ghost use Rattle.std.specs.List.{AllByRecursion, filter_map};
@@ -24,8 +24,8 @@ use mcs_system::{Name, ProgRule, with_facts};
 use mcs_trace::{ProgramCert, Trace};
 use std::alloc::Global;
 
-/// The trace that shows that there is nothing else: it refutes that a model has none of the smaller sets below it and a
-/// view that is none of these.
+/// A trace that no other answer set is left: no model has none of the smaller sets below it and a view that is none of
+/// these. Such a model must not exist.
 fn refute_rest(
     alloc: Global,
     atoms: &[Name],
@@ -64,7 +64,7 @@ fn numbers(alloc: Global, sets: &[Vars]) -> Result<Vec<u64>, Memory>
     Ok(numbers)
 }
 
-/// The certificate of a search that has found all, and the views.
+/// The views, and the certificate, of a search that has found all answer sets.
 fn certified(
     alloc: Global,
     atoms: &[Name],
@@ -104,7 +104,7 @@ fn certified(
     }
 }
 
-/// What a certificate has beside its models.
+/// The smaller sets and the trace of a certificate.
 fn parts(
     alloc: Global,
     atoms: &[Name],
@@ -129,7 +129,7 @@ fn parts(
     Ok((numbers, none))
 }
 
-/// The answer sets of the rules, with what shows that they are all.
+/// The views of the answer sets of the rules, and a certificate that they are all.
 fn found_and_shown(
     alloc: Global,
     atoms: &[Name],
@@ -147,9 +147,10 @@ fn found_and_shown(
     certified(alloc, atoms, rules, beliefs, search)
 }
 
-/// The views that a program with further facts accepts of the beliefs, one for each way in which its answer sets have
-/// them, in the order of states: the numbers, from 0, of those that an answer set has (Gelfond and Lifschitz 1991). With
-/// them what shows that they are all. The atoms of all are among these, at most 64, and there are at most 64 beliefs.
+/// The views of the beliefs that a program with further facts accepts: for each of its answer sets (Gelfond & Lifschitz
+/// 1991) the numbers, from 0, of the beliefs in it. Each view is there once, in the order of states, and a certificate
+/// shows that they are all. All atoms have to be among `atoms`, of which there are at most 64, and there may be at most
+/// 64 beliefs.
 pub fn answer_sets(
     alloc: Global,
     rules: &[ProgRule],
@@ -171,7 +172,7 @@ pub fn answer_sets(
     answer_sets_from(alloc, rules, &added, &beliefs, atoms)
 }
 
-/// The same of names that are lent one by one.
+/// The same for references to names.
 pub fn answer_sets_from(
     alloc: Global,
     rules: &[ProgRule],
@@ -196,7 +197,7 @@ pub fn answer_sets_from(
     result
 }
 
-/// The views alone, of names that are lent one by one, without what shows them.
+/// The views alone, without a certificate, for references to names.
 pub fn list_answer_sets(
     alloc: Global,
     rules: &[ProgRule],

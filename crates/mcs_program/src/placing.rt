@@ -1,4 +1,4 @@
-//! Rules and beliefs by the places of their atoms, and what is tested of sets of places.
+//! Rules and beliefs by the places of their atoms, and tests of sets of places.
 
 ghost use Rattle.std.specs.Prelude.{◌≡◌, ◌≤◌, false, length, map, IfOk, IsTrue};
 ghost use Rattle.std.specs.List.{AllZip, list_all};
@@ -15,7 +15,7 @@ use mcs_cnf::atom_number;
 use mcs_system::{Name, ProgRule};
 use std::alloc::Global;
 
-/// A rule as three sets of places of atoms.
+/// A rule, as three sets of places of atoms.
 #[derive(Clone, Copy)]
 pub struct PlacedRule {
     pub head: Vars,
@@ -23,21 +23,21 @@ pub struct PlacedRule {
     pub neg: Vars,
 }
 
-/// The rules of a program, and the places of the beliefs that are asked of it.
+/// The rules of a program, and the places of the beliefs whose views are asked for.
 #[derive(Drop)]
 pub struct Placing {
     pub rules: Vec<PlacedRule>,
     pub beliefs: Vec<u32>,
 }
 
-/// Whether each of the first places is in the second set.
+/// Whether the first set lies within the second.
 pub(crate) fn lies_within(places: Vars, others: Vars) -> bool
     ensures { result ≡ lies_within places others }
 {
     places.common(others) == places
 }
 
-/// Whether some place is in both sets.
+/// Whether the two sets have a place in common.
 fn do_meet(places: Vars, others: Vars) -> bool
     ensures { result ≡ do_meet places others }
 {
@@ -69,7 +69,7 @@ fn places_of(atoms: &[Name], names: &[Name]) -> Vars
 }
 
 impl PlacedRule {
-    /// The rule by the places of its atoms.
+    /// The rule, by the places of its atoms.
     fn of(atoms: &[Name], rule: &ProgRule) -> PlacedRule
         requires few { length atoms.now ≤ 64 }
         requires different { has_twins atoms.now ≡ false }
@@ -83,14 +83,14 @@ impl PlacedRule {
         }
     }
 
-    /// Whether the rule holds where exactly the atoms at these places are true.
+    /// Whether the rule holds if exactly the atoms at these places are true.
     fn holds(&self, places: Vars) -> bool
         ensures { result ≡ placed_holds places self.now }
     {
         !lies_within(self.pos, places) || do_meet(self.neg, places) || do_meet(self.head, places)
     }
 
-    /// Whether one of the places is that of a negative atom of the rule, if those of `less` break it.
+    /// Whether the atoms at `less` satisfy the rule, or the reduct by the atoms at `places` does not have it.
     fn is_blocked(&self, less: Vars, places: Vars) -> bool
         ensures { result ≡ placed_blocked less places self.now }
     {
@@ -98,28 +98,28 @@ impl PlacedRule {
     }
 }
 
-/// Whether each of the rules holds where exactly the atoms at these places are true.
+/// Whether each of the rules holds if exactly the atoms at these places are true.
 pub(crate) fn rules_hold(rules: &[PlacedRule], places: Vars) -> bool
     ensures { result ≡ list_all (placed_holds places) rules.now }
 {
     rules.iter().all(|rule| rule.holds(places))
 }
 
-/// Whether one of the places is that of a negative atom of each rule that those of `less` break.
+/// Whether the atoms at `less` satisfy each rule of the reduct by the atoms at `places`.
 fn are_blocked(rules: &[PlacedRule], less: Vars, places: Vars) -> bool
     ensures { result ≡ list_all (placed_blocked less places) rules.now }
 {
     rules.iter().all(|rule| rule.is_blocked(less, places))
 }
 
-/// Whether `less` has less than these places and satisfies the reduct by them.
+/// Whether `less` is a proper subset of `places` and satisfies the reduct by them.
 pub(crate) fn lies_beside(rules: &[PlacedRule], places: Vars, less: Vars) -> bool
     ensures { result ≡ lies_beside rules.now places less }
 {
     lies_within(less, places) && !lies_within(places, less) && are_blocked(rules, less, places)
 }
 
-/// The rules by the places of their atoms, in order.
+/// The rules, by the places of their atoms, in order.
 fn placed_rules(
     alloc: Global,
     atoms: &[Name],
@@ -152,7 +152,7 @@ fn places_in_order(alloc: Global, atoms: &[Name], beliefs: &[&Name]) -> Result<V
 }
 
 impl Placing {
-    /// The rules and the beliefs by the places of their atoms.
+    /// The rules and the beliefs, by the places of their atoms.
     pub(crate) fn of(
         alloc: Global,
         atoms: &[Name],

@@ -1,4 +1,4 @@
-//! Views that are put among others.
+//! Views that are inserted among others.
 
 ghost use Rattle.std.specs.Prelude.{◌≤◌, length, map, IfOk};
 ghost use Rattle.std.specs.List.{AllZip};
@@ -17,7 +17,8 @@ use mcs_sat::ClauseBase;
 use mcs_system::Name;
 use std::alloc::Global;
 
-/// Puts the model's view at its place among the views, and adds that those that are left have another one.
+/// Inserts the view of the model among the views, and adds that the remaining models have another one. Returns its
+/// index.
 pub(crate) fn put_view(
     alloc: Global,
     known: &mut ClauseBase,

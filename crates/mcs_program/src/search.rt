@@ -1,4 +1,4 @@
-//! The search for answer sets.
+//! The search for answer sets with a certificate.
 
 ghost use Rattle.std.specs.Prelude.{◌≡◌, ◌<◌, ◌≤◌, List, false, length, map, IfOk, IsTrue};
 ghost use Rattle.std.specs.List.{AllByRecursion, AllZip};
@@ -28,8 +28,9 @@ use mcs_system::{Name, ProgRule};
 use mcs_trace::{AnswerSetCert, Cnf, Trace};
 use std::alloc::Global;
 
-/// The clauses of what is known of the answer sets that are not found yet; the sets of places that led on from models
-/// that are none; and the views of those that were found, in the order of states, each with its model.
+/// The state of the search. It has the clauses of what is known of the answer sets that are not found yet. It has the
+/// smaller sets by which models were found to be no answer sets. It has the views of the answer sets found, in the
+/// order of states, each with its model.
 #[derive(Drop)]
 pub struct Search {
     pub known: ClauseBase,
@@ -39,7 +40,7 @@ pub struct Search {
 }
 
 impl Search {
-    /// What is known at first: the rules.
+    /// The state at first: the rules are known.
     fn new(alloc: Global, atoms: &[Name], rules: &[ProgRule]) -> Result<Search, Memory>
         requires few { length atoms.now ≤ 64 }
         requires rules { AreOverRules atoms.now (map rule_of rules.now) }
@@ -57,7 +58,7 @@ impl Search {
         })
     }
 
-    /// Adds that no answer set is beside the atoms at these places.
+    /// Adds that no answer set is undone by the atoms at these places, as a smaller set.
     fn exclude(
         &mut self,
         alloc: Global,
@@ -77,7 +78,8 @@ impl Search {
         Ok(())
     }
 
-    /// Puts the model's view at its place among the views, and adds that those that are left have another one.
+    /// Inserts the view of the model among the views, and adds that the remaining models have another one. Returns its
+    /// index.
     fn put_view(
         &mut self,
         alloc: Global,
@@ -105,7 +107,7 @@ impl Search {
         )
     }
 
-    /// Lists the model with the trace that shows that it is an answer set.
+    /// Lists the model, with the trace that it is an answer set.
     fn list(
         &mut self,
         alloc: Global,
@@ -140,7 +142,7 @@ impl Search {
         }
     }
 
-    /// Takes up a model of what is known: it is an answer set, or something smaller leads on.
+    /// Takes a model of what is known. It is an answer set, or a smaller set that undoes it is excluded.
     fn take_up(
         &mut self,
         alloc: Global,
@@ -174,8 +176,8 @@ impl Search {
         }
     }
 
-    /// A model of what is known; `None` where there is none. Where all atoms together are one, none is searched for, as
-    /// in a program without constraints until a view with all beliefs is found.
+    /// A model of what is known, or `None` if there is none. If the set of all atoms is one, it is taken without a
+    /// search. In a program without constraints this is so until a view with all beliefs is found.
     fn next_model(&mut self, atoms: &[Name], placing: &Placing) -> Result<Option<Vars>, Memory>
         requires few { length atoms.now ≤ 64 }
         requires few_beliefs { length placing.now.beliefs.items ≤ 64 }
@@ -194,7 +196,7 @@ impl Search {
         find_model(&mut self.known, atoms)
     }
 
-    /// Looks for one more model of what is known, makes it small and takes it up; whether there was one.
+    /// Searches for one more model of what is known, minimizes it and takes it. Returns whether there was one.
     fn step(
         &mut self,
         alloc: Global,

@@ -1,4 +1,4 @@
-//! Models of what is known, made small.
+//! Minimizing models of what is known.
 
 ghost use Rattle.std.specs.Prelude.{◌≡◌, ◌<◌, ◌≤◌, not, length};
 ghost use Rattle.std.specs.List.{AllByRecursion, list_all};
@@ -12,7 +12,7 @@ use crate::search::Search;
 use crate::view::{is_new, view_of};
 use mcs_base::Vars;
 
-/// Whether none of the sets lies beside the places.
+/// Whether none of the sets is a proper subset of the places that satisfies the reduct by them.
 fn none_beside(rules: &[PlacedRule], smaller: &[Vars], places: Vars) -> bool
     ensures { result ≡ list_all (λ less. not (lies_beside rules.now places less)) smaller.now }
 {
@@ -21,7 +21,7 @@ fn none_beside(rules: &[PlacedRule], smaller: &[Vars], places: Vars) -> bool
         .all(|less| !lies_beside(rules, places, *less))
 }
 
-/// Whether all that is known holds where exactly the atoms at these places are true.
+/// Whether all that is known holds if exactly the atoms at these places are true.
 pub(crate) fn is_possible(placing: &Placing, search: &Search, places: Vars) -> bool
     requires few { length placing.now.beliefs.items ≤ 64 }
     requires places { AllByRecursion (λ k. k < 64) placing.now.beliefs.items }
@@ -33,7 +33,7 @@ pub(crate) fn is_possible(placing: &Placing, search: &Search, places: Vars) -> b
         && none_beside(&placing.rules, &search.smaller, places)
 }
 
-/// The model without the atom at the place, if all that is known holds of what is left; else the model.
+/// The model without the atom at the place, if all that is known holds for it; otherwise the model.
 fn without_atom(placing: &Placing, search: &Search, model: Vars, place: u32) -> Vars
     requires few { length placing.now.beliefs.items ≤ 64 }
     requires places { AllByRecursion (λ k. k < 64) placing.now.beliefs.items }
@@ -53,7 +53,7 @@ fn without_atom(placing: &Placing, search: &Search, model: Vars, place: u32) -> 
     }
 }
 
-/// The model without the atoms that it need not have, one after another: all that is known holds of what is left.
+/// The model after its atoms were left out one after the other, as far as all that is known still holds.
 pub(crate) fn made_small(placing: &Placing, search: &Search, model: Vars) -> Vars
     requires few { length placing.now.beliefs.items ≤ 64 }
     requires places { AllByRecursion (λ k. k < 64) placing.now.beliefs.items }

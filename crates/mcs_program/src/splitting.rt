@@ -1,4 +1,4 @@
-//! The views of all models of what is known, which are found by splitting on one belief after the other.
+//! The views of all models of what is known, found by splitting on one belief after the other.
 
 ghost use Rattle.std.specs.Prelude.{◌≡◌, ◌≤◌, List, false, length, map, IfOk, OnOk};
 ghost use Rattle.std.specs.List.{AllZip};
@@ -17,7 +17,7 @@ use mcs_sat::ClauseBase;
 use mcs_system::Name;
 use std::alloc::Global;
 
-/// The view of a model of what is known; `None` where there is none. What is known stays as it is.
+/// The view of a model of what is known, or `None` if there is none. `known` is unchanged.
 fn find_view(
     known: &mut ClauseBase,
     atoms: &[Name],
@@ -38,9 +38,9 @@ fn find_view(
     }
 }
 
-/// Adds the views of all models of what is known. The view is that of one of them, and all have the first beliefs, so
-/// many as are decided, as it has them. The next belief is then decided either way: as the view has it without a search,
-/// and the other way where a search finds a model.
+/// Adds the views of all models of what is known. `view` is that of one of them, and all of them agree with it on the
+/// first `decided` beliefs. The next belief is then given either value: the one that it has in `view`, without a
+/// search, and the other one, if a search finds a model.
 fn add_views(
     known: &mut ClauseBase,
     atoms: &[Name],

@@ -1,4 +1,4 @@
-//! Whether no positive body leads from an atom on without end.
+//! Whether a program is tight: no positive body leads from an atom on without end.
 
 ghost use Rattle.std.specs.Prelude.{◌≡◌, ◌≤◌, false, true, List, length, IsTrue};
 ghost use Rattle.std.specs.List.{AllByRecursion};
@@ -12,7 +12,7 @@ use crate::placing::{PlacedRule, Placing, lies_within};
 use crate::view::all_places;
 use mcs_base::Vars;
 
-/// Those of the places that are in no head of a rule with a positive body beyond the set.
+/// The atoms, among those at the places, that are in no head of a rule whose positive body is not within the set.
 fn based_on(rules: &[PlacedRule], set: Vars, places: Vars) -> Vars
     ensures { AllByRecursion (λ (r : PlacedRule). do_meet r.head result ≡ true → lies_within r.pos set ≡ true) rules.now }
 {
@@ -25,8 +25,9 @@ fn based_on(rules: &[PlacedRule], set: Vars, places: Vars) -> Vars
     based
 }
 
-/// Whether no positive body of the rules leads from one of the atoms on without end. Taken one after the other, the
-/// atoms that stand on those that were taken are all of them then.
+/// Whether no positive body of the rules leads from one of the atoms on without end. Starting from the empty set, the
+/// atoms whose positive bodies lie within the set are added again and again, until all atoms are in it or nothing
+/// changes.
 pub(crate) fn is_tight(placing: &Placing, count: usize) -> bool
     requires { count ≤ 64 }
     ensures { IsTrue result → (names : List plain.Name) (rules : List plain.ProgramRule) (beliefs : List plain.Name) → length names ≡ count → has_twins names ≡ false

@@ -1,4 +1,4 @@
-//! Sets of places, views of models, and their places among others.
+//! Views of models, and their positions among other views.
 
 ghost use Rattle.std.specs.Prelude.{◌≡◌, ◌<◌, ◌≤◌, true, length, get_or, take};
 ghost use Rattle.std.specs.List.{AllByRecursion};
@@ -9,7 +9,7 @@ ghost use Rattle.mcs_program.specs.Placing.{view_at, is_other};
 
 use mcs_base::Vars;
 
-/// The first places, so many.
+/// The set of the first `count` places.
 pub(crate) fn all_places(count: usize) -> Vars
     requires { count ≤ 64 }
     ensures { result ≡ such_that count (λ _. true) }
@@ -21,7 +21,7 @@ pub(crate) fn all_places(count: usize) -> Vars
     places
 }
 
-/// The numbers of the beliefs that are true where exactly the atoms at the model's places are.
+/// The numbers of the beliefs that are true if exactly the atoms at the places of the model are.
 pub(crate) fn view_of(beliefs: &[u32], model: Vars) -> Vars
     requires few { length beliefs.now ≤ 64 }
     requires places { AllByRecursion (λ k. k < 64) beliefs.now }
@@ -46,7 +46,7 @@ pub(crate) fn place_of(views: &[Vars], view: Vars) -> usize
     views.partition_point(|other| *other < view)
 }
 
-/// Whether the view is none of these.
+/// Whether the view is not among these.
 pub(crate) fn is_new(views: &[Vars], view: Vars) -> bool
     requires { IsAscending StateBefore views.now }
     ensures { result ≡ is_other views.now view }

@@ -35,7 +35,8 @@ enum Definition {
     Several,
 }
 
-/// For each variable the clauses that define it, by whether its literal in them is positive or negative.
+/// For each variable the clause with which one is resolved in which the variable is positive (`if_true`), and the one
+/// for a negative occurrence (`if_false`).
 #[derive(Drop)]
 struct Definitions {
     if_true: Vec<Definition>,

@@ -1,4 +1,4 @@
-//! The heads of rules into a context, each to be assumed by the number of its rule.
+//! The heads of rules into a context, as assumptions with the numbers of their rules.
 
 ghost use Rattle.std.specs.Prelude.{◌≡◌, ◌<◌, ℕ, IfOk};
 ghost use Rattle.std.specs.List.{AllByRecursion};
@@ -11,8 +11,8 @@ use mcs_classical::Assumption;
 use mcs_system::System;
 use std::alloc::Global;
 
-/// The heads of all rules that go into the context, in the order of the rules. Each has the number of its rule, so that
-/// those that are assumed for a set of rules are the heads of these.
+/// The heads of all rules that go into the context, in the order of the rules. Each has the number of its rule, so the
+/// assumptions of a set of rules are the heads of these.
 pub(crate) fn assumptions_into(
     alloc: Global,
     system: &System,

@@ -9,15 +9,15 @@ use mcs_base::{Active, Memory, Vars};
 use std::alloc::Global;
 use std::collections::BTreeMap;
 
-/// What was answered to a question, and the certificate that shows it.
+/// An answer to a question, with its certificate.
 #[derive(Drop)]
 pub(crate) struct Kept {
     pub(crate) outputs: Vec<Vars>,
     pub(crate) cert: AnswerCert,
 }
 
-/// Keeps what was answered to the question, if there is a certificate of it, in place of what was kept of this question
-/// before. Where memory runs out, what is kept is as before.
+/// Keeps the answer to the question, if it has a certificate, in place of an earlier one. If memory runs out, what is
+/// kept is as before.
 pub(crate) fn keep_answer(
     alloc: Global,
     kept: &mut BTreeMap<Active, Kept>,

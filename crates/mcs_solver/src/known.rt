@@ -1,10 +1,10 @@
-//! What is kept of a context between questions.
+//! What is kept for a context between questions.
 
 use mcs_classical::Consequences;
 use mcs_default::TheoryBase;
 use mcs_sat::ClauseBase;
 
-/// What is kept of a context, by the kind of its knowledge base.
+/// What is kept for a context, by the kind of its knowledge base.
 #[derive(Drop)]
 pub(crate) enum Known {
     /// The clauses of the formulas, and what was found to follow from these with heads.

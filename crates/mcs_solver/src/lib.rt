@@ -1,4 +1,4 @@
-//! What one context of a system accepts, found by the logic of its kind.
+//! The solver of one context of a system: what it accepts, by the logic of its kind.
 #![tactic(auto)]
 
 mod assuming;

@@ -1,4 +1,4 @@
-//! What a context accepts, through its variables.
+//! What a context accepts, projected to its variables.
 
 ghost use Rattle.std.specs.Prelude.{◌<◌, length, IfOk};
 ghost use Rattle.mcs_sets.specs.Orders.{StateBefore};
@@ -16,8 +16,7 @@ use mcs_base::{Active, Memory, Vars};
 use mcs_system::System;
 use std::alloc::Global;
 
-/// The projected belief sets that the context of the system accepts with the heads of the rules: each once, in the
-/// order of states.
+/// The projected belief sets that the context accepts with the heads of the rules: each once, in the order of states.
 pub fn accepted_parts(
     alloc: Global,
     system: &System,
@@ -33,9 +32,9 @@ pub fn accepted_parts(
     Ok(parts)
 }
 
-/// The same, with a certificate where one is wanted, and where what serves for the next question is kept: of a classical
-/// context the clauses of its formulas, and what was found to follow; of a default theory, where no certificate is wanted,
-/// the clauses of its facts, and what was found of it.
+/// The same, with a certificate if `certify` holds. What helps with later questions is kept in `known`. For a classical
+/// context these are the clauses of its formulas and what was found to follow. For a default theory without a
+/// certificate they are the clauses of its facts and what was found of it.
 pub(crate) fn parts_with(
     alloc: Global,
     certify: bool,

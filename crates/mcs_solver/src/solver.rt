@@ -20,9 +20,9 @@ use std::collections::BTreeMap;
 use std::marker::Model;
 use std::sync::Arc;
 
-/// Answers what one context of a system accepts, by the logic of the context's kind. It never misses. It keeps the
-/// journal of the questions asked; once it was asked, the clauses of a classical context's formulas; and, if it is made
-/// so, each answer with a certificate, else what it found to follow.
+/// Answers what one context of a system accepts, by the logic of its kind. It never lacks an answer. It keeps the
+/// journal of the questions asked. After the first question to a classical context it keeps the clauses of its
+/// formulas. It also keeps either each answer with a certificate, or what it found to follow, as it was made to do.
 #[derive(Drop)]
 pub struct LocalSolver {
     system: Arc<System>,
@@ -51,8 +51,9 @@ impl Model for LocalSolver {
 }
 
 impl LocalSolver {
-    /// The oracle of this context of the system, which is one of its contexts. It was asked nothing. Where `keep` is true
-    /// it keeps each answer with a certificate, and its origin is the one empty string; else its origin has no string.
+    /// The oracle of this context of the system. The context has to be one of the system's. No question was asked yet.
+    /// If `keep` holds, it keeps each answer with a certificate, and its origin is the one empty string; otherwise its
+    /// origin has no string.
     pub fn new(alloc: Global, system: Arc<System>, context: u32, keep: bool) -> LocalSolver
         requires { context < length (arc_value system).contexts }
         ensures { result ≡ solver_with keep (arc_value system) context [] }
@@ -67,9 +68,9 @@ impl LocalSolver {
         }
     }
 
-    /// What was answered to the question, and the certificate that shows it, which is accepted: the outputs are what the
-    /// context accepts with the heads of these rules. `None` exactly where the solver keeps no answers, or the question is
-    /// not in its journal.
+    /// The answer to the question, with an accepted certificate: the outputs are what the context accepts with the
+    /// heads of these rules. `None` is returned exactly if the solver keeps no answers or the question is not in its
+    /// journal.
     pub fn certificate(&self, active: Active) -> Option<(&[Vars], &AnswerCert)>
         ensures told { MatchOption result ((self.now.origin ≡ []) ⊎ (¬ IsAmong active self.now.journal))
             (λ r. (self.now.origin ≡ [] ∷ []) × IsAmong active self.now.journal) }
@@ -82,7 +83,7 @@ impl LocalSolver {
         Some((kept.outputs.as_slice(), &kept.cert))
     }
 
-    /// The sets of rules for which it gave an answer, in their order.
+    /// The sets of rules for which it has answered, in the order of the questions.
     pub fn journal(&self) -> &[Active]
         ensures { result.now ≡ self.now.journal }
     {

@@ -1,4 +1,4 @@
-//! What a knowledge base accepts with heads, seen through beliefs: by the logic of its kind.
+//! What a knowledge base accepts with heads, as views of beliefs, by the logic of its kind.
 
 ghost use Rattle.std.specs.Prelude.{◌≡◌, ◌≤◌, ◌<◌, ℕ, List, [], ◌∷◌, ◌++◌, false, None, length, map, IfOk, OnOk, IsTrue};
 ghost use Rattle.std.specs.List.{AllByRecursion};
@@ -33,9 +33,9 @@ use mcs_system::{Formula, Kb, Name, ProgRule, TheoryItem, names_of};
 use mcs_trace::ClassicalCert;
 use std::alloc::Global;
 
-/// The one view that a classical context accepts with the heads, where the clauses of its formulas are known: of the
-/// beliefs that follow; and what shows it. The clauses of the heads are added for the search and taken off again, so that
-/// `known` is as before and serves for the next question, with what was learnt from it, also where memory runs out.
+/// The one view that a classical context accepts with the heads, which has the beliefs that follow, and its
+/// certificate. `known` has the clauses of its formulas. Those of the heads are added for the search and removed again.
+/// So `known` is as before, also if memory runs out, and can be used for the next question, with what was learnt.
 fn view_with(
     alloc: Global,
     known: &mut ClauseBase,
@@ -63,8 +63,8 @@ fn view_with(
     shown
 }
 
-/// Adds the clauses of the formulas, one formula after the other, and makes true what follows from them; where memory
-/// runs out, those of the first ones alone.
+/// Adds the clauses of the formulas, one formula after the other, and preprocesses them. If memory runs out, only those
+/// of the first ones are added.
 fn keep_formulas(
     alloc: Global,
     known: &mut ClauseBase,
@@ -81,7 +81,7 @@ fn keep_formulas(
     known.settle()
 }
 
-/// The clauses of the formulas, made ready for searches.
+/// The clauses of the formulas, preprocessed for many searches.
 fn made_clauses(alloc: Global, formulas: &[Formula], atoms: &[Name]) -> Result<ClauseBase, Memory>
     requires { AreOver atoms.now (map formula_of formulas.now) }
     ensures { IfOk result (λ c. c ≡ clause_list atoms.now (map formula_of formulas.now)) }
@@ -96,8 +96,8 @@ fn made_clauses(alloc: Global, formulas: &[Formula], atoms: &[Name]) -> Result<C
     }
 }
 
-/// The clauses of the formulas and what was found to follow from these, taken from where they are kept, or made; then it is
-/// found that those beliefs follow which stand among the formulas.
+/// The clauses of the formulas, and what was found to follow from them. They are taken out of `known`, or made. If they
+/// are made, it is found at once that the beliefs follow that are literally among the formulas.
 fn kept_formulas(
     alloc: Global,
     known: &mut Option<Known>,
@@ -128,8 +128,8 @@ fn kept_formulas(
     }
 }
 
-/// The one view that a classical context accepts with the heads of the rules, where the clauses of its formulas are known,
-/// with a certificate where one is wanted. Where none is, it is told by what was found before, as far as that goes, and
+/// The one view that a classical context accepts with the heads of the rules, with a certificate if `certify` holds.
+/// `clauses` are those of its formulas. Without a certificate, what was found before is used as far as possible, and
 /// what is found is kept.
 fn followed_view(
     alloc: Global,
@@ -170,8 +170,8 @@ fn followed_view(
     }
 }
 
-/// What a classical context accepts with the heads of the rules, with a certificate where one is wanted. The clauses of
-/// its formulas are kept once they are made, and what was found to follow beside them.
+/// The views that a classical context accepts with the heads of the rules, with a certificate if `certify` holds. The
+/// clauses of its formulas are kept once they are made, with what was found to follow.
 fn classical_views(
     alloc: Global,
     certify: bool,
@@ -221,7 +221,7 @@ fn classical_views(
     }
 }
 
-/// The default theory of the items, with what was found of it, taken from where it is kept, or made.
+/// The default theory of the items, with what was found of it. It is taken out of `known`, or made.
 fn kept_theory(
     alloc: Global,
     known: &mut Option<Known>,
@@ -244,8 +244,8 @@ fn kept_theory(
     }
 }
 
-/// What a default theory accepts with the heads of the rules, with a certificate where one is wanted. Where none is, what
-/// was found of it before tells as far as it goes, and what is found is kept.
+/// The views that a default theory accepts with the heads of the rules, with a certificate if `certify` holds. Without
+/// a certificate, what was found before is used as far as possible, and what is found is kept.
 fn theory_views(
     alloc: Global,
     certify: bool,
@@ -285,8 +285,8 @@ fn theory_views(
     }
 }
 
-/// What a program accepts with the heads, which are atoms, as the beliefs are: the views of its answer sets, with a
-/// certificate where one is wanted.
+/// The views of the answer sets of a program with the heads, with a certificate if `certify` holds. The heads and the
+/// beliefs have to be atoms.
 fn program_views(
     alloc: Global,
     certify: bool,
@@ -321,10 +321,10 @@ fn program_views(
     }
 }
 
-/// What the knowledge base accepts with the heads of the rules, seen through the beliefs: each view once, in the order of
-/// states; with a certificate where one is wanted. Of a classical knowledge base the clauses are kept once they are made,
-/// and what was found to follow; of a default theory, where no certificate is wanted, the clauses of its facts and what
-/// was found of it.
+/// The views of the beliefs that the knowledge base accepts with the heads of the rules: each once, in the order of
+/// states; with a certificate if `certify` holds. For a classical knowledge base the clauses are kept once they are
+/// made, with what was found to follow. For a default theory without a certificate the clauses of its facts are kept,
+/// with what was found of it.
 pub(crate) fn accepted_views(
     alloc: Global,
     certify: bool,
