@@ -4,7 +4,7 @@ use mcs_base::{Kind, Set};
 use mcs_sets::SmallSet;
 use std::cmp::Ordering;
 
-/// The number of a context.
+/// The kind of sets of contexts: their members are numbers of contexts.
 pub(crate) struct ContextNumber;
 
 /// A set of contexts.

@@ -1,4 +1,4 @@
-//! Sets of rules that come of given ones by a few changes that are allowed.
+//! Sets of rules within a few allowed changes of given ones.
 
 ghost use Rattle.std.specs.Prelude.{◌≡◌, ◌<◌, ◌↔◌, ◌⊎◌, ℕ, IsTrue, IfOk};
 ghost use Rattle.std.specs.List.{AllByRecursion};
@@ -9,7 +9,7 @@ ghost use Rattle.mcs_import.specs.Near.{IsMadeBy, IsNext, IsNear};
 use mcs_base::{Active, Memory, list_rule_sets};
 use std::alloc::Global;
 
-/// Whether the set is among these, of which each is there once, the numbers that stand for them ascending.
+/// Whether the set is among these, which are ascending as numbers.
 fn is_listed(sets: &[Active], set: Active) -> bool
     requires { IsAscending (λ (a b : ℕ). a < b) sets.now }
     ensures { IsTrue result ↔ IsAmong set sets.now }
@@ -17,7 +17,7 @@ fn is_listed(sets: &[Active], set: Active) -> bool
     sets.binary_search(&set).is_ok()
 }
 
-/// Adds the set, unless it is one of those that were reached.
+/// Appends the set, unless it is among those that were reached.
 fn add_new(found: &mut Vec<Active>, set: Active, reached: &[Active]) -> Result<(), Memory>
     requires { IsAscending (λ (a b : ℕ). a < b) reached.now }
     ensures { IfOk result (λ _. (x : ℕ)
@@ -29,7 +29,7 @@ fn add_new(found: &mut Vec<Active>, set: Active, reached: &[Active]) -> Result<(
     Ok(())
 }
 
-/// Adds the set without each of the rules in turn, unless that was reached.
+/// Appends the set without each of the rules in turn, unless the result was reached.
 fn add_without(
     found: &mut Vec<Active>,
     set: Active,
@@ -46,7 +46,7 @@ fn add_without(
     Ok(())
 }
 
-/// Adds the set with each of the rules in turn, unless that was reached.
+/// Appends the set with each of the rules in turn, unless the result was reached.
 fn add_with(
     found: &mut Vec<Active>,
     set: Active,
@@ -63,7 +63,7 @@ fn add_with(
     Ok(())
 }
 
-/// The sets that come of one of the sets by one change, and that were not reached: each once.
+/// The sets that one change makes of one of the sets and that were not reached, each once.
 fn next_sets(
     alloc: Global,
     sets: &[Active],
@@ -84,9 +84,9 @@ fn next_sets(
     Ok(next)
 }
 
-/// The sets of the rules that come of one of the sets by at most so many changes, each of which removes one of
-/// the removable rules or forces one of the forcible ones: each set once, the numbers that stand for them
-/// ascending. Only what the last change reached is changed again.
+/// The sets that at most `level` changes make of one of the sets: each once, ascending as numbers. A change removes one
+/// of the removable rules, or forces one of the forcible ones. Only the sets that the last change reached are changed
+/// again.
 pub(crate) fn near_sets(
     alloc: Global,
     rules: Active,

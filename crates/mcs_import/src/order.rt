@@ -1,4 +1,4 @@
-//! The order in which the contexts are asked.
+//! The import order: the order in which the contexts are asked.
 
 ghost use Rattle.std.specs.Prelude.{◌≡◌, ℕ, ◌<◌, ◌≤◌, true, length, IfOk, IfSome, IfNone};
 ghost use Rattle.mcs_sets.specs.Sets.{has, such_that};
@@ -11,8 +11,8 @@ use mcs_base::Memory;
 use mcs_system::System;
 use std::alloc::Global;
 
-/// The lowest-numbered context of the set of whose row nothing is in the set. The rows are those of a
-/// strict order, so that there is one wherever the set has a member.
+/// The lowest-numbered context of the set for which none of those ahead of it are in the set. `ahead` has to be a
+/// strict order, so there is such a context if the set is not empty.
 fn first_free(ahead: &[ContextSet], set: ContextSet) -> Option<u32>
     requires few { length ahead.now ≤ 64 }
     requires strict { AreStrict ahead.now }
@@ -40,8 +40,8 @@ fn all_contexts(system: &System) -> ContextSet
     set
 }
 
-/// The import order of the system: next comes always the lowest-numbered untaken context such that each
-/// untaken context that it reaches through imports reaches it too.
+/// The import order of the system. The next context is always the lowest-numbered remaining one such that each
+/// remaining context that it reaches through imports reaches it too.
 pub(crate) fn import_order(alloc: Global, system: &System) -> Result<Vec<u32>, Memory>
     ensures { IfOk result (λ order. IsImportOrder system.now order.items) }
 {

@@ -1,4 +1,4 @@
-//! Plans: the order in which the contexts of a system are asked, and what each is told before.
+//! Plans: in which order the contexts of a system are asked, and what supplies each of them.
 
 ghost use Rattle.std.specs.Prelude.{◌≡◌, ◌<◌, ◌↔◌, List, ℕ, All, length, IfOk, IsTrue};
 ghost use Rattle.std.specs.Arc.{arc_value};
@@ -13,8 +13,8 @@ use std::alloc::Global;
 use std::marker::Model;
 use std::sync::Arc;
 
-/// The import order of a system, and what each context is supplied with and guesses by it. A plan is seen
-/// as its system, so two plans are equal where their systems are.
+/// The import order of a system, and for each context what supplies it and what it guesses. The model of a plan is its
+/// system, so two plans are equal if their systems are.
 #[derive(Drop)]
 pub struct Plan {
     system: Arc<System>,
@@ -51,7 +51,7 @@ impl Plan {
         })
     }
 
-    /// Whether both plans are the same: those of one system are, however it was built.
+    /// Whether both plans are the same. Plans of one system are, however the system was built.
     pub fn is(&self, other: &Plan) -> bool
         ensures { IsTrue result ↔ (self.now ≡ other.now) }
     {
@@ -65,8 +65,8 @@ impl Plan {
         &self.system
     }
 
-    /// All contexts in the import order: next comes always the lowest-numbered untaken context such that
-    /// each untaken context that it reaches through imports reaches it too.
+    /// All contexts in the import order. The next context is always the lowest-numbered remaining one such that each
+    /// remaining context that it reaches through imports reaches it too.
     pub fn order(&self) -> &[u32]
         ensures order { IsImportOrder self.now result.now }
         ensures one_each { length result.now ≡ length self.now.contexts }
@@ -75,7 +75,7 @@ impl Plan {
         &self.order
     }
 
-    /// What is kept of a context of the system.
+    /// What the plan keeps for a context of the system.
     fn share(&self, i: u32) -> &Share
         requires { i < length self.now.contexts }
         ensures { (order : List ℕ) → IsImportOrder self.now order → part_of result.now ≡ part self.now order i }
@@ -83,7 +83,8 @@ impl Plan {
         &self.shares[i as usize]
     }
 
-    /// The contexts that context `i` of the system imports and that stand before it, in the import order.
+    /// The contexts that supply context `i` of the system: those that it imports and that come before it, in the import
+    /// order.
     pub fn supplied(&self, i: u32) -> &[u32]
         requires { i < length self.now.contexts }
         ensures supplied { (order : List ℕ) → IsImportOrder self.now order → result.now ≡ supplied self.now order i }
@@ -92,8 +93,8 @@ impl Plan {
         &self.share(i).supplied
     }
 
-    /// The variables that rules into context `i` of the system read and that are of no context that
-    /// supplies it: those of later contexts, and its own.
+    /// The inputs that context `i` of the system guesses: the variables that rules into it read and that belong to no
+    /// context that supplies it, but to later contexts or to `i` itself.
     pub fn guessed(&self, i: u32) -> Vars
         requires { i < length self.now.contexts }
         ensures { (order : List ℕ) → IsImportOrder self.now order → result ≡ guessed self.now order i }

@@ -1,4 +1,4 @@
-//! What a context is asked.
+//! The questions to a context.
 
 ghost use Rattle.std.specs.Prelude.{◌<◌, ℕ, List, map, length, IfOk};
 ghost use Rattle.mcs_sets.specs.Sets.{common};
@@ -16,8 +16,7 @@ use mcs_base::{Active, Memory, Pair, Vars, list_rule_sets};
 use mcs_system::System;
 use std::alloc::Global;
 
-/// The sets of rules into context `i` of the system that apply in one of the states: each once, the numbers
-/// that stand for them ascending.
+/// The sets of rules into context `i` of the system that apply in one of the states: each once, ascending as numbers.
 fn applicable_sets(
     alloc: Global,
     system: &System,
@@ -37,10 +36,9 @@ fn applicable_sets(
     Ok(sets)
 }
 
-/// The sets of rules into context `i` of the system that at most `level` changes make of those that apply in
-/// some state, which has one state of each supply and some of the guesses at the inputs of `i`: each once, the
-/// numbers that stand for them ascending. A change removes a rule that is not kept, or forces one that is not
-/// closed.
+/// The sets of rules into context `i` of the system that at most `level` changes make of those that apply in some
+/// state: each once, ascending as numbers. The state is the union of one state of each supply and of some of the
+/// guesses at the inputs of `i`. A change removes a rule that is not kept, or forces one that is not closed.
 pub fn asked(
     alloc: Global,
     system: &System,
@@ -67,12 +65,12 @@ pub fn asked(
     )
 }
 
-/// The questions of the level to context `i` of the plan's system: the sets of rules into it that at most
-/// `level` changes make of those that apply in some state. A change removes a rule that is not kept, or forces
-/// one that is not closed. On each context that supplies `i` the state is
-/// one of its supplies; on all others, also on `i` itself, it is free. `supplies` are what the contexts of
-/// `plan.supplied(i)` may supply at this level, in this order, each list in the order of states. Each
-/// question is there once, and they ascend by the numbers that stand for them.
+/// The questions of the level to context `i` of the plan's system: the sets of rules into it that at most `level`
+/// changes make of those that apply in some state. Each question is there once, ascending as numbers.
+///
+/// A change removes a rule that is not kept, or forces one that is not closed. On each context that supplies `i` the
+/// state is one of its supplies; on all others, also on `i` itself, it is free. `supplies` has to be what the contexts
+/// of `plan.supplied(i)` may supply at this level, in this order, each list in the order of states.
 pub fn questions(
     alloc: Global,
     plan: &Plan,

@@ -35,7 +35,7 @@ fn imported_by(system: &System, i: u32) -> ContextSet
     row
 }
 
-/// For each context those that it imports.
+/// For each context the contexts that it imports.
 fn import_rows(alloc: Global, system: &System) -> Result<Vec<ContextSet>, Memory>
     ensures { IfOk result (λ rows. rows.items ≡ map (import_row system.now) (range_with_len 0 (length system.now.contexts))) }
 {
@@ -46,7 +46,7 @@ fn import_rows(alloc: Global, system: &System) -> Result<Vec<ContextSet>, Memory
     Ok(rows)
 }
 
-/// The row, with what the middle row has if it has `k`.
+/// The row, united with the middle row if it has `k`.
 fn passed(row: ContextSet, k: u32, middle: ContextSet) -> ContextSet
     requires { k < 64 }
     ensures { result ≡ through k middle row }
@@ -54,7 +54,7 @@ fn passed(row: ContextSet, k: u32, middle: ContextSet) -> ContextSet
     if row.has(k) { row.union(middle) } else { row }
 }
 
-/// Adds what row `k` has to each row that has `k`.
+/// Unites with row `k` each row that has `k`.
 fn pass_through(rows: &mut [ContextSet], k: u32)
     requires in_range { k < length rows.old }
     requires few { length rows.old ≤ 64 }
@@ -66,7 +66,7 @@ fn pass_through(rows: &mut [ContextSet], k: u32)
     }
 }
 
-/// For each context those that it reaches through imports (Warshall 1962).
+/// For each context the contexts that it reaches through imports (Warshall 1962).
 fn reached_rows(alloc: Global, system: &System) -> Result<Vec<ContextSet>, Memory>
     ensures { IfOk result (λ rows. AreReached system.now rows.items) }
 {
@@ -78,7 +78,7 @@ fn reached_rows(alloc: Global, system: &System) -> Result<Vec<ContextSet>, Memor
     Ok(rows)
 }
 
-/// What row `i` has of those that do not have `i` in their own rows.
+/// The members of row `i` whose own rows do not have `i`.
 #[tactic(auto, using(mcs_system::proofs::SeenLemmas::loops), unfolding(crate::specs::Reach::ahead_row))]
 fn ahead_of(reached: &[ContextSet], i: u32) -> ContextSet
     requires in_range { i < length reached.now }
@@ -94,7 +94,7 @@ fn ahead_of(reached: &[ContextSet], i: u32) -> ContextSet
     row
 }
 
-/// For each context those that it reaches and that do not reach it: they are taken before it.
+/// For each context the contexts that it reaches and that do not reach it: these come before it.
 pub(crate) fn ahead_rows(alloc: Global, system: &System) -> Result<Vec<ContextSet>, Memory>
     ensures few { length system.now.contexts ≤ 64 }
     ensures valid { IsValid system.now }

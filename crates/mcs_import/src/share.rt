@@ -1,4 +1,4 @@
-//! What a context is supplied with by others, and what it guesses.
+//! What supplies a context, and what it guesses.
 
 ghost use Rattle.std.specs.Prelude.{◌≡◌, ◌<◌, All, length, map, IfOk};
 ghost use Rattle.std.specs.List.{range_with_len};
@@ -9,15 +9,15 @@ use mcs_base::{Memory, Vars};
 use mcs_system::System;
 use std::alloc::Global;
 
-/// What a plan keeps of a context: the contexts that supply it, in the import order, and those of its
-/// inputs that are of none of these.
+/// What a plan keeps for a context: the contexts that supply it, in the import order, and its inputs that belong to
+/// none of these.
 #[derive(Drop)]
 pub(crate) struct Share {
     pub supplied: Vec<u32>,
     pub guessed: Vars,
 }
 
-/// The share of context `i`.
+/// What a plan keeps for context `i`.
 fn share_of(alloc: Global, system: &System, order: &[u32], i: u32) -> Result<Share, Memory>
     requires in_range { i < length system.now.contexts }
     requires known { All (λ j. j < length system.now.contexts) order.now }
@@ -37,7 +37,7 @@ fn share_of(alloc: Global, system: &System, order: &[u32], i: u32) -> Result<Sha
     Ok(Share { supplied, guessed })
 }
 
-/// The shares of the contexts.
+/// What a plan keeps for each context.
 pub(crate) fn shares(alloc: Global, system: &System, order: &[u32]) -> Result<Vec<Share>, Memory>
     requires { All (λ j. j < length system.now.contexts) order.now }
     ensures { IfOk result (λ shares. map part_of shares.items

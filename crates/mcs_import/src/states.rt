@@ -1,4 +1,4 @@
-//! The states that a context may find at its inputs.
+//! The states that are possible at the inputs of a context.
 
 ghost use Rattle.std.specs.Prelude.{◌≡◌, ◌<◌, ◌++◌, ◌∷◌, ◌↔◌, [], ℕ, map, IfOk};
 ghost use Rattle.std.specs.List.{flat_map};
@@ -9,7 +9,7 @@ ghost use Rattle.mcs_import.specs.States.{SomeJoins, SomeGrows};
 use mcs_base::{Memory, Vars, list_states};
 use std::alloc::Global;
 
-/// What the states have within the mask: each once.
+/// The restrictions of the states to the mask, each once.
 fn restricted(alloc: Global, states: &[Vars], mask: Vars) -> Result<Vec<Vars>, Memory>
     ensures { IfOk result (λ parts. (ρ : ℕ) → IsAmong ρ parts.items ↔ IsAmong ρ (map (λ s. common s mask) states.now)) }
 {
@@ -21,7 +21,7 @@ fn restricted(alloc: Global, states: &[Vars], mask: Vars) -> Result<Vec<Vars>, M
     Ok(parts)
 }
 
-/// Adds the unions of the one state with each of the others.
+/// Appends the unions of the one state with each of the others.
 fn add_unions(unions: &mut Vec<Vars>, state: Vars, others: &[Vars]) -> Result<(), Memory>
     ensures { IfOk result (λ _. unions.new.items ≡ unions.old.items ++ map (union state) others.now) }
 {
@@ -42,8 +42,8 @@ fn joined(alloc: Global, states: &[Vars], others: &[Vars]) -> Result<Vec<Vars>, 
     Ok(unions)
 }
 
-/// The states within the mask that come of one state of each supply: what the supplies say of the mask,
-/// united, in each combination.
+/// The states within the mask that one state of each supply yields: the unions of their restrictions to the mask, for
+/// each combination.
 pub fn supplied_states(
     alloc: Global,
     supplies: &[Vec<Vars>],
@@ -60,7 +60,7 @@ pub fn supplied_states(
     Ok(states)
 }
 
-/// Adds to the states each of them with the variable.
+/// Appends each of the states with the variable added.
 fn add_with(states: &mut Vec<Vars>, variable: u32) -> Result<(), Memory>
     requires { variable < 64 }
     ensures { IfOk result (λ _. states.new.items ≡ states.old.items ++ map (λ s. union s (single variable)) states.old.items) }
@@ -71,7 +71,7 @@ fn add_with(states: &mut Vec<Vars>, variable: u32) -> Result<(), Memory>
     Ok(())
 }
 
-/// The states with each choice of the guessed variables: each state with any of these true.
+/// The states with each choice of the guessed variables: each state, united with each subset of these.
 pub fn guessed_states(mut states: Vec<Vars>, guessed: Vars) -> Result<Vec<Vars>, Memory>
     ensures { IfOk result (λ all. (ρ : ℕ) → IsAmong ρ all.items ↔ SomeGrows (members guessed) states.items ρ) }
 {

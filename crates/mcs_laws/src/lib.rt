@@ -1,24 +1,24 @@
-//! Laws over the definitions of multi-context systems. The functions do nothing: each contract is a law.
+//! Laws over the definitions of multi-context systems. The functions compute nothing: each contract is a law.
 #![tactic(auto)]
 
 ghost use Rattle.mcs_laws.specs.Laws.{StatesHaveOneListing, DiagnosesHaveOneListing, WithoutDiagnosesNothingExplains, ChangedStatesAreChoices, MinimalDiagnosesAreDifferences, ExplanationsMeetDiagnoses, MinimalExplanationsAreMinimalTransversals, EquilibriaAreByParts, ConsequenceIsDecided, SelfSupportHasTwo, AgainstItselfHasNone, NeedIsOfAllRules, RowsHaveFewMarks, RowsKeepToSupplies, QuestionsKeepToSupplies, QuestionsTakeSupplies, ChoicesAreDiagnoses, ConsistentNeedsNothing, StatesHaveOneProjection, MinimalDiagnosesAreSmall, QuestionsGrow, RowsMakeChoices, ChoicesAskQuestions, ChoicesHaveRows, MarksAreUnited, MarksAreApart, PartsAreViews, ViewListingsGivePartListings, NegationAllows, NegationUndoes, ProgramsDoNotSupportThemselves, HeadsAreFacts, ProgramsBelieveAtoms, DefaultsAreGrounded, DefaultsMayChoose, ToldFactsBlock, KindsAcceptTheirSort, DisjunctionChooses, BirdFlies, TablesDecide, ClassicalContextsAcceptWhatFollows, ClassicalStatesHaveAListing, ConsistencyIsListed, KeptIsForced, ClosedIsRemoved, BarredIsUnrepaired, KeptIsAsked, ClosedIsNotAsked, WeightsAreLimited, AllMarksAreAllowed, FreeDiagnoses, FreeExplanations, FreeChoices, FreeQuestions, FreeRows};
 
-/// Of a property of states, or of pairs, there is at most one listing.
+/// A property of states, or of pairs, has at most one listing.
 pub fn listings_are_unique()
     ensures states { StatesHaveOneListing }
     ensures diagnoses { DiagnosesHaveOneListing }
 {}
 
-/// An explanation is what meets each diagnosis, and the minimal explanations are the minimal transversals of
-/// the minimal diagnoses (Eiter, Fink, Schüller & Weinzierl 2014); where there is no diagnosis, the empty pair is the
-/// one minimal explanation.
+/// An explanation is a pair that meets each diagnosis. The minimal explanations are the minimal transversals of the
+/// minimal diagnoses (Eiter, Fink, Schüller & Weinzierl 2014). If there is no diagnosis, the empty pair is the only
+/// minimal explanation.
 pub fn explanations_are_transversals()
     ensures all { ExplanationsMeetDiagnoses }
     ensures minimal { MinimalExplanationsAreMinimalTransversals }
     ensures without { WithoutDiagnosesNothingExplains }
 {}
 
-/// An equilibrium, as far as variables show it, is what the contexts accept one by one.
+/// A projected equilibrium consists of what the contexts accept one by one.
 pub fn equilibria_are_by_parts()
     ensures { EquilibriaAreByParts }
 {}
@@ -38,20 +38,21 @@ pub fn classical_contexts_accept_what_follows()
     ensures { ClassicalContextsAcceptWhatFollows }
 {}
 
-/// The equilibria of classical contexts have a listing, and it is empty exactly where there is none.
+/// The projected equilibria of a system of classical contexts have a listing. A listing is empty exactly if there is no
+/// equilibrium.
 pub fn listings_exist()
     ensures classical { ClassicalStatesHaveAListing }
     ensures consistent { ConsistencyIsListed }
 {}
 
-/// A system that supports itself has two equilibria, and a rule against its own context has none.
+/// A system with a rule that supports itself has two equilibria. One with a rule that defeats itself has none.
 pub fn tiny_systems()
     ensures two { SelfSupportHasTwo }
     ensures none { AgainstItselfHasNone }
 {}
 
-/// A rule that is kept is not removed and a rule that is closed is not forced, by diagnoses, by explanations and by what
-/// contexts are asked; a weight is from 1 to 1000000.
+/// A kept rule is not removed and a closed rule is not forced, in diagnoses, in explanations and in what contexts are
+/// asked. A weight is from 1 to 1000000.
 pub fn worked_rules()
     ensures kept { KeptIsForced }
     ensures closed { ClosedIsRemoved }
@@ -61,9 +62,8 @@ pub fn worked_rules()
     ensures weights { WeightsAreLimited }
 {}
 
-/// What tiny systems need and have by levels: without equilibria the level of all rules counts, rows have no more
-/// marks than their level, rows and questions keep to what earlier contexts may supply, and questions take up what they
-/// do supply.
+/// Needs and levels of tiny systems. Without equilibria the level of all rules counts. Rows have no more marks than
+/// their level. Rows and questions are limited to what earlier contexts may supply, and questions cover all of that.
 pub fn tiny_levels()
     ensures need { NeedIsOfAllRules }
     ensures few { RowsHaveFewMarks }
@@ -72,9 +72,9 @@ pub fn tiny_levels()
     ensures supplied { QuestionsTakeSupplies }
 {}
 
-/// Each choice of what the contexts accept is a diagnosis by its marks; each state of a changed system makes a
-/// choice, and a minimal diagnosis is the difference in each state of its changed system; a consistent system
-/// needs none.
+/// Each choice of what the contexts accept is a diagnosis by its marks. Each state of a changed system makes a choice.
+/// A minimal diagnosis is the difference between the rules that apply and the active ones, in each state of its changed
+/// system. A consistent system needs no marks.
 pub fn diagnoses_are_choices()
     ensures all { ChoicesAreDiagnoses }
     ensures states { ChangedStatesAreChoices }
@@ -82,15 +82,15 @@ pub fn diagnoses_are_choices()
     ensures consistent { ConsistentNeedsNothing }
 {}
 
-/// Each belief state has one projection; worked contexts: a disjunction chooses, and a bird flies.
+/// Each belief state has one projection. Worked contexts: a disjunction chooses, and a bird flies.
 pub fn small_contexts()
     ensures projection { StatesHaveOneProjection }
     ensures disjunction { DisjunctionChooses }
     ensures bird { BirdFlies }
 {}
 
-/// Minimal diagnoses are small, and with each level the questions grow: what fits together is the choice that
-/// the level asks for.
+/// Minimal diagnoses are small, and questions grow with the level. Compatible rows, one of each context, make a choice
+/// whose questions the level asks.
 pub fn questions_by_level()
     ensures small { MinimalDiagnosesAreSmall }
     ensures grow { QuestionsGrow }
@@ -99,14 +99,14 @@ pub fn questions_by_level()
     ensures rows { RowsMakeChoices }
 {}
 
-/// The marks of a choice are those at the contexts, and no mark is one at two contexts.
+/// The marks of a choice are the union of those at the contexts, and no mark is at two contexts.
 pub fn marks_are_of_contexts()
     ensures united { MarksAreUnited }
     ensures apart { MarksAreApart }
 {}
 
-/// Where no rule is kept or closed, each mark of a rule is allowed, and each notion of repairs is what it is where
-/// each rule may be removed and each may be forced.
+/// If no rule is kept or closed, each mark of a rule is allowed. Each notion of repairs is then the one of systems in
+/// which each rule may be removed and each may be forced.
 pub fn unbarred_rules_are_free()
     ensures marks { AllMarksAreAllowed }
     ensures diagnoses { FreeDiagnoses }
@@ -116,14 +116,14 @@ pub fn unbarred_rules_are_free()
     ensures rows { FreeRows }
 {}
 
-/// What a context accepts, through its variables, is what its knowledge base with the heads accepts through their
-/// beliefs; and the listing of the one gives the listing of the other.
+/// What a context accepts, projected to its variables, is what its knowledge base with the heads accepts, projected to
+/// their beliefs. A listing of the latter yields one of the former.
 pub fn parts_are_views()
     ensures each { PartsAreViews }
     ensures listings { ViewListingsGivePartListings }
 {}
 
-/// Worked programs: negation allows and undoes, nothing supports itself, and the heads that are added are facts.
+/// Worked programs: negation allows and undoes, nothing supports itself, and added heads are facts.
 pub fn worked_programs()
     ensures allows { NegationAllows }
     ensures undoes { NegationUndoes }
@@ -131,20 +131,20 @@ pub fn worked_programs()
     ensures heads { HeadsAreFacts }
 {}
 
-/// What a program accepts believes no formula but atoms, those that it names.
+/// A finite set of atoms, such as a program accepts, believes exactly the formulas that are atoms of the set.
 pub fn programs_believe_atoms()
     ensures { ProgramsBelieveAtoms }
 {}
 
-/// Worked default theories: extensions are grounded, contrary defaults choose, and a fact that is told is believed and
-/// blocks a default.
+/// Worked default theories: extensions are grounded, contrary defaults choose, and a given fact is believed and blocks
+/// a default.
 pub fn worked_default_theories()
     ensures grounded { DefaultsAreGrounded }
     ensures choose { DefaultsMayChoose }
     ensures blocked { ToldFactsBlock }
 {}
 
-/// Each kind of knowledge base accepts belief sets of its own sort alone.
+/// Each kind of knowledge base accepts only belief sets of its own sort.
 pub fn kinds_accept_their_sort()
     ensures { KindsAcceptTheirSort }
 {}
