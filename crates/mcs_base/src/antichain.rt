@@ -1,4 +1,4 @@
-//! Lists of sets of which none lies within another.
+//! Antichains: lists of sets of which none lies within another.
 
 ghost use Rattle.std.specs.Prelude.{◌≡◌, ◌≤◌, ◌<◌, ◌+◌, ◌++◌, [], ◌∷◌, ◌↔◌, IsTrue, OnOk, OnErr, IfOk};
 ghost use Rattle.std.specs.Bool.{MatchBool};
@@ -9,8 +9,8 @@ use crate::memory::Memory;
 use std::alloc::Global;
 use std::marker::Model;
 
-/// The minimal ones of the sets that were put in, each once. It is seen as the list of them, none of which
-/// lies within another, and as the number of sets for which there is room without more memory.
+/// The minimal ones of the sets that were inserted, each once. The model is the list of them, and the number of sets
+/// for which there is room without more memory.
 #[derive(Debug, Drop)]
 pub struct Antichain {
     sets: Vec<Marks>,
@@ -27,7 +27,7 @@ impl Model for Antichain {
     ghost invariant = { λ a. IsAntichain a.sets.items };
 }
 
-/// Whether one of the sets lies within this one.
+/// Whether one of the sets lies within `m`.
 fn has_one_within(sets: &[Marks], m: Marks) -> bool
     ensures { IsTrue result ↔ HasOneWithin sets.now m }
 {
@@ -40,7 +40,7 @@ fn has_one_within(sets: &[Marks], m: Marks) -> bool
 }
 
 impl Antichain {
-    /// The antichain without members. It takes no memory.
+    /// The empty antichain. No memory is needed.
     pub fn new(alloc: Global) -> Antichain
         ensures { result ≡ record { members = []; spare = 0 } }
     {
@@ -49,7 +49,7 @@ impl Antichain {
         }
     }
 
-    /// Makes room for at least `n` more members. Without the memory for them all is as before.
+    /// Makes room for at least `n` more members. If there is no memory for them, everything is as before.
     pub fn reserve(&mut self, n: usize) -> Result<(), Memory>
         ensures members { self.new.members ≡ self.old.members }
         ensures ok { OnOk result (n ≤ self.new.spare) }
@@ -60,9 +60,9 @@ impl Antichain {
         Ok(())
     }
 
-    /// Puts the set in at the end, and lets go those that contain it; the others stay in their order. It
-    /// answers false exactly where a member lies within the set, and then nothing changes. Memory is wanted
-    /// only where there is no room to spare, and where it is refused all is as before.
+    /// Appends the set, and removes the members that contain it; the others stay in their order. Returns false exactly
+    /// if a member lies within the set; then nothing changes. Memory is allocated only if there is no room to spare. If
+    /// it is refused, everything is as before.
     pub fn insert_min(&mut self, m: Marks) -> Result<bool, Memory>
         ensures answer { IfOk result (λ added. MatchBool added
             ((¬ HasOneWithin self.old.members m) × (self.new.members ≡ not_containing m self.old.members ++ m ∷ []))
@@ -79,7 +79,7 @@ impl Antichain {
         Ok(true)
     }
 
-    /// The members, in the order in which they were put in.
+    /// The members, in the order in which they were inserted.
     pub fn members(&self) -> &[Marks]
         ensures value { result.now ≡ self.now.members }
         ensures antichain { IsAntichain self.now.members }

@@ -1,10 +1,10 @@
-//! Numbers, as digits spell them.
+//! Numbers in decimal digits.
 
 ghost use Rattle.std.specs.Prelude.{ℕ, MatchOption};
 ghost use Rattle.mcs_base.specs.Numbers.{IsNumber};
 
-/// The number that the bytes spell: one or more digits, whose value is within the bounds. `None` exactly
-/// where they spell none.
+/// The number in these bytes: one or more digits, whose value lies within the bounds. `None` exactly if they are no
+/// such number.
 pub fn number(bytes: &[u8], least: u64, most: u64) -> Option<u64>
     ensures { MatchOption result ((n : ℕ) → ¬ IsNumber least most bytes.now n) (λ n. IsNumber least most bytes.now n) }
 {

@@ -3,7 +3,7 @@
 ghost use Rattle.std.specs.Prelude.{◌≡◌, MatchOption};
 ghost use Rattle.mcs_base.specs.Words.{keyword_bytes};
 
-/// A reserved word. The last six have no use yet.
+/// A reserved word. The last six are reserved for later use.
 #[derive(Clone, Copy, Debug, PartialEq, Eq)]
 pub enum Keyword {
     Context,
@@ -23,7 +23,7 @@ pub enum Keyword {
     Know,
 }
 
-/// All of them.
+/// All reserved words.
 pub(crate) const KEYWORDS: [Keyword; 15] = [
     Keyword::Context,
     Keyword::Bridge,

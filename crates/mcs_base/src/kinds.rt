@@ -1,4 +1,4 @@
-//! The kinds of number that sets are made of, and the orders of the sets.
+//! The kinds of sets, and the orders of the sets.
 
 ghost use Rattle.std.specs.Prelude.{◌≡◌, ◌↔◌, IsTrue};
 ghost use Rattle.mcs_sets.specs.Orders.{StateBefore, PairBefore};
@@ -10,26 +10,27 @@ use crate::set::Set;
 use mcs_sets::SmallSet;
 use std::cmp::Ordering;
 
-/// A variable, or a place in a list.
+/// The kind of variables, and of places in a list.
 pub struct Variable;
 
-/// The number of a bridge rule.
+/// The kind of numbers of bridge rules.
 pub struct Rule;
 
-/// A mark.
+/// The kind of marks.
 pub struct Mark;
 
-/// A set of variables, or of places in a list. Such sets are listed as states.
+/// A set of variables, or of places in a list. Such sets are listed in the order of states.
 pub type Vars = Set<Variable>;
 
 /// A set of bridge rules.
 pub type Active = Set<Rule>;
 
-/// A set of marks. Such sets are listed as pairs.
+/// A set of marks. Such sets are listed in the order of pairs.
 pub type Marks = Set<Mark>;
 
 impl Set<Variable> {
-    /// The set whose number this is, so that every set of numbers below `n` is one of the first `2^n`.
+    /// The set with this number: it has `k` if bit `k` of the number is set. So the sets of numbers below `n` are the
+    /// first `2^n`.
     pub fn numbered(number: u64) -> Self
         ensures { result ≡ number }
     {
@@ -45,7 +46,8 @@ impl Set<Variable> {
 }
 
 impl Set<Rule> {
-    /// The set whose number this is, so that every set of numbers below `n` is one of the first `2^n`.
+    /// The set with this number: it has `k` if bit `k` of the number is set. So the sets of numbers below `n` are the
+    /// first `2^n`.
     pub fn numbered(number: u64) -> Self
         ensures { result ≡ number }
     {
@@ -138,16 +140,16 @@ fn compare_pairs(a: SmallSet, b: SmallSet) -> Ordering
     }
 }
 
-/// Whether `a` comes before `b` in the order of states: of two different states, the one that holds the
-/// least variable in which they differ comes first.
+/// Whether `a` comes before `b` in the order of states. Of two different states, the one that has the least variable in
+/// which they differ comes first.
 pub fn state_before(a: Vars, b: Vars) -> bool
     ensures { IsTrue result ↔ StateBefore a b }
 {
     mcs_sets::state_before(a.set, b.set)
 }
 
-/// Whether `a` comes before `b` in the order of pairs: the one with fewer marks first; with equally many,
-/// the one whose ascending list of marks is lexicographically less.
+/// Whether `a` comes before `b` in the order of pairs. The one with fewer marks comes first; with equally many, the one
+/// whose ascending list of marks is lexicographically less.
 pub fn pair_before(a: Marks, b: Marks) -> bool
     ensures { IsTrue result ↔ PairBefore a b }
 {

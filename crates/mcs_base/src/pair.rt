@@ -1,4 +1,4 @@
-//! A pair of sets of bridge rules, as one set of marks.
+//! Pairs of sets of bridge rules: the removed and the forced ones.
 
 ghost use Rattle.std.specs.Prelude.{◌≡◌, ◌<◌, ◌+◌, ◌*◌, ◌^◌};
 ghost use Rattle.mcs_sets.specs.Sets.{has, such_that};
@@ -7,9 +7,8 @@ ghost use Rattle.mcs_base.specs.Pairs.{removed_of, forced_of};
 use crate::kinds::{Active, Marks};
 use std::marker::Model;
 
-/// A pair of sets of bridge rules, each numbered below 64: the rules that are removed, and those that are
-/// forced. Mark 2r says that rule r is removed, and mark 2r+1 that it is forced. It is seen as the set of
-/// its marks.
+/// A pair of sets of bridge rules, each numbered below 64: the rules that are removed, and those that are forced. Mark
+/// 2r says that rule r is removed, and mark 2r+1 that it is forced. The model is the set of these marks.
 #[derive(Clone, Copy, Debug, PartialEq, Eq)]
 pub struct Pair {
     marks: Marks,
@@ -25,7 +24,7 @@ impl Model for Pair {
     ghost inverse = { λ n. record { marks = n } };
 }
 
-/// The rules r whose mark 2r, or 2r+1 where `offset` is 1, is in the set.
+/// The rules r whose mark 2r, or 2r+1 if `offset` is 1, is in the set.
 #[tactic(auto, using(crate::proofs::PairLemmas::loops))]
 fn part(marks: Marks, offset: u32) -> Active
     requires { offset < 2 }
@@ -42,7 +41,7 @@ fn part(marks: Marks, offset: u32) -> Active
 }
 
 impl Pair {
-    /// The pair of these marks.
+    /// The pair with these marks.
     pub fn new(marks: Marks) -> Pair
         ensures { result ≡ marks }
     {

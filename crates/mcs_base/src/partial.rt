@@ -1,4 +1,4 @@
-//! States of some of the variables.
+//! Partial states: states of some of the variables.
 
 ghost use Rattle.std.specs.Prelude.{◌≡◌, ◌↔◌, IsTrue};
 ghost use Rattle.mcs_sets.specs.Sets.{Within};
@@ -7,7 +7,7 @@ ghost use Rattle.mcs_base.specs.Partials.{IsPartial, Fits, united, restricted};
 use crate::kinds::Vars;
 use std::marker::Model;
 
-/// A value for each variable of a mask: those in `values` are true, the others of the mask false.
+/// A value for each variable of a mask: those in `values` are true, the others in the mask are false.
 #[derive(Clone, Copy, Debug, PartialEq, Eq)]
 pub struct Partial {
     mask: Vars,
@@ -27,8 +27,8 @@ impl Model for Partial {
 }
 
 impl Partial {
-    /// The state in which, of the variables of the mask, exactly those of `values` are true. All of `values`
-    /// are in the mask.
+    /// The partial state of the variables in the mask in which exactly those in `values` are true. All of `values` have
+    /// to be in the mask.
     pub fn new(mask: Vars, values: Vars) -> Self
         requires { Within values mask }
         ensures { result ≡ record { mask = mask; values = values } }
@@ -52,14 +52,14 @@ impl Partial {
         self.values
     }
 
-    /// Whether both agree on each variable to which both give a value.
+    /// Whether the two are compatible: they agree on each variable to which both give a value.
     pub fn fits(&self, other: &Partial) -> bool
         ensures { IsTrue result ↔ Fits self.now other.now }
     {
         self.values.common(other.mask) == other.values.common(self.mask)
     }
 
-    /// What one of the two states says; they fit.
+    /// The union of the two states, which have to be compatible.
     pub fn union(&self, other: &Partial) -> Partial
         requires { Fits self.now other.now }
         ensures { result ≡ united self.now other.now }
@@ -70,7 +70,7 @@ impl Partial {
         }
     }
 
-    /// What the state says of the variables of a set.
+    /// The restriction of the state to the variables of a set.
     pub fn restrict(&self, mask: Vars) -> Partial
         ensures { result ≡ restricted self.now mask }
     {

@@ -1,4 +1,4 @@
-//! Rows that lie flat in one store.
+//! Rows that lie one after the other in one store.
 
 ghost use Rattle.std.specs.Prelude.{◌≡◌, List, [], ◌∷◌, ◌++◌, ◌<◌, ◌≤◌, take, length, slice_get, Some, OnOk, OnErr, get_or};
 
@@ -6,8 +6,8 @@ use crate::memory::Memory;
 use std::alloc::Global;
 use std::marker::Model;
 
-/// Rows of plain values, one after the other in one store; a row is read at its index, and rows are taken off
-/// from the end. It is seen as the list of its rows.
+/// Rows of plain values, one after the other in one store. A row is read by its index; rows are removed from the end.
+/// The model is the list of the rows.
 #[derive(Debug, Drop)]
 pub struct Rows<T> {
     items: Vec<T>,
@@ -25,7 +25,7 @@ impl<T> Model for Rows<T> {
     ghost invariant = { λ r. AreEnds 0 (length r.items.items) r.ends.items };
 }
 
-/// Where the row at the index begins: where the one before it ends.
+/// Where the row at the index begins, which is where the one before it ends.
 fn start_of(ends: &[usize], index: usize) -> usize
     requires { index ≤ length ends.now }
     ensures { result ≡ get_or (0 ∷ ends.now) index 0 }
@@ -34,7 +34,7 @@ fn start_of(ends: &[usize], index: usize) -> usize
 }
 
 impl<T: Copy> Rows<T> {
-    /// No rows. It takes no memory.
+    /// No rows. No memory is needed.
     pub fn new(alloc: Global) -> Rows<T>
         ensures { result ≡ [] }
     {
@@ -44,14 +44,14 @@ impl<T: Copy> Rows<T> {
         }
     }
 
-    /// How many rows there are.
+    /// The number of rows.
     pub fn len(&self) -> usize
         ensures { result ≡ length self.now }
     {
         self.ends.len()
     }
 
-    /// Adds a row at the end. Where memory runs out, the rows are as before.
+    /// Appends a row. If memory runs out, the rows are as before.
     pub fn push(&mut self, row: &[T]) -> Result<(), Memory>
         ensures ok { OnOk result (self.new ≡ self.old ++ row.now ∷ []) }
         ensures err { OnErr result (self.new ≡ self.old) }
@@ -77,7 +77,7 @@ impl<T: Copy> Rows<T> {
         &self.items[start..end]
     }
 
-    /// Leaves the first `count` rows, where there are more. It takes no memory.
+    /// Keeps the first `count` rows, if there are more. No memory is needed.
     pub fn truncate(&mut self, count: usize)
         ensures { self.new ≡ take count self.old }
     {

@@ -1,4 +1,4 @@
-//! A set of numbers of one kind.
+//! Sets of numbers of one kind.
 
 ghost use Rattle.std.specs.Prelude.{◌≡◌, ℕ, ◌^◌, ◌<◌, ◌≤◌, ◌↔◌, IsTrue, IfSome, IfNone, All, length};
 ghost use Rattle.mcs_sets.specs.Sets.{has, size, single, union, common, minus, members, Within, Meets, IsLeast};
@@ -48,7 +48,7 @@ impl<K: Kind> Set<K> {
         Set::of(SmallSet::empty())
     }
 
-    /// The set of this one number.
+    /// The set with this one number.
     pub fn one(n: u32) -> Self
         requires { n < K.most }
         ensures { result ≡ single n }
@@ -65,7 +65,7 @@ impl<K: Kind> Set<K> {
         self.set.has(n)
     }
 
-    /// The set and this number.
+    /// The set with this number added.
     pub fn with(self, n: u32) -> Self
         requires { n < K.most }
         ensures { result ≡ union self (single n) }
@@ -81,35 +81,35 @@ impl<K: Kind> Set<K> {
         Set::of(self.set.without(n))
     }
 
-    /// What is in one of the sets.
+    /// The union of both sets.
     pub fn union(self, other: Self) -> Self
         ensures { result ≡ union self other }
     {
         Set::of(self.set.union(other.set))
     }
 
-    /// What is in both sets.
+    /// The intersection of both sets.
     pub fn common(self, other: Self) -> Self
         ensures { result ≡ common self other }
     {
         Set::of(self.set.common(other.set))
     }
 
-    /// What is in this set and not in the other.
+    /// The difference: the numbers of this set that are not in the other.
     pub fn minus(self, other: Self) -> Self
         ensures { result ≡ minus self other }
     {
         Set::of(self.set.minus(other.set))
     }
 
-    /// Whether some number is in both sets.
+    /// Whether the two sets have a number in common.
     pub fn meets(self, other: Self) -> bool
         ensures { IsTrue result ↔ Meets self other }
     {
         self.set.meets(other.set)
     }
 
-    /// Whether each number of this set is in the other.
+    /// Whether this set lies within the other: each of its numbers is in the other.
     pub fn within(self, other: Self) -> bool
         ensures { IsTrue result ↔ Within self other }
     {
@@ -125,7 +125,7 @@ impl<K: Kind> Set<K> {
         self.set.count()
     }
 
-    /// The least number of the set; `None` exactly for the empty set.
+    /// The least number of the set, or `None` exactly if the set is empty.
     pub fn first(self) -> Option<u32>
         ensures least { IfSome result (IsLeast self) }
         ensures below { IfSome result (λ k. k < K.most) }
@@ -144,7 +144,7 @@ impl<K: Kind> Set<K> {
     }
 }
 
-/// Sets come in the order of their kind, so that std's sort lists them in it.
+/// Sets are ordered by the order of their kind, so that std's sort lists them in it.
 impl<K: Kind> PartialOrd for Set<K> {
     ghost use Rattle.std.specs.Ordering.{as_partial_cmp};
     ghost use Rattle.std.specs.Cmp.{po};

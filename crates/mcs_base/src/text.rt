@@ -7,7 +7,7 @@ use itoa::Buffer;
 use std::alloc::Global;
 use std::marker::Model;
 
-/// A growing text of bytes, which keeps the allocator that it was made with.
+/// A growing text of bytes. It keeps the allocator with which it was made.
 #[derive(Debug, Drop)]
 pub struct Text {
     bytes: Vec<u8>,
@@ -22,7 +22,7 @@ impl Model for Text {
 }
 
 impl Text {
-    /// The empty text. It takes no memory.
+    /// The empty text. No memory is needed.
     pub fn new(alloc: Global) -> Text
         ensures { result ≡ [] }
     {
@@ -31,14 +31,14 @@ impl Text {
         }
     }
 
-    /// An empty text over the same allocator. It takes no memory.
+    /// An empty text with the same allocator. No memory is needed.
     pub fn empty_like(&self) -> Text
         ensures { result ≡ [] }
     {
         Text::new(*self.bytes.allocator())
     }
 
-    /// Puts the bytes at the end. Without the memory for all of them the text stays as it was.
+    /// Appends the bytes. If there is no memory for all of them, the text stays as it was.
     pub fn push(&mut self, bytes: &[u8]) -> Result<(), Memory>
         ensures ok { OnOk result (self.new ≡ self.old ++ bytes.now) }
         ensures err { OnErr result (self.new ≡ self.old) }
@@ -47,8 +47,7 @@ impl Text {
         Ok(())
     }
 
-    /// Puts the number at the end, in decimal digits. Without the memory for all of them the text stays
-    /// as it was.
+    /// Appends the number in decimal digits. If there is no memory for all of them, the text stays as it was.
     pub fn push_number(&mut self, n: u64) -> Result<(), Memory>
         ensures ok { OnOk result (self.new ≡ self.old ++ decimal n) }
         ensures err { OnErr result (self.new ≡ self.old) }
@@ -63,14 +62,14 @@ impl Text {
         self.bytes.as_slice()
     }
 
-    /// Takes off what stands after the first `len` bytes, where there are more. It takes no memory.
+    /// Removes what follows the first `len` bytes, if there are more. No memory is needed.
     pub fn cut(&mut self, len: usize)
         ensures { self.new ≡ take len self.old }
     {
         self.bytes.truncate(len);
     }
 
-    /// Makes the text empty. It keeps its memory.
+    /// Makes the text empty, but keeps its memory.
     pub fn clear(&mut self)
         ensures { self.new ≡ [] }
     {

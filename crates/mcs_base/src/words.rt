@@ -1,4 +1,4 @@
-//! Words and names, as a system text spells them.
+//! Words and names of a system text.
 
 ghost use Rattle.std.specs.Prelude.{◌≡◌};
 ghost use Rattle.std.specs.List.{list_all, list_any};
@@ -7,7 +7,7 @@ ghost use Rattle.mcs_base.specs.Words.{keyword_bytes, is_letter, is_word_byte, i
 
 use crate::keyword::{KEYWORDS, Keyword};
 
-/// The most bytes of a name.
+/// The greatest number of bytes of a name.
 pub const MOST_NAME_BYTES: usize = 64;
 
 /// Whether the byte is one of `a` to `z`, `A` to `Z` and `_`.
@@ -24,14 +24,14 @@ pub fn is_word_byte(byte: u8) -> bool
     is_letter(byte) || byte.is_ascii_digit()
 }
 
-/// Whether all these are letters and digits.
+/// Whether all these bytes are letters and digits.
 fn are_word_bytes(bytes: &[u8]) -> bool
     ensures { result ≡ list_all is_word_byte bytes.now }
 {
     bytes.iter().all(|byte| is_word_byte(*byte))
 }
 
-/// Whether these are a letter, and letters and digits after it.
+/// Whether these bytes are a word: a letter, followed by letters and digits.
 pub fn is_word(bytes: &[u8]) -> bool
     ensures { result ≡ is_word bytes.now }
 {
@@ -48,14 +48,14 @@ fn is_one_of(word: &[u8], keywords: &[Keyword]) -> bool
     keywords.iter().any(|keyword| word == keyword.spelling())
 }
 
-/// Whether the word is reserved, and so no name.
+/// Whether the word is reserved, and so not a name.
 pub fn is_reserved(word: &[u8]) -> bool
     ensures { result ≡ is_reserved word.now }
 {
     is_one_of(word, &KEYWORDS)
 }
 
-/// Whether these spell a name: a word that is not reserved and has at most 64 bytes.
+/// Whether these bytes are a name: a word that is not reserved and has at most 64 bytes.
 pub fn is_name(bytes: &[u8]) -> bool
     ensures { result ≡ is_name bytes.now }
 {

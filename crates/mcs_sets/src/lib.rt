@@ -1,5 +1,5 @@
-//! Finite sets of small numbers: what they mean, the orders in which they are listed, and one type that
-//! the sets of the crates above are thin wrappers of.
+//! Finite sets of small numbers: their definitions, the orders in which they are listed, and one type, of which the
+//! sets of the crates above are thin wrappers.
 #![tactic(auto)]
 
 mod members;

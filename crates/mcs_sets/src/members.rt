@@ -1,11 +1,11 @@
-//! Going over the members of a set.
+//! Iterating over the members of a set.
 
 ghost use Rattle.std.specs.Iterator.{YieldsFirst, item_count};
 
 use crate::small_set::SmallSet;
 use std::marker::Model;
 
-/// The members of a set that are still to come, ascending; seen as the list of them.
+/// The members of a set that are still to come, ascending. The model is the list of them.
 #[derive(Debug, Drop)]
 pub struct Members {
     pub(crate) left: SmallSet,

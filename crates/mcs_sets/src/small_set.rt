@@ -1,4 +1,4 @@
-//! A set of small numbers as one word of bits, and the orders of such sets.
+//! Sets of small numbers, each one word of bits, and the orders of such sets.
 
 ghost use Rattle.std.specs.Prelude.{◌≡◌, ℕ, ◌^◌, ◌<◌, ◌↔◌, IsTrue, IfSome, IfNone};
 ghost use Rattle.mcs_sets.specs.Sets.{has, single, union, common, minus, Within, Meets, IsLeast, size, members};
@@ -7,8 +7,8 @@ ghost use Rattle.mcs_sets.specs.Orders.{StateBefore, PairBefore};
 use crate::members::Members;
 use std::marker::Model;
 
-/// A set of numbers below 128. Its own order is that of the numbers that stand for the sets: the set that
-/// holds the greatest number in which they differ is the greater one.
+/// A set of numbers below 128. Its own order is that of the sets as numbers: the set that has the greatest number in
+/// which they differ is the greater one.
 #[derive(Clone, Copy, Debug, PartialEq, Eq, PartialOrd, Ord)]
 pub struct SmallSet {
     bits: u128,
@@ -34,7 +34,7 @@ impl SmallSet {
         SmallSet { bits: 0 }
     }
 
-    /// The set whose number this is: it has `k` where bit `k` of the number is set.
+    /// The set with this number: it has `k` if bit `k` of the number is set.
     pub fn numbered(number: u64) -> Self
         ensures { result ≡ number }
     {
@@ -43,7 +43,7 @@ impl SmallSet {
         }
     }
 
-    /// The number of the set, as `numbered` takes it, of a set of numbers below 64.
+    /// The number of the set, as `numbered` takes it. The set has to be one of numbers below 64.
     pub fn number(self) -> u64
         requires { self < 2 ^ 64 }
         ensures { result ≡ self }
@@ -51,7 +51,7 @@ impl SmallSet {
         self.bits as u64
     }
 
-    /// The set of this one number.
+    /// The set with this one number.
     #[tactic(auto, unfolding(crate::specs::Sets::single))]
     pub fn one(n: u32) -> Self
         requires { n < 128 }
@@ -70,7 +70,7 @@ impl SmallSet {
         (self.bits >> n) & 1 == 1
     }
 
-    /// The set and this number.
+    /// The set with this number added.
     #[tactic(auto, using(crate::proofs::SetLemmas::fits), unfolding(crate::specs::Sets::single, crate::specs::Sets::union))]
     pub fn with(self, n: u32) -> Self
         requires { n < 128 }
@@ -92,7 +92,7 @@ impl SmallSet {
         }
     }
 
-    /// What is in one of the sets.
+    /// The union of both sets.
     #[tactic(auto, using(crate::proofs::SetLemmas::fits), unfolding(crate::specs::Sets::union))]
     pub fn union(self, other: Self) -> Self
         ensures { result ≡ union self other }
@@ -102,7 +102,7 @@ impl SmallSet {
         }
     }
 
-    /// What is in both sets.
+    /// The intersection of both sets.
     #[tactic(auto, using(crate::proofs::SetLemmas::fits), unfolding(crate::specs::Sets::common))]
     pub fn common(self, other: Self) -> Self
         ensures { result ≡ common self other }
@@ -112,7 +112,7 @@ impl SmallSet {
         }
     }
 
-    /// What is in this set and not in the other.
+    /// The difference: the numbers of this set that are not in the other.
     #[tactic(auto, using(crate::proofs::SetLemmas::fits), unfolding(crate::specs::Sets::minus))]
     pub fn minus(self, other: Self) -> Self
         ensures { result ≡ minus self other }
@@ -122,14 +122,14 @@ impl SmallSet {
         }
     }
 
-    /// Whether some number is in both sets.
+    /// Whether the two sets have a number in common.
     pub fn meets(self, other: Self) -> bool
         ensures { IsTrue result ↔ Meets self other }
     {
         self.bits & other.bits != 0
     }
 
-    /// Whether each number of this set is in the other.
+    /// Whether this set lies within the other: each of its numbers is in the other.
     pub fn within(self, other: Self) -> bool
         ensures { IsTrue result ↔ Within self other }
     {
@@ -165,8 +165,8 @@ impl SmallSet {
     }
 }
 
-/// Whether `a` comes before `b` in the order of states: of two different sets, the one that holds the
-/// least number in which they differ comes first.
+/// Whether `a` comes before `b` in the order of states. Of two different sets, the one that has the least number in
+/// which they differ comes first.
 pub fn state_before(a: SmallSet, b: SmallSet) -> bool
     ensures { IsTrue result ↔ StateBefore a b }
 {
@@ -174,8 +174,8 @@ pub fn state_before(a: SmallSet, b: SmallSet) -> bool
     differ != 0 && a.has(differ.trailing_zeros())
 }
 
-/// Whether `a` comes before `b` in the order of pairs: the one with fewer members first; with equally
-/// many, the one whose ascending list of members is lexicographically less.
+/// Whether `a` comes before `b` in the order of pairs. The one with fewer members comes first; with equally many, the
+/// one whose ascending list of members is lexicographically less.
 pub fn pair_before(a: SmallSet, b: SmallSet) -> bool
     ensures { IsTrue result ↔ PairBefore a b }
 {
