@@ -11,8 +11,8 @@ use std::alloc::Global;
 /// The greatest number.
 const MOST: u64 = 9_223_372_036_854_775_807;
 
-/// The number with one more digit, where 0 is the number of no digit. `None` where the byte is no digit, a number
-/// would begin with 0, or be too large.
+/// The number with one more digit; the number of no digits is 0. `None` if the byte is no digit, or if the number would
+/// begin with 0 or be too large.
 #[tactic(auto, unfolding(crate::specs::Words::with_digit))]
 fn with_digit(number: u64, byte: u8) -> Option<u64>
     ensures value { result ≡ with_digit number byte }
@@ -28,7 +28,7 @@ fn with_digit(number: u64, byte: u8) -> Option<u64>
     Some(number * 10 + digit)
 }
 
-/// The number in the bytes.
+/// The number with these digits.
 #[tactic(auto, unfolding(crate::specs::Words::number_of))]
 fn number_in(bytes: &[u8]) -> Option<u64>
     ensures { result ≡ number_of bytes.now }
@@ -40,7 +40,7 @@ fn number_in(bytes: &[u8]) -> Option<u64>
     if number == 0 { None } else { Some(number) }
 }
 
-/// The number from 1 to 2^63-1 that the bytes spell, in decimal without leading zeros. `None` exactly where they spell
+/// The number from 1 to 2^63-1 that the bytes spell, in decimal without leading zeros. `None` exactly if they spell
 /// none.
 pub fn read_number(bytes: &[u8]) -> Option<u64>
     ensures spelled { SpellsNumber bytes.now result }
@@ -49,7 +49,7 @@ pub fn read_number(bytes: &[u8]) -> Option<u64>
     number_in(bytes)
 }
 
-/// The numbers that the bytes spell, one or more, with one space between them.
+/// The numbers that the bytes spell: one or more, with one space between them. `None` if they spell none.
 #[tactic(auto, unfolding(crate::specs::Words::numbers_of))]
 pub fn read_numbers(alloc: Global, bytes: &[u8]) -> Result<Option<Vec<u64>>, Memory>
     ensures { IfOk result (λ o. option_map (λ v. v.items) o ≡ numbers_of bytes.now) }
@@ -77,7 +77,7 @@ pub fn read_numbers(alloc: Global, bytes: &[u8]) -> Result<Option<Vec<u64>>, Mem
     Ok(Some(numbers))
 }
 
-/// The literal of this size.
+/// The literal with this absolute value.
 fn signed(size: u64, is_negative: bool) -> i64
     requires { size < 2 ^ 63 }
     ensures { result ≡ signed size is_negative }
@@ -89,7 +89,7 @@ fn signed(size: u64, is_negative: bool) -> i64
     }
 }
 
-/// The literals that the bytes spell, each with one space after it.
+/// The literals that the bytes spell, each followed by one space. `None` if they spell none.
 #[tactic(auto, unfolding(crate::specs::Words::literals_of))]
 pub fn read_literals(alloc: Global, bytes: &[u8]) -> Result<Option<Vec<i64>>, Memory>
     ensures { IfOk result (λ o. option_map (λ v. v.items) o ≡ literals_of bytes.now) }

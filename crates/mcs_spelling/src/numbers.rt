@@ -1,4 +1,4 @@
-//! Numbers and literals, each after a space, and steps of resolution.
+//! Numbers and literals, each after a space, and resolution steps.
 
 ghost use Rattle.std.specs.Prelude.{◌≡◌, ◌++◌, map, OnOk, OnErr, decimal};
 ghost use Rattle.mcs_trace.specs.Traces.{inference_of};
@@ -7,7 +7,7 @@ ghost use Rattle.mcs_spelling.specs.Parts.{sign_of, literal_text, spaced, step_t
 use mcs_base::{Memory, Text};
 use mcs_trace::Step;
 
-/// Appends the numbers to an own text.
+/// Appends the numbers to a text of its own.
 fn push_numbers(text: &mut Text, numbers: &[u64]) -> Result<(), Memory>
     ensures { OnOk result (text.new ≡ text.old ++ spaced (map decimal numbers.now)) }
 {
@@ -18,7 +18,7 @@ fn push_numbers(text: &mut Text, numbers: &[u64]) -> Result<(), Memory>
     Ok(())
 }
 
-/// Appends the clause numbers. Without memory the text stays as it was.
+/// Appends the numbers of clauses. Without memory the text stays as it was.
 pub fn push_chain(text: &mut Text, numbers: &[u64]) -> Result<(), Memory>
     ensures ok { OnOk result (text.new ≡ text.old ++ spaced (map decimal numbers.now)) }
     ensures err { OnErr result (text.new ≡ text.old) }
@@ -41,14 +41,14 @@ pub fn push_order(text: &mut Text, numbers: &[u32]) -> Result<(), Memory>
     text.push(own.bytes())
 }
 
-/// What stands before the size of a literal.
+/// The sign before the absolute value of a literal.
 fn sign(literal: i64) -> &'static [u8]
     ensures { result.now ≡ sign_of literal }
 {
     if literal < 0 { b"-" } else { b"" }
 }
 
-/// Appends a literal to an own text.
+/// Appends a literal to a text of its own.
 fn push_literal(text: &mut Text, literal: i64) -> Result<(), Memory>
     ensures { OnOk result (text.new ≡ text.old ++ literal_text literal) }
 {
@@ -56,7 +56,7 @@ fn push_literal(text: &mut Text, literal: i64) -> Result<(), Memory>
     text.push_number(literal.unsigned_abs())
 }
 
-/// Appends the literals to an own text.
+/// Appends the literals to a text of its own.
 fn push_literals(text: &mut Text, literals: &[i64]) -> Result<(), Memory>
     ensures { OnOk result (text.new ≡ text.old ++ spaced (map literal_text literals.now)) }
 {
@@ -67,7 +67,7 @@ fn push_literals(text: &mut Text, literals: &[i64]) -> Result<(), Memory>
     Ok(())
 }
 
-/// Appends a step of resolution: its literals and its chain. Without memory the text stays as it was.
+/// Appends a resolution step: its literals and its chain. Without memory the text stays as it was.
 #[tactic(auto, unfolding(crate::specs::Parts::step_text))]
 pub fn push_step(text: &mut Text, step: &Step) -> Result<(), Memory>
     ensures ok { OnOk result (text.new ≡ text.old ++ step_text (inference_of step.now)) }

@@ -1,4 +1,4 @@
-//! Sets of atoms and of defaults, as lines name them.
+//! Sets of atoms and of defaults, as they are written in lines.
 
 ghost use Rattle.std.specs.Prelude.{◌≡◌, ◌++◌, map, OnOk, OnErr};
 ghost use Rattle.mcs_text.specs.Separated.{braced};
@@ -18,7 +18,7 @@ fn push_atom(text: &mut Text, names: &[Name], place: u32) -> Result<(), Memory>
     }
 }
 
-/// Appends the names of the atoms at the places, between braces, to an own text.
+/// Appends the names of the atoms at the places, in braces, to a text of its own.
 fn push_atoms_at(text: &mut Text, names: &[Name], places: Members) -> Result<(), Memory>
     ensures { OnOk result (text.new ≡ text.old ++ braced (map (atom_text names.now) places)) }
 {
@@ -32,7 +32,8 @@ fn push_atoms_at(text: &mut Text, names: &[Name], places: Members) -> Result<(),
     text.push(b"}")
 }
 
-/// Appends a set of atoms, of which bit i stands for the name of number i. Without memory the text stays as it was.
+/// Appends a set of atoms, in which bit i is the atom with the name at index i. Without memory the text stays as it
+/// was.
 pub fn push_atoms(text: &mut Text, names: &[Name], atoms: u64) -> Result<(), Memory>
     ensures ok { OnOk result (text.new ≡ text.old ++ atoms_text names.now atoms) }
     ensures err { OnErr result (text.new ≡ text.old) }
@@ -42,7 +43,7 @@ pub fn push_atoms(text: &mut Text, names: &[Name], atoms: u64) -> Result<(), Mem
     text.push(own.bytes())
 }
 
-/// Appends the numbers of the defaults at the places, between braces, to an own text.
+/// Appends the numbers of the defaults at the places, in braces, to a text of its own.
 fn push_defaults_at(text: &mut Text, places: Members) -> Result<(), Memory>
     ensures { OnOk result (text.new ≡ text.old ++ braced (map default_text places)) }
 {
@@ -56,7 +57,7 @@ fn push_defaults_at(text: &mut Text, places: Members) -> Result<(), Memory>
     text.push(b"}")
 }
 
-/// Appends a set of defaults, of which bit i stands for default i+1. Without memory the text stays as it was.
+/// Appends a set of defaults, in which bit i is default i+1. Without memory the text stays as it was.
 pub fn push_defaults(text: &mut Text, set: u64) -> Result<(), Memory>
     ensures ok { OnOk result (text.new ≡ text.old ++ defaults_text set) }
     ensures err { OnErr result (text.new ≡ text.old) }

@@ -1,4 +1,4 @@
-//! Sets, as lines name them, read. Members come in order, so that one pass over what may be a member finds them.
+//! Reading sets in lines. The members have to be in order, so one pass over all possible members finds them.
 
 ghost use Rattle.std.specs.Prelude.{◌≡◌, ◌≤◌, length, cond};
 ghost use Rattle.std.specs.Option.{option_copied};
@@ -8,7 +8,7 @@ ghost use Rattle.mcs_spelling.specs.Words.{ends_member, after_member, set_of};
 use crate::front::strip;
 use mcs_base::{Text, Vars};
 
-/// Whether the bytes go on with a comma, or end the set.
+/// Whether the bytes continue with a comma, or with the end of the set.
 fn ends_member(bytes: &[u8]) -> bool
     ensures { result ≡ ends_member bytes.now }
 {
@@ -18,7 +18,7 @@ fn ends_member(bytes: &[u8]) -> bool
     }
 }
 
-/// What follows a member of a set in the bytes, where they go on with it.
+/// What follows a member of a set in the bytes, if they continue with it.
 #[tactic(auto, unfolding(crate::specs::Words::after_member))]
 fn after_member<'b>(bytes: &'b [u8], is_first: bool, member: &[u8]) -> Option<&'b [u8]>
     ensures { option_copied result ≡ after_member bytes.now is_first member.now }
@@ -32,7 +32,7 @@ fn after_member<'b>(bytes: &'b [u8], is_first: bool, member: &[u8]) -> Option<&'
     if ends_member(rest) { Some(rest) } else { None }
 }
 
-/// The same, where a member may be that is allowed.
+/// The same, but `None` if the member is not allowed.
 fn after_allowed<'b>(
     bytes: &'b [u8],
     is_allowed: bool,
@@ -71,9 +71,9 @@ fn set_in(texts: &[Text], allowed: Vars, bytes: &[u8]) -> Option<Vars>
     }
 }
 
-/// The set that the bytes spell, of the numbers that are allowed: `{` and `}` around the texts of its members, in
-/// order, with a comma and a space between them. The texts are those of the numbers from 0 on, at most 64. Where they
-/// can be told apart, `None` comes exactly where the bytes spell no such set.
+/// The set of allowed numbers that the bytes spell: `{` and `}` around the texts of its members, which are in order,
+/// separated by a comma and a space. `texts` are those of the numbers from 0 on; there are at most 64. If they can be
+/// told apart, `None` is returned exactly if the bytes spell no such set.
 pub fn read_set(texts: &[Text], allowed: Vars, bytes: &[u8]) -> Option<Vars>
     requires { length texts.now ≤ 64 }
     ensures spelled { AreTellable texts.now → SpellsSet texts.now allowed bytes.now result }

@@ -1,4 +1,4 @@
-//! Steps of resolution, read.
+//! Reading resolution steps.
 
 ghost use Rattle.std.specs.Prelude.{◌≡◌, IfOk};
 ghost use Rattle.std.specs.Option.{option_map};
@@ -12,7 +12,7 @@ use mcs_base::Memory;
 use mcs_trace::{Clause, Step};
 use std::alloc::Global;
 
-/// The step in the line.
+/// The resolution step in the line.
 #[tactic(auto, unfolding(crate::specs::Words::step_of))]
 fn step_in(alloc: Global, line: &[u8]) -> Result<Option<Step>, Memory>
     ensures { IfOk result (λ o. option_map inference_of o ≡ step_of line.now) }
@@ -38,7 +38,7 @@ fn step_in(alloc: Global, line: &[u8]) -> Result<Option<Step>, Memory>
     }
 }
 
-/// The step of resolution that the line spells: `step LITERALS by CHAIN`. `None` exactly where it spells none.
+/// The resolution step that the line spells: `step LITERALS by CHAIN`. `None` exactly if it spells none.
 pub fn read_step(alloc: Global, line: &[u8]) -> Result<Option<Step>, Memory>
     ensures spelled { IfOk result (λ o. SpellsStep line.now (option_map inference_of o)) }
     ensures exact { IfOk result (λ o. option_map inference_of o ≡ step_of line.now) }

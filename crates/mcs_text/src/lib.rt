@@ -1,5 +1,4 @@
-//! Texts in the making and texts that are written: separators between pieces, and lines that a sink takes whole
-//! or up to a front.
+//! Building texts and writing them: separators between pieces, and lines that are written whole or up to a prefix.
 #![tactic(auto, using(crate::proofs::WriteLaws::writes))]
 
 mod line;

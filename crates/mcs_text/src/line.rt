@@ -1,4 +1,4 @@
-//! Lines, each written as one piece.
+//! Lines, each written in one piece.
 
 ghost use Rattle.mcs_text.specs.Writes.{Writes};
 
@@ -6,7 +6,7 @@ use crate::unwritten::Unwritten;
 use mcs_base::Text;
 use mcs_ports::{Sink, write_whole};
 
-/// Writes the line as one piece.
+/// Writes the line in one piece.
 pub fn write_line<K: Sink>(line: &Text, sink: &mut K) -> Result<(), Unwritten>
     ensures { Writes line.now (K.device sink.old) (K.device sink.new) result }
 {

@@ -1,9 +1,9 @@
-//! Why a text is not written whole.
+//! Why a text was not written whole.
 
 ghost use Rattle.std.specs.Prelude.{◌≡◌};
 ghost use Rattle.mcs_text.specs.declared.unwritten.Unwritten.TheVariants as why;
 
-/// Why a text is not written whole.
+/// Why a text was not written whole.
 #[derive(Clone, Copy, Debug, PartialEq, Eq)]
 pub enum Unwritten {
     /// A write failed.

@@ -1,11 +1,11 @@
-//! What a token is, by its bytes.
+//! The kinds of tokens.
 
 ghost use Rattle.mcs_tokens.specs.Kinds.{IsKind};
 
 use crate::sign::Sign;
 use mcs_base::{Keyword, MOST_NAME_BYTES, is_word};
 
-/// What a token is. A number will be one more kind.
+/// The kind of a token. Numbers are to be one more kind.
 #[derive(Clone, Copy, Debug, PartialEq, Eq)]
 pub enum TokenKind {
     /// A reserved word.
@@ -15,11 +15,11 @@ pub enum TokenKind {
     /// A word that is not reserved, of more than 64 bytes.
     LongName,
     Sign(Sign),
-    /// Neither a word nor a sign: one byte with which none begins.
+    /// Neither a word nor a sign: one byte with which no token begins.
     Stray,
 }
 
-/// What the token with these bytes is.
+/// The kind of the token with these bytes.
 pub fn kind_of(token: &[u8]) -> TokenKind
     ensures { IsKind result token.now }
 {

@@ -1,4 +1,4 @@
-//! The tokens of a system text: words, signs, and bytes that begin neither.
+//! The tokens of a system text: words, signs, and bytes with which none of these begins.
 #![tactic(auto)]
 
 mod kind;

@@ -1,4 +1,4 @@
-//! Where the tokens of a text stand.
+//! The scanner: where the tokens of a text are.
 
 ghost use Rattle.std.specs.Prelude.{◌≡◌, ◌≢◌, ◌≤◌, ◌<◌, length, IfOk, IsTrue, take, drop, slice_index, slice_range, All};
 ghost use Rattle.std.specs.List.{list_all};
@@ -9,7 +9,7 @@ use crate::sign::first_sign;
 use mcs_base::{Memory, is_letter, is_word_byte};
 use std::alloc::Global;
 
-/// Where a token stands: from the first offset up to the second.
+/// The span of a token: from the first offset up to, but not including, the second.
 #[derive(Clone, Copy, Debug, PartialEq, Eq)]
 pub struct Span {
     pub from: usize,
@@ -17,7 +17,7 @@ pub struct Span {
 }
 
 impl Span {
-    /// The bytes of the text that stand there.
+    /// The bytes of the text in the span.
     pub fn text(self, bytes: &[u8]) -> &[u8]
         requires { IsSpanOf bytes.now self }
         ensures { result.now ≡ slice_range bytes.now self.from self.to }
@@ -32,7 +32,7 @@ fn is_separator(byte: u8) -> bool
     matches!(byte, b' ' | b'\t' | b'\n' | b'\r')
 }
 
-/// Where the separators and comments end that stand from `at` on.
+/// The end of the separators and comments that begin at `at`.
 fn gap_end(bytes: &[u8], at: usize) -> usize
     requires { at ≤ length bytes.now }
     ensures inside { (at ≤ result) × (result ≤ length bytes.now) }
@@ -67,7 +67,7 @@ fn word_len(text: &[u8]) -> usize
     text.len()
 }
 
-/// How many bytes the token has with which the text begins.
+/// The length of the token with which the text begins.
 fn token_len(text: &[u8]) -> usize
     requires some { 0 < length text.now }
     requires no_separator { ¬ IsTrue (is_separator (slice_index text.now 0)) }
@@ -84,8 +84,8 @@ fn token_len(text: &[u8]) -> usize
     }
 }
 
-/// The offset of the first token that begins at or after `at`, and the offset after it, as if the text began
-/// at `at`: so `at` is not to be within a token or a comment. At the end of the text both are its length.
+/// The offset of the first token that begins at or after `at`, and the offset after it. The text is read as if it began
+/// at `at`, so `at` must not be within a token or a comment. At the end of the text both are its length.
 pub fn next_token(bytes: &[u8], at: usize) -> (usize, usize)
     requires { at ≤ length bytes.now }
     ensures { IsNext bytes.now at result.0 result.1 }

@@ -26,7 +26,7 @@ pub enum Sign {
     CloseParenthesis,
 }
 
-/// Longer ones before shorter ones.
+/// All signs, longer ones before shorter ones.
 const SIGNS: [Sign; 14] = [
     Sign::DoubleArrow,
     Sign::If,
