@@ -1,4 +1,4 @@
-//! What shows of defaults that they do not apply, read.
+//! Reading certificates that defaults do not apply.
 
 ghost use Rattle.std.specs.Prelude.{◌≡◌, ◌≤◌, ◌<◌, length, map, IfSome};
 ghost use Rattle.std.specs.List.{AllByRecursion};
@@ -13,7 +13,7 @@ use mcs_spelling::{find, read_number, strip};
 use mcs_trace::Outside;
 use std::alloc::Global;
 
-/// The number after the word in the line, if it is at most this.
+/// The number after the word in the line, if it is at most `most`.
 #[tactic(auto, unfolding(crate::specs::Walks::number_after))]
 pub fn number_after(word: &[u8], most: u32, line: &[u8]) -> Option<u32>
     ensures value { result ≡ number_after word.now most line.now }
@@ -27,7 +27,7 @@ pub fn number_after(word: &[u8], most: u32, line: &[u8]) -> Option<u32>
     }
 }
 
-/// Whether the default may be named, where only one may be if one is given.
+/// Whether the default may be named: only `only` may be, if it is given.
 fn may_be(only: Option<u32>, number: u32) -> bool
     ensures { result ≡ may_be only number }
 {
@@ -37,7 +37,7 @@ fn may_be(only: Option<u32>, number: u32) -> bool
     }
 }
 
-/// The default that the line says to be unsupported.
+/// The default that the line names as unsupported.
 #[tactic(auto, unfolding(crate::specs::Walks::unsupported_of))]
 fn read_unsupported(justs: &[usize], only: Option<u32>, line: &[u8]) -> Option<u32>
     requires { length justs.now ≤ 10 }
@@ -51,7 +51,7 @@ fn read_unsupported(justs: &[usize], only: Option<u32>, line: &[u8]) -> Option<u
     }
 }
 
-/// Whether the default has a justification of this number.
+/// Whether the default has a justification with this number.
 fn is_just(justs: &[usize], number: u64, just: u64) -> bool
     requires { 0 < number }
     ensures { result ≡ is_just justs.now number just }
@@ -62,7 +62,7 @@ fn is_just(justs: &[usize], number: u64, just: u64) -> bool
     }
 }
 
-/// The default and its justification, where they may be named.
+/// The default and its justification, if they may be named.
 fn may_block(justs: &[usize], only: Option<u32>, number: u64, just: u64) -> Option<(u32, u32)>
     requires few { length justs.now ≤ 10 }
     requires some { 0 < number }
@@ -75,7 +75,7 @@ fn may_block(justs: &[usize], only: Option<u32>, number: u64, just: u64) -> Opti
     }
 }
 
-/// The default that the line says to be blocked, and its justification.
+/// The default that the line names as blocked, with its justification.
 #[tactic(auto, unfolding(crate::specs::Walks::blocked_of))]
 fn read_blocked(justs: &[usize], only: Option<u32>, line: &[u8]) -> Option<(u32, u32)>
     requires { length justs.now ≤ 10 }
@@ -88,7 +88,7 @@ fn read_blocked(justs: &[usize], only: Option<u32>, line: &[u8]) -> Option<(u32,
     may_block(justs, only, number, just)
 }
 
-/// The default that the next line says to be unsupported.
+/// The default that the next line names as unsupported.
 fn next_unsupported(justs: &[usize], only: Option<u32>, lines: &Lines<'_>) -> Option<u32>
     requires { length justs.now ≤ 10 }
     ensures { result ≡ line_at (unsupported_of justs.now only) lines.now }
@@ -96,7 +96,7 @@ fn next_unsupported(justs: &[usize], only: Option<u32>, lines: &Lines<'_>) -> Op
     read_unsupported(justs, only, lines.current()?)
 }
 
-/// The default that the next line says to be blocked, and its justification.
+/// The default that the next line names as blocked, with its justification.
 fn next_blocked(justs: &[usize], only: Option<u32>, lines: &Lines<'_>) -> Option<(u32, u32)>
     requires { length justs.now ≤ 10 }
     ensures { result ≡ line_at (blocked_of justs.now only) lines.now }
@@ -104,8 +104,8 @@ fn next_blocked(justs: &[usize], only: Option<u32>, lines: &Lines<'_>) -> Option
     read_blocked(justs, only, lines.current()?)
 }
 
-/// Takes what shows that a default is unsupported or blocked: this one, if one is given. These are the atoms, and of
-/// each default the number of its justifications.
+/// Takes a certificate that a default is unsupported or blocked; if `only` is given, that this one is. `atoms` are the
+/// names of the atoms, and `justs` the number of justifications of each default.
 #[tactic(auto, unfolding(crate::specs::Walks::absence_at))]
 pub fn take_absence(
     alloc: Global,
@@ -135,7 +135,7 @@ pub fn take_absence(
     }
 }
 
-/// Takes what shows of each default at these places that it is unsupported or blocked.
+/// Takes, for each default at these places, a certificate that it is unsupported or blocked.
 pub fn take_absences(
     alloc: Global,
     atoms: &[Text],

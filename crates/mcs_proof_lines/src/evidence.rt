@@ -1,4 +1,4 @@
-//! Traces and entailments, read.
+//! Reading traces and entailments.
 
 ghost use Rattle.std.specs.Prelude.{◌≡◌, ◌≤◌, length, map, IfOk, ◌+◌};
 ghost use Rattle.std.specs.Option.{option_map};
@@ -15,7 +15,7 @@ use mcs_spelling::{read_set, read_step, strip};
 use mcs_trace::{Entail, Step, Trace};
 use std::alloc::Global;
 
-/// The fault of the line that is next.
+/// The fault that the next line is out of place.
 pub fn out_of_place(lines: &Lines<'_>) -> ReportFault
     ensures { result ≡ faults.Grammar (lines.now.taken + 1) }
 {
@@ -24,7 +24,7 @@ pub fn out_of_place(lines: &Lines<'_>) -> ReportFault
     }
 }
 
-/// Whether the line that is next is this one.
+/// Whether the next line is this one.
 pub fn is_next(lines: &Lines<'_>, line: &[u8]) -> bool
     ensures { result ≡ is_next line.now lines.now }
 {
@@ -34,7 +34,7 @@ pub fn is_next(lines: &Lines<'_>, line: &[u8]) -> bool
     }
 }
 
-/// Takes the line that is next, which has to be this one.
+/// Takes the next line, which has to be this one.
 #[tactic(auto, unfolding(crate::specs::Walks::expect_at))]
 pub fn expect(lines: &mut Lines<'_>, line: &[u8]) -> Result<(), ReportFault>
     ensures { Passes result lines.new (expect_at line.now lines.old) }
@@ -46,7 +46,7 @@ pub fn expect(lines: &mut Lines<'_>, line: &[u8]) -> Result<(), ReportFault>
     Ok(())
 }
 
-/// The step that is the next line, if it is one.
+/// The step in the next line, if it is one.
 fn next_step(alloc: Global, lines: &Lines<'_>) -> Result<Option<Step>, Memory>
     ensures { IfOk result (λ o. option_map inference_of o ≡ line_at step_of lines.now) }
 {
@@ -56,7 +56,7 @@ fn next_step(alloc: Global, lines: &Lines<'_>) -> Result<Option<Step>, Memory>
     }
 }
 
-/// Takes the steps that are next, as many as there are.
+/// Takes steps, as long as the next line is one.
 #[tactic(auto, unfolding(crate::specs::Walks::steps_at))]
 fn take_steps(alloc: Global, lines: &mut Lines<'_>) -> Result<Vec<Step>, Memory>
     ensures { IfOk result (λ v. steps_at lines.old ≡ (map inference_of v.items, lines.new)) }
@@ -69,7 +69,7 @@ fn take_steps(alloc: Global, lines: &mut Lines<'_>) -> Result<Vec<Step>, Memory>
     Ok(steps)
 }
 
-/// Takes a trace, which has one step or more.
+/// Takes a trace, which has at least one step.
 #[tactic(auto, unfolding(crate::specs::Walks::trace_at))]
 pub fn take_trace(alloc: Global, lines: &mut Lines<'_>) -> Result<Trace, ReportFault>
     ensures { Gives inferences_of result lines.new (trace_at lines.old) }
@@ -81,7 +81,7 @@ pub fn take_trace(alloc: Global, lines: &mut Lines<'_>) -> Result<Trace, ReportF
     Ok(Trace { steps })
 }
 
-/// Takes what shows that a formula follows.
+/// Takes a certificate that a formula follows.
 #[tactic(auto, unfolding(crate::specs::Walks::yes_at))]
 pub fn take_yes(alloc: Global, lines: &mut Lines<'_>) -> Result<Entail, ReportFault>
     ensures { Gives entailment_of result lines.new (yes_at lines.old) }
@@ -93,7 +93,7 @@ pub fn take_yes(alloc: Global, lines: &mut Lines<'_>) -> Result<Entail, ReportFa
     }
 }
 
-/// The set of atoms after the word in the line that is next, where these are the atoms.
+/// The set of atoms after the word in the next line. `atoms` are the names of the atoms.
 pub fn next_atoms(word: &[u8], atoms: &[Text], lines: &Lines<'_>) -> Option<u64>
     requires { length atoms.now ≤ 64 }
     ensures { result ≡ line_at (atoms_of_line word.now atoms.now) lines.now }
@@ -103,7 +103,7 @@ pub fn next_atoms(word: &[u8], atoms: &[Text], lines: &Lines<'_>) -> Option<u64>
     Some(set.number())
 }
 
-/// Takes the set of atoms after the word.
+/// Takes the line with the word and a set of atoms.
 #[tactic(auto, unfolding(crate::specs::Walks::atoms_at))]
 pub fn take_atoms(word: &[u8], atoms: &[Text], lines: &mut Lines<'_>) -> Result<u64, ReportFault>
     requires { length atoms.now ≤ 64 }
@@ -118,7 +118,7 @@ pub fn take_atoms(word: &[u8], atoms: &[Text], lines: &mut Lines<'_>) -> Result<
     }
 }
 
-/// Takes what shows that a formula does not follow.
+/// Takes a certificate that a formula does not follow.
 #[tactic(auto, unfolding(crate::specs::Walks::no_at))]
 pub fn take_no(atoms: &[Text], lines: &mut Lines<'_>) -> Result<Entail, ReportFault>
     requires { length atoms.now ≤ 64 }
@@ -127,7 +127,7 @@ pub fn take_no(atoms: &[Text], lines: &mut Lines<'_>) -> Result<Entail, ReportFa
     Ok(Entail::No(take_atoms(b"no ", atoms, lines)?))
 }
 
-/// Takes what shows that a formula follows, or that it does not.
+/// Takes a certificate that a formula follows or that it does not.
 #[tactic(auto, unfolding(crate::specs::Walks::entailment_at))]
 pub fn take_entailment(
     alloc: Global,
@@ -144,7 +144,7 @@ pub fn take_entailment(
     }
 }
 
-/// Takes so many that show that a formula follows.
+/// Takes `count` certificates that a formula follows.
 pub fn take_all_yes(
     alloc: Global,
     count: usize,
@@ -164,7 +164,7 @@ pub fn take_all_yes(
     Ok(entails)
 }
 
-/// Takes so many that show that a formula does not follow.
+/// Takes `count` certificates that a formula does not follow.
 pub fn take_all_no(
     alloc: Global,
     atoms: &[Text],
@@ -186,7 +186,7 @@ pub fn take_all_no(
     Ok(entails)
 }
 
-/// Takes so many that show that a formula follows, or that it does not.
+/// Takes `count` certificates that a formula follows or that it does not.
 pub fn take_entailments(
     alloc: Global,
     atoms: &[Text],

@@ -1,12 +1,12 @@
-//! Why a report is not read.
+//! Why a report can't be read.
 
 use mcs_base::Memory;
 use std::alloc::AllocFailed;
 
-/// Why a report is not read.
+/// Why a report can't be read.
 #[derive(Clone, Copy, Debug, PartialEq, Eq)]
 pub enum ReportFault {
-    /// The line of this number, counted from 1, is the first that is out of place.
+    /// The line with this number, counted from 1, is the first that is out of place.
     Grammar { line: u64 },
     /// Memory ran out.
     Memory,

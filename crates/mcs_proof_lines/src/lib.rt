@@ -1,4 +1,4 @@
-//! The lines of certificates, read one after the other.
+//! A reader of the lines of certificates.
 #![tactic(auto)]
 
 mod absences;

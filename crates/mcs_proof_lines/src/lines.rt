@@ -1,4 +1,4 @@
-//! The lines of a text, one by one.
+//! The lines of a text, one at a time.
 
 ghost use Rattle.std.specs.Prelude.{◌≡◌, ◌+◌, ◌<◌, [], ◌∷◌, ◌&&◌, MatchOption, length};
 ghost use Rattle.std.specs.Option.{option_copied};
@@ -8,7 +8,7 @@ ghost use Rattle.mcs_proof_lines.specs.Walks.{advanced, next_line};
 use mcs_spelling::find;
 use std::marker::Model;
 
-/// The first line, without its line feed, and what follows it. `None` where there is no line feed.
+/// The first line, without its line feed, and what follows it; `None` if there is no line feed.
 fn split_line(bytes: &[u8]) -> Option<(&[u8], &[u8])>
     ensures lines { MatchOption result (complete_lines bytes.now ≡ []) (λ x. complete_lines bytes.now ≡ x.0.now ∷ complete_lines x.1.now) }
     ensures tail { MatchOption result (incomplete bytes.now ≡ bytes.now) (λ x. incomplete bytes.now ≡ incomplete x.1.now) }
@@ -18,8 +18,8 @@ fn split_line(bytes: &[u8]) -> Option<(&[u8], &[u8])>
     Some((&bytes[..end], &bytes[end + 1..]))
 }
 
-/// The lines of a text, each ended by a line feed: one is the next to be taken, if there is one. A call that takes several
-/// and is refused, also for want of memory, may leave some of them taken.
+/// The lines of a text, each ended by a line feed, as a cursor at the next one. A call that takes several lines and is
+/// refused, also for want of memory, may have taken some of them.
 #[derive(Drop)]
 pub struct Lines<'b> {
     current: Option<&'b [u8]>,
@@ -40,7 +40,7 @@ impl<'b> Model for Lines<'b> {
 }
 
 impl<'b> Lines<'b> {
-    /// The lines of the bytes, none of them taken.
+    /// The lines of the bytes, of which none was taken.
     pub fn new(bytes: &'b [u8]) -> Lines<'b>
         ensures { result ≡ record { taken = 0; rest = complete_lines bytes.now; tail = incomplete bytes.now } }
     {
@@ -58,21 +58,21 @@ impl<'b> Lines<'b> {
         }
     }
 
-    /// The line that is next.
+    /// The next line, if there is one.
     pub fn current(&self) -> Option<&'b [u8]>
         ensures { option_copied result ≡ next_line self.now }
     {
         self.current
     }
 
-    /// The number of the line that is next, counted from 1.
+    /// The number of the next line, counted from 1.
     pub fn number(&self) -> u64
         ensures { result ≡ self.now.taken + 1 }
     {
         self.taken + 1
     }
 
-    /// Whether nothing is left, not even a line without a line feed.
+    /// Whether nothing is left, not even bytes without a line feed.
     pub fn is_at_end(&self) -> bool
         ensures { result ≡ is_empty self.now.rest && is_empty self.now.tail }
     {
@@ -82,7 +82,7 @@ impl<'b> Lines<'b> {
         }
     }
 
-    /// Takes the line that is next.
+    /// Takes the next line.
     #[tactic(auto, unfolding(crate::specs::Walks::advanced))]
     pub fn advance(&mut self)
         ensures { self.new ≡ advanced self.old }

@@ -1,4 +1,4 @@
-//! Certificates of programs, read.
+//! Reading certificates of programs.
 
 ghost use Rattle.std.specs.Prelude.{◌≡◌, ◌≤◌, length, map, IfOk};
 ghost use Rattle.mcs_trace.specs.Traces.{inferences_of};
@@ -30,7 +30,7 @@ fn take_model(
     }
 }
 
-/// Takes so many models with their traces.
+/// Takes `count` models with their traces.
 fn take_models(
     alloc: Global,
     atoms: &[Text],
@@ -52,7 +52,7 @@ fn take_models(
     Ok(models)
 }
 
-/// Takes the smaller sets that are next, as many as there are.
+/// Takes smaller sets, as long as the next line is one.
 #[tactic(auto, unfolding(crate::specs::Programs::smaller_at))]
 fn take_all_smaller(
     alloc: Global,
@@ -70,7 +70,7 @@ fn take_all_smaller(
     Ok(smaller)
 }
 
-/// Takes the trace that refutes all other models, after its word.
+/// Takes the line `none`, and the trace that refutes all other models.
 fn take_none(alloc: Global, lines: &mut Lines<'_>) -> Result<Trace, ReportFault>
     ensures { Gives inferences_of result lines.new (rest_at lines.old) }
 {
@@ -78,7 +78,7 @@ fn take_none(alloc: Global, lines: &mut Lines<'_>) -> Result<Trace, ReportFault>
     take_trace(alloc, lines)
 }
 
-/// Takes a certificate of a program with so many states.
+/// Takes a certificate of a program with `count` states.
 #[tactic(auto, unfolding(crate::specs::Programs::program_at))]
 pub fn take_program(
     alloc: Global,

@@ -1,4 +1,4 @@
-//! Verdicts on sets of defaults, read.
+//! Reading verdicts on sets of defaults.
 
 ghost use Rattle.std.specs.Prelude.{◌≡◌, ◌≤◌, ◌<◌, ◌^◌, [], length, map, codes, IfOk, IfSome};
 ghost use Rattle.std.specs.Option.{option_map};
@@ -32,7 +32,7 @@ fn read_defaults(word: &[u8], theory: &Theory<'_>, line: &[u8]) -> Option<Vars>
     }
 }
 
-/// The set of defaults after the word in the line that is next.
+/// The set of defaults after the word in the next line.
 fn next_defaults(word: &[u8], theory: &Theory<'_>, lines: &Lines<'_>) -> Option<Vars>
     requires defaults { length theory.now.justs.now ≤ 10 }
     requires numbers { length theory.now.numbers.now ≤ 64 }
@@ -42,7 +42,7 @@ fn next_defaults(word: &[u8], theory: &Theory<'_>, lines: &Lines<'_>) -> Option<
     read_defaults(word, theory, lines.current()?)
 }
 
-/// The numbers, if none of them is above this.
+/// The numbers, if none of them is above `most`.
 fn within(alloc: Global, most: u32, numbers: &[u64]) -> Result<Option<Vec<u32>>, Memory>
     ensures { IfOk result (λ o. option_map (λ v. v.items) o ≡ within_from most [] numbers.now) }
 {
@@ -56,7 +56,7 @@ fn within(alloc: Global, most: u32, numbers: &[u64]) -> Result<Option<Vec<u32>>,
     Ok(Some(order))
 }
 
-/// The order of defaults in the line, of which there are so many.
+/// The order of defaults in the line. There are `most` defaults.
 #[tactic(auto, unfolding(crate::specs::Verdicts::order_of))]
 fn read_order(alloc: Global, most: u32, line: &[u8]) -> Result<Option<Vec<u32>>, Memory>
     ensures { IfOk result (λ o. option_map (λ v. v.items) o ≡ order_of most line.now) }
@@ -76,7 +76,7 @@ fn read_order(alloc: Global, most: u32, line: &[u8]) -> Result<Option<Vec<u32>>,
     }
 }
 
-/// The order of defaults in the line that is next, if it is one.
+/// The order of defaults in the next line, if it has one.
 fn next_order(
     alloc: Global,
     theory: &Theory<'_>,
@@ -91,7 +91,7 @@ fn next_order(
     }
 }
 
-/// Takes the rest of the verdict that the set generates an extension in this order.
+/// Takes the rest of a verdict that the set generates an extension, with its defaults in this order.
 #[tactic(auto, unfolding(crate::specs::Verdicts::extension_at))]
 fn take_extension(
     alloc: Global,
@@ -121,7 +121,7 @@ fn take_extension(
     })
 }
 
-/// Takes the rest of the verdict that the default of this number applies and is outside the set.
+/// Takes the rest of a verdict that the default with this number is outside the set and applies.
 #[tactic(auto, unfolding(crate::specs::Verdicts::applied_at))]
 fn take_applied(
     alloc: Global,
@@ -143,7 +143,7 @@ fn take_applied(
     }
 }
 
-/// Takes the rest of the verdict that by a part of the set none of the others is supported.
+/// Takes the rest of a verdict that a subset supports none of the other defaults of the set.
 #[tactic(auto, unfolding(crate::specs::Verdicts::ungrounded_at))]
 fn take_ungrounded(
     alloc: Global,
@@ -164,7 +164,7 @@ fn take_ungrounded(
     })
 }
 
-/// The default that the line that is next says to apply.
+/// The default that the next line names as one that applies.
 fn next_applied(theory: &Theory<'_>, lines: &Lines<'_>) -> Option<u32>
     requires { length theory.now.justs.now ≤ 10 }
     ensures value { result ≡ line_at (number_after (codes "applied ") (length theory.now.justs.now)) lines.now }
@@ -204,7 +204,7 @@ fn take_verdict(
     }
 }
 
-/// Whether the line that is next names the set.
+/// Whether the next line names the set.
 fn names_set(theory: &Theory<'_>, set: Vars, lines: &Lines<'_>) -> bool
     requires defaults { length theory.now.justs.now ≤ 10 }
     requires numbers { length theory.now.numbers.now ≤ 64 }
@@ -216,7 +216,7 @@ fn names_set(theory: &Theory<'_>, set: Vars, lines: &Lines<'_>) -> bool
     }
 }
 
-/// Takes the line that names the set, and the verdict on it.
+/// Takes the line of the set, and the verdict on it.
 #[tactic(auto, unfolding(crate::specs::Verdicts::set_at))]
 fn take_set(
     alloc: Global,
