@@ -1,18 +1,18 @@
 //! What proofs know of a word and of its seats.
 
-/// The account of a seat. No value of it is made.
+/// The account of a seat. It exists in proofs alone.
 pub struct Account {
     /// What the seat may still draw.
     pub left: u64,
-    /// What it has drawn.
+    /// What the seat has drawn.
     pub drawn: u64,
-    /// The greatest total that it was answered, or has learnt by a join.
+    /// The greatest total that a draw of the seat returned, or that it got by a join.
     pub top: u64,
 }
 
-/// A seat as the rule of its word sees it. No value of it is made.
+/// A seat as the rule of its word sees it. It exists in proofs alone.
 pub struct View {
-    /// Whether it was joined away.
+    /// Whether the seat was joined to another one and is gone.
     pub away: bool,
     pub account: Account,
 }

@@ -1,4 +1,4 @@
-//! The rule of a word, and what each kind of step does to the seats that take it.
+//! The rule (invariant) of a word, and what each kind of step does to the seats that take part.
 
 ghost use Rattle.std.specs.Prelude.{ℕ};
 
@@ -17,7 +17,7 @@ impl TableRule<(), View, Terms> for Budget {
     ghost first = { first_view };
 }
 
-/// A draw: its amount comes off what is left, and the new total is the seat's top.
+/// A draw: its amount is subtracted from what is left, and the new total becomes the greatest total of the seat.
 pub struct Draws;
 
 impl Play<(), View> for Draws {
@@ -26,7 +26,7 @@ impl Play<(), View> for Draws {
     ghost then = { DrawTells };
 }
 
-/// A look at the word, which changes nothing.
+/// A read of the word, which changes nothing.
 pub struct Looks;
 
 impl Play<(), View> for Looks {
@@ -35,7 +35,7 @@ impl Play<(), View> for Looks {
     ghost then = { LookTells };
 }
 
-/// How much a split moves. Each call picks it.
+/// How much a split moves. Each call chooses it.
 pub trait Part {
     ghost part: { ℕ };
 }
@@ -57,7 +57,7 @@ impl<P: Part> Split<View> for Cut<P> {
     ghost right = { λ v. seated (split_off P.part v.account) };
 }
 
-/// A join: one seat has the accounts of both, and the other is joined away.
+/// A join: one seat gets the sum of both accounts, and the other one is gone.
 pub struct Gather;
 
 impl Join<View> for Gather {

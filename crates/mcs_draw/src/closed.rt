@@ -1,10 +1,10 @@
-//! What a word came to.
+//! The final state of a word.
 
 ghost use Rattle.std.specs.Prelude.{◌≡◌};
 
 use std::marker::Model;
 
-/// What a word came to in the end. `Draw::close` alone makes it.
+/// The final state of a word. Only `Draw::close` makes it.
 #[derive(Debug, Drop)]
 pub struct Closed {
     pub(crate) total: u64,
@@ -20,7 +20,7 @@ impl Model for Closed {
 }
 
 impl Closed {
-    /// The number at which the word ended: where it began, and all that was drawn.
+    /// The value with which the word ended: its base plus all that was drawn.
     pub fn total(&self) -> u64
         ensures { result ≡ self.now.total }
     {

@@ -12,8 +12,8 @@ use mcs_base::Memory;
 use std::alloc::Global;
 use std::marker::{Brand, Model};
 
-/// A word from which several threads draw through one reference, each by a seat of its own. It begins at the
-/// base, and all seats together draw at most the room. Every seat that a call takes is one of this word.
+/// An atomic counter from which several threads draw through one reference, each by a seat of its own. It begins at
+/// `base`, and all seats together draw at most `room`. Every seat that is passed to a call has to be one of this word.
 #[derive(Drop)]
 pub struct Draw {
     table: Table<(), View, Terms, Budget, Global>,
@@ -30,8 +30,8 @@ impl Model for Draw {
 }
 
 impl Draw {
-    /// A word that begins at the base, and its first seat, which may draw all of the room. The two together
-    /// are below 2^63.
+    /// A word that begins at `base`, and its first seat, which may draw all of `room`. The sum of the two has to be
+    /// below 2^63.
     pub fn new(alloc: Global, base: u64, room: u64) -> Result<(Draw, Seat), Memory>
         requires { base + room < 2 ^ 63 }
         ensures draw { IfOk result (λ r. (r.0.base ≡ base) × (r.0.room ≡ room)) }
@@ -46,8 +46,8 @@ impl Draw {
         Ok((Draw { table }, seat))
     }
 
-    /// Moves a part of what the seat may still draw to a new seat. The part is at least 1, and less than what
-    /// is left. Where memory is refused the seat stays as it was.
+    /// Moves a part of what the seat may still draw to a new seat. The part has to be at least 1, and less than what is
+    /// left. If there is no memory, the seat stays as it was.
     pub fn split(&self, seat: &mut Seat, part: u64) -> Result<Seat, Memory>
         requires word { seat.old.word ≡ self.now.word }
         requires part { (0 < part) × (part < seat.old.account.left) }
@@ -58,7 +58,7 @@ impl Draw {
         Ok(self.cut::<Brand>(seat, part))
     }
 
-    /// Moves a part, which the call picks.
+    /// Moves a part, which the call chooses, to a new seat.
     fn cut<P: Part>(&self, seat: &mut Seat, part: u64) -> Seat
         requires picked { part ≡ P.part }
         requires word { seat.old.word ≡ self.now.word }
@@ -75,7 +75,7 @@ impl Draw {
         }
     }
 
-    /// Adds what the other may still draw, and what it has drawn, to the seat. It takes no memory.
+    /// Adds what `other` may still draw, and what it has drawn, to the seat. No memory is needed.
     pub fn join(&self, seat: &mut Seat, other: Seat)
         requires word { (seat.old.word ≡ self.now.word) × (other.word ≡ self.now.word) }
         ensures word { seat.new.word ≡ seat.old.word }
@@ -90,8 +90,8 @@ impl Draw {
         seat.drawn += drawn;
     }
 
-    /// Adds the amount to the word in one step, and answers the new total. The amount is at most what the
-    /// seat may still draw. It takes no memory.
+    /// Adds the amount to the word in one atomic step, and returns the new total. The amount has to be at most what the
+    /// seat may still draw. No memory is needed.
     pub fn draw(&self, seat: &mut Seat, amount: u64) -> u64
         requires word { seat.old.word ≡ self.now.word }
         requires amount { amount ≤ seat.old.account.left }
@@ -108,9 +108,9 @@ impl Draw {
         found + amount
     }
 
-    /// What the word came to, once every other seat was joined: what the seat may still draw and what it has
-    /// drawn are together the room. The total is the base and all that was drawn, and the greatest one that a
-    /// draw answered, or the base where there was none. It takes no memory.
+    /// The final state of the word, once every other seat was joined to this one: what the seat may still draw and what
+    /// it has drawn have to add up to the room. The total is the base plus all that was drawn. It is also the greatest
+    /// total that a draw returned, or the base if there was no draw. No memory is needed.
     pub fn close(self, seat: Seat) -> Closed
         requires word { seat.word ≡ self.word }
         requires whole { seat.account.left + seat.account.drawn ≡ self.room }

@@ -1,4 +1,5 @@
-//! A word from which several threads draw: each draw adds its amount in one step and answers the new total.
+//! The budget word: several threads draw from one word. Each draw adds its amount in one atomic step and returns the
+//! new total.
 #![tactic(auto)]
 
 mod account;

@@ -1,4 +1,4 @@
-//! Seats: parts of what may be drawn from a word.
+//! Seats: shares of what may be drawn from a word.
 
 ghost use Rattle.std.specs.Prelude.{◌≡◌};
 
@@ -6,7 +6,7 @@ use crate::account::View;
 use atomic_table::Seat as Token;
 use std::marker::Model;
 
-/// A part of what may be drawn from a word. `Draw::new` makes the first one, and `Draw::split` each other.
+/// A share of what may be drawn from a word. `Draw::new` makes the first seat, and `Draw::split` each other one.
 #[derive(Drop)]
 pub struct Seat {
     pub(crate) token: Token<(), View>,

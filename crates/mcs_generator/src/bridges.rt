@@ -11,7 +11,7 @@ use mcs_base::Memory;
 use mcs_system::{Bridge, Read};
 use std::alloc::Global;
 
-/// The last link of the chain in the context before this one, in a list.
+/// The last link of the chain in the context before this one, as the only read of a list.
 fn chain_end(alloc: Global, number: u64, context: u32) -> Result<Vec<Read>, Memory>
     requires { 1 ≤ context }
     ensures { IfOk result (λ reads. map read_of reads.items ≡ chain_end number context ∷ []) }
@@ -25,7 +25,7 @@ fn chain_end(alloc: Global, number: u64, context: u32) -> Result<Vec<Read>, Memo
     Ok(reads)
 }
 
-/// The rule that puts x into the context where the one before it believes the last link.
+/// The rule that adds x to the context if the context before it believes the last link.
 pub(crate) fn reached_rule(alloc: Global, number: u64, context: u32) -> Result<Bridge, Memory>
     requires { 1 ≤ context }
     ensures { IfOk result (λ b. bridge_of b ≡ reached_rule number context) }
@@ -45,7 +45,7 @@ pub(crate) fn reached_rule(alloc: Global, number: u64, context: u32) -> Result<B
     })
 }
 
-/// The rule that puts y into the context where the one before it does not believe the last link.
+/// The rule that adds y to the context if the context before it does not believe the last link.
 pub(crate) fn missed_rule(alloc: Global, number: u64, context: u32) -> Result<Bridge, Memory>
     requires { 1 ≤ context }
     ensures { IfOk result (λ b. bridge_of b ≡ missed_rule number context) }

@@ -1,4 +1,4 @@
-//! The links of a chain, as formulas and as rules of a program.
+//! The links of a chain, as formulas, as defaults and as rules of a program.
 
 ghost use Rattle.std.specs.Prelude.{◌≡◌, ◌≤◌, IfOk, [], ◌∷◌, codes};
 ghost use Rattle.mcs_system.specs.Plain as plain;
@@ -10,14 +10,14 @@ use mcs_base::Memory;
 use mcs_system::{Default, Formula, Name, ProgRule};
 use std::alloc::Global;
 
-/// The atom of this name, as a formula.
+/// The atom with this name, as a formula.
 pub(crate) fn atom(name: Name) -> Formula
     ensures { formula_of result ≡ plain.Atom name }
 {
     Formula::Atom(name)
 }
 
-/// That one atom implies another.
+/// The formula that one atom implies another.
 fn implication(alloc: Global, from: Name, to: Name) -> Result<Formula, Memory>
     ensures { IfOk result (λ f. formula_of f ≡ implication from to) }
 {
@@ -26,7 +26,7 @@ fn implication(alloc: Global, from: Name, to: Name) -> Result<Formula, Memory>
     Ok(Formula::Implies(from, to))
 }
 
-/// That x implies the first link.
+/// The formula that x implies the first link.
 pub(crate) fn first_formula(alloc: Global) -> Result<Formula, Memory>
     ensures { IfOk result (λ f. formula_of f ≡ first_formula) }
 {
@@ -35,7 +35,7 @@ pub(crate) fn first_formula(alloc: Global) -> Result<Formula, Memory>
     implication(alloc, from, to)
 }
 
-/// That the link before this one implies it.
+/// The formula that the link before this one implies it.
 pub(crate) fn link_formula(alloc: Global, link: u32) -> Result<Formula, Memory>
     requires { 1 ≤ link }
     ensures { IfOk result (λ f. formula_of f ≡ link_formula link) }
@@ -45,7 +45,7 @@ pub(crate) fn link_formula(alloc: Global, link: u32) -> Result<Formula, Memory>
     implication(alloc, from, to)
 }
 
-/// The one atom of this name, in a list.
+/// The list of this one name.
 fn alone(alloc: Global, name: Name) -> Result<Vec<Name>, Memory>
     ensures { IfOk result (λ ns. ns.items ≡ name ∷ []) }
 {
@@ -54,7 +54,7 @@ fn alone(alloc: Global, name: Name) -> Result<Vec<Name>, Memory>
     Ok(names)
 }
 
-/// The first link, as a default: where x holds and the link is not refuted.
+/// The default for the first link: it is believed if x is, unless it is refuted.
 pub(crate) fn first_default(alloc: Global) -> Result<Default, Memory>
     ensures { IfOk result (λ d. default_of d ≡ first_default) }
 {
@@ -69,7 +69,7 @@ pub(crate) fn first_default(alloc: Global) -> Result<Default, Memory>
     })
 }
 
-/// The first link, as a rule: from x.
+/// The rule for the first link: it holds if x does.
 pub(crate) fn first_rule(alloc: Global) -> Result<ProgRule, Memory>
     ensures { IfOk result (λ r. rule_of r ≡ first_rule) }
 {
@@ -82,7 +82,7 @@ pub(crate) fn first_rule(alloc: Global) -> Result<ProgRule, Memory>
     })
 }
 
-/// A later link, as a rule: from the link before it, where b does not hold.
+/// The rule for a later link: it holds if the link before it does and b does not.
 pub(crate) fn link_rule(alloc: Global, link: u32) -> Result<ProgRule, Memory>
     requires { 1 ≤ link }
     ensures { IfOk result (λ r. rule_of r ≡ link_rule link) }
@@ -93,7 +93,7 @@ pub(crate) fn link_rule(alloc: Global, link: u32) -> Result<ProgRule, Memory>
     Ok(ProgRule { head, pos, neg })
 }
 
-/// The rule that chooses between x and y.
+/// The disjunctive rule with the head x or y.
 pub(crate) fn choice_rule(alloc: Global) -> Result<ProgRule, Memory>
     ensures { IfOk result (λ r. rule_of r ≡ rule (codes "x" ∷ codes "y" ∷ []) [] []) }
 {
@@ -106,7 +106,7 @@ pub(crate) fn choice_rule(alloc: Global) -> Result<ProgRule, Memory>
     })
 }
 
-/// The rule that forbids the atom.
+/// The constraint that the atom does not hold.
 pub(crate) fn forbidding_rule(alloc: Global, atom: Name) -> Result<ProgRule, Memory>
     ensures { IfOk result (λ r. rule_of r ≡ rule [] (atom ∷ []) []) }
 {

@@ -1,4 +1,4 @@
-//! Generating a system.
+//! The generated systems.
 
 ghost use Rattle.std.specs.Prelude.{◌≡◌, IfOk, map};
 ghost use Rattle.mcs_system.specs.Seen.{context_of, bridge_of};
@@ -11,7 +11,7 @@ use mcs_base::Memory;
 use mcs_system::{Bridge, BuildFault, Context, System};
 use std::alloc::Global;
 
-/// The contexts.
+/// The contexts of the generated system.
 fn contexts(alloc: Global, number: u64) -> Result<Vec<Context>, Memory>
     ensures { IfOk result (λ cs. map context_of cs.items ≡ generated_contexts number) }
 {
@@ -22,7 +22,7 @@ fn contexts(alloc: Global, number: u64) -> Result<Vec<Context>, Memory>
     Ok(contexts)
 }
 
-/// The bridge rules.
+/// The bridge rules of the generated system.
 fn bridges(alloc: Global, number: u64) -> Result<Vec<Bridge>, Memory>
     ensures { IfOk result (λ bs. map bridge_of bs.items ≡ generated_bridges number) }
 {
@@ -34,11 +34,15 @@ fn bridges(alloc: Global, number: u64) -> Result<Vec<Bridge>, Memory>
     Ok(bridges)
 }
 
-/// The generated system of this number: `2 + number % 32` contexts in a row, programs, classical contexts and default
-/// theories in turn, each with a chain of `1 + number / 32 % 32` links from `x` on. Two rules go into each but the
-/// first: one says `x` where the context before it believes its last link, and one says `y` where it does not. The first
-/// context chooses between `x` and `y`. Where `number / 1024` is odd, the last context is a program that forbids both.
-/// This is meant to make the system inconsistent, and each other one is meant to be consistent; no clause says so.
+/// The generated system with this number.
+///
+/// - It has `2 + number % 32` contexts in a row: programs, classical contexts and default theories in turn. Each has a
+///   chain of `1 + number / 32 % 32` links, which starts from `x`.
+/// - Two rules go into each context but the first. One adds `x` if the context before it believes its last link, and
+///   one adds `y` if it does not.
+/// - The first context chooses between `x` and `y`.
+/// - If `number / 1024` is odd, the last context is a program that forbids both. This is meant to make the system
+///   inconsistent, and every other system is meant to be consistent; no clause says so.
 pub fn generate(alloc: Global, number: u64) -> Result<System, Memory>
     ensures { IfOk result (λ s. s ≡ generated_system number) }
 {

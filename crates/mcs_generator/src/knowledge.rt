@@ -1,4 +1,4 @@
-//! What the contexts of a generated system know.
+//! The knowledge bases of a generated system.
 
 ghost use Rattle.std.specs.Prelude.{◌≡◌, ◌<◌, IfOk, OnOk, ◌++◌, map};
 ghost use Rattle.mcs_system.specs.Seen.{context_of, formula_of, item_of, kb_of, rule_of};
@@ -13,7 +13,7 @@ use mcs_base::Memory;
 use mcs_system::{Context, Formula, Kb, ProgRule, TheoryItem};
 use std::alloc::Global;
 
-/// Adds the rule that chooses between x and y, in the first context.
+/// Adds the rule that chooses between x and y, if this is the first context.
 fn add_choice(alloc: Global, context: u32, rules: &mut Vec<ProgRule>) -> Result<(), Memory>
     ensures { OnOk result (map rule_of rules.new.items ≡ map rule_of rules.old.items ++ choice_rules context) }
 {
@@ -23,7 +23,7 @@ fn add_choice(alloc: Global, context: u32, rules: &mut Vec<ProgRule>) -> Result<
     Ok(())
 }
 
-/// Adds the links but the first, as rules.
+/// Adds the links, except the first one, as rules.
 fn add_link_rules(alloc: Global, number: u64, rules: &mut Vec<ProgRule>) -> Result<(), Memory>
     ensures { OnOk result (map rule_of rules.new.items ≡ map rule_of rules.old.items ++ map link_rule (later_links number)) }
 {
@@ -33,7 +33,7 @@ fn add_link_rules(alloc: Global, number: u64, rules: &mut Vec<ProgRule>) -> Resu
     Ok(())
 }
 
-/// Adds the rules that forbid x and y, in the last context of an inconsistent system.
+/// Adds the rules that forbid x and y, if this is the last context of a system that is meant to be inconsistent.
 fn add_forbidding(
     alloc: Global,
     number: u64,
@@ -63,7 +63,7 @@ fn program(alloc: Global, number: u64, context: u32) -> Result<Vec<ProgRule>, Me
     Ok(rules)
 }
 
-/// Adds the links but the first, as formulas.
+/// Adds the links, except the first one, as formulas.
 fn add_link_formulas(alloc: Global, number: u64, formulas: &mut Vec<Formula>) -> Result<(), Memory>
     ensures { OnOk result (map formula_of formulas.new.items ≡ map formula_of formulas.old.items ++ map link_formula (later_links number)) }
 {
@@ -83,7 +83,7 @@ fn formulas(alloc: Global, number: u64) -> Result<Vec<Formula>, Memory>
     Ok(formulas)
 }
 
-/// Adds the links but the first, as facts.
+/// Adds the links, except the first one, as facts.
 fn add_link_facts(alloc: Global, number: u64, items: &mut Vec<TheoryItem>) -> Result<(), Memory>
     ensures { OnOk result (map item_of items.new.items ≡ map item_of items.old.items ++ map link_fact (later_links number)) }
 {
@@ -103,7 +103,7 @@ fn items(alloc: Global, number: u64) -> Result<Vec<TheoryItem>, Memory>
     Ok(items)
 }
 
-/// What the context of this number knows.
+/// The knowledge base of the context with this number.
 fn kb(alloc: Global, number: u64, context: u32) -> Result<Kb, Memory>
     requires { context < context_count number }
     ensures { IfOk result (λ kb. kb_of kb ≡ generated_kb number context) }
@@ -117,7 +117,7 @@ fn kb(alloc: Global, number: u64, context: u32) -> Result<Kb, Memory>
     }
 }
 
-/// The context of this number.
+/// The context with this number.
 pub(crate) fn context(alloc: Global, number: u64, context: u32) -> Result<Context, Memory>
     requires { context < context_count number }
     ensures { IfOk result (λ c. context_of c ≡ generated_context number context) }

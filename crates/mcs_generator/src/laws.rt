@@ -1,4 +1,4 @@
-//! Laws of generated systems. The functions do nothing: each contract is a law.
+//! Laws of generated systems. The functions compute nothing: each contract is a law.
 
 ghost use Rattle.mcs_generator.specs.Laws.{GeneratedSystemsAreValid};
 

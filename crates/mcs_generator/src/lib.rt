@@ -1,4 +1,4 @@
-//! A family of systems, one for each number, that grow in contexts and in the length of their chains.
+//! A family of systems, one for each number, for tests of growing size: with more contexts and longer chains.
 #![tactic(auto)]
 
 mod bridges;

@@ -1,23 +1,23 @@
-//! What the number of a generated system says of it.
+//! The shape of a generated system, by its number.
 
 ghost use Rattle.std.specs.Prelude.{◌≡◌, ◌<◌};
 ghost use Rattle.mcs_generator.specs.Generated.{context_count, chain_length, is_forbidding, is_program_at};
 
-/// How many contexts there are.
+/// The number of contexts.
 pub(crate) fn context_count(number: u64) -> u32
     ensures { result ≡ context_count number }
 {
     2 + (number % 32) as u32
 }
 
-/// How many links the chain in each context has.
+/// The number of links of the chain in each context.
 pub(crate) fn chain_length(number: u64) -> u32
     ensures { result ≡ chain_length number }
 {
     1 + (number / 32 % 32) as u32
 }
 
-/// Whether the context forbids what the rules into it say, so that the system is inconsistent.
+/// Whether the context forbids what the rules into it add. This is meant to make the system inconsistent.
 pub(crate) fn is_forbidding(number: u64, context: u32) -> bool
     requires { context < context_count number }
     ensures { result ≡ is_forbidding number context }
