@@ -1,4 +1,4 @@
-//! A family of systems, one for each number, for tests of growing size: with more contexts and longer chains.
+//! A family of systems, one for each number, with growing numbers of contexts and growing lengths of chains.
 #![tactic(auto)]
 
 mod bridges;
