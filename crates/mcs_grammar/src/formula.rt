@@ -55,6 +55,7 @@ pub enum Answer {
 pub struct FormulaReader {
     /// The stack; the last entry is on its top.
     pub pending: Vec<Pending>,
+    /// The operand that was read last; `None` if an operand is expected next.
     pub operand: Option<Formula>,
     /// How many of the tokens are not parentheses, up to the greatest number.
     pub counted: usize,

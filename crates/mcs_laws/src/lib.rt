@@ -63,7 +63,7 @@ pub fn worked_rules()
 {}
 
 /// Needs and levels of tiny systems. Without equilibria the level of all rules counts. Rows have no more marks than
-/// their level. Rows and questions are limited to what earlier contexts may supply, and questions cover all of that.
+/// their level. Rows and questions keep to what earlier contexts may supply, and questions use what they do supply.
 pub fn tiny_levels()
     ensures need { NeedIsOfAllRules }
     ensures few { RowsHaveFewMarks }

@@ -90,7 +90,7 @@ impl PlacedRule {
         !lies_within(self.pos, places) || do_meet(self.neg, places) || do_meet(self.head, places)
     }
 
-    /// Whether the atoms at `less` satisfy the rule, or the reduct by the atoms at `places` does not have it.
+    /// Whether the reduct by the atoms at `places` does not have the rule, or the atoms at `less` satisfy it there.
     fn is_blocked(&self, less: Vars, places: Vars) -> bool
         ensures { result ≡ placed_blocked less places self.now }
     {

@@ -27,6 +27,7 @@ pub struct Reader {
     /// The contexts and the bridge rules that were read whole.
     pub contexts: Vec<Context>,
     pub bridges: Vec<NamedBridge>,
+    /// The state: what was read last, and what is expected next.
     pub place: Place,
 }
 

@@ -89,7 +89,8 @@ fn signed(size: u64, is_negative: bool) -> i64
     }
 }
 
-/// The literals that the bytes spell, each followed by one space. `None` if they spell none.
+/// The literals that the bytes spell, each followed by one space; there may be none. `None` if the bytes are not of
+/// this form.
 #[tactic(auto, unfolding(crate::specs::Words::literals_of))]
 pub fn read_literals(alloc: Global, bytes: &[u8]) -> Result<Option<Vec<i64>>, Memory>
     ensures { IfOk result (λ o. option_map (λ v. v.items) o ≡ literals_of bytes.now) }

@@ -13,6 +13,7 @@ use std::alloc::Global;
 /// A belief of a context, as a bridge rule reads it.
 #[derive(PartialEq, Drop)]
 pub struct Read {
+    /// The index of the context in the list of contexts.
     pub context: u32,
     pub belief: Formula,
 }
@@ -45,9 +46,12 @@ impl Copied for Read {
 #[derive(PartialEq, Drop)]
 pub struct Bridge {
     pub name: Name,
+    /// The index of the context into which the rule goes.
     pub target: u32,
     pub head: Formula,
+    /// The reads of which each has to be believed.
     pub pos: Vec<Read>,
+    /// The reads of which none may be believed.
     pub neg: Vec<Read>,
     pub keep: bool,
     pub closed: bool,

@@ -21,9 +21,10 @@ pub struct ClassicalCert {
 /// numbered from 1.
 #[derive(Drop)]
 pub enum Outside {
-    /// The prerequisite of the default does not follow.
+    /// The prerequisite of the default with this number does not follow: a `No`.
     Unsupported(u32, Entail),
-    /// The negation of a justification of the default follows.
+    /// The negation of a justification of a default follows: the number of the default, that of the justification, and
+    /// a `Yes`.
     Blocked(u32, u32, Entail),
 }
 
@@ -32,22 +33,23 @@ pub enum Outside {
 pub enum SetCert {
     /// A default of the set does not apply.
     Fails(Outside),
-    /// The default with this number is not in the set and applies: its prerequisite follows, and the negation of no
-    /// justification does.
+    /// The default with this number is not in the set and applies: its prerequisite follows (`pre`, a `Yes`), and the
+    /// negation of no justification does (`justs`, a `No` for each).
     Applied {
         number: u32,
         pre: Entail,
         justs: Vec<Entail>,
     },
-    /// With the defaults of a proper subset, `closed`, the prerequisites of the others of the set do not follow. In
-    /// `closed`, bit i is default i+1.
+    /// With the defaults of a proper subset, `closed`, the prerequisites of the others of the set do not follow
+    /// (`pres`, a `No` for each, ascending). In `closed`, bit i is default i+1.
     Ungrounded {
         closed: u32,
         pres: Vec<Entail>,
     },
-    /// The set generates an extension. In this order each prerequisite follows by means of the defaults before it. The
-    /// negation of no justification follows. No default outside the set applies. For each belief it is shown whether it
-    /// follows.
+    /// The set generates an extension. In the order `order` each prerequisite follows by means of the defaults before
+    /// it (`pres`, a `Yes` for each). The negation of no justification follows (`justs`, a `No` for each, by ascending
+    /// default). No default outside the set applies (`outside`, ascending). For each belief it is shown whether it
+    /// follows (`outputs`).
     Extension {
         order: Vec<u32>,
         pres: Vec<Entail>,
@@ -76,7 +78,10 @@ pub struct AnswerSetCert {
 /// these states, or is undone by one of the smaller sets.
 #[derive(Drop)]
 pub struct ProgramCert {
+    /// One for each state, in the order of states.
     pub models: Vec<AnswerSetCert>,
+    /// The smaller sets. In each, bit i is atom i+1.
     pub smaller: Vec<u64>,
+    /// The trace for all other models.
     pub none: Trace,
 }

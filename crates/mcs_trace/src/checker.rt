@@ -13,8 +13,8 @@ use mcs_base::Memory;
 use std::alloc::Global;
 use std::mem;
 
-/// The clause with this number, counted from 1, or `None` if there are not so many. The clauses of the list come first,
-/// then those of the steps.
+/// The clause with this number, counted from 1, or `None` if no clause has it. The clauses of the list come first, then
+/// those of the steps.
 pub fn numbered<'a>(clauses: &'a [Clause], steps: &'a [Step], number: u64) -> Option<&'a Clause>
     ensures { option_copied result ≡ numbered (clauses.now ++ clauses_of steps.now) number }
 {
