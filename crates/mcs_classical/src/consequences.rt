@@ -198,7 +198,7 @@ impl Consequences {
         Ok(found)
     }
 
-    /// What is known of the first `count` goals with the assumptions in the set.
+    /// What is known of a list of `count` goals, with the assumptions in the set.
     fn told(&self, set: Active, count: usize) -> Told
         requires { count ≤ 64 }
         ensures { (fs : List plain.Formula) (assumptions : List declared.Assumption) (goals : List plain.Formula) → length goals ≡ count

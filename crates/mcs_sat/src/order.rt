@@ -18,7 +18,7 @@ const FIRST_LIMIT: u64 = 100;
 /// The number of conflicts from which on a search is hard: what it learnt long ago is then set aside for a while.
 const MANY_CONFLICTS: u64 = 2000;
 
-/// The number of turns of the first search without what was learnt long ago.
+/// The base of the number of turns of a search without what was learnt long ago.
 const FIRST_TURNS: usize = 5_000;
 
 /// By how many bits activities are reduced.

@@ -21,8 +21,9 @@ use std::marker::Model;
 use std::sync::Arc;
 
 /// Answers what one context of a system accepts, by the logic of its kind. It never lacks an answer. It keeps the
-/// journal of the questions asked. After the first question to a classical context it keeps the clauses of its
-/// formulas. It also keeps either each answer with a certificate, or what it found to follow, as it was made to do.
+/// journal of the questions asked. If it was made to, it keeps each answer with a certificate. For later questions it
+/// keeps the clauses of the formulas of a classical context. If it keeps no certificates, it also keeps what it found
+/// to follow, and of a default theory the clauses of its facts and what it found.
 #[derive(Drop)]
 pub struct LocalSolver {
     system: Arc<System>,
