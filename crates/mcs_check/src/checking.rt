@@ -28,7 +28,8 @@ pub fn check_report(alloc: Global, system: Arc<System>, bytes: &[u8]) -> Result<
     ensures found { IfOk result (IsFinding (arc_value system) bytes.now) }
     ensures only { IfOk result (RulesOut (arc_value system) bytes.now) }
 {
-    // What the contracts of the contexts ensure of the system implies that a text spells at most one report.
+    // The contract of `contexts` ensures that the system is valid and its names are names, so a text spells at most one
+    // report.
     let _ = system.contexts();
     found_in(alloc, system, bytes)
 }

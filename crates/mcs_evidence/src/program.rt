@@ -254,7 +254,7 @@ fn push_others(
     Ok(())
 }
 
-/// The clauses of a model that none of the smaller sets undoes and whose state is none of these.
+/// The clauses of a model that has none of these states and that none of the smaller sets undoes.
 pub fn rest_clauses(
     alloc: Global,
     atoms: &[Name],

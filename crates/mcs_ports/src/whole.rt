@@ -47,9 +47,9 @@ const PIECE: usize = 4096;
 /// Reads the file with this name whole, if it has at most `limit` bytes. The limit may be any number.
 ///
 /// `Fault` is returned only if the shelf's count of faults rose, as it does if the file does not exist. For a file that
-/// exists its count of failures rose too. `TooLong` is returned exactly if the file has more than `limit` bytes; one
-/// byte more than the limit is then read. `Memory` is returned if memory ran out. In each case at most `limit + 1`
-/// bytes are read.
+/// exists its count of failures rose too. `TooLong` is returned only if the file has more than `limit` bytes; one byte
+/// more than the limit is then read. For such a file `Ok` is not returned. `Memory` is returned if memory ran out. In
+/// each case at most `limit + 1` bytes are read.
 pub fn read_whole<H: Shelf>(
     alloc: Global,
     shelf: &mut H,

@@ -24,8 +24,7 @@ use mcs_system::{Name, ProgRule, with_facts};
 use mcs_trace::{ProgramCert, Trace};
 use std::alloc::Global;
 
-/// A trace that no other answer set is left: no model has none of the smaller sets below it and a view that is none of
-/// these. Such a model must not exist.
+/// A trace that no model is left: each has one of these views, or one of the smaller sets undoes it. This has to be so.
 fn refute_rest(
     alloc: Global,
     atoms: &[Name],

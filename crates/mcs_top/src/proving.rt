@@ -43,7 +43,8 @@ pub(crate) fn prove<H: Shelf, K: Sink, G: Gate>(
         (K.device sink.old).written (K.device sink.new).written) }
 {
     let system = system_in(alloc, file, shelf)?;
-    // What the contracts of the contexts ensure of the system implies that the output is a valid report.
+    // The contract of `contexts` ensures that the system is valid and its names are names, so the output is a valid
+    // report.
     let _ = system.contexts();
     prove_system(alloc, system, budget, sink, gate)
 }
