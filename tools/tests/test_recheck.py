@@ -3,7 +3,7 @@ import os
 import re
 import unittest
 
-from ground import PROGRAM, TOP, Ground, example
+from ground import PROGRAM, TOP, Ground, example, needs_program
 
 PAGE = os.path.join(TOP, "docs", "CERTIFICATES.md")
 FAULTS = [(10, "step by 8 6 4 1 6", 7, "certificate"), (10, "step by 08 6 4 1 5", 10, "grammar"),
@@ -52,7 +52,7 @@ class Recheck(Ground):
         for words in ([], [text], [text, "-"], [text, ""], [text, text, text], [text, "-r"]):
             self.assertEqual(self.ran("tools/recheck", *words), (2, "", "usage: recheck FILE REPORT\n"))
 
-    @unittest.skipUnless(os.access(PROGRAM, os.X_OK), "the program is not built")
+    @needs_program
     def test_it_says_what_the_program_says(self):
         status, told, noted = self.ran("tools/compare-recheck", "--count", "60", "--program", PROGRAM,
                                        example("birds.mcs"), example("therapy.mcs"))

@@ -12,7 +12,7 @@ use Rattle.mcs_base.proofs.Mapped.{slice_get-map_read}
 use Rattle.mcs_system.specs.Plain.{Name, Formula, Item}
 use Rattle.mcs_trace.specs.declared.certificate.SetCert.{SetCert}
 use Rattle.mcs_evidence.specs.Defaults.{Verdict, Fails, Applied, Ungrounded, Extension, defaults_of, verdict_of, IsAcceptedVerdict, ShowsView, IsAcceptedDefault}
-use Rattle.mcs_certificate.specs.Checks.{IsJudged}
+use Rattle.mcs_certificate.specs.Checks.{IsVerdictJudged}
 use Rattle.mcs_certificate.specs.declared.verdict.Judged.TheVariants as variants
 
 -- a verdict shows no two views
@@ -65,7 +65,7 @@ module _ (names : List Name) (items : List Item) (beliefs : List Formula) (vs : 
       | inr same ↦ inr (subst (λ (x : Verdict). ShowsView names items beliefs n x places) (sym (one w (ap (slice_get (map verdict_of vs)) (sym same) ∙ at))) (subst (λ (m : ℕ). ShowsView names items beliefs m w places) same shows))
     ]
 
-    pub judged_passed : (views : List ℕ) → AreJudged n views → IsJudged names items beliefs n (verdict_of v) variants.Passed → AreJudged (n + 1) views
+    pub judged_passed : (views : List ℕ) → AreJudged n views → IsVerdictJudged names items beliefs n (verdict_of v) variants.Passed → AreJudged (n + 1) views
     judged_passed views before (fine, none) = record {
       accepted = accepted_more views before fine;
       listed = λ places. (
@@ -77,7 +77,7 @@ module _ (names : List Name) (items : List Item) (beliefs : List Formula) (vs : 
       );
     }
 
-    pub judged_shows : (views views' : List ℕ) (view : ℕ) → AreJudged n views → views' ≡ views ++ view ∷ [] → IsJudged names items beliefs n (verdict_of v) (variants.Shows view) → AreJudged (n + 1) views'
+    pub judged_shows : (views views' : List ℕ) (view : ℕ) → AreJudged n views → views' ≡ views ++ view ∷ [] → IsVerdictJudged names items beliefs n (verdict_of v) (variants.Shows view) → AreJudged (n + 1) views'
     judged_shows views views' view before pushed shown = subst (AreJudged (n + 1)) (sym pushed) (record {
       accepted = accepted_more views before (shows_accepted names items beliefs n (verdict_of v) view shown);
       listed = λ places. (
@@ -92,7 +92,7 @@ module _ (names : List Name) (items : List Item) (beliefs : List Formula) (vs : 
       );
     })
 
-    pub judged_refused : (views : List ℕ) → IsJudged names items beliefs n (verdict_of v) variants.Refused → ¬ IsAcceptedDefault names items beliefs views (map verdict_of vs)
+    pub judged_refused : (views : List ℕ) → IsVerdictJudged names items beliefs n (verdict_of v) variants.Refused → ¬ IsAcceptedDefault names items beliefs views (map verdict_of vs)
     judged_refused views refused h = refused (h.accepted n (verdict_of v) there)
 
   pub judged_short : (views : List ℕ) (n : ℕ) → n ≡ 2 ^ length (defaults_of items) → ¬ (length vs ≡ n) → ¬ IsAcceptedDefault names items beliefs views (map verdict_of vs)

@@ -16,8 +16,8 @@ use Rattle.mcs_cnf.specs.ClauseLists.{with_formulas, clause_list}
 use Rattle.mcs_cnf.specs.Entailments.{Entailment, entailment_of}
 use Rattle.mcs_cnf.proofs.ListLemmas.{with_append}
 use Rattle.mcs_trace.specs.declared.certificate.Entail.{Entail}
-use Rattle.mcs_evidence.specs.Defaults.{defaults_of, numbered_default, IsShown, AreGrounded}
-use Rattle.mcs_certificate.specs.Checks.{numbered, IsNumberIn, AreNumbersOf}
+use Rattle.mcs_evidence.specs.Defaults.{defaults_of, numbered_default, IsEntailmentShown, AreGrounded}
+use Rattle.mcs_certificate.specs.Checks.{at_number, IsNumberIn, AreNumbersOf}
 use Rattle.mcs_cnf.proofs.GrowingLemmas.{list_of}
 
 -- ---- numbers of members
@@ -96,14 +96,14 @@ numbers_done set ns left i past go =
     (λ h. go.1 (subst (AreNumbersOf left) (sym none) ((numbers_end left).0 h)), λ h. (numbers_end left).1 (subst (AreNumbersOf left) none (go.0 h)))
 
 -- ---- what stands at a number
-pub numbered_suc : {A : Type 0} (xs : List A) (k : ℕ) → numbered xs (k + 1) ≡ slice_get xs k
-numbered_suc xs k = let e : k + 1 ≡ suc k = omega arith in ap (numbered xs) e
+pub numbered_suc : {A : Type 0} (xs : List A) (k : ℕ) → at_number xs (k + 1) ≡ slice_get xs k
+numbered_suc xs k = let e : k + 1 ≡ suc k = omega arith in ap (at_number xs) e
 
-pub numbered_same : (items : List Item) (ds : List Default) (n : ℕ) → ds ≡ defaults_of items → numbered_default items n ≡ numbered ds n
+pub numbered_same : (items : List Item) (ds : List Default) (n : ℕ) → ds ≡ defaults_of items → numbered_default items n ≡ at_number ds n
 numbered_same items ds zero same = refl
 numbered_same items ds (suc k) same = ap (λ (xs : List Default). slice_get xs k) (sym same)
 
-pub numbered_read : {A B : Type 0} (f : A → B) (xs : List A) (n : ℕ) (x : A) → ¬ (n ≡ 0) → n - 1 < length xs → x ≡ get_or xs (n - 1) x → numbered (map f xs) n ≡ Some (f x)
+pub numbered_read : {A B : Type 0} (f : A → B) (xs : List A) (n : ℕ) (x : A) → ¬ (n ≡ 0) → n - 1 < length xs → x ≡ get_or xs (n - 1) x → at_number (map f xs) n ≡ Some (f x)
 numbered_read f xs zero x some less is = absurd (some refl)
 numbered_read f xs (suc k) x some less is =
     let e : suc k - 1 ≡ k = omega arith in
@@ -117,15 +117,15 @@ empty_tells b s none is zeroth tells = (
 
 -- ---- one prerequisite after the other
 module _ (names : List Name) (items : List Item) (ds : List Default) (same : ds ≡ defaults_of items) where
-  grounded_split : (fs : List Formula) (n : ℕ) (d : Default) (e : Entailment) (ns : List ℕ) (es : List Entailment) → numbered ds n ≡ Some d
-      → AreGrounded names items fs (n ∷ ns) (e ∷ es) ↔ (IsShown names fs d.pre e × AreGrounded names items (fs ++ d.conclusion ∷ []) ns es)
+  grounded_split : (fs : List Formula) (n : ℕ) (d : Default) (e : Entailment) (ns : List ℕ) (es : List Entailment) → at_number ds n ≡ Some d
+      → AreGrounded names items fs (n ∷ ns) (e ∷ es) ↔ (IsEntailmentShown names fs d.pre e × AreGrounded names items (fs ++ d.conclusion ∷ []) ns es)
   grounded_split fs n d e ns es at = (
     λ (d', at', shown, rest). (let one : d' ≡ d = (let x : Some d' ≡ Some d = sym at' ∙ numbered_same items ds n same ∙ at in cc) in
-        (subst (λ (x : Default). IsShown names fs x.pre e) one shown, subst (λ (x : Default). AreGrounded names items (fs ++ x.conclusion ∷ []) ns es) one rest)),
+        (subst (λ (x : Default). IsEntailmentShown names fs x.pre e) one shown, subst (λ (x : Default). AreGrounded names items (fs ++ x.conclusion ∷ []) ns es) one rest)),
     λ (shown, rest). (d, numbered_same items ds n same ∙ at, shown, rest),
   )
 
-  grounded_none : (fs : List Formula) (n : ℕ) (e : Entailment) (ns : List ℕ) (es : List Entailment) → numbered ds n ≡ None → ¬ AreGrounded names items fs (n ∷ ns) (e ∷ es)
+  grounded_none : (fs : List Formula) (n : ℕ) (e : Entailment) (ns : List ℕ) (es : List Entailment) → at_number ds n ≡ None → ¬ AreGrounded names items fs (n ∷ ns) (e ∷ es)
   grounded_none fs n e ns es none (d, at, shown, rest) = none-some d (sym (numbered_same items ds n same ∙ none) ∙ at)
 
 -- after some steps the clauses are those of more formulas, by which the rest has to follow
@@ -146,13 +146,13 @@ module _ (names : List Name) (items : List Item) (ds : List Default) (same : ds 
       subst (λ (xs : List ℕ). AreGrounded names items fs order (map entailment_of pres) ↔ AreGrounded names items before.formulas xs (entailment_of e ∷ map entailment_of (drop (i + 1) pres))) e1
       (subst (λ (ys : List Entailment). AreGrounded names items fs order (map entailment_of pres) ↔ AreGrounded names items before.formulas (drop i order) ys) e2 before.rest)
 
-  pub derives_none : numbered ds n ≡ None → ¬ AreGrounded names items fs order (map entailment_of pres)
+  pub derives_none : at_number ds n ≡ None → ¬ AreGrounded names items fs order (map entailment_of pres)
   derives_none none h = grounded_none names items ds same before.formulas n (entailment_of e) (drop (i + 1) order) (map entailment_of (drop (i + 1) pres)) none (split.0 h)
 
-  pub derives_off : (d : Default) → numbered ds n ≡ Some d → ¬ IsShown names before.formulas d.pre (entailment_of e) → ¬ AreGrounded names items fs order (map entailment_of pres)
+  pub derives_off : (d : Default) → at_number ds n ≡ Some d → ¬ IsEntailmentShown names before.formulas d.pre (entailment_of e) → ¬ AreGrounded names items fs order (map entailment_of pres)
   derives_off d at not_shown h = not_shown ((grounded_split names items ds same before.formulas n d (entailment_of e) (drop (i + 1) order) (map entailment_of (drop (i + 1) pres)) at).0 (split.0 h)).0
 
-  pub derives_on : (d : Default) (known' : ClauseList) → numbered ds n ≡ Some d → IsShown names before.formulas d.pre (entailment_of e) → known' ≡ with_formulas names known (d.conclusion ∷ []) → DerivesFrom names items fs order pres known' (i + 1)
+  pub derives_on : (d : Default) (known' : ClauseList) → at_number ds n ≡ Some d → IsEntailmentShown names before.formulas d.pre (entailment_of e) → known' ≡ with_formulas names known (d.conclusion ∷ []) → DerivesFrom names items fs order pres known' (i + 1)
   derives_on d known' at shown pushed =
       let parts = grounded_split names items ds same before.formulas n d (entailment_of e) (drop (i + 1) order) (map entailment_of (drop (i + 1) pres)) at in
       record {

@@ -12,14 +12,14 @@ use Rattle.mcs_system.specs.Plain.{Name, Formula, Not, Default, Item}
 use Rattle.mcs_cnf.specs.Classical.{AreShown}
 use Rattle.mcs_cnf.specs.Entailments.{Entailment}
 use Rattle.mcs_cnf.specs.ClauseLists.{IsOver, AreOver}
-use Rattle.mcs_evidence.specs.Defaults.{Absence, Unsupported, Blocked, Verdict, Fails, Applied, Ungrounded, Extension, facts_of, defaults_of, defaults_in, defaults_at, all_defaults, generated, numbered_default, numbered_formula, negated_justs, IsShown, IsDenied, AreDenied, IsAbsent, AreGrounded, HasFailed, HasApplied, IsUngrounded, IsGenerating, IsAcceptedVerdict, ShowsView}
-use Rattle.mcs_certificate.specs.Checks.{judged_as, judged_by, numbered, number_in, IsNumberIn, AreNumbersOf, IsReady, IsComplete, IsJudged}
+use Rattle.mcs_evidence.specs.Defaults.{Absence, Unsupported, Blocked, Verdict, Fails, Applied, Ungrounded, Extension, facts_of, defaults_of, defaults_in, defaults_at, all_defaults, generated, numbered_default, numbered_formula, negated_justs, IsEntailmentShown, IsDenied, AreDenied, IsAbsent, AreGrounded, FailsToApply, HasApplied, IsUngrounded, IsGenerating, IsAcceptedVerdict, ShowsView}
+use Rattle.mcs_certificate.specs.Checks.{judged_as, judged_by, at_number, number_in, IsNumberIn, AreNumbersOf, IsOrderShown, IsComplete, IsVerdictJudged}
 use Rattle.mcs_evidence.specs.Theories.{all_of, AreOverDefaults, IsOverDefault}
 use Rattle.mcs_evidence.proofs.TheoryLemmas.{others, has-others, consequents_over}
 use Rattle.mcs_certificate.proofs.OrderLemmas.{numbered_same}
 
 -- ---- absence
-formula_same : (fs : List Formula) (n : ℕ) → numbered_formula fs n ≡ numbered fs n
+formula_same : (fs : List Formula) (n : ℕ) → numbered_formula fs n ≡ at_number fs n
 formula_same fs zero = refl
 formula_same fs (suc k) = refl
 
@@ -28,11 +28,11 @@ absent_number names items fs number (Unsupported n e) h = h.0
 absent_number names items fs number (Blocked n j e) h = h.0
 
 module _ (names : List Name) (items : List Item) (ds : List Default) (same : ds ≡ defaults_of items) (fs : List Formula) (number : ℕ) where
-  pub absent_none : (a : Absence) → numbered ds number ≡ None → ¬ IsAbsent names items fs number a
+  pub absent_none : (a : Absence) → at_number ds number ≡ None → ¬ IsAbsent names items fs number a
   absent_none (Unsupported n e) none (is, (d, at, denied)) = none-some d (sym (numbered_same items ds number same ∙ none) ∙ (sym (ap (numbered_default items) is) ∙ at))
   absent_none (Blocked n j e) none (is, (d, at, blocked)) = none-some d (sym (numbered_same items ds number same ∙ none) ∙ (sym (ap (numbered_default items) is) ∙ at))
 
-  module _ (d : Default) (at : numbered ds number ≡ Some d) where
+  module _ (d : Default) (at : at_number ds number ≡ Some d) where
     here : (n : ℕ) → n ≡ number → numbered_default items n ≡ Some d
     here n is = ap (numbered_default items) is ∙ numbered_same items ds number same ∙ at
 
@@ -45,9 +45,9 @@ module _ (names : List Name) (items : List Item) (ds : List Default) (same : ds 
       λ (is, denied). (is, (d, here n is, denied)),
     )
 
-    pub blocked_iff : (n j : ℕ) (e : Entailment) → IsAbsent names items fs number (Blocked n j e) ↔ ((n ≡ number) × ((f : Formula) × (numbered d.justs j ≡ Some f) × IsShown names fs (Not f) e))
+    pub blocked_iff : (n j : ℕ) (e : Entailment) → IsAbsent names items fs number (Blocked n j e) ↔ ((n ≡ number) × ((f : Formula) × (at_number d.justs j ≡ Some f) × IsEntailmentShown names fs (Not f) e))
     blocked_iff n j e = (
-      λ (is, (d', at', (f, there, shown))). (is, (f, ap (λ (x : Default). numbered x.justs j) (sym (only n d' is at')) ∙ sym (formula_same d'.justs j) ∙ there, shown)),
+      λ (is, (d', at', (f, there, shown))). (is, (f, ap (λ (x : Default). at_number x.justs j) (sym (only n d' is at')) ∙ sym (formula_same d'.justs j) ∙ there, shown)),
       λ (is, (f, there, shown)). (is, (d, here n is, (f, formula_same d.justs j ∙ there, shown))),
     )
 
@@ -68,10 +68,10 @@ outside_all ds set i places all before =
 
 -- ---- failing and applying
 module _ (names : List Name) (items : List Item) (set : ℕ) where
-  pub failed_not : (a : Absence) → ¬ IsNumberIn set (number_in a) → ¬ HasFailed names items set a
+  pub failed_not : (a : Absence) → ¬ IsNumberIn set (number_in a) → ¬ FailsToApply names items set a
   failed_not a not_there (k, there, gone) = not_there (k, absent_number names items (generated items set) (k + 1) a gone, there)
 
-  pub failed_iff : (a : Absence) → IsNumberIn set (number_in a) → IsAbsent names items (generated items set) (number_in a) a ↔ HasFailed names items set a
+  pub failed_iff : (a : Absence) → IsNumberIn set (number_in a) → IsAbsent names items (generated items set) (number_in a) a ↔ FailsToApply names items set a
   failed_iff a (k, is, there) = (
     λ gone. (k, there, subst (λ (n : ℕ). IsAbsent names items (generated items set) n a) is gone),
     λ (j, inside, gone). subst (λ (n : ℕ). IsAbsent names items (generated items set) n a) (sym (absent_number names items (generated items set) (j + 1) a gone)) gone,
@@ -81,17 +81,17 @@ module _ (names : List Name) (items : List Item) (set : ℕ) where
     pub applied_inside : IsNumberIn set number → ¬ HasApplied names items set number pre justs
     applied_inside (k, is, there) h = true≢false (sym there ∙ h.outside k is)
 
-    pub applied_none : numbered ds number ≡ None → ¬ HasApplied names items set number pre justs
+    pub applied_none : at_number ds number ≡ None → ¬ HasApplied names items set number pre justs
     applied_none none h = none-some h.default (sym (numbered_same items ds number same ∙ none) ∙ h.is_it)
 
-    module _ (d : Default) (at : numbered ds number ≡ Some d) where
+    module _ (d : Default) (at : at_number ds number ≡ Some d) where
       only' : (h : HasApplied names items set number pre justs) → h.default ≡ d
       only' h = let e : Some h.default ≡ Some d = sym h.is_it ∙ numbered_same items ds number same ∙ at in cc
 
-      pub applied_unshown : ¬ IsShown names (generated items set) d.pre pre → ¬ HasApplied names items set number pre justs
-      applied_unshown not_shown h = not_shown (subst (λ (x : Default). IsShown names (generated items set) x.pre pre) (only' h) h.supported)
+      pub applied_unshown : ¬ IsEntailmentShown names (generated items set) d.pre pre → ¬ HasApplied names items set number pre justs
+      applied_unshown not_shown h = not_shown (subst (λ (x : Default). IsEntailmentShown names (generated items set) x.pre pre) (only' h) h.supported)
 
-      pub applied_iff : ¬ IsNumberIn set number → IsShown names (generated items set) d.pre pre → AreDenied names (generated items set) (negated_justs (d ∷ [])) justs ↔ HasApplied names items set number pre justs
+      pub applied_iff : ¬ IsNumberIn set number → IsEntailmentShown names (generated items set) d.pre pre → AreDenied names (generated items set) (negated_justs (d ∷ [])) justs ↔ HasApplied names items set number pre justs
       applied_iff not_there shown = (
         λ allowed. record {
           default = d;
@@ -127,7 +127,7 @@ IsGroundless (Fails a) = ⊥
 IsGroundless (Applied n pre justs) = ⊥
 IsGroundless (Extension order pres justs outside outputs) = ⊥
 
-pub not_ready : (names : List Name) (items : List Item) (beliefs : List Formula) (set : ℕ) (v : Verdict) → ¬ IsGroundless v → ¬ IsReady names items set v → ¬ IsAcceptedVerdict names items beliefs set v
+pub not_ready : (names : List Name) (items : List Item) (beliefs : List Formula) (set : ℕ) (v : Verdict) → ¬ IsGroundless v → ¬ IsOrderShown names items set v → ¬ IsAcceptedVerdict names items beliefs set v
 not_ready names items beliefs set (Fails a) other not_it = absurd (not_it tt)
 not_ready names items beliefs set (Applied n pre justs) other not_it = absurd (not_it tt)
 not_ready names items beliefs set (Ungrounded closed pres) other not_it = absurd (other tt)
@@ -137,14 +137,14 @@ not_ready names items beliefs set (Extension order pres justs outside outputs) o
 pub chosen_over : (names : List Name) (ds : List Default) (set : ℕ) (chosen : List Default) → AreOverDefaults names ds → chosen ≡ defaults_at 0 ds set → AreOver names (map (λ (d : Default). d.conclusion) chosen)
 chosen_over names ds set chosen over is = subst (λ (xs : List Default). AreOver names (map (λ (d : Default). d.conclusion) xs)) (sym is) (consequents_over names 0 ds set over)
 
-numbered_each : (P : Default → Type 0) (ds : List Default) (n : ℕ) (d : Default) → AllByRecursion P ds → numbered ds n ≡ Some d → P d
+numbered_each : (P : Default → Type 0) (ds : List Default) (n : ℕ) (d : Default) → AllByRecursion P ds → at_number ds n ≡ Some d → P d
 numbered_each P ds zero d all at = absurd (none-some d at)
 numbered_each P ds (suc k) d all at = all_get P ds k d all at
 
-pub numbered_over : (names : List Name) (ds : List Default) (n : ℕ) (d : Default) → AreOverDefaults names ds → numbered ds n ≡ Some d → IsOverDefault names d
+pub numbered_over : (names : List Name) (ds : List Default) (n : ℕ) (d : Default) → AreOverDefaults names ds → at_number ds n ≡ Some d → IsOverDefault names d
 numbered_over names ds n d over at = numbered_each (IsOverDefault names) ds n d over at
 
-pub numbered_formula_over : (names : List Name) (fs : List Formula) (n : ℕ) (f : Formula) → AreOver names fs → numbered fs n ≡ Some f → IsOver names f
+pub numbered_formula_over : (names : List Name) (fs : List Formula) (n : ℕ) (f : Formula) → AreOver names fs → at_number fs n ≡ Some f → IsOver names f
 numbered_formula_over names fs zero f over at = absurd (none-some f at)
 numbered_formula_over names fs (suc k) f over at = all_get (IsOver names) fs k f over at
 
@@ -157,14 +157,14 @@ module _ (names : List Name) (items : List Item) (fs beliefs : List Formula) (se
   complete_view (Some view) allowed complete shown = record { allowed = allowed; complete = complete; shown = shown }
 
 pub judged_view : (names : List Name) (items : List Item) (beliefs : List Formula) (set : ℕ) (order : List ℕ) (pres justs : List Entailment) (outside : List Absence) (outputs : List Entailment) (view : Option ℕ)
-    → IsReady names items set (Extension order pres justs outside outputs)
+    → IsOrderShown names items set (Extension order pres justs outside outputs)
     → MatchOption view ((places : ℕ) → ¬ IsComplete names items (generated items set) beliefs set justs outside outputs places) (λ places. IsComplete names items (generated items set) beliefs set justs outside outputs places)
-    → IsJudged names items beliefs set (Extension order pres justs outside outputs) (judged_as view)
+    → IsVerdictJudged names items beliefs set (Extension order pres justs outside outputs) (judged_as view)
 judged_view names items beliefs set order pres justs outside outputs None is none = λ (places, g). none places (completed names items beliefs set order pres justs outside outputs places g)
 judged_view names items beliefs set order pres justs outside outputs (Some view) is shown = generating names items beliefs set order pres justs outside outputs view is shown
 
 -- a verdict that shows no view
-pub judged_test : (names : List Name) (items : List Item) (beliefs : List Formula) (set : ℕ) (v : Verdict) (b : Bool) → ((places : ℕ) → ¬ ShowsView names items beliefs set v places) → IsTrue b ↔ IsAcceptedVerdict names items beliefs set v → IsJudged names items beliefs set v (judged_by b)
+pub judged_test : (names : List Name) (items : List Item) (beliefs : List Formula) (set : ℕ) (v : Verdict) (b : Bool) → ((places : ℕ) → ¬ ShowsView names items beliefs set v places) → IsTrue b ↔ IsAcceptedVerdict names items beliefs set v → IsVerdictJudged names items beliefs set v (judged_by b)
 judged_test names items beliefs set v true none tells = (tells.0 refl, none)
 judged_test names items beliefs set v false none tells = λ h. true≢false (sym (tells.1 h))
 

@@ -11,9 +11,9 @@ use Rattle.mcs_certificate.specs.declared.verdict.Judged as code
 use Rattle.mcs_certificate.specs.declared.verdict.Judged.TheVariants as variants
 
 -- what stands in a list at a number that is counted from 1
-abbrev pub numbered : {A : Type 0} → List A → ℕ → Option A
-numbered xs zero = None
-numbered xs (suc k) = slice_get xs k
+abbrev pub at_number : {A : Type 0} → List A → ℕ → Option A
+at_number xs zero = None
+at_number xs (suc k) = slice_get xs k
 
 -- the number, counted from 1, is that of a member
 abbrev pub IsNumberIn : ℕ → ℕ → Type 0
@@ -34,10 +34,10 @@ pub record IsComplete (names : List Name) (items : List Item) (fs beliefs : List
   pub shown : AreShown names fs beliefs places outputs
 
 -- the verdict is refused; or it is accepted, and then shows no view, or this one
-abbrev pub IsJudged : List Name → List Item → List Formula → ℕ → Verdict → code.Judged → Type 0
-IsJudged names items beliefs set v variants.Refused = ¬ IsAcceptedVerdict names items beliefs set v
-IsJudged names items beliefs set v variants.Passed = IsAcceptedVerdict names items beliefs set v × ((places : ℕ) → ¬ ShowsView names items beliefs set v places)
-IsJudged names items beliefs set v (variants.Shows view) = ShowsView names items beliefs set v view
+abbrev pub IsVerdictJudged : List Name → List Item → List Formula → ℕ → Verdict → code.Judged → Type 0
+IsVerdictJudged names items beliefs set v variants.Refused = ¬ IsAcceptedVerdict names items beliefs set v
+IsVerdictJudged names items beliefs set v variants.Passed = IsAcceptedVerdict names items beliefs set v × ((places : ℕ) → ¬ ShowsView names items beliefs set v places)
+IsVerdictJudged names items beliefs set v (variants.Shows view) = ShowsView names items beliefs set v view
 
 -- the number that an absence tells
 abbrev pub number_in : Absence → ℕ
@@ -45,11 +45,11 @@ number_in (Unsupported n e) = n
 number_in (Blocked n j e) = n
 
 -- where the verdict tells an order in which the defaults of the set apply, the order is shown; this serves for no verdict that they are not grounded
-abbrev pub IsReady : List Name → List Item → ℕ → Verdict → Type 0
-IsReady names items set (Fails absence) = Unit {0}
-IsReady names items set (Applied number pre justs) = Unit {0}
-IsReady names items set (Ungrounded closed pres) = ⊥
-IsReady names items set (Extension order pres justs outside outputs) = AreNumbersOf set order × AreGrounded names items (facts_of items) order pres
+abbrev pub IsOrderShown : List Name → List Item → ℕ → Verdict → Type 0
+IsOrderShown names items set (Fails absence) = Unit {0}
+IsOrderShown names items set (Applied number pre justs) = Unit {0}
+IsOrderShown names items set (Ungrounded closed pres) = ⊥
+IsOrderShown names items set (Extension order pres justs outside outputs) = AreNumbersOf set order × AreGrounded names items (facts_of items) order pres
 
 abbrev pub judged_by : Bool → code.Judged
 judged_by true = variants.Passed

@@ -7,8 +7,8 @@ ghost use Rattle.mcs_system.specs.Plain as plain;
 ghost use Rattle.mcs_system.specs.Seen.{default_of, formula_of};
 ghost use Rattle.mcs_cnf.specs.ClauseLists.{clause_list, IsOver};
 ghost use Rattle.mcs_cnf.specs.Entailments.{entailment_of};
-ghost use Rattle.mcs_evidence.specs.Defaults.{absence_of, defaults_of, IsAbsent, IsShown};
-ghost use Rattle.mcs_certificate.specs.Checks.{numbered, AreAbsent};
+ghost use Rattle.mcs_evidence.specs.Defaults.{absence_of, defaults_of, IsAbsent, IsEntailmentShown};
+ghost use Rattle.mcs_certificate.specs.Checks.{at_number, AreAbsent};
 ghost use Rattle.mcs_evidence.specs.Theories.{all_of, AreOverDefaults};
 
 use crate::entailment::{denies, shows};
@@ -21,8 +21,8 @@ use std::alloc::Global;
 
 /// The formula with this number, counted from 1.
 fn numbered_formula(formulas: &[Formula], number: u32) -> Option<&Formula>
-    ensures { MatchOption result (numbered (map formula_of formulas.now) number ≡ None)
-        (λ f. numbered (map formula_of formulas.now) number ≡ Some (formula_of f.now)) }
+    ensures { MatchOption result (at_number (map formula_of formulas.now) number ≡ None)
+        (λ f. at_number (map formula_of formulas.now) number ≡ Some (formula_of f.now)) }
 {
     if number == 0 || (number - 1) as usize >= formulas.len() {
         return None;
@@ -42,7 +42,7 @@ fn shows_negation(
     requires room { length atoms.now ≤ known.old.vars }
     ensures kept { known.new ≡ known.old }
     ensures exact { IfOk result (λ yes. (fs : List plain.Formula) → known.old ≡ clause_list atoms.now fs
-        → IsTrue yes ↔ IsShown atoms.now fs (plain.Not (formula_of formula.now)) (entailment_of entail.now)) }
+        → IsTrue yes ↔ IsEntailmentShown atoms.now fs (plain.Not (formula_of formula.now)) (entailment_of entail.now)) }
 {
     let goal = negated(alloc, formula)?;
     let shown = shows(alloc, known, &goal, atoms, entail);
@@ -63,7 +63,7 @@ fn is_blocked(
     requires room { length atoms.now ≤ known.old.vars }
     ensures kept { known.new ≡ known.old }
     ensures exact { IfOk result (λ yes. (fs : List plain.Formula) → known.old ≡ clause_list atoms.now fs
-        → IsTrue yes ↔ ((f : plain.Formula) × (numbered (default_of default.now).justs just ≡ Some f) × IsShown atoms.now fs (plain.Not f) (entailment_of entail.now))) }
+        → IsTrue yes ↔ ((f : plain.Formula) × (at_number (default_of default.now).justs just ≡ Some f) × IsEntailmentShown atoms.now fs (plain.Not f) (entailment_of entail.now))) }
 {
     let Some(formula) = numbered_formula(&default.justs, just) else {
         return Ok(false);

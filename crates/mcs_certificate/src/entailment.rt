@@ -10,7 +10,7 @@ ghost use Rattle.mcs_trace.specs.Traces.{inferences_of};
 ghost use Rattle.mcs_cnf.specs.ClauseLists.{clause_list, IsOver, AreOver};
 ghost use Rattle.mcs_cnf.specs.Classical.{HasYes, AreShown};
 ghost use Rattle.mcs_cnf.specs.Entailments.{Yes, entailment_of, says_yes, IsAcceptedEntailment, IsModelAt, IsRefuted};
-ghost use Rattle.mcs_evidence.specs.Defaults.{IsShown, IsDenied, AreDenied};
+ghost use Rattle.mcs_evidence.specs.Defaults.{IsEntailmentShown, IsDenied, AreDenied};
 ghost use Rattle.mcs_evidence.specs.Programs.{IsInRange};
 ghost use Rattle.mcs_cnf.specs.Classical.{AreAcceptedEntailments};
 
@@ -105,7 +105,7 @@ pub(crate) fn shows(
     requires room { length atoms.now ≤ known.old.vars }
     ensures kept { known.new ≡ known.old }
     ensures exact { IfOk result (λ yes. (fs : List plain.Formula) → known.old ≡ clause_list atoms.now fs
-        → IsTrue yes ↔ IsShown atoms.now fs (formula_of goal.now) (entailment_of entail.now)) }
+        → IsTrue yes ↔ IsEntailmentShown atoms.now fs (formula_of goal.now) (entailment_of entail.now)) }
 {
     match entail {
         Entail::Yes(trace) => is_refuted_by(alloc, known, goal, atoms, trace),

@@ -7,8 +7,8 @@ ghost use Rattle.mcs_system.specs.Seen.{default_of};
 ghost use Rattle.mcs_cnf.specs.ClauseLists.{clause_list};
 ghost use Rattle.mcs_cnf.specs.Entailments.{entailment_of};
 ghost use Rattle.mcs_evidence.specs.Defaults.{defaults_of, AreGrounded};
-ghost use Rattle.mcs_certificate.specs.Checks.{numbered, IsNumberIn, AreNumbersOf};
-ghost use Rattle.mcs_cnf.specs.Growing.{IsGrown};
+ghost use Rattle.mcs_certificate.specs.Checks.{at_number, IsNumberIn, AreNumbersOf};
+ghost use Rattle.mcs_cnf.specs.Growing.{HasMoreFormulas};
 ghost use Rattle.mcs_evidence.specs.Theories.{AreOverDefaults};
 
 use crate::entailment::shows;
@@ -50,8 +50,8 @@ pub(crate) fn are_numbers(set: Vars, numbers: &[u32]) -> bool
 
 /// The default with this number, counted from 1.
 pub(crate) fn numbered_default<'f>(defaults: &[&'f Default], number: u32) -> Option<&'f Default>
-    ensures { MatchOption result (numbered (map (λ d. default_of d.now) defaults.now) number ≡ None)
-        (λ d. numbered (map (λ d. default_of d.now) defaults.now) number ≡ Some (default_of d.now)) }
+    ensures { MatchOption result (at_number (map (λ d. default_of d.now) defaults.now) number ≡ None)
+        (λ d. at_number (map (λ d. default_of d.now) defaults.now) number ≡ Some (default_of d.now)) }
 {
     if number == 0 || (number - 1) as usize >= defaults.len() {
         return None;
@@ -71,7 +71,7 @@ fn derives(
 ) -> Result<bool, Memory>
     requires over { AreOverDefaults atoms.now (map (λ d. default_of d.now) defaults.now) }
     requires room { length atoms.now ≤ known.old.vars }
-    ensures grown { OnOk result (IsGrown atoms.now known.old known.new) }
+    ensures grown { OnOk result (HasMoreFormulas atoms.now known.old known.new) }
     ensures exact { IfOk result (λ yes. (items : List plain.Item) (fs : List plain.Formula)
         → map (λ d. default_of d.now) defaults.now ≡ defaults_of items → known.old ≡ clause_list atoms.now fs
         → IsTrue yes ↔ AreGrounded atoms.now items fs order.now (map entailment_of pres.now)) }

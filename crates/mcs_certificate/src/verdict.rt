@@ -5,8 +5,8 @@ ghost use Rattle.mcs_system.specs.Plain as plain;
 ghost use Rattle.mcs_system.specs.Seen.{default_of, formula_of};
 ghost use Rattle.mcs_cnf.specs.ClauseLists.{clause_list, AreOver};
 ghost use Rattle.mcs_cnf.specs.Entailments.{entailment_of};
-ghost use Rattle.mcs_evidence.specs.Defaults.{absence_of, verdict_of, facts_of, defaults_of, defaults_at, generated, negated_justs, AreDenied, HasFailed, HasApplied, IsUngrounded};
-ghost use Rattle.mcs_certificate.specs.Checks.{IsComplete, IsJudged, IsReady, number_in, judged_by, judged_as};
+ghost use Rattle.mcs_evidence.specs.Defaults.{absence_of, verdict_of, facts_of, defaults_of, defaults_at, generated, negated_justs, AreDenied, FailsToApply, HasApplied, IsUngrounded};
+ghost use Rattle.mcs_certificate.specs.Checks.{IsComplete, IsVerdictJudged, IsOrderShown, number_in, judged_by, judged_as};
 ghost use Rattle.mcs_evidence.specs.Theories.{AreOverDefaults};
 
 use crate::absence::{are_absent, is_absent};
@@ -112,7 +112,7 @@ fn has_failed(
     requires made { known.old ≡ clause_list atoms.now (map (λ f. formula_of f.now) premises.now) }
     ensures kept { known.new ≡ known.old }
     ensures exact { IfOk result (λ yes. (items : List plain.Item) → map (λ d. default_of d.now) defaults.now ≡ defaults_of items
-        → map (λ f. formula_of f.now) premises.now ≡ generated items set → IsTrue yes ↔ HasFailed atoms.now items set (absence_of absence.now)) }
+        → map (λ f. formula_of f.now) premises.now ≡ generated items set → IsTrue yes ↔ FailsToApply atoms.now items set (absence_of absence.now)) }
 {
     let number = number_of(absence);
     if !is_member(set, number) {
@@ -244,8 +244,8 @@ fn judge_from(
     requires inside { map (λ d. default_of d.now) inside.now ≡ defaults_at 0 (map (λ d. default_of d.now) defaults.now) set }
     ensures kept { known.new ≡ known.old }
     ensures exact { IfOk result (λ judged. (items : List plain.Item) → map (λ d. default_of d.now) defaults.now ≡ defaults_of items
-        → map (λ f. formula_of f.now) premises.now ≡ generated items set → IsReady atoms.now items set (verdict_of verdict.now)
-        → IsJudged atoms.now items (map (λ b. formula_of b.now) beliefs.now) set (verdict_of verdict.now) judged) }
+        → map (λ f. formula_of f.now) premises.now ≡ generated items set → IsOrderShown atoms.now items set (verdict_of verdict.now)
+        → IsVerdictJudged atoms.now items (map (λ b. formula_of b.now) beliefs.now) set (verdict_of verdict.now) judged) }
 {
     match verdict {
         SetCert::Fails(absence) => {
@@ -295,8 +295,8 @@ fn judge_generated(
     requires made { known.old ≡ clause_list atoms.now (map (λ f. formula_of f.now) facts.now) }
     ensures kept { OnOk result (known.new ≡ known.old) }
     ensures exact { IfOk result (λ judged. (items : List plain.Item) → map (λ d. default_of d.now) defaults.now ≡ defaults_of items
-        → map (λ f. formula_of f.now) facts.now ≡ facts_of items → IsReady atoms.now items set (verdict_of verdict.now)
-        → IsJudged atoms.now items (map (λ b. formula_of b.now) beliefs.now) set (verdict_of verdict.now) judged) }
+        → map (λ f. formula_of f.now) facts.now ≡ facts_of items → IsOrderShown atoms.now items set (verdict_of verdict.now)
+        → IsVerdictJudged atoms.now items (map (λ b. formula_of b.now) beliefs.now) set (verdict_of verdict.now) judged) }
 {
     let vars = known.vars();
     let count = known.clauses().len();
@@ -326,7 +326,7 @@ fn is_ready(
     requires room { length atoms.now ≤ known.old.vars }
     ensures kept { OnOk result (known.new ≡ known.old) }
     ensures exact { IfOk result (λ yes. (items : List plain.Item) → map (λ d. default_of d.now) defaults.now ≡ defaults_of items
-        → known.old ≡ clause_list atoms.now (facts_of items) → IsTrue yes ↔ IsReady atoms.now items set (verdict_of verdict.now)) }
+        → known.old ≡ clause_list atoms.now (facts_of items) → IsTrue yes ↔ IsOrderShown atoms.now items set (verdict_of verdict.now)) }
 {
     match verdict {
         SetCert::Fails(_) => Ok(true),
@@ -371,7 +371,7 @@ pub(crate) fn judge(
     ensures kept { OnOk result (known.new ≡ known.old) }
     ensures exact { IfOk result (λ judged. (items : List plain.Item) → map (λ d. default_of d.now) defaults.now ≡ defaults_of items
         → map (λ f. formula_of f.now) facts.now ≡ facts_of items
-        → IsJudged atoms.now items (map (λ b. formula_of b.now) beliefs.now) set (verdict_of verdict.now) judged) }
+        → IsVerdictJudged atoms.now items (map (λ b. formula_of b.now) beliefs.now) set (verdict_of verdict.now) judged) }
 {
     if let SetCert::Ungrounded { closed, pres } = verdict {
         let ungrounded = is_ungrounded(alloc, facts, defaults, atoms, set, *closed, pres)?;

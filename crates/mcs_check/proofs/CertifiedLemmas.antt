@@ -15,7 +15,7 @@ use Rattle.mcs_base.proofs.Lists.{slice_get_below}
 use Rattle.mcs_sets.specs.Orders.{StateBefore}
 use Rattle.mcs_system.specs.Plain.{System}
 use Rattle.mcs_system.specs.Systems.{IsAcceptedPart}
-use Rattle.mcs_check.specs.Certified.{sets_of, is_before, AreRight, AreInOrder, EndsAt, HasAnswer}
+use Rattle.mcs_check.specs.Certified.{sets_of, is_set_before, AreAcceptedAnswers, AreAscendingSets, SetsEndAt, HasAnswer}
 
 less_test : (a x : ℕ) → a < x → is_lt (nat_cmp a x) ≡ true
 less_test a x less = at (nat_cmp a x) (ranked a x _ refl)
@@ -33,7 +33,7 @@ test_less a x h = at (nat_cmp a x) (ranked a x _ refl) h
     at Equal m h = absurd (true≢false (sym h))
     at Greater m h = absurd (true≢false (sym h))
 
-module _ {B : Type 0} (answers : List (ℕ × B)) (up : AreInOrder answers) where
+module _ {B : Type 0} (answers : List (ℕ × B)) (up : AreAscendingSets answers) where
   in_order : (i j : ℕ) (d : ℕ × B) → i < j → j < length answers → (get_or answers i d).0 < (get_or answers j d).0
   in_order i j d less bound =
       let long : length (sets_of answers) ≡ length answers = length-map answers (λ (a : ℕ × B). a.0) in
@@ -42,13 +42,13 @@ module _ {B : Type 0} (answers : List (ℕ × B)) (up : AreInOrder answers) wher
       let before : get_or (sets_of answers) i d.0 < get_or (sets_of answers) j d.0 = before_at (λ (a b : ℕ). a < b) (sets_of answers) j d.0 (omega arith) up (get_or (sets_of answers) i d.0) (subst (λ (v : ℕ). IsAmong v (take j (sets_of answers))) (get_or-take j (sets_of answers) i d.0 less) (among_at (take j (sets_of answers)) i d.0 (omega (arith, length-take j (sets_of answers))))) in
       omega arith
 
-  pub parted : (x : ℕ) → IsPartitionedBy (is_before x) answers
+  pub parted : (x : ℕ) → IsPartitionedBy (is_set_before x) answers
   parted x i j d le less h = elim (cases_lt i j) [
     | inl before ↦ less_test (get_or answers i d).0 x (let first = in_order i j d before less in let second = test_less (get_or answers j d).0 x h in omega arith)
-    | inr past ↦ let same : i ≡ j = omega arith in ap (λ k. is_before x (get_or answers k d)) same ∙ h
+    | inr past ↦ let same : i ≡ j = omega arith in ap (λ k. is_set_before x (get_or answers k d)) same ∙ h
   ]
 
-  module _ (x n : ℕ) (point : EndsAt x answers n) where
+  module _ (x n : ℕ) (point : SetsEndAt x answers n) where
     -- the set does not stand before the place, nor after it
     set_place : IsAmong x (sets_of answers) → (d : ℕ × B) → (n < length answers) × ((get_or answers n d).0 ≡ x)
     set_place among d =
@@ -74,7 +74,7 @@ module _ {B : Type 0} (answers : List (ℕ × B)) (up : AreInOrder answers) wher
     none_other d differ among = let (less, is) = set_place among d in differ is
 
 -- ---- what is answered
-pub answer_is_right : (m : System) (i x : ℕ) (answers : List (ℕ × Vec ℕ Global)) (states : List ℕ) → AreRight m i answers → HasAnswer answers x states → IsListing (IsAcceptedPart m i x) StateBefore states
+pub answer_is_right : (m : System) (i x : ℕ) (answers : List (ℕ × Vec ℕ Global)) (states : List ℕ) → AreAcceptedAnswers m i answers → HasAnswer answers x states → IsListing (IsAcceptedPart m i x) StateBefore states
 answer_is_right m i x answers states right (k, a, at, set, items) =
     subst (λ (xs : List ℕ). IsListing (IsAcceptedPart m i x) StateBefore xs) items
     (subst (λ (y : ℕ). IsListing (IsAcceptedPart m i y) StateBefore a.1.items) set

@@ -8,7 +8,7 @@ use Rattle.mcs_proof_text.specs.Lines.{text_of_lines}
 use Rattle.mcs_proof_text.specs.Reports.{SpellsReport, report_lines}
 use Rattle.mcs_proof_reader.proofs.TextLines.{free_lines}
 use Rattle.std.specs.List.{AllByRecursion}
-use Rattle.mcs_proof_text.specs.Proofs.{IsRight}
+use Rattle.mcs_proof_text.specs.Proofs.{HasAcceptedCertificate}
 use Rattle.mcs_check.specs.Validity.{IsValidReport, LacksAnswer, HasOtherListing, DifferFirst}
 use Rattle.mcs_check.specs.Answers.{AreEnough, oracles_for}
 use Rattle.mcs_check.specs.Relisting.{LackOne}
@@ -16,7 +16,7 @@ use Rattle.mcs_check.proofs.LineEnds.{listing_lines}
 use Rattle.mcs_check.proofs.RelistingLemmas.{not_answered}
 
 module _ (m : System) (bytes : List ℕ) (listing : List (List ℕ)) (answers : List Answer) (spelled : SpellsReport m bytes listing answers) where
-  pub lack_found : (line : ℕ) → line ≡ length (report_lines m listing answers) → AllByRecursion (IsRight m) answers → LackOne m (oracles_for m answers) → LacksAnswer m bytes line
+  pub lack_found : (line : ℕ) → line ≡ length (report_lines m listing answers) → AllByRecursion (HasAcceptedCertificate m) answers → LackOne m (oracles_for m answers) → LacksAnswer m bytes line
   lack_found line ends right lack = record {
     listing = listing;
     answers = answers;

@@ -3,7 +3,7 @@ use Rattle.std.proofs.Common.{◌≡◌, ℕ, Bool, true, false, cond, nat_eq, L
 use Rattle.std.proofs.lemmas.List.{append-nil}
 use Rattle.std.specs.Fmt.{decimal}
 use Rattle.mcs_system.specs.Plain.{System}
-use Rattle.mcs_spelling.specs.Lines.{is_empty, onto, complete_lines, incomplete}
+use Rattle.mcs_spelling.specs.Lines.{is_empty, line_onto, complete_lines, incomplete}
 use Rattle.mcs_report.specs.Repairs.{end_line}
 use Rattle.mcs_report.specs.Solutions.{IsWholeListing, listing_front, explanation_lines}
 use Rattle.mcs_diagnosis.specs.Diagnoses.{pairs_of}
@@ -16,7 +16,7 @@ EndsFed text = (front : List ℕ) × (text ≡ front ++ codes "\n")
 fed_after : (before text : List ℕ) → EndsFed text → EndsFed (before ++ text)
 fed_after before text (front, e) = (before ++ front, ap (λ (t : List ℕ). before ++ t) e ∙ sym (append_assoc before front (codes "\n")))
 
-some_onto : (b : ℕ) (ls : List (List ℕ)) → is_empty ls ≡ false → is_empty (onto b ls) ≡ false
+some_onto : (b : ℕ) (ls : List (List ℕ)) → is_empty ls ≡ false → is_empty (line_onto b ls) ≡ false
 some_onto b [] e = e
 some_onto b (l ∷ ls) e = refl
 
@@ -26,7 +26,7 @@ all_complete (b ∷ front) = at (nat_eq b 10) (all_complete front)
   where
     at : (v : Bool) → (incomplete (front ++ codes "\n") ≡ []) × (is_empty (complete_lines (front ++ codes "\n")) ≡ false)
         → (cond v (incomplete (front ++ codes "\n")) (cond (is_empty (complete_lines (front ++ codes "\n"))) (b ∷ (front ++ codes "\n")) (incomplete (front ++ codes "\n"))) ≡ [])
-        × (is_empty (cond v ([] ∷ complete_lines (front ++ codes "\n")) (onto b (complete_lines (front ++ codes "\n")))) ≡ false)
+        × (is_empty (cond v ([] ∷ complete_lines (front ++ codes "\n")) (line_onto b (complete_lines (front ++ codes "\n")))) ≡ false)
     at true (none, some) = (none, refl)
     at false (none, some) = (
       ap (λ (u : Bool). cond u (b ∷ (front ++ codes "\n")) (incomplete (front ++ codes "\n"))) some ∙ none,

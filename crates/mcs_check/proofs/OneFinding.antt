@@ -5,19 +5,19 @@ use Rattle.std.specs.List.{AllByRecursion, flat_map}
 use Rattle.mcs_base.proofs.Each.{all_get}
 use Rattle.mcs_spelling.specs.Lines.{complete_lines}
 use Rattle.mcs_system.specs.Plain.{System}
-use Rattle.mcs_system.specs.Naming.{IsNamed}
+use Rattle.mcs_system.specs.Naming.{IsSystemNamed}
 use Rattle.mcs_system.specs.Faults.{IsValid}
 use Rattle.mcs_base.specs.declared.memory.Memory.{Memory}
 use Rattle.mcs_report.specs.Solutions.{IsWholeListing}
 use Rattle.mcs_report.proofs.SolutionLaws.{whole_is_one}
 use Rattle.mcs_proof_text.specs.Answers.{Answer, answer_lines}
 use Rattle.mcs_proof_text.specs.Lines.{text_of_lines}
-use Rattle.mcs_proof_text.specs.Reports.{IsListingPart, IsLineFeedFree, SpellsReport, IsFirstFault, report_lines}
+use Rattle.mcs_proof_text.specs.Reports.{IsListingPart, IsLineFeedFree, SpellsReport, IsFirstLineFault, report_lines}
 use Rattle.mcs_proof_text.proofs.FaultLaws.{one_fault, no_fault}
 use Rattle.mcs_proof_reader.proofs.TextLines.{text_lines}
 use Rattle.mcs_proof_reader.proofs.WholeReadings.{spelled_once}
-use Rattle.mcs_check.specs.Findings.{IsFinding, RulesOut}
-use Rattle.mcs_proof_text.specs.Proofs.{IsRight, IsAnswered}
+use Rattle.mcs_check.specs.Findings.{IsReportFinding, RulesOut}
+use Rattle.mcs_proof_text.specs.Proofs.{HasAcceptedCertificate, IsAnswered}
 use Rattle.mcs_check.specs.Validity.{IsNeeded, DifferFirst, AreComplete, ValidReportsFailNothing}
 use Rattle.mcs_check.specs.declared.finding.Reason.{Reason}
 use Rattle.mcs_check.specs.declared.finding.Reason.TheVariants.{Grammar, Certificate, Missing, Listing}
@@ -49,7 +49,7 @@ free_listing (line ∷ lines) (free, rest) = (free, at rest (free_listing lines)
 -- ---- what is found of a text that spells this report
 module _ (m : System) (listing : List (List ℕ)) (answers : List Answer) where
   pub record ValidHere : Type 0 where
-    pub right : AllByRecursion (IsRight m) answers
+    pub right : AllByRecursion (HasAcceptedCertificate m) answers
     pub complete : AreComplete m answers
     pub same : IsWholeListing m (text_of_lines listing)
 
@@ -57,12 +57,12 @@ module _ (m : System) (listing : List (List ℕ)) (answers : List Answer) where
     pub number : ℕ
     pub answer : Answer
     pub is_it : slice_get answers number ≡ Some answer
-    pub wrong : ¬ IsRight m answer
-    pub before : AllByRecursion (IsRight m) (take number answers)
+    pub wrong : ¬ HasAcceptedCertificate m answer
+    pub before : AllByRecursion (HasAcceptedCertificate m) (take number answers)
     pub line_is : line ≡ length listing + 1 + length (flat_map (answer_lines m) (take number answers)) + 1
 
   pub record LackHere (line : ℕ) : Type 0 where
-    pub right : AllByRecursion (IsRight m) answers
+    pub right : AllByRecursion (HasAcceptedCertificate m) answers
     pub context : ℕ
     pub active : ℕ
     pub needed : IsNeeded m context active
@@ -70,7 +70,7 @@ module _ (m : System) (listing : List (List ℕ)) (answers : List Answer) where
     pub line_is : line ≡ length (report_lines m listing answers)
 
   pub record OtherHere (line : ℕ) : Type 0 where
-    pub right : AllByRecursion (IsRight m) answers
+    pub right : AllByRecursion (HasAcceptedCertificate m) answers
     pub complete : AreComplete m answers
     pub due : List (List ℕ)
     pub free : AllByRecursion IsLineFeedFree due
@@ -84,16 +84,16 @@ module _ (m : System) (listing : List (List ℕ)) (answers : List Answer) where
   FoundHere (Fails line Missing) = LackHere line
   FoundHere (Fails line Listing) = OtherHere line
 
-  all_right : (line : ℕ) → AllByRecursion (IsRight m) answers → WrongHere line → ⊥
-  all_right line right h = h.wrong (all_get (IsRight m) answers h.number h.answer right h.is_it)
+  all_right : (line : ℕ) → AllByRecursion (HasAcceptedCertificate m) answers → WrongHere line → ⊥
+  all_right line right h = h.wrong (all_get (HasAcceptedCertificate m) answers h.number h.answer right h.is_it)
 
   same_lines : (xs ys : List (List ℕ)) → AllByRecursion IsLineFeedFree xs → AllByRecursion IsLineFeedFree ys → IsWholeListing m (text_of_lines xs) → IsWholeListing m (text_of_lines ys) → xs ≡ ys
   same_lines xs ys free free' w w' = sym (text_lines xs free).0 ∙ ap complete_lines (whole_is_one m _ _ w w') ∙ (text_lines ys free').0
 
   wrong_once : (j k : ℕ) → WrongHere j → WrongHere k → j ≡ k
   wrong_once j k h g =
-      let same = one_of_two (λ n. (a : Answer) × (slice_get answers n ≡ Some a) × (¬ IsRight m a) × AllByRecursion (IsRight m) (take n answers)) h.number g.number (h.answer, h.is_it, h.wrong, h.before) (g.answer, g.is_it, g.wrong, g.before)
-      (λ a b (x, is, wrong, before) (y, is', wrong', before') less. wrong (all_get (IsRight m) (take b answers) a x before' (slice_get-take b answers a less ∙ is))) in
+      let same = one_of_two (λ n. (a : Answer) × (slice_get answers n ≡ Some a) × (¬ HasAcceptedCertificate m a) × AllByRecursion (HasAcceptedCertificate m) (take n answers)) h.number g.number (h.answer, h.is_it, h.wrong, h.before) (g.answer, g.is_it, g.wrong, g.before)
+      (λ a b (x, is, wrong, before) (y, is', wrong', before') less. wrong (all_get (HasAcceptedCertificate m) (take b answers) a x before' (slice_get-take b answers a less ∙ is))) in
       h.line_is ∙ ap (λ (n : ℕ). length listing + 1 + length (flat_map (answer_lines m) (take n answers)) + 1) same ∙ sym g.line_is
 
   module _ (free : AllByRecursion IsLineFeedFree listing) where
@@ -145,12 +145,12 @@ SpellsOnce m bytes = (l k : List (List ℕ)) (as' bs : List Answer) → SpellsRe
 
 module _ (m : System) (bytes : List ℕ) where
   IsFault : Finding → Type 0
-  IsFault f = (line : ℕ) × (f ≡ Fails line Grammar) × IsFirstFault m bytes line
+  IsFault f = (line : ℕ) × (f ≡ Fails line Grammar) × IsFirstLineFault m bytes line
 
   IsOfReport : Finding → Type 0
   IsOfReport f = (listing : List (List ℕ)) × (answers : List Answer) × SpellsReport m bytes listing answers × FoundHere m listing answers f
 
-  sorted : (f : Finding) → IsFinding m bytes f → IsFault f ⊎ IsOfReport f
+  sorted : (f : Finding) → IsReportFinding m bytes f → IsFault f ⊎ IsOfReport f
   unfolding IsFault IsOfReport
   sorted Valid h = inr (h.listing, h.answers, h.spelled, record { right = h.right; complete = h.complete; same = h.same })
   sorted (Fails line Grammar) h = inl (line, refl, h)
@@ -168,19 +168,19 @@ module _ (m : System) (bytes : List ℕ) where
       found_once m l as' (free_listing l spelled.report.listing_part) f g found
       (subst (λ (ls : List (List ℕ)). FoundHere m ls as' g) same.0 (subst (λ (cs : List Answer). FoundHere m l' cs g) same.1 found'))
 
-  pub one_finding : SpellsOnce m bytes → (f g : Finding) → IsFinding m bytes f → IsFinding m bytes g → f ≡ g
+  pub one_finding : SpellsOnce m bytes → (f g : Finding) → IsReportFinding m bytes f → IsReportFinding m bytes g → f ≡ g
   one_finding plain f g h k = one_by_kind plain f g (sorted f h) (sorted g k)
 
   not_both : (line : ℕ) (reason : Reason) → ◌≡◌ {A = Finding} Valid (Fails line reason) → ⊥
   not_both line reason e = cc
 
   -- what is found rules out the rest
-  pub rules_out : SpellsOnce m bytes → (f : Finding) → IsFinding m bytes f → RulesOut m bytes f
+  pub rules_out : SpellsOnce m bytes → (f : Finding) → IsReportFinding m bytes f → RulesOut m bytes f
   rules_out plain Valid h = λ line reason fails. not_both line reason (one_finding plain Valid (Fails line reason) h fails)
   rules_out plain (Fails line reason) h = λ valid. not_both line reason (one_finding plain Valid (Fails line reason) valid h)
 
 -- the same of what was answered
-pub only_finding : (m : System) → IsValid m → IsNamed m → (bytes : List ℕ) (r : Result Finding Memory) → IfOk r (IsFinding m bytes) → IfOk r (RulesOut m bytes)
+pub only_finding : (m : System) → IsValid m → IsSystemNamed m → (bytes : List ℕ) (r : Result Finding Memory) → IfOk r (IsReportFinding m bytes) → IfOk r (RulesOut m bytes)
 only_finding m valid named bytes (Ok f) h = rules_out m bytes (spelled_once m valid named bytes) f h
 only_finding m valid named bytes (Err e) h = tt
 

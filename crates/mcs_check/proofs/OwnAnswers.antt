@@ -16,12 +16,12 @@ use Rattle.mcs_system.specs.Faults.{IsValid}
 use Rattle.mcs_system.specs.Plain.{System}
 use Rattle.mcs_system.specs.Systems.{IsAcceptedPart}
 use Rattle.mcs_states.specs.Oracles.{OracleState}
-use Rattle.mcs_check.specs.Certified.{AreRight, AreInOrder, sets_of}
+use Rattle.mcs_check.specs.Certified.{AreAcceptedAnswers, AreAscendingSets, sets_of}
 use Rattle.mcs_asking.proofs.AnswerLemmas.{accepted_right}
 use Rattle.mcs_proof_text.specs.Answers.{Answer}
 use Rattle.mcs_proof_text.specs.Reports.{AnswerBefore}
-use Rattle.mcs_proof_text.specs.Proofs.{IsRight, IsAnswered}
-use Rattle.mcs_check.specs.Answers.{Answered, answered, answered_by, is_of, answers_to, sets_to, oracle_for, oracles_for}
+use Rattle.mcs_proof_text.specs.Proofs.{HasAcceptedCertificate, IsAnswered}
+use Rattle.mcs_check.specs.Answers.{CheckedAnswer, answered, answered_by, is_of, answers_to, sets_to, oracle_for, oracles_for}
 
 -- ---- which are of the context
 of_context : (i : ℕ) (a : Answer) → is_of i a ≡ true → a.context ≡ i
@@ -32,21 +32,21 @@ is_of_it i a e = grind (arith, nat_tests)
 
 -- ---- what holds of them
 module _ (m : System) (i : ℕ) (answers : List Answer) where
-  IsListed : Answered → Type 0
+  IsListed : CheckedAnswer → Type 0
   IsListed a = IsListing (IsAcceptedPart m i a.active) StateBefore a.outputs
 
-  own_listed : IsValid m → AllByRecursion (IsRight m) answers → AllByRecursion IsListed (answers_to i answers)
+  own_listed : IsValid m → AllByRecursion (HasAcceptedCertificate m) answers → AllByRecursion IsListed (answers_to i answers)
   unfolding IsListed
   own_listed valid right = all_from_among IsListed (answers_to i answers) (λ y among.
       let (a, is_there, same) = map_among answered_by y (filter (is_of i) answers) among in
       let (there, test) = filter_among (is_of i) a answers is_there in
-      let shown = accepted_right m a.context a.active a.outputs a.cert valid (all_among (IsRight m) answers a right there) in
+      let shown = accepted_right m a.context a.active a.outputs a.cert valid (all_among (HasAcceptedCertificate m) answers a right there) in
       subst IsListed (sym same) (subst (λ (j : ℕ). IsListing (IsAcceptedPart m j a.active) StateBefore a.outputs) (of_context i a test) shown))
 
   own_ascending : IsAscending AnswerBefore answers → IsAscending (λ a b. a < b) (sets_to i answers)
   own_ascending up =
-      ascending_map (λ (a b : Answered). a.active < b.active) (λ (a : Answered). a.active) (λ (a b : ℕ). a < b) (λ x y less. less) (answers_to i answers)
-      (ascending_map (λ (a b : Answer). a.active < b.active) answered_by (λ (a b : Answered). a.active < b.active) (λ x y less. less) (filter (is_of i) answers)
+      ascending_map (λ (a b : CheckedAnswer). a.active < b.active) (λ (a : CheckedAnswer). a.active) (λ (a b : ℕ). a < b) (λ x y less. less) (answers_to i answers)
+      (ascending_map (λ (a b : Answer). a.active < b.active) answered_by (λ (a b : CheckedAnswer). a.active < b.active) (λ x y less. less) (filter (is_of i) answers)
       (ascending_as AnswerBefore (λ (a b : Answer). a.active < b.active) (filter (is_of i) answers) later (ascending_filter AnswerBefore (is_of i) answers up)))
     where
       later : (x y : Answer) → IsAmong x (filter (is_of i) answers) → IsAmong y (filter (is_of i) answers) → AnswerBefore x y → x.active < y.active
@@ -58,26 +58,26 @@ module _ (m : System) (i : ℕ) (answers : List Answer) where
 
   module _ (own : List (ℕ × Vec ℕ Global)) (are : map answered own ≡ answers_to i answers) where
     pub own_sets : sets_of own ≡ sets_to i answers
-    own_sets = sym (map-map (λ (a : Answered). a.active) answered own) ∙ ap (map (λ (a : Answered). a.active)) are
+    own_sets = sym (map-map (λ (a : CheckedAnswer). a.active) answered own) ∙ ap (map (λ (a : CheckedAnswer). a.active)) are
 
-    pub own_right : IsValid m → AllByRecursion (IsRight m) answers → AreRight m i own
+    pub own_right : IsValid m → AllByRecursion (HasAcceptedCertificate m) answers → AreAcceptedAnswers m i own
     unfolding IsListed
     own_right valid right = all_from_map IsListed answered own (subst (AllByRecursion IsListed) (sym are) (own_listed valid right))
 
-    pub own_in_order : IsAscending AnswerBefore answers → AreInOrder own
+    pub own_in_order : IsAscending AnswerBefore answers → AreAscendingSets own
     own_in_order up = subst (IsAscending (λ a b. a < b)) (sym own_sets) (own_ascending up)
 
   -- ---- which questions are answered
   pub set_answered : (x : ℕ) → IsAmong x (sets_to i answers) → IsAnswered answers i x
   set_answered x among =
-      let (b, there, same) = map_among (λ (a : Answered). a.active) x (answers_to i answers) among in
+      let (b, there, same) = map_among (λ (a : CheckedAnswer). a.active) x (answers_to i answers) among in
       let (a, is_there, e) = map_among answered_by b (filter (is_of i) answers) there in
       let (here, test) = filter_among (is_of i) a answers is_there in
-      (a, here, of_context i a test, sym (same ∙ ap (λ (z : Answered). z.active) e))
+      (a, here, of_context i a test, sym (same ∙ ap (λ (z : CheckedAnswer). z.active) e))
 
   pub answered_set : (x : ℕ) → IsAnswered answers i x → IsAmong x (sets_to i answers)
   answered_set x (a, here, e, same) = subst (λ (y : ℕ). IsAmong y (sets_to i answers)) same
-      (among_map (λ (b : Answered). b.active) (answered_by a) (answers_to i answers) (among_map answered_by a (filter (is_of i) answers) (among_filter (is_of i) a answers here (is_of_it i a e))))
+      (among_map (λ (b : CheckedAnswer). b.active) (answered_by a) (answers_to i answers) (among_map answered_by a (filter (is_of i) answers) (among_filter (is_of i) a answers here (is_of_it i a e))))
 
 -- ---- the oracles
 module _ (m : System) (answers : List Answer) where

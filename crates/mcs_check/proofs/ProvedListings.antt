@@ -10,7 +10,7 @@ use Rattle.mcs_system.specs.Plain.{System}
 use Rattle.mcs_report.specs.Solutions.{IsWholeListing}
 use Rattle.mcs_proof_text.specs.Lines.{with_feed, text_of_lines}
 use Rattle.mcs_proof_text.specs.Answers.{Answer, answer_lines}
-use Rattle.mcs_proof_text.specs.Proofs.{IsRight, proof_lines}
+use Rattle.mcs_proof_text.specs.Proofs.{HasAcceptedCertificate, proof_lines}
 use Rattle.mcs_proof_text.specs.Shapes.{IsInShape}
 use Rattle.mcs_proof_text.proofs.LineLemmas.{lines_few}
 use Rattle.mcs_proof_text.proofs.ListingParts.{listing_parts}
@@ -43,7 +43,7 @@ proved_listings_valid m n text valid named small justified short p =
     let (lines, part, is) = listing_parts m p.listing named p.whole in
     let shape : (a : Answer) → IsAmong a p.answers → IsInShape m a = λ a among. (
     let (order, is_order, question) = ((p.proof.questions a.context a.active).0 (a, among, refl, refl)).1 in
-    right_shape m n a valid small justified question.of_rules (omega (arith, lines_within m p.answers a among, short, long, both)) (all_among (IsRight m) p.answers a p.proof.right among)) in
+    right_shape m n a valid small justified question.of_rules (omega (arith, lines_within m p.answers a among, short, long, both)) (all_among (HasAcceptedCertificate m) p.answers a p.proof.right among)) in
     record {
       listing = lines;
       answers = p.answers;

@@ -8,7 +8,7 @@ use Rattle.mcs_system.specs.Plain.{System}
 use Rattle.mcs_system.specs.Systems.{IsConsistent}
 use Rattle.mcs_states.specs.Oracles.{OracleState, Lacks}
 use Rattle.mcs_states.specs.Evaluators.{EvaluatorState}
-use Rattle.mcs_mesh.specs.Rounds.{state_of, AreFresh}
+use Rattle.mcs_mesh.specs.Rounds.{evaluator_state_of, AreFresh}
 use Rattle.mcs_mesh.proofs.General.{question_higher}
 use Rattle.mcs_ports.specs.Pieces.{Device}
 use Rattle.mcs_report.specs.Solutions.{IsWholeListing}
@@ -48,7 +48,7 @@ needed_of m level i x less taken question = elim (decided_always m) [
 
 -- ---- what the work tells of the oracles
 abbrev pub start_of : System → List OracleState → EvaluatorState
-start_of m os = state_of m 4294967295 None None os
+start_of m os = evaluator_state_of m 4294967295 None None os
 
 module _ (m : System) (os : List OracleState) (each : length os ≡ length m.contexts) (e : EvaluatorState) where
   pub told_listing : (text : List ℕ) → IsDone Solve [] (start_of m os) e (Some []) (Some text) → IsWholeListing m text × HoldAll m os

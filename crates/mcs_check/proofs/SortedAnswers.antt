@@ -10,9 +10,9 @@ use Rattle.mcs_base.proofs.Each.{all_get}
 use Rattle.mcs_base.proofs.Written.{slice_get_set, slice_get-set_other}
 use Rattle.mcs_system.specs.Plain.{System}
 use Rattle.mcs_proof_text.specs.Answers.{Answer, answer_lines}
-use Rattle.mcs_proof_text.specs.Proofs.{IsRight}
-use Rattle.mcs_check.specs.Answers.{Answered, answered, answered_by, is_of, answers_to}
-use Rattle.mcs_check.specs.Judging.{IsJudged, AreJudged, told, judged_to, AreSorted}
+use Rattle.mcs_proof_text.specs.Proofs.{HasAcceptedCertificate}
+use Rattle.mcs_check.specs.Answers.{CheckedAnswer, answered, answered_by, is_of, answers_to}
+use Rattle.mcs_check.specs.Judging.{IsAnswerJudged, AreJudged, told, judged_to, AreSorted}
 use Rattle.mcs_check.specs.declared.judging.Judged as code
 
 abbrev Own : Type 0
@@ -48,14 +48,14 @@ put_sorted n before lists old new one j was more same h = record {
         let it : own ≡ new = slice_get_set lists j.context new own (subst (λ (k : ℕ). slice_get (set lists j.context new) k ≡ Some own) here is) in
         ap (λ (o : Own). map answered o.items) it
         ∙ (ap (map answered) more ∙ (map-append answered old.items (one ∷ [])
-        ∙ (ap (λ (os : List Answered). os ++ answered one ∷ []) (h.own i old (ap (slice_get lists) here ∙ was)) ∙ (ap (λ (o : Answered). judged_to i before ++ o ∷ []) same ∙ sym (one_more i before j (sym here)))))))
+        ∙ (ap (λ (os : List CheckedAnswer). os ++ answered one ∷ []) (h.own i old (ap (slice_get lists) here ∙ was)) ∙ (ap (λ (o : CheckedAnswer). judged_to i before ++ o ∷ []) same ∙ sym (one_more i before j (sym here)))))))
     | inr other ↦ h.own i own (sym (slice_get-set_other lists j.context i new other) ∙ is) ∙ sym (none_more i before j other)
   ];
 }
 
 -- ---- they are the answers
-told_same : (m : System) (a : Answer) (line : ℕ) (j : code.Judged) → IsJudged m a line j → told j ≡ answered_by a
-told_same m a line j h = ap (λ (x : ℕ). (let r : Answered = record { active = x; outputs = j.outputs.items } in r)) h.active ∙ ap (λ (xs : List ℕ). (let r : Answered = record { active = a.active; outputs = xs } in r)) h.outputs
+told_same : (m : System) (a : Answer) (line : ℕ) (j : code.Judged) → IsAnswerJudged m a line j → told j ≡ answered_by a
+told_same m a line j h = ap (λ (x : ℕ). (let r : CheckedAnswer = record { active = x; outputs = j.outputs.items } in r)) h.active ∙ ap (λ (xs : List ℕ). (let r : CheckedAnswer = record { active = a.active; outputs = xs } in r)) h.outputs
 
 pub same_answers : (m : System) (i n : ℕ) (answers : List Answer) (judged : List code.Judged) → AreJudged m n answers judged → judged_to i judged ≡ answers_to i answers
 same_answers m i n [] [] are = refl
@@ -66,11 +66,11 @@ same_answers m i n (a ∷ answers) (j ∷ judged) are =
     ∙ by (nat_eq a.context i) (same_answers m i (n + length (answer_lines m a)) answers judged are.1)
   where
     by : (b : Bool) → judged_to i judged ≡ answers_to i answers → map told (cond b (j ∷ filter (λ (k : code.Judged). nat_eq k.context i) judged) (filter (λ (k : code.Judged). nat_eq k.context i) judged)) ≡ map answered_by (cond b (a ∷ filter (is_of i) answers) (filter (is_of i) answers))
-    by true rest = ap (λ (o : Answered). o ∷ judged_to i judged) (told_same m a n j are.0) ∙ ap (λ (os : List Answered). answered_by a ∷ os) rest
+    by true rest = ap (λ (o : CheckedAnswer). o ∷ judged_to i judged) (told_same m a n j are.0) ∙ ap (λ (os : List CheckedAnswer). answered_by a ∷ os) rest
     by false rest = rest
 
 -- each is to a question of a context of the system
-pub all_within : (m : System) (n contexts : ℕ) (answers : List Answer) (judged : List code.Judged) → contexts ≡ length m.contexts → AreJudged m n answers judged → AllByRecursion (IsRight m) answers → AllByRecursion (λ (j : code.Judged). j.context < contexts) judged
+pub all_within : (m : System) (n contexts : ℕ) (answers : List Answer) (judged : List code.Judged) → contexts ≡ length m.contexts → AreJudged m n answers judged → AllByRecursion (HasAcceptedCertificate m) answers → AllByRecursion (λ (j : code.Judged). j.context < contexts) judged
 all_within m n contexts [] [] many are right = tt
 all_within m n contexts [] (j ∷ judged) many are right = absurd are
 all_within m n contexts (a ∷ answers) [] many are right = absurd are

@@ -19,21 +19,21 @@ abbrev pub sets_of : {B : Type 0} → List (ℕ × B) → List ℕ
 sets_of answers = map (λ a. a.0) answers
 
 -- each answer is the listing of what the context accepts with the heads of the rules of its set
-abbrev pub AreRight : System → ℕ → List (ℕ × Vec ℕ Global) → Type 0
-AreRight m i answers = AllByRecursion (λ a. IsListing (IsAcceptedPart m i a.0) StateBefore a.1.items) answers
+abbrev pub AreAcceptedAnswers : System → ℕ → List (ℕ × Vec ℕ Global) → Type 0
+AreAcceptedAnswers m i answers = AllByRecursion (λ a. IsListing (IsAcceptedPart m i a.0) StateBefore a.1.items) answers
 
 -- the sets ascend, so that none stands twice
-abbrev pub AreInOrder : {B : Type 0} → List (ℕ × B) → Type 0
-AreInOrder answers = IsAscending (λ a b. a < b) (sets_of answers)
+abbrev pub AreAscendingSets : {B : Type 0} → List (ℕ × B) → Type 0
+AreAscendingSets answers = IsAscending (λ a b. a < b) (sets_of answers)
 
 -- ---- finding an answer
 -- the set of the answer is less than this one
-abbrev pub is_before : {B : Type 0} → ℕ → ℕ × B → Bool
-is_before x a = is_lt (nat_cmp a.0 x)
+abbrev pub is_set_before : {B : Type 0} → ℕ → ℕ × B → Bool
+is_set_before x a = is_lt (nat_cmp a.0 x)
 
 -- so many of the answers, and no more, are for sets before this one
-abbrev pub EndsAt : {B : Type 0} → ℕ → List (ℕ × B) → ℕ → Type 0
-EndsAt x answers n = IsPartitionPoint (λ a. is_before x a ≡ true) (λ a. is_before x a ≡ false) answers n
+abbrev pub SetsEndAt : {B : Type 0} → ℕ → List (ℕ × B) → ℕ → Type 0
+SetsEndAt x answers n = IsPartitionPoint (λ a. is_set_before x a ≡ true) (λ a. is_set_before x a ≡ false) answers n
 
 -- these states are the answer for this set
 abbrev pub HasAnswer : List (ℕ × Vec ℕ Global) → ℕ → List ℕ → Type 0

@@ -9,9 +9,9 @@ use Rattle.mcs_check.specs.declared.finding.Finding.TheVariants.{Valid, Fails}
 use Rattle.mcs_check.specs.Validity.{IsValidReport, IsFailure}
 
 -- the report is valid, or fails a test
-abbrev pub IsFinding : System → List ℕ → Finding → Type 0
-IsFinding m bytes Valid = IsValidReport m bytes
-IsFinding m bytes (Fails line reason) = IsFailure m bytes line reason
+abbrev pub IsReportFinding : System → List ℕ → Finding → Type 0
+IsReportFinding m bytes Valid = IsValidReport m bytes
+IsReportFinding m bytes (Fails line reason) = IsFailure m bytes line reason
 
 -- what is found rules out the rest: a valid report fails no test, and one that fails a test is not valid
 abbrev pub RulesOut : System → List ℕ → Finding → Type 0

@@ -5,28 +5,28 @@ use Rattle.std.specs.declared.alloc.Global.{Global}
 use Rattle.mcs_base.specs.Listings.{IsAscending}
 use Rattle.mcs_system.specs.Plain.{System}
 use Rattle.mcs_proof_text.specs.Answers.{Answer}
-use Rattle.mcs_proof_text.specs.Proofs.{IsRight}
+use Rattle.mcs_proof_text.specs.Proofs.{HasAcceptedCertificate}
 use Rattle.mcs_proof_text.specs.Reports.{AnswerBefore}
-use Rattle.mcs_proof_reader.specs.Keeping.{AreKept, IsKeptReport}
+use Rattle.mcs_proof_reader.specs.Keeping.{EachIsKept, IsKeptReport}
 use Rattle.mcs_proof_reader.specs.declared.report.KeptReport as reports
 use Rattle.mcs_check.specs.declared.judging.Judged as code
-use Rattle.mcs_check.specs.Answers.{Answered, answered}
+use Rattle.mcs_check.specs.Answers.{CheckedAnswer, answered}
 
 -- it stands for this answer, which begins at this line
-pub record IsJudged (m : System) (a : Answer) (line : ℕ) (j : code.Judged) : Type 0 where
+pub record IsAnswerJudged (m : System) (a : Answer) (line : ℕ) (j : code.Judged) : Type 0 where
   pub begins : j.line ≡ line
   pub context : j.context ≡ a.context
   pub active : j.active ≡ a.active
   pub outputs : j.outputs.items ≡ a.outputs
-  pub right : IsTrue j.is_right ↔ IsRight m a
+  pub right : IsTrue j.is_right ↔ HasAcceptedCertificate m a
 
 -- they stand for these answers, the first of which begins at this line
 abbrev pub AreJudged : System → ℕ → List Answer → List code.Judged → Type 0
-AreJudged m n answers judged = AreKept IsJudged m n answers judged
+AreJudged m n answers judged = EachIsKept IsAnswerJudged m n answers judged
 
 -- it stands for the report that the bytes spell
 abbrev pub IsJudgedReport : System → List ℕ → reports.KeptReport code.Judged → Type 0
-IsJudgedReport m bytes r = IsKeptReport IsJudged m bytes (map (λ l. l.items) r.listing.items) r.answers.items r.last_line
+IsJudgedReport m bytes r = IsKeptReport IsAnswerJudged m bytes (map (λ l. l.items) r.listing.items) r.answers.items r.last_line
 
 -- the first of them that is not right begins at this line
 pub record IsFirstWrong (judged : List code.Judged) (line : ℕ) : Type 0 where
@@ -42,14 +42,14 @@ pub record AreAllRight (m : System) (judged : List code.Judged) : Type 0 where
   pub first_line : ℕ
   pub answers : List Answer
   pub stand_for : AreJudged m first_line answers judged
-  pub right : AllByRecursion (IsRight m) answers
+  pub right : AllByRecursion (HasAcceptedCertificate m) answers
   pub ascending : IsAscending AnswerBefore answers
 
 -- those to questions of one context
-abbrev pub told : code.Judged → Answered
+abbrev pub told : code.Judged → CheckedAnswer
 told j = record { active = j.active; outputs = j.outputs.items }
 
-abbrev pub judged_to : ℕ → List code.Judged → List Answered
+abbrev pub judged_to : ℕ → List code.Judged → List CheckedAnswer
 judged_to i judged = map told (filter (λ j. nat_eq j.context i) judged)
 
 -- lists, one for each of so many contexts, that hold the answers to its questions

@@ -3,14 +3,14 @@ use Rattle.std.specs.Prelude.{◌≡◌, ℕ, ◌+◌, ◌^◌, ◌<◌, ◌≤�
 use Rattle.std.specs.List.{AllByRecursion, flat_map}
 use Rattle.mcs_system.specs.Plain.{System}
 use Rattle.mcs_system.specs.Faults.{IsValid}
-use Rattle.mcs_system.specs.Naming.{IsNamed}
+use Rattle.mcs_system.specs.Naming.{IsSystemNamed}
 use Rattle.mcs_system.specs.Justifications.{SystemIsJustifiedUpTo}
 use Rattle.mcs_system.specs.Levels.{IsQuestionAt}
 use Rattle.mcs_report.specs.Solutions.{IsWholeListing}
 use Rattle.mcs_proof_text.specs.Lines.{text_of_lines}
 use Rattle.mcs_proof_text.specs.Answers.{Answer, answer_lines}
-use Rattle.mcs_proof_text.specs.Reports.{SpellsReport, IsFirstFault, IsLineFeedFree, report_lines, most_report_bytes}
-use Rattle.mcs_proof_text.specs.Proofs.{AreProof, IsAnswered, IsRight, proof_lines}
+use Rattle.mcs_proof_text.specs.Reports.{SpellsReport, IsFirstLineFault, IsLineFeedFree, report_lines, most_report_bytes}
+use Rattle.mcs_proof_text.specs.Proofs.{AreProof, IsAnswered, HasAcceptedCertificate, proof_lines}
 use Rattle.mcs_work.specs.Tasks.{IsLastTaken}
 use Rattle.mcs_work.specs.declared.task.Task.TheVariants.{Solve}
 use Rattle.mcs_check.specs.declared.finding.Reason.{Reason}
@@ -30,7 +30,7 @@ pub record IsValidReport (m : System) (bytes : List ℕ) : Type 0 where
   pub listing : List (List ℕ)
   pub answers : List Answer
   pub spelled : SpellsReport m bytes listing answers
-  pub right : AllByRecursion (IsRight m) answers
+  pub right : AllByRecursion (HasAcceptedCertificate m) answers
   pub complete : AreComplete m answers
   pub same : IsWholeListing m (text_of_lines listing)
 
@@ -42,8 +42,8 @@ pub record HasWrongAnswer (m : System) (bytes : List ℕ) (line : ℕ) : Type 0 
   pub number : ℕ
   pub answer : Answer
   pub is_it : slice_get answers number ≡ Some answer
-  pub wrong : ¬ IsRight m answer
-  pub before : AllByRecursion (IsRight m) (take number answers)
+  pub wrong : ¬ HasAcceptedCertificate m answer
+  pub before : AllByRecursion (HasAcceptedCertificate m) (take number answers)
   -- the line of its question
   pub line_is : line ≡ length listing + 1 + length (flat_map (answer_lines m) (take number answers)) + 1
 
@@ -52,7 +52,7 @@ pub record LacksAnswer (m : System) (bytes : List ℕ) (line : ℕ) : Type 0 whe
   pub listing : List (List ℕ)
   pub answers : List Answer
   pub spelled : SpellsReport m bytes listing answers
-  pub right : AllByRecursion (IsRight m) answers
+  pub right : AllByRecursion (HasAcceptedCertificate m) answers
   pub context : ℕ
   pub active : ℕ
   pub needed : IsNeeded m context active
@@ -71,7 +71,7 @@ pub record HasOtherListing (m : System) (bytes : List ℕ) (line : ℕ) : Type 0
   pub listing : List (List ℕ)
   pub answers : List Answer
   pub spelled : SpellsReport m bytes listing answers
-  pub right : AllByRecursion (IsRight m) answers
+  pub right : AllByRecursion (HasAcceptedCertificate m) answers
   pub complete : AreComplete m answers
   pub due : List (List ℕ)
   pub free : AllByRecursion IsLineFeedFree due
@@ -80,7 +80,7 @@ pub record HasOtherListing (m : System) (bytes : List ℕ) (line : ℕ) : Type 0
 
 -- the first test that it fails, and the line that shows so
 abbrev pub IsFailure : System → List ℕ → ℕ → Reason → Type 0
-IsFailure m bytes line reasons.Grammar = IsFirstFault m bytes line
+IsFailure m bytes line reasons.Grammar = IsFirstLineFault m bytes line
 IsFailure m bytes line reasons.Certificate = HasWrongAnswer m bytes line
 IsFailure m bytes line reasons.Missing = LacksAnswer m bytes line
 IsFailure m bytes line reasons.Listing = HasOtherListing m bytes line
@@ -99,9 +99,9 @@ pub record IsProvedListing (m : System) (text : List ℕ) : Type 0 where
 -- ---- laws
 -- one that is no longer than a report is a valid report
 abbrev pub ProvedListingsAreValid : Type 0
-ProvedListingsAreValid = (m : System) (n : ℕ) (text : List ℕ) → IsValid m → IsNamed m → n < 2 ^ 32 → SystemIsJustifiedUpTo n m → length text ≤ most_report_bytes
+ProvedListingsAreValid = (m : System) (n : ℕ) (text : List ℕ) → IsValid m → IsSystemNamed m → n < 2 ^ 32 → SystemIsJustifiedUpTo n m → length text ≤ most_report_bytes
     → IsProvedListing m text → IsValidReport m text
 
 -- a valid report on a system that can be read fails no test
 abbrev pub ValidReportsFailNothing : Type 0
-ValidReportsFailNothing = (m : System) (bytes : List ℕ) (line : ℕ) (reason : Reason) → IsValid m → IsNamed m → IsValidReport m bytes → ¬ IsFailure m bytes line reason
+ValidReportsFailNothing = (m : System) (bytes : List ℕ) (line : ℕ) (reason : Reason) → IsValid m → IsSystemNamed m → IsValidReport m bytes → ¬ IsFailure m bytes line reason

@@ -4,7 +4,7 @@ ghost use Rattle.std.specs.Prelude.{◌≡◌, ◌<◌, ◌≤◌, [], length, I
 ghost use Rattle.std.specs.Arc.{arc_value};
 ghost use Rattle.mcs_base.specs.Listings.{IsAmong};
 ghost use Rattle.mcs_states.specs.declared.stop.OracleStop.TheVariants as stops;
-ghost use Rattle.mcs_check.specs.Certified.{certified_of, sets_of, AreRight, AreInOrder, EndsAt, HasAnswer};
+ghost use Rattle.mcs_check.specs.Certified.{certified_of, sets_of, AreAcceptedAnswers, AreAscendingSets, SetsEndAt, HasAnswer};
 
 use mcs_base::{Active, Vars};
 use mcs_states::{Oracle, OracleStop};
@@ -28,7 +28,7 @@ impl Model for CertifiedOracle {
     ghost use Rattle.std.specs.Arc.{arc_value};
     ghost use Rattle.mcs_states.specs.Oracles.{OracleState};
     ghost use Rattle.mcs_states.specs.Codes.{coded_oracle};
-    ghost use Rattle.mcs_check.specs.Certified.{certified_of, sets_of, AreRight, AreInOrder};
+    ghost use Rattle.mcs_check.specs.Certified.{certified_of, sets_of, AreAcceptedAnswers, AreAscendingSets};
 
     ghost Value = { OracleState };
 
@@ -36,21 +36,21 @@ impl Model for CertifiedOracle {
 
     ghost view = { λ s. certified_of (arc_value s.system) s.context (sets_of s.answers.items) s.journal.items };
 
-    ghost invariant = { λ s. (s.context < length (arc_value s.system).contexts) × AreRight (arc_value s.system) s.context s.answers.items × AreInOrder s.answers.items };
+    ghost invariant = { λ s. (s.context < length (arc_value s.system).contexts) × AreAcceptedAnswers (arc_value s.system) s.context s.answers.items × AreAscendingSets s.answers.items };
 }
 
 /// How many of the answers are for a set that comes before this one.
 fn place_of(answers: &[(Active, Vec<Vars>)], active: Active) -> usize
-    requires { AreInOrder answers.now }
+    requires { AreAscendingSets answers.now }
     ensures bound { result ≤ length answers.now }
-    ensures point { EndsAt active answers.now result }
+    ensures point { SetsEndAt active answers.now result }
 {
     answers.partition_point(|answer| answer.0 < active)
 }
 
 /// The answer for this set, if there is one.
 fn answer_for(answers: &[(Active, Vec<Vars>)], active: Active) -> Option<&[Vars]>
-    requires { AreInOrder answers.now }
+    requires { AreAscendingSets answers.now }
     ensures { MatchOption result (¬ IsAmong active (sets_of answers.now)) (λ states. HasAnswer answers.now active states.now) }
 {
     let place = place_of(answers, active);
@@ -66,7 +66,7 @@ fn answer_for(answers: &[(Active, Vec<Vars>)], active: Active) -> Option<&[Vars]
 
 /// The answer for this set, or `Missing` if there is none.
 fn held_answer(answers: &[(Active, Vec<Vars>)], active: Active) -> Result<&[Vars], OracleStop>
-    requires { AreInOrder answers.now }
+    requires { AreAscendingSets answers.now }
     ensures answer { IfOk result (λ states. HasAnswer answers.now active states.now) }
     ensures held { OnOk result (IsAmong active (sets_of answers.now)) }
     ensures missing { IfErr result (λ stop. (¬ IsAmong active (sets_of answers.now)) × (stop ≡ stops.Missing active)) }
@@ -88,8 +88,8 @@ impl CertifiedOracle {
         answers: Vec<(Active, Vec<Vars>)>,
     ) -> CertifiedOracle
         requires context { context < length (arc_value system).contexts }
-        requires right { AreRight (arc_value system) context answers.items }
-        requires ascending { AreInOrder answers.items }
+        requires right { AreAcceptedAnswers (arc_value system) context answers.items }
+        requires ascending { AreAscendingSets answers.items }
         ensures { result ≡ certified_of (arc_value system) context (sets_of answers.items) [] }
     {
         CertifiedOracle {

@@ -7,7 +7,7 @@ ghost use Rattle.mcs_report.specs.Solutions.{IsWholeListing};
 ghost use Rattle.mcs_proof_text.specs.Answers.{Answer};
 ghost use Rattle.mcs_proof_text.specs.Reports.{SpellsReport};
 ghost use Rattle.mcs_check.specs.Answers.{AreEnough};
-ghost use Rattle.mcs_check.specs.Findings.{IsFinding, RulesOut};
+ghost use Rattle.mcs_check.specs.Findings.{IsReportFinding, RulesOut};
 ghost use Rattle.mcs_check.specs.Judging.{IsJudgedReport};
 
 use crate::finding::{Finding, Reason};
@@ -25,7 +25,7 @@ use std::sync::Arc;
 /// Checks the bytes as a report on the system: it is valid, or fails the first of four tests, with the number of the
 /// line that shows it. No search is done. `Memory` may be returned in place of a finding.
 pub fn check_report(alloc: Global, system: Arc<System>, bytes: &[u8]) -> Result<Finding, Memory>
-    ensures found { IfOk result (IsFinding (arc_value system) bytes.now) }
+    ensures found { IfOk result (IsReportFinding (arc_value system) bytes.now) }
     ensures only { IfOk result (RulesOut (arc_value system) bytes.now) }
 {
     // The contract of `contexts` ensures that the system is valid and its names are names, so a text spells at most one
@@ -37,7 +37,7 @@ pub fn check_report(alloc: Global, system: Arc<System>, bytes: &[u8]) -> Result<
 /// The finding on the bytes. Each answer is judged as soon as it was read, so that at most one certificate is held at a
 /// time.
 fn found_in(alloc: Global, system: Arc<System>, bytes: &[u8]) -> Result<Finding, Memory>
-    ensures { IfOk result (IsFinding (arc_value system) bytes.now) }
+    ensures { IfOk result (IsReportFinding (arc_value system) bytes.now) }
 {
     match read_kept(alloc, &system, bytes, &Judge) {
         Ok(report) => finding_of(alloc, system, report),
@@ -56,7 +56,7 @@ fn finding_of(
     report: KeptReport<Judged>,
 ) -> Result<Finding, Memory>
     requires { (bytes : List ℕ) × IsJudgedReport (arc_value system) bytes report }
-    ensures { (bytes : List ℕ) → IsJudgedReport (arc_value system) bytes report → IfOk result (IsFinding (arc_value system) bytes) }
+    ensures { (bytes : List ℕ) → IsJudgedReport (arc_value system) bytes report → IfOk result (IsReportFinding (arc_value system) bytes) }
 {
     if let Some(line) = first_wrong(&report.answers) {
         return Ok(Finding::Fails {
@@ -77,7 +77,7 @@ fn finding_of(
 /// The finding on a report with this listing that passes the other tests. `due` is the listing of the system.
 fn compared(listing: &[Vec<u8>], due: &[u8]) -> Finding
     ensures { (m : plain.System) (bytes : List ℕ) (as' : List Answer) → SpellsReport m bytes (map (λ l. l.items) listing.now) as' → AreEnough m as'
-        → IsWholeListing m due.now → IsFinding m bytes result }
+        → IsWholeListing m due.now → IsReportFinding m bytes result }
 {
     match first_difference(listing, due) {
         Some(line) => Finding::Fails {

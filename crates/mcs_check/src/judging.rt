@@ -3,8 +3,8 @@
 ghost use Rattle.std.specs.Prelude.{◌↔◌, IsTrue, IfOk, MatchOption};
 ghost use Rattle.std.specs.List.{AllByRecursion};
 ghost use Rattle.mcs_proof_text.specs.Shapes.{IsInShape};
-ghost use Rattle.mcs_proof_text.specs.Proofs.{IsRight};
-ghost use Rattle.mcs_proof_reader.specs.Readers.{answer_of};
+ghost use Rattle.mcs_proof_text.specs.Proofs.{HasAcceptedCertificate};
+ghost use Rattle.mcs_proof_reader.specs.Readers.{answer_in_report};
 ghost use Rattle.mcs_check.specs.Judging.{IsFirstWrong};
 
 use mcs_base::{Active, Memory, Vars};
@@ -26,8 +26,8 @@ pub(crate) struct Judged {
 
 /// Whether the certificate of the answer is accepted.
 fn is_right(alloc: Global, system: &System, answer: &ReportAnswer) -> Result<bool, Memory>
-    requires { IsInShape system.now (answer_of answer.now) }
-    ensures { IfOk result (λ yes. IsTrue yes ↔ IsRight system.now (answer_of answer.now)) }
+    requires { IsInShape system.now (answer_in_report answer.now) }
+    ensures { IfOk result (λ yes. IsTrue yes ↔ HasAcceptedCertificate system.now (answer_in_report answer.now)) }
 {
     accepts(
         alloc,
@@ -43,11 +43,11 @@ fn is_right(alloc: Global, system: &System, answer: &ReportAnswer) -> Result<boo
 pub(crate) struct Judge;
 
 impl Keep for Judge {
-    ghost use Rattle.mcs_check.specs.Judging.{IsJudged};
+    ghost use Rattle.mcs_check.specs.Judging.{IsAnswerJudged};
 
     type Kept = Judged;
 
-    ghost Keeps = { IsJudged };
+    ghost Keeps = { IsAnswerJudged };
 
     fn keep(&self, alloc: Global, system: &System, answer: ReportAnswer) -> Result<Judged, Memory> {
         let judged = is_right(alloc, system, &answer);

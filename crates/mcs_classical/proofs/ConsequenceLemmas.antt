@@ -21,7 +21,7 @@ use Rattle.mcs_system.proofs.Consequence.{each_holds, member_follows}
 use Rattle.mcs_cnf.specs.ClauseLists.{IsOver, AreOver}
 use Rattle.mcs_cnf.specs.Entailments.{IsRefuted}
 use Rattle.mcs_classical.specs.Assumptions.{assumed, HoldsAt}
-use Rattle.mcs_classical.specs.Consequences.{with_assumed, holds_there, holds_goal, FollowsAt, DoFollow, NoOthersFollow, IsLower, IsUpper, IsTold, IsAnswer, is_one_of, stands_at}
+use Rattle.mcs_classical.specs.Consequences.{with_assumed, holds_there, holds_goal, FollowsAt, DoFollow, NoOthersFollow, IsLowerConsequence, IsUpperConsequence, AreGoalsTold, IsGoalAnswer, is_one_of, stands_at}
 use Rattle.mcs_classical.specs.declared.assumptions.Assumption.{Assumption}
 use Rattle.mcs_classical.specs.declared.bounds.Lower.{Lower}
 use Rattle.mcs_classical.specs.declared.bounds.Upper.{Upper}
@@ -86,17 +86,17 @@ pub entailed_none : (fs goals : List Formula) (places : ℕ) → places ≡ 0 �
 entailed_none fs goals places none k is = absurd (true≢false (sym is ∙ ap (λ (s : ℕ). has s k) none ∙ has-empty k))
 
 module _ (fs : List Formula) (xs : List Assumption) (goals : List Formula) (set places places' i : ℕ) where
-  pub entailed_more : (ls : List Lower) (l : Lower) → i < length ls → l ≡ get_or ls i l → Within l.assumed set → places' ≡ union places l.entailed → AllByRecursion (IsLower fs xs goals) ls
+  pub entailed_more : (ls : List Lower) (l : Lower) → i < length ls → l ≡ get_or ls i l → Within l.assumed set → places' ≡ union places l.entailed → AllByRecursion (IsLowerConsequence fs xs goals) ls
       → DoFollow (with_assumed fs xs set) goals places → DoFollow (with_assumed fs xs set) goals places'
   entailed_more ls l less is within next all before k member = elim (in_union places l.entailed k (ap (λ (s : ℕ). has s k) (sym next) ∙ member)) [
     | inl old ↦ before k old
-    | inr new ↦ follows_more fs xs l.assumed set within goals k (all_get (IsLower fs xs goals) ls i l all (slice_get_read ls (length ls) i l refl less is) k new)
+    | inr new ↦ follows_more fs xs l.assumed set within goals k (all_get (IsLowerConsequence fs xs goals) ls i l all (slice_get_read ls (length ls) i l refl less is) k new)
   ]
 
-  pub possible_fewer : (us : List Upper) (u : Upper) → i < length us → u ≡ get_or us i u → Within set u.assumed → places' ≡ common places u.possible → AllByRecursion (IsUpper fs xs goals) us
+  pub possible_fewer : (us : List Upper) (u : Upper) → i < length us → u ≡ get_or us i u → Within set u.assumed → places' ≡ common places u.possible → AllByRecursion (IsUpperConsequence fs xs goals) us
       → NoOthersFollow (with_assumed fs xs set) goals places → NoOthersFollow (with_assumed fs xs set) goals places'
   possible_fewer us u less is within next all before k follows =
-      let here : has u.possible k ≡ true = all_get (IsUpper fs xs goals) us i u all (slice_get_read us (length us) i u refl less is) k (follows_more fs xs set u.assumed within goals k follows) in
+      let here : has u.possible k ≡ true = all_get (IsUpperConsequence fs xs goals) us i u all (slice_get_read us (length us) i u refl less is) k (follows_more fs xs set u.assumed within goals k follows) in
       ap (λ (s : ℕ). has s k) next ∙ has-common_kept places u.possible k here ∙ before k follows
 
 -- the places of a list of goals
@@ -107,7 +107,7 @@ possible_all fs goals count places size is k (p, at, follows) =
     ap (λ (s : ℕ). has s k) is ∙ has-such_that count (λ _. true) k ∙ ap (λ (b : Bool). b && true) below
 
 -- ---- what is told before any goal is asked
-pub told_first : (fs goals : List Formula) (possible : ℕ) (t : Told) → DoFollow fs goals t.entailed → NoOthersFollow fs goals possible → t.left ≡ minus possible t.entailed → IsTold fs goals 0 t
+pub told_first : (fs goals : List Formula) (possible : ℕ) (t : Told) → DoFollow fs goals t.entailed → NoOthersFollow fs goals possible → t.left ≡ minus possible t.entailed → AreGoalsTold fs goals 0 t
 told_first fs goals possible t follow others left = record {
   follow = follow;
   others = λ k follows. at k (has t.entailed k) refl (others k follows);
@@ -124,7 +124,7 @@ either_off false b h = refl
 either_off true b (inl e) = absurd (true≢false e)
 either_off true b (inr e) = e
 
-pub told_follows : (fs goals : List Formula) (place : ℕ) (t t' : Told) → t'.entailed ≡ union t.entailed (single place) → t'.left ≡ minus t.left (single place) → FollowsAt fs goals place → IsTold fs goals place t → IsTold fs goals (place + 1) t'
+pub told_follows : (fs goals : List Formula) (place : ℕ) (t t' : Told) → t'.entailed ≡ union t.entailed (single place) → t'.left ≡ minus t.left (single place) → FollowsAt fs goals place → AreGoalsTold fs goals place t → AreGoalsTold fs goals (place + 1) t'
 told_follows fs goals place t t' entailed left answer told = record {
   follow = λ k is. elim ((in_with t.entailed place k).0 (ap (λ (s : ℕ). has s k) (sym entailed) ∙ is)) [
     | inl old ↦ told.follow k old
@@ -147,7 +147,7 @@ told_follows fs goals place t t' entailed left answer told = record {
       | inr differ ↦ has-minus t.left (single place) k ∙ rw (told.asked k (omega arith)) refl
     ]
 
-pub told_model : (fs goals : List Formula) (place possible : ℕ) (t t' : Told) → t'.entailed ≡ t.entailed → t'.left ≡ common t.left possible → NoOthersFollow fs goals possible × (has possible place ≡ false) → IsTold fs goals place t → IsTold fs goals (place + 1) t'
+pub told_model : (fs goals : List Formula) (place possible : ℕ) (t t' : Told) → t'.entailed ≡ t.entailed → t'.left ≡ common t.left possible → NoOthersFollow fs goals possible × (has possible place ≡ false) → AreGoalsTold fs goals place t → AreGoalsTold fs goals (place + 1) t'
 told_model fs goals place possible t t' entailed left answer told = record {
   follow = λ k is. told.follow k (ap (λ (s : ℕ). has s k) (sym entailed) ∙ is);
   others = λ k follows. elim (told.others k follows) [
@@ -164,21 +164,21 @@ told_model fs goals place possible t t' entailed left answer told = record {
     ]
 
 -- the goal at the place is told already
-pub told_already : (fs goals : List Formula) (place : ℕ) (t t' : Told) → t' ≡ t → has t.left place ≡ false → IsTold fs goals place t → IsTold fs goals (place + 1) t'
-told_already fs goals place t t' is out told = subst (IsTold fs goals (place + 1)) (sym is) (record {
+pub told_already : (fs goals : List Formula) (place : ℕ) (t t' : Told) → t' ≡ t → has t.left place ≡ false → AreGoalsTold fs goals place t → AreGoalsTold fs goals (place + 1) t'
+told_already fs goals place t t' is out told = subst (AreGoalsTold fs goals (place + 1)) (sym is) (record {
   follow = told.follow;
   others = told.others;
   asked = λ k less. elim (cases_eq k place) [ inl same ↦ ap (λ (j : ℕ). has t.left j) same ∙ out | inr differ ↦ told.asked k (omega arith) ];
 })
 
 -- ---- all is told
-shown : (fs goals : List Formula) (place : ℕ) (t : Told) → ((k : ℕ) (p : Formula) → slice_get goals k ≡ Some p → has t.left k ≡ false) → IsTold fs goals place t → Shows (Theory fs) goals t.entailed
+shown : (fs goals : List Formula) (place : ℕ) (t : Told) → ((k : ℕ) (p : Formula) → slice_get goals k ≡ Some p → has t.left k ≡ false) → AreGoalsTold fs goals place t → Shows (Theory fs) goals t.entailed
 shown fs goals place t none told k = (told.follow k, λ follows. elim (told.others k follows) [ inl is ↦ is | inr left ↦ absurd (true≢false (sym left ∙ none k follows.0 follows.1)) ])
 
-pub told_all : (fs goals : List Formula) (place : ℕ) (t : Told) → length goals ≤ place → IsTold fs goals place t → Shows (Theory fs) goals t.entailed
+pub told_all : (fs goals : List Formula) (place : ℕ) (t : Told) → length goals ≤ place → AreGoalsTold fs goals place t → Shows (Theory fs) goals t.entailed
 told_all fs goals place t past told = shown fs goals place t (λ k p at. told.asked k (omega (arith, past, slice_get_within goals k p at))) told
 
-pub told_none : (fs goals : List Formula) (t : Told) → t.left ≡ 0 → IsTold fs goals 0 t → Shows (Theory fs) goals t.entailed
+pub told_none : (fs goals : List Formula) (t : Told) → t.left ≡ 0 → AreGoalsTold fs goals 0 t → Shows (Theory fs) goals t.entailed
 told_none fs goals t none told = shown fs goals 0 t (λ k p at. ap (λ (s : ℕ). has s k) none ∙ has-empty k) told
 
 -- ---- a model of formulas
@@ -194,7 +194,7 @@ module _ (a : List Name) (goals : List Formula) (places : ℕ) (are : places ≡
 
 -- with the assumptions that hold there too, and so of whatever it is a model
 pub model_upper : (names : List Name) (fs : List Formula) (xs : List Assumption) (goals : List Formula) (set values : ℕ) (g : Formula) (u : Upper) → IsRefuted names (with_assumed fs xs set) g values
-    → AllByRecursion (λ (a : Assumption). IsTrue (has u.assumed a.number) → HoldsAt names values a) xs → u.possible ≡ such_that (length goals) (holds_goal (true_names 0 names values) goals) → IsUpper fs xs goals u
+    → AllByRecursion (λ (a : Assumption). IsTrue (has u.assumed a.number) → HoldsAt names values a) xs → u.possible ≡ such_that (length goals) (holds_goal (true_names 0 names values) goals) → IsUpperConsequence fs xs goals u
 model_upper names fs xs goals set values g u refuted each are = model_others a goals u.possible are (with_assumed fs xs u.assumed)
     ((each_holds a (with_assumed fs xs u.assumed)).0 (all_append (λ p. IsTrue (holds a p)) fs (assumed u.assumed xs)
     (all_left (λ p. IsTrue (holds a p)) fs (assumed set xs) ((each_holds a (with_assumed fs xs set)).1 refuted.model.formulas)) (assumed_each (λ p. IsTrue (holds a p)) u.assumed xs each)))
@@ -203,7 +203,7 @@ model_upper names fs xs goals set values g u refuted each are = model_others a g
     a = true_names 0 names values
 
 pub model_answer : (names : List Name) (fs goals : List Formula) (k values places : ℕ) (g : Formula) → slice_get goals k ≡ Some g → IsRefuted names fs g values → places ≡ such_that (length goals) (holds_goal (true_names 0 names values) goals)
-    → IsAnswer fs goals k (Some places)
+    → IsGoalAnswer fs goals k (Some places)
 model_answer names fs goals k values places g at refuted are = (
   model_others (true_names 0 names values) goals places are fs refuted.model.formulas,
   model_out (true_names 0 names values) goals places are k g at refuted.goal,

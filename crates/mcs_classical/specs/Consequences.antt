@@ -29,28 +29,28 @@ abbrev pub NoOthersFollow : List Formula → List Formula → ℕ → Type 0
 NoOthersFollow fs goals places = (k : ℕ) → FollowsAt fs goals k → IsTrue (has places k)
 
 -- ---- what is kept
-abbrev pub IsLower : List Formula → List declared.Assumption → List Formula → lower.Lower → Type 0
-IsLower fs assumptions goals l = DoFollow (with_assumed fs assumptions l.assumed) goals l.entailed
+abbrev pub IsLowerConsequence : List Formula → List declared.Assumption → List Formula → lower.Lower → Type 0
+IsLowerConsequence fs assumptions goals l = DoFollow (with_assumed fs assumptions l.assumed) goals l.entailed
 
-abbrev pub IsUpper : List Formula → List declared.Assumption → List Formula → upper.Upper → Type 0
-IsUpper fs assumptions goals u = NoOthersFollow (with_assumed fs assumptions u.assumed) goals u.possible
+abbrev pub IsUpperConsequence : List Formula → List declared.Assumption → List Formula → upper.Upper → Type 0
+IsUpperConsequence fs assumptions goals u = NoOthersFollow (with_assumed fs assumptions u.assumed) goals u.possible
 
 -- all that is kept is right of these formulas, assumptions and goals
 pub record AreConsequences (fs : List Formula) (assumptions : List declared.Assumption) (goals : List Formula) (c : consequences.Consequences) : Type 0 where
-  pub lower : AllByRecursion (IsLower fs assumptions goals) c.lower.items
-  pub upper : AllByRecursion (IsUpper fs assumptions goals) c.upper.items
+  pub lower : AllByRecursion (IsLowerConsequence fs assumptions goals) c.lower.items
+  pub upper : AllByRecursion (IsUpperConsequence fs assumptions goals) c.upper.items
 
 -- ---- while goals are asked
 -- the goals that are told follow, others follow only where they are left, and of the first ones none is left
-pub record IsTold (fs goals : List Formula) (first : ℕ) (t : told.Told) : Type 0 where
+pub record AreGoalsTold (fs goals : List Formula) (first : ℕ) (t : told.Told) : Type 0 where
   pub follow : DoFollow fs goals t.entailed
   pub others : (k : ℕ) → FollowsAt fs goals k → IsTrue (has t.entailed k) ⊎ IsTrue (has t.left k)
   pub asked : (k : ℕ) → k < first → has t.left k ≡ false
 
 -- the goal at the place follows; or it does not, and no others than those at these places do
-abbrev pub IsAnswer : List Formula → List Formula → ℕ → Option ℕ → Type 0
-IsAnswer fs goals k None = FollowsAt fs goals k
-IsAnswer fs goals k (Some places) = NoOthersFollow fs goals places × (has places k ≡ false)
+abbrev pub IsGoalAnswer : List Formula → List Formula → ℕ → Option ℕ → Type 0
+IsGoalAnswer fs goals k None = FollowsAt fs goals k
+IsGoalAnswer fs goals k (Some places) = NoOthersFollow fs goals places × (has places k ≡ false)
 
 -- ---- models
 -- whether there is a goal, and it holds

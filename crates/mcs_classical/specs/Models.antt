@@ -9,9 +9,9 @@ use Rattle.mcs_classical.specs.declared.satisfying.Satisfied.{Satisfied}
 use Rattle.mcs_classical.specs.declared.satisfying.Satisfied.TheVariants.{Model, Refuted}
 
 -- a model of the formulas, or an accepted trace that refutes them, so that they have none
-abbrev pub IsSatisfied : List Name → List Formula → Satisfied → Type 0
-IsSatisfied names fs (Model places) = IsModelAt names fs places
-IsSatisfied names fs (Refuted trace) = IsAcceptedTrace (clause_list names fs).clauses (inferences_of trace) × ((a : List Name) → ¬ IsTrue (holds_all a fs))
+abbrev pub IsSatisfiedAnswer : List Name → List Formula → Satisfied → Type 0
+IsSatisfiedAnswer names fs (Model places) = IsModelAt names fs places
+IsSatisfiedAnswer names fs (Refuted trace) = IsAcceptedTrace (clause_list names fs).clauses (inferences_of trace) × ((a : List Name) → ¬ IsTrue (holds_all a fs))
 
 -- the places of the atoms that are true where the formulas hold and the goal does not; none where the goal follows
 abbrev pub IsCounterexample : List Name → List Formula → Formula → Option ℕ → Type 0

@@ -4,7 +4,7 @@ ghost use Rattle.std.specs.Prelude.{◌≡◌, ◌<◌, ◌≤◌, length, map, 
 ghost use Rattle.std.specs.List.{AllByRecursion};
 ghost use Rattle.mcs_system.specs.Seen.{formula_of};
 ghost use Rattle.mcs_cnf.specs.ClauseLists.{AreOver, with_formulas};
-ghost use Rattle.mcs_cnf.specs.Growing.{IsGrown};
+ghost use Rattle.mcs_cnf.specs.Growing.{HasMoreFormulas};
 ghost use Rattle.mcs_classical.specs.Assumptions.{assumed};
 ghost use Rattle.mcs_classical.specs.declared.assumptions.Assumption as declared;
 
@@ -26,7 +26,7 @@ fn push_formulas(
     requires over { AreOver atoms.now (map (λ f. formula_of f.now) formulas.now) }
     requires room { length atoms.now ≤ known.old.vars }
     ensures ok { OnOk result (known.new ≡ with_formulas atoms.now known.old (map (λ f. formula_of f.now) formulas.now)) }
-    ensures more { IsGrown atoms.now known.old known.new }
+    ensures more { HasMoreFormulas atoms.now known.old known.new }
 {
     for formula in formulas {
         push_formula(alloc, known, atoms, formula)?;

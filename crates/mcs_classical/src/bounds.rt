@@ -3,7 +3,7 @@
 ghost use Rattle.std.specs.Prelude.{List};
 ghost use Rattle.std.specs.List.{AllByRecursion};
 ghost use Rattle.mcs_system.specs.Plain as plain;
-ghost use Rattle.mcs_classical.specs.Consequences.{with_assumed, DoFollow, IsLower, IsUpper, NoOthersFollow};
+ghost use Rattle.mcs_classical.specs.Consequences.{with_assumed, DoFollow, IsLowerConsequence, IsUpperConsequence, NoOthersFollow};
 ghost use Rattle.mcs_classical.specs.declared.assumptions.Assumption as declared;
 
 use mcs_base::{Active, Vars};
@@ -25,7 +25,7 @@ pub(crate) struct Upper {
 /// The goals that, by what was found, follow with the assumptions in the set.
 pub(crate) fn entailed_with(lower: &[Lower], set: Active) -> Vars
     ensures { (fs : List plain.Formula) (assumptions : List declared.Assumption) (goals : List plain.Formula)
-        → AllByRecursion (IsLower fs assumptions goals) lower.now → DoFollow (with_assumed fs assumptions set) goals result }
+        → AllByRecursion (IsLowerConsequence fs assumptions goals) lower.now → DoFollow (with_assumed fs assumptions set) goals result }
 {
     let mut entailed = Vars::empty();
     for found in lower {
@@ -39,7 +39,7 @@ pub(crate) fn entailed_with(lower: &[Lower], set: Active) -> Vars
 /// Those of the goals that, by what was found, may follow with the assumptions in the set.
 pub(crate) fn possible_with(upper: &[Upper], set: Active, goals: Vars) -> Vars
     ensures { (fs : List plain.Formula) (assumptions : List declared.Assumption) (all : List plain.Formula)
-        → NoOthersFollow (with_assumed fs assumptions set) all goals → AllByRecursion (IsUpper fs assumptions all) upper.now
+        → NoOthersFollow (with_assumed fs assumptions set) all goals → AllByRecursion (IsUpperConsequence fs assumptions all) upper.now
         → NoOthersFollow (with_assumed fs assumptions set) all result }
 {
     let mut possible = goals;

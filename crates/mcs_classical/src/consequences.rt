@@ -10,7 +10,7 @@ ghost use Rattle.mcs_system.specs.Seen.{formula_of};
 ghost use Rattle.mcs_system.specs.Views.{Shows};
 ghost use Rattle.mcs_cnf.specs.ClauseLists.{clause_list, AreOver};
 ghost use Rattle.mcs_classical.specs.Assumptions.{assumed};
-ghost use Rattle.mcs_classical.specs.Consequences.{holds_goal, with_assumed, AreConsequences, IsAnswer, IsTold, IsUpper};
+ghost use Rattle.mcs_classical.specs.Consequences.{holds_goal, with_assumed, AreConsequences, IsGoalAnswer, AreGoalsTold, IsUpperConsequence};
 ghost use Rattle.mcs_classical.specs.declared.assumptions.Assumption as declared;
 
 use crate::adding::add_assumed;
@@ -99,10 +99,10 @@ fn ask(
     requires place { place < length goals.now }
     ensures kept { known.new ≡ known.old }
     ensures right { (fs : List plain.Formula) (set : ℕ) → known.old ≡ clause_list atoms.now (with_assumed fs assumptions.now set) → AreOver atoms.now (with_assumed fs assumptions.now set)
-        → AllByRecursion (IsUpper fs assumptions.now (map (λ g. formula_of g.now) goals.now)) upper.old.items
-        → AllByRecursion (IsUpper fs assumptions.now (map (λ g. formula_of g.now) goals.now)) upper.new.items }
+        → AllByRecursion (IsUpperConsequence fs assumptions.now (map (λ g. formula_of g.now) goals.now)) upper.old.items
+        → AllByRecursion (IsUpperConsequence fs assumptions.now (map (λ g. formula_of g.now) goals.now)) upper.new.items }
     ensures answer { IfOk result (λ answer. (fs : List plain.Formula) → known.old ≡ clause_list atoms.now fs → AreOver atoms.now fs
-        → IsAnswer fs (map (λ g. formula_of g.now) goals.now) place answer) }
+        → IsGoalAnswer fs (map (λ g. formula_of g.now) goals.now) place answer) }
 {
     match counterexample_in(alloc, known, goals[place], atoms)? {
         None => Ok(None),
@@ -118,8 +118,8 @@ fn ask(
 /// What is known of the goals, once the answer about the goal at the place is known too.
 fn with_answer(told: Told, place: u32, answer: Option<Vars>) -> Told
     requires { place < 64 }
-    ensures { (fs : List plain.Formula) (goals : List plain.Formula) → IsAnswer fs goals place answer → IsTold fs goals place told
-        → IsTold fs goals (place + 1) result }
+    ensures { (fs : List plain.Formula) (goals : List plain.Formula) → IsGoalAnswer fs goals place answer → AreGoalsTold fs goals place told
+        → AreGoalsTold fs goals (place + 1) result }
 {
     match answer {
         None => Told {
@@ -152,10 +152,10 @@ fn ask_left(
     requires room { length atoms.now ≤ known.old.vars }
     ensures kept { known.new ≡ known.old }
     ensures right { (fs : List plain.Formula) (set : ℕ) → known.old ≡ clause_list atoms.now (with_assumed fs assumptions.now set) → AreOver atoms.now (with_assumed fs assumptions.now set)
-        → AllByRecursion (IsUpper fs assumptions.now (map (λ g. formula_of g.now) goals.now)) upper.old.items
-        → AllByRecursion (IsUpper fs assumptions.now (map (λ g. formula_of g.now) goals.now)) upper.new.items }
+        → AllByRecursion (IsUpperConsequence fs assumptions.now (map (λ g. formula_of g.now) goals.now)) upper.old.items
+        → AllByRecursion (IsUpperConsequence fs assumptions.now (map (λ g. formula_of g.now) goals.now)) upper.new.items }
     ensures exact { IfOk result (λ view. (fs : List plain.Formula) → known.old ≡ clause_list atoms.now fs → AreOver atoms.now fs
-        → IsTold fs (map (λ g. formula_of g.now) goals.now) 0 before → Shows (Theory fs) (map (λ g. formula_of g.now) goals.now) view) }
+        → AreGoalsTold fs (map (λ g. formula_of g.now) goals.now) 0 before → Shows (Theory fs) (map (λ g. formula_of g.now) goals.now) view) }
 {
     let mut told = before;
     for place in 0..goals.len() {
@@ -202,7 +202,7 @@ impl Consequences {
     fn told(&self, set: Active, count: usize) -> Told
         requires { count ≤ 64 }
         ensures { (fs : List plain.Formula) (assumptions : List declared.Assumption) (goals : List plain.Formula) → length goals ≡ count
-            → AreConsequences fs assumptions goals self.now → IsTold (with_assumed fs assumptions set) goals 0 result }
+            → AreConsequences fs assumptions goals self.now → AreGoalsTold (with_assumed fs assumptions set) goals 0 result }
     {
         let entailed = entailed_with(&self.lower, set);
         let possible = possible_with(&self.upper, set, places_of(count));

@@ -5,7 +5,7 @@ ghost use Rattle.mcs_system.specs.Faults.{has_twins};
 ghost use Rattle.mcs_system.specs.Plain as plain;
 ghost use Rattle.mcs_system.specs.Seen.{formula_of};
 ghost use Rattle.mcs_cnf.specs.ClauseLists.{clause_list, AreOver};
-ghost use Rattle.mcs_classical.specs.Models.{IsSatisfied};
+ghost use Rattle.mcs_classical.specs.Models.{IsSatisfiedAnswer};
 
 use crate::refuting::true_places;
 use mcs_base::{Memory, Vars};
@@ -29,7 +29,7 @@ pub fn satisfy(alloc: Global, formulas: &[Formula], atoms: &[Name]) -> Result<Sa
     requires few { length atoms.now ≤ 64 }
     requires different { has_twins atoms.now ≡ false }
     requires formulas { AreOver atoms.now (map formula_of formulas.now) }
-    ensures { IfOk result (IsSatisfied atoms.now (map formula_of formulas.now)) }
+    ensures { IfOk result (IsSatisfiedAnswer atoms.now (map formula_of formulas.now)) }
 {
     let cnf = clauses(alloc, formulas, atoms)?;
     let satisfied = satisfy_from(alloc, &cnf, atoms);
@@ -43,7 +43,7 @@ pub fn satisfy_from(alloc: Global, cnf: &Cnf, atoms: &[Name]) -> Result<Satisfie
     requires different { has_twins atoms.now ≡ false }
     requires room { length atoms.now ≤ cnf.now.vars }
     ensures { IfOk result
-        (λ r. (fs : List plain.Formula) → cnf.now ≡ clause_list atoms.now fs → AreOver atoms.now fs → IsSatisfied atoms.now fs r) }
+        (λ r. (fs : List plain.Formula) → cnf.now ≡ clause_list atoms.now fs → AreOver atoms.now fs → IsSatisfiedAnswer atoms.now fs r) }
 {
     match solve(alloc, cnf)? {
         Outcome::Refuted(trace) => Ok(Satisfied::Refuted(trace)),

@@ -8,7 +8,7 @@ use Rattle.mcs_base.proofs.Mapped.{map-drop_more}
 use Rattle.mcs_system.specs.Plain.{Name, Formula}
 use Rattle.mcs_trace.specs.Clauses.{IsWithin, ClauseList, IsClauseList}
 use Rattle.mcs_cnf.specs.ClauseLists.{taken_by_all, list_clauses, with_formulas, clause_list, IsOver, AreOver}
-use Rattle.mcs_cnf.specs.Growing.{IsGrown}
+use Rattle.mcs_cnf.specs.Growing.{HasMoreFormulas}
 use Rattle.mcs_cnf.proofs.ListLemmas.{all_take_grow, with_append}
 
 abbrev pub list_of : ℕ → List (List ℤ) → ClauseList
@@ -36,13 +36,13 @@ module _ {A : Type 0} (view : A → Formula) where
   lent_end names c c0 xs i past all = sym (none-with names c) ∙ ap (λ (ys : List A). with_formulas names c (map view ys)) (sym (drop_all i xs past)) ∙ all
 
 -- ---- clauses that are added and taken off again
-pub grown_none : (names : List Name) (c : ClauseList) → IsGrown names c c
+pub grown_none : (names : List Name) (c : ClauseList) → HasMoreFormulas names c c
 grown_none names c = ([], sym (none-with names c))
 
-pub grown_more : (names : List Name) (c0 c c' : ClauseList) (f : Formula) → IsGrown names c0 c → c' ≡ with_formulas names c (f ∷ []) → IsGrown names c0 c'
+pub grown_more : (names : List Name) (c0 c c' : ClauseList) (f : Formula) → HasMoreFormulas names c0 c → c' ≡ with_formulas names c (f ∷ []) → HasMoreFormulas names c0 c'
 grown_more names c0 c c' f (fs, is) pushed = (fs ++ f ∷ [], pushed ∙ ap (λ (x : ClauseList). with_formulas names x (f ∷ [])) is ∙ with_append names c0 fs (f ∷ []))
 
-module _ (names : List Name) (known new : ClauseList) (more : IsGrown names known new) where
+module _ (names : List Name) (known new : ClauseList) (more : HasMoreFormulas names known new) where
   first_kept : take (length known.clauses) new.clauses ≡ known.clauses
   first_kept = ap (λ (x : ClauseList). take (length known.clauses) x.clauses) more.1 ∙ take-append_seam known.clauses (list_clauses names known.vars more.0)
 

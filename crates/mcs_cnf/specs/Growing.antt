@@ -5,5 +5,5 @@ use Rattle.mcs_trace.specs.Clauses.{ClauseList}
 use Rattle.mcs_cnf.specs.ClauseLists.{with_formulas}
 
 -- the clauses of some formulas are added
-abbrev pub IsGrown : List Name → ClauseList → ClauseList → Type 0
-IsGrown names old new = (fs : List Formula) × (new ≡ with_formulas names old fs)
+abbrev pub HasMoreFormulas : List Name → ClauseList → ClauseList → Type 0
+HasMoreFormulas names old new = (fs : List Formula) × (new ≡ with_formulas names old fs)

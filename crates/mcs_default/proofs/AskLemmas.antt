@@ -19,7 +19,7 @@ use Rattle.mcs_evidence.specs.Defaults.{Absence, absence_of, defaults_at, negate
 use Rattle.mcs_evidence.specs.Theories.{all_of}
 use Rattle.mcs_evidence.proofs.TheoryLemmas.{others, has-others}
 use Rattle.mcs_default.specs.declared.asking.Justs as justs
-use Rattle.mcs_default.specs.Told.{IsBlockedBy, IsToldOfJusts, IsAbsentOf, IsAbsentAt, AreAbsent, prerequisites}
+use Rattle.mcs_default.specs.Told.{IsBlockedBy, IsToldOfJusts, IsAbsentOf, IsAbsentAt, AreAbsentOutside, prerequisites}
 use Rattle.mcs_default.proofs.General.{formula_at, picked_in, picked_out, negated_push}
 
 -- ---- lists that are shown not to follow
@@ -77,7 +77,7 @@ pub absent_same : (names : List Name) (fs : List Formula) (ds : List Default) (s
 absent_same names fs ds set i xs less is before =
     subst (λ (ks : List ℕ). AllZip (IsAbsentAt names fs ds) ks xs) (sym (members_from-more (others ds set) i false (has-others ds set i true less is) ∙ append-nil (members_from 0 i (others ds set)))) before
 
-pub absent_all : (names : List Name) (fs : List Formula) (ds : List Default) (set i : ℕ) (xs : List Absence) → i ≡ length ds → AllZip (IsAbsentAt names fs ds) (members_from 0 i (others ds set)) xs → AreAbsent names fs ds set xs
+pub absent_all : (names : List Name) (fs : List Formula) (ds : List Default) (set i : ℕ) (xs : List Absence) → i ≡ length ds → AllZip (IsAbsentAt names fs ds) (members_from 0 i (others ds set)) xs → AreAbsentOutside names fs ds set xs
 absent_all names fs ds set i xs all before =
     subst (λ (ks : List ℕ). AllZip (IsAbsentAt names fs ds) ks xs)
     (ap (λ (n : ℕ). members_from 0 n (others ds set)) all ∙ sym (members-width (others ds set) (length ds) (minus-lt (length ds) (all_of ds) set (such_that-lt (length ds) (λ k. true))))) before

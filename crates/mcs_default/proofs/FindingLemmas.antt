@@ -17,7 +17,7 @@ use Rattle.mcs_system.proofs.Consequence.{each_holds}
 use Rattle.mcs_evidence.proofs.DefaultLemmas.{generated_each}
 use Rattle.mcs_default.specs.Theories.{AreClausesOf, AreParts, consequents}
 use Rattle.mcs_default.specs.Assignments.{holds_part, holds_part_of, holds_part_at, with_part}
-use Rattle.mcs_default.specs.Searches.{IsSupportedAt, IsUnsupportedAt, IsAllowedAt, IsBlockedAt, IsConflict, IsLower, IsUpper, IsReady}
+use Rattle.mcs_default.specs.Searches.{IsSupportedAt, IsUnsupportedAt, IsAllowedAt, IsBlockedAt, IsConflict, IsLower, IsUpper, CanBeAsked}
 use Rattle.mcs_default.specs.declared.models.Part as part
 use Rattle.mcs_default.specs.declared.models.Part.TheVariants as parts
 use Rattle.mcs_default.specs.declared.findings.Lower as lower
@@ -85,14 +85,14 @@ some_denies names items ds known set places g parts told =
     (λ follows. (let refuted = told (facts_of items) parts.1 in true≢false (sym (follows (true_names 0 names places) refuted.model.formulas) ∙ refuted.goal)))
 
 -- ---- what was found before stays right
-module _ (names : List Name) (ds : List Default) (f f' : findings.Findings) (ready : IsReady names ds f) (kept : f'.facts ≡ f.facts) where
+module _ (names : List Name) (ds : List Default) (f f' : findings.Findings) (ready : CanBeAsked names ds f) (kept : f'.facts ≡ f.facts) where
   parts_before : (items : List Item) → AreParts names items ds f'.facts → AreParts names items ds f.facts
   parts_before items parts = subst (AreParts names items ds) kept parts
 
   room_after : length names ≤ f'.facts.vars
   room_after = subst (λ (k : ClauseList). length names ≤ k.vars) (sym kept) ready.room
 
-  pub ready_same : f'.conflicts.items ≡ f.conflicts.items → f'.lower.items ≡ f.lower.items → f'.upper.items ≡ f.upper.items → IsReady names ds f'
+  pub ready_same : f'.conflicts.items ≡ f.conflicts.items → f'.lower.items ≡ f.lower.items → f'.upper.items ≡ f.upper.items → CanBeAsked names ds f'
   ready_same conflicts lows ups = record {
     few = ready.few;
     different = ready.different;
@@ -101,7 +101,7 @@ module _ (names : List Name) (ds : List Default) (f f' : findings.Findings) (rea
     right = λ items parts. (let right = ready.right items (parts_before items parts) in (subst (AllByRecursion (IsLower items)) (sym lows) right.0, subst (AllByRecursion (IsUpper names items)) (sym ups) right.1, subst (AllByRecursion (IsConflict items)) (sym conflicts) right.2));
   }
 
-  pub ready_upper : (x : upper.Upper) → f'.conflicts.items ≡ f.conflicts.items → f'.lower.items ≡ f.lower.items → f'.upper.items ≡ f.upper.items ++ x ∷ [] → ((items : List Item) → AreParts names items ds f.facts → IsUpper names items x) → IsReady names ds f'
+  pub ready_upper : (x : upper.Upper) → f'.conflicts.items ≡ f.conflicts.items → f'.lower.items ≡ f.lower.items → f'.upper.items ≡ f.upper.items ++ x ∷ [] → ((items : List Item) → AreParts names items ds f.facts → IsUpper names items x) → CanBeAsked names ds f'
   ready_upper x conflicts lows pushed is = record {
     few = ready.few;
     different = ready.different;
@@ -110,7 +110,7 @@ module _ (names : List Name) (ds : List Default) (f f' : findings.Findings) (rea
     right = λ items parts. (let right = ready.right items (parts_before items parts) in (subst (AllByRecursion (IsLower items)) (sym lows) right.0, subst (AllByRecursion (IsUpper names items)) (sym pushed) (all_push (IsUpper names items) f.upper.items x right.1 (is items (parts_before items parts))), subst (AllByRecursion (IsConflict items)) (sym conflicts) right.2));
   }
 
-  pub ready_lower : (x : lower.Lower) → f'.conflicts.items ≡ f.conflicts.items → f'.upper.items ≡ f.upper.items → f'.lower.items ≡ f.lower.items ++ x ∷ [] → ((items : List Item) → AreParts names items ds f.facts → IsLower items x) → IsReady names ds f'
+  pub ready_lower : (x : lower.Lower) → f'.conflicts.items ≡ f.conflicts.items → f'.upper.items ≡ f.upper.items → f'.lower.items ≡ f.lower.items ++ x ∷ [] → ((items : List Item) → AreParts names items ds f.facts → IsLower items x) → CanBeAsked names ds f'
   ready_lower x conflicts ups pushed is = record {
     few = ready.few;
     different = ready.different;
@@ -119,7 +119,7 @@ module _ (names : List Name) (ds : List Default) (f f' : findings.Findings) (rea
     right = λ items parts. (let right = ready.right items (parts_before items parts) in (subst (AllByRecursion (IsLower items)) (sym pushed) (all_push (IsLower items) f.lower.items x right.0 (is items (parts_before items parts))), subst (AllByRecursion (IsUpper names items)) (sym ups) right.1, subst (AllByRecursion (IsConflict items)) (sym conflicts) right.2));
   }
 
-  pub ready_conflict : (set : ℕ) → f'.lower.items ≡ f.lower.items → f'.upper.items ≡ f.upper.items → f'.conflicts.items ≡ f.conflicts.items ++ set ∷ [] → ((items : List Item) → AreParts names items ds f.facts → IsConflict items set) → IsReady names ds f'
+  pub ready_conflict : (set : ℕ) → f'.lower.items ≡ f.lower.items → f'.upper.items ≡ f.upper.items → f'.conflicts.items ≡ f.conflicts.items ++ set ∷ [] → ((items : List Item) → AreParts names items ds f.facts → IsConflict items set) → CanBeAsked names ds f'
   ready_conflict set lows ups pushed is = record {
     few = ready.few;
     different = ready.different;

@@ -15,10 +15,10 @@ use Rattle.mcs_system.specs.Plain.{Name, Formula, Default, Item}
 use Rattle.mcs_trace.specs.declared.certificate.Entail.{Entail}
 use Rattle.mcs_cnf.specs.Entailments.{Entailment, entailment_of}
 use Rattle.mcs_cnf.specs.Classical.{AreShown}
-use Rattle.mcs_evidence.specs.Defaults.{Absence, Unsupported, Blocked, Verdict, Fails, Applied, Ungrounded, Extension, facts_of, defaults_of, defaults_at, defaults_in, numbered_default, generated, all_defaults, negated_justs, AreDenied, IsAbsent, AreGrounded, HasFailed, HasApplied, IsGenerating, IsAcceptedVerdict, ShowsView, IsAcceptedDefault}
+use Rattle.mcs_evidence.specs.Defaults.{Absence, Unsupported, Blocked, Verdict, Fails, Applied, Ungrounded, Extension, facts_of, defaults_of, defaults_at, defaults_in, numbered_default, generated, all_defaults, negated_justs, AreDenied, IsAbsent, AreGrounded, FailsToApply, HasApplied, IsGenerating, IsAcceptedVerdict, ShowsView, IsAcceptedDefault}
 use Rattle.mcs_default.specs.Theories.{consequents, with_view}
 use Rattle.mcs_evidence.specs.Theories.{all_of}
-use Rattle.mcs_default.specs.Told.{IsAbsentOf, IsAbsentAt, AreAbsent, HasBlocked, HasAppliedOf, AreNumbersOf, prerequisites}
+use Rattle.mcs_default.specs.Told.{IsAbsentOf, IsAbsentAt, AreAbsentOutside, HasBlocked, HasAppliedOf, AreDefaultNumbers, prerequisites}
 use Rattle.mcs_default.proofs.General.{numbered_at}
 
 -- the verdict is accepted, and the view is the one that it shows
@@ -35,7 +35,7 @@ pub fails_verdict : (names : List Name) (items : List Item) (beliefs : List Form
     → HasBlocked names (facts_of items ++ consequents ds set) ds set a → IsVerdict names items beliefs set (Fails a) None
 fails_verdict names items beliefs set ds a same told = (failed, none_is_never (λ places h. h))
   where
-    failed : HasFailed names items set a
+    failed : FailsToApply names items set a
     failed =
         let (k, d, member, at, gone) = subst (λ (xs : List Default). HasBlocked names (facts_of items ++ consequents xs set) xs set a) same told in
         (k, member, absent names items (generated items set) (k + 1) d a (numbered_at items k ∙ at) gone)
@@ -71,8 +71,8 @@ ungrounded_verdict names items beliefs set ds closed es same part less told = (
 )
 
 pub extension_verdict : (names : List Name) (items : List Item) (beliefs : List Formula) (set : ℕ) (ds : List Default) (order : List ℕ) (pres justs : List Entailment) (outside : List Absence) (outputs : List Entailment) (view : ℕ)
-    → ds ≡ defaults_of items → AreNumbersOf set order → AreGrounded names items (facts_of items) order pres → AreDenied names (generated items set) (negated_justs (defaults_in items set)) justs
-    → AreAbsent names (facts_of items ++ consequents ds set) ds set outside → AreShown names (facts_of items ++ consequents ds set) beliefs view outputs
+    → ds ≡ defaults_of items → AreDefaultNumbers set order → AreGrounded names items (facts_of items) order pres → AreDenied names (generated items set) (negated_justs (defaults_in items set)) justs
+    → AreAbsentOutside names (facts_of items ++ consequents ds set) ds set outside → AreShown names (facts_of items ++ consequents ds set) beliefs view outputs
     → IsVerdict names items beliefs set (Extension order pres justs outside outputs) (Some view)
 extension_verdict names items beliefs set ds order pres justs outside outputs view same numbers grounded allowed absents shown = ((view, generating view shown'), λ places. (to places, from places))
   where
@@ -83,7 +83,7 @@ extension_verdict names items beliefs set ds order pres justs outside outputs vi
     absents' = zip_weaker (IsAbsentAt names (generated items set) (defaults_of items)) (λ k a. IsAbsent names items (generated items set) (k + 1) a)
         (λ k a told. absent names items (generated items set) (k + 1) told.0 a (numbered_at items k ∙ told.1) told.2)
         (members (minus (all_defaults items) set)) outside
-        (subst (λ (xs : List Default). AreAbsent names (facts_of items ++ consequents xs set) xs set outside) same absents)
+        (subst (λ (xs : List Default). AreAbsentOutside names (facts_of items ++ consequents xs set) xs set outside) same absents)
 
     generating : (places : ℕ) → AreShown names (generated items set) beliefs places outputs → IsGenerating names items beliefs set order pres justs outside outputs places
     generating places is = record { once = numbers.0; all = numbers.1; grounded = grounded; allowed = allowed; complete = absents'; shown = is }

@@ -21,7 +21,7 @@ use Rattle.mcs_evidence.specs.Theories.{AreOverDefaults, IsDefaultAt}
 use Rattle.mcs_evidence.proofs.TheoryLemmas.{facts_with, defaults_with, over_with_facts, over_facts}
 use Rattle.mcs_default.specs.Theories.{AreClausesOf, AreParts, consequents}
 use Rattle.mcs_default.specs.Assignments.{with_part}
-use Rattle.mcs_default.specs.Searches.{IsLower, IsUpper, IsConflict, IsRight, IsReady}
+use Rattle.mcs_default.specs.Searches.{IsLower, IsUpper, IsConflict, AreRightFindings, CanBeAsked}
 use Rattle.mcs_default.specs.Keeping.{items_with, IsTheoryBase}
 use Rattle.mcs_default.specs.declared.base.TheoryBase as base
 use Rattle.mcs_default.specs.declared.models.Part.TheVariants as parts
@@ -71,7 +71,7 @@ same_facts names known fs gs is is' a h =
     satisfied gs names a v.0 is'.1 v.1 (ap (λ (x : ClauseList). all_hold v.0 x.clauses) (sym is'.0 ∙ is.0) ∙ v.2)
 
 pub ready_from : (names : List Name) (ds : List Default) (f : findings.Findings) (items : List Item) → length names ≤ 64 → has_twins names ≡ false → AreOverDefaults names ds → length names ≤ f.facts.vars
-    → AreParts names items ds f.facts → IsRight names items f → IsReady names ds f
+    → AreParts names items ds f.facts → AreRightFindings names items f → CanBeAsked names ds f
 ready_from names ds f items few different over room parts right = record {
   few = few;
   different = different;

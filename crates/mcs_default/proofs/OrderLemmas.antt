@@ -18,9 +18,9 @@ use Rattle.mcs_cnf.specs.ClauseLists.{with_formulas, IsOver}
 use Rattle.mcs_trace.specs.declared.certificate.Entail.{Entail}
 use Rattle.mcs_cnf.specs.Entailments.{Entailment, Yes, No, entailment_of}
 use Rattle.mcs_cnf.proofs.ListLemmas.{with_append}
-use Rattle.mcs_evidence.specs.Defaults.{defaults_of, defaults_at, numbered_default, IsShown, IsDenied, AreDenied, AreGrounded}
+use Rattle.mcs_evidence.specs.Defaults.{defaults_of, defaults_at, numbered_default, IsEntailmentShown, IsDenied, AreDenied, AreGrounded}
 use Rattle.mcs_default.specs.Theories.{AreClausesOf, consequents}
-use Rattle.mcs_default.specs.Told.{AreNumbersOf, prerequisites}
+use Rattle.mcs_default.specs.Told.{AreDefaultNumbers, prerequisites}
 use Rattle.mcs_default.proofs.General.{numbered_at, get_later}
 
 -- where the formulas hold, the consequents of the defaults of the set do
@@ -48,9 +48,9 @@ holds-push a fs f h =
     let (all, last) = and_parts (holds_all a fs) (holds_all a (f ∷ [])) (sym (list_all-append (holds a) fs (f ∷ [])) ∙ h) in
     (all, (and_parts (holds a f) true last).0)
 
-pub numbers-more : (set left k : ℕ) (order order' : List ℕ) → has set k ≡ true → has left k ≡ true → order' ≡ order ++ (k + 1) ∷ [] → AreNumbersOf (minus set left) order → AreNumbersOf (minus set (minus left (single k))) order'
+pub numbers-more : (set left k : ℕ) (order order' : List ℕ) → has set k ≡ true → has left k ≡ true → order' ≡ order ++ (k + 1) ∷ [] → AreDefaultNumbers (minus set left) order → AreDefaultNumbers (minus set (minus left (single k))) order'
 numbers-more set left k order order' inside in_left pushed (apart, exactly) =
-    subst (AreNumbersOf (minus set (minus left (single k)))) (sym pushed) (apart_push order (k + 1) apart fresh, λ n. (to n, from n))
+    subst (AreDefaultNumbers (minus set (minus left (single k)))) (sym pushed) (apart_push order (k + 1) apart fresh, λ n. (to n, from n))
   where
     fresh : ¬ IsAmong (k + 1) order
     fresh among =
@@ -78,7 +78,7 @@ numbers-more set left k order order' inside in_left pushed (apart, exactly) =
 
 pub derived-more : (names : List Name) (fs : List Formula) (ds : List Default) (set left k : ℕ) (d : Default) (order order' : List ℕ) (pres pres' : List Entailment) (e : Entailment) (known known' : ClauseList)
     → slice_get ds k ≡ Some d → IsOver names d.conclusion → order' ≡ order ++ (k + 1) ∷ [] → pres' ≡ pres ++ e ∷ [] → known' ≡ with_formulas names known (d.conclusion ∷ [])
-    → (derived : IsDerived names fs ds (minus set left) order pres known) → IsShown names derived.formulas d.pre e
+    → (derived : IsDerived names fs ds (minus set left) order pres known) → IsEntailmentShown names derived.formulas d.pre e
     → IsDerived names fs ds (minus set (minus left (single k))) order' pres' known'
 derived-more names fs ds set left k d order order' pres pres' e known known' at over ordered shown_more pushed derived shown =
     let gs = derived.formulas in
@@ -144,8 +144,8 @@ stuck names fs ds set left order pres es known part derived denied =
         at k false is inside none = absurd (true≢false (sym (ap (λ c. c && not (has left k)) inside ∙ ap not is) ∙ none))
 
 -- ---- the code's loop begins
-pub numbers-none : (set : ℕ) (order : List ℕ) → order ≡ [] → AreNumbersOf (minus set set) order
-numbers-none set order none = subst (AreNumbersOf (minus set set)) (sym none) (tt, λ n. (λ among. absurd among, λ (k, same, member). absurd (true≢false (sym member ∙ ap (λ (s : ℕ). has s k) (minus_itself set) ∙ has-empty k))))
+pub numbers-none : (set : ℕ) (order : List ℕ) → order ≡ [] → AreDefaultNumbers (minus set set) order
+numbers-none set order none = subst (AreDefaultNumbers (minus set set)) (sym none) (tt, λ n. (λ among. absurd among, λ (k, same, member). absurd (true≢false (sym member ∙ ap (λ (s : ℕ). has s k) (minus_itself set) ∙ has-empty k))))
 
 pub derived-start : (names : List Name) (fs : List Formula) (ds : List Default) (set : ℕ) (order : List ℕ) (pres : List Entail) (known : ClauseList) → order ≡ [] → pres ≡ [] → AreClausesOf names fs known
     → IsDerived names fs ds (minus set set) order (map entailment_of pres) known

@@ -50,16 +50,16 @@ pub record IsUpper (names : List Name) (items : List Item) (e : upper.Upper) : T
   pub supported : e.supported ≡ with_part (true_names 0 names e.values) parts.Prerequisite (defaults_of items)
   pub allowed : e.allowed ≡ with_part (true_names 0 names e.values) parts.Justifications (defaults_of items)
 
-abbrev pub IsRight : List Name → List Item → findings.Findings → Type 0
-IsRight names items f = AllByRecursion (IsLower items) f.lower.items × AllByRecursion (IsUpper names items) f.upper.items × AllByRecursion (IsConflict items) f.conflicts.items
+abbrev pub AreRightFindings : List Name → List Item → findings.Findings → Type 0
+AreRightFindings names items f = AllByRecursion (IsLower items) f.lower.items × AllByRecursion (IsUpper names items) f.upper.items × AllByRecursion (IsConflict items) f.conflicts.items
 
 -- the defaults can be asked about by what was found
-pub record IsReady (names : List Name) (ds : List Default) (f : findings.Findings) : Type 0 where
+pub record CanBeAsked (names : List Name) (ds : List Default) (f : findings.Findings) : Type 0 where
   pub few : length names ≤ 64
   pub different : has_twins names ≡ false
   pub over : AreOverDefaults names ds
   pub room : length names ≤ f.facts.vars
-  pub right : (items : List Item) → AreParts names items ds f.facts → IsRight names items f
+  pub right : (items : List Item) → AreParts names items ds f.facts → AreRightFindings names items f
 
 -- ---- the nodes of a search
 -- the set has all that is taken, and nothing that is not in all

@@ -7,7 +7,7 @@ use Rattle.mcs_system.specs.Plain.{Name, Formula, Not, Default, Item}
 use Rattle.mcs_trace.specs.declared.certificate.Entail.{Entail}
 use Rattle.mcs_cnf.specs.Entailments.{Entailment, entailment_of}
 use Rattle.mcs_cnf.specs.Classical.{AreShown}
-use Rattle.mcs_evidence.specs.Defaults.{Absence, Unsupported, Blocked, absence_of, verdict_of, facts_of, defaults_of, defaults_at, defaults_in, generated, negated_justs, numbered_formula, IsShown, IsDenied, AreDenied, AreGrounded, IsAcceptedVerdict, ShowsView}
+use Rattle.mcs_evidence.specs.Defaults.{Absence, Unsupported, Blocked, absence_of, verdict_of, facts_of, defaults_of, defaults_at, defaults_in, generated, negated_justs, numbered_formula, IsEntailmentShown, IsDenied, AreDenied, AreGrounded, IsAcceptedVerdict, ShowsView}
 use Rattle.mcs_default.specs.Theories.{consequents}
 use Rattle.mcs_evidence.specs.Theories.{all_of}
 use Rattle.mcs_default.specs.declared.asking.Justs as justs
@@ -29,7 +29,7 @@ use Rattle.mcs_default.specs.declared.verdict.Judged as judged
 -- ---- of one default
 -- the negation of the justification of this number follows
 abbrev pub IsBlockedBy : List Name → List Formula → List Formula → ℕ → Entailment → Type 0
-IsBlockedBy names fs js j e = (f : Formula) × (numbered_formula js j ≡ Some f) × IsShown names fs (Not f) e
+IsBlockedBy names fs js j e = (f : Formula) × (numbered_formula js j ≡ Some f) × IsEntailmentShown names fs (Not f) e
 
 abbrev pub IsToldOfJusts : List Name → List Formula → List Formula → justs.Justs → Type 0
 IsToldOfJusts names fs js (justs_variants.Allowed es) = AreDenied names fs (map Not js) (map entailment_of es.items)
@@ -42,7 +42,7 @@ IsAbsentOf names fs d number (Blocked n j e) = (n ≡ number) × IsBlockedBy nam
 
 -- the default applies
 abbrev pub IsApplied : List Name → List Formula → Default → Entail → List Entail → Type 0
-IsApplied names fs d pre es = IsShown names fs d.pre (entailment_of pre) × AreDenied names fs (negated_justs (d ∷ [])) (map entailment_of es)
+IsApplied names fs d pre es = IsEntailmentShown names fs d.pre (entailment_of pre) × AreDenied names fs (negated_justs (d ∷ [])) (map entailment_of es)
 
 abbrev pub IsToldOfDefault : List Name → List Formula → Default → ℕ → standing.Standing → Type 0
 IsToldOfDefault names fs d number (standing_variants.Absent o) = IsAbsentOf names fs d number (absence_of o)
@@ -67,16 +67,16 @@ abbrev pub IsAbsentAt : List Name → List Formula → List Default → ℕ → 
 IsAbsentAt names fs ds k absence = (d : Default) × (slice_get ds k ≡ Some d) × IsAbsentOf names fs d (k + 1) absence
 
 -- each default outside is
-abbrev pub AreAbsent : List Name → List Formula → List Default → ℕ → List Absence → Type 0
-AreAbsent names fs ds set absences = AllZip (IsAbsentAt names fs ds) (members (minus (all_of ds) set)) absences
+abbrev pub AreAbsentOutside : List Name → List Formula → List Default → ℕ → List Absence → Type 0
+AreAbsentOutside names fs ds set absences = AllZip (IsAbsentAt names fs ds) (members (minus (all_of ds) set)) absences
 
 abbrev pub IsToldOutside : List Name → List Formula → List Default → ℕ → others.Others → Type 0
 IsToldOutside names fs ds set (others_variants.Applied number pre es) = HasAppliedOf names fs ds set number pre es.items
-IsToldOutside names fs ds set (others_variants.Absent os) = AreAbsent names fs ds set (map absence_of os.items)
+IsToldOutside names fs ds set (others_variants.Absent os) = AreAbsentOutside names fs ds set (map absence_of os.items)
 
 abbrev pub IsToldOfRest : List Name → List Formula → List Default → List Formula → ℕ → rest.Rest → Type 0
 IsToldOfRest names fs ds beliefs set (rest_variants.Applied number pre es) = HasAppliedOf names fs ds set number pre es.items
-IsToldOfRest names fs ds beliefs set (rest_variants.Complete os view es) = AreAbsent names fs ds set (map absence_of os.items) × AreShown names fs beliefs view (map entailment_of es.items)
+IsToldOfRest names fs ds beliefs set (rest_variants.Complete os view es) = AreAbsentOutside names fs ds set (map absence_of os.items) × AreShown names fs beliefs view (map entailment_of es.items)
 
 -- ---- of the order of their prerequisites
 -- the prerequisites of the defaults of the set
@@ -84,7 +84,7 @@ abbrev pub prerequisites : List Default → ℕ → List Formula
 prerequisites ds set = map (λ (d : Default). d.pre) (defaults_at 0 ds set)
 
 abbrev pub IsToldNext : List Name → List Formula → List Default → ℕ → next.Next → Type 0
-IsToldNext names fs ds left (next_variants.Supported k pre) = (d : Default) × (slice_get ds k ≡ Some d) × IsShown names fs d.pre (entailment_of pre)
+IsToldNext names fs ds left (next_variants.Supported k pre) = (d : Default) × (slice_get ds k ≡ Some d) × IsEntailmentShown names fs d.pre (entailment_of pre)
 IsToldNext names fs ds left (next_variants.Stuck es) = AreDenied names fs (prerequisites ds left) (map entailment_of es.items)
 
 -- a default that is found is one of those that are left
@@ -93,12 +93,12 @@ IsNextInRange n left (next_variants.Supported k pre) = (k < n) × IsTrue (has le
 IsNextInRange n left (next_variants.Stuck es) = Unit {0}
 
 -- the numbers of the defaults of the set, each once
-abbrev pub AreNumbersOf : ℕ → List ℕ → Type 0
-AreNumbersOf set order = AreApart order × ((number : ℕ) → IsAmong number order ↔ ((k : ℕ) × (number ≡ k + 1) × IsTrue (has set k)))
+abbrev pub AreDefaultNumbers : ℕ → List ℕ → Type 0
+AreDefaultNumbers set order = AreApart order × ((number : ℕ) → IsAmong number order ↔ ((k : ℕ) × (number ≡ k + 1) × IsTrue (has set k)))
 
 abbrev pub IsToldOfOrder : List Name → List Formula → List Default → ℕ → grounding.Grounding → Type 0
 IsToldOfOrder names fs ds set (grounding_variants.Grounded order pres) =
-    AreNumbersOf set order.items × ((items : List Item) → ds ≡ defaults_of items → AreGrounded names items fs order.items (map entailment_of pres.items))
+    AreDefaultNumbers set order.items × ((items : List Item) → ds ≡ defaults_of items → AreGrounded names items fs order.items (map entailment_of pres.items))
 IsToldOfOrder names fs ds set (grounding_variants.Stuck closed es) =
     Within closed set × (¬ (closed ≡ set)) × AreDenied names (fs ++ consequents ds closed) (prerequisites ds (minus set closed)) (map entailment_of es.items)
 
@@ -107,9 +107,9 @@ abbrev pub IsToldOfJustsIn : List Name → List Item → ℕ → List Entail →
 IsToldOfJustsIn names items set es = AreDenied names (generated items set) (negated_justs (defaults_in items set)) (map entailment_of es)
 
 abbrev pub IsToldOrder : List Name → List Item → ℕ → List ℕ → List Entail → Type 0
-IsToldOrder names items set order pres = AreNumbersOf set order × AreGrounded names items (facts_of items) order (map entailment_of pres)
+IsToldOrder names items set order pres = AreDefaultNumbers set order × AreGrounded names items (facts_of items) order (map entailment_of pres)
 
 -- the verdict is accepted, and the view is the one that it shows
-abbrev pub IsJudged : List Name → List Item → List Formula → ℕ → judged.Judged → Type 0
-IsJudged names items beliefs set j =
+abbrev pub IsSetJudged : List Name → List Item → List Formula → ℕ → judged.Judged → Type 0
+IsSetJudged names items beliefs set j =
     IsAcceptedVerdict names items beliefs set (verdict_of j.verdict) × ((places : ℕ) → ShowsView names items beliefs set (verdict_of j.verdict) places ↔ (j.view ≡ Some places))

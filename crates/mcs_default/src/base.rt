@@ -14,7 +14,7 @@ ghost use Rattle.mcs_cnf.specs.ClauseLists.{AreOver, IsOver};
 ghost use Rattle.mcs_classical.specs.Assumptions.{assumed};
 ghost use Rattle.mcs_classical.specs.declared.assumptions.Assumption as declared;
 ghost use Rattle.mcs_evidence.specs.Defaults.{AreOverItems, defaults_of};
-ghost use Rattle.mcs_default.specs.Searches.{IsRight};
+ghost use Rattle.mcs_default.specs.Searches.{AreRightFindings};
 ghost use Rattle.mcs_default.specs.Keeping.{items_with, IsTheoryBase};
 
 use crate::findings::Findings;
@@ -70,7 +70,7 @@ impl TheoryBase {
         ensures upper { self.new.upper ≡ self.old.upper }
         ensures conflicts { self.new.conflicts ≡ self.old.conflicts }
         ensures right { OnOk result ((names : List plain.Name) (items : List plain.Item) (given : List declared.Assumption) → IsTheoryBase names items given self.old
-            → IsRight names (items_with items given set) self.new.findings) }
+            → AreRightFindings names (items_with items given set) self.new.findings) }
     {
         select_lower(&self.lower, set, &mut self.findings.lower)?;
         select_upper(&self.upper, set, &mut self.findings.upper)?;
@@ -82,7 +82,8 @@ impl TheoryBase {
         })
     }
 
-    /// Keeps what was found with this set of assumptions, beside what was selected; where memory runs out, a part of it.
+    /// Keeps what was found with this set of assumptions, beside what was selected; where memory runs out, a part of
+    /// it.
     fn keep(
         &mut self,
         selected: Selected,
@@ -92,7 +93,7 @@ impl TheoryBase {
     ) -> Result<(), Memory>
         requires few { length atoms.now ≤ 64 }
         requires numbers { AllByRecursion (λ (a : declared.Assumption). a.number < 64) assumptions.now }
-        ensures { (items : List plain.Item) → IsTheoryBase atoms.now items assumptions.now self.old → IsRight atoms.now (items_with items assumptions.now set) self.old.findings
+        ensures { (items : List plain.Item) → IsTheoryBase atoms.now items assumptions.now self.old → AreRightFindings atoms.now (items_with items assumptions.now set) self.old.findings
             → IsTheoryBase atoms.now items assumptions.now self.new }
     {
         keep_lower(&self.findings.lower, selected.lower, set, &mut self.lower)?;
@@ -111,10 +112,11 @@ impl TheoryBase {
         )
     }
 
-    /// The views of the extensions of the theory with those of the assumptions as facts whose numbers, all below 64, are
-    /// in the set: of each the numbers, from 0, of the beliefs that it has, each view once, in the order of states. All
-    /// atoms are among these, at most 64; there are at most 64 beliefs and 10 defaults. What is found serves for the sets
-    /// that come later; where memory runs out, what is kept stays right.
+    /// The views of the extensions of the theory with some of the assumptions as facts: those whose numbers, all below
+    /// 64, are in the set. The view of an extension is the set of the numbers, from 0, of the beliefs that it has. Each
+    /// view is listed once, in the order of states. All atoms are among these, at most 64; there are at most 64 beliefs
+    /// and 10 defaults. What is found serves for the sets that come later; where memory runs out, what is kept stays
+    /// right.
     pub fn list_extensions(
         &mut self,
         alloc: Global,

@@ -140,8 +140,8 @@ pub(crate) fn is_consistent(upper: &[Upper], set: Vars) -> bool
     false
 }
 
-/// Whether it was found that the formula does not follow from the facts and the consequents of the set: an assignment under
-/// which all of these hold denies it.
+/// Whether it was found that the formula does not follow from the facts and the consequents of the set: an assignment
+/// under which all of these hold denies it.
 pub(crate) fn is_denied(upper: &[Upper], atoms: &[Name], set: Vars, formula: &Formula) -> bool
     requires { length atoms.now ≤ 64 }
     ensures { (items : List plain.Item) → AllByRecursion (IsUpper atoms.now items) upper.now → IsTrue result → ¬ Entails (generated items set) (formula_of formula.now) }

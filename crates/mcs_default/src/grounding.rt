@@ -6,7 +6,7 @@ ghost use Rattle.mcs_system.specs.Faults.{has_twins};
 ghost use Rattle.mcs_system.specs.Plain as plain;
 ghost use Rattle.mcs_system.specs.Seen.{default_of};
 ghost use Rattle.mcs_default.specs.Theories.{AreClausesOf};
-ghost use Rattle.mcs_cnf.specs.Growing.{IsGrown};
+ghost use Rattle.mcs_cnf.specs.Growing.{HasMoreFormulas};
 ghost use Rattle.mcs_evidence.specs.Theories.{AreOverDefaults, all_of};
 ghost use Rattle.mcs_default.specs.Told.{IsToldNext, IsNextInRange, IsToldOfOrder};
 
@@ -81,7 +81,7 @@ fn ask_order(
     requires over { AreOverDefaults atoms.now (map (λ d. default_of d.now) defaults.now) }
     requires room { length atoms.now ≤ known.old.vars }
     requires set { Within set (all_of (map (λ d. default_of d.now) defaults.now)) }
-    ensures grown { OnOk result (IsGrown atoms.now known.old known.new) }
+    ensures grown { OnOk result (HasMoreFormulas atoms.now known.old known.new) }
     ensures told { IfOk result (λ told. (fs : List plain.Formula) → AreClausesOf atoms.now fs known.old
         → IsToldOfOrder atoms.now fs (map (λ d. default_of d.now) defaults.now) set told) }
 {

@@ -17,4 +17,4 @@ mod theory;
 mod verdict;
 
 pub use base::TheoryBase;
-pub use listing::{extensions, extensions_from, list_extensions};
+pub use listing::{extensions, extensions_from};

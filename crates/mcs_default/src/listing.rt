@@ -11,13 +11,13 @@ ghost use Rattle.mcs_system.specs.Seen.{default_of, formula_of, item_of};
 ghost use Rattle.mcs_system.specs.Views.{IsAcceptedView};
 ghost use Rattle.mcs_cnf.specs.ClauseLists.{AreOver, clause_list};
 ghost use Rattle.mcs_evidence.specs.Defaults.{AreOverItems, IsAcceptedDefault, facts_of, defaults_of, verdicts_of};
-ghost use Rattle.mcs_default.specs.Searches.{IsReady, IsRight};
+ghost use Rattle.mcs_default.specs.Searches.{CanBeAsked, AreRightFindings};
 ghost use Rattle.mcs_default.specs.Theories.{AreParts, with_view};
 ghost use Rattle.mcs_evidence.specs.Theories.{AreOverDefaults};
 
 use crate::findings::Findings;
 use crate::search::add_views;
-use crate::theory::{append_formulas, facts, facts_base};
+use crate::theory::{append_formulas, facts};
 use crate::verdict::judge;
 use mcs_base::{Memory, Vars, list_states};
 use mcs_evidence::defaults_of;
@@ -83,10 +83,10 @@ fn list_all(
 ) -> Result<Vec<Vars>, Memory>
     requires few_beliefs { length beliefs.now ≤ 64 }
     requires few_defaults { length defaults.now ≤ 10 }
-    requires ready { IsReady atoms.now (map (λ d. default_of d.now) defaults.now) findings.old }
+    requires ready { CanBeAsked atoms.now (map (λ d. default_of d.now) defaults.now) findings.old }
     requires beliefs { AreOver atoms.now (map (λ b. formula_of b.now) beliefs.now) }
     ensures kept { findings.new.facts ≡ findings.old.facts }
-    ensures ready { OnOk result (IsReady atoms.now (map (λ d. default_of d.now) defaults.now) findings.new) }
+    ensures ready { OnOk result (CanBeAsked atoms.now (map (λ d. default_of d.now) defaults.now) findings.new) }
     ensures exact { IfOk result (λ views. (items : List plain.Item) → AreParts atoms.now items (map (λ d. default_of d.now) defaults.now) findings.old.facts
         → IsListing (IsAcceptedView (DefaultTheory items) (map (λ b. formula_of b.now) beliefs.now)) StateBefore views.items) }
 {
@@ -106,9 +106,9 @@ fn list_all(
     Ok(views)
 }
 
-/// The views of the extensions of a default theory to which facts are added: of each the numbers, from 0, of the
-/// beliefs that it has, each view once, in the order of states; and what shows that these are all, for each set of the
-/// defaults a verdict. All atoms are among these, at most 64; there are at most 64 beliefs and 10 defaults. Where a
+/// The views of the extensions of a default theory to which facts are added, each once, in the order of states. The view
+/// of an extension is the set of the numbers, from 0, of the beliefs that it has. With them comes a verdict on each set
+/// of the defaults, which shows that these views are all. All atoms are among these, at most 64; there are at most 64 beliefs and 10 defaults. Where a
 /// justification has a number from 2^32 on, which no certificate tells, the answer is want of memory.
 pub fn extensions(
     alloc: Global,
@@ -155,8 +155,8 @@ pub fn extensions_from(
     judge_all(alloc, &mut known, &defaults, beliefs, atoms)
 }
 
-/// The views of the extensions of the theory with the added facts, by a search, beside what was found before. The clauses
-/// of the facts of the items are given.
+/// The views of the extensions of the theory with the added facts, by a search, beside what was found before. The
+/// clauses of the facts of the items are given.
 pub(crate) fn list_with(
     alloc: Global,
     findings: &mut Findings,
@@ -173,9 +173,9 @@ pub(crate) fn list_with(
     requires added { AreOver atoms.now (map (λ f. formula_of f.now) added.now) }
     requires beliefs { AreOver atoms.now (map (λ b. formula_of b.now) beliefs.now) }
     requires facts { findings.old.facts ≡ clause_list atoms.now (facts_of (map item_of items.now)) }
-    requires right { IsRight atoms.now (map item_of items.now ++ map Fact (map (λ f. formula_of f.now) added.now)) findings.old }
+    requires right { AreRightFindings atoms.now (map item_of items.now ++ map Fact (map (λ f. formula_of f.now) added.now)) findings.old }
     ensures kept { findings.new.facts ≡ findings.old.facts }
-    ensures right { OnOk result (IsRight atoms.now (map item_of items.now ++ map Fact (map (λ f. formula_of f.now) added.now)) findings.new) }
+    ensures right { OnOk result (AreRightFindings atoms.now (map item_of items.now ++ map Fact (map (λ f. formula_of f.now) added.now)) findings.new) }
     ensures exact { IfOk result (λ views. IsListing (IsAcceptedView (with_heads (DefaultTheory (map item_of items.now)) (map (λ f. formula_of f.now) added.now)) (map (λ b. formula_of b.now) beliefs.now)) StateBefore views.items) }
 {
     let defaults = defaults_of(alloc, items)?;
@@ -184,28 +184,5 @@ pub(crate) fn list_with(
     append_formulas(alloc, &mut findings.facts, added, atoms)?;
     let views = list_all(alloc, findings, &defaults, beliefs, atoms);
     findings.facts.cut(vars, count);
-    views
-}
-
-/// The views of the extensions, as `extensions_from` lists them, without what shows it: of the verdicts none is kept.
-pub fn list_extensions(
-    alloc: Global,
-    items: &[TheoryItem],
-    added: &[&Formula],
-    beliefs: &[&Formula],
-    atoms: &[Name],
-) -> Result<Vec<Vars>, Memory>
-    requires few { length atoms.now ≤ 64 }
-    requires few_beliefs { length beliefs.now ≤ 64 }
-    requires few_defaults { length (defaults_of (map item_of items.now)) ≤ 10 }
-    requires different { has_twins atoms.now ≡ false }
-    requires items { AreOverItems atoms.now (map item_of items.now) }
-    requires added { AreOver atoms.now (map (λ f. formula_of f.now) added.now) }
-    requires beliefs { AreOver atoms.now (map (λ b. formula_of b.now) beliefs.now) }
-    ensures exact { IfOk result (λ r. IsListing (IsAcceptedView (with_heads (DefaultTheory (map item_of items.now)) (map (λ f. formula_of f.now) added.now)) (map (λ b. formula_of b.now) beliefs.now)) StateBefore r.items) }
-{
-    let mut findings = Findings::new(alloc, facts_base(alloc, items, atoms)?);
-    let views = list_with(alloc, &mut findings, items, added, beliefs, atoms);
-    drop(findings);
     views
 }

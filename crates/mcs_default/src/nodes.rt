@@ -8,7 +8,7 @@ ghost use Rattle.mcs_system.specs.Seen.{default_of};
 ghost use Rattle.mcs_evidence.specs.Defaults.{generated};
 ghost use Rattle.mcs_evidence.specs.Theories.{IsDefaultAt};
 ghost use Rattle.mcs_default.specs.Theories.{AreParts};
-ghost use Rattle.mcs_default.specs.Searches.{IsReady, IsAllowedBy, IsOpenAt, IsNextOf, IsGroundedSet};
+ghost use Rattle.mcs_default.specs.Searches.{CanBeAsked, IsAllowedBy, IsOpenAt, IsNextOf, IsGroundedSet};
 
 use crate::findings::Findings;
 use crate::questions::{allows, supports};
@@ -27,10 +27,10 @@ fn applies(
     index: u32,
 ) -> Result<bool, Memory>
     requires few_defaults { length defaults.now ≤ 10 }
-    requires ready { IsReady atoms.now (map (λ d. default_of d.now) defaults.now) findings.old }
+    requires ready { CanBeAsked atoms.now (map (λ d. default_of d.now) defaults.now) findings.old }
     requires index { index < length defaults.now }
     ensures kept { findings.new.facts ≡ findings.old.facts }
-    ensures ready { OnOk result (IsReady atoms.now (map (λ d. default_of d.now) defaults.now) findings.new) }
+    ensures ready { OnOk result (CanBeAsked atoms.now (map (λ d. default_of d.now) defaults.now) findings.new) }
     ensures exact { IfOk result (λ b. (items : List plain.Item) → AreParts atoms.now items (map (λ d. default_of d.now) defaults.now) findings.old.facts
         → (d : plain.Default) → IsDefaultAt items index d → IsTrue b ↔ (Entails (generated items supporting) d.pre × IsAllowedBy (generated items allowing) d)) }
 {
@@ -40,9 +40,9 @@ fn applies(
     Ok(false)
 }
 
-/// Whether the default at the index leaves it open that a set generates an extension which has all that is taken and
-/// nothing that is not in `all`: one that is taken is not blocked by what is taken, and is supported by all; of one that
-/// is out it is not told that each such set supports it and none blocks it.
+/// Whether the default at the index leaves it open that a set between what is taken and `all` generates an extension. If
+/// the default is taken, it is not blocked by what is taken, and it is supported by `all`. If it is out, it was not found
+/// that each such set supports it and none blocks it.
 fn is_open(
     alloc: Global,
     findings: &mut Findings,
@@ -53,11 +53,11 @@ fn is_open(
     index: u32,
 ) -> Result<bool, Memory>
     requires few_defaults { length defaults.now ≤ 10 }
-    requires ready { IsReady atoms.now (map (λ d. default_of d.now) defaults.now) findings.old }
+    requires ready { CanBeAsked atoms.now (map (λ d. default_of d.now) defaults.now) findings.old }
     requires index { index < length defaults.now }
     requires within { Within taken all }
     ensures kept { findings.new.facts ≡ findings.old.facts }
-    ensures ready { OnOk result (IsReady atoms.now (map (λ d. default_of d.now) defaults.now) findings.new) }
+    ensures ready { OnOk result (CanBeAsked atoms.now (map (λ d. default_of d.now) defaults.now) findings.new) }
     ensures exact { IfOk result (λ b. (items : List plain.Item) → AreParts atoms.now items (map (λ d. default_of d.now) defaults.now) findings.old.facts
         → IsTrue b ↔ IsOpenAt items taken all index) }
 {
@@ -80,10 +80,10 @@ pub(crate) fn are_open(
     all: Vars,
 ) -> Result<bool, Memory>
     requires few_defaults { length defaults.now ≤ 10 }
-    requires ready { IsReady atoms.now (map (λ d. default_of d.now) defaults.now) findings.old }
+    requires ready { CanBeAsked atoms.now (map (λ d. default_of d.now) defaults.now) findings.old }
     requires within { Within taken all }
     ensures kept { findings.new.facts ≡ findings.old.facts }
-    ensures ready { OnOk result (IsReady atoms.now (map (λ d. default_of d.now) defaults.now) findings.new) }
+    ensures ready { OnOk result (CanBeAsked atoms.now (map (λ d. default_of d.now) defaults.now) findings.new) }
     ensures exact { IfOk result (λ b. (items : List plain.Item) → AreParts atoms.now items (map (λ d. default_of d.now) defaults.now) findings.old.facts
         → IsTrue b ↔ ((k : ℕ) → k < length defaults.now → IsOpenAt items taken all k)) }
 {
@@ -105,9 +105,9 @@ fn next_supported(
     left: Vars,
 ) -> Result<Option<u32>, Memory>
     requires few_defaults { length defaults.now ≤ 10 }
-    requires ready { IsReady atoms.now (map (λ d. default_of d.now) defaults.now) findings.old }
+    requires ready { CanBeAsked atoms.now (map (λ d. default_of d.now) defaults.now) findings.old }
     ensures kept { findings.new.facts ≡ findings.old.facts }
-    ensures ready { OnOk result (IsReady atoms.now (map (λ d. default_of d.now) defaults.now) findings.new) }
+    ensures ready { OnOk result (CanBeAsked atoms.now (map (λ d. default_of d.now) defaults.now) findings.new) }
     ensures left { IfOk result (λ next. IfSome next (λ k. (k < length defaults.now) × IsTrue (has left k))) }
     ensures exact { IfOk result (λ next. (items : List plain.Item) → AreParts atoms.now items (map (λ d. default_of d.now) defaults.now) findings.old.facts
         → IsNextOf items set left next) }
@@ -131,9 +131,9 @@ pub(crate) fn is_grounded(
     set: Vars,
 ) -> Result<bool, Memory>
     requires few_defaults { length defaults.now ≤ 10 }
-    requires ready { IsReady atoms.now (map (λ d. default_of d.now) defaults.now) findings.old }
+    requires ready { CanBeAsked atoms.now (map (λ d. default_of d.now) defaults.now) findings.old }
     ensures kept { findings.new.facts ≡ findings.old.facts }
-    ensures ready { OnOk result (IsReady atoms.now (map (λ d. default_of d.now) defaults.now) findings.new) }
+    ensures ready { OnOk result (CanBeAsked atoms.now (map (λ d. default_of d.now) defaults.now) findings.new) }
     ensures exact { IfOk result (λ b. (items : List plain.Item) → AreParts atoms.now items (map (λ d. default_of d.now) defaults.now) findings.old.facts
         → IsTrue b ↔ IsGroundedSet items set) }
 {

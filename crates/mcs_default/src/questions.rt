@@ -11,7 +11,7 @@ ghost use Rattle.mcs_classical.specs.Models.{IsCounterexample};
 ghost use Rattle.mcs_evidence.specs.Defaults.{defaults_of, generated};
 ghost use Rattle.mcs_default.specs.Theories.{AreClausesOf, AreParts, consequents};
 ghost use Rattle.mcs_evidence.specs.Theories.{AreOverDefaults, IsDefaultAt};
-ghost use Rattle.mcs_default.specs.Searches.{IsReady, IsAllowedBy, IsConflict};
+ghost use Rattle.mcs_default.specs.Searches.{CanBeAsked, IsAllowedBy, IsConflict};
 
 use crate::findings::{
     Findings, Lower, has_conflict, is_allowed, is_blocked, is_consistent, is_denied, is_supported,
@@ -25,8 +25,8 @@ use mcs_sat::ClauseBase;
 use mcs_system::{Default, Formula, Name, same_formula};
 use std::alloc::Global;
 
-/// The places of the atoms that are true where the facts, whose clauses are `known`, and the consequents of the set hold,
-/// and the goal does not; `None` exactly where it follows.
+/// The places of the atoms that are true where the facts, whose clauses are `known`, and the consequents of the set
+/// hold, and the goal does not; `None` exactly where it follows.
 fn counterexample(
     alloc: Global,
     known: &mut ClauseBase,
@@ -64,10 +64,10 @@ pub(crate) fn follows(
     goal: &Formula,
 ) -> Result<bool, Memory>
     requires few_defaults { length defaults.now ≤ 10 }
-    requires ready { IsReady atoms.now (map (λ d. default_of d.now) defaults.now) findings.old }
+    requires ready { CanBeAsked atoms.now (map (λ d. default_of d.now) defaults.now) findings.old }
     requires goal { IsOver atoms.now (formula_of goal.now) }
     ensures kept { findings.new.facts ≡ findings.old.facts }
-    ensures ready { OnOk result (IsReady atoms.now (map (λ d. default_of d.now) defaults.now) findings.new) }
+    ensures ready { OnOk result (CanBeAsked atoms.now (map (λ d. default_of d.now) defaults.now) findings.new) }
     ensures exact { IfOk result (λ b. (items : List plain.Item) → AreParts atoms.now items (map (λ d. default_of d.now) defaults.now) findings.old.facts
         → IsTrue b ↔ Entails (generated items set) (formula_of goal.now)) }
 {
@@ -93,8 +93,8 @@ fn is_consequent(defaults: &[&Default], set: Vars, formula: &Formula) -> bool
     false
 }
 
-/// Whether the belief follows from the facts and the consequents of the set. It is asked only where neither the set has it
-/// as a consequent nor what was found denies it.
+/// Whether the belief follows from the facts and the consequents of the set. It is asked only where neither the set
+/// has it as a consequent nor what was found denies it.
 pub(crate) fn is_believed(
     alloc: Global,
     findings: &mut Findings,
@@ -104,10 +104,10 @@ pub(crate) fn is_believed(
     belief: &Formula,
 ) -> Result<bool, Memory>
     requires few_defaults { length defaults.now ≤ 10 }
-    requires ready { IsReady atoms.now (map (λ d. default_of d.now) defaults.now) findings.old }
+    requires ready { CanBeAsked atoms.now (map (λ d. default_of d.now) defaults.now) findings.old }
     requires belief { IsOver atoms.now (formula_of belief.now) }
     ensures kept { findings.new.facts ≡ findings.old.facts }
-    ensures ready { OnOk result (IsReady atoms.now (map (λ d. default_of d.now) defaults.now) findings.new) }
+    ensures ready { OnOk result (CanBeAsked atoms.now (map (λ d. default_of d.now) defaults.now) findings.new) }
     ensures exact { IfOk result (λ b. (items : List plain.Item) → AreParts atoms.now items (map (λ d. default_of d.now) defaults.now) findings.old.facts
         → IsTrue b ↔ Entails (generated items set) (formula_of belief.now)) }
 {
@@ -130,10 +130,10 @@ fn refutes(
     formula: &Formula,
 ) -> Result<bool, Memory>
     requires few_defaults { length defaults.now ≤ 10 }
-    requires ready { IsReady atoms.now (map (λ d. default_of d.now) defaults.now) findings.old }
+    requires ready { CanBeAsked atoms.now (map (λ d. default_of d.now) defaults.now) findings.old }
     requires over { IsOver atoms.now (formula_of formula.now) }
     ensures kept { findings.new.facts ≡ findings.old.facts }
-    ensures ready { OnOk result (IsReady atoms.now (map (λ d. default_of d.now) defaults.now) findings.new) }
+    ensures ready { OnOk result (CanBeAsked atoms.now (map (λ d. default_of d.now) defaults.now) findings.new) }
     ensures exact { IfOk result (λ b. (items : List plain.Item) → AreParts atoms.now items (map (λ d. default_of d.now) defaults.now) findings.old.facts
         → IsTrue b ↔ Entails (generated items set) (plain.Not (formula_of formula.now))) }
 {
@@ -153,10 +153,10 @@ fn allows_all(
     justs: &[Formula],
 ) -> Result<bool, Memory>
     requires few_defaults { length defaults.now ≤ 10 }
-    requires ready { IsReady atoms.now (map (λ d. default_of d.now) defaults.now) findings.old }
+    requires ready { CanBeAsked atoms.now (map (λ d. default_of d.now) defaults.now) findings.old }
     requires over { AreOver atoms.now (map formula_of justs.now) }
     ensures kept { findings.new.facts ≡ findings.old.facts }
-    ensures ready { OnOk result (IsReady atoms.now (map (λ d. default_of d.now) defaults.now) findings.new) }
+    ensures ready { OnOk result (CanBeAsked atoms.now (map (λ d. default_of d.now) defaults.now) findings.new) }
     ensures exact { IfOk result (λ b. (items : List plain.Item) → AreParts atoms.now items (map (λ d. default_of d.now) defaults.now) findings.old.facts
         → IsTrue b ↔ AllByRecursion (λ j. ¬ Entails (generated items set) (plain.Not j)) (map formula_of justs.now)) }
 {
@@ -178,10 +178,10 @@ pub(crate) fn supports(
     index: u32,
 ) -> Result<bool, Memory>
     requires few_defaults { length defaults.now ≤ 10 }
-    requires ready { IsReady atoms.now (map (λ d. default_of d.now) defaults.now) findings.old }
+    requires ready { CanBeAsked atoms.now (map (λ d. default_of d.now) defaults.now) findings.old }
     requires index { index < length defaults.now }
     ensures kept { findings.new.facts ≡ findings.old.facts }
-    ensures ready { OnOk result (IsReady atoms.now (map (λ d. default_of d.now) defaults.now) findings.new) }
+    ensures ready { OnOk result (CanBeAsked atoms.now (map (λ d. default_of d.now) defaults.now) findings.new) }
     ensures exact { IfOk result (λ b. (items : List plain.Item) → AreParts atoms.now items (map (λ d. default_of d.now) defaults.now) findings.old.facts
         → (d : plain.Default) → IsDefaultAt items index d → IsTrue b ↔ Entails (generated items set) d.pre) }
 {
@@ -218,9 +218,9 @@ fn entails_all(
     set: Vars,
 ) -> Result<bool, Memory>
     requires few_defaults { length defaults.now ≤ 10 }
-    requires ready { IsReady atoms.now (map (λ d. default_of d.now) defaults.now) findings.old }
+    requires ready { CanBeAsked atoms.now (map (λ d. default_of d.now) defaults.now) findings.old }
     ensures kept { findings.new.facts ≡ findings.old.facts }
-    ensures ready { OnOk result (IsReady atoms.now (map (λ d. default_of d.now) defaults.now) findings.new) }
+    ensures ready { OnOk result (CanBeAsked atoms.now (map (λ d. default_of d.now) defaults.now) findings.new) }
     ensures exact { IfOk result (λ b. (items : List plain.Item) → AreParts atoms.now items (map (λ d. default_of d.now) defaults.now) findings.old.facts
         → IsTrue b ↔ IsConflict items set) }
 {
@@ -240,12 +240,12 @@ fn without_needless(
     index: u32,
 ) -> Result<Vars, Memory>
     requires few_defaults { length defaults.now ≤ 10 }
-    requires ready { IsReady atoms.now (map (λ d. default_of d.now) defaults.now) findings.old }
+    requires ready { CanBeAsked atoms.now (map (λ d. default_of d.now) defaults.now) findings.old }
     requires index { index < length defaults.now }
     requires conflict { (items : List plain.Item) → AreParts atoms.now items (map (λ d. default_of d.now) defaults.now) findings.old.facts
         → IsConflict items set }
     ensures kept { findings.new.facts ≡ findings.old.facts }
-    ensures ready { OnOk result (IsReady atoms.now (map (λ d. default_of d.now) defaults.now) findings.new) }
+    ensures ready { OnOk result (CanBeAsked atoms.now (map (λ d. default_of d.now) defaults.now) findings.new) }
     ensures conflict { IfOk result (λ least. (items : List plain.Item) → AreParts atoms.now items (map (λ d. default_of d.now) defaults.now) findings.old.facts
         → IsConflict items least) }
 {
@@ -268,11 +268,11 @@ fn least_conflict(
     set: Vars,
 ) -> Result<Vars, Memory>
     requires few_defaults { length defaults.now ≤ 10 }
-    requires ready { IsReady atoms.now (map (λ d. default_of d.now) defaults.now) findings.old }
+    requires ready { CanBeAsked atoms.now (map (λ d. default_of d.now) defaults.now) findings.old }
     requires conflict { (items : List plain.Item) → AreParts atoms.now items (map (λ d. default_of d.now) defaults.now) findings.old.facts
         → IsConflict items set }
     ensures kept { findings.new.facts ≡ findings.old.facts }
-    ensures ready { OnOk result (IsReady atoms.now (map (λ d. default_of d.now) defaults.now) findings.new) }
+    ensures ready { OnOk result (CanBeAsked atoms.now (map (λ d. default_of d.now) defaults.now) findings.new) }
     ensures conflict { IfOk result (λ least. (items : List plain.Item) → AreParts atoms.now items (map (λ d. default_of d.now) defaults.now) findings.old.facts
         → IsConflict items least) }
 {
@@ -283,7 +283,8 @@ fn least_conflict(
     Ok(least)
 }
 
-/// Whether the facts and the consequents of the set contradict each other. Where they do, a least part that does is kept.
+/// Whether the facts and the consequents of the set contradict each other. Where they do, a least part that does is
+/// kept.
 fn contradicts(
     alloc: Global,
     findings: &mut Findings,
@@ -292,9 +293,9 @@ fn contradicts(
     set: Vars,
 ) -> Result<bool, Memory>
     requires few_defaults { length defaults.now ≤ 10 }
-    requires ready { IsReady atoms.now (map (λ d. default_of d.now) defaults.now) findings.old }
+    requires ready { CanBeAsked atoms.now (map (λ d. default_of d.now) defaults.now) findings.old }
     ensures kept { findings.new.facts ≡ findings.old.facts }
-    ensures ready { OnOk result (IsReady atoms.now (map (λ d. default_of d.now) defaults.now) findings.new) }
+    ensures ready { OnOk result (CanBeAsked atoms.now (map (λ d. default_of d.now) defaults.now) findings.new) }
     ensures exact { IfOk result (λ b. (items : List plain.Item) → AreParts atoms.now items (map (λ d. default_of d.now) defaults.now) findings.old.facts
         → IsTrue b ↔ IsConflict items set) }
 {
@@ -322,10 +323,10 @@ fn allows_by_asking(
     index: u32,
 ) -> Result<bool, Memory>
     requires few_defaults { length defaults.now ≤ 10 }
-    requires ready { IsReady atoms.now (map (λ d. default_of d.now) defaults.now) findings.old }
+    requires ready { CanBeAsked atoms.now (map (λ d. default_of d.now) defaults.now) findings.old }
     requires index { index < length defaults.now }
     ensures kept { findings.new.facts ≡ findings.old.facts }
-    ensures ready { OnOk result (IsReady atoms.now (map (λ d. default_of d.now) defaults.now) findings.new) }
+    ensures ready { OnOk result (CanBeAsked atoms.now (map (λ d. default_of d.now) defaults.now) findings.new) }
     ensures exact { IfOk result (λ b. (items : List plain.Item) → AreParts atoms.now items (map (λ d. default_of d.now) defaults.now) findings.old.facts
         → (d : plain.Default) → IsDefaultAt items index d → IsTrue b ↔ IsAllowedBy (generated items set) d) }
 {
@@ -364,10 +365,10 @@ pub(crate) fn allows(
     index: u32,
 ) -> Result<bool, Memory>
     requires few_defaults { length defaults.now ≤ 10 }
-    requires ready { IsReady atoms.now (map (λ d. default_of d.now) defaults.now) findings.old }
+    requires ready { CanBeAsked atoms.now (map (λ d. default_of d.now) defaults.now) findings.old }
     requires index { index < length defaults.now }
     ensures kept { findings.new.facts ≡ findings.old.facts }
-    ensures ready { OnOk result (IsReady atoms.now (map (λ d. default_of d.now) defaults.now) findings.new) }
+    ensures ready { OnOk result (CanBeAsked atoms.now (map (λ d. default_of d.now) defaults.now) findings.new) }
     ensures exact { IfOk result (λ b. (items : List plain.Item) → AreParts atoms.now items (map (λ d. default_of d.now) defaults.now) findings.old.facts
         → (d : plain.Default) → IsDefaultAt items index d → IsTrue b ↔ IsAllowedBy (generated items set) d) }
 {

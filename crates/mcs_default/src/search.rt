@@ -11,7 +11,7 @@ ghost use Rattle.mcs_cnf.specs.ClauseLists.{AreOver};
 ghost use Rattle.mcs_evidence.specs.Defaults.{generated};
 ghost use Rattle.mcs_default.specs.Theories.{AreParts};
 ghost use Rattle.mcs_evidence.specs.Theories.{AreOverDefaults, all_of};
-ghost use Rattle.mcs_default.specs.Searches.{IsReady, IsOpenAt, IsViewBelow};
+ghost use Rattle.mcs_default.specs.Searches.{CanBeAsked, IsOpenAt, IsViewBelow};
 
 use crate::findings::Findings;
 use crate::nodes::{are_open, is_grounded};
@@ -31,10 +31,10 @@ fn view_of(
 ) -> Result<Vars, Memory>
     requires few_beliefs { length beliefs.now ≤ 64 }
     requires few_defaults { length defaults.now ≤ 10 }
-    requires ready { IsReady atoms.now (map (λ d. default_of d.now) defaults.now) findings.old }
+    requires ready { CanBeAsked atoms.now (map (λ d. default_of d.now) defaults.now) findings.old }
     requires beliefs { AreOver atoms.now (map (λ b. formula_of b.now) beliefs.now) }
     ensures kept { findings.new.facts ≡ findings.old.facts }
-    ensures ready { OnOk result (IsReady atoms.now (map (λ d. default_of d.now) defaults.now) findings.new) }
+    ensures ready { OnOk result (CanBeAsked atoms.now (map (λ d. default_of d.now) defaults.now) findings.new) }
     ensures shown { IfOk result (λ view. (items : List plain.Item) → AreParts atoms.now items (map (λ d. default_of d.now) defaults.now) findings.old.facts
         → Shows (Theory (generated items set)) (map (λ b. formula_of b.now) beliefs.now) view) }
 {
@@ -47,8 +47,8 @@ fn view_of(
     Ok(view)
 }
 
-/// Adds the view of what the set generates, where that is an extension. By this set each of its defaults applies, and no
-/// other one.
+/// Adds the view of what the set generates, where that is an extension. By this set each of its defaults applies, and
+/// no other one.
 fn add_view(
     alloc: Global,
     findings: &mut Findings,
@@ -60,10 +60,10 @@ fn add_view(
 ) -> Result<(), Memory>
     requires few_beliefs { length beliefs.now ≤ 64 }
     requires few_defaults { length defaults.now ≤ 10 }
-    requires ready { IsReady atoms.now (map (λ d. default_of d.now) defaults.now) findings.old }
+    requires ready { CanBeAsked atoms.now (map (λ d. default_of d.now) defaults.now) findings.old }
     requires beliefs { AreOver atoms.now (map (λ b. formula_of b.now) beliefs.now) }
     ensures kept { findings.new.facts ≡ findings.old.facts }
-    ensures ready { OnOk result (IsReady atoms.now (map (λ d. default_of d.now) defaults.now) findings.new) }
+    ensures ready { OnOk result (CanBeAsked atoms.now (map (λ d. default_of d.now) defaults.now) findings.new) }
     ensures listed { OnOk result ((items : List plain.Item) → AreParts atoms.now items (map (λ d. default_of d.now) defaults.now) findings.old.facts
         → Within set (all_of (map (λ d. default_of d.now) defaults.now)) → ((k : ℕ) → k < length defaults.now → IsOpenAt items set set k)
         → (places : ℕ) → IsAmong places views.new.items ↔ (IsAmong places views.old.items ⊎ IsViewBelow items (map (λ b. formula_of b.now) beliefs.now) set set places)) }
@@ -89,12 +89,12 @@ pub(crate) fn add_views(
 ) -> Result<(), Memory>
     requires few_beliefs { length beliefs.now ≤ 64 }
     requires few_defaults { length defaults.now ≤ 10 }
-    requires ready { IsReady atoms.now (map (λ d. default_of d.now) defaults.now) findings.old }
+    requires ready { CanBeAsked atoms.now (map (λ d. default_of d.now) defaults.now) findings.old }
     requires beliefs { AreOver atoms.now (map (λ b. formula_of b.now) beliefs.now) }
     requires within { Within taken all }
     requires all { Within all (all_of (map (λ d. default_of d.now) defaults.now)) }
     ensures kept { findings.new.facts ≡ findings.old.facts }
-    ensures ready { OnOk result (IsReady atoms.now (map (λ d. default_of d.now) defaults.now) findings.new) }
+    ensures ready { OnOk result (CanBeAsked atoms.now (map (λ d. default_of d.now) defaults.now) findings.new) }
     ensures listed { OnOk result ((items : List plain.Item) → AreParts atoms.now items (map (λ d. default_of d.now) defaults.now) findings.old.facts
         → (places : ℕ) → IsAmong places views.new.items ↔ (IsAmong places views.old.items ⊎ IsViewBelow items (map (λ b. formula_of b.now) beliefs.now) taken all places)) }
 {

@@ -8,7 +8,7 @@ ghost use Rattle.mcs_system.specs.Seen.{default_of, formula_of};
 ghost use Rattle.mcs_cnf.specs.ClauseLists.{AreOver};
 ghost use Rattle.mcs_default.specs.Theories.{AreParts};
 ghost use Rattle.mcs_evidence.specs.Theories.{AreOverDefaults, all_of};
-ghost use Rattle.mcs_default.specs.Told.{IsToldOfJustsIn, IsToldOrder, IsJudged};
+ghost use Rattle.mcs_default.specs.Told.{IsToldOfJustsIn, IsToldOrder, IsSetJudged};
 
 use crate::grounding::{Grounding, tell_order};
 use crate::inside::{Inside, tell_inside};
@@ -53,7 +53,7 @@ fn judge_grounded(
     ensures kept { OnOk result (known.new ≡ known.old) }
     ensures judged { IfOk result (λ judged. (items : List plain.Item) → AreParts atoms.now items (map (λ d. default_of d.now) defaults.now) known.old
         → IsToldOfJustsIn atoms.now items set parts.justs.items → IsToldOrder atoms.now items set parts.order.items parts.pres.items
-        → IsJudged atoms.now items (map (λ b. formula_of b.now) beliefs.now) set judged) }
+        → IsSetJudged atoms.now items (map (λ b. formula_of b.now) beliefs.now) set judged) }
 {
     match tell_rest(alloc, known, defaults, set, beliefs, atoms) {
         Ok(Rest::Applied(number, pre, justs)) => {
@@ -104,7 +104,7 @@ fn judge_allowed(
     requires set { Within set (all_of (map (λ d. default_of d.now) defaults.now)) }
     ensures kept { OnOk result (known.new ≡ known.old) }
     ensures judged { IfOk result (λ judged. (items : List plain.Item) → AreParts atoms.now items (map (λ d. default_of d.now) defaults.now) known.old
-        → IsToldOfJustsIn atoms.now items set justs.items → IsJudged atoms.now items (map (λ b. formula_of b.now) beliefs.now) set judged) }
+        → IsToldOfJustsIn atoms.now items set justs.items → IsSetJudged atoms.now items (map (λ b. formula_of b.now) beliefs.now) set judged) }
 {
     match tell_order(alloc, known, defaults, set, atoms) {
         Ok(Grounding::Stuck(closed, pres)) => {
@@ -146,7 +146,7 @@ pub(crate) fn judge(
     requires set { Within set (all_of (map (λ d. default_of d.now) defaults.now)) }
     ensures kept { OnOk result (known.new ≡ known.old) }
     ensures judged { IfOk result (λ judged. (items : List plain.Item) → AreParts atoms.now items (map (λ d. default_of d.now) defaults.now) known.old
-        → IsJudged atoms.now items (map (λ b. formula_of b.now) beliefs.now) set judged) }
+        → IsSetJudged atoms.now items (map (λ b. formula_of b.now) beliefs.now) set judged) }
 {
     match tell_inside(alloc, known, defaults, set, atoms)? {
         Inside::Fails(absence) => {

@@ -18,7 +18,7 @@ use Rattle.mcs_laws.proofs.Choices.{consistent_minimal}
 use Rattle.mcs_laws.proofs.Counting.{minimal_is_small}
 use Rattle.mcs_laws.proofs.Projections.{parts_of}
 use Rattle.mcs_diagnosis.specs.declared.diagnosis.Diagnosis as code
-use Rattle.mcs_diagnosis.specs.Diagnoses.{AreFound, AreFoundBelow, AreDiagnoses, IsOfLevel, IsShown, pairs_of}
+use Rattle.mcs_diagnosis.specs.Diagnoses.{AreShownDiagnoses, AreFoundBelow, AreDiagnoses, IsDiagnosisOfSize, ShowsFirstState, pairs_of}
 
 -- a minimal diagnosis with fewer marks than the level
 abbrev pub IsBelow : System → ℕ → ℕ → Type 0
@@ -28,21 +28,21 @@ pub none_below : (m : System) → AreFoundBelow m 0 []
 none_below m = record { listed = IsListing-nil PairBefore _ (λ p h. absurd (omega (arith, h.1))); shown = tt }
 
 -- the diagnoses of a level come after those below it
-pub more_below : (m : System) (level : ℕ) (ds fresh : List code.Diagnosis) → AreFoundBelow m level ds → AreFound m level fresh → AreFoundBelow m (level + 1) (ds ++ fresh)
+pub more_below : (m : System) (level : ℕ) (ds fresh : List code.Diagnosis) → AreFoundBelow m level ds → AreShownDiagnoses m level fresh → AreFoundBelow m (level + 1) (ds ++ fresh)
 more_below m level ds fresh below found = record {
   listed = subst (IsListing (IsBelow m (level + 1)) PairBefore) (sym (map-append (λ (d : code.Diagnosis). d.pair) ds fresh))
-      (IsListing-same PairBefore _ (IsBelow m (level + 1)) _ (λ p. (to p, from p)) (IsListing-append PairBefore (IsBelow m level) (IsOfLevel m level) (pairs_of ds) (pairs_of fresh) first below.listed found.listed));
-  shown = all_append (IsShown m) ds fresh below.shown found.shown;
+      (IsListing-same PairBefore _ (IsBelow m (level + 1)) _ (λ p. (to p, from p)) (IsListing-append PairBefore (IsBelow m level) (IsDiagnosisOfSize m level) (pairs_of ds) (pairs_of fresh) first below.listed found.listed));
+  shown = all_append (ShowsFirstState m) ds fresh below.shown found.shown;
 }
   where
-    first : (p q : ℕ) → IsBelow m level p → IsOfLevel m level q → PairBefore p q
+    first : (p q : ℕ) → IsBelow m level p → IsDiagnosisOfSize m level q → PairBefore p q
     first p q less is = inl (omega (arith, less.1, is.1))
 
-    to : (p : ℕ) → IsBelow m level p ⊎ IsOfLevel m level p → IsBelow m (level + 1) p
+    to : (p : ℕ) → IsBelow m level p ⊎ IsDiagnosisOfSize m level p → IsBelow m (level + 1) p
     to p (inl less) = (less.0, omega (arith, less.1))
     to p (inr is) = (is.0, omega (arith, is.1))
 
-    from : (p : ℕ) → IsBelow m (level + 1) p → IsBelow m level p ⊎ IsOfLevel m level p
+    from : (p : ℕ) → IsBelow m (level + 1) p → IsBelow m level p ⊎ IsDiagnosisOfSize m level p
     from p h = elim (cases_lt (size p) level) [
       | inl less ↦ inl (h.0, less)
       | inr past ↦ inr (h.0, omega (arith, h.1))
@@ -67,7 +67,7 @@ pub all_below : (m : System) (ds : List code.Diagnosis) (level : ℕ) → length
 all_below m ds level past below = all_where m ds level (λ p h. omega (arith, minimal_is_small m p h)) below
 
 -- what is shown is of the system
-pub shown_within : (m : System) (d : code.Diagnosis) → IsDiagnosis m d.pair → IsShown m d → Within d.pair (all_marks m) × Within d.state (all_variables m) × Within d.active (all_rules m)
+pub shown_within : (m : System) (d : code.Diagnosis) → IsDiagnosis m d.pair → ShowsFirstState m d → Within d.pair (all_marks m) × Within d.state (all_variables m) × Within d.active (all_rules m)
 shown_within m d is shown = (allowed_known m d.pair is.allowed, (parts_of m _ _ d.state shown.state.one).0, rw shown.active (union_within _ _ _ rules (forced_known m d.pair (allowed_known m d.pair is.allowed))))
   where
     rules : Within (minus (applicable m d.state) (removed_of d.pair)) (all_rules m)

@@ -10,13 +10,13 @@ use Rattle.mcs_laws.proofs.Choices.{consistent_minimal, consistent_where_nothing
 use Rattle.mcs_states.specs.Evaluators.{EvaluatorState, KeepsRest}
 use Rattle.mcs_diagnosis.specs.declared.diagnosis.Diagnosis as code
 use Rattle.mcs_diagnosis.specs.Courses.{Course, IsCourse, IsPast}
-use Rattle.mcs_diagnosis.specs.Diagnoses.{AreFound, pairs_of}
+use Rattle.mcs_diagnosis.specs.Diagnoses.{AreShownDiagnoses, pairs_of}
 
-pub found_consistent : (m : System) (level : ℕ) (ds : List code.Diagnosis) → level ≡ 0 → AreFound m level ds → ds ≢ [] → IsConsistent m
+pub found_consistent : (m : System) (level : ℕ) (ds : List code.Diagnosis) → level ≡ 0 → AreShownDiagnoses m level ds → ds ≢ [] → IsConsistent m
 found_consistent m level [] e f some = absurd (some refl)
 found_consistent m level (d ∷ ds) e f some = let h = (f.listed.exactly d.pair).0 (inl refl) in consistent_where_nothing m (subst (IsDiagnosis m) (none_from_size d.pair (h.1 ∙ e)) h.0.one)
 
-pub consistent_found : (m : System) (level : ℕ) (ds : List code.Diagnosis) → level ≡ 0 → AreFound m level ds → IsConsistent m → ds ≢ []
+pub consistent_found : (m : System) (level : ℕ) (ds : List code.Diagnosis) → level ≡ 0 → AreShownDiagnoses m level ds → IsConsistent m → ds ≢ []
 consistent_found m level ds e f c none =
     let among : IsAmong 0 (pairs_of ds) = (f.listed.exactly 0).1 ((consistent_minimal m c.equilibrium c.balanced 0).1 refl, size-none ∙ sym e) in
     subst (λ (xs : List code.Diagnosis). IsAmong 0 (pairs_of xs)) none among
@@ -40,13 +40,13 @@ not_past stands now view system result is same off exact past =
 
 -- what level 0 has, and what the code keeps of it
 pub first_course : (e e' : EvaluatorState) (system m : System) (level : ℕ) (was now none : Bool) (ds : List code.Diagnosis) (count : ℕ) → IsCourse e system level was → KeepsRest e e' → ¬ IsPast system level
-    → level ≡ 0 → m ≡ system → AreFound m level ds → count ≡ length ds → none ≡ eqb count 0 → now ≡ not none → IsCourse e' system (level + 1) now
+    → level ≡ 0 → m ≡ system → AreShownDiagnoses m level ds → count ≡ length ds → none ≡ eqb count 0 → now ≡ not none → IsCourse e' system (level + 1) now
 first_course e e' system m level was now none ds count c rest past first same found len empty is = next_course e e' system level was now c rest past
     (λ h. found_consistent system level ds first found' (λ e. some_kept h e))
     (λ h. decided ds refl (consistent_found system level ds first found' h))
   where
-    found' : AreFound system level ds
-    found' = subst (λ (s : System). AreFound s level ds) same found
+    found' : AreShownDiagnoses system level ds
+    found' = subst (λ (s : System). AreShownDiagnoses s level ds) same found
 
     some_kept : now ≡ true → ds ≡ [] → ⊥
     some_kept h e = let none_there : length ds ≡ 0 = ap length e in let z : count ≡ 0 = omega arith in grind (arith, nat_tests)

@@ -13,7 +13,7 @@ use Rattle.mcs_system.specs.Repairs.{IsDiagnosis}
 use Rattle.mcs_states.specs.Evaluators.{AreRepairs, IsStateOf}
 use Rattle.mcs_states.specs.First.{IsFirstState}
 use Rattle.mcs_diagnosis.specs.declared.diagnosis.Diagnosis as code
-use Rattle.mcs_diagnosis.specs.Diagnoses.{AreFound, IsShown, pairs_of, active_in}
+use Rattle.mcs_diagnosis.specs.Diagnoses.{AreShownDiagnoses, ShowsFirstState, pairs_of, active_in}
 
 of_size-more : (level : ℕ) (xs : List ℕ) (i x : ℕ) → i < length xs → x ≡ get_or xs i x → of_size level (take (i + 1) xs) ≡ of_size level (take i xs) ++ cond (eqb (size x) level) (x ∷ []) []
 of_size-more level xs i x less is = ap (of_size level) (take_more xs i x less ∙ ap (λ y. take i xs ++ y ∷ []) (sym is)) ∙ filter-append (λ p. eqb (size p) level) (take i xs) (x ∷ [])
@@ -32,7 +32,7 @@ pairs-skip level ds xs i x less is wrong so_far =
     let all : of_size level (take i xs) ++ cond (eqb (size x) level) (x ∷ []) [] ≡ of_size level (take i xs) ++ [] = ap (λ b. of_size level (take i xs) ++ cond b (x ∷ []) []) test in
     so_far ∙ sym (append-nil _) ∙ sym all ∙ sym (of_size-more level xs i x less is)
 
-pub all-found : (m m' : System) (level : ℕ) (ds : List code.Diagnosis) (xs ys : List ℕ) (i : ℕ) → m' ≡ m → ys ≡ xs → AreRepairs m' level xs → length ys ≤ i → pairs_of ds ≡ of_size level (take i ys) → AllByRecursion (IsShown m) ds → AreFound m level ds
+pub all-found : (m m' : System) (level : ℕ) (ds : List code.Diagnosis) (xs ys : List ℕ) (i : ℕ) → m' ≡ m → ys ≡ xs → AreRepairs m' level xs → length ys ≤ i → pairs_of ds ≡ of_size level (take i ys) → AllByRecursion (ShowsFirstState m) ds → AreShownDiagnoses m level ds
 all-found m m' level ds xs ys i e same l past so_far shown = record { listed = rw (so_far ∙ ap (of_size level) (take_all i ys past ∙ same), ← e) (IsListing-of_size (IsMinimal (IsDiagnosis m')) _ level xs l); shown = shown }
 
 pair_known : (m : System) (level : ℕ) (xs : List ℕ) (i x : ℕ) → AreRepairs m level xs → i < length xs → x ≡ get_or xs i x → IsMinimal (IsDiagnosis m) x
@@ -45,5 +45,5 @@ pub some_there : (m : System) (pair : ℕ) (o : Option ℕ) → IsDiagnosis m pa
 some_there m pair None h none = absurd (none h.equilibrium h.balanced)
 some_there m pair (Some σ) h first = search rules
 
-pub shown_here : (m m' : System) (pair σ act : ℕ) (o : Option ℕ) → m' ≡ m → o ≡ Some σ → MatchOption o ((τ : ℕ) → ¬ IsStateOf m' pair τ) (IsFirstState m' pair) → act ≡ active_in m pair σ → IsShown m (record { pair = pair; state = σ; active = act })
+pub shown_here : (m m' : System) (pair σ act : ℕ) (o : Option ℕ) → m' ≡ m → o ≡ Some σ → MatchOption o ((τ : ℕ) → ¬ IsStateOf m' pair τ) (IsFirstState m' pair) → act ≡ active_in m pair σ → ShowsFirstState m (record { pair = pair; state = σ; active = act })
 shown_here m m' pair σ act o e is first active = record { state = subst (λ (s : System). IsFirstState s pair σ) e (rw is at first); active = active }

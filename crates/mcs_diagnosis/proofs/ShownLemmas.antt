@@ -16,7 +16,7 @@ use Rattle.mcs_system.specs.Repairs.{IsDiagnosis}
 use Rattle.mcs_states.specs.Evaluators.{IsStateOf, AreStates}
 use Rattle.mcs_states.specs.First.{IsFirstState}
 use Rattle.mcs_diagnosis.specs.declared.diagnosis.Diagnosis as code
-use Rattle.mcs_diagnosis.specs.Diagnoses.{AreFoundBelow, AreDiagnoses, IsShown, pairs_of, active_in}
+use Rattle.mcs_diagnosis.specs.Diagnoses.{AreFoundBelow, AreDiagnoses, ShowsFirstState, pairs_of, active_in}
 use Rattle.mcs_diagnosis.proofs.BelowLemmas.{IsBelow}
 
 -- ---- what is shown of a pair is one
@@ -28,7 +28,7 @@ first_is_one m pair σ τ a b = at (a.first τ b.one) (b.first σ a.one)
     at (inr before) (inl e) = sym e
     at (inr before) (inr after) = absurd (StateBefore-asymmetric σ τ before after)
 
-shown_is_one : (m : System) (d e : code.Diagnosis) → d.pair ≡ e.pair → IsShown m d → IsShown m e → d ≡ e
+shown_is_one : (m : System) (d e : code.Diagnosis) → d.pair ≡ e.pair → ShowsFirstState m d → ShowsFirstState m e → d ≡ e
 shown_is_one m d e pair a b =
     let state : d.state ≡ e.state = first_is_one m e.pair d.state e.state (subst (λ (p : ℕ). IsFirstState m p d.state) pair a.state) b.state in
     let active : d.active ≡ e.active = a.active ∙ ap (λ (p : ℕ). active_in m p d.state) pair ∙ ap (active_in m e.pair) state ∙ sym b.active in
@@ -41,7 +41,7 @@ shown_is_one m d e pair a b =
     same p σ act p' σ' act' e e' e'' = ap (λ (q : ℕ). made q σ act) e ∙ ap (λ (τ : ℕ). made p' τ act) e' ∙ ap (made p' σ') e''
 
 -- where the pairs begin in the same way, so does what is shown
-shown_front : (m : System) (ds all : List code.Diagnosis) (later : List ℕ) → pairs_of ds ++ later ≡ pairs_of all → AllByRecursion (IsShown m) ds → AllByRecursion (IsShown m) all
+shown_front : (m : System) (ds all : List code.Diagnosis) (later : List ℕ) → pairs_of ds ++ later ≡ pairs_of all → AllByRecursion (ShowsFirstState m) ds → AllByRecursion (ShowsFirstState m) all
     → (rest : List code.Diagnosis) × (ds ++ rest ≡ all) × (pairs_of rest ≡ later)
 shown_front m [] all later e shown shown' = (all, refl, sym e)
 shown_front m (d ∷ ds) [] later e shown shown' = absurd (cc)
@@ -96,7 +96,7 @@ first_of m pair (τ ∷ states) listing σ is = (τ, record { one = (listing.exa
     at υ (inl e) = inl (sym e)
     at υ (inr among) = inr (all_among (StateBefore τ) states υ listing.ascending.0 among)
 
-pub shown_exist : (m : System) → ((pair : ℕ) → (states : List ℕ) × AreStates m pair states) → (pairs : List ℕ) → AllByRecursion (IsDiagnosis m) pairs → (ds : List code.Diagnosis) × (pairs_of ds ≡ pairs) × AllByRecursion (IsShown m) ds
+pub shown_exist : (m : System) → ((pair : ℕ) → (states : List ℕ) × AreStates m pair states) → (pairs : List ℕ) → AllByRecursion (IsDiagnosis m) pairs → (ds : List code.Diagnosis) × (pairs_of ds ≡ pairs) × AllByRecursion (ShowsFirstState m) ds
 shown_exist m listed [] all = ([], refl, tt)
 shown_exist m listed (pair ∷ pairs) all =
     let (states, listing) = listed pair in

@@ -13,15 +13,15 @@ use Rattle.mcs_states.specs.First.{IsFirstState}
 use Rattle.mcs_diagnosis.specs.declared.diagnosis.Diagnosis as code
 
 -- a minimal diagnosis of so many marks
-abbrev pub IsOfLevel : System → ℕ → ℕ → Type 0
-IsOfLevel m level p = IsMinimal (IsDiagnosis m) p × (size p ≡ level)
+abbrev pub IsDiagnosisOfSize : System → ℕ → ℕ → Type 0
+IsDiagnosisOfSize m level p = IsMinimal (IsDiagnosis m) p × (size p ≡ level)
 
 -- the rules that apply, without the removed and with the forced
 abbrev pub active_in : System → ℕ → ℕ → ℕ
 active_in m pair σ = union (minus (applicable m σ) (removed_of pair)) (forced_of pair)
 
 -- it shows the first state of the changed system, and the rules that are active in it
-pub record IsShown (m : System) (d : code.Diagnosis) : Type 0 where
+pub record ShowsFirstState (m : System) (d : code.Diagnosis) : Type 0 where
   pub state : IsFirstState m d.pair d.state
   pub active : d.active ≡ active_in m d.pair d.state
 
@@ -29,16 +29,16 @@ abbrev pub pairs_of : List code.Diagnosis → List ℕ
 pairs_of ds = map (λ (d : code.Diagnosis). d.pair) ds
 
 -- exactly the minimal diagnoses of so many marks, in the order of pairs, each as it is shown
-pub record AreFound (m : System) (level : ℕ) (ds : List code.Diagnosis) : Type 0 where
-  pub listed : IsListing (IsOfLevel m level) PairBefore (pairs_of ds)
-  pub shown : AllByRecursion (IsShown m) ds
+pub record AreShownDiagnoses (m : System) (level : ℕ) (ds : List code.Diagnosis) : Type 0 where
+  pub listed : IsListing (IsDiagnosisOfSize m level) PairBefore (pairs_of ds)
+  pub shown : AllByRecursion (ShowsFirstState m) ds
 
 -- exactly the minimal diagnoses with fewer marks than the level, in the order of pairs, each as it is shown
 pub record AreFoundBelow (m : System) (level : ℕ) (ds : List code.Diagnosis) : Type 0 where
   pub listed : IsListing (λ p. IsMinimal (IsDiagnosis m) p × (size p < level)) PairBefore (pairs_of ds)
-  pub shown : AllByRecursion (IsShown m) ds
+  pub shown : AllByRecursion (ShowsFirstState m) ds
 
 -- exactly the minimal diagnoses, in the order of pairs, each as it is shown
 pub record AreDiagnoses (m : System) (ds : List code.Diagnosis) : Type 0 where
   pub listed : IsListing (IsMinimal (IsDiagnosis m)) PairBefore (pairs_of ds)
-  pub shown : AllByRecursion (IsShown m) ds
+  pub shown : AllByRecursion (ShowsFirstState m) ds

@@ -1,10 +1,10 @@
 //! The diagnoses of one level.
 
 ghost use Rattle.std.specs.Prelude.{◌≡◌, false, IfOk, IfErr, OnOk};
-ghost use Rattle.mcs_states.specs.Evaluators.{KeepsRest, HasDone, HasHalted, HasHaltCause, IsTold};
+ghost use Rattle.mcs_states.specs.Evaluators.{KeepsRest, HasDone, HasHalted, HasHaltCause, IsHaltOf};
 ghost use Rattle.mcs_sets.specs.Sets.{size};
 ghost use Rattle.mcs_system.specs.Repairs.{IsDiagnosis};
-ghost use Rattle.mcs_diagnosis.specs.Diagnoses.{AreFound, IsShown, active_in};
+ghost use Rattle.mcs_diagnosis.specs.Diagnoses.{AreShownDiagnoses, ShowsFirstState, active_in};
 
 use crate::diagnosis::Diagnosis;
 use mcs_base::{Active, Pair, Vars};
@@ -34,7 +34,7 @@ fn show<E: Evaluator>(
     requires same { (E.stands evaluator.old).system ≡ system.now }
     requires diagnosis { IsDiagnosis system.now pair }
     ensures pair { IfOk result (λ shown. shown.pair ≡ pair) }
-    ensures shown { IfOk result (λ shown. IsShown system.now shown) }
+    ensures shown { IfOk result (λ shown. ShowsFirstState system.now shown) }
     ensures done { OnOk result (HasDone (E.stands evaluator.old) (E.stands evaluator.new) (size pair)) }
     ensures halt { IfErr result (HasHalted (E.stands evaluator.old) (E.stands evaluator.new) (size pair)) }
     ensures rest { KeepsRest (E.stands evaluator.old) (E.stands evaluator.new) }
@@ -57,10 +57,10 @@ pub fn diagnoses_of<E: Evaluator>(
 ) -> Result<Vec<Diagnosis>, Halt>
     requires going { (E.stands evaluator.old).halted ≡ false }
     requires same { (E.stands evaluator.old).system ≡ system.now }
-    ensures found { IfOk result (λ found. AreFound system.now level found.items) }
+    ensures found { IfOk result (λ found. AreShownDiagnoses system.now level found.items) }
     ensures done { OnOk result (HasDone (E.stands evaluator.old) (E.stands evaluator.new) level) }
     ensures cause { IfErr result (HasHaltCause (E.stands evaluator.old) level) }
-    ensures told { IfErr result (IsTold (E.stands evaluator.new)) }
+    ensures told { IfErr result (IsHaltOf (E.stands evaluator.new)) }
     ensures rest { KeepsRest (E.stands evaluator.old) (E.stands evaluator.new) }
 {
     let pairs = evaluator.repairs(alloc, level)?;

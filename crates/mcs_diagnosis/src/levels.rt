@@ -2,7 +2,7 @@
 
 ghost use Rattle.std.specs.Prelude.{◌≡◌, ◌↔◌, false, IsTrue, IfOk, IfErr, OnErr};
 ghost use Rattle.std.specs.Arc.{arc_value};
-ghost use Rattle.mcs_states.specs.Evaluators.{KeepsRest, HasHaltCause, IsTold};
+ghost use Rattle.mcs_states.specs.Evaluators.{KeepsRest, HasHaltCause, IsHaltOf};
 ghost use Rattle.mcs_diagnosis.specs.Courses.{IsPast};
 ghost use Rattle.mcs_diagnosis.specs.Taken.{IsLevel, HasTaken};
 
@@ -68,7 +68,7 @@ impl<E: Evaluator> Levels<E> {
         ensures taken { IfOk result (HasTaken E.stands self.old self.new) }
         ensures cause { IfErr result (HasHaltCause (E.stands self.old.evaluator) self.old.level) }
         ensures not_past { OnErr result (¬ IsPast (E.stands self.old.evaluator).system self.old.level) }
-        ensures told { IfErr result (IsTold (E.stands self.new.evaluator)) }
+        ensures told { IfErr result (IsHaltOf (E.stands self.new.evaluator)) }
         ensures stays { OnErr result (self.new.level ≡ self.old.level) }
         ensures rest { KeepsRest (E.stands self.old.evaluator) (E.stands self.new.evaluator) }
     {

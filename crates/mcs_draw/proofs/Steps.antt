@@ -10,13 +10,13 @@ use Rattle.mcs_draw.proofs.Totals.{sum_at}
 use Rattle.mcs_draw.specs.declared.account.View.{View}
 use Rattle.mcs_draw.specs.declared.account.Terms.{Terms}
 use Rattle.mcs_draw.specs.Budget.{BudgetRule, after_draw, after_split, split_off, after_join, seated, joined_away}
-use Rattle.mcs_draw.specs.Steps.{IsKept, DrawTells, LookTells, first_view}
+use Rattle.mcs_draw.specs.Steps.{KeepsWordRule, DrawTells, LookTells, first_view}
 
-pub table_begins : (base room : ℕ) → base + room < 2 ^ 63 → IsKept (record { base = base; room = room }) (opening (base ∷ []) [] (first_view (record { base = base; room = room })))
+pub table_begins : (base room : ℕ) → base + room < 2 ^ 63 → KeepsWordRule (record { base = base; room = room }) (opening (base ∷ []) [] (first_view (record { base = base; room = room })))
 table_begins base room small = record { word = base; is = refl; rule = begins base room small }
 
 pub draw_allowed : (k : Terms) (slots id amount : ℕ) (v : View) (held : List (ℕ × Unit {0})) → v.away ≡ false → amount ≤ v.account.left
-    → Allows (IsKept k) slots id (v, held) 0 (λ n. (n + amount) % 2 ^ 64) (DrawTells (step slots 0 amount 0 none) (v, held))
+    → Allows (KeepsWordRule k) slots id (v, held) 0 (λ n. (n + amount) % 2 ^ 64) (DrawTells (step slots 0 amount 0 none) (v, held))
 draw_allowed k slots id amount v held present le s kept homes at small =
     let n = kept.word in
     let b = kept.rule in
@@ -42,17 +42,17 @@ draw_allowed k slots id amount v held present le s kept homes at small =
     )
 
 pub split_allowed : (k : Terms) (id part : ℕ) (v : View) → v.away ≡ false → 0 < part → part < v.account.left
-    → Splits (IsKept k) id v (seated (after_split part v.account)) (seated (split_off part v.account))
+    → Splits (KeepsWordRule k) id v (seated (after_split part v.account)) (seated (split_off part v.account))
 split_allowed k id part v present some_part le s kept at =
     record { word = kept.word; is = kept.is; rule = splits k.base k.room kept.word id part s.views v kept.rule (record { at = at; present = present }) some_part le }
 
-pub join_allowed : (k : Terms) (id other : ℕ) (v w : View) → v.away ≡ false → Joins (IsKept k) id v other w (seated (after_join v.account w.account)) joined_away
+pub join_allowed : (k : Terms) (id other : ℕ) (v w : View) → v.away ≡ false → Joins (KeepsWordRule k) id v other w (seated (after_join v.account w.account)) joined_away
 join_allowed k id other v w present s kept at apart at' =
     let u = seated (after_join v.account w.account) in
     let was : get_elem? s.views other ≡ some w = ⊎_elim (λ x. absurd (apart x.0)) (λ x. x.1) (at_set s.views id other u w at') in
     record { word = kept.word; is = kept.is; rule = joins k.base k.room kept.word id other s.views v w kept.rule (record { at = at; present = present }) apart was }
 
-pub look_allowed : (k : Terms) (slots id : ℕ) (v : View) (held : List (ℕ × Unit {0})) → Allows (IsKept k) slots id (v, held) 0 (λ n. n) (LookTells (step slots 0 0 0 none) (v, held))
+pub look_allowed : (k : Terms) (slots id : ℕ) (v : View) (held : List (ℕ × Unit {0})) → Allows (KeepsWordRule k) slots id (v, held) 0 (λ n. n) (LookTells (step slots 0 0 0 none) (v, held))
 look_allowed k slots id v held s kept homes at small =
     let b = kept.rule in (
       v,
@@ -70,7 +70,7 @@ look_allowed k slots id v held s kept homes at small =
     )
 
 -- at the end the word is the base with what the seat has drawn, and the seat's top
-pub table_ends : (k : Terms) (id word : ℕ) (v : View) (ws : List ℕ) (xs : List (Unit {0})) → v.away ≡ false → v.account.left + v.account.drawn ≡ k.room → Final (Seen (IsKept k) id v) ws xs → get_elem? ws 0 ≡ some word
+pub table_ends : (k : Terms) (id word : ℕ) (v : View) (ws : List ℕ) (xs : List (Unit {0})) → v.away ≡ false → v.account.left + v.account.drawn ≡ k.room → Final (Seen (KeepsWordRule k) id v) ws xs → get_elem? ws 0 ≡ some word
     → (word ≡ k.base + v.account.drawn) × (word ≡ v.account.top)
 table_ends k id word v ws xs present whole (s, (kept, at), words, count, homes) found =
     let same : kept.word ≡ word = some-injective kept.word word (ap (λ (l : List ℕ). get_elem? l 0) (sym kept.is ∙ words) ∙ found) in

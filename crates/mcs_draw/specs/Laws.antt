@@ -33,7 +33,7 @@ JoinsKeepTheRule = (base room word seat other : ℕ) (views : List View) (v w : 
     → BudgetRule base room word (slice_set (slice_set views seat (seated (after_join v.account w.account))) other joined_away)
 
 -- a seat for which what is left and what was drawn are the room: the word is the base with what it has drawn, and its top; where there is room, each other seat was joined away
-pub record IsWhole (base room word seat : ℕ) (views : List View) (v : View) : Type 0 where
+pub record IsWholeSeat (base room word seat : ℕ) (views : List View) (v : View) : Type 0 where
   pub total : word ≡ base + v.account.drawn
   pub top : word ≡ v.account.top
   pub alone : 0 < room → (other : ℕ) (w : View) → get_elem? views other ≡ some w → other ≢ seat → w.away ≡ true
@@ -41,4 +41,4 @@ pub record IsWhole (base room word seat : ℕ) (views : List View) (v : View) : 
 abbrev pub WholeSeatsAreAlone : Type 0
 WholeSeatsAreAlone = (base room word seat : ℕ) (views : List View) (v : View) → BudgetRule base room word views → IsPresent views seat v
     → v.account.left + v.account.drawn ≡ room
-    → IsWhole base room word seat views v
+    → IsWholeSeat base room word seat views v

@@ -9,7 +9,7 @@ abbrev pub first_view : Terms → View
 first_view k = seated (first_account k.base k.room)
 
 -- the table has one word, which meets the rule
-pub record IsKept (k : Terms) (s : State (Unit {0}) View) : Type 0 where
+pub record KeepsWordRule (k : Terms) (s : State (Unit {0}) View) : Type 0 where
   pub word : ℕ
   pub is : s.words ≡ word ∷ []
   pub rule : BudgetRule k.base k.room word s.views

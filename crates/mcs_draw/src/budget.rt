@@ -10,9 +10,9 @@ use std::marker::{Brand, PhantomData};
 pub struct Budget;
 
 impl TableRule<(), View, Terms> for Budget {
-    ghost use Rattle.mcs_draw.specs.Steps.{IsKept, first_view};
+    ghost use Rattle.mcs_draw.specs.Steps.{KeepsWordRule, first_view};
 
-    ghost holds = { IsKept };
+    ghost holds = { KeepsWordRule };
 
     ghost first = { first_view };
 }

@@ -31,8 +31,8 @@ const TOLD: &str = "context c classical {} bridge r: c:a if not c:a.";
 /// One fact, which is read.
 const ONE: &str = "context c1 program { a. } context c2 classical {} bridge r: c2:b if c1:a.";
 
-/// Two defaults, of which the first gives the prerequisite of the second, which has two justifications; and what is read
-/// of the theory.
+/// Two defaults, of which the first gives the prerequisite of the second, which has two justifications; and what is
+/// read of the theory.
 const BIRD: &str = "context c1 default { bird. bird : flies / flies. flies : wings, ~ill / wings. }
 context c2 classical { flies. }
 bridge r: c2:x if c1:flies.";
@@ -126,8 +126,9 @@ fn a_right_trace_alone_shows_what_is_believed(rt: HostRuntime) -> Result<(), Fai
     Ok(())
 }
 
-/// Whether what shows the answer sets of the program of the first context, through all its atoms, is accepted as showing
-/// the state of the first atom alone: as it is, or where the trace that refutes all others has no step any more.
+/// Whether what shows the answer sets of the program of the first context, through all its atoms, is accepted as
+/// showing the state of the first atom alone: as it is, or where the trace that refutes all others has no step any
+/// more.
 fn is_program_shown(alloc: Global, system: &System, has_trace: bool) -> Result<bool, Memory> {
     if system.contexts().is_empty() {
         return Ok(false);
@@ -191,8 +192,8 @@ fn a_theory_is_shown_by_each_set_of_its_defaults(rt: HostRuntime) -> Result<(), 
     Ok(())
 }
 
-/// Whether an oracle that holds the answer for the rule alone, as the certificate shows it, tells that the belief follows
-/// where the answer is held that it is asked for, and misses it where it is not.
+/// Whether an oracle that holds the answer for the rule alone, as the certificate shows it, tells that the belief
+/// follows where the answer is held that it is asked for, and misses it where it is not.
 fn is_told(
     alloc: Global,
     system: &Arc<System>,

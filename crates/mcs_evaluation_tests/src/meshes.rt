@@ -26,8 +26,8 @@ const CHANGES: &[(&str, &[u32], &[u64])] = &[
     (CHOICE, &[0], &[2]),
 ];
 
-/// What one context is told is forbidden. Thirteen others choose whether to hold what they tell themselves; the sixth may
-/// only where the fifth does not.
+/// What one context is told is forbidden. Thirteen others choose whether to hold what they tell themselves; the sixth
+/// may only where the fifth does not.
 const FREE: &str =
     "context fact program { a. } context bad program { :- told. } context k0 program { y :- x. }
 context k1 program { y :- x. } context k2 program { y :- x. } context k3 program { y :- x. }
@@ -39,7 +39,8 @@ bridge r3: k3:x if k3:y. bridge r4: k4:x if k4:y. bridge r5: k5:x if k5:y, not k
 bridge r7: k7:x if k7:y. bridge r8: k8:x if k8:y. bridge r9: k9:x if k9:y. bridge r10: k10:x if k10:y.
 bridge r11: k11:x if k11:y. bridge r12: k12:x if k12:y.";
 
-/// Texts of systems, the marks of a pair, and the number of the first state that the system has where the pair changes it.
+/// Texts of systems, the marks of a pair, and the number of the first state that the system has where the pair
+/// changes it.
 const FIRST_STATES: &[(&str, &[u32], Option<u64>)] = &[
     (FORBIDDEN, &[], None),
     (FORBIDDEN, &[0, 2], Some(1)),

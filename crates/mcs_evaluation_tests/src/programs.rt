@@ -73,7 +73,8 @@ fn are_shown(
     Ok(count == models && are_numbered(&found, views) && are_numbered(&listed, views))
 }
 
-/// Whether the answer sets of the rules, seen through the first two atoms alone, are listed as the views of these numbers.
+/// Whether the answer sets of the rules, seen through the first two atoms alone, are listed as the views of these
+/// numbers.
 fn are_listed(
     alloc: Global,
     rules: &[ProgRule],

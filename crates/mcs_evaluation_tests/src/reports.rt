@@ -18,8 +18,8 @@ const TOLD: &str =
 const TOLD_REPORT: &str =
     "mcs 1: 2 contexts, 1 rules, 1 variables\ninconsistent\ndiagnosis 1: {-r1} state {c1:a} active {}\nexplanation 1: {-r1 by 1}\nend: 0 equilibria, 1 diagnoses, 1 explanations, need 3\nproof\nanswer c1 {}\nstate {c1:a}\nmodel {a}\nstep by 8 6 4 1 5\nnone\nstep by 8 6 4 1 5\ndone\nanswer c2 {}\nstate {}\nmodel {}\nstep by 12 10 9\nnone\nstep by 9 7 6\ndone\nanswer c2 {r1}\nnone\nstep by 10 9 6 4 1 5\ndone\nend of proof\n";
 
-/// Whether the answer begins at this line, is to the question of this context and these rules, and puts out the states of
-/// these numbers.
+/// Whether the answer begins at this line, is to the question of this context and these rules, and puts out the
+/// states of these numbers.
 fn is_answer(
     answer: &ReportAnswer,
     line: u64,

@@ -37,8 +37,8 @@ bridge r1: c1:ill if not c2:x. bridge r2: c2:y if c1:flies.";
 const TOLD_PROGRAM: &str = "context c1 program { a | b. :- a, p. } context c2 classical {}
 bridge r1: c1:p if not c2:x. bridge r2: c2:y if c1:a, c1:b.";
 
-/// Texts of systems, a context of each, and the numbers of a set of rules and of the parts that the context accepts with
-/// their heads; and whether the context's oracle may be asked with them, which has to be rules into the context.
+/// Texts of systems, a context of each, and the numbers of a set of rules and of the parts that the context accepts
+/// with their heads; and whether the context's oracle may be asked with them, which has to be rules into the context.
 const ACCEPTED: &[(&str, u32, u64, &[u64], bool)] = &[
     (SELF_ATTACK, 0, 0, &[0], true),
     (SELF_ATTACK, 0, 1, &[1], true),

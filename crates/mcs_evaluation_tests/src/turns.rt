@@ -19,8 +19,8 @@ use mcs_system::{Formula, Name, System, TheoryItem};
 use std::alloc::Global;
 use std::test::Fail;
 
-/// The beliefs `p` and `q`, and then what is assumed: `a` gives both, `b` gives `~p`, and each of these two keeps out the
-/// other one.
+/// The beliefs `p` and `q`, and then what is assumed: `a` gives both, `b` gives `~p`, and each of these two keeps out
+/// the other one.
 const SWITCHED: &str = "context c1 default { a : p / p. p : q / q. b : ~p / ~p. }
 context c2 classical { p. q. a. b. ~a. }";
 

@@ -17,7 +17,7 @@ use Rattle.mcs_system.specs.Views.{Shows}
 use Rattle.mcs_cnf.specs.ClauseLists.{IsOver, AreOver}
 use Rattle.mcs_cnf.specs.Entailments.{Entailment}
 use Rattle.mcs_cnf.proofs.EntailmentLemmas.{sound, shown_follow}
-use Rattle.mcs_evidence.specs.Defaults.{facts_of, defaults_of, numbered_default, numbered_formula, defaults_in, generated, all_defaults, IsOverItem, AreOverItems, Absence, Unsupported, Blocked, Verdict, Fails, Applied, Ungrounded, Extension, IsShown, IsDenied, AreDenied, negated_justs, IsAbsent, AreGrounded, HasFailed, HasApplied, IsUngrounded, IsGenerating, IsAcceptedVerdict, ShowsView}
+use Rattle.mcs_evidence.specs.Defaults.{facts_of, defaults_of, numbered_default, numbered_formula, defaults_in, generated, all_defaults, IsOverItem, AreOverItems, Absence, Unsupported, Blocked, Verdict, Fails, Applied, Ungrounded, Extension, IsEntailmentShown, IsDenied, AreDenied, negated_justs, IsAbsent, AreGrounded, FailsToApply, HasApplied, IsUngrounded, IsGenerating, IsAcceptedVerdict, ShowsView}
 use Rattle.mcs_evidence.specs.Laws.{DefaultCertificatesAreSound}
 use Rattle.mcs_system.proofs.Consequence.{one_set, follows_through}
 use Rattle.mcs_evidence.proofs.DefaultLemmas.{by_kind, in_defaults, generated_each, facts_follow, conclusion_follows}
@@ -40,7 +40,7 @@ module _ (names : List Name) (items : List Item) (over : AreOverItems names item
   over_generated set = generated_each items set (IsOver names) over_facts (λ k d is member. (over_default k d is).2)
 
   -- ---- what is shown, and what is denied
-  shown_follows : (fs : List Formula) → AreOver names fs → (g : Formula) → IsOver names g → (e : Entailment) → IsShown names fs g e → Entails fs g
+  shown_follows : (fs : List Formula) → AreOver names fs → (g : Formula) → IsOver names g → (e : Entailment) → IsEntailmentShown names fs g e → Entails fs g
   shown_follows fs over_fs g over_g e shown = (sound fs g names e over_fs over_g shown.0).0 shown.1
 
   denied_fails : (fs : List Formula) → AreOver names fs → (g : Formula) → IsOver names g → (e : Entailment) → IsDenied names fs g e → ¬ Entails fs g
@@ -137,7 +137,7 @@ module _ (names : List Name) (items : List Item) (over : AreOverItems names item
   view_shown beliefs over_beliefs set small (Ungrounded closed pres) places h = absurd h
 
   -- ---- no other verdict is accepted on a set that generates an extension
-  not_failed : (set : ℕ) (absence : Absence) → Generates items set → ¬ HasFailed names items set absence
+  not_failed : (set : ℕ) (absence : Absence) → Generates items set → ¬ FailsToApply names items set absence
   not_failed set absence generates (k, member, absent) =
       let (d, is) = slice_get_below (defaults_of items) k (members_below set (length (defaults_of items)) k generates.inside member) in
       absent_fails (generated items set) (over_generated set) k d is absence absent (generates.applied k d is member)

@@ -20,7 +20,7 @@ use Rattle.mcs_system.proofs.NameLemmas.{is_in-among, is_in-filter, is_in_flat_m
 use Rattle.mcs_system.proofs.Sameness.{same_name-is, same_name-itself}
 use Rattle.mcs_cnf.specs.ClauseLists.{IsOver, AreOver}
 use Rattle.mcs_evidence.specs.Pushing.{AreNamesOf}
-use Rattle.mcs_evidence.specs.Programs.{and_from as and_all, or_from as or_all, conjunction, disjunction, atoms_as, negated_atoms, false_names, rule_formula, positive_formula, smaller_formulas, is_broken_by, beside_formula, literals_from, other_formula, rest_formulas, IsOverRule, AreOverRules, AreAtomsOf}
+use Rattle.mcs_evidence.specs.Programs.{and_from as and_all, or_from as or_all, conjunction, disjunction, atoms_as, negated_atoms, false_names, rule_formula, positive_formula, smaller_formulas, is_broken_by, beside_formula, literals_of_state, other_formula, rest_formulas, IsOverRule, AreOverRules, AreAtomsOf}
 
 -- ---- whether all names of a list, or one of them, are true
 abbrev pub all_in : List Name → List Name → Bool
@@ -413,25 +413,25 @@ beside_answer_set names rules less a single is = beside-holds a names rules less
         }) (reduct_from a x rules (satisfied blocked))
 
 -- ---- the view of a set of atoms
-literals-each : (a : List Name) (k : ℕ) (beliefs : List Formula) (state : ℕ) → holds_all a (literals_from k beliefs state) ≡ true → (j : ℕ) (p : Formula) → slice_get beliefs j ≡ Some p → holds a p ≡ has state (k + j)
+literals-each : (a : List Name) (k : ℕ) (beliefs : List Formula) (state : ℕ) → holds_all a (literals_of_state k beliefs state) ≡ true → (j : ℕ) (p : Formula) → slice_get beliefs j ≡ Some p → holds a p ≡ has state (k + j)
 literals-each a k [] state h j p is = absurd (cc)
 literals-each a k (q ∷ beliefs) state h zero p is =
     let same : q ≡ p = cc in
     let e : k ≡ k + 0 = omega arith in
-    ap (holds a) (sym same) ∙ at (has state k) (and_parts (holds a (cond (has state k) q (Not q))) (holds_all a (literals_from (k + 1) beliefs state)) h).0 ∙ ap (has state) e
+    ap (holds a) (sym same) ∙ at (has state k) (and_parts (holds a (cond (has state k) q (Not q))) (holds_all a (literals_of_state (k + 1) beliefs state)) h).0 ∙ ap (has state) e
   where
     at : (v : Bool) → holds a (cond v q (Not q)) ≡ true → holds a q ≡ v
     at true h = h
     at false h = not-true (holds a q) h
 literals-each a k (q ∷ beliefs) state h (suc j) p is =
     let e : k + 1 + j ≡ k + suc j = omega arith in
-    literals-each a (k + 1) beliefs state (and_parts (holds a (cond (has state k) q (Not q))) (holds_all a (literals_from (k + 1) beliefs state)) h).1 j p is ∙ ap (has state) e
+    literals-each a (k + 1) beliefs state (and_parts (holds a (cond (has state k) q (Not q))) (holds_all a (literals_of_state (k + 1) beliefs state)) h).1 j p is ∙ ap (has state) e
 
-literals-hold : (a : List Name) (k : ℕ) (beliefs : List Formula) (state : ℕ) → ((j : ℕ) (p : Formula) → slice_get beliefs j ≡ Some p → holds a p ≡ has state (k + j)) → holds_all a (literals_from k beliefs state) ≡ true
+literals-hold : (a : List Name) (k : ℕ) (beliefs : List Formula) (state : ℕ) → ((j : ℕ) (p : Formula) → slice_get beliefs j ≡ Some p → holds a p ≡ has state (k + j)) → holds_all a (literals_of_state k beliefs state) ≡ true
 literals-hold a k [] state each = refl
 literals-hold a k (q ∷ beliefs) state each =
     let e : k + 0 ≡ k = omega arith in
-    and_from (holds a (cond (has state k) q (Not q))) (holds_all a (literals_from (k + 1) beliefs state)) (at (has state k) (each 0 q refl ∙ ap (has state) e))
+    and_from (holds a (cond (has state k) q (Not q))) (holds_all a (literals_of_state (k + 1) beliefs state)) (at (has state k) (each 0 q refl ∙ ap (has state) e))
     (literals-hold a (k + 1) beliefs state (λ j p is. let e : k + suc j ≡ k + 1 + j = omega arith in each (suc j) p is ∙ ap (has state) e))
   where
     at : (v : Bool) → holds a q ≡ v → holds a (cond v q (Not q)) ≡ true
@@ -453,8 +453,8 @@ shows-below a beliefs x shows j h = let (p, is, believed) = (shows j).0 h in sli
 -- the formula of a state holds where the state is another one, and not where it is the set's own
 pub other_state : (names a : List Name) (beliefs : List Formula) (x state : ℕ) → AreAtomsOf names beliefs → Shows (Atoms a) beliefs x → ((j : ℕ) → has state j ≡ true → j < length beliefs) → ¬ (x ≡ state)
     → holds a (other_formula beliefs state) ≡ true
-other_state names a beliefs x state atoms shows low differ = not_from_false (holds a (conjunction (literals_from 0 beliefs state))) (false_from_ne_true (holds a (conjunction (literals_from 0 beliefs state))) (λ h.
-    let all : holds_all a (literals_from 0 beliefs state) ≡ true = sym (conjunction-holds a (literals_from 0 beliefs state)) ∙ h in
+other_state names a beliefs x state atoms shows low differ = not_from_false (holds a (conjunction (literals_of_state 0 beliefs state))) (false_from_ne_true (holds a (conjunction (literals_of_state 0 beliefs state))) (λ h.
+    let all : holds_all a (literals_of_state 0 beliefs state) ≡ true = sym (conjunction-holds a (literals_of_state 0 beliefs state)) ∙ h in
     let at : (j : ℕ) → j < length beliefs → has x j ≡ has state j = (λ j less.
     let (p, is) = slice_get_below beliefs j less in
     let e : 0 + j ≡ j = omega arith in
@@ -462,8 +462,8 @@ other_state names a beliefs x state atoms shows low differ = not_from_false (hol
     differ (same_set x state (λ j. both_ways (has x j) (has state j) (λ h. sym (at j (shows-below a beliefs x shows j h)) ∙ h) (λ h. at j (low j h) ∙ h)))))
 
 pub own_state : (names a : List Name) (beliefs : List Formula) (x : ℕ) → AreAtomsOf names beliefs → Shows (Atoms a) beliefs x → holds a (other_formula beliefs x) ≡ false
-own_state names a beliefs x atoms shows = not_from_true (holds a (conjunction (literals_from 0 beliefs x)))
-    (conjunction-holds a (literals_from 0 beliefs x) ∙ literals-hold a 0 beliefs x (λ j p is. let e : j ≡ 0 + j = omega arith in shows-holds names a beliefs x atoms shows j p is ∙ ap (has x) e))
+own_state names a beliefs x atoms shows = not_from_true (holds a (conjunction (literals_of_state 0 beliefs x)))
+    (conjunction-holds a (literals_of_state 0 beliefs x) ∙ literals-hold a 0 beliefs x (λ j p is. let e : j ≡ 0 + j = omega arith in shows-holds names a beliefs x atoms shows j p is ∙ ap (has x) e))
 
 -- ---- the formulas are over the names
 and_all-over : (names : List Name) (f : Formula) (gs : List Formula) → IsOver names f → AreOver names gs → IsOver names (and_all f gs)
@@ -544,7 +544,7 @@ beside-over names rules less over = conjunction-over names (atoms_as x ++ (disju
 pub atoms_are_over : (names : List Name) (beliefs : List Formula) → AreAtomsOf names beliefs → AreOver names beliefs
 atoms_are_over names beliefs atoms = all_weaker (λ (f : Formula). (n : Name) × (f ≡ Atom n) × (is_in n names ≡ true)) (IsOver names) (λ f (n, e, there). subst (IsOver names) (sym e) there) beliefs atoms
 
-literals-over : (names : List Name) (k : ℕ) (beliefs : List Formula) (state : ℕ) → AreOver names beliefs → AreOver names (literals_from k beliefs state)
+literals-over : (names : List Name) (k : ℕ) (beliefs : List Formula) (state : ℕ) → AreOver names beliefs → AreOver names (literals_of_state k beliefs state)
 literals-over names k [] state over = tt
 literals-over names k (p ∷ beliefs) state over = (at (has state k), literals-over names (k + 1) beliefs state over.1)
   where
@@ -553,7 +553,7 @@ literals-over names k (p ∷ beliefs) state over = (at (has state k), literals-o
     at false = over.0
 
 pub other-over : (names : List Name) (beliefs : List Formula) (state : ℕ) → AreOver names beliefs → IsOver names (other_formula beliefs state)
-other-over names beliefs state over = conjunction-over names (literals_from 0 beliefs state) (literals-over names 0 beliefs state over)
+other-over names beliefs state over = conjunction-over names (literals_of_state 0 beliefs state) (literals-over names 0 beliefs state over)
 
 pub rest-over : (names : List Name) (rules : List ProgramRule) (beliefs : List Formula) (smaller outputs : List ℕ) → AreOverRules names rules → AreOver names beliefs → AreOver names (rest_formulas names rules beliefs smaller outputs)
 rest-over names rules beliefs smaller outputs over over' = all_append (IsOver names) (map rule_formula rules) (map (beside_formula names rules) smaller ++ map (other_formula beliefs) outputs) (rules-over names rules over)

@@ -10,8 +10,8 @@ use Rattle.mcs_system.specs.declared.knowledge.ProgRule as code
 use Rattle.mcs_trace.specs.Clauses.{ClauseList}
 use Rattle.mcs_cnf.specs.ClauseLists.{with_formulas}
 use Rattle.mcs_cnf.proofs.ListLemmas.{with_append}
-use Rattle.mcs_evidence.specs.Programs.{atoms_as, conjunction, disjunction, false_names, rule_formula, positive_formula, beside_formula, is_broken_by, literals_from, AreOverRules}
-use Rattle.mcs_evidence.specs.Pushing.{AreNamesOf, IsPart, HasConjunction}
+use Rattle.mcs_evidence.specs.Programs.{atoms_as, conjunction, disjunction, false_names, rule_formula, positive_formula, beside_formula, is_broken_by, literals_of_state, AreOverRules}
+use Rattle.mcs_evidence.specs.Pushing.{AreNamesOf, IsVariablePart, HasConjunction}
 use Rattle.mcs_base.proofs.Mapped.{map-drop_more}
 use Rattle.mcs_evidence.proofs.PushingLemmas.{pushed_more, IsJoining}
 use Rattle.mcs_base.proofs.Each.{all_from_among}
@@ -92,7 +92,7 @@ pub record IsReducing (names a : List Name) (rules : List code.ProgRule) (first 
 pub record IsBreaking (names a : List Name) (rules : List code.ProgRule) (first : ClauseList) (given : Option ℕ) (i : ℕ) (c : ClauseList) (o : Option ℕ) : Type 0 where
   pub grows : first.vars ≤ c.vars
   pub over : AreLeftOver names rules i
-  pub part : IsPart c o
+  pub part : IsVariablePart c o
   pub joined : (start : ClauseList) (fs : List Formula) → HasConjunction names fs start first given
       → IsJoining (λ gs p. HasConjunction names gs start c p)
       (fs ++ map (λ (r : ProgramRule). disjunction (atoms_as r.neg)) (filter (is_broken_by a) (map rule_of rules)))
@@ -119,8 +119,8 @@ broken_skipped a rules i r less is whole = ap (λ (rs : List ProgramRule). map b
 -- ---- literals of beliefs
 module _ {A : Type 0} (seen : A → Name) where
   pub literals_more : (beliefs : List A) (k s : ℕ) (b : A) → k < length beliefs → b ≡ get_or beliefs k b
-      → literals_from k (map Atom (map seen (drop k beliefs))) s ≡ cond (has s k) (Atom (seen b)) (Not (Atom (seen b))) ∷ literals_from (k + 1) (map Atom (map seen (drop (k + 1) beliefs))) s
-  literals_more beliefs k s b less is = ap (λ (ns : List Name). literals_from k (map Atom ns) s) (map-drop_more seen beliefs k b less is)
+      → literals_of_state k (map Atom (map seen (drop k beliefs))) s ≡ cond (has s k) (Atom (seen b)) (Not (Atom (seen b))) ∷ literals_of_state (k + 1) (map Atom (map seen (drop (k + 1) beliefs))) s
+  literals_more beliefs k s b less is = ap (λ (ns : List Name). literals_of_state k (map Atom ns) s) (map-drop_more seen beliefs k b less is)
 
   pub rest_names : (names : List Name) (beliefs : List A) (k : ℕ) (b : A) → k < length beliefs → b ≡ get_or beliefs k b → AreNamesOf names (map seen (drop k beliefs)) → AreNamesOf names (seen b ∷ []) × AreNamesOf names (map seen (drop (k + 1) beliefs))
   rest_names names beliefs k b less is all = let both = subst (AreNamesOf names) (map-drop_more seen beliefs k b less is) all in ((both.0, tt), both.1)

@@ -10,7 +10,7 @@ use Rattle.mcs_system.specs.Seen.{formula_size}
 use Rattle.mcs_system.specs.Logic.{is_in, true_names, without_negation, reduct, fact_of}
 use Rattle.mcs_system.proofs.SizeLemmas.{IsSmallRule}
 use Rattle.mcs_cnf.proofs.SizeLemmas.{sizes, size_positive, sizes_up_to, sizes_push, sizes_append, sizes_cons}
-use Rattle.mcs_evidence.specs.Programs.{and_from, or_from, conjunction, disjunction, atoms_as, negated_atoms, false_names, rule_formula, positive_formula, smaller_formulas, is_broken_by, beside_formula, literals_from, other_formula, rest_formulas}
+use Rattle.mcs_evidence.specs.Programs.{and_from, or_from, conjunction, disjunction, atoms_as, negated_atoms, false_names, rule_formula, positive_formula, smaller_formulas, is_broken_by, beside_formula, literals_of_state, other_formula, rest_formulas}
 
 -- ---- formulas of lists
 and_from_size : (f : Formula) (gs : List Formula) → formula_size (and_from f gs) ≤ formula_size f + 2 * sizes gs
@@ -133,10 +133,10 @@ module _ (names : List Name) (rules : List ProgramRule) (few_names : length name
         few_kept (is_broken_by a) rules,
       )
 
-  literals_size : (k : ℕ) (beliefs : List Formula) (state : ℕ) → sizes (literals_from k beliefs state) ≤ 2 * sizes beliefs
+  literals_size : (k : ℕ) (beliefs : List Formula) (state : ℕ) → sizes (literals_of_state k beliefs state) ≤ 2 * sizes beliefs
   literals_size k [] state = omega arith
   literals_size k (p ∷ ps) state =
-      let rest = literals_from (k + 1) ps state in
+      let rest = literals_of_state (k + 1) ps state in
       omega (arith, sizes_cons p ps, sizes_cons (cond (has state k) p (Not p)) rest, one (has state k), literals_size (k + 1) ps state)
     where
       one : (b : Bool) → formula_size (cond b p (Not p)) ≤ 2 * formula_size p
@@ -144,7 +144,7 @@ module _ (names : List Name) (rules : List ProgramRule) (few_names : length name
       one false = omega (arith, size_positive p)
 
   other_size : (beliefs : List Formula) (state : ℕ) → sizes beliefs ≤ 32768 → formula_size (other_formula beliefs state) ≤ 9000000
-  other_size beliefs state few = omega (arith, conjunction_size (literals_from 0 beliefs state), literals_size 0 beliefs state)
+  other_size beliefs state few = omega (arith, conjunction_size (literals_of_state 0 beliefs state), literals_size 0 beliefs state)
 
   pub rest_size : (beliefs : List Formula) (smaller outputs : List ℕ) → sizes beliefs ≤ 32768
       → sizes (rest_formulas names rules beliefs smaller outputs) ≤ (1 + length smaller + length outputs) * 9000000

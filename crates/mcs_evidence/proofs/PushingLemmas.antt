@@ -6,7 +6,7 @@ use Rattle.mcs_trace.specs.Clauses.{ClauseList}
 use Rattle.mcs_cnf.specs.ClauseLists.{clause_of, taken, number, formula_clauses, atom_number, with_formulas, with_clause, not_clauses, and_clauses, or_clauses, implies_clauses, truth_clauses, falsity_clauses, IsAdded}
 use Rattle.mcs_cnf.proofs.ListLemmas.{with_append}
 use Rattle.mcs_evidence.specs.Programs.{and_from, or_from, conjunction, disjunction}
-use Rattle.mcs_evidence.specs.Pushing.{HasOccurrences, HasConjunction, HasDisjunction, IsJoined}
+use Rattle.mcs_evidence.specs.Pushing.{HasOccurrences, HasConjunction, HasDisjunction, IsJoinedPart}
 
 abbrev list_of : ℕ → List (List ℤ) → ClauseList
 list_of n cs = record { vars = n; clauses = cs }
@@ -90,22 +90,22 @@ alone names g start c c' c'' x n e h number same =
     subst (λ (k : ClauseList). HasOccurrences names g k c'' n) e
     (subst (λ (k : ClauseList). HasOccurrences names g c k n) (sym same) (subst (HasOccurrences names g c c') (sym number) h))
 
-pub conjunction_more : (names : List Name) (fs : List Formula) (g : Formula) (start c c' c'' : ClauseList) (o : Option ℕ) (x n : ℕ) → HasConjunction names fs start c o → HasOccurrences names g c c' x → IsJoined and_clauses c' c'' o x n
+pub conjunction_more : (names : List Name) (fs : List Formula) (g : Formula) (start c c' c'' : ClauseList) (o : Option ℕ) (x n : ℕ) → HasConjunction names fs start c o → HasOccurrences names g c c' x → IsJoinedPart and_clauses c' c'' o x n
     → HasConjunction names (fs ++ g ∷ []) start c'' (Some n)
 conjunction_more names [] g start c c' c'' o x n h h' joined =
-    let both : (n ≡ x) × (c'' ≡ c') = subst (λ (o : Option ℕ). IsJoined and_clauses c' c'' o x n) h.0 joined in
+    let both : (n ≡ x) × (c'' ≡ c') = subst (λ (o : Option ℕ). IsJoinedPart and_clauses c' c'' o x n) h.0 joined in
     (n, refl, alone names g start c c' c'' x n h.1 h' both.0 both.1)
 conjunction_more names (f ∷ fs) g start c c' c'' o x n h h' joined =
-    let added : IsAdded (λ n. and_clauses n h.0 x) c' c'' n = subst (λ (o : Option ℕ). IsJoined and_clauses c' c'' o x n) h.1 joined in
+    let added : IsAdded (λ n. and_clauses n h.0 x) c' c'' n = subst (λ (o : Option ℕ). IsJoinedPart and_clauses c' c'' o x n) h.1 joined in
     (n, refl, subst (λ (k : Formula). HasOccurrences names k start c'' n) (sym (and_push f fs g)) (occ_and names (and_from f fs) g start c c' c'' h.0 x n h.2 h' added))
 
-pub disjunction_more : (names : List Name) (fs : List Formula) (g : Formula) (start c c' c'' : ClauseList) (o : Option ℕ) (x n : ℕ) → HasDisjunction names fs start c o → HasOccurrences names g c c' x → IsJoined or_clauses c' c'' o x n
+pub disjunction_more : (names : List Name) (fs : List Formula) (g : Formula) (start c c' c'' : ClauseList) (o : Option ℕ) (x n : ℕ) → HasDisjunction names fs start c o → HasOccurrences names g c c' x → IsJoinedPart or_clauses c' c'' o x n
     → HasDisjunction names (fs ++ g ∷ []) start c'' (Some n)
 disjunction_more names [] g start c c' c'' o x n h h' joined =
-    let both : (n ≡ x) × (c'' ≡ c') = subst (λ (o : Option ℕ). IsJoined or_clauses c' c'' o x n) h.0 joined in
+    let both : (n ≡ x) × (c'' ≡ c') = subst (λ (o : Option ℕ). IsJoinedPart or_clauses c' c'' o x n) h.0 joined in
     (n, refl, alone names g start c c' c'' x n h.1 h' both.0 both.1)
 disjunction_more names (f ∷ fs) g start c c' c'' o x n h h' joined =
-    let added : IsAdded (λ n. or_clauses n h.0 x) c' c'' n = subst (λ (o : Option ℕ). IsJoined or_clauses c' c'' o x n) h.1 joined in
+    let added : IsAdded (λ n. or_clauses n h.0 x) c' c'' n = subst (λ (o : Option ℕ). IsJoinedPart or_clauses c' c'' o x n) h.1 joined in
     (n, refl, subst (λ (k : Formula). HasOccurrences names k start c'' n) (sym (or_push f fs g)) (occ_or names (or_from f fs) g start c c' c'' h.0 x n h.2 h' added))
 
 -- the whole
@@ -140,7 +140,7 @@ joining_end has target rest o none j =
     subst (λ (fs : List Formula). has fs o) (sym (append-nil j.so_far) ∙ ap (λ (fs : List Formula). j.so_far ++ fs) (sym none) ∙ j.is) j.joined
 
 pub conjoining : (names : List Name) (target rest rest' : List Formula) (g : Formula) (start c c' c'' : ClauseList) (o : Option ℕ) (x n : ℕ) → rest ≡ g ∷ rest' → IsJoining (λ fs o. HasConjunction names fs start c o) target rest o
-    → HasOccurrences names g c c' x → IsJoined and_clauses c' c'' o x n → IsJoining (λ fs o. HasConjunction names fs start c'' o) target rest' (Some n)
+    → HasOccurrences names g c c' x → IsJoinedPart and_clauses c' c'' o x n → IsJoining (λ fs o. HasConjunction names fs start c'' o) target rest' (Some n)
 conjoining names target rest rest' g start c c' c'' o x n next j h joined = record {
   so_far = j.so_far ++ g ∷ [];
   is = append_assoc j.so_far (g ∷ []) rest' ∙ ap (λ (fs : List Formula). j.so_far ++ fs) (sym next) ∙ j.is;
@@ -148,7 +148,7 @@ conjoining names target rest rest' g start c c' c'' o x n next j h joined = reco
 }
 
 pub disjoining : (names : List Name) (target rest rest' : List Formula) (g : Formula) (start c c' c'' : ClauseList) (o : Option ℕ) (x n : ℕ) → rest ≡ g ∷ rest' → IsJoining (λ fs o. HasDisjunction names fs start c o) target rest o
-    → HasOccurrences names g c c' x → IsJoined or_clauses c' c'' o x n → IsJoining (λ fs o. HasDisjunction names fs start c'' o) target rest' (Some n)
+    → HasOccurrences names g c c' x → IsJoinedPart or_clauses c' c'' o x n → IsJoining (λ fs o. HasDisjunction names fs start c'' o) target rest' (Some n)
 disjoining names target rest rest' g start c c' c'' o x n next j h joined = record {
   so_far = j.so_far ++ g ∷ [];
   is = append_assoc j.so_far (g ∷ []) rest' ∙ ap (λ (fs : List Formula). j.so_far ++ fs) (sym next) ∙ j.is;

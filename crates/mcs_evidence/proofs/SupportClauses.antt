@@ -5,7 +5,7 @@ use Rattle.mcs_system.specs.Seen.{rule_of}
 use Rattle.mcs_system.specs.declared.knowledge.ProgRule as code
 use Rattle.mcs_trace.specs.Clauses.{ClauseList}
 use Rattle.mcs_base.proofs.Mapped.{map-drop_more}
-use Rattle.mcs_evidence.specs.Pushing.{IsPart, HasDisjunction}
+use Rattle.mcs_evidence.specs.Pushing.{IsVariablePart, HasDisjunction}
 use Rattle.mcs_evidence.specs.Supports.{may_support, outside_formula}
 use Rattle.mcs_evidence.proofs.ProgramClauses.{AreLeftOver}
 use Rattle.mcs_evidence.proofs.PushingLemmas.{IsJoining}
@@ -18,7 +18,7 @@ outsides u rules = map (outside_formula u) (filter (may_support u) (map rule_of 
 pub record IsSupporting (names u : List Name) (rules : List code.ProgRule) (first : ClauseList) (i : ℕ) (c : ClauseList) (o : Option ℕ) : Type 0 where
   pub grows : first.vars ≤ c.vars
   pub over : AreLeftOver names rules i
-  pub part : IsPart c o
+  pub part : IsVariablePart c o
   pub joined : IsJoining (λ gs p. HasDisjunction names gs first c p) (outsides u rules) (outsides u (drop i rules)) o
 
 pub outsides_more : (u : List Name) (rules : List code.ProgRule) (i : ℕ) (r : code.ProgRule) → i < length rules → r ≡ get_or rules i r → may_support u (rule_of r) ≡ true

@@ -96,8 +96,8 @@ verdicts_of c = map verdict_of c.sets.items
 
 -- ---- what is accepted
 -- it is shown that the formula follows
-abbrev pub IsShown : List Name → List Formula → Formula → Entailment → Type 0
-IsShown names fs g e = IsAcceptedEntailment names fs g e × (says_yes e ≡ true)
+abbrev pub IsEntailmentShown : List Name → List Formula → Formula → Entailment → Type 0
+IsEntailmentShown names fs g e = IsAcceptedEntailment names fs g e × (says_yes e ≡ true)
 
 -- it is shown that it does not
 abbrev pub IsDenied : List Name → List Formula → Formula → Entailment → Type 0
@@ -115,26 +115,26 @@ negated_justs ds = flat_map (λ (d : Default). map Not d.justs) ds
 abbrev pub IsAbsent : List Name → List Item → List Formula → ℕ → Absence → Type 0
 IsAbsent names items fs number (Unsupported n e) = (n ≡ number) × ((d : Default) × IsNumbered items n d × IsDenied names fs d.pre e)
 IsAbsent names items fs number (Blocked n j e) =
-    (n ≡ number) × ((d : Default) × IsNumbered items n d × ((f : Formula) × (numbered_formula d.justs j ≡ Some f) × IsShown names fs (Not f) e))
+    (n ≡ number) × ((d : Default) × IsNumbered items n d × ((f : Formula) × (numbered_formula d.justs j ≡ Some f) × IsEntailmentShown names fs (Not f) e))
 
 -- from the formulas, which grow by the consequents, it is shown that the prerequisites of the defaults of these numbers follow one after the other
 abbrev pub AreGrounded : List Name → List Item → List Formula → List ℕ → List Entailment → Type 0
 AreGrounded names items fs [] [] = Unit {0}
 AreGrounded names items fs (n ∷ ns) (e ∷ es) =
-    (d : Default) × IsNumbered items n d × IsShown names fs d.pre e × AreGrounded names items (fs ++ d.conclusion ∷ []) ns es
+    (d : Default) × IsNumbered items n d × IsEntailmentShown names fs d.pre e × AreGrounded names items (fs ++ d.conclusion ∷ []) ns es
 AreGrounded names items fs [] (e ∷ es) = ⊥
 AreGrounded names items fs (n ∷ ns) [] = ⊥
 
 -- a default of the set does not apply
-abbrev pub HasFailed : List Name → List Item → ℕ → Absence → Type 0
-HasFailed names items set absence = (k : ℕ) × IsTrue (has set k) × IsAbsent names items (generated items set) (k + 1) absence
+abbrev pub FailsToApply : List Name → List Item → ℕ → Absence → Type 0
+FailsToApply names items set absence = (k : ℕ) × IsTrue (has set k) × IsAbsent names items (generated items set) (k + 1) absence
 
 -- the default of this number is outside the set and applies
 pub record HasApplied (names : List Name) (items : List Item) (set number : ℕ) (pre : Entailment) (justs : List Entailment) : Type 0 where
   pub default : Default
   pub is_it : IsNumbered items number default
   pub outside : (k : ℕ) → number ≡ k + 1 → has set k ≡ false
-  pub supported : IsShown names (generated items set) default.pre pre
+  pub supported : IsEntailmentShown names (generated items set) default.pre pre
   pub allowed : AreDenied names (generated items set) (negated_justs (default ∷ [])) justs
 
 -- by the defaults of a part of the set, which is not all of it, none of the others is supported
@@ -154,7 +154,7 @@ pub record IsGenerating (names : List Name) (items : List Item) (beliefs : List 
 
 -- the verdict on the set is accepted
 abbrev pub IsAcceptedVerdict : List Name → List Item → List Formula → ℕ → Verdict → Type 0
-IsAcceptedVerdict names items beliefs set (Fails absence) = HasFailed names items set absence
+IsAcceptedVerdict names items beliefs set (Fails absence) = FailsToApply names items set absence
 IsAcceptedVerdict names items beliefs set (Applied number pre justs) = HasApplied names items set number pre justs
 IsAcceptedVerdict names items beliefs set (Ungrounded closed pres) = IsUngrounded names items set closed pres
 IsAcceptedVerdict names items beliefs set (Extension order pres justs outside outputs) = (places : ℕ) × IsGenerating names items beliefs set order pres justs outside outputs places

@@ -64,13 +64,13 @@ beside_formula names rules less =
     Not (conjunction (atoms_as (true_names 0 names less) ++ (disjunction (atoms_as (false_names 0 names less)) ∷ map (λ (r : ProgramRule). disjunction (atoms_as r.neg)) (filter (is_broken_by (true_names 0 names less)) rules))))
 
 -- the beliefs, the first one having place k, each as the state has it
-abbrev pub literals_from : ℕ → List Formula → ℕ → List Formula
-literals_from k [] state = []
-literals_from k (p ∷ ps) state = cond (has state k) p (Not p) ∷ literals_from (k + 1) ps state
+abbrev pub literals_of_state : ℕ → List Formula → ℕ → List Formula
+literals_of_state k [] state = []
+literals_of_state k (p ∷ ps) state = cond (has state k) p (Not p) ∷ literals_of_state (k + 1) ps state
 
 -- the state is another one
 abbrev pub other_formula : List Formula → ℕ → Formula
-other_formula beliefs state = Not (conjunction (literals_from 0 beliefs state))
+other_formula beliefs state = Not (conjunction (literals_of_state 0 beliefs state))
 
 -- ---- certificates as plain data
 pub record ModelShown : Type 0 where

@@ -12,13 +12,13 @@ abbrev pub AreNamesOf : List Name → List Name → Type 0
 AreNamesOf names these = AllByRecursion (λ (n : Name). IsTrue (is_in n names)) these
 
 -- the number is a variable's of the list
-abbrev pub IsVariable : ClauseList → ℕ → Type 0
-IsVariable c n = (0 < n) × (n ≤ c.vars)
+abbrev pub IsListVariable : ClauseList → ℕ → Type 0
+IsListVariable c n = (0 < n) × (n ≤ c.vars)
 
 -- so it is if there is one
-abbrev pub IsPart : ClauseList → Option ℕ → Type 0
-IsPart c None = Unit {0}
-IsPart c (Some n) = IsVariable c n
+abbrev pub IsVariablePart : ClauseList → Option ℕ → Type 0
+IsVariablePart c None = Unit {0}
+IsVariablePart c (Some n) = IsListVariable c n
 
 -- the occurrences in the formula are added, and its own number is this one
 pub record HasOccurrences (names : List Name) (f : Formula) (old new : ClauseList) (n : ℕ) : Type 0 where
@@ -36,6 +36,6 @@ HasDisjunction names [] old new o = (o ≡ None) × (new ≡ old)
 HasDisjunction names (f ∷ fs) old new o = (n : ℕ) × (o ≡ Some n) × HasOccurrences names (or_from f fs) old new n
 
 -- of a part and one more part: the one alone where there was none, else an occurrence of both
-abbrev pub IsJoined : (ℕ → ℕ → ℕ → List (List ℤ)) → ClauseList → ClauseList → Option ℕ → ℕ → ℕ → Type 0
-IsJoined own old new None x n = (n ≡ x) × (new ≡ old)
-IsJoined own old new (Some y) x n = IsAdded (λ n. own n y x) old new n
+abbrev pub IsJoinedPart : (ℕ → ℕ → ℕ → List (List ℤ)) → ClauseList → ClauseList → Option ℕ → ℕ → ℕ → Type 0
+IsJoinedPart own old new None x n = (n ≡ x) × (new ≡ old)
+IsJoinedPart own old new (Some y) x n = IsAdded (λ n. own n y x) old new n

@@ -8,7 +8,7 @@ ghost use Rattle.mcs_system.specs.Seen.{rule_of};
 ghost use Rattle.mcs_trace.specs.Clauses.{ClauseList};
 ghost use Rattle.mcs_cnf.specs.ClauseLists.{with_formulas, clause_list};
 ghost use Rattle.mcs_evidence.specs.Programs.{atoms_as, negated_atoms, conjunction, disjunction, is_broken_by, positive_formula, smaller_formulas, beside_formula, other_formula, rest_formulas, AreOverRules};
-ghost use Rattle.mcs_evidence.specs.Pushing.{AreNamesOf, IsVariable, IsPart, HasOccurrences, HasConjunction};
+ghost use Rattle.mcs_evidence.specs.Pushing.{AreNamesOf, IsListVariable, IsVariablePart, HasOccurrences, HasConjunction};
 
 use crate::places::{is_broken, names_at, names_beside, some_among};
 use crate::pushing::{
@@ -62,7 +62,7 @@ fn push_negations(
 
 /// Adds the clauses that a whole conjunction is false. `all` is its number, if it has parts.
 fn push_not_all(alloc: Global, cnf: &mut Cnf, all: Option<u64>) -> Result<(), Memory>
-    requires part { IsPart cnf.old all }
+    requires part { IsVariablePart cnf.old all }
     ensures grows { IfOk result (λ _. cnf.old.vars ≤ cnf.new.vars) }
     ensures pushed { IfOk result (λ _. (names : List plain.Name) (start : ClauseList) (fs : List plain.Formula)
         → HasConjunction names fs start cnf.old all → cnf.new ≡ with_formulas names start (plain.Not (conjunction fs) ∷ [])) }
@@ -106,9 +106,9 @@ fn join_broken(
 ) -> Result<Option<u64>, Memory>
     requires over { AreOverRules atoms.now (map rule_of rules.now) }
     requires room { length atoms.now ≤ cnf.old.vars }
-    requires part { IsPart cnf.old all }
+    requires part { IsVariablePart cnf.old all }
     ensures grows { IfOk result (λ _. cnf.old.vars ≤ cnf.new.vars) }
-    ensures part { IfOk result (IsPart cnf.new) }
+    ensures part { IfOk result (IsVariablePart cnf.new) }
     ensures joined { IfOk result (λ o. (start : ClauseList) (fs : List plain.Formula) → HasConjunction atoms.now fs start cnf.old all
         → HasConjunction atoms.now (fs ++ map (λ (r : plain.ProgramRule). disjunction (atoms_as r.neg)) (filter (is_broken_by names.now) (map rule_of rules.now))) start cnf.new o) }
 {
@@ -177,7 +177,7 @@ fn push_literal(
 ) -> Result<u64, Memory>
     requires over { AreNamesOf atoms.now (belief.now ∷ []) }
     requires room { length atoms.now ≤ cnf.old.vars }
-    ensures number { IfOk result (IsVariable cnf.new) }
+    ensures number { IfOk result (IsListVariable cnf.new) }
     ensures grows { IfOk result (λ _. cnf.old.vars ≤ cnf.new.vars) }
     ensures occurs { IfOk result
         (HasOccurrences atoms.now (cond holds (plain.Atom belief.now) (plain.Not (plain.Atom belief.now))) cnf.old cnf.new) }

@@ -8,7 +8,7 @@ ghost use Rattle.mcs_system.specs.Seen.{rule_of};
 ghost use Rattle.mcs_trace.specs.Clauses.{ClauseList};
 ghost use Rattle.mcs_cnf.specs.ClauseLists.{with_formulas, and_clauses, or_clauses};
 ghost use Rattle.mcs_evidence.specs.Programs.{atoms_as, negated_atoms, conjunction, disjunction, rule_formula, AreOverRules, IsOverRule};
-ghost use Rattle.mcs_evidence.specs.Pushing.{AreNamesOf, IsVariable, IsPart, HasOccurrences, HasConjunction, HasDisjunction, IsJoined};
+ghost use Rattle.mcs_evidence.specs.Pushing.{AreNamesOf, IsListVariable, IsVariablePart, HasOccurrences, HasConjunction, HasDisjunction, IsJoinedPart};
 
 use mcs_base::Memory;
 use mcs_cnf::{
@@ -21,11 +21,11 @@ use std::alloc::Global;
 /// Adds the conjunction of the one with number `all`, if there is one, and of `x`. Returns its number, which is `x` if
 /// there was none.
 pub(crate) fn join(alloc: Global, cnf: &mut Cnf, all: Option<u64>, x: u64) -> Result<u64, Memory>
-    requires part { IsPart cnf.old all }
-    requires next { IsVariable cnf.old x }
-    ensures number { IfOk result (IsVariable cnf.new) }
+    requires part { IsVariablePart cnf.old all }
+    requires next { IsListVariable cnf.old x }
+    ensures number { IfOk result (IsListVariable cnf.new) }
     ensures grows { IfOk result (λ _. cnf.old.vars ≤ cnf.new.vars) }
-    ensures joined { IfOk result (IsJoined and_clauses cnf.old cnf.new all x) }
+    ensures joined { IfOk result (IsJoinedPart and_clauses cnf.old cnf.new all x) }
 {
     match all {
         None => Ok(x),
@@ -40,11 +40,11 @@ pub(crate) fn join_either(
     any: Option<u64>,
     x: u64,
 ) -> Result<u64, Memory>
-    requires part { IsPart cnf.old any }
-    requires next { IsVariable cnf.old x }
-    ensures number { IfOk result (IsVariable cnf.new) }
+    requires part { IsVariablePart cnf.old any }
+    requires next { IsListVariable cnf.old x }
+    ensures number { IfOk result (IsListVariable cnf.new) }
     ensures grows { IfOk result (λ _. cnf.old.vars ≤ cnf.new.vars) }
-    ensures joined { IfOk result (IsJoined or_clauses cnf.old cnf.new any x) }
+    ensures joined { IfOk result (IsJoinedPart or_clauses cnf.old cnf.new any x) }
 {
     match any {
         None => Ok(x),
@@ -57,7 +57,7 @@ pub(crate) fn join_either(
 pub(crate) fn atom_of(cnf: &Cnf, atoms: &[Name], name: &Name) -> u64
     requires over { IsTrue (is_in name.now atoms.now) }
     requires room { length atoms.now ≤ cnf.now.vars }
-    ensures number { IsVariable cnf.now result }
+    ensures number { IsListVariable cnf.now result }
     ensures occurs { HasOccurrences atoms.now (plain.Atom name.now) cnf.now cnf.now result }
 {
     atom_number(atoms, name)
@@ -72,7 +72,7 @@ pub(crate) fn push_negated(
 ) -> Result<u64, Memory>
     requires over { IsTrue (is_in name.now atoms.now) }
     requires room { length atoms.now ≤ cnf.old.vars }
-    ensures number { IfOk result (IsVariable cnf.new) }
+    ensures number { IfOk result (IsListVariable cnf.new) }
     ensures grows { IfOk result (λ _. cnf.old.vars ≤ cnf.new.vars) }
     ensures occurs { IfOk result
         (HasOccurrences atoms.now (plain.Not (plain.Atom name.now)) cnf.old cnf.new) }
@@ -91,9 +91,9 @@ pub(crate) fn join_atoms(
 ) -> Result<Option<u64>, Memory>
     requires over { AreNamesOf atoms.now names.now }
     requires room { length atoms.now ≤ cnf.old.vars }
-    requires part { IsPart cnf.old all }
+    requires part { IsVariablePart cnf.old all }
     ensures grows { IfOk result (λ _. cnf.old.vars ≤ cnf.new.vars) }
-    ensures part { IfOk result (IsPart cnf.new) }
+    ensures part { IfOk result (IsVariablePart cnf.new) }
     ensures joined { IfOk result (λ o. (start : ClauseList) (fs : List plain.Formula)
         → HasConjunction atoms.now fs start cnf.old all → HasConjunction atoms.now (fs ++ atoms_as names.now) start cnf.new o) }
 {
@@ -115,9 +115,9 @@ pub(crate) fn join_negated(
 ) -> Result<Option<u64>, Memory>
     requires over { AreNamesOf atoms.now names.now }
     requires room { length atoms.now ≤ cnf.old.vars }
-    requires part { IsPart cnf.old all }
+    requires part { IsVariablePart cnf.old all }
     ensures grows { IfOk result (λ _. cnf.old.vars ≤ cnf.new.vars) }
-    ensures part { IfOk result (IsPart cnf.new) }
+    ensures part { IfOk result (IsVariablePart cnf.new) }
     ensures joined { IfOk result (λ o. (start : ClauseList) (fs : List plain.Formula)
         → HasConjunction atoms.now fs start cnf.old all → HasConjunction atoms.now (fs ++ negated_atoms names.now) start cnf.new o) }
 {
@@ -131,8 +131,8 @@ pub(crate) fn join_negated(
 
 /// The number of a whole conjunction; one without parts is true.
 pub(crate) fn all_of(alloc: Global, cnf: &mut Cnf, all: Option<u64>) -> Result<u64, Memory>
-    requires part { IsPart cnf.old all }
-    ensures number { IfOk result (IsVariable cnf.new) }
+    requires part { IsVariablePart cnf.old all }
+    ensures number { IfOk result (IsListVariable cnf.new) }
     ensures grows { IfOk result (λ _. cnf.old.vars ≤ cnf.new.vars) }
     ensures whole { IfOk result (λ n. (names : List plain.Name) (start : ClauseList) (fs : List plain.Formula)
         → HasConjunction names fs start cnf.old all → HasOccurrences names (conjunction fs) start cnf.new n) }
@@ -145,8 +145,8 @@ pub(crate) fn all_of(alloc: Global, cnf: &mut Cnf, all: Option<u64>) -> Result<u
 
 /// The number of a whole disjunction; one without parts is false.
 pub(crate) fn any_of(alloc: Global, cnf: &mut Cnf, any: Option<u64>) -> Result<u64, Memory>
-    requires part { IsPart cnf.old any }
-    ensures number { IfOk result (IsVariable cnf.new) }
+    requires part { IsVariablePart cnf.old any }
+    ensures number { IfOk result (IsListVariable cnf.new) }
     ensures grows { IfOk result (λ _. cnf.old.vars ≤ cnf.new.vars) }
     ensures whole { IfOk result (λ n. (names : List plain.Name) (start : ClauseList) (fs : List plain.Formula)
         → HasDisjunction names fs start cnf.old any → HasOccurrences names (disjunction fs) start cnf.new n) }
@@ -166,7 +166,7 @@ pub(crate) fn push_either(
 ) -> Result<u64, Memory>
     requires over { AreNamesOf atoms.now names.now }
     requires room { length atoms.now ≤ cnf.old.vars }
-    ensures number { IfOk result (IsVariable cnf.new) }
+    ensures number { IfOk result (IsListVariable cnf.new) }
     ensures grows { IfOk result (λ _. cnf.old.vars ≤ cnf.new.vars) }
     ensures occurs { IfOk result (HasOccurrences atoms.now (disjunction (atoms_as names.now)) cnf.old cnf.new) }
 {

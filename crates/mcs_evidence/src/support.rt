@@ -5,7 +5,7 @@ ghost use Rattle.mcs_system.specs.Plain as plain;
 ghost use Rattle.mcs_system.specs.Seen.{rule_of};
 ghost use Rattle.mcs_cnf.specs.ClauseLists.{with_formulas};
 ghost use Rattle.mcs_evidence.specs.Programs.{disjunction, AreOverRules, IsOverRule};
-ghost use Rattle.mcs_evidence.specs.Pushing.{AreNamesOf, IsVariable, HasOccurrences};
+ghost use Rattle.mcs_evidence.specs.Pushing.{AreNamesOf, IsListVariable, HasOccurrences};
 ghost use Rattle.mcs_evidence.specs.Supports.{may_support, outside_formula, support_formula};
 
 use crate::places::{names_apart, some_among};
@@ -33,7 +33,7 @@ fn push_outside(
 ) -> Result<u64, Memory>
     requires over { IsOverRule atoms.now (rule_of rule.now) }
     requires room { length atoms.now ≤ cnf.old.vars }
-    ensures number { IfOk result (IsVariable cnf.new) }
+    ensures number { IfOk result (IsListVariable cnf.new) }
     ensures grows { IfOk result (λ _. cnf.old.vars ≤ cnf.new.vars) }
     ensures occurs { IfOk result (HasOccurrences atoms.now (outside_formula set.now (rule_of rule.now)) cnf.old cnf.new) }
 {
@@ -54,7 +54,7 @@ fn push_supports(
 ) -> Result<u64, Memory>
     requires over { AreOverRules atoms.now (map rule_of rules.now) }
     requires room { length atoms.now ≤ cnf.old.vars }
-    ensures number { IfOk result (IsVariable cnf.new) }
+    ensures number { IfOk result (IsListVariable cnf.new) }
     ensures grows { IfOk result (λ _. cnf.old.vars ≤ cnf.new.vars) }
     ensures occurs { IfOk result (HasOccurrences atoms.now
         (disjunction (map (outside_formula set.now) (filter (may_support set.now) (map rule_of rules.now)))) cnf.old cnf.new) }

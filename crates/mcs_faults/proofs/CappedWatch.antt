@@ -11,8 +11,8 @@ use Rattle.mcs_faults.specs.declared.watch.Watch.{Watch}
 use Rattle.mcs_faults.specs.declared.watch.ContextSeen.{ContextSeen}
 use Rattle.mcs_grammar.specs.Entries.{Use, BeginsContext, BeginsBridge, NamesContext, NamesBridge, SaysProgram, BeginsItem, BeginsDefault, NamesTarget, NamesSource, BeginsBelief, EndsRead, AtomOf, IsNumber, OpensWithin}
 use Rattle.mcs_grammar.specs.Faults.{begins_context, begins_bridge, names_target, begins_default_of, begins_item_of, AreDifferent, NamedRead, WasRead, WasAtom}
-use Rattle.mcs_reader.specs.TextImages.{read_of, capped}
-use Rattle.mcs_faults.specs.Watching.{context_named, bridge_named, contexts_named, bridges_named, Lists, IsSeen, IsSpokenOf, IsWatch}
+use Rattle.mcs_reader.specs.TextImages.{named_read_of, capped}
+use Rattle.mcs_faults.specs.Watching.{context_named, bridge_named, contexts_named, bridges_named, ListsEach, IsContextSeen, IsSpokenOf, IsWatch}
 use Rattle.mcs_faults.proofs.DifferentLemmas.{lists-same}
 use Rattle.mcs_reader.proofs.UseLemmas.{is_number, among-capped, capped-among}
 
@@ -40,10 +40,10 @@ module _ (us vs : List Use) (same : IsSame us vs) where
   spoken-same (IsNumber n) h = tt
   spoken-same (OpensWithin n) h = tt
 
-  atoms-same : (c : Name) (xs : List Name) → Lists xs (WasAtom us c) → Lists xs (WasAtom vs c)
+  atoms-same : (c : Name) (xs : List Name) → ListsEach xs (WasAtom us c) → ListsEach xs (WasAtom vs c)
   atoms-same c xs l = lists-same xs (WasAtom us c) (WasAtom vs c) (λ a. same.among (AtomOf c a) refl) l
 
-  seen-same : (vars : List NamedRead) (c : ContextSeen) → IsSeen vars us c → IsSeen vars vs c
+  seen-same : (vars : List NamedRead) (c : ContextSeen) → IsContextSeen vars us c → IsContextSeen vars vs c
   seen-same vars c s = record {
     program = let is = same.among (SaysProgram c.name) refl in (λ h. is.0 (s.program.0 h), λ h. s.program.1 (is.1 h));
     rules = s.rules ∙ same.counts (names_target c.name) (λ n. refl);
@@ -57,7 +57,7 @@ module _ (us vs : List Use) (same : IsSame us vs) where
     few = s.few;
   }
 
-  all-same : (vars : List NamedRead) (cs : List ContextSeen) → AllByRecursion (IsSeen vars us) cs → AllByRecursion (IsSeen vars vs) cs
+  all-same : (vars : List NamedRead) (cs : List ContextSeen) → AllByRecursion (IsContextSeen vars us) cs → AllByRecursion (IsContextSeen vars vs) cs
   all-same vars [] all = tt
   all-same vars (c ∷ cs) all = (seen-same vars c all.0, all-same vars cs all.1)
 
@@ -68,11 +68,11 @@ module _ (us vs : List Use) (same : IsSame us vs) where
     named = watch.named ∙ same.contexts;
     bridges = watch.bridges ∙ same.bridges;
     different = (subst (λ (ns : List Name). AreDifferent ns) same.contexts watch.different.0, subst (λ (ns : List Name). AreDifferent ns) same.bridges watch.different.1);
-    variables = lists-same (map read_of w.variables.items) (WasRead us) (WasRead vs) (λ r. (
+    variables = lists-same (map named_read_of w.variables.items) (WasRead us) (WasRead vs) (λ r. (
       λ was. (was.0, (same.among (EndsRead was.0 r.context r.belief) refl).0 was.1),
       λ was. (was.0, (same.among (EndsRead was.0 r.context r.belief) refl).1 was.1),
     )) watch.variables;
-    seen = all-same (map read_of w.variables.items) w.contexts.items watch.seen;
+    seen = all-same (map named_read_of w.variables.items) w.contexts.items watch.seen;
     few = watch.few;
     spoken = λ u h. said u h;
     targets = λ c h. (same.among (NamesContext c) refl).0 (watch.targets c ((same.among (NamesTarget c) refl).1 h));

@@ -12,8 +12,8 @@ use Rattle.mcs_faults.specs.declared.watch.Watch.{Watch}
 use Rattle.mcs_faults.specs.declared.watch.ContextSeen.{ContextSeen}
 use Rattle.mcs_grammar.specs.Entries.{Use, SaysProgram, BeginsItem, BeginsDefault, NamesTarget, AtomOf}
 use Rattle.mcs_grammar.specs.Faults.{names_target, begins_default_of, begins_item_of, WasAtom}
-use Rattle.mcs_reader.specs.TextImages.{read_of}
-use Rattle.mcs_faults.specs.Watching.{Lists, IsSeen, IsSpokenOf, names_seen, IsWatch, IsNumberOf, IsAllowed}
+use Rattle.mcs_reader.specs.TextImages.{named_read_of}
+use Rattle.mcs_faults.specs.Watching.{ListsEach, IsContextSeen, IsSpokenOf, names_seen, IsWatch, IsNumberOf, IsUseAllowed}
 use Rattle.mcs_faults.proofs.ApartLemmas.{apart-program, apart-item, apart-default, apart-target, apart-atom}
 use Rattle.mcs_faults.proofs.DifferentLemmas.{lists-same, lists-more}
 use Rattle.mcs_faults.proofs.LaterLemmas.{same-among, the-new, earlier, atoms-later, inputs-later}
@@ -24,7 +24,7 @@ module _ (w : Watch) (before : List Use) (watch : IsWatch w before) (n : Name) (
   name : c.name ≡ n
   name = seen-name w before watch n k number c here
 
-  seen : IsSeen (map read_of w.variables.items) before c
+  seen : IsContextSeen (map named_read_of w.variables.items) before c
   seen = seen-here w before watch n k number c here
 
   -- one more, as it is counted
@@ -53,7 +53,7 @@ module _ (w : Watch) (before : List Use) (watch : IsWatch w before) (n : Name) (
         })
         w' (omega arith) (omega arith) (bridges ∙ sym (append-nil w.bridges.items)) variables (contexts ∙ ap (slice_set w.contexts.items k) is) refl
 
-    pub step-begins_item : IsSpokenOf before (BeginsItem n) → IsAllowed before (BeginsItem n) → (c' : ContextSeen) (x : ℕ) → x ≡ c.items + 1 → c' ≡ record c { items = x } → w'.contexts.items ≡ slice_set w.contexts.items k c' → IsWatch w' (before ++ BeginsItem n ∷ [])
+    pub step-begins_item : IsSpokenOf before (BeginsItem n) → IsUseAllowed before (BeginsItem n) → (c' : ContextSeen) (x : ℕ) → x ≡ c.items + 1 → c' ≡ record c { items = x } → w'.contexts.items ≡ slice_set w.contexts.items k c' → IsWatch w' (before ++ BeginsItem n ∷ [])
     step-begins_item spoken allowed c' x more is contexts =
         let mine : begins_item_of c.name (BeginsItem n) ≡ true = ap (same_name c.name) (sym name) ∙ same_name-itself c.name in
         context-step w before watch (BeginsItem n) spoken allowed (λ t d f e. cc) k c (record c { items = x }) here refl
@@ -69,7 +69,7 @@ module _ (w : Watch) (before : List Use) (watch : IsWatch w before) (n : Name) (
         })
         w' (omega arith) (omega arith) (bridges ∙ sym (append-nil w.bridges.items)) variables (contexts ∙ ap (slice_set w.contexts.items k) is) refl
 
-    pub step-begins_default : IsSpokenOf before (BeginsDefault n) → IsAllowed before (BeginsDefault n) → (c' : ContextSeen) (x : ℕ) → x ≡ c.defaults + 1 → c' ≡ record c { defaults = x } → w'.contexts.items ≡ slice_set w.contexts.items k c' → IsWatch w' (before ++ BeginsDefault n ∷ [])
+    pub step-begins_default : IsSpokenOf before (BeginsDefault n) → IsUseAllowed before (BeginsDefault n) → (c' : ContextSeen) (x : ℕ) → x ≡ c.defaults + 1 → c' ≡ record c { defaults = x } → w'.contexts.items ≡ slice_set w.contexts.items k c' → IsWatch w' (before ++ BeginsDefault n ∷ [])
     step-begins_default spoken allowed c' x more is contexts =
         let mine : begins_default_of c.name (BeginsDefault n) ≡ true = ap (same_name c.name) (sym name) ∙ same_name-itself c.name in
         context-step w before watch (BeginsDefault n) spoken allowed (λ t d f e. cc) k c (record c { defaults = x }) here refl
@@ -85,7 +85,7 @@ module _ (w : Watch) (before : List Use) (watch : IsWatch w before) (n : Name) (
         })
         w' (omega arith) (omega arith) (bridges ∙ sym (append-nil w.bridges.items)) variables (contexts ∙ ap (slice_set w.contexts.items k) is) refl
 
-    pub step-names_target : IsAllowed before (NamesTarget n) → (c' : ContextSeen) (x : ℕ) → x ≡ c.rules + 1 → c' ≡ record c { rules = x } → w'.contexts.items ≡ slice_set w.contexts.items k c' → IsWatch w' (before ++ NamesTarget n ∷ [])
+    pub step-names_target : IsUseAllowed before (NamesTarget n) → (c' : ContextSeen) (x : ℕ) → x ≡ c.rules + 1 → c' ≡ record c { rules = x } → w'.contexts.items ≡ slice_set w.contexts.items k c' → IsWatch w' (before ++ NamesTarget n ∷ [])
     step-names_target allowed c' x more is contexts =
         let mine : names_target c.name (NamesTarget n) ≡ true = ap (same_name c.name) (sym name) ∙ same_name-itself c.name in
         context-step w before watch (NamesTarget n) tt allowed (λ t d f e. cc) k c (record c { rules = x }) here refl
@@ -103,8 +103,8 @@ module _ (w : Watch) (before : List Use) (watch : IsWatch w before) (n : Name) (
 
     -- an atom, whose list is the same if it was there, and has it at its end if not
     module _ (a : Name) (c' : ContextSeen) (same : c'.name ≡ c.name) (program : c'.is_program ≡ c.is_program) (rules : c'.rules ≡ c.rules) (items : c'.items ≡ c.items) (defaults : c'.defaults ≡ c.defaults) (inputs : c'.inputs ≡ c.inputs)
-        (spoken : IsSpokenOf before (AtomOf n a)) (allowed : IsAllowed before (AtomOf n a)) (contexts : w'.contexts.items ≡ slice_set w.contexts.items k c') where
-      step-atom : Lists c'.atoms.items (WasAtom (before ++ AtomOf n a ∷ []) c.name) → length c'.atoms.items ≤ 64 → IsWatch w' (before ++ AtomOf n a ∷ [])
+        (spoken : IsSpokenOf before (AtomOf n a)) (allowed : IsUseAllowed before (AtomOf n a)) (contexts : w'.contexts.items ≡ slice_set w.contexts.items k c') where
+      step-atom : ListsEach c'.atoms.items (WasAtom (before ++ AtomOf n a ∷ []) c.name) → length c'.atoms.items ≤ 64 → IsWatch w' (before ++ AtomOf n a ∷ [])
       step-atom listed few =
           context-step w before watch (AtomOf n a) spoken allowed (λ t d f e. cc) k c c' here same
           (λ x differ. apart-atom n a x (λ e. differ (e ∙ sym name)))
@@ -114,7 +114,7 @@ module _ (w : Watch) (before : List Use) (watch : IsWatch w before) (n : Name) (
             rules = rules ∙ seen.rules ∙ ap (λ (y : Name). count_by (names_target y) before) (sym same) ∙ sym (count_by_push_no (names_target c'.name) before (AtomOf n a) refl);
             defaults = defaults ∙ seen.defaults ∙ ap (λ (y : Name). count_by (begins_default_of y) before) (sym same) ∙ sym (count_by_push_no (begins_default_of c'.name) before (AtomOf n a) refl);
             items = items ∙ seen.items ∙ ap (λ (y : Name). count_by (begins_item_of y) before) (sym same) ∙ sym (count_by_push_no (begins_item_of c'.name) before (AtomOf n a) refl);
-            atoms = subst (λ (y : Name). Lists c'.atoms.items (WasAtom (before ++ AtomOf n a ∷ []) y)) (sym same) listed;
+            atoms = subst (λ (y : Name). ListsEach c'.atoms.items (WasAtom (before ++ AtomOf n a ∷ []) y)) (sym same) listed;
             inputs = inputs-later before (AtomOf n a) c'.name c'.inputs _ _ (λ d f e. cc) (rw (same, inputs) seen.inputs) (λ j r at. at) (λ j r at was. at);
             few = (omega (arith, seen.few.0), omega (arith, seen.few.1), omega (arith, seen.few.2), few, rw inputs seen.few.4);
           })
@@ -125,7 +125,7 @@ module _ (w : Watch) (before : List Use) (watch : IsWatch w before) (n : Name) (
           let was : WasAtom before c.name a = (seen.atoms.1 a).0 there in
           let was' : IsAmong (AtomOf n a) before = subst (λ (y : Name). IsAmong (AtomOf y a) before) name was in
           step-atom
-          (subst (λ (xs : List Name). Lists xs (WasAtom (before ++ AtomOf n a ∷ []) c.name)) (sym atoms)
+          (subst (λ (xs : List Name). ListsEach xs (WasAtom (before ++ AtomOf n a ∷ []) c.name)) (sym atoms)
           (lists-same c.atoms.items (WasAtom before c.name) (WasAtom (before ++ AtomOf n a ∷ []) c.name) (λ b. (
             λ h. earlier before (AtomOf n a) (AtomOf c.name b) h,
             λ h. elim ((among_push (AtomOf c.name b) before (AtomOf n a)).0 h) [ inl h' ↦ h' | inr e ↦ subst (λ (u : Use). IsAmong u before) (sym e) was' ],
@@ -135,10 +135,10 @@ module _ (w : Watch) (before : List Use) (watch : IsWatch w before) (n : Name) (
       pub step-atom_new : c'.atoms.items ≡ c.atoms.items ++ a ∷ [] → ¬ IsAmong a c.atoms.items → IsWatch w' (before ++ AtomOf n a ∷ [])
       step-atom_new atoms new =
           step-atom
-          (subst (λ (xs : List Name). Lists xs (WasAtom (before ++ AtomOf n a ∷ []) c.name)) (sym atoms)
+          (subst (λ (xs : List Name). ListsEach xs (WasAtom (before ++ AtomOf n a ∷ []) c.name)) (sym atoms)
           (lists-more c.atoms.items (WasAtom before c.name) (WasAtom (before ++ AtomOf n a ∷ []) c.name) a (λ b. (
             λ h. elim ((among_push (AtomOf c.name b) before (AtomOf n a)).0 h) [ inl h' ↦ inl h' | inr e ↦ inr (let e' : b ≡ a = cc in e') ],
             λ h. elim h [ inl h' ↦ earlier before (AtomOf n a) (AtomOf c.name b) h' | inr e ↦ (among_push (AtomOf c.name b) before (AtomOf n a)).1 (inr (let e' = name in cc)) ],
           )) new seen.atoms))
-          (let many : length c.atoms.items ≡ 64 → ⊥ = λ e. allowed ((one-more c.atoms.items (WasAtom before n) 64 a (subst (λ (y : Name). Lists c.atoms.items (WasAtom before y)) name seen.atoms)).1 (e, new)) in
+          (let many : length c.atoms.items ≡ 64 → ⊥ = λ e. allowed ((one-more c.atoms.items (WasAtom before n) 64 a (subst (λ (y : Name). ListsEach c.atoms.items (WasAtom before y)) name seen.atoms)).1 (e, new)) in
           let few = seen.few.3 in let long = length-append c.atoms.items (a ∷ []) in omega (arith, ap length atoms))

@@ -9,20 +9,20 @@ use Rattle.mcs_sets.specs.Sets.{has, members, size}
 use Rattle.mcs_base.proofs.Among.{map_among, among_map, among_push, get_among}
 use Rattle.mcs_base.proofs.Distinct.{distinct_fits, distinct_push, ascending_distinct, distinct_map, one_place}
 use Rattle.mcs_grammar.specs.Faults.{AreDifferent}
-use Rattle.mcs_faults.specs.Watching.{Lists}
+use Rattle.mcs_faults.specs.Watching.{ListsEach}
 
 module _ {A : Type 0} where
-  pub same-length : (xs ys : List A) (P : A → Type 0) → Lists xs P → Lists ys P → length xs ≡ length ys
+  pub same-length : (xs ys : List A) (P : A → Type 0) → ListsEach xs P → ListsEach ys P → length xs ≡ length ys
   same-length xs ys P l l' =
       let a = distinct_fits xs ys l.0 (λ x h. (l'.1 x).1 ((l.1 x).0 h)) in
       let b = distinct_fits ys xs l'.0 (λ x h. (l.1 x).1 ((l'.1 x).0 h)) in
       omega arith
 
   -- the same values still, or one more
-  pub lists-same : (xs : List A) (P Q : A → Type 0) → ((x : A) → P x ↔ Q x) → Lists xs P → Lists xs Q
+  pub lists-same : (xs : List A) (P Q : A → Type 0) → ((x : A) → P x ↔ Q x) → ListsEach xs P → ListsEach xs Q
   lists-same xs P Q same l = (l.0, λ x. (λ h. (same x).0 ((l.1 x).0 h), λ q. (l.1 x).1 ((same x).1 q)))
 
-  pub lists-more : (xs : List A) (P Q : A → Type 0) (x : A) → ((y : A) → Q y ↔ (P y ⊎ (y ≡ x))) → ¬ IsAmong x xs → Lists xs P → Lists (xs ++ x ∷ []) Q
+  pub lists-more : (xs : List A) (P Q : A → Type 0) (x : A) → ((y : A) → Q y ↔ (P y ⊎ (y ≡ x))) → ¬ IsAmong x xs → ListsEach xs P → ListsEach (xs ++ x ∷ []) Q
   lists-more xs P Q x more new l = (
     distinct_push xs x l.0 new,
     λ y. (
@@ -33,7 +33,7 @@ module _ {A : Type 0} where
 
 -- the values at the places of a set: as many as it has
 pub values-at : {A : Type 0} (xs : List A) (d : A) (s : ℕ) (P : A → Type 0) → AreDifferent xs → ((k : ℕ) → IsTrue (has s k) ↔ ((x : A) × (slice_get xs k ≡ Some x) × P x)) → ((x : A) → P x → IsAmong x xs)
-    → (ys : List A) × Lists ys P × (length ys ≡ size s)
+    → (ys : List A) × ListsEach ys P × (length ys ≡ size s)
 values-at {A} xs d s P different at there =
     let listing = members_listing s in
     let f : ℕ → A = λ (k : ℕ). get_or xs k d in

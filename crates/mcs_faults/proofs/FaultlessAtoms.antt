@@ -19,7 +19,7 @@ use Rattle.mcs_system.proofs.ValidLemmas.{few_atoms}
 use Rattle.mcs_grammar.specs.Written.{WrittenContext, WrittenText}
 use Rattle.mcs_grammar.specs.Entries.{Use, AtomOf, Entry, formula_in, text_entries, uses_of}
 use Rattle.mcs_grammar.specs.Saying.{context_in, names_of, SaysSystem}
-use Rattle.mcs_grammar.specs.Faults.{WasAtom, IsBeyond}
+use Rattle.mcs_grammar.specs.Faults.{WasAtom, ExceedsLimit}
 use Rattle.mcs_grammar.proofs.TextSplits.{IsSplit, uses-split, among-before, among-here}
 use Rattle.mcs_faults.proofs.SaidParts.{in-range, only-context, SaidOf, AsHead, AsRead, said-place}
 use Rattle.mcs_faults.proofs.FaultlessReads.{one-more}
@@ -95,7 +95,7 @@ module _ (t : WrittenText) (m : plain.System) (says : SaysSystem t m) (valid : I
     split : IsSplit (text_uses t) before here.uses
     split = uses-split (text_entries t) k here is
 
-    pub few-atoms : ¬ IsBeyond AtomsPerContext before here
+    pub few-atoms : ¬ ExceedsLimit AtomsPerContext before here
     few-atoms (c, (a, h, full)) =
         let now : WasAtom (text_uses t) c a = among-here (text_uses t) before here.uses (AtomOf c a) split h in
         let (i, at) = atom-number c a ((atoms-there t c a).0 now) in

@@ -20,7 +20,7 @@ use Rattle.mcs_system.proofs.NameLemmas.{position-there}
 use Rattle.mcs_grammar.specs.Written.{WrittenKb, WrittenContext, WrittenPlace, WrittenBridge, WrittenText, IsText}
 use Rattle.mcs_grammar.specs.Entries.{Use, BeginsContext, BeginsBridge, BeginsItem, BeginsDefault, NamesTarget, Entry, text_entries, uses_of}
 use Rattle.mcs_grammar.specs.Saying.{kb_in, context_in, SaysBridge, names_of, SaysSystem}
-use Rattle.mcs_grammar.specs.Faults.{AreDifferent, begins_context, begins_bridge, names_target, begins_default_of, begins_item_of, IsBeyond}
+use Rattle.mcs_grammar.specs.Faults.{AreDifferent, begins_context, begins_bridge, names_target, begins_default_of, begins_item_of, ExceedsLimit}
 use Rattle.mcs_grammar.proofs.TextSplits.{IsSplit, uses-split, among-here, count-more}
 use Rattle.mcs_faults.proofs.SaidParts.{context-count-same, bridge-count-same, context-at, in-range, said-place}
 use Rattle.mcs_faults.proofs.FaultlessNames.{contexts-differ}
@@ -96,7 +96,7 @@ module _ (t : WrittenText) (m : plain.System) (says : SaysSystem t m) (valid : I
     more : (p : Use → Bool) (u : Use) → IsAmong u here.uses → p u ≡ true → count_by p before < count_by p (text_uses t)
     more p u = count-more p (text_uses t) before here.uses u split
 
-    pub few-contexts : ¬ IsBeyond Contexts before here
+    pub few-contexts : ¬ ExceedsLimit Contexts before here
     few-contexts (h, full) =
         let over = more begins_context BeginsContext h refl in
         let all = context-count t in
@@ -104,7 +104,7 @@ module _ (t : WrittenText) (m : plain.System) (says : SaysSystem t m) (valid : I
         let most = few_contexts m valid in
         omega arith
 
-    pub few-bridges : ¬ IsBeyond Bridges before here
+    pub few-bridges : ¬ ExceedsLimit Bridges before here
     few-bridges (h, full) =
         let over = more begins_bridge BeginsBridge h refl in
         let all = bridge-count t in
@@ -112,7 +112,7 @@ module _ (t : WrittenText) (m : plain.System) (says : SaysSystem t m) (valid : I
         let most = few_bridges m valid in
         omega arith
 
-    pub few-rules : ¬ IsBeyond RulesPerContext before here
+    pub few-rules : ¬ ExceedsLimit RulesPerContext before here
     few-rules (c, h, full) =
         let over = more (names_target c) (NamesTarget c) h (same_name-itself c) in
         let all = target-count t c in
@@ -120,14 +120,14 @@ module _ (t : WrittenText) (m : plain.System) (says : SaysSystem t m) (valid : I
         let most = most-rules c b.head (OfHead b there refl) into in
         omega arith
 
-    pub few-defaults : ¬ IsBeyond DefaultsPerContext before here
+    pub few-defaults : ¬ ExceedsLimit DefaultsPerContext before here
     few-defaults (c, h, full) =
         let over = more (begins_default_of c) (BeginsDefault c) h (same_name-itself c) in
         let all = default-count t c in
         let most = most-of-each c (λ kb. default_count (kb_in kb)) 10 most-defaults in
         omega arith
 
-    pub few-items : IsText t → ¬ IsBeyond ItemsPerContext before here
+    pub few-items : IsText t → ¬ ExceedsLimit ItemsPerContext before here
     few-items grammar (c, h, full) =
         let over = more (begins_item_of c) (BeginsItem c) h (same_name-itself c) in
         let all = item-count t c grammar in

@@ -14,7 +14,7 @@ use Rattle.mcs_system.specs.Plain as plain
 use Rattle.mcs_system.specs.Faults.{is_atom, is_program, has_twins, reads_of, IsValid}
 use Rattle.mcs_system.proofs.ValidLemmas.{tests_pass, head_is_atom, belief_is_atom}
 use Rattle.mcs_system.proofs.NameLemmas.{no_twins, position-there}
-use Rattle.mcs_grammar.specs.Written.{Written, Named, WrittenKb, Classical, DefaultTheory, Program, WrittenContext, WrittenPlace, WrittenRead, WrittenBridge, WrittenText, IsNameWord, HasNames, IsPlace, IsBridge, IsText}
+use Rattle.mcs_grammar.specs.Written.{Written, Named, WrittenKb, Classical, DefaultTheory, Program, WrittenContext, WrittenPlace, WrittenRead, WrittenBridge, WrittenText, IsNameWord, HasNames, IsPlace, IsWrittenBridge, IsText}
 use Rattle.mcs_grammar.specs.Entries.{Use, NamesContext, NamesBridge, SaysProgram, NamesTarget, NamesSource, Entry, formula_in, whole_entries, text_entries, uses_of}
 use Rattle.mcs_grammar.specs.Saying.{context_in, SaysBridge, names_of, SaysSystem}
 use Rattle.mcs_grammar.specs.Faults.{AreDifferent, NoContext, Twin, NoAtom, Has}
@@ -84,8 +84,8 @@ atom-is plain.Truth e = absurd (true≢false (sym e))
 atom-is f e = absurd (true≢false (sym e))
 
 place-is : (t : WrittenText) → IsText t → (p : WrittenPlace) → IsPlaceOf t p → IsPlace p
-place-is t grammar p (OfHead b there is) = subst IsPlace is (all_among IsBridge t.bridges b grammar.1 there).1
-place-is t grammar p (OfRead b there r read is) = subst IsPlace is (all_among (λ (q : WrittenRead). IsPlace q.place) b.reads r (all_among IsBridge t.bridges b grammar.1 there).2 read)
+place-is t grammar p (OfHead b there is) = subst IsPlace is (all_among IsWrittenBridge t.bridges b grammar.1 there).1
+place-is t grammar p (OfRead b there r read is) = subst IsPlace is (all_among (λ (q : WrittenRead). IsPlace q.place) b.reads r (all_among IsWrittenBridge t.bridges b grammar.1 there).2 read)
 
 module _ (t : WrittenText) (m : plain.System) (says : SaysSystem t m) (valid : IsValid m) where
   said-atom : (i : ℕ) (f : plain.Formula) → is_program (slice_get m.contexts i) ≡ true → SaidOf m i f → is_atom f ≡ true

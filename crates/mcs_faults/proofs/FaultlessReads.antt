@@ -22,7 +22,7 @@ use Rattle.mcs_system.proofs.NameLemmas.{position-there}
 use Rattle.mcs_grammar.specs.Written.{WrittenPlace, WrittenText}
 use Rattle.mcs_grammar.specs.Entries.{Use, EndsRead, Entry, text_entries, uses_of}
 use Rattle.mcs_grammar.specs.Saying.{SaysPlace, names_of, SaysSystem}
-use Rattle.mcs_grammar.specs.Faults.{AreDifferent, IsOneMore, NamedRead, WasReadInto, WasRead, IsBeyond}
+use Rattle.mcs_grammar.specs.Faults.{AreDifferent, IsOneMore, NamedRead, WasReadInto, WasRead, ExceedsLimit}
 use Rattle.mcs_reader.specs.TextImages.{read_in}
 use Rattle.mcs_grammar.proofs.TextSplits.{IsSplit, uses-split, among-before, among-here}
 use Rattle.mcs_faults.proofs.SaidParts.{in-range, said-read, said-bridge}
@@ -113,14 +113,14 @@ module _ (t : WrittenText) (m : plain.System) (says : SaysSystem t m) (valid : I
     now : (target : Name) (y : NamedRead) → WasReadInto here.uses target y → WasReadInto (text_uses t) target y
     now target y = among-here (text_uses t) before here.uses (EndsRead target y.context y.belief) split
 
-    pub few-variables : ¬ IsBeyond Variables before here
+    pub few-variables : ¬ ExceedsLimit Variables before here
     few-variables (target, (r, h, full)) =
         let names : List Name = names_of t.contexts in
         let over = one-more 64 (WasRead before) (WasRead (text_uses t)) r (map (named_read names) (variables m)) full (λ y g. (g.0, later g.0 y g.1)) (target, now target r h) variable-of in
         let most = few_variables m valid in
         omega (arith, length-map (variables m) (named_read names))
 
-    pub few-inputs : ¬ IsBeyond InputsPerContext before here
+    pub few-inputs : ¬ ExceedsLimit InputsPerContext before here
     unfolding inputs_named
     few-inputs (target, (r, h, full)) =
         let first = input-of target r (now target r h) in

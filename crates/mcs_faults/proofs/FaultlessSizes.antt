@@ -13,7 +13,7 @@ use Rattle.mcs_system.proofs.ValidLemmas.{limit_kept}
 use Rattle.mcs_grammar.specs.Written.{Written, WrittenDefault, WrittenItem, Fact, Rule, WrittenRule, WrittenKb, Classical, DefaultTheory, Program, WrittenContext, WrittenText}
 use Rattle.mcs_grammar.specs.Entries.{IsNumber, OpensWithin, Entry, formula_in, size_of, text_entries, uses_of}
 use Rattle.mcs_grammar.specs.Saying.{item_in, positive_atoms, negative_atoms, rule_in, kb_in, context_in, SaysSystem}
-use Rattle.mcs_grammar.specs.Faults.{IsBeyond}
+use Rattle.mcs_grammar.specs.Faults.{ExceedsLimit}
 use Rattle.mcs_grammar.proofs.TextSplits.{uses-split, among-here}
 use Rattle.mcs_faults.proofs.SaidParts.{SaidOf, AsHead, AsRead, said-place}
 use Rattle.mcs_faults.proofs.TextConditions.{HasShortNames}
@@ -85,18 +85,18 @@ module _ (t : WrittenText) (m : plain.System) (says : SaysSystem t m) where
       let said = said-place t m says p place in
       or_right (list_any (λ (c : plain.Context). has_large_item c.kb) m.contexts) _ (large-place m said.number (formula_in p.belief) said.said (large-said p.belief (omega (arith, is))))
 
-  pub small-formulas : IsValid m → (k : ℕ) (here : Entry) → slice_get (text_entries t) k ≡ Some here → ¬ IsBeyond FormulaSize (uses_of (take k (text_entries t))) here
+  pub small-formulas : IsValid m → (k : ℕ) (here : Entry) → slice_get (text_entries t) k ≡ Some here → ¬ ExceedsLimit FormulaSize (uses_of (take k (text_entries t))) here
   small-formulas valid k here is h =
       let found = (numbers-there t 513).0 (among-here (text_uses t) (uses_of (take k (text_entries t))) here.uses (IsNumber 513) (uses-split (text_entries t) k here is) h) in
       let (n, size, most) = found.1 in
       true≢false (sym (some-large n size most) ∙ limit_kept m valid FormulaSize (inr (inr (inr (inr (inr (inr (inr (inr (inr (inl refl)))))))))))
 
-pub few-parentheses : (t : WrittenText) → IsShallow t → (k : ℕ) (here : Entry) → slice_get (text_entries t) k ≡ Some here → ¬ IsBeyond OpenParentheses (uses_of (take k (text_entries t))) here
+pub few-parentheses : (t : WrittenText) → IsShallow t → (k : ℕ) (here : Entry) → slice_get (text_entries t) k ≡ Some here → ¬ ExceedsLimit OpenParentheses (uses_of (take k (text_entries t))) here
 few-parentheses t shallow k here is h =
     let below = opens-there t 512 shallow (among-here (text_uses t) (uses_of (take k (text_entries t))) here.uses (OpensWithin 512) (uses-split (text_entries t) k here is) h) in
     omega arith
 
-pub short-names : (t : WrittenText) → HasShortNames t → (k : ℕ) (here : Entry) → slice_get (text_entries t) k ≡ Some here → ¬ IsBeyond NameBytes (uses_of (take k (text_entries t))) here
+pub short-names : (t : WrittenText) → HasShortNames t → (k : ℕ) (here : Entry) → slice_get (text_entries t) k ≡ Some here → ¬ ExceedsLimit NameBytes (uses_of (take k (text_entries t))) here
 short-names t short k here is (word, long) =
     let most = short here (among_get here (text_entries t) k is) word in
     omega arith

@@ -7,7 +7,7 @@ use Rattle.mcs_system.specs.declared.limit.Limit.TheVariants.{Contexts, Bridges,
 use Rattle.mcs_grammar.specs.Written.{WrittenText, IsText}
 use Rattle.mcs_grammar.specs.Entries.{Entry, text_entries, uses_of}
 use Rattle.mcs_grammar.specs.Saying.{SaysSystem}
-use Rattle.mcs_grammar.specs.Faults.{NoGrammar, NoContext, Twin, NoAtom, Exceeds, IsBeyond}
+use Rattle.mcs_grammar.specs.Faults.{NoGrammar, NoContext, Twin, NoAtom, Exceeds, ExceedsLimit}
 use Rattle.mcs_faults.proofs.Within.{NoFaults}
 use Rattle.mcs_faults.proofs.UsesLemmas.{IsShallow}
 use Rattle.mcs_faults.proofs.TextConditions.{HasShortNames, HasBareAtoms}
@@ -18,7 +18,7 @@ use Rattle.mcs_faults.proofs.FaultlessAtoms.{few-atoms}
 use Rattle.mcs_faults.proofs.FaultlessSizes.{small-formulas, few-parentheses, short-names}
 
 module _ (t : WrittenText) (m : plain.System) (grammar : IsText t) (says : SaysSystem t m) (valid : IsValid m) (shallow : IsShallow t) (short : HasShortNames t) (bare : HasBareAtoms t) where
-  within-limits : (k : ℕ) (here : Entry) → slice_get (text_entries t) k ≡ Some here → (limit : Limit) → ¬ IsBeyond limit (uses_of (take k (text_entries t))) here
+  within-limits : (k : ℕ) (here : Entry) → slice_get (text_entries t) k ≡ Some here → (limit : Limit) → ¬ ExceedsLimit limit (uses_of (take k (text_entries t))) here
   within-limits k here is Contexts = few-contexts t m says valid k here is
   within-limits k here is Bridges = few-bridges t m says valid k here is
   within-limits k here is RulesPerContext = few-rules t m says valid k here is

@@ -15,10 +15,10 @@ use Rattle.mcs_reader.specs.declared.place.Role.TheVariants as roles
 use Rattle.mcs_faults.specs.declared.watch.Watch.{Watch}
 use Rattle.mcs_faults.specs.declared.watch.Said.{Said}
 use Rattle.mcs_grammar.specs.Entries.{Token, Use, BeginsContext, BeginsBridge, NamesContext, NamesBridge, SaysProgram, BeginsItem, BeginsDefault, NamesTarget, NamesSource, BeginsBelief, EndsRead, AtomOf, IsNumber, OpensWithin, Entry}
-use Rattle.mcs_grammar.specs.Faults.{begins_context, begins_bridge, names_target, begins_default_of, begins_item_of, WasAtom, IsOneMore, Fault, NoContext, Twin, Exceeds, Has}
-use Rattle.mcs_reader.specs.TextImages.{About, role_uses, uses_in, read_of}
+use Rattle.mcs_grammar.specs.Faults.{begins_context, begins_bridge, names_target, begins_default_of, begins_item_of, WasAtom, IsOneMore, TextFault, NoContext, Twin, Exceeds, Has}
+use Rattle.mcs_reader.specs.TextImages.{About, role_uses, uses_in, named_read_of}
 use Rattle.mcs_grammar.specs.Written.{IsNameWord}
-use Rattle.mcs_faults.specs.Watching.{IsSpokenOf, named_read, AreShort, IsAsked, IsAllowed, AreFree}
+use Rattle.mcs_faults.specs.Watching.{IsSpokenOf, named_read, AreShort, IsEntryAsked, IsUseAllowed, HaveNoFault}
 use Rattle.mcs_faults.proofs.LimitLemmas.{use-in, in-use}
 use Rattle.mcs_faults.proofs.WatchFacts.{is-context}
 use Rattle.mcs_faults.proofs.LaterLemmas.{earlier, not-new, same-among, spoken-later}
@@ -90,7 +90,7 @@ module _ (before : List Use) (v : Use) where
   count-stays : (p : Use → Bool) (n : ℕ) → p v ≡ false → ¬ (count_by p before ≡ n) → ¬ (count_by p (before ++ v ∷ []) ≡ n)
   count-stays p n other h e = h (sym (count_by_push_no p before v other) ∙ e)
 
-  role-later : IsEarly v → (u : Use) → is_role_use u ≡ true → IsAllowed before u → IsAllowed (before ++ v ∷ []) u
+  role-later : IsEarly v → (u : Use) → is_role_use u ≡ true → IsUseAllowed before u → IsUseAllowed (before ++ v ∷ []) u
   role-later early BeginsContext e h = count-stays begins_context 64 early.contexts h
   role-later early BeginsBridge e h = count-stays begins_bridge 64 early.bridges h
   role-later early (NamesContext d) e h = λ there. h (not-new before v (NamesContext d) (early.context d) there)
@@ -107,27 +107,27 @@ module _ (before : List Use) (v : Use) where
   role-later early (OpensWithin n) e h = tt
 
   -- a use of the role, or the beginning of an item, as before
-  pub roles-later : IsEarly v → (a : About) (t : Token) (r : code_role.Role) → AreFree before (role_uses a t r) → AreFree (before ++ v ∷ []) (role_uses a t r)
+  pub roles-later : IsEarly v → (a : About) (t : Token) (r : code_role.Role) → HaveNoFault before (role_uses a t r) → HaveNoFault (before ++ v ∷ []) (role_uses a t r)
   roles-later early a t r free u h = (spoken-later before v u (free u h).0, role-later early u (role-uses-are a t r u h) (free u h).1)
 
-  pub item-later : (c : Name) → begins_item_of c v ≡ false → IsSpokenOf before (BeginsItem c) × IsAllowed before (BeginsItem c) → IsSpokenOf (before ++ v ∷ []) (BeginsItem c) × IsAllowed (before ++ v ∷ []) (BeginsItem c)
+  pub item-later : (c : Name) → begins_item_of c v ≡ false → IsSpokenOf before (BeginsItem c) × IsUseAllowed before (BeginsItem c) → IsSpokenOf (before ++ v ∷ []) (BeginsItem c) × IsUseAllowed (before ++ v ∷ []) (BeginsItem c)
   item-later c other free = (spoken-later before v (BeginsItem c) free.0, count-stays (begins_item_of c) 4096 other free.1)
 
 -- ---- a token that has no fault
-module _ (w : Watch) (before : List Use) (m : Entry) (a : About) (s : Said) (asked : IsAsked w before m a s) (none : (f : Fault) → ¬ Has f before m) where
+module _ (w : Watch) (before : List Use) (m : Entry) (a : About) (s : Said) (asked : IsEntryAsked w before m a s) (none : (f : TextFault) → ¬ Has f before m) where
   -- the name is no longer than a name may be
   pub fitting : IsNameWord m.token → length m.token ≤ 64
   fitting word = elim (cases_lt 64 (length m.token)) [ inl long ↦ absurd (none (Exceeds NameBytes) (word, long)) | inr short ↦ short ]
 
   -- the read is to hand
-  pub read-there : s.uses.ends_read ≡ true → (r : code_read.NamedRead) × (option_copied s.read ≡ Some r) × (read_of r ≡ named_read a.subject.context a.belief)
+  pub read-there : s.uses.ends_read ≡ true → (r : code_read.NamedRead) × (option_copied s.read ≡ Some r) × (named_read_of r ≡ named_read a.subject.context a.belief)
   read-there ends = at (option_copied s.read) refl
     where
-      at : (o : Option code_read.NamedRead) → option_copied s.read ≡ o → (r : code_read.NamedRead) × (option_copied s.read ≡ Some r) × (read_of r ≡ named_read a.subject.context a.belief)
+      at : (o : Option code_read.NamedRead) → option_copied s.read ≡ o → (r : code_read.NamedRead) × (option_copied s.read ≡ Some r) × (named_read_of r ≡ named_read a.subject.context a.belief)
       at (Some r) e = (r, e, asked.said.read_is ends r e)
       at None e = absurd (none (Exceeds NameBytes) (asked.said.read_there ends e))
 
-  pub allowed-use : (u : Use) → IsAmong u m.uses → IsAllowed before u
+  pub allowed-use : (u : Use) → IsAmong u m.uses → IsUseAllowed before u
   allowed-use BeginsContext h = λ full. none (Exceeds Contexts) (h, full)
   allowed-use BeginsBridge h = λ full. none (Exceeds Bridges) (h, full)
   allowed-use (NamesContext c) h = λ there. none Twin (inl (c, h, there))
@@ -156,10 +156,10 @@ module _ (w : Watch) (before : List Use) (m : Entry) (a : About) (s : Said) (ask
   allowed-use (IsNumber n) h = tt
   allowed-use (OpensWithin n) h = tt
 
-  pub free-uses : AreFree before (uses_in a s.token.now s.uses)
+  pub free-uses : HaveNoFault before (uses_in a s.token.now s.uses)
   free-uses u h = go u h
     where
-      go : (u : Use) → IsAmong u (uses_in a s.token.now s.uses) → IsSpokenOf before u × IsAllowed before u
+      go : (u : Use) → IsAmong u (uses_in a s.token.now s.uses) → IsSpokenOf before u × IsUseAllowed before u
       go (IsNumber n) h = (tt, tt)
       go u h =
           let there : IsAmong u m.uses = in-use w before m a s asked u refl (told-in a s.token.now s.uses u h) in

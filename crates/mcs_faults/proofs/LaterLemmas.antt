@@ -8,7 +8,7 @@ use Rattle.mcs_base.proofs.Lists.{flat_map_push}
 use Rattle.mcs_system.specs.Plain.{Name, Formula}
 use Rattle.mcs_grammar.specs.Entries.{Use, BeginsContext, BeginsBridge, NamesContext, NamesBridge, SaysProgram, BeginsItem, BeginsDefault, NamesTarget, NamesSource, BeginsBelief, EndsRead, AtomOf, IsNumber, OpensWithin}
 use Rattle.mcs_grammar.specs.Faults.{NamedRead, WasRead, WasReadInto, WasAtom}
-use Rattle.mcs_faults.specs.Watching.{context_named, bridge_named, contexts_named, bridges_named, Lists, IsSpokenOf}
+use Rattle.mcs_faults.specs.Watching.{context_named, bridge_named, contexts_named, bridges_named, ListsEach, IsSpokenOf}
 use Rattle.mcs_faults.proofs.DifferentLemmas.{lists-same}
 
 -- ---- what is among them
@@ -45,10 +45,10 @@ module _ (before : List Use) (u : Use) where
   spoken-later (OpensWithin n) h = tt
 
   -- ---- lists
-  pub atoms-later : (c : Name) (xs : List Name) → ((a : Name) → ¬ (AtomOf c a ≡ u)) → Lists xs (WasAtom before c) → Lists xs (WasAtom after c)
+  pub atoms-later : (c : Name) (xs : List Name) → ((a : Name) → ¬ (AtomOf c a ≡ u)) → ListsEach xs (WasAtom before c) → ListsEach xs (WasAtom after c)
   atoms-later c xs other l = lists-same xs (WasAtom before c) (WasAtom after c) (λ a. same-among (AtomOf c a) (other a)) l
 
-  pub reads-later : (xs : List NamedRead) → ((t c : Name) (f : Formula) → ¬ (EndsRead t c f ≡ u)) → Lists xs (WasRead before) → Lists xs (WasRead after)
+  pub reads-later : (xs : List NamedRead) → ((t c : Name) (f : Formula) → ¬ (EndsRead t c f ≡ u)) → ListsEach xs (WasRead before) → ListsEach xs (WasRead after)
   reads-later xs other l = lists-same xs (WasRead before) (WasRead after) (λ r. (
     λ was. (was.0, earlier (EndsRead was.0 r.context r.belief) was.1),
     λ was. (was.0, not-new (EndsRead was.0 r.context r.belief) (other was.0 r.context r.belief) was.1),

@@ -10,9 +10,9 @@ use Rattle.mcs_faults.specs.declared.watch.Watch.{Watch}
 use Rattle.mcs_faults.specs.declared.watch.Said.{Said}
 use Rattle.mcs_grammar.specs.Written.{IsNameWord}
 use Rattle.mcs_grammar.specs.Entries.{Token, Use, BeginsContext, BeginsBridge, NamesContext, NamesBridge, SaysProgram, BeginsItem, BeginsDefault, NamesTarget, NamesSource, BeginsBelief, EndsRead, AtomOf, OpensWithin, Entry}
-use Rattle.mcs_grammar.specs.Faults.{names_target, begins_default_of, begins_item_of, NamedRead, WasRead, WasReadInto, WasAtom, IsOneMore, NoContext, Twin, NoAtom, IsBeyond, Has}
+use Rattle.mcs_grammar.specs.Faults.{names_target, begins_default_of, begins_item_of, NamedRead, WasRead, WasReadInto, WasAtom, IsOneMore, NoContext, Twin, NoAtom, ExceedsLimit, Has}
 use Rattle.mcs_reader.specs.TextImages.{About}
-use Rattle.mcs_faults.specs.Watching.{IsSpokenOf, IsAsked}
+use Rattle.mcs_faults.specs.Watching.{IsSpokenOf, IsEntryAsked}
 use Rattle.mcs_reader.proofs.UseLemmas.{is_number, IsIn, entry-in, in-entry, number-in, in-number}
 
 -- the read that ends with the token
@@ -22,7 +22,7 @@ read_said a = record { context = a.subject.context; belief = a.belief }
 abbrev read_at : Name → Formula → NamedRead
 read_at c f = record { context = c; belief = f }
 
-module _ (w : Watch) (before : List Use) (m : Entry) (a : About) (s : Said) (asked : IsAsked w before m a s) where
+module _ (w : Watch) (before : List Use) (m : Entry) (a : About) (s : Said) (asked : IsEntryAsked w before m a s) where
   abbrev token : Token
   token = s.token.now
 
@@ -35,37 +35,37 @@ module _ (w : Watch) (before : List Use) (m : Entry) (a : About) (s : Said) (ask
   pub spoken-of : (u : Use) → is_number u ≡ false → IsIn a token s.uses u → IsSpokenOf before u
   spoken-of u other h = all_among (IsSpokenOf before) m.uses u asked.spoken (in-use u other h)
 
-  pub contexts-beyond : IsBeyond Contexts before m ↔ ((s.uses.role ≡ roles.BeginsContext) × (w.contexts_begun ≡ 64))
+  pub contexts-beyond : ExceedsLimit Contexts before m ↔ ((s.uses.role ≡ roles.BeginsContext) × (w.contexts_begun ≡ 64))
   contexts-beyond = (
     λ h. (use-in BeginsContext refl h.0, asked.watch.begun ∙ h.1),
     λ h. (in-use BeginsContext refl h.0, sym asked.watch.begun ∙ h.1),
   )
 
-  pub bridges-beyond : IsBeyond Bridges before m ↔ ((s.uses.role ≡ roles.BeginsBridge) × (w.bridges_begun ≡ 64))
+  pub bridges-beyond : ExceedsLimit Bridges before m ↔ ((s.uses.role ≡ roles.BeginsBridge) × (w.bridges_begun ≡ 64))
   bridges-beyond = (
     λ h. (use-in BeginsBridge refl h.0, asked.watch.bridges_begun ∙ h.1),
     λ h. (in-use BeginsBridge refl h.0, sym asked.watch.bridges_begun ∙ h.1),
   )
 
-  pub rules-beyond : IsBeyond RulesPerContext before m ↔ ((s.uses.role ≡ roles.NamesTarget) × (count_by (names_target token) before ≡ 12))
+  pub rules-beyond : ExceedsLimit RulesPerContext before m ↔ ((s.uses.role ≡ roles.NamesTarget) × (count_by (names_target token) before ≡ 12))
   rules-beyond = (
     λ (c, among, full). let h = use-in (NamesTarget c) refl among in (h.0, subst (λ (x : Name). count_by (names_target x) before ≡ 12) h.1 full),
     λ h. (token, in-use (NamesTarget token) refl (h.0, refl), h.1),
   )
 
-  pub defaults-beyond : IsBeyond DefaultsPerContext before m ↔ ((s.uses.role ≡ roles.BeginsDefault) × (count_by (begins_default_of a.subject.context) before ≡ 10))
+  pub defaults-beyond : ExceedsLimit DefaultsPerContext before m ↔ ((s.uses.role ≡ roles.BeginsDefault) × (count_by (begins_default_of a.subject.context) before ≡ 10))
   defaults-beyond = (
     λ (c, among, full). let h = use-in (BeginsDefault c) refl among in (h.0, subst (λ (x : Name). count_by (begins_default_of x) before ≡ 10) h.1 full),
     λ h. (a.subject.context, in-use (BeginsDefault a.subject.context) refl (h.0, refl), h.1),
   )
 
-  pub items-beyond : IsBeyond ItemsPerContext before m ↔ ((s.uses.begins_item ≡ true) × (count_by (begins_item_of a.subject.context) before ≡ 4096))
+  pub items-beyond : ExceedsLimit ItemsPerContext before m ↔ ((s.uses.begins_item ≡ true) × (count_by (begins_item_of a.subject.context) before ≡ 4096))
   items-beyond = (
     λ (c, among, full). let h = use-in (BeginsItem c) refl among in (h.0, subst (λ (x : Name). count_by (begins_item_of x) before ≡ 4096) h.1 full),
     λ h. (a.subject.context, in-use (BeginsItem a.subject.context) refl (h.0, refl), h.1),
   )
 
-  pub atoms-beyond : IsBeyond AtomsPerContext before m ↔ (((n : ℕ) × (s.uses.role ≡ roles.Atom n)) × IsOneMore 64 (WasAtom before a.subject.context) token)
+  pub atoms-beyond : ExceedsLimit AtomsPerContext before m ↔ (((n : ℕ) × (s.uses.role ≡ roles.Atom n)) × IsOneMore 64 (WasAtom before a.subject.context) token)
   atoms-beyond = (
     λ (c, (x, among, full)). let h = use-in (AtomOf c x) refl among in
         (h.0, subst (λ (y : Name). IsOneMore 64 (WasAtom before a.subject.context) y) h.2 (subst (λ (d : Name). IsOneMore 64 (WasAtom before d) x) h.1 full)),
@@ -75,26 +75,26 @@ module _ (w : Watch) (before : List Use) (m : Entry) (a : About) (s : Said) (ask
   same-read : (r : NamedRead) (d : Name) → IsIn a token s.uses (EndsRead d r.context r.belief) → r ≡ read_said a
   same-read r d h = ap (λ (c : Name). read_at c r.belief) h.2 ∙ ap (read_at a.subject.context) h.3
 
-  pub variables-beyond : IsBeyond Variables before m ↔ ((s.uses.ends_read ≡ true) × IsOneMore 64 (WasRead before) (read_said a))
+  pub variables-beyond : ExceedsLimit Variables before m ↔ ((s.uses.ends_read ≡ true) × IsOneMore 64 (WasRead before) (read_said a))
   variables-beyond = (
     λ (d, (r, among, full)). let h = use-in (EndsRead d r.context r.belief) refl among in (h.0, subst (λ (q : NamedRead). IsOneMore 64 (WasRead before) q) (same-read r d h) full),
     λ h. (a.subject.target, (read_said a, in-use (EndsRead a.subject.target a.subject.context a.belief) refl (h.0, refl, refl, refl), h.1)),
   )
 
-  pub inputs-beyond : IsBeyond InputsPerContext before m ↔ ((s.uses.ends_read ≡ true) × IsOneMore 16 (WasReadInto before a.subject.target) (read_said a))
+  pub inputs-beyond : ExceedsLimit InputsPerContext before m ↔ ((s.uses.ends_read ≡ true) × IsOneMore 16 (WasReadInto before a.subject.target) (read_said a))
   inputs-beyond = (
     λ (d, (r, among, full)). let h = use-in (EndsRead d r.context r.belief) refl among in
         (h.0, subst (λ (q : NamedRead). IsOneMore 16 (WasReadInto before a.subject.target) q) (same-read r d h) (subst (λ (x : Name). IsOneMore 16 (WasReadInto before x) r) h.1 full)),
     λ h. (a.subject.target, (read_said a, in-use (EndsRead a.subject.target a.subject.context a.belief) refl (h.0, refl, refl, refl), h.1)),
   )
 
-  pub sizes-beyond : IsBeyond FormulaSize before m ↔ ((s.uses.role ≡ roles.Atom 513) ⊎ (s.uses.role ≡ roles.Counted 513))
+  pub sizes-beyond : ExceedsLimit FormulaSize before m ↔ ((s.uses.role ≡ roles.Atom 513) ⊎ (s.uses.role ≡ roles.Counted 513))
   sizes-beyond = (
     λ h. number-in a m.token s.uses m.uses asked.said.uses_are 513 (omega arith) h,
     λ h. in-number a m.token s.uses m.uses asked.said.uses_are 513 (omega arith) h,
   )
 
-  pub opens-beyond : IsBeyond OpenParentheses before m ↔ (s.uses.role ≡ roles.Opens 512)
+  pub opens-beyond : ExceedsLimit OpenParentheses before m ↔ (s.uses.role ≡ roles.Opens 512)
   opens-beyond = (λ h. use-in (OpensWithin 512) refl h, λ h. in-use (OpensWithin 512) refl h)
 
   pub no-context-is : Has NoContext before m ↔ (((s.uses.role ≡ roles.NamesTarget) ⊎ (s.uses.role ≡ roles.NamesSource)) × (¬ IsAmong (NamesContext token) before))

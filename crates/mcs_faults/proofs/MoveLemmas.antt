@@ -11,9 +11,9 @@ use Rattle.mcs_system.specs.Logic.{atoms}
 use Rattle.mcs_grammar.specs.Written.{Written, WrittenContext, WrittenRead, WrittenBridge, IsNameWord}
 use Rattle.mcs_grammar.specs.Entries.{Token, Use, SaysProgram, BeginsItem, BeginsDefault, BeginsBelief, EndsRead, AtomOf, IsNumber, OpensWithin, Entry, entry, formula_in}
 use Rattle.mcs_grammar.specs.FormulaSteps.{Pending, PartFormula, formula_step, finished_primary, size_so_far, opened_so_far, is_name_word}
-use Rattle.mcs_reader.specs.TextSteps.{PartRead, Place, Between, InRead, AfterRead, PartText, goes, place_of, with_read, first_of_belief, context_is_whole, bridge_is_whole}
+use Rattle.mcs_reader.specs.TextSteps.{PartRead, Place, Between, InRead, AfterRead, PartText, goes, place_in_text, with_read, first_of_belief, context_is_whole, bridge_is_whole}
 use Rattle.mcs_faults.specs.Watching.{IsSpokenOf}
-use Rattle.mcs_reader.specs.Known.{WasNamed, SpeaksOfNamed, AreKnown}
+use Rattle.mcs_reader.specs.Known.{WasNamed, SpeaksOfNamed, EachContextIsKnown}
 use Rattle.mcs_reader.proofs.StepLemmas.{step_uses, uses-of-step}
 use Rattle.mcs_reader.proofs.NamedLemmas.{known-later, IsNamed}
 use Rattle.mcs_grammar.proofs.ReadAtoms.{name-ends}
@@ -38,9 +38,9 @@ HasReadEnd uses = (target : Name) × (c : Name) × (f : Formula) × IsAmong (End
 
 -- what the entry and the text that is written then have to do with the text before
 pub record IsMove (s : PartText) (t : Token) (r : Entry × PartText) : Type 0 where
-  pub spoken : (before : List Use) → AreKnown before s.place → AllByRecursion (IsSpokenOf before) (r.0).uses
-  pub known : (before : List Use) → AreKnown before s.place → AllByRecursion (IsNamed before) (r.0).uses → AreKnown (before ++ (r.0).uses) (r.1).place
-  pub bridges : (before : List Use) → AreKnown before s.place → AllByRecursion (SpeaksOfNamed before) s.bridges → AllByRecursion (SpeaksOfNamed before) (r.1).bridges
+  pub spoken : (before : List Use) → EachContextIsKnown before s.place → AllByRecursion (IsSpokenOf before) (r.0).uses
+  pub known : (before : List Use) → EachContextIsKnown before s.place → AllByRecursion (IsNamed before) (r.0).uses → EachContextIsKnown (before ++ (r.0).uses) (r.1).place
+  pub bridges : (before : List Use) → EachContextIsKnown before s.place → AllByRecursion (SpeaksOfNamed before) s.bridges → AllByRecursion (SpeaksOfNamed before) (r.1).bridges
   pub ends : (target c : Name) (f : Formula) → IsAmong (EndsRead target c f) (r.0).uses → IsReadEnd s.place t target c f (r.1).place
   pub after : (w : WrittenBridge) → (r.1).place ≡ AfterRead w → HasReadEnd (r.0).uses
 
@@ -138,22 +138,22 @@ of-belief c s t q e = of-append c (first_of_belief c s) (q.0).uses (of-first c s
 -- ---- the kinds of tokens
 module _ (cs : List WrittenContext) (bs : List WrittenBridge) (p : Place) (t : Token) (r : Entry × PartText) where
   -- one that ends no read
-  pub goes-move : (p' : Place) (uses : List Use) → ((before : List Use) → AreKnown before p → AllByRecursion (IsSpokenOf before) uses) → ((before : List Use) → AreKnown before p → AllByRecursion (IsNamed before) uses → AreKnown (before ++ uses) p')
+  pub goes-move : (p' : Place) (uses : List Use) → ((before : List Use) → EachContextIsKnown before p → AllByRecursion (IsSpokenOf before) uses) → ((before : List Use) → EachContextIsKnown before p → AllByRecursion (IsNamed before) uses → EachContextIsKnown (before ++ uses) p')
       → AllByRecursion EndsNone uses → is_after_read p' ≡ false → goes (text_of cs bs p) t uses p' ≡ Some r → IsMove (text_of cs bs p) t r
   goes-move p' uses spoken known none away g =
       subst (IsMove (text_of cs bs p) t) (same_Some _ _ g) (record { spoken = spoken; known = known; bridges = λ before h all. all; ends = λ target c f h. no-end uses target c f none h; after = λ w e. no-after p' w away e })
 
   -- one after which no other context is spoken of
-  pub stay-move : (p' : Place) (uses : List Use) → ((before : List Use) → AreKnown before p → AllByRecursion (IsSpokenOf before) uses) → ((before : List Use) → AreKnown before p → AreKnown before p')
+  pub stay-move : (p' : Place) (uses : List Use) → ((before : List Use) → EachContextIsKnown before p → AllByRecursion (IsSpokenOf before) uses) → ((before : List Use) → EachContextIsKnown before p → EachContextIsKnown before p')
       → AllByRecursion EndsNone uses → is_after_read p' ≡ false → goes (text_of cs bs p) t uses p' ≡ Some r → IsMove (text_of cs bs p) t r
   stay-move p' uses spoken stays none away g = goes-move p' uses spoken (λ before h named. known-later before uses p' (stays before h)) none away g
 
   -- one that is there for nothing
-  pub sign-move : (p' : Place) → ((before : List Use) → AreKnown before p → AreKnown before p') → is_after_read p' ≡ false → goes (text_of cs bs p) t [] p' ≡ Some r → IsMove (text_of cs bs p) t r
+  pub sign-move : (p' : Place) → ((before : List Use) → EachContextIsKnown before p → EachContextIsKnown before p') → is_after_read p' ≡ false → goes (text_of cs bs p) t [] p' ≡ Some r → IsMove (text_of cs bs p) t r
   sign-move p' stays away g = stay-move p' [] (λ before h. tt) stays tt away g
 
   -- one that is said of a context that the place speaks of
-  pub of-move : (c : Name) (p' : Place) (uses : List Use) → AllByRecursion (IsOf c) uses → ((before : List Use) → AreKnown before p → WasNamed before c) → ((before : List Use) → AreKnown before p → AreKnown before p')
+  pub of-move : (c : Name) (p' : Place) (uses : List Use) → AllByRecursion (IsOf c) uses → ((before : List Use) → EachContextIsKnown before p → WasNamed before c) → ((before : List Use) → EachContextIsKnown before p → EachContextIsKnown before p')
       → is_after_read p' ≡ false → goes (text_of cs bs p) t uses p' ≡ Some r → IsMove (text_of cs bs p) t r
   of-move c p' uses of here stays away g = stay-move p' uses (λ before h. of-spoken before c uses (here before h) of) stays (of-ends-none c uses of) away g
 
@@ -162,7 +162,7 @@ module _ (cs : List WrittenContext) (bs : List WrittenBridge) (p : Place) (t : T
   context-move c g =
       subst (IsMove (text_of cs bs p) t) (same_Some _ _ g) (record { spoken = λ before h. tt; known = λ before h named. tt; bridges = λ before h all. all; ends = λ target d f h. absurd h; after = λ w e. no-after Between w refl e })
 
-  pub bridge-move : (b : WrittenBridge) → ((before : List Use) → AreKnown before p → SpeaksOfNamed before b) → Some (entry t [], bridge_is_whole (text_of cs bs p) b) ≡ Some r → IsMove (text_of cs bs p) t r
+  pub bridge-move : (b : WrittenBridge) → ((before : List Use) → EachContextIsKnown before p → SpeaksOfNamed before b) → Some (entry t [], bridge_is_whole (text_of cs bs p) b) ≡ Some r → IsMove (text_of cs bs p) t r
   bridge-move b speaks g =
       subst (IsMove (text_of cs bs p) t) (same_Some _ _ g) (record {
         spoken = λ before h. tt;
@@ -203,8 +203,8 @@ module _ (b : WrittenBridge) (d : PartRead) (s : PartFormula) (t : Token) (q : E
   read-ended target c f (inl e) = end-is target c f e
   read-ended target c f (inr h) = no-end further target c f (of-ends-none d.context further of-further) h
 
-  after-end : (before : List Use) → AreKnown before (InRead b d s) → SpeaksOfNamed before (with_read b d w)
-  after-end before h = record { head = h.0.head; reads = all_push (λ (x : WrittenRead). WasNamed before x.place.context) b.reads (record { denied = d.denied; place = place_of d.context w }) h.0.reads h.1 }
+  after-end : (before : List Use) → EachContextIsKnown before (InRead b d s) → SpeaksOfNamed before (with_read b d w)
+  after-end before h = record { head = h.0.head; reads = all_push (λ (x : WrittenRead). WasNamed before x.place.context) b.reads (record { denied = d.denied; place = place_in_text d.context w }) h.0.reads h.1 }
 
   pub read-move : (cs : List WrittenContext) (bs : List WrittenBridge) (r : Entry × PartText) → goes (text_of cs bs (InRead b d s)) t end-uses (AfterRead (with_read b d w)) ≡ Some r → IsMove (text_of cs bs (InRead b d s)) t r
   read-move cs bs r g =

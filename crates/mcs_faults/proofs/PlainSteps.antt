@@ -5,7 +5,7 @@ use Rattle.std.proofs.lemmas.List.{append-nil}
 use Rattle.mcs_system.specs.Plain.{Name}
 use Rattle.mcs_faults.specs.declared.watch.Watch.{Watch}
 use Rattle.mcs_grammar.specs.Entries.{Use, BeginsContext, BeginsBridge, NamesBridge, NamesSource, BeginsBelief, IsNumber, OpensWithin}
-use Rattle.mcs_faults.specs.Watching.{IsSpokenOf, IsWatch, IsAllowed}
+use Rattle.mcs_faults.specs.Watching.{IsSpokenOf, IsWatch, IsUseAllowed}
 use Rattle.mcs_faults.proofs.ApartLemmas.{apart-begins_context, apart-begins_bridge, apart-names_bridge, apart-names_source, apart-begins_belief, apart-number, apart-opens}
 use Rattle.mcs_faults.proofs.StepWatch.{plain-step}
 
@@ -18,15 +18,15 @@ module _ (w : Watch) (before : List Use) (watch : IsWatch w before) where
   more-bridge n is = let few = watch.few.1 in omega arith
 
   module _ (w' : Watch) (contexts : w'.contexts.items ≡ w.contexts.items) (variables : w'.variables.items ≡ w.variables.items) where
-    pub step-begins_context : IsAllowed before BeginsContext → w'.contexts_begun ≡ w.contexts_begun + 1 → w'.bridges_begun ≡ w.bridges_begun → w'.bridges.items ≡ w.bridges.items → IsWatch w' (before ++ BeginsContext ∷ [])
+    pub step-begins_context : IsUseAllowed before BeginsContext → w'.contexts_begun ≡ w.contexts_begun + 1 → w'.bridges_begun ≡ w.bridges_begun → w'.bridges.items ≡ w.bridges.items → IsWatch w' (before ++ BeginsContext ∷ [])
     step-begins_context allowed begun bridges_begun bridges =
         plain-step w before watch BeginsContext tt allowed (λ t c f e. cc) apart-begins_context w' begun (omega arith) (bridges ∙ sym (append-nil w.bridges.items)) variables contexts refl
 
-    pub step-begins_bridge : IsAllowed before BeginsBridge → w'.contexts_begun ≡ w.contexts_begun → w'.bridges_begun ≡ w.bridges_begun + 1 → w'.bridges.items ≡ w.bridges.items → IsWatch w' (before ++ BeginsBridge ∷ [])
+    pub step-begins_bridge : IsUseAllowed before BeginsBridge → w'.contexts_begun ≡ w.contexts_begun → w'.bridges_begun ≡ w.bridges_begun + 1 → w'.bridges.items ≡ w.bridges.items → IsWatch w' (before ++ BeginsBridge ∷ [])
     step-begins_bridge allowed begun bridges_begun bridges =
         plain-step w before watch BeginsBridge tt allowed (λ t c f e. cc) apart-begins_bridge w' (omega arith) bridges_begun (bridges ∙ sym (append-nil w.bridges.items)) variables contexts refl
 
-    pub step-names_bridge : (b : Name) → IsAllowed before (NamesBridge b) → w'.contexts_begun ≡ w.contexts_begun → w'.bridges_begun ≡ w.bridges_begun → w'.bridges.items ≡ w.bridges.items ++ b ∷ [] → IsWatch w' (before ++ NamesBridge b ∷ [])
+    pub step-names_bridge : (b : Name) → IsUseAllowed before (NamesBridge b) → w'.contexts_begun ≡ w.contexts_begun → w'.bridges_begun ≡ w.bridges_begun → w'.bridges.items ≡ w.bridges.items ++ b ∷ [] → IsWatch w' (before ++ NamesBridge b ∷ [])
     step-names_bridge b allowed begun bridges_begun bridges =
         plain-step w before watch (NamesBridge b) tt allowed (λ t c f e. cc) (apart-names_bridge b) w' (omega arith) (omega arith) bridges variables contexts refl
 

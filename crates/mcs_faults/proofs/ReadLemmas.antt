@@ -15,7 +15,7 @@ use Rattle.mcs_base.proofs.Lists.{slice_get_seam}
 use Rattle.mcs_grammar.specs.Faults.{NamedRead}
 use Rattle.mcs_faults.specs.Watching.{IsNumberOf, IsHeld}
 use Rattle.mcs_faults.proofs.WatchFacts.{number-there}
-use Rattle.mcs_reader.specs.TextImages.{read_of}
+use Rattle.mcs_reader.specs.TextImages.{named_read_of}
 
 abbrev read_at : Name → Formula → NamedRead
 read_at c f = record { context = c; belief = f }
@@ -26,7 +26,7 @@ read-context r = r.context
 read-belief : NamedRead → Formula
 read-belief r = r.belief
 
-pub same-read-told : (r q : code_read.NamedRead) (a b : Bool) → a ≡ same_name r.context q.context → a ≡ true → b ≡ same_formula (formula_of r.belief) (formula_of q.belief) → IsTrue b ↔ (read_of r ≡ read_of q)
+pub same-read-told : (r q : code_read.NamedRead) (a b : Bool) → a ≡ same_name r.context q.context → a ≡ true → b ≡ same_formula (formula_of r.belief) (formula_of q.belief) → IsTrue b ↔ (named_read_of r ≡ named_read_of q)
 unfolding read-context read-belief
 same-read-told r q a b context is belief =
     let names : r.context ≡ q.context = same_name-is r.context q.context (sym context ∙ is) in (
@@ -35,21 +35,21 @@ same-read-told r q a b context is belief =
     )
 
 -- the read that is handed over
-pub read-copied : (o : Option (Bor code_read.NamedRead)) (b : Bor code_read.NamedRead) (P : NamedRead → Type 0) → o ≡ Some b → P (read_of b.now) → (r : code_read.NamedRead) → option_copied o ≡ Some r → P (read_of r)
+pub read-copied : (o : Option (Bor code_read.NamedRead)) (b : Bor code_read.NamedRead) (P : NamedRead → Type 0) → o ≡ Some b → P (named_read_of b.now) → (r : code_read.NamedRead) → option_copied o ≡ Some r → P (named_read_of r)
 read-copied o b P is holds r e =
     let same : Some b.now ≡ Some r = sym (ap option_copied is) ∙ e in
-    subst (λ (q : code_read.NamedRead). P (read_of q)) (same_Some _ _ same) holds
+    subst (λ (q : code_read.NamedRead). P (named_read_of q)) (same_Some _ _ same) holds
 
 -- ---- a read that is held
-pub held-already : (xs : List code_read.NamedRead) (r : NamedRead) (n k : ℕ) → IsNumberOf (map read_of xs) r n → k ≡ length xs → ¬ (n ≡ k) → IsHeld (map read_of xs) (map read_of xs) r n
+pub held-already : (xs : List code_read.NamedRead) (r : NamedRead) (n k : ℕ) → IsNumberOf (map named_read_of xs) r n → k ≡ length xs → ¬ (n ≡ k) → IsHeld (map named_read_of xs) (map named_read_of xs) r n
 held-already xs r n k (inl there) is differ = record { there = there; either = inl refl }
-held-already xs r n k (inr none) is differ = absurd (differ (none.0 ∙ length-map xs read_of ∙ sym is))
+held-already xs r n k (inr none) is differ = absurd (differ (none.0 ∙ length-map xs named_read_of ∙ sym is))
 
-pub held-now : (xs ys : List code_read.NamedRead) (q : code_read.NamedRead) (r : NamedRead) (n k : ℕ) → IsNumberOf (map read_of xs) r n → k ≡ length xs → n ≡ k → ys ≡ xs ++ q ∷ [] → read_of q ≡ r → IsHeld (map read_of xs) (map read_of ys) r n
+pub held-now : (xs ys : List code_read.NamedRead) (q : code_read.NamedRead) (r : NamedRead) (n k : ℕ) → IsNumberOf (map named_read_of xs) r n → k ≡ length xs → n ≡ k → ys ≡ xs ++ q ∷ [] → named_read_of q ≡ r → IsHeld (map named_read_of xs) (map named_read_of ys) r n
 held-now xs ys q r n k number is same more copy =
-    let now : map read_of ys ≡ map read_of xs ++ r ∷ [] = ap (map read_of) more ∙ map-append read_of xs (q ∷ []) ∙ ap (λ (x : NamedRead). map read_of xs ++ x ∷ []) copy in
-    let last : n ≡ length (map read_of xs) = same ∙ is ∙ sym (length-map xs read_of) in
+    let now : map named_read_of ys ≡ map named_read_of xs ++ r ∷ [] = ap (map named_read_of) more ∙ map-append named_read_of xs (q ∷ []) ∙ ap (λ (x : NamedRead). map named_read_of xs ++ x ∷ []) copy in
+    let last : n ≡ length (map named_read_of xs) = same ∙ is ∙ sym (length-map xs named_read_of) in
     record {
-      there = ap (λ (zs : List NamedRead). slice_get zs n) now ∙ slice_get_seam (map read_of xs) r [] n last;
-      either = inr (now, λ h. let less = (number-there (map read_of xs) r n number).1 h in omega arith);
+      there = ap (λ (zs : List NamedRead). slice_get zs n) now ∙ slice_get_seam (map named_read_of xs) r [] n last;
+      either = inr (now, λ h. let less = (number-there (map named_read_of xs) r n number).1 h in omega arith);
     }

@@ -17,8 +17,8 @@ use Rattle.mcs_faults.specs.declared.watch.Watch.{Watch}
 use Rattle.mcs_faults.specs.declared.watch.ContextSeen.{ContextSeen}
 use Rattle.mcs_grammar.specs.Entries.{Use, NamesContext, SaysProgram, EndsRead, AtomOf}
 use Rattle.mcs_grammar.specs.Faults.{names_target, begins_default_of, begins_item_of, AreDifferent, NamedRead, WasRead, WasReadInto, WasAtom, IsOneMore}
-use Rattle.mcs_reader.specs.TextImages.{read_of}
-use Rattle.mcs_faults.specs.Watching.{Lists, IsSeen, IsSpokenOf, names_seen, IsWatch, IsNumberOf, IsAllowed, IsFresh, IsHeld}
+use Rattle.mcs_reader.specs.TextImages.{named_read_of}
+use Rattle.mcs_faults.specs.Watching.{ListsEach, IsContextSeen, IsSpokenOf, names_seen, IsWatch, IsNumberOf, IsUseAllowed, IsUnseenContext, IsHeld}
 use Rattle.mcs_faults.proofs.ApartLemmas.{apart-names_context, apart-read}
 use Rattle.mcs_faults.proofs.DifferentLemmas.{values-at, lists-same, lists-more, same-length}
 use Rattle.mcs_faults.proofs.LaterLemmas.{same-among, the-new, earlier, atoms-later, reads-later}
@@ -28,14 +28,14 @@ use Rattle.mcs_faults.proofs.WatchFacts.{seen-name, seen-here, one-more, no-rule
 use Rattle.mcs_reader.proofs.TextUses.{same-named}
 
 -- ---- the name of a context
-module _ (w : Watch) (before : List Use) (watch : IsWatch w before) (n : Name) (new : IsAllowed before (NamesContext n)) where
-  fresh-seen : (c : ContextSeen) → IsFresh c n → IsSeen (map read_of w.variables.items) before c
+module _ (w : Watch) (before : List Use) (watch : IsWatch w before) (n : Name) (new : IsUseAllowed before (NamesContext n)) where
+  fresh-seen : (c : ContextSeen) → IsUnseenContext c n → IsContextSeen (map named_read_of w.variables.items) before c
   fresh-seen c h = record {
     program = (λ e. absurd (true≢false (sym e ∙ h.1)), λ said. absurd (new (subst (λ (x : Name). IsAmong (NamesContext x) before) h.0 (watch.spoken (SaysProgram c.name) said))));
     rules = h.2 ∙ sym (no-rules w before watch n new) ∙ ap (λ (x : Name). count_by (names_target x) before) (sym h.0);
     defaults = h.4 ∙ sym (no-defaults w before watch n new) ∙ ap (λ (x : Name). count_by (begins_default_of x) before) (sym h.0);
     items = h.3 ∙ sym (no-items w before watch n new) ∙ ap (λ (x : Name). count_by (begins_item_of x) before) (sym h.0);
-    atoms = subst (λ (xs : List Name). Lists xs (WasAtom before c.name)) (sym h.5) (
+    atoms = subst (λ (xs : List Name). ListsEach xs (WasAtom before c.name)) (sym h.5) (
       tt,
       λ a. (
         λ none. absurd none,
@@ -49,27 +49,27 @@ module _ (w : Watch) (before : List Use) (watch : IsWatch w before) (n : Name) (
     few = (omega (arith, h.2), omega (arith, h.4), omega (arith, h.3), (let e = ap length h.5 in omega arith), (let e = ap size h.6 ∙ ap length members-empty in omega arith));
   }
 
-  pub step-names_context : (c : ContextSeen) → IsFresh c n → (w' : Watch) → w'.contexts_begun ≡ w.contexts_begun → w'.bridges_begun ≡ w.bridges_begun → w'.bridges.items ≡ w.bridges.items → w'.variables.items ≡ w.variables.items
+  pub step-names_context : (c : ContextSeen) → IsUnseenContext c n → (w' : Watch) → w'.contexts_begun ≡ w.contexts_begun → w'.bridges_begun ≡ w.bridges_begun → w'.bridges.items ≡ w.bridges.items → w'.variables.items ≡ w.variables.items
       → w'.contexts.items ≡ w.contexts.items ++ c ∷ [] → IsWatch w' (before ++ NamesContext n ∷ [])
   step-names_context c fresh w' begun bridges_begun bridges variables contexts =
       watch-step w before watch (NamesContext n) tt new w' (omega arith) (omega arith)
       (ap (map (λ (s : ContextSeen). s.name)) contexts ∙ map-append (λ (s : ContextSeen). s.name) w.contexts.items (c ∷ []) ∙ ap (λ (x : Name). names_seen w ++ x ∷ []) fresh.0)
       (bridges ∙ sym (append-nil w.bridges.items))
-      (subst (λ (vs : List _). Lists (map read_of vs) (WasRead (before ++ NamesContext n ∷ []))) (sym variables) (reads-later before (NamesContext n) (map read_of w.variables.items) (λ t d f e. cc) watch.variables))
+      (subst (λ (vs : List _). ListsEach (map named_read_of vs) (WasRead (before ++ NamesContext n ∷ []))) (sym variables) (reads-later before (NamesContext n) (map named_read_of w.variables.items) (λ t d f e. cc) watch.variables))
       (subst (λ (vs : List _). length vs ≤ 64) (sym variables) watch.few.2)
-      (subst (λ (vs : List _). AllByRecursion (IsSeen (map read_of vs) (before ++ NamesContext n ∷ [])) w'.contexts.items) (sym variables)
-      (subst (AllByRecursion (IsSeen (map read_of w.variables.items) (before ++ NamesContext n ∷ []))) (sym contexts)
-      (all-push _ _ before (NamesContext n) (not-longer before (map read_of w.variables.items)) w.contexts.items c (λ d h. apart-names_context n d.name)
-      (seen-later _ _ before (NamesContext n) (not-longer before (map read_of w.variables.items)) c (apart-names_context n c.name) (fresh-seen c fresh)) watch.seen)))
+      (subst (λ (vs : List _). AllByRecursion (IsContextSeen (map named_read_of vs) (before ++ NamesContext n ∷ [])) w'.contexts.items) (sym variables)
+      (subst (AllByRecursion (IsContextSeen (map named_read_of w.variables.items) (before ++ NamesContext n ∷ []))) (sym contexts)
+      (all-push _ _ before (NamesContext n) (not-longer before (map named_read_of w.variables.items)) w.contexts.items c (λ d h. apart-names_context n d.name)
+      (seen-later _ _ before (NamesContext n) (not-longer before (map named_read_of w.variables.items)) c (apart-names_context n c.name) (fresh-seen c fresh)) watch.seen)))
 
 -- ---- the end of a read
 abbrev pub with_inputs : ContextSeen → ℕ → ContextSeen
 with_inputs c s = record c { inputs = s }
 
-module _ (w : Watch) (before : List Use) (watch : IsWatch w before) (t : Name) (r : NamedRead) (spoken : IsSpokenOf before (EndsRead t r.context r.belief)) (allowed : IsAllowed before (EndsRead t r.context r.belief))
-    (k : ℕ) (number : IsNumberOf (names_seen w) t k) (c : ContextSeen) (here : slice_get w.contexts.items k ≡ Some c) (now : List NamedRead) (j : ℕ) (held : IsHeld (map read_of w.variables.items) now r j) where
+module _ (w : Watch) (before : List Use) (watch : IsWatch w before) (t : Name) (r : NamedRead) (spoken : IsSpokenOf before (EndsRead t r.context r.belief)) (allowed : IsUseAllowed before (EndsRead t r.context r.belief))
+    (k : ℕ) (number : IsNumberOf (names_seen w) t k) (c : ContextSeen) (here : slice_get w.contexts.items k ≡ Some c) (now : List NamedRead) (j : ℕ) (held : IsHeld (map named_read_of w.variables.items) now r j) where
   abbrev old : List NamedRead
-  old = map read_of w.variables.items
+  old = map named_read_of w.variables.items
 
   abbrev u : Use
   u = EndsRead t r.context r.belief
@@ -80,7 +80,7 @@ module _ (w : Watch) (before : List Use) (watch : IsWatch w before) (t : Name) (
   name : c.name ≡ t
   name = seen-name w before watch t k number c here
 
-  seen : IsSeen old before c
+  seen : IsContextSeen old before c
   seen = seen-here w before watch t k number c here
 
   -- the new use is of this read
@@ -96,18 +96,18 @@ module _ (w : Watch) (before : List Use) (watch : IsWatch w before) (t : Name) (
   read-earlier : (q : NamedRead) → WasRead before q → WasRead after q
   read-earlier q (d, h) = (d, earlier before u (EndsRead d q.context q.belief) h)
 
-  listed : Lists now (WasRead after)
+  listed : ListsEach now (WasRead after)
   listed = go held.either
     where
-      go : (now ≡ old) ⊎ ((now ≡ old ++ r ∷ []) × (¬ IsAmong r old)) → Lists now (WasRead after)
-      go (inl same) = subst (λ (vs : List NamedRead). Lists vs (WasRead after)) (sym same) (lists-same old (WasRead before) (WasRead after) (λ q. (
+      go : (now ≡ old) ⊎ ((now ≡ old ++ r ∷ []) × (¬ IsAmong r old)) → ListsEach now (WasRead after)
+      go (inl same) = subst (λ (vs : List NamedRead). ListsEach vs (WasRead after)) (sym same) (lists-same old (WasRead before) (WasRead after) (λ q. (
         λ h. read-earlier q h,
         λ h. elim (read-after q h) [
           | inl there ↦ there
           | inr e ↦ (watch.variables.1 q).0 (subst (λ (x : NamedRead). IsAmong x old) (sym e) (among_get r old j (subst (λ (vs : List NamedRead). slice_get vs j ≡ Some r) same held.there)))
         ],
       )) watch.variables)
-      go (inr (more, new)) = subst (λ (vs : List NamedRead). Lists vs (WasRead after)) (sym more) (lists-more old (WasRead before) (WasRead after) r (λ q. (
+      go (inr (more, new)) = subst (λ (vs : List NamedRead). ListsEach vs (WasRead after)) (sym more) (lists-more old (WasRead before) (WasRead after) r (λ q. (
         λ h. read-after q h,
         λ h. elim h [ inl there ↦ read-earlier q there | inr e ↦ subst (WasRead after) (sym e) read-now ],
       )) new watch.variables)
@@ -123,10 +123,10 @@ module _ (w : Watch) (before : List Use) (watch : IsWatch w before) (t : Name) (
   few-variables = go held.either
     where
       go : (now ≡ old) ⊎ ((now ≡ old ++ r ∷ []) × (¬ IsAmong r old)) → length now ≤ 64
-      go (inl same) = omega (arith, ap length same, length-map w.variables.items read_of, watch.few.2)
+      go (inl same) = omega (arith, ap length same, length-map w.variables.items named_read_of, watch.few.2)
       go (inr (more, new)) =
           let many : length old ≡ 64 → ⊥ = λ e. allowed.1 ((one-more old (WasRead before) 64 r watch.variables).1 (e, new)) in
-          omega (arith, ap length more, length-append old (r ∷ []), length-map w.variables.items read_of, watch.few.2)
+          omega (arith, ap length more, length-append old (r ∷ []), length-map w.variables.items named_read_of, watch.few.2)
 
   pub number-below : j < 64
   number-below = let less = slice_get_within now j r held.there in let few = few-variables in omega arith
@@ -160,19 +160,19 @@ module _ (w : Watch) (before : List Use) (watch : IsWatch w before) (t : Name) (
   input-now : WasReadInto after c.name r
   input-now = subst (λ (x : Name). WasReadInto after x r) (sym name) (the-new before u)
 
-  few-values : (ys zs : List NamedRead) → Lists ys (WasReadInto before c.name) → length ys ≡ size c.inputs → Lists zs (WasReadInto after c.name) → length zs ≤ 16
+  few-values : (ys zs : List NamedRead) → ListsEach ys (WasReadInto before c.name) → length ys ≡ size c.inputs → ListsEach zs (WasReadInto after c.name) → length zs ≤ 16
   few-values ys zs values long values' = at (has c.inputs j) refl
     where
       at : (b : Bool) → has c.inputs j ≡ b → length zs ≤ 16
       at true e =
-          let same : Lists ys (WasReadInto after c.name) = lists-same ys (WasReadInto before c.name) (WasReadInto after c.name) (λ q. (
+          let same : ListsEach ys (WasReadInto after c.name) = lists-same ys (WasReadInto before c.name) (WasReadInto after c.name) (λ q. (
             λ was. earlier before u (EndsRead c.name q.context q.belief) was,
             λ was. elim (input-after q was) [ inl there ↦ there | inr is ↦ subst (WasReadInto before c.name) (sym is) (was-input e) ],
           )) values in
           omega (arith, same-length zs ys (WasReadInto after c.name) values' same, seen.few.4)
       at false e =
           let new : ¬ IsAmong r ys = λ h. no-input e ((values.1 r).0 h) in
-          let more : Lists (ys ++ r ∷ []) (WasReadInto after c.name) = lists-more ys (WasReadInto before c.name) (WasReadInto after c.name) r (λ q. (
+          let more : ListsEach (ys ++ r ∷ []) (WasReadInto after c.name) = lists-more ys (WasReadInto before c.name) (WasReadInto after c.name) r (λ q. (
             λ was. input-after q was,
             λ h. elim h [ inl there ↦ earlier before u (EndsRead c.name q.context q.belief) there | inr is ↦ subst (WasReadInto after c.name) (sym is) input-now ],
           )) new values in
@@ -187,15 +187,15 @@ module _ (w : Watch) (before : List Use) (watch : IsWatch w before) (t : Name) (
       omega arith
 
   pub step-ends_read : (c' : ContextSeen) → c' ≡ record c { inputs = union c.inputs (single j) } → (w' : Watch) → w'.contexts_begun ≡ w.contexts_begun → w'.bridges_begun ≡ w.bridges_begun → w'.bridges.items ≡ w.bridges.items
-      → map read_of w'.variables.items ≡ now → w'.contexts.items ≡ slice_set w.contexts.items k c' → IsWatch w' after
+      → map named_read_of w'.variables.items ≡ now → w'.contexts.items ≡ slice_set w.contexts.items k c' → IsWatch w' after
   step-ends_read c' is w' begun bridges_begun bridges variables contexts =
       watch-step w before watch u spoken allowed w' (omega arith) (omega arith)
       (ap (map (λ (s : ContextSeen). s.name)) contexts ∙ names-set w.contexts.items k c c' here (ap (λ (s : ContextSeen). s.name) is) ∙ sym (append-nil (names_seen w)))
       (bridges ∙ sym (append-nil w.bridges.items))
-      (subst (λ (vs : List NamedRead). Lists vs (WasRead after)) (sym variables) listed)
-      (omega (arith, ap length variables, length-map w'.variables.items read_of, few-variables))
-      (subst (λ (vs : List NamedRead). AllByRecursion (IsSeen vs after) w'.contexts.items) (sym variables)
-      (subst (AllByRecursion (IsSeen now after)) (sym (contexts ∙ ap (slice_set w.contexts.items k) is))
+      (subst (λ (vs : List NamedRead). ListsEach vs (WasRead after)) (sym variables) listed)
+      (omega (arith, ap length variables, length-map w'.variables.items named_read_of, few-variables))
+      (subst (λ (vs : List NamedRead). AllByRecursion (IsContextSeen vs after) w'.contexts.items) (sym variables)
+      (subst (AllByRecursion (IsContextSeen now after)) (sym (contexts ∙ ap (slice_set w.contexts.items k) is))
       (all-set old now before u longer w.contexts.items k c (record c { inputs = union c.inputs (single j) }) here
       (subst (λ (ns : List Name). AreDifferent ns) (sym watch.named) watch.different.0)
       (λ x differ. apart-read t r.context r.belief x (λ e. differ (e ∙ sym name)))

@@ -11,9 +11,9 @@ use Rattle.mcs_faults.specs.declared.watch.Watch.{Watch}
 use Rattle.mcs_faults.specs.declared.watch.Said.{Said}
 use Rattle.mcs_grammar.specs.Written.{IsNameWord}
 use Rattle.mcs_grammar.specs.Entries.{Token, Use, BeginsItem, BeginsBelief, EndsRead, Entry}
-use Rattle.mcs_grammar.specs.Faults.{Fault, Has, begins_item_of}
+use Rattle.mcs_grammar.specs.Faults.{TextFault, Has, begins_item_of}
 use Rattle.mcs_reader.specs.TextImages.{About, capped, role_uses, when, uses_in}
-use Rattle.mcs_faults.specs.Watching.{context_named, contexts_named, IsSpokenOf, names_seen, IsWatch, IsNumberOf, IsNaming, IsAsked, IsAllowed, AreFree}
+use Rattle.mcs_faults.specs.Watching.{context_named, contexts_named, IsSpokenOf, names_seen, IsWatch, IsNumberOf, IsNaming, IsEntryAsked, IsUseAllowed, HaveNoFault}
 use Rattle.mcs_faults.proofs.CappedWatch.{capped-watch}
 use Rattle.mcs_faults.proofs.FreeLemmas.{early-read, early-belief, early-item, roles-later, item-later, fitting, free-uses}
 use Rattle.mcs_faults.proofs.LaterLemmas.{named-later}
@@ -33,14 +33,14 @@ pub when-later : (P : List Use → Type 0) (before : List Use) (b : Bool) (v : U
 when-later P before true v stays goes = goes refl
 when-later P before false v stays goes = subst P (sym (append-nil before)) stays
 
-item-free : (before : List Use) (v : Use) (b : Bool) (c : Name) → begins_item_of c v ≡ false → AreFree before (when b (BeginsItem c)) → AreFree (before ++ v ∷ []) (when b (BeginsItem c))
+item-free : (before : List Use) (v : Use) (b : Bool) (c : Name) → begins_item_of c v ≡ false → HaveNoFault before (when b (BeginsItem c)) → HaveNoFault (before ++ v ∷ []) (when b (BeginsItem c))
 item-free before v true c other free u (inl e) =
-    let h : IsSpokenOf (before ++ v ∷ []) (BeginsItem c) × IsAllowed (before ++ v ∷ []) (BeginsItem c) = item-later before v c other (free (BeginsItem c) (inl refl)) in
-    subst (λ (x : Use). IsSpokenOf (before ++ v ∷ []) x × IsAllowed (before ++ v ∷ []) x) (sym e) h
+    let h : IsSpokenOf (before ++ v ∷ []) (BeginsItem c) × IsUseAllowed (before ++ v ∷ []) (BeginsItem c) = item-later before v c other (free (BeginsItem c) (inl refl)) in
+    subst (λ (x : Use). IsSpokenOf (before ++ v ∷ []) x × IsUseAllowed (before ++ v ∷ []) x) (sym e) h
 item-free before v true c other free u (inr none) = absurd none
 item-free before v false c other free u none = absurd none
 
-module _ (w : Watch) (before : List Use) (m : Entry) (a : About) (s : Said) (asked : IsAsked w before m a s) (none : (f : Fault) → ¬ Has f before m) where
+module _ (w : Watch) (before : List Use) (m : Entry) (a : About) (s : Said) (asked : IsEntryAsked w before m a s) (none : (f : TextFault) → ¬ Has f before m) where
   abbrev read : Use
   read = EndsRead a.subject.target a.subject.context a.belief
 
@@ -62,20 +62,20 @@ module _ (w : Watch) (before : List Use) (m : Entry) (a : About) (s : Said) (ask
   abbrev pub role : List Use
   role = role_uses a s.token.now s.uses.role
 
-  free-of : (us : List Use) → ((u : Use) → IsAmong u us → IsAmong u (uses_in a s.token.now s.uses)) → AreFree before us
+  free-of : (us : List Use) → ((u : Use) → IsAmong u us → IsAmong u (uses_in a s.token.now s.uses)) → HaveNoFault before us
   free-of us within u h = free-uses w before m a s asked none u (within u h)
 
   -- ---- what may be kept after the first ones
-  pub free-item : AreFree after_belief (when s.uses.begins_item item)
+  pub free-item : HaveNoFault after_belief (when s.uses.begins_item item)
   free-item =
-      let P : List Use → Type 0 = λ (us : List Use). AreFree us (when s.uses.begins_item item) in
+      let P : List Use → Type 0 = λ (us : List Use). HaveNoFault us (when s.uses.begins_item item) in
       let start : P before = free-of (when s.uses.begins_item item) (λ u h. among_right u (when s.uses.ends_read read) _ (among_right u (when s.uses.begins_belief belief) _ (among_left u (when s.uses.begins_item item) _ h))) in
       let next : P after_read = when-later P before s.uses.ends_read read start (λ _. item-free before read s.uses.begins_item a.subject.context refl start) in
       when-later P after_read s.uses.begins_belief belief next (λ _. item-free after_read belief s.uses.begins_item a.subject.context refl next)
 
-  pub free-role : AreFree after_item role
+  pub free-role : HaveNoFault after_item role
   free-role =
-      let P : List Use → Type 0 = λ (us : List Use). AreFree us role in
+      let P : List Use → Type 0 = λ (us : List Use). HaveNoFault us role in
       let start : P before = free-of role (λ u h. among_right u (when s.uses.ends_read read) _ (among_right u (when s.uses.begins_belief belief) _ (among_right u (when s.uses.begins_item item) _ h))) in
       let next : P after_read = when-later P before s.uses.ends_read read start (λ _. roles-later before read (early-read a.subject.target a.subject.context a.belief) a s.token.now s.uses.role start) in
       let then' : P after_belief = when-later P after_read s.uses.begins_belief belief next (λ _. roles-later after_read belief (early-belief a.subject.context) a s.token.now s.uses.role next) in

@@ -21,7 +21,7 @@ use Rattle.mcs_grammar.specs.Written.{Written, WrittenRead, WrittenBridge, IsNam
 use Rattle.mcs_grammar.specs.Entries.{Token, Use, NamesContext, NamesBridge, BeginsItem, BeginsBelief, EndsRead, AtomOf, IsNumber, Entry, formula_in}
 use Rattle.mcs_grammar.specs.Faults.{NamedRead}
 use Rattle.mcs_reader.specs.TextSteps.{PartRead, Place, AfterRead, PartText, nothing_written, with_read, text_step, text_steps}
-use Rattle.mcs_reader.specs.TextImages.{IsAt, IsTextReader, IsStopped, About, about, subject_at, capped, uses_in, role_uses, when, last_read, read_of}
+use Rattle.mcs_reader.specs.TextImages.{IsAt, IsTextReader, IsStopped, About, about, subject_at, capped, uses_in, role_uses, when, last_read, named_read_of}
 use Rattle.mcs_faults.specs.Watching.{IsNaming, IsSaid}
 use Rattle.mcs_reader.proofs.StepUses.{Shows, text-shows}
 use Rattle.mcs_faults.proofs.MoveLemmas.{IsReadEnd}
@@ -139,7 +139,7 @@ module _ (ts : List Token) (ms : List Entry) (s : PartText) (steps : text_steps 
         names = λ h. subst IsNameWord (sym token) (naming u.role refl h);
       }
     where
-      read-is : IsTextReader now s' ⊎ IsStopped now t → (r : code_read.NamedRead) → last_read now.place ≡ Some r → End → read_of r ≡ record { context = a.subject.context; belief = a.belief }
+      read-is : IsTextReader now s' ⊎ IsStopped now t → (r : code_read.NamedRead) → last_read now.place ≡ Some r → End → named_read_of r ≡ record { context = a.subject.context; belief = a.belief }
       read-is (inr stop) r is end = absurd (none-some r (sym stop.no_read ∙ is))
       read-is (inl reader) r is end =
           let same = read-at now.place s'.place r end.bridge end.read end.belief reader.place is end.to in

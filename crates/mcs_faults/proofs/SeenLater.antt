@@ -9,7 +9,7 @@ use Rattle.mcs_system.specs.Plain.{Name, Formula}
 use Rattle.mcs_faults.specs.declared.watch.ContextSeen.{ContextSeen}
 use Rattle.mcs_grammar.specs.Entries.{Use, SaysProgram, EndsRead, AtomOf}
 use Rattle.mcs_grammar.specs.Faults.{names_target, begins_default_of, begins_item_of, AreDifferent, NamedRead, WasRead, WasReadInto}
-use Rattle.mcs_faults.specs.Watching.{IsSeen}
+use Rattle.mcs_faults.specs.Watching.{IsContextSeen}
 use Rattle.mcs_faults.proofs.LaterLemmas.{same-among, atoms-later, inputs-later}
 
 -- nothing is said of the context
@@ -36,7 +36,7 @@ one-longer before xs q new = record {
 }
 
 module _ (xs more : List NamedRead) (before : List Use) (u : Use) (longer : IsLonger before xs more) where
-  pub seen-later : (c : ContextSeen) → IsApart c.name u → IsSeen xs before c → IsSeen more (before ++ u ∷ []) c
+  pub seen-later : (c : ContextSeen) → IsApart c.name u → IsContextSeen xs before c → IsContextSeen more (before ++ u ∷ []) c
   seen-later c apart s = record {
     program = let same = same-among before u (SaysProgram c.name) apart.program in (λ h. same.0 (s.program.0 h), λ h. s.program.1 (same.1 h));
     rules = s.rules ∙ sym (count_by_push_no (names_target c.name) before u apart.rules);
@@ -47,13 +47,13 @@ module _ (xs more : List NamedRead) (before : List Use) (u : Use) (longer : IsLo
     few = s.few;
   }
 
-  pub all-later : (cs : List ContextSeen) → ((c : ContextSeen) → IsAmong c cs → IsApart c.name u) → AllByRecursion (IsSeen xs before) cs → AllByRecursion (IsSeen more (before ++ u ∷ [])) cs
+  pub all-later : (cs : List ContextSeen) → ((c : ContextSeen) → IsAmong c cs → IsApart c.name u) → AllByRecursion (IsContextSeen xs before) cs → AllByRecursion (IsContextSeen more (before ++ u ∷ [])) cs
   all-later [] apart all = tt
   all-later (c ∷ cs) apart all = (seen-later c (apart c (inl refl)) all.0, all-later cs (λ d h. apart d (inr h)) all.1)
 
   -- all but one, of which there is more now
-  pub all-set : (cs : List ContextSeen) (k : ℕ) (c c' : ContextSeen) → slice_get cs k ≡ Some c → AreDifferent (map (λ (s : ContextSeen). s.name) cs) → ((n : Name) → ¬ (n ≡ c.name) → IsApart n u) → IsSeen more (before ++ u ∷ []) c'
-      → AllByRecursion (IsSeen xs before) cs → AllByRecursion (IsSeen more (before ++ u ∷ [])) (slice_set cs k c')
+  pub all-set : (cs : List ContextSeen) (k : ℕ) (c c' : ContextSeen) → slice_get cs k ≡ Some c → AreDifferent (map (λ (s : ContextSeen). s.name) cs) → ((n : Name) → ¬ (n ≡ c.name) → IsApart n u) → IsContextSeen more (before ++ u ∷ []) c'
+      → AllByRecursion (IsContextSeen xs before) cs → AllByRecursion (IsContextSeen more (before ++ u ∷ [])) (slice_set cs k c')
   all-set [] k c c' is different apart new all = tt
   all-set (d ∷ cs) zero c c' is different apart new all =
       let same : d ≡ c = cc in
@@ -64,7 +64,7 @@ module _ (xs more : List NamedRead) (before : List Use) (u : Use) (longer : IsLo
     all-set cs k c c' is different.1 apart new all.1,
   )
 
-  pub all-push : (cs : List ContextSeen) (c : ContextSeen) → ((d : ContextSeen) → IsAmong d cs → IsApart d.name u) → IsSeen more (before ++ u ∷ []) c → AllByRecursion (IsSeen xs before) cs → AllByRecursion (IsSeen more (before ++ u ∷ [])) (cs ++ c ∷ [])
+  pub all-push : (cs : List ContextSeen) (c : ContextSeen) → ((d : ContextSeen) → IsAmong d cs → IsApart d.name u) → IsContextSeen more (before ++ u ∷ []) c → AllByRecursion (IsContextSeen xs before) cs → AllByRecursion (IsContextSeen more (before ++ u ∷ [])) (cs ++ c ∷ [])
   all-push [] c apart new all = (new, tt)
   all-push (d ∷ cs) c apart new all = (seen-later d (apart d (inl refl)) all.0, all-push cs c (λ e h. apart e (inr h)) new all.1)
 

@@ -11,7 +11,7 @@ use Rattle.mcs_tokens.specs.declared.scan.Span.{Span}
 use Rattle.mcs_grammar.specs.Written.{WrittenText, IsText}
 use Rattle.mcs_grammar.specs.Entries.{Token, Entry, text_entries, tokens_of, uses_of}
 use Rattle.mcs_grammar.specs.Saying.{SaysSystem}
-use Rattle.mcs_grammar.specs.Faults.{Fault, Has, IsFaultAt}
+use Rattle.mcs_grammar.specs.Faults.{TextFault, Has, IsFaultAt}
 use Rattle.mcs_grammar.specs.Texts.{token_texts, Spells}
 use Rattle.mcs_reader.specs.TextSteps.{PartText, nothing_written, text_step, text_steps}
 use Rattle.mcs_reader.proofs.TextRuns.{steps-first}
@@ -31,7 +31,7 @@ module _ (t : WrittenText) (grammar : IsText t) (none : NoFaults (text_entries t
   token-there : (done : List Entry) (m : Entry) (todo : List Entry) → done ++ m ∷ todo ≡ ms → slice_get ts (length done) ≡ Some m.token
   token-there done m todo whole = slice_get-map (λ (x : Entry). x.token) ms (length done) ∙ ap (option_map (λ (x : Entry). x.token)) (ap (λ (xs : List Entry). slice_get xs (length done)) (sym whole) ∙ slice_get_seam done m todo (length done) refl)
 
-  none-there : (done : List Entry) (m : Entry) (todo : List Entry) → done ++ m ∷ todo ≡ ms → (f : Fault) → ¬ Has f (uses_of done) m
+  none-there : (done : List Entry) (m : Entry) (todo : List Entry) → done ++ m ∷ todo ≡ ms → (f : TextFault) → ¬ Has f (uses_of done) m
   none-there done m todo whole f h =
       let before : take (length done) ms ≡ done = ap (take (length done)) (sym whole) ∙ take-append_seam done (m ∷ todo) in
       none (length done) m f (ap (λ (xs : List Entry). slice_get xs (length done)) (sym whole) ∙ slice_get_seam done m todo (length done) refl) (subst (λ (xs : List Entry). Has f (uses_of xs) m) (sym before) h)
@@ -48,7 +48,7 @@ module _ (t : WrittenText) (grammar : IsText t) (none : NoFaults (text_entries t
       (d.steps ∙ ap (λ (xs : List Entry). Some (xs, whole_text t)) same.1)
       (free-more ts k done s m.token m d.middle reached is step (none-there done m todo whole) free)
 
-  pub no-fault-at : (k : ℕ) (f : Fault) → ¬ IsFaultAt ts k f
+  pub no-fault-at : (k : ℕ) (f : TextFault) → ¬ IsFaultAt ts k f
   no-fault-at = free-whole ts (length ts) refl (t, grammar, refl) (walk [] ms nothing_written 0 refl refl (reached-none ts) (text-forward t grammar).0 (free-none ts))
 
 pub spells-whole : (bytes : List ℕ) (spans : List Span) (t : WrittenText) (m : plain.System) → AreTokens bytes 0 spans → token_texts bytes spans ≡ tokens_of (text_entries t) → IsText t → SaysSystem t m → NoFaults (text_entries t) → Spells bytes m

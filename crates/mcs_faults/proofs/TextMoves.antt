@@ -10,9 +10,9 @@ use Rattle.mcs_system.specs.Plain.{Name}
 use Rattle.mcs_grammar.specs.Written.{WrittenLiteral, WrittenContext, WrittenBridge, Classical, DefaultTheory, Program}
 use Rattle.mcs_grammar.specs.Entries.{Token, Use, BeginsContext, BeginsBridge, NamesContext, NamesBridge, SaysProgram, BeginsItem, BeginsDefault, NamesTarget, NamesSource, EndsRead, Entry, formula_in}
 use Rattle.mcs_grammar.specs.FormulaSteps.{PartFormula, no_formula}
-use Rattle.mcs_reader.specs.TextSteps.{PartDefault, PartRead, Place, Between, ContextName, KindWord, OpenBrace, NextItem, InFact, InJust, InConclusion, AfterHeadName, NextHeadName, AfterSign, NextLiteral, AfterNot, AfterLiteral, BridgeName, BridgeColon, HeadContext, HeadColon, InHead, AfterHead, NextRead, ReadContext, ReadColon, InRead, AfterRead, PartText, empty_context, is_theory, is_program, add_fact, add_default, add_rule, one_more_just, whole_default, whole_rule, headed, with_read, atom_uses, step_at, text_step}
+use Rattle.mcs_reader.specs.TextSteps.{PartDefault, PartRead, Place, Between, ContextName, KindWord, OpenBrace, NextItem, InFact, InJust, InConclusion, AfterHeadName, NextHeadName, AfterSign, NextLiteral, AfterNot, AfterLiteral, BridgeName, BridgeColon, HeadContext, HeadColon, InHead, AfterHead, NextRead, ReadContext, ReadColon, InRead, AfterRead, PartText, context_begun, is_theory, is_program_kb, add_fact, add_default, add_rule, one_more_just, whole_default, whole_rule, headed, with_read, atom_uses, step_at, text_step}
 use Rattle.mcs_reader.specs.TextSteps as steps
-use Rattle.mcs_reader.specs.Known.{WasNamed, AreKnown}
+use Rattle.mcs_reader.specs.Known.{WasNamed, EachContextIsKnown}
 use Rattle.mcs_reader.proofs.TextLemmas.{on-is, name-is, formula-is, whole-is, belief-is}
 use Rattle.mcs_reader.proofs.NamedLemmas.{named-later, speaks-later}
 use Rattle.mcs_faults.proofs.MoveLemmas.{IsMove, IsOf, is_after_read, of-step, of-belief, goes-move, stay-move, sign-move, of-move, context-move, bridge-move, read-move}
@@ -34,14 +34,14 @@ module _ (cs : List WrittenContext) (bs : List WrittenBridge) (t : Token) (r : E
 
   kind-move : (n : Name) → Moves (KindWord n)
   kind-move n e =
-      on-is t (codes "classical") _ _ r e (λ is g. sign-move cs bs (KindWord n) t r (OpenBrace (empty_context n (Classical []))) (λ before h. h) refl g)
-      (λ e2. on-is t (codes "default") _ _ r e2 (λ is g. sign-move cs bs (KindWord n) t r (OpenBrace (empty_context n (DefaultTheory []))) (λ before h. h) refl g)
-      (λ e3. on-is t (codes "program") _ _ r e3 (λ is g. of-move cs bs (KindWord n) t r n (OpenBrace (empty_context n (Program []))) (SaysProgram n ∷ []) (refl, tt) (λ before h. h) (λ before h. h) refl g)
+      on-is t (codes "classical") _ _ r e (λ is g. sign-move cs bs (KindWord n) t r (OpenBrace (context_begun n (Classical []))) (λ before h. h) refl g)
+      (λ e2. on-is t (codes "default") _ _ r e2 (λ is g. sign-move cs bs (KindWord n) t r (OpenBrace (context_begun n (DefaultTheory []))) (λ before h. h) refl g)
+      (λ e3. on-is t (codes "program") _ _ r e3 (λ is g. of-move cs bs (KindWord n) t r n (OpenBrace (context_begun n (Program []))) (SaysProgram n ∷ []) (refl, tt) (λ before h. h) (λ before h. h) refl g)
       (λ none. absurd (none-some r none))))
 
   -- ---- of a context
   -- within it another place of it comes
-  in-move : (c : WrittenContext) (p p' : Place) (uses : List Use) → AllByRecursion (IsOf c.name) uses → ((before : List Use) → AreKnown before p → WasNamed before c.name) → ((before : List Use) → WasNamed before c.name → AreKnown before p')
+  in-move : (c : WrittenContext) (p p' : Place) (uses : List Use) → AllByRecursion (IsOf c.name) uses → ((before : List Use) → EachContextIsKnown before p → WasNamed before c.name) → ((before : List Use) → WasNamed before c.name → EachContextIsKnown before p')
       → is_after_read p' ≡ false → steps.goes (text_of cs bs p) t uses p' ≡ Some r → IsMove (text_of cs bs p) t r
   in-move c p p' uses of from to away g = of-move cs bs p t r c.name p' uses of from (λ before h. to before (from before h)) away g
 
@@ -51,7 +51,7 @@ module _ (cs : List WrittenContext) (bs : List WrittenBridge) (t : Token) (r : E
   item-move : (c : WrittenContext) → Moves (NextItem c)
   item-move c e =
       on-is t (codes "}") _ _ r e (λ is g. context-move cs bs (NextItem c) t r c g)
-      (λ e2. by_cond (is_program c.kb) _ _ (Some r) e2
+      (λ e2. by_cond (is_program_kb c.kb) _ _ (Some r) e2
       (λ _ e3. on-is t (codes ":-") _ _ r e3 (λ is g. in-move c (NextItem c) (AfterSign c []) (BeginsItem c.name ∷ []) (refl, tt) (λ before h. h) (λ before h. h) refl g)
       (λ e4. name-is t _ r e4 (λ is g. in-move c (NextItem c) (AfterHeadName c (t ∷ [])) (BeginsItem c.name ∷ atom_uses c 1 t) (refl, (refl, (tt, tt))) (λ before h. h) (λ before h. h) refl g)))
       (λ _ e3. formula-is (text_of cs bs (NextItem c)) c.name (BeginsItem c.name ∷ []) no_formula t (InFact c) None r e3
@@ -93,11 +93,11 @@ module _ (cs : List WrittenContext) (bs : List WrittenBridge) (t : Token) (r : E
   next-head-move c head e =
       name-is t _ r e (λ is g. in-move c (NextHeadName c head) (AfterHeadName c (head ++ t ∷ [])) (atom_uses c (length head + 1) t) (refl, (tt, tt)) (λ before h. h) (λ before h. h) refl g)
 
-  literal-move : (c : WrittenContext) (head : List Name) (body : List WrittenLiteral) (denied : Bool) (p : Place) → ((before : List Use) → AreKnown before p → WasNamed before c.name) → steps.one_literal (text_of cs bs p) c head body denied t ≡ Some r → IsMove (text_of cs bs p) t r
+  literal-move : (c : WrittenContext) (head : List Name) (body : List WrittenLiteral) (denied : Bool) (p : Place) → ((before : List Use) → EachContextIsKnown before p → WasNamed before c.name) → steps.one_literal (text_of cs bs p) c head body denied t ≡ Some r → IsMove (text_of cs bs p) t r
   literal-move c head body denied p from e =
       name-is t _ r e (λ is g. in-move c p (AfterLiteral c head (body ++ record { denied = denied; atom = t } ∷ [])) (atom_uses c (length head + length body + 1) t) (refl, (tt, tt)) from (λ before h. h) refl g)
 
-  next-literal-move : (c : WrittenContext) (head : List Name) (body : List WrittenLiteral) (p : Place) → ((before : List Use) → AreKnown before p → WasNamed before c.name) → steps.next_literal (text_of cs bs p) c head body t ≡ Some r → IsMove (text_of cs bs p) t r
+  next-literal-move : (c : WrittenContext) (head : List Name) (body : List WrittenLiteral) (p : Place) → ((before : List Use) → EachContextIsKnown before p → WasNamed before c.name) → steps.next_literal (text_of cs bs p) c head body t ≡ Some r → IsMove (text_of cs bs p) t r
   next-literal-move c head body p from e =
       on-is t (codes "not") _ _ r e (λ is g. in-move c p (AfterNot c head body) [] tt from (λ before h. h) refl g) (λ e2. literal-move c head body false p from e2)
 
@@ -136,7 +136,7 @@ module _ (cs : List WrittenContext) (bs : List WrittenBridge) (t : Token) (r : E
       on-is t (codes "if") _ _ r e (λ is g. sign-move cs bs (AfterHead b) t r (NextRead b) (λ before h. h) refl g)
       (λ e2. on-is t (codes ".") _ _ r e2 (λ is g. bridge-move cs bs (AfterHead b) t r b (λ before h. h) g) (λ none. absurd (none-some r none)))
 
-  source-move : (b : WrittenBridge) (denied : Bool) (p : Place) → ((before : List Use) → AreKnown before p → AreKnown before (NextRead b)) → steps.read_context (text_of cs bs p) b denied t ≡ Some r → IsMove (text_of cs bs p) t r
+  source-move : (b : WrittenBridge) (denied : Bool) (p : Place) → ((before : List Use) → EachContextIsKnown before p → EachContextIsKnown before (NextRead b)) → steps.read_context (text_of cs bs p) b denied t ≡ Some r → IsMove (text_of cs bs p) t r
   source-move b denied p from e =
       let uses : List Use = NamesSource t ∷ [] in
       name-is t _ r e (λ is g. goes-move cs bs p t r (ReadColon b (record { denied = denied; context = t })) uses (λ before h. (tt, tt)) (λ before h named. (speaks-later before uses b (from before h), named-later before uses t named.0)) (refl, tt) refl g)

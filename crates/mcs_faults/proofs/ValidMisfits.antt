@@ -11,7 +11,7 @@ use Rattle.mcs_base.proofs.Each.{all_among}
 use Rattle.mcs_system.specs.Plain.{Name, Context, Read, Bridge, System}
 use Rattle.mcs_system.specs.Plain as plain
 use Rattle.mcs_system.specs.Faults.{reads_of, is_atom, is_program, is_unjustified, has_unjustified, has_misfit, has_misfits}
-use Rattle.mcs_grammar.specs.Written.{WrittenItem, Fact, Rule, WrittenKb, Classical, DefaultTheory, Program, WrittenContext, WrittenPlace, IsPlace, WrittenRead, IsBridge, WrittenText, IsText}
+use Rattle.mcs_grammar.specs.Written.{WrittenItem, Fact, Rule, WrittenKb, Classical, DefaultTheory, Program, WrittenContext, WrittenPlace, IsPlace, WrittenRead, IsWrittenBridge, WrittenText, IsText}
 use Rattle.mcs_grammar.specs.Entries.{SaysProgram, formula_in, context_entries, text_entries, uses_of}
 use Rattle.mcs_grammar.specs.Saying.{item_in, kb_in, SaysPlace, SaysSystem, names_of}
 use Rattle.mcs_grammar.specs.Faults.{NoAtom}
@@ -60,7 +60,7 @@ module _ (t : WrittenText) (m : System) (grammar : IsText t) (says : SaysSystem 
   rule-fits : (b : Bridge) → IsAmong b m.bridges → has_misfit m.contexts b ≡ false
   rule-fits b h =
       let (w, there, s) = bridge-written t m says b h in
-      let parts : IsBridge w = all_among IsBridge t.bridges w grammar.1 there in
+      let parts : IsWrittenBridge w = all_among IsWrittenBridge t.bridges w grammar.1 there in
       or_from (nat_eq b.weight 0) _ (ap (λ (c : Bridge). nat_eq c.weight 0) s.unmarked)
       (or_from (is_program (slice_get m.contexts b.target) && not (is_atom b.head)) (list_any (λ (r : Read). is_program (slice_get m.contexts r.context) && not (is_atom r.belief)) (reads_of b))
       (fits w.head (record { context = b.target; belief = b.head }) (OfHead w there refl) parts.1 s.head)

@@ -16,8 +16,8 @@ use Rattle.mcs_faults.specs.declared.watch.Watch.{Watch}
 use Rattle.mcs_faults.specs.declared.watch.ContextSeen.{ContextSeen}
 use Rattle.mcs_grammar.specs.Entries.{Use, BeginsContext, BeginsBridge, NamesContext, NamesBridge, SaysProgram, BeginsItem, BeginsDefault, NamesTarget, NamesSource, BeginsBelief, EndsRead, AtomOf, IsNumber, OpensWithin}
 use Rattle.mcs_grammar.specs.Faults.{names_target, begins_default_of, begins_item_of, IsOneMore}
-use Rattle.mcs_reader.specs.TextImages.{read_of}
-use Rattle.mcs_faults.specs.Watching.{context_named, bridge_named, contexts_named, bridges_named, Lists, IsSeen, names_seen, IsWatch, IsNumberOf}
+use Rattle.mcs_reader.specs.TextImages.{named_read_of}
+use Rattle.mcs_faults.specs.Watching.{context_named, bridge_named, contexts_named, bridges_named, ListsEach, IsContextSeen, names_seen, IsWatch, IsNumberOf}
 use Rattle.mcs_faults.proofs.DifferentLemmas.{same-length}
 
 -- ---- names
@@ -94,8 +94,8 @@ module _ (w : Watch) (before : List Use) (watch : IsWatch w before) (n : Name) (
       go (inl here) is' = same_Some _ _ (sym is' ∙ here)
       go (inr (e, none)) is' = absurd (let less = slice_get_within (names_seen w) k c.name is' in omega arith)
 
-  pub seen-here : (c : ContextSeen) → slice_get w.contexts.items k ≡ Some c → IsSeen (map read_of w.variables.items) before c
-  seen-here c is = all_among (IsSeen (map read_of w.variables.items) before) w.contexts.items c watch.seen (among_get c w.contexts.items k is)
+  pub seen-here : (c : ContextSeen) → slice_get w.contexts.items k ≡ Some c → IsContextSeen (map named_read_of w.variables.items) before c
+  seen-here c is = all_among (IsContextSeen (map named_read_of w.variables.items) before) w.contexts.items c watch.seen (among_get c w.contexts.items k is)
 
   pub rules-here : (c : ContextSeen) → slice_get w.contexts.items k ≡ Some c → c.rules ≡ count_by (names_target n) before
   rules-here c is = subst (λ (x : Name). c.rules ≡ count_by (names_target x) before) (seen-name c is) (seen-here c is).rules
@@ -180,7 +180,7 @@ module _ (w : Watch) (before : List Use) (watch : IsWatch w before) (n : Name) (
       go (OpensWithin k) h = refl
 
 -- ---- one more than are listed
-pub one-more : {A : Type 0} (xs : List A) (P : A → Type 0) (n : ℕ) (x : A) → Lists xs P → IsOneMore n P x ↔ ((length xs ≡ n) × (¬ IsAmong x xs))
+pub one-more : {A : Type 0} (xs : List A) (P : A → Type 0) (n : ℕ) (x : A) → ListsEach xs P → IsOneMore n P x ↔ ((length xs ≡ n) × (¬ IsAmong x xs))
 one-more xs P n x l = (
   λ h. (same-length xs h.values P l (h.different, h.all) ∙ h.count, λ there. h.new ((l.1 x).0 there)),
   λ h. record { values = xs; different = l.0; all = l.1; count = h.0; new = λ p. h.1 ((l.1 x).1 p) },

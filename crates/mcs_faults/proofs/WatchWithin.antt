@@ -12,8 +12,8 @@ use Rattle.mcs_faults.specs.declared.watch.Watch.{Watch}
 use Rattle.mcs_faults.specs.declared.watch.ContextSeen.{ContextSeen}
 use Rattle.mcs_grammar.specs.Entries.{Use, NamesContext, EndsRead, AtomOf}
 use Rattle.mcs_grammar.specs.Faults.{names_target, begins_default_of, begins_item_of, AreDifferent, NamedRead, WasReadInto, WasAtom}
-use Rattle.mcs_reader.specs.TextImages.{read_of}
-use Rattle.mcs_faults.specs.Watching.{Lists, IsSeen, named_read, IsWatch}
+use Rattle.mcs_reader.specs.TextImages.{named_read_of}
+use Rattle.mcs_faults.specs.Watching.{ListsEach, IsContextSeen, named_read, IsWatch}
 use Rattle.mcs_faults.proofs.Within.{IsWithin}
 use Rattle.mcs_faults.proofs.DifferentLemmas.{values-at}
 use Rattle.mcs_faults.proofs.WatchFacts.{named-there, no-rules, no-defaults, no-items, is-context}
@@ -28,15 +28,15 @@ record IsFew (uses : List Use) (c : Name) : Type 0 where
 
 module _ (w : Watch) (uses : List Use) (watch : IsWatch w uses) where
   abbrev variables : List NamedRead
-  variables = map read_of w.variables.items
+  variables = map named_read_of w.variables.items
 
   -- the reads of a context's inputs
-  inputs-read : (s : ContextSeen) → IsSeen variables uses s → (rs : List NamedRead) × Lists rs (WasReadInto uses s.name) × (length rs ≡ size s.inputs)
+  inputs-read : (s : ContextSeen) → IsContextSeen variables uses s → (rs : List NamedRead) × ListsEach rs (WasReadInto uses s.name) × (length rs ≡ size s.inputs)
   inputs-read s seen =
       values-at variables (named_read [] Truth) s.inputs (WasReadInto uses s.name) watch.variables.0 seen.inputs (λ r was. (watch.variables.1 r).1 (s.name, was))
 
   -- of a context that was seen
-  few-seen : (s : ContextSeen) → IsSeen variables uses s → IsFew uses s.name
+  few-seen : (s : ContextSeen) → IsContextSeen variables uses s → IsFew uses s.name
   few-seen s seen =
       let few = seen.few in
       let read = inputs-read s seen in
@@ -65,7 +65,7 @@ module _ (w : Watch) (uses : List Use) (watch : IsWatch w uses) where
   few : (c : Name) → IsFew uses c
   few c = elim (is-context w uses watch c) [
     | inl named ↦ let (s, there, is) = map_among (λ (s : ContextSeen). s.name) c w.contexts.items ((named-there w uses watch c).1 named) in
-        subst (IsFew uses) (sym is) (few-seen s (all_among (IsSeen variables uses) w.contexts.items s watch.seen there))
+        subst (IsFew uses) (sym is) (few-seen s (all_among (IsContextSeen variables uses) w.contexts.items s watch.seen there))
     | inr unseen ↦ few-unseen c unseen
   ]
 
@@ -78,7 +78,7 @@ module _ (w : Watch) (uses : List Use) (watch : IsWatch w uses) where
         rules = λ c. (few c).rules;
         variables = λ rs d each.
             let short = distinct_fits rs variables d (λ r h. (watch.variables.1 r).1 (each r h)) in
-            let same = length-map w.variables.items read_of in
+            let same = length-map w.variables.items named_read_of in
             omega (arith, most.2);
         inputs = λ t. (few t).inputs;
         atoms = λ c. (few c).atoms;

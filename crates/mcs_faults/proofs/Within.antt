@@ -4,7 +4,7 @@ use Rattle.std.specs.Prelude.{slice_get, count_by}
 use Rattle.mcs_base.specs.Listings.{IsAmong}
 use Rattle.mcs_system.specs.Plain.{Name}
 use Rattle.mcs_grammar.specs.Entries.{Use, Entry, uses_of}
-use Rattle.mcs_grammar.specs.Faults.{begins_context, begins_bridge, names_target, begins_default_of, begins_item_of, AreDifferent, NamedRead, WasReadInto, WasRead, WasAtom, Fault, Has}
+use Rattle.mcs_grammar.specs.Faults.{begins_context, begins_bridge, names_target, begins_default_of, begins_item_of, AreDifferent, NamedRead, WasReadInto, WasRead, WasAtom, TextFault, Has}
 use Rattle.mcs_faults.specs.Watching.{contexts_named, bridges_named}
 
 pub record IsWithin (uses : List Use) : Type 0 where
@@ -21,4 +21,4 @@ pub record IsWithin (uses : List Use) : Type 0 where
 
 -- no token has a fault after those before it
 abbrev pub NoFaults : List Entry → Type 0
-NoFaults entries = (k : ℕ) (m : Entry) (f : Fault) → slice_get entries k ≡ Some m → ¬ Has f (uses_of (take k entries)) m
+NoFaults entries = (k : ℕ) (m : Entry) (f : TextFault) → slice_get entries k ≡ Some m → ¬ Has f (uses_of (take k entries)) m

@@ -21,8 +21,8 @@ use Rattle.mcs_reader.specs.declared.place.Role.TheVariants as roles
 use Rattle.mcs_reader.specs.declared.place.Uses as code_uses
 use Rattle.mcs_grammar.specs.Written.{IsNameWord}
 use Rattle.mcs_grammar.specs.Entries.{Use, BeginsContext, BeginsBridge, NamesContext, NamesBridge, NamesTarget, SaysProgram, BeginsItem, BeginsDefault, BeginsBelief, EndsRead, AtomOf, Entry}
-use Rattle.mcs_grammar.specs.Faults.{begins_context, begins_bridge, names_target, begins_default_of, begins_item_of, AreDifferent, NamedRead, WasReadInto, WasRead, WasAtom, IsOneMore, Fault, NoGrammar, NoContext, Twin, NoAtom, Exceeds, rank, Has}
-use Rattle.mcs_reader.specs.TextImages.{read_of, Subject, About, capped, uses_in}
+use Rattle.mcs_grammar.specs.Faults.{begins_context, begins_bridge, names_target, begins_default_of, begins_item_of, AreDifferent, NamedRead, WasReadInto, WasRead, WasAtom, IsOneMore, TextFault, NoGrammar, NoContext, Twin, NoAtom, Exceeds, rank, Has}
+use Rattle.mcs_reader.specs.TextImages.{named_read_of, Subject, About, capped, uses_in}
 
 -- ---- what was named
 abbrev pub context_named : Use → List Name
@@ -40,16 +40,16 @@ abbrev pub bridges_named : List Use → List Name
 bridges_named before = flat_map bridge_named before
 
 -- exactly the values for which it holds, each once
-abbrev pub Lists : {A : Type 0} → List A → (A → Type 0) → Type 0
-Lists xs P = AreDifferent xs × ((x : _) → IsAmong x xs ↔ P x)
+abbrev pub ListsEach : {A : Type 0} → List A → (A → Type 0) → Type 0
+ListsEach xs P = AreDifferent xs × ((x : _) → IsAmong x xs ↔ P x)
 
 -- ---- of one context
-pub record IsSeen (variables : List NamedRead) (before : List Use) (c : ContextSeen) : Type 0 where
+pub record IsContextSeen (variables : List NamedRead) (before : List Use) (c : ContextSeen) : Type 0 where
   pub program : IsTrue c.is_program ↔ IsAmong (SaysProgram c.name) before
   pub rules : c.rules ≡ count_by (names_target c.name) before
   pub defaults : c.defaults ≡ count_by (begins_default_of c.name) before
   pub items : c.items ≡ count_by (begins_item_of c.name) before
-  pub atoms : Lists c.atoms.items (WasAtom before c.name)
+  pub atoms : ListsEach c.atoms.items (WasAtom before c.name)
   -- the numbers, among the variables, of those that rules into the context read
   pub inputs : (k : ℕ) → IsTrue (has c.inputs k) ↔ ((r : NamedRead) × (slice_get variables k ≡ Some r) × WasReadInto before c.name r)
   pub few : (c.rules ≤ most RulesPerContext) × (c.defaults ≤ most DefaultsPerContext) × (c.items ≤ most ItemsPerContext) × (length c.atoms.items ≤ most AtomsPerContext) × (size c.inputs ≤ most InputsPerContext)
@@ -82,8 +82,8 @@ pub record IsWatch (w : Watch) (before : List Use) : Type 0 where
   pub named : names_seen w ≡ contexts_named before
   pub bridges : w.bridges.items ≡ bridges_named before
   pub different : AreDifferent (contexts_named before) × AreDifferent (bridges_named before)
-  pub variables : Lists (map read_of w.variables.items) (WasRead before)
-  pub seen : AllByRecursion (IsSeen (map read_of w.variables.items) before) w.contexts.items
+  pub variables : ListsEach (map named_read_of w.variables.items) (WasRead before)
+  pub seen : AllByRecursion (IsContextSeen (map named_read_of w.variables.items) before) w.contexts.items
   pub few : (w.contexts_begun ≤ most Contexts) × (w.bridges_begun ≤ most Bridges) × (length w.variables.items ≤ most Variables)
   -- what was said of a context came after its name
   pub spoken : (u : Use) → IsAmong u before → IsSpokenOf before u
@@ -109,7 +109,7 @@ IsNaming role = ⊥
 -- what the entry says of the token, and the read that ends with it
 pub record IsSaid (a : About) (m : Entry) (uses : code_uses.Uses) (read : Option code_read.NamedRead) : Type 0 where
   pub uses_are : map capped m.uses ≡ uses_in a m.token uses
-  pub read_is : uses.ends_read ≡ true → (r : code_read.NamedRead) → read ≡ Some r → read_of r ≡ record { context = a.subject.context; belief = a.belief }
+  pub read_is : uses.ends_read ≡ true → (r : code_read.NamedRead) → read ≡ Some r → named_read_of r ≡ record { context = a.subject.context; belief = a.belief }
   -- a read that ends with a name has it as an atom; there is no such read to hand where the name is too long
   pub has_atom : uses.ends_read ≡ true → IsNameWord m.token → IsAmong m.token (atoms a.belief)
   pub read_there : uses.ends_read ≡ true → read ≡ None → IsNameWord m.token × (most_name_bytes < length m.token)
@@ -117,7 +117,7 @@ pub record IsSaid (a : About) (m : Entry) (uses : code_uses.Uses) (read : Option
   pub names : IsNaming uses.role → IsNameWord m.token
 
 -- all that is known of the watch and of the token
-pub record IsAsked (w : Watch) (before : List Use) (m : Entry) (a : About) (s : Said) : Type 0 where
+pub record IsEntryAsked (w : Watch) (before : List Use) (m : Entry) (a : About) (s : Said) : Type 0 where
   pub watch : IsWatch w before
   pub token_is : m.token ≡ s.token.now
   pub subject_is : IsSubject w a.subject s.subject
@@ -125,49 +125,49 @@ pub record IsAsked (w : Watch) (before : List Use) (m : Entry) (a : About) (s : 
   pub spoken : AllByRecursion (IsSpokenOf before) m.uses
 
 -- the answer is whether this holds of the token after those before it
-abbrev pub Tells : Bool → (List Use → Entry → Type 0) → Watch → Said → Type 0
-Tells answer P w s = (before : List Use) (m : Entry) (a : About) → IsAsked w before m a s → IsTrue answer ↔ P before m
+abbrev pub AnswersTest : Bool → (List Use → Entry → Type 0) → Watch → Said → Type 0
+AnswersTest answer P w s = (before : List Use) (m : Entry) (a : About) → IsEntryAsked w before m a s → IsTrue answer ↔ P before m
 
 -- ---- one use more
 -- what it is there for is no fault, after what the tokens before are there for
-abbrev pub IsAllowed : List Use → Use → Type 0
-IsAllowed before BeginsContext = ¬ (count_by begins_context before ≡ most Contexts)
-IsAllowed before BeginsBridge = ¬ (count_by begins_bridge before ≡ most Bridges)
-IsAllowed before (NamesContext c) = ¬ IsAmong (NamesContext c) before
-IsAllowed before (NamesBridge b) = ¬ IsAmong (NamesBridge b) before
-IsAllowed before (NamesTarget c) = IsAmong (NamesContext c) before × (¬ (count_by (names_target c) before ≡ most RulesPerContext))
-IsAllowed before (BeginsDefault c) = ¬ (count_by (begins_default_of c) before ≡ most DefaultsPerContext)
-IsAllowed before (BeginsItem c) = ¬ (count_by (begins_item_of c) before ≡ most ItemsPerContext)
-IsAllowed before (AtomOf c a) = ¬ IsOneMore (most AtomsPerContext) (WasAtom before c) a
-IsAllowed before (EndsRead t c f) = AreShort (atoms f) × (¬ IsOneMore (most Variables) (WasRead before) (named_read c f)) × (¬ IsOneMore (most InputsPerContext) (WasReadInto before t) (named_read c f))
-IsAllowed before u = Unit {0}
+abbrev pub IsUseAllowed : List Use → Use → Type 0
+IsUseAllowed before BeginsContext = ¬ (count_by begins_context before ≡ most Contexts)
+IsUseAllowed before BeginsBridge = ¬ (count_by begins_bridge before ≡ most Bridges)
+IsUseAllowed before (NamesContext c) = ¬ IsAmong (NamesContext c) before
+IsUseAllowed before (NamesBridge b) = ¬ IsAmong (NamesBridge b) before
+IsUseAllowed before (NamesTarget c) = IsAmong (NamesContext c) before × (¬ (count_by (names_target c) before ≡ most RulesPerContext))
+IsUseAllowed before (BeginsDefault c) = ¬ (count_by (begins_default_of c) before ≡ most DefaultsPerContext)
+IsUseAllowed before (BeginsItem c) = ¬ (count_by (begins_item_of c) before ≡ most ItemsPerContext)
+IsUseAllowed before (AtomOf c a) = ¬ IsOneMore (most AtomsPerContext) (WasAtom before c) a
+IsUseAllowed before (EndsRead t c f) = AreShort (atoms f) × (¬ IsOneMore (most Variables) (WasRead before) (named_read c f)) × (¬ IsOneMore (most InputsPerContext) (WasReadInto before t) (named_read c f))
+IsUseAllowed before u = Unit {0}
 
 -- nothing but the name was seen of the context
-abbrev pub IsFresh : ContextSeen → Name → Type 0
-IsFresh c n = (c.name ≡ n) × (c.is_program ≡ false) × (c.rules ≡ 0) × (c.items ≡ 0) × (c.defaults ≡ 0) × (c.atoms.items ≡ []) × (c.inputs ≡ 0)
+abbrev pub IsUnseenContext : ContextSeen → Name → Type 0
+IsUnseenContext c n = (c.name ≡ n) × (c.is_program ≡ false) × (c.rules ≡ 0) × (c.items ≡ 0) × (c.defaults ≡ 0) × (c.atoms.items ≡ []) × (c.inputs ≡ 0)
 
 -- the read is number j of the list now, to which it was added if it was not there
 pub record IsHeld (old now : List NamedRead) (r : NamedRead) (j : ℕ) : Type 0 where
   pub there : slice_get now j ≡ Some r
   pub either : (now ≡ old) ⊎ ((now ≡ old ++ r ∷ []) × (¬ IsAmong r old))
 
-abbrev pub AreFree : List Use → List Use → Type 0
-AreFree before us = (u : Use) → IsAmong u us → IsSpokenOf before u × IsAllowed before u
+abbrev pub HaveNoFault : List Use → List Use → Type 0
+HaveNoFault before us = (u : Use) → IsAmong u us → IsSpokenOf before u × IsUseAllowed before u
 
 -- ---- the faults
-abbrev pub fault_of : code_fault.Fault → Fault
-fault_of faults.NoGrammar = NoGrammar
-fault_of faults.NoContext = NoContext
-fault_of faults.Twin = Twin
-fault_of faults.NoAtom = NoAtom
-fault_of (faults.Exceeds limit) = Exceeds limit
+abbrev pub fault_for : code_fault.Fault → TextFault
+fault_for faults.NoGrammar = NoGrammar
+fault_for faults.NoContext = NoContext
+fault_for faults.Twin = Twin
+fault_for faults.NoAtom = NoAtom
+fault_for (faults.Exceeds limit) = Exceeds limit
 
 -- the lowest fault of the entry, or that it has none
-abbrev pub IsTold : Option code_fault.Fault → List Use → Entry → Type 0
-IsTold None before m = (f : Fault) → ¬ Has f before m
-IsTold (Some g) before m = Has (fault_of g) before m × ((f : Fault) → Has f before m → rank (fault_of g) ≤ rank f)
+abbrev pub IsLowestFault : Option code_fault.Fault → List Use → Entry → Type 0
+IsLowestFault None before m = (f : TextFault) → ¬ Has f before m
+IsLowestFault (Some g) before m = Has (fault_for g) before m × ((f : TextFault) → Has f before m → rank (fault_for g) ≤ rank f)
 
 -- the lowest fault of the entry, or that it has none and the watch goes on
-abbrev pub IsVerdict : Option code_fault.Fault → List Use → Entry → Watch → Type 0
-IsVerdict None before m now = ((f : Fault) → ¬ Has f before m) × IsWatch now (before ++ m.uses)
-IsVerdict (Some g) before m now = Has (fault_of g) before m × ((f : Fault) → Has f before m → rank (fault_of g) ≤ rank f)
+abbrev pub IsFaultVerdict : Option code_fault.Fault → List Use → Entry → Watch → Type 0
+IsFaultVerdict None before m now = ((f : TextFault) → ¬ Has f before m) × IsWatch now (before ++ m.uses)
+IsFaultVerdict (Some g) before m now = Has (fault_for g) before m × ((f : TextFault) → Has f before m → rank (fault_for g) ≤ rank f)

@@ -1,8 +1,8 @@
 //! The faults of a text, by which it is not the text of a system.
 
 ghost use Rattle.std.specs.Prelude.{◌≡◌};
-ghost use Rattle.mcs_grammar.specs.Faults.{limit_of, number_of};
-ghost use Rattle.mcs_faults.specs.Watching.{fault_of};
+ghost use Rattle.mcs_grammar.specs.Faults.{limit_of, fault_number};
+ghost use Rattle.mcs_faults.specs.Watching.{fault_for};
 ghost use Rattle.mcs_faults.specs.declared.fault.TextFault.TheVariants as texts;
 
 use mcs_system::Limit;
@@ -42,7 +42,7 @@ pub enum Fault {
 impl Fault {
     /// The fault of a token that begins at the offset.
     pub fn at(self, offset: usize) -> TextFault
-        ensures { result ≡ texts.Fault (number_of (fault_of self)) offset (limit_of (fault_of self)) }
+        ensures { result ≡ texts.Fault (fault_number (fault_for self)) offset (limit_of (fault_for self)) }
     {
         let (number, limit) = match self {
             Fault::NoGrammar => (1, None),

@@ -6,9 +6,9 @@ ghost use Rattle.mcs_base.specs.Listings.{IsAmong};
 ghost use Rattle.mcs_sets.specs.Sets.{has};
 ghost use Rattle.mcs_grammar.specs.Entries.{Entry, Use};
 ghost use Rattle.mcs_grammar.specs.Faults as faults;
-ghost use Rattle.mcs_grammar.specs.Faults.{Has, IsBeyond};
-ghost use Rattle.mcs_reader.specs.TextImages.{About, read_of};
-ghost use Rattle.mcs_faults.specs.Watching.{IsAsked, IsNumberOf, IsTold, Tells};
+ghost use Rattle.mcs_grammar.specs.Faults.{Has, ExceedsLimit};
+ghost use Rattle.mcs_reader.specs.TextImages.{About, named_read_of};
+ghost use Rattle.mcs_faults.specs.Watching.{IsEntryAsked, IsNumberOf, IsLowestFault, AnswersTest};
 ghost use Rattle.mcs_reader.specs.declared.place.NamedRead as code_read;
 
 use crate::fault::Fault;
@@ -47,7 +47,7 @@ pub(crate) fn is_one_of(names: &[Name], name: &[u8]) -> bool
 
 /// Whether both reads are of the same belief of the same context.
 fn same_read(read: &NamedRead, other: &NamedRead) -> bool
-    ensures { IsTrue result ↔ (read_of read.now ≡ read_of other.now) }
+    ensures { IsTrue result ↔ (named_read_of read.now ≡ named_read_of other.now) }
 {
     read.context.is(&other.context) && same_formula(&read.belief, &other.belief)
 }
@@ -62,7 +62,7 @@ pub(crate) fn is_input(inputs: Vars, number: usize) -> bool
 impl Watch {
     /// The lowest fault of the token, if it has one.
     pub(crate) fn fault_of(&self, said: &Said) -> Option<Fault>
-        ensures { (before : List Use) (m : Entry) (a : About) → IsAsked self.now before m a said.now → IsTold result before m }
+        ensures { (before : List Use) (m : Entry) (a : About) → IsEntryAsked self.now before m a said.now → IsLowestFault result before m }
     {
         if self.names_no_context(said) {
             return Some(Fault::NoContext);
@@ -83,7 +83,7 @@ impl Watch {
 
     /// Whether the token exceeds the limit.
     fn exceeds(&self, limit: Limit, said: &Said) -> bool
-        ensures { Tells result (IsBeyond limit) self.now said.now }
+        ensures { AnswersTest result (ExceedsLimit limit) self.now said.now }
     {
         match limit {
             Limit::Contexts => self.exceeds_contexts(said),
@@ -103,7 +103,7 @@ impl Watch {
 
     /// Whether the token has to name a context, and no context has this name.
     fn names_no_context(&self, said: &Said) -> bool
-        ensures { Tells result (Has faults.NoContext) self.now said.now }
+        ensures { AnswersTest result (Has faults.NoContext) self.now said.now }
     {
         match said.uses.role {
             Role::NamesTarget | Role::NamesSource => !self.is_context(said.token),
@@ -113,7 +113,7 @@ impl Watch {
 
     /// Whether the token introduces a context or a rule, and an earlier one has this name.
     fn names_a_twin(&self, said: &Said) -> bool
-        ensures { Tells result (Has faults.Twin) self.now said.now }
+        ensures { AnswersTest result (Has faults.Twin) self.now said.now }
     {
         match said.uses.role {
             Role::NamesContext => self.is_context(said.token),
@@ -124,7 +124,7 @@ impl Watch {
 
     /// Whether the token begins a head into a program, or a belief of a program, and is not an atom.
     fn begins_no_atom(&self, said: &Said) -> bool
-        ensures { Tells result (Has faults.NoAtom) self.now said.now }
+        ensures { AnswersTest result (Has faults.NoAtom) self.now said.now }
     {
         if is_name_word(said.token) {
             return false;
@@ -135,7 +135,7 @@ impl Watch {
     /// The index of the read among the variables, or the number of variables if it is none of them. For `None`, which
     /// is a read with a name that is too long, it is the number of variables too.
     pub(crate) fn variable_number(&self, read: Option<&NamedRead>) -> usize
-        ensures some { (r : code_read.NamedRead) → option_copied read.entry ≡ Some r → IsNumberOf (map read_of self.now.variables.items) (read_of r) result }
+        ensures some { (r : code_read.NamedRead) → option_copied read.entry ≡ Some r → IsNumberOf (map named_read_of self.now.variables.items) (named_read_of r) result }
         ensures none { option_copied read.entry ≡ None → result ≡ length self.now.variables.items }
     {
         let Some(read) = read else {
@@ -151,7 +151,7 @@ impl Watch {
 
     /// Whether the token begins a context, and there are as many as the limit.
     fn exceeds_contexts(&self, said: &Said) -> bool
-        ensures { Tells result (IsBeyond Limit.Contexts) self.now said.now }
+        ensures { AnswersTest result (ExceedsLimit Limit.Contexts) self.now said.now }
     {
         match said.uses.role {
             Role::BeginsContext => self.contexts_begun == Limit::Contexts.most(),
@@ -161,7 +161,7 @@ impl Watch {
 
     /// Whether the token begins a bridge rule, and there are as many as the limit.
     fn exceeds_bridges(&self, said: &Said) -> bool
-        ensures { Tells result (IsBeyond Limit.Bridges) self.now said.now }
+        ensures { AnswersTest result (ExceedsLimit Limit.Bridges) self.now said.now }
     {
         match said.uses.role {
             Role::BeginsBridge => self.bridges_begun == Limit::Bridges.most(),
@@ -171,7 +171,7 @@ impl Watch {
 
     /// Whether the token names the target of a rule, and there are as many rules into it as the limit.
     fn exceeds_rules(&self, said: &Said) -> bool
-        ensures { Tells result (IsBeyond Limit.RulesPerContext) self.now said.now }
+        ensures { AnswersTest result (ExceedsLimit Limit.RulesPerContext) self.now said.now }
     {
         match said.uses.role {
             Role::NamesTarget => self.rules_into(self.number_of(said.token))
@@ -182,7 +182,7 @@ impl Watch {
 
     /// Whether the token ends a read of a further variable, and there are as many as the limit.
     fn exceeds_variables(&self, said: &Said) -> bool
-        ensures { Tells result (IsBeyond Limit.Variables) self.now said.now }
+        ensures { AnswersTest result (ExceedsLimit Limit.Variables) self.now said.now }
     {
         if self.variables.len() < Limit::Variables.most() {
             return false;
@@ -192,7 +192,7 @@ impl Watch {
 
     /// Whether the token ends a read of a further input of the target, and there are as many as the limit.
     fn exceeds_inputs(&self, said: &Said) -> bool
-        ensures { Tells result (IsBeyond Limit.InputsPerContext) self.now said.now }
+        ensures { AnswersTest result (ExceedsLimit Limit.InputsPerContext) self.now said.now }
     {
         let Some(target) = self.contexts.get(said.subject.target) else {
             return false;
@@ -205,7 +205,7 @@ impl Watch {
 
     /// Whether the token is a further atom of the context, and there are as many as the limit.
     fn exceeds_atoms(&self, said: &Said) -> bool
-        ensures { Tells result (IsBeyond Limit.AtomsPerContext) self.now said.now }
+        ensures { AnswersTest result (ExceedsLimit Limit.AtomsPerContext) self.now said.now }
     {
         let Some(context) = self.contexts.get(said.subject.context) else {
             return false;
@@ -221,7 +221,7 @@ impl Watch {
 
     /// Whether the token begins a default of the context, and there are as many as the limit.
     fn exceeds_defaults(&self, said: &Said) -> bool
-        ensures { Tells result (IsBeyond Limit.DefaultsPerContext) self.now said.now }
+        ensures { AnswersTest result (ExceedsLimit Limit.DefaultsPerContext) self.now said.now }
     {
         match said.uses.role {
             Role::BeginsDefault => self.defaults_of(said.subject.context)
@@ -232,7 +232,7 @@ impl Watch {
 
     /// Whether the token begins an item of the context, and there are as many as the limit.
     fn exceeds_items(&self, said: &Said) -> bool
-        ensures { Tells result (IsBeyond Limit.ItemsPerContext) self.now said.now }
+        ensures { AnswersTest result (ExceedsLimit Limit.ItemsPerContext) self.now said.now }
     {
         said.uses.begins_item
             && self.items_of(said.subject.context) == Limit::ItemsPerContext.most()
@@ -240,7 +240,7 @@ impl Watch {
 
     /// Whether the token is the first of a formula, or the first name of a program rule, that exceeds the limit.
     fn exceeds_size(&self, said: &Said) -> bool
-        ensures { Tells result (IsBeyond Limit.FormulaSize) self.now said.now }
+        ensures { AnswersTest result (ExceedsLimit Limit.FormulaSize) self.now said.now }
     {
         match said.uses.role {
             Role::Atom { number } => number == Limit::FormulaSize.most() + 1,
@@ -251,7 +251,7 @@ impl Watch {
 
     /// Whether the token opens a parenthesis, and as many are open as the limit.
     fn exceeds_open(&self, said: &Said) -> bool
-        ensures { Tells result (IsBeyond Limit.OpenParentheses) self.now said.now }
+        ensures { AnswersTest result (ExceedsLimit Limit.OpenParentheses) self.now said.now }
     {
         match said.uses.role {
             Role::Opens { within } => within == Limit::OpenParentheses.most(),
@@ -261,7 +261,7 @@ impl Watch {
 
     /// Whether the token is a name that is longer than the limit.
     fn exceeds_bytes(&self, said: &Said) -> bool
-        ensures { Tells result (IsBeyond Limit.NameBytes) self.now said.now }
+        ensures { AnswersTest result (ExceedsLimit Limit.NameBytes) self.now said.now }
     {
         is_name_word(said.token) && said.token.len() > Limit::NameBytes.most()
     }

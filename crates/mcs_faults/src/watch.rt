@@ -9,7 +9,7 @@ ghost use Rattle.mcs_grammar.specs.Entries.{Entry, SaysProgram, Use};
 ghost use Rattle.mcs_grammar.specs.Faults.{begins_default_of, begins_item_of, names_target};
 ghost use Rattle.mcs_reader.specs.TextSteps as written;
 ghost use Rattle.mcs_reader.specs.TextImages.{About, IsAt, subject_at};
-ghost use Rattle.mcs_faults.specs.Watching.{IsNumberOf, IsSaid, IsSpokenOf, IsSubject, IsVerdict, IsWatch, names_seen};
+ghost use Rattle.mcs_faults.specs.Watching.{IsNumberOf, IsSaid, IsSpokenOf, IsSubject, IsFaultVerdict, IsWatch, names_seen};
 
 use crate::fault::Fault;
 use mcs_base::{Memory, Vars};
@@ -89,7 +89,7 @@ impl Watch {
         token: &[u8],
         read: Option<&NamedRead>,
     ) -> Result<Option<Fault>, Memory>
-        ensures { (before : List Use) (m : Entry) (a : About) → IsWatch self.old before → m.token ≡ token.now → IsSubject self.old a.subject subject → IsSaid a m uses (option_copied read.entry) → AllByRecursion (IsSpokenOf before) m.uses → IfOk result (λ fault. IsVerdict fault before m self.new) }
+        ensures { (before : List Use) (m : Entry) (a : About) → IsWatch self.old before → m.token ≡ token.now → IsSubject self.old a.subject subject → IsSaid a m uses (option_copied read.entry) → AllByRecursion (IsSpokenOf before) m.uses → IfOk result (λ fault. IsFaultVerdict fault before m self.new) }
     {
         let said = Said {
             subject,

@@ -8,7 +8,7 @@ use Rattle.mcs_grammar.specs.declared.formula.Pending as code_pending
 use Rattle.mcs_grammar.specs.Written.{Written}
 use Rattle.mcs_grammar.specs.Entries.{formula_in}
 use Rattle.mcs_grammar.specs.FormulaSteps.{Pending, Tilde, Parenthesis, And, Or, Implies, Iff, PartFormula, join, settle, level_of, reduce}
-use Rattle.mcs_grammar.specs.FormulaImages.{waiting_of, waiting_in, waiting_level, made, AreStacked, AreImages}
+use Rattle.mcs_grammar.specs.FormulaImages.{waiting_of, waiting_in, waiting_level, joined_operand, AreStacked, AreImages}
 use Rattle.mcs_grammar.proofs.FormulaForward.{with_operand}
 
 -- ---- the last of what waits
@@ -40,7 +40,7 @@ level-same (Or l) = refl
 level-same (Implies l) = refl
 level-same (Iff l) = refl
 
-made-same : (p : Pending) (w : Written) → made (waiting_in p) (formula_in w) ≡ formula_in (join p w)
+made-same : (p : Pending) (w : Written) → joined_operand (waiting_in p) (formula_in w) ≡ formula_in (join p w)
 made-same Tilde w = refl
 made-same Parenthesis w = refl
 made-same (And l) w = refl
@@ -96,7 +96,7 @@ left-first way items f ps w h e = (ps, (w, (h, e, refl)))
 module _ (way : Way) (items left below : List code_pending.Pending) (last : code_pending.Pending) (f g : code_formula.Formula) (so_far : IsLeft way items f left g) (popped : left ≡ below ++ last ∷ []) where
   -- the last one gets its operand, and it goes on
   pub left-joined : (g' : code_formula.Formula) → ((p : Pending) (ps : List Pending) (w : Written) → level_of p ≡ waiting_level (waiting_of last) → way (p ∷ ps) w ≡ way ps (join p w))
-      → formula_of g' ≡ made (waiting_of last) (formula_of g) → IsLeft way items f below g'
+      → formula_of g' ≡ joined_operand (waiting_of last) (formula_of g) → IsLeft way items f below g'
   left-joined g' steps e ps w h same =
       let s = so_far ps w h same in
       let r = last-of left below last s.0 s.1.1.0 popped in (
@@ -105,7 +105,7 @@ module _ (way : Way) (items left below : List code_pending.Pending) (last : code
           join r.first s.1.0,
           (
             r.stacked,
-            e ∙ ap (λ x. made x (formula_of g)) r.same ∙ ap (made (waiting_in r.first)) s.1.1.1 ∙ made-same r.first s.1.0,
+            e ∙ ap (λ x. joined_operand x (formula_of g)) r.same ∙ ap (joined_operand (waiting_in r.first)) s.1.1.1 ∙ made-same r.first s.1.0,
             s.1.1.2 ∙ ap (λ l. way l s.1.0) r.is ∙ steps r.first r.rest s.1.0 (sym (level-same r.first) ∙ ap waiting_level (sym r.same)),
           ),
         ),
@@ -113,12 +113,12 @@ module _ (way : Way) (items left below : List code_pending.Pending) (last : code
 
   -- the last one gets its operand, and that is all
   pub made-joined : (g' : code_formula.Formula) → ((p : Pending) (ps : List Pending) (w : Written) → level_of p ≡ waiting_level (waiting_of last) → way (p ∷ ps) w ≡ with_operand ps (join p w))
-      → formula_of g' ≡ made (waiting_of last) (formula_of g) → IsMade way items f below g'
+      → formula_of g' ≡ joined_operand (waiting_of last) (formula_of g) → IsMade way items f below g'
   made-joined g' steps e ps w h same =
       let s = so_far ps w h same in
       let r = last-of left below last s.0 s.1.1.0 popped in
       let is : way ps w ≡ with_operand r.rest (join r.first s.1.0) = s.1.1.2 ∙ ap (λ l. way l s.1.0) r.is ∙ steps r.first r.rest s.1.0 (sym (level-same r.first) ∙ ap waiting_level (sym r.same)) in
-      let here : AreImages below (Some g') (with_operand r.rest (join r.first s.1.0)) = (r.stacked, e ∙ ap (λ x. made x (formula_of g)) r.same ∙ ap (made (waiting_in r.first)) s.1.1.1 ∙ made-same r.first s.1.0) in
+      let here : AreImages below (Some g') (with_operand r.rest (join r.first s.1.0)) = (r.stacked, e ∙ ap (λ x. joined_operand x (formula_of g)) r.same ∙ ap (joined_operand (waiting_in r.first)) s.1.1.1 ∙ made-same r.first s.1.0) in
       subst (AreImages below (Some g')) (sym is) here
 
   -- the last one waits on

@@ -9,7 +9,7 @@ use Rattle.mcs_tokens.specs.declared.scan.Span.{Span}
 use Rattle.mcs_tokens.proofs.Unique.{spans_few}
 use Rattle.mcs_grammar.specs.Written.{Written, WrittenDefault, WrittenItem, Fact, Rule, WrittenKb, Classical, DefaultTheory, Program, WrittenContext}
 use Rattle.mcs_grammar.specs.Entries.{Token, Use, BeginsItem, BeginsDefault, Entry, entry, formula_in, with_first, whole_entries, after_sign, default_entries, item_entries, ended, kb_entries, context_entries, bridge_entries, text_entries}
-use Rattle.mcs_grammar.specs.Saying.{default_in, item_in, kb_in, context_in}
+use Rattle.mcs_grammar.specs.Saying.{default_said, item_in, kb_in, context_in}
 use Rattle.mcs_grammar.specs.Texts.{SpelledDefaultsAreShort}
 
 -- each of the formulas after a sign has a token
@@ -26,7 +26,7 @@ ended_keeps c ms = omega (arith, length-append {A = Entry}, with_first_keeps (Be
 
 -- where the tokens of the part are no more than the number
 module _ (n : ℕ) where
-  default_justified : (c : Name) (d : WrittenDefault) → length (default_entries c d) ≤ n → length (default_in d).justs ≤ n
+  default_justified : (c : Name) (d : WrittenDefault) → length (default_entries c d) ≤ n → length (default_said d).justs ≤ n
   default_justified c d few =
       let first = whole_entries c d.first_just in
       let justs = flat_map (after_sign (codes ",") c) d.justs in

@@ -5,15 +5,15 @@ use Rattle.mcs_system.specs.declared.limit.Limit.TheVariants.{Contexts, Bridges,
 use Rattle.mcs_tokens.specs.declared.scan.Span.{Span}
 use Rattle.mcs_tokens.proofs.Unique.{lists_are_unique}
 use Rattle.mcs_grammar.specs.Entries.{Token}
-use Rattle.mcs_grammar.specs.Faults.{Fault, NoGrammar, NoContext, Twin, NoAtom, Exceeds, number_of, limit_of, rank, IsFaultAt, IsFirstFault}
+use Rattle.mcs_grammar.specs.Faults.{TextFault, NoGrammar, NoContext, Twin, NoAtom, Exceeds, fault_number, limit_of, rank, IsFaultAt, IsFirstTextFault}
 use Rattle.mcs_grammar.specs.Texts.{token_texts, offset_of, TextsHaveOneFault, SpelledTextsHaveNoFault}
 use Rattle.mcs_grammar.proofs.RankLemmas.{in_order}
 
 -- ---- a rank is that of one fault
-abbrev with_rank : ℕ → Fault
+abbrev with_rank : ℕ → TextFault
 with_rank k = get_or (NoGrammar ∷ NoGrammar ∷ NoContext ∷ Twin ∷ NoAtom ∷ map Exceeds in_order) k NoGrammar
 
-of-rank : (f : Fault) → with_rank (rank f) ≡ f
+of-rank : (f : TextFault) → with_rank (rank f) ≡ f
 of-rank NoGrammar = refl
 of-rank NoContext = refl
 of-rank Twin = refl
@@ -31,11 +31,11 @@ of-rank (Exceeds FormulaSize) = refl
 of-rank (Exceeds OpenParentheses) = refl
 of-rank (Exceeds NameBytes) = refl
 
-rank-one : (f g : Fault) → rank f ≡ rank g → f ≡ g
+rank-one : (f g : TextFault) → rank f ≡ rank g → f ≡ g
 rank-one f g same = sym (of-rank f) ∙ ap with_rank same ∙ of-rank g
 
 -- ---- the first fault is one
-module _ (ts : List Token) (j k : ℕ) (f g : Fault) (a : IsFirstFault ts j f) (b : IsFirstFault ts k g) where
+module _ (ts : List Token) (j k : ℕ) (f g : TextFault) (a : IsFirstTextFault ts j f) (b : IsFirstTextFault ts k g) where
   same-token : j ≡ k
   same-token = elim (cases_lt j k) [
     | inl less ↦ absurd (b.first j f less a.holds)
@@ -52,10 +52,10 @@ pub one-fault : TextsHaveOneFault
 one-fault bytes number number' limit limit' offset offset' h k =
     let spans : h.spans ≡ k.spans = lists_are_unique bytes 0 h.spans k.spans h.tokens k.tokens in
     let ts : List Token = token_texts bytes k.spans in
-    let first : IsFirstFault ts h.token h.fault = subst (λ (ss : List Span). IsFirstFault (token_texts bytes ss) h.token h.fault) spans h.first in
+    let first : IsFirstTextFault ts h.token h.fault = subst (λ (ss : List Span). IsFirstTextFault (token_texts bytes ss) h.token h.fault) spans h.first in
     let token : h.token ≡ k.token = same-token ts h.token k.token h.fault k.fault first k.first in
     let fault : h.fault ≡ k.fault = same-fault ts h.token k.token h.fault k.fault first k.first in (
-      h.number_is ∙ ap number_of fault ∙ sym k.number_is,
+      h.number_is ∙ ap fault_number fault ∙ sym k.number_is,
       h.limit_is ∙ ap limit_of fault ∙ sym k.limit_is,
       h.offset_is ∙ ap (λ (ss : List Span). offset_of bytes ss h.token) spans ∙ ap (offset_of bytes k.spans) token ∙ sym k.offset_is,
     )

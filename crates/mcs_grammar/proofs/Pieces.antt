@@ -5,7 +5,7 @@ use Rattle.std.proofs.lemmas.Bool.{cases_lt}
 use Rattle.std.proofs.lemmas.List.{append_assoc}
 use Rattle.std.specs.Prelude.{slice_index, slice_range}
 use Rattle.mcs_base.proofs.Lists.{drop_past, drop_fits, drop-cons_within}
-use Rattle.mcs_tokens.specs.Tokens.{is_separator, hash, IsInComment, IsGapByte, IsGap, IsToken, IsNext, AreTokens}
+use Rattle.mcs_tokens.specs.Tokens.{is_separator, hash, IsInComment, IsGapByte, IsGap, IsToken, IsNextToken, AreTokens}
 use Rattle.mcs_tokens.specs.declared.scan.Span.{Span}
 use Rattle.mcs_grammar.specs.Entries.{Token}
 use Rattle.mcs_grammar.specs.Texts.{token_texts}
@@ -87,7 +87,7 @@ tokens-from bytes [] at from after inside gap none e h =
     let end : from ≡ length bytes = (let size = ap length e in omega (arith, size, length-drop from bytes)) in
     record {
       spans = [];
-      are = subst (λ (n : ℕ). IsNext bytes at n n) end (record { after = after; gap = gap; token = inr (end, end) });
+      are = subst (λ (n : ℕ). IsNextToken bytes at n n) end (record { after = after; gap = gap; token = inr (end, end) });
       texts = refl;
     }
 tokens-from bytes (Blank b ∷ ps) at from after inside gap none e h =

@@ -12,7 +12,7 @@ use Rattle.mcs_grammar.specs.declared.formula.Answer.TheVariants as answers
 use Rattle.mcs_grammar.specs.Written.{Written}
 use Rattle.mcs_grammar.specs.Entries.{Token, size_of}
 use Rattle.mcs_grammar.specs.FormulaSteps.{Pending, Tilde, Parenthesis, PartFormula, settle, waits, size_all, size_operand, size_so_far, opened_so_far, is_parenthesis, finished_primary}
-use Rattle.mcs_grammar.specs.FormulaImages.{one_more, AreStacked, IsImage, AreImages, IsReader, IsWaitingMore, IsAnswer}
+use Rattle.mcs_grammar.specs.FormulaImages.{one_more, AreStacked, IsImage, AreImages, IsReader, IsWaitingMore, IsReaderAnswer}
 use Rattle.mcs_grammar.proofs.FormulaParts.{opened, opened-more}
 use Rattle.mcs_grammar.proofs.FormulaForward.{settled}
 use Rattle.mcs_grammar.proofs.ImageLemmas.{none-of, stacked-more}
@@ -104,8 +104,8 @@ reader-open old now s h none items operand count depth small =
     }
 
 -- ---- answers
-pub ok-taken : (r : Result code_answer.Answer Memory) (X : Type 0) (old now : FormulaReader) (s : PartFormula) (t : Token) → IfOk r (λ a. a ≡ answers.Taken) → IfOk r (λ a. X) → (X → IsAnswer answers.Taken old now s t) → IfOk r (λ a. IsAnswer a old now s t)
-ok-taken (Ok a) X old now s t is x then' = subst (λ b. IsAnswer b old now s t) (sym is) (then' x)
+pub ok-taken : (r : Result code_answer.Answer Memory) (X : Type 0) (old now : FormulaReader) (s : PartFormula) (t : Token) → IfOk r (λ a. a ≡ answers.Taken) → IfOk r (λ a. X) → (X → IsReaderAnswer answers.Taken old now s t) → IfOk r (λ a. IsReaderAnswer a old now s t)
+ok-taken (Ok a) X old now s t is x then' = subst (λ b. IsReaderAnswer b old now s t) (sym is) (then' x)
 ok-taken (Err e) X old now s t is x then' = tt
 
 pub primary-taken : (old now : FormulaReader) (s : PartFormula) (w : Written) (r : Result code_answer.Answer Memory) {n : ℕ} → IsReader old s → old.operand ≡ None → size_of w ≡ 1 → IfOk r (λ a. AreImages now.pending.items now.operand (settle s.pending w))

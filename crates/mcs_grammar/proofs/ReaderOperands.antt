@@ -18,7 +18,7 @@ use Rattle.mcs_grammar.specs.declared.formula.Answer.TheVariants as answers
 use Rattle.mcs_grammar.specs.Written.{Written}
 use Rattle.mcs_grammar.specs.Entries.{Token, Entry}
 use Rattle.mcs_grammar.specs.FormulaSteps.{Pending, PartFormula, is_name_word, formula_step}
-use Rattle.mcs_grammar.specs.FormulaImages.{IsReader, IsAnswer}
+use Rattle.mcs_grammar.specs.FormulaImages.{IsReader, IsReaderAnswer}
 use Rattle.mcs_grammar.proofs.FormulaForward.{waiting_for}
 use Rattle.mcs_grammar.proofs.ReaderLemmas.{none-there}
 
@@ -26,11 +26,11 @@ use Rattle.mcs_grammar.proofs.ReaderLemmas.{none-there}
 pub at-none : (P : PartFormula → Type 0) (s : PartFormula) → s.operand ≡ None → P (waiting_for s.pending) → P s
 at-none P s e h = let same : s ≡ waiting_for s.pending = ap {B = PartFormula} (λ (o : Option Written). record { pending = s.pending; operand = o }) e in subst P (sym same) h
 
-pub answer-at : (old now : FormulaReader) (s s' : PartFormula) (t : Token) → IsReader old s → old.operand ≡ None → ((c : Name) → (m : Entry) × (formula_step c (waiting_for s.pending) t ≡ Some (m, s'))) → IsReader now s' → IsAnswer answers.Taken old now s t
+pub answer-at : (old now : FormulaReader) (s s' : PartFormula) (t : Token) → IsReader old s → old.operand ≡ None → ((c : Name) → (m : Entry) × (formula_step c (waiting_for s.pending) t ≡ Some (m, s'))) → IsReader now s' → IsReaderAnswer answers.Taken old now s t
 answer-at old now s s' t h none step reader =
-    at-none (λ x. IsAnswer answers.Taken old now x t) s (none-there old s h none) (λ c. let k = step c in ((k.0, s'), (k.1, reader)))
+    at-none (λ x. IsReaderAnswer answers.Taken old now x t) s (none-there old s h none) (λ c. let k = step c in ((k.0, s'), (k.1, reader)))
 
-pub refused-at : (old now : FormulaReader) (s : PartFormula) (t : Token) → IsReader old s → old.operand ≡ None → now ≡ old → ((c : Name) → formula_step c (waiting_for s.pending) t ≡ None) → IsAnswer answers.Refused old now s t
+pub refused-at : (old now : FormulaReader) (s : PartFormula) (t : Token) → IsReader old s → old.operand ≡ None → now ≡ old → ((c : Name) → formula_step c (waiting_for s.pending) t ≡ None) → IsReaderAnswer answers.Refused old now s t
 refused-at old now s t h none same step = (λ c. at-none (λ x. formula_step c x t ≡ None) s (none-there old s h none) (step c), same)
 
 -- ---- signs

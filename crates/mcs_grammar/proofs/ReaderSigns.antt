@@ -25,7 +25,7 @@ use Rattle.mcs_grammar.specs.declared.formula.Answer.TheVariants as answers
 use Rattle.mcs_grammar.specs.Written.{Written, Grouped}
 use Rattle.mcs_grammar.specs.Entries.{Token, entry, formula_in, size_of}
 use Rattle.mcs_grammar.specs.FormulaSteps.{Pending, Tilde, Parenthesis, And, Or, Implies, Iff, PartFormula, join, settle, level_of, reduce, behind, closed, size_pending, size_all, size_so_far, opened_so_far, numbered_entry, formula_step}
-use Rattle.mcs_grammar.specs.FormulaImages.{waiting_of, waiting_in, AreStacked, IsImage, AreImages, IsReader, IsWaitingMore, IsAnswer}
+use Rattle.mcs_grammar.specs.FormulaImages.{waiting_of, waiting_in, AreStacked, IsImage, AreImages, IsReader, IsWaitingMore, IsReaderAnswer}
 use Rattle.mcs_grammar.proofs.FormulaParts.{opened, opened-more}
 use Rattle.mcs_grammar.proofs.FormulaForward.{waiting_for, with_operand, LastOperand, last-operand, same-operand, Stays, close-steps}
 use Rattle.mcs_grammar.proofs.FormulaSound.{join-size}
@@ -49,21 +49,21 @@ at-some P s w e h = let same : s ≡ with_operand s.pending w = ap {B = PartForm
 abbrev pub holding : FormulaReader → code_formula.Formula → FormulaReader
 holding r f = record r { operand = Some f }
 
-pub refused-answer : (a : code_answer.Answer) (old now : FormulaReader) (s : PartFormula) (t : Token) → a ≡ answers.Refused → now ≡ old → ((c : Name) → formula_step c s t ≡ None) → IsAnswer a old now s t
-refused-answer a old now s t is same step = let here : IsAnswer answers.Refused old now s t = (step, same) in subst (λ b. IsAnswer b old now s t) (sym is) here
+pub refused-answer : (a : code_answer.Answer) (old now : FormulaReader) (s : PartFormula) (t : Token) → a ≡ answers.Refused → now ≡ old → ((c : Name) → formula_step c s t ≡ None) → IsReaderAnswer a old now s t
+refused-answer a old now s t is same step = let here : IsReaderAnswer answers.Refused old now s t = (step, same) in subst (λ b. IsReaderAnswer b old now s t) (sym is) here
 
 pub refused-some : (a : code_answer.Answer) (r : FormulaReader) (f : code_formula.Formula) (now : FormulaReader) (s : PartFormula) (t : Token) → IsReader (holding r f) s → a ≡ answers.Refused → now ≡ holding r f
-    → ((c : Name) (ps : List Pending) (w : Written) → formula_step c (with_operand ps w) t ≡ None) → IsAnswer a (holding r f) now s t
+    → ((c : Name) (ps : List Pending) (w : Written) → formula_step c (with_operand ps w) t ≡ None) → IsReaderAnswer a (holding r f) now s t
 refused-some a r f now s t h is same step =
     let there = some-there f s.operand h.last in
     refused-answer a (holding r f) now s t is same (λ c. at-some (λ x. formula_step c x t ≡ None) s there.written there.is (step c s.pending there.written))
 
 -- the same of a reader that holds it
 pub refused-kept : (a : code_answer.Answer) (old : FormulaReader) (f : code_formula.Formula) (now : FormulaReader) (s : PartFormula) (t : Token) → IsReader old s → old.operand ≡ Some f → a ≡ answers.Refused → now ≡ holding old f
-    → ((c : Name) (ps : List Pending) (w : Written) → formula_step c (with_operand ps w) t ≡ None) → IsAnswer a old now s t
+    → ((c : Name) (ps : List Pending) (w : Written) → formula_step c (with_operand ps w) t ≡ None) → IsReaderAnswer a old now s t
 refused-kept a old f now s t h e is same step =
     let here : holding old f ≡ old = ap {B = FormulaReader} (λ (o : Option code_formula.Formula). record old { operand = o }) (sym e) in
-    subst (λ (r : FormulaReader). IsAnswer a r now s t) here (refused-some a old f now s t (subst (λ (r : FormulaReader). IsReader r s) (sym here) h) is same step)
+    subst (λ (r : FormulaReader). IsReaderAnswer a r now s t) here (refused-some a old f now s t (subst (λ (r : FormulaReader). IsReader r s) (sym here) h) is same step)
 
 -- ---- what is left where low levels have their operand
 pub record IsShaped (most : ℕ) (ps : List Pending) (w : Written) (s : PartFormula) : Type 0 where
@@ -95,7 +95,7 @@ module _ (old : FormulaReader) (f : code_formula.Formula) (none : old.operand �
     (image : (w : Written) → formula_of g ≡ formula_in w → waiting_of waiting ≡ waiting_in (make w)) (sizes : (w : Written) → size_pending (make w) ≡ size_of w + 1) (opens : (w : Written) (ps : List Pending) → opened (make w ∷ ps) ≡ opened ps)
     (steps : (c : Name) (qs : List Pending) (w : Written) → formula_step c (with_operand qs w) t ≡ Some (numbered_entry (with_operand qs w) t [], behind make (reduce most qs w)))
     (images : (ps : List Pending) (w : Written) → AreStacked old.pending.items ps → formula_of f ≡ formula_in w → AreImages mid.pending.items (Some g) (reduce most ps w)) (more : IsWaitingMore mid now waiting) where
-  joined-at : (ps : List Pending) (w : Written) → IsReader (holding old f) (with_operand ps w) → IsAnswer answers.Taken (holding old f) now (with_operand ps w) t
+  joined-at : (ps : List Pending) (w : Written) → IsReader (holding old f) (with_operand ps w) → IsReaderAnswer answers.Taken (holding old f) now (with_operand ps w) t
   joined-at ps w h =
       let q = (shaped most ps w four).operand in
       let made : AreImages mid.pending.items (Some g) (with_operand q.left q.last) = subst (AreImages mid.pending.items (Some g)) q.is (images ps w h.waits h.last) in
@@ -111,10 +111,10 @@ module _ (old : FormulaReader) (f : code_formula.Formula) (none : old.operand �
       } in
       λ c. ((numbered_entry (with_operand ps w) t [], waiting_for (make q.last ∷ q.left)), (steps c ps w ∙ ap (λ x. Some (numbered_entry (with_operand ps w) t [], behind make x)) q.is, reader))
 
-  pub joined-taken : (s : PartFormula) → IsReader (holding old f) s → IsAnswer answers.Taken (holding old f) now s t
+  pub joined-taken : (s : PartFormula) → IsReader (holding old f) s → IsReaderAnswer answers.Taken (holding old f) now s t
   joined-taken s h =
       let there = some-there f s.operand h.last in
-      at-some (λ x. IsReader (holding old f) x → IsAnswer answers.Taken (holding old f) now x t) s there.written there.is (λ k. joined-at s.pending there.written k) h
+      at-some (λ x. IsReader (holding old f) x → IsReaderAnswer answers.Taken (holding old f) now x t) s there.written there.is (λ k. joined-at s.pending there.written k) h
 
 -- ---- a parenthesis that closes
 none-closed : (left : List Pending) (last : Written) → Stays 4 left → opened left ≡ 0 → closed (with_operand left last) ≡ None
@@ -126,7 +126,7 @@ none-closed (Or l ∷ ls) last h e = absurd (omega (arith, h))
 none-closed (Implies l ∷ ls) last h e = absurd (omega (arith, h))
 none-closed (Iff l ∷ ls) last h e = absurd (omega (arith, h))
 
-pub close-refused : (a : code_answer.Answer) (old : FormulaReader) (f : code_formula.Formula) (now : FormulaReader) (s : PartFormula) → IsReader (holding old f) s → old.opened ≡ 0 → a ≡ answers.Refused → now ≡ holding old f → IsAnswer a (holding old f) now s (codes ")")
+pub close-refused : (a : code_answer.Answer) (old : FormulaReader) (f : code_formula.Formula) (now : FormulaReader) (s : PartFormula) → IsReader (holding old f) s → old.opened ≡ 0 → a ≡ answers.Refused → now ≡ holding old f → IsReaderAnswer a (holding old f) now s (codes ")")
 close-refused a old f now s h none is same =
     let there = some-there f s.operand h.last in
     let shape = shaped 4 s.pending there.written (omega arith) in
@@ -158,7 +158,7 @@ popped-stack items popped p ps h e =
 
 closed-next : (old : FormulaReader) (f : code_formula.Formula) (now : FormulaReader) (ps ls : List Pending) (w last : Written) → IsReader (holding old f) (with_operand ps w) → reduce 4 ps w ≡ with_operand (Parenthesis ∷ ls) last
     → size_all (Parenthesis ∷ ls) + size_of last ≡ size_all ps + size_of w → opened (Parenthesis ∷ ls) ≡ opened ps → (r : Result code_answer.Answer Memory) → IfOk r (λ a. a ≡ answers.Taken)
-    → IfOk r (λ a. AreImages now.pending.items now.operand (settle ls (Grouped last))) → IfOk r (λ a. (now.counted ≡ old.counted) × (now.opened ≡ old.opened - 1)) → IfOk r (λ a. IsAnswer a (holding old f) now (with_operand ps w) (codes ")"))
+    → IfOk r (λ a. AreImages now.pending.items now.operand (settle ls (Grouped last))) → IfOk r (λ a. (now.counted ≡ old.counted) × (now.opened ≡ old.opened - 1)) → IfOk r (λ a. IsReaderAnswer a (holding old f) now (with_operand ps w) (codes ")"))
 closed-next old f now ps ls w last h next inside depth (Err e) is images counts = tt
 closed-next old f now ps ls w last h next inside depth (Ok a) is images counts =
     let before : old.counted ≡ min (size_all ps + size_of w) 18446744073709551615 = h.count in
@@ -171,15 +171,15 @@ closed-next old f now ps ls w last h next inside depth (Ok a) is images counts =
       count = omega (arith, counts.0, before, after, inside);
       depth = omega (arith, counts.1, deep, shallow, depth, opened-more ls);
     } in
-    let here : IsAnswer answers.Taken (holding old f) now (with_operand ps w) (codes ")") =
+    let here : IsReaderAnswer answers.Taken (holding old f) now (with_operand ps w) (codes ")") =
     λ c. ((entry (codes ")") [], settle ls (Grouped last)), (close-steps c ps w ∙ ap (λ x. option_map (λ (r : PartFormula). (entry (codes ")") [], r)) (closed x)) next, reader)) in
-    subst (λ b. IsAnswer b (holding old f) now (with_operand ps w) (codes ")")) (sym is) here
+    subst (λ b. IsReaderAnswer b (holding old f) now (with_operand ps w) (codes ")")) (sym is) here
 
 module _ (old : FormulaReader) (f : code_formula.Formula) (shut : ¬ (old.opened ≡ 0)) (mid popped : List code_pending.Pending) (g : code_formula.Formula)
     (images : (ps : List Pending) (w : Written) → AreStacked old.pending.items ps → formula_of f ≡ formula_in w → AreImages mid (Some g) (reduce 4 ps w)) (pops : popped ≡ take (length mid - 1) mid)
     (now : FormulaReader) (r : Result code_answer.Answer Memory) (taken : IfOk r (λ a. a ≡ answers.Taken))
     (settles : (ps : List Pending) (w : Written) → AreStacked popped ps → formula_of g ≡ formula_in w → IfOk r (λ a. AreImages now.pending.items now.operand (settle ps w))) (counts : IfOk r (λ a. (now.counted ≡ old.counted) × (now.opened ≡ old.opened - 1))) where
-  closed-at : (ps : List Pending) (w : Written) → IsReader (holding old f) (with_operand ps w) → IfOk r (λ a. IsAnswer a (holding old f) now (with_operand ps w) (codes ")"))
+  closed-at : (ps : List Pending) (w : Written) → IsReader (holding old f) (with_operand ps w) → IfOk r (λ a. IsReaderAnswer a (holding old f) now (with_operand ps w) (codes ")"))
   closed-at ps w h =
       let shape = shaped 4 ps w (omega arith) in
       let q = shape.operand in
@@ -193,10 +193,10 @@ module _ (old : FormulaReader) (f : code_formula.Formula) (shut : ¬ (old.opened
       let depth : opened (Parenthesis ∷ k.rest) ≡ opened ps = ap opened (sym k.is) ∙ q.opens in
       closed-next old f now ps k.rest w q.last h next inside depth r taken (settles k.rest (Grouped q.last) rest made.1) counts
 
-  pub closed-taken : (s : PartFormula) → IsReader (holding old f) s → IfOk r (λ a. IsAnswer a (holding old f) now s (codes ")"))
+  pub closed-taken : (s : PartFormula) → IsReader (holding old f) s → IfOk r (λ a. IsReaderAnswer a (holding old f) now s (codes ")"))
   closed-taken s h =
       let there = some-there f s.operand h.last in
-      at-some (λ x. IsReader (holding old f) x → IfOk r (λ a. IsAnswer a (holding old f) now x (codes ")"))) s there.written there.is (λ k. closed-at s.pending there.written k) h
+      at-some (λ x. IsReader (holding old f) x → IfOk r (λ a. IsReaderAnswer a (holding old f) now x (codes ")"))) s there.written there.is (λ k. closed-at s.pending there.written k) h
 
 -- ---- other tokens
 pub no-joining : (g : Sign) → ¬ (g ≡ signs.Ampersand) → ¬ (g ≡ signs.Bar) → ¬ (g ≡ signs.Arrow) → ¬ (g ≡ signs.DoubleArrow) → ¬ (g ≡ signs.CloseParenthesis) → (c : Name) (ps : List Pending) (w : Written) → formula_step c (with_operand ps w) (sign_bytes g) ≡ None

@@ -61,26 +61,26 @@ WasAtom before context atom = IsAmong (AtomOf context atom) before
 
 -- ---- the faults, apart from the grammar's
 
-pub data Fault : Type 0 where
+pub data TextFault : Type 0 where
   -- the tokens up to this one begin no text
-  NoGrammar : Fault
+  NoGrammar : TextFault
   -- no context has the name
-  NoContext : Fault
+  NoContext : TextFault
   -- an earlier context, or an earlier rule, has the name
-  Twin : Fault
+  Twin : TextFault
   -- a head into a program or a belief of one is not an atom
-  NoAtom : Fault
+  NoAtom : TextFault
   -- one above a limit
-  Exceeds : (limit : Limit) → Fault
+  Exceeds : (limit : Limit) → TextFault
 
-abbrev pub number_of : Fault → ℕ
-number_of NoGrammar = 1
-number_of NoContext = 2
-number_of Twin = 3
-number_of NoAtom = 4
-number_of (Exceeds limit) = 5
+abbrev pub fault_number : TextFault → ℕ
+fault_number NoGrammar = 1
+fault_number NoContext = 2
+fault_number Twin = 3
+fault_number NoAtom = 4
+fault_number (Exceeds limit) = 5
 
-abbrev pub limit_of : Fault → Option Limit
+abbrev pub limit_of : TextFault → Option Limit
 limit_of (Exceeds limit) = Some limit
 limit_of fault = None
 
@@ -99,49 +99,49 @@ row OpenParentheses = 10
 row NameBytes = 11
 
 -- the lower one is told
-abbrev pub rank : Fault → ℕ
+abbrev pub rank : TextFault → ℕ
 rank (Exceeds limit) = 5 + row limit
-rank fault = number_of fault
+rank fault = fault_number fault
 
 -- what is there for this, and more of it than the limit allows
-abbrev pub IsBeyond : Limit → List Use → Entry → Type 0
-IsBeyond Contexts before m = IsAmong BeginsContext m.uses × (count_by begins_context before ≡ most Contexts)
-IsBeyond Bridges before m = IsAmong BeginsBridge m.uses × (count_by begins_bridge before ≡ most Bridges)
-IsBeyond RulesPerContext before m = (c : Name) × IsAmong (NamesTarget c) m.uses × (count_by (names_target c) before ≡ most RulesPerContext)
-IsBeyond Variables before m = (t : Name) × ((r : NamedRead) × IsAmong (EndsRead t r.context r.belief) m.uses × IsOneMore (most Variables) (WasRead before) r)
-IsBeyond InputsPerContext before m = (t : Name) × ((r : NamedRead) × IsAmong (EndsRead t r.context r.belief) m.uses × IsOneMore (most InputsPerContext) (WasReadInto before t) r)
-IsBeyond AtomsPerContext before m = (c : Name) × ((a : Name) × IsAmong (AtomOf c a) m.uses × IsOneMore (most AtomsPerContext) (WasAtom before c) a)
-IsBeyond DefaultsPerContext before m = (c : Name) × IsAmong (BeginsDefault c) m.uses × (count_by (begins_default_of c) before ≡ most DefaultsPerContext)
-IsBeyond ItemsPerContext before m = (c : Name) × IsAmong (BeginsItem c) m.uses × (count_by (begins_item_of c) before ≡ most ItemsPerContext)
+abbrev pub ExceedsLimit : Limit → List Use → Entry → Type 0
+ExceedsLimit Contexts before m = IsAmong BeginsContext m.uses × (count_by begins_context before ≡ most Contexts)
+ExceedsLimit Bridges before m = IsAmong BeginsBridge m.uses × (count_by begins_bridge before ≡ most Bridges)
+ExceedsLimit RulesPerContext before m = (c : Name) × IsAmong (NamesTarget c) m.uses × (count_by (names_target c) before ≡ most RulesPerContext)
+ExceedsLimit Variables before m = (t : Name) × ((r : NamedRead) × IsAmong (EndsRead t r.context r.belief) m.uses × IsOneMore (most Variables) (WasRead before) r)
+ExceedsLimit InputsPerContext before m = (t : Name) × ((r : NamedRead) × IsAmong (EndsRead t r.context r.belief) m.uses × IsOneMore (most InputsPerContext) (WasReadInto before t) r)
+ExceedsLimit AtomsPerContext before m = (c : Name) × ((a : Name) × IsAmong (AtomOf c a) m.uses × IsOneMore (most AtomsPerContext) (WasAtom before c) a)
+ExceedsLimit DefaultsPerContext before m = (c : Name) × IsAmong (BeginsDefault c) m.uses × (count_by (begins_default_of c) before ≡ most DefaultsPerContext)
+ExceedsLimit ItemsPerContext before m = (c : Name) × IsAmong (BeginsItem c) m.uses × (count_by (begins_item_of c) before ≡ most ItemsPerContext)
 -- a text gives no rule a weight
-IsBeyond Weight before m = ⊥
-IsBeyond FormulaSize before m = IsAmong (IsNumber (most FormulaSize + 1)) m.uses
-IsBeyond OpenParentheses before m = IsAmong (OpensWithin (most OpenParentheses)) m.uses
-IsBeyond NameBytes before m = IsNameWord m.token × (most_name_bytes < length m.token)
+ExceedsLimit Weight before m = ⊥
+ExceedsLimit FormulaSize before m = IsAmong (IsNumber (most FormulaSize + 1)) m.uses
+ExceedsLimit OpenParentheses before m = IsAmong (OpensWithin (most OpenParentheses)) m.uses
+ExceedsLimit NameBytes before m = IsNameWord m.token × (most_name_bytes < length m.token)
 
 -- of a token that is there for something, after what the tokens before it are there for
-abbrev pub Has : Fault → List Use → Entry → Type 0
+abbrev pub Has : TextFault → List Use → Entry → Type 0
 Has NoGrammar before m = ⊥
 Has NoContext before m = (c : Name) × (IsAmong (NamesTarget c) m.uses ⊎ IsAmong (NamesSource c) m.uses) × (¬ IsAmong (NamesContext c) before)
 Has Twin before m =
     ((c : Name) × IsAmong (NamesContext c) m.uses × IsAmong (NamesContext c) before)
     ⊎ ((b : Name) × IsAmong (NamesBridge b) m.uses × IsAmong (NamesBridge b) before)
 Has NoAtom before m = (c : Name) × IsAmong (BeginsBelief c) m.uses × IsAmong (SaysProgram c) before × (¬ IsNameWord m.token)
-Has (Exceeds limit) before m = IsBeyond limit before m
+Has (Exceeds limit) before m = ExceedsLimit limit before m
 
 -- ---- a fault at the token of number k, counted from 0; the end counts as one more token
 
 -- the tokens are the first ones of a text
-pub record Begins (tokens : List Token) : Type 0 where
+pub record BeginsText (tokens : List Token) : Type 0 where
   pub text : WrittenText
   pub grammar : IsText text
   pub first : take (length tokens) (tokens_of (text_entries text)) ≡ tokens
 
-abbrev pub IsWhole : List Token → Type 0
-IsWhole tokens = (text : WrittenText) × IsText text × (tokens_of (text_entries text) ≡ tokens)
+abbrev pub IsWholeText : List Token → Type 0
+IsWholeText tokens = (text : WrittenText) × IsText text × (tokens_of (text_entries text) ≡ tokens)
 
 -- the first k + 1 tokens are those of a text, in which token k has the fault
-pub record IsEntered (tokens : List Token) (k : ℕ) (fault : Fault) : Type 0 where
+pub record IsEntered (tokens : List Token) (k : ℕ) (fault : TextFault) : Type 0 where
   pub text : WrittenText
   pub grammar : IsText text
   pub same : take (k + 1) (tokens_of (text_entries text)) ≡ take (k + 1) tokens
@@ -149,12 +149,12 @@ pub record IsEntered (tokens : List Token) (k : ℕ) (fault : Fault) : Type 0 wh
   pub is_here : slice_get (text_entries text) k ≡ Some here
   pub has : Has fault (uses_of (take k (text_entries text))) here
 
-abbrev pub IsFaultAt : List Token → ℕ → Fault → Type 0
-IsFaultAt tokens k NoGrammar = ((k < length tokens) × (¬ Begins (take (k + 1) tokens))) ⊎ ((k ≡ length tokens) × (¬ IsWhole tokens))
+abbrev pub IsFaultAt : List Token → ℕ → TextFault → Type 0
+IsFaultAt tokens k NoGrammar = ((k < length tokens) × (¬ BeginsText (take (k + 1) tokens))) ⊎ ((k ≡ length tokens) × (¬ IsWholeText tokens))
 IsFaultAt tokens k fault = (k < length tokens) × IsEntered tokens k fault
 
 -- the first token at which a fault holds decides, and of its faults the lowest
-pub record IsFirstFault (tokens : List Token) (k : ℕ) (fault : Fault) : Type 0 where
+pub record IsFirstTextFault (tokens : List Token) (k : ℕ) (fault : TextFault) : Type 0 where
   pub holds : IsFaultAt tokens k fault
-  pub lowest : (g : Fault) → IsFaultAt tokens k g → rank fault ≤ rank g
-  pub first : (j : ℕ) (g : Fault) → j < k → ¬ IsFaultAt tokens j g
+  pub lowest : (g : TextFault) → IsFaultAt tokens k g → rank fault ≤ rank g
+  pub first : (j : ℕ) (g : TextFault) → j < k → ¬ IsFaultAt tokens j g

@@ -49,13 +49,13 @@ waiting_level (ToImply f) = 3
 waiting_level (ToEqual f) = 4
 
 -- the operand joined with what waited for it
-abbrev pub made : Waiting → plain.Formula → plain.Formula
-made ToDeny g = plain.Not g
-made ToClose g = g
-made (ToAnd f) g = plain.And f g
-made (ToOr f) g = plain.Or f g
-made (ToImply f) g = plain.Implies f g
-made (ToEqual f) g = plain.Iff f g
+abbrev pub joined_operand : Waiting → plain.Formula → plain.Formula
+joined_operand ToDeny g = plain.Not g
+joined_operand ToClose g = g
+joined_operand (ToAnd f) g = plain.And f g
+joined_operand (ToOr f) g = plain.Or f g
+joined_operand (ToImply f) g = plain.Implies f g
+joined_operand (ToEqual f) g = plain.Iff f g
 
 -- the last item is what waits last, which stands first in what was written
 abbrev pub AreStacked : List code_pending.Pending → List Pending → Type 0
@@ -92,7 +92,7 @@ pub record IsWaitingMore (old now : FormulaReader) (waiting : code_pending.Pendi
   pub count : now.counted ≡ one_more old.counted
   pub depth : now.opened ≡ old.opened
 
-abbrev pub IsAnswer : code_answer.Answer → FormulaReader → FormulaReader → PartFormula → Token → Type 0
-IsAnswer answers.Taken old now s t = (c : Name) → (r : Entry × PartFormula) × ((formula_step c s t ≡ Some r) × IsReader now r.1)
-IsAnswer answers.Refused old now s t = ((c : Name) → formula_step c s t ≡ None) × (now ≡ old)
-IsAnswer answers.TooLong old now s t = (s.operand ≡ None) × IsTrue (is_name_word t) × (most_name_bytes < length t) × (now ≡ old)
+abbrev pub IsReaderAnswer : code_answer.Answer → FormulaReader → FormulaReader → PartFormula → Token → Type 0
+IsReaderAnswer answers.Taken old now s t = (c : Name) → (r : Entry × PartFormula) × ((formula_step c s t ≡ Some r) × IsReader now r.1)
+IsReaderAnswer answers.Refused old now s t = ((c : Name) → formula_step c s t ≡ None) × (now ≡ old)
+IsReaderAnswer answers.TooLong old now s t = (s.operand ≡ None) × IsTrue (is_name_word t) × (most_name_bytes < length t) × (now ≡ old)

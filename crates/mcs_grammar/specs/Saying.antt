@@ -7,12 +7,12 @@ use Rattle.mcs_system.specs.Logic.{same_name}
 use Rattle.mcs_grammar.specs.Written.{WrittenDefault, WrittenItem, Fact, Rule, WrittenLiteral, WrittenRule, WrittenKb, Classical, DefaultTheory, Program, WrittenContext, WrittenPlace, WrittenRead, WrittenBridge, WrittenText}
 use Rattle.mcs_grammar.specs.Entries.{formula_in}
 
-abbrev pub default_in : WrittenDefault → plain.Default
-default_in d = record { pre = formula_in d.pre; justs = formula_in d.first_just ∷ map formula_in d.justs; conclusion = formula_in d.conclusion }
+abbrev pub default_said : WrittenDefault → plain.Default
+default_said d = record { pre = formula_in d.pre; justs = formula_in d.first_just ∷ map formula_in d.justs; conclusion = formula_in d.conclusion }
 
 abbrev pub item_in : WrittenItem → plain.Item
 item_in (Fact f) = plain.Fact (formula_in f)
-item_in (Rule d) = plain.Rule (default_in d)
+item_in (Rule d) = plain.Rule (default_said d)
 
 -- the atoms of the literals that are, or are not, denied
 abbrev pub positive_atoms : List WrittenLiteral → List Name

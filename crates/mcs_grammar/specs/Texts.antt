@@ -8,7 +8,7 @@ use Rattle.mcs_tokens.specs.declared.scan.Span.{Span}
 use Rattle.mcs_grammar.specs.Written.{WrittenText, IsText}
 use Rattle.mcs_grammar.specs.Entries.{Token, text_entries, tokens_of}
 use Rattle.mcs_grammar.specs.Saying.{SaysSystem}
-use Rattle.mcs_grammar.specs.Faults.{Fault, IsFaultAt, IsFirstFault, number_of, limit_of}
+use Rattle.mcs_grammar.specs.Faults.{TextFault, IsFaultAt, IsFirstTextFault, fault_number, limit_of}
 
 abbrev pub token_texts : List ℕ → List Span → List Token
 token_texts bytes spans = map (λ (s : Span). slice_range bytes s.from s.to) spans
@@ -21,7 +21,7 @@ pub record Spells (bytes : List ℕ) (m : System) : Type 0 where
   pub grammar : IsText text
   pub written : token_texts bytes spans ≡ tokens_of (text_entries text)
   pub says : SaysSystem text m
-  pub no_fault : (k : ℕ) (f : Fault) → ¬ IsFaultAt (token_texts bytes spans) k f
+  pub no_fault : (k : ℕ) (f : TextFault) → ¬ IsFaultAt (token_texts bytes spans) k f
 
 -- where token k begins; the end of the text counts as one more token
 abbrev pub offset_of : List ℕ → List Span → ℕ → ℕ
@@ -36,9 +36,9 @@ pub record HasFault (bytes : List ℕ) (number : ℕ) (limit : Option Limit) (of
   pub spans : List Span
   pub tokens : AreTokens bytes 0 spans
   pub token : ℕ
-  pub fault : Fault
-  pub first : IsFirstFault (token_texts bytes spans) token fault
-  pub number_is : number ≡ number_of fault
+  pub fault : TextFault
+  pub first : IsFirstTextFault (token_texts bytes spans) token fault
+  pub number_is : number ≡ fault_number fault
   pub limit_is : limit ≡ limit_of fault
   pub offset_is : offset ≡ offset_of bytes spans token
 

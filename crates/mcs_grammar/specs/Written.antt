@@ -141,8 +141,8 @@ IsContext c = IsNameWord c.name × IsKb c.kb
 abbrev pub IsPlace : WrittenPlace → Type 0
 IsPlace p = IsNameWord p.context × IsFormula p.belief × (level p.belief ≡ 0)
 
-abbrev pub IsBridge : WrittenBridge → Type 0
-IsBridge b = IsNameWord b.name × IsPlace b.head × AllByRecursion (λ (r : WrittenRead). IsPlace r.place) b.reads
+abbrev pub IsWrittenBridge : WrittenBridge → Type 0
+IsWrittenBridge b = IsNameWord b.name × IsPlace b.head × AllByRecursion (λ (r : WrittenRead). IsPlace r.place) b.reads
 
 abbrev pub IsText : WrittenText → Type 0
-IsText t = AllByRecursion IsContext t.contexts × AllByRecursion IsBridge t.bridges
+IsText t = AllByRecursion IsContext t.contexts × AllByRecursion IsWrittenBridge t.bridges

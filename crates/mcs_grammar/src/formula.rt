@@ -10,7 +10,7 @@ ghost use Rattle.mcs_grammar.specs.Written.{Written};
 ghost use Rattle.mcs_grammar.specs.Entries.{formula_in, size_of};
 ghost use Rattle.mcs_grammar.specs.FormulaSteps.{PartFormula, Parenthesis, no_formula, waits, size_so_far, opened_so_far, settle, reduce, finished, finished_primary};
 ghost use Rattle.mcs_grammar.specs.FormulaSteps as written;
-ghost use Rattle.mcs_grammar.specs.FormulaImages.{waiting_of, waiting_level, made, most_counted, AreStacked, AreImages, IsImage, IsReader, IsWaitingMore, IsAnswer};
+ghost use Rattle.mcs_grammar.specs.FormulaImages.{waiting_of, waiting_level, joined_operand, most_counted, AreStacked, AreImages, IsImage, IsReader, IsWaitingMore, IsReaderAnswer};
 
 use mcs_base::Memory;
 use mcs_system::{Formula, Name};
@@ -81,7 +81,7 @@ impl Pending {
 
     /// The formula that the entry forms with its operand.
     fn join(self, alloc: Global, operand: Formula) -> Result<Formula, Memory>
-        ensures { IfOk result (λ f. formula_of f ≡ made (waiting_of self) (formula_of operand)) }
+        ensures { IfOk result (λ f. formula_of f ≡ joined_operand (waiting_of self) (formula_of operand)) }
     {
         match self {
             Pending::Parenthesis => Ok(operand),
@@ -236,7 +236,7 @@ impl FormulaReader {
     /// Takes a sign where an operand is expected.
     fn take_opening(&mut self, sign: Sign) -> Result<Answer, Memory>
         requires { self.old.operand ≡ None }
-        ensures { (s : PartFormula) → IsReader self.old s → IfOk result (λ a. IsAnswer a self.old self.new s (sign_bytes sign)) }
+        ensures { (s : PartFormula) → IsReader self.old s → IfOk result (λ a. IsReaderAnswer a self.old self.new s (sign_bytes sign)) }
     {
         match sign {
             Sign::Tilde => self.wait(Pending::Tilde),
@@ -248,7 +248,7 @@ impl FormulaReader {
     /// Takes a reserved word where an operand is expected.
     fn take_truth(&mut self, alloc: Global, keyword: Keyword) -> Result<Answer, Memory>
         requires { self.old.operand ≡ None }
-        ensures { (s : PartFormula) → IsReader self.old s → IfOk result (λ a. IsAnswer a self.old self.new s (keyword_bytes keyword)) }
+        ensures { (s : PartFormula) → IsReader self.old s → IfOk result (λ a. IsReaderAnswer a self.old self.new s (keyword_bytes keyword)) }
     {
         match keyword {
             Keyword::True => self.take_primary(alloc, Formula::True),
@@ -261,7 +261,7 @@ impl FormulaReader {
     fn take_name(&mut self, alloc: Global, token: &[u8]) -> Result<Answer, Memory>
         requires none { self.old.operand ≡ None }
         requires name { IsTrue (is_name token.now) }
-        ensures { (s : PartFormula) → IsReader self.old s → IfOk result (λ a. IsAnswer a self.old self.new s token.now) }
+        ensures { (s : PartFormula) → IsReader self.old s → IfOk result (λ a. IsReaderAnswer a self.old self.new s token.now) }
     {
         match Name::read(alloc, token)? {
             Some(name) => self.take_primary(alloc, Formula::Atom(name)),
@@ -278,7 +278,7 @@ impl FormulaReader {
     ) -> Result<Answer, Memory>
         requires none { self.old.operand ≡ None }
         requires kind { IsKind kind token.now }
-        ensures { (s : PartFormula) → IsReader self.old s → IfOk result (λ a. IsAnswer a self.old self.new s token.now) }
+        ensures { (s : PartFormula) → IsReader self.old s → IfOk result (λ a. IsReaderAnswer a self.old self.new s token.now) }
     {
         match kind {
             TokenKind::Sign(sign) => self.take_opening(sign),
@@ -301,7 +301,7 @@ impl FormulaReader {
     /// Closes the innermost parenthesis, if one is open.
     fn close(&mut self, alloc: Global, operand: Formula) -> Result<Answer, Memory>
         requires { self.old.operand ≡ None }
-        ensures { (s : PartFormula) → IsReader (record self.old { operand = Some operand }) s → IfOk result (λ a. IsAnswer a (record self.old { operand = Some operand }) self.new s (sign_bytes Sign.CloseParenthesis)) }
+        ensures { (s : PartFormula) → IsReader (record self.old { operand = Some operand }) s → IfOk result (λ a. IsReaderAnswer a (record self.old { operand = Some operand }) self.new s (sign_bytes Sign.CloseParenthesis)) }
     {
         if self.opened == 0 {
             return Ok(self.refuse(operand));
@@ -315,7 +315,7 @@ impl FormulaReader {
     /// Takes a sign after an operand.
     fn take_sign(&mut self, alloc: Global, sign: Sign, operand: Formula) -> Result<Answer, Memory>
         requires { self.old.operand ≡ None }
-        ensures { (s : PartFormula) → IsReader (record self.old { operand = Some operand }) s → IfOk result (λ a. IsAnswer a (record self.old { operand = Some operand }) self.new s (sign_bytes sign)) }
+        ensures { (s : PartFormula) → IsReader (record self.old { operand = Some operand }) s → IfOk result (λ a. IsReaderAnswer a (record self.old { operand = Some operand }) self.new s (sign_bytes sign)) }
     {
         match sign {
             Sign::Ampersand => {
@@ -342,7 +342,7 @@ impl FormulaReader {
     /// Takes the next token, if the formula can continue with it; otherwise nothing changes. If memory runs out, the
     /// parser can't be used any more.
     pub fn take(&mut self, alloc: Global, token: &[u8]) -> Result<Answer, Memory>
-        ensures { (s : PartFormula) → IsReader self.old s → IfOk result (λ a. IsAnswer a self.old self.new s token.now) }
+        ensures { (s : PartFormula) → IsReader self.old s → IfOk result (λ a. IsReaderAnswer a self.old self.new s token.now) }
     {
         let kind = kind_of(token);
         match self.operand.take() {

@@ -14,12 +14,12 @@ use Rattle.mcs_base.proofs.ListingLemmas.{listing_with_one, IsListing-same}
 use Rattle.mcs_base.proofs.Lists.{map_slice_get}
 use Rattle.mcs_base.proofs.Numbered.{with_some, length-with_some, sum_by_bounded, sum_by_smaller}
 use Rattle.mcs_sets.proofs.Lattice.{none-union}
-use Rattle.mcs_import.specs.Laws.{QuestionsAreBounded, QuestionsGrow, CountsAgree, CountIsOne, JournalsAreCounted, CountsGrow, NeedIsOne}
-use Rattle.mcs_import.specs.States.{Grows}
+use Rattle.mcs_import.specs.Laws.{QuestionsAreBounded, QuestionCountsGrow, CountsAgree, CountIsOne, JournalsAreCounted, CountsGrow, NeedIsOne}
+use Rattle.mcs_import.specs.States.{GrowsByGuess}
 use Rattle.mcs_import.proofs.StateLemmas.{grows_is}
 
 -- ---- all that grows by some of the numbers
-among_grown : (vs : List ℕ) (a s : ℕ) → Grows vs a s → IsAmong s (with_some vs a)
+among_grown : (vs : List ℕ) (a s : ℕ) → GrowsByGuess vs a s → IsAmong s (with_some vs a)
 among_grown [] a s e = inl (sym e)
 among_grown (v ∷ vs) a s (inl h) = among_left s (with_some vs a) (with_some vs (union a (single v))) (among_grown vs a s h)
 among_grown (v ∷ vs) a s (inr h) = among_right s (with_some vs a) (with_some vs (union a (single v))) (among_grown vs (union a (single v)) s h)
@@ -52,7 +52,7 @@ possible_grows m level higher less (c ∷ cs) j τ (inr (differ, possible)) = in
 asked_higher : (m : System) (level higher : ℕ) → level ≤ higher → (i x : ℕ) → IsQuestionAt m level i x → IsQuestionAt m higher i x
 asked_higher m level higher less i x (order, ordered, question) = (order, ordered, question_grows m level higher less _ _ _ (possible_grows m level higher less _) i x question)
 
-pub questions_grow : QuestionsGrow
+pub questions_grow : QuestionCountsGrow
 questions_grow m level higher n less h = record {
   lists = h.lists;
   one_each = h.one_each;

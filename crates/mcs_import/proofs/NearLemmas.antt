@@ -11,7 +11,7 @@ use Rattle.mcs_base.proofs.Among.{among_take_more}
 use Rattle.mcs_base.proofs.Each.{all_among}
 use Rattle.mcs_base.proofs.ListingLemmas.{members_listing}
 use Rattle.mcs_base.proofs.SetParts.{minus_less}
-use Rattle.mcs_import.specs.Near.{IsNear, IsMadeBy, IsChanged, IsNext}
+use Rattle.mcs_import.specs.Near.{IsNear, IsMadeBy, IsChanged, IsNextNear}
 use Rattle.mcs_base.proofs.Walks.{AreLevels, IsReached, walk_begins}
 
 -- ---- one change nearer, or further
@@ -198,20 +198,20 @@ added_end change reached rules old found told x = (λ h. to ((told x).0 (inl h))
 
 -- ---- one set more
 -- the same by the same sets
-pub next_same : (removable f f' : ℕ) (sets sets' reached reached' next : List ℕ) → f ≡ f' → sets ≡ sets' → reached ≡ reached' → ((x : ℕ) → IsAmong x next ↔ IsNext removable f sets reached x) → (x : ℕ) → IsAmong x next ↔ IsNext removable f' sets' reached' x
+pub next_same : (removable f f' : ℕ) (sets sets' reached reached' next : List ℕ) → f ≡ f' → sets ≡ sets' → reached ≡ reached' → ((x : ℕ) → IsAmong x next ↔ IsNextNear removable f sets reached x) → (x : ℕ) → IsAmong x next ↔ IsNextNear removable f' sets' reached' x
 next_same removable f f' sets sets' reached reached' next e e' e'' told x =
-    subst (λ (z : ℕ). IsAmong x next ↔ IsNext removable z sets' reached' x) e
-    (subst (λ (ys : List ℕ). IsAmong x next ↔ IsNext removable f ys reached' x) e'
-    (subst (λ (ys : List ℕ). IsAmong x next ↔ IsNext removable f sets ys x) e'' (told x)))
+    subst (λ (z : ℕ). IsAmong x next ↔ IsNextNear removable z sets' reached' x) e
+    (subst (λ (ys : List ℕ). IsAmong x next ↔ IsNextNear removable f ys reached' x) e'
+    (subst (λ (ys : List ℕ). IsAmong x next ↔ IsNextNear removable f sets ys x) e'' (told x)))
 
 pub next_step : (removable forcible : ℕ) (sets reached : List ℕ) (k s : ℕ) → k < length sets → s ≡ get_or sets k s → (next middle after : List ℕ) (gone come : ℕ) → gone ≡ common s removable → come ≡ minus forcible s
-    → ((x : ℕ) → IsAmong x next ↔ IsNext removable forcible (take k sets) reached x)
+    → ((x : ℕ) → IsAmong x next ↔ IsNextNear removable forcible (take k sets) reached x)
     → ((x : ℕ) → IsAmong x middle ↔ (IsAmong x next ⊎ (IsMadeBy (λ r. minus s (single r)) gone x × (¬ IsAmong x reached))))
     → ((x : ℕ) → IsAmong x after ↔ (IsAmong x middle ⊎ (IsMadeBy (λ r. union s (single r)) come x × (¬ IsAmong x reached))))
-    → (x : ℕ) → IsAmong x after ↔ IsNext removable forcible (take (k + 1) sets) reached x
+    → (x : ℕ) → IsAmong x after ↔ IsNextNear removable forcible (take (k + 1) sets) reached x
 next_step removable forcible sets reached k s less is next middle after gone come gone_is come_is old first second x = (to, from)
   where
-    to : IsAmong x after → IsNext removable forcible (take (k + 1) sets) reached x
+    to : IsAmong x after → IsNextNear removable forcible (take (k + 1) sets) reached x
     to h = elim ((second x).0 h) [
       | inr ((r, here, e), new) ↦ (s, (among_take_more sets k s less is s).1 (inr refl), inr (r, subst (λ (z : ℕ). has z r ≡ true) come_is here, e), new)
       | inl h' ↦ elim ((first x).0 h') [
@@ -224,7 +224,7 @@ next_step removable forcible sets reached k s less is next middle after gone com
     now (inl (r, here, e)) new = (second x).1 (inl ((first x).1 (inr ((r, subst (λ (z : ℕ). has z r ≡ true) (sym gone_is) here, e), new))))
     now (inr (r, here, e)) new = (second x).1 (inr ((r, subst (λ (z : ℕ). has z r ≡ true) (sym come_is) here, e), new))
 
-    from : IsNext removable forcible (take (k + 1) sets) reached x → IsAmong x after
+    from : IsNextNear removable forcible (take (k + 1) sets) reached x → IsAmong x after
     from (t, there, step, new) = elim ((among_take_more sets k s less is t).0 there) [
       | inl before ↦ (second x).1 (inl ((first x).1 (inl ((old x).1 (t, before, step, new)))))
       | inr same ↦ now (subst (λ (z : ℕ). IsChanged removable forcible z x) same step) new

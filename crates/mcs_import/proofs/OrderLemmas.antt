@@ -9,7 +9,7 @@ use Rattle.mcs_sets.proofs.SetLemmas.{has-such_that, has-minus, has-single, has-
 use Rattle.mcs_sets.proofs.Lattice.{none_from_no_member, none_from_size, size-all, size-without}
 use Rattle.mcs_base.specs.Listings.{IsAmong}
 use Rattle.mcs_system.specs.Plain.{System}
-use Rattle.mcs_system.specs.Imports.{imports, before_in, supplied, IsNext, FollowsOrder, IsImportOrder}
+use Rattle.mcs_system.specs.Imports.{imports, before_in, supplied, IsNextInOrder, FollowsOrder, IsImportOrder}
 use Rattle.mcs_base.proofs.Among.{among_left, among_right, among_either, cases_among}
 use Rattle.mcs_base.proofs.Each.{all_filter}
 use Rattle.mcs_base.proofs.Numbered.{minimal_below}
@@ -80,7 +80,7 @@ all_taken m taken set h empty i less = elim (cases_among i taken) [
 ]
 
 -- the first of the untaken ones ahead of which nothing is untaken comes next
-pub first_is_next : (m : System) (bound : ℕ) → AreBelow m bound → (rows : List ℕ) → AreAhead m rows → (taken : List ℕ) (set i : ℕ) → AreUntaken m taken set → IsFirstFree rows set i → IsNext m taken i
+pub first_is_next : (m : System) (bound : ℕ) → AreBelow m bound → (rows : List ℕ) → AreAhead m rows → (taken : List ℕ) (set i : ℕ) → AreUntaken m taken set → IsFirstFree rows set i → IsNextInOrder m taken i
 first_is_next m bound below rows ahead taken set i untaken first = record {
   ready = record {
     in_range = (untaken.to i first.free.0).0;

@@ -25,7 +25,7 @@ use Rattle.std.specs.List.{AllByRecursion}
 use Rattle.mcs_system.proofs.ContextSets.{before_among, rule_there, rules_into_known, variable_there, same_believed}
 use Rattle.mcs_system.proofs.VariableLemmas.{has-applicable, has-inputs_of, has-variables_of}
 use Rattle.mcs_import.specs.Plans.{variables_of_all, guessed, AreSupplies}
-use Rattle.mcs_import.specs.States.{Joins, SomeJoins, SomeGrows, IsAsked}
+use Rattle.mcs_import.specs.States.{Joins, SomeJoins, SomeGrows, IsAskedInState}
 use Rattle.mcs_import.specs.Near.{IsNear}
 use Rattle.mcs_import.proofs.OrderLemmas.{import_order_is_one}
 use Rattle.mcs_import.proofs.StateLemmas.{states_found}
@@ -305,7 +305,7 @@ module _ (m : System) (order : List ℕ) (ordered : IsImportOrder m order) (leve
       whole : (v : ℕ) → has (common σ I) v ≡ has (union (union 0 (common (common σ S) I)) (common σ G)) v
       whole v = grind (arith, sets)
 
-  pub asked_is_question : (x : ℕ) → IsAsked m i xss G level x ↔ IsQuestion m order level i x
+  pub asked_is_question : (x : ℕ) → IsAskedInState m i xss G level x ↔ IsQuestion m order level i x
   asked_is_question x = (
     λ h. (question_by_state m order ordered level i x).1 (
         let (σ, possible, e) = state_for h.joined h.guess h.is_joined h.of_guesses in
@@ -314,7 +314,7 @@ module _ (m : System) (order : List ℕ) (ordered : IsImportOrder m order) (leve
     λ q. from ((question_by_state m order ordered level i x).0 q),
   )
     where
-      from : Within x (rules_into m i) × ((σ : ℕ) × IsAllowed m order level i σ × Within (marks_at m i σ x) (allowed_marks m) × (size (marks_at m i σ x) ≤ level)) → IsAsked m i xss G level x
+      from : Within x (rules_into m i) × ((σ : ℕ) × IsAllowed m order level i σ × Within (marks_at m i σ x) (allowed_marks m) × (size (marks_at m i σ x) ≤ level)) → IsAskedInState m i xss G level x
       from (of_rules, (σ, possible, allowed, near)) =
           let (p, g, joins, within, e) = parts_of σ possible in
           let same : marks_at m i σ x ≡ marks_at m i (union p g) x = same_marks m i σ (union p g) x (sym (common-common σ I) ∙ ap (λ s. common s I) e) in
@@ -336,7 +336,7 @@ applying_within m i states sets of_states = all_from_among (λ s. Within s (rule
 
 module _ (m : System) (i : ℕ) (xss : List (List ℕ)) (guesses level : ℕ) (joined states sets : List ℕ) (of_joins : (ρ : ℕ) → IsAmong ρ joined ↔ SomeJoins (inputs_of m i) xss (0 ∷ []) ρ)
     (of_grows : (ρ : ℕ) → IsAmong ρ states ↔ SomeGrows (members guesses) joined ρ) (of_states : (a : ℕ) → IsAmong a sets ↔ IsAmong a (map (applying m i) states)) where
-  pub near_is_asked : (x : ℕ) → IsNear (rules_into m i) (removed_of (allowed_marks m)) (forced_of (allowed_marks m)) sets level x ↔ IsAsked m i xss guesses level x
+  pub near_is_asked : (x : ℕ) → IsNear (rules_into m i) (removed_of (allowed_marks m)) (forced_of (allowed_marks m)) sets level x ↔ IsAskedInState m i xss guesses level x
   near_is_asked x = (
     λ h. (
         let (ρ, state, e) = map_among (applying m i) h.set states ((of_states h.set).0 h.listed) in
@@ -371,9 +371,9 @@ module _ (m : System) (i : ℕ) (xss : List (List ℕ)) (guesses level : ℕ) (j
 pub asked_listed : (m : System) (i : ℕ) (xss : List (List ℕ)) (mask guesses rules level removable forcible allowed : ℕ) → mask ≡ inputs_of m i → rules ≡ rules_into m i → removable ≡ removed_of allowed → forcible ≡ forced_of allowed → allowed ≡ allowed_marks m
     → (joined states states' sets near : List ℕ) → ((ρ : ℕ) → IsAmong ρ joined ↔ SomeJoins mask xss (0 ∷ []) ρ) → ((ρ : ℕ) → IsAmong ρ states ↔ SomeGrows (members guesses) joined ρ) → states' ≡ states
     → ((a : ℕ) → IsAmong a sets ↔ IsAmong a (map (applying m i) states'))
-    → IsListing (IsNear rules removable forcible sets level) (λ a b. a < b) near → IsListing (IsAsked m i xss guesses level) (λ a b. a < b) near
+    → IsListing (IsNear rules removable forcible sets level) (λ a b. a < b) near → IsListing (IsAskedInState m i xss guesses level) (λ a b. a < b) near
 asked_listed m i xss mask guesses rules level removable forcible allowed mask_is rules_is removable_is forcible_is allowed_is joined states states' sets near of_joins of_grows states_are of_states listing =
-    IsListing-same (λ (a b : ℕ). a < b) (IsNear (rules_into m i) (removed_of (allowed_marks m)) (forced_of (allowed_marks m)) sets level) (IsAsked m i xss guesses level) near
+    IsListing-same (λ (a b : ℕ). a < b) (IsNear (rules_into m i) (removed_of (allowed_marks m)) (forced_of (allowed_marks m)) sets level) (IsAskedInState m i xss guesses level) near
     (near_is_asked m i xss guesses level joined states sets
     (λ ρ. subst (λ (s : ℕ). IsAmong ρ joined ↔ SomeJoins s xss (0 ∷ []) ρ) mask_is (of_joins ρ)) of_grows
     (λ a. subst (λ (xs : List ℕ). IsAmong a sets ↔ IsAmong a (map (applying m i) xs)) states_are (of_states a)))
@@ -382,8 +382,8 @@ asked_listed m i xss mask guesses rules level removable forcible allowed mask_is
     (subst (λ (s : ℕ). IsListing (IsNear rules removable s sets level) (λ (a b : ℕ). a < b) near) (forcible_is ∙ ap (λ (p : ℕ). forced_of p) allowed_is) listing)))
 
 pub questions_listed : (m : System) (order : List ℕ) → IsImportOrder m order → (level i : ℕ) (xss : List (List ℕ)) → AreSupplies m level (supplied m order i) xss → (n : System) → n ≡ m → (guesses : ℕ) → guesses ≡ guessed m order i
-    → (near : List ℕ) → IsListing (IsAsked n i xss guesses level) (λ a b. a < b) near → IsListing (IsQuestionAt m level i) (λ a b. a < b) near
+    → (near : List ℕ) → IsListing (IsAskedInState n i xss guesses level) (λ a b. a < b) near → IsListing (IsQuestionAt m level i) (λ a b. a < b) near
 questions_listed m order ordered level i xss supplies n same guesses guesses_is near listing =
     IsListing-same (λ (a b : ℕ). a < b) (IsQuestion m order level i) (IsQuestionAt m level i) near (question_in m order ordered level i)
-    (IsListing-same (λ (a b : ℕ). a < b) (IsAsked m i xss (guessed m order i) level) (IsQuestion m order level i) near (asked_is_question m order ordered level i xss supplies)
-    (subst (λ (g : ℕ). IsListing (IsAsked m i xss g level) (λ (a b : ℕ). a < b) near) guesses_is (subst (λ (p : System). IsListing (IsAsked p i xss guesses level) (λ (a b : ℕ). a < b) near) same listing)))
+    (IsListing-same (λ (a b : ℕ). a < b) (IsAskedInState m i xss (guessed m order i) level) (IsQuestion m order level i) near (asked_is_question m order ordered level i xss supplies)
+    (subst (λ (g : ℕ). IsListing (IsAskedInState m i xss g level) (λ (a b : ℕ). a < b) near) guesses_is (subst (λ (p : System). IsListing (IsAskedInState p i xss guesses level) (λ (a b : ℕ). a < b) near) same listing)))

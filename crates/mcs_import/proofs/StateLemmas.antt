@@ -10,7 +10,7 @@ use Rattle.mcs_sets.proofs.Lattice.{union-none, none-union, union_assoc, none_fr
 use Rattle.mcs_base.specs.Listings.{IsAmong}
 use Rattle.mcs_base.proofs.ListingLemmas.{members_listing}
 use Rattle.mcs_base.proofs.Among.{among_left, among_right, among_either, among_map, map_among, among_flat_map, flat_map_among}
-use Rattle.mcs_import.specs.States.{Joins, Grows, SomeJoins, SomeGrows}
+use Rattle.mcs_import.specs.States.{Joins, GrowsByGuess, SomeJoins, SomeGrows}
 
 -- ---- one list more
 pub joins_step : (mask : ℕ) (xs : List ℕ) (xss : List (List ℕ)) (starts parts next : List ℕ) → ((ρ : ℕ) → IsAmong ρ parts ↔ IsAmong ρ (map (λ s. common s mask) xs)) → next ≡ flat_map (λ s. map (union s) parts) starts → (ρ : ℕ) → SomeJoins mask xss next ρ ↔ SomeJoins mask (xs ∷ xss) starts ρ
@@ -56,7 +56,7 @@ grows_step v vs starts next is s = (to, from)
     to : SomeGrows vs next s → SomeGrows (v ∷ vs) starts s
     to (a, among, grows) = elim (among_either a starts (map (λ s. union s (single v)) starts) (subst (λ (ys : List ℕ). IsAmong a ys) is among)) [
       | inl old ↦ (a, old, inl grows)
-      | inr new ↦ let (b, old, e) = map_among (λ s. union s (single v)) a starts new in (b, old, inr (subst (λ (z : ℕ). Grows vs z s) e grows))
+      | inr new ↦ let (b, old, e) = map_among (λ s. union s (single v)) a starts new in (b, old, inr (subst (λ (z : ℕ). GrowsByGuess vs z s) e grows))
     ]
 
     from : SomeGrows (v ∷ vs) starts s → SomeGrows vs next s
@@ -67,7 +67,7 @@ pub grows_end : (starts : List ℕ) (s : ℕ) → SomeGrows [] starts s ↔ IsAm
 grows_end starts s = (λ (a, among, e). subst (λ (z : ℕ). IsAmong z starts) e among, λ among. (s, among, refl))
 
 -- what grows by some of the numbers
-grows_by : (vs : List ℕ) (a s : ℕ) → Grows vs a s → (g : ℕ) × ((k : ℕ) → has g k ≡ true → IsAmong k vs) × (s ≡ union a g)
+grows_by : (vs : List ℕ) (a s : ℕ) → GrowsByGuess vs a s → (g : ℕ) × ((k : ℕ) → has g k ≡ true → IsAmong k vs) × (s ≡ union a g)
 grows_by [] a s e = (0, λ k h. absurd (true≢false (sym h ∙ has-empty k)), sym e ∙ sym (union-none a))
 grows_by (v ∷ vs) a s (inl h) = let (g, known, e) = grows_by vs a s h in (g, λ k member. inr (known k member), e)
 grows_by (v ∷ vs) a s (inr h) =
@@ -78,7 +78,7 @@ grows_by (v ∷ vs) a s (inr h) =
     either g k known (inl h) = let s = has-single v k in inl (grind (arith, nat_tests))
     either g k known (inr h) = inr (known h)
 
-by_grows : (vs : List ℕ) (a g : ℕ) → ((k : ℕ) → has g k ≡ true → IsAmong k vs) → Grows vs a (union a g)
+by_grows : (vs : List ℕ) (a g : ℕ) → ((k : ℕ) → has g k ≡ true → IsAmong k vs) → GrowsByGuess vs a (union a g)
 by_grows [] a g known = sym (ap (union a) (none_from_no_member g (λ k. false_from_ne_true (has g k) (known k))) ∙ union-none a)
 by_grows (v ∷ vs) a g known = at (has g v) refl (by_grows vs (union a (single v)) (minus g (single v)) rest) (λ known'. by_grows vs a g known')
   where
@@ -97,15 +97,15 @@ by_grows (v ∷ vs) a g known = at (has g v) refl (by_grows vs (union a (single 
             and-true true = refl
             and-true false = refl
 
-    at : (u : Bool) → has g v ≡ u → Grows vs (union a (single v)) (union (union a (single v)) (minus g (single v))) → (((k : ℕ) → has g k ≡ true → IsAmong k vs) → Grows vs a (union a g)) → Grows (v ∷ vs) a (union a g)
-    at true e with_v without = inr (subst (λ (z : ℕ). Grows vs (union a (single v)) z) (union_assoc a (single v) (minus g (single v)) ∙ ap (union a) (whole e)) with_v)
+    at : (u : Bool) → has g v ≡ u → GrowsByGuess vs (union a (single v)) (union (union a (single v)) (minus g (single v))) → (((k : ℕ) → has g k ≡ true → IsAmong k vs) → GrowsByGuess vs a (union a g)) → GrowsByGuess (v ∷ vs) a (union a g)
+    at true e with_v without = inr (subst (λ (z : ℕ). GrowsByGuess vs (union a (single v)) z) (union_assoc a (single v) (minus g (single v)) ∙ ap (union a) (whole e)) with_v)
     at false e with_v without = inl (without (λ k h. elim (known k h) [ inl same ↦ absurd (true≢false (sym h ∙ ap (has g) same ∙ e)) | inr later ↦ later ]))
 
 -- what grows by the members of a set
-pub grows_is : (whole a s : ℕ) → Grows (members whole) a s ↔ ((g : ℕ) × Within g whole × (s ≡ union a g))
+pub grows_is : (whole a s : ℕ) → GrowsByGuess (members whole) a s ↔ ((g : ℕ) × Within g whole × (s ≡ union a g))
 grows_is whole a s = (
   λ h. let (g, known, e) = grows_by (members whole) a s h in (g, λ k member. ((members_listing whole).exactly k).0 (known k member), e),
-  λ (g, within, e). subst (λ (z : ℕ). Grows (members whole) a z) (sym e) (by_grows (members whole) a g (λ k member. ((members_listing whole).exactly k).1 (within k member))),
+  λ (g, within, e). subst (λ (z : ℕ). GrowsByGuess (members whole) a z) (sym e) (by_grows (members whole) a g (λ k member. ((members_listing whole).exactly k).1 (within k member))),
 )
 
 -- all subsets

@@ -19,8 +19,8 @@ abbrev pub QuestionsAreBounded : Type 0
 QuestionsAreBounded = (m : System) (level n : ℕ) → HasQuestions m level n → n ≤ rule_set_count m
 
 -- a higher level has no fewer questions
-abbrev pub QuestionsGrow : Type 0
-QuestionsGrow = (m : System) (level higher n : ℕ) → level ≤ higher → HasQuestions m level n → HasQuestions m higher n
+abbrev pub QuestionCountsGrow : Type 0
+QuestionCountsGrow = (m : System) (level higher n : ℕ) → level ≤ higher → HasQuestions m level n → HasQuestions m higher n
 
 -- there are at least as many questions as any number up to their count, and no more
 abbrev pub CountsAgree : Type 0

@@ -21,5 +21,5 @@ abbrev pub IsChanged : ℕ → ℕ → ℕ → ℕ → Type 0
 IsChanged removable forcible s x = IsMadeBy (λ r. minus s (single r)) (common s removable) x ⊎ IsMadeBy (λ r. union s (single r)) (minus forcible s) x
 
 -- x comes of one of the sets by one change, and was not reached
-abbrev pub IsNext : ℕ → ℕ → List ℕ → List ℕ → ℕ → Type 0
-IsNext removable forcible sets reached x = (s : ℕ) × IsAmong s sets × IsChanged removable forcible s x × (¬ IsAmong x reached)
+abbrev pub IsNextNear : ℕ → ℕ → List ℕ → List ℕ → ℕ → Type 0
+IsNextNear removable forcible sets reached x = (s : ℕ) × IsAmong s sets × IsChanged removable forcible s x × (¬ IsAmong x reached)

@@ -13,19 +13,19 @@ Joins mask [] a ρ = a ≡ ρ
 Joins mask (xs ∷ xss) a ρ = (τ : ℕ) × IsAmong τ xs × Joins mask xss (union a (common τ mask)) ρ
 
 -- from a, with some of the numbers, comes the set s
-abbrev pub Grows : List ℕ → ℕ → ℕ → Type 0
-Grows [] a s = a ≡ s
-Grows (v ∷ vs) a s = Grows vs a s ⊎ Grows vs (union a (single v)) s
+abbrev pub GrowsByGuess : List ℕ → ℕ → ℕ → Type 0
+GrowsByGuess [] a s = a ≡ s
+GrowsByGuess (v ∷ vs) a s = GrowsByGuess vs a s ⊎ GrowsByGuess vs (union a (single v)) s
 
 -- from one of the list
 abbrev pub SomeJoins : ℕ → List (List ℕ) → List ℕ → ℕ → Type 0
 SomeJoins mask xss starts ρ = (a : ℕ) × IsAmong a starts × Joins mask xss a ρ
 
 abbrev pub SomeGrows : List ℕ → List ℕ → ℕ → Type 0
-SomeGrows vs starts s = (a : ℕ) × IsAmong a starts × Grows vs a s
+SomeGrows vs starts s = (a : ℕ) × IsAmong a starts × GrowsByGuess vs a s
 
 -- x is a set of the rules into i that few changes, each of them allowed, make of those that apply in a state, which is joined of the lists and grown by some of the guesses
-pub record IsAsked (m : System) (i : ℕ) (xss : List (List ℕ)) (guesses level x : ℕ) : Type 0 where
+pub record IsAskedInState (m : System) (i : ℕ) (xss : List (List ℕ)) (guesses level x : ℕ) : Type 0 where
   pub of_rules : Within x (rules_into m i)
   pub joined : ℕ
   pub is_joined : Joins (inputs_of m i) xss 0 joined

@@ -1,6 +1,6 @@
 //! Laws of import orders and of the number of questions. The functions compute nothing: each contract is a law.
 
-ghost use Rattle.mcs_import.specs.Laws.{ImportOrderIsOne, ImportOrderExists, QuestionsAreBounded, QuestionsGrow, CountsAgree, CountIsOne, JournalsAreCounted, CountsGrow, NeedIsOne};
+ghost use Rattle.mcs_import.specs.Laws.{ImportOrderIsOne, ImportOrderExists, QuestionsAreBounded, QuestionCountsGrow, CountsAgree, CountIsOne, JournalsAreCounted, CountsGrow, NeedIsOne};
 
 /// A system has at most one import order.
 pub fn import_order_is_one()
@@ -16,7 +16,7 @@ pub fn import_order_exists()
 /// level has no fewer questions.
 pub fn questions_are_bounded()
     ensures bounded { QuestionsAreBounded }
-    ensures grow { QuestionsGrow }
+    ensures grow { QuestionCountsGrow }
 {}
 
 /// `HasQuestions` agrees with the count; a level has at most one count; a higher level has no smaller count. Journals

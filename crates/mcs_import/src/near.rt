@@ -4,7 +4,7 @@ ghost use Rattle.std.specs.Prelude.{◌≡◌, ◌<◌, ◌↔◌, ◌⊎◌, �
 ghost use Rattle.std.specs.List.{AllByRecursion};
 ghost use Rattle.mcs_sets.specs.Sets.{union, minus, single, Within};
 ghost use Rattle.mcs_base.specs.Listings.{IsAmong, IsAscending, IsListing};
-ghost use Rattle.mcs_import.specs.Near.{IsMadeBy, IsNext, IsNear};
+ghost use Rattle.mcs_import.specs.Near.{IsMadeBy, IsNextNear, IsNear};
 
 use mcs_base::{Active, Memory, list_rule_sets};
 use std::alloc::Global;
@@ -73,7 +73,7 @@ fn next_sets(
 ) -> Result<Vec<Active>, Memory>
     requires { IsAscending (λ (a b : ℕ). a < b) reached.now }
     ensures { IfOk result (λ next. (x : ℕ)
-        → IsAmong x next.items ↔ IsNext removable forcible sets.now reached.now x) }
+        → IsAmong x next.items ↔ IsNextNear removable forcible sets.now reached.now x) }
 {
     let mut next = Vec::new(alloc);
     for set in sets {

@@ -7,7 +7,7 @@ ghost use Rattle.mcs_system.specs.Imports.{IsImportOrder, supplied, rules_into};
 ghost use Rattle.mcs_system.specs.Levels.{IsQuestionAt};
 ghost use Rattle.mcs_system.specs.Systems.{applicable};
 ghost use Rattle.mcs_import.specs.Plans.{AreSupplies};
-ghost use Rattle.mcs_import.specs.States.{IsAsked};
+ghost use Rattle.mcs_import.specs.States.{IsAskedInState};
 
 use crate::near::near_sets;
 use crate::plan::Plan;
@@ -49,7 +49,7 @@ pub fn asked(
 ) -> Result<Vec<Active>, Memory>
     requires { i < length system.now.contexts }
     ensures { IfOk result (λ sets.
-        IsListing (IsAsked system.now i (map (λ supply. supply.items) supplies.now) guesses level) (λ a b. a < b) sets.items) }
+        IsListing (IsAskedInState system.now i (map (λ supply. supply.items) supplies.now) guesses level) (λ a b. a < b) sets.items) }
 {
     let joined = supplied_states(alloc, supplies, system.inputs_of(i))?;
     let states = guessed_states(joined, guesses)?;

@@ -15,7 +15,7 @@ use Rattle.mcs_base.proofs.Each.{all_from_among}
 use Rattle.mcs_base.proofs.Lists.{length_zip, zip_get_or}
 use Rattle.mcs_base.proofs.Zipped.{zip_weaker}
 use Rattle.mcs_table.specs.declared.row.Row.{Row}
-use Rattle.mcs_table.specs.Tables.{TableData, IsTable, AreApart, unit_table}
+use Rattle.mcs_table.specs.Tables.{TableData, IsTable, ShareNoMark, unit_table}
 use Rattle.mcs_table.specs.Joins.{union_of, united_rows, FitTogether}
 use Rattle.mcs_table.specs.Elimination.{AreJointMarks}
 use Rattle.mcs_table.specs.Fitting.{AreFittingAfter}
@@ -175,11 +175,11 @@ module _ (xs : List TableData) (a b : ℕ) (less_a : a < length xs) (less_b : b 
   apart_swap : EachApart xs → EachApart (swap xs a b)
   apart_swap apart = record { at = moved }
     where
-      moved : (i j : ℕ) → i < length (swap xs a b) → j < length (swap xs a b) → ¬ (i ≡ j) → AreApart (get_or (swap xs a b) i unit_table).rows (get_or (swap xs a b) j unit_table).rows
+      moved : (i j : ℕ) → i < length (swap xs a b) → j < length (swap xs a b) → ¬ (i ≡ j) → ShareNoMark (get_or (swap xs a b) i unit_table).rows (get_or (swap xs a b) j unit_table).rows
       moved i j less_i less_j differ =
           let long = length-swap xs a b in
           let h = apart.at (place i) (place j) (place_in i (omega arith)) (place_in j (omega arith)) (place_one i j differ) in
-          subst (λ (t : TableData). AreApart t.rows (get_or (swap xs a b) j unit_table).rows) (sym (placed i)) (subst (λ (t : TableData). AreApart (get_or xs (place i) unit_table).rows t.rows) (sym (placed j)) h)
+          subst (λ (t : TableData). ShareNoMark t.rows (get_or (swap xs a b) j unit_table).rows) (sym (placed i)) (subst (λ (t : TableData). ShareNoMark (get_or xs (place i) unit_table).rows t.rows) (sym (placed j)) h)
 
 pub apart_moved : (ts us : List TableData) → IsPermutation ts us → EachApart ts → EachApart us
 apart_moved ts us moved apart = IsPermutation-keeps ts EachApart apart (λ l i j less_i less_j h. apart_swap l i j less_i less_j h) us moved
@@ -188,7 +188,7 @@ apart_moved ts us moved apart = IsPermutation-keeps ts EachApart apart (λ l i j
 pub apart_fewer : (ts us : List TableData) → AllZip (λ (t u : TableData). (p : Row) → IsAmong p u.rows → IsAmong p t.rows) ts us → EachApart ts → EachApart us
 apart_fewer ts us zip apart = record { at = fewer }
   where
-    fewer : (i j : ℕ) → i < length us → j < length us → ¬ (i ≡ j) → AreApart (get_or us i unit_table).rows (get_or us j unit_table).rows
+    fewer : (i j : ℕ) → i < length us → j < length us → ¬ (i ≡ j) → ShareNoMark (get_or us i unit_table).rows (get_or us j unit_table).rows
     fewer i j less_i less_j differ x y in_x in_y =
         let long = length_zip (λ (t u : TableData). (p : Row) → IsAmong p u.rows → IsAmong p t.rows) ts us zip in
         let at_i = zip_get_or (λ (t u : TableData). (p : Row) → IsAmong p u.rows → IsAmong p t.rows) ts us i unit_table unit_table zip (omega arith) in

@@ -14,7 +14,7 @@ use Rattle.mcs_base.proofs.Each.{all_among, all_from_among}
 use Rattle.mcs_base.proofs.ListingLemmas.{IsListing-same, IsListing-filter}
 use Rattle.mcs_table.specs.declared.row.Row.{Row}
 use Rattle.mcs_table.specs.RowOrder.{RowBefore}
-use Rattle.mcs_table.specs.Tables.{TableData, IsTable, IsRowOn, AreApart, IsJoin, IsForgetting, unit_table}
+use Rattle.mcs_table.specs.Tables.{TableData, IsTable, IsRowOn, ShareNoMark, IsJoin, IsForgetting, unit_table}
 use Rattle.mcs_table.specs.Elimination.{still_kept, EliminatesTo}
 use Rattle.mcs_table.proofs.TableLemmas.{unit-kept}
 use Rattle.mcs_table.proofs.ExistLemmas.{join_exists}
@@ -88,7 +88,7 @@ pub without_begin : (sets : List ℕ) (level : ℕ) (tables : List TableData) (l
 without_begin sets level tables left w = record { whole = unit_table; table = unit-kept; is_left = left_begin level tables; without = w }
 
 module _ (sets : List ℕ) (level : ℕ) (tables : List TableData) (k : ℕ) (left a : TableData) (less : k < length tables) (here : a ≡ get_or tables k a) (so_far : IsLeftWithout sets level tables k left) where
-  pub without_apart : AreApart left.rows a.rows
+  pub without_apart : ShareNoMark left.rows a.rows
   without_apart x y in_x in_y = next_apart level tables k so_far.whole a less here so_far.is_left x y ((so_far.without.rows.exactly x).0 in_x).0 in_y
 
   pub without_more : IsTable a → EachApart tables → (joined fewer next : TableData) → IsJoin left a level joined → IsWithout sets joined fewer → IsForgetting fewer (still_kept 0 (drop (k + 1) tables)) next

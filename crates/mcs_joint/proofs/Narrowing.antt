@@ -18,7 +18,7 @@ use Rattle.mcs_table.proofs.JoinLemmas.{row_of}
 use Rattle.mcs_table.proofs.OrderFreeLemmas.{in_some}
 use Rattle.mcs_table.proofs.PartLemmas.{IsPartOf, joint_absent, part_same}
 use Rattle.mcs_joint.specs.Apart.{EachApart}
-use Rattle.mcs_joint.specs.First.{HaveJointRow, valued, IsNarrowed, IsSettled}
+use Rattle.mcs_joint.specs.First.{HaveJointRow, valued, IsNarrowed, IsVariableSettled}
 use Rattle.mcs_joint.proofs.Covering.{apart_fewer}
 
 -- ---- the rows that give one variable a value
@@ -96,7 +96,7 @@ module _ (level : ℕ) (ts us : List TableData) (are : AllByRecursion IsTable ts
 
 -- ---- what settling a variable leaves
 module _ (level v : ℕ) (ts : List TableData) (are : AllByRecursion IsTable ts) (apart : EachApart ts) where
-  pub absent_settled : has (union_of (λ (t : TableData). t.scope) ts) v ≡ false → IsSettled level v false ts ts
+  pub absent_settled : has (union_of (λ (t : TableData). t.scope) ts) v ≡ false → IsVariableSettled level v false ts ts
   absent_settled absent = record {
     tables = are;
     apart = apart;
@@ -106,7 +106,7 @@ module _ (level v : ℕ) (ts : List TableData) (are : AllByRecursion IsTable ts)
   }
 
   module _ (in_scope : has (union_of (λ (t : TableData). t.scope) ts) v ≡ true) (holding : List TableData) (all : AllZip (IsNarrowed (valued v true)) ts holding) where
-    pub true_settled : HaveJointRow level holding → IsSettled level v true ts holding
+    pub true_settled : HaveJointRow level holding → IsVariableSettled level v true ts holding
     true_settled some = record {
       tables = narrowed_tables (valued v true) ts holding all;
       apart = narrowed_apart (valued v true) ts holding all apart;
@@ -115,7 +115,7 @@ module _ (level v : ℕ) (ts : List TableData) (are : AllByRecursion IsTable ts)
       all = λ no. absurd (true≢false no);
     }
 
-    pub false_settled : ¬ HaveJointRow level holding → (lacking : List TableData) → AllZip (IsNarrowed (valued v false)) ts lacking → IsSettled level v false ts lacking
+    pub false_settled : ¬ HaveJointRow level holding → (lacking : List TableData) → AllZip (IsNarrowed (valued v false)) ts lacking → IsVariableSettled level v false ts lacking
     false_settled none lacking all' = record {
       tables = narrowed_tables (valued v false) ts lacking all';
       apart = narrowed_apart (valued v false) ts lacking all' apart;

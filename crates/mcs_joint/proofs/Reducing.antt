@@ -13,7 +13,7 @@ use Rattle.mcs_base.proofs.Each.{all_among, all_from_among}
 use Rattle.mcs_base.proofs.Lists.{zip_get_or, length_zip}
 use Rattle.mcs_base.proofs.Zipped.{zip_from_get_or}
 use Rattle.mcs_table.specs.declared.row.Row.{Row}
-use Rattle.mcs_table.specs.Tables.{TableData, IsTable, HasPartner, IsSemiJoin, AreApart, unit_row, unit_table}
+use Rattle.mcs_table.specs.Tables.{TableData, IsTable, HasPartner, IsSemiJoin, ShareNoMark, unit_row, unit_table}
 use Rattle.mcs_table.specs.Joins.{union_of, IsJointRow}
 use Rattle.mcs_table.proofs.OrderFreeLemmas.{some_in, joint_moved, table_is}
 use Rattle.mcs_table.proofs.SemiLemmas.{part_is_table}
@@ -140,6 +140,6 @@ module _ (level : ℕ) (ts : List TableData) (i j : ℕ) (a b u : TableData) (le
             | inr apart ↦ let e : get_or ts k unit_table ≡ t = sym (get_or-set_other ts i k u unit_table apart) ∙ at unit_table in subst IsTable e (all_among IsTable ts (get_or ts k unit_table) all (among_at ts k unit_table less'))
           ]
 
-pub two_apart : (ts : List TableData) (i j : ℕ) (a b : TableData) → i < length ts → j < length ts → ¬ (i ≡ j) → a ≡ get_or ts i a → b ≡ get_or ts j b → EachApart ts → AreApart a.rows b.rows
+pub two_apart : (ts : List TableData) (i j : ℕ) (a b : TableData) → i < length ts → j < length ts → ¬ (i ≡ j) → a ≡ get_or ts i a → b ≡ get_or ts j b → EachApart ts → ShareNoMark a.rows b.rows
 two_apart ts i j a b less_i less_j differ is_a is_b apart =
-    subst (λ (t : TableData). AreApart t.rows b.rows) (get_or_default ts i unit_table a less_i ∙ sym is_a) (subst (λ (t : TableData). AreApart (get_or ts i unit_table).rows t.rows) (get_or_default ts j unit_table b less_j ∙ sym is_b) (apart.at i j less_i less_j differ))
+    subst (λ (t : TableData). ShareNoMark t.rows b.rows) (get_or_default ts i unit_table a less_i ∙ sym is_a) (subst (λ (t : TableData). ShareNoMark (get_or ts i unit_table).rows t.rows) (get_or_default ts j unit_table b less_j ∙ sym is_b) (apart.at i j less_i less_j differ))

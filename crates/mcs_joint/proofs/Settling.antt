@@ -14,7 +14,7 @@ use Rattle.mcs_table.specs.declared.row.Row.{Row}
 use Rattle.mcs_table.specs.Tables.{TableData, IsTable}
 use Rattle.mcs_table.specs.Joins.{IsJointRow}
 use Rattle.mcs_joint.specs.Apart.{EachApart}
-use Rattle.mcs_joint.specs.First.{IsFirst, TellsFirst, IsJointState, HaveJointRow, IsSettled}
+use Rattle.mcs_joint.specs.First.{IsFirst, TellsFirst, IsJointState, HaveJointRow, IsVariableSettled}
 use Rattle.mcs_joint.specs.Reduced.{IsReduced}
 use Rattle.mcs_table.proofs.PartLemmas.{joint_below}
 
@@ -42,7 +42,7 @@ settled_begin level ts are apart some = record {
 }
 
 -- one more variable, which is true or false
-module _ (level v first first' : ℕ) (holds : Bool) (ts us vs : List TableData) (so_far : AreSettled level v first ts us) (one : IsSettled level v holds us vs) (same : (j : ℕ) → j < v → has first' j ≡ has first j) (here : has first' v ≡ holds) (above : (j : ℕ) → has first' j ≡ true → j < v + 1) where
+module _ (level v first first' : ℕ) (holds : Bool) (ts us vs : List TableData) (so_far : AreSettled level v first ts us) (one : IsVariableSettled level v holds us vs) (same : (j : ℕ) → j < v → has first' j ≡ has first j) (here : has first' v ≡ holds) (above : (j : ℕ) → has first' j ≡ true → j < v + 1) where
   agrees_more : (σ : ℕ) → AgreesBelow v first σ → has σ v ≡ holds → AgreesBelow (v + 1) first' σ
   agrees_more σ agrees is j less = elim (cases_eq j v) [
     | inl e ↦ subst (λ (k : ℕ). has σ k ≡ has first' k) (sym e) (is ∙ sym here)
@@ -88,10 +88,10 @@ module _ (level v first : ℕ) (ts us vs : List TableData) (so_far : AreSettled 
   lacks : has first v ≡ false
   lacks = false_from_ne_true _ (λ is. let less = so_far.below v is in omega arith)
 
-  pub settled_false : IsSettled level v false us vs → AreSettled level (v + 1) first ts vs
+  pub settled_false : IsVariableSettled level v false us vs → AreSettled level (v + 1) first ts vs
   settled_false one = settled_step level v first first false ts us vs so_far one (λ j less. refl) lacks (λ j is. let less = so_far.below j is in omega arith)
 
-  pub settled_true : IsSettled level v true us vs → AreSettled level (v + 1) (union first (single v)) ts vs
+  pub settled_true : IsVariableSettled level v true us vs → AreSettled level (v + 1) (union first (single v)) ts vs
   settled_true one = settled_step level v first (union first (single v)) true ts us vs so_far one
       (λ j less. grind (arith, sets, nat_tests))
       ((in_with first v v).1 (inr refl))

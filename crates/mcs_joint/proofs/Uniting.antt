@@ -9,7 +9,7 @@ use Rattle.mcs_base.specs.Partials.{IsPartial}
 use Rattle.mcs_base.proofs.Each.{all_from_among, all_among}
 use Rattle.mcs_base.proofs.PartialLemmas.{united-partial}
 use Rattle.mcs_table.specs.declared.row.Row.{Row}
-use Rattle.mcs_table.specs.Tables.{TableData, IsTable, IsRowOn, IsUnion, AreApart, unit_row}
+use Rattle.mcs_table.specs.Tables.{TableData, IsTable, IsRowOn, IsUnion, ShareNoMark, unit_row}
 use Rattle.mcs_table.specs.Joins.{IsJointRow}
 use Rattle.mcs_table.proofs.JoinLemmas.{row_of}
 use Rattle.mcs_table.proofs.JointLemmas.{IsUnionOf, UnionsFrom, is_unit, joint_is, unit_apart}
@@ -37,23 +37,23 @@ union_among xs ys level r = (
 pub record IsUnited (level : ℕ) (tables : List TableData) (k seen : ℕ) (all : List Row) : Type 0 where
   pub reaches : (r : Row) → UnionsFrom level (λ q. IsAmong q all) (drop k tables) r ↔ UnionsFrom level is_unit tables r
   pub on_scope : AllByRecursion (IsRowOn seen) all
-  pub apart : AllByRecursion (λ (c : TableData). AreApart all c.rows) (drop k tables)
+  pub apart : AllByRecursion (λ (c : TableData). ShareNoMark all c.rows) (drop k tables)
 
 pub united_begin : (level : ℕ) (tables : List TableData) → IsUnited level tables 0 0 (unit_row ∷ [])
 united_begin level tables = record {
   reaches = λ r. unions_alike level tables (λ q. IsAmong q (unit_row ∷ [])) is_unit (λ q. (λ h. elim h [ inl e ↦ e | inr none ↦ absurd none ], λ e. inl e)) r;
   on_scope = (record { mask = refl; partial = record { of_mask = λ k h. h; small = omega arith } }, tt);
-  apart = all_from_among (λ (c : TableData). AreApart (unit_row ∷ []) c.rows) tables (λ c among. unit_apart c);
+  apart = all_from_among (λ (c : TableData). ShareNoMark (unit_row ∷ []) c.rows) tables (λ c among. unit_apart c);
 }
 
 module _ (level : ℕ) (tables : List TableData) (k seen : ℕ) (all : List Row) (a : TableData) (less : k < length tables) (here : a ≡ get_or tables k a) (so_far : IsUnited level tables k seen all) where
   split : drop k tables ≡ a ∷ drop (k + 1) tables
   split = drop_more tables k a less ∙ ap (λ (t : TableData). t ∷ drop (k + 1) tables) (sym here)
 
-  parts : AreApart all a.rows × AllByRecursion (λ (c : TableData). AreApart all c.rows) (drop (k + 1) tables)
-  parts = subst (AllByRecursion (λ (c : TableData). AreApart all c.rows)) split so_far.apart
+  parts : ShareNoMark all a.rows × AllByRecursion (λ (c : TableData). ShareNoMark all c.rows) (drop (k + 1) tables)
+  parts = subst (AllByRecursion (λ (c : TableData). ShareNoMark all c.rows)) split so_far.apart
 
-  pub united_apart : AreApart all a.rows
+  pub united_apart : ShareNoMark all a.rows
   united_apart = parts.0
 
   module _ (is_a : IsTable a) (apart : EachApart tables) (next : List Row) (unions : (r : Row) → IsAmong r next ↔ IsUnion all a.rows level r) where
@@ -77,12 +77,12 @@ module _ (level : ℕ) (tables : List TableData) (k seen : ℕ) (all : List Row)
           partial = subst (λ (w : Row). IsPartial w.state) (sym u.is) (united-partial u.first.state u.second.state x.partial y.partial);
         }
 
-    next_apart : (c : TableData) → IsAmong c (drop (k + 1) tables) → AreApart next c.rows
+    next_apart : (c : TableData) → IsAmong c (drop (k + 1) tables) → ShareNoMark next c.rows
     next_apart c later x y in_x in_y meets =
         let u = (unions x).0 in_x in
         let is_in : has (union u.first.marks u.second.marks) meets.member ≡ true = subst (λ (w : Row). has w.marks meets.member ≡ true) u.is meets.in_first in
         elim (in_union u.first.marks u.second.marks meets.member is_in) [
-          | inl h ↦ all_among (λ (t : TableData). AreApart all t.rows) (drop (k + 1) tables) c parts.1 later u.first y u.in_first in_y (record { member = meets.member; in_first = h; in_second = meets.in_second })
+          | inl h ↦ all_among (λ (t : TableData). ShareNoMark all t.rows) (drop (k + 1) tables) c parts.1 later u.first y u.in_first in_y (record { member = meets.member; in_first = h; in_second = meets.in_second })
           | inr h ↦ later_apart tables k a less here apart c later u.second y u.in_second in_y (record { member = meets.member; in_first = h; in_second = meets.in_second })
         ]
 
@@ -90,7 +90,7 @@ module _ (level : ℕ) (tables : List TableData) (k seen : ℕ) (all : List Row)
     united_more = record {
       reaches = next_reaches;
       on_scope = all_from_among (IsRowOn (union seen a.scope)) next next_on;
-      apart = all_from_among (λ (c : TableData). AreApart next c.rows) (drop (k + 1) tables) next_apart;
+      apart = all_from_among (λ (c : TableData). ShareNoMark next c.rows) (drop (k + 1) tables) next_apart;
     }
 
 pub united_end : (level : ℕ) (tables : List TableData) (k seen : ℕ) (all : List Row) → length tables ≤ k → IsUnited level tables k seen all → AllByRecursion IsTable tables → (r : Row) → IsAmong r all ↔ IsJointRow level tables r

@@ -39,7 +39,7 @@ pub record IsNarrowed (partial : PartialState) (t u : TableData) : Type 0 where
   pub rows : IsListing (λ r. IsAmong r t.rows × Fits r.state partial) RowBefore u.rows
 
 -- It is told whether some joint row holds the variable. Where one does, just those that hold it are left; elsewhere all are.
-pub record IsSettled (level variable : ℕ) (holds : Bool) (before after : List TableData) : Type 0 where
+pub record IsVariableSettled (level variable : ℕ) (holds : Bool) (before after : List TableData) : Type 0 where
   pub tables : AllByRecursion IsTable after
   pub apart : EachApart after
   pub joint : (r : Row) → IsJointRow level after r ↔ (IsJointRow level before r × (has r.state.values variable ≡ holds))

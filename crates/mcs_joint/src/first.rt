@@ -12,7 +12,7 @@ ghost use Rattle.mcs_table.specs.Joins.{IsJointRow};
 ghost use Rattle.mcs_table.specs.Tables.{IsTable};
 ghost use Rattle.mcs_rows.specs.Changed.{AreChangedAt};
 ghost use Rattle.mcs_joint.specs.Apart.{EachApart};
-ghost use Rattle.mcs_joint.specs.First.{TellsFirst, IsJointState, HaveJointRow, valued, IsNarrowed, IsSettled};
+ghost use Rattle.mcs_joint.specs.First.{TellsFirst, IsJointState, HaveJointRow, valued, IsNarrowed, IsVariableSettled};
 
 use crate::order::scopes;
 use crate::reduce::reduced;
@@ -121,7 +121,7 @@ fn settle(alloc: Global, tables: &mut Vec<Table>, variable: u32, level: u32) -> 
     requires few { variable < 64 }
     requires tables { AllByRecursion IsTable tables.old.items }
     requires apart { EachApart tables.old.items }
-    ensures { IfOk result (λ holds. IsSettled level variable holds tables.old.items tables.new.items) }
+    ensures { IfOk result (λ holds. IsVariableSettled level variable holds tables.old.items tables.new.items) }
 {
     if !scopes(tables).has(variable) {
         return Ok(false);

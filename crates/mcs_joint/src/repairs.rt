@@ -9,7 +9,7 @@ ghost use Rattle.mcs_base.specs.Minimal.{IsMinimal};
 ghost use Rattle.mcs_system.specs.Repairs.{IsDiagnosis};
 ghost use Rattle.mcs_table.specs.declared.row.Row as declared;
 ghost use Rattle.mcs_table.specs.Elimination.{still_kept, EliminatesTo};
-ghost use Rattle.mcs_table.specs.Tables.{TableData, IsTable, AreApart, IsJoin, IsForgetting};
+ghost use Rattle.mcs_table.specs.Tables.{TableData, IsTable, ShareNoMark, IsJoin, IsForgetting};
 ghost use Rattle.mcs_rows.specs.Local.{AreFittingTables};
 ghost use Rattle.mcs_joint.specs.Apart.{EachApart};
 ghost use Rattle.mcs_joint.specs.Reduced.{HasFewMarks};
@@ -23,10 +23,10 @@ use mcs_table::{Row, Table, forget, holds_one, join};
 use std::alloc::Global;
 
 /// The minimal diagnoses of the plan's system that have at most so many marks, in the order of pairs. Some of them
-/// may be known already, in any order: rows whose marks hold one of them lead to no other one, and are left out as soon
-/// as they come about. The tables are those of all contexts, in some order, each with the minimal ones of those local rows
-/// of its context at one level, which is this one or a higher one, that hold none of the known diagnoses; rows that fit no
-/// row of some table before it may be left out.
+/// may be known already, in any order: rows whose marks contain one of them lead to no other one, and are left out as
+/// soon as they come about. There is a table for each context, in some order, all of one level, which is this one or a
+/// higher one. Each has the minimal local rows whose marks contain no known diagnosis; rows that are compatible with
+/// no row of some table before it may be left out.
 pub fn repairs_in(
     alloc: Global,
     plan: &Plan,
@@ -113,7 +113,7 @@ fn eliminate_next(
     level: u32,
     sets: &[Marks],
 ) -> Result<Table, Memory>
-    requires { AreApart left.now.rows next.now.rows }
+    requires { ShareNoMark left.now.rows next.now.rows }
     ensures { IfOk result (λ t. (joined : TableData) × (fewer : TableData) × IsJoin left.now next.now level joined
         × IsWithout sets.now joined fewer × IsForgetting fewer (still_kept 0 later.now) t) }
 {

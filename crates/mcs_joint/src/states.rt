@@ -21,10 +21,9 @@ use mcs_table::{Row, Table, union_states, unions};
 use std::alloc::Global;
 
 /// The projected equilibria of the plan's system that the pair changes, in the order of states: the rules that
-/// it removes act only where it forces them, those that it forces act always. The tables are those of all
-/// contexts, in order: of the local rows of each at one level, which is no less than the number of the pair's
-/// marks, those whose marks are the ones that the pair makes of their state. Each mark of the pair is one that a
-/// repair of the system may have.
+/// it removes act only where it forces them, those that it forces act always. There is a table for each context, in
+/// order, all of one level, which is no less than the number of the pair's marks. Each has the local rows whose marks
+/// are the ones that the pair makes of their state. Each mark of the pair is one that a repair of the system may have.
 pub fn states_in(
     alloc: Global,
     plan: &Plan,

@@ -11,7 +11,7 @@ use Rattle.mcs_system.specs.Plain as plain
 use Rattle.mcs_system.proofs.ValidLemmas.{limit_kept}
 use Rattle.mcs_writer.specs.Canonical.{canonical_text}
 use Rattle.mcs_grammar.specs.Entries.{Entry, formula_in, size_of, text_entries, tokens_of}
-use Rattle.mcs_system.specs.Naming.{IsNamed}
+use Rattle.mcs_system.specs.Naming.{IsSystemNamed}
 use Rattle.mcs_system.specs.Unmarked.{IsUnmarked}
 use Rattle.mcs_grammar.specs.Saying.{SaysSystem}
 use Rattle.mcs_grammar.specs.Texts.{Spells}
@@ -102,7 +102,7 @@ primary-place m p (OfRead w there r read is) =
     (f, ap (λ (x : WrittenPlace). x.belief) (sym is) ∙ belief)
 
 -- ---- the text has no faults
-module _ (m : System) (named : IsNamed m) (valid : IsValid m) (unmarked : IsUnmarked m) where
+module _ (m : System) (named : IsSystemNamed m) (valid : IsValid m) (unmarked : IsUnmarked m) where
   size-kept : (n : ℕ) → IsSizeOf (canonical_written m) n → n ≤ 512
   size-kept n h = elim (cases_lt 512 n) [
     | inl less ↦ absurd (true≢false (sym (some-large (canonical_written m) m (canonical-says m named valid unmarked) n h (omega arith)) ∙ limit_kept m valid FormulaSize (inr (inr (inr (inr (inr (inr (inr (inr (inr (inl refl))))))))))))

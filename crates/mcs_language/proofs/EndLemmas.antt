@@ -23,8 +23,8 @@ use Rattle.mcs_reader.specs.TextSteps.{Place, Between, finished_text}
 use Rattle.mcs_reader.specs.TextImages.{AreBridges}
 use Rattle.mcs_faults.specs.Watching.{context_named, contexts_named}
 use Rattle.mcs_reader.specs.Known.{WasNamed, SpeaksOfNamed}
-use Rattle.mcs_reader.specs.Ends.{AreParts, context_names, AreKnown}
-use Rattle.mcs_language.specs.Progress.{IsUpTo}
+use Rattle.mcs_reader.specs.Ends.{AreReaderParts, context_names, HaveKnownContexts}
+use Rattle.mcs_language.specs.Progress.{AreReadUpTo}
 use Rattle.mcs_reader.proofs.FaultTheory.{is-whole, free-whole}
 use Rattle.mcs_faults.proofs.Within.{IsWithin, NoFaults}
 use Rattle.mcs_faults.proofs.UsesCounts.{context-count, names-there}
@@ -40,11 +40,11 @@ pub record HandsOut (p : Parts) (o : Option WrittenText) : Type 0 where
   pub contexts : map context_of p.contexts.items ≡ map context_in text.contexts
   pub bridges : AreBridges p.bridges.items text.bridges
 
-pub hands-out : (p : Parts) (o : Option WrittenText) → AreParts (Some p) o → HandsOut p o
+pub hands-out : (p : Parts) (o : Option WrittenText) → AreReaderParts (Some p) o → HandsOut p o
 hands-out p None h = absurd h
 hands-out p (Some t) h = record { text = t; is = refl; contexts = h.0; bridges = h.1 }
 
-pub hands-nothing : (o : Option WrittenText) → AreParts None o → o ≡ None
+pub hands-nothing : (o : Option WrittenText) → AreReaderParts None o → o ≡ None
 hands-nothing None h = refl
 hands-nothing (Some t) h = absurd h
 
@@ -66,7 +66,7 @@ module _ (uses : List Use) (names : List Name) (are : contexts_named uses ≡ na
   known-reads [] h = tt
   known-reads (r ∷ rs) h = (known-name r.place.context h.0, known-reads rs h.1)
 
-  known-bridges : (bs : List WrittenBridge) → AllByRecursion (SpeaksOfNamed uses) bs → AreKnown names bs
+  known-bridges : (bs : List WrittenBridge) → AllByRecursion (SpeaksOfNamed uses) bs → HaveKnownContexts names bs
   known-bridges [] h = tt
   known-bridges (b ∷ bs) h = (record { head = known-name b.head.context h.0.head; reads = known-reads b.reads h.0.reads }, known-bridges bs h.1)
 
@@ -86,7 +86,7 @@ names-same : (cs : List code_context.Context) (ws : List WrittenContext) → map
 names-same cs ws e = sym (code-names cs) ∙ ap names_in e ∙ written-names ws
 
 -- ---- the whole text
-module _ (bytes : List ℕ) (spans : List Span) (r : Reading) (tokens : AreTokens bytes 0 spans) (h : IsUpTo r (token_texts bytes spans) (length spans))
+module _ (bytes : List ℕ) (spans : List Span) (r : Reading) (tokens : AreTokens bytes 0 spans) (h : AreReadUpTo r (token_texts bytes spans) (length spans))
     (contexts : List code_context.Context) (t : WrittenText) (ends : finished_text h.state ≡ Some t) (contexts-are : map context_of contexts ≡ map context_in t.contexts) where
   whole : IsText t × (text_entries t ≡ h.entries) × (tokens_of (text_entries t) ≡ token_texts bytes spans)
   whole = is-whole (token_texts bytes spans) (length spans) h.entries h.state t (reached r (token_texts bytes spans) (length spans) h) (tokens-many bytes spans) ends
@@ -102,11 +102,11 @@ module _ (bytes : List ℕ) (spans : List Span) (r : Reading) (tokens : AreToken
       let many : length contexts ≡ length t.contexts = sym (length-map contexts context_of) ∙ ap (λ (cs : List plain.Context). length cs) contexts-are ∙ length-map t.contexts context_in in
       omega (arith, context-count t, is-within.contexts)
 
-  pub all-known : AreKnown (context_names contexts) t.bridges
+  pub all-known : HaveKnownContexts (context_names contexts) t.bridges
   all-known =
       let there : contexts_named (uses_of h.entries) ≡ context_names contexts = ap (λ (ms : List Entry). contexts_named (uses_of ms)) (sym whole.1) ∙ names-there t ∙ sym names in
       let bridges : h.state.bridges ≡ t.bridges = bridges-whole h.state.contexts h.state.bridges h.state.place t ends in
-      subst (AreKnown (context_names contexts)) bridges (known-bridges (uses_of h.entries) (context_names contexts) there h.state.bridges h.known.bridges)
+      subst (HaveKnownContexts (context_names contexts)) bridges (known-bridges (uses_of h.entries) (context_names contexts) there h.state.bridges h.known.bridges)
 
   pub says-system : (bs : List code_bridge.Bridge) → Each (SaysBridge (context_names contexts)) t.bridges (map bridge_of bs) → SaysSystem t (system_of contexts bs)
   says-system bs each = record { contexts = contexts-are; bridges = subst (λ (ns : List Name). Each (SaysBridge ns) t.bridges (map bridge_of bs)) names each }

@@ -11,11 +11,11 @@ use Rattle.mcs_faults.specs.declared.fault.TextFault as code_text
 use Rattle.mcs_faults.specs.declared.fault.TextFault.TheVariants as texts
 use Rattle.mcs_language.specs.declared.reading.Reading.{Reading}
 use Rattle.mcs_grammar.specs.Entries.{Token}
-use Rattle.mcs_grammar.specs.Faults.{NoGrammar, IsFirstFault, number_of, limit_of}
+use Rattle.mcs_grammar.specs.Faults.{NoGrammar, IsFirstTextFault, fault_number, limit_of}
 use Rattle.mcs_grammar.specs.Texts.{token_texts, offset_of, HasFault}
 use Rattle.mcs_reader.specs.TextSteps.{finished_text}
-use Rattle.mcs_faults.specs.Watching.{fault_of}
-use Rattle.mcs_language.specs.Progress.{IsUpTo, IsToldOf}
+use Rattle.mcs_faults.specs.Watching.{fault_for}
+use Rattle.mcs_language.specs.Progress.{AreReadUpTo, IsToldOf}
 use Rattle.mcs_reader.proofs.FaultTheory.{first-end}
 use Rattle.mcs_language.proofs.ProgressLemmas.{reached}
 
@@ -33,18 +33,18 @@ offset-past : (bytes : List ℕ) (spans : List Span) (k : ℕ) → slice_get spa
 offset-past bytes spans k is = rw is refl
 
 -- ---- the fault that is told
-pub told-at : (bytes : List ℕ) (spans : List Span) (k : ℕ) (d : Span) (f : code_fault.Fault) (told : code_text.TextFault) → AreTokens bytes 0 spans → k < length spans → IsFirstFault (token_texts bytes spans) k (fault_of f)
-    → told ≡ texts.Fault (number_of (fault_of f)) (get_or spans k d).from (limit_of (fault_of f)) → IsToldOf bytes told
+pub told-at : (bytes : List ℕ) (spans : List Span) (k : ℕ) (d : Span) (f : code_fault.Fault) (told : code_text.TextFault) → AreTokens bytes 0 spans → k < length spans → IsFirstTextFault (token_texts bytes spans) k (fault_for f)
+    → told ≡ texts.Fault (fault_number (fault_for f)) (get_or spans k d).from (limit_of (fault_for f)) → IsToldOf bytes told
 told-at bytes spans k d f told tokens less first is =
     let offset : (get_or spans k d).from ≡ offset_of bytes spans k = offset-within bytes spans k (get_or spans k d) (slice_get-get_or spans k d less) in
-    let here : HasFault bytes (number_of (fault_of f)) (limit_of (fault_of f)) (get_or spans k d).from = record { spans = spans; tokens = tokens; token = k; fault = fault_of f; first = first; number_is = refl; limit_is = refl; offset_is = offset } in
+    let here : HasFault bytes (fault_number (fault_for f)) (limit_of (fault_for f)) (get_or spans k d).from = record { spans = spans; tokens = tokens; token = k; fault = fault_for f; first = first; number_is = refl; limit_is = refl; offset_is = offset } in
     subst (IsToldOf bytes) (sym is) here
 
 -- at the end, where something has to come
-pub told-end : (bytes : List ℕ) (spans : List Span) (r : Reading) (told : code_text.TextFault) (size : ℕ) → AreTokens bytes 0 spans → (h : IsUpTo r (token_texts bytes spans) (length spans)) → finished_text h.state ≡ None
-    → size ≡ length bytes → told ≡ texts.Fault (number_of NoGrammar) size (limit_of NoGrammar) → IsToldOf bytes told
+pub told-end : (bytes : List ℕ) (spans : List Span) (r : Reading) (told : code_text.TextFault) (size : ℕ) → AreTokens bytes 0 spans → (h : AreReadUpTo r (token_texts bytes spans) (length spans)) → finished_text h.state ≡ None
+    → size ≡ length bytes → told ≡ texts.Fault (fault_number NoGrammar) size (limit_of NoGrammar) → IsToldOf bytes told
 told-end bytes spans r told size tokens h none whole is =
     let offset : size ≡ offset_of bytes spans (length spans) = whole ∙ offset-past bytes spans (length spans) (slice_get_past spans (length spans) (omega arith)) in
     let first = first-end (token_texts bytes spans) (length spans) h.entries h.state (reached r (token_texts bytes spans) (length spans) h) (tokens-many bytes spans) none h.free in
-    let here : HasFault bytes (number_of NoGrammar) (limit_of NoGrammar) size = record { spans = spans; tokens = tokens; token = length spans; fault = NoGrammar; first = first; number_is = refl; limit_is = refl; offset_is = offset } in
+    let here : HasFault bytes (fault_number NoGrammar) (limit_of NoGrammar) size = record { spans = spans; tokens = tokens; token = length spans; fault = NoGrammar; first = first; number_is = refl; limit_is = refl; offset_is = offset } in
     subst (IsToldOf bytes) (sym is) here

@@ -7,15 +7,15 @@ use Rattle.mcs_faults.specs.declared.fault.TextFault as code_text
 use Rattle.mcs_faults.specs.declared.fault.TextFault.TheVariants as texts
 use Rattle.mcs_language.specs.declared.reading.Reading.{Reading}
 use Rattle.mcs_grammar.specs.Entries.{Token, Entry, uses_of}
-use Rattle.mcs_grammar.specs.Faults.{Fault, Has, IsFaultAt, IsFirstFault}
+use Rattle.mcs_grammar.specs.Faults.{TextFault, Has, IsFaultAt, IsFirstTextFault}
 use Rattle.mcs_grammar.specs.Texts.{token_texts, HasFault}
 use Rattle.mcs_reader.specs.TextSteps.{PartText, nothing_written, text_steps}
 use Rattle.mcs_reader.specs.TextImages.{IsTextReader}
-use Rattle.mcs_faults.specs.Watching.{IsWatch, fault_of}
+use Rattle.mcs_faults.specs.Watching.{IsWatch, fault_for}
 use Rattle.mcs_reader.specs.Known.{AreKnownIn}
 
 -- the first k tokens were read
-pub record IsUpTo (reading : Reading) (ts : List Token) (k : ℕ) : Type 0 where
+pub record AreReadUpTo (reading : Reading) (ts : List Token) (k : ℕ) : Type 0 where
   pub entries : List Entry
   pub state : PartText
   pub taken : text_steps nothing_written (take k ts) ≡ Some (entries, state)
@@ -23,19 +23,19 @@ pub record IsUpTo (reading : Reading) (ts : List Token) (k : ℕ) : Type 0 where
   pub reader : IsTextReader reading.reader state
   pub watch : IsWatch reading.watch (uses_of entries)
   pub known : AreKnownIn (uses_of entries) state
-  pub faultless : (j : ℕ) (m : Entry) (f : Fault) → slice_get entries j ≡ Some m → ¬ Has f (uses_of (take j entries)) m
-  pub free : (j : ℕ) (f : Fault) → j < k → ¬ IsFaultAt ts j f
+  pub faultless : (j : ℕ) (m : Entry) (f : TextFault) → slice_get entries j ≡ Some m → ¬ Has f (uses_of (take j entries)) m
+  pub free : (j : ℕ) (f : TextFault) → j < k → ¬ IsFaultAt ts j f
 
 -- the next token was read too, or it has the first fault
 abbrev pub IsNextRead : Option code_fault.Fault → Reading → List Token → ℕ → Type 0
-IsNextRead None now ts k = IsUpTo now ts (k + 1)
-IsNextRead (Some f) now ts k = IsFirstFault ts k (fault_of f)
+IsNextRead None now ts k = AreReadUpTo now ts (k + 1)
+IsNextRead (Some f) now ts k = IsFirstTextFault ts k (fault_for f)
 
 -- all tokens of the bytes were read
-pub record IsReadOf (bytes : List ℕ) (reading : Reading) : Type 0 where
+pub record AreTokensRead (bytes : List ℕ) (reading : Reading) : Type 0 where
   pub spans : List Span
   pub tokens : AreTokens bytes 0 spans
-  pub all : IsUpTo reading (token_texts bytes spans) (length spans)
+  pub all : AreReadUpTo reading (token_texts bytes spans) (length spans)
 
 -- the fault that is told of the text, unless memory ran out
 abbrev pub IsToldOf : List ℕ → code_text.TextFault → Type 0

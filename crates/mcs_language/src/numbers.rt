@@ -8,8 +8,8 @@ ghost use Rattle.mcs_system.specs.Seen as seen;
 ghost use Rattle.mcs_system.specs.Seen.{bridge_of};
 ghost use Rattle.mcs_grammar.specs.Written.{WrittenBridge};
 ghost use Rattle.mcs_grammar.specs.Saying.{Each, SaysBridge};
-ghost use Rattle.mcs_reader.specs.TextImages.{AreBridges, IsBridge, read_of};
-ghost use Rattle.mcs_reader.specs.Ends.{AreKnown, AreNamed, IsNamed, SaysRead, context_names};
+ghost use Rattle.mcs_reader.specs.TextImages.{AreBridges, IsBridgeImage, named_read_of};
+ghost use Rattle.mcs_reader.specs.Ends.{HaveKnownContexts, HaveNamedContexts, IsBridgeNamed, SaysRead, context_names};
 
 use mcs_base::Memory;
 use mcs_reader::{NamedBridge, NamedRead};
@@ -29,7 +29,7 @@ fn number_of(contexts: &[Context], name: &Name) -> Option<u32>
 fn numbered_read(contexts: &[Context], read: NamedRead) -> Read
     requires few { length contexts.now ≤ 64 }
     requires known { IsAmong read.context (context_names contexts.now) }
-    ensures { SaysRead (context_names contexts.now) (read_of read) (seen.read_of result) }
+    ensures { SaysRead (context_names contexts.now) (named_read_of read) (seen.read_of result) }
 {
     let NamedRead { context, belief } = read;
     let Some(number) = number_of(contexts, &context) else {
@@ -48,8 +48,8 @@ fn numbered_reads(
     reads: Vec<NamedRead>,
 ) -> Result<Vec<Read>, Memory>
     requires few { length contexts.now ≤ 64 }
-    requires known { AreNamed (context_names contexts.now) reads.items }
-    ensures { IfOk result (λ rs. Each (SaysRead (context_names contexts.now)) (map read_of reads.items) (map seen.read_of rs.items)) }
+    requires known { HaveNamedContexts (context_names contexts.now) reads.items }
+    ensures { IfOk result (λ rs. Each (SaysRead (context_names contexts.now)) (map named_read_of reads.items) (map seen.read_of rs.items)) }
 {
     let mut numbered = Vec::new(alloc);
     for read in reads {
@@ -65,8 +65,8 @@ fn numbered_bridge(
     bridge: NamedBridge,
 ) -> Result<Bridge, Memory>
     requires few { length contexts.now ≤ 64 }
-    requires known { IsNamed (context_names contexts.now) bridge }
-    ensures { (w : WrittenBridge) → IsBridge bridge w → IfOk result (λ b. SaysBridge (context_names contexts.now) w (bridge_of b)) }
+    requires known { IsBridgeNamed (context_names contexts.now) bridge }
+    ensures { (w : WrittenBridge) → IsBridgeImage bridge w → IfOk result (λ b. SaysBridge (context_names contexts.now) w (bridge_of b)) }
 {
     let NamedBridge {
         name,
@@ -110,7 +110,7 @@ pub(crate) fn numbered(
     bridges: Vec<NamedBridge>,
 ) -> Result<Vec<Bridge>, Memory>
     requires few { length contexts.now ≤ 64 }
-    requires known { (ws : List WrittenBridge) × AreBridges bridges.items ws × AreKnown (context_names contexts.now) ws }
+    requires known { (ws : List WrittenBridge) × AreBridges bridges.items ws × HaveKnownContexts (context_names contexts.now) ws }
     ensures { (ws : List WrittenBridge) → AreBridges bridges.items ws → IfOk result (λ bs. Each (SaysBridge (context_names contexts.now)) ws (map bridge_of bs.items)) }
 {
     let mut numbered = Vec::new(alloc);

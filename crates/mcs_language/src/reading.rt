@@ -5,7 +5,7 @@ ghost use Rattle.mcs_system.specs.Faults.{IsValid};
 ghost use Rattle.mcs_system.specs.Seen.{system_of};
 ghost use Rattle.mcs_tokens.specs.Tokens.{AreTokens, IsSpanOf};
 ghost use Rattle.mcs_grammar.specs.Entries.{Token};
-ghost use Rattle.mcs_language.specs.Progress.{IsNextRead, IsReadOf, IsToldOf, IsUpTo};
+ghost use Rattle.mcs_language.specs.Progress.{IsNextRead, AreTokensRead, IsToldOf, AreReadUpTo};
 ghost use Rattle.mcs_grammar.specs.Texts.{Spells, token_texts};
 ghost use Rattle.mcs_faults.specs.declared.fault.TextFault.TheVariants as texts;
 
@@ -27,7 +27,7 @@ pub(crate) struct Reading {
 impl Reading {
     /// The state before the first token.
     fn new(alloc: Global) -> Reading
-        ensures { (ts : List Token) → IsUpTo result ts 0 }
+        ensures { (ts : List Token) → AreReadUpTo result ts 0 }
     {
         Reading {
             reader: Reader::new(alloc),
@@ -37,7 +37,7 @@ impl Reading {
 
     /// Takes the next token, and returns its fault, if it has one.
     fn take(&mut self, alloc: Global, token: &[u8]) -> Result<Option<Fault>, Memory>
-        ensures { (ts : List Token) (k : ℕ) → IsUpTo self.old ts k → slice_get ts k ≡ Some token.now → IfOk result (λ f. IsNextRead f self.new ts k) }
+        ensures { (ts : List Token) (k : ℕ) → AreReadUpTo self.old ts k → slice_get ts k ≡ Some token.now → IfOk result (λ f. IsNextRead f self.new ts k) }
     {
         let subject = self.watch.subject(&self.reader.place);
         let Some(uses) = self.reader.take(alloc, token)? else {
@@ -50,8 +50,8 @@ impl Reading {
     /// Takes all tokens of the text, up to the first one that has a fault.
     fn read(&mut self, alloc: Global, bytes: &[u8], spans: &[Span]) -> Result<(), TextFault>
         requires inside { All (IsSpanOf bytes.now) spans.now }
-        requires begun { IsUpTo self.now (token_texts bytes.now spans.now) 0 }
-        ensures all { IfOk result (λ _. IsUpTo self.new (token_texts bytes.now spans.now) (length spans.now)) }
+        requires begun { AreReadUpTo self.now (token_texts bytes.now spans.now) 0 }
+        ensures all { IfOk result (λ _. AreReadUpTo self.new (token_texts bytes.now spans.now) (length spans.now)) }
         ensures fault { AreTokens bytes.now 0 spans.now → IfErr result (IsToldOf bytes.now) }
     {
         for span in spans {
@@ -64,7 +64,7 @@ impl Reading {
 
     /// The system of the text, whose tokens were all taken, or the fault that the text may not end here.
     fn system(self, alloc: Global, bytes: &[u8]) -> Result<System, TextFault>
-        requires { IsReadOf bytes.now self }
+        requires { AreTokensRead bytes.now self }
         ensures system { IfOk result (Spells bytes.now) }
         ensures fault { IfErr result (IsToldOf bytes.now) }
     {

@@ -14,7 +14,7 @@ use Rattle.mcs_system.specs.Rows.{inputs_of, local_of}
 use Rattle.mcs_system.specs.Levels.{IsLocalRow}
 use Rattle.mcs_system.proofs.MarkLemmas.{marks_known}
 use Rattle.mcs_laws.specs.Laws.{RowsHaveFewMarks, RowsKeepToSupplies}
-use Rattle.mcs_laws.specs.Examples.{p, p_of_0, empty_context, against_itself, one_reads_other}
+use Rattle.mcs_laws.specs.Examples.{p, p_of_0, example_context, against_itself, one_reads_other}
 use Rattle.mcs_laws.proofs.Free.{all_allowed}
 use Rattle.mcs_laws.proofs.Need.{alone_first}
 use Rattle.mcs_laws.proofs.Tiny.{has-1, p_is_open, all_variables-against, variables_of-against, rests, acts_and_may_not, rests_and_must_act}
@@ -97,11 +97,11 @@ no_heads x = at (has x 0)
 -- the first context believes nothing that does not follow from nothing
 disbelieves : (x : ℕ) (b : BeliefSet) → AcceptsWith one_reads_other 0 x b → ¬ Believes b p
 disbelieves x (Theory e) (c, is, accepts) believes =
-    let same : c ≡ empty_context = cc in
+    let same : c ≡ example_context = cc in
     let models : SameModels e [] = rw no_heads at (subst (λ (d : Context). Accepts (with_heads d.kb (heads_into one_reads_other 0 x)) (Theory e)) same accepts) in
     p_is_open (λ a h. believes a (models a ∙ h))
 disbelieves x (Atoms names) (c, is, accepts) believes =
-    let same : c ≡ empty_context = cc in absurd (subst (λ (d : Context). Accepts (with_heads d.kb (heads_into one_reads_other 0 x)) (Atoms names)) same accepts)
+    let same : c ≡ example_context = cc in absurd (subst (λ (d : Context). Accepts (with_heads d.kb (heads_into one_reads_other 0 x)) (Atoms names)) same accepts)
 
 -- so it supplies no state with p
 pub supplies_no_p : (x whole : ℕ) → has whole 0 ≡ true → ¬ IsAcceptedPart one_reads_other 0 x (common whole (variables_of one_reads_other 0))

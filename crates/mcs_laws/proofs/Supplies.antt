@@ -10,12 +10,12 @@ use Rattle.mcs_system.specs.Plain.{Formula, Classical, Context, Read, System}
 use Rattle.mcs_system.specs.Logic.{BeliefSet, Theory, Atoms, Believes, Entails, Accepts, SameModels, with_heads}
 use Rattle.mcs_system.specs.Systems.{variables, variables_of, all_variables, IsVariable, heads_into, AcceptsWith, IsAcceptedPart, applicable}
 use Rattle.mcs_system.specs.Repairs.{marks_of}
-use Rattle.mcs_system.specs.Imports.{imports, Reaches, directly, through, IsReady, IsImportOrder, before_in, rules_into, marks_at, IsQuestionAfter, IsPossibleFrom}
+use Rattle.mcs_system.specs.Imports.{imports, Reaches, directly, through, IsReadyContext, IsImportOrder, before_in, rules_into, marks_at, IsQuestionAfter, IsPossibleFrom}
 use Rattle.mcs_system.specs.Levels.{IsQuestionAt, IsCount}
 use Rattle.mcs_system.proofs.MarkLemmas.{marks_known}
 use Rattle.mcs_laws.specs.Laws.{QuestionsKeepToSupplies, QuestionsTakeSupplies}
 use Rattle.mcs_laws.proofs.Free.{all_allowed}
-use Rattle.mcs_laws.specs.Examples.{name_a, name_b, p, p_of_0, empty_context, one_reads_other, one_reads_fact}
+use Rattle.mcs_laws.specs.Examples.{name_a, name_b, p, p_of_0, example_context, one_reads_other, one_reads_fact}
 use Rattle.mcs_laws.proofs.Rows.{only_read, no_heads, supplies_no_p}
 use Rattle.mcs_laws.proofs.Tiny.{has-1, p_is_open, p_follows}
 
@@ -69,10 +69,10 @@ module _ (fs : List Formula) where
   first_imports_nothing i j e (directly a b is) = true≢false (sym is ∙ ap (λ k. imports (reading fs) k b) e)
   first_imports_nothing i j e (through a b c is later) = true≢false (sym is ∙ ap (λ k. imports (reading fs) k b) e)
 
-  first_ready : IsReady (reading fs) [] 0
+  first_ready : IsReadyContext (reading fs) [] 0
   first_ready = record { in_range = omega arith; untaken = λ h. h; back = λ j less untaken reaches. absurd (first_imports_nothing 0 j refl reaches) }
 
-  second_ready : IsReady (reading fs) (0 ∷ []) 1
+  second_ready : IsReadyContext (reading fs) (0 ∷ []) 1
   second_ready = record {
     in_range = omega arith;
     untaken = λ h. elim h [ inl e ↦ absurd (omega arith) | inr nothing ↦ nothing ];
@@ -80,7 +80,7 @@ module _ (fs : List Formula) where
         subst (λ k. Reaches (reading fs) k 1) (sym only) (subst (λ k. Reaches (reading fs) 1 k) only reaches));
   }
 
-  is_second : (j : ℕ) → IsReady (reading fs) (0 ∷ []) j → j ≡ 1
+  is_second : (j : ℕ) → IsReadyContext (reading fs) (0 ∷ []) j → j ≡ 1
   is_second j ready = let less = ready.in_range in let apart : ¬ (j ≡ 0) = (λ e. ready.untaken (inl e)) in omega arith
 
   in_order : IsImportOrder (reading fs) (0 ∷ 1 ∷ [])
@@ -101,7 +101,7 @@ module _ (fs : List Formula) where
   before_second (i ∷ j ∷ rest) (next, (second, more)) =
       let low = next.lowest 0 first_ready in
       let a : i ≡ 0 = omega arith in
-      let b : j ≡ 1 = is_second j (subst (λ k. IsReady (reading fs) (k ∷ []) j) a second.ready) in
+      let b : j ≡ 1 = is_second j (subst (λ k. IsReadyContext (reading fs) (k ∷ []) j) a second.ready) in
       ap (λ k. before_in (k ∷ j ∷ rest) 1) a ∙ ap (λ k. before_in (0 ∷ k ∷ rest) 1) b
 
   -- ---- what is asked at level 0
@@ -187,7 +187,7 @@ module _ (fs : List Formula) where
 
 -- ---- the first context believes nothing that does not follow from nothing
 supplied_without_p : IsAcceptedPart one_reads_other 0 0 (common 0 (variables_of one_reads_other 0))
-supplied_without_p = record { belief = Theory []; accepted = (empty_context, refl, λ a. rw no_heads refl); part = λ v. (to v, λ h. from v h.0 h.1 h.3) }
+supplied_without_p = record { belief = Theory []; accepted = (example_context, refl, λ a. rw no_heads refl); part = λ v. (to v, λ h. from v h.0 h.1 h.3) }
   where
     to : (v : ℕ) → has (common 0 (variables_of one_reads_other 0)) v ≡ true → (r : Read) × IsVariable one_reads_other v r × (r.context ≡ 0) × Entails [] r.belief
     to v member = absurd (true≢false (sym (in_common 0 (variables_of one_reads_other 0) v member).0 ∙ has-empty v))

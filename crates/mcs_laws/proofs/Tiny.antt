@@ -8,7 +8,7 @@ use Rattle.mcs_system.specs.Plain.{Formula, Context, Read, System}
 use Rattle.mcs_system.specs.Logic.{BeliefSet, Theory, Atoms, Believes, Entails, Accepts, SameModels, with_heads}
 use Rattle.mcs_system.specs.Systems.{variables, variables_of, all_variables, all_rules, IsVariable, IsProjectedEquilibrium, heads_into, AcceptsWith, IsAcceptedPart, acting_at, applicable}
 use Rattle.mcs_laws.specs.Laws.{SelfSupportHasTwo, AgainstItselfHasNone}
-use Rattle.mcs_laws.specs.Examples.{p, p_of_0, empty_context, self_support, against_itself_where}
+use Rattle.mcs_laws.specs.Examples.{p, p_of_0, example_context, self_support, against_itself_where}
 use Rattle.mcs_laws.proofs.Projections.{parts_of, from_parts}
 use Rattle.mcs_base.proofs.Ranges.{zero_or_one}
 
@@ -70,7 +70,7 @@ full = from_parts self_support _ 0 1 (λ k h. rw all_variables-self h) part
     at_0 : IsAcceptedPart self_support 0 1 (common 1 1)
     at_0 = record {
       belief = Theory (p ∷ []);
-      accepted = (empty_context, refl, λ a. rw has-1 refl);
+      accepted = (example_context, refl, λ a. rw has-1 refl);
       part = λ v. (to v, λ h. from v h.0 h.1);
     }
 
@@ -90,7 +90,7 @@ none = from_parts self_support _ 0 0 (λ k h. absurd (true≢false (sym h ∙ ha
     at_0 : IsAcceptedPart self_support 0 0 (common 0 1)
     at_0 = record {
       belief = Theory [];
-      accepted = (empty_context, refl, λ a. rw (has-empty 0) refl);
+      accepted = (example_context, refl, λ a. rw (has-empty 0) refl);
       part = λ v. (to v, λ h. from v h.0 h.1 h.3);
     }
 
@@ -138,9 +138,9 @@ module _ (keep closed : Bool) where
   only_against (suc v) r is = cc
 
   accepted_theory : (x : ℕ) (b : BeliefSet) → AcceptsWith against 0 x b → (e : List Formula) × (b ≡ Theory e) × SameModels e (heads_into against 0 x)
-  accepted_theory x (Theory e) (c, is, accepts) = let same : c ≡ empty_context = cc in
+  accepted_theory x (Theory e) (c, is, accepts) = let same : c ≡ example_context = cc in
       (e, refl, subst (λ (d : Context). Accepts (with_heads d.kb (heads_into against 0 x)) (Theory e)) same accepts)
-  accepted_theory x (Atoms names) (c, is, accepts) = let same : c ≡ empty_context = cc in
+  accepted_theory x (Atoms names) (c, is, accepts) = let same : c ≡ example_context = cc in
       absurd (subst (λ (d : Context). Accepts (with_heads d.kb (heads_into against 0 x)) (Atoms names)) same accepts)
 
   heads-1 : heads_into against 0 1 ≡ p ∷ []
@@ -170,7 +170,7 @@ module _ (keep closed : Bool) where
 
   -- where the rule rests p is not believed
   pub rests : IsAcceptedPart against 0 0 (common 0 1)
-  rests = record { belief = Theory []; accepted = (empty_context, refl, λ a. rw (has-empty 0) refl); part = λ v. (to v, λ h. from v h.0 h.1 h.3) }
+  rests = record { belief = Theory []; accepted = (example_context, refl, λ a. rw (has-empty 0) refl); part = λ v. (to v, λ h. from v h.0 h.1 h.3) }
     where
       to : (v : ℕ) → has (common 0 1) v ≡ true → (r : Read) × IsVariable against v r × (r.context ≡ 0) × Entails [] r.belief
       to v member = absurd (true≢false (sym (in_common 0 1 v member).0 ∙ has-empty v))
@@ -180,7 +180,7 @@ module _ (keep closed : Bool) where
 
   -- and where it acts p is
   pub acts : IsAcceptedPart against 0 1 (common 1 1)
-  acts = record { belief = Theory (p ∷ []); accepted = (empty_context, refl, λ a. rw has-1 refl); part = λ v. (to v, λ h. from v h.0 h.1) }
+  acts = record { belief = Theory (p ∷ []); accepted = (example_context, refl, λ a. rw has-1 refl); part = λ v. (to v, λ h. from v h.0 h.1) }
     where
       to : (v : ℕ) → has (common 1 1) v ≡ true → (r : Read) × IsVariable against v r × (r.context ≡ 0) × Entails (p ∷ []) r.belief
       to v member = let small : v < 1 = members_below 1 1 v (omega arith) (in_common 1 1 v member).0 in let is : v ≡ 0 = omega arith in

@@ -23,20 +23,20 @@ q = Atom (codes "q")
 abbrev pub p_of_0 : Read
 p_of_0 = record { context = 0; belief = p }
 
-abbrev pub empty_context : Context
-empty_context = record { name = name_a; kb = Classical [] }
+abbrev pub example_context : Context
+example_context = record { name = name_a; kb = Classical [] }
 
 -- (a: p) <- (a: p).
 abbrev pub self_support : System
 self_support = record {
-  contexts = empty_context ∷ [];
+  contexts = example_context ∷ [];
   bridges = plain_rule (codes "r") 0 p (p_of_0 ∷ []) [] ∷ [];
 }
 
 -- (a: p) <- not (a: p)., which is kept, and closed, where the one and the other says so
 abbrev pub against_itself_where : Bool → Bool → System
 against_itself_where keep closed = record {
-  contexts = empty_context ∷ [];
+  contexts = example_context ∷ [];
   bridges = record (plain_rule (codes "r") 0 p [] (p_of_0 ∷ [])) { keep = keep; closed = closed } ∷ [];
 }
 
@@ -46,28 +46,28 @@ against_itself = against_itself_where false false
 -- (a: p)., which is kept
 abbrev pub kept_fact : System
 kept_fact = record {
-  contexts = empty_context ∷ [];
+  contexts = example_context ∷ [];
   bridges = record (plain_rule (codes "r") 0 p [] []) { keep = true } ∷ [];
 }
 
 -- (a: p) <- (a: p), not (a: p)., which is closed
 abbrev pub closed_never : System
 closed_never = record {
-  contexts = empty_context ∷ [];
+  contexts = example_context ∷ [];
   bridges = record (plain_rule (codes "r") 0 p (p_of_0 ∷ []) (p_of_0 ∷ [])) { closed = true } ∷ [];
 }
 
 -- (a: p)., of this weight
 abbrev pub fact_of_weight : ℕ → System
 fact_of_weight weight = record {
-  contexts = empty_context ∷ [];
+  contexts = example_context ∷ [];
   bridges = record (plain_rule (codes "r") 0 p [] []) { weight = weight } ∷ [];
 }
 
 -- (b: p) <- (a: p).
 abbrev pub one_reads_other : System
 one_reads_other = record {
-  contexts = empty_context ∷ record { name = name_b; kb = Classical [] } ∷ [];
+  contexts = example_context ∷ record { name = name_b; kb = Classical [] } ∷ [];
   bridges = plain_rule (codes "r") 1 p (p_of_0 ∷ []) [] ∷ [];
 }
 

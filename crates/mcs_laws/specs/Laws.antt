@@ -50,8 +50,8 @@ abbrev pub ConsequenceIsDecided : Type 0
 ConsequenceIsDecided = (formulas : List Formula) (p : Formula) → Entails formulas p ⊎ (¬ Entails formulas p)
 
 -- the names have every atom of the formulas
-abbrev pub Covers : List Name → List Formula → Formula → Type 0
-Covers names formulas p = (n : Name) → IsTrue (is_in n (all_atoms formulas ++ atoms p)) → IsTrue (is_in n names)
+abbrev pub NamesCover : List Name → List Formula → Formula → Type 0
+NamesCover names formulas p = (n : Name) → IsTrue (is_in n (all_atoms formulas ++ atoms p)) → IsTrue (is_in n names)
 
 -- in each row of the truth table over the names in which all of the list holds, p holds
 abbrev pub PassesTable : List Name → List Formula → Formula → Type 0
@@ -59,7 +59,7 @@ PassesTable names formulas p = (row : ℕ) → row < 2 ^ length names → IsTrue
 
 -- the truth table over the atoms decides for all assignments, also for those that name other atoms
 abbrev pub TablesDecide : Type 0
-TablesDecide = (names : List Name) (formulas : List Formula) (p : Formula) → Covers names formulas p → Entails formulas p ↔ PassesTable names formulas p
+TablesDecide = (names : List Name) (formulas : List Formula) (p : Formula) → NamesCover names formulas p → Entails formulas p ↔ PassesTable names formulas p
 
 -- a classical context accepts one part alone: the variables that follow
 abbrev pub ClassicalContextsAcceptWhatFollows : Type 0

@@ -12,12 +12,12 @@ use Rattle.mcs_rows.specs.Local.{Answered}
 use Rattle.mcs_states.specs.Oracles.{OracleState, Lacks, IsLacking, with_journal, after_asking}
 use Rattle.mcs_states.specs.declared.halt.Halt.{Halt}
 use Rattle.mcs_states.specs.declared.halt.Halt.TheVariants.{Spent, Missing, Memory}
-use Rattle.mcs_mesh.specs.Rounds.{AreRight, IsRight, HasAsked, HasAnswered, HasAskingCause, IsOther, questions_in}
+use Rattle.mcs_mesh.specs.Rounds.{AreRightAnswers, IsRightAnswer, HasAsked, HasAnswered, HasAskingCause, IsFirstOther, questions_in}
 
 -- the answers to the first k of the questions are given, and those after them that were asked before are left
 pub record IsAsking (m : System) (i : ℕ) (o : OracleState) (asked : List ℕ) (k : ℕ) (given before : List Answered) : Type 0 where
   pub now : HasAsked m i o (given ++ before)
-  pub right : AreRight m i (given ++ before)
+  pub right : AreRightAnswers m i (given ++ before)
   pub questions : questions_in given ≡ take k asked
   pub in_order : IsAscending (λ a b. a < b) (questions_in before)
   pub among : (x : ℕ) → IsAmong x (questions_in before) → IsAmong x (drop k asked)
@@ -39,7 +39,7 @@ questions-push [] a = refl
 questions-push (g ∷ gs) a = ap (λ xs. g.question ∷ xs) (questions-push gs a)
 
 -- where the first answer is to another question, and all are to later ones or to this one, none is to this one
-none_given : (q : ℕ) (before : List Answered) → IsAscending (λ a b. a < b) (questions_in before) → IsOther q before → ((x : ℕ) → IsAmong x (questions_in before) → q ≤ x) → ¬ IsAmong q (questions_in before)
+none_given : (q : ℕ) (before : List Answered) → IsAscending (λ a b. a < b) (questions_in before) → IsFirstOther q before → ((x : ℕ) → IsAmong x (questions_in before) → q ≤ x) → ¬ IsAmong q (questions_in before)
 none_given q [] up other later h = h
 none_given q (a ∷ rest) up other later (inl e) = other (sym e)
 none_given q (a ∷ rest) up other later (inr h) =
@@ -75,20 +75,20 @@ module _ (m : System) (i : ℕ) (o o' : OracleState) (asked : List ℕ) (up : Is
       let ordered : IsAscending (λ x y. x < y) (questions_in (a ∷ after)) = subst (λ xs. IsAscending (λ x y. x < y) (questions_in xs)) first s.in_order in
       record {
         now = subst (λ z. HasAsked m i z ((given ++ a ∷ []) ++ after)) (sym same) (subst (λ xs. HasAsked m i o xs) whole s.now);
-        right = subst (λ xs. AreRight m i xs) whole s.right;
+        right = subst (λ xs. AreRightAnswers m i xs) whole s.right;
         questions = one_given to;
         in_order = ordered.1;
         among = λ x h. let more : a.question < x = all_among (λ y. a.question < y) (questions_in after) x ordered.0 h in
             one_later asked up k q d less is x (λ e. omega (arith, more, e, to)) (s.among x (subst (λ xs. IsAmong x (questions_in xs)) (sym first) (inr h)));
       }
 
-  new_here : IsOther q before → ¬ IsAmong q (questions_in (given ++ before))
+  new_here : IsFirstOther q before → ¬ IsAmong q (questions_in (given ++ before))
   new_here other h = elim (among_questions q given before h) [
     | inl there ↦ not_before asked up k q d less is (subst (λ xs. IsAmong q xs) s.questions there)
     | inr left ↦ none_given q before s.in_order other (λ x h. not_earlier asked up k q d less is x (s.among x h)) left
   ]
 
-  asked_more : a.question ≡ q → IsOther q before → ¬ Lacks o q → HasAsked m i (after_asking q o) ((given ++ a ∷ []) ++ before)
+  asked_more : a.question ≡ q → IsFirstOther q before → ¬ Lacks o q → HasAsked m i (after_asking q o) ((given ++ a ∷ []) ++ before)
   asked_more to other held = record {
     system = s.now.system;
     context = s.now.context;
@@ -102,13 +102,13 @@ module _ (m : System) (i : ℕ) (o o' : OracleState) (asked : List ℕ) (up : Is
     held = λ x h. elim ((among_inserted x given before a).0 h) [ inl there ↦ s.now.held x there | inr e ↦ subst (λ y. ¬ IsLacking o.holds y) (sym (e ∙ to)) held ];
   }
 
-  right_here : IsRight o.system o.context a → IsRight m i a
-  right_here r = subst (λ (n : System). IsRight n i a) s.now.system (subst (λ (j : ℕ). IsRight o.system j a) s.now.context r)
+  right_here : IsRightAnswer o.system o.context a → IsRightAnswer m i a
+  right_here r = subst (λ (n : System). IsRightAnswer n i a) s.now.system (subst (λ (j : ℕ). IsRightAnswer o.system j a) s.now.context r)
 
-  anew : a.question ≡ q → after ≡ before → IsOther q before → o' ≡ after_asking q o → ¬ Lacks o q → IsRight o.system o.context a → IsAsking m i o' asked (k + 1) (given ++ a ∷ []) after
+  anew : a.question ≡ q → after ≡ before → IsFirstOther q before → o' ≡ after_asking q o → ¬ Lacks o q → IsRightAnswer o.system o.context a → IsAsking m i o' asked (k + 1) (given ++ a ∷ []) after
   anew to same other next held r = record {
     now = subst (λ z. HasAsked m i z ((given ++ a ∷ []) ++ after)) (sym next) (subst (λ xs. HasAsked m i (after_asking q o) ((given ++ a ∷ []) ++ xs)) (sym same) (asked_more to other held));
-    right = subst (λ xs. AreRight m i ((given ++ a ∷ []) ++ xs)) (sym same) (all_append (IsRight m i) (given ++ a ∷ []) before (all_push (IsRight m i) given a (all_left (IsRight m i) given before s.right) (right_here r)) (all_right (IsRight m i) given before s.right));
+    right = subst (λ xs. AreRightAnswers m i ((given ++ a ∷ []) ++ xs)) (sym same) (all_append (IsRightAnswer m i) (given ++ a ∷ []) before (all_push (IsRightAnswer m i) given a (all_left (IsRightAnswer m i) given before s.right) (right_here r)) (all_right (IsRightAnswer m i) given before s.right));
     questions = one_given to;
     in_order = subst (λ xs. IsAscending (λ x y. x < y) (questions_in xs)) (sym same) s.in_order;
     among = λ x h. let there : IsAmong x (questions_in before) = subst (λ xs. IsAmong x (questions_in xs)) same h in
@@ -119,7 +119,7 @@ module _ (m : System) (i : ℕ) (o o' : OracleState) (asked : List ℕ) (up : Is
   one_more (inl h) = again h.0 h.1 h.2
   one_more (inr h) = anew h.0 h.1 h.2 h.3 h.4 h.5
 
-pub begun : (m : System) (i : ℕ) (o : OracleState) (asked : List ℕ) (old given before : List Answered) → given ≡ [] → before ≡ old → HasAsked m i o old → AreRight m i old → IsAscending (λ a b. a < b) (questions_in old) → ((x : ℕ) → IsAmong x (questions_in old) → IsAmong x asked)
+pub begun : (m : System) (i : ℕ) (o : OracleState) (asked : List ℕ) (old given before : List Answered) → given ≡ [] → before ≡ old → HasAsked m i o old → AreRightAnswers m i old → IsAscending (λ a b. a < b) (questions_in old) → ((x : ℕ) → IsAmong x (questions_in old) → IsAmong x asked)
     → IsAsking m i o asked 0 given before
 begun m i o asked old given before none all now right in_order among = rw (none, all) (record { now = now; right = right; questions = refl; in_order = in_order; among = among })
 
@@ -134,8 +134,8 @@ module _ (m : System) (i : ℕ) (o : OracleState) (asked : List ℕ) (k : ℕ) (
   pub all_questions : questions_in given ≡ asked
   all_questions = s.questions ∙ take_all k asked all
 
-  pub all_right_now : AreRight m i given
-  all_right_now = subst (λ xs. AreRight m i xs) whole s.right
+  pub all_right_now : AreRightAnswers m i given
+  all_right_now = subst (λ xs. AreRightAnswers m i xs) whole s.right
 
   pub all_asked : HasAsked m i o given
   all_asked = subst (λ xs. HasAsked m i o xs) whole s.now

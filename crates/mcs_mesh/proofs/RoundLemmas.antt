@@ -25,12 +25,12 @@ use Rattle.mcs_states.specs.Oracles.{OracleState, IsLacking, with_journal}
 use Rattle.mcs_states.specs.Evaluators.{unasked}
 use Rattle.mcs_states.specs.declared.halt.Halt.{Halt}
 use Rattle.mcs_states.specs.declared.halt.Halt.TheVariants.{Spent, Missing, Memory}
-use Rattle.mcs_mesh.specs.Rounds.{Knowledge, AreKnown, AreRight, HasAsked, HasAnswers, HasAskingCause, HasRoundCause, IsBegun, IsKnown, IsRoundDone, answer_count, knowledge_of, questions_in, supplies_at, supplies_in}
+use Rattle.mcs_mesh.specs.Rounds.{Knowledge, AreKnown, AreRightAnswers, HasAsked, HasAnswers, HasAskingCause, HasRoundCause, IsRoundBegun, IsContextKnown, IsRoundDone, answer_count, knowledge_of, questions_in, supplies_at, supplies_in}
 use Rattle.mcs_mesh.specs.declared.known.Known as code
 use Rattle.mcs_mesh.proofs.General.{before_taken, follows_all, follows_apart}
 
 -- ---- supplies
-pub supplies_known : (m : System) (level : ℕ) (known : List Knowledge) (js : List ℕ) → ((j : ℕ) → IsAmong j js → (k : Knowledge) × (slice_get known j ≡ Some k) × IsKnown m level j k) → AreSupplies m level js (supplies_at known js)
+pub supplies_known : (m : System) (level : ℕ) (known : List Knowledge) (js : List ℕ) → ((j : ℕ) → IsAmong j js → (k : Knowledge) × (slice_get known j ≡ Some k) × IsContextKnown m level j k) → AreSupplies m level js (supplies_at known js)
 supplies_known m level known [] each = tt
 supplies_known m level known (j ∷ js) each = let (k, is, one) = each j (inl refl) in
     (subst (λ (o : Option Knowledge). IsListing (MaySupply m level j) StateBefore (supplies_in o)) (sym is) one.supplies, supplies_known m level known js (λ l h. each l (inr h)))
@@ -42,7 +42,7 @@ pub record IsPartly (m : System) (level : ℕ) (seen : List ℕ) (known : List K
   pub sum : drawn ≡ sum_by (λ (xs : List ℕ). length xs) had.lists
   pub told : (c : ℕ) (xs : List ℕ) (k : Knowledge) → IsAmong c seen → slice_get had.lists c ≡ Some xs → slice_get known c ≡ Some k → xs ≡ questions_in k.answers
   pub untold : (c : ℕ) (xs : List ℕ) → ¬ IsAmong c seen → slice_get had.lists c ≡ Some xs → xs ≡ []
-  pub each_known : (c : ℕ) (k : Knowledge) → IsAmong c seen → slice_get known c ≡ Some k → IsKnown m level c k
+  pub each_known : (c : ℕ) (k : Knowledge) → IsAmong c seen → slice_get known c ≡ Some k → IsContextKnown m level c k
 
 no_lists : (cs : List Context) → sum_by (λ (xs : List ℕ). length xs) (map (λ (c : Context). []) cs) ≡ 0
 no_lists [] = refl
@@ -83,7 +83,7 @@ module _ (m : System) (level : ℕ) (seen : List ℕ) (known : List Knowledge) (
   has_drawn = record { lists = slice_set s.had.lists i asked; one_each = length-slice_set s.had.lists i asked ∙ s.had.one_each; some = some_more; many = omega (arith, sum_more) }
 
   -- the context has been asked
-  pub partly_more : (k : Knowledge) → questions_in k.answers ≡ asked → IsKnown m level i k → (now : List ℕ) → now ≡ seen ++ i ∷ [] → (total : ℕ) → total ≡ drawn + length asked → IsPartly m level now (slice_set known i k) total
+  pub partly_more : (k : Knowledge) → questions_in k.answers ≡ asked → IsContextKnown m level i k → (now : List ℕ) → now ≡ seen ++ i ∷ [] → (total : ℕ) → total ≡ drawn + length asked → IsPartly m level now (slice_set known i k) total
   partly_more k questions one now is total e = subst (λ xs. IsPartly m level xs (slice_set known i k) total) (sym is) (record {
     had = record { lists = slice_set s.had.lists i asked; one_each = length-slice_set s.had.lists i asked ∙ s.had.one_each; some = some_more; many = omega (arith, e, sum_more) };
     sum = e ∙ sum_more;
@@ -96,7 +96,7 @@ module _ (m : System) (level : ℕ) (seen : List ℕ) (known : List Knowledge) (
       | inr other ↦ s.untold c xs (λ before. not ((among_push c seen i).1 (inl before))) other.1
     ];
     each_known = λ c k' h at. elim (slice_get-slice_set known i c k k' at) [
-      | inl here ↦ subst (λ z. IsKnown m level c z) (sym here.1) (subst (λ n. IsKnown m level n k) (sym here.0) one)
+      | inl here ↦ subst (λ z. IsContextKnown m level c z) (sym here.1) (subst (λ n. IsContextKnown m level n k) (sym here.0) one)
       | inr other ↦ elim ((among_push c seen i).0 h) [ inl before ↦ s.each_known c k' before other.1 | inr last ↦ absurd (other.0 last) ]
     ];
   })
@@ -115,11 +115,11 @@ same_sums (xs ∷ lists) (k ∷ known) e each =
 pub all_counted : (m : System) (level : ℕ) (order : List ℕ) (known : List Knowledge) (drawn : ℕ) → IsPartly m level order known drawn → length known ≡ length m.contexts → ((c : ℕ) → c < length m.contexts → IsAmong c order) → drawn ≡ answer_count known
 all_counted m level order known drawn s each all = s.sum ∙ same_sums s.had.lists known (s.had.one_each ∙ sym each) (λ c xs k at at'. s.told c xs k (all c (let e = s.had.one_each in let l = slice_get_within s.had.lists c xs at in omega (arith, e, l))) at at')
 
-has_answers : (m : System) (level i : ℕ) (k : Knowledge) → IsKnown m level i k → HasAnswers m level i k.answers
+has_answers : (m : System) (level i : ℕ) (k : Knowledge) → IsContextKnown m level i k → HasAnswers m level i k.answers
 has_answers m level i k one = record { questions = λ x h. (one.answered.questions.exactly x).0 h; ascending = one.answered.questions.ascending; right = one.answered.parts }
 
-begun_more : (m : System) (level : ℕ) (oracles : List OracleState) (known : List Knowledge) → IsBegun m level oracles known → (i : ℕ) (o : OracleState) (k : Knowledge) → HasAsked m i o k.answers → IsKnown m level i k
-    → IsBegun m level (slice_set oracles i o) (slice_set known i k)
+begun_more : (m : System) (level : ℕ) (oracles : List OracleState) (known : List Knowledge) → IsRoundBegun m level oracles known → (i : ℕ) (o : OracleState) (k : Knowledge) → HasAsked m i o k.answers → IsContextKnown m level i k
+    → IsRoundBegun m level (slice_set oracles i o) (slice_set known i k)
 begun_more m level oracles known b i o k asked one = record {
   oracles_each = length-slice_set oracles i o ∙ b.oracles_each;
   known_each = length-slice_set known i k ∙ b.known_each;
@@ -138,12 +138,12 @@ unasked_set (x ∷ os) (suc i) o now is same = ap (λ zs. with_journal [] x ∷ 
 
 -- ---- in the midst of a round
 pub record IsOnRound (m : System) (level budget : ℕ) (seen : List ℕ) (first oracles : List OracleState) (known : List Knowledge) (drawn : ℕ) : Type 0 where
-  pub begun : IsBegun m level oracles known
+  pub begun : IsRoundBegun m level oracles known
   pub partly : IsPartly m level seen known drawn
   pub rest : unasked oracles ≡ unasked first
   pub within : drawn ≤ budget
 
-pub on_begun : (m : System) (level budget : ℕ) (oracles : List OracleState) (known : List Knowledge) → IsBegun m level oracles known → IsOnRound m level budget [] oracles oracles known 0
+pub on_begun : (m : System) (level budget : ℕ) (oracles : List OracleState) (known : List Knowledge) → IsRoundBegun m level oracles known → IsOnRound m level budget [] oracles oracles known 0
 on_begun m level budget oracles known b = record { begun = b; partly = partly_begun m level known; rest = refl; within = omega arith }
 
 module _ (m : System) (level budget : ℕ) (order : List ℕ) (ordered : IsImportOrder m order) (k d i : ℕ) (more : k < length order) (is : i ≡ get_or order k d)
@@ -151,7 +151,7 @@ module _ (m : System) (level budget : ℕ) (order : List ℕ) (ordered : IsImpor
   pub unseen : ¬ IsAmong i (take k order)
   unseen h = follows_apart m [] order k d ordered more (subst (λ j. IsAmong j (take k order)) is h)
 
-  earlier_known : (j : ℕ) → IsAmong j (supplied m order i) → (l : Knowledge) × (slice_get known j ≡ Some l) × IsKnown m level j l
+  earlier_known : (j : ℕ) → IsAmong j (supplied m order i) → (l : Knowledge) × (slice_get known j ≡ Some l) × IsContextKnown m level j l
   earlier_known j h =
       let before = (filter_among (imports m i) j (before_in order i) h).0 in
       let there : IsAmong j (take k order) = before_taken order k d j more (subst (λ n. IsAmong j (before_in order n)) is before) in
@@ -179,7 +179,7 @@ module _ (m : System) (level budget : ℕ) (order : List ℕ) (ordered : IsImpor
         (o', subst (λ n. slice_get first n ≡ Some o') (sym e) there, subst (λ (h : Option (List ℕ)). IsLacking h x) holds lacks, subst (λ n. IsQuestionAt m level n x) (sym e) ((listed.exactly x).0 among))
     asking_stopped o Memory at_i cause = tt
 
-    pub on_more : total ≤ budget → (o o' : OracleState) (l : Knowledge) → slice_get oracles i ≡ Some o → with_journal [] o' ≡ with_journal [] o → HasAsked m i o' l.answers → questions_in l.answers ≡ asked → IsKnown m level i l
+    pub on_more : total ≤ budget → (o o' : OracleState) (l : Knowledge) → slice_get oracles i ≡ Some o → with_journal [] o' ≡ with_journal [] o → HasAsked m i o' l.answers → questions_in l.answers ≡ asked → IsContextKnown m level i l
         → IsOnRound m level budget (take (k + 1) order) first (slice_set oracles i o') (slice_set known i l) total
     on_more fits o o' l at_i same has questions one = record {
       begun = begun_more m level oracles known s.begun i o' l has one;
@@ -273,8 +273,8 @@ module _ {O : Type 0} (stands : O → OracleState) (m : System) (level budget : 
     pub here_before : HasAsked (stands (get_or xs (get_or order k 0) dx)).system (get_or order k 0) (stands (get_or xs (get_or order k 0) dx)) (knowledge_of (get_or ks (get_or order k 0) dk)).answers
     here_before = subst (λ n. HasAsked n (get_or order k 0) (stands (get_or xs (get_or order k 0) dx)) (knowledge_of (get_or ks (get_or order k 0) dk)).answers) (sym here_asked.system) here_asked
 
-    pub here_right : AreRight (stands (get_or xs (get_or order k 0) dx)).system (get_or order k 0) (knowledge_of (get_or ks (get_or order k 0) dk)).answers
-    here_right = subst (λ n. AreRight n (get_or order k 0) (knowledge_of (get_or ks (get_or order k 0) dk)).answers) (sym here_asked.system) here_answers.right
+    pub here_right : AreRightAnswers (stands (get_or xs (get_or order k 0) dx)).system (get_or order k 0) (knowledge_of (get_or ks (get_or order k 0) dk)).answers
+    here_right = subst (λ n. AreRightAnswers n (get_or order k 0) (knowledge_of (get_or ks (get_or order k 0) dk)).answers) (sym here_asked.system) here_answers.right
 
     module _ (asked : List ℕ) (listed : IsListing (IsQuestionAt m level (get_or order k 0)) (λ a b. a < b) asked) where
       pub here_rules : AllByRecursion (λ x. Within x (rules_into (stands (get_or xs (get_or order k 0) dx)).system (get_or order k 0))) asked
@@ -288,12 +288,12 @@ module _ {O : Type 0} (stands : O → OracleState) (m : System) (level budget : 
 
       pub here_more : (o : O) (l : code.Known) (total : ℕ) → total ≡ drawn + length asked → total ≤ budget → with_journal [] (stands o) ≡ with_journal [] (stands (get_or xs (get_or order k 0) dx))
           → HasAsked (stands (get_or xs (get_or order k 0) dx)).system (get_or order k 0) (stands o) (knowledge_of l).answers → questions_in (knowledge_of l).answers ≡ asked
-          → ((higher : ℕ) → IsListing (IsQuestionAt (stands (get_or xs (get_or order k 0) dx)).system higher (get_or order k 0)) (λ a b. a < b) asked → IsKnown (stands (get_or xs (get_or order k 0) dx)).system higher (get_or order k 0) (knowledge_of l))
+          → ((higher : ℕ) → IsListing (IsQuestionAt (stands (get_or xs (get_or order k 0) dx)).system higher (get_or order k 0)) (λ a b. a < b) asked → IsContextKnown (stands (get_or xs (get_or order k 0) dx)).system higher (get_or order k 0) (knowledge_of l))
           → IsOnRound m level budget (take (k + 1) order) first (map stands (slice_set xs (get_or order k 0) o)) (map knowledge_of (slice_set ks (get_or order k 0) l)) total
       here_more o l total adds fits same has questions one = rw (map-slice_set stands xs (get_or order k 0) o, map-slice_set knowledge_of ks (get_or order k 0) l)
           (on_more m level budget order ordered k 0 (get_or order k 0) more refl first (map stands xs) (map knowledge_of ks) drawn s here_inside asked listed total adds fits (stands (get_or xs (get_or order k 0) dx)) (stands o) (knowledge_of l) oracle_there same
           (subst (λ n. HasAsked n (get_or order k 0) (stands o) (knowledge_of l).answers) here_asked.system has) questions
-          (subst (λ n. IsKnown n level (get_or order k 0) (knowledge_of l)) here_asked.system (one level (subst (λ n. IsListing (IsQuestionAt n level (get_or order k 0)) (λ a b. a < b) asked) (sym here_asked.system) listed))))
+          (subst (λ n. IsContextKnown n level (get_or order k 0) (knowledge_of l)) here_asked.system (one level (subst (λ n. IsListing (IsQuestionAt n level (get_or order k 0)) (λ a b. a < b) asked) (sym here_asked.system) listed))))
 
     pub here_rest : (o : O) → with_journal [] (stands o) ≡ with_journal [] (stands (get_or xs (get_or order k 0) dx)) → unasked (map stands (slice_set xs (get_or order k 0) o)) ≡ unasked first
     here_rest o same = rest_set stands xs (get_or order k 0) dx oracle_below first o s.rest same

@@ -33,17 +33,17 @@ questions_in answers = map (λ (a : Answered). a.question) answers
 
 -- ---- one context
 -- the first of the answers is not to x
-abbrev pub IsOther : ℕ → List Answered → Type 0
-IsOther x [] = Unit {0}
-IsOther x (a ∷ answers) = ¬ (a.question ≡ x)
+abbrev pub IsFirstOther : ℕ → List Answered → Type 0
+IsFirstOther x [] = Unit {0}
+IsFirstOther x (a ∷ answers) = ¬ (a.question ≡ x)
 
 -- the answer has what context i accepts with the question
-abbrev pub IsRight : System → ℕ → Answered → Type 0
-IsRight m i a = IsListing (IsAcceptedPart m i a.question) StateBefore a.parts
+abbrev pub IsRightAnswer : System → ℕ → Answered → Type 0
+IsRightAnswer m i a = IsListing (IsAcceptedPart m i a.question) StateBefore a.parts
 
 -- each of the answers has
-abbrev pub AreRight : System → ℕ → List Answered → Type 0
-AreRight m i answers = AllByRecursion (IsRight m i) answers
+abbrev pub AreRightAnswers : System → ℕ → List Answered → Type 0
+AreRightAnswers m i answers = AllByRecursion (IsRightAnswer m i) answers
 
 -- the oracle is one of context i of the system, and was asked just these questions, none of which it lacks
 pub record HasAsked (m : System) (i : ℕ) (o : OracleState) (answers : List Answered) : Type 0 where
@@ -56,16 +56,16 @@ pub record HasAsked (m : System) (i : ℕ) (o : OracleState) (answers : List Ans
 pub record HasAnswers (m : System) (level i : ℕ) (answers : List Answered) : Type 0 where
   pub questions : (x : ℕ) → IsAmong x (questions_in answers) → IsQuestionAt m level i x
   pub ascending : IsAscending (λ a b. a < b) (questions_in answers)
-  pub right : AreRight m i answers
+  pub right : AreRightAnswers m i answers
 
 -- all were, and what may be supplied is known
-pub record IsKnown (m : System) (level i : ℕ) (k : Knowledge) : Type 0 where
+pub record IsContextKnown (m : System) (level i : ℕ) (k : Knowledge) : Type 0 where
   pub answered : AreAnswered m level i k.answers
   pub supplies : IsListing (MaySupply m level i) StateBefore k.supplies
 
 -- ---- all contexts
 -- for each context, in order, an oracle that was asked what is known of it, which are questions of the level
-pub record IsBegun (m : System) (level : ℕ) (oracles : List OracleState) (known : List Knowledge) : Type 0 where
+pub record IsRoundBegun (m : System) (level : ℕ) (oracles : List OracleState) (known : List Knowledge) : Type 0 where
   pub oracles_each : length oracles ≡ length m.contexts
   pub known_each : length known ≡ length m.contexts
   pub asked : (i : ℕ) (o : OracleState) (k : Knowledge) → slice_get oracles i ≡ Some o → slice_get known i ≡ Some k → HasAsked m i o k.answers
@@ -73,7 +73,7 @@ pub record IsBegun (m : System) (level : ℕ) (oracles : List OracleState) (know
 
 -- each context is known
 abbrev pub AreKnown : System → ℕ → List Knowledge → Type 0
-AreKnown m level known = (i : ℕ) (k : Knowledge) → slice_get known i ≡ Some k → IsKnown m level i k
+AreKnown m level known = (i : ℕ) (k : Knowledge) → slice_get known i ≡ Some k → IsContextKnown m level i k
 
 -- all questions of the level were asked
 pub record IsRoundDone (m : System) (level : ℕ) (oracles : List OracleState) (known : List Knowledge) : Type 0 where
@@ -104,7 +104,7 @@ HasRoundCause m level budget oracles Memory = Unit {0}
 abbrev pub HasAnswered : ℕ → ℕ → OracleState → OracleState → List Answered → List Answered → Answered → Type 0
 HasAnswered i x o o' before after a =
     ((a.question ≡ x) × (before ≡ a ∷ after) × (o' ≡ o))
-    ⊎ ((a.question ≡ x) × (after ≡ before) × IsOther x before × (o' ≡ after_asking x o) × (¬ Lacks o x) × IsRight o.system o.context a)
+    ⊎ ((a.question ≡ x) × (after ≡ before) × IsFirstOther x before × (o' ≡ after_asking x o) × (¬ Lacks o x) × IsRightAnswer o.system o.context a)
 
 -- why the questions to context i stopped
 abbrev pub HasAskingCause : ℕ → OracleState → List ℕ → Halt → Type 0
@@ -123,18 +123,18 @@ HasFewRules m level = (i : ℕ) → i < length m.contexts → size (common (rule
 
 -- ---- what a mesh keeps
 -- the evaluator's parts
-abbrev pub state_of : System → ℕ → Option ℕ → Option Halt → List OracleState → EvaluatorState
-state_of m budget done halt oracles = record { system = m; budget = budget; done = done; halt = halt; halted = is_some halt; oracles = oracles }
+abbrev pub evaluator_state_of : System → ℕ → Option ℕ → Option Halt → List OracleState → EvaluatorState
+evaluator_state_of m budget done halt oracles = record { system = m; budget = budget; done = done; halt = halt; halted = is_some halt; oracles = oracles }
 
 -- before the first round nothing was asked; after one its questions were
-abbrev pub IsReady : EvaluatorState → Option ℕ → List Knowledge → ℕ → Type 0
-IsReady e None known asked = ((level : ℕ) → IsBegun e.system level e.oracles known) × (asked ≡ 0) × (answer_count known ≡ 0)
-IsReady e (Some level) known asked = IsRoundDone e.system level e.oracles known × (asked ≡ answer_count known) × (asked ≤ e.budget)
+abbrev pub IsRoundReady : EvaluatorState → Option ℕ → List Knowledge → ℕ → Type 0
+IsRoundReady e None known asked = ((level : ℕ) → IsRoundBegun e.system level e.oracles known) × (asked ≡ 0) × (answer_count known ≡ 0)
+IsRoundReady e (Some level) known asked = IsRoundDone e.system level e.oracles known × (asked ≡ answer_count known) × (asked ≤ e.budget)
 
 -- nothing is kept once it halted, but that there is an oracle for each context
 pub record IsMesh (e : EvaluatorState) (known : List Knowledge) (asked : ℕ) : Type 0 where
   pub one_each : HasOracles e
-  pub ready : e.halt ≡ None → IsReady e e.done known asked
+  pub ready : e.halt ≡ None → IsRoundReady e e.done known asked
 
 -- the halt for an oracle that stopped
 abbrev pub halt_from_stop : ℕ → OracleStop → Halt

@@ -8,7 +8,7 @@ ghost use Rattle.mcs_system.specs.Imports.{rules_into};
 ghost use Rattle.mcs_system.specs.Levels.{IsQuestionAt};
 ghost use Rattle.mcs_states.specs.Oracles.{with_journal};
 ghost use Rattle.mcs_rows.specs.Answers.{answered_of};
-ghost use Rattle.mcs_mesh.specs.Rounds.{AreRight, HasAsked, HasAnswered, HasAskingCause, IsKnown, IsOther, knowledge_of, questions_in, halt_from_stop};
+ghost use Rattle.mcs_mesh.specs.Rounds.{AreRightAnswers, HasAsked, HasAnswered, HasAskingCause, IsContextKnown, IsFirstOther, knowledge_of, questions_in, halt_from_stop};
 
 use crate::known::Known;
 use mcs_base::Active;
@@ -34,11 +34,11 @@ pub(crate) fn ask_context<O: Oracle, G: Gate>(
     requires ascending { IsAscending (λ a b. a < b) asked.now }
     requires before { HasAsked (O.stands oracle.old).system i (O.stands oracle.old) (knowledge_of known.old).answers }
     requires in_order { IsAscending (λ a b. a < b) (questions_in (knowledge_of known.old).answers) }
-    requires right { AreRight (O.stands oracle.old).system i (knowledge_of known.old).answers }
+    requires right { AreRightAnswers (O.stands oracle.old).system i (knowledge_of known.old).answers }
     requires among { (x : ℕ) → IsAmong x (questions_in (knowledge_of known.old).answers) → IsAmong x asked.now }
     ensures questions { OnOk result (questions_in (knowledge_of known.new).answers ≡ asked.now) }
     ensures known { OnOk result ((level : ℕ) → IsListing (IsQuestionAt (O.stands oracle.old).system level i) (λ a b. a < b) asked.now
-        → IsKnown (O.stands oracle.old).system level i (knowledge_of known.new)) }
+        → IsContextKnown (O.stands oracle.old).system level i (knowledge_of known.new)) }
     ensures now { OnOk result (HasAsked (O.stands oracle.old).system i (O.stands oracle.new) (knowledge_of known.new).answers) }
     ensures cause { IfErr result (HasAskingCause i (O.stands oracle.old) asked.now) }
     ensures rest { with_journal [] (O.stands oracle.new) ≡ with_journal [] (O.stands oracle.old) }
@@ -63,10 +63,10 @@ fn ask_new<O: Oracle, G: Gate>(
     requires ascending { IsAscending (λ a b. a < b) asked.now }
     requires before { HasAsked (O.stands oracle.old).system i (O.stands oracle.old) (map answered_of answers.old.items) }
     requires in_order { IsAscending (λ a b. a < b) (questions_in (map answered_of answers.old.items)) }
-    requires right { AreRight (O.stands oracle.old).system i (map answered_of answers.old.items) }
+    requires right { AreRightAnswers (O.stands oracle.old).system i (map answered_of answers.old.items) }
     requires among { (x : ℕ) → IsAmong x (questions_in (map answered_of answers.old.items)) → IsAmong x asked.now }
     ensures questions { OnOk result (questions_in (map answered_of answers.new.items) ≡ asked.now) }
-    ensures right { OnOk result (AreRight (O.stands oracle.old).system i (map answered_of answers.new.items)) }
+    ensures right { OnOk result (AreRightAnswers (O.stands oracle.old).system i (map answered_of answers.new.items)) }
     ensures now { OnOk result (HasAsked (O.stands oracle.old).system i (O.stands oracle.new) (map answered_of answers.new.items)) }
     ensures cause { IfErr result (HasAskingCause i (O.stands oracle.old) asked.now) }
     ensures rest { with_journal [] (O.stands oracle.new) ≡ with_journal [] (O.stands oracle.old) }
@@ -113,7 +113,7 @@ fn answer_to<O: Oracle, G: Gate>(
 fn given_before(answers: &mut VecDeque<Answer>, question: Active) -> Option<Answer>
     ensures first { IfSome result (λ a. (answers.old.items ≡ a ∷ answers.new.items) × (a.active ≡ question)) }
     ensures kept { IfNone result (answers.new.items ≡ answers.old.items) }
-    ensures other { IfNone result (IsOther question (map answered_of answers.old.items)) }
+    ensures other { IfNone result (IsFirstOther question (map answered_of answers.old.items)) }
 {
     if answers.front()?.active != question {
         return None;

@@ -5,7 +5,7 @@ ghost use Rattle.mcs_base.specs.Listings.{IsAmong, IsAscending, IsListing};
 ghost use Rattle.mcs_sets.specs.Orders.{PairBefore};
 ghost use Rattle.mcs_sets.specs.Sets.{size};
 ghost use Rattle.mcs_states.specs.Evaluators.{AreRepairs};
-ghost use Rattle.mcs_mesh.specs.Found.{AreFound};
+ghost use Rattle.mcs_mesh.specs.Found.{AreRepairsFound};
 ghost use Rattle.mcs_mesh.specs.Rounds.{knowledge_of, AreKnown};
 
 use crate::known::Known;
@@ -48,12 +48,12 @@ impl Found {
         done: u32,
         level: u32,
     ) -> Result<Vec<Marks>, Memory>
-        requires before { AreFound plan.now self.old.level self.old.pairs.items }
+        requires before { AreRepairsFound plan.now self.old.level self.old.pairs.items }
         requires one_each { length known.now ≡ length plan.now.contexts }
         requires known { AreKnown plan.now done (map knowledge_of known.now) }
         requires within { level ≤ done }
         ensures listing { IfOk result (λ pairs. AreRepairs plan.now level pairs.items) }
-        ensures kept { AreFound plan.now self.new.level self.new.pairs.items }
+        ensures kept { AreRepairsFound plan.now self.new.level self.new.pairs.items }
     {
         if !is_reached(self.level, level) {
             self.find(alloc, plan, known, done, level)?;
@@ -72,13 +72,13 @@ impl Found {
         done: u32,
         level: u32,
     ) -> Result<(), Memory>
-        requires before { AreFound plan.now self.old.level self.old.pairs.items }
+        requires before { AreRepairsFound plan.now self.old.level self.old.pairs.items }
         requires one_each { length known.now ≡ length plan.now.contexts }
         requires known { AreKnown plan.now done (map knowledge_of known.now) }
         requires within { level ≤ done }
         requires lower { (d : ℕ) → self.old.level ≡ Some d → d ≤ level }
         ensures found { OnOk result ((d : ℕ) × (self.new.level ≡ Some d) × (level ≤ d)) }
-        ensures kept { AreFound plan.now self.new.level self.new.pairs.items }
+        ensures kept { AreRepairsFound plan.now self.new.level self.new.pairs.items }
     {
         let ahead = level_ahead(plan.system(), level);
         let looked_for = &self.pairs[..self.pairs.len().min(MOST_LOOKED_FOR)];

@@ -38,9 +38,9 @@ pub(crate) fn is_all_done(system: &System, done: Option<u32>) -> bool
     }
 }
 
-/// Up to which level repairs are looked for where this one is asked for: where each level above it has the same
-/// rows, up to twice as far, so that few levels need a final step of their own, and where no repair has more marks, as far
-/// as there are levels.
+/// Up to which level repairs are searched for when this one is asked for. If each level above it has the same rows, it
+/// is twice this level, so that few levels need a final step of their own. If no repair has more marks, it is the
+/// highest level there is.
 pub(crate) fn level_ahead(system: &System, level: u32) -> u32
     ensures no_less { level ≤ result }
     ensures above { level < result → HasFewRules system.now level }

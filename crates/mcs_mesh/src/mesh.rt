@@ -7,7 +7,7 @@ ghost use Rattle.mcs_states.specs.Evaluators.{IsStateOf, AreStates, KeepsRest, H
 ghost use Rattle.mcs_states.specs.declared.halt.Halt.TheVariants as halts;
 ghost use Rattle.std.specs.Arc.{arc_value};
 ghost use Rattle.mcs_joint.specs.First.{TellsFirst};
-ghost use Rattle.mcs_mesh.specs.Rounds.{state_of, knowledge_of, AreFresh, AreKnown};
+ghost use Rattle.mcs_mesh.specs.Rounds.{evaluator_state_of, knowledge_of, AreFresh, AreKnown};
 
 use crate::found::{Found, is_reached};
 use crate::known::Known;
@@ -44,16 +44,16 @@ impl<'a, O: Oracle, G: Gate> Model for Mesh<'a, O, G> {
     ghost use Rattle.std.specs.Arc.{arc_value};
     ghost use Rattle.mcs_states.specs.Evaluators.{EvaluatorState};
     ghost use Rattle.mcs_states.specs.Codes.{coded_evaluator};
-    ghost use Rattle.mcs_mesh.specs.Rounds.{IsMesh, state_of, knowledge_of};
-    ghost use Rattle.mcs_mesh.specs.Found.{AreFound};
+    ghost use Rattle.mcs_mesh.specs.Rounds.{IsMesh, evaluator_state_of, knowledge_of};
+    ghost use Rattle.mcs_mesh.specs.Found.{AreRepairsFound};
 
     ghost Value = { EvaluatorState };
 
     ghost coded = { coded_evaluator };
 
-    ghost view = { λ l. state_of (arc_value l.plan) l.budget l.done l.halt (map O.stands l.oracles.items) };
+    ghost view = { λ l. evaluator_state_of (arc_value l.plan) l.budget l.done l.halt (map O.stands l.oracles.items) };
 
-    ghost invariant = { λ l. IsMesh (state_of (arc_value l.plan) l.budget l.done l.halt (map O.stands l.oracles.items)) (map knowledge_of l.known.items) l.asked × AreFound (arc_value l.plan) l.found.level l.found.pairs.items };
+    ghost invariant = { λ l. IsMesh (evaluator_state_of (arc_value l.plan) l.budget l.done l.halt (map O.stands l.oracles.items)) (map knowledge_of l.known.items) l.asked × AreRepairsFound (arc_value l.plan) l.found.level l.found.pairs.items };
 }
 
 impl<'a, O: Oracle, G: Gate> Mesh<'a, O, G> {
@@ -68,7 +68,7 @@ impl<'a, O: Oracle, G: Gate> Mesh<'a, O, G> {
     ) -> Result<Mesh<'a, O, G>, Memory>
         requires one_each { length oracles.items ≡ length (arc_value plan).contexts }
         requires own { AreFresh (arc_value plan) (map O.stands oracles.items) }
-        ensures { IfOk result (λ mesh. mesh ≡ state_of (arc_value plan) budget None None (map O.stands oracles.items)) }
+        ensures { IfOk result (λ mesh. mesh ≡ evaluator_state_of (arc_value plan) budget None None (map O.stands oracles.items)) }
     {
         let mut known = Vec::new(alloc);
         for _ in 0..oracles.len() {

@@ -6,7 +6,7 @@ ghost use Rattle.mcs_system.specs.Imports.{IsImportOrder, supplied};
 ghost use Rattle.mcs_system.specs.Levels.{IsQuestionAt};
 ghost use Rattle.mcs_import.specs.Plans.{AreSupplies};
 ghost use Rattle.mcs_states.specs.Evaluators.{unasked};
-ghost use Rattle.mcs_mesh.specs.Rounds.{IsBegun, IsRoundDone, HasRoundCause, answer_count, knowledge_of, supplies_at};
+ghost use Rattle.mcs_mesh.specs.Rounds.{IsRoundBegun, IsRoundDone, HasRoundCause, answer_count, knowledge_of, supplies_at};
 
 use crate::asking::ask_context;
 use crate::known::Known;
@@ -16,9 +16,9 @@ use mcs_ports::Gate;
 use mcs_states::{Halt, Oracle};
 use std::alloc::Global;
 
-/// Does the round of a level: asks each context, in import order, those of its questions of the level that were not asked
-/// before. The number of all questions, which it tells, is compared with the budget before the questions of each context
-/// are asked.
+/// Does the round of a level: asks each context, in import order, those of its questions of the level that were not
+/// asked before. The number of all questions, which it tells, is compared with the budget before the questions of
+/// each context are asked.
 pub(crate) fn ask_round<O: Oracle, G: Gate>(
     alloc: Global,
     plan: &Plan,
@@ -28,7 +28,7 @@ pub(crate) fn ask_round<O: Oracle, G: Gate>(
     known: &mut [Known],
     gate: &G,
 ) -> Result<u64, Halt>
-    requires { IsBegun plan.now level (map O.stands oracles.old) (map knowledge_of known.old) }
+    requires { IsRoundBegun plan.now level (map O.stands oracles.old) (map knowledge_of known.old) }
     ensures count { IfOk result (λ n. n ≡ answer_count (map knowledge_of known.new)) }
     ensures done { OnOk result (IsRoundDone plan.now level (map O.stands oracles.new) (map knowledge_of known.new)) }
     ensures within { OnOk result (answer_count (map knowledge_of known.new) ≤ budget) }

@@ -46,8 +46,9 @@ fn all_contexts(alloc: Global, plan: &Plan) -> Result<Vec<u32>, Memory>
     Ok(all)
 }
 
-/// All contexts, in the order in which their tables are made: first those of few rows, since a later table needs no row
-/// that fits none of an earlier one; of two that may come to as many, the one that is first in the import order.
+/// All contexts, in the order in which their tables are made. Those of few rows come first, since a later table needs no
+/// row that is compatible with none of an earlier one. Of two that may have equally many, the one that is first in the
+/// import order comes first.
 fn order_of_making(alloc: Global, plan: &Plan, known: &[Known]) -> Result<Vec<u32>, Memory>
     requires { length known.now ≡ length plan.now.contexts }
     ensures { IfOk result (λ order. IsPermutation (range_with_len 0 (length plan.now.contexts)) order.items) }
@@ -61,8 +62,8 @@ fn order_of_making(alloc: Global, plan: &Plan, known: &[Known]) -> Result<Vec<u3
     Ok(order)
 }
 
-/// The minimal ones of those local rows of each context whose marks hold none of the pairs, in some order, once all
-/// questions of the level were asked; of each table at least the rows that fit a row of each table before it.
+/// A table for each context, in some order, once all questions of the level were asked. It has the minimal ones of the
+/// local rows whose marks contain none of the pairs, at least those that are compatible with a row of each table before.
 pub(crate) fn minimal_tables(
     alloc: Global,
     plan: &Plan,

@@ -19,10 +19,10 @@ use Rattle.mcs_cnf.proofs.MeaningLemmas.{all_hold-parts, all_hold-both, list_say
 use Rattle.mcs_cnf.proofs.NumberLemmas.{atom_positive, atom_within}
 use Rattle.mcs_cnf.proofs.Tables.{clause_of-holds, non-holds}
 use Rattle.mcs_cnf.proofs.Values.{all_values}
-use Rattle.mcs_evidence.specs.Programs.{literals_from, rule_formula, other_formula, IsOverRule}
+use Rattle.mcs_evidence.specs.Programs.{literals_of_state, rule_formula, other_formula, IsOverRule}
 use Rattle.mcs_evidence.specs.Pushing.{AreNamesOf}
 use Rattle.mcs_evidence.proofs.Models.{all_in, any_in, conjunction-holds, rule_formula-holds}
-use Rattle.mcs_program.specs.Clauses.{literal_of, literals_of, rule_literals, other_literals, AreMeantBy, AddsFormula}
+use Rattle.mcs_program.specs.Clauses.{literal_of, literals_of_names, rule_literals, other_literals, AreMeantBy, AddsFormula}
 use Rattle.mcs_program.specs.Splitting.{value_formula}
 
 -- ---- literals
@@ -39,7 +39,7 @@ literal_fits false (suc n) some few = (omega arith, omega arith)
 pub atom_there : (names : List Name) (c : ClauseList) (sign : Bool) (n : Name) → length names ≤ c.vars → is_in n names ≡ true → IsThere c (literal_of sign (atom_number names n))
 atom_there names c sign n room known = literal_there c sign (atom_number names n) (atom_positive names n) (omega (arith, atom_within names n known))
 
-pub literals_there : (names : List Name) (c : ClauseList) (sign : Bool) (ns : List Name) → length names ≤ c.vars → AreNamesOf names ns → AllByRecursion (IsThere c) (literals_of names sign ns)
+pub literals_there : (names : List Name) (c : ClauseList) (sign : Bool) (ns : List Name) → length names ≤ c.vars → AreNamesOf names ns → AllByRecursion (IsThere c) (literals_of_names names sign ns)
 literals_there names c sign [] room all = tt
 literals_there names c sign (n ∷ ns) room all = (atom_there names c sign n room all.0, literals_there names c sign ns room all.1)
 
@@ -49,8 +49,8 @@ others_there names c k (n ∷ ns) state room all = (atom_there names c (not (has
 
 pub rule_there : (names : List Name) (c : ClauseList) (r : ProgramRule) → length names ≤ c.vars → IsOverRule names r → AllByRecursion (IsThere c) (rule_literals names r)
 rule_there names c r room over =
-    all_append (IsThere c) (literals_of names false r.pos) (literals_of names true r.neg ++ literals_of names true r.head) (literals_there names c false r.pos room over.1)
-    (all_append (IsThere c) (literals_of names true r.neg) (literals_of names true r.head) (literals_there names c true r.neg room over.2) (literals_there names c true r.head room over.0))
+    all_append (IsThere c) (literals_of_names names false r.pos) (literals_of_names names true r.neg ++ literals_of_names names true r.head) (literals_there names c false r.pos room over.1)
+    (all_append (IsThere c) (literals_of_names names true r.neg) (literals_of_names names true r.head) (literals_there names c true r.neg room over.2) (literals_there names c true r.head room over.0))
 
 -- ---- what they say
 module _ (v : ℕ → Bool) (names a : List Name) (extends : Extends names a v) where
@@ -60,13 +60,13 @@ module _ (v : ℕ → Bool) (names a : List Name) (extends : Extends names a v) 
   false_literal : (n : Name) → is_in n names ≡ true → literal_holds v (literal_of false (atom_number names n)) ≡ not (is_in n a)
   false_literal n known = non-holds v (atom_number names n) (atom_positive names n) ∙ ap not (extends n known)
 
-  true_literals : (ns : List Name) → AreNamesOf names ns → list_any (literal_holds v) (literals_of names true ns) ≡ any_in a ns
+  true_literals : (ns : List Name) → AreNamesOf names ns → list_any (literal_holds v) (literals_of_names names true ns) ≡ any_in a ns
   true_literals [] all = refl
-  true_literals (n ∷ ns) all = ap (λ b. b || list_any (literal_holds v) (literals_of names true ns)) (true_literal n all.0) ∙ ap (λ b. is_in n a || b) (true_literals ns all.1)
+  true_literals (n ∷ ns) all = ap (λ b. b || list_any (literal_holds v) (literals_of_names names true ns)) (true_literal n all.0) ∙ ap (λ b. is_in n a || b) (true_literals ns all.1)
 
-  false_literals : (ns : List Name) → AreNamesOf names ns → list_any (literal_holds v) (literals_of names false ns) ≡ not (all_in a ns)
+  false_literals : (ns : List Name) → AreNamesOf names ns → list_any (literal_holds v) (literals_of_names names false ns) ≡ not (all_in a ns)
   false_literals [] all = refl
-  false_literals (n ∷ ns) all = ap (λ b. b || list_any (literal_holds v) (literals_of names false ns)) (false_literal n all.0) ∙ ap (λ b. not (is_in n a) || b) (false_literals ns all.1) ∙ turn (is_in n a) (all_in a ns)
+  false_literals (n ∷ ns) all = ap (λ b. b || list_any (literal_holds v) (literals_of_names names false ns)) (false_literal n all.0) ∙ ap (λ b. not (is_in n a) || b) (false_literals ns all.1) ∙ turn (is_in n a) (all_in a ns)
     where
       turn : (x y : Bool) → (not x || not y) ≡ not (x && y)
       turn true y = refl
@@ -74,10 +74,10 @@ module _ (v : ℕ → Bool) (names a : List Name) (extends : Extends names a v) 
 
   pub rule_says : (r : ProgramRule) → IsOverRule names r → clause_holds v (rule_literals names r) ≡ holds a (rule_formula r)
   rule_says r over =
-      list_any-append (literal_holds v) (literals_of names false r.pos) (literals_of names true r.neg ++ literals_of names true r.head)
-      ∙ ap (λ b. list_any (literal_holds v) (literals_of names false r.pos) || b) (list_any-append (literal_holds v) (literals_of names true r.neg) (literals_of names true r.head))
-      ∙ ap (λ b. b || (list_any (literal_holds v) (literals_of names true r.neg) || list_any (literal_holds v) (literals_of names true r.head))) (false_literals r.pos over.1)
-      ∙ ap (λ b. not (all_in a r.pos) || (b || list_any (literal_holds v) (literals_of names true r.head))) (true_literals r.neg over.2)
+      list_any-append (literal_holds v) (literals_of_names names false r.pos) (literals_of_names names true r.neg ++ literals_of_names names true r.head)
+      ∙ ap (λ b. list_any (literal_holds v) (literals_of_names names false r.pos) || b) (list_any-append (literal_holds v) (literals_of_names names true r.neg) (literals_of_names names true r.head))
+      ∙ ap (λ b. b || (list_any (literal_holds v) (literals_of_names names true r.neg) || list_any (literal_holds v) (literals_of_names names true r.head))) (false_literals r.pos over.1)
+      ∙ ap (λ b. not (all_in a r.pos) || (b || list_any (literal_holds v) (literals_of_names names true r.head))) (true_literals r.neg over.2)
       ∙ ap (λ b. not (all_in a r.pos) || (any_in a r.neg || b)) (true_literals r.head over.0)
       ∙ turn (all_in a r.pos) (any_in a r.neg) (any_in a r.head)
       ∙ sym (rule_formula-holds a r)
@@ -91,12 +91,12 @@ module _ (v : ℕ → Bool) (names a : List Name) (extends : Extends names a v) 
   value_says true n known = or-false (literal_holds v (literal_of true (atom_number names n))) ∙ true_literal n known
   value_says false n known = or-false (literal_holds v (literal_of false (atom_number names n))) ∙ false_literal n known
 
-  others_say : (k : ℕ) (ns : List Name) (state : ℕ) → AreNamesOf names ns → list_any (literal_holds v) (other_literals names k ns state) ≡ not (holds_all a (literals_from k (map Atom ns) state))
+  others_say : (k : ℕ) (ns : List Name) (state : ℕ) → AreNamesOf names ns → list_any (literal_holds v) (other_literals names k ns state) ≡ not (holds_all a (literals_of_state k (map Atom ns) state))
   others_say k [] state all = refl
   others_say k (n ∷ ns) state all =
       ap (λ b. b || list_any (literal_holds v) (other_literals names (k + 1) ns state)) (one (has state k))
       ∙ ap (λ b. not (holds a (cond (has state k) (Atom n) (Not (Atom n)))) || b) (others_say (k + 1) ns state all.1)
-      ∙ turn (holds a (cond (has state k) (Atom n) (Not (Atom n)))) (holds_all a (literals_from (k + 1) (map Atom ns) state))
+      ∙ turn (holds a (cond (has state k) (Atom n) (Not (Atom n)))) (holds_all a (literals_of_state (k + 1) (map Atom ns) state))
     where
       one : (b : Bool) → literal_holds v (literal_of (not b) (atom_number names n)) ≡ not (holds a (cond b (Atom n) (Not (Atom n))))
       one true = false_literal n all.0
@@ -111,7 +111,7 @@ module _ (v : ℕ → Bool) (names a : List Name) (extends : Extends names a v) 
       turn false y = refl
 
   pub other_says : (ns : List Name) (state : ℕ) → AreNamesOf names ns → clause_holds v (other_literals names 0 ns state) ≡ holds a (other_formula (map Atom ns) state)
-  other_says ns state all = others_say 0 ns state all ∙ ap not (sym (conjunction-holds a (literals_from 0 (map Atom ns) state)))
+  other_says ns state all = others_say 0 ns state all ∙ ap not (sym (conjunction-holds a (literals_of_state 0 (map Atom ns) state)))
 
 -- ---- one formula more
 pub last_too : (a : List Name) (fs : List Formula) (f : Formula) → holds_all a (fs ++ f ∷ []) ≡ (holds_all a fs && holds a f)

@@ -27,7 +27,7 @@ use Rattle.mcs_evidence.specs.Programs.{false_names, rule_formula, beside_formul
 use Rattle.mcs_evidence.proofs.Models.{all_in, any_in, all_in_each, all_in_from, any_in_some, none_in, rule_formula-holds, beside-holds, true_names-known, false_names-known, true_or_false, true_not_false}
 use Rattle.mcs_program.specs.declared.placing.PlacedRule.{PlacedRule}
 use Rattle.mcs_program.specs.declared.placing.Placing.{Placing}
-use Rattle.mcs_program.specs.Placing.{lies_within, do_meet, placed_holds, placed_blocked, lies_beside, view_at, may_be, is_other, IsPlaceOf, ArePlaces, IsPlacedRule, IsPlacing}
+use Rattle.mcs_program.specs.Placing.{places_within, do_meet, placed_holds, placed_blocked, lies_beside, view_at, may_be_model, is_other, IsPlaceOf, ArePlaces, IsPlacedRule, IsPlacing}
 use Rattle.mcs_program.proofs.SearchLemmas.{rest_value}
 use Rattle.mcs_program.proofs.SmallLemmas.{blocked_value, others_value, IsLow}
 
@@ -38,17 +38,17 @@ meet_test a b = (
   λ m. not_from_false (nat_eq (common a b) 0) (false_from_ne_true (nat_eq (common a b) 0) (λ h. common_where_meets a b m (eqb-true (common a b) 0 h))),
 )
 
-within_with : (p s j : ℕ) → lies_within (union p (single j)) s ≡ (lies_within p s && has s j)
+within_with : (p s j : ℕ) → places_within (union p (single j)) s ≡ (places_within p s && has s j)
 within_with p s j = both_ways _ _ to from
   where
-    to : lies_within (union p (single j)) s ≡ true → (lies_within p s && has s j) ≡ true
+    to : places_within (union p (single j)) s ≡ true → (places_within p s && has s j) ≡ true
     to h =
         let w = (lies_within-is (union p (single j)) s).0 h in
-        and_from (lies_within p s) (has s j) ((lies_within-is p s).1 (λ k m. w k ((in_with p j k).1 (inl m)))) (w j ((in_with p j j).1 (inr refl)))
+        and_from (places_within p s) (has s j) ((lies_within-is p s).1 (λ k m. w k ((in_with p j k).1 (inl m)))) (w j ((in_with p j j).1 (inr refl)))
 
-    from : (lies_within p s && has s j) ≡ true → lies_within (union p (single j)) s ≡ true
+    from : (places_within p s && has s j) ≡ true → places_within (union p (single j)) s ≡ true
     from h =
-        let (w, m) = and_parts (lies_within p s) (has s j) h in
+        let (w, m) = and_parts (places_within p s) (has s j) h in
         (lies_within-is (union p (single j)) s).1 (λ k there. elim ((in_with p j k).0 there) [ inl old ↦ (lies_within-is p s).0 w k old | inr same ↦ ap (has s) same ∙ m ])
 
 meet_with : (p s j : ℕ) → do_meet (union p (single j)) s ≡ (do_meet p s || has s j)
@@ -108,36 +108,36 @@ module _ (names : List Name) (single : has_twins names ≡ false) where
   place_at n known = (atom_number names n - 1, place_is names n (atom_number names n - 1) single known refl)
 
   -- the names at places that are true are those at places of the set
-  pub within_own : (less s : ℕ) → IsInRange names less → lies_within less s ≡ all_in (true_names 0 names s) (true_names 0 names less)
+  pub within_own : (less s : ℕ) → IsInRange names less → places_within less s ≡ all_in (true_names 0 names s) (true_names 0 names less)
   within_own less s range = both_ways _ _ to from
     where
-      to : lies_within less s ≡ true → all_in (true_names 0 names s) (true_names 0 names less) ≡ true
+      to : places_within less s ≡ true → all_in (true_names 0 names s) (true_names 0 names less) ≡ true
       to h = all_in_from (true_names 0 names s) (true_names 0 names less) (λ n here.
           let (j, place) = place_at n (true_names-known n 0 names less here) in
           place.tells s ∙ (lies_within-is less s).0 h j (sym (place.tells less) ∙ here))
 
-      from : all_in (true_names 0 names s) (true_names 0 names less) ≡ true → lies_within less s ≡ true
+      from : all_in (true_names 0 names s) (true_names 0 names less) ≡ true → places_within less s ≡ true
       from h = (lies_within-is less s).1 (λ k here.
           let (n, known, place) = name_at k (range k here) in
           sym (place.tells s) ∙ all_in_each (true_names 0 names s) (true_names 0 names less) h n (place.tells less ∙ here))
 
   -- some name beside those of the set is true where some place is beside it
-  pub beyond_own : (less s : ℕ) → IsInRange names s → not (lies_within s less) ≡ any_in (true_names 0 names s) (false_names 0 names less)
+  pub beyond_own : (less s : ℕ) → IsInRange names s → not (places_within s less) ≡ any_in (true_names 0 names s) (false_names 0 names less)
   beyond_own less s range = both_ways _ _ to from
     where
-      to : not (lies_within s less) ≡ true → any_in (true_names 0 names s) (false_names 0 names less) ≡ true
+      to : not (places_within s less) ≡ true → any_in (true_names 0 names s) (false_names 0 names less) ≡ true
       to h = true_from_ne_false (any_in (true_names 0 names s) (false_names 0 names less)) (λ none. true≢false (sym ((lies_within-is s less).1 (λ k here.
           let (n, known, place) = name_at k (range k here) in
           elim (true_or_false n 0 names less known) [
             | inl inside ↦ sym (place.tells less) ∙ inside
             | inr beyond ↦ absurd (true≢false (sym (place.tells s ∙ here) ∙ none_in (true_names 0 names s) (false_names 0 names less) n none beyond))
-          ])) ∙ not-true (lies_within s less) h))
+          ])) ∙ not-true (places_within s less) h))
 
-      from : any_in (true_names 0 names s) (false_names 0 names less) ≡ true → not (lies_within s less) ≡ true
+      from : any_in (true_names 0 names s) (false_names 0 names less) ≡ true → not (places_within s less) ≡ true
       from h =
           let (n, beyond, here) = any_in_some (true_names 0 names s) (false_names 0 names less) h in
           let (j, place) = place_at n (false_names-known n 0 names less beyond) in
-          not_from_false (lies_within s less) (false_from_ne_true (lies_within s less) (λ within.
+          not_from_false (places_within s less) (false_from_ne_true (places_within s less) (λ within.
           true_not_false n 0 names less single (place.tells less ∙ (lies_within-is s less).0 within j (sym (place.tells s) ∙ here)) beyond))
 
 -- ---- rules
@@ -182,7 +182,7 @@ module _ (names : List Name) (single : has_twins names ≡ false) (rs : List Pro
   placed_beside less range' =
       let x = true_names 0 names less in
       let out = false_names 0 names less in
-      ap (λ b. not (b && (not (lies_within s less) && list_all (placed_blocked less s) ps))) (within_own names single less s range')
+      ap (λ b. not (b && (not (places_within s less) && list_all (placed_blocked less s) ps))) (within_own names single less s range')
       ∙ ap (λ b. not (all_in (true_names 0 names s) x && (b && list_all (placed_blocked less s) ps))) (beyond_own names single less s range)
       ∙ ap (λ b. not (all_in (true_names 0 names s) x && (any_in (true_names 0 names s) out && b))) (placed_rules_blocked names less s rs ps all ∙ sym (blocked_value (true_names 0 names s) x rs))
       ∙ sym (beside-holds (true_names 0 names s) names rs less)
@@ -222,7 +222,7 @@ view_shows names ns ps s all k = (to, from)
 
 -- ---- all that is known
 pub possible_value : (names : List Name) (rules : List ProgramRule) (ns : List Name) (p : Placing) (smaller views : List ℕ) (s : ℕ) → has_twins names ≡ false → IsPlacing names rules ns p
-    → IsInRange names s → AllByRecursion (IsInRange names) smaller → IsLow (map Atom ns) views → may_be p smaller views s ≡ holds_all (true_names 0 names s) (rest_formulas names rules (map Atom ns) smaller views)
+    → IsInRange names s → AllByRecursion (IsInRange names) smaller → IsLow (map Atom ns) views → may_be_model p smaller views s ≡ holds_all (true_names 0 names s) (rest_formulas names rules (map Atom ns) smaller views)
 possible_value names rules ns p smaller views s single placed range ranges low =
     let a = true_names 0 names s in
     ap (λ b. b && (is_other views (view_at p.beliefs.items s) && list_all (λ less. not (lies_beside p.rules.items s less)) smaller)) (placed_rules_hold names s rules p.rules.items placed.placed_rules)
@@ -240,7 +240,7 @@ possible_value names rules ns p smaller views s single placed range ranges low =
 
 -- all atoms together are a model where they are possible
 pub all_model : (names : List Name) (rules : List ProgramRule) (ns : List Name) (p : Placing) (smaller views : List ℕ) (s : ℕ) → has_twins names ≡ false → IsPlacing names rules ns p → s ≡ such_that (length names) (λ _. true)
-    → AllByRecursion (IsInRange names) smaller → IsLow (map Atom ns) views → may_be p smaller views s ≡ true → IsModelAt names (rest_formulas names rules (map Atom ns) smaller views) s
+    → AllByRecursion (IsInRange names) smaller → IsLow (map Atom ns) views → may_be_model p smaller views s ≡ true → IsModelAt names (rest_formulas names rules (map Atom ns) smaller views) s
 all_model names rules ns p smaller views s single placed e ranges low is = record {
   in_range = range;
   formulas = sym (possible_value names rules ns p smaller views s single placed range ranges low) ∙ is;

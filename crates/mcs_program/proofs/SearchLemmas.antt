@@ -25,7 +25,7 @@ use Rattle.mcs_evidence.specs.Pushing.{AreNamesOf}
 use Rattle.mcs_evidence.proofs.Models.{shows-below, own_state, smaller_places, beside_excludes}
 use Rattle.mcs_program.specs.Clauses.{AreMeantBy, AddsFormula}
 use Rattle.mcs_program.specs.declared.search.Search.{Search}
-use Rattle.mcs_program.specs.Searches.{IsKnown, IsSearch, IsExcluded, IsListed, count_below, sets_left}
+use Rattle.mcs_program.specs.Searches.{IsProgramKnown, IsProgramSearch, IsExcluded, IsViewListed, count_below, sets_left}
 use Rattle.mcs_program.proofs.ClauseLemmas.{last_too, meant_same}
 
 -- ---- names as beliefs
@@ -154,14 +154,14 @@ module _ (names : List Name) (rules : List ProgramRule) (beliefs : List Formula)
   abbrev Narrows : Search → Search → Formula → Type 0
   Narrows old new f = (a : List Name) → holds_all a (rest_formulas names rules beliefs new.smaller.items new.views.items) ≡ (holds_all a (rest_formulas names rules beliefs old.smaller.items old.views.items) && holds a f)
 
-  pub known_more : (old new : Search) (f : Formula) → AddsFormula names f old.known new.known → Narrows old new f → IsKnown names rules beliefs old → IsKnown names rules beliefs new
+  pub known_more : (old new : Search) (f : Formula) → AddsFormula names f old.known new.known → Narrows old new f → IsProgramKnown names rules beliefs old → IsProgramKnown names rules beliefs new
   known_more old new f adds narrows known = meant_more names (rest old) (rest new) f old.known new.known adds narrows known
 
   pub left_less : (old new : Search) (f : Formula) (model : ℕ) → Narrows old new f → IsModelAt names (rest_formulas names rules beliefs old.smaller.items old.views.items) model → holds (true_names 0 names model) f ≡ false
       → sets_left names rules beliefs new < sets_left names rules beliefs old
   left_less old new f model narrows is not_so = models_less names (rest old) (rest new) f model narrows is not_so
 
-  pub begun : (s : Search) → AreMeantBy names (map rule_formula rules) s.known → s.smaller.items ≡ [] → s.views.items ≡ [] → s.models.items ≡ [] → IsSearch names rules beliefs s
+  pub begun : (s : Search) → AreMeantBy names (map rule_formula rules) s.known → s.smaller.items ≡ [] → s.views.items ≡ [] → s.models.items ≡ [] → IsProgramSearch names rules beliefs s
   begun s known smaller views models = record {
     known = meant_same names (map rule_formula rules) (rest s) s.known
         (λ a. sym (ap (λ xs. holds_all a (rest_formulas names rules beliefs xs s.views.items)) smaller ∙ ap (λ xs. holds_all a (rest_formulas names rules beliefs [] xs)) views ∙ ap (holds_all a) (append-nil (map rule_formula rules)))) known;
@@ -176,7 +176,7 @@ module _ (names : List Name) (rules : List ProgramRule) (beliefs : List Formula)
       ∙ ap (λ xs. holds_all a (rest_formulas names rules beliefs (old.smaller.items ++ less ∷ []) xs)) e.views
       ∙ smaller_more a names rules beliefs old.smaller.items old.views.items less
 
-  pub excluded_search : (old new : Search) (less : ℕ) → IsInRange names less → IsExcluded names rules less old new → IsSearch names rules beliefs old → IsSearch names rules beliefs new
+  pub excluded_search : (old new : Search) (less : ℕ) → IsInRange names less → IsExcluded names rules less old new → IsProgramSearch names rules beliefs old → IsProgramSearch names rules beliefs new
   excluded_search old new less range e was = record {
     known = known_more old new (beside_formula names rules less) e.known (excluded_narrows old new less e) was.known;
     ascending = subst (IsAscending StateBefore) (sym e.views) was.ascending;
@@ -210,7 +210,7 @@ zip_insert R (x' ∷ xs) [] k x y all one = absurd all
 zip_insert R (x' ∷ xs) (y' ∷ ys) zero x y all one = (one, all)
 zip_insert R (x' ∷ xs) (y' ∷ ys) (suc k) x y all one = (all.0, zip_insert R xs ys k x y all.1 one)
 
-module _ (names : List Name) (rules : List ProgramRule) (beliefs : List Formula) (old new : Search) (model : ℕ) (minimal : List Inference) (listed : IsListed names beliefs model minimal old new) where
+module _ (names : List Name) (rules : List ProgramRule) (beliefs : List Formula) (old new : Search) (model : ℕ) (minimal : List Inference) (listed : IsViewListed names beliefs model minimal old new) where
   view : ℕ
   view = listed.placed.viewed.view
 
@@ -236,7 +236,7 @@ module _ (names : List Name) (rules : List ProgramRule) (beliefs : List Formula)
     pub listed_less : sets_left names rules beliefs new < sets_left names rules beliefs old
     listed_less = left_less names rules beliefs old new (other_formula beliefs listed.placed.viewed.view) model listed_narrows is own
 
-    pub listed_search : IsAcceptedTrace (clause_list names (smaller_formulas names rules model)).clauses minimal → IsSearch names rules beliefs old → IsSearch names rules beliefs new
+    pub listed_search : IsAcceptedTrace (clause_list names (smaller_formulas names rules model)).clauses minimal → IsProgramSearch names rules beliefs old → IsProgramSearch names rules beliefs new
     listed_search refutes was = record {
       known = known_more names rules beliefs old new (other_formula beliefs listed.placed.viewed.view) (λ fs m. subst (AreMeantBy names (fs ++ other_formula beliefs listed.placed.viewed.view ∷ [])) (sym listed.known) (listed.placed.viewed.adds fs m)) listed_narrows was.known;
       ascending = subst (IsAscending StateBefore) (sym views_are) (ascending_insert old.views.items listed.place listed.placed.viewed.view was.ascending new_view listed.placed.viewed.before listed.placed.viewed.after);
@@ -248,7 +248,7 @@ module _ (names : List Name) (rules : List ProgramRule) (beliefs : List Formula)
     }
 
 -- the views that were found have beliefs alone
-pub views_low : (names : List Name) (rules : List ProgramRule) (beliefs : List Formula) (s : Search) → IsSearch names rules beliefs s → AllByRecursion (λ state. (j : ℕ) → has state j ≡ true → j < length beliefs) s.views.items
+pub views_low : (names : List Name) (rules : List ProgramRule) (beliefs : List Formula) (s : Search) → IsProgramSearch names rules beliefs s → AllByRecursion (λ state. (j : ℕ) → has state j ≡ true → j < length beliefs) s.views.items
 views_low names rules beliefs s found = all_from_among (λ state. (j : ℕ) → has state j ≡ true → j < length beliefs) s.views.items (λ state among.
     let (m, there, is) = zip_among (IsAcceptedModel names rules beliefs) s.views.items (map model_shown_of s.models.items) found.models state among in
     shows-below (true_names 0 names m.model) beliefs state is.shows)

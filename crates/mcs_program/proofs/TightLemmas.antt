@@ -14,12 +14,12 @@ use Rattle.mcs_system.specs.Logic.{is_in, true_names}
 use Rattle.mcs_evidence.specs.Supports.{IsBased, Based}
 use Rattle.mcs_evidence.proofs.Models.{all_in_each, any_in_from}
 use Rattle.mcs_program.specs.declared.placing.PlacedRule.{PlacedRule}
-use Rattle.mcs_program.specs.Placing.{lies_within, do_meet, IsPlacedRule}
+use Rattle.mcs_program.specs.Placing.{places_within, do_meet, IsPlacedRule}
 use Rattle.mcs_program.proofs.PlaceLemmas.{meet_test, place_at}
 
 -- the positive body lies within the first set if a head atom is in the second
 abbrev pub RestsOn : ℕ → ℕ → PlacedRule → Type 0
-RestsOn set based r = do_meet r.head based ≡ true → lies_within r.pos set ≡ true
+RestsOn set based r = do_meet r.head based ≡ true → places_within r.pos set ≡ true
 
 -- with less of the second set as well
 pub rests_less : (set based gone : ℕ) (rs : List PlacedRule) → AllByRecursion (RestsOn set based) rs → AllByRecursion (RestsOn set (minus based gone)) rs

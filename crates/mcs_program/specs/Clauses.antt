@@ -12,12 +12,12 @@ abbrev pub literal_of : Bool → ℕ → ℤ
 literal_of sign variable = cond sign (pos variable) (non variable)
 
 -- the literals that say this of each of the names
-abbrev pub literals_of : List Name → Bool → List Name → List ℤ
-literals_of names sign these = map (λ (n : Name). literal_of sign (atom_number names n)) these
+abbrev pub literals_of_names : List Name → Bool → List Name → List ℤ
+literals_of_names names sign these = map (λ (n : Name). literal_of sign (atom_number names n)) these
 
 -- a positive atom is false, or a negative one or one of the head is true
 abbrev pub rule_literals : List Name → ProgramRule → List ℤ
-rule_literals names r = literals_of names false r.pos ++ (literals_of names true r.neg ++ literals_of names true r.head)
+rule_literals names r = literals_of_names names false r.pos ++ (literals_of_names names true r.neg ++ literals_of_names names true r.head)
 
 -- of the beliefs, the first one having place k, one is not as the state has it
 abbrev pub other_literals : List Name → ℕ → List Name → ℕ → List ℤ

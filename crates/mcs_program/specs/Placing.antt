@@ -10,12 +10,12 @@ use Rattle.mcs_evidence.specs.Programs.{rest_formulas}
 use Rattle.mcs_program.specs.declared.placing.PlacedRule.{PlacedRule}
 use Rattle.mcs_program.specs.declared.placing.Placing.{Placing}
 use Rattle.mcs_program.specs.declared.search.Search.{Search}
-use Rattle.mcs_program.specs.Searches.{IsSearch}
+use Rattle.mcs_program.specs.Searches.{IsProgramSearch}
 
 -- ---- tests of sets of places
 -- each of the first is in the second
-abbrev pub lies_within : ℕ → ℕ → Bool
-lies_within a b = nat_eq (common a b) a
+abbrev pub places_within : ℕ → ℕ → Bool
+places_within a b = nat_eq (common a b) a
 
 -- some place is in both
 abbrev pub do_meet : ℕ → ℕ → Bool
@@ -23,15 +23,15 @@ do_meet a b = not (nat_eq (common a b) 0)
 
 -- the rule holds where exactly the atoms at these places are true
 abbrev pub placed_holds : ℕ → PlacedRule → Bool
-placed_holds s r = not (lies_within r.pos s) || (do_meet r.neg s || do_meet r.head s)
+placed_holds s r = not (places_within r.pos s) || (do_meet r.neg s || do_meet r.head s)
 
 -- the places of the second set have a negative atom of the rule, if those of the first break it
 abbrev pub placed_blocked : ℕ → ℕ → PlacedRule → Bool
-placed_blocked less s r = not (lies_within r.pos less) || (do_meet r.head less || do_meet r.neg s)
+placed_blocked less s r = not (places_within r.pos less) || (do_meet r.head less || do_meet r.neg s)
 
 -- the first set is less than the second, and satisfies the reduct by it
 abbrev pub lies_beside : List PlacedRule → ℕ → ℕ → Bool
-lies_beside rules s less = lies_within less s && (not (lies_within s less) && list_all (placed_blocked less s) rules)
+lies_beside rules s less = places_within less s && (not (places_within s less) && list_all (placed_blocked less s) rules)
 
 -- the numbers of the beliefs whose places are in the set
 unfoldable pub view_at : List ℕ → ℕ → ℕ
@@ -42,8 +42,8 @@ abbrev pub is_other : List ℕ → ℕ → Bool
 is_other views view = list_all (λ v. not (nat_eq v view)) views
 
 -- all that is known holds where exactly the atoms at these places are true
-abbrev pub may_be : Placing → List ℕ → List ℕ → ℕ → Bool
-may_be p smaller views s = list_all (placed_holds s) p.rules.items && (is_other views (view_at p.beliefs.items s) && list_all (λ less. not (lies_beside p.rules.items s less)) smaller)
+abbrev pub may_be_model : Placing → List ℕ → List ℕ → ℕ → Bool
+may_be_model p smaller views s = list_all (placed_holds s) p.rules.items && (is_other views (view_at p.beliefs.items s) && list_all (λ less. not (lies_beside p.rules.items s less)) smaller)
 
 -- ---- what the places stand for
 -- the name is true exactly where its place is in the set
@@ -53,7 +53,7 @@ pub record IsPlaceOf (names : List Name) (n : Name) (k : ℕ) : Type 0 where
 
 -- these are the places of the names
 pub record ArePlaces (names these : List Name) (places : ℕ) : Type 0 where
-  pub all : (s : ℕ) → lies_within places s ≡ list_all (λ n. is_in n (true_names 0 names s)) these
+  pub all : (s : ℕ) → places_within places s ≡ list_all (λ n. is_in n (true_names 0 names s)) these
   pub some : (s : ℕ) → do_meet places s ≡ list_any (λ n. is_in n (true_names 0 names s)) these
 
 pub record IsPlacedRule (names : List Name) (r : ProgramRule) (p : PlacedRule) : Type 0 where
@@ -67,5 +67,5 @@ pub record IsPlacing (names : List Name) (rules : List ProgramRule) (beliefs : L
 
 -- where the one set of places is a model of what is known, so is the other
 abbrev pub StaysModel : Placing → Search → ℕ → ℕ → Type 0
-StaysModel p s model less = (names : List Name) (rules : List ProgramRule) (beliefs : List Name) → has_twins names ≡ false → IsPlacing names rules beliefs p → IsSearch names rules (map Atom beliefs) s
+StaysModel p s model less = (names : List Name) (rules : List ProgramRule) (beliefs : List Name) → has_twins names ≡ false → IsPlacing names rules beliefs p → IsProgramSearch names rules (map Atom beliefs) s
     → IsModelAt names (rest_formulas names rules (map Atom beliefs) s.smaller.items s.views.items) model → IsModelAt names (rest_formulas names rules (map Atom beliefs) s.smaller.items s.views.items) less

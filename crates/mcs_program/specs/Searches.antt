@@ -19,12 +19,12 @@ IsFoundFor names fs None = (a : List Name) → ¬ IsTrue (holds_all a fs)
 IsFoundFor names fs (Some places) = IsModelAt names fs places
 
 -- the clauses mean the formulas of the program, of the smaller sets, and that the view is none of those found
-abbrev pub IsKnown : List Name → List ProgramRule → List Formula → Search → Type 0
-IsKnown names rules beliefs s = AreMeantBy names (rest_formulas names rules beliefs s.smaller.items s.views.items) s.known
+abbrev pub IsProgramKnown : List Name → List ProgramRule → List Formula → Search → Type 0
+IsProgramKnown names rules beliefs s = AreMeantBy names (rest_formulas names rules beliefs s.smaller.items s.views.items) s.known
 
 -- the views that were found have their models
-pub record IsSearch (names : List Name) (rules : List ProgramRule) (beliefs : List Formula) (s : Search) : Type 0 where
-  pub known : IsKnown names rules beliefs s
+pub record IsProgramSearch (names : List Name) (rules : List ProgramRule) (beliefs : List Formula) (s : Search) : Type 0 where
+  pub known : IsProgramKnown names rules beliefs s
   pub ascending : IsAscending StateBefore s.views.items
   pub models : AllZip (IsAcceptedModel names rules beliefs) s.views.items (map model_shown_of s.models.items)
   pub in_range : AllByRecursion (IsInRange names) s.smaller.items
@@ -53,7 +53,7 @@ pub record IsPlaced (names : List Name) (beliefs : List Formula) (model place : 
   pub models : new.models.items ≡ old.models.items
 
 -- and so does the model
-pub record IsListed (names : List Name) (beliefs : List Formula) (model : ℕ) (minimal : List Inference) (old new : Search) : Type 0 where
+pub record IsViewListed (names : List Name) (beliefs : List Formula) (model : ℕ) (minimal : List Inference) (old new : Search) : Type 0 where
   pub place : ℕ
   pub between : Search
   pub placed : IsPlaced names beliefs model place old between

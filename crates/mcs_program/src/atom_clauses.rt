@@ -7,7 +7,7 @@ ghost use Rattle.mcs_evidence.specs.Programs.{rule_formula, other_formula, AreOv
 ghost use Rattle.mcs_evidence.specs.Pushing.{AreNamesOf};
 ghost use Rattle.mcs_cnf.specs.ClauseLists.{atom_number};
 ghost use Rattle.mcs_system.specs.Logic.{is_in};
-ghost use Rattle.mcs_program.specs.Clauses.{literal_of, literals_of, rule_literals, other_literals, AddsFormula, AreMeantBy};
+ghost use Rattle.mcs_program.specs.Clauses.{literal_of, literals_of_names, rule_literals, other_literals, AddsFormula, AreMeantBy};
 ghost use Rattle.mcs_program.specs.Splitting.{value_formula};
 
 use mcs_base::{Memory, Vars};
@@ -38,7 +38,7 @@ fn add_literals(
 ) -> Result<(), Memory>
     requires few { length atoms.now ≤ 64 }
     requires over { AreNamesOf atoms.now names.now }
-    ensures { IfOk result (λ _. literals.new.items ≡ literals.old.items ++ literals_of atoms.now sign names.now) }
+    ensures { IfOk result (λ _. literals.new.items ≡ literals.old.items ++ literals_of_names atoms.now sign names.now) }
 {
     for name in names {
         literals.push(literal(sign, atom_number(atoms, name)))?;

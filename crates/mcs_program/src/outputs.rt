@@ -13,7 +13,7 @@ ghost use Rattle.mcs_system.specs.Views.{IsAcceptedView};
 ghost use Rattle.mcs_trace.specs.Traces.{inferences_of};
 ghost use Rattle.mcs_evidence.specs.Programs.{program_shown_of, rest_formulas, AreOverRules, IsAcceptedProgram, IsRefutation};
 ghost use Rattle.mcs_evidence.specs.Pushing.{AreNamesOf};
-ghost use Rattle.mcs_program.specs.Searches.{IsSearch, IsExhausted};
+ghost use Rattle.mcs_program.specs.Searches.{IsProgramSearch, IsExhausted};
 
 use crate::listing::list_all;
 use crate::search::{Search, find_all};
@@ -76,7 +76,7 @@ fn certified(
     requires different { has_twins atoms.now ≡ false }
     requires rules { AreOverRules atoms.now (map rule_of rules.now) }
     requires beliefs { AreNamesOf atoms.now (map (λ b. b.now) beliefs.now) }
-    requires search { IsSearch atoms.now (map rule_of rules.now) (map Atom (map (λ b. b.now) beliefs.now)) search }
+    requires search { IsProgramSearch atoms.now (map rule_of rules.now) (map Atom (map (λ b. b.now) beliefs.now)) search }
     requires all { IsExhausted atoms.now (map rule_of rules.now) (map Atom (map (λ b. b.now) beliefs.now)) search }
     ensures { IfOk result (λ r. IsAcceptedProgram atoms.now (map rule_of rules.now) (map Atom (map (λ b. b.now) beliefs.now)) r.0.items (program_shown_of r.1)) }
 {

@@ -8,7 +8,7 @@ ghost use Rattle.mcs_system.specs.Plain as plain;
 ghost use Rattle.mcs_system.specs.Seen.{rule_of};
 ghost use Rattle.mcs_evidence.specs.Programs.{AreOverRules, IsOverRule};
 ghost use Rattle.mcs_evidence.specs.Pushing.{AreNamesOf};
-ghost use Rattle.mcs_program.specs.Placing.{lies_within, do_meet, placed_holds, placed_blocked, lies_beside, IsPlaceOf, ArePlaces, IsPlacedRule, IsPlacing};
+ghost use Rattle.mcs_program.specs.Placing.{places_within, do_meet, placed_holds, placed_blocked, lies_beside, IsPlaceOf, ArePlaces, IsPlacedRule, IsPlacing};
 
 use mcs_base::{Memory, Vars};
 use mcs_cnf::atom_number;
@@ -32,7 +32,7 @@ pub struct Placing {
 
 /// Whether the first set lies within the second.
 pub(crate) fn lies_within(places: Vars, others: Vars) -> bool
-    ensures { result ≡ lies_within places others }
+    ensures { result ≡ places_within places others }
 {
     places.common(others) == places
 }

@@ -11,7 +11,7 @@ ghost use Rattle.mcs_trace.specs.Traces.{inferences_of};
 ghost use Rattle.mcs_cnf.specs.Entailments.{IsModelAt};
 ghost use Rattle.mcs_evidence.specs.Programs.{rest_formulas, AreOverRules};
 ghost use Rattle.mcs_evidence.specs.Pushing.{AreNamesOf};
-ghost use Rattle.mcs_program.specs.Searches.{IsFoundFor, IsSearch, IsExcluded, IsPlaced, IsListed, IsExhausted, sets_left};
+ghost use Rattle.mcs_program.specs.Searches.{IsFoundFor, IsProgramSearch, IsExcluded, IsPlaced, IsViewListed, IsExhausted, sets_left};
 ghost use Rattle.mcs_program.specs.Placing.{IsPlaceOf, IsPlacing};
 
 use crate::answer::find_model;
@@ -44,7 +44,7 @@ impl Search {
     fn new(alloc: Global, atoms: &[Name], rules: &[ProgRule]) -> Result<Search, Memory>
         requires few { length atoms.now ≤ 64 }
         requires rules { AreOverRules atoms.now (map rule_of rules.now) }
-        ensures { IfOk result (λ s. (beliefs : List plain.Formula) → IsSearch atoms.now (map rule_of rules.now) beliefs s) }
+        ensures { IfOk result (λ s. (beliefs : List plain.Formula) → IsProgramSearch atoms.now (map rule_of rules.now) beliefs s) }
     {
         let cnf = clauses_of_rules(alloc, atoms, rules)?;
         let known = ClauseBase::of(alloc, &cnf);
@@ -124,7 +124,7 @@ impl Search {
         requires room { length atoms.now ≤ self.old.known.vars }
         requires ascending { IsAscending StateBefore self.old.views.items }
         requires one_each { length self.old.models.items ≡ length self.old.views.items }
-        ensures { IfOk result (λ _. IsListed atoms.now (map plain.Atom (map (λ b. b.now) beliefs.now)) model (inferences_of minimal) self.old self.new) }
+        ensures { IfOk result (λ _. IsViewListed atoms.now (map plain.Atom (map (λ b. b.now) beliefs.now)) model (inferences_of minimal) self.old self.new) }
     {
         match self.put_view(alloc, atoms, beliefs, placing, model) {
             Ok(place) => {
@@ -158,10 +158,10 @@ impl Search {
         requires rules { AreOverRules atoms.now (map rule_of rules.now) }
         requires beliefs { AreNamesOf atoms.now (map (λ b. b.now) beliefs.now) }
         requires placed { IsPlacing atoms.now (map rule_of rules.now) (map (λ b. b.now) beliefs.now) placing.now }
-        requires search { IsSearch atoms.now (map rule_of rules.now) (map plain.Atom (map (λ b. b.now) beliefs.now)) self.old }
+        requires search { IsProgramSearch atoms.now (map rule_of rules.now) (map plain.Atom (map (λ b. b.now) beliefs.now)) self.old }
         requires model { IsModelAt atoms.now
             (rest_formulas atoms.now (map rule_of rules.now) (map plain.Atom (map (λ b. b.now) beliefs.now)) self.old.smaller.items self.old.views.items) model }
-        ensures search { IfOk result (λ _. IsSearch atoms.now (map rule_of rules.now) (map plain.Atom (map (λ b. b.now) beliefs.now)) self.new) }
+        ensures search { IfOk result (λ _. IsProgramSearch atoms.now (map rule_of rules.now) (map plain.Atom (map (λ b. b.now) beliefs.now)) self.new) }
         ensures less { IfOk result (λ _. sets_left atoms.now (map rule_of rules.now) (map plain.Atom (map (λ b. b.now) beliefs.now)) self.new
             < sets_left atoms.now (map rule_of rules.now) (map plain.Atom (map (λ b. b.now) beliefs.now)) self.old) }
     {
@@ -186,7 +186,7 @@ impl Search {
         requires room { length atoms.now ≤ self.old.known.vars }
         requires ascending { IsAscending StateBefore self.old.views.items }
         ensures same { self.new ≡ self.old }
-        ensures found { IfOk result (λ found. (rules : List plain.ProgramRule) (ns : List plain.Name) → IsPlacing atoms.now rules ns placing.now → IsSearch atoms.now rules (map plain.Atom ns) self.old
+        ensures found { IfOk result (λ found. (rules : List plain.ProgramRule) (ns : List plain.Name) → IsPlacing atoms.now rules ns placing.now → IsProgramSearch atoms.now rules (map plain.Atom ns) self.old
             → IsFoundFor atoms.now (rest_formulas atoms.now rules (map plain.Atom ns) self.old.smaller.items self.old.views.items) found) }
     {
         let all = all_places(atoms.len());
@@ -211,8 +211,8 @@ impl Search {
         requires rules { AreOverRules atoms.now (map rule_of rules.now) }
         requires beliefs { AreNamesOf atoms.now (map (λ b. b.now) beliefs.now) }
         requires placed { IsPlacing atoms.now (map rule_of rules.now) (map (λ b. b.now) beliefs.now) placing.now }
-        requires search { IsSearch atoms.now (map rule_of rules.now) (map plain.Atom (map (λ b. b.now) beliefs.now)) self.old }
-        ensures search { IfOk result (λ _. IsSearch atoms.now (map rule_of rules.now) (map plain.Atom (map (λ b. b.now) beliefs.now)) self.new) }
+        requires search { IsProgramSearch atoms.now (map rule_of rules.now) (map plain.Atom (map (λ b. b.now) beliefs.now)) self.old }
+        ensures search { IfOk result (λ _. IsProgramSearch atoms.now (map rule_of rules.now) (map plain.Atom (map (λ b. b.now) beliefs.now)) self.new) }
         ensures goes { IfOk result (λ goes. IsTrue goes → sets_left atoms.now (map rule_of rules.now) (map plain.Atom (map (λ b. b.now) beliefs.now)) self.new
             < sets_left atoms.now (map rule_of rules.now) (map plain.Atom (map (λ b. b.now) beliefs.now)) self.old) }
         ensures ends { IfOk result (λ goes. goes ≡ false → IsExhausted atoms.now (map rule_of rules.now) (map plain.Atom (map (λ b. b.now) beliefs.now)) self.new) }
@@ -242,7 +242,7 @@ fn go_on(
     requires rules { AreOverRules atoms.now (map rule_of rules.now) }
     requires beliefs { AreNamesOf atoms.now (map (λ b. b.now) beliefs.now) }
     requires placed { IsPlacing atoms.now (map rule_of rules.now) (map (λ b. b.now) beliefs.now) placing.now }
-    ensures search { IfOk result (IsSearch atoms.now (map rule_of rules.now) (map plain.Atom (map (λ b. b.now) beliefs.now))) }
+    ensures search { IfOk result (IsProgramSearch atoms.now (map rule_of rules.now) (map plain.Atom (map (λ b. b.now) beliefs.now))) }
     ensures all { IfOk result (IsExhausted atoms.now (map rule_of rules.now) (map plain.Atom (map (λ b. b.now) beliefs.now))) }
 {
     let mut search = Search::new(alloc, atoms, rules)?;
@@ -270,7 +270,7 @@ pub(crate) fn find_all(
     requires different { has_twins atoms.now ≡ false }
     requires rules { AreOverRules atoms.now (map rule_of rules.now) }
     requires beliefs { AreNamesOf atoms.now (map (λ b. b.now) beliefs.now) }
-    ensures search { IfOk result (IsSearch atoms.now (map rule_of rules.now) (map plain.Atom (map (λ b. b.now) beliefs.now))) }
+    ensures search { IfOk result (IsProgramSearch atoms.now (map rule_of rules.now) (map plain.Atom (map (λ b. b.now) beliefs.now))) }
     ensures all { IfOk result (IsExhausted atoms.now (map rule_of rules.now) (map plain.Atom (map (λ b. b.now) beliefs.now))) }
 {
     let placing = Placing::of(alloc, atoms, rules, beliefs)?;

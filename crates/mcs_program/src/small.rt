@@ -5,7 +5,7 @@ ghost use Rattle.std.specs.List.{AllByRecursion, list_all};
 ghost use Rattle.mcs_sets.specs.Sets.{Within};
 ghost use Rattle.mcs_sets.specs.Orders.{StateBefore};
 ghost use Rattle.mcs_base.specs.Listings.{IsAscending};
-ghost use Rattle.mcs_program.specs.Placing.{lies_beside, may_be, StaysModel};
+ghost use Rattle.mcs_program.specs.Placing.{lies_beside, may_be_model, StaysModel};
 
 use crate::placing::{PlacedRule, Placing, lies_beside, rules_hold};
 use crate::search::Search;
@@ -26,7 +26,7 @@ pub(crate) fn is_possible(placing: &Placing, search: &Search, places: Vars) -> b
     requires few { length placing.now.beliefs.items ≤ 64 }
     requires places { AllByRecursion (λ k. k < 64) placing.now.beliefs.items }
     requires ascending { IsAscending StateBefore search.now.views.items }
-    ensures { result ≡ may_be placing.now search.now.smaller.items search.now.views.items places }
+    ensures { result ≡ may_be_model placing.now search.now.smaller.items search.now.views.items places }
 {
     rules_hold(&placing.rules, places)
         && is_new(&search.views, view_of(&placing.beliefs, places))

@@ -6,7 +6,7 @@ ghost use Rattle.mcs_system.specs.Faults.{has_twins};
 ghost use Rattle.mcs_system.specs.Logic.{is_in};
 ghost use Rattle.mcs_system.specs.Plain as plain;
 ghost use Rattle.mcs_evidence.specs.Supports.{IsBased};
-ghost use Rattle.mcs_program.specs.Placing.{lies_within, do_meet, IsPlacing};
+ghost use Rattle.mcs_program.specs.Placing.{places_within, do_meet, IsPlacing};
 
 use crate::placing::{PlacedRule, Placing, lies_within};
 use crate::view::all_places;
@@ -14,7 +14,7 @@ use mcs_base::Vars;
 
 /// The atoms, among those at the places, that are in no head of a rule whose positive body is not within the set.
 fn based_on(rules: &[PlacedRule], set: Vars, places: Vars) -> Vars
-    ensures { AllByRecursion (λ (r : PlacedRule). do_meet r.head result ≡ true → lies_within r.pos set ≡ true) rules.now }
+    ensures { AllByRecursion (λ (r : PlacedRule). do_meet r.head result ≡ true → places_within r.pos set ≡ true) rules.now }
 {
     let mut based = places;
     for rule in rules {

@@ -5,26 +5,26 @@ use Rattle.std.specs.List.{position_from}
 use Rattle.std.proofs.lemmas.Bool.Decides.{nat_tests}
 use Rattle.std.proofs.lemmas.Iterator.Adapters.{position_from-zero}
 use Rattle.std.proofs.lemmas.Option.{same_Some}
-use Rattle.mcs_spelling.specs.Words.{place_of}
-use Rattle.mcs_proof_lines.specs.Walks.{IsLast, lines_from}
-use Rattle.mcs_spelling.specs.Lines.{onto, complete_lines, is_empty, incomplete}
+use Rattle.mcs_spelling.specs.Words.{place_of_byte}
+use Rattle.mcs_proof_lines.specs.Walks.{IsLast, remaining_lines}
+use Rattle.mcs_spelling.specs.Lines.{line_onto, complete_lines, is_empty, incomplete}
 
 abbrev Found : List ℕ → ℕ → Type 0
 Found bytes j = (complete_lines bytes ≡ take j bytes ∷ complete_lines (drop (suc j) bytes)) × (incomplete bytes ≡ incomplete (drop (suc j) bytes))
 
 module _ (b : ℕ) (bytes : List ℕ) where
   feed : nat_eq b 10 ≡ true → Found (b ∷ bytes) 0
-  feed v = (ap (λ (u : Bool). cond u ([] ∷ complete_lines bytes) (onto b (complete_lines bytes))) v, ap (λ (u : Bool). cond u (incomplete bytes) (cond (is_empty (complete_lines bytes)) (b ∷ bytes) (incomplete bytes))) v)
+  feed v = (ap (λ (u : Bool). cond u ([] ∷ complete_lines bytes) (line_onto b (complete_lines bytes))) v, ap (λ (u : Bool). cond u (incomplete bytes) (cond (is_empty (complete_lines bytes)) (b ∷ bytes) (incomplete bytes))) v)
 
   other : (j : ℕ) → nat_eq b 10 ≡ false → Found bytes j → Found (b ∷ bytes) (suc j)
   other j v h = (
-    ap (λ (u : Bool). cond u ([] ∷ complete_lines bytes) (onto b (complete_lines bytes))) v ∙ ap (onto b) h.0,
+    ap (λ (u : Bool). cond u ([] ∷ complete_lines bytes) (line_onto b (complete_lines bytes))) v ∙ ap (line_onto b) h.0,
     ap (λ (u : Bool). cond u (incomplete bytes) (cond (is_empty (complete_lines bytes)) (b ∷ bytes) (incomplete bytes))) v ∙ (ap (λ ls. cond (is_empty ls) (b ∷ bytes) (incomplete bytes)) h.0 ∙ h.1),
   )
 
   none_more : nat_eq b 10 ≡ false → (complete_lines bytes ≡ []) × (incomplete bytes ≡ bytes) → (complete_lines (b ∷ bytes) ≡ []) × (incomplete (b ∷ bytes) ≡ b ∷ bytes)
   none_more v h = (
-    ap (λ (u : Bool). cond u ([] ∷ complete_lines bytes) (onto b (complete_lines bytes))) v ∙ ap (onto b) h.0,
+    ap (λ (u : Bool). cond u ([] ∷ complete_lines bytes) (line_onto b (complete_lines bytes))) v ∙ ap (line_onto b) h.0,
     ap (λ (u : Bool). cond u (incomplete bytes) (cond (is_empty (complete_lines bytes)) (b ∷ bytes) (incomplete bytes))) v ∙ ap (λ ls. cond (is_empty ls) (b ∷ bytes) (incomplete bytes)) h.0,
   )
 
@@ -48,7 +48,7 @@ none_from k [] e = (refl, refl)
 none_from k (b ∷ bytes) e = none_step k b bytes (λ e'. none_from (k + 1) bytes e') (nat_eq b 10) refl e
 
 -- the first line feed stands at this place
-pub first_line : (bytes : List ℕ) (place : ℕ) → place_of 10 bytes ≡ Some place
+pub first_line : (bytes : List ℕ) (place : ℕ) → place_of_byte 10 bytes ≡ Some place
     → (complete_lines bytes ≡ take place bytes ∷ complete_lines (drop (place + 1) bytes)) × (incomplete bytes ≡ incomplete (drop (place + 1) bytes))
 first_line bytes place e =
     let (j, is, found) = found_from 0 place bytes (sym (position_from-zero (λ b. nat_eq b 10) bytes) ∙ e) in
@@ -57,7 +57,7 @@ first_line bytes place e =
     let P : ℕ → ℕ → Type 0 = λ a b. (complete_lines bytes ≡ take a bytes ∷ complete_lines (drop b bytes)) × (incomplete bytes ≡ incomplete (drop b bytes)) in
     subst (P place) next (subst (λ a. P a (suc a)) same found)
 
-pub no_line : (bytes : List ℕ) → place_of 10 bytes ≡ None → (complete_lines bytes ≡ []) × (incomplete bytes ≡ bytes)
+pub no_line : (bytes : List ℕ) → place_of_byte 10 bytes ≡ None → (complete_lines bytes ≡ []) × (incomplete bytes ≡ bytes)
 no_line bytes e = none_from 0 bytes (sym (position_from-zero (λ b. nat_eq b 10) bytes) ∙ e)
 
 -- where no line is left, what follows is all
@@ -65,11 +65,11 @@ pub all_incomplete : (bytes : List ℕ) → complete_lines bytes ≡ [] → inco
 all_incomplete [] e = refl
 all_incomplete (b ∷ bytes) e = at (nat_eq b 10) refl e
   where
-    none_onto : (lines : List (List ℕ)) → onto b lines ≡ [] → lines ≡ []
+    none_onto : (lines : List (List ℕ)) → line_onto b lines ≡ [] → lines ≡ []
     none_onto [] e = refl
     none_onto (line ∷ lines) e = absurd (cc)
 
-    at : (v : Bool) → nat_eq b 10 ≡ v → cond v ([] ∷ complete_lines bytes) (onto b (complete_lines bytes)) ≡ [] → cond v (incomplete bytes) (cond (is_empty (complete_lines bytes)) (b ∷ bytes) (incomplete bytes)) ≡ b ∷ bytes
+    at : (v : Bool) → nat_eq b 10 ≡ v → cond v ([] ∷ complete_lines bytes) (line_onto b (complete_lines bytes)) ≡ [] → cond v (incomplete bytes) (cond (is_empty (complete_lines bytes)) (b ∷ bytes) (incomplete bytes)) ≡ b ∷ bytes
     at true v e = absurd (cc)
     at false v e = ap (λ ls. cond (is_empty ls) (b ∷ bytes) (incomplete bytes)) (none_onto (complete_lines bytes) e)
 
@@ -78,6 +78,6 @@ none_long [] = refl
 none_long (b ∷ bytes) = grind (arith, nat_tests)
 
 -- nothing is left where no line is next and nothing follows
-pub at_end : (current : Option (Bor (List ℕ))) (later : List ℕ) → current ≡ None → IsLast current later → (length later == 0) ≡ (is_empty (lines_from current later) && is_empty (incomplete later))
+pub at_end : (current : Option (Bor (List ℕ))) (later : List ℕ) → current ≡ None → IsLast current later → (length later == 0) ≡ (is_empty (remaining_lines current later) && is_empty (incomplete later))
 at_end None later e last = none_long later ∙ ap is_empty (sym (all_incomplete later last))
 at_end (Some line) later e last = absurd (cc)

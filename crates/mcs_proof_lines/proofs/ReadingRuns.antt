@@ -4,7 +4,7 @@ use Rattle.std.proofs.lemmas.List.{length-map}
 use Rattle.std.specs.List.{AllByRecursion}
 use Rattle.std.specs.Option.{option_and_then}
 use Rattle.mcs_proof_lines.specs.Walks.{At, Reading}
-use Rattle.mcs_proof_lines.specs.Readings.{here, IsReadOf, ReadsLine, Reads, IsOther}
+use Rattle.mcs_proof_lines.specs.Readings.{here, AreLinesRead, ReadsLine, ReadsLines, IsLineOfOtherKind}
 
 -- the values of the lines that are next, and where the reader is then
 abbrev pub with_one : {A : Type 0} → Option A → (List A × At) → At → (List A × At)
@@ -24,7 +24,7 @@ module _ {A : Type 0} (Is : A → Type 0) (text : A → List ℕ) (f : List ℕ 
     pub rest_is : rest ≡ map text r.0 ++ r.1.rest
     pub taken : r.1.taken ≡ n + length r.0
     pub tail_is : r.1.tail ≡ tail
-    pub other : IsOther f r.1.rest
+    pub other : IsLineOfOtherKind f r.1.rest
 
   run_sound : (n : ℕ) (rest : List (List ℕ)) (tail : List ℕ) → IsRun n rest tail (run_from f n rest tail)
   run_sound n [] tail = record { values = tt; rest_is = refl; taken = omega arith; tail_is = refl; other = refl }
@@ -42,11 +42,11 @@ module _ {A : Type 0} (Is : A → Type 0) (text : A → List ℕ) (f : List ℕ 
             other = r.other;
           }
 
-  run_none : (n : ℕ) (rest : List (List ℕ)) (tail : List ℕ) → IsOther f rest → run_from f n rest tail ≡ ([], here n rest tail)
+  run_none : (n : ℕ) (rest : List (List ℕ)) (tail : List ℕ) → IsLineOfOtherKind f rest → run_from f n rest tail ≡ ([], here n rest tail)
   run_none n [] tail other = refl
   run_none n (line ∷ rest) tail other = ap (λ (o : Option A). with_one o (run_from f (n + 1) rest tail) (here n (line ∷ rest) tail)) other
 
-  run_complete : (xs : List A) (n : ℕ) (more : List (List ℕ)) (tail : List ℕ) → AllByRecursion Is xs → IsOther f more → run_from f n (map text xs ++ more) tail ≡ (xs, here (n + length xs) more tail)
+  run_complete : (xs : List A) (n : ℕ) (more : List (List ℕ)) (tail : List ℕ) → AllByRecursion Is xs → IsLineOfOtherKind f more → run_from f n (map text xs ++ more) tail ≡ (xs, here (n + length xs) more tail)
   run_complete [] n more tail is other = run_none n more tail other ∙ (let same : n ≡ n + length {A = A} [] = omega arith in ap (λ (m : ℕ). (let r : List A × At = ([], here m more tail) in r)) same)
   run_complete (x ∷ xs) n more tail is other =
       let again = run_complete xs (n + 1) more tail is.1 other in
@@ -58,18 +58,18 @@ module _ {A : Type 0} (Is : A → Type 0) (text : A → List ℕ) (f : List ℕ 
   long : (xs : List A) → length (map text xs) ≡ length xs
   long xs = length-map xs text
 
-  read_sound : (at now : At) (xs : List A) → run_at f at ≡ Ok (xs, now) → IsReadOf (AllByRecursion Is) (map text) at now xs × IsOther f now.rest
+  read_sound : (at now : At) (xs : List A) → run_at f at ≡ Ok (xs, now) → AreLinesRead (AllByRecursion Is) (map text) at now xs × IsLineOfOtherKind f now.rest
   read_sound at now xs e =
       let same : ◌≡◌ {A = List A × At} (run_from f at.taken at.rest at.tail) (xs, now) = cc in
       let r : IsRun at.taken at.rest at.tail (xs, now) = subst (IsRun at.taken at.rest at.tail) same (run_sound at.taken at.rest at.tail) in
       (record { is = r.values; rest = r.rest_is; taken = (let t = r.taken in omega (arith, t, long xs)); tail = r.tail_is }, r.other)
 
-  read_complete : (xs : List A) (n : ℕ) (more : List (List ℕ)) (tail : List ℕ) → AllByRecursion Is xs → IsOther f more → run_at f (here n (map text xs ++ more) tail) ≡ Ok (xs, here (n + length (map text xs)) more tail)
+  read_complete : (xs : List A) (n : ℕ) (more : List (List ℕ)) (tail : List ℕ) → AllByRecursion Is xs → IsLineOfOtherKind f more → run_at f (here n (map text xs ++ more) tail) ≡ Ok (xs, here (n + length (map text xs)) more tail)
   read_complete xs n more tail is other =
       let count : n + length xs ≡ n + length (map text xs) = omega (arith, long xs) in
       ap (λ (r : List A × At). (let s : Reading (List A) = Ok r in s)) (run_complete xs n more tail is other) ∙ ap (λ (m : ℕ). (let s : Reading (List A) = Ok (xs, here m more tail) in s)) count
 
-  pub reads_run : Reads (AllByRecursion Is) (map text) (IsOther f) (run_at f)
+  pub reads_run : ReadsLines (AllByRecursion Is) (map text) (IsLineOfOtherKind f) (run_at f)
   reads_run = record {
     sound = λ at now xs e. (read_sound at now xs e).0;
     complete = read_complete;

@@ -1,22 +1,22 @@
 -- One reading after the other, readings of which one is chosen by the next line, and several of one kind.
 use Rattle.std.proofs.Common.{◌≡◌, ℕ, ◌+◌, ◌<◌, zero, suc, ◌⊎◌, inl, inr, Bool, true, false, cond, List, ◌++◌, length, take, drop, Option, Ok, Err, refl, sym, ap, ◌∙◌, subst, arith, append_assoc, length-append}
 use Rattle.std.proofs.Math.Seq.{take-append-add}
-use Rattle.mcs_proof_lines.specs.Walks.{At, Reading, ◌>>=◌, head_of, made}
-use Rattle.mcs_proof_lines.specs.Readings.{here, Stops, IsReadOf, IsBegun, IsStuckAt, Reads, Image, AreBoth, both_lines, AllStop, IsEitherOf}
+use Rattle.mcs_proof_lines.specs.Walks.{At, Reading, ◌>>=◌, head_line, mapped_reading}
+use Rattle.mcs_proof_lines.specs.Readings.{here, Stops, AreLinesRead, BeginsLines, IsStuckAt, ReadsLines, Image, AreBoth, both_lines, AllStop, IsEitherOf}
 use Rattle.mcs_proof_lines.proofs.Readings.{same_reading, same_head, head_after, split_front}
 
 -- ---- made into something else
-pub made_ok : {A C : Type 0} (f : A → C) (r : Reading A) (c : C) (now : At) → made f r ≡ Ok (c, now) → (x : A) × (c ≡ f x) × (r ≡ Ok (x, now))
+pub made_ok : {A C : Type 0} (f : A → C) (r : Reading A) (c : C) (now : At) → mapped_reading f r ≡ Ok (c, now) → (x : A) × (c ≡ f x) × (r ≡ Ok (x, now))
 made_ok {A = A} f (Ok x) c now e = let parts = same_reading (f x.0) c x.1 now e in (x.0, sym parts.0, ap (λ (a : At). (let r : Reading A = Ok (x.0, a) in r)) parts.1)
 made_ok f (Err n) c now e = absurd (cc)
 
-pub made_err : {A C : Type 0} (f : A → C) (r : Reading A) (n : ℕ) → made f r ≡ Err n → r ≡ Err n
+pub made_err : {A C : Type 0} (f : A → C) (r : Reading A) (n : ℕ) → mapped_reading f r ≡ Err n → r ≡ Err n
 made_err f (Ok x) n e = absurd (cc)
 made_err f (Err m) n e = cc
 
 module _ {A C : Type 0} (Is : A → Type 0) (lines : A → List (List ℕ)) (End : List (List ℕ) → Type 0) (p : At → Reading A) (f : A → C) (lines' : C → List (List ℕ))
-    (h : Reads Is lines End p) (eq : (x : A) → Is x → lines x ≡ lines' (f x)) where
-  made_sound : (at now : At) (c : C) → made f (p at) ≡ Ok (c, now) → IsReadOf (Image f Is) lines' at now c
+    (h : ReadsLines Is lines End p) (eq : (x : A) → Is x → lines x ≡ lines' (f x)) where
+  made_sound : (at now : At) (c : C) → mapped_reading f (p at) ≡ Ok (c, now) → AreLinesRead (Image f Is) lines' at now c
   made_sound at now c e =
       let (x, is, was) = made_ok f (p at) c now e in
       let r = h.sound at now x was in
@@ -28,28 +28,28 @@ module _ {A C : Type 0} (Is : A → Type 0) (lines : A → List (List ℕ)) (End
         tail = r.tail;
       }
 
-  made_complete : (c : C) (n : ℕ) (more : List (List ℕ)) (tail : List ℕ) → Image f Is c → End more → made f (p (here n (lines' c ++ more) tail)) ≡ Ok (c, here (n + length (lines' c)) more tail)
+  made_complete : (c : C) (n : ℕ) (more : List (List ℕ)) (tail : List ℕ) → Image f Is c → End more → mapped_reading f (p (here n (lines' c ++ more) tail)) ≡ Ok (c, here (n + length (lines' c)) more tail)
   made_complete c n more tail (x, is, known) end =
       let same : lines x ≡ lines' c = eq x known ∙ ap lines' (sym is) in
-      let P : List (List ℕ) → Type 0 = λ ls. made f (p (here n (ls ++ more) tail)) ≡ Ok (c, here (n + length ls) more tail) in
-      subst P same (ap (made f) (h.complete x n more tail known end) ∙ ap (λ (d : C). Ok (d, here (n + length (lines x)) more tail)) (sym is))
+      let P : List (List ℕ) → Type 0 = λ ls. mapped_reading f (p (here n (ls ++ more) tail)) ≡ Ok (c, here (n + length ls) more tail) in
+      subst P same (ap (mapped_reading f) (h.complete x n more tail known end) ∙ ap (λ (d : C). Ok (d, here (n + length (lines x)) more tail)) (sym is))
 
-  made_stable : (at now : At) (c : C) (rest : List (List ℕ)) (tail : List ℕ) → made f (p at) ≡ Ok (c, now) → head_of rest ≡ head_of now.rest → made f (p (here at.taken (lines' c ++ rest) tail)) ≡ Ok (c, here now.taken rest tail)
+  made_stable : (at now : At) (c : C) (rest : List (List ℕ)) (tail : List ℕ) → mapped_reading f (p at) ≡ Ok (c, now) → head_line rest ≡ head_line now.rest → mapped_reading f (p (here at.taken (lines' c ++ rest) tail)) ≡ Ok (c, here now.taken rest tail)
   made_stable at now c rest tail e next =
       let (x, is, was) = made_ok f (p at) c now e in
       let same : lines x ≡ lines' c = eq x (h.sound at now x was).is ∙ ap lines' (sym is) in
-      let P : List (List ℕ) → Type 0 = λ ls. made f (p (here at.taken (ls ++ rest) tail)) ≡ Ok (c, here now.taken rest tail) in
-      subst P same (ap (made f) (h.stable at now x rest tail was next) ∙ ap (λ (d : C). Ok (d, here now.taken rest tail)) (sym is))
+      let P : List (List ℕ) → Type 0 = λ ls. mapped_reading f (p (here at.taken (ls ++ rest) tail)) ≡ Ok (c, here now.taken rest tail) in
+      subst P same (ap (mapped_reading f) (h.stable at now x rest tail was next) ∙ ap (λ (d : C). Ok (d, here now.taken rest tail)) (sym is))
 
-  made_begun : (front : List (List ℕ)) → IsBegun Is lines front → IsBegun (Image f Is) lines' front
+  made_begun : (front : List (List ℕ)) → BeginsLines Is lines front → BeginsLines (Image f Is) lines' front
   made_begun front b = record { value = f b.value; is = (b.value, refl, b.is); more = b.more; lines_are = sym (eq b.value b.is) ∙ b.lines_are }
 
-  pub reads_made : Reads (Image f Is) lines' End (λ at. made f (p at))
+  pub reads_made : ReadsLines (Image f Is) lines' End (λ at. mapped_reading f (p at))
   reads_made = record {
     sound = made_sound;
     complete = made_complete;
     fault = λ at n e. (let (k, s) = h.fault at n (made_err f (p at) n e) in (k, record { number = s.number; within = s.within; begun = λ less. made_begun (take k at.rest) (s.begun less) }));
-    local = λ at k rest tail e less front. ap (made f) (h.local at k rest tail (made_err f (p at) (at.taken + k + 1) e) less front);
+    local = λ at k rest tail e less front. ap (mapped_reading f) (h.local at k rest tail (made_err f (p at) (at.taken + k + 1) e) less front);
     stable = made_stable;
   }
 
@@ -90,9 +90,9 @@ module _ {A B : Type 0} (q : A → At → Reading B) where
 
 module _ {A B : Type 0} (IsA : A → Type 0) (linesA : A → List (List ℕ)) (EndA : List (List ℕ) → Type 0) (p : At → Reading A)
     (IsB : A → B → Type 0) (linesB : A → B → List (List ℕ)) (EndB : List (List ℕ) → Type 0) (q : A → At → Reading B)
-    (hp : Reads IsA linesA EndA p) (hq : (x : A) → IsA x → Reads (IsB x) (linesB x) EndB (q x))
+    (hp : ReadsLines IsA linesA EndA p) (hq : (x : A) → IsA x → ReadsLines (IsB x) (linesB x) EndB (q x))
     (some : (x : A) → IsA x → (y : B) × IsB x y) (next : (x : A) (y : B) (more : List (List ℕ)) → IsA x → IsB x y → EndB more → EndA (linesB x y ++ more)) where
-  both_sound : (at now : At) (xy : A × B) → both q (p at) ≡ Ok (xy, now) → IsReadOf (AreBoth IsA IsB) (both_lines linesA linesB) at now xy
+  both_sound : (at now : At) (xy : A × B) → both q (p at) ≡ Ok (xy, now) → AreLinesRead (AreBoth IsA IsB) (both_lines linesA linesB) at now xy
   both_sound at now xy e =
       let (mid, e1, e2) = both_ok q (p at) xy now e in
       let r = hp.sound at mid xy.0 e1 in
@@ -115,7 +115,7 @@ module _ {A B : Type 0} (IsA : A → Type 0) (linesA : A → List (List ℕ)) (E
       both_join q (p (here n ((la ++ lb) ++ more) tail)) x y (here (n + length la) (lb ++ more) tail) (here (n + length la + length lb) more tail) e1 e2
       ∙ ap (λ (m : ℕ). Ok ((x, y), here m more tail)) count
 
-  begun_first : (front : List (List ℕ)) → IsBegun IsA linesA front → IsBegun (AreBoth IsA IsB) (both_lines linesA linesB) front
+  begun_first : (front : List (List ℕ)) → BeginsLines IsA linesA front → BeginsLines (AreBoth IsA IsB) (both_lines linesA linesB) front
   begun_first front b =
       let (y, is) = some b.value b.is in
       record {
@@ -129,11 +129,11 @@ module _ {A B : Type 0} (IsA : A → Type 0) (linesA : A → List (List ℕ)) (E
   stuck_first at n k s = record { number = s.number; within = s.within; begun = λ less. begun_first (take k at.rest) (s.begun less) }
 
   -- where the second is stuck at its first line, any value of it will do
-  begun_at : (mid : At) (x : A) (n k : ℕ) → IsA x → IsStuckAt (IsB x) (linesB x) mid n k → IsBegun (IsB x) (linesB x) (take k mid.rest)
+  begun_at : (mid : At) (x : A) (n k : ℕ) → IsA x → IsStuckAt (IsB x) (linesB x) mid n k → BeginsLines (IsB x) (linesB x) (take k mid.rest)
   begun_at mid x n zero is s = let (y, known) = some x is in record { value = y; is = known; more = linesB x y; lines_are = refl }
   begun_at mid x n (suc k) is s = s.begun (omega arith)
 
-  stuck_second : (at mid : At) (x : A) (n k : ℕ) → IsReadOf IsA linesA at mid x → IsStuckAt (IsB x) (linesB x) mid n k → IsStuckAt (AreBoth IsA IsB) (both_lines linesA linesB) at n (length (linesA x) + k)
+  stuck_second : (at mid : At) (x : A) (n k : ℕ) → AreLinesRead IsA linesA at mid x → IsStuckAt (IsB x) (linesB x) mid n k → IsStuckAt (AreBoth IsA IsB) (both_lines linesA linesB) at n (length (linesA x) + k)
   stuck_second at mid x n k r s =
       let la = linesA x in
       let front : take (length la + k) at.rest ≡ la ++ take k mid.rest = ap (λ (ls : List (List ℕ)). take (length la + k) ls) r.rest ∙ take-append-add la mid.rest k in
@@ -186,19 +186,19 @@ module _ {A B : Type 0} (IsA : A → Type 0) (linesA : A → List (List ℕ)) (E
       cases (inl first) = both_first q (p (here at.taken rest tail)) (at.taken + k + 1) (hp.local at k rest tail first less front)
       cases (inr (x, mid, e1, e2)) = second x mid e1 e2
 
-  both_stable : (at now : At) (xy : A × B) (rest : List (List ℕ)) (tail : List ℕ) → both q (p at) ≡ Ok (xy, now) → head_of rest ≡ head_of now.rest → both q (p (here at.taken (both_lines linesA linesB xy ++ rest) tail)) ≡ Ok (xy, here now.taken rest tail)
+  both_stable : (at now : At) (xy : A × B) (rest : List (List ℕ)) (tail : List ℕ) → both q (p at) ≡ Ok (xy, now) → head_line rest ≡ head_line now.rest → both q (p (here at.taken (both_lines linesA linesB xy ++ rest) tail)) ≡ Ok (xy, here now.taken rest tail)
   both_stable at now (x, y) rest tail e same =
       let (mid, e1, e2) = both_ok q (p at) (x, y) now e in
       let la = linesA x in
       let lb = linesB x y in
       let r = hp.sound at mid x e1 in
       let s = (hq x r.is).sound mid now y e2 in
-      let heads : head_of (lb ++ rest) ≡ head_of mid.rest = head_after lb rest now.rest same ∙ ap head_of (sym s.rest) in
+      let heads : head_line (lb ++ rest) ≡ head_line mid.rest = head_after lb rest now.rest same ∙ ap head_line (sym s.rest) in
       let first : p (here at.taken ((la ++ lb) ++ rest) tail) ≡ Ok (x, here mid.taken (lb ++ rest) tail) =
       ap (λ (ls : List (List ℕ)). p (here at.taken ls tail)) (append_assoc la lb rest) ∙ hp.stable at mid x (lb ++ rest) tail e1 heads in
       both_join q (p (here at.taken ((la ++ lb) ++ rest) tail)) x y (here mid.taken (lb ++ rest) tail) (here now.taken rest tail) first ((hq x r.is).stable mid now y rest tail e2 same)
 
-  pub reads_both : Reads (AreBoth IsA IsB) (both_lines linesA linesB) EndB (λ at. both q (p at))
+  pub reads_both : ReadsLines (AreBoth IsA IsB) (both_lines linesA linesB) EndB (λ at. both q (p at))
   reads_both = record {
     sound = both_sound;
     complete = both_complete;
@@ -213,30 +213,30 @@ both_stop IsA IsB linesA linesB stopA stopB xy more is end = subst Stops (sym (a
 
 -- ---- of two readings the one that the next line asks for
 abbrev pub chosen_at : {A : Type 0} → (Option (List ℕ) → Bool) → (At → Reading A) → (At → Reading A) → At → Reading A
-chosen_at test p1 p2 at = cond (test (head_of at.rest)) (p1 at) (p2 at)
+chosen_at test p1 p2 at = cond (test (head_line at.rest)) (p1 at) (p2 at)
 
 module _ {A : Type 0} (Is1 Is2 : A → Type 0) (lines : A → List (List ℕ)) (End : List (List ℕ) → Type 0) (p1 p2 : At → Reading A) (test : Option (List ℕ) → Bool)
-    (h1 : Reads Is1 lines End p1) (h2 : Reads Is2 lines End p2)
-    (yes : (x : A) (rest : List (List ℕ)) → Is1 x → test (head_of (lines x ++ rest)) ≡ true) (no : (x : A) (rest : List (List ℕ)) → Is2 x → test (head_of (lines x ++ rest)) ≡ false) where
+    (h1 : ReadsLines Is1 lines End p1) (h2 : ReadsLines Is2 lines End p2)
+    (yes : (x : A) (rest : List (List ℕ)) → Is1 x → test (head_line (lines x ++ rest)) ≡ true) (no : (x : A) (rest : List (List ℕ)) → Is2 x → test (head_line (lines x ++ rest)) ≡ false) where
   abbrev choice_at : At → Reading A
   choice_at = chosen_at test p1 p2
 
-  as_first : (at : At) → test (head_of at.rest) ≡ true → choice_at at ≡ p1 at
+  as_first : (at : At) → test (head_line at.rest) ≡ true → choice_at at ≡ p1 at
   as_first at e = ap (λ (b : Bool). cond b (p1 at) (p2 at)) e
 
-  as_second : (at : At) → test (head_of at.rest) ≡ false → choice_at at ≡ p2 at
+  as_second : (at : At) → test (head_line at.rest) ≡ false → choice_at at ≡ p2 at
   as_second at e = ap (λ (b : Bool). cond b (p1 at) (p2 at)) e
 
-  widen1 : (at now : At) (x : A) → IsReadOf Is1 lines at now x → IsReadOf (IsEitherOf Is1 Is2) lines at now x
+  widen1 : (at now : At) (x : A) → AreLinesRead Is1 lines at now x → AreLinesRead (IsEitherOf Is1 Is2) lines at now x
   widen1 at now x r = record { is = inl r.is; rest = r.rest; taken = r.taken; tail = r.tail }
 
-  widen2 : (at now : At) (x : A) → IsReadOf Is2 lines at now x → IsReadOf (IsEitherOf Is1 Is2) lines at now x
+  widen2 : (at now : At) (x : A) → AreLinesRead Is2 lines at now x → AreLinesRead (IsEitherOf Is1 Is2) lines at now x
   widen2 at now x r = record { is = inr r.is; rest = r.rest; taken = r.taken; tail = r.tail }
 
-  chosen_sound : (at now : At) (x : A) → choice_at at ≡ Ok (x, now) → IsReadOf (IsEitherOf Is1 Is2) lines at now x
-  chosen_sound at now x e = by (test (head_of at.rest)) refl
+  chosen_sound : (at now : At) (x : A) → choice_at at ≡ Ok (x, now) → AreLinesRead (IsEitherOf Is1 Is2) lines at now x
+  chosen_sound at now x e = by (test (head_line at.rest)) refl
     where
-      by : (b : Bool) → test (head_of at.rest) ≡ b → IsReadOf (IsEitherOf Is1 Is2) lines at now x
+      by : (b : Bool) → test (head_line at.rest) ≡ b → AreLinesRead (IsEitherOf Is1 Is2) lines at now x
       by true t = widen1 at now x (h1.sound at now x (sym (as_first at t) ∙ e))
       by false t = widen2 at now x (h2.sound at now x (sym (as_second at t) ∙ e))
 
@@ -244,33 +244,33 @@ module _ {A : Type 0} (Is1 Is2 : A → Type 0) (lines : A → List (List ℕ)) (
   chosen_complete x n more tail (inl is) end = as_first (here n (lines x ++ more) tail) (yes x more is) ∙ h1.complete x n more tail is end
   chosen_complete x n more tail (inr is) end = as_second (here n (lines x ++ more) tail) (no x more is) ∙ h2.complete x n more tail is end
 
-  begun1 : (front : List (List ℕ)) → IsBegun Is1 lines front → IsBegun (IsEitherOf Is1 Is2) lines front
+  begun1 : (front : List (List ℕ)) → BeginsLines Is1 lines front → BeginsLines (IsEitherOf Is1 Is2) lines front
   begun1 front b = record { value = b.value; is = inl b.is; more = b.more; lines_are = b.lines_are }
 
-  begun2 : (front : List (List ℕ)) → IsBegun Is2 lines front → IsBegun (IsEitherOf Is1 Is2) lines front
+  begun2 : (front : List (List ℕ)) → BeginsLines Is2 lines front → BeginsLines (IsEitherOf Is1 Is2) lines front
   begun2 front b = record { value = b.value; is = inr b.is; more = b.more; lines_are = b.lines_are }
 
   chosen_fault : (at : At) (n : ℕ) → choice_at at ≡ Err n → (k : ℕ) × IsStuckAt (IsEitherOf Is1 Is2) lines at n k
-  chosen_fault at n e = by (test (head_of at.rest)) refl
+  chosen_fault at n e = by (test (head_line at.rest)) refl
     where
-      by : (b : Bool) → test (head_of at.rest) ≡ b → (k : ℕ) × IsStuckAt (IsEitherOf Is1 Is2) lines at n k
+      by : (b : Bool) → test (head_line at.rest) ≡ b → (k : ℕ) × IsStuckAt (IsEitherOf Is1 Is2) lines at n k
       by true t = let (k, s) = h1.fault at n (sym (as_first at t) ∙ e) in (k, record { number = s.number; within = s.within; begun = λ less. begun1 (take k at.rest) (s.begun less) })
       by false t = let (k, s) = h2.fault at n (sym (as_second at t) ∙ e) in (k, record { number = s.number; within = s.within; begun = λ less. begun2 (take k at.rest) (s.begun less) })
 
   chosen_local : (at : At) (k : ℕ) (rest : List (List ℕ)) (tail : List ℕ) → choice_at at ≡ Err (at.taken + k + 1) → k < length at.rest → take (k + 1) rest ≡ take (k + 1) at.rest → choice_at (here at.taken rest tail) ≡ Err (at.taken + k + 1)
-  chosen_local at k rest tail e less front = by (test (head_of at.rest)) refl
+  chosen_local at k rest tail e less front = by (test (head_line at.rest)) refl
     where
-      heads : head_of rest ≡ head_of at.rest
+      heads : head_line rest ≡ head_line at.rest
       heads = same_head k rest at.rest front
 
-      by : (b : Bool) → test (head_of at.rest) ≡ b → choice_at (here at.taken rest tail) ≡ Err (at.taken + k + 1)
+      by : (b : Bool) → test (head_line at.rest) ≡ b → choice_at (here at.taken rest tail) ≡ Err (at.taken + k + 1)
       by true t = as_first (here at.taken rest tail) (ap test heads ∙ t) ∙ h1.local at k rest tail (sym (as_first at t) ∙ e) less front
       by false t = as_second (here at.taken rest tail) (ap test heads ∙ t) ∙ h2.local at k rest tail (sym (as_second at t) ∙ e) less front
 
-  chosen_stable : (at now : At) (x : A) (rest : List (List ℕ)) (tail : List ℕ) → choice_at at ≡ Ok (x, now) → head_of rest ≡ head_of now.rest → choice_at (here at.taken (lines x ++ rest) tail) ≡ Ok (x, here now.taken rest tail)
-  chosen_stable at now x rest tail e next = by (test (head_of at.rest)) refl
+  chosen_stable : (at now : At) (x : A) (rest : List (List ℕ)) (tail : List ℕ) → choice_at at ≡ Ok (x, now) → head_line rest ≡ head_line now.rest → choice_at (here at.taken (lines x ++ rest) tail) ≡ Ok (x, here now.taken rest tail)
+  chosen_stable at now x rest tail e next = by (test (head_line at.rest)) refl
     where
-      by : (b : Bool) → test (head_of at.rest) ≡ b → choice_at (here at.taken (lines x ++ rest) tail) ≡ Ok (x, here now.taken rest tail)
+      by : (b : Bool) → test (head_line at.rest) ≡ b → choice_at (here at.taken (lines x ++ rest) tail) ≡ Ok (x, here now.taken rest tail)
       by true t =
           let was = sym (as_first at t) ∙ e in
           as_first (here at.taken (lines x ++ rest) tail) (yes x rest ((h1.sound at now x was).is)) ∙ h1.stable at now x rest tail was next
@@ -278,7 +278,7 @@ module _ {A : Type 0} (Is1 Is2 : A → Type 0) (lines : A → List (List ℕ)) (
           let was = sym (as_second at t) ∙ e in
           as_second (here at.taken (lines x ++ rest) tail) (no x rest ((h2.sound at now x was).is)) ∙ h2.stable at now x rest tail was next
 
-  pub reads_chosen : Reads (IsEitherOf Is1 Is2) lines End (chosen_at test p1 p2)
+  pub reads_chosen : ReadsLines (IsEitherOf Is1 Is2) lines End (chosen_at test p1 p2)
   reads_chosen = record {
     sound = chosen_sound;
     complete = chosen_complete;

@@ -1,22 +1,22 @@
 -- Readings of one line, and readings that are told by other words.
 use Rattle.std.proofs.Common.{◌≡◌, ℕ, ◌+◌, zero, suc, List, [], ◌∷◌, ◌++◌, length, take, drop, Option, Some, None, Ok, Err, refl, sym, ap, ◌∙◌, subst, arith}
 use Rattle.std.specs.Option.{option_and_then}
-use Rattle.mcs_proof_lines.specs.Walks.{At, Reading, head_of, line_at, taken_at, advanced}
-use Rattle.mcs_proof_lines.specs.Readings.{here, IsReadOf, IsBegun, IsStuckAt, Reads, ReadsLine, one_line, Anything}
+use Rattle.mcs_proof_lines.specs.Walks.{At, Reading, head_line, line_at, taken_at, advanced}
+use Rattle.mcs_proof_lines.specs.Readings.{here, AreLinesRead, BeginsLines, IsStuckAt, ReadsLines, ReadsLine, one_line, Anything}
 
 -- stuck at the first line, before which none has to begin a value
 pub stuck_first_line : {A : Type 0} (Is : A → Type 0) (lines : A → List (List ℕ)) (at : At) (n : ℕ) → n ≡ at.taken + 0 + 1 → IsStuckAt Is lines at n 0
 stuck_first_line Is lines at n number = record { number = number; within = omega arith; begun = λ less. absurd (omega (arith, less)) }
 
 -- ---- heads and fronts
-head_take : (k : ℕ) (xs : List (List ℕ)) → head_of (take (k + 1) xs) ≡ head_of xs
+head_take : (k : ℕ) (xs : List (List ℕ)) → head_line (take (k + 1) xs) ≡ head_line xs
 head_take k [] = let e : k + 1 ≡ suc k = omega arith in rw e refl
 head_take k (x ∷ xs) = let e : k + 1 ≡ suc k = omega arith in rw e refl
 
-pub same_head : (k : ℕ) (xs ys : List (List ℕ)) → take (k + 1) xs ≡ take (k + 1) ys → head_of xs ≡ head_of ys
-same_head k xs ys e = sym (head_take k xs) ∙ ap head_of e ∙ head_take k ys
+pub same_head : (k : ℕ) (xs ys : List (List ℕ)) → take (k + 1) xs ≡ take (k + 1) ys → head_line xs ≡ head_line ys
+same_head k xs ys e = sym (head_take k xs) ∙ ap head_line e ∙ head_take k ys
 
-pub head_after : (ls xs ys : List (List ℕ)) → head_of xs ≡ head_of ys → head_of (ls ++ xs) ≡ head_of (ls ++ ys)
+pub head_after : (ls xs ys : List (List ℕ)) → head_line xs ≡ head_line ys → head_line (ls ++ xs) ≡ head_line (ls ++ ys)
 head_after [] xs ys e = e
 head_after (l ∷ ls) xs ys e = refl
 
@@ -42,11 +42,11 @@ advanced_line n line rest tail = refl
 
 -- ---- other words for the same
 module _ {A : Type 0} (Is Is' : A → Type 0) (lines lines' : A → List (List ℕ)) (End : List (List ℕ) → Type 0) (p p' : At → Reading A)
-    (h : Reads Is lines End p) (to : (x : A) → Is x → Is' x) (from : (x : A) → Is' x → Is x) (eq : (x : A) → Is x → lines x ≡ lines' x) (same : (at : At) → p at ≡ p' at) where
-  begun_same : (front : List (List ℕ)) → IsBegun Is lines front → IsBegun Is' lines' front
+    (h : ReadsLines Is lines End p) (to : (x : A) → Is x → Is' x) (from : (x : A) → Is' x → Is x) (eq : (x : A) → Is x → lines x ≡ lines' x) (same : (at : At) → p at ≡ p' at) where
+  begun_same : (front : List (List ℕ)) → BeginsLines Is lines front → BeginsLines Is' lines' front
   begun_same front b = record { value = b.value; is = to b.value b.is; more = b.more; lines_are = sym (eq b.value b.is) ∙ b.lines_are }
 
-  pub reads_same : Reads Is' lines' End p'
+  pub reads_same : ReadsLines Is' lines' End p'
   reads_same = record {
     sound = λ at now x e. (let r = h.sound at now x (same at ∙ e) in record {
       is = to x r.is;
@@ -67,11 +67,11 @@ abbrev pub picked : {A : Type 0} → (List ℕ → Option A) → At → Reading 
 picked f at = taken_at at (line_at f at)
 
 module _ {A : Type 0} (Is : A → Type 0) (text : A → List ℕ) (f : List ℕ → Option A) (h : ReadsLine Is text f) where
-  line_sound : (n : ℕ) (rest : List (List ℕ)) (tail : List ℕ) (now : At) (x : A) → picked f (here n rest tail) ≡ Ok (x, now) → IsReadOf Is (one_line text) (here n rest tail) now x
+  line_sound : (n : ℕ) (rest : List (List ℕ)) (tail : List ℕ) (now : At) (x : A) → picked f (here n rest tail) ≡ Ok (x, now) → AreLinesRead Is (one_line text) (here n rest tail) now x
   line_sound n [] tail now x e = absurd (cc)
   line_sound n (line ∷ rest) tail now x e = at (f line) refl e
     where
-      at : (o : Option A) → f line ≡ o → taken_at (here n (line ∷ rest) tail) o ≡ Ok (x, now) → IsReadOf Is (one_line text) (here n (line ∷ rest) tail) now x
+      at : (o : Option A) → f line ≡ o → taken_at (here n (line ∷ rest) tail) o ≡ Ok (x, now) → AreLinesRead Is (one_line text) (here n (line ∷ rest) tail) now x
       at None was e = absurd (cc)
       at (Some y) was e =
           let parts = same_reading y x (advanced (here n (line ∷ rest) tail)) now e in
@@ -91,10 +91,10 @@ module _ {A : Type 0} (Is : A → Type 0) (text : A → List ℕ) (f : List ℕ 
       let one : n + length (text x ∷ []) ≡ n + 1 = omega arith in
       ap (taken_at (here n (text x ∷ more) tail)) (h.complete x is) ∙ ap (λ (m : ℕ). Ok (x, here m more tail)) (sym one)
 
-  line_fault : (n : ℕ) (rest : List (List ℕ)) (tail : List ℕ) (m : ℕ) → picked f (here n rest tail) ≡ Err m → (m ≡ n + 0 + 1) × (option_and_then f (head_of rest) ≡ None)
-  line_fault n rest tail m e = at (option_and_then f (head_of rest)) refl e
+  line_fault : (n : ℕ) (rest : List (List ℕ)) (tail : List ℕ) (m : ℕ) → picked f (here n rest tail) ≡ Err m → (m ≡ n + 0 + 1) × (option_and_then f (head_line rest) ≡ None)
+  line_fault n rest tail m e = at (option_and_then f (head_line rest)) refl e
     where
-      at : (o : Option A) → option_and_then f (head_of rest) ≡ o → taken_at (here n rest tail) o ≡ Err m → (m ≡ n + 0 + 1) × (option_and_then f (head_of rest) ≡ None)
+      at : (o : Option A) → option_and_then f (head_line rest) ≡ o → taken_at (here n rest tail) o ≡ Err m → (m ≡ n + 0 + 1) × (option_and_then f (head_line rest) ≡ None)
       at None was e = (let same : n + 1 ≡ m = cc in omega (arith, same), was)
       at (Some y) was e = absurd (cc)
 
@@ -103,7 +103,7 @@ module _ {A : Type 0} (Is : A → Type 0) (text : A → List ℕ) (f : List ℕ 
       let r = line_sound n rest0 tail0 now x e in
       line_complete x n rest tail r.is ∙ ap (λ (m : ℕ). Ok (x, here m rest tail)) (sym r.taken)
 
-  pub reads_line : Reads Is (one_line text) Anything (picked f)
+  pub reads_line : ReadsLines Is (one_line text) Anything (picked f)
   reads_line = record {
     sound = λ at now x e. line_sound at.taken at.rest at.tail now x e;
     complete = λ x n more tail is end. line_complete x n more tail is;
@@ -111,7 +111,7 @@ module _ {A : Type 0} (Is : A → Type 0) (text : A → List ℕ) (f : List ℕ 
     local = λ at k rest tail e less front. (
         let (number, none) = line_fault at.taken at.rest at.tail (at.taken + k + 1) e in
         let first : k ≡ 0 = omega (arith, number) in
-        let other : option_and_then f (head_of rest) ≡ None = ap (option_and_then f) (same_head k rest at.rest front) ∙ none in
+        let other : option_and_then f (head_line rest) ≡ None = ap (option_and_then f) (same_head k rest at.rest front) ∙ none in
         let one : at.taken + 1 ≡ at.taken + k + 1 = omega (arith, first) in
         ap (taken_at (here at.taken rest tail)) other ∙ ap (λ (m : ℕ). Err m) one);
     stable = λ at now x rest tail e next. line_stable at.taken at.rest at.tail now x rest tail e;

@@ -4,22 +4,22 @@ use Rattle.std.proofs.lemmas.List.{length-map}
 use Rattle.std.specs.List.{AllByRecursion}
 use Rattle.std.specs.Option.{option_and_then}
 use Rattle.mcs_trace.specs.Traces.{Inference}
-use Rattle.mcs_spelling.specs.Parts.{IsStep, step_text, SpellsStep}
+use Rattle.mcs_spelling.specs.Parts.{IsTraceStep, step_text, SpellsStep}
 use Rattle.mcs_spelling.specs.Words.{step_of}
 use Rattle.mcs_spelling.proofs.LiteralTexts.{step_told, step_read, shape_from}
 use Rattle.mcs_proof_lines.specs.Walks.{At, Reading, with_step, steps_from, steps_at, one_or_more, trace_at}
-use Rattle.mcs_proof_lines.specs.Readings.{here, Stops, IsReadOf, Reads}
+use Rattle.mcs_proof_lines.specs.Readings.{here, Stops, AreLinesRead, ReadsLines}
 use Rattle.mcs_proof_lines.proofs.Readings.{stuck_first_line, same_reading, same_head}
 
 -- what is read of a line
-step_exact : (line : List ℕ) (s : Inference) → step_of line ≡ Some s → IsStep s × (line ≡ step_text s)
+step_exact : (line : List ℕ) (s : Inference) → step_of line ≡ Some s → IsTraceStep s × (line ≡ step_text s)
 step_exact line s e = subst (SpellsStep line) e (step_told line (step_of line) refl)
 
-spelled_step : (s : Inference) → IsStep s → step_of (step_text s) ≡ Some s
+spelled_step : (s : Inference) → IsTraceStep s → step_of (step_text s) ≡ Some s
 spelled_step s h = step_read s (shape_from s s.chain refl h.clause h.some h.numbers)
 
 pub record AreStepsOf (n : ℕ) (rest : List (List ℕ)) (tail : List ℕ) (r : List Inference × At) : Type 0 where
-  pub steps : AllByRecursion IsStep r.0
+  pub steps : AllByRecursion IsTraceStep r.0
   pub rest_is : rest ≡ map step_text r.0 ++ r.1.rest
   pub taken : r.1.taken ≡ n + length r.0
   pub tail_is : r.1.tail ≡ tail
@@ -46,7 +46,7 @@ none_from : (n : ℕ) (rest : List (List ℕ)) (tail : List ℕ) → Stops rest 
 none_from n [] tail stops = refl
 none_from n (line ∷ rest) tail stops = ap (λ (o : Option Inference). with_step o (steps_from (n + 1) rest tail) (here n (line ∷ rest) tail)) stops
 
-steps_complete : (xs : List Inference) (n : ℕ) (more : List (List ℕ)) (tail : List ℕ) → AllByRecursion IsStep xs → Stops more → steps_from n (map step_text xs ++ more) tail ≡ (xs, here (n + length xs) more tail)
+steps_complete : (xs : List Inference) (n : ℕ) (more : List (List ℕ)) (tail : List ℕ) → AllByRecursion IsTraceStep xs → Stops more → steps_from n (map step_text xs ++ more) tail ≡ (xs, here (n + length xs) more tail)
 steps_complete [] n more tail is stops = none_from n more tail stops ∙ (let same : n ≡ n + length {A = Inference} [] = omega arith in ap (λ (m : ℕ). (let r : List Inference × At = ([], here m more tail) in r)) same)
 steps_complete (x ∷ xs) n more tail is stops =
     let again = steps_complete xs (n + 1) more tail is.1 stops in
@@ -57,7 +57,7 @@ steps_complete (x ∷ xs) n more tail is stops =
 
 -- ---- a trace: one step or more
 abbrev pub IsTrace : List Inference → Type 0
-IsTrace steps = (¬ (steps ≡ [])) × AllByRecursion IsStep steps
+IsTrace steps = (¬ (steps ≡ [])) × AllByRecursion IsTraceStep steps
 
 abbrev one_step : Inference
 one_step = record { clause = []; chain = 1 ∷ [] }
@@ -83,7 +83,7 @@ some_read (x ∷ xs) now some = refl
 long : (xs : List Inference) → length (map step_text xs) ≡ length xs
 long xs = length-map xs step_text
 
-trace_sound : (at now : At) (xs : List Inference) → trace_at at ≡ Ok (xs, now) → IsReadOf IsTrace (map step_text) at now xs × Stops now.rest
+trace_sound : (at now : At) (xs : List Inference) → trace_at at ≡ Ok (xs, now) → AreLinesRead IsTrace (map step_text) at now xs × Stops now.rest
 unfolding trace_at steps_at
 trace_sound at now xs e =
     let (same, some) = some_ok (steps_from at.taken at.rest at.tail) xs now e in
@@ -110,7 +110,7 @@ trace_stopped : (n : ℕ) (rest : List (List ℕ)) (tail : List ℕ) → Stops r
 unfolding trace_at steps_at
 trace_stopped n rest tail stops = ap one_or_more (none_from n rest tail stops)
 
-pub reads_trace : Reads IsTrace (map step_text) Stops trace_at
+pub reads_trace : ReadsLines IsTrace (map step_text) Stops trace_at
 reads_trace = record {
   sound = λ at now xs e. (trace_sound at now xs e).0;
   complete = trace_complete;

@@ -5,10 +5,10 @@ use Rattle.std.specs.Option.{option_and_then}
 use Rattle.mcs_trace.specs.Traces.{Inference, inference_of}
 use Rattle.mcs_trace.specs.declared.trace.Step.{Step}
 use Rattle.mcs_spelling.specs.Words.{step_of}
-use Rattle.mcs_proof_lines.specs.Walks.{At, Reading, ◌>>=◌, head_of, advanced, advanced_by, line_at, with_step, steps_from, steps_at, many_at, each_at, after_front}
+use Rattle.mcs_proof_lines.specs.Walks.{At, Reading, ◌>>=◌, head_line, advanced, advanced_by, line_at, with_step, steps_from, steps_at, many_at, each_at, after_front}
 
 -- ---- steps
-none_from : (n : ℕ) (rest : List (List ℕ)) (tail : List ℕ) → option_and_then step_of (head_of rest) ≡ None → steps_from n rest tail ≡ ([], record { taken = n; rest = rest; tail = tail })
+none_from : (n : ℕ) (rest : List (List ℕ)) (tail : List ℕ) → option_and_then step_of (head_line rest) ≡ None → steps_from n rest tail ≡ ([], record { taken = n; rest = rest; tail = tail })
 none_from n [] tail e = refl
 none_from n (line ∷ lines) tail e = ap (λ (o : Option Inference). with_step o (steps_from (n + 1) lines tail) (record { taken = n; rest = line ∷ lines; tail = tail })) e
 
@@ -16,7 +16,7 @@ pub steps_none : (at : At) → line_at step_of at ≡ None → steps_at at ≡ (
 unfolding steps_at
 steps_none at e = none_from at.taken at.rest at.tail e
 
-some_from : (n : ℕ) (rest : List (List ℕ)) (tail : List ℕ) (s : Inference) → option_and_then step_of (head_of rest) ≡ Some s
+some_from : (n : ℕ) (rest : List (List ℕ)) (tail : List ℕ) (s : Inference) → option_and_then step_of (head_line rest) ≡ Some s
     → let next = advanced_by n rest tail in let later = steps_from next.taken next.rest next.tail in steps_from n rest tail ≡ (s ∷ later.0, later.1)
 some_from n [] tail s e = absurd (cc)
 some_from n (line ∷ lines) tail s e = ap (λ (o : Option Inference). with_step o (steps_from (n + 1) lines tail) (record { taken = n; rest = line ∷ lines; tail = tail })) e
@@ -25,7 +25,7 @@ pub steps_some : (at : At) (s : Inference) → line_at step_of at ≡ Some s →
 unfolding steps_at advanced
 steps_some at s e = some_from at.taken at.rest at.tail s e
 
-less_from : (A : Type 0) (f : List ℕ → Option A) (n : ℕ) (rest : List (List ℕ)) (tail : List ℕ) (x : A) → option_and_then f (head_of rest) ≡ Some x → length (advanced_by n rest tail).rest < length rest
+less_from : (A : Type 0) (f : List ℕ → Option A) (n : ℕ) (rest : List (List ℕ)) (tail : List ℕ) (x : A) → option_and_then f (head_line rest) ≡ Some x → length (advanced_by n rest tail).rest < length rest
 less_from A f n [] tail x e = absurd (cc)
 less_from A f n (line ∷ lines) tail x e = omega arith
 

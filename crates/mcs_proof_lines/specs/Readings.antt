@@ -5,8 +5,8 @@ use Rattle.std.specs.List.{AllByRecursion}
 use Rattle.std.specs.Option.{option_and_then, option_map_or}
 use Rattle.std.specs.Str.{bytes_eq}
 use Rattle.mcs_spelling.specs.Parts.{IsSmallNumber}
-use Rattle.mcs_spelling.specs.Words.{place_of, number_of, guarded, step_of}
-use Rattle.mcs_proof_lines.specs.Walks.{At, Reading, head_of, may_be, is_just}
+use Rattle.mcs_spelling.specs.Words.{place_of_byte, number_of_bytes, guarded, step_of}
+use Rattle.mcs_proof_lines.specs.Walks.{At, Reading, head_line, may_be_named, is_just}
 
 -- so many lines taken, and these to come
 abbrev pub here : ℕ → List (List ℕ) → List ℕ → At
@@ -14,14 +14,14 @@ here n rest tail = record { taken = n; rest = rest; tail = tail }
 
 -- ---- what is read
 -- the lines of the value were read
-pub record IsReadOf {A : Type 0} (Is : A → Type 0) (lines : A → List (List ℕ)) (at now : At) (x : A) : Type 0 where
+pub record AreLinesRead {A : Type 0} (Is : A → Type 0) (lines : A → List (List ℕ)) (at now : At) (x : A) : Type 0 where
   pub is : Is x
   pub rest : at.rest ≡ lines x ++ now.rest
   pub taken : now.taken ≡ at.taken + length (lines x)
   pub tail : now.tail ≡ at.tail
 
 -- the lines begin those of a value
-pub record IsBegun {A : Type 0} (Is : A → Type 0) (lines : A → List (List ℕ)) (front : List (List ℕ)) : Type 0 where
+pub record BeginsLines {A : Type 0} (Is : A → Type 0) (lines : A → List (List ℕ)) (front : List (List ℕ)) : Type 0 where
   pub value : A
   pub is : Is value
   pub more : List (List ℕ)
@@ -31,17 +31,17 @@ pub record IsBegun {A : Type 0} (Is : A → Type 0) (lines : A → List (List �
 pub record IsStuckAt {A : Type 0} (Is : A → Type 0) (lines : A → List (List ℕ)) (at : At) (n k : ℕ) : Type 0 where
   pub number : n ≡ at.taken + k + 1
   pub within : k ≤ length at.rest
-  pub begun : 0 < k → IsBegun Is lines (take k at.rest)
+  pub begun : 0 < k → BeginsLines Is lines (take k at.rest)
 
 -- the reading reads the lines of just these values, where what follows is as it has to be
-pub record Reads {A : Type 0} (Is : A → Type 0) (lines : A → List (List ℕ)) (End : List (List ℕ) → Type 0) (p : At → Reading A) : Type 0 where
-  pub sound : (at now : At) (x : A) → p at ≡ Ok (x, now) → IsReadOf Is lines at now x
+pub record ReadsLines {A : Type 0} (Is : A → Type 0) (lines : A → List (List ℕ)) (End : List (List ℕ) → Type 0) (p : At → Reading A) : Type 0 where
+  pub sound : (at now : At) (x : A) → p at ≡ Ok (x, now) → AreLinesRead Is lines at now x
   pub complete : (x : A) (n : ℕ) (more : List (List ℕ)) (tail : List ℕ) → Is x → End more → p (here n (lines x ++ more) tail) ≡ Ok (x, here (n + length (lines x)) more tail)
   pub fault : (at : At) (n : ℕ) → p at ≡ Err n → (k : ℕ) × IsStuckAt Is lines at n k
   -- only the lines up to the one out of place matter
   pub local : (at : At) (k : ℕ) (rest : List (List ℕ)) (tail : List ℕ) → p at ≡ Err (at.taken + k + 1) → k < length at.rest → take (k + 1) rest ≡ take (k + 1) at.rest → p (here at.taken rest tail) ≡ Err (at.taken + k + 1)
   -- only the lines that are read, and the next one, matter
-  pub stable : (at now : At) (x : A) (rest : List (List ℕ)) (tail : List ℕ) → p at ≡ Ok (x, now) → head_of rest ≡ head_of now.rest → p (here at.taken (lines x ++ rest) tail) ≡ Ok (x, here now.taken rest tail)
+  pub stable : (at now : At) (x : A) (rest : List (List ℕ)) (tail : List ℕ) → p at ≡ Ok (x, now) → head_line rest ≡ head_line now.rest → p (here at.taken (lines x ++ rest) tail) ≡ Ok (x, here now.taken rest tail)
 
 -- the function reads the lines of just these values
 pub record ReadsLine {A : Type 0} (Is : A → Type 0) (text : A → List ℕ) (f : List ℕ → Option A) : Type 0 where
@@ -53,12 +53,12 @@ abbrev pub Anything : List (List ℕ) → Type 0
 Anything more = Unit {0}
 
 -- the next line, if there is one, is of another kind
-abbrev pub IsOther : {A : Type 0} → (List ℕ → Option A) → List (List ℕ) → Type 0
-IsOther f rest = option_and_then f (head_of rest) ≡ None
+abbrev pub IsLineOfOtherKind : {A : Type 0} → (List ℕ → Option A) → List (List ℕ) → Type 0
+IsLineOfOtherKind f rest = option_and_then f (head_line rest) ≡ None
 
 -- the next line, if there is one, is no step
 abbrev pub Stops : List (List ℕ) → Type 0
-Stops rest = option_and_then step_of (head_of rest) ≡ None
+Stops rest = option_and_then step_of (head_line rest) ≡ None
 
 -- the lines of each begin with one that is no step
 abbrev pub Begin : {A : Type 0} → (A → Type 0) → (A → List (List ℕ)) → Type 0
@@ -77,7 +77,7 @@ is_read f next = is_some (option_and_then f next)
 
 -- this line is the next one
 abbrev pub ComesNext : List ℕ → List (List ℕ) → Type 0
-ComesNext line rest = is_line line (head_of rest) ≡ true
+ComesNext line rest = is_line line (head_line rest) ≡ true
 
 -- ---- which values
 -- made of one that is read
@@ -104,15 +104,15 @@ abbrev pub Nothing : Unit {0} → Type 0
 Nothing u = Unit {0}
 
 -- a number, at most this; two numbers
-abbrev pub IsUpTo : ℕ → ℕ → Type 0
-IsUpTo most n = IsSmallNumber n × (nat_le n most ≡ true)
+abbrev pub IsAtMost : ℕ → ℕ → Type 0
+IsAtMost most n = IsSmallNumber n × (nat_le n most ≡ true)
 
 abbrev pub AreSmall : ℕ × ℕ → Type 0
 AreSmall nj = IsSmallNumber nj.0 × IsSmallNumber nj.1
 
 -- a default that may be named, and a justification of it
 abbrev pub IsBlockOf : List ℕ → Option ℕ → ℕ × ℕ → Type 0
-IsBlockOf justs only = IsPassing AreSmall (λ nj. is_just justs nj.0 nj.1 && may_be only nj.0)
+IsBlockOf justs only = IsPassing AreSmall (λ nj. is_just justs nj.0 nj.1 && may_be_named only nj.0)
 
 -- ---- the lines of a value: those that it is; one; those of both parts
 abbrev pub itself : List (List ℕ) → List (List ℕ)
@@ -131,8 +131,8 @@ each_lines lines (k ∷ ks) [] = []
 each_lines lines (k ∷ ks) (x ∷ xs) = lines k x ++ each_lines lines ks xs
 
 -- ---- what is made of two that were read
-abbrev pub onto : {A : Type 0} → A × List A → List A
-onto xs = xs.0 ∷ xs.1
+abbrev pub prepended : {A : Type 0} → A × List A → List A
+prepended xs = xs.0 ∷ xs.1
 
 abbrev pub second : {A : Type 0} → Unit {0} × A → A
 second ux = ux.1
@@ -145,4 +145,4 @@ abbrev pub two_text : ℕ × ℕ → List ℕ
 two_text nj = decimal nj.0 ++ (codes " " ++ decimal nj.1)
 
 abbrev pub two_of : {A : Type 0} → (ℕ → ℕ → Option A) → List ℕ → Option A
-two_of f rest = option_and_then (λ space. option_and_then (λ n. option_and_then (λ j. f n j) (number_of (drop (space + 1) rest))) (number_of (take space rest))) (place_of 32 rest)
+two_of f rest = option_and_then (λ space. option_and_then (λ n. option_and_then (λ j. f n j) (number_of_bytes (drop (space + 1) rest))) (number_of_bytes (take space rest))) (place_of_byte 32 rest)

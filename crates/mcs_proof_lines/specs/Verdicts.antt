@@ -4,8 +4,8 @@ use Rattle.std.specs.Option.{option_and_then, option_map_or}
 use Rattle.mcs_sets.specs.Sets.{members, minus, size}
 use Rattle.mcs_evidence.specs.Defaults.{Verdict, Fails, Applied, Ungrounded, Extension}
 use Rattle.mcs_spelling.specs.Lines.{is_empty}
-use Rattle.mcs_spelling.specs.Words.{after, numbers_of, set_of, guarded}
-use Rattle.mcs_proof_lines.specs.Walks.{At, Reading, ◌>>=◌, fault_at, advanced, line_at, yes_at, no_at, entailment_at, many_at, each_at, number_after, made, absence_at, absence_of_place}
+use Rattle.mcs_spelling.specs.Words.{after_prefix, numbers_of, set_of, guarded}
+use Rattle.mcs_proof_lines.specs.Walks.{At, Reading, ◌>>=◌, fault_at, advanced, line_at, yes_at, no_at, entailment_at, many_at, each_at, number_after, mapped_reading, absence_at, absence_of_place}
 use Rattle.mcs_proof_lines.specs.declared.theory.Theory as code
 
 -- ---- verdicts on sets of defaults
@@ -24,7 +24,7 @@ abbrev pub all_places : Terms → ℕ
 all_places t = 2 ^ length t.justs - 1
 
 unfoldable pub defaults_of_line : List ℕ → Terms → List ℕ → Option ℕ
-defaults_of_line word t line = option_and_then (λ s. guarded (nat_lt s (2 ^ 32)) s) (option_and_then (set_of t.numbers (all_places t)) (after word line))
+defaults_of_line word t line = option_and_then (λ s. guarded (nat_lt s (2 ^ 32)) s) (option_and_then (set_of t.numbers (all_places t)) (after_prefix word line))
 
 -- numbers that are all at most this
 abbrev pub within_from : ℕ → List ℕ → List ℕ → Option (List ℕ)
@@ -32,10 +32,10 @@ within_from most taken [] = Some taken
 within_from most taken (n ∷ ns) = cond (nat_le n most) (within_from most (taken ++ n ∷ []) ns) None
 
 abbrev pub some_order : ℕ → List ℕ → Option (List ℕ)
-some_order most rest = option_and_then (within_from most []) (option_and_then numbers_of (after (codes " ") rest))
+some_order most rest = option_and_then (within_from most []) (option_and_then numbers_of (after_prefix (codes " ") rest))
 
 unfoldable pub order_of : ℕ → List ℕ → Option (List ℕ)
-order_of most line = option_and_then (λ rest. cond (is_empty rest) (Some []) (some_order most rest)) (after (codes "extension") line)
+order_of most line = option_and_then (λ rest. cond (is_empty rest) (Some []) (some_order most rest)) (after_prefix (codes "extension") line)
 
 -- how many justifications the defaults at these places have
 abbrev pub just_total : List ℕ → List ℕ → ℕ
@@ -62,7 +62,7 @@ ungrounded_at t set closed at = do
   Ok (Ungrounded closed pres.0, pres.1)
 
 abbrev pub or_absence : Terms → At → Reading Verdict
-or_absence t at = made Fails (absence_at t.atoms t.justs None at)
+or_absence t at = mapped_reading Fails (absence_at t.atoms t.justs None at)
 
 abbrev pub or_extension : Terms → ℕ → At → Option (List ℕ) → Reading Verdict
 or_extension t set at None = or_absence t at

@@ -6,7 +6,7 @@ use Rattle.std.specs.Borrow.{Bor}
 use Rattle.mcs_trace.specs.Traces.{Inference}
 use Rattle.mcs_cnf.specs.Entailments.{Entailment, Yes, No}
 use Rattle.mcs_evidence.specs.Defaults.{Absence, Unsupported, Blocked}
-use Rattle.mcs_spelling.specs.Words.{after, place_of, number_of, set_of, step_of, guarded}
+use Rattle.mcs_spelling.specs.Words.{after_prefix, place_of_byte, number_of_bytes, set_of, step_of, guarded}
 use Rattle.mcs_spelling.specs.Lines.{is_empty, complete_lines}
 use Rattle.mcs_proof_lines.specs.declared.fault.ReportFault.{ReportFault}
 use Rattle.mcs_proof_lines.specs.declared.fault.ReportFault.TheVariants as faults
@@ -18,25 +18,25 @@ pub record At : Type 0 where
   pub tail : List ℕ
 
 -- the lines from the one that is next on
-abbrev pub lines_from : Option (Bor (List ℕ)) → List ℕ → List (List ℕ)
-lines_from None later = []
-lines_from (Some line) later = line.now ∷ complete_lines later
+abbrev pub remaining_lines : Option (Bor (List ℕ)) → List ℕ → List (List ℕ)
+remaining_lines None later = []
+remaining_lines (Some line) later = line.now ∷ complete_lines later
 
-abbrev pub counted : Option (Bor (List ℕ)) → ℕ
-counted None = 0
-counted (Some line) = 1
+abbrev pub line_count : Option (Bor (List ℕ)) → ℕ
+line_count None = 0
+line_count (Some line) = 1
 
 -- where no line is next, none is left
 abbrev pub IsLast : Option (Bor (List ℕ)) → List ℕ → Type 0
 IsLast None later = complete_lines later ≡ []
 IsLast (Some line) later = Unit {0}
 
-abbrev pub head_of : List (List ℕ) → Option (List ℕ)
-head_of [] = None
-head_of (line ∷ lines) = Some line
+abbrev pub head_line : List (List ℕ) → Option (List ℕ)
+head_line [] = None
+head_line (line ∷ lines) = Some line
 
 abbrev pub next_line : At → Option (List ℕ)
-next_line at = head_of at.rest
+next_line at = head_line at.rest
 
 abbrev pub advanced_by : ℕ → List (List ℕ) → List ℕ → At
 advanced_by taken [] tail = record { taken = taken; rest = []; tail = tail }
@@ -56,18 +56,18 @@ abbrev pub ◌>>=◌ : {A B : Type 0} → Result A ℕ → (A → Result B ℕ) 
 (Err n) >>= f = Err n
 
 -- what the code returned is what the reading gives, unless memory ran out
-abbrev pub Tells : {A : Type 0} → ReportFault → Result A ℕ → Type 0
-Tells faults.Memory read = Unit {0}
-Tells (faults.Grammar line) read = read ≡ Err line
+abbrev pub ReturnsReading : {A : Type 0} → ReportFault → Result A ℕ → Type 0
+ReturnsReading faults.Memory read = Unit {0}
+ReturnsReading (faults.Grammar line) read = read ≡ Err line
 
 abbrev pub Gives : {X A : Type 0} → (X → A) → Result X ReportFault → At → Reading A → Type 0
 Gives view (Ok x) now read = read ≡ Ok (view x, now)
-Gives view (Err e) now read = Tells e read
+Gives view (Err e) now read = ReturnsReading e read
 
 -- the same of what gives no value
 abbrev pub Passes : Result (Unit {0}) ReportFault → At → Result At ℕ → Type 0
 Passes (Ok x) now read = read ≡ Ok now
-Passes (Err e) now read = Tells e read
+Passes (Err e) now read = ReturnsReading e read
 
 abbrev pub fault_at : {A : Type 0} → At → Result A ℕ
 fault_at at = Err (at.taken + 1)
@@ -118,7 +118,7 @@ abbrev pub everything : ℕ
 everything = 18446744073709551615
 
 abbrev pub atoms_of_line : List ℕ → List (List ℕ) → List ℕ → Option ℕ
-atoms_of_line word texts line = option_and_then (set_of texts everything) (after word line)
+atoms_of_line word texts line = option_and_then (set_of texts everything) (after_prefix word line)
 
 unfoldable pub atoms_at : List ℕ → List (List ℕ) → At → Reading ℕ
 atoms_at word texts at = taken_at at (line_at (atoms_of_line word texts) at)
@@ -148,38 +148,38 @@ abbrev pub at_most : ℕ → ℕ → Option ℕ
 at_most most n = guarded (nat_le n most) n
 
 unfoldable pub number_after : List ℕ → ℕ → List ℕ → Option ℕ
-number_after word most line = option_and_then (at_most most) (option_and_then number_of (after word line))
+number_after word most line = option_and_then (at_most most) (option_and_then number_of_bytes (after_prefix word line))
 
 -- a default that may be named, where only one may be if one is given
-abbrev pub may_be : Option ℕ → ℕ → Bool
-may_be only n = option_map_or (nat_eq n) only true
+abbrev pub may_be_named : Option ℕ → ℕ → Bool
+may_be_named only n = option_map_or (nat_eq n) only true
 
 unfoldable pub unsupported_of : List ℕ → Option ℕ → List ℕ → Option ℕ
-unsupported_of justs only line = option_and_then (λ n. guarded (may_be only n) n) (number_after (codes "unsupported ") (length justs) line)
+unsupported_of justs only line = option_and_then (λ n. guarded (may_be_named only n) n) (number_after (codes "unsupported ") (length justs) line)
 
 -- a default, and a justification of it
 abbrev pub is_just : List ℕ → ℕ → ℕ → Bool
 is_just justs n j = option_map_or (λ count. nat_le j count && nat_lt j (2 ^ 32)) (slice_get justs (n - 1)) false
 
 abbrev pub may_block : List ℕ → Option ℕ → ℕ → ℕ → Option (ℕ × ℕ)
-may_block justs only n j = guarded (is_just justs n j && may_be only n) (n, j)
+may_block justs only n j = guarded (is_just justs n j && may_be_named only n) (n, j)
 
 unfoldable pub blocked_of : List ℕ → Option ℕ → List ℕ → Option (ℕ × ℕ)
 blocked_of justs only line =
-    option_and_then (λ rest. option_and_then (λ space. option_and_then (λ n. option_and_then (λ j. may_block justs only n j) (number_of (drop (space + 1) rest))) (number_of (take space rest))) (place_of 32 rest))
-    (after (codes "blocked ") line)
+    option_and_then (λ rest. option_and_then (λ space. option_and_then (λ n. option_and_then (λ j. may_block justs only n j) (number_of_bytes (drop (space + 1) rest))) (number_of_bytes (take space rest))) (place_of_byte 32 rest))
+    (after_prefix (codes "blocked ") line)
 
 -- what a reading gives, made into something else
-abbrev pub made : {A B : Type 0} → (A → B) → Reading A → Reading B
-made f read = read >>= λ x. Ok (f x.0, x.1)
+abbrev pub mapped_reading : {A B : Type 0} → (A → B) → Reading A → Reading B
+mapped_reading f read = read >>= λ x. Ok (f x.0, x.1)
 
 abbrev pub blocked_at : At → Option (ℕ × ℕ) → Reading Absence
 blocked_at at None = fault_at at
-blocked_at at (Some b) = made (Blocked b.0 b.1) (yes_at (advanced at))
+blocked_at at (Some b) = mapped_reading (Blocked b.0 b.1) (yes_at (advanced at))
 
 abbrev pub unsupported_at : List (List ℕ) → At → Option ℕ → Reading Absence → Reading Absence
 unsupported_at texts at None other = other
-unsupported_at texts at (Some n) other = made (Unsupported n) (no_at texts (advanced at))
+unsupported_at texts at (Some n) other = mapped_reading (Unsupported n) (no_at texts (advanced at))
 
 unfoldable pub absence_at : List (List ℕ) → List ℕ → Option ℕ → At → Reading Absence
 absence_at texts justs only at = unsupported_at texts at (line_at (unsupported_of justs only) at) (blocked_at at (line_at (blocked_of justs only) at))

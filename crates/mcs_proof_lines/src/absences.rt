@@ -3,7 +3,7 @@
 ghost use Rattle.std.specs.Prelude.{◌≡◌, ◌≤◌, ◌<◌, length, map, IfSome};
 ghost use Rattle.std.specs.List.{AllByRecursion};
 ghost use Rattle.mcs_evidence.specs.Defaults.{absence_of};
-ghost use Rattle.mcs_proof_lines.specs.Walks.{Gives, may_be, may_block, is_just, number_after, unsupported_of, blocked_of, absence_at, absence_of_place, each_at, line_at};
+ghost use Rattle.mcs_proof_lines.specs.Walks.{Gives, may_be_named, may_block, is_just, number_after, unsupported_of, blocked_of, absence_at, absence_of_place, each_at, line_at};
 
 use crate::evidence::{out_of_place, take_no, take_yes};
 use crate::fault::ReportFault;
@@ -29,7 +29,7 @@ pub fn number_after(word: &[u8], most: u32, line: &[u8]) -> Option<u32>
 
 /// Whether the default may be named: only `only` may be, if it is given.
 fn may_be(only: Option<u32>, number: u32) -> bool
-    ensures { result ≡ may_be only number }
+    ensures { result ≡ may_be_named only number }
 {
     match only {
         Some(one) => number == one,

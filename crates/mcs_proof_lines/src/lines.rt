@@ -30,13 +30,13 @@ pub struct Lines<'b> {
 impl<'b> Model for Lines<'b> {
     ghost use Rattle.std.specs.Prelude.{◌+◌, ◌<◌, ◌^◌, length};
     ghost use Rattle.mcs_spelling.specs.Lines.{incomplete};
-    ghost use Rattle.mcs_proof_lines.specs.Walks.{At, IsLast, lines_from, counted};
+    ghost use Rattle.mcs_proof_lines.specs.Walks.{At, IsLast, remaining_lines, line_count};
 
     ghost Value = { At };
 
-    ghost view = { λ l. record { taken = l.taken; rest = lines_from l.current l.later.now; tail = incomplete l.later.now } };
+    ghost view = { λ l. record { taken = l.taken; rest = remaining_lines l.current l.later.now; tail = incomplete l.later.now } };
 
-    ghost invariant = { λ l. (l.taken + counted l.current + length l.later.now < 2 ^ 63) × IsLast l.current l.later.now };
+    ghost invariant = { λ l. (l.taken + line_count l.current + length l.later.now < 2 ^ 63) × IsLast l.current l.later.now };
 }
 
 impl<'b> Lines<'b> {

@@ -3,7 +3,7 @@ use Rattle.std.proofs.Common.{◌≡◌, ℕ, ◌+◌, ◌-◌, ◌<◌, ◌≤�
 use Rattle.std.proofs.lemmas.List.{length-map}
 use Rattle.std.specs.List.{flat_map}
 use Rattle.mcs_system.specs.Plain.{System}
-use Rattle.mcs_system.specs.Naming.{IsNamed}
+use Rattle.mcs_system.specs.Naming.{IsSystemNamed}
 use Rattle.mcs_system.specs.Faults.{IsValid}
 use Rattle.mcs_proof_text.specs.Answers.{Answer, answer_lines}
 use Rattle.mcs_proof_text.specs.Reports.{SpellsReport, report_lines}
@@ -12,9 +12,9 @@ use Rattle.mcs_proof_lines.specs.declared.fault.ReportFault.{ReportFault}
 use Rattle.mcs_proof_lines.specs.declared.fault.ReportFault.TheVariants as faults
 use Rattle.mcs_proof_lines.specs.Walks.{At, is_next, after_front}
 use Rattle.mcs_proof_reader.specs.Answers.{answer_at, answers_at, question_in}
-use Rattle.mcs_proof_reader.specs.Readers.{answer_of}
-use Rattle.mcs_proof_reader.specs.Whole.{listing_of, lines_from, IsReportOf, IsReportRead}
-use Rattle.mcs_proof_reader.specs.Keeping.{IsWhole, AreKept, IsKeptReport, IsReportFault}
+use Rattle.mcs_proof_reader.specs.Readers.{answer_in_report}
+use Rattle.mcs_proof_reader.specs.Whole.{listing_of, first_lines_from, IsReportOf, IsReportRead}
+use Rattle.mcs_proof_reader.specs.Keeping.{IsWholeAnswer, EachIsKept, IsKeptReport, IsReportFault}
 use Rattle.mcs_proof_reader.specs.declared.answer.ReportAnswer as code
 use Rattle.mcs_proof_reader.specs.declared.report.Report as reports
 use Rattle.mcs_proof_reader.proofs.AnswerReadings.{reads_answer}
@@ -27,17 +27,17 @@ pub record IsKeptSoFar {K : Type 0} (keeps : System → Answer → ℕ → K →
   pub few : length at.rest + length answers ≤ length start.rest
   pub taken : at.taken ≡ start.taken + length (flat_map (answer_lines m) answers)
   pub read : (n : ℕ) → length start.rest ≤ n → after_front answers (answers_at m (n - length answers) last at) ≡ answers_at m n None start
-  pub kept : AreKept keeps m (start.taken + 1) answers held
+  pub kept : EachIsKept keeps m (start.taken + 1) answers held
 
 -- an answer that is read is in shape
-pub read_in_shape : (m : System) → IsValid m → IsNamed m → (last : Option (ℕ × ℕ)) (at now : At) (a : Answer) → answer_at m last at ≡ Ok (a, now) → IsInShape m a
+pub read_in_shape : (m : System) → IsValid m → IsSystemNamed m → (last : Option (ℕ × ℕ)) (at now : At) (a : Answer) → answer_at m last at ≡ Ok (a, now) → IsInShape m a
 read_in_shape m valid named last at now a e = ((reads_answer m valid named last).sound at now a e).is.0
 
 module _ {K : Type 0} (keeps : System → Answer → ℕ → K → Type 0) (m : System) where
   abbrev all_lines : List Answer → List (List ℕ)
   all_lines = flat_map (answer_lines m)
 
-  kept_more : (n : ℕ) (answers : List Answer) (kept : List K) (a : Answer) (k : K) → AreKept keeps m n answers kept → keeps m a (n + length (all_lines answers)) k → AreKept keeps m n (answers ++ a ∷ []) (kept ++ k ∷ [])
+  kept_more : (n : ℕ) (answers : List Answer) (kept : List K) (a : Answer) (k : K) → EachIsKept keeps m n answers kept → keeps m a (n + length (all_lines answers)) k → EachIsKept keeps m n (answers ++ a ∷ []) (kept ++ k ∷ [])
   kept_more n [] [] a k are h = let e : n + 0 ≡ n = omega arith in (subst (λ (j : ℕ). keeps m a j k) e h, tt)
   kept_more n [] (x ∷ kept) a k are h = absurd are
   kept_more n (b ∷ answers) [] a k are h = absurd are
@@ -61,11 +61,11 @@ module _ {K : Type 0} (keeps : System → Answer → ℕ → K → Type 0) (m : 
     few = omega arith;
     taken = omega arith;
     read = λ n enough. answers_begin m n at;
-    kept = subst (λ (ks : List K). AreKept keeps m (at.taken + 1) [] ks) (sym is) tt;
+    kept = subst (λ (ks : List K). EachIsKept keeps m (at.taken + 1) [] ks) (sym is) tt;
   }
 
   -- one more
-  pub kept_next : IsValid m → IsNamed m → (start at now : At) (old new : List K) (k : K) (last : Option (ℕ × ℕ)) (a : Answer) (line : ℕ) → IsKeptSoFar keeps m start old last at → is_next (codes "end of proof") at ≡ false
+  pub kept_next : IsValid m → IsSystemNamed m → (start at now : At) (old new : List K) (k : K) (last : Option (ℕ × ℕ)) (a : Answer) (line : ℕ) → IsKeptSoFar keeps m start old last at → is_next (codes "end of proof") at ≡ false
       → answer_at m last at ≡ Ok (a, now) → length now.rest < length at.rest → new ≡ old ++ k ∷ [] → line ≡ at.taken + 1 → keeps m a line k → IsKeptSoFar keeps m start new (Some (question_in a)) now
   kept_next valid named start at now old new k last a line h test e shorter items begins keeps_it =
       let r = ((reads_answer m valid named last).sound at now a e).taken in
@@ -79,26 +79,26 @@ module _ {K : Type 0} (keeps : System → Answer → ℕ → K → Type 0) (m : 
         few = omega (arith, few, shorter, long);
         taken = omega (arith, r, taken, count);
         read = λ n enough. answers_go_on m h.answers (h.answers ++ a ∷ []) a n last at now (answers_at m n None start) test refl (omega (arith, few, shorter, enough)) e (h.read n enough);
-        kept = subst (λ (ks : List K). AreKept keeps m (start.taken + 1) (h.answers ++ a ∷ []) ks) (sym items)
+        kept = subst (λ (ks : List K). EachIsKept keeps m (start.taken + 1) (h.answers ++ a ∷ []) ks) (sym items)
             (kept_more (start.taken + 1) h.answers old a k h.kept (subst (λ (j : ℕ). keeps m a j k) number keeps_it));
       }
 
 -- answers that are kept as they are
-pub all_whole : (m : System) (n : ℕ) (answers : List Answer) (kept : List code.ReportAnswer) → AreKept (λ m. IsWhole) m n answers kept → (map answer_of kept ≡ answers) × (map (λ (a : code.ReportAnswer). a.line) kept ≡ lines_from m n answers)
+pub all_whole : (m : System) (n : ℕ) (answers : List Answer) (kept : List code.ReportAnswer) → EachIsKept (λ m. IsWholeAnswer) m n answers kept → (map answer_in_report kept ≡ answers) × (map (λ (a : code.ReportAnswer). a.line) kept ≡ first_lines_from m n answers)
 all_whole m n [] [] are = (refl, refl)
 all_whole m n [] (k ∷ kept) are = absurd are
 all_whole m n (a ∷ answers) [] are = absurd are
 all_whole m n (a ∷ answers) (k ∷ kept) are =
     let rest = all_whole m (n + length (answer_lines m a)) answers kept are.1 in
-    (ap (λ (x : Answer). x ∷ map answer_of kept) are.0.answer ∙ ap (λ (xs : List Answer). a ∷ xs) rest.0, ap (λ (j : ℕ). j ∷ map (λ (x : code.ReportAnswer). x.line) kept) are.0.begins ∙ ap (λ (js : List ℕ). n ∷ js) rest.1)
+    (ap (λ (x : Answer). x ∷ map answer_in_report kept) are.0.answer ∙ ap (λ (xs : List Answer). a ∷ xs) rest.0, ap (λ (j : ℕ). j ∷ map (λ (x : code.ReportAnswer). x.line) kept) are.0.begins ∙ ap (λ (js : List ℕ). n ∷ js) rest.1)
 
 -- so they are those of a report that is read whole
-pub whole_report : (m : System) (bytes : List ℕ) (r : reports.Report) → IsKeptReport (λ m. IsWhole) m bytes (listing_of r) r.answers.items r.last_line → IsReportOf m bytes r
+pub whole_report : (m : System) (bytes : List ℕ) (r : reports.Report) → IsKeptReport (λ m. IsWholeAnswer) m bytes (listing_of r) r.answers.items r.last_line → IsReportOf m bytes r
 whole_report m bytes r h =
     let (same, lines) = all_whole m (length (listing_of r) + 2) h.answers r.answers.items h.kept in
     record {
       spelled = subst (SpellsReport m bytes (listing_of r)) (sym same) h.spelled;
-      begins = lines ∙ (ap (λ (k : ℕ). lines_from m (k + 2) h.answers) (length-map r.listing.items (λ l. l.items)) ∙ ap (lines_from m (length r.listing.items + 2)) (sym same));
+      begins = lines ∙ (ap (λ (k : ℕ). first_lines_from m (k + 2) h.answers) (length-map r.listing.items (λ l. l.items)) ∙ ap (first_lines_from m (length r.listing.items + 2)) (sym same));
       ends = h.ends ∙ ap (λ (as' : List Answer). length (report_lines m (listing_of r) as')) (sym same);
     }
 

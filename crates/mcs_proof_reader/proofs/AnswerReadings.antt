@@ -9,7 +9,7 @@ use Rattle.mcs_sets.specs.Sets.{size, Within}
 use Rattle.mcs_sets.specs.Orders.{StateBefore}
 use Rattle.mcs_base.specs.Listings.{IsAscending}
 use Rattle.mcs_system.specs.Plain.{Name, Formula, ProgramRule, Item, Kb, Classical, DefaultTheory, Program, Context, System}
-use Rattle.mcs_system.specs.Naming.{IsNamed}
+use Rattle.mcs_system.specs.Naming.{IsSystemNamed}
 use Rattle.mcs_system.specs.Faults.{IsValid, default_count}
 use Rattle.mcs_system.specs.Atoms.{atoms_of}
 use Rattle.mcs_system.specs.Systems.{variables_of}
@@ -19,19 +19,19 @@ use Rattle.mcs_evidence.specs.Defaults.{Verdict, defaults_of}
 use Rattle.mcs_evidence.specs.Programs.{ModelShown, ProgramShown}
 use Rattle.mcs_asking.specs.Certificates.{OfFormulas, OfDefaults, OfProgram}
 use Rattle.mcs_asking.proofs.KindLemmas.{defaults_counted}
-use Rattle.mcs_spelling.specs.Words.{after, step_of, guarded}
+use Rattle.mcs_spelling.specs.Words.{after_prefix, step_of, guarded}
 use Rattle.mcs_spelling.specs.Parts.{AreTellable}
 use Rattle.mcs_proof_text.specs.Lines.{SmallerLine, NoneLine, line_text, question_text, output_text}
 use Rattle.mcs_proof_text.specs.Answers.{Answer, trace_lines, model_lines, all_entailment_lines, set_lines, program_lines, certificate_lines, answer_lines}
 use Rattle.mcs_proof_text.specs.Shapes.{IsEither, AreMany, AreVerdicts, IsCertificate, IsInShape}
-use Rattle.mcs_proof_lines.specs.Walks.{At, Reading, ◌>>=◌, taken_at, advanced, fault_at, made, many_at, entailment_at, expect_at}
+use Rattle.mcs_proof_lines.specs.Walks.{At, Reading, ◌>>=◌, taken_at, advanced, fault_at, mapped_reading, many_at, entailment_at, expect_at}
 use Rattle.mcs_proof_lines.specs.Verdicts.{verdicts_at}
 use Rattle.mcs_proof_lines.specs.Programs.{program_at}
-use Rattle.mcs_proof_lines.specs.Readings.{here, Stops, Anything, Reads, ReadsLine, one_line, Image, AreBoth, both_lines, word_of, IsOther, IsPassing}
+use Rattle.mcs_proof_lines.specs.Readings.{here, Stops, Anything, ReadsLines, ReadsLine, one_line, Image, AreBoth, both_lines, word_of, IsLineOfOtherKind, IsPassing}
 use Rattle.mcs_proof_lines.proofs.Readings.{picked, reads_line, reads_same}
 use Rattle.mcs_proof_lines.proofs.ReadingSequences.{both, reads_made, reads_both}
 use Rattle.mcs_proof_lines.proofs.WordReadings.{word_line}
-use Rattle.mcs_proof_reader.specs.Questions.{state_after, comes_after, next_question, state_of}
+use Rattle.mcs_proof_reader.specs.Questions.{state_after, comes_after, next_question, state_in_words}
 use Rattle.mcs_proof_reader.specs.Answers.{Shown, terms_for, states_there, classical_at, default_at, models_at, shown_at, shown_of, answer_at, question_in}
 use Rattle.mcs_proof_reader.proofs.EvidenceReadings.{told, reads_either, either_begins, reads_several, some_either}
 use Rattle.mcs_proof_reader.proofs.AbsenceReadings.{justs_in, made_paired}
@@ -43,16 +43,16 @@ use Rattle.mcs_proof_reader.proofs.AtomNames.{atoms_tell}
 use Rattle.mcs_sets.proofs.Lattice.{no_member_of_none}
 
 -- ---- one reading after the other, as the code is told
-chained : {A B C : Type 0} (f : A × B → C) (q : A → At → Reading B) (r : Reading A) → made f (both q r) ≡ (r >>= λ x. made (λ y. f (x.0, y)) (q x.0 x.1))
+chained : {A B C : Type 0} (f : A × B → C) (q : A → At → Reading B) (r : Reading A) → mapped_reading f (both q r) ≡ (r >>= λ x. mapped_reading (λ y. f (x.0, y)) (q x.0 x.1))
 chained f q (Ok x) = made_paired f x.0 (q x.0 x.1)
 chained f q (Err n) = refl
 
 module _ {A : Type 0} (word : List ℕ) (x : A) where
-  by_test : (at : At) (b : Bool) → made (λ (u : Unit {0}). x) (taken_at at (guarded b tt)) ≡ (cond b (Ok (advanced at)) (fault_at at) >>= λ next. Ok (x, next))
+  by_test : (at : At) (b : Bool) → mapped_reading (λ (u : Unit {0}). x) (taken_at at (guarded b tt)) ≡ (cond b (Ok (advanced at)) (fault_at at) >>= λ next. Ok (x, next))
   by_test at true = refl
   by_test at false = refl
 
-  then_word : (n : ℕ) (rest : List (List ℕ)) (tail : List ℕ) → made (λ (u : Unit {0}). x) (picked (word_of word) (here n rest tail)) ≡ (expect_at word (here n rest tail) >>= λ next. Ok (x, next))
+  then_word : (n : ℕ) (rest : List (List ℕ)) (tail : List ℕ) → mapped_reading (λ (u : Unit {0}). x) (picked (word_of word) (here n rest tail)) ≡ (expect_at word (here n rest tail) >>= λ next. Ok (x, next))
   unfolding expect_at
   then_word n [] tail = refl
   then_word n (line ∷ rest) tail = by_test (here n (line ∷ rest) tail) (bytes_eq line word)
@@ -67,7 +67,7 @@ shown_lines m i s = map (output_text m) s.0 ++ map (line_text (atoms_of m i)) (c
 abbrev pub IsShownFor : System → ℕ → Kb → Shown → Type 0
 IsShownFor m i kb s = (AllByRecursion (λ σ. Within σ (variables_of m i)) s.0 × IsAscending StateBefore s.0) × IsCertificate (atoms_of m i) kb (size (variables_of m i)) s.0 s.1
 
-module _ (m : System) (valid : IsValid m) (named : IsNamed m) (i : ℕ) (less : i < length m.contexts) where
+module _ (m : System) (valid : IsValid m) (named : IsSystemNamed m) (i : ℕ) (less : i < length m.contexts) where
   abbrev names : List Name
   names = atoms_of m i
 
@@ -87,15 +87,15 @@ module _ (m : System) (valid : IsValid m) (named : IsNamed m) (i : ℕ) (less : 
   abbrev as_classical : ℕ × List Entailment → Shown
   as_classical se = (se.0 ∷ [], OfFormulas se.1)
 
-  several : Reads (AreMany (IsEither names) beliefs) (told names all_entailment_lines) Stops (many_at (entailment_at names) beliefs)
+  several : ReadsLines (AreMany (IsEither names) beliefs) (told names all_entailment_lines) Stops (many_at (entailment_at names) beliefs)
   several = reads_several names few tells (IsEither names) (entailment_at names) (reads_either names few tells) (either_begins names few tells) (some_either names few tells) beliefs
 
   some_several : (es : List Entailment) × AreMany (IsEither names) beliefs es
   some_several = some_many (IsEither names) (some_either names few tells) beliefs
 
-  classical_same : (at : At) → made as_classical (both (λ σ. many_at (entailment_at names) beliefs) (picked (state_of m own None) at)) ≡ classical_at m i at
+  classical_same : (at : At) → mapped_reading as_classical (both (λ σ. many_at (entailment_at names) beliefs) (picked (state_in_words m own None) at)) ≡ classical_at m i at
   unfolding classical_at
-  classical_same at = chained as_classical (λ σ. many_at (entailment_at names) beliefs) (picked (state_of m own None) at)
+  classical_same at = chained as_classical (λ σ. many_at (entailment_at names) beliefs) (picked (state_in_words m own None) at)
 
   module _ (fs : List Formula) where
     to_classical : (s : Shown) → Image as_classical (AreBoth (IsPassing (λ σ. Within σ own) (state_after None)) (λ σ. AreMany (IsEither names) beliefs)) s → IsShownFor m i (Classical fs) s
@@ -111,10 +111,10 @@ module _ (m : System) (valid : IsValid m) (named : IsNamed m) (i : ℕ) (less : 
     from_classical (outputs, OfDefaults vs) (states, cert) = absurd cert
     from_classical (outputs, OfProgram p) (states, cert) = absurd cert
 
-    reads_classical : Reads (IsShownFor m i (Classical fs)) (shown_lines m i) Stops (classical_at m i)
+    reads_classical : ReadsLines (IsShownFor m i (Classical fs)) (shown_lines m i) Stops (classical_at m i)
     reads_classical =
-        let line = reads_line (IsPassing (λ σ. Within σ own) (state_after None)) (output_text m) (state_of m own None) (state_line m valid named i None) in
-        let pair = reads_both (IsPassing (λ σ. Within σ own) (state_after None)) _ Anything (picked (state_of m own None)) (λ σ. AreMany (IsEither names) beliefs) (λ σ. told names all_entailment_lines) Stops (λ σ. many_at (entailment_at names) beliefs) line (λ σ is. several) (λ σ is. some_several) (λ σ es more is are end. tt) in
+        let line = reads_line (IsPassing (λ σ. Within σ own) (state_after None)) (output_text m) (state_in_words m own None) (state_line m valid named i None) in
+        let pair = reads_both (IsPassing (λ σ. Within σ own) (state_after None)) _ Anything (picked (state_in_words m own None)) (λ σ. AreMany (IsEither names) beliefs) (λ σ. told names all_entailment_lines) Stops (λ σ. many_at (entailment_at names) beliefs) line (λ σ is. several) (λ σ is. some_several) (λ σ es more is are end. tt) in
         let made_of = reads_made _ _ Stops _ as_classical (shown_lines m i) pair (λ se is. refl) in
         reads_same _ (IsShownFor m i (Classical fs)) _ (shown_lines m i) Stops _ (classical_at m i) made_of to_classical from_classical (λ s is. refl) classical_same
 
@@ -126,12 +126,12 @@ module _ (m : System) (valid : IsValid m) (named : IsNamed m) (i : ℕ) (less : 
     abbrev AreSets : List Verdict → Type 0
     AreSets = AreVerdicts names items beliefs
 
-    default_same : (at : At) → made as_default (both (λ ss. verdicts_at (terms_for m i items)) (read_states m valid named i at)) ≡ default_at m i items at
+    default_same : (at : At) → mapped_reading as_default (both (λ ss. verdicts_at (terms_for m i items)) (read_states m valid named i at)) ≡ default_at m i items at
     unfolding default_at
     default_same at = made_paired as_default (states_there m i at).0 (verdicts_at (terms_for m i items) (states_there m i at).1)
 
-    sets_other : (vs : List Verdict) (more : List (List ℕ)) → AreSets vs → IsOther (after (codes "state ")) (told names (set_lines 0) vs ++ more)
-    unfolding line_text after
+    sets_other : (vs : List Verdict) (more : List (List ℕ)) → AreSets vs → IsLineOfOtherKind (after_prefix (codes "state ")) (told names (set_lines 0) vs ++ more)
+    unfolding line_text after_prefix
     sets_other [] more are = absurd (let n = length (defaults_of items) in let one = are.one_each in let some = pow_pos n in omega (arith, one, some))
     sets_other (v ∷ vs) more are = refl
 
@@ -143,9 +143,9 @@ module _ (m : System) (valid : IsValid m) (named : IsNamed m) (i : ℕ) (less : 
     from_default (outputs, OfFormulas es) (states, cert) = absurd cert
     from_default (outputs, OfProgram p) (states, cert) = absurd cert
 
-    reads_default : Reads (IsShownFor m i (DefaultTheory items)) (shown_lines m i) Stops (default_at m i items)
+    reads_default : ReadsLines (IsShownFor m i (DefaultTheory items)) (shown_lines m i) Stops (default_at m i items)
     reads_default =
-        let pair = reads_both (AreStatesAfter m i None) _ (IsOther (after (codes "state "))) (read_states m valid named i) (λ ss. AreSets) (λ ss. told names (set_lines 0)) Stops (λ ss. verdicts_at (terms_for m i items)) (reads_states m valid named i)
+        let pair = reads_both (AreStatesAfter m i None) _ (IsLineOfOtherKind (after_prefix (codes "state "))) (read_states m valid named i) (λ ss. AreSets) (λ ss. told names (set_lines 0)) Stops (λ ss. verdicts_at (terms_for m i items)) (reads_states m valid named i)
         (λ ss is. reads_verdicts names few tells items (map justs_in (defaults_of items)) refl few_rules beliefs) (λ ss is. some_verdicts names few tells items (map justs_in (defaults_of items)) refl few_rules beliefs) (λ ss vs more is are end. sets_other vs more are) in
         let made_of = reads_made _ _ Stops _ as_default (shown_lines m i) pair (λ sv is. refl) in
         reads_same _ (IsShownFor m i (DefaultTheory items)) _ (shown_lines m i) Stops _ (default_at m i items) made_of to_default from_default (λ s is. refl) default_same
@@ -158,15 +158,15 @@ module _ (m : System) (valid : IsValid m) (named : IsNamed m) (i : ℕ) (less : 
     abbrev IsOf : List ℕ → ProgramShown → Type 0
     IsOf ss = IsProgramOf names few tells (length ss)
 
-    models_same : (at : At) → made as_models (both (λ ss. program_at names (length ss)) (read_states m valid named i at)) ≡ models_at m i at
+    models_same : (at : At) → mapped_reading as_models (both (λ ss. program_at names (length ss)) (read_states m valid named i at)) ≡ models_at m i at
     unfolding models_at
     models_same at = made_paired as_models (states_there m i at).0 (program_at names (length (states_there m i at).0) (states_there m i at).1)
 
-    program_other : (ss : List ℕ) (p : ProgramShown) (more : List (List ℕ)) → IsOther (after (codes "state ")) (told names program_lines p ++ more)
-    unfolding line_text after
+    program_other : (ss : List ℕ) (p : ProgramShown) (more : List (List ℕ)) → IsLineOfOtherKind (after_prefix (codes "state ")) (told names program_lines p ++ more)
+    unfolding line_text after_prefix
     program_other ss p more = by p.models p.smaller
       where
-        by : (ms : List ModelShown) (smaller : List ℕ) → IsOther (after (codes "state ")) (map (line_text names) (flat_map model_lines ms ++ (map SmallerLine smaller ++ NoneLine ∷ trace_lines p.rest)) ++ more)
+        by : (ms : List ModelShown) (smaller : List ℕ) → IsLineOfOtherKind (after_prefix (codes "state ")) (map (line_text names) (flat_map model_lines ms ++ (map SmallerLine smaller ++ NoneLine ∷ trace_lines p.rest)) ++ more)
         by [] [] = refl
         by [] (s ∷ smaller) = refl
         by (k ∷ ms) smaller = refl
@@ -180,15 +180,15 @@ module _ (m : System) (valid : IsValid m) (named : IsNamed m) (i : ℕ) (less : 
     from_models (outputs, OfFormulas es) (states, cert) = absurd cert
     from_models (outputs, OfDefaults vs) (states, cert) = absurd cert
 
-    reads_models : Reads (IsShownFor m i (Program rules)) (shown_lines m i) Stops (models_at m i)
+    reads_models : ReadsLines (IsShownFor m i (Program rules)) (shown_lines m i) Stops (models_at m i)
     reads_models =
-        let pair = reads_both (AreStatesAfter m i None) _ (IsOther (after (codes "state "))) (read_states m valid named i) IsOf (λ ss. told names program_lines) Stops (λ ss. program_at names (length ss)) (reads_states m valid named i)
+        let pair = reads_both (AreStatesAfter m i None) _ (IsLineOfOtherKind (after_prefix (codes "state "))) (read_states m valid named i) IsOf (λ ss. told names program_lines) Stops (λ ss. program_at names (length ss)) (reads_states m valid named i)
         (λ ss is. reads_program names few tells (length ss)) (λ ss is. some_program names few tells (length ss)) (λ ss p more is are end. program_other ss p more) in
         let made_of = reads_made _ _ Stops _ as_models (shown_lines m i) pair (λ sp is. refl) in
         reads_same _ (IsShownFor m i (Program rules)) _ (shown_lines m i) Stops _ (models_at m i) made_of to_models from_models (λ s is. refl) models_same
 
   -- by the context's kind
-  reads_kind : (kb : Kb) → default_count kb ≤ 10 → Reads (IsShownFor m i kb) (shown_lines m i) Stops (shown_at m i kb)
+  reads_kind : (kb : Kb) → default_count kb ≤ 10 → ReadsLines (IsShownFor m i kb) (shown_lines m i) Stops (shown_at m i kb)
   reads_kind (Classical fs) few_defaults = reads_classical fs
   reads_kind (DefaultTheory items) few_defaults = reads_default items (let c = defaults_counted items in let long = length-map (defaults_of items) justs_in in omega (arith, few_defaults, c, long))
   reads_kind (Program rules) few_defaults = reads_models rules
@@ -207,7 +207,7 @@ module _ (m : System) (valid : IsValid m) (named : IsNamed m) (i : ℕ) (less : 
 abbrev pub IsAnswerAfter : System → Option (ℕ × ℕ) → Answer → Type 0
 IsAnswerAfter m last a = IsInShape m a × (comes_after last (question_in a) ≡ true)
 
-module _ (m : System) (valid : IsValid m) (named : IsNamed m) (last : Option (ℕ × ℕ)) where
+module _ (m : System) (valid : IsValid m) (named : IsSystemNamed m) (last : Option (ℕ × ℕ)) where
   abbrev Question : Type 0
   Question = ℕ × ℕ
 
@@ -223,7 +223,7 @@ module _ (m : System) (valid : IsValid m) (named : IsNamed m) (last : Option (�
   one_context : (q : Question) (c d : Context) → slice_get m.contexts q.0 ≡ Some c → slice_get m.contexts q.0 ≡ Some d → c ≡ d
   one_context q c d here there = same_Some c d (sym here ∙ there)
 
-  reads_shown : (q : Question) → IsNext q → Reads (IsShownOf q) (shown_lines m q.0) Stops (read_shown q)
+  reads_shown : (q : Question) → IsNext q → ReadsLines (IsShownOf q) (shown_lines m q.0) Stops (read_shown q)
   reads_shown q is =
       let c = is.0.0.0 in
       let there : slice_get m.contexts q.0 ≡ Some c = is.0.0.1 in
@@ -252,10 +252,10 @@ module _ (m : System) (valid : IsValid m) (named : IsNamed m) (last : Option (�
   read_rest q at = both (λ s. picked (word_of (codes "done"))) (read_shown q at)
 
   done_stops : (more : List (List ℕ)) → Stops (codes "done" ∷ more)
-  unfolding step_of after
+  unfolding step_of after_prefix
   done_stops more = refl
 
-  reads_rest : (q : Question) → IsNext q → Reads (IsRest q) (rest_lines q) Anything (read_rest q)
+  reads_rest : (q : Question) → IsNext q → ReadsLines (IsRest q) (rest_lines q) Anything (read_rest q)
   reads_rest q is = reads_both (IsShownOf q) (shown_lines m q.0) Stops (read_shown q) (λ s u. Unit {0}) (λ s. one_line (λ u. codes "done")) Anything (λ s. picked (word_of (codes "done")))
       (reads_shown q is) (λ s shown. reads_line (λ (u : Unit {0}). Unit {0}) (λ u. codes "done") (word_of (codes "done")) done_line) (λ s shown. (tt, tt)) (λ s u more shown known end. done_stops more)
 
@@ -265,16 +265,16 @@ module _ (m : System) (valid : IsValid m) (named : IsNamed m) (last : Option (�
   answer_told : (qr : Question × Rest) → both_lines (one_line (text_of_question m)) rest_lines qr ≡ answer_lines m (as_answer qr)
   answer_told (q, (s, u)) = ap (λ (ls : List (List ℕ)). question_text m q.0 q.1 ∷ ls) (append_assoc (map (output_text m) s.0) (map (line_text (atoms_of m q.0)) (certificate_lines s.1)) (codes "done" ∷ []))
 
-  answer_same : (at : At) → made as_answer (both read_rest (picked (next_question m last) at)) ≡ answer_at m last at
+  answer_same : (at : At) → mapped_reading as_answer (both read_rest (picked (next_question m last) at)) ≡ answer_at m last at
   unfolding answer_at
   answer_same at = chained as_answer read_rest (picked (next_question m last) at) ∙ by1 (picked (next_question m last) at)
     where
-      by2 : (q : Question) (r : Reading Shown) → (r >>= λ y. made (λ u. as_answer (q, (y.0, u))) (picked (word_of (codes "done")) y.1))
+      by2 : (q : Question) (r : Reading Shown) → (r >>= λ y. mapped_reading (λ u. as_answer (q, (y.0, u))) (picked (word_of (codes "done")) y.1))
           ≡ (r >>= λ shown. expect_at (codes "done") shown.1 >>= λ next. Ok (record { context = q.0; active = q.1; outputs = shown.0.0; cert = shown.0.1 }, next))
       by2 q (Ok y) = (let a : Answer = record { context = q.0; active = q.1; outputs = y.0.0; cert = y.0.1 } in then_word (codes "done") a y.1.taken y.1.rest y.1.tail)
       by2 q (Err n) = refl
 
-      by1 : (r : Reading Question) → (r >>= λ x. made (λ y. as_answer (x.0, y)) (read_rest x.0 x.1))
+      by1 : (r : Reading Question) → (r >>= λ x. mapped_reading (λ y. as_answer (x.0, y)) (read_rest x.0 x.1))
           ≡ (r >>= λ question. shown_of m question.0.0 (slice_get m.contexts question.0.0) question.1 >>= λ shown. expect_at (codes "done") shown.1 >>= λ next. Ok (record { context = question.0.0; active = question.0.1; outputs = shown.0.0; cert = shown.0.1 }, next))
       by1 (Ok x) = chained (λ y. as_answer (x.0, y)) (λ s. picked (word_of (codes "done"))) (read_shown x.0 x.1) ∙ by2 x.0 (read_shown x.0 x.1)
       by1 (Err n) = refl
@@ -286,7 +286,7 @@ module _ (m : System) (valid : IsValid m) (named : IsNamed m) (last : Option (�
   from_answer : (a : Answer) → IsAnswerAfter m last a → Image as_answer (AreBoth IsNext IsRest) a
   from_answer a (h, later) = (((a.context, a.active), ((a.outputs, a.cert), tt)), refl, ((((h.context, h.is_it), h.rules), later), ((h.context, h.is_it, ((h.states, h.ascending), h.cert)), tt)))
 
-  pub reads_answer : Reads (IsAnswerAfter m last) (answer_lines m) Anything (answer_at m last)
+  pub reads_answer : ReadsLines (IsAnswerAfter m last) (answer_lines m) Anything (answer_at m last)
   reads_answer =
       let line = reads_line IsNext (text_of_question m) (next_question m last) (next_line m valid named last) in
       let pair = reads_both IsNext _ Anything (picked (next_question m last)) IsRest rest_lines Anything read_rest line reads_rest

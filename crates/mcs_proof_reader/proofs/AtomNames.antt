@@ -6,7 +6,7 @@ use Rattle.mcs_base.proofs.Each.{all_append, all_filter, all_among, all_get, all
 use Rattle.mcs_base.proofs.Among.{filter_among, flat_map_among}
 use Rattle.mcs_system.specs.Plain.{Name, Formula, Truth, Falsity, Atom, Not, And, Or, Implies, Iff, ProgramRule, Item, Fact, Rule, Kb, Classical, DefaultTheory, Program, Context, Read, Bridge, System}
 use Rattle.mcs_system.specs.Logic.{same_name, atoms}
-use Rattle.mcs_system.specs.Naming.{IsName, AreNames, IsNamedFormula, IsNamedItem, IsNamedRule, IsNamedKb, IsNamedContext, IsNamedBridge, IsNamed}
+use Rattle.mcs_system.specs.Naming.{IsName, AreNames, IsNamedFormula, IsNamedItem, IsNamedRule, IsNamedKb, IsNamedContext, IsNamedBridge, IsSystemNamed}
 use Rattle.mcs_system.specs.Systems.{occurrences, context_variables}
 use Rattle.mcs_system.specs.Atoms.{item_atoms, rule_atoms, kb_atoms, own_atoms, all_heads_into, atom_occurrences, atoms_of}
 use Rattle.mcs_system.proofs.VariableLemmas.{firsts_among}
@@ -47,7 +47,7 @@ all_firsts : (same : Name → Name → Bool) (ns : List Name) → AreNames ns �
 all_firsts same [] all = tt
 all_firsts same (n ∷ ns) all = (all.0, all_filter IsName (λ (k : Name). not (same n k)) (firsts same ns) (all_firsts same ns all.1))
 
-module _ (m : System) (named : IsNamed m) (i : ℕ) where
+module _ (m : System) (named : IsSystemNamed m) (i : ℕ) where
   own_names : (o : Option Context) → slice_get m.contexts i ≡ o → AreNames (own_atoms o)
   own_names None e = tt
   own_names (Some c) e = kb_names c.kb (all_get IsNamedContext m.contexts i c named.contexts e).kb

@@ -13,7 +13,7 @@ use Rattle.mcs_base.proofs.WordLemmas.{EndsWord, keyword_word, name_is_word}
 use Rattle.mcs_system.specs.Plain.{Name, Formula, Truth, Falsity, Atom, Not, And, Or, Implies, Iff}
 use Rattle.mcs_system.specs.Naming.{IsName, IsNamedFormula}
 use Rattle.mcs_system.specs.Texts.{primary, in_parentheses}
-use Rattle.mcs_spelling.specs.Words.{after}
+use Rattle.mcs_spelling.specs.Words.{after_prefix}
 use Rattle.mcs_spelling.proofs.LiteralTexts.{after_front}
 use Rattle.mcs_proof_text.proofs.PlainTexts.{all_word}
 
@@ -63,7 +63,7 @@ or_else None sign other = other
 or_else (Some rest) sign other = Some (sign, rest)
 
 abbrev sign_in : List ℕ → Option Sign
-sign_in bytes = or_else (after (codes " & ") bytes) And (or_else (after (codes " | ") bytes) Or (or_else (after (codes " -> ") bytes) Implies (or_else (after (codes " <-> ") bytes) Iff None)))
+sign_in bytes = or_else (after_prefix (codes " & ") bytes) And (or_else (after_prefix (codes " | ") bytes) Or (or_else (after_prefix (codes " -> ") bytes) Implies (or_else (after_prefix (codes " <-> ") bytes) Iff None)))
 
 -- ---- formulas
 abbrev Found : Type 0
@@ -73,7 +73,7 @@ abbrev negated : Formula × List ℕ → Formula × List ℕ
 negated fr = (Not fr.0, fr.1)
 
 abbrev closed : (Formula → Formula → Formula) → Formula → Formula × List ℕ → Found
-closed sign f gr = option_map (λ rest. (sign f gr.0, rest)) (after (codes ")") gr.1)
+closed sign f gr = option_map (λ rest. (sign f gr.0, rest)) (after_prefix (codes ")") gr.1)
 
 abbrev signed : (List ℕ → Found) → Formula → Sign → Found
 signed p f s = option_and_then (closed s.0 f) (p s.1)
@@ -155,8 +155,8 @@ not_found f again zero r deep named ends = absurd (omega (arith, deep))
 not_found f again (suc n) r deep named ends = ap (option_map negated) (again n r (omega (arith, deep)) named ends)
 
 and_sign : (x : List ℕ) → sign_in (codes " & " ++ x) ≡ Some (And, x)
-unfolding after
-and_sign x = ap (λ (o : Option (List ℕ)). or_else o And (or_else (after (codes " | ") (codes " & " ++ x)) Or (or_else (after (codes " -> ") (codes " & " ++ x)) Implies (or_else (after (codes " <-> ") (codes " & " ++ x)) Iff None)))) (after_front (codes " & ") x)
+unfolding after_prefix
+and_sign x = ap (λ (o : Option (List ℕ)). or_else o And (or_else (after_prefix (codes " | ") (codes " & " ++ x)) Or (or_else (after_prefix (codes " -> ") (codes " & " ++ x)) Implies (or_else (after_prefix (codes " <-> ") (codes " & " ++ x)) Iff None)))) (after_front (codes " & ") x)
 
 and_found : (f g : Formula) → IsFound f → IsFound g → IsFound (And f g)
 and_found f g first second zero r deep named ends = absurd (omega (arith, deep))
@@ -164,8 +164,8 @@ and_found f g first second (suc n) r deep named ends =
     pair_found And (codes " & ") f g n r refl and_sign (first n (codes " & " ++ (primary g ++ (41 ∷ r))) (omega (arith, deep)) named.0 refl) (second n (41 ∷ r) (omega (arith, deep)) named.1 refl)
 
 or_sign : (x : List ℕ) → sign_in (codes " | " ++ x) ≡ Some (Or, x)
-unfolding after
-or_sign x = ap (λ (o : Option (List ℕ)). or_else o Or (or_else (after (codes " -> ") (codes " | " ++ x)) Implies (or_else (after (codes " <-> ") (codes " | " ++ x)) Iff None))) (after_front (codes " | ") x)
+unfolding after_prefix
+or_sign x = ap (λ (o : Option (List ℕ)). or_else o Or (or_else (after_prefix (codes " -> ") (codes " | " ++ x)) Implies (or_else (after_prefix (codes " <-> ") (codes " | " ++ x)) Iff None))) (after_front (codes " | ") x)
 
 or_found : (f g : Formula) → IsFound f → IsFound g → IsFound (Or f g)
 or_found f g first second zero r deep named ends = absurd (omega (arith, deep))
@@ -173,8 +173,8 @@ or_found f g first second (suc n) r deep named ends =
     pair_found Or (codes " | ") f g n r refl or_sign (first n (codes " | " ++ (primary g ++ (41 ∷ r))) (omega (arith, deep)) named.0 refl) (second n (41 ∷ r) (omega (arith, deep)) named.1 refl)
 
 implies_sign : (x : List ℕ) → sign_in (codes " -> " ++ x) ≡ Some (Implies, x)
-unfolding after
-implies_sign x = ap (λ (o : Option (List ℕ)). or_else o Implies (or_else (after (codes " <-> ") (codes " -> " ++ x)) Iff None)) (after_front (codes " -> ") x)
+unfolding after_prefix
+implies_sign x = ap (λ (o : Option (List ℕ)). or_else o Implies (or_else (after_prefix (codes " <-> ") (codes " -> " ++ x)) Iff None)) (after_front (codes " -> ") x)
 
 implies_found : (f g : Formula) → IsFound f → IsFound g → IsFound (Implies f g)
 implies_found f g first second zero r deep named ends = absurd (omega (arith, deep))
@@ -182,7 +182,7 @@ implies_found f g first second (suc n) r deep named ends =
     pair_found Implies (codes " -> ") f g n r refl implies_sign (first n (codes " -> " ++ (primary g ++ (41 ∷ r))) (omega (arith, deep)) named.0 refl) (second n (41 ∷ r) (omega (arith, deep)) named.1 refl)
 
 iff_sign : (x : List ℕ) → sign_in (codes " <-> " ++ x) ≡ Some (Iff, x)
-unfolding after
+unfolding after_prefix
 iff_sign x = ap (λ (o : Option (List ℕ)). or_else o Iff None) (after_front (codes " <-> ") x)
 
 iff_found : (f g : Formula) → IsFound f → IsFound g → IsFound (Iff f g)

@@ -17,14 +17,14 @@ use Rattle.mcs_system.specs.Plain.{Item}
 use Rattle.mcs_text.specs.Separated.{braced}
 use Rattle.mcs_evidence.specs.Defaults.{defaults_of, all_defaults}
 use Rattle.mcs_spelling.specs.Lines.{is_empty}
-use Rattle.mcs_spelling.specs.Parts.{IsSmallNumber, IsTellable, AreTellable, set_text, default_text, defaults_text, spaced}
-use Rattle.mcs_spelling.specs.Words.{after, number_of, numbers_of, set_of, guarded}
+use Rattle.mcs_spelling.specs.Parts.{IsSmallNumber, IsTellable, AreTellable, set_text, default_places_text, defaults_text, spaced}
+use Rattle.mcs_spelling.specs.Words.{after_prefix, number_of_bytes, numbers_of, set_of, guarded}
 use Rattle.mcs_spelling.proofs.NumberTexts.{bound, number_read, numbers_read, numbers_spelled}
 use Rattle.mcs_spelling.proofs.LiteralTexts.{after_front, after_is}
 use Rattle.mcs_spelling.proofs.SetTexts.{set_spelled, set_read}
 use Rattle.mcs_proof_lines.specs.Verdicts.{Terms, defaults_of_line, within_from, some_order, order_of}
 use Rattle.mcs_proof_reader.specs.Questions.{decimals, ten}
-use Rattle.mcs_proof_lines.specs.Readings.{ReadsLine, IsUpTo}
+use Rattle.mcs_proof_lines.specs.Readings.{ReadsLine, IsAtMost}
 use Rattle.mcs_proof_lines.proofs.WordReadings.{after_line}
 use Rattle.mcs_proof_lines.proofs.NumberReadings.{guarded_line}
 use Rattle.mcs_proof_reader.proofs.EvidenceReadings.{chosen_are}
@@ -64,7 +64,7 @@ decimals_tell k zero few = tt
 decimals_tell k (suc n) few = (decimal_tells k (omega (arith, few)), decimals_tell (k + 1) n (omega (arith, few)))
 
 same_decimal : (a b : ℕ) → IsSmallNumber a → IsSmallNumber b → decimal a ≡ decimal b → a ≡ b
-same_decimal a b small small' e = same_Some a b (sym (number_read a small) ∙ ap number_of e ∙ number_read b small')
+same_decimal a b small small' e = same_Some a b (sym (number_read a small) ∙ ap number_of_bytes e ∙ number_read b small')
 
 not_later : (a k n : ℕ) → 0 < a → a < k → k + n < 2 ^ 63 → ¬ IsAmong (decimal a) (decimals k n)
 not_later a k zero some less few = λ h. h
@@ -119,7 +119,7 @@ module _ (items : List Item) (justs : List ℕ) (count : length justs ≡ length
   set_told : (s : ℕ) → Within s (all_defaults items) → set_text ten s ≡ defaults_text s
   set_told s within =
       let small : s < 2 ^ 10 = below_from_members 10 s (λ k member. (let b = set_below s within k member in omega (arith, b, few))) in
-      ap braced (chosen_are s default_text 0 ten (λ j t e. (let shift : 0 + j + 1 ≡ 1 + j = omega arith in ap decimal shift ∙ decimal_at 1 10 j t e)) ∙ ap (map default_text) (sym (members-width s 10 small)))
+      ap braced (chosen_are s default_places_text 0 ten (λ j t e. (let shift : 0 + j + 1 ≡ 1 + j = omega arith in ap decimal shift ∙ decimal_at 1 10 j t e)) ∙ ap (map default_places_text) (sym (members-width s 10 small)))
 
   set_line : ReadsLine (λ s. Within s (all_defaults items)) defaults_text (set_of ten (2 ^ length justs - 1))
   set_line = record {
@@ -135,16 +135,16 @@ module _ (items : List Item) (justs : List ℕ) (count : length justs ≡ length
     fits : (s : ℕ) → Within s (all_defaults items) → nat_lt s (2 ^ 32) ≡ true
     fits s within = let small : s < 2 ^ 10 = below_from_members 10 s (λ k member. (let b = set_below s within k member in omega (arith, b, few))) in grind (arith, nat_tests)
 
-    plain_line : ReadsLine (λ s. Within s (all_defaults items)) (λ s. word ++ defaults_text s) (λ line. option_and_then (λ s. guarded (nat_lt s (2 ^ 32)) s) (option_and_then (set_of ten (2 ^ length justs - 1)) (after word line)))
+    plain_line : ReadsLine (λ s. Within s (all_defaults items)) (λ s. word ++ defaults_text s) (λ line. option_and_then (λ s. guarded (nat_lt s (2 ^ 32)) s) (option_and_then (set_of ten (2 ^ length justs - 1)) (after_prefix word line)))
     plain_line =
         let line = after_line word (λ s. Within s (all_defaults items)) defaults_text (set_of ten (2 ^ length justs - 1)) set_line in
-        let small = guarded_line (λ s. Within s (all_defaults items)) (λ s. word ++ defaults_text s) (λ line. option_and_then (set_of ten (2 ^ length justs - 1)) (after word line)) line (λ s. nat_lt s (2 ^ 32)) in
+        let small = guarded_line (λ s. Within s (all_defaults items)) (λ s. word ++ defaults_text s) (λ line. option_and_then (set_of ten (2 ^ length justs - 1)) (after_prefix word line)) line (λ s. nat_lt s (2 ^ 32)) in
         line_same _ (λ s. Within s (all_defaults items)) _ (λ s. word ++ defaults_text s) _ small (λ s is. is.0) (λ s is. (is, fits s is)) (λ s is. refl)
 
     pub defaults_line : ReadsLine (λ s. Within s (all_defaults items)) (λ s. word ++ defaults_text s) (defaults_of_line word t)
     unfolding defaults_of_line
     defaults_line =
-        let P : List (List ℕ) → List ℕ → Type 0 = λ ns js. ReadsLine (λ s. Within s (all_defaults items)) (λ s. word ++ defaults_text s) (λ line. option_and_then (λ s. guarded (nat_lt s (2 ^ 32)) s) (option_and_then (set_of ns (2 ^ length js - 1)) (after word line))) in
+        let P : List (List ℕ) → List ℕ → Type 0 = λ ns js. ReadsLine (λ s. Within s (all_defaults items)) (λ s. word ++ defaults_text s) (λ line. option_and_then (λ s. guarded (nat_lt s (2 ^ 32)) s) (option_and_then (set_of ns (2 ^ length js - 1)) (after_prefix word line))) in
         subst (λ (js : List ℕ). P t.numbers js) (sym justs_are) (subst (λ (ns : List (List ℕ)). P ns justs) (sym numbers_are) plain_line)
 
 -- ---- orders of defaults
@@ -161,36 +161,36 @@ within_read : (most : ℕ) (taken ns : List ℕ) → AllByRecursion (λ n. nat_l
 within_read most taken [] all = ap (λ (xs : List ℕ). Some xs) (sym (append-nil taken))
 within_read most taken (n ∷ ns) all = ap (λ (b : Bool). cond b (within_from most (taken ++ n ∷ []) ns) None) all.0 ∙ (within_read most (taken ++ n ∷ []) ns all.1 ∙ ap (λ (xs : List ℕ). Some xs) (append_assoc taken (n ∷ []) ns))
 
-joined : (most : ℕ) (ns : List ℕ) → AllByRecursion IsSmallNumber ns → AllByRecursion (λ n. nat_le n most ≡ true) ns → AllByRecursion (IsUpTo most) ns
+joined : (most : ℕ) (ns : List ℕ) → AllByRecursion IsSmallNumber ns → AllByRecursion (λ n. nat_le n most ≡ true) ns → AllByRecursion (IsAtMost most) ns
 joined most [] small all = tt
 joined most (n ∷ ns) small all = ((small.0, all.0), joined most ns small.1 all.1)
 
-smalls : (most : ℕ) (ns : List ℕ) → AllByRecursion (IsUpTo most) ns → AllByRecursion IsSmallNumber ns
+smalls : (most : ℕ) (ns : List ℕ) → AllByRecursion (IsAtMost most) ns → AllByRecursion IsSmallNumber ns
 smalls most [] all = tt
 smalls most (n ∷ ns) all = (all.0.0, smalls most ns all.1)
 
-lows : (most : ℕ) (ns : List ℕ) → AllByRecursion (IsUpTo most) ns → AllByRecursion (λ n. nat_le n most ≡ true) ns
+lows : (most : ℕ) (ns : List ℕ) → AllByRecursion (IsAtMost most) ns → AllByRecursion (λ n. nat_le n most ≡ true) ns
 lows most [] all = tt
 lows most (n ∷ ns) all = (all.0.1, lows most ns all.1)
 
-order_sound : (most : ℕ) (rest order : List ℕ) → cond (is_empty rest) (Some []) (some_order most rest) ≡ Some order → AllByRecursion (IsUpTo most) order × (rest ≡ spaced (map decimal order))
-order_sound most [] order e = let none : [] ≡ order = same_Some [] order e in (subst (AllByRecursion (IsUpTo most)) none tt, ap (λ (order : List ℕ). spaced (map decimal order)) none)
+order_sound : (most : ℕ) (rest order : List ℕ) → cond (is_empty rest) (Some []) (some_order most rest) ≡ Some order → AllByRecursion (IsAtMost most) order × (rest ≡ spaced (map decimal order))
+order_sound most [] order e = let none : [] ≡ order = same_Some [] order e in (subst (AllByRecursion (IsAtMost most)) none tt, ap (λ (order : List ℕ). spaced (map decimal order)) none)
 order_sound most (b ∷ rest) order e =
-    let (ns, first, within) = bound (within_from most []) (option_and_then numbers_of (after (codes " ") (b ∷ rest))) order e in
-    let (bytes, front, numbers) = bound numbers_of (after (codes " ") (b ∷ rest)) ns first in
+    let (ns, first, within) = bound (within_from most []) (option_and_then numbers_of (after_prefix (codes " ") (b ∷ rest))) order e in
+    let (bytes, front, numbers) = bound numbers_of (after_prefix (codes " ") (b ∷ rest)) ns first in
     let (small, spelled) = numbers_spelled bytes ns numbers in
     let (is, low) = within_told most [] ns order within in
-    (subst (AllByRecursion (IsUpTo most)) (sym is) (joined most ns small low), after_is (codes " ") (b ∷ rest) bytes front ∙ (sym spelled ∙ ap (λ (order : List ℕ). spaced (map decimal order)) (sym is)))
+    (subst (AllByRecursion (IsAtMost most)) (sym is) (joined most ns small low), after_is (codes " ") (b ∷ rest) bytes front ∙ (sym spelled ∙ ap (λ (order : List ℕ). spaced (map decimal order)) (sym is)))
 
-order_complete : (most : ℕ) (order : List ℕ) → AllByRecursion (IsUpTo most) order → cond (is_empty (spaced (map decimal order))) (Some []) (some_order most (spaced (map decimal order))) ≡ Some order
+order_complete : (most : ℕ) (order : List ℕ) → AllByRecursion (IsAtMost most) order → cond (is_empty (spaced (map decimal order))) (Some []) (some_order most (spaced (map decimal order))) ≡ Some order
 order_complete most [] all = refl
 order_complete most (n ∷ ns) all =
     let bytes = decimal n ++ spaced (map decimal ns) in
-    let front : after (codes " ") (codes " " ++ bytes) ≡ Some bytes = after_front (codes " ") bytes in
+    let front : after_prefix (codes " ") (codes " " ++ bytes) ≡ Some bytes = after_front (codes " ") bytes in
     let numbers : numbers_of bytes ≡ Some (n ∷ ns) = numbers_read n ns (smalls most (n ∷ ns) all).0 (smalls most (n ∷ ns) all).1 in
     ap (λ (o : Option (List ℕ)). option_and_then (within_from most []) (option_and_then numbers_of o)) front
     ∙ (ap (option_and_then (within_from most [])) numbers ∙ within_read most [] (n ∷ ns) (lows most (n ∷ ns) all))
 
-pub order_line : (most : ℕ) → ReadsLine (AllByRecursion (IsUpTo most)) (λ order. codes "extension" ++ spaced (map decimal order)) (order_of most)
+pub order_line : (most : ℕ) → ReadsLine (AllByRecursion (IsAtMost most)) (λ order. codes "extension" ++ spaced (map decimal order)) (order_of most)
 unfolding order_of
-order_line most = after_line (codes "extension") (AllByRecursion (IsUpTo most)) (λ order. spaced (map decimal order)) (λ rest. cond (is_empty rest) (Some []) (some_order most rest)) (record { sound = order_sound most; complete = order_complete most })
+order_line most = after_line (codes "extension") (AllByRecursion (IsAtMost most)) (λ order. spaced (map decimal order)) (λ rest. cond (is_empty rest) (Some []) (some_order most rest)) (record { sound = order_sound most; complete = order_complete most })

@@ -11,14 +11,14 @@ use Rattle.mcs_text.specs.Separated.{braced}
 use Rattle.mcs_trace.specs.Traces.{Inference}
 use Rattle.mcs_cnf.specs.Entailments.{Entailment, Yes, No}
 use Rattle.mcs_evidence.specs.Programs.{IsInRange}
-use Rattle.mcs_spelling.specs.Parts.{atom_text, atoms_text, chosen, set_text, AreTellable, IsAllowed, step_text, text_of_name}
-use Rattle.mcs_spelling.specs.Words.{after, step_of, set_of}
+use Rattle.mcs_spelling.specs.Parts.{atom_text, atoms_text, chosen, set_text, AreTellable, AreMembersAllowed, step_text, text_of_name}
+use Rattle.mcs_spelling.specs.Words.{after_prefix, step_of, set_of}
 use Rattle.mcs_spelling.proofs.SetTexts.{set_spelled, set_read}
 use Rattle.mcs_proof_text.specs.Lines.{Line, line_text}
 use Rattle.mcs_proof_text.specs.Answers.{trace_lines, entailment_lines, all_entailment_lines}
 use Rattle.mcs_proof_text.specs.Shapes.{IsTrace, IsYes, IsNo, IsEither, AreMany}
-use Rattle.mcs_proof_lines.specs.Walks.{At, Reading, ◌>>=◌, made, head_of, expect_at, everything, atoms_of_line, atoms_at, trace_at, yes_at, no_at, entailment_at, many_at}
-use Rattle.mcs_proof_lines.specs.Readings.{Stops, Anything, Reads, ReadsLine, one_line, Image, IsEitherOf, Begin, IsMany, is_line}
+use Rattle.mcs_proof_lines.specs.Walks.{At, Reading, ◌>>=◌, mapped_reading, head_line, expect_at, everything, atoms_of_line, atoms_at, trace_at, yes_at, no_at, entailment_at, many_at}
+use Rattle.mcs_proof_lines.specs.Readings.{Stops, Anything, ReadsLines, ReadsLine, one_line, Image, IsEitherOf, Begin, IsMany, is_line}
 use Rattle.mcs_proof_lines.proofs.Readings.{reads_line, reads_same}
 use Rattle.mcs_proof_lines.proofs.ReadingSequences.{reads_made, chosen_at, reads_chosen}
 use Rattle.mcs_proof_lines.proofs.ReadingLists.{reads_many}
@@ -61,7 +61,7 @@ in_everything k less = ap (λ (b : ℕ). nat_eq b 1) (bit_at_ones 64 k less)
 
 -- ---- where the atoms have these names, at most 64, which can be told apart
 module _ (names : List Name) (few : length names ≤ 64) (tells : AreTellable names) where
-  allowed : (places : ℕ) → IsInRange names places → IsAllowed everything (length names) places
+  allowed : (places : ℕ) → IsInRange names places → AreMembersAllowed everything (length names) places
   allowed places inside k member = let less : k < length names = inside k member in (less, in_everything k (omega (arith, less, few)))
 
   pub set_line : ReadsLine (IsInRange names) (atoms_text names) (set_of names everything)
@@ -71,7 +71,7 @@ module _ (names : List Name) (few : length names ≤ 64) (tells : AreTellable na
   }
 
   -- a word, and then a set of atoms
-  pub reads_atoms : (word : List ℕ) → Reads (IsInRange names) (one_line (λ places. word ++ atoms_text names places)) Anything (atoms_at word names)
+  pub reads_atoms : (word : List ℕ) → ReadsLines (IsInRange names) (one_line (λ places. word ++ atoms_text names places)) Anything (atoms_at word names)
   unfolding atoms_at
   reads_atoms word = reads_line (IsInRange names) (λ places. word ++ atoms_text names places) (atoms_of_line word names) (after_line word (IsInRange names) (atoms_text names) (set_of names everything) set_line)
 
@@ -87,15 +87,15 @@ module _ (names : List Name) (few : length names ≤ 64) (tells : AreTellable na
   unfolding line_text
   no_line_told places = refl
 
-  no_same : (at : At) → made No (atoms_at (codes "no ") names at) ≡ no_at names at
+  no_same : (at : At) → mapped_reading No (atoms_at (codes "no ") names at) ≡ no_at names at
   unfolding no_at
   no_same at = refl
 
   -- what follows is of no matter
-  any_end : {A : Type 0} (Is : A → Type 0) (lines : A → List (List ℕ)) (p : At → Reading A) → Reads Is lines Anything p → Reads Is lines Stops p
+  any_end : {A : Type 0} (Is : A → Type 0) (lines : A → List (List ℕ)) (p : At → Reading A) → ReadsLines Is lines Anything p → ReadsLines Is lines Stops p
   any_end Is lines p h = record { sound = h.sound; complete = λ x n more tail is end. h.complete x n more tail is tt; fault = h.fault; local = h.local; stable = h.stable }
 
-  pub reads_no : Reads (IsNo names) (told names entailment_lines) Stops (no_at names)
+  pub reads_no : ReadsLines (IsNo names) (told names entailment_lines) Stops (no_at names)
   reads_no =
       let made_of = reads_made (IsInRange names) _ Anything (atoms_at (codes "no ") names) No (told names entailment_lines) (reads_atoms (codes "no ")) (λ places is. no_line_told places) in
       any_end (IsNo names) (told names entailment_lines) (no_at names) (reads_same _ (IsNo names) _ (told names entailment_lines) Anything _ (no_at names) made_of is_no no_is (λ x is. refl) no_same)
@@ -111,30 +111,30 @@ module _ (names : List Name) (few : length names ≤ 64) (tells : AreTellable na
   unfolding line_text
   yes_told steps = ap (λ (ls : List (List ℕ)). codes "yes" ∷ ls) (trace_told names steps)
 
-  yes_same : (at : At) → made Yes (expect_at (codes "yes") at >>= trace_at) ≡ yes_at at
+  yes_same : (at : At) → mapped_reading Yes (expect_at (codes "yes") at >>= trace_at) ≡ yes_at at
   unfolding yes_at
   yes_same at = by (expect_at (codes "yes") at)
     where
-      by_trace : (r : Reading (List Inference)) → made Yes r ≡ (r >>= λ trace. Ok (Yes trace.0, trace.1))
+      by_trace : (r : Reading (List Inference)) → mapped_reading Yes r ≡ (r >>= λ trace. Ok (Yes trace.0, trace.1))
       by_trace r = refl
 
-      by : (r : Result At ℕ) → made Yes (r >>= trace_at) ≡ (r >>= λ next. trace_at next >>= λ trace. Ok (Yes trace.0, trace.1))
+      by : (r : Result At ℕ) → mapped_reading Yes (r >>= trace_at) ≡ (r >>= λ next. trace_at next >>= λ trace. Ok (Yes trace.0, trace.1))
       by (Ok next) = refl
       by (Err n) = refl
 
-  pub reads_yes : Reads IsYes (told names entailment_lines) Stops yes_at
+  pub reads_yes : ReadsLines IsYes (told names entailment_lines) Stops yes_at
   reads_yes =
       let word = reads_word (codes "yes") trace_at IsTrace (map step_text) Stops reads_trace some_trace in
       let made_of = reads_made IsTrace _ Stops _ Yes (told names entailment_lines) word (λ steps is. yes_told steps) in
       reads_same _ IsYes _ (told names entailment_lines) Stops _ yes_at made_of is_yes yes_is (λ x is. refl) yes_same
 
   -- either
-  yes_says : (e : Entailment) (rest : List (List ℕ)) → IsYes e → is_line (codes "yes") (head_of (told names entailment_lines e ++ rest)) ≡ true
+  yes_says : (e : Entailment) (rest : List (List ℕ)) → IsYes e → is_line (codes "yes") (head_line (told names entailment_lines e ++ rest)) ≡ true
   unfolding line_text
   yes_says (Yes steps) rest is = refl
   yes_says (No places) rest is = absurd is
 
-  no_says : (e : Entailment) (rest : List (List ℕ)) → IsNo names e → is_line (codes "yes") (head_of (told names entailment_lines e ++ rest)) ≡ false
+  no_says : (e : Entailment) (rest : List (List ℕ)) → IsNo names e → is_line (codes "yes") (head_line (told names entailment_lines e ++ rest)) ≡ false
   unfolding line_text
   no_says (Yes steps) rest is = absurd is
   no_says (No places) rest is = refl
@@ -153,18 +153,18 @@ module _ (names : List Name) (few : length names ≤ 64) (tells : AreTellable na
   unfolding entailment_at
   either_same at = refl
 
-  pub reads_either : Reads (IsEither names) (told names entailment_lines) Stops (entailment_at names)
+  pub reads_either : ReadsLines (IsEither names) (told names entailment_lines) Stops (entailment_at names)
   reads_either = reads_same _ (IsEither names) _ (told names entailment_lines) Stops _ (entailment_at names)
       (reads_chosen IsYes (IsNo names) (told names entailment_lines) Stops yes_at (no_at names) (is_line (codes "yes")) reads_yes reads_no yes_says no_says) is_either either_is (λ x is. refl) either_same
 
   -- ---- several
   pub yes_begins : Begin IsYes (told names entailment_lines)
-  unfolding line_text step_of after
+  unfolding line_text step_of after_prefix
   yes_begins (Yes steps) rest is = refl
   yes_begins (No places) rest is = absurd is
 
   pub no_begins : Begin (IsNo names) (told names entailment_lines)
-  unfolding line_text step_of after
+  unfolding line_text step_of after_prefix
   no_begins (Yes steps) rest is = absurd is
   no_begins (No places) rest is = refl
 
@@ -185,7 +185,7 @@ module _ (names : List Name) (few : length names ≤ 64) (tells : AreTellable na
       no_either (Yes steps) is = absurd is
       no_either (No places) is = is
 
-  module _ (Is : Entailment → Type 0) (p : At → Reading Entailment) (h : Reads Is (told names entailment_lines) Stops p) (begin : Begin Is (told names entailment_lines)) (some : (e : Entailment) × Is e) (n : ℕ) where
-    pub reads_several : Reads (AreMany Is n) (told names all_entailment_lines) Stops (many_at p n)
+  module _ (Is : Entailment → Type 0) (p : At → Reading Entailment) (h : ReadsLines Is (told names entailment_lines) Stops p) (begin : Begin Is (told names entailment_lines)) (some : (e : Entailment) × Is e) (n : ℕ) where
+    pub reads_several : ReadsLines (AreMany Is n) (told names all_entailment_lines) Stops (many_at p n)
     reads_several = reads_same (IsMany Is n) (AreMany Is n) (flat_map (told names entailment_lines)) (told names all_entailment_lines) Stops (many_at p n) (many_at p n)
         (reads_many Is (told names entailment_lines) p h begin some n) (λ es is. record { many = is.0; each = is.1 }) (λ es is. (is.many, is.each)) (λ es is. told_all names entailment_lines es) (λ at. refl)

@@ -4,7 +4,7 @@ use Rattle.std.specs.List.{AllByRecursion, flat_map}
 use Rattle.mcs_base.proofs.Each.{all_append}
 use Rattle.mcs_system.specs.Plain.{System}
 use Rattle.mcs_system.specs.Atoms.{atoms_of}
-use Rattle.mcs_system.specs.Naming.{IsNamed}
+use Rattle.mcs_system.specs.Naming.{IsSystemNamed}
 use Rattle.mcs_system.specs.Texts.{name_of_context}
 use Rattle.mcs_report.specs.Members.{state_text, rules_text}
 use Rattle.mcs_proof_text.specs.Lines.{line_text, question_text, output_text}
@@ -14,7 +14,7 @@ use Rattle.mcs_proof_text.proofs.FreeTexts.{append_free, told_free, each_free, c
 use Rattle.mcs_proof_reader.proofs.AtomNames.{atom_names}
 use Rattle.mcs_proof_reader.proofs.FreeLines.{line_free}
 
-module _ (m : System) (named : IsNamed m) where
+module _ (m : System) (named : IsSystemNamed m) where
   question_free : (i x : ℕ) → IsLineFeedFree (question_text m i x)
   unfolding question_text
   question_free i x = append_free (codes "answer ") (name_of_context (slice_get m.contexts i) ++ (codes " " ++ rules_text m x)) (told_free (codes "answer ") refl)

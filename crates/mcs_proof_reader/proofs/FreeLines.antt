@@ -8,7 +8,7 @@ use Rattle.mcs_base.proofs.Each.{all_get}
 use Rattle.mcs_system.specs.Plain.{Name}
 use Rattle.mcs_system.specs.Naming.{IsName}
 use Rattle.mcs_trace.specs.Traces.{Inference}
-use Rattle.mcs_spelling.specs.Parts.{text_of_name, atom_text, atoms_text, default_text, defaults_text, sign_of, literal_text, spaced, step_text}
+use Rattle.mcs_spelling.specs.Parts.{text_of_name, atom_text, atoms_text, default_places_text, defaults_text, literal_sign, literal_text, spaced, step_text}
 use Rattle.mcs_proof_text.specs.Lines.{Line, YesLine, NoLine, StepLine, SetLine, UnsupportedLine, BlockedLine, AppliedLine, UngroundedLine, ExtensionLine, ModelLine, SmallerLine, NoneLine, line_text}
 use Rattle.mcs_proof_text.specs.Reports.{IsLineFeedFree}
 use Rattle.mcs_proof_text.proofs.FreeTexts.{append_free, told_free, name_free, decimal_free, each_free, all_braced}
@@ -21,9 +21,9 @@ all_spaced : {A : Type 0} (f : A → List ℕ) → ((a : A) → IsLineFeedFree (
 all_spaced f free as' = spaced_free (map f as') (each_free f free as')
 
 literal_free : (l : ℤ) → IsLineFeedFree (literal_text l)
-literal_free l = append_free (sign_of l) (decimal (unsigned_abs l)) (by l) (decimal_free (unsigned_abs l))
+literal_free l = append_free (literal_sign l) (decimal (unsigned_abs l)) (by l) (decimal_free (unsigned_abs l))
   where
-    by : (l : ℤ) → IsLineFeedFree (sign_of l)
+    by : (l : ℤ) → IsLineFeedFree (literal_sign l)
     by (pos n) = tt
     by (negsuc n) = told_free (codes "-") refl
 
@@ -35,7 +35,7 @@ step_free s =
     (append_free (codes " by") (spaced (map decimal s.chain)) (told_free (codes " by") refl) (all_spaced decimal decimal_free s.chain)))
 
 defaults_free : (set : ℕ) → IsLineFeedFree (defaults_text set)
-defaults_free set = all_braced default_text (λ k. decimal_free (k + 1)) (members set)
+defaults_free set = all_braced default_places_text (λ k. decimal_free (k + 1)) (members set)
 
 module _ (names : List Name) (named : AllByRecursion IsName names) where
   atom_free : (k : ℕ) → IsLineFeedFree (atom_text names k)

@@ -6,13 +6,13 @@ use Rattle.mcs_system.specs.Plain.{Name}
 use Rattle.mcs_trace.specs.Traces.{Inference}
 use Rattle.mcs_evidence.specs.Programs.{ModelShown, ProgramShown, IsInRange}
 use Rattle.mcs_spelling.specs.Parts.{AreTellable, atoms_text, step_text}
-use Rattle.mcs_spelling.specs.Words.{after, step_of}
+use Rattle.mcs_spelling.specs.Words.{after_prefix, step_of}
 use Rattle.mcs_proof_text.specs.Lines.{SmallerLine, NoneLine, line_text}
 use Rattle.mcs_proof_text.specs.Answers.{trace_lines, model_lines, program_lines}
 use Rattle.mcs_proof_text.specs.Shapes.{IsTrace, IsModel}
-use Rattle.mcs_proof_lines.specs.Walks.{At, Reading, ◌>>=◌, made, many_at, trace_at, atoms_of_line, atoms_at}
+use Rattle.mcs_proof_lines.specs.Walks.{At, Reading, ◌>>=◌, mapped_reading, many_at, trace_at, atoms_of_line, atoms_at}
 use Rattle.mcs_proof_lines.specs.Programs.{model_at, with_smaller, smaller_from, smaller_at, rest_at, program_at}
-use Rattle.mcs_proof_lines.specs.Readings.{here, Stops, Anything, Reads, one_line, Image, AreBoth, both_lines, AllStop, Begin, IsMany, IsOther}
+use Rattle.mcs_proof_lines.specs.Readings.{here, Stops, Anything, ReadsLines, one_line, Image, AreBoth, both_lines, AllStop, Begin, IsMany, IsLineOfOtherKind}
 use Rattle.mcs_proof_lines.proofs.Readings.{reads_same}
 use Rattle.mcs_proof_lines.proofs.ReadingSequences.{both, paired, reads_made, reads_both, both_stop}
 use Rattle.mcs_proof_lines.proofs.ReadingLists.{reads_many}
@@ -35,7 +35,7 @@ module _ (names : List Name) (few : length names ≤ 64) (tells : AreTellable na
   as_model mt = record { model = mt.0; minimal = mt.1 }
 
   abbrev read_model : At → Reading ModelShown
-  read_model at = made as_model (both (λ m. trace_at) (atoms_at (codes "model ") names at))
+  read_model at = mapped_reading as_model (both (λ m. trace_at) (atoms_at (codes "model ") names at))
 
   model_told : (mt : ℕ × List Inference) → both_lines (one_line (λ m. codes "model " ++ atoms_text names m)) (λ m. map step_text) mt ≡ told names model_lines (as_model mt)
   unfolding line_text
@@ -45,39 +45,39 @@ module _ (names : List Name) (few : length names ≤ 64) (tells : AreTellable na
   unfolding model_at
   model_same at = by (atoms_at (codes "model ") names at)
     where
-      second : (m : ℕ) (r : Reading (List Inference)) → made as_model (paired m r) ≡ (r >>= λ trace. Ok (record { model = m; minimal = trace.0 }, trace.1))
+      second : (m : ℕ) (r : Reading (List Inference)) → mapped_reading as_model (paired m r) ≡ (r >>= λ trace. Ok (record { model = m; minimal = trace.0 }, trace.1))
       second m (Ok r) = refl
       second m (Err n) = refl
 
-      by : (r : Reading ℕ) → made as_model (both (λ m. trace_at) r) ≡ (r >>= λ model. trace_at model.1 >>= λ trace. Ok (record { model = model.0; minimal = trace.0 }, trace.1))
+      by : (r : Reading ℕ) → mapped_reading as_model (both (λ m. trace_at) r) ≡ (r >>= λ model. trace_at model.1 >>= λ trace. Ok (record { model = model.0; minimal = trace.0 }, trace.1))
       by (Ok r) = second r.0 (trace_at r.1)
       by (Err n) = refl
 
-  reads_model : Reads (IsModel names) (told names model_lines) Stops (model_at names)
+  reads_model : ReadsLines (IsModel names) (told names model_lines) Stops (model_at names)
   reads_model =
       let pair = reads_both (IsInRange names) _ Anything (atoms_at (codes "model ") names) (λ m. IsTrace) (λ m. map step_text) Stops (λ m. trace_at) (reads_atoms names few tells (codes "model ")) (λ m is. reads_trace) (λ m is. some_trace) (λ m t more is known end. tt) in
       let made_of = reads_made _ _ Stops _ as_model (told names model_lines) pair (λ mt is. model_told mt) in
       reads_same _ (IsModel names) _ (told names model_lines) Stops _ (model_at names) made_of (λ m is. subst (IsModel names) (sym is.1) is.2) (λ m is. ((m.model, m.minimal), refl, is)) (λ m is. refl) model_same
 
   model_begins : Begin (IsModel names) (told names model_lines)
-  unfolding line_text step_of after
+  unfolding line_text step_of after_prefix
   model_begins m rest is = refl
 
   some_model : (m : ModelShown) × IsModel names m
   some_model = (as_model (0, some_trace.0), ((λ k member. absurd (no_member_of_none 0 refl k member)), some_trace.1))
 
   -- ---- the smaller sets, and then the trace that refutes all others
-  reads_smaller : Reads (AllByRecursion (IsInRange names)) (map (smaller_text names)) (IsOther (smaller_of names)) (run_at (smaller_of names))
+  reads_smaller : ReadsLines (AllByRecursion (IsInRange names)) (map (smaller_text names)) (IsLineOfOtherKind (smaller_of names)) (run_at (smaller_of names))
   reads_smaller = reads_run (IsInRange names) (smaller_text names) (smaller_of names) (after_line (codes "smaller ") (IsInRange names) (atoms_text names) _ (set_line names few tells))
 
   abbrev rest_lines : List Inference → List (List ℕ)
   rest_lines steps = codes "none" ∷ map step_text steps
 
-  reads_rest : Reads IsTrace rest_lines Stops rest_at
+  reads_rest : ReadsLines IsTrace rest_lines Stops rest_at
   reads_rest = reads_word (codes "none") trace_at IsTrace (map step_text) Stops reads_trace some_trace
 
-  none_other : (steps : List Inference) (more : List (List ℕ)) → IsOther (smaller_of names) (rest_lines steps ++ more)
-  unfolding after
+  none_other : (steps : List Inference) (more : List (List ℕ)) → IsLineOfOtherKind (smaller_of names) (rest_lines steps ++ more)
+  unfolding after_prefix
   none_other steps more = refl
 
   abbrev Rest : Type 0
@@ -92,16 +92,16 @@ module _ (names : List Name) (few : length names ≤ 64) (tells : AreTellable na
   abbrev read_rest : At → Reading Rest
   read_rest at = both (λ ss. rest_at) (run_at (smaller_of names) at)
 
-  reads_all_rest : Reads IsRest all_rest_lines Stops read_rest
-  reads_all_rest = reads_both (AllByRecursion (IsInRange names)) _ (IsOther (smaller_of names)) (run_at (smaller_of names)) (λ ss. IsTrace) (λ ss. rest_lines) Stops (λ ss. rest_at) reads_smaller (λ ss is. reads_rest) (λ ss is. some_trace) (λ ss t more is known end. none_other t more)
+  reads_all_rest : ReadsLines IsRest all_rest_lines Stops read_rest
+  reads_all_rest = reads_both (AllByRecursion (IsInRange names)) _ (IsLineOfOtherKind (smaller_of names)) (run_at (smaller_of names)) (λ ss. IsTrace) (λ ss. rest_lines) Stops (λ ss. rest_at) reads_smaller (λ ss is. reads_rest) (λ ss is. some_trace) (λ ss t more is known end. none_other t more)
 
   smaller_stop : AllStop (AllByRecursion (IsInRange names)) (map (smaller_text names))
-  unfolding step_of after
+  unfolding step_of after_prefix
   smaller_stop [] more is end = end
   smaller_stop (s ∷ ss) more is end = refl
 
   none_stop : AllStop IsTrace rest_lines
-  unfolding step_of after
+  unfolding step_of after_prefix
   none_stop steps more is end = refl
 
   rest_stop : AllStop IsRest all_rest_lines
@@ -125,7 +125,7 @@ module _ (names : List Name) (few : length names ≤ 64) (tells : AreTellable na
     whole_lines = both_lines (flat_map (told names model_lines)) (λ ms. all_rest_lines)
 
     abbrev read_program : At → Reading ProgramShown
-    read_program at = made as_program (both (λ ms. read_rest) (many_at (model_at names) count at))
+    read_program at = mapped_reading as_program (both (λ ms. read_rest) (many_at (model_at names) count at))
 
     smaller_told : (ss : List ℕ) → map (smaller_text names) ss ≡ map (line_text names) (map SmallerLine ss)
     unfolding line_text
@@ -157,15 +157,15 @@ module _ (names : List Name) (few : length names ≤ 64) (tells : AreTellable na
     unfolding program_at smaller_at
     program_same at = by (many_at (model_at names) count at)
       where
-        last : (ms : List ModelShown) (ss : List ℕ) (r : Reading (List Inference)) → made as_program (paired ms (paired ss r)) ≡ (r >>= λ rest. Ok (record { models = ms; smaller = ss; rest = rest.0 }, rest.1))
+        last : (ms : List ModelShown) (ss : List ℕ) (r : Reading (List Inference)) → mapped_reading as_program (paired ms (paired ss r)) ≡ (r >>= λ rest. Ok (record { models = ms; smaller = ss; rest = rest.0 }, rest.1))
         last ms ss (Ok r) = refl
         last ms ss (Err n) = refl
 
-        by : (r : Reading (List ModelShown)) → made as_program (both (λ ms. read_rest) r)
+        by : (r : Reading (List ModelShown)) → mapped_reading as_program (both (λ ms. read_rest) r)
             ≡ (r >>= λ models. rest_at (smaller_from names models.1.taken models.1.rest models.1.tail).1 >>= λ rest. Ok (record { models = models.0; smaller = (smaller_from names models.1.taken models.1.rest models.1.tail).0; rest = rest.0 }, rest.1))
         by (Ok r) =
             let same = smaller_same r.1.taken r.1.rest r.1.tail in
-            ap (λ (s : List ℕ × At). made as_program (paired r.0 (paired s.0 (rest_at s.1)))) same ∙ last r.0 (smaller_from names r.1.taken r.1.rest r.1.tail).0 (rest_at (smaller_from names r.1.taken r.1.rest r.1.tail).1)
+            ap (λ (s : List ℕ × At). mapped_reading as_program (paired r.0 (paired s.0 (rest_at s.1)))) same ∙ last r.0 (smaller_from names r.1.taken r.1.rest r.1.tail).0 (rest_at (smaller_from names r.1.taken r.1.rest r.1.tail).1)
         by (Err n) = refl
 
     -- for so many states
@@ -188,7 +188,7 @@ module _ (names : List Name) (few : length names ≤ 64) (tells : AreTellable na
         go zero = ([], (refl, tt))
         go (suc n) = let (ms, are) = go n in (some_model.0 ∷ ms, ((let e = are.0 in omega (arith, e)), (some_model.1, are.1)))
 
-    pub reads_program : Reads IsProgramOf (told names program_lines) Stops (program_at names count)
+    pub reads_program : ReadsLines IsProgramOf (told names program_lines) Stops (program_at names count)
     reads_program =
         let pair = reads_both (IsMany (IsModel names) count) (flat_map (told names model_lines)) Stops (many_at (model_at names) count) (λ ms. IsRest) (λ ms. all_rest_lines) Stops (λ ms. read_rest)
         (reads_many (IsModel names) (told names model_lines) (model_at names) reads_model model_begins some_model count) (λ ms is. reads_all_rest) (λ ms is. some_rest) (λ ms r more is known end. rest_stop r more known end) in

@@ -14,7 +14,7 @@ use Rattle.mcs_sets.proofs.SetLemmas.{same_set, members-width, members_below, ha
 use Rattle.mcs_sets.proofs.Lattice.{below_from_members, in_minus}
 use Rattle.mcs_base.specs.Words.{is_word_byte}
 use Rattle.mcs_system.specs.Plain.{Name, Context, Read, Bridge, System}
-use Rattle.mcs_system.specs.Naming.{IsNamed}
+use Rattle.mcs_system.specs.Naming.{IsSystemNamed}
 use Rattle.mcs_system.specs.Faults.{has_twins, IsValid}
 use Rattle.mcs_system.specs.Imports.{rules_into}
 use Rattle.mcs_system.specs.Systems.{variables, variables_of}
@@ -26,7 +26,7 @@ use Rattle.mcs_text.specs.Separated.{braced}
 use Rattle.mcs_report.specs.Members.{member_text, name_of_rule, text_of_variable, rules_text, state_text}
 use Rattle.mcs_report.specs.declared.members.Member.TheVariants as kinds
 use Rattle.mcs_spelling.specs.Parts.{set_text}
-use Rattle.mcs_spelling.specs.Words.{after, place_of, set_of, guarded}
+use Rattle.mcs_spelling.specs.Words.{after_prefix, place_of_byte, set_of, guarded}
 use Rattle.mcs_spelling.proofs.NumberTexts.{bound}
 use Rattle.mcs_spelling.proofs.SetTexts.{set_spelled, set_read}
 use Rattle.mcs_proof_text.specs.Lines.{question_text, output_text}
@@ -34,7 +34,7 @@ use Rattle.mcs_proof_lines.specs.Walks.{everything}
 use Rattle.mcs_proof_lines.specs.Readings.{ReadsLine, IsPassing}
 use Rattle.mcs_proof_lines.proofs.WordReadings.{after_line}
 use Rattle.mcs_proof_lines.proofs.NumberReadings.{guarded_line}
-use Rattle.mcs_proof_reader.specs.Questions.{rule_names, variable_texts, context_from, rules_of_text, question_of, comes_after, next_question, state_after, state_of}
+use Rattle.mcs_proof_reader.specs.Questions.{rule_names, variable_texts, context_from, rules_of_text, question_of, comes_after, next_question, state_after, state_in_words}
 use Rattle.mcs_proof_reader.proofs.EvidenceReadings.{chosen_are, in_everything}
 use Rattle.mcs_proof_text.proofs.PlainTexts.{all_word, context_named}
 use Rattle.mcs_proof_reader.proofs.SystemTexts.{contexts_apart, rules_tell, variables_tell}
@@ -90,9 +90,9 @@ text_of_question m q = question_text m q.0 q.1
 
 -- a context's name, and a set of rules into it
 abbrev context_then : System → List ℕ → Option (ℕ × ℕ)
-context_then m rest = option_and_then (λ space. option_and_then (rules_of_text m (drop (space + 1) rest)) (context_from (take space rest) 0 m.contexts)) (place_of 32 rest)
+context_then m rest = option_and_then (λ space. option_and_then (rules_of_text m (drop (space + 1) rest)) (context_from (take space rest) 0 m.contexts)) (place_of_byte 32 rest)
 
-module _ (m : System) (valid : IsValid m) (named : IsNamed m) where
+module _ (m : System) (valid : IsValid m) (named : IsSystemNamed m) where
   rule_below : (i x : ℕ) → Within x (rules_into m i) → (k : ℕ) → IsTrue (has x k) → k < length (rule_names m)
   rule_below i x within k member =
       let (b, is, into) = rule_there m i k (within k member) in
@@ -154,7 +154,7 @@ module _ (m : System) (valid : IsValid m) (named : IsNamed m) where
   context_line : ReadsLine (IsQuestion m) (λ q. name_of_context (slice_get m.contexts q.0) ++ (codes " " ++ rules_text m q.1)) (context_then m)
   context_line = record {
     sound = λ rest q e. (
-        let (space, a, e1) = bound (λ space. option_and_then (rules_of_text m (drop (space + 1) rest)) (context_from (take space rest) 0 m.contexts)) (place_of 32 rest) q e in
+        let (space, a, e1) = bound (λ space. option_and_then (rules_of_text m (drop (space + 1) rest)) (context_from (take space rest) 0 m.contexts)) (place_of_byte 32 rest) q e in
         let (i, b, e2) = bound (rules_of_text m (drop (space + 1) rest)) (context_from (take space rest) 0 m.contexts) q e1 in
         let (j, place, h) = context_is (take space rest) 0 i m.contexts b in
         let (is, spelled) = (rules_line i).sound (drop (space + 1) rest) q e2 in
@@ -169,7 +169,7 @@ module _ (m : System) (valid : IsValid m) (named : IsNamed m) where
         let name = c.name in
         let rest = name ++ (codes " " ++ rules_text m q.1) in
         let text : name_of_context (slice_get m.contexts q.0) ++ (codes " " ++ rules_text m q.1) ≡ rest = ap (λ (o : Option Context). name_of_context o ++ (codes " " ++ rules_text m q.1)) there in
-        let place : place_of 32 rest ≡ Some (length name) = place_is 32 name (rules_text m q.1) (no_space name (all_word name (name_is_word name (context_named m named q.0 c there)))) in
+        let place : place_of_byte 32 rest ≡ Some (length name) = place_is 32 name (rules_text m q.1) (no_space name (all_word name (name_is_word name (context_named m named q.0 c there)))) in
         let front : take (length name) rest ≡ name = take-append_seam name (codes " " ++ rules_text m q.1) in
         let back : drop (length name + 1) rest ≡ rules_text m q.1 = drop_past (length name) rest (32 ∷ []) (rules_text m q.1) (drop-append_seam name (codes " " ++ rules_text m q.1)) in
         let found : context_from name 0 m.contexts ≡ Some q.0 = context_found 0 q.0 m.contexts c (contexts_apart m valid named) there ∙ (let here : 0 + q.0 ≡ q.0 = omega arith in ap (λ (n : ℕ). Some n) here) in
@@ -221,7 +221,7 @@ module _ (m : System) (valid : IsValid m) (named : IsNamed m) where
           ∙ set_read (variable_texts m) (variables_of m i) σ (variables_tell m valid named) (λ k member. (own_below σ within k member, within k member));
     }
 
-    pub state_line : (last : Option ℕ) → ReadsLine (IsPassing (λ σ. Within σ (variables_of m i)) (state_after last)) (output_text m) (state_of m (variables_of m i) last)
-    unfolding state_of output_text
-    state_line last = guarded_line (λ σ. Within σ (variables_of m i)) (λ σ. codes "state " ++ state_text m σ) (λ line. option_and_then (set_of (variable_texts m) (variables_of m i)) (after (codes "state ") line))
+    pub state_line : (last : Option ℕ) → ReadsLine (IsPassing (λ σ. Within σ (variables_of m i)) (state_after last)) (output_text m) (state_in_words m (variables_of m i) last)
+    unfolding state_in_words output_text
+    state_line last = guarded_line (λ σ. Within σ (variables_of m i)) (λ σ. codes "state " ++ state_text m σ) (λ line. option_and_then (set_of (variable_texts m) (variables_of m i)) (after_prefix (codes "state ") line))
         (after_line (codes "state ") (λ σ. Within σ (variables_of m i)) (state_text m) (set_of (variable_texts m) (variables_of m i)) set_line) (state_after last)

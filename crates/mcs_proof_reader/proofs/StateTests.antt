@@ -9,7 +9,7 @@ use Rattle.mcs_sets.proofs.SetLemmas.{has-differ, members-least}
 use Rattle.mcs_base.specs.Listings.{IsAmong, IsAscending}
 use Rattle.mcs_base.proofs.Each.{all_among}
 use Rattle.mcs_base.proofs.ListingLemmas.{members_listing}
-use Rattle.mcs_proof_reader.specs.Questions.{first_of, is_before}
+use Rattle.mcs_proof_reader.specs.Questions.{first_of, is_state_before}
 use Rattle.std.proofs.lemmas.Bool.Decides.{nat_tests}
 
 module _ (a b : ℕ) where
@@ -42,8 +42,8 @@ module _ (a b : ℕ) where
         same_below = λ j less. (let e : cond (has a j) (not (has b j)) (has b j) ≡ false = sym (has-differ a b j) ∙ least.none_below j less in grind (arith, nat_tests));
       }
 
-  pub told_before : is_before a b ≡ true → StateBefore a b
-  unfolding is_before
+  pub told_before : is_state_before a b ≡ true → StateBefore a b
+  unfolding is_state_before
   told_before is = by_first (members differ) refl is
 
   least_of : (h : StateBefore a b) → IsLeast differ h.at
@@ -58,11 +58,11 @@ module _ (a b : ℕ) where
       none false true e = absurd (true≢false (sym e))
       none false false e = refl
 
-  pub is_told : StateBefore a b → is_before a b ≡ true
-  unfolding is_before
+  pub is_told : StateBefore a b → is_state_before a b ≡ true
+  unfolding is_state_before
   is_told h = ap (λ (ks : List ℕ). option_map_or (has a) (first_of ks) false) (members-least differ h.at (least_of h)) ∙ h.in_first
 
   -- as the code tests it
-  pub tested : (r : Bool) → (IsTrue r ↔ StateBefore a b) → r ≡ is_before a b
+  pub tested : (r : Bool) → (IsTrue r ↔ StateBefore a b) → r ≡ is_state_before a b
   tested true told = sym (is_told (told.0 refl))
-  tested false told = sym (false_from_ne_true (is_before a b) (λ is. true≢false (sym (told.1 (told_before is)))))
+  tested false told = sym (false_from_ne_true (is_state_before a b) (λ is. true≢false (sym (told.1 (told_before is)))))

@@ -7,32 +7,32 @@ use Rattle.mcs_system.specs.Plain.{System}
 use Rattle.mcs_proof_text.specs.Answers.{Answer}
 use Rattle.mcs_proof_lines.specs.declared.fault.ReportFault.{ReportFault}
 use Rattle.mcs_proof_lines.specs.declared.fault.ReportFault.TheVariants as faults
-use Rattle.mcs_proof_lines.specs.Walks.{At, Reading, ◌>>=◌, Tells, head_of, next_line, advanced, advanced_by, line_at, fault_at, is_next, after_front}
+use Rattle.mcs_proof_lines.specs.Walks.{At, Reading, ◌>>=◌, ReturnsReading, head_line, next_line, advanced, advanced_by, line_at, fault_at, is_next, after_front}
 use Rattle.mcs_proof_lines.proofs.WalkLemmas.{pushed_front}
-use Rattle.mcs_proof_reader.specs.Questions.{with_state, states_from, states_at, state_of}
+use Rattle.mcs_proof_reader.specs.Questions.{with_state, states_from, states_at, state_in_words}
 use Rattle.mcs_proof_reader.specs.Answers.{answer_at, answers_at, question_in}
 use Rattle.mcs_proof_reader.specs.Listings.{ends_listing, listing_from, listing_at}
 
 -- ---- states
 module _ (m : System) (allowed : ℕ) where
-  some_from : (last : Option ℕ) (n : ℕ) (rest : List (List ℕ)) (tail : List ℕ) (s : ℕ) → option_and_then (state_of m allowed last) (head_of rest) ≡ Some s
+  some_from : (last : Option ℕ) (n : ℕ) (rest : List (List ℕ)) (tail : List ℕ) (s : ℕ) → option_and_then (state_in_words m allowed last) (head_line rest) ≡ Some s
       → let next = advanced_by n rest tail in let later = states_from m allowed (Some s) next.taken next.rest next.tail in states_from m allowed last n rest tail ≡ (s ∷ later.0, later.1)
   some_from last n [] tail s e = absurd (cc)
   some_from last n (line ∷ lines) tail s e = ap (λ (o : Option ℕ). with_state o (λ σ. states_from m allowed (Some σ) (n + 1) lines tail) (record { taken = n; rest = line ∷ lines; tail = tail })) e
 
-  some_state : (last : Option ℕ) (at : At) (s : ℕ) → line_at (state_of m allowed last) at ≡ Some s → states_at m allowed last at ≡ (s ∷ (states_at m allowed (Some s) (advanced at)).0, (states_at m allowed (Some s) (advanced at)).1)
+  some_state : (last : Option ℕ) (at : At) (s : ℕ) → line_at (state_in_words m allowed last) at ≡ Some s → states_at m allowed last at ≡ (s ∷ (states_at m allowed (Some s) (advanced at)).0, (states_at m allowed (Some s) (advanced at)).1)
   unfolding states_at advanced
   some_state last at s e = some_from last at.taken at.rest at.tail s e
 
-  none_from : (last : Option ℕ) (n : ℕ) (rest : List (List ℕ)) (tail : List ℕ) → option_and_then (state_of m allowed last) (head_of rest) ≡ None → states_from m allowed last n rest tail ≡ ([], record { taken = n; rest = rest; tail = tail })
+  none_from : (last : Option ℕ) (n : ℕ) (rest : List (List ℕ)) (tail : List ℕ) → option_and_then (state_in_words m allowed last) (head_line rest) ≡ None → states_from m allowed last n rest tail ≡ ([], record { taken = n; rest = rest; tail = tail })
   none_from last n [] tail e = refl
   none_from last n (line ∷ lines) tail e = ap (λ (o : Option ℕ). with_state o (λ σ. states_from m allowed (Some σ) (n + 1) lines tail) (record { taken = n; rest = line ∷ lines; tail = tail })) e
 
-  pub no_state : (last : Option ℕ) (at : At) → line_at (state_of m allowed last) at ≡ None → states_at m allowed last at ≡ ([], at)
+  pub no_state : (last : Option ℕ) (at : At) → line_at (state_in_words m allowed last) at ≡ None → states_at m allowed last at ≡ ([], at)
   unfolding states_at
   no_state last at e = none_from last at.taken at.rest at.tail e
 
-  pub states_pushed : (last : Option ℕ) (old new : List ℕ) (s : ℕ) (at now : At) (goal : List ℕ × At) → new ≡ old ++ s ∷ [] → now ≡ advanced at → line_at (state_of m allowed last) at ≡ Some s
+  pub states_pushed : (last : Option ℕ) (old new : List ℕ) (s : ℕ) (at now : At) (goal : List ℕ × At) → new ≡ old ++ s ∷ [] → now ≡ advanced at → line_at (state_in_words m allowed last) at ≡ Some s
       → ◌≡◌ {A = List ℕ × At} (old ++ (states_at m allowed last at).0, (states_at m allowed last at).1) goal → ◌≡◌ {A = List ℕ × At} (new ++ (states_at m allowed (Some s) now).0, (states_at m allowed (Some s) now).1) goal
   states_pushed last old new s at now goal items moved e known =
       ap (λ (xs : List ℕ). (xs ++ (states_at m allowed (Some s) now).0, (states_at m allowed (Some s) now).1)) items
@@ -40,12 +40,12 @@ module _ (m : System) (allowed : ℕ) where
       ∙ (ap (λ (xs : List ℕ). (xs, (states_at m allowed (Some s) (advanced at)).1)) (append_assoc old (s ∷ []) (states_at m allowed (Some s) (advanced at)).0)
       ∙ (ap (λ (r : List ℕ × At). (old ++ r.0, r.1)) (sym (some_state last at s e)) ∙ known)))
 
-  pub states_end : (last : Option ℕ) (front : List ℕ) (at : At) (goal : List ℕ × At) → line_at (state_of m allowed last) at ≡ None
+  pub states_end : (last : Option ℕ) (front : List ℕ) (at : At) (goal : List ℕ × At) → line_at (state_in_words m allowed last) at ≡ None
       → ◌≡◌ {A = List ℕ × At} (front ++ (states_at m allowed last at).0, (states_at m allowed last at).1) goal → goal ≡ (front, at)
   states_end last front at goal e known = sym known ∙ (ap (λ (r : List ℕ × At). (front ++ r.0, r.1)) (no_state last at e) ∙ ap (λ (xs : List ℕ). (xs, at)) (append-nil front))
 
 -- ---- lines of a listing
-line_from : (n : ℕ) (rest : List (List ℕ)) (tail line : List ℕ) → head_of rest ≡ Some line
+line_from : (n : ℕ) (rest : List (List ℕ)) (tail line : List ℕ) → head_line rest ≡ Some line
     → let next = advanced_by n rest tail in listing_from n rest tail ≡ cond (ends_listing line) (Ok (line ∷ [], next)) (listing_from next.taken next.rest next.tail >>= λ others. Ok (line ∷ others.0, others.1))
 line_from n [] tail line e = absurd (cc)
 line_from n (first ∷ rest) tail line e =
@@ -74,7 +74,7 @@ module _ {X : Type 0} (f : X → List ℕ) (old new : List X) (y : X) (line : Li
   pub listing_ended : ends_listing line ≡ true → goal ≡ Ok (map f new, now)
   listing_ended e = told true e ∙ (ap (λ (xs : List (List ℕ)). Ok (xs, advanced at)) (sym pushed) ∙ ap (λ (a : At). (let r : Reading (List (List ℕ)) = Ok (map f new, a) in r)) (sym moved))
 
-no_line_from : (n : ℕ) (rest : List (List ℕ)) (tail : List ℕ) → head_of rest ≡ None → listing_from n rest tail ≡ Err (n + 1)
+no_line_from : (n : ℕ) (rest : List (List ℕ)) (tail : List ℕ) → head_line rest ≡ None → listing_from n rest tail ≡ Err (n + 1)
 no_line_from n [] tail e = refl
 no_line_from n (line ∷ rest) tail e = absurd (cc)
 
@@ -122,7 +122,7 @@ module _ (m : System) where
   failed old (suc n) k last at goal test few e known = sym known ∙ (ap (after_front old) (goes_on n last at test) ∙ ap (λ (r : Reading Answer). after_front old (one_then n r)) e)
 
   pub answers_failed : (old : List Answer) (n : ℕ) (last : Option (ℕ × ℕ)) (at : At) (fault : ReportFault) (goal : Reading (List Answer)) → is_next end_word at ≡ false → length at.rest ≤ n
-      → Tells fault (answer_at m last at) → after_front old (answers_at m n last at) ≡ goal → Tells fault goal
+      → ReturnsReading fault (answer_at m last at) → after_front old (answers_at m n last at) ≡ goal → ReturnsReading fault goal
   answers_failed old n last at faults.Memory goal test few e known = tt
   answers_failed old n last at (faults.Grammar k) goal test few e known = failed old n k last at goal test few e known
 

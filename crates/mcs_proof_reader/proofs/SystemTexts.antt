@@ -10,7 +10,7 @@ use Rattle.mcs_base.proofs.Lists.{slice_get_below}
 use Rattle.mcs_base.proofs.Distinct.{distinct_map, distinct_from_places}
 use Rattle.mcs_base.proofs.WordLemmas.{name_is_word}
 use Rattle.mcs_system.specs.Plain.{Name, Formula, Context, Read, Bridge, System}
-use Rattle.mcs_system.specs.Naming.{IsName, IsNamedBridge, IsNamed}
+use Rattle.mcs_system.specs.Naming.{IsName, IsNamedBridge, IsSystemNamed}
 use Rattle.mcs_system.specs.Faults.{has_twins, IsValid}
 use Rattle.mcs_system.specs.Systems.{variables}
 use Rattle.mcs_system.specs.Texts.{primary, name_of_context, belief_text}
@@ -45,7 +45,7 @@ names_tell ns named apart = record { each = each ns named; apart = (no_twins ns)
     each (n ∷ ns) named = (name_tells n named.0, each ns named.1)
 
 -- ---- of a system
-module _ (m : System) (valid : IsValid m) (named : IsNamed m) where
+module _ (m : System) (valid : IsValid m) (named : IsSystemNamed m) where
   twins : (has_twins (map (λ (c : Context). c.name) m.contexts) ≡ false) × (has_twins (map (λ (b : Bridge). b.name) m.bridges) ≡ false)
   twins = or_parts (has_twins (map (λ (c : Context). c.name) m.contexts)) (has_twins (map (λ (b : Bridge). b.name) m.bridges)) (tests_pass m valid).apart
 

@@ -5,7 +5,7 @@ use Rattle.std.proofs.lemmas.Simd.{map-map}
 use Rattle.mcs_system.specs.declared.bridge.Bridge as code_bridge
 use Rattle.mcs_system.specs.declared.bridge.Read as code_read
 use Rattle.mcs_system.specs.Faults.{IsValid}
-use Rattle.mcs_system.specs.Naming.{IsNamed}
+use Rattle.mcs_system.specs.Naming.{IsSystemNamed}
 use Rattle.mcs_system.specs.Plain.{Bridge, System}
 use Rattle.mcs_system.specs.Seen.{bridge_of, read_of}
 use Rattle.mcs_system.specs.Systems.{variables}
@@ -21,7 +21,7 @@ variables_told m reads k texts all told seen =
     told ∙ (ap (map (λ (r : code_read.Read). belief_text m (read_of r))) (take_all _ _ all) ∙ (sym (map-map (belief_text m) read_of reads) ∙ ap (map (belief_text m)) seen))
 
 pub texts_are : (m : System) (t : code.Texts) (bridges : List code_bridge.Bridge) → t.variables.items ≡ variable_texts m → t.rules.items ≡ map (λ b. (bridge_of b).name) bridges → t.numbers.items ≡ ten
-    → map bridge_of bridges ≡ m.bridges → IsValid m → IsNamed m → AreTexts m t
+    → map bridge_of bridges ≡ m.bridges → IsValid m → IsSystemNamed m → AreTexts m t
 texts_are m t bridges of_variables of_bridges of_numbers seen valid named =
     let names : map (λ b. (bridge_of b).name) bridges ≡ rule_names m = sym (map-map (λ (b : Bridge). b.name) bridge_of bridges) ∙ ap (map (λ (b : Bridge). b.name)) seen in
     let rules = of_bridges ∙ names in

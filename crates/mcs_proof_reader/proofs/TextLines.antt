@@ -3,7 +3,7 @@ use Rattle.std.proofs.Common.{◌≡◌, ℕ, Bool, true, false, cond, nat_eq, L
 use Rattle.std.proofs.lemmas.Bool.{false_from_ne_true}
 use Rattle.std.proofs.lemmas.Bool.Decides.{nat_tests}
 use Rattle.std.specs.List.{AllByRecursion}
-use Rattle.mcs_spelling.specs.Lines.{is_empty, onto, complete_lines, incomplete}
+use Rattle.mcs_spelling.specs.Lines.{is_empty, line_onto, complete_lines, incomplete}
 use Rattle.mcs_proof_text.specs.Lines.{with_feed, text_of_lines}
 use Rattle.mcs_proof_text.specs.Reports.{IsLineFeedFree}
 
@@ -13,12 +13,12 @@ lines_text [] = refl
 lines_text (b ∷ bytes) = by (nat_eq b 10) refl (complete_lines bytes) refl (lines_text bytes)
   where
     by : (v : Bool) → nat_eq b 10 ≡ v → (ls : List (List ℕ)) → complete_lines bytes ≡ ls → bytes ≡ text_of_lines (complete_lines bytes) ++ incomplete bytes
-        → b ∷ bytes ≡ text_of_lines (cond v ([] ∷ complete_lines bytes) (onto b (complete_lines bytes))) ++ cond v (incomplete bytes) (cond (is_empty (complete_lines bytes)) (b ∷ bytes) (incomplete bytes))
+        → b ∷ bytes ≡ text_of_lines (cond v ([] ∷ complete_lines bytes) (line_onto b (complete_lines bytes))) ++ cond v (incomplete bytes) (cond (is_empty (complete_lines bytes)) (b ∷ bytes) (incomplete bytes))
     by true e ls is again = let feed : b ≡ 10 = grind (arith, nat_tests) in ap (λ (x : ℕ). x ∷ bytes) feed ∙ ap (λ (xs : List ℕ). 10 ∷ xs) again
-    by false e [] is again = ap (λ (ks : List (List ℕ)). text_of_lines (onto b ks) ++ cond (is_empty ks) (b ∷ bytes) (incomplete bytes)) (sym is)
+    by false e [] is again = ap (λ (ks : List (List ℕ)). text_of_lines (line_onto b ks) ++ cond (is_empty ks) (b ∷ bytes) (incomplete bytes)) (sym is)
     by false e (l ∷ ls) is again =
         ap (λ (xs : List ℕ). b ∷ xs) (again ∙ ap (λ (ks : List (List ℕ)). text_of_lines ks ++ incomplete bytes) is)
-        ∙ ap (λ (ks : List (List ℕ)). text_of_lines (onto b ks) ++ cond (is_empty ks) (b ∷ bytes) (incomplete bytes)) (sym is)
+        ∙ ap (λ (ks : List (List ℕ)). text_of_lines (line_onto b ks) ++ cond (is_empty ks) (b ∷ bytes) (incomplete bytes)) (sym is)
 
 no_feed : (b : ℕ) → ¬ (b ≡ 10) → nat_eq b 10 ≡ false
 no_feed b other = false_from_ne_true (nat_eq b 10) (λ e. other (grind (arith, nat_tests)))
@@ -29,7 +29,7 @@ first_line [] rest free = (refl, refl)
 first_line (b ∷ line) rest free =
     let again = first_line line rest free.1 in
     let other = no_feed b free.0 in (
-      ap (λ (v : Bool). cond v ([] ∷ complete_lines (with_feed line ++ rest)) (onto b (complete_lines (with_feed line ++ rest)))) other ∙ ap (onto b) again.0,
+      ap (λ (v : Bool). cond v ([] ∷ complete_lines (with_feed line ++ rest)) (line_onto b (complete_lines (with_feed line ++ rest)))) other ∙ ap (line_onto b) again.0,
       ap (λ (v : Bool). cond v (incomplete (with_feed line ++ rest)) (cond (is_empty (complete_lines (with_feed line ++ rest))) (b ∷ (with_feed line ++ rest)) (incomplete (with_feed line ++ rest)))) other
           ∙ (ap (λ (ks : List (List ℕ)). cond (is_empty ks) (b ∷ (with_feed line ++ rest)) (incomplete (with_feed line ++ rest))) again.0 ∙ again.1),
     )
@@ -45,7 +45,7 @@ pub free_lines : (bytes : List ℕ) → AllByRecursion IsLineFeedFree (complete_
 free_lines [] = tt
 free_lines (b ∷ bytes) = by (nat_eq b 10) refl (complete_lines bytes) (free_lines bytes)
   where
-    by : (v : Bool) → nat_eq b 10 ≡ v → (ls : List (List ℕ)) → AllByRecursion IsLineFeedFree ls → AllByRecursion IsLineFeedFree (cond v ([] ∷ ls) (onto b ls))
+    by : (v : Bool) → nat_eq b 10 ≡ v → (ls : List (List ℕ)) → AllByRecursion IsLineFeedFree ls → AllByRecursion IsLineFeedFree (cond v ([] ∷ ls) (line_onto b ls))
     by true e ls free = (tt, free)
     by false e [] free = tt
     by false e (l ∷ ls) free = (((λ feed. (let is : nat_eq b 10 ≡ true = grind (arith, nat_tests) in (let wrong : ◌≡◌ {A = Bool} true false = sym is ∙ e in cc))), free.0), free.1)

@@ -17,14 +17,14 @@ use Rattle.mcs_system.specs.Plain.{Name, Default, Item, Not}
 use Rattle.mcs_cnf.specs.Entailments.{Entailment}
 use Rattle.mcs_evidence.specs.Defaults.{Absence, Unsupported, Blocked, Verdict, Fails, Applied, Ungrounded, Extension, defaults_of, numbered_default, all_defaults, negated_justs, defaults_at}
 use Rattle.mcs_spelling.specs.Parts.{AreTellable, defaults_text, spaced}
-use Rattle.mcs_spelling.specs.Words.{after, step_of, guarded}
+use Rattle.mcs_spelling.specs.Words.{after_prefix, step_of, guarded}
 use Rattle.mcs_spelling.proofs.NumberTexts.{bound}
 use Rattle.mcs_proof_text.specs.Lines.{Line, SetLine, line_text}
 use Rattle.mcs_proof_text.specs.Answers.{entailment_lines, all_entailment_lines, absence_lines, verdict_lines, set_lines}
-use Rattle.mcs_proof_text.specs.Shapes.{IsYes, IsNo, IsEither, AreMany, IsDefaultNumber, IsAbsenceOf, just_count, IsAppliedShape, IsExtensionShape, IsVerdict, AreVerdicts}
-use Rattle.mcs_proof_lines.specs.Walks.{At, Reading, ◌>>=◌, head_of, line_at, taken_at, advanced, fault_at, made, many_at, each_at, number_after, no_at, yes_at, entailment_at, absence_at, absence_of_place}
+use Rattle.mcs_proof_text.specs.Shapes.{IsYes, IsNo, IsEither, AreMany, IsDefaultNumber, IsAbsenceOf, just_count, IsAppliedShape, IsExtensionShape, IsDefaultVerdict, AreVerdicts}
+use Rattle.mcs_proof_lines.specs.Walks.{At, Reading, ◌>>=◌, head_line, line_at, taken_at, advanced, fault_at, mapped_reading, many_at, each_at, number_after, no_at, yes_at, entailment_at, absence_at, absence_of_place}
 use Rattle.mcs_proof_lines.specs.Verdicts.{Terms, all_places, defaults_of_line, order_of, just_total, extension_at, applied_at, ungrounded_at, or_extension, or_ungrounded, or_applied, verdict_at, set_at, sets_from, verdicts_at}
-use Rattle.mcs_proof_lines.specs.Readings.{here, Stops, Anything, Reads, ReadsLine, one_line, Image, AreBoth, both_lines, AllStop, IsEitherOf, Begin, each_lines, IsUpTo}
+use Rattle.mcs_proof_lines.specs.Readings.{here, Stops, Anything, ReadsLines, ReadsLine, one_line, Image, AreBoth, both_lines, AllStop, IsEitherOf, Begin, each_lines, IsAtMost}
 use Rattle.mcs_proof_lines.proofs.Readings.{picked, reads_line, reads_same}
 use Rattle.mcs_proof_lines.proofs.ReadingSequences.{both, paired, reads_made, reads_both, both_stop, chosen_at, reads_chosen}
 use Rattle.mcs_proof_lines.proofs.ReadingLists.{read_onto, each_stop, reads_each}
@@ -74,20 +74,20 @@ module _ (names : List Name) (few : length names ≤ 64) (tells : AreTellable na
   abbrev no_lines : List Entailment → List (List ℕ)
   no_lines = told names all_entailment_lines
 
-  several_no : (n : ℕ) → Reads (AreMany (IsNo names) n) no_lines Stops (many_at (no_at names) n)
+  several_no : (n : ℕ) → ReadsLines (AreMany (IsNo names) n) no_lines Stops (many_at (no_at names) n)
   several_no n = reads_several names few tells (IsNo names) (no_at names) (reads_no names few tells) (no_begins names few tells) (some_no names few tells) n
 
-  several_yes : (n : ℕ) → Reads (AreMany IsYes n) no_lines Stops (many_at yes_at n)
+  several_yes : (n : ℕ) → ReadsLines (AreMany IsYes n) no_lines Stops (many_at yes_at n)
   several_yes n = reads_several names few tells IsYes yes_at (reads_yes names few tells) (yes_begins names few tells) (some_yes names few tells) n
 
-  several_either : (n : ℕ) → Reads (AreMany (IsEither names) n) no_lines Stops (many_at (entailment_at names) n)
+  several_either : (n : ℕ) → ReadsLines (AreMany (IsEither names) n) no_lines Stops (many_at (entailment_at names) n)
   several_either n = reads_several names few tells (IsEither names) (entailment_at names) (reads_either names few tells) (either_begins names few tells) (some_either names few tells) n
 
   -- ---- a default that applies
   abbrev IsPre : Entailment × List Entailment → Type 0
   IsPre pj = IsYes pj.0
 
-  applied_rest : (n : ℕ) → Reads (AreBoth IsYes (λ pre. AreMany (IsNo names) (slice_index justs (n - 1)))) (both_lines (told names entailment_lines) (λ pre. no_lines)) Stops (λ at. both (λ pre. many_at (no_at names) (slice_index justs (n - 1))) (yes_at at))
+  applied_rest : (n : ℕ) → ReadsLines (AreBoth IsYes (λ pre. AreMany (IsNo names) (slice_index justs (n - 1)))) (both_lines (told names entailment_lines) (λ pre. no_lines)) Stops (λ at. both (λ pre. many_at (no_at names) (slice_index justs (n - 1))) (yes_at at))
   applied_rest n = reads_both IsYes _ Stops yes_at (λ pre. AreMany (IsNo names) (slice_index justs (n - 1))) (λ pre. no_lines) Stops (λ pre. many_at (no_at names) (slice_index justs (n - 1)))
       (reads_yes names few tells) (λ pre is. several_no (slice_index justs (n - 1))) (λ pre is. some_many (IsNo names) (some_no names few tells) (slice_index justs (n - 1)))
       (λ pre es more is are end. all_stop names (IsNo names) (no_begins names few tells) (slice_index justs (n - 1)) es more are end)
@@ -96,19 +96,19 @@ module _ (names : List Name) (few : length names ≤ 64) (tells : AreTellable na
   as_applied npj = Applied npj.0 npj.1.0 npj.1.1
 
   abbrev IsAppliedParts : Verdict → Type 0
-  IsAppliedParts = Image as_applied (AreBoth (IsUpTo (length justs)) (λ n. AreBoth IsYes (λ pre. AreMany (IsNo names) (slice_index justs (n - 1)))))
+  IsAppliedParts = Image as_applied (AreBoth (IsAtMost (length justs)) (λ n. AreBoth IsYes (λ pre. AreMany (IsNo names) (slice_index justs (n - 1)))))
 
   abbrev read_applied : At → Reading Verdict
-  read_applied at = made as_applied (both (λ n mid. both (λ pre. many_at (no_at names) (slice_index justs (n - 1))) (yes_at mid)) (picked (number_after (codes "applied ") (length justs)) at))
+  read_applied at = mapped_reading as_applied (both (λ n mid. both (λ pre. many_at (no_at names) (slice_index justs (n - 1))) (yes_at mid)) (picked (number_after (codes "applied ") (length justs)) at))
 
   applied_told : (npj : ℕ × (Entailment × List Entailment)) → both_lines (one_line (λ n. codes "applied " ++ decimal n)) (λ n. both_lines (told names entailment_lines) (λ pre. no_lines)) npj ≡ told names verdict_lines (as_applied npj)
   unfolding line_text
   applied_told npj = ap (λ (ls : List (List ℕ)). (codes "applied " ++ decimal npj.0) ∷ ls) (sym (map-append (line_text names) (entailment_lines npj.1.0) (all_entailment_lines npj.1.1)))
 
-  reads_applied : Reads IsAppliedParts (told names verdict_lines) Stops read_applied
+  reads_applied : ReadsLines IsAppliedParts (told names verdict_lines) Stops read_applied
   reads_applied =
-      let line = reads_line (IsUpTo (length justs)) (λ n. codes "applied " ++ decimal n) (number_after (codes "applied ") (length justs)) (number_after_line (codes "applied ") (length justs)) in
-      let pair = reads_both (IsUpTo (length justs)) _ Anything (picked (number_after (codes "applied ") (length justs))) (λ n. AreBoth IsYes (λ pre. AreMany (IsNo names) (slice_index justs (n - 1)))) (λ n. both_lines (told names entailment_lines) (λ pre. no_lines)) Stops
+      let line = reads_line (IsAtMost (length justs)) (λ n. codes "applied " ++ decimal n) (number_after (codes "applied ") (length justs)) (number_after_line (codes "applied ") (length justs)) in
+      let pair = reads_both (IsAtMost (length justs)) _ Anything (picked (number_after (codes "applied ") (length justs))) (λ n. AreBoth IsYes (λ pre. AreMany (IsNo names) (slice_index justs (n - 1)))) (λ n. both_lines (told names entailment_lines) (λ pre. no_lines)) Stops
       (λ n mid. both (λ pre. many_at (no_at names) (slice_index justs (n - 1))) (yes_at mid)) line (λ n is. applied_rest n)
       (λ n is. (((some_yes names few tells).0, (some_many (IsNo names) (some_no names few tells) (slice_index justs (n - 1))).0), ((some_yes names few tells).1, (some_many (IsNo names) (some_no names few tells) (slice_index justs (n - 1))).1))) (λ n pj more is known end. tt) in
       reads_made _ _ Stops _ as_applied (told names verdict_lines) pair (λ npj is. applied_told npj)
@@ -125,7 +125,7 @@ module _ (names : List Name) (few : length names ≤ 64) (tells : AreTellable na
     IsUngroundedParts = Image as_ungrounded (AreBoth (λ closed. Within closed (all_defaults items)) (λ closed. AreMany (IsNo names) (size (minus set closed))))
 
     abbrev read_ungrounded : At → Reading Verdict
-    read_ungrounded at = made as_ungrounded (both (λ closed. many_at (no_at names) (size (minus set closed))) (picked ungrounded_of at))
+    read_ungrounded at = mapped_reading as_ungrounded (both (λ closed. many_at (no_at names) (size (minus set closed))) (picked ungrounded_of at))
 
     ungrounded_line : ReadsLine (λ closed. Within closed (all_defaults items)) (λ closed. codes "ungrounded " ++ defaults_text closed) ungrounded_of
     ungrounded_line = defaults_line items justs (counted_justs items justs justs_are) few_defaults terms refl refl (codes "ungrounded ")
@@ -134,7 +134,7 @@ module _ (names : List Name) (few : length names ≤ 64) (tells : AreTellable na
     unfolding line_text
     ungrounded_told ce = refl
 
-    reads_ungrounded : Reads IsUngroundedParts (told names verdict_lines) Stops read_ungrounded
+    reads_ungrounded : ReadsLines IsUngroundedParts (told names verdict_lines) Stops read_ungrounded
     reads_ungrounded =
         let line = reads_line (λ closed. Within closed (all_defaults items)) (λ closed. codes "ungrounded " ++ defaults_text closed) ungrounded_of ungrounded_line in
         let pair = reads_both (λ closed. Within closed (all_defaults items)) _ Anything (picked ungrounded_of) (λ closed. AreMany (IsNo names) (size (minus set closed))) (λ closed. no_lines) Stops (λ closed. many_at (no_at names) (size (minus set closed)))
@@ -168,7 +168,7 @@ module _ (names : List Name) (few : length names ≤ 64) (tells : AreTellable na
     outside_known : AllByRecursion (λ k. k < length justs) outside_places
     outside_known = members_all_below (minus (all_places terms) set) (length justs) places_below
 
-    reads_outside : Reads (AllZip IsOutside outside_places) (each_lines (λ k. told names absence_lines) outside_places) Stops (each_at (absence_of_place names justs) outside_places)
+    reads_outside : ReadsLines (AllZip IsOutside outside_places) (each_lines (λ k. told names absence_lines) outside_places) Stops (each_at (absence_of_place names justs) outside_places)
     reads_outside = reads_each IsOutside (λ k. told names absence_lines) (absence_of_place names justs) (λ k. k < length justs)
         (λ k known. reads_absence names few tells items justs justs_are few_defaults (Some (k + 1))) (λ k. absence_begins names (IsOutside k)) some_outside outside_places outside_known
 
@@ -198,7 +198,7 @@ module _ (names : List Name) (few : length names ≤ 64) (tells : AreTellable na
     some_shown : (es : List Entailment) × AreMany (IsEither names) beliefs es
     some_shown = some_many (IsEither names) (some_either names few tells) beliefs
 
-    reads_others : Reads AreOthers other_lines Stops (λ at. both (λ out. many_at (entailment_at names) beliefs) (each_at (absence_of_place names justs) outside_places at))
+    reads_others : ReadsLines AreOthers other_lines Stops (λ at. both (λ out. many_at (entailment_at names) beliefs) (each_at (absence_of_place names justs) outside_places at))
     reads_others = reads_both (AllZip IsOutside outside_places) outside_lines Stops (each_at (absence_of_place names justs) outside_places) (λ out. AreMany (IsEither names) beliefs) (λ out. no_lines) Stops (λ out. many_at (entailment_at names) beliefs)
         reads_outside (λ out is. several_either beliefs) (λ out is. some_shown) (λ out es more is are end. all_stop names (IsEither names) (either_begins names few tells) beliefs es more are end)
 
@@ -217,7 +217,7 @@ module _ (names : List Name) (few : length names ≤ 64) (tells : AreTellable na
     some_others : (x : List Absence × List Entailment) × AreOthers x
     some_others = ((some_outsides.0, some_shown.0), (some_outsides.1, some_shown.1))
 
-    reads_justs : Reads AreJusts just_lines Stops read_justs
+    reads_justs : ReadsLines AreJusts just_lines Stops read_justs
     reads_justs = reads_both (AreMany (IsNo names) total) no_lines Stops (many_at (no_at names) total) (λ js. AreOthers) (λ js. other_lines) Stops (λ js mid. both (λ out. many_at (entailment_at names) beliefs) (each_at (absence_of_place names justs) outside_places mid))
         (several_no total) (λ js is. reads_others) (λ js is. some_others) (λ js x more is are end. others_stop x more are end)
 
@@ -236,7 +236,7 @@ module _ (names : List Name) (few : length names ≤ 64) (tells : AreTellable na
     abbrev read_pres : List ℕ → At → Reading Tail
     read_pres order at = both (λ pres. read_justs) (many_at yes_at (length order) at)
 
-    reads_pres : (order : List ℕ) → Reads (ArePres order) (pre_lines order) Stops (read_pres order)
+    reads_pres : (order : List ℕ) → ReadsLines (ArePres order) (pre_lines order) Stops (read_pres order)
     reads_pres order = reads_both (AreMany IsYes (length order)) no_lines Stops (many_at yes_at (length order)) (λ pres. AreJusts) (λ pres. just_lines) Stops (λ pres. read_justs)
         (several_yes (length order)) (λ pres is. reads_justs) (λ pres is. some_justs) (λ pres x more is are end. justs_stop x more are end)
 
@@ -247,10 +247,10 @@ module _ (names : List Name) (few : length names ≤ 64) (tells : AreTellable na
     extension_of = order_of (length justs)
 
     abbrev IsExtensionParts : Verdict → Type 0
-    IsExtensionParts = Image as_extension (AreBoth (AllByRecursion (IsUpTo (length justs))) ArePres)
+    IsExtensionParts = Image as_extension (AreBoth (AllByRecursion (IsAtMost (length justs))) ArePres)
 
     abbrev read_extension : At → Reading Verdict
-    read_extension at = made as_extension (both read_pres (picked extension_of at))
+    read_extension at = mapped_reading as_extension (both read_pres (picked extension_of at))
 
     out_told : (ks : List ℕ) (as' : List Absence) → AllZip IsOutside ks as' → each_lines (λ k. told names absence_lines) ks as' ≡ told names (flat_map absence_lines) as'
     out_told [] [] are = refl
@@ -258,7 +258,7 @@ module _ (names : List Name) (few : length names ≤ 64) (tells : AreTellable na
     out_told (k ∷ ks) [] are = absurd are
     out_told (k ∷ ks) (a ∷ as') are = ap (λ (ls : List (List ℕ)). told names absence_lines a ++ ls) (out_told ks as' are.1) ∙ sym (map-append (line_text names) (absence_lines a) (flat_map absence_lines as'))
 
-    extension_told : (ot : List ℕ × Tail) → AreBoth (AllByRecursion (IsUpTo (length justs))) ArePres ot
+    extension_told : (ot : List ℕ × Tail) → AreBoth (AllByRecursion (IsAtMost (length justs))) ArePres ot
         → both_lines (one_line (λ order. codes "extension" ++ spaced (map decimal order))) pre_lines ot ≡ told names verdict_lines (as_extension ot)
     unfolding line_text
     extension_told (order, (pres, (js, (out, shown)))) is =
@@ -269,10 +269,10 @@ module _ (names : List Name) (few : length names ≤ 64) (tells : AreTellable na
         let e2 : no_lines pres ++ (no_lines js ++ (outside_lines out ++ no_lines shown)) ≡ map lt (all pres ++ (all js ++ (flat_map absence_lines out ++ all shown))) = ap (λ (ls : List (List ℕ)). no_lines pres ++ ls) e3 ∙ sym (map-append lt (all pres) (all js ++ (flat_map absence_lines out ++ all shown))) in
         ap (λ (ls : List (List ℕ)). (codes "extension" ++ spaced (map decimal order)) ∷ ls) e2
 
-    reads_extension : Reads IsExtensionParts (told names verdict_lines) Stops read_extension
+    reads_extension : ReadsLines IsExtensionParts (told names verdict_lines) Stops read_extension
     reads_extension =
-        let line = reads_line (AllByRecursion (IsUpTo (length justs))) (λ order. codes "extension" ++ spaced (map decimal order)) extension_of (order_line (length justs)) in
-        let pair = reads_both (AllByRecursion (IsUpTo (length justs))) _ Anything (picked extension_of) ArePres pre_lines Stops read_pres line (λ order is. reads_pres order) (λ order is. some_pres order) (λ order x more is are end. tt) in
+        let line = reads_line (AllByRecursion (IsAtMost (length justs))) (λ order. codes "extension" ++ spaced (map decimal order)) extension_of (order_line (length justs)) in
+        let pair = reads_both (AllByRecursion (IsAtMost (length justs))) _ Anything (picked extension_of) ArePres pre_lines Stops read_pres line (λ order is. reads_pres order) (λ order is. some_pres order) (λ order x more is are end. tt) in
         reads_made _ _ Stops _ as_extension (told names verdict_lines) pair extension_told
 
     -- ---- a default that does not apply
@@ -280,9 +280,9 @@ module _ (names : List Name) (few : length names ≤ 64) (tells : AreTellable na
     IsFailing = Image Fails (IsAbsenceFor names few tells items justs justs_are few_defaults None)
 
     abbrev read_failing : At → Reading Verdict
-    read_failing at = made Fails (absence_at names justs None at)
+    read_failing at = mapped_reading Fails (absence_at names justs None at)
 
-    reads_failing : Reads IsFailing (told names verdict_lines) Stops read_failing
+    reads_failing : ReadsLines IsFailing (told names verdict_lines) Stops read_failing
     reads_failing = reads_made _ (told names absence_lines) Stops (absence_at names justs None) Fails (told names verdict_lines) (reads_absence names few tells items justs justs_are few_defaults None) (λ a is. refl)
 
     -- ---- which of these the line asks for
@@ -295,56 +295,56 @@ module _ (names : List Name) (few : length names ≤ 64) (tells : AreTellable na
     abbrev test_extension : Option (List ℕ) → Bool
     test_extension o = is_some (option_and_then extension_of o)
 
-    first_line : (test : Option (List ℕ) → Bool) (v w : Verdict) (rest : List (List ℕ)) → v ≡ w → test (head_of (told names verdict_lines v ++ rest)) ≡ test (head_of (told names verdict_lines w ++ rest))
-    first_line test v w rest is = ap (λ (u : Verdict). test (head_of (told names verdict_lines u ++ rest))) is
+    first_line : (test : Option (List ℕ) → Bool) (v w : Verdict) (rest : List (List ℕ)) → v ≡ w → test (head_line (told names verdict_lines v ++ rest)) ≡ test (head_line (told names verdict_lines w ++ rest))
+    first_line test v w rest is = ap (λ (u : Verdict). test (head_line (told names verdict_lines u ++ rest))) is
 
-    says_applied : (v : Verdict) (rest : List (List ℕ)) → IsAppliedParts v → test_applied (head_of (told names verdict_lines v ++ rest)) ≡ true
+    says_applied : (v : Verdict) (rest : List (List ℕ)) → IsAppliedParts v → test_applied (head_line (told names verdict_lines v ++ rest)) ≡ true
     unfolding line_text
     says_applied v rest (npj, is, known) = first_line test_applied v (as_applied npj) rest is ∙ ap is_some ((number_after_line (codes "applied ") (length justs)).complete npj.0 known.0)
 
-    says_ungrounded : (v : Verdict) (rest : List (List ℕ)) → IsUngroundedParts v → test_ungrounded (head_of (told names verdict_lines v ++ rest)) ≡ true
+    says_ungrounded : (v : Verdict) (rest : List (List ℕ)) → IsUngroundedParts v → test_ungrounded (head_line (told names verdict_lines v ++ rest)) ≡ true
     unfolding line_text
     says_ungrounded v rest (ce, is, known) = first_line test_ungrounded v (as_ungrounded ce) rest is ∙ ap is_some (ungrounded_line.complete ce.0 known.0)
 
-    says_extension : (v : Verdict) (rest : List (List ℕ)) → IsExtensionParts v → test_extension (head_of (told names verdict_lines v ++ rest)) ≡ true
+    says_extension : (v : Verdict) (rest : List (List ℕ)) → IsExtensionParts v → test_extension (head_line (told names verdict_lines v ++ rest)) ≡ true
     unfolding line_text
     says_extension v rest (ot, is, known) = first_line test_extension v (as_extension ot) rest is ∙ ap is_some ((order_line (length justs)).complete ot.0 known.0)
 
-    fails_extension : (a : Absence) (rest : List (List ℕ)) → test_extension (head_of (told names verdict_lines (Fails a) ++ rest)) ≡ false
-    unfolding line_text order_of after
+    fails_extension : (a : Absence) (rest : List (List ℕ)) → test_extension (head_line (told names verdict_lines (Fails a) ++ rest)) ≡ false
+    unfolding line_text order_of after_prefix
     fails_extension (Unsupported n e) rest = refl
     fails_extension (Blocked n j e) rest = refl
 
-    no_extension : (v : Verdict) (rest : List (List ℕ)) → IsFailing v → test_extension (head_of (told names verdict_lines v ++ rest)) ≡ false
+    no_extension : (v : Verdict) (rest : List (List ℕ)) → IsFailing v → test_extension (head_line (told names verdict_lines v ++ rest)) ≡ false
     no_extension v rest (a, is, known) = first_line test_extension v (Fails a) rest is ∙ fails_extension a rest
 
-    fails_ungrounded : (a : Absence) (rest : List (List ℕ)) → test_ungrounded (head_of (told names verdict_lines (Fails a) ++ rest)) ≡ false
-    unfolding line_text defaults_of_line after
+    fails_ungrounded : (a : Absence) (rest : List (List ℕ)) → test_ungrounded (head_line (told names verdict_lines (Fails a) ++ rest)) ≡ false
+    unfolding line_text defaults_of_line after_prefix
     fails_ungrounded (Unsupported n e) rest = refl
     fails_ungrounded (Blocked n j e) rest = refl
 
-    extension_ungrounded : (ot : List ℕ × Tail) (rest : List (List ℕ)) → test_ungrounded (head_of (told names verdict_lines (as_extension ot) ++ rest)) ≡ false
-    unfolding line_text defaults_of_line after
+    extension_ungrounded : (ot : List ℕ × Tail) (rest : List (List ℕ)) → test_ungrounded (head_line (told names verdict_lines (as_extension ot) ++ rest)) ≡ false
+    unfolding line_text defaults_of_line after_prefix
     extension_ungrounded ot rest = refl
 
-    no_ungrounded : (v : Verdict) (rest : List (List ℕ)) → IsEitherOf IsExtensionParts IsFailing v → test_ungrounded (head_of (told names verdict_lines v ++ rest)) ≡ false
+    no_ungrounded : (v : Verdict) (rest : List (List ℕ)) → IsEitherOf IsExtensionParts IsFailing v → test_ungrounded (head_line (told names verdict_lines v ++ rest)) ≡ false
     no_ungrounded v rest (inl (ot, is, known)) = first_line test_ungrounded v (as_extension ot) rest is ∙ extension_ungrounded ot rest
     no_ungrounded v rest (inr (a, is, known)) = first_line test_ungrounded v (Fails a) rest is ∙ fails_ungrounded a rest
 
-    fails_applied : (a : Absence) (rest : List (List ℕ)) → test_applied (head_of (told names verdict_lines (Fails a) ++ rest)) ≡ false
-    unfolding line_text number_after after
+    fails_applied : (a : Absence) (rest : List (List ℕ)) → test_applied (head_line (told names verdict_lines (Fails a) ++ rest)) ≡ false
+    unfolding line_text number_after after_prefix
     fails_applied (Unsupported n e) rest = refl
     fails_applied (Blocked n j e) rest = refl
 
-    extension_applied : (ot : List ℕ × Tail) (rest : List (List ℕ)) → test_applied (head_of (told names verdict_lines (as_extension ot) ++ rest)) ≡ false
-    unfolding line_text number_after after
+    extension_applied : (ot : List ℕ × Tail) (rest : List (List ℕ)) → test_applied (head_line (told names verdict_lines (as_extension ot) ++ rest)) ≡ false
+    unfolding line_text number_after after_prefix
     extension_applied ot rest = refl
 
-    ungrounded_applied : (ce : ℕ × List Entailment) (rest : List (List ℕ)) → test_applied (head_of (told names verdict_lines (as_ungrounded ce) ++ rest)) ≡ false
-    unfolding line_text number_after after
+    ungrounded_applied : (ce : ℕ × List Entailment) (rest : List (List ℕ)) → test_applied (head_line (told names verdict_lines (as_ungrounded ce) ++ rest)) ≡ false
+    unfolding line_text number_after after_prefix
     ungrounded_applied ce rest = refl
 
-    no_applied : (v : Verdict) (rest : List (List ℕ)) → IsEitherOf IsUngroundedParts (IsEitherOf IsExtensionParts IsFailing) v → test_applied (head_of (told names verdict_lines v ++ rest)) ≡ false
+    no_applied : (v : Verdict) (rest : List (List ℕ)) → IsEitherOf IsUngroundedParts (IsEitherOf IsExtensionParts IsFailing) v → test_applied (head_line (told names verdict_lines v ++ rest)) ≡ false
     no_applied v rest (inl (ce, is, known)) = first_line test_applied v (as_ungrounded ce) rest is ∙ ungrounded_applied ce rest
     no_applied v rest (inr (inl (ot, is, known))) = first_line test_applied v (as_extension ot) rest is ∙ extension_applied ot rest
     no_applied v rest (inr (inr (a, is, known))) = first_line test_applied v (Fails a) rest is ∙ fails_applied a rest
@@ -359,56 +359,56 @@ module _ (names : List Name) (few : length names ≤ 64) (tells : AreTellable na
     abbrev any_verdict : At → Reading Verdict
     any_verdict = chosen_at test_applied read_applied or_others
 
-    reads_any : Reads (IsEitherOf IsAppliedParts (IsEitherOf IsUngroundedParts (IsEitherOf IsExtensionParts IsFailing))) (told names verdict_lines) Stops any_verdict
+    reads_any : ReadsLines (IsEitherOf IsAppliedParts (IsEitherOf IsUngroundedParts (IsEitherOf IsExtensionParts IsFailing))) (told names verdict_lines) Stops any_verdict
     reads_any =
         let failing = reads_chosen IsExtensionParts IsFailing (told names verdict_lines) Stops read_extension read_failing test_extension reads_extension reads_failing says_extension no_extension in
         let others = reads_chosen IsUngroundedParts (IsEitherOf IsExtensionParts IsFailing) (told names verdict_lines) Stops read_ungrounded or_failing test_ungrounded reads_ungrounded failing says_ungrounded no_ungrounded in
         reads_chosen IsAppliedParts (IsEitherOf IsUngroundedParts (IsEitherOf IsExtensionParts IsFailing)) (told names verdict_lines) Stops read_applied or_others test_applied reads_applied others says_applied no_applied
 
     -- as the code is told
-    chained : {A B C : Type 0} (f : A × B → C) (q : At → Reading B) (r : Reading A) → made f (both (λ x. q) r) ≡ (r >>= λ x. made (λ y. f (x.0, y)) (q x.1))
+    chained : {A B C : Type 0} (f : A × B → C) (q : At → Reading B) (r : Reading A) → mapped_reading f (both (λ x. q) r) ≡ (r >>= λ x. mapped_reading (λ y. f (x.0, y)) (q x.1))
     chained f q (Ok x) = made_paired f x.0 (q x.1)
     chained f q (Err n) = refl
 
-    applied_same : (n : ℕ) (mid : At) → made as_applied (paired n (both (λ pre. many_at (no_at names) (slice_index justs (n - 1))) (yes_at mid))) ≡ applied_at terms n mid
+    applied_same : (n : ℕ) (mid : At) → mapped_reading as_applied (paired n (both (λ pre. many_at (no_at names) (slice_index justs (n - 1))) (yes_at mid))) ≡ applied_at terms n mid
     unfolding applied_at
     applied_same n mid = made_paired as_applied n (both (λ pre. many_at (no_at names) (slice_index justs (n - 1))) (yes_at mid))
         ∙ chained (λ pj. Applied n pj.0 pj.1) (many_at (no_at names) (slice_index justs (n - 1))) (yes_at mid)
 
-    ungrounded_same : (closed : ℕ) (mid : At) → made as_ungrounded (paired closed (many_at (no_at names) (size (minus set closed)) mid)) ≡ ungrounded_at terms set closed mid
+    ungrounded_same : (closed : ℕ) (mid : At) → mapped_reading as_ungrounded (paired closed (many_at (no_at names) (size (minus set closed)) mid)) ≡ ungrounded_at terms set closed mid
     unfolding ungrounded_at
     ungrounded_same closed mid = made_paired as_ungrounded closed (many_at (no_at names) (size (minus set closed)) mid)
 
-    extension_same : (order : List ℕ) (mid : At) → made as_extension (paired order (read_pres order mid)) ≡ extension_at terms set order mid
+    extension_same : (order : List ℕ) (mid : At) → mapped_reading as_extension (paired order (read_pres order mid)) ≡ extension_at terms set order mid
     unfolding extension_at
     extension_same order mid = made_paired as_extension order (read_pres order mid) ∙ by1 (many_at yes_at (length order) mid)
       where
         ext : Tail → Verdict
         ext t = Extension order t.0 t.1.0 t.1.1.0 t.1.1.1
 
-        by3 : (pres js : List Entailment) (r : Reading (List Absence)) → made (λ y. Extension order pres js y.0 y.1) (both (λ out. many_at (entailment_at names) beliefs) r)
+        by3 : (pres js : List Entailment) (r : Reading (List Absence)) → mapped_reading (λ y. Extension order pres js y.0 y.1) (both (λ out. many_at (entailment_at names) beliefs) r)
             ≡ (r >>= λ outside. many_at (entailment_at names) beliefs outside.1 >>= λ outputs. Ok (Extension order pres js outside.0 outputs.0, outputs.1))
         by3 pres js r = chained (λ y. Extension order pres js y.0 y.1) (many_at (entailment_at names) beliefs) r
 
-        by2 : (pres : List Entailment) (r : Reading (List Entailment)) → made (λ y. Extension order pres y.0 y.1.0 y.1.1) (both (λ js mid. both (λ out. many_at (entailment_at names) beliefs) (each_at (absence_of_place names justs) outside_places mid)) r)
+        by2 : (pres : List Entailment) (r : Reading (List Entailment)) → mapped_reading (λ y. Extension order pres y.0 y.1.0 y.1.1) (both (λ js mid. both (λ out. many_at (entailment_at names) beliefs) (each_at (absence_of_place names justs) outside_places mid)) r)
             ≡ (r >>= λ js. each_at (absence_of_place names justs) outside_places js.1 >>= λ outside. many_at (entailment_at names) beliefs outside.1 >>= λ outputs. Ok (Extension order pres js.0 outside.0 outputs.0, outputs.1))
         by2 pres (Ok x) = made_paired (λ y. Extension order pres y.0 y.1.0 y.1.1) x.0 (both (λ out. many_at (entailment_at names) beliefs) (each_at (absence_of_place names justs) outside_places x.1)) ∙ by3 pres x.0 (each_at (absence_of_place names justs) outside_places x.1)
         by2 pres (Err n) = refl
 
-        by1 : (r : Reading (List Entailment)) → made (λ t. as_extension (order, t)) (both (λ pres. read_justs) r)
+        by1 : (r : Reading (List Entailment)) → mapped_reading (λ t. as_extension (order, t)) (both (λ pres. read_justs) r)
             ≡ (r >>= λ pres. many_at (no_at names) total pres.1 >>= λ js. each_at (absence_of_place names justs) outside_places js.1 >>= λ outside. many_at (entailment_at names) beliefs outside.1 >>= λ outputs. Ok (Extension order pres.0 js.0 outside.0 outputs.0, outputs.1))
         by1 (Ok x) = made_paired (λ t. as_extension (order, t)) x.0 (read_justs x.1) ∙ by2 x.0 (many_at (no_at names) total x.1)
         by1 (Err n) = refl
 
-    by_extension : (at : At) (o : Option (List ℕ)) → cond (is_some o) (made as_extension (both read_pres (taken_at at o))) (read_failing at) ≡ or_extension terms set at o
+    by_extension : (at : At) (o : Option (List ℕ)) → cond (is_some o) (mapped_reading as_extension (both read_pres (taken_at at o))) (read_failing at) ≡ or_extension terms set at o
     by_extension at None = refl
     by_extension at (Some order) = extension_same order (advanced at)
 
-    by_ungrounded : (at : At) (o : Option ℕ) → cond (is_some o) (made as_ungrounded (both (λ closed. many_at (no_at names) (size (minus set closed))) (taken_at at o))) (or_failing at) ≡ or_ungrounded terms set at o
+    by_ungrounded : (at : At) (o : Option ℕ) → cond (is_some o) (mapped_reading as_ungrounded (both (λ closed. many_at (no_at names) (size (minus set closed))) (taken_at at o))) (or_failing at) ≡ or_ungrounded terms set at o
     by_ungrounded at None = by_extension at (line_at extension_of at)
     by_ungrounded at (Some closed) = ungrounded_same closed (advanced at)
 
-    by_applied : (at : At) (o : Option ℕ) → cond (is_some o) (made as_applied (both (λ n mid. both (λ pre. many_at (no_at names) (slice_index justs (n - 1))) (yes_at mid)) (taken_at at o))) (or_others at) ≡ or_applied terms set at o
+    by_applied : (at : At) (o : Option ℕ) → cond (is_some o) (mapped_reading as_applied (both (λ n mid. both (λ pre. many_at (no_at names) (slice_index justs (n - 1))) (yes_at mid)) (taken_at at o))) (or_others at) ≡ or_applied terms set at o
     by_applied at None = by_ungrounded at (line_at ungrounded_of at)
     by_applied at (Some n) = applied_same n (advanced at)
 
@@ -417,7 +417,7 @@ module _ (names : List Name) (few : length names ≤ 64) (tells : AreTellable na
     verdict_same at = by_applied at (line_at (number_after (codes "applied ") (length justs)) at)
 
     -- in its words
-    to_applied : (n : ℕ) (pre : Entailment) (js : List Entailment) → IsUpTo (length justs) n → IsYes pre → AreMany (IsNo names) (slice_index justs (n - 1)) js → IsAppliedShape names items n pre js
+    to_applied : (n : ℕ) (pre : Entailment) (js : List Entailment) → IsAtMost (length justs) n → IsYes pre → AreMany (IsNo names) (slice_index justs (n - 1)) js → IsAppliedShape names items n pre js
     to_applied n pre js (small, low) follows are =
         let some = small.0 in
         let c = counted_justs items justs justs_are in
@@ -425,7 +425,7 @@ module _ (names : List Name) (few : length names ≤ 64) (tells : AreTellable na
         let (d, there) = slice_get_below (defaults_of items) (n - 1) (omega (arith, some, most, c)) in
         record { default = d; is_it = numbered items n some ∙ there; supported = follows; allowed = subst (λ (m : ℕ). AreMany (IsNo names) m js) (just_at (n - 1) d there) are }
 
-    from_applied : (n : ℕ) (pre : Entailment) (js : List Entailment) → IsAppliedShape names items n pre js → IsUpTo (length justs) n × (IsYes pre × AreMany (IsNo names) (slice_index justs (n - 1)) js)
+    from_applied : (n : ℕ) (pre : Entailment) (js : List Entailment) → IsAppliedShape names items n pre js → IsAtMost (length justs) n × (IsYes pre × AreMany (IsNo names) (slice_index justs (n - 1)) js)
     from_applied n pre js h =
         let some : 0 < n = from_some n h.default h.is_it in
         let there : slice_get (defaults_of items) (n - 1) ≡ Some h.default = sym (numbered items n some) ∙ h.is_it in
@@ -464,10 +464,10 @@ module _ (names : List Name) (few : length names ≤ 64) (tells : AreTellable na
           ap (just_total justs) (members-width set (length (defaults_of items)) small)
           ∙ total_is justs set 0 (defaults_of items) (λ j d e. (let here : 0 + j ≡ j = omega arith in ap (slice_index justs) here ∙ just_at j d e))
 
-      to_number : (n : ℕ) → IsUpTo (length justs) n → IsDefaultNumber items n
+      to_number : (n : ℕ) → IsAtMost (length justs) n → IsDefaultNumber items n
       to_number n (small, low) = let c = counted_justs items justs justs_are in let most : n ≤ length justs = grind (arith, nat_tests) in (small.0, omega (arith, most, c))
 
-      from_number : (n : ℕ) → IsDefaultNumber items n → IsUpTo (length justs) n
+      from_number : (n : ℕ) → IsDefaultNumber items n → IsAtMost (length justs) n
       from_number n (some, most) = let c = counted_justs items justs justs_are in let low : n ≤ length justs = omega (arith, most, c) in ((some, omega (arith, low, few_defaults)), (grind (arith, nat_tests)))
 
       to_outside : (k : ℕ) (a : Absence) → IsOutside k a → IsAbsenceOf names items k a
@@ -488,9 +488,9 @@ module _ (names : List Name) (few : length names ≤ 64) (tells : AreTellable na
       from_outsides (k ∷ ks) [] are = absurd are
       from_outsides (k ∷ ks) (a ∷ as') are = (from_outside k a are.0, from_outsides ks as' are.1)
 
-      to_extension : (order : List ℕ) (t : Tail) → AllByRecursion (IsUpTo (length justs)) order → ArePres order t → IsExtensionShape names items beliefs set order t.0 t.1.0 t.1.1.0 t.1.1.1
+      to_extension : (order : List ℕ) (t : Tail) → AllByRecursion (IsAtMost (length justs)) order → ArePres order t → IsExtensionShape names items beliefs set order t.0 t.1.0 t.1.1.0 t.1.1.1
       to_extension order t numbers are = record {
-        numbers = all_weaker (IsUpTo (length justs)) (IsDefaultNumber items) to_number order numbers;
+        numbers = all_weaker (IsAtMost (length justs)) (IsDefaultNumber items) to_number order numbers;
         grounded = are.0;
         allowed = subst (λ (m : ℕ). AreMany (IsNo names) m t.1.0) total_same are.1.0;
         complete = subst (λ (s : ℕ). AllZip (IsAbsenceOf names items) (members (minus s set)) t.1.1.0) all_same (to_outsides outside_places t.1.1.0 are.1.1.0);
@@ -498,16 +498,16 @@ module _ (names : List Name) (few : length names ≤ 64) (tells : AreTellable na
       }
 
       from_extension : (order : List ℕ) (pres js : List Entailment) (out : List Absence) (shown : List Entailment) → IsExtensionShape names items beliefs set order pres js out shown
-          → AllByRecursion (IsUpTo (length justs)) order × ArePres order (pres, (js, (out, shown)))
+          → AllByRecursion (IsAtMost (length justs)) order × ArePres order (pres, (js, (out, shown)))
       from_extension order pres js out shown h =
           let complete : AllZip (IsAbsenceOf names items) outside_places out = subst (λ (s : ℕ). AllZip (IsAbsenceOf names items) (members (minus s set)) out) (sym all_same) h.complete in
-          (all_weaker (IsDefaultNumber items) (IsUpTo (length justs)) from_number order h.numbers, (h.grounded, (subst (λ (m : ℕ). AreMany (IsNo names) m js) (sym total_same) h.allowed, (from_outsides outside_places out complete, h.shown))))
+          (all_weaker (IsDefaultNumber items) (IsAtMost (length justs)) from_number order h.numbers, (h.grounded, (subst (λ (m : ℕ). AreMany (IsNo names) m js) (sym total_same) h.allowed, (from_outsides outside_places out complete, h.shown))))
 
       abbrev Parts : Verdict → Type 0
       Parts = IsEitherOf IsAppliedParts (IsEitherOf IsUngroundedParts (IsEitherOf IsExtensionParts IsFailing))
 
       abbrev Kind : Verdict → Type 0
-      Kind = IsVerdict names items beliefs set
+      Kind = IsDefaultVerdict names items beliefs set
 
       to_verdict : (v : Verdict) → Parts v → Kind v
       to_verdict v (inl (npj, is, known)) = subst Kind (sym is) (to_applied npj.0 npj.1.0 npj.1.1 known.0 known.1.0 known.1.1)
@@ -521,7 +521,7 @@ module _ (names : List Name) (few : length names ≤ 64) (tells : AreTellable na
       from_verdict (Ungrounded closed pres) is = inr (inl ((closed, pres), refl, (is.part, is.unsupported)))
       from_verdict (Extension order pres js out shown) is = inr (inr (inl ((order, (pres, (js, (out, shown)))), refl, from_extension order pres js out shown is)))
 
-      reads_verdict : Reads Kind (told names verdict_lines) Stops (verdict_at terms set)
+      reads_verdict : ReadsLines Kind (told names verdict_lines) Stops (verdict_at terms set)
       reads_verdict = reads_same Parts Kind _ (told names verdict_lines) Stops any_verdict (verdict_at terms set) reads_any to_verdict from_verdict (λ v is. refl) verdict_same
 
       some_verdict : (v : Verdict) × Kind v
@@ -556,24 +556,24 @@ module _ (names : List Name) (few : length names ≤ 64) (tells : AreTellable na
       unfolding line_text
       set_told uv = refl
 
-      second_same : (r : Reading Verdict) → made as_second (paired tt r) ≡ r
+      second_same : (r : Reading Verdict) → mapped_reading as_second (paired tt r) ≡ r
       second_same (Ok r) = refl
       second_same (Err n) = refl
 
-      by_same : (at : At) (b : Bool) → made as_second (both (λ u. verdict_at terms set) (taken_at at (guarded b tt))) ≡ cond b (verdict_at terms set (advanced at)) (fault_at at)
+      by_same : (at : At) (b : Bool) → mapped_reading as_second (both (λ u. verdict_at terms set) (taken_at at (guarded b tt))) ≡ cond b (verdict_at terms set (advanced at)) (fault_at at)
       by_same at true = second_same (verdict_at terms set (advanced at))
       by_same at false = refl
 
-      by_named : (at : At) (o : Option ℕ) → made as_second (both (λ u. verdict_at terms set) (taken_at at (option_and_then (λ s. guarded (nat_eq set s) tt) o))) ≡ cond (option_map_or (nat_eq set) o false) (verdict_at terms set (advanced at)) (fault_at at)
+      by_named : (at : At) (o : Option ℕ) → mapped_reading as_second (both (λ u. verdict_at terms set) (taken_at at (option_and_then (λ s. guarded (nat_eq set s) tt) o))) ≡ cond (option_map_or (nat_eq set) o false) (verdict_at terms set (advanced at)) (fault_at at)
       by_named at None = refl
       by_named at (Some s) = by_same at (nat_eq set s)
 
-      set_same : (n : ℕ) (rest : List (List ℕ)) (tail : List ℕ) → made as_second (both (λ u. verdict_at terms set) (picked mark (here n rest tail))) ≡ set_at terms set (here n rest tail)
+      set_same : (n : ℕ) (rest : List (List ℕ)) (tail : List ℕ) → mapped_reading as_second (both (λ u. verdict_at terms set) (picked mark (here n rest tail))) ≡ set_at terms set (here n rest tail)
       unfolding set_at
       set_same n [] tail = refl
       set_same n (line ∷ rest) tail = by_named (here n (line ∷ rest) tail) (set_of_line line)
 
-      pub reads_set : Reads Kind (told names one_set_lines) Stops (set_at terms set)
+      pub reads_set : ReadsLines Kind (told names one_set_lines) Stops (set_at terms set)
       reads_set =
           let pair = reads_both (λ u. Unit {0}) _ Anything (picked mark) (λ u. Kind) (λ u. told names verdict_lines) Stops (λ u. verdict_at terms set) (reads_line (λ u. Unit {0}) (λ u. codes "set " ++ defaults_text set) mark mark_line)
           (λ u is. reads_verdict) (λ u is. some_verdict) (λ u v more is known end. tt) in
@@ -584,8 +584,8 @@ module _ (names : List Name) (few : length names ≤ 64) (tells : AreTellable na
   below_within : (set : ℕ) → set < 2 ^ length justs → Within set (all_defaults items)
   below_within set small = set_within items justs (counted_justs items justs justs_are) few_defaults set (λ k member. members_below set (length justs) k small member)
 
-  set_begins : (k : ℕ) → Begin (IsVerdict names items beliefs k) (told names (λ v. SetLine k ∷ verdict_lines v))
-  unfolding line_text step_of after
+  set_begins : (k : ℕ) → Begin (IsDefaultVerdict names items beliefs k) (told names (λ v. SetLine k ∷ verdict_lines v))
+  unfolding line_text step_of after_prefix
   set_begins k v rest is = refl
 
   zip_to : (R : ℕ → Verdict → Type 0) (k n : ℕ) (vs : List Verdict) → AllZip R (range_with_len k n) vs → (length vs ≡ n) × ((j : ℕ) (v : Verdict) → slice_get vs j ≡ Some v → R (k + j) v)
@@ -608,7 +608,7 @@ module _ (names : List Name) (few : length names ≤ 64) (tells : AreTellable na
   )
 
   abbrev IsOf : ℕ → Verdict → Type 0
-  IsOf = IsVerdict names items beliefs
+  IsOf = IsDefaultVerdict names items beliefs
 
   abbrev each_set : ℕ → Verdict → List (List ℕ)
   each_set k = told names (λ v. SetLine k ∷ verdict_lines v)
@@ -652,7 +652,7 @@ module _ (names : List Name) (few : length names ≤ 64) (tells : AreTellable na
       subst (λ (ls : List (List ℕ)). Stops (ls ++ more)) (sets_told 0 (2 ^ length justs) vs (from_verdicts vs are))
       (each_stop IsOf each_set (set_at terms) (λ j. j < 2 ^ length justs) (λ k known. reads_set k (below_within k known)) set_begins (λ k known. some_verdict k (below_within k known)) (range_with_len 0 (2 ^ length justs)) vs more (from_verdicts vs are) end)
 
-  pub reads_verdicts : Reads (AreVerdicts names items beliefs) (told names (set_lines 0)) Stops (verdicts_at terms)
+  pub reads_verdicts : ReadsLines (AreVerdicts names items beliefs) (told names (set_lines 0)) Stops (verdicts_at terms)
   unfolding verdicts_at
   reads_verdicts = reads_same (AllZip IsOf (range_with_len 0 (2 ^ length justs))) (AreVerdicts names items beliefs) _ (told names (set_lines 0)) Stops (each_at (set_at terms) (range_with_len 0 (2 ^ length justs))) (verdicts_at terms)
       (reads_each IsOf each_set (set_at terms) (λ j. j < 2 ^ length justs) (λ k known. reads_set k (below_within k known)) set_begins (λ k known. some_verdict k (below_within k known)) (range_with_len 0 (2 ^ length justs)) all_below)

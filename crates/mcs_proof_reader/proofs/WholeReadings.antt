@@ -8,17 +8,17 @@ use Rattle.std.specs.List.{AllByRecursion, flat_map}
 use Rattle.mcs_base.specs.Listings.{IsAscending}
 use Rattle.mcs_base.proofs.Each.{all_append, all_weaker, all_left}
 use Rattle.mcs_system.specs.Plain.{System}
-use Rattle.mcs_system.specs.Naming.{IsNamed}
+use Rattle.mcs_system.specs.Naming.{IsSystemNamed}
 use Rattle.mcs_system.specs.Faults.{IsValid}
 use Rattle.mcs_spelling.specs.Lines.{complete_lines, incomplete}
-use Rattle.mcs_spelling.specs.Words.{after}
+use Rattle.mcs_spelling.specs.Words.{after_prefix}
 use Rattle.mcs_spelling.proofs.LiteralTexts.{after_front, after_is}
 use Rattle.mcs_proof_text.specs.Lines.{text_of_lines}
 use Rattle.mcs_proof_text.specs.Answers.{Answer, answer_lines}
 use Rattle.mcs_proof_text.specs.Shapes.{IsInShape}
-use Rattle.mcs_proof_text.specs.Reports.{IsLineFeedFree, IsEndLine, IsListingPart, AnswerBefore, report_lines, IsReport, SpellsReport, Begins, IsFirstFault}
-use Rattle.mcs_proof_lines.specs.Walks.{At, Reading, ◌>>=◌, head_of, expect_at}
-use Rattle.mcs_proof_lines.specs.Readings.{here, Anything, IsBegun, Reads, one_line, AreBoth, both_lines, word_of, itself, ComesNext}
+use Rattle.mcs_proof_text.specs.Reports.{IsLineFeedFree, IsEndLine, IsListingPart, AnswerBefore, report_lines, IsReport, SpellsReport, BeginsReport, IsFirstLineFault}
+use Rattle.mcs_proof_lines.specs.Walks.{At, Reading, ◌>>=◌, head_line, expect_at}
+use Rattle.mcs_proof_lines.specs.Readings.{here, Anything, BeginsLines, ReadsLines, one_line, AreBoth, both_lines, word_of, itself, ComesNext}
 use Rattle.mcs_proof_lines.proofs.Readings.{reads_line, picked, same_reading}
 use Rattle.mcs_proof_lines.proofs.ReadingSequences.{both, reads_both}
 use Rattle.mcs_proof_lines.proofs.WordReadings.{word_line, reads_word}
@@ -30,7 +30,7 @@ use Rattle.mcs_proof_reader.proofs.TextLines.{lines_text, text_lines, free_lines
 use Rattle.mcs_proof_text.specs.Reports.{feedless}
 use Rattle.mcs_proof_text.proofs.FreeTexts.{told_free}
 use Rattle.mcs_proof_reader.proofs.FreeAnswers.{answers_free}
-use Rattle.mcs_proof_reader.specs.Readings.{IsPart, cleaned}
+use Rattle.mcs_proof_reader.specs.Readings.{AreListingLines, cleaned}
 
 abbrev end_word : List ℕ
 end_word = codes "end of proof"
@@ -96,21 +96,21 @@ module _ (m : System) where
 
 -- ---- listings
 end_told : (line : List ℕ) → ends_listing line ≡ true → IsEndLine line
-end_told line e = by (after (codes "end: ") line) refl e
+end_told line e = by (after_prefix (codes "end: ") line) refl e
   where
-    by : (o : Option (List ℕ)) → after (codes "end: ") line ≡ o → is_some o ≡ true → IsEndLine line
+    by : (o : Option (List ℕ)) → after_prefix (codes "end: ") line ≡ o → is_some o ≡ true → IsEndLine line
     by None is e = absurd (true≢false (sym e))
     by (Some rest) is e = (rest, after_is (codes "end: ") line rest is)
 
 told_end : (line : List ℕ) → IsEndLine line → ends_listing line ≡ true
 told_end line (rest, is) = ap ends_listing is ∙ ap is_some (after_front (codes "end: ") rest)
 
-to_listing : (ls : List (List ℕ)) → AllByRecursion IsLineFeedFree ls → IsPart ls → IsListingPart ls
+to_listing : (ls : List (List ℕ)) → AllByRecursion IsLineFeedFree ls → AreListingLines ls → IsListingPart ls
 to_listing [] free is = absurd is
 to_listing (l ∷ ls) free (inl (e, none)) = (free.0, inl (end_told l e, none))
 to_listing (l ∷ ls) free (inr (e, part)) = (free.0, inr ((λ end. true≢false (sym (told_end l end) ∙ e)), to_listing ls free.1 part))
 
-from_listing : (ls : List (List ℕ)) → IsListingPart ls → IsPart ls × AllByRecursion IsLineFeedFree ls
+from_listing : (ls : List (List ℕ)) → IsListingPart ls → AreListingLines ls × AllByRecursion IsLineFeedFree ls
 from_listing [] is = absurd is
 from_listing (l ∷ ls) (free, inl (end, none)) = (inl (told_end l end, none), (free, subst (AllByRecursion IsLineFeedFree) (sym none) tt))
 from_listing (l ∷ ls) (free, inr (other, part)) = let (is, rest) = from_listing ls part in (inr (false_from_ne_true (ends_listing l) (λ e. other (end_told l e)), is), (free, rest))
@@ -128,7 +128,7 @@ cleaned_free line = by (feedless line) refl (ends_listing line)
     by false e false = tt
 
 cleaned_ends : (line : List ℕ) → ends_listing (cleaned line) ≡ ends_listing line
-unfolding after
+unfolding after_prefix
 cleaned_ends line = by (feedless line) (ends_listing line) refl
   where
     by : (v w : Bool) → ends_listing line ≡ w → ends_listing (cond v line (cond w (codes "end: ") [])) ≡ w
@@ -139,7 +139,7 @@ cleaned_ends line = by (feedless line) (ends_listing line) refl
 cleaned_same : (line : List ℕ) → IsLineFeedFree line → cleaned line ≡ line
 cleaned_same line free = ap (λ (v : Bool). cond v line (cond (ends_listing line) (codes "end: ") [])) (told_feedless line free)
 
-cleaned_part : (ls : List (List ℕ)) → IsPart ls → IsListingPart (map cleaned ls)
+cleaned_part : (ls : List (List ℕ)) → AreListingLines ls → IsListingPart (map cleaned ls)
 cleaned_part [] is = absurd is
 cleaned_part (l ∷ ls) (inl (e, none)) = (cleaned_free l, inl (end_told (cleaned l) (cleaned_ends l ∙ e), ap (map cleaned) none))
 cleaned_part (l ∷ ls) (inr (e, part)) = (cleaned_free l, inr ((λ end. true≢false (sym (told_end (cleaned l) end) ∙ (cleaned_ends l ∙ e))), cleaned_part ls part))
@@ -156,7 +156,7 @@ front_kept (l ∷ ls) rest (f ∷ front) more free e =
     (more', ap (λ (x : List ℕ). x ∷ (map cleaned ls ++ rest)) same ∙ ap (λ (xs : List (List ℕ)). f ∷ xs) is)
 
 -- ---- the whole
-module _ (m : System) (valid : IsValid m) (named : IsNamed m) where
+module _ (m : System) (valid : IsValid m) (named : IsSystemNamed m) where
   abbrev IsProof : ℕ → Proof → Type 0
   IsProof n = AreBoth (AreAnswersAfter m n None) (λ as' u. Unit {0})
 
@@ -166,7 +166,7 @@ module _ (m : System) (valid : IsValid m) (named : IsNamed m) where
   ends_it : (more : List (List ℕ)) → ComesNext end_word (end_word ∷ more)
   ends_it more = refl
 
-  reads_proof : (n : ℕ) → Reads (IsProof n) proof_lines Anything (read_proof m n)
+  reads_proof : (n : ℕ) → ReadsLines (IsProof n) proof_lines Anything (read_proof m n)
   reads_proof n = reads_both (AreAnswersAfter m n None) (flat_map (answer_lines m)) (ComesNext end_word) (answers_at m n None) (λ as' u. Unit {0}) (λ as'. one_line (λ (u : Unit {0}). end_word)) Anything (λ as'. picked (word_of end_word))
       (reads_answers m valid named n None) (λ as' is. reads_line (λ (u : Unit {0}). Unit {0}) (λ u. end_word) (word_of end_word) (word_line end_word)) (λ as' is. (tt, tt)) (λ as' u more is known end. ends_it more)
 
@@ -174,13 +174,13 @@ module _ (m : System) (valid : IsValid m) (named : IsNamed m) where
   some_proof n = (([], tt), (tt, tt))
 
   abbrev IsWhole : ℕ → List (List ℕ) × Proof → Type 0
-  IsWhole n = AreBoth IsPart (λ ls. IsProof n)
+  IsWhole n = AreBoth AreListingLines (λ ls. IsProof n)
 
   abbrev whole_lines : List (List ℕ) × Proof → List (List ℕ)
   whole_lines = both_lines itself (λ ls p. codes "proof" ∷ proof_lines p)
 
-  pub reads_whole : (n : ℕ) → Reads (IsWhole n) whole_lines Anything (read_whole m n)
-  reads_whole n = reads_both IsPart itself Anything listing_at (λ ls. IsProof n) (λ ls p. codes "proof" ∷ proof_lines p) Anything (λ ls mid. expect_at (codes "proof") mid >>= read_proof m n)
+  pub reads_whole : (n : ℕ) → ReadsLines (IsWhole n) whole_lines Anything (read_whole m n)
+  reads_whole n = reads_both AreListingLines itself Anything listing_at (λ ls. IsProof n) (λ ls p. codes "proof" ∷ proof_lines p) Anything (λ ls mid. expect_at (codes "proof") mid >>= read_proof m n)
       reads_listing (λ ls is. reads_word (codes "proof") (read_proof m n) (IsProof n) proof_lines Anything (reads_proof n) (some_proof n)) (λ ls is. some_proof n) (λ ls p more is known end. tt)
 
   -- a report is read
@@ -262,10 +262,10 @@ module _ (m : System) (valid : IsValid m) (named : IsNamed m) where
     any_report : IsReport m (codes "end: " ∷ []) []
     any_report = record { listing_part = (told_free (codes "end: ") refl, inl (([], refl), refl)); shapes = tt; ascending = tt }
 
-    begins_none : Begins m []
+    begins_none : BeginsReport m []
     begins_none = record { listing = codes "end: " ∷ []; answers = []; report = any_report; rest = report_lines m (codes "end: " ∷ []) []; front = refl }
 
-    begun_report : (n k : ℕ) → IsBegun (IsWhole n) whole_lines (take k lines) → Begins m (take k lines)
+    begun_report : (n k : ℕ) → BeginsLines (IsWhole n) whole_lines (take k lines) → BeginsReport m (take k lines)
     begun_report n k b =
         let listing = b.value.0 in
         let as' = b.value.1.0 in
@@ -275,12 +275,12 @@ module _ (m : System) (valid : IsValid m) (named : IsNamed m) where
         let (shapes, up, later) = to_answers m n None as' b.is.1.0 in
         record { listing = map cleaned listing; answers = as'; report = record { listing_part = cleaned_part listing b.is.0; shapes = shapes; ascending = up }; rest = more; front = is }
 
-    before_stuck : (n k : ℕ) → (0 < k → IsBegun (IsWhole n) whole_lines (take k lines)) → Begins m (take k lines)
+    before_stuck : (n k : ℕ) → (0 < k → BeginsLines (IsWhole n) whole_lines (take k lines)) → BeginsReport m (take k lines)
     before_stuck n zero begun = begins_none
     before_stuck n (suc k) begun = begun_report n (suc k) (begun (omega arith))
 
     -- a line that is read wrongly is the first out of place
-    pub fault_read : (line : ℕ) → ((n : ℕ) → length (complete_lines bytes) ≤ n → read_whole m n start ≡ Err line) → IsFirstFault m bytes line
+    pub fault_read : (line : ℕ) → ((n : ℕ) → length (complete_lines bytes) ≤ n → read_whole m n start ≡ Err line) → IsFirstLineFault m bytes line
     fault_read line told =
         let first = told (length lines) (omega arith) in
         let (k, s) = (reads_whole (length lines)).fault start line first in
@@ -291,11 +291,11 @@ module _ (m : System) (valid : IsValid m) (named : IsNamed m) where
           none = λ listing as' h. (let (now, read, none, none') = spelled_read (length lines) listing as' (omega arith) h in let wrong : ◌≡◌ {A = Reading (List (List ℕ) × Proof)} (Ok ((listing, (as', tt)), now)) (Err line) = sym read ∙ first in cc);
           from_one = omega (arith, number);
           within = omega (arith, number, within);
-          before = subst (λ (j : ℕ). Begins m (take j lines)) (sym place) (before_stuck (length lines) k s.begun);
+          before = subst (λ (j : ℕ). BeginsReport m (take j lines)) (sym place) (before_stuck (length lines) k s.begun);
           there = cases k number within;
         }
       where
-        refused : (k : ℕ) → line ≡ 0 + k + 1 → k < length lines → ¬ Begins m (take line lines)
+        refused : (k : ℕ) → line ≡ 0 + k + 1 → k < length lines → ¬ BeginsReport m (take line lines)
         refused k number less = λ b.
             let n = length lines + length b.answers in
             let failed : read_whole m n start ≡ Err (0 + k + 1) = told n (omega arith) ∙ ap (λ (j : ℕ). (let r : Reading (List (List ℕ) × Proof) = Err j in r)) number in
@@ -310,15 +310,15 @@ module _ (m : System) (valid : IsValid m) (named : IsNamed m) where
             let wrong : ◌≡◌ {A = Reading (List (List ℕ) × Proof)} (Ok ((b.listing, (b.answers, tt)), here (0 + length (whole_lines (b.listing, (b.answers, tt)))) [] [])) (Err (0 + k + 1)) = sym read ∙ again in
             (let none : ⊥ = cc in none)
 
-        cases : (k : ℕ) → line ≡ 0 + k + 1 → k ≤ length lines → (line ≡ length lines + 1) ⊎ (¬ Begins m (take line lines))
+        cases : (k : ℕ) → line ≡ 0 + k + 1 → k ≤ length lines → (line ≡ length lines + 1) ⊎ (¬ BeginsReport m (take line lines))
         cases k number within = by (nat_lt k (length lines)) refl
           where
-            by : (v : Bool) → nat_lt k (length lines) ≡ v → (line ≡ length lines + 1) ⊎ (¬ Begins m (take line lines))
+            by : (v : Bool) → nat_lt k (length lines) ≡ v → (line ≡ length lines + 1) ⊎ (¬ BeginsReport m (take line lines))
             by true e = inr (refused k number (grind (arith, nat_tests)))
             by false e = inl (let past : length lines ≤ k = grind (arith, nat_tests) in omega (arith, number, within, past))
 
     -- what follows a report is out of place
-    pub more_read : (now : At) (listing : List (List ℕ)) (p : Proof) → ((n : ℕ) → length (complete_lines bytes) ≤ n → read_whole m n start ≡ Ok ((listing, p), now)) → ¬ ((now.rest ≡ []) × (incomplete bytes ≡ [])) → IsFirstFault m bytes (now.taken + 1)
+    pub more_read : (now : At) (listing : List (List ℕ)) (p : Proof) → ((n : ℕ) → length (complete_lines bytes) ≤ n → read_whole m n start ≡ Ok ((listing, p), now)) → ¬ ((now.rest ≡ []) × (incomplete bytes ≡ [])) → IsFirstLineFault m bytes (now.taken + 1)
     more_read now listing p told more =
         let first = told (length lines) (omega arith) in
         let (report, whole, taken) = read_is_report (length lines) listing p now first in
@@ -333,12 +333,12 @@ module _ (m : System) (valid : IsValid m) (named : IsNamed m) where
               more (ap (λ (a : At). a.rest) (sym parts.1) ∙ none, none'));
           from_one = omega arith;
           within = omega (arith, taken, long);
-          before = subst (λ (j : ℕ). Begins m (take j lines)) (sym place) (record { listing = listing; answers = p.0; report = report; rest = []; front = sym (append-nil own) ∙ ap (λ (ls : List (List ℕ)). ls ++ []) (sym front) });
+          before = subst (λ (j : ℕ). BeginsReport m (take j lines)) (sym place) (record { listing = listing; answers = p.0; report = report; rest = []; front = sym (append-nil own) ∙ ap (λ (ls : List (List ℕ)). ls ++ []) (sym front) });
           there = cases now.rest refl whole taken long;
         }
       where
         cases : (rest : List (List ℕ)) → now.rest ≡ rest → lines ≡ report_lines m listing p.0 ++ now.rest → now.taken ≡ length (report_lines m listing p.0) → length lines ≡ length (report_lines m listing p.0) + length now.rest
-            → (now.taken + 1 ≡ length lines + 1) ⊎ (¬ Begins m (take (now.taken + 1) lines))
+            → (now.taken + 1 ≡ length lines + 1) ⊎ (¬ BeginsReport m (take (now.taken + 1) lines))
         cases [] is whole taken long = inl (let none : length now.rest ≡ 0 = ap length is in omega (arith, taken, long, none))
         cases (r ∷ rest) is whole taken long = inr (λ b.
             let own = report_lines m listing p.0 in
@@ -349,7 +349,7 @@ module _ (m : System) (valid : IsValid m) (named : IsNamed m) where
             let count : now.taken + 1 ≡ length own + 1 = omega (arith, taken) in
             let front : take (now.taken + 1) lines ≡ own ++ (r ∷ []) = ap (λ (j : ℕ). take j lines) count ∙ (ap (take (length own + 1)) split ∙ take-append-add own (r ∷ rest) 1) in
             let there : other_lines ≡ own ++ (r ∷ b.rest) = b.front ∙ (ap (λ (ls : List (List ℕ)). ls ++ b.rest) front ∙ append_assoc own (r ∷ []) b.rest) in
-            let kept : read_whole m n (here 0 (own ++ (r ∷ b.rest)) []) ≡ Ok ((listing, p), here now.taken (r ∷ b.rest) []) = (reads_whole n).stable start now (listing, p) (r ∷ b.rest) [] read (ap head_of (sym is)) in
+            let kept : read_whole m n (here 0 (own ++ (r ∷ b.rest)) []) ≡ Ok ((listing, p), here now.taken (r ∷ b.rest) []) = (reads_whole n).stable start now (listing, p) (r ∷ b.rest) [] read (ap head_line (sym is)) in
             let whole_read = (reads_whole n).complete (b.listing, (b.answers, tt)) 0 [] [] (spelled_whole n b.listing b.answers (omega arith) b.report) tt in
             let same : here 0 (other_lines ++ []) [] ≡ here 0 (own ++ (r ∷ b.rest)) [] = ap (λ (ls : List (List ℕ)). here 0 ls []) (append-nil other_lines ∙ there) in
             let parts = same_reading (b.listing, (b.answers, tt)) (listing, p) (here (0 + length (whole_lines (b.listing, (b.answers, tt)))) [] []) (here now.taken (r ∷ b.rest) []) (sym whole_read ∙ (ap (read_whole m n) same ∙ kept)) in

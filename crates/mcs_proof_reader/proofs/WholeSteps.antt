@@ -4,15 +4,15 @@ use Rattle.std.proofs.lemmas.Bool.{and_parts}
 use Rattle.std.specs.Result.{IsErrAnd}
 use Rattle.std.specs.Str.{bytes_eq}
 use Rattle.mcs_system.specs.Plain.{System}
-use Rattle.mcs_system.specs.Naming.{IsNamed}
+use Rattle.mcs_system.specs.Naming.{IsSystemNamed}
 use Rattle.mcs_system.specs.Faults.{IsValid}
 use Rattle.mcs_spelling.specs.Lines.{is_empty, complete_lines, incomplete}
 use Rattle.mcs_spelling.specs.Words.{guarded}
 use Rattle.mcs_proof_text.specs.Answers.{Answer}
-use Rattle.mcs_proof_text.specs.Reports.{SpellsReport, IsFirstFault, report_lines}
+use Rattle.mcs_proof_text.specs.Reports.{SpellsReport, IsFirstLineFault, report_lines}
 use Rattle.mcs_proof_lines.specs.declared.fault.ReportFault.{ReportFault}
 use Rattle.mcs_proof_lines.specs.declared.fault.ReportFault.TheVariants as faults
-use Rattle.mcs_proof_lines.specs.Walks.{At, Reading, ◌>>=◌, Tells, is_next, fault_at, taken_at, advanced, advanced_by, expect_at}
+use Rattle.mcs_proof_lines.specs.Walks.{At, Reading, ◌>>=◌, ReturnsReading, is_next, fault_at, taken_at, advanced, advanced_by, expect_at}
 use Rattle.mcs_proof_lines.specs.Readings.{here, word_of}
 use Rattle.mcs_proof_lines.proofs.Readings.{picked}
 use Rattle.mcs_proof_lines.proofs.ReadingSequences.{both, paired}
@@ -64,7 +64,7 @@ none_there : (A : Type 0) (xs : List A) → is_empty xs ≡ true → xs ≡ []
 none_there A [] e = refl
 none_there A (x ∷ xs) e = absurd (cc)
 
-module _ (m : System) (valid : IsValid m) (named : IsNamed m) (bytes : List ℕ) where
+module _ (m : System) (valid : IsValid m) (named : IsSystemNamed m) (bytes : List ℕ) where
   abbrev start : At
   start = here 0 (complete_lines bytes) (incomplete bytes)
 
@@ -75,12 +75,12 @@ module _ (m : System) (valid : IsValid m) (named : IsNamed m) (bytes : List ℕ)
   after_listing n ls mid = expect_at (codes "proof") mid >>= read_proof m n
 
   -- the listing is wrong
-  pub no_listing : (k : ℕ) → listing_at start ≡ Err k → IsFirstFault m bytes k
+  pub no_listing : (k : ℕ) → listing_at start ≡ Err k → IsFirstLineFault m bytes k
   no_listing k e = fault_read m valid named bytes k (λ n few. ap (both (after_listing n)) e)
 
   module _ (ls : List (List ℕ)) (first : At) (listed : listing_at start ≡ Ok (ls, first)) where
     -- the line that begins the proof is wrong
-    pub no_proof : (k : ℕ) → expect_at (codes "proof") first ≡ Err k → IsFirstFault m bytes k
+    pub no_proof : (k : ℕ) → expect_at (codes "proof") first ≡ Err k → IsFirstLineFault m bytes k
     no_proof k e = fault_read m valid named bytes k (λ n few. ap (both (after_listing n)) listed ∙ ap (λ (r : Result At ℕ). paired ls (r >>= read_proof m n)) e)
 
     module _ (second : At) (begun : expect_at (codes "proof") first ≡ Ok second) where
@@ -102,7 +102,7 @@ module _ (m : System) (valid : IsValid m) (named : IsNamed m) (bytes : List ℕ)
       to_proof n = ap (both (after_listing n)) listed ∙ ap (λ (r : Result At ℕ). paired ls (r >>= read_proof m n)) begun
 
       -- an answer is wrong
-      pub no_answers : (k : ℕ) → ((n : ℕ) → length second.rest ≤ n → answers_at m n None second ≡ Err k) → IsFirstFault m bytes k
+      pub no_answers : (k : ℕ) → ((n : ℕ) → length second.rest ≤ n → answers_at m n None second ≡ Err k) → IsFirstLineFault m bytes k
       no_answers k told = fault_read m valid named bytes k (λ n few.
           (let more = enough in to_proof n ∙ ap (λ (r : Reading (List Answer)). paired ls (both (λ as'. picked (word_of end_word)) r)) (told n (omega (arith, few, more)))))
 
@@ -127,19 +127,19 @@ module _ (m : System) (valid : IsValid m) (named : IsNamed m) (bytes : List ℕ)
               let read = whole n (omega arith) in
               (spells_read m valid named bytes n ls (as', tt) last read (none_there (List ℕ) last.rest rest) (sym same_tail ∙ none_there ℕ last.tail tail), (read_is_report m valid named bytes n ls (as', tt) last read).2)
 
-          goes_past : (is_empty last.rest && is_empty last.tail) ≡ false → IsFirstFault m bytes (last.taken + 1)
+          goes_past : (is_empty last.rest && is_empty last.tail) ≡ false → IsFirstLineFault m bytes (last.taken + 1)
           goes_past e = more_read m valid named bytes last ls (as', tt) whole (λ none.
               (let there : (is_empty last.rest && is_empty last.tail) ≡ true = (let rest = none.0 in let tail : last.tail ≡ [] = same_tail ∙ none.1 in rw (rest, tail) refl) in true≢false (sym there ∙ e)))
 
         -- the end is wrong
-        pub no_end : (k : ℕ) → end_at third ≡ Err k → IsFirstFault m bytes k
+        pub no_end : (k : ℕ) → end_at third ≡ Err k → IsFirstLineFault m bytes k
         no_end k e = by (expect_at end_word third) refl e
           where
-            past : (last : At) → expect_at end_word third ≡ Ok last → (b : Bool) → (is_empty last.rest && is_empty last.tail) ≡ b → cond b (Ok last) (fault_at last) ≡ Err k → IsFirstFault m bytes k
+            past : (last : At) → expect_at end_word third ≡ Ok last → (b : Bool) → (is_empty last.rest && is_empty last.tail) ≡ b → cond b (Ok last) (fault_at last) ≡ Err k → IsFirstLineFault m bytes k
             past last closed true test e = absurd (cc)
-            past last closed false test e = let number : last.taken + 1 ≡ k = cc in subst (IsFirstFault m bytes) number (goes_past last closed test)
+            past last closed false test e = let number : last.taken + 1 ≡ k = cc in subst (IsFirstLineFault m bytes) number (goes_past last closed test)
 
-            by : (r : Result At ℕ) → expect_at end_word third ≡ r → (r >>= at_last) ≡ Err k → IsFirstFault m bytes k
+            by : (r : Result At ℕ) → expect_at end_word third ≡ r → (r >>= at_last) ≡ Err k → IsFirstLineFault m bytes k
             by (Err j) is e = let number : j ≡ k = cc in fault_read m valid named bytes k (λ n few. to_end n few ∙ (ap (λ (s : Result At ℕ). paired ls (paired as' (passed s))) is ∙ ap (λ (i : ℕ). (let s : Reading (List (List ℕ) × Proof) = Err i in s)) number))
             by (Ok last) is e = past last is (is_empty last.rest && is_empty last.tail) refl e
 
@@ -160,21 +160,21 @@ module _ (m : System) (valid : IsValid m) (named : IsNamed m) (bytes : List ℕ)
             by (Ok there) is e = ended there is (is_empty there.rest && is_empty there.tail) refl e
 
   -- a fault that the code was told
-  pub told_fault : {A : Type 0} (e : ReportFault) (r : Result A ℕ) → Tells e r → ((k : ℕ) → r ≡ Err k → IsFirstFault m bytes k) → IsReportFault m bytes e
+  pub told_fault : {A : Type 0} (e : ReportFault) (r : Result A ℕ) → ReturnsReading e r → ((k : ℕ) → r ≡ Err k → IsFirstLineFault m bytes k) → IsReportFault m bytes e
   told_fault faults.Memory r told h = tt
   told_fault (faults.Grammar k) r told h = h k told
 
   -- a fault that is handed on
-  pub fault_on : {X A : Type 0} (P : X → Type 0) (result : Result X ReportFault) (r : Result A ℕ) (e : ReportFault) → IsErrAnd result (λ d. d ≡ e) → Tells e r → ((k : ℕ) → r ≡ Err k → IsFirstFault m bytes k) → MatchResult result P (IsReportFault m bytes)
+  pub fault_on : {X A : Type 0} (P : X → Type 0) (result : Result X ReportFault) (r : Result A ℕ) (e : ReportFault) → IsErrAnd result (λ d. d ≡ e) → ReturnsReading e r → ((k : ℕ) → r ≡ Err k → IsFirstLineFault m bytes k) → MatchResult result P (IsReportFault m bytes)
   fault_on P (Ok x) r e same told h = absurd same
   fault_on P (Err d) r e same told h = subst (IsReportFault m bytes) (sym same) (told_fault e r told h)
 
   -- the same of answers, which are told for each number that is enough
   pub answers_fault : {X : Type 0} (P : X → Type 0) (ls : List (List ℕ)) (first : At) (listed : listing_at start ≡ Ok (ls, first)) (second : At) (begun : expect_at (codes "proof") first ≡ Ok second) (result : Result X ReportFault) (e : ReportFault)
-      → IsErrAnd result (λ d. d ≡ e) → ((n : ℕ) → length second.rest ≤ n → Tells e (answers_at m n None second)) → MatchResult result P (IsReportFault m bytes)
+      → IsErrAnd result (λ d. d ≡ e) → ((n : ℕ) → length second.rest ≤ n → ReturnsReading e (answers_at m n None second)) → MatchResult result P (IsReportFault m bytes)
   answers_fault P ls first listed second begun (Ok x) e same told = absurd same
   answers_fault P ls first listed second begun (Err d) e same told = subst (IsReportFault m bytes) (sym same) (by e told)
     where
-      by : (f : ReportFault) → ((n : ℕ) → length second.rest ≤ n → Tells f (answers_at m n None second)) → IsReportFault m bytes f
+      by : (f : ReportFault) → ((n : ℕ) → length second.rest ≤ n → ReturnsReading f (answers_at m n None second)) → IsReportFault m bytes f
       by faults.Memory told = tt
       by (faults.Grammar k) told = no_answers ls first listed second begun k told

@@ -10,7 +10,7 @@ use Rattle.mcs_proof_text.specs.Answers.{Answer}
 use Rattle.mcs_proof_lines.specs.Walks.{At, Reading, ◌>>=◌, fault_at, line_at, taken_at, expect_at, is_next, many_at, entailment_at}
 use Rattle.mcs_proof_lines.specs.Verdicts.{Terms, verdicts_at}
 use Rattle.mcs_proof_lines.specs.Programs.{program_at}
-use Rattle.mcs_proof_reader.specs.Questions.{ten, next_question, state_of, states_at}
+use Rattle.mcs_proof_reader.specs.Questions.{ten, next_question, state_in_words, states_at}
 
 -- ---- what a context is said to put out, and why
 abbrev pub Shown : Type 0
@@ -25,7 +25,7 @@ states_there m i at = states_at m (variables_of m i) None at
 
 unfoldable pub classical_at : System → ℕ → At → Reading Shown
 classical_at m i at = do
-  state ← taken_at at (line_at (state_of m (variables_of m i) None) at)
+  state ← taken_at at (line_at (state_in_words m (variables_of m i) None) at)
   entailments ← many_at (entailment_at (atoms_of m i)) (size (variables_of m i)) state.1
   Ok ((state.0 ∷ [], OfFormulas entailments.0), entailments.1)
 

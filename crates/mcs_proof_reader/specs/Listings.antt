@@ -1,11 +1,11 @@
 -- How the listing part of a report is read, and a report as a whole.
 use Rattle.std.specs.Prelude.{ℕ, ◌+◌, Bool, is_some, cond, List, [], ◌∷◌, codes, Ok, Err}
-use Rattle.mcs_spelling.specs.Words.{after}
+use Rattle.mcs_spelling.specs.Words.{after_prefix}
 use Rattle.mcs_proof_lines.specs.Walks.{At, Reading, ◌>>=◌}
 
 -- the line that ends the listing
 abbrev pub ends_listing : List ℕ → Bool
-ends_listing line = is_some (after (codes "end: ") line)
+ends_listing line = is_some (after_prefix (codes "end: ") line)
 
 abbrev pub listing_from : ℕ → List (List ℕ) → List ℕ → Reading (List (List ℕ))
 listing_from n [] tail = Err (n + 1)

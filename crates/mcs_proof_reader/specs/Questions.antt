@@ -8,7 +8,7 @@ use Rattle.mcs_system.specs.Plain.{Bridge, Context, System}
 use Rattle.mcs_system.specs.Imports.{rules_into}
 use Rattle.mcs_system.specs.Systems.{variables}
 use Rattle.mcs_system.specs.Texts.{belief_text}
-use Rattle.mcs_spelling.specs.Words.{after, place_of, set_of, guarded, ◌>>=◌}
+use Rattle.mcs_spelling.specs.Words.{after_prefix, place_of_byte, set_of, guarded, ◌>>=◌}
 use Rattle.mcs_proof_lines.specs.Walks.{At, everything}
 
 -- ---- the texts of rules and variables, and of the numbers from k on
@@ -37,8 +37,8 @@ rules_of_text m text i = option_and_then (λ x. guarded (nat_eq (minus x (rules_
 
 unfoldable pub question_of : System → List ℕ → Option (ℕ × ℕ)
 question_of m line = do
-  rest ← after (codes "answer ") line
-  space ← place_of 32 rest
+  rest ← after_prefix (codes "answer ") line
+  space ← place_of_byte 32 rest
   context ← context_from (take space rest) 0 m.contexts
   rules_of_text m (drop (space + 1) rest) context
 
@@ -56,15 +56,15 @@ first_of [] = None
 first_of (k ∷ ks) = Some k
 
 -- whether one state comes before the other: it has the least variable in which they differ
-unfoldable pub is_before : ℕ → ℕ → Bool
-is_before a b = option_map_or (has a) (first_of (members (bit_xor a b))) false
+unfoldable pub is_state_before : ℕ → ℕ → Bool
+is_state_before a b = option_map_or (has a) (first_of (members (bit_xor a b))) false
 
 abbrev pub state_after : Option ℕ → ℕ → Bool
-state_after last σ = option_map_or (λ before. is_before before σ) last true
+state_after last σ = option_map_or (λ before. is_state_before before σ) last true
 
 -- one that comes after the last, of the variables that are allowed
-unfoldable pub state_of : System → ℕ → Option ℕ → List ℕ → Option ℕ
-state_of m allowed last line = option_and_then (λ σ. guarded (state_after last σ) σ) (option_and_then (set_of (variable_texts m) allowed) (after (codes "state ") line))
+unfoldable pub state_in_words : System → ℕ → Option ℕ → List ℕ → Option ℕ
+state_in_words m allowed last line = option_and_then (λ σ. guarded (state_after last σ) σ) (option_and_then (set_of (variable_texts m) allowed) (after_prefix (codes "state ") line))
 
 -- the states that are next, and where the reader is then
 abbrev pub with_state : Option ℕ → (ℕ → (List ℕ × At)) → At → (List ℕ × At)
@@ -74,7 +74,7 @@ with_state (Some σ) later here = (σ ∷ (later σ).0, (later σ).1)
 abbrev pub states_from : System → ℕ → Option ℕ → ℕ → List (List ℕ) → List ℕ → (List ℕ × At)
 states_from m allowed last n [] tail = ([], record { taken = n; rest = []; tail = tail })
 states_from m allowed last n (line ∷ rest) tail =
-    with_state (state_of m allowed last line) (λ σ. states_from m allowed (Some σ) (n + 1) rest tail) (record { taken = n; rest = line ∷ rest; tail = tail })
+    with_state (state_in_words m allowed last line) (λ σ. states_from m allowed (Some σ) (n + 1) rest tail) (record { taken = n; rest = line ∷ rest; tail = tail })
 
 unfoldable pub states_at : System → ℕ → Option ℕ → At → (List ℕ × At)
 states_at m allowed last at = states_from m allowed last at.taken at.rest at.tail

@@ -1,7 +1,7 @@
 -- What the code of a reader holds, as plain data.
 use Rattle.std.specs.Prelude.{◌≡◌, ◌≤◌, length}
 use Rattle.mcs_system.specs.Plain.{System}
-use Rattle.mcs_system.specs.Naming.{IsNamed}
+use Rattle.mcs_system.specs.Naming.{IsSystemNamed}
 use Rattle.mcs_system.specs.Faults.{IsValid}
 use Rattle.mcs_asking.specs.Certificates.{plain_of}
 use Rattle.mcs_proof_text.specs.Answers.{Answer}
@@ -19,10 +19,10 @@ pub record AreTexts (m : System) (t : code_texts.Texts) : Type 0 where
   pub few_variables : length t.variables.items ≤ 64
   pub few_rules : length t.rules.items ≤ 64
   pub valid : IsValid m
-  pub named : IsNamed m
+  pub named : IsSystemNamed m
 
 abbrev pub shown_of_code : code_shown.Shown → Shown
 shown_of_code s = (s.outputs.items, plain_of s.cert)
 
-abbrev pub answer_of : code.ReportAnswer → Answer
-answer_of a = record { context = a.context; active = a.active; outputs = a.outputs.items; cert = plain_of a.cert }
+abbrev pub answer_in_report : code.ReportAnswer → Answer
+answer_in_report a = record { context = a.context; active = a.active; outputs = a.outputs.items; cert = plain_of a.cert }

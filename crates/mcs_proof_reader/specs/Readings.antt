@@ -4,9 +4,9 @@ use Rattle.mcs_proof_text.specs.Reports.{feedless}
 use Rattle.mcs_proof_reader.specs.Listings.{ends_listing}
 
 -- lines of which the last one ends a listing, and no other does
-abbrev pub IsPart : List (List ℕ) → Type 0
-IsPart [] = ⊥
-IsPart (line ∷ lines) = ((ends_listing line ≡ true) × (lines ≡ [])) ⊎ ((ends_listing line ≡ false) × IsPart lines)
+abbrev pub AreListingLines : List (List ℕ) → Type 0
+AreListingLines [] = ⊥
+AreListingLines (line ∷ lines) = ((ends_listing line ≡ true) × (lines ≡ [])) ⊎ ((ends_listing line ≡ false) × AreListingLines lines)
 
 -- without line feeds: a line that has one is left empty, or as it begins
 abbrev pub cleaned : List ℕ → List ℕ

@@ -8,7 +8,7 @@ ghost use Rattle.mcs_evidence.specs.Defaults.{defaults_of};
 ghost use Rattle.mcs_asking.specs.Certificates.{OfFormulas};
 ghost use Rattle.mcs_proof_lines.specs.Walks.{Gives};
 ghost use Rattle.mcs_proof_reader.specs.Answers.{classical_at, default_at, models_at, shown_at, answer_at};
-ghost use Rattle.mcs_proof_reader.specs.Readers.{answer_of, shown_of_code, AreTexts};
+ghost use Rattle.mcs_proof_reader.specs.Readers.{answer_in_report, shown_of_code, AreTexts};
 
 use crate::question::{next_question, next_state, take_states};
 use crate::texts::{Texts, just_counts, name_texts};
@@ -170,7 +170,7 @@ pub fn take_answer(
     lines: &mut Lines<'_>,
 ) -> Result<ReportAnswer, ReportFault>
     requires { AreTexts system.now texts.now }
-    ensures read { Gives answer_of result lines.new (answer_at system.now last lines.old) }
+    ensures read { Gives answer_in_report result lines.new (answer_at system.now last lines.old) }
     ensures line { IfOk result (λ a. a.line ≡ lines.old.taken + 1) }
     ensures shorter { IfOk result (λ a. length lines.new.rest < length lines.old.rest) }
 {

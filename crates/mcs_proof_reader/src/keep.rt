@@ -4,7 +4,7 @@ ghost use Rattle.std.specs.Prelude.{ℕ, IfOk};
 ghost use Rattle.mcs_system.specs.Plain as plain;
 ghost use Rattle.mcs_proof_text.specs.Answers.{Answer};
 ghost use Rattle.mcs_proof_text.specs.Shapes.{IsInShape};
-ghost use Rattle.mcs_proof_reader.specs.Readers.{answer_of};
+ghost use Rattle.mcs_proof_reader.specs.Readers.{answer_in_report};
 
 use crate::answer::ReportAnswer;
 use mcs_base::Memory;
@@ -27,19 +27,19 @@ pub trait Keep {
         system: &System,
         answer: ReportAnswer,
     ) -> Result<Self::Kept, Memory>
-        requires { IsInShape system.now (answer_of answer) }
-        ensures { IfOk result (λ kept. Keeps system.now (answer_of answer) answer.line kept) };
+        requires { IsInShape system.now (answer_in_report answer) }
+        ensures { IfOk result (λ kept. Keeps system.now (answer_in_report answer) answer.line kept) };
 }
 
 /// Keeps each answer unchanged.
 pub(crate) struct Whole;
 
 impl Keep for Whole {
-    ghost use Rattle.mcs_proof_reader.specs.Keeping.{IsWhole};
+    ghost use Rattle.mcs_proof_reader.specs.Keeping.{IsWholeAnswer};
 
     type Kept = ReportAnswer;
 
-    ghost Keeps = { λ _. IsWhole };
+    ghost Keeps = { λ _. IsWholeAnswer };
 
     fn keep(
         &self,

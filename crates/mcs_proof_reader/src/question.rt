@@ -3,7 +3,7 @@
 ghost use Rattle.std.specs.Prelude.{◌≡◌, ◌<◌, length, IfOk, IfSome, None};
 ghost use Rattle.mcs_system.specs.Seen.{context_of};
 ghost use Rattle.mcs_proof_lines.specs.Walks.{line_at};
-ghost use Rattle.mcs_proof_reader.specs.Questions.{context_from, rules_of_text, question_of, next_question, comes_after, state_of, state_after, states_at};
+ghost use Rattle.mcs_proof_reader.specs.Questions.{context_from, rules_of_text, question_of, next_question, comes_after, state_in_words, state_after, states_at};
 ghost use Rattle.mcs_proof_reader.specs.Readers.{AreTexts};
 
 use crate::texts::Texts;
@@ -103,7 +103,7 @@ fn follows(last: Option<Vars>, state: Vars) -> bool
 }
 
 /// The state in the next line, if it comes after the last one.
-#[tactic(auto, unfolding(crate::specs::Questions::state_of))]
+#[tactic(auto, unfolding(crate::specs::Questions::state_in_words))]
 pub(crate) fn next_state(
     system: &System,
     texts: &Texts,
@@ -112,7 +112,7 @@ pub(crate) fn next_state(
     lines: &Lines<'_>,
 ) -> Option<Vars>
     requires { AreTexts system.now texts.now }
-    ensures { result ≡ line_at (state_of system.now allowed last) lines.now }
+    ensures { result ≡ line_at (state_in_words system.now allowed last) lines.now }
 {
     let state = read_set(
         &texts.variables,

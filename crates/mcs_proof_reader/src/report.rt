@@ -1,7 +1,7 @@
 //! A whole report.
 
 ghost use Rattle.std.specs.Prelude.{◌≤◌, ℕ, None, length, map, MatchResult};
-ghost use Rattle.mcs_proof_lines.specs.Walks.{Tells, Passes};
+ghost use Rattle.mcs_proof_lines.specs.Walks.{ReturnsReading, Passes};
 ghost use Rattle.mcs_proof_reader.specs.Answers.{answers_at};
 ghost use Rattle.mcs_proof_reader.specs.Keeping.{AreReadAndKept, IsKeptReport, IsReportFault};
 ghost use Rattle.mcs_proof_reader.specs.Readers.{AreTexts};
@@ -43,7 +43,7 @@ fn keep_answers<K: Keep>(
     requires { AreTexts system.now texts.now }
     ensures { MatchResult result
         (λ kept. AreReadAndKept K.Keeps system.now lines.old lines.new kept.items)
-        (λ fault. (n : ℕ) → length lines.old.rest ≤ n → Tells fault (answers_at system.now n None lines.old)) }
+        (λ fault. (n : ℕ) → length lines.old.rest ≤ n → ReturnsReading fault (answers_at system.now n None lines.old)) }
 {
     let mut kept = Vec::new(alloc);
     let mut last = None;

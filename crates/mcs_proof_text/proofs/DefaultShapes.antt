@@ -20,7 +20,7 @@ use Rattle.mcs_evidence.specs.Defaults.{facts_of, defaults_of, numbered_default,
 use Rattle.mcs_evidence.proofs.DefaultLemmas.{by_kind}
 use Rattle.mcs_evidence.proofs.TheorySizes.{as_many, facts_size, generated_size}
 use Rattle.mcs_proof_text.specs.Answers.{entailment_lines, all_entailment_lines, absence_lines, verdict_lines, set_lines}
-use Rattle.mcs_proof_text.specs.Shapes.{IsYes, IsNo, AreMany, IsDefaultNumber, IsJustNumber, IsAbsence, number_of_absence, IsAbsenceOf, IsAppliedShape, IsUngroundedShape, IsExtensionShape, IsVerdict, AreVerdicts}
+use Rattle.mcs_proof_text.specs.Shapes.{IsYes, IsNo, AreMany, IsDefaultNumber, IsJustNumber, IsAbsence, number_of_absence, IsAbsenceOf, IsAppliedShape, IsUngroundedShape, IsExtensionShape, IsDefaultVerdict, AreVerdicts}
 use Rattle.mcs_proof_text.proofs.TraceShapes.{some_lines, lines_of_more, yes_shape, no_shape, no_shapes, either_shapes}
 
 -- the lines of a verdict are among those of all
@@ -148,7 +148,7 @@ module _ (names : List Name) (few : length names ≤ 64) (told items : List Item
         }
 
     verdict_shape : (v : Verdict) → length (verdict_lines v) ≤ 2 ^ 28 → IsAcceptedVerdict names told beliefs set v
-        → IsVerdict names items (length beliefs) set v
+        → IsDefaultVerdict names items (length beliefs) set v
     verdict_shape (Fails absence) short (k, member, absent) = (absence_shape (generated told set) (k + 1) absence (small_generated set) short absent).1
     verdict_shape (Applied number pre justs) short h = applied_shape number pre justs short h
     verdict_shape (Ungrounded closed pres) short h = ungrounded_shape closed pres h

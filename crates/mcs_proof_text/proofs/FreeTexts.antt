@@ -7,7 +7,7 @@ use Rattle.mcs_sets.specs.Sets.{members}
 use Rattle.mcs_base.proofs.Among.{among_get}
 use Rattle.mcs_base.proofs.Each.{all_append, all_weaker, all_get}
 use Rattle.mcs_system.specs.Plain.{Name, Read, Bridge, Context, System}
-use Rattle.mcs_system.specs.Naming.{IsName, IsNamedBridge, IsNamed}
+use Rattle.mcs_system.specs.Naming.{IsName, IsNamedBridge, IsSystemNamed}
 use Rattle.mcs_system.specs.Systems.{variables}
 use Rattle.mcs_system.specs.Texts.{name_of_context}
 use Rattle.mcs_text.specs.Separated.{further, separated, braced}
@@ -74,7 +74,7 @@ pub all_braced : (f : ℕ → List ℕ) → ((k : ℕ) → IsLineFeedFree (f k))
 all_braced f free ks = braced_free (map f ks) (each_free f free ks)
 
 -- ---- of a system
-module _ (m : System) (named : IsNamed m) where
+module _ (m : System) (named : IsSystemNamed m) where
   pub context_free : (i : ℕ) (o : Option Context) → slice_get m.contexts i ≡ o → IsLineFeedFree (name_of_context o)
   context_free i None e = tt
   context_free i (Some c) e = name_free c.name (context_named m named i c e)

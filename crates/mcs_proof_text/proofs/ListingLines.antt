@@ -4,7 +4,7 @@ use Rattle.std.specs.Fmt.{decimal}
 use Rattle.std.specs.List.{AllByRecursion}
 use Rattle.mcs_sets.specs.Sets.{members}
 use Rattle.mcs_system.specs.Plain.{System}
-use Rattle.mcs_system.specs.Naming.{IsNamed}
+use Rattle.mcs_system.specs.Naming.{IsSystemNamed}
 use Rattle.mcs_system.specs.Systems.{variables, applicable}
 use Rattle.mcs_diagnosis.specs.declared.diagnosis.Diagnosis as code
 use Rattle.mcs_report.specs.Listing.{heading, equilibrium_line, verdict_line}
@@ -78,7 +78,7 @@ heading_inner m =
     (told_free (codes "mcs 1: ") refl, (decimal_free (length m.contexts), (told_free (codes " contexts, ") refl, (decimal_free (length m.bridges), (told_free (codes " rules, ") refl, (decimal_free (length (variables m)), (told_free (codes " variables") refl, tt)))))))
     (λ e. omega (arith, e.0))
 
-module _ (m : System) (named : IsNamed m) where
+module _ (m : System) (named : IsSystemNamed m) where
   pub equilibrium_inner : (k σ : ℕ) → IsInnerLine (equilibrium_line m k σ)
   unfolding equilibrium_line
   equilibrium_inner k σ =

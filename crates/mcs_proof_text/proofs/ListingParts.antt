@@ -2,7 +2,7 @@
 use Rattle.std.proofs.Common.{◌≡◌, ℕ, ◌+◌, nat_lt, List, [], ◌∷◌, ◌++◌, length, inl, inr, refl, sym, ap, ◌∙◌, subst, append_assoc}
 use Rattle.std.proofs.lemmas.List.{append-nil}
 use Rattle.mcs_system.specs.Plain.{System}
-use Rattle.mcs_system.specs.Naming.{IsNamed}
+use Rattle.mcs_system.specs.Naming.{IsSystemNamed}
 use Rattle.mcs_diagnosis.specs.declared.diagnosis.Diagnosis as code
 use Rattle.mcs_diagnosis.specs.Diagnoses.{pairs_of}
 use Rattle.mcs_report.specs.Listing.{heading, equilibrium_line, equilibrium_lines, verdict_line}
@@ -26,7 +26,7 @@ more_part text rest h (lines, part, is) = (h.line ∷ lines, (h.free, inr (h.inn
 more_parts : (text texts rest : List ℕ) → IsInnerLine text → IsPart (texts ++ rest) → IsPart ((text ++ texts) ++ rest)
 more_parts text texts rest h part = subst IsPart (sym (append_assoc text texts rest)) (more_part text (texts ++ rest) h part)
 
-module _ (m : System) (named : IsNamed m) (rest : List ℕ) (part : IsPart rest) where
+module _ (m : System) (named : IsSystemNamed m) (rest : List ℕ) (part : IsPart rest) where
   after_equilibria : (k : ℕ) (states : List ℕ) → IsPart (equilibrium_lines m k states ++ rest)
   after_equilibria k [] = part
   after_equilibria k (σ ∷ states) = more_parts (equilibrium_line m k σ) (equilibrium_lines m (k + 1) states) rest (equilibrium_inner m named k σ) (after_equilibria (k + 1) states)

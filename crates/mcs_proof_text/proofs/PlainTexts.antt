@@ -8,7 +8,7 @@ use Rattle.mcs_base.proofs.Each.{all_append, all_among, all_get}
 use Rattle.mcs_base.proofs.Among.{flat_map_among, filter_among}
 use Rattle.mcs_base.proofs.WordLemmas.{name_is_word, letter_is_word_byte}
 use Rattle.mcs_system.specs.Plain.{Name, Formula, Truth, Falsity, Atom, Not, And, Or, Implies, Iff, Context, Read, Bridge, System}
-use Rattle.mcs_system.specs.Naming.{IsName, IsNamedFormula, IsNamedContext, IsNamedBridge, IsNamed}
+use Rattle.mcs_system.specs.Naming.{IsName, IsNamedFormula, IsNamedContext, IsNamedBridge, IsSystemNamed}
 use Rattle.mcs_system.specs.Systems.{occurrences, context_variables, variables}
 use Rattle.mcs_system.specs.Texts.{primary, name_of_context, belief_text}
 use Rattle.mcs_system.proofs.VariableLemmas.{firsts_among}
@@ -49,7 +49,7 @@ primary_plain (Implies f g) named = parens_plain (primary f) (codes " -> ") (pri
 primary_plain (Iff f g) named = parens_plain (primary f) (codes " <-> ") (primary g) (primary_plain f named.0) (other_plain 32 refl refl refl, (other_plain 60 refl refl refl, (other_plain 45 refl refl refl, (other_plain 62 refl refl refl, (other_plain 32 refl refl refl, tt))))) (primary_plain g named.1)
 
 -- ---- of a system
-module _ (m : System) (named : IsNamed m) where
+module _ (m : System) (named : IsSystemNamed m) where
   pub context_named : (i : ℕ) (c : Context) → slice_get m.contexts i ≡ Some c → IsName c.name
   context_named i c is = (all_get IsNamedContext m.contexts i c named.contexts is).name
 

@@ -10,12 +10,12 @@ use Rattle.mcs_system.specs.Seen.{formula_size}
 use Rattle.mcs_system.proofs.SizeLemmas.{IsSmall}
 use Rattle.mcs_trace.specs.Traces.{Inference, IsAcceptedTrace}
 use Rattle.mcs_trace.proofs.StepLemmas.{IsUpTo, IsToldStep, told_steps, some_steps}
-use Rattle.mcs_spelling.specs.Parts.{IsSmallNumber, IsStep}
+use Rattle.mcs_spelling.specs.Parts.{IsSmallNumber, IsTraceStep}
 use Rattle.mcs_cnf.specs.ClauseLists.{clause_list}
 use Rattle.mcs_cnf.specs.Entailments.{Entailment, Yes, No, with_negated, IsAcceptedEntailment}
 use Rattle.mcs_cnf.specs.Classical.{AreAcceptedEntailments}
 use Rattle.mcs_cnf.proofs.SizeLemmas.{sizes, sizes_push, few_in_list, list_is_clauses}
-use Rattle.mcs_evidence.specs.Defaults.{IsShown, IsDenied, AreDenied}
+use Rattle.mcs_evidence.specs.Defaults.{IsEntailmentShown, IsDenied, AreDenied}
 use Rattle.mcs_proof_text.specs.Lines.{StepLine}
 use Rattle.mcs_proof_text.specs.Answers.{trace_lines, entailment_lines, all_entailment_lines}
 use Rattle.mcs_proof_text.specs.Shapes.{IsTrace, IsYes, IsNo, IsEither, AreMany}
@@ -34,7 +34,7 @@ pub lines_of_steps : (steps : List Inference) → length (trace_lines steps) ≡
 lines_of_steps steps = length-map steps StepLine
 
 -- ---- traces
-small_step : (s : Inference) → IsToldStep (2 ^ 62) s → IsStep s
+small_step : (s : Inference) → IsToldStep (2 ^ 62) s → IsTraceStep s
 small_step s told =
     let small = all_weaker (IsUpTo (2 ^ 62)) IsSmallNumber (λ n is. (is.0, omega (arith, is.1))) s.chain told.numbers in
     record { clause = told.clause; some = told.some; numbers = small }
@@ -44,7 +44,7 @@ module _ (names : List Name) (few : length names ≤ 64) where
       → IsAcceptedTrace (clause_list names fs).clauses steps → IsTrace steps
   trace_shape fs steps small short (right, ends) = (
     some_steps steps ends,
-    all_weaker (IsToldStep (2 ^ 62)) IsStep small_step steps
+    all_weaker (IsToldStep (2 ^ 62)) IsTraceStep small_step steps
         (told_steps (clause_list names fs).clauses (2 ^ 62) steps (list_is_clauses names fs (omega arith)) (omega (arith, few_in_list names fs)) right),
   )
 
@@ -55,7 +55,7 @@ module _ (names : List Name) (few : length names ≤ 64) where
       trace_shape (with_negated fs g) steps (omega (arith, sizes_push fs (Not g))) (omega (arith, lines_of_steps steps)) accepted
 
   pub yes_shape : (fs : List Formula) (g : Formula) (e : Entailment) → sizes fs ≤ 2 ^ 58 → formula_size g ≤ 1000 → length (entailment_lines e) ≤ 2 ^ 28
-      → IsShown names fs g e → IsYes e
+      → IsEntailmentShown names fs g e → IsYes e
   yes_shape fs g (Yes steps) small small' short shown = negated_trace fs g steps small small' short shown.0
   yes_shape fs g (No places) small small' short shown = absurd (true≢false (sym shown.1))
 

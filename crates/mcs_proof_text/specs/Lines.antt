@@ -59,5 +59,5 @@ text_of_lines lines = flat_map with_feed lines
 abbrev pub line_with_feed : List Name → Line → List ℕ
 line_with_feed names line = with_feed (line_text names line)
 
-abbrev pub written : List Name → List Line → List ℕ
-written names lines = flat_map (line_with_feed names) lines
+abbrev pub written_lines : List Name → List Line → List ℕ
+written_lines names lines = flat_map (line_with_feed names) lines

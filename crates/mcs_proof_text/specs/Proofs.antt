@@ -14,8 +14,8 @@ use Rattle.mcs_proof_text.specs.Reports.{AnswerBefore, most_report_bytes}
 use Rattle.mcs_proof_text.specs.Shapes.{IsInShape}
 
 -- the certificate of the answer is accepted
-abbrev pub IsRight : System → Answer → Type 0
-IsRight m a = IsAccepted m a.context a.active a.outputs a.cert
+abbrev pub HasAcceptedCertificate : System → Answer → Type 0
+HasAcceptedCertificate m a = IsAccepted m a.context a.active a.outputs a.cert
 
 -- one of the answers is to this question
 abbrev pub IsAnswered : List Answer → ℕ → ℕ → Type 0
@@ -24,7 +24,7 @@ IsAnswered answers i x = (a : Answer) × IsAmong a answers × (a.context ≡ i) 
 -- answers that are right, to exactly the questions of the level, in order
 pub record AreProof (m : System) (level : ℕ) (answers : List Answer) : Type 0 where
   pub ascending : IsAscending AnswerBefore answers
-  pub right : AllByRecursion (IsRight m) answers
+  pub right : AllByRecursion (HasAcceptedCertificate m) answers
   pub questions : (i x : ℕ) → IsAnswered answers i x ↔ ((i < length m.contexts) × IsQuestionAt m level i x)
 
 -- their lines, after and before those that mark them off
@@ -35,4 +35,4 @@ proof_lines m answers = codes "proof" ∷ (flat_map (answer_lines m) answers ++ 
 -- a right answer to a question is in shape, where it has no more lines than a report may have bytes, and certificates have numbers for the justifications
 abbrev pub RightAnswersAreInShape : Type 0
 RightAnswersAreInShape = (m : System) (n : ℕ) (a : Answer) → IsValid m → n < 2 ^ 32 → SystemIsJustifiedUpTo n m → Within a.active (rules_into m a.context)
-    → length (answer_lines m a) ≤ most_report_bytes → IsRight m a → IsInShape m a
+    → length (answer_lines m a) ≤ most_report_bytes → HasAcceptedCertificate m a → IsInShape m a

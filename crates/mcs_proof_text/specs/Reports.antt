@@ -3,7 +3,7 @@ use Rattle.std.specs.Prelude.{◌≡◌, ℕ, nat_eq, Bool, true, not, ◌&&◌,
 use Rattle.std.specs.List.{AllByRecursion, flat_map}
 use Rattle.mcs_base.specs.Listings.{IsAscending}
 use Rattle.mcs_system.specs.Plain.{System}
-use Rattle.mcs_system.specs.Naming.{IsNamed}
+use Rattle.mcs_system.specs.Naming.{IsSystemNamed}
 use Rattle.mcs_report.specs.Solutions.{IsWholeListing}
 use Rattle.mcs_spelling.specs.Lines.{complete_lines}
 use Rattle.mcs_proof_text.specs.Lines.{text_of_lines}
@@ -53,7 +53,7 @@ pub record SpellsReport (m : System) (bytes : List ℕ) (listing : List (List �
 
 -- ---- faults
 -- the lines are a front of those of a report
-pub record Begins (m : System) (lines : List (List ℕ)) : Type 0 where
+pub record BeginsReport (m : System) (lines : List (List ℕ)) : Type 0 where
   pub listing : List (List ℕ)
   pub answers : List Answer
   pub report : IsReport m listing answers
@@ -61,23 +61,23 @@ pub record Begins (m : System) (lines : List (List ℕ)) : Type 0 where
   pub front : report_lines m listing answers ≡ lines ++ rest
 
 -- the line of this number, counted from 1, is out of place, and is the first: those before it begin a report; with it they do not, or there is no such line that ends
-pub record IsFirstFault (m : System) (bytes : List ℕ) (line : ℕ) : Type 0 where
+pub record IsFirstLineFault (m : System) (bytes : List ℕ) (line : ℕ) : Type 0 where
   pub none : (listing : List (List ℕ)) (answers : List Answer) → ¬ SpellsReport m bytes listing answers
   pub from_one : 0 < line
   pub within : line ≤ length (complete_lines bytes) + 1
-  pub before : Begins m (take (line - 1) (complete_lines bytes))
-  pub there : (line ≡ length (complete_lines bytes) + 1) ⊎ ¬ Begins m (take line (complete_lines bytes))
+  pub before : BeginsReport m (take (line - 1) (complete_lines bytes))
+  pub there : (line ≡ length (complete_lines bytes) + 1) ⊎ ¬ BeginsReport m (take line (complete_lines bytes))
 
 -- ---- laws
 -- the whole listing of a system whose names are names is the text of a listing part
 abbrev pub WholeListingsAreListingParts : Type 0
-WholeListingsAreListingParts = (m : System) (text : List ℕ) → IsNamed m → IsWholeListing m text
+WholeListingsAreListingParts = (m : System) (text : List ℕ) → IsSystemNamed m → IsWholeListing m text
     → (lines : List (List ℕ)) × IsListingPart lines × (text ≡ text_of_lines lines)
 
 -- a text that spells a report has no fault
 abbrev pub SpelledReportsHaveNoFault : Type 0
-SpelledReportsHaveNoFault = (m : System) (bytes : List ℕ) (l : List (List ℕ)) (as' : List Answer) (line : ℕ) → SpellsReport m bytes l as' → ¬ IsFirstFault m bytes line
+SpelledReportsHaveNoFault = (m : System) (bytes : List ℕ) (l : List (List ℕ)) (as' : List Answer) (line : ℕ) → SpellsReport m bytes l as' → ¬ IsFirstLineFault m bytes line
 
 -- a text has one first fault at most
 abbrev pub ReportsHaveOneFault : Type 0
-ReportsHaveOneFault = (m : System) (bytes : List ℕ) (j k : ℕ) → IsFirstFault m bytes j → IsFirstFault m bytes k → j ≡ k
+ReportsHaveOneFault = (m : System) (bytes : List ℕ) (j k : ℕ) → IsFirstLineFault m bytes j → IsFirstLineFault m bytes k → j ≡ k

@@ -9,7 +9,7 @@ use Rattle.mcs_system.specs.Atoms.{atoms_of}
 use Rattle.mcs_system.specs.Imports.{rules_into}
 use Rattle.mcs_system.specs.Systems.{variables_of}
 use Rattle.mcs_trace.specs.Traces.{Inference}
-use Rattle.mcs_spelling.specs.Parts.{IsStep}
+use Rattle.mcs_spelling.specs.Parts.{IsTraceStep}
 use Rattle.mcs_cnf.specs.Entailments.{Entailment, Yes, No}
 use Rattle.mcs_evidence.specs.Defaults.{Absence, Unsupported, Blocked, HasOneForEach, Verdict, Fails, Applied, Ungrounded, Extension, defaults_of, IsNumbered, defaults_in, negated_justs, all_defaults}
 use Rattle.mcs_evidence.specs.Programs.{ModelShown, ProgramShown, IsInRange}
@@ -19,7 +19,7 @@ use Rattle.mcs_proof_text.specs.Answers.{Answer}
 -- ---- traces
 -- one step or more
 abbrev pub IsTrace : List Inference → Type 0
-IsTrace steps = (¬ (steps ≡ [])) × AllByRecursion IsStep steps
+IsTrace steps = (¬ (steps ≡ [])) × AllByRecursion IsTraceStep steps
 
 -- ---- entailments, where the atoms have these names
 abbrev pub IsYes : Entailment → Type 0
@@ -84,16 +84,16 @@ pub record IsExtensionShape (names : List Name) (items : List Item) (beliefs set
   pub shown : AreMany (IsEither names) beliefs outputs
 
 -- a verdict on the set, where there are so many beliefs
-abbrev pub IsVerdict : List Name → List Item → ℕ → ℕ → Verdict → Type 0
-IsVerdict names items beliefs set (Fails absence) = IsAbsence names items absence
-IsVerdict names items beliefs set (Applied number pre justs) = IsAppliedShape names items number pre justs
-IsVerdict names items beliefs set (Ungrounded closed pres) = IsUngroundedShape names items set closed pres
-IsVerdict names items beliefs set (Extension order pres justs outside outputs) = IsExtensionShape names items beliefs set order pres justs outside outputs
+abbrev pub IsDefaultVerdict : List Name → List Item → ℕ → ℕ → Verdict → Type 0
+IsDefaultVerdict names items beliefs set (Fails absence) = IsAbsence names items absence
+IsDefaultVerdict names items beliefs set (Applied number pre justs) = IsAppliedShape names items number pre justs
+IsDefaultVerdict names items beliefs set (Ungrounded closed pres) = IsUngroundedShape names items set closed pres
+IsDefaultVerdict names items beliefs set (Extension order pres justs outside outputs) = IsExtensionShape names items beliefs set order pres justs outside outputs
 
 -- verdicts on the sets of defaults, in the order of their numbers
 pub record AreVerdicts (names : List Name) (items : List Item) (beliefs : ℕ) (verdicts : List Verdict) : Type 0 where
   pub one_each : HasOneForEach items verdicts
-  pub each : (set : ℕ) (v : Verdict) → slice_get verdicts set ≡ Some v → IsVerdict names items beliefs set v
+  pub each : (set : ℕ) (v : Verdict) → slice_get verdicts set ≡ Some v → IsDefaultVerdict names items beliefs set v
 
 -- ---- programs: a model for each state that is put out
 abbrev pub IsModel : List Name → ModelShown → Type 0

@@ -6,7 +6,7 @@ ghost use Rattle.mcs_sets.specs.Sets.{Within};
 ghost use Rattle.mcs_system.specs.Systems.{all_rules, all_variables};
 ghost use Rattle.mcs_system.specs.Texts.{name_of_context};
 ghost use Rattle.mcs_asking.specs.Certificates.{plain_of};
-ghost use Rattle.mcs_proof_text.specs.Lines.{question_text, output_text, with_feed, text_of_lines, written};
+ghost use Rattle.mcs_proof_text.specs.Lines.{question_text, output_text, with_feed, text_of_lines, written_lines};
 ghost use Rattle.mcs_proof_text.specs.Answers.{certificate_lines, answer_lines};
 
 use crate::defaults::push_verdicts;
@@ -68,7 +68,7 @@ fn push_outputs(text: &mut Text, system: &System, outputs: &[Vars]) -> Result<()
 
 /// Appends the lines of a certificate.
 fn push_certificate(text: &mut Text, names: &[Name], cert: &AnswerCert) -> Result<(), Memory>
-    ensures { OnOk result (text.new ≡ text.old ++ written names.now (certificate_lines (plain_of cert.now))) }
+    ensures { OnOk result (text.new ≡ text.old ++ written_lines names.now (certificate_lines (plain_of cert.now))) }
 {
     match cert {
         AnswerCert::Classical(cert) => push_entailments(text, names, &cert.entails),

@@ -4,7 +4,7 @@ ghost use Rattle.std.specs.Prelude.{◌≡◌, ◌∷◌, ◌++◌, map, OnOk};
 ghost use Rattle.std.specs.List.{flat_map};
 ghost use Rattle.mcs_cnf.specs.Entailments.{entailment_of};
 ghost use Rattle.mcs_evidence.specs.Defaults.{absence_of, verdict_of};
-ghost use Rattle.mcs_proof_text.specs.Lines.{SetLine, UnsupportedLine, BlockedLine, AppliedLine, UngroundedLine, ExtensionLine, line_with_feed, written};
+ghost use Rattle.mcs_proof_text.specs.Lines.{SetLine, UnsupportedLine, BlockedLine, AppliedLine, UngroundedLine, ExtensionLine, line_with_feed, written_lines};
 ghost use Rattle.mcs_proof_text.specs.Answers.{absence_lines, verdict_lines, set_lines, entailment_lines, all_entailment_lines};
 
 use crate::traces::{push_entailment, push_entailments};
@@ -77,7 +77,7 @@ fn push_set_line(text: &mut Text, names: &[Name], set: u64) -> Result<(), Memory
 
 /// Appends the lines that show that a default outside the set does not apply.
 fn push_absence(text: &mut Text, names: &[Name], outside: &Outside) -> Result<(), Memory>
-    ensures { OnOk result (text.new ≡ text.old ++ written names.now (absence_lines (absence_of outside.now))) }
+    ensures { OnOk result (text.new ≡ text.old ++ written_lines names.now (absence_lines (absence_of outside.now))) }
 {
     match outside {
         Outside::Unsupported(number, entail) => {
@@ -93,7 +93,7 @@ fn push_absence(text: &mut Text, names: &[Name], outside: &Outside) -> Result<()
 
 /// Appends the lines for several defaults outside the set.
 fn push_absences(text: &mut Text, names: &[Name], outside: &[Outside]) -> Result<(), Memory>
-    ensures { OnOk result (text.new ≡ text.old ++ written names.now (flat_map absence_lines (map absence_of outside.now))) }
+    ensures { OnOk result (text.new ≡ text.old ++ written_lines names.now (flat_map absence_lines (map absence_of outside.now))) }
 {
     for one in outside {
         push_absence(text, names, one)?;
@@ -109,7 +109,7 @@ fn push_applying(
     pre: &Entail,
     justs: &[Entail],
 ) -> Result<(), Memory>
-    ensures { OnOk result (text.new ≡ text.old ++ written names.now (AppliedLine number ∷ (entailment_lines (entailment_of pre.now) ++ all_entailment_lines (map entailment_of justs.now)))) }
+    ensures { OnOk result (text.new ≡ text.old ++ written_lines names.now (AppliedLine number ∷ (entailment_lines (entailment_of pre.now) ++ all_entailment_lines (map entailment_of justs.now)))) }
 {
     push_applied(text, names, number)?;
     push_entailment(text, names, pre)?;
@@ -118,7 +118,7 @@ fn push_applying(
 
 /// Appends the lines of the verdict on a set of defaults.
 fn push_verdict(text: &mut Text, names: &[Name], verdict: &SetCert) -> Result<(), Memory>
-    ensures { OnOk result (text.new ≡ text.old ++ written names.now (verdict_lines (verdict_of verdict.now))) }
+    ensures { OnOk result (text.new ≡ text.old ++ written_lines names.now (verdict_lines (verdict_of verdict.now))) }
 {
     match verdict {
         SetCert::Fails(outside) => push_absence(text, names, outside),
@@ -149,7 +149,7 @@ pub(crate) fn push_verdicts(
     names: &[Name],
     verdicts: &[SetCert],
 ) -> Result<(), Memory>
-    ensures { OnOk result (text.new ≡ text.old ++ written names.now (set_lines 0 (map verdict_of verdicts.now))) }
+    ensures { OnOk result (text.new ≡ text.old ++ written_lines names.now (set_lines 0 (map verdict_of verdicts.now))) }
 {
     for (set, verdict) in verdicts.iter().enumerate() {
         push_set_line(text, names, set as u64)?;

@@ -3,7 +3,7 @@
 ghost use Rattle.std.specs.Prelude.{◌≡◌, ◌++◌, map, OnOk};
 ghost use Rattle.mcs_trace.specs.Traces.{inference_of, inferences_of};
 ghost use Rattle.mcs_cnf.specs.Entailments.{entailment_of};
-ghost use Rattle.mcs_proof_text.specs.Lines.{YesLine, NoLine, StepLine, line_with_feed, written};
+ghost use Rattle.mcs_proof_text.specs.Lines.{YesLine, NoLine, StepLine, line_with_feed, written_lines};
 ghost use Rattle.mcs_proof_text.specs.Answers.{trace_lines, entailment_lines, all_entailment_lines};
 
 use mcs_base::{Memory, Text};
@@ -22,7 +22,7 @@ fn push_step_line(text: &mut Text, names: &[Name], step: &Step) -> Result<(), Me
 
 /// Appends the lines of a trace to a text of its own.
 pub(crate) fn push_trace(text: &mut Text, names: &[Name], trace: &Trace) -> Result<(), Memory>
-    ensures { OnOk result (text.new ≡ text.old ++ written names.now (trace_lines (inferences_of trace.now))) }
+    ensures { OnOk result (text.new ≡ text.old ++ written_lines names.now (trace_lines (inferences_of trace.now))) }
 {
     for step in &trace.steps {
         push_step_line(text, names, step)?;
@@ -54,7 +54,7 @@ pub(crate) fn push_entailment(
     names: &[Name],
     entail: &Entail,
 ) -> Result<(), Memory>
-    ensures { OnOk result (text.new ≡ text.old ++ written names.now (entailment_lines (entailment_of entail.now))) }
+    ensures { OnOk result (text.new ≡ text.old ++ written_lines names.now (entailment_lines (entailment_of entail.now))) }
 {
     match entail {
         Entail::Yes(trace) => {
@@ -71,7 +71,7 @@ pub(crate) fn push_entailments(
     names: &[Name],
     entails: &[Entail],
 ) -> Result<(), Memory>
-    ensures { OnOk result (text.new ≡ text.old ++ written names.now (all_entailment_lines (map entailment_of entails.now))) }
+    ensures { OnOk result (text.new ≡ text.old ++ written_lines names.now (all_entailment_lines (map entailment_of entails.now))) }
 {
     for entail in entails {
         push_entailment(text, names, entail)?;

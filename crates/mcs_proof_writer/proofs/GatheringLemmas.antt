@@ -14,9 +14,9 @@ use Rattle.mcs_base.proofs.Zipped.{zip_append}
 use Rattle.mcs_system.specs.Plain.{System}
 use Rattle.mcs_states.specs.Oracles.{OracleState}
 use Rattle.mcs_proof_text.specs.Answers.{Answer}
-use Rattle.mcs_proof_text.specs.Proofs.{IsRight, IsAnswered, AreProof}
+use Rattle.mcs_proof_text.specs.Proofs.{HasAcceptedCertificate, IsAnswered, AreProof}
 use Rattle.mcs_proof_text.specs.Reports.{AnswerBefore}
-use Rattle.mcs_proof_writer.specs.Gathered.{question_with, QuestionBefore, IsAskedBelow, AreOfFirst, AddsAsked, IsKept, IsAnswerIn, IsAnswerOf, answer_of, answers_of}
+use Rattle.mcs_proof_writer.specs.Gathered.{question_with, QuestionBefore, IsAskedBelow, AreOfFirst, AddsAsked, KeepsCertificate, IsAnswerIn, IsAnswerOf, answer_of_shown, answers_of}
 use Rattle.mcs_proof_writer.specs.Proving.{AreAsked}
 use Rattle.mcs_proof_writer.specs.declared.asking.Question.{Question}
 use Rattle.mcs_proof_writer.specs.declared.gathering.Shown.{Shown}
@@ -63,28 +63,28 @@ first_more_at os k o old new less here first adds = first_more os k o old new (s
 
 -- ---- answers
 -- the context of a question that is kept is one of the oracles'
-pub kept_within : (os : List OracleState) (questions : List Question) (k : ℕ) (q : Question) → AllByRecursion (IsKept os) questions → k < length questions → q ≡ get_or questions k q → q.context < length os
-kept_within os questions k q kept less here = let (o, at, is) = all_get (IsKept os) questions k q kept (slice_get_read_as questions questions k q refl less here) in slice_get_within os q.context o at
+pub kept_within : (os : List OracleState) (questions : List Question) (k : ℕ) (q : Question) → AllByRecursion (KeepsCertificate os) questions → k < length questions → q ≡ get_or questions k q → q.context < length os
+kept_within os questions k q kept less here = let (o, at, is) = all_get (KeepsCertificate os) questions k q kept (slice_get_read_as questions questions k q refl less here) in slice_get_within os q.context o at
 
 -- one answer more
 pub answers_more : (os : List OracleState) (questions : List Question) (k : ℕ) (q : Question) (o : OracleState) (now now' : List Shown) (s : Shown) → k < length questions → q ≡ get_or questions k q → q.context < length os → o ≡ get_or os q.context o
-    → now' ≡ now ++ s ∷ [] → AllZip (IsAnswerOf os) (take k questions) (answers_of now) → IsAnswerIn o.system q (answer_of s) → AllZip (IsAnswerOf os) (take (k + 1) questions) (answers_of now')
+    → now' ≡ now ++ s ∷ [] → AllZip (IsAnswerOf os) (take k questions) (answers_of now) → IsAnswerIn o.system q (answer_of_shown s) → AllZip (IsAnswerOf os) (take (k + 1) questions) (answers_of now')
 answers_more os questions k q o now now' s less here less' here' pushed before is =
     subst (λ (qs : List Question). AllZip (IsAnswerOf os) qs (answers_of now')) (sym (take_read questions k q less here))
-    (subst (AllZip (IsAnswerOf os) (take k questions ++ q ∷ [])) (sym (map_push_as answer_of now now' s pushed))
-    (zip_append (IsAnswerOf os) (take k questions) (q ∷ []) (answers_of now) (answer_of s ∷ []) before ((o, slice_get_read_as os os q.context o refl less' here', is), tt)))
+    (subst (AllZip (IsAnswerOf os) (take k questions ++ q ∷ [])) (sym (map_push_as answer_of_shown now now' s pushed))
+    (zip_append (IsAnswerOf os) (take k questions) (q ∷ []) (answers_of now) (answer_of_shown s ∷ []) before ((o, slice_get_read_as os os q.context o refl less' here', is), tt)))
 
 module _ (m : System) (level : ℕ) (os : List OracleState) (asked : AreAsked m level os) where
-  pub questions_kept : (questions : List Question) → AreOfFirst os (length m.contexts) questions → AllByRecursion (IsKept os) questions
-  questions_kept questions listed = all_from_among (IsKept os) questions (λ q among.
+  pub questions_kept : (questions : List Question) → AreOfFirst os (length m.contexts) questions → AllByRecursion (KeepsCertificate os) questions
+  questions_kept questions listed = all_from_among (KeepsCertificate os) questions (λ q among.
       let (less, (o, at, there)) = (listed.exactly q).0 among in
       (o, at, record { context = (asked.own q.context o at).1; keep = asked.keep q.context o at; asked = there }))
 
   right_in : (q : Question) (a : Answer) → IsAnswerOf os q a → IsAnswerIn m q a
   right_in q a (o, at, is) = subst (λ (n : System). IsAnswerIn n q a) (asked.own q.context o at).0 is
 
-  each_right : (questions : List Question) (answers : List Answer) → AllZip (IsAnswerOf os) questions answers → AllByRecursion (IsRight m) answers
-  each_right questions answers each = all_from_among (IsRight m) answers (λ a among.
+  each_right : (questions : List Question) (answers : List Answer) → AllZip (IsAnswerOf os) questions answers → AllByRecursion (HasAcceptedCertificate m) answers
+  each_right questions answers each = all_from_among (HasAcceptedCertificate m) answers (λ a among.
       let (q, there, is) = among_zip (IsAnswerOf os) questions answers each a among in (right_in q a is).right)
 
   answers_ascend : (questions : List Question) (answers : List Answer) → IsAscending QuestionBefore questions → AllZip (IsAnswerOf os) questions answers → IsAscending AnswerBefore answers

@@ -22,8 +22,8 @@ use Rattle.mcs_laws.proofs.Views.{has-at_places}
 use Rattle.mcs_asking.specs.Certificates.{Certificate, IsAccepted}
 use Rattle.mcs_proof_text.specs.Lines.{with_feed, text_of_lines}
 use Rattle.mcs_proof_text.specs.Answers.{Answer, answer_lines}
-use Rattle.mcs_proof_text.specs.Proofs.{AreProof, IsRight, proof_lines}
-use Rattle.mcs_proof_writer.specs.Gathered.{answer_of, answers_of, IsWritable}
+use Rattle.mcs_proof_text.specs.Proofs.{AreProof, HasAcceptedCertificate, proof_lines}
+use Rattle.mcs_proof_writer.specs.Gathered.{answer_of_shown, answers_of, IsWritable}
 use Rattle.mcs_proof_writer.specs.Proving.{Proves}
 use Rattle.mcs_proof_writer.specs.declared.gathering.Shown.{Shown}
 
@@ -50,21 +50,21 @@ pub proof_writable : (m : System) (level : ℕ) (answers : List Answer) → AreP
 proof_writable m level answers proof = all_from_among (IsWritable m) answers (λ a among. record {
   context = ((proof.questions a.context a.active).0 (a, among, refl, refl)).0;
   rules = question_known m level a.context a.active ((proof.questions a.context a.active).0 (a, among, refl, refl)).1;
-  outputs = outputs_known m a.context a.active a.outputs a.cert (all_among (IsRight m) answers a proof.right among);
+  outputs = outputs_known m a.context a.active a.outputs a.cert (all_among (HasAcceptedCertificate m) answers a proof.right among);
 })
 
 -- of the answers from an index on, the first one and the others
 pub writable_later : (m : System) (shown : List Shown) (k : ℕ) (s : Shown) → k < length shown → s ≡ get_or shown k s → AllByRecursion (IsWritable m) (answers_of (drop k shown))
-    → IsWritable m (answer_of s) × AllByRecursion (IsWritable m) (answers_of (drop (k + 1) shown))
-writable_later m shown k s less is all = subst (AllByRecursion (IsWritable m)) (map-drop_more answer_of shown k s less is) all
+    → IsWritable m (answer_of_shown s) × AllByRecursion (IsWritable m) (answers_of (drop (k + 1) shown))
+writable_later m shown k s less is all = subst (AllByRecursion (IsWritable m)) (map-drop_more answer_of_shown shown k s less is) all
 
 -- ---- texts
 -- those of the answers from an index on
 pub answers_text-more : (m : System) (shown : List Shown) (k : ℕ) (s : Shown) → k < length shown → s ≡ get_or shown k s
-    → text_of_lines (flat_map (answer_lines m) (answers_of (drop k shown))) ≡ text_of_lines (answer_lines m (answer_of s)) ++ text_of_lines (flat_map (answer_lines m) (answers_of (drop (k + 1) shown)))
+    → text_of_lines (flat_map (answer_lines m) (answers_of (drop k shown))) ≡ text_of_lines (answer_lines m (answer_of_shown s)) ++ text_of_lines (flat_map (answer_lines m) (answers_of (drop (k + 1) shown)))
 answers_text-more m shown k s less is =
-    ap (λ (as' : List Answer). text_of_lines (flat_map (answer_lines m) as')) (map-drop_more answer_of shown k s less is)
-    ∙ flat_map-append with_feed (answer_lines m (answer_of s)) (flat_map (answer_lines m) (answers_of (drop (k + 1) shown)))
+    ap (λ (as' : List Answer). text_of_lines (flat_map (answer_lines m) as')) (map-drop_more answer_of_shown shown k s less is)
+    ∙ flat_map-append with_feed (answer_lines m (answer_of_shown s)) (flat_map (answer_lines m) (answers_of (drop (k + 1) shown)))
 
 -- that of all of them
 abbrev answers_text : System → List Answer → List ℕ

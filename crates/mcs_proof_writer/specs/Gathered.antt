@@ -8,7 +8,7 @@ use Rattle.mcs_system.specs.Systems.{all_rules, all_variables}
 use Rattle.mcs_states.specs.Oracles.{OracleState}
 use Rattle.mcs_asking.specs.Certificates.{plain_of}
 use Rattle.mcs_proof_text.specs.Answers.{Answer}
-use Rattle.mcs_proof_text.specs.Proofs.{IsRight}
+use Rattle.mcs_proof_text.specs.Proofs.{HasAcceptedCertificate}
 use Rattle.mcs_proof_writer.specs.declared.asking.Question.{Question}
 use Rattle.mcs_proof_writer.specs.declared.gathering.Shown.{Shown}
 
@@ -35,11 +35,11 @@ pub record AddsAsked (i : ℕ) (o : OracleState) (old new : List Question) : Typ
   pub after : new ≡ old ++ map (question_with i) sets
 
 -- ---- answers
-abbrev pub answer_of : Shown → Answer
-answer_of s = record { context = s.question.now.context; active = s.question.now.active; outputs = s.outputs.now; cert = plain_of s.cert.now }
+abbrev pub answer_of_shown : Shown → Answer
+answer_of_shown s = record { context = s.question.now.context; active = s.question.now.active; outputs = s.outputs.now; cert = plain_of s.cert.now }
 
 abbrev pub answers_of : List Shown → List Answer
-answers_of shown = map answer_of shown
+answers_of shown = map answer_of_shown shown
 
 -- the oracle keeps an answer to the question, which is one to its context
 pub record IsKeptIn (o : OracleState) (q : Question) : Type 0 where
@@ -48,14 +48,14 @@ pub record IsKeptIn (o : OracleState) (q : Question) : Type 0 where
   pub asked : IsAmong q.active o.journal
 
 -- the oracle of its context does
-abbrev pub IsKept : List OracleState → Question → Type 0
-IsKept os q = (o : OracleState) × (slice_get os q.context ≡ Some o) × IsKeptIn o q
+abbrev pub KeepsCertificate : List OracleState → Question → Type 0
+KeepsCertificate os q = (o : OracleState) × (slice_get os q.context ≡ Some o) × IsKeptIn o q
 
 -- a right answer to the question
 pub record IsAnswerIn (m : System) (q : Question) (a : Answer) : Type 0 where
   pub context_is : a.context ≡ q.context
   pub active_is : a.active ≡ q.active
-  pub right : IsRight m a
+  pub right : HasAcceptedCertificate m a
 
 -- one of the oracle of its context
 abbrev pub IsAnswerOf : List OracleState → Question → Answer → Type 0

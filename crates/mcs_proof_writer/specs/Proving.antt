@@ -2,7 +2,7 @@
 use Rattle.std.specs.Prelude.{◌≡◌, ◌⊎◌, ℕ, ◌≤◌, List, [], ◌∷◌, length, Some, slice_get, Option, Result, OnOk, OnErr, IfErr}
 use Rattle.mcs_base.specs.Listings.{IsInventory}
 use Rattle.mcs_ports.specs.Pieces.{Device, appended}
-use Rattle.mcs_text.specs.Writes.{WritesFront, IsDue}
+use Rattle.mcs_text.specs.Writes.{WritesFront, IsWriteFaultDue}
 use Rattle.mcs_text.specs.declared.unwritten.Unwritten.{Unwritten}
 use Rattle.mcs_system.specs.Plain.{System}
 use Rattle.mcs_system.specs.Levels.{IsQuestionAt}
@@ -38,4 +38,4 @@ pub record Proves {T : Type 0} (m : System) (level : ℕ) (before now : Device) 
   pub quiet : OnOk result (now.faults ≡ before.faults)
   pub whole : OnOk result (HasProved m level before.written now.written)
   pub front : OnErr result ((now.written ≡ before.written) ⊎ HasBegunProof m level before.written now.written)
-  pub due : IfErr result (λ e. IsDue e before.faults now.faults)
+  pub due : IfErr result (λ e. IsWriteFaultDue e before.faults now.faults)

@@ -2,7 +2,7 @@
 
 ghost use Rattle.std.specs.List.{AllByRecursion, AllZip};
 ghost use Rattle.std.specs.Prelude.{IfOk};
-ghost use Rattle.mcs_proof_writer.specs.Gathered.{answer_of, answers_of, IsKeptIn, IsKept, IsAnswerIn, IsAnswerOf};
+ghost use Rattle.mcs_proof_writer.specs.Gathered.{answer_of_shown, answers_of, IsKeptIn, KeepsCertificate, IsAnswerIn, IsAnswerOf};
 
 use crate::asking::Question;
 use mcs_asking::AnswerCert;
@@ -21,7 +21,7 @@ pub(crate) struct Shown<'s> {
 /// The answer that the solver keeps for the question.
 fn kept_for<'s>(solver: &'s LocalSolver, question: &'s Question) -> Shown<'s>
     requires { IsKeptIn solver.now question.now }
-    ensures { IsAnswerIn solver.now.system question.now (answer_of result) }
+    ensures { IsAnswerIn solver.now.system question.now (answer_of_shown result) }
 {
     match solver.certificate(question.active) {
         Some((outputs, cert)) => Shown {
@@ -39,7 +39,7 @@ pub(crate) fn gathered<'s>(
     solvers: &'s [LocalSolver],
     questions: &'s [Question],
 ) -> Result<Vec<Shown<'s>>, Memory>
-    requires { AllByRecursion (IsKept solvers.now) questions.now }
+    requires { AllByRecursion (KeepsCertificate solvers.now) questions.now }
     ensures { IfOk result (λ shown. AllZip (IsAnswerOf solvers.now) questions.now (answers_of shown.items)) }
 {
     let mut answers = Vec::new(alloc);

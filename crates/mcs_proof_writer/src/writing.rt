@@ -5,7 +5,7 @@ ghost use Rattle.mcs_text.specs.Writes.{Writes};
 ghost use Rattle.mcs_proof_text.specs.Lines.{text_of_lines};
 ghost use Rattle.mcs_proof_text.specs.Answers.{answer_lines};
 ghost use Rattle.mcs_proof_text.specs.Proofs.{proof_lines};
-ghost use Rattle.mcs_proof_writer.specs.Gathered.{answer_of, answers_of, IsWritable};
+ghost use Rattle.mcs_proof_writer.specs.Gathered.{answer_of_shown, answers_of, IsWritable};
 
 use crate::gathering::Shown;
 use mcs_base::Text;
@@ -46,8 +46,8 @@ fn write_answer<K: Sink>(
     shown: &Shown,
     sink: &mut K,
 ) -> Result<(), Unwritten>
-    requires { IsWritable system.now (answer_of shown.now) }
-    ensures { Writes (text_of_lines (answer_lines system.now (answer_of shown.now))) (K.device sink.old) (K.device sink.new) result }
+    requires { IsWritable system.now (answer_of_shown shown.now) }
+    ensures { Writes (text_of_lines (answer_lines system.now (answer_of_shown shown.now))) (K.device sink.old) (K.device sink.new) result }
 {
     let mut text = Text::new(alloc);
     answer_lines(

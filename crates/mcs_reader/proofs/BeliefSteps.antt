@@ -23,8 +23,8 @@ use Rattle.mcs_grammar.specs.Written.{Written, Named, Denied, WrittenRead, Writt
 use Rattle.mcs_grammar.specs.Entries.{Token, Use, BeginsItem, BeginsBelief, BeginsDefault, EndsRead, SaysProgram, AtomOf, IsNumber, Entry, entry, formula_in}
 use Rattle.mcs_grammar.specs.FormulaSteps.{Pending, Tilde, Parenthesis, And, Or, Implies, Iff, PartFormula, is_name_word, size_all, settle, formula_step, finished, finished_primary}
 use Rattle.mcs_grammar.specs.FormulaImages.{Waiting, ToDeny, ToClose, ToAnd, ToOr, ToImply, ToEqual, waiting_of, waiting_in, AreStacked, IsImage, IsReader}
-use Rattle.mcs_reader.specs.TextSteps.{Place, InHead, AfterHead, InRead, AfterRead, PartText, goes, first_of_belief, place_of, headed, with_read, in_read, step_at}
-use Rattle.mcs_reader.specs.TextImages.{About, IsBridge, IsStep, about, about_context, belief_at, capped, last_belief, of_context, of_read, part_read, role_uses, uses_in, when}
+use Rattle.mcs_reader.specs.TextSteps.{Place, InHead, AfterHead, InRead, AfterRead, PartText, goes, first_of_belief, place_in_text, headed, with_read, in_read, step_at}
+use Rattle.mcs_reader.specs.TextImages.{About, IsBridgeImage, IsReaderStep, about, about_context, belief_at_place, capped, last_belief, of_context, of_read, part_read, role_uses, uses_in, when}
 use Rattle.mcs_grammar.proofs.FormulaForward.{name-step}
 use Rattle.mcs_grammar.proofs.ReaderOperands.{at-none}
 use Rattle.mcs_reader.proofs.TextRuns.{within-belief, whole-belief}
@@ -182,20 +182,20 @@ module _ (name context : Name) (s : PartText) (f : PartFormula) (t : Token) (r :
 
   pub head-taken : (result : Result code_step.Step Memory) (now : FormulaReader) → IsReader now r.1
       → ((x : PartFormula) → IsReader now x → finished_primary x ≡ None → IfOk result (λ y. y ≡ answers.Moves (places.InHead name context now) u))
-      → ((x : PartFormula) (w : Written) → IsReader now x → finished_primary x ≡ Some w → IfOk result (λ y. (bridge : code_bridge.NamedBridge) × IsBridge bridge (headed name context w) × (y ≡ answers.Moves (places.AfterHead bridge) u)))
-      → IfOk result (λ y. IsStep y (of_context context) s t (step_at s t (InHead name context f)))
+      → ((x : PartFormula) (w : Written) → IsReader now x → finished_primary x ≡ Some w → IfOk result (λ y. (bridge : code_bridge.NamedBridge) × IsBridgeImage bridge (headed name context w) × (y ≡ answers.Moves (places.AfterHead bridge) u)))
+      → IfOk result (λ y. IsReaderStep y (of_context context) s t (step_at s t (InHead name context f)))
   head-taken result now reader goes_on ends =
       by-end r.1
       (λ free. IfOk-weaker result _ _
-      (λ y is. subst (λ (x : code_step.Step). IsStep x (of_context context) s t (step_at s t (InHead name context f))) (sym is)
+      (λ y is. subst (λ (x : code_step.Step). IsReaderStep x (of_context context) s t (step_at s t (InHead name context f))) (sym is)
       (head-uses, (InHead name context r.1, head-free free, (r.1, reader, refl), goes-uses (about (of_context context) (InHead name context r.1)) f t r u within inside)))
       (goes_on r.1 reader free))
       (λ w whole. IfOk-weaker result _ _
-      (λ y is. subst (λ (x : code_step.Step). IsStep x (of_context context) s t (step_at s t (InHead name context f))) (sym is.2)
+      (λ y is. subst (λ (x : code_step.Step). IsReaderStep x (of_context context) s t (step_at s t (InHead name context f))) (sym is.2)
       (head-uses, (AfterHead (headed name context w), head-whole w whole, (headed name context w, is.1, refl), goes-uses (about (of_context context) (AfterHead (headed name context w))) f t r u within inside)))
       (ends r.1 w reader whole))
 
-  pub head-long : IsTrue (is_name_word t) → most_name_bytes < length t → IsStep (answers.LongName u) (of_context context) s t (step_at s t (InHead name context f))
+  pub head-long : IsTrue (is_name_word t) → most_name_bytes < length t → IsReaderStep (answers.LongName u) (of_context context) s t (step_at s t (InHead name context f))
   head-long word long =
       by-end r.1
       (λ free. (head-uses, (InHead name context r.1, head-free free, word, long, goes-uses (about (of_context context) (InHead name context r.1)) f t r u within inside)))
@@ -223,34 +223,34 @@ module _ (w : WrittenBridge) (denied : Bool) (context : Name) (s : PartText) (f 
   read-free : finished_primary r.1 ≡ None → in_read s w (part_read denied context) f t ≡ goes s t read-uses free-place
   read-free free = within-belief s context f t (InRead w (part_read denied context)) (λ v. EndsRead w.head.context context (formula_in v) ∷ []) whole-place r step free
 
-  read-whole : (v : Written) → finished_primary r.1 ≡ Some v → in_read s w (part_read denied context) f t ≡ goes s t (EndsRead w.head.context context (belief_at (whole-place v)) ∷ read-uses) (whole-place v)
+  read-whole : (v : Written) → finished_primary r.1 ≡ Some v → in_read s w (part_read denied context) f t ≡ goes s t (EndsRead w.head.context context (belief_at_place (whole-place v)) ∷ read-uses) (whole-place v)
   read-whole v ends =
       whole-belief s context f t (InRead w (part_read denied context)) (λ v'. EndsRead w.head.context context (formula_in v') ∷ []) whole-place r v step ends
-      ∙ ap (λ g. goes s t (EndsRead w.head.context context g ∷ read-uses) (whole-place v)) (sym (last-more w.reads (record { denied = denied; place = place_of context v })))
+      ∙ ap (λ g. goes s t (EndsRead w.head.context context g ∷ read-uses) (whole-place v)) (sym (last-more w.reads (record { denied = denied; place = place_in_text context v })))
 
   free-uses : u.ends_read ≡ false → map capped read-uses ≡ uses_in (said free-place) t u
   free-uses e = goes-uses (said free-place) f t r u within e
 
-  whole-uses : (v : Written) → map capped (EndsRead w.head.context context (belief_at (whole-place v)) ∷ read-uses) ≡ uses_in (said (whole-place v)) t (record u { ends_read = true })
+  whole-uses : (v : Written) → map capped (EndsRead w.head.context context (belief_at_place (whole-place v)) ∷ read-uses) ≡ uses_in (said (whole-place v)) t (record u { ends_read = true })
   whole-uses v = ends-uses (said (whole-place v)) f t r (record u { ends_read = true }) (record { role = within.role; first = within.first; item = within.item }) refl
 
-  pub read-taken : u.ends_read ≡ false → (b : code_bridge.NamedBridge) → IsBridge b w → (result : Result code_step.Step Memory) (now : FormulaReader) → IsReader now r.1
+  pub read-taken : u.ends_read ≡ false → (b : code_bridge.NamedBridge) → IsBridgeImage b w → (result : Result code_step.Step Memory) (now : FormulaReader) → IsReader now r.1
       → ((x : PartFormula) → IsReader now x → finished_primary x ≡ None → IfOk result (λ y. y ≡ answers.Moves (places.InRead b denied context now) u))
       → ((x : PartFormula) (v : Written) → IsReader now x → finished_primary x ≡ Some v
       → IfOk result (λ y. (read : code_read.NamedRead) × (read.context ≡ context) × (formula_of read.belief ≡ formula_in v) × (y ≡ answers.Moves (places.AfterRead b denied read) (record u { ends_read = true }))))
-      → IfOk result (λ y. IsStep y (of_read context w.head.context) s t (in_read s w (part_read denied context) f t))
+      → IfOk result (λ y. IsReaderStep y (of_read context w.head.context) s t (in_read s w (part_read denied context) f t))
   read-taken inside b bridge result now reader goes_on ends =
       by-end r.1
       (λ free. IfOk-weaker result _ _
-      (λ y is. subst (λ (x : code_step.Step). IsStep x (of_read context w.head.context) s t (in_read s w (part_read denied context) f t)) (sym is)
+      (λ y is. subst (λ (x : code_step.Step). IsReaderStep x (of_read context w.head.context) s t (in_read s w (part_read denied context) f t)) (sym is)
       (read-uses, (free-place, read-free free, (w, bridge, (r.1, reader, refl)), free-uses inside)))
       (goes_on r.1 reader free))
       (λ v whole. IfOk-weaker result _ _
-      (λ y is. subst (λ (x : code_step.Step). IsStep x (of_read context w.head.context) s t (in_read s w (part_read denied context) f t)) (sym is.3)
-      (EndsRead w.head.context context (belief_at (whole-place v)) ∷ read-uses, (whole-place v, read-whole v whole, (w, (v, bridge, is.2, ap (λ c. AfterRead (with_read w (part_read denied c) v)) (sym is.1))), whole-uses v)))
+      (λ y is. subst (λ (x : code_step.Step). IsReaderStep x (of_read context w.head.context) s t (in_read s w (part_read denied context) f t)) (sym is.3)
+      (EndsRead w.head.context context (belief_at_place (whole-place v)) ∷ read-uses, (whole-place v, read-whole v whole, (w, (v, bridge, is.2, ap (λ c. AfterRead (with_read w (part_read denied c) v)) (sym is.1))), whole-uses v)))
       (ends r.1 v reader whole))
 
-  pub read-long : (ends : Bool) → ends ≡ is_some (finished_primary r.1) → IsTrue (is_name_word t) → most_name_bytes < length t → IsStep (answers.LongName (record u { ends_read = ends })) (of_read context w.head.context) s t (in_read s w (part_read denied context) f t)
+  pub read-long : (ends : Bool) → ends ≡ is_some (finished_primary r.1) → IsTrue (is_name_word t) → most_name_bytes < length t → IsReaderStep (answers.LongName (record u { ends_read = ends })) (of_read context w.head.context) s t (in_read s w (part_read denied context) f t)
   read-long ends e word long =
       by-end r.1
       (λ free. (
@@ -264,7 +264,7 @@ module _ (w : WrittenBridge) (denied : Bool) (context : Name) (s : PartText) (f 
         ),
       ))
       (λ v whole. (
-        EndsRead w.head.context context (belief_at (whole-place v)) ∷ read-uses,
+        EndsRead w.head.context context (belief_at_place (whole-place v)) ∷ read-uses,
         (
           whole-place v,
           read-whole v whole,

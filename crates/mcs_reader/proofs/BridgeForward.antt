@@ -4,7 +4,7 @@ use Rattle.std.specs.Prelude.{codes}
 use Rattle.std.specs.List.{flat_map, AllByRecursion}
 use Rattle.std.proofs.lemmas.List.{append-nil}
 use Rattle.mcs_system.specs.Plain.{Name}
-use Rattle.mcs_grammar.specs.Written.{Written, level, WrittenPlace, WrittenRead, WrittenContext, WrittenBridge, IsNameWord, IsFormula, IsPlace, IsBridge}
+use Rattle.mcs_grammar.specs.Written.{Written, level, WrittenPlace, WrittenRead, WrittenContext, WrittenBridge, IsNameWord, IsFormula, IsPlace, IsWrittenBridge}
 use Rattle.mcs_grammar.specs.Entries.{Token, Use, BeginsBridge, NamesBridge, NamesTarget, BeginsBelief, EndsRead, Entry, entry, formula_in, with_first, with_last, whole_entries, optional, place_entries, read_entries, reads_entries, further_read, bridge_entries, tokens_of}
 use Rattle.mcs_grammar.specs.FormulaSteps.{PartFormula, no_formula, formula_step, finished_primary}
 use Rattle.mcs_reader.specs.TextSteps.{PartRead, Place, Between, BridgeName, BridgeColon, HeadContext, HeadColon, InHead, AfterHead, NextRead, ReadContext, ReadColon, InRead, AfterRead, PartText, in_belief, first_of_belief, headed, with_read, text_step}
@@ -205,7 +205,7 @@ module _ (cs : List WrittenContext) (bs : List WrittenBridge) where
   unfolding text_step
   bridge-step = refl
 
-  pub bridge-runs : (b : WrittenBridge) → IsBridge b → Runs (text_of cs bs Between) (bridge_entries b) (text_of cs (bs ++ b ∷ []) Between)
+  pub bridge-runs : (b : WrittenBridge) → IsWrittenBridge b → Runs (text_of cs bs Between) (bridge_entries b) (text_of cs (bs ++ b ∷ []) Between)
   bridge-runs b h =
       let n : Name = b.name in
       let end : PartText = text_of cs (bs ++ b ∷ []) Between in

@@ -13,10 +13,10 @@ use Rattle.mcs_system.specs.declared.knowledge.Context as code_context
 use Rattle.mcs_grammar.specs.Written.{WrittenPlace, WrittenRead, WrittenBridge}
 use Rattle.mcs_grammar.specs.Saying.{Each, SaysPlace, SaysBridge, positive_places, negative_places}
 use Rattle.mcs_grammar.specs.Faults.{NamedRead}
-use Rattle.mcs_reader.specs.TextImages.{IsBridge, AreBridges, read_of, read_in}
+use Rattle.mcs_reader.specs.TextImages.{IsBridgeImage, AreBridges, named_read_of, read_in}
 use Rattle.mcs_reader.specs.declared.place.NamedRead as code_read
 use Rattle.mcs_reader.specs.declared.place.NamedBridge as code_bridge
-use Rattle.mcs_reader.specs.Ends.{context_names, IsKnown, KnowsAll, AreKnown, AreNamed, IsNamed, SaysRead}
+use Rattle.mcs_reader.specs.Ends.{context_names, HasKnownContext, KnowsAll, HaveKnownContexts, HaveNamedContexts, IsBridgeNamed, SaysRead}
 
 -- ---- the place of a name
 place-names : (n : Name) (cs : List code_context.Context) → position_or_len (λ (c : code_context.Context). same_name n c.name) cs ≡ position_or_len (same_name n) (context_names cs)
@@ -57,7 +57,7 @@ each-place names (p ∷ ps) (r ∷ rs) h = (record { number = h.0.number; belief
 
 -- whatever is written of it
 abbrev pub SaysNamed : List Name → code_bridge.NamedBridge → plain.Bridge → Type 0
-SaysNamed names b x = (w : WrittenBridge) → IsBridge b w → SaysBridge names w x
+SaysNamed names b x = (w : WrittenBridge) → IsBridgeImage b w → SaysBridge names w x
 
 pub each-bridge : (names : List Name) (bs : List code_bridge.NamedBridge) (ws : List WrittenBridge) (xs : List plain.Bridge) → AreBridges bs ws → Each (SaysNamed names) bs xs → Each (SaysBridge names) ws xs
 each-bridge names [] [] [] h e = tt
@@ -68,38 +68,38 @@ each-bridge names (b ∷ bs) (w ∷ ws) [] h e = absurd e
 each-bridge names (b ∷ bs) (w ∷ ws) (x ∷ xs) h e = (e.0 w h.0, each-bridge names bs ws xs h.1 e.1)
 
 -- ---- contexts that are spoken of
-positive-known : (names : List Name) (rs : List WrittenRead) → AllByRecursion (λ (r : WrittenRead). IsKnown names r.place) rs → AllByRecursion (IsKnown names) (positive_places rs)
+positive-known : (names : List Name) (rs : List WrittenRead) → AllByRecursion (λ (r : WrittenRead). HasKnownContext names r.place) rs → AllByRecursion (HasKnownContext names) (positive_places rs)
 positive-known names [] h = tt
 positive-known names (r ∷ rs) h = go r.denied refl (positive-known names rs h.1)
   where
-    go : (b : Bool) → r.denied ≡ b → AllByRecursion (IsKnown names) (positive_places rs) → AllByRecursion (IsKnown names) (positive_places (r ∷ rs))
+    go : (b : Bool) → r.denied ≡ b → AllByRecursion (HasKnownContext names) (positive_places rs) → AllByRecursion (HasKnownContext names) (positive_places (r ∷ rs))
     go true is more = rw is more
     go false is more = rw is (h.0, more)
 
-negative-known : (names : List Name) (rs : List WrittenRead) → AllByRecursion (λ (r : WrittenRead). IsKnown names r.place) rs → AllByRecursion (IsKnown names) (negative_places rs)
+negative-known : (names : List Name) (rs : List WrittenRead) → AllByRecursion (λ (r : WrittenRead). HasKnownContext names r.place) rs → AllByRecursion (HasKnownContext names) (negative_places rs)
 negative-known names [] h = tt
 negative-known names (r ∷ rs) h = go r.denied refl (negative-known names rs h.1)
   where
-    go : (b : Bool) → r.denied ≡ b → AllByRecursion (IsKnown names) (negative_places rs) → AllByRecursion (IsKnown names) (negative_places (r ∷ rs))
+    go : (b : Bool) → r.denied ≡ b → AllByRecursion (HasKnownContext names) (negative_places rs) → AllByRecursion (HasKnownContext names) (negative_places (r ∷ rs))
     go true is more = rw is (h.0, more)
     go false is more = rw is more
 
-named-reads : (names : List Name) (rs : List code_read.NamedRead) (ps : List WrittenPlace) → map read_of rs ≡ map read_in ps → AllByRecursion (IsKnown names) ps → AreNamed names rs
+named-reads : (names : List Name) (rs : List code_read.NamedRead) (ps : List WrittenPlace) → map named_read_of rs ≡ map read_in ps → AllByRecursion (HasKnownContext names) ps → HaveNamedContexts names rs
 named-reads names [] ps e h = tt
 named-reads names (r ∷ rs) [] e h = absurd (cc)
 named-reads names (r ∷ rs) (p ∷ ps) e h =
-    let first : read_of r ≡ read_in p = cc in
-    let rest : map read_of rs ≡ map read_in ps = cc in
+    let first : named_read_of r ≡ read_in p = cc in
+    let rest : map named_read_of rs ≡ map read_in ps = cc in
     (subst (λ (n : Name). IsAmong n names) (sym (ap (λ (x : NamedRead). x.context) first)) h.0, named-reads names rs ps rest h.1)
 
-named-bridge : (names : List Name) (b : code_bridge.NamedBridge) (w : WrittenBridge) → IsBridge b w → KnowsAll names w → IsNamed names b
+named-bridge : (names : List Name) (b : code_bridge.NamedBridge) (w : WrittenBridge) → IsBridgeImage b w → KnowsAll names w → IsBridgeNamed names b
 named-bridge names b w is h = record {
   target = subst (λ (n : Name). IsAmong n names) (sym is.target) h.head;
   pos = named-reads names b.pos.items (positive_places w.reads) is.pos (positive-known names w.reads h.reads);
   neg = named-reads names b.neg.items (negative_places w.reads) is.neg (negative-known names w.reads h.reads);
 }
 
-pub named-bridges : (names : List Name) (bs : List code_bridge.NamedBridge) (ws : List WrittenBridge) → AreBridges bs ws → AreKnown names ws → AllByRecursion (IsNamed names) bs
+pub named-bridges : (names : List Name) (bs : List code_bridge.NamedBridge) (ws : List WrittenBridge) → AreBridges bs ws → HaveKnownContexts names ws → AllByRecursion (IsBridgeNamed names) bs
 named-bridges names [] ws h known = tt
 named-bridges names (b ∷ bs) [] h known = absurd h
 named-bridges names (b ∷ bs) (w ∷ ws) h known = (named-bridge names b w h.0 known.0, named-bridges names bs ws h.1 known.1)

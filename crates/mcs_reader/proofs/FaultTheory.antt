@@ -8,7 +8,7 @@ use Rattle.std.proofs.Math.Seq.{take-append_seam}
 use Rattle.mcs_base.proofs.Lists.{slice_get_kept, slice_get_seam}
 use Rattle.mcs_grammar.specs.Written.{WrittenText, IsText}
 use Rattle.mcs_grammar.specs.Entries.{Token, Entry, text_entries, tokens_of, uses_of}
-use Rattle.mcs_grammar.specs.Faults.{Fault, NoGrammar, NoContext, Twin, NoAtom, Exceeds, rank, Has, Begins, IsWhole, IsEntered, IsFaultAt, IsFirstFault}
+use Rattle.mcs_grammar.specs.Faults.{TextFault, NoGrammar, NoContext, Twin, NoAtom, Exceeds, rank, Has, BeginsText, IsWholeText, IsEntered, IsFaultAt, IsFirstTextFault}
 use Rattle.mcs_reader.specs.TextSteps.{PartText, nothing_written, text_step, text_steps, finished_text}
 use Rattle.mcs_reader.proofs.TextRuns.{steps-first, steps-more, steps-append, steps-split}
 use Rattle.mcs_reader.proofs.TextForward.{whole_text}
@@ -61,7 +61,7 @@ same-run us ms ns s s' e h =
     (ap (λ (p : List Entry × PartText). p.0) same, ap (λ (p : List Entry × PartText). p.1) same)
 
 -- ---- the grammar
-pub begins : (ts : List Token) (k : ℕ) (ms : List Entry) (s : PartText) → Reached ts k ms s → Begins (take k ts)
+pub begins : (ts : List Token) (k : ℕ) (ms : List Entry) (s : PartText) → Reached ts k ms s → BeginsText (take k ts)
 begins ts k ms s h =
     let begun = text-begun (take k ts) ms s h.steps in
     let us : List Token = take k ts in
@@ -71,7 +71,7 @@ begins ts k ms s h =
 untaken : (s s' : PartText) (t : Token) (r : Entry × PartText) → text_step s t ≡ None → s ≡ s' → text_step s' t ≡ Some r → ⊥
 untaken s s' t r none same step = none-some _ (sym none ∙ ap (λ (x : PartText). text_step x t) same ∙ step)
 
-pub begins-no-more : (ts : List Token) (k : ℕ) (ms : List Entry) (s : PartText) (t : Token) → Reached ts k ms s → slice_get ts k ≡ Some t → text_step s t ≡ None → ¬ Begins (take (k + 1) ts)
+pub begins-no-more : (ts : List Token) (k : ℕ) (ms : List Entry) (s : PartText) (t : Token) → Reached ts k ms s → slice_get ts k ≡ Some t → text_step s t ≡ None → ¬ BeginsText (take (k + 1) ts)
 begins-no-more ts k ms s t h is none b =
     let f = front-of (take (k + 1) ts) b.text (length (take (k + 1) ts)) b.grammar b.first in
     let d = steps-split nothing_written (take k ts) (t ∷ []) f.front f.state (ap (text_steps nothing_written) (sym (taken-more ts k t is)) ∙ f.steps) in
@@ -79,7 +79,7 @@ begins-no-more ts k ms s t h is none b =
     let same = same-run (take k ts) ms d.front s d.middle h.steps d.before in
     untaken s d.middle t (last.first, last.middle) none same.1 last.step
 
-pub not-whole : (ts : List Token) (k : ℕ) (ms : List Entry) (s : PartText) → Reached ts k ms s → k ≡ length ts → finished_text s ≡ None → ¬ IsWhole ts
+pub not-whole : (ts : List Token) (k : ℕ) (ms : List Entry) (s : PartText) → Reached ts k ms s → k ≡ length ts → finished_text s ≡ None → ¬ IsWholeText ts
 not-whole ts k ms s h end none w =
     let all : text_steps nothing_written (take k ts) ≡ Some (text_entries w.0, whole_text w.0) = ap (text_steps nothing_written) (take_all k ts (let e = end in omega arith) ∙ sym w.2) ∙ (text-forward w.0 w.1).0 in
     let same = same-run (take k ts) ms (text_entries w.0) s (whole_text w.0) h.steps all in
@@ -92,7 +92,7 @@ is-whole ts k ms s t h end e =
 
 -- ---- the entry of a token, after those of the tokens before it
 module _ (ts : List Token) (k : ℕ) (ms : List Entry) (s : PartText) (t : Token) (m : Entry) (s' : PartText) (reached : Reached ts k ms s) (is : slice_get ts k ≡ Some t) (step : text_step s t ≡ Some (m, s')) where
-  pub entered-has : (f : Fault) → IsEntered ts k f → Has f (uses_of ms) m
+  pub entered-has : (f : TextFault) → IsEntered ts k f → Has f (uses_of ms) m
   entered-has f h =
       let next = reached-more ts k ms s t m s' reached is step in
       let x = front-of (take (k + 1) ts) h.text (k + 1) h.grammar h.same in
@@ -103,7 +103,7 @@ module _ (ts : List Token) (k : ℕ) (ms : List Entry) (s : PartText) (t : Token
       let here : Some m ≡ Some h.here = sym (slice_get_kept (ms ++ m ∷ []) x.rest (length ms) m (slice_get_seam ms m [] (length ms) refl)) ∙ ap (slice_get ((ms ++ m ∷ []) ++ x.rest)) len ∙ ap (λ (xs : List Entry). slice_get xs k) entries ∙ h.is_here in
       subst (Has f (uses_of ms)) (sym (same_Some _ _ here)) (subst (λ (xs : List Entry). Has f (uses_of xs) h.here) before h.has)
 
-  pub has-entered : (f : Fault) → Has f (uses_of ms) m → IsEntered ts k f
+  pub has-entered : (f : TextFault) → Has f (uses_of ms) m → IsEntered ts k f
   has-entered f h =
       let next = reached-more ts k ms s t m s' reached is step in
       let begun = text-begun (take (k + 1) ts) (ms ++ m ∷ []) s' next.steps in
@@ -125,20 +125,20 @@ module _ (ts : List Token) (k : ℕ) (ms : List Entry) (s : PartText) (t : Token
 -- ---- the first fault
 -- no token before this one has a fault
 abbrev pub IsFree : List Token → ℕ → Type 0
-IsFree ts k = (j : ℕ) (f : Fault) → j < k → ¬ IsFaultAt ts j f
+IsFree ts k = (j : ℕ) (f : TextFault) → j < k → ¬ IsFaultAt ts j f
 
 pub free-none : (ts : List Token) → IsFree ts 0
 free-none ts j f below h = omega arith
 
 -- a fault that is not the grammar's
-entered-at : (ts : List Token) (k : ℕ) (f : Fault) → k < length ts → f ≢ NoGrammar → IsEntered ts k f → IsFaultAt ts k f
+entered-at : (ts : List Token) (k : ℕ) (f : TextFault) → k < length ts → f ≢ NoGrammar → IsEntered ts k f → IsFaultAt ts k f
 entered-at ts k NoGrammar below other h = absurd (other refl)
 entered-at ts k NoContext below other h = (below, h)
 entered-at ts k Twin below other h = (below, h)
 entered-at ts k NoAtom below other h = (below, h)
 entered-at ts k (Exceeds limit) below other h = (below, h)
 
-at-entry : (ts : List Token) (k : ℕ) (f : Fault) → Begins (take (k + 1) ts) → k < length ts → IsFaultAt ts k f → IsEntered ts k f
+at-entry : (ts : List Token) (k : ℕ) (f : TextFault) → BeginsText (take (k + 1) ts) → k < length ts → IsFaultAt ts k f → IsEntered ts k f
 at-entry ts k NoGrammar b below (inl h) = absurd (h.1 b)
 at-entry ts k NoGrammar b below (inr h) = absurd (omega (arith, h.0))
 at-entry ts k NoContext b below h = h.1
@@ -146,7 +146,7 @@ at-entry ts k Twin b below h = h.1
 at-entry ts k NoAtom b below h = h.1
 at-entry ts k (Exceeds limit) b below h = h.1
 
-lowest-of-all : (f : Fault) → 1 ≤ rank f
+lowest-of-all : (f : TextFault) → 1 ≤ rank f
 lowest-of-all NoGrammar = omega arith
 lowest-of-all NoContext = omega arith
 lowest-of-all Twin = omega arith
@@ -154,23 +154,23 @@ lowest-of-all NoAtom = omega arith
 lowest-of-all (Exceeds limit) = omega arith
 
 -- a token that is not taken
-pub first-untaken : (ts : List Token) (k : ℕ) (ms : List Entry) (s : PartText) (t : Token) → Reached ts k ms s → slice_get ts k ≡ Some t → text_step s t ≡ None → IsFree ts k → IsFirstFault ts k NoGrammar
+pub first-untaken : (ts : List Token) (k : ℕ) (ms : List Entry) (s : PartText) (t : Token) → Reached ts k ms s → slice_get ts k ≡ Some t → text_step s t ≡ None → IsFree ts k → IsFirstTextFault ts k NoGrammar
 first-untaken ts k ms s t h is none free = record { holds = inl (slice_get_within ts k t is, begins-no-more ts k ms s t h is none); lowest = λ g _. lowest-of-all g; first = free }
 
 -- the end, where something has to come
-pub first-end : (ts : List Token) (k : ℕ) (ms : List Entry) (s : PartText) → Reached ts k ms s → k ≡ length ts → finished_text s ≡ None → IsFree ts k → IsFirstFault ts k NoGrammar
+pub first-end : (ts : List Token) (k : ℕ) (ms : List Entry) (s : PartText) → Reached ts k ms s → k ≡ length ts → finished_text s ≡ None → IsFree ts k → IsFirstTextFault ts k NoGrammar
 first-end ts k ms s h end none free = record { holds = inr (end, not-whole ts k ms s h end none); lowest = λ g _. lowest-of-all g; first = free }
 
 module _ (ts : List Token) (k : ℕ) (ms : List Entry) (s : PartText) (t : Token) (m : Entry) (s' : PartText) (reached : Reached ts k ms s) (is : slice_get ts k ≡ Some t) (step : text_step s t ≡ Some (m, s')) where
-  fault-has : (f : Fault) → IsFaultAt ts k f → Has f (uses_of ms) m
+  fault-has : (f : TextFault) → IsFaultAt ts k f → Has f (uses_of ms) m
   fault-has f h = entered-has ts k ms s t m s' reached is step f (at-entry ts k f (begins ts (k + 1) (ms ++ m ∷ []) s' (reached-more ts k ms s t m s' reached is step)) (slice_get_within ts k t is) h)
 
   -- a entry with a fault, the lowest of those that it has
-  pub first-entered : (f : Fault) → f ≢ NoGrammar → Has f (uses_of ms) m → ((g : Fault) → Has g (uses_of ms) m → rank f ≤ rank g) → IsFree ts k → IsFirstFault ts k f
+  pub first-entered : (f : TextFault) → f ≢ NoGrammar → Has f (uses_of ms) m → ((g : TextFault) → Has g (uses_of ms) m → rank f ≤ rank g) → IsFree ts k → IsFirstTextFault ts k f
   first-entered f other h low free = record { holds = entered-at ts k f (slice_get_within ts k t is) other (has-entered ts k ms s t m s' reached is step f h); lowest = λ g here. low g (fault-has g here); first = free }
 
   -- a entry without one
-  pub free-more : ((f : Fault) → ¬ Has f (uses_of ms) m) → IsFree ts k → IsFree ts (k + 1)
+  pub free-more : ((f : TextFault) → ¬ Has f (uses_of ms) m) → IsFree ts k → IsFree ts (k + 1)
   free-more none free j f below h = go (eq-or-lt_of_le (omega arith))
     where
       go : (j ≡ k) ⊎ (j < k) → ⊥
@@ -178,7 +178,7 @@ module _ (ts : List Token) (k : ℕ) (ms : List Entry) (s : PartText) (t : Token
       go (inl same) = none f (fault-has f (subst (λ (i : ℕ). IsFaultAt ts i f) same h))
 
 -- a whole text of which no token has a fault
-pub free-whole : (ts : List Token) (k : ℕ) → k ≡ length ts → IsWhole ts → IsFree ts k → (j : ℕ) (f : Fault) → ¬ IsFaultAt ts j f
+pub free-whole : (ts : List Token) (k : ℕ) → k ≡ length ts → IsWholeText ts → IsFree ts k → (j : ℕ) (f : TextFault) → ¬ IsFaultAt ts j f
 free-whole ts k end w free j NoGrammar (inl h) = free j NoGrammar (omega (arith, h.0)) (inl h)
 free-whole ts k end w free j NoGrammar (inr h) = h.1 w
 free-whole ts k end w free j NoContext h = free j NoContext (omega (arith, h.0)) h

@@ -11,7 +11,7 @@ use Rattle.mcs_system.specs.Plain.{Name}
 use Rattle.mcs_grammar.specs.Written.{Written, WrittenDefault, WrittenItem, Fact, Rule, DefaultTheory, WrittenContext, WrittenBridge, IsFormula, IsItem}
 use Rattle.mcs_grammar.specs.Entries.{Token, Use, BeginsItem, BeginsDefault, Entry, entry, whole_entries, after_sign, default_entries, item_entries, ended, tokens_of}
 use Rattle.mcs_grammar.specs.FormulaSteps.{PartFormula, no_formula, formula_step, formula_steps, finished}
-use Rattle.mcs_reader.specs.TextSteps.{Place, NextItem, InFact, InJust, InConclusion, PartDefault, PartText, Moved, goes, in_formula, is_program, is_theory, add_fact, add_default, one_more_just, whole_default, text_step}
+use Rattle.mcs_reader.specs.TextSteps.{Place, NextItem, InFact, InJust, InConclusion, PartDefault, PartText, Moved, goes, in_formula, is_program_kb, is_theory, add_fact, add_default, one_more_just, whole_default, text_step}
 use Rattle.mcs_grammar.proofs.FormulaParts.{is_joining}
 use Rattle.mcs_grammar.proofs.FormulaRuns.{Goes}
 use Rattle.mcs_reader.proofs.TextRuns.{Runs, runs-one, runs-cons, runs-append}
@@ -106,12 +106,12 @@ module _ (cs : List WrittenContext) (bs : List WrittenBridge) where
   formula-runs : (c : Name) (place : PartFormula → Place) → IsWithin c place → (w : Written) (h : IsFormula w) → Leads (place no_formula) (whole_entries c w) (place (taken c w h).end)
   formula-runs c place steps w h = within-runs c place steps no_formula (taken c w h).end (whole_entries c w) (taken c w h).steps
 
-  begins : (c : WrittenContext) (m : Entry) (f : PartFormula) → is_program c.kb ≡ false → formula_step c.name no_formula m.token ≡ Some (m, f) → text_step (text_of cs bs (NextItem c)) m.token ≡ Some (entry m.token (BeginsItem c.name ∷ m.uses), text_of cs bs (InFact c f))
+  begins : (c : WrittenContext) (m : Entry) (f : PartFormula) → is_program_kb c.kb ≡ false → formula_step c.name no_formula m.token ≡ Some (m, f) → text_step (text_of cs bs (NextItem c)) m.token ≡ Some (entry m.token (BeginsItem c.name ∷ m.uses), text_of cs bs (InFact c f))
   unfolding text_step
   begins c m f prog e = rw (begins-otherwise c.name m.token (m, f) e, prog) (formula-takes (text_of cs bs (NextItem c)) c.name (BeginsItem c.name ∷ []) no_formula m.token (InFact c) None (m, f) e)
 
   -- the first formula of an item
-  begun-runs : (c : WrittenContext) (ms : List Entry) (f : PartFormula) → is_program c.kb ≡ false → HasSome ms → Goes c.name no_formula ms f → Leads (NextItem c) (begun c.name ms) (InFact c f)
+  begun-runs : (c : WrittenContext) (ms : List Entry) (f : PartFormula) → is_program_kb c.kb ≡ false → HasSome ms → Goes c.name no_formula ms f → Leads (NextItem c) (begun c.name ms) (InFact c f)
   begun-runs c [] f prog h g = absurd h
   begun-runs c (m ∷ ms) f prog h g =
       runs-cons (text_of cs bs (NextItem c)) (text_of cs bs (InFact c g.0)) (text_of cs bs (InFact c f)) (entry m.token (BeginsItem c.name ∷ m.uses)) ms (begins c m g.0 prog g.1) (within-runs c.name (InFact c) (fact-within c) g.0 f ms g.2)
@@ -124,7 +124,7 @@ module _ (cs : List WrittenContext) (bs : List WrittenBridge) where
   unfolding text_step
   fact-ends c f w e = formula-ends (text_of cs bs (InFact c f)) c.name [] f (codes ".") (InFact c) _ (stops c.name f w (codes ".") refl e) ∙ rw e refl
 
-  pub fact-runs : (c : WrittenContext) (w : Written) → is_program c.kb ≡ false → IsFormula w → Leads (NextItem c) (ended c.name (whole_entries c.name w)) (NextItem (add_fact c w))
+  pub fact-runs : (c : WrittenContext) (w : Written) → is_program_kb c.kb ≡ false → IsFormula w → Leads (NextItem c) (ended c.name (whole_entries c.name w)) (NextItem (add_fact c w))
   fact-runs c w prog h =
       let x = taken c.name w h in
       runs-append (text_of cs bs (NextItem c)) (text_of cs bs (InFact c x.end)) (text_of cs bs (NextItem (add_fact c w))) (begun c.name (whole_entries c.name w)) (sign_entry (codes ".") ∷ [])
@@ -178,7 +178,7 @@ module _ (cs : List WrittenContext) (bs : List WrittenBridge) where
       let state : last ≡ InConclusion c (record { pre = pre; justs = done ++ j ∷ k ∷ ks }) y.end = ap (λ (xs : List Written). InConclusion c (record { pre = pre; justs = xs }) y.end) (append_assoc done (j ∷ []) (k ∷ ks)) in
       subst (λ (ms : List Entry). Leads (InJust c d no_formula) ms (InConclusion c (record { pre = pre; justs = done ++ j ∷ k ∷ ks }) y.end)) entries' (subst (Leads (InJust c d no_formula) (whole_entries c.name j ++ sign_entry (codes ",") ∷ others)) state run)
 
-  default-runs : (c : WrittenContext) (d : WrittenDefault) → is_theory c.kb ≡ true → is_program c.kb ≡ false → IsItem (Rule d) → Leads (NextItem c) (ended c.name (default_entries c.name d)) (NextItem (add_default c d))
+  default-runs : (c : WrittenContext) (d : WrittenDefault) → is_theory c.kb ≡ true → is_program_kb c.kb ≡ false → IsItem (Rule d) → Leads (NextItem c) (ended c.name (default_entries c.name d)) (NextItem (add_default c d))
   default-runs c d theory prog h =
       let n : Name = c.name in
       let x = taken n d.pre h.0 in

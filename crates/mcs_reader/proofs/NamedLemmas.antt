@@ -9,9 +9,9 @@ use Rattle.mcs_system.specs.Logic.{same_name}
 use Rattle.mcs_system.proofs.Sameness.{same_name-is, same_name-itself}
 use Rattle.mcs_grammar.specs.Written.{WrittenRead, WrittenBridge}
 use Rattle.mcs_grammar.specs.Entries.{Use, BeginsContext, BeginsBridge, NamesContext, NamesBridge, SaysProgram, BeginsItem, BeginsDefault, NamesTarget, NamesSource, BeginsBelief, EndsRead, AtomOf, IsNumber, OpensWithin, Entry}
-use Rattle.mcs_grammar.specs.Faults.{Fault, NoContext, Has}
+use Rattle.mcs_grammar.specs.Faults.{TextFault, NoContext, Has}
 use Rattle.mcs_reader.specs.TextSteps.{Place, Between, ContextName, KindWord, OpenBrace, NextItem, InFact, InJust, InConclusion, AfterHeadName, NextHeadName, AfterSign, NextLiteral, AfterNot, AfterLiteral, BridgeName, BridgeColon, HeadContext, HeadColon, InHead, AfterHead, NextRead, ReadContext, ReadColon, InRead, AfterRead}
-use Rattle.mcs_reader.specs.Known.{WasNamed, SpeaksOfNamed, AreKnown}
+use Rattle.mcs_reader.specs.Known.{WasNamed, SpeaksOfNamed, EachContextIsKnown}
 
 -- ---- what was named stays so
 module _ (before us : List Use) where
@@ -29,7 +29,7 @@ module _ (before us : List Use) where
   all-speak-later [] h = tt
   all-speak-later (b ∷ bs) h = (speaks-later b h.0, all-speak-later bs h.1)
 
-  pub known-later : (p : Place) → AreKnown before p → AreKnown (before ++ us) p
+  pub known-later : (p : Place) → EachContextIsKnown before p → EachContextIsKnown (before ++ us) p
   known-later Between h = tt
   known-later ContextName h = tt
   known-later (KindWord n) h = named-later n h
@@ -104,7 +104,7 @@ IsNamed before u = Unit {0}
 pub named-unless : (before : List Use) (c : Name) → ¬ ¬ WasNamed before c → WasNamed before c
 named-unless before c unless = elim (named-or-not before c) [ inl h ↦ h | inr none ↦ absurd (unless none) ]
 
-module _ (before : List Use) (m : Entry) (free : (f : Fault) → ¬ Has f before m) where
+module _ (before : List Use) (m : Entry) (free : (f : TextFault) → ¬ Has f before m) where
   use-named : (u : Use) → IsAmong u m.uses → IsNamed before u
   use-named (NamesTarget c) h = named-unless before c (λ none. free NoContext (c, inl h, none))
   use-named (NamesSource c) h = named-unless before c (λ none. free NoContext (c, inr h, none))

@@ -11,8 +11,8 @@ use Rattle.mcs_grammar.specs.Written.{WrittenLiteral, WrittenContext}
 use Rattle.mcs_grammar.specs.Entries.{Token, Use, BeginsItem, AtomOf, IsNumber, Entry}
 use Rattle.mcs_grammar.specs.Saying.{context_in, rule_in, positive_atoms, negative_atoms}
 use Rattle.mcs_grammar.specs.FormulaSteps.{PartFormula, no_formula, formula_step, is_name_word}
-use Rattle.mcs_grammar.specs.FormulaImages.{IsReader, IsAnswer}
-use Rattle.mcs_reader.specs.TextSteps.{Place, InFact, AfterSign, AfterLiteral, InConclusion, PartDefault, PartText, Moved, goes, on, on_name, in_formula, first_of_formula, first_of_rule, next_item, is_program, whole_rule, atom_uses}
+use Rattle.mcs_grammar.specs.FormulaImages.{IsReader, IsReaderAnswer}
+use Rattle.mcs_reader.specs.TextSteps.{Place, InFact, AfterSign, AfterLiteral, InConclusion, PartDefault, PartText, Moved, goes, on, on_name, in_formula, first_of_formula, first_of_rule, next_item, is_program_kb, whole_rule, atom_uses}
 use Rattle.mcs_grammar.specs.declared.formula.FormulaReader.{FormulaReader}
 use Rattle.mcs_grammar.specs.declared.formula.Answer as code_answer
 use Rattle.mcs_grammar.specs.declared.formula.Answer.TheVariants as replies
@@ -25,7 +25,7 @@ use Rattle.mcs_reader.specs.declared.place.Uses as code_uses
 use Rattle.mcs_reader.specs.declared.place.Step as code_step
 use Rattle.mcs_reader.specs.declared.place.Step.TheVariants as answers
 use Rattle.mcs_reader.specs.declared.place.Word.TheVariants as words
-use Rattle.mcs_reader.specs.TextImages.{HasSome, IsDefault, IsAt, Subject, of_context, about, about_context, capped, program_in, most_number, role_uses, uses_in, only, IsWord, IsStep}
+use Rattle.mcs_reader.specs.TextImages.{HasSome, IsDefault, IsAt, Subject, of_context, about, about_context, capped, program_in, most_number, role_uses, uses_in, only, IsWord, IsReaderStep}
 use Rattle.mcs_reader.proofs.ItemForward.{formula-takes, formula-ends}
 use Rattle.mcs_reader.proofs.StepLemmas.{goes-step, literals-count, long-step, program-same}
 
@@ -64,42 +64,42 @@ at-conclusion c d f w e same is some reader = (w, same, (e, is, some, (no_formul
 
 -- ---- a token where a name has to come
 pub name-goes : (step : code_step.Step) (u : Subject) (place : code_place.Place) (role : code_role.Role) (s : PartText) (t : Token) (us : List Use) (q : Place)
-    → step ≡ answers.Moves place (only role) → IsTrue (is_name_word t) → IsAt place q → map capped us ≡ role_uses (about u q) t role → IsStep step u s t (on_name t (goes s t us q))
+    → step ≡ answers.Moves place (only role) → IsTrue (is_name_word t) → IsAt place q → map capped us ≡ role_uses (about u q) t role → IsReaderStep step u s t (on_name t (goes s t us q))
 name-goes step u place role s t us q e name is uses = goes-step step u place role s t (on_name t (goes s t us q)) us q e (ap (λ (b : Bool). cond b (goes s t us q) None) name) is uses
 
 pub name-long : (step : code_step.Step) (u : Subject) (role : code_role.Role) (s : PartText) (t : Token) (us : List Use) (q : Place)
-    → step ≡ answers.LongName (only role) → IsWord words.Long t → map capped us ≡ role_uses (about u q) t role → IsStep step u s t (on_name t (goes s t us q))
+    → step ≡ answers.LongName (only role) → IsWord words.Long t → map capped us ≡ role_uses (about u q) t role → IsReaderStep step u s t (on_name t (goes s t us q))
 name-long step u role s t us q e long uses =
-    subst (λ (x : code_step.Step). IsStep x u s t (on_name t (goes s t us q))) (sym e) (us, (q, ap (λ (b : Bool). cond b (goes s t us q) None) long.0, long.0, long.1, uses))
+    subst (λ (x : code_step.Step). IsReaderStep x u s t (on_name t (goes s t us q))) (sym e) (us, (q, ap (λ (b : Bool). cond b (goes s t us q) None) long.0, long.0, long.1, uses))
 
-pub name-other : (step : code_step.Step) (u : Subject) (s : PartText) (t : Token) (moved : Moved) → step ≡ answers.Refused → IsWord words.Other t → IsStep step u s t (on_name t moved)
-name-other step u s t moved e other = subst (λ (x : code_step.Step). IsStep x u s t (on_name t moved)) (sym e) (ap (λ (b : Bool). cond b moved None) other)
+pub name-other : (step : code_step.Step) (u : Subject) (s : PartText) (t : Token) (moved : Moved) → step ≡ answers.Refused → IsWord words.Other t → IsReaderStep step u s t (on_name t moved)
+name-other step u s t moved e other = subst (λ (x : code_step.Step). IsReaderStep x u s t (on_name t moved)) (sym e) (ap (λ (b : Bool). cond b moved None) other)
 
 -- ---- a token of a formula of an item of the context c, which is there for `before` too
 module _ (s : PartText) (c : Name) (f : PartFormula) (t : Token) (q : PartFormula → Place) (otherwise : Moved) (role : code_role.Role) (before : List Use) (u : code_uses.Uses)
-    (old now : FormulaReader) (reader : IsReader old f) (a : code_answer.Answer) (answer : IsAnswer a old now f t)
+    (old now : FormulaReader) (reader : IsReader old f) (a : code_answer.Answer) (answer : IsReaderAnswer a old now f t)
     (role-is : (n : Name) (g : PartFormula) (r : Entry × PartFormula) → IsReader old g → formula_step n g t ≡ Some r → map capped (r.0).uses ≡ role_uses (about_context n) t role)
     (joined : (g : PartFormula) (us : List Use) → map capped us ≡ role_uses (about_context c) t role → map capped (before ++ us) ≡ uses_in (about (of_context c) (q g)) t u) where
-  pub item-goes : (step : code_step.Step) (place : code_place.Place) → step ≡ answers.Moves place u → a ≡ replies.Taken → ((g : PartFormula) → IsReader now g → IsAt place (q g)) → IsStep step (of_context c) s t (in_formula s c before f t q otherwise)
+  pub item-goes : (step : code_step.Step) (place : code_place.Place) → step ≡ answers.Moves place u → a ≡ replies.Taken → ((g : PartFormula) → IsReader now g → IsAt place (q g)) → IsReaderStep step (of_context c) s t (in_formula s c before f t q otherwise)
   item-goes step place e taken at =
-      let r = subst (λ (x : code_answer.Answer). IsAnswer x old now f t) taken answer c in
-      subst (λ (x : code_step.Step). IsStep x (of_context c) s t (in_formula s c before f t q otherwise)) (sym e)
+      let r = subst (λ (x : code_answer.Answer). IsReaderAnswer x old now f t) taken answer c in
+      subst (λ (x : code_step.Step). IsReaderStep x (of_context c) s t (in_formula s c before f t q otherwise)) (sym e)
       (before ++ (r.0.0).uses, (q r.0.1, formula-takes s c before f t q otherwise r.0 r.1.0, at r.0.1 r.1.1, joined r.0.1 (r.0.0).uses (role-is c f r.0 reader r.1.0)))
 
-  pub item-long : (step : code_step.Step) → step ≡ answers.LongName u → a ≡ replies.TooLong → IsStep step (of_context c) s t (in_formula s c before f t q otherwise)
+  pub item-long : (step : code_step.Step) → step ≡ answers.LongName u → a ≡ replies.TooLong → IsReaderStep step (of_context c) s t (in_formula s c before f t q otherwise)
   item-long step e long =
-      let h = subst (λ (x : code_answer.Answer). IsAnswer x old now f t) long answer in
+      let h = subst (λ (x : code_answer.Answer). IsReaderAnswer x old now f t) long answer in
       let r = long-step c f t h.0 h.1 in
-      subst (λ (x : code_step.Step). IsStep x (of_context c) s t (in_formula s c before f t q otherwise)) (sym e)
+      subst (λ (x : code_step.Step). IsReaderStep x (of_context c) s t (in_formula s c before f t q otherwise)) (sym e)
       (before ++ (r.0.0).uses, (q r.0.1, formula-takes s c before f t q otherwise r.0 r.1, h.1, h.2, joined r.0.1 (r.0.0).uses (role-is c f r.0 reader r.1)))
 
-pub first-refused : (s : PartText) (w : WrittenContext) (t : Token) (a : code_answer.Answer) (old now : FormulaReader) → IsAnswer a old now no_formula t → a ≡ replies.Refused → first_of_formula s w t ≡ None
+pub first-refused : (s : PartText) (w : WrittenContext) (t : Token) (a : code_answer.Answer) (old now : FormulaReader) → IsReaderAnswer a old now no_formula t → a ≡ replies.Refused → first_of_formula s w t ≡ None
 first-refused s w t a old now answer refused =
-    let h = subst (λ (x : code_answer.Answer). IsAnswer x old now no_formula t) refused answer in
+    let h = subst (λ (x : code_answer.Answer). IsReaderAnswer x old now no_formula t) refused answer in
     formula-ends s w.name (BeginsItem w.name ∷ []) no_formula t (InFact w) None (h.0 w.name)
 
 -- ---- the first token of an item
-program-of : (c : code_context.Context) (w : WrittenContext) (p : Bool) → context_of c ≡ context_in w → p ≡ program_in (kb_of c.kb) → is_program w.kb ≡ p
+program-of : (c : code_context.Context) (w : WrittenContext) (p : Bool) → context_of c ≡ context_in w → p ≡ program_in (kb_of c.kb) → is_program_kb w.kb ≡ p
 program-of c w p same e = sym (program-same w.kb) ∙ sym (ap (λ (x : plain.Context). program_in x.kb) same) ∙ sym e
 
 pub rule-next : (s : PartText) (c : code_context.Context) (w : WrittenContext) (t : Token) (b p : Bool) → context_of c ≡ context_in w → b ≡ bytes_eq t (codes "}") → b ≡ false → p ≡ program_in (kb_of c.kb) → p ≡ true → next_item s w t ≡ first_of_rule s w t

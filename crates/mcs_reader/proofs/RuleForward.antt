@@ -7,7 +7,7 @@ use Rattle.mcs_system.specs.Plain.{Name}
 use Rattle.mcs_grammar.specs.Written.{WrittenLiteral, WrittenRule, WrittenContext, WrittenBridge, IsNameWord, IsRule}
 use Rattle.mcs_grammar.specs.Entries.{BeginsItem, AtomOf, IsNumber, Entry, entry, atom_entry, further_heads, head_entries, literal_entries, further_literals, body_entries, rule_entries, ended}
 use Rattle.mcs_grammar.specs.FormulaSteps.{is_name_word}
-use Rattle.mcs_reader.specs.TextSteps.{Place, NextItem, AfterHeadName, NextHeadName, AfterSign, NextLiteral, AfterNot, AfterLiteral, PartText, is_program, add_rule, whole_rule, text_step}
+use Rattle.mcs_reader.specs.TextSteps.{Place, NextItem, AfterHeadName, NextHeadName, AfterSign, NextLiteral, AfterNot, AfterLiteral, PartText, is_program_kb, add_rule, whole_rule, text_step}
 use Rattle.mcs_grammar.proofs.FormulaRuns.{word-apart}
 use Rattle.mcs_reader.proofs.TextRuns.{Runs, runs-one, runs-cons, runs-append}
 use Rattle.mcs_reader.proofs.TextParts.{sign_entry, begun, AreNames, AreLiterals, text_of}
@@ -23,11 +23,11 @@ module _ (cs : List WrittenContext) (bs : List WrittenBridge) where
   abbrev Leads : Place → List Entry → Place → Type 0
   Leads p ms p' = Runs (text_of cs bs p) ms (text_of cs bs p')
 
-  first-name : (c : WrittenContext) (a : Name) → is_program c.kb ≡ true → IsNameWord a → text_step (text_of cs bs (NextItem c)) a ≡ Some (entry a (BeginsItem c.name ∷ AtomOf c.name a ∷ IsNumber 1 ∷ []), text_of cs bs (AfterHeadName c (a ∷ [])))
+  first-name : (c : WrittenContext) (a : Name) → is_program_kb c.kb ≡ true → IsNameWord a → text_step (text_of cs bs (NextItem c)) a ≡ Some (entry a (BeginsItem c.name ∷ AtomOf c.name a ∷ IsNumber 1 ∷ []), text_of cs bs (AfterHeadName c (a ∷ [])))
   unfolding text_step
   first-name c a prog h = rw (word-apart a (codes "}") h refl, prog, word-apart a (codes ":-") h refl, h) refl
 
-  first-sign : (c : WrittenContext) → is_program c.kb ≡ true → text_step (text_of cs bs (NextItem c)) (codes ":-") ≡ Some (entry (codes ":-") (BeginsItem c.name ∷ []), text_of cs bs (AfterSign c []))
+  first-sign : (c : WrittenContext) → is_program_kb c.kb ≡ true → text_step (text_of cs bs (NextItem c)) (codes ":-") ≡ Some (entry (codes ":-") (BeginsItem c.name ∷ []), text_of cs bs (AfterSign c []))
   unfolding text_step
   first-sign c prog = rw prog refl
 
@@ -51,7 +51,7 @@ module _ (cs : List WrittenContext) (bs : List WrittenBridge) where
       (runs-cons (text_of cs bs (NextHeadName c head)) (text_of cs bs (AfterHeadName c more)) (text_of cs bs last) (atom_entry c.name (n + 1) a) (further_heads c.name (n + 1) names) (next-name c head n a len h.0) (heads-run c more (n + 1) names len' h.1)) in
       subst (λ (xs : List Name). Leads (AfterHeadName c head) (further_heads c.name n (a ∷ names)) (AfterHeadName c xs)) (append_assoc head (a ∷ []) names) run
 
-  head-runs : (c : WrittenContext) (head : List Name) → is_program c.kb ≡ true → HasSome head → AreNames head → Leads (NextItem c) (begun c.name (head_entries c.name head)) (AfterHeadName c head)
+  head-runs : (c : WrittenContext) (head : List Name) → is_program_kb c.kb ≡ true → HasSome head → AreNames head → Leads (NextItem c) (begun c.name (head_entries c.name head)) (AfterHeadName c head)
   head-runs c [] prog h names = absurd h
   head-runs c (a ∷ head) prog h names =
       runs-cons (text_of cs bs (NextItem c)) (text_of cs bs (AfterHeadName c (a ∷ []))) (text_of cs bs (AfterHeadName c (a ∷ head))) (entry a (BeginsItem c.name ∷ AtomOf c.name a ∷ IsNumber 1 ∷ [])) (further_heads c.name 1 head) (first-name c a prog names.0)
@@ -141,19 +141,19 @@ module _ (cs : List WrittenContext) (bs : List WrittenBridge) where
       (runs-one end (text_of cs bs (NextItem (add_rule c (whole_rule head true (l ∷ ls))))) (sign_entry (codes ".")) (body-ends c head (l ∷ ls)))
 
   -- the head and the sign
-  sign-runs : (c : WrittenContext) (head : List Name) → is_program c.kb ≡ true → AreNames head → Leads (NextItem c) (begun c.name (head_entries c.name head ++ sign_entry (codes ":-") ∷ [])) (AfterSign c head)
+  sign-runs : (c : WrittenContext) (head : List Name) → is_program_kb c.kb ≡ true → AreNames head → Leads (NextItem c) (begun c.name (head_entries c.name head ++ sign_entry (codes ":-") ∷ [])) (AfterSign c head)
   sign-runs c [] prog h = runs-one (text_of cs bs (NextItem c)) (text_of cs bs (AfterSign c [])) (entry (codes ":-") (BeginsItem c.name ∷ [])) (first-sign c prog)
   sign-runs c (a ∷ head) prog h =
       runs-append (text_of cs bs (NextItem c)) (text_of cs bs (AfterHeadName c (a ∷ head))) (text_of cs bs (AfterSign c (a ∷ head))) (begun c.name (head_entries c.name (a ∷ head))) (sign_entry (codes ":-") ∷ []) (head-runs c (a ∷ head) prog tt h)
       (runs-one (text_of cs bs (AfterHeadName c (a ∷ head))) (text_of cs bs (AfterSign c (a ∷ head))) (sign_entry (codes ":-")) (head-sign c (a ∷ head)))
 
-  fact-runs : (c : WrittenContext) (head : List Name) → is_program c.kb ≡ true → HasSome head → AreNames head → Leads (NextItem c) (ended c.name (rule_entries c.name (whole_rule head false []))) (NextItem (add_rule c (whole_rule head false [])))
+  fact-runs : (c : WrittenContext) (head : List Name) → is_program_kb c.kb ≡ true → HasSome head → AreNames head → Leads (NextItem c) (ended c.name (rule_entries c.name (whole_rule head false []))) (NextItem (add_rule c (whole_rule head false [])))
   fact-runs c head prog some h =
       let last : PartText = text_of cs bs (NextItem (add_rule c (whole_rule head false []))) in
       let run = runs-append (text_of cs bs (NextItem c)) (text_of cs bs (AfterHeadName c head)) last (begun c.name (head_entries c.name head)) (sign_entry (codes ".") ∷ []) (head-runs c head prog some h) (runs-one (text_of cs bs (AfterHeadName c head)) last (sign_entry (codes ".")) (head-ends c head)) in
       subst (λ (ms : List Entry). Leads (NextItem c) (ended c.name ms) (NextItem (add_rule c (whole_rule head false [])))) (sym (append-nil (head_entries c.name head))) run
 
-  signed-runs : (c : WrittenContext) (head : List Name) (body : List WrittenLiteral) → is_program c.kb ≡ true → AreNames head → AreLiterals body → Leads (NextItem c) (ended c.name (rule_entries c.name (whole_rule head true body))) (NextItem (add_rule c (whole_rule head true body)))
+  signed-runs : (c : WrittenContext) (head : List Name) (body : List WrittenLiteral) → is_program_kb c.kb ≡ true → AreNames head → AreLiterals body → Leads (NextItem c) (ended c.name (rule_entries c.name (whole_rule head true body))) (NextItem (add_rule c (whole_rule head true body)))
   signed-runs c head body prog h literals =
       let sign : List Entry = sign_entry (codes ":-") ∷ [] in
       let period : List Entry = sign_entry (codes ".") ∷ [] in
@@ -164,7 +164,7 @@ module _ (cs : List WrittenContext) (bs : List WrittenBridge) where
       subst (λ (ms : List Entry). Leads (NextItem c) ms (NextItem (add_rule c (whole_rule head true body)))) entries'
       (runs-append (text_of cs bs (NextItem c)) (text_of cs bs (AfterSign c head)) (text_of cs bs (NextItem (add_rule c (whole_rule head true body)))) (begun c.name (heads ++ sign)) (body_entries c.name (length head) body ++ period) (sign-runs c head prog h) (body-runs c head body literals))
 
-  pub rule-runs : (c : WrittenContext) (r : WrittenRule) → is_program c.kb ≡ true → IsRule r → Leads (NextItem c) (ended c.name (rule_entries c.name r)) (NextItem (add_rule c r))
+  pub rule-runs : (c : WrittenContext) (r : WrittenRule) → is_program_kb c.kb ≡ true → IsRule r → Leads (NextItem c) (ended c.name (rule_entries c.name r)) (NextItem (add_rule c r))
   rule-runs c r prog h = go r.head r.has_sign r.body h
     where
       go : (head : List Name) (sign : Bool) (body : List WrittenLiteral) → IsRule (whole_rule head sign body) → Leads (NextItem c) (ended c.name (rule_entries c.name (whole_rule head sign body))) (NextItem (add_rule c (whole_rule head sign body)))

@@ -13,7 +13,7 @@ use Rattle.mcs_system.specs.Logic.{atoms}
 use Rattle.mcs_system.specs.declared.limit.Limit.TheVariants.{NameBytes}
 use Rattle.mcs_grammar.specs.Written.{Written, WrittenRead, WrittenBridge, IsNameWord}
 use Rattle.mcs_grammar.specs.Entries.{Token, Use, AtomOf, Entry, formula_in, bridge_entries, uses_of}
-use Rattle.mcs_grammar.specs.Faults.{Fault, Exceeds, Has}
+use Rattle.mcs_grammar.specs.Faults.{TextFault, Exceeds, Has}
 use Rattle.mcs_reader.specs.TextSteps.{PartRead, Place, AfterRead, PartText, nothing_written, text_step, text_steps, with_read}
 use Rattle.mcs_reader.proofs.TextRuns.{steps-first}
 use Rattle.mcs_reader.proofs.TextParts.{sign_entry, open_bridge, so_far, whole_parts, entries_so_far}
@@ -62,7 +62,7 @@ steps-name s (t ∷ ts) ms s' e =
 
 -- no entry has a fault after those before it
 abbrev pub AreFaultless : List Entry → Type 0
-AreFaultless entries = (j : ℕ) (m : Entry) (f : Fault) → slice_get entries j ≡ Some m → ¬ Has f (uses_of (take j entries)) m
+AreFaultless entries = (j : ℕ) (m : Entry) (f : TextFault) → slice_get entries j ≡ Some m → ¬ Has f (uses_of (take j entries)) m
 
 pub short-name : (before : List Use) (m : Entry) → ¬ Has (Exceeds NameBytes) before m → IsNameWord m.token → length m.token ≤ most_name_bytes
 short-name before m none word = elim (cases_lt most_name_bytes (length m.token)) [ inl long ↦ absurd (none (word, long)) | inr short ↦ short ]

@@ -7,14 +7,14 @@ use Rattle.mcs_grammar.specs.Written.{Written, True', False', Named, WrittenLite
 use Rattle.mcs_grammar.specs.Entries.{Token, Use, AtomOf, IsNumber, OpensWithin, Entry, entry}
 use Rattle.mcs_grammar.specs.Saying.{kb_in, positive_atoms, negative_atoms}
 use Rattle.mcs_grammar.specs.FormulaSteps.{PartFormula, Pending, Tilde, Parenthesis, And, Or, Implies, Iff, size_so_far, opened_so_far, waits, behind, settle, numbered_entry, operand_step, sign_step, closed, reduce, formula_step, is_name_word}
-use Rattle.mcs_reader.specs.TextSteps.{Place, PartText, Moved, goes, is_program}
+use Rattle.mcs_reader.specs.TextSteps.{Place, PartText, Moved, goes, is_program_kb}
 use Rattle.mcs_reader.specs.declared.place.Place as code_place
 use Rattle.mcs_reader.specs.declared.place.Role as code_role
 use Rattle.mcs_reader.specs.declared.place.Role.TheVariants as roles
 use Rattle.mcs_reader.specs.declared.place.Step as code_step
 use Rattle.mcs_reader.specs.declared.place.Step.TheVariants as answers
 use Rattle.mcs_grammar.specs.FormulaImages.{most_counted}
-use Rattle.mcs_reader.specs.TextImages.{IsAt, Subject, about_context, about, capped, most_number, role_uses, program_in, only, IsStep}
+use Rattle.mcs_reader.specs.TextImages.{IsAt, Subject, about_context, about, capped, most_number, role_uses, program_in, only, IsReaderStep}
 use Rattle.mcs_grammar.proofs.FormulaRuns.{word-apart, true-no-name, false-no-name}
 use Rattle.std.proofs.lemmas.Slice.Eq.{bytes_eq-Decides}
 use Rattle.std.proofs.lemmas.Option.{none-some, same_Some}
@@ -23,8 +23,8 @@ use Rattle.mcs_grammar.proofs.FormulaParts.{part}
 
 -- ---- a token that is there for one thing alone, and one that begins an item
 pub goes-step : (step : code_step.Step) (u : Subject) (place : code_place.Place) (r : code_role.Role) (s : PartText) (t : Token) (moved : Moved) (us : List Use) (q : Place)
-    → step ≡ answers.Moves place (only r) → moved ≡ goes s t us q → IsAt place q → map capped us ≡ role_uses (about u q) t r → IsStep step u s t moved
-goes-step step u place r s t moved us q e is at uses = subst (λ (x : code_step.Step). IsStep x u s t moved) (sym e) (us, (q, is, at, uses))
+    → step ≡ answers.Moves place (only r) → moved ≡ goes s t us q → IsAt place q → map capped us ≡ role_uses (about u q) t r → IsReaderStep step u s t moved
+goes-step step u place r s t moved us q e is at uses = subst (λ (x : code_step.Step). IsReaderStep x u s t moved) (sym e) (us, (q, is, at, uses))
 
 -- ---- the literals of a rule
 pub literals-count : (body : List WrittenLiteral) → length (positive_atoms body) + length (negative_atoms body) ≡ length body
@@ -107,7 +107,7 @@ role-counted c s t n k no1 no2 name e h =
     rw (no1, no2, name) (ap (λ (i : ℕ). IsNumber i ∷ []) number)
 
 -- ---- whether a context is a program
-pub program-same : (w : WrittenKb) → program_in (kb_in w) ≡ is_program w
+pub program-same : (w : WrittenKb) → program_in (kb_in w) ≡ is_program_kb w
 program-same (Classical formulas) = refl
 program-same (DefaultTheory items) = refl
 program-same (Program rules) = refl

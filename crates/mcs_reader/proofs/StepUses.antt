@@ -11,7 +11,7 @@ use Rattle.mcs_grammar.specs.Written.{Written, WrittenLiteral, Classical, Defaul
 use Rattle.mcs_grammar.specs.Entries.{Token, Use, BeginsContext, BeginsBridge, NamesContext, NamesBridge, SaysProgram, BeginsItem, BeginsDefault, NamesTarget, NamesSource, EndsRead, AtomOf, IsNumber, OpensWithin, Entry, entry, formula_in}
 use Rattle.mcs_grammar.specs.FormulaSteps.{Pending, PartFormula, no_formula, formula_step, is_name_word, opened_so_far, size_so_far}
 use Rattle.mcs_reader.specs.TextSteps as steps
-use Rattle.mcs_reader.specs.TextSteps.{PartDefault, PartRead, Place, Between, ContextName, KindWord, OpenBrace, NextItem, InFact, InJust, InConclusion, AfterHeadName, NextHeadName, AfterSign, NextLiteral, AfterNot, AfterLiteral, BridgeName, BridgeColon, HeadContext, HeadColon, InHead, AfterHead, NextRead, ReadContext, ReadColon, InRead, AfterRead, PartText, Moved, goes, atom_uses, empty_context, add_fact, add_default, add_rule, one_more_just, whole_default, whole_rule, headed, with_read, first_of_belief, is_theory, is_program, context_is_whole, bridge_is_whole, step_at, text_step}
+use Rattle.mcs_reader.specs.TextSteps.{PartDefault, PartRead, Place, Between, ContextName, KindWord, OpenBrace, NextItem, InFact, InJust, InConclusion, AfterHeadName, NextHeadName, AfterSign, NextLiteral, AfterNot, AfterLiteral, BridgeName, BridgeColon, HeadContext, HeadColon, InHead, AfterHead, NextRead, ReadContext, ReadColon, InRead, AfterRead, PartText, Moved, goes, atom_uses, context_begun, add_fact, add_default, add_rule, one_more_just, whole_default, whole_rule, headed, with_read, first_of_belief, is_theory, is_program_kb, context_is_whole, bridge_is_whole, step_at, text_step}
 use Rattle.mcs_reader.proofs.TextLemmas.{on-is, name-is, formula-is, whole-is, belief-is}
 use Rattle.mcs_reader.proofs.StepLemmas.{uses-of-step}
 
@@ -67,16 +67,16 @@ module _ (s : PartText) (t : Token) (r : Entry × PartText) where
       by_cond (bytes_eq t (codes "context") && nat_eq (length s.bridges) 0) _ _ (Some r) e (λ is g. goes-shows (BeginsContext ∷ []) ContextName g (tt, tt))
       (λ _ e2. on-is t (codes "bridge") _ _ r e2 (λ is g. goes-shows (BeginsBridge ∷ []) BridgeName g (tt, tt)) (λ no. absurd (none-some r no)))
 
-  kind-shows : (n : Name) → steps.kind_word s n t ≡ Some r → AreShown t r
+  kind-shows : (n : Name) → steps.step_of_kind_word s n t ≡ Some r → AreShown t r
   kind-shows n e =
-      on-is t (codes "classical") _ _ r e (λ is g. goes-shows [] (OpenBrace (empty_context n (Classical []))) g tt)
-      (λ e2. on-is t (codes "default") _ _ r e2 (λ is g. goes-shows [] (OpenBrace (empty_context n (DefaultTheory []))) g tt)
-      (λ e3. on-is t (codes "program") _ _ r e3 (λ is g. goes-shows (SaysProgram n ∷ []) (OpenBrace (empty_context n (Program []))) g (tt, tt)) (λ no. absurd (none-some r no))))
+      on-is t (codes "classical") _ _ r e (λ is g. goes-shows [] (OpenBrace (context_begun n (Classical []))) g tt)
+      (λ e2. on-is t (codes "default") _ _ r e2 (λ is g. goes-shows [] (OpenBrace (context_begun n (DefaultTheory []))) g tt)
+      (λ e3. on-is t (codes "program") _ _ r e3 (λ is g. goes-shows (SaysProgram n ∷ []) (OpenBrace (context_begun n (Program []))) g (tt, tt)) (λ no. absurd (none-some r no))))
 
   item-shows : (c : WrittenContext) → steps.next_item s c t ≡ Some r → AreShown t r
   item-shows c e =
       on-is t (codes "}") _ _ r e (λ is g. ends-shows (context_is_whole s c) g)
-      (λ e2. by_cond (is_program c.kb) _ _ (Some r) e2
+      (λ e2. by_cond (is_program_kb c.kb) _ _ (Some r) e2
       (λ _ e3. on-is t (codes ":-") _ _ r e3 (λ is g. goes-shows (BeginsItem c.name ∷ []) (AfterSign c []) g (tt, tt))
       (λ e4. name-is t _ r e4 (λ name g. goes-shows (BeginsItem c.name ∷ atom_uses c 1 t) (AfterHeadName c (t ∷ [])) g (tt, ((refl, name), (tt, tt))))))
       (λ _ e3. formula-is s c.name (BeginsItem c.name ∷ []) no_formula t (InFact c) None r e3
@@ -123,7 +123,7 @@ module _ (s : PartText) (t : Token) (r : Entry × PartText) where
   next-literal-shows : (c : WrittenContext) (head : List Name) (body : List WrittenLiteral) → steps.next_literal s c head body t ≡ Some r → AreShown t r
   next-literal-shows c head body e = on-is t (codes "not") _ _ r e (λ is g. goes-shows [] (AfterNot c head body) g tt) (λ e2. literal-shows c head body false e2)
 
-  sign-of-rule-shows : (c : WrittenContext) (head : List Name) → steps.after_sign s c head t ≡ Some r → AreShown t r
+  sign-of-rule-shows : (c : WrittenContext) (head : List Name) → steps.step_after_sign s c head t ≡ Some r → AreShown t r
   sign-of-rule-shows c head e = on-is t (codes ".") _ _ r e (λ is g. goes-shows [] (NextItem (add_rule c (whole_rule head true []))) g tt) (λ e2. next-literal-shows c head [] e2)
 
   after-literal-shows : (c : WrittenContext) (head : List Name) (body : List WrittenLiteral) → steps.after_literal s c head body t ≡ Some r → AreShown t r

@@ -17,8 +17,8 @@ use Rattle.mcs_reader.specs.declared.place.Role.TheVariants as roles
 use Rattle.mcs_reader.specs.declared.place.Uses as code_uses
 use Rattle.mcs_reader.specs.declared.place.Step as code_step
 use Rattle.mcs_reader.specs.declared.place.Step.TheVariants as answers
-use Rattle.mcs_reader.specs.TextImages.{IsBridge, IsAt, AreBridges, IsTextReader, IsTaken, IsStep, subject_at, last_read, only}
-use Rattle.mcs_reader.specs.Ends.{AreParts}
+use Rattle.mcs_reader.specs.TextImages.{IsBridgeImage, IsAt, AreBridges, IsTextReader, IsTokenTaken, IsReaderStep, subject_at, last_read, only}
+use Rattle.mcs_reader.specs.Ends.{AreReaderParts}
 
 -- ---- the bridge rules
 bridges-many : (bs : List code_bridge.NamedBridge) (ws : List WrittenBridge) → AreBridges bs ws → length bs ≡ length ws
@@ -30,7 +30,7 @@ bridges-many (x ∷ bs) (w ∷ ws) h = let more = bridges-many bs ws h.1 in omeg
 pub bridges-empty : (b : Bool) (n : ℕ) (bs : List code_bridge.NamedBridge) (ws : List WrittenBridge) → b ≡ nat_eq n 0 → n ≡ length bs → AreBridges bs ws → b ≡ nat_eq (length ws) 0
 bridges-empty b n bs ws e many h = e ∙ ap (λ (k : ℕ). nat_eq k 0) (many ∙ bridges-many bs ws h)
 
-pub bridges-more : (bs : List code_bridge.NamedBridge) (ws : List WrittenBridge) (b : code_bridge.NamedBridge) (w : WrittenBridge) → AreBridges bs ws → IsBridge b w → AreBridges (bs ++ b ∷ []) (ws ++ w ∷ [])
+pub bridges-more : (bs : List code_bridge.NamedBridge) (ws : List WrittenBridge) (b : code_bridge.NamedBridge) (w : WrittenBridge) → AreBridges bs ws → IsBridgeImage b w → AreBridges (bs ++ b ∷ []) (ws ++ w ∷ [])
 bridges-more [] [] b w h is = (is, tt)
 bridges-more [] (v ∷ ws) b w h is = absurd h
 bridges-more (x ∷ bs) [] b w h is = absurd h
@@ -44,28 +44,28 @@ step-is : (s : PartText) (t : Token) → text_step s t ≡ step_at s t s.place
 unfolding text_step
 step-is s t = refl
 
-module _ (old now : Reader) (s : PartText) (t : Token) (reader : IsTextReader old s) (step : code_step.Step) (is : IsStep step (subject_at s.place) s t (step_at s t s.place)) where
+module _ (old now : Reader) (s : PartText) (t : Token) (reader : IsTextReader old s) (step : code_step.Step) (is : IsReaderStep step (subject_at s.place) s t (step_at s t s.place)) where
   abbrev Stepped : code_step.Step → Type 0
-  Stepped x = IsStep x (subject_at s.place) s t (step_at s t s.place)
+  Stepped x = IsReaderStep x (subject_at s.place) s t (step_at s t s.place)
 
-  pub refused-taken : step ≡ answers.Refused → IsTaken None now s t
+  pub refused-taken : step ≡ answers.Refused → IsTokenTaken None now s t
   refused-taken e = step-is s t ∙ subst Stepped e is
 
-  pub moves-taken : (place : code_place.Place) (uses : code_uses.Uses) → step ≡ answers.Moves place uses → now ≡ record old { place = place } → IsTaken (Some uses) now s t
+  pub moves-taken : (place : code_place.Place) (uses : code_uses.Uses) → step ≡ answers.Moves place uses → now ≡ record old { place = place } → IsTokenTaken (Some uses) now s t
   moves-taken place uses e same =
       let h : Stepped (answers.Moves place uses) = subst Stepped e is in
       let here : IsTextReader (record old { place = place }) (record s { place = h.1.0 }) = record { contexts = reader.contexts; bridges = reader.bridges; place = h.1.2 } in
       ((entry t h.0, record s { place = h.1.0 }), step-is s t ∙ h.1.1, h.1.3, inl (subst (λ (r : Reader). IsTextReader r (record s { place = h.1.0 })) (sym same) here))
 
-  pub long-taken : (uses : code_uses.Uses) → step ≡ answers.LongName uses → now.place ≡ places.Between → IsTaken (Some uses) now s t
+  pub long-taken : (uses : code_uses.Uses) → step ≡ answers.LongName uses → now.place ≡ places.Between → IsTokenTaken (Some uses) now s t
   long-taken uses e place =
       let h : Stepped (answers.LongName uses) = subst Stepped e is in
       ((entry t h.0, record s { place = h.1.0 }), step-is s t ∙ h.1.1, h.1.4, inr (record { name = h.1.2; long = h.1.3; no_read = ap last_read place }))
 
-  pub context-taken : (c : code_context.Context) (uses : code_uses.Uses) → step ≡ answers.EndsContext c → uses ≡ only roles.Nothing → now.contexts.items ≡ old.contexts.items ++ c ∷ [] → now.bridges.items ≡ old.bridges.items → now.place ≡ places.Between → IsTaken (Some uses) now s t
+  pub context-taken : (c : code_context.Context) (uses : code_uses.Uses) → step ≡ answers.EndsContext c → uses ≡ only roles.Nothing → now.contexts.items ≡ old.contexts.items ++ c ∷ [] → now.bridges.items ≡ old.bridges.items → now.place ≡ places.Between → IsTokenTaken (Some uses) now s t
   context-taken c uses e alone cs bs place =
       let h : Stepped (answers.EndsContext c) = subst Stepped e is in
-      let here : IsTaken (Some (only roles.Nothing)) now s t = (
+      let here : IsTokenTaken (Some (only roles.Nothing)) now s t = (
         (entry t [], context_is_whole s h.0),
         step-is s t ∙ h.2,
         refl,
@@ -75,12 +75,12 @@ module _ (old now : Reader) (s : PartText) (t : Token) (reader : IsTextReader ol
           place = subst (λ (p : code_place.Place). IsAt p (context_is_whole s h.0).place) (sym place) refl;
         }),
       ) in
-      subst (λ (u : code_uses.Uses). IsTaken (Some u) now s t) (sym alone) here
+      subst (λ (u : code_uses.Uses). IsTokenTaken (Some u) now s t) (sym alone) here
 
-  pub bridge-taken : (b : code_bridge.NamedBridge) (uses : code_uses.Uses) → step ≡ answers.EndsBridge b → uses ≡ only roles.Nothing → now.contexts.items ≡ old.contexts.items → now.bridges.items ≡ old.bridges.items ++ b ∷ [] → now.place ≡ places.Between → IsTaken (Some uses) now s t
+  pub bridge-taken : (b : code_bridge.NamedBridge) (uses : code_uses.Uses) → step ≡ answers.EndsBridge b → uses ≡ only roles.Nothing → now.contexts.items ≡ old.contexts.items → now.bridges.items ≡ old.bridges.items ++ b ∷ [] → now.place ≡ places.Between → IsTokenTaken (Some uses) now s t
   bridge-taken b uses e alone cs bs place =
       let h : Stepped (answers.EndsBridge b) = subst Stepped e is in
-      let here : IsTaken (Some (only roles.Nothing)) now s t = (
+      let here : IsTokenTaken (Some (only roles.Nothing)) now s t = (
         (entry t [], bridge_is_whole s h.0),
         step-is s t ∙ h.2,
         refl,
@@ -90,7 +90,7 @@ module _ (old now : Reader) (s : PartText) (t : Token) (reader : IsTextReader ol
           place = subst (λ (p : code_place.Place). IsAt p (bridge_is_whole s h.0).place) (sym place) refl;
         }),
       ) in
-      subst (λ (u : code_uses.Uses). IsTaken (Some u) now s t) (sym alone) here
+      subst (λ (u : code_uses.Uses). IsTokenTaken (Some u) now s t) (sym alone) here
 
 -- ---- the end
 abbrev ended : PartText → Place → Option WrittenText
@@ -127,8 +127,8 @@ elsewhere s (places.AfterRead b denied r) h apart = ap (ended s) (h.1.3)
 pub elsewhere-ends : (r : Reader) (s : PartText) → IsTextReader r s → ¬ (r.place ≡ places.Between) → finished_text s ≡ None
 elsewhere-ends r s reader apart = elsewhere s r.place reader.place apart
 
-pub between-ends : (r : Reader) (s : PartText) → IsTextReader r s → r.place ≡ places.Between → AreParts (Some (record { contexts = r.contexts; bridges = r.bridges })) (finished_text s)
+pub between-ends : (r : Reader) (s : PartText) → IsTextReader r s → r.place ≡ places.Between → AreReaderParts (Some (record { contexts = r.contexts; bridges = r.bridges })) (finished_text s)
 unfolding finished_text
 between-ends r s reader e =
     let here : s.place ≡ Between = subst (λ (p : code_place.Place). IsAt p s.place) e reader.place in
-    subst (AreParts (Some (record { contexts = r.contexts; bridges = r.bridges }))) (sym (ap (ended s) here)) (reader.contexts, reader.bridges)
+    subst (AreReaderParts (Some (record { contexts = r.contexts; bridges = r.bridges }))) (sym (ap (ended s) here)) (reader.contexts, reader.bridges)

@@ -7,7 +7,7 @@ use Rattle.std.proofs.lemmas.List.{append-nil}
 use Rattle.mcs_base.proofs.Each.{all_push}
 use Rattle.mcs_base.proofs.Lists.{flat_map_push, append_split}
 use Rattle.mcs_system.specs.Plain.{Name}
-use Rattle.mcs_grammar.specs.Written.{Written, Rule, WrittenLiteral, WrittenRead, WrittenKb, Classical, DefaultTheory, Program, WrittenContext, WrittenBridge, IsNameWord, IsFormula, IsItem, IsRule, IsPlace, IsBridge, level}
+use Rattle.mcs_grammar.specs.Written.{Written, Rule, WrittenLiteral, WrittenRead, WrittenKb, Classical, DefaultTheory, Program, WrittenContext, WrittenBridge, IsNameWord, IsFormula, IsItem, IsRule, IsPlace, IsWrittenBridge, level}
 use Rattle.mcs_grammar.specs.Entries.{Token, Use, BeginsBridge, NamesBridge, BeginsItem, NamesTarget, EndsRead, Entry, entry, formula_in, with_last, whole_entries, default_entries, optional, literal_entries, ended, place_entries, read_entries, reads_entries, further_read, context_entries, bridge_entries}
 use Rattle.mcs_grammar.specs.FormulaSteps.{PartFormula}
 use Rattle.mcs_reader.specs.TextSteps.{PartDefault, PartRead, InRead, AfterRead, one_more_just, whole_default, whole_rule, with_read, first_of_belief}
@@ -118,5 +118,5 @@ fact-rule (a ∷ head) some names = record { head_names = names; body_names = tt
 pub sign-rule : (head : List Name) (body : List WrittenLiteral) → AreNames head → AreLiterals body → IsRule (whole_rule head true body)
 sign-rule head body names literals = record { head_names = names; body_names = literals; head_or_sign = λ e. refl; body_after_sign = λ e. absurd (true≢false e) }
 
-pub read-right : (b : WrittenBridge) (d : PartRead) (w : Written) → IsBridge b → IsNameWord d.context → IsFormula w → level w ≡ 0 → IsBridge (with_read b d w)
+pub read-right : (b : WrittenBridge) (d : PartRead) (w : Written) → IsWrittenBridge b → IsNameWord d.context → IsFormula w → level w ≡ 0 → IsWrittenBridge (with_read b d w)
 read-right b d w h name f low = (h.0, h.1, all_push (λ (k : WrittenRead). IsPlace k.place) b.reads (record { denied = d.denied; place = record { context = d.context; belief = w } }) h.2 (name, f, low))

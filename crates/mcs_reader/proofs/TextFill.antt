@@ -8,7 +8,7 @@ use Rattle.mcs_system.specs.Plain.{Name}
 use Rattle.mcs_grammar.specs.Written.{Written, WrittenDefault, WrittenLiteral, Classical, WrittenContext, WrittenBridge, WrittenText, IsText}
 use Rattle.mcs_grammar.specs.Entries.{Token, Use, BeginsBridge, NamesBridge, BeginsItem, NamesContext, NamesSource, NamesTarget, BeginsBelief, EndsRead, Entry, entry, formula_in, with_first, with_last, whole_entries, default_entries, optional, place_entries, reads_entries, text_entries}
 use Rattle.mcs_grammar.specs.FormulaSteps.{PartFormula, no_formula}
-use Rattle.mcs_reader.specs.TextSteps.{PartDefault, PartRead, Place, Between, ContextName, KindWord, OpenBrace, NextItem, InFact, InJust, InConclusion, AfterHeadName, NextHeadName, AfterSign, NextLiteral, AfterNot, AfterLiteral, BridgeName, BridgeColon, HeadContext, HeadColon, InHead, AfterHead, NextRead, ReadContext, ReadColon, InRead, AfterRead, PartText, with_fact, with_default, add_fact, add_default, add_rule, empty_context, atom_uses, whole_rule, one_more_just, whole_default, headed, with_read, text_step}
+use Rattle.mcs_reader.specs.TextSteps.{PartDefault, PartRead, Place, Between, ContextName, KindWord, OpenBrace, NextItem, InFact, InJust, InConclusion, AfterHeadName, NextHeadName, AfterSign, NextLiteral, AfterNot, AfterLiteral, BridgeName, BridgeColon, HeadContext, HeadColon, InHead, AfterHead, NextRead, ReadContext, ReadColon, InRead, AfterRead, PartText, with_fact, with_default, add_fact, add_default, add_rule, context_begun, atom_uses, whole_rule, one_more_just, whole_default, headed, with_read, text_step}
 use Rattle.mcs_grammar.proofs.FormulaParts.{part_entries}
 use Rattle.mcs_reader.proofs.FormulaTheory.{part-none}
 use Rattle.mcs_reader.proofs.TextParts.{sign_entry, open_context, begun, open_justs, open_conclusion, before_read, begun_belief, source_entry, so_far, whole_parts, entries_so_far, IsRight, IsSoFar, text_of}
@@ -76,7 +76,7 @@ module _ (cs : List WrittenContext) (bs : List WrittenBridge) where
 
   kind-fills : (n : Name) → Fills cs bs (KindWord n)
   unfolding text_step
-  kind-fills n = takes (KindWord n) (OpenBrace (empty_context n (Classical []))) (codes "classical") [] refl (brace-fills (empty_context n (Classical [])))
+  kind-fills n = takes (KindWord n) (OpenBrace (context_begun n (Classical []))) (codes "classical") [] refl (brace-fills (context_begun n (Classical [])))
 
   context-name-fills : Fills cs bs ContextName
   unfolding text_step reserved_words

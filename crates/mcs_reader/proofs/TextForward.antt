@@ -4,9 +4,9 @@ use Rattle.std.specs.Prelude.{codes}
 use Rattle.std.specs.List.{flat_map, AllByRecursion}
 use Rattle.std.proofs.lemmas.List.{append-nil}
 use Rattle.mcs_system.specs.Plain.{Name}
-use Rattle.mcs_grammar.specs.Written.{Written, WrittenItem, WrittenRule, WrittenKb, Classical, DefaultTheory, Program, WrittenContext, WrittenBridge, WrittenText, IsNameWord, IsFormula, IsItem, IsRule, IsKb, IsContext, IsBridge, IsText}
+use Rattle.mcs_grammar.specs.Written.{Written, WrittenItem, WrittenRule, WrittenKb, Classical, DefaultTheory, Program, WrittenContext, WrittenBridge, WrittenText, IsNameWord, IsFormula, IsItem, IsRule, IsKb, IsContext, IsWrittenBridge, IsText}
 use Rattle.mcs_grammar.specs.Entries.{BeginsContext, NamesContext, SaysProgram, Entry, entry, whole_entries, item_entries, rule_entries, ended, kb_entries, context_entries, bridge_entries, text_entries}
-use Rattle.mcs_reader.specs.TextSteps.{Between, ContextName, KindWord, OpenBrace, NextItem, PartText, nothing_written, empty_context, text_step, finished_text}
+use Rattle.mcs_reader.specs.TextSteps.{Between, ContextName, KindWord, OpenBrace, NextItem, PartText, nothing_written, context_begun, text_step, finished_text}
 use Rattle.mcs_reader.proofs.TextRuns.{Runs, runs-one, runs-cons, runs-append}
 use Rattle.mcs_reader.proofs.TextParts.{sign_entry, text_of}
 use Rattle.mcs_reader.proofs.ItemForward.{fact-runs, item-runs}
@@ -36,15 +36,15 @@ module _ (cs : List WrittenContext) where
   unfolding text_step
   name-step n h = rw h refl
 
-  classical-step : (n : Name) → text_step (text_of cs [] (KindWord n)) (codes "classical") ≡ Some (sign_entry (codes "classical"), text_of cs [] (OpenBrace (empty_context n (Classical []))))
+  classical-step : (n : Name) → text_step (text_of cs [] (KindWord n)) (codes "classical") ≡ Some (sign_entry (codes "classical"), text_of cs [] (OpenBrace (context_begun n (Classical []))))
   unfolding text_step
   classical-step n = refl
 
-  default-step : (n : Name) → text_step (text_of cs [] (KindWord n)) (codes "default") ≡ Some (sign_entry (codes "default"), text_of cs [] (OpenBrace (empty_context n (DefaultTheory []))))
+  default-step : (n : Name) → text_step (text_of cs [] (KindWord n)) (codes "default") ≡ Some (sign_entry (codes "default"), text_of cs [] (OpenBrace (context_begun n (DefaultTheory []))))
   unfolding text_step
   default-step n = refl
 
-  program-step : (n : Name) → text_step (text_of cs [] (KindWord n)) (codes "program") ≡ Some (entry (codes "program") (SaysProgram n ∷ []), text_of cs [] (OpenBrace (empty_context n (Program []))))
+  program-step : (n : Name) → text_step (text_of cs [] (KindWord n)) (codes "program") ≡ Some (entry (codes "program") (SaysProgram n ∷ []), text_of cs [] (OpenBrace (context_begun n (Program []))))
   unfolding text_step
   program-step n = refl
 
@@ -95,7 +95,7 @@ contexts-run done (c ∷ cs) h =
     = runs-append (text_of done [] Between) (text_of (done ++ c ∷ []) [] Between) (text_of ((done ++ c ∷ []) ++ cs) [] Between) (context_entries c) (flat_map context_entries cs) (context-runs done c h.0) (contexts-run (done ++ c ∷ []) cs h.1) in
     subst (λ (xs : List WrittenContext). Runs (text_of done [] Between) (flat_map context_entries (c ∷ cs)) (text_of xs [] Between)) (append_assoc done (c ∷ []) cs) run
 
-bridges-run : (cs : List WrittenContext) (done bs : List WrittenBridge) → AllByRecursion IsBridge bs → Runs (text_of cs done Between) (flat_map bridge_entries bs) (text_of cs (done ++ bs) Between)
+bridges-run : (cs : List WrittenContext) (done bs : List WrittenBridge) → AllByRecursion IsWrittenBridge bs → Runs (text_of cs done Between) (flat_map bridge_entries bs) (text_of cs (done ++ bs) Between)
 bridges-run cs done [] h = ap (λ (xs : List WrittenBridge). Some ([], text_of cs xs Between)) (sym (append-nil done))
 bridges-run cs done (b ∷ bs) h =
     let run : Runs (text_of cs done Between) (flat_map bridge_entries (b ∷ bs)) (text_of cs ((done ++ b ∷ []) ++ bs) Between)

@@ -13,7 +13,7 @@ use Rattle.mcs_system.specs.Plain.{Name}
 use Rattle.mcs_grammar.specs.Written.{Written, WrittenDefault, Fact, Rule, WrittenLiteral, WrittenRule, WrittenKb, Classical, DefaultTheory, Program, IsNameWord, IsFormula, IsItem, IsRule, IsKb}
 use Rattle.mcs_grammar.specs.Entries.{Token, Use, Entry, entry, with_first, with_last, whole_entries, after_sign, default_entries, item_entries, further_heads, head_entries, atom_entry, literal_entries, further_literals, rule_entries, ended}
 use Rattle.mcs_grammar.specs.FormulaSteps.{Pending, PartFormula, no_formula, formula_step, finished, finished_primary, is_name_word}
-use Rattle.mcs_reader.specs.TextSteps.{PartText, Place, Moved, on, on_name, goes, in_formula, after_formula, in_belief, first_of_belief, is_theory, is_program, with_fact, with_default, with_rule}
+use Rattle.mcs_reader.specs.TextSteps.{PartText, Place, Moved, on, on_name, goes, in_formula, after_formula, in_belief, first_of_belief, is_theory, is_program_kb, with_fact, with_default, with_rule}
 use Rattle.mcs_grammar.proofs.FormulaParts.{part_entries}
 use Rattle.mcs_reader.proofs.TextParts.{sign_entry, kind_entry, kb_items, before_comma, between_commas, begun_belief}
 use Rattle.mcs_reader.proofs.FormulaFill.{entries-of-part}
@@ -50,7 +50,7 @@ literals-more c n (k ∷ ls) l =
     ap (λ (ms : List Entry). sign_entry (codes ",") ∷ (literal_entries c n k ++ ms)) (literals-more c (n + 1) ls l ∙ ap (λ (j : ℕ). further_literals c (n + 1) ls ++ sign_entry (codes ",") ∷ literal_entries c j l) i)
     ∙ ap (λ (ms : List Entry). sign_entry (codes ",") ∷ ms) (sym (append_assoc (literal_entries c n k) (further_literals c (n + 1) ls) (sign_entry (codes ",") ∷ literal_entries c (n + length (k ∷ ls)) l)))
 
-pub fact-more : (n : Name) (kb : WrittenKb) (w : Written) → is_program kb ≡ false → kb_items n (with_fact w kb) ≡ kb_items n kb ++ ended n (whole_entries n w)
+pub fact-more : (n : Name) (kb : WrittenKb) (w : Written) → is_program_kb kb ≡ false → kb_items n (with_fact w kb) ≡ kb_items n kb ++ ended n (whole_entries n w)
 fact-more n (Classical formulas) w h = flat_map_push (λ f. ended n (whole_entries n f)) formulas w
 fact-more n (DefaultTheory items) w h = flat_map_push (λ i. ended n (item_entries n i)) items (Fact w)
 fact-more n (Program rules) w h = absurd (cc)
@@ -60,7 +60,7 @@ default-more n (DefaultTheory items) d h = flat_map_push (λ i. ended n (item_en
 default-more n (Classical formulas) d h = absurd (cc)
 default-more n (Program rules) d h = absurd (cc)
 
-pub rule-more : (n : Name) (kb : WrittenKb) (r : WrittenRule) → is_program kb ≡ true → kb_items n (with_rule r kb) ≡ kb_items n kb ++ ended n (rule_entries n r)
+pub rule-more : (n : Name) (kb : WrittenKb) (r : WrittenRule) → is_program_kb kb ≡ true → kb_items n (with_rule r kb) ≡ kb_items n kb ++ ended n (rule_entries n r)
 rule-more n (Program rules) r h = flat_map_push (λ i. ended n (rule_entries n i)) rules r
 rule-more n (DefaultTheory items) r h = absurd (cc)
 rule-more n (Classical formulas) r h = absurd (cc)

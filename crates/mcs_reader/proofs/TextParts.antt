@@ -3,9 +3,9 @@ use Rattle.std.proofs.Common.{◌≡◌, true, false, List, [], ◌∷◌, ◌++
 use Rattle.std.specs.Prelude.{codes}
 use Rattle.std.specs.List.{flat_map, AllByRecursion}
 use Rattle.mcs_system.specs.Plain.{Name}
-use Rattle.mcs_grammar.specs.Written.{Written, WrittenLiteral, WrittenRead, WrittenKb, Classical, DefaultTheory, Program, WrittenContext, WrittenBridge, IsNameWord, IsFormula, IsContext, IsBridge}
+use Rattle.mcs_grammar.specs.Written.{Written, WrittenLiteral, WrittenRead, WrittenKb, Classical, DefaultTheory, Program, WrittenContext, WrittenBridge, IsNameWord, IsFormula, IsContext, IsWrittenBridge}
 use Rattle.mcs_grammar.specs.Entries.{Token, BeginsContext, BeginsBridge, NamesContext, NamesBridge, SaysProgram, BeginsItem, BeginsDefault, NamesTarget, NamesSource, BeginsBelief, Entry, entry, with_first, whole_entries, after_sign, head_entries, optional, body_entries, item_entries, rule_entries, ended, context_entries, place_entries, reads_entries, bridge_entries}
-use Rattle.mcs_reader.specs.TextSteps.{PartDefault, Place, Between, ContextName, KindWord, OpenBrace, NextItem, InFact, InJust, InConclusion, AfterHeadName, NextHeadName, AfterSign, NextLiteral, AfterNot, AfterLiteral, BridgeName, BridgeColon, HeadContext, HeadColon, InHead, AfterHead, NextRead, ReadContext, ReadColon, InRead, AfterRead, PartText, is_theory, is_program}
+use Rattle.mcs_reader.specs.TextSteps.{PartDefault, Place, Between, ContextName, KindWord, OpenBrace, NextItem, InFact, InJust, InConclusion, AfterHeadName, NextHeadName, AfterSign, NextLiteral, AfterNot, AfterLiteral, BridgeName, BridgeColon, HeadContext, HeadColon, InHead, AfterHead, NextRead, ReadContext, ReadColon, InRead, AfterRead, PartText, is_theory, is_program_kb}
 use Rattle.mcs_grammar.proofs.FormulaParts.{IsPart, part_entries, IsPrimaryPart}
 use Rattle.mcs_reader.specs.TextImages.{HasSome}
 
@@ -118,7 +118,7 @@ abbrev pub IsInTheory : WrittenContext → PartDefault → Type 0
 IsInTheory c d = IsContext c × (is_theory c.kb ≡ true) × IsFormula d.pre × AllByRecursion IsFormula d.justs
 
 abbrev pub IsInRule : WrittenContext → List Name → Type 0
-IsInRule c head = IsContext c × (is_program c.kb ≡ true) × AreNames head
+IsInRule c head = IsContext c × (is_program_kb c.kb ≡ true) × AreNames head
 
 -- a place within a context
 abbrev pub IsInContext : Place → Type 0
@@ -126,7 +126,7 @@ IsInContext ContextName = Unit {0}
 IsInContext (KindWord n) = IsNameWord n
 IsInContext (OpenBrace c) = IsContext c × (kb_items c.name c.kb ≡ [])
 IsInContext (NextItem c) = IsContext c
-IsInContext (InFact c f) = IsContext c × (is_program c.kb ≡ false) × IsPart f × HasSome (part_entries c.name f)
+IsInContext (InFact c f) = IsContext c × (is_program_kb c.kb ≡ false) × IsPart f × HasSome (part_entries c.name f)
 IsInContext (InJust c d f) = IsInTheory c d × IsPart f
 IsInContext (InConclusion c d f) = IsInTheory c d × HasSome d.justs × IsPart f
 IsInContext (AfterHeadName c head) = IsInRule c head × HasSome head
@@ -145,16 +145,16 @@ IsRight bs (BridgeColon n) = IsNameWord n
 IsRight bs (HeadContext n) = IsNameWord n
 IsRight bs (HeadColon n c) = IsNameWord n × IsNameWord c
 IsRight bs (InHead n c f) = IsNameWord n × IsNameWord c × IsPrimaryPart f
-IsRight bs (AfterHead b) = IsBridge b × (b.reads ≡ [])
-IsRight bs (NextRead b) = IsBridge b
-IsRight bs (ReadContext b) = IsBridge b
-IsRight bs (ReadColon b r) = IsBridge b × IsNameWord r.context
-IsRight bs (InRead b r f) = IsBridge b × IsNameWord r.context × IsPrimaryPart f
-IsRight bs (AfterRead b) = IsBridge b × HasSome b.reads
+IsRight bs (AfterHead b) = IsWrittenBridge b × (b.reads ≡ [])
+IsRight bs (NextRead b) = IsWrittenBridge b
+IsRight bs (ReadContext b) = IsWrittenBridge b
+IsRight bs (ReadColon b r) = IsWrittenBridge b × IsNameWord r.context
+IsRight bs (InRead b r f) = IsWrittenBridge b × IsNameWord r.context × IsPrimaryPart f
+IsRight bs (AfterRead b) = IsWrittenBridge b × HasSome b.reads
 IsRight bs p = (bs ≡ []) × IsInContext p
 
 -- all parts that were written are of the grammar
 pub record IsSoFar (s : PartText) : Type 0 where
   pub contexts : AllByRecursion IsContext s.contexts
-  pub bridges : AllByRecursion IsBridge s.bridges
+  pub bridges : AllByRecursion IsWrittenBridge s.bridges
   pub place : IsRight s.bridges s.place

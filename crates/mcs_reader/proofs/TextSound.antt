@@ -11,10 +11,10 @@ use Rattle.mcs_base.proofs.Each.{all_push}
 use Rattle.mcs_base.proofs.Lists.{flat_map_push, append_split}
 use Rattle.mcs_base.proofs.Booleans.{by_cond}
 use Rattle.mcs_system.specs.Plain.{Name}
-use Rattle.mcs_grammar.specs.Written.{Written, WrittenDefault, WrittenLiteral, WrittenRule, WrittenRead, Classical, DefaultTheory, Program, WrittenContext, WrittenBridge, IsNameWord, IsRule, IsContext, IsBridge}
+use Rattle.mcs_grammar.specs.Written.{Written, WrittenDefault, WrittenLiteral, WrittenRule, WrittenRead, Classical, DefaultTheory, Program, WrittenContext, WrittenBridge, IsNameWord, IsRule, IsContext, IsWrittenBridge}
 use Rattle.mcs_grammar.specs.Entries.{Token, Use, BeginsContext, BeginsBridge, NamesContext, NamesBridge, SaysProgram, BeginsItem, BeginsDefault, NamesTarget, NamesSource, EndsRead, Entry, entry, formula_in, whole_entries, default_entries, atom_entry, head_entries, optional, rule_entries, context_entries, bridge_entries}
 use Rattle.mcs_grammar.specs.FormulaSteps.{PartFormula, no_formula, formula_step, finished}
-use Rattle.mcs_reader.specs.TextSteps.{PartDefault, PartRead, Place, Between, ContextName, KindWord, OpenBrace, NextItem, InFact, InJust, InConclusion, AfterHeadName, NextHeadName, AfterSign, NextLiteral, AfterNot, AfterLiteral, BridgeName, BridgeColon, HeadContext, HeadColon, InHead, AfterHead, NextRead, ReadContext, ReadColon, InRead, AfterRead, PartText, Moved, goes, between, kind_word, empty_context, is_theory, is_program, with_fact, with_default, with_rule, add_fact, add_default, add_rule, one_more_just, whole_default, whole_rule, headed, with_read, first_of_belief, step_at, text_step}
+use Rattle.mcs_reader.specs.TextSteps.{PartDefault, PartRead, Place, Between, ContextName, KindWord, OpenBrace, NextItem, InFact, InJust, InConclusion, AfterHeadName, NextHeadName, AfterSign, NextLiteral, AfterNot, AfterLiteral, BridgeName, BridgeColon, HeadContext, HeadColon, InHead, AfterHead, NextRead, ReadContext, ReadColon, InRead, AfterRead, PartText, Moved, goes, between, step_of_kind_word, context_begun, is_theory, is_program_kb, with_fact, with_default, with_rule, add_fact, add_default, add_rule, one_more_just, whole_default, whole_rule, headed, with_read, first_of_belief, step_at, text_step}
 use Rattle.mcs_reader.specs.TextSteps as steps
 use Rattle.mcs_grammar.proofs.FormulaParts.{part_entries}
 use Rattle.mcs_reader.proofs.FormulaTheory.{part-none, part-step, primary-none, primary-step, primary-ends}
@@ -31,7 +31,7 @@ pub record IsStep (s : PartText) (t : Token) (r : Entry × PartText) : Type 0 wh
   pub entries_are : entries_so_far r.1 ≡ entries_so_far s ++ r.0 ∷ []
   pub same : (r.0).token ≡ t
 
-module _ (cs : List WrittenContext) (bs : List WrittenBridge) (hc : AllByRecursion IsContext cs) (hb : AllByRecursion IsBridge bs) where
+module _ (cs : List WrittenContext) (bs : List WrittenBridge) (hc : AllByRecursion IsContext cs) (hb : AllByRecursion IsWrittenBridge bs) where
   lands : (p p' : Place) (t wanted : Token) (uses : List Use) (r : Entry × PartText) → t ≡ wanted → goes (text_of cs bs p) t uses p' ≡ Some r → IsRight bs p' → so_far p' ≡ so_far p ++ entry wanted uses ∷ [] → IsStep (text_of cs bs p) t r
   lands p p' t wanted uses r e g right ms =
       let is : (entry t uses, text_of cs bs p') ≡ r = same_Some _ _ g in
@@ -48,11 +48,11 @@ module _ (cs : List WrittenContext) (bs : List WrittenBridge) (hc : AllByRecursi
   context-name-step : (t : Token) (r : Entry × PartText) → bs ≡ [] → step_at (text_of cs bs ContextName) t ContextName ≡ Some r → IsStep (text_of cs bs ContextName) t r
   context-name-step t r none e = name-is t _ r e (λ is g. lands ContextName (KindWord t) t t (NamesContext t ∷ []) r refl g (none, is) refl)
 
-  kind-step : (n : Name) (t : Token) (r : Entry × PartText) → bs ≡ [] → IsNameWord n → kind_word (text_of cs bs (KindWord n)) n t ≡ Some r → IsStep (text_of cs bs (KindWord n)) t r
+  kind-step : (n : Name) (t : Token) (r : Entry × PartText) → bs ≡ [] → IsNameWord n → step_of_kind_word (text_of cs bs (KindWord n)) n t ≡ Some r → IsStep (text_of cs bs (KindWord n)) t r
   kind-step n t r none name e =
-      on-is t (codes "classical") _ _ r e (λ is g. lands (KindWord n) (OpenBrace (empty_context n (Classical []))) t (codes "classical") [] r is g (none, ((name, tt), refl)) refl)
-      (λ e2. on-is t (codes "default") _ _ r e2 (λ is g. lands (KindWord n) (OpenBrace (empty_context n (DefaultTheory []))) t (codes "default") [] r is g (none, ((name, tt), refl)) refl)
-      (λ e3. on-is t (codes "program") _ _ r e3 (λ is g. lands (KindWord n) (OpenBrace (empty_context n (Program []))) t (codes "program") (SaysProgram n ∷ []) r is g (none, ((name, tt), refl)) refl)
+      on-is t (codes "classical") _ _ r e (λ is g. lands (KindWord n) (OpenBrace (context_begun n (Classical []))) t (codes "classical") [] r is g (none, ((name, tt), refl)) refl)
+      (λ e2. on-is t (codes "default") _ _ r e2 (λ is g. lands (KindWord n) (OpenBrace (context_begun n (DefaultTheory []))) t (codes "default") [] r is g (none, ((name, tt), refl)) refl)
+      (λ e3. on-is t (codes "program") _ _ r e3 (λ is g. lands (KindWord n) (OpenBrace (context_begun n (Program []))) t (codes "program") (SaysProgram n ∷ []) r is g (none, ((name, tt), refl)) refl)
       (λ no. absurd (none-some r no))))
 
   brace-step : (c : WrittenContext) (t : Token) (r : Entry × PartText) → IsRight bs (OpenBrace c) → step_at (text_of cs bs (OpenBrace c)) t (OpenBrace c) ≡ Some r → IsStep (text_of cs bs (OpenBrace c)) t r
@@ -66,18 +66,18 @@ module _ (cs : List WrittenContext) (bs : List WrittenBridge) (hc : AllByRecursi
       let entries' : whole_parts (cs ++ c ∷ []) bs ++ [] ≡ (whole_parts cs bs ++ open_context c) ++ entry t [] ∷ [] = rw (none, wholly, is) (simp (append_assoc, append-nil)) in
       subst (IsStep (text_of cs bs (NextItem c)) t) (same_Some _ _ e) (record { parts = record { contexts = all_push IsContext cs c hc h; bridges = hb; place = tt }; entries_are = entries'; same = refl })
 
-  bridge-whole : (p : Place) (b : WrittenBridge) (t : Token) (r : Entry × PartText) → IsBridge b → so_far p ≡ open_bridge b → t ≡ codes "." → Some (entry t [], steps.bridge_is_whole (text_of cs bs p) b) ≡ Some r → IsStep (text_of cs bs p) t r
+  bridge-whole : (p : Place) (b : WrittenBridge) (t : Token) (r : Entry × PartText) → IsWrittenBridge b → so_far p ≡ open_bridge b → t ≡ codes "." → Some (entry t [], steps.bridge_is_whole (text_of cs bs p) b) ≡ Some r → IsStep (text_of cs bs p) t r
   bridge-whole p b t r h place is e =
       let wholly : flat_map bridge_entries (bs ++ b ∷ []) ≡ flat_map bridge_entries bs ++ (open_bridge b ++ sign_entry (codes ".") ∷ []) = flat_map_push bridge_entries bs b ∙ ap (λ (ms : List Entry). flat_map bridge_entries bs ++ ms) (bridge-ends b) in
       let entries' : whole_parts cs (bs ++ b ∷ []) ++ [] ≡ (whole_parts cs bs ++ so_far p) ++ entry t [] ∷ [] = rw (place, wholly, is) (simp (append_assoc, append-nil)) in
-      subst (IsStep (text_of cs bs p) t) (same_Some _ _ e) (record { parts = record { contexts = hc; bridges = all_push IsBridge bs b hb h; place = tt }; entries_are = entries'; same = refl })
+      subst (IsStep (text_of cs bs p) t) (same_Some _ _ e) (record { parts = record { contexts = hc; bridges = all_push IsWrittenBridge bs b hb h; place = tt }; entries_are = entries'; same = refl })
 
-  rule-begins : (c : WrittenContext) (t : Token) (r : Entry × PartText) → bs ≡ [] → IsContext c → is_program c.kb ≡ true → steps.first_of_rule (text_of cs bs (NextItem c)) c t ≡ Some r → IsStep (text_of cs bs (NextItem c)) t r
+  rule-begins : (c : WrittenContext) (t : Token) (r : Entry × PartText) → bs ≡ [] → IsContext c → is_program_kb c.kb ≡ true → steps.first_of_rule (text_of cs bs (NextItem c)) c t ≡ Some r → IsStep (text_of cs bs (NextItem c)) t r
   rule-begins c t r none h prog e =
       on-is t (codes ":-") _ _ r e (λ is g. lands (NextItem c) (AfterSign c []) t (codes ":-") (BeginsItem c.name ∷ []) r is g (none, (h, prog, tt)) refl)
       (λ e2. name-is t _ r e2 (λ is g. lands (NextItem c) (AfterHeadName c (t ∷ [])) t t (BeginsItem c.name ∷ steps.atom_uses c 1 t) r refl g (none, ((h, prog, (is, tt)), tt)) refl))
 
-  item-begins : (c : WrittenContext) (t : Token) (r : Entry × PartText) → bs ≡ [] → IsContext c → is_program c.kb ≡ false → (q : Entry × PartFormula) → formula_step c.name no_formula t ≡ Some q
+  item-begins : (c : WrittenContext) (t : Token) (r : Entry × PartText) → bs ≡ [] → IsContext c → is_program_kb c.kb ≡ false → (q : Entry × PartFormula) → formula_step c.name no_formula t ≡ Some q
       → goes (text_of cs bs (NextItem c)) t ((BeginsItem c.name ∷ []) ++ (q.0).uses) (InFact c q.1) ≡ Some r → IsStep (text_of cs bs (NextItem c)) t r
   item-begins c t r none h prog q is g =
       let step = part-step c.name no_formula t q part-none is in
@@ -86,7 +86,7 @@ module _ (cs : List WrittenContext) (bs : List WrittenBridge) (hc : AllByRecursi
   item-step : (c : WrittenContext) (t : Token) (r : Entry × PartText) → bs ≡ [] → IsContext c → steps.next_item (text_of cs bs (NextItem c)) c t ≡ Some r → IsStep (text_of cs bs (NextItem c)) t r
   item-step c t r none h e =
       on-is t (codes "}") _ _ r e (λ is g. context-whole c t r none h is g)
-      (λ e2. by_cond (is_program c.kb) _ _ (Some r) e2 (λ prog g. rule-begins c t r none h prog g)
+      (λ e2. by_cond (is_program_kb c.kb) _ _ (Some r) e2 (λ prog g. rule-begins c t r none h prog g)
       (λ prog g. formula-is (text_of cs bs (NextItem c)) c.name (BeginsItem c.name ∷ []) no_formula t (InFact c) None r g (λ q is g2. item-begins c t r none h prog q is g2) (λ no. absurd (none-some r no))))
 
   fact-ends : (c : WrittenContext) (f : PartFormula) (w : Written) (t : Token) (r : Entry × PartText) → IsRight bs (InFact c f) → finished f ≡ Some w → t ≡ codes "." → goes (text_of cs bs (InFact c f)) t [] (NextItem (add_fact c w)) ≡ Some r → IsStep (text_of cs bs (InFact c f)) t r
@@ -152,7 +152,7 @@ module _ (cs : List WrittenContext) (bs : List WrittenBridge) (hc : AllByRecursi
       (λ e2. whole-is f _ r e2 (λ w done e3. on-is t (codes ".") _ _ r e3 (λ is g. default-ends-step c d f w t r h done is g) (λ no. absurd (none-some r no))))
 
   -- ---- of a program rule
-  rule-ends : (p : Place) (c : WrittenContext) (rule : WrittenRule) (t : Token) (r : Entry × PartText) → bs ≡ [] → IsContext c → is_program c.kb ≡ true → IsRule rule → so_far p ≡ open_context c ++ begun c.name (rule_entries c.name rule) → t ≡ codes "."
+  rule-ends : (p : Place) (c : WrittenContext) (rule : WrittenRule) (t : Token) (r : Entry × PartText) → bs ≡ [] → IsContext c → is_program_kb c.kb ≡ true → IsRule rule → so_far p ≡ open_context c ++ begun c.name (rule_entries c.name rule) → t ≡ codes "."
       → goes (text_of cs bs p) t [] (NextItem (add_rule c rule)) ≡ Some r → IsStep (text_of cs bs p) t r
   rule-ends p c rule t r none h prog right place is g =
       lands p (NextItem (add_rule c rule)) t (codes ".") [] r is g (none, (h.0, rule-right c.kb rule h.1 right))
@@ -202,7 +202,7 @@ module _ (cs : List WrittenContext) (bs : List WrittenBridge) (hc : AllByRecursi
       (λ is g. lands p (AfterNot c head body) t (codes "not") [] r is g (none, (rule, literals)) (append_split (open_context c) _ (begin ++ literal_comma body) (sign_entry (codes "not") ∷ []) (sym (append_assoc begin (literal_comma body) (sign_entry (codes "not") ∷ []))) ∙ ap (λ (ms : List Entry). ms ++ sign_entry (codes "not") ∷ []) (sym place)))
       (λ e2. literal-step p c head body false t r none rule literals (place ∙ ap (λ (ms : List Entry). open_context c ++ (begin ++ ms)) (sym (append-nil (literal_comma body)))) e2)
 
-  sign-step : (c : WrittenContext) (head : List Name) (t : Token) (r : Entry × PartText) → IsRight bs (AfterSign c head) → steps.after_sign (text_of cs bs (AfterSign c head)) c head t ≡ Some r → IsStep (text_of cs bs (AfterSign c head)) t r
+  sign-step : (c : WrittenContext) (head : List Name) (t : Token) (r : Entry × PartText) → IsRight bs (AfterSign c head) → steps.step_after_sign (text_of cs bs (AfterSign c head)) c head t ≡ Some r → IsStep (text_of cs bs (AfterSign c head)) t r
   sign-step c head t r h e =
       on-is t (codes ".") _ _ r e (λ is g. rule-ends (AfterSign c head) c (whole_rule head true []) t r h.0 h.1.0 h.1.1 (sign-rule head [] h.1.2 tt) refl is g)
       (λ e2. next-literal-step (AfterSign c head) c head [] t r h.0 h.1 tt (ap (λ (ms : List Entry). open_context c ++ ms) (sym (append-nil (begun c.name (open_rule c.name head []))))) e2)
@@ -249,13 +249,13 @@ module _ (cs : List WrittenContext) (bs : List WrittenBridge) (hc : AllByRecursi
       on-is t (codes "if") _ _ r e (λ is g. lands (AfterHead b) (NextRead b) t (codes "if") [] r is g h.0 (ap (λ (reads : List WrittenRead). open_bridge b ++ before_read reads) h.1))
       (λ e2. on-is t (codes ".") _ _ r e2 (λ is g. bridge-whole (AfterHead b) b t r h.0 refl is g) (λ no. absurd (none-some r no)))
 
-  source-step : (p : Place) (b : WrittenBridge) (denied : Bool) (t : Token) (r : Entry × PartText) → IsBridge b → so_far p ≡ open_bridge b ++ (before_read b.reads ++ optional denied (codes "not")) → steps.read_context (text_of cs bs p) b denied t ≡ Some r → IsStep (text_of cs bs p) t r
+  source-step : (p : Place) (b : WrittenBridge) (denied : Bool) (t : Token) (r : Entry × PartText) → IsWrittenBridge b → so_far p ≡ open_bridge b ++ (before_read b.reads ++ optional denied (codes "not")) → steps.read_context (text_of cs bs p) b denied t ≡ Some r → IsStep (text_of cs bs p) t r
   source-step p b denied t r h place e =
       let not' : List Entry = optional denied (codes "not") in
       name-is t _ r e (λ is g. lands p (ReadColon b (record { denied = denied; context = t })) t t (NamesSource t ∷ []) r refl g (h, is)
       (append_split (open_bridge b) _ (before_read b.reads ++ not') (source_entry t ∷ []) (sym (append_assoc (before_read b.reads) not' (source_entry t ∷ []))) ∙ ap (λ (ms : List Entry). ms ++ source_entry t ∷ []) (sym place)))
 
-  next-read-step : (b : WrittenBridge) (t : Token) (r : Entry × PartText) → IsBridge b → steps.next_read (text_of cs bs (NextRead b)) b t ≡ Some r → IsStep (text_of cs bs (NextRead b)) t r
+  next-read-step : (b : WrittenBridge) (t : Token) (r : Entry × PartText) → IsWrittenBridge b → steps.next_read (text_of cs bs (NextRead b)) b t ≡ Some r → IsStep (text_of cs bs (NextRead b)) t r
   next-read-step b t r h e =
       on-is t (codes "not") _ _ r e (λ is g. lands (NextRead b) (ReadContext b) t (codes "not") [] r is g h (sym (append_assoc (open_bridge b) (before_read b.reads) (sign_entry (codes "not") ∷ []))))
       (λ e2. source-step (NextRead b) b false t r h (ap (λ (ms : List Entry). open_bridge b ++ ms) (sym (append-nil (before_read b.reads)))) e2)

@@ -16,34 +16,34 @@ use Rattle.mcs_grammar.specs.Faults.{NamedRead}
 use Rattle.mcs_reader.specs.TextImages.{AreBridges}
 
 -- ---- of a whole text, where it may end
-abbrev pub AreParts : Option Parts → Option WrittenText → Type 0
-AreParts None None = Unit {0}
-AreParts (Some p) (Some t) = (map context_of p.contexts.items ≡ map context_in t.contexts) × AreBridges p.bridges.items t.bridges
-AreParts p t = ⊥
+abbrev pub AreReaderParts : Option Parts → Option WrittenText → Type 0
+AreReaderParts None None = Unit {0}
+AreReaderParts (Some p) (Some t) = (map context_of p.contexts.items ≡ map context_in t.contexts) × AreBridges p.bridges.items t.bridges
+AreReaderParts p t = ⊥
 
 -- ---- contexts that are spoken of
 abbrev pub context_names : List code_context.Context → List Name
 context_names cs = map (λ (c : code_context.Context). c.name) cs
 
-abbrev pub IsKnown : List Name → WrittenPlace → Type 0
-IsKnown names p = IsAmong p.context names
+abbrev pub HasKnownContext : List Name → WrittenPlace → Type 0
+HasKnownContext names p = IsAmong p.context names
 
 -- the context of the head, and that of each read
 pub record KnowsAll (names : List Name) (b : WrittenBridge) : Type 0 where
-  pub head : IsKnown names b.head
-  pub reads : AllByRecursion (λ (r : WrittenRead). IsKnown names r.place) b.reads
+  pub head : HasKnownContext names b.head
+  pub reads : AllByRecursion (λ (r : WrittenRead). HasKnownContext names r.place) b.reads
 
-abbrev pub AreKnown : List Name → List WrittenBridge → Type 0
-AreKnown names bs = AllByRecursion (KnowsAll names) bs
+abbrev pub HaveKnownContexts : List Name → List WrittenBridge → Type 0
+HaveKnownContexts names bs = AllByRecursion (KnowsAll names) bs
 
 -- the same, as the reader holds them
-abbrev pub AreNamed : List Name → List code_read.NamedRead → Type 0
-AreNamed names rs = AllByRecursion (λ (r : code_read.NamedRead). IsAmong r.context names) rs
+abbrev pub HaveNamedContexts : List Name → List code_read.NamedRead → Type 0
+HaveNamedContexts names rs = AllByRecursion (λ (r : code_read.NamedRead). IsAmong r.context names) rs
 
-pub record IsNamed (names : List Name) (b : code_bridge.NamedBridge) : Type 0 where
+pub record IsBridgeNamed (names : List Name) (b : code_bridge.NamedBridge) : Type 0 where
   pub target : IsAmong b.target names
-  pub pos : AreNamed names b.pos.items
-  pub neg : AreNamed names b.neg.items
+  pub pos : HaveNamedContexts names b.pos.items
+  pub neg : HaveNamedContexts names b.neg.items
 
 -- a read by the number of its context
 pub record SaysRead (names : List Name) (n : NamedRead) (r : plain.Read) : Type 0 where

@@ -16,34 +16,34 @@ pub record SpeaksOfNamed (before : List Use) (b : WrittenBridge) : Type 0 where
   pub reads : AllByRecursion (λ (r : WrittenRead). WasNamed before r.place.context) b.reads
 
 -- each context that the place speaks of
-abbrev pub AreKnown : List Use → Place → Type 0
-AreKnown before Between = Unit {0}
-AreKnown before ContextName = Unit {0}
-AreKnown before (KindWord n) = WasNamed before n
-AreKnown before (OpenBrace c) = WasNamed before c.name
-AreKnown before (NextItem c) = WasNamed before c.name
-AreKnown before (InFact c f) = WasNamed before c.name
-AreKnown before (InJust c d f) = WasNamed before c.name
-AreKnown before (InConclusion c d f) = WasNamed before c.name
-AreKnown before (AfterHeadName c head) = WasNamed before c.name
-AreKnown before (NextHeadName c head) = WasNamed before c.name
-AreKnown before (AfterSign c head) = WasNamed before c.name
-AreKnown before (NextLiteral c head body) = WasNamed before c.name
-AreKnown before (AfterNot c head body) = WasNamed before c.name
-AreKnown before (AfterLiteral c head body) = WasNamed before c.name
-AreKnown before BridgeName = Unit {0}
-AreKnown before (BridgeColon n) = Unit {0}
-AreKnown before (HeadContext n) = Unit {0}
-AreKnown before (HeadColon n c) = WasNamed before c
-AreKnown before (InHead n c f) = WasNamed before c
-AreKnown before (AfterHead b) = SpeaksOfNamed before b
-AreKnown before (NextRead b) = SpeaksOfNamed before b
-AreKnown before (ReadContext b) = SpeaksOfNamed before b
-AreKnown before (ReadColon b r) = SpeaksOfNamed before b × WasNamed before r.context
-AreKnown before (InRead b r f) = SpeaksOfNamed before b × WasNamed before r.context
-AreKnown before (AfterRead b) = SpeaksOfNamed before b
+abbrev pub EachContextIsKnown : List Use → Place → Type 0
+EachContextIsKnown before Between = Unit {0}
+EachContextIsKnown before ContextName = Unit {0}
+EachContextIsKnown before (KindWord n) = WasNamed before n
+EachContextIsKnown before (OpenBrace c) = WasNamed before c.name
+EachContextIsKnown before (NextItem c) = WasNamed before c.name
+EachContextIsKnown before (InFact c f) = WasNamed before c.name
+EachContextIsKnown before (InJust c d f) = WasNamed before c.name
+EachContextIsKnown before (InConclusion c d f) = WasNamed before c.name
+EachContextIsKnown before (AfterHeadName c head) = WasNamed before c.name
+EachContextIsKnown before (NextHeadName c head) = WasNamed before c.name
+EachContextIsKnown before (AfterSign c head) = WasNamed before c.name
+EachContextIsKnown before (NextLiteral c head body) = WasNamed before c.name
+EachContextIsKnown before (AfterNot c head body) = WasNamed before c.name
+EachContextIsKnown before (AfterLiteral c head body) = WasNamed before c.name
+EachContextIsKnown before BridgeName = Unit {0}
+EachContextIsKnown before (BridgeColon n) = Unit {0}
+EachContextIsKnown before (HeadContext n) = Unit {0}
+EachContextIsKnown before (HeadColon n c) = WasNamed before c
+EachContextIsKnown before (InHead n c f) = WasNamed before c
+EachContextIsKnown before (AfterHead b) = SpeaksOfNamed before b
+EachContextIsKnown before (NextRead b) = SpeaksOfNamed before b
+EachContextIsKnown before (ReadContext b) = SpeaksOfNamed before b
+EachContextIsKnown before (ReadColon b r) = SpeaksOfNamed before b × WasNamed before r.context
+EachContextIsKnown before (InRead b r f) = SpeaksOfNamed before b × WasNamed before r.context
+EachContextIsKnown before (AfterRead b) = SpeaksOfNamed before b
 
 -- of what was written
 pub record AreKnownIn (before : List Use) (s : PartText) : Type 0 where
   pub bridges : AllByRecursion (SpeaksOfNamed before) s.bridges
-  pub place : AreKnown before s.place
+  pub place : EachContextIsKnown before s.place

@@ -34,18 +34,18 @@ pub record IsDefault (d : code_default.PartDefault) (w : PartDefault) : Type 0 w
   pub pre : formula_of d.pre ≡ formula_in w.pre
   pub justs : map formula_of d.justs.items ≡ map formula_in w.justs
 
-abbrev pub read_of : code_read.NamedRead → NamedRead
-read_of r = record { context = r.context; belief = formula_of r.belief }
+abbrev pub named_read_of : code_read.NamedRead → NamedRead
+named_read_of r = record { context = r.context; belief = formula_of r.belief }
 
 abbrev pub read_in : WrittenPlace → NamedRead
 read_in p = record { context = p.context; belief = formula_in p.belief }
 
-pub record IsBridge (b : code_bridge.NamedBridge) (w : WrittenBridge) : Type 0 where
+pub record IsBridgeImage (b : code_bridge.NamedBridge) (w : WrittenBridge) : Type 0 where
   pub named : b.name ≡ w.name
   pub target : b.target ≡ w.head.context
   pub head : formula_of b.head ≡ formula_in w.head.belief
-  pub pos : map read_of b.pos.items ≡ map read_in (positive_places w.reads)
-  pub neg : map read_of b.neg.items ≡ map read_in (negative_places w.reads)
+  pub pos : map named_read_of b.pos.items ≡ map read_in (positive_places w.reads)
+  pub neg : map named_read_of b.neg.items ≡ map read_in (negative_places w.reads)
 
 abbrev pub part_read : Bool → Name → PartRead
 part_read denied context = record { denied = denied; context = context }
@@ -70,12 +70,12 @@ IsAt (places.BridgeColon n) q = q ≡ BridgeColon n
 IsAt (places.HeadContext n) q = q ≡ HeadContext n
 IsAt (places.HeadColon n c) q = q ≡ HeadColon n c
 IsAt (places.InHead n c f) q = (s : PartFormula) × IsReader f s × (q ≡ InHead n c s)
-IsAt (places.AfterHead b) q = (w : WrittenBridge) × IsBridge b w × (q ≡ AfterHead w)
-IsAt (places.NextRead b) q = (w : WrittenBridge) × IsBridge b w × (q ≡ NextRead w)
-IsAt (places.ReadContext b) q = (w : WrittenBridge) × IsBridge b w × (q ≡ ReadContext w)
-IsAt (places.ReadColon b denied c) q = (w : WrittenBridge) × IsBridge b w × (q ≡ ReadColon w (part_read denied c))
-IsAt (places.InRead b denied c f) q = (w : WrittenBridge) × IsBridge b w × ((s : PartFormula) × IsReader f s × (q ≡ InRead w (part_read denied c) s))
-IsAt (places.AfterRead b denied r) q = (w : WrittenBridge) × ((v : Written) × IsBridge b w × (formula_of r.belief ≡ formula_in v) × (q ≡ AfterRead (with_read w (part_read denied r.context) v)))
+IsAt (places.AfterHead b) q = (w : WrittenBridge) × IsBridgeImage b w × (q ≡ AfterHead w)
+IsAt (places.NextRead b) q = (w : WrittenBridge) × IsBridgeImage b w × (q ≡ NextRead w)
+IsAt (places.ReadContext b) q = (w : WrittenBridge) × IsBridgeImage b w × (q ≡ ReadContext w)
+IsAt (places.ReadColon b denied c) q = (w : WrittenBridge) × IsBridgeImage b w × (q ≡ ReadColon w (part_read denied c))
+IsAt (places.InRead b denied c f) q = (w : WrittenBridge) × IsBridgeImage b w × ((s : PartFormula) × IsReader f s × (q ≡ InRead w (part_read denied c) s))
+IsAt (places.AfterRead b denied r) q = (w : WrittenBridge) × ((v : Written) × IsBridgeImage b w × (formula_of r.belief ≡ formula_in v) × (q ≡ AfterRead (with_read w (part_read denied r.context) v)))
 
 -- the read that was written last, where a rule may go on with one more
 abbrev pub last_read : code_place.Place → Option code_read.NamedRead
@@ -128,9 +128,9 @@ last_belief [] = plain.Truth
 last_belief (r ∷ []) = formula_in r.place.belief
 last_belief (r ∷ q ∷ rs) = last_belief (q ∷ rs)
 
-abbrev pub belief_at : Place → plain.Formula
-belief_at (AfterRead b) = last_belief b.reads
-belief_at p = plain.Truth
+abbrev pub belief_at_place : Place → plain.Formula
+belief_at_place (AfterRead b) = last_belief b.reads
+belief_at_place p = plain.Truth
 
 -- what a token is said of: its subject, and at the end of a read the belief
 pub record About : Type 0 where
@@ -138,7 +138,7 @@ pub record About : Type 0 where
   pub belief : plain.Formula
 
 abbrev pub about : Subject → Place → About
-about u q = record { subject = u; belief = belief_at q }
+about u q = record { subject = u; belief = belief_at_place q }
 
 abbrev pub about_context : Name → About
 about_context c = record { subject = of_context c; belief = plain.Truth }
@@ -188,17 +188,17 @@ IsWord words.Long t = IsTrue (is_name_word t) × (most_name_bytes < length t)
 IsWord words.Other t = is_name_word t ≡ false
 
 -- ---- of a step, of which the token is said of the subject
-abbrev pub IsStep : code_step.Step → Subject → PartText → Token → Moved → Type 0
-IsStep answers.Refused u s t moved = moved ≡ None
-IsStep (answers.Moves place uses) u s t moved = (us : List Use) × ((q : Place) × (moved ≡ goes s t us q) × IsAt place q × (map capped us ≡ uses_in (about u q) t uses))
-IsStep (answers.EndsContext c) u s t moved = (w : WrittenContext) × (context_of c ≡ context_in w) × (moved ≡ Some (entry t [], context_is_whole s w))
-IsStep (answers.EndsBridge b) u s t moved = (w : WrittenBridge) × IsBridge b w × (moved ≡ Some (entry t [], bridge_is_whole s w))
-IsStep (answers.LongName uses) u s t moved = (us : List Use) × ((q : Place) × (moved ≡ goes s t us q) × IsTrue (is_name_word t) × (most_name_bytes < length t) × (map capped us ≡ uses_in (about u q) t uses))
+abbrev pub IsReaderStep : code_step.Step → Subject → PartText → Token → Moved → Type 0
+IsReaderStep answers.Refused u s t moved = moved ≡ None
+IsReaderStep (answers.Moves place uses) u s t moved = (us : List Use) × ((q : Place) × (moved ≡ goes s t us q) × IsAt place q × (map capped us ≡ uses_in (about u q) t uses))
+IsReaderStep (answers.EndsContext c) u s t moved = (w : WrittenContext) × (context_of c ≡ context_in w) × (moved ≡ Some (entry t [], context_is_whole s w))
+IsReaderStep (answers.EndsBridge b) u s t moved = (w : WrittenBridge) × IsBridgeImage b w × (moved ≡ Some (entry t [], bridge_is_whole s w))
+IsReaderStep (answers.LongName uses) u s t moved = (us : List Use) × ((q : Place) × (moved ≡ goes s t us q) × IsTrue (is_name_word t) × (most_name_bytes < length t) × (map capped us ≡ uses_in (about u q) t uses))
 
 -- ---- of a text
 abbrev pub AreBridges : List code_bridge.NamedBridge → List WrittenBridge → Type 0
 AreBridges [] [] = Unit {0}
-AreBridges (b ∷ bs) (w ∷ ws) = IsBridge b w × AreBridges bs ws
+AreBridges (b ∷ bs) (w ∷ ws) = IsBridgeImage b w × AreBridges bs ws
 AreBridges bs ws = ⊥
 
 pub record IsTextReader (r : Reader) (s : PartText) : Type 0 where
@@ -212,6 +212,6 @@ pub record IsStopped (now : Reader) (t : Token) : Type 0 where
   pub long : most_name_bytes < length t
   pub no_read : last_read now.place ≡ None
 
-abbrev pub IsTaken : Option code_uses.Uses → Reader → PartText → Token → Type 0
-IsTaken None now s t = text_step s t ≡ None
-IsTaken (Some uses) now s t = (r : Entry × PartText) × (text_step s t ≡ Some r) × (map capped (r.0).uses ≡ uses_in (about (subject_at s.place) (r.1).place) t uses) × (IsTextReader now r.1 ⊎ IsStopped now t)
+abbrev pub IsTokenTaken : Option code_uses.Uses → Reader → PartText → Token → Type 0
+IsTokenTaken None now s t = text_step s t ≡ None
+IsTokenTaken (Some uses) now s t = (r : Entry × PartText) × (text_step s t ≡ Some r) × (map capped (r.0).uses ≡ uses_in (about (subject_at s.place) (r.1).place) t uses) × (IsTextReader now r.1 ⊎ IsStopped now t)

@@ -88,14 +88,14 @@ between s t =
     cond (bytes_eq t (codes "context") && nat_eq (length s.bridges) 0) (goes s t (BeginsContext ∷ []) ContextName)
     (on t (codes "bridge") (goes s t (BeginsBridge ∷ []) BridgeName) None)
 
-abbrev pub empty_context : Name → WrittenKb → WrittenContext
-empty_context name kb = record { name = name; kb = kb }
+abbrev pub context_begun : Name → WrittenKb → WrittenContext
+context_begun name kb = record { name = name; kb = kb }
 
-abbrev pub kind_word : PartText → Name → Token → Moved
-kind_word s n t =
-    on t (codes "classical") (goes s t [] (OpenBrace (empty_context n (Classical []))))
-    (on t (codes "default") (goes s t [] (OpenBrace (empty_context n (DefaultTheory []))))
-    (on t (codes "program") (goes s t (SaysProgram n ∷ []) (OpenBrace (empty_context n (Program [])))) None))
+abbrev pub step_of_kind_word : PartText → Name → Token → Moved
+step_of_kind_word s n t =
+    on t (codes "classical") (goes s t [] (OpenBrace (context_begun n (Classical []))))
+    (on t (codes "default") (goes s t [] (OpenBrace (context_begun n (DefaultTheory []))))
+    (on t (codes "program") (goes s t (SaysProgram n ∷ []) (OpenBrace (context_begun n (Program [])))) None))
 
 abbrev pub with_fact : Written → WrittenKb → WrittenKb
 with_fact f (Classical formulas) = Classical (formulas ++ f ∷ [])
@@ -139,9 +139,9 @@ abbrev pub is_theory : WrittenKb → Bool
 is_theory (DefaultTheory items) = true
 is_theory kb = false
 
-abbrev pub is_program : WrittenKb → Bool
-is_program (Program rules) = true
-is_program kb = false
+abbrev pub is_program_kb : WrittenKb → Bool
+is_program_kb (Program rules) = true
+is_program_kb kb = false
 
 -- after a whole fact or prerequisite
 abbrev pub fact_ends : PartText → WrittenContext → Token → Written → Moved
@@ -195,7 +195,7 @@ first_of_formula s c t = in_formula s c.name (BeginsItem c.name ∷ []) no_formu
 abbrev pub next_item : PartText → WrittenContext → Token → Moved
 next_item s c t =
     on t (codes "}") (Some (entry t [], context_is_whole s c))
-    (cond (is_program c.kb) (first_of_rule s c t) (first_of_formula s c t))
+    (cond (is_program_kb c.kb) (first_of_rule s c t) (first_of_formula s c t))
 
 abbrev pub after_head_name : PartText → WrittenContext → List Name → Token → Moved
 after_head_name s c head t =
@@ -213,8 +213,8 @@ one_literal s c head body denied t =
 abbrev pub next_literal : PartText → WrittenContext → List Name → List WrittenLiteral → Token → Moved
 next_literal s c head body t = on t (codes "not") (goes s t [] (AfterNot c head body)) (one_literal s c head body false t)
 
-abbrev pub after_sign : PartText → WrittenContext → List Name → Token → Moved
-after_sign s c head t = on t (codes ".") (goes s t [] (NextItem (add_rule c (whole_rule head true [])))) (next_literal s c head [] t)
+abbrev pub step_after_sign : PartText → WrittenContext → List Name → Token → Moved
+step_after_sign s c head t = on t (codes ".") (goes s t [] (NextItem (add_rule c (whole_rule head true [])))) (next_literal s c head [] t)
 
 abbrev pub after_literal : PartText → WrittenContext → List Name → List WrittenLiteral → Token → Moved
 after_literal s c head body t =
@@ -239,14 +239,14 @@ in_belief s c f t place uses after = option_and_then (λ (r : Entry × PartFormu
     at r None = goes s t (first_of_belief c f ++ (r.0).uses) (place r.1)
     at r (Some w) = goes s t (uses w ++ (first_of_belief c f ++ (r.0).uses)) (after w)
 
-abbrev pub place_of : Name → Written → WrittenPlace
-place_of c w = record { context = c; belief = w }
+abbrev pub place_in_text : Name → Written → WrittenPlace
+place_in_text c w = record { context = c; belief = w }
 
 abbrev pub headed : Name → Name → Written → WrittenBridge
-headed name c w = record { name = name; head = place_of c w; reads = [] }
+headed name c w = record { name = name; head = place_in_text c w; reads = [] }
 
 abbrev pub with_read : WrittenBridge → PartRead → Written → WrittenBridge
-with_read b r w = record b { reads = b.reads ++ record { denied = r.denied; place = place_of r.context w } ∷ [] }
+with_read b r w = record b { reads = b.reads ++ record { denied = r.denied; place = place_in_text r.context w } ∷ [] }
 
 abbrev pub after_head : PartText → WrittenBridge → Token → Moved
 after_head s b t = on t (codes "if") (goes s t [] (NextRead b)) (on t (codes ".") (Some (entry t [], bridge_is_whole s b)) None)
@@ -269,7 +269,7 @@ after_read s b t = on t (codes ",") (goes s t [] (NextRead b)) (on t (codes ".")
 abbrev pub step_at : PartText → Token → Place → Moved
 step_at s t Between = between s t
 step_at s t ContextName = on_name t (goes s t (NamesContext t ∷ []) (KindWord t))
-step_at s t (KindWord name) = kind_word s name t
+step_at s t (KindWord name) = step_of_kind_word s name t
 step_at s t (OpenBrace c) = on t (codes "{") (goes s t [] (NextItem c)) None
 step_at s t (NextItem c) = next_item s c t
 step_at s t (InFact c f) = in_fact s c f t
@@ -277,7 +277,7 @@ step_at s t (InJust c d f) = in_just s c d f t
 step_at s t (InConclusion c d f) = in_conclusion s c d f t
 step_at s t (AfterHeadName c head) = after_head_name s c head t
 step_at s t (NextHeadName c head) = next_head_name s c head t
-step_at s t (AfterSign c head) = after_sign s c head t
+step_at s t (AfterSign c head) = step_after_sign s c head t
 step_at s t (NextLiteral c head body) = next_literal s c head body t
 step_at s t (AfterNot c head body) = one_literal s c head body true t
 step_at s t (AfterLiteral c head body) = after_literal s c head body t

@@ -9,7 +9,7 @@ ghost use Rattle.mcs_grammar.specs.FormulaSteps.{PartFormula, finished_primary, 
 ghost use Rattle.mcs_grammar.specs.FormulaImages.{IsReader};
 ghost use Rattle.mcs_reader.specs.TextSteps as written;
 ghost use Rattle.mcs_reader.specs.TextSteps.{PartText, BridgeName, BridgeColon, HeadContext, HeadColon, InHead, ReadColon, first_of_belief, headed, with_read};
-ghost use Rattle.mcs_reader.specs.TextImages.{IsBridge, IsStep, about_context, capped, no_subject, of_context, of_read, part_read, role_uses, when};
+ghost use Rattle.mcs_reader.specs.TextImages.{IsBridgeImage, IsReaderStep, about_context, capped, no_subject, of_context, of_read, part_read, role_uses, when};
 
 use crate::items::formula_role;
 use crate::place::{
@@ -23,7 +23,7 @@ use std::alloc::Global;
 
 /// The step of a token where the name of a bridge rule is expected.
 pub(crate) fn bridge_name(alloc: Global, token: &[u8]) -> Result<Step, Memory>
-    ensures { (s : PartText) → IfOk result (λ step. IsStep step no_subject s token.now (written.step_at s token.now BridgeName)) }
+    ensures { (s : PartText) → IfOk result (λ step. IsReaderStep step no_subject s token.now (written.step_at s token.now BridgeName)) }
 {
     let role = Role::NamesBridge;
     Ok(match word_of(alloc, token)? {
@@ -37,7 +37,7 @@ pub(crate) fn bridge_name(alloc: Global, token: &[u8]) -> Result<Step, Memory>
 
 /// The step of a token after the name of the rule.
 pub(crate) fn bridge_colon(name: Name, token: &[u8]) -> Step
-    ensures { (s : PartText) → IsStep result no_subject s token.now (written.step_at s token.now (BridgeColon name)) }
+    ensures { (s : PartText) → IsReaderStep result no_subject s token.now (written.step_at s token.now (BridgeColon name)) }
 {
     if is_sign(token, Sign::Colon) {
         return Step::goes(Place::HeadContext { name }, Role::Nothing);
@@ -47,7 +47,7 @@ pub(crate) fn bridge_colon(name: Name, token: &[u8]) -> Step
 
 /// The step of a token where the name of the head's context is expected.
 pub(crate) fn head_context(alloc: Global, name: Name, token: &[u8]) -> Result<Step, Memory>
-    ensures { (s : PartText) → IfOk result (λ step. IsStep step no_subject s token.now (written.step_at s token.now (HeadContext name))) }
+    ensures { (s : PartText) → IfOk result (λ step. IsReaderStep step no_subject s token.now (written.step_at s token.now (HeadContext name))) }
 {
     let role = Role::NamesTarget;
     Ok(match word_of(alloc, token)? {
@@ -61,7 +61,7 @@ pub(crate) fn head_context(alloc: Global, name: Name, token: &[u8]) -> Result<St
 
 /// The step of a token after the name of the head's context.
 pub(crate) fn head_colon(alloc: Global, name: Name, context: Name, token: &[u8]) -> Step
-    ensures { (s : PartText) → IsStep result no_subject s token.now (written.step_at s token.now (HeadColon name context)) }
+    ensures { (s : PartText) → IsReaderStep result no_subject s token.now (written.step_at s token.now (HeadColon name context)) }
 {
     if is_sign(token, Sign::Colon) {
         let belief = FormulaReader::new(alloc);
@@ -79,7 +79,7 @@ pub(crate) fn head_colon(alloc: Global, name: Name, context: Name, token: &[u8])
 
 /// The step of a token after the head.
 pub(crate) fn after_head(bridge: NamedBridge, token: &[u8]) -> Step
-    ensures { (s : PartText) (w : WrittenBridge) → IsBridge bridge w → IsStep result no_subject s token.now (written.after_head s w token.now) }
+    ensures { (s : PartText) (w : WrittenBridge) → IsBridgeImage bridge w → IsReaderStep result no_subject s token.now (written.after_head s w token.now) }
 {
     if is_keyword(token, Keyword::If) {
         return Step::goes(Place::NextRead { bridge }, Role::Nothing);
@@ -97,7 +97,7 @@ pub(crate) fn read_context(
     denied: bool,
     token: &[u8],
 ) -> Result<Step, Memory>
-    ensures { (s : PartText) (w : WrittenBridge) → IsBridge bridge w → IfOk result (λ step. IsStep step no_subject s token.now (written.read_context s w denied token.now)) }
+    ensures { (s : PartText) (w : WrittenBridge) → IsBridgeImage bridge w → IfOk result (λ step. IsReaderStep step no_subject s token.now (written.read_context s w denied token.now)) }
 {
     let role = Role::NamesSource;
     match word_of(alloc, token) {
@@ -128,7 +128,7 @@ pub(crate) fn read_context(
 
 /// The step of a token where a read is expected.
 pub(crate) fn next_read(alloc: Global, bridge: NamedBridge, token: &[u8]) -> Result<Step, Memory>
-    ensures { (s : PartText) (w : WrittenBridge) → IsBridge bridge w → IfOk result (λ step. IsStep step no_subject s token.now (written.next_read s w token.now)) }
+    ensures { (s : PartText) (w : WrittenBridge) → IsBridgeImage bridge w → IfOk result (λ step. IsReaderStep step no_subject s token.now (written.next_read s w token.now)) }
 {
     if is_keyword(token, Keyword::Not) {
         return Ok(Step::goes(Place::ReadContext { bridge }, Role::Nothing));
@@ -144,7 +144,7 @@ pub(crate) fn read_colon(
     context: Name,
     token: &[u8],
 ) -> Step
-    ensures { (s : PartText) (w : WrittenBridge) → IsBridge bridge w → IsStep result no_subject s token.now (written.step_at s token.now (ReadColon w (part_read denied context))) }
+    ensures { (s : PartText) (w : WrittenBridge) → IsBridgeImage bridge w → IsReaderStep result no_subject s token.now (written.step_at s token.now (ReadColon w (part_read denied context))) }
 {
     if is_sign(token, Sign::Colon) {
         let belief = FormulaReader::new(alloc);
@@ -168,8 +168,8 @@ pub(crate) fn after_read(
     read: NamedRead,
     token: &[u8],
 ) -> Result<Step, Memory>
-    ensures { (s : PartText) (w : WrittenBridge) (v : Written) → IsBridge bridge w → formula_of read.belief ≡ formula_in v
-        → IfOk result (λ step. IsStep step no_subject s token.now (written.after_read s (with_read w (part_read denied read.context) v) token.now)) }
+    ensures { (s : PartText) (w : WrittenBridge) (v : Written) → IsBridgeImage bridge w → formula_of read.belief ≡ formula_in v
+        → IfOk result (λ step. IsReaderStep step no_subject s token.now (written.after_read s (with_read w (part_read denied read.context) v) token.now)) }
 {
     let bridge = with_read(bridge, denied, read)?;
     if is_sign(token, Sign::Comma) {
@@ -203,7 +203,7 @@ pub(crate) fn in_head(
     mut belief: FormulaReader,
     token: &[u8],
 ) -> Result<Step, Memory>
-    ensures { (s : PartText) (f : PartFormula) → IsReader belief f → IfOk result (λ step. IsStep step (of_context context) s token.now (written.step_at s token.now (InHead name context f))) }
+    ensures { (s : PartText) (f : PartFormula) → IsReader belief f → IfOk result (λ step. IsReaderStep step (of_context context) s token.now (written.step_at s token.now (InHead name context f))) }
 {
     let uses = belief_uses(&belief, token);
     match belief.take(alloc, token) {
@@ -233,7 +233,7 @@ fn head_goes_on(
 ) -> Result<Step, Memory>
     ensures goes_on { (s : PartFormula) → IsReader belief s → finished_primary s ≡ None → IfOk result (λ step. step ≡ Step.Moves (Place.InHead name context belief) uses) }
     ensures ends { (s : PartFormula) (w : Written) → IsReader belief s → finished_primary s ≡ Some w
-        → IfOk result (λ step. (bridge : NamedBridge) × IsBridge bridge (headed name context w) × (step ≡ Step.Moves (Place.AfterHead bridge) uses)) }
+        → IfOk result (λ step. (bridge : NamedBridge) × IsBridgeImage bridge (headed name context w) × (step ≡ Step.Moves (Place.AfterHead bridge) uses)) }
 {
     if !belief.is_primary() {
         let place = Place::InHead {
@@ -277,7 +277,7 @@ fn waits_for_one(belief: &FormulaReader) -> bool
 
 /// The rule with one more read.
 fn with_read(bridge: NamedBridge, denied: bool, read: NamedRead) -> Result<NamedBridge, Memory>
-    ensures { (w : WrittenBridge) (v : Written) → IsBridge bridge w → formula_of read.belief ≡ formula_in v → IfOk result (λ more. IsBridge more (with_read w (part_read denied read.context) v)) }
+    ensures { (w : WrittenBridge) (v : Written) → IsBridgeImage bridge w → formula_of read.belief ≡ formula_in v → IfOk result (λ more. IsBridgeImage more (with_read w (part_read denied read.context) v)) }
 {
     let NamedBridge {
         name,
@@ -309,8 +309,8 @@ pub(crate) fn in_read(
     mut belief: FormulaReader,
     token: &[u8],
 ) -> Result<Step, Memory>
-    ensures { (s : PartText) (w : WrittenBridge) (f : PartFormula) → IsBridge bridge w → IsReader belief f
-        → IfOk result (λ step. IsStep step (of_read context w.head.context) s token.now (written.in_read s w (part_read denied context) f token.now)) }
+    ensures { (s : PartText) (w : WrittenBridge) (f : PartFormula) → IsBridgeImage bridge w → IsReader belief f
+        → IfOk result (λ step. IsReaderStep step (of_read context w.head.context) s token.now (written.in_read s w (part_read denied context) f token.now)) }
 {
     let uses = belief_uses(&belief, token);
     match belief.take(alloc, token) {

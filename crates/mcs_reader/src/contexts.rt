@@ -6,7 +6,7 @@ ghost use Rattle.mcs_grammar.specs.Written.{WrittenContext};
 ghost use Rattle.mcs_grammar.specs.Saying.{context_in};
 ghost use Rattle.mcs_reader.specs.TextSteps as written;
 ghost use Rattle.mcs_reader.specs.TextSteps.{PartText, ContextName, KindWord, OpenBrace};
-ghost use Rattle.mcs_reader.specs.TextImages.{IsStep, no_subject, of_context, only};
+ghost use Rattle.mcs_reader.specs.TextImages.{IsReaderStep, no_subject, of_context, only};
 
 use crate::place::{Place, Role, Step, Uses, Word, is_keyword, is_sign, word_of};
 use mcs_base::Memory;
@@ -16,7 +16,7 @@ use std::alloc::Global;
 
 /// The step of a token between contexts and rules. After a bridge rule no further context may come.
 pub(crate) fn between(no_bridges: bool, token: &[u8]) -> Step
-    ensures { (s : PartText) → no_bridges ≡ nat_eq (length s.bridges) 0 → IsStep result no_subject s token.now (written.between s token.now) }
+    ensures { (s : PartText) → no_bridges ≡ nat_eq (length s.bridges) 0 → IsReaderStep result no_subject s token.now (written.between s token.now) }
 {
     if is_keyword(token, Keyword::Context) && no_bridges {
         return Step::goes(Place::ContextName, Role::BeginsContext);
@@ -29,7 +29,7 @@ pub(crate) fn between(no_bridges: bool, token: &[u8]) -> Step
 
 /// The step of a token where the name of a context is expected.
 pub(crate) fn context_name(alloc: Global, token: &[u8]) -> Result<Step, Memory>
-    ensures { (s : PartText) → IfOk result (λ step. IsStep step no_subject s token.now (written.step_at s token.now ContextName)) }
+    ensures { (s : PartText) → IfOk result (λ step. IsReaderStep step no_subject s token.now (written.step_at s token.now ContextName)) }
 {
     let role = Role::NamesContext;
     Ok(match word_of(alloc, token)? {
@@ -55,7 +55,7 @@ fn opened(name: Name, kb: Kb, role: Role) -> Step
 
 /// The step of a token where the kind of the context is expected.
 pub(crate) fn kind_word(alloc: Global, name: Name, token: &[u8]) -> Step
-    ensures { (s : PartText) → IsStep result (of_context name) s token.now (written.step_at s token.now (KindWord name)) }
+    ensures { (s : PartText) → IsReaderStep result (of_context name) s token.now (written.step_at s token.now (KindWord name)) }
 {
     if is_keyword(token, Keyword::Classical) {
         return opened(name, Kb::Classical(Vec::new(alloc)), Role::Nothing);
@@ -71,7 +71,7 @@ pub(crate) fn kind_word(alloc: Global, name: Name, token: &[u8]) -> Step
 
 /// The step of a token where the opening brace is expected.
 pub(crate) fn open_brace(context: Context, token: &[u8]) -> Step
-    ensures { (s : PartText) (w : WrittenContext) → context_of context ≡ context_in w → IsStep result (of_context w.name) s token.now (written.step_at s token.now (OpenBrace w)) }
+    ensures { (s : PartText) (w : WrittenContext) → context_of context ≡ context_in w → IsReaderStep result (of_context w.name) s token.now (written.step_at s token.now (OpenBrace w)) }
 {
     if is_sign(token, Sign::OpenBrace) {
         return Step::goes(Place::NextItem { context }, Role::Nothing);

@@ -3,8 +3,8 @@
 ghost use Rattle.std.specs.Prelude.{◌≡◌, nat_eq, length, IfOk, MatchOption, Some, None};
 ghost use Rattle.mcs_reader.specs.TextSteps as written;
 ghost use Rattle.mcs_reader.specs.TextSteps.{PartText, finished_text, nothing_written};
-ghost use Rattle.mcs_reader.specs.TextImages.{IsAt, IsStep, IsTaken, IsTextReader, last_read, subject_at};
-ghost use Rattle.mcs_reader.specs.Ends.{AreParts};
+ghost use Rattle.mcs_reader.specs.TextImages.{IsAt, IsReaderStep, IsTokenTaken, IsTextReader, last_read, subject_at};
+ghost use Rattle.mcs_reader.specs.Ends.{AreReaderParts};
 
 use crate::bridges::{
     after_head, after_read, bridge_colon, bridge_name, head_colon, head_context, in_head, in_read,
@@ -40,7 +40,7 @@ pub struct Parts {
 
 /// The step of the token in the state.
 fn step_at(alloc: Global, place: Place, no_bridges: bool, token: &[u8]) -> Result<Step, Memory>
-    ensures { (s : PartText) (q : written.Place) → no_bridges ≡ nat_eq (length s.bridges) 0 → IsAt place q → IfOk result (λ step. IsStep step (subject_at q) s token.now (written.step_at s token.now q)) }
+    ensures { (s : PartText) (q : written.Place) → no_bridges ≡ nat_eq (length s.bridges) 0 → IsAt place q → IfOk result (λ step. IsReaderStep step (subject_at q) s token.now (written.step_at s token.now q)) }
 {
     match place {
         Place::Between => Ok(between(no_bridges, token)),
@@ -129,7 +129,7 @@ impl Reader {
     /// that is too long are returned too, but the text can't be read on after it. If memory runs out, the parser can't
     /// be used any more.
     pub fn take(&mut self, alloc: Global, token: &[u8]) -> Result<Option<Uses>, Memory>
-        ensures { (s : PartText) → IsTextReader self.old s → IfOk result (λ uses. IsTaken uses self.new s token.now) }
+        ensures { (s : PartText) → IsTextReader self.old s → IfOk result (λ uses. IsTokenTaken uses self.new s token.now) }
     {
         let place = mem::replace(&mut self.place, Place::Between);
         let no_bridges = self.bridges.is_empty();
@@ -153,7 +153,7 @@ impl Reader {
 
     /// The contexts and the bridge rules, if the text may end here.
     pub fn finish(self) -> Option<Parts>
-        ensures { (s : PartText) → IsTextReader self s → AreParts result (finished_text s) }
+        ensures { (s : PartText) → IsTextReader self s → AreReaderParts result (finished_text s) }
     {
         let Reader {
             contexts,

@@ -7,7 +7,7 @@ ghost use Rattle.mcs_grammar.specs.Written.{WrittenContext, WrittenLiteral, Writ
 ghost use Rattle.mcs_grammar.specs.Saying.{context_in, rule_in};
 ghost use Rattle.mcs_reader.specs.TextSteps as written;
 ghost use Rattle.mcs_reader.specs.TextSteps.{PartText, add_rule, whole_rule};
-ghost use Rattle.mcs_reader.specs.TextImages.{IsStep, most_number, of_context};
+ghost use Rattle.mcs_reader.specs.TextImages.{IsReaderStep, most_number, of_context};
 
 use crate::place::{Place, Role, Step, Uses, Word, is_keyword, is_sign, number_after, word_of};
 use mcs_base::Memory;
@@ -60,7 +60,7 @@ fn next_number(rule: &ProgRule) -> usize
 
 /// The step of the first token of a rule.
 pub(crate) fn first_of_rule(alloc: Global, context: Context, token: &[u8]) -> Result<Step, Memory>
-    ensures { (s : PartText) (w : WrittenContext) → context_of context ≡ context_in w → IfOk result (λ step. IsStep step (of_context w.name) s token.now (written.first_of_rule s w token.now)) }
+    ensures { (s : PartText) (w : WrittenContext) → context_of context ≡ context_in w → IfOk result (λ step. IsReaderStep step (of_context w.name) s token.now (written.first_of_rule s w token.now)) }
 {
     if is_sign(token, Sign::If) {
         let rule = headless(alloc);
@@ -96,7 +96,7 @@ pub(crate) fn after_head_name(
     head: Vec<Name>,
     token: &[u8],
 ) -> Result<Step, Memory>
-    ensures { (s : PartText) (w : WrittenContext) → context_of context ≡ context_in w → IfOk result (λ step. IsStep step (of_context w.name) s token.now (written.after_head_name s w head.items token.now)) }
+    ensures { (s : PartText) (w : WrittenContext) → context_of context ≡ context_in w → IfOk result (λ step. IsReaderStep step (of_context w.name) s token.now (written.after_head_name s w head.items token.now)) }
 {
     if is_sign(token, Sign::Bar) {
         return Ok(Step::goes(Place::NextHeadName { context, head }, Role::Nothing));
@@ -124,7 +124,7 @@ pub(crate) fn next_head_name(
     mut head: Vec<Name>,
     token: &[u8],
 ) -> Result<Step, Memory>
-    ensures { (s : PartText) (w : WrittenContext) → context_of context ≡ context_in w → IfOk result (λ step. IsStep step (of_context w.name) s token.now (written.next_head_name s w head.items token.now)) }
+    ensures { (s : PartText) (w : WrittenContext) → context_of context ≡ context_in w → IfOk result (λ step. IsReaderStep step (of_context w.name) s token.now (written.next_head_name s w head.items token.now)) }
 {
     let role = Role::Atom {
         number: number_after(head.len()),
@@ -179,7 +179,7 @@ pub(crate) fn one_literal(
     token: &[u8],
 ) -> Result<Step, Memory>
     ensures { (s : PartText) (w : WrittenContext) (body : List WrittenLiteral) → context_of context ≡ context_in w → rule_of rule ≡ rule_in (whole_rule rule.head.items true body)
-        → IfOk result (λ step. IsStep step (of_context w.name) s token.now (written.one_literal s w rule.head.items body denied token.now)) }
+        → IfOk result (λ step. IsReaderStep step (of_context w.name) s token.now (written.one_literal s w rule.head.items body denied token.now)) }
 {
     let role = Role::Atom {
         number: next_number(&rule),
@@ -214,7 +214,7 @@ pub(crate) fn next_literal(
     token: &[u8],
 ) -> Result<Step, Memory>
     ensures { (s : PartText) (w : WrittenContext) (body : List WrittenLiteral) → context_of context ≡ context_in w → rule_of rule ≡ rule_in (whole_rule rule.head.items true body)
-        → IfOk result (λ step. IsStep step (of_context w.name) s token.now (written.next_literal s w rule.head.items body token.now)) }
+        → IfOk result (λ step. IsReaderStep step (of_context w.name) s token.now (written.next_literal s w rule.head.items body token.now)) }
 {
     if is_keyword(token, Keyword::Not) {
         return Ok(Step::goes(Place::AfterNot { context, rule }, Role::Nothing));
@@ -230,7 +230,7 @@ pub(crate) fn after_sign(
     token: &[u8],
 ) -> Result<Step, Memory>
     ensures { (s : PartText) (w : WrittenContext) → context_of context ≡ context_in w → rule_of rule ≡ rule_in (whole_rule rule.head.items true [])
-        → IfOk result (λ step. IsStep step (of_context w.name) s token.now (written.after_sign s w rule.head.items token.now)) }
+        → IfOk result (λ step. IsReaderStep step (of_context w.name) s token.now (written.step_after_sign s w rule.head.items token.now)) }
 {
     if is_sign(token, Sign::Period) {
         let context = with_rule(context, rule)?;
@@ -242,7 +242,7 @@ pub(crate) fn after_sign(
 /// The step of a token after a literal.
 pub(crate) fn after_literal(context: Context, rule: ProgRule, token: &[u8]) -> Result<Step, Memory>
     ensures { (s : PartText) (w : WrittenContext) (body : List WrittenLiteral) → context_of context ≡ context_in w → rule_of rule ≡ rule_in (whole_rule rule.head.items true body)
-        → IfOk result (λ step. IsStep step (of_context w.name) s token.now (written.after_literal s w rule.head.items body token.now)) }
+        → IfOk result (λ step. IsReaderStep step (of_context w.name) s token.now (written.after_literal s w rule.head.items body token.now)) }
 {
     if is_sign(token, Sign::Comma) {
         return Ok(Step::goes(Place::NextLiteral { context, rule }, Role::Nothing));

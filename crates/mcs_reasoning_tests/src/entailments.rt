@@ -58,8 +58,8 @@ fn is_told_by_clauses(
     Ok(is_shown)
 }
 
-/// Whether the third formula is told to follow from the two before it, from these and from their clauses, and the fourth
-/// one not to, where just the first two atoms are true.
+/// Whether the third formula is told to follow from the two before it, from these and from their clauses, and the
+/// fourth one not to, where just the first two atoms are true.
 fn are_told(alloc: Global, formulas: &[Formula], atoms: &[Name]) -> Result<bool, Memory> {
     let [_, _, third, fourth] = formulas else {
         return Ok(false);
@@ -110,7 +110,8 @@ static BELIEFS: [Beliefs; 2] = [
     },
 ];
 
-/// Whether just those of the formulas after the first two follow from these that are said to, with what shows it of each.
+/// Whether just those of the formulas after the first two follow from these that are said to, with what shows it of
+/// each.
 fn are_believed(
     alloc: Global,
     formulas: &[Formula],

@@ -133,8 +133,8 @@ fn pushed(alloc: Global, atoms: &[Name], formulas: &[(&Formula, bool)]) -> Resul
 
 static CONTRADICTION: [&[i64]; 7] = [&[1], &[-1, -3], &[1, 3], &[3], &[-2, -4], &[2, 4], &[4]];
 
-/// Whether a fact, its denial and that of a goal have the clauses of the contradiction, and are refuted by the clauses of
-/// the fact and of its denial.
+/// Whether a fact, its denial and that of a goal have the clauses of the contradiction, and are refuted by the
+/// clauses of the fact and of its denial.
 fn are_refuted(alloc: Global, formulas: &[Formula], atoms: &[Name]) -> Result<bool, Memory> {
     let [fact, goal] = formulas else {
         return Ok(false);

@@ -26,8 +26,8 @@ fn is_accepted(
     check(alloc, &cnf, trace)
 }
 
-/// Whether the formulas are told to hold where just the atoms at the places are true; where no places are given, whether
-/// they are refuted by a trace that is accepted.
+/// Whether the formulas are told to hold where just the atoms at the places are true; where no places are given,
+/// whether they are refuted by a trace that is accepted.
 fn are_told(
     alloc: Global,
     formulas: &[Formula],

@@ -44,8 +44,8 @@ fn are_values(values: &[bool], vars: u64, known: &[(usize, bool)]) -> bool {
     as_said
 }
 
-/// Whether the clauses are satisfied by values with these at their places, or refuted by a trace that is accepted, where
-/// none are given.
+/// Whether the clauses are satisfied by values with these at their places, or refuted by a trace that is accepted,
+/// where none are given.
 fn are_told(alloc: Global, cnf: &Cnf, known: Option<&[(usize, bool)]>) -> Result<bool, Memory> {
     match solve(alloc, cnf)? {
         Outcome::Model(values) => Ok(match known {

@@ -4,7 +4,8 @@ ghost use Rattle.std.specs.Prelude.{◌≡◌};
 
 use mcs_base::{Marks, Memory, Partial, Vars};
 use mcs_table::{
-    Row, Table, are_apart, forget, holds_one, join, matching, said_of, said_states, union_states,
+    Row, Table, are_apart, forget, holds_one, join, matching, projections_of, states_with,
+    union_states,
 };
 use std::alloc::Global;
 
@@ -194,14 +195,14 @@ fn forgetting_keeps_minimal_rows(rt: HostRuntime) {
 fn are_kept(alloc: Global) -> Result<bool, Memory> {
     let rows = table(alloc, (0b011, &[(0b01, 0), (0b11, 0b1), (0b11, 0b10)]))?;
     let set = Vars::numbered(0b110);
-    let said = said_of(alloc, &rows, set)?;
+    let projections = projections_of(alloc, &rows, set)?;
     let states = [
         Vars::numbered(0b001),
         Vars::numbered(0b010),
         Vars::numbered(0b100),
     ];
-    let kept = said_states(alloc, &states, &said, set)?;
-    Ok(said.len() == 2 && are_states(&kept, &[0b001, 0b010]))
+    let kept = states_with(alloc, &states, &projections, set)?;
+    Ok(projections.len() == 2 && are_states(&kept, &[0b001, 0b010]))
 }
 
 #[test]

@@ -27,13 +27,13 @@ member_count Variable m = length (variables m)
 member_count Rule m = length m.bridges
 
 -- a set of them
-abbrev pub set_text : Member → System → ℕ → List ℕ
-set_text kind m set = braced (map (member_text kind m) (members set))
+abbrev pub member_set_text : Member → System → ℕ → List ℕ
+member_set_text kind m set = braced (map (member_text kind m) (members set))
 
 -- a set of variables
 abbrev pub state_text : System → ℕ → List ℕ
-state_text m σ = set_text Variable m σ
+state_text m σ = member_set_text Variable m σ
 
 -- a set of rules
 abbrev pub rules_text : System → ℕ → List ℕ
-rules_text m x = set_text Rule m x
+rules_text m x = member_set_text Rule m x

@@ -11,7 +11,7 @@ use Rattle.mcs_base.specs.Listings.{IsAmong}
 use Rattle.mcs_base.specs.StateOrder.{state_cmp, equal_is}
 use Rattle.mcs_base.proofs.Among.{map_among, place_among, among_at}
 use Rattle.mcs_base.proofs.Ascending.{before_at}
-use Rattle.mcs_rows.specs.Finding.{asked_in, is_before, AreInOrder, EndsAt, IsAnswerTo}
+use Rattle.mcs_rows.specs.Finding.{asked_in, is_question_before, AreAscendingQuestions, QuestionsEndAt, IsAnswerTo}
 use Rattle.mcs_rows.specs.declared.answer.Answer.{Answer}
 
 less_test : (a x : ℕ) → a < x → is_lt (nat_cmp a x) ≡ true
@@ -30,7 +30,7 @@ test_less a x h = at (nat_cmp a x) (ranked a x _ refl) h
     at Equal m h = absurd (true≢false (sym h))
     at Greater m h = absurd (true≢false (sym h))
 
-module _ (answers : List Answer) (up : AreInOrder answers) where
+module _ (answers : List Answer) (up : AreAscendingQuestions answers) where
   in_order : (i j : ℕ) (d : Answer) → i < j → j < length answers → (get_or answers i d).active < (get_or answers j d).active
   in_order i j d less bound =
       let long : length (asked_in answers) ≡ length answers = length-map answers (λ (a : Answer). a.active) in
@@ -39,13 +39,13 @@ module _ (answers : List Answer) (up : AreInOrder answers) where
       let before : get_or (asked_in answers) i d.active < get_or (asked_in answers) j d.active = before_at (λ (a b : ℕ). a < b) (asked_in answers) j d.active (omega arith) up (get_or (asked_in answers) i d.active) (subst (λ (v : ℕ). IsAmong v (take j (asked_in answers))) (get_or-take j (asked_in answers) i d.active less) (among_at (take j (asked_in answers)) i d.active (omega (arith, length-take j (asked_in answers))))) in
       omega arith
 
-  pub parted : (x : ℕ) → IsPartitionedBy (is_before x) answers
+  pub parted : (x : ℕ) → IsPartitionedBy (is_question_before x) answers
   parted x i j d le less h = elim (cases_lt i j) [
     | inl before ↦ less_test (get_or answers i d).active x (let first = in_order i j d before less in let second = test_less (get_or answers j d).active x h in omega arith)
-    | inr past ↦ let same : i ≡ j = omega arith in ap (λ k. is_before x (get_or answers k d)) same ∙ h
+    | inr past ↦ let same : i ≡ j = omega arith in ap (λ k. is_question_before x (get_or answers k d)) same ∙ h
   ]
 
-  module _ (x n : ℕ) (point : EndsAt x answers n) where
+  module _ (x n : ℕ) (point : QuestionsEndAt x answers n) where
     -- an answer to x stands at the place, not before it or after it
     at_place : (k : ℕ) (d : Answer) → k < length answers → (get_or answers k d).active ≡ x → k ≡ n
     at_place k d bound here = elim (cases_lt k n) as (λ _. k ≡ n) [

@@ -7,11 +7,11 @@ use Rattle.mcs_base.specs.Listings.{IsAmong, IsListing}
 use Rattle.mcs_base.proofs.Each.{all_among, all_from_among}
 use Rattle.mcs_base.proofs.Lists.{zip_push}
 use Rattle.mcs_base.proofs.Written.{take_read}
-use Rattle.mcs_table.specs.Fitting.{SomeSays, AreFittingStates}
+use Rattle.mcs_table.specs.Fitting.{IsRowProjection, AreFittingStates}
 use Rattle.mcs_table.specs.Tables.{TableData, IsTable}
-use Rattle.mcs_table.proofs.FittingLemmas.{fitting_same, fitting_more, said_step}
+use Rattle.mcs_table.proofs.FittingLemmas.{fitting_same, fitting_more, projection_step}
 use Rattle.mcs_rows.specs.Finding.{asked_in}
-use Rattle.mcs_rows.specs.Fitting.{HasSameParts, HasSaidParts, HasFittingParts}
+use Rattle.mcs_rows.specs.Fitting.{HasSameParts, HasProjectedParts, HasFittingParts}
 use Rattle.mcs_rows.specs.declared.answer.Answer.{Answer}
 
 -- ---- answers with some of their parts
@@ -30,8 +30,8 @@ module _ (set : ℕ) (tables : List TableData) (k : ℕ) (t : TableData) (less :
   parts_same (a ∷ later) (b ∷ bs) zip = (record { active = zip.0.active; parts = fitting_more set tables k t less here a.parts.items b.parts.items b.parts.items zip.0.parts (fitting_same set (t ∷ []) b.parts.items) }, parts_same later bs zip.1)
 
   -- one that tells which
-  module _ (is : IsTable t) (said : List ℕ) (listing : IsListing (SomeSays t.rows set) StateBefore said) where
-    pub parts_more : (answers kept next : List Answer) → AllZip (HasFittingParts set (take k tables)) answers kept → AllZip (HasSaidParts said (common set t.scope)) kept next → AllZip (HasFittingParts set (take (k + 1) tables)) answers next
+  module _ (is : IsTable t) (projections : List ℕ) (listing : IsListing (IsRowProjection t.rows set) StateBefore projections) where
+    pub parts_more : (answers kept next : List Answer) → AllZip (HasFittingParts set (take k tables)) answers kept → AllZip (HasProjectedParts projections (common set t.scope)) kept next → AllZip (HasFittingParts set (take (k + 1) tables)) answers next
     parts_more [] [] [] zip zip' = tt
     parts_more [] [] (c ∷ cs) zip zip' = absurd zip'
     parts_more [] (b ∷ bs) cs zip zip' = absurd zip
@@ -40,7 +40,7 @@ module _ (set : ℕ) (tables : List TableData) (k : ℕ) (t : TableData) (less :
     parts_more (a ∷ later) (b ∷ bs) (c ∷ cs) zip zip' = (
       record {
         active = zip'.0.active ∙ zip.0.active;
-        parts = fitting_more set tables k t less here a.parts.items b.parts.items c.parts.items zip.0.parts (said_step t is set said b.parts.items c.parts.items listing zip'.0.parts);
+        parts = fitting_more set tables k t less here a.parts.items b.parts.items c.parts.items zip.0.parts (projection_step t is set projections b.parts.items c.parts.items listing zip'.0.parts);
       },
       parts_more later bs cs zip.1 zip'.1,
     )
@@ -71,9 +71,9 @@ answer_after set tables (d ∷ later) (c ∷ cs) zip a (inr among) = let (b, the
 pub zip_more : {A B : Type 0} (R : A → B → Type 0) (xs : List A) (k : ℕ) (x : A) → k < length xs → x ≡ get_or xs k x → (ys now : List B) (y : B) → AllZip R (take k xs) ys → R x y → now ≡ ys ++ y ∷ [] → AllZip R (take (k + 1) xs) now
 zip_more R xs k x less here ys now y so_far one is = subst (λ zs. AllZip R zs now) (sym (take_read xs k x less here)) (subst (AllZip R (take k xs ++ x ∷ [])) (sym is) (zip_push R (take k xs) ys x y so_far one))
 
-pub said_as : (old lent said told : List ℕ) (set on : ℕ) (new : List ℕ) → lent ≡ old → told ≡ said → on ≡ set → ((s : ℕ) → IsAmong s new ↔ (IsAmong s lent × IsAmong (common s on) told)) → (s : ℕ) → IsAmong s new ↔ (IsAmong s old × IsAmong (common s set) said)
-said_as old lent said told set on new e e' e'' kept =
-    subst (λ (xs : List ℕ). (s : ℕ) → IsAmong s new ↔ (IsAmong s xs × IsAmong (common s set) said)) e
+pub projected_as : (old lent projections told : List ℕ) (set on : ℕ) (new : List ℕ) → lent ≡ old → told ≡ projections → on ≡ set → ((s : ℕ) → IsAmong s new ↔ (IsAmong s lent × IsAmong (common s on) told)) → (s : ℕ) → IsAmong s new ↔ (IsAmong s old × IsAmong (common s set) projections)
+projected_as old lent projections told set on new e e' e'' kept =
+    subst (λ (xs : List ℕ). (s : ℕ) → IsAmong s new ↔ (IsAmong s xs × IsAmong (common s set) projections)) e
     (subst (λ (ys : List ℕ). (s : ℕ) → IsAmong s new ↔ (IsAmong s lent × IsAmong (common s set) ys)) e' (subst (λ (z : ℕ). (s : ℕ) → IsAmong s new ↔ (IsAmong s lent × IsAmong (common s z) told)) e'' kept))
 
 pub rules_same : (set : ℕ) (tables : List TableData) (answers kept : List Answer) (P : ℕ → Type 0) → AllZip (HasFittingParts set tables) answers kept → AllByRecursion (λ (a : Answer). P a.active) answers → AllByRecursion (λ (a : Answer). P a.active) kept

@@ -42,9 +42,9 @@ use Rattle.mcs_import.proofs.QuestionLemmas.{question_in, applying, count-marks_
 use Rattle.mcs_import.proofs.StateLemmas.{states_found}
 use Rattle.mcs_rows.specs.Local.{Answered, AreAnswered, IsRowOf, IsLocalTable, IsFittingTable}
 use Rattle.mcs_rows.specs.Changed.{HasMarksOf, IsChangedAt}
-use Rattle.mcs_rows.specs.Finding.{AreInOrder}
+use Rattle.mcs_rows.specs.Finding.{AreAscendingQuestions}
 use Rattle.mcs_rows.specs.Answers.{answered_of}
-use Rattle.mcs_rows.specs.Making.{agrees, holds_some, row_with, is_in_reach, rows_with, rows_of, IsSettled, IsChangedRow}
+use Rattle.mcs_rows.specs.Making.{agrees, holds_some, row_with, is_in_reach, rows_with, rows_of, IsStateSettled, IsChangedRow}
 use Rattle.mcs_rows.specs.declared.answer.Answer.{Answer}
 use Rattle.mcs_rows.proofs.LocalLemmas.{IsMade, rows_are_made}
 use Rattle.mcs_rows.proofs.ChangedLemmas.{marks_inside, marks_tell, seen_inputs}
@@ -364,7 +364,7 @@ no_marks m i s = ap (λ z. marks_of m z z) (same_set (minus a a) 0 (λ k. let e 
     at k true u = rw (has-empty (k / 2)) (and-false u)
     at k false u = rw (has-empty (k / 2)) (and-false u)
 
-pub settled_covers : (m : System) (i level : ℕ) (known : List ℕ) (s : ℕ) → ¬ HasOneWithin known 0 → (answers : List Answer) (a : Answer) → IsSettled m i s answers a → (rows : List Row) → rows ≡ map (row_with m i s 0) (filter (agrees m i s) a.parts.items) → Covers (λ r. IsAmong r rows) (λ r. IsAmong r (rows_of m i level known answers s))
+pub settled_covers : (m : System) (i level : ℕ) (known : List ℕ) (s : ℕ) → ¬ HasOneWithin known 0 → (answers : List Answer) (a : Answer) → IsStateSettled m i s answers a → (rows : List Row) → rows ≡ map (row_with m i s 0) (filter (agrees m i s) a.parts.items) → Covers (λ r. IsAmong r rows) (λ r. IsAmong r (rows_of m i level known answers s))
 settled_covers m i level known s unknown answers a settled rows is = subst (λ (z : List Row). Covers (λ r. IsAmong r z) (λ r. IsAmong r (rows_of m i level known answers s))) (sym is) (record {
   from = λ r h.
       let (τ, there, e) = map_among (row_with m i s 0) r (filter (agrees m i s) a.parts.items) h in
@@ -418,7 +418,7 @@ changed_on m i pair answers states scope rows is are = all_from_among (λ (r : R
     ap (λ (q : Row). q.state.mask) e ∙ sym is)
 
 -- ---- the questions that were asked ascend
-pub answered_in_order : (m : System) (level i : ℕ) (answers : List Answer) → AreAnswered m level i (map answered_of answers) → AreInOrder answers
+pub answered_in_order : (m : System) (level i : ℕ) (answers : List Answer) → AreAnswered m level i (map answered_of answers) → AreAscendingQuestions answers
 answered_in_order m level i answers answered = subst (IsAscending (λ (a b : ℕ). a < b)) (map-map (λ (b : Answered). b.question) answered_of answers) answered.questions.ascending
 
 -- what any of them may have

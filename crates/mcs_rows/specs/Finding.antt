@@ -10,16 +10,16 @@ abbrev pub asked_in : List Answer → List ℕ
 asked_in answers = map (λ (a : Answer). a.active) answers
 
 -- the questions ascend, so that none stands twice
-abbrev pub AreInOrder : List Answer → Type 0
-AreInOrder answers = IsAscending (λ (a b : ℕ). a < b) (asked_in answers)
+abbrev pub AreAscendingQuestions : List Answer → Type 0
+AreAscendingQuestions answers = IsAscending (λ (a b : ℕ). a < b) (asked_in answers)
 
 -- the answer's question is less than x
-abbrev pub is_before : ℕ → Answer → Bool
-is_before x a = is_lt (nat_cmp a.active x)
+abbrev pub is_question_before : ℕ → Answer → Bool
+is_question_before x a = is_lt (nat_cmp a.active x)
 
 -- so many of the answers, and no more, are to questions before x
-abbrev pub EndsAt : ℕ → List Answer → ℕ → Type 0
-EndsAt x answers n = IsPartitionPoint (λ a. is_before x a ≡ true) (λ a. is_before x a ≡ false) answers n
+abbrev pub QuestionsEndAt : ℕ → List Answer → ℕ → Type 0
+QuestionsEndAt x answers n = IsPartitionPoint (λ a. is_question_before x a ≡ true) (λ a. is_question_before x a ≡ false) answers n
 
 -- a is the one answer to x
 pub record IsAnswerTo (answers : List Answer) (x : ℕ) (a : Answer) : Type 0 where

@@ -38,7 +38,7 @@ abbrev pub rows_of : System → ℕ → ℕ → List ℕ → List code.Answer �
 rows_of m i level known answers state = flat_map (rows_with m i level known state) answers
 
 -- a is the answer to the rules that apply in the state, and has each part of the others that agrees with it: so no change is of use there
-pub record IsSettled (m : System) (i state : ℕ) (answers : List code.Answer) (a : code.Answer) : Type 0 where
+pub record IsStateSettled (m : System) (i state : ℕ) (answers : List code.Answer) (a : code.Answer) : Type 0 where
   pub among : IsAmong a answers
   pub active : a.active ≡ common (applicable m state) (rules_into m i)
   pub all : (b : code.Answer) (τ : ℕ) → IsAmong b answers → IsAmong τ b.parts.items → agrees m i state τ ≡ true → IsAmong τ a.parts.items

@@ -9,7 +9,7 @@ ghost use Rattle.mcs_import.specs.Plans.{AreSupplies};
 ghost use Rattle.mcs_table.specs.declared.row.Row as rows;
 ghost use Rattle.mcs_rows.specs.Answers.{answered_of};
 ghost use Rattle.mcs_rows.specs.Changed.{IsChangedAt};
-ghost use Rattle.mcs_rows.specs.Finding.{AreInOrder};
+ghost use Rattle.mcs_rows.specs.Finding.{AreAscendingQuestions};
 ghost use Rattle.mcs_rows.specs.Local.{AreAnswered};
 ghost use Rattle.mcs_rows.specs.Making.{IsChangedRow};
 
@@ -35,7 +35,7 @@ fn add_changed(
     pair: Pair,
 ) -> Result<(), Memory>
     requires in_range { i < length system.now.contexts }
-    requires in_order { AreInOrder answers.now }
+    requires in_order { AreAscendingQuestions answers.now }
     ensures { IfOk result (λ _. (r : rows.Row)
         → IsAmong r all.new.items ↔ (IsAmong r all.old.items ⊎ IsChangedRow system.now i pair answers.now state r)) }
 {
@@ -61,7 +61,7 @@ fn changed_in(
     pair: Pair,
 ) -> Result<Vec<Row>, Memory>
     requires in_range { i < length system.now.contexts }
-    requires in_order { AreInOrder answers.now }
+    requires in_order { AreAscendingQuestions answers.now }
     ensures { IfOk result (λ all. (r : rows.Row) → IsAmong r all.items
         ↔ ((s : ℕ) × IsAmong s states.now × IsChangedRow system.now i pair answers.now s r)) }
 {
@@ -72,11 +72,11 @@ fn changed_in(
     Ok(all)
 }
 
-/// Of the local rows of context `i` of the plan's system at a level that is no less than the number of the pair's
-/// marks, those whose marks are the ones that the pair makes of their state, as a table on its local variables.
-/// `supplies` are what the contexts of `plan.supplied(i)` may supply at this level, in this order, each list in the order
-/// of states; `answers` are those of `i` to all its questions of the level, ascending by the numbers that stand for
-/// them. Each mark of the pair is one that a repair of the system may have.
+/// The local rows of context `i` of the plan's system whose marks are the ones that the pair makes of their state, as a
+/// table on its local variables. They are local rows of a level that is no less than the number of the pair's marks.
+/// `supplies` are what the contexts of `plan.supplied(i)` may supply at this level, in this order, each list in the
+/// order of states; `answers` are those of `i` to all its questions of the level, ascending by the numbers that stand
+/// for them. Each mark of the pair is one that a repair of the system may have.
 pub fn changed_rows(
     alloc: Global,
     plan: &Plan,
@@ -86,7 +86,7 @@ pub fn changed_rows(
     pair: Pair,
 ) -> Result<Table, Memory>
     requires in_range { i < length plan.now.contexts }
-    requires in_order { AreInOrder answers.now }
+    requires in_order { AreAscendingQuestions answers.now }
     requires allowed { Within pair (allowed_marks plan.now) }
     ensures { IfOk result (λ t. (level : ℕ) → size pair ≤ level
         → ((order : List ℕ) → IsImportOrder plan.now order → AreSupplies plan.now level (supplied plan.now order i) (map (λ supply. supply.items) supplies.now))

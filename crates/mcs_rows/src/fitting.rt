@@ -5,15 +5,15 @@ ghost use Rattle.std.specs.List.{AllZip};
 ghost use Rattle.mcs_base.specs.Listings.{IsAscending};
 ghost use Rattle.mcs_sets.specs.Orders.{StateBefore};
 ghost use Rattle.mcs_table.specs.Fitting.{AreFittingStates};
-ghost use Rattle.mcs_rows.specs.Fitting.{HasFittingParts, HasSaidParts, HasSameParts};
+ghost use Rattle.mcs_rows.specs.Fitting.{HasFittingParts, HasProjectedParts, HasSameParts};
 
 use crate::answer::Answer;
 use mcs_base::{Memory, Vars};
-use mcs_table::{Table, said_of, said_states};
+use mcs_table::{Table, projections_of, states_with};
 use std::alloc::Global;
 
-/// Whether the table may tell anything of states on the variables: it has some of these, or it has no rows.
-fn may_tell(table: &Table, variables: Vars) -> bool {
+/// Whether the table may rule out states on the variables: its scope has some of these, or it has no rows.
+fn may_restrict(table: &Table, variables: Vars) -> bool {
     table.rows().is_empty() || table.scope().meets(variables)
 }
 
@@ -28,9 +28,9 @@ pub(crate) fn fitting_states(
 {
     let mut kept = states;
     for table in tables {
-        if may_tell(table, variables) {
-            let said = said_of(alloc, table, variables)?;
-            kept = said_states(alloc, &kept, &said, variables.common(table.scope()))?;
+        if may_restrict(table, variables) {
+            let projections = projections_of(alloc, table, variables)?;
+            kept = states_with(alloc, &kept, &projections, variables.common(table.scope()))?;
         }
     }
     Ok(kept)
@@ -51,20 +51,20 @@ fn copies(alloc: Global, answers: &[Answer]) -> Result<Vec<Answer>, Memory>
     Ok(all)
 }
 
-/// The answers, each with those of its parts that are as one of `said` on the variables of a set; these are in the order
-/// of states, each once.
-fn with_said(
+/// The answers, each with those of its parts whose projection onto a set of variables is among `projections`; these
+/// are in the order of states, each once.
+fn answers_with(
     alloc: Global,
     answers: &[Answer],
-    said: &[Vars],
+    projections: &[Vars],
     set: Vars,
 ) -> Result<Vec<Answer>, Memory>
-    requires { IsAscending StateBefore said.now }
-    ensures { IfOk result (λ all. AllZip (HasSaidParts said.now set) answers.now all.items) }
+    requires { IsAscending StateBefore projections.now }
+    ensures { IfOk result (λ all. AllZip (HasProjectedParts projections.now set) answers.now all.items) }
 {
     let mut all = Vec::new(alloc);
     for answer in answers {
-        let parts = said_states(alloc, &answer.parts, said, set)?;
+        let parts = states_with(alloc, &answer.parts, projections, set)?;
         all.push(Answer {
             active: answer.active,
             parts,
@@ -85,9 +85,9 @@ pub(crate) fn fitting_answers(
 {
     let mut kept = copies(alloc, answers)?;
     for table in tables {
-        if may_tell(table, variables) {
-            let said = said_of(alloc, table, variables)?;
-            kept = with_said(alloc, &kept, &said, variables.common(table.scope()))?;
+        if may_restrict(table, variables) {
+            let projections = projections_of(alloc, table, variables)?;
+            kept = answers_with(alloc, &kept, &projections, variables.common(table.scope()))?;
         }
     }
     Ok(kept)

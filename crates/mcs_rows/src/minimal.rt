@@ -8,9 +8,9 @@ ghost use Rattle.mcs_system.specs.Imports.{IsImportOrder, supplied, rules_into};
 ghost use Rattle.mcs_import.specs.Plans.{AreSupplies};
 ghost use Rattle.mcs_table.specs.Tables.{Covers};
 ghost use Rattle.mcs_rows.specs.Answers.{answered_of};
-ghost use Rattle.mcs_rows.specs.Finding.{AreInOrder};
+ghost use Rattle.mcs_rows.specs.Finding.{AreAscendingQuestions};
 ghost use Rattle.mcs_rows.specs.Local.{AreAnswered, IsFittingTable};
-ghost use Rattle.mcs_rows.specs.Making.{agrees, row_with, rows_of, IsSettled};
+ghost use Rattle.mcs_rows.specs.Making.{agrees, row_with, rows_of, IsStateSettled};
 ghost use Rattle.mcs_rows.specs.Reach.{IsReach};
 ghost use Rattle.mcs_rows.specs.declared.answer.Answer as declared;
 
@@ -58,9 +58,9 @@ fn settled_by<'a>(
     possible: &[Vars],
 ) -> Option<&'a Answer>
     requires in_range { i < length system.now.contexts }
-    requires in_order { AreInOrder answers.now }
+    requires in_order { AreAscendingQuestions answers.now }
     requires possible { (a : declared.Answer) (τ : ℕ) → IsAmong a answers.now → IsAmong τ a.parts.items → IsAmong τ possible.now }
-    ensures { IfSome result (λ a. IsSettled system.now i state answers.now a.now) }
+    ensures { IfSome result (λ a. IsStateSettled system.now i state answers.now a.now) }
 {
     let applying = system.applicable(i, state);
     let answer = answer_to(answers, applying)?;
@@ -118,7 +118,7 @@ fn rows_at(
     reach: &Reach,
 ) -> Result<Vec<Row>, Memory>
     requires in_range { i < length system.now.contexts }
-    requires in_order { AreInOrder answers.now }
+    requires in_order { AreAscendingQuestions answers.now }
     requires of_rules { AllByRecursion (λ (a : declared.Answer). Within a.active (rules_into system.now i)) answers.now }
     requires possible { (a : declared.Answer) (τ : ℕ) → IsAmong a answers.now → IsAmong τ a.parts.items → IsAmong τ possible.now }
     requires reach { IsReach system.now reach.now }
@@ -146,7 +146,7 @@ fn rows_in(
     known: &[Marks],
 ) -> Result<Vec<Row>, Memory>
     requires in_range { i < length system.now.contexts }
-    requires in_order { AreInOrder answers.now }
+    requires in_order { AreAscendingQuestions answers.now }
     requires of_rules { AllByRecursion (λ (a : declared.Answer). Within a.active (rules_into system.now i)) answers.now }
     requires possible { (a : declared.Answer) (τ : ℕ) → IsAmong a answers.now → IsAmong τ a.parts.items → IsAmong τ possible.now }
     ensures { IfOk result (λ all. Covers (λ r. IsAmong r all.items) (λ r. IsAmong r (flat_map (rows_of system.now i level known.now answers.now) states.now))) }
@@ -160,13 +160,14 @@ fn rows_in(
     Ok(all)
 }
 
-/// Of the minimal local rows of context `i` of the plan's system at the level, as a table on its local variables, those
-/// that fit a row of each of the other tables, and maybe more of them: for each state what it accepts on these with marks
-/// that this takes, which are allowed and at most `level`, without the rows whose marks hold one of the known sets, and
-/// without those that hold the marks of another one of their state. Rows that hold a known set are not made, nor are the
-/// others, as far as a state at the inputs needs no change; no more than those of one such state are held at once.
-/// `supplies` are what the contexts of `plan.supplied(i)` may supply at this level, in this order, each list in the order
-/// of states; `answers` are those of `i` to all its questions of the level, ascending by the numbers that stand for them.
+/// The minimal local rows of context `i` of the plan's system at the level, as a table on its local variables, as far
+/// as a final step with the other tables needs them. A local row has a state that the context accepts, and allowed
+/// marks, at most `level`, with which it accepts it. A row is minimal if no other row of its state has marks within
+/// its own. Rows whose marks contain a known set are left out. A row that is compatible with no row of one of the
+/// other tables may be left out. Where a state at the inputs needs no change, no row with marks is made of it; no more
+/// rows than those of one such state are held at once. `supplies` are what the contexts of `plan.supplied(i)` may
+/// supply at this level, in this order, each list in the order of states. `answers` are those of `i` to all its
+/// questions of the level, ascending by the numbers that stand for them.
 pub fn minimal_rows(
     alloc: Global,
     plan: &Plan,

@@ -15,8 +15,8 @@ use Rattle.mcs_sat.specs.declared.latest.Latest.{Latest}
 use Rattle.mcs_sat.specs.declared.state.Reach.{Reach}
 use Rattle.mcs_sat.specs.declared.state.State.{State}
 use Rattle.mcs_sat.specs.declared.trail.Entry.{Entry}
-use Rattle.mcs_sat.specs.Learning.{AreImplied, IsJoined, IsLate, IsLatest, IsLearnt, IsSingle}
-use Rattle.mcs_sat.specs.Solvers.{HasNoValue, HasOneOfLevel, IsAsserting, IsBackLevel, IsFalseUnder, IsLearned, IsOfLevel, IsOpenUnder, SolverView, trues, trues_below}
+use Rattle.mcs_sat.specs.Learning.{AreImplied, IsLatestOf, IsLate, IsLatest, IsLearnt, IsSingle}
+use Rattle.mcs_sat.specs.Solvers.{HasNoValue, HasOneOfLevel, IsAsserting, IsBackLevel, IsFalseUnder, IsLearned, IsValueOfLevel, IsOpenUnder, SolverView, trues, trues_below}
 use Rattle.mcs_sat.specs.States.{IsLastLevel, IsLearntBack, IsState, view_of}
 use Rattle.mcs_sat.specs.Trails.{AreLevelled, ArePlaced, IsFalse, StandsAt, decisions, level_at, levels_of, literal_at}
 use Rattle.mcs_sat.proofs.LatestLemmas.{LatestSoFar, latest-end, latest-joined, latest-start}
@@ -26,7 +26,7 @@ use Rattle.mcs_sat.proofs.SolverLemmas.{same-view}
 use Rattle.mcs_sat.proofs.TrailLemmas.{entry-back, on-back, placed-back, same_place}
 
 -- ---- the latest of the literals of a clause that is false
-join : (o : Option Latest) (q : ℕ) → (new : Latest) × MatchOption o (new ≡ record { place = q; others = 0 }) (λ l. IsJoined l q new)
+join : (o : Option Latest) (q : ℕ) → (new : Latest) × MatchOption o (new ≡ record { place = q; others = 0 }) (λ l. IsLatestOf l q new)
 join None q = (record { place = q; others = 0 }, refl)
 join (Some l) q = elim (cases_lt l.place q) [
   | inl after ↦ (record { place = q; others = l.place + 1 }, inl (after, refl, refl))
@@ -60,7 +60,7 @@ some-latest es ps c l placed off among = let (o, so_far) = latest-below es ps c 
 
 -- ---- levels of literals
 -- the place of a literal of the level
-of-place : (es : List Entry) (m : ℕ) (l : ℤ) → AreLevelled es → IsOfLevel (levels_of es) m l → (i : ℕ) × (i < length es) × (level_at es i ≡ m) × (unsigned_abs (literal_at es i) ≡ unsigned_abs l)
+of-place : (es : List Entry) (m : ℕ) (l : ℤ) → AreLevelled es → IsValueOfLevel (levels_of es) m l → (i : ℕ) × (i < length es) × (level_at es i ≡ m) × (unsigned_abs (literal_at es i) ≡ unsigned_abs l)
 of-place es m l levelled (level, at, here) =
     let read : get_or (levels_of es) m [] ≡ level = get_or_from_slice_get (levels_of es) m level [] at in
     elim here [
@@ -72,7 +72,7 @@ level-bound : (es : List Entry) (i : ℕ) → AreLevelled es → i < length es �
 level-bound es i levelled less = omega (arith, levelled i less, decisions-longer (i + 1) (length es) es (omega arith), ap decisions (take_all (length es) es (omega arith)))
 
 -- the literal that stands at a place, negated, is of the level there
-place-of : (es : List Entry) (i : ℕ) → AreLevelled es → i < length es → IsOfLevel (levels_of es) (level_at es i) (neg_ℤ (literal_at es i))
+place-of : (es : List Entry) (i : ℕ) → AreLevelled es → i < length es → IsValueOfLevel (levels_of es) (level_at es i) (neg_ℤ (literal_at es i))
 place-of es i levelled less =
     let within : level_at es i < length (levels_of es) = omega (arith, levels-count es, level-bound es i levelled less) in (
       get_or (levels_of es) (level_at es i) [],
@@ -134,7 +134,7 @@ module _ (s : State) (r : Reach) (is : IsState s) (some : 0 < length s.levels.it
   single-one c (l, latest, before, after) = record {
     literal = neg_ℤ (literal_at es l.place);
     has = latest.has;
-    here = subst (λ (m : ℕ). IsOfLevel (levels_of es) m (neg_ℤ (literal_at es l.place))) (from-last l.place latest.here after) (place-of es l.place is.levelled latest.here);
+    here = subst (λ (m : ℕ). IsValueOfLevel (levels_of es) m (neg_ℤ (literal_at es l.place))) (from-last l.place latest.here after) (place-of es l.place is.levelled latest.here);
     only = λ k among of. elim (latest.others k among) [
       | inl e ↦ e
       | inr (j, less, on) ↦ absurd (
@@ -166,8 +166,8 @@ module _ (s : State) (r : Reach) (is : IsState s) (some : 0 < length s.levels.it
           | inl many ↦ absurd (
               let j : ℕ = l.others - 1 in
               let less : j < length es = omega arith in
-              let first : neg_ℤ (literal_at es j) ≡ one.literal = one.only (neg_ℤ (literal_at es j)) (latest.last (omega arith)) (subst (λ (m : ℕ). IsOfLevel (levels_of es) m (neg_ℤ (literal_at es j))) (from-last j less (omega arith)) (place-of es j is.levelled less)) in
-              let second : neg_ℤ (literal_at es l.place) ≡ one.literal = one.only (neg_ℤ (literal_at es l.place)) latest.has (subst (λ (m : ℕ). IsOfLevel (levels_of es) m (neg_ℤ (literal_at es l.place))) (from-last l.place here after) (place-of es l.place is.levelled here)) in
+              let first : neg_ℤ (literal_at es j) ≡ one.literal = one.only (neg_ℤ (literal_at es j)) (latest.last (omega arith)) (subst (λ (m : ℕ). IsValueOfLevel (levels_of es) m (neg_ℤ (literal_at es j))) (from-last j less (omega arith)) (place-of es j is.levelled less)) in
+              let second : neg_ℤ (literal_at es l.place) ≡ one.literal = one.only (neg_ℤ (literal_at es l.place)) latest.has (subst (λ (m : ℕ). IsValueOfLevel (levels_of es) m (neg_ℤ (literal_at es l.place))) (from-last l.place here after) (place-of es l.place is.levelled here)) in
               let sizes : unsigned_abs (literal_at es j) ≡ unsigned_abs (literal_at es l.place) = sym (unsigned_abs-neg_ℤ (literal_at es j)) ∙ ap unsigned_abs (first ∙ sym second) ∙ unsigned_abs-neg_ℤ (literal_at es l.place) in
               let same : j ≡ l.place = same_place es ps j l.place is.trail.placed less here sizes in
               omega arith)
@@ -264,7 +264,7 @@ module _ (old new : State) (step : Step) (is : IsState old) (asserting : IsAsser
       | inl many ↦ inr (
         neg_ℤ (literal_at all (l.others - 1)),
         latest.last many,
-        subst (λ (m : ℕ). IsOfLevel (levels_of all) m (neg_ℤ (literal_at all (l.others - 1)))) (sym (back.some many)) (place-of all (l.others - 1) is.levelled (let b = latest.before in let h = latest.here in omega arith)),
+        subst (λ (m : ℕ). IsValueOfLevel (levels_of all) m (neg_ℤ (literal_at all (l.others - 1)))) (sym (back.some many)) (place-of all (l.others - 1) is.levelled (let b = latest.before in let h = latest.here in omega arith)),
       )
       | inr none ↦ inl (back.none (omega arith))
     ];

@@ -15,9 +15,9 @@ use Rattle.mcs_sat.specs.declared.state.Reach.{Reach}
 use Rattle.mcs_sat.specs.declared.state.State.{State}
 use Rattle.mcs_sat.specs.declared.trail.Entry.{Entry}
 use Rattle.mcs_sat.specs.Learning.{IsLatest, IsSingle}
-use Rattle.mcs_sat.specs.Searches.{IsRun, IsSearch, work_left, work_of}
+use Rattle.mcs_sat.specs.Searches.{IsRun, IsSatSearch, work_left, work_of}
 use Rattle.mcs_sat.specs.States.{IsFull, IsLastLevel, IsLearntBack, IsState}
-use Rattle.mcs_sat.specs.Trails.{ArePlaced, Grows, IsFalse, IsOn, IsOpen, StandsNowhere, literal_at}
+use Rattle.mcs_sat.specs.Trails.{ArePlaced, GrowsOnLevel, IsFalse, IsOn, IsOpen, StandsNowhere, literal_at}
 use Rattle.mcs_sat.proofs.LevelLemmas.{before-start, below-start}
 use Rattle.mcs_sat.proofs.SearchLemmas.{open-not_false}
 use Rattle.mcs_sat.proofs.StateLemmas.{starts-order}
@@ -118,7 +118,7 @@ open-below old new c ns k r is b g less at =
     })
 
 -- ---- the search
-pub search-learnt : (old new : State) (c : List ℤ) (ns : List ℕ) → IsSearch old → IsState new → (b : IsLearntBack old new c ns) → IsGoneBack old c b.latest b.level → IsFull new → IsSearch new
+pub search-learnt : (old new : State) (c : List ℤ) (ns : List ℕ) → IsSatSearch old → IsState new → (b : IsLearntBack old new c ns) → IsGoneBack old c b.latest b.level → IsFull new → IsSatSearch new
 search-learnt old new c ns is kept b g full = record {
   full = full;
   state = kept;
@@ -138,7 +138,7 @@ IsRunOf known xs None = AllByRecursion (IsOpen xs) known
 IsRunOf known xs (Some i) = (d : List ℤ) × (slice_get known i ≡ Some d) × IsFalse xs d
 
 -- after it a run makes at least one literal true
-run-some : (old between new : State) (c : List ℤ) (ns : List ℕ) (found : Option ℕ) → IsSearch old → (b : IsLearntBack old between c ns) → IsGoneBack old c b.latest b.level → new.clauses ≡ between.clauses → new.trail.entries.items ≡ between.trail.entries.items → IsRun new found → ⊥
+run-some : (old between new : State) (c : List ℤ) (ns : List ℕ) (found : Option ℕ) → IsSatSearch old → (b : IsLearntBack old between c ns) → IsGoneBack old c b.latest b.level → new.clauses ≡ between.clauses → new.trail.entries.items ≡ between.trail.entries.items → IsRun new found → ⊥
 run-some old between new c ns found is b g clauses entries run =
     let es : List Entry = old.trail.entries.items in
     let ps : List ℕ = old.trail.positions.items in
@@ -158,7 +158,7 @@ run-some old between new c ns found is b g clauses entries run =
       | inr (last, same) ↦ forcing-not_false old.trail.entries.items old.trail.positions.items c b.latest g.reach.entries is.state.trail.placed b.is_latest g.late (subst (IsFalse (take g.reach.entries old.trail.entries.items)) same off)
     ]
 
-pub less-learnt : (old between new : State) (c : List ℤ) (ns : List ℕ) (found : Option ℕ) → IsSearch old → IsSearch new → (b : IsLearntBack old between c ns) → IsGoneBack old c b.latest b.level → new.clauses ≡ between.clauses → Grows (length between.levels.items) between.trail.entries.items new.trail.entries.items → IsRun new found → length new.trail.positions.items ≡ length old.trail.positions.items → work_of new < work_of old
+pub less-learnt : (old between new : State) (c : List ℤ) (ns : List ℕ) (found : Option ℕ) → IsSatSearch old → IsSatSearch new → (b : IsLearntBack old between c ns) → IsGoneBack old c b.latest b.level → new.clauses ≡ between.clauses → GrowsOnLevel (length between.levels.items) between.trail.entries.items new.trail.entries.items → IsRun new found → length new.trail.positions.items ≡ length old.trail.positions.items → work_of new < work_of old
 less-learnt old between new c ns found is is' b g clauses (more, e, all) run size = subst (λ (m : ℕ). work_left m new.trail.entries.items < work_of old) (sym size) (at more e all)
   where
     at : (more : List Entry) → new.trail.entries.items ≡ between.trail.entries.items ++ more → AllByRecursion (λ (x : Entry). (0 < x.reason) × (x.level ≡ length between.levels.items)) more → work_left (length old.trail.positions.items) new.trail.entries.items < work_of old

@@ -9,7 +9,7 @@ use Rattle.mcs_base.proofs.Among.{among_filter, among_get, filter_among, get_amo
 use Rattle.mcs_base.proofs.Each.{all_weaker, all_take}
 use Rattle.mcs_base.proofs.Lists.{slice_get_take}
 use Rattle.mcs_trace.specs.Clauses.{IsClause}
-use Rattle.mcs_trace.specs.Traces.{IsChainResolvent, numbered}
+use Rattle.mcs_trace.specs.Traces.{IsChainResolvent, numbered_clause}
 use Rattle.mcs_sat.specs.declared.lists.Lists.{Lists}
 use Rattle.mcs_sat.specs.declared.state.Kept.{Kept}
 use Rattle.mcs_sat.specs.declared.state.State.{State}
@@ -19,7 +19,7 @@ use Rattle.mcs_sat.specs.declared.watches.Pair.{Pair}
 use Rattle.mcs_sat.specs.declared.watches.Watches.{Watches}
 use Rattle.mcs_sat.specs.States.{AreChains, AreStarts, IsState}
 use Rattle.mcs_sat.specs.Trails.{AreCovered, AreExplained, AreLevelled, ArePlaced, IsOnBelow, IsSatisfiedBelow, IsTrail, decisions, literal_at, reason_at}
-use Rattle.mcs_sat.specs.Watching.{AreKept, AreUnwatched, AreWatched, IsKept, IsListed, IsReached}
+use Rattle.mcs_sat.specs.Watching.{KeepsLists, AreUnwatched, AreWatched, AreVisitsKept, IsInList, IsReached}
 use Rattle.mcs_sat.proofs.KeptLemmas.{first-take, front-take, kept-change, later-none, moved-take, still-take}
 use Rattle.mcs_sat.proofs.LevelLemmas.{decisions-longer, levelled-back}
 use Rattle.mcs_sat.proofs.TrailLemmas.{entry-back, explained-back, placed-back}
@@ -35,7 +35,7 @@ chains-first k known chains is = record {
       subst (λ (ks : List (List ℤ)). (ns ≡ []) ⊎ IsChainResolvent ks ns c) (sym (take-take i k known (omega arith))) (is.right i c ns here here');
 }
 
-numbered-first : (k : ℕ) (known : List (List ℤ)) (n : ℕ) (c : List ℤ) → n ≤ k → numbered known n ≡ Some c → numbered (take k known) n ≡ Some c
+numbered-first : (k : ℕ) (known : List (List ℤ)) (n : ℕ) (c : List ℤ) → n ≤ k → numbered_clause known n ≡ Some c → numbered_clause (take k known) n ≡ Some c
 numbered-first k known zero c less e = cc
 numbered-first k known (suc n) c less e = slice_get-take k known n (omega arith) ∙ e
 
@@ -49,7 +49,7 @@ pub watched-first : (k : ℕ) (known : List (List ℤ)) (w w' : Watches) → w'.
 watched-first k known w w' pairs lists short is = record {
   sized = (let sized = is.sized in omega (arith, ap length pairs, length-take k w.pairs, length-take k known));
   paired = λ i c p at at'. is.paired i c p (slice_get_take k known i c at).1 (slice_get_take k w.pairs i p (subst (λ (ps : List Pair). slice_get ps i ≡ Some p) pairs at')).1;
-  listed = λ i p l at literal of. subst (λ (ls : Lists). IsListed ls l i) (sym lists) (is.listed i p l (slice_get_take k w.pairs i p (subst (λ (ps : List Pair). slice_get ps i ≡ Some p) pairs at)).1 literal of);
+  listed = λ i p l at literal of. subst (λ (ls : Lists). IsInList ls l i) (sym lists) (is.listed i p l (slice_get_take k w.pairs i p (subst (λ (ps : List Pair). slice_get ps i ≡ Some p) pairs at)).1 literal of);
   short = λ i c few at none.
       let (less, here) = slice_get_take k known i c at in
       let within : i < length w.pairs = omega (arith, ap length pairs, length-take k w.pairs) in
@@ -77,13 +77,13 @@ module _ (s : State) (k n v : ℕ) (m : Kept) (t : Trail) (w : Watches) (is : Is
   size : length t.entries.items ≡ n
   size = ap length entries ∙ length-take-le n s.trail.entries.items bound
 
-  pub cut-kept : (cs : List (List ℤ)) → cs ≡ take k s.clauses → s.kept.entries ≤ n → m ≡ record { count = min s.kept.count k; entries = s.kept.entries; visited = s.kept.visited } → IsKept cs w t.entries.items s.levels.items m
+  pub cut-kept : (cs : List (List ℤ)) → cs ≡ take k s.clauses → s.kept.entries ≤ n → m ≡ record { count = min s.kept.count k; entries = s.kept.entries; visited = s.kept.visited } → AreVisitsKept cs w t.entries.items s.levels.items m
   cut-kept cs clauses low e =
       let b = is.kept.count in
       let count : m.count ≡ min s.kept.count k = ap (λ (x : Kept). x.count) e in
       let same : m.entries ≡ s.kept.entries = ap (λ (x : Kept). x.entries) e in
       let same' : m.visited ≡ s.kept.visited = ap (λ (x : Kept). x.visited) e in
-      let old : IsKept s.clauses s.watches s.trail.entries.items s.levels.items m = record {
+      let old : AreVisitsKept s.clauses s.watches s.trail.entries.items s.levels.items m = record {
         count = omega arith;
         within = (let h = is.kept.within in omega arith);
         bound = (let h = is.kept.bound in omega arith);
@@ -104,7 +104,7 @@ module _ (s : State) (k n v : ℕ) (m : Kept) (t : Trail) (w : Watches) (is : Is
       (subst (λ (xs : List Entry). IsReached (take k s.clauses) w xs (record { entries = length xs; visited = s.visited; settled = 0 })) (sym whole)
       (reached-first k s.clauses s.watches w s.trail.entries.items s.visited s.settled pairs is.now))
 
-  pub now-kept : (cs : List (List ℤ)) → cs ≡ take k s.clauses → IsKept cs w t.entries.items s.levels.items m → v ≤ m.visited → AreUnwatched t.entries.items w.pairs m.count (length w.pairs) v → IsReached (take k s.clauses) w t.entries.items (record { entries = length t.entries.items; visited = v; settled = 0 })
+  pub now-kept : (cs : List (List ℤ)) → cs ≡ take k s.clauses → AreVisitsKept cs w t.entries.items s.levels.items m → v ≤ m.visited → AreUnwatched t.entries.items w.pairs m.count (length w.pairs) v → IsReached (take k s.clauses) w t.entries.items (record { entries = length t.entries.items; visited = v; settled = 0 })
   now-kept cs clauses kept low fresh = record {
     visited = λ i c p l here at literal of (q, less, e). elim (cases_lt i m.count) [
       | inl first ↦
@@ -147,7 +147,7 @@ shorts-none n w none j i at = absurd (let less = slice_get_within w.short.items 
 pub state-cut : (s : State) (cs : List (List ℤ)) (ms : List (List ℕ)) (t : Trail) (w : Watches) (k n v : ℕ) (m : Kept) → IsState s → s.levels.items ≡ []
     → cs ≡ take k s.clauses → ms ≡ take k s.chains → t.entries.items ≡ take n s.trail.entries.items → t.positions.items ≡ s.trail.positions.items → n ≤ length s.trail.entries.items → ((i : ℕ) → i < n → reason_at s.trail.entries.items i ≤ k)
     → AreWatched (take k s.clauses) w → ((j i : ℕ) → slice_get w.short.items j ≡ Some i → i < length (take k s.clauses))
-    → v ≤ length t.entries.items → IsReached (take k s.clauses) w t.entries.items (record { entries = length t.entries.items; visited = v; settled = 0 }) → IsKept cs w t.entries.items s.levels.items m
+    → v ≤ length t.entries.items → IsReached (take k s.clauses) w t.entries.items (record { entries = length t.entries.items; visited = v; settled = 0 }) → AreVisitsKept cs w t.entries.items s.levels.items m
     → IsState (record { clauses = cs; chains = ms; trail = t; watches = w; levels = s.levels; visited = v; settled = 0; kept = m })
 state-cut s cs ms t w k n v m is base clauses chains entries positions bound few watched shorts low visited kept =
     let es : List Entry = s.trail.entries.items in
@@ -213,12 +213,12 @@ state-widened s t is fits entries positions =
       bounds = is.bounds;
       reached = λ k r at. subst (λ (es : List Entry). IsReached s.clauses s.watches es r) (sym entries) (is.reached k r at);
       now = subst (λ (es : List Entry). IsReached s.clauses s.watches es (record { entries = length es; visited = s.visited; settled = s.settled })) (sym entries) is.now;
-      kept = subst (λ (es : List Entry). IsKept s.clauses s.watches es s.levels.items s.kept) (sym entries) is.kept;
+      kept = subst (λ (es : List Entry). AreVisitsKept s.clauses s.watches es s.levels.items s.kept) (sym entries) is.kept;
     }
 
-pub kept-same : (old new : Watches) → new.lists ≡ old.lists → AreKept old new
+pub kept-same : (old new : Watches) → new.lists ≡ old.lists → KeepsLists old new
 kept-same old new same = record {
-  listed = λ l i listed. subst (λ (ls : Lists). IsListed ls l i) (sym same) listed;
+  listed = λ l i listed. subst (λ (ls : Lists). IsInList ls l i) (sym same) listed;
 }
 
 pub placed-same : (old new : Trail) → new.entries.items ≡ old.entries.items → new.positions.items ≡ old.positions.items → ArePlaced old.entries.items old.positions.items → ArePlaced new.entries.items new.positions.items

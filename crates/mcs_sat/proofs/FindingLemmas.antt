@@ -9,7 +9,7 @@ use Rattle.mcs_base.proofs.Among.{among_drop_more, none_among_drop, among_drop_f
 use Rattle.mcs_base.proofs.Ascending.{first_before}
 use Rattle.mcs_sat.specs.declared.trail.Entry.{Entry}
 use Rattle.mcs_sat.specs.declared.examine.Finding.TheVariants.{Open, Forced, Conflict}
-use Rattle.mcs_sat.specs.Trails.{AreTwoFree, StandsNowhere, IsOn, IsFinding, IsSatisfied}
+use Rattle.mcs_sat.specs.Trails.{AreTwoFree, StandsNowhere, IsOn, IsClauseFinding, IsClauseSatisfied}
 use Rattle.mcs_sat.specs.Watching.{IsLong}
 
 -- the literal of the clause is free, and before all those from i on
@@ -40,7 +40,7 @@ found-free entries c i o clause less none nowhere h = record { free = (among_at 
     at k (inl (inr on)) = inl (inr on)
     at k (inr rest) = elim ((among_drop_more c i (pos 0) less k).0 rest) [ inl e ↦ inl (inl (ap Some (sym e))) | inr later ↦ inr later ]
 
-pub found-conflict : (entries : List Entry) (c : List ℤ) (i : ℕ) (o : Option ℤ) → length c ≤ i → o ≡ None → FoundSoFar entries c i o → IsFinding entries c Conflict
+pub found-conflict : (entries : List Entry) (c : List ℤ) (i : ℕ) (o : Option ℤ) → length c ≤ i → o ≡ None → FoundSoFar entries c i o → IsClauseFinding entries c Conflict
 found-conflict entries c i o past none h k among = at (h.seen k among)
   where
     at : ((o ≡ Some k) ⊎ IsOn entries (neg_ℤ k)) ⊎ IsAmong k (drop i c) → IsOn entries (neg_ℤ k)
@@ -48,7 +48,7 @@ found-conflict entries c i o past none h k among = at (h.seen k among)
     at (inl (inr on)) = on
     at (inr rest) = absurd (none_among_drop c i k past rest)
 
-pub found-forced : (entries : List Entry) (c : List ℤ) (i : ℕ) (o : Option ℤ) (l : ℤ) → length c ≤ i → o ≡ Some l → FoundSoFar entries c i o → IsFinding entries c (Forced l)
+pub found-forced : (entries : List Entry) (c : List ℤ) (i : ℕ) (o : Option ℤ) (l : ℤ) → length c ≤ i → o ≡ Some l → FoundSoFar entries c i o → IsClauseFinding entries c (Forced l)
 found-forced entries c i o l past some h =
     let free = subst (λ (x : Option ℤ). IfSome x (IsFreeBefore entries c i)) some h.free in
     ((free.0, λ k among. at k (h.seen k among)), free.1)
@@ -81,13 +81,13 @@ long-two (x ∷ []) a b (inl e) (inr none) differ = absurd none
 long-two (x ∷ []) a b (inr none) there differ = absurd none
 long-two (x ∷ y ∷ c) a b here there differ = omega arith
 
-pub open-short : (known : List (List ℤ)) (entries : List Entry) (i : ℕ) (c d : List ℤ) → slice_get known i ≡ Some c → IsFinding entries c Open → slice_get known i ≡ Some d → ¬ IsLong d → IsSatisfied entries d
+pub open-short : (known : List (List ℤ)) (entries : List Entry) (i : ℕ) (c d : List ℤ) → slice_get known i ≡ Some c → IsClauseFinding entries c Open → slice_get known i ≡ Some d → ¬ IsLong d → IsClauseSatisfied entries d
 open-short known entries i c d is found is' short =
     let both : Some c ≡ Some d = sym is ∙ is' in
     let same : c ≡ d = cc in
-    at d (subst (λ (x : List ℤ). IsFinding entries x Open) same found) short
+    at d (subst (λ (x : List ℤ). IsClauseFinding entries x Open) same found) short
   where
-    at : (d : List ℤ) → IsFinding entries d Open → ¬ IsLong d → IsSatisfied entries d
+    at : (d : List ℤ) → IsClauseFinding entries d Open → ¬ IsLong d → IsClauseSatisfied entries d
     at d (inl satisfied) short = satisfied
     at d (inr two) short = absurd (short (long-two d two.first two.second two.has_first two.has_second two.differ))
 

@@ -10,7 +10,7 @@ use Rattle.mcs_base.proofs.Clausal.{HasNoZero}
 use Rattle.mcs_base.proofs.Each.{all_among, all_by_test, all_get, all_push}
 use Rattle.mcs_base.proofs.Lists.{slice_get_below}
 use Rattle.mcs_trace.specs.Clauses.{IsClause, IsUnsatisfiable, all_hold, clause_holds, literal_holds}
-use Rattle.mcs_trace.specs.Traces.{IsChainResolvent, ResolvesTo, numbered}
+use Rattle.mcs_trace.specs.Traces.{IsChainResolvent, ResolvesTo, numbered_clause}
 use Rattle.mcs_trace.proofs.ResolventLemmas.{IsResolvent-holds, IsResolvent-no_zero, clause-no_zero}
 use Rattle.mcs_trace.proofs.TraceLemmas.{IsKnown}
 use Rattle.mcs_sat.specs.declared.state.State.{State}
@@ -23,7 +23,7 @@ use Rattle.mcs_sat.proofs.StoreLemmas.{given-at}
 
 module _ (v : ℕ → Bool) where
   -- ---- clauses that are resolved from clauses that hold
-  known-at : (known : List (List ℤ)) (n : ℕ) (c : List ℤ) → AllByRecursion (IsKnown v) known → numbered known n ≡ Some c → IsKnown v c
+  known-at : (known : List (List ℤ)) (n : ℕ) (c : List ℤ) → AllByRecursion (IsKnown v) known → numbered_clause known n ≡ Some c → IsKnown v c
   known-at known zero c all e = absurd (cc)
   known-at known (suc n) c all e = all_get (IsKnown v) known n c all e
 

@@ -7,33 +7,33 @@ use Rattle.mcs_base.specs.Listings.{IsAmong}
 use Rattle.mcs_base.proofs.Each.{all_among, all_append, all_get}
 use Rattle.mcs_base.proofs.Numbers.{unsigned_abs-neg_ℤ}
 use Rattle.mcs_trace.specs.Clauses.{IsClause, IsLiteral}
-use Rattle.mcs_trace.specs.Traces.{numbered}
+use Rattle.mcs_trace.specs.Traces.{numbered_clause}
 use Rattle.mcs_trace.proofs.OrderLemmas.{fits_literal}
 use Rattle.mcs_sat.specs.declared.trail.Entry.{Entry}
 use Rattle.mcs_sat.specs.declared.trail.Trail.{Trail}
-use Rattle.mcs_sat.specs.Trails.{AreCovered, AreExplained, ArePlaced, Grows, IsOn, IsSatisfied, IsTrail}
+use Rattle.mcs_sat.specs.Trails.{AreCovered, AreExplained, ArePlaced, GrowsOnLevel, IsOn, IsClauseSatisfied, IsTrail}
 use Rattle.mcs_sat.specs.Watching.{AreSettled, IsLong}
 use Rattle.mcs_sat.proofs.TrailLemmas.{IsForced, entry_at, entry-new, entry-old, explained-push, on-more}
 
 -- ---- entries that follow
-pub grows-none : (level : ℕ) (es : List Entry) → Grows level es es
+pub grows-none : (level : ℕ) (es : List Entry) → GrowsOnLevel level es es
 grows-none level es = ([], sym (append-nil es), tt)
 
-pub grows-more : (level : ℕ) (es es' es'' : List Entry) → Grows level es es' → Grows level es' es'' → Grows level es es''
+pub grows-more : (level : ℕ) (es es' es'' : List Entry) → GrowsOnLevel level es es' → GrowsOnLevel level es' es'' → GrowsOnLevel level es es''
 grows-more level es es' es'' (more, e, all) (more', e', all') =
     (more ++ more', e' ∙ ap (λ (x : List Entry). x ++ more') e ∙ append_assoc es more more', all_append (λ (x : Entry). (0 < x.reason) × (x.level ≡ level)) more more' all all')
 
-pub grows-longer : (level : ℕ) (es es' : List Entry) → Grows level es es' → length es ≤ length es'
+pub grows-longer : (level : ℕ) (es es' : List Entry) → GrowsOnLevel level es es' → length es ≤ length es'
 grows-longer level es es' (more, e, all) = omega (arith, length-append es more, ap length e)
 
 -- ---- what stays true
-pub on-grown : (level : ℕ) (es es' : List Entry) (k : ℤ) → Grows level es es' → IsOn es k → IsOn es' k
+pub on-grown : (level : ℕ) (es es' : List Entry) (k : ℤ) → GrowsOnLevel level es es' → IsOn es k → IsOn es' k
 on-grown level es es' k (more, e, all) on = subst (λ (xs : List Entry). IsOn xs k) (sym e) (on-more es more k on)
 
-pub satisfied-grown : (level : ℕ) (es es' : List Entry) (c : List ℤ) → Grows level es es' → IsSatisfied es c → IsSatisfied es' c
+pub satisfied-grown : (level : ℕ) (es es' : List Entry) (c : List ℤ) → GrowsOnLevel level es es' → IsClauseSatisfied es c → IsClauseSatisfied es' c
 satisfied-grown level es es' c grows (k, among, on) = (k, among, on-grown level es es' k grows on)
 
-pub entry-grown : (level : ℕ) (es es' : List Entry) (i : ℕ) → Grows level es es' → i < length es → entry_at es' i ≡ entry_at es i
+pub entry-grown : (level : ℕ) (es es' : List Entry) (i : ℕ) → GrowsOnLevel level es es' → i < length es → entry_at es' i ≡ entry_at es i
 entry-grown level es es' i (more, e, all) less = ap (λ (xs : List Entry). entry_at xs i) e ∙ entry-old es more i less
 
 -- ---- what a clause of the trail has
@@ -72,7 +72,7 @@ module _ (known : List (List ℤ)) (old new : Trail) (trail : IsTrail known old)
       let next : i + 1 ≡ suc i = omega arith in
       let forced : IsForced known old.entries.items x = (
         c,
-        ap (numbered known) next ∙ is,
+        ap (numbered_clause known) next ∙ is,
         all_get IsClause known i c trail.clauses is,
         subst (λ (m : ℤ). IsAmong m c) (sym same) among,
         λ m among'. elim (others m among') [ inl e' ↦ inl (e' ∙ sym same) | inr off ↦ inr off ],
@@ -87,10 +87,10 @@ on-pushed es es' e is = subst (λ (xs : List Entry). IsOn xs e.literal) (sym is)
 pub settled-none : (known : List (List ℤ)) (indices : List ℕ) (es : List Entry) (from : ℕ) → AreSettled known indices es from from
 settled-none known indices es from j i c low less at is short = absurd (omega arith)
 
-pub settled-grown : (known : List (List ℤ)) (indices : List ℕ) (level : ℕ) (es es' : List Entry) (from to : ℕ) → Grows level es es' → AreSettled known indices es from to → AreSettled known indices es' from to
+pub settled-grown : (known : List (List ℤ)) (indices : List ℕ) (level : ℕ) (es es' : List Entry) (from to : ℕ) → GrowsOnLevel level es es' → AreSettled known indices es from to → AreSettled known indices es' from to
 settled-grown known indices level es es' from to grows h j i c low less at is short = satisfied-grown level es es' c grows (h j i c low less at is short)
 
-pub settled-more : (known : List (List ℤ)) (indices : List ℕ) (es : List Entry) (from to i : ℕ) → slice_get indices to ≡ Some i → ((c : List ℤ) → slice_get known i ≡ Some c → ¬ IsLong c → IsSatisfied es c)
+pub settled-more : (known : List (List ℤ)) (indices : List ℕ) (es : List Entry) (from to i : ℕ) → slice_get indices to ≡ Some i → ((c : List ℤ) → slice_get known i ≡ Some c → ¬ IsLong c → IsClauseSatisfied es c)
     → AreSettled known indices es from to → AreSettled known indices es from (to + 1)
 settled-more known indices es from to i here satisfied h j k c low less at is short = elim (cases_lt j to) [
   | inl before ↦ h j k c low before at is short

@@ -6,13 +6,13 @@ use Rattle.mcs_sat.specs.declared.trail.Entry.{Entry}
 use Rattle.mcs_sat.specs.declared.trail.Trail.{Trail}
 use Rattle.mcs_sat.specs.declared.watches.Watches.{Watches}
 use Rattle.mcs_sat.specs.States.{IsState, SameClauses}
-use Rattle.mcs_sat.specs.Trails.{Grows}
+use Rattle.mcs_sat.specs.Trails.{GrowsOnLevel}
 use Rattle.mcs_sat.specs.Watching.{AreMoved, AreSpared, AreWatched, IsReached}
 
 -- it has as many variables, and more literals, which are implied on the level
 pub record Extends (level : ℕ) (before after : Trail) : Type 0 where
   pub positions : length after.positions.items ≡ length before.positions.items
-  pub grows : Grows level before.entries.items after.entries.items
+  pub grows : GrowsOnLevel level before.entries.items after.entries.items
 
 -- each clause that watched something still does, and what was reached by these literals is reached still
 pub record KeepsWatches (known : List (List ℤ)) (before after : Watches) (entries : List Entry) : Type 0 where

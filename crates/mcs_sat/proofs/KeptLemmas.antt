@@ -11,8 +11,8 @@ use Rattle.mcs_sat.specs.declared.trail.Entry.{Entry}
 use Rattle.mcs_sat.specs.declared.watches.Pair.{Pair}
 use Rattle.mcs_sat.specs.declared.watches.Watches.{Watches}
 use Rattle.mcs_sat.specs.Pairs.{no_pair}
-use Rattle.mcs_sat.specs.Trails.{ArePlaced, Grows, IsOn, IsOnBelow, StandsAt, StandsNowhere, literal_at}
-use Rattle.mcs_sat.specs.Watching.{AreMoved, AreSpared, AreUnwatched, IsFresh, IsKept, IsLong, IsOf, IsReached}
+use Rattle.mcs_sat.specs.Trails.{ArePlaced, GrowsOnLevel, IsOn, IsOnBelow, StandsAt, StandsNowhere, literal_at}
+use Rattle.mcs_sat.specs.Watching.{AreMoved, AreSpared, AreUnwatched, IsFreshPair, AreVisitsKept, IsLong, IsOf, IsReached}
 use Rattle.mcs_sat.proofs.GrowLemmas.{entry-grown, neg_literal, on-grown, read_literal}
 use Rattle.mcs_sat.proofs.TrailLemmas.{entry-back, entry-old, on_below, same_place}
 use Rattle.mcs_sat.proofs.WatchLemmas.{below_end}
@@ -38,7 +38,7 @@ abbrev pub AreStillSpared : List (List ℤ) → List (List ℤ) → List Pair �
 AreStillSpared known known' pairs pairs' = (i : ℕ) (c : List ℤ) → slice_get known' i ≡ Some c → slice_get pairs' i ≡ Some no_pair → IsLong c → (slice_get known i ≡ Some c) × (slice_get pairs i ≡ Some no_pair)
 
 pub kept-change : (known known' : List (List ℤ)) (w w' : Watches) (es es' : List Entry) (levels levels' : List Reach) (m : Kept) → m.count ≤ length w'.pairs → m.entries ≤ length es' → AreLater levels' m.entries → SameFirst known known' m.count → AreStillSpared known known' w.pairs w'.pairs → AreMovedBelow m.count w.pairs w'.pairs es m.visited → SameFront es es' m.entries
-    → IsKept known w es levels m → IsKept known' w' es' levels' m
+    → AreVisitsKept known w es levels m → AreVisitsKept known' w' es' levels' m
 kept-change known known' w w' es es' levels levels' m count within early first still moved front is = record {
   count = count;
   within = within;
@@ -119,7 +119,7 @@ moved-below n old new es v bound moved i p l less at of = elim (moved i p l at o
 pub front-same : (es es' : List Entry) (n : ℕ) → es' ≡ es → SameFront es es' n
 front-same es es' n e p less = ap (λ (xs : List Entry). literal_at xs p) e
 
-pub front-grows : (level : ℕ) (es es' : List Entry) (n : ℕ) → n ≤ length es → Grows level es es' → SameFront es es' n
+pub front-grows : (level : ℕ) (es es' : List Entry) (n : ℕ) → n ≤ length es → GrowsOnLevel level es es' → SameFront es es' n
 front-grows level es es' n bound grows p less = ap (λ (x : Entry). x.literal) (entry-grown level es es' p grows (omega arith))
 
 pub front-push : (es es' : List Entry) (x : Entry) (n : ℕ) → n ≤ length es → es' ≡ es ++ x ∷ [] → SameFront es es' n
@@ -159,15 +159,15 @@ spared-list old new e i at = subst (λ (ps : List Pair). slice_get ps i ≡ Some
 pub spared-then : (a b c : List Pair) → AreSpared a b → AreSpared b c → AreSpared a c
 spared-then a b c first second i at = first i (second i at)
 
-pub moved-then : (level : ℕ) (a b c : List Pair) (es es' : List Entry) → Grows level es es' → AreMoved a b es → AreMoved b c es' → AreMoved a c es
+pub moved-then : (level : ℕ) (a b c : List Pair) (es es' : List Entry) → GrowsOnLevel level es es' → AreMoved a b es → AreMoved b c es' → AreMoved a c es
 moved-then level a b c es es' grows first second i p l at of = elim (second i p l at of) [
   | inl (q, at', of') ↦ first i q l at' of'
   | inr opened ↦ inr (λ on. opened (on-grown level es es' (neg_ℤ l) grows on))
 ]
 
 -- ---- nothing is kept
-pub kept-none : (known : List (List ℤ)) (w : Watches) (es : List Entry) (levels : List Reach) (m : Kept) → m ≡ record { count = 0; entries = 0; visited = 0 } → w.pairs ≡ [] → IsKept known w es levels m
-kept-none known w es levels m none empty = subst (IsKept known w es levels) (sym none) (record {
+pub kept-none : (known : List (List ℤ)) (w : Watches) (es : List Entry) (levels : List Reach) (m : Kept) → m ≡ record { count = 0; entries = 0; visited = 0 } → w.pairs ≡ [] → AreVisitsKept known w es levels m
+kept-none known w es levels m none empty = subst (AreVisitsKept known w es levels) (sym none) (record {
   count = omega arith;
   within = omega arith;
   bound = omega arith;
@@ -177,7 +177,7 @@ kept-none known w es levels m none empty = subst (IsKept known w es levels) (sym
 })
 
 -- ---- all is kept that was visited
-pub kept-now : (known : List (List ℤ)) (w : Watches) (es : List Entry) (levels : List Reach) (v s : ℕ) (m : Kept) → levels ≡ [] → v ≤ length es → IsReached known w es (record { entries = length es; visited = v; settled = s }) → IsKept known w es levels m → IsKept known w es levels (record { count = length w.pairs; entries = length es; visited = v })
+pub kept-now : (known : List (List ℤ)) (w : Watches) (es : List Entry) (levels : List Reach) (v s : ℕ) (m : Kept) → levels ≡ [] → v ≤ length es → IsReached known w es (record { entries = length es; visited = v; settled = s }) → AreVisitsKept known w es levels m → AreVisitsKept known w es levels (record { count = length w.pairs; entries = length es; visited = v })
 kept-now known w es levels v s m none bound is before = record {
   count = omega arith;
   within = omega arith;
@@ -235,7 +235,7 @@ unwatched-more es pairs from index m n n' p here low low' first second before i 
 ]
 
 -- neither literal of a pair was false among the first ones
-pub fresh-pair : (es : List Entry) (a n : ℕ) (p : Pair) → IsLiteral p.first → IsLiteral p.second → n ≤ a → (IsLiteral p.first → ¬ IsOnBelow es a (neg_ℤ p.first)) → (IsLiteral p.second → ¬ IsOnBelow es n (neg_ℤ p.second)) → IsFresh es n (Some p)
+pub fresh-pair : (es : List Entry) (a n : ℕ) (p : Pair) → IsLiteral p.first → IsLiteral p.second → n ≤ a → (IsLiteral p.first → ¬ IsOnBelow es a (neg_ℤ p.first)) → (IsLiteral p.second → ¬ IsOnBelow es n (neg_ℤ p.second)) → IsFreshPair es n (Some p)
 fresh-pair es a n p literal literal' low first second l of = elim of [
   | inl e ↦ subst (λ (k : ℤ). ¬ IsOnBelow es n (neg_ℤ k)) e (fewer-not_below es a n p.first low (first literal))
   | inr e ↦ subst (λ (k : ℤ). ¬ IsOnBelow es n (neg_ℤ k)) e (second literal')

@@ -7,7 +7,7 @@ use Rattle.mcs_base.proofs.Among.{among_drop_more, none_among_drop, among_at}
 use Rattle.mcs_base.proofs.Numbers.{unsigned_abs-neg_ℤ}
 use Rattle.mcs_sat.specs.declared.latest.Latest.{Latest}
 use Rattle.mcs_sat.specs.declared.trail.Entry.{Entry}
-use Rattle.mcs_sat.specs.Learning.{IsJoined, IsLatest}
+use Rattle.mcs_sat.specs.Learning.{IsLatestOf, IsLatest}
 use Rattle.mcs_sat.specs.Trails.{literal_at, ArePlaced, AreCovered, StandsAt, StandsNowhere, IsOn, IsOnBelow, IsFalse}
 use Rattle.mcs_sat.proofs.TrailLemmas.{same_place}
 
@@ -44,7 +44,7 @@ module _ (es : List Entry) (ps : List ℕ) (c : List ℤ) (i q : ℕ) (placed : 
   abbrev has : IsAmong (neg_ℤ (literal_at es q)) c
   has = subst (λ (k : ℤ). IsAmong k c) here (among_at c i (pos 0) less)
 
-  pub latest-joined : (found : Option Latest) (new : Latest) → MatchOption found (new ≡ record { place = q; others = 0 }) (λ l. IsJoined l q new) → LatestSoFar es c i found → LatestSoFar es c (i + 1) (Some new)
+  pub latest-joined : (found : Option Latest) (new : Latest) → MatchOption found (new ≡ record { place = q; others = 0 }) (λ l. IsLatestOf l q new) → LatestSoFar es c i found → LatestSoFar es c (i + 1) (Some new)
   latest-joined None new e h = subst (λ (l : Latest). LatestSoFar es c (i + 1) (Some l)) (sym e) (
     stands.0,
     omega arith,

@@ -15,7 +15,7 @@ use Rattle.mcs_sat.specs.declared.state.Reach.{Reach}
 use Rattle.mcs_sat.specs.declared.trail.Entry.{Entry}
 use Rattle.mcs_sat.specs.Learning.{AreImplied}
 use Rattle.mcs_sat.specs.States.{AreStarts}
-use Rattle.mcs_sat.specs.Trails.{AreLevelled, Grows, decisions, first_level, later_levels, level_at, levels_of, literal_at, reason_at}
+use Rattle.mcs_sat.specs.Trails.{AreLevelled, GrowsOnLevel, decisions, first_level, later_levels, level_at, levels_of, literal_at, reason_at}
 
 abbrev no_entry : Entry
 no_entry = record { literal = pos 0; reason = 0; level = 0 }
@@ -60,7 +60,7 @@ levelled-kept es more i levelled less =
 decisions-same : (es more : List Entry) (level n : ℕ) → AllByRecursion (IsImplied level) more → decisions (es ++ take n more) ≡ decisions es
 decisions-same es more level n all = omega (arith, decisions-append es (take n more), decisions-part n more, decisions-none level more all)
 
-pub levelled-more : (level : ℕ) (es new : List Entry) → AreLevelled es → Grows level es new → level ≡ decisions es → AreLevelled new × (decisions new ≡ decisions es)
+pub levelled-more : (level : ℕ) (es new : List Entry) → AreLevelled es → GrowsOnLevel level es new → level ≡ decisions es → AreLevelled new × (decisions new ≡ decisions es)
 levelled-more level es new levelled (more, is, all) e = subst (λ (x : List Entry). AreLevelled x × (decisions x ≡ decisions es)) (sym is) (
   λ i less. elim (cases_lt i (length es)) [
     | inl old ↦ levelled-kept es more i levelled old
@@ -104,7 +104,7 @@ start-kept es more k r (less, none, count) = (
   ap decisions (take-append-le r.entries es more (omega arith)) ∙ count,
 )
 
-pub starts-more : (level : ℕ) (es new : List Entry) (levels : List Reach) → AreStarts es levels → Grows level es new → AreStarts new levels
+pub starts-more : (level : ℕ) (es new : List Entry) (levels : List Reach) → AreStarts es levels → GrowsOnLevel level es new → AreStarts new levels
 starts-more level es new levels s (more, is, all) = subst (λ (x : List Entry). AreStarts x levels) (sym is) (record {
   count = omega (arith, s.count, decisions-append es more, decisions-none level more all);
   start = λ k r at. start-kept es more k r (s.start k r at);
@@ -223,7 +223,7 @@ adds-levels level (e ∷ es) more all =
     ]
 
 -- what is implied is on the last level
-pub levels-more : (level : ℕ) (es new : List Entry) → Grows level es new → (more : List Entry) × (new ≡ es ++ more) × AddsLast (levels_of es) (map (λ (e : Entry). e.literal) more) (levels_of new)
+pub levels-more : (level : ℕ) (es new : List Entry) → GrowsOnLevel level es new → (more : List Entry) × (new ≡ es ++ more) × AddsLast (levels_of es) (map (λ (e : Entry). e.literal) more) (levels_of new)
 levels-more level es new (more, is, all) = (more, is, subst (λ (x : List Entry). AddsLast (levels_of es) (map (λ (e : Entry). e.literal) more) (levels_of x)) (sym is) (adds-levels level es more all))
 
 -- levels from a decision on follow those before

@@ -11,13 +11,13 @@ use Rattle.mcs_base.proofs.ListingLemmas.{all_among, all_from_among, same_listin
 use Rattle.mcs_base.proofs.Numbers.{cases_eq_ℤ, unsigned_abs-neg_ℤ}
 use Rattle.mcs_trace.specs.Clauses.{IsClause, IsLiteral, LiteralBefore, place}
 use Rattle.mcs_trace.specs.Resolution.{IsLeft, IsOnlyClash, IsResolvent}
-use Rattle.mcs_trace.specs.Traces.{numbered}
+use Rattle.mcs_trace.specs.Traces.{numbered_clause}
 use Rattle.mcs_trace.proofs.OrderLemmas.{before_asymmetric, place-injective}
 use Rattle.mcs_trace.proofs.ResolventLemmas.{IsResolvent-clause}
 use Rattle.mcs_sat.specs.declared.latest.Latest.{Latest}
 use Rattle.mcs_sat.specs.declared.trail.Entry.{Entry}
 use Rattle.mcs_sat.specs.Learning.{IsLate, IsLatest, IsSingle}
-use Rattle.mcs_sat.specs.Marking.{AreFree, IsMarked, IsMarkedChain, IsMarkedWithin, IsMarking, IsMetAt, IsOfMarks, IsSingleMark, IsTakenOff}
+use Rattle.mcs_sat.specs.Marking.{AreUnmarked, IsVariableMarked, IsMarkedChain, IsMarkedWithin, IsMarking, IsMetAt, IsOfMarks, IsSingleMark, IsTakenOff}
 use Rattle.mcs_sat.specs.Trails.{ArePlaced, IsFalse, IsOnBelow, IsReason, literal_at}
 use Rattle.mcs_sat.proofs.AssertingLemmas.{some-latest}
 use Rattle.mcs_sat.proofs.KnownLemmas.{chain-push}
@@ -111,19 +111,19 @@ resolvent-there c reason l clause clause' clash =
     (d, record { literal = l; clash = clash; left = listing })
 
 -- ---- marks
-pub marked-cases : (marks : List Bool) (p : ℕ) → IsMarked marks p ⊎ (¬ IsMarked marks p)
+pub marked-cases : (marks : List Bool) (p : ℕ) → IsVariableMarked marks p ⊎ (¬ IsVariableMarked marks p)
 marked-cases marks p = at (get_or marks p false)
   where
     at : (b : Bool) → (b ≡ true) ⊎ (b ≡ true → ⊥)
     at true = inl refl
     at false = inr (λ e. true≢false (sym e))
 
-pub unmarked-is : (marks : List Bool) (p : ℕ) → get_or marks p false ≡ false → ¬ IsMarked marks p
+pub unmarked-is : (marks : List Bool) (p : ℕ) → get_or marks p false ≡ false → ¬ IsVariableMarked marks p
 unmarked-is marks p e marked = true≢false (sym marked ∙ e)
 
 -- the variable of the place is marked
 pub marked-one : (es : List Entry) (ps : List ℕ) (marks : List Bool) (q n : ℕ) → ArePlaced es ps → length marks ≡ length es → q < length es → unsigned_abs (literal_at es q) ≡ n
-    → (p : ℕ) → p < length es → IsMarked (set marks q true) p ↔ (IsMarked marks p ⊎ (unsigned_abs (literal_at es p) ≡ n))
+    → (p : ℕ) → p < length es → IsVariableMarked (set marks q true) p ↔ (IsVariableMarked marks p ⊎ (unsigned_abs (literal_at es p) ≡ n))
 marked-one es ps marks q n placed sized here size p less = elim (cases_eq p q) [
   | inl e ↦ (
     λ marked. inr (ap (λ (j : ℕ). unsigned_abs (literal_at es j)) e ∙ size),
@@ -138,7 +138,7 @@ marked-one es ps marks q n placed sized here size p less = elim (cases_eq p q) [
   )
 ]
 
-pub unmarked-at : (marks : List Bool) (q p : ℕ) → q < length marks → IsMarked (set marks q false) p ↔ ((p ≢ q) × IsMarked marks p)
+pub unmarked-at : (marks : List Bool) (q p : ℕ) → q < length marks → IsVariableMarked (set marks q false) p ↔ ((p ≢ q) × IsVariableMarked marks p)
 unmarked-at marks q p less = elim (cases_eq p q) [
   | inl e ↦ (
     λ marked. absurd (true≢false (sym marked ∙ get_or-set_at marks q p false false e less)),
@@ -223,8 +223,8 @@ module _ (es : List Entry) (ps : List ℕ) (p : ℕ) (reason : List ℤ) (placed
 
 -- what the reason's marks, and the place that is taken off, come to
 pub marked-resolved : (known : List (List ℤ)) (es : List Entry) (ps : List ℕ) (chain : List ℕ) (old all : List Bool) (p n : ℕ) (reason : List ℤ)
-    → AllByRecursion IsClause known → ArePlaced es ps → p < length es → numbered known n ≡ Some reason → IsReason es p reason → IsMarked old p → IsMarkedChain known es chain old
-    → length all ≡ length old → ((q : ℕ) → q < length es → IsMarked all q ↔ (IsMarked old q ⊎ IsMetAt es reason q))
+    → AllByRecursion IsClause known → ArePlaced es ps → p < length es → numbered_clause known n ≡ Some reason → IsReason es p reason → IsVariableMarked old p → IsMarkedChain known es chain old
+    → length all ≡ length old → ((q : ℕ) → q < length es → IsVariableMarked all q ↔ (IsVariableMarked old q ⊎ IsMetAt es reason q))
     → IsMarkedChain known es (chain ++ n ∷ []) (set all p false)
 marked-resolved known es ps chain old all p n reason clauses placed here at is on m sized exactly =
     let c : List ℤ = m.clause in
@@ -248,7 +248,7 @@ marked-resolved known es ps chain old all p n reason clauses placed here at is o
     }
 
 pub marks-taken_off : (es : List Entry) (ps : List ℕ) (old all : List Bool) (p : ℕ) (reason : List ℤ)
-    → ArePlaced es ps → p < length es → IsReason es p reason → length old ≡ length es → length all ≡ length old → ((q : ℕ) → q < length es → IsMarked all q ↔ (IsMarked old q ⊎ IsMetAt es reason q))
+    → ArePlaced es ps → p < length es → IsReason es p reason → length old ≡ length es → length all ≡ length old → ((q : ℕ) → q < length es → IsVariableMarked all q ↔ (IsVariableMarked old q ⊎ IsMetAt es reason q))
     → IsTakenOff old (set all p false) p
 marks-taken_off es ps old all p reason placed here is size sized exactly = record {
   sized = length-set all p false ∙ sized;
@@ -265,14 +265,14 @@ marks-taken_off es ps old all p reason placed here is size sized exactly = recor
   gone = λ marked. ((unmarked-at all p p (omega arith)).0 marked).0 refl;
 }
   where
-    marked-within : (marks : List Bool) (q : ℕ) → length marks ≤ q → IsMarked marks q → ⊥
+    marked-within : (marks : List Bool) (q : ℕ) → length marks ≤ q → IsVariableMarked marks q → ⊥
     marked-within [] q past marked = true≢false (sym marked)
     marked-within (b ∷ marks) zero past marked = omega arith
     marked-within (b ∷ marks) (suc q) past marked = marked-within marks q (omega arith) marked
 
 -- ---- the first marks
 pub marked-start : (es : List Entry) (ps : List ℕ) (c : List ℤ) (none marks : List Bool) → ArePlaced es ps → IsClause c → IsFalse es c
-    → length marks ≡ length es → ((q : ℕ) → ¬ IsMarked none q) → ((q : ℕ) → q < length es → IsMarked marks q ↔ (IsMarked none q ⊎ IsMetAt es c q)) → IsMarking es marks c
+    → length marks ≡ length es → ((q : ℕ) → ¬ IsVariableMarked none q) → ((q : ℕ) → q < length es → IsVariableMarked marks q ↔ (IsVariableMarked none q ⊎ IsMetAt es c q)) → IsMarking es marks c
 marked-start es ps c none marks placed clause off sized free exactly = record {
   sized = sized;
   clause = clause;
@@ -302,7 +302,7 @@ late-marked es marks c start m (inl late) = elim (search-marks (length es)) [
       ]))
 ]
   where
-    search-marks : (n : ℕ) → IsMarkedWithin marks start n ⊎ AreFree marks start n
+    search-marks : (n : ℕ) → IsMarkedWithin marks start n ⊎ AreUnmarked marks start n
     search-marks zero = inr (λ p from to. absurd (omega arith))
     search-marks (suc n) = elim (search-marks n) [
       | inl (p, from, to, marked) ↦ inl (p, from, omega arith, marked)
@@ -312,7 +312,7 @@ late-marked es marks c start m (inl late) = elim (search-marks (length es)) [
           | inr after ↦ inl (n, after, omega arith, marked)
         ]
         | inr unmarked ↦ inr (λ p from to. elim (cases_eq p n) [
-          | inl e ↦ subst (λ (q : ℕ). ¬ IsMarked marks q) (sym e) unmarked
+          | inl e ↦ subst (λ (q : ℕ). ¬ IsVariableMarked marks q) (sym e) unmarked
           | inr other ↦ none p from (omega arith)
         ])
       ]
@@ -343,7 +343,7 @@ single-marked es ps marks c start placed m s =
     let (latest, is) = some-latest es ps c (neg_ℤ (literal_at es s.place)) placed m.all_false has in
     let here = is.here in
     let before = is.before in
-    let marked : IsMarked marks latest.place = (m.exactly latest.place here).1 is.has in
+    let marked : IsVariableMarked marks latest.place = (m.exactly latest.place here).1 is.has in
     let least : s.place ≤ latest.place = elim (is.others (neg_ℤ (literal_at es s.place)) has) [
       | inl e ↦
           let same : s.place ≡ latest.place = same_place es ps s.place latest.place placed within here (sym (unsigned_abs-neg_ℤ (literal_at es s.place)) ∙ ap unsigned_abs e ∙ unsigned_abs-neg_ℤ (literal_at es latest.place)) in
@@ -362,13 +362,13 @@ single-marked es ps marks c start placed m s =
         let here = is.here in
         let before = is.before in
         let size = m.sized in
-        let last : IsMarked marks (latest.others - 1) = (m.exactly (latest.others - 1) (omega arith)).1 (is.last some) in
+        let last : IsVariableMarked marks (latest.others - 1) = (m.exactly (latest.others - 1) (omega arith)).1 (is.last some) in
         elim (cases_lt (latest.others - 1) start) [
           | inl early ↦ omega arith
           | inr late ↦ absurd (let equal : latest.others - 1 ≡ s.place = s.only (latest.others - 1) late (omega arith) last in omega arith)
         ]
 
-pub free-empty : (es : List Entry) (marks : List Bool) (c : List ℤ) → IsMarking es marks c → AreFree marks 0 (length es) → c ≡ []
+pub free-empty : (es : List Entry) (marks : List Bool) (c : List ℤ) → IsMarking es marks c → AreUnmarked marks 0 (length es) → c ≡ []
 free-empty es marks c m free = nil_from_none c (λ k among.
     let (j, less, on) = m.all_false k among in
     free j (omega arith) less ((m.exactly j less).1 (subst (λ (x : ℤ). IsAmong x c) (on-literal es j j k on refl) among)))
@@ -387,15 +387,15 @@ single-taken_off start old new p early off s =
       only = λ q from less marked. s.only q from (omega arith) (off.above q (omega arith) (omega arith) marked);
     }
 
-pub free-taken_off : (n : ℕ) (old new : List Bool) (p : ℕ) → n ≡ length old → IsTakenOff old new p → AreFree old (p + 1) n → AreFree new p n
+pub free-taken_off : (n : ℕ) (old new : List Bool) (p : ℕ) → n ≡ length old → IsTakenOff old new p → AreUnmarked old (p + 1) n → AreUnmarked new p n
 free-taken_off n old new p size off free q from less marked = elim (cases_eq q p) [
-  | inl e ↦ off.gone (subst (IsMarked new) e marked)
+  | inl e ↦ off.gone (subst (IsVariableMarked new) e marked)
   | inr other ↦ free q (omega arith) less (off.above q (omega arith) (omega arith) marked)
 ]
 
-pub free-more : (n : ℕ) (marks : List Bool) (p : ℕ) → ¬ IsMarked marks p → AreFree marks (p + 1) n → AreFree marks p n
+pub free-more : (n : ℕ) (marks : List Bool) (p : ℕ) → ¬ IsVariableMarked marks p → AreUnmarked marks (p + 1) n → AreUnmarked marks p n
 free-more n marks p unmarked free q from less marked = elim (cases_eq q p) [
-  | inl e ↦ unmarked (subst (IsMarked marks) e marked)
+  | inl e ↦ unmarked (subst (IsVariableMarked marks) e marked)
   | inr other ↦ free q (omega arith) less marked
 ]
 
@@ -416,9 +416,9 @@ met-more es c i p less = (
     back k h = subst (λ (xs : List ℤ). IsAmong k xs) (sym (take_more c i (pos 0) less)) ((among_push k (take i c) (get_or c i (pos 0))).1 h)
 
 pub met-marked : (es : List Entry) (c : List ℤ) (i : ℕ) (x : ℤ) (old between new : List Bool) → i < length c → x ≡ get_or c i (pos 0)
-    → ((p : ℕ) → p < length es → IsMarked between p ↔ (IsMarked old p ⊎ IsMetAt es (take i c) p))
-    → ((p : ℕ) → p < length es → IsMarked new p ↔ (IsMarked between p ⊎ (unsigned_abs (literal_at es p) ≡ unsigned_abs x)))
-    → (p : ℕ) → p < length es → IsMarked new p ↔ (IsMarked old p ⊎ IsMetAt es (take (i + 1) c) p)
+    → ((p : ℕ) → p < length es → IsVariableMarked between p ↔ (IsVariableMarked old p ⊎ IsMetAt es (take i c) p))
+    → ((p : ℕ) → p < length es → IsVariableMarked new p ↔ (IsVariableMarked between p ⊎ (unsigned_abs (literal_at es p) ≡ unsigned_abs x)))
+    → (p : ℕ) → p < length es → IsVariableMarked new p ↔ (IsVariableMarked old p ⊎ IsMetAt es (take (i + 1) c) p)
 met-marked es c i x old between new less read before one p within = (
   λ marked. elim ((one p within).0 marked) [
     | inl b ↦ elim ((before p within).0 b) [ inl was ↦ inl was | inr met ↦ inr ((met-more es c i p less).1 (inl met)) ]
@@ -433,24 +433,24 @@ met-marked es c i x old between new less read before one p within = (
   ],
 )
 
-pub met-all : (es : List Entry) (c : List ℤ) (i : ℕ) (old new : List Bool) → length c ≤ i → ((p : ℕ) → p < length es → IsMarked new p ↔ (IsMarked old p ⊎ IsMetAt es (take i c) p))
-    → (p : ℕ) → p < length es → IsMarked new p ↔ (IsMarked old p ⊎ IsMetAt es c p)
-met-all es c i old new past = subst (λ (xs : List ℤ). (p : ℕ) → p < length es → IsMarked new p ↔ (IsMarked old p ⊎ IsMetAt es xs p)) (take_all i c past)
+pub met-all : (es : List Entry) (c : List ℤ) (i : ℕ) (old new : List Bool) → length c ≤ i → ((p : ℕ) → p < length es → IsVariableMarked new p ↔ (IsVariableMarked old p ⊎ IsMetAt es (take i c) p))
+    → (p : ℕ) → p < length es → IsVariableMarked new p ↔ (IsVariableMarked old p ⊎ IsMetAt es c p)
+met-all es c i old new past = subst (λ (xs : List ℤ). (p : ℕ) → p < length es → IsVariableMarked new p ↔ (IsVariableMarked old p ⊎ IsMetAt es xs p)) (take_all i c past)
 
 -- ---- the literals of the marks, one after the other
-pub of_marks-free : (es : List Entry) (marks : List Bool) (n : ℕ) (c : List ℤ) → ¬ IsMarked marks n → IsListing (IsOfMarks es marks n) LiteralBefore c → IsListing (IsOfMarks es marks (n + 1)) LiteralBefore c
+pub of_marks-free : (es : List Entry) (marks : List Bool) (n : ℕ) (c : List ℤ) → ¬ IsVariableMarked marks n → IsListing (IsOfMarks es marks n) LiteralBefore c → IsListing (IsOfMarks es marks (n + 1)) LiteralBefore c
 of_marks-free es marks n c unmarked l = record {
   exactly = λ k. (
     λ among. let (p, less, marked, e) = (l.exactly k).0 among in (p, omega arith, marked, e),
     λ (p, less, marked, e). elim (cases_eq p n) [
-      | inl same ↦ absurd (unmarked (subst (IsMarked marks) same marked))
+      | inl same ↦ absurd (unmarked (subst (IsVariableMarked marks) same marked))
       | inr other ↦ (l.exactly k).1 (p, omega arith, marked, e)
     ],
   );
   ascending = l.ascending;
 }
 
-pub of_marks-more : (es : List Entry) (marks : List Bool) (n : ℕ) (c d : List ℤ) → IsMarked marks n → IsListing (IsOfMarks es marks n) LiteralBefore c
+pub of_marks-more : (es : List Entry) (marks : List Bool) (n : ℕ) (c d : List ℤ) → IsVariableMarked marks n → IsListing (IsOfMarks es marks n) LiteralBefore c
     → IsListing (λ k. (k ≡ neg_ℤ (literal_at es n)) ⊎ IsAmong k c) LiteralBefore d → IsListing (IsOfMarks es marks (n + 1)) LiteralBefore d
 of_marks-more es marks n c d here l l' = record {
   exactly = λ k. (
@@ -470,7 +470,7 @@ pub of_marks-none : (es : List Entry) (marks : List Bool) → IsListing (IsOfMar
 of_marks-none es marks = record { exactly = λ k. (λ none. absurd none, λ (p, less, marked, e). absurd (omega arith)); ascending = tt }
 
 -- ---- no marks yet
-pub none-marked : (n q : ℕ) → ¬ IsMarked (replicate n false) q
+pub none-marked : (n q : ℕ) → ¬ IsVariableMarked (replicate n false) q
 none-marked zero q marked = true≢false (sym marked)
 none-marked (suc n) zero marked = true≢false (sym marked)
 none-marked (suc n) (suc q) marked = none-marked n q marked

@@ -7,7 +7,7 @@ use Rattle.mcs_base.specs.Listings.{IsAmong}
 use Rattle.mcs_trace.specs.Clauses.{IsWithin, literal_holds, clause_holds, all_hold}
 use Rattle.mcs_sat.specs.Answers.{assignment_of}
 use Rattle.mcs_sat.specs.declared.trail.Entry.{Entry}
-use Rattle.mcs_sat.specs.Trails.{ArePlaced, IsOn, IsSatisfied}
+use Rattle.mcs_sat.specs.Trails.{ArePlaced, IsOn, IsClauseSatisfied}
 use Rattle.mcs_sat.proofs.TrailLemmas.{not_both_on}
 
 -- ---- the model
@@ -57,7 +57,7 @@ module _ (es : List Entry) (ps : List ℕ) (v : ℕ → Bool) (n : ℕ) (placed 
       later true b e = refl
       later false b e = e
 
-  pub all-on : (cs : List (List ℤ)) → AllByRecursion (IsWithin n) cs → AllByRecursion (IsSatisfied es) cs → IsTrue (all_hold v cs)
+  pub all-on : (cs : List (List ℤ)) → AllByRecursion (IsWithin n) cs → AllByRecursion (IsClauseSatisfied es) cs → IsTrue (all_hold v cs)
   all-on [] within all = refl
   all-on (c ∷ cs) (here, there) ((k, among, on), rest) = both (clause_holds v c) (all_hold v cs) (clause-on c k here among on) (all-on cs there rest)
     where

@@ -7,11 +7,11 @@ use Rattle.std.proofs.lemmas.Option.{get_or_from_slice_get, same_Some, slice_get
 use Rattle.mcs_base.specs.Listings.{IsAmong}
 use Rattle.mcs_base.proofs.Among.{among_at, among_push}
 use Rattle.mcs_base.proofs.Lists.{slice_get_below, slice_get_kept, slice_get_read_as, slice_get_seam, slice_get_take}
-use Rattle.mcs_trace.specs.Traces.{AreRightSteps, Inference, IsAcceptedTrace, IsChainResolvent, ResolvesTo, clauses_of, inference_of, numbered}
+use Rattle.mcs_trace.specs.Traces.{AreRightSteps, Inference, IsAcceptedTrace, IsChainResolvent, ResolvesTo, clauses_of, inference_of, numbered_clause}
 use Rattle.mcs_trace.specs.declared.trace.Step.{Step}
 use Rattle.mcs_trace.proofs.TraceLemmas.{numbered-pred}
 use Rattle.mcs_sat.specs.declared.trace.Numbering.{Numbering}
-use Rattle.mcs_sat.specs.Numbering.{AreMarked, AreNamed, IsNumbering, IsRead, NameBelow, NamesAt, number_now}
+use Rattle.mcs_sat.specs.Numbering.{AreMarked, AreChainsMarked, IsNumbering, IsRead, NameBelow, NamesAt, number_now}
 use Rattle.mcs_sat.specs.States.{AreChains}
 use Rattle.mcs_sat.specs.Stores.{given, given_count}
 use Rattle.mcs_sat.proofs.KnownLemmas.{numbered-more, numbered-row}
@@ -19,14 +19,14 @@ use Rattle.mcs_sat.proofs.StoreLemmas.{given-at, given_count-append, length-give
 use Rattle.mcs_base.proofs.Written.{take_next}
 
 -- ---- what a chain names
-resolves-names : (known : List (List ℤ)) (c : List ℤ) (ns : List ℕ) (last : List ℤ) → ResolvesTo known c ns last → (n : ℕ) → IsAmong n ns → (d : List ℤ) × (numbered known n ≡ Some d)
+resolves-names : (known : List (List ℤ)) (c : List ℤ) (ns : List ℕ) (last : List ℤ) → ResolvesTo known c ns last → (n : ℕ) → IsAmong n ns → (d : List ℤ) × (numbered_clause known n ≡ Some d)
 resolves-names known c [] last h n among = absurd among
-resolves-names known c (m ∷ ns) last (d, at, (between, is, rest)) n (inl e) = (d, ap (numbered known) e ∙ at)
+resolves-names known c (m ∷ ns) last (d, at, (between, is, rest)) n (inl e) = (d, ap (numbered_clause known) e ∙ at)
 resolves-names known c (m ∷ ns) last (d, at, (between, is, rest)) n (inr among) = resolves-names known between ns last rest n among
 
-pub chain-names : (known : List (List ℤ)) (ns : List ℕ) (c : List ℤ) → IsChainResolvent known ns c → (n : ℕ) → IsAmong n ns → (d : List ℤ) × (numbered known n ≡ Some d)
+pub chain-names : (known : List (List ℤ)) (ns : List ℕ) (c : List ℤ) → IsChainResolvent known ns c → (n : ℕ) → IsAmong n ns → (d : List ℤ) × (numbered_clause known n ≡ Some d)
 chain-names known [] c h n among = absurd among
-chain-names known (m ∷ ns) c (first, at, rest) n (inl e) = (first, ap (numbered known) e ∙ at)
+chain-names known (m ∷ ns) c (first, at, rest) n (inl e) = (first, ap (numbered_clause known) e ∙ at)
 chain-names known (m ∷ ns) c (first, at, rest) n (inr among) = resolves-names known first ns c rest n among
 
 pub chain-below : (known : List (List ℤ)) (ns : List ℕ) (c : List ℤ) → IsChainResolvent known ns c → NameBelow (length known) ns
@@ -45,11 +45,11 @@ names-at known chains is i ns at n among =
     ]
 
 -- ---- other numbers
-resolves-renumbered : (known new : List (List ℤ)) (f : ℕ → ℕ) (c : List ℤ) (ns : List ℕ) (last : List ℤ) → ((n : ℕ) (d : List ℤ) → IsAmong n ns → numbered known n ≡ Some d → numbered new (f n) ≡ Some d) → ResolvesTo known c ns last → ResolvesTo new c (map f ns) last
+resolves-renumbered : (known new : List (List ℤ)) (f : ℕ → ℕ) (c : List ℤ) (ns : List ℕ) (last : List ℤ) → ((n : ℕ) (d : List ℤ) → IsAmong n ns → numbered_clause known n ≡ Some d → numbered_clause new (f n) ≡ Some d) → ResolvesTo known c ns last → ResolvesTo new c (map f ns) last
 resolves-renumbered known new f c [] last same h = h
 resolves-renumbered known new f c (m ∷ ns) last same (d, at, (between, is, rest)) = (d, same m d (inl refl) at, (between, is, resolves-renumbered known new f between ns last (λ n d among. same n d (inr among)) rest))
 
-pub chain-renumbered : (known new : List (List ℤ)) (f : ℕ → ℕ) (ns : List ℕ) (c : List ℤ) → ((n : ℕ) (d : List ℤ) → IsAmong n ns → numbered known n ≡ Some d → numbered new (f n) ≡ Some d) → IsChainResolvent known ns c → IsChainResolvent new (map f ns) c
+pub chain-renumbered : (known new : List (List ℤ)) (f : ℕ → ℕ) (ns : List ℕ) (c : List ℤ) → ((n : ℕ) (d : List ℤ) → IsAmong n ns → numbered_clause known n ≡ Some d → numbered_clause new (f n) ≡ Some d) → IsChainResolvent known ns c → IsChainResolvent new (map f ns) c
 chain-renumbered known new f [] c same h = h
 chain-renumbered known new f (m ∷ ns) c same (first, at, rest) = (first, same m first (inl refl) at, resolves-renumbered known new f first ns c (λ n d among. same n d (inr among)) rest)
 
@@ -76,7 +76,7 @@ right-step known steps s c ns right is chain =
 clauses-push : (known : List (List ℤ)) (steps : List Step) (s : Step) (c : List ℤ) → s.clause ≡ c → known ++ clauses_of (steps ++ s ∷ []) ≡ (known ++ clauses_of steps) ++ c ∷ []
 clauses-push known steps s c e = ap (λ (xs : List (List ℤ)). known ++ xs) (map_push (λ (t : Step). t.clause) steps s) ∙ sym (append_assoc known (clauses_of steps) (s.clause ∷ [])) ∙ ap (λ (x : List ℤ). (known ++ clauses_of steps) ++ x ∷ []) e
 
-module _ (known : List (List ℤ)) (chains : List (List ℕ)) (needed : List Bool) (is : AreChains known chains) (closed : AreNamed chains needed 0) where
+module _ (known : List (List ℤ)) (chains : List (List ℕ)) (needed : List Bool) (is : AreChains known chains) (closed : AreChainsMarked chains needed 0) where
   -- a chain of marked clauses is right by their numbers
   pub chain-now : (i : ℕ) (n : Numbering) (ns : List ℕ) (c : List ℤ) → IsNumbering known chains needed i n → AreMarked needed ns → IsChainResolvent (take i known) ns c → IsChainResolvent (given known chains ++ clauses_of n.steps.items) (map (number_now n.numbers.items) ns) c
   chain-now i n ns c so marked right = chain-renumbered (take i known) (given known chains ++ clauses_of n.steps.items) (number_now n.numbers.items) ns c (λ m d among at.
@@ -87,10 +87,10 @@ module _ (known : List (List ℤ)) (chains : List (List ℕ)) (needed : List Boo
       so.named (m - 1) d ms low here there (inr (marked m among))) right
 
   -- the numbers of the clauses before stay
-  named-before : (i j : ℕ) (old new : Numbering) (x : ℕ) (more : List (List ℤ)) (c : List ℤ) (ns : List ℕ) → IsNumbering known chains needed i old → new.numbers.items ≡ old.numbers.items ++ x ∷ [] → given known chains ++ clauses_of new.steps.items ≡ (given known chains ++ clauses_of old.steps.items) ++ more → j < i → slice_get known j ≡ Some c → slice_get chains j ≡ Some ns → (ns ≡ []) ⊎ IsTrue (get_or needed j false) → numbered (given known chains ++ clauses_of new.steps.items) (get_or new.numbers.items j 0) ≡ Some c
+  named-before : (i j : ℕ) (old new : Numbering) (x : ℕ) (more : List (List ℤ)) (c : List ℤ) (ns : List ℕ) → IsNumbering known chains needed i old → new.numbers.items ≡ old.numbers.items ++ x ∷ [] → given known chains ++ clauses_of new.steps.items ≡ (given known chains ++ clauses_of old.steps.items) ++ more → j < i → slice_get known j ≡ Some c → slice_get chains j ≡ Some ns → (ns ≡ []) ⊎ IsTrue (get_or needed j false) → numbered_clause (given known chains ++ clauses_of new.steps.items) (get_or new.numbers.items j 0) ≡ Some c
   named-before i j old new x more c ns so numbers clauses less at at' marked =
       let same : get_or new.numbers.items j 0 ≡ get_or old.numbers.items j 0 = ap (λ (xs : List ℕ). get_or xs j 0) numbers ∙ get_or_append_left old.numbers.items (x ∷ []) 0 j (omega (arith, so.sized)) in
-      ap (λ (ks : List (List ℤ)). numbered ks (get_or new.numbers.items j 0)) clauses ∙ ap (numbered ((given known chains ++ clauses_of old.steps.items) ++ more)) same
+      ap (λ (ks : List (List ℤ)). numbered_clause ks (get_or new.numbers.items j 0)) clauses ∙ ap (numbered_clause ((given known chains ++ clauses_of old.steps.items) ++ more)) same
       ∙ numbered-more (given known chains ++ clauses_of old.steps.items) more (get_or old.numbers.items j 0) c (so.named j c ns less at at' marked)
 
   number-last : (i : ℕ) (old new : Numbering) (x : ℕ) → IsNumbering known chains needed i old → new.numbers.items ≡ old.numbers.items ++ x ∷ [] → get_or new.numbers.items i 0 ≡ x
@@ -115,7 +115,7 @@ module _ (known : List (List ℤ)) (chains : List (List ℕ)) (needed : List Boo
               let last : j ≡ i = omega arith in
               let same : c ≡ d = same_Some c d (sym at ∙ ap (slice_get known) (sym last) ∙ at') in
               let back : old.given + 1 - 1 ≡ given_count (take i chains) = omega (arith, so.counted) in
-              ap (numbered (given known chains ++ clauses_of new.steps.items)) (ap (λ (k : ℕ). get_or new.numbers.items k 0) last ∙ number-last i old new (old.given + 1) so numbers)
+              ap (numbered_clause (given known chains ++ clauses_of new.steps.items)) (ap (λ (k : ℕ). get_or new.numbers.items k 0) last ∙ number-last i old new (old.given + 1) so numbers)
               ∙ numbered-pred (given known chains ++ clauses_of new.steps.items) (old.given + 1) (omega arith)
               ∙ ap (slice_get (given known chains ++ clauses_of new.steps.items)) back
               ∙ slice_get_kept (given known chains) (clauses_of new.steps.items) (given_count (take i chains)) c (given-at known chains i c at none)
@@ -172,8 +172,8 @@ module _ (known : List (List ℤ)) (chains : List (List ℕ)) (needed : List Boo
               let last : j ≡ i = omega arith in
               let same : c ≡ d = same_Some c d (sym at ∙ ap (slice_get known) (sym last) ∙ there) in
               let back : number - 1 ≡ length (G ++ clauses_of old.steps.items) = omega (arith, counted, length-append G (clauses_of old.steps.items), length-given known chains is.sized, length-map old.steps.items (λ (t : Step). t.clause)) in
-              ap (numbered (G ++ clauses_of new.steps.items)) (ap (λ (k : ℕ). get_or new.numbers.items k 0) last ∙ number-last i old new number so numbers)
-              ∙ ap (λ (ks : List (List ℤ)). numbered ks number) clauses
+              ap (numbered_clause (G ++ clauses_of new.steps.items)) (ap (λ (k : ℕ). get_or new.numbers.items k 0) last ∙ number-last i old new number so numbers)
+              ∙ ap (λ (ks : List (List ℤ)). numbered_clause ks number) clauses
               ∙ numbered-pred ((G ++ clauses_of old.steps.items) ++ c ∷ []) number (omega arith)
               ∙ slice_get_seam (G ++ clauses_of old.steps.items) c [] (number - 1) back
               ∙ ap Some same
@@ -242,7 +242,7 @@ pub marked-kept : (old new : List Bool) (ns : List ℕ) → ((i : ℕ) → IsTru
 marked-kept old new ns kept marked n among = kept (n - 1) (marked n among)
 
 -- one chain more, from the end
-pub named-marked : (chains : List (List ℕ)) (old new : List Bool) (i : ℕ) (ns : List ℕ) → NamesAt chains → slice_get chains i ≡ Some ns → ((j : ℕ) → IsTrue (get_or old j false) → IsTrue (get_or new j false)) → ((j : ℕ) → IsTrue (get_or new j false) → IsTrue (get_or old j false) ⊎ IsAmong (j + 1) ns) → AreMarked new ns → AreNamed chains old (i + 1) → AreNamed chains new i
+pub named-marked : (chains : List (List ℕ)) (old new : List Bool) (i : ℕ) (ns : List ℕ) → NamesAt chains → slice_get chains i ≡ Some ns → ((j : ℕ) → IsTrue (get_or old j false) → IsTrue (get_or new j false)) → ((j : ℕ) → IsTrue (get_or new j false) → IsTrue (get_or old j false) ⊎ IsAmong (j + 1) ns) → AreMarked new ns → AreChainsMarked chains old (i + 1) → AreChainsMarked chains new i
 named-marked chains old new i ns at here kept only marked named j ms from there on = elim (cases_lt i j) [
   | inl later ↦ elim (only j on) [
     | inl was ↦ marked-kept old new ms kept (named j ms (omega arith) there was)
@@ -253,7 +253,7 @@ named-marked chains old new i ns at here kept only marked named j ms from there 
       subst (AreMarked new) (same_Some ns ms (sym here ∙ ap (slice_get chains) (sym same) ∙ there)) marked
 ]
 
-pub named-off : (chains : List (List ℕ)) (needed : List Bool) (i : ℕ) → get_or needed i false ≡ false → AreNamed chains needed (i + 1) → AreNamed chains needed i
+pub named-off : (chains : List (List ℕ)) (needed : List Bool) (i : ℕ) → get_or needed i false ≡ false → AreChainsMarked chains needed (i + 1) → AreChainsMarked chains needed i
 named-off chains needed i off named j ms from there on = elim (cases_lt i j) [
   | inl later ↦ named j ms (omega arith) there on
   | inr not ↦ absurd (let same : j ≡ i = omega arith in true≢false (sym on ∙ ap (λ (k : ℕ). get_or needed k false) same ∙ off))

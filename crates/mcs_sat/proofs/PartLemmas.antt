@@ -5,18 +5,18 @@ use Rattle.std.proofs.lemmas.List.{get_or_append_left, get_or_push, length_push}
 use Rattle.std.proofs.lemmas.Option.{slice_get_within}
 use Rattle.mcs_base.proofs.Each.{all_get, all_weaker}
 use Rattle.mcs_base.proofs.Lists.{map_slice_get, slice_get_push_at, slice_get_seam, slice_get_take, slice_get-append_left, slice_get-append_right}
-use Rattle.mcs_trace.specs.Traces.{Inference, IsChainResolvent, numbered}
+use Rattle.mcs_trace.specs.Traces.{Inference, IsChainResolvent, numbered_clause}
 use Rattle.mcs_sat.specs.declared.state.State.{State}
 use Rattle.mcs_sat.specs.Numbering.{NameBelow, number_now}
-use Rattle.mcs_sat.specs.Parts.{IsGathered, IsPart}
+use Rattle.mcs_sat.specs.Parts.{IsGathered, IsPartState}
 use Rattle.mcs_sat.specs.States.{IsState, SameRoom}
 use Rattle.mcs_sat.specs.Stores.{IsLater}
 use Rattle.mcs_sat.specs.Trails.{AreCovered}
 use Rattle.mcs_sat.proofs.KnownLemmas.{numbered-more, numbered-row}
 use Rattle.mcs_sat.proofs.NumberingLemmas.{chain-renumbered, names-at}
 
-numbered-next : (known : List (List ℤ)) (i : ℕ) → numbered known (i + 1) ≡ slice_get known i
-numbered-next known i = let next : i + 1 ≡ suc i = omega arith in ap (numbered known) next
+numbered-next : (known : List (List ℤ)) (i : ℕ) → numbered_clause known (i + 1) ≡ slice_get known i
+numbered-next known i = let next : i + 1 ≡ suc i = omega arith in ap (numbered_clause known) next
 
 -- ---- a clause is taken in
 pub gathered-more : (whole old new : State) (ns ms : List ℕ) (i : ℕ) (c : List ℤ) → IsGathered whole old ns → IsState new → new.levels.items ≡ [] → SameRoom old new
@@ -31,10 +31,10 @@ gathered-more whole old new ns ms i c is kept base room clauses here numbers = r
       | inl before ↦
           let within = slice_get_within old.clauses j d before in
           let same : get_or ms j 0 ≡ get_or ns j 0 = ap (λ (xs : List ℕ). get_or xs j 0) numbers ∙ get_or_append_left ns ((i + 1) ∷ []) 0 j (omega (arith, is.all)) in
-          ap (numbered whole.clauses) same ∙ is.taken.numbered j d (omega (arith, is.all)) before
+          ap (numbered_clause whole.clauses) same ∙ is.taken.numbered j d (omega (arith, is.all)) before
       | inr (last, e) ↦
           let same : get_or ms j 0 ≡ i + 1 = ap (λ (xs : List ℕ). get_or xs j 0) numbers ∙ get_or_push ns (i + 1) 0 j (is.all ∙ sym last) in
-          ap (numbered whole.clauses) same ∙ numbered-next whole.clauses i ∙ here ∙ ap Some (sym e)
+          ap (numbered_clause whole.clauses) same ∙ numbered-next whole.clauses i ∙ here ∙ ap Some (sym e)
     ];
     learnt = λ j past none. let all = sizes in let less = slice_get_within new.chains j [] none in omega (arith, kept.chains.sized);
   };
@@ -45,7 +45,7 @@ gathered-more whole old new ns ms i c is kept base room clauses here numbers = r
     sizes = omega (arith, is.all, ap length numbers, length_push ns (i + 1), ap length clauses, length_push old.clauses c)
 
 -- ---- more was learnt
-pub part-later : (whole old new : State) (ns : List ℕ) → IsPart whole old ns → IsLater old new → new.levels.items ≡ [] → IsPart whole new ns
+pub part-later : (whole old new : State) (ns : List ℕ) → IsPartState whole old ns → IsLater old new → new.levels.items ≡ [] → IsPartState whole new ns
 part-later whole old new ns is later base = record {
   state = later.state;
   base = base;
@@ -72,10 +72,10 @@ part-later whole old new ns is later base = record {
     chains = map (λ (s : Inference). s.chain) later.more
 
 -- ---- the next clause that was learnt
-pub next-below : (whole part : State) (ns chain : List ℕ) → IsPart whole part ns → slice_get part.chains (length ns) ≡ Some chain → NameBelow (length ns) chain
+pub next-below : (whole part : State) (ns chain : List ℕ) → IsPartState whole part ns → slice_get part.chains (length ns) ≡ Some chain → NameBelow (length ns) chain
 next-below whole part ns chain is at = names-at part.clauses part.chains is.state.chains (length ns) chain at
 
-module _ (whole part : State) (ns : List ℕ) (c : List ℤ) (chain : List ℕ) (is : IsPart whole part ns) (here : slice_get part.clauses (length ns) ≡ Some c) (at : slice_get part.chains (length ns) ≡ Some chain) where
+module _ (whole part : State) (ns : List ℕ) (c : List ℤ) (chain : List ℕ) (is : IsPartState whole part ns) (here : slice_get part.clauses (length ns) ≡ Some c) (at : slice_get part.chains (length ns) ≡ Some chain) where
   pub next-covered : AreCovered whole.trail.positions.items c
   next-covered =
       let room = is.positions in
@@ -92,7 +92,7 @@ module _ (whole part : State) (ns : List ℕ) (c : List ℤ) (chain : List ℕ) 
   ]
 
 -- it is learnt
-pub part-adopted : (whole new part : State) (ns ms : List ℕ) (c : List ℤ) → IsPart whole part ns → SameRoom whole new → new.clauses ≡ whole.clauses ++ c ∷ [] → slice_get part.clauses (length ns) ≡ Some c → ms ≡ ns ++ length new.clauses ∷ [] → IsPart new part ms
+pub part-adopted : (whole new part : State) (ns ms : List ℕ) (c : List ℤ) → IsPartState whole part ns → SameRoom whole new → new.clauses ≡ whole.clauses ++ c ∷ [] → slice_get part.clauses (length ns) ≡ Some c → ms ≡ ns ++ length new.clauses ∷ [] → IsPartState new part ms
 part-adopted whole new part ns ms c is room clauses here numbers = record {
   state = is.state;
   base = is.base;
@@ -101,11 +101,11 @@ part-adopted whole new part ns ms c is room clauses here numbers = record {
   numbered = λ j d less at. elim (cases_lt j (length ns)) [
     | inl before ↦
         let same : get_or ms j 0 ≡ get_or ns j 0 = ap (λ (xs : List ℕ). get_or xs j 0) numbers ∙ get_or_append_left ns (length new.clauses ∷ []) 0 j before in
-        ap (numbered new.clauses) same ∙ ap (λ (cs : List (List ℤ)). numbered cs (get_or ns j 0)) clauses ∙ numbered-more whole.clauses (c ∷ []) (get_or ns j 0) d (is.numbered j d before at)
+        ap (numbered_clause new.clauses) same ∙ ap (λ (cs : List (List ℤ)). numbered_clause cs (get_or ns j 0)) clauses ∙ numbered-more whole.clauses (c ∷ []) (get_or ns j 0) d (is.numbered j d before at)
     | inr past ↦
         let last : j ≡ length ns = omega (arith, size) in
         let same : get_or ms j 0 ≡ length whole.clauses + 1 = ap (λ (xs : List ℕ). get_or xs j 0) numbers ∙ get_or_push ns (length new.clauses) 0 j (sym last) ∙ ap length clauses ∙ length_push whole.clauses c in
-        ap (numbered new.clauses) same ∙ numbered-next new.clauses (length whole.clauses) ∙ ap (λ (cs : List (List ℤ)). slice_get cs (length whole.clauses)) clauses
+        ap (numbered_clause new.clauses) same ∙ numbered-next new.clauses (length whole.clauses) ∙ ap (λ (cs : List (List ℤ)). slice_get cs (length whole.clauses)) clauses
         ∙ slice_get_seam whole.clauses c [] (length whole.clauses) refl-length ∙ sym here ∙ ap (slice_get part.clauses) (sym last) ∙ at
   ];
   learnt = λ i past. is.learnt i (omega (arith, size));

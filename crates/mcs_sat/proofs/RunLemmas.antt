@@ -17,7 +17,7 @@ use Rattle.mcs_sat.specs.declared.trail.Trail.{Trail}
 use Rattle.mcs_sat.specs.declared.watches.Pair.{Pair}
 use Rattle.mcs_sat.specs.declared.watches.Watches.{Watches}
 use Rattle.mcs_sat.specs.States.{AreStarts, IsFull, IsState, reach_of}
-use Rattle.mcs_sat.specs.Trails.{AreCovered, AreExplained, AreLevelled, ArePlaced, Grows, IsOn, IsOnBelow, IsOpen, IsSatisfied, IsTrail, StandsNowhere, literal_at}
+use Rattle.mcs_sat.specs.Trails.{AreCovered, AreExplained, AreLevelled, ArePlaced, GrowsOnLevel, IsOn, IsOnBelow, IsOpen, IsClauseSatisfied, IsTrail, StandsNowhere, literal_at}
 use Rattle.mcs_sat.specs.Watching.{AreMoved, ArePair, AreSettled, AreSpared, AreWatched, IsOf, IsReached}
 use Rattle.mcs_sat.proofs.GrowLemmas.{grows-longer}
 use Rattle.mcs_sat.proofs.KeptLemmas.{first-same, front-grows, front-take, kept-change, moved-below, moved-same, still-moved, still-same}
@@ -26,14 +26,14 @@ use Rattle.mcs_sat.proofs.StateLemmas.{reached-back, reached-more, reached-on}
 use Rattle.mcs_sat.proofs.TrailLemmas.{explained-back, placed-back}
 
 -- ---- longer trails
-reached-grows : (level : ℕ) (known : List (List ℤ)) (w : Watches) (es new : List Entry) (r : Reach) → Grows level es new → r.entries ≤ length es → r.visited ≤ length es → IsReached known w es r → IsReached known w new r
+reached-grows : (level : ℕ) (known : List (List ℤ)) (w : Watches) (es new : List Entry) (r : Reach) → GrowsOnLevel level es new → r.entries ≤ length es → r.visited ≤ length es → IsReached known w es r → IsReached known w new r
 reached-grows level known w es new r (more, e, all) entries visited is = subst (λ (xs : List Entry). IsReached known w xs r) (sym e) (reached-more known w es more r entries visited is)
 
-now-grows : (level : ℕ) (known : List (List ℤ)) (w : Watches) (es new : List Entry) (v s : ℕ) → Grows level es new → v ≤ length es → IsReached known w es (record { entries = length es; visited = v; settled = s }) → IsReached known w new (record { entries = length new; visited = v; settled = s })
+now-grows : (level : ℕ) (known : List (List ℤ)) (w : Watches) (es new : List Entry) (v s : ℕ) → GrowsOnLevel level es new → v ≤ length es → IsReached known w es (record { entries = length es; visited = v; settled = s }) → IsReached known w new (record { entries = length new; visited = v; settled = s })
 now-grows level known w es new v s (more, e, all) visited is = subst (λ (xs : List Entry). IsReached known w xs (record { entries = length new; visited = v; settled = s })) (sym e) (reached-on known w es more v s (length new) visited (ap length e) is)
 
 -- ---- short clauses are settled
-pub state-settled : (s : State) (t : Trail) (n : ℕ) → IsState s → IsTrail s.clauses t → length t.positions.items ≡ length s.trail.positions.items → Grows (length s.levels.items) s.trail.entries.items t.entries.items → AreSettled s.clauses s.watches.short.items t.entries.items s.settled n → n ≤ length s.watches.short.items
+pub state-settled : (s : State) (t : Trail) (n : ℕ) → IsState s → IsTrail s.clauses t → length t.positions.items ≡ length s.trail.positions.items → GrowsOnLevel (length s.levels.items) s.trail.entries.items t.entries.items → AreSettled s.clauses s.watches.short.items t.entries.items s.settled n → n ≤ length s.watches.short.items
     → IsState (record { clauses = s.clauses; chains = s.chains; trail = t; watches = s.watches; levels = s.levels; visited = s.visited; settled = n; kept = s.kept })
 state-settled s t n is trail positions grows settled bound =
     let es : List Entry = s.trail.entries.items in
@@ -66,7 +66,7 @@ state-settled s t n is trail positions grows settled bound =
     }
 
 -- ---- clauses are visited
-pub state-visited : (s : State) (t : Trail) (w : Watches) (v : ℕ) → IsState s → IsTrail s.clauses t → length t.positions.items ≡ length s.trail.positions.items → Grows (length s.levels.items) s.trail.entries.items t.entries.items
+pub state-visited : (s : State) (t : Trail) (w : Watches) (v : ℕ) → IsState s → IsTrail s.clauses t → length t.positions.items ≡ length s.trail.positions.items → GrowsOnLevel (length s.levels.items) s.trail.entries.items t.entries.items
     → AreWatched s.clauses w → length w.pairs ≡ length s.watches.pairs → AreSpared s.watches.pairs w.pairs → w.short.items ≡ s.watches.short.items → AreMoved s.watches.pairs w.pairs s.trail.entries.items → v ≤ length t.entries.items
     → ((r : Reach) → r.visited ≤ length s.trail.entries.items → IsReached s.clauses s.watches s.trail.entries.items r → IsReached s.clauses w s.trail.entries.items r)
     → ((n : ℕ) → IsReached s.clauses s.watches s.trail.entries.items (record { entries = length s.trail.entries.items; visited = s.visited; settled = n }) → IsReached s.clauses w t.entries.items (record { entries = length t.entries.items; visited = v; settled = n }))
@@ -111,7 +111,7 @@ value-or-free es ps l placed =
     at i less size = sym (placed i less).2 ∙ ap (λ (n : ℕ). get_or ps n 0) size
 
 -- a clause whose watched literals are not false has one that is true, or two that are free
-pair-open : (es : List Entry) (ps : List ℕ) (c : List ℤ) (p : Pair) → ArePlaced es ps → ArePair c p → ((l : ℤ) → IsOf l p → IsOn es (neg_ℤ l) → IsSatisfied es c) → IsOpen es c
+pair-open : (es : List Entry) (ps : List ℕ) (c : List ℤ) (p : Pair) → ArePlaced es ps → ArePair c p → ((l : ℤ) → IsOf l p → IsOn es (neg_ℤ l) → IsClauseSatisfied es c) → IsOpen es c
 pair-open es ps c p placed pair watched = elim (value-or-free es ps p.first placed) [
   | inl on ↦ inl (p.first, pair.first, on)
   | inr (inl off) ↦ inl (watched p.first (inl refl) off)
@@ -152,17 +152,17 @@ all-open s is full all settled = all_from_among (IsOpen s.trail.entries.items) s
         ]
 
 -- ---- where memory runs out
-grows-front : (level : ℕ) (es new : List Entry) → Grows level es new → take (length es) new ≡ es
+grows-front : (level : ℕ) (es new : List Entry) → GrowsOnLevel level es new → take (length es) new ≡ es
 grows-front level es new (more, e, all) = ap (take (length es)) e ∙ take-append_seam es more
 
 -- what was reached before still holds of what is watched now
-pub before-visited : (level : ℕ) (known : List (List ℤ)) (w w' : Watches) (es new : List Entry) (r : Reach) → Grows level es new → r.entries ≤ length es → r.visited ≤ length es → IsReached known w es r → ((q : Reach) → q.visited ≤ length new → IsReached known w new q → IsReached known w' new q) → IsReached known w' es r
+pub before-visited : (level : ℕ) (known : List (List ℤ)) (w w' : Watches) (es new : List Entry) (r : Reach) → GrowsOnLevel level es new → r.entries ≤ length es → r.visited ≤ length es → IsReached known w es r → ((q : Reach) → q.visited ≤ length new → IsReached known w new q → IsReached known w' new q) → IsReached known w' es r
 before-visited level known w w' es new r grows entries visited is moved =
     let longer = grows-longer level es new grows in
     subst (λ (xs : List Entry). IsReached known w' xs r) (grows-front level es new grows) (reached-back known w' new (length es) r entries visited (moved r (omega arith) (reached-grows level known w es new r grows entries visited is)))
 
 -- the literals that were made true are taken back, and no more
-pub state-restored : (old new : State) (t : Trail) → IsState old → IsState new → new.clauses ≡ old.clauses → length new.trail.positions.items ≡ length old.trail.positions.items → new.levels.items ≡ old.levels.items → new.watches.short.items ≡ old.watches.short.items → new.kept ≡ old.kept → Grows (length old.levels.items) old.trail.entries.items new.trail.entries.items
+pub state-restored : (old new : State) (t : Trail) → IsState old → IsState new → new.clauses ≡ old.clauses → length new.trail.positions.items ≡ length old.trail.positions.items → new.levels.items ≡ old.levels.items → new.watches.short.items ≡ old.watches.short.items → new.kept ≡ old.kept → GrowsOnLevel (length old.levels.items) old.trail.entries.items new.trail.entries.items
     → IsReached new.clauses new.watches old.trail.entries.items (reach_of old) → t.entries.items ≡ take (length old.trail.entries.items) new.trail.entries.items → t.positions.items ≡ new.trail.positions.items
     → IsState (record { clauses = new.clauses; chains = new.chains; trail = t; watches = new.watches; levels = new.levels; visited = old.visited; settled = old.settled; kept = new.kept })
 state-restored old new t is is' clauses positions levels short marked grows before entries places =

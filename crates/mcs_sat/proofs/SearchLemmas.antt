@@ -13,9 +13,9 @@ use Rattle.mcs_sat.specs.declared.state.Reach.{Reach}
 use Rattle.mcs_sat.specs.declared.state.State.{State}
 use Rattle.mcs_sat.specs.declared.trail.Entry.{Entry}
 use Rattle.mcs_sat.specs.Learning.{IsLate}
-use Rattle.mcs_sat.specs.Searches.{IsRun, IsSearch, work_left, work_of}
+use Rattle.mcs_sat.specs.Searches.{IsRun, IsSatSearch, work_left, work_of}
 use Rattle.mcs_sat.specs.States.{IsDecided, IsFull, IsState, SameClauses, reach_of}
-use Rattle.mcs_sat.specs.Trails.{AreAssigned, AreCovered, ArePlaced, Grows, IsFalse, IsFalseAt, IsOpen, IsSatisfied}
+use Rattle.mcs_sat.specs.Trails.{AreAssigned, AreCovered, ArePlaced, GrowsOnLevel, IsFalse, IsFalseAt, IsOpen, IsClauseSatisfied}
 use Rattle.mcs_sat.proofs.TrailLemmas.{not_both_on, on-back, placed-back, placed-most}
 use Rattle.mcs_sat.proofs.WorkLemmas.{work_left-more, work_left-push}
 
@@ -29,7 +29,7 @@ pub open-late : (es : List Entry) (ps : List ℕ) (n : ℕ) (c : List ℤ) → A
 open-late es ps n c placed bound opened = inl (λ off. open-not_false (take n es) ps c (placed-back es ps n placed) opened (λ k among. on-back es n (neg_ℤ k) bound (off k among)))
 
 -- where each variable has a value an open clause is satisfied
-pub open-satisfied : (es : List Entry) (ps : List ℕ) (c : List ℤ) → AreAssigned es 1 (length ps) → IsClause c → AreCovered ps c → IsOpen es c → IsSatisfied es c
+pub open-satisfied : (es : List Entry) (ps : List ℕ) (c : List ℤ) → AreAssigned es 1 (length ps) → IsClause c → AreCovered ps c → IsOpen es c → IsClauseSatisfied es c
 open-satisfied es ps c all clause covered (inl satisfied) = satisfied
 open-satisfied es ps c all clause covered (inr two) =
     let literal : IsLiteral two.first = all_among IsLiteral c two.first clause.0 two.has_first in
@@ -37,8 +37,8 @@ open-satisfied es ps c all clause covered (inr two) =
     let (p, stands) = all (unsigned_abs two.first) (let some = literal.0 in omega arith) within in
     absurd (two.free_first p stands)
 
-pub all-satisfied : (s : State) → IsState s → AreAssigned s.trail.entries.items 1 (length s.trail.positions.items) → AllByRecursion (IsOpen s.trail.entries.items) s.clauses → AllByRecursion (IsSatisfied s.trail.entries.items) s.clauses
-all-satisfied s is assigned opened = all_from_among (IsSatisfied s.trail.entries.items) s.clauses (λ c among.
+pub all-satisfied : (s : State) → IsState s → AreAssigned s.trail.entries.items 1 (length s.trail.positions.items) → AllByRecursion (IsOpen s.trail.entries.items) s.clauses → AllByRecursion (IsClauseSatisfied s.trail.entries.items) s.clauses
+all-satisfied s is assigned opened = all_from_among (IsClauseSatisfied s.trail.entries.items) s.clauses (λ c among.
     open-satisfied s.trail.entries.items s.trail.positions.items c assigned (all_among IsClause s.clauses c is.trail.clauses among) (all_among (AreCovered s.trail.positions.items) s.clauses c is.trail.covered among) (all_among (IsOpen s.trail.entries.items) s.clauses c opened among))
 
 -- ---- runs
@@ -49,7 +49,7 @@ run-is s (Some i) opened conflict = conflict
 front-same : (es new : List Entry) (n : ℕ) (more : List Entry) → new ≡ es ++ more → n ≤ length es → take n new ≡ take n es
 front-same es new n more e bound = ap (take n) e ∙ take-append-le n es more bound
 
-pub search-run : (old new : State) → IsSearch old → IsState new → SameClauses old new → new.levels.items ≡ old.levels.items → Grows (length old.levels.items) old.trail.entries.items new.trail.entries.items → IsFull new → IsSearch new
+pub search-run : (old new : State) → IsSatSearch old → IsState new → SameClauses old new → new.levels.items ≡ old.levels.items → GrowsOnLevel (length old.levels.items) old.trail.entries.items new.trail.entries.items → IsFull new → IsSatSearch new
 search-run old new is kept same levels (more, e, all) full = record {
   full = full;
   state = kept;
@@ -60,7 +60,7 @@ search-run old new is kept same levels (more, e, all) full = record {
       (subst (λ (xs : List Entry). AllByRecursion (IsOpen xs) old.clauses) (sym (front-same old.trail.entries.items new.trail.entries.items r.entries more e (omega arith))) (is.before k r at'));
 }
 
-pub search-decided : (old new : State) (l : ℤ) → IsSearch old → AllByRecursion (IsOpen old.trail.entries.items) old.clauses → IsState new → SameClauses old new → IsDecided old new l → IsFull new → IsSearch new
+pub search-decided : (old new : State) (l : ℤ) → IsSatSearch old → AllByRecursion (IsOpen old.trail.entries.items) old.clauses → IsState new → SameClauses old new → IsDecided old new l → IsFull new → IsSatSearch new
 search-decided old new l is opened kept same decided full = record {
   full = full;
   state = kept;
@@ -77,7 +77,7 @@ search-decided old new l is opened kept same decided full = record {
 
 -- ---- less is left
 -- a literal was decided, and then a run came
-pub less-decided : (old between new : State) (l : ℤ) → IsSearch new → IsDecided old between l → Grows (length between.levels.items) between.trail.entries.items new.trail.entries.items → length new.trail.positions.items ≡ length old.trail.positions.items → work_of new < work_of old
+pub less-decided : (old between new : State) (l : ℤ) → IsSatSearch new → IsDecided old between l → GrowsOnLevel (length between.levels.items) between.trail.entries.items new.trail.entries.items → length new.trail.positions.items ≡ length old.trail.positions.items → work_of new < work_of old
 less-decided old between new l is decided (more, e, all) size =
     let n : ℕ = length old.trail.positions.items in
     let es : List Entry = old.trail.entries.items in
@@ -89,7 +89,7 @@ less-decided old between new l is decided (more, e, all) size =
     subst (λ (m : ℕ). work_left m new.trail.entries.items < work_left n es) (sym size) (omega arith)
 
 -- ---- all that was decided is taken back
-pub search-back : (old new : State) → IsSearch old → IsState new → SameClauses old new → new.levels.items ≡ [] → IsFull new → IsSearch new
+pub search-back : (old new : State) → IsSatSearch old → IsState new → SameClauses old new → new.levels.items ≡ [] → IsFull new → IsSatSearch new
 search-back old new is kept same none full = record {
   full = full;
   state = kept;
@@ -97,7 +97,7 @@ search-back old new is kept same none full = record {
 }
 
 -- where nothing is decided
-pub search-base : (s : State) → IsState s → IsFull s → s.levels.items ≡ [] → IsSearch s
+pub search-base : (s : State) → IsState s → IsFull s → s.levels.items ≡ [] → IsSatSearch s
 search-base s kept full none = record {
   full = full;
   state = kept;

@@ -6,12 +6,12 @@ use Rattle.mcs_base.specs.Listings.{IsAmong}
 use Rattle.mcs_base.proofs.Among.{among_get, among_left}
 use Rattle.mcs_base.proofs.Each.{all_among, all_both, all_from_among, all_weaker}
 use Rattle.mcs_trace.specs.Clauses.{IsClause, IsWithin}
-use Rattle.mcs_trace.specs.Traces.{numbered}
+use Rattle.mcs_trace.specs.Traces.{numbered_clause}
 use Rattle.mcs_sat.specs.declared.state.State.{State}
 use Rattle.mcs_sat.specs.declared.trail.Entry.{Entry}
 use Rattle.mcs_sat.specs.Solvers.{GoesOn, IsFalseNumber, IsFalseUnder, IsOpenUnder, IsSolver, IsUnitRun, LeadsToConflict, SolverView, trues}
 use Rattle.mcs_sat.specs.States.{IsDecided, IsState, SameClauses, view_of}
-use Rattle.mcs_sat.specs.Trails.{AreCovered, AreExplained, ArePlaced, Grows, IsFalseAt, IsOpen, levels_of, literal_at}
+use Rattle.mcs_sat.specs.Trails.{AreCovered, AreExplained, ArePlaced, GrowsOnLevel, IsFalseAt, IsOpen, levels_of, literal_at}
 use Rattle.mcs_sat.proofs.KnownLemmas.{numbered-row}
 use Rattle.mcs_sat.proofs.LevelLemmas.{levels-decide, levels-more}
 use Rattle.mcs_sat.proofs.UnitRunLemmas.{AreConsistent, AreIn, among-on, flat-levels, grown-run, levels-run, literals, open-not_false, open-under, false-under, placed-consistent, run-within, under-false}
@@ -43,7 +43,7 @@ is-solver s is =
 
 -- ---- what grows
 abbrev IsGrown : State → State → Type 0
-IsGrown old new = IsState new × (new.clauses ≡ old.clauses) × Grows (length old.levels.items) old.trail.entries.items new.trail.entries.items
+IsGrown old new = IsState new × (new.clauses ≡ old.clauses) × GrowsOnLevel (length old.levels.items) old.trail.entries.items new.trail.entries.items
 
 grown-trues : (old new : State) (more : List Entry) → new.trail.entries.items ≡ old.trail.entries.items ++ more → trues (view_of new) ≡ trues (view_of old) ++ literals more
 grown-trues old new more is = flat-levels new.trail.entries.items ∙ ap literals is ∙ map-append (λ (e : Entry). e.literal) old.trail.entries.items more ∙ ap (λ (x : List ℤ). x ++ literals more) (sym (flat-levels old.trail.entries.items))
@@ -99,7 +99,7 @@ grown-no_conflict old new (is, clauses, (more, e, all)) open' (run, is-run, (c, 
 pub false-number : (s : State) (i n : ℕ) → n ≡ i + 1 → IsFalseAt s.clauses s.trail.entries.items i → IsFalseNumber (view_of s) n
 false-number s i n e (c, at, off) = (
   c,
-  ap (numbered s.clauses) (let up : n ≡ suc i = omega arith in up) ∙ at,
+  ap (numbered_clause s.clauses) (let up : n ≡ suc i = omega arith in up) ∙ at,
   subst (λ (x : List ℤ). IsFalseUnder x c) (sym (flat-levels s.trail.entries.items)) (false-under s.trail.entries.items c off),
 )
 

@@ -19,9 +19,9 @@ use Rattle.mcs_sat.specs.declared.trail.Trail.{Trail}
 use Rattle.mcs_sat.specs.declared.watches.Pair.{Pair}
 use Rattle.mcs_sat.specs.declared.watches.Watches.{Watches}
 use Rattle.mcs_sat.specs.States.{AreChains, AreStarts, IsFull, IsState, reach_of}
-use Rattle.mcs_sat.specs.Trails.{AreCovered, AreExplained, AreLevelled, ArePlaced, IsOnBelow, IsSatisfied, IsTrail}
+use Rattle.mcs_sat.specs.Trails.{AreCovered, AreExplained, AreLevelled, ArePlaced, IsOnBelow, IsClauseSatisfied, IsTrail}
 use Rattle.mcs_sat.specs.Pairs.{no_pair}
-use Rattle.mcs_sat.specs.Watching.{AreKept, ArePair, AreWatched, IsFresh, IsKept, IsLong, IsListed, IsOf, IsPaired, IsPushed, IsReached}
+use Rattle.mcs_sat.specs.Watching.{KeepsLists, ArePair, AreWatched, IsFreshPair, AreVisitsKept, IsLong, IsInList, IsOf, IsPaired, IsPushed, IsReached}
 use Rattle.mcs_sat.proofs.KeptLemmas.{first-push, first-same, front-push, front-same, front-take, kept-change, later-push, later-same, later-take, moved-push, moved-same, still-known, still-push, still-same}
 use Rattle.mcs_sat.proofs.LevelLemmas.{decisions-longer, levelled-back, levelled-decide, starts-back, starts-decide}
 use Rattle.mcs_sat.proofs.TrailLemmas.{entry-back, entry-old, explained-back, explained-known, explained-push, placed-back}
@@ -40,7 +40,7 @@ trail-same known t t' entries positions placed is = record {
   explained = subst (AreExplained known) (sym entries) is.explained;
 }
 
-pub watched-same : (known : List (List ℤ)) (w w' : Watches) → AreKept w w' → w'.pairs ≡ w.pairs → w'.short.items ≡ w.short.items → AreWatched known w → AreWatched known w'
+pub watched-same : (known : List (List ℤ)) (w w' : Watches) → KeepsLists w w' → w'.pairs ≡ w.pairs → w'.short.items ≡ w.short.items → AreWatched known w → AreWatched known w'
 watched-same known w w' kept pairs short is = record {
   sized = (let sized = is.sized in omega (arith, ap length pairs));
   paired = λ i c p known' at. is.paired i c p known' (subst (λ (ps : List Pair). slice_get ps i ≡ Some p) pairs at);
@@ -49,7 +49,7 @@ watched-same known w w' kept pairs short is = record {
 }
 
 -- where nothing but memory changed
-pub state-same : (old new : State) → IsState old → new.clauses ≡ old.clauses → new.chains ≡ old.chains → new.trail.entries.items ≡ old.trail.entries.items → length new.trail.positions.items ≡ length old.trail.positions.items → ArePlaced new.trail.entries.items new.trail.positions.items → AreKept old.watches new.watches → new.watches.pairs ≡ old.watches.pairs → new.watches.short.items ≡ old.watches.short.items → new.levels.items ≡ old.levels.items → new.visited ≡ old.visited → new.settled ≡ old.settled → new.kept ≡ old.kept → IsState new
+pub state-same : (old new : State) → IsState old → new.clauses ≡ old.clauses → new.chains ≡ old.chains → new.trail.entries.items ≡ old.trail.entries.items → length new.trail.positions.items ≡ length old.trail.positions.items → ArePlaced new.trail.entries.items new.trail.positions.items → KeepsLists old.watches new.watches → new.watches.pairs ≡ old.watches.pairs → new.watches.short.items ≡ old.watches.short.items → new.levels.items ≡ old.levels.items → new.visited ≡ old.visited → new.settled ≡ old.settled → new.kept ≡ old.kept → IsState new
 state-same old new is clauses chains entries positions placed kept pairs short levels visited settled marked =
     let reached : (r : Reach) → IsReached old.clauses old.watches old.trail.entries.items r → IsReached new.clauses new.watches new.trail.entries.items r = λ r h.
     subst (λ (known : List (List ℤ)). IsReached known new.watches new.trail.entries.items r) (sym clauses) (subst (λ (es : List Entry). IsReached old.clauses new.watches es r) (sym entries) (reached-list old.clauses old.watches new.watches old.trail.entries.items r pairs short h)) in
@@ -67,7 +67,7 @@ state-same old new is clauses chains entries positions placed kept pairs short l
       bounds = λ k r at. let (b, s) = is.bounds k r (subst (λ (ls : List Reach). slice_get ls k ≡ Some r) levels at) in (b, omega (arith, ap length short));
       reached = λ k r at. reached r (is.reached k r (subst (λ (ls : List Reach). slice_get ls k ≡ Some r) levels at));
       now = subst (IsReached new.clauses new.watches new.trail.entries.items) (same-reach old new entries visited settled) (reached (reach_of old) is.now);
-      kept = subst (IsKept new.clauses new.watches new.trail.entries.items new.levels.items) (sym marked)
+      kept = subst (AreVisitsKept new.clauses new.watches new.trail.entries.items new.levels.items) (sym marked)
           (kept-change old.clauses new.clauses old.watches new.watches old.trail.entries.items new.trail.entries.items old.levels.items new.levels.items old.kept (let b = is.kept.count in omega (arith, ap length pairs)) (let b = is.kept.within in omega (arith, ap length entries))
           (later-same old.levels.items new.levels.items old.kept.entries levels is.kept.early) (first-same old.clauses new.clauses old.kept.count clauses) (still-same old.clauses new.clauses old.watches.pairs new.watches.pairs clauses pairs) (moved-same old.kept.count old.watches.pairs new.watches.pairs old.trail.entries.items old.kept.visited pairs) (front-same old.trail.entries.items new.trail.entries.items old.kept.entries entries) is.kept);
     }
@@ -254,16 +254,16 @@ short-longer : (old new : Watches) (o : Option Pair) → IsPushed old new o → 
 short-longer old new (Some p) h = omega (arith, ap length h.1)
 short-longer old new None h = omega (arith, ap length h.1, length_push old.short.items (length old.pairs))
 
-listed-pushed : (old new : Watches) (o : Option Pair) (l : ℤ) → IsPushed old new o → IsLiteral l → IsOf l (get_pair o) → IsListed new.lists l (length old.pairs)
-listed-pushed old new (Some p) l h literal (inl e) = subst (λ (k : ℤ). IsListed new.lists k (length old.pairs)) e h.2
-listed-pushed old new (Some p) l h literal (inr e) = subst (λ (k : ℤ). IsListed new.lists k (length old.pairs)) e h.3
+listed-pushed : (old new : Watches) (o : Option Pair) (l : ℤ) → IsPushed old new o → IsLiteral l → IsOf l (get_pair o) → IsInList new.lists l (length old.pairs)
+listed-pushed old new (Some p) l h literal (inl e) = subst (λ (k : ℤ). IsInList new.lists k (length old.pairs)) e h.2
+listed-pushed old new (Some p) l h literal (inr e) = subst (λ (k : ℤ). IsInList new.lists k (length old.pairs)) e h.3
 listed-pushed old new None l h literal of = absurd (no-pair l literal of)
 
 -- the pair of a clause that was there, or the new one
 pair-at : (old new : Watches) (o : Option Pair) (i : ℕ) (p : Pair) → IsPushed old new o → slice_get new.pairs i ≡ Some p → (slice_get old.pairs i ≡ Some p) ⊎ ((i ≡ length old.pairs) × (p ≡ get_pair o))
 pair-at old new o i p pushed at = slice_get_push_at old.pairs (get_pair o) i p (subst (λ (ps : List Pair). slice_get ps i ≡ Some p) (pairs-pushed old new o pushed) at)
 
-watched-pushed : (known : List (List ℤ)) (c : List ℤ) (old new : Watches) (o : Option Pair) → slice_get known (length old.pairs) ≡ Some c → AreWatched known old → AreKept old new → IsPushed old new o → FitsPair c o → AreWatched known new
+watched-pushed : (known : List (List ℤ)) (c : List ℤ) (old new : Watches) (o : Option Pair) → slice_get known (length old.pairs) ≡ Some c → AreWatched known old → KeepsLists old new → IsPushed old new o → FitsPair c o → AreWatched known new
 watched-pushed known c old new o here is kept pushed fits = record {
   sized = (let less = slice_get_within known (length old.pairs) c here in omega (arith, ap length (pairs-pushed old new o pushed), length_push old.pairs (get_pair o)));
   paired = λ i d p known' at. elim (pair-at old new o i p pushed at) [
@@ -272,7 +272,7 @@ watched-pushed known c old new o here is kept pushed fits = record {
   ];
   listed = λ i p l at literal of. elim (pair-at old new o i p pushed at) [
     | inl at' ↦ kept.listed l i (is.listed i p l at' literal of)
-    | inr (last, same) ↦ subst (λ (n : ℕ). IsListed new.lists l n) (sym last) (listed-pushed old new o l pushed literal (subst (IsOf l) same of))
+    | inr (last, same) ↦ subst (λ (n : ℕ). IsInList new.lists l n) (sym last) (listed-pushed old new o l pushed literal (subst (IsOf l) same of))
   ];
   short = λ i d less known' none. elim (cases_lt i (length old.pairs)) [
     | inl before ↦ short-pushed old new o i pushed (is.short i d before known' none)
@@ -285,11 +285,11 @@ watched-pushed known c old new o here is kept pushed fits = record {
     this : (i : ℕ) (d : List ℤ) → i ≡ length old.pairs → slice_get known i ≡ Some d → c ≡ d
     this i d last at = let both : Some c ≡ Some d = sym here ∙ ap (slice_get known) (sym last) ∙ at in cc
 
-fresh-at : (es : List Entry) (n : ℕ) (o : Option Pair) (l : ℤ) → IsFresh es n o → IsLiteral l → IsOf l (get_pair o) → ¬ IsOnBelow es n (neg_ℤ l)
+fresh-at : (es : List Entry) (n : ℕ) (o : Option Pair) (l : ℤ) → IsFreshPair es n o → IsLiteral l → IsOf l (get_pair o) → ¬ IsOnBelow es n (neg_ℤ l)
 fresh-at es n (Some p) l fresh literal of = fresh l of
 fresh-at es n None l fresh literal of = absurd (no-pair l literal of)
 
-reached-pushed : (known : List (List ℤ)) (old new : Watches) (o : Option Pair) (es : List Entry) (r : Reach) → IsPushed old new o → r.settled ≤ length old.short.items → IsFresh es r.visited o → IsReached known old es r → IsReached known new es r
+reached-pushed : (known : List (List ℤ)) (old new : Watches) (o : Option Pair) (es : List Entry) (r : Reach) → IsPushed old new o → r.settled ≤ length old.short.items → IsFreshPair es r.visited o → IsReached known old es r → IsReached known new es r
 reached-pushed known old new o es r pushed settled fresh is = record {
   visited = λ i d p l known' at literal of off. elim (pair-at old new o i p pushed at) [
     | inl at' ↦ is.visited i d p l known' at' literal of off
@@ -374,8 +374,8 @@ state-added s cs ms c ns is clauses chains clause covered right =
     }
 
 -- the next clause watches the pair, and less may have been visited than before
-pub state-attached : (s : State) (w : Watches) (c : List ℤ) (o : Option Pair) (v : ℕ) → IsState s → slice_get s.clauses (length s.watches.pairs) ≡ Some c → AreKept s.watches w → IsPushed s.watches w o → FitsPair c o
-    → v ≤ s.visited → IsFresh s.trail.entries.items v o → ((k : ℕ) (r : Reach) → slice_get s.levels.items k ≡ Some r → IsFresh s.trail.entries.items r.visited o)
+pub state-attached : (s : State) (w : Watches) (c : List ℤ) (o : Option Pair) (v : ℕ) → IsState s → slice_get s.clauses (length s.watches.pairs) ≡ Some c → KeepsLists s.watches w → IsPushed s.watches w o → FitsPair c o
+    → v ≤ s.visited → IsFreshPair s.trail.entries.items v o → ((k : ℕ) (r : Reach) → slice_get s.levels.items k ≡ Some r → IsFreshPair s.trail.entries.items r.visited o)
     → IsState (record { clauses = s.clauses; chains = s.chains; trail = s.trail; watches = w; levels = s.levels; visited = v; settled = s.settled; kept = s.kept })
 state-attached s w c o v is here kept pushed fits low fresh levels =
     let es : List Entry = s.trail.entries.items in
@@ -414,7 +414,7 @@ state-attached s w c o v is here kept pushed fits low fresh levels =
 
 -- the next clause is satisfied, and watches nothing
 pub state-spared : (s : State) (w : Watches) (c : List ℤ) → IsState s → slice_get s.clauses (length s.watches.pairs) ≡ Some c → w.pairs ≡ s.watches.pairs ++ no_pair ∷ [] → w.lists ≡ s.watches.lists → w.short.items ≡ s.watches.short.items
-    → IsLong c → IsSatisfied s.trail.entries.items c → s.kept.entries ≡ length s.trail.entries.items
+    → IsLong c → IsClauseSatisfied s.trail.entries.items c → s.kept.entries ≡ length s.trail.entries.items
     → IsState (record { clauses = s.clauses; chains = s.chains; trail = s.trail; watches = w; levels = s.levels; visited = s.visited; settled = s.settled; kept = s.kept })
 state-spared s w c is here pairs lists short long satisfied all =
     let es : List Entry = s.trail.entries.items in
@@ -438,7 +438,7 @@ state-spared s w c is here pairs lists short long satisfied all =
         sized = omega arith;
         paired = λ i d p known at. elim (before i p at) [ inl at' ↦ is.watched.paired i d p known at' | inr (last, same) ↦ inl same ];
         listed = λ i p l at literal of. elim (before i p at) [
-          | inl at' ↦ subst (λ (ls : Lists). IsListed ls l i) (sym lists) (is.watched.listed i p l at' literal of)
+          | inl at' ↦ subst (λ (ls : Lists). IsInList ls l i) (sym lists) (is.watched.listed i p l at' literal of)
           | inr (last, same) ↦ absurd (no-pair l literal (subst (IsOf l) same of))
         ];
         short = λ i d less known none. subst (λ (xs : List ℕ). IsAmong i xs) (sym short) (elim (cases_lt i (length s.watches.pairs)) [
@@ -464,7 +464,7 @@ state-spared s w c is here pairs lists short long satisfied all =
         spared = λ i d known at long'. elim (before i no_pair at) [
           | inl at' ↦ is.kept.spared i d known at' long'
           | inr (last, same) ↦
-              let (k, among, (p, less, e)) = subst (IsSatisfied es) (this i d last known) satisfied in
+              let (k, among, (p, less, e)) = subst (IsClauseSatisfied es) (this i d last known) satisfied in
               (k, among, (p, omega arith, e))
         ];
       };
@@ -477,8 +477,8 @@ state-spared s w c is here pairs lists short long satisfied all =
     this i d last at = let both : Some c ≡ Some d = sym here ∙ ap (slice_get s.clauses) (sym last) ∙ at in cc
 
 -- a clause with its chain is added and watches the pair, where each clause before it has its own
-pub state-pushed : (s : State) (cs : List (List ℤ)) (ms : List (List ℕ)) (w : Watches) (c : List ℤ) (ns : List ℕ) (o : Option Pair) (v : ℕ) → IsState s → IsFull s → cs ≡ s.clauses ++ c ∷ [] → ms ≡ s.chains ++ ns ∷ [] → AreKept s.watches w → IsPushed s.watches w o → FitsPair c o → IsClause c → AreCovered s.trail.positions.items c → (ns ≡ []) ⊎ IsChainResolvent s.clauses ns c
-    → v ≤ s.visited → IsFresh s.trail.entries.items v o → ((k : ℕ) (r : Reach) → slice_get s.levels.items k ≡ Some r → IsFresh s.trail.entries.items r.visited o)
+pub state-pushed : (s : State) (cs : List (List ℤ)) (ms : List (List ℕ)) (w : Watches) (c : List ℤ) (ns : List ℕ) (o : Option Pair) (v : ℕ) → IsState s → IsFull s → cs ≡ s.clauses ++ c ∷ [] → ms ≡ s.chains ++ ns ∷ [] → KeepsLists s.watches w → IsPushed s.watches w o → FitsPair c o → IsClause c → AreCovered s.trail.positions.items c → (ns ≡ []) ⊎ IsChainResolvent s.clauses ns c
+    → v ≤ s.visited → IsFreshPair s.trail.entries.items v o → ((k : ℕ) (r : Reach) → slice_get s.levels.items k ≡ Some r → IsFreshPair s.trail.entries.items r.visited o)
     → IsState (record { clauses = cs; chains = ms; trail = s.trail; watches = w; levels = s.levels; visited = v; settled = s.settled; kept = s.kept })
 state-pushed s cs ms w c ns o v is full clauses chains kept pushed fits clause covered right low fresh levels =
     let last : length s.watches.pairs ≡ length s.clauses + 0 = omega (arith, full) in
@@ -493,9 +493,9 @@ fits-each P c (Some p) all fits = (all_among P c p.first all fits.first, all_amo
 pub fits-literals : (c : List ℤ) (o : Option Pair) → IsClause c → FitsPair c o → IfSome o (λ p. IsLiteral p.first × IsLiteral p.second)
 fits-literals c o clause fits = fits-each IsLiteral c o clause.0 fits
 
-pub fresh-none : (es : List Entry) (o : Option Pair) → IsFresh es 0 o
+pub fresh-none : (es : List Entry) (o : Option Pair) → IsFreshPair es 0 o
 fresh-none es None = tt
 fresh-none es (Some p) = λ l of (q, less, on). omega arith
 
-pub fresh-base : (es : List Entry) (levels : List Reach) (o : Option Pair) → levels ≡ [] → (k : ℕ) (r : Reach) → slice_get levels k ≡ Some r → IsFresh es r.visited o
+pub fresh-base : (es : List Entry) (levels : List Reach) (o : Option Pair) → levels ≡ [] → (k : ℕ) (r : Reach) → slice_get levels k ≡ Some r → IsFreshPair es r.visited o
 fresh-base es levels o none k r at = absurd (let less = slice_get_within levels k r at in omega (arith, ap length none))

@@ -8,7 +8,7 @@ use Rattle.mcs_base.proofs.Among.{among_at}
 use Rattle.mcs_base.proofs.Distinct.{covers_below}
 use Rattle.mcs_base.proofs.Numbers.{unsigned_abs-neg_ℤ}
 use Rattle.mcs_trace.specs.Clauses.{IsClause, IsLiteral}
-use Rattle.mcs_trace.specs.Traces.{numbered}
+use Rattle.mcs_trace.specs.Traces.{numbered_clause}
 use Rattle.mcs_trace.proofs.OrderLemmas.{neg_differs}
 use Rattle.mcs_sat.specs.declared.trail.Entry.{Entry}
 use Rattle.mcs_sat.specs.Trails.{literal_at, reason_at, AreAssigned, ArePlaced, StandsAt, StandsNowhere, IsOn, IsOnBelow, IsReason, AreExplained}
@@ -51,7 +51,7 @@ on-back es n k bound (p, less, e) = (p, omega (arith, length-take n es), ap (λ 
 
 -- ---- reasons
 -- what the reason of an implied literal is
-pub reason_of : (known : List (List ℤ)) (es : List Entry) (p : ℕ) → AreExplained known es → p < length es → (reason_at es p ≡ 0 → ⊥) → (c : List ℤ) × (numbered known (reason_at es p) ≡ Some c) × IsReason es p c
+pub reason_of : (known : List (List ℤ)) (es : List Entry) (p : ℕ) → AreExplained known es → p < length es → (reason_at es p ≡ 0 → ⊥) → (c : List ℤ) × (numbered_clause known (reason_at es p) ≡ Some c) × IsReason es p c
 reason_of known es p explained less decided = elim (explained p less) [ inl none ↦ absurd (decided none) | inr found ↦ found ]
 
 reason-same : (es es' : List Entry) (i : ℕ) (c : List ℤ) → ((j : ℕ) → j ≤ i → entry_at es' j ≡ entry_at es j) → IsReason es i c → IsReason es' i c
@@ -67,10 +67,10 @@ reason-same es es' i c same r =
     }
 
 explained-same : (known : List (List ℤ)) (es es' : List Entry) (i : ℕ) → ((j : ℕ) → j ≤ i → entry_at es' j ≡ entry_at es j)
-    → (reason_at es i ≡ 0) ⊎ ((c : List ℤ) × (numbered known (reason_at es i) ≡ Some c) × IsReason es i c)
-    → (reason_at es' i ≡ 0) ⊎ ((c : List ℤ) × (numbered known (reason_at es' i) ≡ Some c) × IsReason es' i c)
+    → (reason_at es i ≡ 0) ⊎ ((c : List ℤ) × (numbered_clause known (reason_at es i) ≡ Some c) × IsReason es i c)
+    → (reason_at es' i ≡ 0) ⊎ ((c : List ℤ) × (numbered_clause known (reason_at es' i) ≡ Some c) × IsReason es' i c)
 explained-same known es es' i same (inl e) = inl (ap (λ (x : Entry). x.reason) (same i (omega arith)) ∙ e)
-explained-same known es es' i same (inr (c, e, r)) = inr (c, ap (λ (x : Entry). numbered known x.reason) (same i (omega arith)) ∙ e, reason-same es es' i c same r)
+explained-same known es es' i same (inr (c, e, r)) = inr (c, ap (λ (x : Entry). numbered_clause known x.reason) (same i (omega arith)) ∙ e, reason-same es es' i c same r)
 
 pub explained-back : (known : List (List ℤ)) (es : List Entry) (n : ℕ) → AreExplained known es → AreExplained known (take n es)
 explained-back known es n h i less =
@@ -80,7 +80,7 @@ explained-back known es n h i less =
 
 -- what an entry with a reason has
 abbrev pub IsForced : List (List ℤ) → List Entry → Entry → Type 0
-IsForced known es e = (c : List ℤ) × (numbered known e.reason ≡ Some c) × IsClause c × IsAmong e.literal c × ((k : ℤ) → IsAmong k c → (k ≡ e.literal) ⊎ IsOn es (neg_ℤ k))
+IsForced known es e = (c : List ℤ) × (numbered_clause known e.reason ≡ Some c) × IsClause c × IsAmong e.literal c × ((k : ℤ) → IsAmong k c → (k ≡ e.literal) ⊎ IsOn es (neg_ℤ k))
 
 pub explained-push : (known : List (List ℤ)) (es : List Entry) (e : Entry) → AreExplained known es → (e.reason ≡ 0) ⊎ IsForced known es e → AreExplained known (es ++ e ∷ [])
 explained-push known es e h new i less = elim (cases_lt i (length es)) [
@@ -88,14 +88,14 @@ explained-push known es e h new i less = elim (cases_lt i (length es)) [
   | inr past ↦ last i (omega (arith, length_push es e)) new
 ]
   where
-    last : (i : ℕ) → i ≡ length es → (e.reason ≡ 0) ⊎ IsForced known es e → (reason_at (es ++ e ∷ []) i ≡ 0) ⊎ ((c : List ℤ) × (numbered known (reason_at (es ++ e ∷ []) i) ≡ Some c) × IsReason (es ++ e ∷ []) i c)
+    last : (i : ℕ) → i ≡ length es → (e.reason ≡ 0) ⊎ IsForced known es e → (reason_at (es ++ e ∷ []) i ≡ 0) ⊎ ((c : List ℤ) × (numbered_clause known (reason_at (es ++ e ∷ []) i) ≡ Some c) × IsReason (es ++ e ∷ []) i c)
     last i at (inl none) = inl (ap (reason_at (es ++ e ∷ [])) at ∙ ap (λ (x : Entry). x.reason) (entry-new es e) ∙ none)
     last i at (inr (c, is, clause, has, others)) =
         let same : entry_at (es ++ e ∷ []) i ≡ e = ap (entry_at (es ++ e ∷ [])) at ∙ entry-new es e in
         let here : literal_at (es ++ e ∷ []) i ≡ e.literal = ap (λ (x : Entry). x.literal) same in
         inr (
           c,
-          ap (λ (x : Entry). numbered known x.reason) same ∙ is,
+          ap (λ (x : Entry). numbered_clause known x.reason) same ∙ is,
           record {
             clause = clause;
             has = subst (λ (l : ℤ). IsAmong l c) (sym here) has;

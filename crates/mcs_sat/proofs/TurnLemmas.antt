@@ -18,7 +18,7 @@ use Rattle.mcs_sat.specs.declared.watches.Watches.{Watches}
 use Rattle.mcs_sat.specs.Learning.{IsLatest, IsSingle}
 use Rattle.mcs_sat.specs.States.{AreStarts, IsFull, IsLastLevel, IsState, IsTurn}
 use Rattle.mcs_sat.specs.Trails.{AreCovered, AreLevelled, ArePlaced, IsFalse, IsOnBelow, literal_at}
-use Rattle.mcs_sat.specs.Watching.{AreKept, IsFresh, IsLong, IsPushed}
+use Rattle.mcs_sat.specs.Watching.{KeepsLists, IsFreshPair, IsLong, IsPushed}
 use Rattle.mcs_sat.proofs.LatestLemmas.{covered-false}
 use Rattle.mcs_sat.proofs.TrailLemmas.{same_place}
 use Rattle.mcs_sat.proofs.LevelLemmas.{below-start}
@@ -93,19 +93,19 @@ turn-fits es ps c m turn placed clause is (none, others) = elim (cases_lt 0 m.ot
 ]
 
 -- neither of the two was false among the first n, where the latest place comes later and the other place is not among them
-pub turn-fresh : (es : List Entry) (ps : List ℕ) (m : Latest) (turn : Turn) (n k : ℕ) → ArePlaced es ps → m.place < length es → m.others ≤ m.place → IsTurn es m turn → n ≤ k → k ≤ m.place → (0 < m.others → n ≤ m.others - 1) → IsFresh (take k es) n turn.pair
+pub turn-fresh : (es : List Entry) (ps : List ℕ) (m : Latest) (turn : Turn) (n k : ℕ) → ArePlaced es ps → m.place < length es → m.others ≤ m.place → IsTurn es m turn → n ≤ k → k ≤ m.place → (0 < m.others → n ≤ m.others - 1) → IsFreshPair (take k es) n turn.pair
 turn-fresh es ps m turn n k placed here before (none, others) low high early = elim (cases_lt 0 m.others) [
-  | inl there ↦ subst (IsFresh (take k es) n) (sym (others there).2) (λ l of off. elim of [
+  | inl there ↦ subst (IsFreshPair (take k es) n) (sym (others there).2) (λ l of off. elim of [
     | inl e ↦ let late = below-at es ps n m.place placed (omega arith) here (take-below es n k (neg_ℤ (neg_ℤ (literal_at es m.place))) low (subst (λ (x : ℤ). IsOnBelow (take k es) n (neg_ℤ x)) (sym e) off)) in omega arith
     | inr e ↦ let late = below-at es ps n (m.others - 1) placed (omega arith) (omega arith) (take-below es n k (neg_ℤ (neg_ℤ (literal_at es (m.others - 1)))) low (subst (λ (x : ℤ). IsOnBelow (take k es) n (neg_ℤ x)) (sym e) off)) in let b = early there in omega arith
   ])
-  | inr empty ↦ subst (IsFresh (take k es) n) (sym (none (omega arith)).2) tt
+  | inr empty ↦ subst (IsFreshPair (take k es) n) (sym (none (omega arith)).2) tt
 ]
 
 -- a clause is learnt, and the levels above its own are taken back
 pub state-learnt : (s : State) (t : Trail) (ls : Vec Reach Global) (cs : List (List ℤ)) (ms : List (List ℕ)) (w : Watches) (c : List ℤ) (ns : List ℕ) (m : Latest) (turn : Turn) (r : Reach) (v : ℕ) → IsState s → IsClause c → IsFalse s.trail.entries.items c → IsChainResolvent s.clauses ns c → ((q : Reach) → IsLastLevel s.levels.items q → IsSingle s.trail.entries.items q.entries c) → 0 < length s.levels.items
     → IsLatest s.trail.entries.items c m → IsTurn s.trail.entries.items m turn → slice_get s.levels.items turn.level ≡ Some r
-    → IsFull s → cs ≡ s.clauses ++ c ∷ [] → ms ≡ s.chains ++ ns ∷ [] → AreKept s.watches w → IsPushed s.watches w turn.pair
+    → IsFull s → cs ≡ s.clauses ++ c ∷ [] → ms ≡ s.chains ++ ns ∷ [] → KeepsLists s.watches w → IsPushed s.watches w turn.pair
     → t.entries.items ≡ take r.entries s.trail.entries.items → t.positions.items ≡ s.trail.positions.items → ls.items ≡ take turn.level s.levels.items → v ≤ r.visited → v ≤ turn.place
     → IsState (record { clauses = cs; chains = ms; trail = t; watches = w; levels = ls; visited = v; settled = r.settled; kept = s.kept })
 state-learnt s t ls cs ms w c ns m turn r v is clause all_false right single some is-latest is-turn at full clauses chains kept pushed entries positions levels low low' =
@@ -119,12 +119,12 @@ state-learnt s t ls cs ms w c ns m turn r v is clause all_false right single som
     let before : AreCovered ps c = covered-false es ps c placed all_false in
     state-pushed (record { clauses = s.clauses; chains = s.chains; trail = t; watches = s.watches; levels = ls; visited = r.visited; settled = r.settled; kept = s.kept }) cs ms w c ns turn.pair v
     (state-back s t ls turn.level r is at entries positions levels) full clauses chains kept pushed (turn-fits es ps c m turn placed clause is-latest is-turn) clause (subst (λ (xs : List ℕ). AreCovered xs c) (sym positions) before) (inr right) low
-    (subst (λ (xs : List Entry). IsFresh xs v turn.pair) (sym entries) (turn-fresh es ps m turn v r.entries placed is-latest.here is-latest.before is-turn (omega arith) (omega arith) (λ there. let other = (is-turn.1 there).1 in omega arith)))
+    (subst (λ (xs : List Entry). IsFreshPair xs v turn.pair) (sym entries) (turn-fresh es ps m turn v r.entries placed is-latest.here is-latest.before is-turn (omega arith) (omega arith) (λ there. let other = (is-turn.1 there).1 in omega arith)))
     (λ j q at'.
     let (less, here) = slice_get_take turn.level s.levels.items j q (subst (λ (xs : List Reach). slice_get xs j ≡ Some q) levels at') in
     let (bound, n) = is.bounds j q here in
     let earlier = starts-order es s.levels.items j turn.level q r is.starts less here at in
-    subst (λ (xs : List Entry). IsFresh xs q.visited turn.pair) (sym entries) (turn-fresh es ps m turn q.visited r.entries placed is-latest.here is-latest.before is-turn (omega arith) (omega arith)
+    subst (λ (xs : List Entry). IsFreshPair xs q.visited turn.pair) (sym entries) (turn-fresh es ps m turn q.visited r.entries placed is-latest.here is-latest.before is-turn (omega arith) (omega arith)
     (λ there. elim (cases_lt (m.others - 1) q.visited) [
       | inl below ↦ absurd (let at-level = (is-turn.1 there).0 in let bound' = below-start es s.levels.items j (m.others - 1) q is.levelled is.starts here (omega arith) in omega arith)
       | inr above ↦ above

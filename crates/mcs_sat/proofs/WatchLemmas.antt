@@ -20,8 +20,8 @@ use Rattle.mcs_sat.specs.declared.watches.Pair.{Pair}
 use Rattle.mcs_sat.specs.declared.watches.Watches.{Watches}
 use Rattle.mcs_sat.specs.Lists.{list_at}
 use Rattle.mcs_sat.specs.Pairs.{no_pair}
-use Rattle.mcs_sat.specs.Trails.{Grows, IsOn, IsOnBelow, IsSatisfied, IsSatisfiedBelow, literal_at}
-use Rattle.mcs_sat.specs.Watching.{AreMoved, ArePair, AreSpared, AreVisited, AreWatched, IsListed, IsLong, IsOf, IsPaired, IsPairOf, IsReached}
+use Rattle.mcs_sat.specs.Trails.{GrowsOnLevel, IsOn, IsOnBelow, IsClauseSatisfied, IsSatisfiedBelow, literal_at}
+use Rattle.mcs_sat.specs.Watching.{AreMoved, ArePair, AreSpared, AreVisited, AreWatched, IsInList, IsLong, IsOf, IsPaired, IsPairOf, IsReached}
 use Rattle.mcs_sat.proofs.GrowLemmas.{entry-grown, grows-longer, satisfied-grown}
 use Rattle.mcs_sat.proofs.TrailLemmas.{below-same}
 
@@ -41,22 +41,22 @@ module _ {A : Type 0} where
 -- ---- lists
 -- one more in the list of a place
 module _ (old new : Lists) (p index : ℕ) (more : list_at new p ≡ list_at old p ++ index ∷ []) (others : (q : ℕ) → q ≢ p → list_at new q ≡ list_at old q) where
-  pub listed-kept : (l : ℤ) (i : ℕ) → IsListed old l i → IsListed new l i
+  pub listed-kept : (l : ℤ) (i : ℕ) → IsInList old l i → IsInList new l i
   listed-kept l i listed = elim (cases_eq (place l) p) [
     | inl here ↦ subst (IsAmong i) (sym (ap (list_at new) here ∙ more)) ((among_push i (list_at old p) index).1 (inl (subst (λ (q : ℕ). IsAmong i (list_at old q)) here listed)))
     | inr differ ↦ subst (IsAmong i) (sym (others (place l) differ)) listed
   ]
 
-  pub listed-more : (l : ℤ) → place l ≡ p → IsListed new l index
+  pub listed-more : (l : ℤ) → place l ≡ p → IsInList new l index
   listed-more l here = subst (IsAmong index) (sym (ap (list_at new) here ∙ more)) ((among_push index (list_at old p) index).1 (inr refl))
 
 -- the same lists
-pub listed-same : (old new : Lists) → ((p : ℕ) → list_at new p ≡ list_at old p) → (l : ℤ) (i : ℕ) → IsListed old l i → IsListed new l i
+pub listed-same : (old new : Lists) → ((p : ℕ) → list_at new p ≡ list_at old p) → (l : ℤ) (i : ℕ) → IsInList old l i → IsInList new l i
 listed-same old new same l i = subst (IsAmong i) (sym (same (place l)))
 
 -- one more, or the same
 pub listed-after : {E : Type 0} (r : Result (Unit {0}) E) (old new : Lists) (p index : ℕ) → OnOk r (list_at new p ≡ list_at old p ++ index ∷ []) → OnErr r ((q : ℕ) → list_at new q ≡ list_at old q) → ((q : ℕ) → q ≢ p → list_at new q ≡ list_at old q)
-    → (l : ℤ) (i : ℕ) → IsListed old l i → IsListed new l i
+    → (l : ℤ) (i : ℕ) → IsInList old l i → IsInList new l i
 listed-after (Ok done) old new p index more same others = listed-kept old new p index more others
 listed-after (Err error) old new p index more same others = listed-same old new same
 
@@ -113,7 +113,7 @@ watched_at known w i watched less = slice_get_below known i (let sized = watched
 
 -- ---- lists that grow
 pub watched-list : (known : List (List ℤ)) (w w' : Watches) → AreWatched known w → w'.pairs ≡ w.pairs → w'.short.items ≡ w.short.items
-    → ((l : ℤ) (i : ℕ) → IsListed w.lists l i → IsListed w'.lists l i) → AreWatched known w'
+    → ((l : ℤ) (i : ℕ) → IsInList w.lists l i → IsInList w'.lists l i) → AreWatched known w'
 watched-list known w w' watched pairs short kept = record {
   sized = (let sized = watched.sized in omega (arith, ap length pairs));
   paired = λ i c p is at. watched.paired i c p is (sym (ap (λ (ps : List Pair). slice_get ps i) pairs) ∙ at);
@@ -136,7 +136,7 @@ module _ (known : List (List ℤ)) (w w' : Watches) (i : ℕ) (c : List ℤ) (q 
     | inr differ ↦ inr (sym (slice_get-set_other w.pairs i j q differ) ∙ sym (ap (λ (ps : List Pair). slice_get ps j) pairs) ∙ at)
   ]
 
-  pub watched-move : AreWatched known w → w'.lists ≡ w.lists → ArePair c q → ((l : ℤ) → IsLiteral l → IsOf l q → IsListed w.lists l i) → AreWatched known w'
+  pub watched-move : AreWatched known w → w'.lists ≡ w.lists → ArePair c q → ((l : ℤ) → IsLiteral l → IsOf l q → IsInList w.lists l i) → AreWatched known w'
   watched-move watched lists two listed = record {
     sized = (let sized = watched.sized in omega (arith, ap length pairs, length-set w.pairs i q));
     paired = λ j d p is' at. elim (pair_cases j p at) [
@@ -146,8 +146,8 @@ module _ (known : List (List ℤ)) (w w' : Watches) (i : ℕ) (c : List ℤ) (q 
           subst (λ (x : List ℤ). IsPaired x p) same (subst (IsPaired c) (sym e') (inr two))
       | inr old ↦ watched.paired j d p is' old
     ];
-    listed = λ j p l at literal of. subst (λ (ls : Lists). IsListed ls l j) (sym lists) (elim (pair_cases j p at) [
-      | inl (e, e') ↦ subst (IsListed w.lists l) (sym e) (listed l literal (subst (IsOf l) e' of))
+    listed = λ j p l at literal of. subst (λ (ls : Lists). IsInList ls l j) (sym lists) (elim (pair_cases j p at) [
+      | inl (e, e') ↦ subst (IsInList w.lists l) (sym e) (listed l literal (subst (IsOf l) e' of))
       | inr old ↦ watched.listed j p l old literal of
     ]);
     short = λ j d less is' few. subst (IsAmong j) (sym short) (watched.short j d (omega (arith, ap length pairs, length-set w.pairs i q)) is' few);
@@ -188,11 +188,11 @@ gone-move pairs i q l none p at of = none (subst (IsOf l) (slice_get_set pairs i
 -- ---- a list that is gone through
 -- the clauses of the first indices in the list are satisfied
 abbrev pub ArePassed : List (List ℤ) → List ℕ → List Entry → ℕ → Type 0
-ArePassed known list es at = (j i : ℕ) (c : List ℤ) → j < at → slice_get list j ≡ Some i → slice_get known i ≡ Some c → IsSatisfied es c
+ArePassed known list es at = (j i : ℕ) (c : List ℤ) → j < at → slice_get list j ≡ Some i → slice_get known i ≡ Some c → IsClauseSatisfied es c
 
-module _ (known : List (List ℤ)) (list list' : List ℕ) (level : ℕ) (es es' : List Entry) (at : ℕ) (grows : Grows level es es') (passed : ArePassed known list es at) where
+module _ (known : List (List ℤ)) (list list' : List ℕ) (level : ℕ) (es es' : List Entry) (at : ℕ) (grows : GrowsOnLevel level es es') (passed : ArePassed known list es at) where
   -- the clause of the index at the place is satisfied too
-  pub passed-more : list' ≡ list → (index : ℕ) → slice_get list at ≡ Some index → ((c : List ℤ) → slice_get known index ≡ Some c → IsSatisfied es' c) → ArePassed known list' es' (at + 1)
+  pub passed-more : list' ≡ list → (index : ℕ) → slice_get list at ≡ Some index → ((c : List ℤ) → slice_get known index ≡ Some c → IsClauseSatisfied es' c) → ArePassed known list' es' (at + 1)
   passed-more same index here satisfied j i c less at' known-is =
       let was : slice_get list j ≡ Some i = sym (ap (λ (xs : List ℕ). slice_get xs j) same) ∙ at' in
       elim (cases_lt j at) [
@@ -246,7 +246,7 @@ visited-all known w es l p at watched literal place-is all passed i c q known-is
 
 -- ---- a trail that grows
 -- what was true below a place within the first trail
-below-grown : (level : ℕ) (es es' : List Entry) (n : ℕ) (k : ℤ) → Grows level es es' → n ≤ length es → IsOnBelow es n k ↔ IsOnBelow es' n k
+below-grown : (level : ℕ) (es es' : List Entry) (n : ℕ) (k : ℤ) → GrowsOnLevel level es es' → n ≤ length es → IsOnBelow es n k ↔ IsOnBelow es' n k
 below-grown level es es' n k grows bound = (
   below-same es es' n k (λ j less. entry-grown level es es' j grows (omega arith)),
   below-same es' es n k (λ j less. sym (entry-grown level es es' j grows (omega arith))),
@@ -263,7 +263,7 @@ below_end es n k literal (p, less, e) = elim (cases_lt p (length es)) [
       absurd (omega arith)
 ]
 
-module _ (known : List (List ℤ)) (level : ℕ) (es es' : List Entry) (clauses : AllByRecursion IsClause known) (grows : Grows level es es') (r : Reach) (bound : r.visited ≤ length es) where
+module _ (known : List (List ℤ)) (level : ℕ) (es es' : List Entry) (clauses : AllByRecursion IsClause known) (grows : GrowsOnLevel level es es') (r : Reach) (bound : r.visited ≤ length es) where
   -- the part of what was reached that stands on the first trail
   abbrev front : Reach
   front = record { entries = min r.entries (length es); visited = r.visited; settled = r.settled }
@@ -293,7 +293,7 @@ module _ (known : List (List ℤ)) (level : ℕ) (es es' : List Entry) (clauses 
       }
 
 -- ---- how far it has come now
-pub reached-grown : (known : List (List ℤ)) (w : Watches) (level : ℕ) (es es' : List Entry) (visited settled : ℕ) → Grows level es es' → visited ≤ length es
+pub reached-grown : (known : List (List ℤ)) (w : Watches) (level : ℕ) (es es' : List Entry) (visited settled : ℕ) → GrowsOnLevel level es es' → visited ≤ length es
     → IsReached known w es (record { entries = length es; visited = visited; settled = settled }) → IsReached known w es' (record { entries = length es'; visited = visited; settled = settled })
 reached-grown known w level es es' visited settled grows bound h = record {
   visited = λ i c p l is at literal of below. satisfied-grown level es es' c grows (h.visited i c p l is at literal of ((below-grown level es es' visited (neg_ℤ l) grows bound).1 below));

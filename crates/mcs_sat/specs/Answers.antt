@@ -12,9 +12,9 @@ assignment_of values zero = false
 assignment_of values (suc n) = get_or values n false
 
 -- a model has a value for each variable and satisfies all clauses; else a trace refutes them
-abbrev pub IsAnswer : ClauseList → Outcome → Type 0
-IsAnswer f (Model values) = (vec_len values ≡ f.vars) × IsTrue (all_hold (assignment_of values.items) f.clauses)
-IsAnswer f (Refuted trace) = IsAcceptedTrace f.clauses (inferences_of trace)
+abbrev pub IsSatAnswer : ClauseList → Outcome → Type 0
+IsSatAnswer f (Model values) = (vec_len values ≡ f.vars) × IsTrue (all_hold (assignment_of values.items) f.clauses)
+IsSatAnswer f (Refuted trace) = IsAcceptedTrace f.clauses (inferences_of trace)
 
 -- refuted exactly where no assignment satisfies the clauses
 abbrev pub IsExact : ClauseList → Outcome → Type 0
@@ -22,6 +22,6 @@ IsExact f (Model values) = ¬ IsUnsatisfiable f.clauses
 IsExact f (Refuted trace) = IsUnsatisfiable f.clauses
 
 -- an assignment with a value for each variable that satisfies all clauses; or none, exactly where there is none
-abbrev pub IsSettled : ClauseList → Option (Vec Bool Global) → Type 0
-IsSettled f None = IsUnsatisfiable f.clauses
-IsSettled f (Some values) = (vec_len values ≡ f.vars) × IsTrue (all_hold (assignment_of values.items) f.clauses)
+abbrev pub IsSettledAnswer : ClauseList → Option (Vec Bool Global) → Type 0
+IsSettledAnswer f None = IsUnsatisfiable f.clauses
+IsSettledAnswer f (Some values) = (vec_len values ≡ f.vars) × IsTrue (all_hold (assignment_of values.items) f.clauses)

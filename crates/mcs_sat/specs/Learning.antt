@@ -2,15 +2,15 @@
 use Rattle.std.specs.Prelude.{◌≡◌, ℕ, ◌+◌, ◌-◌, ◌<◌, ◌≤◌, ◌⊎◌, List, ◌++◌, ℤ, neg_ℤ, length, Some}
 use Rattle.std.specs.List.{AllByRecursion}
 use Rattle.mcs_base.specs.Listings.{IsAmong}
-use Rattle.mcs_trace.specs.Traces.{IsChainResolvent, numbered}
+use Rattle.mcs_trace.specs.Traces.{IsChainResolvent, numbered_clause}
 use Rattle.mcs_trace.specs.declared.trace.Step.{Step}
 use Rattle.mcs_sat.specs.declared.latest.Latest.{Latest}
 use Rattle.mcs_sat.specs.declared.trail.Entry.{Entry}
 use Rattle.mcs_sat.specs.Trails.{IsFalse, IsFalseBelow, IsOnBelow, IsReason, literal_at, reason_at}
 
 -- the latest place is the new one, or as before
-abbrev pub IsJoined : Latest → ℕ → Latest → Type 0
-IsJoined l place new =
+abbrev pub IsLatestOf : Latest → ℕ → Latest → Type 0
+IsLatestOf l place new =
     ((l.place < place) × (new.place ≡ place) × (new.others ≡ l.place + 1))
     ⊎ (((place ≡ l.place) ⊎ (place < l.others)) × (new ≡ l))
     ⊎ ((place < l.place) × (l.others ≤ place) × (new.place ≡ l.place) × (new.others ≡ place + 1))
@@ -33,7 +33,7 @@ IsLate entries start c = (IsFalseBelow entries start c → ⊥) ⊎ (length entr
 
 -- the clause of the number is the reason of a literal made true
 abbrev pub IsReasonNumbered : List (List ℤ) → List Entry → ℕ → Type 0
-IsReasonNumbered known entries n = (p : ℕ) × (p < length entries) × ((c : List ℤ) × (numbered known n ≡ Some c) × IsReason entries p c)
+IsReasonNumbered known entries n = (p : ℕ) × (p < length entries) × ((c : List ℤ) × (numbered_clause known n ≡ Some c) × IsReason entries p c)
 
 -- the chain goes on with the numbers of reasons
 pub record GoesOnByReasons (known : List (List ℤ)) (entries : List Entry) (old new : List ℕ) : Type 0 where

@@ -6,8 +6,8 @@ use Rattle.mcs_trace.specs.Traces.{IsChainResolvent}
 use Rattle.mcs_sat.specs.declared.trail.Entry.{Entry}
 use Rattle.mcs_sat.specs.Trails.{IsFalse, literal_at}
 
-abbrev pub IsMarked : List Bool → ℕ → Type 0
-IsMarked marks p = IsTrue (get_or marks p false)
+abbrev pub IsVariableMarked : List Bool → ℕ → Type 0
+IsVariableMarked marks p = IsTrue (get_or marks p false)
 
 -- the variable of the literal at the place is one of the clause
 abbrev pub IsMetAt : List Entry → List ℤ → ℕ → Type 0
@@ -18,7 +18,7 @@ pub record IsMarking (entries : List Entry) (marks : List Bool) (c : List ℤ) :
   pub sized : length marks ≡ length entries
   pub clause : IsClause c
   pub all_false : IsFalse entries c
-  pub exactly : (p : ℕ) → p < length entries → IsMarked marks p ↔ IsAmong (neg_ℤ (literal_at entries p)) c
+  pub exactly : (p : ℕ) → p < length entries → IsVariableMarked marks p ↔ IsAmong (neg_ℤ (literal_at entries p)) c
 
 -- the chain gives the clause of the marks
 pub record IsMarkedChain (known : List (List ℤ)) (entries : List Entry) (chain : List ℕ) (marks : List Bool) : Type 0 where
@@ -28,27 +28,27 @@ pub record IsMarkedChain (known : List (List ℤ)) (entries : List Entry) (chain
 
 -- a place from the one up to below the other is marked
 abbrev pub IsMarkedWithin : List Bool → ℕ → ℕ → Type 0
-IsMarkedWithin marks from to = (p : ℕ) × (from ≤ p) × (p < to) × IsMarked marks p
+IsMarkedWithin marks from to = (p : ℕ) × (from ≤ p) × (p < to) × IsVariableMarked marks p
 
 -- none is
-abbrev pub AreFree : List Bool → ℕ → ℕ → Type 0
-AreFree marks from to = (p : ℕ) → from ≤ p → p < to → ¬ IsMarked marks p
+abbrev pub AreUnmarked : List Bool → ℕ → ℕ → Type 0
+AreUnmarked marks from to = (p : ℕ) → from ≤ p → p < to → ¬ IsVariableMarked marks p
 
 -- one place alone from the one on is marked
 pub record IsSingleMark (start : ℕ) (marks : List Bool) : Type 0 where
   pub place : ℕ
   pub late : start ≤ place
   pub within : place < length marks
-  pub marked : IsMarked marks place
-  pub only : (p : ℕ) → start ≤ p → p < length marks → IsMarked marks p → p ≡ place
+  pub marked : IsVariableMarked marks place
+  pub only : (p : ℕ) → start ≤ p → p < length marks → IsVariableMarked marks p → p ≡ place
 
 -- the place is marked no more, those after it are as before, and of those before it some more may be
 pub record IsTakenOff (old new : List Bool) (place : ℕ) : Type 0 where
   pub sized : length new ≡ length old
-  pub kept : (p : ℕ) → p ≢ place → IsMarked old p → IsMarked new p
-  pub above : (p : ℕ) → place < p → p < length old → IsMarked new p → IsMarked old p
-  pub gone : ¬ IsMarked new place
+  pub kept : (p : ℕ) → p ≢ place → IsVariableMarked old p → IsVariableMarked new p
+  pub above : (p : ℕ) → place < p → p < length old → IsVariableMarked new p → IsVariableMarked old p
+  pub gone : ¬ IsVariableMarked new place
 
 -- the literal is the negation of one at a marked place below the number
 abbrev pub IsOfMarks : List Entry → List Bool → ℕ → ℤ → Type 0
-IsOfMarks entries marks n k = (p : ℕ) × (p < n) × IsMarked marks p × (k ≡ neg_ℤ (literal_at entries p))
+IsOfMarks entries marks n k = (p : ℕ) × (p < n) × IsVariableMarked marks p × (k ≡ neg_ℤ (literal_at entries p))

@@ -1,7 +1,7 @@
 -- The trace that a store of clauses gives: the clauses that were given first, then the steps that are named, by it or by a step that is, each with the number that it has there.
 use Rattle.std.specs.Prelude.{◌≡◌, ℕ, ◌+◌, ◌-◌, ◌<◌, ◌≤◌, ◌⊎◌, List, [], ◌∷◌, ◌++◌, ℤ, Bool, true, false, IsTrue, length, map, take, get_or, Some, slice_get}
 use Rattle.mcs_base.specs.Listings.{IsAmong}
-use Rattle.mcs_trace.specs.Traces.{AreRightSteps, clauses_of, inference_of, numbered}
+use Rattle.mcs_trace.specs.Traces.{AreRightSteps, clauses_of, inference_of, numbered_clause}
 use Rattle.mcs_trace.specs.declared.trace.Step.{Step}
 use Rattle.mcs_sat.specs.declared.trace.Numbering.{Numbering}
 use Rattle.mcs_sat.specs.Stores.{given, given_count}
@@ -19,8 +19,8 @@ abbrev pub AreMarked : List Bool → List ℕ → Type 0
 AreMarked needed numbers = (n : ℕ) → IsAmong n numbers → IsTrue (get_or needed (n - 1) false)
 
 -- from the index on, where a clause is marked, so are those that its chain names
-abbrev pub AreNamed : List (List ℕ) → List Bool → ℕ → Type 0
-AreNamed chains needed from = (i : ℕ) (ns : List ℕ) → from ≤ i → slice_get chains i ≡ Some ns → IsTrue (get_or needed i false) → AreMarked needed ns
+abbrev pub AreChainsMarked : List (List ℕ) → List Bool → ℕ → Type 0
+AreChainsMarked chains needed from = (i : ℕ) (ns : List ℕ) → from ≤ i → slice_get chains i ≡ Some ns → IsTrue (get_or needed i false) → AreMarked needed ns
 
 -- the new number of a clause
 abbrev pub number_now : List ℕ → ℕ → ℕ
@@ -40,4 +40,4 @@ pub record IsNumbering (known : List (List ℤ)) (chains : List (List ℕ)) (nee
   pub few : n.given + length n.steps.items ≤ i
   pub right : AreRightSteps (given known chains) (map inference_of n.steps.items)
   pub named : (j : ℕ) (c : List ℤ) (ns : List ℕ) → j < i → slice_get known j ≡ Some c → slice_get chains j ≡ Some ns → (ns ≡ []) ⊎ IsTrue (get_or needed j false)
-      → numbered (given known chains ++ clauses_of n.steps.items) (get_or n.numbers.items j 0) ≡ Some c
+      → numbered_clause (given known chains ++ clauses_of n.steps.items) (get_or n.numbers.items j 0) ≡ Some c

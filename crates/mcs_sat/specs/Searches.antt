@@ -7,13 +7,13 @@ use Rattle.mcs_sat.specs.declared.state.Reach.{Reach}
 use Rattle.mcs_sat.specs.declared.state.State.{State}
 use Rattle.mcs_sat.specs.declared.trail.Entry.{Entry}
 use Rattle.mcs_sat.specs.States.{IsFull, IsState}
-use Rattle.mcs_sat.specs.Trails.{IsFalseAt, IsOpen, IsSatisfied}
+use Rattle.mcs_sat.specs.Trails.{IsFalseAt, IsOpen, IsClauseSatisfied}
 
 -- where a level began each clause had a true literal, or two that were free
 abbrev pub AreOpenBelow : State → Type 0
 AreOpenBelow s = (k : ℕ) (r : Reach) → slice_get s.levels.items k ≡ Some r → AllByRecursion (IsOpen (take r.entries s.trail.entries.items)) s.clauses
 
-pub record IsSearch (s : State) : Type 0 where
+pub record IsSatSearch (s : State) : Type 0 where
   pub state : IsState s
   pub full : IsFull s
   pub before : AreOpenBelow s
@@ -36,10 +36,10 @@ work_of s = work_left (length s.trail.positions.items) s.trail.entries.items
 -- a turn was taken, with less left to do and what the run of unit clauses came to; or all clauses are satisfied; or the clause of the index is false though nothing was decided
 abbrev pub IsTurned : State → State → Turn → Type 0
 IsTurned old new (turn.Goes found) = IsRun new found × (work_of new < work_of old)
-IsTurned old new turn.Satisfied = AllByRecursion (IsSatisfied new.trail.entries.items) new.clauses
+IsTurned old new turn.Satisfied = AllByRecursion (IsClauseSatisfied new.trail.entries.items) new.clauses
 IsTurned old new (turn.Refuted i) = IsFalseAt new.clauses new.trail.entries.items i × (new.levels.items ≡ [])
 
 -- all clauses are satisfied; or the clause of the index is false though nothing was decided
 abbrev pub IsEnd : State → Option ℕ → Type 0
-IsEnd s None = AllByRecursion (IsSatisfied s.trail.entries.items) s.clauses
+IsEnd s None = AllByRecursion (IsClauseSatisfied s.trail.entries.items) s.clauses
 IsEnd s (Some i) = IsFalseAt s.clauses s.trail.entries.items i × (s.levels.items ≡ [])

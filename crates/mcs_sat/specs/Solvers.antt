@@ -3,7 +3,7 @@ use Rattle.std.specs.Prelude.{◌≡◌, ◌≢◌, ℕ, suc, ◌-◌, ◌<◌, 
 use Rattle.std.specs.List.{AllByRecursion, flat_map}
 use Rattle.mcs_base.specs.Listings.{IsAmong}
 use Rattle.mcs_trace.specs.Clauses.{IsClauseList}
-use Rattle.mcs_trace.specs.Traces.{numbered, IsChainResolvent}
+use Rattle.mcs_trace.specs.Traces.{numbered_clause, IsChainResolvent}
 use Rattle.mcs_trace.specs.declared.trace.Step.{Step}
 
 -- the clauses over the variables 1 to `vars`, those of the list and those that were learnt; the literals made true: level 0 has those made true before any decision, each other level begins with a decision
@@ -81,12 +81,12 @@ pub record GoesOn (old new : List (List ℤ)) (more : List ℤ) : Type 0 where
 
 -- the clause of the number is false
 abbrev pub IsFalseNumber : SolverView → ℕ → Type 0
-IsFalseNumber s n = (c : List ℤ) × (numbered s.clauses n ≡ Some c) × IsFalseUnder (trues s) c
+IsFalseNumber s n = (c : List ℤ) × (numbered_clause s.clauses n ≡ Some c) × IsFalseUnder (trues s) c
 
 -- the clause of the number has a literal made true, and its other literals were false before it
 pub record IsReasonNumber (s : SolverView) (n : ℕ) : Type 0 where
   pub clause : List ℤ
-  pub numbers : numbered s.clauses n ≡ Some clause
+  pub numbers : numbered_clause s.clauses n ≡ Some clause
   pub literal : ℤ
   pub before : List ℤ
   pub after : List ℤ
@@ -99,15 +99,15 @@ abbrev pub trues_below : List (List ℤ) → ℕ → List ℤ
 trues_below levels k = flat_map (λ l. l) (take k levels)
 
 -- the literal's value comes from the level
-abbrev pub IsOfLevel : List (List ℤ) → ℕ → ℤ → Type 0
-IsOfLevel levels k l = (level : List ℤ) × (slice_get levels k ≡ Some level) × (IsAmong l level ⊎ IsAmong (neg_ℤ l) level)
+abbrev pub IsValueOfLevel : List (List ℤ) → ℕ → ℤ → Type 0
+IsValueOfLevel levels k l = (level : List ℤ) × (slice_get levels k ≡ Some level) × (IsAmong l level ⊎ IsAmong (neg_ℤ l) level)
 
 -- the clause has exactly one literal that has its value from the level
 pub record HasOneOfLevel (levels : List (List ℤ)) (k : ℕ) (c : List ℤ) : Type 0 where
   pub literal : ℤ
   pub has : IsAmong literal c
-  pub here : IsOfLevel levels k literal
-  pub only : (l : ℤ) → IsAmong l c → IsOfLevel levels k l → l ≡ literal
+  pub here : IsValueOfLevel levels k literal
+  pub only : (l : ℤ) → IsAmong l c → IsValueOfLevel levels k l → l ≡ literal
 
 -- the number of the last level
 abbrev pub last_level : SolverView → ℕ
@@ -122,8 +122,8 @@ pub record IsAsserting (s : SolverView) (step : Step) : Type 0 where
 -- the greatest level of the clause's literals but those of the last level; 0 where there are no others
 pub record IsBackLevel (s : SolverView) (c : List ℤ) (k : ℕ) : Type 0 where
   pub below : k < last_level s
-  pub others : (l : ℤ) (j : ℕ) → IsAmong l c → IsOfLevel s.levels j l → (j ≤ k) ⊎ (j ≡ last_level s)
-  pub has : (k ≡ 0) ⊎ ((l : ℤ) × IsAmong l c × IsOfLevel s.levels k l)
+  pub others : (l : ℤ) (j : ℕ) → IsAmong l c → IsValueOfLevel s.levels j l → (j ≤ k) ⊎ (j ≡ last_level s)
+  pub has : (k ≡ 0) ⊎ ((l : ℤ) × IsAmong l c × IsValueOfLevel s.levels k l)
 
 -- the clause is added, and the levels above that of its other literals are taken back; then one literal of it has no value
 pub record IsLearned (old new : SolverView) (step : Step) : Type 0 where

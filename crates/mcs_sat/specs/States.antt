@@ -9,7 +9,7 @@ use Rattle.mcs_sat.specs.declared.trail.Entry.{Entry}
 use Rattle.mcs_sat.specs.Learning.{IsLatest}
 use Rattle.mcs_sat.specs.Solvers.{SolverView}
 use Rattle.mcs_sat.specs.Trails.{AreLevelled, IsTrail, decisions, level_at, levels_of, literal_at, reason_at}
-use Rattle.mcs_sat.specs.Watching.{AreWatched, IsKept, IsReached}
+use Rattle.mcs_sat.specs.Watching.{AreWatched, AreVisitsKept, IsReached}
 
 -- the levels above 0 begin at the decisions, in their order
 pub record AreStarts (entries : List Entry) (levels : List Reach) : Type 0 where
@@ -43,7 +43,7 @@ pub record IsState (s : State) : Type 0 where
   pub bounds : (k : ℕ) (r : Reach) → slice_get s.levels.items k ≡ Some r → (r.visited ≤ r.entries) × (r.settled ≤ length s.watches.short.items)
   pub reached : (k : ℕ) (r : Reach) → slice_get s.levels.items k ≡ Some r → IsReached s.clauses s.watches s.trail.entries.items r
   pub now : IsReached s.clauses s.watches s.trail.entries.items (reach_of s)
-  pub kept : IsKept s.clauses s.watches s.trail.entries.items s.levels.items s.kept
+  pub kept : AreVisitsKept s.clauses s.watches s.trail.entries.items s.levels.items s.kept
 
 -- each clause has its pair
 abbrev pub IsFull : State → Type 0

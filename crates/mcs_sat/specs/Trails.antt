@@ -3,7 +3,7 @@ use Rattle.std.specs.Prelude.{◌≤◌, Some, slice_get, ◌⊎◌, neg_ℤ, �
 use Rattle.std.specs.List.{AllByRecursion}
 use Rattle.mcs_base.specs.Listings.{IsAmong}
 use Rattle.mcs_trace.specs.Clauses.{IsLiteral, IsClause}
-use Rattle.mcs_trace.specs.Traces.{numbered}
+use Rattle.mcs_trace.specs.Traces.{numbered_clause}
 use Rattle.mcs_sat.specs.declared.examine.Finding.{Finding}
 use Rattle.mcs_sat.specs.declared.examine.Finding.TheVariants.{Open, Forced, Conflict}
 use Rattle.mcs_sat.specs.declared.trail.Entry.{Entry}
@@ -48,8 +48,8 @@ IsOnBelow entries n l = (p : ℕ) × (p < n) × (literal_at entries p ≡ l)
 
 -- ---- what they make of a clause
 -- a literal of the clause is true
-abbrev pub IsSatisfied : List Entry → List ℤ → Type 0
-IsSatisfied entries c = (k : ℤ) × IsAmong k c × IsOn entries k
+abbrev pub IsClauseSatisfied : List Entry → List ℤ → Type 0
+IsClauseSatisfied entries c = (k : ℤ) × IsAmong k c × IsOn entries k
 
 -- two literals of the clause are free
 pub record AreTwoFree (entries : List Entry) (c : List ℤ) : Type 0 where
@@ -70,14 +70,14 @@ abbrev pub IsFalse : List Entry → List ℤ → Type 0
 IsFalse entries c = (k : ℤ) → IsAmong k c → IsOn entries (neg_ℤ k)
 
 -- a literal is true, or two are free; the one that is free is forced; all are false
-abbrev pub IsFinding : List Entry → List ℤ → Finding → Type 0
-IsFinding entries c Open = IsSatisfied entries c ⊎ AreTwoFree entries c
-IsFinding entries c (Forced l) = IsForcing entries c l × StandsNowhere entries (unsigned_abs l)
-IsFinding entries c Conflict = IsFalse entries c
+abbrev pub IsClauseFinding : List Entry → List ℤ → Finding → Type 0
+IsClauseFinding entries c Open = IsClauseSatisfied entries c ⊎ AreTwoFree entries c
+IsClauseFinding entries c (Forced l) = IsForcing entries c l × StandsNowhere entries (unsigned_abs l)
+IsClauseFinding entries c Conflict = IsFalse entries c
 
 -- a literal of the clause is true, or two are free
 abbrev pub IsOpen : List Entry → List ℤ → Type 0
-IsOpen entries c = IsSatisfied entries c ⊎ AreTwoFree entries c
+IsOpen entries c = IsClauseSatisfied entries c ⊎ AreTwoFree entries c
 
 -- a literal of the clause was true before place n
 abbrev pub IsSatisfiedBelow : List Entry → ℕ → List ℤ → Type 0
@@ -95,7 +95,7 @@ pub record IsReason (entries : List Entry) (i : ℕ) (c : List ℤ) : Type 0 whe
 
 -- each literal made true is a decision, or has a reason among the numbered clauses
 abbrev pub AreExplained : List (List ℤ) → List Entry → Type 0
-AreExplained known entries = (i : ℕ) → i < length entries → (reason_at entries i ≡ 0) ⊎ ((c : List ℤ) × (numbered known (reason_at entries i) ≡ Some c) × IsReason entries i c)
+AreExplained known entries = (i : ℕ) → i < length entries → (reason_at entries i ≡ 0) ⊎ ((c : List ℤ) × (numbered_clause known (reason_at entries i) ≡ Some c) × IsReason entries i c)
 
 -- the clause of the index is false
 abbrev pub IsFalseAt : List (List ℤ) → List Entry → ℕ → Type 0
@@ -109,8 +109,8 @@ pub record IsTrail (known : List (List ℤ)) (t : Trail) : Type 0 where
   pub explained : AreExplained known t.entries.items
 
 -- literals that follow were made true on the level
-abbrev pub Grows : ℕ → List Entry → List Entry → Type 0
-Grows level old new = (more : List Entry) × (new ≡ old ++ more) × AllByRecursion (λ (e : Entry). (0 < e.reason) × (e.level ≡ level)) more
+abbrev pub GrowsOnLevel : ℕ → List Entry → List Entry → Type 0
+GrowsOnLevel level old new = (more : List Entry) × (new ≡ old ++ more) × AllByRecursion (λ (e : Entry). (0 < e.reason) × (e.level ≡ level)) more
 
 -- ---- levels
 -- how many of the literals were decided

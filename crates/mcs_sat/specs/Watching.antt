@@ -12,7 +12,7 @@ use Rattle.mcs_sat.specs.declared.watches.Pair.{Pair}
 use Rattle.mcs_sat.specs.declared.watches.Watches.{Watches}
 use Rattle.mcs_sat.specs.Lists.{list_at}
 use Rattle.mcs_sat.specs.Pairs.{no_pair}
-use Rattle.mcs_sat.specs.Trails.{IsFalseAt, IsOn, IsOnBelow, IsSatisfied, IsSatisfiedBelow}
+use Rattle.mcs_sat.specs.Trails.{IsFalseAt, IsOn, IsOnBelow, IsClauseSatisfied, IsSatisfiedBelow}
 
 -- a clause of two literals or more watches two
 abbrev pub IsLong : List ℤ → Type 0
@@ -37,14 +37,14 @@ abbrev pub IsPaired : List ℤ → Pair → Type 0
 IsPaired c p = (p ≡ no_pair) ⊎ ArePair c p
 
 -- the index is in the list of the literal
-abbrev pub IsListed : Lists → ℤ → ℕ → Type 0
-IsListed lists l i = IsAmong i (list_at lists (place l))
+abbrev pub IsInList : Lists → ℤ → ℕ → Type 0
+IsInList lists l i = IsAmong i (list_at lists (place l))
 
 -- each of the first clauses has its pair, and is in the lists of both of its literals; the short ones of them are among those of a list of their own
 pub record AreWatched (known : List (List ℤ)) (w : Watches) : Type 0 where
   pub sized : length w.pairs ≤ length known
   pub paired : (i : ℕ) (c : List ℤ) (p : Pair) → slice_get known i ≡ Some c → slice_get w.pairs i ≡ Some p → IsPaired c p
-  pub listed : (i : ℕ) (p : Pair) (l : ℤ) → slice_get w.pairs i ≡ Some p → IsLiteral l → IsOf l p → IsListed w.lists l i
+  pub listed : (i : ℕ) (p : Pair) (l : ℤ) → slice_get w.pairs i ≡ Some p → IsLiteral l → IsOf l p → IsInList w.lists l i
   pub short : (i : ℕ) (c : List ℤ) → i < length w.pairs → slice_get known i ≡ Some c → ¬ IsLong c → IsAmong i w.short.items
 
 -- where a literal that a clause watches was false among those that were visited, the clause was satisfied; the short clauses that were settled were so too
@@ -53,7 +53,7 @@ pub record IsReached (known : List (List ℤ)) (w : Watches) (entries : List Ent
   pub settled : (j i : ℕ) (c : List ℤ) → j < r.settled → slice_get w.short.items j ≡ Some i → slice_get known i ≡ Some c → ¬ IsLong c → IsSatisfiedBelow entries r.entries c
 
 -- what is kept of the visits of the first clauses: where a literal that one of them watches was false among those that were visited, it was satisfied, without any decision; and so was each long clause that watches nothing
-pub record IsKept (known : List (List ℤ)) (w : Watches) (entries : List Entry) (levels : List Reach) (m : Kept) : Type 0 where
+pub record AreVisitsKept (known : List (List ℤ)) (w : Watches) (entries : List Entry) (levels : List Reach) (m : Kept) : Type 0 where
   pub count : m.count ≤ length w.pairs
   pub within : m.entries ≤ length entries
   pub bound : m.visited ≤ m.entries
@@ -62,22 +62,22 @@ pub record IsKept (known : List (List ℤ)) (w : Watches) (entries : List Entry)
   pub spared : (i : ℕ) (c : List ℤ) → slice_get known i ≡ Some c → slice_get w.pairs i ≡ Some no_pair → IsLong c → IsSatisfiedBelow entries m.entries c
 
 -- what became of the clause of the index, which stood in the list of the literal
-abbrev pub IsSeen : List (List ℤ) → Watches → List Entry → ℕ → ℤ → Seen → Type 0
-IsSeen known w entries i l seen.Satisfied = (c : List ℤ) → slice_get known i ≡ Some c → IsSatisfied entries c
-IsSeen known w entries i l seen.Gone = (p : Pair) → slice_get w.pairs i ≡ Some p → ¬ IsOf l p
-IsSeen known w entries i l seen.Conflict = IsFalseAt known entries i
+abbrev pub IsClauseSeen : List (List ℤ) → Watches → List Entry → ℕ → ℤ → Seen → Type 0
+IsClauseSeen known w entries i l seen.Satisfied = (c : List ℤ) → slice_get known i ≡ Some c → IsClauseSatisfied entries c
+IsClauseSeen known w entries i l seen.Gone = (p : Pair) → slice_get w.pairs i ≡ Some p → ¬ IsOf l p
+IsClauseSeen known w entries i l seen.Conflict = IsFalseAt known entries i
 
 -- each clause that watches the literal is satisfied
 abbrev pub AreVisited : List (List ℤ) → Watches → List Entry → ℤ → Type 0
-AreVisited known w entries l = (i : ℕ) (c : List ℤ) (p : Pair) → slice_get known i ≡ Some c → slice_get w.pairs i ≡ Some p → IsOf l p → IsSatisfied entries c
+AreVisited known w entries l = (i : ℕ) (c : List ℤ) (p : Pair) → slice_get known i ≡ Some c → slice_get w.pairs i ≡ Some p → IsOf l p → IsClauseSatisfied entries c
 
 -- those of the short clauses from the one place up to the other are satisfied
 abbrev pub AreSettled : List (List ℤ) → List ℕ → List Entry → ℕ → ℕ → Type 0
-AreSettled known indices entries from to = (j i : ℕ) (c : List ℤ) → from ≤ j → j < to → slice_get indices j ≡ Some i → slice_get known i ≡ Some c → ¬ IsLong c → IsSatisfied entries c
+AreSettled known indices entries from to = (j i : ℕ) (c : List ℤ) → from ≤ j → j < to → slice_get indices j ≡ Some i → slice_get known i ≡ Some c → ¬ IsLong c → IsClauseSatisfied entries c
 
 -- ---- what a change of the lists keeps
-pub record AreKept (old new : Watches) : Type 0 where
-  pub listed : (l : ℤ) (i : ℕ) → IsListed old.lists l i → IsListed new.lists l i
+pub record KeepsLists (old new : Watches) : Type 0 where
+  pub listed : (l : ℤ) (i : ℕ) → IsInList old.lists l i → IsInList new.lists l i
 
 -- no literal that a clause of the indices watches was false among the first n
 abbrev pub AreUnwatched : List Entry → List Pair → ℕ → ℕ → ℕ → Type 0
@@ -94,9 +94,9 @@ AreSpared old new = (i : ℕ) → slice_get new i ≡ Some no_pair → slice_get
 -- the next clause watches the pair; without one it is short
 abbrev pub IsPushed : Watches → Watches → Option Pair → Type 0
 IsPushed old new (Some p) = (new.pairs ≡ old.pairs ++ p ∷ []) × (new.short.items ≡ old.short.items)
-    × IsListed new.lists p.first (length old.pairs) × IsListed new.lists p.second (length old.pairs)
+    × IsInList new.lists p.first (length old.pairs) × IsInList new.lists p.second (length old.pairs)
 IsPushed old new None = (new.pairs ≡ old.pairs ++ no_pair ∷ []) × (new.short.items ≡ old.short.items ++ length old.pairs ∷ [])
 
 -- no literal of the pair was false among the first n
-abbrev pub IsFresh : List Entry → ℕ → Option Pair → Type 0
-IsFresh es n o = MatchOption o (Unit {0}) (λ p. (l : ℤ) → IsOf l p → ¬ IsOnBelow es n (neg_ℤ l))
+abbrev pub IsFreshPair : List Entry → ℕ → Option Pair → Type 0
+IsFreshPair es n o = MatchOption o (Unit {0}) (λ p. (l : ℤ) → IsOf l p → ¬ IsOnBelow es n (neg_ℤ l))

@@ -3,8 +3,8 @@
 ghost use Rattle.std.specs.Prelude.{◌≡◌, ◌+◌, ◌<◌, ◌≤◌, ◌^◌, ◌++◌, ◌∷◌, [], ◌⊎◌, neg_ℤ, length, take, IsTrue, MatchOption, OnOk, OnErr, IfSome, Some};
 ghost use Rattle.mcs_trace.specs.Clauses.{IsClause, IsLiteral};
 ghost use Rattle.mcs_trace.specs.Traces.{IsChainResolvent};
-ghost use Rattle.mcs_sat.specs.Trails.{AreCovered, ArePlaced, IsOn, IsOnBelow, IsSatisfied};
-ghost use Rattle.mcs_sat.specs.Watching.{ArePair, AreUnwatched, IsFresh, IsLong};
+ghost use Rattle.mcs_sat.specs.Trails.{AreCovered, ArePlaced, IsOn, IsOnBelow, IsClauseSatisfied};
+ghost use Rattle.mcs_sat.specs.Watching.{ArePair, AreUnwatched, IsFreshPair, IsLong};
 ghost use Rattle.mcs_sat.specs.States.{IsFull, IsState, SameClauses};
 
 use crate::order::Order;
@@ -70,7 +70,7 @@ fn fresh_below(trail: &Trail, pair: Pair, visited: usize) -> usize
     requires placed { ArePlaced trail.now.entries.items trail.now.positions.items }
     requires literals { IsLiteral pair.first × IsLiteral pair.second }
     ensures low { result ≤ visited }
-    ensures fresh { IsFresh trail.now.entries.items result (Some pair) }
+    ensures fresh { IsFreshPair trail.now.entries.items result (Some pair) }
 {
     let first = false_before(trail, pair.first, visited);
     false_before(trail, pair.second, first)
@@ -85,7 +85,7 @@ fn beginning_of(trail: &Trail, visited: usize, literals: &[i64]) -> Beginning
     requires bound { visited ≤ length trail.now.entries.items }
     ensures fits { MatchOption result.pair (¬ IsLong literals.now) (ArePair literals.now) }
     ensures low { result.visited ≤ visited }
-    ensures fresh { IsFresh trail.now.entries.items result.visited result.pair }
+    ensures fresh { IsFreshPair trail.now.entries.items result.visited result.pair }
 {
     match open_pair(trail, literals) {
         Some(pair) => Beginning {
@@ -211,7 +211,7 @@ fn is_spared(trail: &Trail, literals: &[i64]) -> bool
     requires placed { ArePlaced trail.now.entries.items trail.now.positions.items }
     requires clause { IsClause literals.now }
     requires covered { AreCovered trail.now.positions.items literals.now }
-    ensures { IsTrue result → IsLong literals.now × IsSatisfied trail.now.entries.items literals.now }
+    ensures { IsTrue result → IsLong literals.now × IsClauseSatisfied trail.now.entries.items literals.now }
 {
     if literals.len() < 2 {
         return false;

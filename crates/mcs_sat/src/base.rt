@@ -3,7 +3,7 @@
 ghost use Rattle.std.specs.Prelude.{◌≡◌, [], ◌∷◌, ◌++◌, ◌+◌, ◌<◌, ◌≤◌, ◌^◌, length, take, IfOk, OnOk, OnErr};
 ghost use Rattle.std.specs.List.{AllByRecursion};
 ghost use Rattle.mcs_trace.specs.Clauses.{IsClause, IsClauseList, IsWithin};
-ghost use Rattle.mcs_sat.specs.Answers.{IsAnswer, IsExact, IsSettled};
+ghost use Rattle.mcs_sat.specs.Answers.{IsSatAnswer, IsExact, IsSettledAnswer};
 ghost use Rattle.mcs_sat.specs.States.{IsFull, IsState};
 ghost use Rattle.mcs_sat.specs.Stores.{IsFrontOf, IsLater, given};
 
@@ -241,7 +241,7 @@ impl ClauseBase {
     /// accepted trace. In the trace each step but the last is used by a later one. The list is unchanged.
     pub fn solve(&mut self) -> Result<Outcome, Memory>
         ensures same { self.new ≡ self.old }
-        ensures answer { IfOk result (IsAnswer self.old) }
+        ensures answer { IfOk result (IsSatAnswer self.old) }
         ensures exact { IfOk result (IsExact self.old) }
     {
         let count = self.state.chains.given();
@@ -253,7 +253,7 @@ impl ClauseBase {
     /// The same without a trace: an assignment that satisfies the clauses, or `None` exactly if there is none.
     pub fn satisfy(&mut self) -> Result<Option<Vec<bool>>, Memory>
         ensures same { self.new ≡ self.old }
-        ensures exact { IfOk result (IsSettled self.old) }
+        ensures exact { IfOk result (IsSettledAnswer self.old) }
     {
         let found = assignment_of(&mut self.state, &mut self.order, self.vars);
         go_back(&mut self.state, &mut self.order);
@@ -265,7 +265,7 @@ impl ClauseBase {
 /// trace. The search decides and propagates, learns from each conflict, and jumps back (Marques-Silva & Sakallah 1996).
 /// It decides first on variables of recent conflicts (Moskewicz, Madigan, Zhao, Zhang & Malik 2001).
 pub fn solve(alloc: Global, cnf: &Cnf) -> Result<Outcome, Memory>
-    ensures answer { IfOk result (IsAnswer cnf.now) }
+    ensures answer { IfOk result (IsSatAnswer cnf.now) }
     ensures exact { IfOk result (IsExact cnf.now) }
 {
     let mut base = ClauseBase::of(alloc, cnf)?;

@@ -1,7 +1,7 @@
 //! The state of a clause under the literals that are true.
 
 ghost use Rattle.mcs_trace.specs.Clauses.{IsClause};
-ghost use Rattle.mcs_sat.specs.Trails.{ArePlaced, AreCovered, IsFinding};
+ghost use Rattle.mcs_sat.specs.Trails.{ArePlaced, AreCovered, IsClauseFinding};
 
 use crate::trail::Trail;
 
@@ -18,7 +18,7 @@ pub(crate) fn examine(trail: &Trail, literals: &[i64]) -> Finding
     requires placed { ArePlaced trail.now.entries.items trail.now.positions.items }
     requires clause { IsClause literals.now }
     requires covered { AreCovered trail.now.positions.items literals.now }
-    ensures { IsFinding trail.now.entries.items literals.now result }
+    ensures { IsClauseFinding trail.now.entries.items literals.now result }
 {
     let mut free = None;
     for literal in literals {

@@ -3,7 +3,7 @@
 ghost use Rattle.std.specs.Prelude.{◌≡◌, [], ◌<◌, ◌+◌, ◌^◌, IfSome, MatchOption};
 ghost use Rattle.mcs_trace.specs.Clauses.{IsClause};
 ghost use Rattle.mcs_sat.specs.Trails.{ArePlaced, IsFalse};
-ghost use Rattle.mcs_sat.specs.Learning.{IsJoined, IsLatest};
+ghost use Rattle.mcs_sat.specs.Learning.{IsLatestOf, IsLatest};
 
 use crate::trail::Trail;
 
@@ -17,7 +17,7 @@ pub(crate) struct Latest {
 /// The latest of the places so far and of one more.
 fn joined(found: Option<Latest>, place: usize) -> Latest
     requires { IfSome found (λ l. l.place + 1 < 2 ^ 64) }
-    ensures { MatchOption found (result ≡ record { place = place; others = 0 }) (λ l. IsJoined l place result) }
+    ensures { MatchOption found (result ≡ record { place = place; others = 0 }) (λ l. IsLatestOf l place result) }
 {
     match found {
         None => Latest { place, others: 0 },

@@ -6,7 +6,7 @@ ghost use Rattle.mcs_base.specs.Listings.{IsListing};
 ghost use Rattle.mcs_trace.specs.Clauses.{IsClause, LiteralBefore};
 ghost use Rattle.mcs_sat.specs.Trails.{AreCovered, ArePlaced, IsTrail, literal_at, reason_at};
 ghost use Rattle.mcs_sat.specs.Learning.{GoesOnByReasons};
-ghost use Rattle.mcs_sat.specs.Marking.{AreFree, IsMarked, IsMarkedChain, IsMarkedWithin, IsMetAt, IsOfMarks, IsTakenOff};
+ghost use Rattle.mcs_sat.specs.Marking.{AreUnmarked, IsVariableMarked, IsMarkedChain, IsMarkedWithin, IsMetAt, IsOfMarks, IsTakenOff};
 
 use crate::trail::Trail;
 use mcs_base::{Memory, Rows};
@@ -20,7 +20,7 @@ fn mark_one(trail: &Trail, literal: i64, marks: &mut Vec<bool>)
     requires sized { length marks.old.items ≡ length trail.now.entries.items }
     ensures sized { length marks.new.items ≡ length marks.old.items }
     ensures exactly { (p : ℕ) → p < length trail.now.entries.items
-        → IsMarked marks.new.items p ↔ (IsMarked marks.old.items p ⊎ (unsigned_abs (literal_at trail.now.entries.items p) ≡ unsigned_abs literal)) }
+        → IsVariableMarked marks.new.items p ↔ (IsVariableMarked marks.old.items p ⊎ (unsigned_abs (literal_at trail.now.entries.items p) ≡ unsigned_abs literal)) }
 {
     let Some(place) = trail.position(literal) else {
         return;
@@ -36,7 +36,7 @@ pub(crate) fn mark_all(trail: &Trail, literals: &[i64], marks: &mut Vec<bool>)
     requires sized { length marks.old.items ≡ length trail.now.entries.items }
     ensures sized { length marks.new.items ≡ length marks.old.items }
     ensures exactly { (p : ℕ) → p < length trail.now.entries.items
-        → IsMarked marks.new.items p ↔ (IsMarked marks.old.items p ⊎ IsMetAt trail.now.entries.items literals.now p) }
+        → IsVariableMarked marks.new.items p ↔ (IsVariableMarked marks.old.items p ⊎ IsMetAt trail.now.entries.items literals.now p) }
 {
     for literal in literals {
         mark_one(trail, *literal, marks);
@@ -64,7 +64,7 @@ pub(crate) fn are_marked(trail: &Trail, literals: &[i64], marks: &[bool]) -> boo
 /// Whether a place from `from` up to, but not including, `to` is marked.
 pub(crate) fn is_any_marked(marks: &[bool], from: usize, to: usize) -> bool
     requires { to ≤ length marks.now }
-    ensures { MatchBool result (IsMarkedWithin marks.now from to) (AreFree marks.now from to) }
+    ensures { MatchBool result (IsMarkedWithin marks.now from to) (AreUnmarked marks.now from to) }
 {
     let mut place = to;
     while place > from {
@@ -87,7 +87,7 @@ pub(crate) fn resolve_at(
 ) -> Result<(), Memory>
     requires trail { IsTrail clauses.now trail.now }
     requires marked { IsMarkedChain clauses.now trail.now.entries.items chain.old.items marks.old.items }
-    requires here { IsMarked marks.old.items place }
+    requires here { IsVariableMarked marks.old.items place }
     requires within { place < length trail.now.entries.items }
     requires implied { reason_at trail.now.entries.items place ≢ 0 }
     ensures marked { OnOk result (IsMarkedChain clauses.now trail.now.entries.items chain.new.items marks.new.items) }

@@ -1,7 +1,7 @@
 //! A search over some of the clauses. What it learns is learnt by the whole.
 
 ghost use Rattle.std.specs.Prelude.{◌≡◌, [], ◌+◌, ◌<◌, length, IfOk, OnOk};
-ghost use Rattle.mcs_sat.specs.Parts.{IsGathered, IsPart};
+ghost use Rattle.mcs_sat.specs.Parts.{IsGathered, IsPartState};
 ghost use Rattle.mcs_sat.specs.States.{IsState};
 ghost use Rattle.mcs_sat.specs.Stores.{IsLater};
 
@@ -149,11 +149,11 @@ fn adopt_next(
 ) -> Result<(), Memory>
     requires state { IsState state.old }
     requires base { state.old.levels.items ≡ [] }
-    requires part { IsPart state.old part.now numbers.old.items }
+    requires part { IsPartState state.old part.now numbers.old.items }
     requires next { length numbers.old.items < length part.now.clauses }
     ensures later { IsLater state.old state.new }
     ensures base { state.new.levels.items ≡ [] }
-    ensures part { OnOk result (IsPart state.new part.now numbers.new.items) }
+    ensures part { OnOk result (IsPartState state.new part.now numbers.new.items) }
     ensures next { OnOk result (length numbers.new.items ≡ length numbers.old.items + 1) }
 {
     let index = numbers.len();
@@ -174,10 +174,10 @@ fn adopt(
 ) -> Result<(), Memory>
     requires state { IsState state.old }
     requires base { state.old.levels.items ≡ [] }
-    requires part { IsPart state.old part.now numbers.old.items }
+    requires part { IsPartState state.old part.now numbers.old.items }
     ensures later { IsLater state.old state.new }
     ensures base { state.new.levels.items ≡ [] }
-    ensures part { OnOk result (IsPart state.new part.now numbers.new.items) }
+    ensures part { OnOk result (IsPartState state.new part.now numbers.new.items) }
     ensures all { OnOk result (length numbers.new.items ≡ length part.now.clauses) }
 {
     while numbers.len() < part.clauses.len() {

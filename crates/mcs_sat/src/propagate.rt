@@ -6,8 +6,8 @@ ghost use Rattle.mcs_base.specs.Listings.{IsAmong};
 ghost use Rattle.mcs_trace.specs.Clauses.{IsClause, IsLiteral, place};
 ghost use Rattle.mcs_sat.specs.declared.state.Reach.{Reach};
 ghost use Rattle.mcs_sat.specs.Lists.{list_at};
-ghost use Rattle.mcs_sat.specs.Trails.{AreCovered, ArePlaced, Grows, IsFalseAt, IsOn, IsSatisfied, IsTrail};
-ghost use Rattle.mcs_sat.specs.Watching.{AreMoved, AreSettled, AreSpared, AreVisited, AreWatched, IsLong, IsReached, IsSeen};
+ghost use Rattle.mcs_sat.specs.Trails.{AreCovered, ArePlaced, GrowsOnLevel, IsFalseAt, IsOn, IsClauseSatisfied, IsTrail};
+ghost use Rattle.mcs_sat.specs.Watching.{AreMoved, AreSettled, AreSpared, AreVisited, AreWatched, IsLong, IsReached, IsClauseSeen};
 
 use crate::examine::{Finding, examine};
 use crate::trail::Trail;
@@ -56,7 +56,7 @@ fn visit(
     requires off { IsOn trail.old.entries.items (neg_ℤ literal) }
     ensures trail { IsTrail clauses.now trail.new }
     ensures positions { length trail.new.positions.items ≡ length trail.old.positions.items }
-    ensures grows { Grows level trail.old.entries.items trail.new.entries.items }
+    ensures grows { GrowsOnLevel level trail.old.entries.items trail.new.entries.items }
     ensures watched { AreWatched clauses.now watches.new }
     ensures short { watches.new.short.items ≡ watches.old.short.items }
     ensures moved { AreMoved watches.old.pairs watches.new.pairs trail.old.entries.items }
@@ -65,7 +65,7 @@ fn visit(
     ensures reached { (r : Reach) → r.visited ≤ length trail.old.entries.items
         → IsReached clauses.now watches.old trail.old.entries.items r → IsReached clauses.now watches.new trail.old.entries.items r }
     ensures list { list_at watches.new.lists (place literal) ≡ list_at watches.old.lists (place literal) }
-    ensures seen { IfOk result (IsSeen clauses.now watches.new trail.new.entries.items index literal) }
+    ensures seen { IfOk result (IsClauseSeen clauses.now watches.new trail.new.entries.items index literal) }
 {
     if index >= watches.pairs.len() {
         return Ok(Seen::Gone);
@@ -107,7 +107,7 @@ fn visit_list(
     requires off { IsOn trail.old.entries.items (neg_ℤ literal) }
     ensures trail { IsTrail clauses.now trail.new }
     ensures positions { length trail.new.positions.items ≡ length trail.old.positions.items }
-    ensures grows { Grows level trail.old.entries.items trail.new.entries.items }
+    ensures grows { GrowsOnLevel level trail.old.entries.items trail.new.entries.items }
     ensures watched { AreWatched clauses.now watches.new }
     ensures short { watches.new.short.items ≡ watches.old.short.items }
     ensures moved { AreMoved watches.old.pairs watches.new.pairs trail.old.entries.items }
@@ -148,7 +148,7 @@ pub(crate) fn visit_from(
     requires bound { from.old ≤ length trail.old.entries.items }
     ensures trail { IsTrail clauses.now trail.new }
     ensures positions { length trail.new.positions.items ≡ length trail.old.positions.items }
-    ensures grows { Grows level trail.old.entries.items trail.new.entries.items }
+    ensures grows { GrowsOnLevel level trail.old.entries.items trail.new.entries.items }
     ensures watched { AreWatched clauses.now watches.new }
     ensures short { watches.new.short.items ≡ watches.old.short.items }
     ensures moved { AreMoved watches.old.pairs watches.new.pairs trail.old.entries.items }
@@ -185,10 +185,10 @@ pub(crate) fn settle(
     requires trail { IsTrail clauses.now trail.old }
     ensures trail { IsTrail clauses.now trail.new }
     ensures positions { length trail.new.positions.items ≡ length trail.old.positions.items }
-    ensures grows { Grows level trail.old.entries.items trail.new.entries.items }
+    ensures grows { GrowsOnLevel level trail.old.entries.items trail.new.entries.items }
     ensures found { IfOk result (λ found. MatchBool found
         (IsFalseAt clauses.now trail.new.entries.items index)
-        ((c : List ℤ) → slice_get clauses.now index ≡ Some c → ¬ IsLong c → IsSatisfied trail.new.entries.items c)) }
+        ((c : List ℤ) → slice_get clauses.now index ≡ Some c → ¬ IsLong c → IsClauseSatisfied trail.new.entries.items c)) }
 {
     if index >= clauses.len() {
         return Ok(false);
@@ -215,7 +215,7 @@ pub(crate) fn settle_from(
     requires trail { IsTrail clauses.now trail.old }
     ensures trail { IsTrail clauses.now trail.new }
     ensures positions { length trail.new.positions.items ≡ length trail.old.positions.items }
-    ensures grows { Grows level trail.old.entries.items trail.new.entries.items }
+    ensures grows { GrowsOnLevel level trail.old.entries.items trail.new.entries.items }
     ensures settled { AreSettled clauses.now indices.now trail.new.entries.items from.old from.new }
     ensures bound { from.old ≤ length indices.now → from.new ≤ length indices.now }
     ensures found { IfOk result (λ found. MatchOption found

@@ -5,7 +5,7 @@ ghost use Rattle.std.specs.List.{AllByRecursion};
 ghost use Rattle.mcs_trace.specs.Clauses.{IsClause};
 ghost use Rattle.mcs_sat.specs.States.{IsState};
 ghost use Rattle.mcs_sat.specs.Stores.{IsLater};
-ghost use Rattle.mcs_sat.specs.Searches.{IsEnd, IsRun, IsSearch, IsTurned};
+ghost use Rattle.mcs_sat.specs.Searches.{IsEnd, IsRun, IsSatSearch, IsTurned};
 ghost use Rattle.mcs_sat.specs.Trails.{IsFalse, IsFalseAt, IsOpen};
 
 use crate::adding::attach;
@@ -32,10 +32,10 @@ pub(crate) enum Turn {
 
 /// Decides a literal without a value and propagates. If there is no such literal, all clauses are satisfied.
 fn choose(state: &mut State, order: &mut Order) -> Result<Turn, Memory>
-    requires search { IsSearch state.old }
+    requires search { IsSatSearch state.old }
     requires open { AllByRecursion (IsOpen state.old.trail.entries.items) state.old.clauses }
     ensures later { IsLater state.old state.new }
-    ensures kept { OnOk result (IsSearch state.new) }
+    ensures kept { OnOk result (IsSatSearch state.new) }
     ensures turn { IfOk result (IsTurned state.old state.new) }
 {
     let literal = match order.next(&state.trail) {
@@ -83,10 +83,10 @@ fn turn_back(
     order: &mut Order,
     index: usize,
 ) -> Result<Turn, Memory>
-    requires search { IsSearch state.old }
+    requires search { IsSatSearch state.old }
     requires conflict { IsFalseAt state.old.clauses state.old.trail.entries.items index }
     ensures later { IsLater state.old state.new }
-    ensures kept { OnOk result (IsSearch state.new) }
+    ensures kept { OnOk result (IsSatSearch state.new) }
     ensures turn { IfOk result (IsTurned state.old state.new) }
 {
     let Some(reach) = state.levels.last() else {
@@ -115,9 +115,9 @@ pub(crate) fn release_decided(state: &State, order: &mut Order) {
 
 /// Restarts: takes back all decisions, and propagates.
 pub(crate) fn begin_anew(state: &mut State, order: &mut Order) -> Result<Option<usize>, Memory>
-    requires { IsSearch state.old }
+    requires { IsSatSearch state.old }
     ensures later { IsLater state.old state.new }
-    ensures kept { OnOk result (IsSearch state.new) }
+    ensures kept { OnOk result (IsSatSearch state.new) }
     ensures run { IfOk result (IsRun state.new) }
 {
     release_decided(state, order);
@@ -129,9 +129,9 @@ pub(crate) fn begin_anew(state: &mut State, order: &mut Order) -> Result<Option<
 /// Restarts as `begin_anew` does. If the search is hard, what was learnt long ago is set aside first for a search of
 /// its own, and what this one learns is learnt.
 fn renew(state: &mut State, order: &mut Order) -> Result<Option<usize>, Memory>
-    requires { IsSearch state.old }
+    requires { IsSatSearch state.old }
     ensures later { IsLater state.old state.new }
-    ensures kept { OnOk result (IsSearch state.new) }
+    ensures kept { OnOk result (IsSatSearch state.new) }
     ensures run { IfOk result (IsRun state.new) }
 {
     if !order.is_hard() {
@@ -156,10 +156,10 @@ pub(crate) fn take_turn(
     order: &mut Order,
     found: Option<usize>,
 ) -> Result<Turn, Memory>
-    requires search { IsSearch state.old }
+    requires search { IsSatSearch state.old }
     requires run { IsRun state.old found }
     ensures later { IsLater state.old state.new }
-    ensures kept { OnOk result (IsSearch state.new) }
+    ensures kept { OnOk result (IsSatSearch state.new) }
     ensures turn { IfOk result (IsTurned state.old state.new) }
 {
     match found {
@@ -178,7 +178,7 @@ pub(crate) fn search(
     requires state { IsState state.old }
     requires base { state.old.levels.items ≡ [] }
     ensures later { IsLater state.old state.new }
-    ensures kept { OnOk result (IsSearch state.new) }
+    ensures kept { OnOk result (IsSatSearch state.new) }
     ensures end { IfOk result (IsEnd state.new) }
 {
     attach(state)?;

@@ -3,7 +3,7 @@
 ghost use Rattle.std.specs.Prelude.{◌≡◌, ◌≢◌, ◌+◌, ◌<◌, ◌≤◌, length, IsTrue, OnOk};
 ghost use Rattle.mcs_sat.specs.Trails.{IsTrail, reason_at};
 ghost use Rattle.mcs_sat.specs.Learning.{AreImplied, GoesOnByReasons};
-ghost use Rattle.mcs_sat.specs.Marking.{AreFree, IsMarked, IsMarkedChain, IsSingleMark};
+ghost use Rattle.mcs_sat.specs.Marking.{AreUnmarked, IsVariableMarked, IsMarkedChain, IsSingleMark};
 
 use crate::marks::{are_marked, resolve_at};
 use crate::trail::Trail;
@@ -26,9 +26,9 @@ fn is_dropped(
     requires trail { IsTrail clauses.now trail.now }
     requires within { place < length trail.now.entries.items }
     requires sized { length marks.now ≡ length trail.now.entries.items }
-    ensures marked { IsTrue result → IsMarked marks.now place }
+    ensures marked { IsTrue result → IsVariableMarked marks.now place }
     ensures implied { IsTrue result → reason_at trail.now.entries.items place ≢ 0 }
-    ensures every { length trail.now.entries.items ≤ start → IsMarked marks.now place → reason_at trail.now.entries.items place ≢ 0 → IsTrue result }
+    ensures every { length trail.now.entries.items ≤ start → IsVariableMarked marks.now place → reason_at trail.now.entries.items place ≢ 0 → IsTrue result }
 {
     let cause = trail.entries[place].reason;
     if !marks[place] || cause == 0 {
@@ -59,7 +59,7 @@ pub(crate) fn shorten(
     requires implied { AreImplied trail.now.entries.items start }
     ensures marked { OnOk result (IsMarkedChain clauses.now trail.now.entries.items chain.new.items marks.new.items) }
     ensures single { OnOk result (start + 1 ≤ length trail.now.entries.items → IsSingleMark start marks.new.items) }
-    ensures past { OnOk result (length trail.now.entries.items ≤ start → AreFree marks.new.items 0 (length trail.now.entries.items)) }
+    ensures past { OnOk result (length trail.now.entries.items ≤ start → AreUnmarked marks.new.items 0 (length trail.now.entries.items)) }
     ensures reasons { OnOk result (GoesOnByReasons clauses.now trail.now.entries.items chain.old.items chain.new.items) }
 {
     let mut bound = start.min(trail.entries.len());

@@ -6,7 +6,7 @@ ghost use Rattle.std.specs.List.{AllByRecursion};
 ghost use Rattle.std.specs.Option.{IfNone, is_some};
 ghost use Rattle.mcs_base.specs.Listings.{IsAmong};
 ghost use Rattle.mcs_trace.specs.Clauses.{IsClause, IsLiteral};
-ghost use Rattle.mcs_sat.specs.Trails.{AreCovered, Grows, IsFalseAt, IsOpen};
+ghost use Rattle.mcs_sat.specs.Trails.{AreCovered, GrowsOnLevel, IsFalseAt, IsOpen};
 ghost use Rattle.mcs_sat.specs.States.{IsFull, IsState, SameClauses, no_chains, reach_of};
 ghost use Rattle.mcs_sat.specs.Watching.{IsReached};
 ghost use Rattle.mcs_sat.specs.Solvers.{GoesOn, HasNoValue, IsAsserting, IsFalseNumber, IsLearned, IsOpenUnder, IsReasonNumber, IsSolver, IsUnitRun, LeadsToConflict, last_level, trues, trues_below};
@@ -104,7 +104,7 @@ pub(crate) fn run(state: &mut State) -> Result<Option<usize>, Memory>
     ensures kept { IsState state.new }
     ensures full { IsFull state.new }
     ensures same { SameClauses state.old state.new }
-    ensures grows { Grows (length state.old.levels.items) state.old.trail.entries.items state.new.trail.entries.items }
+    ensures grows { GrowsOnLevel (length state.old.levels.items) state.old.trail.entries.items state.new.trail.entries.items }
     ensures levels { state.new.levels.items ≡ state.old.levels.items }
     ensures short { state.new.watches.short.items ≡ state.old.watches.short.items }
     ensures marked { state.new.kept ≡ state.old.kept }
@@ -142,7 +142,7 @@ fn run_or_restore(state: &mut State) -> Result<Option<usize>, Memory>
     ensures kept { IsState state.new }
     ensures full { IsFull state.new }
     ensures same { SameClauses state.old state.new }
-    ensures grows { OnOk result (Grows (length state.old.levels.items) state.old.trail.entries.items state.new.trail.entries.items) }
+    ensures grows { OnOk result (GrowsOnLevel (length state.old.levels.items) state.old.trail.entries.items state.new.trail.entries.items) }
     ensures open { IfOk result (λ found. IfNone found
         (AllByRecursion (IsOpen state.new.trail.entries.items) state.new.clauses)) }
     ensures conflict { IfOk result (λ found. IfSome found

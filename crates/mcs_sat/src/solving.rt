@@ -3,7 +3,7 @@
 ghost use Rattle.std.specs.Prelude.{◌≡◌, [], ◌<◌, length, IfOk};
 ghost use Rattle.std.specs.List.{AllByRecursion};
 ghost use Rattle.mcs_trace.specs.Clauses.{IsWithin};
-ghost use Rattle.mcs_sat.specs.Answers.{IsAnswer, IsExact, IsSettled};
+ghost use Rattle.mcs_sat.specs.Answers.{IsSatAnswer, IsExact, IsSettledAnswer};
 ghost use Rattle.mcs_sat.specs.States.{IsState};
 ghost use Rattle.mcs_sat.specs.Stores.{IsLater, given, given_count, list_of};
 
@@ -28,7 +28,7 @@ pub(crate) fn outcome_of(
     requires within { AllByRecursion (IsWithin vars) (given state.old.clauses state.old.chains) }
     requires count { count ≡ given_count state.old.chains }
     ensures later { IsLater state.old state.new }
-    ensures answer { IfOk result (IsAnswer (list_of state.old vars)) }
+    ensures answer { IfOk result (IsSatAnswer (list_of state.old vars)) }
     ensures exact { IfOk result (IsExact (list_of state.old vars)) }
 {
     let alloc = *state.levels.allocator();
@@ -49,7 +49,7 @@ pub(crate) fn assignment_of(
     requires room { vars < length state.old.trail.positions.items }
     requires within { AllByRecursion (IsWithin vars) (given state.old.clauses state.old.chains) }
     ensures later { IsLater state.old state.new }
-    ensures exact { IfOk result (IsSettled (list_of state.old vars)) }
+    ensures exact { IfOk result (IsSettledAnswer (list_of state.old vars)) }
 {
     let alloc = *state.levels.allocator();
     match search(alloc, state, order)? {

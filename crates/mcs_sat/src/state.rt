@@ -4,7 +4,7 @@ ghost use Rattle.std.specs.Prelude.{◌≡◌, ◌+◌, ◌<◌, ◌≤◌, ◌^
 ghost use Rattle.mcs_trace.specs.Clauses.{IsClause, IsLiteral};
 ghost use Rattle.mcs_trace.specs.Traces.{IsChainResolvent};
 ghost use Rattle.mcs_sat.specs.Trails.{ArePlaced, IsFalse, StandsNowhere};
-ghost use Rattle.mcs_sat.specs.Watching.{AreKept, IsPushed};
+ghost use Rattle.mcs_sat.specs.Watching.{KeepsLists, IsPushed};
 ghost use Rattle.mcs_sat.specs.Learning.{IsSingle};
 ghost use Rattle.mcs_sat.specs.States.{IsBack, IsDecided, IsFull, IsLastLevel, IsLearntBack, IsState, IsTurn, IsUnchanged, SameClauses};
 
@@ -96,7 +96,7 @@ pub(crate) fn push_clause(
     ensures clauses { OnOk result (clauses.new ≡ clauses.old ++ literals.now ∷ []) }
     ensures chains { OnOk result (chains.new ≡ chains.old ++ chain.now ∷ []) }
     ensures pushed { OnOk result (IsPushed watches.old watches.new pair) }
-    ensures watches { AreKept watches.old watches.new }
+    ensures watches { KeepsLists watches.old watches.new }
     ensures err_clauses { OnErr result (clauses.new ≡ clauses.old) }
     ensures err_chains { OnErr result (chains.new ≡ chains.old) }
     ensures err_pairs { OnErr result (watches.new.pairs ≡ watches.old.pairs) }

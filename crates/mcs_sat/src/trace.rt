@@ -5,7 +5,7 @@ ghost use Rattle.std.specs.List.{AllByRecursion};
 ghost use Rattle.mcs_base.specs.Listings.{IsAmong};
 ghost use Rattle.mcs_trace.specs.Clauses.{IsClause};
 ghost use Rattle.mcs_trace.specs.Traces.{IsAcceptedTrace, IsChainResolvent, inference_of, inferences_of};
-ghost use Rattle.mcs_sat.specs.Numbering.{AreMarked, AreNamed, IsNumbering, IsRead, NameBelow, NamesAt, number_now};
+ghost use Rattle.mcs_sat.specs.Numbering.{AreMarked, AreChainsMarked, IsNumbering, IsRead, NameBelow, NamesAt, number_now};
 ghost use Rattle.mcs_sat.specs.States.{AreChains, IsState};
 ghost use Rattle.mcs_sat.specs.Stores.{given, given_count};
 ghost use Rattle.mcs_sat.specs.Trails.{IsFalseAt};
@@ -37,7 +37,7 @@ fn needed_for(alloc: Global, chains: &Chains, last: &[u64]) -> Result<Vec<bool>,
     requires last { NameBelow (length chains.now) last.now }
     ensures len { IfOk result (λ needed. length needed.items ≡ length chains.now) }
     ensures last { IfOk result (λ needed. AreMarked needed.items last.now) }
-    ensures closed { IfOk result (λ needed. AreNamed chains.now needed.items 0) }
+    ensures closed { IfOk result (λ needed. AreChainsMarked chains.now needed.items 0) }
 {
     let mut needed = vec![in alloc; false; chains.len()]?;
     mark(&mut needed, last);
@@ -134,7 +134,7 @@ fn numbering_of(
     requires clauses { AllByRecursion IsClause clauses.now }
     requires chains { AreChains clauses.now chains.now }
     requires len { length needed.now ≡ length chains.now }
-    requires closed { AreNamed chains.now needed.now 0 }
+    requires closed { AreChainsMarked chains.now needed.now 0 }
     requires count { count ≡ given_count chains.now }
     requires fits { length clauses.now < 2 ^ 63 }
     ensures { IfOk result (IsNumbering clauses.now chains.now needed.now (length clauses.now)) }

@@ -3,7 +3,7 @@
 ghost use Rattle.std.specs.Prelude.{◌≡◌, ◌≢◌, ℕ, ℤ, ◌+◌, ◌<◌, ◌^◌, [], length, take, MatchOption, OnOk, OnErr, IfSome, filter, ltb};
 ghost use Rattle.mcs_trace.specs.Clauses.{IsLiteral, place};
 ghost use Rattle.mcs_sat.specs.Lists.{list_at};
-ghost use Rattle.mcs_sat.specs.Watching.{AreKept, IsListed, IsOf, IsPairOf, IsPushed};
+ghost use Rattle.mcs_sat.specs.Watching.{KeepsLists, IsInList, IsOf, IsPairOf, IsPushed};
 
 use crate::lists::Lists;
 use crate::pairs::Pairs;
@@ -66,8 +66,8 @@ impl Watches {
     /// Adds the index to the list of the literal.
     pub fn list(&mut self, literal: i64, index: usize) -> Result<(), Memory>
         requires literal { IsLiteral literal }
-        ensures listed { OnOk result (IsListed self.new.lists literal index) }
-        ensures kept { (l : ℤ) (i : ℕ) → IsListed self.old.lists l i → IsListed self.new.lists l i }
+        ensures listed { OnOk result (IsInList self.new.lists literal index) }
+        ensures kept { (l : ℤ) (i : ℕ) → IsInList self.old.lists l i → IsInList self.new.lists l i }
         ensures others { (p : ℕ) → p ≢ place literal → list_at self.new.lists p ≡ list_at self.old.lists p }
         ensures pairs { self.new.pairs ≡ self.old.pairs }
         ensures short { self.new.short.items ≡ self.old.short.items }
@@ -80,7 +80,7 @@ impl Watches {
     pub fn push(&mut self, pair: Option<Pair>) -> Result<(), Memory>
         requires literals { IfSome pair (λ p. IsLiteral p.first × IsLiteral p.second) }
         requires fits { length self.old.pairs + 1 < 2 ^ 64 }
-        ensures kept { AreKept self.old self.new }
+        ensures kept { KeepsLists self.old self.new }
         ensures pushed { OnOk result (IsPushed self.old self.new pair) }
         ensures err_pairs { OnErr result (self.new.pairs ≡ self.old.pairs) }
         ensures err_short { OnErr result (self.new.short.items ≡ self.old.short.items) }

@@ -19,7 +19,7 @@ use Rattle.mcs_system.specs.Views.{at_places, beliefs_at}
 use Rattle.mcs_asking.specs.Certificates.{plain_of, IsAccepted, IsAcceptedFor}
 use Rattle.mcs_asking.specs.declared.certificate.AnswerCert as code
 use Rattle.mcs_solver.specs.Certified.{IsCertified}
-use Rattle.mcs_solver.specs.Solvers.{IsKeptFor, IsKeptAt, AreKept, IsKeptNow, HasKept}
+use Rattle.mcs_solver.specs.Solvers.{IsKeptFor, IsKeptAt, AreAnswersKept, IsKeptNow, HasKept}
 use Rattle.mcs_solver.specs.declared.keeping.Kept.{Kept}
 
 -- ---- what is shown of a context
@@ -38,10 +38,10 @@ apart_at x y differ = at (nat_cmp x y) (ranked x y _ refl)
     at Greater h = refl
 
 module _ (m : System) (i : ℕ) (keep : Bool) where
-  pub none_kept : (kept : BTreeMap ℕ Kept) → IsEmpty kept → AreKept m i keep [] kept
+  pub none_kept : (kept : BTreeMap ℕ Kept) → IsEmpty kept → AreAnswersKept m i keep [] kept
   none_kept kept empty x = subst (λ (es : List (ℕ × Kept)). IsKeptAt m i keep [] x (lookup (is_at (nat_cmp x)) es)) (sym empty) (inr (λ h. h))
 
-  pub still_kept : (journal : List ℕ) (old new : BTreeMap ℕ Kept) → IsUnchanged old new → AreKept m i keep journal old → AreKept m i keep journal new
+  pub still_kept : (journal : List ℕ) (old new : BTreeMap ℕ Kept) → IsUnchanged old new → AreAnswersKept m i keep journal old → AreAnswersKept m i keep journal new
   still_kept journal old new same are x = subst (λ (es : List (ℕ × Kept)). IsKeptAt m i keep journal x (lookup (is_at (nat_cmp x)) es)) (sym same) (are x)
 
   -- what is kept for y, where no answers are kept, or x is another one
@@ -59,7 +59,7 @@ module _ (m : System) (i : ℕ) (keep : Bool) where
 
   -- after one more question
   pub kept_more : (journal : List ℕ) (x : ℕ) (outputs : List ℕ) (cert : Option code.AnswerCert) (old new : BTreeMap ℕ Kept) → HasKept x outputs cert old new → IsCertified keep (IsAccepted m i x outputs) cert
-      → IsListing (IsAcceptedPart m i x) StateBefore outputs → AreKept m i keep journal old → AreKept m i keep (journal ++ x ∷ []) new
+      → IsListing (IsAcceptedPart m i x) StateBefore outputs → AreAnswersKept m i keep journal old → AreAnswersKept m i keep (journal ++ x ∷ []) new
   kept_more journal x outputs None old new same off listing are y = later journal x y (get nat_cmp new y) (inl off) (still_kept journal old new same are y)
   kept_more journal x outputs (Some cert) old new now shown listing are y = elim (cases_eq x y) [
     | inl same ↦ subst (λ (z : ℕ). IsKeptAt m i keep (journal ++ x ∷ []) z (get nat_cmp new z)) same

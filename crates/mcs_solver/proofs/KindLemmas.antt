@@ -14,7 +14,7 @@ use Rattle.mcs_system.specs.Views.{beliefs_at}
 use Rattle.mcs_trace.specs.Clauses.{ClauseList}
 use Rattle.mcs_cnf.specs.ClauseLists.{clause_list}
 use Rattle.mcs_classical.specs.Assumptions.{assumed}
-use Rattle.mcs_classical.specs.Consequences.{AreConsequences, DoFollow, NoOthersFollow, IsLower, IsUpper}
+use Rattle.mcs_classical.specs.Consequences.{AreConsequences, DoFollow, NoOthersFollow, IsLowerConsequence, IsUpperConsequence}
 use Rattle.mcs_classical.specs.declared.assumptions.Assumption.{Assumption}
 use Rattle.mcs_classical.specs.declared.bounds.Lower.{Lower}
 use Rattle.mcs_classical.specs.declared.bounds.Upper.{Upper}
@@ -25,7 +25,7 @@ use Rattle.mcs_default.specs.declared.kept.KeptLower.{KeptLower}
 use Rattle.mcs_default.specs.declared.kept.KeptUpper.{KeptUpper}
 use Rattle.mcs_default.specs.declared.kept.KeptConflict.{KeptConflict}
 use Rattle.mcs_default.specs.declared.base.TheoryBase.{TheoryBase}
-use Rattle.mcs_solver.specs.Kinds.{AreFound, IsMadeOfFormulas, IsMadeOfItems, IsMadeOf, IsMadeOfContext}
+use Rattle.mcs_solver.specs.Kinds.{AreRightConsequences, IsMadeOfFormulas, IsMadeOfItems, IsMadeOf, IsMadeOfContext}
 use Rattle.mcs_solver.specs.declared.known.Known.{Known}
 use Rattle.mcs_solver.specs.declared.known.Known.TheVariants as variants
 
@@ -77,12 +77,12 @@ each_of_all P (x ∷ xs) numbers all =
 -- ---- what was found
 pub same_found : (fs goals : List Formula) (xs ys : List Assumption) (found : Consequences) → ((set : ℕ) → assumed set ys ≡ assumed set xs) → AreConsequences fs xs goals found → AreConsequences fs ys goals found
 same_found fs goals xs ys found same are = record {
-  lower = all_weaker (IsLower fs xs goals) (IsLower fs ys goals) (λ (l : Lower) h. subst (λ (hs : List Formula). DoFollow (fs ++ hs) goals l.entailed) (sym (same l.assumed)) h) found.lower.items are.lower;
-  upper = all_weaker (IsUpper fs xs goals) (IsUpper fs ys goals) (λ (u : Upper) h. subst (λ (hs : List Formula). NoOthersFollow (fs ++ hs) goals u.possible) (sym (same u.assumed)) h) found.upper.items are.upper;
+  lower = all_weaker (IsLowerConsequence fs xs goals) (IsLowerConsequence fs ys goals) (λ (l : Lower) h. subst (λ (hs : List Formula). DoFollow (fs ++ hs) goals l.entailed) (sym (same l.assumed)) h) found.lower.items are.lower;
+  upper = all_weaker (IsUpperConsequence fs xs goals) (IsUpperConsequence fs ys goals) (λ (u : Upper) h. subst (λ (hs : List Formula). NoOthersFollow (fs ++ hs) goals u.possible) (sym (same u.assumed)) h) found.upper.items are.upper;
 }
 
 -- what is right of these assumptions is right of all with the same heads
-pub found_of : (fs goals : List Formula) (xs : List Assumption) (found : Consequences) → AreConsequences fs xs goals found → AreFound fs (λ set. assumed set xs) goals found
+pub found_of : (fs goals : List Formula) (xs : List Assumption) (found : Consequences) → AreConsequences fs xs goals found → AreRightConsequences fs (λ set. assumed set xs) goals found
 found_of fs goals xs found are ys same = same_found fs goals xs ys found same are
 
 -- where the clauses are as they were, and what is found is still right

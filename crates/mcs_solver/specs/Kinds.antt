@@ -32,13 +32,13 @@ IsShownView names known heads beliefs view es = (fs : List Formula) → known �
 
 -- ---- what was found to follow
 -- it is right of the formulas and the beliefs with any assumptions that are the heads of each set of rules
-abbrev pub AreFound : List Formula → (ℕ → List Formula) → List Formula → consequences.Consequences → Type 0
-AreFound formulas heads beliefs found = (assumptions : List declared.Assumption)
+abbrev pub AreRightConsequences : List Formula → (ℕ → List Formula) → List Formula → consequences.Consequences → Type 0
+AreRightConsequences formulas heads beliefs found = (assumptions : List declared.Assumption)
     → ((rules : ℕ) → assumed rules assumptions ≡ heads rules) → AreConsequences formulas assumptions beliefs found
 
 -- the clauses are those of the formulas, and what was found is right of these
 abbrev pub IsMadeOfFormulas : List Name → List Formula → (ℕ → List Formula) → List Formula → ClauseList → consequences.Consequences → Type 0
-IsMadeOfFormulas names formulas heads beliefs clauses found = (clauses ≡ clause_list names formulas) × AreFound formulas heads beliefs found
+IsMadeOfFormulas names formulas heads beliefs clauses found = (clauses ≡ clause_list names formulas) × AreRightConsequences formulas heads beliefs found
 
 -- ---- what was found of a default theory
 -- it was found of these items with any assumptions that are the heads of each set of rules

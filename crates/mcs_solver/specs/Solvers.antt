@@ -29,8 +29,8 @@ abbrev pub IsKeptAt : System → ℕ → Bool → List ℕ → ℕ → Option Ke
 IsKeptAt m i keep journal x kept = MatchOption kept ((keep ≡ false) ⊎ (¬ IsAmong x journal)) (λ k. (keep ≡ true) × IsAmong x journal × IsKeptFor m i x k)
 
 -- for each set of rules
-abbrev pub AreKept : System → ℕ → Bool → List ℕ → BTreeMap ℕ Kept → Type 0
-AreKept m i keep journal kept = (x : ℕ) → IsKeptAt m i keep journal x (get nat_cmp kept x)
+abbrev pub AreAnswersKept : System → ℕ → Bool → List ℕ → BTreeMap ℕ Kept → Type 0
+AreAnswersKept m i keep journal kept = (x : ℕ) → IsKeptAt m i keep journal x (get nat_cmp kept x)
 
 -- this answer to x is kept, and what is kept for others is as before
 pub record IsKeptNow (x : ℕ) (outputs : List ℕ) (cert : code.AnswerCert) (old new : BTreeMap ℕ Kept) : Type 0 where

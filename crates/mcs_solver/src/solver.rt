@@ -40,7 +40,7 @@ impl Model for LocalSolver {
     ghost use Rattle.mcs_states.specs.Oracles.{OracleState};
     ghost use Rattle.mcs_states.specs.Codes.{coded_oracle};
     ghost use Rattle.mcs_solver.specs.Kinds.{IsMadeOfContext};
-    ghost use Rattle.mcs_solver.specs.Solvers.{solver_with, AreKept};
+    ghost use Rattle.mcs_solver.specs.Solvers.{solver_with, AreAnswersKept};
 
     ghost Value = { OracleState };
 
@@ -48,7 +48,7 @@ impl Model for LocalSolver {
 
     ghost view = { λ s. solver_with s.keep (arc_value s.system) s.context s.journal.items };
 
-    ghost invariant = { λ s. (s.context < length (arc_value s.system).contexts) × IsMadeOfContext (arc_value s.system) s.context s.known × AreKept (arc_value s.system) s.context s.keep s.journal.items s.kept };
+    ghost invariant = { λ s. (s.context < length (arc_value s.system).contexts) × IsMadeOfContext (arc_value s.system) s.context s.known × AreAnswersKept (arc_value s.system) s.context s.keep s.journal.items s.kept };
 }
 
 impl LocalSolver {

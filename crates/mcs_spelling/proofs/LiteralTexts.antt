@@ -14,7 +14,7 @@ use Rattle.std.specs.Str.{bytes_eq}
 use Rattle.mcs_trace.specs.Clauses.{IsLiteral, IsClause}
 use Rattle.mcs_trace.specs.Traces.{Inference}
 use Rattle.mcs_spelling.specs.Parts.{IsSmallNumber, literal_text, spaced, step_text, SpellsStep}
-use Rattle.mcs_spelling.specs.Words.{after, place_of, with_digit, signed, literals_from, literals_of, numbers_of, ascend_from, guarded, step_of}
+use Rattle.mcs_spelling.specs.Words.{after_prefix, place_of_byte, with_digit, signed, literals_before, literals_of_bytes, numbers_of, ascend_from, guarded, step_of}
 use Rattle.mcs_spelling.proofs.ClauseTests.{ascends, is_clause}
 use Rattle.mcs_spelling.proofs.NumberTexts.{IsMore, more_of, of_more, begun_more, spelled_read, numbers_read, numbers_spelled, begun-is, bound}
 use Rattle.mcs_spelling.proofs.PlaceTexts.{place_is, decimal_without}
@@ -42,10 +42,10 @@ module _ (r : List ℤ) where
       let is : taken ≡ r = cc in
       record { literals = subst (AllByRecursion IsLiteral) is all; text = ap trailed (sym is) ∙ rw (zero_is, plain) (sym (append-nil (trailed taken))) }
 
-  module _ (bytes : List ℕ) (again : (taken : List ℤ) (n : ℕ) (neg : Bool) → AllByRecursion IsLiteral taken → n < 2 ^ 63 → literals_from taken n neg bytes ≡ Some r → AreSpelled taken n neg bytes r) where
-    digit : (taken : List ℤ) (n : ℕ) (neg : Bool) (b : ℕ) → AllByRecursion IsLiteral taken → option_and_then (λ next. literals_from taken next neg bytes) (with_digit n b) ≡ Some r → AreSpelled taken n neg (b ∷ bytes) r
+  module _ (bytes : List ℕ) (again : (taken : List ℤ) (n : ℕ) (neg : Bool) → AllByRecursion IsLiteral taken → n < 2 ^ 63 → literals_before taken n neg bytes ≡ Some r → AreSpelled taken n neg bytes r) where
+    digit : (taken : List ℤ) (n : ℕ) (neg : Bool) (b : ℕ) → AllByRecursion IsLiteral taken → option_and_then (λ next. literals_before taken next neg bytes) (with_digit n b) ≡ Some r → AreSpelled taken n neg (b ∷ bytes) r
     digit taken n neg b all e =
-        let (next, step, rest) = bound (λ k. literals_from taken k neg bytes) (with_digit n b) r e in
+        let (next, step, rest) = bound (λ k. literals_before taken k neg bytes) (with_digit n b) r e in
         let more = more_of n b next step in
         let h = again taken next neg all more.readable.1 rest in
         record {
@@ -53,7 +53,7 @@ module _ (r : List ℤ) where
           text = h.text ∙ ap (λ t. trailed taken ++ (signs neg ++ t)) (ap (λ xs. xs ++ bytes) (begun_more n b next more) ∙ append_assoc (begun n) (b ∷ []) bytes);
         }
 
-    minus : (taken : List ℤ) (n : ℕ) (neg : Bool) (b : ℕ) → AllByRecursion IsLiteral taken → b ≡ 45 → (u : Bool) → (nat_eq n 0 && not neg) ≡ u → cond u (literals_from taken 0 true bytes) None ≡ Some r → AreSpelled taken n neg (b ∷ bytes) r
+    minus : (taken : List ℤ) (n : ℕ) (neg : Bool) (b : ℕ) → AllByRecursion IsLiteral taken → b ≡ 45 → (u : Bool) → (nat_eq n 0 && not neg) ≡ u → cond u (literals_before taken 0 true bytes) None ≡ Some r → AreSpelled taken n neg (b ∷ bytes) r
     minus taken n neg b all dash false u e = absurd (cc)
     minus taken n neg b all dash true u e =
         let h = and_parts (nat_eq n 0) (not neg) u in
@@ -63,7 +63,7 @@ module _ (r : List ℤ) where
         record { literals = rest.literals; text = rest.text ∙ rw (zero_is, plain, dash) refl }
 
     space : (taken : List ℤ) (n : ℕ) (neg : Bool) (b : ℕ) → AllByRecursion IsLiteral taken → n < 2 ^ 63 → b ≡ 32 → (u : Bool) → nat_eq n 0 ≡ u
-        → cond u None (literals_from (taken ++ signed n neg ∷ []) 0 false bytes) ≡ Some r → AreSpelled taken n neg (b ∷ bytes) r
+        → cond u None (literals_before (taken ++ signed n neg ∷ []) 0 false bytes) ≡ Some r → AreSpelled taken n neg (b ∷ bytes) r
     space taken n neg b all few blank true u e = absurd (cc)
     space taken n neg b all few blank false u e =
         let some : 0 < n = omega (arith, eqb-false n 0 u) in
@@ -77,54 +77,54 @@ module _ (r : List ℤ) where
         }
 
     either : (taken : List ℤ) (n : ℕ) (neg : Bool) (b : ℕ) → AllByRecursion IsLiteral taken → n < 2 ^ 63 → (v : Bool) → nat_eq b 32 ≡ v → (w : Bool) → nat_eq b 45 ≡ w
-        → cond v (cond (nat_eq n 0) None (literals_from (taken ++ signed n neg ∷ []) 0 false bytes))
-        (cond w (cond (nat_eq n 0 && not neg) (literals_from taken 0 true bytes) None) (option_and_then (λ next. literals_from taken next neg bytes) (with_digit n b))) ≡ Some r
+        → cond v (cond (nat_eq n 0) None (literals_before (taken ++ signed n neg ∷ []) 0 false bytes))
+        (cond w (cond (nat_eq n 0 && not neg) (literals_before taken 0 true bytes) None) (option_and_then (λ next. literals_before taken next neg bytes) (with_digit n b))) ≡ Some r
         → AreSpelled taken n neg (b ∷ bytes) r
     either taken n neg b all few true v w w' e = space taken n neg b all few (eqb-true b 32 v) (nat_eq n 0) refl e
     either taken n neg b all few false v true w e = minus taken n neg b all (eqb-true b 45 w) (nat_eq n 0 && not neg) refl e
     either taken n neg b all few false v false w e = digit taken n neg b all e
 
-literals_sound : (taken : List ℤ) (n : ℕ) (neg : Bool) (bytes : List ℕ) (r : List ℤ) → AllByRecursion IsLiteral taken → n < 2 ^ 63 → literals_from taken n neg bytes ≡ Some r → AreSpelled taken n neg bytes r
+literals_sound : (taken : List ℤ) (n : ℕ) (neg : Bool) (bytes : List ℕ) (r : List ℤ) → AllByRecursion IsLiteral taken → n < 2 ^ 63 → literals_before taken n neg bytes ≡ Some r → AreSpelled taken n neg bytes r
 literals_sound taken n neg [] r all few e = ended r taken n neg all (nat_eq n 0 && not neg) refl e
 literals_sound taken n neg (b ∷ bytes) r all few e =
     either r bytes (λ taken' n' neg' all' few' e'. literals_sound taken' n' neg' bytes r all' few' e') taken n neg b all few (nat_eq b 32) refl (nat_eq b 45) refl e
 
 -- what is read as literals is spelled as they
-pub literals_spelled : (bytes : List ℕ) (r : List ℤ) → literals_of bytes ≡ Some r → bytes ≡ trailed r
-unfolding literals_of
+pub literals_spelled : (bytes : List ℕ) (r : List ℤ) → literals_of_bytes bytes ≡ Some r → bytes ≡ trailed r
+unfolding literals_of_bytes
 literals_spelled bytes r e = sym ((literals_sound [] 0 false bytes r tt (omega arith) e).text)
 
-literals_goes : (taken : List ℤ) (neg : Bool) (n b m : ℕ) (rest : List ℕ) → IsMore n b m → literals_from taken n neg (b ∷ rest) ≡ literals_from taken m neg rest
+literals_goes : (taken : List ℤ) (neg : Bool) (n b m : ℕ) (rest : List ℕ) → IsMore n b m → literals_before taken n neg (b ∷ rest) ≡ literals_before taken m neg rest
 literals_goes taken neg n b m rest h =
     let space : nat_eq b 32 ≡ false = ne_eqb b 32 (λ e. let low = h.low in omega (arith, e)) in
     let dash : nat_eq b 45 ≡ false = ne_eqb b 45 (λ e. let low = h.low in omega (arith, e)) in
     rw (space, dash, of_more n b m h) refl
 
-one_read : (taken : List ℤ) (neg : Bool) (n : ℕ) (rest : List ℕ) → IsSmallNumber n → literals_from taken 0 neg (decimal n ++ (codes " " ++ rest)) ≡ literals_from (taken ++ signed n neg ∷ []) 0 false rest
+one_read : (taken : List ℤ) (neg : Bool) (n : ℕ) (rest : List ℕ) → IsSmallNumber n → literals_before taken 0 neg (decimal n ++ (codes " " ++ rest)) ≡ literals_before (taken ++ signed n neg ∷ []) 0 false rest
 one_read taken neg n rest h =
-    spelled_read (λ k bytes. literals_from taken k neg bytes) (λ k b m ys. literals_goes taken neg k b m ys) n (codes " " ++ rest) h
-    ∙ ap (λ (v : Bool). cond v None (literals_from (taken ++ signed n neg ∷ []) 0 false rest)) (ne_eqb n 0 (λ e. let p = h.0 in omega (arith, e)))
+    spelled_read (λ k bytes. literals_before taken k neg bytes) (λ k b m ys. literals_goes taken neg k b m ys) n (codes " " ++ rest) h
+    ∙ ap (λ (v : Bool). cond v None (literals_before (taken ++ signed n neg ∷ []) 0 false rest)) (ne_eqb n 0 (λ e. let p = h.0 in omega (arith, e)))
 
-literals_complete : (taken ls : List ℤ) → AllByRecursion IsLiteral ls → literals_from taken 0 false (trailed ls) ≡ Some (taken ++ ls)
+literals_complete : (taken ls : List ℤ) → AllByRecursion IsLiteral ls → literals_before taken 0 false (trailed ls) ≡ Some (taken ++ ls)
 literals_complete taken [] all = ap Some (sym (append-nil taken))
 literals_complete taken (pos n ∷ ls) all =
-    ap (literals_from taken 0 false) (append_assoc (decimal n) (codes " ") (trailed ls)) ∙ (one_read taken false n (trailed ls) all.0
+    ap (literals_before taken 0 false) (append_assoc (decimal n) (codes " ") (trailed ls)) ∙ (one_read taken false n (trailed ls) all.0
     ∙ (literals_complete (taken ++ pos n ∷ []) ls all.1 ∙ ap Some (append_assoc taken (pos n ∷ []) ls)))
 literals_complete taken (negsuc n ∷ ls) all =
-    ap (literals_from taken 0 true) (append_assoc (decimal (suc n)) (codes " ") (trailed ls)) ∙ (one_read taken true (suc n) (trailed ls) all.0
-    ∙ (ap (λ (l : ℤ). literals_from (taken ++ l ∷ []) 0 false (trailed ls)) (negative n) ∙ literals_complete (taken ++ negsuc n ∷ []) ls all.1 ∙ ap Some (append_assoc taken (negsuc n ∷ []) ls)))
+    ap (literals_before taken 0 true) (append_assoc (decimal (suc n)) (codes " ") (trailed ls)) ∙ (one_read taken true (suc n) (trailed ls) all.0
+    ∙ (ap (λ (l : ℤ). literals_before (taken ++ l ∷ []) 0 false (trailed ls)) (negative n) ∙ literals_complete (taken ++ negsuc n ∷ []) ls all.1 ∙ ap Some (append_assoc taken (negsuc n ∷ []) ls)))
 
-pub literals_read : (ls : List ℤ) → AllByRecursion IsLiteral ls → literals_of (trailed ls) ≡ Some ls
-unfolding literals_of
+pub literals_read : (ls : List ℤ) → AllByRecursion IsLiteral ls → literals_of_bytes (trailed ls) ≡ Some ls
+unfolding literals_of_bytes
 literals_read ls all = literals_complete [] ls all
 
 -- ---- fronts
-pub after_front : (front rest : List ℕ) → after front (front ++ rest) ≡ Some rest
-unfolding after
+pub after_front : (front rest : List ℕ) → after_prefix front (front ++ rest) ≡ Some rest
+unfolding after_prefix
 after_front front rest = rw (take-append_seam front rest, (bytes_eq-Decides front front).1 refl) (ap Some (drop-append_seam front rest))
 
-pub after_is : (front bytes rest : List ℕ) → after front bytes ≡ Some rest → bytes ≡ front ++ rest
-unfolding after
+pub after_is : (front bytes rest : List ℕ) → after_prefix front bytes ≡ Some rest → bytes ≡ front ++ rest
+unfolding after_prefix
 after_is front bytes rest e =
     let h = cond_some (bytes_eq (take (length front) bytes) front) (drop (length front) bytes) rest e in
     let t : take (length front) bytes ≡ front = (bytes_eq-Decides (take (length front) bytes) front).0 h.0 in
@@ -157,8 +157,8 @@ pub record IsStepShape (s : Inference) : Type 0 where
   pub readable : IsSmallNumber first
   pub others_readable : AllByRecursion IsSmallNumber others
 
-chained : (s : Inference) (rest numbers : List ℕ) (by : ℕ) → after (codes "step ") (codes "step " ++ rest) ≡ Some rest → place_of 98 rest ≡ Some by
-    → after (codes "by ") (drop by rest) ≡ Some numbers → literals_of (take by rest) ≡ Some s.clause → ascend_from 0 s.clause ≡ true → numbers_of numbers ≡ Some s.chain
+chained : (s : Inference) (rest numbers : List ℕ) (by : ℕ) → after_prefix (codes "step ") (codes "step " ++ rest) ≡ Some rest → place_of_byte 98 rest ≡ Some by
+    → after_prefix (codes "by ") (drop by rest) ≡ Some numbers → literals_of_bytes (take by rest) ≡ Some s.clause → ascend_from 0 s.clause ≡ true → numbers_of numbers ≡ Some s.chain
     → step_of (codes "step " ++ rest) ≡ Some s
 unfolding step_of
 chained s rest numbers by a b d f g k = rw (a, b, d, f, g, k) refl
@@ -169,15 +169,15 @@ step_read s h =
     let numbers = decimal h.first ++ spaced (map decimal h.others) in
     let rest = trailed s.clause ++ (codes "by " ++ numbers) in
     let line : step_text s ≡ codes "step " ++ rest = step_line s ∙ ap (λ (c : List ℕ). codes "step " ++ (trailed s.clause ++ (codes "by" ++ spaced (map decimal c)))) h.chain in
-    let a : after (codes "step ") (codes "step " ++ rest) ≡ Some rest = after_front (codes "step ") rest in
-    let b : place_of 98 rest ≡ Some (length (trailed s.clause)) = place_is 98 (trailed s.clause) (121 ∷ 32 ∷ numbers) (trailed_notb s.clause h.clause.0) in
+    let a : after_prefix (codes "step ") (codes "step " ++ rest) ≡ Some rest = after_front (codes "step ") rest in
+    let b : place_of_byte 98 rest ≡ Some (length (trailed s.clause)) = place_is 98 (trailed s.clause) (121 ∷ 32 ∷ numbers) (trailed_notb s.clause h.clause.0) in
     let c : drop (length (trailed s.clause)) rest ≡ codes "by " ++ numbers = drop-append_seam (trailed s.clause) (codes "by " ++ numbers) in
-    let d : after (codes "by ") (codes "by " ++ numbers) ≡ Some numbers = after_front (codes "by ") numbers in
+    let d : after_prefix (codes "by ") (codes "by " ++ numbers) ≡ Some numbers = after_front (codes "by ") numbers in
     let e : take (length (trailed s.clause)) rest ≡ trailed s.clause = take-append_seam (trailed s.clause) (codes "by " ++ numbers) in
-    let f : literals_of (trailed s.clause) ≡ Some s.clause = literals_read s.clause h.clause.0 in
+    let f : literals_of_bytes (trailed s.clause) ≡ Some s.clause = literals_read s.clause h.clause.0 in
     let g : ascend_from 0 s.clause ≡ true = ascends s.clause h.clause in
     let k : numbers_of numbers ≡ Some s.chain = numbers_read h.first h.others h.readable h.others_readable ∙ ap Some (sym h.chain) in
-    ap step_of line ∙ chained s rest numbers (length (trailed s.clause)) a b (ap (after (codes "by ")) c ∙ d) (ap literals_of e ∙ f) g k
+    ap step_of line ∙ chained s rest numbers (length (trailed s.clause)) a b (ap (after_prefix (codes "by ")) c ∙ d) (ap literals_of_bytes e ∙ f) g k
 
 -- what is read as a step is spelled as it
 pub record IsStepRead (line : List ℕ) (s : Inference) : Type 0 where
@@ -193,8 +193,8 @@ first_of : (ns bytes : List ℕ) → spaced (map decimal ns) ≡ codes " " ++ by
 first_of [] bytes e = absurd (cc)
 first_of (n ∷ ns) bytes e = (n, ns, refl)
 
-read : (line rest numbers : List ℕ) (by : ℕ) (literals clause : List ℤ) (chain : List ℕ) (s : Inference) → after (codes "step ") line ≡ Some rest → after (codes "by ") (drop by rest) ≡ Some numbers
-    → literals_of (take by rest) ≡ Some literals → guarded (ascend_from 0 literals) literals ≡ Some clause → numbers_of numbers ≡ Some chain → record { clause = clause; chain = chain } ≡ s → IsStepRead line s
+read : (line rest numbers : List ℕ) (by : ℕ) (literals clause : List ℤ) (chain : List ℕ) (s : Inference) → after_prefix (codes "step ") line ≡ Some rest → after_prefix (codes "by ") (drop by rest) ≡ Some numbers
+    → literals_of_bytes (take by rest) ≡ Some literals → guarded (ascend_from 0 literals) literals ≡ Some clause → numbers_of numbers ≡ Some chain → record { clause = clause; chain = chain } ≡ s → IsStepRead line s
 read line rest numbers by literals clause chain s a c d f g is =
     let h = cond_some (ascend_from 0 literals) literals clause f in
     let ns = numbers_spelled numbers chain g in
@@ -217,10 +217,10 @@ read line rest numbers by literals clause chain s a c d f g is =
 pub step_spelled : (line : List ℕ) (s : Inference) → step_of line ≡ Some s → IsStepRead line s
 unfolding step_of
 step_spelled line s e =
-    let (rest, a, e1) = bound _ (after (codes "step ") line) s e in
-    let (by, b, e2) = bound _ (place_of 98 rest) s e1 in
-    let (numbers, c, e3) = bound _ (after (codes "by ") (drop by rest)) s e2 in
-    let (literals, d, e4) = bound _ (literals_of (take by rest)) s e3 in
+    let (rest, a, e1) = bound _ (after_prefix (codes "step ") line) s e in
+    let (by, b, e2) = bound _ (place_of_byte 98 rest) s e1 in
+    let (numbers, c, e3) = bound _ (after_prefix (codes "by ") (drop by rest)) s e2 in
+    let (literals, d, e4) = bound _ (literals_of_bytes (take by rest)) s e3 in
     let (clause, f, e5) = bound _ (guarded (ascend_from 0 literals) literals) s e4 in
     let (chain, g, e6) = bound _ (numbers_of numbers) s e5 in
     let is : record { clause = clause; chain = chain } ≡ s = same_Some {A = Inference} _ _ e6 in

@@ -11,7 +11,7 @@ use Rattle.mcs_base.proofs.Booleans.{cond_option}
 use Rattle.mcs_base.proofs.Each.{all_push}
 use Rattle.mcs_base.proofs.Lists.{flat_map_push}
 use Rattle.mcs_spelling.specs.Parts.{spaced, IsSmallNumber, SpellsNumber}
-use Rattle.mcs_spelling.specs.Words.{with_digit, whole, number_from, number_of, numbers_from, numbers_of}
+use Rattle.mcs_spelling.specs.Words.{with_digit, whole, number_from, number_of_bytes, numbers_from, numbers_of}
 use Rattle.mcs_spelling.specs.Spelled.{begun}
 
 pub begun-is : (n : ℕ) → 0 < n → begun n ≡ decimal n
@@ -86,8 +86,8 @@ module _ {X : Type 0} (F : ℕ → List ℕ → X) (goes : (n b m : ℕ) (rest :
 bind_more : {A : Type 0} (f : ℕ → Option A) (n b m : ℕ) → IsMore n b m → option_and_then f (with_digit n b) ≡ f m
 bind_more f n b m h = ap (option_and_then f) (of_more n b m h)
 
-pub number_read : (m : ℕ) → IsSmallNumber m → number_of (decimal m) ≡ Some m
-unfolding number_of
+pub number_read : (m : ℕ) → IsSmallNumber m → number_of_bytes (decimal m) ≡ Some m
+unfolding number_of_bytes
 number_read m h =
     ap (number_from 0) (sym (append-nil (decimal m))) ∙ (spelled_read number_from (λ n b k rest more. bind_more (λ next. number_from next rest) n b k more) m [] h
     ∙ ap (λ (v : Bool). cond v None (Some m)) (ne_eqb m 0 (λ e. let p = h.0 in omega (arith, e))))
@@ -114,12 +114,12 @@ number_sound n m (b ∷ bytes) few e =
     (h.0, h.1 ∙ (ap (λ xs. xs ++ bytes) (begun_more n b next more) ∙ append_assoc (begun n) (b ∷ []) bytes))
 
 -- what is read as a number is spelled as it
-pub number_spelled : (m : ℕ) (bytes : List ℕ) → number_of bytes ≡ Some m → IsSmallNumber m × (bytes ≡ decimal m)
-unfolding number_of
+pub number_spelled : (m : ℕ) (bytes : List ℕ) → number_of_bytes bytes ≡ Some m → IsSmallNumber m × (bytes ≡ decimal m)
+unfolding number_of_bytes
 number_spelled m bytes e = let h = number_sound 0 m bytes (omega arith) e in (h.0, sym h.1)
 
-pub number_told : (bytes : List ℕ) (o : Option ℕ) → o ≡ number_of bytes → SpellsNumber bytes o
-number_told bytes None e = λ n h is. none-some n (e ∙ (ap number_of is ∙ number_read n h))
+pub number_told : (bytes : List ℕ) (o : Option ℕ) → o ≡ number_of_bytes bytes → SpellsNumber bytes o
+number_told bytes None e = λ n h is. none-some n (e ∙ (ap number_of_bytes is ∙ number_read n h))
 number_told bytes (Some n) e = number_spelled n bytes (sym e)
 
 -- ---- numbers with a space between them

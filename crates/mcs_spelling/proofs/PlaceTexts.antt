@@ -6,7 +6,7 @@ use Rattle.std.proofs.lemmas.Iterator.Adapters.{position_from-zero}
 use Rattle.std.proofs.lemmas.Option.{same_Some}
 use Rattle.std.specs.List.{AllByRecursion, position_from}
 use Rattle.mcs_base.proofs.Each.{all_append}
-use Rattle.mcs_spelling.specs.Words.{place_of}
+use Rattle.mcs_spelling.specs.Words.{place_of_byte}
 
 module _ (byte : ℕ) where
   place_from : (k : ℕ) (xs ys : List ℕ) → AllByRecursion (λ b. nat_eq b byte ≡ false) xs → position_from (λ b. nat_eq b byte) k (xs ++ byte ∷ ys) ≡ Some (k + length xs)
@@ -14,7 +14,7 @@ module _ (byte : ℕ) where
   place_from k (x ∷ xs) ys h =
       ap (λ (v : Bool). cond v (Some k) (position_from (λ b. nat_eq b byte) (k + 1) (xs ++ byte ∷ ys))) h.0 ∙ (place_from (k + 1) xs ys h.1 ∙ ap Some (omega arith))
 
-  pub place_is : (xs ys : List ℕ) → AllByRecursion (λ b. nat_eq b byte ≡ false) xs → place_of byte (xs ++ byte ∷ ys) ≡ Some (length xs)
+  pub place_is : (xs ys : List ℕ) → AllByRecursion (λ b. nat_eq b byte ≡ false) xs → place_of_byte byte (xs ++ byte ∷ ys) ≡ Some (length xs)
   place_is xs ys h = position_from-zero (λ b. nat_eq b byte) (xs ++ byte ∷ ys) ∙ (place_from 0 xs ys h ∙ ap Some (omega arith))
 
   -- what is no digit stands in no number
@@ -31,7 +31,7 @@ module _ (byte : ℕ) where
       at true v again e = (0, (let same = same_Some k i e in omega arith), ap (λ (y : ℕ). y ∷ xs) (eqb-true x byte v))
       at false v again e = let (j, is, split) = again e in (suc j, omega (arith, is), ap (λ (ys : List ℕ). x ∷ ys) split)
 
-  pub split_at : (xs : List ℕ) (place : ℕ) → place_of byte xs ≡ Some place → xs ≡ take place xs ++ byte ∷ drop (place + 1) xs
+  pub split_at : (xs : List ℕ) (place : ℕ) → place_of_byte byte xs ≡ Some place → xs ≡ take place xs ++ byte ∷ drop (place + 1) xs
   split_at xs place e =
       let (j, is, split) = split_from 0 place xs (sym (position_from-zero (λ b. nat_eq b byte) xs) ∙ e) in
       let same : j ≡ place = omega (arith, is) in

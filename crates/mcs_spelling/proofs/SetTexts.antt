@@ -14,8 +14,8 @@ use Rattle.mcs_sets.proofs.SetLemmas.{same_set, has-union, has-single, has-empty
 use Rattle.mcs_base.specs.Listings.{IsAmong, AreApart}
 use Rattle.mcs_text.proofs.Members.{left, left-none}
 use Rattle.mcs_text.specs.Separated.{further, separated}
-use Rattle.mcs_spelling.specs.Parts.{chosen, set_text, IsAllowed, IsTellable, AreTellable, SpellsSet}
-use Rattle.mcs_spelling.specs.Words.{after, ends_member, guarded, after_member, set_from, set_of}
+use Rattle.mcs_spelling.specs.Parts.{chosen, set_text, AreMembersAllowed, IsTellable, AreTellable, SpellsSet}
+use Rattle.mcs_spelling.specs.Words.{after_prefix, ends_member, guarded, after_member, set_from, set_of}
 use Rattle.mcs_spelling.proofs.NumberTexts.{bound}
 use Rattle.mcs_spelling.proofs.LiteralTexts.{after_front, after_is}
 use Rattle.mcs_spelling.specs.Spelled.{sep}
@@ -35,12 +35,12 @@ follows (t ∷ ts) = refl
 split_off : (b : Bool) (bytes t rest : List ℕ) → after_member bytes b t ≡ Some rest → (bytes ≡ sep b ++ (t ++ rest)) × (ends_member rest ≡ true)
 unfolding after_member
 split_off true bytes t rest e =
-    let (start, a, e1) = bound (λ r. guarded (ends_member r) r) (after t bytes) rest e in
+    let (start, a, e1) = bound (λ r. guarded (ends_member r) r) (after_prefix t bytes) rest e in
     let h = cond_some (ends_member start) start rest e1 in
     (after_is t bytes start a ∙ ap (λ (r : List ℕ). t ++ r) h.1, subst (λ (r : List ℕ). ends_member r ≡ true) h.1 h.0)
 split_off false bytes t rest e =
-    let (start, a, e1) = bound (λ s. option_and_then (λ r. guarded (ends_member r) r) (after t s)) (after (codes ", ") bytes) rest e in
-    let (other, c, e2) = bound (λ r. guarded (ends_member r) r) (after t start) rest e1 in
+    let (start, a, e1) = bound (λ s. option_and_then (λ r. guarded (ends_member r) r) (after_prefix t s)) (after_prefix (codes ", ") bytes) rest e in
+    let (other, c, e2) = bound (λ r. guarded (ends_member r) r) (after_prefix t start) rest e1 in
     let h = cond_some (ends_member other) other rest e2 in
     (after_is (codes ", ") bytes start a ∙ ap (λ (r : List ℕ). codes ", " ++ r) (after_is t start other c ∙ ap (λ (r : List ℕ). t ++ r) h.1), subst (λ (r : List ℕ). ends_member r ≡ true) h.1 h.0)
 
@@ -112,7 +112,7 @@ skipped allowed k t ts found bytes r out h =
       text = h.text ∙ ap (λ (v : Bool). left (nat_eq found 0) (cond v (t ∷ chosen r (k + 1) ts) (chosen r (k + 1) ts)) ++ close) (sym not_in);
       below = (λ j less. h.below j (omega arith));
       above = (λ j more e. elim (cases_lt k j) [
-        | inl after ↦ let a = h.above j (omega arith) e in (let b = a.0 in omega (arith, b), a.1)
+        | inl after_prefix ↦ let a = h.above j (omega arith) e in (let b = a.0 in omega (arith, b), a.1)
         | inr past ↦ let same : j ≡ k = omega arith in absurd (true≢false (sym e ∙ (ap (has r) same ∙ not_in)))
       ]);
     }
@@ -127,7 +127,7 @@ taken_in allowed k t ts found bytes rest r ok is h =
           ∙ ap (λ (v : Bool). left (nat_eq found 0) (cond v (t ∷ chosen r (k + 1) ts) (chosen r (k + 1) ts)) ++ close) (sym inside)));
       below = (λ j less. h.below j (omega arith) ∙ unlike j less);
       above = (λ j more e. elim (cases_lt k j) [
-        | inl after ↦ let a = h.above j (omega arith) e in (let b = a.0 in omega (arith, b), a.1)
+        | inl after_prefix ↦ let a = h.above j (omega arith) e in (let b = a.0 in omega (arith, b), a.1)
         | inr past ↦ let same : j ≡ k = omega arith in (omega arith, ap (has allowed) same ∙ ok)
       ]);
     }
@@ -150,10 +150,10 @@ sound allowed k [] found bytes r none e = at_end allowed k found bytes r none e
 sound allowed k (t ∷ ts) found bytes r none e =
     step allowed k t ts found bytes r none (λ found' bytes' none' e'. sound allowed (k + 1) ts found' bytes' r none' e') (has allowed k) refl (cond (has allowed k) (after_member bytes (nat_eq found 0) t) None) refl e
 
-pub set_spelled : (texts : List (List ℕ)) (allowed : ℕ) (bytes : List ℕ) (r : ℕ) → set_of texts allowed bytes ≡ Some r → IsAllowed allowed (length texts) r × (bytes ≡ set_text texts r)
+pub set_spelled : (texts : List (List ℕ)) (allowed : ℕ) (bytes : List ℕ) (r : ℕ) → set_of texts allowed bytes ≡ Some r → AreMembersAllowed allowed (length texts) r × (bytes ≡ set_text texts r)
 unfolding set_of
 set_spelled texts allowed bytes r e =
-    let (rest, a, e1) = bound (λ x. set_from allowed 0 texts 0 x) (after (codes "{") bytes) r e in
+    let (rest, a, e1) = bound (λ x. set_from allowed 0 texts 0 x) (after_prefix (codes "{") bytes) r e in
     let h = sound allowed 0 texts 0 rest r (λ j more. has-empty j) e1 in
     (λ k inside. let g = h.above k (omega arith) inside in (let b = g.0 in omega (arith, b), g.1), after_is (codes "{") bytes rest a ∙ ap (λ (x : List ℕ). codes "{" ++ x) h.text)
 
@@ -218,7 +218,7 @@ complete allowed k (t ∷ ts) found r tells apart none below above = at (has r k
         elim (cases_Bool (has allowed k)) [ inl e ↦ rw e gone | inr e ↦ rw e refl ] in
         rw no_member (other (upto_skipped inside) later)
 
-pub set_read : (texts : List (List ℕ)) (allowed r : ℕ) → AreTellable texts → IsAllowed allowed (length texts) r → set_of texts allowed (set_text texts r) ≡ Some r
+pub set_read : (texts : List (List ℕ)) (allowed r : ℕ) → AreTellable texts → AreMembersAllowed allowed (length texts) r → set_of texts allowed (set_text texts r) ≡ Some r
 unfolding set_of
 set_read texts allowed r tells within =
     ap (λ (o : Option (List ℕ)). option_and_then (λ rest. set_from allowed 0 texts 0 rest) o) (after_front (codes "{") (separated (chosen r 0 texts) ++ close))

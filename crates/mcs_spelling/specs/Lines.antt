@@ -5,13 +5,13 @@ abbrev pub is_empty : {A : Type 0} → List A → Bool
 is_empty [] = true
 is_empty (x ∷ xs) = false
 
-abbrev pub onto : ℕ → List (List ℕ) → List (List ℕ)
-onto b [] = []
-onto b (line ∷ lines) = (b ∷ line) ∷ lines
+abbrev pub line_onto : ℕ → List (List ℕ) → List (List ℕ)
+line_onto b [] = []
+line_onto b (line ∷ lines) = (b ∷ line) ∷ lines
 
 abbrev pub complete_lines : List ℕ → List (List ℕ)
 complete_lines [] = []
-complete_lines (b ∷ bytes) = cond (nat_eq b 10) ([] ∷ complete_lines bytes) (onto b (complete_lines bytes))
+complete_lines (b ∷ bytes) = cond (nat_eq b 10) ([] ∷ complete_lines bytes) (line_onto b (complete_lines bytes))
 
 -- what follows the last line feed
 abbrev pub incomplete : List ℕ → List ℕ

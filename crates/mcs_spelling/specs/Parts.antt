@@ -23,19 +23,19 @@ abbrev pub atoms_text : List Name → ℕ → List ℕ
 atoms_text names places = braced (map (atom_text names) (members places))
 
 -- the defaults at the places of a set, by their numbers from 1
-abbrev pub default_text : ℕ → List ℕ
-default_text k = decimal (k + 1)
+abbrev pub default_places_text : ℕ → List ℕ
+default_places_text k = decimal (k + 1)
 
 abbrev pub defaults_text : ℕ → List ℕ
-defaults_text set = braced (map default_text (members set))
+defaults_text set = braced (map default_places_text (members set))
 
 -- a literal: its size, with a sign before it where it is negative
-abbrev pub sign_of : ℤ → List ℕ
-sign_of (pos n) = []
-sign_of (negsuc n) = codes "-"
+abbrev pub literal_sign : ℤ → List ℕ
+literal_sign (pos n) = []
+literal_sign (negsuc n) = codes "-"
 
 abbrev pub literal_text : ℤ → List ℕ
-literal_text l = sign_of l ++ decimal (unsigned_abs l)
+literal_text l = literal_sign l ++ decimal (unsigned_abs l)
 
 -- each after a space
 abbrev pub spaced : List (List ℕ) → List ℕ
@@ -51,7 +51,7 @@ abbrev pub IsSmallNumber : ℕ → Type 0
 IsSmallNumber n = (0 < n) × (n < 2 ^ 63)
 
 -- a set of literals, and one number of a clause or more
-pub record IsStep (s : Inference) : Type 0 where
+pub record IsTraceStep (s : Inference) : Type 0 where
   pub clause : IsClause s.clause
   pub some : ¬ (s.chain ≡ [])
   pub numbers : AllByRecursion IsSmallNumber s.chain
@@ -63,8 +63,8 @@ SpellsNumber bytes (Some n) = IsSmallNumber n × (bytes ≡ decimal n)
 
 -- the line spells the step; none where it is said that there is none
 abbrev pub SpellsStep : List ℕ → Option Inference → Type 0
-SpellsStep line None = (s : Inference) → IsStep s → ¬ (line ≡ step_text s)
-SpellsStep line (Some s) = IsStep s × (line ≡ step_text s)
+SpellsStep line None = (s : Inference) → IsTraceStep s → ¬ (line ≡ step_text s)
+SpellsStep line (Some s) = IsTraceStep s × (line ≡ step_text s)
 
 -- ---- sets, of which these are the texts of the numbers from k on
 abbrev pub chosen : ℕ → ℕ → List (List ℕ) → List (List ℕ)
@@ -75,8 +75,8 @@ abbrev pub set_text : List (List ℕ) → ℕ → List ℕ
 set_text texts s = braced (chosen s 0 texts)
 
 -- each member has a text, and is allowed
-abbrev pub IsAllowed : ℕ → ℕ → ℕ → Type 0
-IsAllowed allowed count s = (k : ℕ) → IsTrue (has s k) → (k < count) × IsTrue (has allowed k)
+abbrev pub AreMembersAllowed : ℕ → ℕ → ℕ → Type 0
+AreMembersAllowed allowed count s = (k : ℕ) → IsTrue (has s k) → (k < count) × IsTrue (has allowed k)
 
 -- a text that ends where a comma or a closing brace stands
 abbrev pub IsTellable : List ℕ → Type 0
@@ -89,5 +89,5 @@ pub record AreTellable (texts : List (List ℕ)) : Type 0 where
 
 -- the bytes spell the set; none where it is said that there is none
 abbrev pub SpellsSet : List (List ℕ) → ℕ → List ℕ → Option ℕ → Type 0
-SpellsSet texts allowed bytes None = (s : ℕ) → IsAllowed allowed (length texts) s → ¬ (bytes ≡ set_text texts s)
-SpellsSet texts allowed bytes (Some s) = IsAllowed allowed (length texts) s × (bytes ≡ set_text texts s)
+SpellsSet texts allowed bytes None = (s : ℕ) → AreMembersAllowed allowed (length texts) s → ¬ (bytes ≡ set_text texts s)
+SpellsSet texts allowed bytes (Some s) = AreMembersAllowed allowed (length texts) s × (bytes ≡ set_text texts s)

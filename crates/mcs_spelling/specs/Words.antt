@@ -12,12 +12,12 @@ abbrev pub ◌>>=◌ : {A B : Type 0} → Option A → (A → Option B) → Opti
 o >>= f = option_and_then f o
 
 -- what follows the front in the bytes
-unfoldable pub after : List ℕ → List ℕ → Option (List ℕ)
-after front bytes = cond (bytes_eq (take (length front) bytes) front) (Some (drop (length front) bytes)) None
+unfoldable pub after_prefix : List ℕ → List ℕ → Option (List ℕ)
+after_prefix front bytes = cond (bytes_eq (take (length front) bytes) front) (Some (drop (length front) bytes)) None
 
 -- the place of the first byte that is this one
-abbrev pub place_of : ℕ → List ℕ → Option ℕ
-place_of byte bytes = position (λ b. nat_eq b byte) bytes
+abbrev pub place_of_byte : ℕ → List ℕ → Option ℕ
+place_of_byte byte bytes = position (λ b. nat_eq b byte) bytes
 
 -- ---- numbers
 -- the number with one more digit, 0 being that of no digit
@@ -33,8 +33,8 @@ abbrev pub number_from : ℕ → List ℕ → Option ℕ
 number_from n [] = whole n
 number_from n (b ∷ bytes) = option_and_then (λ next. number_from next bytes) (with_digit n b)
 
-unfoldable pub number_of : List ℕ → Option ℕ
-number_of bytes = number_from 0 bytes
+unfoldable pub number_of_bytes : List ℕ → Option ℕ
+number_of_bytes bytes = number_from 0 bytes
 
 -- numbers with a space between them: those taken, and one begun
 abbrev pub numbers_from : List ℕ → ℕ → List ℕ → Option (List ℕ)
@@ -49,15 +49,15 @@ abbrev pub signed : ℕ → Bool → ℤ
 signed n is_negative = cond is_negative (pos 0 -ℤ pos n) (pos n)
 
 -- literals with a space after each: those taken, and one begun
-abbrev pub literals_from : List ℤ → ℕ → Bool → List ℕ → Option (List ℤ)
-literals_from taken n is_negative [] = cond (nat_eq n 0 && not is_negative) (Some taken) None
-literals_from taken n is_negative (b ∷ bytes) =
-    cond (nat_eq b 32) (cond (nat_eq n 0) None (literals_from (taken ++ signed n is_negative ∷ []) 0 false bytes))
-    (cond (nat_eq b 45) (cond (nat_eq n 0 && not is_negative) (literals_from taken 0 true bytes) None)
-    (option_and_then (λ next. literals_from taken next is_negative bytes) (with_digit n b)))
+abbrev pub literals_before : List ℤ → ℕ → Bool → List ℕ → Option (List ℤ)
+literals_before taken n is_negative [] = cond (nat_eq n 0 && not is_negative) (Some taken) None
+literals_before taken n is_negative (b ∷ bytes) =
+    cond (nat_eq b 32) (cond (nat_eq n 0) None (literals_before (taken ++ signed n is_negative ∷ []) 0 false bytes))
+    (cond (nat_eq b 45) (cond (nat_eq n 0 && not is_negative) (literals_before taken 0 true bytes) None)
+    (option_and_then (λ next. literals_before taken next is_negative bytes) (with_digit n b)))
 
-unfoldable pub literals_of : List ℕ → Option (List ℤ)
-literals_of bytes = literals_from [] 0 false bytes
+unfoldable pub literals_of_bytes : List ℕ → Option (List ℤ)
+literals_of_bytes bytes = literals_before [] 0 false bytes
 
 -- ---- sets
 -- whether the bytes go on with a comma, or end the set
@@ -71,8 +71,8 @@ guarded b x = cond b (Some x) None
 -- what follows a member, which may be the first of the set
 unfoldable pub after_member : List ℕ → Bool → List ℕ → Option (List ℕ)
 after_member bytes is_first member = do
-  start ← cond is_first (Some bytes) (after (codes ", ") bytes)
-  rest ← after member start
+  start ← cond is_first (Some bytes) (after_prefix (codes ", ") bytes)
+  rest ← after_prefix member start
   guarded (ends_member rest) rest
 
 -- the set of which these were found, where of those that are allowed, spelled by these texts from number k on, some may follow in the bytes
@@ -84,7 +84,7 @@ set_from allowed k (text ∷ texts) found bytes =
 
 -- the set that the bytes spell, of allowed numbers, which are spelled by these texts
 unfoldable pub set_of : List (List ℕ) → ℕ → List ℕ → Option ℕ
-set_of texts allowed bytes = after (codes "{") bytes >>= λ rest. set_from allowed 0 texts 0 rest
+set_of texts allowed bytes = after_prefix (codes "{") bytes >>= λ rest. set_from allowed 0 texts 0 rest
 
 -- ---- steps
 -- whether the numbers are literals in strictly ascending order, where the last one before them has this place
@@ -95,10 +95,10 @@ ascend_from last (l ∷ ls) = nat_lt 0 (unsigned_abs l) && (nat_lt (unsigned_abs
 -- a step of resolution: its literals and its chain
 unfoldable pub step_of : List ℕ → Option Inference
 step_of line = do
-  rest ← after (codes "step ") line
-  by ← place_of 98 rest
-  numbers ← after (codes "by ") (drop by rest)
-  literals ← literals_of (take by rest)
+  rest ← after_prefix (codes "step ") line
+  by ← place_of_byte 98 rest
+  numbers ← after_prefix (codes "by ") (drop by rest)
+  literals ← literals_of_bytes (take by rest)
   clause ← guarded (ascend_from 0 literals) literals
   chain ← numbers_of numbers
   Some (record { clause = clause; chain = chain })

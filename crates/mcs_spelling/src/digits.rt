@@ -3,7 +3,7 @@
 ghost use Rattle.std.specs.Prelude.{◌≡◌, ◌<◌, ◌^◌, IfOk, IfSome};
 ghost use Rattle.std.specs.Option.{option_map};
 ghost use Rattle.mcs_spelling.specs.Parts.{SpellsNumber};
-ghost use Rattle.mcs_spelling.specs.Words.{with_digit, number_of, numbers_of, signed, literals_of};
+ghost use Rattle.mcs_spelling.specs.Words.{with_digit, number_of_bytes, numbers_of, signed, literals_of_bytes};
 
 use mcs_base::Memory;
 use std::alloc::Global;
@@ -29,9 +29,9 @@ fn with_digit(number: u64, byte: u8) -> Option<u64>
 }
 
 /// The number with these digits.
-#[tactic(auto, unfolding(crate::specs::Words::number_of))]
+#[tactic(auto, unfolding(crate::specs::Words::number_of_bytes))]
 fn number_in(bytes: &[u8]) -> Option<u64>
-    ensures { result ≡ number_of bytes.now }
+    ensures { result ≡ number_of_bytes bytes.now }
 {
     let mut number = 0;
     for byte in bytes {
@@ -44,7 +44,7 @@ fn number_in(bytes: &[u8]) -> Option<u64>
 /// none.
 pub fn read_number(bytes: &[u8]) -> Option<u64>
     ensures spelled { SpellsNumber bytes.now result }
-    ensures exact { result ≡ number_of bytes.now }
+    ensures exact { result ≡ number_of_bytes bytes.now }
 {
     number_in(bytes)
 }
@@ -91,9 +91,9 @@ fn signed(size: u64, is_negative: bool) -> i64
 
 /// The literals that the bytes spell, each followed by one space; there may be none. `None` if the bytes are not of
 /// this form.
-#[tactic(auto, unfolding(crate::specs::Words::literals_of))]
+#[tactic(auto, unfolding(crate::specs::Words::literals_of_bytes))]
 pub fn read_literals(alloc: Global, bytes: &[u8]) -> Result<Option<Vec<i64>>, Memory>
-    ensures { IfOk result (λ o. option_map (λ v. v.items) o ≡ literals_of bytes.now) }
+    ensures { IfOk result (λ o. option_map (λ v. v.items) o ≡ literals_of_bytes bytes.now) }
 {
     let mut literals = Vec::new(alloc);
     let mut size = 0;

@@ -2,7 +2,7 @@
 
 ghost use Rattle.std.specs.Prelude.{◌≡◌, ◌++◌, map, OnOk, OnErr, decimal};
 ghost use Rattle.mcs_trace.specs.Traces.{inference_of};
-ghost use Rattle.mcs_spelling.specs.Parts.{sign_of, literal_text, spaced, step_text};
+ghost use Rattle.mcs_spelling.specs.Parts.{literal_sign, literal_text, spaced, step_text};
 
 use mcs_base::{Memory, Text};
 use mcs_trace::Step;
@@ -43,7 +43,7 @@ pub fn push_order(text: &mut Text, numbers: &[u32]) -> Result<(), Memory>
 
 /// The sign before the absolute value of a literal.
 fn sign(literal: i64) -> &'static [u8]
-    ensures { result.now ≡ sign_of literal }
+    ensures { result.now ≡ literal_sign literal }
 {
     if literal < 0 { b"-" } else { b"" }
 }

@@ -2,7 +2,7 @@
 
 ghost use Rattle.std.specs.Prelude.{◌≡◌, ◌++◌, map, OnOk, OnErr};
 ghost use Rattle.mcs_text.specs.Separated.{braced};
-ghost use Rattle.mcs_spelling.specs.Parts.{atom_text, atoms_text, default_text, defaults_text};
+ghost use Rattle.mcs_spelling.specs.Parts.{atom_text, atoms_text, default_places_text, defaults_text};
 
 use mcs_base::{Members, Memory, Text, Vars};
 use mcs_system::Name;
@@ -45,7 +45,7 @@ pub fn push_atoms(text: &mut Text, names: &[Name], atoms: u64) -> Result<(), Mem
 
 /// Appends the numbers of the defaults at the places, in braces, to a text of its own.
 fn push_defaults_at(text: &mut Text, places: Members) -> Result<(), Memory>
-    ensures { OnOk result (text.new ≡ text.old ++ braced (map default_text places)) }
+    ensures { OnOk result (text.new ≡ text.old ++ braced (map default_places_text places)) }
 {
     text.push(b"{")?;
     let mut is_first = true;

@@ -2,7 +2,7 @@
 use Rattle.std.proofs.Common.{◌≡◌, ℕ, ◌<◌, max, zero, suc, List, [], ◌∷◌, Option, Some, None, slice_get, refl, sym, ap, ◌∙◌, subst, arith}
 use Rattle.mcs_system.specs.Levels.{IsQuestionAt, HasQuestions}
 use Rattle.mcs_states.specs.Oracles.{OracleState, with_journal, IsLacking}
-use Rattle.mcs_states.specs.Evaluators.{EvaluatorState, KeepsRest, HasDone, HasHalted, HasHaltCause, IsUnanswered, unasked, raised, IsTold}
+use Rattle.mcs_states.specs.Evaluators.{EvaluatorState, KeepsRest, HasDone, HasHalted, HasHaltCause, IsUnanswered, unasked, raised, IsHaltOf}
 use Rattle.mcs_states.specs.declared.halt.Halt.{Halt}
 use Rattle.mcs_states.specs.declared.halt.Halt.TheVariants.{Spent, Missing, Memory}
 
@@ -34,7 +34,7 @@ raised-twice (Some d) level = ap (λ n. Some n) (let e : max (max d level) level
 pub done_twice : (a b c : EvaluatorState) (level : ℕ) → HasDone a b level → HasDone b c level → HasDone a c level
 done_twice a b c level h k = record { level_done = k.level_done ∙ ap (λ d. raised d level) h.level_done ∙ raised-twice a.done level; settled = k.settled; within = h.within; answered = h.answered }
 
-pub told : (a b : EvaluatorState) (level : ℕ) (halt : Halt) → HasHalted a b level halt → IsTold b halt
+pub told : (a b : EvaluatorState) (level : ℕ) (halt : Halt) → HasHalted a b level halt → IsHaltOf b halt
 told a b level (Spent at drawn) h = (h.told, h.over)
 told a b level (Missing context active) h = (h.told, h.over)
 told a b level Memory h = tt

@@ -43,29 +43,29 @@ pub record KeepsRest (before after : EvaluatorState) : Type 0 where
   pub oracles : unasked after.oracles ≡ unasked before.oracles
 
 -- x is a question of the greatest level done: of none where no level was done
-abbrev pub IsAsked : System → Option ℕ → ℕ → ℕ → Type 0
-IsAsked m None i x = ⊥
-IsAsked m (Some level) i x = IsQuestionAt m level i x
+abbrev pub IsJournalQuestion : System → Option ℕ → ℕ → ℕ → Type 0
+IsJournalQuestion m None i x = ⊥
+IsJournalQuestion m (Some level) i x = IsQuestionAt m level i x
 
 -- there is an oracle for each context
 abbrev pub HasOracles : EvaluatorState → Type 0
 HasOracles e = length e.oracles ≡ length e.system.contexts
 
 -- it can be asked on, and the journals hold exactly the questions of the greatest level done, each once
-pub record IsSettled (e : EvaluatorState) : Type 0 where
+pub record IsEvaluatorSettled (e : EvaluatorState) : Type 0 where
   pub going : e.halted ≡ false
   pub no_halt : e.halt ≡ None
   pub one_each : HasOracles e
   pub own : (i : ℕ) (o : OracleState) → slice_get e.oracles i ≡ Some o → (o.system ≡ e.system) × (o.context ≡ i)
-  pub asked : (i : ℕ) (o : OracleState) → slice_get e.oracles i ≡ Some o → IsInventory (IsAsked e.system e.done i) o.journal
+  pub asked : (i : ℕ) (o : OracleState) → slice_get e.oracles i ≡ Some o → IsInventory (IsJournalQuestion e.system e.done i) o.journal
 
 -- the number of the questions in the journals
 abbrev pub asked_of : EvaluatorState → ℕ
 asked_of e = sum_by (λ (o : OracleState). length o.journal) e.oracles
 
 -- the questions of the level are more than the budget
-abbrev pub IsBeyond : EvaluatorState → ℕ → Type 0
-IsBeyond e level = HasQuestions e.system level (e.budget + 1)
+abbrev pub ExceedsBudget : EvaluatorState → ℕ → Type 0
+ExceedsBudget e level = HasQuestions e.system level (e.budget + 1)
 
 -- the oracle of context i lacks an answer for x, which is a question of the level
 pub record IsUnanswered (e : EvaluatorState) (level i x : ℕ) : Type 0 where
@@ -77,8 +77,8 @@ pub record IsUnanswered (e : EvaluatorState) (level i x : ℕ) : Type 0 where
 -- A call of the level came to its end: the level is done, within the budget and with no answer missing.
 pub record HasDone (before after : EvaluatorState) (level : ℕ) : Type 0 where
   pub level_done : after.done ≡ raised before.done level
-  pub settled : IsSettled after
-  pub within : ¬ IsBeyond before level
+  pub settled : IsEvaluatorSettled after
+  pub within : ¬ ExceedsBudget before level
   pub answered : (i x : ℕ) → ¬ IsUnanswered before level i x
 
 -- the cause of a halt of a call of the level
@@ -107,7 +107,7 @@ AreStates m pair states = IsListing (IsStateOf m pair) StateBefore states
 
 -- ---- a call that is handed an evaluator
 -- Unless it is want of memory, which may be the call's own, the halt is that of the evaluator, which can be asked no more.
-abbrev pub IsTold : EvaluatorState → Halt → Type 0
-IsTold e (Spent level drawn) = (e.halt ≡ Some (Spent level drawn)) × (e.halted ≡ true)
-IsTold e (Missing context active) = (e.halt ≡ Some (Missing context active)) × (e.halted ≡ true)
-IsTold e Memory = Unit {0}
+abbrev pub IsHaltOf : EvaluatorState → Halt → Type 0
+IsHaltOf e (Spent level drawn) = (e.halt ≡ Some (Spent level drawn)) × (e.halted ≡ true)
+IsHaltOf e (Missing context active) = (e.halt ≡ Some (Missing context active)) × (e.halted ≡ true)
+IsHaltOf e Memory = Unit {0}

@@ -43,8 +43,8 @@ fn what_follows_in_64_steps_is_believed(rt: HostRuntime) {
     assert!(rt; is_listed(rt.alloc(), &PROGRAM, listing) == Ok(true));
 }
 
-/// That each of four pigeons sits in one of three holes and no two in one, and two rules that read whether the first one
-/// sits in the first.
+/// That each of four pigeons sits in one of three holes and no two in one, and two rules that read whether the first
+/// one sits in the first.
 const FOUR_IN_THREE: [Rows; 12] = [
     ("context c classical {", 0, 1),
     (" p0_0 | p0_1 | p0_2.", 0, 1),
@@ -101,8 +101,8 @@ fn pigeons_need_holes(rt: HostRuntime) {
     assert!(rt; is_listed(rt.alloc(), &FIVE_IN_FIVE, none) == Ok(true));
 }
 
-/// Whether a context without formulas, in 24 bytes with the line feed, and spaces and line feeds behind it, in all a file
-/// of this length, ends so.
+/// Whether a context without formulas, in 24 bytes with the line feed, and spaces and line feeds behind it, in all a
+/// file of this length, ends so.
 fn ends_at(alloc: Global, back: &'static str, length: usize, end: End<'_>) -> Result<bool, Memory> {
     let text = text_of(
         alloc,

@@ -155,7 +155,8 @@ fn a_failed_write_leaves_the_lines_before_it(rt: HostRuntime) {
     }
 }
 
-/// Words over devices of which one call may fail, and how the run ends. The file `f` has a rule against its own context.
+/// Words over devices of which one call may fail, and how the run ends. The file `f` has a rule against its own
+/// context.
 struct Fault {
     words: &'static str,
     failing_call: u64,

@@ -4,7 +4,8 @@ use crate::runs::{SOUND, ends, sink_of, status_of};
 use mcs_base::{Memory, Text};
 use std::alloc::Global;
 
-/// Whether `check` of the report on the system of this text ends with this status and writes this, and nothing is noted.
+/// Whether `check` of the report on the system of this text ends with this status and writes this, and nothing is
+/// noted.
 fn is_found(
     alloc: Global,
     text: &str,
@@ -116,8 +117,9 @@ pub const TOLD: &str =
 const TOLD_REPORT: &str =
     "mcs 1: 2 contexts, 1 rules, 1 variables\ninconsistent\ndiagnosis 1: {-r1} state {c1:a} active {}\nexplanation 1: {-r1 by 1}\nend: 0 equilibria, 1 diagnoses, 1 explanations, need 3\nproof\nanswer c1 {}\nstate {c1:a}\nmodel {a}\nstep by 8 6 4 1 5\nnone\nstep by 8 6 4 1 5\ndone\nanswer c2 {}\nstate {}\nmodel {}\nstep by 12 10 9\nnone\nstep by 9 7 6\ndone\nanswer c2 {r1}\nnone\nstep by 10 9 6 4 1 5\ndone\nend of proof\n";
 
-/// Lines of that report, what is put in their place, and what is found then: lines that are left out, a trace without its
-/// end, a state that another context has, a state twice, a set of rules that comes after its next one, another count.
+/// Lines of that report, what is put in their place, and what is found then: lines that are left out, a trace without
+/// its end, a state that another context has, a state twice, a set of rules that comes after its next one, another
+/// count.
 const CHANGES: [Change; 12] = [
     Change {
         lines: (4, 4),
@@ -187,8 +189,8 @@ const THEORY: &str = "context c1 default { true : p / ~p. }";
 const THEORY_REPORT: &str =
     "mcs 1: 1 contexts, 0 rules, 0 variables\ninconsistent\nexplanation 1: {}\nend: 0 equilibria, 0 diagnoses, 1 explanations, need 1\nproof\nanswer c1 {}\nset {}\napplied 1\nyes\nstep by 4 2 1\nno {p}\nset {1}\nblocked 1 1\nyes\nstep by 8 6 5 1 3\ndone\nend of proof\n";
 
-/// Lines of that report, what is put in their place, and what is found then: an empty set of atoms, another trace, a set
-/// of defaults that is left out, or claimed to be ungrounded.
+/// Lines of that report, what is put in their place, and what is found then: an empty set of atoms, another trace, a
+/// set of defaults that is left out, or claimed to be ungrounded.
 const THEORY_CHANGES: [Change; 5] = [
     Change {
         lines: (11, 11),
@@ -253,8 +255,8 @@ fn what_is_solved_with_its_proof_is_valid(rt: HostRuntime) {
     }
 }
 
-/// Whether each line of the report but the one that ends the listing, when another stands in its place, is told: one of the
-/// listing by its own number, one after it at the latest by that.
+/// Whether each line of the report but the one that ends the listing, when another stands in its place, is told: one
+/// of the listing by its own number, one after it at the latest by that.
 fn each_line_counts(
     alloc: Global,
     (system, report): (&str, &str),

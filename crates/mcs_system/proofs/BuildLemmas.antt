@@ -11,8 +11,8 @@ use Rattle.mcs_system.specs.declared.limit.Limit.TheVariants.{Contexts, Bridges,
 use Rattle.mcs_system.specs.Plain.{System}
 use Rattle.mcs_system.specs.Systems.{variables}
 use Rattle.mcs_system.specs.Faults.{has_unknown_context, has_twin_names, has_misfits, exceeds, first_exceeded, limits, Fault, fault, limit_fault, fault_of, IsValid}
-use Rattle.mcs_system.specs.Built.{number_of, first_flaw, first_limits, last_limits, IsFaultOf}
-use Rattle.mcs_system.specs.Gathered.{IsDue}
+use Rattle.mcs_system.specs.Built.{flaw_number, first_flaw, first_limits, last_limits, IsFaultOf}
+use Rattle.mcs_system.specs.Gathered.{IsLimitDue}
 
 -- ---- what is no limit
 abbrev flaw_by : Bool → Bool → Bool → Option Flaw
@@ -27,16 +27,16 @@ none_lower false true c rest e = cc
 none_lower false false true rest e = cc
 none_lower false false false rest e = refl
 
-told : (x y : Flaw) → Some x ≡ Some y → Some (fault (number_of x) None) ≡ Some (fault (number_of y) None)
-told x y e = let same : x ≡ y = cc in ap (λ z. Some (fault (number_of z) None)) same
+told : (x y : Flaw) → Some x ≡ Some y → Some (fault (flaw_number x) None) ≡ Some (fault (flaw_number y) None)
+told x y e = let same : x ≡ y = cc in ap (λ z. Some (fault (flaw_number z) None)) same
 
-some_lower : (a b c : Bool) (rest : Option Fault) (flaw : Flaw) → flaw_by a b c ≡ Some flaw → fault_by a b c rest ≡ Some (fault (number_of flaw) None)
+some_lower : (a b c : Bool) (rest : Option Fault) (flaw : Flaw) → flaw_by a b c ≡ Some flaw → fault_by a b c rest ≡ Some (fault (flaw_number flaw) None)
 some_lower true b c rest flaw e = told UnknownContext flaw e
 some_lower false true c rest flaw e = told TwinNames flaw e
 some_lower false false true rest flaw e = told Misfits flaw e
 some_lower false false false rest flaw e = cc
 
-pub flaw_told : (m : System) (flaw : Flaw) → first_flaw m ≡ Some flaw → fault_of m ≡ Some (fault (number_of flaw) None)
+pub flaw_told : (m : System) (flaw : Flaw) → first_flaw m ≡ Some flaw → fault_of m ≡ Some (fault (flaw_number flaw) None)
 unfolding fault_of
 flaw_told m flaw e = some_lower (has_unknown_context m) (has_twin_names m) (has_misfits m) _ flaw e
 
@@ -110,10 +110,10 @@ pub none_told : (m : System) → PassesFirst m → length (variables m) ≤ 64 �
 none_told m first few e e' last = after_atoms m first few e e' ∙ ap limit_fault last
 
 -- a limit that a walk refuses
-pub due_told : {T : Type 0} (m : System) (limit : Limit) (exceeded : Type 0) (e : BuildFault) (r : Result T BuildFault) → IsErrAnd r (λ d. d ≡ e) → (exceeded → fault_of m ≡ Some (fault 5 (Some limit))) → IsDue limit exceeded e → IfErr r (IsFaultOf m)
+pub due_told : {T : Type 0} (m : System) (limit : Limit) (exceeded : Type 0) (e : BuildFault) (r : Result T BuildFault) → IsErrAnd r (λ d. d ≡ e) → (exceeded → fault_of m ≡ Some (fault 5 (Some limit))) → IsLimitDue limit exceeded e → IfErr r (IsFaultOf m)
 due_told m limit exceeded e (Ok x) stops told due = tt
 due_told m limit exceeded e (Err d) stops told due = rw stops (at e due)
   where
-    at : (f : BuildFault) → IsDue limit exceeded f → IsFaultOf m f
+    at : (f : BuildFault) → IsLimitDue limit exceeded f → IsFaultOf m f
     at code.Memory due = tt
     at (code.Fault n l) (five, is, many) = rw (five, is) (told many)

@@ -18,7 +18,7 @@ use Rattle.mcs_system.specs.Faults.{reads_of}
 use Rattle.mcs_base.specs.Listings.{firsts}
 use Rattle.mcs_system.specs.Systems.{same_read, occurrences, context_variables}
 use Rattle.mcs_system.specs.Atoms.{first_names}
-use Rattle.mcs_system.specs.Gathered.{gathered, IsDue, Gathers, reads_in}
+use Rattle.mcs_system.specs.Gathered.{gathered, IsLimitDue, Gathers, reads_in}
 use Rattle.mcs_system.proofs.Sameness.{same_name-is, same_read-is}
 use Rattle.mcs_base.proofs.Ranges.{filter_same}
 use Rattle.mcs_base.proofs.Lists.{filter-filter}
@@ -37,12 +37,12 @@ module _ {A : Type 0} (same : A → A → Bool) where
       at false old new = omega (arith, new, length-append found (x ∷ []))
 
 -- ---- gathering up to a limit
-due_map : (limit : Limit) (P Q : Type 0) → (P → Q) → (e : BuildFault) → IsDue limit P e → IsDue limit Q e
+due_map : (limit : Limit) (P Q : Type 0) → (P → Q) → (e : BuildFault) → IsLimitDue limit P e → IsLimitDue limit Q e
 due_map limit P Q to Memory h = tt
 due_map limit P Q to (Fault n l) h = (h.0, h.1, to h.2)
 
 -- a reason that is handed on
-pub due_handed : {T : Type 0} (limit : Limit) (P Q : Type 0) (e : BuildFault) (r : Result T BuildFault) → IsErrAnd r (λ d. d ≡ e) → (P → Q) → IsDue limit P e → IfErr r (IsDue limit Q)
+pub due_handed : {T : Type 0} (limit : Limit) (P Q : Type 0) (e : BuildFault) (r : Result T BuildFault) → IsErrAnd r (λ d. d ≡ e) → (P → Q) → IsLimitDue limit P e → IfErr r (IsLimitDue limit Q)
 due_handed limit P Q e (Ok x) stops to h = tt
 due_handed limit P Q e (Err d) stops to h = rw stops (due_map limit P Q to e h)
 
@@ -78,7 +78,7 @@ module _ {A : Type 0} (limit : Limit) (same : A → A → Bool) where
   stops_with found now xs e (Err d) stops g = record { all = tt; within = λ few. tt; due = rw stops g.due }
 
   -- from nothing
-  pub due_from_nothing : {T : Type 0} (found now xs all : List A) (r : Result T BuildFault) → found ≡ [] → all ≡ gathered same [] xs → Gathers limit same found now xs r → IfErr r (IsDue limit (most limit < length all))
+  pub due_from_nothing : {T : Type 0} (found now xs all : List A) (r : Result T BuildFault) → found ≡ [] → all ≡ gathered same [] xs → Gathers limit same found now xs r → IfErr r (IsLimitDue limit (most limit < length all))
   due_from_nothing found now xs all r none is g = rw (is, ← none) g.due
 
   pub all_from_nothing : {T : Type 0} (found now xs all : List A) (x : T) → found ≡ [] → all ≡ gathered same [] xs → Gathers limit same found now xs (Ok x) → (now ≡ all) × (length now ≤ most limit)

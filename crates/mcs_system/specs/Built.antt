@@ -13,7 +13,7 @@ use Rattle.mcs_system.specs.declared.parts.Kept as code_kept
 use Rattle.mcs_system.specs.Plain.{System}
 use Rattle.mcs_system.specs.Seen.{read_of, bridge_of, system_of}
 use Rattle.mcs_system.specs.Systems.{variables}
-use Rattle.mcs_system.specs.Naming.{IsNamed}
+use Rattle.mcs_system.specs.Naming.{IsSystemNamed}
 use Rattle.mcs_system.specs.Faults.{has_unknown_context, has_twin_names, has_misfits, fault, fault_of, IsValid}
 use Rattle.mcs_system.specs.Parts.{context_part, context_part_of, rule_part, rule_part_of}
 
@@ -23,10 +23,10 @@ IsFaultOf m (Fault n l) = fault_of m ≡ Some (fault n l)
 IsFaultOf m Memory = Unit {0}
 
 -- the number by which a flaw is told
-abbrev pub number_of : Flaw → ℕ
-number_of UnknownContext = 2
-number_of TwinNames = 3
-number_of Misfits = 4
+abbrev pub flaw_number : Flaw → ℕ
+flaw_number UnknownContext = 2
+flaw_number TwinNames = 3
+flaw_number Misfits = 4
 
 -- the first flaw that holds
 abbrev pub first_flaw : System → Option Flaw
@@ -40,9 +40,9 @@ abbrev pub last_limits : List Limit
 last_limits = DefaultsPerContext ∷ ItemsPerContext ∷ Weight ∷ FormulaSize ∷ []
 
 -- the system is valid, its names are names, and what is kept is of it
-pub record IsKept (contexts : List code_context.Context) (bridges : List code_bridge.Bridge) (kept : code_kept.Kept) : Type 0 where
+pub record IsSystemKept (contexts : List code_context.Context) (bridges : List code_bridge.Bridge) (kept : code_kept.Kept) : Type 0 where
   pub valid : IsValid (system_of contexts bridges)
-  pub named : IsNamed (system_of contexts bridges)
+  pub named : IsSystemNamed (system_of contexts bridges)
   pub variables_are : map read_of kept.variables.items ≡ variables (system_of contexts bridges)
   pub parts_are : map context_part_of kept.parts.items ≡ map (context_part (system_of contexts bridges)) (range_with_len 0 (length contexts))
   pub rules_are : map rule_part_of kept.reads.items ≡ map (rule_part (variables (system_of contexts bridges))) (map bridge_of bridges)

@@ -5,15 +5,15 @@ use base.Stored.{coded_via}
 use Rattle.std.proofs.Common.{ap, sym, ◌∙◌, eqb, eq-eqb, arith, false, true≢false, ◌⊎◌, inl, inr}
 use Rattle.mcs_system.specs.Plain.{Name, Formula, Truth, Falsity, Atom, Not, And, Or, Implies, Iff, Default, ProgramRule, Item, Fact, Rule, Kb, Classical, DefaultTheory, Program, Context, Read, Bridge, System}
 
-pub written : Formula → List ℕ → List ℕ
-written Truth rest = 0 ∷ rest
-written Falsity rest = 1 ∷ rest
-written (Atom n) rest = 2 ∷ length n ∷ (n ++ rest)
-written (Not f) rest = 3 ∷ written f rest
-written (And f g) rest = 4 ∷ written f (written g rest)
-written (Or f g) rest = 5 ∷ written f (written g rest)
-written (Implies f g) rest = 6 ∷ written f (written g rest)
-written (Iff f g) rest = 7 ∷ written f (written g rest)
+pub formula_code : Formula → List ℕ → List ℕ
+formula_code Truth rest = 0 ∷ rest
+formula_code Falsity rest = 1 ∷ rest
+formula_code (Atom n) rest = 2 ∷ length n ∷ (n ++ rest)
+formula_code (Not f) rest = 3 ∷ formula_code f rest
+formula_code (And f g) rest = 4 ∷ formula_code f (formula_code g rest)
+formula_code (Or f g) rest = 5 ∷ formula_code f (formula_code g rest)
+formula_code (Implies f g) rest = 6 ∷ formula_code f (formula_code g rest)
+formula_code (Iff f g) rest = 7 ∷ formula_code f (formula_code g rest)
 
 first : List ℕ → ℕ
 first [] = 0
@@ -38,20 +38,20 @@ append_apart (x ∷ m) (y ∷ n) r s long same =
 two : (c : Formula → Formula → Formula) → (f f' g g' : Formula) → f ≡ g → f' ≡ g' → c f f' ≡ c g g'
 two c f f' g g' a b = ap (λ x. c x f') a ∙ ap (λ x. c g x) b
 
-pub apart : (f g : Formula) (r s : List ℕ) → written f r ≡ written g s → (f ≡ g) × (r ≡ s)
-unfolding written first rest_of
+pub apart : (f g : Formula) (r s : List ℕ) → formula_code f r ≡ formula_code g s → (f ≡ g) × (r ≡ s)
+unfolding formula_code first rest_of
 apart Truth Truth r s e = (refl, ap rest_of e)
 apart Falsity Falsity r s e = (refl, ap rest_of e)
 apart (Atom m) (Atom n) r s e = let both = append_apart m n r s (ap first (ap rest_of e)) (ap rest_of (ap rest_of e)) in (ap (λ x. Atom x) both.0, both.1)
 apart (Not f) (Not g) r s e = let both = apart f g r s (ap rest_of e) in (ap (λ x. Not x) both.0, both.1)
-apart (And f f') (And g g') r s e = let a = apart f g (written f' r) (written g' s) (ap rest_of e) in let b = apart f' g' r s a.1 in (two (λ x y. And x y) f f' g g' a.0 b.0, b.1)
-apart (Or f f') (Or g g') r s e = let a = apart f g (written f' r) (written g' s) (ap rest_of e) in let b = apart f' g' r s a.1 in (two (λ x y. Or x y) f f' g g' a.0 b.0, b.1)
-apart (Implies f f') (Implies g g') r s e = let a = apart f g (written f' r) (written g' s) (ap rest_of e) in let b = apart f' g' r s a.1 in (two (λ x y. Implies x y) f f' g g' a.0 b.0, b.1)
-apart (Iff f f') (Iff g g') r s e = let a = apart f g (written f' r) (written g' s) (ap rest_of e) in let b = apart f' g' r s a.1 in (two (λ x y. Iff x y) f f' g g' a.0 b.0, b.1)
-apart f g r s e = absurd (differ (first (written f r)) (first (written g s)) refl (ap first e))
+apart (And f f') (And g g') r s e = let a = apart f g (formula_code f' r) (formula_code g' s) (ap rest_of e) in let b = apart f' g' r s a.1 in (two (λ x y. And x y) f f' g g' a.0 b.0, b.1)
+apart (Or f f') (Or g g') r s e = let a = apart f g (formula_code f' r) (formula_code g' s) (ap rest_of e) in let b = apart f' g' r s a.1 in (two (λ x y. Or x y) f f' g g' a.0 b.0, b.1)
+apart (Implies f f') (Implies g g') r s e = let a = apart f g (formula_code f' r) (formula_code g' s) (ap rest_of e) in let b = apart f' g' r s a.1 in (two (λ x y. Implies x y) f f' g g' a.0 b.0, b.1)
+apart (Iff f f') (Iff g g') r s e = let a = apart f g (formula_code f' r) (formula_code g' s) (ap rest_of e) in let b = apart f' g' r s a.1 in (two (λ x y. Iff x y) f f' g g' a.0 b.0, b.1)
+apart f g r s e = absurd (differ (first (formula_code f r)) (first (formula_code g s)) refl (ap first e))
 
 abbrev pub coded_formula : Coded Formula
-coded_formula = coded_via (coded_list coded_ℕ) (λ f. written f []) (λ f g e. (apart f g [] [] e).0)
+coded_formula = coded_via (coded_list coded_ℕ) (λ f. formula_code f []) (λ f g e. (apart f g [] [] e).0)
 
 abbrev pub coded_name : Coded Name
 coded_name = coded_list coded_ℕ

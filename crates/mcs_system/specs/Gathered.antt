@@ -16,15 +16,15 @@ gathered same found [] = found
 gathered same found (x ∷ xs) = gathered same (cond (list_any (same x) found) found (found ++ x ∷ [])) xs
 
 -- memory ran out, or the limit is told, and it is exceeded
-abbrev pub IsDue : Limit → Type 0 → BuildFault → Type 0
-IsDue limit exceeded Memory = Unit {0}
-IsDue limit exceeded (Fault n l) = (n ≡ 5) × (l ≡ Some limit) × exceeded
+abbrev pub IsLimitDue : Limit → Type 0 → BuildFault → Type 0
+IsLimitDue limit exceeded Memory = Unit {0}
+IsLimitDue limit exceeded (Fault n l) = (n ≡ 5) × (l ≡ Some limit) × exceeded
 
 -- the others are found too; or the limit is exceeded with them, or memory ran out
 pub record Gathers {A T : Type 0} (limit : Limit) (same : A → A → Bool) (found now others : List A) (result : Result T BuildFault) : Type 0 where
   pub all : OnOk result (now ≡ gathered same found others)
   pub within : length found ≤ most limit → OnOk result (length now ≤ most limit)
-  pub due : IfErr result (IsDue limit (most limit < length (gathered same found others)))
+  pub due : IfErr result (IsLimitDue limit (most limit < length (gathered same found others)))
 
 -- of names that are atoms of one context
 abbrev pub GathersNames : {T : Type 0} → List Name → List Name → List Name → Result T BuildFault → Type 0

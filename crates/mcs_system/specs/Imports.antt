@@ -17,20 +17,20 @@ pub data Reaches (m : System) : ℕ → ℕ → Type 0 where
   through : (i j l : ℕ) → IsTrue (imports m i j) → Reaches m j l → Reaches m i l
 
 -- an untaken context such that each untaken context that it reaches reaches it too
-pub record IsReady (m : System) (taken : List ℕ) (i : ℕ) : Type 0 where
+pub record IsReadyContext (m : System) (taken : List ℕ) (i : ℕ) : Type 0 where
   pub in_range : i < length m.contexts
   pub untaken : ¬ IsAmong i taken
   pub back : (j : ℕ) → j < length m.contexts → ¬ IsAmong j taken → Reaches m i j → Reaches m j i
 
 -- the lowest-numbered such one
-pub record IsNext (m : System) (taken : List ℕ) (i : ℕ) : Type 0 where
-  pub ready : IsReady m taken i
-  pub lowest : (j : ℕ) → IsReady m taken j → i ≤ j
+pub record IsNextInOrder (m : System) (taken : List ℕ) (i : ℕ) : Type 0 where
+  pub ready : IsReadyContext m taken i
+  pub lowest : (j : ℕ) → IsReadyContext m taken j → i ≤ j
 
 -- the contexts in the order in which they are taken, after those that were taken before
 abbrev pub FollowsOrder : System → List ℕ → List ℕ → Type 0
 FollowsOrder m taken [] = (i : ℕ) → i < length m.contexts → IsAmong i taken
-FollowsOrder m taken (i ∷ rest) = IsNext m taken i × FollowsOrder m (taken ++ i ∷ []) rest
+FollowsOrder m taken (i ∷ rest) = IsNextInOrder m taken i × FollowsOrder m (taken ++ i ∷ []) rest
 
 abbrev pub IsImportOrder : System → List ℕ → Type 0
 IsImportOrder m order = FollowsOrder m [] order

@@ -52,6 +52,6 @@ pub record IsNamedBridge (b : Bridge) : Type 0 where
   pub pos : AreNamedReads b.pos
   pub neg : AreNamedReads b.neg
 
-pub record IsNamed (m : System) : Type 0 where
+pub record IsSystemNamed (m : System) : Type 0 where
   pub contexts : AllByRecursion IsNamedContext m.contexts
   pub bridges : AllByRecursion IsNamedBridge m.bridges

@@ -3,12 +3,12 @@ use Rattle.std.specs.Prelude.{ℕ, List, [], ◌++◌, codes, Option, Some, None
 use Rattle.mcs_system.specs.Plain.{Name, Formula, Truth, Falsity, Atom, Not, And, Or, Implies, Iff, Context, Read, System}
 
 -- the sign of a formula of two parts
-abbrev pub sign_of : Formula → List ℕ
-sign_of (And f g) = codes " & "
-sign_of (Or f g) = codes " | "
-sign_of (Implies f g) = codes " -> "
-sign_of (Iff f g) = codes " <-> "
-sign_of f = []
+abbrev pub operator_sign : Formula → List ℕ
+operator_sign (And f g) = codes " & "
+operator_sign (Or f g) = codes " | "
+operator_sign (Implies f g) = codes " -> "
+operator_sign (Iff f g) = codes " <-> "
+operator_sign f = []
 
 -- a formula of two parts, in parentheses
 abbrev pub in_parentheses : List ℕ → List ℕ → List ℕ → List ℕ

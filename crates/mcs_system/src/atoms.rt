@@ -4,7 +4,7 @@ ghost use Rattle.std.specs.Prelude.{◌≡◌, ◌<◌, ◌≤◌, List, map, le
 ghost use Rattle.std.specs.List.{flat_map};
 ghost use Rattle.mcs_system.specs.declared.limit.Limit.TheVariants.{AtomsPerContext};
 ghost use Rattle.mcs_system.specs.Atoms.{item_atoms, rule_atoms, kb_atoms, atoms_of};
-ghost use Rattle.mcs_system.specs.Gathered.{GathersNames, IsDue, head_atoms, belief_atoms};
+ghost use Rattle.mcs_system.specs.Gathered.{GathersNames, IsLimitDue, head_atoms, belief_atoms};
 ghost use Rattle.mcs_system.specs.Logic.{is_in, atoms};
 ghost use Rattle.mcs_system.specs.Plain.{Name};
 ghost use Rattle.mcs_system.specs.Seen.{formula_of, rule_of, item_of, kb_of, read_of, bridge_of, system_of};
@@ -195,7 +195,7 @@ pub(crate) fn atoms_of(
     ensures atoms { IfOk result (λ v. v.items ≡ atoms_of (system_of contexts.now bridges.now) context) }
     ensures few { IfOk result (λ v. length v.items ≤ 64) }
     ensures many { IfErr result
-        (IsDue AtomsPerContext (64 < length (atoms_of (system_of contexts.now bridges.now) context))) }
+        (IsLimitDue AtomsPerContext (64 < length (atoms_of (system_of contexts.now bridges.now) context))) }
 {
     let mut found = Vec::new(alloc);
     contexts[context as usize].kb.add_atoms(alloc, &mut found)?;

@@ -1,7 +1,7 @@
 //! What a system keeps of its contexts and bridge rules, or the first of their faults in the order of their numbers.
 
 ghost use Rattle.std.specs.Prelude.{◌≡◌, IfOk, IfErr};
-ghost use Rattle.mcs_system.specs.Built.{first_flaw, first_limits, last_limits, IsFaultOf, IsKept};
+ghost use Rattle.mcs_system.specs.Built.{first_flaw, first_limits, last_limits, IsFaultOf, IsSystemKept};
 ghost use Rattle.mcs_system.specs.Faults.{first_exceeded};
 ghost use Rattle.mcs_system.specs.Seen.{system_of};
 
@@ -77,7 +77,7 @@ pub(crate) fn keep(
     contexts: &[Context],
     bridges: &[Bridge],
 ) -> Result<Kept, BuildFault>
-    ensures ok { IfOk result (IsKept contexts.now bridges.now) }
+    ensures ok { IfOk result (IsSystemKept contexts.now bridges.now) }
     ensures fault { IfErr result (IsFaultOf (system_of contexts.now bridges.now)) }
 {
     if let Some(flaw) = first_flaw(alloc, contexts, bridges)? {

@@ -1,7 +1,7 @@
 //! Why lists of contexts and bridge rules make no system.
 
 ghost use Rattle.std.specs.Prelude.{◌≡◌, Some, None};
-ghost use Rattle.mcs_system.specs.Built.{number_of};
+ghost use Rattle.mcs_system.specs.Built.{flaw_number};
 ghost use Rattle.mcs_system.specs.declared.fault.BuildFault.TheVariants.{Fault, Memory};
 
 use crate::limit::Limit;
@@ -36,7 +36,7 @@ pub(crate) enum Flaw {
 impl BuildFault {
     /// The fault with the number of the flaw.
     pub(crate) fn flawed(flaw: Flaw) -> BuildFault
-        ensures { result ≡ Fault (number_of flaw) None }
+        ensures { result ≡ Fault (flaw_number flaw) None }
     {
         let number = match flaw {
             Flaw::UnknownContext => 2,

@@ -4,7 +4,7 @@
 ghost use Rattle.std.specs.Prelude.{map};
 ghost use Rattle.std.specs.List.{AllByRecursion};
 ghost use Rattle.mcs_system.specs.Seen.{formula_of, default_of, item_of, rule_of, context_of, read_of, bridge_of, system_of};
-ghost use Rattle.mcs_system.specs.Naming.{IsName, AreNames, IsNamedFormula, IsNamedDefault, IsNamedItem, IsNamedRule, IsNamedContext, AreNamedReads, IsNamedBridge, IsNamed};
+ghost use Rattle.mcs_system.specs.Naming.{IsName, AreNames, IsNamedFormula, IsNamedDefault, IsNamedItem, IsNamedRule, IsNamedContext, AreNamedReads, IsNamedBridge, IsSystemNamed};
 
 use crate::bridge::{Bridge, Read};
 use crate::formula::Formula;
@@ -148,7 +148,7 @@ fn bridges_are_named(bridges: &[Bridge])
 
 /// The names of these contexts and bridge rules are names, and their atoms are.
 pub(crate) fn are_named(contexts: &[Context], bridges: &[Bridge])
-    ensures { IsNamed (system_of contexts.now bridges.now) }
+    ensures { IsSystemNamed (system_of contexts.now bridges.now) }
 {
     contexts_are_named(contexts);
     bridges_are_named(bridges);

@@ -6,7 +6,7 @@ ghost use Rattle.mcs_system.specs.declared.knowledge.Context.{Context};
 ghost use Rattle.mcs_system.specs.declared.limit.Limit.TheVariants.{InputsPerContext, AtomsPerContext};
 ghost use Rattle.mcs_system.specs.Atoms.{atoms_of};
 ghost use Rattle.mcs_system.specs.Faults.{exceeds};
-ghost use Rattle.mcs_system.specs.Gathered.{IsDue};
+ghost use Rattle.mcs_system.specs.Gathered.{IsLimitDue};
 ghost use Rattle.mcs_system.specs.Imports.{rules_into};
 ghost use Rattle.mcs_system.specs.Parts.{context_part, context_part_of, variables_among, inputs_among, variables_read, read_into, rule_part, rule_part_of};
 ghost use Rattle.mcs_system.specs.Seen.{read_of, bridge_of, system_of};
@@ -171,7 +171,7 @@ fn parts_of_context(
         (λ p. context_part_of p ≡ context_part (system_of contexts.now bridges.now) context) }
     ensures few { IfOk result (λ p. length p.atoms.items ≤ 64) }
     ensures many { IfErr result
-        (IsDue AtomsPerContext (64 < length (atoms_of (system_of contexts.now bridges.now) context))) }
+        (IsLimitDue AtomsPerContext (64 < length (atoms_of (system_of contexts.now bridges.now) context))) }
 {
     let atoms = atoms_of(alloc, contexts, bridges, known, context)?;
     Ok(ContextParts {
@@ -199,7 +199,7 @@ pub(crate) fn parts_of_contexts(
         ≡ map (context_part (system_of contexts.now bridges.now)) (range_with_len 0 (length contexts.now))) }
     ensures few { IfOk result (λ _. exceeds (system_of contexts.now bridges.now) AtomsPerContext ≡ false) }
     ensures many { IfErr result
-        (IsDue AtomsPerContext (exceeds (system_of contexts.now bridges.now) AtomsPerContext ≡ true)) }
+        (IsLimitDue AtomsPerContext (exceeds (system_of contexts.now bridges.now) AtomsPerContext ≡ true)) }
 {
     let mut parts = Vec::new(alloc);
     for context in 0..contexts.len() as u32 {

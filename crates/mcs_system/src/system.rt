@@ -6,7 +6,7 @@ ghost use Rattle.mcs_system.specs.Atoms.{atoms_of};
 ghost use Rattle.mcs_system.specs.Built.{IsFaultOf};
 ghost use Rattle.mcs_system.specs.Faults.{IsValid};
 ghost use Rattle.mcs_system.specs.Imports.{rules_into};
-ghost use Rattle.mcs_system.specs.Naming.{IsNamed};
+ghost use Rattle.mcs_system.specs.Naming.{IsSystemNamed};
 ghost use Rattle.mcs_system.specs.Parts.{context_part, context_part_of, rule_part, rule_part_of};
 ghost use Rattle.mcs_system.specs.Plain as plain;
 ghost use Rattle.mcs_system.specs.Repairs.{allowed_marks};
@@ -41,7 +41,7 @@ pub struct System {
 }
 
 impl Model for System {
-    ghost use Rattle.mcs_system.specs.Built.{IsKept};
+    ghost use Rattle.mcs_system.specs.Built.{IsSystemKept};
     ghost use Rattle.mcs_system.specs.Codes.{coded_system};
     ghost use Rattle.mcs_system.specs.Plain as plain;
     ghost use Rattle.mcs_system.specs.Seen.{system_of};
@@ -52,7 +52,7 @@ impl Model for System {
 
     ghost view = { λ s. system_of s.contexts.items s.bridges.items };
 
-    ghost invariant = { λ s. IsKept s.contexts.items s.bridges.items s.kept };
+    ghost invariant = { λ s. IsSystemKept s.contexts.items s.bridges.items s.kept };
 }
 
 impl System {
@@ -86,7 +86,7 @@ impl System {
         ensures value { map context_of result.now ≡ self.now.contexts }
         ensures few { length result.now ≤ 64 }
         ensures valid { IsValid self.now }
-        ensures named { IsNamed self.now }
+        ensures named { IsSystemNamed self.now }
     {
         &self.contexts
     }
@@ -96,7 +96,7 @@ impl System {
         ensures value { map bridge_of result.now ≡ self.now.bridges }
         ensures few { length result.now ≤ 64 }
         ensures valid { IsValid self.now }
-        ensures named { IsNamed self.now }
+        ensures named { IsSystemNamed self.now }
     {
         &self.bridges
     }

@@ -3,7 +3,7 @@
 ghost use Rattle.std.specs.Prelude.{◌≡◌, ◌<◌, ◌≤◌, map, length, IfOk, IfErr, [], ◌∷◌};
 ghost use Rattle.std.specs.List.{list_any};
 ghost use Rattle.mcs_system.specs.declared.limit.Limit.TheVariants.{Variables};
-ghost use Rattle.mcs_system.specs.Gathered.{GathersReads, IsDue, reads_in};
+ghost use Rattle.mcs_system.specs.Gathered.{GathersReads, IsLimitDue, reads_in};
 ghost use Rattle.mcs_system.specs.Seen.{read_of, system_of};
 ghost use Rattle.mcs_system.specs.Systems.{same_read, context_variables, variables};
 
@@ -66,7 +66,7 @@ fn variables_of_context(
     ensures variables { IfOk result
         (λ v. map read_of v.items ≡ context_variables (system_of [] bridges.now) context) }
     ensures many { IfErr result
-        (IsDue Variables (64 < length (context_variables (system_of [] bridges.now) context))) }
+        (IsLimitDue Variables (64 < length (context_variables (system_of [] bridges.now) context))) }
 {
     let mut found = Vec::new(alloc);
     for bridge in bridges {
@@ -85,7 +85,7 @@ pub(crate) fn variables_of(
 ) -> Result<Vec<Read>, BuildFault>
     ensures variables { IfOk result (λ v. map read_of v.items ≡ variables (system_of contexts.now bridges.now)) }
     ensures few { IfOk result (λ v. length v.items ≤ 64) }
-    ensures many { IfErr result (IsDue Variables (64 < length (variables (system_of contexts.now bridges.now)))) }
+    ensures many { IfErr result (IsLimitDue Variables (64 < length (variables (system_of contexts.now bridges.now)))) }
 {
     let mut variables = Vec::new(alloc);
     for context in 0..contexts.len() {

@@ -4,14 +4,14 @@ use Rattle.std.proofs.lemmas.List.{drop_all}
 use Rattle.mcs_sets.specs.Sets.{union, Meets}
 use Rattle.mcs_sets.proofs.Lattice.{union_assoc, union-none}
 use Rattle.mcs_table.specs.declared.row.Row.{Row}
-use Rattle.mcs_table.specs.Tables.{AreApart}
+use Rattle.mcs_table.specs.Tables.{ShareNoMark}
 use Rattle.mcs_table.specs.Joins.{union_of}
 use Rattle.mcs_table.proofs.OrderFreeLemmas.{in_some, some_in}
 
 abbrev marks : Row → ℕ
 marks r = r.marks
 
-pub apart_is : (xs ys : List Row) → (¬ Meets (union_of (λ (r : Row). r.marks) xs) (union_of (λ (r : Row). r.marks) ys)) ↔ AreApart xs ys
+pub apart_is : (xs ys : List Row) → (¬ Meets (union_of (λ (r : Row). r.marks) xs) (union_of (λ (r : Row). r.marks) ys)) ↔ ShareNoMark xs ys
 apart_is xs ys = (
   λ not x y in_x in_y meets. not (record { member = meets.member; in_first = some_in marks xs meets.member x in_x meets.in_first; in_second = some_in marks ys meets.member y in_y meets.in_second }),
   λ apart meets.

@@ -55,7 +55,7 @@ module _ (S : Row → Type 0) (b : TableData) (is_b : IsTable b) (keep level : �
   joined x y among = same_row _ _ (common-union_within x.state.mask y.state.mask keep (mask_kept y among))
       (common-union_within x.state.values y.state.values keep (λ k h. mask_kept y among k ((row_of b is_b y among).partial.of_mask k h))) refl
 
-  -- what is said of what is kept by unions with rows of b, and unions of what is said of it
+  -- projections of what is kept by unions with rows of b, and unions of its projections
   pub union_restricted : (r : Row) → IsUnionOf (IsRestrictionOf S keep) b.rows level r ↔ IsRestrictionOf (IsUnionOf S b.rows level) keep r
   union_restricted r = (
     λ u. let v = u.holds in

@@ -16,7 +16,7 @@ use Rattle.mcs_base.proofs.Ascending.{ascending_as, ascending_map}
 use Rattle.mcs_base.proofs.Each.{all_among, all_from_among}
 use Rattle.mcs_table.specs.declared.row.Row.{Row}
 use Rattle.mcs_table.specs.RowOrder.{RowBefore, same_row}
-use Rattle.mcs_table.specs.Tables.{TableData, IsTable, IsRowOn, AreApart, IsRestriction, IsMinimalRow, unit_row, unit_table, restricted_row}
+use Rattle.mcs_table.specs.Tables.{TableData, IsTable, IsRowOn, ShareNoMark, IsRestriction, IsMinimalRow, unit_row, unit_table, restricted_row}
 use Rattle.mcs_table.specs.Joins.{union_of, IsJointRow, ForgettingExists, ForgettingStaysApart}
 use Rattle.mcs_table.specs.Elimination.{still_kept, EliminatesFrom, IsRestrictionOf, EliminationExists, EliminationIsMinimal, EliminationIgnoresOrder, EliminationGivesMinimalMarks, EliminationStaysApart}
 use Rattle.mcs_table.proofs.OrderLemmas.{RowBefore-asymmetric}
@@ -62,8 +62,8 @@ forgetting_apart a f c keep forget apart x y in_x in_y meets =
     let u = ((forget.rows.exactly x).0 in_x).one in
     apart u.row y u.among in_y (subst (λ (w : Row). Meets w.marks y.marks) u.is meets)
 
-apart_eliminated : (level keep : ℕ) (tables : List TableData) (from t c : TableData) → AreApart from.rows c.rows → EliminatesFrom level keep from tables t → AllByRecursion (λ (a : TableData). AreApart a.rows c.rows) tables → AreApart t.rows c.rows
-apart_eliminated level keep [] from t c apart e all = subst (λ (a : TableData). AreApart a.rows c.rows) (sym e) apart
+apart_eliminated : (level keep : ℕ) (tables : List TableData) (from t c : TableData) → ShareNoMark from.rows c.rows → EliminatesFrom level keep from tables t → AllByRecursion (λ (a : TableData). ShareNoMark a.rows c.rows) tables → ShareNoMark t.rows c.rows
+apart_eliminated level keep [] from t c apart e all = subst (λ (a : TableData). ShareNoMark a.rows c.rows) (sym e) apart
 apart_eliminated level keep (a ∷ rest) from t c apart (joined, next, j, forget, later) all =
     apart_eliminated level keep rest next t c (forgetting_apart joined next c (still_kept keep rest) forget (join_apart level from a joined c j apart all.0)) later all.1
 
@@ -140,8 +140,8 @@ elimination_ignores_order level keep tables others t u all moved eliminates elim
     (IsListing-same RowBefore _ _ u.rows (minimal_as (IsRestrictionOf (IsJointRow level others) keep) (IsRestrictionOf (IsJointRow level tables) keep) (restricts_alike (IsJointRow level others) (IsJointRow level tables) keep same)) other.rows))
 
 -- ---- where nothing is kept
-nothing_said : (s t : PartialState) → restricted s 0 ≡ restricted t 0
-nothing_said s t = rw (common-none s.mask, common-none s.values, common-none t.mask, common-none t.values) refl
+empty_restriction : (s t : PartialState) → restricted s 0 ≡ restricted t 0
+empty_restriction s t = rw (common-none s.mask, common-none s.values, common-none t.mask, common-none t.values) refl
 
 -- rows that say nothing come in the order of their marks
 marks_before : (x y : Row) → x.state ≡ y.state → RowBefore x y → PairBefore x.marks y.marks
@@ -154,7 +154,7 @@ elimination_gives_marks level tables t all eliminates =
     let marks = λ (r : Row). r.marks in
     let state_of : (x : Row) → IsAmong x t.rows → x.state ≡ restricted unit_row.state 0 = λ x among.
     let u = ((l.exactly x).0 among).one in
-    ap (λ (w : Row). w.state) u.is ∙ nothing_said u.row.state unit_row.state in
+    ap (λ (w : Row). w.state) u.is ∙ empty_restriction u.row.state unit_row.state in
     record {
       exactly = λ s. (
         λ among. let (x, there, e) = map_among marks s t.rows among in
@@ -162,7 +162,7 @@ elimination_gives_marks level tables t all eliminates =
             record {
               one = (m.one.row, m.one.holds, e ∙ ap marks m.one.is);
               least = λ q (r, joint, e') within.
-                  e' ∙ m.least (restricted_row r 0) (record { row = r; holds = joint; is = refl }) (nothing_said r.state unit_row.state ∙ sym (state_of x there))
+                  e' ∙ m.least (restricted_row r 0) (record { row = r; holds = joint; is = refl }) (empty_restriction r.state unit_row.state ∙ sym (state_of x there))
                   (subst (λ (a : ℕ). Within a x.marks) e' (subst (Within q) e within)) ∙ sym e;
             },
         λ m. let (r, joint, e) = m.one in

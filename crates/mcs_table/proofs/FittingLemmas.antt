@@ -8,26 +8,26 @@ use Rattle.mcs_base.specs.Partials.{Fits}
 use Rattle.mcs_base.proofs.Each.{all_among, all_left, all_right}
 use Rattle.mcs_base.proofs.Written.{take_read}
 use Rattle.mcs_table.specs.declared.row.Row.{Row}
-use Rattle.mcs_table.specs.Fitting.{SomeSays, FitsSome, FitsEach, part_on, AreFittingStates}
+use Rattle.mcs_table.specs.Fitting.{IsRowProjection, FitsSome, FitsEach, part_on, AreFittingStates}
 use Rattle.mcs_table.specs.Tables.{TableData, IsTable, IsRowOn}
 
 -- ---- one table
 module _ (t : TableData) (is : IsTable t) (set s : ℕ) where
-  said_at : (r : Row) → IsRowOn t.scope r → Fits (part_on set s) r.state → (k : ℕ) (a b v : Bool) → has set k ≡ a → has t.scope k ≡ b → has r.state.values k ≡ v → has (common s (common set t.scope)) k ≡ has (common r.state.values set) k
-  said_at r on fit k false b v e e' e'' = grind (arith, has-common)
-  said_at r on fit k true true v e e' e'' = let same = fit k e (ap (λ (m : ℕ). has m k) on.mask ∙ e') in grind (arith, has-common)
-  said_at r on fit k true false false e e' e'' = grind (arith, has-common)
-  said_at r on fit k true false true e e' e'' = absurd (true≢false (sym (on.partial.of_mask k e'') ∙ ap (λ (m : ℕ). has m k) on.mask ∙ e'))
+  projection_at : (r : Row) → IsRowOn t.scope r → Fits (part_on set s) r.state → (k : ℕ) (a b v : Bool) → has set k ≡ a → has t.scope k ≡ b → has r.state.values k ≡ v → has (common s (common set t.scope)) k ≡ has (common r.state.values set) k
+  projection_at r on fit k false b v e e' e'' = grind (arith, has-common)
+  projection_at r on fit k true true v e e' e'' = let same = fit k e (ap (λ (m : ℕ). has m k) on.mask ∙ e') in grind (arith, has-common)
+  projection_at r on fit k true false false e e' e'' = grind (arith, has-common)
+  projection_at r on fit k true false true e e' e'' = absurd (true≢false (sym (on.partial.of_mask k e'') ∙ ap (λ (m : ℕ). has m k) on.mask ∙ e'))
 
   -- what a row says that fits
-  pub said_where_fits : FitsSome (part_on set s) t.rows → SomeSays t.rows set (common s (common set t.scope))
-  said_where_fits (r, among, fit) = (r, among, same_set _ _ (λ k. said_at r (all_among (IsRowOn t.scope) t.rows r is.on_scope among) fit k (has set k) (has t.scope k) (has r.state.values k) refl refl refl))
+  pub projection_where_fits : FitsSome (part_on set s) t.rows → IsRowProjection t.rows set (common s (common set t.scope))
+  projection_where_fits (r, among, fit) = (r, among, same_set _ _ (λ k. projection_at r (all_among (IsRowOn t.scope) t.rows r is.on_scope among) fit k (has set k) (has t.scope k) (has r.state.values k) refl refl refl))
 
-pub said_step : (t : TableData) → IsTable t → (set : ℕ) (said old new : List ℕ) → IsListing (SomeSays t.rows set) StateBefore said
-    → ((s : ℕ) → IsAmong s new ↔ (IsAmong s old × IsAmong (common s (common set t.scope)) said)) → AreFittingStates set (t ∷ []) old new
-said_step t is set said old new listing kept = record {
+pub projection_step : (t : TableData) → IsTable t → (set : ℕ) (projections old new : List ℕ) → IsListing (IsRowProjection t.rows set) StateBefore projections
+    → ((s : ℕ) → IsAmong s new ↔ (IsAmong s old × IsAmong (common s (common set t.scope)) projections)) → AreFittingStates set (t ∷ []) old new
+projection_step t is set projections old new listing kept = record {
   from = λ s h. ((kept s).0 h).0;
-  fitting = λ s among each. (kept s).1 (among, (listing.exactly (common s (common set t.scope))).1 (said_where_fits t is set s each.0));
+  fitting = λ s among each. (kept s).1 (among, (listing.exactly (common s (common set t.scope))).1 (projection_where_fits t is set s each.0));
 }
 
 -- ---- one table after the other

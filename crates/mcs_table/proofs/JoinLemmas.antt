@@ -12,7 +12,7 @@ use Rattle.mcs_base.proofs.Among.{among_take_more, among_at, among_append, map_a
 use Rattle.mcs_base.proofs.Each.{all_among, all_from_among}
 use Rattle.mcs_table.specs.declared.row.Row.{Row}
 use Rattle.mcs_table.specs.RowOrder.{RowBefore}
-use Rattle.mcs_table.specs.Tables.{TableData, IsTable, IsRowOn, AreApart, IsUnion, IsMinimalRow, IsJoin, united_row}
+use Rattle.mcs_table.specs.Tables.{TableData, IsTable, IsRowOn, ShareNoMark, IsUnion, IsMinimalRow, IsJoin, united_row}
 
 -- what is minimal depends only on what there is
 pub minimal_as : (P Q : Row → Type 0) → ((r : Row) → P r ↔ Q r) → (r : Row) → IsMinimalRow P r ↔ IsMinimalRow Q r
@@ -51,7 +51,7 @@ module _ (a b : TableData) (is_a : AllByRecursion (IsRowOn a.scope) a.rows) (is_
 pub union_more : (xs ys : List Row) (all : List Row) (level : ℕ) (r : Row) → ((s : Row) → IsAmong s xs → IsAmong s all) → IsUnion xs ys level r → IsUnion all ys level r
 union_more xs ys all level r more u = record { first = u.first; second = u.second; in_first = more u.first u.in_first; in_second = u.in_second; fit = u.fit; is = u.is; few = u.few }
 
-module _ (a b : TableData) (is_a : AllByRecursion (IsRowOn a.scope) a.rows) (is_b : IsTable b) (apart : AreApart a.rows b.rows) (level i : ℕ) (x : Row) (less : i < length a.rows) (here : x ≡ get_or a.rows i x) (unions : List Row) (so_far : AreUnions (take i a.rows) b.rows level unions) where
+module _ (a b : TableData) (is_a : AllByRecursion (IsRowOn a.scope) a.rows) (is_b : IsTable b) (apart : ShareNoMark a.rows b.rows) (level i : ℕ) (x : Row) (less : i < length a.rows) (here : x ≡ get_or a.rows i x) (unions : List Row) (so_far : AreUnions (take i a.rows) b.rows level unions) where
   in_a : IsAmong x a.rows
   in_a = subst (λ (r : Row). IsAmong r a.rows) (sym here) (among_at a.rows i x less)
 

@@ -10,7 +10,7 @@ use Rattle.mcs_base.proofs.PartialLemmas.{united-partial}
 use Rattle.mcs_base.proofs.ListingLemmas.{IsListing-same}
 use Rattle.mcs_table.specs.declared.row.Row.{Row}
 use Rattle.mcs_table.specs.RowOrder.{RowBefore, same_row}
-use Rattle.mcs_table.specs.Tables.{Covers, TableData, IsTable, AreApart, IsUnion, IsMinimalRow, IsJoin, unit_row, unit_table, united_row}
+use Rattle.mcs_table.specs.Tables.{Covers, TableData, IsTable, ShareNoMark, IsUnion, IsMinimalRow, IsJoin, unit_row, unit_table, united_row}
 use Rattle.mcs_table.specs.Joins.{JoinsFrom, union_of, united_rows, FitTogether, IsJointRow, JoinsStayApart, JoinsAreMinimalUnions}
 use Rattle.mcs_table.proofs.JoinLemmas.{row_of, minimal_as}
 use Rattle.mcs_table.proofs.CoverLemmas.{Covers-trans, covers_same, minimal_covers, unions_listed}
@@ -251,7 +251,7 @@ joins_are_minimal level tables t all joins =
     }
 
 -- ---- no mark in common
-pub join_apart : (level : ℕ) (a b t c : TableData) → IsJoin a b level t → AreApart a.rows c.rows → AreApart b.rows c.rows → AreApart t.rows c.rows
+pub join_apart : (level : ℕ) (a b t c : TableData) → IsJoin a b level t → ShareNoMark a.rows c.rows → ShareNoMark b.rows c.rows → ShareNoMark t.rows c.rows
 join_apart level a b t c j first second x y in_x in_y meets =
     let u = ((j.rows.exactly x).0 in_x).one in
     let is_in : has (union u.first.marks u.second.marks) meets.member ≡ true = subst (λ (w : Row). has w.marks meets.member ≡ true) u.is meets.in_first in
@@ -260,11 +260,11 @@ join_apart level a b t c j first second x y in_x in_y meets =
       | inr h ↦ second u.second y u.in_second in_y (record { member = meets.member; in_first = h; in_second = meets.in_second })
     ]
 
-pub unit_apart : (c : TableData) → AreApart unit_table.rows c.rows
+pub unit_apart : (c : TableData) → ShareNoMark unit_table.rows c.rows
 unit_apart c x y in_x in_y meets = elim in_x [ inl e ↦ true≢false (sym (subst (λ (w : Row). has w.marks meets.member ≡ true) e meets.in_first) ∙ has-empty meets.member) | inr none ↦ none ]
 
-apart_joined : (level : ℕ) (tables : List TableData) (from t c : TableData) → AreApart from.rows c.rows → JoinsFrom level from tables t → AllByRecursion (λ (a : TableData). AreApart a.rows c.rows) tables → AreApart t.rows c.rows
-apart_joined level [] from t c apart e all = subst (λ (a : TableData). AreApart a.rows c.rows) (sym e) apart
+apart_joined : (level : ℕ) (tables : List TableData) (from t c : TableData) → ShareNoMark from.rows c.rows → JoinsFrom level from tables t → AllByRecursion (λ (a : TableData). ShareNoMark a.rows c.rows) tables → ShareNoMark t.rows c.rows
+apart_joined level [] from t c apart e all = subst (λ (a : TableData). ShareNoMark a.rows c.rows) (sym e) apart
 apart_joined level (a ∷ rest) from t c apart (next, j, later) all = apart_joined level rest next t c (join_apart level from a next c j apart all.0) later all.1
 
 pub joins_apart : JoinsStayApart

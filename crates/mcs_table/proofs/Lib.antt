@@ -16,6 +16,7 @@ pub mod EliminationLemmas
 pub mod SemiLemmas
 pub mod PartLemmas
 pub mod WithoutLemmas
-pub mod SaidLemmas
+pub mod ProjectionLemmas
 pub mod FittingParts
 pub mod FittingLemmas
+pub mod FittingLaw

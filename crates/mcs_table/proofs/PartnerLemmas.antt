@@ -13,7 +13,7 @@ use Rattle.mcs_base.specs.Listings.{IsAmong}
 use Rattle.mcs_base.specs.StateOrder.{state_cmp, state_cmp_total, equal_is}
 use Rattle.mcs_base.proofs.Among.{place_among, among_place, part_among, among_part}
 use Rattle.mcs_table.specs.declared.row.Row.{Row}
-use Rattle.mcs_table.specs.Partners.{shared_key, key_cmp, is_below, is_up_to, EndsAt, IsByShared}
+use Rattle.mcs_table.specs.Partners.{shared_key, key_cmp, is_below, is_up_to, PassingEndsAt, IsByShared}
 
 key_total : IsTotalOrder key_cmp
 key_total = then_total (on_total (λ (p : ℕ × ℕ). p.0) state_cmp_total) (on_total (λ (p : ℕ × ℕ). p.1) nat_cmp_total)
@@ -79,8 +79,8 @@ below_is_up_to scope shared room r = at (state_cmp (common r.state.values scope)
     at Greater p m h = absurd (true≢false (sym h))
 
 module _ (scope shared room : ℕ) (xs : List Row) (i j : ℕ) (bound : i ≤ length xs)
-    (from : EndsAt (is_below scope (shared, 0)) xs i)
-    (to : EndsAt (is_up_to scope (shared, room)) xs j) where
+    (from : PassingEndsAt (is_below scope (shared, 0)) xs i)
+    (to : PassingEndsAt (is_up_to scope (shared, room)) xs j) where
   -- the part ends where it begins, or after
   pub ends_later : (d : Row) → i ≤ j
   ends_later d = elim (cases_lt j i) [

@@ -8,11 +8,11 @@ use Rattle.mcs_base.proofs.Among.{among_permutation}
 use Rattle.mcs_base.proofs.Each.{all_from_among}
 use Rattle.mcs_table.specs.declared.row.Row.{Row}
 use Rattle.mcs_table.specs.RowOrder.{RowBefore}
-use Rattle.mcs_table.specs.Tables.{TableData, IsTable, IsRowOn, AreApart, HasPartner}
+use Rattle.mcs_table.specs.Tables.{TableData, IsTable, IsRowOn, ShareNoMark, HasPartner}
 use Rattle.mcs_table.proofs.JoinLemmas.{row_of, pair_fits, pair_where}
 
 -- rows of a that have a partner
-module _ (a b : TableData) (is_a : IsTable a) (is_b : IsTable b) (apart : AreApart a.rows b.rows) (level : ℕ) (x : Row) (in_a : IsAmong x a.rows) (sorted : List Row) (moved : IsPermutation b.rows sorted) where
+module _ (a b : TableData) (is_a : IsTable a) (is_b : IsTable b) (apart : ShareNoMark a.rows b.rows) (level : ℕ) (x : Row) (in_a : IsAmong x a.rows) (sorted : List Row) (moved : IsPermutation b.rows sorted) where
   pub partner_known : HasPartner b.rows level x → (r : Row) × IsAmong r sorted × (common r.state.values a.scope ≡ common x.state.values b.scope) × (size r.marks + size x.marks ≤ level)
   partner_known h =
       let e = size-union_apart x.marks h.partner.marks (apart x h.partner in_a h.among) in

@@ -8,7 +8,7 @@ use Rattle.mcs_base.specs.Listings.{IsListing}
 use Rattle.mcs_base.specs.Minimal.{IsMinimal}
 use Rattle.mcs_table.specs.declared.row.Row.{Row}
 use Rattle.mcs_table.specs.RowOrder.{RowBefore}
-use Rattle.mcs_table.specs.Tables.{TableData, IsTable, AreApart, IsMinimalRow, IsJoin, IsForgetting, unit_table, restricted_row}
+use Rattle.mcs_table.specs.Tables.{TableData, IsTable, ShareNoMark, IsMinimalRow, IsJoin, IsForgetting, unit_table, restricted_row}
 use Rattle.mcs_table.specs.Joins.{union_of, IsJointRow}
 
 -- what is not forgotten yet: what is to be kept, and the variables of the tables to come
@@ -61,4 +61,4 @@ EliminationGivesMinimalMarks = (level : ℕ) (tables : List TableData) (t : Tabl
 
 -- a table with which none of them has a mark in common has none in common with what is left, so that it can be the next
 abbrev pub EliminationStaysApart : Type 0
-EliminationStaysApart = (level keep : ℕ) (tables : List TableData) (t c : TableData) → EliminatesTo level keep tables t → AllByRecursion (λ (a : TableData). AreApart a.rows c.rows) tables → AreApart t.rows c.rows
+EliminationStaysApart = (level keep : ℕ) (tables : List TableData) (t c : TableData) → EliminatesTo level keep tables t → AllByRecursion (λ (a : TableData). ShareNoMark a.rows c.rows) tables → ShareNoMark t.rows c.rows

@@ -7,7 +7,7 @@ use Rattle.mcs_base.specs.Listings.{IsAmong, IsListing}
 use Rattle.mcs_base.specs.Partials.{Fits}
 use Rattle.mcs_table.specs.declared.row.Row.{Row}
 use Rattle.mcs_table.specs.RowOrder.{RowBefore}
-use Rattle.mcs_table.specs.Tables.{TableData, IsTable, AreApart, IsMinimalRow, IsJoin, IsForgetting, unit_table}
+use Rattle.mcs_table.specs.Tables.{TableData, IsTable, ShareNoMark, IsMinimalRow, IsJoin, IsForgetting, unit_table}
 
 -- t is the join, at one level, of the table and the others one after the other
 abbrev pub JoinsFrom : ℕ → TableData → List TableData → TableData → Type 0
@@ -59,7 +59,7 @@ JoinsIgnoreOrder = (level : ℕ) (tables others : List TableData) (t u : TableDa
 
 -- a table with which none of them has a mark in common has none in common with their join
 abbrev pub JoinsStayApart : Type 0
-JoinsStayApart = (level : ℕ) (tables : List TableData) (t c : TableData) → JoinsTo level tables t → AllByRecursion (λ (a : TableData). AreApart a.rows c.rows) tables → AreApart t.rows c.rows
+JoinsStayApart = (level : ℕ) (tables : List TableData) (t c : TableData) → JoinsTo level tables t → AllByRecursion (λ (a : TableData). ShareNoMark a.rows c.rows) tables → ShareNoMark t.rows c.rows
 
 -- where all of b's variables are kept, joining with b after forgetting is forgetting after joining with b
 abbrev pub ForgettingCommutes : Type 0
@@ -80,4 +80,4 @@ ForgettingTwiceIsOnce = (a f g : TableData) (keep later : ℕ) → IsForgetting 
 
 -- a table with which a has no mark in common has none in common with what forgetting leaves of a
 abbrev pub ForgettingStaysApart : Type 0
-ForgettingStaysApart = (a f c : TableData) (keep : ℕ) → IsForgetting a keep f → AreApart a.rows c.rows → AreApart f.rows c.rows
+ForgettingStaysApart = (a f c : TableData) (keep : ℕ) → IsForgetting a keep f → ShareNoMark a.rows c.rows → ShareNoMark f.rows c.rows

@@ -23,8 +23,8 @@ abbrev pub is_up_to : ℕ → ℕ × ℕ → Row → Bool
 is_up_to scope key r = is_le (key_cmp (shared_key scope r) key)
 
 -- where, in a list, those that pass a test end
-abbrev pub EndsAt : (Row → Bool) → List Row → ℕ → Type 0
-EndsAt p rows i = IsPartitionPoint (λ r. p r ≡ true) (λ r. p r ≡ false) rows i
+abbrev pub PassingEndsAt : (Row → Bool) → List Row → ℕ → Type 0
+PassingEndsAt p rows i = IsPartitionPoint (λ r. p r ≡ true) (λ r. p r ≡ false) rows i
 
 -- sorted by it
 abbrev pub IsByShared : ℕ → List Row → Type 0

@@ -38,8 +38,8 @@ abbrev pub restricted_row : Row → ℕ → Row
 restricted_row x keep = record { state = restricted x.state keep; marks = x.marks }
 
 -- no mark of one list of rows occurs in the other
-abbrev pub AreApart : List Row → List Row → Type 0
-AreApart xs ys = (x y : Row) → IsAmong x xs → IsAmong y ys → ¬ Meets x.marks y.marks
+abbrev pub ShareNoMark : List Row → List Row → Type 0
+ShareNoMark xs ys = (x y : Row) → IsAmong x xs → IsAmong y ys → ¬ Meets x.marks y.marks
 
 -- the union of a row of each list, which fit, with at most so many marks
 pub record IsUnion (xs ys : List Row) (level : ℕ) (r : Row) : Type 0 where

@@ -5,7 +5,7 @@ ghost use Rattle.mcs_base.specs.Listings.{IsAmong, IsAscending, IsListing};
 ghost use Rattle.mcs_base.specs.Partials.{Fits};
 ghost use Rattle.mcs_sets.specs.Orders.{StateBefore};
 ghost use Rattle.mcs_sets.specs.Sets.{common};
-ghost use Rattle.mcs_table.specs.Fitting.{SomeSays};
+ghost use Rattle.mcs_table.specs.Fitting.{IsRowProjection};
 ghost use Rattle.mcs_table.specs.RowOrder.{RowBefore};
 ghost use Rattle.mcs_table.specs.declared.row.Row as declared;
 
@@ -27,48 +27,49 @@ pub fn matching(alloc: Global, t: &Table, partial: &Partial) -> Result<Vec<Row>,
     Ok(found)
 }
 
-/// What each row says of the variables of a set.
-fn said_by(alloc: Global, rows: &[Row], set: Vars) -> Result<Vec<Vars>, Memory>
-    ensures { IfOk result (λ said. said.items ≡ map (λ (r : declared.Row). common r.state.values set) rows.now) }
+/// The projection of each row's state onto the variables of a set, row by row.
+fn project_rows(alloc: Global, rows: &[Row], set: Vars) -> Result<Vec<Vars>, Memory>
+    ensures { IfOk result (λ projections. projections.items ≡ map (λ (r : declared.Row). common r.state.values set) rows.now) }
 {
-    let said = rows
+    let projections = rows
         .iter()
         .map(|row| row.state.values().common(set))
         .collect(alloc)?;
-    Ok(said)
+    Ok(projections)
 }
 
-/// What the rows of the table say of the variables of a set: each of these states once, in the order of states.
-pub fn said_of(alloc: Global, t: &Table, set: Vars) -> Result<Vec<Vars>, Memory>
-    ensures { IfOk result (λ said. IsListing (SomeSays t.now.rows set) StateBefore said.items) }
+/// The projections of the states of the table's rows onto a set of variables, each once, in the order of states.
+pub fn projections_of(alloc: Global, t: &Table, set: Vars) -> Result<Vec<Vars>, Memory>
+    ensures { IfOk result (λ projections. IsListing (IsRowProjection t.now.rows set) StateBefore projections.items) }
 {
-    let mut said = said_by(alloc, t.rows(), set)?;
-    list_states(&mut said);
-    Ok(said)
+    let mut projections = project_rows(alloc, t.rows(), set)?;
+    list_states(&mut projections);
+    Ok(projections)
 }
 
-/// Whether what the state says of the variables of a set is among these, of which each is there once, in the order of
-/// states.
-fn is_said(said: &[Vars], state: Vars, set: Vars) -> bool
-    requires { IsAscending StateBefore said.now }
-    ensures { IsTrue result ↔ IsAmong (common state set) said.now }
+/// Whether the projection of the state onto a set of variables is among these; they are in the order of states, each
+/// once.
+fn is_projection(projections: &[Vars], state: Vars, set: Vars) -> bool
+    requires { IsAscending StateBefore projections.now }
+    ensures { IsTrue result ↔ IsAmong (common state set) projections.now }
 {
-    said.binary_search(&state.common(set)).is_ok()
+    projections.binary_search(&state.common(set)).is_ok()
 }
 
-/// Those of the states that are as one of `said` on the variables of a set; these are in the order of states, each once.
-pub fn said_states(
+/// The states whose projection onto a set of variables is among `projections`; these are in the order of states, each
+/// once.
+pub fn states_with(
     alloc: Global,
     states: &[Vars],
-    said: &[Vars],
+    projections: &[Vars],
     set: Vars,
 ) -> Result<Vec<Vars>, Memory>
-    requires { IsAscending StateBefore said.now }
-    ensures { IfOk result (λ kept. (s : ℕ) → IsAmong s kept.items ↔ (IsAmong s states.now × IsAmong (common s set) said.now)) }
+    requires { IsAscending StateBefore projections.now }
+    ensures { IfOk result (λ kept. (s : ℕ) → IsAmong s kept.items ↔ (IsAmong s states.now × IsAmong (common s set) projections.now)) }
 {
     let mut kept = Vec::new(alloc);
     for state in states {
-        if is_said(said, *state, set) {
+        if is_projection(projections, *state, set) {
             kept.push(*state)?;
         }
     }

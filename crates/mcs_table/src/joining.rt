@@ -6,7 +6,7 @@ ghost use Rattle.mcs_sets.specs.Sets.{union};
 ghost use Rattle.mcs_base.specs.Listings.{IsAmong};
 ghost use Rattle.mcs_base.specs.Partials.{Fits};
 ghost use Rattle.mcs_table.specs.Joins.{union_of};
-ghost use Rattle.mcs_table.specs.Tables.{AreApart, IsJoin, IsRowOn, IsUnion, united_row};
+ghost use Rattle.mcs_table.specs.Tables.{ShareNoMark, IsJoin, IsRowOn, IsUnion, united_row};
 ghost use Rattle.mcs_table.specs.declared.row.Row as declared;
 
 use crate::minimal::minimal_table;
@@ -20,7 +20,7 @@ use std::alloc::Global;
 /// the variables of both. It has, for each state, the unions of a row of each that fit and have at most so
 /// many marks, without those that hold the marks of another one.
 pub fn join(alloc: Global, a: &Table, b: &Table, level: u32) -> Result<Table, Memory>
-    requires { AreApart a.now.rows b.now.rows }
+    requires { ShareNoMark a.now.rows b.now.rows }
     ensures { IfOk result (IsJoin a.now b.now level) }
 {
     let (left, right) = (a.scope(), b.scope());
@@ -38,7 +38,7 @@ pub fn unions(
     level: u32,
 ) -> Result<Vec<Row>, Memory>
     requires on_scope { AllByRecursion (IsRowOn scope) rows.now }
-    requires apart { AreApart rows.now t.now.rows }
+    requires apart { ShareNoMark rows.now t.now.rows }
     ensures { IfOk result (λ all. (r : declared.Row) → IsAmong r all.items ↔ IsUnion rows.now t.now.rows level r) }
 {
     let right = t.scope();
@@ -62,7 +62,7 @@ pub fn union_states(
     level: u32,
 ) -> Result<Vec<Vars>, Memory>
     requires on_scope { AllByRecursion (IsRowOn scope) rows.now }
-    requires apart { AreApart rows.now t.now.rows }
+    requires apart { ShareNoMark rows.now t.now.rows }
     ensures { IfOk result (λ states. (all : List declared.Row) × ((r : declared.Row) → IsAmong r all ↔ IsUnion rows.now t.now.rows level r)
         × (states.items ≡ map (λ (r : declared.Row). r.state.values) all)) }
 {
@@ -82,7 +82,7 @@ pub fn union_states(
 
 /// Whether no mark of the one table occurs in the other, as `join` asks. It takes no memory.
 pub fn are_apart(a: &Table, b: &Table) -> bool
-    ensures { IsTrue result ↔ AreApart a.now.rows b.now.rows }
+    ensures { IsTrue result ↔ ShareNoMark a.now.rows b.now.rows }
 {
     !all_marks(a.rows()).meets(all_marks(b.rows()))
 }

@@ -56,8 +56,8 @@ fn is_covered(kept: &[Row], row: &Row) -> bool
 const FEW_ROWS: usize = 32;
 
 /// How many of the kept rows are to be looked at for one that has the state of the row, which comes after them, and
-/// marks within its marks: none of the others has both. Where there are many rows of the state, those with as many marks
-/// as the row are left out.
+/// marks within its marks: none of the others has both. Where there are many rows of the state, those with as many
+/// marks as the row are left out.
 fn end_to_look_at(kept: &[Row], row: &Row) -> usize
     requires ascending { IsAscending RowBefore kept.now }
     requires after { AllByRecursion (λ (r : declared.Row). RowBefore r row.now) kept.now }

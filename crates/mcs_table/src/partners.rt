@@ -4,7 +4,7 @@ ghost use Rattle.std.specs.Prelude.{◌≡◌, ◌≤◌, ◌↔◌, IfOk, lengt
 ghost use Rattle.std.specs.List.Sorted.{IsPermutation};
 ghost use Rattle.mcs_sets.specs.Sets.{common, size};
 ghost use Rattle.mcs_base.specs.Listings.{IsAmong};
-ghost use Rattle.mcs_table.specs.Partners.{shared_key, is_below, is_up_to, EndsAt, IsByShared};
+ghost use Rattle.mcs_table.specs.Partners.{shared_key, is_below, is_up_to, PassingEndsAt, IsByShared};
 ghost use Rattle.mcs_table.specs.declared.row.Row as declared;
 
 use crate::row::Row;
@@ -35,7 +35,7 @@ pub(crate) fn partners(sorted: &[Row], scope: Vars, shared: Vars, room: u32) -> 
 fn end_below(sorted: &[Row], scope: Vars, most: (Vars, u32)) -> usize
     requires { IsByShared scope sorted.now }
     ensures bound { result ≤ length sorted.now }
-    ensures point { EndsAt (is_below scope most) sorted.now result }
+    ensures point { PassingEndsAt (is_below scope most) sorted.now result }
 {
     sorted.partition_point(|row| key(row, scope) < most)
 }
@@ -44,7 +44,7 @@ fn end_below(sorted: &[Row], scope: Vars, most: (Vars, u32)) -> usize
 fn end_up_to(sorted: &[Row], scope: Vars, most: (Vars, u32)) -> usize
     requires { IsByShared scope sorted.now }
     ensures bound { result ≤ length sorted.now }
-    ensures point { EndsAt (is_up_to scope most) sorted.now result }
+    ensures point { PassingEndsAt (is_up_to scope most) sorted.now result }
 {
     sorted.partition_point(|row| key(row, scope) <= most)
 }

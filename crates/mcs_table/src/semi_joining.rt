@@ -4,7 +4,7 @@ ghost use Rattle.std.specs.Prelude.{◌≡◌, ◌≤◌, ◌+◌, ◌↔◌, If
 ghost use Rattle.mcs_sets.specs.Sets.{common, size};
 ghost use Rattle.mcs_base.specs.Listings.{IsAmong};
 ghost use Rattle.mcs_table.specs.Partners.{IsByShared};
-ghost use Rattle.mcs_table.specs.Tables.{AreApart, IsSemiJoin};
+ghost use Rattle.mcs_table.specs.Tables.{ShareNoMark, IsSemiJoin};
 ghost use Rattle.mcs_table.specs.declared.row.Row as declared;
 
 use crate::partners::{by_shared, partners};
@@ -17,7 +17,7 @@ use std::alloc::Global;
 /// second with which they have at most so many marks. Joined up to that number of marks, both tables give the
 /// same with these rows alone.
 pub fn semi_join(alloc: Global, a: &Table, b: &Table, level: u32) -> Result<Table, Memory>
-    requires { AreApart a.now.rows b.now.rows }
+    requires { ShareNoMark a.now.rows b.now.rows }
     ensures { IfOk result (IsSemiJoin a.now b.now level) }
 {
     let (left, right) = (a.scope(), b.scope());

@@ -4,7 +4,7 @@ use Rattle.std.specs.Result.{IsErrAnd}
 use Rattle.std.proofs.lemmas.List.{append-nil, take-append-drop}
 use Rattle.mcs_ports.specs.Causes.{Rose}
 use Rattle.mcs_ports.specs.Pieces.{Device, appended}
-use Rattle.mcs_text.specs.Writes.{Writes, IsDue}
+use Rattle.mcs_text.specs.Writes.{Writes, IsWriteFaultDue}
 use Rattle.mcs_text.specs.declared.unwritten.Unwritten.{Unwritten}
 use Rattle.mcs_text.specs.declared.unwritten.Unwritten.TheVariants as why
 
@@ -16,8 +16,8 @@ pub appended-none : (told : Option (List ℕ)) → told ≡ appended told []
 appended-none None = refl
 appended-none (Some w) = ap (λ t. Some t) (sym (append-nil w))
 
-due_later : (e : Unwritten) (a b c : ℕ) → b ≡ a → IsDue e b c → IsDue e a c
-due_later e a b c same due = subst (λ (n : ℕ). IsDue e n c) same due
+due_later : (e : Unwritten) (a b c : ℕ) → b ≡ a → IsWriteFaultDue e b c → IsWriteFaultDue e a c
+due_later e a b c same due = subst (λ (n : ℕ). IsWriteFaultDue e n c) same due
 
 module _ {T U : Type 0} where
   -- one text after the other

@@ -13,9 +13,9 @@ pub record WritesFront (text : List ℕ) (before now : Option (List ℕ)) : Type
   pub written : now ≡ appended before front
 
 -- a write failed exactly where the count of faults rose: want of memory leaves it as before
-abbrev pub IsDue : Unwritten → ℕ → ℕ → Type 0
-IsDue why.Fault before now = Rose before now
-IsDue why.Memory before now = now ≡ before
+abbrev pub IsWriteFaultDue : Unwritten → ℕ → ℕ → Type 0
+IsWriteFaultDue why.Fault before now = Rose before now
+IsWriteFaultDue why.Memory before now = now ≡ before
 
 -- the text was written whole and no write failed, or a front of it and a reason is told; nothing else was changed
 pub record Writes {T : Type 0} (text : List ℕ) (before now : Device) (result : Result T Unwritten) : Type 0 where
@@ -24,4 +24,4 @@ pub record Writes {T : Type 0} (text : List ℕ) (before now : Device) (result :
   pub quiet : OnOk result (now.faults ≡ before.faults)
   pub whole : OnOk result (now.written ≡ appended before.written text)
   pub front : OnErr result (WritesFront text before.written now.written)
-  pub due : IfErr result (λ e. IsDue e before.faults now.faults)
+  pub due : IfErr result (λ e. IsWriteFaultDue e before.faults now.faults)

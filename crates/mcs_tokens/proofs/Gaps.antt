@@ -2,7 +2,7 @@
 use Rattle.std.proofs.Common.{◌≡◌, ℕ, ◌+◌, ◌-◌, ◌<◌, ◌≤◌, Bool, true, false, List, [], ◌∷◌, length, take, drop, refl, sym, subst, inl, inr, arith, length-drop}
 use Rattle.std.proofs.lemmas.List.{take_rest, drop-drop}
 use Rattle.std.specs.List.{AllByRecursion}
-use Rattle.mcs_tokens.specs.Tokens.{IsInComment, IsGap, IsGapByte, IsToken, IsNext, AreTokens, IsSpanOf}
+use Rattle.mcs_tokens.specs.Tokens.{IsInComment, IsGap, IsGapByte, IsToken, IsNextToken, AreTokens, IsSpanOf}
 use Rattle.mcs_tokens.specs.declared.scan.Span.{Span}
 
 -- up to i there is a gap, and whether a comment goes on there is known
@@ -13,7 +13,7 @@ pub record GapSoFar (bytes : List ℕ) (at i : ℕ) (in_comment : Bool) : Type 0
 
 -- the token that begins where the gap ends is the next one
 pub next_there : (bytes : List ℕ) (at from len : ℕ) → at ≤ from → from < length bytes → IsGap bytes at from → ¬ IsGapByte bytes at from → 0 < len → len ≤ length (take (length bytes - from) (drop from bytes))
-    → IsToken (take len (take (length bytes - from) (drop from bytes))) (drop len (take (length bytes - from) (drop from bytes))) → IsNext bytes at from (from + len)
+    → IsToken (take len (take (length bytes - from) (drop from bytes))) (drop len (take (length bytes - from) (drop from bytes))) → IsNextToken bytes at from (from + len)
 next_there bytes at from len after inside gap ended some fits token =
     let text : take (length bytes - from) (drop from bytes) ≡ drop from bytes = take_rest bytes from in
     let long : length (drop from bytes) + from ≡ length bytes = omega (arith, length-drop from bytes) in
@@ -31,14 +31,14 @@ next_there bytes at from len after inside gap ended some fits token =
       });
     }
 
-pub ended_there : (bytes : List ℕ) (at from to : ℕ) → IsNext bytes at from to → from ≡ length bytes → AreTokens bytes at []
+pub ended_there : (bytes : List ℕ) (at from to : ℕ) → IsNextToken bytes at from to → from ≡ length bytes → AreTokens bytes at []
 ended_there bytes at from to h e = record {
   after = omega (arith, h.after);
   gap = subst (IsGap bytes at) e h.gap;
   token = inr (refl, refl);
 }
 
-next_span : (bytes : List ℕ) (at : ℕ) (s : Span) → IsNext bytes at s.from s.to → s.from < length bytes → IsSpanOf bytes s
+next_span : (bytes : List ℕ) (at : ℕ) (s : Span) → IsNextToken bytes at s.from s.to → s.from < length bytes → IsSpanOf bytes s
 next_span bytes at s h below = elim h.token [ inl t ↦ (t.some, t.inside) | inr e ↦ absurd (omega (arith, e.0, below)) ]
 
 pub are_spans : (bytes : List ℕ) (at : ℕ) (spans : List Span) → AreTokens bytes at spans → AllByRecursion (IsSpanOf bytes) spans

@@ -12,7 +12,7 @@ use Rattle.mcs_base.proofs.Lists.{same_first, later_split}
 use Rattle.mcs_base.proofs.Each.{all_weaker}
 use Rattle.mcs_base.proofs.WordLemmas.{word_begins, word_front}
 use Rattle.mcs_tokens.specs.Spelling.{sign_bytes}
-use Rattle.mcs_tokens.specs.Tokens.{is_separator, hash, IsGapByte, IsWholeWord, IsLongestSign, IsStray, IsToken, IsTokenAt, IsNext, AreTokens}
+use Rattle.mcs_tokens.specs.Tokens.{is_separator, hash, IsGapByte, IsWholeWord, IsLongestSign, IsStray, IsToken, IsTokenAt, IsNextToken, AreTokens}
 use Rattle.mcs_tokens.specs.Laws.{LiesIn}
 use Rattle.mcs_tokens.specs.declared.sign.Sign.{Sign}
 use Rattle.mcs_tokens.specs.declared.sign.Sign.TheVariants as signs
@@ -107,10 +107,10 @@ same_length t r t' r' e (inr (inr y)) (inr (inl s)) = absurd (sign_no_stray t' r
 same_length t r t' r' e (inr (inr s)) (inr (inr s')) = let a = ap length s.one in let b = ap length s'.one in omega (arith, a, b)
 
 -- ---- one next token
-begins_inside : (bytes : List ℕ) (at from to : ℕ) → IsNext bytes at from to → from ≤ length bytes
+begins_inside : (bytes : List ℕ) (at from to : ℕ) → IsNextToken bytes at from to → from ≤ length bytes
 begins_inside bytes at from to h = elim h.token [ inl t ↦ omega (arith, t.some, t.inside) | inr e ↦ omega (arith, e.0) ]
 
-not_before : (bytes : List ℕ) (at from to from' to' : ℕ) → IsNext bytes at from to → IsNext bytes at from' to' → ¬ (from < from')
+not_before : (bytes : List ℕ) (at from to from' to' : ℕ) → IsNextToken bytes at from to → IsNextToken bytes at from' to' → ¬ (from < from')
 not_before bytes at from to from' to' h h' less = let inside = begins_inside bytes at from' to' h' in elim h.token [
   | inl t ↦ token_no_gap bytes at from to t (h'.gap from h.after less)
   | inr e ↦ absurd (omega (arith, e.0, inside, less))
@@ -122,7 +122,7 @@ range_length bytes from to h inside =
     let short : to - from ≤ length (drop from bytes) = omega arith in
     omega (arith, length-take-le (to - from) (drop from bytes) short)
 
-same_end : (bytes : List ℕ) (at from to to' : ℕ) → IsNext bytes at from to → IsNext bytes at from to' → to ≡ to'
+same_end : (bytes : List ℕ) (at from to to' : ℕ) → IsNextToken bytes at from to → IsNextToken bytes at from to' → to ≡ to'
 same_end bytes at from to to' h h' = both h.token h'.token
   where
     both : IsTokenAt bytes at from to ⊎ ((from ≡ length bytes) × (to ≡ length bytes)) → IsTokenAt bytes at from to' ⊎ ((from ≡ length bytes) × (to' ≡ length bytes)) → to ≡ to'
@@ -135,13 +135,13 @@ same_end bytes at from to to' h h' = both h.token h'.token
     both (inr e) (inl t) = absurd (omega (arith, t.some, t.inside, e.0))
     both (inr e) (inr e') = e.1 ∙ sym e'.1
 
-pub next_is_unique : (bytes : List ℕ) (at from to from' to' : ℕ) → IsNext bytes at from to → IsNext bytes at from' to' → (from ≡ from') × (to ≡ to')
+pub next_is_unique : (bytes : List ℕ) (at from to from' to' : ℕ) → IsNextToken bytes at from to → IsNextToken bytes at from' to' → (from ≡ from') × (to ≡ to')
 next_is_unique bytes at from to from' to' h h' =
     let same : from ≡ from' = elim (cases_lt from from') [
       | inl less ↦ absurd (not_before bytes at from to from' to' h h' less)
       | inr past ↦ elim (cases_lt from' from) [ inl less ↦ absurd (not_before bytes at from' to' from to h' h less) | inr past' ↦ omega arith ]
     ] in
-    (same, same_end bytes at from to to' h (subst (λ (n : ℕ). IsNext bytes at n to') (sym same) h'))
+    (same, same_end bytes at from to to' h (subst (λ (n : ℕ). IsNextToken bytes at n to') (sym same) h'))
 
 span : ℕ → ℕ → Span
 span from to = record { from = from; to = to }

@@ -2,14 +2,14 @@
 use Rattle.std.specs.Prelude.{◌≡◌, ℕ, ◌<◌, ◌≤◌, List, [], ◌∷◌, length, ◌⊎◌}
 use Rattle.std.specs.List.{AllByRecursion}
 use Rattle.mcs_base.specs.Listings.{IsAscending}
-use Rattle.mcs_tokens.specs.Tokens.{IsGapByte, IsNext, AreTokens}
+use Rattle.mcs_tokens.specs.Tokens.{IsGapByte, IsNextToken, AreTokens}
 use Rattle.mcs_tokens.specs.Kinds.{IsKind}
 use Rattle.mcs_tokens.specs.declared.kind.TokenKind.{TokenKind}
 use Rattle.mcs_tokens.specs.declared.scan.Span.{Span}
 
 -- the first token is the only one that is first
 abbrev pub OneTokenIsNext : Type 0
-OneTokenIsNext = (bytes : List ℕ) (at from to from' to' : ℕ) → IsNext bytes at from to → IsNext bytes at from' to' → (from ≡ from') × (to ≡ to')
+OneTokenIsNext = (bytes : List ℕ) (at from to from' to' : ℕ) → IsNextToken bytes at from to → IsNextToken bytes at from' to' → (from ≡ from') × (to ≡ to')
 
 -- a text has one list of tokens
 abbrev pub OneListOfTokens : Type 0

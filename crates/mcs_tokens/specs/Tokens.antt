@@ -71,7 +71,7 @@ pub record IsTokenAt (bytes : List ℕ) (at from to : ℕ) : Type 0 where
   pub token : IsToken (slice_range bytes from to) (drop to bytes)
 
 -- the first token of the text from `at` on stands from `from` up to `to`; at the end both are the length
-pub record IsNext (bytes : List ℕ) (at from to : ℕ) : Type 0 where
+pub record IsNextToken (bytes : List ℕ) (at from to : ℕ) : Type 0 where
   pub after : at ≤ from
   pub gap : IsGap bytes at from
   pub token : IsTokenAt bytes at from to ⊎ ((from ≡ length bytes) × (to ≡ length bytes))
@@ -82,5 +82,5 @@ IsSpanOf bytes s = (s.from < s.to) × (s.to ≤ length bytes)
 
 -- each is the first one after the one before, and after the last there is none
 abbrev pub AreTokens : List ℕ → ℕ → List Span → Type 0
-AreTokens bytes at [] = IsNext bytes at (length bytes) (length bytes)
-AreTokens bytes at (s ∷ spans) = IsNext bytes at s.from s.to × (s.from < length bytes) × AreTokens bytes s.to spans
+AreTokens bytes at [] = IsNextToken bytes at (length bytes) (length bytes)
+AreTokens bytes at (s ∷ spans) = IsNextToken bytes at s.from s.to × (s.from < length bytes) × AreTokens bytes s.to spans

@@ -2,7 +2,7 @@
 
 ghost use Rattle.std.specs.Prelude.{◌≡◌, ◌≢◌, ◌≤◌, ◌<◌, length, IfOk, IsTrue, take, drop, slice_index, slice_range, All};
 ghost use Rattle.std.specs.List.{list_all};
-ghost use Rattle.mcs_tokens.specs.Tokens.{IsNext, IsGap, IsGapByte, IsToken, AreTokens, IsSpanOf, is_separator, hash};
+ghost use Rattle.mcs_tokens.specs.Tokens.{IsNextToken, IsGap, IsGapByte, IsToken, AreTokens, IsSpanOf, is_separator, hash};
 ghost use Rattle.mcs_base.specs.Words.{is_letter, is_word_byte};
 
 use crate::sign::first_sign;
@@ -88,7 +88,7 @@ fn token_len(text: &[u8]) -> usize
 /// at `at`, so `at` must not be within a token or a comment. At the end of the text both are its length.
 pub fn next_token(bytes: &[u8], at: usize) -> (usize, usize)
     requires { at ≤ length bytes.now }
-    ensures { IsNext bytes.now at result.0 result.1 }
+    ensures { IsNextToken bytes.now at result.0 result.1 }
 {
     let from = gap_end(bytes, at);
     if from == bytes.len() {

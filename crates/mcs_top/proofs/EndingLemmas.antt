@@ -2,7 +2,7 @@
 use Rattle.std.proofs.Common.{◌≡◌, ◌⊎◌, ℕ, List, Option, Some, None, Result, Ok, Err, IfSome, inl, inr, refl, sym, ap, ◌∙◌, subst}
 use Rattle.std.specs.Result.{IsErrAnd}
 use Rattle.mcs_ports.specs.Pieces.{Device, noted}
-use Rattle.mcs_text.specs.Writes.{IsDue}
+use Rattle.mcs_text.specs.Writes.{IsWriteFaultDue}
 use Rattle.mcs_text.specs.declared.unwritten.Unwritten.{Unwritten}
 use Rattle.mcs_text.specs.declared.unwritten.Unwritten.TheVariants as unwritten
 use Rattle.mcs_words.specs.Commands.{Request}
@@ -14,18 +14,18 @@ use Rattle.mcs_top.specs.declared.ending.Stop.TheVariants as stops
 use Rattle.mcs_top.specs.declared.status.Status.{Status}
 use Rattle.mcs_top.specs.declared.status.Status.TheVariants as statuses
 use Rattle.mcs_top.specs.Jobs.{File}
-use Rattle.mcs_top.specs.Endings.{line_of, status_of, refusal_line, unfinished_line, stop_for_words, stop_for_line, IsTold, IsToldAs}
-use Rattle.mcs_top.specs.Promise.{IsRefusal, LacksBudget, budget_of, WritesBeyond, StopsBeyond, LacksFile, CanBeDone, CanBeRejected, EndsSo, WritesOutput, WritesRejection, WritesStage, TellsRefusal, Notes, IsUnlessMemory, CannotBeRead, HasCause, LeavesText, as_done}
+use Rattle.mcs_top.specs.Endings.{line_of, status_of, refusal_line, unfinished_line, stop_for_words, stop_for_unwritten, IsEndingTold, IsToldAs}
+use Rattle.mcs_top.specs.Promise.{IsRefusal, LacksBudget, budget_of, WritesBeyond, StopsBeyond, LacksFile, CanBeDone, CanBeRejected, EndsSo, WritesOutput, WritesRejection, WritesStage, TellsRefusal, Notes, IsUnlessMemory, CannotBeRead, IsStopCause, LeavesText, as_done}
 use Rattle.mcs_top.specs.declared.ending.Outcome.TheVariants as outcomes
 use Rattle.mcs_top.proofs.RefusalLemmas.{whole_front, output_not_short, short_not_refused, beyond_not_refused, beyond_not_missing, beyond_is_stage, can_not_beyond, output_not_refused, output_not_missing, stage_not_refused, can_not_refused, can_not_missing, rejected_not_missing, short_not_missing, stage_not_missing, refusal_not_missing, rejection_not_refused, rejection_not_short, rejection_not_missing, rejected_not_refused, rejected_not_beyond}
 
 -- ---- what a stop is told as
-pub told_status : (stop : Stop) (status : Status) (before now : Device) → IsTold stop status before now → IsUnlessMemory (status_of stop) status
+pub told_status : (stop : Stop) (status : Status) (before now : Device) → IsEndingTold stop status before now → IsUnlessMemory (status_of stop) status
 told_status stop status before now (inl own) = inl own.status_is
 told_status stop status before now (inr want) = inr want.status_is
 
 -- where another status than that of want of memory is told, it is the stop's own
-own_line : (stop : Stop) (status due : Status) (before now : Device) → IsTold stop status before now → status ≡ due → ¬ (due ≡ statuses.OutOfMemory) → (status_of stop ≡ due) × (now.notes ≡ noted before.notes (line_of stop))
+own_line : (stop : Stop) (status due : Status) (before now : Device) → IsEndingTold stop status before now → status ≡ due → ¬ (due ≡ statuses.OutOfMemory) → (status_of stop ≡ due) × (now.notes ≡ noted before.notes (line_of stop))
 own_line stop status due before now (inl own) is other = (sym own.status_is ∙ is, own.notes)
 own_line stop status due before now (inr want) is other = absurd (other (sym is ∙ want.status_is))
 
@@ -40,14 +40,14 @@ notes_as stop status before now h = subst (λ (s : Status). Notes s before.notes
     at stops.WriteFault is = is
     at stops.Memory is = is
 
-pub told_notes : (stop : Stop) (status : Status) (before now : Device) → IsTold stop status before now → Notes status before.notes now.notes
+pub told_notes : (stop : Stop) (status : Status) (before now : Device) → IsEndingTold stop status before now → Notes status before.notes now.notes
 told_notes stop status before now (inl own) = notes_as stop status before now own
 told_notes stop status before now (inr want) = notes_as stops.Memory status before now want
 
 -- ---- words that are no job
-pub words_told : (fault : WordsFault) (stop : Stop) (status : Status) (before now : Device) → stop ≡ stop_for_words fault → IsTold stop status before now
+pub words_told : (fault : WordsFault) (stop : Stop) (status : Status) (before now : Device) → stop ≡ stop_for_words fault → IsEndingTold stop status before now
     → ((status ≡ statuses.Usage) × (fault ≡ words.Usage)) ⊎ (status ≡ statuses.OutOfMemory)
-words_told fault stop status before now is told = at fault (told_status (stop_for_words fault) status before now (subst (λ (s : Stop). IsTold s status before now) is told))
+words_told fault stop status before now is told = at fault (told_status (stop_for_words fault) status before now (subst (λ (s : Stop). IsEndingTold s status before now) is told))
   where
     at : (f : WordsFault) → IsUnlessMemory (status_of (stop_for_words f)) status → ((status ≡ statuses.Usage) × (f ≡ words.Usage)) ⊎ (status ≡ statuses.OutOfMemory)
     at words.Usage (inl due) = inl (due, refl)
@@ -56,11 +56,11 @@ words_told fault stop status before now is told = at fault (told_status (stop_fo
     at words.Memory (inr want) = inr want
 
 -- ---- a job that stops
-module _ (stop : Stop) (status : Status) (before now : Device) (told : IsTold stop status before now) (shelf-rose failed sink-rose : Type 0) (job : Request) (files : Option (List File)) (cause : HasCause stop shelf-rose failed sink-rose job files) where
+module _ (stop : Stop) (status : Status) (before now : Device) (told : IsEndingTold stop status before now) (shelf-rose failed sink-rose : Type 0) (job : Request) (files : Option (List File)) (cause : IsStopCause stop shelf-rose failed sink-rose job files) where
   pub never_usage : status ≡ statuses.Usage → ⊥
   never_usage is = at stop (own_line stop status statuses.Usage before now told is (λ e. cc)).0 cause
     where
-      at : (s : Stop) → status_of s ≡ statuses.Usage → HasCause s shelf-rose failed sink-rose job files → ⊥
+      at : (s : Stop) → status_of s ≡ statuses.Usage → IsStopCause s shelf-rose failed sink-rose job files → ⊥
       at stops.Usage e h = h
       at (stops.Refused why) e h = cc
       at (stops.Unfinished level budget) e h = cc
@@ -93,7 +93,7 @@ module _ (stop : Stop) (status : Status) (before now : Device) (told : IsTold st
   pub read_rose : status ≡ statuses.ReadFault → shelf-rose
   read_rose is = at stop (own_line stop status statuses.ReadFault before now told is (λ e. cc)).0 cause
     where
-      at : (s : Stop) → status_of s ≡ statuses.ReadFault → HasCause s shelf-rose failed sink-rose job files → shelf-rose
+      at : (s : Stop) → status_of s ≡ statuses.ReadFault → IsStopCause s shelf-rose failed sink-rose job files → shelf-rose
       at stops.Usage e h = absurd h
       at (stops.Refused why) e h = absurd (cc)
       at (stops.Unfinished level budget) e h = absurd (cc)
@@ -104,7 +104,7 @@ module _ (stop : Stop) (status : Status) (before now : Device) (told : IsTold st
   pub read_lacks : status ≡ statuses.ReadFault → IfSome files (CannotBeRead failed job)
   read_lacks is = at stop (own_line stop status statuses.ReadFault before now told is (λ e. cc)).0 cause
     where
-      at : (s : Stop) → status_of s ≡ statuses.ReadFault → HasCause s shelf-rose failed sink-rose job files → IfSome files (CannotBeRead failed job)
+      at : (s : Stop) → status_of s ≡ statuses.ReadFault → IsStopCause s shelf-rose failed sink-rose job files → IfSome files (CannotBeRead failed job)
       at stops.Usage e h = absurd h
       at (stops.Refused why) e h = absurd (cc)
       at (stops.Unfinished level budget) e h = absurd (cc)
@@ -115,7 +115,7 @@ module _ (stop : Stop) (status : Status) (before now : Device) (told : IsTold st
   pub write_rose : status ≡ statuses.WriteFault → sink-rose
   write_rose is = at stop (own_line stop status statuses.WriteFault before now told is (λ e. cc)).0 cause
     where
-      at : (s : Stop) → status_of s ≡ statuses.WriteFault → HasCause s shelf-rose failed sink-rose job files → sink-rose
+      at : (s : Stop) → status_of s ≡ statuses.WriteFault → IsStopCause s shelf-rose failed sink-rose job files → sink-rose
       at stops.Usage e h = absurd h
       at (stops.Refused why) e h = absurd (cc)
       at (stops.Unfinished level budget) e h = absurd (cc)
@@ -130,7 +130,7 @@ module _ (stop : Stop) (status : Status) (before now : Device) (told : IsTold st
       of why None line h = tt
       of why (Some fs) line h = record { why = why; reason = h; line = line }
 
-      at : (s : Stop) → status_of s ≡ statuses.Refused → now.notes ≡ noted before.notes (line_of s) → HasCause s shelf-rose failed sink-rose job files → IfSome files (TellsRefusal before.notes now.notes job)
+      at : (s : Stop) → status_of s ≡ statuses.Refused → now.notes ≡ noted before.notes (line_of s) → IsStopCause s shelf-rose failed sink-rose job files → IfSome files (TellsRefusal before.notes now.notes job)
       at stops.Usage e line h = absurd h
       at (stops.Refused why) e line h = of why files line h
       at (stops.Unfinished level budget) e line h = absurd (cc)
@@ -143,7 +143,7 @@ module _ (stop : Stop) (status : Status) (before now : Device) (told : IsTold st
     pub stop_refuses : IfSome files (λ fs. (why : Refusal) → IsRefusal why job fs → ¬ failed → IsUnlessMemory statuses.Refused status)
     stop_refuses = at stop files (told_status stop status before now told) cause leaves
       where
-        at : (s : Stop) (fs : Option (List File)) → IsUnlessMemory (status_of s) status → HasCause s shelf-rose failed sink-rose job fs → LeavesText s job fs first last
+        at : (s : Stop) (fs : Option (List File)) → IsUnlessMemory (status_of s) status → IsStopCause s shelf-rose failed sink-rose job fs → LeavesText s job fs first last
             → IfSome fs (λ gs. (why : Refusal) → IsRefusal why job gs → ¬ failed → IsUnlessMemory statuses.Refused status)
         at s None due h left = tt
         at stops.Usage (Some fs) due h left = absurd h
@@ -156,7 +156,7 @@ module _ (stop : Stop) (status : Status) (before now : Device) (told : IsTold st
     pub stop_misses : IfSome files (λ fs. LacksFile job fs → IsUnlessMemory statuses.ReadFault status)
     stop_misses = at stop files (told_status stop status before now told) cause leaves
       where
-        at : (s : Stop) (fs : Option (List File)) → IsUnlessMemory (status_of s) status → HasCause s shelf-rose failed sink-rose job fs → LeavesText s job fs first last
+        at : (s : Stop) (fs : Option (List File)) → IsUnlessMemory (status_of s) status → IsStopCause s shelf-rose failed sink-rose job fs → LeavesText s job fs first last
             → IfSome fs (λ gs. LacksFile job gs → IsUnlessMemory statuses.ReadFault status)
         at s None due h left = tt
         at stops.Usage (Some fs) due h left = absurd h
@@ -169,7 +169,7 @@ module _ (stop : Stop) (status : Status) (before now : Device) (told : IsTold st
     pub stop_completes : IfSome files (λ fs. CanBeDone job fs → ¬ failed → ¬ sink-rose → IsUnlessMemory statuses.Done status)
     stop_completes = at stop files (told_status stop status before now told) cause leaves
       where
-        at : (s : Stop) (fs : Option (List File)) → IsUnlessMemory (status_of s) status → HasCause s shelf-rose failed sink-rose job fs → LeavesText s job fs first last
+        at : (s : Stop) (fs : Option (List File)) → IsUnlessMemory (status_of s) status → IsStopCause s shelf-rose failed sink-rose job fs → LeavesText s job fs first last
             → IfSome fs (λ gs. CanBeDone job gs → ¬ failed → ¬ sink-rose → IsUnlessMemory statuses.Done status)
         at s None due h left = tt
         at stops.Usage (Some fs) due h left = absurd h
@@ -182,7 +182,7 @@ module _ (stop : Stop) (status : Status) (before now : Device) (told : IsTold st
     pub stop_rejects : IfSome files (λ fs. CanBeRejected job fs → ¬ failed → ¬ sink-rose → IsUnlessMemory statuses.NotValid status)
     stop_rejects = at stop files (told_status stop status before now told) cause leaves
       where
-        at : (s : Stop) (fs : Option (List File)) → IsUnlessMemory (status_of s) status → HasCause s shelf-rose failed sink-rose job fs → LeavesText s job fs first last
+        at : (s : Stop) (fs : Option (List File)) → IsUnlessMemory (status_of s) status → IsStopCause s shelf-rose failed sink-rose job fs → LeavesText s job fs first last
             → IfSome fs (λ gs. CanBeRejected job gs → ¬ failed → ¬ sink-rose → IsUnlessMemory statuses.NotValid status)
         at s None due h left = tt
         at stops.Usage (Some fs) due h left = absurd h
@@ -195,7 +195,7 @@ module _ (stop : Stop) (status : Status) (before now : Device) (told : IsTold st
     pub stop_spends : IfSome files (λ fs. LacksBudget job fs → ¬ failed → ¬ sink-rose → IsUnlessMemory statuses.Unfinished status)
     stop_spends = at stop files (told_status stop status before now told) cause
       where
-        at : (s : Stop) (fs : Option (List File)) → IsUnlessMemory (status_of s) status → HasCause s shelf-rose failed sink-rose job fs
+        at : (s : Stop) (fs : Option (List File)) → IsUnlessMemory (status_of s) status → IsStopCause s shelf-rose failed sink-rose job fs
             → IfSome fs (λ gs. LacksBudget job gs → ¬ failed → ¬ sink-rose → IsUnlessMemory statuses.Unfinished status)
         at s None due h = tt
         at stops.Usage (Some fs) due h = absurd h
@@ -213,7 +213,7 @@ module _ (stop : Stop) (status : Status) (before now : Device) (told : IsTold st
         of level budget None line same left = tt
         of level budget (Some fs) line same left = record { level = level; writes = left; line = subst (λ (n : ℕ). now.notes ≡ noted before.notes (unfinished_line level n)) same line }
 
-        at : (s : Stop) → status_of s ≡ statuses.Unfinished → now.notes ≡ noted before.notes (line_of s) → HasCause s shelf-rose failed sink-rose job files → LeavesText s job files first last
+        at : (s : Stop) → status_of s ≡ statuses.Unfinished → now.notes ≡ noted before.notes (line_of s) → IsStopCause s shelf-rose failed sink-rose job files → LeavesText s job files first last
             → IfSome files (StopsBeyond first last before.notes now.notes job)
         at stops.Usage e line h left = absurd h
         at (stops.Refused why) e line h left = absurd (cc)
@@ -225,7 +225,7 @@ module _ (stop : Stop) (status : Status) (before now : Device) (told : IsTold st
     pub unfinished : status ≡ statuses.WriteFault → IfSome files (WritesStage first last job)
     unfinished is = at stop (own_line stop status statuses.WriteFault before now told is (λ e. cc)).0 cause leaves
       where
-        at : (s : Stop) → status_of s ≡ statuses.WriteFault → HasCause s shelf-rose failed sink-rose job files → LeavesText s job files first last → IfSome files (WritesStage first last job)
+        at : (s : Stop) → status_of s ≡ statuses.WriteFault → IsStopCause s shelf-rose failed sink-rose job files → LeavesText s job files first last → IfSome files (WritesStage first last job)
         at stops.Usage e h left = absurd h
         at (stops.Refused why) e h left = absurd (cc)
         at (stops.Unfinished level budget) e h left = absurd (cc)
@@ -344,7 +344,7 @@ module _ (status : Status) (job : Request) (first last : Option (List ℕ)) wher
 
 -- ---- unless a write fault is told, no write failed
 -- a line that was not written whole
-pub line_unfailed : {T : Type 0} (why : Unwritten) (before now : ℕ) (r : Result T Stop) → IsErrAnd r (λ s. s ≡ stop_for_line why) → IsDue why before now → ¬ (r ≡ Err stops.WriteFault) → now ≡ before
+pub line_unfailed : {T : Type 0} (why : Unwritten) (before now : ℕ) (r : Result T Stop) → IsErrAnd r (λ s. s ≡ stop_for_unwritten why) → IsWriteFaultDue why before now → ¬ (r ≡ Err stops.WriteFault) → now ≡ before
 line_unfailed unwritten.Fault before now (Ok x) is due other = absurd is
 line_unfailed unwritten.Fault before now (Err s) is due other = absurd (other (ap (λ (e : Stop). Err e) is))
 line_unfailed unwritten.Memory before now r is due other = due

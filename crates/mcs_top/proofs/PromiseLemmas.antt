@@ -6,8 +6,8 @@ use Rattle.mcs_words.specs.Commands.{Word, Request, IsJobOf}
 use Rattle.mcs_words.specs.declared.job.WordsFault.{WordsFault}
 use Rattle.mcs_words.specs.declared.job.WordsFault.TheVariants as words
 use Rattle.mcs_top.specs.Jobs.{File, files_in, told_all, OfJob}
-use Rattle.mcs_top.specs.Endings.{line_of, stop_for_words, IsTold, IsToldAs}
-use Rattle.mcs_top.specs.Promise.{CanBeDone, CanBeRejected, EndsSo, HasCause, LeavesText, IsUnlessMemory, CannotBeRead, HasFailed, KeepsPromise}
+use Rattle.mcs_top.specs.Endings.{line_of, stop_for_words, IsEndingTold, IsToldAs}
+use Rattle.mcs_top.specs.Promise.{CanBeDone, CanBeRejected, EndsSo, IsStopCause, LeavesText, IsUnlessMemory, CannotBeRead, CallHasFailed, KeepsPromise}
 use Rattle.mcs_top.specs.declared.ending.Outcome.TheVariants as outcomes
 use Rattle.mcs_top.specs.declared.ending.Stop.{Stop}
 use Rattle.mcs_top.specs.declared.ending.Stop.TheVariants as stops
@@ -17,12 +17,12 @@ use Rattle.mcs_top.proofs.JobLemmas.{if_job}
 use Rattle.mcs_top.proofs.EndingLemmas as endings
 
 -- ---- what is told of a device that a part of the run left as it was
-pub told_since : (stop : Stop) (status : Status) (before mid now : Device) → mid.notes ≡ before.notes → IsTold stop status mid now → IsTold stop status before now
+pub told_since : (stop : Stop) (status : Status) (before mid now : Device) → mid.notes ≡ before.notes → IsEndingTold stop status mid now → IsEndingTold stop status before now
 told_since stop status before mid now same (inl own) = inl (record { status_is = own.status_is; notes = subst (λ (n : Option (List ℕ)). now.notes ≡ noted n (line_of stop)) same own.notes })
 told_since stop status before mid now same (inr want) = inr (record { status_is = want.status_is; notes = subst (λ (n : Option (List ℕ)). now.notes ≡ noted n (line_of stops.Memory)) same want.notes })
 
 -- ---- the cause of a failed read, by both counts
-both_rose : (stop : Stop) (rose failed wrote : Type 0) (job : Request) (files : Option (List File)) → HasCause stop rose failed wrote job files → HasCause stop rose (rose × failed) wrote job files
+both_rose : (stop : Stop) (rose failed wrote : Type 0) (job : Request) (files : Option (List File)) → IsStopCause stop rose failed wrote job files → IsStopCause stop rose (rose × failed) wrote job files
 both_rose stops.Usage rose failed wrote job files h = h
 both_rose (stops.Refused why) rose failed wrote job files h = h
 both_rose (stops.Unfinished level budget) rose failed wrote job files h = h
@@ -44,7 +44,7 @@ module _ (asked_words : List Word) (held : Option (Word → File)) (faults fault
   rose = Rose faults faults'
 
   abbrev failed : Type 0
-  failed = HasFailed faults faults' failures failures'
+  failed = CallHasFailed faults faults' failures failures'
 
   abbrev wrote : Type 0
   wrote = Rose device.faults device'.faults
@@ -107,10 +107,10 @@ module _ (asked_words : List Word) (held : Option (Word → File)) (faults fault
     }
 
     -- they could not be read
-    pub words_kept : (fault : WordsFault) (stop : Stop) (status : Status) → stop ≡ stop_for_words fault → (fault ≡ words.Usage → (job : Request) → ¬ IsJobOf asked_words job) → IsTold stop status device device' → Kept status
-    words_kept fault stop status is none told = at fault none (subst (λ (s : Stop). IsTold s status device device') is told)
+    pub words_kept : (fault : WordsFault) (stop : Stop) (status : Status) → stop ≡ stop_for_words fault → (fault ≡ words.Usage → (job : Request) → ¬ IsJobOf asked_words job) → IsEndingTold stop status device device' → Kept status
+    words_kept fault stop status is none told = at fault none (subst (λ (s : Stop). IsEndingTold s status device device') is told)
       where
-        at : (f : WordsFault) → (f ≡ words.Usage → (job : Request) → ¬ IsJobOf asked_words job) → IsTold (stop_for_words f) status device device' → Kept status
+        at : (f : WordsFault) → (f ≡ words.Usage → (job : Request) → ¬ IsJobOf asked_words job) → IsEndingTold (stop_for_words f) status device device' → Kept status
         at words.Usage never (inl own) = subst Kept (sym own.status_is) (usage_kept (never refl) own.notes)
         at words.Usage never (inr want) = memory_kept status want
         at words.Memory never (inl own) = memory_kept status own
@@ -139,13 +139,13 @@ module _ (asked_words : List Word) (held : Option (Word → File)) (faults fault
       sink_later = omega (arith, still);
       unfailed = λ other. still;
       refused = λ is. absurd (cc);
-      refusal = if_this _ (endings.done_refuses statuses.Done job device.written device'.written files (HasFailed faults faults' failures failures') ends);
+      refusal = if_this _ (endings.done_refuses statuses.Done job device.written device'.written files (CallHasFailed faults faults' failures failures') ends);
       unreadable = λ is. absurd (cc);
       missing = if_this _ (endings.done_misses statuses.Done job device.written device'.written files ends);
       beyond = λ is. absurd (cc);
-      spent = if_this _ (endings.done_spends statuses.Done job device.written device'.written files (HasFailed faults faults' failures failures') (Rose device.faults device'.faults) ends);
+      spent = if_this _ (endings.done_spends statuses.Done job device.written device'.written files (CallHasFailed faults faults' failures failures') (Rose device.faults device'.faults) ends);
       not_valid = λ is. absurd (cc);
-      invalid = if_this _ (endings.done_rejects statuses.Done job device.written device'.written files (HasFailed faults faults' failures failures') (Rose device.faults device'.faults) ends);
+      invalid = if_this _ (endings.done_rejects statuses.Done job device.written device'.written files (CallHasFailed faults faults' failures failures') (Rose device.faults device'.faults) ends);
       done = λ is. of_job _ (endings.done_writes statuses.Done job device.written device'.written files ends);
       complete = λ other other_asked. done_anyway other;
       unfinished = λ is. absurd (cc);
@@ -154,10 +154,10 @@ module _ (asked_words : List Word) (held : Option (Word → File)) (faults fault
       notes = same;
     }
       where
-        done_anyway : (other : Request) → IfSome (told_all held (files_in other)) (λ fs. CanBeDone other fs → ¬ HasFailed faults faults' failures failures' → ¬ Rose device.faults device'.faults → IsUnlessMemory statuses.Done statuses.Done)
+        done_anyway : (other : Request) → IfSome (told_all held (files_in other)) (λ fs. CanBeDone other fs → ¬ CallHasFailed faults faults' failures failures' → ¬ Rose device.faults device'.faults → IsUnlessMemory statuses.Done statuses.Done)
         done_anyway other = always (told_all held (files_in other))
           where
-            always : (fs : Option (List File)) → IfSome fs (λ gs. CanBeDone other gs → ¬ HasFailed faults faults' failures failures' → ¬ Rose device.faults device'.faults → IsUnlessMemory statuses.Done statuses.Done)
+            always : (fs : Option (List File)) → IfSome fs (λ gs. CanBeDone other gs → ¬ CallHasFailed faults faults' failures failures' → ¬ Rose device.faults device'.faults → IsUnlessMemory statuses.Done statuses.Done)
             always None = tt
             always (Some gs) = λ can calm quiet. inl refl
 
@@ -172,30 +172,30 @@ module _ (asked_words : List Word) (held : Option (Word → File)) (faults fault
       sink_later = omega (arith, still);
       unfailed = λ other. still;
       refused = λ is. absurd (cc);
-      refusal = if_this _ (endings.rejected_refuses statuses.NotValid job device.written device'.written files (HasFailed faults faults' failures failures') ends);
+      refusal = if_this _ (endings.rejected_refuses statuses.NotValid job device.written device'.written files (CallHasFailed faults faults' failures failures') ends);
       unreadable = λ is. absurd (cc);
       missing = if_this _ (endings.rejected_misses statuses.NotValid job device.written device'.written files ends);
       beyond = λ is. absurd (cc);
-      spent = if_this _ (endings.rejected_spends statuses.NotValid job device.written device'.written files (HasFailed faults faults' failures failures') (Rose device.faults device'.faults) ends);
+      spent = if_this _ (endings.rejected_spends statuses.NotValid job device.written device'.written files (CallHasFailed faults faults' failures failures') (Rose device.faults device'.faults) ends);
       not_valid = λ is. of_job _ (endings.rejected_writes statuses.NotValid job device.written device'.written files ends);
       invalid = λ other other_asked. rejected_anyway other;
       done = λ is. absurd (cc);
-      complete = if_this _ (endings.rejected_completes statuses.NotValid job device.written device'.written files (HasFailed faults faults' failures failures') (Rose device.faults device'.faults) ends);
+      complete = if_this _ (endings.rejected_completes statuses.NotValid job device.written device'.written files (CallHasFailed faults faults' failures failures') (Rose device.faults device'.faults) ends);
       unfinished = λ is. absurd (cc);
       out_of_memory = λ is. absurd (cc);
       silent = λ is. elim is [ inl e ↦ absurd (cc) | inr more ↦ elim more [ inl e ↦ absurd (cc) | inr e ↦ absurd (cc) ] ];
       notes = same;
     }
       where
-        rejected_anyway : (other : Request) → IfSome (told_all held (files_in other)) (λ fs. CanBeRejected other fs → ¬ HasFailed faults faults' failures failures' → ¬ Rose device.faults device'.faults → IsUnlessMemory statuses.NotValid statuses.NotValid)
+        rejected_anyway : (other : Request) → IfSome (told_all held (files_in other)) (λ fs. CanBeRejected other fs → ¬ CallHasFailed faults faults' failures failures' → ¬ Rose device.faults device'.faults → IsUnlessMemory statuses.NotValid statuses.NotValid)
         rejected_anyway other = always (told_all held (files_in other))
           where
-            always : (fs : Option (List File)) → IfSome fs (λ gs. CanBeRejected other gs → ¬ HasFailed faults faults' failures failures' → ¬ Rose device.faults device'.faults → IsUnlessMemory statuses.NotValid statuses.NotValid)
+            always : (fs : Option (List File)) → IfSome fs (λ gs. CanBeRejected other gs → ¬ CallHasFailed faults faults' failures failures' → ¬ Rose device.faults device'.faults → IsUnlessMemory statuses.NotValid statuses.NotValid)
             always None = tt
             always (Some gs) = λ can calm quiet. inl refl
 
     -- it stopped
-    pub stop_kept : (stop : Stop) (status : Status) → IsTold stop status device device' → HasCause stop (Rose faults faults') (Rose failures failures') (Rose device.faults device'.faults) job files
+    pub stop_kept : (stop : Stop) (status : Status) → IsEndingTold stop status device device' → IsStopCause stop (Rose faults faults') (Rose failures failures') (Rose device.faults device'.faults) job files
         → LeavesText stop job files device.written device'.written → device.faults ≤ device'.faults → (¬ (status ≡ statuses.WriteFault) → device'.faults ≡ device.faults) → Kept status
     stop_kept stop status told alone leaves up unfailed = let cause = both_rose stop rose (Rose failures failures') wrote job files alone in record {
       usage = λ is. absurd (endings.never_usage stop status device device' told rose failed wrote job files cause is);

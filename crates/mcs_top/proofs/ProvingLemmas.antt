@@ -9,9 +9,9 @@ use Rattle.mcs_text.specs.declared.unwritten.Unwritten.{Unwritten}
 use Rattle.mcs_text.specs.declared.unwritten.Unwritten.TheVariants as unwritten
 use Rattle.mcs_system.specs.Plain.{System}
 use Rattle.mcs_states.specs.Oracles.{OracleState, with_journal}
-use Rattle.mcs_states.specs.Evaluators.{EvaluatorState, KeepsRest, IsAsked}
+use Rattle.mcs_states.specs.Evaluators.{EvaluatorState, KeepsRest, IsJournalQuestion}
 use Rattle.mcs_system.specs.Faults.{IsValid}
-use Rattle.mcs_system.specs.Naming.{IsNamed}
+use Rattle.mcs_system.specs.Naming.{IsSystemNamed}
 use Rattle.mcs_grammar.proofs.JustificationLemmas.{defaults-short}
 use Rattle.mcs_report.specs.Solutions.{IsWholeListing, whole}
 use Rattle.mcs_proof_text.specs.Lines.{text_of_lines}
@@ -24,10 +24,10 @@ use Rattle.mcs_work.specs.Tasks.{IsTaskStage, IsLastTaken}
 use Rattle.mcs_work.specs.Work.{IsDone}
 use Rattle.mcs_work.specs.declared.task.Task.TheVariants.{Solve}
 use Rattle.mcs_words.specs.Commands.{Word, solve}
-use Rattle.mcs_top.specs.Endings.{stop_for_line}
+use Rattle.mcs_top.specs.Endings.{stop_for_unwritten}
 use Rattle.mcs_top.specs.Jobs.{File, OfOneFile}
 use Rattle.mcs_top.specs.Texts.{IsTextOf, StopsReading}
-use Rattle.mcs_top.specs.Promise.{OfSystem, IsListedBefore, IsListedProved, IsSolved, IsSolutionStage, Prints, PrintsFront, WritesOutput, WritesStage, StopsWork, StopsProof, StopsAnswers, HasCause, LeavesText, IsNewMesh, HaveOrigin}
+use Rattle.mcs_top.specs.Promise.{OfSystem, IsListedBefore, IsListedProved, IsSolved, IsSolutionStage, Prints, PrintsFront, WritesOutput, WritesStage, StopsWork, StopsProof, StopsAnswers, IsStopCause, LeavesText, IsNewMesh, HaveOrigin}
 use Rattle.mcs_top.specs.declared.ending.Stop.{Stop}
 use Rattle.mcs_top.specs.declared.ending.Stop.TheVariants as stops
 use Rattle.mcs_top.proofs.JobLemmas.{told_also, of_file}
@@ -65,7 +65,7 @@ module _ (m : System) (budget : ℕ) (e e' : EvaluatorState) (fresh : IsNewMesh 
     one_each = d.settled.one_each ∙ ap (λ (n : System). length n.contexts) system_kept;
     own = λ i o is. ((d.settled.own i o is).0 ∙ system_kept, (d.settled.own i o is).1);
     keep = origin_kept keeps;
-    asked = λ i o is. subst (λ (n : System). IsInventory (IsAsked n (Some d.level) i) o.journal) system_kept (subst (λ (l : Option ℕ). IsInventory (IsAsked e'.system l i) o.journal) d.level_done (d.settled.asked i o is));
+    asked = λ i o is. subst (λ (n : System). IsInventory (IsJournalQuestion n (Some d.level) i) o.journal) system_kept (subst (λ (l : Option ℕ). IsInventory (IsJournalQuestion e'.system l i) o.journal) d.level_done (d.settled.asked i o is));
   }
 
   whole_listing : IsWholeListing m d.part
@@ -131,13 +131,13 @@ module _ (m : System) (budget : ℕ) (e e' : EvaluatorState) (fresh : IsNewMesh 
 pub asked_also : (m : System) (level : ℕ) (solvers oracles : List OracleState) → map (λ (o : OracleState). o) solvers ≡ oracles → AreAsked m level oracles → AreAsked m level solvers
 asked_also m level solvers oracles same asked = subst (λ (os : List OracleState). AreAsked m level os) (sym same ∙ map-id solvers) asked
 
-pub answers_stopped : (m : System) (level : ℕ) (before now : Device) (why : Unwritten) → Proves {T = Unit {0}} m level before now (Err why) → StopsAnswers (stop_for_line why) m level (Rose before.faults now.faults) before.written now.written
+pub answers_stopped : (m : System) (level : ℕ) (before now : Device) (why : Unwritten) → Proves {T = Unit {0}} m level before now (Err why) → StopsAnswers (stop_for_unwritten why) m level (Rose before.faults now.faults) before.written now.written
 answers_stopped m level before now unwritten.Fault p = (p.due, p.front)
 answers_stopped m level before now unwritten.Memory p = p.front
 
 -- ---- the job of a command
 module _ (name : Word) (budget workers : ℕ) where
-  pub proof_read_cause : (shelf-rose failed sink-rose : Type 0) (files : Option (List File)) (stop : Stop) → StopsReading stop shelf-rose failed files → HasCause stop shelf-rose failed sink-rose (solve name budget workers true) files
+  pub proof_read_cause : (shelf-rose failed sink-rose : Type 0) (files : Option (List File)) (stop : Stop) → StopsReading stop shelf-rose failed files → IsStopCause stop shelf-rose failed sink-rose (solve name budget workers true) files
   proof_read_cause shelf-rose failed sink-rose files stops.Usage h = h
   proof_read_cause shelf-rose failed sink-rose files (stops.Refused why) h = told_also files _ _ (λ fs k. k) h
   proof_read_cause shelf-rose failed sink-rose files (stops.Unfinished level limit) h = absurd h
@@ -153,7 +153,7 @@ module _ (name : Word) (budget workers : ℕ) where
       front = p.front;
     }) read
 
-    proved : IsValid m → IsNamed m → (bytes text : List ℕ) → IsTextOf m bytes → IsListedProved budget text m → IsSolved true budget text m
+    proved : IsValid m → IsSystemNamed m → (bytes text : List ℕ) → IsTextOf m bytes → IsListedProved budget text m → IsSolved true budget text m
     proved valid named bytes text spelled listed = (
       listed.0,
       record {
@@ -162,7 +162,7 @@ module _ (name : Word) (budget workers : ℕ) where
       },
     )
 
-    pub file_proved : IsValid m → IsNamed m → (before now : Option (List ℕ)) (r : Result (Unit {0}) Stop) → OnOk r (Prints (λ text. IsListedProved budget text m) before now) → OnOk r (IfSome files (WritesOutput before now (solve name budget workers true)))
+    pub file_proved : IsValid m → IsSystemNamed m → (before now : Option (List ℕ)) (r : Result (Unit {0}) Stop) → OnOk r (Prints (λ text. IsListedProved budget text m) before now) → OnOk r (IfSome files (WritesOutput before now (solve name budget workers true)))
     file_proved valid named before now (Err stop) p = tt
     file_proved valid named before now (Ok x) p = told_also files _ _ (λ fs h. record {
       text = p.text;
@@ -170,7 +170,7 @@ module _ (name : Word) (budget workers : ℕ) where
       written = p.written;
     }) read
 
-    proof_cause : (shelf-rose failed sink-rose : Type 0) (before now : Option (List ℕ)) (stop : Stop) → StopsProof stop budget m sink-rose before now → HasCause stop shelf-rose failed sink-rose (solve name budget workers true) files
+    proof_cause : (shelf-rose failed sink-rose : Type 0) (before now : Option (List ℕ)) (stop : Stop) → StopsProof stop budget m sink-rose before now → IsStopCause stop shelf-rose failed sink-rose (solve name budget workers true) files
     proof_cause shelf-rose failed sink-rose before now stops.Usage h = h
     proof_cause shelf-rose failed sink-rose before now (stops.Refused why) h = absurd h
     proof_cause shelf-rose failed sink-rose before now (stops.Unfinished level limit) h = h.0
@@ -191,7 +191,7 @@ module _ (name : Word) (budget workers : ℕ) where
     proof_left sink-rose before now stops.Memory h = inr (solution_stage before now h)
 
     pub proof_causes : (shelf-rose failed sink-rose : Type 0) (before now : Option (List ℕ)) (r : Result (Unit {0}) Stop) → IfErr r (λ stop. StopsProof stop budget m sink-rose before now)
-        → IfErr r (λ stop. HasCause stop shelf-rose failed sink-rose (solve name budget workers true) files)
+        → IfErr r (λ stop. IsStopCause stop shelf-rose failed sink-rose (solve name budget workers true) files)
     proof_causes shelf-rose failed sink-rose before now (Ok x) h = tt
     proof_causes shelf-rose failed sink-rose before now (Err stop) h = proof_cause shelf-rose failed sink-rose before now stop h
 

@@ -15,7 +15,7 @@ use Rattle.mcs_words.specs.Commands.{Request, equilibria, solve, check, make}
 use Rattle.mcs_check.specs.Validity.{IsValidReport}
 use Rattle.mcs_top.specs.Jobs.{File, OfOneFile, OfFirstFile, OfTwoFiles, LacksOneOfTwo}
 use Rattle.mcs_top.specs.Texts.{IsTextOf, IsRefusedFor}
-use Rattle.mcs_top.specs.Promise.{Suffices, IsShort, OfSystem, OfReport, IsReportTooLong, IsToldValid, IsToldFailing, FailsATest, IsListed, IsListedBefore, IsSolved, IsSolutionStage, IsOutput, IsRejection, IsOutputBeyond, IsStage, LacksBudget, IsRefusal, IsCheckRefusal, LacksFile, CanBeDone, CanBeRejected}
+use Rattle.mcs_top.specs.Promise.{Suffices, IsShort, OfSystem, OfReport, IsReportTooLong, IsToldValid, IsToldFailing, FailsATest, IsListingText, IsListedBefore, IsSolved, IsSolutionStage, IsOutput, IsRejection, IsOutputBeyond, IsStage, LacksBudget, IsRefusal, IsCheckRefusal, LacksFile, CanBeDone, CanBeRejected}
 use Rattle.mcs_top.specs.declared.ending.Refusal.{Refusal}
 use Rattle.mcs_top.specs.declared.ending.Refusal.TheVariants as refusals
 use Rattle.mcs_top.proofs.JobLemmas.{apart_of_file, of_file, apart_of_two, apart_of_first}
@@ -48,7 +48,7 @@ module _ (task : Task) (budget : ℕ) (m : System) where
   short_apart : Suffices task budget m → IsShort task budget m → ⊥
   short_apart suffices short = suffices short.level short.taken short.beyond
 
-  listed_short : (text : List ℕ) → IsListed task budget text m → IsShort task budget m → ⊥
+  listed_short : (text : List ℕ) → IsListingText task budget text m → IsShort task budget m → ⊥
   listed_short text listed short = short_apart listed.0 short
 
   before_apart : (level : ℕ) (text : List ℕ) → Suffices task budget m → IsListedBefore task budget level text m → ⊥
@@ -99,13 +99,13 @@ missing P files is h = subst (OfOneFile P) is h
 
 -- ---- by cases of the job
 pub output_not_refused : (text : List ℕ) (why : Refusal) (job : Request) (files : List File) → IsOutput text job files → IsRefusal why job files → ⊥
-output_not_refused text why (equilibria file budget workers) files h k = of_system_apart (IsListed Equilibria budget text) why files h k
+output_not_refused text why (equilibria file budget workers) files h k = of_system_apart (IsListingText Equilibria budget text) why files h k
 output_not_refused text why (solve file budget workers proof) files h k = of_system_apart (IsSolved proof budget text) why files h k
 output_not_refused text why (check file report) files h k = report_not_refused (IsToldValid text) why files h k
 output_not_refused text why (make number budget workers) files h k = k
 
 pub output_not_short : (text : List ℕ) (job : Request) (files : List File) → IsOutput text job files → LacksBudget job files → ⊥
-output_not_short text (equilibria file budget workers) files h k = two_systems_apart (IsListed Equilibria budget text) (IsShort Equilibria budget) (λ m. listed_short Equilibria budget m text) files h k
+output_not_short text (equilibria file budget workers) files h k = two_systems_apart (IsListingText Equilibria budget text) (IsShort Equilibria budget) (λ m. listed_short Equilibria budget m text) files h k
 output_not_short text (solve file budget workers proof) files h k = two_systems_apart (IsSolved proof budget text) (IsShort Solve budget) (λ m solved short. short_apart Solve budget m solved.0 short) files h k
 output_not_short text (check file report) files h k = k
 output_not_short text (make number budget workers) files h k = listed_short Make budget (generated_system number) h.0 h.1 k

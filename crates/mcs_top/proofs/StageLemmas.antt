@@ -11,7 +11,7 @@ use Rattle.mcs_states.specs.Evaluators.{EvaluatorState}
 use Rattle.mcs_states.specs.Evaluators as evaluators
 use Rattle.mcs_generator.specs.Generated.{generated_system}
 use Rattle.mcs_report.specs.Solutions.{first}
-use Rattle.mcs_work.specs.Tasks.{IsTaskText, IsTaskStage, IsTaskUpTo, IsTaken, opening}
+use Rattle.mcs_work.specs.Tasks.{IsTaskText, IsTaskStage, IsTaskUpTo, TakesLevel, opening}
 use Rattle.mcs_work.specs.Work.{LeavesStage, IsDone, IsSpent, HasStopped}
 use Rattle.mcs_work.specs.declared.task.Task.{Task}
 use Rattle.mcs_work.specs.declared.task.Task.TheVariants.{Equilibria, Solve, Make}
@@ -20,8 +20,8 @@ use Rattle.mcs_work.specs.declared.task.WorkStop.TheVariants as works
 use Rattle.mcs_words.specs.Commands.{Word, Request, equilibria, solve, check, make}
 use Rattle.mcs_top.specs.Jobs.{File, OfOneFile}
 use Rattle.mcs_top.specs.Texts.{IsTextOf, IsRefusedFor, StopsReading}
-use Rattle.mcs_top.specs.Endings.{stop_for_work, stop_for_line}
-use Rattle.mcs_top.specs.Promise.{IsBeyond, OfSystem, IsListed, IsListedBefore, AfterNumber, number_line, IsOutput, IsOutputBeyond, IsStage, Prints, PrintsFront, WritesOutput, WritesStage, LacksFile, CannotBeRead, StopsWork, StopsGenerated, HasCause, LeavesText, IsRefusal, IsNewMesh, Lists, budget_of, Excludes, EndsSo, as_done}
+use Rattle.mcs_top.specs.Endings.{stop_for_work, stop_for_unwritten}
+use Rattle.mcs_top.specs.Promise.{NeedsMoreThan, OfSystem, IsListingText, IsListedBefore, AfterNumber, number_line, IsOutput, IsOutputBeyond, IsStage, Prints, PrintsFront, WritesOutput, WritesStage, LacksFile, CannotBeRead, StopsWork, StopsGenerated, IsStopCause, LeavesText, IsRefusal, IsNewMesh, ListsFile, budget_of, Excludes, EndsSo, as_done}
 use Rattle.mcs_top.specs.declared.ending.Outcome.TheVariants as outcomes
 use Rattle.mcs_top.specs.declared.ending.Refusal.{Refusal}
 use Rattle.mcs_top.specs.declared.ending.Stop.{Stop}
@@ -47,17 +47,17 @@ nothing_left task m now = record {
 
 -- ---- what the work did, of the system
 module _ (task : Task) (m : System) (budget : ℕ) (e e' : EvaluatorState) (fresh : IsNewMesh m budget e) where
-  beyond_here : (level : ℕ) → evaluators.IsBeyond e level → IsBeyond m level budget
+  beyond_here : (level : ℕ) → evaluators.ExceedsBudget e level → NeedsMoreThan m level budget
   beyond_here level h = subst (λ (n : System). HasQuestions n level (budget + 1)) fresh.system (subst (λ (b : ℕ). HasQuestions e.system level (b + 1)) fresh.budget_is h)
 
-  beyond_there : (level : ℕ) → IsBeyond m level budget → evaluators.IsBeyond e level
+  beyond_there : (level : ℕ) → NeedsMoreThan m level budget → evaluators.ExceedsBudget e level
   beyond_there level h = subst (λ (b : ℕ). HasQuestions e.system level (b + 1)) (sym fresh.budget_is) (subst (λ (n : System). HasQuestions n level (budget + 1)) (sym fresh.system) h)
 
-  pub listed_done : (before now : Option (List ℕ)) → IsDone task [] e e' before now → Prints (λ text. IsListed task budget text m) before now
+  pub listed_done : (before now : Option (List ℕ)) → IsDone task [] e e' before now → Prints (λ text. IsListingText task budget text m) before now
   listed_done before now d = record {
     text = d.part;
     holds = (
-      λ level taken beyond. d.within level (subst (λ (n : System). IsTaken task n level) (sym fresh.system) taken) (beyond_there level beyond),
+      λ level taken beyond. d.within level (subst (λ (n : System). TakesLevel task n level) (sym fresh.system) taken) (beyond_there level beyond),
       subst (λ (n : System). IsTaskText task n d.part) fresh.system d.text,
     );
     written = d.written;
@@ -75,7 +75,7 @@ module _ (task : Task) (m : System) (budget : ℕ) (e e' : EvaluatorState) (fres
     text = s.part;
     holds = (
       record {
-        taken = subst (λ (n : System). IsTaken task n level) fresh.system s.taken;
+        taken = subst (λ (n : System). TakesLevel task n level) fresh.system s.taken;
         beyond = beyond_here level s.beyond;
         least = λ k less beyond. s.least k less (beyond_there k beyond);
       },
@@ -84,7 +84,7 @@ module _ (task : Task) (m : System) (budget : ℕ) (e e' : EvaluatorState) (fres
     written = s.written;
   }
 
-  pub work_done : (before now : Device) (r : Result (Unit {0}) WorkStop) → OnOk r (IsDone task [] e e' before.written now.written) → OnOk r (Prints (λ text. IsListed task budget text m) before.written now.written)
+  pub work_done : (before now : Device) (r : Result (Unit {0}) WorkStop) → OnOk r (IsDone task [] e e' before.written now.written) → OnOk r (Prints (λ text. IsListingText task budget text m) before.written now.written)
   work_done before now (Ok x) d = listed_done before.written now.written d
   work_done before now (Err stop) d = tt
 
@@ -114,13 +114,13 @@ read_left job shelf-rose failed told files now stops.Memory h = inl refl
 same_task : (P : Task → ℕ → Type 0) (task due : Task) (budget most : ℕ) → task ≡ due → budget ≡ most → P task most → P due budget
 same_task P task due budget most is own h = subst (λ (t : Task). P t budget) is (subst (λ (n : ℕ). P task n) (sym own) h)
 
-module _ (job : Request) (task : Task) (name : Word) (most : ℕ) (lists : Lists job task name most) where
-  output_of : (text : List ℕ) (files : List File) → OfOneFile (OfSystem (IsListed task most text)) files → IsOutput text job files
+module _ (job : Request) (task : Task) (name : Word) (most : ℕ) (lists : ListsFile job task name most) where
+  output_of : (text : List ℕ) (files : List File) → OfOneFile (OfSystem (IsListingText task most text)) files → IsOutput text job files
   output_of text files = at job lists
     where
-      at : (j : Request) → Lists j task name most → OfOneFile (OfSystem (IsListed task most text)) files → IsOutput text j files
-      at (equilibria file budget workers) (is, same, own) h = same_task (λ t n. OfOneFile (OfSystem (IsListed t n text)) files) task Equilibria budget most is own h
-      at (solve file budget workers false) (is, same, own) h = same_task (λ t n. OfOneFile (OfSystem (IsListed t n text)) files) task Solve budget most is own h
+      at : (j : Request) → ListsFile j task name most → OfOneFile (OfSystem (IsListingText task most text)) files → IsOutput text j files
+      at (equilibria file budget workers) (is, same, own) h = same_task (λ t n. OfOneFile (OfSystem (IsListingText t n text)) files) task Equilibria budget most is own h
+      at (solve file budget workers false) (is, same, own) h = same_task (λ t n. OfOneFile (OfSystem (IsListingText t n text)) files) task Solve budget most is own h
       at (solve file budget workers true) is h = absurd is
       at (check file report) is h = absurd is
       at (make number budget workers) is h = absurd is
@@ -128,7 +128,7 @@ module _ (job : Request) (task : Task) (name : Word) (most : ℕ) (lists : Lists
   stage_of : (text : List ℕ) (files : List File) → OfOneFile (OfSystem (λ n. IsTaskStage task n text)) files → IsStage text job files
   stage_of text files = at job lists
     where
-      at : (j : Request) → Lists j task name most → OfOneFile (OfSystem (λ n. IsTaskStage task n text)) files → IsStage text j files
+      at : (j : Request) → ListsFile j task name most → OfOneFile (OfSystem (λ n. IsTaskStage task n text)) files → IsStage text j files
       at (equilibria file budget workers) (is, same, own) h = same_task (λ t k. OfOneFile (OfSystem (λ n. IsTaskStage t n text)) files) task Equilibria budget most is own h
       at (solve file budget workers false) (is, same, own) h = same_task (λ t k. OfOneFile (OfSystem (λ n. IsTaskStage t n text)) files) task Solve budget most is own h
       at (solve file budget workers true) is h = absurd is
@@ -138,7 +138,7 @@ module _ (job : Request) (task : Task) (name : Word) (most : ℕ) (lists : Lists
   beyond_of : (text : List ℕ) (level : ℕ) (files : List File) → OfOneFile (OfSystem (IsListedBefore task most level text)) files → IsOutputBeyond text level job files
   beyond_of text level files = at job lists
     where
-      at : (j : Request) → Lists j task name most → OfOneFile (OfSystem (IsListedBefore task most level text)) files → IsOutputBeyond text level j files
+      at : (j : Request) → ListsFile j task name most → OfOneFile (OfSystem (IsListedBefore task most level text)) files → IsOutputBeyond text level j files
       at (equilibria file budget workers) (is, same, own) h = same_task (λ t n. OfOneFile (OfSystem (IsListedBefore t n level text)) files) task Equilibria budget most is own h
       at (solve file budget workers false) (is, same, own) h = same_task (λ t n. OfOneFile (OfSystem (IsListedBefore t n level text)) files) task Solve budget most is own h
       at (solve file budget workers true) is h = absurd is
@@ -148,7 +148,7 @@ module _ (job : Request) (task : Task) (name : Word) (most : ℕ) (lists : Lists
   own_budget : most ≡ budget_of job
   own_budget = at job lists
     where
-      at : (j : Request) → Lists j task name most → most ≡ budget_of j
+      at : (j : Request) → ListsFile j task name most → most ≡ budget_of j
       at (equilibria file budget workers) (is, same, own) = sym own
       at (solve file budget workers false) (is, same, own) = sym own
       at (solve file budget workers true) is = absurd is
@@ -158,7 +158,7 @@ module _ (job : Request) (task : Task) (name : Word) (most : ℕ) (lists : Lists
   refusal_of : (why : Refusal) (files : List File) → OfOneFile (IsRefusedFor why) files → IsRefusal why job files
   refusal_of why files = at job lists
     where
-      at : (j : Request) → Lists j task name most → OfOneFile (IsRefusedFor why) files → IsRefusal why j files
+      at : (j : Request) → ListsFile j task name most → OfOneFile (IsRefusedFor why) files → IsRefusal why j files
       at (equilibria file budget workers) is h = h
       at (solve file budget workers false) is h = h
       at (solve file budget workers true) is h = absurd is
@@ -168,7 +168,7 @@ module _ (job : Request) (task : Task) (name : Word) (most : ℕ) (lists : Lists
   absent_of : (files : List File) → files ≡ None ∷ [] → LacksFile job files
   absent_of files = at job lists
     where
-      at : (j : Request) → Lists j task name most → files ≡ None ∷ [] → LacksFile j files
+      at : (j : Request) → ListsFile j task name most → files ≡ None ∷ [] → LacksFile j files
       at (equilibria file budget workers) is absent = absent
       at (solve file budget workers false) is absent = absent
       at (solve file budget workers true) is absent = absurd is
@@ -179,7 +179,7 @@ module _ (job : Request) (task : Task) (name : Word) (most : ℕ) (lists : Lists
   unread_of failed files (inl absent) = inl (absent_of files absent)
   unread_of failed files (inr broken) = inr broken
 
-  pub read_cause : (shelf-rose failed sink-rose : Type 0) (files : Option (List File)) (stop : Stop) → StopsReading stop shelf-rose failed files → HasCause stop shelf-rose failed sink-rose job files
+  pub read_cause : (shelf-rose failed sink-rose : Type 0) (files : Option (List File)) (stop : Stop) → StopsReading stop shelf-rose failed files → IsStopCause stop shelf-rose failed sink-rose job files
   read_cause shelf-rose failed sink-rose files stops.Usage h = h
   read_cause shelf-rose failed sink-rose files (stops.Refused why) h = told_also files _ _ (refusal_of why) h
   read_cause shelf-rose failed sink-rose files (stops.Unfinished level limit) h = absurd h
@@ -195,15 +195,15 @@ module _ (job : Request) (task : Task) (name : Word) (most : ℕ) (lists : Lists
       front = p.front;
     }) read
 
-    pub file_listed : (before now : Option (List ℕ)) (r : Result (Unit {0}) Stop) → OnOk r (Prints (λ text. IsListed task most text m) before now) → OnOk r (IfSome files (WritesOutput before now job))
+    pub file_listed : (before now : Option (List ℕ)) (r : Result (Unit {0}) Stop) → OnOk r (Prints (λ text. IsListingText task most text m) before now) → OnOk r (IfSome files (WritesOutput before now job))
     file_listed before now (Err stop) p = tt
     file_listed before now (Ok x) p = told_also files _ _ (λ fs h. record {
       text = p.text;
-      holds = output_of p.text fs (of_file (IsTextOf m) (OfSystem (IsListed task most p.text)) (λ bytes spelled. (m, spelled, p.holds)) fs h);
+      holds = output_of p.text fs (of_file (IsTextOf m) (OfSystem (IsListingText task most p.text)) (λ bytes spelled. (m, spelled, p.holds)) fs h);
       written = p.written;
     }) read
 
-    file_cause : (shelf-rose failed sink-rose : Type 0) (before now : Option (List ℕ)) (stop : Stop) → StopsWork stop task most m sink-rose before now → HasCause stop shelf-rose failed sink-rose job files
+    file_cause : (shelf-rose failed sink-rose : Type 0) (before now : Option (List ℕ)) (stop : Stop) → StopsWork stop task most m sink-rose before now → IsStopCause stop shelf-rose failed sink-rose job files
     file_cause shelf-rose failed sink-rose before now stops.Usage h = h
     file_cause shelf-rose failed sink-rose before now (stops.Refused why) h = absurd h
     file_cause shelf-rose failed sink-rose before now (stops.Unfinished level limit) h = h.0 ∙ own_budget
@@ -223,7 +223,7 @@ module _ (job : Request) (task : Task) (name : Word) (most : ℕ) (lists : Lists
     file_left sink-rose before now stops.WriteFault h = stage_written before now h.1
     file_left sink-rose before now stops.Memory h = inr (stage_written before now h)
 
-    pub file_causes : (shelf-rose failed sink-rose : Type 0) (before now : Option (List ℕ)) (r : Result (Unit {0}) Stop) → IfErr r (λ stop. StopsWork stop task most m sink-rose before now) → IfErr r (λ stop. HasCause stop shelf-rose failed sink-rose job files)
+    pub file_causes : (shelf-rose failed sink-rose : Type 0) (before now : Option (List ℕ)) (r : Result (Unit {0}) Stop) → IfErr r (λ stop. StopsWork stop task most m sink-rose before now) → IfErr r (λ stop. IsStopCause stop shelf-rose failed sink-rose job files)
     file_causes shelf-rose failed sink-rose before now (Ok x) h = tt
     file_causes shelf-rose failed sink-rose before now (Err stop) h = file_cause shelf-rose failed sink-rose before now stop h
 
@@ -255,8 +255,8 @@ module _ (number budget : ℕ) (before mid now : Device) where
       };
     }
 
-    pub made_done : (r : Result (Unit {0}) Stop) → OnOk r (Prints (λ text. IsListed Make budget text (generated_system number)) mid.written now.written) → OnOk r (Prints (AfterNumber (IsListed Make budget) number) before.written now.written)
-    made_done (Ok x) p = printed_after (IsListed Make budget) p
+    pub made_done : (r : Result (Unit {0}) Stop) → OnOk r (Prints (λ text. IsListingText Make budget text (generated_system number)) mid.written now.written) → OnOk r (Prints (AfterNumber (IsListingText Make budget) number) before.written now.written)
+    made_done (Ok x) p = printed_after (IsListingText Make budget) p
     made_done (Err stop) p = tt
 
     made_stopped : (stop : Stop) → before.faults ≤ mid.faults → StopsWork stop Make budget (generated_system number) (Rose mid.faults now.faults) mid.written now.written
@@ -281,17 +281,17 @@ module _ (number budget : ℕ) (before mid now : Device) where
     front = record { front = f.front; rest = f.rest; parts = f.parts ∙ sym (append-nil line); written = f.written };
   }
 
-  pub line_stopped : (why : Unwritten) → Writes {T = Unit {0}} line before mid (Err why) → StopsGenerated (stop_for_line why) number budget (Rose before.faults mid.faults) before.written mid.written
+  pub line_stopped : (why : Unwritten) → Writes {T = Unit {0}} line before mid (Err why) → StopsGenerated (stop_for_unwritten why) number budget (Rose before.faults mid.faults) before.written mid.written
   line_stopped unwritten.Fault w = (w.due, line_front w.front)
   line_stopped unwritten.Memory w = inr (line_front w.front)
 
 -- as the job of a command, which reads no file
 module _ (number budget workers : ℕ) (before now : Option (List ℕ)) where
-  pub made_output : (r : Result (Unit {0}) Stop) → OnOk r (Prints (AfterNumber (IsListed Make budget) number) before now) → OnOk r (WritesOutput before now (make number budget workers) [])
+  pub made_output : (r : Result (Unit {0}) Stop) → OnOk r (Prints (AfterNumber (IsListingText Make budget) number) before now) → OnOk r (WritesOutput before now (make number budget workers) [])
   made_output (Err stop) p = tt
   made_output (Ok x) p = record { text = p.text; holds = p.holds; written = p.written }
 
-  made_cause : (shelf-rose failed sink-rose : Type 0) (stop : Stop) → StopsGenerated stop number budget sink-rose before now → HasCause stop shelf-rose failed sink-rose (make number budget workers) (Some [])
+  made_cause : (shelf-rose failed sink-rose : Type 0) (stop : Stop) → StopsGenerated stop number budget sink-rose before now → IsStopCause stop shelf-rose failed sink-rose (make number budget workers) (Some [])
   made_cause shelf-rose failed sink-rose stops.Usage h = h
   made_cause shelf-rose failed sink-rose (stops.Refused why) h = absurd h
   made_cause shelf-rose failed sink-rose (stops.Unfinished level limit) h = h.0
@@ -308,7 +308,7 @@ module _ (number budget workers : ℕ) (before now : Option (List ℕ)) where
   made_left sink-rose stops.Memory (inl same) = inl same
   made_left sink-rose stops.Memory (inr h) = inr (record { text = h.text; holds = h.holds; front = h.front })
 
-  pub made_causes : (shelf-rose failed sink-rose : Type 0) (r : Result (Unit {0}) Stop) → IfErr r (λ stop. StopsGenerated stop number budget sink-rose before now) → IfErr r (λ stop. HasCause stop shelf-rose failed sink-rose (make number budget workers) (Some []))
+  pub made_causes : (shelf-rose failed sink-rose : Type 0) (r : Result (Unit {0}) Stop) → IfErr r (λ stop. StopsGenerated stop number budget sink-rose before now) → IfErr r (λ stop. IsStopCause stop shelf-rose failed sink-rose (make number budget workers) (Some []))
   made_causes shelf-rose failed sink-rose (Ok x) h = tt
   made_causes shelf-rose failed sink-rose (Err stop) h = made_cause shelf-rose failed sink-rose stop h
 

@@ -20,15 +20,15 @@ use Rattle.mcs_top.specs.declared.status.Status.{Status}
 use Rattle.mcs_top.specs.declared.status.Status.TheVariants as statuses
 
 -- the number that a program with this status ends with
-abbrev pub number_of : Status → ℕ
-number_of statuses.Done = 0
-number_of statuses.NotValid = 1
-number_of statuses.Usage = 2
-number_of statuses.Refused = 3
-number_of statuses.Unfinished = 4
-number_of statuses.ReadFault = 5
-number_of statuses.WriteFault = 6
-number_of statuses.OutOfMemory = 7
+abbrev pub status_number : Status → ℕ
+status_number statuses.Done = 0
+status_number statuses.NotValid = 1
+status_number statuses.Usage = 2
+status_number statuses.Refused = 3
+status_number statuses.Unfinished = 4
+status_number statuses.ReadFault = 5
+status_number statuses.WriteFault = 6
+status_number statuses.OutOfMemory = 7
 
 -- a colon and the limit, where there is one
 abbrev pub told_limit : Option Limit → List ℕ
@@ -76,9 +76,9 @@ stop_for_text (texts.Fault number offset limit) = stops.Refused (refusals.Text n
 stop_for_text texts.Memory = stops.Memory
 
 -- by why a line was not written
-abbrev pub stop_for_line : Unwritten → Stop
-stop_for_line unwritten.Fault = stops.WriteFault
-stop_for_line unwritten.Memory = stops.Memory
+abbrev pub stop_for_unwritten : Unwritten → Stop
+stop_for_unwritten unwritten.Fault = stops.WriteFault
+stop_for_unwritten unwritten.Memory = stops.Memory
 
 -- by what stopped the work within a budget; no oracle of a run can miss
 abbrev pub stop_for_work : ℕ → WorkStop → Stop
@@ -93,5 +93,5 @@ pub record IsToldAs (stop : Stop) (status : Status) (before now : Device) : Type
   pub notes : now.notes ≡ noted before.notes (line_of stop)
 
 -- it is, or as want of memory where there is none for the line
-abbrev pub IsTold : Stop → Status → Device → Device → Type 0
-IsTold stop status before now = IsToldAs stop status before now ⊎ IsToldAs stops.Memory status before now
+abbrev pub IsEndingTold : Stop → Status → Device → Device → Type 0
+IsEndingTold stop status before now = IsToldAs stop status before now ⊎ IsToldAs stops.Memory status before now

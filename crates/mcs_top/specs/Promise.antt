@@ -10,7 +10,7 @@ use Rattle.mcs_system.specs.Levels.{HasQuestions}
 use Rattle.mcs_states.specs.Oracles.{OracleState}
 use Rattle.mcs_states.specs.Evaluators.{EvaluatorState}
 use Rattle.mcs_generator.specs.Generated.{generated_system}
-use Rattle.mcs_work.specs.Tasks.{IsTaskText, IsTaskStage, IsTaskUpTo, IsTaken}
+use Rattle.mcs_work.specs.Tasks.{IsTaskText, IsTaskStage, IsTaskUpTo, TakesLevel}
 use Rattle.mcs_work.specs.declared.task.Task.{Task}
 use Rattle.mcs_work.specs.declared.task.Task.TheVariants.{Equilibria, Solve, Make}
 use Rattle.mcs_words.specs.Commands.{Word, Request, equilibria, solve, check, make, IsJobOf}
@@ -35,32 +35,32 @@ use Rattle.mcs_top.specs.declared.status.Status.TheVariants as statuses
 
 -- ---- a task within a budget, of a file that is the text of a system
 -- the system has more questions of the level than the budget
-abbrev pub IsBeyond : System → ℕ → ℕ → Type 0
-IsBeyond m level budget = HasQuestions m level (budget + 1)
+abbrev pub NeedsMoreThan : System → ℕ → ℕ → Type 0
+NeedsMoreThan m level budget = HasQuestions m level (budget + 1)
 
 -- no level of the task has
 abbrev pub Suffices : Task → ℕ → System → Type 0
-Suffices task budget m = (level : ℕ) → IsTaken task m level → ¬ IsBeyond m level budget
+Suffices task budget m = (level : ℕ) → TakesLevel task m level → ¬ NeedsMoreThan m level budget
 
 -- some level has
 pub record IsShort (task : Task) (budget : ℕ) (m : System) : Type 0 where
   pub level : ℕ
-  pub taken : IsTaken task m level
-  pub beyond : IsBeyond m level budget
+  pub taken : TakesLevel task m level
+  pub beyond : NeedsMoreThan m level budget
 
 -- this level is the least one that has
 pub record IsLeastBeyond (task : Task) (budget level : ℕ) (m : System) : Type 0 where
-  pub taken : IsTaken task m level
-  pub beyond : IsBeyond m level budget
-  pub least : (k : ℕ) → k < level → ¬ IsBeyond m k budget
+  pub taken : TakesLevel task m level
+  pub beyond : NeedsMoreThan m level budget
+  pub least : (k : ℕ) → k < level → ¬ NeedsMoreThan m k budget
 
 -- the file spells a system for which this holds
 abbrev pub OfSystem : (System → Type 0) → List ℕ → Type 0
 OfSystem P bytes = (m : System) × IsTextOf m bytes × P m
 
 -- the text of the task for this system, for which the budget suffices
-abbrev pub IsListed : Task → ℕ → List ℕ → System → Type 0
-IsListed task budget text m = Suffices task budget m × IsTaskText task m text
+abbrev pub IsListingText : Task → ℕ → List ℕ → System → Type 0
+IsListingText task budget text m = Suffices task budget m × IsTaskText task m text
 
 -- what is printed before the level, the least one that has more questions than the budget
 abbrev pub IsListedBefore : Task → ℕ → ℕ → List ℕ → System → Type 0
@@ -131,10 +131,10 @@ budget_of (make number budget workers) = budget
 
 -- what the job prints where it is done
 abbrev pub IsOutput : List ℕ → Request → List File → Type 0
-IsOutput text (equilibria file budget workers) files = OfOneFile (OfSystem (IsListed Equilibria budget text)) files
+IsOutput text (equilibria file budget workers) files = OfOneFile (OfSystem (IsListingText Equilibria budget text)) files
 IsOutput text (solve file budget workers proof) files = OfOneFile (OfSystem (IsSolved proof budget text)) files
 IsOutput text (check file report) files = OfTwoFiles (OfReport (IsToldValid text)) files
-IsOutput text (make number budget workers) files = AfterNumber (IsListed Make budget) number text
+IsOutput text (make number budget workers) files = AfterNumber (IsListingText Make budget) number text
 
 -- what it prints where it finds that a report is not valid
 abbrev pub IsRejection : List ℕ → Request → List File → Type 0
@@ -285,8 +285,8 @@ IsUnlessMemory due status = (status ≡ due) ⊎ (status ≡ statuses.OutOfMemor
 
 -- ---- what a run promises
 -- a call on a file that is there failed: both counts rose
-abbrev pub HasFailed : ℕ → ℕ → ℕ → ℕ → Type 0
-HasFailed faults faults' failures failures' = Rose faults faults' × Rose failures failures'
+abbrev pub CallHasFailed : ℕ → ℕ → ℕ → ℕ → Type 0
+CallHasFailed faults faults' failures failures' = Rose faults faults' × Rose failures failures'
 
 -- The words after the program's name, what the shelf holds by name where it tells, its counts of faults and of failures before
 -- and after the run, the device before and after it, and the status that the run answers.
@@ -303,21 +303,21 @@ pub record KeepsPromise (words : List Word) (held : Option (Word → File)) (fau
   pub unfailed : ¬ (status ≡ statuses.WriteFault) → device'.faults ≡ device.faults
   -- a job is refused exactly for what is wrong with its files, and that is noted
   pub refused : status ≡ statuses.Refused → OfJob words held (TellsRefusal device.notes device'.notes)
-  pub refusal : IfJob words held (λ job files. (why : Refusal) → IsRefusal why job files → ¬ HasFailed faults faults' failures failures' → IsUnlessMemory statuses.Refused status)
+  pub refusal : IfJob words held (λ job files. (why : Refusal) → IsRefusal why job files → ¬ CallHasFailed faults faults' failures failures' → IsUnlessMemory statuses.Refused status)
   -- a file is not read exactly where it is not there, or a call on it failed
-  pub unreadable : status ≡ statuses.ReadFault → OfJob words held (CannotBeRead (HasFailed faults faults' failures failures'))
+  pub unreadable : status ≡ statuses.ReadFault → OfJob words held (CannotBeRead (CallHasFailed faults faults' failures failures'))
   pub missing : IfJob words held (λ job files. LacksFile job files → IsUnlessMemory statuses.ReadFault status)
   -- a job stops exactly where a level that it takes has more questions than the budget; what is printed before the least one was
   -- written, and that level is noted
   pub beyond : status ≡ statuses.Unfinished → OfJob words held (StopsBeyond device.written device'.written device.notes device'.notes)
-  pub spent : IfJob words held (λ job files. LacksBudget job files → ¬ HasFailed faults faults' failures failures' → ¬ Rose device.faults device'.faults → IsUnlessMemory statuses.Unfinished status)
+  pub spent : IfJob words held (λ job files. LacksBudget job files → ¬ CallHasFailed faults faults' failures failures' → ¬ Rose device.faults device'.faults → IsUnlessMemory statuses.Unfinished status)
   -- that a report is not valid comes where it is not, and which of the tests it fails, at which line, was written
   pub not_valid : status ≡ statuses.NotValid → OfJob words held (WritesRejection device.written device'.written)
-  pub invalid : IfJob words held (λ job files. CanBeRejected job files → ¬ HasFailed faults faults' failures failures' → ¬ Rose device.faults device'.faults → IsUnlessMemory statuses.NotValid status)
+  pub invalid : IfJob words held (λ job files. CanBeRejected job files → ¬ CallHasFailed faults faults' failures failures' → ¬ Rose device.faults device'.faults → IsUnlessMemory statuses.NotValid status)
   -- that the job was done comes where its whole output was written
   pub done : status ≡ statuses.Done → OfJob words held (WritesOutput device.written device'.written)
   -- it does come where the budget suffices, unless memory ran out or a device failed
-  pub complete : IfJob words held (λ job files. CanBeDone job files → ¬ HasFailed faults faults' failures failures' → ¬ Rose device.faults device'.faults → IsUnlessMemory statuses.Done status)
+  pub complete : IfJob words held (λ job files. CanBeDone job files → ¬ CallHasFailed faults faults' failures failures' → ¬ Rose device.faults device'.faults → IsUnlessMemory statuses.Done status)
   -- otherwise a front of a stage of the output was written, or nothing
   pub unfinished : status ≡ statuses.WriteFault → OfJob words held (WritesStage device.written device'.written)
   pub out_of_memory : status ≡ statuses.OutOfMemory → (device'.written ≡ device.written) ⊎ OfJob words held (WritesStage device.written device'.written)
@@ -331,13 +331,13 @@ NamesNoFile words = (job : Request) → IsJobOf words job → files_in job ≡ [
 
 -- ---- why a job stops, and what was written then
 -- the cause of each stop: a count that rose, a file that is not there, or a reason to refuse
-abbrev pub HasCause : Stop → Type 0 → Type 0 → Type 0 → Request → Option (List File) → Type 0
-HasCause stops.Usage shelf_rose failed sink_rose job files = ⊥
-HasCause (stops.Refused why) shelf_rose failed sink_rose job files = IfSome files (IsRefusal why job)
-HasCause (stops.Unfinished level budget) shelf_rose failed sink_rose job files = budget ≡ budget_of job
-HasCause stops.ReadFault shelf_rose failed sink_rose job files = shelf_rose × IfSome files (CannotBeRead failed job)
-HasCause stops.WriteFault shelf_rose failed sink_rose job files = sink_rose
-HasCause stops.Memory shelf_rose failed sink_rose job files = Unit {0}
+abbrev pub IsStopCause : Stop → Type 0 → Type 0 → Type 0 → Request → Option (List File) → Type 0
+IsStopCause stops.Usage shelf_rose failed sink_rose job files = ⊥
+IsStopCause (stops.Refused why) shelf_rose failed sink_rose job files = IfSome files (IsRefusal why job)
+IsStopCause (stops.Unfinished level budget) shelf_rose failed sink_rose job files = budget ≡ budget_of job
+IsStopCause stops.ReadFault shelf_rose failed sink_rose job files = shelf_rose × IfSome files (CannotBeRead failed job)
+IsStopCause stops.WriteFault shelf_rose failed sink_rose job files = sink_rose
+IsStopCause stops.Memory shelf_rose failed sink_rose job files = Unit {0}
 
 -- nothing was written, or a front of a stage; where no write was tried, nothing
 abbrev pub LeavesText : Stop → Request → Option (List File) → Option (List ℕ) → Option (List ℕ) → Type 0
@@ -387,12 +387,12 @@ StopsAnswers stops.Memory m level sink_rose before now = (now ≡ before) ⊎ Ha
 
 -- ---- the jobs that list the system of a file
 -- the job is the task for this file within this budget
-abbrev pub Lists : Request → Task → Word → ℕ → Type 0
-Lists (equilibria file budget workers) task name most = (task ≡ Equilibria) × (file ≡ name) × (budget ≡ most)
-Lists (solve file budget workers false) task name most = (task ≡ Solve) × (file ≡ name) × (budget ≡ most)
-Lists (solve file budget workers true) task name most = ⊥
-Lists (check file report) task name most = ⊥
-Lists (make number budget workers) task name most = ⊥
+abbrev pub ListsFile : Request → Task → Word → ℕ → Type 0
+ListsFile (equilibria file budget workers) task name most = (task ≡ Equilibria) × (file ≡ name) × (budget ≡ most)
+ListsFile (solve file budget workers false) task name most = (task ≡ Solve) × (file ≡ name) × (budget ≡ most)
+ListsFile (solve file budget workers true) task name most = ⊥
+ListsFile (check file report) task name most = ⊥
+ListsFile (make number budget workers) task name most = ⊥
 
 -- an evaluator of the system that was asked nothing, whose oracles never miss
 pub record IsNewMesh (m : System) (budget : ℕ) (e : EvaluatorState) : Type 0 where

@@ -1,7 +1,7 @@
 //! Why a run stops before its end, and the line that is noted for it.
 
 ghost use Rattle.std.specs.Prelude.{◌≡◌, ◌++◌, OnOk};
-ghost use Rattle.mcs_top.specs.Endings.{line_of, refusal_line, unfinished_line, fault_line, told_limit, status_of, stop_for_words, stop_for_text, stop_for_line, stop_for_work, IsTold, IsToldAs};
+ghost use Rattle.mcs_top.specs.Endings.{line_of, refusal_line, unfinished_line, fault_line, told_limit, status_of, stop_for_words, stop_for_text, stop_for_unwritten, stop_for_work, IsEndingTold, IsToldAs};
 ghost use Rattle.mcs_top.specs.declared.ending.Stop.TheVariants as stops;
 
 use crate::status::Status;
@@ -97,7 +97,7 @@ impl From<TextFault> for Stop {
 }
 
 impl From<Unwritten> for Stop {
-    ghost from_gives = { λ why stop. stop ≡ stop_for_line why };
+    ghost from_gives = { λ why stop. stop ≡ stop_for_unwritten why };
 
     fn from(why: Unwritten) -> Stop {
         match why {
@@ -218,7 +218,7 @@ fn push_limit(line: &mut Text, limit: Option<Limit>) -> Result<(), Memory>
 /// Notes the line of the stop, and returns its status. If there is no memory for the line, the want of memory is noted
 /// and returned instead. The line of a write fault needs no memory.
 pub(crate) fn tell<K: Sink>(alloc: Global, sink: &mut K, stop: Stop) -> Status
-    ensures told { IsTold stop result (K.device sink.old) (K.device sink.new) }
+    ensures told { IsEndingTold stop result (K.device sink.old) (K.device sink.new) }
     ensures fault { stop ≡ stops.WriteFault → result ≡ Status.WriteFault }
     ensures written { (K.device sink.new).written ≡ (K.device sink.old).written }
     ensures faults { (K.device sink.new).faults ≡ (K.device sink.old).faults }

@@ -4,7 +4,7 @@ ghost use Rattle.std.specs.Prelude.{◌≡◌, ◌≤◌, [], IfSome, IfOk, IfEr
 ghost use Rattle.mcs_ports.specs.Causes.{Rose};
 ghost use Rattle.mcs_words.specs.Reading.{request_of};
 ghost use Rattle.mcs_top.specs.Jobs.{told_all, files_in};
-ghost use Rattle.mcs_top.specs.Promise.{EndsSo, HasCause, LeavesText, as_done};
+ghost use Rattle.mcs_top.specs.Promise.{EndsSo, IsStopCause, LeavesText, as_done};
 
 use crate::checking::check;
 use crate::ending::{Outcome, Stop};
@@ -30,7 +30,7 @@ pub(crate) fn do_job<H: Shelf, K: Sink, G: Gate>(
     ensures notes { (K.device sink.new).notes ≡ (K.device sink.old).notes }
     ensures ok { IfOk result (λ outcome. IfSome (told_all (H.held shelf.old) (files_in (request_of job.now)))
         (EndsSo outcome (K.device sink.old).written (K.device sink.new).written (request_of job.now))) }
-    ensures cause { IfErr result (λ stop. HasCause stop
+    ensures cause { IfErr result (λ stop. IsStopCause stop
         (Rose (H.faults shelf.old) (H.faults shelf.new)) (Rose (H.failures shelf.old) (H.failures shelf.new))
         (Rose (K.device sink.old).faults (K.device sink.new).faults)
         (request_of job.now) (told_all (H.held shelf.old) (files_in (request_of job.now)))) }

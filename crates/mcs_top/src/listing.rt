@@ -5,7 +5,7 @@ ghost use Rattle.mcs_ports.specs.Causes.{Rose};
 ghost use Rattle.mcs_words.specs.Commands.{Request};
 ghost use Rattle.mcs_work.specs.declared.task.Task.TheVariants.{Make};
 ghost use Rattle.mcs_top.specs.Jobs.{told_all};
-ghost use Rattle.mcs_top.specs.Promise.{AfterNumber, HasCause, IsListed, LeavesText, Lists, Prints, StopsGenerated, StopsWork, WritesOutput};
+ghost use Rattle.mcs_top.specs.Promise.{AfterNumber, IsStopCause, IsListingText, LeavesText, ListsFile, Prints, StopsGenerated, StopsWork, WritesOutput};
 
 use crate::ending::{Stop, stop_for_work};
 use crate::evaluator::{mesh_of, shared};
@@ -31,13 +31,13 @@ pub(crate) fn evaluate<H: Shelf, K: Sink, G: Gate>(
     ensures sink_later { (K.device sink.old).faults ≤ (K.device sink.new).faults }
     ensures unfailed { ¬ IsErrOf result Stop.WriteFault → (K.device sink.new).faults ≡ (K.device sink.old).faults }
     ensures notes { (K.device sink.new).notes ≡ (K.device sink.old).notes }
-    ensures ok { (job : Request) → Lists job task file.now budget → OnOk result (IfSome (told_all (H.held shelf.old) (file.now ∷ []))
+    ensures ok { (job : Request) → ListsFile job task file.now budget → OnOk result (IfSome (told_all (H.held shelf.old) (file.now ∷ []))
         (WritesOutput (K.device sink.old).written (K.device sink.new).written job)) }
-    ensures cause { (job : Request) → Lists job task file.now budget → IfErr result (λ stop. HasCause stop
+    ensures cause { (job : Request) → ListsFile job task file.now budget → IfErr result (λ stop. IsStopCause stop
         (Rose (H.faults shelf.old) (H.faults shelf.new)) (Rose (H.failures shelf.old) (H.failures shelf.new))
         (Rose (K.device sink.old).faults (K.device sink.new).faults)
         job (told_all (H.held shelf.old) (file.now ∷ []))) }
-    ensures leaves { (job : Request) → Lists job task file.now budget → IfErr result (λ stop. LeavesText stop
+    ensures leaves { (job : Request) → ListsFile job task file.now budget → IfErr result (λ stop. LeavesText stop
         job (told_all (H.held shelf.old) (file.now ∷ []))
         (K.device sink.old).written (K.device sink.new).written) }
 {
@@ -57,7 +57,7 @@ pub(crate) fn generated<K: Sink, G: Gate>(
     ensures sink_later { (K.device sink.old).faults ≤ (K.device sink.new).faults }
     ensures unfailed { ¬ IsErrOf result Stop.WriteFault → (K.device sink.new).faults ≡ (K.device sink.old).faults }
     ensures notes { (K.device sink.new).notes ≡ (K.device sink.old).notes }
-    ensures ok { OnOk result (Prints (AfterNumber (IsListed Make budget) number) (K.device sink.old).written (K.device sink.new).written) }
+    ensures ok { OnOk result (Prints (AfterNumber (IsListingText Make budget) number) (K.device sink.old).written (K.device sink.new).written) }
     ensures stop { IfErr result (λ stop. StopsGenerated stop number budget
         (Rose (K.device sink.old).faults (K.device sink.new).faults) (K.device sink.old).written (K.device sink.new).written) }
 {
@@ -78,7 +78,7 @@ fn list_system<K: Sink, G: Gate>(
     ensures later { (K.device sink.old).faults ≤ (K.device sink.new).faults }
     ensures unfailed { ¬ IsErrOf result Stop.WriteFault → (K.device sink.new).faults ≡ (K.device sink.old).faults }
     ensures notes { (K.device sink.new).notes ≡ (K.device sink.old).notes }
-    ensures ok { OnOk result (Prints (λ text. IsListed task budget text system) (K.device sink.old).written (K.device sink.new).written) }
+    ensures ok { OnOk result (Prints (λ text. IsListingText task budget text system) (K.device sink.old).written (K.device sink.new).written) }
     ensures stop { IfErr result (λ stop. StopsWork stop task budget system
         (Rose (K.device sink.old).faults (K.device sink.new).faults) (K.device sink.old).written (K.device sink.new).written) }
 {

@@ -1,7 +1,7 @@
 //! The whole program, except for its devices.
 
 ghost use Rattle.std.specs.Prelude.{◌≡◌, drop, IfOk};
-ghost use Rattle.mcs_top.specs.Endings.{number_of};
+ghost use Rattle.mcs_top.specs.Endings.{status_number};
 ghost use Rattle.mcs_top.specs.Programs.{all_given, words_given};
 ghost use Rattle.mcs_top.specs.Promise.{KeepsPromise, NamesNoFile};
 
@@ -22,7 +22,7 @@ pub fn run_program<H: Shelf, K: Sink, G: Gate>(
     sink: &mut K,
     gate: &G,
 ) -> u8
-    ensures kept { (status : Status) × (result ≡ number_of status)
+    ensures kept { (status : Status) × (result ≡ status_number status)
         × KeepsPromise (words_given words) (H.held shelf.old) (H.faults shelf.old) (H.faults shelf.new)
         (H.failures shelf.old) (H.failures shelf.new) (K.device sink.old) (K.device sink.new) status }
     ensures unread { NamesNoFile (words_given words) → shelf.new ≡ shelf.old }

@@ -5,7 +5,7 @@ ghost use Rattle.mcs_ports.specs.Causes.{Rose};
 ghost use Rattle.mcs_proof_writer.specs.Proving.{AreAsked, HasProved};
 ghost use Rattle.mcs_words.specs.Commands.{solve};
 ghost use Rattle.mcs_top.specs.Jobs.{told_all};
-ghost use Rattle.mcs_top.specs.Promise.{HasCause, IsListedProved, LeavesText, Prints, StopsAnswers, StopsProof, WritesOutput};
+ghost use Rattle.mcs_top.specs.Promise.{IsStopCause, IsListedProved, LeavesText, Prints, StopsAnswers, StopsProof, WritesOutput};
 
 use crate::ending::{Stop, stop_for_work};
 use crate::evaluator::{mesh_of, shared};
@@ -34,7 +34,7 @@ pub(crate) fn prove<H: Shelf, K: Sink, G: Gate>(
     ensures notes { (K.device sink.new).notes ≡ (K.device sink.old).notes }
     ensures ok { (workers : ℕ) → OnOk result (IfSome (told_all (H.held shelf.old) (file.now ∷ []))
         (WritesOutput (K.device sink.old).written (K.device sink.new).written (solve file.now budget workers true))) }
-    ensures cause { (workers : ℕ) → IfErr result (λ stop. HasCause stop
+    ensures cause { (workers : ℕ) → IfErr result (λ stop. IsStopCause stop
         (Rose (H.faults shelf.old) (H.faults shelf.new)) (Rose (H.failures shelf.old) (H.failures shelf.new))
         (Rose (K.device sink.old).faults (K.device sink.new).faults)
         (solve file.now budget workers true) (told_all (H.held shelf.old) (file.now ∷ []))) }

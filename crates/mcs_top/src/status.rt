@@ -1,7 +1,7 @@
 //! The status of a run.
 
 ghost use Rattle.std.specs.Prelude.{◌≡◌};
-ghost use Rattle.mcs_top.specs.Endings.{number_of};
+ghost use Rattle.mcs_top.specs.Endings.{status_number};
 
 /// How a run ended.
 #[derive(Clone, Copy, Debug, PartialEq, Eq)]
@@ -36,7 +36,7 @@ impl Status {
     /// - 6: a write failed;
     /// - 7: memory ran out.
     pub fn number(self) -> u8
-        ensures { result ≡ number_of self }
+        ensures { result ≡ status_number self }
     {
         match self {
             Status::Done => 0,

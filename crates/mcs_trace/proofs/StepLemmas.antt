@@ -4,27 +4,27 @@ use Rattle.std.proofs.lemmas.Option.{slice_get_within}
 use Rattle.std.specs.List.{AllByRecursion}
 use Rattle.mcs_base.proofs.Each.{all_get, all_push}
 use Rattle.mcs_trace.specs.Clauses.{IsClause}
-use Rattle.mcs_trace.specs.Traces.{Inference, numbered, ResolvesTo, IsChainResolvent, AreRightSteps, EndsEmpty}
+use Rattle.mcs_trace.specs.Traces.{Inference, numbered_clause, ResolvesTo, IsChainResolvent, AreRightSteps, EndsEmpty}
 use Rattle.mcs_trace.proofs.ResolventLemmas.{IsResolvent-clause}
 
 -- ---- numbers of clauses
 abbrev pub IsUpTo : ℕ → ℕ → Type 0
 IsUpTo most n = (0 < n) × (n ≤ most)
 
-number_up_to : (known : List (List ℤ)) (most n : ℕ) (c : List ℤ) → length known ≤ most → numbered known n ≡ Some c → IsUpTo most n
+number_up_to : (known : List (List ℤ)) (most n : ℕ) (c : List ℤ) → length known ≤ most → numbered_clause known n ≡ Some c → IsUpTo most n
 number_up_to known most zero c room e = absurd (cc)
 number_up_to known most (suc n) c room e = (omega arith, omega (arith, slice_get_within known n c e))
 
-numbered_clause : (known : List (List ℤ)) (n : ℕ) (c : List ℤ) → AllByRecursion IsClause known → numbered known n ≡ Some c → IsClause c
-numbered_clause known zero c all e = absurd (cc)
-numbered_clause known (suc n) c all e = all_get IsClause known n c all e
+clause_at_number : (known : List (List ℤ)) (n : ℕ) (c : List ℤ) → AllByRecursion IsClause known → numbered_clause known n ≡ Some c → IsClause c
+clause_at_number known zero c all e = absurd (cc)
+clause_at_number known (suc n) c all e = all_get IsClause known n c all e
 
 -- ---- chains
 chain_clause : (known : List (List ℤ)) (c : List ℤ) (ns : List ℕ) (last : List ℤ) → AllByRecursion IsClause known → IsClause c → ResolvesTo known c ns last
     → IsClause last
 chain_clause known c [] last all is e = subst IsClause e is
 chain_clause known c (n ∷ ns) last all is (d, e, (m, r, rest)) =
-    chain_clause known m ns last all (IsResolvent-clause c d m is (numbered_clause known n d all e) r) rest
+    chain_clause known m ns last all (IsResolvent-clause c d m is (clause_at_number known n d all e) r) rest
 
 chain_up_to : (known : List (List ℤ)) (most : ℕ) (c : List ℤ) (ns : List ℕ) (last : List ℤ) → length known ≤ most → ResolvesTo known c ns last
     → AllByRecursion (IsUpTo most) ns
@@ -44,7 +44,7 @@ told_step known most s all room right = record { clause = clause s.chain right; 
   where
     clause : (ns : List ℕ) → IsChainResolvent known ns s.clause → IsClause s.clause
     clause [] h = absurd h
-    clause (n ∷ ns) (c, e, rest) = chain_clause known c ns s.clause all (numbered_clause known n c all e) rest
+    clause (n ∷ ns) (c, e, rest) = chain_clause known c ns s.clause all (clause_at_number known n c all e) rest
 
     some : (ns : List ℕ) → IsChainResolvent known ns s.clause → ¬ (ns ≡ [])
     some [] h e = absurd h

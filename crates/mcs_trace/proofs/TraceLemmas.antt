@@ -7,40 +7,40 @@ use Rattle.mcs_base.proofs.Lists.{slice_get-append_left, slice_get-append_right,
 use Rattle.mcs_base.proofs.Each.{all_push, all_both, all_by_test, all_weaker, all_get}
 use Rattle.mcs_trace.specs.Clauses.{IsClause, clause_holds, IsUnsatisfiable}
 use Rattle.mcs_trace.specs.Resolution.{IsResolvent}
-use Rattle.mcs_trace.specs.Traces.{Inference, numbered, ResolvesTo, IsChainResolvent, AreRightSteps, EndsEmpty, IsAcceptedTrace, inference_of, clauses_of}
+use Rattle.mcs_trace.specs.Traces.{Inference, numbered_clause, ResolvesTo, IsChainResolvent, AreRightSteps, EndsEmpty, IsAcceptedTrace, inference_of, clauses_of}
 use Rattle.mcs_trace.specs.declared.trace.Step.{Step}
 use Rattle.mcs_base.proofs.Clausal.{HasNoZero, HaveNoZero}
 use Rattle.mcs_trace.proofs.ResolventLemmas.{same_resolvent, clause-no_zero, IsResolvent-no_zero, IsResolvent-holds}
 
 -- ---- numbered clauses
-pub numbered-pred : (known : List (List ℤ)) (n : ℕ) → 0 < n → numbered known n ≡ slice_get known (n - 1)
+pub numbered-pred : (known : List (List ℤ)) (n : ℕ) → 0 < n → numbered_clause known n ≡ slice_get known (n - 1)
 numbered-pred known zero some = absurd (omega arith)
 numbered-pred known (suc n) some = let e : n ≡ suc n - 1 = omega arith in ap (slice_get known) e
 
-pub numbered-clause : (clauses : List (List ℤ)) (steps : List Step) (n : ℕ) (c : List ℤ) → 0 < n → n - 1 < length clauses → c ≡ get_or clauses (n - 1) c → Some c ≡ numbered (clauses ++ clauses_of steps) n
+pub numbered-clause : (clauses : List (List ℤ)) (steps : List Step) (n : ℕ) (c : List ℤ) → 0 < n → n - 1 < length clauses → c ≡ get_or clauses (n - 1) c → Some c ≡ numbered_clause (clauses ++ clauses_of steps) n
 numbered-clause clauses steps n c some less e = sym (numbered-pred (clauses ++ clauses_of steps) n some ∙ slice_get-append_left clauses (clauses_of steps) (n - 1) less ∙ slice_get_read clauses (length clauses) (n - 1) c refl less e)
 
-pub numbered-step : (clauses : List (List ℤ)) (steps : List Step) (n : ℕ) (s : Step) → 0 < n → length clauses ≤ n - 1 → n - 1 - length clauses < length steps → s ≡ get_or steps (n - 1 - length clauses) s → Some s.clause ≡ numbered (clauses ++ clauses_of steps) n
+pub numbered-step : (clauses : List (List ℤ)) (steps : List Step) (n : ℕ) (s : Step) → 0 < n → length clauses ≤ n - 1 → n - 1 - length clauses < length steps → s ≡ get_or steps (n - 1 - length clauses) s → Some s.clause ≡ numbered_clause (clauses ++ clauses_of steps) n
 numbered-step clauses steps n s some past less e =
     let at : n - 1 ≡ length clauses + (n - 1 - length clauses) = omega arith in
     sym (numbered-pred (clauses ++ clauses_of steps) n some ∙ ap (slice_get (clauses ++ clauses_of steps)) at ∙ slice_get-append_right clauses (clauses_of steps) (n - 1 - length clauses) ∙ slice_get-map_some (λ (t : Step). t.clause) steps (n - 1 - length clauses) s (slice_get_read steps (length steps) (n - 1 - length clauses) s refl less e))
 
-pub numbered-none : (clauses : List (List ℤ)) (steps : List Step) (n : ℕ) → 0 < n → length clauses ≤ n - 1 → length steps ≤ n - 1 - length clauses → None ≡ numbered (clauses ++ clauses_of steps) n
+pub numbered-none : (clauses : List (List ℤ)) (steps : List Step) (n : ℕ) → 0 < n → length clauses ≤ n - 1 → length steps ≤ n - 1 - length clauses → None ≡ numbered_clause (clauses ++ clauses_of steps) n
 numbered-none clauses steps n some past past' =
     let at : n - 1 ≡ length clauses + (n - 1 - length clauses) = omega arith in
     sym (numbered-pred (clauses ++ clauses_of steps) n some ∙ ap (slice_get (clauses ++ clauses_of steps)) at ∙ slice_get-append_right clauses (clauses_of steps) (n - 1 - length clauses) ∙ slice_get_past (clauses_of steps) (n - 1 - length clauses) (omega (arith, length-map steps (λ (s : Step). s.clause))))
 
 -- ---- chains
-pub chain-missing : (known : List (List ℤ)) (c : List ℤ) (ns : List ℕ) (last : List ℤ) (i : ℕ) → i < length ns → numbered known (get_or ns i 0) ≡ None → ResolvesTo known c (drop i ns) last → ⊥
+pub chain-missing : (known : List (List ℤ)) (c : List ℤ) (ns : List ℕ) (last : List ℤ) (i : ℕ) → i < length ns → numbered_clause known (get_or ns i 0) ≡ None → ResolvesTo known c (drop i ns) last → ⊥
 chain-missing known c ns last i less none h =
     let (d, e, rest) = subst (λ (xs : List ℕ). ResolvesTo known c xs last) (drop_more ns i 0 less) h in none-some d (sym none ∙ e)
 
-pub chain-stuck : (known : List (List ℤ)) (c : List ℤ) (ns : List ℕ) (last : List ℤ) (i : ℕ) (d : List ℤ) → i < length ns → numbered known (get_or ns i 0) ≡ Some d → ((e : List ℤ) → IsResolvent c d e → ⊥) → ResolvesTo known c (drop i ns) last → ⊥
+pub chain-stuck : (known : List (List ℤ)) (c : List ℤ) (ns : List ℕ) (last : List ℤ) (i : ℕ) (d : List ℤ) → i < length ns → numbered_clause known (get_or ns i 0) ≡ Some d → ((e : List ℤ) → IsResolvent c d e → ⊥) → ResolvesTo known c (drop i ns) last → ⊥
 chain-stuck known c ns last i d less is not h =
     let (d', e, (m, r, rest)) = subst (λ (xs : List ℕ). ResolvesTo known c xs last) (drop_more ns i 0 less) h in
     not m (subst (λ (x : List ℤ). IsResolvent c x m) (same_Some d' d (sym e ∙ is)) r)
 
-pub chain-more : (known : List (List ℤ)) (c : List ℤ) (ns : List ℕ) (last : List ℤ) (i : ℕ) (d m : List ℤ) → i < length ns → numbered known (get_or ns i 0) ≡ Some d → IsResolvent c d m → ResolvesTo known c (drop i ns) last ↔ ResolvesTo known m (drop (i + 1) ns) last
+pub chain-more : (known : List (List ℤ)) (c : List ℤ) (ns : List ℕ) (last : List ℤ) (i : ℕ) (d m : List ℤ) → i < length ns → numbered_clause known (get_or ns i 0) ≡ Some d → IsResolvent c d m → ResolvesTo known c (drop i ns) last ↔ ResolvesTo known m (drop (i + 1) ns) last
 chain-more known c ns last i d m less is r = (to, from)
   where
     to : ResolvesTo known c (drop i ns) last → ResolvesTo known m (drop (i + 1) ns) last
@@ -58,7 +58,7 @@ chain-end known c ns last i past = (
   λ e. subst (λ (xs : List ℕ). ResolvesTo known c xs last) (sym (drop_all i ns past)) e,
 )
 
-pub chain-first : (known : List (List ℤ)) (ns : List ℕ) (n : ℕ) (rest : List ℕ) (c last : List ℤ) → ns ≡ n ∷ rest → numbered known n ≡ Some c → IsChainResolvent known ns last ↔ ResolvesTo known c rest last
+pub chain-first : (known : List (List ℤ)) (ns : List ℕ) (n : ℕ) (rest : List ℕ) (c last : List ℤ) → ns ≡ n ∷ rest → numbered_clause known n ≡ Some c → IsChainResolvent known ns last ↔ ResolvesTo known c rest last
 chain-first known ns n rest c last e is = (to, from)
   where
     to : IsChainResolvent known ns last → ResolvesTo known c rest last
@@ -109,7 +109,7 @@ ends-last steps s e = (
 abbrev pub IsKnown : (ℕ → Bool) → List ℤ → Type 0
 IsKnown v c = HasNoZero c × (clause_holds v c ≡ true)
 
-known-at : (v : ℕ → Bool) (known : List (List ℤ)) (n : ℕ) (c : List ℤ) → AllByRecursion (IsKnown v) known → numbered known n ≡ Some c → IsKnown v c
+known-at : (v : ℕ → Bool) (known : List (List ℤ)) (n : ℕ) (c : List ℤ) → AllByRecursion (IsKnown v) known → numbered_clause known n ≡ Some c → IsKnown v c
 known-at v known zero c all e = absurd (cc)
 known-at v known (suc n) c all e = all_get (IsKnown v) known n c all e
 

@@ -12,20 +12,20 @@ pub record Inference : Type 0 where
   pub clause : List ℤ
   pub chain : List ℕ
 
-abbrev pub numbered : List (List ℤ) → ℕ → Option (List ℤ)
-numbered known zero = None
-numbered known (suc n) = slice_get known n
+abbrev pub numbered_clause : List (List ℤ) → ℕ → Option (List ℤ)
+numbered_clause known zero = None
+numbered_clause known (suc n) = slice_get known n
 
 -- the clause, resolved with those of the numbers in turn, gives the last one
 abbrev pub ResolvesTo : List (List ℤ) → List ℤ → List ℕ → List ℤ → Type 0
 ResolvesTo known clause [] last = clause ≡ last
 ResolvesTo known clause (n ∷ ns) last =
-    (next : List ℤ) × (numbered known n ≡ Some next) × ((between : List ℤ) × IsResolvent clause next between × ResolvesTo known between ns last)
+    (next : List ℤ) × (numbered_clause known n ≡ Some next) × ((between : List ℤ) × IsResolvent clause next between × ResolvesTo known between ns last)
 
 -- the clause is that of the first number, resolved with those of the others in turn
 abbrev pub IsChainResolvent : List (List ℤ) → List ℕ → List ℤ → Type 0
 IsChainResolvent known [] clause = ⊥
-IsChainResolvent known (n ∷ ns) clause = (first : List ℤ) × (numbered known n ≡ Some first) × ResolvesTo known first ns clause
+IsChainResolvent known (n ∷ ns) clause = (first : List ℤ) × (numbered_clause known n ≡ Some first) × ResolvesTo known first ns clause
 
 -- each step's clause is the resolvent of its chain, which names known clauses and earlier steps
 abbrev pub AreRightSteps : List (List ℤ) → List Inference → Type 0

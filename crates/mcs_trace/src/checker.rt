@@ -3,7 +3,7 @@
 ghost use Rattle.std.specs.Prelude.{◌≡◌, ◌++◌, ◌↔◌, map, IsTrue, IfOk};
 ghost use Rattle.std.specs.Option.{option_copied};
 ghost use Rattle.mcs_trace.specs.Clauses.{IsClause, IsUnsatisfiable};
-ghost use Rattle.mcs_trace.specs.Traces.{numbered, ResolvesTo, IsChainResolvent, AreRightSteps, EndsEmpty, IsAcceptedTrace, inference_of, clauses_of, inferences_of};
+ghost use Rattle.mcs_trace.specs.Traces.{numbered_clause, ResolvesTo, IsChainResolvent, AreRightSteps, EndsEmpty, IsAcceptedTrace, inference_of, clauses_of, inferences_of};
 
 use crate::clause::Clause;
 use crate::cnf::Cnf;
@@ -16,7 +16,7 @@ use std::mem;
 /// The clause with this number, counted from 1, or `None` if no clause has it. The clauses of the list come first, then
 /// those of the steps.
 pub fn numbered<'a>(clauses: &'a [Clause], steps: &'a [Step], number: u64) -> Option<&'a Clause>
-    ensures { option_copied result ≡ numbered (clauses.now ++ clauses_of steps.now) number }
+    ensures { option_copied result ≡ numbered_clause (clauses.now ++ clauses_of steps.now) number }
 {
     if number == 0 {
         return None;

@@ -11,7 +11,7 @@ use Rattle.mcs_base.proofs.ListingLemmas.{members_listing}
 use Rattle.mcs_base.specs.Transversals.{IsTransversalOf}
 use Rattle.mcs_base.proofs.Each.{all_among, all_from_among, all_weaker, all_left, all_right, all_push}
 use Rattle.mcs_base.proofs.Among.{among_push}
-use Rattle.mcs_transversal.specs.Transversals.{IsCritical, IsGrown, ComesOf, ComesOfOne}
+use Rattle.mcs_transversal.specs.Transversals.{IsCritical, IsGrownByMark, ComesOf, ComesOfOne}
 use Rattle.mcs_transversal.proofs.CriticalLemmas.{minimal_from_critical, critical_from_minimal, minimal_within}
 
 module _ (edges : List ℕ) (e : ℕ) where
@@ -26,7 +26,7 @@ module _ (edges : List ℕ) (e : ℕ) where
         ],
       )
     where
-      grown : (t : ℕ) → IsMinimal (IsTransversalOf edges) t → Within t x → IsGrown (edges ++ e ∷ []) e t x
+      grown : (t : ℕ) → IsMinimal (IsTransversalOf edges) t → Within t x → IsGrownByMark (edges ++ e ∷ []) e t x
       grown t least within =
           let meets = (all_right (Meets x) edges (e ∷ []) minimal.one).0 in
           let m : ℕ = meets.member in
@@ -162,7 +162,7 @@ grows-all edges out e t none x = (
   λ h. elim h [ inl a ↦ inl a | inr comes ↦ inr (elim comes [ inl kept ↦ absurd (none kept.0) | inr grown ↦ from grown.1 ]) ],
 )
   where
-    from : IsGrown edges e t x → GrowsBy edges t (members e) x
+    from : IsGrownByMark edges e t x → GrowsBy edges t (members e) x
     from g = record { mark = g.mark; among = ((members_listing e).exactly g.mark).1 g.in_edge; with_mark = g.with_mark; critical = g.critical }
 
 -- the next set of the list

@@ -36,7 +36,7 @@ abbrev pub AreBarred : List ℕ → ℕ → ℕ → Type 0
 AreBarred edges t barred = (m : ℕ) → IsTrue (has barred m) → ¬ IsCritical edges (union t (single m))
 
 -- Berge's rule: x is t and one mark of the edge, and each mark of x has a critical edge
-pub record IsGrown (edges : List ℕ) (e t x : ℕ) : Type 0 where
+pub record IsGrownByMark (edges : List ℕ) (e t x : ℕ) : Type 0 where
   pub mark : ℕ
   pub in_edge : IsTrue (has e mark)
   pub with_mark : x ≡ union t (single mark)
@@ -44,7 +44,7 @@ pub record IsGrown (edges : List ℕ) (e t x : ℕ) : Type 0 where
 
 -- x comes of t where e is the last of the edges: it is t itself, if that meets e, and else t grown
 abbrev pub ComesOf : List ℕ → ℕ → ℕ → ℕ → Type 0
-ComesOf edges e x t = (Meets t e × (x ≡ t)) ⊎ ((¬ Meets t e) × IsGrown edges e t x)
+ComesOf edges e x t = (Meets t e × (x ≡ t)) ⊎ ((¬ Meets t e) × IsGrownByMark edges e t x)
 
 -- x comes of one of the sets
 pub record ComesOfOne (edges : List ℕ) (e : ℕ) (ts : List ℕ) (x : ℕ) : Type 0 where

@@ -2,7 +2,7 @@
 use Rattle.std.proofs.Common.{◌≤◌, Option, option_map, subst, ◌≡◌, ℕ, nat_eq, Bool, cond, List, [], ◌∷◌, Some, None, Ok, Err, Result, MatchResult, get_or, length, arith, codes, refl, sym, ap, ◌∙◌}
 use Rattle.std.specs.Str.{bytes_eq}
 use Rattle.mcs_base.specs.Numbers.{value_of_digits}
-use Rattle.mcs_words.specs.Commands.{Word, Command, Request, equilibria, solve, check, make, default_of, IsChosen, HasSettings, AsksFor, IsJobOf}
+use Rattle.mcs_words.specs.Commands.{Word, Command, Request, equilibria, solve, check, make, default_number, IsChosen, HasSettings, AsksFor, IsJobOf}
 use Rattle.mcs_words.specs.declared.setting.Setting.{Setting}
 use Rattle.mcs_words.specs.declared.setting.Setting.TheVariants.{Budget, Workers}
 use Rattle.mcs_words.specs.declared.task.Task.{Task}
@@ -17,7 +17,7 @@ use Rattle.mcs_words.proofs.ReadingLemmas.{reads_read, job_read, job_asked}
 
 -- the number that an option has with these values
 abbrev chosen_of : Setting → List Word → ℕ
-chosen_of s [] = default_of s
+chosen_of s [] = default_number s
 chosen_of s (value ∷ values) = value_of_digits value
 
 chosen_is : (s : Setting) (values : List Word) (n : ℕ) → IsChosen s values n → n ≡ chosen_of s values

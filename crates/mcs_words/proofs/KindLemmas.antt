@@ -5,30 +5,30 @@ use Rattle.std.specs.Str.{bytes_eq}
 use Rattle.std.proofs.lemmas.Bool.Decides.{Decides-eqb}
 use Rattle.std.proofs.lemmas.Slice.Eq.{bytes_eq-Decides}
 use Rattle.mcs_words.specs.Commands.{Word, name_of, begins_with_dash, IsPlain}
-use Rattle.mcs_words.specs.Reading.{WordKind, dashes, name, joined, flag, plain, unknown, after, other_kind, joined_kind, kind}
+use Rattle.mcs_words.specs.Reading.{WordKind, dashes, name, joined, flag, plain, unknown, rest_after, other_kind, joined_kind, kind}
 use Rattle.mcs_words.specs.declared.setting.Setting.{Setting}
 use Rattle.mcs_words.specs.declared.setting.Setting.TheVariants.{Budget, Workers}
 
 -- ---- what follows a front
-pub after_front : (front rest : Word) → after front (front ++ rest) ≡ Some rest
+pub after_front : (front rest : Word) → rest_after front (front ++ rest) ≡ Some rest
 after_front [] rest = refl
 after_front (f ∷ front) rest = let same : nat_eq f f ≡ true = (Decides-eqb f f).1 refl in rw same (after_front front rest)
 
-pub after_is : (front word rest : Word) → after front word ≡ Some rest → word ≡ front ++ rest
+pub after_is : (front word rest : Word) → rest_after front word ≡ Some rest → word ≡ front ++ rest
 after_is [] word rest e = cc
 after_is (f ∷ front) [] rest e = let no : None ≡ Some rest = e in cc
 after_is (f ∷ front) (b ∷ word) rest e =
-    elim (nat_eq b f) as (λ t. nat_eq b f ≡ t → cond t (after front word) None ≡ Some rest → b ∷ word ≡ (f ∷ front) ++ rest) [
+    elim (nat_eq b f) as (λ t. nat_eq b f ≡ t → cond t (rest_after front word) None ≡ Some rest → b ∷ word ≡ (f ∷ front) ++ rest) [
       | true ↦ λ same e'. let here : b ≡ f = (Decides-eqb b f).0 same in let there : word ≡ front ++ rest = after_is front word rest e' in cc
       | false ↦ λ same e'. let no : None ≡ Some rest = e' in cc
     ] refl e
 
 -- a test of the front finds whether something follows it
-pub front_is : (front word tail : Word) (r : Bool) → (r ≡ true → word ≡ front ++ tail) → ((rest : Word) → word ≡ front ++ rest → r ≡ true) → r ≡ is_some (after front word)
-front_is front word tail true begins has = sym (ap is_some (ap (after front) (begins refl) ∙ after_front front tail))
-front_is front word tail false begins has = at (after front word) refl
+pub front_is : (front word tail : Word) (r : Bool) → (r ≡ true → word ≡ front ++ tail) → ((rest : Word) → word ≡ front ++ rest → r ≡ true) → r ≡ is_some (rest_after front word)
+front_is front word tail true begins has = sym (ap is_some (ap (rest_after front) (begins refl) ∙ after_front front tail))
+front_is front word tail false begins has = at (rest_after front word) refl
   where
-    at : (o : Option Word) → after front word ≡ o → false ≡ is_some o
+    at : (o : Option Word) → rest_after front word ≡ o → false ≡ is_some o
     at None e = refl
     at (Some rest) e = has rest (after_is front word rest e)
 
@@ -64,8 +64,8 @@ kind_is word =
     (by_text word (codes "--budget") _ _ (λ e. e)
     (by_text word (codes "--workers") _ _ (λ e. e)
     (by_text word (codes "--proof") _ _ (λ e. e)
-    (by_front word Budget (after (codes "--budget=") word) _ (λ value e. after_is (codes "--budget=") word value e)
-    (by_front word Workers (after (codes "--workers=") word) _ (λ value e. after_is (codes "--workers=") word value e)
+    (by_front word Budget (rest_after (codes "--budget=") word) _ (λ value e. after_is (codes "--budget=") word value e)
+    (by_front word Workers (rest_after (codes "--workers=") word) _ (λ value e. after_is (codes "--workers=") word value e)
     (other_is word))))))
 
 pub plain_kind : (word : Word) → IsPlain word → kind word ≡ plain
@@ -105,7 +105,7 @@ not_found None none = refl
 not_found (Some value) none = absurd (true≢false none)
 
 abbrev budget_or : Word → Option Word → WordKind
-budget_or word o = option_map_or (joined Budget) o (option_map_or (joined Workers) (after (codes "--workers=") word) (other_kind word))
+budget_or word o = option_map_or (joined Budget) o (option_map_or (joined Workers) (rest_after (codes "--workers=") word) (other_kind word))
 
 abbrev workers_or : Word → Option Word → WordKind
 workers_or word o = option_map_or (joined Workers) o (other_kind word)
@@ -115,12 +115,12 @@ module _ (word : Word) (no_dashes : bytes_eq word (codes "--") ≡ false) (no_bu
   unfolding kind
   kind_at = rw (no_dashes, no_budget, no_workers, no_flag) refl
 
-  pub budget_seen : is_some (after (codes "--budget=") word) ≡ true → (value : Word) × (kind word ≡ joined Budget value)
+  pub budget_seen : is_some (rest_after (codes "--budget=") word) ≡ true → (value : Word) × (kind word ≡ joined Budget value)
   budget_seen some =
-      let value = found (after (codes "--budget=") word) some in
+      let value = found (rest_after (codes "--budget=") word) some in
       (value.0, kind_at ∙ ap (budget_or word) value.1)
 
-  pub workers_seen : is_some (after (codes "--budget=") word) ≡ false → is_some (after (codes "--workers=") word) ≡ true → (value : Word) × (kind word ≡ joined Workers value)
+  pub workers_seen : is_some (rest_after (codes "--budget=") word) ≡ false → is_some (rest_after (codes "--workers=") word) ≡ true → (value : Word) × (kind word ≡ joined Workers value)
   workers_seen none some =
-      let value = found (after (codes "--workers=") word) some in
-      (value.0, kind_at ∙ (ap (budget_or word) (not_found (after (codes "--budget=") word) none) ∙ ap (workers_or word) value.1))
+      let value = found (rest_after (codes "--workers=") word) some in
+      (value.0, kind_at ∙ (ap (budget_or word) (not_found (rest_after (codes "--budget=") word) none) ∙ ap (workers_or word) value.1))

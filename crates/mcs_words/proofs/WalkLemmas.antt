@@ -17,7 +17,7 @@ use Rattle.clap.specs.declared.builder.value_parser.ValueParser.TheVariants as v
 use Rattle.std.proofs.Math.Bool.{and-false, or-true}
 use Rattle.mcs_base.proofs.Booleans.{cond-same}
 use Rattle.mcs_words.specs.Commands.{Word, Command, IsPlain, name_of, nothing, with_plain, with_value, with_proof, begins_with_dash}
-use Rattle.mcs_words.specs.Reading.{at_end, tally_of, IsWholeTally, listed, times, kind, open_step, step, read}
+use Rattle.mcs_words.specs.Reading.{at_end, tally_of, IsWholeTally, value_list, times, kind, open_step, step, read}
 use Rattle.mcs_words.specs.Reading as reading
 use Rattle.mcs_words.specs.Line.{line}
 use Rattle.mcs_words.specs.declared.reading.Place.{Place}
@@ -610,7 +610,7 @@ taken words c e whole =
       flag = ap (one_of (codes "proof")) matches_are ∙ flag_at c rows has;
     }
 
-one_at_most : (ws : List Word) (r : Option (Bor Word)) → length ws ≤ 1 → slice_get ws 0 ≡ option_map (λ v. v.now) r → ws ≡ listed r
+one_at_most : (ws : List Word) (r : Option (Bor Word)) → length ws ≤ 1 → slice_get ws 0 ≡ option_map (λ v. v.now) r → ws ≡ value_list r
 one_at_most [] None few e = refl
 one_at_most [] (Some value) few e = let never : None ≡ Some value.now = e in cc
 one_at_most (w ∷ []) None few e = let never : Some w ≡ None = e in cc
@@ -619,13 +619,13 @@ one_at_most (w ∷ (second ∷ ws)) r few e = absurd (omega (arith, few))
 
 -- the plain words by those that are told
 plain_is : (ws : List Word) (job' file' : Word) (r : Option (Bor Word)) → 2 ≤ length ws → length ws ≤ 3
-    → Some job' ≡ slice_get ws 0 → Some file' ≡ slice_get ws 1 → option_map (λ v. v.now) r ≡ slice_get ws 2 → ws ≡ job' ∷ file' ∷ listed r
+    → Some job' ≡ slice_get ws 0 → Some file' ≡ slice_get ws 1 → option_map (λ v. v.now) r ≡ slice_get ws 2 → ws ≡ job' ∷ file' ∷ value_list r
 plain_is [] job' file' r least most j f third = absurd (omega (arith, least))
 plain_is (a ∷ []) job' file' r least most j f third = absurd (omega (arith, least))
 plain_is (a ∷ (b ∷ ws)) job' file' r least most j f third =
     let j' : Some job' ≡ Some a = j in
     let f' : Some file' ≡ Some b = f in
-    let rest : ws ≡ listed r = one_at_most ws r (omega (arith, most)) (sym third) in cc
+    let rest : ws ≡ value_list r = one_at_most ws r (omega (arith, most)) (sym third) in cc
 
 -- the flag by whether it is told
 flag_is_told : (n : ℕ) (flag : Bool) → n ≤ 1 → (nat_eq n 0 ≡ true → flag ≡ false) → (nat_eq n 0 ≡ false → flag ≡ true) → n ≡ times flag
@@ -636,15 +636,15 @@ flag_is_told (suc (suc n)) flag few none one = absurd (omega (arith, few))
 -- a whole command by what is told of it
 pub command_is : (c : Command) (job' file' : Word) (r b w : Option (Bor Word)) (flag : Bool) → IsWholeTally (tally_of c) → Some job' ≡ value_at job c → Some file' ≡ value_at file c
     → option_map (λ v. v.now) r ≡ value_at report c → option_map (λ v. v.now) b ≡ value_at budget c → option_map (λ v. v.now) w ≡ value_at workers c
-    → c.proofs ≡ times flag → c ≡ record { plain = job' ∷ file' ∷ listed r; budgets = listed b; workers = listed w; proofs = times flag }
+    → c.proofs ≡ times flag → c ≡ record { plain = job' ∷ file' ∷ value_list r; budgets = value_list b; workers = value_list w; proofs = times flag }
 command_is c job' file' r b w flag whole j f r_is b_is w_is proof_is =
-    let plain_are : c.plain ≡ job' ∷ file' ∷ listed r = plain_is c.plain job' file' r whole.least whole.most j f r_is in
-    let budgets_are : c.budgets ≡ listed b = one_at_most c.budgets b whole.budgets (sym b_is) in
-    let workers_are : c.workers ≡ listed w = one_at_most c.workers w whole.workers (sym w_is) in
+    let plain_are : c.plain ≡ job' ∷ file' ∷ value_list r = plain_is c.plain job' file' r whole.least whole.most j f r_is in
+    let budgets_are : c.budgets ≡ value_list b = one_at_most c.budgets b whole.budgets (sym b_is) in
+    let workers_are : c.workers ≡ value_list w = one_at_most c.workers w whole.workers (sym w_is) in
     ap (λ (ws : List Word). command ws c.budgets c.workers c.proofs) plain_are
-    ∙ (ap (λ (ws : List Word). command (job' ∷ file' ∷ listed r) ws c.workers c.proofs) budgets_are
-    ∙ (ap (λ (ws : List Word). command (job' ∷ file' ∷ listed r) (listed b) ws c.proofs) workers_are
-    ∙ ap (command (job' ∷ file' ∷ listed r) (listed b) (listed w)) proof_is))
+    ∙ (ap (λ (ws : List Word). command (job' ∷ file' ∷ value_list r) ws c.workers c.proofs) budgets_are
+    ∙ (ap (λ (ws : List Word). command (job' ∷ file' ∷ value_list r) (value_list b) ws c.proofs) workers_are
+    ∙ ap (command (job' ∷ file' ∷ value_list r) (value_list b) (value_list w)) proof_is))
 
 pub job_there : (c : Command) (r : Option (Bor Word)) → IsWholeTally (tally_of c) → option_map (λ v. v.now) r ≡ value_at job c → ¬ (r ≡ None)
 job_there c r whole e none =

@@ -21,9 +21,9 @@ most_of Budget = 4294967295
 most_of Workers = 64
 
 -- the number of an option that is not there
-abbrev pub default_of : Setting → ℕ
-default_of Budget = 100000
-default_of Workers = 1
+abbrev pub default_number : Setting → ℕ
+default_number Budget = 100000
+default_number Workers = 1
 
 -- ---- what words give
 
@@ -60,38 +60,38 @@ abbrev pub IsPlain : Word → Type 0
 IsPlain word = IsTrue (begins_with_dash word) → word ≡ codes "-"
 
 -- what the words give, from left to right
-pub data Reads : List Word → Command → Type 0 where
+pub data ReadsCommand : List Word → Command → Type 0 where
   -- no words give nothing
-  ends : Reads [] nothing
+  ends : ReadsCommand [] nothing
   -- after `--` each word is plain
-  dashes : (words : List Word) → Reads (codes "--" ∷ words) (only_plain words)
+  dashes : (words : List Word) → ReadsCommand (codes "--" ∷ words) (only_plain words)
   -- a plain word
-  plain_word : (word : Word) (words : List Word) (c : Command) → IsPlain word → Reads words c → Reads (word ∷ words) (with_plain word c)
+  plain_word : (word : Word) (words : List Word) (c : Command) → IsPlain word → ReadsCommand words c → ReadsCommand (word ∷ words) (with_plain word c)
   -- an option with its value in one word, as `--budget=5`
-  joined : (s : Setting) (value : Word) (words : List Word) (c : Command) → Reads words c → Reads ((name_of s ++ 61 ∷ value) ∷ words) (with_value s value c)
+  joined : (s : Setting) (value : Word) (words : List Word) (c : Command) → ReadsCommand words c → ReadsCommand ((name_of s ++ 61 ∷ value) ∷ words) (with_value s value c)
   -- an option, whose value is the next word and does not begin with `-`
-  apart : (s : Setting) (value : Word) (words : List Word) (c : Command) → ¬ IsTrue (begins_with_dash value) → Reads words c
-      → Reads (name_of s ∷ value ∷ words) (with_value s value c)
+  apart : (s : Setting) (value : Word) (words : List Word) (c : Command) → ¬ IsTrue (begins_with_dash value) → ReadsCommand words c
+      → ReadsCommand (name_of s ∷ value ∷ words) (with_value s value c)
   -- the flag
-  flag : (words : List Word) (c : Command) → Reads words c → Reads (codes "--proof" ∷ words) (with_proof c)
+  flag : (words : List Word) (c : Command) → ReadsCommand words c → ReadsCommand (codes "--proof" ∷ words) (with_proof c)
 
 -- ---- numbers
 
 -- the number of an option with these values: it may stand once, and has its default where it does not stand
 abbrev pub IsChosen : Setting → List Word → ℕ → Type 0
-IsChosen s [] n = n ≡ default_of s
+IsChosen s [] n = n ≡ default_number s
 IsChosen s (value ∷ []) n = IsNumber (least_of s) (most_of s) value n
 IsChosen s (value ∷ (second ∷ values)) n = ⊥
 
 -- the flag stands once at most, and this says whether it does
-abbrev pub IsMarked : ℕ → Bool → Type 0
-IsMarked times stands = (times ≤ 1) × (stands ≡ nat_eq times 1)
+abbrev pub IsFlagGiven : ℕ → Bool → Type 0
+IsFlagGiven times stands = (times ≤ 1) × (stands ≡ nat_eq times 1)
 
 -- a command's budget, its number of workers, and whether its flag stands
 pub record HasSettings (c : Command) (budget workers : ℕ) (proof : Bool) : Type 0 where
   pub budget_is : IsChosen Budget c.budgets budget
   pub workers_are : IsChosen Workers c.workers workers
-  pub proof_is : IsMarked c.proofs proof
+  pub proof_is : IsFlagGiven c.proofs proof
 
 -- ---- jobs
 
@@ -128,4 +128,4 @@ AsksFor c (make number budget workers) =
 
 -- the words ask for the job
 abbrev pub IsJobOf : List Word → Request → Type 0
-IsJobOf words request = (c : Command) × Reads words c × AsksFor c request
+IsJobOf words request = (c : Command) × ReadsCommand words c × AsksFor c request

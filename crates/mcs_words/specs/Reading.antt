@@ -48,9 +48,9 @@ abbrev pub IsOneNumber : List Word → Type 0
 IsOneNumber words = (digits : Word) × (number : ℕ) × (words ≡ digits ∷ []) × IsNumber 0 most_made digits number
 
 -- no value, or one
-abbrev pub listed : Option (Bor Word) → List Word
-listed None = []
-listed (Some value) = value.now ∷ []
+abbrev pub value_list : Option (Bor Word) → List Word
+value_list None = []
+value_list (Some value) = value.now ∷ []
 
 -- how often a flag stands that stands once at most
 abbrev pub times : Bool → ℕ
@@ -58,10 +58,10 @@ times stands = cond stands 1 0
 
 -- the plain words after the name of the job
 abbrev pub targets_of : Given → List Word
-targets_of g = g.file.now ∷ listed g.report
+targets_of g = g.file.now ∷ value_list g.report
 
 abbrev pub command_of : Given → Command
-command_of g = record { plain = g.job.now ∷ targets_of g; budgets = listed g.budget; workers = listed g.workers; proofs = times g.proof }
+command_of g = record { plain = g.job.now ∷ targets_of g; budgets = value_list g.budget; workers = value_list g.workers; proofs = times g.proof }
 
 -- ---- how many words of each sort
 abbrev pub total_of : Tally → ℕ
@@ -84,8 +84,8 @@ abbrev pub tally_of : Command → Tally
 tally_of c = record { plain = length c.plain; budgets = length c.budgets; workers = length c.workers; proofs = c.proofs }
 
 -- a command after what is counted
-abbrev pub counted : Tally → Command → Tally
-counted t c = record {
+abbrev pub counted_command : Tally → Command → Tally
+counted_command t c = record {
   plain = t.plain + length c.plain;
   budgets = t.budgets + length c.budgets;
   workers = t.workers + length c.workers;
@@ -120,17 +120,17 @@ IsKindSeen code.Plain k = k ≡ plain
 IsKindSeen code.Unknown k = k ≡ unknown
 
 -- what follows the front in the word
-abbrev pub after : Word → Word → Option Word
-after [] word = Some word
-after (f ∷ front) [] = None
-after (f ∷ front) (b ∷ word) = cond (nat_eq b f) (after front word) None
+abbrev pub rest_after : Word → Word → Option Word
+rest_after [] word = Some word
+rest_after (f ∷ front) [] = None
+rest_after (f ∷ front) (b ∷ word) = cond (nat_eq b f) (rest_after front word) None
 
 abbrev pub other_kind : Word → WordKind
 other_kind word = cond (begins_with_dash word && not (bytes_eq word (codes "-"))) unknown plain
 
 abbrev pub joined_kind : Word → WordKind
-joined_kind word = option_map_or (joined Budget) (after (codes "--budget=") word)
-    (option_map_or (joined Workers) (after (codes "--workers=") word) (other_kind word))
+joined_kind word = option_map_or (joined Budget) (rest_after (codes "--budget=") word)
+    (option_map_or (joined Workers) (rest_after (codes "--workers=") word) (other_kind word))
 
 unfoldable pub kind : Word → WordKind
 kind word = cond (bytes_eq word (codes "--")) dashes

@@ -4,7 +4,7 @@ ghost use Rattle.std.specs.Prelude.{◌≡◌, ◌∷◌, [], ◌≤◌, ℕ, Ma
 ghost use Rattle.std.specs.Bool.{MatchBool};
 ghost use Rattle.mcs_base.specs.Numbers.{IsNumber};
 ghost use Rattle.mcs_words.specs.Commands.{Request, IsFile, IsChosen, AsksFor, most_of, most_made};
-ghost use Rattle.mcs_words.specs.Reading.{request_of, command_of, listed, targets_of, IsOneFile, AreTwoFiles, IsOneNumber};
+ghost use Rattle.mcs_words.specs.Reading.{request_of, command_of, value_list, targets_of, IsOneFile, AreTwoFiles, IsOneNumber};
 ghost use Rattle.mcs_words.specs.declared.setting.Setting.TheVariants.{Budget, Workers};
 
 use crate::given::Given;
@@ -66,8 +66,8 @@ pub(crate) fn job(alloc: Global, given: &Given) -> Result<Job, WordsFault>
 /// The budget and the number of workers, if both are in their range.
 fn numbers(given: &Given) -> Option<(u64, u32)>
     ensures { MatchOption result
-        ((budget workers : ℕ) → IsChosen Budget (listed given.now.budget) budget → ¬ IsChosen Workers (listed given.now.workers) workers)
-        (λ p. IsChosen Budget (listed given.now.budget) p.0 × IsChosen Workers (listed given.now.workers) p.1) }
+        ((budget workers : ℕ) → IsChosen Budget (value_list given.now.budget) budget → ¬ IsChosen Workers (value_list given.now.workers) workers)
+        (λ p. IsChosen Budget (value_list given.now.budget) p.0 × IsChosen Workers (value_list given.now.workers) p.1) }
 {
     let budget = chosen(Setting::Budget, given.budget)?;
     let workers = chosen(Setting::Workers, given.workers)?;
@@ -78,7 +78,7 @@ fn numbers(given: &Given) -> Option<(u64, u32)>
 /// range.
 fn chosen(setting: Setting, value: Option<&str>) -> Option<u64>
     ensures number { MatchOption result
-        ((n : ℕ) → ¬ IsChosen setting (listed value.entry) n) (λ n. IsChosen setting (listed value.entry) n) }
+        ((n : ℕ) → ¬ IsChosen setting (value_list value.entry) n) (λ n. IsChosen setting (value_list value.entry) n) }
     ensures most { IfSome result (λ n. n ≤ most_of setting) }
 {
     match value {

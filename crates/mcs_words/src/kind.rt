@@ -2,7 +2,7 @@
 
 ghost use Rattle.std.specs.Prelude.{◌≡◌, is_some};
 ghost use Rattle.mcs_words.specs.Commands.{begins_with_dash};
-ghost use Rattle.mcs_words.specs.Reading.{after, kind, IsKindSeen};
+ghost use Rattle.mcs_words.specs.Reading.{rest_after, kind, IsKindSeen};
 
 use crate::setting::Setting;
 
@@ -35,7 +35,7 @@ pub(crate) fn begins_with_dash(word: &str) -> bool
 
 /// Whether the word begins with `front`.
 fn has_front(word: &str, front: &str) -> bool
-    ensures { result ≡ is_some (after front.now word.now) }
+    ensures { result ≡ is_some (rest_after front.now word.now) }
 {
     word.as_bytes().starts_with(front.as_bytes())
 }

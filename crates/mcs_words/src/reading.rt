@@ -2,7 +2,7 @@
 
 ghost use Rattle.std.specs.Prelude.{◌≡◌, ◌+◌, ◌≤◌, ◌<◌, ◌^◌, Option, None, option_map, MatchOption, MatchResult, IfSome};
 ghost use Rattle.mcs_words.specs.Commands.{Command, Request, IsJobOf};
-ghost use Rattle.mcs_words.specs.Reading.{texts_of, request_of, step, open_step, kind, read, counted, tally_of, total_of};
+ghost use Rattle.mcs_words.specs.Reading.{texts_of, request_of, step, open_step, kind, read, counted_command, tally_of, total_of};
 
 use crate::asked::job;
 use crate::given::given_by;
@@ -79,7 +79,7 @@ fn tally(words: &[String]) -> Option<Tally>
 fn take(tally: Tally, place: Place, word: &str) -> Option<(Tally, Place)>
     requires { total_of tally < 2 ^ 63 }
     ensures read { (rest : Place → Option Command) → MatchOption result (step place word.now rest ≡ None)
-        (λ p. option_map (counted p.0) (rest p.1) ≡ option_map (counted tally) (step place word.now rest)) }
+        (λ p. option_map (counted_command p.0) (rest p.1) ≡ option_map (counted_command tally) (step place word.now rest)) }
     ensures few { IfSome result (λ p. total_of p.0 ≤ total_of tally + 1) }
 {
     match place {
@@ -98,7 +98,7 @@ fn take(tally: Tally, place: Place, word: &str) -> Option<(Tally, Place)>
 fn take_open(tally: Tally, word: &str) -> Option<(Tally, Place)>
     requires { total_of tally < 2 ^ 63 }
     ensures read { (rest : Place → Option Command) → MatchOption result (open_step (kind word.now) word.now rest ≡ None)
-        (λ p. option_map (counted p.0) (rest p.1) ≡ option_map (counted tally) (open_step (kind word.now) word.now rest)) }
+        (λ p. option_map (counted_command p.0) (rest p.1) ≡ option_map (counted_command tally) (open_step (kind word.now) word.now rest)) }
     ensures few { IfSome result (λ p. total_of p.0 ≤ total_of tally + 1) }
 {
     match kind_of(word) {

@@ -1,7 +1,7 @@
 //! The options of the command line.
 
 ghost use Rattle.std.specs.Prelude.{◌≡◌};
-ghost use Rattle.mcs_words.specs.Commands.{least_of, most_of, default_of};
+ghost use Rattle.mcs_words.specs.Commands.{least_of, most_of, default_number};
 
 /// An option that takes a number.
 #[derive(Clone, Copy, Debug, PartialEq, Eq)]
@@ -32,7 +32,7 @@ impl Setting {
 
     /// The value of the option if it is not given.
     pub(crate) fn default(self) -> u64
-        ensures { result ≡ default_of self }
+        ensures { result ≡ default_number self }
     {
         match self {
             Setting::Budget => 100_000,

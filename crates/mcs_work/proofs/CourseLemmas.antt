@@ -22,13 +22,13 @@ use Rattle.mcs_system.specs.Levels.{IsCount, IsNeed}
 use Rattle.mcs_system.specs.Repairs.{IsExplanation, IsDiagnosis}
 use Rattle.mcs_laws.proofs.Existence.{consistency_is_listed}
 use Rattle.mcs_laws.proofs.Transversals.{minimal_explanations}
-use Rattle.mcs_states.specs.Evaluators.{EvaluatorState, KeepsRest, HasDone, HasHaltCause, IsBeyond, IsUnanswered, IsTold, asked_of, raised}
+use Rattle.mcs_states.specs.Evaluators.{EvaluatorState, KeepsRest, HasDone, HasHaltCause, ExceedsBudget, IsUnanswered, IsHaltOf, asked_of, raised}
 use Rattle.mcs_states.specs.declared.halt.Halt.{Halt}
 use Rattle.mcs_states.specs.declared.halt.Halt.TheVariants as halts
 use Rattle.mcs_states.proofs.Causes.{unanswered_before}
 use Rattle.mcs_diagnosis.specs.declared.diagnosis.Diagnosis as code
 use Rattle.mcs_diagnosis.specs.Courses.{IsPast}
-use Rattle.mcs_diagnosis.specs.Diagnoses.{AreFound, AreFoundBelow, AreDiagnoses, IsShown, pairs_of}
+use Rattle.mcs_diagnosis.specs.Diagnoses.{AreShownDiagnoses, AreFoundBelow, AreDiagnoses, ShowsFirstState, pairs_of}
 use Rattle.mcs_diagnosis.proofs.BelowLemmas.{none_below, more_below, all_of_consistent, all_below, shown_within}
 use Rattle.mcs_report.specs.Listing.{verdict_line}
 use Rattle.mcs_report.specs.Repairs.{end_line}
@@ -37,7 +37,7 @@ use Rattle.mcs_report.proofs.SolutionLemmas.{diagnosis_lines-append}
 use Rattle.mcs_work.specs.Extents.{task_of, states_part, diagnoses_part, front_part, rest_part}
 use Rattle.mcs_work.specs.declared.extent.Extent.{Extent}
 use Rattle.mcs_work.specs.declared.extent.Extent.TheVariants.{Whole, Counts}
-use Rattle.mcs_work.specs.Tasks.{opening, IsTaskText, IsTaskUpTo, IsTaskStage, IsTaken, IsLastTaken, stop_for_halt, stop_for_line}
+use Rattle.mcs_work.specs.Tasks.{opening, IsTaskText, IsTaskUpTo, IsTaskStage, TakesLevel, IsLastTaken, stop_for_halt, stop_for_line}
 use Rattle.mcs_work.specs.Work.{LeavesStage, IsDone, IsSpent, HasStopped}
 use Rattle.mcs_work.specs.Course.{IsUnderWay, AddsLines, HasGone}
 use Rattle.mcs_work.specs.Printed.{IsOfSystem, IsCauseOf}
@@ -53,13 +53,13 @@ begun e e' fresh kept h = record {
   settled = h.settled;
   done = h.level_done ∙ ap (λ (d : Option ℕ). raised d 0) fresh;
   repairs = none_below e'.system;
-  within = λ k low beyond. let lowest : k ≡ 0 = omega (arith, low) in h.within (subst (λ (n : ℕ). IsBeyond e n) lowest (beyond_before e e' kept k beyond));
+  within = λ k low beyond. let lowest : k ≡ 0 = omega (arith, low) in h.within (subst (λ (n : ℕ). ExceedsBudget e n) lowest (beyond_before e e' kept k beyond));
   answered = λ k i x low u. let lowest : k ≡ 0 = omega (arith, low) in h.answered i x (subst (λ (n : ℕ). IsUnanswered e n i x) lowest (unanswered_before e e' kept k i x u));
   not_past = λ more. absurd (omega (arith, more));
 }
 
 module _ (e e' : EvaluatorState) (level : ℕ) (ds : List code.Diagnosis) (u : IsUnderWay e level ds) (open_yet : ¬ IsPast e.system level) where
-  pub went_on : (fresh : List code.Diagnosis) → KeepsRest e e' → HasDone e e' level → AreFound e.system level fresh → IsUnderWay e' (level + 1) (ds ++ fresh)
+  pub went_on : (fresh : List code.Diagnosis) → KeepsRest e e' → HasDone e e' level → AreShownDiagnoses e.system level fresh → IsUnderWay e' (level + 1) (ds ++ fresh)
   went_on fresh kept h found = record {
     settled = h.settled;
     done = h.level_done ∙ ap (λ (d : Option ℕ). raised d level) u.done ∙ ap (λ n. Some n) (let same : max (level - 1) level ≡ level + 1 - 1 = omega arith in same);
@@ -69,10 +69,10 @@ module _ (e e' : EvaluatorState) (level : ℕ) (ds : List code.Diagnosis) (u : I
     not_past = λ more past. open_yet (subst (λ (n : ℕ). IsPast e.system n) (let same : level + 1 - 1 ≡ level = omega arith in same) (subst (λ (m : System). IsPast m (level + 1 - 1)) kept.system past));
   }
     where
-      inside : (k : ℕ) → k ≤ level + 1 - 1 → IsBeyond e k → ⊥
+      inside : (k : ℕ) → k ≤ level + 1 - 1 → ExceedsBudget e k → ⊥
       inside k low beyond = elim (cases_lt k level) [
         | inl less ↦ u.within k (omega (arith, less)) beyond
-        | inr past ↦ (let here : k ≡ level = omega (arith, past, low) in h.within (subst (λ (n : ℕ). IsBeyond e n) here beyond))
+        | inr past ↦ (let here : k ≡ level = omega (arith, past, low) in h.within (subst (λ (n : ℕ). ExceedsBudget e n) here beyond))
       ]
 
       had : (k i x : ℕ) → k ≤ level + 1 - 1 → IsUnanswered e k i x → ⊥
@@ -107,11 +107,11 @@ listed_before Whole m σs ds (suc n) more equilibria found = record { states = �
 listed_before Counts m σs ds level more equilibria found = refl
 
 -- both extents take the same levels
-taken_as : (x : Extent) (m : System) (level : ℕ) → IsTaken Solve m level → IsTaken (task_of x) m level
+taken_as : (x : Extent) (m : System) (level : ℕ) → TakesLevel Solve m level → TakesLevel (task_of x) m level
 taken_as Whole m level taken = taken
 taken_as Counts m level taken = taken
 
-taken_back : (x : Extent) (m : System) (level : ℕ) → IsTaken (task_of x) m level → IsTaken Solve m level
+taken_back : (x : Extent) (m : System) (level : ℕ) → TakesLevel (task_of x) m level → TakesLevel Solve m level
 taken_back Whole m level taken = taken
 taken_back Counts m level taken = taken
 
@@ -119,11 +119,11 @@ last_as : (x : Extent) (m : System) (level : ℕ) → IsLastTaken Solve m level 
 last_as Whole m level last = last
 last_as Counts m level last = last
 
-repair_level : (m : System) (level : ℕ) → ¬ IsPast m level → IsTaken Solve m level
+repair_level : (m : System) (level : ℕ) → ¬ IsPast m level → TakesLevel Solve m level
 repair_level m zero open_yet = inl refl
 repair_level m (suc n) open_yet = inr ((λ c. open_yet (inr (let more : 0 < suc n = omega arith in (more, c)))), not_less (length m.bridges) (suc n) (λ more. open_yet (inl more)))
 
-taken_here : (x : Extent) (m : System) (level : ℕ) → ¬ IsPast m level → IsTaken (task_of x) m level
+taken_here : (x : Extent) (m : System) (level : ℕ) → ¬ IsPast m level → TakesLevel (task_of x) m level
 taken_here x m level open_yet = taken_as x m level (repair_level m level open_yet)
 
 -- ---- where a level stops
@@ -131,14 +131,14 @@ module _ (x : Extent) (σs : List ℕ) (e e' : EvaluatorState) (level : ℕ) (ds
   nothing_more : (at : Option (List ℕ)) → LeavesStage (task_of x) e.system (front_part x e.system σs ds) at at
   nothing_more at = left_nothing (task_of x) e.system (front_part x e.system σs ds) at (stage_below x e.system σs ds level _ equilibria u.repairs refl)
 
-  later_level : IsBeyond e level → 0 < level
+  later_level : ExceedsBudget e level → 0 < level
   later_level beyond = elim (cases_lt 0 level) [ inl more ↦ more | inr none ↦ absurd (u.within level (omega (arith, none)) beyond) ]
 
-  halted : (at : Device) (halt : Halt) → HasHaltCause e level halt → IsTold e' halt → HasStopped (task_of x) (front_part x e.system σs ds) e e' at at (stop_for_halt halt)
+  halted : (at : Device) (halt : Halt) → HasHaltCause e level halt → IsHaltOf e' halt → HasStopped (task_of x) (front_part x e.system σs ds) e e' at at (stop_for_halt halt)
   halted at (halts.Spent found drawn) (here, more, some) told =
-      let beyond : IsBeyond e level = found_beyond e level drawn (omega (arith, more)) some in (
+      let beyond : ExceedsBudget e level = found_beyond e level drawn (omega (arith, more)) some in (
         refl,
-        subst (λ (l : ℕ). IsTold e' (halts.Spent l drawn) → IsSpent (task_of x) (front_part x e.system σs ds) e e' l at.written at.written) (sym here) (λ said. record {
+        subst (λ (l : ℕ). IsHaltOf e' (halts.Spent l drawn) → IsSpent (task_of x) (front_part x e.system σs ds) e e' l at.written at.written) (sym here) (λ said. record {
           taken = taken_here x e.system level open_yet;
           beyond = beyond;
           least = λ k less. u.within k (omega (arith, less));
@@ -163,7 +163,7 @@ module _ (x : Extent) (σs : List ℕ) (e e' : EvaluatorState) (level : ℕ) (ds
   )
   halted at halts.Memory h told = (refl, nothing_more at.written)
 
-  module _ (fresh : List code.Diagnosis) (found : AreFound e.system level fresh) where
+  module _ (fresh : List code.Diagnosis) (found : AreShownDiagnoses e.system level fresh) where
     with_level : IsTaskStage (task_of x) e.system (front_part x e.system σs ds ++ diagnoses_part x e.system (length ds + 1) fresh)
     with_level = stage_below x e.system σs (ds ++ fresh) (level + 1) _ equilibria (more_below e.system level ds fresh u.repairs found) (front_more x e.system σs ds fresh)
 
@@ -180,16 +180,16 @@ module _ (x : Extent) (σs : List ℕ) (e e' : EvaluatorState) (level : ℕ) (ds
 
 -- the same for the system itself
 module _ (x : Extent) (m : System) (e e' : EvaluatorState) (same : e.system ≡ m) (σs : List ℕ) (level : ℕ) (ds : List code.Diagnosis) (u : IsUnderWay e level ds) (open_yet : ¬ IsPast e.system level) (equilibria : AreEquilibria m σs) where
-  pub halted_at : (at : Device) (halt : Halt) → HasHaltCause e level halt → IsTold e' halt → HasStopped (task_of x) (front_part x m σs ds) e e' at at (stop_for_halt halt)
+  pub halted_at : (at : Device) (halt : Halt) → HasHaltCause e level halt → IsHaltOf e' halt → HasStopped (task_of x) (front_part x m σs ds) e e' at at (stop_for_halt halt)
   halted_at at halt cause told = subst (λ (n : System). AreEquilibria n σs → HasStopped (task_of x) (front_part x n σs ds) e e' at at (stop_for_halt halt)) same (λ eq. halted x σs e e' level ds u open_yet eq at halt cause told) equilibria
 
-  pub lines_cut_at : (fresh : List code.Diagnosis) → AreFound e.system level fresh → (before now : Device) (why : Unwritten) → Writes {T = Unit {0}} (diagnoses_part x m (length ds + 1) fresh) before now (Err why)
+  pub lines_cut_at : (fresh : List code.Diagnosis) → AreShownDiagnoses e.system level fresh → (before now : Device) (why : Unwritten) → Writes {T = Unit {0}} (diagnoses_part x m (length ds + 1) fresh) before now (Err why)
       → HasStopped (task_of x) (front_part x m σs ds) e e' before now (stop_for_line why)
   lines_cut_at fresh found before now why w =
       subst (λ (n : System). AreEquilibria n σs → Writes {T = Unit {0}} (diagnoses_part x n (length ds + 1) fresh) before now (Err why) → HasStopped (task_of x) (front_part x n σs ds) e e' before now (stop_for_line why)) same
       (λ eq v. lines_cut x σs e e' level ds u open_yet eq fresh found before now why v) equilibria w
 
-  pub memory_at : (fresh : List code.Diagnosis) → AreFound e.system level fresh → (before now : Device) → now.faults ≡ before.faults → now.written ≡ appended before.written (diagnoses_part x m (length ds + 1) fresh)
+  pub memory_at : (fresh : List code.Diagnosis) → AreShownDiagnoses e.system level fresh → (before now : Device) → now.faults ≡ before.faults → now.written ≡ appended before.written (diagnoses_part x m (length ds + 1) fresh)
       → HasStopped (task_of x) (front_part x m σs ds) e e' before now stops.Memory
   memory_at fresh found before now still is =
       subst (λ (n : System). AreEquilibria n σs → now.written ≡ appended before.written (diagnoses_part x n (length ds + 1) fresh) → HasStopped (task_of x) (front_part x n σs ds) e e' before now stops.Memory) same
@@ -199,7 +199,7 @@ module _ (x : Extent) (m : System) (e e' : EvaluatorState) (same : e.system ≡ 
 pub record IsEnded (e : EvaluatorState) (level : ℕ) (ds : List code.Diagnosis) : Type 0 where
   pub repairs : AreDiagnoses e.system ds
   pub last : IsLastTaken Solve e.system (level - 1)
-  pub reached : (k : ℕ) → IsTaken Solve e.system k → k ≤ level - 1
+  pub reached : (k : ℕ) → TakesLevel Solve e.system k → k ≤ level - 1
   pub needed : IsNeed e.system (asked_of e)
 
 pub ended : (e : EvaluatorState) (level : ℕ) (ds : List code.Diagnosis) → IsUnderWay e level ds → IsPast e.system level → IsConsistent e.system ⊎ (¬ IsConsistent e.system) → IsEnded e level ds
@@ -304,13 +304,13 @@ module _ (e : EvaluatorState) (level : ℕ) (ds : List code.Diagnosis) (σs ts p
       }
 
 -- ---- what is printed is of the system
-each_of_system : (m : System) (ds : List code.Diagnosis) → ((p : ℕ) → IsAmong p (pairs_of ds) → IsDiagnosis m p) → AllByRecursion (IsShown m) ds → AllByRecursion (IsOfSystem m) ds
+each_of_system : (m : System) (ds : List code.Diagnosis) → ((p : ℕ) → IsAmong p (pairs_of ds) → IsDiagnosis m p) → AllByRecursion (ShowsFirstState m) ds → AllByRecursion (IsOfSystem m) ds
 each_of_system m [] are shown = tt
 each_of_system m (d ∷ ds) are shown =
     let within = shown_within m d (are d.pair (inl refl)) shown.0 in
     (record { marks = within.0; state = within.1; active = within.2 }, each_of_system m ds (λ p among. are p (inr among)) shown.1)
 
-pub lines_of_system : (m n : System) (level : ℕ) (ds : List code.Diagnosis) → n ≡ m → AreFound n level ds → AllByRecursion (IsOfSystem m) ds
+pub lines_of_system : (m n : System) (level : ℕ) (ds : List code.Diagnosis) → n ≡ m → AreShownDiagnoses n level ds → AllByRecursion (IsOfSystem m) ds
 lines_of_system m n level ds same found =
     subst (λ (s : System). AllByRecursion (IsOfSystem s) ds) same (each_of_system n ds (λ p among. ((found.listed.exactly p).0 among).0.one) found.shown)
 

@@ -7,7 +7,7 @@ use Rattle.mcs_text.specs.declared.unwritten.Unwritten.{Unwritten}
 use Rattle.mcs_text.proofs.WriteLaws.{appended-append}
 use Rattle.mcs_system.specs.Plain.{System}
 use Rattle.mcs_system.specs.Levels.{IsCount}
-use Rattle.mcs_states.specs.Evaluators.{EvaluatorState, KeepsRest, HasDone, IsBeyond, IsUnanswered, asked_of}
+use Rattle.mcs_states.specs.Evaluators.{EvaluatorState, KeepsRest, HasDone, ExceedsBudget, IsUnanswered, asked_of}
 use Rattle.mcs_report.specs.Listing.{heading, after_heading, equilibria_text, IsEquilibriaText}
 use Rattle.mcs_report.specs.Solutions.{AreEquilibria}
 use Rattle.mcs_work.specs.Tasks.{stop_for_line}
@@ -66,7 +66,7 @@ module _ (m : System) (e e' : EvaluatorState) (same : e.system ≡ m) (fresh : e
       last = refl;
       level_done = (begun e e' fresh kept h).done;
       settled = h.settled;
-      within = λ k lowest beyond. h.within (subst (λ (n : ℕ). IsBeyond e n) lowest beyond);
+      within = λ k lowest beyond. h.within (subst (λ (n : ℕ). ExceedsBudget e n) lowest beyond);
       answered = λ k i x lowest u. h.answered i x (subst (λ (n : ℕ). IsUnanswered e n i x) lowest u);
     };
     stop = tt;

@@ -15,7 +15,7 @@ use Rattle.mcs_states.specs.declared.halt.Halt.TheVariants as halts
 use Rattle.mcs_report.specs.Listing.{heading}
 use Rattle.mcs_report.specs.Solutions.{first}
 use Rattle.mcs_states.proofs.Causes.{rest_kept, unanswered_before}
-use Rattle.mcs_work.specs.Tasks.{opening, IsTaskText, IsTaskStage, IsTaskUpTo, IsTaken, IsLastTaken, stop_for_halt, stop_for_line}
+use Rattle.mcs_work.specs.Tasks.{opening, IsTaskText, IsTaskStage, IsTaskUpTo, TakesLevel, IsLastTaken, stop_for_halt, stop_for_line}
 use Rattle.mcs_work.specs.Work.{LeavesStage, IsDone, IsSpent, HasStopped, Works}
 use Rattle.mcs_work.specs.declared.task.Task.{Task}
 use Rattle.mcs_work.specs.declared.task.Task.TheVariants.{Equilibria, Solve, Make}
@@ -42,7 +42,7 @@ module _ (task : Task) (so_far part : List ℕ) (e mid-e e' : EvaluatorState) (b
   stopped_later (stops.Spent level) (same, s) = (
     same ∙ still,
     record {
-      taken = subst (λ (m : System). IsTaken task m level) kept.system s.taken;
+      taken = subst (λ (m : System). TakesLevel task m level) kept.system s.taken;
       beyond = beyond_before e mid-e kept level s.beyond;
       least = λ k less beyond. s.least k less (beyond_before mid-e e (rest_back e mid-e kept) k beyond);
       drawn = s.drawn;
@@ -57,7 +57,7 @@ module _ (task : Task) (so_far part : List ℕ) (e mid-e e' : EvaluatorState) (b
     same ∙ still,
     record {
       level = s.level;
-      taken = subst (λ (m : System). IsTaken task m s.level) kept.system s.taken;
+      taken = subst (λ (m : System). TakesLevel task m s.level) kept.system s.taken;
       unanswered = unanswered_before e mid-e kept s.level context active s.unanswered;
       halt = s.halt;
       over = s.over;
@@ -75,8 +75,8 @@ module _ (task : Task) (so_far part : List ℕ) (e mid-e e' : EvaluatorState) (b
     last = subst (λ (m : System). IsLastTaken task m d.level) kept.system d.last;
     level_done = d.level_done;
     settled = d.settled;
-    within = λ k taken beyond. d.within k (subst (λ (m : System). IsTaken task m k) (sym kept.system) taken) (beyond_before mid-e e (rest_back e mid-e kept) k beyond);
-    answered = λ k i x taken u. d.answered k i x (subst (λ (m : System). IsTaken task m k) (sym kept.system) taken) (unanswered_before mid-e e (rest_back e mid-e kept) k i x u);
+    within = λ k taken beyond. d.within k (subst (λ (m : System). TakesLevel task m k) (sym kept.system) taken) (beyond_before mid-e e (rest_back e mid-e kept) k beyond);
+    answered = λ k i x taken u. d.answered k i x (subst (λ (m : System). TakesLevel task m k) (sym kept.system) taken) (unanswered_before mid-e e (rest_back e mid-e kept) k i x u);
   }
 
   pub works_later : mid.notes ≡ before.notes → (r : Result (Unit {0}) WorkStop) → Works task (so_far ++ part) mid-e e' mid now r → Works task so_far e e' before now r
@@ -122,7 +122,7 @@ opening_up_to Equilibria m n same = ap heading (sym same)
 opening_up_to Solve m n same = ap heading (sym same)
 opening_up_to Make m n same = refl
 
-lowest_taken : (task : Task) (m : System) → IsTaken task m 0
+lowest_taken : (task : Task) (m : System) → TakesLevel task m 0
 lowest_taken Equilibria m = refl
 lowest_taken Solve m = inl refl
 lowest_taken Make m = inl refl

@@ -2,7 +2,7 @@
 use Rattle.std.specs.Prelude.{◌≡◌, ℕ, ◌+◌, ◌-◌, ◌<◌, ◌≤◌, Bool, true, false, List, ◌++◌, length, Option, Some}
 use Rattle.mcs_ports.specs.Pieces.{appended}
 use Rattle.mcs_system.specs.Plain.{System}
-use Rattle.mcs_states.specs.Evaluators.{EvaluatorState, IsSettled, IsBeyond, IsUnanswered}
+use Rattle.mcs_states.specs.Evaluators.{EvaluatorState, IsEvaluatorSettled, ExceedsBudget, IsUnanswered}
 use Rattle.mcs_diagnosis.specs.declared.diagnosis.Diagnosis as code
 use Rattle.mcs_diagnosis.specs.Courses.{IsPast}
 use Rattle.mcs_diagnosis.specs.Diagnoses.{AreFoundBelow}
@@ -11,10 +11,10 @@ use Rattle.mcs_work.specs.declared.extent.Extent.{Extent}
 
 -- all levels before this one were done, level 0 always; these are their diagnoses
 pub record IsUnderWay (e : EvaluatorState) (level : ℕ) (ds : List code.Diagnosis) : Type 0 where
-  pub settled : IsSettled e
+  pub settled : IsEvaluatorSettled e
   pub done : e.done ≡ Some (level - 1)
   pub repairs : AreFoundBelow e.system level ds
-  pub within : (k : ℕ) → k ≤ level - 1 → ¬ IsBeyond e k
+  pub within : (k : ℕ) → k ≤ level - 1 → ¬ ExceedsBudget e k
   pub answered : (k i x : ℕ) → k ≤ level - 1 → ¬ IsUnanswered e k i x
   pub not_past : 0 < level → ¬ IsPast e.system (level - 1)
 

@@ -46,10 +46,10 @@ abbrev pub IsLastRepairLevel : System → ℕ → Type 0
 IsLastRepairLevel m level = (IsConsistent m × (level ≡ 0)) ⊎ ((¬ IsConsistent m) × (level ≡ length m.bridges))
 
 -- a level that the task evaluates: the equilibria ask for level 0
-abbrev pub IsTaken : Task → System → ℕ → Type 0
-IsTaken Equilibria m level = level ≡ 0
-IsTaken Solve m level = IsRepairLevel m level
-IsTaken Make m level = IsRepairLevel m level
+abbrev pub TakesLevel : Task → System → ℕ → Type 0
+TakesLevel Equilibria m level = level ≡ 0
+TakesLevel Solve m level = IsRepairLevel m level
+TakesLevel Make m level = IsRepairLevel m level
 
 -- the greatest of them
 abbrev pub IsLastTaken : Task → System → ℕ → Type 0

@@ -3,9 +3,9 @@ use Rattle.std.specs.Prelude.{◌≡◌, ℕ, ◌<◌, ◌≤◌, true, List, �
 use Rattle.mcs_ports.specs.Causes.{Rose}
 use Rattle.mcs_ports.specs.Pieces.{Device, appended}
 use Rattle.mcs_system.specs.Plain.{System}
-use Rattle.mcs_states.specs.Evaluators.{EvaluatorState, KeepsRest, IsSettled, IsBeyond, IsUnanswered}
+use Rattle.mcs_states.specs.Evaluators.{EvaluatorState, KeepsRest, IsEvaluatorSettled, ExceedsBudget, IsUnanswered}
 use Rattle.mcs_states.specs.declared.halt.Halt.TheVariants as halts
-use Rattle.mcs_work.specs.Tasks.{IsTaskText, IsTaskStage, IsTaskUpTo, IsTaken, IsLastTaken}
+use Rattle.mcs_work.specs.Tasks.{IsTaskText, IsTaskStage, IsTaskUpTo, TakesLevel, IsLastTaken}
 use Rattle.mcs_work.specs.declared.task.Task.{Task}
 use Rattle.mcs_work.specs.declared.task.WorkStop.{WorkStop}
 use Rattle.mcs_work.specs.declared.task.WorkStop.TheVariants as stops
@@ -25,15 +25,15 @@ pub record IsDone (task : Task) (so_far : List ℕ) (e e' : EvaluatorState) (bef
   pub level : ℕ
   pub last : IsLastTaken task e.system level
   pub level_done : e'.done ≡ Some level
-  pub settled : IsSettled e'
-  pub within : (k : ℕ) → IsTaken task e.system k → ¬ IsBeyond e k
-  pub answered : (k i x : ℕ) → IsTaken task e.system k → ¬ IsUnanswered e k i x
+  pub settled : IsEvaluatorSettled e'
+  pub within : (k : ℕ) → TakesLevel task e.system k → ¬ ExceedsBudget e k
+  pub answered : (k i x : ℕ) → TakesLevel task e.system k → ¬ IsUnanswered e k i x
 
 -- the level is the least one of the task that has more questions than the budget; with what was written so far, what is printed before it was written
 pub record IsSpent (task : Task) (so_far : List ℕ) (e e' : EvaluatorState) (level : ℕ) (before now : Option (List ℕ)) : Type 0 where
-  pub taken : IsTaken task e.system level
-  pub beyond : IsBeyond e level
-  pub least : (k : ℕ) → k < level → ¬ IsBeyond e k
+  pub taken : TakesLevel task e.system level
+  pub beyond : ExceedsBudget e level
+  pub least : (k : ℕ) → k < level → ¬ ExceedsBudget e k
   pub drawn : ℕ
   pub halt : e'.halt ≡ Some (halts.Spent level drawn)
   pub over : e'.halted ≡ true
@@ -44,7 +44,7 @@ pub record IsSpent (task : Task) (so_far : List ℕ) (e e' : EvaluatorState) (le
 -- a question of a level of the task has no answer
 pub record IsMissing (task : Task) (so_far : List ℕ) (e e' : EvaluatorState) (context active : ℕ) (before now : Option (List ℕ)) : Type 0 where
   pub level : ℕ
-  pub taken : IsTaken task e.system level
+  pub taken : TakesLevel task e.system level
   pub unanswered : IsUnanswered e level context active
   pub halt : e'.halt ≡ Some (halts.Missing context active)
   pub over : e'.halted ≡ true

@@ -9,8 +9,8 @@ use Rattle.mcs_system.specs.Plain.{Name, Formula, Truth, Falsity, Atom, Not, And
 use Rattle.mcs_system.specs.Plain as plain
 use Rattle.mcs_system.specs.Texts.{name_of_context}
 use Rattle.mcs_system.proofs.ValidLemmas.{targets_in_range, reads_in_range}
-use Rattle.mcs_system.specs.Naming.{IsName, AreNames, IsNamedFormula, IsNamedDefault, IsNamedItem, IsNamedRule, IsNamedKb, IsNamedContext, IsNamedBridge, IsNamed}
-use Rattle.mcs_grammar.specs.Written.{Written, Both, Either, Leads, Equals, level, WrittenLiteral, WrittenRead, IsNameWord, IsFormula, IsItem, IsRule, IsKb, IsContext, IsPlace, IsBridge, IsText}
+use Rattle.mcs_system.specs.Naming.{IsName, AreNames, IsNamedFormula, IsNamedDefault, IsNamedItem, IsNamedRule, IsNamedKb, IsNamedContext, IsNamedBridge, IsSystemNamed}
+use Rattle.mcs_grammar.specs.Written.{Written, Both, Either, Leads, Equals, level, WrittenLiteral, WrittenRead, IsNameWord, IsFormula, IsItem, IsRule, IsKb, IsContext, IsPlace, IsWrittenBridge, IsText}
 use Rattle.mcs_writer.proofs.CanonicalWritten.{primary_written, formula_written, with_justs, item_written, literal_written, body_written, has_sign, rule_written, kb_written, context_written, place_written, read_written, bridge_written, canonical_written}
 
 -- ---- names and formulas
@@ -106,10 +106,10 @@ context-right c h = (name-word c.name h.name, kb-right c.kb h.kb)
 abbrev pub IsPlaced : System → Read → Type 0
 IsPlaced m r = (r.context < length m.contexts) × IsNamedFormula r.belief
 
-pub placed-name : (m : System) → IsNamed m → (r : Read) → IsPlaced m r → IsName (name_of_context (slice_get m.contexts r.context))
+pub placed-name : (m : System) → IsSystemNamed m → (r : Read) → IsPlaced m r → IsName (name_of_context (slice_get m.contexts r.context))
 placed-name m named r h = let (c, is) = slice_get_below m.contexts r.context h.0 in rw is ((all_get IsNamedContext m.contexts r.context c named.contexts is).name)
 
-place-right : (m : System) → IsNamed m → (r : Read) → IsPlaced m r → IsPlace (place_written m r)
+place-right : (m : System) → IsSystemNamed m → (r : Read) → IsPlaced m r → IsPlace (place_written m r)
 place-right m named r h = (name-word (name_of_context (slice_get m.contexts r.context)) (placed-name m named r h), primary-right r.belief h.1, primary-level r.belief)
 
 -- a rule whose places are so
@@ -119,7 +119,7 @@ pub record IsPlacedBridge (m : System) (b : Bridge) : Type 0 where
   pub pos : AllByRecursion (IsPlaced m) b.pos
   pub neg : AllByRecursion (IsPlaced m) b.neg
 
-bridge-right : (m : System) → IsNamed m → (b : Bridge) → IsPlacedBridge m b → IsBridge (bridge_written m b)
+bridge-right : (m : System) → IsSystemNamed m → (b : Bridge) → IsPlacedBridge m b → IsWrittenBridge (bridge_written m b)
 bridge-right m named b h = (
   name-word b.name h.name,
   place-right m named (record { context = b.target; belief = b.head }) h.head,
@@ -129,7 +129,7 @@ bridge-right m named b h = (
 )
 
 -- in a valid system with names, each rule is so
-pub all-placed : (m : System) → IsNamed m → IsValid m → AllByRecursion (IsPlacedBridge m) m.bridges
+pub all-placed : (m : System) → IsSystemNamed m → IsValid m → AllByRecursion (IsPlacedBridge m) m.bridges
 all-placed m named valid =
     let n = length m.contexts in
     let In : Read → Type 0 = λ r. r.context < n in
@@ -147,8 +147,8 @@ all-placed m named valid =
     (all_both IsNamedBridge (λ b. Target b × Reads b) m.bridges named.bridges (all_both Target Reads m.bridges (targets_in_range m valid) (reads_in_range m valid)))
 
 -- ---- the whole text
-pub canonical-right : (m : System) → IsNamed m → IsValid m → IsText (canonical_written m)
+pub canonical-right : (m : System) → IsSystemNamed m → IsValid m → IsText (canonical_written m)
 canonical-right m named valid = (
   all_map context_written IsNamedContext IsContext context-right m.contexts named.contexts,
-  all_map (bridge_written m) (IsPlacedBridge m) IsBridge (bridge-right m named) m.bridges (all-placed m named valid),
+  all_map (bridge_written m) (IsPlacedBridge m) IsWrittenBridge (bridge-right m named) m.bridges (all-placed m named valid),
 )

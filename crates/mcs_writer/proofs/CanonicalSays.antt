@@ -16,7 +16,7 @@ use Rattle.mcs_system.specs.Texts.{name_of_context}
 use Rattle.mcs_system.proofs.ValidLemmas.{tests_pass}
 use Rattle.mcs_grammar.specs.Entries.{formula_in}
 use Rattle.mcs_grammar.specs.Saying.{item_in, positive_atoms, negative_atoms, rule_in, kb_in, context_in, SaysPlace, Each, positive_places, negative_places, SaysBridge, names_of, SaysSystem}
-use Rattle.mcs_system.specs.Naming.{IsNamed}
+use Rattle.mcs_system.specs.Naming.{IsSystemNamed}
 use Rattle.mcs_system.specs.Unmarked.{IsPlainRule, IsUnmarked}
 use Rattle.mcs_writer.proofs.CanonicalWritten.{primary_written, formula_written, with_justs, item_written, body_written, rule_written, kb_written, context_written, place_written, reads_written, bridge_written, canonical_written}
 use Rattle.mcs_writer.proofs.CanonicalGrammar.{IsPlaced, IsPlacedBridge, all-placed}
@@ -155,7 +155,7 @@ bridge-said m valid b (h, unmarked) =
     }
 
 -- ---- the whole text
-pub canonical-says : (m : System) → IsNamed m → IsValid m → IsUnmarked m → SaysSystem (canonical_written m) m
+pub canonical-says : (m : System) → IsSystemNamed m → IsValid m → IsUnmarked m → SaysSystem (canonical_written m) m
 canonical-says m named valid unmarked =
     let justified = or_parts (list_any (λ (c : Context). has_unjustified c.kb) m.contexts) (list_any (has_misfit m.contexts) m.bridges) (tests_pass m valid).fitting in
     let Fits : Context → Type 0 = λ c. has_unjustified c.kb ≡ false in

@@ -3,7 +3,7 @@ use Rattle.std.proofs.Common.{Bool, true, false, List, [], ◌∷◌, ◌++◌, 
 use Rattle.mcs_system.specs.Plain.{Name, Formula, Truth, Falsity, Atom, Not, And, Or, Implies, Iff, Default, ProgramRule, Item, Kb, Context, Read, Bridge, System}
 use Rattle.mcs_system.specs.Plain as plain
 use Rattle.mcs_system.specs.Texts.{name_of_context}
-use Rattle.mcs_writer.specs.Canonical.{head_of}
+use Rattle.mcs_writer.specs.Canonical.{head_place}
 use Rattle.mcs_grammar.specs.Written.{Written, True', False', Named, Denied, Grouped, Both, Either, Leads, Equals, WrittenItem, Fact, Rule, WrittenLiteral, WrittenRule, WrittenKb, Classical, DefaultTheory, Program, WrittenContext, WrittenPlace, WrittenRead, WrittenBridge, WrittenText}
 
 -- ---- formulas
@@ -70,7 +70,7 @@ abbrev pub reads_written : System → List Read → List Read → List WrittenRe
 reads_written m pos neg = map (read_written m false) pos ++ map (read_written m true) neg
 
 abbrev pub bridge_written : System → Bridge → WrittenBridge
-bridge_written m b = record { name = b.name; head = place_written m (head_of b); reads = reads_written m b.pos b.neg }
+bridge_written m b = record { name = b.name; head = place_written m (head_place b); reads = reads_written m b.pos b.neg }
 
 -- ---- the whole text
 abbrev pub canonical_written : System → WrittenText

@@ -9,9 +9,9 @@ use Rattle.mcs_system.specs.Texts.{primary, belief_text, name_of_context}
 use Rattle.mcs_text.specs.Separated.{separated, further}
 use Rattle.mcs_system.proofs.ValidLemmas.{tests_pass}
 use Rattle.mcs_tokens.specs.declared.sign.Sign.TheVariants as signs
-use Rattle.mcs_writer.specs.Canonical.{denied, context_text, head_of, if_word, bridge_text, canonical_text}
+use Rattle.mcs_writer.specs.Canonical.{denied, context_text, head_place, if_word, bridge_text, canonical_text}
 use Rattle.mcs_grammar.specs.Entries.{Use, BeginsBridge, NamesBridge, NamesTarget, NamesSource, BeginsBelief, EndsRead, Entry, entry, formula_in, with_first, with_last, whole_entries, place_entries, read_entries, further_read, reads_entries, context_entries, bridge_entries, text_entries}
-use Rattle.mcs_system.specs.Naming.{IsNamedContext, IsNamed}
+use Rattle.mcs_system.specs.Naming.{IsNamedContext, IsSystemNamed}
 use Rattle.mcs_writer.proofs.CanonicalGrammar.{IsPlaced, IsPlacedBridge, placed-name, all-placed}
 use Rattle.mcs_writer.proofs.CanonicalWritten.{primary_written, place_written, read_written, reads_written, bridge_written, context_written, canonical_written}
 use Rattle.mcs_grammar.proofs.Spelled.{no-hyphen, IsSpelled, beside, text-as, entries-as, first-tokens, last-tokens, nothing, one-sign, blank, sign-blank, word-space}
@@ -19,7 +19,7 @@ use Rattle.mcs_writer.proofs.SpelledFormulas.{one-name, primary-no-hyphen, prima
 use Rattle.mcs_writer.proofs.SpelledContexts.{after-comma, further-ends, context-spelled}
 
 -- ---- places
-module _ (m : System) (named : IsNamed m) where
+module _ (m : System) (named : IsSystemNamed m) where
   place-spelled : (role : Use) (r : Read) (next : List ℕ) → IsPlaced m r → EndsWord next → IsSpelled (belief_text m r) (place_entries role (place_written m r)) next
   place-spelled role r next h ends =
       let c = name_of_context (slice_get m.contexts r.context) in
@@ -92,10 +92,10 @@ module _ (m : System) (named : IsNamed m) where
       let reading = reads_entries target w.reads in
       let end = codes ".\n" ++ next in
       let tail = beside (word ++ reads) (codes ".\n") reading (entry (codes ".") [] ∷ []) next (reads-spelled target b.pos b.neg end h.pos h.neg refl) (sign-blank signs.Period [] 10 next refl tt) in
-      let head = beside (belief_text m (head_of b)) ((word ++ reads) ++ codes ".\n") (place_entries (NamesTarget target) w.head) (reading ++ entry (codes ".") [] ∷ []) next
-      (place-spelled (NamesTarget target) (head_of b) _ h.head (ends_regrouped (word ++ reads) (codes ".\n") next (reads-end target b.pos b.neg end refl))) tail in
-      let same : belief_text m (head_of b) ++ ((word ++ reads) ++ codes ".\n") ≡ belief_text m (head_of b) ++ (word ++ (reads ++ codes ".\n")) = ap (λ l. belief_text m (head_of b) ++ l) (append_assoc word reads (codes ".\n")) in
-      let body = belief_text m (head_of b) ++ (word ++ (reads ++ codes ".\n")) in
+      let head = beside (belief_text m (head_place b)) ((word ++ reads) ++ codes ".\n") (place_entries (NamesTarget target) w.head) (reading ++ entry (codes ".") [] ∷ []) next
+      (place-spelled (NamesTarget target) (head_place b) _ h.head (ends_regrouped (word ++ reads) (codes ".\n") next (reads-end target b.pos b.neg end refl))) tail in
+      let same : belief_text m (head_place b) ++ ((word ++ reads) ++ codes ".\n") ≡ belief_text m (head_place b) ++ (word ++ (reads ++ codes ".\n")) = ap (λ l. belief_text m (head_place b) ++ l) (append_assoc word reads (codes ".\n")) in
+      let body = belief_text m (head_place b) ++ (word ++ (reads ++ codes ".\n")) in
       let body_entries = place_entries (NamesTarget target) w.head ++ (reading ++ entry (codes ".") [] ∷ []) in
       let colon = beside (codes ": ") body (entry (codes ":") [] ∷ []) body_entries next (sign-blank signs.Colon [] 32 (body ++ next) refl (no-hyphen 32 _ (λ e. omega arith))) (text-as _ body body_entries next same head) in
       let name = beside b.name (codes ": " ++ body) (entry b.name (NamesBridge b.name ∷ []) ∷ []) (entry (codes ":") [] ∷ body_entries) next (one-name b.name (NamesBridge b.name ∷ []) _ h.name refl) colon in
@@ -111,7 +111,7 @@ all-spelled text written entries P each (x ∷ xs) next h = beside (text x) (fla
 abbrev IsFit : Context → Type 0
 IsFit c = IsNamedContext c × (has_unjustified c.kb ≡ false)
 
-all-fit : (m : System) → IsNamed m → IsValid m → AllByRecursion IsFit m.contexts
+all-fit : (m : System) → IsSystemNamed m → IsValid m → AllByRecursion IsFit m.contexts
 all-fit m named valid =
     let Fits : Context → Type 0 = λ c. has_unjustified c.kb ≡ false in
     all_both IsNamedContext Fits m.contexts named.contexts (all_from_no_any Fits (λ (c : Context). has_unjustified c.kb) (λ c e. e) m.contexts (first (list_any (λ (c : Context). has_unjustified c.kb) m.contexts) _ (tests_pass m valid).fitting))
@@ -120,7 +120,7 @@ all-fit m named valid =
     first true b e = absurd (true≢false e)
     first false b e = refl
 
-pub canonical-spelled : (m : System) → IsNamed m → IsValid m → IsSpelled (canonical_text m) (text_entries (canonical_written m)) []
+pub canonical-spelled : (m : System) → IsSystemNamed m → IsValid m → IsSpelled (canonical_text m) (text_entries (canonical_written m)) []
 canonical-spelled m named valid =
     beside (flat_map context_text m.contexts) (flat_map (bridge_text m) m.bridges) (flat_map context_entries (map context_written m.contexts)) (flat_map bridge_entries (map (bridge_written m) m.bridges)) []
     (all-spelled context_text context_written context_entries IsFit (λ c next h. context-spelled c next h.0 h.1) m.contexts _ (all-fit m named valid))

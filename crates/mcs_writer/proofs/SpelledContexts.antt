@@ -9,7 +9,7 @@ use Rattle.mcs_system.specs.Plain.{Name, Formula, Default, ProgramRule, Item, Kb
 use Rattle.mcs_system.specs.Plain as plain
 use Rattle.mcs_text.specs.Separated.{separated, further}
 use Rattle.mcs_tokens.specs.declared.sign.Sign.TheVariants as signs
-use Rattle.mcs_writer.specs.Canonical.{formula_text, theory_item_text, denied, further_by, listed, rule_sign, program_rule_text, kind_word, item_line, items_text, context_text}
+use Rattle.mcs_writer.specs.Canonical.{formula_text, theory_item_text, denied, further_by, joined_by, rule_sign, program_rule_text, kind_word, item_line, items_text, context_text}
 use Rattle.mcs_grammar.specs.Entries.{Use, AtomOf, BeginsContext, NamesContext, SaysProgram, BeginsItem, BeginsDefault, IsNumber, Entry, entry, with_first, whole_entries, after_sign, item_entries, atom_entry, further_heads, head_entries, optional, literal_entries, further_literals, body_entries, rule_entries, ended, kb_entries, context_entries}
 use Rattle.mcs_system.specs.Naming.{IsName, AreNames, IsNamedFormula, IsNamedDefault, IsNamedItem, IsNamedRule, IsNamedKb, IsNamedContext}
 use Rattle.mcs_writer.proofs.CanonicalWritten.{formula_written, with_justs, item_written, literal_written, body_written, has_sign, rule_written, kb_written, context_written}
@@ -112,7 +112,7 @@ further-names c n (a ∷ ns) next h ends =
     let bar = beside (codes " | ") a (entry (codes "|") [] ∷ []) (atom_entry c (n + 1) a ∷ []) (rest ++ next) (blank-sign-blank signs.Bar [] 32 (a ++ (rest ++ next)) refl tt) one in
     beside (codes " | " ++ a) rest (entry (codes "|") [] ∷ atom_entry c (n + 1) a ∷ []) (further_heads c (n + 1) ns) next bar (further-names c (n + 1) ns next h.1 ends)
 
-head-spelled : (c : Name) (a : Name) (ns : List Name) (next : List ℕ) → AreNames (a ∷ ns) → EndsWord next → IsSpelled (listed (codes " | ") true (a ∷ ns)) (head_entries c (a ∷ ns)) next
+head-spelled : (c : Name) (a : Name) (ns : List Name) (next : List ℕ) → AreNames (a ∷ ns) → EndsWord next → IsSpelled (joined_by (codes " | ") true (a ∷ ns)) (head_entries c (a ∷ ns)) next
 head-spelled c a ns next h ends =
     let rest = further_by (codes " | ") ns in
     beside a rest (atom_entry c 1 a ∷ []) (further_heads c 1 ns) next (one-name a (AtomOf c a ∷ IsNumber 1 ∷ []) (rest ++ next) h.0 (heads-end ns next ends)) (further-names c 1 ns next h.1 ends)
@@ -148,9 +148,9 @@ signed-ends a ns [] (m ∷ ms) next ends = refl
 signed-ends a ns (p ∷ ps) neg next ends = refl
 
 parts-spelled : (c : Name) (head pos neg : List Name) (next : List ℕ) → AreNames head → AreNames pos → AreNames neg → EndsWord next
-    → IsSpelled (listed (codes " | ") true head ++ signed head pos neg) (head_entries c head ++ signed_entries c (length head) head pos neg) next
+    → IsSpelled (joined_by (codes " | ") true head ++ signed head pos neg) (head_entries c head ++ signed_entries c (length head) head pos neg) next
 parts-spelled c [] pos neg next g h k ends = signed-spelled c 0 [] pos neg next h k ends
-parts-spelled c (a ∷ ns) pos neg next g h k ends = beside (listed (codes " | ") true (a ∷ ns)) (signed (a ∷ ns) pos neg) (head_entries c (a ∷ ns)) (signed_entries c (length (a ∷ ns)) (a ∷ ns) pos neg) next
+parts-spelled c (a ∷ ns) pos neg next g h k ends = beside (joined_by (codes " | ") true (a ∷ ns)) (signed (a ∷ ns) pos neg) (head_entries c (a ∷ ns)) (signed_entries c (length (a ∷ ns)) (a ∷ ns) pos neg) next
     (head-spelled c a ns (signed (a ∷ ns) pos neg ++ next) g (signed-ends a ns pos neg next ends)) (signed-spelled c (length (a ∷ ns)) (a ∷ ns) pos neg next h k ends)
 
 rule-spelled : (c : Name) (r : ProgramRule) (next : List ℕ) → IsNamedRule r → EndsWord next → IsSpelled (program_rule_text r) (rule_entries c (rule_written r)) next

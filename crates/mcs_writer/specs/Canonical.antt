@@ -39,10 +39,10 @@ abbrev pub further_by : List ℕ → List (List ℕ) → List ℕ
 further_by separator texts = flat_map (λ t. separator ++ t) texts
 
 -- the separator between them, and before the first one too if it is not the first of all
-abbrev pub listed : List ℕ → Bool → List (List ℕ) → List ℕ
-listed separator true [] = []
-listed separator true (t ∷ ts) = t ++ further_by separator ts
-listed separator false texts = further_by separator texts
+abbrev pub joined_by : List ℕ → Bool → List (List ℕ) → List ℕ
+joined_by separator true [] = []
+joined_by separator true (t ∷ ts) = t ++ further_by separator ts
+joined_by separator false texts = further_by separator texts
 
 -- ---- program rules
 
@@ -62,7 +62,7 @@ rule_sign (n ∷ ns) (l ∷ ls) = codes " :- "
 
 -- HEAD :- BODY
 abbrev pub program_rule_text : ProgramRule → List ℕ
-program_rule_text r = listed (codes " | ") true r.head ++ (rule_sign r.head (r.pos ++ r.neg) ++ separated (literal_texts r))
+program_rule_text r = joined_by (codes " | ") true r.head ++ (rule_sign r.head (r.pos ++ r.neg) ++ separated (literal_texts r))
 
 -- ---- contexts
 
@@ -88,8 +88,8 @@ context_text c = codes "context " ++ (c.name ++ (codes " " ++ (kind_word c.kb ++
 
 -- ---- bridge rules
 
-abbrev pub head_of : Bridge → Read
-head_of b = record { context = b.target; belief = b.head }
+abbrev pub head_place : Bridge → Read
+head_place b = record { context = b.target; belief = b.head }
 
 -- the positive reads first
 abbrev pub read_texts : System → Bridge → List (List ℕ)
@@ -102,7 +102,7 @@ if_word (r ∷ rs) = codes " if "
 
 -- bridge NAME: HEAD if READS.
 abbrev pub bridge_text : System → Bridge → List ℕ
-bridge_text m b = codes "bridge " ++ (b.name ++ (codes ": " ++ (belief_text m (head_of b) ++ (if_word (reads_of b) ++ (separated (read_texts m b) ++ codes ".\n")))))
+bridge_text m b = codes "bridge " ++ (b.name ++ (codes ": " ++ (belief_text m (head_place b) ++ (if_word (reads_of b) ++ (separated (read_texts m b) ++ codes ".\n")))))
 
 -- ---- the whole text
 abbrev pub canonical_text : System → List ℕ

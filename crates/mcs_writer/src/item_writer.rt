@@ -2,9 +2,9 @@
 
 ghost use Rattle.std.specs.Prelude.{◌≡◌, ◌++◌, true, not, nat_eq, length, map, codes, OnOk};
 ghost use Rattle.mcs_system.specs.Seen.{formula_of, default_of, item_of, rule_of};
-ghost use Rattle.mcs_system.specs.Texts.{primary, sign_of};
+ghost use Rattle.mcs_system.specs.Texts.{primary, operator_sign};
 ghost use Rattle.mcs_text.specs.Separated.{separated};
-ghost use Rattle.mcs_writer.specs.Canonical.{formula_text, default_text, theory_item_text, listed, rule_sign, program_rule_text};
+ghost use Rattle.mcs_writer.specs.Canonical.{formula_text, default_text, theory_item_text, joined_by, rule_sign, program_rule_text};
 
 use mcs_base::{Memory, Text};
 use mcs_system::{Default, Formula, Name, ProgRule, TheoryItem};
@@ -12,7 +12,7 @@ use mcs_text::push_separator;
 
 /// The binary connective of a formula with a space on each side; empty for any other formula.
 fn sign(f: &Formula) -> &'static [u8]
-    ensures { result.now ≡ sign_of (formula_of f.now) }
+    ensures { result.now ≡ operator_sign (formula_of f.now) }
 {
     match f {
         Formula::And(_, _) => b" & ",
@@ -95,7 +95,7 @@ pub(crate) fn push_theory_item(text: &mut Text, item: &TheoryItem) -> Result<(),
 
 /// Appends the names of a head, separated by bars.
 fn push_head(text: &mut Text, head: &[Name]) -> Result<(), Memory>
-    ensures { OnOk result (text.new ≡ text.old ++ listed (codes " | ") true head.now) }
+    ensures { OnOk result (text.new ≡ text.old ++ joined_by (codes " | ") true head.now) }
 {
     let mut is_first = true;
     for name in head {
@@ -109,7 +109,7 @@ fn push_head(text: &mut Text, head: &[Name]) -> Result<(), Memory>
 /// Appends a literal for each of these atoms, with the word before it. `is_first` says whether they are the first of
 /// the body or follow others.
 fn push_literals(text: &mut Text, is_first: bool, word: &[u8], atoms: &[Name]) -> Result<(), Memory>
-    ensures { OnOk result (text.new ≡ text.old ++ listed (codes ", ") is_first (map (λ a. word.now ++ a) atoms.now)) }
+    ensures { OnOk result (text.new ≡ text.old ++ joined_by (codes ", ") is_first (map (λ a. word.now ++ a) atoms.now)) }
 {
     let mut is_first = is_first;
     for atom in atoms {

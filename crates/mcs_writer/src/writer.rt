@@ -6,7 +6,7 @@ ghost use Rattle.mcs_system.specs.Faults.{reads_of};
 ghost use Rattle.mcs_system.specs.Plain as plain;
 ghost use Rattle.mcs_system.specs.Seen.{formula_of, item_of, rule_of, kb_of, context_of, read_of, bridge_of};
 ghost use Rattle.mcs_system.specs.Texts.{belief_text};
-ghost use Rattle.mcs_writer.specs.Canonical.{formula_text, theory_item_text, listed, program_rule_text, kind_word, item_line, items_text, context_text, if_word, bridge_text, canonical_text};
+ghost use Rattle.mcs_writer.specs.Canonical.{formula_text, theory_item_text, joined_by, program_rule_text, kind_word, item_line, items_text, context_text, if_word, bridge_text, canonical_text};
 
 use crate::item_writer::{push_formula, push_primary, push_program_rule, push_theory_item};
 use mcs_base::{Memory, Text};
@@ -121,7 +121,7 @@ fn push_reads(
     reads: &[Read],
 ) -> Result<(), Memory>
     requires { AllByRecursion (λ (r : plain.Read). r.context < length system.now.contexts) (map read_of reads.now) }
-    ensures { OnOk result (text.new ≡ text.old ++ listed (codes ", ") is_first (map (λ r. word.now ++ belief_text system.now r) (map read_of reads.now))) }
+    ensures { OnOk result (text.new ≡ text.old ++ joined_by (codes ", ") is_first (map (λ r. word.now ++ belief_text system.now r) (map read_of reads.now))) }
 {
     let mut is_first = is_first;
     for read in reads {

@@ -3,7 +3,7 @@ use Rattle.std.proofs.lemmas.List.{length-map}
 use Rattle.mcs_system.specs.Plain.{Formula}
 use Rattle.mcs_system.specs.Seen.{default_of, formula_of}
 use Rattle.mcs_evidence.specs.Defaults.{verdict_of}
-use Rattle.mcs_certificate.specs.Checks.{IsJudged}
+use Rattle.mcs_certificate.specs.Checks.{IsVerdictJudged}
 use Rattle.mcs_certificate.specs.declared.verdict.Judged.{Judged}
 use Rattle.mcs_certificate.proofs.JudgingLemmas.{judged_none, judged_passed, judged_shows, judged_refused, judged_short, judged_all}
 use Rattle.mcs_certificate.proofs.default.judge_all.Goals.{in-Passed, in-Shows+in_ok-push-in-Shows}
@@ -25,8 +25,8 @@ returns-in-Refused c items same facts = λ views. (
     let beliefs : List Formula = map (λ b. formula_of b.now) c.args.beliefs.now in
     let n = c.loop-number.number in
     let v = c.index-verdicts-number.result in
-    let told = subst (λ (j : Judged). IsJudged c.args.atoms.now items beliefs n (verdict_of v) j) c.in-Refused.is
-    (subst (λ (s : ℕ). IsJudged c.args.atoms.now items beliefs s (verdict_of v) c.in_ok-judged.judged) c.numbered-set.ensures (c.in_ok-judged.ensures.exact items same facts)) in
+    let told = subst (λ (j : Judged). IsVerdictJudged c.args.atoms.now items beliefs n (verdict_of v) j) c.in-Refused.is
+    (subst (λ (s : ℕ). IsVerdictJudged c.args.atoms.now items beliefs s (verdict_of v) c.in_ok-judged.judged) c.numbered-set.ensures (c.in_ok-judged.ensures.exact items same facts)) in
     judged_refused c.args.atoms.now items beliefs c.args.verdicts.now n v c.loop-number-test.true c.index-verdicts-number.is views told)
 
 pub loop-number-preserved : goal.loop-number-preserved
@@ -38,15 +38,15 @@ loop-number-preserved c =
       | in-Passed w ↦ rw w.views-is (record {
         kept = c.in_ok-judged.ensures.kept ∙ c.loop-number.invariant.kept;
         judged = λ items same facts. judged_passed c.args.atoms.now items beliefs c.args.verdicts.now n v c.loop-number-test.true c.index-verdicts-number.is c.loop-number.views.items (c.loop-number.invariant.judged items same facts)
-            (subst (λ (j : Judged). IsJudged c.args.atoms.now items beliefs n (verdict_of v) j) w.in-Passed.is
-            (subst (λ (s : ℕ). IsJudged c.args.atoms.now items beliefs s (verdict_of v) c.in_ok-judged.judged) c.numbered-set.ensures (c.in_ok-judged.ensures.exact items same facts)));
+            (subst (λ (j : Judged). IsVerdictJudged c.args.atoms.now items beliefs n (verdict_of v) j) w.in-Passed.is
+            (subst (λ (s : ℕ). IsVerdictJudged c.args.atoms.now items beliefs s (verdict_of v) c.in_ok-judged.judged) c.numbered-set.ensures (c.in_ok-judged.ensures.exact items same facts)));
       })
       | in-Shows+in_ok-push-in-Shows w ↦ rw w.views-is (record {
         kept = c.in_ok-judged.ensures.kept ∙ c.loop-number.invariant.kept;
         judged = λ items same facts. judged_shows c.args.atoms.now items beliefs c.args.verdicts.now n v c.loop-number-test.true c.index-verdicts-number.is c.loop-number.views.items w.push.new.self.items w.in-Shows.view (c.loop-number.invariant.judged items same facts)
             w.in_ok-push-in-Shows.ensures.items
-            (subst (λ (j : Judged). IsJudged c.args.atoms.now items beliefs n (verdict_of v) j) w.in-Shows.is
-            (subst (λ (s : ℕ). IsJudged c.args.atoms.now items beliefs s (verdict_of v) c.in_ok-judged.judged) c.numbered-set.ensures (c.in_ok-judged.ensures.exact items same facts)));
+            (subst (λ (j : Judged). IsVerdictJudged c.args.atoms.now items beliefs n (verdict_of v) j) w.in-Shows.is
+            (subst (λ (s : ℕ). IsVerdictJudged c.args.atoms.now items beliefs s (verdict_of v) c.in_ok-judged.judged) c.numbered-set.ensures (c.in_ok-judged.ensures.exact items same facts)));
       })
     ]
 

@@ -9,7 +9,7 @@ use Rattle.std.specs.List.{range_with_len}
 use Rattle.mcs_system.specs.Faults.{IsValid}
 use Rattle.mcs_system.specs.Plain.{System}
 use Rattle.mcs_states.specs.Oracles.{OracleState}
-use Rattle.mcs_check.specs.Certified.{AreRight, certified_of, sets_of}
+use Rattle.mcs_check.specs.Certified.{AreAcceptedAnswers, certified_of, sets_of}
 use Rattle.mcs_check.specs.Answers.{oracle_for}
 use Rattle.mcs_check.proofs.OwnAnswers.{own_sets, own_right, own_in_order}
 use Rattle.mcs_check.proofs.SortedAnswers.{same_answers, all_within}
@@ -48,8 +48,8 @@ new-requires-clause-right c =
     let i = length c.loop-own.yielded in
     let own = c.in-Some.own.items in
     let valid = subst (λ (m : System). IsValid m) c.deref.ensures c.contexts.ensures.valid in
-    subst (λ (n : System). AreRight n c.len-context.result own) (sym c.in_ok-shared.ensures.cases)
-    (subst (λ (k : ℕ). AreRight m k own) (sym (number c))
+    subst (λ (n : System). AreAcceptedAnswers n c.len-context.result own) (sym c.in_ok-shared.ensures.cases)
+    (subst (λ (k : ℕ). AreAcceptedAnswers m k own) (sym (number c))
     (own_right m i h.answers own (c.in_ok-lists.ensures.own i c.in-Some.own (own_there c).1 ∙ same_answers m i h.first_line h.answers c.args.answers.items h.stand_for) valid h.right))
 
 pub new-requires-clause-ascending : goal.new-requires-clause-ascending

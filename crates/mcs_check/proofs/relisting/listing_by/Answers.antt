@@ -5,7 +5,7 @@ use Rattle.mcs_base.proofs.Lists.{map_slice_get}
 use Rattle.mcs_system.specs.Plain.{System}
 use Rattle.mcs_states.specs.Evaluators.{EvaluatorState}
 use Rattle.mcs_states.specs.Oracles.{OracleState}
-use Rattle.mcs_mesh.specs.Rounds.{state_of}
+use Rattle.mcs_mesh.specs.Rounds.{evaluator_state_of}
 use Rattle.mcs_ports.specs.Pieces.{Device}
 use Rattle.mcs_work.specs.Work.{IsDone, HasStopped}
 use Rattle.mcs_work.specs.declared.task.Task.TheVariants.{Solve}
@@ -14,7 +14,7 @@ use Rattle.mcs_check.proofs.RelistingLemmas.{start_of, told_listing, told_stop, 
 use Rattle.mcs_check.proofs.relisting.listing_by.Goals as goal
 
 -- the evaluator that is made
-made : (m n : System) (os : List OracleState) (e : EvaluatorState) → e ≡ state_of n 4294967295 None None (map (λ (o : OracleState). o) os) → n ≡ m → e ≡ start_of m os
+made : (m n : System) (os : List OracleState) (e : EvaluatorState) → e ≡ evaluator_state_of n 4294967295 None None (map (λ (o : OracleState). o) os) → n ≡ m → e ≡ start_of m os
 made m n os e is same = is ∙ ap (λ (k : System). start_of k (map (λ (o : OracleState). o) os)) same ∙ ap (start_of m) (map-id os)
 
 pub new-requires-2-clause-own : goal.new-requires-2-clause-own

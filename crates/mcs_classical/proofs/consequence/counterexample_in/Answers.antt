@@ -3,7 +3,7 @@ use Rattle.std.specs.List.{AllByRecursion}
 use Rattle.mcs_system.specs.Plain.{Not}
 use Rattle.mcs_system.specs.Seen.{formula_of}
 use Rattle.mcs_trace.specs.Clauses.{ClauseList, IsUnsatisfiable, IsWithin}
-use Rattle.mcs_sat.specs.Answers.{IsSettled}
+use Rattle.mcs_sat.specs.Answers.{IsSettledAnswer}
 use Rattle.mcs_cnf.proofs.EntailmentLemmas.{refutation}
 use Rattle.mcs_cnf.proofs.GrowingLemmas.{grown_within, grown_fewer}
 use Rattle.mcs_classical.proofs.RefutingLemmas.{answer_no, with_goal}
@@ -11,7 +11,7 @@ use Rattle.mcs_classical.proofs.consequence.counterexample_in.Goals as goal
 
 pub true_places-requires-clause-values : goal.true_places-requires-clause-values
 true_places-requires-clause-values c =
-    let settled : IsSettled c.push_goal.new.known (Some c.in-Some.values) = subst (IsSettled c.push_goal.new.known) c.in-Some.is c.in_ok-values.ensures.exact in
+    let settled : IsSettledAnswer c.push_goal.new.known (Some c.in-Some.values) = subst (IsSettledAnswer c.push_goal.new.known) c.in-Some.is c.in_ok-values.ensures.exact in
     let known : c.args.known.now.vars ≤ c.push_goal.new.known.vars = grown_fewer c.args.atoms.now c.args.known.now c.push_goal.new.known ((Not (formula_of c.args.goal.now)) ∷ [], c.in_ok-push_goal.ensures.ok) in
     omega (arith, settled.0)
 
@@ -31,13 +31,13 @@ cut-requires-clause-within c =
 pub returns-in-Some-clause-exact : goal.returns-in-Some-clause-exact
 returns-in-Some-clause-exact c = λ fs is over.
     let f = c.push_goal.new.known in
-    let settled : IsSettled f (Some c.in-Some.values) = subst (IsSettled f) c.in-Some.is c.in_ok-values.ensures.exact in
+    let settled : IsSettledAnswer f (Some c.in-Some.values) = subst (IsSettledAnswer f) c.in-Some.is c.in_ok-values.ensures.exact in
     answer_no fs (formula_of c.args.goal.now) c.args.atoms.now c.args.known.now f c.in-Some.values.items c.deref.result.now c.true_places.result is c.in_ok-push_goal.ensures.ok c.requires.different over c.requires.goal settled.1 c.deref.ensures.value c.true_places.ensures
 
 pub returns-in-None-clause-exact : goal.returns-in-None-clause-exact
 returns-in-None-clause-exact c = λ fs is over.
     let f = c.push_goal.new.known in
-    let settled : IsSettled f None = subst (IsSettled f) c.in-None.is c.in_ok-values.ensures.exact in
+    let settled : IsSettledAnswer f None = subst (IsSettledAnswer f) c.in-None.is c.in_ok-values.ensures.exact in
     let none : IsUnsatisfiable f.clauses = settled in
     (refutation fs (formula_of c.args.goal.now) c.args.atoms.now over c.requires.goal).1
     (subst (λ (x : ClauseList). IsUnsatisfiable x.clauses) (with_goal fs (formula_of c.args.goal.now) c.args.atoms.now c.args.known.now f is c.in_ok-push_goal.ensures.ok) none)

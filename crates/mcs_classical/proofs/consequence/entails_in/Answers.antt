@@ -6,7 +6,7 @@ use Rattle.mcs_trace.specs.Clauses.{IsWithin}
 use Rattle.mcs_trace.specs.Traces.{inferences_of}
 use Rattle.mcs_trace.specs.declared.certificate.Entail.TheVariants as entail
 use Rattle.mcs_sat.specs.declared.outcome.Outcome.{Outcome}
-use Rattle.mcs_sat.specs.Answers.{IsAnswer}
+use Rattle.mcs_sat.specs.Answers.{IsSatAnswer}
 use Rattle.mcs_cnf.specs.Entailments.{entailment_of}
 use Rattle.mcs_cnf.proofs.EntailmentLemmas.{sound}
 use Rattle.mcs_classical.proofs.RefutingLemmas.{answer_yes, answer_no}
@@ -15,7 +15,7 @@ use Rattle.mcs_classical.proofs.consequence.entails_in.Goals as goal
 
 pub true_places-requires-clause-values : goal.true_places-requires-clause-values
 true_places-requires-clause-values c =
-    let answer : IsAnswer c.push_goal.new.known (Outcome.Model c.in-Model.values) = subst (IsAnswer c.push_goal.new.known) c.in-Model.is c.in_ok-trace.ensures.answer in
+    let answer : IsSatAnswer c.push_goal.new.known (Outcome.Model c.in-Model.values) = subst (IsSatAnswer c.push_goal.new.known) c.in-Model.is c.in_ok-trace.ensures.answer in
     let known : c.args.known.now.vars ≤ c.push_goal.new.known.vars = grown_fewer c.args.atoms.now c.args.known.now c.push_goal.new.known ((Not (formula_of c.args.goal.now)) ∷ [], c.in_ok-push_goal.ensures.ok) in
     omega (arith, answer.0)
 
@@ -35,7 +35,7 @@ cut-requires-clause-within c =
 pub returns-in-Refuted-clause-accepted : goal.returns-in-Refuted-clause-accepted
 returns-in-Refuted-clause-accepted c = λ fs is over.
     let f = c.push_goal.new.known in
-    let answer : IsAnswer f (Outcome.Refuted c.in-Refuted.trace) = subst (IsAnswer f) c.in-Refuted.is c.in_ok-trace.ensures.answer in
+    let answer : IsSatAnswer f (Outcome.Refuted c.in-Refuted.trace) = subst (IsSatAnswer f) c.in-Refuted.is c.in_ok-trace.ensures.answer in
     answer_yes fs (formula_of c.args.goal.now) c.args.atoms.now c.args.known.now f (inferences_of c.in-Refuted.trace) is c.in_ok-push_goal.ensures.ok answer
 
 pub returns-in-Refuted-clause-exact : goal.returns-in-Refuted-clause-exact
@@ -44,7 +44,7 @@ returns-in-Refuted-clause-exact c = λ fs is over. sound fs (formula_of c.args.g
 pub returns-in-Model-clause-accepted : goal.returns-in-Model-clause-accepted
 returns-in-Model-clause-accepted c = λ fs is over.
     let f = c.push_goal.new.known in
-    let answer : IsAnswer f (Outcome.Model c.in-Model.values) = subst (IsAnswer f) c.in-Model.is c.in_ok-trace.ensures.answer in
+    let answer : IsSatAnswer f (Outcome.Model c.in-Model.values) = subst (IsSatAnswer f) c.in-Model.is c.in_ok-trace.ensures.answer in
     answer_no fs (formula_of c.args.goal.now) c.args.atoms.now c.args.known.now f c.in-Model.values.items c.deref.result.now c.number.result is c.in_ok-push_goal.ensures.ok c.requires.different over c.requires.goal answer.1 c.deref.ensures.value (c.number.ensures ∙ c.true_places.ensures)
 
 pub returns-in-Model-clause-exact : goal.returns-in-Model-clause-exact

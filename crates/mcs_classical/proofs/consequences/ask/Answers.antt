@@ -9,7 +9,7 @@ use Rattle.mcs_system.specs.Logic.{true_names}
 use Rattle.mcs_system.specs.declared.formula.Formula as code
 use Rattle.mcs_system.specs.Seen.{formula_of}
 use Rattle.mcs_cnf.specs.Entailments.{IsRefuted}
-use Rattle.mcs_classical.specs.Consequences.{holds_goal, with_assumed, IsUpper}
+use Rattle.mcs_classical.specs.Consequences.{holds_goal, with_assumed, IsUpperConsequence}
 use Rattle.mcs_classical.specs.Models.{IsCounterexample}
 use Rattle.mcs_classical.specs.declared.bounds.Upper.{Upper}
 use Rattle.mcs_classical.proofs.AddingLemmas.{over_at}
@@ -44,5 +44,5 @@ returns-in_ok-push-in-Some-clause-right c fs set is over all =
     let g = formula_of c.index-goals-place.result.now in
     let u : Upper = record { assumed = c.holding-assumed.result; possible = c.goals_holding-possible.result } in
     let refuted : IsRefuted c.args.atoms.now (with_assumed fs xs set) g c.in-Some.values = subst (IsCounterexample c.args.atoms.now (with_assumed fs xs set) g) c.in-Some.is (c.in_ok-counterexample_in.ensures.exact (with_assumed fs xs set) is over) in
-    subst (λ (us : List Upper). AllByRecursion (IsUpper fs xs gs) us) (sym c.in_ok-push-in-Some.ensures.items)
-    (all_push (IsUpper fs xs gs) c.args.upper.now.items u all (model_upper c.args.atoms.now fs xs gs set c.in-Some.values g u refuted c.holding-assumed.ensures.each (counted c.args.atoms.now c.args.goals.now c.in-Some.values c.goals_holding-possible.result c.goals_holding-possible.ensures)))
+    subst (λ (us : List Upper). AllByRecursion (IsUpperConsequence fs xs gs) us) (sym c.in_ok-push-in-Some.ensures.items)
+    (all_push (IsUpperConsequence fs xs gs) c.args.upper.now.items u all (model_upper c.args.atoms.now fs xs gs set c.in-Some.values g u refuted c.holding-assumed.ensures.each (counted c.args.atoms.now c.args.goals.now c.in-Some.values c.goals_holding-possible.result c.goals_holding-possible.ensures)))

@@ -10,10 +10,10 @@ use Rattle.mcs_cnf.specs.Entailments.{entailment_of}
 use Rattle.std.proofs.lemmas.List.{map_push, length-map}
 use Rattle.mcs_base.proofs.Mapped.{image_each_at}
 use Rattle.mcs_base.proofs.SetParts.{minus_is_less, minus_below}
-use Rattle.mcs_evidence.specs.Defaults.{IsShown, AreDenied}
+use Rattle.mcs_evidence.specs.Defaults.{IsEntailmentShown, AreDenied}
 use Rattle.mcs_default.specs.Theories.{consequents}
 use Rattle.mcs_evidence.specs.Theories.{IsOverDefault}
-use Rattle.mcs_default.specs.Told.{IsToldNext, IsNextInRange, AreNumbersOf, prerequisites}
+use Rattle.mcs_default.specs.Told.{IsToldNext, IsNextInRange, AreDefaultNumbers, prerequisites}
 use Rattle.mcs_cnf.proofs.GrowingLemmas.{grown_room, none-with, grown_more}
 use Rattle.mcs_default.proofs.OrderLemmas.{numbers-none, numbers-more, derived-start, derived-more, derived-all, same_default, stuck}
 use Rattle.mcs_default.proofs.grounding.ask_order.Goals as goal
@@ -62,7 +62,7 @@ loop-alloc-preserved c =
       derived = λ fs is. (let derived = before.derived fs is in
           let at : slice_get (map (λ d. default_of d.now) c.args.defaults.now) k ≡ Some d = slice_get-map_at (λ d. default_of d.now) c.args.defaults.now k c.index-defaults-index.result found.0 in
           let told = subst (IsToldNext names derived.formulas (map (λ d. default_of d.now) c.args.defaults.now) left) c.in-Supported.is (c.in_ok-index.ensures.told derived.formulas derived.clauses) in
-          let shown = subst (λ (d' : Default). IsShown names derived.formulas d'.pre (entailment_of c.in-Supported.pre)) (same_default (map (λ d. default_of d.now) c.args.defaults.now) k told.0 d told.1 at) told.2 in
+          let shown = subst (λ (d' : Default). IsEntailmentShown names derived.formulas d'.pre (entailment_of c.in-Supported.pre)) (same_default (map (λ d. default_of d.now) c.args.defaults.now) k told.0 d told.1 at) told.2 in
           derived-more names fs (map (λ d. default_of d.now) c.args.defaults.now) set left k d c.loop-alloc.order.items c.push-in-Supported.new.self.items (map entailment_of c.loop-alloc.pres.items) (map entailment_of c.push.new.self.items) (entailment_of c.in-Supported.pre) c.loop-alloc.known c.push_formula.new.cnf
           at (image_each_at (IsOverDefault names) (λ d. default_of d.now) c.args.defaults.now k c.index-defaults-index.result found.0 c.requires.over).2 c.in_ok-push-in-Supported-2.ensures.items
           (ap (map entailment_of) c.in_ok-push-in-Supported.ensures.items ∙ map_push entailment_of c.loop-alloc.pres.items c.in-Supported.pre) pushed derived shown);
@@ -94,6 +94,6 @@ returns-clause-told c fs is =
     let set = c.args.set in
     let none : c.loop-alloc.left ≡ 0 = none_from_size c.loop-alloc.left (omega (arith, c.count.ensures.number, c.loop-alloc-test.false)) in
     let all : minus set c.loop-alloc.left ≡ set = ap (minus set) none ∙ minus-none set in (
-      subst (λ (s : ℕ). AreNumbersOf s c.loop-alloc.order.items) all c.loop-alloc.invariant.numbers,
+      subst (λ (s : ℕ). AreDefaultNumbers s c.loop-alloc.order.items) all c.loop-alloc.invariant.numbers,
       λ items same. derived-all c.args.atoms.now fs (map (λ d. default_of d.now) c.args.defaults.now) (minus set c.loop-alloc.left) c.loop-alloc.order.items (map entailment_of c.loop-alloc.pres.items) c.loop-alloc.known (c.loop-alloc.invariant.derived fs is) items same,
     )

@@ -7,7 +7,7 @@ use Rattle.mcs_trace.specs.Clauses.{ClauseList}
 use Rattle.mcs_evidence.specs.Defaults.{Verdict, verdict_of, IsAcceptedDefault}
 use Rattle.mcs_default.specs.Theories.{AreParts, with_view}
 use Rattle.mcs_evidence.specs.Theories.{all_of}
-use Rattle.mcs_default.specs.Told.{IsJudged}
+use Rattle.mcs_default.specs.Told.{IsSetJudged}
 use Rattle.mcs_default.proofs.JudgeLemmas.{AreJudged, judged-none, judged-more, judged-all, numbered_within}
 use Rattle.mcs_default.proofs.listing.judge_all.Goals as goal
 
@@ -33,7 +33,7 @@ loop-number-preserved c =
     record {
       kept = c.in_ok-judged.ensures.kept ∙ c.loop-number.invariant.kept;
       judged = λ items parts.
-          (let verdict = subst (λ (s : ℕ). IsJudged names items beliefs s judged) c.numbered-set.ensures (c.in_ok-judged.ensures.judged items (subst (AreParts names items ds) (sym c.loop-number.invariant.kept) parts)) in
+          (let verdict = subst (λ (s : ℕ). IsSetJudged names items beliefs s judged) c.numbered-set.ensures (c.in_ok-judged.ensures.judged items (subst (AreParts names items ds) (sym c.loop-number.invariant.kept) parts)) in
           subst (λ (xs : List ℕ). AreJudged names items beliefs (n + 1) xs (map verdict_of c.push.new.self.items)) (sym c.in_ok-push_view.ensures)
           (subst (λ (vs : List Verdict). AreJudged names items beliefs (n + 1) (with_view c.loop-number.views.items judged.view) vs) (sym (ap (map verdict_of) c.in_ok-push.ensures.items ∙ map_push verdict_of c.loop-number.sets.items judged.verdict))
           (judged-more names items beliefs n c.loop-number.views.items (map verdict_of c.loop-number.sets.items) (verdict_of judged.verdict) judged.view verdict (c.loop-number.invariant.judged items parts))));

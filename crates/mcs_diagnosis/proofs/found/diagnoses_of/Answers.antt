@@ -5,7 +5,7 @@ use Rattle.mcs_base.proofs.Each.{all_push}
 use Rattle.mcs_system.specs.Plain.{System}
 use Rattle.mcs_system.specs.Repairs.{IsDiagnosis}
 use Rattle.mcs_states.proofs.Causes.{rest_kept, halted_before, done_again}
-use Rattle.mcs_diagnosis.specs.Diagnoses.{IsShown}
+use Rattle.mcs_diagnosis.specs.Diagnoses.{ShowsFirstState}
 use Rattle.mcs_diagnosis.proofs.FoundLemmas.{known, pairs-more, pairs-skip, all-found}
 use Rattle.mcs_diagnosis.proofs.found.diagnoses_of.Goals.{then-count-level+in_ok-shown+in_ok-push, else-count-level}
 use Rattle.mcs_diagnosis.proofs.found.diagnoses_of.Goals as goal
@@ -22,7 +22,7 @@ pub loop-marks-preserved : goal.loop-marks-preserved
 loop-marks-preserved g c = elim c.if-count-level.branch [
   | then-count-level+in_ok-shown+in_ok-push w ↦ record {
     pairs = rw (w.found-is, w.in_ok-push.ensures.items) (pairs-more c.args.level c.loop-marks.found.items c.deref-marks-items.result.now c.loop-marks.marks-index c.marks-item.result _ c.loop-marks-test.true c.marks-item.is (sym c.count.ensures.number ∙ w.if-count-level.true) (w.in_ok-shown.ensures.pair ∙ w.new.ensures) c.loop-marks.invariant.pairs);
-    shown = rw (w.found-is, w.in_ok-push.ensures.items) (all_push (IsShown c.args.system.now) _ _ c.loop-marks.invariant.shown w.in_ok-shown.ensures.shown);
+    shown = rw (w.found-is, w.in_ok-push.ensures.items) (all_push (ShowsFirstState c.args.system.now) _ _ c.loop-marks.invariant.shown w.in_ok-shown.ensures.shown);
     done = rw w.evaluator-is (done_again _ _ _ c.args.level _ (ap size w.new.ensures ∙ sym c.count.ensures.number ∙ w.if-count-level.true) c.loop-marks.invariant.done w.in_ok-shown.ensures.done);
     rest = rw w.evaluator-is (rest_kept _ _ _ c.loop-marks.invariant.rest w.in_ok-shown.ensures.rest);
   }

@@ -1,7 +1,7 @@
 use Rattle.std.proofs.Common.{◌↔◌, ℕ, List, arith, subst}
 use Rattle.std.proofs.lemmas.List.{take_all}
 use Rattle.mcs_base.specs.Listings.{IsAmong}
-use Rattle.mcs_import.specs.Near.{IsNext}
+use Rattle.mcs_import.specs.Near.{IsNextNear}
 use Rattle.mcs_import.proofs.NearLemmas.{next_step}
 use Rattle.mcs_import.proofs.near.next_sets.Goals as goal
 
@@ -14,5 +14,5 @@ loop-set-preserved c =
 pub returns : goal.returns
 returns c = λ x.
     let listed = c.list_rule_sets.ensures.exactly x in
-    let told = subst (λ (sets : List ℕ). IsAmong x c.loop-set.next.items ↔ IsNext c.args.removable c.args.forcible sets c.args.reached.now x) (take_all c.loop-set.set-index c.args.sets.now (omega arith)) (c.loop-set.invariant x) in
+    let told = subst (λ (sets : List ℕ). IsAmong x c.loop-set.next.items ↔ IsNextNear c.args.removable c.args.forcible sets c.args.reached.now x) (take_all c.loop-set.set-index c.args.sets.now (omega arith)) (c.loop-set.invariant x) in
     (λ h. told.0 (listed.0 h), λ h. listed.1 (told.1 h))

@@ -1,7 +1,7 @@
 use Rattle.std.proofs.Common.{◌≡◌, ◌∙◌, ap, sym, subst, List, [], ◌∷◌, map}
 use Rattle.mcs_sets.specs.Sets.{union}
 use Rattle.mcs_table.specs.declared.row.Row.{Row}
-use Rattle.mcs_table.specs.Tables.{TableData, AreApart, unit_row}
+use Rattle.mcs_table.specs.Tables.{TableData, ShareNoMark, unit_row}
 use Rattle.mcs_joint.proofs.Uniting.{united_begin, united_apart, united_more, united_end}
 use Rattle.mcs_joint.proofs.first.few_states.Goals as goal
 
@@ -11,7 +11,7 @@ loop-table-init c =
     rw (c.empty-seen.ensures, rows) (united_begin c.args.level c.args.tables.now)
 
 pub unions-requires-clause-apart : goal.unions-requires-clause-apart
-unions-requires-clause-apart c = subst (λ (xs : List Row). AreApart xs c.table-item.result.rows) (sym c.deref.ensures.value) (united_apart c.args.level c.args.tables.now c.loop-table.table-index c.loop-table.seen c.loop-table.all.items c.table-item.result c.loop-table-test.true c.table-item.is c.loop-table.invariant)
+unions-requires-clause-apart c = subst (λ (xs : List Row). ShareNoMark xs c.table-item.result.rows) (sym c.deref.ensures.value) (united_apart c.args.level c.args.tables.now c.loop-table.table-index c.loop-table.seen c.loop-table.all.items c.table-item.result c.loop-table-test.true c.table-item.is c.loop-table.invariant)
 
 pub loop-table-preserved : goal.loop-table-preserved
 loop-table-preserved c =

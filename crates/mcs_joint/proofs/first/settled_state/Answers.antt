@@ -1,5 +1,5 @@
 use Rattle.std.proofs.Common.{◌≡◌, ℕ, Bool, subst, arith}
-use Rattle.mcs_joint.specs.First.{HaveJointRow, IsSettled}
+use Rattle.mcs_joint.specs.First.{HaveJointRow, IsVariableSettled}
 use Rattle.mcs_joint.proofs.Settling.{AreSettled, settled_begin, settled_false, settled_true, settled_end}
 use Rattle.mcs_joint.proofs.first.settled_state.Goals.{then-holds, else-holds}
 use Rattle.mcs_joint.proofs.first.settled_state.Goals as goal
@@ -16,7 +16,7 @@ loop-variable-preserved c =
     let ts = c.args.tables.items in
     let us = c.loop-variable.left.items in
     let vs = c.settle.new.tables.items in
-    let settled = λ (b : Bool) (e : c.in_ok-holds.holds ≡ b). subst (λ (h : Bool). IsSettled c.args.level v h us vs) e c.in_ok-holds.ensures in
+    let settled = λ (b : Bool) (e : c.in_ok-holds.holds ≡ b). subst (λ (h : Bool). IsVariableSettled c.args.level v h us vs) e c.in_ok-holds.ensures in
     elim c.if-holds.branch [
       | then-holds w ↦ rw (w.first-is, w.with-first.ensures) (settled_true c.args.level v first ts us vs c.loop-variable.invariant (settled _ w.if-holds.true))
       | else-holds w ↦ rw w.first-is (settled_false c.args.level v first ts us vs c.loop-variable.invariant (settled _ w.if-holds.false))

@@ -4,7 +4,7 @@ use Rattle.mcs_base.specs.Listings.{IsAmong}
 use Rattle.mcs_base.proofs.Among.{among_at}
 use Rattle.mcs_base.proofs.Each.{all_among}
 use Rattle.mcs_table.specs.declared.row.Row.{Row}
-use Rattle.mcs_table.specs.Tables.{TableData, IsTable, AreApart, unit_row}
+use Rattle.mcs_table.specs.Tables.{TableData, IsTable, ShareNoMark, unit_row}
 use Rattle.mcs_joint.proofs.Uniting.{united_begin, united_apart, united_more, united_end}
 use Rattle.mcs_joint.proofs.states.united_states.Goals as goal
 
@@ -14,10 +14,10 @@ loop-k-init c =
     rw (c.empty-seen.ensures, rows) (united_begin c.args.level c.args.tables.now)
 
 pub union_states-requires-clause-apart : goal.union_states-requires-clause-apart
-union_states-requires-clause-apart c = subst (λ (xs : List Row). AreApart xs c.index-tables-k.result.rows) (sym c.deref.ensures.value) (united_apart c.args.level c.args.tables.now c.loop-k.k c.loop-k.seen c.loop-k.all.items c.index-tables-k.result c.loop-k-test.true c.index-tables-k.is c.loop-k.invariant)
+union_states-requires-clause-apart c = subst (λ (xs : List Row). ShareNoMark xs c.index-tables-k.result.rows) (sym c.deref.ensures.value) (united_apart c.args.level c.args.tables.now c.loop-k.k c.loop-k.seen c.loop-k.all.items c.index-tables-k.result c.loop-k-test.true c.index-tables-k.is c.loop-k.invariant)
 
 pub unions-requires-clause-apart : goal.unions-requires-clause-apart
-unions-requires-clause-apart c = subst (λ (xs : List Row). AreApart xs c.index-tables-k.result.rows) (sym c.deref-in-loop-k.ensures.value) (united_apart c.args.level c.args.tables.now c.loop-k.k c.loop-k.seen c.loop-k.all.items c.index-tables-k.result c.loop-k-test.true c.index-tables-k.is c.loop-k.invariant)
+unions-requires-clause-apart c = subst (λ (xs : List Row). ShareNoMark xs c.index-tables-k.result.rows) (sym c.deref-in-loop-k.ensures.value) (united_apart c.args.level c.args.tables.now c.loop-k.k c.loop-k.seen c.loop-k.all.items c.index-tables-k.result c.loop-k-test.true c.index-tables-k.is c.loop-k.invariant)
 
 pub loop-k-preserved : goal.loop-k-preserved
 loop-k-preserved c =

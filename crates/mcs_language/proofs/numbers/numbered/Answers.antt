@@ -5,7 +5,7 @@ use Rattle.std.proofs.lemmas.Iterator.Adapters.{YieldsList-from_vec}
 use Rattle.std.proofs.lemmas.Iterator.Consumers.{YieldsList-end}
 use Rattle.mcs_system.specs.Seen.{bridge_of}
 use Rattle.mcs_grammar.specs.Saying.{Each}
-use Rattle.mcs_reader.specs.Ends.{IsNamed, context_names}
+use Rattle.mcs_reader.specs.Ends.{IsBridgeNamed, context_names}
 use Rattle.mcs_reader.specs.declared.place.NamedBridge as code_bridge
 use Rattle.mcs_reader.proofs.BridgeNumbers.{SaysNamed, each-more, each-bridge, named-bridges}
 use Rattle.mcs_language.proofs.numbers.numbered.Goals as goal
@@ -14,7 +14,7 @@ pub loop-bridge-init : goal.loop-bridge-init
 loop-bridge-init c =
     let names = context_names c.args.contexts.now in record {
       said = rw c.new-numbered.ensures.items tt;
-      named = subst (AllByRecursion (IsNamed names)) (sym c.into_iter-bridge-iterator.ensures.into_iter_gives.0) (named-bridges names c.args.bridges.items c.requires.known.0 c.requires.known.1 c.requires.known.2);
+      named = subst (AllByRecursion (IsBridgeNamed names)) (sym c.into_iter-bridge-iterator.ensures.into_iter_gives.0) (named-bridges names c.args.bridges.items c.requires.known.0 c.requires.known.1 c.requires.known.2);
     }
 
 pub loop-bridge-preserved : goal.loop-bridge-preserved
@@ -24,7 +24,7 @@ loop-bridge-preserved c =
     ap (map bridge_of) c.in_ok-push.ensures.items ∙ map-append bridge_of c.loop-bridge.numbered.items (c.in_ok-numbered_bridge.field-0 ∷ []) in
     record {
       said = rw made (each-more (SaysNamed names) c.loop-bridge.yielded (map bridge_of c.loop-bridge.numbered.items) c.in-Some.bridge (bridge_of c.in_ok-numbered_bridge.field-0) c.loop-bridge.invariant.said c.in_ok-numbered_bridge.ensures);
-      named = (subst (AllByRecursion (IsNamed names)) c.in-Some.ensures.steps.0 c.loop-bridge.invariant.named).1;
+      named = (subst (AllByRecursion (IsBridgeNamed names)) c.in-Some.ensures.steps.0 c.loop-bridge.invariant.named).1;
     }
 
 pub returns : goal.returns

@@ -5,7 +5,7 @@ use Rattle.mcs_system.specs.Plain.{Name}
 use Rattle.mcs_base.proofs.Mapped.{map-drop_more, all_drop_parts}
 use Rattle.mcs_trace.specs.Clauses.{IsLiteral}
 use Rattle.mcs_trace.proofs.OrderLemmas.{fits_literal}
-use Rattle.mcs_program.specs.Clauses.{literal_of, literals_of}
+use Rattle.mcs_program.specs.Clauses.{literal_of, literals_of_names}
 use Rattle.mcs_program.proofs.ClauseLemmas.{literal_fits}
 use Rattle.mcs_program.proofs.atom_clauses.add_literals.Goals as goal
 
@@ -21,7 +21,7 @@ loop-name-preserved c =
     let i = c.loop-name.name-index in
     let name = c.name-item.result in
     let atoms = c.args.atoms.now in
-    let tail : List ℤ = literals_of atoms c.args.sign (drop (i + 1) names) in
+    let tail : List ℤ = literals_of_names atoms c.args.sign (drop (i + 1) names) in
     let all = all_drop_parts _ names i name c.loop-name-test.true c.name-item.is c.loop-name.invariant.over in
     let within = atom_within atoms name all.0 in
     let equal = c.literal.ensures ∙ ap (literal_of c.args.sign) c.atom_number.ensures in

@@ -1,5 +1,5 @@
 use Rattle.std.proofs.Common.{◌≡◌, ◌++◌, drop}
-use Rattle.mcs_program.specs.Clauses.{literals_of}
+use Rattle.mcs_program.specs.Clauses.{literals_of_names}
 use Rattle.mcs_evidence.specs.Pushing.{AreNamesOf}
 use Rattle.mcs_program.proofs.atom_clauses.add_literals.Given as goal
 
@@ -7,5 +7,5 @@ abbrev pub invariant-loop-name : goal.invariant-loop-name
 invariant-loop-name l =
     record {
       over : AreNamesOf l.atoms (drop l.name-index l.names);
-      added : l.literals.items ++ literals_of l.atoms l.sign (drop l.name-index l.names) ≡ l.fn.literals.items ++ literals_of l.atoms l.sign l.names;
+      added : l.literals.items ++ literals_of_names l.atoms l.sign (drop l.name-index l.names) ≡ l.fn.literals.items ++ literals_of_names l.atoms l.sign l.names;
     }

@@ -3,7 +3,7 @@ use Rattle.mcs_system.specs.Seen.{rule_of}
 use Rattle.mcs_system.specs.Logic.{true_names, holds}
 use Rattle.mcs_cnf.proofs.GrowingLemmas.{room_known}
 use Rattle.mcs_cnf.specs.Entailments.{IsModelAt}
-use Rattle.mcs_classical.specs.Models.{IsSatisfied}
+use Rattle.mcs_classical.specs.Models.{IsSatisfiedAnswer}
 use Rattle.mcs_evidence.specs.Programs.{smaller_formulas}
 use Rattle.mcs_evidence.proofs.Models.{smaller-over, answer_set_from_model}
 use Rattle.mcs_program.specs.Listings.{place_formula}
@@ -18,7 +18,7 @@ returns-in-Model c =
     let names = c.args.atoms.now in
     let rules = map rule_of c.args.rules.now in
     let fs = smaller_formulas names rules c.args.model in
-    let below : IsModelAt names fs c.in-Model.less = subst (IsSatisfied names fs) c.in-Model.is (c.in_ok-less.ensures fs c.in_ok-smaller.ensures (smaller-over names rules c.args.model c.requires.rules)) in
+    let below : IsModelAt names fs c.in-Model.less = subst (IsSatisfiedAnswer names fs) c.in-Model.is (c.in_ok-less.ensures fs c.in_ok-smaller.ensures (smaller-over names rules c.args.model c.requires.rules)) in
     ap (λ set. holds (true_names 0 names c.args.model) (place_formula rules names set)) c.minus.ensures ∙ left_unfounded names rules c.args.model c.in-Model.less c.requires.different below
 
 pub returns-in-Refuted : goal.returns-in-Refuted
@@ -27,4 +27,4 @@ returns-in-Refuted c =
     let rules = map rule_of c.args.rules.now in
     let fs = smaller_formulas names rules c.args.model in
     answer_set_from_model names rules c.args.model c.requires.different c.requires.model.formulas
-    (subst (IsSatisfied names fs) c.in-Refuted.is (c.in_ok-less.ensures fs c.in_ok-smaller.ensures (smaller-over names rules c.args.model c.requires.rules))).1
+    (subst (IsSatisfiedAnswer names fs) c.in-Refuted.is (c.in_ok-less.ensures fs c.in_ok-smaller.ensures (smaller-over names rules c.args.model c.requires.rules))).1

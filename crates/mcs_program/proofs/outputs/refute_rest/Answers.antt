@@ -4,7 +4,7 @@ use Rattle.mcs_system.specs.Seen.{rule_of}
 use Rattle.mcs_system.specs.Logic.{true_names}
 use Rattle.mcs_cnf.proofs.GrowingLemmas.{room_known}
 use Rattle.mcs_cnf.specs.Entailments.{IsModelAt}
-use Rattle.mcs_classical.specs.Models.{IsSatisfied}
+use Rattle.mcs_classical.specs.Models.{IsSatisfiedAnswer}
 use Rattle.mcs_evidence.specs.Programs.{rest_formulas}
 use Rattle.mcs_evidence.proofs.Models.{rest-over, atoms_are_over}
 use Rattle.mcs_program.proofs.SearchLemmas.{atoms_of_names}
@@ -21,7 +21,7 @@ unreachable-requires c =
     let beliefs = map Atom (map (λ b. b.now) c.args.beliefs.now) in
     let fs = rest_formulas names rules beliefs c.args.smaller.now c.args.views.now in
     let over = rest-over names rules beliefs c.args.smaller.now c.args.views.now c.requires.rules (atoms_are_over names beliefs (atoms_of_names names (map (λ b. b.now) c.args.beliefs.now) c.requires.beliefs)) in
-    let model : IsModelAt names fs c.in-Model._places = subst (IsSatisfied names fs) c.in-Model.is (c.in_ok-trace.ensures fs c.in_ok-rest.ensures over) in
+    let model : IsModelAt names fs c.in-Model._places = subst (IsSatisfiedAnswer names fs) c.in-Model.is (c.in_ok-trace.ensures fs c.in_ok-rest.ensures over) in
     c.requires.none (true_names 0 names c.in-Model._places) model.formulas
 
 pub returns : goal.returns
@@ -31,4 +31,4 @@ returns c =
     let beliefs = map Atom (map (λ b. b.now) c.args.beliefs.now) in
     let fs = rest_formulas names rules beliefs c.args.smaller.now c.args.views.now in
     let over = rest-over names rules beliefs c.args.smaller.now c.args.views.now c.requires.rules (atoms_are_over names beliefs (atoms_of_names names (map (λ b. b.now) c.args.beliefs.now) c.requires.beliefs)) in
-    (subst (IsSatisfied names fs) c.in-Refuted.is (c.in_ok-trace.ensures fs c.in_ok-rest.ensures over)).0
+    (subst (IsSatisfiedAnswer names fs) c.in-Refuted.is (c.in_ok-trace.ensures fs c.in_ok-rest.ensures over)).0

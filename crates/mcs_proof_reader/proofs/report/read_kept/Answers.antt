@@ -4,7 +4,7 @@ use Rattle.mcs_spelling.specs.Lines.{complete_lines, incomplete}
 use Rattle.mcs_proof_lines.specs.Walks.{At, expect_at}
 use Rattle.mcs_proof_lines.specs.Readings.{here}
 use Rattle.mcs_proof_reader.specs.Listings.{listing_at}
-use Rattle.mcs_proof_reader.specs.Keeping.{AreKept}
+use Rattle.mcs_proof_reader.specs.Keeping.{EachIsKept}
 use Rattle.mcs_proof_reader.specs.Whole.{end_at}
 use Rattle.mcs_proof_reader.proofs.WholeSteps.{no_listing, no_proof, no_end, all_right, answers_begin_at, told_fault, fault_on, answers_fault, taken_one}
 use Rattle.mcs_proof_reader.proofs.report.read_kept.Goals as goal
@@ -55,7 +55,7 @@ returns-in-Ok g c =
     record {
       answers = read.answers;
       spelled = spells;
-      kept = subst (λ (k : ℕ). AreKept g.K.Keep.Keeps m k read.answers c.in_ok-answers.answers.items) from read.kept;
+      kept = subst (λ (k : ℕ). EachIsKept g.K.Keep.Keeps m k read.answers c.in_ok-answers.answers.items) from read.kept;
       ends = c.number-last_line.ensures ∙ (sym (taken_one (codes "end of proof") third c.end_of.new.lines closed) ∙ number);
     }
 

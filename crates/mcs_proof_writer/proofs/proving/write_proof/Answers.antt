@@ -1,6 +1,6 @@
 use Rattle.std.proofs.Common.{sym, List, subst}
 use Rattle.std.specs.List.{AllByRecursion}
-use Rattle.mcs_proof_writer.specs.Gathered.{answers_of, IsKept}
+use Rattle.mcs_proof_writer.specs.Gathered.{answers_of, KeepsCertificate}
 use Rattle.mcs_proof_writer.specs.declared.asking.Question.{Question}
 use Rattle.mcs_proof_writer.proofs.GatheringLemmas.{questions_kept, lent_prove}
 use Rattle.mcs_proof_writer.proofs.WritingLemmas.{proof_writable, proved}
@@ -9,7 +9,7 @@ use Rattle.mcs_proof_writer.proofs.proving.write_proof.Goals as goal
 pub gathered-requires : goal.gathered-requires
 gathered-requires g c =
     let (level, asked) = c.requires in
-    subst (λ (qs : List Question). AllByRecursion (IsKept c.args.solvers.now) qs) (sym c.deref.ensures.value)
+    subst (λ (qs : List Question). AllByRecursion (KeepsCertificate c.args.solvers.now) qs) (sym c.deref.ensures.value)
     (questions_kept c.args.system.now level c.args.solvers.now asked c.in_ok-questions.questions.items c.in_ok-questions.ensures)
 
 pub write_marked-requires : goal.write_marked-requires

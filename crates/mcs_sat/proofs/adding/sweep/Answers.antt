@@ -1,6 +1,6 @@
 use Rattle.std.proofs.Common.{◌≡◌, ◌∙◌, ℕ, ap, sym, subst, length}
 use Rattle.mcs_sat.specs.States.{IsState}
-use Rattle.mcs_sat.specs.Trails.{Grows}
+use Rattle.mcs_sat.specs.Trails.{GrowsOnLevel}
 use Rattle.mcs_sat.proofs.GrowLemmas.{settled-none}
 use Rattle.mcs_sat.proofs.RunLemmas.{state-settled}
 use Rattle.mcs_sat.proofs.adding.sweep.Goals.{After-settle}
@@ -12,7 +12,7 @@ settled c =
     let s = c.loop-index.state in
     let e = c.settle.ensures in
     let none : length s.levels.items ≡ 0 = ap length (c.loop-index.invariant.levels ∙ c.requires.base) in
-    state-settled s c.settle.new.trail s.settled c.loop-index.invariant.kept e.trail e.positions (subst (λ (n : ℕ). Grows n s.trail.entries.items c.settle.new.trail.entries.items) (sym none) e.grows)
+    state-settled s c.settle.new.trail s.settled c.loop-index.invariant.kept e.trail e.positions (subst (λ (n : ℕ). GrowsOnLevel n s.trail.entries.items c.settle.new.trail.entries.items) (sym none) e.grows)
     (settled-none s.clauses s.watches.short.items c.settle.new.trail.entries.items s.settled) c.loop-index.invariant.kept.short_bound
 
 pub returns-in_err-settle-clause-kept : goal.returns-in_err-settle-clause-kept

@@ -2,10 +2,10 @@ use Rattle.std.proofs.Common.{◌≡◌, ◌+◌, ◌++◌, ◌∷◌, [], ◌�
 use Rattle.mcs_base.specs.Listings.{IsListing}
 use Rattle.mcs_base.proofs.Each.{all_get}
 use Rattle.mcs_trace.specs.Clauses.{IsClause, LiteralBefore}
-use Rattle.mcs_trace.specs.Traces.{IsChainResolvent, numbered}
+use Rattle.mcs_trace.specs.Traces.{IsChainResolvent, numbered_clause}
 use Rattle.mcs_sat.specs.declared.trail.Entry.{Entry}
 use Rattle.mcs_sat.specs.Learning.{GoesOnByReasons, IsSingle}
-use Rattle.mcs_sat.specs.Marking.{IsMarked, IsMarking, IsOfMarks}
+use Rattle.mcs_sat.specs.Marking.{IsVariableMarked, IsMarking, IsOfMarks}
 use Rattle.mcs_sat.specs.Trails.{IsFalse}
 use Rattle.mcs_sat.proofs.KnownLemmas.{chain-start}
 use Rattle.mcs_sat.proofs.MarkLemmas.{free-empty, late-marked, marked-start, none-marked, same-clause, single-marked}
@@ -25,7 +25,7 @@ marking_at c =
     let both : Some d ≡ Some row = sym at ∙ c.row.ensures in
     let same : d ≡ row = cc in
     marked-start es c.args.trail.now.positions.items row c.in_ok-marks.marks.items c.mark_all.new.marks.items c.requires.trail.placed (all_get IsClause known c.args.index row c.requires.trail.clauses c.row.ensures)
-    (subst (IsFalse es) same off) sized (λ q. subst (λ (xs : List Bool). ¬ IsMarked xs q) (sym none) (none-marked c.len.result q)) c.mark_all.ensures.exactly
+    (subst (IsFalse es) same off) sized (λ q. subst (λ (xs : List Bool). ¬ IsVariableMarked xs q) (sym none) (none-marked c.len.result q)) c.mark_all.ensures.exactly
 
 pub resolve_back-requires-clause-marked : goal.resolve_back-requires-clause-marked
 resolve_back-requires-clause-marked c =
@@ -34,7 +34,7 @@ resolve_back-requires-clause-marked c =
     let n : ℕ = c.args.index + 1 in
     let number : n ≡ suc c.args.index = omega arith in
     let chain : c.push.new.self.items ≡ n ∷ [] = c.in_ok-push.ensures.items ∙ ap (λ (x : List ℕ). x ++ n ∷ []) c.new-chain.ensures.items in
-    record { clause = row; right = subst (λ (ns : List ℕ). IsChainResolvent known ns row) (sym chain) (chain-start known n row (ap (numbered known) number ∙ c.row.ensures)); marking = marking_at c }
+    record { clause = row; right = subst (λ (ns : List ℕ). IsChainResolvent known ns row) (sym chain) (chain-start known n row (ap (numbered_clause known) number ∙ c.row.ensures)); marking = marking_at c }
 
 pub resolve_back-requires-clause-late : goal.resolve_back-requires-clause-late
 resolve_back-requires-clause-late c = late-marked c.args.trail.now.entries.items c.mark_all.new.marks.items c.row.result.now c.args.start (marking_at c) (c.requires.late c.row.result.now c.row.ensures)

@@ -1,6 +1,6 @@
 use Rattle.std.proofs.Common.{◌≤◌, ◌⊎◌, length}
 use Rattle.mcs_sat.specs.Learning.{GoesOnByReasons}
-use Rattle.mcs_sat.specs.Marking.{AreFree, IsMarkedChain, IsMarkedWithin}
+use Rattle.mcs_sat.specs.Marking.{AreUnmarked, IsMarkedChain, IsMarkedWithin}
 use Rattle.mcs_sat.proofs.analyse.resolve_back.Given as goal
 
 abbrev pub invariant-loop-bound : goal.invariant-loop-bound
@@ -8,7 +8,7 @@ invariant-loop-bound l = record {
   bound : l.bound ≤ length l.trail.entries.items;
   marked : IsMarkedChain l.clauses l.trail.entries.items l.chain.items l.marks.items;
   reasons : GoesOnByReasons l.clauses l.trail.entries.items l.fn.chain.items l.chain.items;
-  free : AreFree l.marks.items l.bound (length l.trail.entries.items);
+  free : AreUnmarked l.marks.items l.bound (length l.trail.entries.items);
   late : (length l.trail.entries.items ≤ l.start) ⊎ IsMarkedWithin l.marks.items l.start l.bound;
 }
 

@@ -6,7 +6,7 @@ use Rattle.mcs_base.proofs.Booleans.{none_from_not_some}
 use Rattle.mcs_trace.specs.Clauses.{IsLiteral}
 use Rattle.mcs_trace.proofs.OrderLemmas.{literal_at, fits_literal}
 use Rattle.mcs_sat.specs.declared.examine.Finding.TheVariants.{Forced}
-use Rattle.mcs_sat.specs.Trails.{IsOn, StandsNowhere, IsFinding}
+use Rattle.mcs_sat.specs.Trails.{IsOn, StandsNowhere, IsClauseFinding}
 use Rattle.mcs_sat.proofs.FindingLemmas.{FoundSoFar, found-false, found-free, found-conflict, found-forced, found-two}
 use Rattle.mcs_sat.proofs.examine.examine.Goals.{in-Some-false, in-None+else-is_some}
 use Rattle.mcs_sat.proofs.examine.examine.Goals as goal
@@ -41,10 +41,10 @@ loop-literal-preserved c =
 pub returns-in-Some : goal.returns-in-Some
 returns-in-Some c =
     let l : ℤ = c.in-Some.literal in
-    let found : IsFinding c.args.trail.now.entries.items c.args.literals.now (Forced l) =
+    let found : IsClauseFinding c.args.trail.now.entries.items c.args.literals.now (Forced l) =
     found-forced c.args.trail.now.entries.items c.args.literals.now c.loop-literal.literal-index c.loop-literal.free l c.loop-literal-test.false c.in-Some.is c.loop-literal.invariant in
     let is : IsLiteral l = all_among IsLiteral c.args.literals.now l c.requires.clause.0 found.0.0 in
-    subst (λ (k : ℤ). IsFinding c.args.trail.now.entries.items c.args.literals.now (Forced k)) (sym (to_z-of_z (fits_literal l is))) found
+    subst (λ (k : ℤ). IsClauseFinding c.args.trail.now.entries.items c.args.literals.now (Forced k)) (sym (to_z-of_z (fits_literal l is))) found
 
 pub returns-in-None-free : goal.returns-in-None-free
 returns-in-None-free c =

@@ -1,7 +1,7 @@
 use Rattle.std.proofs.Common.{◌≡◌, ◌+◌, ◌++◌, ◌∷◌, [], suc, ◌∙◌, ap, sym, subst, arith, List, ℕ, ℤ, Some}
 use Rattle.mcs_base.proofs.Each.{all_get}
 use Rattle.mcs_trace.specs.Clauses.{IsClause}
-use Rattle.mcs_trace.specs.Traces.{IsChainResolvent, numbered}
+use Rattle.mcs_trace.specs.Traces.{IsChainResolvent, numbered_clause}
 use Rattle.mcs_sat.proofs.KnownLemmas.{chain-start}
 use Rattle.mcs_sat.proofs.flatten.flat_of.Goals as goal
 
@@ -10,7 +10,7 @@ loop-init c =
     let known : List (List ℤ) = c.args.clauses.now in
     let row : List ℤ = c.row.result.now in
     let next : c.args.index + 1 ≡ suc c.args.index = omega arith in
-    let here : numbered known (c.args.index + 1) ≡ Some row = ap (numbered known) next ∙ c.row.ensures in
+    let here : numbered_clause known (c.args.index + 1) ≡ Some row = ap (numbered_clause known) next ∙ c.row.ensures in
     let literals : c.extend_from_slice.new.self.items ≡ row = c.in_ok-extend_from_slice.ensures.items ∙ ap (λ (xs : List ℤ). xs ++ row) c.new.ensures.items in
     let chain : c.push.new.self.items ≡ (c.args.index + 1) ∷ [] = c.in_ok-push.ensures.items ∙ ap (λ (ns : List ℕ). ns ++ (c.args.index + 1) ∷ []) c.new-2.ensures.items in
     record {

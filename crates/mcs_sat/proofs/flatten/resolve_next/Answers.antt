@@ -2,7 +2,7 @@ use Rattle.std.proofs.Common.{◌≡◌, ◌+◌, ◌∙◌, ap, sym, suc, Vec, 
 use Rattle.std.specs.Bool.{MatchBool}
 use Rattle.mcs_trace.specs.Clauses.{IsClause}
 use Rattle.mcs_trace.specs.Resolution.{IsResolvent}
-use Rattle.mcs_trace.specs.Traces.{IsChainResolvent, numbered}
+use Rattle.mcs_trace.specs.Traces.{IsChainResolvent, numbered_clause}
 use Rattle.mcs_sat.proofs.KnownLemmas.{chain-push}
 use Rattle.mcs_sat.proofs.flatten.resolve_next.Goals as goal
 
@@ -10,7 +10,7 @@ pub returns : goal.returns
 returns c =
     let known : List (List ℤ) = c.args.clauses.now in
     let next : c.in-Some.next + 1 ≡ suc c.in-Some.next = omega arith in
-    let here : numbered known (c.in-Some.next + 1) ≡ Some c.row.result.now = ap (numbered known) next ∙ c.row.ensures in
+    let here : numbered_clause known (c.in-Some.next + 1) ≡ Some c.row.result.now = ap (numbered_clause known) next ∙ c.row.ensures in
     let out : Vec ℤ Global = c.resolve.new.out in
     record {
       clause = subst (λ (v : Vec ℤ Global). IsClause v.items) (sym c.swap.ensures.x_after) (c.in_ok-resolve.ensures.clause c.if-not-branch.false);

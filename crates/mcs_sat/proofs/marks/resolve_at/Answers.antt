@@ -1,7 +1,7 @@
 use Rattle.std.proofs.Common.{◌≡◌, ◌<◌, ◌↔◌, ◌⊎◌, ◌∙◌, ℕ, ℤ, List, [], ◌∷◌, Bool, false, Some, length, set, ap, sym, subst}
-use Rattle.mcs_trace.specs.Traces.{numbered}
+use Rattle.mcs_trace.specs.Traces.{numbered_clause}
 use Rattle.mcs_sat.specs.declared.trail.Entry.{Entry}
-use Rattle.mcs_sat.specs.Marking.{IsMarked, IsMarkedChain, IsMetAt}
+use Rattle.mcs_sat.specs.Marking.{IsVariableMarked, IsMarkedChain, IsMetAt}
 use Rattle.mcs_sat.specs.Trails.{IsReason}
 use Rattle.mcs_sat.proofs.KnownLemmas.{numbered-is}
 use Rattle.mcs_sat.proofs.MarkLemmas.{marked-resolved, marks-taken_off}
@@ -10,18 +10,18 @@ use Rattle.mcs_sat.proofs.marks.resolve_at.Goals as goal
 use Rattle.mcs_sat.proofs.marks.resolve_at.Goals.{After-marks-1}
 
 -- the reason, and what its marks are
-reason_at_place : (c : After-marks-1) → (reason : List ℤ) × (numbered c.args.clauses.now c.index.result.now.reason ≡ Some reason) × IsReason c.args.trail.now.entries.items c.args.place reason × (reason ≡ c.row.result.now)
+reason_at_place : (c : After-marks-1) → (reason : List ℤ) × (numbered_clause c.args.clauses.now c.index.result.now.reason ≡ Some reason) × IsReason c.args.trail.now.entries.items c.args.place reason × (reason ≡ c.row.result.now)
 reason_at_place c =
     let known : List (List ℤ) = c.args.clauses.now in
     let es : List Entry = c.args.trail.now.entries.items in
     let number : ℕ = c.index.result.now.reason in
     let (reason, e, is) = reason_of known es c.args.place c.requires.trail.explained c.requires.within c.requires.implied in
-    let at : numbered known number ≡ Some reason = ap (numbered known) (reason-read es c.args.place c.index.result.now c.requires.within c.index.ensures) ∙ e in
+    let at : numbered_clause known number ≡ Some reason = ap (numbered_clause known) (reason-read es c.args.place c.index.result.now c.requires.within c.index.ensures) ∙ e in
     (reason, at, is, numbered-is known number reason c.row.result.now at c.row.ensures)
 
 exactly_at : (c : After-marks-1) (reason : List ℤ) → reason ≡ c.row.result.now
-    → (q : ℕ) → q < length c.args.trail.now.entries.items → IsMarked c.mark_all.new.marks.items q ↔ (IsMarked c.args.marks.now.items q ⊎ IsMetAt c.args.trail.now.entries.items reason q)
-exactly_at c reason same = subst (λ (x : List ℤ). (q : ℕ) → q < length c.args.trail.now.entries.items → IsMarked c.mark_all.new.marks.items q ↔ (IsMarked c.args.marks.now.items q ⊎ IsMetAt c.args.trail.now.entries.items x q)) (sym same) c.mark_all.ensures.exactly
+    → (q : ℕ) → q < length c.args.trail.now.entries.items → IsVariableMarked c.mark_all.new.marks.items q ↔ (IsVariableMarked c.args.marks.now.items q ⊎ IsMetAt c.args.trail.now.entries.items reason q)
+exactly_at c reason same = subst (λ (x : List ℤ). (q : ℕ) → q < length c.args.trail.now.entries.items → IsVariableMarked c.mark_all.new.marks.items q ↔ (IsVariableMarked c.args.marks.now.items q ⊎ IsMetAt c.args.trail.now.entries.items x q)) (sym same) c.mark_all.ensures.exactly
 
 pub returns-clause-marked : goal.returns-clause-marked
 returns-clause-marked c =

@@ -1,5 +1,5 @@
 use Rattle.std.proofs.Common.{◌≡◌, ◌-◌, [], length}
-use Rattle.mcs_sat.specs.Parts.{IsPart}
+use Rattle.mcs_sat.specs.Parts.{IsPartState}
 use Rattle.mcs_sat.specs.Stores.{IsLater}
 use Rattle.mcs_sat.proofs.part.adopt.Given as goal
 
@@ -7,7 +7,7 @@ abbrev pub invariant-loop-alloc : goal.invariant-loop-alloc
 invariant-loop-alloc l = record {
   later : IsLater l.fn.state l.state;
   base : l.state.levels.items ≡ [];
-  part : IsPart l.state l.part l.numbers.items;
+  part : IsPartState l.state l.part l.numbers.items;
 }
 
 abbrev pub decreases-loop-alloc : goal.decreases-loop-alloc

@@ -1,4 +1,4 @@
-use Rattle.mcs_sat.specs.Trails.{Grows, StandsNowhere}
+use Rattle.mcs_sat.specs.Trails.{GrowsOnLevel, StandsNowhere}
 use Rattle.std.proofs.Common.{◌<◌, unsigned_abs, length, sym, subst, ℤ, ◌∷◌, [], refl, arith}
 use Rattle.mcs_trace.specs.Clauses.{IsLiteral}
 use Rattle.mcs_sat.proofs.FindingLemmas.{open-short}
@@ -81,7 +81,7 @@ pub returns-in_ok-push-in-Forced-clause-positions : goal.returns-in_ok-push-in-F
 returns-in_ok-push-in-Forced-clause-positions c = c.push.ensures.positions
 
 pub returns-in_err-push-in-Forced-clause-grows : goal.returns-in_err-push-in-Forced-clause-grows
-returns-in_err-push-in-Forced-clause-grows c = subst (Grows c.args.level c.args.trail.now.entries.items) (sym c.in_err-push-in-Forced.ensures.err) (grows-none c.args.level c.args.trail.now.entries.items)
+returns-in_err-push-in-Forced-clause-grows c = subst (GrowsOnLevel c.args.level c.args.trail.now.entries.items) (sym c.in_err-push-in-Forced.ensures.err) (grows-none c.args.level c.args.trail.now.entries.items)
 
 pub returns-in_ok-push-in-Forced-clause-grows : goal.returns-in_ok-push-in-Forced-clause-grows
 returns-in_ok-push-in-Forced-clause-grows c = (_ ∷ [], c.in_ok-push-in-Forced.ensures.entries, ((omega arith, refl), tt))

@@ -1,7 +1,7 @@
 use Rattle.std.proofs.Common.{◌≡◌, length, refl, ◌∙◌, arith}
 use Rattle.std.proofs.lemmas.Option.{slice_get-get_or}
 use Rattle.std.proofs.lemmas.Bool.Decides.{when_false}
-use Rattle.mcs_sat.specs.Trails.{Grows}
+use Rattle.mcs_sat.specs.Trails.{GrowsOnLevel}
 use Rattle.mcs_sat.specs.Watching.{AreSettled}
 use Rattle.mcs_sat.proofs.GrowLemmas.{grows-more, grows-none, settled-grown, settled-more, settled-none}
 use Rattle.mcs_sat.proofs.propagate.settle_from.Goals as goal
@@ -10,7 +10,7 @@ use Rattle.mcs_sat.proofs.propagate.settle_from.Goals.{After-settle}
 positions : (c : After-settle) → length c.settle.new.trail.positions.items ≡ length c.args.trail.now.positions.items
 positions c = c.settle.ensures.positions ∙ c.loop-from.invariant.kept.positions
 
-grows : (c : After-settle) → Grows c.args.level c.args.trail.now.entries.items c.settle.new.trail.entries.items
+grows : (c : After-settle) → GrowsOnLevel c.args.level c.args.trail.now.entries.items c.settle.new.trail.entries.items
 grows c = grows-more c.args.level c.args.trail.now.entries.items c.loop-from.trail.entries.items c.settle.new.trail.entries.items c.loop-from.invariant.kept.grows c.settle.ensures.grows
 
 settled : (c : After-settle) → AreSettled c.args.clauses.now c.args.indices.now c.settle.new.trail.entries.items c.args.from.now c.loop-from.from

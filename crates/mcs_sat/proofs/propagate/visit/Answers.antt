@@ -5,8 +5,8 @@ use Rattle.mcs_trace.proofs.OrderLemmas.{place-injective}
 use Rattle.mcs_sat.specs.declared.trail.Entry.{Entry}
 use Rattle.mcs_sat.specs.declared.watches.Pair.{Pair}
 use Rattle.mcs_sat.specs.Pairs.{no_pair}
-use Rattle.mcs_sat.specs.Trails.{Grows, IsOn}
-use Rattle.mcs_sat.specs.Watching.{AreMoved, ArePair, AreSpared, AreWatched, IsListed, IsOf, IsPairOf}
+use Rattle.mcs_sat.specs.Trails.{GrowsOnLevel, IsOn}
+use Rattle.mcs_sat.specs.Watching.{AreMoved, ArePair, AreSpared, AreWatched, IsInList, IsOf, IsPairOf}
 use Rattle.mcs_sat.proofs.GrowLemmas.{clause_at, covered_at, grows-none, literal_of, on-pushed, read_literal, trail-push, trail-same, within_of}
 use Rattle.mcs_sat.proofs.KeptLemmas.{moved-list, moved-none, moved-then, spared-list, spared-then}
 use Rattle.mcs_sat.proofs.RunLemmas.{value-or-free}
@@ -93,9 +93,9 @@ returns-in-Some-open_literal-clause-watched c =
       second = subst (λ (k : ℤ). IsAmong k d) (sym (open_read at')) c.in-Some-open_literal.ensures.0;
       differ = λ e. c.in-Some-open_literal.ensures.1 (sym (e ∙ open_read at'));
     } in
-    let in_list : (l : ℤ) → IsLiteral l → IsOf l q → IsListed c.list.new.self.lists l c.args.index = λ l literal of. elim of [
+    let in_list : (l : ℤ) → IsLiteral l → IsOf l q → IsInList c.list.new.self.lists l c.args.index = λ l literal of. elim of [
       | inl first ↦ c.list.ensures.kept l c.args.index (c.requires.watched.listed c.args.index c.get.result l (pair at) literal (subst (λ (k : ℤ). IsOf k c.get.result) (sym (other at) ∙ first) (h.of_other c.get.result (pair at))))
-      | inr second ↦ subst (λ (k : ℤ). IsListed c.list.new.self.lists k c.args.index) second c.in_ok-list.ensures.listed
+      | inr second ↦ subst (λ (k : ℤ). IsInList c.list.new.self.lists k c.args.index) second c.in_ok-list.ensures.listed
     ] in
     watched-move c.args.clauses.now c.list.new.self _ c.args.index d q c.row.ensures c.set.ensures refl (listed (goal.at.returns-in-Some-open_literal-clause-watched c).After-list) refl two in_list
 
@@ -307,7 +307,7 @@ pub returns-in_err-push-clause-list : goal.returns-in_err-push-clause-list
 returns-in_err-push-clause-list c = refl
 
 pub returns-in_err-push-clause-grows : goal.returns-in_err-push-clause-grows
-returns-in_err-push-clause-grows c = subst (Grows c.args.level c.args.trail.now.entries.items) (sym c.in_err-push.ensures.err) (grows-none c.args.level c.args.trail.now.entries.items)
+returns-in_err-push-clause-grows c = subst (GrowsOnLevel c.args.level c.args.trail.now.entries.items) (sym c.in_err-push.ensures.err) (grows-none c.args.level c.args.trail.now.entries.items)
 
 pub returns-clause-positions : goal.returns-clause-positions
 returns-clause-positions c = c.push.ensures.positions

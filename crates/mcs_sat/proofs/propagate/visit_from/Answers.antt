@@ -3,7 +3,7 @@ use Rattle.mcs_base.proofs.Booleans.{none_from_not_some}
 use Rattle.mcs_trace.specs.Clauses.{IsLiteral}
 use Rattle.mcs_sat.specs.declared.state.Reach.{Reach}
 use Rattle.mcs_sat.specs.declared.trail.Entry.{Entry}
-use Rattle.mcs_sat.specs.Trails.{Grows, IsFalseAt, literal_at}
+use Rattle.mcs_sat.specs.Trails.{GrowsOnLevel, IsFalseAt, literal_at}
 use Rattle.mcs_sat.specs.Watching.{AreMoved, AreSpared, AreVisited, IsReached}
 use Rattle.mcs_sat.proofs.GrowLemmas.{entry-grown, grows-longer, grows-more, neg_literal, read_literal}
 use Rattle.mcs_sat.proofs.KeptLemmas.{moved-then, spared-then}
@@ -15,7 +15,7 @@ use Rattle.mcs_sat.proofs.propagate.visit_from.Goals as goal
 less : (c : After-visit_list) → c.loop-from.from < length c.loop-from.trail.entries.items
 less c = let ok = c.loop-from.trail.entries.ok.0 in omega arith
 
-grows : (c : After-visit_list) → Grows c.args.level c.args.trail.now.entries.items c.visit_list.new.trail.entries.items
+grows : (c : After-visit_list) → GrowsOnLevel c.args.level c.args.trail.now.entries.items c.visit_list.new.trail.entries.items
 grows c = grows-more c.args.level c.args.trail.now.entries.items c.loop-from.trail.entries.items c.visit_list.new.trail.entries.items c.loop-from.invariant.kept.grows c.visit_list.ensures.grows
 
 reached : (c : After-visit_list) (r : Reach) → r.visited ≤ length c.args.trail.now.entries.items → IsReached c.args.clauses.now c.args.watches.now c.args.trail.now.entries.items r

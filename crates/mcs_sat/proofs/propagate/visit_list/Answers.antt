@@ -4,8 +4,8 @@ use Rattle.mcs_trace.specs.Clauses.{place}
 use Rattle.mcs_sat.specs.declared.propagate.Seen.TheVariants as seen
 use Rattle.mcs_sat.specs.declared.state.Reach.{Reach}
 use Rattle.mcs_sat.specs.Lists.{list_at}
-use Rattle.mcs_sat.specs.Trails.{Grows}
-use Rattle.mcs_sat.specs.Watching.{AreMoved, AreSpared, IsReached, IsSeen}
+use Rattle.mcs_sat.specs.Trails.{GrowsOnLevel}
+use Rattle.mcs_sat.specs.Watching.{AreMoved, AreSpared, IsReached, IsClauseSeen}
 use Rattle.mcs_sat.proofs.GrowLemmas.{grows-more}
 use Rattle.mcs_sat.proofs.KeptLemmas.{moved-then, spared-then}
 use Rattle.mcs_sat.proofs.WatchLemmas.{length-swap_remove, passed-more, passed-swap, reached-across, reached-list, visited-all, watched-swap}
@@ -24,7 +24,7 @@ index_at c =
 kept : (c : After-visit) → list_at c.visit.new.watches.lists c.place-list.result ≡ list_at c.loop-at.watches.lists c.place-list.result
 kept c = subst (λ (n : ℕ). list_at c.visit.new.watches.lists n ≡ list_at c.loop-at.watches.lists n) (sym c.place-list.ensures) c.visit.ensures.list
 
-grows : (c : After-visit) → Grows c.args.level c.args.trail.now.entries.items c.visit.new.trail.entries.items
+grows : (c : After-visit) → GrowsOnLevel c.args.level c.args.trail.now.entries.items c.visit.new.trail.entries.items
 grows c = grows-more c.args.level c.args.trail.now.entries.items c.loop-at.trail.entries.items c.visit.new.trail.entries.items c.loop-at.invariant.kept.grows c.visit.ensures.grows
 
 reached : (c : After-visit) (r : Reach) → r.visited ≤ length c.args.trail.now.entries.items → IsReached c.args.clauses.now c.args.watches.now c.args.trail.now.entries.items r → IsReached c.args.clauses.now c.visit.new.watches c.args.trail.now.entries.items r
@@ -94,7 +94,7 @@ loop-at-preserved-in-Satisfied c =
       };
       passed = passed-more c.args.clauses.now (list_at c.loop-at.watches.lists c.place-list.result) (list_at c.visit.new.watches.lists c.place-list.result) c.args.level c.loop-at.trail.entries.items c.visit.new.trail.entries.items c.loop-at.at
           c.visit.ensures.grows c.loop-at.invariant.passed (kept at) index (index_at at)
-          (subst (IsSeen c.args.clauses.now c.visit.new.watches c.visit.new.trail.entries.items index (to_z w64 (of_z w64 c.args.literal))) c.in-Satisfied.is c.in_ok-visit.ensures.seen);
+          (subst (IsClauseSeen c.args.clauses.now c.visit.new.watches c.visit.new.trail.entries.items index (to_z w64 (of_z w64 c.args.literal))) c.in-Satisfied.is c.in_ok-visit.ensures.seen);
     }
 
 -- ---- it is gone
@@ -117,8 +117,8 @@ loop-at-preserved c =
     let l : ℤ = to_z w64 (of_z w64 c.args.literal) in
     let both : Some x ≡ Some index = sym c.swap_remove.ensures.value ∙ ap (λ (xs : List ℕ). slice_get xs c.loop-at.at) (kept at) ∙ index_at at in
     let x-is : x ≡ index = cc in
-    let gone : IsSeen c.args.clauses.now c.visit.new.watches c.visit.new.trail.entries.items index l seen.Gone =
-    subst (IsSeen c.args.clauses.now c.visit.new.watches c.visit.new.trail.entries.items index l) c.in-Gone.is c.in_ok-visit.ensures.seen in
+    let gone : IsClauseSeen c.args.clauses.now c.visit.new.watches c.visit.new.trail.entries.items index l seen.Gone =
+    subst (IsClauseSeen c.args.clauses.now c.visit.new.watches c.visit.new.trail.entries.items index l) c.in-Gone.is c.in_ok-visit.ensures.seen in
     record {
       trail = c.visit.ensures.trail;
       kept = record {

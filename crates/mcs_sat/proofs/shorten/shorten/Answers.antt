@@ -1,5 +1,5 @@
 use Rattle.std.proofs.Common.{◌≡◌, ◌+◌, ◌-◌, ℕ, length, sym, subst, arith}
-use Rattle.mcs_sat.specs.Marking.{AreFree}
+use Rattle.mcs_sat.specs.Marking.{AreUnmarked}
 use Rattle.mcs_sat.proofs.MarkLemmas.{free-taken_off, single-taken_off}
 use Rattle.mcs_sat.proofs.ReasonLemmas.{reasons-more}
 use Rattle.mcs_sat.proofs.shorten.shorten.Goals as goal
@@ -14,5 +14,5 @@ loop-bound-preserved c = record {
   past = λ none.
       let next : c.loop-bound.bound ≡ c.loop-bound.bound - 1 + 1 = omega arith in
       free-taken_off _ c.loop-bound.marks.items c.resolve_at.new.marks.items (c.loop-bound.bound - 1) (sym c.loop-bound.invariant.marked.marking.sized) c.in_ok-resolve_at.ensures.off
-      (subst (λ (n : ℕ). AreFree c.loop-bound.marks.items n (length c.args.trail.now.entries.items)) next (c.loop-bound.invariant.past none));
+      (subst (λ (n : ℕ). AreUnmarked c.loop-bound.marks.items n (length c.args.trail.now.entries.items)) next (c.loop-bound.invariant.past none));
 }

@@ -1,6 +1,6 @@
 use Rattle.std.proofs.Common.{◌≤◌, ◌+◌, length}
 use Rattle.mcs_sat.specs.Learning.{GoesOnByReasons}
-use Rattle.mcs_sat.specs.Marking.{AreFree, IsMarkedChain, IsSingleMark}
+use Rattle.mcs_sat.specs.Marking.{AreUnmarked, IsMarkedChain, IsSingleMark}
 use Rattle.mcs_sat.proofs.shorten.shorten.Given as goal
 
 abbrev pub invariant-loop-bound : goal.invariant-loop-bound
@@ -10,7 +10,7 @@ invariant-loop-bound l = record {
   marked : IsMarkedChain l.clauses l.trail.entries.items l.chain.items l.marks.items;
   reasons : GoesOnByReasons l.clauses l.trail.entries.items l.fn.chain.items l.chain.items;
   single : l.start + 1 ≤ length l.trail.entries.items → IsSingleMark l.start l.marks.items;
-  past : length l.trail.entries.items ≤ l.start → AreFree l.marks.items l.bound (length l.trail.entries.items);
+  past : length l.trail.entries.items ≤ l.start → AreUnmarked l.marks.items l.bound (length l.trail.entries.items);
 }
 
 abbrev pub decreases-loop-bound : goal.decreases-loop-bound

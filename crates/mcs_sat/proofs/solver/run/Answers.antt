@@ -2,7 +2,7 @@ use Rattle.std.proofs.Common.{◌≡◌, ◌≤◌, ℕ, List, refl, sym, ap, �
 use Rattle.std.specs.Option.{IfNone, is_some}
 use Rattle.mcs_sat.specs.declared.state.State.{State}
 use Rattle.mcs_sat.specs.States.{IsState, reach_of}
-use Rattle.mcs_sat.specs.Trails.{Grows}
+use Rattle.mcs_sat.specs.Trails.{GrowsOnLevel}
 use Rattle.mcs_sat.specs.Watching.{AreSettled, IsReached}
 use Rattle.mcs_sat.proofs.GrowLemmas.{grows-more}
 use Rattle.mcs_sat.proofs.RunLemmas.{all-open, before-visited, state-settled, state-visited}
@@ -19,7 +19,7 @@ settled c =
     let s = c.args.state.now in
     let e = c.settle_from.ensures in
     state-settled s c.settle_from.new.trail c.settle_from.new.from c.requires.state e.trail e.positions
-    (subst (λ (n : ℕ). Grows n s.trail.entries.items c.settle_from.new.trail.entries.items) (level c) e.grows)
+    (subst (λ (n : ℕ). GrowsOnLevel n s.trail.entries.items c.settle_from.new.trail.entries.items) (level c) e.grows)
     (subst (λ (xs : List ℕ). AreSettled s.clauses xs c.settle_from.new.trail.entries.items s.settled c.settle_from.new.from) c.deref.ensures.value e.settled)
     (subst (λ (xs : List ℕ). c.settle_from.new.from ≤ length xs) c.deref.ensures.value (e.bound (let b = c.requires.state.short_bound in omega (arith, ap length c.deref.ensures.value))))
 
@@ -31,7 +31,7 @@ after c before same =
     let between : State = record { clauses = s.clauses; chains = s.chains; trail = c.settle_from.new.trail; watches = s.watches; levels = s.levels; visited = s.visited; settled = c.settle_from.new.from; kept = s.kept } in
     let e = c.visit_from.ensures in
     state-visited between c.visit_from.new.trail c.visit_from.new.watches c.visit_from.new.from before e.trail e.positions
-    (subst (λ (n : ℕ). Grows n c.settle_from.new.trail.entries.items c.visit_from.new.trail.entries.items) same e.grows)
+    (subst (λ (n : ℕ). GrowsOnLevel n c.settle_from.new.trail.entries.items c.visit_from.new.trail.entries.items) same e.grows)
     e.watched e.sized e.spared e.short e.moved e.bound e.reached e.now
 
 pub returns-in_err-found-clause-kept : goal.returns-in_err-found-clause-kept
@@ -48,7 +48,7 @@ before : (c : After-visit_from) → c.len-level.result ≡ length c.args.state.n
 before c same =
     let s = c.args.state.now in
     before-visited (length s.levels.items) s.clauses s.watches c.visit_from.new.watches s.trail.entries.items c.settle_from.new.trail.entries.items (reach_of s)
-    (subst (λ (n : ℕ). Grows n s.trail.entries.items c.settle_from.new.trail.entries.items) same c.settle_from.ensures.grows) (omega arith) c.requires.state.bound c.requires.state.now c.visit_from.ensures.reached
+    (subst (λ (n : ℕ). GrowsOnLevel n s.trail.entries.items c.settle_from.new.trail.entries.items) same c.settle_from.ensures.grows) (omega arith) c.requires.state.bound c.requires.state.now c.visit_from.ensures.reached
 
 pub returns-in_err-found-2-clause-before : goal.returns-in_err-found-2-clause-before
 returns-in_err-found-2-clause-before c = let at = goal.at.returns-in_err-found-2-clause-before c in before at.After-visit_from (level at.After-settle_from)
@@ -75,12 +75,12 @@ returns-clause-open c =
     all-visited P R Q (Some i) h f = tt
 
 -- ---- how the literals grow
-grows-settled : (c : After-settle_from) → Grows (length c.args.state.now.levels.items) c.args.state.now.trail.entries.items c.settle_from.new.trail.entries.items
-grows-settled c = subst (λ (n : ℕ). Grows n c.args.state.now.trail.entries.items c.settle_from.new.trail.entries.items) (level c) c.settle_from.ensures.grows
+grows-settled : (c : After-settle_from) → GrowsOnLevel (length c.args.state.now.levels.items) c.args.state.now.trail.entries.items c.settle_from.new.trail.entries.items
+grows-settled c = subst (λ (n : ℕ). GrowsOnLevel n c.args.state.now.trail.entries.items c.settle_from.new.trail.entries.items) (level c) c.settle_from.ensures.grows
 
-grows-visited : (c : After-visit_from) → c.len-level.result ≡ length c.args.state.now.levels.items → Grows (length c.args.state.now.levels.items) c.args.state.now.trail.entries.items c.visit_from.new.trail.entries.items
+grows-visited : (c : After-visit_from) → c.len-level.result ≡ length c.args.state.now.levels.items → GrowsOnLevel (length c.args.state.now.levels.items) c.args.state.now.trail.entries.items c.visit_from.new.trail.entries.items
 grows-visited c same =
-    subst (λ (n : ℕ). Grows n c.args.state.now.trail.entries.items c.visit_from.new.trail.entries.items) same
+    subst (λ (n : ℕ). GrowsOnLevel n c.args.state.now.trail.entries.items c.visit_from.new.trail.entries.items) same
     (grows-more c.len-level.result c.args.state.now.trail.entries.items c.settle_from.new.trail.entries.items c.visit_from.new.trail.entries.items c.settle_from.ensures.grows c.visit_from.ensures.grows)
 
 -- ---- what stays as it is

@@ -6,7 +6,7 @@ use Rattle.mcs_trace.proofs.TraceLemmas.{refutes}
 use Rattle.mcs_sat.specs.Answers.{assignment_of}
 use Rattle.mcs_sat.specs.Searches.{IsEnd}
 use Rattle.mcs_sat.specs.Stores.{given}
-use Rattle.mcs_sat.specs.Trails.{IsSatisfied}
+use Rattle.mcs_sat.specs.Trails.{IsClauseSatisfied}
 use Rattle.mcs_sat.proofs.ModelLemmas.{all-on}
 use Rattle.mcs_sat.proofs.StoreLemmas.{given-all, later-count, later-given}
 use Rattle.mcs_sat.proofs.solving.outcome_of.Goals as goal
@@ -16,9 +16,9 @@ returns-in_ok-model_of-in-None-clause-answer c =
     let old = c.args.state.now in
     let s = c.search.new.state in
     let es = s.trail.entries.items in
-    let end : AllByRecursion (IsSatisfied es) s.clauses = subst (IsEnd s) c.in-None.is c.in_ok-search.ensures.end in
+    let end : AllByRecursion (IsClauseSatisfied es) s.clauses = subst (IsEnd s) c.in-None.is c.in_ok-search.ensures.end in
     let same = later-given old s c.requires.state c.search.ensures.later in
-    let all : AllByRecursion (IsSatisfied es) (given old.clauses old.chains) = subst (AllByRecursion (IsSatisfied es)) same (given-all (IsSatisfied es) s.clauses s.chains end) in
+    let all : AllByRecursion (IsClauseSatisfied es) (given old.clauses old.chains) = subst (AllByRecursion (IsClauseSatisfied es)) same (given-all (IsClauseSatisfied es) s.clauses s.chains end) in
     let model = c.in_ok-model_of-in-None in
     (model.ensures.len, all-on es s.trail.positions.items (assignment_of model.field-0.items) c.args.vars c.in_ok-search.ensures.kept.state.trail.placed model.ensures.values (given old.clauses old.chains) c.requires.within all)
 

@@ -1,5 +1,5 @@
 use Rattle.std.proofs.Common.{◌≡◌, ◌-◌, ◌+◌, ◌∙◌, ℕ, arith, length, subst, sym}
-use Rattle.mcs_sat.specs.Numbering.{AreNamed, NameBelow}
+use Rattle.mcs_sat.specs.Numbering.{AreChainsMarked, NameBelow}
 use Rattle.mcs_sat.proofs.NumberingLemmas.{mark-read, marked-kept, named-marked, named-off}
 use Rattle.mcs_sat.proofs.trace.needed_for.Goals as goal
 
@@ -19,7 +19,7 @@ loop-index-preserved-then-index c =
       within = (let w = before.within in omega arith);
       last = marked-kept c.loop-index.needed.items c.mark-then-index.new.needed.items c.args.last.now m.kept before.last;
       closed = named-marked c.args.chains.now c.loop-index.needed.items c.mark-then-index.new.needed.items i c.row.result.now c.requires.chains c.row.ensures m.kept m.only m.marked
-          (subst (AreNamed c.args.chains.now c.loop-index.needed.items) back before.closed);
+          (subst (AreChainsMarked c.args.chains.now c.loop-index.needed.items) back before.closed);
     }
 
 pub loop-index-preserved : goal.loop-index-preserved
@@ -34,10 +34,10 @@ loop-index-preserved c =
       within = omega arith;
       last = before.last;
       closed = named-off c.args.chains.now c.loop-index.needed.items i (mark-read c.loop-index.needed.items i c.index.result.now (omega arith) c.index.ensures ∙ c.if-index.false)
-          (subst (AreNamed c.args.chains.now c.loop-index.needed.items) back before.closed);
+          (subst (AreChainsMarked c.args.chains.now c.loop-index.needed.items) back before.closed);
     }
 
 pub returns-clause-closed : goal.returns-clause-closed
 returns-clause-closed c =
     let end : c.loop-index.index ≡ 0 = omega arith in
-    subst (AreNamed c.args.chains.now c.loop-index.needed.items) end c.loop-index.invariant.closed
+    subst (AreChainsMarked c.args.chains.now c.loop-index.needed.items) end c.loop-index.invariant.closed

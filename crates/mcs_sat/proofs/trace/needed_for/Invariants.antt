@@ -1,5 +1,5 @@
 use Rattle.std.proofs.Common.{◌≡◌, ◌≤◌, length}
-use Rattle.mcs_sat.specs.Numbering.{AreMarked, AreNamed}
+use Rattle.mcs_sat.specs.Numbering.{AreMarked, AreChainsMarked}
 use Rattle.mcs_sat.proofs.trace.needed_for.Given as goal
 
 abbrev pub invariant-loop-index : goal.invariant-loop-index
@@ -7,7 +7,7 @@ invariant-loop-index l = record {
   sized : length l.needed.items ≡ length l.chains;
   within : l.index ≤ length l.chains;
   last : AreMarked l.needed.items l.last;
-  closed : AreNamed l.chains l.needed.items l.index;
+  closed : AreChainsMarked l.chains l.needed.items l.index;
 }
 
 abbrev pub decreases-loop-index : goal.decreases-loop-index

@@ -3,7 +3,7 @@ use Rattle.mcs_ports.specs.Causes.{Rose}
 use Rattle.mcs_base.proofs.Results.{err_told}
 use Rattle.mcs_words.specs.Commands.{solve}
 use Rattle.mcs_top.specs.Jobs.{told_all}
-use Rattle.mcs_top.specs.Promise.{HasCause, LeavesText}
+use Rattle.mcs_top.specs.Promise.{IsStopCause, LeavesText}
 use Rattle.mcs_top.proofs.StageLemmas.{read_left}
 use Rattle.mcs_top.proofs.ProvingLemmas.{proof_read_cause, file_proved, proof_causes, proof_leaves}
 use Rattle.mcs_top.proofs.proving.prove.Goals as goal
@@ -14,7 +14,7 @@ returns-in_err-system-clause-cause g c workers =
     let rose = Rose (g.H.Shelf.faults c.args.shelf.now) (g.H.Shelf.faults c.system_in.new.shelf) in
     let failed = Rose (g.H.Shelf.failures c.args.shelf.now) (g.H.Shelf.failures c.system_in.new.shelf) in
     let same = Rose (g.K.Sink.device c.args.sink.now).faults (g.K.Sink.device c.args.sink.now).faults in
-    err_told (λ stop. HasCause stop rose failed same (solve c.args.file.now c.args.budget workers true) files) _ _ c.from_residual.ensures.1
+    err_told (λ stop. IsStopCause stop rose failed same (solve c.args.file.now c.args.budget workers true) files) _ _ c.from_residual.ensures.1
     (proof_read_cause c.args.file.now c.args.budget workers rose failed same files c.in_err-system.field-0.0 c.in_err-system.ensures.stop)
 
 pub returns-in_err-system-clause-leaves : goal.returns-in_err-system-clause-leaves

@@ -11,7 +11,7 @@ use Rattle.mcs_trace.specs.Clauses.{IsWithin}
 use Rattle.mcs_cnf.specs.ClauseLists.{IsOver, AreOver}
 use Rattle.mcs_cnf.proofs.GrowingLemmas.{grown_clauses, grown_room, grown_within, cut_fewer}
 use Rattle.mcs_classical.specs.Assumptions.{assumed}
-use Rattle.mcs_classical.specs.Consequences.{with_assumed, IsLower}
+use Rattle.mcs_classical.specs.Consequences.{with_assumed, IsLowerConsequence}
 use Rattle.mcs_classical.specs.declared.bounds.Lower.{Lower}
 use Rattle.mcs_classical.proofs.ConsequenceLemmas.{assumed_common, assumed_over, told_none}
 use Rattle.mcs_classical.proofs.consequences.Consequences.following.Goals as goal
@@ -56,7 +56,7 @@ returns-in_err-push-clause-right c = λ fs is over all.
     let gs = map (λ g. formula_of g.now) c.args.goals.now in
     let set = c.common-assumed.result in
     record {
-      lower = subst (λ (ls : List Lower). AllByRecursion (IsLower fs xs gs) ls) (sym c.in_err-push.ensures.items) all.lower;
+      lower = subst (λ (ls : List Lower). AllByRecursion (IsLowerConsequence fs xs gs) ls) (sym c.in_err-push.ensures.items) all.lower;
       upper = c.ask_left-found.ensures.right fs set (grown_clauses c.args.atoms.now c.args.known.now c.add_assumed.new.known (assumed set xs, c.in_ok-add_assumed.ensures.ok) fs is)
           (all_append (IsOver c.args.atoms.now) fs (assumed set xs) over (assumed_over c.args.atoms.now set xs c.requires.assumptions)) all.upper;
     }
@@ -74,7 +74,7 @@ returns-clause-right c = λ fs is over all.
     let l : Lower = record { assumed = set; entailed = c.in_ok-entailed.entailed } in
     elim c.if-ne.branch [
       | then-ne+in_ok-push w ↦ rw w.self-is (record {
-        lower = subst (λ (ls : List Lower). AllByRecursion (IsLower fs xs gs) ls) (sym w.in_ok-push.ensures.items) (all_push (IsLower fs xs gs) c.args.self.now.lower.items l all.lower (λ k is. (shows k).0 is));
+        lower = subst (λ (ls : List Lower). AllByRecursion (IsLowerConsequence fs xs gs) ls) (sym w.in_ok-push.ensures.items) (all_push (IsLowerConsequence fs xs gs) c.args.self.now.lower.items l all.lower (λ k is. (shows k).0 is));
         upper = upper;
       })
       | else-ne w ↦ rw w.self-is (record { lower = all.lower; upper = upper })

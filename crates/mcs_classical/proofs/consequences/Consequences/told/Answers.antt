@@ -1,6 +1,6 @@
 use Rattle.std.proofs.Common.{List, sym, subst}
 use Rattle.std.specs.List.{AllByRecursion}
-use Rattle.mcs_classical.specs.Consequences.{with_assumed, IsLower, IsUpper}
+use Rattle.mcs_classical.specs.Consequences.{with_assumed, IsLowerConsequence, IsUpperConsequence}
 use Rattle.mcs_classical.specs.declared.bounds.Lower.{Lower}
 use Rattle.mcs_classical.specs.declared.bounds.Upper.{Upper}
 use Rattle.mcs_classical.proofs.ConsequenceLemmas.{possible_all, told_first}
@@ -10,6 +10,6 @@ pub returns : goal.returns
 returns c fs xs goals size are =
     let gs = with_assumed fs xs c.args.set in
     told_first gs goals c.possible_with-possible.result (record { entailed = c.entailed_with-entailed.result; left = c.minus.result })
-    (c.entailed_with-entailed.ensures fs xs goals (subst (λ (ls : List Lower). AllByRecursion (IsLower fs xs goals) ls) (sym c.deref.ensures.value) are.lower))
-    (c.possible_with-possible.ensures fs xs goals (possible_all gs goals c.args.count c.places_of.result size c.places_of.ensures) (subst (λ (us : List Upper). AllByRecursion (IsUpper fs xs goals) us) (sym c.deref-2.ensures.value) are.upper))
+    (c.entailed_with-entailed.ensures fs xs goals (subst (λ (ls : List Lower). AllByRecursion (IsLowerConsequence fs xs goals) ls) (sym c.deref.ensures.value) are.lower))
+    (c.possible_with-possible.ensures fs xs goals (possible_all gs goals c.args.count c.places_of.result size c.places_of.ensures) (subst (λ (us : List Upper). AllByRecursion (IsUpperConsequence fs xs goals) us) (sym c.deref-2.ensures.value) are.upper))
     c.minus.ensures

@@ -7,7 +7,7 @@ use Rattle.mcs_system.specs.Views.{IsAcceptedView}
 use Rattle.mcs_system.specs.Seen.{formula_of, item_of}
 use Rattle.mcs_cnf.specs.ClauseLists.{AreOver}
 use Rattle.mcs_classical.specs.Assumptions.{assumed}
-use Rattle.mcs_default.specs.Searches.{IsRight}
+use Rattle.mcs_default.specs.Searches.{AreRightFindings}
 use Rattle.mcs_default.proofs.KeptLemmas.{assumed_over, base_same}
 use Rattle.mcs_default.proofs.base.TheoryBase.list_extensions.Goals as goal
 
@@ -23,7 +23,7 @@ pub list_with-requires-clause-right : goal.list_with-requires-clause-right
 list_with-requires-clause-right c =
     let items : List Item = map item_of c.args.items.now in
     let heads : map (λ f. formula_of f.now) c.deref.result.now ≡ assumed c.args.set c.args.assumptions.now = ap (map (λ f. formula_of f.now)) c.deref.ensures.value ∙ c.in_ok-heads.ensures in
-    subst (λ (hs : List Formula). IsRight c.args.atoms.now (items ++ map Fact hs) c.select.new.self.findings) (sym heads)
+    subst (λ (hs : List Formula). AreRightFindings c.args.atoms.now (items ++ map Fact hs) c.select.new.self.findings) (sym heads)
     (c.in_ok-selected.ensures.right c.args.atoms.now items c.args.assumptions.now c.requires.base)
 
 pub returns-in_err-selected-clause-base : goal.returns-in_err-selected-clause-base
@@ -44,7 +44,7 @@ returns-in_err-keep-clause-base c =
     c.keep.ensures items
     (base_same c.args.atoms.now items c.args.assumptions.now c.args.self.now (record { findings = c.list_with.new.findings; lower = b.lower; upper = b.upper; conflicts = b.conflicts })
     (c.list_with.ensures.kept ∙ c.select.ensures.facts) c.select.ensures.lower c.select.ensures.upper c.select.ensures.conflicts c.requires.base)
-    (subst (λ (hs : List Formula). IsRight c.args.atoms.now (items ++ map Fact hs) c.list_with.new.findings) heads c.in_ok-views.ensures.right)
+    (subst (λ (hs : List Formula). AreRightFindings c.args.atoms.now (items ++ map Fact hs) c.list_with.new.findings) heads c.in_ok-views.ensures.right)
 
 pub returns-clause-base : goal.returns-clause-base
 returns-clause-base c =
@@ -54,7 +54,7 @@ returns-clause-base c =
     c.keep.ensures items
     (base_same c.args.atoms.now items c.args.assumptions.now c.args.self.now (record { findings = c.list_with.new.findings; lower = b.lower; upper = b.upper; conflicts = b.conflicts })
     (c.list_with.ensures.kept ∙ c.select.ensures.facts) c.select.ensures.lower c.select.ensures.upper c.select.ensures.conflicts c.requires.base)
-    (subst (λ (hs : List Formula). IsRight c.args.atoms.now (items ++ map Fact hs) c.list_with.new.findings) heads c.in_ok-views.ensures.right)
+    (subst (λ (hs : List Formula). AreRightFindings c.args.atoms.now (items ++ map Fact hs) c.list_with.new.findings) heads c.in_ok-views.ensures.right)
 
 pub returns-clause-exact : goal.returns-clause-exact
 returns-clause-exact c =

@@ -3,7 +3,7 @@ use Rattle.std.proofs.lemmas.List.{append-nil}
 use Rattle.std.specs.Option.{option_copied}
 use Rattle.mcs_grammar.specs.Entries.{Use, EndsRead}
 use Rattle.mcs_grammar.specs.Faults.{NamedRead}
-use Rattle.mcs_faults.specs.Watching.{IsSpokenOf, IsAllowed, IsWatch}
+use Rattle.mcs_faults.specs.Watching.{IsSpokenOf, IsUseAllowed, IsWatch}
 use Rattle.mcs_faults.proofs.LimitLemmas.{spoken-of, in-use}
 use Rattle.mcs_faults.proofs.FreeLemmas.{allowed-use, no-read}
 use Rattle.mcs_faults.proofs.RecordLemmas.{when-yes, when-no}
@@ -20,7 +20,7 @@ returns-in-Some c = λ before m a asked none.
     (subst (λ (q : NamedRead). IfOk c.record_read.result (λ _. IsWatch c.record_read.new.self (before ++ EndsRead a.subject.target q.context q.belief ∷ []))) same
     (c.record_read.ensures before a.subject.target asked.watch asked.subject_is.target
     (subst (λ (q : NamedRead). IsSpokenOf before (EndsRead a.subject.target q.context q.belief)) (sym same) spoken)
-    (subst (λ (q : NamedRead). IsAllowed before (EndsRead a.subject.target q.context q.belief)) (sym same) allowed)))
+    (subst (λ (q : NamedRead). IsUseAllowed before (EndsRead a.subject.target q.context q.belief)) (sym same) allowed)))
 
 pub returns-in-None : goal.returns-in-None
 returns-in-None c = λ before m a asked none.

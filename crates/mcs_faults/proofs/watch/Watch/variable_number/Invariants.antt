@@ -1,7 +1,7 @@
 use Rattle.std.proofs.Common.{map, take}
 use Rattle.mcs_base.specs.Listings.{IsAmong}
-use Rattle.mcs_reader.specs.TextImages.{read_of}
+use Rattle.mcs_reader.specs.TextImages.{named_read_of}
 use Rattle.mcs_faults.proofs.watch.Watch.variable_number.Given as goal
 
 abbrev pub invariant-loop-number : goal.invariant-loop-number
-invariant-loop-number l = ¬ IsAmong (read_of l.read) (map read_of (take l.number l.self.variables.items))
+invariant-loop-number l = ¬ IsAmong (named_read_of l.read) (map named_read_of (take l.number l.self.variables.items))

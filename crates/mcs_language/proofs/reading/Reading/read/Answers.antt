@@ -1,6 +1,6 @@
 use Rattle.std.proofs.Common.{◌≡◌, length, Option, subst, arith}
 use Rattle.mcs_faults.specs.declared.fault.Fault as code_fault
-use Rattle.mcs_language.specs.Progress.{IsNextRead, IsUpTo}
+use Rattle.mcs_language.specs.Progress.{IsNextRead, AreReadUpTo}
 use Rattle.mcs_grammar.specs.Texts.{token_texts}
 use Rattle.mcs_language.proofs.ToldLemmas.{token-at, told-at}
 use Rattle.mcs_language.proofs.reading.Reading.read.Goals as goal
@@ -24,4 +24,4 @@ loop-span-preserved c =
 pub returns-clause-all : goal.returns-clause-all
 returns-clause-all c =
     let end : c.loop-span.span-index ≡ length c.args.spans.now = omega arith in
-    subst (IsUpTo c.loop-span.self (token_texts c.args.bytes.now c.args.spans.now)) end c.loop-span.invariant
+    subst (AreReadUpTo c.loop-span.self (token_texts c.args.bytes.now c.args.spans.now)) end c.loop-span.invariant

@@ -4,7 +4,7 @@ use Rattle.mcs_system.specs.Plain as plain
 use Rattle.mcs_system.specs.Seen.{bridge_of, system_of}
 use Rattle.mcs_system.specs.declared.knowledge.Context as code_context
 use Rattle.mcs_reader.specs.declared.reader.Parts.{Parts}
-use Rattle.mcs_reader.specs.Ends.{AreParts, AreKnown, context_names}
+use Rattle.mcs_reader.specs.Ends.{AreReaderParts, HaveKnownContexts, context_names}
 use Rattle.mcs_grammar.specs.Saying.{Each, SaysBridge}
 use Rattle.mcs_reader.specs.TextSteps.{finished_text}
 use Rattle.mcs_grammar.specs.Texts.{Spells}
@@ -15,7 +15,7 @@ use Rattle.mcs_language.proofs.reading.Reading.system.Goals as goal
 pub returns-in_default-clause-fault : goal.returns-in_default-clause-fault
 returns-in_default-clause-fault c =
     let read = c.requires in
-    let nothing = subst (λ (o : Option Parts). AreParts o (finished_text read.all.state)) c.in_default.is (c.finish.ensures read.all.state read.all.reader) in
+    let nothing = subst (λ (o : Option Parts). AreReaderParts o (finished_text read.all.state)) c.in_default.is (c.finish.ensures read.all.state read.all.reader) in
     told-end c.args.bytes.now read.spans c.args.self c.at.result (length c.args.bytes.now) read.tokens read.all (hands-nothing (finished_text read.all.state) nothing) refl c.at.ensures
 
 pub numbered-requires-clause-few : goal.numbered-requires-clause-few
@@ -30,7 +30,7 @@ numbered-requires-clause-known c =
     let read = c.requires in
     let out = hands-out c.in-Some.parts (finished_text read.all.state) (c.in-Some.ensures read.all.state read.all.reader) in
     let known = all-known c.args.bytes.now read.spans c.args.self read.tokens read.all c.in-Some.parts.contexts.items out.text out.is out.contexts in
-    (out.text.bridges, out.bridges, subst (λ (cs : List code_context.Context). AreKnown (context_names cs) out.text.bridges) (sym c.deref.ensures.value) known)
+    (out.text.bridges, out.bridges, subst (λ (cs : List code_context.Context). HaveKnownContexts (context_names cs) out.text.bridges) (sym c.deref.ensures.value) known)
 
 pub built-requires : goal.built-requires
 built-requires c =

@@ -5,7 +5,7 @@ use Rattle.mcs_system.specs.Seen.{rule_of}
 use Rattle.mcs_cnf.specs.Entailments.{IsModelAt}
 use Rattle.mcs_evidence.specs.Programs.{rest_formulas}
 use Rattle.mcs_program.specs.declared.search.Search.{Search}
-use Rattle.mcs_program.specs.Searches.{IsFoundFor, IsSearch, IsExhausted}
+use Rattle.mcs_program.specs.Searches.{IsFoundFor, IsProgramSearch, IsExhausted}
 use Rattle.mcs_program.proofs.PlaceLemmas.{low_places, few_places}
 use Rattle.mcs_program.proofs.search.Search.step.Goals as goal
 
@@ -40,7 +40,7 @@ take_up-requires-clause-model c =
     let same = c.in_ok-model.ensures.same in
     let known = rest_formulas names rules (map Atom ns) c.args.self.now.smaller.items c.args.self.now.views.items in
     let found : IsModelAt names known c.in-Some.model = subst (IsFoundFor names known) c.in-Some.is (c.in_ok-model.ensures.found rules ns c.requires.placed c.requires.search) in
-    c.made_small-small.ensures.stays names rules ns c.requires.different c.requires.placed (subst (IsSearch names rules (map Atom ns)) (sym same) c.requires.search)
+    c.made_small-small.ensures.stays names rules ns c.requires.different c.requires.placed (subst (IsProgramSearch names rules (map Atom ns)) (sym same) c.requires.search)
     (subst (λ (s : Search). IsModelAt names (rest_formulas names rules (map Atom ns) s.smaller.items s.views.items) c.in-Some.model) (sym same) found)
 
 pub returns-in-None-clause-ends : goal.returns-in-None-clause-ends

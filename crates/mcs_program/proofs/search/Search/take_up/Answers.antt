@@ -7,7 +7,7 @@ use Rattle.mcs_system.specs.Seen.{rule_of}
 use Rattle.mcs_trace.specs.Traces.{inferences_of}
 use Rattle.mcs_cnf.proofs.GrowingLemmas.{room_known}
 use Rattle.mcs_cnf.specs.Entailments.{IsModelAt}
-use Rattle.mcs_classical.specs.Models.{IsSatisfied}
+use Rattle.mcs_classical.specs.Models.{IsSatisfiedAnswer}
 use Rattle.mcs_evidence.specs.Programs.{smaller_formulas, model_shown_of, IsAcceptedModel, IsRefutation}
 use Rattle.mcs_evidence.proofs.Models.{smaller-over}
 use Rattle.mcs_program.proofs.SearchLemmas.{excluded_search, excluded_less, listed_search, listed_less, atoms_of_names}
@@ -36,7 +36,7 @@ returns-in-Model-clause-search c =
     let rules = map rule_of c.args.rules.now in
     let beliefs = map Atom (map (λ b. b.now) c.args.beliefs.now) in
     let fs = smaller_formulas names rules c.args.model in
-    let below : IsModelAt names fs c.in-Model.less = subst (IsSatisfied names fs) c.in-Model.is (c.in_ok-less.ensures fs c.in_ok-smaller.ensures (smaller-over names rules c.args.model c.requires.rules)) in
+    let below : IsModelAt names fs c.in-Model.less = subst (IsSatisfiedAnswer names fs) c.in-Model.is (c.in_ok-less.ensures fs c.in_ok-smaller.ensures (smaller-over names rules c.args.model c.requires.rules)) in
     IfOk-weaker c.exclude.result _ _ (λ _ e. excluded_search names rules beliefs c.args.self.now c.exclude.new.self c.in-Model.less below.in_range e c.requires.search) c.exclude.ensures
 
 pub returns-in-Model-clause-less : goal.returns-in-Model-clause-less
@@ -45,7 +45,7 @@ returns-in-Model-clause-less c =
     let rules = map rule_of c.args.rules.now in
     let beliefs = map Atom (map (λ b. b.now) c.args.beliefs.now) in
     let fs = smaller_formulas names rules c.args.model in
-    let below : IsModelAt names fs c.in-Model.less = subst (IsSatisfied names fs) c.in-Model.is (c.in_ok-less.ensures fs c.in_ok-smaller.ensures (smaller-over names rules c.args.model c.requires.rules)) in
+    let below : IsModelAt names fs c.in-Model.less = subst (IsSatisfiedAnswer names fs) c.in-Model.is (c.in_ok-less.ensures fs c.in_ok-smaller.ensures (smaller-over names rules c.args.model c.requires.rules)) in
     IfOk-weaker c.exclude.result _ _ (λ _ e. excluded_less names rules beliefs c.args.self.now c.exclude.new.self c.args.model c.in-Model.less e c.requires.model below) c.exclude.ensures
 
 pub returns-in-Refuted-clause-search : goal.returns-in-Refuted-clause-search
@@ -55,7 +55,7 @@ returns-in-Refuted-clause-search c =
     let beliefs = map Atom (map (λ b. b.now) c.args.beliefs.now) in
     let fs = smaller_formulas names rules c.args.model in
     let minimal = inferences_of c.in-Refuted.minimal in
-    let refutes : IsRefutation names fs minimal = (subst (IsSatisfied names fs) c.in-Refuted.is (c.in_ok-less.ensures fs c.in_ok-smaller.ensures (smaller-over names rules c.args.model c.requires.rules))).0 in
+    let refutes : IsRefutation names fs minimal = (subst (IsSatisfiedAnswer names fs) c.in-Refuted.is (c.in_ok-less.ensures fs c.in_ok-smaller.ensures (smaller-over names rules c.args.model c.requires.rules))).0 in
     IfOk-weaker c.list.result _ _ (λ _ e. listed_search names rules beliefs c.args.self.now c.list.new.self c.args.model minimal e (atoms_of_names names (map (λ b. b.now) c.args.beliefs.now) c.requires.beliefs) c.requires.model refutes c.requires.search) c.list.ensures
 
 pub returns-in-Refuted-clause-less : goal.returns-in-Refuted-clause-less

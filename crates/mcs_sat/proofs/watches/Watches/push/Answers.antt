@@ -1,7 +1,7 @@
 use Rattle.std.proofs.Common.{◌∙◌, ◌++◌, ◌∷◌, [], List, ℤ, Option, IfSome, ap, sym, subst}
 use Rattle.mcs_trace.specs.Clauses.{IsLiteral}
 use Rattle.mcs_sat.specs.declared.watches.Pair.{Pair}
-use Rattle.mcs_sat.specs.Watching.{IsListed, IsPushed}
+use Rattle.mcs_sat.specs.Watching.{IsInList, IsPushed}
 use Rattle.mcs_sat.proofs.GrowLemmas.{read_literal}
 use Rattle.mcs_sat.proofs.watches.Watches.push.Goals as goal
 
@@ -33,11 +33,11 @@ returns-in_ok-push-in-Some-clause-pushed c =
     let p : Pair = c.in-Some.pair in
     let last = c.len-index.ensures in
     let literals = subst (λ (o : Option Pair). IfSome o (λ q. IsLiteral q.first × IsLiteral q.second)) c.in-Some.is c.requires.literals in
-    let first : IsListed c.list.new.self.lists p.first c.len-index.result = subst (λ (l : ℤ). IsListed c.list.new.self.lists l c.len-index.result) (read_literal p.first literals.0) c.in_ok-list-in-Some.ensures.listed in
-    let second : IsListed c.list-in-Some.new.self.lists p.second c.len-index.result = subst (λ (l : ℤ). IsListed c.list-in-Some.new.self.lists l c.len-index.result) (read_literal p.second literals.1) c.in_ok-list-in-Some-2.ensures.listed in
+    let first : IsInList c.list.new.self.lists p.first c.len-index.result = subst (λ (l : ℤ). IsInList c.list.new.self.lists l c.len-index.result) (read_literal p.first literals.0) c.in_ok-list-in-Some.ensures.listed in
+    let second : IsInList c.list-in-Some.new.self.lists p.second c.len-index.result = subst (λ (l : ℤ). IsInList c.list-in-Some.new.self.lists l c.len-index.result) (read_literal p.second literals.1) c.in_ok-list-in-Some-2.ensures.listed in
     subst (IsPushed old (record { pairs = c.push.new.self; lists = c.list-in-Some.new.self.lists; short = c.list-in-Some.new.self.short })) (sym c.in-Some.is) (
       c.in_ok-push-in-Some.ensures.ok ∙ ap (λ (ps : List Pair). ps ++ p ∷ []) (c.list-in-Some.ensures.pairs ∙ c.list.ensures.pairs),
       c.list-in-Some.ensures.short ∙ c.list.ensures.short,
-      subst (IsListed c.list-in-Some.new.self.lists p.first) last (c.list-in-Some.ensures.kept p.first c.len-index.result first),
-      subst (IsListed c.list-in-Some.new.self.lists p.second) last second,
+      subst (IsInList c.list-in-Some.new.self.lists p.first) last (c.list-in-Some.ensures.kept p.first c.len-index.result first),
+      subst (IsInList c.list-in-Some.new.self.lists p.second) last second,
     )

@@ -8,7 +8,7 @@ use Rattle.mcs_system.specs.Systems.{IsAcceptedPart}
 use Rattle.mcs_asking.specs.Certificates.{IsAccepted}
 use Rattle.mcs_solver.specs.Certified.{IsCertified}
 use Rattle.mcs_solver.specs.Kinds.{IsMadeOfContext}
-use Rattle.mcs_solver.specs.Solvers.{AreKept, HasKept}
+use Rattle.mcs_solver.specs.Solvers.{AreAnswersKept, HasKept}
 use Rattle.mcs_solver.proofs.KeepingLemmas.{kept_more}
 use Rattle.mcs_solver.proofs.solver.LocalSolverOracle.ask.Goals as goal
 
@@ -28,5 +28,5 @@ invariant_of-self-2 c =
     let journal = c.in_ok-push.ensures.items ∙ ap (λ (xs : List ℕ). xs ++ x ∷ []) c.in_ok-reserve.ensures.items in (
       c.self.invariant.0,
       subst (λ (n : System). IsMadeOfContext n i c.parts_with.new.known) c.deref.ensures c.in_ok-parts.ensures.made,
-      subst (λ (xs : List ℕ). AreKept m i keep xs c.keep_answer.new.kept) (sym journal) (kept_more m i keep c.self.inside.journal.items x parts c.in_ok-parts.cert c.self.inside.kept c.keep_answer.new.kept has shown listing c.self.invariant.2),
+      subst (λ (xs : List ℕ). AreAnswersKept m i keep xs c.keep_answer.new.kept) (sym journal) (kept_more m i keep c.self.inside.journal.items x parts c.in_ok-parts.cert c.self.inside.kept c.keep_answer.new.kept has shown listing c.self.invariant.2),
     )

@@ -15,7 +15,7 @@ use Rattle.mcs_base.specs.StateOrder.{state_cmp, state_cmp_total, compared, equa
 use Rattle.mcs_base.proofs.Among.{among_at, place_among, among_map, map_among, among_push, among_left, among_right}
 use Rattle.mcs_base.proofs.ListingLemmas.{ascending_at, IsListing-same}
 use Rattle.mcs_table.specs.declared.row.Row.{Row}
-use Rattle.mcs_table.specs.Fitting.{SomeSays}
+use Rattle.mcs_table.specs.Fitting.{IsRowProjection}
 
 -- ---- a search among states in order
 not_less : (a b : ℕ) → StateBefore b a → is_lt (state_cmp a b) ≡ false
@@ -46,35 +46,35 @@ found_state xs x up (Err i) found within b is = (λ h. absurd (true≢false (sym
         ]
 
 -- ---- what rows say
-pub said_listed : (rows : List Row) (set : ℕ) (said next : List ℕ) → said ≡ map (λ (r : Row). common r.state.values set) rows → IsListing (λ s. IsAmong s said) StateBefore next → IsListing (SomeSays rows set) StateBefore next
-said_listed rows set said next is listing = IsListing-same StateBefore (λ s. IsAmong s said) (SomeSays rows set) next (λ s. (
+pub projections_listed : (rows : List Row) (set : ℕ) (projections next : List ℕ) → projections ≡ map (λ (r : Row). common r.state.values set) rows → IsListing (λ s. IsAmong s projections) StateBefore next → IsListing (IsRowProjection rows set) StateBefore next
+projections_listed rows set projections next is listing = IsListing-same StateBefore (λ s. IsAmong s projections) (IsRowProjection rows set) next (λ s. (
   λ h. map_among (λ (r : Row). common r.state.values set) s rows (subst (IsAmong s) is h),
   λ (r, among, e). subst (λ (xs : List ℕ). IsAmong s xs) (sym is) (subst (λ (z : ℕ). IsAmong z (map (λ (r' : Row). common r'.state.values set) rows)) (sym e) (among_map (λ (r' : Row). common r'.state.values set) r rows among)),
 )) listing
 
 -- ---- the states that are kept
--- of the first k states those that are said
-abbrev pub AreSaid : List ℕ → ℕ → List ℕ → ℕ → List ℕ → Type 0
-AreSaid said set states k kept = (s : ℕ) → IsAmong s kept ↔ (IsAmong s (take k states) × IsAmong (common s set) said)
+-- of the first k states those with one of the projections
+abbrev pub AreProjected : List ℕ → ℕ → List ℕ → ℕ → List ℕ → Type 0
+AreProjected projections set states k kept = (s : ℕ) → IsAmong s kept ↔ (IsAmong s (take k states) × IsAmong (common s set) projections)
 
-module _ (said : List ℕ) (set : ℕ) (states : List ℕ) (k x : ℕ) (less : k < length states) (here : x ≡ get_or states k x) (kept : List ℕ) (so_far : AreSaid said set states k kept) where
+module _ (projections : List ℕ) (set : ℕ) (states : List ℕ) (k x : ℕ) (less : k < length states) (here : x ≡ get_or states k x) (kept : List ℕ) (so_far : AreProjected projections set states k kept) where
   next : take (k + 1) states ≡ take k states ++ x ∷ []
   next = take_read states k x less here
 
-  pub said_more : IsAmong (common x set) said → AreSaid said set states (k + 1) (kept ++ x ∷ [])
-  said_more there s = (
+  pub projected_more : IsAmong (common x set) projections → AreProjected projections set states (k + 1) (kept ++ x ∷ [])
+  projected_more there s = (
     λ h. elim ((among_push s kept x).0 h) [
       | inl old ↦ let (among, is) = (so_far s).0 old in (subst (IsAmong s) (sym next) (among_left s (take k states) (x ∷ []) among), is)
-      | inr e ↦ (subst (IsAmong s) (sym next) (among_right s (take k states) (x ∷ []) (inl e)), subst (λ (z : ℕ). IsAmong (common z set) said) (sym e) there)
+      | inr e ↦ (subst (IsAmong s) (sym next) (among_right s (take k states) (x ∷ []) (inl e)), subst (λ (z : ℕ). IsAmong (common z set) projections) (sym e) there)
     ],
     λ (among, is). (among_push s kept x).1 (elim ((among_push s (take k states) x).0 (subst (IsAmong s) next among)) [ inl old ↦ inl ((so_far s).1 (old, is)) | inr e ↦ inr e ]),
   )
 
-  pub said_less : ¬ IsAmong (common x set) said → AreSaid said set states (k + 1) kept
-  said_less none s = (
+  pub projected_less : ¬ IsAmong (common x set) projections → AreProjected projections set states (k + 1) kept
+  projected_less none s = (
     λ h. let (among, is) = (so_far s).0 h in (subst (IsAmong s) (sym next) (among_left s (take k states) (x ∷ []) among), is),
     λ (among, is). elim ((among_push s (take k states) x).0 (subst (IsAmong s) next among)) [
       | inl old ↦ (so_far s).1 (old, is)
-      | inr e ↦ absurd (none (subst (λ (z : ℕ). IsAmong (common z set) said) e is))
+      | inr e ↦ absurd (none (subst (λ (z : ℕ). IsAmong (common z set) projections) e is))
     ],
   )
