@@ -1,0 +1,12 @@
+pub mod Rounds
+pub mod Configurations
+pub mod Steps
+pub mod Laws
+pub mod Worked
+pub mod Existence
+pub mod Replay
+pub mod Letters
+pub mod Known
+pub mod Nodes
+pub mod Codes
+pub mod Keeping

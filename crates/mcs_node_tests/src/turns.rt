@@ -1,0 +1,113 @@
+//! Rounds of two contexts, of which the first supplies the second.
+
+use crate::nodes::{Two, begin_two, grant, hand_twice};
+use mcs_base::Memory;
+use mcs_language::read_system;
+use mcs_node::{Content, Handled};
+use mcs_states::Halt;
+use mcs_system::System;
+use std::alloc::Global;
+use std::sync::Arc;
+use std::test::Fail;
+
+/// The second context is told what the first one believes: each has one question at level 0.
+const TOLD: &str = "context c1 program { a. } context c2 program {} bridge r1: c2:p if c1:a.";
+
+/// Whether the first node waits for a grant of one question, and the second one does not wait for one.
+fn is_first_turn(nodes: &Two) -> bool {
+    nodes.first.needs() == Some(1) && nodes.second.needs() == None
+}
+
+/// Whether the first node is granted its question and its letter is taken once; then the second one waits for a grant
+/// of one question.
+fn takes_first_turn(alloc: Global, nodes: &mut Two) -> Result<bool, Memory> {
+    let total = grant(alloc, &mut nodes.first, 0);
+    let handled = hand_twice(alloc, &mut nodes.first, &mut nodes.second)?;
+    Ok(
+        total == Some(1)
+            && handled == Some((Handled::Took, Handled::Ignored))
+            && nodes.first.next_out().is_none()
+            && nodes.second.needs() == Some(1),
+    )
+}
+
+/// Whether both nodes are done after two questions, of which the first tells that one state may be supplied.
+fn takes_second_turn(alloc: Global, nodes: &mut Two) -> bool {
+    let total = grant(alloc, &mut nodes.second, 1);
+    total == Some(2)
+        && nodes.first.is_done()
+        && nodes.second.is_done()
+        && nodes.second.stopped().is_none()
+        && nodes.first.known().supplies.len() == 1
+        && nodes.second.next_out().is_none()
+}
+
+/// Whether the nodes of the system take turns within a budget of two questions.
+fn take_turns(alloc: Global, system: &Arc<System>) -> Result<bool, Memory> {
+    let Some(mut nodes) = begin_two(alloc, system, 2)? else {
+        return Ok(false);
+    };
+    Ok(
+        is_first_turn(&nodes)
+            && takes_first_turn(alloc, &mut nodes)?
+            && takes_second_turn(alloc, &mut nodes),
+    )
+}
+
+/// Whether the second node of the system stops by itself when it is granted more than a budget of one question.
+fn stops_second(alloc: Global, system: &Arc<System>) -> Result<bool, Memory> {
+    let Some(mut nodes) = begin_two(alloc, system, 1)? else {
+        return Ok(false);
+    };
+    let is_taken = takes_first_turn(alloc, &mut nodes)?;
+    let total = grant(alloc, &mut nodes.second, 1);
+    Ok(
+        is_taken
+            && total == Some(2)
+            && nodes.second.stopped() == Some(Halt::Spent { level: 0, drawn: 2 })
+            && nodes.second.by_itself()
+            && !nodes.second.is_done(),
+    )
+}
+
+/// Whether the next letter of the first node is a stop, which stops the second one with its halt.
+fn carries_stop(alloc: Global, nodes: &mut Two) -> bool {
+    let Some(letter) = nodes.first.next_out() else {
+        return false;
+    };
+    let is_stop = match letter.content() {
+        Content::Supply(_) => false,
+        Content::Stop(halt) => *halt == Halt::Spent { level: 0, drawn: 1 },
+    };
+    let handled = nodes.second.handle(alloc, letter);
+    is_stop && handled == Handled::Took
+}
+
+/// Whether the first node of the system stops within a budget of no question, and stops the second one.
+fn stops_both(alloc: Global, system: &Arc<System>) -> Result<bool, Memory> {
+    let Some(mut nodes) = begin_two(alloc, system, 0)? else {
+        return Ok(false);
+    };
+    let total = grant(alloc, &mut nodes.first, 0);
+    let is_right = total == Some(1)
+        && carries_stop(alloc, &mut nodes)
+        && nodes.second.stopped() == Some(Halt::Spent { level: 0, drawn: 1 })
+        && !nodes.second.by_itself();
+    let Two { first, second } = nodes;
+    drop(first.take_oracle());
+    drop(second.take_oracle());
+    Ok(is_right)
+}
+
+#[test]
+fn nodes_take_turns(rt: HostRuntime) -> Result<(), Fail> {
+    let system = Arc::new(rt.alloc(), read_system(rt.alloc(), TOLD.as_bytes())?)?;
+    let takes = take_turns(rt.alloc(), &system);
+    let stops = stops_second(rt.alloc(), &system);
+    let carries = stops_both(rt.alloc(), &system);
+    drop(system);
+    assert!(rt; takes == Ok(true));
+    assert!(rt; stops == Ok(true));
+    assert!(rt; carries == Ok(true));
+    Ok(())
+}
