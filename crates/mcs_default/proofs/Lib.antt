@@ -6,3 +6,4 @@ pub mod JudgeLemmas
 pub mod FindingLemmas
 pub mod SearchLemmas
 pub mod KeptLemmas
+pub mod KnownLemmas

@@ -3,3 +3,4 @@ pub mod Told
 pub mod Searches
 pub mod Assignments
 pub mod Keeping
+pub mod Known

@@ -7,6 +7,7 @@ mod findings;
 mod grounding;
 mod inside;
 mod kept;
+mod known;
 mod listing;
 mod models;
 mod nodes;

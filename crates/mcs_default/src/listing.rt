@@ -16,6 +16,7 @@ ghost use Rattle.mcs_default.specs.Theories.{AreParts, with_view};
 ghost use Rattle.mcs_evidence.specs.Theories.{AreOverDefaults};
 
 use crate::findings::Findings;
+use crate::known::known_of;
 use crate::search::add_views;
 use crate::theory::{append_formulas, facts};
 use crate::verdict::judge;
@@ -90,26 +91,22 @@ fn list_all(
     ensures exact { IfOk result (λ views. (items : List plain.Item) → AreParts atoms.now items (map (λ d. default_of d.now) defaults.now) findings.old.facts
         → IsListing (IsAcceptedView (DefaultTheory items) (map (λ b. formula_of b.now) beliefs.now)) StateBefore views.items) }
 {
-    let all = Vars::numbered(set_count(defaults.len()) - 1);
+    let taken = known_of(findings, defaults, Vars::empty());
+    let sets = set_count(defaults.len());
+    let all = known_of(findings, defaults, Vars::numbered(sets - 1));
     let mut views = Vec::new(alloc);
     add_views(
-        alloc,
-        findings,
-        defaults,
-        beliefs,
-        atoms,
-        Vars::empty(),
-        all,
-        &mut views,
+        alloc, findings, defaults, beliefs, atoms, taken, all, &mut views,
     )?;
     list_states(&mut views);
     Ok(views)
 }
 
-/// The views of the extensions of a default theory to which facts are added, each once, in the order of states. The view
-/// of an extension is the set of the numbers, from 0, of the beliefs that it has. With them comes a verdict on each set
-/// of the defaults, which shows that these views are all. All atoms are among these, at most 64; there are at most 64 beliefs and 10 defaults. Where a
-/// justification has a number from 2^32 on, which no certificate tells, the answer is want of memory.
+/// The views of the extensions of a default theory to which facts are added, each once, in the order of states. The
+/// view of an extension is the set of the numbers, from 0, of the beliefs that it has. With them comes a verdict on
+/// each set of the defaults, which shows that these views are all. All atoms are among these, at most 64; there are at
+/// most 64 beliefs and 10 defaults. Where a justification has a number from 2^32 on, which no certificate tells, the
+/// answer is want of memory.
 pub fn extensions(
     alloc: Global,
     items: &[TheoryItem],

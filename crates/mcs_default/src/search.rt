@@ -12,8 +12,10 @@ ghost use Rattle.mcs_evidence.specs.Defaults.{generated};
 ghost use Rattle.mcs_default.specs.Theories.{AreParts};
 ghost use Rattle.mcs_evidence.specs.Theories.{AreOverDefaults, all_of};
 ghost use Rattle.mcs_default.specs.Searches.{CanBeAsked, IsOpenAt, IsViewBelow};
+ghost use Rattle.mcs_default.specs.Known.{IsKnownOf};
 
 use crate::findings::Findings;
+use crate::known::{Known, known_of};
 use crate::nodes::{are_open, is_grounded};
 use crate::questions::is_believed;
 use mcs_base::{Memory, Vars};
@@ -83,45 +85,33 @@ pub(crate) fn add_views(
     defaults: &[&Default],
     beliefs: &[&Formula],
     atoms: &[Name],
-    taken: Vars,
-    all: Vars,
+    taken: Known,
+    all: Known,
     views: &mut Vec<Vars>,
 ) -> Result<(), Memory>
     requires few_beliefs { length beliefs.now ≤ 64 }
     requires few_defaults { length defaults.now ≤ 10 }
     requires ready { CanBeAsked atoms.now (map (λ d. default_of d.now) defaults.now) findings.old }
     requires beliefs { AreOver atoms.now (map (λ b. formula_of b.now) beliefs.now) }
-    requires within { Within taken all }
-    requires all { Within all (all_of (map (λ d. default_of d.now) defaults.now)) }
+    requires within { Within taken.set all.set }
+    requires all { Within all.set (all_of (map (λ d. default_of d.now) defaults.now)) }
+    requires taken_known { IsKnownOf atoms.now (map (λ d. default_of d.now) defaults.now) findings.old.facts taken }
+    requires all_known { IsKnownOf atoms.now (map (λ d. default_of d.now) defaults.now) findings.old.facts all }
     ensures kept { findings.new.facts ≡ findings.old.facts }
     ensures ready { OnOk result (CanBeAsked atoms.now (map (λ d. default_of d.now) defaults.now) findings.new) }
     ensures listed { OnOk result ((items : List plain.Item) → AreParts atoms.now items (map (λ d. default_of d.now) defaults.now) findings.old.facts
-        → (places : ℕ) → IsAmong places views.new.items ↔ (IsAmong places views.old.items ⊎ IsViewBelow items (map (λ b. formula_of b.now) beliefs.now) taken all places)) }
+        → (places : ℕ) → IsAmong places views.new.items ↔ (IsAmong places views.old.items ⊎ IsViewBelow items (map (λ b. formula_of b.now) beliefs.now) taken.set all.set places)) }
 {
     if !are_open(alloc, findings, defaults, atoms, taken, all)? {
         return Ok(());
     }
-    let Some(index) = all.minus(taken).first() else {
-        return add_view(alloc, findings, defaults, beliefs, atoms, taken, views);
+    let Some(index) = all.set.minus(taken.set).first() else {
+        return add_view(alloc, findings, defaults, beliefs, atoms, taken.set, views);
     };
+    let fewer = known_of(findings, defaults, all.set.without(index));
     add_views(
-        alloc,
-        findings,
-        defaults,
-        beliefs,
-        atoms,
-        taken,
-        all.without(index),
-        views,
+        alloc, findings, defaults, beliefs, atoms, taken, fewer, views,
     )?;
-    add_views(
-        alloc,
-        findings,
-        defaults,
-        beliefs,
-        atoms,
-        taken.with(index),
-        all,
-        views,
-    )
+    let more = known_of(findings, defaults, taken.set.with(index));
+    add_views(alloc, findings, defaults, beliefs, atoms, more, all, views)
 }

@@ -4,9 +4,9 @@ ghost use Rattle.mcs_table.specs.Fitting.{FittingTablesAreMinimal};
 ghost use Rattle.mcs_table.specs.Joins.{JoinsExist, JoinsAreMinimalUnions, JoinsIgnoreOrder, JoinsStayApart, ForgettingCommutes, ForgettingExists, ForgettingIsOne, ForgettingTwiceIsOnce, ForgettingStaysApart};
 ghost use Rattle.mcs_table.specs.Elimination.{EliminationExists, EliminationIsMinimal, EliminationIgnoresOrder, EliminationGivesMinimalMarks, EliminationStaysApart};
 
-/// Tables are joined one after the other at one level, beginning with the table of no variables. Of the unions of one row
-/// of each table, where these are compatible and have at most so many marks, the join has exactly the minimal ones of
-/// each state. Such a join always exists. The order of the tables makes no difference. A table that has no mark in
+/// Tables are joined one after the other at one level, beginning with the table of no variables. Of the unions of one
+/// row of each table, where these are compatible and have at most so many marks, the join has exactly the minimal ones
+/// of each state. Such a join always exists. The order of the tables makes no difference. A table that has no mark in
 /// common with any of them has none in common with their join, so that it can be joined next.
 pub fn joins_are_minimal_unions()
     ensures exist { JoinsExist }
@@ -30,11 +30,11 @@ pub fn forgetting_is_a_restriction()
     ensures apart { ForgettingStaysApart }
 {}
 
-/// Tables are joined one after the other at one level, and after each join the variables that no later table has and that
-/// are not to be kept are forgotten. What is left has, for each state of the variables that are kept, exactly the minimal
-/// ones of the joint rows restricted to these. Such an elimination always exists. The order makes no difference.
-/// Where nothing is kept, the marks of the rows that are left are the minimal marks of all joint rows. A table
-/// with which none of them has a mark in common has none in common with what is left.
+/// Tables are joined one after the other at one level, and after each join the variables that no later table has and
+/// that are not to be kept are forgotten. What is left has, for each state of the variables that are kept, exactly the
+/// minimal ones of the joint rows restricted to these. Such an elimination always exists. The order makes no
+/// difference. Where nothing is kept, the marks of the rows that are left are the minimal marks of all joint rows. A
+/// table with which none of them has a mark in common has none in common with what is left.
 pub fn elimination_gives_minimal_rows()
     ensures exist { EliminationExists }
     ensures rows { EliminationIsMinimal }
@@ -43,8 +43,8 @@ pub fn elimination_gives_minimal_rows()
     ensures apart { EliminationStaysApart }
 {}
 
-/// A table that fits others has, of two rows of one state, just the one whose marks lie within the other's, if the state
-/// is compatible with a row of each of the others.
+/// A table that fits others has, of two rows of one state, just the one whose marks lie within the other's, if the
+/// state is compatible with a row of each of the others.
 pub fn fitting_tables_are_minimal()
     ensures { FittingTablesAreMinimal }
 {}

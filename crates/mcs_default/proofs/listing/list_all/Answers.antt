@@ -10,27 +10,35 @@ use Rattle.mcs_default.proofs.SearchLemmas.{AreAdded, all_added, all_numbered}
 use Rattle.mcs_default.proofs.listing.list_all.Goals as goal
 
 pub add_views-requires-clause-within : goal.add_views-requires-clause-within
-add_views-requires-clause-within c = subst (λ (s : ℕ). Within s c.numbered-all.result) (sym c.empty.ensures) (none_within c.numbered-all.result)
+add_views-requires-clause-within c =
+    subst (λ (s : ℕ). Within s c.known_of-all.result.set) (sym (c.known_of-taken.ensures.set ∙ c.empty.ensures)) (none_within c.known_of-all.result.set)
 
-all_sets : (ds : List Default) (sets last : ℕ) → sets ≡ 2 ^ length ds → last ≡ sets - 1 → last ≡ all_of ds
-all_sets ds sets last is less = all_numbered ds last (less_one ∙ power_less_one (length ds))
+all_sets : (ds : List Default) (n sets last : ℕ) → n ≡ length ds → sets ≡ 2 ^ n → last ≡ sets - 1 → last ≡ all_of ds
+all_sets ds n sets last few is less = all_numbered ds last (less_one ∙ power_less_one (length ds))
   where
     less_one : last + 1 ≡ 2 ^ length ds - 1 + 1
-    less_one = ap (λ (m : ℕ). m + 1) (less ∙ ap (λ (m : ℕ). m - 1) is)
+    less_one = ap (λ (m : ℕ). m + 1) (less ∙ ap (λ (m : ℕ). m - 1) (is ∙ ap (λ (m : ℕ). 2 ^ m) few))
 
 pub add_views-requires-clause-all : goal.add_views-requires-clause-all
 add_views-requires-clause-all c =
     let ds : List Default = map (λ d. default_of d.now) c.args.defaults.now in
-    let few : 2 ^ length c.args.defaults.now ≡ 2 ^ length ds = ap (λ (n : ℕ). 2 ^ n) (sym (length-map c.args.defaults.now (λ d. default_of d.now))) in
-    let all = all_sets ds c.set_count.result c.numbered-all.result (c.set_count.ensures ∙ few) c.numbered-all.ensures in
-    subst (λ (s : ℕ). Within c.numbered-all.result s) all (λ k member. member)
+    let few = sym (length-map c.args.defaults.now (λ d. default_of d.now)) in
+    let all = c.known_of-all.ensures.set ∙ all_sets ds (length c.args.defaults.now) c.set_count-sets.result c.numbered.result few c.set_count-sets.ensures c.numbered.ensures in
+    subst (λ (s : ℕ). Within c.known_of-all.result.set s) all (λ k member. member)
+
+pub add_views-requires-clause-taken_known : goal.add_views-requires-clause-taken_known
+add_views-requires-clause-taken_known c = c.known_of-taken.ensures.right c.args.atoms.now c.requires.ready
+
+pub add_views-requires-clause-all_known : goal.add_views-requires-clause-all_known
+add_views-requires-clause-all_known c = c.known_of-all.ensures.right c.args.atoms.now c.requires.ready
 
 pub returns-clause-exact : goal.returns-clause-exact
 returns-clause-exact c items parts =
     let ds : List Default = map (λ d. default_of d.now) c.args.defaults.now in
     let beliefs : List Formula = map (λ b. formula_of b.now) c.args.beliefs.now in
-    let few : 2 ^ length c.args.defaults.now ≡ 2 ^ length ds = ap (λ (n : ℕ). 2 ^ n) (sym (length-map c.args.defaults.now (λ d. default_of d.now))) in
-    let all = all_sets ds c.set_count.result c.numbered-all.result (c.set_count.ensures ∙ few) c.numbered-all.ensures in
-    let added = subst (λ (s : ℕ). AreAdded items beliefs s c.numbered-all.result c.new-views.result.items c.add_views.new.views.items) c.empty.ensures (c.in_ok-add_views.ensures.listed items parts) in
-    let from_none = subst (λ (xs : List ℕ). AreAdded items beliefs 0 c.numbered-all.result xs c.add_views.new.views.items) c.new-views.ensures.items added in
+    let few = sym (length-map c.args.defaults.now (λ d. default_of d.now)) in
+    let none = c.known_of-taken.ensures.set ∙ c.empty.ensures in
+    let all = c.known_of-all.ensures.set ∙ all_sets ds (length c.args.defaults.now) c.set_count-sets.result c.numbered.result few c.set_count-sets.ensures c.numbered.ensures in
+    let added = subst (λ (s : ℕ). AreAdded items beliefs s c.known_of-all.result.set c.new-views.result.items c.add_views.new.views.items) none (c.in_ok-add_views.ensures.listed items parts) in
+    let from_none = subst (λ (xs : List ℕ). AreAdded items beliefs 0 c.known_of-all.result.set xs c.add_views.new.views.items) c.new-views.ensures.items added in
     all_added items beliefs ds c.add_views.new.views.items c.list_states.new.states.items parts.0 (subst (λ (s : ℕ). AreAdded items beliefs 0 s [] c.add_views.new.views.items) all from_none) c.list_states.ensures

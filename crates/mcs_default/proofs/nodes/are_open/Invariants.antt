@@ -9,5 +9,5 @@ abbrev pub invariant-loop-index : goal.invariant-loop-index
 invariant-loop-index l = record {
   kept : l.findings.facts ≡ l.fn.findings.facts;
   ready : CanBeAsked l.atoms (map (λ d. default_of d.now) l.defaults) l.findings;
-  each_open : (items : List Item) → AreParts l.atoms items (map (λ d. default_of d.now) l.defaults) l.fn.findings.facts → (k : ℕ) → k < l.index → IsOpenAt items l.taken l.all k;
+  each_open : (items : List Item) → AreParts l.atoms items (map (λ d. default_of d.now) l.defaults) l.fn.findings.facts → (k : ℕ) → k < l.index → IsOpenAt items l.taken.set l.all.set k;
 }

@@ -1,0 +1,12 @@
+use Rattle.std.proofs.Common.{◌≡◌, List}
+use Rattle.std.specs.List.{AllByRecursion}
+use Rattle.mcs_system.specs.Plain.{Name, Item}
+use Rattle.mcs_default.specs.Searches.{IsUpper}
+use Rattle.mcs_default.specs.Known.{IsKnown}
+use Rattle.mcs_default.proofs.known.Known.with_all_upper.Given as goal
+
+abbrev pub invariant-loop-found : goal.invariant-loop-found
+invariant-loop-found l = record {
+  set : l.known.set ≡ l.fn.self.set;
+  right : (names : List Name) (items : List Item) → IsKnown items l.fn.self → AllByRecursion (IsUpper names items) l.upper → IsKnown items l.known;
+}
