@@ -245,6 +245,16 @@ module _ (m : System) (level i : ℕ) (answers : List Answer) (answered : AreAns
     local_table = let (ys, l) = listed_in_order (local_of m i) (IsRowOf m level i) (λ r h. h.mask) (made [], λ r. (λ h. (made_are_local [] r h).0, λ h. local_are_made [] r h (one_within-none r.marks))) in
         (record { scope = local_of m i; rows = ys }, record { scope = refl; rows = l })
 
+    -- a table of just those that are made is one
+    pub made_local : (t : TableData) (rows : List Row) → rows ≡ made [] → t.scope ≡ local_of m i → IsListing (λ r. IsAmong r rows) RowBefore t.rows → IsLocalTable m level i t
+    made_local t rows are scope listing = record {
+      scope = scope;
+      rows = IsListing-same RowBefore (λ r. IsAmong r rows) (IsRowOf m level i) t.rows (λ r. (
+        λ h. (made_are_local [] r (subst (IsAmong r) are h)).0,
+        λ h. subst (IsAmong r) (sym are) (local_are_made [] r h (one_within-none r.marks)),
+      )) listing;
+    }
+
     -- where some of those that hold none of the known sets cover, of these, the ones that fit rows of the others, so do their minimal ones
     module _ (known : List ℕ) (others : List TableData) (fewer : List ℕ) (fit : AreFittingStates (inputs_of m i) others states fewer) (some : List Answer) (fits : AllZip (HasFittingParts (variables_of m i) others) answers some) where
       abbrev left_made : List Row
@@ -406,6 +416,11 @@ state_on m i level known s answers r among =
 pub rows_on : (m : System) (i level : ℕ) (known : List ℕ) (s : ℕ) (answers : List Answer) (scope : ℕ) (rows : List Row) → scope ≡ local_of m i → rows ≡ rows_of m i level known answers s → AllByRecursion (λ (r : Row). r.state.mask ≡ scope) rows
 rows_on m i level known s answers scope rows is rows_are = all_from_among (λ (r : Row). r.state.mask ≡ scope) rows (λ r among. state_on m i level known s answers r (subst (IsAmong r) rows_are among) ∙ sym is)
 
+pub all_on : (m : System) (i level : ℕ) (known : List ℕ) (answers : List Answer) (states : List ℕ) (scope : ℕ) (rows : List Row) → scope ≡ local_of m i → rows ≡ flat_map (rows_of m i level known answers) states → AllByRecursion (λ (r : Row). r.state.mask ≡ scope) rows
+all_on m i level known answers states scope rows is rows_are = all_from_among (λ (r : Row). r.state.mask ≡ scope) rows (λ r among.
+    let (s, state, there) = flat_map_among (rows_of m i level known answers) r states (subst (IsAmong r) rows_are among) in
+    state_on m i level known s answers r there ∙ sym is)
+
 pub covering_on : (m : System) (i level : ℕ) (known : List ℕ) (answers : List Answer) (states : List ℕ) (scope : ℕ) (rows : List Row) → scope ≡ local_of m i → Covers (λ r. IsAmong r rows) (λ r. IsAmong r (flat_map (rows_of m i level known answers) states)) → AllByRecursion (λ (r : Row). r.state.mask ≡ scope) rows
 covering_on m i level known answers states scope rows is covers = all_from_among (λ (r : Row). r.state.mask ≡ scope) rows (λ r among.
     let (s, state, there) = flat_map_among (rows_of m i level known answers) r states (covers.from r among) in
@@ -428,10 +443,16 @@ parts_possible m level i answers possible answered listing a τ here part =
     (listing.exactly τ).1 (order, ordered, (a.active, question, ((parts_of_answer m level i answers answered a here).exactly τ).0 part))
 
 -- ---- state after state
+pub rows_more : (m : System) (i level : ℕ) (known : List ℕ) (answers : List Answer) (states : List ℕ) (k s : ℕ) → k < length states → s ≡ get_or states k s
+    → flat_map (rows_of m i level known answers) (take (k + 1) states) ≡ flat_map (rows_of m i level known answers) (take k states) ++ rows_of m i level known answers s
+rows_more m i level known answers states k s less here =
+    let F = rows_of m i level known answers in
+    ap (flat_map F) (take_read states k s less here) ∙ (flat_map-append F (take k states) (s ∷ []) ∙ ap (λ (rows : List Row). flat_map F (take k states) ++ rows) (append-nil (F s)))
+
 pub covers_more : (m : System) (i level : ℕ) (known : List ℕ) (answers : List Answer) (states : List ℕ) (k s : ℕ) → k < length states → s ≡ get_or states k s → (old some new : List Row) → Covers (λ r. IsAmong r old) (λ r. IsAmong r (flat_map (rows_of m i level known answers) (take k states))) → Covers (λ r. IsAmong r some) (λ r. IsAmong r (rows_of m i level known answers s)) → new ≡ old ++ some
     → Covers (λ r. IsAmong r new) (λ r. IsAmong r (flat_map (rows_of m i level known answers) (take (k + 1) states)))
 covers_more m i level known answers states k s less here old some new so_far step is =
     let F = rows_of m i level known answers in
-    let whole : flat_map F (take (k + 1) states) ≡ flat_map F (take k states) ++ F s = ap (flat_map F) (take_read states k s less here) ∙ (flat_map-append F (take k states) (s ∷ []) ∙ ap (λ (rows : List Row). flat_map F (take k states) ++ rows) (append-nil (F s))) in
+    let whole = rows_more m i level known answers states k s less here in
     subst (λ (rows : List Row). Covers (λ r. IsAmong r rows) (λ r. IsAmong r (flat_map F (take (k + 1) states)))) (sym is)
     (subst (λ (rows : List Row). Covers (λ r. IsAmong r (old ++ some)) (λ r. IsAmong r rows)) (sym whole) (covers_append old (flat_map F (take k states)) some (F s) so_far step))

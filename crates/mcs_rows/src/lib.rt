@@ -1,6 +1,7 @@
-//! What a context's answers come to: what it may supply, its minimal local rows, and those that a pair makes.
+//! What a context's answers come to: what it may supply, its local rows, minimal ones, and those that a pair makes.
 #![tactic(auto)]
 
+mod all;
 mod answer;
 mod changed;
 mod finding;
@@ -11,6 +12,7 @@ mod minimal;
 mod states;
 mod supply;
 
+pub use all::local_rows;
 pub use answer::Answer;
 pub use changed::changed_rows;
 pub use minimal::minimal_rows;
