@@ -40,19 +40,12 @@ pub record IsMerging (asked : List ℕ) (k : ℕ) (old fresh all before new : Li
   pub left : questions_in new ≡ new_of (questions_in before) (drop k asked)
   pub right : (m : System) (i : ℕ) → AreRight m i old → AreRight m i fresh → AreRight m i all × AreRight m i before × AreRight m i new
 
-pub merging_begun : (asked : List ℕ) (old fresh all before new : List Answered) → all ≡ [] → before ≡ old → new ≡ fresh → questions_in fresh ≡ new_of (questions_in old) asked → IsMerging asked 0 old fresh all before new
-merging_begun asked old fresh all before new none olds news told = rw (none, olds, news) (record { questions = refl; left = told; right = λ m i r s. (tt, r, s) })
-
 module _ (asked : List ℕ) (k d x : ℕ) (old fresh all before new : List Answered) (less : k < length asked) (is : x ≡ get_or asked k d) (s : IsMerging asked k old fresh all before new) where
   now_left : drop k asked ≡ x ∷ drop (k + 1) asked
   now_left = drop_more asked k d less ∙ ap (λ y. y ∷ drop (k + 1) asked) (sym is)
 
   left_if : (b : Bool) → first_is x (questions_in before) ≡ b → questions_in new ≡ cond b (new_of (drop 1 (questions_in before)) (drop (k + 1) asked)) (x ∷ new_of (questions_in before) (drop (k + 1) asked))
   left_if b e = s.left ∙ ap (new_of (questions_in before)) now_left ∙ ap (λ (b : Bool). cond b (new_of (drop 1 (questions_in before)) (drop (k + 1) asked)) (x ∷ new_of (questions_in before) (drop (k + 1) asked))) e
-
-  -- where no old answer is to the question, a new one is
-  pub new_is_next : first_is x (questions_in before) ≡ false → first_is x (questions_in new) ≡ true
-  new_is_next other = ap (first_is x) (left_if false other) ∙ grind (arith, nat_tests)
 
   one_given : (a : Answered) → a.question ≡ x → questions_in (all ++ a ∷ []) ≡ take (k + 1) asked
   one_given a to = map_push (λ (b : Answered). b.question) all a ∙ ap (λ zs. zs ++ a.question ∷ []) s.questions ∙ ap (λ y. take k asked ++ y ∷ []) (to ∙ is) ∙ sym (take_more asked k d less)

@@ -1,4 +1,4 @@
--- Rounds in which every node has finished.
+-- Configurations whose letters are listed node by node: when they are sound, and rounds in which every node has finished.
 use Rattle.std.proofs.Common.{◌≡◌, ℕ, ◌+◌, ◌<◌, zero, suc, true≢false, List, [], ◌∷◌, length, Some, slice_get, refl, sym, ap, ◌∙◌, subst, arith}
 use Rattle.std.specs.List.{flat_map}
 use Rattle.mcs_base.specs.Listings.{IsAmong, AreApart}
@@ -9,8 +9,9 @@ use Rattle.mcs_node.specs.Rounds.{Stamp, Round, NodeState, finishes}
 use Rattle.mcs_node.specs.Configurations.{HasNode, IsPutOut, IsFromSender, WasHad, IsSoundNode, IsSound, IsQuiet}
 use Rattle.mcs_node.specs.Laws.{AreFinished, listed_by_node, DoneRoundsAreQuiet}
 use Rattle.mcs_node.proofs.SupplyLemmas.{supplier_below}
-use Rattle.mcs_node.proofs.RuleLemmas.{no_none, put_out_from}
+use Rattle.mcs_node.proofs.RuleLemmas.{no_none, put_out_apart, put_out_from}
 
+-- ---- letters listed node by node
 -- letters of nodes whose numbers begin at k: each goes from its node
 abbrev AreFromPlaces : ℕ → List NodeState → Type 0
 AreFromPlaces k nodes = (i : ℕ) (s : NodeState) → slice_get nodes i ≡ Some s → AreApart s.put_out × ((x : Stamp) → IsAmong x s.put_out → x.from ≡ k + i)
@@ -29,6 +30,28 @@ listed_apart k (s ∷ nodes) from = distinct_append s.put_out (flat_map (λ (t :
         let second = (from (suc i) t at).1 x h in
         omega (arith, first, second)
 
+to_out : (nodes : List NodeState) (x : Stamp) → IsAmong x (flat_map (λ (s : NodeState). s.put_out) nodes) → IsPutOut (listed_by_node nodes) x
+to_out nodes x listed =
+    let (s, among, h) = flat_map_among (λ (t : NodeState). t.put_out) x nodes listed in
+    let (i, at) = get_among s nodes among in
+    (i, s, at, h)
+
+from_out : (nodes : List NodeState) (x : Stamp) → IsPutOut (listed_by_node nodes) x → IsAmong x (flat_map (λ (s : NodeState). s.put_out) nodes)
+from_out nodes x (i, s, at, h) = among_flat_map (λ (t : NodeState). t.put_out) s x nodes (among_get s nodes i at) h
+
+-- where each node is sound with these letters, the configuration is sound
+pub sound_as_listed : (r : Round) (nodes : List NodeState) → length nodes ≡ length r.system.contexts
+    → ((i : ℕ) (s : NodeState) → slice_get nodes i ≡ Some s → IsSoundNode r (listed_by_node nodes) i s) → IsSound r (listed_by_node nodes)
+sound_as_listed r nodes one_each each = record {
+  one_each = one_each;
+  letters = record {
+    exactly = λ x. (to_out nodes x, from_out nodes x);
+    apart = listed_apart 0 nodes (λ i s at. (put_out_apart r i s (each i s at).rule, λ x h. let e = put_out_from r i s x (each i s at).rule h in omega (arith, e)));
+  };
+  nodes = each;
+}
+
+-- ---- rounds that are done
 module _ (r : Round) (nodes : List NodeState) (all : AreFinished r nodes) where
   node_below : (i : ℕ) → i < length r.system.contexts → (s : NodeState) × (slice_get nodes i ≡ Some s)
   node_below i less = slice_get_below nodes i (subst (λ (n : ℕ). i < n) (sym all.one_each) less)
@@ -51,18 +74,6 @@ module _ (r : Round) (nodes : List NodeState) (all : AreFinished r nodes) where
       let to : x.to ≡ j = ap (λ (y : Stamp). y.to) is in
       (t, subst (λ (k : ℕ). HasNode (listed_by_node nodes) k t) (sym to) there, ((all.finish j t there).had.exactly x).1 (i, supplies, is))
 
-  to_out : (x : Stamp) → IsAmong x (flat_map (λ (s : NodeState). s.put_out) nodes) → IsPutOut (listed_by_node nodes) x
-  to_out x listed =
-      let (s, among, h) = flat_map_among (λ (t : NodeState). t.put_out) x nodes listed in
-      let (i, at) = get_among s nodes among in
-      (i, s, at, h)
-
-  from_out : (x : Stamp) → IsPutOut (listed_by_node nodes) x → IsAmong x (flat_map (λ (s : NodeState). s.put_out) nodes)
-  from_out x (i, s, at, h) = among_flat_map (λ (t : NodeState). t.put_out) s x nodes (among_get s nodes i at) h
-
-  from_places : AreFromPlaces 0 nodes
-  from_places i s at = ((all.finish i s at).put_out.apart, λ x h. let e = put_out_from r i s x (finishes (all.finish i s at)) h in omega (arith, e))
-
   node_is_sound : (i : ℕ) (s : NodeState) → slice_get nodes i ≡ Some s → IsSoundNode r (listed_by_node nodes) i s
   node_is_sound i s at = let f = all.finish i s at in record {
     addressed = (λ x h. let (j, supplies, is) = (f.had.exactly x).0 h in ap (λ (y : Stamp). y.to) is);
@@ -73,13 +84,6 @@ module _ (r : Round) (nodes : List NodeState) (all : AreFinished r nodes) where
     halted = (λ halt is by_letter. absurd (no_none s.halt halt f.halt is));
   }
 
-  is_sound : IsSound r (listed_by_node nodes)
-  is_sound = record {
-    one_each = all.one_each;
-    letters = record { exactly = (λ x. (to_out x, from_out x)); apart = listed_apart 0 nodes from_places };
-    nodes = node_is_sound;
-  }
-
   is_quiet : IsQuiet r (listed_by_node nodes)
   is_quiet = record {
     begun = all.begun;
@@ -88,4 +92,4 @@ module _ (r : Round) (nodes : List NodeState) (all : AreFinished r nodes) where
   }
 
 pub done_rounds_are_quiet : DoneRoundsAreQuiet
-done_rounds_are_quiet r nodes all = (is_sound r nodes all, is_quiet r nodes all)
+done_rounds_are_quiet r nodes all = (sound_as_listed r nodes all.one_each (node_is_sound r nodes all), is_quiet r nodes all)

@@ -7,7 +7,6 @@ use Rattle.mcs_base.specs.Listings.{IsAmong, IsListing, IsInventory}
 use Rattle.mcs_base.proofs.Among.{among_left, among_right, among_map, map_among, among_push, among_get, cases_among}
 use Rattle.mcs_base.proofs.Booleans.{test_of, test_of-tells, cases_all_below}
 use Rattle.mcs_base.proofs.Deciding.{cases_not, cases_implies}
-use Rattle.mcs_base.proofs.Distinct.{distinct_map, ascending_distinct}
 use Rattle.mcs_base.proofs.ListingLemmas.{listing_below, IsListing-same, IsListing-filter}
 use Rattle.mcs_base.proofs.Lists.{slice_get_below, choose_below}
 use Rattle.mcs_base.proofs.Written.{slice_get-slice_set, slice_get-set_other, slice_get-set_same, length-slice_set}
@@ -21,13 +20,14 @@ use Rattle.mcs_states.specs.declared.halt.Halt.{Halt}
 use Rattle.mcs_states.specs.declared.halt.Halt.TheVariants.{Spent}
 use Rattle.mcs_node.specs.declared.event.Event.{Event}
 use Rattle.mcs_node.specs.declared.event.Event.TheVariants.{Begin, Grant, Deliver}
-use Rattle.mcs_node.specs.Rounds.{Supplies, Stamp, stamp, Round, NodeState, IsNewQuestion, HasNoStop, IsSupplyTo, IsSentBy, ObeysRule, waits, finishes, is_stopped, stops}
+use Rattle.mcs_node.specs.Rounds.{Supplies, Stamp, stamp, Round, NodeState, IsNewQuestion, HasNoStop, IsSupplyTo, IsSentBy, Waits, ObeysRule, waits, finishes, is_stopped, stops}
 use Rattle.mcs_node.specs.Configurations.{Configuration, HasNode, new_node, IsFromSender, IsHaltOfSender, IsSound, AwaitsGrant}
+use Rattle.mcs_node.specs.Nodes.{stamps_to}
 use Rattle.mcs_node.specs.Steps.{WereAsked, IsNeedOf, Adds, IsTotal, Takes, IsPossible, Changes, Reacts, TakesPlace, Outcome, Skipped, Ignored, Taken, Step}
 use Rattle.mcs_node.specs.Worked.{IsCalm, AreCalm, begun_node}
 use Rattle.mcs_node.specs.Existence.{TotalsExist, TotalsAreOne, StepsHaveTheirOutcome, OutcomesExclude, StepsHaveOneOutcome, NothingFails, EventsHaveSteps, OutcomesHaveSteps, EventsHaveRuns}
 use Rattle.mcs_node.proofs.SupplyLemmas.{supplied_by, supplier_below}
-use Rattle.mcs_node.proofs.RuleLemmas.{some_same, no_none, put_out_sent, letter_from_sender, letter_supplies}
+use Rattle.mcs_node.proofs.RuleLemmas.{some_same, no_none, sent_to, put_out_sent, letter_from_sender, letter_supplies}
 use Rattle.mcs_node.proofs.StepLemmas.{later, steps_keep_soundness}
 use Rattle.mcs_node.proofs.TotalLemmas.{total_alike}
 use Rattle.mcs_node.proofs.EventLemmas.{ignored_possible, taken_possible, ignored_untaken, IsOpen, may_wait, may_finish, may_stop, may_be_stopped}
@@ -110,29 +110,17 @@ module _ (m : System) (i : ℕ) where
         elim (cases_among i (supplied m order j)) [ inl among ↦ inl (order, ordered, less, among) | inr none ↦ inr (λ s. none (supplied_by m order j i ordered s)) ]
   ]
 
-  receivers_listed : (js : List ℕ) × IsListing (λ j. (j < length m.contexts) × IsTrue (test_of (supplies_cases j))) (λ a b. a < b) js
-  receivers_listed = listing_below (λ a b. a < b) (λ x y z h k. omega (arith, h, k)) number_cases (λ j. test_of (supplies_cases j)) (length m.contexts)
+  receivers_listed : (js : List ℕ) × IsListing (Supplies m i) (λ a b. a < b) js
+  receivers_listed =
+      let (js, listing) = listing_below (λ a b. a < b) (λ x y z h k. omega (arith, h, k)) number_cases (λ j. test_of (supplies_cases j)) (length m.contexts) in (
+        js,
+        IsListing-same (λ (a b : ℕ). a < b) (λ j. (j < length m.contexts) × IsTrue (test_of (supplies_cases j))) (Supplies m i) js
+            (λ j. ((λ h. (test_of-tells (supplies_cases j)).0 h.1), (λ s. (s.2, (test_of-tells (supplies_cases j)).1 s)))) listing,
+      )
 
-module _ (r : Round) (i : ℕ) (stop : Bool) where
-  -- a letter to each of them
-  letters_to : (js : List ℕ) → IsListing (λ j. (j < length r.system.contexts) × IsTrue (test_of (supplies_cases r.system i j))) (λ a b. a < b) js → IsInventory (IsSentBy r i stop) (map (λ (j : ℕ). stamp r.level i j stop) js)
-  letters_to js listing = record {
-    exactly = (λ x. (to x, from x));
-    apart = distinct_map (λ (j : ℕ). stamp r.level i j stop) js (λ a b here there same. ap (λ (z : Stamp). z.to) same) (ascending_distinct js listing.ascending);
-  }
-    where
-      to : (x : Stamp) → IsAmong x (map (λ (j : ℕ). stamp r.level i j stop) js) → IsSentBy r i stop x
-      to x h =
-          let (j, among, is) = map_among (λ (j : ℕ). stamp r.level i j stop) x js h in
-          (j, (test_of-tells (supplies_cases r.system i j)).0 ((listing.exactly j).0 among).1, is)
-
-      from : (x : Stamp) → IsSentBy r i stop x → IsAmong x (map (λ (j : ℕ). stamp r.level i j stop) js)
-      from x (j, supplies, is) =
-          subst (λ (z : Stamp). IsAmong z (map (λ (j : ℕ). stamp r.level i j stop) js)) (sym is)
-          (among_map (λ (j : ℕ). stamp r.level i j stop) j js ((listing.exactly j).1 (supplies.2, (test_of-tells (supplies_cases r.system i j)).1 supplies)))
-
-  sent_exists : (xs : List Stamp) × IsInventory (IsSentBy r i stop) xs
-  sent_exists = let (js, listing) = receivers_listed r.system i in (map (λ (j : ℕ). stamp r.level i j stop) js, letters_to js listing)
+-- a letter to each of them
+sent_exists : (r : Round) (i : ℕ) (stop : Bool) → (xs : List Stamp) × IsInventory (IsSentBy r i stop) xs
+sent_exists r i stop = let (js, listing) = receivers_listed r.system i in (stamps_to r.level i stop js, sent_to r i stop js listing)
 
 -- ---- needs and totals
 level_listed : (m : System) (level i : ℕ) → i < length m.contexts → (xs : List ℕ) × IsListing (IsQuestionAt m level i) (λ a b. a < b) xs
@@ -290,15 +278,18 @@ awaits_cases r i s = elim (cases_Bool s.begun) [
   ]
 ]
 
+pub waits_open : (s : NodeState) → Waits s → IsOpen s
+waits_open s w = record { put_out = w.put_out; done = w.done; halt = w.halt; by_itself = w.by_itself }
+
 -- such a node has put out nothing, and has had no stop
-awaiting_open : (r : Round) (i : ℕ) (s : NodeState) → AwaitsGrant r i s → ObeysRule r i s → IsOpen s × HasNoStop s.had
-awaiting_open r i s awaits (waits w) = (record { put_out = w.put_out; done = w.done; halt = w.halt; by_itself = w.by_itself }, w.no_stop)
+pub awaiting_open : (r : Round) (i : ℕ) (s : NodeState) → AwaitsGrant r i s → ObeysRule r i s → IsOpen s × HasNoStop s.had
+awaiting_open r i s awaits (waits w) = (waits_open s w, w.no_stop)
 awaiting_open r i s awaits (finishes f) = let (total, is, within) = f.granted in absurd (no_none s.granted total awaits.granted is)
 awaiting_open r i s awaits (is_stopped w) = absurd (no_none s.halt w.cause awaits.halt w.halt)
 awaiting_open r i s awaits (stops w) = absurd (no_none s.halt w.cause awaits.halt w.halt)
 
 -- what it has had are its supplies, each once
-supplies_had : (r : Round) (c : Configuration) → IsSound r c → (i : ℕ) (s : NodeState) → HasNode c i s → AwaitsGrant r i s → HasNoStop s.had → IsInventory (IsSupplyTo r i) s.had
+pub supplies_had : (r : Round) (c : Configuration) → IsSound r c → (i : ℕ) (s : NodeState) → HasNode c i s → AwaitsGrant r i s → HasNoStop s.had → IsInventory (IsSupplyTo r i) s.had
 supplies_had r c sound i s at awaits no_stop = record { exactly = (λ x. (to x, from x)); apart = (sound.nodes i s at).once }
   where
     to : (x : Stamp) → IsAmong x s.had → IsSupplyTo r i x
@@ -373,14 +364,14 @@ module _ (r : Round) (c : Configuration) (sound : IsSound r c) (n : ℕ) (x : St
   changes = (x, there, takes, refl)
 
   -- one that waits goes on, or is stopped
-  told_open : IsOpen s → IsOpen told
+  pub told_open : IsOpen s → IsOpen told
   told_open o = record { put_out = o.put_out; done = o.done; halt = o.halt; by_itself = o.by_itself }
 
+  pub no_stop_still : HasNoStop s.had → x.stop ≡ false → HasNoStop told.had
+  no_stop_still no_stop supply y h = elim ((among_push y s.had x).0 h) [ inl old ↦ no_stop y old | inr e ↦ ap (λ (z : Stamp). z.stop) e ∙ supply ]
+
   told_supply : IsOpen s → s.granted ≡ None → HasNoStop s.had → x.stop ≡ false → HasStep r c (Deliver n)
-  told_supply is_open granted no_stop supply = step_taken r c (Deliver n) x.to s told told [] at changes (may_wait r c x.to told (told_open is_open) granted still) (goes_on s told refl)
-    where
-      still : HasNoStop (s.had ++ x ∷ [])
-      still y h = elim ((among_push y s.had x).0 h) [ inl old ↦ no_stop y old | inr e ↦ ap (λ (z : Stamp). z.stop) e ∙ supply ]
+  told_supply is_open granted no_stop supply = step_taken r c (Deliver n) x.to s told told [] at changes (may_wait r c x.to told (told_open is_open) granted (no_stop_still no_stop supply)) (goes_on s told refl)
 
   told_stop : IsOpen s → s.granted ≡ None → x.stop ≡ true → HasStep r c (Deliver n)
   told_stop is_open granted stop =
@@ -397,32 +388,22 @@ module _ (r : Round) (c : Configuration) (sound : IsSound r c) (n : ℕ) (x : St
       let (y, sender, among, stop, sender_at, told_halt) = (sound.nodes x.to s at).halted halt is by_letter in
       (y, sender, among_left y s.had (x ∷ []) among, stop, sender_at, told_halt)
 
-  told_halted : ObeysRule r x.to told → HasStep r c (Deliver n)
-  told_halted rule = step_taken r c (Deliver n) x.to s told told [] at changes
-      (record {
-        begun = refl;
-        had = refl;
-        granted = refl;
-        put_out = sym (append-nil s.put_out);
-        rule = rule;
-        done_stays = (λ e. refl);
-        halt_stays = (λ e. refl);
-        halted = halted_still;
-      })
-      (goes_on s told refl)
+  pub stays_halted : ObeysRule r x.to told → Reacts r c x.to told [] told
+  stays_halted rule = record {
+    begun = refl;
+    had = refl;
+    granted = refl;
+    put_out = sym (append-nil s.put_out);
+    rule = rule;
+    done_stays = (λ e. refl);
+    halt_stays = (λ e. refl);
+    halted = halted_still;
+  }
 
-  -- one that is done has had a letter of the sender
-  none_first : IsInventory (IsSupplyTo r x.to) s.had → ⊥
-  none_first had =
-      let supplies : Supplies r.system x.from x.to = letter_supplies r c sound x from in
-      takes.first (stamp r.level x.from x.to false) ((had.exactly (stamp r.level x.from x.to false)).1 (x.from, supplies, refl)) refl
-
-  is_told : ObeysRule r x.to s → HasStep r c (Deliver n)
-  is_told (waits w) =
-      let is_open : IsOpen s = record { put_out = w.put_out; done = w.done; halt = w.halt; by_itself = w.by_itself } in
-      elim (cases_Bool x.stop) [ inl stop ↦ told_stop is_open w.granted stop | inr supply ↦ told_supply is_open w.granted w.no_stop supply ]
-  is_told (finishes f) = absurd (none_first f.had)
-  is_told (is_stopped w) = told_halted (is_stopped (record {
+  pub keeps_rule : (halt : Halt) → s.halt ≡ Some halt → ObeysRule r x.to s → ObeysRule r x.to told
+  keeps_rule halt is (waits w) = absurd (no_none s.halt halt w.halt is)
+  keeps_rule halt is (finishes f) = absurd (no_none s.halt halt f.halt is)
+  keeps_rule halt is (is_stopped w) = is_stopped (record {
     letter = w.letter;
     had = among_left w.letter s.had (x ∷ []) w.had;
     stop = w.stop;
@@ -432,8 +413,30 @@ module _ (r : Round) (c : Configuration) (sound : IsSound r c) (n : ℕ) (x : St
     cause = w.cause;
     halt = w.halt;
     by_itself = w.by_itself;
-  }))
-  is_told (stops w) = told_halted (stops (record { put_out = w.put_out; done = w.done; cause = w.cause; own = w.own; halt = w.halt; by_itself = w.by_itself }))
+  })
+  keeps_rule halt is (stops w) = stops (record { put_out = w.put_out; done = w.done; cause = w.cause; own = w.own; halt = w.halt; by_itself = w.by_itself })
+
+  told_halted : (halt : Halt) → s.halt ≡ Some halt → ObeysRule r x.to s → HasStep r c (Deliver n)
+  told_halted halt is rule = step_taken r c (Deliver n) x.to s told told [] at changes (stays_halted (keeps_rule halt is rule)) (goes_on s told refl)
+
+  -- one that is done has had a letter of the sender
+  pub none_first : IsInventory (IsSupplyTo r x.to) s.had → ⊥
+  none_first had =
+      let supplies : Supplies r.system x.from x.to = letter_supplies r c sound x from in
+      takes.first (stamp r.level x.from x.to false) ((had.exactly (stamp r.level x.from x.to false)).1 (x.from, supplies, refl)) refl
+
+  -- one that has no halt waits
+  pub goes_on_waiting : s.halt ≡ None → ObeysRule r x.to s → Waits s
+  goes_on_waiting going (waits w) = w
+  goes_on_waiting going (finishes f) = absurd (none_first f.had)
+  goes_on_waiting going (is_stopped w) = absurd (no_none s.halt w.cause going w.halt)
+  goes_on_waiting going (stops w) = absurd (no_none s.halt w.cause going w.halt)
+
+  is_told : ObeysRule r x.to s → HasStep r c (Deliver n)
+  is_told (waits w) = elim (cases_Bool x.stop) [ inl stop ↦ told_stop (waits_open s w) w.granted stop | inr supply ↦ told_supply (waits_open s w) w.granted w.no_stop supply ]
+  is_told (finishes f) = absurd (none_first f.had)
+  is_told (is_stopped w) = told_halted w.cause w.halt (is_stopped w)
+  is_told (stops w) = told_halted w.cause w.halt (stops w)
 
 delivers : (r : Round) (c : Configuration) (n : ℕ) → IsSound r c → HasStep r c (Deliver n)
 delivers r c n sound = elim (place_cases c.letters n) [

@@ -1,7 +1,6 @@
 -- A node that waits for its grant, and what it is asked.
 use Rattle.std.proofs.Common.{◌≡◌, ℕ, ◌+◌, ◌-◌, ◌<◌, ◌≤◌, false, List, length, Option, Some, None, zero, suc, refl, sym, ap, ◌∙◌, subst, arith}
 use Rattle.std.proofs.lemmas.List.{length-map}
-use Rattle.std.proofs.lemmas.Option.{none-some}
 use Rattle.std.specs.List.{AllByRecursion}
 use Rattle.mcs_base.specs.Listings.{IsAmong, IsListing}
 use Rattle.mcs_base.proofs.Among.{among_map, map_among}
@@ -125,7 +124,3 @@ module _ (m : System) (i budget : ℕ) (o : OracleState) (receivers : List ℕ) 
       let w = subst (λ z. IsAtStage m i budget o receivers k before r z) waits was.stage in
       let count = new_count r.questions.items (questions_in k.answers) (all_among_asked m r.level i r.questions.items (w.questions each) before k w.known was.higher) in
       let same = length-map k.answers (λ (a : Answered). a.question) in omega (arith, count, same)
-
--- a node that has begun no round does not wait
-pub none_waits : (m : System) (i budget : ℕ) (o : OracleState) (receivers : List ℕ) (k : Knowledge) (before : Option ℕ) → ¬ WaitsForGrant (node_in m i budget o receivers k before None)
-none_waits m i budget o receivers k before (level, at_level, waits) = none-some level at_level

@@ -2,6 +2,7 @@
 use Rattle.std.proofs.Common.{Vec, Global, ◌≡◌, ℕ, ◌<◌, ◌≤◌, ◌++◌, ◌⊎◌, Bool, true, false, List, [], ◌∷◌, map, take, length, Option, Some, None, is_some, Result, Ok, Err, IfOk, IfErr, refl, sym, ap, ◌∙◌, subst, inl, inr, arith}
 use Rattle.std.proofs.lemmas.List.{take_all}
 use Rattle.std.specs.List.{AllByRecursion}
+use Rattle.std.specs.declared.sync.Arc.{Arc}
 use Rattle.mcs_base.specs.Listings.{IsListing}
 use Rattle.mcs_sets.specs.Sets.{Within}
 use Rattle.mcs_system.specs.Plain.{System}
@@ -11,7 +12,7 @@ use Rattle.mcs_states.specs.Oracles.{OracleState, with_journal}
 use Rattle.mcs_states.specs.declared.halt.Halt.{Halt}
 use Rattle.mcs_states.specs.declared.halt.Halt.TheVariants.{Spent, Missing, Memory}
 use Rattle.mcs_node.specs.Rounds.{IsNewQuestion, IsOwnHalt, Round, Stamp}
-use Rattle.mcs_node.specs.Letters.{IsTrueHalt, Stop, Supply}
+use Rattle.mcs_node.specs.Letters.{IsTrueHalt, Stop, Supply, shared_states}
 use Rattle.mcs_node.specs.Known.{AreRight, HasAsked, HasAskingCause, IsAmongAsked, IsKnown, Knowledge, knowledge_of, new_of, questions_in}
 use Rattle.mcs_node.specs.Nodes.{IsGranted, IsGrantHalt, NodeData, WaitsForGrant, letters_to, stamps_to, stopped_with, with_grant}
 use Rattle.mcs_node.specs.Keeping.{AreHad, AreTold, IsAtStage, IsInRound, IsNode, IsReady, IsWaiting, oracle_in, stamps_had}
@@ -72,19 +73,19 @@ module _ (m : System) (i budget : ℕ) (o : OracleState) (there : Bool) (receive
   listed = new_listed m r.level i r.questions.items questions_listed before budget k waiting.known was.higher
 
   -- ---- what changes of what it keeps
-  abbrev round_with : Vec (Vec ℕ Global) Global → stage_code.Stage → code.InRound
+  abbrev round_with : Vec (Arc (Vec ℕ Global) Global) Global → stage_code.Stage → code.InRound
   round_with copies st = record r { copies = copies; stage = st }
 
-  still_had : (copies : Vec (Vec ℕ Global) Global) (st : stage_code.Stage) → AreHad m i (round_with copies st)
+  still_had : (copies : Vec (Arc (Vec ℕ Global) Global) Global) (st : stage_code.Stage) → AreHad m i (round_with copies st)
   still_had copies st = let h = was.had in record { apart = h.apart; each_supplies = h.each_supplies; places = h.places; room = h.room }
 
-  still_told : (copies : Vec (Vec ℕ Global) Global) (st : stage_code.Stage) → AreTold m i (round_with copies st)
+  still_told : (copies : Vec (Arc (Vec ℕ Global) Global) Global) (st : stage_code.Stage) → AreTold m i (round_with copies st)
   still_told copies st = let t = waiting.told in record { no_stop = t.no_stop; told = t.told }
 
   still_own : (p : OracleState) → with_journal [] p ≡ with_journal [] o → (p.system ≡ m) × (p.context ≡ i)
   still_own p rest = (ap (λ (q : OracleState). q.system) rest ∙ n.own.0, ap (λ (q : OracleState). q.context) rest ∙ n.own.1)
 
-  node_with : (p : OracleState) (l : Knowledge) (copies : Vec (Vec ℕ Global) Global) (st : stage_code.Stage) → with_journal [] p ≡ with_journal [] o → IsAtStage m i budget p receivers l before (round_with copies st) st
+  node_with : (p : OracleState) (l : Knowledge) (copies : Vec (Arc (Vec ℕ Global) Global) Global) (st : stage_code.Stage) → with_journal [] p ≡ with_journal [] o → IsAtStage m i budget p receivers l before (round_with copies st) st
       → IsNode m i budget p true receivers l before (Some (round_with copies st))
   node_with p l copies st rest at = record {
     in_range = n.in_range;
@@ -132,9 +133,6 @@ module _ (m : System) (i budget : ℕ) (o : OracleState) (there : Bool) (receive
 
   -- the total is above the budget
   module _ (total : ℕ) (s : code.InRound) (is : s ≡ stopped total (Spent r.level total)) (above : budget < total) where
-    pub spent_node : IsNode m i budget o there receivers k before (Some s)
-    spent_node = subst (λ (b : Bool). IsNode m i budget o b receivers k before (Some s)) (sym n.present) (node_stopped total o k (Spent r.level total) s is refl refl (refl, refl, above))
-
     pub spent_granted : IsGranted total old (node_in m i budget o receivers k before (Some s))
     spent_granted = (r.level, refl, inl (above, ap (λ (z : code.InRound). node_in m i budget o receivers k before (Some z)) is ∙ seen_stopped total o k (Spent r.level total)))
 
@@ -175,7 +173,7 @@ module _ (m : System) (i budget : ℕ) (o : OracleState) (there : Bool) (receive
   known_now : (l : Knowledge) → ((level : ℕ) → IsListing (IsQuestionAt o.system level i) (λ a b. a < b) r.questions.items → IsKnown o.system level i l) → IsKnown m r.level i l
   known_now l told = subst (λ (s : System). IsKnown s r.level i l) n.own.0 (told r.level (subst (λ (s : System). IsListing (IsQuestionAt s r.level i) (λ a b. a < b) r.questions.items) (sym n.own.0) questions_listed))
 
-  seen_done : (total : ℕ) (p : OracleState) (l : Knowledge) (copies : Vec (Vec ℕ Global) Global) → node_in m i budget p receivers l before (Some (round_with copies (Done total)))
+  seen_done : (total : ℕ) (p : OracleState) (l : Knowledge) (copies : Vec (Arc (Vec ℕ Global) Global) Global) → node_in m i budget p receivers l before (Some (round_with copies (Done total)))
       ≡ record old {
         oracle = p;
         state = record old.state { granted = Some total; put_out = stamps_to r.level i false receivers; done = true };
@@ -202,19 +200,19 @@ module _ (m : System) (i budget : ℕ) (o : OracleState) (there : Bool) (receive
         known = l;
       }) (sym same_waiting)
 
-  module _ (total : ℕ) (p : OracleState) (l : Knowledge) (copies : Vec (Vec ℕ Global) Global) (s : code.InRound) (is : s ≡ round_with copies (Done total)) (within : total ≤ budget)
+  module _ (total : ℕ) (p : OracleState) (l : Knowledge) (copies : Vec (Arc (Vec ℕ Global) Global) Global) (s : code.InRound) (is : s ≡ round_with copies (Done total)) (within : total ≤ budget)
       (told : (level : ℕ) → IsListing (IsQuestionAt o.system level i) (λ a b. a < b) r.questions.items → IsKnown o.system level i l) (now : HasAsked o.system i p l.answers) where
     asked_now : HasAsked m i p l.answers
     asked_now = subst (λ (s : System). HasAsked s i p l.answers) n.own.0 now
 
-    pub finished_node : with_journal [] p ≡ with_journal [] o → length copies.items ≡ length r.envelopes.items → AllByRecursion (λ (copy : Vec ℕ Global). copy.items ≡ l.supplies) copies.items → IsNode m i budget p true receivers l before (Some s)
+    pub finished_node : with_journal [] p ≡ with_journal [] o → length copies.items ≡ length r.envelopes.items → AllByRecursion (λ copy. shared_states copy ≡ l.supplies) copies.items → IsNode m i budget p true receivers l before (Some s)
     finished_node rest count each = subst (λ (z : code.InRound). IsNode m i budget p true receivers l before (Some z)) (sym is) (node_with p l copies (Done total) rest (record {
       told = still_told copies (Done total);
       each = ready.1;
       within = within;
       known = known_now l told;
       asked = asked_now;
-      copies = copied_each (λ (copy : Vec ℕ Global). copy.items) l.supplies copies.items r.envelopes.items count each;
+      copies = copied_each shared_states l.supplies copies.items r.envelopes.items count each;
     }))
 
     pub finished_granted : p ≡ with_journal (o.journal ++ new) o → IsGranted total old (node_in m i budget p receivers l before (Some s))
@@ -274,7 +272,7 @@ module _ {O : Type 0} (stands : O → OracleState) (m : System) (i budget : ℕ)
 
         -- and what comes of it
         module _ (p : O) (told : Result known_code.Known Halt) (rest : with_journal [] (stands p) ≡ with_journal [] (stands o)) (total : ℕ) (within : total ≤ budget) (s : code.InRound) where
-          module _ (all : known_code.Known) (ok : told ≡ Ok all) (copies : Vec (Vec ℕ Global) Global) (is : s ≡ record r { copies = copies; stage = Done total })
+          module _ (all : known_code.Known) (ok : told ≡ Ok all) (copies : Vec (Arc (Vec ℕ Global) Global) Global) (is : s ≡ record r { copies = copies; stage = Done total })
               (is_known : IfOk told (λ l. (level : ℕ) → IsListing (IsQuestionAt (stands o).system level i) (λ a b. a < b) asked → IsKnown (stands o).system level i (knowledge_of l)))
               (now : IfOk told (λ l. HasAsked (stands o).system i (stands p) (knowledge_of l).answers)) where
             known_then : (level : ℕ) → IsListing (IsQuestionAt (stands o).system level i) (λ a b. a < b) r.questions.items → IsKnown (stands o).system level i (knowledge_of all)
@@ -285,7 +283,7 @@ module _ {O : Type 0} (stands : O → OracleState) (m : System) (i budget : ℕ)
             asked_then : HasAsked (stands o).system i (stands p) (knowledge_of all).answers
             asked_then = rw ok at now
 
-            pub finished_kept : length copies.items ≡ length r.envelopes.items → AllByRecursion (λ (copy : Vec ℕ Global). copy.items ≡ all.supplies.items) copies.items → IsNode m i budget (stands p) true receivers (knowledge_of all) before (Some s)
+            pub finished_kept : length copies.items ≡ length r.envelopes.items → AllByRecursion (λ copy. shared_states copy ≡ all.supplies.items) copies.items → IsNode m i budget (stands p) true receivers (knowledge_of all) before (Some s)
             finished_kept count each = finished_node m i budget (stands o) true receivers (knowledge_of known) before r with_oracle is_ready total (stands p) (knowledge_of all) copies s is within known_then asked_then rest count each
 
             pub finished_seen : IfOk told (λ _. stands p ≡ with_journal ((stands o).journal ++ asked_anew) (stands o)) → IsGranted total d (node_in m i budget (stands p) receivers (knowledge_of all) before (Some s))

@@ -18,7 +18,7 @@ use Rattle.mcs_states.specs.declared.halt.Halt.{Halt}
 use Rattle.mcs_states.specs.declared.halt.Halt.TheVariants.{Memory}
 use Rattle.mcs_node.specs.Rounds.{Stamp, Supplies, stamp}
 use Rattle.mcs_node.specs.Nodes.{HasTaken, IsAwaited, NodeData, letters_to, stamps_to, stopped_with, with_content, with_had}
-use Rattle.mcs_node.specs.Letters.{ContentData, LetterData, Supply, Stop, IsTrueContent, IsTrueHalt, is_stop, stamp_of}
+use Rattle.mcs_node.specs.Letters.{ContentData, LetterData, Supply, Stop, IsTrueContent, IsTrueHalt, is_stop, shared_states, stamp_of}
 use Rattle.mcs_node.specs.Known.{Knowledge}
 use Rattle.mcs_node.specs.Keeping.{AreHad, AreTold, AreToldAll, HadIn, HasEach, HasStopCause, IsAtStage, IsForRound, IsInRound, MayTake, TookIn, by_itself_in, done_in, froms, granted_in, halt_in, letters_in, put_out_in, stage_with, stamps_had, told_with}
 use Rattle.mcs_node.specs.declared.round.Had as had_code
@@ -98,7 +98,7 @@ supplies_told m level (j ∷ js) (xs ∷ xss) e each = (each zero j xs refl refl
 -- where every supply was had, all that is supplied is told
 pub told_all : (m : System) (i : ℕ) (r : code.InRound) → i < length m.contexts → AreHad m i r → AreTold m i r → HasEach r → AreToldAll m i r
 told_all m i r low had told each order ordered =
-    supplies_told m r.level (supplied m order i) (map (λ supply. supply.items) r.told.items) (length-map r.told.items (λ supply. supply.items) ∙ had.places order ordered)
+    supplies_told m r.level (supplied m order i) (map shared_states r.told.items) (length-map r.told.items shared_states ∙ had.places order ordered)
     (λ p j xs at_p at_told. told.told order p j xs ordered at_p at_told (heard m i r had each j (order, ordered, low, among_get j (supplied m order i) p at_p)))
 
 -- ---- one letter more
@@ -116,7 +116,7 @@ module _ (m : System) (i : ℕ) (place from : ℕ) (content : ContentData) (r s 
   told_length (Stop halt) st xss = refl
 
   told_long : length s.told.items ≡ length r.told.items
-  told_long = sym (length-map s.told.items (λ supply. supply.items)) ∙ ap length t.told_is ∙ told_length content r.stage (map (λ supply. supply.items) r.told.items) ∙ length-map r.told.items (λ supply. supply.items)
+  told_long = sym (length-map s.told.items shared_states) ∙ ap length t.told_is ∙ told_length content r.stage (map shared_states r.told.items) ∙ length-map r.told.items shared_states
 
   pub had_now : AreHad m i s
   had_now = record {
@@ -134,15 +134,15 @@ module _ (m : System) (i : ℕ) (place from : ℕ) (content : ContentData) (r s 
 
   pub told_now : (states : List ℕ) → content ≡ Supply states → r.stage ≡ Waits → AreTold m i r → AreTold m i s
   told_now states is waits told =
-      let now : map (λ supply. supply.items) s.told.items ≡ slice_set (map (λ supply. supply.items) r.told.items) place states
-      = t.told_is ∙ ap (λ c. told_with c r.stage place (map (λ supply. supply.items) r.told.items)) is ∙ ap (λ st. told_with (Supply states) st place (map (λ supply. supply.items) r.told.items)) waits in
+      let now : map shared_states s.told.items ≡ slice_set (map shared_states r.told.items) place states
+      = t.told_is ∙ ap (λ c. told_with c r.stage place (map shared_states r.told.items)) is ∙ ap (λ st. told_with (Supply states) st place (map shared_states r.told.items)) waits in
       let true_now : IsListing (MaySupply m r.level from) StateBefore states = subst (λ c. IsTrueContent m r.level from c) is may.says in record {
         no_stop = λ h there. elim ((among_push h r.had.items (record { from = from; stop = is_stop content })).0 (subst (λ xs. IsAmong h xs) t.had_is there)) [
           | inl early ↦ told.no_stop h early
           | inr e ↦ ap (λ (x : had_code.Had). x.stop) e ∙ ap is_stop is
         ];
         told = λ order p j xs ordered at_p at_told there. subst (λ n. IsListing (MaySupply m n j) StateBefore xs) (sym t.level_is)
-            (elim (slice_get-slice_set (map (λ supply. supply.items) r.told.items) place p states xs (subst (λ xss. slice_get xss p ≡ Some xs) now at_told)) [
+            (elim (slice_get-slice_set (map shared_states r.told.items) place p states xs (subst (λ xss. slice_get xss p ≡ Some xs) now at_told)) [
               | inl (here, same) ↦
                   let its : j ≡ from = let a : slice_get (supplied m order i) p ≡ Some j = at_p in let b : slice_get (supplied m order i) place ≡ Some from = may.at_place order ordered in cc in
                   subst (λ (ys : List ℕ). IsListing (MaySupply m r.level j) StateBefore ys) (sym same) (subst (λ (x : ℕ). IsListing (MaySupply m r.level x) StateBefore states) (sym its) true_now)

@@ -3,7 +3,7 @@ use Rattle.std.proofs.Common.{◌≡◌, ℕ, ◌<◌, Bool, true, false, List, 
 use Rattle.std.proofs.lemmas.Option.{none-some}
 use Rattle.mcs_base.specs.Listings.{IsAmong, AreApart, IsInventory, IsListing}
 use Rattle.mcs_base.proofs.Among.{among_map, map_among}
-use Rattle.mcs_base.proofs.Distinct.{ascending_distinct, distinct_map}
+use Rattle.mcs_base.proofs.Distinct.{distinct_map}
 use Rattle.mcs_system.specs.Plain.{System}
 use Rattle.mcs_states.specs.Oracles.{OracleState}
 use Rattle.mcs_node.specs.Rounds.{IsSentBy, IsSupplyTo, NodeState, ObeysRule, Round, Stamp, Supplies, finishes, is_stopped, stamp, stops, waits}
@@ -14,6 +14,7 @@ use Rattle.mcs_node.specs.declared.round.Had as had_code
 use Rattle.mcs_node.specs.declared.round.Stage as stage_code
 use Rattle.mcs_node.specs.declared.round.Stage.TheVariants.{Waits, Done, Stopped}
 use Rattle.mcs_node.specs.declared.round.InRound as code
+use Rattle.mcs_node.proofs.RuleLemmas.{sent_to}
 use Rattle.mcs_node.proofs.BeginLemmas.{asked_so_far, known_so_far, node_in}
 use Rattle.mcs_node.proofs.HandlingLemmas.{heard}
 
@@ -26,13 +27,7 @@ module _ (m : System) (i budget : ℕ) (o : OracleState) (receivers : List ℕ) 
   round = record { system = m; level = r.level; budget = budget; before = before }
 
   sent : (stop : Bool) → IsInventory (IsSentBy round i stop) (stamps_to r.level i stop receivers)
-  sent stop = record {
-    exactly = λ x. (
-      λ h. let (j, among, is) = map_among (λ j. stamp r.level i j stop) x receivers h in (j, (listed.exactly j).0 among, is),
-      λ (j, supplies, is). subst (λ y. IsAmong y (stamps_to r.level i stop receivers)) (sym is) (among_map (λ j. stamp r.level i j stop) j receivers ((listed.exactly j).1 supplies)),
-    );
-    apart = distinct_map (λ j. stamp r.level i j stop) receivers (λ x y a b same. ap (λ (z : Stamp). z.to) same) (ascending_distinct receivers listed.ascending);
-  }
+  sent stop = sent_to round i stop receivers listed
 
   abbrev stamp_had : had_code.Had → Stamp
   stamp_had h = stamp r.level h.from i h.stop

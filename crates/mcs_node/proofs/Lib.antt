@@ -12,6 +12,9 @@ pub mod UnsoundLemmas
 pub mod ExampleLemmas
 pub mod ExistenceLemmas
 pub mod ReplayLemmas
+pub mod RunLemmas
+pub mod PlayingLemmas
+pub mod PlayedLemmas
 mod AskingLemmas
 mod AnswerLemmas
 mod HandlingLemmas
@@ -20,4 +23,5 @@ mod GrantLemmas
 mod KeptRuleLemmas
 mod TakingLemmas
 mod SendingLemmas
+mod LocalRowLemmas
 mod GrantedLemmas

@@ -1,8 +1,11 @@
 -- What the rule of a node says of its letters.
-use Rattle.std.proofs.Common.{◌≡◌, ℕ, Bool, true, false, true≢false, List, Option, Some, None, is_some, sym, ap, ◌∙◌, subst, unwrap_or}
-use Rattle.mcs_base.specs.Listings.{IsAmong, AreApart}
-use Rattle.mcs_node.specs.Rounds.{Supplies, Stamp, Round, NodeState, IsSentBy, Finishes, ObeysRule, waits, finishes, is_stopped, stops}
+use Rattle.std.proofs.Common.{◌≡◌, ℕ, ◌<◌, Bool, true, false, true≢false, List, Option, Some, None, is_some, sym, ap, ◌∙◌, subst, unwrap_or}
+use Rattle.mcs_base.specs.Listings.{IsAmong, AreApart, IsInventory, IsListing}
+use Rattle.mcs_base.proofs.Among.{among_map, map_among}
+use Rattle.mcs_base.proofs.Distinct.{ascending_distinct, distinct_map}
+use Rattle.mcs_node.specs.Rounds.{Supplies, Stamp, stamp, Round, NodeState, IsSentBy, Finishes, ObeysRule, waits, finishes, is_stopped, stops}
 use Rattle.mcs_node.specs.Configurations.{Configuration, HasNode, IsFromSender, IsPutOut, IsSound}
+use Rattle.mcs_node.specs.Nodes.{stamps_to}
 
 -- two that stand at one place are one
 pub some_same : {A : Type 0} (o : Option A) (a b : A) → o ≡ Some a → o ≡ Some b → a ≡ b
@@ -10,6 +13,16 @@ some_same {A} o a b is is' = ap (λ (p : Option A). unwrap_or p a) (sym is ∙ i
 
 pub no_none : {A : Type 0} (o : Option A) (a : A) → o ≡ None → o ≡ Some a → ⊥
 no_none {A} o a is is' = true≢false (ap (λ (p : Option A). is_some p) (sym is' ∙ is))
+
+-- a stamp to each context that it supplies
+pub sent_to : (r : Round) (i : ℕ) (stop : Bool) (js : List ℕ) → IsListing (Supplies r.system i) (λ a b. a < b) js → IsInventory (IsSentBy r i stop) (stamps_to r.level i stop js)
+sent_to r i stop js listed = record {
+  exactly = λ x. (
+    λ h. let (j, among, is) = map_among (λ j. stamp r.level i j stop) x js h in (j, (listed.exactly j).0 among, is),
+    λ (j, supplies, is). subst (λ y. IsAmong y (stamps_to r.level i stop js)) (sym is) (among_map (λ j. stamp r.level i j stop) j js ((listed.exactly j).1 supplies)),
+  );
+  apart = distinct_map (λ j. stamp r.level i j stop) js (λ x y a b same. ap (λ (z : Stamp). z.to) same) (ascending_distinct js listed.ascending);
+}
 
 -- what a node puts out goes from it to one that it supplies
 pub put_out_sent : (r : Round) (i : ℕ) (s : NodeState) (x : Stamp) → ObeysRule r i s → IsAmong x s.put_out → (stop : Bool) × IsSentBy r i stop x

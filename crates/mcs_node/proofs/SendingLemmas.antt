@@ -14,7 +14,7 @@ use Rattle.mcs_states.specs.Oracles.{OracleState}
 use Rattle.mcs_states.specs.declared.halt.Halt.{Halt}
 use Rattle.mcs_node.specs.Rounds.{Supplies}
 use Rattle.mcs_node.specs.Nodes.{HandsOut, IsAbove, letters_to}
-use Rattle.mcs_node.specs.Letters.{ContentData, LetterData, Supply, Stop, IsTrueHalt}
+use Rattle.mcs_node.specs.Letters.{ContentData, LetterData, Supply, Stop, IsTrueHalt, shared_states}
 use Rattle.mcs_node.specs.Known.{IsKnown, Knowledge}
 use Rattle.mcs_node.specs.Keeping.{AreHad, AreTold, HandsOutLast, HandsOutNone, HasContent, HasStopCause, IsAtStage, IsInRound, IsNode, MayHandOut, letters_in, outbox_in}
 use Rattle.mcs_node.specs.declared.round.Stage as stage_code
@@ -92,7 +92,7 @@ module _ (m : System) (i : ℕ) (receivers supplies : List ℕ) (r s : code.InRo
   still_may : HasContent m i supplies s s.stage → MayHandOut m i receivers supplies s
   still_may content = record { envelopes = plans; few = let few = may.few in omega (arith, few, fewer); fits = may.fits; content = content }
 
-  pub supply_out : (total : ℕ) → r.stage ≡ Done total → (map (λ copy. copy.items) s.copies.items ≡ map (λ envelope. supplies) s.envelopes.items) → IsListing (MaySupply m r.level i) StateBefore supplies
+  pub supply_out : (total : ℕ) → r.stage ≡ Done total → (map shared_states s.copies.items ≡ map (λ envelope. supplies) s.envelopes.items) → IsListing (MaySupply m r.level i) StateBefore supplies
       → HandsOutLast m i receivers supplies r s (letter_of m r.level i last_receiver (Supply supplies))
   supply_out total done copies listing = record {
     last = ap (λ z. letters_in m r.level i (take (length r.envelopes.items) receivers) supplies z) done ∙ last_to (Supply supplies)

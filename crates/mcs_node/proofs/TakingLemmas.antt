@@ -1,22 +1,15 @@
 -- Whether a node takes a letter.
-use Rattle.std.proofs.Common.{◌≡◌, ℕ, ◌<◌, Bool, List, length, slice_get, Option, Some, None, subst}
-use Rattle.std.proofs.lemmas.Option.{none-some}
+use Rattle.std.proofs.Common.{◌≡◌, ℕ, ◌<◌, Bool, List, length, slice_get, Option, Some, subst}
 use Rattle.mcs_system.specs.Plain.{System}
 use Rattle.mcs_system.specs.Imports.{IsImportOrder, supplied}
 use Rattle.mcs_states.specs.Oracles.{OracleState}
 use Rattle.mcs_node.specs.Rounds.{Supplies}
-use Rattle.mcs_node.specs.Nodes.{IsAwaited}
 use Rattle.mcs_node.specs.Letters.{LetterData, IsTrueContent, IsTrueLetter}
 use Rattle.mcs_node.specs.Known.{Knowledge}
 use Rattle.mcs_node.specs.Keeping.{IsAtStage, IsForRound, IsInRound, IsNode, MayTake}
 use Rattle.mcs_node.specs.declared.round.InRound as code
-use Rattle.mcs_node.proofs.BeginLemmas.{node_in}
 
 module _ (m : System) (i budget : ℕ) (o : OracleState) (receivers : List ℕ) (k : Knowledge) (before : Option ℕ) where
-  -- a node that has begun no round awaits no letter
-  pub none_awaited : (l : LetterData) → ¬ IsAwaited l (node_in m i budget o receivers k before None)
-  none_awaited l a = none-some l.level a.level
-
   pub may_take : (place : ℕ) (r : code.InRound) (l : LetterData) → i < length m.contexts → IsInRound m i budget o receivers k before r → IsForRound m i r l → IsTrueLetter l
       → ((order : List ℕ) → IsImportOrder m order → slice_get (supplied m order i) place ≡ Some l.from) → MayTake m i place l.from l.content r
   may_take place r l low was mine right at_place = record {

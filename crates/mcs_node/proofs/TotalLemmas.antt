@@ -55,7 +55,7 @@ sum_both (a ∷ ns) (b ∷ ks) (c ∷ cs) la lb each =
     let rest = sum_both ns ks cs (omega (arith, la)) (omega (arith, lb)) (λ i x y z at at' at''. each (suc i) x y z at at' at'') in
     omega (arith, sum_by-cons (λ (n : ℕ). n) a ns, sum_by-cons (λ (n : ℕ). n) b ks, sum_by-cons (λ (l : List ℕ). length l) c cs, here, rest)
 
-no_sum : (cs : List Context) → sum_by (λ n. n) (map (λ (c : Context). 0) cs) ≡ 0
+pub no_sum : (cs : List Context) → sum_by (λ n. n) (map (λ (c : Context). 0) cs) ≡ 0
 no_sum [] = refl
 no_sum (c ∷ cs) = omega (arith, sum_by-cons (λ (n : ℕ). n) 0 (map (λ (c : Context). 0) cs), no_sum cs)
 

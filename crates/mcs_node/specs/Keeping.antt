@@ -13,7 +13,7 @@ use Rattle.mcs_states.specs.declared.halt.Halt.{Halt}
 use Rattle.mcs_states.specs.declared.halt.Halt.TheVariants.{Memory}
 use Rattle.mcs_node.specs.Rounds.{NodeState, Round, Stamp, Supplies, IsOwnHalt, stamp}
 use Rattle.mcs_node.specs.Configurations.{new_node}
-use Rattle.mcs_node.specs.Letters.{ContentData, LetterData, Supply, Stop, IsTrueContent, IsTrueHalt, is_stop}
+use Rattle.mcs_node.specs.Letters.{ContentData, LetterData, Supply, Stop, IsTrueContent, IsTrueHalt, is_stop, shared_states}
 use Rattle.mcs_node.specs.Known.{HasAsked, IsKnown, IsKnownAt, Knowledge}
 use Rattle.mcs_node.specs.Nodes.{IsAbove, letters_to, stamps_to}
 use Rattle.mcs_node.specs.declared.round.Had as had_code
@@ -100,7 +100,7 @@ pub record AreHad (m : System) (i : ℕ) (r : code.InRound) : Type 0 where
 pub record AreTold (m : System) (i : ℕ) (r : code.InRound) : Type 0 where
   pub no_stop : (h : had_code.Had) → IsAmong h r.had.items → h.stop ≡ false
   pub told : (order : List ℕ) (p j : ℕ) (xs : List ℕ) → IsImportOrder m order → slice_get (supplied m order i) p ≡ Some j
-      → slice_get (map (λ supply. supply.items) r.told.items) p ≡ Some xs → IsAmong j (froms r.had.items) → IsListing (MaySupply m r.level j) StateBefore xs
+      → slice_get (map shared_states r.told.items) p ≡ Some xs → IsAmong j (froms r.had.items) → IsListing (MaySupply m r.level j) StateBefore xs
 
 -- every supply was had
 abbrev pub HasEach : code.InRound → Type 0
@@ -141,7 +141,7 @@ pub record IsDoneAt (m : System) (i budget : ℕ) (o : OracleState) (k : Knowled
   pub within : total ≤ budget
   pub known : IsKnown m r.level i k
   pub asked : HasAsked m i o k.answers
-  pub copies : map (λ copy. copy.items) r.copies.items ≡ map (λ envelope. k.supplies) r.envelopes.items
+  pub copies : map shared_states r.copies.items ≡ map (λ envelope. k.supplies) r.envelopes.items
 
 -- it stopped, for a reason of its own or by a letter
 abbrev pub HasStopCause : Round → ℕ → List had_code.Had → Option ℕ → Halt → Bool → Type 0
@@ -185,7 +185,7 @@ pub record IsForRound (m : System) (i : ℕ) (r : code.InRound) (l : LetterData)
   pub first : ¬ IsAmong l.from (froms r.had.items)
 
 abbrev pub AreToldAll : System → ℕ → code.InRound → Type 0
-AreToldAll m i r = (order : List ℕ) → IsImportOrder m order → AreSupplies m r.level (supplied m order i) (map (λ supply. supply.items) r.told.items)
+AreToldAll m i r = (order : List ℕ) → IsImportOrder m order → AreSupplies m r.level (supplied m order i) (map shared_states r.told.items)
 
 -- where every supply was had, the questions are worked out, or memory ran out for them; nothing else changes
 pub record IsWorkedOut (m : System) (i : ℕ) (r s : code.InRound) : Type 0 where
@@ -218,7 +218,7 @@ pub record HadIn (place from : ℕ) (content : ContentData) (r s : code.InRound)
   pub had_is : s.had.items ≡ r.had.items ++ record { from = from; stop = is_stop content } ∷ []
   pub level_is : s.level ≡ r.level
   pub room : vec_capacity s.had ≡ vec_capacity r.had
-  pub told_is : map (λ supply. supply.items) s.told.items ≡ told_with content r.stage place (map (λ supply. supply.items) r.told.items)
+  pub told_is : map shared_states s.told.items ≡ told_with content r.stage place (map shared_states r.told.items)
 
 -- the letter was taken
 pub record TookIn (m : System) (i place from : ℕ) (content : ContentData) (r s : code.InRound) : Type 0 where
@@ -232,7 +232,7 @@ pub record TookIn (m : System) (i place from : ℕ) (content : ContentData) (r s
 -- what is put into the envelopes that are left
 abbrev pub HasContent : System → ℕ → List ℕ → code.InRound → stage_code.Stage → Type 0
 HasContent m i supplies r Waits = Unit {0}
-HasContent m i supplies r (Done total) = (map (λ copy. copy.items) r.copies.items ≡ map (λ envelope. supplies) r.envelopes.items) × IsListing (MaySupply m r.level i) StateBefore supplies
+HasContent m i supplies r (Done total) = (map shared_states r.copies.items ≡ map (λ envelope. supplies) r.envelopes.items) × IsListing (MaySupply m r.level i) StateBefore supplies
 HasContent m i supplies r (Stopped granted halt by_itself) = IsTrueHalt m r.level halt
 
 -- the envelopes are of the plan, and their letters are true

@@ -1,7 +1,10 @@
 -- What a letter is seen as, and when it is true.
-use Rattle.std.specs.Prelude.{◌≡◌, ℕ, Bool, true, false, List, ◌⊎◌, refl}
+use Rattle.std.specs.Prelude.{◌≡◌, ℕ, Bool, true, false, List, Vec, ◌⊎◌, refl}
 use Rattle.std.specs.Coded.{Coded, code_by, coded×, coded⊎, coded_ℕ, coded_list}
 use Rattle.std.proofs.Common.{inl, inr}
+use Rattle.std.specs.Arc.{arc_value}
+use Rattle.std.specs.declared.alloc.Global.{Global}
+use Rattle.std.specs.declared.sync.Arc.{Arc}
 use Rattle.mcs_base.specs.Listings.{IsListing}
 use Rattle.mcs_sets.specs.Orders.{StateBefore}
 use Rattle.mcs_system.specs.Plain.{System}
@@ -26,8 +29,12 @@ pub record LetterData : Type 0 where
   pub to : ℕ
   pub content : ContentData
 
+-- the states of a list that is shared
+abbrev pub shared_states : Arc (Vec ℕ Global) Global → List ℕ
+shared_states list = (arc_value list).items
+
 abbrev pub content_of : code.Content → ContentData
-content_of (code.TheVariants.Supply states) = Supply states.items
+content_of (code.TheVariants.Supply states) = Supply (shared_states states)
 content_of (code.TheVariants.Stop halt) = Stop halt
 
 abbrev pub is_stop : ContentData → Bool

@@ -8,5 +8,6 @@ pub mod Replay
 pub mod Letters
 pub mod Known
 pub mod Nodes
+pub mod Playing
 pub mod Codes
 pub mod Keeping

@@ -2,6 +2,8 @@
 use Rattle.std.specs.Prelude.{◌≡◌, ℕ, ◌<◌, ◌≤◌, ◌++◌, ◌⊎◌, Bool, true, false, cond, List, [], ◌∷◌, map, length, Option, Some, None}
 use Rattle.mcs_base.specs.Listings.{IsAmong, IsListing}
 use Rattle.mcs_system.specs.Plain.{System}
+use Rattle.mcs_rows.specs.Local.{IsLocalTable}
+use Rattle.mcs_table.specs.Tables.{TableData}
 use Rattle.mcs_states.specs.Oracles.{OracleState, Lacks, with_journal}
 use Rattle.mcs_states.specs.declared.halt.Halt.{Halt}
 use Rattle.mcs_states.specs.declared.halt.Halt.TheVariants.{Spent, Missing, Memory}
@@ -151,6 +153,14 @@ pub record HasFailed (total level : ℕ) (d e : NodeData) : Type 0 where
 abbrev pub IsGranted : ℕ → NodeData → NodeData → Type 0
 IsGranted total d e = (level : ℕ) × (d.level ≡ Some level)
     × (((d.budget < total) × (e ≡ stopped_with level (Spent level total) true (with_grant total d))) ⊎ (HasFinished total level d e ⊎ HasFailed total level d e))
+
+-- ---- its local rows
+-- it is done, and the table has exactly the local rows of its context at the level of the round
+pub record IsLocalOf (d : NodeData) (t : TableData) : Type 0 where
+  pub done : d.state.done ≡ true
+  pub level : ℕ
+  pub of_round : d.level ≡ Some level
+  pub rows : IsLocalTable d.plan level d.context t
 
 -- ---- the next letter
 -- it hands out the letter, and nothing else of it changes

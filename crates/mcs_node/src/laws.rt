@@ -3,6 +3,7 @@
 ghost use Rattle.mcs_node.specs.Laws.{FirstIsSound, StepsKeepSoundness, RunsAreSound, QuietRoundsAreDone, HaltsHaveASource, DoneRoundsAreQuiet, DoneRoundsAreAlike, TotalsCountQuestions, GreatestTotalIsTheCount, HaltsAreTrue};
 ghost use Rattle.mcs_node.specs.Existence.{TotalsExist, TotalsAreOne, StepsHaveTheirOutcome, OutcomesExclude, StepsHaveOneOutcome, EventsHaveSteps, OutcomesHaveSteps, EventsHaveRuns};
 ghost use Rattle.mcs_node.specs.Replay.{OutcomesAddUp, OneThingIsTold, EventsHaveReplays, QuietReplaysEnd, ReplaysTellTruth, TurnsAreTold, SkipsAreTold, SpentIsTold, ExampleNeedsOneEach, ExampleIsSpent};
+ghost use Rattle.mcs_node.specs.Playing.{NewNodesAreFirst, BeginsAreSteps, BegunIsSkipped, GrantsAreSteps, UngrantedIsSkipped, LettersAreSteps, StrangersAreIgnored, UnsentIsSkipped};
 ghost use Rattle.mcs_node.specs.Worked.{TurnsAreTaken, ImpossibleIsSkipped, StopsAreCarried, MemoryMayRunOut, AnswersMayBeMissing, UnsoundIsRefused, ExampleIsOfTwo};
 
 /// The configuration in which no node has begun is sound, and each step makes a sound configuration of a sound
@@ -59,6 +60,21 @@ pub fn replays_add_up()
     ensures replay { EventsHaveReplays }
     ensures quiet { QuietReplaysEnd }
     ensures halt { ReplaysTellTruth }
+{}
+
+/// Nodes that play a round make a configuration of it. New nodes make the first one. Each call of a node is a step: a
+/// begin, a grant of its need on top of what was granted so far, and a letter that it takes. A node that has begun does
+/// not begin again, one that does not wait for its grant is granted none, a letter that is not awaited is ignored, and
+/// one that was not put out is not delivered.
+pub fn calls_are_steps()
+    ensures first { NewNodesAreFirst }
+    ensures begin { BeginsAreSteps }
+    ensures begun { BegunIsSkipped }
+    ensures grant { GrantsAreSteps }
+    ensures ungranted { UngrantedIsSkipped }
+    ensures letter { LettersAreSteps }
+    ensures stranger { StrangersAreIgnored }
+    ensures unsent { UnsentIsSkipped }
 {}
 
 /// The level has at least as many questions as a total says, where no higher level was done before the round, and just

@@ -14,7 +14,6 @@ use crate::content::Content;
 use mcs_base::{Memory, Vars};
 use mcs_import::Plan;
 use mcs_states::Halt;
-use std::alloc::Global;
 use std::marker::Model;
 use std::sync::Arc;
 
@@ -45,11 +44,11 @@ impl Model for Letter {
 
 impl Letter {
     /// A letter by which context `from` of the plan's system tells context `to`, which it supplies, all that it may
-    /// supply at the level: each state once, in the order of states.
-    pub fn supply(plan: Arc<Plan>, level: u32, from: u32, to: u32, states: Vec<Vars>) -> Letter
+    /// supply at the level: each state once, in the order of states. The list may be shared with other letters.
+    pub fn supply(plan: Arc<Plan>, level: u32, from: u32, to: u32, states: Arc<Vec<Vars>>) -> Letter
         requires fits { Supplies (arc_value plan) from to }
-        requires listing { IsListing (MaySupply (arc_value plan) level from) StateBefore states.items }
-        ensures { result ≡ record { plan = arc_value plan; level = level; from = from; to = to; content = Supply states.items } }
+        requires listing { IsListing (MaySupply (arc_value plan) level from) StateBefore (arc_value states).items }
+        ensures { result ≡ record { plan = arc_value plan; level = level; from = from; to = to; content = Supply (arc_value states).items } }
     {
         Letter {
             plan,
@@ -123,11 +122,12 @@ impl Letter {
         content
     }
 
-    /// An equal letter, or want of memory.
-    pub fn copy(&self, alloc: Global) -> Result<Letter, Memory>
+    /// An equal letter, which shares the plan and the list of states with this one. Want of memory where one of the two
+    /// has too many owners.
+    pub fn copy(&self) -> Result<Letter, Memory>
         ensures { IfOk result (λ copy. copy ≡ self.now) }
     {
-        let content = self.content.copy(alloc)?;
+        let content = self.content.copy()?;
         Ok(Letter {
             plan: Arc::try_clone(&self.plan)?,
             level: self.level,

@@ -1,6 +1,6 @@
 //! Nodes: one context in one round after the other.
 
-ghost use Rattle.std.specs.Prelude.{◌≡◌, ◌<◌, ◌↔◌, ◌+◌, ℕ, List, [], map, length, slice_index, None, IfOk, IfErr, OnOk, OnErr, IfSome, IfNone, IsTrue, MatchOption, Ok, Err, ◌⊎◌};
+ghost use Rattle.std.specs.Prelude.{◌≡◌, ◌<◌, ◌↔◌, ◌+◌, ℕ, List, [], map, length, slice_index, false, None, IfOk, IfErr, OnOk, OnErr, IfSome, IfNone, IsTrue, MatchOption, Ok, Err, ◌⊎◌};
 ghost use Rattle.std.specs.List.{AllByRecursion};
 ghost use Rattle.mcs_states.specs.declared.halt.Halt.TheVariants as halts;
 ghost use Rattle.std.specs.Arc.{arc_value};
@@ -8,8 +8,9 @@ ghost use Rattle.mcs_base.specs.Listings.{IsListing};
 ghost use Rattle.mcs_system.specs.Imports.{IsImportOrder};
 ghost use Rattle.mcs_rows.specs.Answers.{answered_of};
 ghost use Rattle.mcs_node.specs.Rounds.{Supplies};
+ghost use Rattle.mcs_node.specs.Letters.{shared_states};
 ghost use Rattle.mcs_node.specs.Known.{knowledge_of};
-ghost use Rattle.mcs_node.specs.Nodes.{HandsOut, HasTaken, IsAbove, IsAwaited, IsFreshOracle, IsGranted, IsNeed, IsNewNode, IsNodeData, NodeData, WaitsForGrant, begun_at};
+ghost use Rattle.mcs_node.specs.Nodes.{HandsOut, HasTaken, IsAbove, IsAwaited, IsFreshOracle, IsGranted, IsLocalOf, IsNeed, IsNewNode, IsNodeData, NodeData, WaitsForGrant, begun_at};
 ghost use Rattle.mcs_node.specs.declared.handled.Handled.TheVariants.{Ignored, Took};
 
 use crate::answers::{FoundOut, find_out};
@@ -18,11 +19,14 @@ use crate::handled::Handled;
 use crate::known::Known;
 use crate::letter::Letter;
 use crate::receiving::{awaited, take_in};
-use crate::round::{InRound, Stage, begun_round, done_level, place_of};
-use crate::sending::{copies, next_letter};
+use crate::round::{InRound, begun_round, done_level, place_of};
+use crate::sending::next_letter;
+use crate::shared::{copies, lists_of};
 use mcs_base::{Memory, Vars};
 use mcs_import::Plan;
+use mcs_rows::local_rows;
 use mcs_states::{Halt, Oracle};
+use mcs_table::Table;
 use std::alloc::Global;
 use std::marker::Model;
 use std::mem;
@@ -198,6 +202,13 @@ impl<O: Oracle> Node<O> {
         next_letter(&self.receivers, self.context, round)
     }
 
+    /// The level of the round that the node has begun; `None` where it has begun none.
+    pub fn level(&self) -> Option<u32>
+        ensures { result ≡ self.now.level }
+    {
+        Some(self.round.as_ref()?.level)
+    }
+
     /// Whether all questions to the context were asked in this round.
     pub fn is_done(&self) -> bool
         ensures { result ≡ self.now.state.done }
@@ -232,6 +243,30 @@ impl<O: Oracle> Node<O> {
         ensures node { IsNodeData self.now }
     {
         &self.known
+    }
+
+    /// All local rows of the context at the level of the round, as a table on its local variables; `None` exactly
+    /// where the node is not done. They are made when they are asked for. There may be 4 to the number of its rules
+    /// of them, and an evaluation wants few of these, so it does not call this.
+    pub fn local(&self, alloc: Global) -> Result<Option<Table>, Memory>
+        ensures { IfOk result (λ local. MatchOption local (self.now.state.done ≡ false) (IsLocalOf self.now)) }
+    {
+        let Some(round) = &self.round else {
+            return Ok(None);
+        };
+        if !round.is_done() {
+            return Ok(None);
+        }
+        let told = lists_of(alloc, &round.told)?;
+        let table = local_rows(
+            alloc,
+            &self.plan,
+            self.context,
+            &told,
+            &self.known.answers,
+            round.level,
+        )?;
+        Ok(Some(table))
     }
 
     /// The oracle, back.
@@ -274,13 +309,13 @@ fn is_supplied(plan: &Plan, other: u32, context: u32) -> bool
 #[derive(Drop)]
 struct Finish {
     known: Known,
-    copies: Vec<Vec<Vars>>,
+    copies: Vec<Arc<Vec<Vars>>>,
 }
 
-/// What is known, with a copy of the supplies for each letter.
+/// What is known, with a list of the supplies that so many letters share.
 fn with_copies(alloc: Global, known: Result<Known, Halt>, letters: usize) -> Result<Finish, Halt>
     ensures known { IfOk result (λ r. known ≡ Ok r.known) }
-    ensures copies { IfOk result (λ r. (length r.copies.items ≡ letters) × AllByRecursion (λ copy. copy.items ≡ r.known.supplies.items) r.copies.items) }
+    ensures copies { IfOk result (λ r. (length r.copies.items ≡ letters) × AllByRecursion (λ copy. shared_states copy ≡ r.known.supplies.items) r.copies.items) }
     ensures cause { IfErr result (λ halt. (halt ≡ halts.Memory) ⊎ (known ≡ Err halt)) }
 {
     let known = known?;

@@ -1,18 +1,23 @@
 //! What a letter makes of a round.
 
 ghost use Rattle.std.specs.Prelude.{◌≡◌, ◌<◌, ◌≤◌, ℕ, List, IfOk, IfSome, IfNone, map, length, slice_get, slice_set, Some};
+ghost use Rattle.mcs_base.specs.Listings.{IsListing};
 ghost use Rattle.mcs_system.specs.Imports.{IsImportOrder, supplied};
+ghost use Rattle.mcs_system.specs.Levels.{IsQuestionAt};
+ghost use Rattle.mcs_import.specs.Plans.{AreSupplies};
 ghost use Rattle.mcs_node.specs.Keeping.{AreToldAll, IsForRound, IsWorkedOut, MayTake, TookIn};
 ghost use Rattle.mcs_node.specs.declared.round.Stage.TheVariants.{Waits};
-ghost use Rattle.mcs_node.specs.Letters.{content_of, is_stop as is_stop_of};
+ghost use Rattle.mcs_node.specs.Letters.{content_of, is_stop as is_stop_of, shared_states};
 
 use crate::content::Content;
 use crate::letter::Letter;
 use crate::round::{Had, InRound, Stage, place_of, was_had};
-use mcs_base::{Memory, Vars};
+use crate::shared::lists_of;
+use mcs_base::{Active, Memory, Vars};
 use mcs_import::{Plan, questions};
 use mcs_states::Halt;
 use std::alloc::Global;
+use std::sync::Arc;
 
 /// The place, among the contexts that supply this one, of the sender of a letter that the round waits for.
 pub(crate) fn awaited(plan: &Plan, context: u32, round: &InRound, letter: &Letter) -> Option<usize>
@@ -74,9 +79,9 @@ pub(crate) fn take_in(
 }
 
 /// Keeps what was told at the place.
-fn keep(round: &mut InRound, place: usize, states: Vec<Vars>)
+fn keep(round: &mut InRound, place: usize, states: Arc<Vec<Vars>>)
     requires { place < length round.old.told.items }
-    ensures told { map (λ supply. supply.items) round.new.told.items ≡ slice_set (map (λ supply. supply.items) round.old.told.items) place states.items }
+    ensures told { map shared_states round.new.told.items ≡ slice_set (map shared_states round.old.told.items) place (shared_states states) }
     ensures rest { round.new ≡ record round.old { told = round.new.told } }
 {
     round.told[place] = states;
@@ -92,7 +97,7 @@ fn work_out(alloc: Global, plan: &Plan, context: u32, round: &mut InRound)
     if round.had.len() < round.told.len() {
         return;
     }
-    match questions(alloc, plan, context, &round.told, round.level) {
+    match told_questions(alloc, plan, context, &round.told, round.level) {
         Ok(questions) => round.questions = questions,
         Err(Memory) => {
             round.stage = Stage::Stopped {
@@ -102,4 +107,21 @@ fn work_out(alloc: Global, plan: &Plan, context: u32, round: &mut InRound)
             }
         }
     }
+}
+
+/// The questions of the level to the context, where this is what was told by those that supply it.
+fn told_questions(
+    alloc: Global,
+    plan: &Plan,
+    context: u32,
+    told: &[Arc<Vec<Vars>>],
+    level: u32,
+) -> Result<Vec<Active>, Memory>
+    requires in_range { context < length plan.now.contexts }
+    requires supplied { (order : List ℕ) → IsImportOrder plan.now order
+        → AreSupplies plan.now level (supplied plan.now order context) (map shared_states told.now) }
+    ensures { IfOk result (λ sets. IsListing (IsQuestionAt plan.now level context) (λ a b. a < b) sets.items) }
+{
+    let lists = lists_of(alloc, told)?;
+    questions(alloc, plan, context, &lists, level)
 }

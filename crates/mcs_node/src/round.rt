@@ -1,7 +1,6 @@
 //! What a node keeps of a round.
 
 ghost use Rattle.std.specs.Prelude.{◌≡◌, ◌<◌, ◌≤◌, ◌↔◌, ℕ, List, IfOk, IfSome, IfNone, IsTrue, Some, true, [], map, length, slice_get, vec_capacity};
-ghost use Rattle.std.specs.List.{AllByRecursion};
 ghost use Rattle.std.specs.Arc.{arc_value};
 ghost use Rattle.mcs_base.specs.Listings.{IsAmong, IsListing};
 ghost use Rattle.mcs_system.specs.Imports.{IsImportOrder, supplied};
@@ -9,6 +8,7 @@ ghost use Rattle.mcs_system.specs.Levels.{IsQuestionAt};
 ghost use Rattle.mcs_node.specs.declared.round.Stage.TheVariants.{Done, Stopped};
 ghost use Rattle.mcs_node.specs.Keeping.{IsBegun, IsReady, by_itself_in, done_in, froms, halt_in, level_done};
 
+use crate::shared::owners;
 use mcs_base::{Active, Memory, Vars};
 use mcs_import::{Plan, questions};
 use mcs_states::Halt;
@@ -46,14 +46,14 @@ pub(crate) struct InRound {
     // The letters had, in order.
     pub had: Vec<Had>,
     // For each context that supplies this one, in import order, what it told.
-    pub told: Vec<Vec<Vars>>,
+    pub told: Vec<Arc<Vec<Vars>>>,
     // The questions of the level, once every supply was had.
     pub questions: Vec<Active>,
     pub stage: Stage,
     // One for each letter that was not handed out yet: those to the first of the receivers.
     pub envelopes: Vec<Arc<Plan>>,
-    // What is put into them, once the node is done.
-    pub copies: Vec<Vec<Vars>>,
+    // What is put into them, once the node is done: one list, which they share.
+    pub copies: Vec<Arc<Vec<Vars>>>,
 }
 
 impl InRound {
@@ -98,8 +98,8 @@ impl InRound {
         };
     }
 
-    /// The node is done, and these copies of its supplies are put into the envelopes.
-    pub fn finish(&mut self, total: u64, copies: Vec<Vec<Vars>>)
+    /// The node is done, and these lists of its supplies are put into the envelopes.
+    pub fn finish(&mut self, total: u64, copies: Vec<Arc<Vec<Vars>>>)
         ensures { self.new ≡ record self.old { copies = copies; stage = Done total } }
     {
         self.copies = copies;
@@ -117,27 +117,12 @@ impl InRound {
     }
 }
 
-/// So many lists of no states.
-fn no_lists(alloc: Global, count: usize) -> Result<Vec<Vec<Vars>>, Memory>
+/// So many owners of a list of no states.
+fn no_lists(alloc: Global, count: usize) -> Result<Vec<Arc<Vec<Vars>>>, Memory>
     ensures { IfOk result (λ lists. length lists.items ≡ count) }
 {
-    let mut lists = Vec::new(alloc);
-    for _ in 0..count {
-        lists.push(Vec::new(alloc))?;
-    }
-    Ok(lists)
-}
-
-/// So many owners of the plan.
-fn envelopes(alloc: Global, plan: &Arc<Plan>, count: usize) -> Result<Vec<Arc<Plan>>, Memory>
-    ensures count { IfOk result (λ envelopes. length envelopes.items ≡ count) }
-    ensures plan { IfOk result (λ envelopes. AllByRecursion (λ envelope. arc_value envelope ≡ arc_value plan.now) envelopes.items) }
-{
-    let mut envelopes = Vec::new(alloc);
-    for _ in 0..count {
-        envelopes.push(Arc::try_clone(plan)?)?;
-    }
-    Ok(envelopes)
+    let none = Arc::new(alloc, Vec::new(alloc))?;
+    owners(alloc, &none, count)
 }
 
 /// The questions of the level to the context, where no context supplies it; else none as yet.
@@ -176,7 +161,7 @@ pub(crate) fn begun_round(
         told: no_lists(alloc, suppliers.len())?,
         questions: first_questions(alloc, plan, context, level, suppliers)?,
         stage: Stage::Waits,
-        envelopes: envelopes(alloc, plan, letters)?,
+        envelopes: owners(alloc, plan, letters)?,
         copies: Vec::new(alloc),
     })
 }

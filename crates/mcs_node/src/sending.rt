@@ -1,35 +1,11 @@
 //! The letters that a node puts out.
 
-ghost use Rattle.std.specs.Prelude.{◌≡◌, ℕ, List, IfOk, MatchOption, length};
-ghost use Rattle.std.specs.List.{AllByRecursion};
+ghost use Rattle.std.specs.Prelude.{ℕ, List, MatchOption};
 ghost use Rattle.mcs_system.specs.Plain.{System};
 ghost use Rattle.mcs_node.specs.Keeping.{HandsOutLast, HandsOutNone, MayHandOut};
 
 use crate::letter::Letter;
 use crate::round::{InRound, Stage};
-use mcs_base::{Memory, Vars};
-use std::alloc::Global;
-
-/// So many copies of the states.
-pub(crate) fn copies(alloc: Global, states: &[Vars], count: usize) -> Result<Vec<Vec<Vars>>, Memory>
-    ensures count { IfOk result (λ copies. length copies.items ≡ count) }
-    ensures same { IfOk result (λ copies. AllByRecursion (λ copy. copy.items ≡ states.now) copies.items) }
-{
-    let mut copies = Vec::new(alloc);
-    for _ in 0..count {
-        copies.push(copied(alloc, states)?)?;
-    }
-    Ok(copies)
-}
-
-/// The states, in a list of their own.
-fn copied(alloc: Global, states: &[Vars]) -> Result<Vec<Vars>, Memory>
-    ensures { IfOk result (λ copy. copy.items ≡ states.now) }
-{
-    let mut copy = Vec::new(alloc);
-    copy.extend_from_slice(states)?;
-    Ok(copy)
-}
 
 /// The next letter of the context that was not handed out yet: to the last of the receivers for which there is an
 /// envelope.

@@ -5,7 +5,7 @@ use Rattle.mcs_sets.specs.Orders.{StateBefore}
 use Rattle.mcs_system.specs.Plain.{System}
 use Rattle.mcs_system.specs.Levels.{MaySupply}
 use Rattle.mcs_node.specs.Rounds.{Supplies}
-use Rattle.mcs_node.specs.Letters.{IsTrueHalt, LetterData, Supply, Stop}
+use Rattle.mcs_node.specs.Letters.{IsTrueHalt, LetterData, Supply, Stop, shared_states}
 use Rattle.mcs_node.specs.Keeping.{HandsOutLast}
 use Rattle.mcs_node.proofs.SendingLemmas.{content_done, content_stopped, last_copy, last_plan, letter_of, one_fewer, other_plans, receiver_at, receiver_fits, same_letter, stop_out, supply_out}
 use Rattle.mcs_node.proofs.sending.next_letter.Goals as goal
@@ -30,8 +30,8 @@ supply-requires-clause-listing c =
     let rest = c.pop.new.self.items in
     let its = last_plan arc_value m r.envelopes.items rest c.in-Some.plan c.in-Some.ensures.items may.envelopes in
     let content = content_done m c.args.context c.args.receivers.now c.requires.1 r may c.in-Done.total c.in-Done.is in
-    let copies = last_copy (λ copy. copy.items) c.requires.1 r.envelopes.items r.copies.items content.0 rest c.in-Some.plan c.pop-in-Done.new.self.items c.in-Some-pop.states c.in-Some.ensures.items c.in-Some-pop.ensures.items in
-    subst (λ (n : System). IsListing (MaySupply n r.level c.args.context) StateBefore c.in-Some-pop.states.items) (sym its)
+    let copies = last_copy shared_states c.requires.1 r.envelopes.items r.copies.items content.0 rest c.in-Some.plan c.pop-in-Done.new.self.items c.in-Some-pop.states c.in-Some.ensures.items c.in-Some-pop.ensures.items in
+    subst (λ (n : System). IsListing (MaySupply n r.level c.args.context) StateBefore (shared_states c.in-Some-pop.states)) (sym its)
     (subst (λ (xs : List ℕ). IsListing (MaySupply m r.level c.args.context) StateBefore xs) (sym copies.1) content.1)
 
 pub stop-requires-clause-fits : goal.stop-requires-clause-fits
@@ -67,10 +67,10 @@ returns-in-Some-pop c m supplies may =
     let fewer = one_fewer arc_value m r.envelopes.items rest plan left in
     let place : c.len.result ≡ length rest = c.len.ensures ∙ c.pop.new.self.ok.0 in
     let content = content_done m i receivers supplies r may c.in-Done.total c.in-Done.is in
-    let copies = last_copy (λ copy. copy.items) supplies r.envelopes.items r.copies.items content.0 rest plan c.pop-in-Done.new.self.items c.in-Some-pop.states left c.in-Some-pop.ensures.items in
+    let copies = last_copy shared_states supplies r.envelopes.items r.copies.items content.0 rest plan c.pop-in-Done.new.self.items c.in-Some-pop.states left c.in-Some-pop.ensures.items in
     let s = record r { envelopes = c.pop.new.self; copies = c.pop-in-Done.new.self } in
     let is : c.supply.result ≡ letter_of m r.level i (receiver_at receivers (length rest)) (Supply supplies)
-    = c.supply.ensures ∙ same_letter m (arc_value plan) r.level i (receiver_at receivers (length rest)) (receiver_at receivers c.len.result) (Supply supplies) (Supply c.in-Some-pop.states.items) its (ap (receiver_at receivers) place) (ap Supply copies.1) in
+    = c.supply.ensures ∙ same_letter m (arc_value plan) r.level i (receiver_at receivers (length rest)) (receiver_at receivers c.len.result) (Supply supplies) (Supply (shared_states c.in-Some-pop.states)) its (ap (receiver_at receivers) place) (ap Supply copies.1) in
     subst (λ (l : LetterData). HandsOutLast m i receivers supplies r s l) (sym is)
     (supply_out m i receivers supplies r s may refl fewer (other_plans arc_value m r.envelopes.items rest plan left may.envelopes) c.in-Done.total c.in-Done.is copies.0 content.1)
 
