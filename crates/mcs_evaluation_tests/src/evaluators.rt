@@ -36,7 +36,7 @@ pub(crate) fn evaluator_of<'g>(
     budget: u64,
     gate: &'g IdleGate,
 ) -> Result<Solving<'g>, Memory>
-    ensures { IfOk result (λ mesh. (mesh.system ≡ arc_value system.now) × (mesh.done ≡ None) × (mesh.halted ≡ false)) }
+    ensures { IfOk result (λ mesh. (mesh.state.system ≡ arc_value system.now) × (mesh.state.done ≡ None) × (mesh.state.halted ≡ false)) }
 {
     let plan = Arc::new(alloc, Plan::of(alloc, system.clone()?)?)?;
     let solvers = solvers_of(alloc, system)?;

@@ -16,16 +16,16 @@ use Rattle.mcs_system.specs.Plain.{System}
 use Rattle.mcs_system.specs.Systems.{applicable}
 use Rattle.mcs_system.specs.Repairs.{allowed_marks}
 use Rattle.mcs_system.specs.Imports.{IsImportOrder, IsQuestionAfter, IsPossible, IsPossibleFrom, IsQuestion, before_in, marks_at, rules_into}
-use Rattle.mcs_system.specs.Levels.{IsQuestionAt, MaySupply}
+use Rattle.mcs_system.specs.Levels.{IsCount, IsQuestionAt, MaySupply}
 use Rattle.mcs_system.specs.Rows.{IsRow}
 use Rattle.mcs_import.proofs.OrderLemmas.{before_each, order_in_range}
 use Rattle.mcs_import.proofs.QuestionLemmas.{applying, size-marks_at, marks_at_within}
 use Rattle.mcs_rows.specs.Local.{IsRowOf, AreLocalTables, AreFittingTables}
-use Rattle.mcs_states.specs.Oracles.{OracleState}
 use Rattle.mcs_table.specs.declared.row.Row.{Row}
 use Rattle.mcs_table.specs.RowOrder.{RowBefore}
 use Rattle.mcs_table.specs.Tables.{TableData}
-use Rattle.mcs_mesh.specs.Rounds.{changeable, HasFewRules, Knowledge, IsRoundDone}
+use Rattle.mcs_node.specs.Known.{IsKnown, Knowledge}
+use Rattle.mcs_mesh.specs.Rounds.{changeable, HasFewRules}
 use Rattle.mcs_mesh.proofs.General.{question_after}
 
 -- a set of rules into a context with allowed marks has no more marks than there are rules into it that may be changed
@@ -138,16 +138,22 @@ module _ (m : System) (low high : ℕ) (few : HasFewRules m low) (less : low ≤
   }
 
   -- ---- what is known
-  pub same_round : (os : List OracleState) (ks : List Knowledge) → IsRoundDone m low os ks → IsRoundDone m high os ks
-  same_round os ks r = record {
-    oracles_each = r.oracles_each;
-    known_each = r.known_each;
-    asked = r.asked;
-    all = λ i k at. let one = r.all i k at in let b = slice_get_within ks i k at in let each = r.known_each in record {
-      answered = record { questions = IsListing-same (λ a b. a < b) (IsQuestionAt m low i) (IsQuestionAt m high i) _ (λ x. same_questions i x (omega (arith, b, each))) one.answered.questions; parts = one.answered.parts };
-      supplies = IsListing-same StateBefore (MaySupply m low i) (MaySupply m high i) k.supplies (λ τ. same_supplies i τ (omega (arith, b, each))) one.supplies;
-    };
+  pub known_higher : (i : ℕ) (k : Knowledge) → i < length m.contexts → IsKnown m low i k → IsKnown m high i k
+  known_higher i k in_range one = record {
+    answered = record { questions = IsListing-same (λ a b. a < b) (IsQuestionAt m low i) (IsQuestionAt m high i) _ (λ x. same_questions i x in_range) one.answered.questions; parts = one.answered.parts };
+    supplies = IsListing-same StateBefore (MaySupply m low i) (MaySupply m high i) k.supplies (λ τ. same_supplies i τ in_range) one.supplies;
   }
+
+  pub count_higher : (n : ℕ) → IsCount m low n → IsCount m high n
+  count_higher n (lists, all, is) = (
+    lists,
+    record {
+      one_each = all.one_each;
+      listed = λ i xs at. IsListing-same (λ a b. a < b) (IsQuestionAt m low i) (IsQuestionAt m high i) xs
+          (λ x. same_questions i x (let b = slice_get_within lists i xs at in let e = all.one_each in omega (arith, b, e))) (all.listed i xs at);
+    },
+    is,
+  )
 
 -- the tables are those of a level that is as high as one up to which the rows stay the same
 pub tables_ahead : (m : System) (level ahead k : ℕ) (known : List ℕ) (tables : List TableData) → level ≤ ahead → (level < ahead → HasFewRules m level) → level ≤ k → AreFittingTables m k known tables → (j : ℕ) × (ahead ≤ j) × AreFittingTables m j known tables

@@ -16,7 +16,14 @@ use Rattle.mcs_table.specs.Without.{IsWithout}
 use Rattle.mcs_table.proofs.FittingParts.{fitting_push}
 use Rattle.mcs_rows.specs.Local.{IsLocalTable, IsFittingTable, AreFittingTables}
 use Rattle.mcs_rows.specs.Changed.{AreEachChanged, AreChangedAt, IsChangedAt, IsChangedTable}
-use Rattle.mcs_mesh.proofs.RoundLemmas.{table_more}
+
+-- ---- local tables
+table_more : (m : System) (level i : ℕ) (tables now : List TableData) (t : TableData) → ((c : ℕ) (t : TableData) → slice_get tables c ≡ Some t → IsLocalTable m level c t) → length tables ≡ i → IsLocalTable m level i t → now ≡ tables ++ t ∷ []
+    → (c : ℕ) (t : TableData) → slice_get now c ≡ Some t → IsLocalTable m level c t
+table_more m level i tables now t so_far long here is c t' at = elim (slice_get_push_at tables t c t' (ap (λ xs. slice_get xs c) (sym is) ∙ at)) [
+  | inl before ↦ so_far c t' before
+  | inr last ↦ subst (λ z. IsLocalTable m level c z) (sym last.1) (subst (λ n. IsLocalTable m level n t) (sym (last.0 ∙ long)) here)
+]
 
 none_at : {P : Type 0} (c : ℕ) (t : TableData) → slice_get [] c ≡ Some t → P
 none_at c t is = absurd (let less = slice_get_within [] c t is in omega arith)

@@ -1,86 +1,41 @@
--- What a mesh keeps of its contexts, and what a round of questions does.
-use Rattle.std.specs.Prelude.{◌≡◌, ℕ, ◌<◌, ◌≤◌, ◌⊎◌, List, [], ◌∷◌, map, length, Option, Some, None, slice_get, is_some}
-use Rattle.std.specs.List.{AllByRecursion, sum_by}
-use Rattle.mcs_sets.specs.Orders.{StateBefore}
+-- What an evaluation is seen as, and what it keeps of its contexts from round to round.
+use Rattle.std.specs.Prelude.{◌≡◌, ℕ, ◌<◌, ◌≤◌, Bool, true, false, ◌||◌, List, [], map, length, Option, Some, None, slice_get, is_some, refl}
+use Rattle.std.specs.Coded.{Coded, code_by, coded×, coded_ℕ, coded_list, coded_option}
 use Rattle.mcs_sets.specs.Sets.{size, common, union}
-use Rattle.mcs_base.specs.Listings.{IsAmong, IsAscending, IsInventory, IsListing}
 use Rattle.mcs_base.specs.Pairs.{removed_of, forced_of}
 use Rattle.mcs_system.specs.Plain.{System}
-use Rattle.mcs_system.specs.Systems.{IsAcceptedPart}
 use Rattle.mcs_system.specs.Imports.{rules_into}
 use Rattle.mcs_system.specs.Repairs.{allowed_marks}
-use Rattle.mcs_system.specs.Levels.{IsQuestionAt, MaySupply, HasQuestions}
-use Rattle.mcs_rows.specs.Local.{Answered, AreAnswered}
-use Rattle.mcs_rows.specs.Answers.{answered_of}
-use Rattle.mcs_states.specs.Oracles.{OracleState, Lacks, after_asking}
-use Rattle.mcs_states.specs.Evaluators.{HasOracles, EvaluatorState}
+use Rattle.mcs_states.specs.Oracles.{OracleState}
+use Rattle.mcs_states.specs.Evaluators.{EvaluatorState}
+use Rattle.mcs_states.specs.Codes.{coded_evaluator}
 use Rattle.mcs_states.specs.declared.halt.Halt.{Halt}
-use Rattle.mcs_states.specs.declared.halt.Halt.TheVariants.{Spent, Missing, Memory}
-use Rattle.mcs_states.specs.declared.stop.OracleStop.{OracleStop}
-use Rattle.mcs_states.specs.declared.stop.OracleStop.TheVariants as stops
-use Rattle.mcs_mesh.specs.declared.known.Known as code
+use Rattle.mcs_node.specs.Known.{IsKnown, Knowledge}
+use Rattle.mcs_node.specs.Codes.{coded_node}
+use Rattle.mcs_node.specs.Nodes.{NodeData, IsFreshOracle, IsNewNode}
+use Rattle.mcs_node.specs.Rounds.{Round}
+use Rattle.mcs_node.specs.Configurations.{Configuration, IsDone, IsQuiet, IsSound}
+use Rattle.mcs_node.specs.Playing.{HaveStates}
+use Rattle.mcs_mesh.specs.Players.{AreNodesOf, HaveFinished, HaveReached, oracles_of}
 
--- what is known of a context: its answers, and what it may supply
-pub record Knowledge : Type 0 where
-  pub answers : List Answered
-  pub supplies : List ℕ
-
-abbrev pub knowledge_of : code.Known → Knowledge
-knowledge_of k = record { answers = map answered_of k.answers.items; supplies = k.supplies.items }
-
-abbrev pub questions_in : List Answered → List ℕ
-questions_in answers = map (λ (a : Answered). a.question) answers
-
--- ---- one context
--- the first of the answers is not to x
-abbrev pub IsFirstOther : ℕ → List Answered → Type 0
-IsFirstOther x [] = Unit {0}
-IsFirstOther x (a ∷ answers) = ¬ (a.question ≡ x)
-
--- the answer has what context i accepts with the question
-abbrev pub IsRightAnswer : System → ℕ → Answered → Type 0
-IsRightAnswer m i a = IsListing (IsAcceptedPart m i a.question) StateBefore a.parts
-
--- each of the answers has
-abbrev pub AreRightAnswers : System → ℕ → List Answered → Type 0
-AreRightAnswers m i answers = AllByRecursion (IsRightAnswer m i) answers
-
--- the oracle is one of context i of the system, and was asked just these questions, none of which it lacks
-pub record HasAsked (m : System) (i : ℕ) (o : OracleState) (answers : List Answered) : Type 0 where
-  pub system : o.system ≡ m
-  pub context : o.context ≡ i
-  pub journal : IsInventory (λ x. IsAmong x (questions_in answers)) o.journal
-  pub held : (x : ℕ) → IsAmong x (questions_in answers) → ¬ Lacks o x
-
--- some questions of the level were asked, each once, ascending, and the answers are right
-pub record HasAnswers (m : System) (level i : ℕ) (answers : List Answered) : Type 0 where
-  pub questions : (x : ℕ) → IsAmong x (questions_in answers) → IsQuestionAt m level i x
-  pub ascending : IsAscending (λ a b. a < b) (questions_in answers)
-  pub right : AreRightAnswers m i answers
-
--- all were, and what may be supplied is known
-pub record IsContextKnown (m : System) (level i : ℕ) (k : Knowledge) : Type 0 where
-  pub answered : AreAnswered m level i k.answers
-  pub supplies : IsListing (MaySupply m level i) StateBefore k.supplies
-
--- ---- all contexts
--- for each context, in order, an oracle that was asked what is known of it, which are questions of the level
-pub record IsRoundBegun (m : System) (level : ℕ) (oracles : List OracleState) (known : List Knowledge) : Type 0 where
-  pub oracles_each : length oracles ≡ length m.contexts
-  pub known_each : length known ≡ length m.contexts
-  pub asked : (i : ℕ) (o : OracleState) (k : Knowledge) → slice_get oracles i ≡ Some o → slice_get known i ≡ Some k → HasAsked m i o k.answers
-  pub answers : (i : ℕ) (k : Knowledge) → slice_get known i ≡ Some k → HasAnswers m level i k.answers
-
--- each context is known
+-- ---- what is known
+-- of each context it is known what it answers at the level
 abbrev pub AreKnown : System → ℕ → List Knowledge → Type 0
-AreKnown m level known = (i : ℕ) (k : Knowledge) → slice_get known i ≡ Some k → IsContextKnown m level i k
+AreKnown m level known = (i : ℕ) (k : Knowledge) → slice_get known i ≡ Some k → IsKnown m level i k
 
--- all questions of the level were asked
-pub record IsRoundDone (m : System) (level : ℕ) (oracles : List OracleState) (known : List Knowledge) : Type 0 where
-  pub oracles_each : length oracles ≡ length m.contexts
-  pub known_each : length known ≡ length m.contexts
-  pub asked : (i : ℕ) (o : OracleState) (k : Knowledge) → slice_get oracles i ≡ Some o → slice_get known i ≡ Some k → HasAsked m i o k.answers
-  pub all : AreKnown m level known
+-- the node is that of context i of the system, and is done in the round of the level
+pub record IsDoneIn (m : System) (level i : ℕ) (d : NodeData) : Type 0 where
+  pub plan : d.plan ≡ m
+  pub context : d.context ≡ i
+  pub level_is : d.level ≡ Some level
+  pub done : d.state.done ≡ true
+
+-- for each context, in order, its node, and all are done in one round, of this level or a higher one
+pub record AreDone (m : System) (least : ℕ) (nodes : List NodeData) : Type 0 where
+  pub one_each : length nodes ≡ length m.contexts
+  pub level : ℕ
+  pub no_less : least ≤ level
+  pub each : (i : ℕ) (d : NodeData) → slice_get nodes i ≡ Some d → IsDoneIn m level i d
 
 abbrev pub supplies_in : Option Knowledge → List ℕ
 supplies_in None = []
@@ -89,28 +44,6 @@ supplies_in (Some k) = k.supplies
 -- what these contexts may supply, in order
 abbrev pub supplies_at : List Knowledge → List ℕ → List (List ℕ)
 supplies_at known js = map (λ j. supplies_in (slice_get known j)) js
-
--- the number of the answers
-abbrev pub answer_count : List Knowledge → ℕ
-answer_count known = sum_by (λ (k : Knowledge). length k.answers) known
-
--- why a round of the level stopped
-abbrev pub HasRoundCause : System → ℕ → ℕ → List OracleState → Halt → Type 0
-HasRoundCause m level budget oracles (Spent at drawn) = (at ≡ level) × (budget < drawn) × HasQuestions m level drawn
-HasRoundCause m level budget oracles (Missing i x) = (o : OracleState) × (slice_get oracles i ≡ Some o) × Lacks o x × IsQuestionAt m level i x
-HasRoundCause m level budget oracles Memory = Unit {0}
-
--- the answer to question x of context i: the first of those before, or, where that is to another question, the oracle's
-abbrev pub HasAnswered : ℕ → ℕ → OracleState → OracleState → List Answered → List Answered → Answered → Type 0
-HasAnswered i x o o' before after a =
-    ((a.question ≡ x) × (before ≡ a ∷ after) × (o' ≡ o))
-    ⊎ ((a.question ≡ x) × (after ≡ before) × IsFirstOther x before × (o' ≡ after_asking x o) × (¬ Lacks o x) × IsRightAnswer o.system o.context a)
-
--- why the questions to context i stopped
-abbrev pub HasAskingCause : ℕ → OracleState → List ℕ → Halt → Type 0
-HasAskingCause i o asked (Spent level drawn) = ⊥
-HasAskingCause i o asked (Missing context x) = (context ≡ i) × IsAmong x asked × Lacks o x
-HasAskingCause i o asked Memory = Unit {0}
 
 -- ---- levels that differ in nothing
 -- the rules that a repair may remove or force
@@ -121,26 +54,79 @@ changeable m = union (removed_of (allowed_marks m)) (forced_of (allowed_marks m)
 abbrev pub HasFewRules : System → ℕ → Type 0
 HasFewRules m level = (i : ℕ) → i < length m.contexts → size (common (rules_into m i) (changeable m)) ≤ level
 
--- ---- what a mesh keeps
+-- ---- new nodes
+-- each oracle is one of its context of the system, and was asked nothing
+abbrev pub AreFresh : System → List OracleState → Type 0
+AreFresh m oracles = (i : ℕ) (o : OracleState) → slice_get oracles i ≡ Some o → IsFreshOracle m i o
+
+-- for each context, in order, a new node with its oracle
+pub record AreNew (m : System) (budget : ℕ) (oracles : List OracleState) (nodes : List NodeData) : Type 0 where
+  pub one_each : length nodes ≡ length m.contexts
+  pub oracles_are : oracles_of nodes ≡ oracles
+  pub each : (i : ℕ) (d : NodeData) → slice_get nodes i ≡ Some d → IsNewNode m i budget d.oracle d
+
+-- ---- what an evaluation is seen as
+pub record EvaluationData : Type 0 where
+  pub state : EvaluatorState
+  -- the level of the last round that was played, if one was
+  pub last : Option ℕ
+  -- for each context, in order, its node
+  pub nodes : List NodeData
+
+-- by what a proof tells them apart
+abbrev pub coded_evaluation : Coded EvaluationData
+coded_evaluation = code_by (EvaluatorState × (Option ℕ × List NodeData)) (coded× coded_evaluator (coded× (coded_option coded_ℕ) (coded_list coded_node)))
+    (λ e. (e.state, (e.last, e.nodes))) (λ t. record { state = t.0; last = t.1.0; nodes = t.1.1 }) (λ _. refl)
+
 -- the evaluator's parts
 abbrev pub evaluator_state_of : System → ℕ → Option ℕ → Option Halt → List OracleState → EvaluatorState
 evaluator_state_of m budget done halt oracles = record { system = m; budget = budget; done = done; halt = halt; halted = is_some halt; oracles = oracles }
 
--- before the first round nothing was asked; after one its questions were
-abbrev pub IsRoundReady : EvaluatorState → Option ℕ → List Knowledge → ℕ → Type 0
-IsRoundReady e None known asked = ((level : ℕ) → IsRoundBegun e.system level e.oracles known) × (asked ≡ 0) × (answer_count known ≡ 0)
-IsRoundReady e (Some level) known asked = IsRoundDone e.system level e.oracles known × (asked ≡ answer_count known) × (asked ≤ e.budget)
+-- an evaluation's parts: it can be asked no more after a halt, and once events were replayed over its nodes
+abbrev pub evaluation_of : System → ℕ → Option ℕ → Option Halt → Bool → Option ℕ → List NodeData → EvaluationData
+evaluation_of m budget done halt replayed last nodes = record {
+  state = record { system = m; budget = budget; done = done; halt = halt; halted = is_some halt || replayed; oracles = oracles_of nodes };
+  last = last;
+  nodes = nodes;
+}
 
--- nothing is kept once it halted, but that there is an oracle for each context
-pub record IsMesh (e : EvaluatorState) (known : List Knowledge) (asked : ℕ) : Type 0 where
-  pub one_each : HasOracles e
-  pub ready : e.halt ≡ None → IsRoundReady e e.done known asked
+-- ---- its last round
+abbrev pub round_of : System → ℕ → ℕ → Option ℕ → Round
+round_of m level budget before = record { system = m; level = level; budget = budget; before = before }
 
--- the halt for an oracle that stopped
-abbrev pub halt_from_stop : ℕ → OracleStop → Halt
-halt_from_stop context (stops.Missing x) = Missing context x
-halt_from_stop context stops.Memory = Memory
+-- the nodes make a sound configuration of a round of the level
+pub record IsSoundRound (m : System) (level budget : ℕ) (nodes : List NodeData) : Type 0 where
+  -- the greatest level done before it
+  pub before : Option ℕ
+  pub configuration : Configuration
+  pub states : HaveStates (round_of m level budget before) nodes configuration.nodes
+  pub sound : IsSound (round_of m level budget before) configuration
 
--- each oracle is one of its context of the system, and was asked nothing
-abbrev pub AreFresh : System → List OracleState → Type 0
-AreFresh m oracles = (i : ℕ) (o : OracleState) → slice_get oracles i ≡ Some o → (o.system ≡ m) × (o.context ≡ i) × (o.journal ≡ [])
+-- the nodes of an evaluation make one; unless it has halted, nothing is left to happen, and each node is done
+pub record IsLastRoundOf (e : EvaluationData) (level : ℕ) : Type 0 where
+  pub round : IsSoundRound e.state.system level e.state.budget e.nodes
+  pub ended : e.state.halted ≡ false → IsQuiet (round_of e.state.system level e.state.budget round.before) round.configuration × IsDone round.configuration
+
+-- ---- what it keeps
+-- the last round was of this level; the greatest level done is the same, or has no other questions and rows
+abbrev pub IsLastRound : System → Option ℕ → Option ℕ → Type 0
+IsLastRound m None None = Unit {0}
+IsLastRound m (Some last) (Some done) = (last ≤ done) × (last < done → HasFewRules m last)
+IsLastRound m last greatest = ⊥
+
+-- each node has finished the last round, if one was played
+abbrev pub HaveFinishedLast : Option ℕ → List NodeData → Type 0
+HaveFinishedLast None nodes = Unit {0}
+HaveFinishedLast (Some level) nodes = HaveFinished level nodes
+
+-- it can be asked on: each node is done in the last round, and so many questions were asked
+pub record CanGoOn (e : EvaluationData) (asked : ℕ) : Type 0 where
+  pub last : IsLastRound e.state.system e.last e.state.done
+  pub reached : HaveReached e.state.system e.state.budget e.last asked e.nodes
+  pub finished : HaveFinishedLast e.last e.nodes
+
+-- each context has a node, which is new where no round was played, unless it has halted
+pub record IsEvaluation (e : EvaluationData) (asked : ℕ) : Type 0 where
+  pub own : AreNodesOf e.state.system e.state.budget e.nodes
+  pub new : e.state.halted ≡ false → e.last ≡ None → AreNew e.state.system e.state.budget (oracles_of e.nodes) e.nodes
+  pub ready : e.state.halted ≡ false → CanGoOn e asked

@@ -1,19 +1,21 @@
 //! The minimal diagnoses that were found.
 
-ghost use Rattle.std.specs.Prelude.{◌≡◌, ◌≤◌, ℕ, true, false, Some, IfOk, OnOk, map, length};
+ghost use Rattle.std.specs.Prelude.{◌≡◌, ◌<◌, ◌≤◌, ℕ, true, false, Some, IfOk, OnOk, length};
 ghost use Rattle.mcs_base.specs.Listings.{IsAmong, IsAscending, IsListing};
 ghost use Rattle.mcs_sets.specs.Orders.{PairBefore};
 ghost use Rattle.mcs_sets.specs.Sets.{size};
 ghost use Rattle.mcs_states.specs.Evaluators.{AreRepairs};
 ghost use Rattle.mcs_mesh.specs.Found.{AreRepairsFound};
-ghost use Rattle.mcs_mesh.specs.Rounds.{knowledge_of, AreKnown};
+ghost use Rattle.mcs_mesh.specs.Players.{known_to};
+ghost use Rattle.mcs_mesh.specs.Rounds.{AreKnown};
 
-use crate::known::Known;
 use crate::lasting::level_ahead;
 use crate::tables::minimal_tables;
 use mcs_base::{Marks, Memory};
 use mcs_import::Plan;
 use mcs_joint::repairs_in;
+use mcs_node::Node;
+use mcs_states::Oracle;
 use std::alloc::Global;
 
 /// So many of the minimal diagnoses that are known are looked for at most in the marks of each row.
@@ -29,7 +31,7 @@ pub(crate) struct Found {
 /// Whether this level, if there is one, is no less than the other.
 pub(crate) fn is_reached(done: Option<u32>, level: u32) -> bool
     ensures yes { result ≡ true → (d : ℕ) × (done ≡ Some d) × (level ≤ d) }
-    ensures not { result ≡ false → (d : ℕ) → done ≡ Some d → d ≤ level }
+    ensures not { result ≡ false → (d : ℕ) → done ≡ Some d → d < level }
 {
     match done {
         Some(done) => level <= done,
@@ -40,23 +42,23 @@ pub(crate) fn is_reached(done: Option<u32>, level: u32) -> bool
 impl Found {
     /// The minimal diagnoses with at most so many marks, in the order of pairs: those that were found before, where
     /// these are all. All questions of the level `done`, which is no less, were asked.
-    pub(crate) fn repairs(
+    pub(crate) fn repairs<O: Oracle>(
         &mut self,
         alloc: Global,
         plan: &Plan,
-        known: &[Known],
+        nodes: &[Node<O>],
         done: u32,
         level: u32,
     ) -> Result<Vec<Marks>, Memory>
         requires before { AreRepairsFound plan.now self.old.level self.old.pairs.items }
-        requires one_each { length known.now ≡ length plan.now.contexts }
-        requires known { AreKnown plan.now done (map knowledge_of known.now) }
+        requires one_each { length nodes.now ≡ length plan.now.contexts }
+        requires known { AreKnown plan.now done (known_to nodes.now) }
         requires within { level ≤ done }
         ensures listing { IfOk result (λ pairs. AreRepairs plan.now level pairs.items) }
         ensures kept { AreRepairsFound plan.now self.new.level self.new.pairs.items }
     {
         if !is_reached(self.level, level) {
-            self.find(alloc, plan, known, done, level)?;
+            self.find(alloc, plan, nodes, done, level)?;
         }
         let few = few_of(alloc, &self.pairs, level)?;
         Ok(few)
@@ -64,17 +66,17 @@ impl Found {
 
     /// Finds the minimal diagnoses with at most so many marks, or more of them at once. Those that were found
     /// before have no more, and are not found anew.
-    fn find(
+    fn find<O: Oracle>(
         &mut self,
         alloc: Global,
         plan: &Plan,
-        known: &[Known],
+        nodes: &[Node<O>],
         done: u32,
         level: u32,
     ) -> Result<(), Memory>
         requires before { AreRepairsFound plan.now self.old.level self.old.pairs.items }
-        requires one_each { length known.now ≡ length plan.now.contexts }
-        requires known { AreKnown plan.now done (map knowledge_of known.now) }
+        requires one_each { length nodes.now ≡ length plan.now.contexts }
+        requires known { AreKnown plan.now done (known_to nodes.now) }
         requires within { level ≤ done }
         requires lower { (d : ℕ) → self.old.level ≡ Some d → d ≤ level }
         ensures found { OnOk result ((d : ℕ) × (self.new.level ≡ Some d) × (level ≤ d)) }
@@ -82,7 +84,7 @@ impl Found {
     {
         let ahead = level_ahead(plan.system(), level);
         let looked_for = &self.pairs[..self.pairs.len().min(MOST_LOOKED_FOR)];
-        let tables = minimal_tables(alloc, plan, done, known, looked_for)?;
+        let tables = minimal_tables(alloc, plan, done, nodes, looked_for)?;
         let pairs = repairs_in(alloc, plan, &tables, ahead, looked_for)?;
         self.pairs = pairs;
         self.level = Some(ahead);

@@ -1,12 +1,23 @@
-//! The evaluation of a system on one thread: rounds of questions to its contexts, and one final step.
+//! The evaluation of a system: rounds of questions to its contexts, which a player plays, and one final step. The player
+//! of this crate takes one context after the other on one thread.
 #![tactic(auto)]
 
-mod asking;
+mod answering;
+mod evaluation;
 mod found;
-mod known;
 mod lasting;
+mod letters;
+mod making;
 mod mesh;
-mod rounds;
+mod player;
+mod replay;
+mod supplies;
 mod tables;
+mod turns;
 
+pub use answering::{repairs_of, states_of};
+pub use evaluation::Evaluation;
 pub use mesh::Mesh;
+pub use player::{Played, Player, Round};
+pub use replay::Replay;
+pub use turns::TurnPlayer;

@@ -23,8 +23,8 @@ pub(crate) fn mesh_of<'g, G: Gate>(
     keep: bool,
     gate: &'g G,
 ) -> Result<Mesh<'g, LocalSolver, G>, Memory>
-    ensures new { IfOk result (λ mesh. IsNewMesh (arc_value system.now) budget mesh) }
-    ensures keeps { IfOk result (λ mesh. HaveOrigin (cond keep ([] ∷ []) []) mesh.oracles) }
+    ensures new { IfOk result (λ mesh. IsNewMesh (arc_value system.now) budget mesh.state) }
+    ensures keeps { IfOk result (λ mesh. HaveOrigin (cond keep ([] ∷ []) []) mesh.state.oracles) }
 {
     let plan = Arc::new(alloc, Plan::of(alloc, system.clone()?)?)?;
     let solvers = solvers_of(alloc, system, keep)?;

@@ -84,12 +84,12 @@ fn write_answers<'g, K: Sink, G: Gate>(
     mesh: Mesh<'g, LocalSolver, G>,
     sink: &mut K,
 ) -> Result<(), Stop>
-    requires { (level : ℕ) × AreAsked system.now level mesh.oracles }
+    requires { (level : ℕ) × AreAsked system.now level mesh.state.oracles }
     ensures later { (K.device sink.old).faults ≤ (K.device sink.new).faults }
     ensures unfailed { ¬ IsErrOf result Stop.WriteFault → (K.device sink.new).faults ≡ (K.device sink.old).faults }
     ensures notes { (K.device sink.new).notes ≡ (K.device sink.old).notes }
-    ensures ok { (level : ℕ) → AreAsked system.now level mesh.entry.oracles → OnOk result (HasProved system.now level (K.device sink.old).written (K.device sink.new).written) }
-    ensures stop { (level : ℕ) → AreAsked system.now level mesh.entry.oracles → IfErr result (λ stop. StopsAnswers stop system.now level
+    ensures ok { (level : ℕ) → AreAsked system.now level mesh.entry.state.oracles → OnOk result (HasProved system.now level (K.device sink.old).written (K.device sink.new).written) }
+    ensures stop { (level : ℕ) → AreAsked system.now level mesh.entry.state.oracles → IfErr result (λ stop. StopsAnswers stop system.now level
         (Rose (K.device sink.old).faults (K.device sink.new).faults) (K.device sink.old).written (K.device sink.new).written) }
 {
     let solvers = mesh.into_oracles()?;

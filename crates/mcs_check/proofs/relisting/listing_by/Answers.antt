@@ -28,29 +28,29 @@ pub missing-requires : goal.missing-requires
 missing-requires c =
     let m : System = arc_value c.args.system in
     let os : List OracleState = c.args.oracles.items in
-    let begun = made m (arc_value c.in_ok-plan.plan) os c.in_ok-mesh.mesh c.in_ok-mesh.ensures (c.in_ok-plan.ensures.ok ∙ (c.in_ok-of.ensures ∙ c.in_ok-clone.ensures.cases)) in
+    let begun = made m (arc_value c.in_ok-plan.plan) os c.in_ok-mesh.mesh.state c.in_ok-mesh.ensures.state (c.in_ok-plan.ensures.ok ∙ (c.in_ok-of.ensures ∙ c.in_ok-clone.ensures.cases)) in
     let before : Device = record { written = Some c.new-sink.result.text; notes = None; faults = c.new-sink.result.faults } in
     let now : Device = record { written = Some c.work-worked.new.sink.text; notes = None; faults = c.work-worked.new.sink.faults } in
-    told_stop m os c.requires.one_each c.work-worked.result.1 c.requires.valid before now c.in-Err.stop
-    (subst (λ (e : EvaluatorState). HasStopped Solve [] e c.work-worked.result.1 before now c.in-Err.stop) begun (rw c.in-Err.is at c.work-worked.ensures.stop))
+    told_stop m os c.requires.one_each c.work-worked.result.1.state c.requires.valid before now c.in-Err.stop
+    (subst (λ (e : EvaluatorState). HasStopped Solve [] e c.work-worked.result.1.state before now c.in-Err.stop) begun (rw c.in-Err.is at c.work-worked.ensures.stop))
 
 pub returns-in-Ok : goal.returns-in-Ok
 returns-in-Ok c =
     let m : System = arc_value c.args.system in
     let os : List OracleState = c.args.oracles.items in
-    let begun = made m (arc_value c.in_ok-plan.plan) os c.in_ok-mesh.mesh c.in_ok-mesh.ensures (c.in_ok-plan.ensures.ok ∙ (c.in_ok-of.ensures ∙ c.in_ok-clone.ensures.cases)) in
+    let begun = made m (arc_value c.in_ok-plan.plan) os c.in_ok-mesh.mesh.state c.in_ok-mesh.ensures.state (c.in_ok-plan.ensures.ok ∙ (c.in_ok-of.ensures ∙ c.in_ok-clone.ensures.cases)) in
     let empty : ◌≡◌ {A = Option (List ℕ)} (Some c.new-sink.result.text) (Some []) = ap (λ (s : Collected). Some s.text) c.new-sink.ensures in
-    told_listing m os c.requires.one_each c.work-worked.result.1 c.work-worked.new.sink.text
-    (subst (λ (before : Option (List ℕ)). IsDone Solve [] (start_of m os) c.work-worked.result.1 before (Some c.work-worked.new.sink.text)) empty
-    (subst (λ (e : EvaluatorState). IsDone Solve [] e c.work-worked.result.1 (Some c.new-sink.result.text) (Some c.work-worked.new.sink.text)) begun (rw c.in-Ok.is at c.work-worked.ensures.done)))
+    told_listing m os c.requires.one_each c.work-worked.result.1.state c.work-worked.new.sink.text
+    (subst (λ (before : Option (List ℕ)). IsDone Solve [] (start_of m os) c.work-worked.result.1.state before (Some c.work-worked.new.sink.text)) empty
+    (subst (λ (e : EvaluatorState). IsDone Solve [] e c.work-worked.result.1.state (Some c.new-sink.result.text) (Some c.work-worked.new.sink.text)) begun (rw c.in-Ok.is at c.work-worked.ensures.done)))
 
 pub returns-in_ok-missing-in-Err : goal.returns-in_ok-missing-in-Err
 returns-in_ok-missing-in-Err c =
     let m : System = arc_value c.args.system in
     let os : List OracleState = c.args.oracles.items in
-    let begun = made m (arc_value c.in_ok-plan.plan) os c.in_ok-mesh.mesh c.in_ok-mesh.ensures (c.in_ok-plan.ensures.ok ∙ (c.in_ok-of.ensures ∙ c.in_ok-clone.ensures.cases)) in
+    let begun = made m (arc_value c.in_ok-plan.plan) os c.in_ok-mesh.mesh.state c.in_ok-mesh.ensures.state (c.in_ok-plan.ensures.ok ∙ (c.in_ok-of.ensures ∙ c.in_ok-clone.ensures.cases)) in
     let before : Device = record { written = Some c.new-sink.result.text; notes = None; faults = c.new-sink.result.faults } in
     let now : Device = record { written = Some c.work-worked.new.sink.text; notes = None; faults = c.work-worked.new.sink.faults } in
-    told_missing m os c.requires.one_each c.work-worked.result.1 before now c.in-Err.stop
-    (subst (λ (e : EvaluatorState). HasStopped Solve [] e c.work-worked.result.1 before now c.in-Err.stop) begun (rw c.in-Err.is at c.work-worked.ensures.stop))
+    told_missing m os c.requires.one_each c.work-worked.result.1.state before now c.in-Err.stop
+    (subst (λ (e : EvaluatorState). HasStopped Solve [] e c.work-worked.result.1.state before now c.in-Err.stop) begun (rw c.in-Err.is at c.work-worked.ensures.stop))
     c.in_ok-missing-in-Err.ensures.missing

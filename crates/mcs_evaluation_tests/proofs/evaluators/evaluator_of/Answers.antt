@@ -14,4 +14,4 @@ new-requires-2-clause-own c i o is =
     (ap (λ (s : OracleState). s.system) same ∙ sym (c.in_ok-plan.ensures.ok ∙ (c.in_ok-of.ensures ∙ c.in_ok-clone.ensures.cases)), ap (λ (s : OracleState). s.context) same, ap (λ (s : OracleState). s.journal) same)
 
 pub returns : goal.returns
-returns c = new_mesh _ _ _ _ _ (c.in_ok-plan.ensures.ok ∙ (c.in_ok-of.ensures ∙ c.in_ok-clone.ensures.cases)) c.new-2.ensures
+returns c = new_mesh _ _ _ _ _ (c.in_ok-plan.ensures.ok ∙ (c.in_ok-of.ensures ∙ c.in_ok-clone.ensures.cases)) c.new-2.ensures.state

@@ -1,37 +1,37 @@
-use Rattle.std.proofs.Common.{◌≡◌, ◌<◌, ◌∙◌, ap, map, length, sym, subst, arith}
+use Rattle.std.proofs.Common.{◌≡◌, ◌<◌, ◌∙◌, ap, map, length, arith}
 use Rattle.std.proofs.lemmas.List.{length-map}
-use Rattle.mcs_base.proofs.Lists.{slice_get-map_at}
 use Rattle.mcs_system.specs.Plain.{System}
 use Rattle.mcs_system.specs.Seen.{context_of}
-use Rattle.mcs_rows.specs.Local.{AreAnswered}
 use Rattle.mcs_rows.specs.Answers.{answered_of}
 use Rattle.mcs_rows.proofs.MakingLemmas.{answered_in_order}
-use Rattle.mcs_mesh.specs.Rounds.{knowledge_of}
-use Rattle.mcs_mesh.proofs.RoundLemmas.{told_all}
+use Rattle.mcs_node.specs.Known.{Knowledge}
+use Rattle.mcs_node.specs.Nodes.{NodeData}
+use Rattle.mcs_mesh.specs.Players.{known_to}
+use Rattle.mcs_mesh.proofs.SuppliedLemmas.{answered_at, told_all}
 use Rattle.mcs_mesh.proofs.TableLemmas.{changed_more, changed_end}
 use Rattle.mcs_mesh.proofs.tables.changed_tables.Goals as goal
 
 pub changed_rows-requires-clause-in_order : goal.changed_rows-requires-clause-in_order
-changed_rows-requires-clause-in_order c =
+changed_rows-requires-clause-in_order g c =
     let (k, few, known) = c.requires.known in
-    let less : c.loop-i.i < length c.args.known.now =
+    let less : c.loop-i.i < length c.args.nodes.now =
     omega (arith, c.loop-i-test.true, c.requires.one_each, ap length c.contexts.ensures.value, length-map c.contexts.result.now context_of, ap (λ (m : System). length m.contexts) c.system.ensures) in
-    let answered = subst (λ xs. AreAnswered c.args.plan.now k c.loop-i.i (map answered_of xs)) (sym c.deref-in-loop-i.ensures.value)
-    (known c.loop-i.i _ (slice_get-map_at knowledge_of c.args.known.now c.loop-i.i c.index-known-i.result less)).answered in
+    let answered = answered_at c.args.plan.now k c.loop-i.i c.args.nodes.now c.index-nodes-i.result known less c.index-nodes-i.is (map answered_of c.deref-in-loop-i.result.now)
+    (ap (map answered_of) c.deref-in-loop-i.ensures.value ∙ ap (λ (z : Knowledge). z.answers) c.known-known.ensures.known) in
     answered_in_order c.args.plan.now k c.loop-i.i c.deref-in-loop-i.result.now answered
 
 pub loop-i-preserved : goal.loop-i-preserved
-loop-i-preserved c k few known =
-    let less : c.loop-i.i < length c.args.known.now =
+loop-i-preserved g c k few known =
+    let less : c.loop-i.i < length c.args.nodes.now =
     omega (arith, c.loop-i-test.true, c.requires.one_each, ap length c.contexts.ensures.value, length-map c.contexts.result.now context_of, ap (λ (m : System). length m.contexts) c.system.ensures) in
-    let told = told_all c.args.plan.now k c.loop-i.i (map knowledge_of c.args.known.now) (length-map c.args.known.now knowledge_of ∙ c.requires.one_each) known
+    let told = told_all c.args.plan.now k c.loop-i.i (known_to c.args.nodes.now) (length-map c.args.nodes.now (λ (d : NodeData). d.known) ∙ c.requires.one_each) known
     (map (λ supply. supply.items) c.deref.result.now) (λ other also. ap (map (λ supply. supply.items)) c.deref.ensures.value ∙ c.in_ok-told.ensures other also) in
-    let answered = subst (λ xs. AreAnswered c.args.plan.now k c.loop-i.i (map answered_of xs)) (sym c.deref-in-loop-i.ensures.value)
-    (known c.loop-i.i _ (slice_get-map_at knowledge_of c.args.known.now c.loop-i.i c.index-known-i.result less)).answered in
-    changed_more c.args.plan.now k c.args.pair c.loop-i.i c.loop-i.tables.items c.push.new.self.items c.in_ok-changed_rows.field-0 (c.loop-i.invariant k few known) (c.in_ok-changed_rows.ensures k few told answered) c.in_ok-push.ensures.items
+    let answered = answered_at c.args.plan.now k c.loop-i.i c.args.nodes.now c.index-nodes-i.result known less c.index-nodes-i.is (map answered_of c.deref-in-loop-i.result.now)
+    (ap (map answered_of) c.deref-in-loop-i.ensures.value ∙ ap (λ (z : Knowledge). z.answers) c.known-known.ensures.known) in
+    changed_more c.args.plan.now k c.args.pair c.loop-i.i c.loop-i.tables.items c.push.new.self.items c.in_ok-table.table (c.loop-i.invariant k few known) (c.in_ok-table.ensures k few told answered) c.in_ok-push.ensures.items
 
 pub returns : goal.returns
-returns c =
+returns g c =
     let (k, few, known) = c.requires.known in
     let last : c.loop-i.i ≡ length c.args.plan.now.contexts =
     omega (arith, c.loop-i-test.false, c.loop-i.auto.i-end, ap length c.contexts.ensures.value, length-map c.contexts.result.now context_of, ap (λ (m : System). length m.contexts) c.system.ensures) in

@@ -14,7 +14,7 @@ new-requires-2-clause-own g c i o is =
     (ap (λ (s : OracleState). s.system) same ∙ sym (c.in_ok-plan.ensures.ok ∙ (c.in_ok-of.ensures ∙ c.in_ok-clone.ensures.cases)), ap (λ (s : OracleState). s.context) same, ap (λ (s : OracleState). s.journal) same)
 
 pub returns-clause-new : goal.returns-clause-new
-returns-clause-new g c = new_mesh c.args.keep _ _ c.in_ok-solvers.ensures _ _ _ (c.in_ok-plan.ensures.ok ∙ (c.in_ok-of.ensures ∙ c.in_ok-clone.ensures.cases)) c.new-2.ensures
+returns-clause-new g c = new_mesh c.args.keep _ _ c.in_ok-solvers.ensures _ _ _ (c.in_ok-plan.ensures.ok ∙ (c.in_ok-of.ensures ∙ c.in_ok-clone.ensures.cases)) c.new-2.ensures.state
 
 pub returns-clause-keeps : goal.returns-clause-keeps
-returns-clause-keeps g c = mesh_keeps c.args.keep _ _ c.in_ok-solvers.ensures _ _ _ c.new-2.ensures
+returns-clause-keeps g c = mesh_keeps c.args.keep _ _ c.in_ok-solvers.ensures _ _ _ c.new-2.ensures.state

@@ -13,14 +13,14 @@ use Rattle.mcs_mesh.proofs.LastingLemmas.{tables_ahead}
 use Rattle.mcs_mesh.proofs.found.Found.find.Goals as goal
 
 pub repairs_in-requires-clause-tables : goal.repairs_in-requires-clause-tables
-repairs_in-requires-clause-tables c =
+repairs_in-requires-clause-tables g c =
     let known = take c.min.result c.deref.result.now in
     let given = subst (λ (ts : List TableData). AreFittingTables c.args.plan.now c.args.done known ts) (sym c.deref-2.ensures.value) c.in_ok-tables.ensures in
     let above = subst (λ (m : System). c.args.level < c.level_ahead-ahead.result → HasFewRules m c.args.level) c.system.ensures c.level_ahead-ahead.ensures.above in
     tables_ahead c.args.plan.now c.args.level c.level_ahead-ahead.result c.args.done known c.deref-2.result.now c.level_ahead-ahead.ensures.no_less above c.requires.within given
 
 pub repairs_in-requires-clause-known : goal.repairs_in-requires-clause-known
-repairs_in-requires-clause-known c =
+repairs_in-requires-clause-known g c =
     let P = λ (p : ℕ). IsMinimal (IsDiagnosis c.args.plan.now) p × (size p ≤ c.level_ahead-ahead.result) in
     let all : AllByRecursion P c.args.self.now.pairs.items = found_known c.args.plan.now c.args.level c.level_ahead-ahead.result c.args.self.now.level c.args.self.now.pairs.items c.requires.before c.requires.lower c.level_ahead-ahead.ensures.no_less in
     all_take P c.min.result c.deref.result.now (subst (λ (xs : List ℕ). AllByRecursion P xs) (sym c.deref.ensures.value) all)

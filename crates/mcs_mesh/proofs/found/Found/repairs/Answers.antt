@@ -8,7 +8,7 @@ use Rattle.mcs_mesh.proofs.found.Found.repairs.Goals.{then-not-is_reached+in_ok-
 use Rattle.mcs_mesh.proofs.found.Found.repairs.Goals as goal
 
 pub returns-clause-listing : goal.returns-clause-listing
-returns-clause-listing c =
+returns-clause-listing g c =
     let found = c.if-not-is_reached.self in
     let kept : AreRepairsFound c.args.plan.now found.level found.pairs.items = elim c.if-not-is_reached.branch [ then-not-is_reached+in_ok-find w ↦ rw w.self-is w.find.ensures.kept | else-not-is_reached w ↦ rw w.self-is c.requires.before ] in
     let reached : (d : ℕ) × (found.level ≡ Some d) × (c.args.level ≤ d) = elim c.if-not-is_reached.branch [ then-not-is_reached+in_ok-find w ↦ rw w.self-is w.in_ok-find.ensures.found | else-not-is_reached w ↦ rw w.self-is (c.is_reached.ensures.yes w.if-not-is_reached.false) ] in
