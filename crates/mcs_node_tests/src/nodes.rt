@@ -31,8 +31,13 @@ fn begun(
     let plan = Arc::new(alloc, Plan::of(alloc, system.clone()?)?)?;
     let solver = LocalSolver::new(alloc, system.clone()?, context, false);
     let mut node = Node::new(alloc, plan, context, budget, solver)?;
-    node.begin(alloc, 0)?;
-    Ok(node)
+    match node.begin(alloc, 0) {
+        Ok(()) => Ok(node),
+        Err(want) => {
+            drop(node);
+            Err(want)
+        }
+    }
 }
 
 /// The nodes of the first two contexts, which have begun the round of level 0; `None` if there are fewer.
@@ -45,8 +50,13 @@ pub(crate) fn begin_two(
         return Ok(None);
     }
     let first = begun(alloc, system, 0, budget)?;
-    let second = begun(alloc, system, 1, budget)?;
-    Ok(Some(Two { first, second }))
+    match begun(alloc, system, 1, budget) {
+        Ok(second) => Ok(Some(Two { first, second })),
+        Err(want) => {
+            drop(first);
+            Err(want)
+        }
+    }
 }
 
 /// Grants the node its need on top of the questions that were asked, if it waits for that; the total then.
@@ -67,7 +77,7 @@ pub(crate) fn hand_twice(
     let Some(letter) = sender.next_out() else {
         return Ok(None);
     };
-    let again = letter.copy(alloc)?;
+    let again = letter.copy()?;
     let once = node.handle(alloc, letter);
     let twice = node.handle(alloc, again);
     Ok(Some((once, twice)))

@@ -1,8 +1,9 @@
 //! Rounds of two contexts, of which the first supplies the second.
 
+use crate::meshes::system_of;
 use crate::nodes::{Two, begin_two, grant, hand_twice};
+use crate::orders::THREE;
 use mcs_base::Memory;
-use mcs_language::read_system;
 use mcs_node::{Content, Handled};
 use mcs_states::Halt;
 use mcs_system::System;
@@ -11,7 +12,8 @@ use std::sync::Arc;
 use std::test::Fail;
 
 /// The second context is told what the first one believes: each has one question at level 0.
-const TOLD: &str = "context c1 program { a. } context c2 program {} bridge r1: c2:p if c1:a.";
+pub(crate) const TOLD: &str =
+    "context c1 program { a. } context c2 program {} bridge r1: c2:p if c1:a.";
 
 /// Whether the first node waits for a grant of one question, and the second one does not wait for one.
 fn is_first_turn(nodes: &Two) -> bool {
@@ -42,24 +44,24 @@ fn takes_second_turn(alloc: Global, nodes: &mut Two) -> bool {
         && nodes.second.next_out().is_none()
 }
 
+/// Whether both nodes take their turns.
+fn take_both_turns(alloc: Global, nodes: &mut Two) -> Result<bool, Memory> {
+    Ok(is_first_turn(nodes) && takes_first_turn(alloc, nodes)? && takes_second_turn(alloc, nodes))
+}
+
 /// Whether the nodes of the system take turns within a budget of two questions.
 fn take_turns(alloc: Global, system: &Arc<System>) -> Result<bool, Memory> {
     let Some(mut nodes) = begin_two(alloc, system, 2)? else {
         return Ok(false);
     };
-    Ok(
-        is_first_turn(&nodes)
-            && takes_first_turn(alloc, &mut nodes)?
-            && takes_second_turn(alloc, &mut nodes),
-    )
+    let is_right = take_both_turns(alloc, &mut nodes);
+    drop(nodes);
+    is_right
 }
 
-/// Whether the second node of the system stops by itself when it is granted more than a budget of one question.
-fn stops_second(alloc: Global, system: &Arc<System>) -> Result<bool, Memory> {
-    let Some(mut nodes) = begin_two(alloc, system, 1)? else {
-        return Ok(false);
-    };
-    let is_taken = takes_first_turn(alloc, &mut nodes)?;
+/// Whether the second node stops by itself when it is granted two questions, which are more than the budget.
+fn is_stopped_second(alloc: Global, nodes: &mut Two) -> Result<bool, Memory> {
+    let is_taken = takes_first_turn(alloc, nodes)?;
     let total = grant(alloc, &mut nodes.second, 1);
     Ok(
         is_taken
@@ -68,6 +70,16 @@ fn stops_second(alloc: Global, system: &Arc<System>) -> Result<bool, Memory> {
             && nodes.second.by_itself()
             && !nodes.second.is_done(),
     )
+}
+
+/// Whether the second node of the system stops by itself within a budget of one question.
+fn stops_second(alloc: Global, system: &Arc<System>) -> Result<bool, Memory> {
+    let Some(mut nodes) = begin_two(alloc, system, 1)? else {
+        return Ok(false);
+    };
+    let is_right = is_stopped_second(alloc, &mut nodes);
+    drop(nodes);
+    is_right
 }
 
 /// Whether the next letter of the first node is a stop, which stops the second one with its halt.
@@ -99,9 +111,39 @@ fn stops_both(alloc: Global, system: &Arc<System>) -> Result<bool, Memory> {
     Ok(is_right)
 }
 
+/// Whether a letter of the first node to the third one is ignored by the second one, which still waits for its grant.
+fn is_ignored(alloc: Global, nodes: &mut Two) -> bool {
+    let total = grant(alloc, &mut nodes.first, 0);
+    let Some(letter) = nodes.first.next_out() else {
+        return false;
+    };
+    let is_stranger = total == Some(1) && letter.to() == 2;
+    let handled = nodes.second.handle(alloc, letter);
+    is_stranger && handled == Handled::Ignored && nodes.second.needs() == Some(1)
+}
+
+/// Whether the second node of the system ignores a letter to the third one.
+fn ignores_stranger(alloc: Global, system: &Arc<System>) -> Result<bool, Memory> {
+    let Some(mut nodes) = begin_two(alloc, system, 3)? else {
+        return Ok(false);
+    };
+    let is_ignored = is_ignored(alloc, &mut nodes);
+    drop(nodes);
+    Ok(is_ignored)
+}
+
+#[test]
+fn strangers_are_ignored(rt: HostRuntime) -> Result<(), Fail> {
+    let system = system_of(rt.alloc(), THREE.as_bytes())?;
+    let ignores = ignores_stranger(rt.alloc(), &system);
+    drop(system);
+    assert!(rt; ignores == Ok(true));
+    Ok(())
+}
+
 #[test]
 fn nodes_take_turns(rt: HostRuntime) -> Result<(), Fail> {
-    let system = Arc::new(rt.alloc(), read_system(rt.alloc(), TOLD.as_bytes())?)?;
+    let system = system_of(rt.alloc(), TOLD.as_bytes())?;
     let takes = take_turns(rt.alloc(), &system);
     let stops = stops_second(rt.alloc(), &system);
     let carries = stops_both(rt.alloc(), &system);
