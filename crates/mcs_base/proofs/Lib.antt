@@ -29,3 +29,5 @@ pub mod Lasts
 pub mod SetParts
 pub mod Walks
 pub mod Searched
+pub mod Placed
+pub mod GroupLemmas

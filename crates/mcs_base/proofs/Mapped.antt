@@ -1,5 +1,5 @@
 -- The images of a list, by what is read at an index.
-use Rattle.std.proofs.Common.{◌≡◌, ℕ, ◌+◌, ◌<◌, List, [], ◌∷◌, ◌++◌, map, length, drop, get_or, slice_get, Some, sym, ap, ◌∙◌, subst, Bool, true, false, IsTrue, ◌-◌, ◌≤◌, ◌==◌, ◌↔◌, zero, suc, take, refl, append_assoc, add-one, arith, true≢false}
+use Rattle.std.proofs.Common.{◌≡◌, ℕ, ◌+◌, ◌<◌, List, [], ◌∷◌, ◌++◌, map, length, drop, get_or, slice_get, Some, sym, ap, ◌∙◌, subst, Bool, false, IsTrue, ◌-◌, ◌≤◌, ◌==◌, ◌↔◌, zero, suc, take, refl, append_assoc, add-one, arith, true≢false}
 use Rattle.std.proofs.lemmas.List.{drop_more, map_push, map_more, append-nil}
 use Rattle.std.specs.List.{AllByRecursion, flat_map, range_with_len}
 use Rattle.mcs_base.proofs.Each.{all_get}

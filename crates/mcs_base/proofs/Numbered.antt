@@ -7,7 +7,7 @@ use Rattle.std.proofs.Math.Nat.{two-pow-succ}
 use Rattle.std.specs.List.{range_with_len, sum_by}
 use Rattle.mcs_sets.specs.Sets.{single, union, common}
 use Rattle.mcs_sets.proofs.SetLemmas.{same_set, has-empty, has-common}
-use Rattle.mcs_base.specs.Listings.{IsAmong, AreApart, IsListing}
+use Rattle.mcs_base.specs.Listings.{IsAmong, IsListing}
 
 -- ---- what is common
 pub common_assoc : (a b c : ℕ) → common (common a b) c ≡ common a (common b c)

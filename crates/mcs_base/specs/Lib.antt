@@ -12,3 +12,4 @@ pub mod NumberOrder
 pub mod Numbers
 pub mod Transversals
 pub mod Rows
+pub mod Groups

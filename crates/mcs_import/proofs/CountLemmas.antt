@@ -24,7 +24,7 @@ among_grown [] a s e = inl (sym e)
 among_grown (v ∷ vs) a s (inl h) = among_left s (with_some vs a) (with_some vs (union a (single v))) (among_grown vs a s h)
 among_grown (v ∷ vs) a s (inr h) = among_right s (with_some vs a) (with_some vs (union a (single v))) (among_grown vs (union a (single v)) s h)
 
-few_within : (whole : ℕ) (xs : List ℕ) → AreApart xs → ((x : ℕ) → IsAmong x xs → Within x whole) → length xs ≤ 2 ^ size whole
+pub few_within : (whole : ℕ) (xs : List ℕ) → AreApart xs → ((x : ℕ) → IsAmong x xs → Within x whole) → length xs ≤ 2 ^ size whole
 few_within whole xs apart inside =
     let few = distinct_fits xs (with_some (members whole) 0) apart (λ x among. among_grown (members whole) 0 x ((grows_is whole 0 x).1 (x, inside x among, sym (none-union x)))) in
     omega (arith, few, length-with_some (members whole) 0)

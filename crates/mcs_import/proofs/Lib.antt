@@ -5,3 +5,4 @@ pub mod StateLemmas
 pub mod NearLemmas
 pub mod QuestionLemmas
 pub mod CountLemmas
+pub mod RuleCounts

@@ -17,7 +17,7 @@ pub mod PlayingLemmas
 pub mod PlayedLemmas
 mod AskingLemmas
 mod AnswerLemmas
-mod HandlingLemmas
+pub mod HandlingLemmas
 mod BeginLemmas
 mod GrantLemmas
 mod KeptRuleLemmas
