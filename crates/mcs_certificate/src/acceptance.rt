@@ -13,11 +13,11 @@ ghost use Rattle.mcs_cnf.specs.ClauseLists.{AreOver};
 ghost use Rattle.mcs_asking.specs.Certificates.{plain_of, IsAccepted, IsAcceptedFor};
 ghost use Rattle.mcs_asking.specs.Kinds.{IsOverKb, AreOfKind};
 
-use crate::classical::classical_views;
-use crate::default::default_views;
-use crate::program::program_views;
+use mcs_answer_sets::program_views;
 use mcs_asking::{AnswerCert, beliefs_of, heads_into, parts_at};
 use mcs_base::{Active, Memory, Vars};
+use mcs_entailment::classical_views;
+use mcs_extensions::default_views;
 use mcs_system::{Formula, Kb, Name, System};
 use std::alloc::Global;
 

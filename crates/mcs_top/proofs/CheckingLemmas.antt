@@ -12,16 +12,16 @@ use Rattle.mcs_check.specs.Validity.{IsValidReport}
 use Rattle.mcs_check.specs.Findings.{IsReportFinding, RulesOut, finding_line}
 use Rattle.mcs_check.specs.declared.finding.Finding.{Finding}
 use Rattle.mcs_check.specs.declared.finding.Finding.TheVariants.{Valid, Fails}
-use Rattle.mcs_top.specs.Endings.{stop_for_unwritten}
-use Rattle.mcs_top.specs.Jobs.{File, told_all, OfOneFile, OfFirstFile, OfTwoFiles}
+use Rattle.mcs_listing.specs.Endings.{stop_for_unwritten}
+use Rattle.mcs_listing.specs.Jobs.{File, told_all, OfOneFile, OfFirstFile, OfTwoFiles}
 use Rattle.mcs_proof_text.specs.Reports.{most_report_bytes}
-use Rattle.mcs_top.specs.Texts.{IsTextOf, IsRefusedFor, StopsReading, StopsReport}
+use Rattle.mcs_listing.specs.Texts.{IsTextOf, IsRefusedFor, StopsReading, StopsReport}
 use Rattle.mcs_top.specs.Promise.{OfReport, IsToldValid, IsToldFailing, FailsATest, IsReportTooLong, IsCheckRefusal, WritesStage, IsStopCause, LeavesText, EndsSo, outcome_of}
-use Rattle.mcs_top.specs.declared.ending.Refusal.{Refusal}
-use Rattle.mcs_top.specs.declared.ending.Refusal.TheVariants as refusals
-use Rattle.mcs_top.specs.declared.ending.Stop.{Stop}
-use Rattle.mcs_top.specs.declared.ending.Stop.TheVariants as stops
-use Rattle.mcs_top.proofs.JobLemmas.{told_also, told_first, told_two, of_two, apart_of_two, lacks_first, lacks_second}
+use Rattle.mcs_listing.specs.declared.ending.Refusal.{Refusal}
+use Rattle.mcs_listing.specs.declared.ending.Refusal.TheVariants as refusals
+use Rattle.mcs_listing.specs.declared.ending.Stop.{Stop}
+use Rattle.mcs_listing.specs.declared.ending.Stop.TheVariants as stops
+use Rattle.mcs_listing.proofs.JobLemmas.{told_also, told_first, told_two, of_two, apart_of_two, lacks_first, lacks_second}
 
 -- ---- why a file of it is not had
 never_first : (files : List File) → OfFirstFile (λ bytes. ⊥) files → ⊥

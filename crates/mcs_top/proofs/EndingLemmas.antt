@@ -1,22 +1,18 @@
 -- What a run answers, notes and leaves where it stops.
-use Rattle.std.proofs.Common.{◌≡◌, ◌⊎◌, ℕ, List, Option, Some, None, Result, Ok, Err, IfSome, inl, inr, refl, sym, ap, ◌∙◌, subst}
-use Rattle.std.specs.Result.{IsErrAnd}
+use Rattle.std.proofs.Common.{◌≡◌, ◌⊎◌, ℕ, List, Option, Some, None, Result, Err, IfSome, inl, inr, refl, sym, ap, ◌∙◌, subst}
 use Rattle.mcs_ports.specs.Pieces.{Device, noted}
-use Rattle.mcs_text.specs.Writes.{IsWriteFaultDue}
-use Rattle.mcs_text.specs.declared.unwritten.Unwritten.{Unwritten}
-use Rattle.mcs_text.specs.declared.unwritten.Unwritten.TheVariants as unwritten
 use Rattle.mcs_words.specs.Commands.{Request}
 use Rattle.mcs_words.specs.declared.job.WordsFault.{WordsFault}
 use Rattle.mcs_words.specs.declared.job.WordsFault.TheVariants as words
-use Rattle.mcs_top.specs.declared.ending.Refusal.{Refusal}
-use Rattle.mcs_top.specs.declared.ending.Stop.{Stop}
-use Rattle.mcs_top.specs.declared.ending.Stop.TheVariants as stops
-use Rattle.mcs_top.specs.declared.status.Status.{Status}
-use Rattle.mcs_top.specs.declared.status.Status.TheVariants as statuses
-use Rattle.mcs_top.specs.Jobs.{File}
-use Rattle.mcs_top.specs.Endings.{line_of, status_of, refusal_line, unfinished_line, stop_for_words, stop_for_unwritten, IsEndingTold, IsToldAs}
+use Rattle.mcs_listing.specs.declared.ending.Refusal.{Refusal}
+use Rattle.mcs_listing.specs.declared.ending.Stop.{Stop}
+use Rattle.mcs_listing.specs.declared.ending.Stop.TheVariants as stops
+use Rattle.mcs_listing.specs.declared.status.Status.{Status}
+use Rattle.mcs_listing.specs.declared.status.Status.TheVariants as statuses
+use Rattle.mcs_listing.specs.Jobs.{File}
+use Rattle.mcs_listing.specs.Endings.{line_of, status_of, refusal_line, unfinished_line, stop_for_words, IsEndingTold, IsToldAs}
 use Rattle.mcs_top.specs.Promise.{IsRefusal, LacksBudget, budget_of, WritesBeyond, StopsBeyond, LacksFile, CanBeDone, CanBeRejected, EndsSo, WritesOutput, WritesRejection, WritesStage, TellsRefusal, Notes, IsUnlessMemory, CannotBeRead, IsStopCause, LeavesText, as_done}
-use Rattle.mcs_top.specs.declared.ending.Outcome.TheVariants as outcomes
+use Rattle.mcs_top.specs.declared.outcome.Outcome.TheVariants as outcomes
 use Rattle.mcs_top.proofs.RefusalLemmas.{whole_front, output_not_short, short_not_refused, beyond_not_refused, beyond_not_missing, beyond_is_stage, can_not_beyond, output_not_refused, output_not_missing, stage_not_refused, can_not_refused, can_not_missing, rejected_not_missing, short_not_missing, stage_not_missing, refusal_not_missing, rejection_not_refused, rejection_not_short, rejection_not_missing, rejected_not_refused, rejected_not_beyond}
 
 -- ---- what a stop is told as
@@ -343,11 +339,5 @@ module _ (status : Status) (job : Request) (first last : Option (List ℕ)) wher
   rejected_writes (Some fs) h = h.writes
 
 -- ---- unless a write fault is told, no write failed
--- a line that was not written whole
-pub line_unfailed : {T : Type 0} (why : Unwritten) (before now : ℕ) (r : Result T Stop) → IsErrAnd r (λ s. s ≡ stop_for_unwritten why) → IsWriteFaultDue why before now → ¬ (r ≡ Err stops.WriteFault) → now ≡ before
-line_unfailed unwritten.Fault before now (Ok x) is due other = absurd is
-line_unfailed unwritten.Fault before now (Err s) is due other = absurd (other (ap (λ (e : Stop). Err e) is))
-line_unfailed unwritten.Memory before now r is due other = due
-
 pub done_unfailed : (P : Type 0) (r : Result (Unit {0}) Stop) → (¬ (r ≡ Err stops.WriteFault) → P) → ¬ (as_done r ≡ Err stops.WriteFault) → P
 done_unfailed P r f other = f (λ is. other (ap as_done is))

@@ -1,8 +1,6 @@
-pub mod JobLemmas
 pub mod RefusalLemmas
 pub mod EndingLemmas
 pub mod StageLemmas
-pub mod EvaluatorLemmas
 pub mod ProvingLemmas
 pub mod CheckingLemmas
 pub mod PromiseLemmas

@@ -5,15 +5,15 @@ use Rattle.mcs_ports.specs.Pieces.{Device, noted}
 use Rattle.mcs_words.specs.Commands.{Word, Request, IsJobOf}
 use Rattle.mcs_words.specs.declared.job.WordsFault.{WordsFault}
 use Rattle.mcs_words.specs.declared.job.WordsFault.TheVariants as words
-use Rattle.mcs_top.specs.Jobs.{File, files_in, told_all, OfJob}
-use Rattle.mcs_top.specs.Endings.{line_of, stop_for_words, IsEndingTold, IsToldAs}
+use Rattle.mcs_listing.specs.Jobs.{File, files_in, told_all, OfJob}
+use Rattle.mcs_listing.specs.Endings.{line_of, stop_for_words, IsEndingTold, IsToldAs}
 use Rattle.mcs_top.specs.Promise.{CanBeDone, CanBeRejected, EndsSo, IsStopCause, LeavesText, IsUnlessMemory, CannotBeRead, CallHasFailed, KeepsPromise}
-use Rattle.mcs_top.specs.declared.ending.Outcome.TheVariants as outcomes
-use Rattle.mcs_top.specs.declared.ending.Stop.{Stop}
-use Rattle.mcs_top.specs.declared.ending.Stop.TheVariants as stops
-use Rattle.mcs_top.specs.declared.status.Status.{Status}
-use Rattle.mcs_top.specs.declared.status.Status.TheVariants as statuses
-use Rattle.mcs_top.proofs.JobLemmas.{if_job}
+use Rattle.mcs_top.specs.declared.outcome.Outcome.TheVariants as outcomes
+use Rattle.mcs_listing.specs.declared.ending.Stop.{Stop}
+use Rattle.mcs_listing.specs.declared.ending.Stop.TheVariants as stops
+use Rattle.mcs_listing.specs.declared.status.Status.{Status}
+use Rattle.mcs_listing.specs.declared.status.Status.TheVariants as statuses
+use Rattle.mcs_listing.proofs.JobLemmas.{if_job}
 use Rattle.mcs_top.proofs.EndingLemmas as endings
 
 -- ---- what is told of a device that a part of the run left as it was

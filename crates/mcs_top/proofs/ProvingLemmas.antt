@@ -1,12 +1,10 @@
 -- The listing of a system with its proof: what was asked of its solvers, what was written, and why it stopped.
-use Rattle.std.proofs.Common.{◌≡◌, ℕ, ◌≤◌, ◌⊎◌, true, List, [], ◌∷◌, ◌++◌, length, map, map-id, Option, Some, Result, Ok, Err, slice_get, IfSome, IfErr, OnOk, inl, inr, refl, sym, ap, ◌∙◌, subst, append_assoc, arith}
+use Rattle.std.proofs.Common.{◌≡◌, ℕ, ◌≤◌, ◌⊎◌, true, List, [], ◌∷◌, ◌++◌, length, Option, Some, Result, Ok, Err, slice_get, IfSome, IfErr, OnOk, inl, inr, refl, sym, ap, ◌∙◌, subst, append_assoc, arith}
 use Rattle.mcs_base.specs.Listings.{IsInventory}
 use Rattle.mcs_base.proofs.Lists.{map_slice_get, slice_get-map_some}
 use Rattle.mcs_ports.specs.Causes.{Rose}
-use Rattle.mcs_ports.specs.Pieces.{Device, appended}
+use Rattle.mcs_ports.specs.Pieces.{appended}
 use Rattle.mcs_text.proofs.WriteLaws.{appended-append}
-use Rattle.mcs_text.specs.declared.unwritten.Unwritten.{Unwritten}
-use Rattle.mcs_text.specs.declared.unwritten.Unwritten.TheVariants as unwritten
 use Rattle.mcs_system.specs.Plain.{System}
 use Rattle.mcs_states.specs.Oracles.{OracleState, with_journal}
 use Rattle.mcs_states.specs.Evaluators.{EvaluatorState, KeepsRest, IsJournalQuestion}
@@ -17,22 +15,22 @@ use Rattle.mcs_report.specs.Solutions.{IsWholeListing, whole}
 use Rattle.mcs_proof_text.specs.Lines.{text_of_lines}
 use Rattle.mcs_proof_text.specs.Answers.{Answer}
 use Rattle.mcs_proof_text.specs.Proofs.{AreProof, proof_lines}
-use Rattle.mcs_proof_writer.specs.Proving.{AreAsked, HasProved, HasBegunProof, Proves}
+use Rattle.mcs_proof_writer.specs.Proving.{AreAsked, HasProved, HasBegunProof}
 use Rattle.mcs_check.specs.Validity.{IsProvedListing}
 use Rattle.mcs_check.proofs.ProvedListings.{proved_listings_valid}
 use Rattle.mcs_work.specs.Tasks.{IsTaskStage, IsLastTaken}
 use Rattle.mcs_work.specs.Work.{IsDone}
 use Rattle.mcs_work.specs.declared.task.Task.TheVariants.{Solve}
 use Rattle.mcs_words.specs.Commands.{Word, solve}
-use Rattle.mcs_top.specs.Endings.{stop_for_unwritten}
-use Rattle.mcs_top.specs.Jobs.{File, OfOneFile}
-use Rattle.mcs_top.specs.Texts.{IsTextOf, StopsReading}
-use Rattle.mcs_top.specs.Promise.{OfSystem, IsListedBefore, IsListedProved, IsSolved, IsSolutionStage, Prints, PrintsFront, WritesOutput, WritesStage, StopsWork, StopsProof, StopsAnswers, IsStopCause, LeavesText, IsNewMesh, HaveOrigin}
-use Rattle.mcs_top.specs.declared.ending.Stop.{Stop}
-use Rattle.mcs_top.specs.declared.ending.Stop.TheVariants as stops
-use Rattle.mcs_top.proofs.JobLemmas.{told_also, of_file}
+use Rattle.mcs_listing.specs.Jobs.{File, OfOneFile}
+use Rattle.mcs_listing.specs.Texts.{IsTextOf, StopsReading}
+use Rattle.mcs_top.specs.Promise.{IsListedProved, IsSolved, IsSolutionStage, WritesOutput, WritesStage, StopsProof, IsStopCause, LeavesText}
+use Rattle.mcs_listing.specs.Listings.{OfSystem, IsListedBefore, Prints, PrintsFront, StopsWork, StopsAnswers, IsNewMesh, HaveOrigin}
+use Rattle.mcs_listing.specs.declared.ending.Stop.{Stop}
+use Rattle.mcs_listing.specs.declared.ending.Stop.TheVariants as stops
+use Rattle.mcs_listing.proofs.JobLemmas.{told_also, of_file}
 use Rattle.mcs_top.proofs.RefusalLemmas.{whole_front}
-use Rattle.mcs_top.proofs.StageLemmas.{nothing_left, listed_done}
+use Rattle.mcs_listing.proofs.WorkLemmas.{nothing_left, listed_done}
 
 -- ---- stages of the listing are stages of it with its proof
 front_of_stage : (m : System) (before now : Option (List ℕ)) → PrintsFront (IsTaskStage Solve m) before now → PrintsFront (IsSolutionStage true m) before now
@@ -125,15 +123,6 @@ module _ (m : System) (budget : ℕ) (e e' : EvaluatorState) (fresh : IsNewMesh 
       → IfErr r (λ stop. StopsProof stop budget m (Rose first last) before now)
   proof_stops first middle last up now (Ok x) h = tt
   proof_stops first middle last up now (Err stop) h = proof_stopped first middle last up now stop h
-
--- ---- the proof itself
--- the oracles that are handed back are those that were asked
-pub asked_also : (m : System) (level : ℕ) (solvers oracles : List OracleState) → map (λ (o : OracleState). o) solvers ≡ oracles → AreAsked m level oracles → AreAsked m level solvers
-asked_also m level solvers oracles same asked = subst (λ (os : List OracleState). AreAsked m level os) (sym same ∙ map-id solvers) asked
-
-pub answers_stopped : (m : System) (level : ℕ) (before now : Device) (why : Unwritten) → Proves {T = Unit {0}} m level before now (Err why) → StopsAnswers (stop_for_unwritten why) m level (Rose before.faults now.faults) before.written now.written
-answers_stopped m level before now unwritten.Fault p = (p.due, p.front)
-answers_stopped m level before now unwritten.Memory p = p.front
 
 -- ---- the job of a command
 module _ (name : Word) (budget workers : ℕ) where

@@ -13,12 +13,13 @@ use Rattle.mcs_work.specs.declared.task.Task.{Task}
 use Rattle.mcs_work.specs.declared.task.Task.TheVariants.{Equilibria, Solve, Make}
 use Rattle.mcs_words.specs.Commands.{Request, equilibria, solve, check, make}
 use Rattle.mcs_check.specs.Validity.{IsValidReport}
-use Rattle.mcs_top.specs.Jobs.{File, OfOneFile, OfFirstFile, OfTwoFiles, LacksOneOfTwo}
-use Rattle.mcs_top.specs.Texts.{IsTextOf, IsRefusedFor}
-use Rattle.mcs_top.specs.Promise.{Suffices, IsShort, OfSystem, OfReport, IsReportTooLong, IsToldValid, IsToldFailing, FailsATest, IsListingText, IsListedBefore, IsSolved, IsSolutionStage, IsOutput, IsRejection, IsOutputBeyond, IsStage, LacksBudget, IsRefusal, IsCheckRefusal, LacksFile, CanBeDone, CanBeRejected}
-use Rattle.mcs_top.specs.declared.ending.Refusal.{Refusal}
-use Rattle.mcs_top.specs.declared.ending.Refusal.TheVariants as refusals
-use Rattle.mcs_top.proofs.JobLemmas.{apart_of_file, of_file, apart_of_two, apart_of_first}
+use Rattle.mcs_listing.specs.Jobs.{File, OfOneFile, OfFirstFile, OfTwoFiles, LacksOneOfTwo}
+use Rattle.mcs_listing.specs.Texts.{IsTextOf, IsRefusedFor}
+use Rattle.mcs_top.specs.Promise.{OfReport, IsReportTooLong, IsToldValid, IsToldFailing, FailsATest, IsSolved, IsSolutionStage, IsOutput, IsRejection, IsOutputBeyond, IsStage, LacksBudget, IsRefusal, IsCheckRefusal, LacksFile, CanBeDone, CanBeRejected}
+use Rattle.mcs_listing.specs.Listings.{Suffices, IsShort, OfSystem, IsListingText, IsListedBefore}
+use Rattle.mcs_listing.specs.declared.ending.Refusal.{Refusal}
+use Rattle.mcs_listing.specs.declared.ending.Refusal.TheVariants as refusals
+use Rattle.mcs_listing.proofs.JobLemmas.{apart_of_file, of_file, apart_of_two, apart_of_first}
 
 -- a text that was written whole is a front of itself
 pub whole_front : (text : List ℕ) (before now : Option (List ℕ)) → now ≡ appended before text → WritesFront text before now

@@ -1,5 +1,2 @@
-pub mod Jobs
-pub mod Endings
-pub mod Texts
 pub mod Promise
 pub mod Programs

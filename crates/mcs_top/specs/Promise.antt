@@ -1,16 +1,10 @@
 -- What a run promises, by cases of the job.
-use Rattle.std.specs.Prelude.{◌≡◌, ◌⊎◌, ℕ, ◌+◌, ◌<◌, ◌≤◌, Bool, true, false, List, [], ◌∷◌, ◌++◌, length, codes, Option, Some, None, Result, Ok, Err, slice_get, IfSome}
-use Rattle.std.specs.Fmt.{decimal}
+use Rattle.std.specs.Prelude.{◌≡◌, ◌⊎◌, ℕ, ◌≤◌, Bool, true, false, List, [], ◌∷◌, length, Option, None, Result, Ok, Err, IfSome}
 use Rattle.mcs_ports.specs.Causes.{Rose}
-use Rattle.mcs_ports.specs.Pieces.{Device, appended, noted}
-use Rattle.mcs_text.specs.Writes.{WritesFront}
+use Rattle.mcs_ports.specs.Pieces.{Device, noted}
 use Rattle.mcs_system.specs.Plain.{System}
-use Rattle.mcs_system.specs.Systems.{variables}
-use Rattle.mcs_system.specs.Levels.{HasQuestions}
-use Rattle.mcs_states.specs.Oracles.{OracleState}
-use Rattle.mcs_states.specs.Evaluators.{EvaluatorState}
 use Rattle.mcs_generator.specs.Generated.{generated_system}
-use Rattle.mcs_work.specs.Tasks.{IsTaskText, IsTaskStage, IsTaskUpTo, TakesLevel}
+use Rattle.mcs_work.specs.Tasks.{IsTaskText, IsTaskStage}
 use Rattle.mcs_work.specs.declared.task.Task.{Task}
 use Rattle.mcs_work.specs.declared.task.Task.TheVariants.{Equilibria, Solve, Make}
 use Rattle.mcs_words.specs.Commands.{Word, Request, equilibria, solve, check, make, IsJobOf}
@@ -19,52 +13,19 @@ use Rattle.mcs_check.specs.Findings.{finding_line}
 use Rattle.mcs_check.specs.declared.finding.Reason.{Reason}
 use Rattle.mcs_check.specs.declared.finding.Finding.{Finding}
 use Rattle.mcs_check.specs.declared.finding.Finding.TheVariants.{Valid, Fails}
-use Rattle.mcs_proof_writer.specs.Proving.{HasBegunProof}
-use Rattle.mcs_top.specs.Jobs.{File, files_in, OfJob, IfJob, OfOneFile, OfFirstFile, OfTwoFiles, LacksOneOfTwo}
+use Rattle.mcs_listing.specs.Jobs.{File, files_in, OfJob, IfJob, OfOneFile, OfFirstFile, OfTwoFiles, LacksOneOfTwo}
 use Rattle.mcs_proof_text.specs.Reports.{most_report_bytes}
-use Rattle.mcs_top.specs.Texts.{IsTextOf, IsRefusedFor}
-use Rattle.mcs_top.specs.Endings.{refusal_line, unfinished_line, line_of}
-use Rattle.mcs_top.specs.declared.ending.Outcome.{Outcome}
-use Rattle.mcs_top.specs.declared.ending.Outcome.TheVariants as outcomes
-use Rattle.mcs_top.specs.declared.ending.Refusal.{Refusal}
-use Rattle.mcs_top.specs.declared.ending.Refusal.TheVariants as refusals
-use Rattle.mcs_top.specs.declared.ending.Stop.{Stop}
-use Rattle.mcs_top.specs.declared.ending.Stop.TheVariants as stops
-use Rattle.mcs_top.specs.declared.status.Status.{Status}
-use Rattle.mcs_top.specs.declared.status.Status.TheVariants as statuses
-
--- ---- a task within a budget, of a file that is the text of a system
--- the system has more questions of the level than the budget
-abbrev pub NeedsMoreThan : System → ℕ → ℕ → Type 0
-NeedsMoreThan m level budget = HasQuestions m level (budget + 1)
-
--- no level of the task has
-abbrev pub Suffices : Task → ℕ → System → Type 0
-Suffices task budget m = (level : ℕ) → TakesLevel task m level → ¬ NeedsMoreThan m level budget
-
--- some level has
-pub record IsShort (task : Task) (budget : ℕ) (m : System) : Type 0 where
-  pub level : ℕ
-  pub taken : TakesLevel task m level
-  pub beyond : NeedsMoreThan m level budget
-
--- this level is the least one that has
-pub record IsLeastBeyond (task : Task) (budget level : ℕ) (m : System) : Type 0 where
-  pub taken : TakesLevel task m level
-  pub beyond : NeedsMoreThan m level budget
-  pub least : (k : ℕ) → k < level → ¬ NeedsMoreThan m k budget
-
--- the file spells a system for which this holds
-abbrev pub OfSystem : (System → Type 0) → List ℕ → Type 0
-OfSystem P bytes = (m : System) × IsTextOf m bytes × P m
-
--- the text of the task for this system, for which the budget suffices
-abbrev pub IsListingText : Task → ℕ → List ℕ → System → Type 0
-IsListingText task budget text m = Suffices task budget m × IsTaskText task m text
-
--- what is printed before the level, the least one that has more questions than the budget
-abbrev pub IsListedBefore : Task → ℕ → ℕ → List ℕ → System → Type 0
-IsListedBefore task budget level text m = IsLeastBeyond task budget level m × IsTaskUpTo task m level text
+use Rattle.mcs_listing.specs.Texts.{IsTextOf, IsRefusedFor}
+use Rattle.mcs_listing.specs.Endings.{refusal_line, unfinished_line, line_of}
+use Rattle.mcs_listing.specs.Listings.{Suffices, IsShort, OfSystem, IsListingText, IsListedBefore, AfterNumber, Prints, PrintsFront}
+use Rattle.mcs_top.specs.declared.outcome.Outcome.{Outcome}
+use Rattle.mcs_top.specs.declared.outcome.Outcome.TheVariants as outcomes
+use Rattle.mcs_listing.specs.declared.ending.Refusal.{Refusal}
+use Rattle.mcs_listing.specs.declared.ending.Refusal.TheVariants as refusals
+use Rattle.mcs_listing.specs.declared.ending.Stop.{Stop}
+use Rattle.mcs_listing.specs.declared.ending.Stop.TheVariants as stops
+use Rattle.mcs_listing.specs.declared.status.Status.{Status}
+use Rattle.mcs_listing.specs.declared.status.Status.TheVariants as statuses
 
 -- ---- the listing of a system with its proof
 -- it is a valid report, where it is not longer than one may be
@@ -109,17 +70,6 @@ FailsATest m report = (line : ℕ) × (reason : Reason) × IsFailure m report li
 -- the report is longer than one may be
 abbrev pub IsReportTooLong : List ℕ → List ℕ → Type 0
 IsReportTooLong bytes report = (m : System) × IsTextOf m bytes × ¬ (length report ≤ most_report_bytes)
-
--- ---- a system that is generated for a number
--- make NUMBER: N contexts, R rules, V variables
-unfoldable pub number_line : ℕ → System → List ℕ
-number_line number m =
-    codes "make " ++ (decimal number ++ (codes ": " ++ (decimal (length m.contexts) ++ (codes " contexts, " ++ (decimal (length m.bridges)
-    ++ (codes " rules, " ++ (decimal (length (variables m)) ++ codes " variables\n")))))))
-
--- that line, and a text after it for which this holds
-abbrev pub AfterNumber : (List ℕ → System → Type 0) → ℕ → List ℕ → Type 0
-AfterNumber P number text = (rest : List ℕ) × P rest (generated_system number) × (text ≡ number_line number (generated_system number) ++ rest)
 
 -- ---- by cases of the job; each job to come adds its case here
 -- the most questions of a level that it may ask
@@ -203,18 +153,6 @@ CanBeRejected (check file report) files = OfTwoFiles (OfReport FailsATest) files
 CanBeRejected (make number budget workers) files = ⊥
 
 -- ---- what a run did
--- a text for which this holds was written
-pub record Prints (P : List ℕ → Type 0) (before now : Option (List ℕ)) : Type 0 where
-  pub text : List ℕ
-  pub holds : P text
-  pub written : now ≡ appended before text
-
--- a front of one was
-pub record PrintsFront (P : List ℕ → Type 0) (before now : Option (List ℕ)) : Type 0 where
-  pub text : List ℕ
-  pub holds : P text
-  pub front : WritesFront text before now
-
 -- the output of the job was
 abbrev pub WritesOutput : Option (List ℕ) → Option (List ℕ) → Request → List File → Type 0
 WritesOutput before now job files = Prints (λ text. IsOutput text job files) before now
@@ -348,26 +286,8 @@ LeavesText stops.ReadFault job files before now = now ≡ before
 LeavesText stops.WriteFault job files before now = IfSome files (WritesStage before now job)
 LeavesText stops.Memory job files before now = (now ≡ before) ⊎ IfSome files (WritesStage before now job)
 
--- ---- the work on a system
--- why the work on a system stops, and what was written then
-abbrev pub StopsWork : Stop → Task → ℕ → System → Type 0 → Option (List ℕ) → Option (List ℕ) → Type 0
-StopsWork stops.Usage task budget m sink_rose before now = ⊥
-StopsWork (stops.Refused why) task budget m sink_rose before now = ⊥
-StopsWork (stops.Unfinished level limit) task budget m sink_rose before now = (limit ≡ budget) × Prints (λ text. IsListedBefore task budget level text m) before now
-StopsWork stops.ReadFault task budget m sink_rose before now = ⊥
-StopsWork stops.WriteFault task budget m sink_rose before now = sink_rose × PrintsFront (IsTaskStage task m) before now
-StopsWork stops.Memory task budget m sink_rose before now = PrintsFront (IsTaskStage task m) before now
-
--- the same where its number was printed before
-abbrev pub StopsGenerated : Stop → ℕ → ℕ → Type 0 → Option (List ℕ) → Option (List ℕ) → Type 0
-StopsGenerated stops.Usage number budget sink_rose before now = ⊥
-StopsGenerated (stops.Refused why) number budget sink_rose before now = ⊥
-StopsGenerated (stops.Unfinished level limit) number budget sink_rose before now = (limit ≡ budget) × Prints (AfterNumber (IsListedBefore Make budget level) number) before now
-StopsGenerated stops.ReadFault number budget sink_rose before now = ⊥
-StopsGenerated stops.WriteFault number budget sink_rose before now = sink_rose × PrintsFront (AfterNumber (λ rest m. IsTaskStage Make m rest) number) before now
-StopsGenerated stops.Memory number budget sink_rose before now = (now ≡ before) ⊎ PrintsFront (AfterNumber (λ rest m. IsTaskStage Make m rest) number) before now
-
--- why the work on the listing with its proof stops, and what was written then
+-- ---- the work on the listing with its proof
+-- why it stops, and what was written then
 abbrev pub StopsProof : Stop → ℕ → System → Type 0 → Option (List ℕ) → Option (List ℕ) → Type 0
 StopsProof stops.Usage budget m sink_rose before now = ⊥
 StopsProof (stops.Refused why) budget m sink_rose before now = ⊥
@@ -375,15 +295,6 @@ StopsProof (stops.Unfinished level limit) budget m sink_rose before now = (limit
 StopsProof stops.ReadFault budget m sink_rose before now = ⊥
 StopsProof stops.WriteFault budget m sink_rose before now = sink_rose × PrintsFront (IsSolutionStage true m) before now
 StopsProof stops.Memory budget m sink_rose before now = PrintsFront (IsSolutionStage true m) before now
-
--- why the writing of the proof itself stops, and what was written then: nothing, or a front of it
-abbrev pub StopsAnswers : Stop → System → ℕ → Type 0 → Option (List ℕ) → Option (List ℕ) → Type 0
-StopsAnswers stops.Usage m level sink_rose before now = ⊥
-StopsAnswers (stops.Refused why) m level sink_rose before now = ⊥
-StopsAnswers (stops.Unfinished at limit) m level sink_rose before now = ⊥
-StopsAnswers stops.ReadFault m level sink_rose before now = ⊥
-StopsAnswers stops.WriteFault m level sink_rose before now = sink_rose × ((now ≡ before) ⊎ HasBegunProof m level before now)
-StopsAnswers stops.Memory m level sink_rose before now = (now ≡ before) ⊎ HasBegunProof m level before now
 
 -- ---- the jobs that list the system of a file
 -- the job is the task for this file within this budget
@@ -393,15 +304,3 @@ ListsFile (solve file budget workers false) task name most = (task ≡ Solve) ×
 ListsFile (solve file budget workers true) task name most = ⊥
 ListsFile (check file report) task name most = ⊥
 ListsFile (make number budget workers) task name most = ⊥
-
--- an evaluator of the system that was asked nothing, whose oracles never miss
-pub record IsNewMesh (m : System) (budget : ℕ) (e : EvaluatorState) : Type 0 where
-  pub system : e.system ≡ m
-  pub budget_is : e.budget ≡ budget
-  pub fresh : e.done ≡ None
-  pub going : e.halted ≡ false
-  pub sure : (i : ℕ) (o : OracleState) → slice_get e.oracles i ≡ Some o → o.holds ≡ None
-
--- each of the oracles has this origin
-abbrev pub HaveOrigin : List (List ℕ) → List OracleState → Type 0
-HaveOrigin origin oracles = (i : ℕ) (o : OracleState) → slice_get oracles i ≡ Some o → o.origin ≡ origin

@@ -5,14 +5,13 @@ ghost use Rattle.mcs_ports.specs.Causes.{Rose};
 ghost use Rattle.mcs_text.specs.Writes.{Writes};
 ghost use Rattle.mcs_words.specs.Commands as commands;
 ghost use Rattle.mcs_check.specs.Findings.{finding_line};
-ghost use Rattle.mcs_top.specs.Jobs.{told_all};
+ghost use Rattle.mcs_listing.specs.Jobs.{told_all};
 ghost use Rattle.mcs_top.specs.Promise.{EndsSo, IsStopCause, LeavesText, outcome_of};
 
-use crate::ending::{Outcome, Stop};
-use crate::evaluator::shared;
-use crate::reading::{report_in, system_in};
+use crate::outcome::Outcome;
 use mcs_base::Text;
 use mcs_check::{Finding, check_report, finding_line};
+use mcs_listing::{Stop, report_in, shared, system_in};
 use mcs_ports::{Shelf, Sink};
 use mcs_text::{Unwritten, write_line};
 use std::alloc::Global;

@@ -4,9 +4,9 @@ ghost use Rattle.std.specs.Prelude.{◌≡◌};
 ghost use Rattle.mcs_words.specs.Reading.{texts_of};
 ghost use Rattle.mcs_top.specs.Promise.{KeepsPromise, NamesNoFile};
 
-use crate::ending::{Outcome, tell};
 use crate::job::do_job;
-use crate::status::Status;
+use crate::outcome::Outcome;
+use mcs_listing::{Status, tell};
 use mcs_ports::{Gate, Shelf, Sink};
 use mcs_words::read_words;
 use std::alloc::Global;

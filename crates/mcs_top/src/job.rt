@@ -3,13 +3,14 @@
 ghost use Rattle.std.specs.Prelude.{◌≡◌, ◌≤◌, [], IfSome, IfOk, IfErr, IsErrOf};
 ghost use Rattle.mcs_ports.specs.Causes.{Rose};
 ghost use Rattle.mcs_words.specs.Reading.{request_of};
-ghost use Rattle.mcs_top.specs.Jobs.{told_all, files_in};
+ghost use Rattle.mcs_listing.specs.Jobs.{told_all, files_in};
 ghost use Rattle.mcs_top.specs.Promise.{EndsSo, IsStopCause, LeavesText, as_done};
 
 use crate::checking::check;
-use crate::ending::{Outcome, Stop};
-use crate::listing::{evaluate, generated};
+use crate::listing::evaluate;
+use crate::outcome::Outcome;
 use crate::proving::prove;
+use mcs_listing::{Stop, generated};
 use mcs_ports::{Gate, Shelf, Sink};
 use mcs_words::Job;
 use mcs_work::Task;

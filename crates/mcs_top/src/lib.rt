@@ -4,17 +4,13 @@
 
 mod checking;
 mod command;
-mod ending;
-mod evaluator;
 mod job;
 mod listing;
-mod number;
+mod outcome;
 mod program;
 mod proving;
-mod reading;
-mod status;
 
 pub use command::run;
+pub use mcs_listing::Status;
 pub use mcs_work::{Task, WorkStop, work};
 pub use program::run_program;
-pub use status::Status;

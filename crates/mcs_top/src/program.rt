@@ -1,13 +1,12 @@
 //! The whole program, except for its devices.
 
 ghost use Rattle.std.specs.Prelude.{◌≡◌, drop, IfOk};
-ghost use Rattle.mcs_top.specs.Endings.{status_number};
+ghost use Rattle.mcs_listing.specs.Endings.{status_number};
 ghost use Rattle.mcs_top.specs.Programs.{all_given, words_given};
 ghost use Rattle.mcs_top.specs.Promise.{KeepsPromise, NamesNoFile};
 
 use crate::command::run;
-use crate::ending::note_want_of_memory;
-use crate::status::Status;
+use mcs_listing::{Status, note_want_of_memory};
 use mcs_ports::{Gate, Shelf, Sink};
 use std::alloc::{AllocError, Global};
 use std::{env, io};

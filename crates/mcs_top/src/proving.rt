@@ -2,18 +2,13 @@
 
 ghost use Rattle.std.specs.Prelude.{◌≡◌, ◌≤◌, ℕ, true, [], ◌∷◌, IfSome, OnOk, IfErr, IsErrOf};
 ghost use Rattle.mcs_ports.specs.Causes.{Rose};
-ghost use Rattle.mcs_proof_writer.specs.Proving.{AreAsked, HasProved};
 ghost use Rattle.mcs_words.specs.Commands.{solve};
-ghost use Rattle.mcs_top.specs.Jobs.{told_all};
-ghost use Rattle.mcs_top.specs.Promise.{IsStopCause, IsListedProved, LeavesText, Prints, StopsAnswers, StopsProof, WritesOutput};
+ghost use Rattle.mcs_listing.specs.Jobs.{told_all};
+ghost use Rattle.mcs_top.specs.Promise.{IsStopCause, IsListedProved, LeavesText, StopsProof, WritesOutput};
+ghost use Rattle.mcs_listing.specs.Listings.{Prints};
 
-use crate::ending::{Stop, stop_for_work};
-use crate::evaluator::{mesh_of, shared};
-use crate::reading::system_in;
-use mcs_mesh::Mesh;
+use mcs_listing::{Stop, mesh_of, shared, stop_for_work, system_in, write_answers};
 use mcs_ports::{Gate, Shelf, Sink};
-use mcs_proof_writer::write_proof;
-use mcs_solver::LocalSolver;
 use mcs_system::System;
 use mcs_work::{Task, work};
 use std::alloc::Global;
@@ -75,23 +70,4 @@ fn prove_system<K: Sink, G: Gate>(
             Err(stop_for_work(stop, budget))
         }
     }
-}
-
-/// Writes the answers that the solvers of the evaluator keep.
-fn write_answers<'g, K: Sink, G: Gate>(
-    alloc: Global,
-    system: &System,
-    mesh: Mesh<'g, LocalSolver, G>,
-    sink: &mut K,
-) -> Result<(), Stop>
-    requires { (level : ℕ) × AreAsked system.now level mesh.state.oracles }
-    ensures later { (K.device sink.old).faults ≤ (K.device sink.new).faults }
-    ensures unfailed { ¬ IsErrOf result Stop.WriteFault → (K.device sink.new).faults ≡ (K.device sink.old).faults }
-    ensures notes { (K.device sink.new).notes ≡ (K.device sink.old).notes }
-    ensures ok { (level : ℕ) → AreAsked system.now level mesh.entry.state.oracles → OnOk result (HasProved system.now level (K.device sink.old).written (K.device sink.new).written) }
-    ensures stop { (level : ℕ) → AreAsked system.now level mesh.entry.state.oracles → IfErr result (λ stop. StopsAnswers stop system.now level
-        (Rose (K.device sink.old).faults (K.device sink.new).faults) (K.device sink.old).written (K.device sink.new).written) }
-{
-    let solvers = mesh.into_oracles()?;
-    Ok(write_proof(alloc, system, &solvers, sink)?)
 }

@@ -2,11 +2,11 @@ use Rattle.std.proofs.Common.{[], ◌∷◌, arith}
 use Rattle.mcs_ports.specs.Causes.{Rose}
 use Rattle.mcs_base.proofs.Results.{err_told}
 use Rattle.mcs_words.specs.Commands.{check}
-use Rattle.mcs_top.specs.Jobs.{told_all}
+use Rattle.mcs_listing.specs.Jobs.{told_all}
 use Rattle.mcs_top.specs.Promise.{IsStopCause, LeavesText}
 use Rattle.mcs_top.proofs.StageLemmas.{read_left}
 use Rattle.mcs_top.proofs.CheckingLemmas.{check_read_cause, report_cause, report_left, told_finding, finding_left}
-use Rattle.mcs_top.proofs.EndingLemmas.{line_unfailed}
+use Rattle.mcs_listing.proofs.LineLemmas.{line_unfailed}
 use Rattle.mcs_top.proofs.checking.check.Goals as goal
 
 -- ---- the file of the system

@@ -1,7 +1,7 @@
 use Rattle.std.proofs.Common.{◌≤◌, ◌∙◌, ℕ, List, Option, sym, subst, arith}
 use Rattle.mcs_ports.specs.Causes.{Rose}
 use Rattle.mcs_words.specs.Reading.{texts_of, request_of}
-use Rattle.mcs_top.specs.Jobs.{files_in, told_all}
+use Rattle.mcs_listing.specs.Jobs.{files_in, told_all}
 use Rattle.mcs_top.specs.Promise.{IsStopCause, LeavesText}
 use Rattle.mcs_top.proofs.PromiseLemmas.{told_since, words_kept, done_kept, rejected_kept, stop_kept}
 use Rattle.mcs_top.proofs.command.run.Goals as goal

@@ -1,6 +1,6 @@
 use Rattle.std.proofs.Common.{[], ◌∷◌}
 use Rattle.mcs_ports.specs.Causes.{Rose}
-use Rattle.mcs_top.specs.Jobs.{told_all}
+use Rattle.mcs_listing.specs.Jobs.{told_all}
 use Rattle.mcs_top.specs.Promise.{IsStopCause, LeavesText}
 use Rattle.mcs_top.proofs.StageLemmas.{read_cause, read_left, file_listed, file_causes, file_leaves}
 use Rattle.mcs_base.proofs.Results.{err_told}

@@ -2,7 +2,7 @@ use Rattle.std.proofs.Common.{[], ◌∷◌, true}
 use Rattle.mcs_ports.specs.Causes.{Rose}
 use Rattle.mcs_base.proofs.Results.{err_told}
 use Rattle.mcs_words.specs.Commands.{solve}
-use Rattle.mcs_top.specs.Jobs.{told_all}
+use Rattle.mcs_listing.specs.Jobs.{told_all}
 use Rattle.mcs_top.specs.Promise.{IsStopCause, LeavesText}
 use Rattle.mcs_top.proofs.StageLemmas.{read_left}
 use Rattle.mcs_top.proofs.ProvingLemmas.{proof_read_cause, file_proved, proof_causes, proof_leaves}

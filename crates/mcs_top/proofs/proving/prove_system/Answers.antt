@@ -1,9 +1,9 @@
 use Rattle.std.proofs.Common.{Err, ap, ◌∙◌}
-use Rattle.mcs_top.specs.declared.ending.Stop.{Stop}
+use Rattle.mcs_listing.specs.declared.ending.Stop.{Stop}
 use Rattle.mcs_base.proofs.Results.{err_told}
 use Rattle.mcs_top.specs.Promise.{StopsProof}
 use Rattle.mcs_top.proofs.ProvingLemmas.{nothing_proved, work_stops_proof, solvers_asked, proof_done, proof_stops}
-use Rattle.mcs_top.proofs.StageLemmas.{work_stopped, work_unfailed}
+use Rattle.mcs_listing.proofs.WorkLemmas.{work_stopped, work_unfailed}
 use Rattle.mcs_work.specs.declared.task.Task.TheVariants.{Solve}
 use Rattle.mcs_top.proofs.proving.prove_system.Goals as goal
 

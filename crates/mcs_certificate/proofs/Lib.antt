@@ -1,6 +1,0 @@
-pub mod General
-pub mod OrderLemmas
-pub mod VerdictLemmas
-pub mod JudgingLemmas
-pub mod ModelLemmas
-pub mod ShownLemmas

@@ -1,5 +1,0 @@
-use Rattle.mcs_certificate.proofs.ModelLemmas.{AscendFrom}
-use Rattle.mcs_certificate.proofs.program.are_ascending.Given as goal
-
-abbrev pub invariant-loop-index : goal.invariant-loop-index
-invariant-loop-index l = AscendFrom l.states l.index

@@ -1,9 +1,0 @@
-use Rattle.std.proofs.Common.{map}
-use Rattle.mcs_system.specs.Plain.{Atom}
-use Rattle.mcs_system.specs.Logic.{true_names}
-use Rattle.mcs_certificate.proofs.General.{AreGathered}
-use Rattle.mcs_certificate.proofs.ModelLemmas.{IsBelievedAt}
-use Rattle.mcs_certificate.proofs.program.view_of.Given as goal
-
-abbrev pub invariant-loop-k : goal.invariant-loop-k
-invariant-loop-k l = AreGathered (IsBelievedAt (true_names 0 l.atoms l.places) (map Atom (map (λ b. b.now) l.beliefs))) l.view l.k

@@ -1,0 +1,117 @@
+//! The order in which the defaults of a set apply.
+
+ghost use Rattle.std.specs.Prelude.{◌≡◌, ◌≤◌, ◌↔◌, List, length, map, IsTrue, IfOk, OnOk};
+ghost use Rattle.std.specs.Prelude.{MatchOption, None, Some};
+ghost use Rattle.mcs_system.specs.Plain as plain;
+ghost use Rattle.mcs_system.specs.Seen.{default_of};
+ghost use Rattle.mcs_cnf.specs.ClauseLists.{clause_list};
+ghost use Rattle.mcs_cnf.specs.Entailments.{entailment_of};
+ghost use Rattle.mcs_evidence.specs.Defaults.{defaults_of, AreGrounded};
+ghost use Rattle.mcs_extensions.specs.Checks.{at_number, IsNumberIn, AreNumbersOf};
+ghost use Rattle.mcs_cnf.specs.Growing.{HasMoreFormulas};
+ghost use Rattle.mcs_evidence.specs.Theories.{AreOverDefaults};
+
+use mcs_base::{Memory, Vars};
+use mcs_cnf::push_formula;
+use mcs_entailment::shows;
+use mcs_system::{Default, Name};
+use mcs_trace::{Cnf, Entail};
+use std::alloc::Global;
+
+/// Whether the number, counted from 1, is that of a member of the set.
+pub(crate) fn is_member(set: Vars, number: u32) -> bool
+    ensures exact { IsTrue result ↔ IsNumberIn set number }
+    ensures low { IsTrue result → number ≤ 64 }
+{
+    // The contract of `count` ensures that the members are below 64.
+    let _ = set.count();
+    if number == 0 {
+        return false;
+    }
+    if number > 64 {
+        return false;
+    }
+    set.has(number - 1)
+}
+
+/// Whether these are the numbers of the members, each once, in any order.
+pub(crate) fn are_numbers(set: Vars, numbers: &[u32]) -> bool
+    ensures { IsTrue result ↔ AreNumbersOf set numbers.now }
+{
+    let mut left = set;
+    for number in numbers {
+        if !is_member(left, *number) {
+            return false;
+        }
+        left = left.without(*number - 1);
+    }
+    left == Vars::empty()
+}
+
+/// The default with this number, counted from 1.
+pub(crate) fn numbered_default<'f>(defaults: &[&'f Default], number: u32) -> Option<&'f Default>
+    ensures { MatchOption result (at_number (map (λ d. default_of d.now) defaults.now) number ≡ None)
+        (λ d. at_number (map (λ d. default_of d.now) defaults.now) number ≡ Some (default_of d.now)) }
+{
+    if number == 0 || (number - 1) as usize >= defaults.len() {
+        return None;
+    }
+    Some(defaults[(number - 1) as usize])
+}
+
+/// Whether it is shown that the prerequisites of the defaults with these numbers follow one after the other, each by
+/// means of the consequents before it. The clauses of the consequents are added to `known`.
+fn derives(
+    alloc: Global,
+    known: &mut Cnf,
+    defaults: &[&Default],
+    atoms: &[Name],
+    order: &[u32],
+    pres: &[Entail],
+) -> Result<bool, Memory>
+    requires over { AreOverDefaults atoms.now (map (λ d. default_of d.now) defaults.now) }
+    requires room { length atoms.now ≤ known.old.vars }
+    ensures grown { OnOk result (HasMoreFormulas atoms.now known.old known.new) }
+    ensures exact { IfOk result (λ yes. (items : List plain.Item) (fs : List plain.Formula)
+        → map (λ d. default_of d.now) defaults.now ≡ defaults_of items → known.old ≡ clause_list atoms.now fs
+        → IsTrue yes ↔ AreGrounded atoms.now items fs order.now (map entailment_of pres.now)) }
+{
+    if order.len() != pres.len() {
+        return Ok(false);
+    }
+    for (index, number) in order.iter().enumerate() {
+        let pre = &pres[index];
+        let Some(default) = numbered_default(defaults, *number) else {
+            return Ok(false);
+        };
+        let shown = shows(alloc, known, &default.pre, atoms, pre)?;
+        if !shown {
+            return Ok(false);
+        }
+        push_formula(alloc, known, atoms, &default.conclusion)?;
+    }
+    Ok(true)
+}
+
+/// The same, but the clauses that are added are removed again.
+pub(crate) fn are_grounded(
+    alloc: Global,
+    known: &mut Cnf,
+    defaults: &[&Default],
+    atoms: &[Name],
+    order: &[u32],
+    pres: &[Entail],
+) -> Result<bool, Memory>
+    requires over { AreOverDefaults atoms.now (map (λ d. default_of d.now) defaults.now) }
+    requires room { length atoms.now ≤ known.old.vars }
+    ensures kept { OnOk result (known.new ≡ known.old) }
+    ensures exact { IfOk result (λ yes. (items : List plain.Item) (fs : List plain.Formula)
+        → map (λ d. default_of d.now) defaults.now ≡ defaults_of items → known.old ≡ clause_list atoms.now fs
+        → IsTrue yes ↔ AreGrounded atoms.now items fs order.now (map entailment_of pres.now)) }
+{
+    let vars = known.vars();
+    let count = known.clauses().len();
+    let grounded = derives(alloc, known, defaults, atoms, order, pres)?;
+    known.cut(vars, count);
+    Ok(grounded)
+}

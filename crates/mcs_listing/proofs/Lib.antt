@@ -1,0 +1,4 @@
+pub mod JobLemmas
+pub mod WorkLemmas
+pub mod EvaluatorLemmas
+pub mod LineLemmas

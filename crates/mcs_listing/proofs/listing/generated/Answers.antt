@@ -1,0 +1,22 @@
+use Rattle.std.proofs.Common.{◌∙◌}
+use Rattle.mcs_listing.specs.Listings.{StopsGenerated}
+use Rattle.mcs_listing.proofs.WorkLemmas.{made_done, made_stops, line_stopped}
+use Rattle.mcs_listing.proofs.LineLemmas.{line_unfailed}
+use Rattle.mcs_base.proofs.Results.{err_told}
+use Rattle.mcs_listing.proofs.listing.generated.Goals as goal
+
+pub returns-in_err-print_number-clause-stop : goal.returns-in_err-print_number-clause-stop
+returns-in_err-print_number-clause-stop g c = err_told (λ stop. StopsGenerated stop c.args.number c.args.budget _ _ _) _ _ c.from_residual-in_err-print_number.ensures.1
+    (line_stopped c.args.number c.args.budget (g.K.Sink.device c.args.sink.now) (g.K.Sink.device c.print_number.new.sink) (g.K.Sink.device c.print_number.new.sink) _ (rw c.in_ok-system.ensures at c.in_err-print_number.ensures))
+
+pub returns-clause-ok : goal.returns-clause-ok
+returns-clause-ok g c = made_done c.args.number c.args.budget (g.K.Sink.device c.args.sink.now) (g.K.Sink.device c.print_number.new.sink) (g.K.Sink.device c.list_system.new.sink) (rw c.in_ok-system.ensures at c.in_ok-print_number.ensures.whole) c.list_system.result (rw c.in_ok-system.ensures at c.list_system.ensures.ok)
+
+pub returns-clause-stop : goal.returns-clause-stop
+returns-clause-stop g c = made_stops c.args.number c.args.budget (g.K.Sink.device c.args.sink.now) (g.K.Sink.device c.print_number.new.sink) (g.K.Sink.device c.list_system.new.sink) (rw c.in_ok-system.ensures at c.in_ok-print_number.ensures.whole) c.list_system.result c.in_ok-print_number.ensures.later (rw c.in_ok-system.ensures at c.list_system.ensures.stop)
+
+pub returns-in_err-print_number-clause-unfailed : goal.returns-in_err-print_number-clause-unfailed
+returns-in_err-print_number-clause-unfailed g c = line_unfailed _ _ _ _ c.from_residual-in_err-print_number.ensures.1 c.in_err-print_number.ensures.due
+
+pub returns-clause-unfailed : goal.returns-clause-unfailed
+returns-clause-unfailed g c other = c.list_system.ensures.unfailed other ∙ c.in_ok-print_number.ensures.quiet

@@ -1,0 +1,4 @@
+pub mod Jobs
+pub mod Endings
+pub mod Texts
+pub mod Listings

@@ -1,8 +1,0 @@
-use Rattle.std.proofs.Common.{arith}
-use Rattle.std.proofs.lemmas.Grind.{common_steps}
-use Rattle.mcs_top.specs.Endings.{fault_line}
-use Rattle.mcs_top.proofs.ending.push_fault.Goals as goal
-
-pub returns : goal.returns
-unfolding fault_line
-returns c = grind (arith, common_steps)

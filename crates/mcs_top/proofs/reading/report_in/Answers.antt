@@ -1,8 +1,0 @@
-use Rattle.std.proofs.Common.{refl}
-use Rattle.mcs_top.proofs.JobLemmas.{fault_of_one}
-use Rattle.mcs_top.proofs.reading.report_in.Goals as goal
-
-pub returns-in-Err-Fault-clause-stop : goal.returns-in-Err-Fault-clause-stop
-returns-in-Err-Fault-clause-stop g c =
-    let told = rw c.in-Err-Fault.field-0-is at c.in-Err-Fault.ensures in
-    (told.fault refl, fault_of_one (g.H.Shelf.held c.args.shelf.now) c.args.file.now _ _ refl told.failure)
